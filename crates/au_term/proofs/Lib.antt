@@ -1,0 +1,9 @@
+pub mod Whole
+pub mod Places
+pub mod Measures
+pub mod Fills
+pub mod Kept
+pub mod Raises
+pub mod Following
+pub mod Bounds
+pub mod Texts

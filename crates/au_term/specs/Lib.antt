@@ -1,0 +1,5 @@
+pub mod Term
+pub mod Prefix
+pub mod Sizes
+pub mod Raised
+pub mod Arguments

@@ -1,0 +1,119 @@
+//! Subterms of shared terms.
+ghost use Rattle.std.specs.Prelude.{◌≡◌, ◌+◌, ◌<◌, ◌^◌, IfOk};
+ghost use Rattle.std.specs.Arc.{arc_value};
+ghost use Rattle.au_term.specs.Prefix.{term_of, top_of, subterm, IsTerm};
+ghost use Rattle.au_term.specs.Raised.{raised, IsPlace};
+ghost use Rattle.au_term.specs.Term.{var_bound, argument, argument_count};
+
+use crate::NoMemory;
+use crate::cell::{Cell, VarNo};
+use crate::flat::FlatTerm;
+use std::alloc::Global;
+use std::marker::Model;
+use std::sync::Arc;
+
+/// The subterm of a skeleton that begins at the cell `at`, with `base` added to the number of
+/// each variable. Contracts see the term that this is.
+#[derive(Drop)]
+pub struct Shared {
+    skeleton: Arc<FlatTerm>,
+    at: usize,
+    base: VarNo,
+}
+
+impl Model for Shared {
+    ghost use Rattle.au_term.specs.Term.{Term};
+    ghost use Rattle.au_term.specs.Prefix.{term_code, subterm};
+    ghost use Rattle.au_term.specs.Raised.{raised, IsPlace};
+    ghost use Rattle.std.specs.Arc.{arc_value};
+
+    ghost Value = { Term };
+
+    ghost coded = { term_code };
+
+    ghost view = { λ s. raised s.base (subterm s.at (arc_value s.skeleton)) };
+
+    ghost invariant = { λ s. IsPlace (arc_value s.skeleton) s.at s.base };
+}
+
+impl Shared {
+    /// The subterm that begins at this cell, with `base` added to its variables.
+    pub fn new(skeleton: Arc<FlatTerm>, at: usize, base: VarNo) -> Shared
+        requires { IsPlace (arc_value skeleton) at base }
+        ensures { result ≡ raised base (subterm at (arc_value skeleton)) }
+    {
+        Shared { skeleton, at, base }
+    }
+
+    /// The term, which from now on can be shared.
+    pub fn from_term(alloc: Global, term: FlatTerm) -> Result<Shared, NoMemory>
+        ensures { IfOk result (λ s. s ≡ term) }
+    {
+        // The proof reads off the cells that all variables are below the greatest number.
+        let _cells = term.cells();
+        Ok(Shared {
+            skeleton: Arc::new(alloc, term)?,
+            at: 0,
+            base: 0,
+        })
+    }
+
+    /// The same term, shared.
+    pub fn share(&self) -> Result<Shared, NoMemory>
+        ensures { IfOk result (λ s. s ≡ self.now) }
+    {
+        Ok(Shared {
+            skeleton: self.skeleton.clone()?,
+            at: self.at,
+            base: self.base,
+        })
+    }
+
+    /// The skeleton's cells, and the number to be added to their variables.
+    pub fn parts(&self) -> (&[Cell], VarNo)
+        ensures term { raised result.1 (term_of result.0.now) ≡ self.now }
+        ensures whole { IsTerm result.0.now }
+        ensures fits { result.1 + var_bound (term_of result.0.now) < 2 ^ 64 }
+    {
+        (self.skeleton.subterm(self.at), self.base)
+    }
+
+    /// The first cell.
+    pub fn top(&self) -> Result<Cell, NoMemory>
+        ensures { IfOk result (λ cell. cell ≡ top_of self.now) }
+    {
+        let (cells, base) = self.parts();
+        cells[0].raised(base)
+    }
+
+    /// How many arguments it has; 0 where it is no compound.
+    pub fn arity(&self) -> u32
+        ensures { result ≡ argument_count self.now }
+    {
+        self.parts().0[0].arity()
+    }
+
+    /// The argument with this number, counted from 0, shared.
+    pub fn argument(&self, i: u32) -> Result<Shared, NoMemory>
+        requires { i < argument_count self.now }
+        ensures { IfOk result (λ s. s ≡ argument i self.now) }
+    {
+        Ok(Shared {
+            skeleton: self.skeleton.clone()?,
+            at: self.skeleton.arg_start(self.at, i),
+            base: self.base,
+        })
+    }
+
+    /// The term, with cells of its own.
+    pub fn to_term(&self, alloc: Global) -> Result<FlatTerm, NoMemory>
+        ensures { IfOk result (λ t. t ≡ self.now) }
+    {
+        let (cells, base) = self.parts();
+        let mut raised = Vec::new(alloc);
+        for cell in cells {
+            raised.push(cell.raised(base)?)?;
+        }
+        FlatTerm::from_cells(raised)
+    }
+}
