@@ -1,0 +1,6 @@
+use Rattle.std.proofs.Common.{◌≤◌, ◌+◌, vec_len}
+use Rattle.std.specs.Io.KnownBytes.{Consumes}
+use Rattle.au_io.proofs.files.fill.Given as goal
+
+abbrev pub invariant-loop : goal.invariant-loop
+invariant-loop g l = (vec_len l.bytes ≤ l.most + 1) × Consumes (g.F.Read.remaining l.fn.file) (g.F.Read.remaining l.file) l.bytes.items

@@ -1,0 +1,188 @@
+//! Files of the machine.
+ghost use Rattle.std.specs.Prelude.{◌≡◌, ◌+◌, ◌<◌, ◌≤◌, ◌≢◌, ◌++◌, ℕ, List, IfOk, IfErr, IfSome, OnOk, IsErrOf, length, drop, vec_len, Some, None, Ok};
+ghost use Rattle.std.specs.Io.KnownBytes.{Consumes, IsAtEnd};
+ghost use Rattle.au_io.specs.Causes.{Rose, RoseBy};
+
+use crate::shelf::{ReadRefusal, Shelf};
+use std::alloc::Global;
+use std::fs::File;
+use std::io::{ErrorKind, Read};
+use std::rt::Files;
+
+/// How many bytes one read asks for at most.
+const PIECE: usize = 65_536;
+
+/// The files of the machine. It tells no bytes; its counts stop at the greatest number.
+#[derive(Drop)]
+pub struct FileShelf<'r, R: Files> {
+    rt: &'r R,
+    tally: Tally,
+}
+
+/// The readings that failed, and the bytes that were taken.
+#[derive(Drop)]
+struct Tally {
+    faults: u64,
+    drawn: u64,
+}
+
+impl<'r, R: Files> FileShelf<'r, R> {
+    /// A shelf whose counts are 0.
+    pub fn new(rt: &'r R) -> FileShelf<'r, R>
+        ensures { (result.tally.faults ≡ 0) × (result.tally.drawn ≡ 0) }
+    {
+        FileShelf {
+            rt,
+            tally: Tally {
+                faults: 0,
+                drawn: 0,
+            },
+        }
+    }
+}
+
+impl<R: Files> Shelf for FileShelf<'_, R> {
+    ghost held = { λ _ _. None };
+
+    ghost faults = { λ s. s.tally.faults };
+
+    ghost drawn = { λ s. s.tally.drawn };
+
+    fn read_all(&mut self, alloc: Global, name: &str, most: usize) -> Result<Vec<u8>, ReadRefusal> {
+        match File::open(self.rt, name) {
+            Ok(mut file) => self.tally.read_file(alloc, &mut file, most),
+            Err(_) => Err(self.tally.fault()),
+        }
+    }
+}
+
+impl Tally {
+    /// Counts a reading that failed.
+    fn fault(&mut self) -> ReadRefusal
+        ensures refusal { result ≡ ReadRefusal.ReadFault }
+        ensures faults { Rose self.old.faults self.new.faults }
+        ensures faults_stay { self.old.faults ≤ self.new.faults }
+        ensures drawn { self.new.drawn ≡ self.old.drawn }
+    {
+        self.faults = self.faults.saturating_add(1);
+        ReadRefusal::ReadFault
+    }
+
+    /// All bytes of the file, of which there are to be `most` at most.
+    fn read_file<F: Read>(
+        &mut self,
+        alloc: Global,
+        file: &mut F,
+        most: usize,
+    ) -> Result<Vec<u8>, ReadRefusal>
+        ensures whole { IfOk result (λ bytes. IfSome (F.remaining file.old) (λ told. bytes.items ≡ told)) }
+        ensures within { IfOk result (λ bytes. vec_len bytes ≤ most) }
+        ensures fault { IsErrOf result ReadRefusal.ReadFault → Rose self.old.faults self.new.faults }
+        ensures long { IsErrOf result ReadRefusal.TooLong → IfSome (F.remaining file.old) (λ told. most < length told) }
+        ensures too_long { IsErrOf result ReadRefusal.TooLong → RoseBy (most + 1) self.old.drawn self.new.drawn }
+        ensures faults_stay { self.old.faults ≤ self.new.faults }
+        ensures drawn_stay { self.old.drawn ≤ self.new.drawn }
+        ensures least { self.new.drawn ≤ self.old.drawn + (most + 1) }
+    {
+        let mut bytes = Vec::new(alloc);
+        let filled = fill(&mut bytes, file, most);
+        self.drawn = self.drawn.saturating_add(bytes.len() as u64);
+        match filled {
+            Ok(()) => Ok(bytes),
+            Err(ReadRefusal::ReadFault) => Err(self.fault()),
+            Err(refusal) => Err(refusal),
+        }
+    }
+}
+
+/// Appends the bytes of the file up to its end, unless they are more than `most`.
+fn fill<F: Read>(bytes: &mut Vec<u8>, file: &mut F, most: usize) -> Result<(), ReadRefusal>
+    requires { vec_len bytes.old ≡ 0 }
+    ensures ok { OnOk result (vec_len bytes.new ≤ most) }
+    ensures whole { OnOk result (IfSome (F.remaining file.old) (λ told. bytes.new.items ≡ told)) }
+    ensures long { IsErrOf result ReadRefusal.TooLong → vec_len bytes.new ≡ most + 1 }
+    ensures taken { Consumes (F.remaining file.old) (F.remaining file.new) bytes.new.items }
+    ensures least { vec_len bytes.new ≤ most + 1 }
+{
+    for _ in 0..u64::MAX {
+        let length = bytes.len();
+        if length > most {
+            return Err(ReadRefusal::TooLong);
+        }
+        let room = (most - length).saturating_add(1).min(PIECE);
+        if read_piece(bytes, file, room)? == Some(0) {
+            return Ok(());
+        }
+    }
+    Err(ReadRefusal::ReadFault)
+}
+
+/// Appends what one read gives, at most `room` bytes: how many, or `None` where the read is to
+/// be tried again.
+fn read_piece<F: Read>(
+    bytes: &mut Vec<u8>,
+    file: &mut F,
+    room: usize,
+) -> Result<Option<usize>, ReadRefusal>
+    requires some { 0 < room }
+    requires few { room ≤ PIECE }
+    ensures kind { IfErr result (λ refusal. refusal ≢ ReadRefusal.TooLong) }
+    ensures front { bytes.new.items ≡ bytes.old.items ++ drop (vec_len bytes.old) bytes.new.items }
+    ensures taken { Consumes (F.remaining file.old) (F.remaining file.new) (drop (vec_len bytes.old) bytes.new.items) }
+    ensures within { vec_len bytes.new ≤ vec_len bytes.old + room }
+    ensures end { IfOk result (λ read. read ≡ Some 0 → (bytes.new.items ≡ bytes.old.items) × IsAtEnd (F.remaining file.new)) }
+{
+    let length = bytes.len();
+    bytes.resize(length + room, 0)?;
+    match file.read(&mut bytes[length..]) {
+        Ok(count) => {
+            bytes.truncate(length + count);
+            Ok(Some(count))
+        }
+        Err(error) => {
+            bytes.truncate(length);
+            if error.kind() == ErrorKind::Interrupted {
+                Ok(None)
+            } else {
+                Err(ReadRefusal::ReadFault)
+            }
+        }
+    }
+}
+
+#[cfg(test)]
+mod tests {
+    use super::*;
+    use std::io;
+    use std::test::Fail;
+
+    /// It gives a byte, is interrupted, and then fails.
+    struct Torn {
+        reads: u8,
+    }
+
+    impl Read for Torn {
+        fn read(&mut self, buf: &mut [u8]) -> io::Result<usize> {
+            self.reads = self.reads.saturating_add(1);
+            match (self.reads, buf.first_mut()) {
+                (1, Some(first)) => {
+                    *first = b'a';
+                    Ok(1)
+                }
+                (2, _) => Err(io::Error::from(ErrorKind::Interrupted)),
+                _ => Err(io::Error::from(ErrorKind::Other)),
+            }
+        }
+    }
+
+    #[test]
+    fn fails_in_mid_stream(rt: HostRuntime) -> Result<(), Fail> {
+        let mut bytes = Vec::new(rt.alloc());
+        let mut torn = Torn { reads: 0 };
+        assert!(rt; fill(&mut bytes, &mut torn, 9) == Err(ReadRefusal::ReadFault));
+        assert!(rt; bytes.as_slice() == b"a".as_slice());
+        let Torn { reads } = torn;
+        assert_eq!(rt; reads, 3);
+        Ok(())
+    }
+}
