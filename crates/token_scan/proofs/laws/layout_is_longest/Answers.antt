@@ -1,0 +1,5 @@
+use Rattle.token_scan.proofs.Layouts.{layout-longest}
+use Rattle.token_scan.proofs.laws.layout_is_longest.Goals as goal
+
+pub returns : goal.returns
+returns c = layout-longest

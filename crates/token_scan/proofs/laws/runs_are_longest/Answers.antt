@@ -1,0 +1,5 @@
+use Rattle.token_scan.proofs.Steps.{run-longest}
+use Rattle.token_scan.proofs.laws.runs_are_longest.Goals as goal
+
+pub returns : goal.returns
+returns c = run-longest

@@ -1,0 +1,13 @@
+use Rattle.std.proofs.Common.{◌-◌, length}
+use Rattle.std.specs.String.{string_bytes}
+use Rattle.std.specs.Str.{chars}
+use Rattle.au_model.specs.Characters.{chars_from}
+use Rattle.token_scan.specs.Parts.{IsPlaceFrom}
+use Rattle.token_scan.proofs.QuotedItems.{Gone}
+use Rattle.token_scan.proofs.quotes.characters.Given as goal
+
+abbrev pub invariant-parts : goal.invariant-parts
+invariant-parts l = IsPlaceFrom l.text l.at l.here × Gone l.quote (chars_from l.text l.at) (chars (string_bytes l.value)) (chars_from l.text l.here)
+
+abbrev pub decreases-parts : goal.decreases-parts
+decreases-parts l = length l.text - l.here

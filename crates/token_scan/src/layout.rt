@@ -1,0 +1,53 @@
+//! Layout and comments.
+ghost use Rattle.std.specs.Prelude.{◌≡◌, IfSome, IfNone, IfOk, IfErr, Some, None, IsCharBoundary};
+ghost use Rattle.au_model.specs.Characters.{chars_from};
+ghost use Rattle.au_model.specs.Layout.{behind_comment, behind_layout, GapThen, GapNotClosed};
+ghost use Rattle.token_scan.specs.Parts.{IsPlaceFrom};
+
+use crate::classes::is_blank;
+use crate::cursor::{Class, is_next, peek, run_end, step};
+
+/// Where the comment that is open at a place ends.
+fn comment_end(text: &str, at: usize) -> Option<usize>
+    requires { IsCharBoundary text.now at }
+    ensures some { IfSome result (λ end. behind_comment (chars_from text.now at) ≡ Some (chars_from text.now end)) }
+    ensures place { IfSome result (λ end. IsPlaceFrom text.now at end) }
+    ensures none { IfNone result (behind_comment (chars_from text.now at) ≡ None) }
+{
+    let mut here = at;
+    while let Some(c) = peek(text, here) {
+        let behind = step(text, here, c);
+        if c == '*' && is_next(text, behind, '/') {
+            return Some(step(text, behind, '/'));
+        }
+        here = behind;
+    }
+    None
+}
+
+/// The place behind layout, or that of a comment that is not closed.
+pub(crate) fn skip_layout(text: &str, at: usize) -> Result<usize, usize>
+    requires { IsCharBoundary text.now at }
+    ensures clear { IfOk result (λ end. behind_layout (chars_from text.now at) ≡ GapThen (chars_from text.now end)) }
+    ensures end { IfOk result (λ end. IsPlaceFrom text.now at end) }
+    ensures unclosed { IfErr result (λ place. behind_layout (chars_from text.now at) ≡ GapNotClosed (chars_from text.now place)) }
+    ensures place { IfErr result (λ place. IsPlaceFrom text.now at place) }
+{
+    let mut here = at;
+    while let Some(c) = peek(text, here) {
+        let behind = step(text, here, c);
+        if is_blank(c) {
+            here = behind;
+        } else if c == '%' {
+            here = run_end(text, behind, Class::Line);
+        } else if c == '/' && is_next(text, behind, '*') {
+            match comment_end(text, step(text, behind, '*')) {
+                Some(end) => here = end,
+                None => return Err(here),
+            }
+        } else {
+            return Ok(here);
+        }
+    }
+    Ok(here)
+}

@@ -1,0 +1,105 @@
+//! The next token.
+ghost use Rattle.std.specs.Prelude.{◌≡◌, IfOk, IfErr, Some, IsCharBoundary};
+ghost use Rattle.au_model.specs.Characters.{chars_from};
+ghost use Rattle.au_model.specs.Tokens.{ends_term, next_word, numeral_word, word_at_front};
+ghost use Rattle.au_model.specs.Numerals.{numeral};
+ghost use Rattle.token_scan.specs.Found.{kind_found, IsFault, IsNextToken};
+ghost use Rattle.token_scan.specs.Parts.{IsPlaceFrom};
+
+use crate::classes::{is_blank, is_capital, is_punctuation, is_small, is_solo, is_symbol};
+use crate::cursor::{Class, peek, run_end, step};
+use crate::layout::skip_layout;
+use crate::numbers::{Number, numeral};
+use crate::quotes::quoted_end;
+use crate::token::{BadToken, Token, TokenKind};
+use au_model::FaultKind;
+
+/// Whether a point in front of this place ends a term.
+fn ends_term(text: &str, at: usize) -> bool
+    requires { IsCharBoundary text.now at }
+    ensures { result ≡ ends_term (chars_from text.now at) }
+{
+    match peek(text, at) {
+        None => true,
+        Some(c) => is_blank(c) || c == '%',
+    }
+}
+
+/// The numeral at a place, as a token.
+fn integer_word(text: &str, at: usize) -> Result<usize, BadToken>
+    requires { IsCharBoundary text.now at }
+    ensures ok { IfOk result (λ end. kind_found (numeral_word (chars_from text.now at) (numeral (chars_from text.now at))) ≡ Some (TokenKind.Integer, chars_from text.now end)) }
+    ensures place { IfOk result (λ end. IsPlaceFrom text.now at end) }
+    ensures err { IfErr result (λ e. IsFault (numeral_word (chars_from text.now at) (numeral (chars_from text.now at))) text.now at e) }
+{
+    let (place, kind) = match numeral(text, at) {
+        Number::Fits(_, end) => return Ok(end),
+        Number::Float => (at, FaultKind::FloatNumeral),
+        Number::Wide => (at, FaultKind::WideNumeral),
+        Number::NoCharacter(place) => (place, FaultKind::BadEscape),
+    };
+    Err(BadToken { at: place, kind })
+}
+
+/// The kind of the word at a place that begins no layout, and where it ends.
+fn word(text: &str, at: usize) -> Result<(TokenKind, usize), BadToken>
+    requires { IsCharBoundary text.now at }
+    ensures ok { IfOk result (λ r. kind_found (word_at_front (chars_from text.now at)) ≡ Some (r.0, chars_from text.now r.1)) }
+    ensures place { IfOk result (λ r. IsPlaceFrom text.now at r.1) }
+    ensures err { IfErr result (λ e. IsFault (word_at_front (chars_from text.now at)) text.now at e) }
+{
+    let Some(c) = peek(text, at) else {
+        return Ok((TokenKind::EndOfText, at));
+    };
+    let behind = step(text, at, c);
+    if is_small(c) {
+        Ok((TokenKind::Name, run_end(text, behind, Class::Alphanumeric)))
+    } else if is_capital(c) || c == '_' {
+        Ok((
+            TokenKind::Variable,
+            run_end(text, behind, Class::Alphanumeric),
+        ))
+    } else if c.is_digit(10) {
+        Ok((TokenKind::Integer, integer_word(text, at)?))
+    } else if c == '\'' {
+        Ok((TokenKind::QuotedName, quoted_end(text, at, behind, c)?))
+    } else if c == '"' {
+        Ok((TokenKind::DoubleQuoted, quoted_end(text, at, behind, c)?))
+    } else if is_solo(c) {
+        Ok((TokenKind::Name, behind))
+    } else if is_punctuation(c) {
+        Ok((TokenKind::Punctuation, behind))
+    } else if c == '.' && ends_term(text, behind) {
+        Ok((TokenKind::End, behind))
+    } else if is_symbol(c) {
+        Ok((TokenKind::Name, run_end(text, behind, Class::Symbol)))
+    } else {
+        Err(BadToken {
+            at,
+            kind: FaultKind::BadCharacter,
+        })
+    }
+}
+
+/// The first token from a place on, or its fault. Takes no memory.
+pub fn next_token(text: &str, at: usize) -> Result<Token, BadToken>
+    requires { IsCharBoundary text.now at }
+    ensures token { IfOk result (λ t. IsNextToken text.now at t) }
+    ensures fault { IfErr result (λ e. IsFault (next_word (chars_from text.now at)) text.now at e) }
+{
+    match skip_layout(text, at) {
+        Ok(start) => {
+            let (kind, end) = word(text, start)?;
+            Ok(Token {
+                kind,
+                start,
+                end,
+                layout_before: at < start,
+            })
+        }
+        Err(place) => Err(BadToken {
+            at: place,
+            kind: FaultKind::UnclosedComment,
+        }),
+    }
+}
