@@ -1,0 +1,78 @@
+//! Operators and rows of a table.
+ghost use Rattle.std.specs.Prelude.{◌≡◌, IfOk};
+ghost use Rattle.au_model.specs.Operators.{class_of, class_rank};
+ghost use Rattle.op_table.specs.Meant.{class_meant, kind_meant};
+
+use au_term::{Atom, NoMemory};
+
+/// Where the operands stand: `f` is the operator, `x` an operand of lower priority, `y` one of at
+/// most the operator's.
+#[derive(Clone, Copy, Debug, PartialEq, Eq)]
+pub enum OpKind {
+    Xfx,
+    Xfy,
+    Yfx,
+    Fy,
+    Fx,
+    Xf,
+    Yf,
+}
+
+/// The classes of operators. A name has at most one operator of each.
+#[derive(Clone, Copy)]
+pub(crate) enum OpClass {
+    Prefix,
+    Infix,
+    Postfix,
+}
+
+/// An operator's priority, from 1 to 1200, and kind.
+#[derive(Clone, Copy, Debug, PartialEq, Eq)]
+pub struct Operator {
+    pub priority: u16,
+    pub kind: OpKind,
+}
+
+/// An operator and its name.
+#[derive(Drop)]
+pub struct OpRow {
+    pub name: Atom,
+    pub operator: Operator,
+}
+
+impl OpKind {
+    pub(crate) fn class(self) -> OpClass
+        ensures { class_meant result ≡ class_of (kind_meant self) }
+    {
+        match self {
+            OpKind::Fy | OpKind::Fx => OpClass::Prefix,
+            OpKind::Xfx | OpKind::Xfy | OpKind::Yfx => OpClass::Infix,
+            OpKind::Xf | OpKind::Yf => OpClass::Postfix,
+        }
+    }
+}
+
+impl OpClass {
+    /// The place of a class among those of a name.
+    pub(crate) fn rank(self) -> u8
+        ensures { result ≡ class_rank (class_meant self) }
+    {
+        match self {
+            OpClass::Prefix => 0,
+            OpClass::Infix => 1,
+            OpClass::Postfix => 2,
+        }
+    }
+}
+
+impl OpRow {
+    /// The same row.
+    pub(crate) fn share(&self) -> Result<OpRow, NoMemory>
+        ensures { IfOk result (λ row. row ≡ self.now) }
+    {
+        Ok(OpRow {
+            name: self.name.share()?,
+            operator: self.operator,
+        })
+    }
+}
