@@ -1,0 +1,10 @@
+use Rattle.std.proofs.Common.{◌-◌, length}
+use Rattle.au_term.specs.Prefix.{cells_of}
+use Rattle.clause_compile.proofs.Passing.{Placing}
+use Rattle.clause_compile.proofs.body.goal_places.Given as goal
+
+abbrev pub invariant-loop-at : goal.invariant-loop-at
+invariant-loop-at l = Placing l.body l.at l.places.items
+
+abbrev pub decreases-loop-at : goal.decreases-loop-at
+decreases-loop-at l = length (cells_of l.body) - l.at
