@@ -1,0 +1,16 @@
+use Rattle.std.proofs.Common.{◌∙◌, sym, map, length}
+use Rattle.std.proofs.lemmas.List.{length-map}
+use Rattle.std.specs.Arc.{arc_value}
+use Rattle.std.proofs.lemmas.Bool.{eqb-true}
+use Rattle.proc_index.proofs.Adding.{no_candidates, some_candidates, positive}
+use Rattle.proc_index.proofs.procs.Procs.candidates.Goals as goal
+
+pub returns-then-is_empty : goal.returns-then-is_empty
+returns-then-is_empty c =
+    let own = c.clauses_of-clauses.result.now in
+    no_candidates c.args.self.now c.args.name.now c.args.arity c.args.first.now (map arc_value own) c.clauses_of-clauses.ensures (length-map own arc_value ∙ eqb-true (length own) 0 (sym c.is_empty.ensures ∙ c.if-is_empty.true))
+
+pub returns : goal.returns
+returns c =
+    let own = c.clauses_of-clauses.result.now in
+    some_candidates c.args.self.now c.args.name.now c.args.arity c.args.first.now (map arc_value own) c.clauses_of-clauses.ensures (positive (length (map arc_value own)) (length own) (length-map own arc_value) (sym c.is_empty.ensures ∙ c.if-is_empty.false))

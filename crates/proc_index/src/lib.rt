@@ -1,0 +1,10 @@
+//! The static procedures, found by name and number of arguments.
+#![tactic(auto)]
+
+mod key;
+mod procs;
+#[cfg(test)]
+mod tests;
+
+pub use key::Key;
+pub use procs::{Candidates, Procs};
