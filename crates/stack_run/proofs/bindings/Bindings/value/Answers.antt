@@ -1,0 +1,10 @@
+use Rattle.std.proofs.Common.{◌<◌, length, ◌∙◌, ap, sym, subst}
+use Rattle.stack_run.specs.Bindings.{value_at}
+use Rattle.stack_run.proofs.Apart.{value_at-is}
+use Rattle.stack_run.proofs.bindings.Bindings.value.Goals as goal
+
+pub returns : goal.returns
+returns c =
+    ap (λ b. b.1) c.index.ensures
+    ∙ (value_at-is c.self.inside.values.items c.args.place c.index.result.now (subst (λ bs. c.args.place < length bs) (sym c.self.view_is) c.requires)
+    ∙ ap (λ bs. value_at bs c.args.place) c.self.view_is)
