@@ -1,0 +1,59 @@
+//! The program `aurora FILE BUDGET`.
+#![tactic(auto)]
+
+mod characters;
+mod read;
+mod refusal;
+mod reserved;
+mod scan;
+mod terms;
+#[cfg(test)]
+mod tests;
+pub mod top;
+mod variables;
+mod words;
+
+use crate::top::aurora;
+use au_io::{FileShelf, NoGate, StdoutSink};
+use au_model::{Ending, UsageKind, code};
+use std::env;
+use std::io::ErrorKind;
+use std::process::ExitCode;
+use std::rt::Env;
+
+/// Ends with the status of the program's ending.
+fn main(rt: HostRuntime) -> ExitCode {
+    let ending = match command_line(&rt) {
+        Ok(words) => {
+            let mut shelf = FileShelf::new(&rt);
+            let mut out = StdoutSink::new(rt.stdout());
+            aurora(&rt, rt.alloc(), &words, &mut shelf, &mut out, &NoGate)
+        }
+        Err(ending) => ending,
+    };
+    ExitCode::from(code(&ending))
+}
+
+/// The words of the command line, the program's name first.
+fn command_line<R: Env + AllocGlobal>(rt: &R) -> Result<Vec<String>, Ending> {
+    match env::args(rt) {
+        Ok(args) => {
+            let mut words = Vec::new(rt.alloc());
+            for word in args {
+                if words.push(word).is_err() {
+                    return Err(Ending::NoMemory);
+                }
+            }
+            Ok(words)
+        }
+        Err(error) => Err(unread(error.kind())),
+    }
+}
+
+/// Why the words were not read: some are no text, or want of memory.
+fn unread(kind: ErrorKind) -> Ending {
+    match kind {
+        ErrorKind::OutOfMemory => Ending::NoMemory,
+        _ => Ending::Usage(UsageKind::Words),
+    }
+}

@@ -1,0 +1,226 @@
+//! Texts run from words to bytes.
+use crate::top::aurora;
+use au_io::{MemoryShelf, MemorySink, NoGate};
+use au_model::{Ending, FaultKind, UsageKind};
+use std::alloc::Global;
+use std::sync::Wait;
+use std::test::Fail;
+use std::thread::Threads;
+
+/// A text that is not of the form.
+const REFUSED: Ending = Ending::Refused {
+    line: 1,
+    column: 1,
+    kind: FaultKind::Unbuilt,
+};
+
+/// A shelf with the one file `f.pl`.
+fn shelf_of(alloc: Global, text: &str) -> Result<MemoryShelf, Fail> {
+    let mut files = Vec::new(alloc);
+    files.push((
+        String::from_str(alloc, "f.pl")?,
+        Vec::from_slice(alloc, text.as_bytes())?,
+    ))?;
+    Ok(MemoryShelf {
+        files,
+        failing: Vec::new(alloc),
+        calls: 0,
+        faults: 0,
+        drawn: 0,
+    })
+}
+
+/// `aurora f.pl BUDGET`, and more words if any.
+fn words_of(alloc: Global, more: &[&str]) -> Result<Vec<String>, Fail> {
+    let mut words = Vec::new(alloc);
+    words.push(String::from_str(alloc, "aurora")?)?;
+    for word in more {
+        words.push(String::from_str(alloc, word)?)?;
+    }
+    Ok(words)
+}
+
+/// Whether a text, run for so many inferences into so much room, ends so and writes these bytes.
+fn ends<R: Threads + Wait + Sync>(
+    rt: &R,
+    alloc: Global,
+    text: &str,
+    budget: &str,
+    room: usize,
+    ending: Ending,
+    lines: &str,
+) -> Result<bool, Fail> {
+    let mut shelf = shelf_of(alloc, text)?;
+    let mut out = MemorySink::new(alloc, room)?;
+    let words = words_of(alloc, &["f.pl", budget])?;
+    let ended = aurora(rt, alloc, &words, &mut shelf, &mut out, &NoGate);
+    Ok(ended == ending && out.taken() == lines.as_bytes())
+}
+
+const TWO: &str = "p(1). p(2). ?- p(X).";
+
+#[test]
+fn budgets(rt: HostRuntime) -> Result<(), Fail> {
+    for (text, budget, ending, lines) in [
+        (TWO, "1000", Ending::Finished, "X = 1\nX = 2\nno\n"),
+        (TWO, "4", Ending::Finished, "X = 1\nX = 2\nno\n"),
+        (TWO, "3", Ending::Budget, "X = 1\nX = 2\n"),
+        (TWO, "2", Ending::Budget, "X = 1\n"),
+        (TWO, "1", Ending::Budget, ""),
+        ("n :- n. ?- n.", "10", Ending::Budget, ""),
+    ] {
+        assert!(rt;
+            ends(&rt, rt.alloc(), text, budget, 99, ending, lines)?,
+            "{text} {budget}"
+        );
+    }
+    Ok(())
+}
+
+#[test]
+fn answers(rt: HostRuntime) -> Result<(), Fail> {
+    for (text, lines) in [
+        ("p(1). ?- p(1).", "true\nno\n"),
+        ("same(X, X). q(a). r(b). ?- same(A, f(A)).", "no\n"),
+        ("p(X, f(X)). ?- p(A, A).", "no\n"),
+        ("eq(X, X). ?- eq(A, B).", "A = _0, B = _0\nno\n"),
+        ("p(_, _). ?- p(A, _), p(B, 1).", "A = _0, B = _2\nno\n"),
+        ("p(_). ?- p(_).", "true\nno\n"),
+        (
+            "add(z, N, N). add(s(M), N, s(K)) :- add(M, N, K). ?- add(A, B, s(z)).",
+            "A = z, B = s(z)\nA = s(z), B = z\nno\n",
+        ),
+        (
+            "p(1). p(2). q(2). q(3). r(3). r(2). ?- p(X), q(X), r(X).",
+            "X = 2\nno\n",
+        ),
+        ("p(007).\n?-\tp( X ) .", "X = 7\nno\n"),
+        ("?- p(X).p(1).", ""),
+    ] {
+        let ending = if lines.is_empty() {
+            REFUSED
+        } else {
+            Ending::Finished
+        };
+        assert!(rt;
+            ends(&rt, rt.alloc(), text, "1000", 99, ending, lines)?,
+            "{text}"
+        );
+    }
+    Ok(())
+}
+
+#[test]
+fn texts_that_miss_the_form(rt: HostRuntime) -> Result<(), Fail> {
+    for text in [
+        "",
+        "p.",
+        "X = a.",
+        "p. ?- p",
+        "p. ?- p.q",
+        "p. ?- p. p.",
+        "p. ?- p. ?- p.",
+        "p. ?- q.",
+        "p. ?- X.",
+        "p. ?- 1.",
+        "1. p. ?- p.",
+        "X. p. ?- p.",
+        "true. ?- true.",
+        "call(a). p. ?- p.",
+        "p(a). ?- p(X), var(X).",
+        "var(a). p. ?- p.",
+        "p :- nl. nl. ?- p.",
+        "p :- q. ?- p.",
+        "p :- . ?- p.",
+        "p, p. ?- p.",
+        "p() . ?- p.",
+        "p(a,). ?- p(a).",
+        "p(a. ?- p(a).",
+        "p(a)). ?- p(a).",
+        "p (a). ?- p (a).",
+        "p a. ?- p.",
+        "p. :- p. ?- p.",
+        "p. ?-- p.",
+        "p :-- p. ?- p.",
+        "p(1234567890123456789). ?- p(X).",
+        "p(-1). ?- p(X).",
+        "p(is). ?- p(X).",
+        "mod. ?- mod.",
+        "p('a'). ?- p(X).",
+        "p. % c\n?- p.",
+        "p(é). ?- p(X).",
+        "p.\r\n?- p.",
+    ] {
+        assert!(rt;
+            ends(&rt, rt.alloc(), text, "9", 99, REFUSED, "")?,
+            "{text}"
+        );
+    }
+    Ok(())
+}
+
+#[test]
+fn words(rt: HostRuntime) -> Result<(), Fail> {
+    let alloc = rt.alloc();
+    for budget in ["0", "", "+1", "-1", "1a", "4294967296", "00000000001", " 1"] {
+        assert!(rt;
+            ends(
+                &rt,
+                alloc,
+                TWO,
+                budget,
+                99,
+                Ending::Usage(UsageKind::Words),
+                ""
+            )?,
+            "{budget}"
+        );
+    }
+    assert!(rt;
+        ends(
+            &rt,
+            alloc,
+            TWO,
+            "4294967295",
+            99,
+            Ending::Finished,
+            "X = 1\nX = 2\nno\n"
+        )?
+    );
+    assert!(rt;
+        ends(
+            &rt,
+            alloc,
+            TWO,
+            "0000000004",
+            99,
+            Ending::Finished,
+            "X = 1\nX = 2\nno\n"
+        )?
+    );
+    for more in [[].as_slice(), &["f.pl"], &["f.pl", "9", "9"]] {
+        let words = words_of(alloc, more)?;
+        let mut shelf = shelf_of(alloc, TWO)?;
+        let mut out = MemorySink::new(alloc, 99)?;
+        let ending = aurora(&rt, alloc, &words, &mut shelf, &mut out, &NoGate);
+        assert_eq!(rt; ending, Ending::Usage(UsageKind::Words));
+        assert!(rt; out.taken().is_empty());
+    }
+    Ok(())
+}
+
+#[test]
+fn faults(rt: HostRuntime) -> Result<(), Fail> {
+    let alloc = rt.alloc();
+    assert!(rt; ends(&rt, alloc, TWO, "9", 3, Ending::WriteFault, "X =")?);
+    let mut shelf = shelf_of(alloc, TWO)?;
+    shelf.failing.push(0)?;
+    let mut out = MemorySink::new(alloc, 99)?;
+    let words = words_of(alloc, &["f.pl", "9"])?;
+    assert_eq!(rt;
+        aurora(&rt, alloc, &words, &mut shelf, &mut out, &NoGate),
+        Ending::ReadFault
+    );
+    assert!(rt; out.taken().is_empty());
+    Ok(())
+}
