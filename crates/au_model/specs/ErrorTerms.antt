@@ -1,6 +1,6 @@
 -- Error terms (ISO/IEC 13211-1, 7.12.2): error(E, N/A), N/A being the goal that raised it.
 use Rattle.std.specs.Prelude.{ℕ, List, codes}
-use Rattle.au_term.specs.Term.{Term, AtomTerm}
+use Rattle.au_term.specs.Term.{Term, AtomTerm, Compound, end, more}
 use Rattle.au_model.specs.Forms.{unary, binary, indicator}
 
 abbrev pub error_term : Term → List ℕ → ℕ → Term
@@ -17,3 +17,15 @@ existence_error procedure = binary (codes "existence_error") (AtomTerm (codes "p
 
 abbrev pub representation_error : List ℕ → Term
 representation_error limit = unary (codes "representation_error") (AtomTerm limit)
+
+abbrev pub domain_error : List ℕ → Term → Term
+domain_error domain culprit = binary (codes "domain_error") (AtomTerm domain) culprit
+
+abbrev pub permission_error : List ℕ → List ℕ → Term → Term
+permission_error action object culprit = Compound (codes "permission_error") (more (AtomTerm action) (more (AtomTerm object) (more culprit end)))
+
+abbrev pub evaluation_error : List ℕ → Term
+evaluation_error error = unary (codes "evaluation_error") (AtomTerm error)
+
+abbrev pub syntax_error : List ℕ → Term
+syntax_error error = unary (codes "syntax_error") (AtomTerm error)

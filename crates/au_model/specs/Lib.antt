@@ -7,6 +7,7 @@ pub mod Copies
 pub mod Forms
 pub mod Bodies
 pub mod ErrorTerms
+pub mod Faults
 pub mod Clauses
 pub mod Outcomes
 pub mod Control

@@ -2,10 +2,12 @@
 #![tactic(auto)]
 
 pub mod ending;
+pub mod fault;
 pub mod fault_kind;
 pub mod laws;
 pub mod var_name;
 
 pub use ending::{Ending, RunEnd, RunEnding, UsageKind, code};
+pub use fault::{DomainName, EvalName, Fault, LimitName, PermissionName, TypeName};
 pub use fault_kind::FaultKind;
 pub use var_name::VarName;

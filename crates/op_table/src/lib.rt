@@ -2,10 +2,12 @@
 #![tactic(auto)]
 
 mod operator;
+mod refusal;
 mod search;
 mod table;
 
 pub use operator::{OpKind, OpRow, Operator};
+pub use refusal::OpRefusal;
 pub use table::Ops;
 
 #[cfg(test)]
