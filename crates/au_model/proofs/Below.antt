@@ -132,7 +132,7 @@ noted-keeps seen m n h = go (list_any (λ k. k == m) seen)
     go true = h
     go false = place-before seen (m ∷ []) n h
 
-noted-seen : (seen : List ℕ) (n : ℕ) → IsSeen (noted seen n) n
+pub noted-seen : (seen : List ℕ) (n : ℕ) → IsSeen (noted seen n) n
 noted-seen seen n = go (list_any (λ k. k == n) seen) refl
   where
     go : (b : Bool) → list_any (λ k. k == n) seen ≡ b → IsSeen (cond b seen (seen ++ n ∷ [])) n

@@ -71,7 +71,7 @@ uncaught_2 = refl
 abbrev throw_variable : Job
 throw_variable = asked [] (throw X) only_x
 
-throw_variable_2 : shown throw_variable 2 ≡ record { text = lines (codes "error: error(instantiation_error,/(throw,1))" ∷ []); ending = Finished; answers = 0; inferences = 2 }
+throw_variable_2 : shown throw_variable 2 ≡ record { text = lines (codes "error: error(instantiation_error,throw/1)" ∷ []); ending = Finished; answers = 0; inferences = 2 }
 unfolding shown
 throw_variable_2 = refl
 
@@ -132,7 +132,7 @@ alternatives_below_100 = refl
 abbrev error_caught : Job
 error_caught = asked [] (catch (atom (codes "foo")) (binary (codes "error") X Y) true_atom) (named (codes "E") 0 ∷ [])
 
-error_caught_7 : shown error_caught 7 ≡ record { text = lines (codes "E = existence_error(procedure,/(foo,0))" ∷ codes "no" ∷ []); ending = Finished; answers = 1; inferences = 7 }
+error_caught_7 : shown error_caught 7 ≡ record { text = lines (codes "E = existence_error(procedure,foo/0)" ∷ codes "no" ∷ []); ending = Finished; answers = 1; inferences = 7 }
 unfolding shown
 error_caught_7 = refl
 
@@ -140,11 +140,11 @@ error_caught_7 = refl
 abbrev all_facts : Job
 all_facts = asked two_facts (findall X (p X) Y) (named (codes "X") 0 ∷ named (codes "L") 1 ∷ [])
 
-all_facts_5 : shown all_facts 5 ≡ record { text = lines (codes "X = _0, L = .(1,.(2,[]))" ∷ []); ending = Budget; answers = 1; inferences = 5 }
+all_facts_5 : shown all_facts 5 ≡ record { text = lines (codes "X = _0, L = [1,2]" ∷ []); ending = Budget; answers = 1; inferences = 5 }
 unfolding shown
 all_facts_5 = refl
 
-all_facts_6 : shown all_facts 6 ≡ record { text = lines (codes "X = _0, L = .(1,.(2,[]))" ∷ codes "no" ∷ []); ending = Finished; answers = 1; inferences = 6 }
+all_facts_6 : shown all_facts 6 ≡ record { text = lines (codes "X = _0, L = [1,2]" ∷ codes "no" ∷ []); ending = Finished; answers = 1; inferences = 6 }
 unfolding shown
 all_facts_6 = refl
 
@@ -160,7 +160,7 @@ none_found_6 = refl
 abbrev result_copies : Job
 result_copies = asked members (findall (binary (codes "-") X Y) (member X (list_term (int 1 ∷ int 2 ∷ []))) Z) (named (codes "X") 0 ∷ named (codes "Y") 1 ∷ named (codes "L") 2 ∷ [])
 
-result_copies_8 : shown result_copies 8 ≡ record { text = lines (codes "X = _0, Y = _1, L = .(-(1,_3),.(-(2,_4),[]))" ∷ codes "no" ∷ []); ending = Finished; answers = 1; inferences = 8 }
+result_copies_8 : shown result_copies 8 ≡ record { text = lines (codes "X = _0, Y = _1, L = [1-_3,2-_4]" ∷ codes "no" ∷ []); ending = Finished; answers = 1; inferences = 8 }
 unfolding shown
 result_copies_8 = refl
 
@@ -178,11 +178,11 @@ results_kept = asked []
     (findall X (catch (either (equals X (int 1)) (findall Y (either (equals Y (int 2)) (throw e)) (VarTerm 2))) (VarTerm 3) (equals X (int 3))) (VarTerm 4))
     (named (codes "Y") 0 ∷ named (codes "X") 1 ∷ named (codes "L") 4 ∷ [])
 
-results_kept_15 : shown results_kept 15 ≡ record { text = lines (codes "Y = _0, X = _1, L = .(1,.(3,[]))" ∷ []); ending = Budget; answers = 1; inferences = 15 }
+results_kept_15 : shown results_kept 15 ≡ record { text = lines (codes "Y = _0, X = _1, L = [1,3]" ∷ []); ending = Budget; answers = 1; inferences = 15 }
 unfolding shown
 results_kept_15 = refl
 
-results_kept_16 : shown results_kept 16 ≡ record { text = lines (codes "Y = _0, X = _1, L = .(1,.(3,[]))" ∷ codes "no" ∷ []); ending = Finished; answers = 1; inferences = 16 }
+results_kept_16 : shown results_kept 16 ≡ record { text = lines (codes "Y = _0, X = _1, L = [1,3]" ∷ codes "no" ∷ []); ending = Finished; answers = 1; inferences = 16 }
 unfolding shown
 results_kept_16 = refl
 
@@ -222,7 +222,7 @@ cut_drops_catch_6 = refl
 abbrev once_found : Job
 once_found = asked two_facts (findall X (unary (codes "once") (p X)) Y) (named (codes "L") 1 ∷ [])
 
-once_found_10 : shown once_found 10 ≡ record { text = lines (codes "L = .(1,[])" ∷ codes "no" ∷ []); ending = Finished; answers = 1; inferences = 10 }
+once_found_10 : shown once_found 10 ≡ record { text = lines (codes "L = [1]" ∷ codes "no" ∷ []); ending = Finished; answers = 1; inferences = 10 }
 unfolding shown
 once_found_10 = refl
 

@@ -124,7 +124,7 @@ cut_in_catch_10 = refl
 abbrev cut_in_findall : Job
 cut_in_findall = asked two_facts (conj (p X) (findall Y (conj (p Y) cut) Z)) (named (codes "X") 0 ∷ named (codes "L") 2 ∷ [])
 
-cut_in_findall_100 : shown cut_in_findall 100 ≡ record { text = lines (codes "X = 1, L = .(1,[])" ∷ codes "X = 2, L = .(1,[])" ∷ codes "no" ∷ []); ending = Finished; answers = 2; inferences = 14 }
+cut_in_findall_100 : shown cut_in_findall 100 ≡ record { text = lines (codes "X = 1, L = [1]" ∷ codes "X = 2, L = [1]" ∷ codes "no" ∷ []); ending = Finished; answers = 2; inferences = 14 }
 unfolding shown
 cut_in_findall_100 = refl
 
@@ -186,7 +186,7 @@ once_leaves_1000 = refl
 abbrev variable_goal : Job
 variable_goal = asked [] (conj (equals X (int 1)) (either X true_atom)) only_x
 
-variable_goal_4 : shown variable_goal 4 ≡ record { text = lines (codes "error: error(type_error(callable,1),/(call,1))" ∷ []); ending = Finished; answers = 0; inferences = 4 }
+variable_goal_4 : shown variable_goal 4 ≡ record { text = lines (codes "error: error(type_error(callable,1),call/1)" ∷ []); ending = Finished; answers = 0; inferences = 4 }
 unfolding shown
 variable_goal_4 = refl
 
@@ -194,7 +194,7 @@ variable_goal_4 = refl
 abbrev bad_body : Job
 bad_body = asked [] (call (conj fail_atom (int 1))) []
 
-bad_body_2 : shown bad_body 2 ≡ record { text = lines (codes "error: error(type_error(callable,,(fail,1)),/(call,1))" ∷ []); ending = Finished; answers = 0; inferences = 2 }
+bad_body_2 : shown bad_body 2 ≡ record { text = lines (codes "error: error(type_error(callable,(fail,1)),call/1)" ∷ []); ending = Finished; answers = 0; inferences = 2 }
 unfolding shown
 bad_body_2 = refl
 
@@ -202,7 +202,7 @@ bad_body_2 = refl
 abbrev call_variable : Job
 call_variable = asked [] (call X) only_x
 
-call_variable_2 : shown call_variable 2 ≡ record { text = lines (codes "error: error(instantiation_error,/(call,1))" ∷ []); ending = Finished; answers = 0; inferences = 2 }
+call_variable_2 : shown call_variable 2 ≡ record { text = lines (codes "error: error(instantiation_error,call/1)" ∷ []); ending = Finished; answers = 0; inferences = 2 }
 unfolding shown
 call_variable_2 = refl
 
@@ -218,7 +218,7 @@ call_more_4 = refl
 abbrev call_bad_whole : Job
 call_bad_whole = asked [] (ternary (codes "call") (atom (codes ",")) fail_atom (int 1)) []
 
-call_bad_whole_2 : shown call_bad_whole 2 ≡ record { text = lines (codes "error: error(type_error(callable,,(fail,1)),/(call,3))" ∷ []); ending = Finished; answers = 0; inferences = 2 }
+call_bad_whole_2 : shown call_bad_whole 2 ≡ record { text = lines (codes "error: error(type_error(callable,(fail,1)),call/3)" ∷ []); ending = Finished; answers = 0; inferences = 2 }
 unfolding shown
 call_bad_whole_2 = refl
 
@@ -226,7 +226,7 @@ call_bad_whole_2 = refl
 abbrev call_number : Job
 call_number = asked [] (binary (codes "call") (int 1) (atom (codes "a"))) []
 
-call_number_2 : shown call_number 2 ≡ record { text = lines (codes "error: error(type_error(callable,1),/(call,2))" ∷ []); ending = Finished; answers = 0; inferences = 2 }
+call_number_2 : shown call_number 2 ≡ record { text = lines (codes "error: error(type_error(callable,1),call/2)" ∷ []); ending = Finished; answers = 0; inferences = 2 }
 unfolding shown
 call_number_2 = refl
 
@@ -258,7 +258,7 @@ cut_called_then_15 = refl
 abbrev bad_then : Job
 bad_then = asked [] (call (then_goal true_atom (int 1))) []
 
-bad_then_2 : shown bad_then 2 ≡ record { text = lines (codes "error: error(type_error(callable,->(true,1)),/(call,1))" ∷ []); ending = Finished; answers = 0; inferences = 2 }
+bad_then_2 : shown bad_then 2 ≡ record { text = lines (codes "error: error(type_error(callable,(true -> 1)),call/1)" ∷ []); ending = Finished; answers = 0; inferences = 2 }
 unfolding shown
 bad_then_2 = refl
 
@@ -273,7 +273,7 @@ call_f n = Compound (codes "call") (more (atom (codes "f")) (ones n))
 abbrev call_eight : Job
 call_eight = asked [] (call_f 7) []
 
-call_eight_3 : shown call_eight 3 ≡ record { text = lines (codes "error: error(existence_error(procedure,/(f,7)),/(f,7))" ∷ []); ending = Finished; answers = 0; inferences = 3 }
+call_eight_3 : shown call_eight 3 ≡ record { text = lines (codes "error: error(existence_error(procedure,f/7),f/7)" ∷ []); ending = Finished; answers = 0; inferences = 3 }
 unfolding shown
 call_eight_3 = refl
 
@@ -281,6 +281,6 @@ call_eight_3 = refl
 abbrev call_nine : Job
 call_nine = asked [] (call_f 8) []
 
-call_nine_2 : shown call_nine 2 ≡ record { text = lines (codes "error: error(existence_error(procedure,/(call,9)),/(call,9))" ∷ []); ending = Finished; answers = 0; inferences = 2 }
+call_nine_2 : shown call_nine 2 ≡ record { text = lines (codes "error: error(existence_error(procedure,call/9),call/9)" ∷ []); ending = Finished; answers = 0; inferences = 2 }
 unfolding shown
 call_nine_2 = refl

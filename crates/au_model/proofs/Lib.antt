@@ -4,6 +4,7 @@ mod Rows
 mod CutRows
 mod CatchRows
 mod WorldRows
+mod WritingRows
 pub mod NoControl
 pub mod Settled
 pub mod Apply
@@ -20,3 +21,5 @@ pub mod Numbered
 pub mod Held
 pub mod Trying
 pub mod Simple
+pub mod Building
+pub mod Copying

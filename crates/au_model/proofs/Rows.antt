@@ -87,7 +87,7 @@ loop_10 = refl
 abbrev unknown : Job
 unknown = asked [] (atom (codes "foo")) []
 
-unknown_2 : shown unknown 2 ≡ record { text = lines (codes "error: error(existence_error(procedure,/(foo,0)),/(foo,0))" ∷ []); ending = Finished; answers = 0; inferences = 2 }
+unknown_2 : shown unknown 2 ≡ record { text = lines (codes "error: error(existence_error(procedure,foo/0),foo/0)" ∷ []); ending = Finished; answers = 0; inferences = 2 }
 unfolding shown
 unknown_2 = refl
 

@@ -48,9 +48,9 @@ is_capital c = is_ascii_uppercase c || (nat_le 128 c && is_cased_category (gener
 abbrev pub is_small : ℕ → Bool
 is_small c = is_ascii_lowercase c || (nat_le 128 c && (is_alphabetic c && not (is_capital c)))
 
--- a letter, `_`, 0 to 9, or a character of category Nd
+-- a letter, `_`, 0 to 9, or another character past ASCII of category Nd
 abbrev pub is_alphanumeric : ℕ → Bool
-is_alphanumeric c = is_capital c || (is_small c || ((c == 95) || (is_ascii_digit c || is_decimal_category (general_category c))))
+is_alphanumeric c = is_capital c || (is_small c || ((c == 95) || (is_ascii_digit c || (nat_le 128 c && is_decimal_category (general_category c)))))
 
 -- `_` or a capital letter
 abbrev pub starts_variable : ℕ → Bool

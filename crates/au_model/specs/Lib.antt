@@ -15,7 +15,6 @@ pub mod Builtins
 pub mod Databases
 pub mod Worlds
 pub mod Goals
-pub mod Written
 pub mod Lines
 pub mod Items
 pub mod Entries
@@ -35,3 +34,17 @@ pub mod Layout
 pub mod Quoted
 pub mod Numerals
 pub mod Tokens
+pub mod Lexemes
+pub mod Trees
+pub mod Joints
+pub mod Openings
+pub mod Spelling
+pub mod TermNumbers
+pub mod TermTexts
+pub mod NameForms
+pub mod Pieces
+pub mod OperatorForms
+pub mod Writing
+pub mod ReadBack
+pub mod Lists
+pub mod Seen

@@ -3,7 +3,8 @@ use Rattle.std.specs.Prelude.{ℕ, List, [], ◌∷◌, ◌++◌, Option, Some, 
 use Rattle.std.specs.Str.{encode_utf8_all}
 use Rattle.au_term.specs.Term.{Term}
 use Rattle.au_model.specs.Operators.{OperatorTable}
-use Rattle.au_model.specs.Written.{written, written_value}
+use Rattle.au_model.specs.Writing.{written_as, written_as_value}
+use Rattle.au_model.specs.declared.style.Style.TheVariants.{Quoted}
 
 -- a query's variable by its name, and the term that it stands for
 pub record NamedTerm : Type 0 where
@@ -11,7 +12,7 @@ pub record NamedTerm : Type 0 where
   pub term : Term
 
 abbrev pub shown_binding : OperatorTable → NamedTerm → List ℕ
-shown_binding operators v = encode_utf8_all v.name ++ codes " = " ++ written_value operators v.term
+shown_binding operators v = encode_utf8_all v.name ++ codes " = " ++ written_as_value operators v.term
 
 abbrev pub further_bindings : OperatorTable → List NamedTerm → List ℕ
 further_bindings operators [] = 10 ∷ []
@@ -25,7 +26,7 @@ abbrev pub no_line : List ℕ
 no_line = codes "no" ++ 10 ∷ []
 
 abbrev pub error_line : OperatorTable → Term → List ℕ
-error_line operators ball = codes "error: " ++ written operators ball ++ 10 ∷ []
+error_line operators ball = codes "error: " ++ written_as Quoted operators ball ++ 10 ∷ []
 
 -- the line that ends a query, by its uncaught ball if there is one
 abbrev pub end_line : OperatorTable → Option Term → List ℕ

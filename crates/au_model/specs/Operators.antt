@@ -1,10 +1,11 @@
 -- Operators (ISO/IEC 13211-1, 6.3.4).
-use Rattle.std.specs.Prelude.{ℕ, Bool, not, ◌&&◌, ◌==◌, nat_eq, cond, List, [], ◌∷◌, ◌++◌, map, fold, filter, Option, Some, None, codes, ◌<◌, ◌≤◌, All}
+use Rattle.std.specs.Prelude.{◌≡◌, ℕ, Bool, true, not, ◌&&◌, ◌||◌, ◌==◌, nat_eq, cond, List, [], ◌∷◌, ◌++◌, map, fold, filter, Option, Some, None, codes, ◌<◌, ◌≤◌, All}
 use Rattle.std.specs.Ordering.{nat_cmp, ordering_then}
 use Rattle.std.specs.declared.cmp.Ordering.{Ordering}
 use Rattle.std.specs.declared.cmp.Ordering.TheVariants.{Less, Equal, Greater}
 use Rattle.std.specs.Cmp.Lexicographic.{pointwise, slice_cmp}
 use Rattle.std.specs.List.Sorted.{IsStrictlySortedBy}
+use Rattle.std.specs.Option.{is_none}
 
 -- where the operands stand: f is the operator, x an operand of lower priority, y one of at most the operator's
 pub data OperatorKind : Type 0 where
@@ -56,11 +57,6 @@ row_rank r = class_rank (class_of r.operator.kind)
 abbrev pub row_order : OperatorRow → OperatorRow → Ordering
 row_order r s = ordering_then (slice_cmp nat_cmp r.name s.name) (nat_cmp (row_rank r) (row_rank s))
 
--- each name has at most one operator of each class, and priorities are from 1 to 1200
-pub record IsOperatorTable (t : OperatorTable) : Type 0 where
-  pub ordered : IsStrictlySortedBy row_order t
-  pub priorities : All (λ r. (0 < r.operator.priority) × (r.operator.priority ≤ 1200)) t
-
 -- whether a row is of this name and class
 abbrev pub is_row : OperatorClass → List ℕ → OperatorRow → Bool
 is_row class name r = pointwise nat_eq r.name name && row_rank r == class_rank class
@@ -78,6 +74,27 @@ infix_of t name = operator_of InfixClass t name
 
 abbrev pub postfix_of : OperatorTable → List ℕ → Option Operator
 postfix_of t name = operator_of PostfixClass t name
+
+-- the comma between goals, which no table changes
+abbrev pub comma_operator : Operator
+comma_operator = record { priority = 1000; kind = KindXfy }
+
+abbrev pub is_no_operator : OperatorTable → List ℕ → Bool
+is_no_operator t name = is_none (prefix_of t name) && (is_none (infix_of t name) && is_none (postfix_of t name))
+
+-- no row of an infix operator has the name of a postfix operator
+abbrev pub is_apart : OperatorTable → OperatorRow → Bool
+is_apart t r = not (row_rank r == class_rank InfixClass) || is_none (postfix_of t r.name)
+
+-- Each name has at most one operator of each class, and priorities are from 1 to 1200. A name is not both infix and postfix.
+-- The comma is what it is, and `[]` and `{}` are no operators (6.3.4.3 and 8.14.3.3).
+pub record IsOperatorTable (t : OperatorTable) : Type 0 where
+  pub ordered : IsStrictlySortedBy row_order t
+  pub priorities : All (λ r. (0 < r.operator.priority) × (r.operator.priority ≤ 1200)) t
+  pub apart : All (λ r. is_apart t r ≡ true) t
+  pub comma : infix_of t (codes ",") ≡ Some comma_operator
+  pub nil : is_no_operator t (codes "[]") ≡ true
+  pub braces : is_no_operator t (codes "{}") ≡ true
 
 -- a row put in its place: before this one, in its stead, or further on
 abbrev pub row_placed : Ordering → OperatorRow → OperatorRow → OperatorTable → OperatorTable → OperatorTable

@@ -78,6 +78,14 @@ impl Shared {
         (self.skeleton.subterm(self.at), self.base)
     }
 
+    /// The skeleton, where the subterm begins in it, and the number to be added to its variables.
+    pub fn place(&self) -> (&FlatTerm, usize, VarNo)
+        ensures term { raised result.2 (subterm result.1 result.0.now) ≡ self.now }
+        ensures place { IsPlace result.0.now result.1 result.2 }
+    {
+        (&self.skeleton, self.at, self.base)
+    }
+
     /// The first cell.
     pub fn top(&self) -> Result<Cell, NoMemory>
         ensures { IfOk result (λ cell. cell ≡ top_of self.now) }
