@@ -7,7 +7,7 @@ use Rattle.std.specs.declared.cmp.Ordering.{Ordering}
 use Rattle.std.specs.declared.cmp.Ordering.TheVariants.{Less, Equal, Greater}
 use Rattle.std.proofs.lemmas.Bool.{leb-true, ltb-true}
 use Rattle.std.proofs.lemmas.List.Elements.{All-from_recursion}
-use Rattle.au_model.specs.Operators.{OperatorRow, OperatorTable, row_order, IsOperatorTable, initial_operators}
+use Rattle.au_model.specs.Operators.{OperatorRow, OperatorTable, row_order, is_apart, IsOperatorTable, initial_operators}
 
 both_true : (a b : Bool) → (a && b) ≡ true → (a ≡ true) × (b ≡ true)
 both_true true b e = (refl, e)
@@ -41,9 +41,17 @@ priorities-are (r ∷ rs) e =
     let k = both_true (nat_lt 0 r.operator.priority) (nat_le r.operator.priority 1200) h.0 in
     ((ltb-true 0 r.operator.priority k.0, leb-true r.operator.priority 1200 k.1), priorities-are rs h.1)
 
+apart-are : (t rs : OperatorTable) → list_all (is_apart t) rs ≡ true → AllByRecursion (λ r. is_apart t r ≡ true) rs
+apart-are t [] e = tt
+apart-are t (r ∷ rs) e = let h = both_true (is_apart t r) (list_all (is_apart t) rs) e in (h.0, apart-are t rs h.1)
+
 pub initial_operators-table : IsOperatorTable initial_operators
 unfolding is_sorted
 initial_operators-table = record {
   ordered = sorted-is initial_operators refl;
   priorities = All-from_recursion HasPriority initial_operators (priorities-are initial_operators refl);
+  apart = All-from_recursion (λ r. is_apart initial_operators r ≡ true) initial_operators (apart-are initial_operators initial_operators refl);
+  comma = refl;
+  nil = refl;
+  braces = refl;
 }

@@ -87,7 +87,7 @@ pub layout-longest : (cs rest : List ℕ) → behind_layout cs ≡ GapThen rest 
 unfolding behind_layout
 layout-longest cs rest e = items-longest (length cs) cs rest (omega arith) e
 
-layout-within : (cs rest : List ℕ) → behind_layout cs ≡ GapThen rest → length rest ≤ length cs
+pub layout-within : (cs rest : List ℕ) → behind_layout cs ≡ GapThen rest → length rest ≤ length cs
 unfolding behind_layout
 layout-within cs rest e = items-within (length cs) cs rest e
 

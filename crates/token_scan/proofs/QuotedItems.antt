@@ -10,7 +10,7 @@ use Rattle.token_scan.specs.Parts.{quoted_rest}
 use Rattle.token_scan.proofs.Steps.{length-behind_run}
 
 -- what is left behind a part is shorter
-abbrev EndsWithin : ℕ → Part → Type 0
+abbrev pub EndsWithin : ℕ → Part → Type 0
 EndsWithin n (StandsFor d rest) = length rest < n
 EndsWithin n (StandsForNothing rest) = length rest < n
 EndsWithin n (ClosingQuote rest) = length rest < n
@@ -35,7 +35,7 @@ numbered_part-within b d n (c ∷ cs) l = feed (c == 10) refl where
 numbered-within : (base n : ℕ) (cs : List ℕ) → length cs ≤ n → EndsWithin n (numbered_escape base cs)
 numbered-within base n cs l = numbered_part-within _ _ n (behind_run (is_digit_of base) cs) (omega (arith, length-behind_run (is_digit_of base) cs))
 
-escape-within : (n : ℕ) (cs : List ℕ) → length cs ≤ n → EndsWithin n (escape cs)
+pub escape-within : (n : ℕ) (cs : List ℕ) → length cs ≤ n → EndsWithin n (escape cs)
 escape-within n [] l = tt
 escape-within n (c ∷ cs) l = feed (c == 10) refl where
   octal : (t : Bool) → is_digit_of 8 c ≡ t → (c == 10) ≡ false → (c == 120) ≡ false → EndsWithin n (escape (c ∷ cs))
@@ -50,7 +50,7 @@ escape-within n (c ∷ cs) l = feed (c == 10) refl where
   feed true e = rw e (omega arith)
   feed false e = hex (c == 120) refl e
 
-part-within : (q n : ℕ) (cs : List ℕ) → length cs ≤ n → EndsWithin n (part q cs)
+pub part-within : (q n : ℕ) (cs : List ℕ) → length cs ≤ n → EndsWithin n (part q cs)
 part-within q n [] l = tt
 part-within q n (c ∷ cs) l = quote (c == q) refl where
   feed : (t : Bool) → (c == 10) ≡ t → (c == q) ≡ false → (c == 92) ≡ false → EndsWithin n (part q (c ∷ cs))

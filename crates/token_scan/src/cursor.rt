@@ -5,7 +5,7 @@ ghost use Rattle.std.specs.Str.Parse.{digits_value};
 ghost use Rattle.au_model.specs.Characters.{behind_run, chars_from, first_is, first_passes, is_digit_of, run};
 ghost use Rattle.token_scan.specs.Parts.{passes, IsPlaceFrom};
 
-use crate::classes::{is_alphanumeric, is_symbol};
+use au_model::characters::{is_alphanumeric, is_symbol};
 
 /// The characters that a run is made of.
 #[derive(Clone, Copy)]

@@ -4,8 +4,8 @@ ghost use Rattle.au_model.specs.Characters.{chars_from};
 ghost use Rattle.au_model.specs.Layout.{behind_comment, behind_layout, GapThen, GapNotClosed};
 ghost use Rattle.token_scan.specs.Parts.{IsPlaceFrom};
 
-use crate::classes::is_blank;
 use crate::cursor::{Class, is_next, peek, run_end, step};
+use au_model::characters::is_blank;
 
 /// Where the comment that is open at a place ends.
 fn comment_end(text: &str, at: usize) -> Option<usize>

@@ -1,7 +1,6 @@
 //! The tokens of a Prolog text.
 #![tactic(auto)]
 
-mod classes;
 mod cursor;
 pub mod laws;
 mod layout;

@@ -6,13 +6,13 @@ ghost use Rattle.au_model.specs.Numerals.{numeral};
 ghost use Rattle.token_scan.specs.Found.{kind_found, IsFault, IsNextToken};
 ghost use Rattle.token_scan.specs.Parts.{IsPlaceFrom};
 
-use crate::classes::{is_blank, is_capital, is_punctuation, is_small, is_solo, is_symbol};
 use crate::cursor::{Class, peek, run_end, step};
 use crate::layout::skip_layout;
 use crate::numbers::{Number, numeral};
 use crate::quotes::quoted_end;
 use crate::token::{BadToken, Token, TokenKind};
 use au_model::FaultKind;
+use au_model::characters::{is_blank, is_capital, is_punctuation, is_small, is_solo, is_symbol};
 
 /// Whether a point in front of this place ends a term.
 fn ends_term(text: &str, at: usize) -> bool
