@@ -1,5 +1,5 @@
 -- What compiling a clause and calling a term answer.
-use Rattle.std.specs.Prelude.{◌≡◌, ℕ, ℤ, max, true, List, ◌++◌, map, Some, None, Result, Ok, Err}
+use Rattle.std.specs.Prelude.{◌≡◌, ℕ, ℤ, max, true, List, ◌++◌, map, Option, Some, None, Result, Ok, Err}
 use Rattle.std.specs.Option.{option_map}
 use Rattle.std.specs.Arc.{arc_value}
 use Rattle.std.specs.Global.{Global}
@@ -7,7 +7,8 @@ use Rattle.std.specs.declared.sync.Arc.{Arc}
 use Rattle.au_term.specs.Term.{Term, VarTerm, IntTerm, var_bound}
 use Rattle.au_model.specs.Forms.{is_callable}
 use Rattle.au_model.specs.Bodies.{body_of, called_goals}
-use Rattle.au_model.specs.Clauses.{Clause as ClauseTerms}
+use Rattle.au_model.specs.Substitutions.{apply}
+use Rattle.au_model.specs.Clauses.{Clause as ClauseTerms, renamed_head, clause_renaming}
 use Rattle.clause_compile.specs.declared.item.Scope.{Scope}
 use Rattle.clause_compile.specs.declared.item.Item.{Item}
 use Rattle.clause_compile.specs.declared.item.Item.TheVariants.{Goal}
@@ -24,9 +25,18 @@ clause_bound c = max (var_bound c.head) (var_bound c.body)
 abbrev pub goal_items : Scope → List Term → List Item
 goal_items cut goals = map (λ g. Goal g cut) goals
 
+-- a clause with its variables numbered from 0 in order of first occurrence, those of the head first
+abbrev pub numbered : ClauseTerms → ClauseTerms
+numbered c = record { head = renamed_head c 0; body = apply (clause_renaming c 0) c.body }
+
+-- a clause is the numbered one of this head and the body that it has
+abbrev pub IsKeptAs : Term → Option Term → ClauseTerms → Type 0
+IsKeptAs head None c = ⊥
+IsKeptAs head (Some body) c = c ≡ numbered (record { head = head; body = body })
+
 -- a head and a body make a clause, or the answer says why not
 abbrev pub IsCompiled : Term → Term → Result (Arc Clause Global) ClauseRefusal → Type 0
-IsCompiled head body (Ok c) = (is_callable head ≡ true) × ((arc_value c).head ≡ head) × (body_of body ≡ Some (arc_value c).body)
+IsCompiled head body (Ok c) = (is_callable head ≡ true) × IsKeptAs head (body_of body) (arc_value c)
 IsCompiled head body (Err NoHead) = (n : ℕ) × (head ≡ VarTerm n)
 IsCompiled head body (Err (NotCallable Head)) = (z : ℤ) × (head ≡ IntTerm z)
 IsCompiled head body (Err (NotCallable Body)) = (is_callable head ≡ true) × (body_of body ≡ None)

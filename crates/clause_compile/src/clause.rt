@@ -1,24 +1,27 @@
 //! Clauses as they are kept, and terms that are called.
-ghost use Rattle.std.specs.Prelude.{◌≡◌, ◌<◌, ◌+◌, ◌^◌, ◌++◌, IfOk, Some, true, map};
+ghost use Rattle.std.specs.Prelude.{◌≡◌, ◌<◌, ◌≤◌, ◌+◌, ◌^◌, ◌++◌, IfOk, Some, true, map};
 ghost use Rattle.std.specs.Arc.{arc_value};
 ghost use Rattle.au_term.specs.Prefix.{IsTerm};
 ghost use Rattle.au_term.specs.Raised.{raised, IsPlace};
 ghost use Rattle.au_model.specs.Forms.{is_callable};
 ghost use Rattle.au_model.specs.Bodies.{body_of, clause_goals_of};
 ghost use Rattle.clause_compile.specs.Places.{subterms_at, ArePlaces};
-ghost use Rattle.clause_compile.specs.Compiling.{clause_bound, goal_items, IsCompiled, IsCalled};
+ghost use Rattle.clause_compile.specs.Compiling.{clause_bound, goal_items, numbered, IsCompiled, IsCalled};
+ghost use Rattle.clause_compile.specs.Kept.{numbers_from};
+ghost use Rattle.au_model.specs.Clauses.{clause_variables};
 
 use crate::body::{clause_places, goal_places, kept_body};
 use crate::goal_list::Goals;
 use crate::item::{Item, Scope};
 use crate::names::is_plain_goal;
+use au_model::copies::Renaming;
 use au_term::{Cell, FlatTerm, NoMemory, Shared, VarNo};
 use std::alloc::{AllocFailed, Global};
 use std::marker::Model;
 use std::sync::Arc;
 
-/// A clause: its head, its body with a call of each variable goal, where the body's goals stand, and a number above
-/// all variables. Contracts see the head and the body.
+/// A clause: its head, its body with a call of each variable goal, where the body's goals stand, and how many variables
+/// it has. Contracts see the head and the body.
 #[derive(Drop)]
 pub struct Clause {
     head: Arc<FlatTerm>,
@@ -81,7 +84,7 @@ impl<T: Drop> From<AllocFailed<T>> for ClauseRefusal {
     }
 }
 
-/// The clause of a head and a body, as it is kept (ISO/IEC 13211-1, 7.6).
+/// The clause of a head and a body, as it is kept (ISO/IEC 13211-1, 7.6): with its variables numbered from 0.
 pub fn compile(
     alloc: Global,
     head: &FlatTerm,
@@ -97,20 +100,22 @@ pub fn compile(
     let Some(kept) = kept_body(alloc, body)? else {
         return Err(ClauseRefusal::NotCallable(Part::Body));
     };
-    Ok(Arc::new(alloc, kept_clause(alloc, head.copy()?, kept)?)?)
+    Ok(Arc::new(alloc, kept_clause(alloc, head, &kept)?)?)
 }
 
-/// The clause of a head that is callable and a body that is kept as it is.
-fn kept_clause(alloc: Global, head: FlatTerm, body: FlatTerm) -> Result<Clause, NoMemory>
-    requires head { is_callable head ≡ true }
-    requires body { body_of body ≡ Some body }
-    ensures { IfOk result (λ clause. clause ≡ record { head = head; body = body }) }
+/// The clause of a head that is callable and a body that is kept as it is, with its variables numbered.
+fn kept_clause(alloc: Global, head: &FlatTerm, body: &FlatTerm) -> Result<Clause, NoMemory>
+    requires head { is_callable head.now ≡ true }
+    requires body { body_of body.now ≡ Some body.now }
+    ensures { IfOk result (λ clause. clause ≡ numbered (record { head = head.now; body = body.now })) }
 {
-    let goals = clause_places(alloc, &body)?;
-    let vars = head.bound().max(body.bound());
+    let head = Renaming::new(alloc).copy(alloc, head, 0)?;
+    let body = head.renaming.copy(alloc, body, 0)?;
+    let goals = clause_places(alloc, &body.term)?;
+    let vars = body.renaming.count();
     Ok(Clause {
-        head: Arc::new(alloc, head)?,
-        body: Arc::new(alloc, body)?,
+        head: Arc::new(alloc, head.term)?,
+        body: Arc::new(alloc, body.term)?,
         goals,
         vars,
     })
@@ -133,9 +138,10 @@ impl Clause {
         &self.body
     }
 
-    /// The least number above all variables.
+    /// How many variables it has. They are numbered from 0 in order of first occurrence, those of the head first.
     pub fn vars(&self) -> VarNo
-        ensures { result ≡ clause_bound self.now }
+        ensures numbered { clause_variables self.now ≡ numbers_from 0 result }
+        ensures below { clause_bound self.now ≤ result }
     {
         self.vars
     }

@@ -152,6 +152,21 @@ fn clauses(rt: HostRuntime) -> Result<(), Fail> {
     expect_clause(&rt, alloc, &[Name("p", 0)], &body, 3, &[&kept])
 }
 
+/// `p(_5)` with the body `q(_3, _5)` has two variables, and is kept as `p(_0)` with the goal `q(_1, _0)`.
+#[test]
+fn numbered(rt: HostRuntime) -> Result<(), Fail> {
+    let alloc = rt.alloc();
+    let head = [Name("p", 1), Variable(5)];
+    let body = [Name("q", 2), Variable(3), Variable(5)];
+    let clause = compiled(&rt, alloc, &head, &body)??;
+    assert_eq!(rt; clause.vars(), 2);
+    let wanted = term(&rt, alloc, &[Name("p", 1), Variable(0)])?;
+    assert!(rt; clause.head().cells() == wanted.cells());
+    let goals = clause.goals(alloc, 0, Scope::Local(3), &Goals::empty())?;
+    let goal = [Name("q", 2), Variable(1), Variable(0)];
+    expect_goals(&rt, alloc, &goals, &[&goal])
+}
+
 #[test]
 fn refusals(rt: HostRuntime) -> Result<(), Fail> {
     let alloc = rt.alloc();

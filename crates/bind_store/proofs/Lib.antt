@@ -1,0 +1,15 @@
+pub mod Applying
+pub mod Apart
+pub mod Weights
+pub mod Rebuilding
+pub mod Resolving
+pub mod Placing
+pub mod Questions
+pub mod Reaching
+pub mod Steps
+pub mod Opening
+pub mod Unifying
+pub mod Taking
+pub mod Storing
+pub mod Following
+pub mod Holding

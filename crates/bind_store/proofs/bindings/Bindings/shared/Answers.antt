@@ -1,0 +1,13 @@
+use Rattle.std.proofs.Common.{◌≡◌, ◌<◌, length, ◌∙◌, ap, sym, subst}
+use Rattle.std.specs.Prelude.{IfOk}
+use Rattle.bind_store.specs.Bindings.{value_at}
+use Rattle.bind_store.proofs.Apart.{value_at-is}
+use Rattle.bind_store.proofs.bindings.Bindings.shared.Goals as goal
+
+pub returns : goal.returns
+returns c =
+    let is =
+    ap (λ b. b.1) c.index.ensures
+    ∙ (value_at-is c.self.inside.values.items c.args.place c.index.result.now (subst (λ bs. c.args.place < length bs) (sym c.self.view_is) c.requires)
+    ∙ ap (λ bs. value_at bs c.args.place) c.self.view_is) in
+    subst (λ t. IfOk c.shared.result (λ s. s ≡ t)) is c.shared.ensures

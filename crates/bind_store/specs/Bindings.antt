@@ -1,0 +1,65 @@
+-- Bindings in the order in which they were made.
+use Rattle.std.specs.Prelude.{◌≡◌, ℕ, zero, suc, ◌<◌, ◌≤◌, ◌==◌, false, cond, List, [], ◌∷◌, Option, Some, None, option_map}
+use Rattle.au_term.specs.Term.{Term, VarTerm, var_bound}
+use Rattle.au_model.specs.Substitutions.{Substitution, occurs}
+use Rattle.au_model.specs.Unifier.{bound}
+
+abbrev pub Binding : Type 0
+Binding = ℕ × Term
+
+-- the first binding holds first, and the rest of what it leaves
+abbrev pub composed : List Binding → Substitution
+composed [] = []
+composed (b ∷ bs) = bound b.0 b.1 (composed bs)
+
+-- the place at which a variable was bound
+abbrev pub place_in : ℕ → List Binding → Option ℕ
+place_in x [] = None
+place_in x (b ∷ bs) = cond (b.0 == x) (Some 0) (option_map (λ i. suc i) (place_in x bs))
+
+-- the value of the binding at a place of the order
+abbrev pub value_at : List Binding → ℕ → Term
+value_at [] i = VarTerm 0
+value_at (b ∷ bs) zero = b.1
+value_at (b ∷ bs) (suc i) = value_at bs i
+
+-- the variable of the binding at a place of the order
+abbrev pub variable_at : List Binding → ℕ → ℕ
+variable_at [] i = 0
+variable_at (b ∷ bs) zero = b.0
+variable_at (b ∷ bs) (suc i) = variable_at bs i
+
+-- a variable was not bound
+abbrev pub IsFree : ℕ → List Binding → Type 0
+IsFree x [] = Unit {0}
+IsFree x (b ∷ bs) = ((b.0 == x) ≡ false) × IsFree x bs
+
+-- a variable was bound at a place of the order
+abbrev pub IsBoundAt : List Binding → ℕ → ℕ → Type 0
+IsBoundAt [] i x = ⊥
+IsBoundAt (b ∷ bs) zero x = b.0 ≡ x
+IsBoundAt (b ∷ bs) (suc i) x = IsBoundAt bs i x
+
+-- where it was bound, or that it wasn't
+abbrev pub IsFound : List Binding → ℕ → Option ℕ → Type 0
+IsFound bs x None = IsFree x bs
+IsFound bs x (Some i) = IsBoundAt bs i x
+
+-- a variable stands nowhere in bindings
+abbrev pub IsAbsent : ℕ → List Binding → Type 0
+IsAbsent x [] = Unit {0}
+IsAbsent x (b ∷ bs) = ((x == b.0) ≡ false) × (occurs x b.1 ≡ false) × IsAbsent x bs
+
+-- none of the bound variables stands in its own value or in a later binding
+abbrev pub AreApart : List Binding → Type 0
+AreApart [] = Unit {0}
+AreApart (b ∷ bs) = (occurs b.0 b.1 ≡ false) × IsAbsent b.0 bs × AreApart bs
+
+-- a term has none of the bound variables
+abbrev pub Avoids : List Binding → Term → Type 0
+Avoids [] t = Unit {0}
+Avoids (b ∷ bs) t = (occurs b.0 t ≡ false) × Avoids bs t
+
+-- the variable of a binding and those of its value are below a number
+abbrev pub IsBindingBelow : ℕ → Binding → Type 0
+IsBindingBelow n b = (b.0 < n) × (var_bound b.1 ≤ n)
