@@ -17,7 +17,5 @@ pub mod Plainness
 pub mod Heads
 pub mod Trying
 pub mod Stepping
-pub mod Writing
-pub mod Answers
 pub mod Keeping
 pub mod Running

@@ -23,7 +23,7 @@ use Rattle.stack_run.specs.declared.entry.Goal.{Goal}
 use Rattle.stack_run.specs.declared.entry.Branch.{Branch}
 use Rattle.stack_run.specs.declared.entry.Entry.{Entry as StackEntry}
 use Rattle.stack_run.specs.declared.entry.Entry.TheVariants.{Plain, QueryEnd}
-use Rattle.stack_run.specs.Answers.{named_term, named_terms}
+use Rattle.term_writer.specs.Bindings.{named_term, named_terms}
 use Rattle.stack_run.specs.Cells.{terms_bound}
 use Rattle.stack_run.specs.PlainJobs.{IsPlainGoal}
 use Rattle.stack_run.specs.PlainEntries.{IsPlainItem, ArePlainEntries}

@@ -17,7 +17,7 @@ use Rattle.stack_run.specs.declared.job.PlainClause.{PlainClause}
 use Rattle.stack_run.specs.declared.entry.Goal.{Goal}
 use Rattle.stack_run.specs.declared.entry.Branch.{Branch}
 use Rattle.stack_run.specs.Bindings.{Binding, composed}
-use Rattle.stack_run.specs.Answers.{named_term, named_terms}
+use Rattle.term_writer.specs.Bindings.{named_term, named_terms}
 use Rattle.stack_run.specs.PlainJobs.{numbers_from}
 use Rattle.stack_run.specs.Triable.{IsTriable}
 use Rattle.stack_run.specs.Views.{conjunction, clause_view, goal_view, branch_view}

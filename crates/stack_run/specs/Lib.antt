@@ -4,8 +4,6 @@ pub mod Raised
 pub mod Resolving
 pub mod Unifying
 pub mod Sides
-pub mod Writing
-pub mod Answers
 pub mod Views
 pub mod PlainJobs
 pub mod Seen

@@ -12,7 +12,7 @@ use Rattle.au_model.specs.Entries.{Entry, PlainEntry, EndEntry}
 use Rattle.au_model.specs.Jobs.{NamedVariable, Query, Job, own_terms, query_bound}
 use Rattle.au_model.specs.States.{State, opened, queries_behind}
 use Rattle.au_model.specs.declared.var_name.VarName.{VarName}
-use Rattle.stack_run.specs.Answers.{named_terms}
+use Rattle.term_writer.specs.Bindings.{named_terms}
 use Rattle.stack_run.specs.declared.job.PlainClause.{PlainClause}
 use Rattle.stack_run.specs.declared.job.PlainQuery.{PlainQuery}
 use Rattle.stack_run.specs.declared.job.PlainJob.{PlainJob}

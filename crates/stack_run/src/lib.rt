@@ -2,7 +2,6 @@
 //! binding applied.
 #![tactic(auto)]
 
-mod answer;
 mod bindings;
 mod clauses;
 mod entry;

@@ -9,6 +9,7 @@ use crate::job::PlainJob;
 use crate::step::{opening, step};
 use au_io::Sink;
 use au_model::{RunEnd, RunEnding};
+use op_table::Ops;
 use std::alloc::Global;
 
 /// Runs a job for at most `budget` inferences, and writes its lines to `out`. A run that a failed write or want of
@@ -19,6 +20,9 @@ pub fn run_job<K: Sink>(alloc: Global, job: PlainJob, budget: u64, out: &mut K) 
     ensures fault { result.end ≡ RunEnding.WriteFault → Rose (K.faults out.old) (K.faults out.new) }
     ensures faults_stay { K.faults out.old ≤ K.faults out.new }
 {
+    let Ok(ops) = Ops::initial(alloc) else {
+        return failed(RunEnding::NoMemory);
+    };
     let Ok(mut machine) = opening(alloc, &job) else {
         return failed(RunEnding::NoMemory);
     };
@@ -26,7 +30,7 @@ pub fn run_job<K: Sink>(alloc: Global, job: PlainJob, budget: u64, out: &mut K) 
         if machine.entries.is_empty() {
             return ended(RunEnding::Finished, machine.answers, taken);
         }
-        let Ok(()) = step(alloc, &job, &mut machine) else {
+        let Ok(()) = step(alloc, &job, &ops, &mut machine) else {
             return failed(RunEnding::NoMemory);
         };
         match out.write_all(&machine.line) {

@@ -4,22 +4,24 @@ ghost use Rattle.au_term.specs.Term.{VarTerm};
 ghost use Rattle.au_model.specs.Each.{Each};
 ghost use Rattle.au_model.specs.Jobs.{names_bound, goals_bound, own_terms, query_bound};
 ghost use Rattle.au_model.specs.Items.{goals_at};
+ghost use Rattle.au_model.specs.Operators.{initial_operators};
 ghost use Rattle.au_model.specs.States.{step, entry_taken, opening};
 ghost use Rattle.au_model.specs.declared.var_name.VarName.{VarName};
-ghost use Rattle.stack_run.specs.Answers.{named_terms};
+ghost use Rattle.term_writer.specs.Bindings.{named_terms};
 ghost use Rattle.stack_run.specs.PlainEntries.{ArePlainEntries};
 ghost use Rattle.stack_run.specs.Taking.{TakesGoal};
 ghost use Rattle.stack_run.specs.Triable.{IsTriable};
 ghost use Rattle.stack_run.specs.Views.{branch_view, clause_view, entries_view, entry_view, goal_view, job_view, names_asked, opened_state, query_continuation, query_view, state_view, variable_term, variable_view};
 
-use crate::answer::write_answer;
 use crate::clauses::push_alternatives;
 use crate::entry::{Branch, Entry, Goal, Machine};
 use crate::job::{PlainJob, PlainQuery};
 use crate::terms::{bound_of_all, variable};
 use au_model::VarName;
 use au_term::{FlatTerm, NoMemory};
+use op_table::Ops;
 use std::alloc::Global;
+use term_writer::answer_line;
 
 /// The machine before the first inference.
 pub(crate) fn opening(alloc: Global, job: &PlainJob) -> Result<Machine, NoMemory>
@@ -99,7 +101,13 @@ fn asked_names(job: &PlainJob, asked: usize) -> &[VarName]
 }
 
 /// One inference on the top entry; what it writes is the machine's line.
-pub(crate) fn step(alloc: Global, job: &PlainJob, machine: &mut Machine) -> Result<(), NoMemory>
+pub(crate) fn step(
+    alloc: Global,
+    job: &PlainJob,
+    ops: &Ops,
+    machine: &mut Machine,
+) -> Result<(), NoMemory>
+    requires operators { ops.now ≡ initial_operators }
     requires some { 0 < vec_len machine.old.entries }
     requires few { machine.old.answers < 2 ^ 64 - 1 }
     requires triable { Each IsTriable job.now.clauses.items }
@@ -114,7 +122,7 @@ pub(crate) fn step(alloc: Global, job: &PlainJob, machine: &mut Machine) -> Resu
             machine.line.extend_from_slice(b"no\n")?;
             ask_next(alloc, job, machine)
         }
-        Some(Entry::Plain(branch)) => take_goal(alloc, job, branch, machine),
+        Some(Entry::Plain(branch)) => take_goal(alloc, job, ops, branch, machine),
     }
 }
 
@@ -122,9 +130,11 @@ pub(crate) fn step(alloc: Global, job: &PlainJob, machine: &mut Machine) -> Resu
 fn take_goal(
     alloc: Global,
     job: &PlainJob,
+    ops: &Ops,
     branch: Branch,
     machine: &mut Machine,
 ) -> Result<(), NoMemory>
+    requires operators { ops.now ≡ initial_operators }
     requires line { machine.old.line.items ≡ [] }
     requires few { machine.old.answers < 2 ^ 64 - 1 }
     requires triable { Each IsTriable job.now.clauses.items }
@@ -134,12 +144,8 @@ fn take_goal(
     let mut branch = branch;
     match branch.goals.pop() {
         None => {
-            write_answer(
-                alloc,
-                asked_names(job, machine.asked),
-                &branch.named,
-                &mut machine.line,
-            )?;
+            let names = asked_names(job, machine.asked);
+            answer_line(alloc, &mut machine.line, names, &branch.named, ops)?;
             machine.answers += 1;
             Ok(())
         }

@@ -7,7 +7,7 @@ use Rattle.stack_run.proofs.Running.{begins, goes_on, few_answers, finished, cut
 use Rattle.stack_run.proofs.run.run_job.Goals as goal
 
 pub loop-taken-init : goal.loop-taken-init
-loop-taken-init g c = begins c.args.job c.in-Ok.machine (g.K.Sink.taken c.args.out.now) (g.K.Sink.faults c.args.out.now) c.requires c.in-Ok.ensures
+loop-taken-init g c = begins c.args.job c.in-Ok-opening.machine (g.K.Sink.taken c.args.out.now) (g.K.Sink.faults c.args.out.now) c.requires c.in-Ok-opening.ensures
 
 pub returns-then-is_empty-clause-run : goal.returns-then-is_empty-clause-run
 returns-then-is_empty-clause-run g c =

@@ -1,0 +1,13 @@
+pub mod Seams
+pub mod NameTokens
+pub mod Adding
+pub mod Opening
+pub mod Ends
+pub mod BindingLines
+pub mod TableFacts
+pub mod ReadSeams
+pub mod ReadFacts
+pub mod ReadForms
+pub mod ReadBack
+pub mod ReadTexts
+pub mod ReadClean

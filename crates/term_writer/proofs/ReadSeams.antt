@@ -1,0 +1,269 @@
+-- What stands behind and in front of the pieces of a written term.
+use Rattle.std.proofs.Common.{◌≡◌, ◌⊎◌, inl, inr, ℕ, zero, suc, ℤ, pos, negsuc, ◌-◌, ◌<◌, ◌≤◌, ◌^◌, Bool, true, false, not, ◌&&◌, ◌||◌, ◌==◌, nat_le, nat_lt, List, [], ◌∷◌, Option, Some, None, codes, refl, sym, ap, subst, ◌∙◌, arith, rules, if◌then◌else◌}
+use Rattle.std.specs.Cmp.Lexicographic.{pointwise, same_text}
+use Rattle.std.specs.Option.{is_some, is_none}
+use Rattle.std.specs.Fmt.{decimal}
+use Rattle.au_term.specs.Term.{Term, VarTerm, IntTerm, AtomTerm, Compound, Terms, end, more, count}
+use Rattle.au_model.specs.Forms.{same_name}
+use Rattle.au_model.specs.Operators.{Operator, OperatorTable, IsOperatorTable, prefix_of, infix_of, postfix_of}
+use Rattle.au_model.specs.Lexemes.{Lexeme, Token, token, Name, QuotedName, Variable, Integer, Text, Open, Close, OpenList, CloseList, OpenCurly, CloseCurly, Comma, Bar, End}
+use Rattle.au_model.specs.Trees.{Tree, VarTree, IntTree, AtomTree, CompoundTree, Trees, no_trees, more_trees, tree_count, one, two, cell, nil, braces}
+use Rattle.au_model.specs.Joints.{Joint, Infix, Postfix, Nothing, comma, left_bound, right_bound, takes_equal_left, takes_equal_right, named_joint, lexeme_joint, fits, joint_fits, goes_on}
+use Rattle.au_model.specs.Openings.{Setting, Opening, Leaf, Curly, Listed, Call, Prefix, begins, lexeme_begins, name_begins, prefix_or_atom, opens, counts, lexeme_opens, lexeme_counts, is_minus, joins, ends_before, stands_alone, is_joint, is_operator as is_found, curly_begins, list_begins}
+use Rattle.au_model.specs.Spelling.{Spelled, form, infixed, postfixed, Operand, operand, Form, leaf, bracket, curly, listed, called, prefixed, Items, last, barred, item, Arguments, final, argument}
+use Rattle.au_model.specs.NameForms.{is_bare, is_symbol_name}
+use Rattle.au_model.specs.Pieces.{Piece, Space, Put, TokenEnds, SymbolEnds, LetterEnds, OtherEnds, name_ends, ends_of, run_together, InFront, NothingYet, SpaceInFront, TokenInFront, is_apart, joined}
+use Rattle.au_model.specs.OperatorForms.{Notation, CompoundForm, ListForm, BracedForm, InfixForm, PrefixForm, PostfixForm, FunctionalForm, infix_form, prefix_form, postfix_form, form_of, form_of_term, form_priority, takes_equal_last, is_operator, is_operator_atom, is_above, is_enclosed, is_enclosed_left}
+use Rattle.au_model.specs.Writing.{name_token, name_pieces, integer_pieces, infix_pieces, prefix_pieces, postfix_pieces, spaced, is_open, is_integer, begins_with, enclosed, pieces, compound_pieces, tail_pieces, further_pieces, cell_pieces, is_cell}
+use Rattle.au_model.specs.ReadBack.{tree_of, trees_of, IsSmall, IsWritable, AreWritable, tokens_with_end}
+use Rattle.term_writer.proofs.TableFacts.{no_infix, no_prefix}
+use Rattle.au_model.specs.Openings.{atom_begins}
+
+abbrev pub behind_token : Lexeme → InFront
+behind_token x = TokenInFront (ends_of x)
+
+pub meets-other : (x : TokenEnds) → run_together x OtherEnds ≡ false
+meets-other SymbolEnds = refl
+meets-other LetterEnds = refl
+meets-other OtherEnds = refl
+
+word_opens-apart : (w : Lexeme) → lexeme_opens true w ≡ false
+word_opens-apart Open = refl
+word_opens-apart _ = refl
+
+word_counts-apart : (w : Lexeme) → lexeme_counts true w ≡ false
+word_counts-apart (Integer k) = refl
+word_counts-apart _ = refl
+
+word_opens-other : (a : Bool) (w : Lexeme) → is_open w ≡ false → lexeme_opens a w ≡ false
+word_opens-other a Open e = let f : ⊥ = cc in absurd f
+word_opens-other a _ e = refl
+
+word_counts-other : (a : Bool) (w : Lexeme) → is_integer w ≡ false → lexeme_counts a w ≡ false
+word_counts-other a (Integer k) e = let f : ⊥ = cc in absurd f
+word_counts-other a _ e = refl
+
+not_so : (x : Bool) → (x ≡ true → false ≡ true) → x ≡ false
+not_so true h = let f : false ≡ true = h refl in let g : ⊥ = cc in absurd g
+not_so false h = refl
+
+pub and-false : (x : Bool) → (x && false) ≡ false
+and-false true = refl
+and-false false = refl
+
+pub opens-spaced : (ps : List Piece) → opens (joined SpaceInFront ps) ≡ false
+opens-spaced [] = refl
+opens-spaced (Space ∷ ps) = opens-spaced ps
+opens-spaced (Put w ∷ ps) = word_opens-apart w
+
+pub counts-spaced : (ps : List Piece) → counts (joined SpaceInFront ps) ≡ false
+counts-spaced [] = refl
+counts-spaced (Space ∷ ps) = counts-spaced ps
+counts-spaced (Put w ∷ ps) = word_counts-apart w
+
+pub opens-by : (b : InFront) (f : Bool) (ps : List Piece) → (begins_with is_open ps ≡ true → f ≡ true) → opens (joined b (spaced f ps)) ≡ false
+opens-by b true ps h = opens-spaced ps
+opens-by b false [] h = refl
+opens-by b false (Space ∷ ps) h = opens-spaced ps
+opens-by b false (Put w ∷ ps) h = word_opens-other (is_apart b w) w (not_so (is_open w) h)
+
+pub counts-by : (b : InFront) (f : Bool) (ps : List Piece) → (begins_with is_integer ps ≡ true → f ≡ true) → counts (joined b (spaced f ps)) ≡ false
+counts-by b true ps h = counts-spaced ps
+counts-by b false [] h = refl
+counts-by b false (Space ∷ ps) h = counts-spaced ps
+counts-by b false (Put w ∷ ps) h = word_counts-other (is_apart b w) w (not_so (is_integer w) h)
+
+-- ---- what follows a term
+
+pub data Follows (ops : OperatorTable) (c : ℕ) : List Piece → Type 0 where
+  here : {w : Lexeme} {ps : List Piece} → ((bound p : ℕ) → bound ≤ c → joint_fits bound p (lexeme_joint ops w) ≡ false)
+      → ((a : Bool) → lexeme_opens a w ≡ false) → ((a : Bool) → lexeme_counts a w ≡ false) → Follows ops c (Put w ∷ ps)
+  beyond : {ps : List Piece} → Follows ops c ps → Follows ops c (Space ∷ ps)
+
+pub lower : {ops : OperatorTable} {c : ℕ} {ps : List Piece} (d : ℕ) → d ≤ c → Follows ops c ps → Follows ops d ps
+lower d k (here f g h) = here (λ bound p l. f bound p (omega (arith, k, l))) g h
+lower d k (beyond r) = beyond (lower d k r)
+
+pub follows-stops : {ops : OperatorTable} {c : ℕ} {ps : List Piece} (b : InFront) (bound p : ℕ) → bound ≤ c → Follows ops c ps → goes_on ops bound p (joined b ps) ≡ false
+follows-stops b bound p k (here f g h) = f bound p k
+follows-stops b bound p k (beyond r) = follows-stops SpaceInFront bound p k r
+
+pub follows-opens : {ops : OperatorTable} {c : ℕ} {ps : List Piece} (b : InFront) → Follows ops c ps → opens (joined b ps) ≡ false
+follows-opens b (here {w = w} f g h) = g (is_apart b w)
+follows-opens b (beyond r) = follows-opens SpaceInFront r
+
+pub follows-counts : {ops : OperatorTable} {c : ℕ} {ps : List Piece} (b : InFront) → Follows ops c ps → counts (joined b ps) ≡ false
+follows-counts b (here {w = w} f g h) = h (is_apart b w)
+follows-counts b (beyond r) = follows-counts SpaceInFront r
+
+pub le-false : (m n : ℕ) → n < m → nat_le m n ≡ false
+le-false m n h = grind (arith, h)
+
+fits-false : (bound p c : ℕ) (o : Operator) → c < o.priority → bound ≤ c → fits bound p o ≡ false
+fits-false bound p c o h k = rw (le-false o.priority bound (omega (arith, h, k))) refl
+
+pub closes_round : {ops : OperatorTable} {c : ℕ} {ps : List Piece} → Follows ops c (Put Close ∷ ps)
+closes_round = here (λ bound p k. refl) (λ a. refl) (λ a. refl)
+
+pub closes_list : {ops : OperatorTable} {c : ℕ} {ps : List Piece} → Follows ops c (Put CloseList ∷ ps)
+closes_list = here (λ bound p k. refl) (λ a. refl) (λ a. refl)
+
+pub closes_curly : {ops : OperatorTable} {c : ℕ} {ps : List Piece} → Follows ops c (Put CloseCurly ∷ ps)
+closes_curly = here (λ bound p k. refl) (λ a. refl) (λ a. refl)
+
+pub bars : {ops : OperatorTable} {c : ℕ} {ps : List Piece} → Follows ops c (Put Bar ∷ ps)
+bars = here (λ bound p k. refl) (λ a. refl) (λ a. refl)
+
+pub stops : {ops : OperatorTable} {c : ℕ} {ps : List Piece} → Follows ops c (Put End ∷ ps)
+stops = here (λ bound p k. refl) (λ a. refl) (λ a. refl)
+
+pub commas : {ops : OperatorTable} {ps : List Piece} (c : ℕ) → c < 1000 → Follows ops c (Put Comma ∷ ps)
+commas c h = here (λ bound p k. fits-false bound p c comma h k) (λ a. refl) (λ a. refl)
+
+-- ---- the word of a name
+
+module _ (s : Setting) (n : List ℕ) where
+  begins-name : (ts : List Token) → lexeme_begins s (name_token n) ts ≡ name_begins s.ops (is_minus (name_token n)) n ts
+  begins-name ts = go (is_bare n)
+    where
+      go : (x : Bool) → lexeme_begins s (if x then Name n else QuotedName n) ts ≡ name_begins s.ops (is_minus (if x then Name n else QuotedName n)) n ts
+      go true = refl
+      go false = refl
+
+  joint-name : lexeme_joint s.ops (name_token n) ≡ named_joint s.ops n
+  joint-name = go (is_bare n)
+    where
+      go : (x : Bool) → lexeme_joint s.ops (if x then Name n else QuotedName n) ≡ named_joint s.ops n
+      go true = refl
+      go false = refl
+
+  opens-name : (a : Bool) → lexeme_opens a (name_token n) ≡ false
+  opens-name a = go (is_bare n)
+    where
+      go : (x : Bool) → lexeme_opens a (if x then Name n else QuotedName n) ≡ false
+      go true = refl
+      go false = refl
+
+  counts-name : (a : Bool) → lexeme_counts a (name_token n) ≡ false
+  counts-name a = go (is_bare n)
+    where
+      go : (x : Bool) → lexeme_counts a (if x then Name n else QuotedName n) ≡ false
+      go true = refl
+      go false = refl
+
+  before-name : (ts : List Token) → ends_before s.ops (name_token n) ts ≡ joins s.ops n (name_token n) ts
+  before-name ts = go (is_bare n)
+    where
+      go : (x : Bool) → ends_before s.ops (if x then Name n else QuotedName n) ts ≡ joins s.ops n (if x then Name n else QuotedName n) ts
+      go true = refl
+      go false = refl
+
+  sign-name : is_minus (name_token n) ≡ true → same_name n (codes "-") ≡ true
+  sign-name = go (is_bare n)
+    where
+      go : (x : Bool) → is_minus (if x then Name n else QuotedName n) ≡ true → same_name n (codes "-") ≡ true
+      go true e = e
+      go false e = let f : ⊥ = cc in absurd f
+
+pub begins_name : (s : Setting) (n : List ℕ) (ts : List Token) → lexeme_begins s (name_token n) ts ≡ name_begins s.ops (is_minus (name_token n)) n ts
+begins_name s n ts = begins-name s n ts
+
+pub joint_name : (s : Setting) (n : List ℕ) → lexeme_joint s.ops (name_token n) ≡ named_joint s.ops n
+joint_name s n = joint-name s n
+
+pub before_name : (s : Setting) (n : List ℕ) (ts : List Token) → ends_before s.ops (name_token n) ts ≡ joins s.ops n (name_token n) ts
+before_name s n ts = before-name s n ts
+
+pub sign_name : (s : Setting) (n : List ℕ) → is_minus (name_token n) ≡ true → same_name n (codes "-") ≡ true
+sign_name s n e = sign-name s n e
+
+pub follows_name : (s : Setting) (n : List ℕ) (c : ℕ) (ps : List Piece) → ((bound p : ℕ) → bound ≤ c → joint_fits bound p (named_joint s.ops n) ≡ false) → Follows s.ops c (Put (name_token n) ∷ ps)
+follows_name s n c ps h = here (λ bound p k. rw (joint-name s n) (h bound p k)) (opens-name s n) (counts-name s n)
+
+pub infix-named : (ops : OperatorTable) (n : List ℕ) (o : Operator) → infix_of ops n ≡ Some o → named_joint ops n ≡ Infix n o
+infix-named ops n o e = rw e refl
+
+pub postfix-named : (ops : OperatorTable) (n : List ℕ) (o : Operator) → infix_of ops n ≡ None → postfix_of ops n ≡ Some o → named_joint ops n ≡ Postfix n o
+postfix-named ops n o e f = rw (e, f) refl
+
+some-same : {A : Type 0} (x y : A) → Some x ≡ Some y → x ≡ y
+some-same x y e = cc
+
+module _ (s : Setting) (table : IsOperatorTable s.ops) where
+  pub comma_only : (n : List ℕ) (o : Operator) → infix_of s.ops n ≡ Some o → same_name n (codes ",") ≡ true → o ≡ comma
+  comma_only n o e f = some-same o comma (sym e ∙ ap (infix_of s.ops) (same_text n (codes ",") (sym f)) ∙ table.comma)
+
+  pub infix-follows : (n : List ℕ) (o : Operator) (c : ℕ) (ps : List Piece) → infix_of s.ops n ≡ Some o → c < o.priority → Follows s.ops c (infix_pieces o n ps)
+  infix-follows n o c ps e h = go (same_name n (codes ",")) (is_symbol_name n && nat_lt o.priority 700) refl
+    where
+      word : Follows s.ops c (Put (name_token n) ∷ Space ∷ ps)
+      word = follows_name s n c (Space ∷ ps) (λ bound p k. rw (infix-named s.ops n o e) (fits-false bound p c o h k))
+
+      close : Follows s.ops c (Put (name_token n) ∷ ps)
+      close = follows_name s n c ps (λ bound p k. rw (infix-named s.ops n o e) (fits-false bound p c o h k))
+
+      go : (x y : Bool) → same_name n (codes ",") ≡ x → Follows s.ops c (if x then Put Comma ∷ ps else if y then Put (name_token n) ∷ ps else Space ∷ Put (name_token n) ∷ Space ∷ ps)
+      go true y f = commas c (let q : o ≡ comma = comma_only n o e f in let r : o.priority ≡ 1000 = ap (λ k. k.priority) q in omega (arith, r, h))
+      go false true f = close
+      go false false f = beyond word
+
+  pub postfix-follows : (n : List ℕ) (o : Operator) (c : ℕ) (ps : List Piece) → postfix_of s.ops n ≡ Some o → c < o.priority → Follows s.ops c (postfix_pieces n ps)
+  postfix-follows n o c ps e h = go (not (is_symbol_name n))
+    where
+      word : Follows s.ops c (Put (name_token n) ∷ ps)
+      word = follows_name s n c ps (λ bound p k. rw (postfix-named s.ops n o (no_infix s.ops n o table e) e) (fits-false bound p c o h k))
+
+      go : (x : Bool) → Follows s.ops c (spaced x (Put (name_token n) ∷ ps))
+      go true = beyond word
+      go false = word
+
+  -- an infix operator's pieces are its token and what follows
+  pub record JointAt (ts : List Token) (ps : List Piece) (joint : Joint) : Type 0 where
+    pub apart : Bool
+    pub w : Lexeme
+    pub before : InFront
+    pub is : ts ≡ token apart w ∷ joined before ps
+    pub goes : lexeme_joint s.ops w ≡ joint
+
+  pub infix-at : (n : List ℕ) (o : Operator) (ps : List Piece) (b : InFront) → infix_of s.ops n ≡ Some o → JointAt (joined b (infix_pieces o n ps)) ps (Infix n o)
+  infix-at n o ps b e = go (same_name n (codes ",")) (is_symbol_name n && nat_lt o.priority 700) refl
+    where
+      named : lexeme_joint s.ops (name_token n) ≡ Infix n o
+      named = joint_name s n ∙ infix-named s.ops n o e
+
+      go : (x y : Bool) → same_name n (codes ",") ≡ x → JointAt (joined b (if x then Put Comma ∷ ps else if y then Put (name_token n) ∷ ps else Space ∷ Put (name_token n) ∷ Space ∷ ps)) ps (Infix n o)
+      go true y f =
+          let q : Infix (codes ",") comma ≡ Infix n o = rw (same_text n (codes ",") (sym f), comma_only n o e f) refl in
+          record { apart = is_apart b Comma; w = Comma; before = behind_token Comma; is = refl; goes = q }
+      go false true f = record { apart = is_apart b (name_token n); w = name_token n; before = behind_token (name_token n); is = refl; goes = named }
+      go false false f = record { apart = true; w = name_token n; before = SpaceInFront; is = refl; goes = named }
+
+  pub postfix-at : (n : List ℕ) (o : Operator) (ps : List Piece) (b : InFront) → postfix_of s.ops n ≡ Some o → JointAt (joined b (postfix_pieces n ps)) ps (Postfix n o)
+  postfix-at n o ps b e = go (not (is_symbol_name n))
+    where
+      named : lexeme_joint s.ops (name_token n) ≡ Postfix n o
+      named = joint_name s n ∙ postfix-named s.ops n o (no_infix s.ops n o table e) e
+
+      go : (x : Bool) → JointAt (joined b (spaced x (Put (name_token n) ∷ ps))) ps (Postfix n o)
+      go true = record { apart = true; w = name_token n; before = behind_token (name_token n); is = refl; goes = named }
+      go false = record { apart = is_apart b (name_token n); w = name_token n; before = behind_token (name_token n); is = refl; goes = named }
+
+  -- a name's pieces: the tokens open as that name, with what follows it
+  pub record NameAt (ts : List Token) (n : List ℕ) (ps : List Piece) : Type 0 where
+    pub sign : Bool
+    pub before : InFront
+    pub is : begins s ts ≡ name_begins s.ops sign n (joined before ps)
+    pub tight : is_apart before Open ≡ false
+
+  -- `[]` and `{}` begin as names that are no operators do
+  plain-begins : (n : List ℕ) (ts : List Token) → prefix_of s.ops n ≡ None → atom_begins n ts ≡ name_begins s.ops false n ts
+  plain-begins n ts e = rw e refl
+
+  pub name-at : (n : List ℕ) (ps : List Piece) (b : InFront) → NameAt (joined b (name_pieces n ps)) n ps
+  name-at n ps b = go (same_name n nil) (same_name n braces) refl refl
+    where
+      go : (x y : Bool) → same_name n nil ≡ x → same_name n braces ≡ y
+          → NameAt (joined b (if x then Put OpenList ∷ Put CloseList ∷ ps else if y then Put OpenCurly ∷ Put CloseCurly ∷ ps else Put (name_token n) ∷ ps)) n ps
+      go true y e f = record { sign = false; before = behind_token CloseList; is = plain-begins nil (joined (behind_token CloseList) ps) (no_prefix s.ops nil table.nil) ∙ ap (λ k. name_begins s.ops false k (joined (behind_token CloseList) ps)) (sym (same_text n nil (sym e))); tight = refl }
+      go false true e f = record { sign = false; before = behind_token CloseCurly; is = plain-begins braces (joined (behind_token CloseCurly) ps) (no_prefix s.ops braces table.braces) ∙ ap (λ k. name_begins s.ops false k (joined (behind_token CloseCurly) ps)) (sym (same_text n braces (sym f))); tight = refl }
+      go false false e f = record { sign = is_minus (name_token n); before = behind_token (name_token n); is = begins_name s n (joined (behind_token (name_token n)) ps); tight = meets-other (ends_of (name_token n)) }

@@ -1,0 +1,6 @@
+use Rattle.term_writer.specs.Sources.{term_of_source}
+use Rattle.term_writer.proofs.Adding.{terms_behind}
+use Rattle.term_writer.proofs.tasks.Source.behind.Goals as goal
+
+pub returns : goal.returns
+returns c = terms_behind (term_of_source c.args.self) c.args.at c.term_end.result c.term_end.ensures.rest

@@ -1,0 +1,23 @@
+use Rattle.std.proofs.Common.{◌+◌, ap, sym, arith}
+use Rattle.au_term.specs.Term.{arguments}
+use Rattle.au_model.specs.OperatorForms.{PrefixForm}
+use Rattle.au_model.specs.Writing.{compound_pieces}
+use Rattle.op_table.specs.Meant.{operator_meant}
+use Rattle.term_writer.specs.Sources.{notation_of_source, term_of_source, part_of}
+use Rattle.term_writer.specs.Tasks.{terms_weight}
+use Rattle.term_writer.specs.declared.tasks.Task.TheVariants.{Prefix}
+use Rattle.term_writer.proofs.Adding.{adds_one, adds_then, adds_same}
+use Rattle.term_writer.proofs.Opening.{one_argument}
+use Rattle.term_writer.proofs.tasks.Source.prefix.Goals as goal
+
+pub returns : goal.returns
+returns c =
+    let n = notation_of_source c.args.self in
+    let t = term_of_source c.args.self in
+    let u = part_of c.args.self c.args.at in
+    let form = PrefixForm (operator_meant c.args.operator) in
+    let name = c.args.name.now in
+    let one = one_argument (arguments u) _ c.requires.one c.arg_start.ensures.is in
+    let sign = adds_one n t _ _ (Prefix c.args.name) c.in_ok-push.ensures.items tt in
+    let all = adds_then n t _ _ _ _ _ _ _ c.in_ok-last_operand.ensures sign in
+    adds_same n t _ _ _ (compound_pieces n form name (arguments u)) _ (9 + terms_weight (arguments u)) all (λ ps. ap (λ ts. compound_pieces n form name ts ps) (sym one)) (omega (arith, ap terms_weight one))

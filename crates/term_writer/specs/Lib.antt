@@ -1,0 +1,5 @@
+pub mod Meant
+pub mod Text
+pub mod Tasks
+pub mod Sources
+pub mod Bindings

@@ -1,0 +1,336 @@
+//! What is still to be written of a term. Nothing recurses on a term's depth.
+ghost use Rattle.std.specs.Prelude.{◌≡◌, ◌+◌, ◌<◌, ◌≤◌, ℕ, List, ◌∷◌, OnOk};
+ghost use Rattle.au_term.specs.Term.{more, count, take_terms, arguments, argument_count};
+ghost use Rattle.au_term.specs.Prefix.{top_of, IsSound};
+ghost use Rattle.au_term.specs.declared.cell.Cell.TheVariants.{Functor};
+ghost use Rattle.au_model.specs.Joints.{right_bound};
+ghost use Rattle.au_model.specs.Lexemes.{Bar as BarMark};
+ghost use Rattle.au_model.specs.OperatorForms.{ListForm, BracedForm, InfixForm, PrefixForm, PostfixForm, FunctionalForm, unary_form, binary_form, is_above, is_enclosed, is_enclosed_left};
+ghost use Rattle.au_model.specs.Pieces.{Put};
+ghost use Rattle.au_model.specs.Writing.{enclosed, pieces, cell_pieces, further_pieces, tail_pieces};
+ghost use Rattle.op_table.specs.Meant.{operator_meant};
+ghost use Rattle.term_writer.specs.Tasks.{terms_at, term_weight, terms_weight};
+ghost use Rattle.term_writer.specs.Sources.{notation_of_source, term_of_source, part_of, IsPlace, Puts, Opens};
+
+use crate::forms::{Form, Notation, right_bound};
+use crate::names::{is_cell_name, is_nil};
+use crate::text::Mark;
+use au_term::{Atom, Cell, FlatTerm, NoMemory};
+use op_table::Operator;
+
+/// What is still to be written, by places of the term's cells.
+#[derive(Clone, Copy)]
+pub(crate) enum Task<'a> {
+    /// The subterm at this place.
+    Term(usize),
+    /// So many arguments from this place on, behind the first, and the bracket.
+    Further(usize, u32),
+    /// The rest of a list at this place, behind an item.
+    Tail(usize),
+    Mark(Mark),
+    Name(&'a Atom),
+    Prefix(&'a Atom),
+    Infix(&'a Atom, Operator),
+    Postfix(&'a Atom),
+}
+
+/// A term that is written, and the operators that are written as such.
+#[derive(Clone, Copy)]
+pub(crate) struct Source<'a> {
+    pub(crate) term: &'a FlatTerm,
+    pub(crate) notation: Notation<'a>,
+}
+
+impl<'a> Source<'a> {
+    /// The first cell of the subterm at a place.
+    pub(crate) fn cell(self, at: usize) -> &'a Cell
+        requires { IsPlace self at }
+        ensures top { result.now ≡ top_of (part_of self.entry at) }
+        ensures sound { IsSound result.now }
+    {
+        &self.term.subterm(at)[0]
+    }
+
+    /// Where the term behind the subterm at a place begins.
+    fn behind(self, at: usize) -> usize
+        requires { IsPlace self at }
+        ensures { terms_at (term_of_source self.entry) at ≡ more (part_of self.entry at) (terms_at (term_of_source self.entry) result) }
+    {
+        self.term.term_end(at)
+    }
+
+    /// Where the arguments of the compound at a place begin.
+    fn first_argument(self, at: usize) -> usize
+        requires place { IsPlace self at }
+        requires some { 0 < argument_count (part_of self at) }
+        ensures place { IsPlace self.entry result }
+        ensures arguments { take_terms (argument_count (part_of self.entry at)) (terms_at (term_of_source self.entry) result) ≡ arguments (part_of self.entry at) }
+        ensures enough { argument_count (part_of self.entry at) ≤ count (terms_at (term_of_source self.entry) result) }
+    {
+        let length = self.term.cells().len();
+        prove!(at < length);
+        at + 1
+    }
+
+    /// The subterm at a place, in brackets or not.
+    pub(crate) fn part(
+        self,
+        at: usize,
+        is_enclosed: bool,
+        due: &mut Vec<Task<'a>>,
+    ) -> Result<(), NoMemory>
+        requires { IsPlace self at }
+        ensures { OnOk result (Puts self.entry due.old.items due.new.items
+            (enclosed is_enclosed (pieces (notation_of_source self.entry) (part_of self.entry at))) (2 + term_weight (part_of self.entry at))) }
+    {
+        if is_enclosed {
+            due.push(Task::Mark(Mark::Close))?;
+            due.push(Task::Term(at))?;
+            due.push(Task::Mark(Mark::Open))?;
+        } else {
+            due.push(Task::Term(at))?;
+        }
+        Ok(())
+    }
+
+    /// An argument or item.
+    fn argument(self, at: usize, due: &mut Vec<Task<'a>>) -> Result<(), NoMemory>
+        requires { IsPlace self at }
+        ensures { OnOk result (Puts self.entry due.old.items due.new.items
+            (enclosed (is_above (notation_of_source self.entry) 999 (part_of self.entry at)) (pieces (notation_of_source self.entry) (part_of self.entry at)))
+            (2 + term_weight (part_of self.entry at))) }
+    {
+        self.part(at, self.notation.is_above(999, self.cell(at)), due)
+    }
+
+    /// The last operand of an operator.
+    fn last_operand(
+        self,
+        at: usize,
+        operator: Operator,
+        due: &mut Vec<Task<'a>>,
+    ) -> Result<(), NoMemory>
+        requires { IsPlace self at }
+        ensures { OnOk result (Puts self.entry due.old.items due.new.items
+            (enclosed (is_enclosed (notation_of_source self.entry) (right_bound (operator_meant operator)) (part_of self.entry at)) (pieces (notation_of_source self.entry) (part_of self.entry at)))
+            (2 + term_weight (part_of self.entry at))) }
+    {
+        let is_enclosed = self
+            .notation
+            .is_enclosed(right_bound(operator), self.cell(at));
+        self.part(at, is_enclosed, due)
+    }
+
+    /// The left operand of an operator.
+    fn left_operand(
+        self,
+        at: usize,
+        operator: Operator,
+        due: &mut Vec<Task<'a>>,
+    ) -> Result<(), NoMemory>
+        requires { IsPlace self at }
+        ensures { OnOk result (Puts self.entry due.old.items due.new.items
+            (enclosed (is_enclosed_left (notation_of_source self.entry) (operator_meant operator) (part_of self.entry at)) (pieces (notation_of_source self.entry) (part_of self.entry at)))
+            (2 + term_weight (part_of self.entry at))) }
+    {
+        let is_enclosed = self.notation.is_enclosed_left(operator, self.cell(at));
+        self.part(at, is_enclosed, due)
+    }
+
+    /// A list, whose first cell stands at a place.
+    fn list(self, at: usize, due: &mut Vec<Task<'a>>) -> Result<(), NoMemory>
+        requires place { IsPlace self at }
+        requires two { argument_count (part_of self at) ≡ 2 }
+        ensures { OnOk result ((name : List ℕ) → Opens self.entry at ListForm name due.old.items due.new.items) }
+    {
+        due.push(Task::Mark(Mark::CloseList))?;
+        due.push(Task::Tail(self.term.arg_start(at, 1)))?;
+        self.argument(self.term.arg_start(at, 0), due)?;
+        due.push(Task::Mark(Mark::OpenList))?;
+        Ok(())
+    }
+
+    /// A term in braces.
+    fn braces(self, at: usize, due: &mut Vec<Task<'a>>) -> Result<(), NoMemory>
+        requires place { IsPlace self at }
+        requires one { argument_count (part_of self at) ≡ 1 }
+        ensures { OnOk result ((name : List ℕ) → Opens self.entry at BracedForm name due.old.items due.new.items) }
+    {
+        due.push(Task::Mark(Mark::CloseCurly))?;
+        due.push(Task::Term(self.term.arg_start(at, 0)))?;
+        due.push(Task::Mark(Mark::OpenCurly))?;
+        Ok(())
+    }
+
+    /// An infix operator between its operands.
+    fn infix(
+        self,
+        at: usize,
+        name: &'a Atom,
+        operator: Operator,
+        due: &mut Vec<Task<'a>>,
+    ) -> Result<(), NoMemory>
+        requires place { IsPlace self at }
+        requires two { argument_count (part_of self at) ≡ 2 }
+        ensures { OnOk result (Opens self.entry at (InfixForm (operator_meant operator)) name.now due.old.items due.new.items) }
+    {
+        self.last_operand(self.term.arg_start(at, 1), operator, due)?;
+        due.push(Task::Infix(name, operator))?;
+        self.left_operand(self.term.arg_start(at, 0), operator, due)
+    }
+
+    /// A prefix operator before its operand.
+    fn prefix(
+        self,
+        at: usize,
+        name: &'a Atom,
+        operator: Operator,
+        due: &mut Vec<Task<'a>>,
+    ) -> Result<(), NoMemory>
+        requires place { IsPlace self at }
+        requires one { argument_count (part_of self at) ≡ 1 }
+        ensures { OnOk result (Opens self.entry at (PrefixForm (operator_meant operator)) name.now due.old.items due.new.items) }
+    {
+        self.last_operand(self.term.arg_start(at, 0), operator, due)?;
+        due.push(Task::Prefix(name))?;
+        Ok(())
+    }
+
+    /// A postfix operator behind its operand.
+    fn postfix(
+        self,
+        at: usize,
+        name: &'a Atom,
+        operator: Operator,
+        due: &mut Vec<Task<'a>>,
+    ) -> Result<(), NoMemory>
+        requires place { IsPlace self at }
+        requires one { argument_count (part_of self at) ≡ 1 }
+        ensures { OnOk result (Opens self.entry at (PostfixForm (operator_meant operator)) name.now due.old.items due.new.items) }
+    {
+        due.push(Task::Postfix(name))?;
+        self.left_operand(self.term.arg_start(at, 0), operator, due)
+    }
+
+    /// A name and its arguments in brackets.
+    fn functional(
+        self,
+        at: usize,
+        name: &'a Atom,
+        arity: u32,
+        due: &mut Vec<Task<'a>>,
+    ) -> Result<(), NoMemory>
+        requires place { IsPlace self at }
+        requires some { 0 < arity }
+        requires count { argument_count (part_of self at) ≡ arity }
+        ensures { OnOk result (Opens self.entry at FunctionalForm name.now due.old.items due.new.items) }
+    {
+        let first = self.first_argument(at);
+        due.push(Task::Further(self.behind(first), arity - 1))?;
+        self.argument(first, due)?;
+        due.push(Task::Mark(Mark::Open))?;
+        due.push(Task::Name(name))?;
+        Ok(())
+    }
+
+    /// A compound with one argument.
+    fn unary(self, at: usize, name: &'a Atom, due: &mut Vec<Task<'a>>) -> Result<(), NoMemory>
+        requires place { IsPlace self at }
+        requires one { argument_count (part_of self at) ≡ 1 }
+        ensures { OnOk result (Opens self.entry at (unary_form (notation_of_source self.entry) name.now) name.now due.old.items due.new.items) }
+    {
+        match self.notation.unary_form(name.text()) {
+            Form::Braces => self.braces(at, due),
+            Form::Prefix(operator) => self.prefix(at, name, operator, due),
+            Form::Postfix(operator) => self.postfix(at, name, operator, due),
+            _ => self.functional(at, name, 1, due),
+        }
+    }
+
+    /// A compound with two arguments.
+    fn binary(self, at: usize, name: &'a Atom, due: &mut Vec<Task<'a>>) -> Result<(), NoMemory>
+        requires place { IsPlace self at }
+        requires two { argument_count (part_of self at) ≡ 2 }
+        ensures { OnOk result (Opens self.entry at (binary_form (notation_of_source self.entry) name.now) name.now due.old.items due.new.items) }
+    {
+        match self.notation.binary_form(name.text()) {
+            Form::List => self.list(at, due),
+            Form::Infix(operator) => self.infix(at, name, operator, due),
+            _ => self.functional(at, name, 2, due),
+        }
+    }
+
+    /// A compound with this name and so many arguments.
+    pub(crate) fn compound(
+        self,
+        at: usize,
+        name: &'a Atom,
+        arity: u32,
+        due: &mut Vec<Task<'a>>,
+    ) -> Result<(), NoMemory>
+        requires place { IsPlace self at }
+        requires some { 0 < arity }
+        requires top { top_of (part_of self at) ≡ Functor name.now arity }
+        ensures { OnOk result (Puts self.entry due.old.items due.new.items (pieces (notation_of_source self.entry) (part_of self.entry at)) (9 + terms_weight (arguments (part_of self.entry at)))) }
+    {
+        match arity {
+            1 => self.unary(at, name, due),
+            2 => self.binary(at, name, due),
+            _ => self.functional(at, name, arity, due),
+        }
+    }
+
+    /// So many arguments from a place on, behind the first, and the bracket.
+    pub(crate) fn further(
+        self,
+        at: usize,
+        left: u32,
+        due: &mut Vec<Task<'a>>,
+    ) -> Result<(), NoMemory>
+        requires { left ≤ count (terms_at (term_of_source self) at) }
+        ensures { OnOk result (Puts self.entry due.old.items due.new.items (further_pieces (notation_of_source self.entry) (take_terms left (terms_at (term_of_source self.entry) at))) (1 + terms_weight (take_terms left (terms_at (term_of_source self.entry) at)))) }
+    {
+        if left == 0 {
+            due.push(Task::Mark(Mark::Close))?;
+        } else {
+            due.push(Task::Further(self.behind(at), left - 1))?;
+            self.argument(at, due)?;
+            due.push(Task::Mark(Mark::Comma))?;
+        }
+        Ok(())
+    }
+
+    /// The rest of a list, behind an item.
+    pub(crate) fn tail(self, at: usize, due: &mut Vec<Task<'a>>) -> Result<(), NoMemory>
+        requires { IsPlace self at }
+        ensures { OnOk result (Puts self.entry due.old.items due.new.items (tail_pieces (notation_of_source self.entry) (part_of self.entry at)) (5 + term_weight (part_of self.entry at))) }
+    {
+        match self.cell(at) {
+            Cell::Atom(name) if is_nil(name.text()) => Ok(()),
+            Cell::Functor(name, 2) if is_cell_name(name.text()) => self.next_item(at, due),
+            _ => self.rest(at, due),
+        }
+    }
+
+    /// A tail that is a list's cell.
+    fn next_item(self, at: usize, due: &mut Vec<Task<'a>>) -> Result<(), NoMemory>
+        requires place { IsPlace self at }
+        requires two { argument_count (part_of self at) ≡ 2 }
+        ensures { OnOk result (Puts self.entry due.old.items due.new.items (cell_pieces (notation_of_source self.entry) (arguments (part_of self.entry at))) (9 + terms_weight (arguments (part_of self.entry at)))) }
+    {
+        due.push(Task::Tail(self.term.arg_start(at, 1)))?;
+        self.argument(self.term.arg_start(at, 0), due)?;
+        due.push(Task::Mark(Mark::Comma))?;
+        Ok(())
+    }
+
+    /// A tail that is no list.
+    fn rest(self, at: usize, due: &mut Vec<Task<'a>>) -> Result<(), NoMemory>
+        requires { IsPlace self at }
+        ensures { OnOk result (Puts self.entry due.old.items due.new.items (λ rest. Put BarMark ∷ enclosed (is_above (notation_of_source self.entry) 999 (part_of self.entry at)) (pieces (notation_of_source self.entry) (part_of self.entry at)) rest) (3 + term_weight (part_of self.entry at))) }
+    {
+        self.argument(at, due)?;
+        due.push(Task::Mark(Mark::Bar))?;
+        Ok(())
+    }
+}
