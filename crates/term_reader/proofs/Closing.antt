@@ -1,0 +1,204 @@
+-- Tokens that end an operand.
+use Rattle.std.proofs.Common.{◌≡◌, ◌∙◌, ℕ, zero, suc, ◌+◌, ◌-◌, ◌≤◌, ◌<◌, Bool, true, false, List, [], ◌∷◌, ◌++◌, length, map, Option, Some, None, refl, sym, ap, subst, arith}
+use Rattle.au_model.specs.Characters.{chars_from}
+use Rattle.au_model.specs.Lexemes as words
+use Rattle.au_model.specs.Lexemes.{Lexeme, Token, token, scanned, ScannedTo, is_end, front, tokens_of}
+use Rattle.au_model.specs.Trees.{Tree, Trees, AtomTree, CompoundTree, no_trees, more_trees, tree_count, one, nil, braces, cell, list_name}
+use Rattle.au_model.specs.Joints.{joint_fits, lexeme_joint}
+use Rattle.au_model.specs.Openings.{Setting}
+use Rattle.au_term.specs.declared.cell.Cell.TheVariants.{Functor}
+use Rattle.term_reader.specs.Begun.{setting_of, tokens_at}
+use Rattle.term_reader.specs.Following.{closer_of}
+use Rattle.term_reader.specs.Readings.{Stop, next}
+use Rattle.term_reader.specs.Stack as stack
+use Rattle.term_reader.specs.Stack.{bound_of, list_of, trees_of, Goes, Plugs, over, round, braced, item, bar, last, tail, argument, final}
+use Rattle.term_reader.specs.Frames.{Shape, RoundShape, CurlyShape, ItemShape, TailShape, ArgumentShape, frame_meant, shape_of, shapes_up, put_stack, put_before, IsKept, IsShut}
+use Rattle.term_reader.specs.Sheets.{Sheet, no_cells, put_tree, put_trees, put_cell, put_lists}
+use Rattle.term_reader.specs.Kept.{IsSheetOf}
+use Rattle.term_reader.specs.Positions.{Position, Due, There, Reads, Stands, Leads, Went, Ended, Outcome, phase_of, rest_at}
+use Rattle.term_reader.specs.Starting.{IsClosing, IsPushed}
+use Rattle.term_reader.specs.declared.lexeme.Closer.{Closer}
+use Rattle.term_reader.specs.declared.lexeme.Closer.TheVariants as closer
+use Rattle.term_reader.specs.declared.opening.Source.{Source}
+use Rattle.term_reader.specs.declared.state.State.{State}
+use Rattle.term_reader.specs.declared.state.Frame.{Frame}
+use Rattle.term_reader.specs.declared.state.Frame.TheVariants as frame
+use Rattle.term_reader.specs.declared.steps.Turn.{Turn}
+use Rattle.term_reader.specs.declared.steps.Turn.TheVariants.{On, Over, Refused}
+use Rattle.term_reader.proofs.Fronts.{front-more, front-end, tokens-more, tokens-end, tokens-first}
+use Rattle.term_reader.proofs.Settled.{popped, no_frames, stops-at}
+use Rattle.term_reader.proofs.Moving.{first-joint, pushed}
+use Rattle.term_reader.proofs.Turns as turns
+
+-- which token it was
+pub is-close : (x : Lexeme) → closer_of x ≡ closer.Close → x ≡ words.Close
+is-close words.Close e = refl
+is-close x e = let z : ⊥ = cc in absurd z
+
+pub is-close_list : (x : Lexeme) → closer_of x ≡ closer.CloseList → x ≡ words.CloseList
+is-close_list words.CloseList e = refl
+is-close_list x e = let z : ⊥ = cc in absurd z
+
+pub is-close_curly : (x : Lexeme) → closer_of x ≡ closer.CloseCurly → x ≡ words.CloseCurly
+is-close_curly words.CloseCurly e = refl
+is-close_curly x e = let z : ⊥ = cc in absurd z
+
+pub is-comma : (x : Lexeme) → closer_of x ≡ closer.Comma → x ≡ words.Comma
+is-comma words.Comma e = refl
+is-comma x e = let z : ⊥ = cc in absurd z
+
+pub is-bar : (x : Lexeme) → closer_of x ≡ closer.Bar → x ≡ words.Bar
+is-bar words.Bar e = refl
+is-bar x e = let z : ⊥ = cc in absurd z
+
+pub is-end_token : (x : Lexeme) → closer_of x ≡ closer.End → x ≡ words.End
+is-end_token words.End e = refl
+is-end_token x e = let z : ⊥ = cc in absurd z
+
+-- what the whole operand is plugged into
+module _ (source : Source) (st : State) (f : Frame) (k : List stack.Frame) (l : Tree) (p : ℕ) (c : Closer) (end : ℕ) (h : IsClosing source st f k l p c end) where
+  abbrev set : Setting
+  set = setting_of source
+
+  abbrev here : List ℕ
+  here = source.text.now
+
+  stop : next set.ops (bound_of k) p (tokens_at source st.at) ≡ Stop
+  stop = stops-at set.ops (bound_of k) p (tokens_at source st.at) (lexeme_joint set.ops h.lexeme) (first-joint set.ops _ _ h.apart h.lexeme h.found) h.stops
+
+  -- a bracket or comma is taken: what is read on
+  pub leads : (x : Lexeme) → h.lexeme ≡ x → is_end x ≡ false → (new : Position)
+      → ((goal : Tree) → Plugs set k (token h.apart x ∷ tokens_at source end) l goal → Reads set new (tokens_at source end) goal)
+      → ((goal : Tree) → Reads set new (tokens_at source end) goal → Plugs set k (token h.apart x ∷ tokens_at source end) l goal)
+      → Leads set here (There k l p) st.at new end
+  leads x e n new to back =
+      let found = h.found ∙ ap (λ y. ScannedTo (token h.apart y) (chars_from here end)) e in
+      let ts : tokens_at source st.at ≡ token h.apart x ∷ tokens_at source end = tokens-more _ _ h.apart x found n in
+      record {
+        to = λ goal g. to goal (subst (λ us. Plugs set k us l goal) ts (turns.goes_stop set (tokens_at source st.at) l p stop g));
+        back = λ goal g. turns.went_stop set (tokens_at source st.at) l p stop h.low (subst (λ us. Plugs set k us l goal) (sym ts) (back goal g));
+        rest = ap (λ y. y.rest) (front-more _ _ h.apart x found n);
+      }
+
+  -- it is not taken
+  pub refuses : ((goal : Tree) (us : List Token) → Plugs set k (token h.apart h.lexeme ∷ us) l goal → ⊥) → (goal : Tree) → Goes set k (tokens_at source st.at) l p goal → ⊥
+  refuses not goal g =
+      let first = tokens-first _ _ h.apart h.lexeme h.found in
+      not goal first.more (subst (λ us. Plugs set k us l goal) first.is (turns.goes_stop set (tokens_at source st.at) l p stop g))
+
+-- a bracket is closed
+pub closed : (source : Source) (old new : State) (f : Frame) (k below : List stack.Frame) (l tree : Tree) (p : ℕ) (c : Closer) (end : ℕ) → map frame_meant new.frames.items ≡ shapes_up below
+    → IsSheetOf new.sheet (put_tree (put_stack below) tree) → IsKept below → new.at ≡ end
+    → Leads (setting_of source) source.text.now (There k l p) old.at (There below tree 0) end → Outcome (setting_of source) source.text.now (There k l p) old.at new (On (Some 0))
+closed source old new f k below l tree p c end shapes sheet kept at leads = record {
+  new = There below tree 0;
+  stands = record { shapes = shapes; sheet = sheet; kept = kept; low = omega arith };
+  phase_is = refl;
+  leads = subst (λ n. Leads (setting_of source) source.text.now (There k l p) old.at (There below tree 0) n) (sym at) leads;
+}
+
+-- ---- the frames
+
+round-top : (g : stack.Frame) → shape_of g ≡ RoundShape → g ≡ stack.Round
+round-top stack.Round e = refl
+round-top g e = let z : ⊥ = cc in absurd z
+
+curly-top : (g : stack.Frame) → shape_of g ≡ CurlyShape → g ≡ stack.Braces
+curly-top stack.Braces e = refl
+curly-top g e = let z : ⊥ = cc in absurd z
+
+item-top : (g : stack.Frame) (n : ℕ) → shape_of g ≡ ItemShape n → (ts : List Tree) × (g ≡ stack.ItemOf ts) × (length ts ≡ n)
+item-top (stack.ItemOf ts) n e = (ts, refl, cc)
+item-top g n e = let z : ⊥ = cc in absurd z
+
+tail-top : (g : stack.Frame) (n : ℕ) → shape_of g ≡ TailShape n → (ts : List Tree) × (g ≡ stack.TailOf ts) × (length ts ≡ n)
+tail-top (stack.TailOf ts) n e = (ts, refl, cc)
+tail-top g n e = let z : ⊥ = cc in absurd z
+
+argument-top : (g : stack.Frame) (m : List ℕ) (n : ℕ) → shape_of g ≡ ArgumentShape m n → (ts : List Tree) × (g ≡ stack.ArgumentOf m ts) × (length ts ≡ n)
+argument-top (stack.ArgumentOf q ts) m n e = (ts, cc, cc)
+argument-top g m n e = let z : ⊥ = cc in absurd z
+
+-- the stack of which the frame is the top
+pub record Top (xs : List Frame) (k : List stack.Frame) (g : stack.Frame) : Type 0 where
+  pub below : List stack.Frame
+  pub is : k ≡ g ∷ below
+  pub rest : map frame_meant xs ≡ shapes_up below
+
+pub round-frame : (xs : List Frame) (k : List stack.Frame) → map frame_meant (xs ++ frame.Round ∷ []) ≡ shapes_up k → Top xs k stack.Round
+round-frame xs k e = let r = popped k xs frame.Round e in record { below = r.below; is = r.is ∙ ap (λ g. g ∷ r.below) (round-top r.top r.shape); rest = r.rest }
+
+pub curly-frame : (xs : List Frame) (k : List stack.Frame) → map frame_meant (xs ++ frame.Curly ∷ []) ≡ shapes_up k → Top xs k stack.Braces
+curly-frame xs k e = let r = popped k xs frame.Curly e in record { below = r.below; is = r.is ∙ ap (λ g. g ∷ r.below) (curly-top r.top r.shape); rest = r.rest }
+
+pub item-frame : (xs : List Frame) (k : List stack.Frame) (n : ℕ) → map frame_meant (xs ++ frame.Item n ∷ []) ≡ shapes_up k → (ts : List Tree) × (length ts ≡ n) × Top xs k (stack.ItemOf ts)
+item-frame xs k n e =
+    let r = popped k xs (frame.Item n) e in
+    let t = item-top r.top n r.shape in
+    (t.0, t.2, record { below = r.below; is = r.is ∙ ap (λ g. g ∷ r.below) t.1; rest = r.rest })
+
+pub tail-frame : (xs : List Frame) (k : List stack.Frame) (n : ℕ) → map frame_meant (xs ++ frame.Tail n ∷ []) ≡ shapes_up k → (ts : List Tree) × (length ts ≡ n) × Top xs k (stack.TailOf ts)
+tail-frame xs k n e =
+    let r = popped k xs (frame.Tail n) e in
+    let t = tail-top r.top n r.shape in
+    (t.0, t.2, record { below = r.below; is = r.is ∙ ap (λ g. g ∷ r.below) t.1; rest = r.rest })
+
+pub argument-frame : (xs : List Frame) (k : List stack.Frame) (m : List ℕ) (n place : ℕ) → map frame_meant (xs ++ frame.Argument m n place ∷ []) ≡ shapes_up k → (ts : List Tree) × (length ts ≡ n) × Top xs k (stack.ArgumentOf m ts)
+argument-frame xs k m n place e =
+    let r = popped k xs (frame.Argument m n place) e in
+    let t = argument-top r.top m n r.shape in
+    (t.0, t.2, record { below = r.below; is = r.is ∙ ap (λ g. g ∷ r.below) t.1; rest = r.rest })
+
+-- ---- what no frame takes
+
+pub not-round : (s : Setting) (k : List stack.Frame) (a : Bool) (x : Lexeme) (us : List Token) (l goal : Tree) → (closer_of x ≡ closer.Close → ⊥) → Plugs s (stack.Round ∷ k) (token a x ∷ us) l goal → ⊥
+not-round s k a x us l goal n (round g) = n refl
+
+pub not-curly : (s : Setting) (k : List stack.Frame) (a : Bool) (x : Lexeme) (us : List Token) (l goal : Tree) → (closer_of x ≡ closer.CloseCurly → ⊥) → Plugs s (stack.Braces ∷ k) (token a x ∷ us) l goal → ⊥
+not-curly s k a x us l goal n (braced g) = n refl
+
+pub not-item : (s : Setting) (k : List stack.Frame) (ts : List Tree) (a : Bool) (x : Lexeme) (us : List Token) (l goal : Tree)
+    → (closer_of x ≡ closer.Comma → ⊥) → (closer_of x ≡ closer.Bar → ⊥) → (closer_of x ≡ closer.CloseList → ⊥) → Plugs s (stack.ItemOf ts ∷ k) (token a x ∷ us) l goal → ⊥
+not-item s k ts a x us l goal m n o (item g) = m refl
+not-item s k ts a x us l goal m n o (bar g) = n refl
+not-item s k ts a x us l goal m n o (last g) = o refl
+
+pub not-tail : (s : Setting) (k : List stack.Frame) (ts : List Tree) (a : Bool) (x : Lexeme) (us : List Token) (l goal : Tree) → (closer_of x ≡ closer.CloseList → ⊥) → Plugs s (stack.TailOf ts ∷ k) (token a x ∷ us) l goal → ⊥
+not-tail s k ts a x us l goal n (tail g) = n refl
+
+pub not-argument : (s : Setting) (k : List stack.Frame) (m : List ℕ) (ts : List Tree) (a : Bool) (x : Lexeme) (us : List Token) (l goal : Tree)
+    → (closer_of x ≡ closer.Comma → ⊥) → (closer_of x ≡ closer.Close → ⊥) → Plugs s (stack.ArgumentOf m ts ∷ k) (token a x ∷ us) l goal → ⊥
+not-argument s k m ts a x us l goal n o (argument lt g) = n refl
+not-argument s k m ts a x us l goal n o (final g) = o refl
+
+pub not-more : (s : Setting) (k : List stack.Frame) (m : List ℕ) (ts : List Tree) (a : Bool) (x : Lexeme) (us : List Token) (l goal : Tree)
+    → closer_of x ≡ closer.Comma → 65534 ≤ length ts → Plugs s (stack.ArgumentOf m ts ∷ k) (token a x ∷ us) l goal → ⊥
+not-more s k m ts a x us l goal e le (argument lt g) = omega arith
+not-more s k m ts a x us l goal e le (final g) = cc
+
+pub not-over : (s : Setting) (a : Bool) (x : Lexeme) (us : List Token) (l goal : Tree) → (closer_of x ≡ closer.End → ⊥) → Plugs s [] (token a x ∷ us) l goal → ⊥
+not-over s a x us l goal n over = n refl
+
+-- ---- what is put on the sheet
+
+pub put-list : (s : Sheet) (ts : List Tree) (u : Tree) → put_lists (length ts) (put_tree (put_before s ts) u) ≡ put_tree s (list_of ts u)
+put-list s [] u = refl
+put-list s (t ∷ ts) u = put-lists-in (length ts) (put_tree (put_tree (put_before s ts) t) u) ∙ put-list s ts (cell t u)
+  where
+    put-lists-in : (n : ℕ) (x : Sheet) → put_cell (put_lists n x) (Functor list_name 2) ≡ put_lists n (put_cell x (Functor list_name 2))
+    put-lists-in zero x = refl
+    put-lists-in (suc n) x = ap (λ y. put_cell y (Functor list_name 2)) (put-lists-in n x)
+
+put-arguments : (s : Sheet) (ts : List Tree) (us : Trees) → put_trees (put_before s ts) us ≡ put_trees s (trees_of ts us)
+put-arguments s [] us = refl
+put-arguments s (t ∷ ts) us = put-arguments s ts (more_trees t us)
+
+trees-count : (ts : List Tree) (us : Trees) → tree_count (trees_of ts us) ≡ length ts + tree_count us
+trees-count [] us = omega arith
+trees-count (t ∷ ts) us = omega (arith, trees-count ts (more_trees t us))
+
+pub put-compound : (s : Sheet) (m : List ℕ) (ts : List Tree) (t : Tree) (n : ℕ) → n ≡ length ts → put_cell (put_tree (put_before s ts) t) (Functor m (n + 1)) ≡ put_tree s (CompoundTree m (trees_of (t ∷ ts) no_trees))
+put-compound s m ts t n e =
+    let number : n + 1 ≡ tree_count (trees_of (t ∷ ts) no_trees) = omega (arith, trees-count (t ∷ ts) no_trees) in
+    ap (λ k. put_cell (put_tree (put_before s ts) t) (Functor m k)) number
+    ∙ ap (λ x. put_cell x (Functor m (tree_count (trees_of (t ∷ ts) no_trees)))) (put-arguments s (t ∷ ts) no_trees)

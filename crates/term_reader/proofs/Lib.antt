@@ -1,0 +1,17 @@
+pub mod Climbed
+pub mod Unique
+pub mod Back
+pub mod Turns
+pub mod Scans
+pub mod Fronts
+pub mod Follows
+pub mod Literals
+pub mod Lexed
+pub mod Turning
+pub mod Sheets
+pub mod Named
+pub mod Settled
+pub mod Moving
+pub mod Closing
+pub mod Closed
+pub mod Readings

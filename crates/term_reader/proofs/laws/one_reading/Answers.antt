@@ -1,0 +1,5 @@
+use Rattle.term_reader.proofs.Unique.{same_reading}
+use Rattle.term_reader.proofs.laws.one_reading.Goals as goal
+
+pub returns : goal.returns
+returns c = same_reading

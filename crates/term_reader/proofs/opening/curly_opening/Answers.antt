@@ -1,0 +1,17 @@
+use Rattle.std.proofs.Common.{◌≡◌, ◌∙◌, sym, ap, subst, IfOk}
+use Rattle.au_model.specs.Characters.{chars_from}
+use Rattle.au_model.specs.Lexemes.{tokens_of}
+use Rattle.au_model.specs.Openings.{atom_begins}
+use Rattle.term_reader.specs.Following.{IsFollowAt}
+use Rattle.term_reader.specs.Begun.{opening_meant}
+use Rattle.term_reader.proofs.Follows.{curly-atom}
+use Rattle.term_reader.proofs.Literals.{braces-chars}
+use Rattle.term_reader.proofs.opening.curly_opening.Goals as goal
+
+pub returns-in-ClosesCurly-clause-opening : goal.returns-in-ClosesCurly-clause-opening
+returns-in-ClosesCurly-clause-opening c =
+    let text = c.args.source.text.now in
+    let us = tokens_of (chars_from text c.in-ClosesCurly.behind) in
+    let h = subst (IsFollowAt text c.args.end) c.in-ClosesCurly.is c.in_ok-next.ensures in
+    subst (λ x. IfOk c.atom_opening.result (λ o. opening_meant c.args.source o ≡ x))
+    (ap (λ n. atom_begins n us) braces-chars ∙ sym (curly-atom h.is.0 _ us h.is.1)) c.atom_opening.ensures.opening

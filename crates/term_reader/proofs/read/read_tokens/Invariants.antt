@@ -1,0 +1,17 @@
+use Rattle.std.proofs.Common.{◌≡◌, ◌-◌, [], length}
+use Rattle.token_scan.specs.Parts.{IsPlaceFrom}
+use Rattle.term_reader.specs.Begun.{setting_of}
+use Rattle.term_reader.specs.Positions.{Position, Due, Stands, Leads, phase_of}
+use Rattle.term_reader.proofs.read.read_tokens.Given as goal
+
+abbrev pub invariant-tokens : goal.invariant-tokens
+invariant-tokens l = record {
+  place : IsPlaceFrom l.source.text.now l.at l.state.at;
+  position : Position;
+  stands : Stands l.state position;
+  phase_is : l.phase ≡ phase_of position;
+  leads : Leads (setting_of l.source) l.source.text.now (Due []) l.at position l.state.at;
+}
+
+abbrev pub decreases-tokens : goal.decreases-tokens
+decreases-tokens l = length l.source.text.now - l.state.at

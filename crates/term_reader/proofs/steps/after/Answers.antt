@@ -1,0 +1,85 @@
+use Rattle.std.proofs.Common.{◌≡◌, ◌∙◌, Bool, true, false, Some, refl, sym, ap, subst}
+use Rattle.std.proofs.lemmas.Result.{IfOk-weaker}
+use Rattle.au_term.specs.declared.cell.Cell.TheVariants.{Functor}
+use Rattle.au_model.specs.Joints.{Infix, Postfix, Nothing, joint_fits, lexeme_joint}
+use Rattle.au_model.specs.Trees.{one}
+use Rattle.op_table.specs.Meant.{operator_meant}
+use Rattle.term_reader.specs.Begun.{setting_of}
+use Rattle.term_reader.specs.Meant.{joint_meant, joint_name, lexeme_meant}
+use Rattle.term_reader.specs.Stack as stack
+use Rattle.term_reader.specs.Stack.{bound_of}
+use Rattle.term_reader.specs.Frames.{InfixShape, put_stack}
+use Rattle.term_reader.specs.Sheets.{put_tree, put_cell}
+use Rattle.term_reader.specs.Kept.{IsSheetOf}
+use Rattle.term_reader.specs.Positions.{There, Outcome}
+use Rattle.term_reader.specs.Settling.{IsFree}
+use Rattle.term_reader.specs.declared.steps.Turn.TheVariants.{On}
+use Rattle.term_reader.proofs.Moving.{first-joint, outcome-same, pushed, infix-leads, postfix-leads, fits-bound}
+use Rattle.term_reader.proofs.steps.after.Goals as goal
+
+pub returns-then-not-fits-clause-outcome : goal.returns-then-not-fits-clause-outcome
+returns-then-not-fits-clause-outcome c = λ k l st.
+    let s = setting_of c.args.source in
+    let x = lexeme_meant c.args.found.lexeme in
+    let j = joint_meant (joint_name x) c.joint_of-joint.result in
+    let z = c.in_ok-last.ensures.settled s k l (joint_name x) st in
+    let fj = first-joint s.ops _ _ c.args.found.apart x c.requires.next ∙ sym c.joint_of-joint.ensures in
+    let free = subst (λ b. IsFree z.below c.in_ok-last.last j b) c.if-not-fits.true z.free in
+    let inner = c.close.ensures.outcome z.below z.tree c.in_ok-last.last z.stands free.1 (subst (λ i. joint_fits (bound_of z.below) c.in_ok-last.last i ≡ false) c.joint_of-joint.ensures free.0) in
+    IfOk-weaker c.close.result _ _ (λ t w. outcome-same s c.args.source.text.now j k z.below l z.tree c.args.priority c.in_ok-last.last c.args.state.now.at c.close.new.state t z.same fj
+    (subst (λ m. Outcome s c.args.source.text.now (There z.below z.tree c.in_ok-last.last) m c.close.new.state t) c.in_ok-last.ensures.at w)) inner
+
+pub returns-in_ok-name-in-Infix-clause-outcome : goal.returns-in_ok-name-in-Infix-clause-outcome
+returns-in_ok-name-in-Infix-clause-outcome c = λ k l st.
+    let s = setting_of c.args.source in
+    let x = lexeme_meant c.args.found.lexeme in
+    let n = joint_name x in
+    let o = operator_meant c.in-Infix.operator in
+    let j = joint_meant n c.joint_of-joint.result in
+    let at = c.args.state.now.at in
+    let q = c.in_ok-last.last in
+    let z = c.in_ok-last.ensures.settled s k l n st in
+    let fj = first-joint s.ops _ _ c.args.found.apart x c.requires.next ∙ sym c.joint_of-joint.ensures in
+    let free = subst (λ b. IsFree z.below q j b) c.if-not-fits.false z.free in
+    let fits = subst (λ i. joint_fits (bound_of z.below) q i ≡ true) (ap (joint_meant n) c.in-Infix.is) free in
+    let is = sym c.joint_of-joint.ensures ∙ ap (joint_meant n) c.in-Infix.is in
+    IfOk-weaker c.open.result _ _ (λ t d. outcome-same s c.args.source.text.now j k z.below l z.tree c.args.priority q at c.open.new.state t z.same fj
+    (pushed s c.args.source.text.now (There z.below z.tree q) at _ c.open.new.state _ (stack.InfixOf n o z.tree) z.below c.args.found.end t d z.stands.shapes (ap (λ m. InfixShape m o) c.in_ok-name-in-Infix.ensures) z.stands.sheet
+    (fits-bound c.args.source at c.args.found.end z.below z.tree q c.args.found.apart x n o fits, z.stands.kept)
+    (infix-leads c.args.source at c.args.found.end z.below z.tree q c.args.found.apart x n o c.requires.next is fits z.stands.low))) c.open.ensures
+
+pub returns-in_ok-compound-in-Postfix-clause-outcome : goal.returns-in_ok-compound-in-Postfix-clause-outcome
+returns-in_ok-compound-in-Postfix-clause-outcome c = λ k l st.
+    let s = setting_of c.args.source in
+    let x = lexeme_meant c.args.found.lexeme in
+    let n = joint_name x in
+    let o = operator_meant c.in-Postfix.operator in
+    let j = joint_meant n c.joint_of-joint.result in
+    let at = c.args.state.now.at in
+    let q = c.in_ok-last.last in
+    let z = c.in_ok-last.ensures.settled s k l n st in
+    let fj = first-joint s.ops _ _ c.args.found.apart x c.requires.next ∙ sym c.joint_of-joint.ensures in
+    let free = subst (λ b. IsFree z.below q j b) c.if-not-fits.false z.free in
+    let fits = subst (λ i. joint_fits (bound_of z.below) q i ≡ true) (ap (joint_meant n) c.in-Postfix.is) free in
+    let is = sym c.joint_of-joint.ensures ∙ ap (joint_meant n) c.in-Postfix.is in
+    let sheet = subst (λ m. IsSheetOf c.compound.new.self (put_cell (put_tree (put_stack z.below) z.tree) (Functor m 1))) c.in_ok-name-in-Postfix.ensures
+    (c.in_ok-compound-in-Postfix.ensures (put_tree (put_stack z.below) z.tree) z.stands.sheet) in
+    outcome-same s c.args.source.text.now j k z.below l z.tree c.args.priority q at _ (On (Some o.priority)) z.same fj (record {
+      new = There z.below (one n z.tree) o.priority;
+      stands = record { shapes = z.stands.shapes; sheet = sheet; kept = z.stands.kept; low = fits-bound c.args.source at c.args.found.end z.below z.tree q c.args.found.apart x n o fits };
+      phase_is = refl;
+      leads = postfix-leads c.args.source at c.args.found.end z.below z.tree q c.args.found.apart x n o c.requires.next is fits z.stands.low;
+    })
+
+false_true : {A : Type 0} → false ≡ true → A
+false_true e = let z : ⊥ = cc in absurd z
+
+pub returns-in-Nothing-clause-outcome : goal.returns-in-Nothing-clause-outcome
+returns-in-Nothing-clause-outcome c = λ k l st.
+    let x = lexeme_meant c.args.found.lexeme in
+    let n = joint_name x in
+    let j = joint_meant n c.joint_of-joint.result in
+    let q = c.in_ok-last.last in
+    let z = c.in_ok-last.ensures.settled (setting_of c.args.source) k l n st in
+    let free = subst (λ b. IsFree z.below q j b) c.if-not-fits.false z.free in
+    false_true (subst (λ i. joint_fits (bound_of z.below) q i ≡ true) (ap (joint_meant n) c.in-Nothing.is) free)

@@ -1,0 +1,20 @@
+use Rattle.std.proofs.Common.{◌≡◌, ◌∙◌, sym, ap, subst}
+use Rattle.au_model.specs.Characters.{chars_from}
+use Rattle.term_reader.specs.Begun.{setting_of}
+use Rattle.term_reader.specs.Meant.{scan_meant, IsScan}
+use Rattle.term_reader.proofs.Moving.{nothing-there}
+use Rattle.term_reader.proofs.steps.behind.Goals as goal
+
+pub after-requires-clause-next : goal.after-requires-clause-next
+after-requires-clause-next c = sym c.in_ok-next.ensures.scan ∙ ap (scan_meant c.args.source.text.now) c.in-Found.is
+
+pub after-requires-clause-place : goal.after-requires-clause-place
+after-requires-clause-place c = (subst (IsScan c.args.source.text.now c.args.state.now.at) c.in-Found.is c.in_ok-next.ensures.place).0
+
+pub returns-in-Bad-clause-outcome : goal.returns-in-Bad-clause-outcome
+returns-in-Bad-clause-outcome c = λ k l st goal g.
+    nothing-there (setting_of c.args.source) k l c.args.priority (chars_from c.args.source.text.now c.args.state.now.at) (sym c.in_ok-next.ensures.scan ∙ ap (scan_meant c.args.source.text.now) c.in-Bad.is) goal g
+
+pub returns-in-EndOfText-clause-outcome : goal.returns-in-EndOfText-clause-outcome
+returns-in-EndOfText-clause-outcome c = λ k l st goal g.
+    nothing-there (setting_of c.args.source) k l c.args.priority (chars_from c.args.source.text.now c.args.state.now.at) (sym c.in_ok-next.ensures.scan ∙ ap (scan_meant c.args.source.text.now) c.in-EndOfText.is) goal g

@@ -1,0 +1,27 @@
+use Rattle.std.proofs.Common.{◌<◌, ◌≤◌, refl, arith}
+use Rattle.std.proofs.lemmas.Result.{IfOk-weaker}
+use Rattle.term_reader.specs.Frames.{put_stack}
+use Rattle.term_reader.specs.Sheets.{put_tree}
+use Rattle.term_reader.proofs.Closed.{compound-closes, argument-goes_on, argument-refuses, too_many, few_arguments}
+use Rattle.term_reader.proofs.steps.close_argument.Goals as goal
+
+pub returns-then-before-ge65534-clause-outcome : goal.returns-then-before-ge65534-clause-outcome
+returns-then-before-ge65534-clause-outcome c = λ k l p h goal g.
+    too_many c.args.source c.args.state.now c.args.state.now k l p c.args.token c.args.end c.args.name c.args.before c.args.place h c.in-Comma.is (omega arith) goal g
+
+pub returns-else-before-ge65534-clause-outcome : goal.returns-else-before-ge65534-clause-outcome
+returns-else-before-ge65534-clause-outcome c = λ k l p h.
+    let lt : c.args.before < 65534 = omega arith in
+    IfOk-weaker c.open.result _ _ (λ t d. argument-goes_on c.args.source c.args.state.now c.open.new.state k l p c.args.token c.args.end c.args.name c.args.before c.args.place t h c.in-Comma.is lt d) c.open.ensures
+
+pub returns-in_ok-compound-in-Close-clause-outcome : goal.returns-in_ok-compound-in-Close-clause-outcome
+returns-in_ok-compound-in-Close-clause-outcome c = λ k l p h.
+    compound-closes c.args.source c.args.state.now _ k l p c.args.token c.args.end c.args.name c.args.before c.args.place h c.in-Close.is refl refl (c.in_ok-compound-in-Close.ensures (put_tree (put_stack k) l) h.sheet)
+
+pub returns-then-before-gt65534-clause-outcome : goal.returns-then-before-gt65534-clause-outcome
+returns-then-before-gt65534-clause-outcome c = λ k l p h goal g.
+    few_arguments c.args.source c.args.state.now c.args.state.now k l p c.args.token c.args.end c.args.name c.args.before c.args.place h (omega arith)
+
+pub returns-in_default-clause-outcome : goal.returns-in_default-clause-outcome
+returns-in_default-clause-outcome c = λ k l p h goal g.
+    argument-refuses c.args.source c.args.state.now c.args.state.now k l p c.args.token c.args.end c.args.name c.args.before c.args.place h c.in_default.not-Comma c.in_default.not-Close goal g

@@ -1,0 +1,34 @@
+use Rattle.std.proofs.Common.{refl}
+use Rattle.std.proofs.lemmas.Result.{IfOk-weaker}
+use Rattle.term_reader.specs.Frames.{put_stack}
+use Rattle.au_model.specs.Trees.{AtomTree, nil}
+use Rattle.term_reader.specs.Sheets.{put_tree}
+use Rattle.term_reader.proofs.Closed.{list-closes, item-goes_on, tail-goes_on, item-refuses}
+use Rattle.term_reader.proofs.Moving.{moved}
+use Rattle.term_reader.proofs.steps.close_item.Goals as goal
+
+pub returns-in-Comma-clause-moves : goal.returns-in-Comma-clause-moves
+returns-in-Comma-clause-moves c = λ place.
+    IfOk-weaker c.open.result _ _ (λ t d. moved c.args.source.text.now c.args.state.now.at c.args.end c.open.new.state _ t d.turn d.at place) c.open.ensures
+
+pub returns-in-Comma-clause-outcome : goal.returns-in-Comma-clause-outcome
+returns-in-Comma-clause-outcome c = λ k l p h.
+    IfOk-weaker c.open.result _ _ (λ t d. item-goes_on c.args.source c.args.state.now c.open.new.state k l p c.args.token c.args.end c.args.before 0 t h c.in-Comma.is d) c.open.ensures
+
+pub returns-in-Bar-clause-moves : goal.returns-in-Bar-clause-moves
+returns-in-Bar-clause-moves c = λ place.
+    IfOk-weaker c.open-in-Bar.result _ _ (λ t d. moved c.args.source.text.now c.args.state.now.at c.args.end c.open-in-Bar.new.state _ t d.turn d.at place) c.open-in-Bar.ensures
+
+pub returns-in-Bar-clause-outcome : goal.returns-in-Bar-clause-outcome
+returns-in-Bar-clause-outcome c = λ k l p h.
+    IfOk-weaker c.open-in-Bar.result _ _ (λ t d. tail-goes_on c.args.source c.args.state.now c.open-in-Bar.new.state k l p c.args.token c.args.end c.args.before 0 t h c.in-Bar.is d) c.open-in-Bar.ensures
+
+pub returns-in_ok-list-in-CloseList-clause-outcome : goal.returns-in_ok-list-in-CloseList-clause-outcome
+returns-in_ok-list-in-CloseList-clause-outcome c = λ k l p h.
+    let s = put_tree (put_stack k) l in
+    list-closes c.args.source c.args.state.now _ k l p c.args.token c.args.end c.args.before h c.in-CloseList.is refl refl
+    (c.in_ok-list-in-CloseList.ensures (put_tree s (AtomTree nil)) (c.in_ok-nil-in-CloseList.ensures s h.sheet))
+
+pub returns-in_default-clause-outcome : goal.returns-in_default-clause-outcome
+returns-in_default-clause-outcome c = λ k l p h goal g.
+    item-refuses c.args.source c.args.state.now c.args.state.now k l p c.args.token c.args.end c.args.before h c.in_default.not-Comma c.in_default.not-Bar c.in_default.not-CloseList goal g

@@ -1,0 +1,14 @@
+pub mod Meant
+pub mod Following
+pub mod Begun
+pub mod Orders
+pub mod Levels
+pub mod Sheets
+pub mod Kept
+pub mod Readings
+pub mod Stack
+pub mod Frames
+pub mod Positions
+pub mod Settling
+pub mod Starting
+pub mod Reading

@@ -1,0 +1,59 @@
+-- What the reader's own types stand for.
+use Rattle.std.specs.Prelude.{◌≡◌, ◌≤◌, ◌^◌, ℕ, suc, Bool, true, false, List, codes}
+use Rattle.au_model.specs.Characters.{chars_from}
+use Rattle.au_model.specs.Lexemes as words
+use Rattle.au_model.specs.Lexemes.{token, Scanned, ScannedTo, ScannedNone}
+use Rattle.au_model.specs.Joints.{Joint, Infix, Postfix, Nothing}
+use Rattle.op_table.specs.Meant.{operator_meant}
+use Rattle.token_scan.specs.Parts.{IsPlaceFrom}
+use Rattle.term_reader.specs.declared.joint.Joint.{Joint as DeclaredJoint}
+use Rattle.term_reader.specs.declared.joint.Joint.TheVariants.{Infix as JointInfix, Postfix as JointPostfix, Nothing as JointNothing}
+use Rattle.term_reader.specs.declared.lexeme.Lexeme.{Lexeme}
+use Rattle.term_reader.specs.declared.lexeme.Lexeme.TheVariants.{Name, QuotedName, Variable, Integer, Text, Open, Close, OpenList, CloseList, OpenCurly, CloseCurly, Comma, Bar, End}
+use Rattle.term_reader.specs.declared.lexeme.Scan.{Scan}
+use Rattle.term_reader.specs.declared.lexeme.Scan.TheVariants.{Found, Bad, EndOfText}
+
+abbrev pub lexeme_meant : Lexeme → words.Lexeme
+lexeme_meant (Name n) = words.Name n
+lexeme_meant (QuotedName n) = words.QuotedName n
+lexeme_meant (Variable n) = words.Variable n
+lexeme_meant (Integer k) = words.Integer k
+lexeme_meant (Text cs) = words.Text cs
+lexeme_meant Open = words.Open
+lexeme_meant Close = words.Close
+lexeme_meant OpenList = words.OpenList
+lexeme_meant CloseList = words.CloseList
+lexeme_meant OpenCurly = words.OpenCurly
+lexeme_meant CloseCurly = words.CloseCurly
+lexeme_meant Comma = words.Comma
+lexeme_meant Bar = words.Bar
+lexeme_meant End = words.End
+
+-- what a scan of a text found
+abbrev pub scan_meant : List ℕ → Scan → Scanned
+scan_meant text (Found t) = ScannedTo (token t.apart (lexeme_meant t.lexeme)) (chars_from text t.end)
+scan_meant text (Bad e) = ScannedNone
+scan_meant text EndOfText = ScannedNone
+
+-- 9223372036854775808 is the greatest
+abbrev pub IsNarrow : Lexeme → Type 0
+IsNarrow (Integer k) = k ≤ 2 ^ 63
+IsNarrow _ = Unit {0}
+
+-- the token ends behind this place
+abbrev pub IsScan : List ℕ → ℕ → Scan → Type 0
+IsScan text at (Found t) = IsPlaceFrom text (suc at) t.end × IsNarrow t.lexeme
+IsScan text at (Bad e) = Unit {0}
+IsScan text at EndOfText = Unit {0}
+
+-- what a token behind an operand of this name joins it to
+abbrev pub joint_meant : List ℕ → DeclaredJoint → Joint
+joint_meant n (JointInfix o) = Infix n (operator_meant o)
+joint_meant n (JointPostfix o) = Postfix n (operator_meant o)
+joint_meant n JointNothing = Nothing
+
+-- the name of an operator that is no prefix one
+abbrev pub joint_name : words.Lexeme → List ℕ
+joint_name (words.Name n) = n
+joint_name (words.QuotedName n) = n
+joint_name _ = codes ","

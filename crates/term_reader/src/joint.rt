@@ -1,0 +1,90 @@
+//! Operators behind an operand.
+ghost use Rattle.std.specs.Prelude.{◌≡◌, ℕ, List, IfOk};
+ghost use Rattle.std.specs.Str.{chars};
+ghost use Rattle.au_model.specs.Joints.{joint_fits, left_bound, lexeme_joint, named_joint, right_bound};
+ghost use Rattle.op_table.specs.Meant.{operator_meant};
+ghost use Rattle.term_reader.specs.Meant.{joint_meant, joint_name, lexeme_meant};
+
+use crate::lexeme::Lexeme;
+use au_term::{Atom, NoMemory};
+use op_table::{OpKind, Operator, Ops};
+use std::alloc::Global;
+
+/// What a token behind an operand joins it to.
+#[derive(Clone, Copy)]
+pub(crate) enum Joint {
+    Infix(Operator),
+    Postfix(Operator),
+    Nothing,
+}
+
+/// The greatest priority of a left operand.
+pub(crate) fn left_bound(o: Operator) -> u16
+    ensures { result ≡ left_bound (operator_meant o) }
+{
+    match o.kind {
+        OpKind::Yfx | OpKind::Yf => o.priority,
+        _ => o.priority.saturating_sub(1),
+    }
+}
+
+/// The greatest priority of a right operand.
+pub(crate) fn right_bound(o: Operator) -> u16
+    ensures { result ≡ right_bound (operator_meant o) }
+{
+    match o.kind {
+        OpKind::Xfy | OpKind::Fy => o.priority,
+        _ => o.priority.saturating_sub(1),
+    }
+}
+
+/// The operator of a name behind an operand.
+pub(crate) fn named_joint(ops: &Ops, name: &str) -> Joint
+    ensures { joint_meant (chars name.now) result ≡ named_joint ops.now (chars name.now) }
+{
+    if let Some(o) = ops.infix(name) {
+        return Joint::Infix(o);
+    }
+    match ops.postfix(name) {
+        Some(o) => Joint::Postfix(o),
+        None => Joint::Nothing,
+    }
+}
+
+/// The operator that a token is behind an operand.
+pub(crate) fn joint_of(ops: &Ops, lexeme: &Lexeme) -> Joint
+    ensures { joint_meant (joint_name (lexeme_meant lexeme.now)) result ≡ lexeme_joint ops.now (lexeme_meant lexeme.now) }
+{
+    match lexeme {
+        Lexeme::Name(name) | Lexeme::QuotedName(name) => named_joint(ops, name.text()),
+        Lexeme::Comma => Joint::Infix(Operator {
+            priority: 1000,
+            kind: OpKind::Xfy,
+        }),
+        _ => Joint::Nothing,
+    }
+}
+
+/// The name of such an operator.
+pub(crate) fn joint_name(alloc: Global, lexeme: Lexeme) -> Result<Atom, NoMemory>
+    ensures { IfOk result (λ a. a ≡ joint_name (lexeme_meant lexeme)) }
+{
+    match lexeme {
+        Lexeme::Name(name) | Lexeme::QuotedName(name) => Ok(name),
+        _ => Atom::new(alloc, ","),
+    }
+}
+
+impl Joint {
+    /// Whether it goes on behind an operand of this priority, within this bound.
+    pub(crate) fn fits(self, bound: u16, priority: u16) -> bool
+        ensures { (n : List ℕ) → result ≡ joint_fits bound priority (joint_meant n self) }
+    {
+        match self {
+            Joint::Infix(o) | Joint::Postfix(o) => {
+                o.priority <= bound && priority <= left_bound(o)
+            }
+            Joint::Nothing => false,
+        }
+    }
+}

@@ -1,0 +1,11 @@
+//! Laws of the spelling of terms.
+ghost use Rattle.std.specs.Prelude.{◌≡◌, ℕ, List};
+ghost use Rattle.au_model.specs.Lexemes.{Token};
+ghost use Rattle.au_model.specs.Trees.{Tree};
+ghost use Rattle.au_model.specs.Openings.{Setting};
+ghost use Rattle.au_model.specs.Spelling.{Operand};
+
+/// A list of tokens has at most one reading within a bound, whatever the operators are.
+pub fn one_reading()
+    ensures { (s : Setting) (bound : ℕ) (ts us vs : List Token) (t u : Tree) → Operand s bound ts us t → Operand s bound ts vs u → (us ≡ vs) × (t ≡ u) }
+{}

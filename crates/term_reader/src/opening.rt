@@ -1,0 +1,225 @@
+//! How a term begins.
+ghost use Rattle.std.specs.Prelude.{◌≡◌, ◌≤◌, ◌^◌, ℕ, suc, true, false, ◌&&◌, not, List, IfOk, codes, nat_eq, IsCharBoundary};
+ghost use Rattle.std.specs.Str.{chars};
+ghost use Rattle.au_model.specs.Characters.{chars_from};
+ghost use Rattle.au_model.specs.Lexemes.{tokens_of};
+ghost use Rattle.au_model.specs.Joints.{named_joint};
+ghost use Rattle.au_model.specs.Operators.{prefix_of};
+ghost use Rattle.au_model.specs.Openings.{atom_begins, curly_begins, ends_before, is_joint, is_operator, lexeme_begins, list_begins, minus, name_begins, prefix_or_atom, stands_alone};
+ghost use Rattle.term_reader.specs.Meant.{lexeme_meant};
+ghost use Rattle.term_reader.specs.Begun.{joins_as, opening_meant, setting_of, OpensFrom};
+
+use crate::joint::{Joint, named_joint};
+use crate::lexeme::{Follow, Lexeme, Scan, follow_at, is_minus, scan_at};
+use au_model::DoubleQuotes;
+use au_term::{Atom, NoMemory};
+use op_table::{Operator, Ops};
+use std::alloc::Global;
+
+/// A text, the operators, and what a double-quoted item stands for.
+#[derive(Clone, Copy)]
+pub(crate) struct Source<'a> {
+    pub(crate) alloc: Global,
+    pub(crate) text: &'a str,
+    pub(crate) ops: &'a Ops,
+    pub(crate) quotes: DoubleQuotes,
+}
+
+/// An operand of one or two tokens.
+#[derive(Drop)]
+pub(crate) enum Leaf {
+    Variable(Atom),
+    Integer(i64),
+    Atom(Atom),
+    Text(Atom),
+}
+
+/// What stands where an operand is expected, and the place behind it.
+#[derive(Drop)]
+pub(crate) enum Opening {
+    Leaf(Leaf, usize),
+    /// A prefix operator that stands for itself.
+    Alone(Atom, Operator, usize),
+    Round(usize),
+    Curly(usize),
+    List(usize),
+    Call(Atom, usize),
+    Prefix(Atom, Operator, usize),
+    Fails,
+}
+
+/// 9223372036854775808, of which only the negative is a term.
+pub(crate) const WIDEST: u64 = 1 << 63;
+
+/// The number with this absolute value that isn't above 0.
+fn negative(number: u64) -> i64
+    requires { number ≤ 2 ^ 63 }
+    ensures { result ≡ minus number }
+{
+    if number == WIDEST {
+        i64::MIN
+    } else {
+        -(number as i64)
+    }
+}
+
+/// Whether a name is an infix or postfix operator and no prefix operator.
+pub(crate) fn is_joint_alone(ops: &Ops, name: &str) -> bool
+    ensures { result ≡ (is_joint (named_joint ops.now (chars name.now)) && not (is_operator (prefix_of ops.now (chars name.now)))) }
+{
+    !matches!(named_joint(ops, name), Joint::Nothing) && ops.prefix(name).is_none()
+}
+
+/// Whether a name joins what stands in front of it to what stands at this place.
+fn joins(source: Source<'_>, name: &str, is_sign: bool, end: usize) -> Result<bool, NoMemory>
+    requires { IsCharBoundary source.text.now end }
+    ensures { IfOk result (λ b. b ≡ joins_as source.entry.ops.now (chars name.now) is_sign (tokens_of (chars_from source.entry.text.now end))) }
+{
+    if !is_joint_alone(source.ops, name) {
+        return Ok(false);
+    }
+    let next = follow_at(source.alloc, source.text, end)?;
+    match next {
+        Follow::Opens(_) => Ok(false),
+        Follow::Counts(_, _) => Ok(!is_sign),
+        Follow::ClosesList(_) | Follow::ClosesCurly(_) | Follow::Other => Ok(true),
+    }
+}
+
+/// Whether a prefix operator stands for itself in front of a token that ends here.
+fn ends_before(source: Source<'_>, lexeme: &Lexeme, end: usize) -> Result<bool, NoMemory>
+    requires { IsCharBoundary source.text.now end }
+    ensures { IfOk result (λ b. b ≡ ends_before source.entry.ops.now (lexeme_meant lexeme.now) (tokens_of (chars_from source.entry.text.now end))) }
+{
+    match lexeme {
+        Lexeme::End
+        | Lexeme::Close
+        | Lexeme::CloseList
+        | Lexeme::CloseCurly
+        | Lexeme::Comma
+        | Lexeme::Bar => Ok(true),
+        Lexeme::Name(name) => joins(source, name.text(), is_minus(name.text()), end),
+        Lexeme::QuotedName(name) => joins(source, name.text(), false, end),
+        _ => Ok(false),
+    }
+}
+
+/// Whether a prefix operator in front of this place stands for itself.
+fn stands_alone(source: Source<'_>, at: usize) -> Result<bool, NoMemory>
+    requires { IsCharBoundary source.text.now at }
+    ensures { IfOk result (λ b. b ≡ stands_alone source.entry.ops.now (tokens_of (chars_from source.entry.text.now at))) }
+{
+    let next = scan_at(source.alloc, source.text, at)?;
+    match next {
+        Scan::Found(token) => ends_before(source, &token.lexeme, token.end),
+        Scan::Bad(_) => Ok(true),
+        Scan::EndOfText => Ok(true),
+    }
+}
+
+/// How a term begins with a name that ends here, where it is neither a compound's nor a number's sign.
+fn operator_opening(source: Source<'_>, name: Atom, end: usize) -> Result<Opening, NoMemory>
+    requires { IsCharBoundary source.text.now end }
+    ensures opening { IfOk result (λ o. opening_meant source.entry o ≡ prefix_or_atom source.entry.ops.now name (prefix_of source.entry.ops.now name) (tokens_of (chars_from source.entry.text.now end))) }
+    ensures place { IfOk result (λ o. OpensFrom source.entry.text.now end o) }
+{
+    let Some(operator) = source.ops.prefix(name.text()) else {
+        return Ok(Opening::Leaf(Leaf::Atom(name), end));
+    };
+    if stands_alone(source, end)? {
+        Ok(Opening::Alone(name, operator, end))
+    } else {
+        Ok(Opening::Prefix(name, operator, end))
+    }
+}
+
+/// How a term begins with a name that ends here.
+fn name_opening(
+    source: Source<'_>,
+    name: Atom,
+    is_sign: bool,
+    end: usize,
+) -> Result<Opening, NoMemory>
+    requires { IsCharBoundary source.text.now end }
+    ensures opening { IfOk result (λ o. opening_meant source.entry o ≡ name_begins source.entry.ops.now is_sign name (tokens_of (chars_from source.entry.text.now end))) }
+    ensures place { IfOk result (λ o. OpensFrom source.entry.text.now end o) }
+{
+    let next = follow_at(source.alloc, source.text, end)?;
+    match next {
+        Follow::Opens(behind) => Ok(Opening::Call(name, behind)),
+        Follow::Counts(number, behind) if is_sign => {
+            Ok(Opening::Leaf(Leaf::Integer(negative(number)), behind))
+        }
+        _ => operator_opening(source, name, end),
+    }
+}
+
+/// How a term begins with a name that is no operator.
+fn atom_opening(source: Source<'_>, name: &str, end: usize) -> Result<Opening, NoMemory>
+    requires { IsCharBoundary source.text.now end }
+    ensures opening { IfOk result (λ o. opening_meant source.entry o ≡ atom_begins (chars name.now) (tokens_of (chars_from source.entry.text.now end))) }
+    ensures place { IfOk result (λ o. OpensFrom source.entry.text.now end o) }
+{
+    let name = Atom::new(source.alloc, name)?;
+    let next = follow_at(source.alloc, source.text, end)?;
+    match next {
+        Follow::Opens(behind) => Ok(Opening::Call(name, behind)),
+        _ => Ok(Opening::Leaf(Leaf::Atom(name), end)),
+    }
+}
+
+/// How a term begins with `[`.
+fn list_opening(source: Source<'_>, end: usize) -> Result<Opening, NoMemory>
+    requires { IsCharBoundary source.text.now end }
+    ensures opening { IfOk result (λ o. opening_meant source.entry o ≡ list_begins (tokens_of (chars_from source.entry.text.now end))) }
+    ensures place { IfOk result (λ o. OpensFrom source.entry.text.now end o) }
+{
+    let next = follow_at(source.alloc, source.text, end)?;
+    match next {
+        Follow::ClosesList(behind) => atom_opening(source, "[]", behind),
+        _ => Ok(Opening::List(end)),
+    }
+}
+
+/// How a term begins with `{`.
+fn curly_opening(source: Source<'_>, end: usize) -> Result<Opening, NoMemory>
+    requires { IsCharBoundary source.text.now end }
+    ensures opening { IfOk result (λ o. opening_meant source.entry o ≡ curly_begins (tokens_of (chars_from source.entry.text.now end))) }
+    ensures place { IfOk result (λ o. OpensFrom source.entry.text.now end o) }
+{
+    let next = follow_at(source.alloc, source.text, end)?;
+    match next {
+        Follow::ClosesCurly(behind) => atom_opening(source, "{}", behind),
+        _ => Ok(Opening::Curly(end)),
+    }
+}
+
+/// How a term begins with a token that ends here.
+pub(crate) fn opening_of(
+    source: Source<'_>,
+    lexeme: Lexeme,
+    end: usize,
+) -> Result<Opening, NoMemory>
+    requires { IsCharBoundary source.text.now end }
+    ensures opening { IfOk result (λ o. opening_meant source.entry o ≡ lexeme_begins (setting_of source.entry) (lexeme_meant lexeme) (tokens_of (chars_from source.entry.text.now end))) }
+    ensures place { IfOk result (λ o. OpensFrom source.entry.text.now end o) }
+{
+    match lexeme {
+        Lexeme::Name(name) => {
+            let is_sign = is_minus(name.text());
+            name_opening(source, name, is_sign, end)
+        }
+        Lexeme::QuotedName(name) => name_opening(source, name, false, end),
+        Lexeme::Variable(name) => Ok(Opening::Leaf(Leaf::Variable(name), end)),
+        Lexeme::Integer(number) => Ok(if number < WIDEST {
+            Opening::Leaf(Leaf::Integer(number as i64), end)
+        } else {
+            Opening::Fails
+        }),
+        Lexeme::Text(text) => Ok(Opening::Leaf(Leaf::Text(text), end)),
+        Lexeme::Open => Ok(Opening::Round(end)),
+        Lexeme::OpenList => list_opening(source, end),
+        Lexeme::OpenCurly => curly_opening(source, end),
+        _ => Ok(Opening::Fails),
+    }
+}

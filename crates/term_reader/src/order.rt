@@ -1,0 +1,54 @@
+//! From cells behind their arguments to cells in front of them.
+ghost use Rattle.std.specs.Prelude.{◌≡◌, List, IfOk, OnOk};
+ghost use Rattle.au_term.specs.Term.{Term};
+ghost use Rattle.au_term.specs.Prefix.{cells_of};
+ghost use Rattle.au_term.specs.declared.cell.Cell.{Cell};
+ghost use Rattle.term_reader.specs.Orders.{postorder};
+ghost use Rattle.term_reader.specs.Levels.{Settles, Turns};
+
+use au_term::{Cell, NoMemory};
+use std::alloc::Global;
+
+/// A compound's cell, and how many of its arguments are still to come, the last argument first.
+#[derive(Drop)]
+struct Pending {
+    cell: Cell,
+    left: u32,
+}
+
+/// An argument has come: each compound that has all of them comes too.
+fn settle(waiting: &mut Vec<Pending>, out: &mut Vec<Cell>) -> Result<(), NoMemory>
+    ensures { (cells whole : List Cell) → Settles cells waiting.old.items out.old.items whole → OnOk result (Turns cells waiting.new.items out.new.items whole) }
+{
+    while let Some(pending) = waiting.pop() {
+        let Pending { cell, left } = pending;
+        if left > 1 {
+            waiting.push(Pending {
+                cell,
+                left: left - 1,
+            })?;
+            return Ok(());
+        }
+        out.push(cell)?;
+    }
+    Ok(())
+}
+
+/// The cells of a term in prefix order, from those in which each compound's cell stands behind its arguments.
+pub(crate) fn prefix_order(alloc: Global, mut cells: Vec<Cell>) -> Result<Vec<Cell>, NoMemory>
+    ensures { (t : Term) → cells.items ≡ postorder t → IfOk result (λ out. out.items ≡ cells_of t) }
+{
+    let mut open = Vec::new(alloc);
+    let mut out = Vec::new(alloc);
+    while let Some(cell) = cells.pop() {
+        let left = cell.arity();
+        if left > 0 {
+            open.push(Pending { cell, left })?;
+        } else {
+            out.push(cell)?;
+            settle(&mut open, &mut out)?;
+        }
+    }
+    out.reverse();
+    Ok(out)
+}

@@ -1,0 +1,155 @@
+//! What is open, and what was read.
+ghost use Rattle.std.specs.Prelude.{◌≡◌, ◌≤◌, ℕ, List, [], IfOk, map, vec_len};
+ghost use Rattle.au_model.specs.Openings.{Setting};
+ghost use Rattle.au_model.specs.Trees.{Tree};
+ghost use Rattle.term_reader.specs.Meant.{joint_meant};
+ghost use Rattle.term_reader.specs.Frames.{frame_meant, shape_bound, shape_operator, shapes_up};
+ghost use Rattle.term_reader.specs.Stack as stack;
+ghost use Rattle.term_reader.specs.Stack.{bound_of};
+ghost use Rattle.term_reader.specs.Positions.{Due, Stands, There};
+ghost use Rattle.term_reader.specs.Settling.{IsFewer, IsPlug, IsSettled};
+
+use crate::joint::{Joint, right_bound};
+use crate::sheet::Sheet;
+use au_term::{Atom, NoMemory};
+use op_table::Operator;
+use std::alloc::Global;
+
+/// What is open. Items and arguments are counted without the one that stands or is due.
+#[derive(Drop)]
+pub(crate) enum Frame {
+    Round,
+    Curly,
+    Item(usize),
+    Tail(usize),
+    /// A compound's name, its arguments so far, and its place.
+    Argument(Atom, u32, usize),
+    Prefix(Atom, Operator),
+    Infix(Atom, Operator),
+}
+
+/// How far a text is read.
+#[derive(Drop)]
+pub(crate) struct State {
+    pub(crate) at: usize,
+    pub(crate) frames: Vec<Frame>,
+    pub(crate) sheet: Sheet,
+    /// The place behind a prefix operator that stands for itself and could have an operand.
+    pub(crate) doubt: Option<usize>,
+}
+
+/// What becomes of an operator that waits for the operand that stands there.
+#[derive(Clone, Copy)]
+enum Plug {
+    /// It stands over its operand now, and has this priority.
+    Over(u16),
+    /// The operand goes on.
+    Fits,
+    /// None waits, and the operand does not go on.
+    Ends,
+}
+
+impl Frame {
+    /// The greatest priority of the operand that is due.
+    pub(crate) fn bound(&self) -> u16
+        ensures { result ≡ shape_bound (frame_meant self.now) }
+    {
+        match self {
+            Frame::Round | Frame::Curly => 1200,
+            Frame::Item(_) | Frame::Tail(_) | Frame::Argument(_, _, _) => 999,
+            Frame::Prefix(_, operator) | Frame::Infix(_, operator) => right_bound(*operator),
+        }
+    }
+
+    /// The operator's priority, where it is one.
+    pub(crate) fn operator(&self) -> Option<u16>
+        ensures { result ≡ shape_operator (frame_meant self.now) }
+    {
+        match self {
+            Frame::Prefix(_, operator) | Frame::Infix(_, operator) => Some(operator.priority),
+            _ => None,
+        }
+    }
+}
+
+impl State {
+    /// Nothing is open, and nothing was read.
+    pub(crate) fn new(alloc: Global, at: usize) -> State
+        ensures at { result.at ≡ at }
+        ensures stands { Stands result (Due []) }
+    {
+        State {
+            at,
+            frames: Vec::new(alloc),
+            sheet: Sheet::new(alloc),
+            doubt: None,
+        }
+    }
+
+    /// The greatest priority of the operand that is due.
+    pub(crate) fn bound(&self) -> u16
+        ensures { (k : List stack.Frame) → map frame_meant self.now.frames.items ≡ shapes_up k → result ≡ bound_of k }
+    {
+        match self.frames.last() {
+            Some(frame) => frame.bound(),
+            None => 1200,
+        }
+    }
+
+    /// Puts the operator that waits for the operand over it, where the operand ends in front of this.
+    fn plug(&mut self, priority: u16, joint: Joint) -> Result<Plug, NoMemory>
+        ensures at { self.new.at ≡ self.old.at }
+        ensures fewer { IfOk result (λ p. IsFewer p (vec_len self.old.frames) (vec_len self.new.frames)) }
+        ensures plugged { (s : Setting) (k : List stack.Frame) (l : Tree) (n : List ℕ) → Stands self.old (There k l priority) → IfOk result (λ p. IsPlug s k l priority (joint_meant n joint) self.new p) }
+    {
+        if joint.fits(self.bound(), priority) {
+            return Ok(Plug::Fits);
+        }
+        match self.frames.pop() {
+            Some(Frame::Prefix(name, operator)) => {
+                self.sheet.compound(name, 1)?;
+                Ok(Plug::Over(operator.priority))
+            }
+            Some(Frame::Infix(name, operator)) => {
+                self.sheet.compound(name, 2)?;
+                Ok(Plug::Over(operator.priority))
+            }
+            Some(other) => {
+                self.frames.push(other)?;
+                Ok(Plug::Ends)
+            }
+            None => Ok(Plug::Ends),
+        }
+    }
+
+    /// Puts all operators over their operands that end in front of this. Answers the last one's priority, and
+    /// whether this goes on behind it.
+    pub(crate) fn settle(&mut self, priority: u16, joint: Joint) -> Result<(u16, bool), NoMemory>
+        ensures at { self.new.at ≡ self.old.at }
+        ensures settled { (s : Setting) (k : List stack.Frame) (l : Tree) (n : List ℕ) → Stands self.old (There k l priority) → IfOk result (λ r. IsSettled s k l priority (joint_meant n joint) self.new r.0 r.1) }
+    {
+        let mut last = priority;
+        'operators: loop {
+            match self.plug(last, joint)? {
+                Plug::Over(next) => last = next,
+                Plug::Fits => return Ok((last, true)),
+                Plug::Ends => return Ok((last, false)),
+            }
+        }
+    }
+
+    /// Whether an operator goes on behind an atom.
+    pub(crate) fn takes(&self, joint: Joint) -> bool {
+        let mut priority = 0;
+        for frame in self.frames.iter().rev() {
+            if joint.fits(frame.bound(), priority) {
+                return true;
+            }
+            let Some(next) = frame.operator() else {
+                return false;
+            };
+            priority = next;
+        }
+        joint.fits(1200, priority)
+    }
+}
