@@ -1,17 +1,19 @@
 -- How the program ends.
-use Rattle.std.specs.Prelude.{◌≡◌, ◌⊎◌, ℕ, List, Option, Result, Ok, Err}
+use Rattle.std.specs.Prelude.{◌≡◌, ◌⊎◌, ℕ, ◌≤◌, List, length, Option, IfSome}
 use Rattle.au_model.specs.declared.ending.Ending.{Ending}
 use Rattle.au_model.specs.declared.ending.Ending.TheVariants.{Finished, Halted, Budget, Refused, TooLong, Usage, ReadFault, WriteFault, NoMemory}
 use Rattle.au_model.specs.declared.ending.RunEnding.{RunEnding}
 use Rattle.au_model.specs.declared.ending.RunEnding.TheVariants.{Finished as RanOut, Halted as RanToHalt, Budget as RanToBudget, WriteFault as RanToFault, NoMemory as RanFull}
-use Rattle.au_model.specs.declared.ending.RunEnd.{RunEnd}
 use Rattle.au_model.specs.declared.fault_kind.FaultKind.TheVariants.{Unbuilt}
+use Rattle.au_model.specs.Jobs.{Job}
+use Rattle.au_model.specs.Runs.{text_of, ending_of}
+use Rattle.au_io.specs.Causes.{Took, TookFront}
 use Rattle.stack_run.specs.declared.job.PlainJob.{PlainJob}
 use Rattle.stack_run.specs.PlainJobs.{IsPlainJob}
 use Rattle.stack_run.specs.Views.{job_view}
-use Rattle.stack_run.specs.Ends.{IsRun}
 use Rattle.aurora_cli.specs.declared.refusal.Refusal.{Refusal}
 use Rattle.aurora_cli.specs.declared.refusal.Refusal.TheVariants.{Unbuilt as NotOfTheForm, NoMemory as Full}
+use Rattle.aurora_cli.specs.Texts.{StandsFor}
 
 -- the one refusal of a text
 abbrev pub refusal : Ending
@@ -29,25 +31,51 @@ ending_after RanToBudget = Budget
 ending_after RanToFault = WriteFault
 ending_after RanFull = NoMemory
 
--- a plain job that was run
-pub record IsRunOf (budget : ℕ) (before after : Option (List ℕ)) (e : Ending) : Type 0 where
-  pub job : PlainJob
-  pub plain : IsPlainJob job
-  pub ran : RunEnd
-  pub run : IsRun (job_view job) budget before after ran
-  pub ends : e ≡ ending_after ran.end
+-- a text was read: the one that the shelf held, where it tells
+abbrev pub IsRead : Option (List ℕ) → List ℕ → Type 0
+IsRead held text = IfSome held (λ told. text ≡ told)
 
--- where the program ends before a run, nothing was written; else a plain job was run
-abbrev pub EndsBy : Ending → ℕ → Option (List ℕ) → Option (List ℕ) → Type 0
-EndsBy Finished budget before after = IsRunOf budget before after Finished
-EndsBy (Halted k) budget before after = IsRunOf budget before after (Halted k)
-EndsBy Budget budget before after = IsRunOf budget before after Budget
-EndsBy WriteFault budget before after = IsRunOf budget before after WriteFault
-EndsBy NoMemory budget before after = (before ≡ after) ⊎ IsRunOf budget before after NoMemory
-EndsBy (Refused line column kind) budget before after = before ≡ after
-EndsBy TooLong budget before after = before ≡ after
-EndsBy (Usage kind) budget before after = before ≡ after
-EndsBy ReadFault budget before after = before ≡ after
+-- a text was read, and stands for a job that the machine takes
+pub record IsLoaded (held : Option (List ℕ)) (job : PlainJob) : Type 0 where
+  pub text : List ℕ
+  pub read : IsRead held text
+  pub plain : IsPlainJob job
+  pub stands : StandsFor text (job_view job)
+
+-- a text was read, and stands for no job
+pub record IsNotOfTheForm (held : Option (List ℕ)) : Type 0 where
+  pub text : List ℕ
+  pub read : IsRead held text
+  pub none : (job : Job) → StandsFor text job → ⊥
+
+-- the ending is that of the run of the text's job within the budget, and the bytes are that run's
+pub record IsRunOf (held : Option (List ℕ)) (budget : ℕ) (before after : Option (List ℕ)) (e : Ending) : Type 0 where
+  pub job : PlainJob
+  pub loaded : IsLoaded held job
+  pub ends : e ≡ ending_after (ending_of (job_view job) budget)
+  pub bytes : Took before after (text_of (job_view job) budget)
+
+-- the bytes are a front of those of that run
+pub record IsFrontOf (held : Option (List ℕ)) (budget : ℕ) (before after : Option (List ℕ)) : Type 0 where
+  pub job : PlainJob
+  pub loaded : IsLoaded held job
+  pub bytes : TookFront before after (text_of (job_view job) budget)
+
+-- what each ending says of the text that was asked for, the budget, and the bytes that the sink took
+abbrev pub EndsBy : Ending → Option (List ℕ) → ℕ → Option (List ℕ) → Option (List ℕ) → Type 0
+EndsBy Finished held budget before after = IsRunOf held budget before after Finished
+EndsBy (Halted k) held budget before after = IsRunOf held budget before after (Halted k)
+EndsBy Budget held budget before after = IsRunOf held budget before after Budget
+EndsBy WriteFault held budget before after = IsFrontOf held budget before after
+EndsBy NoMemory held budget before after = (before ≡ after) ⊎ IsFrontOf held budget before after
+EndsBy (Refused line column kind) held budget before after = (Refused line column kind ≡ refusal) × IsNotOfTheForm held × (before ≡ after)
+EndsBy TooLong held budget before after = before ≡ after
+EndsBy (Usage kind) held budget before after = before ≡ after
+EndsBy ReadFault held budget before after = before ≡ after
+
+-- a text of the form that is not too long is run, unless memory is wanting
+abbrev pub IsComplete : Ending → ℕ → List ℕ → Type 0
+IsComplete e budget text = (job : Job) → length text ≤ 16777216 → StandsFor text job → (e ≡ ending_after (ending_of job budget)) ⊎ (e ≡ NoMemory)
 
 -- the endings that come of a text that was read whole
 abbrev pub ComesOfText : Ending → Type 0
@@ -60,21 +88,3 @@ ComesOfText NoMemory = ⊥
 ComesOfText TooLong = ⊥
 ComesOfText (Usage kind) = ⊥
 ComesOfText ReadFault = ⊥
-
--- a text is refused in one way
-abbrev pub IsRefusedOnce : Ending → Type 0
-IsRefusedOnce (Refused line column kind) = Refused line column kind ≡ refusal
-IsRefusedOnce _ = Unit {0}
-
--- why there is nothing to run
-abbrev pub IsLoadFault : Ending → Type 0
-IsLoadFault (Refused line column kind) = Refused line column kind ≡ refusal
-IsLoadFault TooLong = Unit {0}
-IsLoadFault ReadFault = Unit {0}
-IsLoadFault NoMemory = Unit {0}
-IsLoadFault _ = ⊥
-
--- the text was read whole
-abbrev pub IsRead : Result PlainJob Ending → Type 0
-IsRead (Ok job) = Unit {0}
-IsRead (Err e) = ComesOfText e

@@ -1,5 +1,8 @@
 //! The characters of the first form.
-ghost use Rattle.std.specs.Prelude.{◌≤◌, length};
+ghost use Rattle.std.specs.Prelude.{◌≡◌, ◌≤◌, length, take, drop};
+ghost use Rattle.std.specs.Str.{IsAscii};
+ghost use Rattle.aurora_cli.specs.Characters.{begins_with, behind, is_of_class, is_symbol, starts_variable};
+ghost use Rattle.aurora_cli.specs.Fronts.{front};
 
 /// A class of characters.
 #[derive(Clone, Copy)]
@@ -12,31 +15,62 @@ pub(crate) enum Class {
 
 impl Class {
     /// Whether a byte is a character of the class.
-    pub(crate) fn has(self, byte: u8) -> bool {
+    pub(crate) fn has(self, byte: u8) -> bool
+        ensures { result ≡ is_of_class self byte }
+    {
         match self {
-            Class::Layout => matches!(byte, b' ' | b'\t' | b'\n'),
+            Class::Layout => byte == b' ' || byte == b'\t' || byte == b'\n',
             Class::Digit => byte.is_ascii_digit(),
             Class::Alphanumeric => byte.is_ascii_alphanumeric() || byte == b'_',
-            Class::Symbol => b"+-*/\\^<>=~:.?@#&$".contains(&byte),
+            Class::Symbol => is_symbol(byte),
         }
     }
 }
 
-/// Where the longest run of a class from `at` on ends.
-pub(crate) fn run_end(text: &[u8], at: usize, class: Class) -> usize
-    requires { at ≤ length text.now }
-    ensures from { at ≤ result }
-    ensures within { result ≤ length text.now }
+/// The symbol characters.
+const SYMBOLS: [u8; 17] = *b"+-*/\\^<>=~:.?@#&$";
+
+fn is_symbol(byte: u8) -> bool
+    ensures { result ≡ is_symbol byte }
 {
-    for end in at..text.len() {
-        if !class.has(text[end]) {
-            return end;
+    SYMBOLS.iter().any(|symbol| byte == *symbol)
+}
+
+/// Whether a variable may begin with a byte.
+pub(crate) fn starts_variable(byte: u8) -> bool
+    ensures { result ≡ starts_variable byte }
+{
+    byte.is_ascii_uppercase() || byte == b'_'
+}
+
+/// How long the longest run of a class at the front of a text is.
+fn run_length(text: &[u8], class: Class) -> usize
+    ensures within { result ≤ length text.now }
+    ensures run { take result text.now ≡ front (is_of_class class) text.now }
+    ensures rest { drop result text.now ≡ behind (is_of_class class) text.now }
+{
+    for (place, byte) in text.iter().enumerate() {
+        if !class.has(*byte) {
+            return place;
         }
     }
     text.len()
 }
 
-/// Whether a character of a class stands at a place.
-pub(crate) fn stands_at(text: &[u8], at: usize, class: Class) -> bool {
-    text.get(at).is_some_and(|byte| class.has(*byte))
+/// The longest run of a class at the front of a text, and what stands behind it.
+pub(crate) fn split_run(text: &[u8], class: Class) -> (&[u8], &[u8])
+    ensures run { result.0.now ≡ front (is_of_class class) text.now }
+    ensures rest { result.1.now ≡ behind (is_of_class class) text.now }
+{
+    text.split_at(run_length(text, class))
+}
+
+/// Whether a text begins with a character of a class.
+pub(crate) fn begins_with(text: &[u8], class: Class) -> bool
+    ensures { result ≡ begins_with (is_of_class class) text.now }
+{
+    match text.first() {
+        None => false,
+        Some(byte) => class.has(*byte),
+    }
 }

@@ -2,10 +2,13 @@
 #![tactic(auto)]
 
 mod characters;
+mod kept;
+pub mod laws;
+mod pieces;
 mod read;
 mod refusal;
-mod reserved;
 mod scan;
+mod sentence;
 mod terms;
 #[cfg(test)]
 mod tests;

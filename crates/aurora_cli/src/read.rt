@@ -1,94 +1,63 @@
 //! The job that a text of the first form stands for.
-ghost use Rattle.std.specs.Prelude.{◌≤◌, ◌<◌, length};
+ghost use Rattle.std.specs.Prelude.{◌≡◌, ℕ, List, IfOk, IsErrOf};
+ghost use Rattle.au_model.specs.Jobs.{Job, Query};
+ghost use Rattle.stack_run.specs.PlainJobs.{IsPlainJob};
+ghost use Rattle.stack_run.specs.Views.{job_view};
+ghost use Rattle.aurora_cli.specs.Programs.{IsReadFrom};
+ghost use Rattle.aurora_cli.specs.Spelling.{Rule};
+ghost use Rattle.aurora_cli.specs.Texts.{ReadsProgram, StandsFor};
 
-use crate::characters::{Class, run_end};
+use crate::kept::is_unkept_job;
 use crate::refusal::Refusal;
-use crate::reserved::is_free;
-use crate::scan::{Sentence, Word, next_sentence};
-use crate::terms::read_terms;
-use au_term::FlatTerm;
-use stack_run::{PlainClause, PlainJob, PlainQuery};
+use crate::scan::skip_layout;
+use crate::sentence::{Spelling, sentence_at};
+use crate::terms::{Sentence, read_sentence};
+use stack_run::{PlainClause, PlainJob, PlainQuery, is_plain};
 use std::alloc::Global;
 
-/// The job of a text: its clauses, and the query that ends it.
-pub(crate) fn job_of(alloc: Global, text: &[u8]) -> Result<PlainJob, Refusal> {
-    let mut clauses = Vec::new(alloc);
-    let mut at = 0;
-    while at < text.len() {
-        let sentence = next_sentence(alloc, text, at)?;
-        at = sentence.end;
-        if matches!(sentence.words.first(), Some(Word::Ask)) {
-            expect_end(text, at)?;
-            return with_query(alloc, clauses, sentence);
-        }
-        clauses.push(clause(alloc, &sentence)?)?;
-    }
-    Err(Refusal::Unbuilt)
-}
-
-/// Only layout may be left.
-fn expect_end(text: &[u8], at: usize) -> Result<(), Refusal>
-    requires { at ≤ length text.now }
+/// The job for which a text stands.
+pub(crate) fn job_of(alloc: Global, text: &[u8]) -> Result<PlainJob, Refusal>
+    ensures plain { IfOk result IsPlainJob }
+    ensures ok { IfOk result (λ job. StandsFor text.now (job_view job)) }
+    ensures err { IsErrOf result Refusal.Unbuilt → (job : Job) → StandsFor text.now job → ⊥ }
 {
-    if run_end(text, at, Class::Layout) == text.len() {
-        Ok(())
+    let job = program_of(alloc, text)?;
+    if is_unkept_job(&job) && is_plain(alloc, &job)? {
+        Ok(job)
     } else {
         Err(Refusal::Unbuilt)
     }
 }
 
-/// The job of clauses and of the query whose words these are, `?-` in front.
-fn with_query(
-    alloc: Global,
-    clauses: Vec<PlainClause>,
-    sentence: Sentence,
-) -> Result<PlainJob, Refusal> {
-    let goals = match sentence.words.split_first() {
-        Some((Word::Ask, body)) => goals(alloc, body)?,
-        _ => return Err(Refusal::Unbuilt),
-    };
-    let mut queries = Vec::new(alloc);
-    queries.push(PlainQuery {
-        goals,
-        names: sentence.names,
-    })?;
-    Ok(PlainJob { clauses, queries })
-}
-
-/// The clause whose words these are: a head, or a head, `:-` and a body.
-fn clause(alloc: Global, sentence: &Sentence) -> Result<PlainClause, Refusal> {
-    let words = sentence.words.as_slice();
-    let variables = sentence.variables;
-    match words.iter().position(|word| matches!(word, Word::Neck)) {
-        None => Ok(PlainClause {
-            head: head(alloc, words)?,
-            body: Vec::new(alloc),
+/// The clauses of a text, and the query that ends it.
+fn program_of(alloc: Global, text: &[u8]) -> Result<PlainJob, Refusal>
+    ensures ok { IfOk result (IsReadFrom text.now) }
+    ensures err { IsErrOf result Refusal.Unbuilt → (rules : List Rule) (query : Query) → ReadsProgram text.now rules query → ⊥ }
+{
+    let mut clauses = Vec::new(alloc);
+    let mut rest = text;
+    loop {
+        let Spelling {
+            pieces,
+            names,
             variables,
-        }),
-        Some(neck) => Ok(PlainClause {
-            head: head(alloc, &words[..neck])?,
-            body: goals(alloc, &words[neck + 1..])?,
-            variables,
-        }),
-    }
-}
-
-/// The one term that words spell.
-fn head(alloc: Global, words: &[Word]) -> Result<FlatTerm, Refusal> {
-    let mut terms = goals(alloc, words)?;
-    match terms.pop() {
-        Some(head) if terms.is_empty() => Ok(head),
-        _ => Err(Refusal::Unbuilt),
-    }
-}
-
-/// The terms that words spell with commas between them, none of a procedure that the language has.
-fn goals(alloc: Global, words: &[Word]) -> Result<Vec<FlatTerm>, Refusal> {
-    let goals = read_terms(alloc, words)?;
-    for goal in &goals {
-        if !is_free(goal) {
-            return Err(Refusal::Unbuilt);
+            rest: behind,
+        } = sentence_at(alloc, rest)?;
+        match read_sentence(alloc, pieces)? {
+            Sentence::Clause(head, body) => clauses.push(PlainClause {
+                head,
+                body,
+                variables,
+            })?,
+            Sentence::Query(goals) => {
+                if !skip_layout(behind).is_empty() {
+                    return Err(Refusal::Unbuilt);
+                }
+                let mut queries = Vec::new(alloc);
+                queries.push(PlainQuery { goals, names })?;
+                return Ok(PlainJob { clauses, queries });
+            }
         }
+        rest = behind;
     }
-    Ok(goals)
 }

@@ -1,6 +1,7 @@
 //! Why a text is not read.
 ghost use Rattle.std.specs.Prelude.{◌≡◌};
 ghost use Rattle.aurora_cli.specs.Endings.{refused_as};
+ghost use Rattle.aurora_cli.specs.declared.refusal.Refusal.TheVariants.{NoMemory as Full};
 
 use au_model::{Ending, FaultKind};
 use au_term::NoMemory;
@@ -14,18 +15,24 @@ pub(crate) enum Refusal {
 }
 
 impl From<NoMemory> for Refusal {
+    ghost from_gives = { λ _ r. r ≡ Full };
+
     fn from(_error: NoMemory) -> Refusal {
         Refusal::NoMemory
     }
 }
 
 impl From<AllocError> for Refusal {
+    ghost from_gives = { λ _ r. r ≡ Full };
+
     fn from(_error: AllocError) -> Refusal {
         Refusal::NoMemory
     }
 }
 
 impl<T: Drop> From<AllocFailed<T>> for Refusal {
+    ghost from_gives = { λ _ r. r ≡ Full };
+
     fn from(_error: AllocFailed<T>) -> Refusal {
         Refusal::NoMemory
     }

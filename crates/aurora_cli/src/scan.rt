@@ -1,192 +1,173 @@
 //! The words of a text of the first form.
-ghost use Rattle.std.specs.Prelude.{◌≡◌, ◌≤◌, ◌<◌, length, IfOk};
+ghost use Rattle.std.specs.Prelude.{◌≡◌, ◌<◌, ◌∷◌, length, IfSome, option_map, true};
+ghost use Rattle.std.specs.List.{list_any};
+ghost use Rattle.std.specs.Char.{is_ascii_digit, is_ascii_lowercase};
+ghost use Rattle.std.specs.Str.{IsAscii};
+ghost use Rattle.au_model.specs.Forms.{same_name};
+ghost use Rattle.aurora_cli.specs.Characters.{behind_layout, behind, is_alphanumeric};
+ghost use Rattle.aurora_cli.specs.Scanning.{operator_names, Variable};
+ghost use Rattle.aurora_cli.specs.Fronts.{arrow_front, front, front_view, integer_front, name_front, sign_front, stop_front, word_front, word_view, bracket_front};
 
-use crate::characters::{Class, run_end, stands_at};
-use crate::refusal::Refusal;
-use crate::variables::Variables;
-use au_model::VarName;
-use au_term::{Atom, Cell, VarNo};
-use std::alloc::Global;
+use crate::characters::{Class, begins_with, split_run, starts_variable};
 use std::str;
 
-/// A word of a sentence. A name that `(` follows directly is one word with it.
-#[derive(Drop)]
-pub(crate) enum Word {
-    Leaf(Cell),
-    Functor(Atom),
+/// A word of a text: a name, a name with the `(` directly behind it, a variable or an integer, each by its characters,
+/// or a sign.
+#[derive(Clone, Copy)]
+pub(crate) enum Word<'a> {
+    Name(&'a str),
+    Functor(&'a str),
+    Variable(&'a str),
+    Integer(&'a str),
     Close,
     Comma,
     Neck,
     Ask,
 }
 
-/// The words of a sentence before its ending `.`; its named variables in order of first occurrence; how many variables
-/// it has; and where the text goes on.
-#[derive(Drop)]
-pub(crate) struct Sentence {
-    pub(crate) words: Vec<Word>,
-    pub(crate) names: Vec<VarName>,
-    pub(crate) variables: VarNo,
-    pub(crate) end: usize,
+/// A word, and what stands behind it.
+#[derive(Clone, Copy)]
+pub(crate) struct Scanned<'a> {
+    pub(crate) word: Word<'a>,
+    pub(crate) rest: &'a [u8],
 }
 
-/// A word, or none for the ending `.`, and where the text goes on.
-#[derive(Drop)]
-struct Scanned {
-    word: Option<Word>,
-    end: usize,
-}
-
-/// The sentence that begins at `at`.
-pub(crate) fn next_sentence(alloc: Global, text: &[u8], at: usize) -> Result<Sentence, Refusal>
-    requires { at ≤ length text.now }
-    ensures from { IfOk result (λ s. at < s.end) }
-    ensures within { IfOk result (λ s. s.end ≤ length text.now) }
+/// What stands behind the layout at the front of a text.
+pub(crate) fn skip_layout(text: &[u8]) -> &[u8]
+    ensures { result.now ≡ behind_layout text.now }
 {
-    let mut words = Vec::new(alloc);
-    let mut variables = Variables::new(alloc);
-    let mut end = at;
-    while end < text.len() {
-        let begin = run_end(text, end, Class::Layout);
-        let scanned = next_word(alloc, text, begin, &mut variables)?;
-        end = scanned.end;
-        match scanned.word {
-            Some(word) => words.push(word)?,
-            None => {
-                let Variables {
-                    numbers: _,
-                    names,
-                    next,
-                } = variables;
-                return Ok(Sentence {
-                    words,
-                    names,
-                    variables: next,
-                    end,
-                });
-            }
-        }
-    }
-    Err(Refusal::Unbuilt)
+    split_run(text, Class::Layout).1
 }
 
-/// The word that begins at `at`.
-fn next_word(
-    alloc: Global,
-    text: &[u8],
-    at: usize,
-    variables: &mut Variables,
-) -> Result<Scanned, Refusal>
-    requires { at ≤ length text.now }
-    ensures from { IfOk result (λ s. at < s.end) }
-    ensures within { IfOk result (λ s. s.end ≤ length text.now) }
+/// The word at the front of a text.
+pub(crate) fn word_at(text: &[u8]) -> Option<Scanned<'_>>
+    ensures { option_map front_view result ≡ word_front text.now }
 {
-    let Some(first) = text.get(at) else {
-        return Err(Refusal::Unbuilt);
-    };
-    match *first {
-        b'a'..=b'z' => name(alloc, text, at),
-        b'A'..=b'Z' | b'_' => variable(alloc, text, at, variables),
-        b'0'..=b'9' => integer(text, at),
-        b')' => Ok(word_to(Word::Close, at + 1)),
-        b',' => Ok(word_to(Word::Comma, at + 1)),
-        b':' => arrow(text, at, Word::Neck),
-        b'?' => arrow(text, at, Word::Ask),
-        b'.' => full_stop(text, at),
-        _ => Err(Refusal::Unbuilt),
-    }
-}
-
-/// A word, and where the text goes on.
-fn word_to(word: Word, end: usize) -> Scanned
-    ensures { result.end ≡ end }
-{
-    Scanned {
-        word: Some(word),
-        end,
-    }
-}
-
-/// A name, with the `(` that follows it directly.
-fn name(alloc: Global, text: &[u8], at: usize) -> Result<Scanned, Refusal>
-    requires { at < length text.now }
-    ensures from { IfOk result (λ s. at < s.end) }
-    ensures within { IfOk result (λ s. s.end ≤ length text.now) }
-{
-    let end = run_end(text, at + 1, Class::Alphanumeric);
-    let name = letters(&text[at..end])?;
-    if matches!(name, "is" | "mod" | "rem") {
-        return Err(Refusal::Unbuilt);
-    }
-    let name = Atom::new(alloc, name)?;
-    if text.get(end).is_some_and(|byte| *byte == b'(') {
-        Ok(word_to(Word::Functor(name), end + 1))
+    let (first, behind) = text.split_first()?;
+    if first.is_ascii_lowercase() {
+        name_at(text)
+    } else if starts_variable(*first) {
+        Some(variable_at(text))
+    } else if first.is_ascii_digit() {
+        integer_at(text)
     } else {
-        Ok(word_to(Word::Leaf(Cell::Atom(name)), end))
+        sign_at(*first, behind)
     }
 }
 
-/// ASCII letters, digits and `_` as text.
-fn letters(bytes: &[u8]) -> Result<&str, Refusal> {
-    match str::from_utf8(bytes) {
-        Ok(text) => Ok(text),
-        Err(_) => Err(Refusal::Unbuilt),
-    }
-}
-
-/// A variable, with its number.
-fn variable(
-    alloc: Global,
-    text: &[u8],
-    at: usize,
-    variables: &mut Variables,
-) -> Result<Scanned, Refusal>
-    requires { at < length text.now }
-    ensures from { IfOk result (λ s. at < s.end) }
-    ensures within { IfOk result (λ s. s.end ≤ length text.now) }
+/// The name at the front of a text that begins with a small letter, with the `(` that follows it directly.
+fn name_at(text: &[u8]) -> Option<Scanned<'_>>
+    ensures { option_map front_view result ≡ name_front (front is_alphanumeric text.now) (behind is_alphanumeric text.now) }
 {
-    let end = run_end(text, at + 1, Class::Alphanumeric);
-    let number = variables.number(alloc, letters(&text[at..end])?)?;
-    Ok(word_to(Word::Leaf(Cell::Var(number)), end))
+    let (run, rest) = split_run(text, Class::Alphanumeric);
+    let name = ascii(run);
+    if is_operator(name) {
+        return None;
+    }
+    Some(bracketed(name, rest))
 }
 
-/// An integer of 1 to 18 digits.
-fn integer(text: &[u8], at: usize) -> Result<Scanned, Refusal>
-    requires { at < length text.now }
-    ensures from { IfOk result (λ s. at < s.end) }
-    ensures within { IfOk result (λ s. s.end ≤ length text.now) }
+/// A name, as one word with the `(` if it follows.
+fn bracketed<'a>(name: &'a str, rest: &'a [u8]) -> Scanned<'a>
+    ensures { front_view result ≡ bracket_front name.now rest.now }
 {
-    let end = run_end(text, at + 1, Class::Digit);
-    if end - at > 18 {
-        return Err(Refusal::Unbuilt);
-    }
-    match letters(&text[at..end])?.parse::<i64>() {
-        Ok(value) => Ok(word_to(Word::Leaf(Cell::Int(value)), end)),
-        Err(_) => Err(Refusal::Unbuilt),
-    }
-}
-
-/// `:-` or `?-`, with no symbol character behind.
-fn arrow(text: &[u8], at: usize, word: Word) -> Result<Scanned, Refusal>
-    requires { at < length text.now }
-    ensures from { IfOk result (λ s. at < s.end) }
-    ensures within { IfOk result (λ s. s.end ≤ length text.now) }
-{
-    match text.get(at + 1) {
-        Some(b'-') if !stands_at(text, at + 2, Class::Symbol) => Ok(word_to(word, at + 2)),
-        _ => Err(Refusal::Unbuilt),
+    match rest.split_first() {
+        Some((first, behind)) if *first == b'(' => Scanned {
+            word: Word::Functor(name),
+            rest: behind,
+        },
+        _ => Scanned {
+            word: Word::Name(name),
+            rest,
+        },
     }
 }
 
-/// The `.` that ends a sentence, with layout or the end of the text behind.
-fn full_stop(text: &[u8], at: usize) -> Result<Scanned, Refusal>
-    requires { at < length text.now }
-    ensures from { IfOk result (λ s. at < s.end) }
-    ensures within { IfOk result (λ s. s.end ≤ length text.now) }
+/// Operators that letters spell.
+const OPERATORS: [&str; 3] = ["is", "mod", "rem"];
+
+fn is_operator(name: &str) -> bool
+    ensures { result ≡ list_any (same_name name.now) operator_names }
 {
-    let end = at + 1;
-    if end < text.len() && !stands_at(text, end, Class::Layout) {
-        return Err(Refusal::Unbuilt);
+    OPERATORS.iter().any(|operator| is_same(name, operator))
+}
+
+fn is_same(a: &str, b: &str) -> bool
+    ensures { result ≡ same_name a.now b.now }
+{
+    a == b
+}
+
+/// ASCII bytes as text.
+fn ascii(bytes: &[u8]) -> &str
+    requires { IsAscii bytes.now }
+    ensures { result.now ≡ bytes.now }
+{
+    let Ok(text) = str::from_utf8(bytes) else {
+        unreachable!();
+    };
+    text
+}
+
+/// The variable at the front of a text.
+fn variable_at(text: &[u8]) -> Scanned<'_>
+    ensures { front_view result ≡ (Variable (front is_alphanumeric text.now), behind is_alphanumeric text.now) }
+{
+    let (run, rest) = split_run(text, Class::Alphanumeric);
+    Scanned {
+        word: Word::Variable(ascii(run)),
+        rest,
     }
-    Ok(Scanned { word: None, end })
+}
+
+/// The integer of 1 to 18 digits at the front of a text.
+fn integer_at(text: &[u8]) -> Option<Scanned<'_>>
+    ensures { option_map front_view result ≡ integer_front (front is_ascii_digit text.now) (behind is_ascii_digit text.now) }
+{
+    let (run, rest) = split_run(text, Class::Digit);
+    if run.len() > 18 {
+        return None;
+    }
+    Some(Scanned {
+        word: Word::Integer(ascii(run)),
+        rest,
+    })
+}
+
+/// `)`, `,`, `:-` or `?-`, by its first character.
+fn sign_at(first: u8, behind: &[u8]) -> Option<Scanned<'_>>
+    ensures { option_map front_view result ≡ sign_front first behind.now }
+{
+    let word = match first {
+        b')' => Word::Close,
+        b',' => Word::Comma,
+        b':' => return arrow_at(Word::Neck, behind),
+        b'?' => return arrow_at(Word::Ask, behind),
+        _ => return None,
+    };
+    Some(Scanned { word, rest: behind })
+}
+
+/// The `-` of `:-` or `?-`, with no symbol character behind.
+fn arrow_at<'a>(word: Word<'a>, text: &'a [u8]) -> Option<Scanned<'a>>
+    ensures { option_map front_view result ≡ arrow_front (word_view word.entry) text.now }
+{
+    let (first, rest) = text.split_first()?;
+    if *first == b'-' && !begins_with(rest, Class::Symbol) {
+        Some(Scanned { word, rest })
+    } else {
+        None
+    }
+}
+
+/// What stands behind the `.` that ends a sentence, where one stands here.
+pub(crate) fn stop_at(text: &[u8]) -> Option<&[u8]>
+    ensures { option_map (λ rest. rest.now) result ≡ stop_front text.now }
+{
+    let (first, rest) = text.split_first()?;
+    if *first == b'.' && (rest.is_empty() || begins_with(rest, Class::Layout)) {
+        Some(rest)
+    } else {
+        None
+    }
 }

@@ -95,6 +95,15 @@ fn answers(rt: HostRuntime) -> Result<(), Fail> {
             "X = 2\nno\n",
         ),
         ("p(007).\n?-\tp( X ) .", "X = 7\nno\n"),
+        (
+            "e(X, X). e(f(X), X). e(X, g(X)). ?- e(A, f(B)).",
+            "A = f(_1), B = _1\nA = f(f(_1)), B = _1\nno\n",
+        ),
+        ("p(X, Y, X). ?- p(A, B, 1).", "A = 1, B = _1\nno\n"),
+        (
+            "p(123456789012345678). ?- p(X).",
+            "X = 123456789012345678\nno\n",
+        ),
         ("?- p(X).p(1).", ""),
     ] {
         let ending = if lines.is_empty() {
@@ -110,52 +119,152 @@ fn answers(rt: HostRuntime) -> Result<(), Fail> {
     Ok(())
 }
 
+/// Texts that miss the form, most by one character.
+const MISSES: [&str; 65] = [
+    "",
+    "p.",
+    "X = a.",
+    "p. ?- p",
+    "p. ?- p.q",
+    "p. ?- p. p.",
+    "p. ?- p. ?- p.",
+    "p. ?- q.",
+    "p. ?- X.",
+    "p. ?- 1.",
+    "1. p. ?- p.",
+    "X. p. ?- p.",
+    "true. ?- true.",
+    "call(a). p. ?- p.",
+    "p(a). ?- p(X), var(X).",
+    "var(a). p. ?- p.",
+    "p :- nl. nl. ?- p.",
+    "p :- q. ?- p.",
+    "p :- . ?- p.",
+    "p, p. ?- p.",
+    "p() . ?- p.",
+    "p(a,). ?- p(a).",
+    "p(a. ?- p(a).",
+    "p(a)). ?- p(a).",
+    "p (a). ?- p (a).",
+    "p a. ?- p.",
+    "p. :- p. ?- p.",
+    "p. ?-- p.",
+    "p :-- p. ?- p.",
+    "p(1234567890123456789). ?- p(X).",
+    "p(-1). ?- p(X).",
+    "p(is). ?- p(X).",
+    "mod. ?- mod.",
+    "p('a'). ?- p(X).",
+    "p. % c\n?- p.",
+    "p(é). ?- p(X).",
+    "p.\r\n?- p.",
+    "P. p. ?- p.",
+    "p. ? - p.",
+    "p : - p. ?- p.",
+    ":- p. p. ?- p.",
+    "p :- q,. q. ?- p.",
+    "p :- ,q. q. ?- p.",
+    "p(,a). ?- p(a).",
+    "p(a b). ?- p(a).",
+    "p(a,b. ?- p(a,b).",
+    "p(a)(b). ?- p(a).",
+    "p. ?- p, .",
+    "p. ?- .",
+    "p :- p :- p. ?- p.",
+    "p. ?- ?- p.",
+    "p. p ?- p.",
+    "p(a).q. ?- q.",
+    "p. ?- p..",
+    "rem(a). ?- rem(a).",
+    "X(a). p. ?- p.",
+    "p(A) :- A. ?- p(1).",
+    "p :- 1. ?- p.",
+    "p. ?- p(a).",
+    "p(a). ?- p.",
+    "p. ?- p. p",
+    "p(+). ?- p(X).",
+    "p. ?- p!",
+    "halt. ?- halt.",
+    "sub_atom(a,b,c,d,e). p. ?- p.",
+];
+
+/// Whether all texts are refused, with nothing written.
+fn are_refused<R: Threads + Wait + Sync>(
+    rt: &R,
+    alloc: Global,
+    texts: &[&str],
+) -> Result<bool, Fail> {
+    for text in texts {
+        if !ends(rt, alloc, text, "9", 99, REFUSED, "")? {
+            return Ok(false);
+        }
+    }
+    Ok(true)
+}
+
 #[test]
 fn texts_that_miss_the_form(rt: HostRuntime) -> Result<(), Fail> {
-    for text in [
-        "",
-        "p.",
-        "X = a.",
-        "p. ?- p",
-        "p. ?- p.q",
-        "p. ?- p. p.",
-        "p. ?- p. ?- p.",
-        "p. ?- q.",
-        "p. ?- X.",
-        "p. ?- 1.",
-        "1. p. ?- p.",
-        "X. p. ?- p.",
-        "true. ?- true.",
-        "call(a). p. ?- p.",
-        "p(a). ?- p(X), var(X).",
-        "var(a). p. ?- p.",
-        "p :- nl. nl. ?- p.",
-        "p :- q. ?- p.",
-        "p :- . ?- p.",
-        "p, p. ?- p.",
-        "p() . ?- p.",
-        "p(a,). ?- p(a).",
-        "p(a. ?- p(a).",
-        "p(a)). ?- p(a).",
-        "p (a). ?- p (a).",
-        "p a. ?- p.",
-        "p. :- p. ?- p.",
-        "p. ?-- p.",
-        "p :-- p. ?- p.",
-        "p(1234567890123456789). ?- p(X).",
-        "p(-1). ?- p(X).",
-        "p(is). ?- p(X).",
-        "mod. ?- mod.",
-        "p('a'). ?- p(X).",
-        "p. % c\n?- p.",
-        "p(é). ?- p(X).",
-        "p.\r\n?- p.",
-    ] {
-        assert!(rt;
-            ends(&rt, rt.alloc(), text, "9", 99, REFUSED, "")?,
-            "{text}"
-        );
+    assert!(rt; are_refused(&rt, rt.alloc(), &MISSES)?);
+    Ok(())
+}
+
+/// A fact with so many arguments, and a query.
+fn fact_of(alloc: Global, arguments: u32) -> Result<String, Fail> {
+    let mut text = String::from_str(alloc, "p(a")?;
+    for _ in 1..arguments {
+        text.push_str(", a")?;
     }
+    text.push_str("). q. ?- q.")?;
+    Ok(text)
+}
+
+#[test]
+fn most_arguments(rt: HostRuntime) -> Result<(), Fail> {
+    let alloc = rt.alloc();
+    let most = fact_of(alloc, 255)?;
+    assert!(rt;
+        ends(
+            &rt,
+            alloc,
+            most.as_str(),
+            "9",
+            99,
+            Ending::Finished,
+            "true\nno\n"
+        )?
+    );
+    let more = fact_of(alloc, 256)?;
+    assert!(rt; ends(&rt, alloc, more.as_str(), "9", 99, REFUSED, "")?);
+    Ok(())
+}
+
+/// A run of 28 inferences: a goal of `p`, two of `q`, six of `r`, 18 answers and the end.
+const LONGER: &str = "p(1). p(2). q(1). q(2). q(3). r(1). r(2). r(3). ?- p(X), q(Y), r(Z).";
+
+#[test]
+fn budgets_one_by_one(rt: HostRuntime) -> Result<(), Fail> {
+    let alloc = rt.alloc();
+    let mut before = Vec::new(alloc);
+    for budget in 1u32..31 {
+        let budget_word = format!(in alloc; "{budget}")?;
+        let words = words_of(alloc, &["f.pl", budget_word.as_str()])?;
+        let mut shelf = shelf_of(alloc, LONGER)?;
+        let mut out = MemorySink::new(alloc, 999)?;
+        let ending = aurora(&rt, alloc, &words, &mut shelf, &mut out, &NoGate);
+        let whole = budget >= 28;
+        assert!(rt;
+            ending
+                == if whole {
+                    Ending::Finished
+                } else {
+                    Ending::Budget
+                },
+            "{budget}"
+        );
+        assert!(rt; out.taken().starts_with(&before), "{budget}");
+        before = Vec::from_slice(alloc, out.taken())?;
+    }
+    assert!(rt; before.ends_with(b"X = 2, Y = 3, Z = 3\nno\n"));
     Ok(())
 }
 

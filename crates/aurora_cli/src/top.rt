@@ -2,16 +2,15 @@
 ghost use Rattle.std.specs.Prelude.{◌≡◌, ◌≢◌, ◌≤◌, ◌<◌, length, map, IfOk, IfErr, IsErrOf, IfSome, None};
 ghost use Rattle.std.specs.String.{string_bytes};
 ghost use Rattle.au_io.specs.Causes.{Rose, RoseBy};
-ghost use Rattle.stack_run.specs.PlainJobs.{IsPlainJob};
 ghost use Rattle.aurora_cli.specs.Words.{asked_by};
-ghost use Rattle.aurora_cli.specs.Endings.{EndsBy, ComesOfText, IsRefusedOnce, IsLoadFault, IsRead, ending_after};
+ghost use Rattle.aurora_cli.specs.Endings.{ComesOfText, EndsBy, IsComplete, IsLoaded, ending_after};
+ghost use Rattle.aurora_cli.specs.Loading.{IsLoadFault, IsReadWhole};
 
 use crate::read::job_of;
-use crate::refusal::Refusal;
 use crate::words::{Command, command_of};
 use au_io::{Gate, ReadRefusal, Shelf, Sink};
 use au_model::{Ending, RunEnding, UsageKind};
-use stack_run::{PlainJob, is_plain, run_job};
+use stack_run::{PlainJob, run_job};
 use std::alloc::Global;
 use std::sync::Wait;
 use std::thread::Threads;
@@ -31,14 +30,14 @@ pub fn aurora<R: Threads + Wait + Sync, S: Shelf, K: Sink, G: Gate>(
 ) -> Ending
     ensures usage { asked_by (map string_bytes words.now) ≡ None → result ≡ Ending.Usage UsageKind.Words }
     ensures asked { result ≡ Ending.Usage UsageKind.Words → asked_by (map string_bytes words.now) ≡ None }
+    ensures unwritten { asked_by (map string_bytes words.now) ≡ None → K.taken out.new ≡ K.taken out.old }
     ensures read_fault { result ≡ Ending.ReadFault → Rose (S.faults shelf.old) (S.faults shelf.new) }
     ensures too_long { result ≡ Ending.TooLong → RoseBy 16777217 (S.drawn shelf.old) (S.drawn shelf.new) }
     ensures long { result ≡ Ending.TooLong → IfSome (asked_by (map string_bytes words.now)) (λ asked. IfSome (S.held shelf.old asked.file) (λ told. 16777216 < length told)) }
     ensures short { ComesOfText result → IfSome (asked_by (map string_bytes words.now)) (λ asked. IfSome (S.held shelf.old asked.file) (λ told. length told ≤ 16777216)) }
-    ensures refused { IsRefusedOnce result }
     ensures write_fault { result ≡ Ending.WriteFault → Rose (K.faults out.old) (K.faults out.new) }
-    ensures unwritten { asked_by (map string_bytes words.now) ≡ None → K.taken out.new ≡ K.taken out.old }
-    ensures run { IfSome (asked_by (map string_bytes words.now)) (λ asked. EndsBy result asked.budget (K.taken out.old) (K.taken out.new)) }
+    ensures run { IfSome (asked_by (map string_bytes words.now)) (λ asked. EndsBy result (S.held shelf.old asked.file) asked.budget (K.taken out.old) (K.taken out.new)) }
+    ensures complete { (Rose (S.faults shelf.old) (S.faults shelf.new) → ⊥) → (Rose (K.faults out.old) (K.faults out.new) → ⊥) → IfSome (asked_by (map string_bytes words.now)) (λ asked. IfSome (S.held shelf.old asked.file) (IsComplete result asked.budget)) }
 {
     match command_of(words) {
         None => Ending::Usage(UsageKind::Words),
@@ -58,9 +57,9 @@ fn obey<S: Shelf, K: Sink>(
     ensures too_long { result ≡ Ending.TooLong → RoseBy 16777217 (S.drawn shelf.old) (S.drawn shelf.new) }
     ensures long { result ≡ Ending.TooLong → IfSome (S.held shelf.old command.now.file.now) (λ told. 16777216 < length told) }
     ensures short { ComesOfText result → IfSome (S.held shelf.old command.now.file.now) (λ told. length told ≤ 16777216) }
-    ensures refused { IsRefusedOnce result }
     ensures write_fault { result ≡ Ending.WriteFault → Rose (K.faults out.old) (K.faults out.new) }
-    ensures run { EndsBy result command.now.budget (K.taken out.old) (K.taken out.new) }
+    ensures run { EndsBy result (S.held shelf.old command.now.file.now) command.now.budget (K.taken out.old) (K.taken out.new) }
+    ensures complete { (Rose (S.faults shelf.old) (S.faults shelf.new) → ⊥) → (Rose (K.faults out.old) (K.faults out.new) → ⊥) → IfSome (S.held shelf.old command.now.file.now) (IsComplete result command.now.budget) }
 {
     match load(alloc, command.file, shelf) {
         Ok(job) => after(run_job(alloc, job, command.budget, out).end),
@@ -81,31 +80,19 @@ fn after(end: RunEnding) -> Ending
     }
 }
 
-/// The plain job of a text.
+/// The job for which a text stands.
 fn load<S: Shelf>(alloc: Global, file: &str, shelf: &mut S) -> Result<PlainJob, Ending>
-    ensures plain { IfOk result IsPlainJob }
-    ensures cause { IfErr result IsLoadFault }
+    ensures job { IfOk result (IsLoaded (S.held shelf.old file.now)) }
+    ensures cause { IfErr result (IsLoadFault (S.held shelf.old file.now)) }
     ensures read_fault { IsErrOf result Ending.ReadFault → Rose (S.faults shelf.old) (S.faults shelf.new) }
     ensures too_long { IsErrOf result Ending.TooLong → RoseBy 16777217 (S.drawn shelf.old) (S.drawn shelf.new) }
     ensures long { IsErrOf result Ending.TooLong → IfSome (S.held shelf.old file.now) (λ told. 16777216 < length told) }
-    ensures short { IsRead result → IfSome (S.held shelf.old file.now) (λ told. length told ≤ 16777216) }
+    ensures short { IsReadWhole result → IfSome (S.held shelf.old file.now) (λ told. length told ≤ 16777216) }
 {
     match shelf.read_all(alloc, file, LONGEST_TEXT) {
-        Ok(text) => Ok(plain_job(alloc, &text)?),
+        Ok(text) => Ok(job_of(alloc, &text)?),
         Err(ReadRefusal::ReadFault) => Err(Ending::ReadFault),
         Err(ReadRefusal::TooLong) => Err(Ending::TooLong),
         Err(ReadRefusal::NoMemory) => Err(Ending::NoMemory),
-    }
-}
-
-/// The plain job that bytes stand for.
-fn plain_job(alloc: Global, text: &[u8]) -> Result<PlainJob, Refusal>
-    ensures { IfOk result IsPlainJob }
-{
-    let job = job_of(alloc, text)?;
-    if is_plain(alloc, &job)? {
-        Ok(job)
-    } else {
-        Err(Refusal::Unbuilt)
     }
 }
