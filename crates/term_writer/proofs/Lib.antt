@@ -11,3 +11,7 @@ pub mod ReadForms
 pub mod ReadBack
 pub mod ReadTexts
 pub mod ReadClean
+pub mod ReadScan
+pub mod ReadBytes
+pub mod ReadEnd
+pub mod ReadNumbers

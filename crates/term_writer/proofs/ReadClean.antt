@@ -1,16 +1,16 @@
 -- The pieces of a term are tokens that are scanned again, and no quoted name stands where the quote would be read with
 -- what stands before it.
-use Rattle.std.proofs.Common.{◌≡◌, ℕ, zero, suc, ℤ, pos, negsuc, ◌<◌, ◌≤◌, ◌^◌, Bool, true, false, not, ◌&&◌, ◌||◌, nat_lt, List, [], ◌∷◌, Option, Some, None, codes, refl, sym, ap, ◌∙◌, arith, if◌then◌else◌}
+use Rattle.std.proofs.Common.{◌≡◌, ℕ, ℤ, pos, negsuc, ◌<◌, ◌≤◌, ◌^◌, Bool, true, false, not, ◌&&◌, ◌||◌, nat_lt, List, [], ◌∷◌, codes, refl, arith, if◌then◌else◌}
 use Rattle.std.specs.Fmt.{decimal}
 use Rattle.std.specs.Str.{all_scalars}
 use Rattle.au_term.specs.Term.{Term, VarTerm, IntTerm, AtomTerm, Compound, Terms, end, more}
 use Rattle.au_model.specs.Forms.{same_name}
-use Rattle.au_model.specs.Operators.{Operator, OperatorTable}
+use Rattle.au_model.specs.Operators.{Operator}
 use Rattle.au_model.specs.Joints.{right_bound}
 use Rattle.au_model.specs.Lexemes.{Lexeme, Name, QuotedName, Variable, Integer, Text, Open, Close, OpenList, CloseList, OpenCurly, CloseCurly, Comma, Bar, End}
 use Rattle.au_model.specs.NameForms.{nil_name, braces_name, is_bare, is_symbol_name}
 use Rattle.au_model.specs.Pieces.{Piece, Space, Put}
-use Rattle.au_model.specs.OperatorForms.{Notation, CompoundForm, ListForm, BracedForm, InfixForm, PrefixForm, PostfixForm, FunctionalForm, form_of, form_priority, is_above, is_enclosed, is_enclosed_left}
+use Rattle.au_model.specs.OperatorForms.{Notation, CompoundForm, ListForm, BracedForm, InfixForm, PrefixForm, PostfixForm, form_of, form_priority, is_above, is_enclosed, is_enclosed_left}
 use Rattle.au_model.specs.Writing.{name_token, name_pieces, integer_pieces, infix_pieces, prefix_pieces, postfix_pieces, spaced, is_open, is_integer, begins_with, enclosed, pieces, compound_pieces, tail_pieces, further_pieces, cell_pieces, is_cell}
 use Rattle.au_model.specs.ReadBack.{IsSmall, IsWritable, AreWritable}
 

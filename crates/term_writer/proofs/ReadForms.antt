@@ -1,26 +1,24 @@
 -- Each form of a term is read as it is written.
-use Rattle.std.proofs.Common.{◌≡◌, ◌⊎◌, inl, inr, ℕ, zero, suc, ℤ, pos, negsuc, ◌-◌, ◌<◌, ◌≤◌, ◌^◌, Bool, true, false, not, ◌&&◌, ◌||◌, ◌==◌, nat_le, nat_lt, List, [], ◌∷◌, Option, Some, None, codes, refl, sym, ap, subst, ◌∙◌, arith, rules, if◌then◌else◌}
-use Rattle.std.specs.Cmp.Lexicographic.{pointwise, same_text}
-use Rattle.std.specs.Option.{is_some, is_none}
-use Rattle.std.specs.Fmt.{decimal}
+use Rattle.std.proofs.Common.{◌≡◌, ℕ, suc, ℤ, pos, negsuc, ◌<◌, ◌≤◌, ◌^◌, Bool, true, false, not, ◌&&◌, ◌||◌, nat_lt, List, [], ◌∷◌, Option, Some, None, codes, refl, sym, ap, subst, ◌∙◌, arith, if◌then◌else◌}
+use Rattle.std.specs.Cmp.Lexicographic.{same_text}
+use Rattle.std.specs.Option.{is_some}
 use Rattle.au_term.specs.Term.{Term, VarTerm, IntTerm, AtomTerm, Compound, Terms, end, more, count}
 use Rattle.au_model.specs.Forms.{same_name}
 use Rattle.au_model.specs.Operators.{Operator, OperatorTable, IsOperatorTable, prefix_of, infix_of, postfix_of}
-use Rattle.au_model.specs.Lexemes.{Lexeme, Token, token, Name, QuotedName, Variable, Integer, Text, Open, Close, OpenList, CloseList, OpenCurly, CloseCurly, Comma, Bar, End}
-use Rattle.au_model.specs.Trees.{Tree, VarTree, IntTree, AtomTree, CompoundTree, Trees, no_trees, more_trees, tree_count, one, two, cell, nil, braces}
-use Rattle.au_model.specs.Joints.{infix_joint, Joint, Infix, Postfix, Nothing, comma, left_bound, right_bound, takes_equal_left, takes_equal_right, named_joint, lexeme_joint, fits, joint_fits, goes_on}
-use Rattle.au_model.specs.Openings.{Setting, Opening, Leaf, Curly, Listed, Call, Prefix, begins, lexeme_begins, name_begins, prefix_or_atom, opens, counts, lexeme_opens, lexeme_counts, is_minus, joins, ends_before, stands_alone, is_joint, is_operator as is_found, curly_begins, list_begins}
-use Rattle.au_model.specs.Spelling.{Spelled, form, infixed, postfixed, Operand, operand, Form, leaf, bracket, curly, listed, called, prefixed, Items, last, barred, item, Arguments, final, argument}
+use Rattle.au_model.specs.Lexemes.{Token, token, Name, QuotedName, Integer, Open, Close, OpenList, CloseList, OpenCurly, CloseCurly, Comma, Bar}
+use Rattle.au_model.specs.Trees.{Tree, IntTree, AtomTree, more_trees, tree_count, one, two, cell, nil, braces}
+use Rattle.au_model.specs.Joints.{infix_joint, right_bound, named_joint}
+use Rattle.au_model.specs.Openings.{Setting, Opening, Leaf, Curly, Listed, Call, Prefix, begins, name_begins, prefix_or_atom, opens, counts, is_minus, ends_before, stands_alone, is_joint, is_operator as is_found, curly_begins, list_begins}
+use Rattle.au_model.specs.Spelling.{Spelled, form, infixed, postfixed, Operand, operand, leaf, curly, listed, called, prefixed, Items, last, barred, item, final, argument}
 use Rattle.au_model.specs.NameForms.{is_bare, is_symbol_name}
-use Rattle.au_model.specs.Pieces.{Piece, Space, Put, TokenEnds, SymbolEnds, LetterEnds, OtherEnds, name_ends, ends_of, run_together, InFront, NothingYet, SpaceInFront, TokenInFront, is_apart, joined}
-use Rattle.au_model.specs.OperatorForms.{Notation, CompoundForm, ListForm, BracedForm, InfixForm, PrefixForm, PostfixForm, FunctionalForm, infix_form, prefix_form, postfix_form, form_of, form_of_term, form_priority, takes_equal_last, is_operator, is_operator_atom, is_above, is_enclosed, is_enclosed_left}
-use Rattle.au_model.specs.Writing.{notation_of, variable_token, name_token, name_pieces, integer_pieces, infix_pieces, prefix_pieces, postfix_pieces, spaced, is_open, is_integer, begins_with, enclosed, pieces, compound_pieces, tail_pieces, further_pieces, cell_pieces, is_cell}
-use Rattle.au_model.specs.declared.style.Style.TheVariants.{Quoted}
-use Rattle.au_model.specs.ReadBack.{tree_of, trees_of, IsSmall, IsWritable, AreWritable, tokens_with_end}
+use Rattle.au_model.specs.Pieces.{Piece, Put, LetterEnds, name_ends, run_together, InFront, SpaceInFront, is_apart, joined}
+use Rattle.au_model.specs.OperatorForms.{CompoundForm, ListForm, BracedForm, InfixForm, PrefixForm, PostfixForm, FunctionalForm, infix_form, prefix_form, form_of, form_priority, is_operator, is_above, is_enclosed, is_enclosed_left}
+use Rattle.au_model.specs.Writing.{variable_token, name_token, name_pieces, infix_pieces, prefix_pieces, postfix_pieces, spaced, is_open, is_integer, begins_with, enclosed, pieces, compound_pieces, tail_pieces, further_pieces, is_cell}
+use Rattle.au_model.specs.ReadBack.{tree_of, trees_of, IsSmall}
 use Rattle.term_writer.proofs.TableFacts.{ranged}
 use Rattle.au_model.specs.Operators.{PrefixClass, InfixClass, PostfixClass}
 use Rattle.term_writer.proofs.ReadSeams.{behind_token, Follows, meets-other, and-false, opens-by, counts-by, follows-opens, follows-counts, closes_round, closes_list, closes_curly, bars, commas, begins_name, before_name, sign_name, infix-follows, postfix-follows, infix-at, postfix-at, name-at}
-use Rattle.term_writer.proofs.ReadFacts.{notated, form_edge, priority, edge, Reads, OperandReads, ItemsRead, ArgumentsRead, Alone, Facts, Tails, starts_term, or-left, or-right, false-true, shut, right-reads, item-reads, shut-says, left-reads, shut-starts, shut-left-plain, shut-plain, shut-opening}
+use Rattle.term_writer.proofs.ReadFacts.{notated, form_edge, Reads, OperandReads, ArgumentsRead, Alone, Facts, Tails, starts_term, or-right, right-reads, item-reads, shut-says, left-reads, shut-starts, shut-left-plain, shut-plain, shut-opening}
 
 curly-begins : (ts : List Token) → starts_term ts ≡ true → curly_begins ts ≡ Curly ts
 curly-begins [] e = refl

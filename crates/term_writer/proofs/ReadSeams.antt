@@ -1,21 +1,15 @@
 -- What stands behind and in front of the pieces of a written term.
-use Rattle.std.proofs.Common.{◌≡◌, ◌⊎◌, inl, inr, ℕ, zero, suc, ℤ, pos, negsuc, ◌-◌, ◌<◌, ◌≤◌, ◌^◌, Bool, true, false, not, ◌&&◌, ◌||◌, ◌==◌, nat_le, nat_lt, List, [], ◌∷◌, Option, Some, None, codes, refl, sym, ap, subst, ◌∙◌, arith, rules, if◌then◌else◌}
-use Rattle.std.specs.Cmp.Lexicographic.{pointwise, same_text}
-use Rattle.std.specs.Option.{is_some, is_none}
-use Rattle.std.specs.Fmt.{decimal}
-use Rattle.au_term.specs.Term.{Term, VarTerm, IntTerm, AtomTerm, Compound, Terms, end, more, count}
+use Rattle.std.proofs.Common.{◌≡◌, ℕ, ◌<◌, ◌≤◌, Bool, true, false, not, ◌&&◌, nat_le, nat_lt, List, [], ◌∷◌, Some, None, codes, refl, sym, ap, ◌∙◌, arith, if◌then◌else◌}
+use Rattle.std.specs.Cmp.Lexicographic.{same_text}
 use Rattle.au_model.specs.Forms.{same_name}
 use Rattle.au_model.specs.Operators.{Operator, OperatorTable, IsOperatorTable, prefix_of, infix_of, postfix_of}
-use Rattle.au_model.specs.Lexemes.{Lexeme, Token, token, Name, QuotedName, Variable, Integer, Text, Open, Close, OpenList, CloseList, OpenCurly, CloseCurly, Comma, Bar, End}
-use Rattle.au_model.specs.Trees.{Tree, VarTree, IntTree, AtomTree, CompoundTree, Trees, no_trees, more_trees, tree_count, one, two, cell, nil, braces}
-use Rattle.au_model.specs.Joints.{Joint, Infix, Postfix, Nothing, comma, left_bound, right_bound, takes_equal_left, takes_equal_right, named_joint, lexeme_joint, fits, joint_fits, goes_on}
-use Rattle.au_model.specs.Openings.{Setting, Opening, Leaf, Curly, Listed, Call, Prefix, begins, lexeme_begins, name_begins, prefix_or_atom, opens, counts, lexeme_opens, lexeme_counts, is_minus, joins, ends_before, stands_alone, is_joint, is_operator as is_found, curly_begins, list_begins}
-use Rattle.au_model.specs.Spelling.{Spelled, form, infixed, postfixed, Operand, operand, Form, leaf, bracket, curly, listed, called, prefixed, Items, last, barred, item, Arguments, final, argument}
+use Rattle.au_model.specs.Lexemes.{Lexeme, Token, token, Name, QuotedName, Integer, Open, Close, OpenList, CloseList, OpenCurly, CloseCurly, Comma, Bar, End}
+use Rattle.au_model.specs.Trees.{nil, braces}
+use Rattle.au_model.specs.Joints.{Joint, Infix, Postfix, comma, named_joint, lexeme_joint, fits, joint_fits, goes_on}
+use Rattle.au_model.specs.Openings.{Setting, begins, lexeme_begins, name_begins, opens, counts, lexeme_opens, lexeme_counts, is_minus, joins, ends_before}
 use Rattle.au_model.specs.NameForms.{is_bare, is_symbol_name}
-use Rattle.au_model.specs.Pieces.{Piece, Space, Put, TokenEnds, SymbolEnds, LetterEnds, OtherEnds, name_ends, ends_of, run_together, InFront, NothingYet, SpaceInFront, TokenInFront, is_apart, joined}
-use Rattle.au_model.specs.OperatorForms.{Notation, CompoundForm, ListForm, BracedForm, InfixForm, PrefixForm, PostfixForm, FunctionalForm, infix_form, prefix_form, postfix_form, form_of, form_of_term, form_priority, takes_equal_last, is_operator, is_operator_atom, is_above, is_enclosed, is_enclosed_left}
-use Rattle.au_model.specs.Writing.{name_token, name_pieces, integer_pieces, infix_pieces, prefix_pieces, postfix_pieces, spaced, is_open, is_integer, begins_with, enclosed, pieces, compound_pieces, tail_pieces, further_pieces, cell_pieces, is_cell}
-use Rattle.au_model.specs.ReadBack.{tree_of, trees_of, IsSmall, IsWritable, AreWritable, tokens_with_end}
+use Rattle.au_model.specs.Pieces.{Piece, Space, Put, TokenEnds, SymbolEnds, LetterEnds, OtherEnds, ends_of, run_together, InFront, SpaceInFront, TokenInFront, is_apart, joined}
+use Rattle.au_model.specs.Writing.{name_token, name_pieces, infix_pieces, postfix_pieces, spaced, is_open, is_integer, begins_with}
 use Rattle.term_writer.proofs.TableFacts.{no_infix, no_prefix}
 use Rattle.au_model.specs.Openings.{atom_begins}
 

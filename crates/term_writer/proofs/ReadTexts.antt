@@ -1,19 +1,19 @@
 -- The characters of a written token are scanned as that token, whatever follows that can't be a part of it.
-use Rattle.std.proofs.Common.{◌≡◌, ℕ, zero, suc, ◌+◌, ◌-◌, ◌<◌, ◌≤◌, ◌^◌, Bool, true, false, not, ◌&&◌, ◌||◌, ◌==◌, nat_le, nat_lt, cond, List, [], ◌∷◌, ◌++◌, length, drop, Option, Some, None, codes, refl, sym, ap, ◌∙◌, subst, arith, append_assoc, if◌then◌else◌}
+use Rattle.std.proofs.Common.{◌≡◌, ℕ, zero, suc, ◌+◌, ◌-◌, ◌<◌, ◌≤◌, ◌^◌, Bool, true, false, not, ◌&&◌, ◌||◌, ◌==◌, nat_le, nat_lt, cond, List, [], ◌∷◌, ◌++◌, length, None, codes, refl, sym, ap, ◌∙◌, subst, arith, append_assoc, if◌then◌else◌}
 use Rattle.std.specs.List.{list_all}
-use Rattle.std.specs.Char.{digit_char, is_ascii_digit}
+use Rattle.std.specs.Char.{is_ascii_digit}
 use Rattle.std.specs.Fmt.{decimal}
 use Rattle.std.specs.Str.{all_ascii_digits}
 use Rattle.std.specs.Str.Parse.{digits_value}
 use Rattle.std.proofs.lemmas.Str.Parse.{IsNumeralModel, numerals_by_value, tells_all_ascii_digits}
 use Rattle.std.proofs.lemmas.Fmt.{digits_decimal, digits_value-decimal, decimal_nonempty}
-use Rattle.au_model.specs.Characters.{is_blank, is_symbol, is_solo, is_punctuation, is_small, is_capital, starts_variable, is_alphanumeric, is_digit_of, is_one_of, first_passes, first_is, run, behind_run}
+use Rattle.au_model.specs.Characters.{is_blank, is_symbol, is_solo, is_punctuation, is_small, starts_variable, is_alphanumeric, is_digit_of, is_one_of, first_passes, first_is}
 use Rattle.au_model.specs.Forms.{same_name}
 use Rattle.au_model.specs.Layout.{NoLayout, layout_item}
 use Rattle.au_model.specs.Lexemes.{Lexeme, Name, QuotedName, Variable, Integer, Text, Open, Close, OpenList, CloseList, OpenCurly, CloseCurly, Comma, Bar, End}
-use Rattle.au_model.specs.NameForms.{is_letter_name, begins_comment, is_symbol_name, is_solo_name, is_bare, hexadecimal}
-use Rattle.au_model.specs.Numerals.{numeral, NumeralThen, begins_fraction, zero_numeral, named_base, based_numeral}
-use Rattle.au_model.specs.Quoted.{Part, StandsFor, ClosingQuote, part, QuotedThen, quoted, with_characters, after_part}
+use Rattle.au_model.specs.NameForms.{is_letter_name, begins_comment, is_symbol_name, is_solo_name, hexadecimal}
+use Rattle.au_model.specs.Numerals.{begins_fraction, zero_numeral}
+use Rattle.au_model.specs.Quoted.{StandsFor, part, QuotedThen, quoted, with_characters}
 use Rattle.au_model.specs.Tokens.{Word, NameWord, QuotedWord, VariableWord, IntegerWord, TextWord, MarkWord, StopWord, FoundWord, word_at_front, ends_term, numeral_word, quoted_word}
 use Rattle.token_scan.proofs.Again.{IsSign, name-again, variable-again, solo-again, mark-again, symbols-again, decimal-again}
 use Rattle.token_scan.proofs.QuotedItems.{quoted-part, quoted-stands}
@@ -69,11 +69,11 @@ pub record Rescans (x : Lexeme) (z : List ℕ) : Type 0 where
 
 -- ---- characters that are one of a few
 
-abbrev EachOf : (ℕ → Type 0) → List ℕ → Type 0
+abbrev pub EachOf : (ℕ → Type 0) → List ℕ → Type 0
 EachOf P [] = Unit {0}
 EachOf P (c ∷ cs) = P c × EachOf P cs
 
-one_of : (P : ℕ → Type 0) (cs : List ℕ) (c : ℕ) → EachOf P cs → is_one_of cs c ≡ true → P c
+pub one_of : (P : ℕ → Type 0) (cs : List ℕ) (c : ℕ) → EachOf P cs → is_one_of cs c ≡ true → P c
 one_of P [] c ps e = let f : ⊥ = cc in absurd f
 one_of P (d ∷ cs) c ps e = go (c == d) refl (one_of P cs c ps.1) e
   where
@@ -161,15 +161,15 @@ no_layout c cs b p s = rw (b, p, s) refl
 
 -- ---- names
 
-and_left : (x y : Bool) → (x && y) ≡ true → x ≡ true
+pub and_left : (x y : Bool) → (x && y) ≡ true → x ≡ true
 and_left true y e = refl
 and_left false y e = e
 
-and_right : (x y : Bool) → (x && y) ≡ true → y ≡ true
+pub and_right : (x y : Bool) → (x && y) ≡ true → y ≡ true
 and_right true y e = e
 and_right false y e = let f : ⊥ = cc in absurd f
 
-not_false : (x : Bool) → not x ≡ true → x ≡ false
+pub not_false : (x : Bool) → not x ≡ true → x ≡ false
 not_false true e = sym e
 not_false false e = refl
 
@@ -215,7 +215,7 @@ no_comment c cs z e h = go (c == 47) e
     go true k = no_star cs z k h
     go false k = refl
 
-and_none : (b : Bool) → (b && false) ≡ false
+pub and_none : (b : Bool) → (b && false) ≡ false
 and_none true = refl
 and_none false = refl
 
@@ -335,19 +335,21 @@ record IsDigitMark (c : ℕ) : Type 0 where
   pub blank : is_blank c ≡ false
   pub percent : (c == 37) ≡ false
   pub slash : (c == 47) ≡ false
+  pub symbol : is_symbol c ≡ false
+  pub point : (c == 46) ≡ false
   pub base : ((c == 120) || ((c == 111) || ((c == 98) || (c == 39)))) ≡ false
 
 ten : (k : ℕ) → k < 10 → IsDigitMark (48 + k)
-ten zero h = record { small = refl; variable = refl; digit = refl; part = refl; blank = refl; percent = refl; slash = refl; base = refl }
-ten (suc zero) h = record { small = refl; variable = refl; digit = refl; part = refl; blank = refl; percent = refl; slash = refl; base = refl }
-ten (suc (suc zero)) h = record { small = refl; variable = refl; digit = refl; part = refl; blank = refl; percent = refl; slash = refl; base = refl }
-ten (suc (suc (suc zero))) h = record { small = refl; variable = refl; digit = refl; part = refl; blank = refl; percent = refl; slash = refl; base = refl }
-ten (suc (suc (suc (suc zero)))) h = record { small = refl; variable = refl; digit = refl; part = refl; blank = refl; percent = refl; slash = refl; base = refl }
-ten (suc (suc (suc (suc (suc zero))))) h = record { small = refl; variable = refl; digit = refl; part = refl; blank = refl; percent = refl; slash = refl; base = refl }
-ten (suc (suc (suc (suc (suc (suc zero)))))) h = record { small = refl; variable = refl; digit = refl; part = refl; blank = refl; percent = refl; slash = refl; base = refl }
-ten (suc (suc (suc (suc (suc (suc (suc zero))))))) h = record { small = refl; variable = refl; digit = refl; part = refl; blank = refl; percent = refl; slash = refl; base = refl }
-ten (suc (suc (suc (suc (suc (suc (suc (suc zero)))))))) h = record { small = refl; variable = refl; digit = refl; part = refl; blank = refl; percent = refl; slash = refl; base = refl }
-ten (suc (suc (suc (suc (suc (suc (suc (suc (suc zero))))))))) h = record { small = refl; variable = refl; digit = refl; part = refl; blank = refl; percent = refl; slash = refl; base = refl }
+ten zero h = record { small = refl; variable = refl; digit = refl; part = refl; blank = refl; percent = refl; slash = refl; symbol = refl; point = refl; base = refl }
+ten (suc zero) h = record { small = refl; variable = refl; digit = refl; part = refl; blank = refl; percent = refl; slash = refl; symbol = refl; point = refl; base = refl }
+ten (suc (suc zero)) h = record { small = refl; variable = refl; digit = refl; part = refl; blank = refl; percent = refl; slash = refl; symbol = refl; point = refl; base = refl }
+ten (suc (suc (suc zero))) h = record { small = refl; variable = refl; digit = refl; part = refl; blank = refl; percent = refl; slash = refl; symbol = refl; point = refl; base = refl }
+ten (suc (suc (suc (suc zero)))) h = record { small = refl; variable = refl; digit = refl; part = refl; blank = refl; percent = refl; slash = refl; symbol = refl; point = refl; base = refl }
+ten (suc (suc (suc (suc (suc zero))))) h = record { small = refl; variable = refl; digit = refl; part = refl; blank = refl; percent = refl; slash = refl; symbol = refl; point = refl; base = refl }
+ten (suc (suc (suc (suc (suc (suc zero)))))) h = record { small = refl; variable = refl; digit = refl; part = refl; blank = refl; percent = refl; slash = refl; symbol = refl; point = refl; base = refl }
+ten (suc (suc (suc (suc (suc (suc (suc zero))))))) h = record { small = refl; variable = refl; digit = refl; part = refl; blank = refl; percent = refl; slash = refl; symbol = refl; point = refl; base = refl }
+ten (suc (suc (suc (suc (suc (suc (suc (suc zero)))))))) h = record { small = refl; variable = refl; digit = refl; part = refl; blank = refl; percent = refl; slash = refl; symbol = refl; point = refl; base = refl }
+ten (suc (suc (suc (suc (suc (suc (suc (suc (suc zero))))))))) h = record { small = refl; variable = refl; digit = refl; part = refl; blank = refl; percent = refl; slash = refl; symbol = refl; point = refl; base = refl }
 ten (suc (suc (suc (suc (suc (suc (suc (suc (suc (suc k)))))))))) h = absurd (omega arith)
 
 digit_mark : (c : ℕ) → is_ascii_digit c ≡ true → IsDigitMark c
@@ -368,7 +370,7 @@ digits_part (d ∷ ds) e = let m = digit_mark d (and_left (is_ascii_digit d) _ e
 pub variable_rescans : (k : ℕ) (z : List ℕ) → k < 2 ^ 64 → first_passes is_alphanumeric z ≡ false → Rescans (Variable (95 ∷ decimal k)) z
 variable_rescans k z h e = record { word = variable-again 95 (decimal k) z refl refl (digits_part (decimal k) (decimal_digits k h)) e; bare = no_layout 95 (decimal k ++ z) refl refl refl }
 
-same_number : (d q : ℕ) → (d == q) ≡ true → d ≡ q
+pub same_number : (d q : ℕ) → (d == q) ≡ true → d ≡ q
 same_number d q e = grind (arith, e)
 
 not_first : (q : ℕ) → is_alphanumeric q ≡ true → (z : List ℕ) → first_passes is_alphanumeric z ≡ false → first_is q z ≡ false
@@ -425,12 +427,15 @@ not_digit (d ∷ z) h = go (nat_lt d 48) (nat_lt d 58) refl refl
         let f : ⊥ = cc in absurd f
     go false false p q = rw (p, q) (above (nat_lt d 65) (nat_lt d 91) (nat_lt d 97) (nat_lt d 123) q refl refl refl refl)
 
+within_width : (n : ℕ) → n ≤ 2 ^ 63 → nat_le n (2 ^ 63) ≡ true
+within_width n h = grind (arith, h)
+
 pub digits_rescan : (ds z : List ℕ) → 0 < length ds → all_ascii_digits ds ≡ true → digits_value 10 ds ≤ 2 ^ 63 → first_passes is_alphanumeric z ≡ false → begins_fraction z ≡ false → first_is 39 z ≡ false
     → (word_at_front (ds ++ z) ≡ FoundWord (IntegerWord (digits_value 10 ds)) z) × (layout_item (ds ++ z) ≡ NoLayout)
 digits_rescan [] z lt e v h f q = absurd (omega arith)
 digits_rescan (d ∷ ds) z lt e v h f q =
     let m = digit_mark d (and_left (is_ascii_digit d) _ e) in
-    let width : nat_le (digits_value 10 (d ∷ ds)) (2 ^ 63) ≡ true = grind (arith, v) in
+    let width = within_width (digits_value 10 (d ∷ ds)) v in
     let number = decimal-again (d ∷ ds) z (digits_are (d ∷ ds) e) (not_digit z h) f width (λ k. zero_alone ds z (and_right (is_ascii_digit d) _ e) h q) in
     (rw (m.small, m.variable, m.digit) (ap (numeral_word (d ∷ ds ++ z)) number), no_layout d (ds ++ z) m.blank m.percent (rw m.slash refl))
 
@@ -448,7 +453,7 @@ abbrev pub EachBelow : (ℕ → Type 0) → ℕ → Type 0
 EachBelow P zero = Unit {0}
 EachBelow P (suc n) = EachBelow P n × P n
 
-below : (P : ℕ → Type 0) (n c : ℕ) → EachBelow P n → c < n → P c
+pub below : (P : ℕ → Type 0) (n c : ℕ) → EachBelow P n → c < n → P c
 below P zero c ps lt = absurd (omega arith)
 below P (suc n) c ps lt = go (c == n) refl (below P n c ps.0)
   where
@@ -499,3 +504,17 @@ quoted_rescans n z e =
       word = ap word_at_front assoc ∙ ap (quoted_word QuotedWord (39 ∷ (escaped_chars n ++ 39 ∷ z))) (quoted_again n z e);
       bare = ap layout_item assoc ∙ no_layout 39 (escaped_chars n ++ 39 ∷ z) refl refl refl;
     }
+
+-- the first digit of a number
+pub record FirstDigit (cs : List ℕ) : Type 0 where
+  pub part : first_passes is_alphanumeric cs ≡ true
+  pub symbol : first_passes is_symbol cs ≡ false
+  pub single : first_is 39 cs ≡ false
+  pub point : first_is 46 cs ≡ false
+
+pub digit_first : (ds z : List ℕ) → 0 < length ds → all_ascii_digits ds ≡ true → FirstDigit (ds ++ z)
+digit_first [] z lt e = absurd (omega arith)
+digit_first (d ∷ ds) z lt e =
+    let m = digit_mark d (and_left (is_ascii_digit d) _ e) in
+    let last = or_right (d == 98) _ (or_right (d == 111) _ (or_right (d == 120) _ m.base)) in
+    record { part = m.part; symbol = m.symbol; single = last; point = m.point }

@@ -1,14 +1,20 @@
 //! Laws of the definitions: each function does nothing, and its contract is the law.
-ghost use Rattle.std.specs.Prelude.{◌≡◌, [], ◌∷◌, true};
+ghost use Rattle.std.specs.Prelude.{◌≡◌, [], ◌++◌, codes};
+ghost use Rattle.std.specs.Str.{chars};
 ghost use Rattle.au_term.specs.Term.{Term};
-ghost use Rattle.au_model.specs.Lexemes.{token, End};
+ghost use Rattle.au_model.specs.Copies.{copied};
 ghost use Rattle.au_model.specs.Openings.{Setting};
 ghost use Rattle.au_model.specs.Operators.{IsOperatorTable};
-ghost use Rattle.au_model.specs.ReadBack.{tree_of, IsWritable, tokens_with_end};
-ghost use Rattle.au_model.specs.Spelling.{Operand};
+ghost use Rattle.au_model.specs.ReadBack.{tree_of, IsWritable};
+ghost use Rattle.au_model.specs.TermNumbers.{no_variables, numbered};
+ghost use Rattle.au_model.specs.TermTexts.{SpellsTermWithEnd};
+ghost use Rattle.au_model.specs.Writing.{written_as};
+ghost use Rattle.au_model.specs.declared.style.Style.TheVariants.{Quoted};
 
-/// The tokens of a term in quoted style, with a space and a full stop behind it, spell the term again under the same
-/// operators, whatever double-quoted items stand for; a variable has the name that it is written with.
-pub fn written_is_spelled()
-    ensures { (s : Setting) → IsOperatorTable s.ops → (t : Term) → IsWritable t → Operand s 1200 (tokens_with_end s.ops t) (token true End ∷ []) (tree_of t) }
+/// What is written of a term in quoted style, with a space and a full stop behind it, spells the term again and nothing
+/// more, under the same operators and whatever double-quoted items stand for. A variable's name is what is written for
+/// it, so the term that is read is the copy with variables numbered from 0.
+pub fn written_is_read_back()
+    ensures { (s : Setting) → IsOperatorTable s.ops → (t : Term) → IsWritable t
+        → SpellsTermWithEnd s (chars (written_as Quoted s.ops t ++ codes " .")) (tree_of t) [] × ((numbered no_variables (tree_of t)).0 ≡ copied t 0) }
 {}

@@ -1,0 +1,6 @@
+use Rattle.term_writer.proofs.ReadEnd.{read_back}
+use Rattle.term_writer.proofs.ReadNumbers.{numbered-copy}
+use Rattle.term_writer.proofs.laws.written_is_read_back.Goals as goal
+
+pub returns : goal.returns
+returns c s table t h = (read_back s table t h, numbered-copy t h)
