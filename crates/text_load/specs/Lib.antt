@@ -1,2 +1,7 @@
 pub mod Kept
 pub mod Meant
+pub mod Names
+pub mod Read
+pub mod Sentences
+pub mod Texts
+pub mod Written

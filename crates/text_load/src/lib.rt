@@ -3,6 +3,8 @@
 
 pub mod job;
 pub mod query;
+mod reserved;
+mod sentence;
 
 pub use job::Job;
 pub use query::Query;
