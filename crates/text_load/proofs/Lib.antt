@@ -1,3 +1,4 @@
 pub mod Rows
 pub mod Sorts
 pub mod Bounds
+pub mod Assembling

@@ -1,6 +1,7 @@
 //! Texts made into jobs.
 #![tactic(auto)]
 
+mod assembly;
 pub mod job;
 pub mod query;
 mod reserved;
