@@ -2,3 +2,4 @@ pub mod Rows
 pub mod Sorts
 pub mod Bounds
 pub mod Assembling
+pub mod Going

@@ -1,4 +1,5 @@
 pub mod Kept
+pub mod Loading
 pub mod Meant
 pub mod Names
 pub mod Read
