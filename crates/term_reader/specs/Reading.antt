@@ -1,5 +1,5 @@
 -- What reading a term answers.
-use Rattle.std.specs.Prelude.{◌≡◌, ℕ, true, false, List, Result, Ok, Err, map}
+use Rattle.std.specs.Prelude.{◌≡◌, ℕ, suc, true, false, List, Result, Ok, Err, map}
 use Rattle.au_model.specs.Characters.{chars_from}
 use Rattle.au_model.specs.Trees.{Tree}
 use Rattle.au_model.specs.Openings.{Setting}
@@ -25,7 +25,7 @@ NoTerm s cs = (t : Tree) (rest : List ℕ) → SpellsTermWithEnd s cs t rest →
 -- the tree that a text's front spells from one place up to another
 pub record Spelling (s : Setting) (text : List ℕ) (at end : ℕ) (t : Tree) : Type 0 where
   pub spelled : SpellsTermWithEnd s (chars_from text at) t (chars_from text end)
-  pub place : IsPlaceFrom text at end
+  pub place : IsPlaceFrom text (suc at) end
 
 -- the state has the cells of what is spelled up to this place
 pub record IsWhole (s : Setting) (text : List ℕ) (at : ℕ) (st : State) (end : ℕ) : Type 0 where

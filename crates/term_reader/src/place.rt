@@ -5,7 +5,7 @@ ghost use Rattle.term_reader.specs.TextFaults.{IsPlace};
 
 /// The line and the column of a place, each counted from 1. A line ends at a line feed, and a column counts
 /// characters. Numbers that are wider stop at the greatest.
-pub(crate) fn line_and_column(text: &str, at: usize) -> (u32, u32)
+pub fn line_and_column(text: &str, at: usize) -> (u32, u32)
     requires { IsCharBoundary text.now at }
     ensures { IsPlace text.now (chars_from text.now at) result.0 result.1 }
 {

@@ -1,5 +1,5 @@
 -- The job that is assembled is the one of the sentences.
-use Rattle.std.proofs.Common.{◌≡◌, ◌∙◌, List, ◌++◌, map, sym, ap, ap₂}
+use Rattle.std.proofs.Common.{◌≡◌, ◌∙◌, List, ◌++◌, map, ap₂}
 use Rattle.std.specs.Arc.{arc_value}
 use Rattle.au_model.specs.Clauses.{Clause}
 use Rattle.au_model.specs.Databases.{no_procedures}

@@ -1,12 +1,12 @@
 -- The variables of a body's goals are the body's.
-use Rattle.std.proofs.Common.{◌≡◌, ℕ, suc, max, Bool, true, false, cond, List, [], ◌∷◌, ◌++◌, map, drop, Option, Some, None, refl, sym, ap, ap₂, ◌∙◌, arith, codes}
+use Rattle.std.proofs.Common.{◌≡◌, ℕ, max, Bool, true, false, cond, List, [], ◌∷◌, ◌++◌, map, Option, Some, None, refl, sym, ap, ◌∙◌, arith, codes}
 use Rattle.std.specs.Option.{option_map}
-use Rattle.au_term.specs.Term.{Term, VarTerm, IntTerm, AtomTerm, Compound, Terms, end, more, var_bound, all_bound}
+use Rattle.au_term.specs.Term.{Term, VarTerm, IntTerm, AtomTerm, Compound, end, more, var_bound}
 use Rattle.au_model.specs.Forms.{same_name, binary}
 use Rattle.au_model.specs.Bodies.{is_junction, junction, body_of, goals_of, called_goals, call_of}
-use Rattle.au_model.specs.Jobs.{NamedVariable, Query, goals_bound, names_bound, query_bound}
+use Rattle.au_model.specs.Jobs.{Query, goals_bound, names_bound}
 use Rattle.au_model.specs.declared.var_name.VarName.{VarName}
-use Rattle.clause_compile.specs.Compiling.{goal_items, IsCalled}
+use Rattle.clause_compile.specs.Compiling.{goal_items}
 use Rattle.clause_compile.specs.declared.item.Item.{Item}
 use Rattle.clause_compile.specs.declared.item.Scope.{Scope}
 use Rattle.clause_compile.specs.declared.item.Scope.TheVariants.{Local}

@@ -1,18 +1,16 @@
 -- Sentences read one behind another.
-use Rattle.std.proofs.Common.{◌≡◌, ◌∙◌, ℕ, List, [], ◌∷◌, ◌++◌, map, true, refl, sym, ap, subst, append_assoc, IsCharBoundary}
+use Rattle.std.proofs.Common.{◌≡◌, ◌∙◌, ℕ, List, [], ◌∷◌, ◌++◌, map, true, Err, refl, sym, ap, subst, append_assoc}
 use Rattle.std.specs.Arc.{arc_value}
 use Rattle.std.specs.Global.{Global}
 use Rattle.std.specs.declared.sync.Arc.{Arc}
 use Rattle.std.specs.Str.{chars}
 use Rattle.std.proofs.lemmas.List.{map-append}
-use Rattle.au_term.specs.Term.{Term}
 use Rattle.au_model.specs.Characters.{chars_from}
-use Rattle.au_model.specs.Layout.{GapThen, behind_layout}
-use Rattle.au_model.specs.Lexemes.{Token, tokens_of, scanned, ScannedNone, scanned_word}
+use Rattle.au_model.specs.Lexemes.{Token, tokens_of, scanned_word}
 use Rattle.au_model.specs.Openings.{Setting, Fails}
 use Rattle.au_model.specs.Spelling.{Spelled, Operand, Form, operand, form, infixed, postfixed}
-use Rattle.au_model.specs.Tokens.{FoundFault, next_word}
-use Rattle.au_model.specs.TermTexts.{SpellsTermWithEnd, is_over}
+use Rattle.au_model.specs.Tokens.{next_word}
+use Rattle.au_model.specs.TermTexts.{is_over}
 use Rattle.au_model.specs.Trees.{Tree}
 use Rattle.au_model.specs.Jobs.{Query as QueryTerms}
 use Rattle.au_model.specs.Layout.{begins_layout}
@@ -20,12 +18,17 @@ use Rattle.au_model.specs.declared.fault_kind.FaultKind.{FaultKind}
 use Rattle.clause_compile.specs.declared.clause.Clause.{Clause}
 use Rattle.token_scan.specs.Found.{IsFault}
 use Rattle.token_scan.specs.declared.token.BadToken.{BadToken}
+use Rattle.au_model.specs.Operators.{OperatorTable, initial_operators}
+use Rattle.au_model.specs.declared.double_quotes.DoubleQuotes.TheVariants.{Codes}
+use Rattle.term_reader.specs.Reading.{IsRead}
+use Rattle.term_reader.specs.declared.read.ReadRefused.{ReadRefused}
+use Rattle.term_reader.specs.declared.read.ReadRefused.TheVariants.{Syntax, NoMemory as Full}
 use Rattle.term_reader.specs.TextFaults.{IsPlace}
 use Rattle.term_reader.proofs.Fronts.{tokens-none}
-use Rattle.text_load.specs.Loading.{HasRead, Holds, IsLoaded, FaultsFrom, BeginsTerm}
+use Rattle.text_load.specs.Loading.{HasRead, IsNext, refusal_by, Holds, IsLoaded, FaultsFrom, BeginsTerm}
 use Rattle.text_load.specs.Read.{AreLoaded, IsSentenceOf}
 use Rattle.text_load.specs.Sentences.{Sentence, ClauseSentence, QuerySentence, NoSentence, sentence, IsSentence}
-use Rattle.text_load.specs.Texts.{Sentences, no_more, one_more, FirstFault, no_sentence, further, IsRefused, clauses_in, queries_in, first_setting}
+use Rattle.text_load.specs.Texts.{Sentences, no_more, one_more, unread, no_sentence, further, IsRefused, clauses_in, queries_in}
 use Rattle.text_load.specs.declared.assembly.Loaded.{Loaded}
 use Rattle.text_load.specs.declared.sentence.Sentence.{Sentence as Kept}
 use Rattle.text_load.specs.declared.sentence.Sentence.TheVariants as kept
@@ -132,3 +135,10 @@ is_kept (QuerySentence q) k is n = tt
 is_kept (NoSentence kind) (kept.Clause c) is n = absurd is
 is_kept (NoSentence kind) (kept.Query q) is n = absurd is
 is_kept (NoSentence kind) (kept.Refused other) is n = absurd (n other refl)
+
+-- a text in which no term can be read
+pub unread_from : (ops : OperatorTable) (text : List ℕ) (at : ℕ) (r : ReadRefused) → ops ≡ initial_operators → IsRead (record { ops = ops; quotes = Codes }) text at (Err r) → IsNext text at (Err (refusal_by r))
+unread_from ops text at (Syntax line column kind) e h =
+    let k = subst (λ (t : OperatorTable). IsRead (record { ops = t; quotes = Codes }) text at (Err (Syntax line column kind))) e h in
+    record { from = k.2.0; fault = unread k.0 k.1 k.2.1; place = k.2.2 }
+unread_from ops text at Full e h = tt

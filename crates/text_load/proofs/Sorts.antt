@@ -1,10 +1,10 @@
 -- What a term is by its first cell.
-use Rattle.std.proofs.Common.{◌≡◌, ℕ, suc, ◌+◌, ◌<◌, Bool, true, false, not, ◌&&◌, ◌==◌, List, codes, if◌then◌else◌, Result, IfOk, subst, refl, sym, ap, ◌∙◌, arith}
+use Rattle.std.proofs.Common.{◌≡◌, ℕ, suc, ◌<◌, Bool, true, false, not, ◌==◌, List, codes, Result, IfOk, subst, refl, sym, ap, ◌∙◌, arith}
 use Rattle.std.proofs.lemmas.Bool.Decides.{nat_tests}
-use Rattle.au_term.specs.Term.{Term, VarTerm, IntTerm, AtomTerm, Compound, Terms, end, more, count, argument, argument_count}
+use Rattle.au_term.specs.Term.{Term, VarTerm, IntTerm, AtomTerm, Compound, end, more, count, argument_count}
 use Rattle.au_term.specs.Prefix.{top_of}
 use Rattle.au_term.specs.declared.cell.Cell.{Cell}
-use Rattle.au_term.specs.declared.cell.Cell.TheVariants.{Var as VarCell, Int as IntCell, Atom as AtomCell, Functor}
+use Rattle.au_term.specs.declared.cell.Cell.TheVariants.{Atom as AtomCell, Functor}
 use Rattle.au_model.specs.Forms.{same_name}
 use Rattle.au_model.specs.Goals.{is_reserved}
 use Rattle.au_model.specs.Jobs.{NamedVariable}
@@ -15,7 +15,7 @@ use Rattle.text_load.specs.Sentences as form
 use Rattle.text_load.specs.Sentences.{may_head, sentence_of}
 use Rattle.text_load.specs.Written.{compound_form, cell_form, written_as}
 use Rattle.text_load.specs.declared.sentence.Form.{Form}
-use Rattle.text_load.specs.declared.sentence.Form.TheVariants.{Query, Directive, Rule, Fact}
+use Rattle.text_load.specs.declared.sentence.Form.TheVariants.{Query, Rule, Fact}
 
 pub may_atom : (t : Term) (a name : List ℕ) (b : Bool) → top_of t ≡ AtomCell a → name ≡ a → b ≡ is_reserved name 0 → not b ≡ may_head t
 may_atom (VarTerm n) a name b e k h = let f : ⊥ = cc in absurd f

@@ -1,5 +1,5 @@
 -- What loading answers.
-use Rattle.std.specs.Prelude.{◌≡◌, ◌⊎◌, ℕ, suc, List, ◌++◌, true, Result, Ok, Err, IsCharBoundary}
+use Rattle.std.specs.Prelude.{◌≡◌, ◌⊎◌, ℕ, List, ◌++◌, true, Result, Ok, Err, IsCharBoundary}
 use Rattle.std.specs.Str.{chars}
 use Rattle.au_model.specs.Characters.{chars_from}
 use Rattle.au_model.specs.Layout.{GapThen, behind_layout}
@@ -8,6 +8,8 @@ use Rattle.au_model.specs.Trees.{Tree}
 use Rattle.au_model.specs.declared.fault_kind.FaultKind.{FaultKind}
 use Rattle.term_reader.specs.Reading.{Spelling}
 use Rattle.term_reader.specs.TextFaults.{IsPlace}
+use Rattle.term_reader.specs.declared.read.ReadRefused.{ReadRefused}
+use Rattle.term_reader.specs.declared.read.ReadRefused.TheVariants.{Syntax, NoMemory as Full}
 use Rattle.text_load.specs.Read.{AreLoaded, IsSentenceOf}
 use Rattle.text_load.specs.Sentences.{Sentence, sentence, IsSentence}
 use Rattle.text_load.specs.Texts.{Sentences, FirstFault, IsRefused, first_setting}
@@ -60,6 +62,10 @@ IsNext text at (Ok (next.Sentence kept end)) = (t : Tree) × Holds text at t kep
 IsNext text at (Ok next.Over) = is_over (chars_from text at) ≡ true
 IsNext text at (Err (Refused line column kind)) = FaultsFrom text at line column kind
 IsNext text at (Err NoMemory) = Unit {0}
+
+abbrev pub refusal_by : ReadRefused → LoadRefusal
+refusal_by (Syntax line column kind) = Refused line column kind
+refusal_by Full = NoMemory
 
 -- sentences were read up to a place
 pub record HasRead (text : List ℕ) (at : ℕ) (l : Loaded) : Type 0 where

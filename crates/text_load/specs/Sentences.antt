@@ -1,6 +1,6 @@
 -- What a term of a text is: a clause, a query, or neither (ISO/IEC 13211-1, 6.2.1 and 7.4). That a query stands in the
 -- text is our own.
-use Rattle.std.specs.Prelude.{ℕ, Bool, not, ◌&&◌, List, [], ◌∷◌, Option, Some, None, codes, if◌then◌else◌, cond}
+use Rattle.std.specs.Prelude.{ℕ, Bool, not, ◌&&◌, List, Option, Some, None, codes, if◌then◌else◌, cond}
 use Rattle.au_term.specs.Term.{Term, AtomTerm, Compound, end, more, argument_count}
 use Rattle.au_model.specs.Forms.{same_name, name_of, is_callable}
 use Rattle.au_model.specs.Bodies.{body_of, called_goals}

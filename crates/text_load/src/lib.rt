@@ -3,11 +3,11 @@
 
 mod assembly;
 pub mod job;
-pub mod reading;
 pub mod query;
+pub mod reading;
 mod reserved;
 mod sentence;
 
 pub use job::Job;
-pub use reading::{LoadRefusal, load};
 pub use query::Query;
+pub use reading::{LoadRefusal, load};

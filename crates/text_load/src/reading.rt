@@ -4,7 +4,7 @@ ghost use Rattle.std.specs.Str.{chars};
 ghost use Rattle.au_model.specs.Characters.{chars_from};
 ghost use Rattle.au_model.specs.Operators.{initial_operators};
 ghost use Rattle.au_model.specs.Trees.{Tree};
-ghost use Rattle.text_load.specs.Loading.{IsLoaded, IsNext, IsRefusedAt, IsRefusal, Holds, BeginsTerm};
+ghost use Rattle.text_load.specs.Loading.{IsLoaded, IsNext, IsRefusedAt, IsRefusal, Holds, BeginsTerm, refusal_by};
 ghost use Rattle.text_load.specs.Meant.{job_meant};
 ghost use Rattle.text_load.specs.Read.{AreLoaded, IsSentenceOf};
 ghost use Rattle.text_load.specs.Sentences.{Sentence as SentenceTerms, IsSentence};
@@ -95,10 +95,17 @@ fn next_sentence(alloc: Global, ops: &Ops, text: &str, at: usize) -> Result<Next
             let sentence = sentence_of(alloc, term, names)?;
             sentence_at(text, at, sentence, end)
         }
-        Err(ReadRefused::Syntax { line, column, kind }) => {
-            Err(LoadRefusal::Refused { line, column, kind })
-        }
-        Err(ReadRefused::NoMemory) => Err(LoadRefusal::NoMemory),
+        Err(refused) => Err(refusal_of(refused)),
+    }
+}
+
+/// The refusal of a text in which no term can be read.
+fn refusal_of(refused: ReadRefused) -> LoadRefusal
+    ensures { result ≡ refusal_by refused }
+{
+    match refused {
+        ReadRefused::Syntax { line, column, kind } => LoadRefusal::Refused { line, column, kind },
+        ReadRefused::NoMemory => LoadRefusal::NoMemory,
     }
 }
 

@@ -1,4 +1,4 @@
-use Rattle.std.proofs.Common.{◌≡◌, ◌∙◌, List, ◌++◌, map, sym, ap, ap₂}
+use Rattle.std.proofs.Common.{◌∙◌, ◌++◌, map, ap, ap₂}
 use Rattle.std.specs.Arc.{arc_value}
 use Rattle.text_load.specs.Texts.{not_defined_by}
 use Rattle.text_load.proofs.Assembling.{assembled}

@@ -1,13 +1,13 @@
-use Rattle.std.proofs.Common.{rules, ◌≡◌, ◌∙◌, sym, subst, ap}
-use Rattle.au_model.specs.Characters.{chars_from}
-use Rattle.text_load.specs.Loading.{IsNext, HasRead}
+use Rattle.std.proofs.Common.{Ok, subst}
+use Rattle.std.proofs.lemmas.Str.{IsCharBoundary-start}
+use Rattle.text_load.specs.Loading.{IsNext}
 use Rattle.text_load.specs.Sentences.{sentence}
-use Rattle.text_load.proofs.Going.{read_none, read_all, read_on, refused_from}
+use Rattle.text_load.proofs.Going.{read_none, read_all, read_on}
 use Rattle.text_load.proofs.reading.loaded.Goals as goal
 
 pub sentences-init : goal.sentences-init
 sentences-init c = record {
-  place = search rules;
+  place = IsCharBoundary-start c.args.text.now c.utf8.text;
   read = read_none c.args.text.now (record { clauses = c.new.result; queries = c.new-2.result }) c.new.ensures.items c.new-2.ensures.items;
 }
 

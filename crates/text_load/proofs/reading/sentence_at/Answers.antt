@@ -1,4 +1,4 @@
-use Rattle.std.proofs.Common.{◌≡◌, sym, subst, refl}
+use Rattle.std.proofs.Common.{subst}
 use Rattle.text_load.specs.Loading.{Holds}
 use Rattle.text_load.specs.Sentences.{sentence}
 use Rattle.text_load.proofs.Going.{blamed, is_kept}

@@ -1,4 +1,4 @@
-use Rattle.std.proofs.Common.{◌≡◌, ◌∙◌, sym, subst, ap, ap₂, max, map, refl, List}
+use Rattle.std.proofs.Common.{◌∙◌, sym, subst, ap, ap₂, max, map, refl, List}
 use Rattle.au_model.specs.Jobs.{names_bound}
 use Rattle.au_model.specs.declared.var_name.VarName.{VarName}
 use Rattle.au_term.specs.Term.{var_bound}
