@@ -83,7 +83,7 @@ no_spelled [] e (infixed l j le r) = no_spelled [] refl l
 no_spelled [] e (postfixed l j le) = no_spelled [] refl l
 no_spelled (x ∷ ts) e h = let f : ⊥ = cc in absurd f
 
-no_operand : {s : Setting} {us : List Token} {t : Tree} {b : ℕ} (ts : List Token) → ts ≡ [] → Operand s b ts us t → ⊥
+pub no_operand : {s : Setting} {us : List Token} {t : Tree} {b : ℕ} (ts : List Token) → ts ≡ [] → Operand s b ts us t → ⊥
 no_operand ts e (operand h le stops) = no_spelled ts e h
 
 -- a term does not begin with a faulty token

@@ -3,3 +3,4 @@ pub mod Sorts
 pub mod Bounds
 pub mod Assembling
 pub mod Going
+pub mod Alone

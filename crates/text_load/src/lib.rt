@@ -3,6 +3,7 @@
 
 mod assembly;
 pub mod job;
+pub mod laws;
 pub mod query;
 pub mod reading;
 mod reserved;
