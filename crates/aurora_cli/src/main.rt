@@ -7,6 +7,8 @@ pub mod laws;
 mod pieces;
 mod read;
 mod refusal;
+#[cfg(test)]
+mod round_trip;
 mod scan;
 mod sentence;
 mod terms;
