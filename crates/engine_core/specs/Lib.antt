@@ -1,2 +1,6 @@
 pub mod Branches
 pub mod Reductions
+pub mod Constructs
+pub mod TakingApart
+pub mod Onward
+pub mod Arguments

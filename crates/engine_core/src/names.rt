@@ -1,0 +1,48 @@
+//! Cells told by name.
+ghost use Rattle.std.specs.Prelude.{◌≡◌};
+ghost use Rattle.std.specs.Str.{IsAscii};
+ghost use Rattle.au_model.specs.Forms.{same_name};
+ghost use Rattle.clause_compile.specs.Cells.{opens_junction, opens_conjunction};
+ghost use Rattle.engine_core.specs.TakingApart.{opens_condition};
+
+use au_term::{Atom, Cell};
+
+/// Whether a name is this text.
+pub(crate) fn is_named(name: &Atom, text: &str) -> bool
+    requires { IsAscii text.now }
+    ensures { result ≡ same_name name.now text.now }
+{
+    name.text() == text
+}
+
+/// Whether a cell begins a conjunction.
+pub(crate) fn is_conjunction(cell: &Cell) -> bool
+    ensures { result ≡ opens_conjunction cell.now }
+{
+    match cell {
+        Cell::Functor(name, arity) => *arity == 2 && is_named(name, ","),
+        _ => false,
+    }
+}
+
+/// Whether a cell begins a condition with its goal.
+pub(crate) fn is_condition(cell: &Cell) -> bool
+    ensures { result ≡ opens_condition cell.now }
+{
+    match cell {
+        Cell::Functor(name, arity) => *arity == 2 && is_named(name, "->"),
+        _ => false,
+    }
+}
+
+/// Whether a cell begins a compound in which goals are due on both sides.
+pub(crate) fn is_junction(cell: &Cell) -> bool
+    ensures { result ≡ opens_junction cell.now }
+{
+    match cell {
+        Cell::Functor(name, arity) => {
+            *arity == 2 && (is_named(name, ",") || is_named(name, ";") || is_named(name, "->"))
+        }
+        _ => false,
+    }
+}
