@@ -1,2 +1,3 @@
 pub mod Branches
 pub mod Reductions
+pub mod Trying

@@ -1,0 +1,4 @@
+pub mod Raising
+pub mod Clashing
+pub mod Solving
+pub mod Listing
