@@ -4,3 +4,4 @@ pub mod Constructs
 pub mod TakingApart
 pub mod Onward
 pub mod Arguments
+pub mod Trying
