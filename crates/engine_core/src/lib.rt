@@ -1,11 +1,15 @@
 //! The reduction of one goal, beside a store of bindings.
 #![tactic(auto)]
 
+mod added;
 mod attempt;
+mod call;
 mod conjunction;
 mod construct;
 mod continuation;
+mod control;
 mod faults;
+pub mod items;
 mod key;
 mod names;
 mod onward;
@@ -14,4 +18,5 @@ mod procedure;
 pub mod reduction;
 
 pub use conjunction::goals_before;
+pub use items::reduce;
 pub use reduction::Reduction;
