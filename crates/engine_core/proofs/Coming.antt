@@ -1,9 +1,9 @@
 -- What goals come to, where one branch is left.
 use Rattle.std.proofs.Common.{◌≡◌, ℕ, ◌+◌, ◌<◌, ◌≤◌, ◌==◌, ◌&&◌, not, nat_lt, Bool, true, false, cond, List, [], ◌∷◌, ◌++◌, map, Option, Some, None, refl, sym, ap, ◌∙◌, subst, arith}
-use Rattle.std.specs.Prelude.{codes, Result, Ok, Err}
+use Rattle.std.specs.Prelude.{codes, Ok, Err}
 use Rattle.std.proofs.lemmas.Bool.Decides.{nat_tests}
 use Rattle.std.specs.Option.{option_map}
-use Rattle.au_term.specs.Term.{Term, VarTerm, IntTerm, AtomTerm, Compound, Terms, end, more, count, var_bound, argument, arguments, argument_count, drop_terms}
+use Rattle.au_term.specs.Term.{Term, VarTerm, IntTerm, AtomTerm, Compound, end, more, count, var_bound, argument, arguments, argument_count, drop_terms}
 use Rattle.au_term.specs.Prefix.{top_of}
 use Rattle.au_model.specs.Each.{Each}
 use Rattle.au_model.specs.Substitutions.{apply, apply_all, value_of, resolve}
@@ -11,7 +11,7 @@ use Rattle.au_model.specs.Forms.{same_name, binary, is_callable}
 use Rattle.au_model.specs.Bodies.{is_junction, junction, body_of, goals_of, call_of, called_goals}
 use Rattle.au_model.specs.ErrorTerms.{error_term, type_error, representation_error}
 use Rattle.au_model.specs.Control.{called, call_outcome, raised, with_arguments}
-use Rattle.au_model.specs.Outcomes.{Outcome, Replies, Ball, Controls, GoesOnWith}
+use Rattle.au_model.specs.Outcomes.{Controls, GoesOnWith}
 use Rattle.au_model.proofs.Tables.{IfFound, each-append}
 use Rattle.au_model.proofs.Rules.{count-apply_all}
 use Rattle.clause_compile.specs.Cells.{opens_junction, opens_plain_goal}

@@ -1,23 +1,22 @@
 -- What goals come to, by name and number of arguments.
-use Rattle.std.proofs.Common.{◌≡◌, ◌⊎◌, ℕ, zero, suc, ◌+◌, ◌≤◌, ◌<◌, ◌==◌, ◌&&◌, Bool, true, false, cond, List, [], ◌∷◌, ◌++◌, Option, Some, None, inl, inr, refl, sym, ap, ◌∙◌, subst, arith}
+use Rattle.std.proofs.Common.{◌≡◌, ◌⊎◌, ℕ, zero, suc, ◌≤◌, ◌<◌, ◌&&◌, true, false, cond, List, [], ◌∷◌, Some, inl, inr, refl, sym, ap, ◌∙◌, subst, arith}
 use Rattle.std.specs.Prelude.{codes, Vec}
 use Rattle.std.specs.Global.{Global}
-use Rattle.au_term.specs.Term.{Term, VarTerm, IntTerm, AtomTerm, Compound, Terms, end, more, count, arguments, argument, argument_count, term_at, drop_terms}
+use Rattle.au_term.specs.Term.{Term, VarTerm, IntTerm, AtomTerm, Compound, end, more, count, arguments, argument, argument_count, drop_terms}
 use Rattle.au_term.specs.Prefix.{top_of}
 use Rattle.au_model.specs.Substitutions.{apply, value_of, resolve}
 use Rattle.au_model.specs.Forms.{same_name, is_callable, name_of, binary}
-use Rattle.au_model.specs.Bodies.{goals_of, call_of}
+use Rattle.au_model.specs.Bodies.{goals_of}
 use Rattle.au_model.specs.Clauses.{Clause as ClauseTerms, is_defined}
 use Rattle.au_model.proofs.NoControl.{static_call, other_call}
 use Rattle.au_model.specs.ErrorTerms.{error_term, instantiation_error}
-use Rattle.au_model.specs.Control.{construct_of, control_constructs, call_row, call_outcome, throw_outcome, either_form, fail_goals, true_goals}
+use Rattle.au_model.specs.Control.{construct_of, control_constructs, call_row, call_outcome, throw_outcome, either_form}
 use Rattle.au_model.specs.Builtins.{builtins}
-use Rattle.au_model.specs.Outcomes.{Outcome, Replies, Solutions, Ball, Controls, EitherOf, TestOf, alternatives_of}
+use Rattle.au_model.specs.Outcomes.{Outcome, Replies, Ball, EitherOf, TestOf, alternatives_of}
 use Rattle.au_model.specs.Goals.{outcome_of, named_outcome, by_construct, by_builtin, has_row}
 use Rattle.clause_compile.specs.declared.item.Scope.{Scope}
 use Rattle.clause_compile.specs.declared.item.Item.{Item}
 use Rattle.clause_compile.specs.declared.event.Branch.{Branch}
-use Rattle.clause_compile.specs.declared.event.Opening.{Opening}
 use Rattle.clause_compile.specs.declared.event.Effect.TheVariants.{Call}
 use Rattle.bind_store.specs.Stored.{Stored, IsUnbound, IsReachedTerm, substitution}
 use Rattle.bind_store.proofs.Apart.{free-composed}
@@ -25,7 +24,7 @@ use Rattle.engine_core.specs.Arguments.{resolved_argument}
 use Rattle.engine_core.specs.Branches.{AreSolved, none_left, GoesOn}
 use Rattle.engine_core.specs.Calling.{IsUncallable, is_variable_cell}
 use Rattle.engine_core.specs.Reducing.{ComesTo, Raises}
-use Rattle.engine_core.specs.Reductions.{AreTwo, IsCondition, IsOutcome}
+use Rattle.engine_core.specs.Reductions.{AreTwo, IsOutcome}
 use Rattle.engine_core.specs.TakingApart.{opens_condition}
 use Rattle.engine_core.specs.declared.reduction.Reduction.{Reduction}
 use Rattle.engine_core.specs.declared.reduction.Reduction.TheVariants.{Alternatives, Raise, Prune, Open, Collect, Gate}

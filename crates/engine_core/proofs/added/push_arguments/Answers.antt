@@ -1,4 +1,4 @@
-use Rattle.std.proofs.Common.{◌+◌, arith}
+use Rattle.std.proofs.Common.{arith}
 use Rattle.std.proofs.Common.{◌++◌, drop}
 use Rattle.au_term.specs.Term.{arguments}
 use Rattle.engine_core.specs.Arguments.{listed}

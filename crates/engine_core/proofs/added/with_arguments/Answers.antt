@@ -1,6 +1,5 @@
 use Rattle.std.proofs.Common.{◌≡◌, ◌+◌, ◌++◌, [], List, suc, length, drop, ◌∙◌, ap, arith}
 use Rattle.au_term.specs.Term.{Term, Compound, arguments, argument_count}
-use Rattle.au_model.specs.Forms.{name_of}
 use Rattle.au_model.specs.Lists.{terms_from}
 use Rattle.engine_core.specs.Arguments.{listed}
 use Rattle.engine_core.proofs.Calls.{added_listed, none_added, all_length}

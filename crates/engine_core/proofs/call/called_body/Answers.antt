@@ -1,4 +1,4 @@
-use Rattle.std.proofs.Common.{◌≡◌, ◌∙◌}
+use Rattle.std.proofs.Common.{◌∙◌}
 use Rattle.std.proofs.lemmas.Result.{IfOk-weaker}
 use Rattle.au_model.specs.Bodies.{called_goals}
 use Rattle.au_model.specs.Control.{called}
@@ -6,7 +6,7 @@ use Rattle.au_model.specs.Substitutions.{resolve}
 use Rattle.bind_store.specs.Stored.{substitution}
 use Rattle.engine_core.specs.Onward.{IsAlone}
 use Rattle.engine_core.specs.Reductions.{IsOutcome}
-use Rattle.engine_core.proofs.Coming.{called_below, called_alone, called_none}
+use Rattle.engine_core.proofs.Coming.{called_below, called_alone}
 use Rattle.engine_core.proofs.call.called_body.Goals as goal
 
 pub onward-requires : goal.onward-requires

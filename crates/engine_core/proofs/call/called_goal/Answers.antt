@@ -1,6 +1,4 @@
-use Rattle.std.proofs.Common.{◌≡◌, ◌∙◌, ◌∷◌, [], ap, sym, subst}
-use Rattle.au_model.specs.Substitutions.{resolve}
-use Rattle.bind_store.specs.Stored.{substitution}
+use Rattle.std.proofs.Common.{◌∙◌, ap, sym}
 use Rattle.clause_compile.specs.Cells.{opens_junction}
 use Rattle.engine_core.proofs.Coming.{plain_alone}
 use Rattle.engine_core.proofs.call.called_goal.Goals as goal

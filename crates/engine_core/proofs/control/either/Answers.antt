@@ -1,5 +1,4 @@
-use Rattle.std.proofs.Common.{◌≡◌, ◌≤◌, ◌<◌, ◌++◌, ◌∷◌, [], List, ◌∙◌, ap, sym, subst, arith}
-use Rattle.au_term.specs.Term.{argument, argument_count, var_bound}
+use Rattle.std.proofs.Common.{◌≡◌, ◌++◌, ◌∷◌, [], List, ◌∙◌, ap, sym, subst, arith}
 use Rattle.au_model.specs.Bodies.{goals_of}
 use Rattle.au_model.specs.Outcomes.{Controls}
 use Rattle.au_model.specs.Substitutions.{resolve}

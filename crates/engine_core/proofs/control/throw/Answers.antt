@@ -1,4 +1,4 @@
-use Rattle.std.proofs.Common.{◌≡◌, ◌∙◌, ap, sym}
+use Rattle.std.proofs.Common.{◌∙◌, ap, sym}
 use Rattle.au_model.specs.Substitutions.{resolve}
 use Rattle.bind_store.specs.Stored.{substitution}
 use Rattle.engine_core.specs.Calling.{is_variable_cell}

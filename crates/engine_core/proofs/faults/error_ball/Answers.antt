@@ -1,4 +1,4 @@
-use Rattle.std.proofs.Common.{◌≡◌, ◌∙◌, ap}
+use Rattle.std.proofs.Common.{◌∙◌, ap}
 use Rattle.std.proofs.lemmas.Str.{chars-IsAscii}
 use Rattle.au_model.specs.ErrorTerms.{error_term}
 use Rattle.au_model.specs.Faults.{error_term_of}
