@@ -16,6 +16,8 @@ mod onward;
 mod opening;
 mod procedure;
 pub mod reduction;
+#[cfg(test)]
+mod tests;
 
 pub use conjunction::goals_before;
 pub use items::reduce;
