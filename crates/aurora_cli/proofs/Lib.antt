@@ -1,12 +1,3 @@
-pub mod Parsed
-pub mod Fronts
-pub mod Sentences
-pub mod Seeing
-pub mod Integers
-pub mod Pieced
-pub mod Standing
-pub mod Numbers
-pub mod Programs
 pub mod Budgets
-pub mod Loaded
 pub mod Obeying
+pub mod Refusing

@@ -4,24 +4,13 @@ use Rattle.au_model.specs.declared.ending.Ending.{Ending}
 use Rattle.au_model.specs.declared.ending.Ending.TheVariants.{Finished, Halted, Budget, Refused, TooLong, Usage, ReadFault, WriteFault, NoMemory}
 use Rattle.au_model.specs.declared.ending.RunEnding.{RunEnding}
 use Rattle.au_model.specs.declared.ending.RunEnding.TheVariants.{Finished as RanOut, Halted as RanToHalt, Budget as RanToBudget, WriteFault as RanToFault, NoMemory as RanFull}
-use Rattle.au_model.specs.declared.fault_kind.FaultKind.TheVariants.{Unbuilt}
-use Rattle.au_model.specs.Jobs.{Job}
+use Rattle.au_model.specs.declared.fault_kind.FaultKind.{FaultKind}
+use Rattle.au_model.specs.Jobs.{Job as JobTerms}
 use Rattle.au_model.specs.Runs.{text_of, ending_of}
 use Rattle.au_io.specs.Causes.{Took, TookFront}
-use Rattle.stack_run.specs.declared.job.PlainJob.{PlainJob}
-use Rattle.stack_run.specs.PlainJobs.{IsPlainJob}
-use Rattle.stack_run.specs.Views.{job_view}
-use Rattle.aurora_cli.specs.declared.refusal.Refusal.{Refusal}
-use Rattle.aurora_cli.specs.declared.refusal.Refusal.TheVariants.{Unbuilt as NotOfTheForm, NoMemory as Full}
-use Rattle.aurora_cli.specs.Texts.{StandsFor}
-
--- the one refusal of a text
-abbrev pub refusal : Ending
-refusal = Refused 1 1 Unbuilt
-
-abbrev pub refused_as : Refusal → Ending
-refused_as NotOfTheForm = refusal
-refused_as Full = NoMemory
+use Rattle.text_load.specs.declared.job.Job.{Job}
+use Rattle.text_load.specs.Meant.{job_meant}
+use Rattle.aurora_cli.specs.Texts.{StandsFor, IsRefusedText}
 
 -- the ending of a run is the program's
 abbrev pub ending_after : RunEnding → Ending
@@ -35,31 +24,30 @@ ending_after RanFull = NoMemory
 abbrev pub IsRead : Option (List ℕ) → List ℕ → Type 0
 IsRead held text = IfSome held (λ told. text ≡ told)
 
--- a text was read, and stands for a job that the machine takes
-pub record IsLoaded (held : Option (List ℕ)) (job : PlainJob) : Type 0 where
+-- a text was read, and stands for a job
+pub record IsLoaded (held : Option (List ℕ)) (job : Job) : Type 0 where
   pub text : List ℕ
   pub read : IsRead held text
-  pub plain : IsPlainJob job
-  pub stands : StandsFor text (job_view job)
+  pub stands : StandsFor text (job_meant job)
 
--- a text was read, and stands for no job
-pub record IsNotOfTheForm (held : Option (List ℕ)) : Type 0 where
+-- a text was read, and is refused so
+pub record IsRefusedRead (held : Option (List ℕ)) (line column : ℕ) (kind : FaultKind) : Type 0 where
   pub text : List ℕ
   pub read : IsRead held text
-  pub none : (job : Job) → StandsFor text job → ⊥
+  pub refused : IsRefusedText text line column kind
 
 -- the ending is that of the run of the text's job within the budget, and the bytes are that run's
 pub record IsRunOf (held : Option (List ℕ)) (budget : ℕ) (before after : Option (List ℕ)) (e : Ending) : Type 0 where
-  pub job : PlainJob
+  pub job : Job
   pub loaded : IsLoaded held job
-  pub ends : e ≡ ending_after (ending_of (job_view job) budget)
-  pub bytes : Took before after (text_of (job_view job) budget)
+  pub ends : e ≡ ending_after (ending_of (job_meant job) budget)
+  pub bytes : Took before after (text_of (job_meant job) budget)
 
 -- the bytes are a front of those of that run
 pub record IsFrontOf (held : Option (List ℕ)) (budget : ℕ) (before after : Option (List ℕ)) : Type 0 where
-  pub job : PlainJob
+  pub job : Job
   pub loaded : IsLoaded held job
-  pub bytes : TookFront before after (text_of (job_view job) budget)
+  pub bytes : TookFront before after (text_of (job_meant job) budget)
 
 -- what each ending says of the text that was asked for, the budget, and the bytes that the sink took
 abbrev pub EndsBy : Ending → Option (List ℕ) → ℕ → Option (List ℕ) → Option (List ℕ) → Type 0
@@ -68,14 +56,14 @@ EndsBy (Halted k) held budget before after = IsRunOf held budget before after (H
 EndsBy Budget held budget before after = IsRunOf held budget before after Budget
 EndsBy WriteFault held budget before after = IsFrontOf held budget before after
 EndsBy NoMemory held budget before after = (before ≡ after) ⊎ IsFrontOf held budget before after
-EndsBy (Refused line column kind) held budget before after = (Refused line column kind ≡ refusal) × IsNotOfTheForm held × (before ≡ after)
+EndsBy (Refused line column kind) held budget before after = IsRefusedRead held line column kind × (before ≡ after)
 EndsBy TooLong held budget before after = before ≡ after
 EndsBy (Usage kind) held budget before after = before ≡ after
 EndsBy ReadFault held budget before after = before ≡ after
 
--- a text of the form that is not too long is run, unless memory is wanting
+-- a text that stands for a job and is not too long is run, unless memory is wanting
 abbrev pub IsComplete : Ending → ℕ → List ℕ → Type 0
-IsComplete e budget text = (job : Job) → length text ≤ 16777216 → StandsFor text job → (e ≡ ending_after (ending_of job budget)) ⊎ (e ≡ NoMemory)
+IsComplete e budget text = (job : JobTerms) → length text ≤ 16777216 → StandsFor text job → (e ≡ ending_after (ending_of job budget)) ⊎ (e ≡ NoMemory)
 
 -- the endings that come of a text that was read whole
 abbrev pub ComesOfText : Ending → Type 0

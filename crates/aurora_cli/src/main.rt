@@ -1,21 +1,12 @@
 //! The program `aurora FILE BUDGET`.
 #![tactic(auto)]
 
-mod characters;
-mod kept;
-pub mod laws;
-mod pieces;
-mod read;
-mod refusal;
+mod job;
 #[cfg(test)]
 mod round_trip;
-mod scan;
-mod sentence;
-mod terms;
 #[cfg(test)]
 mod tests;
 pub mod top;
-mod variables;
 mod words;
 
 use crate::top::aurora;

@@ -6,20 +6,21 @@ ghost use Rattle.aurora_cli.specs.Words.{asked_by};
 ghost use Rattle.aurora_cli.specs.Endings.{ComesOfText, EndsBy, IsComplete, IsLoaded, ending_after};
 ghost use Rattle.aurora_cli.specs.Loading.{IsLoadFault, IsReadWhole};
 
-use crate::read::job_of;
+use crate::job::job_of;
 use crate::words::{Command, command_of};
 use au_io::{Gate, ReadRefusal, Shelf, Sink};
 use au_model::{Ending, RunEnding, UsageKind};
-use stack_run::{PlainJob, run_job};
+use stack_run::run_job;
 use std::alloc::Global;
 use std::sync::Wait;
 use std::thread::Threads;
+use text_load::Job;
 
 /// How many bytes a text has at most.
 const LONGEST_TEXT: usize = 16_777_216;
 
 /// Runs the text FILE for at most BUDGET inferences, as the three words ask: the program's name, FILE and BUDGET. Its
-/// lines go to `out`; nothing is written before the text is read whole and found to be of the form.
+/// lines go to `out`; nothing is written before the text is read whole and loaded.
 pub fn aurora<R: Threads + Wait + Sync, S: Shelf, K: Sink, G: Gate>(
     _rt: &R,
     alloc: Global,
@@ -81,7 +82,7 @@ fn after(end: RunEnding) -> Ending
 }
 
 /// The job for which a text stands.
-fn load<S: Shelf>(alloc: Global, file: &str, shelf: &mut S) -> Result<PlainJob, Ending>
+fn load<S: Shelf>(alloc: Global, file: &str, shelf: &mut S) -> Result<Job, Ending>
     ensures job { IfOk result (IsLoaded (S.held shelf.old file.now)) }
     ensures cause { IfErr result (IsLoadFault (S.held shelf.old file.now)) }
     ensures read_fault { IsErrOf result Ending.ReadFault → Rose (S.faults shelf.old) (S.faults shelf.new) }
@@ -90,7 +91,7 @@ fn load<S: Shelf>(alloc: Global, file: &str, shelf: &mut S) -> Result<PlainJob, 
     ensures short { IsReadWhole result → IfSome (S.held shelf.old file.now) (λ told. length told ≤ 16777216) }
 {
     match shelf.read_all(alloc, file, LONGEST_TEXT) {
-        Ok(text) => Ok(job_of(alloc, &text)?),
+        Ok(bytes) => job_of(alloc, &bytes),
         Err(ReadRefusal::ReadFault) => Err(Ending::ReadFault),
         Err(ReadRefusal::TooLong) => Err(Ending::TooLong),
         Err(ReadRefusal::NoMemory) => Err(Ending::NoMemory),

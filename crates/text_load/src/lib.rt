@@ -8,6 +8,8 @@ pub mod query;
 pub mod reading;
 mod reserved;
 mod sentence;
+#[cfg(test)]
+mod tests;
 
 pub use job::Job;
 pub use query::Query;

@@ -1,9 +1,10 @@
-use Rattle.std.proofs.Common.{sym, subst}
-use Rattle.aurora_cli.specs.Endings.{IsRead}
-use Rattle.aurora_cli.proofs.Obeying.{load_fault}
+use Rattle.aurora_cli.proofs.Obeying.{load_fault, loaded_job}
 use Rattle.aurora_cli.proofs.top.load.Goals as goal
 
-pub returns-in_err-job_of-in-Ok-clause-cause : goal.returns-in_err-job_of-in-Ok-clause-cause
-returns-in_err-job_of-in-Ok-clause-cause g c =
-    let held = g.S.Shelf.held c.args.shelf.now c.args.file.now in
-    load_fault c.from_residual.result c.in_err-job_of-in-Ok.field-0.0 held c.deref.result.now c.from_residual.ensures.1 (subst (IsRead held) (sym c.deref.ensures.value) c.in-Ok.ensures.whole) c.in_err-job_of-in-Ok.ensures.err
+pub returns-in-Ok-clause-job : goal.returns-in-Ok-clause-job
+returns-in-Ok-clause-job g c =
+    loaded_job c.job_of.result (g.S.Shelf.held c.args.shelf.now c.args.file.now) c.deref.result.now c.in-Ok.bytes.items c.deref.ensures.value c.in-Ok.ensures.whole c.job_of.ensures.ok
+
+pub returns-in-Ok-clause-cause : goal.returns-in-Ok-clause-cause
+returns-in-Ok-clause-cause g c =
+    load_fault c.job_of.result (g.S.Shelf.held c.args.shelf.now c.args.file.now) c.deref.result.now c.in-Ok.bytes.items c.deref.ensures.value c.in-Ok.ensures.whole c.job_of.ensures.err

@@ -1,0 +1,12 @@
+use Rattle.std.proofs.Common.{◌≡◌, sym, subst}
+use Rattle.aurora_cli.specs.Loading.{IsTextFault}
+use Rattle.text_load.specs.Meant.{job_meant}
+use Rattle.aurora_cli.proofs.Refusing.{stands_for, refused_text}
+use Rattle.aurora_cli.proofs.job.job_of.Goals as goal
+
+pub returns-in-Ok-load-clause-ok : goal.returns-in-Ok-load-clause-ok
+returns-in-Ok-load-clause-ok c = stands_for c.args.bytes.now c.in-Ok.text.now (job_meant c.in-Ok-load.job) c.in-Ok.ensures.cases.0 c.in-Ok.ensures.cases.1 c.in-Ok-load.ensures.ok
+
+pub returns-in-Err-load-clause-err : goal.returns-in-Err-load-clause-err
+returns-in-Err-load-clause-err c =
+    subst (IsTextFault c.args.bytes.now) (sym c.ending_of.ensures) (refused_text c.args.bytes.now c.in-Ok.text.now c.in-Err-load.refusal c.in-Ok.ensures.cases.0 c.in-Ok.ensures.cases.1 c.in-Err-load.ensures.refused)
