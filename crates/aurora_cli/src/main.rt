@@ -2,6 +2,7 @@
 #![tactic(auto)]
 
 mod job;
+pub mod note;
 #[cfg(test)]
 mod round_trip;
 #[cfg(test)]
@@ -9,15 +10,16 @@ mod tests;
 pub mod top;
 mod words;
 
+use crate::note::note_line;
 use crate::top::aurora;
 use au_io::{FileShelf, NoGate, StdoutSink};
 use au_model::{Ending, UsageKind, code};
 use std::env;
-use std::io::ErrorKind;
+use std::io::{ErrorKind, Write};
 use std::process::ExitCode;
 use std::rt::Env;
 
-/// Ends with the status of the program's ending.
+/// Prints the note of the program's ending on the standard error, and ends with its status.
 fn main(rt: HostRuntime) -> ExitCode {
     let ending = match command_line(&rt) {
         Ok(words) => {
@@ -27,7 +29,15 @@ fn main(rt: HostRuntime) -> ExitCode {
         }
         Err(ending) => ending,
     };
+    tell(rt.stderr(), &ending);
     ExitCode::from(code(&ending))
+}
+
+/// Prints the note of an ending. That it cannot be printed changes nothing.
+fn tell<W: Write + Drop>(mut out: W, ending: &Ending) {
+    let mut line = [0; 160];
+    let length = note_line(ending, &mut line);
+    let _ = out.write_all(&line[..length]);
 }
 
 /// The words of the command line, the program's name first.

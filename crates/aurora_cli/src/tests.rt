@@ -1,4 +1,5 @@
-//! Texts run from words to bytes.
+//! Texts run from words to bytes, by rows.
+use crate::note::note_line;
 use crate::top::aurora;
 use au_io::{MemoryShelf, MemorySink, NoGate};
 use au_model::{Ending, FaultKind, UsageKind};
@@ -6,13 +7,6 @@ use std::alloc::Global;
 use std::sync::Wait;
 use std::test::Fail;
 use std::thread::Threads;
-
-/// A text that is not of the form.
-const REFUSED: Ending = Ending::Refused {
-    line: 1,
-    column: 1,
-    kind: FaultKind::Unbuilt,
-};
 
 /// A shelf with the one file `f.pl`.
 fn shelf_of(alloc: Global, text: &str) -> Result<MemoryShelf, Fail> {
@@ -57,216 +51,320 @@ fn ends<R: Threads + Wait + Sync>(
     Ok(ended == ending && out.taken() == lines.as_bytes())
 }
 
-const TWO: &str = "p(1). p(2). ?- p(X).";
+/// A text, the budget, the ending, and the lines.
+type Row = (&'static str, &'static str, Ending, &'static str);
+
+const FINISHED: Ending = Ending::Finished;
+
+static CONTROL: [Row; 44] = [
+    ("", "9", FINISHED, ""),
+    ("p(1). p(2). ?- p(X).", "4", FINISHED, "X = 1\nX = 2\nno\n"),
+    (
+        "p(1). p(2). ?- p(X).",
+        "3",
+        Ending::Budget,
+        "X = 1\nX = 2\n",
+    ),
+    ("p(1). ?- p(1).", "9", FINISHED, "true\nno\n"),
+    (
+        "p(1). p(2). q(X) :- p(X), !. ?- q(X).",
+        "99",
+        FINISHED,
+        "X = 1\nno\n",
+    ),
+    (
+        "r(a). r(X) :- loop, X = b. loop :- loop. ?- once(r(X)).",
+        "1000",
+        FINISHED,
+        "X = a\nno\n",
+    ),
+    ("n :- n. ?- n.", "10", Ending::Budget, ""),
+    (
+        "p(1). p(2). ?- findall(X, p(X), L).",
+        "99",
+        FINISHED,
+        "X = _0, L = [1,2]\nno\n",
+    ),
+    (
+        "?- foo.",
+        "9",
+        FINISHED,
+        "error: error(existence_error(procedure,foo/0),foo/0)\n",
+    ),
+    ("?- catch(true, _, true).", "5", FINISHED, "true\nno\n"),
+    ("?- catch(true, _, true).", "4", Ending::Budget, "true\n"),
+    ("?- X = f(X).", "9", FINISHED, "no\n"),
+    ("?- throw(f(Z)).", "9", FINISHED, "error: f(_0)\n"),
+    (
+        "?- catch(throw(f(Z)), f(A), true).",
+        "99",
+        FINISHED,
+        "Z = _0, A = _1\nno\n",
+    ),
+    (
+        "?- catch(true, _, true), throw(b).",
+        "99",
+        FINISHED,
+        "error: b\n",
+    ),
+    ("?- X = \"ab\".", "9", FINISHED, "X = [97,98]\nno\n"),
+    (
+        "?- call((fail, 1)).",
+        "9",
+        FINISHED,
+        "error: error(type_error(callable,(fail,1)),call/1)\n",
+    ),
+    (
+        "?- X = 1, (X ; true).",
+        "99",
+        FINISHED,
+        "error: error(type_error(callable,1),call/1)\n",
+    ),
+    (
+        "?- findall(Y, catch((Y = 1 ; findall(X, (X = 2 ; throw(e)), _)), _, Y = 3), L).",
+        "999",
+        FINISHED,
+        "Y = _0, X = _1, L = [1,3]\nno\n",
+    ),
+    (
+        "?- catch(findall(X, throw(e), _), e, true).",
+        "99",
+        FINISHED,
+        "X = _0\nno\n",
+    ),
+    ("?- X = (a :- b).", "9", FINISHED, "X = (a :- b)\nno\n"),
+    ("?- X = (-).", "9", FINISHED, "X = (-)\nno\n"),
+    ("?- X = - 1.", "9", FINISHED, "X = - 1\nno\n"),
+    ("?- X = 'A b'.", "9", FINISHED, "X = 'A b'\nno\n"),
+    (
+        "?- X = -9223372036854775808.",
+        "9",
+        FINISHED,
+        "X = -9223372036854775808\nno\n",
+    ),
+    (
+        "a(1). ?- a(X). ?- a(Y), Z = f(Y, W).",
+        "99",
+        FINISHED,
+        "X = 1\nno\nY = 1, Z = f(1,_2), W = _2\nno\n",
+    ),
+    ("?- (true -> X = 1 ; X = 2).", "99", FINISHED, "X = 1\nno\n"),
+    ("?- (fail -> X = 1 ; X = 2).", "99", FINISHED, "X = 2\nno\n"),
+    ("?- (fail -> true).", "99", FINISHED, "no\n"),
+    (
+        "?- (X = 1 ; X = 2), \\+ X = 1.",
+        "99",
+        FINISHED,
+        "X = 2\nno\n",
+    ),
+    ("?- \\+ fail.", "5", Ending::Budget, "true\n"),
+    ("?- \\+ fail.", "6", FINISHED, "true\nno\n"),
+    (
+        "p(1). p(2). p(3). ?- (p(X), ! ; X = 4).",
+        "99",
+        FINISHED,
+        "X = 1\nno\n",
+    ),
+    (
+        "p(1). p(2). ?- call((p(X), !)), p(Y).",
+        "99",
+        FINISHED,
+        "X = 1, Y = 1\nX = 1, Y = 2\nno\n",
+    ),
+    (
+        "?- call(f, 1).",
+        "9",
+        FINISHED,
+        "error: error(existence_error(procedure,f/1),f/1)\n",
+    ),
+    (
+        "?- call(','(X, Y), fail).",
+        "9",
+        FINISHED,
+        "error: error(existence_error(procedure,(',')/3),(',')/3)\n",
+    ),
+    (
+        "add(X, Y, f(X, Y)). ?- call(add(1), 2, Z).",
+        "99",
+        FINISHED,
+        "Z = f(1,2)\nno\n",
+    ),
+    (
+        "?- G = (X = 1 ; X = 2), G.",
+        "99",
+        FINISHED,
+        "G = (1 = 1 ; 1 = 2), X = 1\nG = (2 = 1 ; 2 = 2), X = 2\nno\n",
+    ),
+    (
+        "?- catch((X = 1 ; throw(a)), a, X = 2).",
+        "99",
+        FINISHED,
+        "X = 1\nX = 2\nno\n",
+    ),
+    (
+        "?- catch(catch(throw(a), b, true), a, X = 1).",
+        "99",
+        FINISHED,
+        "X = 1\nno\n",
+    ),
+    ("?- catch(throw(_), _, true).", "99", FINISHED, "true\nno\n"),
+    (
+        "?- X.",
+        "9",
+        FINISHED,
+        "error: error(instantiation_error,call/1)\n",
+    ),
+    (
+        "p :- catch(q, X, (X = e ; true)). q :- throw(e). q. ?- p. % two answers\n",
+        "99",
+        FINISHED,
+        "true\ntrue\nno\n",
+    ),
+    (
+        "e(X, X). ?- e(f(Y), f(g(Z))), findall(A-B, e(A, B), [P|Q]).",
+        "99",
+        FINISHED,
+        "Y = g(_1), Z = _1, A = _2, B = _3, P = _7-_7, Q = []\nno\n",
+    ),
+];
+
+/// A text, and the line, the column and the kind of its fault, and what its note says of the kind.
+type Bad = (&'static str, u32, u32, FaultKind, &'static str);
+
+static FAULTS: [Bad; 24] = [
+    ("p(1", 1, 4, FaultKind::UnexpectedEnd, "unexpected end"),
+    (
+        "p(1).q(",
+        1,
+        5,
+        FaultKind::UnexpectedToken,
+        "unexpected token",
+    ),
+    ("p('ab", 1, 3, FaultKind::UnclosedQuote, "quote not closed"),
+    (
+        "/* x",
+        1,
+        1,
+        FaultKind::UnclosedComment,
+        "comment not closed",
+    ),
+    ("p('\\q').", 1, 4, FaultKind::BadEscape, "bad escape"),
+    (
+        "p(1.5).",
+        1,
+        3,
+        FaultKind::FloatNumeral,
+        "floating-point numeral",
+    ),
+    (
+        "p(]).",
+        1,
+        3,
+        FaultKind::UnexpectedToken,
+        "unexpected token",
+    ),
+    ("p:-q", 1, 5, FaultKind::UnexpectedEnd, "unexpected end"),
+    (
+        "p(`",
+        1,
+        3,
+        FaultKind::BadCharacter,
+        "character not allowed",
+    ),
+    (
+        "p(1).\np(\n",
+        3,
+        1,
+        FaultKind::UnexpectedEnd,
+        "unexpected end",
+    ),
+    (
+        "p(9223372036854775808).",
+        1,
+        3,
+        FaultKind::WideNumeral,
+        "numeral too wide",
+    ),
+    (":- foo.", 1, 1, FaultKind::BadDirective, "not a directive"),
+    ("?- 1.", 1, 1, FaultKind::BadClause, "not a clause"),
+    ("p(1). p(", 1, 9, FaultKind::UnexpectedEnd, "unexpected end"),
+    ("p :- 1.", 1, 1, FaultKind::BadClause, "not a clause"),
+    (
+        "p.\n % c\n  X :- p.",
+        3,
+        3,
+        FaultKind::BadClause,
+        "not a clause",
+    ),
+    ("(a,b).", 1, 1, FaultKind::BadClause, "not a clause"),
+    ("call(_).", 1, 1, FaultKind::BadClause, "not a clause"),
+    ("a = b.", 1, 1, FaultKind::BadClause, "not a clause"),
+    ("?- a. 7.", 1, 7, FaultKind::BadClause, "not a clause"),
+    (
+        ":- dynamic c/1.",
+        1,
+        12,
+        FaultKind::UnexpectedToken,
+        "unexpected token",
+    ),
+    (
+        "f(- --> a).",
+        1,
+        9,
+        FaultKind::UnexpectedToken,
+        "unexpected token",
+    ),
+    (
+        "p. q :- (a ; 1). p(",
+        1,
+        4,
+        FaultKind::BadClause,
+        "not a clause",
+    ),
+    (
+        "é(é é).",
+        1,
+        5,
+        FaultKind::UnexpectedToken,
+        "unexpected token",
+    ),
+];
 
 #[test]
-fn budgets(rt: HostRuntime) -> Result<(), Fail> {
-    for (text, budget, ending, lines) in [
-        (TWO, "1000", Ending::Finished, "X = 1\nX = 2\nno\n"),
-        (TWO, "4", Ending::Finished, "X = 1\nX = 2\nno\n"),
-        (TWO, "3", Ending::Budget, "X = 1\nX = 2\n"),
-        (TWO, "2", Ending::Budget, "X = 1\n"),
-        (TWO, "1", Ending::Budget, ""),
-        ("n :- n. ?- n.", "10", Ending::Budget, ""),
-    ] {
+fn control(rt: HostRuntime) -> Result<(), Fail> {
+    for (text, budget, ending, lines) in CONTROL {
         assert!(rt;
-            ends(&rt, rt.alloc(), text, budget, 99, ending, lines)?,
+            ends(&rt, rt.alloc(), text, budget, 999, ending, lines)?,
             "{text} {budget}"
         );
     }
     Ok(())
 }
 
+/// Whether a text is refused so, with nothing written, and with this note.
+fn is_refused<R: Threads + Wait + Sync>(rt: &R, alloc: Global, bad: &Bad) -> Result<bool, Fail> {
+    let (text, line, column, kind, words) = *bad;
+    let ending = Ending::Refused { line, column, kind };
+    let note = format!(in alloc; "aurora: line {line}, column {column}: {words}\n")?;
+    Ok(ends(rt, alloc, text, "9", 99, ending, "")? && is_note(&ending, note.as_str()))
+}
+
+/// Whether this is the note for an ending.
+fn is_note(ending: &Ending, note: &str) -> bool {
+    let mut line = [0; 160];
+    let length = note_line(ending, &mut line);
+    line[..length] == *note.as_bytes()
+}
+
 #[test]
-fn answers(rt: HostRuntime) -> Result<(), Fail> {
-    for (text, lines) in [
-        ("p(1). ?- p(1).", "true\nno\n"),
-        ("same(X, X). q(a). r(b). ?- same(A, f(A)).", "no\n"),
-        ("p(X, f(X)). ?- p(A, A).", "no\n"),
-        ("eq(X, X). ?- eq(A, B).", "A = _0, B = _0\nno\n"),
-        ("p(_, _). ?- p(A, _), p(B, 1).", "A = _0, B = _2\nno\n"),
-        ("p(_). ?- p(_).", "true\nno\n"),
-        (
-            "add(z, N, N). add(s(M), N, s(K)) :- add(M, N, K). ?- add(A, B, s(z)).",
-            "A = z, B = s(z)\nA = s(z), B = z\nno\n",
-        ),
-        (
-            "p(1). p(2). q(2). q(3). r(3). r(2). ?- p(X), q(X), r(X).",
-            "X = 2\nno\n",
-        ),
-        ("p(007).\n?-\tp( X ) .", "X = 7\nno\n"),
-        (
-            "e(X, X). e(f(X), X). e(X, g(X)). ?- e(A, f(B)).",
-            "A = f(_1), B = _1\nA = f(f(_1)), B = _1\nno\n",
-        ),
-        ("p(X, Y, X). ?- p(A, B, 1).", "A = 1, B = _1\nno\n"),
-        (
-            "p(123456789012345678). ?- p(X).",
-            "X = 123456789012345678\nno\n",
-        ),
-        ("?- p(X).p(1).", ""),
-    ] {
-        let ending = if lines.is_empty() {
-            REFUSED
-        } else {
-            Ending::Finished
-        };
-        assert!(rt;
-            ends(&rt, rt.alloc(), text, "1000", 99, ending, lines)?,
-            "{text}"
-        );
+fn faults_of_texts(rt: HostRuntime) -> Result<(), Fail> {
+    for bad in &FAULTS {
+        assert!(rt; is_refused(&rt, rt.alloc(), bad)?, "{}", bad.0);
     }
     Ok(())
 }
 
-/// Texts that miss the form, most by one character.
-const MISSES: [&str; 65] = [
-    "",
-    "p.",
-    "X = a.",
-    "p. ?- p",
-    "p. ?- p.q",
-    "p. ?- p. p.",
-    "p. ?- p. ?- p.",
-    "p. ?- q.",
-    "p. ?- X.",
-    "p. ?- 1.",
-    "1. p. ?- p.",
-    "X. p. ?- p.",
-    "true. ?- true.",
-    "call(a). p. ?- p.",
-    "p(a). ?- p(X), var(X).",
-    "var(a). p. ?- p.",
-    "p :- nl. nl. ?- p.",
-    "p :- q. ?- p.",
-    "p :- . ?- p.",
-    "p, p. ?- p.",
-    "p() . ?- p.",
-    "p(a,). ?- p(a).",
-    "p(a. ?- p(a).",
-    "p(a)). ?- p(a).",
-    "p (a). ?- p (a).",
-    "p a. ?- p.",
-    "p. :- p. ?- p.",
-    "p. ?-- p.",
-    "p :-- p. ?- p.",
-    "p(1234567890123456789). ?- p(X).",
-    "p(-1). ?- p(X).",
-    "p(is). ?- p(X).",
-    "mod. ?- mod.",
-    "p('a'). ?- p(X).",
-    "p. % c\n?- p.",
-    "p(é). ?- p(X).",
-    "p.\r\n?- p.",
-    "P. p. ?- p.",
-    "p. ? - p.",
-    "p : - p. ?- p.",
-    ":- p. p. ?- p.",
-    "p :- q,. q. ?- p.",
-    "p :- ,q. q. ?- p.",
-    "p(,a). ?- p(a).",
-    "p(a b). ?- p(a).",
-    "p(a,b. ?- p(a,b).",
-    "p(a)(b). ?- p(a).",
-    "p. ?- p, .",
-    "p. ?- .",
-    "p :- p :- p. ?- p.",
-    "p. ?- ?- p.",
-    "p. p ?- p.",
-    "p(a).q. ?- q.",
-    "p. ?- p..",
-    "rem(a). ?- rem(a).",
-    "X(a). p. ?- p.",
-    "p(A) :- A. ?- p(1).",
-    "p :- 1. ?- p.",
-    "p. ?- p(a).",
-    "p(a). ?- p.",
-    "p. ?- p. p",
-    "p(+). ?- p(X).",
-    "p. ?- p!",
-    "halt. ?- halt.",
-    "sub_atom(a,b,c,d,e). p. ?- p.",
-];
-
-/// Whether all texts are refused, with nothing written.
-fn are_refused<R: Threads + Wait + Sync>(
-    rt: &R,
-    alloc: Global,
-    texts: &[&str],
-) -> Result<bool, Fail> {
-    for text in texts {
-        if !ends(rt, alloc, text, "9", 99, REFUSED, "")? {
-            return Ok(false);
-        }
-    }
-    Ok(true)
-}
-
-#[test]
-fn texts_that_miss_the_form(rt: HostRuntime) -> Result<(), Fail> {
-    assert!(rt; are_refused(&rt, rt.alloc(), &MISSES)?);
-    Ok(())
-}
-
-/// A fact with so many arguments, and a query.
-fn fact_of(alloc: Global, arguments: u32) -> Result<String, Fail> {
-    let mut text = String::from_str(alloc, "p(a")?;
-    for _ in 1..arguments {
-        text.push_str(", a")?;
-    }
-    text.push_str("). q. ?- q.")?;
-    Ok(text)
-}
-
-#[test]
-fn most_arguments(rt: HostRuntime) -> Result<(), Fail> {
-    let alloc = rt.alloc();
-    let most = fact_of(alloc, 255)?;
-    assert!(rt;
-        ends(
-            &rt,
-            alloc,
-            most.as_str(),
-            "9",
-            99,
-            Ending::Finished,
-            "true\nno\n"
-        )?
-    );
-    let more = fact_of(alloc, 256)?;
-    assert!(rt; ends(&rt, alloc, more.as_str(), "9", 99, REFUSED, "")?);
-    Ok(())
-}
-
-/// A run of 28 inferences: a goal of `p`, two of `q`, six of `r`, 18 answers and the end.
-const LONGER: &str = "p(1). p(2). q(1). q(2). q(3). r(1). r(2). r(3). ?- p(X), q(Y), r(Z).";
-
-#[test]
-fn budgets_one_by_one(rt: HostRuntime) -> Result<(), Fail> {
-    let alloc = rt.alloc();
-    let mut before = Vec::new(alloc);
-    for budget in 1u32..31 {
-        let budget_word = format!(in alloc; "{budget}")?;
-        let words = words_of(alloc, &["f.pl", budget_word.as_str()])?;
-        let mut shelf = shelf_of(alloc, LONGER)?;
-        let mut out = MemorySink::new(alloc, 999)?;
-        let ending = aurora(&rt, alloc, &words, &mut shelf, &mut out, &NoGate);
-        let whole = budget >= 28;
-        assert!(rt;
-            ending
-                == if whole {
-                    Ending::Finished
-                } else {
-                    Ending::Budget
-                },
-            "{budget}"
-        );
-        assert!(rt; out.taken().starts_with(&before), "{budget}");
-        before = Vec::from_slice(alloc, out.taken())?;
-    }
-    assert!(rt; before.ends_with(b"X = 2, Y = 3, Z = 3\nno\n"));
-    Ok(())
-}
+const TWO: &str = "p(1). p(2). ?- p(X).";
 
 #[test]
 fn words(rt: HostRuntime) -> Result<(), Fail> {
