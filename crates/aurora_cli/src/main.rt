@@ -4,6 +4,8 @@
 mod job;
 pub mod note;
 #[cfg(test)]
+mod programs;
+#[cfg(test)]
 mod round_trip;
 #[cfg(test)]
 mod tests;

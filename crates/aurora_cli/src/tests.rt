@@ -35,7 +35,7 @@ fn words_of(alloc: Global, more: &[&str]) -> Result<Vec<String>, Fail> {
 }
 
 /// Whether a text, run for so many inferences into so much room, ends so and writes these bytes.
-fn ends<R: Threads + Wait + Sync>(
+pub(crate) fn ends<R: Threads + Wait + Sync>(
     rt: &R,
     alloc: Global,
     text: &str,
