@@ -353,7 +353,7 @@ fn is_refused<R: Threads + Wait + Sync>(rt: &R, alloc: Global, bad: &Bad) -> Res
 fn is_note(ending: &Ending, note: &str) -> bool {
     let mut line = [0; 160];
     let length = note_line(ending, &mut line);
-    line[..length] == *note.as_bytes()
+    &line[..length] == note.as_bytes()
 }
 
 #[test]
