@@ -1,0 +1,11 @@
+pub mod Rows
+pub mod Standing
+pub mod Dividing
+pub mod Going
+pub mod Raising
+pub mod Clashing
+pub mod Solving
+pub mod Listing
+pub mod Calls
+pub mod Coming
+pub mod Naming

@@ -1,0 +1,58 @@
+-- Rows found by name and number of arguments.
+use Rattle.std.proofs.Common.{◌≡◌, ℕ, Bool, true, false, ◌||◌, ◌&&◌, ◌==◌, cond, List, [], ◌∷◌, ◌++◌, is_some, Option, Some, refl, sym, ap, ◌∙◌, subst}
+use Rattle.std.specs.Prelude.{find, MatchOption}
+use Rattle.std.specs.List.{list_any}
+use Rattle.std.specs.Cmp.Lexicographic.{same_text}
+use Rattle.std.proofs.lemmas.Bool.{eqb-true}
+use Rattle.std.proofs.lemmas.List.Folds.{list_any-append}
+use Rattle.au_model.specs.Each.{Each}
+use Rattle.au_model.specs.Forms.{same_name}
+use Rattle.au_model.specs.Builtins.{builtins}
+use Rattle.au_model.specs.Control.{is_named, control_constructs}
+use Rattle.au_model.specs.Goals.{has_row}
+use Rattle.engine_core.specs.Constructs.{IsConstruct, Row, construct_in, is_row}
+use Rattle.engine_core.specs.declared.construct.Construct.{Construct}
+
+-- the rows of the tables
+find_by : {X : Type 0} → (p : X → Bool) (x : X) (xs : List X) (v : Bool) → is_some (find p xs) ≡ list_any p xs → is_some (cond v (Some x) (find p xs)) ≡ (v || list_any p xs)
+find_by p x xs true h = refl
+find_by p x xs false h = h
+
+found_any : {X : Type 0} → (p : X → Bool) (xs : List X) → is_some (find p xs) ≡ list_any p xs
+found_any p [] = refl
+found_any p (x ∷ xs) = find_by p x xs (p x) (found_any p xs)
+
+or_false : (b : Bool) → (b || false) ≡ b
+or_false true = refl
+or_false false = refl
+
+pub has_row-any : (name : List ℕ) (arity : ℕ) → has_row name arity ≡ list_any (is_named name arity) (control_constructs ++ builtins)
+has_row-any name arity =
+    let p = is_named name arity in
+    ap (λ b. b || (is_some (find p builtins) || false)) (found_any p control_constructs)
+    ∙ (ap (λ b. list_any p control_constructs || b) (or_false (is_some (find p builtins)) ∙ found_any p builtins)
+    ∙ sym (list_any-append p control_constructs builtins))
+
+both : (a b : Bool) → (a && b) ≡ true → (a ≡ true) × (b ≡ true)
+both true b h = (refl, h)
+both false b h = absurd cc
+
+row_is : (construct : Construct) (name row : List ℕ) (arity count : ℕ) → IsConstruct construct row count → is_row name arity row count ≡ true → IsConstruct construct name arity
+row_is construct name row arity count h t =
+    let two = both (same_name row name) (count == arity) t in
+    subst (λ n. IsConstruct construct n arity) (same_text row name (sym two.0)) (subst (λ n. IsConstruct construct row n) (eqb-true count arity two.1) h)
+
+-- a look-up in a list of rows, of which there are as many as in the tables
+pub found_construct : (text name : List ℕ) (arity : ℕ) (rows : List Row) (o : Option Construct) → o ≡ construct_in text arity rows → text ≡ name → Each (λ (row : Row). IsConstruct row.2 row.0 row.1) rows → list_any (λ (row : Row). is_row name arity row.0 row.1) rows ≡ has_row name arity
+    → MatchOption o (has_row name arity ≡ false) (λ c. IsConstruct c name arity)
+found_construct text name arity rows o is same each any =
+    subst (λ p. MatchOption p (has_row name arity ≡ false) (λ c. IsConstruct c name arity)) (sym (is ∙ ap (λ n. construct_in n arity rows) same)) (among rows (has_row name arity) each any)
+  where
+    first : (row : Row) (rows : List Row) (b w : Bool) → is_row name arity row.0 row.1 ≡ b → IsConstruct row.2 row.0 row.1 → (list_any (λ (r : Row). is_row name arity r.0 r.1) rows ≡ w → MatchOption (construct_in name arity rows) (w ≡ false) (λ c. IsConstruct c name arity))
+        → (b || list_any (λ (r : Row). is_row name arity r.0 r.1) rows) ≡ w → MatchOption (cond b (Some row.2) (construct_in name arity rows)) (w ≡ false) (λ c. IsConstruct c name arity)
+    first row rows true w e k h a = row_is row.2 name row.0 arity row.1 k e
+    first row rows false w e k h a = h a
+
+    among : (rows : List Row) (w : Bool) → Each (λ (row : Row). IsConstruct row.2 row.0 row.1) rows → list_any (λ (row : Row). is_row name arity row.0 row.1) rows ≡ w → MatchOption (construct_in name arity rows) (w ≡ false) (λ c. IsConstruct c name arity)
+    among [] w each a = sym a
+    among (row ∷ rows) w each a = first row rows (is_row name arity row.0 row.1) w refl each.0 (among rows w each.1) a

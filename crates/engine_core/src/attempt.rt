@@ -1,0 +1,134 @@
+//! Attempts: two terms made one, and the branch that this leaves. Each begins from the store as it is, and leaves it so.
+ghost use Rattle.std.specs.Prelude.{◌≡◌, ◌≤◌, IfOk};
+ghost use Rattle.au_term.specs.Term.{var_bound};
+ghost use Rattle.au_model.specs.Each.{Each};
+ghost use Rattle.au_model.specs.Substitutions.{resolve};
+ghost use Rattle.au_model.specs.Outcomes.{clause_solution};
+ghost use Rattle.clause_compile.specs.declared.item.Scope.{Scope};
+ghost use Rattle.bind_store.specs.Stored.{substitution, IsSound, Continues};
+ghost use Rattle.engine_core.specs.Branches.{IsItemBelow};
+ghost use Rattle.engine_core.specs.Trying.{equation_solution, AreMadeOne, IsTried};
+
+use au_term::{Bindings, NoMemory, Segment, Shared};
+use bind_store::Store;
+use clause_compile::{Branch, Clause, Goals, Scope};
+use std::alloc::Global;
+
+/// Tries a clause for a goal: the branch that it leaves, or none where its head does not unify with the goal.
+pub(crate) fn try_clause(
+    alloc: Global,
+    goal: &Shared,
+    clause: &Clause,
+    rest: &Goals,
+    here: Scope,
+    store: &mut Store,
+) -> Result<Option<Branch>, NoMemory>
+    requires goal { var_bound goal.now ≤ store.old.next }
+    requires rest { Each (IsItemBelow store.old.next) rest.now }
+    ensures tried { IfOk result (IsTried here rest.now store.old (clause_solution (resolve (substitution store.old) goal.now) store.old.next clause.now)) }
+    ensures store { store.new ≡ store.old }
+{
+    let mark = store.mark();
+    let branch = clause_branch(alloc, goal, clause, rest, here, store);
+    store.undo_to(mark);
+    branch
+}
+
+/// The branch of a clause. The numbers and bindings that it takes stay in the store.
+fn clause_branch(
+    alloc: Global,
+    goal: &Shared,
+    clause: &Clause,
+    rest: &Goals,
+    here: Scope,
+    store: &mut Store,
+) -> Result<Option<Branch>, NoMemory>
+    requires goal { var_bound goal.now ≤ store.old.next }
+    requires rest { Each (IsItemBelow store.old.next) rest.now }
+    ensures tried { IfOk result (IsTried here rest.now store.old (clause_solution (resolve (substitution store.old) goal.now) store.old.next clause.now)) }
+    ensures sound { IsSound store.old }
+    ensures since { Continues store.old store.new }
+{
+    let base = store.next();
+    let vars = clause.vars();
+    store.fresh(vars)?;
+    // The proof reads off that the new numbers fit.
+    let _last = store.next();
+    let head = clause.raised_head(base)?;
+    let Some(bindings) = bindings_between(goal, &head, store)? else {
+        return Ok(None);
+    };
+    let goals = clause.goals(alloc, base, here, rest)?;
+    let segment = Segment {
+        base,
+        vars,
+        bindings,
+    };
+    Ok(Some(Branch { goals, segment }))
+}
+
+/// Tries an equation: the branch that it leaves, without new goals, or none where the sides do not unify.
+pub(crate) fn try_equation(
+    left: &Shared,
+    right: &Shared,
+    rest: &Goals,
+    store: &mut Store,
+) -> Result<Option<Branch>, NoMemory>
+    requires left { var_bound left.now ≤ store.old.next }
+    requires right { var_bound right.now ≤ store.old.next }
+    requires rest { Each (IsItemBelow store.old.next) rest.now }
+    ensures tried { IfOk result (λ branch. (here : Scope) → IsTried here rest.now store.old (equation_solution (resolve (substitution store.old) left.now) (resolve (substitution store.old) right.now)) branch) }
+    ensures store { store.new ≡ store.old }
+{
+    let mark = store.mark();
+    let branch = equation_branch(left, right, rest, store);
+    store.undo_to(mark);
+    branch
+}
+
+/// The branch of an equation. The bindings that it takes stay in the store.
+fn equation_branch(
+    left: &Shared,
+    right: &Shared,
+    rest: &Goals,
+    store: &mut Store,
+) -> Result<Option<Branch>, NoMemory>
+    requires left { var_bound left.now ≤ store.old.next }
+    requires right { var_bound right.now ≤ store.old.next }
+    requires rest { Each (IsItemBelow store.old.next) rest.now }
+    ensures tried { IfOk result (λ branch. (here : Scope) → IsTried here rest.now store.old (equation_solution (resolve (substitution store.old) left.now) (resolve (substitution store.old) right.now)) branch) }
+    ensures sound { IsSound store.old }
+    ensures since { Continues store.old store.new }
+{
+    let base = store.next();
+    let Some(bindings) = bindings_between(left, right, store)? else {
+        return Ok(None);
+    };
+    let segment = Segment {
+        base,
+        vars: 0,
+        bindings,
+    };
+    let goals = rest.share()?;
+    Ok(Some(Branch { goals, segment }))
+}
+
+/// The bindings that make two terms one, or none where they do not unify. They stay in the store.
+fn bindings_between(
+    left: &Shared,
+    right: &Shared,
+    store: &mut Store,
+) -> Result<Option<Bindings>, NoMemory>
+    requires left { var_bound left.now ≤ store.old.next }
+    requires right { var_bound right.now ≤ store.old.next }
+    ensures made { IfOk result (AreMadeOne left.now right.now store.old) }
+    ensures since { Continues store.old store.new }
+{
+    let mark = store.mark();
+    if !store.unify(left, right)? {
+        return Ok(None);
+    }
+    // The proof reads off that the bindings are apart.
+    let _next = store.next();
+    Ok(Some(store.made_since(&mark)?))
+}

@@ -1,0 +1,81 @@
+//! Branches that make no bindings.
+ghost use Rattle.std.specs.Prelude.{◌≡◌, ◌≤◌, ◌∷◌, [], IfOk};
+ghost use Rattle.au_term.specs.Term.{Term, var_bound};
+ghost use Rattle.au_model.specs.Each.{Each};
+ghost use Rattle.au_model.specs.Bodies.{goals_of};
+ghost use Rattle.au_model.specs.Substitutions.{resolve};
+ghost use Rattle.bind_store.specs.Stored.{substitution};
+ghost use Rattle.engine_core.specs.Branches.{IsItemBelow, GoesOn, Stands};
+ghost use Rattle.engine_core.specs.Onward.{IsAlone, MakesNone};
+ghost use Rattle.clause_compile.specs.declared.item.Scope.{Scope};
+
+use crate::conjunction::goals_before;
+use crate::reduction::Reduction;
+use au_term::{Bindings, NoMemory, Segment, Shared};
+use bind_store::Store;
+use clause_compile::{Branch, Goals, Item, Scope};
+use std::alloc::Global;
+
+/// One branch alone.
+pub(crate) fn alone(alloc: Global, branch: Branch) -> Result<Reduction, NoMemory>
+    ensures { IfOk result (IsAlone branch) }
+{
+    let mut branches = Vec::new(alloc);
+    branches.push(branch)?;
+    Ok(Reduction::Alternatives(branches))
+}
+
+/// The branch of these items, which takes no variables and makes no bindings.
+pub(crate) fn onward(alloc: Global, goals: Goals, store: &Store) -> Branch
+    requires { Each (IsItemBelow store.now.next) goals }
+    ensures { MakesNone store.now goals result }
+{
+    let segment = Segment {
+        base: store.next(),
+        vars: 0,
+        bindings: Bindings::new(alloc),
+    };
+    Branch { goals, segment }
+}
+
+/// The branch of a body, before the items that follow.
+pub(crate) fn body_branch(
+    alloc: Global,
+    body: &Shared,
+    cut: Scope,
+    rest: &Goals,
+    store: &Store,
+) -> Result<Branch, NoMemory>
+    requires body { var_bound body.now ≤ store.now.next }
+    requires rest { Each (IsItemBelow store.now.next) rest.now }
+    ensures { IfOk result (GoesOn cut (goals_of (resolve (substitution store.now) body.now)) rest.now store.now) }
+{
+    let goals = goals_before(alloc, body, cut, rest, store)?;
+    Ok(onward(alloc, goals, store))
+}
+
+/// The branch of one goal, before the items that follow.
+pub(crate) fn goal_branch(
+    alloc: Global,
+    goal: &Shared,
+    cut: Scope,
+    rest: &Goals,
+    store: &Store,
+) -> Result<Branch, NoMemory>
+    requires goal { var_bound goal.now ≤ store.now.next }
+    requires rest { Each (IsItemBelow store.now.next) rest.now }
+    ensures { IfOk result (GoesOn cut (resolve (substitution store.now) goal.now ∷ []) rest.now store.now) }
+{
+    let term = goal.share()?;
+    let goals = rest.push(alloc, Item::Goal { term, cut })?;
+    Ok(onward(alloc, goals, store))
+}
+
+/// The branch of the items that follow alone.
+pub(crate) fn rest_branch(alloc: Global, rest: &Goals, store: &Store) -> Result<Branch, NoMemory>
+    requires { Each (IsItemBelow store.now.next) rest.now }
+    ensures { IfOk result (λ b. (cut : Scope) → GoesOn cut [] rest.now store.now b) }
+{
+    let goals = rest.share()?;
+    Ok(onward(alloc, goals, store))
+}
