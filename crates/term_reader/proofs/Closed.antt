@@ -3,7 +3,7 @@ use Rattle.std.proofs.Common.{◌≡◌, ◌∙◌, ℕ, suc, ◌+◌, ◌≤◌
 use Rattle.au_model.specs.Lexemes as words
 use Rattle.au_model.specs.Characters.{chars_from}
 use Rattle.au_model.specs.Joints.{joint_fits, lexeme_joint}
-use Rattle.au_model.specs.Lexemes.{Lexeme, token, scanned, ScannedTo}
+use Rattle.au_model.specs.Lexemes.{Lexeme, Token, token, scanned, ScannedTo}
 use Rattle.op_table.specs.Meant.{operator_meant}
 use Rattle.op_table.specs.declared.operator.Operator.{Operator as DeclaredOperator}
 use Rattle.term_reader.specs.Following.{closer_of}
@@ -28,7 +28,7 @@ use Rattle.term_reader.specs.declared.state.Frame.{Frame}
 use Rattle.term_reader.specs.declared.state.Frame.TheVariants as frame
 use Rattle.term_reader.specs.declared.steps.Turn.{Turn}
 use Rattle.term_reader.specs.declared.steps.Turn.TheVariants.{On, Over}
-use Rattle.term_reader.proofs.Closing.{Top, closed, leads, refuses, round-frame, curly-frame, item-frame, tail-frame, argument-frame, not-round, not-curly, not-item, not-tail, not-argument, not-more, is-close, is-close_list, is-close_curly, is-comma, is-bar, is-end_token, not-over, put-list, put-compound}
+use Rattle.term_reader.proofs.Closing.{Top, closed, leads, never, round-frame, curly-frame, item-frame, tail-frame, argument-frame, not-round, not-curly, not-item, not-tail, not-argument, not-more, is-close, is-close_list, is-close_curly, is-comma, is-bar, is-end_token, not-over, put-list, put-compound}
 use Rattle.term_reader.proofs.Moving.{pushed, first-joint}
 use Rattle.term_reader.proofs.Turns.{goes_stop, went_stop, out_round, out_braces, out_item, out_bar, out_last, out_tail, out_argument, out_final}
 
@@ -39,58 +39,59 @@ module _ (source : Source) (st new : State) (k : List stack.Frame) (l : Tree) (p
   abbrev Comes : List stack.Frame → Turn → Type 0
   Comes m t = Outcome (setting_of source) source.text.now (There m l p) st.at new t
 
-  abbrev Refuses : List stack.Frame → Type 0
-  Refuses m = (goal : Tree) → Goes (setting_of source) m (tokens_at source st.at) l p goal → ⊥
+  -- no token list that begins with this one is read
+  abbrev Never : (f : Frame) (m : List stack.Frame) → IsClosing source st f m l p c end → Type 0
+  Never f m h = (more : List Token) (goal : Tree) → Goes (setting_of source) m (token h.apart h.lexeme ∷ more) l p goal → ⊥
 
   -- ---- round and curly brackets
 
-  pub round-closes : IsClosing source st frame.Round k l p c end → c ≡ closer.Close → new.frames.items ≡ st.frames.items → new.at ≡ end → IsSheetOf new.sheet (put_tree (put_stack k) l) → Comes k (On (Some 0))
+  pub round-closes : IsClosing source st frame.Round k l p c end → c ≡ closer.Close → new.frames.items ≡ st.frames.items → new.at ≡ end → IsSheetOf new.sheet (put_tree (put_stack k) l) → Comes k (On (Some 0) false)
   round-closes h e fr at sheet =
-      by-top (λ m. IsClosing source st frame.Round m l p c end → IsSheetOf new.sheet (put_tree (put_stack m) l) → Comes m (On (Some 0))) st.frames.items k stack.Round (round-frame st.frames.items k h.shapes)
+      by-top (λ m. IsClosing source st frame.Round m l p c end → IsSheetOf new.sheet (put_tree (put_stack m) l) → Comes m (On (Some 0) false)) st.frames.items k stack.Round (round-frame st.frames.items k h.shapes)
       (λ below rest i s. closed source st new frame.Round (stack.Round ∷ below) below l l p c end (ap (map frame_meant) fr ∙ rest) s i.kept at
-      (leads source st frame.Round (stack.Round ∷ below) l p c end i words.Close (is-close i.lexeme (sym i.closer ∙ e)) refl (There below l 0) (λ goal q. out_round (setting_of source) q) (λ goal g. round g))) h sheet
+      (leads source st frame.Round (stack.Round ∷ below) l p c end i words.Close (is-close i.lexeme (sym i.closer ∙ e)) refl (There below l 0) (λ vs goal q. out_round (setting_of source) q) (λ vs goal g. round g))) h sheet
 
-  pub round-refuses : IsClosing source st frame.Round k l p c end → (c ≡ closer.Close → ⊥) → Refuses k
+  pub round-refuses : (h : IsClosing source st frame.Round k l p c end) → (c ≡ closer.Close → ⊥) → Never frame.Round k h
   round-refuses h n =
-      by-top (λ m. IsClosing source st frame.Round m l p c end → Refuses m) st.frames.items k stack.Round (round-frame st.frames.items k h.shapes)
-      (λ below rest i. refuses source st frame.Round (stack.Round ∷ below) l p c end i (λ goal us. not-round (setting_of source) below i.apart i.lexeme us l goal (λ e. n (i.closer ∙ e)))) h
+      by-top (λ m. (i : IsClosing source st frame.Round m l p c end) → Never frame.Round m i) st.frames.items k stack.Round (round-frame st.frames.items k h.shapes)
+      (λ below rest i. never source st frame.Round (stack.Round ∷ below) l p c end i (λ goal us. not-round (setting_of source) below i.apart i.lexeme us l goal (λ e. n (i.closer ∙ e)))) h
 
   pub curly-closes : (name : List ℕ) → name ≡ braces → IsClosing source st frame.Curly k l p c end → c ≡ closer.CloseCurly → new.frames.items ≡ st.frames.items → new.at ≡ end
-      → IsSheetOf new.sheet (put_cell (put_tree (put_stack k) l) (Functor name 1)) → Comes k (On (Some 0))
+      → IsSheetOf new.sheet (put_cell (put_tree (put_stack k) l) (Functor name 1)) → Comes k (On (Some 0) false)
   curly-closes name same h e fr at sheet =
-      by-top (λ m. IsClosing source st frame.Curly m l p c end → IsSheetOf new.sheet (put_cell (put_tree (put_stack m) l) (Functor name 1)) → Comes m (On (Some 0))) st.frames.items k stack.Braces (curly-frame st.frames.items k h.shapes)
+      by-top (λ m. IsClosing source st frame.Curly m l p c end → IsSheetOf new.sheet (put_cell (put_tree (put_stack m) l) (Functor name 1)) → Comes m (On (Some 0) false)) st.frames.items k stack.Braces (curly-frame st.frames.items k h.shapes)
       (λ below rest i s. closed source st new frame.Curly (stack.Braces ∷ below) below l (one braces l) p c end (ap (map frame_meant) fr ∙ rest) (subst (λ n. IsSheetOf new.sheet (put_cell (put_tree (put_stack below) l) (Functor n 1))) same s) i.kept at
-      (leads source st frame.Curly (stack.Braces ∷ below) l p c end i words.CloseCurly (is-close_curly i.lexeme (sym i.closer ∙ e)) refl (There below (one braces l) 0) (λ goal q. out_braces (setting_of source) q) (λ goal g. braced g))) h sheet
+      (leads source st frame.Curly (stack.Braces ∷ below) l p c end i words.CloseCurly (is-close_curly i.lexeme (sym i.closer ∙ e)) refl (There below (one braces l) 0) (λ vs goal q. out_braces (setting_of source) q) (λ vs goal g. braced g))) h sheet
 
-  pub curly-refuses : IsClosing source st frame.Curly k l p c end → (c ≡ closer.CloseCurly → ⊥) → Refuses k
+  pub curly-refuses : (h : IsClosing source st frame.Curly k l p c end) → (c ≡ closer.CloseCurly → ⊥) → Never frame.Curly k h
   curly-refuses h n =
-      by-top (λ m. IsClosing source st frame.Curly m l p c end → Refuses m) st.frames.items k stack.Braces (curly-frame st.frames.items k h.shapes)
-      (λ below rest i. refuses source st frame.Curly (stack.Braces ∷ below) l p c end i (λ goal us. not-curly (setting_of source) below i.apart i.lexeme us l goal (λ e. n (i.closer ∙ e)))) h
+      by-top (λ m. (i : IsClosing source st frame.Curly m l p c end) → Never frame.Curly m i) st.frames.items k stack.Braces (curly-frame st.frames.items k h.shapes)
+      (λ below rest i. never source st frame.Curly (stack.Braces ∷ below) l p c end i (λ goal us. not-curly (setting_of source) below i.apart i.lexeme us l goal (λ e. n (i.closer ∙ e)))) h
 
   -- ---- lists
 
   pub list-closes : (n : ℕ) → IsClosing source st (frame.Item n) k l p c end → c ≡ closer.CloseList → new.frames.items ≡ st.frames.items → new.at ≡ end
-      → IsSheetOf new.sheet (put_lists (n + 1) (put_tree (put_tree (put_stack k) l) (AtomTree nil))) → Comes k (On (Some 0))
+      → IsSheetOf new.sheet (put_lists (n + 1) (put_tree (put_tree (put_stack k) l) (AtomTree nil))) → Comes k (On (Some 0) false)
   list-closes n h e fr at sheet =
       let t = item-frame st.frames.items k n h.shapes in
       let ts = t.0 in
-      by-top (λ m. IsClosing source st (frame.Item n) m l p c end → IsSheetOf new.sheet (put_lists (n + 1) (put_tree (put_tree (put_stack m) l) (AtomTree nil))) → Comes m (On (Some 0))) st.frames.items k (stack.ItemOf ts) t.2
+      by-top (λ m. IsClosing source st (frame.Item n) m l p c end → IsSheetOf new.sheet (put_lists (n + 1) (put_tree (put_tree (put_stack m) l) (AtomTree nil))) → Comes m (On (Some 0) false)) st.frames.items k (stack.ItemOf ts) t.2
       (λ below rest i s.
       let number : n + 1 ≡ length (l ∷ ts) = omega (arith, t.1) in
       let sheets = ap (λ q. put_lists q (put_tree (put_tree (put_before (put_stack below) ts) l) (AtomTree nil))) number ∙ put-list (put_stack below) (l ∷ ts) (AtomTree nil) in
       closed source st new (frame.Item n) (stack.ItemOf ts ∷ below) below l (list_of (l ∷ ts) (AtomTree nil)) p c end (ap (map frame_meant) fr ∙ rest) (subst (λ x. IsSheetOf new.sheet x) sheets s) i.kept at
-      (leads source st (frame.Item n) (stack.ItemOf ts ∷ below) l p c end i words.CloseList (is-close_list i.lexeme (sym i.closer ∙ e)) refl (There below (list_of (l ∷ ts) (AtomTree nil)) 0) (λ goal q. out_last (setting_of source) q) (λ goal g. last g))) h sheet
+      (leads source st (frame.Item n) (stack.ItemOf ts ∷ below) l p c end i words.CloseList (is-close_list i.lexeme (sym i.closer ∙ e)) refl (There below (list_of (l ∷ ts) (AtomTree nil)) 0) (λ vs goal q. out_last (setting_of source) q) (λ vs goal g. last g))) h sheet
 
   pub tail-closes : (n : ℕ) → IsClosing source st (frame.Tail n) k l p c end → c ≡ closer.CloseList → new.frames.items ≡ st.frames.items → new.at ≡ end
-      → IsSheetOf new.sheet (put_lists n (put_tree (put_stack k) l)) → Comes k (On (Some 0))
+      → IsSheetOf new.sheet (put_lists n (put_tree (put_stack k) l)) → Comes k (On (Some 0) false)
   tail-closes n h e fr at sheet =
       let t = tail-frame st.frames.items k n h.shapes in
       let ts = t.0 in
-      by-top (λ m. IsClosing source st (frame.Tail n) m l p c end → IsSheetOf new.sheet (put_lists n (put_tree (put_stack m) l)) → Comes m (On (Some 0))) st.frames.items k (stack.TailOf ts) t.2
+      by-top (λ m. IsClosing source st (frame.Tail n) m l p c end → IsSheetOf new.sheet (put_lists n (put_tree (put_stack m) l)) → Comes m (On (Some 0) false)) st.frames.items k (stack.TailOf ts) t.2
       (λ below rest i s.
       let sheets = ap (λ q. put_lists q (put_tree (put_before (put_stack below) ts) l)) (sym t.1) ∙ put-list (put_stack below) ts l in
       closed source st new (frame.Tail n) (stack.TailOf ts ∷ below) below l (list_of ts l) p c end (ap (map frame_meant) fr ∙ rest) (subst (λ x. IsSheetOf new.sheet x) sheets s) i.kept at
-      (leads source st (frame.Tail n) (stack.TailOf ts ∷ below) l p c end i words.CloseList (is-close_list i.lexeme (sym i.closer ∙ e)) refl (There below (list_of ts l) 0) (λ goal q. out_tail (setting_of source) q) (λ goal g. tail g))) h sheet
+      (leads source st (frame.Tail n) (stack.TailOf ts ∷ below) l p c end i words.CloseList (is-close_list i.lexeme (sym i.closer ∙ e)) refl (There below (list_of ts l) 0) (λ vs goal q. out_tail (setting_of source) q) (λ vs goal g. tail g))) h sheet
 
   pub item-goes_on : (n place : ℕ) (t : Turn) → IsClosing source st (frame.Item n) k l p c end → c ≡ closer.Comma → IsPushed st (frame.Item (n + 1)) end new t → Comes k t
   item-goes_on n place t h e push =
@@ -100,7 +101,7 @@ module _ (source : Source) (st new : State) (k : List stack.Frame) (l : Tree) (p
       (λ below rest i.
       let number : n + 1 ≡ length (l ∷ ts) = omega (arith, f.1) in
       pushed (setting_of source) source.text.now (There (stack.ItemOf ts ∷ below) l p) st.at st new (frame.Item (n + 1)) (stack.ItemOf (l ∷ ts)) below end t push rest (ap ItemShape number) i.sheet i.kept
-      (leads source st (frame.Item n) (stack.ItemOf ts ∷ below) l p c end i words.Comma (is-comma i.lexeme (sym i.closer ∙ e)) refl (Due (stack.ItemOf (l ∷ ts) ∷ below)) (λ goal q. out_item (setting_of source) q) (λ goal w. item w))) h
+      (leads source st (frame.Item n) (stack.ItemOf ts ∷ below) l p c end i words.Comma (is-comma i.lexeme (sym i.closer ∙ e)) refl (Due (stack.ItemOf (l ∷ ts) ∷ below)) (λ vs goal q. out_item (setting_of source) q) (λ vs goal w. item w))) h
 
   pub tail-goes_on : (n place : ℕ) (t : Turn) → IsClosing source st (frame.Item n) k l p c end → c ≡ closer.Bar → IsPushed st (frame.Tail (n + 1)) end new t → Comes k t
   tail-goes_on n place t h e push =
@@ -110,33 +111,33 @@ module _ (source : Source) (st new : State) (k : List stack.Frame) (l : Tree) (p
       (λ below rest i.
       let number : n + 1 ≡ length (l ∷ ts) = omega (arith, f.1) in
       pushed (setting_of source) source.text.now (There (stack.ItemOf ts ∷ below) l p) st.at st new (frame.Tail (n + 1)) (stack.TailOf (l ∷ ts)) below end t push rest (ap TailShape number) i.sheet i.kept
-      (leads source st (frame.Item n) (stack.ItemOf ts ∷ below) l p c end i words.Bar (is-bar i.lexeme (sym i.closer ∙ e)) refl (Due (stack.TailOf (l ∷ ts) ∷ below)) (λ goal q. out_bar (setting_of source) q) (λ goal w. bar w))) h
+      (leads source st (frame.Item n) (stack.ItemOf ts ∷ below) l p c end i words.Bar (is-bar i.lexeme (sym i.closer ∙ e)) refl (Due (stack.TailOf (l ∷ ts) ∷ below)) (λ vs goal q. out_bar (setting_of source) q) (λ vs goal w. bar w))) h
 
-  pub item-refuses : (n : ℕ) → IsClosing source st (frame.Item n) k l p c end → (c ≡ closer.Comma → ⊥) → (c ≡ closer.Bar → ⊥) → (c ≡ closer.CloseList → ⊥) → Refuses k
+  pub item-refuses : (n : ℕ) → (h : IsClosing source st (frame.Item n) k l p c end) → (c ≡ closer.Comma → ⊥) → (c ≡ closer.Bar → ⊥) → (c ≡ closer.CloseList → ⊥) → Never (frame.Item n) k h
   item-refuses n h x y z =
       let f = item-frame st.frames.items k n h.shapes in
-      by-top (λ m. IsClosing source st (frame.Item n) m l p c end → Refuses m) st.frames.items k (stack.ItemOf f.0) f.2
-      (λ below rest i. refuses source st (frame.Item n) (stack.ItemOf f.0 ∷ below) l p c end i
+      by-top (λ m. (i : IsClosing source st (frame.Item n) m l p c end) → Never (frame.Item n) m i) st.frames.items k (stack.ItemOf f.0) f.2
+      (λ below rest i. never source st (frame.Item n) (stack.ItemOf f.0 ∷ below) l p c end i
       (λ goal us. not-item (setting_of source) below f.0 i.apart i.lexeme us l goal (λ e. x (i.closer ∙ e)) (λ e. y (i.closer ∙ e)) (λ e. z (i.closer ∙ e)))) h
 
-  pub tail-refuses : (n : ℕ) → IsClosing source st (frame.Tail n) k l p c end → (c ≡ closer.CloseList → ⊥) → Refuses k
+  pub tail-refuses : (n : ℕ) → (h : IsClosing source st (frame.Tail n) k l p c end) → (c ≡ closer.CloseList → ⊥) → Never (frame.Tail n) k h
   tail-refuses n h z =
       let f = tail-frame st.frames.items k n h.shapes in
-      by-top (λ m. IsClosing source st (frame.Tail n) m l p c end → Refuses m) st.frames.items k (stack.TailOf f.0) f.2
-      (λ below rest i. refuses source st (frame.Tail n) (stack.TailOf f.0 ∷ below) l p c end i (λ goal us. not-tail (setting_of source) below f.0 i.apart i.lexeme us l goal (λ e. z (i.closer ∙ e)))) h
+      by-top (λ m. (i : IsClosing source st (frame.Tail n) m l p c end) → Never (frame.Tail n) m i) st.frames.items k (stack.TailOf f.0) f.2
+      (λ below rest i. never source st (frame.Tail n) (stack.TailOf f.0 ∷ below) l p c end i (λ goal us. not-tail (setting_of source) below f.0 i.apart i.lexeme us l goal (λ e. z (i.closer ∙ e)))) h
 
   -- ---- arguments
 
   pub compound-closes : (m : List ℕ) (n place : ℕ) → IsClosing source st (frame.Argument m n place) k l p c end → c ≡ closer.Close → new.frames.items ≡ st.frames.items → new.at ≡ end
-      → IsSheetOf new.sheet (put_cell (put_tree (put_stack k) l) (Functor m (n + 1))) → Comes k (On (Some 0))
+      → IsSheetOf new.sheet (put_cell (put_tree (put_stack k) l) (Functor m (n + 1))) → Comes k (On (Some 0) false)
   compound-closes m n place h e fr at sheet =
       let t = argument-frame st.frames.items k m n place h.shapes in
       let ts = t.0 in
-      by-top (λ q. IsClosing source st (frame.Argument m n place) q l p c end → IsSheetOf new.sheet (put_cell (put_tree (put_stack q) l) (Functor m (n + 1))) → Comes q (On (Some 0))) st.frames.items k (stack.ArgumentOf m ts) t.2
+      by-top (λ q. IsClosing source st (frame.Argument m n place) q l p c end → IsSheetOf new.sheet (put_cell (put_tree (put_stack q) l) (Functor m (n + 1))) → Comes q (On (Some 0) false)) st.frames.items k (stack.ArgumentOf m ts) t.2
       (λ below rest i s.
       closed source st new (frame.Argument m n place) (stack.ArgumentOf m ts ∷ below) below l (CompoundTree m (trees_of (l ∷ ts) no_trees)) p c end (ap (map frame_meant) fr ∙ rest)
       (subst (λ x. IsSheetOf new.sheet x) (put-compound (put_stack below) m ts l n (sym t.1)) s) i.kept.1 at
-      (leads source st (frame.Argument m n place) (stack.ArgumentOf m ts ∷ below) l p c end i words.Close (is-close i.lexeme (sym i.closer ∙ e)) refl (There below (CompoundTree m (trees_of (l ∷ ts) no_trees)) 0) (λ goal q. out_final (setting_of source) q) (λ goal g. final g))) h sheet
+      (leads source st (frame.Argument m n place) (stack.ArgumentOf m ts ∷ below) l p c end i words.Close (is-close i.lexeme (sym i.closer ∙ e)) refl (There below (CompoundTree m (trees_of (l ∷ ts) no_trees)) 0) (λ vs goal q. out_final (setting_of source) q) (λ vs goal g. final g))) h sheet
 
   pub argument-goes_on : (m : List ℕ) (n place : ℕ) (t : Turn) → IsClosing source st (frame.Argument m n place) k l p c end → c ≡ closer.Comma → n < 65534 → IsPushed st (frame.Argument m (n + 1) place) end new t → Comes k t
   argument-goes_on m n place t h e lt push =
@@ -148,19 +149,19 @@ module _ (source : Source) (st new : State) (k : List stack.Frame) (l : Tree) (p
       let few : length ts < 65534 = omega (arith, f.1, lt) in
       let more : length (l ∷ ts) ≤ 65534 = omega (arith, f.1, lt) in
       pushed (setting_of source) source.text.now (There (stack.ArgumentOf m ts ∷ below) l p) st.at st new (frame.Argument m (n + 1) place) (stack.ArgumentOf m (l ∷ ts)) below end t push rest (ap (ArgumentShape m) number) i.sheet (more, i.kept.1)
-      (leads source st (frame.Argument m n place) (stack.ArgumentOf m ts ∷ below) l p c end i words.Comma (is-comma i.lexeme (sym i.closer ∙ e)) refl (Due (stack.ArgumentOf m (l ∷ ts) ∷ below)) (λ goal q. (out_argument (setting_of source) q).1) (λ goal w. argument few w))) h
+      (leads source st (frame.Argument m n place) (stack.ArgumentOf m ts ∷ below) l p c end i words.Comma (is-comma i.lexeme (sym i.closer ∙ e)) refl (Due (stack.ArgumentOf m (l ∷ ts) ∷ below)) (λ vs goal q. (out_argument (setting_of source) q).1) (λ vs goal w. argument few w))) h
 
-  pub argument-refuses : (m : List ℕ) (n place : ℕ) → IsClosing source st (frame.Argument m n place) k l p c end → (c ≡ closer.Comma → ⊥) → (c ≡ closer.Close → ⊥) → Refuses k
+  pub argument-refuses : (m : List ℕ) (n place : ℕ) → (h : IsClosing source st (frame.Argument m n place) k l p c end) → (c ≡ closer.Comma → ⊥) → (c ≡ closer.Close → ⊥) → Never (frame.Argument m n place) k h
   argument-refuses m n place h x y =
       let f = argument-frame st.frames.items k m n place h.shapes in
-      by-top (λ q. IsClosing source st (frame.Argument m n place) q l p c end → Refuses q) st.frames.items k (stack.ArgumentOf m f.0) f.2
-      (λ below rest i. refuses source st (frame.Argument m n place) (stack.ArgumentOf m f.0 ∷ below) l p c end i (λ goal us. not-argument (setting_of source) below m f.0 i.apart i.lexeme us l goal (λ e. x (i.closer ∙ e)) (λ e. y (i.closer ∙ e)))) h
+      by-top (λ q. (i : IsClosing source st (frame.Argument m n place) q l p c end) → Never (frame.Argument m n place) q i) st.frames.items k (stack.ArgumentOf m f.0) f.2
+      (λ below rest i. never source st (frame.Argument m n place) (stack.ArgumentOf m f.0 ∷ below) l p c end i (λ goal us. not-argument (setting_of source) below m f.0 i.apart i.lexeme us l goal (λ e. x (i.closer ∙ e)) (λ e. y (i.closer ∙ e)))) h
 
-  pub too_many : (m : List ℕ) (n place : ℕ) → IsClosing source st (frame.Argument m n place) k l p c end → c ≡ closer.Comma → 65534 ≤ n → Refuses k
+  pub too_many : (m : List ℕ) (n place : ℕ) → (h : IsClosing source st (frame.Argument m n place) k l p c end) → c ≡ closer.Comma → 65534 ≤ n → Never (frame.Argument m n place) k h
   too_many m n place h e le =
       let f = argument-frame st.frames.items k m n place h.shapes in
-      by-top (λ q. IsClosing source st (frame.Argument m n place) q l p c end → Refuses q) st.frames.items k (stack.ArgumentOf m f.0) f.2
-      (λ below rest i. refuses source st (frame.Argument m n place) (stack.ArgumentOf m f.0 ∷ below) l p c end i (λ goal us. not-more (setting_of source) below m f.0 i.apart i.lexeme us l goal (sym i.closer ∙ e) (omega (arith, f.1, le)))) h
+      by-top (λ q. (i : IsClosing source st (frame.Argument m n place) q l p c end) → Never (frame.Argument m n place) q i) st.frames.items k (stack.ArgumentOf m f.0) f.2
+      (λ below rest i. never source st (frame.Argument m n place) (stack.ArgumentOf m f.0 ∷ below) l p c end i (λ goal us. not-more (setting_of source) below m f.0 i.apart i.lexeme us l goal (sym i.closer ∙ e) (omega (arith, f.1, le)))) h
 
   pub few_arguments : (m : List ℕ) (n place : ℕ) → IsClosing source st (frame.Argument m n place) k l p c end → 65534 < n → ⊥
   few_arguments m n place h lt =
@@ -195,10 +196,8 @@ module _ (source : Source) (at end p : ℕ) (l : Tree) (a : Bool) (x : Lexeme) (
       let f = found ∙ ap (λ y. ScannedTo (token a y) (chars_from source.text.now end)) e in
       ap (λ y. y.rest) (front-end _ _ a f)
 
-  open_end : (closer_of x ≡ closer.End → ⊥) → (goal : Tree) → Goes (setting_of source) [] (tokens_at source at) l p goal → ⊥
-  open_end n goal g =
-      let first = tokens-first _ _ a x found in
-      not-over (setting_of source) a x first.more l goal n (subst (λ ts. Plugs (setting_of source) [] ts l goal) first.is (goes_stop (setting_of source) (tokens_at source at) l p halt g))
+  open_end : (closer_of x ≡ closer.End → ⊥) → (more : List Token) (goal : Tree) → Goes (setting_of source) [] (token a x ∷ more) l p goal → ⊥
+  open_end n more goal g = not-over (setting_of source) a x more l goal n (goes_stop (setting_of source) (token a x ∷ more) l p (stops-at source.ops.now 1200 p (token a x ∷ more) (lexeme_joint source.ops.now x) refl stops) g)
 
 -- the end stands there
 pub over-ends : (source : Source) (at end p : ℕ) (l : Tree) (a : Bool) (x : Lexeme) (st : State) (k : List stack.Frame) → k ≡ [] → scanned (chars_from source.text.now at) ≡ ScannedTo (token a x) (chars_from source.text.now end)
@@ -209,9 +208,15 @@ over-ends source at end p l a x st k none found low stops sheet e =
     subst P (sym none) here low stops sheet
 
 -- or it does not
+pub over-never : (source : Source) (at end p : ℕ) (l : Tree) (a : Bool) (x : Lexeme) (k : List stack.Frame) → k ≡ [] → scanned (chars_from source.text.now at) ≡ ScannedTo (token a x) (chars_from source.text.now end)
+    → p ≤ bound_of k → joint_fits (bound_of k) p (lexeme_joint source.ops.now x) ≡ false → (closer_of x ≡ closer.End → ⊥) → (more : List Token) (goal : Tree) → Goes (setting_of source) k (token a x ∷ more) l p goal → ⊥
+over-never source at end p l a x k none found low stops n =
+    let P : List stack.Frame → Type 0 = λ m. p ≤ bound_of m → joint_fits (bound_of m) p (lexeme_joint source.ops.now x) ≡ false → (more : List Token) (goal : Tree) → Goes (setting_of source) m (token a x ∷ more) l p goal → ⊥ in
+    let here : P [] = λ b f more goal g. open_end source at end p l a x found b f n more goal g in
+    subst P (sym none) here low stops
+
 pub over-refuses : (source : Source) (at end p : ℕ) (l : Tree) (a : Bool) (x : Lexeme) (k : List stack.Frame) → k ≡ [] → scanned (chars_from source.text.now at) ≡ ScannedTo (token a x) (chars_from source.text.now end)
     → p ≤ bound_of k → joint_fits (bound_of k) p (lexeme_joint source.ops.now x) ≡ false → (closer_of x ≡ closer.End → ⊥) → (goal : Tree) → Goes (setting_of source) k (tokens_at source at) l p goal → ⊥
-over-refuses source at end p l a x k none found low stops n =
-    let P : List stack.Frame → Type 0 = λ m. p ≤ bound_of m → joint_fits (bound_of m) p (lexeme_joint source.ops.now x) ≡ false → (goal : Tree) → Goes (setting_of source) m (tokens_at source at) l p goal → ⊥ in
-    let here : P [] = λ b f goal g. open_end source at end p l a x found b f n goal g in
-    subst P (sym none) here low stops
+over-refuses source at end p l a x k none found low stops n goal g =
+    let first = tokens-first _ _ a x found in
+    over-never source at end p l a x k none found low stops n first.more goal (subst (λ us. Goes (setting_of source) k us l p goal) first.is g)

@@ -10,6 +10,7 @@ use Rattle.au_term.specs.declared.cell.Cell.TheVariants.{Functor}
 use Rattle.term_reader.specs.Begun.{setting_of, tokens_at}
 use Rattle.term_reader.specs.Following.{closer_of}
 use Rattle.term_reader.specs.Readings.{Stop, next}
+use Rattle.term_reader.specs.Looks.{Free, none, onto}
 use Rattle.term_reader.specs.Stack as stack
 use Rattle.term_reader.specs.Stack.{bound_of, list_of, trees_of, Goes, Plugs, over, round, braced, item, bar, last, tail, argument, final}
 use Rattle.term_reader.specs.Frames.{Shape, RoundShape, CurlyShape, ItemShape, TailShape, ArgumentShape, frame_meant, shape_of, shapes_up, put_stack, put_before, IsKept, IsShut}
@@ -63,38 +64,43 @@ module _ (source : Source) (st : State) (f : Frame) (k : List stack.Frame) (l : 
   abbrev here : List ℕ
   here = source.text.now
 
-  stop : next set.ops (bound_of k) p (tokens_at source st.at) ≡ Stop
-  stop = stops-at set.ops (bound_of k) p (tokens_at source st.at) (lexeme_joint set.ops h.lexeme) (first-joint set.ops _ _ h.apart h.lexeme h.found) h.stops
-
   -- a bracket or comma is taken: what is read on
-  pub leads : (x : Lexeme) → h.lexeme ≡ x → is_end x ≡ false → (new : Position)
-      → ((goal : Tree) → Plugs set k (token h.apart x ∷ tokens_at source end) l goal → Reads set new (tokens_at source end) goal)
-      → ((goal : Tree) → Reads set new (tokens_at source end) goal → Plugs set k (token h.apart x ∷ tokens_at source end) l goal)
-      → Leads set here (There k l p) st.at new end
-  leads x e n new to back =
-      let found = h.found ∙ ap (λ y. ScannedTo (token h.apart y) (chars_from here end)) e in
-      let ts : tokens_at source st.at ≡ token h.apart x ∷ tokens_at source end = tokens-more _ _ h.apart x found n in
-      record {
-        to = λ goal g. to goal (subst (λ us. Plugs set k us l goal) ts (turns.goes_stop set (tokens_at source st.at) l p stop g));
-        back = λ goal g. turns.went_stop set (tokens_at source st.at) l p stop h.low (subst (λ us. Plugs set k us l goal) (sym ts) (back goal g));
-        rest = ap (λ y. y.rest) (front-more _ _ h.apart x found n);
-      }
+  stop-at : (x : Lexeme) → h.lexeme ≡ x → (vs : List Token) → next set.ops (bound_of k) p (token h.apart x ∷ vs) ≡ Stop
+  stop-at x e vs = stops-at set.ops (bound_of k) p (token h.apart x ∷ vs) (lexeme_joint set.ops h.lexeme) (ap (lexeme_joint set.ops) (sym e)) h.stops
 
-  -- it is not taken
-  pub refuses : ((goal : Tree) (us : List Token) → Plugs set k (token h.apart h.lexeme ∷ us) l goal → ⊥) → (goal : Tree) → Goes set k (tokens_at source st.at) l p goal → ⊥
+  pub leads : (x : Lexeme) → h.lexeme ≡ x → is_end x ≡ false → (new : Position)
+      → ((vs : List Token) (goal : Tree) → Plugs set k (token h.apart x ∷ vs) l goal → Reads set new vs goal)
+      → ((vs : List Token) (goal : Tree) → Reads set new vs goal → Plugs set k (token h.apart x ∷ vs) l goal)
+      → Leads set here (There k l p) st.at new end false
+  leads x e n new to back = record {
+    first = token h.apart x;
+    over = [];
+    scans = onto (h.found ∙ ap (λ y. ScannedTo (token h.apart y) (chars_from here end)) e) n none;
+    look = Free;
+    fits = refl;
+    to = λ vs goal f g. to vs goal (turns.goes_stop set (token h.apart x ∷ vs) l p (stop-at x e vs) g);
+    back = λ vs goal f g. turns.went_stop set (token h.apart x ∷ vs) l p (stop-at x e vs) h.low (back vs goal g);
+    step = (refl, refl, refl);
+  }
+
+  -- it is not taken, whatever comes behind it
+  pub never : ((goal : Tree) (us : List Token) → Plugs set k (token h.apart h.lexeme ∷ us) l goal → ⊥) → (more : List Token) (goal : Tree) → Goes set k (token h.apart h.lexeme ∷ more) l p goal → ⊥
+  never not more goal g = not goal more (turns.goes_stop set (token h.apart h.lexeme ∷ more) l p (stop-at h.lexeme refl more) g)
+
+  pub refuses : ((more : List Token) (goal : Tree) → Goes set k (token h.apart h.lexeme ∷ more) l p goal → ⊥) → (goal : Tree) → Goes set k (tokens_at source st.at) l p goal → ⊥
   refuses not goal g =
       let first = tokens-first _ _ h.apart h.lexeme h.found in
-      not goal first.more (subst (λ us. Plugs set k us l goal) first.is (turns.goes_stop set (tokens_at source st.at) l p stop g))
+      not first.more goal (subst (λ us. Goes set k us l p goal) first.is g)
 
 -- a bracket is closed
 pub closed : (source : Source) (old new : State) (f : Frame) (k below : List stack.Frame) (l tree : Tree) (p : ℕ) (c : Closer) (end : ℕ) → map frame_meant new.frames.items ≡ shapes_up below
     → IsSheetOf new.sheet (put_tree (put_stack below) tree) → IsKept below → new.at ≡ end
-    → Leads (setting_of source) source.text.now (There k l p) old.at (There below tree 0) end → Outcome (setting_of source) source.text.now (There k l p) old.at new (On (Some 0))
+    → Leads (setting_of source) source.text.now (There k l p) old.at (There below tree 0) end false → Outcome (setting_of source) source.text.now (There k l p) old.at new (On (Some 0) false)
 closed source old new f k below l tree p c end shapes sheet kept at leads = record {
   new = There below tree 0;
   stands = record { shapes = shapes; sheet = sheet; kept = kept; low = omega arith };
   phase_is = refl;
-  leads = subst (λ n. Leads (setting_of source) source.text.now (There k l p) old.at (There below tree 0) n) (sym at) leads;
+  leads = subst (λ n. Leads (setting_of source) source.text.now (There k l p) old.at (There below tree 0) n false) (sym at) leads;
 }
 
 -- ---- the frames

@@ -1,5 +1,5 @@
 -- How a term begins, by what follows its first token.
-use Rattle.std.proofs.Common.{◌≡◌, ◌∙◌, ◌≤◌, ◌<◌, ◌^◌, ℕ, suc, Bool, true, false, not, ◌&&◌, List, [], ◌∷◌, refl, sym, ap, arith, IsCharBoundary}
+use Rattle.std.proofs.Common.{◌≡◌, ◌∙◌, ◌≤◌, ◌<◌, ◌^◌, ℕ, suc, Bool, true, false, not, ◌&&◌, List, [], ◌∷◌, ◌++◌, refl, sym, ap, arith, IsCharBoundary}
 use Rattle.au_model.specs.Characters.{chars_from}
 use Rattle.au_model.specs.Lexemes as words
 use Rattle.au_model.specs.Lexemes.{Lexeme, Token, token, Scanned, ScannedTo, ScannedNone, scanned, is_end, front, tokens_of}
@@ -17,12 +17,32 @@ use Rattle.term_reader.specs.declared.lexeme.Follow.{Follow}
 use Rattle.term_reader.specs.declared.lexeme.Follow.TheVariants.{Opens, Counts, ClosesList, ClosesCurly, Other}
 use Rattle.term_reader.specs.Meant.{lexeme_meant, IsNarrow}
 use Rattle.term_reader.specs.Following.{follow_of, NoneFollows, IsFollow, FollowEnds, IsReached, IsFollowAt}
-use Rattle.term_reader.specs.Begun.{joins_as}
+use Rattle.term_reader.specs.Begun.{joins_as, OpensFrom}
+use Rattle.term_reader.specs.Looks.{none, onto}
+use Rattle.term_reader.specs.declared.opening.Opening.{Opening}
+use Rattle.term_reader.specs.declared.opening.Opening.TheVariants as kind
+use Rattle.term_reader.proofs.Scanning.{scans-then}
 use Rattle.term_reader.proofs.Fronts.{front-more, tokens-none, tokens-more, tokens-end}
 
 pub reached : (text : List ℕ) (at end : ℕ) (a : Bool) (x : Lexeme) → scanned (chars_from text at) ≡ ScannedTo (token a x) (chars_from text end) → is_end x ≡ false
     → IsPlaceFrom text at end → IsReached text at end
-reached text at end a x e n p = record { place = p; rest = ap (λ f. f.rest) (front-more (chars_from text at) (chars_from text end) a x e n) }
+reached text at end a x e n p = record { place = p; over = token a x ∷ []; scans = onto e n none }
+
+pub reached-here : (text : List ℕ) (at : ℕ) → IsCharBoundary text at → IsReached text at at
+reached-here text at b = record { place = (omega arith, b); over = []; scans = none }
+
+pub reached-then : (text : List ℕ) (at mid end : ℕ) → IsReached text at mid → IsReached text mid end → IsReached text at end
+reached-then text at mid end a b = record { place = (omega (arith, a.place.0, b.place.0), b.place.1); over = a.over ++ b.over; scans = scans-then a.scans b.scans }
+
+pub opens-then : (text : List ℕ) (at mid : ℕ) (o : Opening) → IsReached text at mid → OpensFrom text mid o → OpensFrom text at o
+opens-then text at mid (kind.Leaf l end) a h = reached-then text at mid end a h
+opens-then text at mid (kind.Alone n o end) a h = reached-then text at mid end a h
+opens-then text at mid (kind.Round end) a h = reached-then text at mid end a h
+opens-then text at mid (kind.Curly end) a h = reached-then text at mid end a h
+opens-then text at mid (kind.List end) a h = reached-then text at mid end a h
+opens-then text at mid (kind.Call n end) a h = reached-then text at mid end a h
+opens-then text at mid (kind.Prefix n o end) a h = reached-then text at mid end a h
+opens-then text at mid kind.Fails a h = tt
 
 other : (text : List ℕ) (at end : ℕ) (a : Bool) (x : Lexeme) (more : List Token) → tokens_of (chars_from text at) ≡ token a x ∷ more
     → NoneFollows (token a x ∷ more) → IsFollowAt text at Other

@@ -4,6 +4,7 @@ pub mod Back
 pub mod Turns
 pub mod Scans
 pub mod Fronts
+pub mod Scanning
 pub mod Follows
 pub mod Literals
 pub mod Lexed
@@ -15,3 +16,14 @@ pub mod Moving
 pub mod Closing
 pub mod Closed
 pub mod Readings
+pub mod Places
+pub mod Completed
+pub mod Looking
+pub mod Opened
+pub mod Ledger
+pub mod Faulty
+pub mod Refusals
+pub mod Highs
+pub mod Taking
+pub mod Prefixes
+pub mod Held

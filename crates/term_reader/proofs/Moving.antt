@@ -1,17 +1,23 @@
 -- The steps of a reader, at places of a text.
-use Rattle.std.proofs.Common.{◌≡◌, ◌∙◌, ℕ, suc, ◌+◌, ◌≤◌, ◌<◌, Bool, true, false, List, [], ◌∷◌, ◌++◌, length, map, Option, Some, None, refl, sym, ap, subst, arith}
+use Rattle.std.proofs.Common.{◌≡◌, ◌∙◌, ℕ, suc, ◌+◌, ◌≤◌, ◌<◌, nat_le, Bool, true, false, List, [], ◌∷◌, ◌++◌, length, map, Option, Some, None, refl, sym, ap, subst, arith}
 use Rattle.au_model.specs.Characters.{chars_from}
 use Rattle.au_model.specs.Lexemes as words
 use Rattle.au_model.specs.Lexemes.{Lexeme, Token, token, scanned, Scanned, ScannedTo, ScannedNone, is_end, front, tokens_of}
-use Rattle.au_model.specs.Operators.{Operator, OperatorTable}
+use Rattle.au_model.specs.Operators.{Operator, OperatorTable, prefix_of}
 use Rattle.au_model.specs.Joints.{Joint, Infix, Postfix, Nothing, joint_fits, lexeme_joint, token_joint, right_bound}
 use Rattle.au_model.specs.Trees.{Tree, AtomTree, CompoundTree, no_trees, one, two, nil, braces}
 use Rattle.au_model.specs.Openings as begun
-use Rattle.au_model.specs.Openings.{Setting, begins, lexeme_begins}
+use Rattle.au_model.specs.Openings.{Setting, begins, lexeme_begins, is_minus_name}
+use Rattle.au_model.specs.declared.double_quotes.DoubleQuotes.{DoubleQuotes}
+use Rattle.op_table.specs.declared.operator.Operator.{Operator as DeclaredOperator}
+use Rattle.term_reader.specs.declared.opening.Leaf.{Leaf}
+use Rattle.term_reader.specs.declared.opening.Leaf.TheVariants as leaf
 use Rattle.au_term.specs.declared.cell.Cell.TheVariants.{Functor}
 use Rattle.token_scan.specs.Parts.{IsPlaceFrom}
 use Rattle.op_table.specs.Meant.{operator_meant}
-use Rattle.term_reader.specs.Begun.{setting_of, tokens_at, leaf_tree, opening_meant, OpensFrom}
+use Rattle.term_reader.specs.Begun.{setting_of, tokens_at, leaf_tree, opening_meant, OpensFrom, IsNamedBy}
+use Rattle.term_reader.specs.Looks as looks
+use Rattle.term_reader.specs.Looks.{Look, Free, Named, Lone, InList, InCurly, Joined, Scans, none, onto, IsName, IsLone, Doubts}
 use Rattle.term_reader.specs.Following.{IsReached}
 use Rattle.term_reader.specs.Readings.{Stop, OnInfix, OnPostfix, next}
 use Rattle.term_reader.specs.Stack as stack
@@ -19,7 +25,7 @@ use Rattle.term_reader.specs.Stack.{bound_of, Wants, Goes, Plugs, prefix, infixe
 use Rattle.term_reader.specs.Frames.{frame_meant, shape_of, shapes_up, put_stack, IsKept}
 use Rattle.term_reader.specs.Sheets.{put_tree, put_cell}
 use Rattle.term_reader.specs.Kept.{IsSheetOf}
-use Rattle.term_reader.specs.Positions.{Position, Due, There, Reads, Stands, Leads, Went, Ended, Outcome, Moves, rest_at}
+use Rattle.term_reader.specs.Positions.{Position, Due, There, Reads, Stands, Suits, Leads, Went, Ended, Outcome, Moves, rest_at}
 use Rattle.term_reader.specs.Settling.{first_joint, Same}
 use Rattle.term_reader.specs.Starting.{Starts, StartEnds, IsFurther, IsPushed, IsPut}
 use Rattle.term_reader.specs.declared.opening.Source.{Source}
@@ -32,6 +38,8 @@ use Rattle.term_reader.specs.declared.steps.Turn.TheVariants.{On, Over, Refused}
 use Rattle.term_reader.proofs.Fronts.{front-more, tokens-none, tokens-more, tokens-end, tokens-first}
 use Rattle.term_reader.proofs.Settled.{shapes-push, stops-at}
 use Rattle.term_reader.proofs.Back.{fits-within}
+use Rattle.term_reader.proofs.Scanning.{scans-tokens}
+use Rattle.term_reader.proofs.Opened.{Kind, OfLeaf, OfBracket, OfCurly, OfListed, OfCall, OfPrefix, fill, MayLook, IsAlone, IsAloneKind, SoOpened, so-opened}
 use Rattle.term_reader.proofs.Turns as turns
 
 -- ---- how a term begins at a place
@@ -40,18 +48,18 @@ pub begins-found : (s : Setting) (cs rest : List ℕ) (a : Bool) (x : Lexeme) �
 begins-found s cs rest a words.End e = ap (begins s) (tokens-end cs rest a e)
 begins-found s cs rest a x e = ap (begins s) (tokens-more cs rest a x e refl)
 
-further : (text : List ℕ) (at end place : ℕ) → IsPlaceFrom text (suc at) end → rest_at text at ≡ rest_at text end → IsReached text end place → IsFurther text at place
-further text at end place p r h = record { place = (omega (arith, p.0, h.place.0), h.place.1); rest = r ∙ h.rest }
+further : (text : List ℕ) (at end place : ℕ) (a : Bool) (x : Lexeme) → IsPlaceFrom text (suc at) end → scanned (chars_from text at) ≡ ScannedTo (token a x) (chars_from text end) → is_end x ≡ false → IsReached text end place → IsFurther text at place
+further text at end place a x p e n h = record { place = (omega (arith, p.0, h.place.0), h.place.1); first = token a x; over = h.over; scans = onto e n h.scans }
 
-ends-further : (text : List ℕ) (at end : ℕ) (o : Opening) → IsPlaceFrom text (suc at) end → rest_at text at ≡ rest_at text end → OpensFrom text end o → StartEnds text at o
-ends-further text at end (kind.Leaf l place) p r h = further text at end place p r h
-ends-further text at end (kind.Alone n o place) p r h = further text at end place p r h
-ends-further text at end (kind.Round place) p r h = further text at end place p r h
-ends-further text at end (kind.Curly place) p r h = further text at end place p r h
-ends-further text at end (kind.List place) p r h = further text at end place p r h
-ends-further text at end (kind.Call n place) p r h = further text at end place p r h
-ends-further text at end (kind.Prefix n o place) p r h = further text at end place p r h
-ends-further text at end kind.Fails p r h = tt
+ends-further : (text : List ℕ) (at end : ℕ) (a : Bool) (x : Lexeme) (o : Opening) → IsPlaceFrom text (suc at) end → scanned (chars_from text at) ≡ ScannedTo (token a x) (chars_from text end) → is_end x ≡ false → OpensFrom text end o → StartEnds text at o
+ends-further text at end a x (kind.Leaf l place) p e n h = further text at end place a x p e n h
+ends-further text at end a x (kind.Alone m o place) p e n h = further text at end place a x p e n h
+ends-further text at end a x (kind.Round place) p e n h = further text at end place a x p e n h
+ends-further text at end a x (kind.Curly place) p e n h = further text at end place a x p e n h
+ends-further text at end a x (kind.List place) p e n h = further text at end place a x p e n h
+ends-further text at end a x (kind.Call m place) p e n h = further text at end place a x p e n h
+ends-further text at end a x (kind.Prefix m o place) p e n h = further text at end place a x p e n h
+ends-further text at end a x kind.Fails p e n h = tt
 
 ends-failing : (source : Source) (at : ℕ) (o : Opening) → opening_meant source o ≡ begun.Fails → StartEnds source.text.now at o
 ends-failing source at (kind.Leaf l place) e = let z : ⊥ = cc in absurd z
@@ -64,40 +72,80 @@ ends-failing source at (kind.Prefix n o place) e = let z : ⊥ = cc in absurd z
 ends-failing source at kind.Fails e = tt
 
 pub starts : (source : Source) (at end : ℕ) (a : Bool) (x : Lexeme) (o : Opening) → scanned (chars_from source.text.now at) ≡ ScannedTo (token a x) (chars_from source.text.now end)
-    → IsPlaceFrom source.text.now (suc at) end → opening_meant source o ≡ lexeme_begins (setting_of source) x (tokens_at source end) → OpensFrom source.text.now end o → Starts source at o
-starts source at end a words.End o e p h q =
-    record { begins = begins-found (setting_of source) _ _ a words.End e ∙ sym h; ends = ends-failing source at o h }
-starts source at end a x o e p h q =
-    record { begins = begins-found (setting_of source) _ _ a x e ∙ sym h; ends = ends-further source.text.now at end o p (ap (λ f. f.rest) (front-more _ _ a x e refl)) q }
+    → IsPlaceFrom source.text.now (suc at) end → opening_meant source o ≡ lexeme_begins (setting_of source) x (tokens_at source end) → OpensFrom source.text.now end o → IsNamedBy source.ops.now x o → Starts source at o
+starts source at end a words.End o e p h q m =
+    record { begins = begins-found (setting_of source) _ _ a words.End e ∙ sym h; ends = ends-failing source at o h; apart = a; lexeme = words.End; left = chars_from source.text.now end; found = e; named = m }
+starts source at end a x o e p h q m =
+    record { begins = begins-found (setting_of source) _ _ a x e ∙ sym h; ends = ends-further source.text.now at end a x o p e refl q; apart = a; lexeme = x; left = chars_from source.text.now end; found = e; named = m }
 
 -- ---- what the steps do to the state
 
-pub moved : (text : List ℕ) (at end : ℕ) (new : State) (o : Option ℕ) (t : Turn) → t ≡ On o → new.at ≡ end → IsPlaceFrom text (suc at) end → Moves text at new t
-moved text at end new o t e f p = subst (λ u. Moves text at new u) (sym e) (subst (λ n. IsPlaceFrom text (suc at) n) (sym f) p)
+pub moved : (text : List ℕ) (at end : ℕ) (new : State) (o : Option ℕ) (d : Bool) (t : Turn) → t ≡ On o d → new.at ≡ end → IsPlaceFrom text (suc at) end → Moves text at new t
+moved text at end new o d t e f p = subst (λ u. Moves text at new u) (sym e) (subst (λ n. IsPlaceFrom text (suc at) n) (sym f) p)
 
 pub pushed : (s : Setting) (text : List ℕ) (x : Position) (at : ℕ) (old new : State) (f : Frame) (g : stack.Frame) (k : List stack.Frame) (end : ℕ) (t : Turn) → IsPushed old f end new t
-    → map frame_meant old.frames.items ≡ shapes_up k → frame_meant f ≡ shape_of g → IsSheetOf old.sheet (put_stack (g ∷ k)) → IsKept (g ∷ k) → Leads s text x at (Due (g ∷ k)) end → Outcome s text x at new t
+    → map frame_meant old.frames.items ≡ shapes_up k → frame_meant f ≡ shape_of g → IsSheetOf old.sheet (put_stack (g ∷ k)) → IsKept (g ∷ k) → Leads s text x at (Due (g ∷ k)) end false → Outcome s text x at new t
 pushed s text x at old new f g k end t h shapes same sheet kept leads =
-    let w : Outcome s text x at new (On None) = record {
+    let w : Outcome s text x at new (On None false) = record {
       new = Due (g ∷ k);
       stands = record { shapes = ap (map frame_meant) h.frames ∙ shapes-push old.frames.items f k g shapes same; sheet = subst (λ d. IsSheetOf d (put_stack (g ∷ k))) (sym h.sheet) sheet; kept = kept; low = tt };
       phase_is = refl;
-      leads = subst (λ n. Leads s text x at (Due (g ∷ k)) n) (sym h.at) leads;
+      leads = subst (λ n. Leads s text x at (Due (g ∷ k)) n false) (sym h.at) leads;
     } in
     subst (λ u. Outcome s text x at new u) (sym h.turn) w
 
-pub put-down : (s : Setting) (text : List ℕ) (k : List stack.Frame) (at : ℕ) (old new : State) (tree : Tree) (end : ℕ) (t : Turn) → IsPut old tree end new t → Stands old (Due k)
-    → Leads s text (Due k) at (There k tree 0) end → Outcome s text (Due k) at new t
-put-down s text k at old new tree end t h st leads =
-    let w : Outcome s text (Due k) at new (On (Some 0)) = record {
+pub put-down : (s : Setting) (text : List ℕ) (k : List stack.Frame) (at : ℕ) (old new : State) (tree : Tree) (end : ℕ) (d : Bool) (t : Turn) → IsPut old tree end d new t → Stands old (Due k)
+    → Leads s text (Due k) at (There k tree 0) end d → Outcome s text (Due k) at new t
+put-down s text k at old new tree end d t h st leads =
+    let w : Outcome s text (Due k) at new (On (Some 0) d) = record {
       new = There k tree 0;
       stands = record { shapes = ap (map frame_meant) h.frames ∙ st.shapes; sheet = h.sheet (put_stack k) st.sheet; kept = st.kept; low = omega arith };
       phase_is = refl;
-      leads = subst (λ n. Leads s text (Due k) at (There k tree 0) n) (sym h.at) leads;
+      leads = subst (λ n. Leads s text (Due k) at (There k tree 0) n d) (sym h.at) leads;
     } in
     subst (λ u. Outcome s text (Due k) at new u) (sym h.turn) w
 
 -- ---- what they keep
+
+suits-leaf : (t : Tree) (k : List stack.Frame) (m : Tree) (look : Look) → MayLook (OfLeaf t) look → Suits (There k m 0) look
+suits-leaf t k m Free h = tt
+suits-leaf t k m (Named sign) h = tt
+suits-leaf t k m (Lone sign) h = tt
+suits-leaf t k m (looks.Over sign) h = absurd h
+suits-leaf t k m InList h = absurd h
+suits-leaf t k m InCurly h = absurd h
+suits-leaf t k m (Joined x) h = absurd h
+
+-- no leaf
+abbrev pub Opens : Kind → Type 0
+Opens (OfLeaf t) = ⊥
+Opens _ = Unit {0}
+
+not-lone : (kind : Kind) (sign : Bool) → Opens kind → MayLook kind (Lone sign) → ⊥
+not-lone (OfLeaf t) sign o h = o
+not-lone OfBracket sign o h = h
+not-lone OfCurly sign o h = h
+not-lone OfListed sign o h = h
+not-lone (OfCall n) sign o h = h
+not-lone (OfPrefix n q) sign o h = h
+
+suits-due : (kind : Kind) (k : List stack.Frame) (look : Look) → Opens kind → MayLook kind look → Suits (Due k) look
+suits-due kind k Free o h = tt
+suits-due kind k (Named sign) o h = tt
+suits-due kind k (Lone sign) o h = not-lone kind sign o h
+suits-due kind k (looks.Over sign) o h = tt
+suits-due kind k InList o h = tt
+suits-due kind k InCurly o h = tt
+suits-due kind k (Joined x) o h = tt
+
+no-doubts : (s : Setting) (kind : Kind) (k : List stack.Frame) (first : Token) (over : List Token) (look : Look) → Opens kind → MayLook kind look → Doubts s k first over look false
+no-doubts s kind k first over Free o h = refl
+no-doubts s kind k first over (Named sign) o h = refl
+no-doubts s kind k first over (Lone sign) o h = absurd (not-lone kind sign o h)
+no-doubts s kind k first over (looks.Over sign) o h = refl
+no-doubts s kind k first over InList o h = refl
+no-doubts s kind k first over InCurly o h = refl
+no-doubts s kind k first over (Joined x) o h = refl
 
 module _ (source : Source) (at end : ℕ) (k : List stack.Frame) where
   abbrev set : Setting
@@ -106,23 +154,128 @@ module _ (source : Source) (at end : ℕ) (k : List stack.Frame) where
   abbrev here : List ℕ
   here = source.text.now
 
-  pub leaf-leads : (m : Tree) → begins set (tokens_at source at) ≡ begun.Leaf m (tokens_at source end) → IsFurther here at end → Leads set here (Due k) at (There k m 0) end
-  leaf-leads m e f = record { to = λ goal w. turns.takes_leaf set (tokens_at source at) (tokens_at source end) m e w; back = λ goal w. turns.took_leaf set (tokens_at source at) (tokens_at source end) m e w; rest = f.rest }
+  so : (kind : Kind) → begins set (tokens_at source at) ≡ fill kind (tokens_at source end) → (f : IsFurther here at end) → SoOpened set kind f.first f.over (tokens_at source end)
+  so kind e f = so-opened set kind f.first f.over (tokens_at source end) (sym (ap (begins set) (scans-tokens f.scans)) ∙ e)
 
-  pub round-leads : begins set (tokens_at source at) ≡ begun.Bracket (tokens_at source end) → IsFurther here at end → Leads set here (Due k) at (Due (stack.Round ∷ k)) end
-  round-leads e f = record { to = λ goal w. turns.opens_round set (tokens_at source at) (tokens_at source end) e w; back = λ goal w. turns.opened_round set (tokens_at source at) (tokens_at source end) e w; rest = f.rest }
+  begin-leads : (kind : Kind) (new : Position) (doubt : Bool) (f : IsFurther here at end) (o : SoOpened set kind f.first f.over (tokens_at source end))
+      → ((ts us : List Token) (goal : Tree) → begins set ts ≡ fill kind us → Wants set k ts goal → Reads set new us goal)
+      → ((ts us : List Token) (goal : Tree) → begins set ts ≡ fill kind us → Reads set new us goal → Wants set k ts goal)
+      → Suits new o.look → Doubts set k f.first f.over o.look doubt → Leads set here (Due k) at new end doubt
+  begin-leads kind new doubt f o to back suits doubts = record {
+    first = f.first;
+    over = f.over;
+    scans = f.scans;
+    look = o.look;
+    fits = o.fits;
+    to = λ vs goal h w. to (f.first ∷ f.over ++ vs) vs goal (o.again vs h) w;
+    back = λ vs goal h w. back (f.first ∷ f.over ++ vs) vs goal (o.again vs h) w;
+    step = (o.alone, suits, doubts);
+  }
 
-  pub curly-leads : begins set (tokens_at source at) ≡ begun.Curly (tokens_at source end) → IsFurther here at end → Leads set here (Due k) at (Due (stack.Braces ∷ k)) end
-  curly-leads e f = record { to = λ goal w. turns.opens_curly set (tokens_at source at) (tokens_at source end) e w; back = λ goal w. turns.opened_curly set (tokens_at source at) (tokens_at source end) e w; rest = f.rest }
+  pub leaf-leads : (m : Tree) (doubt : Bool) → begins set (tokens_at source at) ≡ begun.Leaf m (tokens_at source end) → (f : IsFurther here at end)
+      → ((look : Look) → MayLook (OfLeaf m) look → IsAloneKind set.ops f.first (OfLeaf m) look f.over → Doubts set k f.first f.over look doubt) → Leads set here (Due k) at (There k m 0) end doubt
+  leaf-leads m doubt e f doubts =
+      let o = so (OfLeaf m) e f in
+      begin-leads (OfLeaf m) (There k m 0) doubt f o (λ ts us goal h w. turns.takes_leaf set ts us m h w) (λ ts us goal h w. turns.took_leaf set ts us m h w) (suits-leaf m k m o.look o.may) (doubts o.look o.may o.lone)
 
-  pub list-leads : begins set (tokens_at source at) ≡ begun.Listed (tokens_at source end) → IsFurther here at end → Leads set here (Due k) at (Due (stack.ItemOf [] ∷ k)) end
-  list-leads e f = record { to = λ goal w. turns.opens_list set (tokens_at source at) (tokens_at source end) e w; back = λ goal w. turns.opened_list set (tokens_at source at) (tokens_at source end) e w; rest = f.rest }
+  opens-leads : (kind : Kind) (g : stack.Frame) → Opens kind → begins set (tokens_at source at) ≡ fill kind (tokens_at source end) → (f : IsFurther here at end)
+      → ((ts us : List Token) (goal : Tree) → begins set ts ≡ fill kind us → Wants set k ts goal → Wants set (g ∷ k) us goal)
+      → ((ts us : List Token) (goal : Tree) → begins set ts ≡ fill kind us → Wants set (g ∷ k) us goal → Wants set k ts goal)
+      → Leads set here (Due k) at (Due (g ∷ k)) end false
+  opens-leads kind g opens e f to back =
+      let o = so kind e f in
+      begin-leads kind (Due (g ∷ k)) false f o to back (suits-due kind (g ∷ k) o.look opens o.may) (no-doubts set kind k f.first f.over o.look opens o.may)
 
-  pub call-leads : (n : List ℕ) → begins set (tokens_at source at) ≡ begun.Call n (tokens_at source end) → IsFurther here at end → Leads set here (Due k) at (Due (stack.ArgumentOf n [] ∷ k)) end
-  call-leads n e f = record { to = λ goal w. turns.opens_call set (tokens_at source at) (tokens_at source end) n e w; back = λ goal w. turns.opened_call set (tokens_at source at) (tokens_at source end) n e w; rest = f.rest }
+  pub round-leads : begins set (tokens_at source at) ≡ begun.Bracket (tokens_at source end) → IsFurther here at end → Leads set here (Due k) at (Due (stack.Round ∷ k)) end false
+  round-leads e f = opens-leads OfBracket stack.Round tt e f (λ ts us goal h w. turns.opens_round set ts us h w) (λ ts us goal h w. turns.opened_round set ts us h w)
 
-  pub prefix-leads : (n : List ℕ) (o : Operator) → begins set (tokens_at source at) ≡ begun.Prefix n o (tokens_at source end) → IsFurther here at end → Leads set here (Due k) at (Due (stack.PrefixOf n o ∷ k)) end
-  prefix-leads n o e f = record { to = λ goal w. turns.opens_prefix set (tokens_at source at) (tokens_at source end) n o e w; back = λ goal w. turns.opened_prefix set (tokens_at source at) (tokens_at source end) n o e w; rest = f.rest }
+  pub curly-leads : begins set (tokens_at source at) ≡ begun.Curly (tokens_at source end) → IsFurther here at end → Leads set here (Due k) at (Due (stack.Braces ∷ k)) end false
+  curly-leads e f = opens-leads OfCurly stack.Braces tt e f (λ ts us goal h w. turns.opens_curly set ts us h w) (λ ts us goal h w. turns.opened_curly set ts us h w)
+
+  pub list-leads : begins set (tokens_at source at) ≡ begun.Listed (tokens_at source end) → IsFurther here at end → Leads set here (Due k) at (Due (stack.ItemOf [] ∷ k)) end false
+  list-leads e f = opens-leads OfListed (stack.ItemOf []) tt e f (λ ts us goal h w. turns.opens_list set ts us h w) (λ ts us goal h w. turns.opened_list set ts us h w)
+
+  pub call-leads : (n : List ℕ) → begins set (tokens_at source at) ≡ begun.Call n (tokens_at source end) → IsFurther here at end → Leads set here (Due k) at (Due (stack.ArgumentOf n [] ∷ k)) end false
+  call-leads n e f = opens-leads (OfCall n) (stack.ArgumentOf n []) tt e f (λ ts us goal h w. turns.opens_call set ts us n h w) (λ ts us goal h w. turns.opened_call set ts us n h w)
+
+  pub prefix-leads : (n : List ℕ) (o : Operator) → begins set (tokens_at source at) ≡ begun.Prefix n o (tokens_at source end) → IsFurther here at end → Leads set here (Due k) at (Due (stack.PrefixOf n o ∷ k)) end false
+  prefix-leads n o e f = opens-leads (OfPrefix n o) (stack.PrefixOf n o) tt e f (λ ts us goal h w. turns.opens_prefix set ts us n o h w) (λ ts us goal h w. turns.opened_prefix set ts us n o h w)
+
+-- ---- prefix operators that stand for themselves
+
+name-alone : (ops : OperatorTable) (x : Lexeme) (sign : Bool) (n : List ℕ) (l : Leaf) (quotes : DoubleQuotes) (end : ℕ) → IsName x sign n → IsNamedBy ops x (kind.Leaf l end) → leaf_tree quotes l ≡ AtomTree n → prefix_of ops n ≡ None
+name-alone ops (words.Name m) sign n (leaf.Integer z) quotes end h d e = let f : ⊥ = cc in absurd f
+name-alone ops (words.Name m) sign n (leaf.Variable v) quotes end h d e = ap (prefix_of ops) (sym h.0) ∙ d
+name-alone ops (words.Name m) sign n (leaf.Atom v) quotes end h d e = ap (prefix_of ops) (sym h.0) ∙ d
+name-alone ops (words.Name m) sign n (leaf.Text v) quotes end h d e = ap (prefix_of ops) (sym h.0) ∙ d
+name-alone ops (words.QuotedName m) sign n (leaf.Integer z) quotes end h d e = let f : ⊥ = cc in absurd f
+name-alone ops (words.QuotedName m) sign n (leaf.Variable v) quotes end h d e = ap (prefix_of ops) (sym h.0) ∙ d
+name-alone ops (words.QuotedName m) sign n (leaf.Atom v) quotes end h d e = ap (prefix_of ops) (sym h.0) ∙ d
+name-alone ops (words.QuotedName m) sign n (leaf.Text v) quotes end h d e = ap (prefix_of ops) (sym h.0) ∙ d
+name-alone ops x sign n l quotes end h d e = absurd h
+
+none-some : (q : Option Operator) (o : Operator) → q ≡ None → q ≡ Some o → ⊥
+none-some q o e h = cc
+
+leaf-no-doubt : (s : Setting) (k : List stack.Frame) (a : Bool) (x : Lexeme) (over : List Token) (l : Leaf) (quotes : DoubleQuotes) (end : ℕ) → IsNamedBy s.ops x (kind.Leaf l end)
+    → (look : Look) → MayLook (OfLeaf (leaf_tree quotes l)) look → IsAlone s.ops x (leaf_tree quotes l) look over → Doubts s k (token a x) over look false
+leaf-no-doubt s k a x over l quotes end d (Lone sign) h i = absurd (none-some _ i.1 (name-alone s.ops x sign i.0 l quotes end i.2 d i.4) i.3)
+leaf-no-doubt s k a x over l quotes end d Free h i = refl
+leaf-no-doubt s k a x over l quotes end d (Named sign) h i = refl
+leaf-no-doubt s k a x over l quotes end d (looks.Over sign) h i = refl
+leaf-no-doubt s k a x over l quotes end d InList h i = refl
+leaf-no-doubt s k a x over l quotes end d InCurly h i = refl
+leaf-no-doubt s k a x over l quotes end d (Joined y) h i = refl
+
+-- the operator that was found is that of the name
+record IsFoundName (ops : OperatorTable) (x : Lexeme) (m : List ℕ) (o : Operator) : Type 0 where
+  pub sign : Bool
+  pub named : IsName x sign m
+  pub prefix : prefix_of ops m ≡ Some o
+
+found_name : (ops : OperatorTable) (x : Lexeme) (m : List ℕ) (o : DeclaredOperator) (end : ℕ) → IsNamedBy ops x (kind.Alone m o end) → IsFoundName ops x m (operator_meant o)
+found_name ops (words.Name n) m o end d = record { sign = is_minus_name m; named = (sym d.0, refl); prefix = ap (prefix_of ops) d.0 ∙ d.1 }
+found_name ops (words.QuotedName n) m o end d = record { sign = false; named = (sym d.0, refl); prefix = ap (prefix_of ops) d.0 ∙ d.1 }
+found_name ops x m o end d = absurd d
+
+one_name : (x : Lexeme) (a b : Bool) (m n : List ℕ) → IsName x a m → IsName x b n → m ≡ n
+one_name (words.Name k) a b m n h i = sym h.0 ∙ i.0
+one_name (words.QuotedName k) a b m n h i = sym h.0 ∙ i.0
+one_name x a b m n h i = absurd h
+
+alone-doubt : (s : Setting) (k : List stack.Frame) (a : Bool) (x : Lexeme) (over : List Token) (m : List ℕ) (o : Operator) (doubt : Bool) → IsFoundName s.ops x m o → doubt ≡ nat_le o.priority (bound_of k)
+    → (look : Look) → MayLook (OfLeaf (AtomTree m)) look → IsAlone s.ops x (AtomTree m) look over → Doubts s k (token a x) over look doubt
+alone-doubt s k a x over m o doubt f d (Lone sign) h i =
+    (record { apart = a; lexeme = x; name = m; operator = o; is = refl; named = subst (λ n. IsName x sign n) (one_name x sign f.sign i.0 m i.2 f.named) i.2; prefix = f.prefix; may = d }, i.5)
+alone-doubt s k a x over m o doubt f d Free h i = absurd (i m f.sign f.named refl)
+alone-doubt s k a x over m o doubt f d (Named sign) h i = absurd (none-some _ o (i m f.sign f.named) f.prefix)
+alone-doubt s k a x over m o doubt f d (looks.Over sign) h i = absurd h
+alone-doubt s k a x over m o doubt f d InList h i = absurd h
+alone-doubt s k a x over m o doubt f d InCurly h i = absurd h
+alone-doubt s k a x over m o doubt f d (Joined y) h i = absurd h
+
+first-found : (cs rest : List ℕ) (t u : Token) (left : List ℕ) (over : List Token) → scanned cs ≡ ScannedTo u left → Scans cs (t ∷ over) rest → t ≡ u
+first-found cs rest t u left over e (onto f n h) = cc
+
+module _ (source : Source) (at end : ℕ) (k : List stack.Frame) where
+  pub plain-leads : (l : Leaf) → (h : Starts source at (kind.Leaf l end)) → Leads (setting_of source) source.text.now (Due k) at (There k (leaf_tree source.quotes l) 0) end false
+  plain-leads l h =
+      let s = setting_of source in
+      let t = leaf_tree source.quotes l in
+      let f = first-found _ _ h.ends.first (token h.apart h.lexeme) h.left h.ends.over h.found h.ends.scans in
+      leaf-leads source at end k t false h.begins h.ends
+      (subst (λ u. (look : Look) → MayLook (OfLeaf t) look → IsAloneKind s.ops u (OfLeaf t) look h.ends.over → Doubts s k u h.ends.over look false) (sym f)
+      (leaf-no-doubt s k h.apart h.lexeme h.ends.over l source.quotes end h.named))
+
+  pub alone-leads : (m : List ℕ) (o : DeclaredOperator) (doubt : Bool) → (h : Starts source at (kind.Alone m o end)) → doubt ≡ nat_le o.priority (bound_of k)
+      → Leads (setting_of source) source.text.now (Due k) at (There k (AtomTree m) 0) end doubt
+  alone-leads m o doubt h d =
+      let s = setting_of source in
+      let t = AtomTree m in
+      let f = first-found _ _ h.ends.first (token h.apart h.lexeme) h.left h.ends.over h.found h.ends.scans in
+      leaf-leads source at end k t doubt h.begins h.ends
+      (subst (λ u. (look : Look) → MayLook (OfLeaf t) look → IsAloneKind s.ops u (OfLeaf t) look h.ends.over → Doubts s k u h.ends.over look doubt) (sym f)
+      (alone-doubt s k h.apart h.lexeme h.ends.over m (operator_meant o) doubt (found_name s.ops h.lexeme m o end h.named) d))
 
 -- nothing is read where no token stands
 pub nothing-due : (s : Setting) (k : List stack.Frame) (cs : List ℕ) → scanned cs ≡ ScannedNone → (goal : Tree) → Wants s k (tokens_of cs) goal → ⊥
@@ -146,23 +299,38 @@ nothing-there s k l p cs e goal g = plugs-none s k l goal (turns.goes_stop s [] 
 pub first-joint : (ops : OperatorTable) (cs rest : List ℕ) (a : Bool) (x : Lexeme) → scanned cs ≡ ScannedTo (token a x) rest → first_joint ops (tokens_of cs) ≡ lexeme_joint ops x
 first-joint ops cs rest a x e = ap (first_joint ops) (tokens-first cs rest a x e).is
 
+joint-of-first : (ops : OperatorTable) (ts us over vs : List Token) (t : Token) (j : Joint) → ts ≡ t ∷ over ++ us → first_joint ops ts ≡ j → first_joint ops (t ∷ over ++ vs) ≡ j
+joint-of-first ops ts us over vs t j e h = sym (ap (first_joint ops) e) ∙ h
+
 pub outcome-same : (s : Setting) (text : List ℕ) (j : Joint) (k m : List stack.Frame) (l u : Tree) (p q at : ℕ) (st : State) (t : Turn) → Same s j k l p m u q → first_joint s.ops (tokens_of (chars_from text at)) ≡ j
     → Outcome s text (There m u q) at st t → Outcome s text (There k l p) at st t
-outcome-same s text j k m l u p q at st (On phase) same e w = record {
-  new = w.new;
-  stands = w.stands;
-  phase_is = w.phase_is;
-  leads = record { to = λ goal g. w.leads.to goal (same.to _ goal e g); back = λ goal g. same.back _ goal e (w.leads.back goal g); rest = w.leads.rest };
-}
+outcome-same s text j k m l u p q at st (On phase doubt) same e w =
+    let b = w.leads in
+    let first : (vs : List Token) → first_joint s.ops (b.first ∷ b.over ++ vs) ≡ j = λ vs. joint-of-first s.ops (tokens_of (chars_from text at)) (tokens_of (chars_from text st.at)) b.over vs b.first j (scans-tokens b.scans) e in
+    record {
+      new = w.new;
+      stands = w.stands;
+      phase_is = w.phase_is;
+      leads = record {
+        first = b.first;
+        over = b.over;
+        scans = b.scans;
+        look = b.look;
+        fits = b.fits;
+        to = λ vs goal f g. b.to vs goal f (same.to (b.first ∷ b.over ++ vs) goal (first vs) g);
+        back = λ vs goal f g. same.back (b.first ∷ b.over ++ vs) goal (first vs) (b.back vs goal f g);
+        step = b.step;
+      };
+    }
 outcome-same s text j k m l u p q at st (Over end) same e w = record { tree = w.tree; sheet = w.sheet; reads = same.back _ w.tree e w.reads; rest = w.rest }
 outcome-same s text j k m l u p q at st (Refused r) same e w = λ goal g. w goal (same.to _ goal e g)
 
 -- ---- an operator behind an operand
 
-on-infix : (ops : OperatorTable) (bound p : ℕ) (ts us : List Token) (t : Token) (n : List ℕ) (o : Operator) → ts ≡ t ∷ us → token_joint ops t ≡ Infix n o → joint_fits bound p (Infix n o) ≡ true → next ops bound p ts ≡ OnInfix n o us
+pub on-infix : (ops : OperatorTable) (bound p : ℕ) (ts us : List Token) (t : Token) (n : List ℕ) (o : Operator) → ts ≡ t ∷ us → token_joint ops t ≡ Infix n o → joint_fits bound p (Infix n o) ≡ true → next ops bound p ts ≡ OnInfix n o us
 on-infix ops bound p ts us t n o e f h = ap (next ops bound p) e ∙ rw f (rw h refl)
 
-on-postfix : (ops : OperatorTable) (bound p : ℕ) (ts us : List Token) (t : Token) (n : List ℕ) (o : Operator) → ts ≡ t ∷ us → token_joint ops t ≡ Postfix n o → joint_fits bound p (Postfix n o) ≡ true → next ops bound p ts ≡ OnPostfix n o us
+pub on-postfix : (ops : OperatorTable) (bound p : ℕ) (ts us : List Token) (t : Token) (n : List ℕ) (o : Operator) → ts ≡ t ∷ us → token_joint ops t ≡ Postfix n o → joint_fits bound p (Postfix n o) ≡ true → next ops bound p ts ≡ OnPostfix n o us
 on-postfix ops bound p ts us t n o e f h = ap (next ops bound p) e ∙ rw f (rw h refl)
 
 -- a joint is no end
@@ -176,25 +344,33 @@ no-end ops x n o e = refl
 
 module _ (source : Source) (at end : ℕ) (k : List stack.Frame) (l : Tree) (p : ℕ) (a : Bool) (x : Lexeme) (n : List ℕ) (o : Operator) where
   pub infix-leads : scanned (chars_from source.text.now at) ≡ ScannedTo (token a x) (chars_from source.text.now end) → lexeme_joint source.ops.now x ≡ Infix n o → joint_fits (bound_of k) p (Infix n o) ≡ true
-      → p ≤ bound_of k → Leads (setting_of source) source.text.now (There k l p) at (Due (stack.InfixOf n o l ∷ k)) end
+      → p ≤ bound_of k → Leads (setting_of source) source.text.now (There k l p) at (Due (stack.InfixOf n o l ∷ k)) end false
   infix-leads e j h le =
-      let m = not-end source.ops.now x n o j in
-      let i = on-infix source.ops.now (bound_of k) p (tokens_at source at) (tokens_at source end) (token a x) n o (tokens-more _ _ a x e m) j h in
+      let i : (vs : List Token) → next source.ops.now (bound_of k) p (token a x ∷ vs) ≡ OnInfix n o vs = λ vs. on-infix source.ops.now (bound_of k) p (token a x ∷ vs) vs (token a x) n o refl j h in
       record {
-        to = λ goal g. turns.goes_infix (setting_of source) (tokens_at source at) (tokens_at source end) n o l p i (fits-within (bound_of k) p o h) g;
-        back = λ goal w. turns.went_infix (setting_of source) (tokens_at source at) (tokens_at source end) n o l p i le w;
-        rest = ap (λ f. f.rest) (front-more _ _ a x e m);
+        first = token a x;
+        over = [];
+        scans = onto e (not-end source.ops.now x n o j) none;
+        look = Free;
+        fits = refl;
+        to = λ vs goal f g. turns.goes_infix (setting_of source) (token a x ∷ vs) vs n o l p (i vs) (fits-within (bound_of k) p o h) g;
+        back = λ vs goal f w. turns.went_infix (setting_of source) (token a x ∷ vs) vs n o l p (i vs) le w;
+        step = (refl, refl, refl);
       }
 
   pub postfix-leads : scanned (chars_from source.text.now at) ≡ ScannedTo (token a x) (chars_from source.text.now end) → lexeme_joint source.ops.now x ≡ Postfix n o → joint_fits (bound_of k) p (Postfix n o) ≡ true
-      → p ≤ bound_of k → Leads (setting_of source) source.text.now (There k l p) at (There k (one n l) o.priority) end
+      → p ≤ bound_of k → Leads (setting_of source) source.text.now (There k l p) at (There k (one n l) o.priority) end false
   postfix-leads e j h le =
-      let m = no-end source.ops.now x n o j in
-      let i = on-postfix source.ops.now (bound_of k) p (tokens_at source at) (tokens_at source end) (token a x) n o (tokens-more _ _ a x e m) j h in
+      let i : (vs : List Token) → next source.ops.now (bound_of k) p (token a x ∷ vs) ≡ OnPostfix n o vs = λ vs. on-postfix source.ops.now (bound_of k) p (token a x ∷ vs) vs (token a x) n o refl j h in
       record {
-        to = λ goal g. turns.goes_postfix (setting_of source) (tokens_at source at) (tokens_at source end) n o l p i (fits-within (bound_of k) p o h) g;
-        back = λ goal w. turns.went_postfix (setting_of source) (tokens_at source at) (tokens_at source end) n o l p i le w;
-        rest = ap (λ f. f.rest) (front-more _ _ a x e m);
+        first = token a x;
+        over = [];
+        scans = onto e (no-end source.ops.now x n o j) none;
+        look = Free;
+        fits = refl;
+        to = λ vs goal f g. turns.goes_postfix (setting_of source) (token a x ∷ vs) vs n o l p (i vs) (fits-within (bound_of k) p o h) g;
+        back = λ vs goal f w. turns.went_postfix (setting_of source) (token a x ∷ vs) vs n o l p (i vs) le w;
+        step = (refl, refl, refl);
       }
 
   pub fits-bound : joint_fits (bound_of k) p (Infix n o) ≡ true → o.priority ≤ bound_of k

@@ -2,7 +2,7 @@
 use Rattle.std.proofs.Common.{◌≡◌, ◌∙◌, ℕ, Bool, true, false, List, [], ◌∷◌, Option, Some, None, refl, sym, ap, subst}
 use Rattle.au_model.specs.Characters.{chars_from}
 use Rattle.au_model.specs.Layout.{GapThen, behind_layout}
-use Rattle.au_model.specs.Lexemes.{token, End, front, tokens_of}
+use Rattle.au_model.specs.Lexemes.{token, End, lexeme_of, front, tokens_of}
 use Rattle.au_model.specs.Tokens.{Word, NameWord, QuotedWord, VariableWord, IntegerWord, TextWord, MarkWord, StopWord, LastWord, Lexed, FoundWord, FoundFault, word_behind, next_word}
 use Rattle.au_model.specs.Trees.{Tree}
 use Rattle.au_model.specs.Openings.{Setting}
@@ -12,7 +12,9 @@ use Rattle.token_scan.specs.declared.token.Token.{Token as Place}
 use Rattle.token_scan.specs.declared.token.BadToken.{BadToken}
 use Rattle.token_scan.specs.declared.token.TokenKind.{TokenKind}
 use Rattle.token_scan.specs.declared.token.TokenKind.TheVariants.{EndOfText}
-use Rattle.term_reader.specs.Positions.{Position, Due, Reads, Leads, Ended, rest_at}
+use Rattle.term_reader.specs.Positions.{Position, Reads, Led, rest_at}
+use Rattle.term_reader.specs.Stack.{Wants}
+use Rattle.term_reader.proofs.Scanning.{scans-tokens, scans-rest}
 use Rattle.term_reader.specs.Reading.{NoTerm}
 use Rattle.term_reader.proofs.Turns.{starts, reaches}
 
@@ -30,25 +32,33 @@ last-not w rest k e h = refl
 pub over-is : (text : List ℕ) (at : ℕ) (t : Place) → IsNextToken text at t → t.kind ≡ EndOfText → is_over (chars_from text at) ≡ true
 over-is text at t h e = ap is_last (next-is text at t h) ∙ last-is (word_of text t) _ t.kind h.token.kind e
 
+last-none : (w : Word) (rest : List ℕ) → lexeme_of w ≡ None → is_last (FoundWord w rest) ≡ true
+last-none LastWord rest e = refl
+last-none (NameWord cs) rest e = let z : ⊥ = cc in absurd z
+last-none (QuotedWord cs) rest e = let z : ⊥ = cc in absurd z
+last-none (VariableWord cs) rest e = let z : ⊥ = cc in absurd z
+last-none (IntegerWord n) rest e = let z : ⊥ = cc in absurd z
+last-none (TextWord cs) rest e = let z : ⊥ = cc in absurd z
+last-none (MarkWord c) rest e = let z : ⊥ = cc in absurd z
+last-none StopWord rest e = let z : ⊥ = cc in absurd z
+
+pub over-none : (text : List ℕ) (at : ℕ) (t : Place) → IsNextToken text at t → lexeme_of (word_of text t) ≡ None → is_over (chars_from text at) ≡ true
+over-none text at t h e = ap is_last (next-is text at t h) ∙ last-none (word_of text t) _ e
+
 pub over-not : (text : List ℕ) (at : ℕ) (t : Place) → IsNextToken text at t → (t.kind ≡ EndOfText → ⊥) → is_over (chars_from text at) ≡ false
 over-not text at t h e = ap is_last (next-is text at t h) ∙ last-not (word_of text t) _ t.kind h.token.kind e
 
 pub over-fault : (text : List ℕ) (at : ℕ) (e : BadToken) → IsFault (next_word (chars_from text at)) text at e → is_over (chars_from text at) ≡ false
 over-fault text at e h = ap is_last h.fault
 
--- steps one after another
-pub leads-start : (s : Setting) (text : List ℕ) (x : Position) (at : ℕ) → Leads s text x at x at
-leads-start s text x at = record { to = λ goal r. r; back = λ goal r. r; rest = refl }
-
-pub leads-then : (s : Setting) (text : List ℕ) (x y z : Position) (at mid end : ℕ) → Leads s text x at y mid → Leads s text y mid z end → Leads s text x at z end
-leads-then s text x y z at mid end a b = record { to = λ goal r. b.to goal (a.to goal r); back = λ goal r. a.back goal (b.back goal r); rest = a.rest ∙ b.rest }
-
 -- the whole term
-pub spelled : (s : Setting) (text : List ℕ) (at mid end : ℕ) (x : Position) (t : Tree) → Leads s text (Due []) at x mid → Reads s x (tokens_of (chars_from text mid)) t → rest_at text mid ≡ chars_from text end
+pub spelled : (s : Setting) (text : List ℕ) (at mid end : ℕ) (x : Position) (t : Tree) (d : Bool) → Led s text at x mid d → Reads s x (tokens_of (chars_from text mid)) t → rest_at text mid ≡ chars_from text end
     → SpellsTermWithEnd s (chars_from text at) t (chars_from text end)
-spelled s text at mid end x t l r e =
-    let z = reaches s (tokens_of (chars_from text at)) t (l.back t r) in
-    record { apart = z.apart; spelled = z.is; left = l.rest ∙ e }
+spelled s text at mid end x t d l r e =
+    let w = l.back (tokens_of (chars_from text mid)) t l.fits r in
+    let z = reaches s (tokens_of (chars_from text at)) t (subst (λ ts. Wants s [] ts t) (sym (scans-tokens l.scans)) w) in
+    record { apart = z.apart; spelled = z.is; left = scans-rest l.scans ∙ e }
 
-pub no_term : (s : Setting) (text : List ℕ) (at mid : ℕ) (x : Position) → Leads s text (Due []) at x mid → ((goal : Tree) → Reads s x (tokens_of (chars_from text mid)) goal → ⊥) → NoTerm s (chars_from text at)
-no_term s text at mid x l n t rest h = n t (l.to t (starts s h.spelled))
+pub no_term : (s : Setting) (text : List ℕ) (at mid : ℕ) (x : Position) (d : Bool) → Led s text at x mid d → ((goal : Tree) → Reads s x (tokens_of (chars_from text mid)) goal → ⊥) → NoTerm s (chars_from text at)
+no_term s text at mid x d l n t rest h =
+    n t (l.to (tokens_of (chars_from text mid)) t l.fits (subst (λ ts. Wants s [] ts t) (scans-tokens l.scans) (starts s h.spelled)))

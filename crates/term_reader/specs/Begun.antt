@@ -1,6 +1,7 @@
 -- What the beginning of a term that was found stands for.
-use Rattle.std.specs.Prelude.{◌≡◌, ◌≤◌, ℕ, suc, Bool, not, ◌&&◌, List, IsCharBoundary}
+use Rattle.std.specs.Prelude.{◌≡◌, ◌≤◌, ℕ, suc, Bool, not, ◌&&◌, List, Some, None, IsCharBoundary}
 use Rattle.au_model.specs.Characters.{chars_from}
+use Rattle.au_model.specs.Lexemes as words
 use Rattle.au_model.specs.Lexemes.{Token, tokens_of}
 use Rattle.au_model.specs.Trees.{Tree, VarTree, IntTree, AtomTree, text_tree}
 use Rattle.au_model.specs.Operators.{OperatorTable, prefix_of}
@@ -52,3 +53,19 @@ OpensFrom text at (kind.List end) = IsReached text at end
 OpensFrom text at (kind.Call n end) = IsReached text at end
 OpensFrom text at (kind.Prefix n o end) = IsReached text at end
 OpensFrom text at kind.Fails = Unit {0}
+
+-- a name's opening is that of a prefix operator that stands for itself, or that of no prefix operator
+abbrev pub IsNamed : OperatorTable → List ℕ → Opening → Type 0
+IsNamed ops n (kind.Alone m o end) = (m ≡ n) × (prefix_of ops n ≡ Some (operator_meant o))
+IsNamed ops n (kind.Leaf (leaf.Integer z) end) = Unit {0}
+IsNamed ops n (kind.Leaf l end) = prefix_of ops n ≡ None
+IsNamed ops n _ = Unit {0}
+
+abbrev pub IsNoName : Opening → Type 0
+IsNoName (kind.Alone m o end) = ⊥
+IsNoName _ = Unit {0}
+
+abbrev pub IsNamedBy : OperatorTable → words.Lexeme → Opening → Type 0
+IsNamedBy ops (words.Name n) o = IsNamed ops n o
+IsNamedBy ops (words.QuotedName n) o = IsNamed ops n o
+IsNamedBy ops _ o = IsNoName o

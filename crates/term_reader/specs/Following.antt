@@ -2,9 +2,10 @@
 use Rattle.std.specs.Prelude.{◌≡◌, ◌≤◌, ◌^◌, ℕ, suc, Bool, true, false, List, ◌∷◌, if◌then◌else◌}
 use Rattle.au_model.specs.Characters.{chars_from}
 use Rattle.au_model.specs.Lexemes as words
-use Rattle.au_model.specs.Lexemes.{Token, token, front, tokens_of}
+use Rattle.au_model.specs.Lexemes.{Token, token, tokens_of}
 use Rattle.au_model.specs.Openings.{Listed, Curly, opens, counts, list_begins, curly_begins}
 use Rattle.token_scan.specs.Parts.{IsPlaceFrom}
+use Rattle.term_reader.specs.Looks.{Scans}
 use Rattle.term_reader.specs.declared.lexeme.Closer.{Closer}
 use Rattle.term_reader.specs.declared.lexeme.Closer.TheVariants as closer
 use Rattle.term_reader.specs.declared.lexeme.Follow.{Follow}
@@ -41,10 +42,11 @@ IsFollow text ts (ClosesList end) = (a : Bool) × (ts ≡ token a words.CloseLis
 IsFollow text ts (ClosesCurly end) = (a : Bool) × (ts ≡ token a words.CloseCurly ∷ tokens_of (chars_from text end))
 IsFollow text ts Other = NoneFollows ts
 
--- a place further on, from which the same is left behind the end
+-- a place further on, behind some tokens
 pub record IsReached (text : List ℕ) (at end : ℕ) : Type 0 where
   pub place : IsPlaceFrom text at end
-  pub rest : (front (chars_from text at)).rest ≡ (front (chars_from text end)).rest
+  pub over : List Token
+  pub scans : Scans (chars_from text at) over (chars_from text end)
 
 abbrev pub FollowEnds : List ℕ → ℕ → Follow → Type 0
 FollowEnds text at (Opens end) = IsReached text at end

@@ -8,7 +8,10 @@ pub mod Kept
 pub mod Readings
 pub mod Stack
 pub mod Frames
+pub mod Looks
 pub mod Positions
 pub mod Settling
 pub mod Starting
 pub mod Reading
+pub mod TextFaults
+pub mod Refusing

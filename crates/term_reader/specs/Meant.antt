@@ -1,10 +1,14 @@
 -- What the reader's own types stand for.
-use Rattle.std.specs.Prelude.{◌≡◌, ◌≤◌, ◌^◌, ℕ, suc, Bool, true, false, List, codes}
+use Rattle.std.specs.Prelude.{◌≡◌, ◌≤◌, ◌^◌, ℕ, suc, Bool, true, false, List, codes, IsCharBoundary}
 use Rattle.au_model.specs.Characters.{chars_from}
 use Rattle.au_model.specs.Lexemes as words
 use Rattle.au_model.specs.Lexemes.{token, Scanned, ScannedTo, ScannedNone}
 use Rattle.au_model.specs.Joints.{Joint, Infix, Postfix, Nothing}
 use Rattle.op_table.specs.Meant.{operator_meant}
+use Rattle.au_model.specs.Layout.{GapThen, behind_layout}
+use Rattle.au_model.specs.Tokens.{next_word}
+use Rattle.au_model.specs.TermTexts.{is_over}
+use Rattle.token_scan.specs.Found.{IsFault}
 use Rattle.token_scan.specs.Parts.{IsPlaceFrom}
 use Rattle.term_reader.specs.declared.joint.Joint.{Joint as DeclaredJoint}
 use Rattle.term_reader.specs.declared.joint.Joint.TheVariants.{Infix as JointInfix, Postfix as JointPostfix, Nothing as JointNothing}
@@ -40,11 +44,15 @@ abbrev pub IsNarrow : Lexeme → Type 0
 IsNarrow (Integer k) = k ≤ 2 ^ 63
 IsNarrow _ = Unit {0}
 
--- the token ends behind this place
+-- it starts here, behind the layout
+abbrev pub IsStart : List ℕ → ℕ → ℕ → Type 0
+IsStart text at start = IsCharBoundary text start × (behind_layout (chars_from text at) ≡ GapThen (chars_from text start))
+
+-- the token ends behind this place; the faulty token's fault; or nothing but layout is left
 abbrev pub IsScan : List ℕ → ℕ → Scan → Type 0
-IsScan text at (Found t) = IsPlaceFrom text (suc at) t.end × IsNarrow t.lexeme
-IsScan text at (Bad e) = Unit {0}
-IsScan text at EndOfText = Unit {0}
+IsScan text at (Found t) = IsPlaceFrom text (suc at) t.end × IsNarrow t.lexeme × IsStart text at t.start
+IsScan text at (Bad e) = IsFault (next_word (chars_from text at)) text at e
+IsScan text at EndOfText = is_over (chars_from text at) ≡ true
 
 -- what a token behind an operand of this name joins it to
 abbrev pub joint_meant : List ℕ → DeclaredJoint → Joint

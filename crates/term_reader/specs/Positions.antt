@@ -1,9 +1,10 @@
 -- Where a reader is, and what its steps keep.
-use Rattle.std.specs.Prelude.{◌≡◌, ◌≤◌, ℕ, suc, List, [], Option, Some, None, map}
+use Rattle.std.specs.Prelude.{◌≡◌, ◌≤◌, ℕ, suc, Bool, true, false, List, [], ◌∷◌, ◌++◌, Option, Some, None, map}
 use Rattle.au_model.specs.Characters.{chars_from}
 use Rattle.au_model.specs.Lexemes.{Token, front, tokens_of}
 use Rattle.au_model.specs.Trees.{Tree}
-use Rattle.au_model.specs.Openings.{Setting}
+use Rattle.au_model.specs.Openings.{Setting, stands_alone}
+use Rattle.term_reader.specs.Looks.{Look, Free, Named, Lone, Over as OverOperand, InList, InCurly, Joined, presumed, Scans, IsLone, Doubts}
 use Rattle.token_scan.specs.Parts.{IsPlaceFrom}
 use Rattle.term_reader.specs.Stack.{Frame, Wants, Goes, bound_of}
 use Rattle.term_reader.specs.Sheets.{Sheet, no_cells, put_tree}
@@ -52,17 +53,64 @@ pub record Stands (st : State) (x : Position) : Type 0 where
 abbrev pub rest_at : List ℕ → ℕ → List ℕ
 rest_at text at = (front (chars_from text at)).rest
 
--- what is read from one place at a position is read from another at another
-pub record Leads (s : Setting) (text : List ℕ) (old : Position) (at : ℕ) (new : Position) (end : ℕ) : Type 0 where
-  pub to : (goal : Tree) → Reads s old (tokens_of (chars_from text at)) goal → Reads s new (tokens_of (chars_from text end)) goal
-  pub back : (goal : Tree) → Reads s new (tokens_of (chars_from text end)) goal → Reads s old (tokens_of (chars_from text at)) goal
-  pub rest : rest_at text at ≡ rest_at text end
+-- what may be presumed at a position
+abbrev pub Suits : Position → Look → Type 0
+Suits (Due k) (Lone sign) = ⊥
+Suits (There k l p) (OverOperand sign) = ⊥
+Suits (There k l p) InList = ⊥
+Suits (There k l p) InCurly = ⊥
+Suits _ _ = Unit {0}
 
-pub record Went (s : Setting) (text : List ℕ) (old : Position) (at : ℕ) (st : State) (phase : Option ℕ) : Type 0 where
+-- The beginning of an operand presumes something of the tokens behind it; a token behind an operand does not.
+abbrev pub IsStep : Setting → Position → Position → Token → List Token → List Token → Look → Bool → Type 0
+IsStep s (Due k) new first over us look doubt =
+    ((vs : List Token) → presumed s.ops look vs ≡ true → stands_alone s.ops (first ∷ over ++ vs) ≡ stands_alone s.ops (first ∷ over ++ us)) × Suits new look × Doubts s k first over look doubt
+IsStep s (There k l p) new first over us look doubt = (over ≡ []) × (look ≡ Free) × (doubt ≡ false)
+
+-- A step over some tokens: whatever comes behind them, if it is as presumed, is read at the old position together
+-- with them just as it is at the new one.
+pub record Leads (s : Setting) (text : List ℕ) (old : Position) (at : ℕ) (new : Position) (end : ℕ) (doubt : Bool) : Type 0 where
+  pub first : Token
+  pub over : List Token
+  pub scans : Scans (chars_from text at) (first ∷ over) (chars_from text end)
+  pub look : Look
+  pub fits : presumed s.ops look (tokens_of (chars_from text end)) ≡ true
+  pub to : (vs : List Token) (goal : Tree) → presumed s.ops look vs ≡ true → Reads s old (first ∷ over ++ vs) goal → Reads s new vs goal
+  pub back : (vs : List Token) (goal : Tree) → presumed s.ops look vs ≡ true → Reads s new vs goal → Reads s old (first ∷ over ++ vs) goal
+  pub step : IsStep s old new first over (tokens_of (chars_from text end)) look doubt
+
+pub record Went (s : Setting) (text : List ℕ) (old : Position) (at : ℕ) (st : State) (phase : Option ℕ) (doubt : Bool) : Type 0 where
   pub new : Position
   pub stands : Stands st new
   pub phase_is : phase ≡ phase_of new
-  pub leads : Leads s text old at new st.at
+  pub leads : Leads s text old at new st.at doubt
+
+-- where a prefix operator was read that stands for itself
+pub record LoneBefore (s : Setting) (read : List Token) (sign doubt : Bool) : Type 0 where
+  pub stack : List Frame
+  pub kept : IsKept stack
+  pub before : List Token
+  pub first : Token
+  pub is : read ≡ before ++ first ∷ []
+  pub lone : IsLone s stack first sign doubt
+  pub to : (vs : List Token) (goal : Tree) → Wants s [] (before ++ first ∷ vs) goal → Wants s stack (first ∷ vs) goal
+  pub back : (vs : List Token) (goal : Tree) → Wants s stack (first ∷ vs) goal → Wants s [] (before ++ first ∷ vs) goal
+
+abbrev pub DoubtsBefore : Setting → List Token → Look → Bool → Type 0
+DoubtsBefore s read (Lone sign) doubt = LoneBefore s read sign doubt
+DoubtsBefore s read _ doubt = doubt ≡ false
+
+-- The tokens from the start lead to this position: whatever comes behind them, if it is as presumed, is read there
+-- just as it is from the start together with them.
+pub record Led (s : Setting) (text : List ℕ) (start : ℕ) (x : Position) (at : ℕ) (doubt : Bool) : Type 0 where
+  pub read : List Token
+  pub scans : Scans (chars_from text start) read (chars_from text at)
+  pub look : Look
+  pub fits : presumed s.ops look (tokens_of (chars_from text at)) ≡ true
+  pub to : (vs : List Token) (goal : Tree) → presumed s.ops look vs ≡ true → Wants s [] (read ++ vs) goal → Reads s x vs goal
+  pub back : (vs : List Token) (goal : Tree) → presumed s.ops look vs ≡ true → Reads s x vs goal → Wants s [] (read ++ vs) goal
+  pub suits : Suits x look
+  pub doubts : DoubtsBefore s read look doubt
 
 -- the term is whole, and its end stands in front of this place
 pub record Ended (s : Setting) (text : List ℕ) (old : Position) (at : ℕ) (st : State) (end : ℕ) : Type 0 where
@@ -72,12 +120,12 @@ pub record Ended (s : Setting) (text : List ℕ) (old : Position) (at : ℕ) (st
   pub rest : rest_at text at ≡ chars_from text end
 
 abbrev pub Outcome : Setting → List ℕ → Position → ℕ → State → Turn → Type 0
-Outcome s text old at st (On phase) = Went s text old at st phase
+Outcome s text old at st (On phase doubt) = Went s text old at st phase doubt
 Outcome s text old at st (Over end) = Ended s text old at st end
 Outcome s text old at st (Refused r) = (goal : Tree) → Reads s old (tokens_of (chars_from text at)) goal → ⊥
 
 -- the place moved on
 abbrev pub Moves : List ℕ → ℕ → State → Turn → Type 0
-Moves text at st (On phase) = IsPlaceFrom text (suc at) st.at
+Moves text at st (On phase doubt) = IsPlaceFrom text (suc at) st.at
 Moves text at st (Over end) = IsPlaceFrom text (suc at) end
 Moves text at st (Refused r) = Unit {0}

@@ -1,5 +1,5 @@
 -- What reading a term answers.
-use Rattle.std.specs.Prelude.{◌≡◌, ℕ, true, false, List, Result, Ok, Err, map}
+use Rattle.std.specs.Prelude.{◌≡◌, ℕ, suc, true, false, List, Result, Ok, Err, map}
 use Rattle.au_model.specs.Characters.{chars_from}
 use Rattle.au_model.specs.Trees.{Tree}
 use Rattle.au_model.specs.Openings.{Setting}
@@ -8,6 +8,8 @@ use Rattle.au_model.specs.TermTexts.{SpellsTermWithEnd, is_over}
 use Rattle.token_scan.specs.Parts.{IsPlaceFrom}
 use Rattle.term_reader.specs.Sheets.{no_cells, put_tree, variable_meant}
 use Rattle.term_reader.specs.Kept.{IsSheetOf}
+use Rattle.term_reader.specs.TextFaults.{Fault, IsPlace}
+use Rattle.term_reader.specs.Refusing.{IsFault}
 use Rattle.term_reader.specs.declared.read.ReadOutcome.{ReadOutcome}
 use Rattle.term_reader.specs.declared.read.ReadOutcome.TheVariants.{Read, EndOfText}
 use Rattle.term_reader.specs.declared.read.ReadRefused.{ReadRefused}
@@ -23,7 +25,7 @@ NoTerm s cs = (t : Tree) (rest : List ℕ) → SpellsTermWithEnd s cs t rest →
 -- the tree that a text's front spells from one place up to another
 pub record Spelling (s : Setting) (text : List ℕ) (at end : ℕ) (t : Tree) : Type 0 where
   pub spelled : SpellsTermWithEnd s (chars_from text at) t (chars_from text end)
-  pub place : IsPlaceFrom text at end
+  pub place : IsPlaceFrom text (suc at) end
 
 -- the state has the cells of what is spelled up to this place
 pub record IsWhole (s : Setting) (text : List ℕ) (at : ℕ) (st : State) (end : ℕ) : Type 0 where
@@ -33,13 +35,15 @@ pub record IsWhole (s : Setting) (text : List ℕ) (at : ℕ) (st : State) (end 
 
 abbrev pub IsReading : Setting → List ℕ → ℕ → DeclaredReading → Type 0
 IsReading s text at (Whole st end) = IsWhole s text at st end
-IsReading s text at (Refused r) = NoTerm s (chars_from text at)
+IsReading s text at (Refused r) = NoTerm s (chars_from text at) × IsFault s text at r
 
 -- The term that is spelled, with its named variables, and the place behind its end; or nothing but layout is left. A
--- text is refused only where more is left and no front of it is a term with its end.
+-- text is refused only where more is left and no front of it is a term with its end, with the kind and the place of its
+-- fault, by line and column in the whole text.
 abbrev pub IsRead : Setting → List ℕ → ℕ → Result ReadOutcome ReadRefused → Type 0
 IsRead s text at (Ok (Read term names end)) =
     (t : Tree) × Spelling s text at end t × (term ≡ (numbered no_variables t).0) × (map variable_meant names.items ≡ (numbered no_variables t).1.named)
 IsRead s text at (Ok EndOfText) = is_over (chars_from text at) ≡ true
-IsRead s text at (Err (Syntax line column kind)) = (is_over (chars_from text at) ≡ false) × NoTerm s (chars_from text at)
+IsRead s text at (Err (Syntax line column kind)) =
+    (is_over (chars_from text at) ≡ false) × NoTerm s (chars_from text at) × ((from : List ℕ) × Fault s (chars_from text at) kind from × IsPlace text from line column)
 IsRead s text at (Err NoMemory) = Unit {0}

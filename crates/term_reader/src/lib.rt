@@ -14,6 +14,7 @@ mod state;
 mod steps;
 mod variables;
 
+pub use place::line_and_column;
 pub use read::{ReadOutcome, ReadRefused, read_term};
 
 #[cfg(test)]

@@ -7,7 +7,7 @@ ghost use Rattle.au_model.specs.Joints.{named_joint};
 ghost use Rattle.au_model.specs.Operators.{prefix_of};
 ghost use Rattle.au_model.specs.Openings.{atom_begins, curly_begins, ends_before, is_joint, is_operator, lexeme_begins, list_begins, minus, name_begins, prefix_or_atom, stands_alone};
 ghost use Rattle.term_reader.specs.Meant.{lexeme_meant};
-ghost use Rattle.term_reader.specs.Begun.{joins_as, opening_meant, setting_of, OpensFrom};
+ghost use Rattle.term_reader.specs.Begun.{joins_as, opening_meant, setting_of, IsNamed, IsNamedBy, IsNoName, OpensFrom};
 
 use crate::joint::{Joint, named_joint};
 use crate::lexeme::{Follow, Lexeme, Scan, follow_at, is_minus, scan_at};
@@ -122,6 +122,7 @@ fn operator_opening(source: Source<'_>, name: Atom, end: usize) -> Result<Openin
     requires { IsCharBoundary source.text.now end }
     ensures opening { IfOk result (λ o. opening_meant source.entry o ≡ prefix_or_atom source.entry.ops.now name (prefix_of source.entry.ops.now name) (tokens_of (chars_from source.entry.text.now end))) }
     ensures place { IfOk result (λ o. OpensFrom source.entry.text.now end o) }
+    ensures named { IfOk result (λ o. IsNamed source.entry.ops.now name o) }
 {
     let Some(operator) = source.ops.prefix(name.text()) else {
         return Ok(Opening::Leaf(Leaf::Atom(name), end));
@@ -143,6 +144,7 @@ fn name_opening(
     requires { IsCharBoundary source.text.now end }
     ensures opening { IfOk result (λ o. opening_meant source.entry o ≡ name_begins source.entry.ops.now is_sign name (tokens_of (chars_from source.entry.text.now end))) }
     ensures place { IfOk result (λ o. OpensFrom source.entry.text.now end o) }
+    ensures named { IfOk result (λ o. IsNamed source.entry.ops.now name o) }
 {
     let next = follow_at(source.alloc, source.text, end)?;
     match next {
@@ -159,6 +161,7 @@ fn atom_opening(source: Source<'_>, name: &str, end: usize) -> Result<Opening, N
     requires { IsCharBoundary source.text.now end }
     ensures opening { IfOk result (λ o. opening_meant source.entry o ≡ atom_begins (chars name.now) (tokens_of (chars_from source.entry.text.now end))) }
     ensures place { IfOk result (λ o. OpensFrom source.entry.text.now end o) }
+    ensures named { IfOk result (λ o. IsNoName o) }
 {
     let name = Atom::new(source.alloc, name)?;
     let next = follow_at(source.alloc, source.text, end)?;
@@ -173,6 +176,7 @@ fn list_opening(source: Source<'_>, end: usize) -> Result<Opening, NoMemory>
     requires { IsCharBoundary source.text.now end }
     ensures opening { IfOk result (λ o. opening_meant source.entry o ≡ list_begins (tokens_of (chars_from source.entry.text.now end))) }
     ensures place { IfOk result (λ o. OpensFrom source.entry.text.now end o) }
+    ensures named { IfOk result (λ o. IsNoName o) }
 {
     let next = follow_at(source.alloc, source.text, end)?;
     match next {
@@ -186,6 +190,7 @@ fn curly_opening(source: Source<'_>, end: usize) -> Result<Opening, NoMemory>
     requires { IsCharBoundary source.text.now end }
     ensures opening { IfOk result (λ o. opening_meant source.entry o ≡ curly_begins (tokens_of (chars_from source.entry.text.now end))) }
     ensures place { IfOk result (λ o. OpensFrom source.entry.text.now end o) }
+    ensures named { IfOk result (λ o. IsNoName o) }
 {
     let next = follow_at(source.alloc, source.text, end)?;
     match next {
@@ -203,6 +208,7 @@ pub(crate) fn opening_of(
     requires { IsCharBoundary source.text.now end }
     ensures opening { IfOk result (λ o. opening_meant source.entry o ≡ lexeme_begins (setting_of source.entry) (lexeme_meant lexeme) (tokens_of (chars_from source.entry.text.now end))) }
     ensures place { IfOk result (λ o. OpensFrom source.entry.text.now end o) }
+    ensures named { IfOk result (λ o. IsNamedBy source.entry.ops.now (lexeme_meant lexeme) o) }
 {
     match lexeme {
         Lexeme::Name(name) => {
@@ -211,11 +217,12 @@ pub(crate) fn opening_of(
         }
         Lexeme::QuotedName(name) => name_opening(source, name, false, end),
         Lexeme::Variable(name) => Ok(Opening::Leaf(Leaf::Variable(name), end)),
-        Lexeme::Integer(number) => Ok(if number < WIDEST {
-            Opening::Leaf(Leaf::Integer(number as i64), end)
-        } else {
-            Opening::Fails
-        }),
+        Lexeme::Integer(number) => {
+            if number >= WIDEST {
+                return Ok(Opening::Fails);
+            }
+            Ok(Opening::Leaf(Leaf::Integer(number as i64), end))
+        }
         Lexeme::Text(text) => Ok(Opening::Leaf(Leaf::Text(text), end)),
         Lexeme::Open => Ok(Opening::Round(end)),
         Lexeme::OpenList => list_opening(source, end),

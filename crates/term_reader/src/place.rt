@@ -1,16 +1,17 @@
 //! Lines and columns.
+ghost use Rattle.std.specs.Prelude.{IsCharBoundary};
+ghost use Rattle.au_model.specs.Characters.{chars_from};
+ghost use Rattle.term_reader.specs.TextFaults.{IsPlace};
 
 /// The line and the column of a place, each counted from 1. A line ends at a line feed, and a column counts
 /// characters. Numbers that are wider stop at the greatest.
-pub(crate) fn line_and_column(text: &str, at: usize) -> (u32, u32) {
+pub fn line_and_column(text: &str, at: usize) -> (u32, u32)
+    requires { IsCharBoundary text.now at }
+    ensures { IsPlace text.now (chars_from text.now at) result.0 result.1 }
+{
     let mut line: u32 = 1;
     let mut column: u32 = 1;
-    let mut here: usize = 0;
-    for c in text.chars() {
-        if here >= at {
-            break;
-        }
-        here = here.saturating_add(c.len_utf8());
+    for c in text[..at].chars() {
         if c == '\n' {
             line = line.saturating_add(1);
             column = 1;

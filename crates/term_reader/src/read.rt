@@ -64,9 +64,13 @@ fn read_tokens(source: Source<'_>, at: usize) -> Result<Reading, NoMemory>
 {
     let mut state = State::new(source.alloc, at);
     let mut phase = None;
+    let mut doubt = false;
     'tokens: loop {
-        match turn_at(source, &mut state, phase)? {
-            Turn::On(next) => phase = next,
+        match turn_at(source, &mut state, phase, doubt)? {
+            Turn::On(next, lone) => {
+                phase = next;
+                doubt = lone;
+            }
             Turn::Over(end) => return Ok(Reading::Whole(state, end)),
             Turn::Refused(refused) => return Ok(Reading::Refused(refused)),
         }

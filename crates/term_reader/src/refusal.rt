@@ -1,12 +1,22 @@
 //! Where and why a text is refused.
-ghost use Rattle.std.specs.Prelude.{IsCharBoundary};
+ghost use Rattle.std.specs.Prelude.{◌≡◌, ◌&&◌, ℕ, List, IfOk, IfSome, map, IsCharBoundary};
+ghost use Rattle.au_model.specs.Characters.{chars_from};
+ghost use Rattle.au_model.specs.Lexemes.{scanned};
+ghost use Rattle.au_model.specs.Openings.{Setting};
+ghost use Rattle.au_model.specs.Trees.{Tree};
+ghost use Rattle.term_reader.specs.Begun.{setting_of};
+ghost use Rattle.term_reader.specs.Frames.{frame_meant, shapes_up};
+ghost use Rattle.term_reader.specs.Meant.{lexeme_meant, scan_meant, IsScan};
+ghost use Rattle.term_reader.specs.Stack as stack;
+ghost use Rattle.term_reader.specs.Refusing.{atom_joins, is_named_joint, joined_end, unexpected_kind, IsFault, IsHigh, NotTaken, Stuck};
 
-use crate::joint::{Joint, joint_of};
+use crate::joint::{Joint, named_joint};
 use crate::lexeme::{Lexeme, Scan, scan_at};
 use crate::opening::{Source, WIDEST, is_joint_alone};
 use crate::state::State;
 use au_model::FaultKind;
 use au_term::NoMemory;
+use op_table::Ops;
 
 /// A fault and its place.
 #[derive(Clone, Copy, Debug, PartialEq, Eq)]
@@ -15,17 +25,36 @@ pub(crate) struct Refused {
     pub(crate) kind: FaultKind,
 }
 
-/// A token that may not stand here.
-pub(crate) fn unexpected(lexeme: &Lexeme, start: usize) -> Refused {
-    let kind = match lexeme {
-        Lexeme::Integer(number) if *number >= WIDEST => FaultKind::WideNumeral,
+/// Why a token may not stand somewhere.
+fn unexpected_kind(lexeme: &Lexeme) -> FaultKind
+    ensures { result ≡ unexpected_kind (lexeme_meant lexeme.now) }
+{
+    match lexeme {
+        Lexeme::Integer(number) => {
+            if *number >= WIDEST {
+                return FaultKind::WideNumeral;
+            }
+            FaultKind::UnexpectedToken
+        }
         _ => FaultKind::UnexpectedToken,
-    };
-    Refused { at: start, kind }
+    }
+}
+
+/// A token that may not stand here.
+pub(crate) fn unexpected(lexeme: &Lexeme, start: usize) -> Refused
+    ensures at { result.at ≡ start }
+    ensures kind { result.kind ≡ unexpected_kind (lexeme_meant lexeme.now) }
+{
+    Refused {
+        at: start,
+        kind: unexpected_kind(lexeme),
+    }
 }
 
 /// What may not stand here, or is faulty itself.
-pub(crate) fn refusal_of(text: &str, scan: &Scan) -> Refused {
+pub(crate) fn refusal_of(text: &str, scan: &Scan) -> Refused
+    ensures { (s : Setting) (start at : ℕ) → scan_meant text.now scan.now ≡ scanned (chars_from text.now at) → IsScan text.now at scan.now → Stuck s text.now start at → IsFault s text.now start result }
+{
     match scan {
         Scan::Found(found) => unexpected(&found.lexeme, found.start),
         Scan::Bad(bad) => Refused {
@@ -42,6 +71,7 @@ pub(crate) fn refusal_of(text: &str, scan: &Scan) -> Refused {
 /// What is refused at a place.
 fn refusal_at(source: Source<'_>, at: usize) -> Result<Refused, NoMemory>
     requires { IsCharBoundary source.text.now at }
+    ensures { (start : ℕ) → Stuck (setting_of source.entry) source.entry.text.now start at → IfOk result (λ r. IsFault (setting_of source.entry) source.entry.text.now start r) }
 {
     let next = scan_at(source.alloc, source.text, at)?;
     Ok(refusal_of(source.text, &next))
@@ -55,40 +85,75 @@ pub(crate) fn behind_prefix(
     end: usize,
 ) -> Result<Refused, NoMemory>
     requires { IsCharBoundary source.text.now end }
+    ensures { (start at : ℕ) (k : List stack.Frame) → map frame_meant state.now.frames.items ≡ shapes_up k → IsHigh source.entry start k at end → IfOk result (λ r. IsFault (setting_of source.entry) source.entry.text.now start r) }
 {
     let next = scan_at(source.alloc, source.text, end)?;
-    if let Scan::Found(found) = &next {
-        if joins_atom(source, state, &found.lexeme) {
-            return refusal_at(source, found.end);
-        }
+    if let Some(behind) = joined_end(source, state, end, &next) {
+        return refusal_at(source, behind);
     }
     Ok(refusal_of(source.text, &next))
 }
 
+/// The place behind a token that joins an atom.
+fn joined_end(source: Source<'_>, state: &State, at: usize, scan: &Scan) -> Option<usize>
+    ensures place { IsScan source.entry.text.now at scan.now → IfSome result (λ end. IsCharBoundary source.entry.text.now end) }
+    ensures end { (k : List stack.Frame) → map frame_meant state.now.frames.items ≡ shapes_up k → result ≡ joined_end source.entry.ops.now k scan.now }
+{
+    let Scan::Found(found) = scan else {
+        return None;
+    };
+    if joins_atom(source, state, &found.lexeme) {
+        return Some(found.end);
+    }
+    None
+}
+
 /// Whether a token is an operator that goes on behind an atom here, and no prefix operator.
-fn joins_atom(source: Source<'_>, state: &State, lexeme: &Lexeme) -> bool {
+fn joins_atom(source: Source<'_>, state: &State, lexeme: &Lexeme) -> bool
+    ensures { (k : List stack.Frame) → map frame_meant state.now.frames.items ≡ shapes_up k → result ≡ atom_joins source.entry.ops.now k (lexeme_meant lexeme.now) }
+{
     match lexeme {
         Lexeme::Name(name) | Lexeme::QuotedName(name) => {
-            is_joint_alone(source.ops, name.text()) && state.takes(joint_of(source.ops, lexeme))
+            is_joint_alone(source.ops, name.text())
+                && state.takes(named_joint(source.ops, name.text()))
         }
         _ => false,
     }
+}
+
+/// Whether a token has the name of an operator that stands behind an operand.
+fn is_named_joint(ops: &Ops, lexeme: &Lexeme) -> bool
+    ensures { result ≡ is_named_joint ops.now (lexeme_meant lexeme.now) }
+{
+    match lexeme {
+        Lexeme::Name(name) | Lexeme::QuotedName(name) => {
+            !matches!(named_joint(ops, name.text()), Joint::Nothing)
+        }
+        _ => false,
+    }
+}
+
+/// Whether it could also begin the operand of a prefix operator.
+fn is_held(ops: &Ops, doubt: bool, lexeme: &Lexeme) -> bool
+    ensures { result ≡ (doubt && is_named_joint ops.now (lexeme_meant lexeme.now)) }
+{
+    doubt && is_named_joint(ops, lexeme)
 }
 
 /// What is refused where no frame takes a token. Behind a prefix operator that stands for itself, and could have
 /// an operand that begins with this token, that is the next one.
 pub(crate) fn not_taken(
     source: Source<'_>,
-    state: &State,
+    doubt: bool,
     lexeme: &Lexeme,
-    start: usize,
+    place: usize,
     end: usize,
 ) -> Result<Refused, NoMemory>
     requires { IsCharBoundary source.text.now end }
+    ensures { (start : ℕ) (k : List stack.Frame) (l : Tree) (p at : ℕ) → NotTaken source.entry start k l p at doubt (lexeme_meant lexeme.now) place end → IfOk result (λ r. IsFault (setting_of source.entry) source.entry.text.now start r) }
 {
-    let is_operator = !matches!(joint_of(source.ops, lexeme), Joint::Nothing);
-    if is_operator && !matches!(lexeme, Lexeme::Comma) && state.doubt == Some(state.at) {
+    if is_held(source.ops, doubt, lexeme) {
         return refusal_at(source, end);
     }
-    Ok(unexpected(lexeme, start))
+    Ok(unexpected(lexeme, place))
 }

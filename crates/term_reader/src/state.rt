@@ -8,6 +8,7 @@ ghost use Rattle.term_reader.specs.Stack as stack;
 ghost use Rattle.term_reader.specs.Stack.{bound_of};
 ghost use Rattle.term_reader.specs.Positions.{Due, Stands, There};
 ghost use Rattle.term_reader.specs.Settling.{IsFewer, IsPlug, IsSettled};
+ghost use Rattle.term_reader.specs.Refusing.{takes, ArePlaces};
 
 use crate::joint::{Joint, right_bound};
 use crate::sheet::Sheet;
@@ -34,8 +35,6 @@ pub(crate) struct State {
     pub(crate) at: usize,
     pub(crate) frames: Vec<Frame>,
     pub(crate) sheet: Sheet,
-    /// The place behind a prefix operator that stands for itself and could have an operand.
-    pub(crate) doubt: Option<usize>,
 }
 
 /// What becomes of an operator that waits for the operand that stands there.
@@ -76,13 +75,13 @@ impl State {
     /// Nothing is open, and nothing was read.
     pub(crate) fn new(alloc: Global, at: usize) -> State
         ensures at { result.at ≡ at }
+        ensures empty { result.frames.items ≡ [] }
         ensures stands { Stands result (Due []) }
     {
         State {
             at,
             frames: Vec::new(alloc),
             sheet: Sheet::new(alloc),
-            doubt: None,
         }
     }
 
@@ -99,6 +98,7 @@ impl State {
     /// Puts the operator that waits for the operand over it, where the operand ends in front of this.
     fn plug(&mut self, priority: u16, joint: Joint) -> Result<Plug, NoMemory>
         ensures at { self.new.at ≡ self.old.at }
+        ensures places { (text : List ℕ) → ArePlaces text self.old.frames.items → ArePlaces text self.new.frames.items }
         ensures fewer { IfOk result (λ p. IsFewer p (vec_len self.old.frames) (vec_len self.new.frames)) }
         ensures plugged { (s : Setting) (k : List stack.Frame) (l : Tree) (n : List ℕ) → Stands self.old (There k l priority) → IfOk result (λ p. IsPlug s k l priority (joint_meant n joint) self.new p) }
     {
@@ -126,6 +126,7 @@ impl State {
     /// whether this goes on behind it.
     pub(crate) fn settle(&mut self, priority: u16, joint: Joint) -> Result<(u16, bool), NoMemory>
         ensures at { self.new.at ≡ self.old.at }
+        ensures places { (text : List ℕ) → ArePlaces text self.old.frames.items → ArePlaces text self.new.frames.items }
         ensures settled { (s : Setting) (k : List stack.Frame) (l : Tree) (n : List ℕ) → Stands self.old (There k l priority) → IfOk result (λ r. IsSettled s k l priority (joint_meant n joint) self.new r.0 r.1) }
     {
         let mut last = priority;
@@ -139,9 +140,12 @@ impl State {
     }
 
     /// Whether an operator goes on behind an atom.
-    pub(crate) fn takes(&self, joint: Joint) -> bool {
+    pub(crate) fn takes(&self, joint: Joint) -> bool
+        ensures { (k : List stack.Frame) (n : List ℕ) → map frame_meant self.now.frames.items ≡ shapes_up k → result ≡ takes k 0 (joint_meant n joint) }
+    {
+        let mut frames = self.frames.as_slice();
         let mut priority = 0;
-        for frame in self.frames.iter().rev() {
+        'frames: while let Some((frame, below)) = frames.split_last() {
             if joint.fits(frame.bound(), priority) {
                 return true;
             }
@@ -149,6 +153,7 @@ impl State {
                 return false;
             };
             priority = next;
+            frames = below;
         }
         joint.fits(1200, priority)
     }

@@ -1,5 +1,5 @@
 //! The steps of a reader.
-ghost use Rattle.std.specs.Prelude.{◌≡◌, ◌≤◌, ℕ, suc, false, List, IfOk, IsCharBoundary};
+ghost use Rattle.std.specs.Prelude.{◌≡◌, ◌≤◌, ℕ, suc, Bool, false, List, IfOk, IsCharBoundary};
 ghost use Rattle.au_model.specs.Characters.{chars_from};
 ghost use Rattle.au_model.specs.Lexemes.{scanned, token, ScannedTo};
 ghost use Rattle.au_model.specs.Joints.{joint_fits, lexeme_joint};
@@ -7,8 +7,9 @@ ghost use Rattle.au_model.specs.Trees.{Tree};
 ghost use Rattle.token_scan.specs.Parts.{IsPlaceFrom};
 ghost use Rattle.term_reader.specs.Begun.{leaf_tree, setting_of};
 ghost use Rattle.term_reader.specs.Frames.{IsShut};
-ghost use Rattle.term_reader.specs.Meant.{lexeme_meant};
-ghost use Rattle.term_reader.specs.Positions.{Due, There, Position, Stands, Outcome, Moves, phase_of};
+ghost use Rattle.term_reader.specs.Meant.{lexeme_meant, IsStart};
+ghost use Rattle.term_reader.specs.Refusing.{ArePlaces, IsFault, IsFramePlace, IsHeldFault, IsPassed, RefusesWell, Stuck};
+ghost use Rattle.term_reader.specs.Positions.{Due, There, Position, Stands, Led, Outcome, Moves, phase_of};
 ghost use Rattle.term_reader.specs.Stack as stack;
 ghost use Rattle.term_reader.specs.Stack.{bound_of};
 ghost use Rattle.term_reader.specs.Starting.{Starts, IsClosing, IsPushed, IsPut};
@@ -24,8 +25,9 @@ use au_term::{Atom, NoMemory};
 /// Where a step leads.
 #[derive(Clone, Copy)]
 pub(crate) enum Turn {
-    /// An operand of this priority stands there, or one is due.
-    On(Option<u16>),
+    /// An operand of this priority stands there, or one is due. It may be a prefix operator that stands for itself
+    /// and could have an operand.
+    On(Option<u16>, bool),
     /// The end stands there, in front of this place.
     Over(usize),
     Refused(Refused),
@@ -37,16 +39,22 @@ fn open(state: &mut State, frame: Frame, end: usize) -> Result<Turn, NoMemory>
 {
     state.frames.push(frame)?;
     state.at = end;
-    Ok(Turn::On(None))
+    Ok(Turn::On(None, false))
 }
 
 /// Puts an operand of one or two tokens.
-fn put(source: Source<'_>, state: &mut State, leaf: Leaf, end: usize) -> Result<Turn, NoMemory>
-    ensures { IfOk result (λ t. IsPut state.old (leaf_tree source.entry.quotes leaf) end state.new t) }
+fn put(
+    source: Source<'_>,
+    state: &mut State,
+    leaf: Leaf,
+    end: usize,
+    doubt: bool,
+) -> Result<Turn, NoMemory>
+    ensures { IfOk result (λ t. IsPut state.old (leaf_tree source.entry.quotes leaf) end doubt state.new t) }
 {
     state.sheet.leaf(source.alloc, source.quotes, leaf)?;
     state.at = end;
-    Ok(Turn::On(Some(0)))
+    Ok(Turn::On(Some(0), doubt))
 }
 
 /// How a term begins at the place of a token.
@@ -76,16 +84,14 @@ fn begin(
     requires { Starts source state.old.at opening }
     ensures moves { IfOk result (λ t. Moves source.entry.text.now state.old.at state.new t) }
     ensures outcome { (k : List stack.Frame) → Stands state.old (Due k) → IfOk result (λ t. Outcome (setting_of source.entry) source.entry.text.now (Due k) state.old.at state.new t) }
+    ensures fault { (first : ℕ) (doubt : Bool) (k : List stack.Frame) → Stands state.old (Due k) → Led (setting_of source.entry) source.entry.text.now first (Due k) state.old.at doubt → (Stuck (setting_of source.entry) source.entry.text.now first state.old.at → IsFault (setting_of source.entry) source.entry.text.now first fault) → IfOk result (λ t. RefusesWell (setting_of source.entry) source.entry.text.now first t) }
+    ensures places { IsCharBoundary source.entry.text.now start → ArePlaces source.entry.text.now state.old.frames.items → IfOk result (λ t. ArePlaces source.entry.text.now state.new.frames.items) }
 {
     match opening {
-        Opening::Leaf(leaf, behind) => put(source, state, leaf, behind),
+        Opening::Leaf(leaf, behind) => put(source, state, leaf, behind, false),
         Opening::Alone(name, operator, behind) => {
-            state.doubt = if operator.priority <= state.bound() {
-                Some(behind)
-            } else {
-                None
-            };
-            put(source, state, Leaf::Atom(name), behind)
+            let doubt = operator.priority <= state.bound();
+            put(source, state, Leaf::Atom(name), behind, doubt)
         }
         Opening::Round(behind) => open(state, Frame::Round, behind),
         Opening::Curly(behind) => open(state, Frame::Curly, behind),
@@ -106,6 +112,8 @@ fn operand(source: Source<'_>, state: &mut State) -> Result<Turn, NoMemory>
     requires { IsCharBoundary source.text.now state.old.at }
     ensures moves { IfOk result (λ t. Moves source.entry.text.now state.old.at state.new t) }
     ensures outcome { (k : List stack.Frame) → Stands state.old (Due k) → IfOk result (λ t. Outcome (setting_of source.entry) source.entry.text.now (Due k) state.old.at state.new t) }
+    ensures fault { (first : ℕ) (doubt : Bool) (k : List stack.Frame) → Stands state.old (Due k) → Led (setting_of source.entry) source.entry.text.now first (Due k) state.old.at doubt → IfOk result (λ t. RefusesWell (setting_of source.entry) source.entry.text.now first t) }
+    ensures places { ArePlaces source.entry.text.now state.old.frames.items → IfOk result (λ t. ArePlaces source.entry.text.now state.new.frames.items) }
 {
     let next = scan_at(source.alloc, source.text, state.at)?;
     match next {
@@ -132,14 +140,21 @@ fn operand(source: Source<'_>, state: &mut State) -> Result<Turn, NoMemory>
 }
 
 /// Reads what stands behind an operand of this priority.
-fn behind(source: Source<'_>, state: &mut State, priority: u16) -> Result<Turn, NoMemory>
+fn behind(
+    source: Source<'_>,
+    state: &mut State,
+    priority: u16,
+    doubt: bool,
+) -> Result<Turn, NoMemory>
     requires { IsCharBoundary source.text.now state.old.at }
     ensures moves { IfOk result (λ t. Moves source.entry.text.now state.old.at state.new t) }
     ensures outcome { (k : List stack.Frame) (l : Tree) → Stands state.old (There k l priority) → IfOk result (λ t. Outcome (setting_of source.entry) source.entry.text.now (There k l priority) state.old.at state.new t) }
+    ensures fault { (first : ℕ) (k : List stack.Frame) (l : Tree) → Stands state.old (There k l priority) → Led (setting_of source.entry) source.entry.text.now first (There k l priority) state.old.at doubt → ArePlaces source.entry.text.now state.old.frames.items → IfOk result (λ t. RefusesWell (setting_of source.entry) source.entry.text.now first t) }
+    ensures places { ArePlaces source.entry.text.now state.old.frames.items → IfOk result (λ t. ArePlaces source.entry.text.now state.new.frames.items) }
 {
     let next = scan_at(source.alloc, source.text, state.at)?;
     match next {
-        Scan::Found(found) => after(source, state, found, priority),
+        Scan::Found(found) => after(source, state, found, priority, doubt),
         Scan::Bad(bad) => Ok(Turn::Refused(Refused {
             at: bad.at,
             kind: bad.kind,
@@ -157,16 +172,19 @@ fn after(
     state: &mut State,
     found: Placed,
     priority: u16,
+    doubt: bool,
 ) -> Result<Turn, NoMemory>
     requires next { scanned (chars_from source.text.now state.old.at) ≡ ScannedTo (token found.apart (lexeme_meant found.lexeme)) (chars_from source.text.now found.end) }
     requires place { IsPlaceFrom source.text.now (suc state.old.at) found.end }
     ensures moves { IfOk result (λ t. Moves source.entry.text.now state.old.at state.new t) }
     ensures outcome { (k : List stack.Frame) (l : Tree) → Stands state.old (There k l priority) → IfOk result (λ t. Outcome (setting_of source.entry) source.entry.text.now (There k l priority) state.old.at state.new t) }
+    ensures fault { (first : ℕ) (k : List stack.Frame) (l : Tree) → Stands state.old (There k l priority) → Led (setting_of source.entry) source.entry.text.now first (There k l priority) state.old.at doubt → IsStart source.entry.text.now state.old.at found.start → ArePlaces source.entry.text.now state.old.frames.items → IfOk result (λ t. RefusesWell (setting_of source.entry) source.entry.text.now first t) }
+    ensures places { ArePlaces source.entry.text.now state.old.frames.items → IfOk result (λ t. ArePlaces source.entry.text.now state.new.frames.items) }
 {
     let joint = joint_of(source.ops, &found.lexeme);
     let (last, fits) = state.settle(priority, joint)?;
     if !fits {
-        return close(source, state, found);
+        return close(source, state, found, doubt);
     }
     match joint {
         Joint::Infix(operator) => {
@@ -179,21 +197,28 @@ fn after(
             let name = joint_name(source.alloc, found.lexeme)?;
             state.sheet.compound(name, 1)?;
             state.at = end;
-            Ok(Turn::On(Some(operator.priority)))
+            Ok(Turn::On(Some(operator.priority), false))
         }
-        Joint::Nothing => close(source, state, found),
+        Joint::Nothing => close(source, state, found, doubt),
     }
 }
 
 /// Reads a token that ends the operand in front of it.
-fn close(source: Source<'_>, state: &mut State, found: Placed) -> Result<Turn, NoMemory>
+fn close(
+    source: Source<'_>,
+    state: &mut State,
+    found: Placed,
+    doubt: bool,
+) -> Result<Turn, NoMemory>
     requires next { scanned (chars_from source.text.now state.old.at) ≡ ScannedTo (token found.apart (lexeme_meant found.lexeme)) (chars_from source.text.now found.end) }
     requires place { IsPlaceFrom source.text.now (suc state.old.at) found.end }
     ensures moves { IfOk result (λ t. Moves source.entry.text.now state.old.at state.new t) }
     ensures outcome { (k : List stack.Frame) (l : Tree) (p : ℕ) → Stands state.old (There k l p) → IsShut k → joint_fits (bound_of k) p (lexeme_joint source.entry.ops.now (lexeme_meant found.lexeme)) ≡ false → IfOk result (λ t. Outcome (setting_of source.entry) source.entry.text.now (There k l p) state.old.at state.new t) }
+    ensures fault { (first : ℕ) (k : List stack.Frame) (l : Tree) (p : ℕ) → Stands state.old (There k l p) → IsShut k → joint_fits (bound_of k) p (lexeme_joint source.entry.ops.now (lexeme_meant found.lexeme)) ≡ false → IsPassed source.entry first state.old.at doubt (token found.apart (lexeme_meant found.lexeme)) k l p → IsStart source.entry.text.now state.old.at found.start → ArePlaces source.entry.text.now state.old.frames.items → IfOk result (λ t. RefusesWell (setting_of source.entry) source.entry.text.now first t) }
+    ensures places { ArePlaces source.entry.text.now state.old.frames.items → IfOk result (λ t. ArePlaces source.entry.text.now state.new.frames.items) }
 {
     let token = closer_token(&found.lexeme);
-    let refused = not_taken(source, state, &found.lexeme, found.start, found.end)?;
+    let refused = not_taken(source, doubt, &found.lexeme, found.start, found.end)?;
     match state.frames.pop() {
         None => match token {
             Closer::End => Ok(Turn::Over(found.end)),
@@ -214,6 +239,8 @@ fn close_frame(
 ) -> Result<Turn, NoMemory>
     ensures moves { IsPlaceFrom source.entry.text.now (suc state.old.at) end → IfOk result (λ t. Moves source.entry.text.now state.old.at state.new t) }
     ensures outcome { (k : List stack.Frame) (l : Tree) (p : ℕ) → IsClosing source.entry state.old frame k l p token end → IfOk result (λ t. Outcome (setting_of source.entry) source.entry.text.now (There k l p) state.old.at state.new t) }
+    ensures fault { (first : ℕ) (k : List stack.Frame) (l : Tree) (p : ℕ) (h : IsClosing source.entry state.old (frame) k l p token end) → IsHeldFault source.entry first state.old (frame) k l p token end h refused → IsFramePlace source.entry.text.now (frame) → IfOk result (λ t. RefusesWell (setting_of source.entry) source.entry.text.now first t) }
+    ensures places { IsFramePlace source.entry.text.now (frame) → ArePlaces source.entry.text.now state.old.frames.items → IfOk result (λ t. ArePlaces source.entry.text.now state.new.frames.items) }
 {
     match frame {
         Frame::Round => Ok(close_round(source, state, token, end, refused)),
@@ -238,11 +265,13 @@ fn close_round(
 ) -> Turn
     ensures moves { IsPlaceFrom source.entry.text.now (suc state.old.at) end → Moves source.entry.text.now state.old.at state.new result }
     ensures outcome { (k : List stack.Frame) (l : Tree) (p : ℕ) → IsClosing source.entry state.old Frame.Round k l p token end → Outcome (setting_of source.entry) source.entry.text.now (There k l p) state.old.at state.new result }
+    ensures fault { (first : ℕ) (k : List stack.Frame) (l : Tree) (p : ℕ) (h : IsClosing source.entry state.old (Frame.Round) k l p token end) → IsHeldFault source.entry first state.old (Frame.Round) k l p token end h refused → RefusesWell (setting_of source.entry) source.entry.text.now first result }
+    ensures places { ArePlaces source.entry.text.now state.old.frames.items → ArePlaces source.entry.text.now state.new.frames.items }
 {
     match token {
         Closer::Close => {
             state.at = end;
-            Turn::On(Some(0))
+            Turn::On(Some(0), false)
         }
         _ => Turn::Refused(refused),
     }
@@ -258,13 +287,15 @@ fn close_curly(
 ) -> Result<Turn, NoMemory>
     ensures moves { IsPlaceFrom source.entry.text.now (suc state.old.at) end → IfOk result (λ t. Moves source.entry.text.now state.old.at state.new t) }
     ensures outcome { (k : List stack.Frame) (l : Tree) (p : ℕ) → IsClosing source.entry state.old Frame.Curly k l p token end → IfOk result (λ t. Outcome (setting_of source.entry) source.entry.text.now (There k l p) state.old.at state.new t) }
+    ensures fault { (first : ℕ) (k : List stack.Frame) (l : Tree) (p : ℕ) (h : IsClosing source.entry state.old (Frame.Curly) k l p token end) → IsHeldFault source.entry first state.old (Frame.Curly) k l p token end h refused → IfOk result (λ t. RefusesWell (setting_of source.entry) source.entry.text.now first t) }
+    ensures places { ArePlaces source.entry.text.now state.old.frames.items → IfOk result (λ t. ArePlaces source.entry.text.now state.new.frames.items) }
 {
     match token {
         Closer::CloseCurly => {
             let name = Atom::new(source.alloc, "{}")?;
             state.sheet.compound(name, 1)?;
             state.at = end;
-            Ok(Turn::On(Some(0)))
+            Ok(Turn::On(Some(0), false))
         }
         _ => Ok(Turn::Refused(refused)),
     }
@@ -281,6 +312,8 @@ fn close_item(
 ) -> Result<Turn, NoMemory>
     ensures moves { IsPlaceFrom source.entry.text.now (suc state.old.at) end → IfOk result (λ t. Moves source.entry.text.now state.old.at state.new t) }
     ensures outcome { (k : List stack.Frame) (l : Tree) (p : ℕ) → IsClosing source.entry state.old (Frame.Item before) k l p token end → IfOk result (λ t. Outcome (setting_of source.entry) source.entry.text.now (There k l p) state.old.at state.new t) }
+    ensures fault { (first : ℕ) (k : List stack.Frame) (l : Tree) (p : ℕ) (h : IsClosing source.entry state.old (Frame.Item before) k l p token end) → IsHeldFault source.entry first state.old (Frame.Item before) k l p token end h refused → IfOk result (λ t. RefusesWell (setting_of source.entry) source.entry.text.now first t) }
+    ensures places { ArePlaces source.entry.text.now state.old.frames.items → IfOk result (λ t. ArePlaces source.entry.text.now state.new.frames.items) }
 {
     // A list of more than 2^64 items fits no memory.
     if before == usize::MAX {
@@ -293,7 +326,7 @@ fn close_item(
             state.sheet.nil(source.alloc)?;
             state.sheet.list(source.alloc, before + 1)?;
             state.at = end;
-            Ok(Turn::On(Some(0)))
+            Ok(Turn::On(Some(0), false))
         }
         _ => Ok(Turn::Refused(refused)),
     }
@@ -310,12 +343,14 @@ fn close_tail(
 ) -> Result<Turn, NoMemory>
     ensures moves { IsPlaceFrom source.entry.text.now (suc state.old.at) end → IfOk result (λ t. Moves source.entry.text.now state.old.at state.new t) }
     ensures outcome { (k : List stack.Frame) (l : Tree) (p : ℕ) → IsClosing source.entry state.old (Frame.Tail items) k l p token end → IfOk result (λ t. Outcome (setting_of source.entry) source.entry.text.now (There k l p) state.old.at state.new t) }
+    ensures fault { (first : ℕ) (k : List stack.Frame) (l : Tree) (p : ℕ) (h : IsClosing source.entry state.old (Frame.Tail items) k l p token end) → IsHeldFault source.entry first state.old (Frame.Tail items) k l p token end h refused → IfOk result (λ t. RefusesWell (setting_of source.entry) source.entry.text.now first t) }
+    ensures places { ArePlaces source.entry.text.now state.old.frames.items → IfOk result (λ t. ArePlaces source.entry.text.now state.new.frames.items) }
 {
     match token {
         Closer::CloseList => {
             state.sheet.list(source.alloc, items)?;
             state.at = end;
-            Ok(Turn::On(Some(0)))
+            Ok(Turn::On(Some(0), false))
         }
         _ => Ok(Turn::Refused(refused)),
     }
@@ -334,6 +369,8 @@ fn close_argument(
 ) -> Result<Turn, NoMemory>
     ensures moves { IsPlaceFrom source.entry.text.now (suc state.old.at) end → IfOk result (λ t. Moves source.entry.text.now state.old.at state.new t) }
     ensures outcome { (k : List stack.Frame) (l : Tree) (p : ℕ) → IsClosing source.entry state.old (Frame.Argument name before place) k l p token end → IfOk result (λ t. Outcome (setting_of source.entry) source.entry.text.now (There k l p) state.old.at state.new t) }
+    ensures fault { (first : ℕ) (k : List stack.Frame) (l : Tree) (p : ℕ) (h : IsClosing source.entry state.old (Frame.Argument name before place) k l p token end) → IsHeldFault source.entry first state.old (Frame.Argument name before place) k l p token end h refused → IsFramePlace source.entry.text.now (Frame.Argument name before place) → IfOk result (λ t. RefusesWell (setting_of source.entry) source.entry.text.now first t) }
+    ensures places { IsFramePlace source.entry.text.now (Frame.Argument name before place) → ArePlaces source.entry.text.now state.old.frames.items → IfOk result (λ t. ArePlaces source.entry.text.now state.new.frames.items) }
 {
     match token {
         Closer::Comma => {
@@ -351,7 +388,7 @@ fn close_argument(
             }
             state.sheet.compound(name, before + 1)?;
             state.at = end;
-            Ok(Turn::On(Some(0)))
+            Ok(Turn::On(Some(0), false))
         }
         _ => Ok(Turn::Refused(refused)),
     }
@@ -362,13 +399,16 @@ pub(crate) fn turn_at(
     source: Source<'_>,
     state: &mut State,
     phase: Option<u16>,
+    doubt: bool,
 ) -> Result<Turn, NoMemory>
     requires { IsCharBoundary source.text.now state.old.at }
     ensures moves { IfOk result (λ t. Moves source.entry.text.now state.old.at state.new t) }
     ensures outcome { (x : Position) → Stands state.old x → phase ≡ phase_of x → IfOk result (λ t. Outcome (setting_of source.entry) source.entry.text.now x state.old.at state.new t) }
+    ensures fault { (first : ℕ) (x : Position) → Stands state.old x → phase ≡ phase_of x → Led (setting_of source.entry) source.entry.text.now first x state.old.at doubt → ArePlaces source.entry.text.now state.old.frames.items → IfOk result (λ t. RefusesWell (setting_of source.entry) source.entry.text.now first t) }
+    ensures places { ArePlaces source.entry.text.now state.old.frames.items → IfOk result (λ t. ArePlaces source.entry.text.now state.new.frames.items) }
 {
     match phase {
         None => operand(source, state),
-        Some(priority) => behind(source, state, priority),
+        Some(priority) => behind(source, state, priority, doubt),
     }
 }

@@ -1,4 +1,4 @@
-//! Texts and their terms; places and kinds of faults, which no clause gives.
+//! Texts and their terms; places and kinds of faults.
 
 use crate::{ReadOutcome, ReadRefused, read_term};
 use au_model::{DoubleQuotes, FaultKind};

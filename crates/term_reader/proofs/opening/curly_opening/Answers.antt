@@ -6,6 +6,8 @@ use Rattle.term_reader.specs.Following.{IsFollowAt}
 use Rattle.term_reader.specs.Begun.{opening_meant}
 use Rattle.term_reader.proofs.Follows.{curly-atom}
 use Rattle.term_reader.proofs.Literals.{braces-chars}
+use Rattle.std.proofs.lemmas.Result.{IfOk-weaker}
+use Rattle.term_reader.proofs.Follows.{reached-here, opens-then}
 use Rattle.term_reader.proofs.opening.curly_opening.Goals as goal
 
 pub returns-in-ClosesCurly-clause-opening : goal.returns-in-ClosesCurly-clause-opening
@@ -15,3 +17,12 @@ returns-in-ClosesCurly-clause-opening c =
     let h = subst (IsFollowAt text c.args.end) c.in-ClosesCurly.is c.in_ok-next.ensures in
     subst (λ x. IfOk c.atom_opening.result (λ o. opening_meant c.args.source o ≡ x))
     (ap (λ n. atom_begins n us) braces-chars ∙ sym (curly-atom h.is.0 _ us h.is.1)) c.atom_opening.ensures.opening
+
+pub returns-in-ClosesCurly-clause-place : goal.returns-in-ClosesCurly-clause-place
+returns-in-ClosesCurly-clause-place c =
+    let text = c.args.source.text.now in
+    let h = subst (IsFollowAt text c.args.end) c.in-ClosesCurly.is c.in_ok-next.ensures in
+    IfOk-weaker c.atom_opening.result _ _ (λ o d. opens-then text c.args.end c.in-ClosesCurly.behind o h.ends d) c.atom_opening.ensures.place
+
+pub returns-in_default-clause-place : goal.returns-in_default-clause-place
+returns-in_default-clause-place c = reached-here c.args.source.text.now c.args.end c.requires

@@ -6,6 +6,8 @@ use Rattle.term_reader.specs.Following.{IsFollowAt}
 use Rattle.term_reader.specs.Begun.{opening_meant}
 use Rattle.term_reader.proofs.Follows.{list-atom}
 use Rattle.term_reader.proofs.Literals.{nil-chars}
+use Rattle.std.proofs.lemmas.Result.{IfOk-weaker}
+use Rattle.term_reader.proofs.Follows.{reached-here, opens-then}
 use Rattle.term_reader.proofs.opening.list_opening.Goals as goal
 
 pub returns-in-ClosesList-clause-opening : goal.returns-in-ClosesList-clause-opening
@@ -15,3 +17,12 @@ returns-in-ClosesList-clause-opening c =
     let h = subst (IsFollowAt text c.args.end) c.in-ClosesList.is c.in_ok-next.ensures in
     subst (λ x. IfOk c.atom_opening.result (λ o. opening_meant c.args.source o ≡ x))
     (ap (λ n. atom_begins n us) nil-chars ∙ sym (list-atom h.is.0 _ us h.is.1)) c.atom_opening.ensures.opening
+
+pub returns-in-ClosesList-clause-place : goal.returns-in-ClosesList-clause-place
+returns-in-ClosesList-clause-place c =
+    let text = c.args.source.text.now in
+    let h = subst (IsFollowAt text c.args.end) c.in-ClosesList.is c.in_ok-next.ensures in
+    IfOk-weaker c.atom_opening.result _ _ (λ o d. opens-then text c.args.end c.in-ClosesList.behind o h.ends d) c.atom_opening.ensures.place
+
+pub returns-in_default-clause-place : goal.returns-in_default-clause-place
+returns-in_default-clause-place c = reached-here c.args.source.text.now c.args.end c.requires

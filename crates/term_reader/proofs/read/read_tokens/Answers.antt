@@ -1,6 +1,9 @@
-use Rattle.std.proofs.Common.{◌≡◌, subst, arith}
+use Rattle.std.proofs.Common.{◌≡◌, [], false, refl, sym, subst, arith}
 use Rattle.term_reader.specs.Begun.{setting_of}
-use Rattle.term_reader.specs.Positions.{Outcome, Moves}
+use Rattle.token_scan.specs.Parts.{IsPlaceFrom}
+use Rattle.term_reader.specs.Positions.{Due, Led, Outcome, Moves}
+use Rattle.term_reader.specs.Refusing.{RefusesWell, ArePlaces}
+use Rattle.term_reader.proofs.Ledger.{led-start, led-then}
 use Rattle.term_reader.proofs.Readings.{spelled, no_term}
 use Rattle.term_reader.proofs.read.read_tokens.Goals as goal
 
@@ -15,7 +18,7 @@ returns-in-Over c =
     record {
       tree = o.tree;
       sheet = o.sheet;
-      spelling = record { spelled = spelled s text c.args.at here c.in-Over.end i.position o.tree i.leads o.reads o.rest; place = (omega (arith, i.place.0, m.0), m.1) };
+      spelling = record { spelled = spelled s text c.args.at here c.in-Over.end i.position o.tree c.tokens.doubt i.led o.reads o.rest; place = (omega (arith, i.place.0, m.0), m.1) };
     }
 
 pub returns-in-Refused : goal.returns-in-Refused
@@ -24,4 +27,37 @@ returns-in-Refused c =
     let text = c.args.source.text.now in
     let here = c.tokens.state.at in
     let i = c.tokens.invariant in
-    no_term s text c.args.at here i.position i.leads (subst (λ t. Outcome s text i.position here c.turn_at.new.state t) c.in-Refused.is (c.in_ok-next.ensures.outcome i.position i.stands i.phase_is))
+    let o = subst (λ t. Outcome s text i.position here c.turn_at.new.state t) c.in-Refused.is (c.in_ok-next.ensures.outcome i.position i.stands i.phase_is) in
+    let f = subst (λ t. RefusesWell s text c.args.at t) c.in-Refused.is (c.in_ok-next.ensures.fault c.args.at i.position i.stands i.phase_is i.led i.places) in
+    (no_term s text c.args.at here i.position c.tokens.doubt i.led o, f)
+
+pub tokens-init : goal.tokens-init
+tokens-init c =
+    let s = setting_of c.args.source in
+    let text = c.args.source.text.now in
+    let e = sym c.new-state.ensures.at in
+    record {
+      place = subst (IsPlaceFrom text c.args.at) e (omega arith, c.requires);
+      position = Due [];
+      stands = c.new-state.ensures.stands;
+      phase_is = refl;
+      led = subst (λ n. Led s text c.args.at (Due []) n false) e (led-start s text c.args.at);
+      places = subst (ArePlaces text) (sym c.new-state.ensures.empty) tt;
+    }
+
+pub tokens-preserved : goal.tokens-preserved
+tokens-preserved c =
+    let s = setting_of c.args.source in
+    let text = c.args.source.text.now in
+    let here = c.tokens.state.at in
+    let i = c.tokens.invariant in
+    let w = subst (λ t. Outcome s text i.position here c.turn_at.new.state t) c.in-On.is (c.in_ok-next.ensures.outcome i.position i.stands i.phase_is) in
+    let m = subst (λ t. Moves text here c.turn_at.new.state t) c.in-On.is c.in_ok-next.ensures.moves in
+    record {
+      place = (omega (arith, i.place.0, m.0), m.1);
+      position = w.new;
+      stands = w.stands;
+      phase_is = w.phase_is;
+      led = led-then s text c.args.at here c.turn_at.new.state.at c.tokens.doubt c.in-On.lone i.position w.new i.led i.stands.kept w.leads;
+      places = c.in_ok-next.ensures.places i.places;
+    }

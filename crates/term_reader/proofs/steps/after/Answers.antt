@@ -1,4 +1,4 @@
-use Rattle.std.proofs.Common.{◌≡◌, ◌∙◌, Bool, true, false, Some, refl, sym, ap, subst}
+use Rattle.std.proofs.Common.{◌≡◌, ◌∙◌, Bool, true, false, ◌∷◌, Some, refl, sym, ap, subst}
 use Rattle.std.proofs.lemmas.Result.{IfOk-weaker}
 use Rattle.au_term.specs.declared.cell.Cell.TheVariants.{Functor}
 use Rattle.au_model.specs.Joints.{Infix, Postfix, Nothing, joint_fits, lexeme_joint}
@@ -11,7 +11,13 @@ use Rattle.term_reader.specs.Stack.{bound_of}
 use Rattle.term_reader.specs.Frames.{InfixShape, put_stack}
 use Rattle.term_reader.specs.Sheets.{put_tree, put_cell}
 use Rattle.term_reader.specs.Kept.{IsSheetOf}
-use Rattle.term_reader.specs.Positions.{There, Outcome}
+use Rattle.au_model.specs.Lexemes.{token}
+use Rattle.term_reader.specs.Meant.{IsStart}
+use Rattle.term_reader.specs.Refusing.{ArePlaces}
+use Rattle.term_reader.specs.declared.state.Frame.TheVariants as frame
+use Rattle.term_reader.specs.Positions.{There, Led, Outcome}
+use Rattle.term_reader.proofs.Held.{on-well}
+use Rattle.term_reader.proofs.Taking.{places-push}
 use Rattle.term_reader.specs.Settling.{IsFree}
 use Rattle.term_reader.specs.declared.steps.Turn.TheVariants.{On}
 use Rattle.term_reader.proofs.Moving.{first-joint, outcome-same, pushed, infix-leads, postfix-leads, fits-bound}
@@ -64,7 +70,7 @@ returns-in_ok-compound-in-Postfix-clause-outcome c = λ k l st.
     let is = sym c.joint_of-joint.ensures ∙ ap (joint_meant n) c.in-Postfix.is in
     let sheet = subst (λ m. IsSheetOf c.compound.new.self (put_cell (put_tree (put_stack z.below) z.tree) (Functor m 1))) c.in_ok-name-in-Postfix.ensures
     (c.in_ok-compound-in-Postfix.ensures (put_tree (put_stack z.below) z.tree) z.stands.sheet) in
-    outcome-same s c.args.source.text.now j k z.below l z.tree c.args.priority q at _ (On (Some o.priority)) z.same fj (record {
+    outcome-same s c.args.source.text.now j k z.below l z.tree c.args.priority q at _ (On (Some o.priority) false) z.same fj (record {
       new = There z.below (one n z.tree) o.priority;
       stands = record { shapes = z.stands.shapes; sheet = sheet; kept = z.stands.kept; low = fits-bound c.args.source at c.args.found.end z.below z.tree q c.args.found.apart x n o fits };
       phase_is = refl;
@@ -83,3 +89,51 @@ returns-in-Nothing-clause-outcome c = λ k l st.
     let z = c.in_ok-last.ensures.settled (setting_of c.args.source) k l n st in
     let free = subst (λ b. IsFree z.below q j b) c.if-not-fits.false z.free in
     false_true (subst (λ i. joint_fits (bound_of z.below) q i ≡ true) (ap (joint_meant n) c.in-Nothing.is) free)
+
+pub returns-then-not-fits-clause-fault : goal.returns-then-not-fits-clause-fault
+returns-then-not-fits-clause-fault c = λ first k l st led starts places.
+    let s = setting_of c.args.source in
+    let text = c.args.source.text.now in
+    let x = lexeme_meant c.args.found.lexeme in
+    let j = joint_meant (joint_name x) c.joint_of-joint.result in
+    let z = c.in_ok-last.ensures.settled s k l (joint_name x) st in
+    let free = subst (λ b. IsFree z.below c.in_ok-last.last j b) c.if-not-fits.true z.free in
+    let stops = subst (λ i. joint_fits (bound_of z.below) c.in_ok-last.last i ≡ false) c.joint_of-joint.ensures free.0 in
+    let at = sym c.in_ok-last.ensures.at in
+    c.close.ensures.fault first z.below z.tree c.in_ok-last.last z.stands free.1 stops (record {
+      stack = k;
+      tree = l;
+      priority = c.args.priority;
+      led = subst (λ n. Led s text first (There k l c.args.priority) n c.args.doubt) at led;
+      kept = st.kept;
+      low = st.low;
+      passes = λ more goal g. z.same.to (token c.args.found.apart x ∷ more) goal (sym c.joint_of-joint.ensures) g;
+    }) (subst (λ n. IsStart text n c.args.found.start) at starts) (c.in_ok-last.ensures.places text places)
+
+pub returns-then-not-fits-clause-places : goal.returns-then-not-fits-clause-places
+returns-then-not-fits-clause-places c = λ h. c.close.ensures.places (c.in_ok-last.ensures.places c.args.source.text.now h)
+
+pub returns-in_ok-name-in-Infix-clause-fault : goal.returns-in_ok-name-in-Infix-clause-fault
+returns-in_ok-name-in-Infix-clause-fault c = λ first k l st led starts places.
+    IfOk-weaker c.open.result _ _ (λ t d. on-well (setting_of c.args.source) c.args.source.text.now first _ _ t d.turn) c.open.ensures
+
+pub returns-in_ok-name-in-Infix-clause-places : goal.returns-in_ok-name-in-Infix-clause-places
+returns-in_ok-name-in-Infix-clause-places c = λ h.
+    let text = c.args.source.text.now in
+    IfOk-weaker c.open.result _ _ (λ t d. subst (ArePlaces text) (sym d.frames) (places-push text _ (frame.Infix _ c.in-Infix.operator) (c.in_ok-last.ensures.places text h) tt)) c.open.ensures
+
+pub returns-in-Nothing-clause-fault : goal.returns-in-Nothing-clause-fault
+returns-in-Nothing-clause-fault c = λ first k l st led starts places.
+    let x = lexeme_meant c.args.found.lexeme in
+    let n = joint_name x in
+    let j = joint_meant n c.joint_of-joint.result in
+    let q = c.in_ok-last.last in
+    let z = c.in_ok-last.ensures.settled (setting_of c.args.source) k l n st in
+    let free = subst (λ b. IsFree z.below q j b) c.if-not-fits.false z.free in
+    false_true (subst (λ i. joint_fits (bound_of z.below) q i ≡ true) (ap (joint_meant n) c.in-Nothing.is) free)
+
+pub returns-in-Nothing-clause-places : goal.returns-in-Nothing-clause-places
+returns-in-Nothing-clause-places c = λ h. c.close-in-Nothing.ensures.places (c.in_ok-last.ensures.places c.args.source.text.now h)
+
+pub returns-in_ok-compound-in-Postfix-clause-places : goal.returns-in_ok-compound-in-Postfix-clause-places
+returns-in_ok-compound-in-Postfix-clause-places c = λ h. c.in_ok-last.ensures.places c.args.source.text.now h

@@ -1,7 +1,10 @@
 use Rattle.std.proofs.Common.{◌≡◌, ◌∙◌, sym, ap, subst}
 use Rattle.au_model.specs.Characters.{chars_from}
 use Rattle.term_reader.specs.Begun.{setting_of}
-use Rattle.term_reader.specs.Meant.{scan_meant, IsScan}
+use Rattle.term_reader.specs.Meant.{lexeme_meant, scan_meant, IsScan}
+use Rattle.term_reader.specs.Positions.{Due}
+use Rattle.term_reader.proofs.Faulty.{bad-fault, end-fault, found-fault}
+use Rattle.term_reader.proofs.Highs.{stuck-none}
 use Rattle.term_reader.proofs.Moving.{nothing-due}
 use Rattle.term_reader.proofs.steps.operand.Goals as goal
 
@@ -18,3 +21,30 @@ returns-in-Bad-clause-outcome c = λ k st goal w.
 pub returns-in-EndOfText-clause-outcome : goal.returns-in-EndOfText-clause-outcome
 returns-in-EndOfText-clause-outcome c = λ k st goal w.
     nothing-due (setting_of c.args.source) k (chars_from c.args.source.text.now c.args.state.now.at) (sym c.in_ok-next.ensures.scan ∙ ap (scan_meant c.args.source.text.now) c.in-EndOfText.is) goal w
+
+pub returns-in_ok-opening-in-Found-clause-fault : goal.returns-in_ok-opening-in-Found-clause-fault
+returns-in_ok-opening-in-Found-clause-fault c = λ first doubt k st led.
+    let text = c.args.source.text.now in
+    let at = c.args.state.now.at in
+    let f = c.in-Found.found in
+    let found = sym c.in_ok-next.ensures.scan ∙ ap (scan_meant text) c.in-Found.is in
+    let is = subst (IsScan text at) c.in-Found.is c.in_ok-next.ensures.place in
+    c.begin.ensures.fault first doubt k st led (λ h. found-fault (setting_of c.args.source) text first at _ f.apart (lexeme_meant f.lexeme) f.start c.unexpected-fault.result found is.2 h c.unexpected-fault.ensures.at c.unexpected-fault.ensures.kind)
+
+pub returns-in_ok-opening-in-Found-clause-places : goal.returns-in_ok-opening-in-Found-clause-places
+returns-in_ok-opening-in-Found-clause-places c = λ h.
+    c.begin.ensures.places (subst (IsScan c.args.source.text.now c.args.state.now.at) c.in-Found.is c.in_ok-next.ensures.place).2.0 h
+
+pub returns-in-Bad-clause-fault : goal.returns-in-Bad-clause-fault
+returns-in-Bad-clause-fault c = λ first doubt k st led.
+    let text = c.args.source.text.now in
+    let none = sym c.in_ok-next.ensures.scan ∙ ap (scan_meant text) c.in-Bad.is in
+    bad-fault (setting_of c.args.source) text first c.args.state.now.at c.in-Bad.bad (subst (IsScan text c.args.state.now.at) c.in-Bad.is c.in_ok-next.ensures.place)
+    (stuck-none (setting_of c.args.source) text first c.args.state.now.at (Due k) doubt led st.kept tt none)
+
+pub returns-in-EndOfText-clause-fault : goal.returns-in-EndOfText-clause-fault
+returns-in-EndOfText-clause-fault c = λ first doubt k st led.
+    let text = c.args.source.text.now in
+    let none = sym c.in_ok-next.ensures.scan ∙ ap (scan_meant text) c.in-EndOfText.is in
+    end-fault (setting_of c.args.source) text first c.args.state.now.at (subst (IsScan text c.args.state.now.at) c.in-EndOfText.is c.in_ok-next.ensures.place)
+    (stuck-none (setting_of c.args.source) text first c.args.state.now.at (Due k) doubt led st.kept tt none)

@@ -2,7 +2,7 @@ use Rattle.std.proofs.Common.{◌≡◌, ◌∙◌, ℕ, List, Some, None, IfOk,
 use Rattle.au_model.specs.Trees.{Tree}
 use Rattle.term_reader.specs.Begun.{setting_of}
 use Rattle.term_reader.specs.Stack.{Frame}
-use Rattle.term_reader.specs.Positions.{Position, Due, There, Stands, Outcome, phase_of}
+use Rattle.term_reader.specs.Positions.{Position, Due, There, Stands, Led, Outcome, phase_of}
 use Rattle.term_reader.proofs.steps.turn_at.Goals as goal
 
 due : (x : Position) → phase_of x ≡ None → (k : List Frame) × (x ≡ Due k)
@@ -24,3 +24,13 @@ returns-in-Some-clause-outcome c = λ x st e.
     let d = there x c.in-Some.priority (sym e ∙ c.in-Some.is) in
     subst (λ y. IfOk c.behind.result (λ t. Outcome (setting_of c.args.source) c.args.source.text.now y c.args.state.now.at c.behind.new.state t)) (sym d.2)
     (c.behind.ensures.outcome d.0 d.1 (subst (λ y. Stands c.args.state.now y) d.2 st))
+
+pub returns-in-None-clause-fault : goal.returns-in-None-clause-fault
+returns-in-None-clause-fault c = λ first x st e led places.
+    let d = due x (sym e ∙ c.in-None.is) in
+    c.operand.ensures.fault first c.args.doubt d.0 (subst (λ y. Stands c.args.state.now y) d.1 st) (subst (λ y. Led (setting_of c.args.source) c.args.source.text.now first y c.args.state.now.at c.args.doubt) d.1 led)
+
+pub returns-in-Some-clause-fault : goal.returns-in-Some-clause-fault
+returns-in-Some-clause-fault c = λ first x st e led places.
+    let d = there x c.in-Some.priority (sym e ∙ c.in-Some.is) in
+    c.behind.ensures.fault first d.0 d.1 (subst (λ y. Stands c.args.state.now y) d.2 st) (subst (λ y. Led (setting_of c.args.source) c.args.source.text.now first y c.args.state.now.at c.args.doubt) d.2 led) places

@@ -1,0 +1,53 @@
+-- What is open can always be completed.
+use Rattle.std.proofs.Common.{◌≡◌, ◌∙◌, ℕ, suc, ◌+◌, ◌≤◌, ◌<◌, Bool, true, false, List, [], ◌∷◌, ◌++◌, length, refl, sym, ap, subst, arith}
+use Rattle.au_model.specs.Lexemes.{Lexeme, Token, token, Variable, Close, CloseList, CloseCurly, End}
+use Rattle.au_model.specs.Trees.{Tree, VarTree, AtomTree, CompoundTree, no_trees, one, two, nil, braces}
+use Rattle.au_model.specs.Openings.{Setting, Leaf}
+use Rattle.term_reader.specs.Readings.{Stop, next}
+use Rattle.term_reader.specs.Stack.{Frame, Round, Braces, ItemOf, TailOf, ArgumentOf, PrefixOf, InfixOf, bound_of, list_of, trees_of, Wants, Goes, Plugs, over, round, braced, last, tail, final, prefix, infixes}
+use Rattle.term_reader.specs.Frames.{IsKept}
+use Rattle.term_reader.specs.Positions.{Position, Due, There, Reads, stack_of, IsLow}
+use Rattle.term_reader.proofs.Turns.{went_stop, took_leaf}
+
+abbrev pub closing : List Frame → List Token
+closing [] = token true End ∷ []
+closing (Round ∷ k) = token false Close ∷ closing k
+closing (Braces ∷ k) = token false CloseCurly ∷ closing k
+closing (ItemOf ts ∷ k) = token false CloseList ∷ closing k
+closing (TailOf ts ∷ k) = token false CloseList ∷ closing k
+closing (ArgumentOf n ts ∷ k) = token false Close ∷ closing k
+closing (PrefixOf n o ∷ k) = closing k
+closing (InfixOf n o l ∷ k) = closing k
+
+-- the tokens that complete what is read at a position
+abbrev pub completion : Position → List Token
+completion (Due k) = token true (Variable []) ∷ closing k
+completion (There k l p) = closing k
+
+module _ (s : Setting) where
+  next-closing : (b p : ℕ) (k : List Frame) → next s.ops b p (closing k) ≡ Stop
+  next-closing b p [] = refl
+  next-closing b p (Round ∷ k) = refl
+  next-closing b p (Braces ∷ k) = refl
+  next-closing b p (ItemOf ts ∷ k) = refl
+  next-closing b p (TailOf ts ∷ k) = refl
+  next-closing b p (ArgumentOf n ts ∷ k) = refl
+  next-closing b p (PrefixOf n o ∷ k) = next-closing b p k
+  next-closing b p (InfixOf n o l ∷ k) = next-closing b p k
+
+  plugged : (k : List Frame) (l goal : Tree) (p : ℕ) → p ≤ bound_of k → Plugs s k (closing k) l goal → Goes s k (closing k) l p goal
+  plugged k l goal p le q = went_stop s (closing k) l p (next-closing (bound_of k) p k) le q
+
+  pub closes : (k : List Frame) → IsKept k → (l : Tree) (p : ℕ) → p ≤ bound_of k → (goal : Tree) × Goes s k (closing k) l p goal
+  closes [] h l p le = (l, plugged [] l l p le over)
+  closes (Round ∷ k) h l p le = let r = closes k h l 0 (omega arith) in (r.0, plugged (Round ∷ k) l r.0 p le (round r.1))
+  closes (Braces ∷ k) h l p le = let r = closes k h (one braces l) 0 (omega arith) in (r.0, plugged (Braces ∷ k) l r.0 p le (braced r.1))
+  closes (ItemOf ts ∷ k) h l p le = let r = closes k h (list_of (l ∷ ts) (AtomTree nil)) 0 (omega arith) in (r.0, plugged (ItemOf ts ∷ k) l r.0 p le (last r.1))
+  closes (TailOf ts ∷ k) h l p le = let r = closes k h (list_of ts l) 0 (omega arith) in (r.0, plugged (TailOf ts ∷ k) l r.0 p le (tail r.1))
+  closes (ArgumentOf n ts ∷ k) h l p le = let r = closes k h.1 (CompoundTree n (trees_of (l ∷ ts) no_trees)) 0 (omega arith) in (r.0, plugged (ArgumentOf n ts ∷ k) l r.0 p le (final r.1))
+  closes (PrefixOf n o ∷ k) h l p le = let r = closes k h.1 (one n l) o.priority h.0 in (r.0, plugged (PrefixOf n o ∷ k) l r.0 p le (prefix r.1))
+  closes (InfixOf n o m ∷ k) h l p le = let r = closes k h.1 (two n m l) o.priority h.0 in (r.0, plugged (InfixOf n o m ∷ k) l r.0 p le (infixes r.1))
+
+  pub completes : (x : Position) → IsKept (stack_of x) → IsLow x → (goal : Tree) × Reads s x (completion x) goal
+  completes (Due k) h le = let r = closes k h (VarTree []) 0 (omega arith) in (r.0, took_leaf s (token true (Variable []) ∷ closing k) (closing k) (VarTree []) refl r.1)
+  completes (There k l p) h le = closes k h l p le

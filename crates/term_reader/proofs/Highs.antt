@@ -1,0 +1,336 @@
+-- Where no operand begins.
+use Rattle.std.proofs.Common.{◌≡◌, ◌∙◌, ℕ, suc, ◌+◌, ◌≤◌, ◌<◌, ◌⊎◌, inl, inr, nat_lt, ◌^◌, Bool, true, false, not, ◌&&◌, ◌||◌, List, [], ◌∷◌, ◌++◌, length, Option, Some, None, refl, sym, ap, subst, arith, append_assoc, pos, if◌then◌else◌}
+use Rattle.au_model.specs.Characters.{chars_from}
+use Rattle.au_model.specs.Lexemes as words
+use Rattle.au_model.specs.Lexemes.{Lexeme, Token, token, scanned, ScannedTo, ScannedNone, is_end, tokens_of}
+use Rattle.au_model.specs.Operators.{Operator, OperatorTable, prefix_of}
+use Rattle.au_model.specs.Joints.{Joint, Infix, Postfix, Nothing, named_joint, lexeme_joint, joint_fits, right_bound}
+use Rattle.au_model.specs.Openings.{Setting, Opening, Leaf, Call, Prefix, Fails, begins, opens, counts, is_joint, is_operator, is_minus_name, is_minus, ends_before, stands_alone}
+use Rattle.au_model.specs.Trees.{Tree, IntTree, AtomTree, one, two}
+use Rattle.term_reader.specs.Readings.{Stop, OnInfix, OnPostfix, next}
+use Rattle.term_reader.specs.Stack as stack
+use Rattle.term_reader.specs.Stack.{Frame, bound_of, Wants, Goes, Plugs, prefix, infixes}
+use Rattle.term_reader.specs.Frames.{IsKept}
+use Rattle.term_reader.specs.Looks as looks
+use Rattle.term_reader.specs.Looks.{Look, is_plain, presumed, Scans, none, onto, IsName}
+use Rattle.term_reader.specs.Positions.{Position, Due, There, Reads, stack_of, IsLow, Led}
+use Rattle.term_reader.specs.TextFaults.{Begins}
+use Rattle.term_reader.specs.Refusing.{Stuck, takes, name_joins, atom_joins}
+use Rattle.term_reader.specs.Settling.{first_joint}
+use Rattle.term_reader.proofs.Back.{fits-within}
+use Rattle.term_reader.proofs.Completed.{closing, closes, completion, completes}
+use Rattle.term_reader.proofs.Scanning.{scans-tokens, scans-then}
+use Rattle.term_reader.proofs.Looking.{presumed-alike, joint_alone, joins-is, not-true, and-left, and-right, and-both, closing-quiet, closing-alone, completion-quiet, quiet-plain, IsQuiet}
+use Rattle.term_reader.proofs.Opened.{Opened, ends-plain, by-call, list-opened, curly-opened, fill-fails, ends-same}
+use Rattle.term_reader.proofs.Ledger.{prefix-never, led-begins, begins-more}
+use Rattle.term_reader.proofs.Fronts.{tokens-none, tokens-first}
+use Rattle.term_reader.proofs.Settled.{over-prefix, over-infix, stops-at}
+use Rattle.term_reader.proofs.Refusals.{lone-over, lone-alone, same_first, none_first, next-alike, name_no_end, tails}
+use Rattle.term_reader.proofs.Moving.{on-infix, on-postfix}
+use Rattle.term_reader.proofs.Turns.{fails, prefix_within, took_leaf, takes_leaf, goes_stop, went_stop, went_infix, went_postfix, out_prefix, out_infix}
+
+-- ---- nothing stands there
+
+pub stuck-none : (s : Setting) (text : List ℕ) (start at : ℕ) (x : Position) (d : Bool) → Led s text start x at d → IsKept (stack_of x) → IsLow x → scanned (chars_from text at) ≡ ScannedNone → Stuck s text start at
+stuck-none s text start at x d led kept low e = record {
+  read = led.read;
+  scans = led.scans;
+  begins = led-begins s text start at d x led kept low;
+  ends = λ t us h more goal w. none_first (tokens_of (chars_from text at)) us t (tokens-none (chars_from text at) e) h;
+}
+
+-- ---- no term begins so
+
+-- a token that begins no term begins none, whatever comes behind it
+record BeginsNever (s : Setting) (a : Bool) (x : Lexeme) : Type 0 where
+  pub never : (vs : List Token) → begins s (token a x ∷ vs) ≡ Fails
+  pub alike : (us vs : List Token) → ends_before s.ops x us ≡ ends_before s.ops x vs
+
+opening-never : (s : Setting) (a : Bool) (x : Lexeme) (us : List Token) → begins s (token a x ∷ us) ≡ Fails → Opened s (token a x) us → BeginsNever s a x
+opening-never s a x us e o = absurd (fill-fails o.kind o.rest (sym o.now ∙ e))
+
+integer-never : (s : Setting) (a : Bool) (k : ℕ) (us : List Token) → begins s (token a (words.Integer k) ∷ us) ≡ Fails → (b : Bool) → nat_lt k (2 ^ 63) ≡ b → BeginsNever s a (words.Integer k)
+integer-never s a k us e true g =
+    let h : Leaf (IntTree (pos k)) us ≡ Fails = sym (ap (λ c. if c then Leaf (IntTree (pos k)) us else Fails) g) ∙ e in
+    let z : ⊥ = cc in absurd z
+integer-never s a k us e false g = record { never = λ vs. ap (λ c. if c then Leaf (IntTree (pos k)) vs else Fails) g; alike = λ us vs. refl }
+
+begins-never : (s : Setting) (a : Bool) (x : Lexeme) (us : List Token) → begins s (token a x ∷ us) ≡ Fails → BeginsNever s a x
+begins-never s a (words.Name n) us e = opening-never s a (words.Name n) us e (by-call s a (words.Name n) (is_minus_name n) n (refl, refl) us (opens us) refl)
+begins-never s a (words.QuotedName n) us e = opening-never s a (words.QuotedName n) us e (by-call s a (words.QuotedName n) false n (refl, refl) us (opens us) refl)
+begins-never s a (words.Variable n) us e = let z : ⊥ = cc in absurd z
+begins-never s a (words.Integer k) us e = integer-never s a k us e (nat_lt k (2 ^ 63)) refl
+begins-never s a (words.Text cs) us e = let z : ⊥ = cc in absurd z
+begins-never s a words.Open us e = let z : ⊥ = cc in absurd z
+begins-never s a words.OpenList us e = opening-never s a words.OpenList us e (list-opened s a us)
+begins-never s a words.OpenCurly us e = opening-never s a words.OpenCurly us e (curly-opened s a us)
+begins-never s a x us e = record { never = λ vs. refl; alike = λ us vs. refl }
+
+pub stuck-fails : (s : Setting) (text : List ℕ) (start at : ℕ) (k : List Frame) (d a : Bool) (x : Lexeme) (rest : List ℕ) → Led s text start (Due k) at d → IsKept k → scanned (chars_from text at) ≡ ScannedTo (token a x) rest
+    → begins s (tokens_of (chars_from text at)) ≡ Fails → Stuck s text start at
+stuck-fails s text start at k d a x rest led kept e f =
+    let first = tokens-first (chars_from text at) rest a x e in
+    let n = begins-never s a x first.more (sym (ap (begins s) first.is) ∙ f) in
+    let fits = ap (presumed s.ops led.look) (sym first.is) ∙ led.fits in
+    record {
+      read = led.read;
+      scans = led.scans;
+      begins = led-begins s text start at d (Due k) led kept tt;
+      ends = λ t us h more goal w.
+          let v = subst (λ u. Wants s [] (led.read ++ u ∷ more) goal) (same_first (tokens_of (chars_from text at)) first.more us (token a x) t first.is h) w in
+          fails s (token a x ∷ more) (n.never more) (led.to (token a x ∷ more) goal (presumed-alike s.ops led.look (token a x) first.more more (n.alike more first.more) fits) v);
+    }
+
+-- ---- operators put over an operand
+
+or-left : (x y : Bool) → (x || y) ≡ false → x ≡ false
+or-left true y e = e
+or-left false y e = refl
+
+or-right : (x y : Bool) → (x || y) ≡ false → y ≡ false
+or-right true y e = let z : ⊥ = cc in absurd z
+or-right false y e = e
+
+-- no frame takes a name
+module _ (s : Setting) (a : Bool) (sign : Bool) (n : List ℕ) (k : List Frame) (more : List Token) (l goal : Tree) where
+  not-over : (y : Lexeme) → IsName y sign n → Plugs s [] (token a y ∷ more) l goal → ⊥
+  not-over (words.Name m) i q = elim q [ ]
+  not-over (words.QuotedName m) i q = elim q [ ]
+  not-over y i q = i
+
+  not-round : (y : Lexeme) → IsName y sign n → Plugs s (stack.Round ∷ k) (token a y ∷ more) l goal → ⊥
+  not-round (words.Name m) i q = elim q [ ]
+  not-round (words.QuotedName m) i q = elim q [ ]
+  not-round y i q = i
+
+  not-braces : (y : Lexeme) → IsName y sign n → Plugs s (stack.Braces ∷ k) (token a y ∷ more) l goal → ⊥
+  not-braces (words.Name m) i q = elim q [ ]
+  not-braces (words.QuotedName m) i q = elim q [ ]
+  not-braces y i q = i
+
+  not-item : (ts : List Tree) (y : Lexeme) → IsName y sign n → Plugs s (stack.ItemOf ts ∷ k) (token a y ∷ more) l goal → ⊥
+  not-item ts (words.Name m) i q = elim q [ ]
+  not-item ts (words.QuotedName m) i q = elim q [ ]
+  not-item ts y i q = i
+
+  not-tail : (ts : List Tree) (y : Lexeme) → IsName y sign n → Plugs s (stack.TailOf ts ∷ k) (token a y ∷ more) l goal → ⊥
+  not-tail ts (words.Name m) i q = elim q [ ]
+  not-tail ts (words.QuotedName m) i q = elim q [ ]
+  not-tail ts y i q = i
+
+  not-argument : (b : List ℕ) (ts : List Tree) (y : Lexeme) → IsName y sign n → Plugs s (stack.ArgumentOf b ts ∷ k) (token a y ∷ more) l goal → ⊥
+  not-argument b ts (words.Name m) i q = elim q [ ]
+  not-argument b ts (words.QuotedName m) i q = elim q [ ]
+  not-argument b ts y i q = i
+
+stops-here : (s : Setting) (a : Bool) (x : Lexeme) (k : List Frame) (l goal : Tree) (p b : ℕ) (more : List Token) → bound_of k ≡ b → joint_fits b p (lexeme_joint s.ops x) ≡ false → Goes s k (token a x ∷ more) l p goal → Plugs s k (token a x ∷ more) l goal
+stops-here s a x k l goal p b more h e g = goes_stop s (token a x ∷ more) l p (stops-at s.ops (bound_of k) p (token a x ∷ more) (lexeme_joint s.ops x) refl (ap (λ z. joint_fits z p (lexeme_joint s.ops x)) h ∙ e)) g
+
+pub takes-never : (s : Setting) (a : Bool) (x : Lexeme) (sign : Bool) (n : List ℕ) → IsName x sign n → (k : List Frame) (l : Tree) (p : ℕ) (more : List Token) (goal : Tree) → takes k p (lexeme_joint s.ops x) ≡ false → Goes s k (token a x ∷ more) l p goal → ⊥
+takes-never s a x sign n h [] l p more goal e g = not-over s a sign n [] more l goal x h (stops-here s a x [] l goal p 1200 more refl e g)
+takes-never s a x sign n h (stack.Round ∷ k) l p more goal e g = not-round s a sign n k more l goal x h (stops-here s a x (stack.Round ∷ k) l goal p 1200 more refl e g)
+takes-never s a x sign n h (stack.Braces ∷ k) l p more goal e g = not-braces s a sign n k more l goal x h (stops-here s a x (stack.Braces ∷ k) l goal p 1200 more refl e g)
+takes-never s a x sign n h (stack.ItemOf ts ∷ k) l p more goal e g = not-item s a sign n k more l goal ts x h (stops-here s a x (stack.ItemOf ts ∷ k) l goal p 999 more refl e g)
+takes-never s a x sign n h (stack.TailOf ts ∷ k) l p more goal e g = not-tail s a sign n k more l goal ts x h (stops-here s a x (stack.TailOf ts ∷ k) l goal p 999 more refl e g)
+takes-never s a x sign n h (stack.ArgumentOf b ts ∷ k) l p more goal e g = not-argument s a sign n k more l goal b ts x h (stops-here s a x (stack.ArgumentOf b ts ∷ k) l goal p 999 more refl e g)
+takes-never s a x sign n h (stack.PrefixOf m o ∷ k) l p more goal e g =
+    let f = joint_fits (right_bound o) p (lexeme_joint s.ops x) in
+    let r = takes k o.priority (lexeme_joint s.ops x) in
+    takes-never s a x sign n h k (one m l) o.priority more goal (or-right f r e) (out_prefix s (stops-here s a x (stack.PrefixOf m o ∷ k) l goal p (right_bound o) more refl (or-left f r e) g))
+takes-never s a x sign n h (stack.InfixOf m o u ∷ k) l p more goal e g =
+    let f = joint_fits (right_bound o) p (lexeme_joint s.ops x) in
+    let r = takes k o.priority (lexeme_joint s.ops x) in
+    takes-never s a x sign n h k (two m u l) o.priority more goal (or-right f r e) (out_infix s (stops-here s a x (stack.InfixOf m o u ∷ k) l goal p (right_bound o) more refl (or-left f r e) g))
+
+-- some frame takes it
+record Taken (s : Setting) (j : Joint) (k : List Frame) (l : Tree) (p : ℕ) : Type 0 where
+  pub below : List Frame
+  pub tree : Tree
+  pub priority : ℕ
+  pub kept : IsKept below
+  pub low : priority ≤ bound_of below
+  pub fits : joint_fits (bound_of below) priority j ≡ true
+  pub back : (ts : List Token) (goal : Tree) → first_joint s.ops ts ≡ j → Goes s below ts tree priority goal → Goes s k ts l p goal
+
+taken-here : (s : Setting) (j : Joint) (k : List Frame) (l : Tree) (p : ℕ) → IsKept k → p ≤ bound_of k → joint_fits (bound_of k) p j ≡ true → Taken s j k l p
+taken-here s j k l p h le e = record { below = k; tree = l; priority = p; kept = h; low = le; fits = e; back = λ ts goal f g. g }
+
+taken : (s : Setting) (j : Joint) (k : List Frame) (l : Tree) (p : ℕ) → IsKept k → p ≤ bound_of k → takes k p j ≡ true → Taken s j k l p
+taken s j [] l p h le e = taken-here s j [] l p h le e
+taken s j (stack.Round ∷ k) l p h le e = taken-here s j (stack.Round ∷ k) l p h le e
+taken s j (stack.Braces ∷ k) l p h le e = taken-here s j (stack.Braces ∷ k) l p h le e
+taken s j (stack.ItemOf ts ∷ k) l p h le e = taken-here s j (stack.ItemOf ts ∷ k) l p h le e
+taken s j (stack.TailOf ts ∷ k) l p h le e = taken-here s j (stack.TailOf ts ∷ k) l p h le e
+taken s j (stack.ArgumentOf b ts ∷ k) l p h le e = taken-here s j (stack.ArgumentOf b ts ∷ k) l p h le e
+taken s j (stack.PrefixOf m o ∷ k) l p h le e = go (joint_fits (right_bound o) p j) refl e (taken s j k (one m l) o.priority h.1 h.0) where
+  go : (b : Bool) → joint_fits (right_bound o) p j ≡ b → (b || takes k o.priority j) ≡ true → (takes k o.priority j ≡ true → Taken s j k (one m l) o.priority) → Taken s j (stack.PrefixOf m o ∷ k) l p
+  go true f i r = taken-here s j (stack.PrefixOf m o ∷ k) l p h le f
+  go false f i r =
+      let t = r i in
+      let v = over-prefix s j k m o l p le f in
+      record { below = t.below; tree = t.tree; priority = t.priority; kept = t.kept; low = t.low; fits = t.fits; back = λ ts goal q g. v.back ts goal q (t.back ts goal q g) }
+taken s j (stack.InfixOf m o u ∷ k) l p h le e = go (joint_fits (right_bound o) p j) refl e (taken s j k (two m u l) o.priority h.1 h.0) where
+  go : (b : Bool) → joint_fits (right_bound o) p j ≡ b → (b || takes k o.priority j) ≡ true → (takes k o.priority j ≡ true → Taken s j k (two m u l) o.priority) → Taken s j (stack.InfixOf m o u ∷ k) l p
+  go true f i r = taken-here s j (stack.InfixOf m o u ∷ k) l p h le f
+  go false f i r =
+      let t = r i in
+      let v = over-infix s j k m o u l p le f in
+      record { below = t.below; tree = t.tree; priority = t.priority; kept = t.kept; low = t.low; fits = t.fits; back = λ ts goal q g. v.back ts goal q (t.back ts goal q g) }
+
+-- what completes an operand with the joint behind it
+record Joined (s : Setting) (a : Bool) (x : Lexeme) (k : List Frame) (l : Tree) (p : ℕ) : Type 0 where
+  pub more : List Token
+  pub quiet : IsQuiet more
+  pub goal : Tree
+  pub goes : Goes s k (token a x ∷ more) l p goal
+
+joined : (s : Setting) (a : Bool) (x : Lexeme) (k : List Frame) (l : Tree) (p : ℕ) → (j : Joint) → lexeme_joint s.ops x ≡ j → Taken s j k l p → Joined s a x k l p
+joined s a x k l p (Infix n o) e t =
+    let y = Due (stack.InfixOf n o t.tree ∷ t.below) in
+    let c = completes s y (fits-within (bound_of t.below) t.priority o t.fits, t.kept) tt in
+    let i = on-infix s.ops (bound_of t.below) t.priority (token a x ∷ completion y) (completion y) (token a x) n o refl e t.fits in
+    record { more = completion y; quiet = completion-quiet y; goal = c.0; goes = t.back (token a x ∷ completion y) c.0 e (went_infix s (token a x ∷ completion y) (completion y) n o t.tree t.priority i t.low c.1) }
+joined s a x k l p (Postfix n o) e t =
+    let y = There t.below (one n t.tree) o.priority in
+    let c = completes s y t.kept (fits-within (bound_of t.below) t.priority o t.fits) in
+    let i = on-postfix s.ops (bound_of t.below) t.priority (token a x ∷ completion y) (completion y) (token a x) n o refl e t.fits in
+    record { more = completion y; quiet = completion-quiet y; goal = c.0; goes = t.back (token a x ∷ completion y) c.0 e (went_postfix s (token a x ∷ completion y) (completion y) n o t.tree t.priority i t.low c.1) }
+joined s a x k l p Nothing e t = absurd (nothing_fits (bound_of t.below) t.priority t.fits) where
+  nothing_fits : (b q : ℕ) → joint_fits b q Nothing ≡ true → ⊥
+  nothing_fits b q i = cc
+
+-- ---- names that join atoms
+
+record JoinsName (ops : OperatorTable) (k : List Frame) (y : Lexeme) : Type 0 where
+  pub sign : Bool
+  pub name : List ℕ
+  pub named : IsName y sign name
+  pub alone : joint_alone ops name ≡ true
+  pub takes : takes k 0 (lexeme_joint ops y) ≡ true
+
+joins-name : (ops : OperatorTable) (k : List Frame) (y : Lexeme) → atom_joins ops k y ≡ true → JoinsName ops k y
+joins-name ops k (words.Name m) e = record { sign = is_minus_name m; name = m; named = (refl, refl); alone = and-left (joint_alone ops m) (takes k 0 (named_joint ops m)) e; takes = and-right (joint_alone ops m) (takes k 0 (named_joint ops m)) e }
+joins-name ops k (words.QuotedName m) e = record { sign = false; name = m; named = (refl, refl); alone = and-left (joint_alone ops m) (takes k 0 (named_joint ops m)) e; takes = and-right (joint_alone ops m) (takes k 0 (named_joint ops m)) e }
+joins-name ops k y e = let z : ⊥ = cc in absurd z
+
+and-false : (x y : Bool) → x ≡ true → (x && y) ≡ false → y ≡ false
+and-false true y e h = h
+and-false false y e h = let z : ⊥ = cc in absurd z
+
+-- a token in front of which an operator may stand for itself or not is a name that joins, and no frame takes it
+not-joined : (s : Setting) (b : Bool) (y : Lexeme) (k : List Frame) (n : List ℕ) (more us : List Token) (goal : Tree) → ends_before s.ops y us ≡ false → ends_before s.ops y more ≡ true → atom_joins s.ops k y ≡ false → Goes s k (token b y ∷ more) (AtomTree n) 0 goal → ⊥
+not-joined s b (words.Name m) k n more us goal e f h g =
+    let alone = and-left (joint_alone s.ops m) (is_plain (is_minus_name m) more) (sym (joins-is s.ops m (words.Name m) more) ∙ f) in
+    takes-never s b (words.Name m) (is_minus_name m) m (refl, refl) k (AtomTree n) 0 more goal (and-false (joint_alone s.ops m) (takes k 0 (named_joint s.ops m)) alone h) g
+not-joined s b (words.QuotedName m) k n more us goal e f h g =
+    let alone = and-left (joint_alone s.ops m) (is_plain false more) (sym (joins-is s.ops m (words.QuotedName m) more) ∙ f) in
+    takes-never s b (words.QuotedName m) false m (refl, refl) k (AtomTree n) 0 more goal (and-false (joint_alone s.ops m) (takes k 0 (named_joint s.ops m)) alone h) g
+not-joined s b y k n more us goal e f h g = let z : ⊥ = cc in absurd z
+
+-- ---- behind a prefix operator above the bound
+
+module _ (s : Setting) (text : List ℕ) (start at end : ℕ) (k : List Frame) (d a : Bool) (x : Lexeme) (sign : Bool) (n : List ℕ) (o : Operator) (led : Led s text start (Due k) at d) (kept : IsKept k)
+    (found : scanned (chars_from text at) ≡ ScannedTo (token a x) (chars_from text end)) (named : IsName x sign n) (pre : prefix_of s.ops n ≡ Some o) (high : bound_of k < o.priority)
+    (over : presumed s.ops (looks.Over sign) (tokens_of (chars_from text end)) ≡ true) (no_end : is_end x ≡ false) where
+  abbrev first : Token
+  first = token a x
+
+  abbrev left : List Token
+  left = tokens_of (chars_from text end)
+
+  here : tokens_of (chars_from text at) ≡ first ∷ left
+  here = scans-tokens (onto found no_end none)
+
+  sure : (vs : List Token) → presumed s.ops led.look (first ∷ vs) ≡ true
+  sure vs = presumed-alike s.ops led.look first left vs (prefix-never s.ops x sign n o named pre vs ∙ sym (prefix-never s.ops x sign n o named pre left)) (ap (presumed s.ops led.look) (sym here) ∙ led.fits)
+
+  plain-left : is_plain sign left ≡ true
+  plain-left = and-left (is_plain sign left) (not (stands_alone s.ops left)) over
+
+  alone-left : not (stands_alone s.ops left) ≡ true
+  alone-left = and-right (is_plain sign left) (not (stands_alone s.ops left)) over
+
+  front : (vs : List Token) (goal : Tree) → Wants s [] ((led.read ++ first ∷ []) ++ vs) goal → Wants s k (first ∷ vs) goal
+  front vs goal w = led.to (first ∷ vs) goal (sure vs) (subst (λ ts. Wants s [] ts goal) (append_assoc led.read (first ∷ []) vs) w)
+
+  behind : (vs : List Token) (goal : Tree) → Wants s k (first ∷ vs) goal → Wants s [] ((led.read ++ first ∷ []) ++ vs) goal
+  behind vs goal w = subst (λ ts. Wants s [] ts goal) (sym (append_assoc led.read (first ∷ []) vs)) (led.back (first ∷ vs) goal (sure vs) w)
+
+  -- it has no operand
+  no-operand : (vs : List Token) (goal : Tree) → is_plain sign vs ≡ true → stands_alone s.ops vs ≡ false → Wants s k (first ∷ vs) goal → ⊥
+  no-operand vs goal e f w =
+      let le : o.priority ≤ bound_of k = prefix_within s (first ∷ vs) vs n o (lone-over s a x sign n o vs named pre e f) w in
+      omega (arith, le, high)
+
+  -- it stands for itself
+  by-itself : (vs : List Token) (goal : Tree) → is_plain sign vs ≡ true → stands_alone s.ops vs ≡ true → Goes s k vs (AtomTree n) 0 goal → Wants s k (first ∷ vs) goal
+  by-itself vs goal e f g = took_leaf s (first ∷ vs) vs (AtomTree n) (lone-alone s a x sign n o vs named pre e f) g
+
+  itself : (vs : List Token) (goal : Tree) → is_plain sign vs ≡ true → stands_alone s.ops vs ≡ true → Wants s k (first ∷ vs) goal → Goes s k vs (AtomTree n) 0 goal
+  itself vs goal e f w = takes_leaf s (first ∷ vs) vs (AtomTree n) (lone-alone s a x sign n o vs named pre e f) w
+
+  begins-alone : Begins s (led.read ++ first ∷ [])
+  begins-alone =
+      let c = closes s k kept (AtomTree n) 0 (omega arith) in
+      begins-more s (led.read ++ first ∷ []) (closing k) c.0 (behind (closing k) c.0 (by-itself (closing k) c.0 (quiet-plain sign (closing k) (closing-quiet k)) (closing-alone s.ops k) c.1))
+
+  scans-first : Scans (chars_from text start) (led.read ++ first ∷ []) (chars_from text end)
+  scans-first = scans-then led.scans (onto found no_end none)
+
+  pub high-none : scanned (chars_from text end) ≡ ScannedNone → Stuck s text start end
+  high-none e = record {
+    read = led.read ++ first ∷ [];
+    scans = scans-first;
+    begins = begins-alone;
+    ends = λ t us h more goal w. none_first left us t (tokens-none (chars_from text end) e) h;
+  }
+
+  module _ (last : ℕ) (b : Bool) (y : Lexeme) (next : scanned (chars_from text end) ≡ ScannedTo (token b y) (chars_from text last)) where
+    abbrev t : Token
+    t = token b y
+
+    us : List Token
+    us = (tokens-first (chars_from text end) (chars_from text last) b y next).more
+
+    left-is : left ≡ t ∷ us
+    unfolding us
+    left-is = (tokens-first (chars_from text end) (chars_from text last) b y next).is
+
+    plain : (vs : List Token) → is_plain sign (t ∷ vs) ≡ true
+    plain vs = ap (is_plain sign) (sym left-is) ∙ plain-left
+
+    not-alone : ends_before s.ops y us ≡ false
+    not-alone = not-true (ends_before s.ops y us) (ap (λ ts. not (stands_alone s.ops ts)) (sym left-is) ∙ alone-left)
+
+    -- the token is refused
+    ends-here : atom_joins s.ops k y ≡ false → (more : List Token) (goal : Tree) → Wants s k (first ∷ t ∷ more) goal → ⊥
+    ends-here e more goal w = go (ends_before s.ops y more) refl where
+      go : (c : Bool) → ends_before s.ops y more ≡ c → ⊥
+      go false f = no-operand (t ∷ more) goal (plain more) f w
+      go true f = not-joined s b y k n more us goal not-alone f e (itself (t ∷ more) goal (plain more) f w)
+
+    pub high-here : atom_joins s.ops k y ≡ false → Stuck s text start end
+    high-here e = record {
+      read = led.read ++ first ∷ [];
+      scans = scans-first;
+      begins = begins-alone;
+      ends = λ u vs h more goal w. ends-here e more goal (front (t ∷ more) goal (subst (λ z. Wants s [] ((led.read ++ first ∷ []) ++ z ∷ more) goal) (same_first left us vs t u left-is h) w));
+    }
+
+    -- or it joins the operator to the next one
+    pub high-next : atom_joins s.ops k y ≡ true → Stuck s text start last
+    high-next e =
+        let j = joins-name s.ops k y e in
+        let c = joined s b y k (AtomTree n) 0 (lexeme_joint s.ops y) refl (taken s (lexeme_joint s.ops y) k (AtomTree n) 0 kept (omega arith) j.takes) in
+        let alone : stands_alone s.ops (t ∷ c.more) ≡ true = ends-plain s.ops y j.sign j.name j.named c.more (quiet-plain j.sign c.more c.quiet) ∙ j.alone in
+        let end_no = name_no_end y j.sign j.name j.named in
+        record {
+          read = (led.read ++ first ∷ []) ++ t ∷ [];
+          scans = scans-then scans-first (onto next end_no none);
+          begins = begins-more s ((led.read ++ first ∷ []) ++ t ∷ []) c.more c.goal
+              (subst (λ ts. Wants s [] ts c.goal) (sym (append_assoc (led.read ++ first ∷ []) (t ∷ []) c.more)) (behind (t ∷ c.more) c.goal (by-itself (t ∷ c.more) c.goal (plain c.more) alone c.goes)));
+          ends = λ u vs h more goal w.
+              let is : us ≡ u ∷ vs = tails left us (tokens_of (chars_from text last)) t left-is (scans-tokens (onto next end_no none)) ∙ h in
+              let f : ends_before s.ops y (u ∷ more) ≡ false = next-alike s.ops y u more vs ∙ (ap (ends_before s.ops y) (sym is) ∙ not-alone) in
+              no-operand (t ∷ u ∷ more) goal (plain (u ∷ more)) f (front (t ∷ u ∷ more) goal (subst (λ ts. Wants s [] ts goal) (append_assoc (led.read ++ first ∷ []) (t ∷ []) (u ∷ more)) w));
+        }

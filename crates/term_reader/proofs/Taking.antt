@@ -1,0 +1,72 @@
+-- Which frame takes a joint.
+use Rattle.std.proofs.Common.{◌≡◌, ◌∙◌, ℕ, Bool, true, false, ◌||◌, List, [], ◌∷◌, ◌++◌, length, map, Option, Some, None, refl, sym, ap, subst, arith}
+use Rattle.au_model.specs.Joints.{Joint, joint_fits}
+use Rattle.term_reader.specs.Stack as stack
+use Rattle.term_reader.specs.Stack.{Frame}
+use Rattle.term_reader.specs.Frames.{Shape, PrefixShape, InfixShape, frame_meant, shape_of, shapes_up, shape_bound, shape_operator}
+use Rattle.term_reader.specs.Refusing.{takes, IsFramePlace, ArePlaces}
+use Rattle.term_reader.specs.declared.state.Frame.{Frame as DeclaredFrame}
+use Rattle.term_reader.proofs.Settled.{popped, no_frames}
+
+top-fits : (f : Frame) (k : List Frame) (p : ℕ) (j : Joint) → joint_fits (shape_bound (shape_of f)) p j ≡ true → takes (f ∷ k) p j ≡ true
+top-fits stack.Round k p j e = e
+top-fits stack.Braces k p j e = e
+top-fits (stack.ItemOf ts) k p j e = e
+top-fits (stack.TailOf ts) k p j e = e
+top-fits (stack.ArgumentOf n ts) k p j e = e
+top-fits (stack.PrefixOf n o) k p j e = ap (λ b. b || takes k o.priority j) e
+top-fits (stack.InfixOf n o l) k p j e = ap (λ b. b || takes k o.priority j) e
+
+top-none : (f : Frame) (k : List Frame) (p : ℕ) (j : Joint) → joint_fits (shape_bound (shape_of f)) p j ≡ false → shape_operator (shape_of f) ≡ None → takes (f ∷ k) p j ≡ false
+top-none stack.Round k p j e h = e
+top-none stack.Braces k p j e h = e
+top-none (stack.ItemOf ts) k p j e h = e
+top-none (stack.TailOf ts) k p j e h = e
+top-none (stack.ArgumentOf n ts) k p j e h = e
+top-none (stack.PrefixOf n o) k p j e h = let z : ⊥ = cc in absurd z
+top-none (stack.InfixOf n o l) k p j e h = let z : ⊥ = cc in absurd z
+
+top-more : (f : Frame) (k : List Frame) (p q : ℕ) (j : Joint) → joint_fits (shape_bound (shape_of f)) p j ≡ false → shape_operator (shape_of f) ≡ Some q → takes (f ∷ k) p j ≡ takes k q j
+top-more stack.Round k p q j e h = let z : ⊥ = cc in absurd z
+top-more stack.Braces k p q j e h = let z : ⊥ = cc in absurd z
+top-more (stack.ItemOf ts) k p q j e h = let z : ⊥ = cc in absurd z
+top-more (stack.TailOf ts) k p q j e h = let z : ⊥ = cc in absurd z
+top-more (stack.ArgumentOf n ts) k p q j e h = let z : ⊥ = cc in absurd z
+top-more (stack.PrefixOf n o) k p q j e h = let same : o.priority ≡ q = cc in ap (λ b. b || takes k o.priority j) e ∙ ap (λ r. takes k r j) same
+top-more (stack.InfixOf n o l) k p q j e h = let same : o.priority ≡ q = cc in ap (λ b. b || takes k o.priority j) e ∙ ap (λ r. takes k r j) same
+
+module _ (all xs : List DeclaredFrame) (x : DeclaredFrame) (k : List Frame) (p : ℕ) (j : Joint) (is : all ≡ xs ++ x ∷ []) (e : map frame_meant all ≡ shapes_up k) where
+  shapes : map frame_meant (xs ++ x ∷ []) ≡ shapes_up k
+  shapes = ap (map frame_meant) (sym is) ∙ e
+
+  pub last-fits : joint_fits (shape_bound (frame_meant x)) p j ≡ true → takes k p j ≡ true
+  last-fits f =
+      let r = popped k xs x shapes in
+      ap (λ m. takes m p j) r.is ∙ top-fits r.top r.below p j (ap (λ z. joint_fits (shape_bound z) p j) r.shape ∙ f)
+
+  pub last-none : joint_fits (shape_bound (frame_meant x)) p j ≡ false → shape_operator (frame_meant x) ≡ None → takes k p j ≡ false
+  last-none f n =
+      let r = popped k xs x shapes in
+      ap (λ m. takes m p j) r.is ∙ top-none r.top r.below p j (ap (λ z. joint_fits (shape_bound z) p j) r.shape ∙ f) (ap shape_operator r.shape ∙ n)
+
+  pub last-more : (q : ℕ) → joint_fits (shape_bound (frame_meant x)) p j ≡ false → shape_operator (frame_meant x) ≡ Some q → (below : List Frame) × (map frame_meant xs ≡ shapes_up below) × (takes k p j ≡ takes below q j)
+  last-more q f n =
+      let r = popped k xs x shapes in
+      (r.below, r.rest, ap (λ m. takes m p j) r.is ∙ top-more r.top r.below p q j (ap (λ z. joint_fits (shape_bound z) p j) r.shape ∙ f) (ap shape_operator r.shape ∙ n))
+
+pub none-left : (all : List DeclaredFrame) (k : List Frame) (p : ℕ) (j : Joint) → all ≡ [] → map frame_meant all ≡ shapes_up k → joint_fits 1200 p j ≡ takes k p j
+none-left all k p j is e = ap (λ m. takes m p j) (sym (no_frames k (ap (map frame_meant) (sym is) ∙ e)))
+
+-- ---- places in the stack
+
+pub places-push : (text : List ℕ) (xs : List DeclaredFrame) (x : DeclaredFrame) → ArePlaces text xs → IsFramePlace text x → ArePlaces text (xs ++ x ∷ [])
+places-push text [] x h p = (p, tt)
+places-push text (y ∷ xs) x h p = (h.0, places-push text xs x h.1 p)
+
+pub places-front : (text : List ℕ) (xs : List DeclaredFrame) (x : DeclaredFrame) → ArePlaces text (xs ++ x ∷ []) → ArePlaces text xs
+places-front text [] x h = tt
+places-front text (y ∷ xs) x h = (h.0, places-front text xs x h.1)
+
+pub places-last : (text : List ℕ) (xs : List DeclaredFrame) (x : DeclaredFrame) → ArePlaces text (xs ++ x ∷ []) → IsFramePlace text x
+places-last text [] x h = h.0
+places-last text (y ∷ xs) x h = places-last text xs x h.1

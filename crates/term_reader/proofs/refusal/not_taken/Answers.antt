@@ -1,0 +1,19 @@
+use Rattle.std.proofs.Common.{◌≡◌, ◌∙◌, sym}
+use Rattle.term_reader.specs.Begun.{setting_of}
+use Rattle.term_reader.specs.Meant.{lexeme_meant}
+use Rattle.term_reader.proofs.Faulty.{found-fault}
+use Rattle.term_reader.proofs.Refusals.{stuck-here, stuck-behind}
+use Rattle.term_reader.proofs.refusal.not_taken.Goals as goal
+
+pub returns-then-is_held : goal.returns-then-is_held
+returns-then-is_held c = λ start k l p at h.
+    c.refusal_at.ensures start (stuck-behind (setting_of c.args.source) c.args.source.text.now start at c.args.end k l p c.args.doubt h.apart (lexeme_meant c.args.lexeme.now) h.led h.kept h.low h.found h.refused
+    (sym c.is_held.ensures ∙ c.if-is_held.true))
+
+pub returns : goal.returns
+returns c = λ start k l p at h.
+    let s = setting_of c.args.source in
+    let text = c.args.source.text.now in
+    let x = lexeme_meant c.args.lexeme.now in
+    found-fault s text start at _ h.apart x c.args.place c.unexpected.result h.found h.starts
+    (stuck-here s text start at c.args.end k l p c.args.doubt h.apart x h.led h.kept h.low h.found h.refused (sym c.is_held.ensures ∙ c.if-is_held.false)) c.unexpected.ensures.at c.unexpected.ensures.kind

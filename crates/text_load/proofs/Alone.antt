@@ -1,0 +1,58 @@
+-- A text loads to one job, or has a fault.
+use Rattle.std.proofs.Common.{◌≡◌, ◌∙◌, ℕ, Bool, true, false, List, [], ◌∷◌, refl, sym, ap, ap₂, subst}
+use Rattle.au_model.specs.Jobs.{Job}
+use Rattle.au_model.specs.Layout.{begins_layout}
+use Rattle.au_model.specs.Lexemes.{Token, token, End, front, tokens_of, scanned_word, ScannedNone}
+use Rattle.au_model.specs.Spelling.{Operand}
+use Rattle.au_model.specs.Tokens.{Lexed, FoundWord, FoundFault, Word, NameWord, QuotedWord, VariableWord, IntegerWord, TextWord, MarkWord, StopWord, LastWord, next_word}
+use Rattle.au_model.specs.TermTexts.{SpellsTermWithEnd, is_last, is_over}
+use Rattle.au_model.specs.Trees.{Tree}
+use Rattle.au_model.specs.declared.fault_kind.FaultKind.{FaultKind}
+use Rattle.term_reader.proofs.Fronts.{tokens-none}
+use Rattle.term_reader.proofs.Unique.{same_reading}
+use Rattle.text_load.specs.Sentences.{Sentence, ClauseSentence, QuerySentence, NoSentence, sentence, IsSentence}
+use Rattle.text_load.specs.Texts.{Sentences, no_more, one_more, FirstFault, unread, no_sentence, further, LoadsTo, job_of, first_setting}
+use Rattle.text_load.proofs.Going.{no_operand}
+
+-- where nothing but layout is left, no term is spelled
+last_none : (l : Lexed) (b : Bool) → is_last l ≡ true → scanned_word b l ≡ ScannedNone
+last_none (FoundWord LastWord rest) b e = refl
+last_none (FoundWord (NameWord cs) rest) b e = let f : ⊥ = cc in absurd f
+last_none (FoundWord (QuotedWord cs) rest) b e = let f : ⊥ = cc in absurd f
+last_none (FoundWord (VariableWord cs) rest) b e = let f : ⊥ = cc in absurd f
+last_none (FoundWord (IntegerWord n) rest) b e = let f : ⊥ = cc in absurd f
+last_none (FoundWord (TextWord cs) rest) b e = let f : ⊥ = cc in absurd f
+last_none (FoundWord (MarkWord c) rest) b e = let f : ⊥ = cc in absurd f
+last_none (FoundWord StopWord rest) b e = let f : ⊥ = cc in absurd f
+last_none (FoundFault kind from) b e = let f : ⊥ = cc in absurd f
+
+over_spells_none : (cs rest : List ℕ) (t : Tree) → is_over cs ≡ true → SpellsTermWithEnd first_setting cs t rest → ⊥
+over_spells_none cs rest t over h = no_operand (tokens_of cs) (tokens-none cs (last_none (next_word cs) (begins_layout cs) over)) h.spelled
+
+one_tree : (cs rest other : List ℕ) (t u : Tree) → SpellsTermWithEnd first_setting cs t rest → SpellsTermWithEnd first_setting cs u other → t ≡ u
+one_tree cs rest other t u h k = (same_reading first_setting 1200 (tokens_of cs) _ _ t u h.spelled k.spelled).1
+
+one_rest : (cs rest other : List ℕ) (t u : Tree) → SpellsTermWithEnd first_setting cs t rest → SpellsTermWithEnd first_setting cs u other → rest ≡ other
+one_rest cs rest other t u h k = sym h.left ∙ k.left
+
+one_list : (cs : List ℕ) (xs ys : List Sentence) → Sentences cs xs → Sentences cs ys → xs ≡ ys
+one_list cs [] [] (no_more over) (no_more other) = refl
+one_list cs [] (y ∷ ys) (no_more over) (one_more h s more) = absurd (over_spells_none cs _ _ over h)
+one_list cs (x ∷ xs) [] (one_more h s more) (no_more over) = absurd (over_spells_none cs _ _ over h)
+one_list cs (x ∷ xs) (y ∷ ys) (one_more h s more) (one_more k z others) =
+    ap₂ (λ a b. a ∷ b) (ap sentence (one_tree cs _ _ _ _ h k)) (one_list _ xs ys more (subst (λ r. Sentences r ys) (sym (one_rest cs _ _ _ _ h k)) others))
+
+pub one_job : (library text : List ℕ) (job other : Job) → LoadsTo library text job → LoadsTo library text other → job ≡ other
+one_job library text job other h k = h.is ∙ (ap₂ job_of (one_list library h.others k.others h.library_is k.library_is) (one_list text h.own k.own h.text_is k.text_is) ∙ sym k.is)
+
+is_bad : (x : Sentence) (kind : FaultKind) → x ≡ NoSentence kind → IsSentence x → ⊥
+is_bad x kind e s = subst IsSentence e s
+
+pub no_fault : (cs from : List ℕ) (xs : List Sentence) (kind : FaultKind) → Sentences cs xs → FirstFault cs kind from → ⊥
+no_fault cs from [] kind (no_more over) (unread more none fault) = let f : ⊥ = cc in absurd f
+no_fault cs from [] kind (no_more over) (no_sentence h bad place) = over_spells_none cs _ _ over h
+no_fault cs from [] kind (no_more over) (further h s fault) = over_spells_none cs _ _ over h
+no_fault cs from (x ∷ xs) kind (one_more h s more) (unread left none fault) = none _ _ h
+no_fault cs from (x ∷ xs) kind (one_more h s more) (no_sentence k bad place) = is_bad _ kind (ap sentence (one_tree cs _ _ _ _ h k) ∙ bad) s
+no_fault cs from (x ∷ xs) kind (one_more h s more) (further k z fault) =
+    no_fault _ from xs kind more (subst (λ r. FirstFault r kind from) (sym (one_rest cs _ _ _ _ h k)) fault)

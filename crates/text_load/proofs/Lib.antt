@@ -1,0 +1,6 @@
+pub mod Rows
+pub mod Sorts
+pub mod Bounds
+pub mod Assembling
+pub mod Going
+pub mod Alone

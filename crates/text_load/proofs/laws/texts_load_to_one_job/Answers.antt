@@ -1,0 +1,8 @@
+use Rattle.text_load.proofs.Alone.{one_job, no_fault}
+use Rattle.text_load.proofs.laws.texts_load_to_one_job.Goals as goal
+
+pub returns-clause-one : goal.returns-clause-one
+returns-clause-one c = one_job
+
+pub returns-clause-none : goal.returns-clause-none
+returns-clause-none c = no_fault

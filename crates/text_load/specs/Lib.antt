@@ -1,0 +1,8 @@
+pub mod Kept
+pub mod Loading
+pub mod Meant
+pub mod Names
+pub mod Read
+pub mod Sentences
+pub mod Texts
+pub mod Written

@@ -1,0 +1,160 @@
+//! Terms as sentences of a text.
+ghost use Rattle.std.specs.Prelude.{◌≡◌, ◌<◌, IfOk, map};
+ghost use Rattle.au_model.specs.Jobs.{names_bound};
+ghost use Rattle.au_term.specs.Term.{argument, argument_count};
+ghost use Rattle.text_load.specs.Kept.{variable_meant};
+ghost use Rattle.text_load.specs.Read.{IsSentenceOf};
+ghost use Rattle.text_load.specs.Written.{cell_form, compound_form};
+ghost use Rattle.text_load.specs.Sentences.{may_head, clause_of, query_with, sentence_of};
+ghost use Rattle.au_model.specs.Bodies.{called_goals};
+ghost use Rattle.au_model.specs.Forms.{same_name};
+ghost use Rattle.std.specs.Str.{IsAscii};
+
+use crate::query::Query;
+use crate::reserved::is_reserved;
+use au_model::build::atom;
+use au_model::{FaultKind, VarName};
+use au_term::{Atom, Cell, FlatTerm, NoMemory, Shared, VarNo};
+use clause_compile::{Clause, ClauseRefusal, Goals, Scope, body_goals, compile};
+use std::alloc::Global;
+use std::sync::Arc;
+
+/// What a term of a text is.
+#[derive(Drop)]
+pub(crate) enum Sentence {
+    Clause(Arc<Clause>),
+    Query(Query),
+    Refused(FaultKind),
+}
+
+/// What a term with its end is, and its named variables.
+pub(crate) fn sentence_of(
+    alloc: Global,
+    term: FlatTerm,
+    names: Vec<VarName>,
+) -> Result<Sentence, NoMemory>
+    ensures { IfOk result (IsSentenceOf (sentence_of (map variable_meant names.items) term)) }
+{
+    let form = form_of(term.top());
+    match form {
+        Form::Query => asked(alloc, term, names),
+        Form::Directive => Ok(Sentence::Refused(FaultKind::BadDirective)),
+        Form::Rule => rule(alloc, term),
+        Form::Fact => clause(alloc, &term, &atom(alloc, "true")?),
+    }
+}
+
+/// How a term of a text is written.
+#[derive(Clone, Copy)]
+pub(crate) enum Form {
+    Query,
+    Directive,
+    Rule,
+    Fact,
+}
+
+/// The form of a term by its first cell.
+fn form_of(top: &Cell) -> Form
+    ensures { result ≡ cell_form top.now }
+{
+    match top {
+        Cell::Functor(name, arity) => {
+            compound_form(*arity, is_named(name, "?-"), is_named(name, ":-"))
+        }
+        _ => Form::Fact,
+    }
+}
+
+/// The form of a compound, by its number of arguments, and by whether its name asks or is that of a rule.
+fn compound_form(arity: u32, asks: bool, rules: bool) -> Form
+    ensures { result ≡ compound_form arity asks rules }
+{
+    if arity == 1 && asks {
+        Form::Query
+    } else if arity == 1 && rules {
+        Form::Directive
+    } else if arity == 2 && rules {
+        Form::Rule
+    } else {
+        Form::Fact
+    }
+}
+
+/// Whether a name is this text.
+fn is_named(name: &Atom, text: &str) -> bool
+    requires { IsAscii text.now }
+    ensures { result ≡ same_name name.now text.now }
+{
+    name.text() == text
+}
+
+/// The query that stands in a term.
+fn asked(alloc: Global, term: FlatTerm, names: Vec<VarName>) -> Result<Sentence, NoMemory>
+    requires { 0 < argument_count term }
+    ensures { IfOk result (IsSentenceOf (query_with (map variable_meant names.items) (called_goals (argument 0 term)))) }
+{
+    let term = Shared::from_term(alloc, term)?;
+    let body = term.argument(0)?;
+    query(alloc, &body, names)
+}
+
+/// The clause of a head and a body that stand in one term.
+fn rule(alloc: Global, term: FlatTerm) -> Result<Sentence, NoMemory>
+    requires { 1 < argument_count term }
+    ensures { IfOk result (IsSentenceOf (clause_of (argument 0 term) (argument 1 term))) }
+{
+    let term = Shared::from_term(alloc, term)?;
+    let head = term.argument(0)?.to_term(alloc)?;
+    let body = term.argument(1)?.to_term(alloc)?;
+    clause(alloc, &head, &body)
+}
+
+/// The clause of a head and a body.
+fn clause(alloc: Global, head: &FlatTerm, body: &FlatTerm) -> Result<Sentence, NoMemory>
+    ensures { IfOk result (IsSentenceOf (clause_of head.now body.now)) }
+{
+    if !may_head(head) {
+        return Ok(Sentence::Refused(FaultKind::BadClause));
+    }
+    match compile(alloc, head, body) {
+        Ok(clause) => Ok(Sentence::Clause(clause)),
+        Err(ClauseRefusal::NoMemory) => Err(NoMemory),
+        Err(_) => Ok(Sentence::Refused(FaultKind::BadClause)),
+    }
+}
+
+/// Whether a text may define the procedure of a head.
+fn may_head(head: &FlatTerm) -> bool
+    ensures { result ≡ may_head head.now }
+{
+    match head.top() {
+        Cell::Atom(name) => !is_reserved(name.text(), 0),
+        Cell::Functor(name, arity) => !is_reserved(name.text(), *arity),
+        _ => false,
+    }
+}
+
+/// The query of a body and its named variables.
+fn query(alloc: Global, body: &Shared, names: Vec<VarName>) -> Result<Sentence, NoMemory>
+    ensures { IfOk result (IsSentenceOf (query_with (map variable_meant names.items) (called_goals body.now))) }
+{
+    match body_goals(alloc, body, Scope::Local(0), &Goals::empty()) {
+        Ok(goals) => {
+            let vars = body.to_term(alloc)?.bound().max(names_bound(&names)?);
+            Ok(Sentence::Query(Query::new(goals, names, vars)))
+        }
+        Err(ClauseRefusal::NoMemory) => Err(NoMemory),
+        Err(_) => Ok(Sentence::Refused(FaultKind::BadClause)),
+    }
+}
+
+/// The least number above all named variables.
+fn names_bound(names: &[VarName]) -> Result<VarNo, NoMemory>
+    ensures { IfOk result (λ bound. bound ≡ names_bound (map variable_meant names.now)) }
+{
+    let mut bound = 0;
+    for name in names {
+        bound = name.number.checked_add(1).ok_or(NoMemory)?.max(bound);
+    }
+    Ok(bound)
+}
