@@ -1,5 +1,5 @@
 -- What is refused where an operand ends.
-use Rattle.std.proofs.Common.{◌≡◌, ◌∙◌, ℕ, ◌≤◌, Bool, true, false, ◌&&◌, List, [], ◌∷◌, ◌++◌, Option, Some, None, refl, sym, ap, subst, IsCharBoundary}
+use Rattle.std.proofs.Common.{◌≡◌, ℕ, Bool, true, false, ◌&&◌, List, ◌∷◌, Option, refl, sym, subst, IsCharBoundary}
 use Rattle.au_model.specs.Characters.{chars_from}
 use Rattle.au_model.specs.Lexemes.{Lexeme, Comma, Token, token, scanned, ScannedTo}
 use Rattle.au_model.specs.Trees.{Tree}

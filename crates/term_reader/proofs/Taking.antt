@@ -1,9 +1,9 @@
 -- Which frame takes a joint.
-use Rattle.std.proofs.Common.{◌≡◌, ◌∙◌, ℕ, Bool, true, false, ◌||◌, List, [], ◌∷◌, ◌++◌, length, map, Option, Some, None, refl, sym, ap, subst, arith}
+use Rattle.std.proofs.Common.{◌≡◌, ◌∙◌, ℕ, true, false, ◌||◌, List, [], ◌∷◌, ◌++◌, map, Some, None, sym, ap}
 use Rattle.au_model.specs.Joints.{Joint, joint_fits}
 use Rattle.term_reader.specs.Stack as stack
 use Rattle.term_reader.specs.Stack.{Frame}
-use Rattle.term_reader.specs.Frames.{Shape, PrefixShape, InfixShape, frame_meant, shape_of, shapes_up, shape_bound, shape_operator}
+use Rattle.term_reader.specs.Frames.{frame_meant, shape_of, shapes_up, shape_bound, shape_operator}
 use Rattle.term_reader.specs.Refusing.{takes, IsFramePlace, ArePlaces}
 use Rattle.term_reader.specs.declared.state.Frame.{Frame as DeclaredFrame}
 use Rattle.term_reader.proofs.Settled.{popped, no_frames}

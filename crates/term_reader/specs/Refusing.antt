@@ -1,5 +1,5 @@
 -- Where no token goes on, and what is refused there.
-use Rattle.std.specs.Prelude.{◌≡◌, ◌^◌, ◌≤◌, ◌<◌, ◌&&◌, ◌||◌, not, ℕ, Bool, nat_le, true, false, List, [], ◌∷◌, ◌++◌, Option, Some, None, IsCharBoundary, if◌then◌else◌}
+use Rattle.std.specs.Prelude.{◌≡◌, ◌^◌, ◌≤◌, ◌<◌, ◌&&◌, ◌||◌, not, ℕ, Bool, nat_le, false, List, [], ◌∷◌, ◌++◌, Option, Some, None, IsCharBoundary, if◌then◌else◌}
 use Rattle.au_model.specs.Characters.{chars_from}
 use Rattle.au_model.specs.Lexemes.{Lexeme, Name, QuotedName, Integer, Comma, Token, token, scanned, ScannedTo, tokens_of}
 use Rattle.au_model.specs.Operators.{OperatorTable, prefix_of}
@@ -27,7 +27,7 @@ use Rattle.term_reader.specs.Looks.{Scans}
 use Rattle.term_reader.specs.TextFaults.{Begins, Fault}
 use Rattle.term_reader.specs.declared.refusal.Refused.{Refused}
 use Rattle.term_reader.specs.declared.steps.Turn.{Turn}
-use Rattle.term_reader.specs.declared.steps.Turn.TheVariants.{On, Over, Refused as RefusedTurn}
+use Rattle.term_reader.specs.declared.steps.Turn.TheVariants.{Refused as RefusedTurn}
 
 -- the tokens up to a place begin a term, and with the next one they do not
 pub record Stuck (s : Setting) (text : List ℕ) (start at : ℕ) : Type 0 where

@@ -1,10 +1,10 @@
 -- Where a text first goes wrong, and what is wrong there.
-use Rattle.std.specs.Prelude.{◌≡◌, ◌<◌, ◌≤◌, ◌+◌, ◌-◌, ◌^◌, ℕ, suc, Bool, true, false, ◌==◌, nat_le, min, List, [], ◌∷◌, ◌++◌, length, take, slice_get, reverse, Option, Some, None, if◌then◌else◌}
+use Rattle.std.specs.Prelude.{◌≡◌, ◌<◌, ◌+◌, ◌-◌, ◌^◌, ℕ, suc, Bool, true, false, ◌==◌, nat_le, min, List, [], ◌∷◌, ◌++◌, length, take, slice_get, reverse, Option, Some, if◌then◌else◌}
 use Rattle.std.specs.Str.{chars}
 use Rattle.au_model.specs.Characters.{is_in_line, run}
 use Rattle.au_model.specs.Layout.{Gap, GapThen, behind_layout}
 use Rattle.au_model.specs.Tokens.{FoundFault, next_word}
-use Rattle.au_model.specs.Lexemes.{Lexeme, Token, token, Integer, Comma, End, front, first_tokens, tokens_of}
+use Rattle.au_model.specs.Lexemes.{Token, token, Integer, Comma, End, front, first_tokens, tokens_of}
 use Rattle.au_model.specs.Trees.{Tree}
 use Rattle.au_model.specs.Openings.{Setting}
 use Rattle.au_model.specs.Spelling.{Operand}

@@ -1,4 +1,4 @@
-use Rattle.std.proofs.Common.{◌≡◌, [], false, refl, sym, subst, arith}
+use Rattle.std.proofs.Common.{[], false, refl, sym, subst, arith}
 use Rattle.term_reader.specs.Begun.{setting_of}
 use Rattle.token_scan.specs.Parts.{IsPlaceFrom}
 use Rattle.term_reader.specs.Positions.{Due, Led, Outcome, Moves}

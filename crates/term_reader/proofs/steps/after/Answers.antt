@@ -1,7 +1,7 @@
-use Rattle.std.proofs.Common.{◌≡◌, ◌∙◌, Bool, true, false, ◌∷◌, Some, refl, sym, ap, subst}
+use Rattle.std.proofs.Common.{◌≡◌, ◌∙◌, true, false, ◌∷◌, Some, refl, sym, ap, subst}
 use Rattle.std.proofs.lemmas.Result.{IfOk-weaker}
 use Rattle.au_term.specs.declared.cell.Cell.TheVariants.{Functor}
-use Rattle.au_model.specs.Joints.{Infix, Postfix, Nothing, joint_fits, lexeme_joint}
+use Rattle.au_model.specs.Joints.{joint_fits}
 use Rattle.au_model.specs.Trees.{one}
 use Rattle.op_table.specs.Meant.{operator_meant}
 use Rattle.term_reader.specs.Begun.{setting_of}

@@ -1,5 +1,5 @@
-use Rattle.std.proofs.Common.{◌≡◌, ◌∙◌, List, map, [], sym, ap, subst, arith}
-use Rattle.term_reader.specs.Frames.{frame_meant, shapes_up}
+use Rattle.std.proofs.Common.{◌∙◌, map, sym, ap, subst, arith}
+use Rattle.term_reader.specs.Frames.{frame_meant}
 use Rattle.term_reader.specs.Meant.{lexeme_meant}
 use Rattle.term_reader.proofs.Turning.{no_items}
 use Rattle.term_reader.proofs.Settled.{no_frames}

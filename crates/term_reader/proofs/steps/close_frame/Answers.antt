@@ -1,4 +1,4 @@
-use Rattle.std.proofs.Common.{◌≡◌, ℕ, List, IfOk, sym, subst}
+use Rattle.std.proofs.Common.{ℕ, List, IfOk, sym, subst}
 use Rattle.au_model.specs.Trees.{Tree}
 use Rattle.term_reader.specs.Begun.{setting_of}
 use Rattle.term_reader.specs.Stack as stack

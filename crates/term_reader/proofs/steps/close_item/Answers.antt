@@ -1,4 +1,4 @@
-use Rattle.std.proofs.Common.{◌≡◌, ◌+◌, refl, sym, subst}
+use Rattle.std.proofs.Common.{◌+◌, refl, sym, subst}
 use Rattle.std.proofs.lemmas.Result.{IfOk-weaker}
 use Rattle.term_reader.specs.Frames.{put_stack}
 use Rattle.au_model.specs.Trees.{AtomTree, nil}

@@ -1,4 +1,4 @@
-use Rattle.std.proofs.Common.{◌≡◌, ◌∙◌, sym, ap, subst, refl}
+use Rattle.std.proofs.Common.{◌∙◌, sym, ap, subst, refl}
 use Rattle.au_model.specs.Joints.{joint_fits}
 use Rattle.op_table.specs.Meant.{operator_meant}
 use Rattle.term_reader.specs.Meant.{joint_meant}

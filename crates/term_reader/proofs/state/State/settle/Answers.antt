@@ -1,4 +1,4 @@
-use Rattle.std.proofs.Common.{◌≡◌, ◌∙◌, subst}
+use Rattle.std.proofs.Common.{◌∙◌, subst}
 use Rattle.term_reader.specs.Meant.{joint_meant}
 use Rattle.term_reader.specs.Settling.{IsPlug}
 use Rattle.term_reader.proofs.Settled.{same-then}
