@@ -91,7 +91,7 @@ fn called_goal(
         return called_body(alloc, goal, arity, place, store);
     }
     let branch = goal_branch(alloc, goal, place.here, place.rest, store)?;
-    Ok(alone(alloc, branch)?)
+    alone(alloc, branch)
 }
 
 /// What a junction that is called comes to: it has to be a body as a whole.
