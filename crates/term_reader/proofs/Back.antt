@@ -1,10 +1,10 @@
 -- Each reading from the left to the right is a spelling.
 use Rattle.std.proofs.Common.{◌≡◌, ℕ, ◌≤◌, Bool, true, false, ◌&&◌, nat_le, List, [], ◌∷◌, refl, sym, ap, subst, ◌∙◌, arith, if◌then◌else◌}
 use Rattle.au_model.specs.Lexemes.{Token, token, Lexeme}
-use Rattle.au_model.specs.Trees.{Tree, Trees, one, two}
+use Rattle.au_model.specs.Trees.{Tree, Trees}
 use Rattle.au_model.specs.Operators.{OperatorTable, Operator}
-use Rattle.au_model.specs.Joints.{Joint, Infix, Postfix, Nothing, left_bound, right_bound, lexeme_joint, token_joint, fits, joint_fits, goes_on}
-use Rattle.au_model.specs.Openings.{Setting, Opening, begins}
+use Rattle.au_model.specs.Joints.{Joint, Infix, Postfix, Nothing, left_bound, lexeme_joint, token_joint, fits, joint_fits, goes_on}
+use Rattle.au_model.specs.Openings.{Setting, Opening}
 use Rattle.au_model.specs.Spelling as d
 use Rattle.term_reader.specs.Readings.{Next, Stop, OnInfix, OnPostfix, joint_next, next, Whole, whole, Rest, stop, on_infix, on_postfix, Begun, leaf, bracket, curly, listed, called, prefixed, Items, last, barred, item, Arguments, final, argument}
 

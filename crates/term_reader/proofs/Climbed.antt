@@ -1,12 +1,12 @@
 -- Each spelling is such a reading.
-use Rattle.std.proofs.Common.{◌≡◌, ℕ, ◌-◌, ◌≤◌, Bool, true, false, List, [], ◌∷◌, refl, sym, ap, ◌∙◌, rules, arith, if◌then◌else◌, nat_le, ◌&&◌}
-use Rattle.au_model.specs.Lexemes.{Token, token, Lexeme, Close, CloseList, CloseCurly, Comma, Bar}
+use Rattle.std.proofs.Common.{◌≡◌, ℕ, ◌-◌, ◌≤◌, Bool, true, false, List, [], ◌∷◌, refl, arith, if◌then◌else◌}
+use Rattle.au_model.specs.Lexemes.{Token, token, Lexeme}
 use Rattle.au_model.specs.Trees.{Tree, Trees}
-use Rattle.au_model.specs.Operators.{OperatorTable, OperatorKind, Operator}
-use Rattle.au_model.specs.Joints.{Joint, Infix, Postfix, Nothing, left_bound, right_bound, token_joint, lexeme_joint, fits, goes_on, joint_fits, takes_equal_left}
-use Rattle.au_model.specs.Openings.{Setting, Opening, begins}
+use Rattle.au_model.specs.Operators.{OperatorTable, Operator}
+use Rattle.au_model.specs.Joints.{Joint, Infix, Postfix, Nothing, left_bound, token_joint, lexeme_joint, fits, goes_on, joint_fits, takes_equal_left}
+use Rattle.au_model.specs.Openings.{Setting, Opening}
 use Rattle.au_model.specs.Spelling as d
-use Rattle.term_reader.specs.Readings.{Next, Stop, OnInfix, OnPostfix, joint_next, next, Whole, whole, Rest, stop, on_infix, on_postfix, Begun, leaf, bracket, curly, listed, called, prefixed, Items, last, barred, item, Arguments, final, argument}
+use Rattle.term_reader.specs.Readings.{Stop, OnInfix, OnPostfix, joint_next, next, Whole, whole, Rest, stop, on_infix, on_postfix, Begun, leaf, bracket, curly, listed, called, prefixed, Items, last, barred, item, Arguments, final, argument}
 
 bound_le : (b : Bool) (n : ℕ) → (if b then n else n - 1) ≤ n
 bound_le true n = omega arith

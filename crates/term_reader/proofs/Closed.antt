@@ -1,5 +1,5 @@
 -- What each frame comes to where its operand ends.
-use Rattle.std.proofs.Common.{◌≡◌, ◌∙◌, ℕ, suc, ◌+◌, ◌≤◌, ◌<◌, Bool, false, List, [], ◌∷◌, ◌++◌, length, map, Some, None, refl, sym, ap, subst, arith}
+use Rattle.std.proofs.Common.{◌≡◌, ◌∙◌, ℕ, ◌+◌, ◌≤◌, ◌<◌, Bool, false, List, [], ◌∷◌, length, map, Some, refl, sym, ap, subst, arith}
 use Rattle.au_model.specs.Lexemes as words
 use Rattle.au_model.specs.Characters.{chars_from}
 use Rattle.au_model.specs.Joints.{joint_fits, lexeme_joint}
@@ -15,7 +15,7 @@ use Rattle.au_term.specs.declared.cell.Cell.TheVariants.{Functor}
 use Rattle.term_reader.specs.Begun.{setting_of, tokens_at}
 use Rattle.term_reader.specs.Stack as stack
 use Rattle.term_reader.specs.Stack.{bound_of, list_of, trees_of, Goes, Plugs, over, round, braced, item, bar, last, tail, argument, final}
-use Rattle.term_reader.specs.Frames.{ItemShape, TailShape, ArgumentShape, frame_meant, shapes_up, put_stack, put_before, IsKept, IsShut}
+use Rattle.term_reader.specs.Frames.{ItemShape, TailShape, ArgumentShape, frame_meant, shapes_up, put_stack, put_before, IsShut}
 use Rattle.term_reader.specs.Sheets.{put_tree, put_cell, put_lists}
 use Rattle.term_reader.specs.Kept.{IsSheetOf}
 use Rattle.term_reader.specs.Positions.{Due, There, Outcome, rest_at}
@@ -28,7 +28,7 @@ use Rattle.term_reader.specs.declared.state.Frame.{Frame}
 use Rattle.term_reader.specs.declared.state.Frame.TheVariants as frame
 use Rattle.term_reader.specs.declared.steps.Turn.{Turn}
 use Rattle.term_reader.specs.declared.steps.Turn.TheVariants.{On, Over}
-use Rattle.term_reader.proofs.Closing.{Top, closed, leads, never, round-frame, curly-frame, item-frame, tail-frame, argument-frame, not-round, not-curly, not-item, not-tail, not-argument, not-more, is-close, is-close_list, is-close_curly, is-comma, is-bar, is-end_token, not-over, put-list, put-compound}
+use Rattle.term_reader.proofs.Closing.{Top, closed, leads, never, round-frame, curly-frame, item-frame, tail-frame, argument-frame, not-round, not-curly, not-item, not-tail, not-argument, not-more, is-close, is-close_list, is-close_curly, is-comma, is-bar, not-over, put-list, put-compound}
 use Rattle.term_reader.proofs.Moving.{pushed, first-joint}
 use Rattle.term_reader.proofs.Turns.{goes_stop, went_stop, out_round, out_braces, out_item, out_bar, out_last, out_tail, out_argument, out_final}
 

@@ -1,10 +1,10 @@
 -- Tokens that end an operand.
-use Rattle.std.proofs.Common.{◌≡◌, ◌∙◌, ℕ, zero, suc, ◌+◌, ◌-◌, ◌≤◌, ◌<◌, Bool, true, false, List, [], ◌∷◌, ◌++◌, length, map, Option, Some, None, refl, sym, ap, subst, arith}
+use Rattle.std.proofs.Common.{◌≡◌, ◌∙◌, ℕ, zero, suc, ◌+◌, ◌≤◌, Bool, false, List, [], ◌∷◌, ◌++◌, length, map, Some, refl, sym, ap, subst, arith}
 use Rattle.au_model.specs.Characters.{chars_from}
 use Rattle.au_model.specs.Lexemes as words
 use Rattle.au_model.specs.Lexemes.{Lexeme, Token, token, scanned, ScannedTo, is_end, front, tokens_of}
-use Rattle.au_model.specs.Trees.{Tree, Trees, AtomTree, CompoundTree, no_trees, more_trees, tree_count, one, nil, braces, cell, list_name}
-use Rattle.au_model.specs.Joints.{joint_fits, lexeme_joint}
+use Rattle.au_model.specs.Trees.{Tree, Trees, CompoundTree, no_trees, more_trees, tree_count, cell, list_name}
+use Rattle.au_model.specs.Joints.{lexeme_joint}
 use Rattle.au_model.specs.Openings.{Setting}
 use Rattle.au_term.specs.declared.cell.Cell.TheVariants.{Functor}
 use Rattle.term_reader.specs.Begun.{setting_of, tokens_at}
@@ -13,22 +13,20 @@ use Rattle.term_reader.specs.Readings.{Stop, next}
 use Rattle.term_reader.specs.Looks.{Free, none, onto}
 use Rattle.term_reader.specs.Stack as stack
 use Rattle.term_reader.specs.Stack.{bound_of, list_of, trees_of, Goes, Plugs, over, round, braced, item, bar, last, tail, argument, final}
-use Rattle.term_reader.specs.Frames.{Shape, RoundShape, CurlyShape, ItemShape, TailShape, ArgumentShape, frame_meant, shape_of, shapes_up, put_stack, put_before, IsKept, IsShut}
-use Rattle.term_reader.specs.Sheets.{Sheet, no_cells, put_tree, put_trees, put_cell, put_lists}
+use Rattle.term_reader.specs.Frames.{RoundShape, CurlyShape, ItemShape, TailShape, ArgumentShape, frame_meant, shape_of, shapes_up, put_stack, put_before, IsKept}
+use Rattle.term_reader.specs.Sheets.{Sheet, put_tree, put_trees, put_cell, put_lists}
 use Rattle.term_reader.specs.Kept.{IsSheetOf}
-use Rattle.term_reader.specs.Positions.{Position, Due, There, Reads, Stands, Leads, Went, Ended, Outcome, phase_of, rest_at}
-use Rattle.term_reader.specs.Starting.{IsClosing, IsPushed}
+use Rattle.term_reader.specs.Positions.{Position, There, Reads, Leads, Outcome}
+use Rattle.term_reader.specs.Starting.{IsClosing}
 use Rattle.term_reader.specs.declared.lexeme.Closer.{Closer}
 use Rattle.term_reader.specs.declared.lexeme.Closer.TheVariants as closer
 use Rattle.term_reader.specs.declared.opening.Source.{Source}
 use Rattle.term_reader.specs.declared.state.State.{State}
 use Rattle.term_reader.specs.declared.state.Frame.{Frame}
 use Rattle.term_reader.specs.declared.state.Frame.TheVariants as frame
-use Rattle.term_reader.specs.declared.steps.Turn.{Turn}
-use Rattle.term_reader.specs.declared.steps.Turn.TheVariants.{On, Over, Refused}
-use Rattle.term_reader.proofs.Fronts.{front-more, front-end, tokens-more, tokens-end, tokens-first}
-use Rattle.term_reader.proofs.Settled.{popped, no_frames, stops-at}
-use Rattle.term_reader.proofs.Moving.{first-joint, pushed}
+use Rattle.term_reader.specs.declared.steps.Turn.TheVariants.{On}
+use Rattle.term_reader.proofs.Fronts.{tokens-first}
+use Rattle.term_reader.proofs.Settled.{popped, stops-at}
 use Rattle.term_reader.proofs.Turns as turns
 
 -- which token it was

@@ -1,10 +1,10 @@
 -- What is open can always be completed.
-use Rattle.std.proofs.Common.{◌≡◌, ◌∙◌, ℕ, suc, ◌+◌, ◌≤◌, ◌<◌, Bool, true, false, List, [], ◌∷◌, ◌++◌, length, refl, sym, ap, subst, arith}
-use Rattle.au_model.specs.Lexemes.{Lexeme, Token, token, Variable, Close, CloseList, CloseCurly, End}
+use Rattle.std.proofs.Common.{◌≡◌, ℕ, ◌≤◌, true, false, List, [], ◌∷◌, refl, arith}
+use Rattle.au_model.specs.Lexemes.{Token, token, Variable, Close, CloseList, CloseCurly, End}
 use Rattle.au_model.specs.Trees.{Tree, VarTree, AtomTree, CompoundTree, no_trees, one, two, nil, braces}
-use Rattle.au_model.specs.Openings.{Setting, Leaf}
+use Rattle.au_model.specs.Openings.{Setting}
 use Rattle.term_reader.specs.Readings.{Stop, next}
-use Rattle.term_reader.specs.Stack.{Frame, Round, Braces, ItemOf, TailOf, ArgumentOf, PrefixOf, InfixOf, bound_of, list_of, trees_of, Wants, Goes, Plugs, over, round, braced, last, tail, final, prefix, infixes}
+use Rattle.term_reader.specs.Stack.{Frame, Round, Braces, ItemOf, TailOf, ArgumentOf, PrefixOf, InfixOf, bound_of, list_of, trees_of, Goes, Plugs, over, round, braced, last, tail, final, prefix, infixes}
 use Rattle.term_reader.specs.Frames.{IsKept}
 use Rattle.term_reader.specs.Positions.{Position, Due, There, Reads, stack_of, IsLow}
 use Rattle.term_reader.proofs.Turns.{went_stop, took_leaf}

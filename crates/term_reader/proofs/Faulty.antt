@@ -1,15 +1,14 @@
 -- The fault of a text where no token goes on.
-use Rattle.std.proofs.Common.{◌≡◌, ◌∙◌, ℕ, suc, ◌+◌, ◌≤◌, ◌^◌, nat_le, Bool, true, false, List, [], ◌∷◌, ◌++◌, length, drop, slice_get, Option, Some, None, refl, sym, ap, subst, arith, append-nil, rules, IsCharBoundary, if◌then◌else◌}
+use Rattle.std.proofs.Common.{◌≡◌, ◌∙◌, ℕ, ◌^◌, nat_le, Bool, true, false, List, [], ◌∷◌, ◌++◌, length, slice_get, Some, refl, sym, ap, subst, arith, append-nil, IsCharBoundary, if◌then◌else◌, ◌≤◌, drop}
 use Rattle.std.proofs.Math.Seq.{drop-length}
 use Rattle.std.proofs.lemmas.Str.{chars-nil, IsCharBoundary-from_drop, IsUtf8-nil}
 use Rattle.std.specs.Str.{chars, IsUtf8}
 use Rattle.au_model.specs.Characters.{chars_from}
-use Rattle.au_model.specs.Layout.{Gap, GapThen, behind_layout, begins_layout}
-use Rattle.au_model.specs.Tokens.{Word, NameWord, QuotedWord, VariableWord, IntegerWord, TextWord, MarkWord, StopWord, LastWord, Lexed, FoundWord, FoundFault, next_word}
+use Rattle.au_model.specs.Layout.{GapThen, behind_layout, begins_layout}
+use Rattle.au_model.specs.Tokens.{NameWord, QuotedWord, VariableWord, IntegerWord, TextWord, MarkWord, StopWord, LastWord, Lexed, FoundWord, FoundFault, next_word}
 use Rattle.au_model.specs.Lexemes as words
 use Rattle.au_model.specs.Lexemes.{Lexeme, Token, token, scanned, scanned_word, ScannedTo, ScannedNone, front, tokens_of}
-use Rattle.au_model.specs.Openings.{Setting}
-use Rattle.au_model.specs.Trees.{Tree}
+use Rattle.au_model.specs.Openings.{Setting, Call, begins}
 use Rattle.au_model.specs.TermTexts.{is_last, is_over}
 use Rattle.au_model.specs.declared.fault_kind.FaultKind.{FaultKind}
 use Rattle.au_model.specs.declared.fault_kind.FaultKind.TheVariants.{UnexpectedToken, UnexpectedEnd, WideNumeral, TooManyArguments}
@@ -19,7 +18,6 @@ use Rattle.term_reader.specs.Meant.{IsStart}
 use Rattle.term_reader.specs.declared.refusal.Refused.{Refused}
 use Rattle.token_scan.specs.Found.{IsFault as BadFault}
 use Rattle.token_scan.specs.declared.token.BadToken.{BadToken}
-use Rattle.term_reader.specs.Looks.{Scans}
 use Rattle.term_reader.proofs.Fronts.{front-scanned, tokens-none, tokens-first}
 use Rattle.term_reader.proofs.Scanning.{scans-tokens, scans-rest, scans-first}
 use Rattle.term_reader.proofs.Ledger.{fault-of, get-behind}
@@ -65,12 +63,14 @@ module _ (s : Setting) (text : List ℕ) (start at : ℕ) (h : Stuck s text star
       (ap (λ ts. slice_get ts (length h.read)) is ∙ get-behind h.read first.more (token a x))
       (ap behind_layout (scans-first h.scans) ∙ g)
 
-  pub stuck-many : (rest from : List ℕ) (a : Bool) → scanned (chars_from text at) ≡ ScannedTo (token a words.Comma) rest → Fault s (chars_from text start) TooManyArguments from
-  stuck-many rest from a e =
+  pub stuck-many : (rest from : List ℕ) (a : Bool) → scanned (chars_from text at) ≡ ScannedTo (token a words.Comma) rest → (m : ℕ) (name : List ℕ) (us : List Token) → m ≤ length h.read
+      → begins s (drop m (tokens_of (chars_from text start))) ≡ Call name us → token_start m (chars_from text start) ≡ GapThen from → Fault s (chars_from text start) TooManyArguments from
+  stuck-many rest from a e m name us le called place =
       let first = tokens-first (chars_from text at) rest a words.Comma e in
       let is : tokens_of (chars_from text start) ≡ h.read ++ token a words.Comma ∷ first.more = scans-tokens h.scans ∙ ap (λ ts. h.read ++ ts) first.is in
       too_many (fault-of s (tokens_of (chars_from text start)) h.read first.more (token a words.Comma) is h.begins (h.ends (token a words.Comma) first.more first.is))
       (ap (λ ts. slice_get ts (length h.read)) is ∙ get-behind h.read first.more (token a words.Comma))
+      le called place
 
   begins-all : scanned (chars_from text at) ≡ ScannedNone → Begins s (tokens_of (chars_from text start))
   begins-all e =

@@ -1,5 +1,5 @@
 -- How a term begins, by what follows its first token.
-use Rattle.std.proofs.Common.{◌≡◌, ◌∙◌, ◌≤◌, ◌<◌, ◌^◌, ℕ, suc, Bool, true, false, not, ◌&&◌, List, [], ◌∷◌, ◌++◌, refl, sym, ap, arith, IsCharBoundary}
+use Rattle.std.proofs.Common.{◌≡◌, ◌∙◌, ℕ, Bool, true, false, not, ◌&&◌, List, [], ◌∷◌, ◌++◌, refl, sym, ap, arith, IsCharBoundary}
 use Rattle.au_model.specs.Characters.{chars_from}
 use Rattle.au_model.specs.Lexemes as words
 use Rattle.au_model.specs.Lexemes.{Lexeme, Token, token, Scanned, ScannedTo, ScannedNone, scanned, is_end, front, tokens_of}
@@ -8,21 +8,18 @@ use Rattle.au_model.specs.Operators.{OperatorTable, prefix_of}
 use Rattle.au_model.specs.Joints.{named_joint}
 use Rattle.au_model.specs.Openings.{Leaf, Listed, Curly, Call, opens, counts, minus, is_joint, is_operator, prefix_or_atom, name_begins, atom_begins, list_begins, curly_begins}
 use Rattle.token_scan.specs.Parts.{IsPlaceFrom}
-use Rattle.term_reader.specs.declared.lexeme.Scan.{Scan}
-use Rattle.term_reader.specs.declared.lexeme.Scan.TheVariants.{Found}
-use Rattle.term_reader.specs.declared.lexeme.Placed.{Placed}
 use Rattle.term_reader.specs.declared.lexeme.Lexeme.{Lexeme as DeclaredLexeme}
 use Rattle.term_reader.specs.declared.lexeme.Lexeme.TheVariants as lex
 use Rattle.term_reader.specs.declared.lexeme.Follow.{Follow}
 use Rattle.term_reader.specs.declared.lexeme.Follow.TheVariants.{Opens, Counts, ClosesList, ClosesCurly, Other}
 use Rattle.term_reader.specs.Meant.{lexeme_meant, IsNarrow}
-use Rattle.term_reader.specs.Following.{follow_of, NoneFollows, IsFollow, FollowEnds, IsReached, IsFollowAt}
+use Rattle.term_reader.specs.Following.{follow_of, NoneFollows, IsReached, IsFollowAt}
 use Rattle.term_reader.specs.Begun.{joins_as, OpensFrom}
 use Rattle.term_reader.specs.Looks.{none, onto}
 use Rattle.term_reader.specs.declared.opening.Opening.{Opening}
 use Rattle.term_reader.specs.declared.opening.Opening.TheVariants as kind
 use Rattle.term_reader.proofs.Scanning.{scans-then}
-use Rattle.term_reader.proofs.Fronts.{front-more, tokens-none, tokens-more, tokens-end}
+use Rattle.term_reader.proofs.Fronts.{tokens-none, tokens-more, tokens-end}
 
 pub reached : (text : List ℕ) (at end : ℕ) (a : Bool) (x : Lexeme) → scanned (chars_from text at) ≡ ScannedTo (token a x) (chars_from text end) → is_end x ≡ false
     → IsPlaceFrom text at end → IsReached text at end

@@ -1,10 +1,10 @@
 -- The tokens of a text by the first of them.
-use Rattle.std.proofs.Common.{◌≡◌, ◌∙◌, ℕ, ◌≤◌, ◌<◌, Bool, true, false, List, [], ◌∷◌, length, Option, Some, refl, sym, ap, arith, if◌then◌else◌}
+use Rattle.std.proofs.Common.{◌≡◌, ◌∙◌, ℕ, ◌≤◌, ◌<◌, Bool, true, false, List, [], ◌∷◌, length, Some, refl, sym, ap, arith, if◌then◌else◌}
 use Rattle.au_model.specs.Characters.{chars_from}
 use Rattle.au_model.specs.Layout.{begins_layout}
 use Rattle.au_model.specs.Tokens.{word_behind}
 use Rattle.au_model.specs.Operators.{OperatorTable}
-use Rattle.au_model.specs.Lexemes.{Lexeme, End, Token, token, lexeme_of, Scanned, ScannedTo, ScannedNone, scanned_lexeme, scanned_word, scanned, Front, front_with, no_front, is_end, after_token, after_scanned, front, tokens_of}
+use Rattle.au_model.specs.Lexemes.{Lexeme, End, Token, token, lexeme_of, Scanned, ScannedTo, ScannedNone, scanned_lexeme, scanned_word, scanned, front_with, no_front, is_end, after_scanned, front, tokens_of}
 use Rattle.au_model.specs.Openings.{ends_before, stands_alone}
 use Rattle.token_scan.specs.Found.{word_of, IsNextToken}
 use Rattle.token_scan.specs.declared.token.Token.{Token as Place}

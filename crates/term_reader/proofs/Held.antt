@@ -1,32 +1,49 @@
 -- What is refused where an operand ends.
-use Rattle.std.proofs.Common.{◌≡◌, ◌∙◌, ℕ, ◌≤◌, Bool, true, false, ◌&&◌, List, [], ◌∷◌, ◌++◌, Option, Some, None, refl, sym, ap, subst, IsCharBoundary}
+use Rattle.std.proofs.Common.{◌≡◌, ◌∙◌, ℕ, ◌≤◌, Bool, true, false, ◌&&◌, List, ◌∷◌, ◌++◌, length, length-append, drop, Option, refl, sym, ap, subst, arith}
+use Rattle.std.proofs.Math.Seq.{drop-append_seam}
+use Rattle.std.proofs.lemmas.List.{append_cancel_right}
+use Rattle.au_model.specs.Layout.{behind_layout}
 use Rattle.au_model.specs.Characters.{chars_from}
-use Rattle.au_model.specs.Lexemes.{Lexeme, Comma, Token, token, scanned, ScannedTo}
+use Rattle.au_model.specs.Lexemes.{Lexeme, Comma, Token, token, scanned, ScannedTo, tokens_of}
 use Rattle.au_model.specs.Trees.{Tree}
 use Rattle.au_model.specs.declared.fault_kind.FaultKind.TheVariants.{TooManyArguments}
 use Rattle.term_reader.specs.Stack.{Frame, Goes}
 use Rattle.term_reader.specs.Begun.{setting_of}
 use Rattle.term_reader.specs.Meant.{IsStart}
-use Rattle.term_reader.specs.Refusing.{NotTaken, IsPassed, IsFault, RefusesWell}
+use Rattle.term_reader.specs.Refusing.{CallPlace, NotTaken, IsPassed, IsFault, RefusesWell}
 use Rattle.term_reader.specs.declared.opening.Source.{Source}
 use Rattle.term_reader.specs.declared.steps.Turn.{Turn}
 use Rattle.term_reader.specs.declared.steps.Turn.TheVariants.{On}
-use Rattle.au_model.specs.Openings.{Setting}
+use Rattle.au_model.specs.Openings.{Setting, begins}
 use Rattle.term_reader.proofs.Faulty.{stuck-many}
+use Rattle.term_reader.proofs.Scanning.{scans-tokens, scans-then, scans-first}
 use Rattle.term_reader.proofs.Refusals.{stuck-here}
 
 never_named : (d : Bool) → (d && false) ≡ false
 never_named true = refl
 never_named false = refl
 
+at-most : (read before after : List Token) → read ≡ before ++ after → length before ≤ length read
+at-most read before after e = let l = ap length e ∙ length-append before after in omega arith
+
 pub many-fault : (source : Source) (start : ℕ) (k : List Frame) (l : Tree) (p at : ℕ) (doubt : Bool) (x : Lexeme) (place end : ℕ) → NotTaken source start k l p at doubt x place end
-    → (other : ℕ) → x ≡ Comma → IsCharBoundary source.text.now other → IsFault (setting_of source) source.text.now start (record { at = other; kind = TooManyArguments })
-many-fault source start k l p at doubt x place end h other e b =
-    let P : Lexeme → Type 0 = λ y. scanned (chars_from source.text.now at) ≡ ScannedTo (token h.apart y) (chars_from source.text.now end) in
+    → (other : ℕ) (name : List ℕ) → x ≡ Comma → CallPlace (setting_of source) source.text.now start at name other → IsFault (setting_of source) source.text.now start (record { at = other; kind = TooManyArguments })
+many-fault source start k l p at doubt x place end h other name e b =
+    let s = setting_of source in
+    let text = source.text.now in
+    let P : Lexeme → Type 0 = λ y. scanned (chars_from text at) ≡ ScannedTo (token h.apart y) (chars_from text end) in
     let found = subst P e h.found in
-    let stuck = stuck-here (setting_of source) source.text.now start at end k l p doubt h.apart Comma h.led h.kept h.low found
-    (subst (λ y. (more : List Token) (goal : Tree) → Goes (setting_of source) k (token h.apart y ∷ more) l p goal → ⊥) e h.refused) (never_named doubt) in
-    record { place = b; fault = stuck-many (setting_of source) source.text.now start at stuck (chars_from source.text.now end) (chars_from source.text.now other) h.apart found }
+    let refused = subst (λ y. (more : List Token) (goal : Tree) → Goes s k (token h.apart y ∷ more) l p goal → ⊥) e h.refused in
+    let stuck = stuck-here s text start at end k l p doubt h.apart Comma h.led h.kept h.low found refused (never_named doubt) in
+    let left = tokens_of (chars_from text at) in
+    let both = sym (scans-tokens stuck.scans) ∙ scans-tokens (scans-then b.scanned_before b.scanned_after) in
+    let read = append_cancel_right stuck.read (b.before ++ b.after) left both in
+    let whole = scans-tokens b.scanned_before in
+    let called = ap (begins s) (ap (drop (length b.before)) whole ∙ drop-append_seam b.before (tokens_of b.from)) ∙ b.called in
+    record {
+      place = b.boundary;
+      fault = stuck-many s text start at stuck (chars_from text end) (chars_from text other) h.apart found (length b.before) name b.args (at-most stuck.read b.before b.after read) called (ap behind_layout (scans-first b.scanned_before) ∙ b.layout);
+    }
 
 pub not-taken : (source : Source) (start at : ℕ) (doubt a : Bool) (x : Lexeme) (k : List Frame) (l : Tree) (p place end : ℕ) → (h : IsPassed source start at doubt (token a x) k l p) → scanned (chars_from source.text.now at) ≡ ScannedTo (token a x) (chars_from source.text.now end)
     → IsStart source.text.now at place → ((more : List Token) (goal : Tree) → Goes (setting_of source) k (token a x ∷ more) l p goal → ⊥) → NotTaken source start h.stack h.tree h.priority at doubt x place end

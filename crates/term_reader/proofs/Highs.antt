@@ -1,33 +1,32 @@
 -- Where no operand begins.
-use Rattle.std.proofs.Common.{◌≡◌, ◌∙◌, ℕ, suc, ◌+◌, ◌≤◌, ◌<◌, ◌⊎◌, inl, inr, nat_lt, ◌^◌, Bool, true, false, not, ◌&&◌, ◌||◌, List, [], ◌∷◌, ◌++◌, length, Option, Some, None, refl, sym, ap, subst, arith, append_assoc, pos, if◌then◌else◌}
+use Rattle.std.proofs.Common.{◌≡◌, ◌∙◌, ℕ, ◌≤◌, ◌<◌, nat_lt, ◌^◌, Bool, true, false, not, ◌&&◌, ◌||◌, List, [], ◌∷◌, ◌++◌, Some, refl, sym, ap, subst, arith, append_assoc, pos, if◌then◌else◌}
 use Rattle.au_model.specs.Characters.{chars_from}
 use Rattle.au_model.specs.Lexemes as words
 use Rattle.au_model.specs.Lexemes.{Lexeme, Token, token, scanned, ScannedTo, ScannedNone, is_end, tokens_of}
 use Rattle.au_model.specs.Operators.{Operator, OperatorTable, prefix_of}
 use Rattle.au_model.specs.Joints.{Joint, Infix, Postfix, Nothing, named_joint, lexeme_joint, joint_fits, right_bound}
-use Rattle.au_model.specs.Openings.{Setting, Opening, Leaf, Call, Prefix, Fails, begins, opens, counts, is_joint, is_operator, is_minus_name, is_minus, ends_before, stands_alone}
+use Rattle.au_model.specs.Openings.{Setting, Leaf, Fails, begins, opens, is_minus_name, ends_before, stands_alone}
 use Rattle.au_model.specs.Trees.{Tree, IntTree, AtomTree, one, two}
-use Rattle.term_reader.specs.Readings.{Stop, OnInfix, OnPostfix, next}
 use Rattle.term_reader.specs.Stack as stack
 use Rattle.term_reader.specs.Stack.{Frame, bound_of, Wants, Goes, Plugs, prefix, infixes}
 use Rattle.term_reader.specs.Frames.{IsKept}
 use Rattle.term_reader.specs.Looks as looks
 use Rattle.term_reader.specs.Looks.{Look, is_plain, presumed, Scans, none, onto, IsName}
-use Rattle.term_reader.specs.Positions.{Position, Due, There, Reads, stack_of, IsLow, Led}
+use Rattle.term_reader.specs.Positions.{Position, Due, There, stack_of, IsLow, Led}
 use Rattle.term_reader.specs.TextFaults.{Begins}
-use Rattle.term_reader.specs.Refusing.{Stuck, takes, name_joins, atom_joins}
+use Rattle.term_reader.specs.Refusing.{Stuck, takes, atom_joins}
 use Rattle.term_reader.specs.Settling.{first_joint}
 use Rattle.term_reader.proofs.Back.{fits-within}
 use Rattle.term_reader.proofs.Completed.{closing, closes, completion, completes}
 use Rattle.term_reader.proofs.Scanning.{scans-tokens, scans-then}
-use Rattle.term_reader.proofs.Looking.{presumed-alike, joint_alone, joins-is, not-true, and-left, and-right, and-both, closing-quiet, closing-alone, completion-quiet, quiet-plain, IsQuiet}
-use Rattle.term_reader.proofs.Opened.{Opened, ends-plain, by-call, list-opened, curly-opened, fill-fails, ends-same}
+use Rattle.term_reader.proofs.Looking.{presumed-alike, joint_alone, joins-is, not-true, and-left, and-right, closing-quiet, closing-alone, completion-quiet, quiet-plain, IsQuiet}
+use Rattle.term_reader.proofs.Opened.{Opened, ends-plain, by-call, list-opened, curly-opened, fill-fails}
 use Rattle.term_reader.proofs.Ledger.{prefix-never, led-begins, begins-more}
 use Rattle.term_reader.proofs.Fronts.{tokens-none, tokens-first}
 use Rattle.term_reader.proofs.Settled.{over-prefix, over-infix, stops-at}
 use Rattle.term_reader.proofs.Refusals.{lone-over, lone-alone, same_first, none_first, next-alike, name_no_end, tails}
 use Rattle.term_reader.proofs.Moving.{on-infix, on-postfix}
-use Rattle.term_reader.proofs.Turns.{fails, prefix_within, took_leaf, takes_leaf, goes_stop, went_stop, went_infix, went_postfix, out_prefix, out_infix}
+use Rattle.term_reader.proofs.Turns.{fails, prefix_within, took_leaf, takes_leaf, goes_stop, went_infix, went_postfix, out_prefix, out_infix}
 
 -- ---- nothing stands there
 

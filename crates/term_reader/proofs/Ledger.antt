@@ -1,20 +1,20 @@
 -- What the tokens that were read lead to.
-use Rattle.std.proofs.Common.{◌≡◌, ◌∙◌, ℕ, suc, ◌+◌, ◌≤◌, ◌<◌, Bool, true, false, not, ◌&&◌, List, [], ◌∷◌, ◌++◌, length, take, slice_get, Option, Some, None, refl, sym, ap, subst, arith, append_assoc, append-nil, length-append}
+use Rattle.std.proofs.Common.{◌≡◌, ◌∙◌, ℕ, suc, ◌+◌, Bool, true, false, not, ◌&&◌, List, [], ◌∷◌, ◌++◌, length, take, slice_get, Some, refl, sym, ap, subst, arith, append_assoc, length-append}
 use Rattle.std.proofs.Math.Seq.{take-append_seam, take-append-add}
 use Rattle.au_model.specs.Characters.{chars_from}
 use Rattle.au_model.specs.Lexemes as words
 use Rattle.au_model.specs.Lexemes.{Lexeme, Token, token, tokens_of}
 use Rattle.au_model.specs.Operators.{Operator, OperatorTable, prefix_of}
 use Rattle.au_model.specs.Joints.{named_joint}
-use Rattle.au_model.specs.Openings.{Setting, opens, counts, is_joint, is_operator, joins, is_minus, ends_before, stands_alone}
+use Rattle.au_model.specs.Openings.{Setting, is_joint, is_operator, joins, is_minus, ends_before, stands_alone}
 use Rattle.au_model.specs.Trees.{Tree}
-use Rattle.term_reader.specs.Stack.{Frame, Wants, Goes, bound_of}
+use Rattle.term_reader.specs.Stack.{Frame, Wants}
 use Rattle.term_reader.specs.Frames.{IsKept}
-use Rattle.term_reader.specs.Looks.{Look, Free, Named, Lone, Over, InList, InCurly, Joined, is_plain, presumed, Scans, none, onto, IsName, IsLone, Doubts}
+use Rattle.term_reader.specs.Looks.{Look, Free, Named, Lone, Over, InList, InCurly, Joined, is_plain, presumed, Scans, none, IsName, IsLone, Doubts}
 use Rattle.term_reader.specs.Positions.{Position, Due, There, Reads, Suits, stack_of, IsLow, Leads, Led, LoneBefore, DoubtsBefore}
 use Rattle.term_reader.specs.TextFaults.{Begins, FaultAt}
 use Rattle.term_reader.proofs.Completed.{completion, completes}
-use Rattle.term_reader.proofs.Looking.{ready, presumed-alike, IsSure, first-sure, joint_alone, joins-is, and-left, and-right}
+use Rattle.term_reader.proofs.Looking.{ready, presumed-alike, IsSure, first-sure, joint_alone, joins-is, and-right}
 use Rattle.term_reader.proofs.Scanning.{scans-tokens, scans-then}
 use Rattle.term_reader.proofs.Turns.{starts, reaches}
 

@@ -27,3 +27,4 @@ pub mod Highs
 pub mod Taking
 pub mod Prefixes
 pub mod Held
+pub mod Firsts

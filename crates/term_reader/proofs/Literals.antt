@@ -1,6 +1,6 @@
 -- The characters of texts that are written out.
 use Rattle.std.proofs.Common.{◌≡◌, codes, refl}
-use Rattle.std.specs.Str.{chars, IsUtf8}
+use Rattle.std.specs.Str.{chars}
 
 pub minus-chars : chars (codes "-") ≡ codes "-"
 unfolding chars

@@ -1,14 +1,13 @@
 -- What is presumed of tokens.
-use Rattle.std.proofs.Common.{◌≡◌, ◌∙◌, ℕ, suc, ◌+◌, ◌≤◌, ◌<◌, Bool, true, false, not, ◌&&◌, List, [], ◌∷◌, ◌++◌, length, take, drop, Option, Some, None, refl, sym, ap, subst, arith, append_assoc, append-nil}
-use Rattle.au_model.specs.Characters.{chars_from}
+use Rattle.std.proofs.Common.{◌≡◌, ◌∙◌, ℕ, Bool, true, false, not, ◌&&◌, List, [], ◌∷◌, refl, sym, ap}
 use Rattle.au_model.specs.Lexemes as words
 use Rattle.au_model.specs.Lexemes.{Lexeme, Token, token, scanned, Scanned, ScannedTo, ScannedNone, is_end, front_with, no_front, after_scanned, first_tokens, front, tokens_of}
-use Rattle.au_model.specs.Operators.{Operator, OperatorTable, prefix_of}
+use Rattle.au_model.specs.Operators.{OperatorTable, prefix_of}
 use Rattle.au_model.specs.Joints.{named_joint}
-use Rattle.au_model.specs.Openings.{Setting, opens, counts, is_joint, is_operator, joins, is_minus, is_minus_name, ends_before, stands_alone}
+use Rattle.au_model.specs.Openings.{opens, counts, is_joint, is_operator, joins, is_minus, ends_before, stands_alone}
 use Rattle.term_reader.specs.Stack as stack
 use Rattle.term_reader.specs.Stack.{Frame}
-use Rattle.term_reader.specs.Looks.{Look, Free, Named, Lone, Over, InList, InCurly, Joined, closes_list, closes_curly, is_plain, presumed, Scans, none, onto, IsName, IsLone}
+use Rattle.term_reader.specs.Looks.{Look, Free, Named, Lone, Over, InList, InCurly, Joined, closes_list, closes_curly, is_plain, presumed}
 use Rattle.term_reader.specs.Positions.{Position, Due, There, Suits}
 use Rattle.term_reader.proofs.Completed.{closing, completion}
 

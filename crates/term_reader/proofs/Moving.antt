@@ -1,31 +1,29 @@
 -- The steps of a reader, at places of a text.
-use Rattle.std.proofs.Common.{◌≡◌, ◌∙◌, ℕ, suc, ◌+◌, ◌≤◌, ◌<◌, nat_le, Bool, true, false, List, [], ◌∷◌, ◌++◌, length, map, Option, Some, None, refl, sym, ap, subst, arith}
+use Rattle.std.proofs.Common.{◌≡◌, ◌∙◌, ℕ, suc, ◌≤◌, nat_le, Bool, true, false, List, [], ◌∷◌, ◌++◌, map, Option, Some, None, refl, sym, ap, subst, arith}
 use Rattle.au_model.specs.Characters.{chars_from}
 use Rattle.au_model.specs.Lexemes as words
 use Rattle.au_model.specs.Lexemes.{Lexeme, Token, token, scanned, Scanned, ScannedTo, ScannedNone, is_end, front, tokens_of}
 use Rattle.au_model.specs.Operators.{Operator, OperatorTable, prefix_of}
-use Rattle.au_model.specs.Joints.{Joint, Infix, Postfix, Nothing, joint_fits, lexeme_joint, token_joint, right_bound}
-use Rattle.au_model.specs.Trees.{Tree, AtomTree, CompoundTree, no_trees, one, two, nil, braces}
+use Rattle.au_model.specs.Joints.{Joint, Infix, Postfix, joint_fits, lexeme_joint, token_joint}
+use Rattle.au_model.specs.Trees.{Tree, AtomTree, one, two}
 use Rattle.au_model.specs.Openings as begun
 use Rattle.au_model.specs.Openings.{Setting, begins, lexeme_begins, is_minus_name}
 use Rattle.au_model.specs.declared.double_quotes.DoubleQuotes.{DoubleQuotes}
 use Rattle.op_table.specs.declared.operator.Operator.{Operator as DeclaredOperator}
 use Rattle.term_reader.specs.declared.opening.Leaf.{Leaf}
 use Rattle.term_reader.specs.declared.opening.Leaf.TheVariants as leaf
-use Rattle.au_term.specs.declared.cell.Cell.TheVariants.{Functor}
 use Rattle.token_scan.specs.Parts.{IsPlaceFrom}
 use Rattle.op_table.specs.Meant.{operator_meant}
 use Rattle.term_reader.specs.Begun.{setting_of, tokens_at, leaf_tree, opening_meant, OpensFrom, IsNamedBy}
 use Rattle.term_reader.specs.Looks as looks
 use Rattle.term_reader.specs.Looks.{Look, Free, Named, Lone, InList, InCurly, Joined, Scans, none, onto, IsName, IsLone, Doubts}
 use Rattle.term_reader.specs.Following.{IsReached}
-use Rattle.term_reader.specs.Readings.{Stop, OnInfix, OnPostfix, next}
+use Rattle.term_reader.specs.Readings.{OnInfix, OnPostfix, next}
 use Rattle.term_reader.specs.Stack as stack
 use Rattle.term_reader.specs.Stack.{bound_of, Wants, Goes, Plugs, prefix, infixes}
 use Rattle.term_reader.specs.Frames.{frame_meant, shape_of, shapes_up, put_stack, IsKept}
-use Rattle.term_reader.specs.Sheets.{put_tree, put_cell}
 use Rattle.term_reader.specs.Kept.{IsSheetOf}
-use Rattle.term_reader.specs.Positions.{Position, Due, There, Reads, Stands, Suits, Leads, Went, Ended, Outcome, Moves, rest_at}
+use Rattle.term_reader.specs.Positions.{Position, Due, There, Reads, Stands, Suits, Leads, Outcome, Moves}
 use Rattle.term_reader.specs.Settling.{first_joint, Same}
 use Rattle.term_reader.specs.Starting.{Starts, StartEnds, IsFurther, IsPushed, IsPut}
 use Rattle.term_reader.specs.declared.opening.Source.{Source}
@@ -35,8 +33,8 @@ use Rattle.term_reader.specs.declared.state.State.{State}
 use Rattle.term_reader.specs.declared.state.Frame.{Frame}
 use Rattle.term_reader.specs.declared.steps.Turn.{Turn}
 use Rattle.term_reader.specs.declared.steps.Turn.TheVariants.{On, Over, Refused}
-use Rattle.term_reader.proofs.Fronts.{front-more, tokens-none, tokens-more, tokens-end, tokens-first}
-use Rattle.term_reader.proofs.Settled.{shapes-push, stops-at}
+use Rattle.term_reader.proofs.Fronts.{tokens-none, tokens-more, tokens-end, tokens-first}
+use Rattle.term_reader.proofs.Settled.{shapes-push}
 use Rattle.term_reader.proofs.Back.{fits-within}
 use Rattle.term_reader.proofs.Scanning.{scans-tokens}
 use Rattle.term_reader.proofs.Opened.{Kind, OfLeaf, OfBracket, OfCurly, OfListed, OfCall, OfPrefix, fill, MayLook, IsAlone, IsAloneKind, SoOpened, so-opened}

@@ -1,12 +1,10 @@
 -- The numbers of names.
-use Rattle.std.proofs.Common.{◌≡◌, ◌∙◌, ◌-◌, ◌<◌, ◌^◌, ℕ, suc, Bool, true, false, cond, nat_eq, List, [], ◌∷◌, ◌++◌, map, Option, Some, None, refl, sym, ap, arith, if◌then◌else◌}
-use Rattle.std.specs.BTreeMap.{BTreeMap, get, is_at}
+use Rattle.std.proofs.Common.{◌≡◌, ◌∙◌, ◌<◌, ℕ, suc, Bool, true, false, cond, nat_eq, List, [], ◌∷◌, ◌++◌, Option, Some, None, refl, sym, ap, arith}
+use Rattle.std.specs.BTreeMap.{is_at}
 use Rattle.std.specs.Cmp.Lexicographic.{pointwise, slice_cmp, same_text, texts_ties}
 use Rattle.std.specs.Ordering.{nat_cmp}
-use Rattle.std.proofs.lemmas.List.{map-append}
-use Rattle.au_term.specs.declared.atom.Atom.{Atom}
 use Rattle.au_model.specs.Jobs.{NamedVariable}
-use Rattle.au_model.specs.TermNumbers.{Variables, number_of, is_anonymous, numbered_name, old_or_new, new_name}
+use Rattle.au_model.specs.TermNumbers.{Variables, number_of, is_anonymous, numbered_name, new_name}
 
 or_number : Option ℕ → Option ℕ → Option ℕ
 or_number (Some k) o = Some k

@@ -1,12 +1,12 @@
 -- How a term begins, whatever comes behind its first tokens.
-use Rattle.std.proofs.Common.{◌≡◌, ◌∙◌, ℕ, suc, ◌+◌, ◌≤◌, ◌<◌, ◌^◌, ◌⊎◌, inl, inr, pos, nat_lt, Bool, true, false, not, ◌&&◌, List, [], ◌∷◌, ◌++◌, length, Option, Some, None, refl, sym, ap, subst, arith, if◌then◌else◌}
+use Rattle.std.proofs.Common.{◌≡◌, ◌∙◌, ℕ, ◌^◌, ◌⊎◌, inl, inr, pos, nat_lt, Bool, true, false, not, ◌&&◌, List, [], ◌∷◌, ◌++◌, Option, Some, None, refl, sym, ap, subst, if◌then◌else◌}
 use Rattle.std.proofs.lemmas.List.{append_cancel_right}
 use Rattle.au_model.specs.Lexemes as words
 use Rattle.au_model.specs.Lexemes.{Lexeme, Token, token}
 use Rattle.au_model.specs.Trees.{Tree, VarTree, IntTree, AtomTree, nil, braces, text_tree}
 use Rattle.au_model.specs.Operators.{Operator, OperatorTable, prefix_of}
-use Rattle.au_model.specs.Openings.{Setting, Opening, Leaf, Bracket, Curly, Listed, Call, Prefix, Fails, opens, counts, is_minus, is_minus_name, minus, behind, negated, joins, ends_before, stands_alone, prefix_or_atom, name_begins, atom_begins, list_begins, curly_begins, lexeme_begins, begins}
-use Rattle.term_reader.specs.Looks.{Look, Free, Named, Lone, Over, InList, InCurly, Joined, closes_list, closes_curly, is_plain, presumed, IsName}
+use Rattle.au_model.specs.Openings.{Setting, Opening, Leaf, Bracket, Curly, Listed, Call, Prefix, Fails, opens, counts, is_minus, is_minus_name, minus, behind, negated, joins, ends_before, stands_alone, prefix_or_atom, name_begins, atom_begins, list_begins, curly_begins, begins}
+use Rattle.term_reader.specs.Looks.{Look, Free, Named, Lone, Over, InList, InCurly, closes_list, closes_curly, is_plain, presumed, IsName}
 use Rattle.term_reader.proofs.Follows.{name-call, name-number, atom-call}
 use Rattle.term_reader.proofs.Looking.{joint_alone, and-left, and-right, and-both, joins-is, not-true}
 

@@ -1,5 +1,5 @@
 -- Lines and columns behind one more character.
-use Rattle.std.proofs.Common.{◌≡◌, ◌∙◌, ℕ, suc, ◌+◌, ◌-◌, ◌^◌, ◌≤◌, Bool, true, false, ◌==◌, cond, min, List, [], ◌∷◌, ◌++◌, length, reverse, take, drop, refl, sym, ap, arith, IsCharBoundary, if◌then◌else◌}
+use Rattle.std.proofs.Common.{◌≡◌, ◌∙◌, ℕ, suc, ◌+◌, ◌-◌, ◌^◌, Bool, true, false, ◌==◌, min, List, [], ◌∷◌, ◌++◌, length, reverse, take, drop, refl, sym, ap, arith, IsCharBoundary, if◌then◌else◌}
 use Rattle.std.proofs.lemmas.List.{reverse-append, take-append-drop}
 use Rattle.std.proofs.lemmas.Str.{chars-append, IsUtf8-take}
 use Rattle.std.specs.Str.{chars, IsUtf8}

@@ -1,14 +1,14 @@
 -- What is refused behind a prefix operator above the bound.
-use Rattle.std.proofs.Common.{◌≡◌, ◌∙◌, ℕ, suc, ◌≤◌, ◌<◌, Bool, true, false, List, [], ◌∷◌, ◌++◌, Option, Some, None, refl, sym, ap, subst, arith, if◌then◌else◌, IsCharBoundary}
+use Rattle.std.proofs.Common.{◌≡◌, ◌∙◌, ℕ, suc, ◌<◌, Bool, true, false, List, [], ◌∷◌, Some, None, refl, sym, ap, subst, if◌then◌else◌, IsCharBoundary}
 use Rattle.au_model.specs.Characters.{chars_from}
-use Rattle.au_model.specs.Lexemes.{Lexeme, Token, token, scanned, Scanned, ScannedTo, ScannedNone, is_end, tokens_of}
+use Rattle.au_model.specs.Lexemes.{Lexeme, Token, token, scanned, ScannedTo, ScannedNone, is_end}
 use Rattle.au_model.specs.Operators.{Operator, prefix_of}
 use Rattle.au_model.specs.Openings.{Setting, begins}
 use Rattle.token_scan.specs.Parts.{IsPlaceFrom}
 use Rattle.op_table.specs.Meant.{operator_meant}
 use Rattle.term_reader.specs.Stack.{Frame, bound_of}
 use Rattle.term_reader.specs.Frames.{IsKept}
-use Rattle.term_reader.specs.Looks.{Look, Over, presumed, Scans, none, onto, IsName}
+use Rattle.term_reader.specs.Looks.{Over, presumed, Scans, none, onto, IsName}
 use Rattle.term_reader.specs.Positions.{Due, Led}
 use Rattle.term_reader.specs.Begun.{setting_of, tokens_at}
 use Rattle.term_reader.specs.Meant.{lexeme_meant, scan_meant, IsScan}

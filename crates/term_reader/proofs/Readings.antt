@@ -1,9 +1,8 @@
 -- Whole readings of a text.
-use Rattle.std.proofs.Common.{◌≡◌, ◌∙◌, ℕ, Bool, true, false, List, [], ◌∷◌, Option, Some, None, refl, sym, ap, subst}
+use Rattle.std.proofs.Common.{◌≡◌, ◌∙◌, ℕ, Bool, true, false, List, [], None, refl, sym, ap, subst}
 use Rattle.au_model.specs.Characters.{chars_from}
-use Rattle.au_model.specs.Layout.{GapThen, behind_layout}
-use Rattle.au_model.specs.Lexemes.{token, End, lexeme_of, front, tokens_of}
-use Rattle.au_model.specs.Tokens.{Word, NameWord, QuotedWord, VariableWord, IntegerWord, TextWord, MarkWord, StopWord, LastWord, Lexed, FoundWord, FoundFault, word_behind, next_word}
+use Rattle.au_model.specs.Lexemes.{lexeme_of, tokens_of}
+use Rattle.au_model.specs.Tokens.{Word, NameWord, QuotedWord, VariableWord, IntegerWord, TextWord, MarkWord, StopWord, LastWord, FoundWord, word_behind, next_word}
 use Rattle.au_model.specs.Trees.{Tree}
 use Rattle.au_model.specs.Openings.{Setting}
 use Rattle.au_model.specs.TermTexts.{SpellsTermWithEnd, is_last, is_over}

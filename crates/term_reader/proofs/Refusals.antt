@@ -1,30 +1,26 @@
 -- Where no token goes on.
-use Rattle.std.proofs.Common.{◌≡◌, ◌∙◌, ℕ, suc, ◌+◌, ◌≤◌, ◌<◌, ◌⊎◌, inl, inr, nat_le, nat_lt, Bool, true, false, not, ◌&&◌, ◌||◌, List, [], ◌∷◌, ◌++◌, length, Option, Some, None, refl, sym, ap, subst, arith, append_assoc}
+use Rattle.std.proofs.Common.{◌≡◌, ◌∙◌, ℕ, ◌≤◌, nat_le, Bool, true, false, not, ◌&&◌, List, [], ◌∷◌, ◌++◌, Some, refl, sym, ap, subst, arith, append_assoc}
 use Rattle.au_model.specs.Characters.{chars_from}
 use Rattle.au_model.specs.Lexemes as words
 use Rattle.au_model.specs.Lexemes.{Lexeme, Token, token, scanned, ScannedTo, ScannedNone, is_end, tokens_of}
 use Rattle.au_model.specs.Operators.{Operator, OperatorTable, prefix_of}
-use Rattle.au_model.specs.Joints.{Joint, Infix, Postfix, Nothing, named_joint, lexeme_joint, joint_fits, right_bound}
-use Rattle.au_model.specs.Openings.{Setting, Opening, Leaf, Call, Prefix, Fails, begins, opens, counts, is_joint, is_operator, is_minus_name, is_minus, ends_before, stands_alone, prefix_or_atom, name_begins}
-use Rattle.au_model.specs.Trees.{Tree, AtomTree, one, two}
-use Rattle.term_reader.specs.Readings.{Stop, OnInfix, OnPostfix, next}
+use Rattle.au_model.specs.Openings.{Setting, Leaf, Call, Prefix, begins, is_operator, is_minus_name, ends_before, stands_alone}
+use Rattle.au_model.specs.Trees.{Tree, AtomTree}
 use Rattle.term_reader.specs.Stack as stack
 use Rattle.term_reader.specs.Stack.{Frame, bound_of, Wants, Goes, Plugs}
 use Rattle.term_reader.specs.Frames.{IsKept}
 use Rattle.term_reader.specs.Looks as looks
 use Rattle.term_reader.specs.Looks.{Look, Free, Named, Lone, InList, InCurly, Joined, is_plain, presumed, Scans, none, onto, IsName, IsLone}
-use Rattle.term_reader.specs.Positions.{Position, Due, There, Reads, Suits, stack_of, IsLow, Led, LoneBefore, DoubtsBefore}
-use Rattle.term_reader.specs.TextFaults.{Begins}
-use Rattle.term_reader.specs.Refusing.{Stuck, is_named_joint, takes, atom_joins}
-use Rattle.term_reader.proofs.Completed.{closing, closes, completion, completes}
+use Rattle.term_reader.specs.Positions.{Due, There, Suits, Led, LoneBefore, DoubtsBefore}
+use Rattle.term_reader.specs.Refusing.{Stuck, is_named_joint}
+use Rattle.term_reader.proofs.Completed.{completion, completes}
 use Rattle.term_reader.proofs.Scanning.{scans-tokens, scans-then}
-use Rattle.term_reader.proofs.Looking.{presumed-alike, IsSure, first-sure, joint_alone, joins-is, and-left, and-right, and-both, closing-quiet, closing-alone, completion-quiet, IsQuiet, ends-quiet, quiet-plain}
-use Rattle.term_reader.proofs.Opened.{Kind, Opened, opened, fill-fails, ends-same, ends-plain, name-begins, name-plain, lone-begins, over-begins}
-use Rattle.term_reader.proofs.Ledger.{prefix-never, led-begins, begins-more}
+use Rattle.term_reader.proofs.Looking.{presumed-alike, IsSure, first-sure, joint_alone, joins-is, and-left, and-right, and-both}
+use Rattle.term_reader.proofs.Opened.{ends-same, name-begins, name-plain, lone-begins, over-begins}
+use Rattle.term_reader.proofs.Ledger.{led-begins, begins-more}
 use Rattle.term_reader.proofs.Follows.{name-call}
-use Rattle.term_reader.proofs.Fronts.{tokens-none, tokens-first}
-use Rattle.term_reader.proofs.Settled.{stops-at}
-use Rattle.term_reader.proofs.Turns.{fails, prefix_within, opened_prefix, opened_call, took_leaf, takes_leaf, goes_stop, went_stop, went_infix, went_postfix, out_prefix, out_infix}
+use Rattle.term_reader.proofs.Fronts.{tokens-first}
+use Rattle.term_reader.proofs.Turns.{prefix_within, opened_prefix, opened_call}
 
 pub none_first : (ts us : List Token) (t : Token) → ts ≡ [] → ts ≡ t ∷ us → ⊥
 none_first ts us t e h = cc

@@ -1,5 +1,5 @@
 -- Tokens at the front of a text.
-use Rattle.std.proofs.Common.{◌≡◌, ◌∙◌, ℕ, suc, Bool, false, List, [], ◌∷◌, ◌++◌, length, refl, sym, ap}
+use Rattle.std.proofs.Common.{◌≡◌, ◌∙◌, ℕ, suc, Bool, false, List, ◌∷◌, ◌++◌, length, refl, ap}
 use Rattle.au_model.specs.Lexemes.{Lexeme, Token, token, scanned, ScannedTo, is_end, after_scanned, first_tokens, front, tokens_of}
 use Rattle.term_reader.specs.Looks.{Scans, none, onto}
 use Rattle.term_reader.proofs.Fronts.{front-more, tokens-more}

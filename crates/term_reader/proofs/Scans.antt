@@ -4,10 +4,9 @@ use Rattle.std.specs.Str.Parse.{digits_value}
 use Rattle.au_model.specs.Characters.{is_small, starts_variable, is_digit_of, is_solo, is_punctuation, is_symbol, is_alphanumeric, first_is, run, behind_run}
 use Rattle.au_model.specs.Layout.{Gap, GapThen, GapNotClosed, behind_layout, begins_layout}
 use Rattle.au_model.specs.Quoted.{Part, StandsFor, StandsForNothing, ClosingQuote, NoEscape, CutOff, escape, part, Quoted, QuotedThen, WrongEscape, NeverClosed, with_characters, after_part, quoted_parts, quoted}
-use Rattle.au_model.specs.Numerals.{Numeral, NumeralThen, FloatingPoint, TooWide, WrongCharacter, numeral, decimal_numeral, digits_numeral, within_width, begins_fraction, named_base, based_numeral, character_numeral, character_escape, zero_numeral, or_numeral}
-use Rattle.au_model.specs.Tokens.{Word, NameWord, QuotedWord, VariableWord, IntegerWord, TextWord, MarkWord, StopWord, LastWord, Lexed, FoundWord, FoundFault, run_word, numeral_word, quoted_word, ends_term, word_at_front, word_behind, next_word}
-use Rattle.au_model.specs.Lexemes.{Lexeme, End, Token, token, lexeme_of, Scanned, ScannedTo, ScannedNone, scanned_lexeme, scanned_word, scanned, Front, front_with, no_front, is_end, after_token, after_scanned, first_tokens, front, tokens_of}
-use Rattle.au_model.specs.declared.fault_kind.FaultKind.TheVariants.{BadCharacter}
+use Rattle.au_model.specs.Numerals.{Numeral, NumeralThen, FloatingPoint, TooWide, WrongCharacter, numeral, decimal_numeral, digits_numeral, begins_fraction, named_base, based_numeral, character_numeral, character_escape, zero_numeral, or_numeral}
+use Rattle.au_model.specs.Tokens.{Word, NameWord, QuotedWord, VariableWord, TextWord, Lexed, FoundWord, FoundFault, run_word, numeral_word, quoted_word, ends_term, word_at_front, word_behind}
+use Rattle.au_model.specs.Lexemes.{Lexeme, Token, token, lexeme_of, Scanned, ScannedTo, ScannedNone, scanned_lexeme, scanned_word, scanned, Front, front_with, no_front, is_end, after_token, after_scanned, first_tokens, front}
 use Rattle.token_scan.proofs.Steps.{length-behind_run}
 use Rattle.token_scan.proofs.Layouts.{layout-within}
 use Rattle.token_scan.proofs.QuotedItems.{EndsWithin, escape-within, part-within}

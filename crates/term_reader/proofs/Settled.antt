@@ -1,20 +1,20 @@
 -- Frames that are taken off and put on, and operators put over their operands.
-use Rattle.std.proofs.Common.{◌≡◌, ◌∙◌, ℕ, zero, suc, ◌+◌, ◌-◌, ◌≤◌, ◌<◌, Bool, true, false, List, [], ◌∷◌, ◌++◌, length, map, slice_get, Option, Some, None, option_map, refl, sym, ap, subst, arith}
+use Rattle.std.proofs.Common.{◌≡◌, ◌∙◌, ℕ, suc, ◌-◌, ◌≤◌, false, List, [], ◌∷◌, ◌++◌, length, map, slice_get, Option, Some, None, option_map, refl, sym, ap, subst, arith}
 use Rattle.std.proofs.lemmas.List.{map-append}
 use Rattle.au_model.specs.Operators.{Operator, OperatorTable}
 use Rattle.au_model.specs.Lexemes.{Token}
 use Rattle.au_model.specs.Trees.{Tree, one, two}
-use Rattle.au_model.specs.Joints.{Joint, Nothing, right_bound, joint_fits, goes_on}
+use Rattle.au_model.specs.Joints.{Joint, right_bound, joint_fits}
 use Rattle.au_model.specs.Openings.{Setting}
 use Rattle.au_term.specs.declared.cell.Cell.TheVariants.{Functor}
 use Rattle.term_reader.specs.Stack as stack
 use Rattle.term_reader.specs.Stack.{bound_of, Goes, Plugs, goes, prefix, infixes}
 use Rattle.term_reader.specs.Readings.{Stop, next}
-use Rattle.term_reader.specs.Frames.{Shape, PrefixShape, InfixShape, frame_meant, shape_of, shapes_up, shape_bound, put_stack, IsKept, IsShut}
+use Rattle.term_reader.specs.Frames.{Shape, PrefixShape, InfixShape, frame_meant, shape_of, shapes_up, shape_bound, put_stack, IsShut}
 use Rattle.term_reader.specs.Sheets.{put_tree, put_cell}
 use Rattle.term_reader.specs.Kept.{IsSheetOf}
-use Rattle.term_reader.specs.Positions.{Stands, Due, There}
-use Rattle.term_reader.specs.Settling.{first_joint, Same, IsOver, IsPlug, IsSettled}
+use Rattle.term_reader.specs.Positions.{Stands, There}
+use Rattle.term_reader.specs.Settling.{first_joint, Same, IsOver}
 use Rattle.term_reader.specs.declared.state.State.{State}
 use Rattle.term_reader.specs.declared.state.Frame.{Frame}
 use Rattle.term_reader.specs.declared.state.Frame.TheVariants as frame

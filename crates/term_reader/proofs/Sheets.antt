@@ -1,14 +1,14 @@
 -- What a sheet's cells come to.
-use Rattle.std.proofs.Common.{◌≡◌, ◌∙◌, ℕ, zero, suc, pos, ◌+◌, ◌<◌, ◌≤◌, List, [], ◌∷◌, ◌++◌, map, length, refl, sym, ap, arith, append_assoc, append-nil}
+use Rattle.std.proofs.Common.{◌≡◌, ◌∙◌, ℕ, suc, pos, List, [], ◌∷◌, ◌++◌, map, length, refl, sym, ap, append_assoc, append-nil}
 use Rattle.au_term.specs.Term.{Term, VarTerm, IntTerm, AtomTerm, Compound, Terms, end, more, count}
-use Rattle.au_term.specs.Prefix.{cells_of, all_cells, IsSound, AreSound, IsTerm}
-use Rattle.au_term.proofs.Whole.{AreSound-push, Leaves-term}
+use Rattle.au_term.specs.Prefix.{cells_of, all_cells, AreSound, IsTerm}
+use Rattle.au_term.proofs.Whole.{Leaves-term}
 use Rattle.au_term.specs.declared.cell.Cell.{Cell}
-use Rattle.au_term.specs.declared.cell.Cell.TheVariants.{Var as VarCell, Int as IntCell, Atom as AtomCell, Functor}
-use Rattle.au_model.specs.Trees.{Tree, VarTree, IntTree, AtomTree, CompoundTree, Trees, no_trees, more_trees, tree_count, nil, list_name, cell, code_list, char_list}
-use Rattle.au_model.specs.TermNumbers.{Variables, no_variables, numbered_name, numbered, all_numbered}
+use Rattle.au_term.specs.declared.cell.Cell.TheVariants.{Int as IntCell, Atom as AtomCell, Functor}
+use Rattle.au_model.specs.Trees.{Tree, VarTree, IntTree, AtomTree, CompoundTree, Trees, no_trees, more_trees, tree_count, nil, list_name, code_list, char_list}
+use Rattle.au_model.specs.TermNumbers.{Variables, numbered, all_numbered}
 use Rattle.term_reader.specs.Orders.{postorder, all_postorder}
-use Rattle.term_reader.specs.Sheets.{Sheet, no_cells, put_cell, put_variable, put_tree, put_trees, put_lists, put_codes, put_chars}
+use Rattle.term_reader.specs.Sheets.{Sheet, put_cell, put_tree, put_trees, put_lists, put_codes, put_chars}
 
 count-numbered : (vs : Variables) (ts : Trees) → count (all_numbered vs ts).0 ≡ tree_count ts
 count-numbered vs no_trees = refl

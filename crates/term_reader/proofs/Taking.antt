@@ -1,9 +1,15 @@
 -- Which frame takes a joint.
-use Rattle.std.proofs.Common.{◌≡◌, ◌∙◌, ℕ, Bool, true, false, ◌||◌, List, [], ◌∷◌, ◌++◌, length, map, Option, Some, None, refl, sym, ap, subst, arith}
+use Rattle.std.proofs.Common.{◌≡◌, ◌∙◌, ℕ, true, false, ◌||◌, List, [], ◌∷◌, ◌++◌, map, Some, None, sym, ap}
 use Rattle.au_model.specs.Joints.{Joint, joint_fits}
 use Rattle.term_reader.specs.Stack as stack
 use Rattle.term_reader.specs.Stack.{Frame}
-use Rattle.term_reader.specs.Frames.{Shape, PrefixShape, InfixShape, frame_meant, shape_of, shapes_up, shape_bound, shape_operator}
+use Rattle.term_reader.specs.Frames.{frame_meant, shape_of, shapes_up, shape_bound, shape_operator}
+use Rattle.au_model.specs.Characters.{chars_from}
+use Rattle.au_model.specs.Lexemes.{Token}
+use Rattle.au_model.specs.Openings.{Setting}
+use Rattle.term_reader.specs.Looks.{Scans}
+use Rattle.term_reader.specs.declared.state.Frame.TheVariants as frame
+use Rattle.term_reader.proofs.Scanning.{scans-then}
 use Rattle.term_reader.specs.Refusing.{takes, IsFramePlace, ArePlaces}
 use Rattle.term_reader.specs.declared.state.Frame.{Frame as DeclaredFrame}
 use Rattle.term_reader.proofs.Settled.{popped, no_frames}
@@ -59,14 +65,23 @@ none-left all k p j is e = ap (λ m. takes m p j) (sym (no_frames k (ap (map fra
 
 -- ---- places in the stack
 
-pub places-push : (text : List ℕ) (xs : List DeclaredFrame) (x : DeclaredFrame) → ArePlaces text xs → IsFramePlace text x → ArePlaces text (xs ++ x ∷ [])
-places-push text [] x h p = (p, tt)
-places-push text (y ∷ xs) x h p = (h.0, places-push text xs x h.1 p)
+pub places-push : (s : Setting) (text : List ℕ) (start at : ℕ) (xs : List DeclaredFrame) (x : DeclaredFrame) → ArePlaces s text start at xs → IsFramePlace s text start at x → ArePlaces s text start at (xs ++ x ∷ [])
+places-push s text start at [] x h p = (p, tt)
+places-push s text start at (y ∷ xs) x h p = (h.0, places-push s text start at xs x h.1 p)
 
-pub places-front : (text : List ℕ) (xs : List DeclaredFrame) (x : DeclaredFrame) → ArePlaces text (xs ++ x ∷ []) → ArePlaces text xs
-places-front text [] x h = tt
-places-front text (y ∷ xs) x h = (h.0, places-front text xs x h.1)
+pub places-front : (s : Setting) (text : List ℕ) (start at : ℕ) (xs : List DeclaredFrame) (x : DeclaredFrame) → ArePlaces s text start at (xs ++ x ∷ []) → ArePlaces s text start at xs
+places-front s text start at [] x h = tt
+places-front s text start at (y ∷ xs) x h = (h.0, places-front s text start at xs x h.1)
 
-pub places-last : (text : List ℕ) (xs : List DeclaredFrame) (x : DeclaredFrame) → ArePlaces text (xs ++ x ∷ []) → IsFramePlace text x
-places-last text [] x h = h.0
-places-last text (y ∷ xs) x h = places-last text xs x h.1
+pub places-last : (s : Setting) (text : List ℕ) (start at : ℕ) (xs : List DeclaredFrame) (x : DeclaredFrame) → ArePlaces s text start at (xs ++ x ∷ []) → IsFramePlace s text start at x
+places-last s text start at [] x h = h.0
+places-last s text start at (y ∷ xs) x h = places-last s text start at xs x h.1
+
+place-moved : (s : Setting) (text : List ℕ) (start at end : ℕ) (over : List Token) → Scans (chars_from text at) over (chars_from text end) → (f : DeclaredFrame) → IsFramePlace s text start at f → IsFramePlace s text start end f
+place-moved s text start at end over e (frame.Argument name n place) h = record { from = h.from; before = h.before; after = h.after ++ over; args = h.args; scanned_before = h.scanned_before; scanned_after = scans-then h.scanned_after e; layout = h.layout; boundary = h.boundary; called = h.called }
+place-moved s text start at end over e f h = tt
+
+-- more tokens were read
+pub places-moved : (s : Setting) (text : List ℕ) (start at end : ℕ) (over : List Token) → Scans (chars_from text at) over (chars_from text end) → (fs : List DeclaredFrame) → ArePlaces s text start at fs → ArePlaces s text start end fs
+places-moved s text start at end over e [] h = tt
+places-moved s text start at end over e (f ∷ fs) h = (place-moved s text start at end over e f h.0, places-moved s text start at end over e fs h.1)

@@ -1,6 +1,6 @@
 -- What each step of a reader keeps, both ways.
-use Rattle.std.proofs.Common.{◌≡◌, ℕ, suc, ◌+◌, ◌≤◌, ◌<◌, Bool, List, [], ◌∷◌, length, refl, sym, subst, arith}
-use Rattle.au_model.specs.Lexemes.{Token, token, Lexeme, Close, CloseList, CloseCurly, Comma, Bar, End}
+use Rattle.std.proofs.Common.{◌≡◌, ℕ, ◌+◌, ◌≤◌, ◌<◌, Bool, List, [], ◌∷◌, length, refl, subst, arith}
+use Rattle.au_model.specs.Lexemes.{Token, token, Close, CloseList, CloseCurly, Comma, Bar, End}
 use Rattle.au_model.specs.Trees.{Tree, Trees, no_trees, more_trees, tree_count, AtomTree, CompoundTree, one, two, nil, braces, cell}
 use Rattle.au_model.specs.Operators.{Operator}
 use Rattle.au_model.specs.Joints.{right_bound}

@@ -1,9 +1,8 @@
 -- There is at most one such reading.
-use Rattle.std.proofs.Common.{◌≡◌, ℕ, ◌≤◌, Bool, List, [], ◌∷◌, refl, sym, ap}
-use Rattle.au_model.specs.Lexemes.{Token, token, Lexeme, Close, CloseList, CloseCurly, Comma, Bar}
+use Rattle.std.proofs.Common.{◌≡◌, ℕ, Bool, List, ◌∷◌, refl, sym, ap}
+use Rattle.au_model.specs.Lexemes.{Token, token, Close, CloseList, Comma, Bar}
 use Rattle.au_model.specs.Trees.{Tree, Trees, no_trees, more_trees, CompoundTree, AtomTree, one, two, nil, braces, cell}
-use Rattle.au_model.specs.Operators.{Operator}
-use Rattle.au_model.specs.Openings.{Setting, Opening, begins}
+use Rattle.au_model.specs.Openings.{Setting, Opening}
 use Rattle.au_model.specs.Spelling.{Operand}
 use Rattle.term_reader.specs.Readings.{Next, next, Whole, whole, Rest, stop, on_infix, on_postfix, Begun, leaf, bracket, curly, listed, called, prefixed, Items, last, barred, item, Arguments, final, argument}
 use Rattle.term_reader.proofs.Climbed.{whole_of}

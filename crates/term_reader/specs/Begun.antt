@@ -1,5 +1,5 @@
 -- What the beginning of a term that was found stands for.
-use Rattle.std.specs.Prelude.{◌≡◌, ◌≤◌, ℕ, suc, Bool, not, ◌&&◌, List, Some, None, IsCharBoundary}
+use Rattle.std.specs.Prelude.{◌≡◌, ℕ, Bool, not, ◌&&◌, List, Some, None}
 use Rattle.au_model.specs.Characters.{chars_from}
 use Rattle.au_model.specs.Lexemes as words
 use Rattle.au_model.specs.Lexemes.{Token, tokens_of}

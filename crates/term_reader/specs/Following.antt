@@ -1,5 +1,5 @@
 -- What matters of a token that follows another.
-use Rattle.std.specs.Prelude.{◌≡◌, ◌≤◌, ◌^◌, ℕ, suc, Bool, true, false, List, ◌∷◌, if◌then◌else◌}
+use Rattle.std.specs.Prelude.{◌≡◌, ◌≤◌, ◌^◌, ℕ, Bool, false, List, ◌∷◌, if◌then◌else◌}
 use Rattle.au_model.specs.Characters.{chars_from}
 use Rattle.au_model.specs.Lexemes as words
 use Rattle.au_model.specs.Lexemes.{Token, token, tokens_of}

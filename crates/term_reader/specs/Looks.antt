@@ -1,6 +1,5 @@
 -- What the tokens that were read presume of those to come.
-use Rattle.std.specs.Prelude.{◌≡◌, ℕ, Bool, true, false, not, ◌&&◌, nat_le, List, [], ◌∷◌, ◌++◌, Option, Some, None}
-use Rattle.au_model.specs.Lexemes as words
+use Rattle.std.specs.Prelude.{◌≡◌, ℕ, Bool, true, false, not, ◌&&◌, nat_le, List, [], ◌∷◌, Some}
 use Rattle.au_model.specs.Lexemes.{Lexeme, Token, token, Name, QuotedName, CloseList, CloseCurly, scanned, ScannedTo, is_end}
 use Rattle.au_model.specs.Operators.{Operator, OperatorTable, prefix_of}
 use Rattle.au_model.specs.Openings.{Setting, opens, counts, ends_before, stands_alone, is_minus_name}

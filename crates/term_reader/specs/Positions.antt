@@ -4,14 +4,12 @@ use Rattle.au_model.specs.Characters.{chars_from}
 use Rattle.au_model.specs.Lexemes.{Token, front, tokens_of}
 use Rattle.au_model.specs.Trees.{Tree}
 use Rattle.au_model.specs.Openings.{Setting, stands_alone}
-use Rattle.term_reader.specs.Looks.{Look, Free, Named, Lone, Over as OverOperand, InList, InCurly, Joined, presumed, Scans, IsLone, Doubts}
+use Rattle.term_reader.specs.Looks.{Look, Free, Lone, Over as OverOperand, InList, InCurly, presumed, Scans, IsLone, Doubts}
 use Rattle.token_scan.specs.Parts.{IsPlaceFrom}
 use Rattle.term_reader.specs.Stack.{Frame, Wants, Goes, bound_of}
 use Rattle.term_reader.specs.Sheets.{Sheet, no_cells, put_tree}
 use Rattle.term_reader.specs.Kept.{IsSheetOf}
 use Rattle.term_reader.specs.Frames.{frame_meant, shapes_up, put_stack, IsKept}
-use Rattle.term_reader.specs.Begun.{setting_of}
-use Rattle.term_reader.specs.declared.opening.Source.{Source}
 use Rattle.term_reader.specs.declared.state.State.{State}
 use Rattle.term_reader.specs.declared.steps.Turn.{Turn}
 use Rattle.term_reader.specs.declared.steps.Turn.TheVariants.{On, Over, Refused}

@@ -1,6 +1,6 @@
 -- The same readings from the left to the right: a term's beginning, and then each operator that goes on.
-use Rattle.std.specs.Prelude.{◌≡◌, ℕ, ◌≤◌, Bool, false, List, [], ◌∷◌, if◌then◌else◌}
-use Rattle.au_model.specs.Lexemes.{Token, token, Lexeme, Close, CloseList, CloseCurly, Comma, Bar}
+use Rattle.std.specs.Prelude.{ℕ, ◌≤◌, Bool, List, [], ◌∷◌, if◌then◌else◌}
+use Rattle.au_model.specs.Lexemes.{Token, token, Close, CloseList, CloseCurly, Comma, Bar}
 use Rattle.au_model.specs.Trees.{Tree, Trees, no_trees, more_trees, CompoundTree, AtomTree, tree_count, one, two, nil, braces, cell}
 use Rattle.au_model.specs.Operators.{OperatorTable, Operator}
 use Rattle.au_model.specs.Joints.{Joint, Infix, Postfix, Nothing, right_bound, token_joint, fits}

@@ -1,11 +1,12 @@
 -- Where no token goes on, and what is refused there.
-use Rattle.std.specs.Prelude.{◌≡◌, ◌^◌, ◌≤◌, ◌<◌, ◌&&◌, ◌||◌, not, ℕ, Bool, nat_le, true, false, List, [], ◌∷◌, ◌++◌, Option, Some, None, IsCharBoundary, if◌then◌else◌}
+use Rattle.std.specs.Prelude.{◌≡◌, ◌^◌, ◌≤◌, ◌<◌, ◌&&◌, ◌||◌, not, ℕ, Bool, nat_le, false, List, [], ◌∷◌, ◌++◌, Option, Some, None, IsCharBoundary, if◌then◌else◌}
 use Rattle.au_model.specs.Characters.{chars_from}
 use Rattle.au_model.specs.Lexemes.{Lexeme, Name, QuotedName, Integer, Comma, Token, token, scanned, ScannedTo, tokens_of}
 use Rattle.au_model.specs.Operators.{OperatorTable, prefix_of}
 use Rattle.au_model.specs.Joints.{Joint, named_joint, joint_fits, right_bound}
 use Rattle.au_model.specs.Trees.{Tree}
-use Rattle.au_model.specs.Openings.{Setting, is_joint, is_operator}
+use Rattle.au_model.specs.Openings.{Setting, Call, begins, is_joint, is_operator}
+use Rattle.au_model.specs.Layout.{GapThen, behind_layout}
 use Rattle.au_model.specs.declared.fault_kind.FaultKind.{FaultKind}
 use Rattle.au_model.specs.declared.fault_kind.FaultKind.TheVariants.{UnexpectedToken, WideNumeral, TooManyArguments}
 use Rattle.term_reader.specs.Stack.{Frame, PrefixOf, InfixOf, Wants, Goes, bound_of}
@@ -27,7 +28,7 @@ use Rattle.term_reader.specs.Looks.{Scans}
 use Rattle.term_reader.specs.TextFaults.{Begins, Fault}
 use Rattle.term_reader.specs.declared.refusal.Refused.{Refused}
 use Rattle.term_reader.specs.declared.steps.Turn.{Turn}
-use Rattle.term_reader.specs.declared.steps.Turn.TheVariants.{On, Over, Refused as RefusedTurn}
+use Rattle.term_reader.specs.declared.steps.Turn.TheVariants.{Refused as RefusedTurn}
 
 -- the tokens up to a place begin a term, and with the next one they do not
 pub record Stuck (s : Setting) (text : List ℕ) (start at : ℕ) : Type 0 where
@@ -77,12 +78,36 @@ pub record IsPassed (source : Source) (start at : ℕ) (doubt : Bool) (t : Token
   pub low : priority ≤ bound_of stack
   pub passes : (more : List Token) (goal : Tree) → Goes (setting_of source) stack (t ∷ more) tree priority goal → Goes (setting_of source) k (t ∷ more) l p goal
 
+-- ---- places in the stack
+
+-- a token between the start and a place where this compound begins
+pub record CallPlace (s : Setting) (text : List ℕ) (start at : ℕ) (name : List ℕ) (place : ℕ) : Type 0 where
+  pub from : List ℕ
+  pub before : List Token
+  pub after : List Token
+  pub args : List Token
+  pub scanned_before : Scans (chars_from text start) before from
+  pub scanned_after : Scans from after (chars_from text at)
+  pub layout : behind_layout from ≡ GapThen (chars_from text place)
+  pub boundary : IsCharBoundary text place
+  pub called : begins s (tokens_of from) ≡ Call name args
+
+abbrev pub IsFramePlace : Setting → List ℕ → ℕ → ℕ → DeclaredFrame → Type 0
+IsFramePlace s text start at (frame.Argument name n place) = CallPlace s text start at name place
+IsFramePlace s text start at _ = Unit {0}
+
+abbrev pub ArePlaces : Setting → List ℕ → ℕ → ℕ → List DeclaredFrame → Type 0
+ArePlaces s text start at [] = Unit {0}
+ArePlaces s text start at (f ∷ fs) = IsFramePlace s text start at f × ArePlaces s text start at fs
+
+-- ---- where an operand ends
+
 -- this is the fault where the token that stands behind the operand is not taken, and where it is a comma that would
 -- stand behind the last argument, the compound's place is that of the fault
 abbrev pub IsHeldFault : (source : Source) → ℕ → (st : State) → (f : DeclaredFrame) → (k : List Frame) → (l : Tree) → (p : ℕ) → (c : Closer) → (end : ℕ) → IsClosing source st f k l p c end → Refused → Type 0
 IsHeldFault source start st f k l p c end h r =
     ((more : List Token) (goal : Tree) → Goes (setting_of source) k (token h.apart h.lexeme ∷ more) l p goal → ⊥)
-    → IsFault (setting_of source) source.text.now start r × ((place : ℕ) → h.lexeme ≡ Comma → IsCharBoundary source.text.now place → IsFault (setting_of source) source.text.now start (record { at = place; kind = TooManyArguments }))
+    → IsFault (setting_of source) source.text.now start r × ((place : ℕ) (name : List ℕ) → h.lexeme ≡ Comma → CallPlace (setting_of source) source.text.now start st.at name place → IsFault (setting_of source) source.text.now start (record { at = place; kind = TooManyArguments }))
 
 -- ---- behind a prefix operator
 
@@ -111,16 +136,6 @@ pub record IsHigh (source : Source) (start : ℕ) (k : List Frame) (at end : ℕ
   pub kept : IsKept k
   pub starts : Starts source at (opening.Prefix name operator end)
   pub high : bound_of k < operator.priority
-
--- ---- places in the stack
-
-abbrev pub IsFramePlace : List ℕ → DeclaredFrame → Type 0
-IsFramePlace text (frame.Argument name n place) = IsCharBoundary text place
-IsFramePlace text _ = Unit {0}
-
-abbrev pub ArePlaces : List ℕ → List DeclaredFrame → Type 0
-ArePlaces text [] = Unit {0}
-ArePlaces text (f ∷ fs) = IsFramePlace text f × ArePlaces text fs
 
 -- the place behind a token that joins an atom
 abbrev pub joined_end : OperatorTable → List Frame → Scan → Option ℕ

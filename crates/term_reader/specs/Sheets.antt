@@ -5,7 +5,7 @@ use Rattle.std.specs.String.{string_bytes}
 use Rattle.au_term.specs.declared.cell.Cell.{Cell}
 use Rattle.au_term.specs.declared.cell.Cell.TheVariants.{Var as VarCell, Int as IntCell, Atom as AtomCell, Functor}
 use Rattle.au_model.specs.Jobs.{NamedVariable}
-use Rattle.au_model.specs.Trees.{Tree, VarTree, IntTree, AtomTree, CompoundTree, Trees, no_trees, more_trees, tree_count, nil, list_name}
+use Rattle.au_model.specs.Trees.{Tree, VarTree, IntTree, AtomTree, CompoundTree, Trees, no_trees, more_trees, tree_count, list_name}
 use Rattle.au_model.specs.TermNumbers.{Variables, no_variables, numbered_name}
 use Rattle.au_model.specs.declared.var_name.VarName.{VarName}
 

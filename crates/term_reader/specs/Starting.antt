@@ -1,5 +1,5 @@
 -- Single steps of a reader.
-use Rattle.std.specs.Prelude.{◌≡◌, ◌≤◌, ℕ, suc, Bool, false, List, [], ◌∷◌, ◌++◌, Option, Some, None, map}
+use Rattle.std.specs.Prelude.{◌≡◌, ◌≤◌, ℕ, suc, Bool, false, List, [], ◌∷◌, ◌++◌, Some, None, map}
 use Rattle.au_model.specs.Characters.{chars_from}
 use Rattle.au_model.specs.Lexemes.{Lexeme, Token, token, scanned, ScannedTo}
 use Rattle.au_model.specs.Joints.{joint_fits, lexeme_joint}

@@ -1,12 +1,12 @@
 -- Where a text first goes wrong, and what is wrong there.
-use Rattle.std.specs.Prelude.{◌≡◌, ◌<◌, ◌≤◌, ◌+◌, ◌-◌, ◌^◌, ℕ, suc, Bool, true, false, ◌==◌, nat_le, min, List, [], ◌∷◌, ◌++◌, length, take, slice_get, reverse, Option, Some, None, if◌then◌else◌}
+use Rattle.std.specs.Prelude.{◌≡◌, ◌<◌, ◌+◌, ◌-◌, ◌^◌, ℕ, suc, Bool, true, false, ◌==◌, nat_le, min, List, [], ◌∷◌, ◌++◌, length, take, drop, slice_get, reverse, Option, Some, if◌then◌else◌, ◌≤◌}
 use Rattle.std.specs.Str.{chars}
 use Rattle.au_model.specs.Characters.{is_in_line, run}
 use Rattle.au_model.specs.Layout.{Gap, GapThen, behind_layout}
 use Rattle.au_model.specs.Tokens.{FoundFault, next_word}
-use Rattle.au_model.specs.Lexemes.{Lexeme, Token, token, Integer, Comma, End, front, first_tokens, tokens_of}
+use Rattle.au_model.specs.Lexemes.{Token, token, Integer, Comma, End, front, first_tokens, tokens_of}
 use Rattle.au_model.specs.Trees.{Tree}
-use Rattle.au_model.specs.Openings.{Setting}
+use Rattle.au_model.specs.Openings.{Setting, Call, begins}
 use Rattle.au_model.specs.Spelling.{Operand}
 use Rattle.au_model.specs.TermTexts.{is_over}
 use Rattle.au_model.specs.declared.fault_kind.FaultKind.{FaultKind}
@@ -35,11 +35,13 @@ abbrev pub token_start : ℕ → List ℕ → Gap
 token_start n cs = behind_layout (first_tokens n cs).rest
 
 -- The kind of a text's fault, and the characters from its place on. The first token with which the tokens begin no
--- term, behind its layout; or all tokens up to a faulty one, or up to the end of the text, begin a term.
+-- term, behind its layout; where that is a comma it may be one argument too many, at the name of a compound that begins
+-- before it. Or all tokens up to a faulty one, or up to the end of the text, begin a term.
 pub data Fault (s : Setting) (cs : List ℕ) : FaultKind → List ℕ → Type 0 where
   unexpected : {n : ℕ} {from : List ℕ} → FaultAt s (tokens_of cs) n → is_wide (slice_get (tokens_of cs) n) ≡ false → token_start n cs ≡ GapThen from → Fault s cs UnexpectedToken from
   wide : {n : ℕ} {from : List ℕ} → FaultAt s (tokens_of cs) n → is_wide (slice_get (tokens_of cs) n) ≡ true → token_start n cs ≡ GapThen from → Fault s cs WideNumeral from
-  too_many : {n : ℕ} {a : Bool} {from : List ℕ} → FaultAt s (tokens_of cs) n → slice_get (tokens_of cs) n ≡ Some (token a Comma) → Fault s cs TooManyArguments from
+  too_many : {n m : ℕ} {a : Bool} {name : List ℕ} {us : List Token} {from : List ℕ} → FaultAt s (tokens_of cs) n → slice_get (tokens_of cs) n ≡ Some (token a Comma)
+      → m ≤ n → begins s (drop m (tokens_of cs)) ≡ Call name us → token_start m cs ≡ GapThen from → Fault s cs TooManyArguments from
   faulty : {kind : FaultKind} {from : List ℕ} → Begins s (tokens_of cs) → next_word (front cs).rest ≡ FoundFault kind from → Fault s cs kind from
   ended : Begins s (tokens_of cs) → is_over (front cs).rest ≡ true → Fault s cs UnexpectedEnd []
 

@@ -4,8 +4,21 @@ ghost use Rattle.au_model.specs.Lexemes.{Token};
 ghost use Rattle.au_model.specs.Trees.{Tree};
 ghost use Rattle.au_model.specs.Openings.{Setting};
 ghost use Rattle.au_model.specs.Spelling.{Operand};
+ghost use Rattle.au_model.specs.declared.fault_kind.FaultKind.{FaultKind};
+ghost use Rattle.au_model.specs.declared.fault_kind.FaultKind.TheVariants.{TooManyArguments};
+ghost use Rattle.term_reader.specs.TextFaults.{Fault, FaultAt};
 
 /// A list of tokens has at most one reading within a bound, whatever the operators are.
 pub fn one_reading()
     ensures { (s : Setting) (bound : ℕ) (ts us vs : List Token) (t u : Tree) → Operand s bound ts us t → Operand s bound ts vs u → (us ≡ vs) × (t ≡ u) }
+{}
+
+/// The first token with which tokens begin no term is one, whatever the operators are.
+pub fn one_faulty_token()
+    ensures { (s : Setting) (ts : List Token) (m n : ℕ) → FaultAt s ts m → FaultAt s ts n → m ≡ n }
+{}
+
+/// The fault of a text is one, of one kind and at one place. This leaves out that of too many arguments.
+pub fn one_fault()
+    ensures { (s : Setting) (cs us vs : List ℕ) (j k : FaultKind) → Fault s cs j us → Fault s cs k vs → (j ≡ TooManyArguments → ⊥) → (k ≡ TooManyArguments → ⊥) → (j ≡ k) × (us ≡ vs) }
 {}

@@ -98,7 +98,7 @@ impl State {
     /// Puts the operator that waits for the operand over it, where the operand ends in front of this.
     fn plug(&mut self, priority: u16, joint: Joint) -> Result<Plug, NoMemory>
         ensures at { self.new.at ≡ self.old.at }
-        ensures places { (text : List ℕ) → ArePlaces text self.old.frames.items → ArePlaces text self.new.frames.items }
+        ensures places { (s : Setting) (text : List ℕ) (start at : ℕ) → ArePlaces s text start at self.old.frames.items → ArePlaces s text start at self.new.frames.items }
         ensures fewer { IfOk result (λ p. IsFewer p (vec_len self.old.frames) (vec_len self.new.frames)) }
         ensures plugged { (s : Setting) (k : List stack.Frame) (l : Tree) (n : List ℕ) → Stands self.old (There k l priority) → IfOk result (λ p. IsPlug s k l priority (joint_meant n joint) self.new p) }
     {
@@ -126,7 +126,7 @@ impl State {
     /// whether this goes on behind it.
     pub(crate) fn settle(&mut self, priority: u16, joint: Joint) -> Result<(u16, bool), NoMemory>
         ensures at { self.new.at ≡ self.old.at }
-        ensures places { (text : List ℕ) → ArePlaces text self.old.frames.items → ArePlaces text self.new.frames.items }
+        ensures places { (s : Setting) (text : List ℕ) (start at : ℕ) → ArePlaces s text start at self.old.frames.items → ArePlaces s text start at self.new.frames.items }
         ensures settled { (s : Setting) (k : List stack.Frame) (l : Tree) (n : List ℕ) → Stands self.old (There k l priority) → IfOk result (λ r. IsSettled s k l priority (joint_meant n joint) self.new r.0 r.1) }
     {
         let mut last = priority;

@@ -10,8 +10,8 @@ use std::test::Fail;
 /// A text, the place from which it is read, its term in functional notation, and the place behind it.
 type Case = (&'static str, usize, &'static str, usize);
 
-/// A text, and the line, column and kind of its fault.
-type Bad = (&'static str, u32, u32, FaultKind);
+/// A text, the place from which it is read, and the line, column and kind of its fault.
+type Bad = (&'static str, usize, u32, u32, FaultKind);
 
 static CASES: [Case; 55] = [
     ("a+b. c.", 0, "+(a,b) .", 4),
@@ -71,39 +71,48 @@ static CASES: [Case; 55] = [
     ("/* c */ a % c\n . b", 0, "a .", 16),
 ];
 
-static FAULTS: [Bad; 32] = [
-    ("p(1", 1, 4, FaultKind::UnexpectedEnd),
-    ("p(1).q(", 1, 5, FaultKind::UnexpectedToken),
-    ("p('ab", 1, 3, FaultKind::UnclosedQuote),
-    ("/* x", 1, 1, FaultKind::UnclosedComment),
-    ("p('\\q').", 1, 4, FaultKind::BadEscape),
-    ("p(1.5).", 1, 3, FaultKind::FloatNumeral),
-    ("p(]).", 1, 3, FaultKind::UnexpectedToken),
-    ("p:-q", 1, 5, FaultKind::UnexpectedEnd),
-    ("p(`", 1, 3, FaultKind::BadCharacter),
-    ("p(9223372036854775809).", 1, 3, FaultKind::WideNumeral),
-    ("p(9223372036854775808).", 1, 3, FaultKind::WideNumeral),
-    (":- dynamic c/1.", 1, 12, FaultKind::UnexpectedToken),
-    ("f(- --> a).", 1, 9, FaultKind::UnexpectedToken),
-    ("f(:- --> a).", 1, 6, FaultKind::UnexpectedToken),
-    ("p :- X = \\+ - 1.", 1, 13, FaultKind::UnexpectedToken),
-    ("- 9223372036854775808 .", 1, 3, FaultKind::WideNumeral),
-    ("p 9223372036854775808.", 1, 3, FaultKind::WideNumeral),
-    ("p q 9223372036854775808.", 1, 3, FaultKind::UnexpectedToken),
-    ("f(a:-b).", 1, 4, FaultKind::UnexpectedToken),
-    ("a = b = c.", 1, 7, FaultKind::UnexpectedToken),
-    (":- :- a.", 1, 7, FaultKind::UnexpectedToken),
-    ("p(. ", 1, 3, FaultKind::UnexpectedToken),
-    ("f(a ',' b).", 1, 5, FaultKind::UnexpectedToken),
-    ("[a|b:-c].", 1, 5, FaultKind::UnexpectedToken),
-    ("[a|b,c].", 1, 5, FaultKind::UnexpectedToken),
-    ("f(- -->", 1, 8, FaultKind::UnexpectedEnd),
-    ("f(:- -->", 1, 6, FaultKind::UnexpectedToken),
-    ("f(- --> 'a", 1, 9, FaultKind::UnclosedQuote),
-    ("{a,b", 1, 5, FaultKind::UnexpectedEnd),
-    ("\np(1)\n :- (", 3, 6, FaultKind::UnexpectedEnd),
-    ("2**3^4.", 1, 5, FaultKind::UnexpectedToken),
-    ("f(a b).", 1, 5, FaultKind::UnexpectedToken),
+static FAULTS: [Bad; 35] = [
+    ("p(1", 0, 1, 4, FaultKind::UnexpectedEnd),
+    ("p(1).q(", 0, 1, 5, FaultKind::UnexpectedToken),
+    ("p('ab", 0, 1, 3, FaultKind::UnclosedQuote),
+    ("/* x", 0, 1, 1, FaultKind::UnclosedComment),
+    ("p('\\q').", 0, 1, 4, FaultKind::BadEscape),
+    ("p(1.5).", 0, 1, 3, FaultKind::FloatNumeral),
+    ("p(]).", 0, 1, 3, FaultKind::UnexpectedToken),
+    ("p:-q", 0, 1, 5, FaultKind::UnexpectedEnd),
+    ("p(`", 0, 1, 3, FaultKind::BadCharacter),
+    ("p(9223372036854775809).", 0, 1, 3, FaultKind::WideNumeral),
+    ("p(9223372036854775808).", 0, 1, 3, FaultKind::WideNumeral),
+    (":- dynamic c/1.", 0, 1, 12, FaultKind::UnexpectedToken),
+    ("f(- --> a).", 0, 1, 9, FaultKind::UnexpectedToken),
+    ("f(:- --> a).", 0, 1, 6, FaultKind::UnexpectedToken),
+    ("p :- X = \\+ - 1.", 0, 1, 13, FaultKind::UnexpectedToken),
+    ("- 9223372036854775808 .", 0, 1, 3, FaultKind::WideNumeral),
+    ("p 9223372036854775808.", 0, 1, 3, FaultKind::WideNumeral),
+    (
+        "p q 9223372036854775808.",
+        0,
+        1,
+        3,
+        FaultKind::UnexpectedToken,
+    ),
+    ("f(a:-b).", 0, 1, 4, FaultKind::UnexpectedToken),
+    ("a = b = c.", 0, 1, 7, FaultKind::UnexpectedToken),
+    (":- :- a.", 0, 1, 7, FaultKind::UnexpectedToken),
+    ("p(. ", 0, 1, 3, FaultKind::UnexpectedToken),
+    ("f(a ',' b).", 0, 1, 5, FaultKind::UnexpectedToken),
+    ("[a|b:-c].", 0, 1, 5, FaultKind::UnexpectedToken),
+    ("[a|b,c].", 0, 1, 5, FaultKind::UnexpectedToken),
+    ("f(- -->", 0, 1, 8, FaultKind::UnexpectedEnd),
+    ("f(:- -->", 0, 1, 6, FaultKind::UnexpectedToken),
+    ("f(- --> 'a", 0, 1, 9, FaultKind::UnclosedQuote),
+    ("{a,b", 0, 1, 5, FaultKind::UnexpectedEnd),
+    ("\np(1)\n :- (", 0, 3, 6, FaultKind::UnexpectedEnd),
+    ("2**3^4.", 0, 1, 5, FaultKind::UnexpectedToken),
+    ("f(a b).", 0, 1, 5, FaultKind::UnexpectedToken),
+    ("p(1).\np(\n", 5, 3, 1, FaultKind::UnexpectedEnd),
+    ("- (a", 0, 1, 5, FaultKind::UnexpectedEnd),
+    ("f(\\ :- :- a).", 0, 1, 8, FaultKind::UnexpectedToken),
 ];
 
 fn read_from(
@@ -149,13 +158,13 @@ fn check_all(rt: &impl Abort, alloc: Global, ops: &Ops, cases: &[Case]) {
 }
 
 fn check_faults(rt: &impl Abort, alloc: Global, ops: &Ops, faults: &[Bad]) {
-    for (text, line, column, kind) in faults {
+    for (text, at, line, column, kind) in faults {
         let want = ReadRefused::Syntax {
             line: *line,
             column: *column,
             kind: *kind,
         };
-        let found = read_from(rt, alloc, text, 0, ops, DoubleQuotes::Codes);
+        let found = read_from(rt, alloc, text, *at, ops, DoubleQuotes::Codes);
         assert_eq!(rt; found.err(), Some(want), "{text}");
     }
 }
@@ -213,5 +222,22 @@ fn end_of_text(rt: HostRuntime) -> Result<(), Fail> {
         DoubleQuotes::Chars,
     );
     assert!(rt; matches!(outcome, Ok(ReadOutcome::EndOfText)));
+    Ok(())
+}
+
+#[test]
+fn too_many_arguments(rt: HostRuntime) -> Result<(), Fail> {
+    let ops = Ops::initial(rt.alloc())?;
+    let mut text = String::from_str(rt.alloc(), "g- f(")?;
+    for _ in 0..65535 {
+        text.push_str("a,")?;
+    }
+    let found = read_from(&rt, rt.alloc(), text.as_str(), 0, &ops, DoubleQuotes::Codes);
+    let want = ReadRefused::Syntax {
+        line: 1,
+        column: 4,
+        kind: FaultKind::TooManyArguments,
+    };
+    assert_eq!(&rt; found.err(), Some(want));
     Ok(())
 }

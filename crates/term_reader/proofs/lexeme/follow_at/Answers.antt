@@ -1,4 +1,4 @@
-use Rattle.std.proofs.Common.{◌≡◌, ◌∙◌, sym, ap, subst, arith}
+use Rattle.std.proofs.Common.{◌∙◌, sym, ap, subst, arith}
 use Rattle.term_reader.specs.Meant.{scan_meant, IsScan}
 use Rattle.term_reader.specs.Following.{IsFollowAt}
 use Rattle.term_reader.proofs.Follows.{follow-is, follow-none}

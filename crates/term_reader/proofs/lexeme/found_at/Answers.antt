@@ -1,4 +1,4 @@
-use Rattle.std.proofs.Common.{◌≡◌, ◌∙◌, IfSome, option_map, sym, ap, subst, arith}
+use Rattle.std.proofs.Common.{◌∙◌, IfSome, option_map, sym, ap, subst, arith}
 use Rattle.term_reader.specs.Meant.{lexeme_meant, IsNarrow}
 use Rattle.term_reader.proofs.Fronts.{next-scanned, ends-behind}
 use Rattle.term_reader.proofs.Readings.{over-none}

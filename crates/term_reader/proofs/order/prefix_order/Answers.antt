@@ -1,4 +1,4 @@
-use Rattle.std.proofs.Common.{◌≡◌, ◌∙◌, ◌<◌, List, [], ◌∷◌, ◌++◌, sym, ap, subst, refl, arith}
+use Rattle.std.proofs.Common.{◌≡◌, ◌∙◌, ◌<◌, [], ◌∷◌, ◌++◌, sym, ap, subst, arith}
 use Rattle.au_term.specs.Prefix.{cells_of, arity}
 use Rattle.term_reader.specs.Levels.{Settles, Turns}
 use Rattle.term_reader.specs.Orders.{pending}

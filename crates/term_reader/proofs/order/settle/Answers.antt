@@ -1,6 +1,5 @@
-use Rattle.std.proofs.Common.{◌≡◌, List, [], ◌∷◌, ◌++◌, sym, subst, refl, arith}
+use Rattle.std.proofs.Common.{◌≡◌, [], sym, subst, refl, arith}
 use Rattle.term_reader.specs.Levels.{Settles, Turns}
-use Rattle.term_reader.specs.Orders.{pending}
 use Rattle.term_reader.proofs.Turning.{settles-waits, settles-more, settles-over, no_items}
 use Rattle.term_reader.proofs.order.settle.Goals as goal
 

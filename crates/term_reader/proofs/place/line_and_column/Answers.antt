@@ -1,8 +1,7 @@
-use Rattle.std.proofs.Common.{◌≡◌, ◌∙◌, ◌+◌, ◌-◌, ◌^◌, ℕ, true, false, ◌==◌, arith, rules, sym, ap, min, take, slice_range}
+use Rattle.std.proofs.Common.{◌≡◌, ◌∙◌, ◌+◌, ◌-◌, ◌^◌, true, false, ◌==◌, arith, sym, ap, min, take}
 use Rattle.std.proofs.lemmas.Iterator.{YieldsList-from_chars}
 use Rattle.std.proofs.lemmas.Iterator.Consumers.{YieldsList-end}
 use Rattle.std.specs.Str.{chars}
-use Rattle.term_reader.specs.TextFaults.{line_after, column_after}
 use Rattle.term_reader.proofs.Places.{line-more, line-same, column-first, column-more, place}
 use Rattle.term_reader.proofs.Sheets.{map_same}
 use Rattle.term_reader.proofs.place.line_and_column.Goals as goal

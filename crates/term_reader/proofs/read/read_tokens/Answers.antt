@@ -1,9 +1,10 @@
-use Rattle.std.proofs.Common.{◌≡◌, [], false, refl, sym, subst, arith}
+use Rattle.std.proofs.Common.{◌∷◌, [], false, refl, sym, subst, arith}
 use Rattle.term_reader.specs.Begun.{setting_of}
 use Rattle.token_scan.specs.Parts.{IsPlaceFrom}
 use Rattle.term_reader.specs.Positions.{Due, Led, Outcome, Moves}
 use Rattle.term_reader.specs.Refusing.{RefusesWell, ArePlaces}
 use Rattle.term_reader.proofs.Ledger.{led-start, led-then}
+use Rattle.term_reader.proofs.Taking.{places-moved}
 use Rattle.term_reader.proofs.Readings.{spelled, no_term}
 use Rattle.term_reader.proofs.read.read_tokens.Goals as goal
 
@@ -42,7 +43,7 @@ tokens-init c =
       stands = c.new-state.ensures.stands;
       phase_is = refl;
       led = subst (λ n. Led s text c.args.at (Due []) n false) e (led-start s text c.args.at);
-      places = subst (ArePlaces text) (sym c.new-state.ensures.empty) tt;
+      places = subst (ArePlaces s text c.args.at c.new-state.result.at) (sym c.new-state.ensures.empty) tt;
     }
 
 pub tokens-preserved : goal.tokens-preserved
@@ -59,5 +60,5 @@ tokens-preserved c =
       stands = w.stands;
       phase_is = w.phase_is;
       led = led-then s text c.args.at here c.turn_at.new.state.at c.tokens.doubt c.in-On.lone i.position w.new i.led i.stands.kept w.leads;
-      places = c.in_ok-next.ensures.places i.places;
+      places = places-moved s text c.args.at here c.turn_at.new.state.at (w.leads.first ∷ w.leads.over) w.leads.scans c.turn_at.new.state.frames.items (c.in_ok-next.ensures.places c.args.at i.led.read i.led.scans i.places);
     }

@@ -1,4 +1,4 @@
-use Rattle.std.proofs.Common.{◌≡◌, ◌-◌, [], length}
+use Rattle.std.proofs.Common.{◌≡◌, ◌-◌, length}
 use Rattle.token_scan.specs.Parts.{IsPlaceFrom}
 use Rattle.term_reader.specs.Begun.{setting_of}
 use Rattle.term_reader.specs.Positions.{Position, Stands, Led, phase_of}
@@ -12,7 +12,7 @@ invariant-tokens l = record {
   stands : Stands l.state position;
   phase_is : l.phase ≡ phase_of position;
   led : Led (setting_of l.source) l.source.text.now l.at position l.state.at l.doubt;
-  places : ArePlaces l.source.text.now l.state.frames.items;
+  places : ArePlaces (setting_of l.source) l.source.text.now l.at l.state.at l.state.frames.items;
 }
 
 abbrev pub decreases-tokens : goal.decreases-tokens

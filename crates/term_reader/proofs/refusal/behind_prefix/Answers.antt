@@ -1,4 +1,4 @@
-use Rattle.std.proofs.Common.{◌≡◌, ◌∙◌, sym}
+use Rattle.std.proofs.Common.{◌∙◌, sym}
 use Rattle.term_reader.specs.Begun.{setting_of}
 use Rattle.term_reader.proofs.Prefixes.{joined-stuck, other-stuck}
 use Rattle.term_reader.proofs.refusal.behind_prefix.Goals as goal

@@ -1,4 +1,4 @@
-use Rattle.std.proofs.Common.{◌≡◌, ◌∙◌, sym}
+use Rattle.std.proofs.Common.{◌∙◌, sym}
 use Rattle.term_reader.specs.Begun.{setting_of}
 use Rattle.term_reader.specs.Meant.{lexeme_meant}
 use Rattle.term_reader.proofs.Faulty.{found-fault}

@@ -1,7 +1,7 @@
-use Rattle.std.proofs.Common.{◌≡◌, ◌∙◌, Bool, true, false, ◌∷◌, Some, refl, sym, ap, subst}
+use Rattle.std.proofs.Common.{ℕ, List, ◌≡◌, ◌∙◌, true, false, ◌∷◌, Some, refl, sym, ap, subst}
 use Rattle.std.proofs.lemmas.Result.{IfOk-weaker}
 use Rattle.au_term.specs.declared.cell.Cell.TheVariants.{Functor}
-use Rattle.au_model.specs.Joints.{Infix, Postfix, Nothing, joint_fits, lexeme_joint}
+use Rattle.au_model.specs.Joints.{joint_fits}
 use Rattle.au_model.specs.Trees.{one}
 use Rattle.op_table.specs.Meant.{operator_meant}
 use Rattle.term_reader.specs.Begun.{setting_of}
@@ -14,6 +14,7 @@ use Rattle.term_reader.specs.Kept.{IsSheetOf}
 use Rattle.au_model.specs.Lexemes.{token}
 use Rattle.term_reader.specs.Meant.{IsStart}
 use Rattle.term_reader.specs.Refusing.{ArePlaces}
+use Rattle.term_reader.specs.declared.state.Frame.{Frame}
 use Rattle.term_reader.specs.declared.state.Frame.TheVariants as frame
 use Rattle.term_reader.specs.Positions.{There, Led, Outcome}
 use Rattle.term_reader.proofs.Held.{on-well}
@@ -108,19 +109,22 @@ returns-then-not-fits-clause-fault c = λ first k l st led starts places.
       kept = st.kept;
       low = st.low;
       passes = λ more goal g. z.same.to (token c.args.found.apart x ∷ more) goal (sym c.joint_of-joint.ensures) g;
-    }) (subst (λ n. IsStart text n c.args.found.start) at starts) (c.in_ok-last.ensures.places text places)
+    }) (subst (λ n. IsStart text n c.args.found.start) at starts) (subst (λ n. ArePlaces s text first n c.settle.new.self.frames.items) at (c.in_ok-last.ensures.places (setting_of c.args.source) c.args.source.text.now first c.args.state.now.at places))
 
 pub returns-then-not-fits-clause-places : goal.returns-then-not-fits-clause-places
-returns-then-not-fits-clause-places c = λ h. c.close.ensures.places (c.in_ok-last.ensures.places c.args.source.text.now h)
+returns-then-not-fits-clause-places c = λ first h.
+    let P : ℕ → List Frame → Type 0 = λ n xs. ArePlaces (setting_of c.args.source) c.args.source.text.now first n xs in
+    IfOk-weaker c.close.result _ _ (λ t p. subst (λ n. P n c.close.new.state.frames.items) c.in_ok-last.ensures.at p)
+    (c.close.ensures.places first (subst (λ n. P n c.settle.new.self.frames.items) (sym c.in_ok-last.ensures.at) (c.in_ok-last.ensures.places (setting_of c.args.source) c.args.source.text.now first c.args.state.now.at h)))
 
 pub returns-in_ok-name-in-Infix-clause-fault : goal.returns-in_ok-name-in-Infix-clause-fault
 returns-in_ok-name-in-Infix-clause-fault c = λ first k l st led starts places.
     IfOk-weaker c.open.result _ _ (λ t d. on-well (setting_of c.args.source) c.args.source.text.now first _ _ t d.turn) c.open.ensures
 
 pub returns-in_ok-name-in-Infix-clause-places : goal.returns-in_ok-name-in-Infix-clause-places
-returns-in_ok-name-in-Infix-clause-places c = λ h.
+returns-in_ok-name-in-Infix-clause-places c = λ first h.
     let text = c.args.source.text.now in
-    IfOk-weaker c.open.result _ _ (λ t d. subst (ArePlaces text) (sym d.frames) (places-push text _ (frame.Infix _ c.in-Infix.operator) (c.in_ok-last.ensures.places text h) tt)) c.open.ensures
+    IfOk-weaker c.open.result _ _ (λ t d. subst (ArePlaces (setting_of c.args.source) c.args.source.text.now first c.args.state.now.at) (sym d.frames) (places-push (setting_of c.args.source) c.args.source.text.now first c.args.state.now.at _ (frame.Infix _ c.in-Infix.operator) (c.in_ok-last.ensures.places (setting_of c.args.source) c.args.source.text.now first c.args.state.now.at h) tt)) c.open.ensures
 
 pub returns-in-Nothing-clause-fault : goal.returns-in-Nothing-clause-fault
 returns-in-Nothing-clause-fault c = λ first k l st led starts places.
@@ -133,7 +137,10 @@ returns-in-Nothing-clause-fault c = λ first k l st led starts places.
     false_true (subst (λ i. joint_fits (bound_of z.below) q i ≡ true) (ap (joint_meant n) c.in-Nothing.is) free)
 
 pub returns-in-Nothing-clause-places : goal.returns-in-Nothing-clause-places
-returns-in-Nothing-clause-places c = λ h. c.close-in-Nothing.ensures.places (c.in_ok-last.ensures.places c.args.source.text.now h)
+returns-in-Nothing-clause-places c = λ first h.
+    let P : ℕ → List Frame → Type 0 = λ n xs. ArePlaces (setting_of c.args.source) c.args.source.text.now first n xs in
+    IfOk-weaker c.close-in-Nothing.result _ _ (λ t p. subst (λ n. P n c.close-in-Nothing.new.state.frames.items) c.in_ok-last.ensures.at p)
+    (c.close-in-Nothing.ensures.places first (subst (λ n. P n c.settle.new.self.frames.items) (sym c.in_ok-last.ensures.at) (c.in_ok-last.ensures.places (setting_of c.args.source) c.args.source.text.now first c.args.state.now.at h)))
 
 pub returns-in_ok-compound-in-Postfix-clause-places : goal.returns-in_ok-compound-in-Postfix-clause-places
-returns-in_ok-compound-in-Postfix-clause-places c = λ h. c.in_ok-last.ensures.places c.args.source.text.now h
+returns-in_ok-compound-in-Postfix-clause-places c = λ first h. c.in_ok-last.ensures.places (setting_of c.args.source) c.args.source.text.now first c.args.state.now.at h

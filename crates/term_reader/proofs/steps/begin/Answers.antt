@@ -1,4 +1,4 @@
-use Rattle.std.proofs.Common.{◌≡◌, ◌∙◌, ◌≤◌, nat_le, false, List, [], ◌∷◌, refl, sym, ap, subst, arith}
+use Rattle.std.proofs.Common.{◌≤◌, nat_le, false, [], refl, sym, ap, subst, arith}
 use Rattle.std.proofs.lemmas.Result.{IfOk-weaker}
 use Rattle.au_model.specs.Trees.{AtomTree}
 use Rattle.op_table.specs.Meant.{operator_meant}
@@ -8,6 +8,8 @@ use Rattle.term_reader.specs.Stack.{bound_of}
 use Rattle.term_reader.specs.Starting.{Starts}
 use Rattle.term_reader.proofs.Moving.{moved, pushed, put-down, plain-leads, alone-leads, round-leads, curly-leads, list-leads, call-leads, prefix-leads}
 use Rattle.term_reader.proofs.Turns.{fails, prefix_within}
+use Rattle.au_model.specs.Characters.{chars_from}
+use Rattle.term_reader.specs.Looks.{none}
 use Rattle.term_reader.specs.Refusing.{ArePlaces}
 use Rattle.term_reader.specs.declared.state.Frame.TheVariants as frame
 use Rattle.term_reader.proofs.Held.{on-well}
@@ -105,50 +107,63 @@ returns-in-Leaf-clause-fault c = λ first doubt k st led held.
     IfOk-weaker c.put.result _ _ (λ t d. on-well (setting_of c.args.source) c.args.source.text.now first _ _ t d.turn) c.put.ensures
 
 pub returns-in-Leaf-clause-places : goal.returns-in-Leaf-clause-places
-returns-in-Leaf-clause-places c = λ b h. IfOk-weaker c.put.result _ _ (λ t d. subst (ArePlaces c.args.source.text.now) (sym d.frames) h) c.put.ensures
+returns-in-Leaf-clause-places c = λ first read scans b h. IfOk-weaker c.put.result _ _ (λ t d. subst (ArePlaces (setting_of c.args.source) c.args.source.text.now first c.args.state.now.at) (sym d.frames) h) c.put.ensures
 
 pub returns-in-Alone-clause-fault : goal.returns-in-Alone-clause-fault
 returns-in-Alone-clause-fault c = λ first doubt k st led held.
     IfOk-weaker c.put-in-Alone.result _ _ (λ t d. on-well (setting_of c.args.source) c.args.source.text.now first _ _ t d.turn) c.put-in-Alone.ensures
 
 pub returns-in-Alone-clause-places : goal.returns-in-Alone-clause-places
-returns-in-Alone-clause-places c = λ b h. IfOk-weaker c.put-in-Alone.result _ _ (λ t d. subst (ArePlaces c.args.source.text.now) (sym d.frames) h) c.put-in-Alone.ensures
+returns-in-Alone-clause-places c = λ first read scans b h. IfOk-weaker c.put-in-Alone.result _ _ (λ t d. subst (ArePlaces (setting_of c.args.source) c.args.source.text.now first c.args.state.now.at) (sym d.frames) h) c.put-in-Alone.ensures
 
 pub returns-in-Round-clause-fault : goal.returns-in-Round-clause-fault
 returns-in-Round-clause-fault c = λ first doubt k st led held.
     IfOk-weaker c.open.result _ _ (λ t d. on-well (setting_of c.args.source) c.args.source.text.now first _ _ t d.turn) c.open.ensures
 
 pub returns-in-Round-clause-places : goal.returns-in-Round-clause-places
-returns-in-Round-clause-places c = λ b h. IfOk-weaker c.open.result _ _ (λ t d. subst (ArePlaces c.args.source.text.now) (sym d.frames) (places-push c.args.source.text.now c.args.state.now.frames.items (frame.Round) h tt)) c.open.ensures
+returns-in-Round-clause-places c = λ first read scans b h. IfOk-weaker c.open.result _ _ (λ t d. subst (ArePlaces (setting_of c.args.source) c.args.source.text.now first c.args.state.now.at) (sym d.frames) (places-push (setting_of c.args.source) c.args.source.text.now first c.args.state.now.at c.args.state.now.frames.items (frame.Round) h tt)) c.open.ensures
 
 pub returns-in-Curly-clause-fault : goal.returns-in-Curly-clause-fault
 returns-in-Curly-clause-fault c = λ first doubt k st led held.
     IfOk-weaker c.open-in-Curly.result _ _ (λ t d. on-well (setting_of c.args.source) c.args.source.text.now first _ _ t d.turn) c.open-in-Curly.ensures
 
 pub returns-in-Curly-clause-places : goal.returns-in-Curly-clause-places
-returns-in-Curly-clause-places c = λ b h. IfOk-weaker c.open-in-Curly.result _ _ (λ t d. subst (ArePlaces c.args.source.text.now) (sym d.frames) (places-push c.args.source.text.now c.args.state.now.frames.items (frame.Curly) h tt)) c.open-in-Curly.ensures
+returns-in-Curly-clause-places c = λ first read scans b h. IfOk-weaker c.open-in-Curly.result _ _ (λ t d. subst (ArePlaces (setting_of c.args.source) c.args.source.text.now first c.args.state.now.at) (sym d.frames) (places-push (setting_of c.args.source) c.args.source.text.now first c.args.state.now.at c.args.state.now.frames.items (frame.Curly) h tt)) c.open-in-Curly.ensures
 
 pub returns-in-List-clause-fault : goal.returns-in-List-clause-fault
 returns-in-List-clause-fault c = λ first doubt k st led held.
     IfOk-weaker c.open-in-List.result _ _ (λ t d. on-well (setting_of c.args.source) c.args.source.text.now first _ _ t d.turn) c.open-in-List.ensures
 
 pub returns-in-List-clause-places : goal.returns-in-List-clause-places
-returns-in-List-clause-places c = λ b h. IfOk-weaker c.open-in-List.result _ _ (λ t d. subst (ArePlaces c.args.source.text.now) (sym d.frames) (places-push c.args.source.text.now c.args.state.now.frames.items (frame.Item 0) h tt)) c.open-in-List.ensures
+returns-in-List-clause-places c = λ first read scans b h. IfOk-weaker c.open-in-List.result _ _ (λ t d. subst (ArePlaces (setting_of c.args.source) c.args.source.text.now first c.args.state.now.at) (sym d.frames) (places-push (setting_of c.args.source) c.args.source.text.now first c.args.state.now.at c.args.state.now.frames.items (frame.Item 0) h tt)) c.open-in-List.ensures
 
 pub returns-in-Call-clause-fault : goal.returns-in-Call-clause-fault
 returns-in-Call-clause-fault c = λ first doubt k st led held.
     IfOk-weaker c.open-in-Call.result _ _ (λ t d. on-well (setting_of c.args.source) c.args.source.text.now first _ _ t d.turn) c.open-in-Call.ensures
 
 pub returns-in-Call-clause-places : goal.returns-in-Call-clause-places
-returns-in-Call-clause-places c = λ b h. IfOk-weaker c.open-in-Call.result _ _ (λ t d. subst (ArePlaces c.args.source.text.now) (sym d.frames) (places-push c.args.source.text.now c.args.state.now.frames.items (frame.Argument c.in-Call.name 0 c.args.start) h b)) c.open-in-Call.ensures
+returns-in-Call-clause-places c = λ first read scans b h.
+    let o = subst (Starts c.args.source c.args.state.now.at) c.in-Call.is c.requires in
+    let text = c.args.source.text.now in
+    IfOk-weaker c.open-in-Call.result _ _ (λ t d. subst (ArePlaces (setting_of c.args.source) c.args.source.text.now first c.args.state.now.at) (sym d.frames) (places-push (setting_of c.args.source) c.args.source.text.now first c.args.state.now.at c.args.state.now.frames.items (frame.Argument c.in-Call.name 0 c.args.start) h (record {
+      from = chars_from text c.args.state.now.at;
+      before = read;
+      after = [];
+      args = tokens_at c.args.source c.in-Call.behind;
+      scanned_before = scans;
+      scanned_after = none;
+      layout = b.1;
+      boundary = b.0;
+      called = o.begins;
+    }))) c.open-in-Call.ensures
 
 pub returns-else-operator-bound-clause-fault : goal.returns-else-operator-bound-clause-fault
 returns-else-operator-bound-clause-fault c = λ first doubt k st led held.
     IfOk-weaker c.open-in-Prefix.result _ _ (λ t d. on-well (setting_of c.args.source) c.args.source.text.now first _ _ t d.turn) c.open-in-Prefix.ensures
 
 pub returns-else-operator-bound-clause-places : goal.returns-else-operator-bound-clause-places
-returns-else-operator-bound-clause-places c = λ b h.
-    IfOk-weaker c.open-in-Prefix.result _ _ (λ t d. subst (ArePlaces c.args.source.text.now) (sym d.frames) (places-push c.args.source.text.now c.args.state.now.frames.items (frame.Prefix c.in-Prefix.name c.in-Prefix.operator) h tt)) c.open-in-Prefix.ensures
+returns-else-operator-bound-clause-places c = λ first read scans b h.
+    IfOk-weaker c.open-in-Prefix.result _ _ (λ t d. subst (ArePlaces (setting_of c.args.source) c.args.source.text.now first c.args.state.now.at) (sym d.frames) (places-push (setting_of c.args.source) c.args.source.text.now first c.args.state.now.at c.args.state.now.frames.items (frame.Prefix c.in-Prefix.name c.in-Prefix.operator) h tt)) c.open-in-Prefix.ensures
 
 pub returns-then-operator-bound-clause-fault : goal.returns-then-operator-bound-clause-fault
 returns-then-operator-bound-clause-fault c = λ first doubt k st led held.

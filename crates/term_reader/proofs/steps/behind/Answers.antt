@@ -1,4 +1,4 @@
-use Rattle.std.proofs.Common.{◌≡◌, ◌∙◌, sym, ap, subst}
+use Rattle.std.proofs.Common.{◌∙◌, sym, ap, subst}
 use Rattle.au_model.specs.Characters.{chars_from}
 use Rattle.term_reader.specs.Begun.{setting_of}
 use Rattle.term_reader.specs.Meant.{scan_meant, IsScan}

@@ -1,5 +1,5 @@
-use Rattle.std.proofs.Common.{◌≡◌, ◌∙◌, List, map, [], sym, ap, subst, arith}
-use Rattle.term_reader.specs.Frames.{frame_meant, shapes_up}
+use Rattle.std.proofs.Common.{◌∙◌, map, sym, ap, subst, arith}
+use Rattle.term_reader.specs.Frames.{frame_meant}
 use Rattle.term_reader.specs.Meant.{lexeme_meant}
 use Rattle.term_reader.proofs.Turning.{no_items}
 use Rattle.term_reader.proofs.Settled.{no_frames}
@@ -8,6 +8,7 @@ use Rattle.term_reader.proofs.Closed.{over-ends, over-refuses, over-never}
 use Rattle.term_reader.specs.Refusing.{ArePlaces}
 use Rattle.term_reader.proofs.Taking.{places-last, places-front}
 use Rattle.term_reader.proofs.Held.{not-taken, many-fault}
+use Rattle.term_reader.specs.Begun.{setting_of}
 use Rattle.term_reader.proofs.steps.close.Goals as goal
 
 pub returns-clause-moves : goal.returns-clause-moves
@@ -44,7 +45,7 @@ returns-in-None-clause-outcome c = λ k l p st shut stops.
 pub returns-clause-fault : goal.returns-clause-fault
 returns-clause-fault c = λ first k l p st shut stops passed starts places.
     let text = c.args.source.text.now in
-    let here = subst (ArePlaces text) c.in-Some.ensures.items places in
+    let here = subst (ArePlaces (setting_of c.args.source) text first c.args.state.now.at) c.in-Some.ensures.items places in
     let x = lexeme_meant c.args.found.lexeme in
     let nt = not-taken c.args.source first c.args.state.now.at c.args.doubt c.args.found.apart x k l p c.args.found.start c.args.found.end passed c.requires.next starts in
     c.close_frame.ensures.fault first k l p (record {
@@ -61,15 +62,15 @@ returns-clause-fault c = λ first k l p st shut stops passed starts places.
     })
     (λ never. (
       c.in_ok-refused.ensures first passed.stack passed.tree passed.priority c.args.state.now.at (nt never),
-      λ place e b. many-fault c.args.source first passed.stack passed.tree passed.priority c.args.state.now.at c.args.doubt x c.args.found.start c.args.found.end (nt never) place e b,
+      λ place name e b. many-fault c.args.source first passed.stack passed.tree passed.priority c.args.state.now.at c.args.doubt x c.args.found.start c.args.found.end (nt never) place name e b,
     ))
-    (places-last text c.pop.new.self.items c.in-Some.frame here)
+    (places-last (setting_of c.args.source) text first c.args.state.now.at c.pop.new.self.items c.in-Some.frame here)
 
 pub returns-clause-places : goal.returns-clause-places
-returns-clause-places c = λ places.
+returns-clause-places c = λ first places.
     let text = c.args.source.text.now in
-    let here = subst (ArePlaces text) c.in-Some.ensures.items places in
-    c.close_frame.ensures.places (places-last text c.pop.new.self.items c.in-Some.frame here) (places-front text c.pop.new.self.items c.in-Some.frame here)
+    let here = subst (ArePlaces (setting_of c.args.source) text first c.args.state.now.at) c.in-Some.ensures.items places in
+    c.close_frame.ensures.places first (places-last (setting_of c.args.source) text first c.args.state.now.at c.pop.new.self.items c.in-Some.frame here) (places-front (setting_of c.args.source) text first c.args.state.now.at c.pop.new.self.items c.in-Some.frame here)
 
 pub returns-in-None-clause-fault : goal.returns-in-None-clause-fault
 returns-in-None-clause-fault c = λ first k l p st shut stops passed starts places.

@@ -1,4 +1,4 @@
-use Rattle.std.proofs.Common.{◌≡◌, ℕ, List, IfOk, sym, subst}
+use Rattle.std.proofs.Common.{ℕ, List, IfOk, sym, subst}
 use Rattle.au_model.specs.Trees.{Tree}
 use Rattle.term_reader.specs.Begun.{setting_of}
 use Rattle.term_reader.specs.Stack as stack
@@ -38,29 +38,32 @@ returns-clause-outcome c = λ k l p h goal g.
 pub returns-in-Round-clause-fault : goal.returns-in-Round-clause-fault
 returns-in-Round-clause-fault c =
     subst (λ f. (first : ℕ) (k : List stack.Frame) (l : Tree) (p : ℕ) (h : IsClosing c.args.source c.args.state.now f k l p c.args.token c.args.end) → IsHeldFault c.args.source first c.args.state.now f k l p c.args.token c.args.end h c.args.refused
-    → IsFramePlace c.args.source.text.now f → RefusesWell (setting_of c.args.source) c.args.source.text.now first c.close_round.result) (sym c.in-Round.is)
+    → IsFramePlace (setting_of c.args.source) c.args.source.text.now first c.args.state.now.at f → RefusesWell (setting_of c.args.source) c.args.source.text.now first c.close_round.result) (sym c.in-Round.is)
     (λ first k l p h held b. c.close_round.ensures.fault first k l p h held)
 
 pub returns-in-Curly-clause-fault : goal.returns-in-Curly-clause-fault
 returns-in-Curly-clause-fault c =
     subst (λ f. (first : ℕ) (k : List stack.Frame) (l : Tree) (p : ℕ) (h : IsClosing c.args.source c.args.state.now f k l p c.args.token c.args.end) → IsHeldFault c.args.source first c.args.state.now f k l p c.args.token c.args.end h c.args.refused
-    → IsFramePlace c.args.source.text.now f → IfOk c.close_curly.result (λ t. RefusesWell (setting_of c.args.source) c.args.source.text.now first t)) (sym c.in-Curly.is)
+    → IsFramePlace (setting_of c.args.source) c.args.source.text.now first c.args.state.now.at f → IfOk c.close_curly.result (λ t. RefusesWell (setting_of c.args.source) c.args.source.text.now first t)) (sym c.in-Curly.is)
     (λ first k l p h held b. c.close_curly.ensures.fault first k l p h held)
 
 pub returns-in-Item-clause-fault : goal.returns-in-Item-clause-fault
 returns-in-Item-clause-fault c =
     subst (λ f. (first : ℕ) (k : List stack.Frame) (l : Tree) (p : ℕ) (h : IsClosing c.args.source c.args.state.now f k l p c.args.token c.args.end) → IsHeldFault c.args.source first c.args.state.now f k l p c.args.token c.args.end h c.args.refused
-    → IsFramePlace c.args.source.text.now f → IfOk c.close_item.result (λ t. RefusesWell (setting_of c.args.source) c.args.source.text.now first t)) (sym c.in-Item.is)
+    → IsFramePlace (setting_of c.args.source) c.args.source.text.now first c.args.state.now.at f → IfOk c.close_item.result (λ t. RefusesWell (setting_of c.args.source) c.args.source.text.now first t)) (sym c.in-Item.is)
     (λ first k l p h held b. c.close_item.ensures.fault first k l p h held)
 
 pub returns-in-Tail-clause-fault : goal.returns-in-Tail-clause-fault
 returns-in-Tail-clause-fault c =
     subst (λ f. (first : ℕ) (k : List stack.Frame) (l : Tree) (p : ℕ) (h : IsClosing c.args.source c.args.state.now f k l p c.args.token c.args.end) → IsHeldFault c.args.source first c.args.state.now f k l p c.args.token c.args.end h c.args.refused
-    → IsFramePlace c.args.source.text.now f → IfOk c.close_tail.result (λ t. RefusesWell (setting_of c.args.source) c.args.source.text.now first t)) (sym c.in-Tail.is)
+    → IsFramePlace (setting_of c.args.source) c.args.source.text.now first c.args.state.now.at f → IfOk c.close_tail.result (λ t. RefusesWell (setting_of c.args.source) c.args.source.text.now first t)) (sym c.in-Tail.is)
     (λ first k l p h held b. c.close_tail.ensures.fault first k l p h held)
 
 pub returns-in-Argument-clause-fault : goal.returns-in-Argument-clause-fault
 returns-in-Argument-clause-fault c =
     subst (λ f. (first : ℕ) (k : List stack.Frame) (l : Tree) (p : ℕ) (h : IsClosing c.args.source c.args.state.now f k l p c.args.token c.args.end) → IsHeldFault c.args.source first c.args.state.now f k l p c.args.token c.args.end h c.args.refused
-    → IsFramePlace c.args.source.text.now f → IfOk c.close_argument.result (λ t. RefusesWell (setting_of c.args.source) c.args.source.text.now first t)) (sym c.in-Argument.is)
+    → IsFramePlace (setting_of c.args.source) c.args.source.text.now first c.args.state.now.at f → IfOk c.close_argument.result (λ t. RefusesWell (setting_of c.args.source) c.args.source.text.now first t)) (sym c.in-Argument.is)
     (λ first k l p h held b. c.close_argument.ensures.fault first k l p h held b)
+
+pub returns-in-Round-clause-places : goal.returns-in-Round-clause-places
+returns-in-Round-clause-places c = λ first b h. c.close_round.ensures.places first h

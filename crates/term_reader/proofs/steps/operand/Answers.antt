@@ -1,4 +1,4 @@
-use Rattle.std.proofs.Common.{◌≡◌, ◌∙◌, sym, ap, subst}
+use Rattle.std.proofs.Common.{◌∙◌, sym, ap, subst}
 use Rattle.au_model.specs.Characters.{chars_from}
 use Rattle.term_reader.specs.Begun.{setting_of}
 use Rattle.term_reader.specs.Meant.{lexeme_meant, scan_meant, IsScan}
@@ -32,8 +32,8 @@ returns-in_ok-opening-in-Found-clause-fault c = λ first doubt k st led.
     c.begin.ensures.fault first doubt k st led (λ h. found-fault (setting_of c.args.source) text first at _ f.apart (lexeme_meant f.lexeme) f.start c.unexpected-fault.result found is.2 h c.unexpected-fault.ensures.at c.unexpected-fault.ensures.kind)
 
 pub returns-in_ok-opening-in-Found-clause-places : goal.returns-in_ok-opening-in-Found-clause-places
-returns-in_ok-opening-in-Found-clause-places c = λ h.
-    c.begin.ensures.places (subst (IsScan c.args.source.text.now c.args.state.now.at) c.in-Found.is c.in_ok-next.ensures.place).2.0 h
+returns-in_ok-opening-in-Found-clause-places c = λ first read scans h.
+    c.begin.ensures.places first read scans (subst (IsScan c.args.source.text.now c.args.state.now.at) c.in-Found.is c.in_ok-next.ensures.place).2 h
 
 pub returns-in-Bad-clause-fault : goal.returns-in-Bad-clause-fault
 returns-in-Bad-clause-fault c = λ first doubt k st led.

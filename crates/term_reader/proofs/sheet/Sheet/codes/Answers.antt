@@ -1,4 +1,4 @@
-use Rattle.std.proofs.Common.{◌≡◌, OnOk, subst}
+use Rattle.std.proofs.Common.{OnOk, subst}
 use Rattle.std.specs.Str.{chars}
 use Rattle.au_model.specs.Trees.{AtomTree, nil}
 use Rattle.term_reader.specs.Kept.{IsSheetOf}

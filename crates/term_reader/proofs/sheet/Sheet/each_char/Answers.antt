@@ -1,8 +1,8 @@
-use Rattle.std.proofs.Common.{◌≡◌, ◌∙◌, List, [], ◌∷◌, map, refl, sym, ap, subst, arith}
+use Rattle.std.proofs.Common.{◌∙◌, sym, subst, arith}
 use Rattle.std.proofs.lemmas.Iterator.{YieldsList-from_chars}
 use Rattle.std.proofs.lemmas.Iterator.Consumers.{YieldsList-end}
 use Rattle.std.proofs.lemmas.List.{length_push}
-use Rattle.au_term.specs.declared.cell.Cell.TheVariants.{Int as IntCell, Atom as AtomCell}
+use Rattle.au_term.specs.declared.cell.Cell.TheVariants.{Atom as AtomCell}
 use Rattle.term_reader.specs.Kept.{IsSheetOf}
 use Rattle.term_reader.specs.Sheets.{put_cell, put_chars}
 use Rattle.term_reader.proofs.Sheets.{put_chars-last, map_same}

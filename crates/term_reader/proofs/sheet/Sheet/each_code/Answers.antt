@@ -1,10 +1,10 @@
-use Rattle.std.proofs.Common.{◌≡◌, ◌∙◌, ℤ, w64, rules, List, [], ◌∷◌, map, refl, sym, ap, subst, arith}
+use Rattle.std.proofs.Common.{◌≡◌, ◌∙◌, ℤ, w64, rules, sym, subst, arith}
 use Rattle.std.proofs.lemmas.Iterator.{YieldsList-from_chars}
 use Rattle.std.proofs.lemmas.Iterator.Consumers.{YieldsList-end}
 use Rattle.std.proofs.lemmas.Int.{to_z-of_z}
 use mir.Val.{SFits, to_z, of_z}
 use Rattle.std.proofs.lemmas.List.{length_push}
-use Rattle.au_term.specs.declared.cell.Cell.TheVariants.{Int as IntCell, Atom as AtomCell}
+use Rattle.au_term.specs.declared.cell.Cell.TheVariants.{Int as IntCell}
 use Rattle.term_reader.specs.Kept.{IsSheetOf}
 use Rattle.term_reader.specs.Sheets.{put_cell, put_codes}
 use Rattle.term_reader.proofs.Sheets.{put_codes-last, map_same}

@@ -1,7 +1,6 @@
-use Rattle.std.proofs.Common.{◌≡◌, ◌∙◌, sym, ap, subst}
-use Rattle.au_term.specs.Prefix.{cells_of, term_of, term_of-cells_of, AreSound, IsTerm}
+use Rattle.std.proofs.Common.{◌∙◌, sym, ap, subst}
+use Rattle.au_term.specs.Prefix.{term_of, term_of-cells_of, AreSound, IsTerm}
 use Rattle.au_model.specs.TermNumbers.{no_variables, numbered}
-use Rattle.term_reader.specs.Orders.{postorder}
 use Rattle.term_reader.specs.Sheets.{no_cells, put_tree}
 use Rattle.term_reader.proofs.Sheets.{put-numbered, turned-term}
 use Rattle.term_reader.proofs.sheet.Sheet.finish.Goals as goal

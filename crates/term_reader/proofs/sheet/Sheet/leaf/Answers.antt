@@ -1,4 +1,4 @@
-use Rattle.std.proofs.Common.{◌≡◌, ◌∙◌, ℤ, OnOk, sym, ap, subst, w64, rules, arith}
+use Rattle.std.proofs.Common.{◌≡◌, ℤ, OnOk, sym, subst, w64, rules}
 use Rattle.std.proofs.lemmas.Int.{to_z-of_z}
 use mir.Val.{SFits, to_z, of_z}
 use Rattle.au_term.specs.declared.cell.Cell.TheVariants.{Int as IntCell}

@@ -1,4 +1,4 @@
-use Rattle.std.proofs.Common.{◌≡◌, ◌∙◌, OnOk, subst}
+use Rattle.std.proofs.Common.{◌∙◌, OnOk, subst}
 use Rattle.au_term.specs.declared.cell.Cell.TheVariants.{Atom as AtomCell}
 use Rattle.term_reader.specs.Kept.{IsSheetOf}
 use Rattle.term_reader.specs.Sheets.{put_cell}

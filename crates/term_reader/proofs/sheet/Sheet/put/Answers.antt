@@ -1,4 +1,4 @@
-use Rattle.std.proofs.Common.{◌≡◌, ◌∙◌, [], ◌∷◌, ◌++◌, ap}
+use Rattle.std.proofs.Common.{◌∙◌, [], ◌∷◌, ◌++◌, ap}
 use Rattle.au_term.proofs.Whole.{AreSound-push}
 use Rattle.term_reader.proofs.sheet.Sheet.put.Goals as goal
 

@@ -1,5 +1,5 @@
-use Rattle.std.proofs.Common.{◌≡◌, ◌∙◌, [], ◌∷◌, ◌++◌, sym, ap, subst}
-use Rattle.au_term.specs.Prefix.{AreSound, IsSound}
+use Rattle.std.proofs.Common.{◌∙◌, [], ◌∷◌, ◌++◌, ap, subst}
+use Rattle.au_term.specs.Prefix.{AreSound}
 use Rattle.au_term.specs.declared.cell.Cell.TheVariants.{Var as VarCell}
 use Rattle.au_term.proofs.Whole.{AreSound-push}
 use Rattle.term_reader.proofs.sheet.Sheet.variable.Goals as goal

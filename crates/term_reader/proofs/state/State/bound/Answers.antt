@@ -1,4 +1,4 @@
-use Rattle.std.proofs.Common.{◌≡◌, ◌∙◌, ◌-◌, length, slice_get, sym, ap}
+use Rattle.std.proofs.Common.{◌∙◌, ◌-◌, length, slice_get, sym, ap}
 use Rattle.std.specs.Option.{option_copied}
 use Rattle.term_reader.proofs.Settled.{bound-some, bound-none}
 use Rattle.term_reader.proofs.state.State.bound.Goals as goal

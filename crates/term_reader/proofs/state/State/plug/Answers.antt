@@ -1,4 +1,4 @@
-use Rattle.std.proofs.Common.{◌≡◌, ◌∙◌, sym, ap, subst, refl}
+use Rattle.std.proofs.Common.{◌∙◌, sym, ap, subst, refl}
 use Rattle.au_model.specs.Joints.{joint_fits}
 use Rattle.op_table.specs.Meant.{operator_meant}
 use Rattle.term_reader.specs.Meant.{joint_meant}
@@ -26,13 +26,13 @@ returns-in_ok-compound-in-Some-Infix-clause-plugged c = λ s k l n h.
     (sym (c.fits.ensures n ∙ ap (λ b. joint_fits b c.args.priority j) (c.bound.ensures k h.shapes)) ∙ c.if-fits.false)
 
 pub returns-in_ok-compound-in-Some-Prefix-clause-places : goal.returns-in_ok-compound-in-Some-Prefix-clause-places
-returns-in_ok-compound-in-Some-Prefix-clause-places c = λ text h. places-front text c.pop.new.self.items c.in-Some-Prefix.field-0 (subst (ArePlaces text) c.in-Some-Prefix.ensures.items h)
+returns-in_ok-compound-in-Some-Prefix-clause-places c = λ s text start at h. places-front s text start at c.pop.new.self.items c.in-Some-Prefix.field-0 (subst (ArePlaces s text start at) c.in-Some-Prefix.ensures.items h)
 
 pub returns-in_ok-compound-in-Some-Infix-clause-places : goal.returns-in_ok-compound-in-Some-Infix-clause-places
-returns-in_ok-compound-in-Some-Infix-clause-places c = λ text h. places-front text c.pop.new.self.items c.in-Some-Infix.field-0 (subst (ArePlaces text) c.in-Some-Infix.ensures.items h)
+returns-in_ok-compound-in-Some-Infix-clause-places c = λ s text start at h. places-front s text start at c.pop.new.self.items c.in-Some-Infix.field-0 (subst (ArePlaces s text start at) c.in-Some-Infix.ensures.items h)
 
 pub returns-in_err-compound-in-Some-Prefix-clause-places : goal.returns-in_err-compound-in-Some-Prefix-clause-places
-returns-in_err-compound-in-Some-Prefix-clause-places c = λ text h. places-front text c.pop.new.self.items c.in-Some-Prefix.field-0 (subst (ArePlaces text) c.in-Some-Prefix.ensures.items h)
+returns-in_err-compound-in-Some-Prefix-clause-places c = λ s text start at h. places-front s text start at c.pop.new.self.items c.in-Some-Prefix.field-0 (subst (ArePlaces s text start at) c.in-Some-Prefix.ensures.items h)
 
 pub returns-in_err-compound-in-Some-Infix-clause-places : goal.returns-in_err-compound-in-Some-Infix-clause-places
-returns-in_err-compound-in-Some-Infix-clause-places c = λ text h. places-front text c.pop.new.self.items c.in-Some-Infix.field-0 (subst (ArePlaces text) c.in-Some-Infix.ensures.items h)
+returns-in_err-compound-in-Some-Infix-clause-places c = λ s text start at h. places-front s text start at c.pop.new.self.items c.in-Some-Infix.field-0 (subst (ArePlaces s text start at) c.in-Some-Infix.ensures.items h)

@@ -1,4 +1,4 @@
-use Rattle.std.proofs.Common.{◌≡◌, ◌∙◌, subst}
+use Rattle.std.proofs.Common.{◌∙◌, subst}
 use Rattle.term_reader.specs.Meant.{joint_meant}
 use Rattle.term_reader.specs.Settling.{IsPlug}
 use Rattle.term_reader.proofs.Settled.{same-then}
@@ -11,7 +11,7 @@ operators-preserved c = (
       let i = c.operators.invariant.1 s k t n h in
       let o = subst (λ p. IsPlug s i.below i.tree c.operators.last (joint_meant n c.args.joint) c.plug.new.self p) c.in-Over.is (c.in_ok-next.ensures.plugged s i.below i.tree n i.stands) in
       record { below = o.below; tree = o.tree; stands = o.stands; same = same-then s (joint_meant n c.args.joint) k i.below o.below t i.tree o.tree c.args.priority c.operators.last c.in-Over.next i.same o.same },
-  λ text h. c.in_ok-next.ensures.places text (c.operators.invariant.2 text h),
+  λ s text start at h. c.in_ok-next.ensures.places s text start at (c.operators.invariant.2 s text start at h),
 )
 
 pub returns-in-Fits-clause-settled : goal.returns-in-Fits-clause-settled
@@ -27,10 +27,10 @@ returns-in-Ends-clause-settled c = λ s k l n h.
     record { below = i.below; tree = i.tree; stands = o.0; same = i.same; free = (o.1, o.2) }
 
 pub returns-in-Fits-clause-places : goal.returns-in-Fits-clause-places
-returns-in-Fits-clause-places c = λ text h. c.in_ok-next.ensures.places text (c.operators.invariant.2 text h)
+returns-in-Fits-clause-places c = λ s text start at h. c.in_ok-next.ensures.places s text start at (c.operators.invariant.2 s text start at h)
 
 pub returns-in-Ends-clause-places : goal.returns-in-Ends-clause-places
-returns-in-Ends-clause-places c = λ text h. c.in_ok-next.ensures.places text (c.operators.invariant.2 text h)
+returns-in-Ends-clause-places c = λ s text start at h. c.in_ok-next.ensures.places s text start at (c.operators.invariant.2 s text start at h)
 
 pub returns-in_err-next-clause-places : goal.returns-in_err-next-clause-places
-returns-in_err-next-clause-places c = λ text h. c.in_err-next.ensures.places text (c.operators.invariant.2 text h)
+returns-in_err-next-clause-places c = λ s text start at h. c.in_err-next.ensures.places s text start at (c.operators.invariant.2 s text start at h)

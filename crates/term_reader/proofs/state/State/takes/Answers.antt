@@ -1,8 +1,7 @@
-use Rattle.std.proofs.Common.{◌≡◌, ◌∙◌, [], refl, sym, ap, arith}
+use Rattle.std.proofs.Common.{◌∙◌, sym, ap}
 use Rattle.std.proofs.lemmas.List.{nil_from_length}
 use Rattle.au_model.specs.Joints.{joint_fits}
 use Rattle.term_reader.specs.Meant.{joint_meant}
-use Rattle.term_reader.specs.Frames.{frame_meant}
 use Rattle.term_reader.proofs.Taking.{last-fits, last-none, last-more, none-left}
 use Rattle.term_reader.proofs.state.State.takes.Goals as goal
 

@@ -1,0 +1,5 @@
+use Rattle.term_reader.proofs.Firsts.{same-fault}
+use Rattle.term_reader.proofs.laws.one_fault.Goals as goal
+
+pub returns : goal.returns
+returns c = same-fault

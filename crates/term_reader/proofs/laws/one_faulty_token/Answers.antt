@@ -1,0 +1,5 @@
+use Rattle.term_reader.proofs.Firsts.{one-fault}
+use Rattle.term_reader.proofs.laws.one_faulty_token.Goals as goal
+
+pub returns : goal.returns
+returns c = one-fault
