@@ -13,3 +13,4 @@ pub mod Taking
 pub mod Storing
 pub mod Following
 pub mod Holding
+pub mod Again

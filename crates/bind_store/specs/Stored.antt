@@ -2,6 +2,7 @@
 use Rattle.std.specs.Prelude.{◌≡◌, ℕ, ◌+◌, ◌≤◌, List, ◌++◌, length, map, Bool, true, false, ◌∷◌, [], Some, None}
 use Rattle.au_term.specs.Term.{Term, VarTerm, IntTerm, AtomTerm, Compound, var_bound}
 use Rattle.au_term.specs.declared.segment.Binding.{Binding as SharedBinding}
+use Rattle.au_term.specs.declared.segment.Segment.{Segment}
 use Rattle.au_model.specs.Each.{Each}
 use Rattle.au_model.specs.Substitutions.{Substitution, resolve}
 use Rattle.au_model.specs.Unifier.{unifier}
@@ -74,3 +75,7 @@ pub record IsReachedTerm (st : Stored) (term reached : Term) : Type 0 where
   pub same : resolve (substitution st) reached ≡ resolve (substitution st) term
   pub unbound : IsUnbound st.made reached
   pub below : var_bound term ≤ st.next → var_bound reached ≤ st.next
+
+-- the numbers of a segment were taken and its bindings made
+abbrev pub with_segment : Segment → Stored → Stored
+with_segment segment st = record { made = st.made ++ pairs_of segment.bindings; next = st.next + segment.vars }

@@ -1,17 +1,19 @@
 //! The store of a branch: its bindings and its next variable number.
-ghost use Rattle.std.specs.Prelude.{◌≡◌, ◌<◌, ◌≤◌, ◌++◌, ◌∷◌, [], length, IfOk, OnOk, OnErr};
+ghost use Rattle.std.specs.Prelude.{◌≡◌, ◌<◌, ◌≤◌, ◌+◌, ◌++◌, ◌∷◌, [], length, IfOk, OnOk, OnErr};
 ghost use Rattle.au_term.specs.Term.{var_bound};
 ghost use Rattle.au_model.specs.Copies.{copied, copy_takes};
 ghost use Rattle.au_model.specs.Substitutions.{resolve};
-ghost use Rattle.bind_store.specs.Bindings.{composed};
+ghost use Rattle.au_model.specs.Each.{Each};
+ghost use Rattle.bind_store.specs.Bindings.{composed, AreApart, IsBindingBelow};
 ghost use Rattle.bind_store.specs.Unifying.{Grown, IsSolved};
-ghost use Rattle.bind_store.specs.Stored.{Stored, IsSound, substitution, with_numbers, IsUnified, mark_of, Continues, IsMarked, pairs_of, IsReachedTerm};
+ghost use Rattle.bind_store.specs.Stored.{Stored, IsSound, substitution, with_numbers, with_segment, IsUnified, mark_of, Continues, IsMarked, pairs_of, IsReachedTerm};
 
 use crate::bindings::Bindings;
+use crate::kept::Kept;
 use crate::resolved::{bound_place, resolved};
 use crate::unify::{Equation, Place, Sides, Source, extend};
 use au_model::copies::copy_term;
-use au_term::{Binding, Bindings as BindingList, FlatTerm, NoMemory, Shared, VarNo};
+use au_term::{Binding, Bindings as BindingList, FlatTerm, NoMemory, Segment, Shared, VarNo};
 use std::alloc::Global;
 use std::marker::Model;
 
@@ -80,6 +82,30 @@ impl Store {
         };
         self.next = next;
         Ok(first)
+    }
+
+    /// Takes the numbers of a segment, and makes its bindings again.
+    pub fn extend(&mut self, segment: &Segment) -> Result<(), NoMemory>
+        requires apart { AreApart (self.old.made ++ pairs_of segment.now.bindings) }
+        requires below { Each (IsBindingBelow (self.old.next + segment.now.vars)) (pairs_of segment.now.bindings) }
+        ensures ok { OnOk result (self.new ≡ with_segment segment.now self.old) }
+        ensures err { OnErr result (self.new ≡ self.old) }
+    {
+        let Some(next) = self.next.checked_add(segment.vars) else {
+            return Err(NoMemory);
+        };
+        let made = self.bindings.len();
+        let answer = bind_all(self.alloc, segment.bindings.as_slice(), &mut self.bindings);
+        match answer {
+            Ok(()) => {
+                self.next = next;
+                Ok(())
+            }
+            Err(error) => {
+                self.bindings.cut_to(made);
+                Err(error)
+            }
+        }
     }
 
     /// Makes two terms one by further bindings, or answers that none do.
@@ -173,6 +199,19 @@ impl Store {
         }
         Ok(list)
     }
+}
+
+/// Makes bindings again, in their order.
+fn bind_all(alloc: Global, list: &[Binding], bindings: &mut Bindings) -> Result<(), NoMemory>
+    requires { AreApart (bindings.old ++ pairs_of list.now) }
+    ensures grown { Grown bindings.old bindings.new }
+    ensures made { OnOk result (bindings.new ≡ bindings.old ++ pairs_of list.now) }
+{
+    for binding in list {
+        let value = Kept::new(alloc, binding.value.to_term(alloc)?)?;
+        bindings.push(binding.var, value)?;
+    }
+    Ok(())
 }
 
 /// Adds the bindings that make two terms one, and answers whether any do.
