@@ -21,12 +21,12 @@ use Rattle.clause_compile.specs.declared.event.Branch.{Branch}
 use Rattle.proc_index.specs.declared.key.Key.{Key}
 use Rattle.proc_index.specs.declared.key.Key.TheVariants.{Any, Functor}
 use Rattle.proc_index.specs.Keys.{has_key, first_has, may_match, matching}
-use Rattle.proc_index.specs.Procedures.{procedure_of, candidates_of}
+use Rattle.proc_index.specs.Procedures.{procedure_of, candidates_of, HaveHeads}
 use Rattle.bind_store.specs.Bindings.{Binding, composed}
 use Rattle.bind_store.specs.Stored.{Stored, substitution, IsUnbound, IsReachedTerm}
 use Rattle.bind_store.proofs.Apart.{free-composed}
 use Rattle.engine_core.specs.Branches.{AreSolved, one_fails, one_solves}
-use Rattle.engine_core.specs.Trying.{HaveHeads, key_of, first_key, cell_key, AreAlternatives}
+use Rattle.engine_core.specs.Trying.{key_of, first_key, cell_key, AreAlternatives}
 
 -- terms of other keys clash
 other_key : (t u : Term) (r : ℕ → Term) → has_key (key_of t) u ≡ false → rule t (apply r u) ≡ Clash

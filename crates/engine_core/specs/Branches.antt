@@ -1,5 +1,5 @@
 -- The branches that the ways of a goal to hold become, beside a store of bindings.
-use Rattle.std.specs.Prelude.{◌≡◌, ℕ, ◌+◌, ◌≤◌, List, [], ◌∷◌, ◌++◌, map, Option, Some, None}
+use Rattle.std.specs.Prelude.{◌≡◌, ℕ, ◌+◌, ◌≤◌, List, [], ◌∷◌, ◌++◌, map, Some, None}
 use Rattle.au_term.specs.Term.{Term, var_bound}
 use Rattle.au_model.specs.Each.{Each}
 use Rattle.au_model.specs.Substitutions.{resolve}

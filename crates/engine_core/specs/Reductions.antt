@@ -1,10 +1,10 @@
 -- What one item comes to, beside a store of bindings: the table of outcomes, with its terms as they stand unresolved.
-use Rattle.std.specs.Prelude.{◌≡◌, ℕ, ◌≤◌, List, [], ◌∷◌, Option, Some, None, Result, Ok, Err}
+use Rattle.std.specs.Prelude.{◌≡◌, ◌≤◌, List, [], ◌∷◌}
 use Rattle.au_term.specs.Term.{Term, var_bound}
 use Rattle.au_model.specs.Substitutions.{resolve}
 use Rattle.au_model.specs.Bodies.{goals_of}
 use Rattle.au_model.specs.Clauses.{Clause as ClauseTerms}
-use Rattle.au_model.specs.Outcomes.{Outcome, Replies, Solutions, Ball, HaltNumber, Controls, GoesOnWith, EitherOf, TestOf, CutToScope, CatchOf, FindallOf, AskWorld}
+use Rattle.au_model.specs.Outcomes.{Outcome, Replies, Solutions, Ball, Controls, GoesOnWith, EitherOf, TestOf, CutToScope, CatchOf, FindallOf, AskWorld}
 use Rattle.au_model.specs.Goals.{outcome_of}
 use Rattle.clause_compile.specs.declared.item.Scope.{Scope}
 use Rattle.clause_compile.specs.declared.item.Item.{Item}

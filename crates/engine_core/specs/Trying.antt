@@ -6,7 +6,7 @@ use Rattle.au_term.specs.declared.cell.Cell.{Cell}
 use Rattle.au_term.specs.declared.cell.Cell.TheVariants.{Var as VarCell, Int as IntCell, Atom as AtomCell, Functor as FunctorCell}
 use Rattle.au_term.specs.declared.segment.Binding.{Binding as SharedBinding}
 use Rattle.au_model.specs.Each.{Each}
-use Rattle.au_model.specs.Forms.{is_callable, name_of}
+use Rattle.au_model.specs.Forms.{name_of}
 use Rattle.au_model.specs.Substitutions.{resolve}
 use Rattle.au_model.specs.Unifier.{unifier}
 use Rattle.au_model.specs.Clauses.{Clause as ClauseTerms, is_defined}
@@ -19,10 +19,6 @@ use Rattle.proc_index.specs.declared.key.Key.TheVariants.{Any, Int, Atom, Functo
 use Rattle.bind_store.specs.Bindings.{composed, AreApart, IsBindingBelow}
 use Rattle.bind_store.specs.Stored.{Stored, substitution, pairs_of}
 use Rattle.engine_core.specs.Branches.{Solves, AreSolved}
-
--- the heads are atoms and compounds
-abbrev pub HaveHeads : List ClauseTerms → Type 0
-HaveHeads clauses = Each (λ c. is_callable c.head ≡ true) clauses
 
 -- the key of a term: a variable may be anything
 abbrev pub key_of : Term → Key

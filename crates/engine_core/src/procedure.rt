@@ -8,7 +8,7 @@ ghost use Rattle.au_model.specs.Outcomes.{alternatives_of};
 ghost use Rattle.clause_compile.specs.declared.item.Scope.{Scope};
 ghost use Rattle.bind_store.specs.Stored.{substitution};
 ghost use Rattle.engine_core.specs.Branches.{AreSolved, IsItemBelow};
-ghost use Rattle.engine_core.specs.Trying.{AreAlternatives, HaveHeads, equation_solution};
+ghost use Rattle.engine_core.specs.Trying.{AreAlternatives, equation_solution};
 
 use crate::attempt;
 use crate::key::first_key;
@@ -34,7 +34,6 @@ pub(crate) fn clauses_tried(
     requires arity { argument_count goal.now ≡ arity }
     requires goal { var_bound goal.now ≤ store.old.next }
     requires rest { Each (IsItemBelow store.old.next) rest.now }
-    requires heads { HaveHeads procs.now }
     ensures tried { IfOk result (AreAlternatives procs.now here rest.now store.old goal.now) }
     ensures store { store.new ≡ store.old }
 {

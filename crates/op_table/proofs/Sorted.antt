@@ -19,17 +19,17 @@ kind_in PrefixClass = KindFy
 kind_in InfixClass = KindXfx
 kind_in PostfixClass = KindXf
 
-row_at : OperatorClass → List ℕ → OperatorRow
+pub row_at : OperatorClass → List ℕ → OperatorRow
 row_at class name = record { name = name; operator = record { priority = 1; kind = kind_in class } }
 
-at_place : (class : OperatorClass) (name : List ℕ) (r : OperatorRow) → place_order class name r ≡ row_order r (row_at class name)
+pub at_place : (class : OperatorClass) (name : List ℕ) (r : OperatorRow) → place_order class name r ≡ row_order r (row_at class name)
 unfolding kind_in row_at
 at_place PrefixClass name r = refl
 at_place InfixClass name r = refl
 at_place PostfixClass name r = refl
 
 -- the place of a row is told by its name and class
-is_row-place : (class : OperatorClass) (name : List ℕ) (r : OperatorRow) → is_row class name r ≡ is_eq (place_order class name r)
+pub is_row-place : (class : OperatorClass) (name : List ℕ) (r : OperatorRow) → is_row class name r ≡ is_eq (place_order class name r)
 is_row-place class name r = both_tied _ _ (slice_cmp nat_cmp r.name name) (nat_cmp (row_rank r) (class_rank class)) (texts_ties r.name name) (unsigned_ties (row_rank r) (class_rank class))
 
 other_place : (class : OperatorClass) (name : List ℕ) (r : OperatorRow) (o : Ordering) → place_order class name r ≡ o → is_row class name r ≡ is_eq o

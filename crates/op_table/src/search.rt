@@ -2,6 +2,7 @@
 ghost use Rattle.std.specs.Prelude.{◌≡◌, chars, map, option_map};
 ghost use Rattle.au_model.specs.Operators.{operator_of, IsOperatorTable};
 ghost use Rattle.op_table.specs.Meant.{class_meant, operator_meant, place_order, row_meant};
+ghost use Rattle.op_table.specs.Putting.{IsSlot};
 
 use crate::operator::{OpClass, OpRow, Operator};
 use std::cmp::Ordering;
@@ -30,4 +31,26 @@ pub(crate) fn find(rows: &[OpRow], name: &str, class: OpClass) -> Option<Operato
         }
     }
     None
+}
+
+/// Where a row belongs in a table: in the place of one of its name and class, or in front of what stands there.
+#[derive(Clone, Copy)]
+pub(crate) enum Slot {
+    Taken(usize),
+    Free(usize),
+}
+
+/// Where a row belongs among those of a table.
+pub(crate) fn slot_of(rows: &[OpRow], row: &OpRow) -> Slot
+    ensures { IsSlot (map row_meant rows.now) (row_meant row.now) result }
+{
+    let (name, class) = (row.name.text(), row.operator.kind.class());
+    for (at, other) in rows.iter().enumerate() {
+        match compare(other, name, class) {
+            Ordering::Less => {}
+            Ordering::Equal => return Slot::Taken(at),
+            Ordering::Greater => return Slot::Free(at),
+        }
+    }
+    Slot::Free(rows.len())
 }

@@ -1,11 +1,14 @@
 //! The operator table (ISO/IEC 13211-1, 6.3.4).
-ghost use Rattle.std.specs.Prelude.{◌≡◌, IfOk, chars, map, option_map};
-ghost use Rattle.au_model.specs.Operators.{prefix_of, infix_of, postfix_of, initial_operators, IsOperatorTable};
-ghost use Rattle.op_table.specs.Meant.{operator_meant, row_meant};
+ghost use Rattle.std.specs.Prelude.{◌≡◌, true, IfOk, OnOk, OnErr, chars, map, nat_eq, option_map};
+ghost use Rattle.std.specs.Str.{IsAscii};
+ghost use Rattle.std.specs.Cmp.Lexicographic.{pointwise};
+ghost use Rattle.au_model.specs.Operators.{class_of, prefix_of, infix_of, postfix_of, initial_operators, with_operator, IsOperatorTable};
+ghost use Rattle.op_table.specs.Meant.{kind_meant, operator_meant, row_meant};
 ghost use Rattle.op_table.specs.Entries.{entry_meant};
+ghost use Rattle.op_table.specs.Putting.{is_kept_name, may_be_put, other_joint};
 
 use crate::operator::{OpClass, OpKind, OpRow, Operator};
-use crate::search::find;
+use crate::search::{Slot, find, slot_of};
 use au_term::{Atom, NoMemory};
 use std::alloc::Global;
 use std::marker::Model;
@@ -82,6 +85,37 @@ fn copied(alloc: Global, rows: &[OpRow]) -> Result<Vec<OpRow>, NoMemory>
     Ok(copy)
 }
 
+/// Whether a name is one that no table changes.
+fn is_kept_name(name: &str) -> bool
+    ensures { result ≡ is_kept_name (chars name.now) }
+{
+    let (comma, list, curly) = (
+        is_named(name, ","),
+        is_named(name, "[]"),
+        is_named(name, "{}"),
+    );
+    comma || list || curly
+}
+
+/// Whether a name is this text.
+fn is_named(name: &str, text: &str) -> bool
+    requires { IsAscii text.now }
+    ensures { result ≡ pointwise nat_eq (chars name.now) text.now }
+{
+    name == text
+}
+
+fn put_row(rows: &mut Vec<OpRow>, row: OpRow) -> Result<(), NoMemory>
+    ensures ok { OnOk result (map row_meant rows.new.items ≡ with_operator (map row_meant rows.old.items) (row_meant row)) }
+    ensures err { OnErr result (rows.new.items ≡ rows.old.items) }
+{
+    match slot_of(rows, &row) {
+        Slot::Taken(at) => rows[at] = row,
+        Slot::Free(at) => rows.insert(at, row)?,
+    }
+    Ok(())
+}
+
 /// An operator table: for each name at most one prefix, one infix and one postfix operator.
 #[derive(Drop)]
 pub struct Ops {
@@ -132,6 +166,40 @@ impl Ops {
         ensures table { IsOperatorTable self.now }
     {
         find(&self.rows, name, OpClass::Postfix)
+    }
+
+    /// Whether an operator may be put into the table (8.14.3.3): its priority is from 1 to 1200, it is no comma, `[]` or
+    /// `{}`, and no name is both infix and postfix.
+    pub fn may_put(&self, row: &OpRow) -> bool
+        ensures { result ≡ may_be_put self.now (row_meant row.now) }
+    {
+        let Operator { priority, kind } = row.operator;
+        let name = row.name.text();
+        0 < priority
+            && priority <= 1200
+            && !is_kept_name(name)
+            && self.other_joint(name, kind).is_none()
+    }
+
+    /// The operator with which one of this kind may not share a name.
+    fn other_joint(&self, name: &str, kind: OpKind) -> Option<Operator>
+        ensures { option_map operator_meant result ≡ other_joint self.now (class_of (kind_meant kind)) (chars name.now) }
+    {
+        match kind.class() {
+            OpClass::Prefix => None,
+            OpClass::Infix => self.postfix(name),
+            OpClass::Postfix => self.infix(name),
+        }
+    }
+
+    /// Puts an operator in the place of the one that its name has in its class (8.14.3).
+    pub fn put(&mut self, row: OpRow) -> Result<(), NoMemory>
+        requires { may_be_put self.old (row_meant row) ≡ true }
+        ensures ok { OnOk result (self.new ≡ with_operator self.old (row_meant row)) }
+        ensures err { OnErr result (self.new ≡ self.old) }
+    {
+        put_row(&mut self.rows, row)?;
+        Ok(())
     }
 
     /// The rows, by name, then prefix, infix, postfix.

@@ -1,6 +1,7 @@
 //! The standard's operators (ISO/IEC 13211-1, 6.3.4.4).
 
-use crate::{OpKind, Operator, Ops};
+use crate::{OpKind, OpRow, Operator, Ops};
+use au_term::Atom;
 use std::process::Abort;
 use std::test::Fail;
 
@@ -94,6 +95,58 @@ fn rows_in_order(rt: HostRuntime) -> Result<(), Fail> {
         assert!(rt; before < name || before == name && is_prefix, "{name}");
         before = name;
         is_prefix = matches!(row.operator.kind, OpKind::Fy | OpKind::Fx);
+    }
+    Ok(())
+}
+
+/// Operators of which each may be put into the table that those before it leave: of new names between the others, in
+/// front of them and behind them, of a name that has an operator of another class, and in place of another.
+static PUT: [(&str, u16, OpKind); 6] = [
+    ("===>", 700, OpKind::Xfx),
+    ("~", 200, OpKind::Fy),
+    ("!", 100, OpKind::Yf),
+    ("is", 300, OpKind::Fx),
+    ("is", 699, OpKind::Xfy),
+    ("~", 1, OpKind::Fx),
+];
+
+#[test]
+fn operators_put(rt: HostRuntime) -> Result<(), Fail> {
+    let mut ops = Ops::initial(rt.alloc())?;
+    for (name, priority, kind) in PUT {
+        let name = Atom::new(rt.alloc(), name)?;
+        let operator = Operator { priority, kind };
+        let row = OpRow { name, operator };
+        assert!(rt; ops.may_put(&row));
+        ops.put(row)?;
+    }
+    assert_eq!(rt; priority(ops.infix("is")), Some(699));
+    assert_eq!(rt; priority(ops.prefix("is")), Some(300));
+    assert_eq!(rt; priority(ops.prefix("~")), Some(1));
+    assert_eq!(rt; priority(ops.postfix("!")), Some(100));
+    assert_eq!(rt; priority(ops.infix("===>")), Some(700));
+    assert_eq!(rt; priority(ops.infix("=")), Some(700));
+    assert_eq!(rt; ops.rows()?.len(), 43);
+    Ok(())
+}
+
+/// Operators that may not be put into the table that a text begins with.
+static KEPT: [(&str, u16, OpKind); 6] = [
+    ("~", 0, OpKind::Fy),
+    ("~", 1201, OpKind::Fy),
+    (",", 1000, OpKind::Xfy),
+    ("[]", 200, OpKind::Xf),
+    ("{}", 200, OpKind::Fy),
+    ("is", 200, OpKind::Xf),
+];
+
+#[test]
+fn operators_kept(rt: HostRuntime) -> Result<(), Fail> {
+    let ops = Ops::initial(rt.alloc())?;
+    for (name, priority, kind) in KEPT {
+        let name = Atom::new(rt.alloc(), name)?;
+        let operator = Operator { priority, kind };
+        assert!(rt; !ops.may_put(&OpRow { name, operator }));
     }
     Ok(())
 }

@@ -1,5 +1,5 @@
 -- Procedures, and the map that finds them.
-use Rattle.std.specs.Prelude.{◌≡◌, ℕ, ◌==◌, cond, List, [], ◌∷◌, ◌++◌, Option, Some, None, map, filter}
+use Rattle.std.specs.Prelude.{◌≡◌, ℕ, ◌==◌, true, cond, List, [], ◌∷◌, ◌++◌, Option, Some, None, map, filter}
 use Rattle.std.specs.Arc.{arc_value}
 use Rattle.std.specs.BTreeMap.{BTreeMap, get}
 use Rattle.std.specs.Cmp.Lexicographic.{slice_cmp}
@@ -8,6 +8,8 @@ use Rattle.std.specs.Global.{Global}
 use Rattle.std.specs.Prelude.{Vec}
 use Rattle.std.specs.declared.sync.Arc.{Arc}
 use Rattle.au_term.specs.declared.atom.Atom.{Atom}
+use Rattle.au_model.specs.Each.{Each}
+use Rattle.au_model.specs.Forms.{is_callable}
 use Rattle.au_model.specs.Clauses.{Clause as ClauseTerms, is_clause_of, is_defined}
 use Rattle.clause_compile.specs.declared.clause.Clause.{Clause}
 use Rattle.proc_index.specs.declared.key.Key.{Key}
@@ -46,3 +48,11 @@ IsAdded index now c = (name : List ℕ) (arity : ℕ) → held now name arity �
 
 abbrev pub IsAddedTo : Arities → Arities → ℕ → ClauseTerms → Type 0
 IsAddedTo arities now own c = (arity : ℕ) → found (get nat_cmp now arity) ≡ found (get nat_cmp arities arity) ++ cond (own == arity) (c ∷ []) []
+
+-- each clause has a head that names a procedure
+abbrev pub HaveHeads : List ClauseTerms → Type 0
+HaveHeads clauses = Each (λ c. is_callable c.head ≡ true) clauses
+
+pub record IsKeptIn (index : BTreeMap Atom Arities) (clauses : List ClauseTerms) : Type 0 where
+  pub indexed : IsIndexed index clauses
+  pub heads : HaveHeads clauses

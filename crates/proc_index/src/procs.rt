@@ -4,7 +4,7 @@ ghost use Rattle.std.specs.Arc.{arc_value};
 ghost use Rattle.std.specs.Iterator.{YieldsFirstBy, item_count};
 ghost use Rattle.au_term.specs.Term.{argument_count};
 ghost use Rattle.au_model.specs.Forms.{is_callable, name_of};
-ghost use Rattle.proc_index.specs.Procedures.{IsAdded, IsAddedTo, candidates_of, procedure_of};
+ghost use Rattle.proc_index.specs.Procedures.{HaveHeads, IsAdded, IsAddedTo, candidates_of, procedure_of};
 
 use crate::key::Key;
 use au_term::{Atom, Cell, FlatTerm, NoMemory};
@@ -35,11 +35,11 @@ impl Model for Procs {
 
     ghost coded = { Prim.hlevel (codes, term_code) };
 
-    ghost use Rattle.proc_index.specs.Procedures.{IsIndexed};
+    ghost use Rattle.proc_index.specs.Procedures.{IsKeptIn};
 
     ghost view = { λ p. map arc_value p.clauses.items };
 
-    ghost invariant = { λ p. IsIndexed p.index (map arc_value p.clauses.items) };
+    ghost invariant = { λ p. IsKeptIn p.index (map arc_value p.clauses.items) };
 }
 
 impl Procs {
@@ -62,7 +62,8 @@ impl Procs {
         arity: u32,
         first: &'a Key,
     ) -> Option<Candidates<'a>>
-        ensures { result ≡ candidates_of self.now name.now arity first.now }
+        ensures candidates { result ≡ candidates_of self.now name.now arity first.now }
+        ensures heads { HaveHeads self.now }
     {
         let clauses = self.clauses_of(name, arity);
         if clauses.is_empty() {
@@ -73,7 +74,8 @@ impl Procs {
 
     /// The clauses of a procedure, none where it has none.
     fn clauses_of(&self, name: &Atom, arity: u32) -> &[Arc<Clause>]
-        ensures { map arc_value result.now ≡ procedure_of self.now name.now arity }
+        ensures clauses { map arc_value result.now ≡ procedure_of self.now name.now arity }
+        ensures heads { HaveHeads self.now }
     {
         match self.index.get(name) {
             Some(arities) => match arities.get(&arity) {
@@ -91,7 +93,8 @@ fn add(
     index: &mut BTreeMap<Atom, Arities>,
     clause: &Arc<Clause>,
 ) -> Result<(), NoMemory>
-    ensures { OnOk result (IsAdded index.old index.new (arc_value clause.now)) }
+    ensures added { OnOk result (IsAdded index.old index.new (arc_value clause.now)) }
+    ensures head { is_callable (arc_value clause.now).head ≡ true }
 {
     let (name, arity) = indicator(clause.head())?;
     let mut arities = index.remove(&name).unwrap_or(BTreeMap::new(alloc));

@@ -4,8 +4,8 @@ use Rattle.au_model.specs.Forms.{name_of}
 use Rattle.proc_index.proofs.Adding.{added, taken_out, head_is}
 use Rattle.proc_index.proofs.procs.add.Goals as goal
 
-pub returns : goal.returns
-returns c =
+pub returns-clause-added : goal.returns-clause-added
+returns-clause-added c =
     let head = c.head.ensures.head ∙ head_is _ _ c.deref.ensures in
     added c.args.index.now c.remove.new.self c.insert.new.self c.in_ok-name.name c.in_ok-name.arity _ c.remove.result c.unwrap_or-arities.result c.add_to.new.arities
     (c.in_ok-name.ensures.name ∙ ap name_of head) (c.in_ok-name.ensures.arity ∙ ap argument_count head)

@@ -5,12 +5,12 @@ use Rattle.std.proofs.lemmas.Bool.{eqb-true}
 use Rattle.proc_index.proofs.Adding.{no_candidates, some_candidates, positive}
 use Rattle.proc_index.proofs.procs.Procs.candidates.Goals as goal
 
-pub returns-then-is_empty : goal.returns-then-is_empty
-returns-then-is_empty c =
+pub returns-then-is_empty-clause-candidates : goal.returns-then-is_empty-clause-candidates
+returns-then-is_empty-clause-candidates c =
     let own = c.clauses_of-clauses.result.now in
-    no_candidates c.args.self.now c.args.name.now c.args.arity c.args.first.now (map arc_value own) c.clauses_of-clauses.ensures (length-map own arc_value ∙ eqb-true (length own) 0 (sym c.is_empty.ensures ∙ c.if-is_empty.true))
+    no_candidates c.args.self.now c.args.name.now c.args.arity c.args.first.now (map arc_value own) c.clauses_of-clauses.ensures.clauses (length-map own arc_value ∙ eqb-true (length own) 0 (sym c.is_empty.ensures ∙ c.if-is_empty.true))
 
-pub returns : goal.returns
-returns c =
+pub returns-clause-candidates : goal.returns-clause-candidates
+returns-clause-candidates c =
     let own = c.clauses_of-clauses.result.now in
-    some_candidates c.args.self.now c.args.name.now c.args.arity c.args.first.now (map arc_value own) c.clauses_of-clauses.ensures (positive (length (map arc_value own)) (length own) (length-map own arc_value) (sym c.is_empty.ensures ∙ c.if-is_empty.false))
+    some_candidates c.args.self.now c.args.name.now c.args.arity c.args.first.now (map arc_value own) c.clauses_of-clauses.ensures.clauses (positive (length (map arc_value own)) (length own) (length-map own arc_value) (sym c.is_empty.ensures ∙ c.if-is_empty.false))
