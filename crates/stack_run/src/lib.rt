@@ -1,23 +1,6 @@
-//! The sequential machine on one plain stack: each entry keeps its own copy of what is left to do, with every
-//! binding applied.
+//! The sequential machine: one path of the search at a time, with a stack of what is still to be done.
 #![tactic(auto)]
 
-mod bindings;
-mod clauses;
-mod entry;
-pub mod job;
-mod numbering;
-mod plain;
-mod procedures;
-mod reserved;
-mod resolved;
-mod run;
-mod step;
-mod terms;
-#[cfg(test)]
-mod tests;
-mod unify;
+mod frame;
+mod stack;
 
-pub use job::{PlainClause, PlainJob, PlainQuery};
-pub use plain::is_plain;
-pub use run::run_job;
