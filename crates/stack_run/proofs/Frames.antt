@@ -1,9 +1,7 @@
 -- Frames over a store, and over the store as it goes on.
-use Rattle.std.proofs.Common.{◌≡◌, ℕ, zero, suc, length-append, ◌+◌, ◌-◌, ◌<◌, ◌≤◌, List, [], ◌∷◌, ◌++◌, length, map, take, drop, take-append-drop, reverse, refl, sym, ap, ◌∙◌, subst, append-nil, append_assoc, arith}
+use Rattle.std.proofs.Common.{◌≡◌, ℕ, zero, suc, length-append, ◌≤◌, List, [], ◌∷◌, ◌++◌, length, map, take, drop, take-append-drop, reverse, refl, sym, ap, ◌∙◌, subst, append-nil, append_assoc, arith}
 use Rattle.std.proofs.lemmas.List.{take-append-le, take_all, length-take-le, map-append}
-use Rattle.au_model.specs.Each.{Each}
 use Rattle.au_model.specs.Lines.{NamedTerm}
-use Rattle.bind_store.specs.Bindings.{Binding}
 use Rattle.bind_store.specs.Stored.{Stored, IsSound, mark_of, Continues, IsMarked}
 use Rattle.bind_store.specs.declared.store.Mark.{Mark}
 use Rattle.stack_run.specs.Views.{stored_at, choice_view, frames_view}

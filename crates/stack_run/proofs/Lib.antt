@@ -1,2 +1,6 @@
+pub mod Lists
+pub mod Copies
+pub mod Building
 pub mod Frames
 pub mod Settling
+pub mod Resuming

@@ -1,6 +1,6 @@
 -- What the machine keeps of its stack.
-use Rattle.std.specs.Prelude.{◌≡◌, ℕ, ◌≤◌, List, [], ◌∷◌, length, reverse, Option, Some, None}
-use Rattle.au_term.specs.Term.{Term, var_bound}
+use Rattle.std.specs.Prelude.{◌≡◌, ◌≤◌, List, [], ◌∷◌, length, reverse, Option, Some, None}
+use Rattle.au_term.specs.Term.{var_bound}
 use Rattle.au_model.specs.Each.{Each}
 use Rattle.au_model.specs.Numbering.{AreBelow}
 use Rattle.au_model.specs.Substitutions.{resolve}
@@ -40,3 +40,5 @@ pub record IsFit (s : Stack) : Type 0 where
   pub sound : IsSound s.store
   pub current : IsCurrentFit s.store s.current
   pub frames : AreFit s.store (reverse s.frames.items)
+  -- nothing stands on a query's end that is not there
+  pub ended : s.end ≡ None → (s.current ≡ None) × (s.frames.items ≡ [])

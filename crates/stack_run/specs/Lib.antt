@@ -1,3 +1,4 @@
 pub mod Views
 pub mod Fitting
 pub mod Stacking
+pub mod Settling

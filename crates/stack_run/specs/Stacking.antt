@@ -1,5 +1,5 @@
 -- Choice points pushed and popped.
-use Rattle.std.specs.Prelude.{◌≡◌, ℕ, suc, List, [], ◌∷◌, length, reverse, Option, Some, None}
+use Rattle.std.specs.Prelude.{◌≡◌, suc, List, [], ◌∷◌, length, reverse, Option, Some, None}
 use Rattle.au_model.specs.Lines.{NamedTerm}
 use Rattle.clause_compile.specs.declared.event.Branch.{Branch as BranchTerms}
 use Rattle.bind_store.specs.Stored.{Stored, IsSound}
@@ -7,7 +7,7 @@ use Rattle.bind_store.specs.declared.store.Mark.{Mark}
 use Rattle.stack_run.specs.Views.{choice_view, frames_view}
 use Rattle.stack_run.specs.Fitting.{IsChoiceFit, AreFit}
 use Rattle.stack_run.specs.declared.frame.Choice.{Choice}
-use Rattle.stack_run.specs.declared.frame.Choice.TheVariants.{Branch, Catch, Findall}
+use Rattle.stack_run.specs.declared.frame.Choice.TheVariants.{Branch}
 use Rattle.stack_run.specs.declared.frame.Frame.{Frame}
 
 abbrev pub branch_frame : Mark → BranchTerms → Frame

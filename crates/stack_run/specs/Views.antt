@@ -1,6 +1,5 @@
 -- What the machine's values stand for.
 use Rattle.std.specs.Prelude.{ℕ, suc, List, [], ◌∷◌, ◌++◌, map, take, reverse, Option, Some, None}
-use Rattle.au_term.specs.Term.{Term}
 use Rattle.au_model.specs.Substitutions.{Substitution, resolve}
 use Rattle.au_model.specs.Lines.{NamedTerm}
 use Rattle.au_model.specs.Items.{Item as ItemTerms, GoalItem, CatchMark, CollectMark, RemovalItem, Continuation, with_next, resolve_named}

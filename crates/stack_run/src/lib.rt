@@ -2,5 +2,7 @@
 #![tactic(auto)]
 
 mod frame;
+mod list;
+mod settle;
 mod stack;
 

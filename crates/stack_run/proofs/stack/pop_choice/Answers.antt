@@ -1,7 +1,4 @@
-use Rattle.std.proofs.Common.{ap, ◌∙◌, sym, subst}
-use Rattle.bind_store.specs.Stored.{IsMarked}
 use Rattle.stack_run.specs.Views.{stored_at}
-use Rattle.stack_run.specs.Stacking.{IsTaken}
 use Rattle.stack_run.proofs.Frames.{top_under, taken_top, marked, mark_is, since_mark}
 use Rattle.stack_run.proofs.stack.pop_choice.Goals as goal
 
