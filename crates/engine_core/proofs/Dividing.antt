@@ -1,11 +1,11 @@
 -- Bodies taken apart into goals.
-use Rattle.std.proofs.Common.{◌≡◌, ℕ, zero, suc, ◌+◌, ◌<◌, ◌≤◌, Bool, true, false, ◌&&◌, ◌==◌, cond, List, [], ◌∷◌, ◌++◌, map, refl, sym, ap, ◌∙◌, subst, arith, append_assoc, append-nil}
+use Rattle.std.proofs.Common.{◌≡◌, ℕ, suc, ◌+◌, ◌<◌, ◌≤◌, true, false, ◌&&◌, ◌==◌, cond, List, [], ◌∷◌, ◌++◌, map, refl, sym, ap, ◌∙◌, subst, arith, append_assoc, append-nil}
 use Rattle.std.specs.Prelude.{codes}
 use Rattle.std.proofs.lemmas.Bool.Decides.{nat_tests}
-use Rattle.au_term.specs.Term.{Term, VarTerm, IntTerm, AtomTerm, Compound, Terms, end, more, count, var_bound, argument, argument_count}
+use Rattle.au_term.specs.Term.{Term, VarTerm, IntTerm, AtomTerm, Compound, end, more, count, var_bound, argument, argument_count}
 use Rattle.au_term.specs.Prefix.{top_of}
 use Rattle.au_model.specs.Each.{Each}
-use Rattle.au_model.specs.Substitutions.{Substitution, apply, value_of, resolve}
+use Rattle.au_model.specs.Substitutions.{Substitution, resolve}
 use Rattle.au_model.specs.Bodies.{goals_of}
 use Rattle.au_model.specs.Forms.{same_name, binary}
 use Rattle.au_model.specs.Unifier.{size}
@@ -15,7 +15,6 @@ use Rattle.clause_compile.specs.Compiling.{goal_items}
 use Rattle.clause_compile.specs.declared.item.Scope.{Scope}
 use Rattle.clause_compile.specs.declared.item.Item.{Item}
 use Rattle.clause_compile.specs.declared.item.Item.TheVariants.{Goal}
-use Rattle.bind_store.specs.Bindings.{composed}
 use Rattle.bind_store.specs.Stored.{Stored, IsUnbound, IsReachedTerm, substitution}
 use Rattle.bind_store.proofs.Apart.{free-composed}
 use Rattle.engine_core.specs.Branches.{IsItemBelow, Stands}

@@ -1,5 +1,5 @@
 -- Branches that make no bindings go on.
-use Rattle.std.proofs.Common.{◌≡◌, ℕ, ◌+◌, ◌≤◌, List, [], ◌∷◌, ◌++◌, map, refl, sym, ap, ◌∙◌, subst, append-nil, arith}
+use Rattle.std.proofs.Common.{◌≡◌, ℕ, ◌+◌, ◌≤◌, List, [], ◌∷◌, ◌++◌, refl, sym, ap, ◌∙◌, subst, append-nil, arith}
 use Rattle.au_term.specs.Term.{Term, var_bound}
 use Rattle.au_model.specs.Each.{Each}
 use Rattle.au_model.specs.Substitutions.{resolve}
@@ -8,7 +8,7 @@ use Rattle.clause_compile.specs.declared.item.Item.{Item}
 use Rattle.clause_compile.specs.declared.item.Item.TheVariants.{Goal}
 use Rattle.clause_compile.specs.declared.event.Branch.{Branch}
 use Rattle.bind_store.specs.Bindings.{AreApart, IsBindingBelow}
-use Rattle.bind_store.specs.Stored.{Stored, IsSound, pairs_of, substitution}
+use Rattle.bind_store.specs.Stored.{Stored, pairs_of, substitution}
 use Rattle.engine_core.specs.Branches.{IsItemBelow, Stands, GoesOn, made_by}
 use Rattle.engine_core.specs.Onward.{MakesNone}
 

@@ -6,3 +6,6 @@ pub mod Raising
 pub mod Clashing
 pub mod Solving
 pub mod Listing
+pub mod Calls
+pub mod Coming
+pub mod Naming

@@ -1,18 +1,15 @@
 -- Rows found by name and number of arguments.
-use Rattle.std.proofs.Common.{◌≡◌, ℕ, ◌+◌, ◌<◌, ◌≤◌, Bool, true, false, ◌||◌, ◌&&◌, ◌==◌, cond, List, [], ◌∷◌, ◌++◌, length, drop, get_or, is_some, Option, Some, None, refl, sym, ap, ◌∙◌, subst}
+use Rattle.std.proofs.Common.{◌≡◌, ℕ, Bool, true, false, ◌||◌, ◌&&◌, ◌==◌, cond, List, [], ◌∷◌, ◌++◌, is_some, Option, Some, refl, sym, ap, ◌∙◌, subst}
 use Rattle.std.specs.Prelude.{find, MatchOption}
-use Rattle.std.specs.Option.{option_map}
 use Rattle.std.specs.List.{list_any}
 use Rattle.std.specs.Cmp.Lexicographic.{same_text}
 use Rattle.std.proofs.lemmas.Bool.{eqb-true}
-use Rattle.std.proofs.lemmas.List.{drop_more, drop_all}
 use Rattle.std.proofs.lemmas.List.Folds.{list_any-append}
 use Rattle.au_model.specs.Each.{Each}
 use Rattle.au_model.specs.Forms.{same_name}
 use Rattle.au_model.specs.Builtins.{builtins}
 use Rattle.au_model.specs.Control.{is_named, control_constructs}
 use Rattle.au_model.specs.Goals.{has_row}
-use Rattle.au_model.proofs.Tables.{IfFound, found_row}
 use Rattle.engine_core.specs.Constructs.{IsConstruct, Row, construct_in, is_row}
 use Rattle.engine_core.specs.declared.construct.Construct.{Construct}
 

@@ -1,15 +1,13 @@
 -- Unresolved terms that stand for resolved ones.
-use Rattle.std.proofs.Common.{◌≡◌, ℕ, zero, suc, ◌+◌, ◌<◌, ◌≤◌, Bool, true, false, ◌&&◌, ◌==◌, cond, List, [], ◌∷◌, ◌++◌, refl, sym, ap, ◌∙◌, subst, arith}
-use Rattle.std.specs.Prelude.{codes}
-use Rattle.au_term.specs.Term.{Term, VarTerm, IntTerm, AtomTerm, Compound, Terms, end, more, count, var_bound, all_bound, arguments, argument, argument_count, term_at}
-use Rattle.au_term.specs.Prefix.{top_of}
+use Rattle.std.proofs.Common.{◌≡◌, ℕ, zero, suc, ◌<◌, ◌≤◌, true, false, refl, sym, ap, ◌∙◌, arith}
+use Rattle.au_term.specs.Term.{Term, VarTerm, IntTerm, AtomTerm, Compound, Terms, end, more, count, var_bound, all_bound, argument, argument_count, term_at}
 use Rattle.au_model.specs.Substitutions.{apply, apply_all, value_of, resolve}
-use Rattle.au_model.specs.Bodies.{goals_of, call_of}
-use Rattle.au_model.specs.Forms.{same_name, name_of, is_callable, binary}
+use Rattle.au_model.specs.Bodies.{goals_of}
+use Rattle.au_model.specs.Forms.{name_of, is_callable}
 use Rattle.au_model.proofs.Rules.{count-apply_all}
-use Rattle.clause_compile.specs.Cells.{opens_conjunction}
-use Rattle.bind_store.specs.Stored.{Stored, IsUnbound, substitution}
+use Rattle.bind_store.specs.Stored.{Stored, IsUnbound, IsReachedTerm, substitution}
 use Rattle.bind_store.proofs.Apart.{free-composed}
+use Rattle.engine_core.specs.Arguments.{resolved_argument}
 use Rattle.engine_core.specs.Reductions.{StandsFor, HasGoals}
 
 -- arguments
@@ -70,3 +68,7 @@ itself_resolved st (VarTerm x) u h = free-composed st.made x u
 itself_resolved st (IntTerm z) u h = refl
 itself_resolved st (AtomTerm a) u h = absurd cc
 itself_resolved st (Compound f ts) u h = absurd cc
+
+-- a first argument, reached
+pub left_argument : (st : Stored) (t left first : Term) → 0 < argument_count t → IsReachedTerm st first left → first ≡ argument 0 t → resolve (substitution st) left ≡ resolved_argument 0 st t
+left_argument st t left first some r e = r.same ∙ (ap (resolve (substitution st)) e ∙ sym (argument_resolved (value_of (substitution st)) t 0 some))

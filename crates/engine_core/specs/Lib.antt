@@ -5,3 +5,5 @@ pub mod TakingApart
 pub mod Onward
 pub mod Arguments
 pub mod Trying
+pub mod Calling
+pub mod Reducing

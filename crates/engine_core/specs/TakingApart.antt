@@ -12,7 +12,6 @@ use Rattle.clause_compile.specs.Compiling.{goal_items}
 use Rattle.clause_compile.specs.declared.item.Scope.{Scope}
 use Rattle.clause_compile.specs.declared.item.Item.{Item}
 use Rattle.bind_store.specs.Stored.{Stored, substitution}
-use Rattle.engine_core.specs.Branches.{IsItemBelow}
 
 -- the goals of what bodies stand for, one after another
 abbrev pub goals_of_bodies : Substitution → List Term → List Term

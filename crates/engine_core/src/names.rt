@@ -1,11 +1,12 @@
 //! Cells told by name.
-ghost use Rattle.std.specs.Prelude.{◌≡◌};
+ghost use Rattle.std.specs.Prelude.{◌≡◌, true, IfOk};
 ghost use Rattle.std.specs.Str.{IsAscii};
-ghost use Rattle.au_model.specs.Forms.{same_name};
+ghost use Rattle.au_model.specs.Forms.{is_callable, name_of, same_name};
 ghost use Rattle.clause_compile.specs.Cells.{opens_junction, opens_conjunction};
+ghost use Rattle.engine_core.specs.Calling.{is_variable_cell, is_integer_cell};
 ghost use Rattle.engine_core.specs.TakingApart.{opens_condition};
 
-use au_term::{Atom, Cell};
+use au_term::{Atom, Cell, NoMemory, Shared};
 
 /// Whether a name is this text.
 pub(crate) fn is_named(name: &Atom, text: &str) -> bool
@@ -44,5 +45,36 @@ pub(crate) fn is_junction(cell: &Cell) -> bool
             *arity == 2 && (is_named(name, ",") || is_named(name, ";") || is_named(name, "->"))
         }
         _ => false,
+    }
+}
+
+/// Whether a cell is a variable.
+pub(crate) fn is_variable(cell: &Cell) -> bool
+    ensures { result ≡ is_variable_cell cell.now }
+{
+    match cell {
+        Cell::Var(_) => true,
+        _ => false,
+    }
+}
+
+/// Whether a cell is an integer.
+pub(crate) fn is_integer(cell: &Cell) -> bool
+    ensures { result ≡ is_integer_cell cell.now }
+{
+    match cell {
+        Cell::Int(_) => true,
+        _ => false,
+    }
+}
+
+/// The name of an atom or compound.
+pub(crate) fn name_of(term: &Shared) -> Result<Atom, NoMemory>
+    requires { is_callable term.now ≡ true }
+    ensures { IfOk result (λ name. name ≡ name_of term.now) }
+{
+    match term.top()? {
+        Cell::Atom(name) | Cell::Functor(name, _) => Ok(name),
+        _ => unreachable!(),
     }
 }

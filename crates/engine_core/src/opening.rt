@@ -53,6 +53,20 @@ pub(crate) fn then(alloc: Global, goal: &Shared, store: &Store) -> Result<Openin
     Ok(Opening::Condition { test, yes, no })
 }
 
+/// A condition with an else: a goal's first argument, reached, and the goal's second.
+pub(crate) fn condition(left: &Shared, goal: &Shared, store: &Store) -> Result<Opening, NoMemory>
+    requires arguments { argument_count left.now ≡ 2 }
+    requires left { var_bound left.now ≤ store.now.next }
+    requires goal_arguments { argument_count goal.now ≡ 2 }
+    requires goal { var_bound goal.now ≤ store.now.next }
+    ensures { IfOk result (IsCondition store.now (goals_of (resolved_argument 0 store.now left.now)) (goals_of (resolved_argument 1 store.now left.now)) (goals_of (resolved_argument 1 store.now goal.now))) }
+{
+    let test = argument(left, 0, store)?;
+    let yes = argument(left, 1, store)?;
+    let no = argument(goal, 1, store)?;
+    Ok(Opening::Condition { test, yes, no })
+}
+
 /// A goal that fails where the call of its argument holds.
 pub(crate) fn not(alloc: Global, goal: &Shared, store: &Store) -> Result<Opening, NoMemory>
     requires arguments { argument_count goal.now ≡ 1 }

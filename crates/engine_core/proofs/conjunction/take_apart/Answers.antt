@@ -1,4 +1,4 @@
-use Rattle.std.proofs.Common.{◌≡◌, ◌∙◌, sym, ap}
+use Rattle.std.proofs.Common.{◌∙◌, sym, ap}
 use Rattle.clause_compile.specs.Cells.{opens_conjunction}
 use Rattle.engine_core.proofs.Dividing.{goal_found, sides_found}
 use Rattle.engine_core.proofs.conjunction.take_apart.Goals as goal

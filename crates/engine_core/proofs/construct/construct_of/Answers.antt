@@ -1,12 +1,7 @@
-use Rattle.std.proofs.Common.{◌≡◌, ◌∷◌, [], ◌∙◌, ◌&&◌, ◌==◌, ◌++◌, inl, inr, refl, ap, sym, arith, ℕ, List}
-use Rattle.std.specs.Prelude.{find, codes}
-use Rattle.std.specs.List.{list_any}
-use Rattle.std.specs.Option.{option_map}
+use Rattle.std.proofs.Common.{◌∷◌, [], inl, inr, refl, sym, arith, List}
+use Rattle.std.specs.Prelude.{codes}
 use Rattle.std.specs.Str.{chars}
-use Rattle.au_model.specs.Builtins.{builtins}
-use Rattle.au_model.specs.Control.{is_named, control_constructs}
-use Rattle.engine_core.specs.Constructs.{Row, is_row}
-use Rattle.engine_core.specs.declared.construct.Construct.{Construct}
+use Rattle.engine_core.specs.Constructs.{Row}
 use Rattle.engine_core.specs.declared.construct.Construct.TheVariants.{Succeed, Fail, Cut, Either, Then, Not, Once, Throw, Catch, Findall, Call, Unify}
 use Rattle.engine_core.proofs.Rows.{has_row-any, found_construct}
 use Rattle.engine_core.proofs.construct.construct_of.Goals as goal

@@ -1,0 +1,61 @@
+//! Goals made of a term and further arguments.
+ghost use Rattle.std.specs.Prelude.{◌≡◌, ◌≤◌, ◌<◌, ◌+◌, ◌++◌, true, IfOk, OnOk, drop, length};
+ghost use Rattle.au_term.specs.Term.{Compound, arguments, argument_count, drop_terms};
+ghost use Rattle.au_model.specs.Control.{with_arguments};
+ghost use Rattle.au_model.specs.Forms.{is_callable, name_of};
+ghost use Rattle.au_model.specs.Lists.{terms_from};
+ghost use Rattle.engine_core.specs.Arguments.{listed};
+
+use crate::names::name_of;
+use au_term::{Atom, Cell, NoMemory, Shared, TermBuilder};
+use std::alloc::Global;
+
+/// What is called: a term with all arguments of a goal but the first added to its own.
+pub(crate) fn with_arguments(
+    alloc: Global,
+    callee: &Shared,
+    goal: &Shared,
+) -> Result<Shared, NoMemory>
+    requires callable { is_callable callee.now ≡ true }
+    requires some { 0 < argument_count goal.now }
+    requires most { argument_count callee.now + argument_count goal.now ≤ 65536 }
+    ensures { IfOk result (λ called. called ≡ with_arguments callee.now (drop_terms 1 (arguments goal.now))) }
+{
+    if goal.arity() == 1 {
+        let same = callee.share()?;
+        return Ok(same);
+    }
+    let mut arguments = Vec::new(alloc);
+    push_arguments(callee, 0, &mut arguments)?;
+    push_arguments(goal, 1, &mut arguments)?;
+    let called = compound(alloc, name_of(callee)?, &arguments)?;
+    Ok(called)
+}
+
+/// Puts the arguments of a term from this one on behind others.
+fn push_arguments(term: &Shared, from: u32, all: &mut Vec<Shared>) -> Result<(), NoMemory>
+    requires { from ≤ argument_count term.now }
+    ensures { OnOk result (all.new.items ≡ all.old.items ++ drop from (listed (arguments term.now))) }
+{
+    for i in from..term.arity() {
+        all.push(term.argument(i)?)?;
+    }
+    Ok(())
+}
+
+/// A compound of this name with these arguments.
+fn compound(alloc: Global, name: Atom, arguments: &[Shared]) -> Result<Shared, NoMemory>
+    requires some { 0 < length arguments.now }
+    requires most { length arguments.now ≤ 65535 }
+    ensures { IfOk result (λ t. t ≡ Compound name (terms_from arguments.now)) }
+{
+    let mut builder = TermBuilder::new(alloc);
+    builder.push(Cell::Functor(name, arguments.len() as u32))?;
+    for argument in arguments {
+        let term = argument.to_term(alloc)?;
+        builder.push_all(term.cells())?;
+    }
+    let term = builder.finish();
+    let shared = Shared::from_term(alloc, term)?;
+    Ok(shared)
+}

@@ -1,0 +1,114 @@
+//! Calls (ISO/IEC 13211-1, 7.8.3, and 8.15.4 of its second corrigendum).
+ghost use Rattle.std.specs.Prelude.{◌≡◌, ◌≤◌, ◌<◌, true, IfOk, MatchOption};
+ghost use Rattle.au_term.specs.Term.{var_bound, arguments, argument_count, drop_terms};
+ghost use Rattle.au_model.specs.Each.{Each};
+ghost use Rattle.au_model.specs.Bodies.{called_goals};
+ghost use Rattle.au_model.specs.Control.{call_outcome, called};
+ghost use Rattle.au_model.specs.Forms.{is_callable};
+ghost use Rattle.au_model.specs.Substitutions.{resolve};
+ghost use Rattle.bind_store.specs.Stored.{substitution};
+ghost use Rattle.engine_core.specs.Arguments.{resolved_argument};
+ghost use Rattle.engine_core.specs.Branches.{IsItemBelow};
+ghost use Rattle.engine_core.specs.Calling.{IsUncallable};
+ghost use Rattle.engine_core.specs.Reductions.{IsOutcome};
+
+use crate::added::with_arguments;
+use crate::continuation::Continuation;
+use crate::faults::{arity_ball, unbound_ball, uncallable_ball};
+use crate::names::{is_integer, is_junction, is_variable};
+use crate::onward::{alone, goal_branch, onward};
+use crate::reduction::Reduction;
+use au_term::{FlatTerm, NoMemory, Shared};
+use bind_store::Store;
+use clause_compile::{ClauseRefusal, body_goals};
+use std::alloc::Global;
+
+/// The ball of calling a variable or an integer, with so many arguments in all; none for an atom or a compound.
+pub(crate) fn calling_ball(
+    alloc: Global,
+    callee: &Shared,
+    arity: u32,
+) -> Result<Option<FlatTerm>, NoMemory>
+    ensures { IfOk result (λ ball. MatchOption ball (is_callable callee.now ≡ true) (IsUncallable callee.now arity)) }
+{
+    let top = callee.top()?;
+    if is_variable(&top) {
+        let ball = unbound_ball(alloc, "call", arity)?;
+        return Ok(Some(ball));
+    }
+    if is_integer(&top) {
+        let ball = uncallable_ball(alloc, callee, arity)?;
+        return Ok(Some(ball));
+    }
+    Ok(None)
+}
+
+/// What a goal of `call` comes to.
+pub(crate) fn call(
+    alloc: Global,
+    goal: &Shared,
+    place: &Continuation<'_>,
+    store: &Store,
+) -> Result<Reduction, NoMemory>
+    requires some { 0 < argument_count goal.now }
+    requires below { var_bound goal.now ≤ store.now.next }
+    requires rest { Each (IsItemBelow store.now.next) place.now.rest.now }
+    ensures { IfOk result (IsOutcome place.now.cut place.now.here place.now.rest.now store.now
+        (call_outcome (argument_count goal.now) (resolved_argument 0 store.now goal.now) (drop_terms 1 (arguments (resolve (substitution store.now) goal.now))))) }
+{
+    let callee = store.reached(&goal.argument(0)?)?;
+    let arity = goal.arity();
+    if let Some(ball) = calling_ball(alloc, &callee, arity)? {
+        return Ok(Reduction::Raise(ball));
+    }
+    if u64::from(callee.arity()) + u64::from(arity) > 65_536 {
+        let ball = arity_ball(alloc, arity)?;
+        return Ok(Reduction::Raise(ball));
+    }
+    let called = with_arguments(alloc, &callee, goal)?;
+    called_goal(alloc, &called, arity, place, store)
+}
+
+/// What an atom or a compound that is called comes to, in a call with so many arguments.
+fn called_goal(
+    alloc: Global,
+    goal: &Shared,
+    arity: u32,
+    place: &Continuation<'_>,
+    store: &Store,
+) -> Result<Reduction, NoMemory>
+    requires callable { is_callable goal.now ≡ true }
+    requires below { var_bound goal.now ≤ store.now.next }
+    requires rest { Each (IsItemBelow store.now.next) place.now.rest.now }
+    ensures { IfOk result (IsOutcome place.now.cut place.now.here place.now.rest.now store.now
+        (called arity (resolve (substitution store.now) goal.now) (called_goals (resolve (substitution store.now) goal.now)))) }
+{
+    if is_junction(&goal.top()?) {
+        return called_body(alloc, goal, arity, place, store);
+    }
+    let branch = goal_branch(alloc, goal, place.here, place.rest, store)?;
+    Ok(alone(alloc, branch)?)
+}
+
+/// What a junction that is called comes to: it has to be a body as a whole.
+fn called_body(
+    alloc: Global,
+    goal: &Shared,
+    arity: u32,
+    place: &Continuation<'_>,
+    store: &Store,
+) -> Result<Reduction, NoMemory>
+    requires below { var_bound goal.now ≤ store.now.next }
+    requires rest { Each (IsItemBelow store.now.next) place.now.rest.now }
+    ensures { IfOk result (IsOutcome place.now.cut place.now.here place.now.rest.now store.now
+        (called arity (resolve (substitution store.now) goal.now) (called_goals (resolve (substitution store.now) goal.now)))) }
+{
+    // The proof reads off that the bindings are apart.
+    let _next = store.next();
+    let body = Shared::from_term(alloc, store.resolve(goal)?)?;
+    match body_goals(alloc, &body, place.here, place.rest) {
+        Ok(goals) => alone(alloc, onward(alloc, goals, store)),
+        Err(ClauseRefusal::NoMemory) => Err(NoMemory),
+        Err(_) => Ok(Reduction::Raise(uncallable_ball(alloc, &body, arity)?)),
+    }
+}

@@ -1,0 +1,116 @@
+//! What the goals of constructs come to (ISO/IEC 13211-1, 7.8, 8.2.1, 8.10.1 and 8.15).
+ghost use Rattle.std.specs.Prelude.{◌≡◌, ◌≤◌, ◌<◌, ◌∷◌, [], true, IfOk};
+ghost use Rattle.au_term.specs.Term.{var_bound, argument_count};
+ghost use Rattle.au_model.specs.Each.{Each};
+ghost use Rattle.au_model.specs.Control.{either_form, throw_outcome};
+ghost use Rattle.au_model.specs.Forms.{is_callable, name_of};
+ghost use Rattle.au_model.specs.Outcomes.{Controls, Replies, Solutions};
+ghost use Rattle.engine_core.specs.Arguments.{resolved_argument};
+ghost use Rattle.engine_core.specs.Branches.{IsItemBelow};
+ghost use Rattle.engine_core.specs.Constructs.{IsConstruct};
+ghost use Rattle.engine_core.specs.Reductions.{IsOutcome};
+ghost use Rattle.engine_core.specs.Reducing.{ComesTo, Raises};
+ghost use Rattle.engine_core.specs.Trying.{equation_solution};
+
+use crate::call::call;
+use crate::construct::Construct;
+use crate::continuation::Continuation;
+use crate::faults::unbound_ball;
+use crate::names::{is_condition, is_variable};
+use crate::onward::{alone, body_branch, rest_branch};
+use crate::opening::{argument, catch, condition, findall, not, once, then};
+use crate::procedure::equation_tried;
+use crate::reduction::Reduction;
+use au_term::{NoMemory, Shared};
+use bind_store::Store;
+use std::alloc::Global;
+
+/// What a construct's goal comes to.
+pub(crate) fn construct_outcome(
+    alloc: Global,
+    construct: Construct,
+    goal: &Shared,
+    place: &Continuation<'_>,
+    store: &mut Store,
+) -> Result<Reduction, NoMemory>
+    requires construct { IsConstruct construct (name_of goal.now) (argument_count goal.now) }
+    requires callable { is_callable goal.now ≡ true }
+    requires below { var_bound goal.now ≤ store.old.next }
+    requires rest { Each (IsItemBelow store.old.next) place.now.rest.now }
+    ensures outcome { IfOk result (ComesTo place.now.cut place.now.here place.now.rest.now store.old goal.now) }
+    ensures store { store.new ≡ store.old }
+{
+    match construct {
+        Construct::Succeed => alone(alloc, rest_branch(alloc, place.rest, store)?),
+        Construct::Fail => Ok(Reduction::Alternatives(Vec::new(alloc))),
+        Construct::Cut => Ok(Reduction::Prune(place.cut)),
+        Construct::Either => either(alloc, goal, place, store),
+        Construct::Then => Ok(Reduction::Open(then(alloc, goal, store)?)),
+        Construct::Not => Ok(Reduction::Open(not(alloc, goal, store)?)),
+        Construct::Once => Ok(Reduction::Open(once(alloc, goal, store)?)),
+        Construct::Throw => throw(alloc, goal, store),
+        Construct::Catch => Ok(Reduction::Open(catch(goal, store)?)),
+        Construct::Findall => Ok(Reduction::Open(findall(goal, store)?)),
+        Construct::Call => call(alloc, goal, place, store),
+        Construct::Unify => unify(alloc, goal, place, store),
+    }
+}
+
+/// What a disjunction comes to, or a condition with an else.
+fn either(
+    alloc: Global,
+    goal: &Shared,
+    place: &Continuation<'_>,
+    store: &Store,
+) -> Result<Reduction, NoMemory>
+    requires arguments { argument_count goal.now ≡ 2 }
+    requires below { var_bound goal.now ≤ store.now.next }
+    requires rest { Each (IsItemBelow store.now.next) place.now.rest.now }
+    ensures { IfOk result (IsOutcome place.now.cut place.now.here place.now.rest.now store.now
+        (Controls (either_form (resolved_argument 0 store.now goal.now) (resolved_argument 1 store.now goal.now)))) }
+{
+    let left = store.reached(&goal.argument(0)?)?;
+    if is_condition(&left.top()?) {
+        let opening = condition(&left, goal, store)?;
+        return Ok(Reduction::Open(opening));
+    }
+    let right = argument(goal, 1, store)?;
+    let mut branches = Vec::new(alloc);
+    branches.push(body_branch(alloc, &left, place.cut, place.rest, store)?)?;
+    branches.push(body_branch(alloc, &right, place.cut, place.rest, store)?)?;
+    Ok(Reduction::Alternatives(branches))
+}
+
+/// What a goal of `throw` comes to.
+fn throw(alloc: Global, goal: &Shared, store: &Store) -> Result<Reduction, NoMemory>
+    requires { 0 < argument_count goal.now }
+    ensures { IfOk result (Raises (throw_outcome (resolved_argument 0 store.now goal.now))) }
+{
+    let ball = store.reached(&goal.argument(0)?)?;
+    if is_variable(&ball.top()?) {
+        let error = unbound_ball(alloc, "throw", 1)?;
+        return Ok(Reduction::Raise(error));
+    }
+    let ball = store.resolve(&ball)?;
+    Ok(Reduction::Raise(ball))
+}
+
+/// What a goal of `=` comes to.
+fn unify(
+    alloc: Global,
+    goal: &Shared,
+    place: &Continuation<'_>,
+    store: &mut Store,
+) -> Result<Reduction, NoMemory>
+    requires arguments { argument_count goal.now ≡ 2 }
+    requires below { var_bound goal.now ≤ store.old.next }
+    requires rest { Each (IsItemBelow store.old.next) place.now.rest.now }
+    ensures outcome { IfOk result (IsOutcome place.now.cut place.now.here place.now.rest.now store.old
+        (Replies (Solutions (equation_solution (resolved_argument 0 store.old goal.now) (resolved_argument 1 store.old goal.now) ∷ [])))) }
+    ensures store { store.new ≡ store.old }
+{
+    let left = argument(goal, 0, store)?;
+    let right = argument(goal, 1, store)?;
+    let branches = equation_tried(alloc, &left, &right, place.rest, store)?;
+    Ok(Reduction::Alternatives(branches))
+}
