@@ -4,3 +4,5 @@ pub mod Building
 pub mod Frames
 pub mod Settling
 pub mod Resuming
+pub mod Branching
+pub mod Landing

@@ -2,3 +2,4 @@ pub mod Views
 pub mod Fitting
 pub mod Stacking
 pub mod Settling
+pub mod Inferring

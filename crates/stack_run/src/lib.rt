@@ -2,7 +2,10 @@
 #![tactic(auto)]
 
 mod frame;
+mod infer;
+mod land;
 mod list;
+mod open;
 mod settle;
 mod stack;
 
