@@ -6,3 +6,6 @@ pub mod Settling
 pub mod Resuming
 pub mod Branching
 pub mod Landing
+pub mod Naming
+pub mod Inferring
+pub mod Reduced

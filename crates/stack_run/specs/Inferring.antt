@@ -19,6 +19,8 @@ use Rattle.clause_compile.specs.declared.item.Item.{Item}
 use Rattle.clause_compile.specs.declared.item.Item.TheVariants.{Goal, CatchEnd, Collect, Remove, End}
 use Rattle.clause_compile.specs.declared.item.Scope.{Scope}
 use Rattle.clause_compile.specs.declared.item.Scope.TheVariants.{Local}
+use Rattle.clause_compile.specs.declared.event.Effect.{Effect}
+use Rattle.clause_compile.specs.declared.event.Effect.TheVariants as effect
 use Rattle.clause_compile.specs.declared.event.Opening.{Opening}
 use Rattle.clause_compile.specs.declared.event.Opening.TheVariants as opening
 use Rattle.clause_compile.specs.declared.event.Branch.{Branch as BranchTerms}
@@ -121,3 +123,8 @@ abbrev pub opened_form : Stored → Opening → ControlForm
 opened_form st (opening.Condition c t e) = TestOf (goals_of (resolve (substitution st) c)) (goals_of (resolve (substitution st) t)) (goals_of (resolve (substitution st) e))
 opened_form st (opening.Catch g c r) = CatchOf (resolve (substitution st) g) (resolve (substitution st) c) (resolve (substitution st) r)
 opened_form st (opening.Findall t g l) = FindallOf (resolve (substitution st) t) (resolve (substitution st) g) (resolve (substitution st) l)
+
+-- what takes the place of an effect: the call of a procedure that is not there raises its error, others fail
+abbrev pub gate_entries : Effect → Continuation ℕ → List Entry → List Entry
+gate_entries (effect.Call goal) f es = after_reply (dynamic_call None goal f.next) f es
+gate_entries e f es = es

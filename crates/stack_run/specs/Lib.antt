@@ -3,3 +3,5 @@ pub mod Fitting
 pub mod Stacking
 pub mod Settling
 pub mod Inferring
+pub mod Machines
+pub mod Stepping

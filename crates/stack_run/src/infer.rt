@@ -17,10 +17,11 @@ ghost use Rattle.bind_store.specs.Stored.{substitution};
 ghost use Rattle.engine_core.specs.Branches.{IsItemBelow};
 ghost use Rattle.stack_run.specs.Views.{items_view, item_view, scope_height};
 ghost use Rattle.stack_run.specs.Fitting.{IsChoiceFit};
-ghost use Rattle.stack_run.specs.Inferring.{IsAtWork, Leaves, IsNoMark, branch_entry, cut_of, following, item_entries, under};
+ghost use Rattle.stack_run.specs.Inferring.{IsAtWork, Leaves, IsNoMark, branch_entry, cut_of, following, gate_entries, item_entries, under};
 
 use crate::frame::{Choice, Stack};
 use crate::land::land;
+use crate::list::ascii_atom;
 use crate::open::open;
 use crate::settle::place_of;
 use crate::stack::push_branches;
@@ -51,8 +52,24 @@ pub(crate) fn infer(
         Reduction::Raise(ball) => land(alloc, &ball, rest, stack),
         Reduction::Prune(scope) => prune(scope, rest, stack),
         Reduction::Open(opening) => open(alloc, opening, cut_of(item), rest, stack),
-        Reduction::Gate(Effect::Call(goal)) => raise_unknown(alloc, &goal, rest, stack),
-        Reduction::Gate(_) | Reduction::Collect(_) => Ok(()),
+        Reduction::Gate(effect) => pass_gate(alloc, &effect, rest, stack),
+        Reduction::Collect(_) => Ok(()),
+    }
+}
+
+/// Takes a goal of a procedure that is not static; no clause is there to be removed.
+fn pass_gate(
+    alloc: Global,
+    effect: &Effect,
+    rest: &Goals,
+    stack: &mut Stack,
+) -> Result<(), NoMemory>
+    requires { IsAtWork stack.old }
+    ensures { OnOk result (Leaves (λ own. gate_entries effect.now (following stack.old rest.now own) (under stack.old own)) stack.new) }
+{
+    match effect {
+        Effect::Call(goal) => raise_unknown(alloc, goal, rest, stack),
+        _ => Ok(()),
     }
 }
 
@@ -110,6 +127,6 @@ fn name_of(alloc: Global, goal: &FlatTerm) -> Result<Atom, NoMemory>
 {
     match goal.top() {
         Cell::Atom(name) | Cell::Functor(name, _) => name.share(),
-        _ => Atom::new(alloc, ""),
+        _ => ascii_atom(alloc, ""),
     }
 }

@@ -8,4 +8,5 @@ mod list;
 mod open;
 mod settle;
 mod stack;
+mod step;
 

@@ -44,7 +44,7 @@ fn list_of(alloc: Global, items: &[FlatTerm]) -> Result<FlatTerm, NoMemory>
 }
 
 /// The name of these characters.
-fn ascii_atom(alloc: Global, name: &str) -> Result<Atom, NoMemory>
+pub(crate) fn ascii_atom(alloc: Global, name: &str) -> Result<Atom, NoMemory>
     requires { IsAscii name.now }
     ensures { IfOk result (λ a. a ≡ name.now) }
 {

@@ -16,7 +16,7 @@ use crate::frame::{Catch, Choice, Findall, Stack};
 use crate::list::call_of;
 use crate::stack::push_choice;
 use au_model::build::atom;
-use au_term::{Bindings, NoMemory, Segment, Shared};
+use au_term::{Bindings, NoMemory, Segment, Shared, VarNo};
 use clause_compile::{Branch, Goals, Item, Opening, Scope};
 use engine_core::goals_before;
 use std::alloc::Global;
@@ -111,14 +111,22 @@ fn catch(
     let place = stack.frames.len() as u64;
     let end = rest.push(alloc, Item::CatchEnd(Scope::Local(place)))?;
     let guarded = call_before(alloc, goal, Scope::Local(place + 1), &end)?;
-    let choice = Choice::Catch(Catch {
-        catcher,
-        recovery,
-        rest: rest.share()?,
-    });
+    let choice = catch_choice(catcher, recovery, rest)?;
     push_choice(&mut stack.frames, choice, &stack.store)?;
     stack.current = Some(guarded);
     Ok(())
+}
+
+/// The choice point of a catch.
+fn catch_choice(catcher: Shared, recovery: Shared, rest: &Goals) -> Result<Choice, NoMemory>
+    ensures { IfOk result (λ choice. choice ≡ Choice.Catch (record { catcher = catcher; recovery = recovery; rest = rest.now })) }
+{
+    let rest = rest.share()?;
+    Ok(Choice::Catch(Catch {
+        catcher,
+        recovery,
+        rest,
+    }))
 }
 
 /// Runs through the solutions of a goal for a findall.
@@ -141,15 +149,28 @@ fn findall(
     let scope = Scope::Local(place);
     let end = rest.push(alloc, Item::Collect { template, scope })?;
     let guarded = call_before(alloc, goal, Scope::Local(place + 1), &end)?;
-    let choice = Choice::Findall(Findall {
-        results: Vec::new(alloc),
-        next: stack.store.next(),
-        list,
-        rest: rest.share()?,
-    });
+    let choice = findall_choice(alloc, stack.store.next(), list, rest)?;
     push_choice(&mut stack.frames, choice, &stack.store)?;
     stack.current = Some(guarded);
     Ok(())
+}
+
+/// The choice point of a findall goal without results yet.
+fn findall_choice(
+    alloc: Global,
+    next: VarNo,
+    list: Shared,
+    rest: &Goals,
+) -> Result<Choice, NoMemory>
+    ensures { IfOk result (λ choice. (f : Findall) × (choice ≡ Choice.Findall f) × (f.results.items ≡ []) × (f.next ≡ next) × (f.list ≡ list) × (f.rest ≡ rest.now)) }
+{
+    let rest = rest.share()?;
+    Ok(Choice::Findall(Findall {
+        results: Vec::new(alloc),
+        next,
+        list,
+        rest,
+    }))
 }
 
 /// The call of a goal before other items.
