@@ -9,3 +9,5 @@ pub mod Landing
 pub mod Naming
 pub mod Inferring
 pub mod Reduced
+pub mod Stepping
+pub mod Running

@@ -22,12 +22,13 @@ use Rattle.clause_compile.specs.declared.event.Effect.TheVariants as effect
 use Rattle.clause_compile.specs.declared.event.Opening.{Opening}
 use Rattle.clause_compile.specs.declared.event.Opening.TheVariants as opening
 use Rattle.bind_store.specs.Stored.{Stored, IsSound, substitution}
-use Rattle.engine_core.specs.Branches.{IsItemBelow, GoesOn}
+use Rattle.engine_core.specs.Branches.{IsItemBelow}
 use Rattle.engine_core.specs.Reductions.{IsReduced, IsOutcome, IsOnly, AreTwo, IsRemoval}
+use Rattle.engine_core.specs.declared.reduction.Reduction.{Reduction}
 use Rattle.engine_core.specs.declared.reduction.Reduction.TheVariants as reduction
 use Rattle.stack_run.specs.Views.{item_view, items_view, continuation_view, entries_under, scope_height}
 use Rattle.stack_run.specs.Fitting.{IsChoiceFit}
-use Rattle.stack_run.specs.Inferring.{IsAtWork, HasEnd, Leaves, IsNoMark, IsOpeningBelow, branch_entry, cut_of, following, gate_entries, item_entries, opened_form, outcome_entries, under}
+use Rattle.stack_run.specs.Inferring.{IsAtWork, HasEnd, IsUnhalted, IsNoHalt, Leaves, IsNoMark, IsOpeningBelow, branch_entry, cut_of, following, gate_entries, item_entries, opened_form, outcome_entries, under}
 use Rattle.stack_run.specs.declared.frame.Choice.TheVariants.{Branch}
 use Rattle.stack_run.specs.declared.frame.Stack.{Stack}
 use Rattle.stack_run.proofs.Branching.{solved_entries, solved_fit, onward_entry, takes_fit, length-under}
@@ -333,3 +334,23 @@ pub gate_left : (clauses : List Clause) (item : Item) (here : Scope) (rest : Lis
 gate_left clauses item here rest old new store g e h l =
     leaves_same (λ own. gate_entries g (following old rest own) (under old own)) _ new (λ own. gate_item clauses own item here rest old.store g (under old own) h)
     (subst (λ st. Leaves (λ own. gate_entries g (continuation_view own st rest) (entries_under own st old.frames.items old.end)) new) e l)
+
+-- what is reduced does not end the run
+outcome_goes : (cut here : Scope) (rest : List Item) (st : Stored) (o : Outcome) (r : Reduction) → IsOutcome cut here rest st o r → IsNoHalt o
+outcome_goes cut here rest st (Replies (Solutions ss)) r h = tt
+outcome_goes cut here rest st (Replies (Ball b)) r h = tt
+outcome_goes cut here rest st (Controls form) r h = tt
+outcome_goes cut here rest st (AskWorld goal) r h = tt
+outcome_goes cut here rest st (Replies (HaltNumber k)) (reduction.Alternatives bs) h = absurd h
+outcome_goes cut here rest st (Replies (HaltNumber k)) (reduction.Raise t) h = absurd h
+outcome_goes cut here rest st (Replies (HaltNumber k)) (reduction.Prune s) h = absurd h
+outcome_goes cut here rest st (Replies (HaltNumber k)) (reduction.Open o) h = absurd h
+outcome_goes cut here rest st (Replies (HaltNumber k)) (reduction.Collect t) h = absurd h
+outcome_goes cut here rest st (Replies (HaltNumber k)) (reduction.Gate e) h = absurd h
+
+pub goes_on : (clauses : List Clause) (here : Scope) (rest : List Item) (st : Stored) (item : Item) (r : Reduction) → IsReduced clauses here rest st item r → IsUnhalted clauses st item
+goes_on clauses here rest st (Goal t cut) r h = outcome_goes cut here rest st (outcome_of clauses (resolve (substitution st) t) st.next) r h
+goes_on clauses here rest st (CatchEnd scope) r h = tt
+goes_on clauses here rest st (Collect t scope) r h = tt
+goes_on clauses here rest st (Remove id) r h = tt
+goes_on clauses here rest st (End ball) r h = tt

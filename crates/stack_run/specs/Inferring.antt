@@ -7,7 +7,7 @@ use Rattle.au_model.specs.Lines.{NamedTerm}
 use Rattle.au_model.specs.Clauses.{Clause}
 use Rattle.au_model.specs.Copies.{copied}
 use Rattle.au_model.specs.Goals.{outcome_of}
-use Rattle.au_model.specs.Outcomes.{Outcome, Replies, Controls, AskWorld, ControlForm, TestOf, CatchOf, FindallOf}
+use Rattle.au_model.specs.Outcomes.{Outcome, Replies, Solutions, Ball, HaltNumber, Controls, AskWorld, ControlForm, TestOf, CatchOf, FindallOf}
 use Rattle.au_model.specs.Substitutions.{resolve}
 use Rattle.au_model.specs.Unifier.{unifier}
 use Rattle.au_model.specs.Worlds.{dynamic_call}
@@ -128,3 +128,18 @@ opened_form st (opening.Findall t g l) = FindallOf (resolve (substitution st) t)
 abbrev pub gate_entries : Effect → Continuation ℕ → List Entry → List Entry
 gate_entries (effect.Call goal) f es = after_reply (dynamic_call None goal f.next) f es
 gate_entries e f es = es
+
+-- a goal that does not end the run
+abbrev pub IsNoHalt : Outcome → Type 0
+IsNoHalt (Replies (Solutions ss)) = Unit {0}
+IsNoHalt (Replies (Ball b)) = Unit {0}
+IsNoHalt (Replies (HaltNumber k)) = ⊥
+IsNoHalt (Controls form) = Unit {0}
+IsNoHalt (AskWorld goal) = Unit {0}
+
+abbrev pub IsUnhalted : List Clause → Stored → Item → Type 0
+IsUnhalted clauses st (Goal t cut) = IsNoHalt (outcome_of clauses (resolve (substitution st) t) st.next)
+IsUnhalted clauses st (CatchEnd scope) = Unit {0}
+IsUnhalted clauses st (Collect t scope) = Unit {0}
+IsUnhalted clauses st (Remove id) = Unit {0}
+IsUnhalted clauses st (End ball) = Unit {0}

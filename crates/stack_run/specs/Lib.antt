@@ -5,3 +5,4 @@ pub mod Settling
 pub mod Inferring
 pub mod Machines
 pub mod Stepping
+pub mod Ends

@@ -17,7 +17,7 @@ ghost use Rattle.bind_store.specs.Stored.{substitution};
 ghost use Rattle.engine_core.specs.Branches.{IsItemBelow};
 ghost use Rattle.stack_run.specs.Views.{items_view, item_view, scope_height};
 ghost use Rattle.stack_run.specs.Fitting.{IsChoiceFit};
-ghost use Rattle.stack_run.specs.Inferring.{IsAtWork, Leaves, IsNoMark, branch_entry, cut_of, following, gate_entries, item_entries, under};
+ghost use Rattle.stack_run.specs.Inferring.{IsAtWork, IsUnhalted, Leaves, IsNoMark, branch_entry, cut_of, following, gate_entries, item_entries, under};
 
 use crate::frame::{Choice, Stack};
 use crate::land::land;
@@ -44,7 +44,8 @@ pub(crate) fn infer(
     requires item { IsItemBelow stack.old.store.next item.now }
     requires rest { Each (IsItemBelow stack.old.store.next) rest.now }
     requires goal { IsNoMark item.now }
-    ensures { OnOk result (Leaves (λ own. item_entries procs.now (item_view (substitution stack.old.store) item.now) (following stack.old rest.now own) (under stack.old own)) stack.new) }
+    ensures leaves { OnOk result (Leaves (λ own. item_entries procs.now (item_view (substitution stack.old.store) item.now) (following stack.old rest.now own) (under stack.old own)) stack.new) }
+    ensures halts { OnOk result (IsUnhalted procs.now stack.old.store item.now) }
 {
     let here = Scope::Local(stack.frames.len() as u64);
     match reduce(alloc, item, rest, here, &mut stack.store, procs)? {

@@ -6,7 +6,9 @@ mod infer;
 mod land;
 mod list;
 mod open;
+mod run;
 mod settle;
 mod stack;
 mod step;
 
+pub use run::run_job;

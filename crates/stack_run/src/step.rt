@@ -96,11 +96,23 @@ pub(crate) fn step(alloc: Global, job: &Job, machine: &mut Machine) -> Result<()
     ensures ready { OnOk result (IsReady machine.new.stack) }
 {
     machine.line.clear();
-    match machine.stack.current.take() {
-        Some(goals) => take_item(alloc, job, &goals, machine)?,
-        None => end_query(alloc, job, machine)?,
-    }
+    inference(alloc, job, machine)?;
     settle(alloc, &mut machine.stack)
+}
+
+/// One inference, without the free steps after it.
+fn inference(alloc: Global, job: &Job, machine: &mut Machine) -> Result<(), NoMemory>
+    requires ready { IsReady machine.old.stack }
+    requires some { HasEnd machine.old.stack }
+    requires line { machine.old.line.items ≡ [] }
+    requires few { machine.old.answers < 2 ^ 64 - 1 }
+    ensures state { OnOk result ((written : List ℕ) (inferences : ℕ) → state_view job.now machine.new (written ++ machine.new.line.items) (inferences + 1) ≡ step (arc_value job.now.procs) (state_view job.now machine.old written inferences)) }
+    ensures fit { OnOk result (IsFit machine.new.stack) }
+{
+    match machine.stack.current.take() {
+        Some(goals) => take_item(alloc, job, &goals, machine),
+        None => end_query(alloc, job, machine),
+    }
 }
 
 /// One inference on an alternative that was taken.

@@ -1,0 +1,17 @@
+use Rattle.std.proofs.Common.{ℕ, List, ◌+◌, ◌++◌, sym, ap, ◌∙◌}
+use Rattle.std.proofs.lemmas.Result.{on_ok_weaker}
+use Rattle.au_model.specs.States.{settled}
+use Rattle.stack_run.specs.Fitting.{IsFit}
+use Rattle.stack_run.specs.Settling.{IsResting}
+use Rattle.stack_run.proofs.Stepping.{settles_so, ready, both_ok}
+use Rattle.stack_run.proofs.step.step.Goals as goal
+
+pub returns-clause-state : goal.returns-clause-state
+returns-clause-state c =
+    let m = c.inference.new.machine in
+    on_ok_weaker c.settle.result (λ h. λ written inferences. settles_so c.args.job.now m.asked m.answers m.stack c.settle.new.stack h (written ++ m.line.items) (inferences + 1) ∙ ap settled (c.in_ok-inference.ensures.state written inferences)) c.settle.ensures.view
+
+pub returns-clause-ready : goal.returns-clause-ready
+returns-clause-ready c =
+    let s = c.inference.new.machine.stack in
+    both_ok c.settle.result (λ h (k : IsFit c.settle.new.stack × IsResting c.settle.new.stack). ready s c.settle.new.stack h k.0 k.1) c.settle.ensures.view (both_ok c.settle.result (λ f r. (f, r)) c.settle.ensures.fit c.settle.ensures.resting)

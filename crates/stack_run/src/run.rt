@@ -1,0 +1,55 @@
+//! Whole runs.
+ghost use Rattle.std.specs.Prelude.{◌≡◌, ◌≤◌};
+ghost use Rattle.au_io.specs.Causes.{Rose};
+ghost use Rattle.stack_run.specs.Ends.{IsRun};
+ghost use Rattle.text_load.specs.Meant.{job_meant};
+
+use crate::step::{opening, step};
+use au_io::Sink;
+use au_model::{RunEnd, RunEnding};
+use std::alloc::Global;
+use text_load::Job;
+
+/// Runs a job for at most `budget` inferences, and writes its lines to `out`. A run that a failed write or want of
+/// memory cuts short has written a front of its text, and its numbers are 0.
+pub fn run_job<K: Sink>(alloc: Global, job: Job, budget: u64, out: &mut K) -> RunEnd
+    ensures run { IsRun (job_meant job) budget (K.taken out.old) (K.taken out.new) result }
+    ensures fault { result.end ≡ RunEnding.WriteFault → Rose (K.faults out.old) (K.faults out.new) }
+    ensures faults_stay { K.faults out.old ≤ K.faults out.new }
+{
+    let Ok(mut machine) = opening(alloc, &job) else {
+        return failed(RunEnding::NoMemory);
+    };
+    for taken in 0..budget {
+        if machine.stack.end.is_none() {
+            return ended(RunEnding::Finished, machine.answers, taken);
+        }
+        let Ok(()) = step(alloc, &job, &mut machine) else {
+            return failed(RunEnding::NoMemory);
+        };
+        match out.write_all(&machine.line) {
+            Ok(()) => {}
+            Err(_) => return failed(RunEnding::WriteFault),
+        }
+    }
+    if machine.stack.end.is_none() {
+        return ended(RunEnding::Finished, machine.answers, budget);
+    }
+    ended(RunEnding::Budget, machine.answers, budget)
+}
+
+fn ended(end: RunEnding, answers: u64, inferences: u64) -> RunEnd
+    ensures { result ≡ record { end = end; answers = answers; inferences = inferences } }
+{
+    RunEnd {
+        end,
+        answers,
+        inferences,
+    }
+}
+
+fn failed(end: RunEnding) -> RunEnd
+    ensures { result ≡ record { end = end; answers = 0; inferences = 0 } }
+{
+    ended(end, 0, 0)
+}
