@@ -1,14 +1,13 @@
 -- Continuations over a store as it goes on.
-use Rattle.std.proofs.Common.{◌≡◌, ℕ, suc, ◌+◌, ◌<◌, ◌≤◌, List, [], ◌∷◌, ◌++◌, length, map, reverse, Option, Some, None, refl, sym, ap, ◌∙◌, subst, append_assoc, append-nil, length-append, arith}
+use Rattle.std.proofs.Common.{◌≡◌, ℕ, suc, ◌+◌, List, [], ◌∷◌, ◌++◌, length, map, reverse, Option, Some, refl, sym, ap, ◌∙◌, subst, append-nil, length-append, arith}
 use Rattle.std.proofs.lemmas.List.{map-append, length-reverse}
 use Rattle.au_term.specs.Term.{Term}
 use Rattle.au_model.specs.Each.{Each}
 use Rattle.au_model.specs.Lines.{NamedTerm}
 use Rattle.au_model.specs.Substitutions.{Substitution, resolve}
-use Rattle.au_model.specs.Unifier.{unifier}
 use Rattle.au_model.specs.Outcomes.{Solution}
-use Rattle.au_model.specs.Items.{Item as ItemTerms, GoalItem, CollectMark, Continuation, resolve_item, resolve_named, resolve_continuation, goals_at, before, with_next}
-use Rattle.au_model.specs.Entries.{Entry, PlainEntry, EndEntry, unified, solution_entry, solution_entries}
+use Rattle.au_model.specs.Items.{GoalItem, CollectMark, resolve_item, resolve_named, resolve_continuation, goals_at, before, with_next}
+use Rattle.au_model.specs.Entries.{PlainEntry, EndEntry, unified, solution_entry, solution_entries}
 use Rattle.au_model.specs.Heights.{goals_entry}
 use Rattle.clause_compile.specs.Compiling.{goal_items}
 use Rattle.clause_compile.specs.declared.item.Scope.{Scope}
@@ -16,11 +15,11 @@ use Rattle.clause_compile.specs.declared.item.Item.{Item}
 use Rattle.clause_compile.specs.declared.item.Item.TheVariants.{Goal, CatchEnd, Collect, Remove, End}
 use Rattle.clause_compile.specs.declared.event.Branch.{Branch as BranchTerms}
 use Rattle.bind_store.specs.Bindings.{Binding, composed, IsBindingBelow}
-use Rattle.bind_store.specs.Stored.{Stored, IsSound, substitution, with_segment, pairs_of, mark_of}
+use Rattle.bind_store.specs.Stored.{Stored, IsSound, substitution, pairs_of, mark_of}
 use Rattle.bind_store.proofs.Holding.{in_turn}
 use Rattle.bind_store.proofs.Storing.{further_below, both_below}
 use Rattle.engine_core.specs.Branches.{IsItemBelow, Stands, Takes, Solves, AreSolved, none_left, one_fails, one_solves, GoesOn, made_by}
-use Rattle.stack_run.specs.Views.{item_view, items_view, continuation_view, choice_view, frames_view, end_view, entries_under, scope_height}
+use Rattle.stack_run.specs.Views.{item_view, items_view, continuation_view, frames_view, end_view, entries_under, scope_height}
 use Rattle.stack_run.specs.Fitting.{IsChoiceFit, AreFit}
 use Rattle.stack_run.specs.Stacking.{branch_frame}
 use Rattle.stack_run.specs.Inferring.{branch_entry}
@@ -77,10 +76,10 @@ solved_entry own here rest st s b h =
     let S = composed more in
     let sum : st.next + b.segment.vars ≡ st.next + s.variables = ap (λ n. st.next + n) h.takes.vars in
     let items : map (item_view (composed (st.made ++ more))) b.goals ≡ map (resolve_item S) (goals_at (scope_height here) s.goals ++ items_view st rest) =
-        stands_view (st.made ++ more) here (map (resolve S) s.goals) rest b.goals h.goals
-        ∙ (ap (λ is. is ++ map (item_view (composed (st.made ++ more))) rest) (goals_resolved S (scope_height here) s.goals)
-        ∙ (ap (λ is. map (resolve_item S) (goals_at (scope_height here) s.goals) ++ is) (items_resolved st.made more rest)
-        ∙ sym (map-append (resolve_item S) (goals_at (scope_height here) s.goals) (items_view st rest)))) in
+    stands_view (st.made ++ more) here (map (resolve S) s.goals) rest b.goals h.goals
+    ∙ (ap (λ is. is ++ map (item_view (composed (st.made ++ more))) rest) (goals_resolved S (scope_height here) s.goals)
+    ∙ (ap (λ is. map (resolve_item S) (goals_at (scope_height here) s.goals) ++ is) (items_resolved st.made more rest)
+    ∙ sym (map-append (resolve_item S) (goals_at (scope_height here) s.goals) (items_view st rest)))) in
     ap (λ is. PlainEntry (record { items = is; named = map (resolve_named (composed (st.made ++ more))) own; next = st.next + b.segment.vars }) ∷ []) items
     ∙ (ap (λ vs. PlainEntry (record { items = map (resolve_item S) (goals_at (scope_height here) s.goals ++ items_view st rest); named = vs; next = st.next + b.segment.vars }) ∷ []) (named_resolved st.made more own)
     ∙ (ap (λ n. PlainEntry (record { items = map (resolve_item S) (goals_at (scope_height here) s.goals ++ items_view st rest); named = map (resolve_named S) (map (resolve_named (substitution st)) own); next = n }) ∷ []) sum

@@ -1,51 +1,39 @@
 -- What inferences leave.
-use Rattle.std.proofs.Common.{◌≡◌, ◌⊎◌, inl, inr, ℕ, zero, suc, ◌+◌, ◌-◌, ◌<◌, ◌≤◌, List, [], ◌∷◌, ◌++◌, length, map, take, drop, take-append-drop, reverse, Option, Some, None, Vec, Global, refl, sym, ap, ◌∙◌, subst, append_assoc, append-nil, length-append, length-drop, arith}
+use Rattle.std.proofs.Common.{◌≡◌, ◌⊎◌, inl, inr, ℕ, zero, suc, ◌+◌, ◌-◌, ◌≤◌, List, [], ◌∷◌, ◌++◌, length, map, take, drop, take-append-drop, reverse, Some, None, Vec, Global, refl, sym, ap, ◌∙◌, subst, append_assoc, append-nil, length-drop, arith}
 use Rattle.std.specs.Prelude.{codes}
 use Rattle.std.proofs.lemmas.List.{length-reverse, reverse-append}
 use Rattle.std.proofs.Math.Seq.{drop-append_seam}
 use Rattle.au_term.specs.Term.{Term, AtomTerm, var_bound}
 use Rattle.au_model.specs.Each.{Each}
-use Rattle.au_model.specs.Bodies.{goals_of, call_of}
-use Rattle.au_model.specs.Clauses.{Clause}
-use Rattle.au_model.specs.Goals.{outcome_of}
+use Rattle.au_model.specs.Bodies.{call_of}
 use Rattle.au_model.specs.Lines.{NamedTerm}
-use Rattle.au_model.specs.Substitutions.{Substitution, resolve}
+use Rattle.au_model.specs.Substitutions.{resolve}
 use Rattle.au_model.specs.Numbering.{AreBelow}
-use Rattle.au_model.specs.Balls.{landing}
-use Rattle.au_model.specs.Outcomes.{Outcome, Replies, Solutions, Ball, HaltNumber, Controls, AskWorld, GoesOnWith, EitherOf, TestOf, CutToScope, CatchOf, FindallOf}
-use Rattle.au_model.specs.Items.{Item as ItemTerms, GoalItem, CatchMark, CollectMark, Continuation, before, goals_at, first_mark, resolve_named}
-use Rattle.au_model.specs.Entries.{Entry, PlainEntry, CatchEntry, FindallEntry, EndEntry, lowest, solution_entries}
-use Rattle.au_model.specs.Heights.{after_reply, after_control, goals_entry, test_items, guarded_goal}
+use Rattle.au_model.specs.Outcomes.{TestOf, CatchOf, FindallOf}
+use Rattle.au_model.specs.Items.{Item as ItemTerms, GoalItem, CatchMark, CollectMark, before, goals_at, resolve_named}
+use Rattle.au_model.specs.Entries.{Entry, PlainEntry, CatchEntry, FindallEntry, lowest}
+use Rattle.au_model.specs.Heights.{after_control, goals_entry, test_items, guarded_goal}
 use Rattle.clause_compile.specs.declared.item.Scope.{Scope}
 use Rattle.clause_compile.specs.declared.item.Scope.TheVariants.{Local}
 use Rattle.clause_compile.specs.declared.item.Item.{Item}
-use Rattle.clause_compile.specs.declared.item.Item.TheVariants.{Goal, CatchEnd, Collect, Remove, End}
+use Rattle.clause_compile.specs.declared.item.Item.TheVariants.{Goal, CatchEnd, Collect}
 use Rattle.clause_compile.specs.declared.event.Branch.{Branch as BranchTerms}
-use Rattle.clause_compile.specs.declared.event.Effect.{Effect}
-use Rattle.clause_compile.specs.declared.event.Effect.TheVariants as effect
-use Rattle.clause_compile.specs.declared.event.Opening.{Opening}
-use Rattle.clause_compile.specs.declared.event.Opening.TheVariants as opening
 use Rattle.au_term.specs.declared.segment.Segment.{Segment}
 use Rattle.bind_store.specs.Stored.{Stored, IsSound, substitution, mark_of, with_segment, pairs_of}
 use Rattle.bind_store.specs.declared.store.Mark.{Mark}
-use Rattle.engine_core.specs.Branches.{IsItemBelow, Stands, GoesOn, AreSolved}
-use Rattle.engine_core.specs.Reductions.{IsReduced, IsOutcome, IsOnly, AreTwo}
-use Rattle.engine_core.specs.declared.reduction.Reduction.{Reduction}
-use Rattle.engine_core.specs.declared.reduction.Reduction.TheVariants as reduction
-use Rattle.stack_run.specs.Views.{item_view, items_view, continuation_view, choice_view, frames_view, end_view, entries_under, stack_view, current_view, scope_place, scope_height}
-use Rattle.stack_run.specs.Fitting.{IsFit, AreFit, IsChoiceFit, IsCurrentFit}
+use Rattle.engine_core.specs.Branches.{IsItemBelow, Stands}
+use Rattle.stack_run.specs.Views.{items_view, continuation_view, choice_view, frames_view, end_view, scope_place, scope_height}
+use Rattle.stack_run.specs.Fitting.{AreFit, IsChoiceFit, IsCurrentFit}
 use Rattle.stack_run.specs.Stacking.{branch_frame}
-use Rattle.stack_run.specs.Inferring.{IsAtWork, HasEnd, Leaves, IsNoMark, IsOpeningBelow, branch_entry, cut_of, following, gate_entries, item_entries, opened_form, outcome_entries, under}
-use Rattle.stack_run.specs.declared.frame.Catch.{Catch}
+use Rattle.stack_run.specs.Inferring.{IsAtWork, HasEnd, Leaves, branch_entry, following, under}
 use Rattle.stack_run.specs.declared.frame.Choice.{Choice}
 use Rattle.stack_run.specs.declared.frame.Choice.TheVariants.{Branch, Catch as CatchChoice, Findall as FindallChoice}
 use Rattle.stack_run.specs.declared.frame.Findall.{Findall}
 use Rattle.stack_run.specs.declared.frame.Frame.{Frame}
-use Rattle.stack_run.specs.declared.frame.QueryEnd.{QueryEnd}
 use Rattle.stack_run.specs.declared.frame.Stack.{Stack}
 use Rattle.stack_run.proofs.Frames.{dropped_fit, dropped_view, length-frames}
 use Rattle.stack_run.proofs.Resuming.{nothing_at_hand}
-use Rattle.stack_run.proofs.Branching.{branches_view, branches_fit, solved_entries, solved_fit, onward_entry, takes_fit, stands_view, length-under}
+use Rattle.stack_run.proofs.Branching.{branches_view, branches_fit, stands_view, length-under}
 
 -- the same entries by another name
 pub leaves_same : (d e : List NamedTerm → List Entry) (s : Stack) → ((own : List NamedTerm) → d own ≡ e own) → Leaves d s → Leaves e s
@@ -243,14 +231,14 @@ tested old cs ts es rest tests commit thens others cut place above segment frame
     let n : suc place ≡ length under_it = omega (arith, p, length-under own old.store old.frames.items old.end w.ending.0 w.ending.1) in
     let up : scope_height (Local above) ≡ suc (suc place) = omega (arith, a) in
     let items : items_view old.store tests ≡ test_items (length under_it) h cs ts ++ items_view old.store rest =
-        stands_view old.store.made (Local above) cs commit tests st
-        ∙ (ap (λ is. goals_at (scope_height (Local above)) cs ++ items_view old.store is) sc
-        ∙ (ap (λ is. goals_at (scope_height (Local above)) cs ++ GoalItem (AtomTerm (codes "!")) (suc place) ∷ is) (stands_view old.store.made cut ts rest thens sy)
-        ∙ (ap (λ k. goals_at k cs ++ GoalItem (AtomTerm (codes "!")) (suc place) ∷ (goals_at h ts ++ items_view old.store rest)) up
-        ∙ (ap (λ k. goals_at (suc k) cs ++ GoalItem (AtomTerm (codes "!")) k ∷ (goals_at h ts ++ items_view old.store rest)) n
-        ∙ sym (append_assoc (goals_at (suc (length under_it)) cs) (GoalItem (AtomTerm (codes "!")) (length under_it) ∷ goals_at h ts) (items_view old.store rest)))))) in
+    stands_view old.store.made (Local above) cs commit tests st
+    ∙ (ap (λ is. goals_at (scope_height (Local above)) cs ++ items_view old.store is) sc
+    ∙ (ap (λ is. goals_at (scope_height (Local above)) cs ++ GoalItem (AtomTerm (codes "!")) (suc place) ∷ is) (stands_view old.store.made cut ts rest thens sy)
+    ∙ (ap (λ k. goals_at k cs ++ GoalItem (AtomTerm (codes "!")) (suc place) ∷ (goals_at h ts ++ items_view old.store rest)) up
+    ∙ (ap (λ k. goals_at (suc k) cs ++ GoalItem (AtomTerm (codes "!")) k ∷ (goals_at h ts ++ items_view old.store rest)) n
+    ∙ sym (append_assoc (goals_at (suc (length under_it)) cs) (GoalItem (AtomTerm (codes "!")) (length under_it) ∷ goals_at h ts) (items_view old.store rest)))))) in
     let other : choice_view own old.store choice ≡ goals_entry h es (following old rest own) =
-        no_bindings own old.store others segment sv sb ∙ ap (λ is. PlainEntry (record { items = is; named = named; next = next })) (stands_view old.store.made cut es rest others so) in
+    no_bindings own old.store others segment sv sb ∙ ap (λ is. PlainEntry (record { items = is; named = named; next = next })) (stands_view old.store.made cut es rest others so) in
     ap (λ is. PlainEntry (record { items = is; named = named; next = next }) ∷ choice_view own old.store choice ∷ under_it) items
     ∙ ap (λ e. PlainEntry (before (test_items (length under_it) h cs ts) (following old rest own)) ∷ e ∷ under_it) other)
     (opens old tests choice frames w v f b)

@@ -1,6 +1,6 @@
 -- Where balls land.
-use Rattle.std.proofs.Common.{◌≡◌, ℕ, suc, ◌+◌, ◌-◌, ◌<◌, ◌≤◌, Bool, true, false, cond, ◌==◌, List, [], ◌∷◌, ◌++◌, length, map, drop, reverse, Option, Some, None, Vec, Global, refl, sym, ap, ◌∙◌, subst, append-nil, arith}
-use Rattle.std.proofs.lemmas.Bool.{eqb-true, eq-eqb}
+use Rattle.std.proofs.Common.{◌≡◌, ℕ, suc, ◌+◌, ◌≤◌, true, false, cond, ◌==◌, List, [], ◌∷◌, ◌++◌, length, map, reverse, Option, Some, None, Vec, Global, refl, sym, ap, ◌∙◌, subst, arith}
+use Rattle.std.proofs.lemmas.Bool.{eq-eqb}
 use Rattle.au_term.specs.Term.{Term, var_bound}
 use Rattle.au_model.specs.Each.{Each}
 use Rattle.au_model.specs.Bodies.{call_of}
@@ -8,31 +8,29 @@ use Rattle.au_model.specs.Copies.{copied, copy_takes}
 use Rattle.au_model.specs.Lines.{NamedTerm}
 use Rattle.au_model.specs.Substitutions.{Substitution, resolve}
 use Rattle.au_model.specs.Unifier.{unifier}
-use Rattle.au_model.specs.Balls.{landing, recovered, taken_by, mark_behind, is_height}
-use Rattle.au_model.specs.Items.{Item as ItemTerms, GoalItem, CatchMark, Continuation, before, with_next, first_mark, resolve_continuation, resolve_named, resolve_item}
-use Rattle.au_model.specs.Entries.{Entry, PlainEntry, EndEntry}
+use Rattle.au_model.specs.Balls.{landing, recovered}
+use Rattle.au_model.specs.Items.{GoalItem, before, with_next, first_mark, resolve_continuation}
+use Rattle.au_model.specs.Entries.{Entry, PlainEntry}
 use Rattle.au_model.proofs.Below.{copied-below}
 use Rattle.clause_compile.specs.declared.item.Scope.TheVariants.{Local}
 use Rattle.clause_compile.specs.declared.item.Item.{Item}
 use Rattle.clause_compile.specs.declared.item.Item.TheVariants.{Goal, CatchEnd, Collect, Remove, End}
-use Rattle.bind_store.specs.Bindings.{Binding, composed}
+use Rattle.bind_store.specs.Bindings.{composed}
 use Rattle.bind_store.specs.Stored.{Stored, IsSound, Continues, AreUnified, IsUnified, substitution, with_numbers, with_more}
-use Rattle.bind_store.proofs.Holding.{in_turn}
 use Rattle.engine_core.specs.Branches.{IsItemBelow}
 use Rattle.engine_core.proofs.Solving.{items_further}
-use Rattle.stack_run.specs.Views.{item_view, items_view, continuation_view, choice_view, frames_view, end_view, entries_under, stack_view, current_view, scope_height}
-use Rattle.stack_run.specs.Fitting.{IsFit, AreFit, IsChoiceFit}
+use Rattle.stack_run.specs.Views.{item_view, items_view, continuation_view, choice_view, frames_view, end_view, entries_under}
+use Rattle.stack_run.specs.Fitting.{AreFit, IsChoiceFit}
 use Rattle.stack_run.specs.Stacking.{IsTaken}
 use Rattle.stack_run.specs.Inferring.{IsAtWork, HasEnd, Leaves, IsCatchOf, IsRecovered, height_at, under, following, marked_place}
 use Rattle.stack_run.specs.declared.frame.Catch.{Catch}
 use Rattle.stack_run.specs.declared.frame.Choice.{Choice}
-use Rattle.stack_run.specs.declared.frame.Choice.TheVariants.{Branch, Catch as CatchChoice, Findall}
+use Rattle.stack_run.specs.declared.frame.Choice.TheVariants.{Catch as CatchChoice}
 use Rattle.stack_run.specs.declared.frame.Frame.{Frame}
-use Rattle.stack_run.specs.declared.frame.QueryEnd.{QueryEnd}
 use Rattle.stack_run.specs.declared.frame.Stack.{Stack}
 use Rattle.stack_run.proofs.Copies.{copy_stays}
-use Rattle.stack_run.proofs.Frames.{fit_further, view_further, continues_twice}
-use Rattle.stack_run.proofs.Resuming.{numbers_continue, nothing_at_hand}
+use Rattle.stack_run.proofs.Frames.{fit_further, view_further}
+use Rattle.stack_run.proofs.Resuming.{numbers_continue}
 use Rattle.stack_run.proofs.Branching.{continuation_further, length-under}
 
 -- the first mark, item by item

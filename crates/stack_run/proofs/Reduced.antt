@@ -1,6 +1,6 @@
 -- What the item at hand comes to, and what that leaves.
-use Rattle.std.proofs.Common.{◌≡◌, ℕ, suc, ◌+◌, ◌≤◌, List, [], ◌∷◌, ◌++◌, length, map, Option, Some, None, Vec, Global, refl, sym, ap, ◌∙◌, subst, arith}
-use Rattle.au_term.specs.Term.{Term, var_bound}
+use Rattle.std.proofs.Common.{◌≡◌, ℕ, suc, List, [], ◌∷◌, ◌++◌, length, map, Vec, Global, refl, sym, ap, ◌∙◌, subst}
+use Rattle.au_term.specs.Term.{Term}
 use Rattle.au_model.specs.Each.{Each}
 use Rattle.au_model.specs.Clauses.{Clause}
 use Rattle.au_model.specs.Bodies.{goals_of}
@@ -11,7 +11,7 @@ use Rattle.au_model.specs.Balls.{landing}
 use Rattle.au_model.specs.Outcomes.{Outcome, Replies, Solutions, Ball, HaltNumber, Controls, AskWorld, GoesOnWith, EitherOf, TestOf, CutToScope, CatchOf, FindallOf}
 use Rattle.au_model.specs.Items.{first_mark}
 use Rattle.au_model.specs.Entries.{Entry, PlainEntry, lowest, solution_entries}
-use Rattle.au_model.specs.Heights.{after_reply, after_control, goals_entry}
+use Rattle.au_model.specs.Heights.{after_control, goals_entry}
 use Rattle.clause_compile.specs.declared.item.Scope.{Scope}
 use Rattle.clause_compile.specs.declared.item.Scope.TheVariants.{Local}
 use Rattle.clause_compile.specs.declared.item.Item.{Item}
@@ -22,13 +22,12 @@ use Rattle.clause_compile.specs.declared.event.Effect.TheVariants as effect
 use Rattle.clause_compile.specs.declared.event.Opening.{Opening}
 use Rattle.clause_compile.specs.declared.event.Opening.TheVariants as opening
 use Rattle.bind_store.specs.Stored.{Stored, IsSound, substitution}
-use Rattle.engine_core.specs.Branches.{IsItemBelow}
-use Rattle.engine_core.specs.Reductions.{IsReduced, IsOutcome, IsOnly, AreTwo, IsRemoval}
+use Rattle.engine_core.specs.Reductions.{IsReduced, IsOutcome, IsOnly, AreTwo}
 use Rattle.engine_core.specs.declared.reduction.Reduction.{Reduction}
 use Rattle.engine_core.specs.declared.reduction.Reduction.TheVariants as reduction
 use Rattle.stack_run.specs.Views.{item_view, items_view, continuation_view, entries_under, scope_height}
 use Rattle.stack_run.specs.Fitting.{IsChoiceFit}
-use Rattle.stack_run.specs.Inferring.{IsAtWork, HasEnd, IsUnhalted, IsNoHalt, Leaves, IsNoMark, IsOpeningBelow, branch_entry, cut_of, following, gate_entries, item_entries, opened_form, outcome_entries, under}
+use Rattle.stack_run.specs.Inferring.{IsAtWork, IsUnhalted, IsNoHalt, Leaves, IsNoMark, IsOpeningBelow, branch_entry, cut_of, following, gate_entries, item_entries, opened_form, outcome_entries, under}
 use Rattle.stack_run.specs.declared.frame.Choice.TheVariants.{Branch}
 use Rattle.stack_run.specs.declared.frame.Stack.{Stack}
 use Rattle.stack_run.proofs.Branching.{solved_entries, solved_fit, onward_entry, takes_fit, length-under}

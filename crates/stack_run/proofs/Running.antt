@@ -1,6 +1,5 @@
 -- A run so far, and how it ends.
-use Rattle.std.proofs.Common.{◌≡◌, ℕ, ◌+◌, ◌-◌, ◌<◌, ◌≤◌, List, [], ◌∷◌, ◌++◌, length, take, min, map, Option, Some, None, true, false, ◌==◌, refl, sym, ap, ◌∙◌, subst, reverse, append_assoc, append-nil, length-append, arith}
-use Rattle.std.proofs.lemmas.Bool.{eqb-true, eq-eqb}
+use Rattle.std.proofs.Common.{◌≡◌, ℕ, ◌+◌, ◌-◌, ◌<◌, ◌≤◌, List, [], ◌∷◌, ◌++◌, length, take, min, Option, Some, None, true, false, refl, sym, ap, ◌∙◌, subst, reverse, is_some, append_assoc, append-nil, length-append, arith}
 use Rattle.std.proofs.Math.Seq.{take-append_seam, take-append-add}
 use Rattle.std.proofs.lemmas.List.{take-append-le, take_min}
 use Rattle.au_model.specs.declared.ending.RunEnding.TheVariants.{Finished, Budget, WriteFault, NoMemory}
@@ -17,7 +16,7 @@ use Rattle.text_load.specs.declared.job.Job.{Job as KeptJob}
 use Rattle.stack_run.specs.declared.frame.Machine.{Machine}
 use Rattle.stack_run.specs.declared.frame.QueryEnd.{QueryEnd}
 use Rattle.stack_run.specs.declared.frame.Stack.{Stack}
-use Rattle.stack_run.specs.Inferring.{HasEnd, under}
+use Rattle.stack_run.specs.Inferring.{HasEnd}
 use Rattle.stack_run.specs.Machines.{state_view, own_asked, IsReady}
 use Rattle.stack_run.specs.Views.{stack_view, current_view, entries_under, frames_view, end_view}
 use Rattle.stack_run.specs.Ends.{IsRun}
@@ -118,7 +117,7 @@ stopped job m budget before now fb fn r some =
     let own = own_asked m.asked job.queries.items in
     let s = m.stack in
     let many : 0 < length (stack_view own s) =
-        some_there (current_view own s.store s.current) (frames_view own s.store (reverse s.frames.items)) (end_view s.end) (subst (λ o. 0 < length (end_view o)) (sym some.1) (omega arith)) in
+    some_there (current_view own s.store s.current) (frames_view own s.store (reverse s.frames.items)) (end_view s.end) (subst (λ o. 0 < length (end_view o)) (sym some.1) (omega arith)) in
     record {
       ended = sym (ap (λ es. ending_by es (seq J budget).halted) (entries_now job m budget before now fb fn r) ∙ budget_by (stack_view own s) (seq J budget).halted many);
       bytes = r.bytes;
@@ -179,10 +178,10 @@ write_failed job m new i budget before now after fb fn r lt k t =
     }
 
 -- whether a query is there
-pub no_query : (end : Option QueryEnd) → is_none end ≡ true → end ≡ None
+pub no_query : (end : Option QueryEnd) → is_some end ≡ false → end ≡ None
 no_query None h = refl
 no_query (Some e) h = absurd cc
 
-pub some_query : (end : Option QueryEnd) → is_none end ≡ false → (e : QueryEnd) × (end ≡ Some e)
+pub some_query : (end : Option QueryEnd) → is_some end ≡ true → (e : QueryEnd) × (end ≡ Some e)
 some_query None h = absurd cc
 some_query (Some e) h = (e, refl)

@@ -1,19 +1,19 @@
 -- Steps of a run.
-use Rattle.std.proofs.Common.{◌≡◌, ℕ, zero, suc, ◌+◌, ◌-◌, ◌<◌, ◌≤◌, max, List, [], ◌∷◌, ◌++◌, length, map, drop, reverse, get_or, Option, Some, None, Result, Ok, Err, OnOk, Vec, Global, refl, sym, ap, ◌∙◌, subst, append-nil, arith}
+use Rattle.std.proofs.Common.{◌≡◌, ℕ, zero, suc, ◌+◌, ◌-◌, ◌<◌, ◌≤◌, List, [], ◌∷◌, ◌++◌, length, map, drop, reverse, get_or, Option, Some, None, Result, Ok, Err, OnOk, Vec, Global, refl, sym, ap, ◌∙◌, subst, append-nil, arith}
 use Rattle.std.specs.Arc.{arc_value}
 use Rattle.std.proofs.lemmas.List.{drop_more}
-use Rattle.au_term.specs.Term.{Term, VarTerm, var_bound}
+use Rattle.au_term.specs.Term.{Term, VarTerm}
 use Rattle.au_model.specs.Each.{Each}
 use Rattle.au_model.specs.Clauses.{Clause}
 use Rattle.au_model.specs.Databases.{no_procedures}
 use Rattle.au_model.specs.FreeSteps.{settle, IsSettled, IsSettledItems}
 use Rattle.au_model.specs.Goals.{outcome_of}
-use Rattle.au_model.specs.Jobs.{NamedVariable, Query, goals_bound, names_bound, own_terms, query_bound}
+use Rattle.au_model.specs.Jobs.{NamedVariable, Query, goals_bound, own_terms, query_bound}
 use Rattle.au_model.specs.Lines.{NamedTerm, answer_line, end_line}
-use Rattle.au_model.specs.Items.{Item as ItemTerms, GoalItem, Continuation, goals_at, with_items, resolve_named}
+use Rattle.au_model.specs.Items.{GoalItem, Continuation, goals_at, resolve_named}
 use Rattle.au_model.specs.Entries.{Entry, PlainEntry, EndEntry}
 use Rattle.au_model.specs.Outcomes.{Outcome, Replies, Solutions, Ball, HaltNumber, Controls, AskWorld}
-use Rattle.au_model.specs.States.{State, opened, queries_behind, item_taken, goal_taken, leaves, settled, step, opening}
+use Rattle.au_model.specs.States.{State, opened, queries_behind, item_taken, goal_taken, settled, step}
 use Rattle.au_model.specs.Substitutions.{Substitution, resolve}
 use Rattle.au_model.specs.declared.var_name.VarName.{VarName}
 use Rattle.au_model.proofs.Settled.{all_settle}
@@ -29,7 +29,7 @@ use Rattle.engine_core.specs.Branches.{IsItemBelow}
 use Rattle.term_writer.specs.Bindings.{named_term, named_terms}
 use Rattle.text_load.specs.Kept.{variable_meant}
 use Rattle.text_load.specs.declared.job.Job.{Job}
-use Rattle.stack_run.specs.Views.{item_view, items_view, continuation_view, frames_view, current_view, end_view, entries_under, stack_view}
+use Rattle.stack_run.specs.Views.{item_view, items_view, continuation_view, frames_view, end_view, entries_under, stack_view}
 use Rattle.stack_run.specs.Fitting.{IsFit, AreFit, IsCurrentFit}
 use Rattle.stack_run.specs.Settling.{IsResting, with_current}
 use Rattle.stack_run.specs.Inferring.{IsAtWork, HasEnd, IsUnhalted, IsNoHalt, IsNoMark, Leaves, following, item_entries, outcome_entries, under}
@@ -128,8 +128,8 @@ query_ends job asked answers s line r n h l written inferences =
     let qs = job.queries.items in
     let own = own_asked asked qs in
     let entries : stack_view own s ≡ EndEntry (ball_of s.end) ∷ [] =
-        nothing_at_hand own s n ∙ (ap (λ fs. frames_view own s.store (reverse fs) ++ end_view s.end) (r.resting n)
-        ∙ (ap end_view h.1 ∙ ap (λ o. EndEntry (ball_of o) ∷ []) (sym h.1))) in
+    nothing_at_hand own s n ∙ (ap (λ fs. frames_view own s.store (reverse fs) ++ end_view s.end) (r.resting n)
+    ∙ (ap end_view h.1 ∙ ap (λ o. EndEntry (ball_of o) ∷ []) (sym h.1))) in
     ap (λ x. state_of job (written ++ x) answers (inferences + 1) (queries_behind (drop asked qs)) (opened (drop asked qs))) l
     ∙ sym (end_step (arc_value job.procs) (stack_state job asked answers s written inferences) (ball_of s.end) [] entries)
 

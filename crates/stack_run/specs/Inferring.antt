@@ -1,5 +1,5 @@
 -- One inference, by what the item at hand comes to.
-use Rattle.std.specs.Prelude.{◌≡◌, ℕ, suc, Bool, true, false, ◌≤◌, length, List, [], ◌∷◌, ◌++◌, map, reverse, Option, Some, None}
+use Rattle.std.specs.Prelude.{◌≡◌, ℕ, suc, Bool, true, false, ◌≤◌, length, List, [], ◌∷◌, reverse, Option, Some, None}
 use Rattle.std.specs.Option.{option_map}
 use Rattle.au_term.specs.Term.{Term, var_bound}
 use Rattle.au_model.specs.Bodies.{goals_of}
@@ -11,7 +11,7 @@ use Rattle.au_model.specs.Outcomes.{Outcome, Replies, Solutions, Ball, HaltNumbe
 use Rattle.au_model.specs.Substitutions.{resolve}
 use Rattle.au_model.specs.Unifier.{unifier}
 use Rattle.au_model.specs.Worlds.{dynamic_call}
-use Rattle.au_model.specs.Items.{Item as ItemTerms, GoalItem, CatchMark, CollectMark, RemovalItem, Continuation, first_mark}
+use Rattle.au_model.specs.Items.{Item as ItemTerms, GoalItem, CatchMark, CollectMark, RemovalItem, Continuation}
 use Rattle.au_model.specs.Balls.{landing, recovered}
 use Rattle.au_model.specs.Entries.{Entry}
 use Rattle.au_model.specs.Heights.{after_reply, after_control}
@@ -25,7 +25,7 @@ use Rattle.clause_compile.specs.declared.event.Opening.{Opening}
 use Rattle.clause_compile.specs.declared.event.Opening.TheVariants as opening
 use Rattle.clause_compile.specs.declared.event.Branch.{Branch as BranchTerms}
 use Rattle.bind_store.specs.Stored.{Stored, IsSound, Continues, substitution}
-use Rattle.stack_run.specs.Views.{stack_view, continuation_view, choice_view, entries_under, scope_place, scope_height}
+use Rattle.stack_run.specs.Views.{stack_view, continuation_view, choice_view, entries_under, scope_place}
 use Rattle.stack_run.specs.Fitting.{IsFit, AreFit}
 use Rattle.stack_run.specs.declared.frame.Catch.{Catch}
 use Rattle.stack_run.specs.declared.frame.Choice.{Choice}

@@ -1,5 +1,5 @@
 -- What a run stands for.
-use Rattle.std.specs.Prelude.{◌≡◌, ℕ, zero, suc, List, [], ◌∷◌, ◌++◌, map, drop, Option, Some, None}
+use Rattle.std.specs.Prelude.{ℕ, zero, suc, List, [], ◌∷◌, drop, Option, Some, None}
 use Rattle.au_term.specs.Term.{Term, VarTerm}
 use Rattle.au_model.specs.Databases.{no_procedures}
 use Rattle.au_model.specs.Substitutions.{resolve}
@@ -8,7 +8,6 @@ use Rattle.au_model.specs.Lines.{NamedTerm}
 use Rattle.au_model.specs.Jobs.{NamedVariable, Query, own_terms}
 use Rattle.au_model.specs.States.{State, opened, queries_behind}
 use Rattle.au_model.specs.declared.var_name.VarName.{VarName}
-use Rattle.clause_compile.specs.declared.item.Item.{Item}
 use Rattle.bind_store.specs.Stored.{Stored, substitution}
 use Rattle.text_load.specs.declared.job.Job.{Job}
 use Rattle.stack_run.specs.Views.{stack_view}

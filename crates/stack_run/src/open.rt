@@ -35,7 +35,9 @@ pub(crate) fn open(
     ensures { OnOk result (Leaves (λ own. after_control (opened_form stack.old.store opening) (scope_height cut) (following stack.old rest.now own) (under stack.old own)) stack.new) }
 {
     match opening {
-        Opening::Condition { test, yes, no } => condition(alloc, &test, &yes, &no, cut, rest, stack),
+        Opening::Condition { test, yes, no } => condition(
+            alloc, &test, &yes, &no, cut, rest, stack,
+        ),
         Opening::Catch {
             goal,
             catcher,
@@ -174,12 +176,7 @@ fn findall_choice(
 }
 
 /// The call of a goal before other items.
-fn call_before(
-    alloc: Global,
-    goal: &Shared,
-    cut: Scope,
-    goals: &Goals,
-) -> Result<Goals, NoMemory>
+fn call_before(alloc: Global, goal: &Shared, cut: Scope, goals: &Goals) -> Result<Goals, NoMemory>
     ensures { IfOk result (λ all. all ≡ Item.Goal (call_of goal.now) cut ∷ goals.now) }
 {
     let term = call_of(alloc, goal)?;

@@ -116,12 +116,7 @@ fn inference(alloc: Global, job: &Job, machine: &mut Machine) -> Result<(), NoMe
 }
 
 /// One inference on an alternative that was taken.
-fn take_item(
-    alloc: Global,
-    job: &Job,
-    goals: &Goals,
-    machine: &mut Machine,
-) -> Result<(), NoMemory>
+fn take_item(alloc: Global, job: &Job, goals: &Goals, machine: &mut Machine) -> Result<(), NoMemory>
     requires goals { IsAtItem goals.now machine.old.stack }
     requires line { machine.old.line.items ≡ [] }
     requires few { machine.old.answers < 2 ^ 64 - 1 }
@@ -163,11 +158,7 @@ fn asked_names(job: &Job, asked: usize) -> &[VarName]
 }
 
 /// What variables stand for.
-fn values_of(
-    alloc: Global,
-    names: &[VarName],
-    store: &Store,
-) -> Result<Vec<FlatTerm>, NoMemory>
+fn values_of(alloc: Global, names: &[VarName], store: &Store) -> Result<Vec<FlatTerm>, NoMemory>
     ensures { IfOk result (λ values. values.items ≡ map (value_in store.now) names.now) }
 {
     let mut values = Vec::new(alloc);

@@ -1,4 +1,4 @@
-use Rattle.std.proofs.Common.{◌≡◌, suc, ◌∷◌, map, Some, None, ◌∙◌, ap, sym, subst}
+use Rattle.std.proofs.Common.{map, ◌∙◌, ap, sym}
 use Rattle.au_model.specs.Items.{first_mark}
 use Rattle.stack_run.specs.Views.{item_view}
 use Rattle.stack_run.proofs.Landing.{mark_found, mark_further}

@@ -1,7 +1,6 @@
-use Rattle.std.proofs.Common.{◌≡◌, ap, ◌∙◌, sym, subst, refl, true, false, Option, Some, None, arith}
+use Rattle.std.proofs.Common.{ap, ◌∙◌, subst, refl, arith}
 use Rattle.au_model.specs.Balls.{landing}
 use Rattle.stack_run.specs.Inferring.{IsRecovered, HasEnd, under}
-use Rattle.stack_run.specs.Views.{items_view}
 use Rattle.stack_run.specs.declared.frame.Stack.{Stack}
 use Rattle.bind_store.specs.Stored.{substitution}
 use Rattle.stack_run.proofs.Landing.{lands_past, lands_on, lands_further, further_fit}

@@ -1,10 +1,6 @@
-use Rattle.std.proofs.Common.{◌≡◌, ◌∷◌, [], true, false, ap, ◌∙◌, sym, subst, refl, arith}
-use Rattle.au_model.specs.Copies.{copy_takes}
-use Rattle.au_model.specs.Substitutions.{resolve}
-use Rattle.au_model.specs.Unifier.{unifier}
-use Rattle.bind_store.specs.Stored.{IsUnified, substitution, with_numbers}
-use Rattle.stack_run.proofs.Frames.{continues_same}
-use Rattle.stack_run.proofs.Landing.{recovers, taken_so, copy_below, missed}
+use Rattle.std.proofs.Common.{subst, refl, arith}
+use Rattle.bind_store.specs.Stored.{IsUnified}
+use Rattle.stack_run.proofs.Landing.{recovers, copy_below, missed}
 use Rattle.stack_run.proofs.land.recover.Goals as goal
 
 pub unify-requires-clause-right : goal.unify-requires-clause-right

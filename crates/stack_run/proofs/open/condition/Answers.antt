@@ -1,6 +1,4 @@
-use Rattle.std.proofs.Common.{◌+◌, refl, sym, subst, ◌∙◌, ap, arith}
-use Rattle.au_model.specs.Each.{Each}
-use Rattle.engine_core.specs.Branches.{IsItemBelow}
+use Rattle.std.proofs.Common.{◌+◌, refl, arith}
 use Rattle.stack_run.proofs.Inferring.{tested, no_bindings_fit}
 use Rattle.stack_run.proofs.open.condition.Goals as goal
 

@@ -1,4 +1,4 @@
-use Rattle.std.proofs.Common.{◌++◌, sym, ap, ◌∙◌}
+use Rattle.std.proofs.Common.{◌++◌, ap, ◌∙◌}
 use Rattle.au_model.specs.Lines.{answer_line}
 use Rattle.term_writer.specs.Bindings.{named_terms}
 use Rattle.stack_run.proofs.Stepping.{answers_so}

@@ -1,6 +1,5 @@
-use Rattle.std.proofs.Common.{[], sym, ap, ◌∙◌}
-use Rattle.au_model.specs.States.{settled, opening}
-use Rattle.stack_run.specs.Machines.{state_view, stack_state}
+use Rattle.std.proofs.Common.{[], ap, ◌∙◌}
+use Rattle.au_model.specs.States.{settled}
 use Rattle.stack_run.proofs.Stepping.{settles_so, ready}
 use Rattle.stack_run.proofs.step.opening.Goals as goal
 

@@ -1,4 +1,4 @@
-use Rattle.std.proofs.Common.{sym, ap, ◌∙◌}
+use Rattle.std.proofs.Common.{◌∙◌}
 use Rattle.stack_run.proofs.Stepping.{query_begun, query_fit}
 use Rattle.stack_run.proofs.step.query_stack.Goals as goal
 

@@ -1,4 +1,4 @@
-use Rattle.std.proofs.Common.{◌∷◌, drop, sym, ap, ◌∙◌}
+use Rattle.std.proofs.Common.{◌∷◌, sym, ap, ◌∙◌}
 use Rattle.stack_run.proofs.Lists.{first_is}
 use Rattle.stack_run.proofs.Stepping.{infers_so, first_no_mark, both_ok}
 use Rattle.stack_run.proofs.step.take_item.Goals as goal
