@@ -1,85 +1,71 @@
 -- What the machine's values stand for.
-use Rattle.std.specs.Prelude.{ℕ, List, [], ◌∷◌, map, drop, reverse, None, codes, zero, suc}
-use Rattle.std.specs.Str.{chars}
-use Rattle.std.specs.String.{string_bytes}
-use Rattle.au_term.specs.Term.{Term, VarTerm, AtomTerm}
-use Rattle.au_model.specs.Forms.{binary}
-use Rattle.au_model.specs.Clauses.{Clause}
-use Rattle.au_model.specs.Databases.{no_procedures}
-use Rattle.au_model.specs.Operators.{initial_operators}
-use Rattle.au_model.specs.Items.{Item, GoalItem, Continuation, goals_at}
-use Rattle.au_model.specs.Entries.{Entry, PlainEntry, EndEntry}
-use Rattle.au_model.specs.Jobs.{NamedVariable, Query, Job, own_terms, query_bound}
-use Rattle.au_model.specs.States.{State, opened, queries_behind}
-use Rattle.au_model.specs.declared.var_name.VarName.{VarName}
-use Rattle.term_writer.specs.Bindings.{named_terms}
-use Rattle.stack_run.specs.declared.job.PlainClause.{PlainClause}
-use Rattle.stack_run.specs.declared.job.PlainQuery.{PlainQuery}
-use Rattle.stack_run.specs.declared.job.PlainJob.{PlainJob}
-use Rattle.stack_run.specs.declared.entry.Goal.{Goal}
-use Rattle.stack_run.specs.declared.entry.Branch.{Branch}
-use Rattle.stack_run.specs.declared.entry.Entry.{Entry as StackEntry}
-use Rattle.stack_run.specs.declared.entry.Entry.TheVariants.{Plain, QueryEnd}
-use Rattle.stack_run.specs.declared.entry.Machine.{Machine}
+use Rattle.std.specs.Prelude.{ℕ, suc, List, [], ◌∷◌, ◌++◌, map, take, reverse, Option, Some, None}
+use Rattle.au_model.specs.Substitutions.{Substitution, resolve}
+use Rattle.au_model.specs.Lines.{NamedTerm}
+use Rattle.au_model.specs.Items.{Item as ItemTerms, GoalItem, CatchMark, CollectMark, RemovalItem, Continuation, with_next, resolve_named}
+use Rattle.au_model.specs.Entries.{Entry, PlainEntry, CatchEntry, FindallEntry, EndEntry}
+use Rattle.clause_compile.specs.declared.item.Scope.{Scope}
+use Rattle.clause_compile.specs.declared.item.Scope.TheVariants.{Node, Local}
+use Rattle.clause_compile.specs.declared.item.Item.{Item}
+use Rattle.clause_compile.specs.declared.item.Item.TheVariants.{Goal, CatchEnd, Collect, Remove, End}
+use Rattle.bind_store.specs.Stored.{Stored, substitution, with_segment}
+use Rattle.bind_store.specs.declared.store.Mark.{Mark}
+use Rattle.stack_run.specs.declared.frame.Choice.{Choice}
+use Rattle.stack_run.specs.declared.frame.Choice.TheVariants.{Branch, Catch, Findall}
+use Rattle.stack_run.specs.declared.frame.Frame.{Frame}
+use Rattle.stack_run.specs.declared.frame.QueryEnd.{QueryEnd}
+use Rattle.stack_run.specs.declared.frame.Stack.{Stack}
 
--- the goals as one body: `true` where there is none
-abbrev pub conjunction : List Term → Term
-conjunction [] = AtomTerm (codes "true")
-conjunction (g ∷ []) = g
-conjunction (g ∷ h ∷ gs) = binary (codes ",") g (conjunction (h ∷ gs))
+-- the frame that a scope names, by how many are under it; no scope of a node occurs here
+abbrev pub scope_place : Scope → ℕ
+scope_place (Local i) = i
+scope_place (Node n) = 0
 
-abbrev pub clause_view : PlainClause → Clause
-clause_view c = record { head = c.head; body = conjunction c.body.items }
+-- the query's end is the lowest entry
+abbrev pub scope_height : Scope → ℕ
+scope_height scope = suc (scope_place scope)
 
-abbrev pub variable_view : VarName → NamedVariable
-variable_view v = record { name = chars (string_bytes v.text); number = v.number }
+-- removals and ends do not occur here
+abbrev pub item_view : Substitution → Item → ItemTerms ℕ
+item_view s (Goal t cut) = GoalItem (resolve s t) (scope_height cut)
+item_view s (CatchEnd scope) = CatchMark (scope_height scope)
+item_view s (Collect t scope) = CollectMark (resolve s t) (scope_height scope)
+item_view s (Remove id) = RemovalItem 0
+item_view s (End ball) = RemovalItem 0
 
-abbrev pub query_view : PlainQuery → Query
-query_view q = record { goals = q.goals.items; names = map variable_view q.names.items }
+abbrev pub items_view : Stored → List Item → List (ItemTerms ℕ)
+items_view st items = map (item_view (substitution st)) items
 
--- a job without dynamic procedures, under the operators that a text begins with
-abbrev pub job_view : PlainJob → Job
-job_view job = record { clauses = map clause_view job.clauses.items; database = no_procedures; operators = initial_operators; queries = map query_view job.queries.items }
+-- items over a store, where the query's named variables stood for these terms to begin with
+abbrev pub continuation_view : List NamedTerm → Stored → List Item → Continuation ℕ
+continuation_view own st items = record { items = items_view st items; named = map (resolve_named (substitution st)) own; next = st.next }
 
-abbrev pub goal_view : Goal → Item ℕ
-goal_view g = GoalItem g.term g.cut
+-- the store as it was at a mark
+abbrev pub stored_at : Mark → Stored → Stored
+stored_at mark st = record { made = take mark.made st.made; next = mark.next }
 
--- goals and entries are kept last first; the names are those of the query
-abbrev pub branch_view : List VarName → Branch → Continuation ℕ
-branch_view names b = record { items = map goal_view (reverse b.goals.items); named = named_terms names b.named.items; next = b.next }
+-- a choice point, by the store at its mark
+abbrev pub choice_view : List NamedTerm → Stored → Choice → Entry
+choice_view own st (Branch b) = PlainEntry (continuation_view own (with_segment b.segment st) b.goals)
+choice_view own st (Catch c) = CatchEntry (resolve (substitution st) c.catcher) (resolve (substitution st) c.recovery) (continuation_view own st c.rest)
+choice_view own st (Findall f) = FindallEntry f.results.items (resolve (substitution st) f.list) (with_next f.next (continuation_view own st f.rest))
 
-abbrev pub entry_view : List VarName → StackEntry → Entry
-entry_view names (Plain b) = PlainEntry (branch_view names b)
-entry_view names QueryEnd = EndEntry None
+-- frames, the newest first
+abbrev pub frames_view : List NamedTerm → Stored → List Frame → List Entry
+frames_view own st [] = []
+frames_view own st (f ∷ fs) = choice_view own (stored_at f.mark st) f.choice ∷ frames_view own (stored_at f.mark st) fs
 
-abbrev pub entries_view : List VarName → List StackEntry → List Entry
-entries_view names es = map (entry_view names) (reverse es)
+abbrev pub current_view : List NamedTerm → Stored → Option (List Item) → List Entry
+current_view own st None = []
+current_view own st (Some items) = PlainEntry (continuation_view own st items) ∷ []
 
--- the names of the query that was asked last, where so many were asked
-abbrev pub names_asked : ℕ → List PlainQuery → List VarName
-names_asked zero qs = []
-names_asked (suc n) [] = []
-names_asked (suc zero) (q ∷ qs) = q.names.items
-names_asked (suc (suc n)) (q ∷ qs) = names_asked (suc n) qs
+abbrev pub end_view : Option QueryEnd → List Entry
+end_view None = []
+end_view (Some e) = EndEntry e.ball ∷ []
 
--- the machine's state, after these bytes and so many inferences
-abbrev pub state_view : PlainJob → Machine → List ℕ → ℕ → State
-state_view job m written inferences = record {
-  entries = entries_view (names_asked m.asked job.queries.items) m.entries.items;
-  world = record { written = written; database = no_procedures; operators = initial_operators };
-  queries = drop m.asked (map query_view job.queries.items);
-  answers = m.answers;
-  inferences = inferences;
-  halted = None;
-}
+-- the entries under the one at hand
+abbrev pub entries_under : List NamedTerm → Stored → List Frame → Option QueryEnd → List Entry
+entries_under own st frames end = frames_view own st (reverse frames) ++ end_view end
 
-abbrev pub variable_term : VarName → Term
-variable_term v = VarTerm v.number
-
--- what is left to do of a query that has not begun
-abbrev pub query_continuation : Query → Continuation ℕ
-query_continuation q = record { items = goals_at 1 q.goals; named = own_terms q.names; next = query_bound q }
-
--- the next query on the empty stack
-abbrev pub opened_state : State → State
-opened_state st = record st { entries = opened st.queries; queries = queries_behind st.queries }
+abbrev pub stack_view : List NamedTerm → Stack → List Entry
+stack_view own s = current_view own s.store s.current ++ entries_under own s.store s.frames.items s.end

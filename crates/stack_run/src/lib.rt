@@ -1,23 +1,14 @@
-//! The sequential machine on one plain stack: each entry keeps its own copy of what is left to do, with every
-//! binding applied.
+//! The sequential machine: one path of the search at a time, with a stack of what is still to be done.
 #![tactic(auto)]
 
-mod bindings;
-mod clauses;
-mod entry;
-pub mod job;
-mod numbering;
-mod plain;
-mod procedures;
-mod reserved;
-mod resolved;
+mod frame;
+mod infer;
+mod land;
+mod list;
+mod open;
 mod run;
+mod settle;
+mod stack;
 mod step;
-mod terms;
-#[cfg(test)]
-mod tests;
-mod unify;
 
-pub use job::{PlainClause, PlainJob, PlainQuery};
-pub use plain::is_plain;
 pub use run::run_job;

@@ -2,35 +2,29 @@
 ghost use Rattle.std.specs.Prelude.{◌≡◌, ◌≤◌};
 ghost use Rattle.au_io.specs.Causes.{Rose};
 ghost use Rattle.stack_run.specs.Ends.{IsRun};
-ghost use Rattle.stack_run.specs.PlainJobs.{IsPlainJob};
-ghost use Rattle.stack_run.specs.Views.{job_view};
+ghost use Rattle.text_load.specs.Meant.{job_meant};
 
-use crate::job::PlainJob;
 use crate::step::{opening, step};
 use au_io::Sink;
 use au_model::{RunEnd, RunEnding};
-use op_table::Ops;
 use std::alloc::Global;
+use text_load::Job;
 
 /// Runs a job for at most `budget` inferences, and writes its lines to `out`. A run that a failed write or want of
 /// memory cuts short has written a front of its text, and its numbers are 0.
-pub fn run_job<K: Sink>(alloc: Global, job: PlainJob, budget: u64, out: &mut K) -> RunEnd
-    requires { IsPlainJob job }
-    ensures run { IsRun (job_view job) budget (K.taken out.old) (K.taken out.new) result }
+pub fn run_job<K: Sink>(alloc: Global, job: Job, budget: u64, out: &mut K) -> RunEnd
+    ensures run { IsRun (job_meant job) budget (K.taken out.old) (K.taken out.new) result }
     ensures fault { result.end ≡ RunEnding.WriteFault → Rose (K.faults out.old) (K.faults out.new) }
     ensures faults_stay { K.faults out.old ≤ K.faults out.new }
 {
-    let Ok(ops) = Ops::initial(alloc) else {
-        return failed(RunEnding::NoMemory);
-    };
     let Ok(mut machine) = opening(alloc, &job) else {
         return failed(RunEnding::NoMemory);
     };
     for taken in 0..budget {
-        if machine.entries.is_empty() {
+        if machine.stack.end.is_none() {
             return ended(RunEnding::Finished, machine.answers, taken);
         }
-        let Ok(()) = step(alloc, &job, &ops, &mut machine) else {
+        let Ok(()) = step(alloc, &job, &mut machine) else {
             return failed(RunEnding::NoMemory);
         };
         match out.write_all(&machine.line) {
@@ -38,7 +32,7 @@ pub fn run_job<K: Sink>(alloc: Global, job: PlainJob, budget: u64, out: &mut K) 
             Err(_) => return failed(RunEnding::WriteFault),
         }
     }
-    if machine.entries.is_empty() {
+    if machine.stack.end.is_none() {
         return ended(RunEnding::Finished, machine.answers, budget);
     }
     ended(RunEnding::Budget, machine.answers, budget)

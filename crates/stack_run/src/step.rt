@@ -1,154 +1,213 @@
-//! One inference (ISO/IEC 13211-1, 7.7).
-ghost use Rattle.std.specs.Prelude.{◌≡◌, ◌<◌, ◌-◌, ◌^◌, ◌+◌, ◌++◌, ◌∷◌, [], ℕ, List, IfOk, OnOk, vec_len, map, reverse};
+//! One step of a run (ISO/IEC 13211-1, 7.7).
+ghost use Rattle.std.specs.Prelude.{◌≡◌, ◌<◌, ◌^◌, ◌-◌, ◌+◌, ◌++◌, ◌∷◌, [], ℕ, List, Some, None, IfOk, OnOk, map};
+ghost use Rattle.std.specs.Arc.{arc_value};
 ghost use Rattle.au_term.specs.Term.{VarTerm};
-ghost use Rattle.au_model.specs.Each.{Each};
-ghost use Rattle.au_model.specs.Jobs.{names_bound, goals_bound, own_terms, query_bound};
-ghost use Rattle.au_model.specs.Items.{goals_at};
-ghost use Rattle.au_model.specs.Operators.{initial_operators};
-ghost use Rattle.au_model.specs.States.{step, entry_taken, opening};
-ghost use Rattle.au_model.specs.declared.var_name.VarName.{VarName};
-ghost use Rattle.term_writer.specs.Bindings.{named_terms};
-ghost use Rattle.stack_run.specs.PlainEntries.{ArePlainEntries};
-ghost use Rattle.stack_run.specs.Taking.{TakesGoal};
-ghost use Rattle.stack_run.specs.Triable.{IsTriable};
-ghost use Rattle.stack_run.specs.Views.{branch_view, clause_view, entries_view, entry_view, goal_view, job_view, names_asked, opened_state, query_continuation, query_view, state_view, variable_term, variable_view};
+ghost use Rattle.au_model.specs.Jobs.{own_terms};
+ghost use Rattle.au_model.specs.Lines.{NamedTerm, end_line};
+ghost use Rattle.au_model.specs.States.{opened, settled, step, opening};
+ghost use Rattle.text_load.specs.Meant.{job_meant};
+ghost use Rattle.text_load.specs.Kept.{variable_meant};
+ghost use Rattle.au_model.specs.Substitutions.{resolve};
+ghost use Rattle.bind_store.specs.Stored.{substitution};
+ghost use Rattle.stack_run.specs.Views.{stack_view};
+ghost use Rattle.stack_run.specs.Fitting.{IsFit};
+ghost use Rattle.stack_run.specs.Settling.{with_current};
+ghost use Rattle.stack_run.specs.Inferring.{HasEnd, IsAtWork};
+ghost use Rattle.stack_run.specs.Stepping.{IsAtItem};
+ghost use Rattle.stack_run.specs.Machines.{state_view, stack_state, names_asked, opened_state, ball_of, value_in, IsReady};
 
-use crate::clauses::push_alternatives;
-use crate::entry::{Branch, Entry, Goal, Machine};
-use crate::job::{PlainJob, PlainQuery};
-use crate::terms::{bound_of_all, variable};
+use crate::frame::{Machine, QueryEnd, Stack};
+use crate::infer::infer;
+use crate::settle::settle;
 use au_model::VarName;
-use au_term::{FlatTerm, NoMemory};
+use au_term::{Cell, FlatTerm, NoMemory, Shared, TermBuilder, VarNo};
+use bind_store::Store;
+use clause_compile::Goals;
 use op_table::Ops;
 use std::alloc::Global;
-use term_writer::answer_line;
+use term_writer::{answer_line, ball_line};
+use text_load::{Job, Query};
 
 /// The machine before the first inference.
-pub(crate) fn opening(alloc: Global, job: &PlainJob) -> Result<Machine, NoMemory>
-    ensures { IfOk result (λ m. state_view job.now m [] 0 ≡ opening (job_view job.now)) }
+pub(crate) fn opening(alloc: Global, job: &Job) -> Result<Machine, NoMemory>
+    ensures state { IfOk result (λ m. state_view job.now m [] 0 ≡ settled (opening (job_meant job.now))) }
+    ensures ready { IfOk result (λ m. IsReady m.stack) }
 {
     let mut machine = Machine {
-        entries: Vec::new(alloc),
+        stack: nothing_left(alloc),
         asked: 0,
         answers: 0,
         line: Vec::new(alloc),
     };
     ask_next(alloc, job, &mut machine)?;
+    settle(alloc, &mut machine.stack)?;
     Ok(machine)
 }
 
-/// Puts the next query, if one is left, on the empty stack.
-fn ask_next(alloc: Global, job: &PlainJob, machine: &mut Machine) -> Result<(), NoMemory>
-    requires { machine.old.entries.items ≡ [] }
+/// The stack where no query is left.
+fn nothing_left(alloc: Global) -> Stack
+    ensures view { (own : List NamedTerm) → stack_view own result ≡ [] }
+    ensures fit { IsFit result }
+{
+    Stack {
+        store: Store::new(alloc),
+        current: None,
+        frames: Vec::new(alloc),
+        end: None,
+    }
+}
+
+/// The stack of a query that has not begun.
+fn query_stack(alloc: Global, query: &Query) -> Result<Stack, NoMemory>
+    ensures view { IfOk result (λ s. stack_view (own_terms query.now.names) s ≡ opened (query.now ∷ [])) }
+    ensures fit { IfOk result IsFit }
+{
+    let mut store = Store::new(alloc);
+    store.fresh(query.vars())?;
+    Ok(Stack {
+        store,
+        current: Some(query.goals().share()?),
+        frames: Vec::new(alloc),
+        end: Some(QueryEnd { ball: None }),
+    })
+}
+
+/// Lets the next query begin, if one is left.
+fn ask_next(alloc: Global, job: &Job, machine: &mut Machine) -> Result<(), NoMemory>
     ensures state { OnOk result ((written : List ℕ) (inferences : ℕ) → state_view job.now machine.new written inferences ≡ opened_state (state_view job.now machine.old written inferences)) }
+    ensures fit { OnOk result (IsFit machine.new.stack) }
     ensures line { machine.new.line ≡ machine.old.line }
 {
     if machine.asked < job.queries.len() {
-        let branch = query_branch(alloc, &job.queries[machine.asked])?;
-        machine.entries.push(Entry::QueryEnd)?;
-        machine.entries.push(Entry::Plain(branch))?;
+        machine.stack = query_stack(alloc, &job.queries[machine.asked])?;
         machine.asked += 1;
+    } else {
+        machine.stack = nothing_left(alloc);
     }
     Ok(())
 }
 
-/// What is left to do of a query that has not begun.
-fn query_branch(alloc: Global, query: &PlainQuery) -> Result<Branch, NoMemory>
-    ensures { IfOk result (λ b. branch_view query.now.names.items b ≡ query_continuation (query_view query.now)) }
+/// One inference, and all free steps after it; what it writes is the machine's line.
+pub(crate) fn step(alloc: Global, job: &Job, machine: &mut Machine) -> Result<(), NoMemory>
+    requires ready { IsReady machine.old.stack }
+    requires some { HasEnd machine.old.stack }
+    requires few { machine.old.answers < 2 ^ 64 - 1 }
+    ensures state { OnOk result ((written : List ℕ) (inferences : ℕ) → state_view job.now machine.new (written ++ machine.new.line.items) (inferences + 1) ≡ settled (step (arc_value job.now.procs) (state_view job.now machine.old written inferences))) }
+    ensures ready { OnOk result (IsReady machine.new.stack) }
 {
-    let named = variables(alloc, &query.names)?;
-    Ok(Branch {
-        next: bound_of_all(&query.goals).max(bound_of_all(&named)),
-        goals: query_goals(alloc, &query.goals)?,
-        named,
-    })
+    machine.line.clear();
+    inference(alloc, job, machine)?;
+    settle(alloc, &mut machine.stack)
 }
 
-/// The goals of a query, the last first; a cut in them leaves the query's end alone.
-fn query_goals(alloc: Global, terms: &[FlatTerm]) -> Result<Vec<Goal>, NoMemory>
-    ensures { IfOk result (λ v. map goal_view v.items ≡ reverse (goals_at 1 terms.now)) }
+/// One inference, without the free steps after it.
+fn inference(alloc: Global, job: &Job, machine: &mut Machine) -> Result<(), NoMemory>
+    requires ready { IsReady machine.old.stack }
+    requires some { HasEnd machine.old.stack }
+    requires line { machine.old.line.items ≡ [] }
+    requires few { machine.old.answers < 2 ^ 64 - 1 }
+    ensures state { OnOk result ((written : List ℕ) (inferences : ℕ) → state_view job.now machine.new (written ++ machine.new.line.items) (inferences + 1) ≡ step (arc_value job.now.procs) (state_view job.now machine.old written inferences)) }
+    ensures fit { OnOk result (IsFit machine.new.stack) }
 {
-    let mut goals = Vec::new(alloc);
-    for term in terms {
-        goals.push(Goal {
-            term: term.copy()?,
-            cut: 1,
-        })?;
+    match machine.stack.current.take() {
+        Some(goals) => take_item(alloc, job, &goals, machine),
+        None => end_query(alloc, job, machine),
     }
-    goals.reverse();
-    Ok(goals)
 }
 
-/// Named variables, each standing for itself.
-fn variables(alloc: Global, names: &[VarName]) -> Result<Vec<FlatTerm>, NoMemory>
-    ensures { IfOk result (λ v. v.items ≡ map variable_term names.now) }
+/// One inference on an alternative that was taken.
+fn take_item(alloc: Global, job: &Job, goals: &Goals, machine: &mut Machine) -> Result<(), NoMemory>
+    requires goals { IsAtItem goals.now machine.old.stack }
+    requires line { machine.old.line.items ≡ [] }
+    requires few { machine.old.answers < 2 ^ 64 - 1 }
+    ensures state { OnOk result ((written : List ℕ) (inferences : ℕ) → state_view job.now machine.new (written ++ machine.new.line.items) (inferences + 1) ≡ step (arc_value job.now.procs) (stack_state job.now machine.old.asked machine.old.answers (with_current goals.now machine.old.stack) written inferences)) }
+    ensures fit { OnOk result (IsFit machine.new.stack) }
 {
-    let mut all = Vec::new(alloc);
-    for name in names {
-        all.push(variable(alloc, name.number)?)?;
+    match goals.first() {
+        None => answer(alloc, job, machine),
+        Some(item) => {
+            let rest = goals.rest()?;
+            infer(alloc, item, &rest, &job.procs, &mut machine.stack)
+        }
     }
-    Ok(all)
+}
+
+/// Writes the line of an answer.
+fn answer(alloc: Global, job: &Job, machine: &mut Machine) -> Result<(), NoMemory>
+    requires work { IsAtWork machine.old.stack }
+    requires line { machine.old.line.items ≡ [] }
+    requires few { machine.old.answers < 2 ^ 64 - 1 }
+    ensures state { OnOk result ((written : List ℕ) (inferences : ℕ) → state_view job.now machine.new (written ++ machine.new.line.items) (inferences + 1) ≡ step (arc_value job.now.procs) (stack_state job.now machine.old.asked machine.old.answers (with_current [] machine.old.stack) written inferences)) }
+    ensures fit { OnOk result (IsFit machine.new.stack) }
+{
+    let names = asked_names(job, machine.asked);
+    let values = values_of(alloc, names, &machine.stack.store)?;
+    answer_line(alloc, &mut machine.line, names, &values, &job.ops)?;
+    machine.answers += 1;
+    Ok(())
 }
 
 /// The names of the query that was asked last.
-fn asked_names(job: &PlainJob, asked: usize) -> &[VarName]
-    ensures { result.now ≡ names_asked asked job.entry.now.queries.items }
+fn asked_names(job: &Job, asked: usize) -> &[VarName]
+    ensures { map variable_meant result.now ≡ names_asked asked job.entry.now.queries.items }
 {
     if asked == 0 || asked > job.queries.len() {
         return &[];
     }
-    &job.queries[asked - 1].names
+    job.queries[asked - 1].names()
 }
 
-/// One inference on the top entry; what it writes is the machine's line.
-pub(crate) fn step(
-    alloc: Global,
-    job: &PlainJob,
-    ops: &Ops,
-    machine: &mut Machine,
-) -> Result<(), NoMemory>
-    requires operators { ops.now ≡ initial_operators }
-    requires some { 0 < vec_len machine.old.entries }
-    requires few { machine.old.answers < 2 ^ 64 - 1 }
-    requires triable { Each IsTriable job.now.clauses.items }
-    ensures { OnOk result ((written : List ℕ) (inferences : ℕ) → ArePlainEntries (map clause_view job.now.clauses.items) (state_view job.now machine.old written inferences).entries →
-        state_view job.now machine.new (written ++ machine.new.line.items) (inferences + 1) ≡ step (map clause_view job.now.clauses.items) (state_view job.now machine.old written inferences)) }
+/// What variables stand for.
+fn values_of(alloc: Global, names: &[VarName], store: &Store) -> Result<Vec<FlatTerm>, NoMemory>
+    ensures { IfOk result (λ values. values.items ≡ map (value_in store.now) names.now) }
 {
-    machine.line.clear();
-    match machine.entries.pop() {
-        None => unreachable!(),
-        Some(Entry::QueryEnd) => {
-            machine.entries.clear();
-            machine.line.extend_from_slice(b"no\n")?;
-            ask_next(alloc, job, machine)
-        }
-        Some(Entry::Plain(branch)) => take_goal(alloc, job, ops, branch, machine),
+    let mut values = Vec::new(alloc);
+    for name in names {
+        values.push(value_of(alloc, name.number, store)?)?;
     }
+    Ok(values)
 }
 
-/// One inference on a branch that was taken from the stack.
-fn take_goal(
-    alloc: Global,
-    job: &PlainJob,
-    ops: &Ops,
-    branch: Branch,
-    machine: &mut Machine,
-) -> Result<(), NoMemory>
-    requires operators { ops.now ≡ initial_operators }
-    requires line { machine.old.line.items ≡ [] }
-    requires few { machine.old.answers < 2 ^ 64 - 1 }
-    requires triable { Each IsTriable job.now.clauses.items }
-    ensures { OnOk result ((written : List ℕ) (inferences : ℕ) → TakesGoal (map clause_view job.now.clauses.items) (branch_view (names_asked machine.old.asked job.now.queries.items) branch)
-        (state_view job.now machine.old written inferences) (state_view job.now machine.new (written ++ machine.new.line.items) (inferences + 1))) }
+/// What a variable stands for.
+fn value_of(alloc: Global, number: VarNo, store: &Store) -> Result<FlatTerm, NoMemory>
+    ensures { IfOk result (λ t. t ≡ resolve (substitution store.now) (VarTerm number)) }
 {
-    let mut branch = branch;
-    match branch.goals.pop() {
-        None => {
-            let names = asked_names(job, machine.asked);
-            answer_line(alloc, &mut machine.line, names, &branch.named, ops)?;
-            machine.answers += 1;
+    if number == VarNo::MAX {
+        return Err(NoMemory);
+    }
+    let mut builder = TermBuilder::new(alloc);
+    builder.push(Cell::Var(number))?;
+    let variable = Shared::from_term(alloc, builder.finish())?;
+    store.resolve(&variable)
+}
+
+/// Writes the line that ends a query, and lets the next one begin.
+fn end_query(alloc: Global, job: &Job, machine: &mut Machine) -> Result<(), NoMemory>
+    requires ready { IsReady machine.old.stack }
+    requires none { machine.old.stack.current ≡ None }
+    requires some { HasEnd machine.old.stack }
+    requires line { machine.old.line.items ≡ [] }
+    ensures state { OnOk result ((written : List ℕ) (inferences : ℕ) → state_view job.now machine.new (written ++ machine.new.line.items) (inferences + 1) ≡ step (arc_value job.now.procs) (state_view job.now machine.old written inferences)) }
+    ensures fit { OnOk result (IsFit machine.new.stack) }
+{
+    end_line(alloc, &machine.stack.end, &job.ops, &mut machine.line)?;
+    ask_next(alloc, job, machine)
+}
+
+/// Puts the line that ends a query behind the bytes of `line`.
+fn end_line(
+    alloc: Global,
+    end: &Option<QueryEnd>,
+    ops: &Ops,
+    line: &mut Vec<u8>,
+) -> Result<(), NoMemory>
+    ensures { OnOk result (line.new.items ≡ line.old.items ++ end_line ops.now (ball_of end.now)) }
+{
+    match end {
+        Some(QueryEnd { ball: Some(ball) }) => ball_line(alloc, line, ball, ops),
+        _ => {
+            line.extend_from_slice(b"no\n")?;
             Ok(())
         }
-        Some(goal) => push_alternatives(alloc, job, &goal.term, &branch, &mut machine.entries),
     }
 }

@@ -1,11 +1,9 @@
-use Rattle.std.proofs.Common.{◌+◌, ◌++◌, ◌∷◌, [], refl, ap, ◌∙◌, arith}
-use Rattle.stack_run.specs.declared.entry.Entry.TheVariants.{Plain}
+use Rattle.std.proofs.Common.{arith}
 use Rattle.stack_run.proofs.Stepping.{query_opens}
 use Rattle.stack_run.proofs.step.ask_next.Goals as goal
 
-pub returns-in_ok-push-2-clause-state : goal.returns-in_ok-push-2-clause-state
-returns-in_ok-push-2-clause-state c = λ written inferences.
+pub returns-in_ok-machine-clause-state : goal.returns-in_ok-machine-clause-state
+returns-in_ok-machine-clause-state c =
+    let job = c.args.job.now in
     let m = c.args.machine.now in
-    query_opens c.args.job.now m.asked (m.asked + 1) c.index.result.now c.in_ok-branch.branch m.entries.items c.push-then-machine-len.new.self.items written m.answers inferences
-    c.requires (omega (arith, c.len.ensures, c.args.job.now.queries.ok.0)) c.index.ensures c.in_ok-branch.ensures
-    (c.in_ok-push-2.ensures.items ∙ ap (λ es. es ++ Plain c.in_ok-branch.branch ∷ []) c.in_ok-push.ensures.items) refl
+    query_opens job m.asked m.answers c.index.result.now c.in_ok-machine.field-0 m.stack (omega (arith, c.if-machine-len.true, c.len.ensures, job.queries.ok.0)) c.index.ensures c.in_ok-machine.ensures.view

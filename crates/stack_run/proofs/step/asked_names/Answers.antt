@@ -1,5 +1,5 @@
 use Rattle.std.proofs.Common.{sym, ap, ◌∙◌, arith}
-use Rattle.stack_run.specs.Views.{names_asked}
+use Rattle.stack_run.specs.Machines.{names_asked}
 use Rattle.stack_run.proofs.Stepping.{names_past, names_at}
 use Rattle.stack_run.proofs.step.asked_names.Goals as goal
 use Rattle.stack_run.proofs.step.asked_names.Goals.{then-asked-eq0-via-then-asked-eq0, then-asked-eq0-via-else-asked-eq0+then-asked-len}
@@ -13,4 +13,4 @@ returns-then-asked-eq0 c =
     ]
 
 pub returns : goal.returns
-returns c = c.deref.ensures.value ∙ names_at c.args.asked c.args.job.now.queries.items c.index.result.now (omega arith) (omega (arith, c.len.ensures, c.args.job.now.queries.ok.0)) c.index.ensures
+returns c = c.names.ensures ∙ names_at c.args.asked c.args.job.now.queries.items c.index.result.now (omega arith) (omega (arith, c.len.ensures, c.args.job.now.queries.ok.0)) c.index.ensures

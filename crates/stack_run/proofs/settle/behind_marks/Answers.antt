@@ -1,0 +1,16 @@
+use Rattle.std.proofs.Common.{map, ◌∙◌, ap, sym, subst}
+use Rattle.au_model.specs.Each.{Each}
+use Rattle.au_model.specs.Items.{without_marks}
+use Rattle.engine_core.specs.Branches.{IsItemBelow}
+use Rattle.stack_run.specs.Views.{item_view}
+use Rattle.stack_run.proofs.Resuming.{mark_passed, no_mark, rest_below}
+use Rattle.stack_run.proofs.settle.behind_marks.Goals as goal
+
+pub loop-behind-preserved : goal.loop-behind-preserved
+loop-behind-preserved c = record {
+  same = λ s. ap (λ is. without_marks (map (item_view s) is)) c.in_ok-behind.ensures ∙ (mark_passed s c.loop-behind.behind (sym c.begins_with_mark.ensures ∙ c.loop-behind-test.true) ∙ c.loop-behind.invariant.same s);
+  below = λ n h. subst (Each (IsItemBelow n)) (sym c.in_ok-behind.ensures) (rest_below n c.loop-behind.behind (c.loop-behind.invariant.below n h));
+}
+
+pub returns-clause-items : goal.returns-clause-items
+returns-clause-items c = λ s. sym (no_mark s c.loop-behind.behind (sym c.begins_with_mark.ensures ∙ c.loop-behind-test.false)) ∙ c.loop-behind.invariant.same s

@@ -1,0 +1,16 @@
+use Rattle.std.proofs.Common.{◌≡◌, ℕ, length, map}
+use Rattle.au_model.specs.Each.{Each}
+use Rattle.au_model.specs.Items.{without_marks}
+use Rattle.au_model.specs.Substitutions.{Substitution}
+use Rattle.engine_core.specs.Branches.{IsItemBelow}
+use Rattle.stack_run.specs.Views.{item_view}
+use Rattle.stack_run.proofs.settle.behind_marks.Given as goal
+
+abbrev pub invariant-loop-behind : goal.invariant-loop-behind
+invariant-loop-behind l = record {
+  same : (s : Substitution) → without_marks (map (item_view s) l.behind) ≡ without_marks (map (item_view s) l.fn.goals);
+  below : (n : ℕ) → Each (IsItemBelow n) l.fn.goals → Each (IsItemBelow n) l.behind;
+}
+
+abbrev pub decreases-loop-behind : goal.decreases-loop-behind
+decreases-loop-behind l = length l.behind

@@ -1,0 +1,61 @@
+-- What a run stands for.
+use Rattle.std.specs.Prelude.{ℕ, zero, suc, List, [], ◌∷◌, drop, Option, Some, None}
+use Rattle.au_term.specs.Term.{Term, VarTerm}
+use Rattle.au_model.specs.Databases.{no_procedures}
+use Rattle.au_model.specs.Substitutions.{resolve}
+use Rattle.au_model.specs.FreeSteps.{IsSettled}
+use Rattle.au_model.specs.Lines.{NamedTerm}
+use Rattle.au_model.specs.Jobs.{NamedVariable, Query, own_terms}
+use Rattle.au_model.specs.States.{State, opened, queries_behind}
+use Rattle.au_model.specs.declared.var_name.VarName.{VarName}
+use Rattle.bind_store.specs.Stored.{Stored, substitution}
+use Rattle.text_load.specs.declared.job.Job.{Job}
+use Rattle.stack_run.specs.Views.{stack_view}
+use Rattle.stack_run.specs.Fitting.{IsFit}
+use Rattle.stack_run.specs.Settling.{IsResting}
+use Rattle.stack_run.specs.declared.frame.QueryEnd.{QueryEnd}
+use Rattle.stack_run.specs.declared.frame.Stack.{Stack}
+use Rattle.stack_run.specs.declared.frame.Machine.{Machine}
+
+-- the names of the query that was asked last, where so many were asked
+abbrev pub names_asked : ℕ → List Query → List NamedVariable
+names_asked zero qs = []
+names_asked (suc n) [] = []
+names_asked (suc zero) (q ∷ qs) = q.names
+names_asked (suc (suc n)) (q ∷ qs) = names_asked (suc n) qs
+
+-- what they stand for to begin with
+abbrev pub own_asked : ℕ → List Query → List NamedTerm
+own_asked asked qs = own_terms (names_asked asked qs)
+
+-- the state of a run with this stack, after these bytes and so many inferences
+abbrev pub stack_state : Job → ℕ → ℕ → Stack → List ℕ → ℕ → State
+stack_state job asked answers s written inferences = record {
+  entries = stack_view (own_asked asked job.queries.items) s;
+  world = record { written = written; database = no_procedures; operators = job.ops };
+  queries = drop asked job.queries.items;
+  answers = answers;
+  inferences = inferences;
+  halted = None;
+}
+
+abbrev pub state_view : Job → Machine → List ℕ → ℕ → State
+state_view job m written inferences = stack_state job m.asked m.answers m.stack written inferences
+
+-- no free step is left
+pub record IsReady (s : Stack) : Type 0 where
+  pub fit : IsFit s
+  pub resting : IsResting s
+  pub settled : (own : List NamedTerm) → IsSettled (stack_view own s)
+
+-- what a query's variable stands for
+abbrev pub value_in : Stored → VarName → Term
+value_in st v = resolve (substitution st) (VarTerm v.number)
+
+-- the next query in place of what is left of the last one
+abbrev pub opened_state : State → State
+opened_state st = record st { entries = opened st.queries; queries = queries_behind st.queries }
+
+abbrev pub ball_of : Option QueryEnd → Option Term
+ball_of None = None
+ball_of (Some e) = e.ball
