@@ -1,9 +1,8 @@
 -- A compound that has as many arguments as it may have.
-use Rattle.std.proofs.Common.{◌≡◌, ◌∙◌, ℕ, ◌≤◌, false, List, [], ◌∷◌, length, refl, sym, subst, arith}
-use Rattle.au_model.specs.Lexemes.{Token, token, Close}
+use Rattle.std.proofs.Common.{◌≡◌, ℕ, ◌≤◌, false, List, [], ◌∷◌, length, refl, sym, subst, arith}
+use Rattle.au_model.specs.Lexemes.{token, Close}
 use Rattle.au_model.specs.Trees.{Tree, Trees, no_trees, more_trees, AtomTree, CompoundTree, tree_count, one, two, nil, braces, cell}
 use Rattle.au_model.specs.Openings.{Setting}
-use Rattle.term_reader.specs.Stack as stack
 use Rattle.term_reader.specs.Stack.{Frame, Round, Braces, ItemOf, TailOf, ArgumentOf, PrefixOf, InfixOf, bound_of, list_of, trees_of, final}
 use Rattle.term_reader.specs.Frames.{IsKept}
 use Rattle.term_reader.specs.Begun.{setting_of}
