@@ -64,8 +64,9 @@ abbrev pub token_start : ℕ → List ℕ → Gap
 token_start n cs = behind_layout (first_tokens n cs).rest
 
 -- The kind of a text's fault, and the characters from its place on. The first token with which the tokens begin no
--- term, behind its layout; where that is a comma it may be one argument too many, at the name of a compound that begins
--- before it: a `)` in its place goes on, behind 65,535 arguments of a compound of this name. Or all tokens up to a faulty one, or up to the end of the text, begin a term.
+-- term, behind its layout. Where that is a comma it may be one argument too many, at the name of a compound that begins
+-- before it; then a `)` in its place goes on, and what is closed so has a compound of this name with as many arguments
+-- as it may have. Or all tokens up to a faulty one, or up to the end of the text, begin a term.
 pub data Fault (s : Setting) (cs : List ℕ) : FaultKind → List ℕ → Type 0 where
   unexpected : {n : ℕ} {from : List ℕ} → FaultAt s (tokens_of cs) n → is_wide (slice_get (tokens_of cs) n) ≡ false → token_start n cs ≡ GapThen from → Fault s cs UnexpectedToken from
   wide : {n : ℕ} {from : List ℕ} → FaultAt s (tokens_of cs) n → is_wide (slice_get (tokens_of cs) n) ≡ true → token_start n cs ≡ GapThen from → Fault s cs WideNumeral from
