@@ -197,7 +197,7 @@ put-arguments : (s : Sheet) (ts : List Tree) (us : Trees) → put_trees (put_bef
 put-arguments s [] us = refl
 put-arguments s (t ∷ ts) us = put-arguments s ts (more_trees t us)
 
-trees-count : (ts : List Tree) (us : Trees) → tree_count (trees_of ts us) ≡ length ts + tree_count us
+pub trees-count : (ts : List Tree) (us : Trees) → tree_count (trees_of ts us) ≡ length ts + tree_count us
 trees-count [] us = omega arith
 trees-count (t ∷ ts) us = omega (arith, trees-count ts (more_trees t us))
 

@@ -35,10 +35,10 @@ module _ (s : Setting) where
   next-closing b p (PrefixOf n o ∷ k) = next-closing b p k
   next-closing b p (InfixOf n o l ∷ k) = next-closing b p k
 
-  plugged : (k : List Frame) (l goal : Tree) (p : ℕ) → p ≤ bound_of k → Plugs s k (closing k) l goal → Goes s k (closing k) l p goal
+  pub plugged : (k : List Frame) (l goal : Tree) (p : ℕ) → p ≤ bound_of k → Plugs s k (closing k) l goal → Goes s k (closing k) l p goal
   plugged k l goal p le q = went_stop s (closing k) l p (next-closing (bound_of k) p k) le q
 
-  pub closes : (k : List Frame) → IsKept k → (l : Tree) (p : ℕ) → p ≤ bound_of k → (goal : Tree) × Goes s k (closing k) l p goal
+  unfoldable pub closes : (k : List Frame) → IsKept k → (l : Tree) (p : ℕ) → p ≤ bound_of k → (goal : Tree) × Goes s k (closing k) l p goal
   closes [] h l p le = (l, plugged [] l l p le over)
   closes (Round ∷ k) h l p le = let r = closes k h l 0 (omega arith) in (r.0, plugged (Round ∷ k) l r.0 p le (round r.1))
   closes (Braces ∷ k) h l p le = let r = closes k h (one braces l) 0 (omega arith) in (r.0, plugged (Braces ∷ k) l r.0 p le (braced r.1))

@@ -1,6 +1,6 @@
 -- The fault of a text where no token goes on.
-use Rattle.std.proofs.Common.{◌≡◌, ◌∙◌, ℕ, ◌^◌, nat_le, Bool, true, false, List, [], ◌∷◌, ◌++◌, length, slice_get, Some, refl, sym, ap, subst, arith, append-nil, IsCharBoundary, if◌then◌else◌, ◌≤◌, drop}
-use Rattle.std.proofs.Math.Seq.{drop-length}
+use Rattle.std.proofs.Common.{◌≡◌, ◌∙◌, ℕ, ◌^◌, nat_le, Bool, true, false, List, [], ◌∷◌, ◌++◌, length, slice_get, Some, refl, sym, ap, subst, arith, append-nil, IsCharBoundary, if◌then◌else◌, ◌≤◌, take, drop}
+use Rattle.std.proofs.Math.Seq.{drop-length, take-append_seam}
 use Rattle.std.proofs.lemmas.Str.{chars-nil, IsCharBoundary-from_drop, IsUtf8-nil}
 use Rattle.std.specs.Str.{chars, IsUtf8}
 use Rattle.au_model.specs.Characters.{chars_from}
@@ -12,7 +12,7 @@ use Rattle.au_model.specs.Openings.{Setting, Call, begins}
 use Rattle.au_model.specs.TermTexts.{is_last, is_over}
 use Rattle.au_model.specs.declared.fault_kind.FaultKind.{FaultKind}
 use Rattle.au_model.specs.declared.fault_kind.FaultKind.TheVariants.{UnexpectedToken, UnexpectedEnd, WideNumeral, TooManyArguments}
-use Rattle.term_reader.specs.TextFaults.{Begins, FaultAt, is_wide, token_start, Fault, unexpected, wide, too_many, faulty, ended}
+use Rattle.term_reader.specs.TextFaults.{Begins, FaultAt, IsFull, is_wide, token_start, Fault, unexpected, wide, too_many, faulty, ended}
 use Rattle.term_reader.specs.Refusing.{Stuck, unexpected_kind, IsFault}
 use Rattle.term_reader.specs.Meant.{IsStart}
 use Rattle.term_reader.specs.declared.refusal.Refused.{Refused}
@@ -64,13 +64,13 @@ module _ (s : Setting) (text : List ℕ) (start at : ℕ) (h : Stuck s text star
       (ap behind_layout (scans-first h.scans) ∙ g)
 
   pub stuck-many : (rest from : List ℕ) (a : Bool) → scanned (chars_from text at) ≡ ScannedTo (token a words.Comma) rest → (m : ℕ) (name : List ℕ) (us : List Token) → m ≤ length h.read
-      → begins s (drop m (tokens_of (chars_from text start))) ≡ Call name us → token_start m (chars_from text start) ≡ GapThen from → Fault s (chars_from text start) TooManyArguments from
-  stuck-many rest from a e m name us le called place =
+      → begins s (drop m (tokens_of (chars_from text start))) ≡ Call name us → IsFull s h.read name → token_start m (chars_from text start) ≡ GapThen from → Fault s (chars_from text start) TooManyArguments from
+  stuck-many rest from a e m name us le called full place =
       let first = tokens-first (chars_from text at) rest a words.Comma e in
       let is : tokens_of (chars_from text start) ≡ h.read ++ token a words.Comma ∷ first.more = scans-tokens h.scans ∙ ap (λ ts. h.read ++ ts) first.is in
       too_many (fault-of s (tokens_of (chars_from text start)) h.read first.more (token a words.Comma) is h.begins (h.ends (token a words.Comma) first.more first.is))
       (ap (λ ts. slice_get ts (length h.read)) is ∙ get-behind h.read first.more (token a words.Comma))
-      le called place
+      le called (subst (λ ts. IsFull s ts name) (sym (ap (take (length h.read)) is ∙ take-append_seam h.read (token a words.Comma ∷ first.more))) full) place
 
   begins-all : scanned (chars_from text at) ≡ ScannedNone → Begins s (tokens_of (chars_from text start))
   begins-all e =

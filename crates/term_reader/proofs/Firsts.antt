@@ -60,8 +60,8 @@ not-over : (lx : Lexed) (k : FaultKind) (us : List ℕ) {A : Type 0} → lx ≡ 
 not-over lx k us e f = let h : false ≡ true = sym (ap is_last e) ∙ f in let z : ⊥ = cc in absurd z
 
 pub same-fault : (s : Setting) (cs us vs : List ℕ) (j k : FaultKind) → Fault s cs j us → Fault s cs k vs → (j ≡ TooManyArguments → ⊥) → (k ≡ TooManyArguments → ⊥) → (j ≡ k) × (us ≡ vs)
-same-fault s cs us vs j k (too_many f a b c d) y p q = absurd (p refl)
-same-fault s cs us vs j k x (too_many g a b c d) p q = absurd (q refl)
+same-fault s cs us vs j k (too_many f a b c g d) y p q = absurd (p refl)
+same-fault s cs us vs j k x (too_many g a b c f d) p q = absurd (q refl)
 same-fault s cs us vs j k (unexpected {n = m} f a e) (unexpected {n = n} g b h) p q = (refl, same-start cs us vs m n (one-fault s (tokens_of cs) m n f g) e h)
 same-fault s cs us vs j k (unexpected {n = m} f a e) (wide {n = n} g b h) p q = crossed (tokens_of cs) m n (one-fault s (tokens_of cs) m n f g) a b
 same-fault s cs us vs j k (unexpected {n = m} f a e) (faulty b h) p q = not-all s (tokens_of cs) m f b

@@ -22,6 +22,7 @@ pub mod Looking
 pub mod Opened
 pub mod Ledger
 pub mod Faulty
+pub mod Filled
 pub mod Refusals
 pub mod Highs
 pub mod Taking

@@ -5,6 +5,7 @@ use Rattle.au_model.specs.Lexemes.{Lexeme, Token, token, scanned, Scanned, Scann
 use Rattle.au_model.specs.Operators.{OperatorTable, prefix_of}
 use Rattle.au_model.specs.Joints.{named_joint}
 use Rattle.au_model.specs.Openings.{opens, counts, is_joint, is_operator, joins, is_minus, ends_before, stands_alone}
+use Rattle.au_model.specs.Trees.{Tree}
 use Rattle.term_reader.specs.Stack as stack
 use Rattle.term_reader.specs.Stack.{Frame}
 use Rattle.term_reader.specs.Looks.{Look, Free, Named, Lone, Over, InList, InCurly, Joined, closes_list, closes_curly, is_plain, presumed}
@@ -98,6 +99,16 @@ ready ops (There k l p) InList us h e = absurd h
 ready ops (Due k) InCurly us h e = refl
 ready ops (There k l p) InCurly us h e = absurd h
 ready ops x (Joined y) us h e = ends-quiet ops y us (completion x) e (completion-quiet x)
+
+-- and so is a bracket that closes
+pub ready-close : (ops : OperatorTable) (k : List Frame) (l : Tree) (p : ℕ) (look : Look) (us vs : List Token) → Suits (There k l p) look → presumed ops look us ≡ true → presumed ops look (token false words.Close ∷ vs) ≡ true
+ready-close ops k l p Free us vs h e = refl
+ready-close ops k l p (Named sign) us vs h e = quiet-plain sign (token false words.Close ∷ vs) (record { no_open = refl; no_count = refl })
+ready-close ops k l p (Lone sign) us vs h e = and-both _ _ (quiet-plain sign (token false words.Close ∷ vs) (record { no_open = refl; no_count = refl })) refl
+ready-close ops k l p (Over sign) us vs h e = absurd h
+ready-close ops k l p InList us vs h e = absurd h
+ready-close ops k l p InCurly us vs h e = absurd h
+ready-close ops k l p (Joined y) us vs h e = ends-quiet ops y us (token false words.Close ∷ vs) e (record { no_open = refl; no_count = refl })
 
 -- what is presumed of one token and those behind it, where a prefix operator in front makes no difference
 plain-first : (sign : Bool) (t : Token) (us vs : List Token) → is_plain sign (t ∷ us) ≡ true → is_plain sign (t ∷ vs) ≡ true

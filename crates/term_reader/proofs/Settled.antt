@@ -4,7 +4,7 @@ use Rattle.std.proofs.lemmas.List.{map-append}
 use Rattle.au_model.specs.Operators.{Operator, OperatorTable}
 use Rattle.au_model.specs.Lexemes.{Token}
 use Rattle.au_model.specs.Trees.{Tree, one, two}
-use Rattle.au_model.specs.Joints.{Joint, right_bound, joint_fits}
+use Rattle.au_model.specs.Joints.{Joint, Nothing, right_bound, joint_fits}
 use Rattle.au_model.specs.Openings.{Setting}
 use Rattle.au_term.specs.declared.cell.Cell.TheVariants.{Functor}
 use Rattle.term_reader.specs.Stack as stack
@@ -155,6 +155,7 @@ over-prefix-at s j below l p old new n o h e sheet fails = record {
   tree = one n l;
   stands = record { shapes = e; sheet = sheet; kept = h.kept.1; low = h.kept.0 };
   same = over-prefix s j below n o l p h.low fails;
+  apart = over-prefix s Nothing below n o l p h.low refl;
 }
 
 over-infix-at : (s : Setting) (j : Joint) (below : List stack.Frame) (l m : Tree) (p : ℕ) (old new : State) (n : List ℕ) (o : Operator) → Stands old (There (stack.InfixOf n o m ∷ below) l p)
@@ -165,6 +166,7 @@ over-infix-at s j below l m p old new n o h e sheet fails = record {
   tree = two n m l;
   stands = record { shapes = e; sheet = sheet; kept = h.kept.1; low = h.kept.0 };
   same = over-infix s j below n o m l p h.low fails;
+  apart = over-infix s Nothing below n o m l p h.low refl;
 }
 
 -- a prefix or infix operator is put over its operand

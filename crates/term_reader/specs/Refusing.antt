@@ -1,7 +1,7 @@
 -- Where no token goes on, and what is refused there.
 use Rattle.std.specs.Prelude.{◌≡◌, ◌^◌, ◌≤◌, ◌<◌, ◌&&◌, ◌||◌, not, ℕ, Bool, nat_le, false, List, [], ◌∷◌, ◌++◌, Option, Some, None, IsCharBoundary, if◌then◌else◌}
 use Rattle.au_model.specs.Characters.{chars_from}
-use Rattle.au_model.specs.Lexemes.{Lexeme, Name, QuotedName, Integer, Comma, Token, token, scanned, ScannedTo, tokens_of}
+use Rattle.au_model.specs.Lexemes.{Lexeme, Name, QuotedName, Integer, Close, Comma, Token, token, scanned, ScannedTo, tokens_of}
 use Rattle.au_model.specs.Operators.{OperatorTable, prefix_of}
 use Rattle.au_model.specs.Joints.{Joint, named_joint, joint_fits, right_bound}
 use Rattle.au_model.specs.Trees.{Tree}
@@ -25,7 +25,7 @@ use Rattle.op_table.specs.declared.operator.Operator.{Operator as DeclaredOperat
 use Rattle.term_reader.specs.declared.state.Frame.{Frame as DeclaredFrame}
 use Rattle.term_reader.specs.declared.state.Frame.TheVariants as frame
 use Rattle.term_reader.specs.Looks.{Scans}
-use Rattle.term_reader.specs.TextFaults.{Begins, Fault}
+use Rattle.term_reader.specs.TextFaults.{Begins, Fault, Has, AreClosing}
 use Rattle.term_reader.specs.declared.refusal.Refused.{Refused}
 use Rattle.term_reader.specs.declared.steps.Turn.{Turn}
 use Rattle.term_reader.specs.declared.steps.Turn.TheVariants.{Refused as RefusedTurn}
@@ -68,7 +68,8 @@ pub record NotTaken (source : Source) (start : ℕ) (k : List Frame) (l : Tree) 
   pub starts : IsStart source.text.now at place
   pub refused : (more : List Token) (goal : Tree) → Goes (setting_of source) k (token apart lexeme ∷ more) l p goal → ⊥
 
--- what is read at a place with this token is read in this stack, behind operators that were put over their operands
+-- what is read at a place with this token is read in this stack, behind operators that were put over their operands;
+-- and what this stack reads behind a bracket that closes is read at the place
 pub record IsPassed (source : Source) (start at : ℕ) (doubt : Bool) (t : Token) (k : List Frame) (l : Tree) (p : ℕ) : Type 0 where
   pub stack : List Frame
   pub tree : Tree
@@ -77,6 +78,7 @@ pub record IsPassed (source : Source) (start at : ℕ) (doubt : Bool) (t : Token
   pub kept : IsKept stack
   pub low : priority ≤ bound_of stack
   pub passes : (more : List Token) (goal : Tree) → Goes (setting_of source) stack (t ∷ more) tree priority goal → Goes (setting_of source) k (t ∷ more) l p goal
+  pub closes : (more : List Token) (goal : Tree) → Goes (setting_of source) k (token false Close ∷ more) l p goal → Goes (setting_of source) stack (token false Close ∷ more) tree priority goal
 
 -- ---- places in the stack
 
@@ -102,12 +104,20 @@ ArePlaces s text start at (f ∷ fs) = IsFramePlace s text start at f × ArePlac
 
 -- ---- where an operand ends
 
+-- with a bracket that closes, and more of them, it is read to a term with a compound of this name and so many arguments
+pub record Fills (s : Setting) (k : List Frame) (l : Tree) (p : ℕ) (name : List ℕ) : Type 0 where
+  pub more : List Token
+  pub tree : Tree
+  pub closing : AreClosing more
+  pub has : Has name 65535 tree
+  pub reads : Goes s k (token false Close ∷ more) l p tree
+
 -- this is the fault where the token that stands behind the operand is not taken, and where it is a comma that would
 -- stand behind the last argument, the compound's place is that of the fault
 abbrev pub IsHeldFault : (source : Source) → ℕ → (st : State) → (f : DeclaredFrame) → (k : List Frame) → (l : Tree) → (p : ℕ) → (c : Closer) → (end : ℕ) → IsClosing source st f k l p c end → Refused → Type 0
 IsHeldFault source start st f k l p c end h r =
     ((more : List Token) (goal : Tree) → Goes (setting_of source) k (token h.apart h.lexeme ∷ more) l p goal → ⊥)
-    → IsFault (setting_of source) source.text.now start r × ((place : ℕ) (name : List ℕ) → h.lexeme ≡ Comma → CallPlace (setting_of source) source.text.now start st.at name place → IsFault (setting_of source) source.text.now start (record { at = place; kind = TooManyArguments }))
+    → IsFault (setting_of source) source.text.now start r × ((place : ℕ) (name : List ℕ) → h.lexeme ≡ Comma → CallPlace (setting_of source) source.text.now start st.at name place → Fills (setting_of source) k l p name → IsFault (setting_of source) source.text.now start (record { at = place; kind = TooManyArguments }))
 
 -- ---- behind a prefix operator
 

@@ -22,12 +22,13 @@ pub record Same (s : Setting) (j : Joint) (k : List Frame) (l : Tree) (p : ℕ) 
   pub to : (ts : List Token) (goal : Tree) → first_joint s.ops ts ≡ j → Goes s k ts l p goal → Goes s m ts t q goal
   pub back : (ts : List Token) (goal : Tree) → first_joint s.ops ts ≡ j → Goes s m ts t q goal → Goes s k ts l p goal
 
--- an operator stands over its operand
+-- an operator stands over its operand, also where nothing is joined
 pub record IsOver (s : Setting) (k : List Frame) (l : Tree) (p : ℕ) (j : Joint) (st : State) (q : ℕ) : Type 0 where
   pub below : List Frame
   pub tree : Tree
   pub stands : Stands st (There below tree q)
   pub same : Same s j k l p below tree q
+  pub apart : Same s Nothing k l p below tree q
 
 abbrev pub IsPlug : Setting → List Frame → Tree → ℕ → Joint → State → Plug → Type 0
 IsPlug s k l p j st (Over q) = IsOver s k l p j st q
@@ -48,4 +49,5 @@ pub record IsSettled (s : Setting) (k : List Frame) (l : Tree) (p : ℕ) (j : Jo
   pub tree : Tree
   pub stands : Stands st (There below tree q)
   pub same : Same s j k l p below tree q
+  pub apart : Same s Nothing k l p below tree q
   pub free : IsFree below q j fits

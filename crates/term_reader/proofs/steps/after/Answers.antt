@@ -11,7 +11,7 @@ use Rattle.term_reader.specs.Stack.{bound_of}
 use Rattle.term_reader.specs.Frames.{InfixShape, put_stack}
 use Rattle.term_reader.specs.Sheets.{put_tree, put_cell}
 use Rattle.term_reader.specs.Kept.{IsSheetOf}
-use Rattle.au_model.specs.Lexemes.{token}
+use Rattle.au_model.specs.Lexemes.{token, Close}
 use Rattle.term_reader.specs.Meant.{IsStart}
 use Rattle.term_reader.specs.Refusing.{ArePlaces}
 use Rattle.term_reader.specs.declared.state.Frame.{Frame}
@@ -109,6 +109,7 @@ returns-then-not-fits-clause-fault c = λ first k l st led starts places.
       kept = st.kept;
       low = st.low;
       passes = λ more goal g. z.same.to (token c.args.found.apart x ∷ more) goal (sym c.joint_of-joint.ensures) g;
+      closes = λ more goal g. z.apart.back (token false Close ∷ more) goal refl g;
     }) (subst (λ n. IsStart text n c.args.found.start) at starts) (subst (λ n. ArePlaces s text first n c.settle.new.self.frames.items) at (c.in_ok-last.ensures.places (setting_of c.args.source) c.args.source.text.now first c.args.state.now.at places))
 
 pub returns-then-not-fits-clause-places : goal.returns-then-not-fits-clause-places

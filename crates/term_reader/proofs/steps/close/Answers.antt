@@ -7,7 +7,7 @@ use Rattle.term_reader.proofs.Closing.{is-end_token}
 use Rattle.term_reader.proofs.Closed.{over-ends, over-refuses, over-never}
 use Rattle.term_reader.specs.Refusing.{ArePlaces}
 use Rattle.term_reader.proofs.Taking.{places-last, places-front}
-use Rattle.term_reader.proofs.Held.{not-taken, many-fault}
+use Rattle.term_reader.proofs.Held.{not-taken, many-fault, passed-fills}
 use Rattle.term_reader.specs.Begun.{setting_of}
 use Rattle.term_reader.proofs.steps.close.Goals as goal
 
@@ -62,7 +62,7 @@ returns-clause-fault c = λ first k l p st shut stops passed starts places.
     })
     (λ never. (
       c.in_ok-refused.ensures first passed.stack passed.tree passed.priority c.args.state.now.at (nt never),
-      λ place name e b. many-fault c.args.source first passed.stack passed.tree passed.priority c.args.state.now.at c.args.doubt x c.args.found.start c.args.found.end (nt never) place name e b,
+      λ place name e b f. many-fault c.args.source first passed.stack passed.tree passed.priority c.args.state.now.at c.args.doubt x c.args.found.start c.args.found.end (nt never) place name e b (passed-fills (setting_of c.args.source) k passed.stack l passed.tree p passed.priority name passed.closes f),
     ))
     (places-last (setting_of c.args.source) text first c.args.state.now.at c.pop.new.self.items c.in-Some.frame here)
 

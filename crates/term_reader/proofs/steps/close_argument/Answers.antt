@@ -7,6 +7,7 @@ use Rattle.term_reader.specs.declared.state.Frame.TheVariants as frame
 use Rattle.term_reader.specs.Refusing.{ArePlaces}
 use Rattle.term_reader.proofs.Taking.{places-push}
 use Rattle.term_reader.proofs.Closing.{refuses, is-comma}
+use Rattle.term_reader.proofs.Filled.{fills}
 use Rattle.term_reader.specs.Begun.{setting_of}
 use Rattle.term_reader.proofs.steps.close_argument.Goals as goal
 
@@ -17,6 +18,7 @@ returns-then-before-ge65534-clause-outcome c = λ k l p h goal g.
 pub returns-then-before-ge65534-clause-fault : goal.returns-then-before-ge65534-clause-fault
 returns-then-before-ge65534-clause-fault c = λ first k l p h held b.
     (held (too_many c.args.source c.args.state.now c.args.state.now k l p c.args.token c.args.end c.args.name c.args.before c.args.place h c.in-Comma.is (omega arith))).1 c.args.place c.args.name (is-comma h.lexeme (sym h.closer ∙ c.in-Comma.is)) b
+    (fills c.args.source c.args.state.now k l p c.args.token c.args.end c.args.name c.args.before c.args.place h (omega arith))
 
 pub returns-else-before-ge65534-clause-outcome : goal.returns-else-before-ge65534-clause-outcome
 returns-else-before-ge65534-clause-outcome c = λ k l p h.
