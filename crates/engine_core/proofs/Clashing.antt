@@ -140,13 +140,6 @@ some_defined clauses name arity key left h = go (is_defined clauses name arity) 
     go true e = (refl, cc)
     go false e = cc
 
-pub none_defined : (clauses : List ClauseTerms) (name : List ℕ) (arity : ℕ) (key : Key) → None ≡ candidates_of clauses name arity key → is_defined clauses name arity ≡ false
-none_defined clauses name arity key h = go (is_defined clauses name arity) h
-  where
-    go : (b : Bool) → None ≡ cond b (Some (matching key (procedure_of clauses name arity))) None → b ≡ false
-    go true e = cc
-    go false e = refl
-
 -- the key of a goal's first argument
 pub no_arguments : (s : Substitution) (goal : Term) → is_callable goal ≡ true → argument_count goal ≡ 0 → Any ≡ first_key (resolve s goal)
 no_arguments s (VarTerm n) h e = cc

@@ -1,6 +1,6 @@
 -- What goals come to, where one branch is left.
 use Rattle.std.proofs.Common.{◌≡◌, ℕ, ◌+◌, ◌<◌, ◌≤◌, ◌==◌, ◌&&◌, not, nat_lt, Bool, true, false, cond, List, [], ◌∷◌, ◌++◌, map, Option, Some, None, refl, sym, ap, ◌∙◌, subst, arith}
-use Rattle.std.specs.Prelude.{codes, Ok, Err}
+use Rattle.std.specs.Prelude.{codes, Ok}
 use Rattle.std.proofs.lemmas.Bool.Decides.{nat_tests}
 use Rattle.std.specs.Option.{option_map}
 use Rattle.au_term.specs.Term.{Term, VarTerm, IntTerm, AtomTerm, Compound, end, more, count, var_bound, argument, arguments, argument_count, drop_terms}
@@ -9,7 +9,7 @@ use Rattle.au_model.specs.Each.{Each}
 use Rattle.au_model.specs.Substitutions.{apply, apply_all, value_of, resolve}
 use Rattle.au_model.specs.Forms.{same_name, binary, is_callable}
 use Rattle.au_model.specs.Bodies.{is_junction, junction, body_of, goals_of, call_of, called_goals}
-use Rattle.au_model.specs.ErrorTerms.{error_term, type_error, representation_error}
+use Rattle.au_model.specs.ErrorTerms.{error_term, representation_error}
 use Rattle.au_model.specs.Control.{called, call_outcome, raised, with_arguments}
 use Rattle.au_model.specs.Outcomes.{Controls, GoesOnWith}
 use Rattle.au_model.proofs.Tables.{IfFound, each-append}
@@ -20,9 +20,6 @@ use Rattle.clause_compile.specs.Compiling.{goal_items, IsCalled}
 use Rattle.clause_compile.specs.declared.item.Scope.{Scope}
 use Rattle.clause_compile.specs.declared.item.Item.{Item}
 use Rattle.clause_compile.specs.declared.event.Branch.{Branch}
-use Rattle.clause_compile.specs.declared.clause.ClauseRefusal.{ClauseRefusal}
-use Rattle.clause_compile.specs.declared.clause.ClauseRefusal.TheVariants.{NoHead, NotCallable, NoMemory}
-use Rattle.clause_compile.specs.declared.clause.Part.TheVariants.{Head, Body}
 use Rattle.bind_store.specs.Stored.{Stored, IsSound, IsUnbound, substitution}
 use Rattle.bind_store.proofs.Holding.{resolved_stays}
 use Rattle.bind_store.proofs.Storing.{resolve_below}
@@ -156,19 +153,6 @@ called_alone st cut here arity goal body rest goals b r sound e h m a =
     let stands : Stands st.made here (goals_of found.body) rest goals = record { terms = goals_of found.body; are = found.are; same = goals_stay (value_of s) found.body kept } in
     let is : called_goals (resolve s goal) ≡ Some (goals_of found.body) = ap called_goals (sym e) ∙ ap (option_map goals_of) found.is in
     subst (λ o. IsOutcome cut here rest st (called arity (resolve s goal) o) r) (sym is) (only_branch cut here (goals_of found.body) rest st b r (goes_on st here (goals_of found.body) rest goals b m stands) a)
-
--- or that is none
-no_goals : (t : Term) (here : Scope) (rest : List Item) (e : ClauseRefusal) → IsCalled t here rest (Err e) → (e ≡ NoMemory → ⊥) → called_goals t ≡ None
-no_goals t here rest NoHead h n = absurd h
-no_goals t here rest (NotCallable Head) h n = absurd h
-no_goals t here rest (NotCallable Body) h n = h
-no_goals t here rest NoMemory h n = absurd (n refl)
-
-pub called_none : (st : Stored) (cut here : Scope) (arity : ℕ) (goal body ball : Term) (rest : List Item) (e : ClauseRefusal) → body ≡ resolve (substitution st) goal → IsCalled body here rest (Err e) → (e ≡ NoMemory → ⊥) → ball ≡ error_term (type_error (codes "callable") body) (codes "call") arity
-    → IsOutcome cut here rest st (called arity (resolve (substitution st) goal) (called_goals (resolve (substitution st) goal))) (Raise ball)
-called_none st cut here arity goal body ball rest e is h n b =
-    let none : called_goals (resolve (substitution st) goal) ≡ None = ap called_goals (sym is) ∙ no_goals body here rest e h n in
-    subst (λ o. IsOutcome cut here rest st (called arity (resolve (substitution st) goal) o) (Raise ball)) (sym none) (b ∙ ap (λ t. error_term (type_error (codes "callable") t) (codes "call") arity) is)
 
 -- a goal without further goals in it
 plain_top : (f : ℕ → Term) (t : Term) → is_callable t ≡ true → opens_junction (top_of t) ≡ false → opens_plain_goal (top_of (apply f t)) ≡ true

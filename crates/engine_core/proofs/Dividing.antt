@@ -17,7 +17,7 @@ use Rattle.clause_compile.specs.declared.item.Item.{Item}
 use Rattle.clause_compile.specs.declared.item.Item.TheVariants.{Goal}
 use Rattle.bind_store.specs.Stored.{Stored, IsUnbound, IsReachedTerm, substitution}
 use Rattle.bind_store.proofs.Apart.{free-composed}
-use Rattle.engine_core.specs.Branches.{IsItemBelow, Stands}
+use Rattle.engine_core.specs.Branches.{IsItemBelow}
 use Rattle.engine_core.specs.TakingApart.{goals_of_bodies, bodies_size, TakesApart}
 use Rattle.engine_core.proofs.Standing.{argument_below}
 
@@ -119,18 +119,6 @@ map-both : {X Y : Type 0} (f : X → Y) (xs ys : List X) → map f (xs ++ ys) �
 map-both f [] ys = refl
 map-both f (x ∷ xs) ys = ap (λ zs. f x ∷ zs) (map-both f xs ys)
 
-pub whole_body : (st : Stored) (cut : Scope) (body first : Term) (rest goals : List Item) (bodies : List Term) → var_bound body ≤ st.next → goals ≡ rest → first ≡ body → bodies ≡ first ∷ [] → IsDivided st cut body rest goals bodies
-whole_body st cut body first rest goals bodies le g f b =
-    let s = substitution st in
-    let all = b ∙ ap (λ t. t ∷ []) f in
-    record {
-      terms = [];
-      are = g;
-      same = append-nil (goals_of_bodies s bodies) ∙ (ap (goals_of_bodies s) all ∙ append-nil (goals_of (resolve s body)));
-      goals_below = tt;
-      bodies_below = subst (Each (λ t. var_bound t ≤ st.next)) (sym all) (le, tt);
-    }
-
 front_of : (P : Term → Type 0) (bs : List Term) (b : Term) → Each P (bs ++ b ∷ []) → Each P bs × P b
 front_of P [] b h = (tt, h.0)
 front_of P (c ∷ bs) b h = let more = front_of P bs b h.1 in ((h.0, more.0), more.1)
@@ -154,11 +142,6 @@ smaller_now st cut last goals now all bodies left e t =
     let s = substitution st in
     let size_is : bodies_size s all ≡ bodies_size s bodies + size (resolve s last) = ap (bodies_size s) e ∙ size-last s bodies last in
     omega (arith, t.smaller, size_is)
-
--- where no body is left
-pub divided : (st : Stored) (cut : Scope) (body : Term) (rest goals : List Item) (bodies : List Term) → IsDivided st cut body rest goals bodies → bodies ≡ [] → Stands st.made cut (goals_of (resolve (substitution st) body)) rest goals
-divided st cut body rest goals bodies d e =
-    record { terms = d.terms; are = d.are; same = sym (ap (λ bs. goals_of_bodies (substitution st) bs ++ map (resolve (substitution st)) d.terms) e) ∙ d.same }
 
 items_below : (n : ℕ) (cut : Scope) (terms : List Term) → Each (λ t. var_bound t ≤ n) terms → Each (IsItemBelow n) (goal_items cut terms)
 items_below n cut [] h = tt

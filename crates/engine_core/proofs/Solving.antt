@@ -25,7 +25,7 @@ use Rattle.bind_store.proofs.Holding.{in_turn, new_is_unbound}
 use Rattle.bind_store.proofs.Storing.{front_below, further_below}
 use Rattle.bind_store.proofs.Taking.{apart_front, drop_front}
 use Rattle.engine_core.specs.Branches.{IsItemBelow, Solves}
-use Rattle.engine_core.specs.Trying.{equation_solution, MakeOne, AreMadeOne}
+use Rattle.engine_core.specs.Trying.{MakeOne, AreMadeOne}
 use Rattle.engine_core.proofs.Raising.{renamed-raised, raised_stays, raised-below, clause_goals-below}
 
 -- items below a number
@@ -147,18 +147,3 @@ module _ (st new : Stored) (c : ClauseTerms) (k base : ℕ) (goal head : Term) (
       clause_solves st c k sound numbered bound here rest goal (record { goals = goals; segment = record { base = base; vars = k; bindings = bindings } }) below first refl
       (subst (λ t. MakeOne goal t (with_numbers k st) bindings) head_raised (subst (λ s. MakeOne goal head s bindings) taken h))
       (e ∙ ap (λ b. goal_items here (map (raised b) (clause_goals_of c.body)) ++ rest) first)
-
--- the branch of an equation
-pub equation_solves : (rest : List Item) (st : Stored) (left right : Term) (b : Branch) → Each (IsItemBelow st.next) rest → b.segment.base ≡ st.next → b.segment.vars ≡ 0 → MakeOne left right st b.segment.bindings → b.goals ≡ rest
-    → (here : Scope) → Solves here rest st (equation_solution (resolve (substitution st) left) (resolve (substitution st) right)) b
-equation_solves rest st left right b below base vars m goals here = record {
-  takes = record {
-    base = base;
-    vars = vars;
-    apart = m.apart;
-    bindings = further_below (pairs_of b.segment.bindings) st.next (st.next + 0) (omega arith) m.below;
-    items = subst (Each (IsItemBelow (st.next + 0))) (sym goals) (items_further st.next (st.next + 0) (omega arith) rest below);
-  };
-  unified = m.unified;
-  goals = record { terms = []; are = goals; same = refl };
-}

@@ -2,13 +2,12 @@
 use Rattle.std.proofs.Common.{◌≡◌, ℕ, zero, suc, ◌<◌, ◌≤◌, true, false, refl, sym, ap, ◌∙◌, arith}
 use Rattle.au_term.specs.Term.{Term, VarTerm, IntTerm, AtomTerm, Compound, Terms, end, more, count, var_bound, all_bound, argument, argument_count, term_at}
 use Rattle.au_model.specs.Substitutions.{apply, apply_all, value_of, resolve}
-use Rattle.au_model.specs.Bodies.{goals_of}
 use Rattle.au_model.specs.Forms.{name_of, is_callable}
 use Rattle.au_model.proofs.Rules.{count-apply_all}
 use Rattle.bind_store.specs.Stored.{Stored, IsUnbound, IsReachedTerm, substitution}
 use Rattle.bind_store.proofs.Apart.{free-composed}
 use Rattle.engine_core.specs.Arguments.{resolved_argument}
-use Rattle.engine_core.specs.Reductions.{StandsFor, HasGoals}
+use Rattle.engine_core.specs.Reductions.{StandsFor}
 
 -- arguments
 term_below : (i b : ℕ) (ts : Terms) → i < count ts → all_bound ts ≤ b → var_bound (term_at i ts) ≤ b
@@ -39,9 +38,6 @@ argument_stands st t a i lt h e = record {
   is = ap (resolve (substitution st)) e ∙ sym (argument_resolved (value_of (substitution st)) t i lt);
   below = rw e (argument_below t i st.next lt h);
 }
-
-pub has_goals : (st : Stored) (t a : Term) → StandsFor st t a → HasGoals st (goals_of t) a
-has_goals st t a s = record { are = ap goals_of s.is; below = s.below }
 
 -- atoms and compounds keep their name and number of arguments
 pub name_resolved : (f : ℕ → Term) (t : Term) → is_callable t ≡ true → name_of (apply f t) ≡ name_of t

@@ -23,6 +23,9 @@ use bind_store::Store;
 use clause_compile::{ClauseRefusal, body_goals};
 use std::alloc::Global;
 
+/// The most arguments that a compound has.
+const MAX_ARITY: u64 = 65_535;
+
 /// The ball of calling a variable or an integer, with so many arguments in all; none for an atom or a compound.
 pub(crate) fn calling_ball(
     alloc: Global,
@@ -61,7 +64,8 @@ pub(crate) fn call(
     if let Some(ball) = calling_ball(alloc, &callee, arity)? {
         return Ok(Reduction::Raise(ball));
     }
-    if u64::from(callee.arity()) + u64::from(arity) > 65_536 {
+    // The call's first argument is none of the goal's.
+    if u64::from(callee.arity()) + u64::from(arity) > MAX_ARITY + 1 {
         let ball = arity_ball(alloc, arity)?;
         return Ok(Reduction::Raise(ball));
     }
@@ -87,7 +91,7 @@ fn called_goal(
         return called_body(alloc, goal, arity, place, store);
     }
     let branch = goal_branch(alloc, goal, place.here, place.rest, store)?;
-    Ok(alone(alloc, branch)?)
+    alone(alloc, branch)
 }
 
 /// What a junction that is called comes to: it has to be a body as a whole.

@@ -32,13 +32,13 @@ returns-in-Some c =
 callee_callable : (c : After-from) → is_callable c.in_ok-callee.callee ≡ true
 callee_callable c = subst (λ o. MatchOption o (is_callable c.in_ok-callee.callee ≡ true) (IsUncallable c.in_ok-callee.callee c.arity-arity.result)) c.in_default.is c.in_ok-ball.ensures
 
-pub returns-then-from-gt65536 : goal.returns-then-from-gt65536
-returns-then-from-gt65536 c =
+pub returns-then-from : goal.returns-then-from
+returns-then-from c =
     let place = c.args.place.now in
     let t = c.args.goal.now in
     let callee = c.in_ok-callee.callee in
-    let more_than : 65536 < argument_count callee + argument_count t = omega (arith, c.if-from-gt65536.true, c.from.ensures, c.from-2.ensures, c.arity.ensures, c.arity-arity.ensures) in
-    call_limited c.args.store.now place.cut place.here place.rest.now t callee c.in_ok-ball-2.ball c.requires.some (callee_callable (goal.at.returns-then-from-gt65536 c).After-from) (first_same (goal.at.returns-then-from-gt65536 c).After-callee) more_than
+    let more_than : 65536 < argument_count callee + argument_count t = omega (arith, c.if-from.true, c.from.ensures, c.from-2.ensures, c.arity.ensures, c.arity-arity.ensures) in
+    call_limited c.args.store.now place.cut place.here place.rest.now t callee c.in_ok-ball-2.ball c.requires.some (callee_callable (goal.at.returns-then-from c).After-from) (first_same (goal.at.returns-then-from c).After-callee) more_than
     (c.in_ok-ball-2.ensures ∙ ap (error_term (representation_error (codes "max_arity")) (codes "call")) c.arity-arity.ensures)
 
 pub called_goal-requires-clause-callable : goal.called_goal-requires-clause-callable
@@ -59,7 +59,7 @@ returns c =
     let n = argument_count t in
     let whole = c.in_ok-called.called in
     let callee = c.in_ok-callee.callee in
-    let within : argument_count callee + argument_count t ≤ 65536 = omega (arith, c.if-from-gt65536.false, c.from.ensures, c.from-2.ensures, c.arity.ensures, c.arity-arity.ensures) in
+    let within : argument_count callee + argument_count t ≤ 65536 = omega (arith, c.if-from.false, c.from.ensures, c.from-2.ensures, c.arity.ensures, c.arity-arity.ensures) in
     IfOk-weaker c.called_goal.result
     (IsOutcome place.cut place.here place.rest.now st (called c.arity-arity.result (resolve (substitution st) whole) (called_goals (resolve (substitution st) whole))))
     (IsOutcome place.cut place.here place.rest.now st (call_outcome n (resolved_argument 0 st t) (drop_terms 1 (arguments (resolve (substitution st) t)))))
