@@ -2,7 +2,7 @@
 use Rattle.std.proofs.Common.{◌≡◌, ◌∙◌, ◌⊎◌, inl, inr, ℕ, ◌<◌, List, length, Option, Some, None, Result, Ok, Err, refl, sym, ap, subst, arith}
 use Rattle.std.specs.Prelude.{IfOk, IfErr, IfSome}
 use Rattle.std.proofs.lemmas.List.{take_all}
-use Rattle.std.specs.Result.{IsErrAnd, IsErrOf}
+use Rattle.std.specs.Result.{IsErrOf}
 use Rattle.au_model.specs.declared.ending.Ending.{Ending}
 use Rattle.au_model.specs.declared.ending.Ending.TheVariants.{Finished as ItFinished, Halted as ItHalted, Budget as ItsBudget, Refused, TooLong, Usage, ReadFault, WriteFault as ItsWriteFault, NoMemory as ItsMemory}
 use Rattle.au_model.specs.declared.ending.RunEnding.{RunEnding}

@@ -1,12 +1,11 @@
 -- What refuses bytes.
-use Rattle.std.proofs.Common.{◌≡◌, ◌∙◌, ◌⊎◌, inl, inr, ℕ, List, [], ◌∷◌, ◌++◌, take, drop, length, codes, true, refl, sym, ap, subst, arith}
+use Rattle.std.proofs.Common.{◌≡◌, ◌∙◌, inl, inr, ℕ, List, [], ◌∷◌, ◌++◌, take, length, codes, true, refl, sym, ap, subst, arith}
 use Rattle.std.proofs.lemmas.List.{drop_all}
 use Rattle.std.specs.Str.{chars, IsUtf8, IsValidUpTo}
 use Rattle.au_model.specs.Characters.{chars_from}
 use Rattle.au_model.specs.TermTexts.{is_over}
 use Rattle.au_model.specs.Layout.{behind_layout}
 use Rattle.au_model.specs.Jobs.{Job}
-use Rattle.au_model.specs.declared.fault_kind.FaultKind.{FaultKind}
 use Rattle.au_model.specs.declared.fault_kind.FaultKind.TheVariants.{NotUtf8}
 use Rattle.term_reader.specs.TextFaults.{IsPlace, line_after, column_after}
 use Rattle.text_load.specs.Loading.{IsRefusal}

@@ -1,5 +1,5 @@
 -- The job for which bytes stand, and what refuses them. This file is the one place that says it.
-use Rattle.std.specs.Prelude.{◌≡◌, ℕ, List, [], take}
+use Rattle.std.specs.Prelude.{ℕ, List, [], take}
 use Rattle.std.specs.Str.{chars, IsUtf8, IsValidUpTo}
 use Rattle.au_model.specs.Jobs.{Job}
 use Rattle.au_model.specs.declared.fault_kind.FaultKind.{FaultKind}

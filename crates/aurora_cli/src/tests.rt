@@ -8,12 +8,12 @@ use std::sync::Wait;
 use std::test::Fail;
 use std::thread::Threads;
 
-/// A shelf with the one file `f.pl`.
-fn shelf_of(alloc: Global, text: &str) -> Result<MemoryShelf, Fail> {
+/// A shelf with the one file `f.pl`, of these bytes.
+fn shelf_of(alloc: Global, text: &[u8]) -> Result<MemoryShelf, Fail> {
     let mut files = Vec::new(alloc);
     files.push((
         String::from_str(alloc, "f.pl")?,
-        Vec::from_slice(alloc, text.as_bytes())?,
+        Vec::from_slice(alloc, text)?,
     ))?;
     Ok(MemoryShelf {
         files,
@@ -44,7 +44,7 @@ pub(crate) fn ends<R: Threads + Wait + Sync>(
     ending: Ending,
     lines: &str,
 ) -> Result<bool, Fail> {
-    let mut shelf = shelf_of(alloc, text)?;
+    let mut shelf = shelf_of(alloc, text.as_bytes())?;
     let mut out = MemorySink::new(alloc, room)?;
     let words = words_of(alloc, &["f.pl", budget])?;
     let ended = aurora(rt, alloc, &words, &mut shelf, &mut out, &NoGate);
@@ -407,7 +407,7 @@ fn words(rt: HostRuntime) -> Result<(), Fail> {
     );
     for more in [[].as_slice(), &["f.pl"], &["f.pl", "9", "9"]] {
         let words = words_of(alloc, more)?;
-        let mut shelf = shelf_of(alloc, TWO)?;
+        let mut shelf = shelf_of(alloc, TWO.as_bytes())?;
         let mut out = MemorySink::new(alloc, 99)?;
         let ending = aurora(&rt, alloc, &words, &mut shelf, &mut out, &NoGate);
         assert_eq!(rt; ending, Ending::Usage(UsageKind::Words));
@@ -420,7 +420,7 @@ fn words(rt: HostRuntime) -> Result<(), Fail> {
 fn faults(rt: HostRuntime) -> Result<(), Fail> {
     let alloc = rt.alloc();
     assert!(rt; ends(&rt, alloc, TWO, "9", 3, Ending::WriteFault, "X =")?);
-    let mut shelf = shelf_of(alloc, TWO)?;
+    let mut shelf = shelf_of(alloc, TWO.as_bytes())?;
     shelf.failing.push(0)?;
     let mut out = MemorySink::new(alloc, 99)?;
     let words = words_of(alloc, &["f.pl", "9"])?;
@@ -429,5 +429,55 @@ fn faults(rt: HostRuntime) -> Result<(), Fail> {
         Ending::ReadFault
     );
     assert!(rt; out.taken().is_empty());
+    Ok(())
+}
+
+#[test]
+fn bytes_that_are_no_text(rt: HostRuntime) -> Result<(), Fail> {
+    let alloc = rt.alloc();
+    let mut shelf = shelf_of(alloc, &[b'p', b'(', 255])?;
+    let mut out = MemorySink::new(alloc, 99)?;
+    let words = words_of(alloc, &["f.pl", "9"])?;
+    let ending = aurora(&rt, alloc, &words, &mut shelf, &mut out, &NoGate);
+    let expected = Ending::Refused {
+        line: 1,
+        column: 3,
+        kind: FaultKind::NotUtf8,
+    };
+    assert_eq!(rt; ending, expected);
+    assert!(rt; out.taken().is_empty());
+    assert!(rt; is_note(&ending, "aurora: line 1, column 3: not UTF-8\n"));
+    Ok(())
+}
+
+/// A query that calls a compound of so many arguments with one more.
+fn wide_call(alloc: Global, arguments: usize) -> Result<String, Fail> {
+    let mut text = String::from_str(alloc, "?- call(f(a")?;
+    for _ in 1..arguments {
+        text.push_str(",a")?;
+    }
+    text.push_str("), a).")?;
+    Ok(text)
+}
+
+#[test]
+fn widest_compounds(rt: HostRuntime) -> Result<(), Fail> {
+    let alloc = rt.alloc();
+    for (arguments, line) in [
+        (
+            65_534,
+            "error: error(existence_error(procedure,f/65535),f/65535)\n",
+        ),
+        (
+            65_535,
+            "error: error(representation_error(max_arity),call/2)\n",
+        ),
+    ] {
+        let text = wide_call(alloc, arguments)?;
+        assert!(rt;
+            ends(&rt, alloc, text.as_str(), "9", 99, FINISHED, line)?,
+            "{line}"
+        );
+    }
     Ok(())
 }

@@ -7,7 +7,7 @@ ghost use Rattle.au_model.specs.Lists.{terms_from};
 ghost use Rattle.engine_core.specs.Arguments.{listed};
 
 use crate::names::name_of;
-use au_term::{Atom, Cell, NoMemory, Shared, TermBuilder};
+use au_term::{Atom, Cell, FlatTerm, NoMemory, Shared, TermBuilder};
 use std::alloc::Global;
 
 /// What is called: a term with all arguments of a goal but the first added to its own.
@@ -26,13 +26,26 @@ pub(crate) fn with_arguments(
         return Ok(same);
     }
     let mut arguments = Vec::new(alloc);
-    push_arguments(callee, 0, &mut arguments)?;
+    push_all_arguments(alloc, callee, &mut arguments)?;
     push_arguments(goal, 1, &mut arguments)?;
     let called = compound(alloc, name_of(callee)?, &arguments)?;
     Ok(called)
 }
 
-/// Puts the arguments of a term from this one on behind others.
+/// Puts all arguments of a term behind others, in time linear in the term: an argument found by its number is searched
+/// for from the first one.
+fn push_all_arguments(alloc: Global, term: &Shared, all: &mut Vec<Shared>) -> Result<(), NoMemory>
+    ensures { OnOk result (all.new.items ≡ all.old.items ++ listed (arguments term.now)) }
+{
+    let own = term.to_term(alloc)?;
+    for cells in own.args() {
+        let argument = FlatTerm::from_slice(alloc, cells)?;
+        all.push(Shared::from_term(alloc, argument)?)?;
+    }
+    Ok(())
+}
+
+/// Puts the arguments of a goal from this one on behind others.
 fn push_arguments(term: &Shared, from: u32, all: &mut Vec<Shared>) -> Result<(), NoMemory>
     requires { from ≤ argument_count term.now }
     ensures { OnOk result (all.new.items ≡ all.old.items ++ drop from (listed (arguments term.now))) }

@@ -1,4 +1,4 @@
-use Rattle.std.proofs.Common.{◌≡◌, sym, subst}
+use Rattle.std.proofs.Common.{sym, subst}
 use Rattle.aurora_cli.specs.Loading.{IsTextFault}
 use Rattle.text_load.specs.Meant.{job_meant}
 use Rattle.aurora_cli.proofs.Refusing.{stands_for, refused_text}
