@@ -30,6 +30,7 @@ use Rattle.term_reader.specs.declared.steps.Turn.{Turn}
 use Rattle.term_reader.specs.declared.steps.Turn.TheVariants.{On, Over}
 use Rattle.term_reader.proofs.Closing.{Top, closed, leads, never, round-frame, curly-frame, item-frame, tail-frame, argument-frame, not-round, not-curly, not-item, not-tail, not-argument, not-more, is-close, is-close_list, is-close_curly, is-comma, is-bar, not-over, put-list, put-compound}
 use Rattle.term_reader.proofs.Moving.{pushed, first-joint}
+use Rattle.term_reader.proofs.Nested.{nests-closed, level-behind}
 use Rattle.term_reader.proofs.Turns.{goes_stop, went_stop, out_round, out_braces, out_item, out_bar, out_last, out_tail, out_argument, out_final}
 
 by-top : (P : List stack.Frame → Type 0) (xs : List Frame) (k : List stack.Frame) (g : stack.Frame) → Top xs k g → ((below : List stack.Frame) → map frame_meant xs ≡ shapes_up below → P (g ∷ below)) → P k
@@ -49,7 +50,7 @@ module _ (source : Source) (st new : State) (k : List stack.Frame) (l : Tree) (p
   round-closes h e fr at sheet =
       by-top (λ m. IsClosing source st frame.Round m l p c end → IsSheetOf new.sheet (put_tree (put_stack m) l) → Comes m (On (Some 0) false)) st.frames.items k stack.Round (round-frame st.frames.items k h.shapes)
       (λ below rest i s. closed source st new frame.Round (stack.Round ∷ below) below l l p c end (ap (map frame_meant) fr ∙ rest) s i.kept at
-      (leads source st frame.Round (stack.Round ∷ below) l p c end i words.Close (is-close i.lexeme (sym i.closer ∙ e)) refl (There below l 0) (λ vs goal q. out_round (setting_of source) q) (λ vs goal g. round g))) h sheet
+      (leads source st frame.Round (stack.Round ∷ below) l p c end i words.Close (is-close i.lexeme (sym i.closer ∙ e)) refl (There below l 0) (λ vs goal q. out_round (setting_of source) q) (λ vs goal g. round g) (λ start read n. nests-closed (setting_of source) source.text.now start below words.Open words.Close i.apart read tt tt n.0 n.2))) h sheet
 
   pub round-refuses : (h : IsClosing source st frame.Round k l p c end) → (c ≡ closer.Close → ⊥) → Never frame.Round k h
   round-refuses h n =
@@ -61,7 +62,7 @@ module _ (source : Source) (st new : State) (k : List stack.Frame) (l : Tree) (p
   curly-closes name same h e fr at sheet =
       by-top (λ m. IsClosing source st frame.Curly m l p c end → IsSheetOf new.sheet (put_cell (put_tree (put_stack m) l) (Functor name 1)) → Comes m (On (Some 0) false)) st.frames.items k stack.Braces (curly-frame st.frames.items k h.shapes)
       (λ below rest i s. closed source st new frame.Curly (stack.Braces ∷ below) below l (one braces l) p c end (ap (map frame_meant) fr ∙ rest) (subst (λ n. IsSheetOf new.sheet (put_cell (put_tree (put_stack below) l) (Functor n 1))) same s) i.kept at
-      (leads source st frame.Curly (stack.Braces ∷ below) l p c end i words.CloseCurly (is-close_curly i.lexeme (sym i.closer ∙ e)) refl (There below (one braces l) 0) (λ vs goal q. out_braces (setting_of source) q) (λ vs goal g. braced g))) h sheet
+      (leads source st frame.Curly (stack.Braces ∷ below) l p c end i words.CloseCurly (is-close_curly i.lexeme (sym i.closer ∙ e)) refl (There below (one braces l) 0) (λ vs goal q. out_braces (setting_of source) q) (λ vs goal g. braced g) (λ start read n. nests-closed (setting_of source) source.text.now start below words.OpenCurly words.CloseCurly i.apart read tt tt n.0 n.1))) h sheet
 
   pub curly-refuses : (h : IsClosing source st frame.Curly k l p c end) → (c ≡ closer.CloseCurly → ⊥) → Never frame.Curly k h
   curly-refuses h n =
@@ -80,7 +81,7 @@ module _ (source : Source) (st new : State) (k : List stack.Frame) (l : Tree) (p
       let number : n + 1 ≡ length (l ∷ ts) = omega (arith, t.1) in
       let sheets = ap (λ q. put_lists q (put_tree (put_tree (put_before (put_stack below) ts) l) (AtomTree nil))) number ∙ put-list (put_stack below) (l ∷ ts) (AtomTree nil) in
       closed source st new (frame.Item n) (stack.ItemOf ts ∷ below) below l (list_of (l ∷ ts) (AtomTree nil)) p c end (ap (map frame_meant) fr ∙ rest) (subst (λ x. IsSheetOf new.sheet x) sheets s) i.kept at
-      (leads source st (frame.Item n) (stack.ItemOf ts ∷ below) l p c end i words.CloseList (is-close_list i.lexeme (sym i.closer ∙ e)) refl (There below (list_of (l ∷ ts) (AtomTree nil)) 0) (λ vs goal q. out_last (setting_of source) q) (λ vs goal g. last g))) h sheet
+      (leads source st (frame.Item n) (stack.ItemOf ts ∷ below) l p c end i words.CloseList (is-close_list i.lexeme (sym i.closer ∙ e)) refl (There below (list_of (l ∷ ts) (AtomTree nil)) 0) (λ vs goal q. out_last (setting_of source) q) (λ vs goal g. last g) (λ start read n. nests-closed (setting_of source) source.text.now start below words.OpenList words.CloseList i.apart read tt tt n.0 n.1))) h sheet
 
   pub tail-closes : (n : ℕ) → IsClosing source st (frame.Tail n) k l p c end → c ≡ closer.CloseList → new.frames.items ≡ st.frames.items → new.at ≡ end
       → IsSheetOf new.sheet (put_lists n (put_tree (put_stack k) l)) → Comes k (On (Some 0) false)
@@ -91,7 +92,7 @@ module _ (source : Source) (st new : State) (k : List stack.Frame) (l : Tree) (p
       (λ below rest i s.
       let sheets = ap (λ q. put_lists q (put_tree (put_before (put_stack below) ts) l)) (sym t.1) ∙ put-list (put_stack below) ts l in
       closed source st new (frame.Tail n) (stack.TailOf ts ∷ below) below l (list_of ts l) p c end (ap (map frame_meant) fr ∙ rest) (subst (λ x. IsSheetOf new.sheet x) sheets s) i.kept at
-      (leads source st (frame.Tail n) (stack.TailOf ts ∷ below) l p c end i words.CloseList (is-close_list i.lexeme (sym i.closer ∙ e)) refl (There below (list_of ts l) 0) (λ vs goal q. out_tail (setting_of source) q) (λ vs goal g. tail g))) h sheet
+      (leads source st (frame.Tail n) (stack.TailOf ts ∷ below) l p c end i words.CloseList (is-close_list i.lexeme (sym i.closer ∙ e)) refl (There below (list_of ts l) 0) (λ vs goal q. out_tail (setting_of source) q) (λ vs goal g. tail g) (λ start read n. nests-closed (setting_of source) source.text.now start below words.OpenList words.CloseList i.apart read tt tt n.0 n.1))) h sheet
 
   pub item-goes_on : (n place : ℕ) (t : Turn) → IsClosing source st (frame.Item n) k l p c end → c ≡ closer.Comma → IsPushed st (frame.Item (n + 1)) end new t → Comes k t
   item-goes_on n place t h e push =
@@ -101,7 +102,7 @@ module _ (source : Source) (st new : State) (k : List stack.Frame) (l : Tree) (p
       (λ below rest i.
       let number : n + 1 ≡ length (l ∷ ts) = omega (arith, f.1) in
       pushed (setting_of source) source.text.now (There (stack.ItemOf ts ∷ below) l p) st.at st new (frame.Item (n + 1)) (stack.ItemOf (l ∷ ts)) below end t push rest (ap ItemShape number) i.sheet i.kept
-      (leads source st (frame.Item n) (stack.ItemOf ts ∷ below) l p c end i words.Comma (is-comma i.lexeme (sym i.closer ∙ e)) refl (Due (stack.ItemOf (l ∷ ts) ∷ below)) (λ vs goal q. out_item (setting_of source) q) (λ vs goal w. item w))) h
+      (leads source st (frame.Item n) (stack.ItemOf ts ∷ below) l p c end i words.Comma (is-comma i.lexeme (sym i.closer ∙ e)) refl (Due (stack.ItemOf (l ∷ ts) ∷ below)) (λ vs goal q. out_item (setting_of source) q) (λ vs goal w. item w) (level-behind (setting_of source) source.text.now (stack.ItemOf ts ∷ below) i.apart words.Comma (stack.ItemOf (l ∷ ts) ∷ below) (λ d. refl) (λ start read n. n)))) h
 
   pub tail-goes_on : (n place : ℕ) (t : Turn) → IsClosing source st (frame.Item n) k l p c end → c ≡ closer.Bar → IsPushed st (frame.Tail (n + 1)) end new t → Comes k t
   tail-goes_on n place t h e push =
@@ -111,7 +112,7 @@ module _ (source : Source) (st new : State) (k : List stack.Frame) (l : Tree) (p
       (λ below rest i.
       let number : n + 1 ≡ length (l ∷ ts) = omega (arith, f.1) in
       pushed (setting_of source) source.text.now (There (stack.ItemOf ts ∷ below) l p) st.at st new (frame.Tail (n + 1)) (stack.TailOf (l ∷ ts)) below end t push rest (ap TailShape number) i.sheet i.kept
-      (leads source st (frame.Item n) (stack.ItemOf ts ∷ below) l p c end i words.Bar (is-bar i.lexeme (sym i.closer ∙ e)) refl (Due (stack.TailOf (l ∷ ts) ∷ below)) (λ vs goal q. out_bar (setting_of source) q) (λ vs goal w. bar w))) h
+      (leads source st (frame.Item n) (stack.ItemOf ts ∷ below) l p c end i words.Bar (is-bar i.lexeme (sym i.closer ∙ e)) refl (Due (stack.TailOf (l ∷ ts) ∷ below)) (λ vs goal q. out_bar (setting_of source) q) (λ vs goal w. bar w) (level-behind (setting_of source) source.text.now (stack.ItemOf ts ∷ below) i.apart words.Bar (stack.TailOf (l ∷ ts) ∷ below) (λ d. refl) (λ start read n. n)))) h
 
   pub item-refuses : (n : ℕ) → (h : IsClosing source st (frame.Item n) k l p c end) → (c ≡ closer.Comma → ⊥) → (c ≡ closer.Bar → ⊥) → (c ≡ closer.CloseList → ⊥) → Never (frame.Item n) k h
   item-refuses n h x y z =
@@ -133,40 +134,40 @@ module _ (source : Source) (st new : State) (k : List stack.Frame) (l : Tree) (p
   compound-closes m n place h e fr at sheet =
       let t = argument-frame st.frames.items k m n place h.shapes in
       let ts = t.0 in
-      by-top (λ q. IsClosing source st (frame.Argument m n place) q l p c end → IsSheetOf new.sheet (put_cell (put_tree (put_stack q) l) (Functor m (n + 1))) → Comes q (On (Some 0) false)) st.frames.items k (stack.ArgumentOf m ts) t.2
+      by-top (λ q. IsClosing source st (frame.Argument m n place) q l p c end → IsSheetOf new.sheet (put_cell (put_tree (put_stack q) l) (Functor m (n + 1))) → Comes q (On (Some 0) false)) st.frames.items k (stack.ArgumentOf m place ts) t.2
       (λ below rest i s.
-      closed source st new (frame.Argument m n place) (stack.ArgumentOf m ts ∷ below) below l (CompoundTree m (trees_of (l ∷ ts) no_trees)) p c end (ap (map frame_meant) fr ∙ rest)
+      closed source st new (frame.Argument m n place) (stack.ArgumentOf m place ts ∷ below) below l (CompoundTree m (trees_of (l ∷ ts) no_trees)) p c end (ap (map frame_meant) fr ∙ rest)
       (subst (λ x. IsSheetOf new.sheet x) (put-compound (put_stack below) m ts l n (sym t.1)) s) i.kept.1 at
-      (leads source st (frame.Argument m n place) (stack.ArgumentOf m ts ∷ below) l p c end i words.Close (is-close i.lexeme (sym i.closer ∙ e)) refl (There below (CompoundTree m (trees_of (l ∷ ts) no_trees)) 0) (λ vs goal q. out_final (setting_of source) q) (λ vs goal g. final g))) h sheet
+      (leads source st (frame.Argument m n place) (stack.ArgumentOf m place ts ∷ below) l p c end i words.Close (is-close i.lexeme (sym i.closer ∙ e)) refl (There below (CompoundTree m (trees_of (l ∷ ts) no_trees)) 0) (λ vs goal q. out_final (setting_of source) q) (λ vs goal g. final g) (λ start read n. nests-closed (setting_of source) source.text.now start below words.Open words.Close i.apart read tt tt n.0 n.3))) h sheet
 
   pub argument-goes_on : (m : List ℕ) (n place : ℕ) (t : Turn) → IsClosing source st (frame.Argument m n place) k l p c end → c ≡ closer.Comma → n < 65534 → IsPushed st (frame.Argument m (n + 1) place) end new t → Comes k t
   argument-goes_on m n place t h e lt push =
       let f = argument-frame st.frames.items k m n place h.shapes in
       let ts = f.0 in
-      by-top (λ q. IsClosing source st (frame.Argument m n place) q l p c end → Comes q t) st.frames.items k (stack.ArgumentOf m ts) f.2
+      by-top (λ q. IsClosing source st (frame.Argument m n place) q l p c end → Comes q t) st.frames.items k (stack.ArgumentOf m place ts) f.2
       (λ below rest i.
       let number : n + 1 ≡ length (l ∷ ts) = omega (arith, f.1) in
       let few : length ts < 65534 = omega (arith, f.1, lt) in
       let more : length (l ∷ ts) ≤ 65534 = omega (arith, f.1, lt) in
-      pushed (setting_of source) source.text.now (There (stack.ArgumentOf m ts ∷ below) l p) st.at st new (frame.Argument m (n + 1) place) (stack.ArgumentOf m (l ∷ ts)) below end t push rest (ap (ArgumentShape m) number) i.sheet (more, i.kept.1)
-      (leads source st (frame.Argument m n place) (stack.ArgumentOf m ts ∷ below) l p c end i words.Comma (is-comma i.lexeme (sym i.closer ∙ e)) refl (Due (stack.ArgumentOf m (l ∷ ts) ∷ below)) (λ vs goal q. (out_argument (setting_of source) q).1) (λ vs goal w. argument few w))) h
+      pushed (setting_of source) source.text.now (There (stack.ArgumentOf m place ts ∷ below) l p) st.at st new (frame.Argument m (n + 1) place) (stack.ArgumentOf m place (l ∷ ts)) below end t push rest (ap (ArgumentShape m place) number) i.sheet (more, i.kept.1)
+      (leads source st (frame.Argument m n place) (stack.ArgumentOf m place ts ∷ below) l p c end i words.Comma (is-comma i.lexeme (sym i.closer ∙ e)) refl (Due (stack.ArgumentOf m place (l ∷ ts) ∷ below)) (λ vs goal q. (out_argument (setting_of source) q).1) (λ vs goal w. argument few w) (level-behind (setting_of source) source.text.now (stack.ArgumentOf m place ts ∷ below) i.apart words.Comma (stack.ArgumentOf m place (l ∷ ts) ∷ below) (λ d. refl) (λ start read n. n)))) h
 
   pub argument-refuses : (m : List ℕ) (n place : ℕ) → (h : IsClosing source st (frame.Argument m n place) k l p c end) → (c ≡ closer.Comma → ⊥) → (c ≡ closer.Close → ⊥) → Never (frame.Argument m n place) k h
   argument-refuses m n place h x y =
       let f = argument-frame st.frames.items k m n place h.shapes in
-      by-top (λ q. (i : IsClosing source st (frame.Argument m n place) q l p c end) → Never (frame.Argument m n place) q i) st.frames.items k (stack.ArgumentOf m f.0) f.2
-      (λ below rest i. never source st (frame.Argument m n place) (stack.ArgumentOf m f.0 ∷ below) l p c end i (λ goal us. not-argument (setting_of source) below m f.0 i.apart i.lexeme us l goal (λ e. x (i.closer ∙ e)) (λ e. y (i.closer ∙ e)))) h
+      by-top (λ q. (i : IsClosing source st (frame.Argument m n place) q l p c end) → Never (frame.Argument m n place) q i) st.frames.items k (stack.ArgumentOf m place f.0) f.2
+      (λ below rest i. never source st (frame.Argument m n place) (stack.ArgumentOf m place f.0 ∷ below) l p c end i (λ goal us. not-argument (setting_of source) below m place f.0 i.apart i.lexeme us l goal (λ e. x (i.closer ∙ e)) (λ e. y (i.closer ∙ e)))) h
 
   pub too_many : (m : List ℕ) (n place : ℕ) → (h : IsClosing source st (frame.Argument m n place) k l p c end) → c ≡ closer.Comma → 65534 ≤ n → Never (frame.Argument m n place) k h
   too_many m n place h e le =
       let f = argument-frame st.frames.items k m n place h.shapes in
-      by-top (λ q. (i : IsClosing source st (frame.Argument m n place) q l p c end) → Never (frame.Argument m n place) q i) st.frames.items k (stack.ArgumentOf m f.0) f.2
-      (λ below rest i. never source st (frame.Argument m n place) (stack.ArgumentOf m f.0 ∷ below) l p c end i (λ goal us. not-more (setting_of source) below m f.0 i.apart i.lexeme us l goal (sym i.closer ∙ e) (omega (arith, f.1, le)))) h
+      by-top (λ q. (i : IsClosing source st (frame.Argument m n place) q l p c end) → Never (frame.Argument m n place) q i) st.frames.items k (stack.ArgumentOf m place f.0) f.2
+      (λ below rest i. never source st (frame.Argument m n place) (stack.ArgumentOf m place f.0 ∷ below) l p c end i (λ goal us. not-more (setting_of source) below m place f.0 i.apart i.lexeme us l goal (sym i.closer ∙ e) (omega (arith, f.1, le)))) h
 
   pub few_arguments : (m : List ℕ) (n place : ℕ) → IsClosing source st (frame.Argument m n place) k l p c end → 65534 < n → ⊥
   few_arguments m n place h lt =
       let f = argument-frame st.frames.items k m n place h.shapes in
-      by-top (λ q. IsClosing source st (frame.Argument m n place) q l p c end → ⊥) st.frames.items k (stack.ArgumentOf m f.0) f.2 (λ below rest i. let few = i.kept.0 in omega (arith, f.1, lt)) h
+      by-top (λ q. IsClosing source st (frame.Argument m n place) q l p c end → ⊥) st.frames.items k (stack.ArgumentOf m place f.0) f.2 (λ below rest i. let few = i.kept.0 in omega (arith, f.1, lt)) h
 
   -- ---- operators, of which none is left
 

@@ -16,7 +16,7 @@ use Rattle.term_reader.specs.Stack.{bound_of, list_of, trees_of, Goes, Plugs, ov
 use Rattle.term_reader.specs.Frames.{RoundShape, CurlyShape, ItemShape, TailShape, ArgumentShape, frame_meant, shape_of, shapes_up, put_stack, put_before, IsKept}
 use Rattle.term_reader.specs.Sheets.{Sheet, put_tree, put_trees, put_cell, put_lists}
 use Rattle.term_reader.specs.Kept.{IsSheetOf}
-use Rattle.term_reader.specs.Positions.{Position, There, Reads, Leads, Outcome}
+use Rattle.term_reader.specs.Positions.{Position, There, Reads, stack_of, NestsBehind, Leads, Outcome}
 use Rattle.term_reader.specs.Starting.{IsClosing}
 use Rattle.term_reader.specs.declared.lexeme.Closer.{Closer}
 use Rattle.term_reader.specs.declared.lexeme.Closer.TheVariants as closer
@@ -26,6 +26,8 @@ use Rattle.term_reader.specs.declared.state.Frame.{Frame}
 use Rattle.term_reader.specs.declared.state.Frame.TheVariants as frame
 use Rattle.term_reader.specs.declared.steps.Turn.TheVariants.{On}
 use Rattle.term_reader.proofs.Fronts.{tokens-first}
+use Rattle.term_reader.specs.Refusing.{IsFull}
+use Rattle.term_reader.proofs.Many.{IsFullStack}
 use Rattle.term_reader.proofs.Settled.{popped, stops-at}
 use Rattle.term_reader.proofs.Turns as turns
 
@@ -69,8 +71,8 @@ module _ (source : Source) (st : State) (f : Frame) (k : List stack.Frame) (l : 
   pub leads : (x : Lexeme) → h.lexeme ≡ x → is_end x ≡ false → (new : Position)
       → ((vs : List Token) (goal : Tree) → Plugs set k (token h.apart x ∷ vs) l goal → Reads set new vs goal)
       → ((vs : List Token) (goal : Tree) → Reads set new vs goal → Plugs set k (token h.apart x ∷ vs) l goal)
-      → Leads set here (There k l p) st.at new end false
-  leads x e n new to back = record {
+      → NestsBehind set here k (token h.apart x) (stack_of new) → Leads set here (There k l p) st.at new end false
+  leads x e n new to back nests = record {
     first = token h.apart x;
     over = [];
     scans = onto (h.found ∙ ap (λ y. ScannedTo (token h.apart y) (chars_from here end)) e) n none;
@@ -78,7 +80,7 @@ module _ (source : Source) (st : State) (f : Frame) (k : List stack.Frame) (l : 
     fits = refl;
     to = λ vs goal f g. to vs goal (turns.goes_stop set (token h.apart x ∷ vs) l p (stop-at x e vs) g);
     back = λ vs goal f g. turns.went_stop set (token h.apart x ∷ vs) l p (stop-at x e vs) h.low (back vs goal g);
-    step = (refl, refl, refl);
+    step = (refl, refl, refl, nests);
   }
 
   -- it is not taken, whatever comes behind it
@@ -119,9 +121,9 @@ tail-top : (g : stack.Frame) (n : ℕ) → shape_of g ≡ TailShape n → (ts : 
 tail-top (stack.TailOf ts) n e = (ts, refl, cc)
 tail-top g n e = let z : ⊥ = cc in absurd z
 
-argument-top : (g : stack.Frame) (m : List ℕ) (n : ℕ) → shape_of g ≡ ArgumentShape m n → (ts : List Tree) × (g ≡ stack.ArgumentOf m ts) × (length ts ≡ n)
-argument-top (stack.ArgumentOf q ts) m n e = (ts, cc, cc)
-argument-top g m n e = let z : ⊥ = cc in absurd z
+argument-top : (g : stack.Frame) (m : List ℕ) (w n : ℕ) → shape_of g ≡ ArgumentShape m w n → (ts : List Tree) × (g ≡ stack.ArgumentOf m w ts) × (length ts ≡ n)
+argument-top (stack.ArgumentOf q v ts) m w n e = (ts, cc, cc)
+argument-top g m w n e = let z : ⊥ = cc in absurd z
 
 -- the stack of which the frame is the top
 pub record Top (xs : List Frame) (k : List stack.Frame) (g : stack.Frame) : Type 0 where
@@ -147,11 +149,20 @@ tail-frame xs k n e =
     let t = tail-top r.top n r.shape in
     (t.0, t.2, record { below = r.below; is = r.is ∙ ap (λ g. g ∷ r.below) t.1; rest = r.rest })
 
-pub argument-frame : (xs : List Frame) (k : List stack.Frame) (m : List ℕ) (n place : ℕ) → map frame_meant (xs ++ frame.Argument m n place ∷ []) ≡ shapes_up k → (ts : List Tree) × (length ts ≡ n) × Top xs k (stack.ArgumentOf m ts)
+full-top : (g : stack.Frame) (f : Frame) (k : List stack.Frame) → shape_of g ≡ frame_meant f → IsFullStack (g ∷ k) → IsFull f
+full-top (stack.ArgumentOf m w ts) (frame.Argument n b v) k e h = let same : length ts ≡ b = cc in omega (arith, same, h)
+full-top (stack.ArgumentOf m w ts) f k e h = let z : ⊥ = cc in absurd z
+full-top g f k e h = absurd h
+
+pub argument-frame : (xs : List Frame) (k : List stack.Frame) (m : List ℕ) (n place : ℕ) → map frame_meant (xs ++ frame.Argument m n place ∷ []) ≡ shapes_up k → (ts : List Tree) × (length ts ≡ n) × Top xs k (stack.ArgumentOf m place ts)
 argument-frame xs k m n place e =
     let r = popped k xs (frame.Argument m n place) e in
-    let t = argument-top r.top m n r.shape in
+    let t = argument-top r.top m place n r.shape in
     (t.0, t.2, record { below = r.below; is = r.is ∙ ap (λ g. g ∷ r.below) t.1; rest = r.rest })
+
+-- a compound with so many arguments is one in the stack
+pub full-frame : (xs : List Frame) (f : Frame) (k : List stack.Frame) → map frame_meant (xs ++ f ∷ []) ≡ shapes_up k → IsFullStack k → IsFull f
+full-frame xs f k e h = let r = popped k xs f e in full-top r.top f r.below r.shape (subst IsFullStack r.is h)
 
 -- ---- what no frame takes
 
@@ -170,15 +181,15 @@ not-item s k ts a x us l goal m n o (last g) = o refl
 pub not-tail : (s : Setting) (k : List stack.Frame) (ts : List Tree) (a : Bool) (x : Lexeme) (us : List Token) (l goal : Tree) → (closer_of x ≡ closer.CloseList → ⊥) → Plugs s (stack.TailOf ts ∷ k) (token a x ∷ us) l goal → ⊥
 not-tail s k ts a x us l goal n (tail g) = n refl
 
-pub not-argument : (s : Setting) (k : List stack.Frame) (m : List ℕ) (ts : List Tree) (a : Bool) (x : Lexeme) (us : List Token) (l goal : Tree)
-    → (closer_of x ≡ closer.Comma → ⊥) → (closer_of x ≡ closer.Close → ⊥) → Plugs s (stack.ArgumentOf m ts ∷ k) (token a x ∷ us) l goal → ⊥
-not-argument s k m ts a x us l goal n o (argument lt g) = n refl
-not-argument s k m ts a x us l goal n o (final g) = o refl
+pub not-argument : (s : Setting) (k : List stack.Frame) (m : List ℕ) (w : ℕ) (ts : List Tree) (a : Bool) (x : Lexeme) (us : List Token) (l goal : Tree)
+    → (closer_of x ≡ closer.Comma → ⊥) → (closer_of x ≡ closer.Close → ⊥) → Plugs s (stack.ArgumentOf m w ts ∷ k) (token a x ∷ us) l goal → ⊥
+not-argument s k m w ts a x us l goal n o (argument lt g) = n refl
+not-argument s k m w ts a x us l goal n o (final g) = o refl
 
-pub not-more : (s : Setting) (k : List stack.Frame) (m : List ℕ) (ts : List Tree) (a : Bool) (x : Lexeme) (us : List Token) (l goal : Tree)
-    → closer_of x ≡ closer.Comma → 65534 ≤ length ts → Plugs s (stack.ArgumentOf m ts ∷ k) (token a x ∷ us) l goal → ⊥
-not-more s k m ts a x us l goal e le (argument lt g) = omega arith
-not-more s k m ts a x us l goal e le (final g) = cc
+pub not-more : (s : Setting) (k : List stack.Frame) (m : List ℕ) (w : ℕ) (ts : List Tree) (a : Bool) (x : Lexeme) (us : List Token) (l goal : Tree)
+    → closer_of x ≡ closer.Comma → 65534 ≤ length ts → Plugs s (stack.ArgumentOf m w ts ∷ k) (token a x ∷ us) l goal → ⊥
+not-more s k m w ts a x us l goal e le (argument lt g) = omega arith
+not-more s k m w ts a x us l goal e le (final g) = cc
 
 pub not-over : (s : Setting) (a : Bool) (x : Lexeme) (us : List Token) (l goal : Tree) → (closer_of x ≡ closer.End → ⊥) → Plugs s [] (token a x ∷ us) l goal → ⊥
 not-over s a x us l goal n over = n refl

@@ -15,7 +15,7 @@ closing (Round ∷ k) = token false Close ∷ closing k
 closing (Braces ∷ k) = token false CloseCurly ∷ closing k
 closing (ItemOf ts ∷ k) = token false CloseList ∷ closing k
 closing (TailOf ts ∷ k) = token false CloseList ∷ closing k
-closing (ArgumentOf n ts ∷ k) = token false Close ∷ closing k
+closing (ArgumentOf n w ts ∷ k) = token false Close ∷ closing k
 closing (PrefixOf n o ∷ k) = closing k
 closing (InfixOf n o l ∷ k) = closing k
 
@@ -31,7 +31,7 @@ module _ (s : Setting) where
   next-closing b p (Braces ∷ k) = refl
   next-closing b p (ItemOf ts ∷ k) = refl
   next-closing b p (TailOf ts ∷ k) = refl
-  next-closing b p (ArgumentOf n ts ∷ k) = refl
+  next-closing b p (ArgumentOf n w ts ∷ k) = refl
   next-closing b p (PrefixOf n o ∷ k) = next-closing b p k
   next-closing b p (InfixOf n o l ∷ k) = next-closing b p k
 
@@ -44,7 +44,7 @@ module _ (s : Setting) where
   closes (Braces ∷ k) h l p le = let r = closes k h (one braces l) 0 (omega arith) in (r.0, plugged (Braces ∷ k) l r.0 p le (braced r.1))
   closes (ItemOf ts ∷ k) h l p le = let r = closes k h (list_of (l ∷ ts) (AtomTree nil)) 0 (omega arith) in (r.0, plugged (ItemOf ts ∷ k) l r.0 p le (last r.1))
   closes (TailOf ts ∷ k) h l p le = let r = closes k h (list_of ts l) 0 (omega arith) in (r.0, plugged (TailOf ts ∷ k) l r.0 p le (tail r.1))
-  closes (ArgumentOf n ts ∷ k) h l p le = let r = closes k h.1 (CompoundTree n (trees_of (l ∷ ts) no_trees)) 0 (omega arith) in (r.0, plugged (ArgumentOf n ts ∷ k) l r.0 p le (final r.1))
+  closes (ArgumentOf n w ts ∷ k) h l p le = let r = closes k h.1 (CompoundTree n (trees_of (l ∷ ts) no_trees)) 0 (omega arith) in (r.0, plugged (ArgumentOf n w ts ∷ k) l r.0 p le (final r.1))
   closes (PrefixOf n o ∷ k) h l p le = let r = closes k h.1 (one n l) o.priority h.0 in (r.0, plugged (PrefixOf n o ∷ k) l r.0 p le (prefix r.1))
   closes (InfixOf n o m ∷ k) h l p le = let r = closes k h.1 (two n m l) o.priority h.0 in (r.0, plugged (InfixOf n o m ∷ k) l r.0 p le (infixes r.1))
 

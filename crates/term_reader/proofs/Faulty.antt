@@ -1,6 +1,6 @@
 -- The fault of a text where no token goes on.
-use Rattle.std.proofs.Common.{◌≡◌, ◌∙◌, ℕ, ◌^◌, nat_le, Bool, true, false, List, [], ◌∷◌, ◌++◌, length, slice_get, Some, refl, sym, ap, subst, arith, append-nil, IsCharBoundary, if◌then◌else◌, ◌≤◌, take, drop}
-use Rattle.std.proofs.Math.Seq.{drop-length, take-append_seam}
+use Rattle.std.proofs.Common.{◌≡◌, ◌∙◌, ℕ, ◌^◌, nat_le, Bool, true, false, List, [], ◌∷◌, ◌++◌, length, slice_get, Some, refl, sym, ap, subst, arith, append-nil, IsCharBoundary, if◌then◌else◌}
+use Rattle.std.proofs.Math.Seq.{drop-length}
 use Rattle.std.proofs.lemmas.Str.{chars-nil, IsCharBoundary-from_drop, IsUtf8-nil}
 use Rattle.std.specs.Str.{chars, IsUtf8}
 use Rattle.au_model.specs.Characters.{chars_from}
@@ -8,11 +8,11 @@ use Rattle.au_model.specs.Layout.{GapThen, behind_layout, begins_layout}
 use Rattle.au_model.specs.Tokens.{NameWord, QuotedWord, VariableWord, IntegerWord, TextWord, MarkWord, StopWord, LastWord, Lexed, FoundWord, FoundFault, next_word}
 use Rattle.au_model.specs.Lexemes as words
 use Rattle.au_model.specs.Lexemes.{Lexeme, Token, token, scanned, scanned_word, ScannedTo, ScannedNone, front, tokens_of}
-use Rattle.au_model.specs.Openings.{Setting, Call, begins}
+use Rattle.au_model.specs.Openings.{Setting}
 use Rattle.au_model.specs.TermTexts.{is_last, is_over}
 use Rattle.au_model.specs.declared.fault_kind.FaultKind.{FaultKind}
-use Rattle.au_model.specs.declared.fault_kind.FaultKind.TheVariants.{UnexpectedToken, UnexpectedEnd, WideNumeral, TooManyArguments}
-use Rattle.term_reader.specs.TextFaults.{Begins, FaultAt, IsFull, is_wide, token_start, Fault, unexpected, wide, too_many, faulty, ended}
+use Rattle.au_model.specs.declared.fault_kind.FaultKind.TheVariants.{UnexpectedToken, UnexpectedEnd, WideNumeral}
+use Rattle.term_reader.specs.TextFaults.{Begins, FaultAt, IsOneTooMany, is_wide, token_start, Fault, unexpected, wide, faulty, ended}
 use Rattle.term_reader.specs.Refusing.{Stuck, unexpected_kind, IsFault}
 use Rattle.term_reader.specs.Meant.{IsStart}
 use Rattle.term_reader.specs.declared.refusal.Refused.{Refused}
@@ -22,12 +22,13 @@ use Rattle.term_reader.proofs.Fronts.{front-scanned, tokens-none, tokens-first}
 use Rattle.term_reader.proofs.Scanning.{scans-tokens, scans-rest, scans-first}
 use Rattle.term_reader.proofs.Ledger.{fault-of, get-behind}
 
-by-kind : (s : Setting) (cs from : List ℕ) (n : ℕ) (a : Bool) (x : Lexeme) → FaultAt s (tokens_of cs) n → slice_get (tokens_of cs) n ≡ Some (token a x) → token_start n cs ≡ GapThen from → Fault s cs (unexpected_kind x) from
-by-kind s cs from n a (words.Integer k) f e h = go (nat_le (2 ^ 63) k) refl where
+by-kind : (s : Setting) (cs from : List ℕ) (n : ℕ) (a : Bool) (x : Lexeme) → FaultAt s (tokens_of cs) n → slice_get (tokens_of cs) n ≡ Some (token a x) → ((m : ℕ) (name : List ℕ) → IsOneTooMany s (tokens_of cs) n m name → ⊥) → token_start n cs ≡ GapThen from
+    → Fault s cs (unexpected_kind x) from
+by-kind s cs from n a (words.Integer k) f e few h = go (nat_le (2 ^ 63) k) refl where
   go : (b : Bool) → nat_le (2 ^ 63) k ≡ b → Fault s cs (if b then WideNumeral else UnexpectedToken) from
   go true g = wide f (ap is_wide e ∙ g) h
-  go false g = unexpected f (ap is_wide e ∙ g) h
-by-kind s cs from n a x f e h = unexpected f (ap is_wide e) h
+  go false g = unexpected f (ap is_wide e ∙ g) few h
+by-kind s cs from n a x f e few h = unexpected f (ap is_wide e) few h
 
 no_word : (lx : Lexed) (b : Bool) → is_last lx ≡ true → scanned_word b lx ≡ ScannedNone
 no_word (FoundWord LastWord rest) b e = refl
@@ -61,16 +62,8 @@ module _ (s : Setting) (text : List ℕ) (start at : ℕ) (h : Stuck s text star
       by-kind s (chars_from text start) (chars_from text place) (length h.read) a x
       (fault-of s (tokens_of (chars_from text start)) h.read first.more (token a x) is h.begins (h.ends (token a x) first.more first.is))
       (ap (λ ts. slice_get ts (length h.read)) is ∙ get-behind h.read first.more (token a x))
+      (λ m name o. h.few (token a x) first.more first.is m name (subst (λ ts. IsOneTooMany s ts (length h.read) m name) is o))
       (ap behind_layout (scans-first h.scans) ∙ g)
-
-  pub stuck-many : (rest from : List ℕ) (a : Bool) → scanned (chars_from text at) ≡ ScannedTo (token a words.Comma) rest → (m : ℕ) (name : List ℕ) (us : List Token) → m ≤ length h.read
-      → begins s (drop m (tokens_of (chars_from text start))) ≡ Call name us → IsFull s h.read name → token_start m (chars_from text start) ≡ GapThen from → Fault s (chars_from text start) TooManyArguments from
-  stuck-many rest from a e m name us le called full place =
-      let first = tokens-first (chars_from text at) rest a words.Comma e in
-      let is : tokens_of (chars_from text start) ≡ h.read ++ token a words.Comma ∷ first.more = scans-tokens h.scans ∙ ap (λ ts. h.read ++ ts) first.is in
-      too_many (fault-of s (tokens_of (chars_from text start)) h.read first.more (token a words.Comma) is h.begins (h.ends (token a words.Comma) first.more first.is))
-      (ap (λ ts. slice_get ts (length h.read)) is ∙ get-behind h.read first.more (token a words.Comma))
-      le called (subst (λ ts. IsFull s ts name) (sym (ap (take (length h.read)) is ∙ take-append_seam h.read (token a words.Comma ∷ first.more))) full) place
 
   begins-all : scanned (chars_from text at) ≡ ScannedNone → Begins s (tokens_of (chars_from text start))
   begins-all e =

@@ -1,68 +1,121 @@
 -- What is refused where an operand ends.
-use Rattle.std.proofs.Common.{◌≡◌, ◌∙◌, ℕ, ◌≤◌, Bool, true, false, ◌&&◌, List, ◌∷◌, ◌++◌, length, length-append, drop, Option, refl, sym, ap, subst, arith}
+use Rattle.std.proofs.Common.{◌≡◌, ◌∙◌, ℕ, suc, ◌≤◌, Bool, true, false, ◌&&◌, List, [], ◌∷◌, ◌++◌, length, drop, Option, refl, sym, ap, subst, arith, append_assoc}
 use Rattle.std.proofs.Math.Seq.{drop-append_seam}
-use Rattle.std.proofs.lemmas.List.{append_cancel_right}
 use Rattle.au_model.specs.Layout.{behind_layout}
 use Rattle.au_model.specs.Characters.{chars_from}
-use Rattle.au_model.specs.Lexemes.{Lexeme, Close, Comma, Token, token, scanned, ScannedTo, tokens_of}
-use Rattle.au_model.specs.Trees.{Tree}
+use Rattle.au_model.specs.Lexemes.{Lexeme, Open, Close, Comma, Token, token, scanned, ScannedTo, tokens_of}
+use Rattle.au_model.specs.Trees.{Tree, CompoundTree, no_trees}
+use Rattle.au_model.specs.Openings.{Setting, Call, begins}
 use Rattle.au_model.specs.declared.fault_kind.FaultKind.TheVariants.{TooManyArguments}
-use Rattle.term_reader.specs.Stack.{Frame, Goes}
 use Rattle.term_reader.specs.Begun.{setting_of}
+use Rattle.term_reader.specs.Frames.{IsKept, IsShut}
 use Rattle.term_reader.specs.Meant.{IsStart}
-use Rattle.term_reader.specs.Positions.{There, Led}
-use Rattle.term_reader.specs.TextFaults.{IsFull}
-use Rattle.term_reader.specs.Refusing.{CallPlace, Fills, NotTaken, IsPassed, IsFault, RefusesWell}
+use Rattle.term_reader.specs.Nesting.{Since, Nests}
+use Rattle.term_reader.specs.Positions.{There}
+use Rattle.term_reader.specs.Stack.{Frame, ArgumentOf, bound_of, trees_of, Wants, Goes, final}
+use Rattle.term_reader.specs.TextFaults.{Begins, Past, IsOneTooMany, too_many}
+use Rattle.term_reader.specs.Refusing.{NotTaken, IsPassed, IsFault, RefusesWell, is_named_joint}
 use Rattle.term_reader.specs.declared.opening.Source.{Source}
 use Rattle.term_reader.specs.declared.steps.Turn.{Turn}
 use Rattle.term_reader.specs.declared.steps.Turn.TheVariants.{On}
-use Rattle.au_model.specs.Openings.{Setting, begins}
-use Rattle.term_reader.proofs.Faulty.{stuck-many}
-use Rattle.term_reader.proofs.Scanning.{scans-tokens, scans-then, scans-first}
-use Rattle.term_reader.proofs.Refusals.{stuck-here}
+use Rattle.term_reader.proofs.Completed.{closing, closes}
+use Rattle.term_reader.proofs.Fronts.{First, tokens-first}
+use Rattle.term_reader.proofs.Ledger.{fault-of, led-begins}
 use Rattle.term_reader.proofs.Looking.{ready-close}
-use Rattle.term_reader.proofs.Turns.{reaches}
+use Rattle.term_reader.proofs.Many.{IsFullStack, many, few-behind, past-last}
+use Rattle.term_reader.proofs.Refusals.{here-ends}
+use Rattle.term_reader.proofs.Scanning.{scans-tokens, scans-first}
+use Rattle.term_reader.proofs.Turns.{went_stop}
 
 never_named : (d : Bool) → (d && false) ≡ false
 never_named true = refl
 never_named false = refl
 
-at-most : (read before after : List Token) → read ≡ before ++ after → length before ≤ length read
-at-most read before after e = let l = ap length e ∙ length-append before after in omega arith
+drop-behind : (read us : List Token) (t : Token) → drop (suc (length read)) (read ++ t ∷ us) ≡ us
+drop-behind [] us t = refl
+drop-behind (u ∷ read) us t = drop-behind read us t
 
--- what is read with a bracket that closes
-pub passed-fills : (s : Setting) (k m : List Frame) (l t : Tree) (p q : ℕ) (name : List ℕ) → ((more : List Token) (goal : Tree) → Goes s k (token false Close ∷ more) l p goal → Goes s m (token false Close ∷ more) t q goal) → Fills s k l p name → Fills s m t q name
-passed-fills s k m l t p q name h f = record { more = f.more; tree = f.tree; closing = f.closing; has = f.has; reads = h f.more f.tree f.reads }
+comma-is : (a b : Bool) (x : Lexeme) → token a x ≡ token b Comma → x ≡ Comma
+comma-is a b x e = cc
 
-led-full : (s : Setting) (text : List ℕ) (start at : ℕ) (doubt : Bool) (k : List Frame) (l : Tree) (p : ℕ) (name : List ℕ) → (a : Led s text start (There k l p) at doubt) → Fills s k l p name → IsFull s a.read name
-led-full s text start at doubt k l p name a f =
-    let ready = ready-close s.ops k l p a.look (tokens_of (chars_from text at)) f.more a.suits a.fits in
-    let e = reaches s (a.read ++ token false Close ∷ f.more) f.tree (a.back (token false Close ∷ f.more) f.tree ready f.reads) in
-    record { more = f.more; apart = e.apart; tree = f.tree; closing = f.closing; spelled = e.is; has = f.has }
-
-pub many-fault : (source : Source) (start : ℕ) (k : List Frame) (l : Tree) (p at : ℕ) (doubt : Bool) (x : Lexeme) (place end : ℕ) → NotTaken source start k l p at doubt x place end
-    → (other : ℕ) (name : List ℕ) → x ≡ Comma → CallPlace (setting_of source) source.text.now start at name other → Fills (setting_of source) k l p name → IsFault (setting_of source) source.text.now start (record { at = other; kind = TooManyArguments })
-many-fault source start k l p at doubt x place end h other name e b f =
-    let s = setting_of source in
-    let text = source.text.now in
-    let P : Lexeme → Type 0 = λ y. scanned (chars_from text at) ≡ ScannedTo (token h.apart y) (chars_from text end) in
-    let found = subst P e h.found in
-    let refused = subst (λ y. (more : List Token) (goal : Tree) → Goes s k (token h.apart y ∷ more) l p goal → ⊥) e h.refused in
-    let stuck = stuck-here s text start at end k l p doubt h.apart Comma h.led h.kept h.low found refused (never_named doubt) in
-    let left = tokens_of (chars_from text at) in
-    let both = sym (scans-tokens stuck.scans) ∙ scans-tokens (scans-then b.scanned_before b.scanned_after) in
-    let read = append_cancel_right stuck.read (b.before ++ b.after) left both in
-    let same = append_cancel_right h.led.read stuck.read left (sym (scans-tokens h.led.scans) ∙ scans-tokens stuck.scans) in
-    let whole = scans-tokens b.scanned_before in
-    let called = ap (begins s) (ap (drop (length b.before)) whole ∙ drop-append_seam b.before (tokens_of b.from)) ∙ b.called in
+-- the tokens of a compound up to the comma
+at-comma : (s : Setting) (read us : List Token) (comma t : Token) (name : List ℕ) (b : Since Open read) (first named : List Token) → comma ≡ t → b.before ≡ first ++ named → ((vs : List Token) → begins s (named ++ token b.apart Open ∷ vs) ≡ Call name vs)
+    → ((vs : List Token) → Past s 65535 (b.inside ++ comma ∷ vs) vs) → IsOneTooMany s (read ++ t ∷ us) (length read) (length first) name
+at-comma s read us comma t name b first named e is called past =
+    let whole : read ++ t ∷ us ≡ first ++ (named ++ token b.apart Open ∷ (b.inside ++ t ∷ us)) =
+    ap (λ ts. ts ++ t ∷ us) (b.is ∙ ap (λ ts. ts ++ token b.apart Open ∷ b.inside) is) ∙ (append_assoc (first ++ named) (token b.apart Open ∷ b.inside) (t ∷ us) ∙ append_assoc first named (token b.apart Open ∷ (b.inside ++ t ∷ us))) in
+    let behind : drop (suc (length read)) (read ++ t ∷ us) ≡ us = drop-behind read us t in
     record {
-      place = b.boundary;
-      fault = stuck-many s text start at stuck (chars_from text end) (chars_from text other) h.apart found (length b.before) name b.args (at-most stuck.read b.before b.after read) called (subst (λ ts. IsFull s ts name) same (led-full s text start at doubt k l p name h.led f)) (ap behind_layout (scans-first b.scanned_before) ∙ b.layout);
+      behind = b.inside ++ t ∷ us;
+      called = ap (begins s) (ap (drop (length first)) whole ∙ drop-append_seam first (named ++ token b.apart Open ∷ (b.inside ++ t ∷ us))) ∙ called (b.inside ++ t ∷ us);
+      past = subst (λ ts. Past s 65535 (b.inside ++ t ∷ us) ts) (sym behind) (subst (λ u. Past s 65535 (b.inside ++ u ∷ us) us) e (past us));
     }
 
-pub not-taken : (source : Source) (start at : ℕ) (doubt a : Bool) (x : Lexeme) (k : List Frame) (l : Tree) (p place end : ℕ) → (h : IsPassed source start at doubt (token a x) k l p) → scanned (chars_from source.text.now at) ≡ ScannedTo (token a x) (chars_from source.text.now end)
-    → IsStart source.text.now at place → ((more : List Token) (goal : Tree) → Goes (setting_of source) k (token a x ∷ more) l p goal → ⊥) → NotTaken source start h.stack h.tree h.priority at doubt x place end
-not-taken source start at doubt a x k l p place end h e b n = record { led = h.led; kept = h.kept; low = h.low; apart = a; found = e; starts = b; refused = λ more goal g. n more goal (h.passes more goal g) }
+-- a token that is not taken where it stands, with which the operand in this frame does not go on
+module _ (source : Source) (start at end : ℕ) (doubt a : Bool) (x : Lexeme) (k : List Frame) (l : Tree) (p : ℕ) (h : IsPassed source start at doubt (token a x) k l p)
+    (found : scanned (chars_from source.text.now at) ≡ ScannedTo (token a x) (chars_from source.text.now end)) (never : (more : List Token) (goal : Tree) → Goes (setting_of source) k (token a x ∷ more) l p goal → ⊥) where
+  abbrev s : Setting
+  s = setting_of source
+
+  abbrev text : List ℕ
+  text = source.text.now
+
+  refused : (more : List Token) (goal : Tree) → Goes s h.stack (token a x ∷ more) h.tree h.priority goal → ⊥
+  refused more goal g = never more goal (h.passes more goal g)
+
+  comma-ends : x ≡ Comma → (more : List Token) (goal : Tree) → Wants s [] (h.led.read ++ token a x ∷ more) goal → ⊥
+  comma-ends e more goal w = here-ends s text start at end h.stack h.tree h.priority doubt a x h.led h.kept h.low found refused (ap (λ y. doubt && is_named_joint s.ops y) e ∙ never_named doubt) more goal w
+
+  few : IsKept k → IsShut k → p ≤ bound_of k → (x ≡ Comma → IsFullStack k → ⊥) → (us : List Token) (m : ℕ) (name : List ℕ) → IsOneTooMany s (h.led.read ++ token a x ∷ us) (length h.led.read) m name → ⊥
+  few kept shut low spare us m name o =
+      let g = many s h.led.read us (token a x) m name o in
+      let e = comma-is a g.apart x g.comma in
+      few-behind s text start k h.led.read l p a kept shut low h.nests g.full
+      (λ more goal w. comma-ends e more goal (subst (λ y. Wants s [] (h.led.read ++ token a y ∷ more) goal) (sym e) w))
+      (λ more goal w. never more goal (subst (λ y. Goes s k (token a y ∷ more) l p goal) (sym e) w))
+      (spare e)
+
+  pub not-taken : (place : ℕ) → IsKept k → IsShut k → p ≤ bound_of k → IsStart text at place → (x ≡ Comma → IsFullStack k → ⊥) → NotTaken source start h.stack h.tree h.priority at doubt x place end
+  not-taken place kept shut low b spare = record { led = h.led; kept = h.kept; low = h.low; apart = a; found = found; starts = b; refused = refused; few = few kept shut low spare }
+
+  -- the comma behind the last argument
+  module _ (name : List ℕ) (place : ℕ) (ts : List Tree) (below : List Frame) (e : x ≡ Comma) (is : k ≡ ArgumentOf name place ts ∷ below) (kept : IsKept k) (low : p ≤ bound_of k) where
+    kept-below : IsKept below
+    kept-below = (subst IsKept is kept).1
+
+    nests : Nests s text start h.led.read (ArgumentOf name place ts ∷ below)
+    nests = subst (Nests s text start h.led.read) is h.nests
+
+    first : First (chars_from text at) (token a x)
+    first = tokens-first (chars_from text at) (chars_from text end) a x found
+
+    tokens : tokens_of (chars_from text start) ≡ h.led.read ++ token a x ∷ first.more
+    tokens = scans-tokens h.led.scans ∙ ap (λ us. h.led.read ++ us) first.is
+
+    begins-here : Begins s h.led.read
+    begins-here = led-begins s text start at doubt (There h.stack h.tree h.priority) h.led h.kept h.low
+
+    -- with a bracket instead it would be the end of the compound
+    closed : (goal : Tree) × Wants s [] (h.led.read ++ token false Close ∷ closing below) goal
+    closed =
+        let c = closes s below kept-below (CompoundTree name (trees_of (l ∷ ts) no_trees)) 0 (omega arith) in
+        let within : p ≤ 999 = subst (λ m. p ≤ bound_of m) is low in
+        let g = went_stop s {k = ArgumentOf name place ts ∷ below} (token false Close ∷ closing below) l p refl within (final c.1) in
+        let there = h.closes (closing below) c.0 (subst (λ m. Goes s m (token false Close ∷ closing below) l p c.0) (sym is) g) in
+        (c.0, h.led.back (token false Close ∷ closing below) c.0 (ready-close s.ops h.stack h.tree h.priority h.led.look (tokens_of (chars_from text at)) (closing below) h.led.suits h.led.fits) there)
+
+    ends-comma : (more : List Token) (goal : Tree) → Wants s [] (h.led.read ++ token a Comma ∷ more) goal → ⊥
+    ends-comma more goal w = comma-ends e more goal (subst (λ y. Wants s [] (h.led.read ++ token a y ∷ more) goal) (sym e) w)
+
+    one-too-many : IsOneTooMany s (h.led.read ++ token a x ∷ first.more) (length h.led.read) (length nests.2.first) name
+    one-too-many = at-comma s h.led.read first.more (token a Comma) (token a x) name nests.0 nests.2.first nests.2.named (ap (token a) (sym e)) nests.2.is nests.2.called (past-last s text start below name place h.led.read a kept-below nests.0 nests.1 ends-comma closed.0 closed.1)
+
+    pub many-fault : IsFault s text start (record { at = place; kind = TooManyArguments })
+    many-fault = record {
+      place = nests.2.boundary;
+      fault = too_many (fault-of s (tokens_of (chars_from text start)) h.led.read first.more (token a x) tokens begins-here (comma-ends e))
+          (subst (λ us. IsOneTooMany s us (length h.led.read) (length nests.2.first) name) (sym tokens) one-too-many) (ap behind_layout (scans-first nests.2.scans) ∙ nests.2.layout);
+    }
 
 pub on-well : (s : Setting) (text : List ℕ) (start : ℕ) (o : Option ℕ) (d : Bool) (t : Turn) → t ≡ On o d → RefusesWell s text start t
 on-well s text start o d t e = subst (RefusesWell s text start) (sym e) tt

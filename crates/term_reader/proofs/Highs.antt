@@ -15,6 +15,7 @@ use Rattle.term_reader.specs.Looks.{Look, is_plain, presumed, Scans, none, onto,
 use Rattle.term_reader.specs.Positions.{Position, Due, There, stack_of, IsLow, Led}
 use Rattle.term_reader.specs.TextFaults.{Begins}
 use Rattle.term_reader.specs.Refusing.{Stuck, takes, atom_joins}
+use Rattle.term_reader.proofs.Many.{many, completes-close, presumed-close}
 use Rattle.term_reader.specs.Settling.{first_joint}
 use Rattle.term_reader.proofs.Back.{fits-within}
 use Rattle.term_reader.proofs.Completed.{closing, closes, completion, completes}
@@ -24,7 +25,7 @@ use Rattle.term_reader.proofs.Opened.{Opened, ends-plain, by-call, list-opened, 
 use Rattle.term_reader.proofs.Ledger.{prefix-never, led-begins, begins-more}
 use Rattle.term_reader.proofs.Fronts.{tokens-none, tokens-first}
 use Rattle.term_reader.proofs.Settled.{over-prefix, over-infix, stops-at}
-use Rattle.term_reader.proofs.Refusals.{lone-over, lone-alone, same_first, none_first, next-alike, name_no_end, tails}
+use Rattle.term_reader.proofs.Refusals.{lone-over, lone-alone, same_first, none_first, next-alike, name_no_end, tails, true_false}
 use Rattle.term_reader.proofs.Moving.{on-infix, on-postfix}
 use Rattle.term_reader.proofs.Turns.{fails, prefix_within, took_leaf, takes_leaf, goes_stop, went_infix, went_postfix, out_prefix, out_infix}
 
@@ -36,6 +37,7 @@ stuck-none s text start at x d led kept low e = record {
   scans = led.scans;
   begins = led-begins s text start at d x led kept low;
   ends = λ t us h more goal w. none_first (tokens_of (chars_from text at)) us t (tokens-none (chars_from text at) e) h;
+  few = λ t us h m name o. none_first (tokens_of (chars_from text at)) us t (tokens-none (chars_from text at) e) h;
 }
 
 -- ---- no term begins so
@@ -78,6 +80,11 @@ stuck-fails s text start at k d a x rest led kept e f =
       ends = λ t us h more goal w.
           let v = subst (λ u. Wants s [] (led.read ++ u ∷ more) goal) (same_first (tokens_of (chars_from text at)) first.more us (token a x) t first.is h) w in
           fails s (token a x ∷ more) (n.never more) (led.to (token a x ∷ more) goal (presumed-alike s.ops led.look (token a x) first.more more (n.alike more first.more) fits) v);
+      few = λ t us h m name o.
+          let g = many s led.read us t m name o in
+          let c = completes-close s text start k led.read kept led.nests g.full in
+          let f = ap (presumed s.ops led.look) (sym (h ∙ ap (λ u. u ∷ us) g.comma)) ∙ led.fits in
+          fails s (token false words.Close ∷ c.more) refl (led.to (token false words.Close ∷ c.more) c.goal (presumed-close s.ops led.look g.apart us c.more f) c.wants);
     }
 
 -- ---- operators put over an operand
@@ -117,10 +124,10 @@ module _ (s : Setting) (a : Bool) (sign : Bool) (n : List ℕ) (k : List Frame) 
   not-tail ts (words.QuotedName m) i q = elim q [ ]
   not-tail ts y i q = i
 
-  not-argument : (b : List ℕ) (ts : List Tree) (y : Lexeme) → IsName y sign n → Plugs s (stack.ArgumentOf b ts ∷ k) (token a y ∷ more) l goal → ⊥
-  not-argument b ts (words.Name m) i q = elim q [ ]
-  not-argument b ts (words.QuotedName m) i q = elim q [ ]
-  not-argument b ts y i q = i
+  not-argument : (b : List ℕ) (w : ℕ) (ts : List Tree) (y : Lexeme) → IsName y sign n → Plugs s (stack.ArgumentOf b w ts ∷ k) (token a y ∷ more) l goal → ⊥
+  not-argument b w ts (words.Name m) i q = elim q [ ]
+  not-argument b w ts (words.QuotedName m) i q = elim q [ ]
+  not-argument b w ts y i q = i
 
 stops-here : (s : Setting) (a : Bool) (x : Lexeme) (k : List Frame) (l goal : Tree) (p b : ℕ) (more : List Token) → bound_of k ≡ b → joint_fits b p (lexeme_joint s.ops x) ≡ false → Goes s k (token a x ∷ more) l p goal → Plugs s k (token a x ∷ more) l goal
 stops-here s a x k l goal p b more h e g = goes_stop s (token a x ∷ more) l p (stops-at s.ops (bound_of k) p (token a x ∷ more) (lexeme_joint s.ops x) refl (ap (λ z. joint_fits z p (lexeme_joint s.ops x)) h ∙ e)) g
@@ -131,7 +138,7 @@ takes-never s a x sign n h (stack.Round ∷ k) l p more goal e g = not-round s a
 takes-never s a x sign n h (stack.Braces ∷ k) l p more goal e g = not-braces s a sign n k more l goal x h (stops-here s a x (stack.Braces ∷ k) l goal p 1200 more refl e g)
 takes-never s a x sign n h (stack.ItemOf ts ∷ k) l p more goal e g = not-item s a sign n k more l goal ts x h (stops-here s a x (stack.ItemOf ts ∷ k) l goal p 999 more refl e g)
 takes-never s a x sign n h (stack.TailOf ts ∷ k) l p more goal e g = not-tail s a sign n k more l goal ts x h (stops-here s a x (stack.TailOf ts ∷ k) l goal p 999 more refl e g)
-takes-never s a x sign n h (stack.ArgumentOf b ts ∷ k) l p more goal e g = not-argument s a sign n k more l goal b ts x h (stops-here s a x (stack.ArgumentOf b ts ∷ k) l goal p 999 more refl e g)
+takes-never s a x sign n h (stack.ArgumentOf b w ts ∷ k) l p more goal e g = not-argument s a sign n k more l goal b w ts x h (stops-here s a x (stack.ArgumentOf b w ts ∷ k) l goal p 999 more refl e g)
 takes-never s a x sign n h (stack.PrefixOf m o ∷ k) l p more goal e g =
     let f = joint_fits (right_bound o) p (lexeme_joint s.ops x) in
     let r = takes k o.priority (lexeme_joint s.ops x) in
@@ -160,7 +167,7 @@ taken s j (stack.Round ∷ k) l p h le e = taken-here s j (stack.Round ∷ k) l 
 taken s j (stack.Braces ∷ k) l p h le e = taken-here s j (stack.Braces ∷ k) l p h le e
 taken s j (stack.ItemOf ts ∷ k) l p h le e = taken-here s j (stack.ItemOf ts ∷ k) l p h le e
 taken s j (stack.TailOf ts ∷ k) l p h le e = taken-here s j (stack.TailOf ts ∷ k) l p h le e
-taken s j (stack.ArgumentOf b ts ∷ k) l p h le e = taken-here s j (stack.ArgumentOf b ts ∷ k) l p h le e
+taken s j (stack.ArgumentOf b w ts ∷ k) l p h le e = taken-here s j (stack.ArgumentOf b w ts ∷ k) l p h le e
 taken s j (stack.PrefixOf m o ∷ k) l p h le e = go (joint_fits (right_bound o) p j) refl e (taken s j k (one m l) o.priority h.1 h.0) where
   go : (b : Bool) → joint_fits (right_bound o) p j ≡ b → (b || takes k o.priority j) ≡ true → (takes k o.priority j ≡ true → Taken s j k (one m l) o.priority) → Taken s j (stack.PrefixOf m o ∷ k) l p
   go true f i r = taken-here s j (stack.PrefixOf m o ∷ k) l p h le f
@@ -226,6 +233,11 @@ not-joined s b (words.QuotedName m) k n more us goal e f h g =
     takes-never s b (words.QuotedName m) false m (refl, refl) k (AtomTree n) 0 more goal (and-false (joint_alone s.ops m) (takes k 0 (named_joint s.ops m)) alone h) g
 not-joined s b y k n more us goal e f h g = let z : ⊥ = cc in absurd z
 
+-- in front of a comma a prefix operator stands for itself
+comma-alone : (ops : OperatorTable) (b : Bool) (y : Lexeme) (c : Bool) (us : List Token) → token b y ≡ token c words.Comma → ends_before ops y us ≡ false → ⊥
+comma-alone ops b words.Comma c us e h = let z : ⊥ = cc in z
+comma-alone ops b y c us e h = let z : ⊥ = cc in z
+
 -- ---- behind a prefix operator above the bound
 
 module _ (s : Setting) (text : List ℕ) (start at end : ℕ) (k : List Frame) (d a : Bool) (x : Lexeme) (sign : Bool) (n : List ℕ) (o : Operator) (led : Led s text start (Due k) at d) (kept : IsKept k)
@@ -282,6 +294,7 @@ module _ (s : Setting) (text : List ℕ) (start at end : ℕ) (k : List Frame) (
     scans = scans-first;
     begins = begins-alone;
     ends = λ t us h more goal w. none_first left us t (tokens-none (chars_from text end) e) h;
+    few = λ t us h m name o. none_first left us t (tokens-none (chars_from text end) e) h;
   }
 
   module _ (last : ℕ) (b : Bool) (y : Lexeme) (next : scanned (chars_from text end) ≡ ScannedTo (token b y) (chars_from text last)) where
@@ -314,6 +327,9 @@ module _ (s : Setting) (text : List ℕ) (start at end : ℕ) (k : List Frame) (
       scans = scans-first;
       begins = begins-alone;
       ends = λ u vs h more goal w. ends-here e more goal (front (t ∷ more) goal (subst (λ z. Wants s [] ((led.read ++ first ∷ []) ++ z ∷ more) goal) (same_first left us vs t u left-is h) w));
+      few = λ u vs h m name o.
+          let g = many s (led.read ++ first ∷ []) vs u m name o in
+          comma-alone s.ops b y g.apart us (sym (same_first left us vs t u left-is h) ∙ g.comma) not-alone;
     }
 
     -- or it joins the operator to the next one
@@ -332,4 +348,9 @@ module _ (s : Setting) (text : List ℕ) (start at end : ℕ) (k : List Frame) (
               let is : us ≡ u ∷ vs = tails left us (tokens_of (chars_from text last)) t left-is (scans-tokens (onto next end_no none)) ∙ h in
               let f : ends_before s.ops y (u ∷ more) ≡ false = next-alike s.ops y u more vs ∙ (ap (ends_before s.ops y) (sym is) ∙ not-alone) in
               no-operand (t ∷ u ∷ more) goal (plain (u ∷ more)) f (front (t ∷ u ∷ more) goal (subst (λ ts. Wants s [] ts goal) (append_assoc (led.read ++ first ∷ []) (t ∷ []) (u ∷ more)) w));
+          few = λ u vs h m name o.
+              let g = many s ((led.read ++ first ∷ []) ++ t ∷ []) vs u m name o in
+              let is : us ≡ token g.apart words.Comma ∷ vs = tails left us (tokens_of (chars_from text last)) t left-is (scans-tokens (onto next end_no none)) ∙ (h ∙ ap (λ z. z ∷ vs) g.comma) in
+              let joins : ends_before s.ops y (token g.apart words.Comma ∷ vs) ≡ true = ends-plain s.ops y j.sign j.name j.named (token g.apart words.Comma ∷ vs) (quiet-plain j.sign (token g.apart words.Comma ∷ vs) (record { no_open = refl; no_count = refl })) ∙ j.alone in
+              true_false (ends_before s.ops y us) (ap (ends_before s.ops y) is ∙ joins) not-alone;
         }

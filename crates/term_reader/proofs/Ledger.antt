@@ -15,6 +15,7 @@ use Rattle.term_reader.specs.Positions.{Position, Due, There, Reads, Suits, stac
 use Rattle.term_reader.specs.TextFaults.{Begins, FaultAt}
 use Rattle.term_reader.proofs.Completed.{completion, completes}
 use Rattle.term_reader.proofs.Looking.{ready, presumed-alike, IsSure, first-sure, joint_alone, joins-is, and-right}
+use Rattle.term_reader.proofs.Pairing.{balanced-none}
 use Rattle.term_reader.proofs.Scanning.{scans-tokens, scans-then}
 use Rattle.term_reader.proofs.Turns.{starts, reaches}
 
@@ -39,7 +40,7 @@ lone-alike s k first sign doubt h us vs =
     ∙ (sym (prefix-never s.ops h.lexeme sign h.name h.operator h.named h.prefix us) ∙ sym (ap (λ t. stands_alone s.ops (t ∷ us)) h.is)))
 
 pub led-start : (s : Setting) (text : List ℕ) (start : ℕ) → Led s text start (Due []) start false
-led-start s text start = record { read = []; scans = none; look = Free; fits = refl; to = λ vs goal f w. w; back = λ vs goal f w. w; suits = tt; doubts = refl }
+led-start s text start = record { read = []; scans = none; look = Free; fits = refl; to = λ vs goal f w. w; back = λ vs goal f w. w; suits = tt; doubts = refl; nests = balanced-none }
 
 module _ (s : Setting) (text : List ℕ) (start at end : ℕ) (d e : Bool) where
   module _ (k : List Frame) (y : Position) (a : Led s text start (Due k) at d) (b : Leads s text (Due k) at y end e) (kept : IsKept k) where
@@ -75,16 +76,23 @@ module _ (s : Setting) (text : List ℕ) (start at end : ℕ) (d e : Bool) where
     doubts-before InCurly h = h
     doubts-before (Joined x) h = h
 
+    to-new : (vs : List Token) (goal : Tree) → presumed s.ops b.look vs ≡ true → Wants s [] ((a.read ++ b.first ∷ b.over) ++ vs) goal → Reads s y vs goal
+    to-new vs goal f w = b.to vs goal f (a.to (b.first ∷ b.over ++ vs) goal (keep vs f) (subst (λ ts. Wants s [] ts goal) (append_assoc a.read (b.first ∷ b.over) vs) w))
+
+    back-new : (vs : List Token) (goal : Tree) → presumed s.ops b.look vs ≡ true → Reads s y vs goal → Wants s [] ((a.read ++ b.first ∷ b.over) ++ vs) goal
+    back-new vs goal f w = subst (λ ts. Wants s [] ts goal) (sym (append_assoc a.read (b.first ∷ b.over) vs)) (a.back (b.first ∷ b.over ++ vs) goal (keep vs f) (b.back vs goal f w))
+
     pub led-due : Led s text start y end e
     led-due = record {
       read = a.read ++ b.first ∷ b.over;
       scans = scans-then a.scans b.scans;
       look = b.look;
       fits = b.fits;
-      to = λ vs goal f w. b.to vs goal f (a.to (b.first ∷ b.over ++ vs) goal (keep vs f) (subst (λ ts. Wants s [] ts goal) (append_assoc a.read (b.first ∷ b.over) vs) w));
-      back = λ vs goal f w. subst (λ ts. Wants s [] ts goal) (sym (append_assoc a.read (b.first ∷ b.over) vs)) (a.back (b.first ∷ b.over ++ vs) goal (keep vs f) (b.back vs goal f w));
+      to = to-new;
+      back = back-new;
       suits = b.step.1;
       doubts = doubts-before b.look b.step.2;
+      nests = b.step.3 start a.read a.scans a.nests to-new back-new;
     }
 
   module _ (k : List Frame) (l : Tree) (p : ℕ) (y : Position) (a : Led s text start (There k l p) at d) (b : Leads s text (There k l p) at y end e) where
@@ -120,6 +128,7 @@ module _ (s : Setting) (text : List ℕ) (start at end : ℕ) (d e : Bool) where
       back = λ vs goal g w. subst (λ ts. Wants s [] ts goal) (joined vs) (a.back (b.first ∷ vs) goal (keeps vs g) (go-back vs goal w));
       suits = suits;
       doubts = doubts;
+      nests = b.step.3 start a.read a.nests;
     }
 
     alone-left : (x : Lexeme) (ap : Bool) → b.first ≡ token ap x → (vs : List Token) → stands_alone s.ops (b.first ∷ vs) ≡ ends_before s.ops x vs

@@ -20,9 +20,15 @@ pub mod Places
 pub mod Completed
 pub mod Looking
 pub mod Opened
+pub mod Nested
+pub mod Pairing
+pub mod Alike
+pub mod Again
+pub mod Shifts
+pub mod Slices
 pub mod Ledger
 pub mod Faulty
-pub mod Filled
+pub mod Many
 pub mod Refusals
 pub mod Highs
 pub mod Taking

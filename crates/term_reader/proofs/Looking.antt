@@ -25,7 +25,7 @@ closing-quiet (stack.Round ∷ k) = record { no_open = refl; no_count = refl }
 closing-quiet (stack.Braces ∷ k) = record { no_open = refl; no_count = refl }
 closing-quiet (stack.ItemOf ts ∷ k) = record { no_open = refl; no_count = refl }
 closing-quiet (stack.TailOf ts ∷ k) = record { no_open = refl; no_count = refl }
-closing-quiet (stack.ArgumentOf n ts ∷ k) = record { no_open = refl; no_count = refl }
+closing-quiet (stack.ArgumentOf n w ts ∷ k) = record { no_open = refl; no_count = refl }
 closing-quiet (stack.PrefixOf n o ∷ k) = closing-quiet k
 closing-quiet (stack.InfixOf n o l ∷ k) = closing-quiet k
 
@@ -35,7 +35,7 @@ closing-alone ops (stack.Round ∷ k) = refl
 closing-alone ops (stack.Braces ∷ k) = refl
 closing-alone ops (stack.ItemOf ts ∷ k) = refl
 closing-alone ops (stack.TailOf ts ∷ k) = refl
-closing-alone ops (stack.ArgumentOf n ts ∷ k) = refl
+closing-alone ops (stack.ArgumentOf n w ts ∷ k) = refl
 closing-alone ops (stack.PrefixOf n o ∷ k) = closing-alone ops k
 closing-alone ops (stack.InfixOf n o l ∷ k) = closing-alone ops k
 

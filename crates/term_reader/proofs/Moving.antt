@@ -16,15 +16,17 @@ use Rattle.token_scan.specs.Parts.{IsPlaceFrom}
 use Rattle.op_table.specs.Meant.{operator_meant}
 use Rattle.term_reader.specs.Begun.{setting_of, tokens_at, leaf_tree, opening_meant, OpensFrom, IsNamedBy}
 use Rattle.term_reader.specs.Looks as looks
-use Rattle.term_reader.specs.Looks.{Look, Free, Named, Lone, InList, InCurly, Joined, Scans, none, onto, IsName, IsLone, Doubts}
+use Rattle.term_reader.specs.Looks.{Look, Free, Named, Lone, InList, InCurly, Joined, presumed, Scans, none, onto, IsName, IsLone, Doubts}
 use Rattle.term_reader.specs.Following.{IsReached}
 use Rattle.term_reader.specs.Readings.{OnInfix, OnPostfix, next}
 use Rattle.term_reader.specs.Stack as stack
 use Rattle.term_reader.specs.Stack.{bound_of, Wants, Goes, Plugs, prefix, infixes}
 use Rattle.term_reader.specs.Frames.{frame_meant, shape_of, shapes_up, put_stack, IsKept}
 use Rattle.term_reader.specs.Kept.{IsSheetOf}
-use Rattle.term_reader.specs.Positions.{Position, Due, There, Reads, Stands, Suits, Leads, Outcome, Moves}
-use Rattle.term_reader.specs.Settling.{first_joint, Same}
+use Rattle.term_reader.specs.Positions.{Position, Due, There, Reads, Stands, Suits, NestsBegun, Leads, Outcome, Moves}
+use Rattle.term_reader.specs.Settling.{first_joint, Same, NestSame}
+use Rattle.term_reader.specs.Meant.{IsStart}
+use Rattle.term_reader.proofs.Nested.{level-begun, round-begun, curly-begun, list-begun, call-begun, level-behind, infix-plain, postfix-plain}
 use Rattle.term_reader.specs.Starting.{Starts, StartEnds, IsFurther, IsPushed, IsPut}
 use Rattle.term_reader.specs.declared.opening.Source.{Source}
 use Rattle.term_reader.specs.declared.opening.Opening.{Opening}
@@ -136,6 +138,14 @@ suits-due kind k InList o h = tt
 suits-due kind k InCurly o h = tt
 suits-due kind k (Joined x) o h = tt
 
+free-round : (look : Look) → MayLook OfBracket look → look ≡ Free
+free-round Free h = refl
+free-round look h = absurd h
+
+free-call : (n : List ℕ) (look : Look) → MayLook (OfCall n) look → look ≡ Free
+free-call n Free h = refl
+free-call n look h = absurd h
+
 no-doubts : (s : Setting) (kind : Kind) (k : List stack.Frame) (first : Token) (over : List Token) (look : Look) → Opens kind → MayLook kind look → Doubts s k first over look false
 no-doubts s kind k first over Free o h = refl
 no-doubts s kind k first over (Named sign) o h = refl
@@ -158,8 +168,8 @@ module _ (source : Source) (at end : ℕ) (k : List stack.Frame) where
   begin-leads : (kind : Kind) (new : Position) (doubt : Bool) (f : IsFurther here at end) (o : SoOpened set kind f.first f.over (tokens_at source end))
       → ((ts us : List Token) (goal : Tree) → begins set ts ≡ fill kind us → Wants set k ts goal → Reads set new us goal)
       → ((ts us : List Token) (goal : Tree) → begins set ts ≡ fill kind us → Reads set new us goal → Wants set k ts goal)
-      → Suits new o.look → Doubts set k f.first f.over o.look doubt → Leads set here (Due k) at new end doubt
-  begin-leads kind new doubt f o to back suits doubts = record {
+      → Suits new o.look → Doubts set k f.first f.over o.look doubt → NestsBegun set here at k (f.first ∷ f.over) o.look new → Leads set here (Due k) at new end doubt
+  begin-leads kind new doubt f o to back suits doubts nests = record {
     first = f.first;
     over = f.over;
     scans = f.scans;
@@ -167,7 +177,7 @@ module _ (source : Source) (at end : ℕ) (k : List stack.Frame) where
     fits = o.fits;
     to = λ vs goal h w. to (f.first ∷ f.over ++ vs) vs goal (o.again vs h) w;
     back = λ vs goal h w. back (f.first ∷ f.over ++ vs) vs goal (o.again vs h) w;
-    step = (o.alone, suits, doubts);
+    step = (o.alone, suits, doubts, nests);
   }
 
   pub leaf-leads : (m : Tree) (doubt : Bool) → begins set (tokens_at source at) ≡ begun.Leaf m (tokens_at source end) → (f : IsFurther here at end)
@@ -175,29 +185,36 @@ module _ (source : Source) (at end : ℕ) (k : List stack.Frame) where
   leaf-leads m doubt e f doubts =
       let o = so (OfLeaf m) e f in
       begin-leads (OfLeaf m) (There k m 0) doubt f o (λ ts us goal h w. turns.takes_leaf set ts us m h w) (λ ts us goal h w. turns.took_leaf set ts us m h w) (suits-leaf m k m o.look o.may) (doubts o.look o.may o.lone)
+      (level-begun set here at k (f.first ∷ f.over) o.look (There k m 0) o.brackets (λ start read n. n))
 
   opens-leads : (kind : Kind) (g : stack.Frame) → Opens kind → begins set (tokens_at source at) ≡ fill kind (tokens_at source end) → (f : IsFurther here at end)
       → ((ts us : List Token) (goal : Tree) → begins set ts ≡ fill kind us → Wants set k ts goal → Wants set (g ∷ k) us goal)
       → ((ts us : List Token) (goal : Tree) → begins set ts ≡ fill kind us → Wants set (g ∷ k) us goal → Wants set k ts goal)
+      → ((o : SoOpened set kind f.first f.over (tokens_at source end)) → NestsBegun set here at k (f.first ∷ f.over) o.look (Due (g ∷ k)))
       → Leads set here (Due k) at (Due (g ∷ k)) end false
-  opens-leads kind g opens e f to back =
+  opens-leads kind g opens e f to back nests =
       let o = so kind e f in
-      begin-leads kind (Due (g ∷ k)) false f o to back (suits-due kind (g ∷ k) o.look opens o.may) (no-doubts set kind k f.first f.over o.look opens o.may)
+      begin-leads kind (Due (g ∷ k)) false f o to back (suits-due kind (g ∷ k) o.look opens o.may) (no-doubts set kind k f.first f.over o.look opens o.may) (nests o)
 
   pub round-leads : begins set (tokens_at source at) ≡ begun.Bracket (tokens_at source end) → IsFurther here at end → Leads set here (Due k) at (Due (stack.Round ∷ k)) end false
   round-leads e f = opens-leads OfBracket stack.Round tt e f (λ ts us goal h w. turns.opens_round set ts us h w) (λ ts us goal h w. turns.opened_round set ts us h w)
+      (λ o. round-begun set here at k (f.first ∷ f.over) o.look o.brackets.0 o.brackets.1 (free-round o.look o.may))
 
   pub curly-leads : begins set (tokens_at source at) ≡ begun.Curly (tokens_at source end) → IsFurther here at end → Leads set here (Due k) at (Due (stack.Braces ∷ k)) end false
   curly-leads e f = opens-leads OfCurly stack.Braces tt e f (λ ts us goal h w. turns.opens_curly set ts us h w) (λ ts us goal h w. turns.opened_curly set ts us h w)
+      (λ o. curly-begun set here at k (f.first ∷ f.over) o.look o.brackets.0 o.brackets.1)
 
   pub list-leads : begins set (tokens_at source at) ≡ begun.Listed (tokens_at source end) → IsFurther here at end → Leads set here (Due k) at (Due (stack.ItemOf [] ∷ k)) end false
   list-leads e f = opens-leads OfListed (stack.ItemOf []) tt e f (λ ts us goal h w. turns.opens_list set ts us h w) (λ ts us goal h w. turns.opened_list set ts us h w)
+      (λ o. list-begun set here at k (f.first ∷ f.over) o.look o.brackets.0 o.brackets.1)
 
-  pub call-leads : (n : List ℕ) → begins set (tokens_at source at) ≡ begun.Call n (tokens_at source end) → IsFurther here at end → Leads set here (Due k) at (Due (stack.ArgumentOf n [] ∷ k)) end false
-  call-leads n e f = opens-leads (OfCall n) (stack.ArgumentOf n []) tt e f (λ ts us goal h w. turns.opens_call set ts us n h w) (λ ts us goal h w. turns.opened_call set ts us n h w)
+  pub call-leads : (n : List ℕ) (place : ℕ) → IsStart here at place → begins set (tokens_at source at) ≡ begun.Call n (tokens_at source end) → IsFurther here at end → Leads set here (Due k) at (Due (stack.ArgumentOf n place [] ∷ k)) end false
+  call-leads n place b e f = opens-leads (OfCall n) (stack.ArgumentOf n place []) tt e f (λ ts us goal h w. turns.opens_call set ts us n place h w) (λ ts us goal h w. turns.opened_call set ts us n place h w)
+      (λ o. let free = free-call n o.look o.may in call-begun set here at k (f.first ∷ f.over) o.look n place o.brackets free b.0 b.1 (λ vs. o.again vs (ap (λ l. presumed set.ops l vs) free)))
 
   pub prefix-leads : (n : List ℕ) (o : Operator) → begins set (tokens_at source at) ≡ begun.Prefix n o (tokens_at source end) → IsFurther here at end → Leads set here (Due k) at (Due (stack.PrefixOf n o ∷ k)) end false
   prefix-leads n o e f = opens-leads (OfPrefix n o) (stack.PrefixOf n o) tt e f (λ ts us goal h w. turns.opens_prefix set ts us n o h w) (λ ts us goal h w. turns.opened_prefix set ts us n o h w)
+      (λ q. level-begun set here at k (f.first ∷ f.over) q.look (Due (stack.PrefixOf n o ∷ k)) q.brackets (λ start read m. m))
 
 -- ---- prefix operators that stand for themselves
 
@@ -285,7 +302,7 @@ plugs-none s (stack.Round ∷ k) l goal h = elim h [ ]
 plugs-none s (stack.Braces ∷ k) l goal h = elim h [ ]
 plugs-none s (stack.ItemOf ts ∷ k) l goal h = elim h [ ]
 plugs-none s (stack.TailOf ts ∷ k) l goal h = elim h [ ]
-plugs-none s (stack.ArgumentOf n ts ∷ k) l goal h = elim h [ ]
+plugs-none s (stack.ArgumentOf n w ts ∷ k) l goal h = elim h [ ]
 plugs-none s (stack.PrefixOf n o ∷ k) l goal (prefix g) = plugs-none s k (one n l) goal (turns.goes_stop s [] (one n l) o.priority refl g)
 plugs-none s (stack.InfixOf n o m ∷ k) l goal (infixes g) = plugs-none s k (two n m l) goal (turns.goes_stop s [] (two n m l) o.priority refl g)
 
@@ -300,9 +317,9 @@ first-joint ops cs rest a x e = ap (first_joint ops) (tokens-first cs rest a x e
 joint-of-first : (ops : OperatorTable) (ts us over vs : List Token) (t : Token) (j : Joint) → ts ≡ t ∷ over ++ us → first_joint ops ts ≡ j → first_joint ops (t ∷ over ++ vs) ≡ j
 joint-of-first ops ts us over vs t j e h = sym (ap (first_joint ops) e) ∙ h
 
-pub outcome-same : (s : Setting) (text : List ℕ) (j : Joint) (k m : List stack.Frame) (l u : Tree) (p q at : ℕ) (st : State) (t : Turn) → Same s j k l p m u q → first_joint s.ops (tokens_of (chars_from text at)) ≡ j
+pub outcome-same : (s : Setting) (text : List ℕ) (j : Joint) (k m : List stack.Frame) (l u : Tree) (p q at : ℕ) (st : State) (t : Turn) → Same s j k l p m u q → NestSame s k m → first_joint s.ops (tokens_of (chars_from text at)) ≡ j
     → Outcome s text (There m u q) at st t → Outcome s text (There k l p) at st t
-outcome-same s text j k m l u p q at st (On phase doubt) same e w =
+outcome-same s text j k m l u p q at st (On phase doubt) same nests e w =
     let b = w.leads in
     let first : (vs : List Token) → first_joint s.ops (b.first ∷ b.over ++ vs) ≡ j = λ vs. joint-of-first s.ops (tokens_of (chars_from text at)) (tokens_of (chars_from text st.at)) b.over vs b.first j (scans-tokens b.scans) e in
     record {
@@ -317,11 +334,11 @@ outcome-same s text j k m l u p q at st (On phase doubt) same e w =
         fits = b.fits;
         to = λ vs goal f g. b.to vs goal f (same.to (b.first ∷ b.over ++ vs) goal (first vs) g);
         back = λ vs goal f g. same.back (b.first ∷ b.over ++ vs) goal (first vs) (b.back vs goal f g);
-        step = b.step;
+        step = (b.step.0, b.step.1, b.step.2, λ start read n. b.step.3 start read (nests text start read n));
       };
     }
-outcome-same s text j k m l u p q at st (Over end) same e w = record { tree = w.tree; sheet = w.sheet; reads = same.back _ w.tree e w.reads; rest = w.rest }
-outcome-same s text j k m l u p q at st (Refused r) same e w = λ goal g. w goal (same.to _ goal e g)
+outcome-same s text j k m l u p q at st (Over end) same nests e w = record { tree = w.tree; sheet = w.sheet; reads = same.back _ w.tree e w.reads; rest = w.rest }
+outcome-same s text j k m l u p q at st (Refused r) same nests e w = λ goal g. w goal (same.to _ goal e g)
 
 -- ---- an operator behind an operand
 
@@ -353,7 +370,7 @@ module _ (source : Source) (at end : ℕ) (k : List stack.Frame) (l : Tree) (p :
         fits = refl;
         to = λ vs goal f g. turns.goes_infix (setting_of source) (token a x ∷ vs) vs n o l p (i vs) (fits-within (bound_of k) p o h) g;
         back = λ vs goal f w. turns.went_infix (setting_of source) (token a x ∷ vs) vs n o l p (i vs) le w;
-        step = (refl, refl, refl);
+        step = (refl, refl, refl, level-behind (setting_of source) source.text.now k a x (stack.InfixOf n o l ∷ k) (infix-plain source.ops.now x n o j) (λ start read m. m));
       }
 
   pub postfix-leads : scanned (chars_from source.text.now at) ≡ ScannedTo (token a x) (chars_from source.text.now end) → lexeme_joint source.ops.now x ≡ Postfix n o → joint_fits (bound_of k) p (Postfix n o) ≡ true
@@ -368,7 +385,7 @@ module _ (source : Source) (at end : ℕ) (k : List stack.Frame) (l : Tree) (p :
         fits = refl;
         to = λ vs goal f g. turns.goes_postfix (setting_of source) (token a x ∷ vs) vs n o l p (i vs) (fits-within (bound_of k) p o h) g;
         back = λ vs goal f w. turns.went_postfix (setting_of source) (token a x ∷ vs) vs n o l p (i vs) le w;
-        step = (refl, refl, refl);
+        step = (refl, refl, refl, level-behind (setting_of source) source.text.now k a x k (postfix-plain source.ops.now x n o j) (λ start read m. m));
       }
 
   pub fits-bound : joint_fits (bound_of k) p (Infix n o) ≡ true → o.priority ≤ bound_of k

@@ -6,6 +6,7 @@ use Rattle.au_model.specs.Lexemes.{Lexeme, Token, token}
 use Rattle.au_model.specs.Trees.{Tree, VarTree, IntTree, AtomTree, nil, braces, text_tree}
 use Rattle.au_model.specs.Operators.{Operator, OperatorTable, prefix_of}
 use Rattle.au_model.specs.Openings.{Setting, Opening, Leaf, Bracket, Curly, Listed, Call, Prefix, Fails, opens, counts, is_minus, is_minus_name, minus, behind, negated, joins, ends_before, stands_alone, prefix_or_atom, name_begins, atom_begins, list_begins, curly_begins, begins}
+use Rattle.term_reader.specs.Brackets.{Balanced}
 use Rattle.term_reader.specs.Looks.{Look, Free, Named, Lone, Over, InList, InCurly, closes_list, closes_curly, is_plain, presumed, IsName}
 use Rattle.term_reader.proofs.Follows.{name-call, name-number, atom-call}
 use Rattle.term_reader.proofs.Looking.{joint_alone, and-left, and-right, and-both, joins-is, not-true}
@@ -33,6 +34,10 @@ MayLook (OfLeaf t) Free = Unit {0}
 MayLook (OfLeaf t) (Named sign) = Unit {0}
 MayLook (OfLeaf t) (Lone sign) = Unit {0}
 MayLook (OfLeaf t) _ = ⊥
+MayLook OfBracket Free = Unit {0}
+MayLook OfBracket _ = ⊥
+MayLook (OfCall n) Free = Unit {0}
+MayLook (OfCall n) _ = ⊥
 MayLook k (Lone sign) = ⊥
 MayLook k _ = Unit {0}
 
@@ -47,6 +52,29 @@ IsAloneKind ops (token a x) (OfLeaf t) look over = IsAlone ops x t look over
 IsAloneKind ops (token a x) (OfPrefix n o) look over = (sign : Bool) × IsName x sign n × (prefix_of ops n ≡ Some o) × (over ≡ []) × (look ≡ Over sign)
 IsAloneKind ops t k look over = Unit {0}
 
+-- the name of a compound in front of its bracket
+abbrev pub IsCompoundName : List Token → Type 0
+IsCompoundName (token a (words.Name n) ∷ []) = Unit {0}
+IsCompoundName (token a (words.QuotedName n) ∷ []) = Unit {0}
+IsCompoundName (token a words.OpenList ∷ token b words.CloseList ∷ []) = Unit {0}
+IsCompoundName (token a words.OpenCurly ∷ token b words.CloseCurly ∷ []) = Unit {0}
+IsCompoundName _ = ⊥
+
+pub record NamesCall (ts : List Token) : Type 0 where
+  pub named : List Token
+  pub is : ts ≡ named ++ token false words.Open ∷ []
+  pub is_name : IsCompoundName named
+  pub balanced : Balanced named
+
+-- which brackets the tokens of each open
+abbrev pub Brackets : Kind → List Token → Type 0
+Brackets (OfLeaf t) ts = Balanced ts
+Brackets OfBracket ts = (a : Bool) × (ts ≡ token a words.Open ∷ [])
+Brackets OfCurly ts = (a : Bool) × (ts ≡ token a words.OpenCurly ∷ [])
+Brackets OfListed ts = (a : Bool) × (ts ≡ token a words.OpenList ∷ [])
+Brackets (OfCall n) ts = NamesCall ts
+Brackets (OfPrefix n o) ts = Balanced ts
+
 pub record Opened (s : Setting) (t : Token) (ts : List Token) : Type 0 where
   pub kind : Kind
   pub over : List Token
@@ -59,6 +87,7 @@ pub record Opened (s : Setting) (t : Token) (ts : List Token) : Type 0 where
   pub alone : (vs : List Token) → presumed s.ops look vs ≡ true → stands_alone s.ops (t ∷ over ++ vs) ≡ stands_alone s.ops (t ∷ over ++ rest)
   pub may : MayLook kind look
   pub lone : IsAloneKind s.ops t kind look over
+  pub brackets : Brackets kind (t ∷ over)
 
 -- ---- the tokens that follow
 
@@ -132,6 +161,16 @@ module _ (s : Setting) (a : Bool) (x : Lexeme) (sign : Bool) (n : List ℕ) (h :
     go (words.QuotedName k) p q = sym p.0 ∙ q.0
     go y p q = absurd p
 
+  one-name : (y : Lexeme) (b : Bool) (m : List ℕ) → IsName y b m → IsCompoundName (token a y ∷ [])
+  one-name (words.Name k) b m g = tt
+  one-name (words.QuotedName k) b m g = tt
+  one-name y b m g = absurd g
+
+  plain-name : (y : Lexeme) (b : Bool) (m : List ℕ) → IsName y b m → Balanced (token a y ∷ [])
+  plain-name (words.Name k) b m g d = refl
+  plain-name (words.QuotedName k) b m g d = refl
+  plain-name y b m g d = absurd g
+
   named-call : (us : List Token) → ts ≡ token false words.Open ∷ us → Opened s (token a x) ts
   named-call us e = record {
     kind = OfCall n;
@@ -145,6 +184,7 @@ module _ (s : Setting) (a : Bool) (x : Lexeme) (sign : Bool) (n : List ℕ) (h :
     alone = λ vs f. ends-same s.ops x (token false words.Open ∷ vs) (token false words.Open ∷ us) refl refl;
     may = tt;
     lone = tt;
+    brackets = record { named = token a x ∷ []; is = refl; is_name = one-name x sign n h; balanced = plain-name x sign n h };
   }
 
   named-number : (k : ℕ) (us : List Token) → sign ≡ true → ts ≡ token false (words.Integer k) ∷ us → Opened s (token a x) ts
@@ -160,6 +200,7 @@ module _ (s : Setting) (a : Bool) (x : Lexeme) (sign : Bool) (n : List ℕ) (h :
     alone = λ vs f. ends-same s.ops x (token false (words.Integer k) ∷ vs) (token false (words.Integer k) ∷ us) refl refl;
     may = tt;
     lone = λ m b q e. let z : ⊥ = cc in z;
+    brackets = λ d. plain-name x sign n h d;
   }
 
   named-alone : is_plain sign ts ≡ true → prefix_of s.ops n ≡ None → Opened s (token a x) ts
@@ -175,6 +216,7 @@ module _ (s : Setting) (a : Bool) (x : Lexeme) (sign : Bool) (n : List ℕ) (h :
     alone = λ vs f. same-alone ts vs e f;
     may = tt;
     lone = λ m b g. ap (prefix_of s.ops) (sym (same-name m b g)) ∙ p;
+    brackets = plain-name x sign n h;
   }
 
   named-lone : (o : Operator) → is_plain sign ts ≡ true → prefix_of s.ops n ≡ Some o → stands_alone s.ops ts ≡ true → Opened s (token a x) ts
@@ -190,6 +232,7 @@ module _ (s : Setting) (a : Bool) (x : Lexeme) (sign : Bool) (n : List ℕ) (h :
     alone = λ vs f. same-alone ts vs e (and-left _ _ f);
     may = tt;
     lone = (n, o, h, p, refl, refl);
+    brackets = plain-name x sign n h;
   }
 
   named-over : (o : Operator) → is_plain sign ts ≡ true → prefix_of s.ops n ≡ Some o → stands_alone s.ops ts ≡ false → Opened s (token a x) ts
@@ -205,6 +248,7 @@ module _ (s : Setting) (a : Bool) (x : Lexeme) (sign : Bool) (n : List ℕ) (h :
     alone = λ vs f. same-alone ts vs e (and-left _ _ f);
     may = tt;
     lone = (sign, h, p, refl, refl);
+    brackets = plain-name x sign n h;
   }
 
   by-prefix : is_plain sign ts ≡ true → (q : Option Operator) → prefix_of s.ops n ≡ q → (b : Bool) → stands_alone s.ops ts ≡ b → Opened s (token a x) ts
@@ -238,24 +282,24 @@ atom-plain n vs e = ap (λ b. if b then Call n (behind vs) else Leaf (AtomTree n
 
 module _ (s : Setting) (a : Bool) where
   list-more : (ts : List Token) → not (closes_list ts) ≡ true → Opened s (token a words.OpenList) ts
-  list-more ts e = record { kind = OfListed; over = []; rest = ts; is = refl; look = InList; fits = e; now = list-open ts e; again = λ vs f. list-open vs f; alone = λ vs f. refl; may = tt; lone = tt }
+  list-more ts e = record { kind = OfListed; over = []; rest = ts; is = refl; look = InList; fits = e; now = list-open ts e; again = λ vs f. list-open vs f; alone = λ vs f. refl; may = tt; lone = tt; brackets = (a, refl) }
 
   list-atom : (b : Bool) (us : List Token) (c : Bool) → opens us ≡ c → Opened s (token a words.OpenList) (token b words.CloseList ∷ us)
   list-atom b us true e =
       let r = opens-is us e in
-      record { kind = OfCall nil; over = token b words.CloseList ∷ token false words.Open ∷ []; rest = r.0; is = ap (λ z. token b words.CloseList ∷ z) r.1; look = Free; fits = refl; now = sym (atom-call nil us r.0 r.1); again = λ vs f. refl; alone = λ vs f. refl; may = tt; lone = tt }
+      record { kind = OfCall nil; over = token b words.CloseList ∷ token false words.Open ∷ []; rest = r.0; is = ap (λ z. token b words.CloseList ∷ z) r.1; look = Free; fits = refl; now = sym (atom-call nil us r.0 r.1); again = λ vs f. refl; alone = λ vs f. refl; may = tt; lone = tt; brackets = record { named = token a words.OpenList ∷ token b words.CloseList ∷ []; is = refl; is_name = tt; balanced = λ d. refl } }
   list-atom b us false e =
-      record { kind = OfLeaf (AtomTree nil); over = token b words.CloseList ∷ []; rest = us; is = refl; look = Named false; fits = rw e refl; now = atom-plain nil us (rw e refl); again = λ vs f. atom-plain nil vs f; alone = λ vs f. refl; may = tt; lone = λ m c h. absurd h }
+      record { kind = OfLeaf (AtomTree nil); over = token b words.CloseList ∷ []; rest = us; is = refl; look = Named false; fits = rw e refl; now = atom-plain nil us (rw e refl); again = λ vs f. atom-plain nil vs f; alone = λ vs f. refl; may = tt; lone = λ m c h. absurd h; brackets = λ d. refl }
 
   curly-more : (ts : List Token) → not (closes_curly ts) ≡ true → Opened s (token a words.OpenCurly) ts
-  curly-more ts e = record { kind = OfCurly; over = []; rest = ts; is = refl; look = InCurly; fits = e; now = curly-open ts e; again = λ vs f. curly-open vs f; alone = λ vs f. refl; may = tt; lone = tt }
+  curly-more ts e = record { kind = OfCurly; over = []; rest = ts; is = refl; look = InCurly; fits = e; now = curly-open ts e; again = λ vs f. curly-open vs f; alone = λ vs f. refl; may = tt; lone = tt; brackets = (a, refl) }
 
   curly-atom : (b : Bool) (us : List Token) (c : Bool) → opens us ≡ c → Opened s (token a words.OpenCurly) (token b words.CloseCurly ∷ us)
   curly-atom b us true e =
       let r = opens-is us e in
-      record { kind = OfCall braces; over = token b words.CloseCurly ∷ token false words.Open ∷ []; rest = r.0; is = ap (λ z. token b words.CloseCurly ∷ z) r.1; look = Free; fits = refl; now = sym (atom-call braces us r.0 r.1); again = λ vs f. refl; alone = λ vs f. refl; may = tt; lone = tt }
+      record { kind = OfCall braces; over = token b words.CloseCurly ∷ token false words.Open ∷ []; rest = r.0; is = ap (λ z. token b words.CloseCurly ∷ z) r.1; look = Free; fits = refl; now = sym (atom-call braces us r.0 r.1); again = λ vs f. refl; alone = λ vs f. refl; may = tt; lone = tt; brackets = record { named = token a words.OpenCurly ∷ token b words.CloseCurly ∷ []; is = refl; is_name = tt; balanced = λ d. refl } }
   curly-atom b us false e =
-      record { kind = OfLeaf (AtomTree braces); over = token b words.CloseCurly ∷ []; rest = us; is = refl; look = Named false; fits = rw e refl; now = atom-plain braces us (rw e refl); again = λ vs f. atom-plain braces vs f; alone = λ vs f. refl; may = tt; lone = λ m c h. absurd h }
+      record { kind = OfLeaf (AtomTree braces); over = token b words.CloseCurly ∷ []; rest = us; is = refl; look = Named false; fits = rw e refl; now = atom-plain braces us (rw e refl); again = λ vs f. atom-plain braces vs f; alone = λ vs f. refl; may = tt; lone = λ m c h. absurd h; brackets = λ d. refl }
 
   pub list-opened : (ts : List Token) → Opened s (token a words.OpenList) ts
   list-opened [] = list-more [] refl
@@ -268,17 +312,17 @@ module _ (s : Setting) (a : Bool) where
   curly-opened (token b x ∷ us) = curly-more (token b x ∷ us) refl
 
   integer-opened : (k : ℕ) (ts : List Token) (c : Bool) → nat_lt k (2 ^ 63) ≡ c → Opened s (token a (words.Integer k)) ts ⊎ (begins s (token a (words.Integer k) ∷ ts) ≡ Fails)
-  integer-opened k ts true e = inl (record { kind = OfLeaf (IntTree (pos k)); over = []; rest = ts; is = refl; look = Free; fits = refl; now = rw e refl; again = λ vs f. rw e refl; alone = λ vs f. refl; may = tt; lone = λ m b h. absurd h })
+  integer-opened k ts true e = inl (record { kind = OfLeaf (IntTree (pos k)); over = []; rest = ts; is = refl; look = Free; fits = refl; now = rw e refl; again = λ vs f. rw e refl; alone = λ vs f. refl; may = tt; lone = λ m b h. absurd h; brackets = λ d. refl })
   integer-opened k ts false e = inr (rw e refl)
 
 -- each token begins a term so, or none
 pub opened : (s : Setting) (t : Token) (ts : List Token) → Opened s t ts ⊎ (begins s (t ∷ ts) ≡ Fails)
 opened s (token a (words.Name n)) ts = inl (by-call s a (words.Name n) (is_minus_name n) n (refl, refl) ts (opens ts) refl)
 opened s (token a (words.QuotedName n)) ts = inl (by-call s a (words.QuotedName n) false n (refl, refl) ts (opens ts) refl)
-opened s (token a (words.Variable n)) ts = inl (record { kind = OfLeaf (VarTree n); over = []; rest = ts; is = refl; look = Free; fits = refl; now = refl; again = λ vs f. refl; alone = λ vs f. refl; may = tt; lone = λ m b h. absurd h })
+opened s (token a (words.Variable n)) ts = inl (record { kind = OfLeaf (VarTree n); over = []; rest = ts; is = refl; look = Free; fits = refl; now = refl; again = λ vs f. refl; alone = λ vs f. refl; may = tt; lone = λ m b h. absurd h; brackets = λ d. refl })
 opened s (token a (words.Integer k)) ts = integer-opened s a k ts (nat_lt k (2 ^ 63)) refl
-opened s (token a (words.Text cs)) ts = inl (record { kind = OfLeaf (text_tree s.quotes cs); over = []; rest = ts; is = refl; look = Free; fits = refl; now = refl; again = λ vs f. refl; alone = λ vs f. refl; may = tt; lone = λ m b h. absurd h })
-opened s (token a words.Open) ts = inl (record { kind = OfBracket; over = []; rest = ts; is = refl; look = Free; fits = refl; now = refl; again = λ vs f. refl; alone = λ vs f. refl; may = tt; lone = tt })
+opened s (token a (words.Text cs)) ts = inl (record { kind = OfLeaf (text_tree s.quotes cs); over = []; rest = ts; is = refl; look = Free; fits = refl; now = refl; again = λ vs f. refl; alone = λ vs f. refl; may = tt; lone = λ m b h. absurd h; brackets = λ d. refl })
+opened s (token a words.Open) ts = inl (record { kind = OfBracket; over = []; rest = ts; is = refl; look = Free; fits = refl; now = refl; again = λ vs f. refl; alone = λ vs f. refl; may = tt; lone = tt; brackets = (a, refl) })
 opened s (token a words.OpenList) ts = inl (list-opened s a ts)
 opened s (token a words.OpenCurly) ts = inl (curly-opened s a ts)
 opened s (token a x) ts = inr refl
@@ -292,6 +336,7 @@ pub record SoOpened (s : Setting) (kind : Kind) (first : Token) (over left : Lis
   pub alone : (vs : List Token) → presumed s.ops look vs ≡ true → stands_alone s.ops (first ∷ over ++ vs) ≡ stands_alone s.ops (first ∷ over ++ left)
   pub may : MayLook kind look
   pub lone : IsAloneKind s.ops first kind look over
+  pub brackets : Brackets kind (first ∷ over)
 
 pub fill-fails : (kind : Kind) (ts : List Token) → fill kind ts ≡ Fails → ⊥
 fill-fails (OfLeaf t) ts e = cc
@@ -301,7 +346,7 @@ fill-fails OfListed ts e = cc
 fill-fails (OfCall n) ts e = cc
 fill-fails (OfPrefix n o) ts e = cc
 
-fill-same : (j k : Kind) (us vs : List Token) → fill j us ≡ fill k vs → (j ≡ k) × (us ≡ vs)
+pub fill-same : (j k : Kind) (us vs : List Token) → fill j us ≡ fill k vs → (j ≡ k) × (us ≡ vs)
 fill-same (OfLeaf t) (OfLeaf u) us vs e = (cc, cc)
 fill-same (OfLeaf t) k us vs e = let z : ⊥ = cc in absurd z
 fill-same OfBracket OfBracket us vs e = (refl, cc)
@@ -324,6 +369,7 @@ module _ (s : Setting) (kind : Kind) (first : Token) (over left : List Token) (e
     alone = λ vs f. ap (λ z. stands_alone s.ops (first ∷ z ++ vs)) (sym v) ∙ (o.alone vs f ∙ (ap (λ z. stands_alone s.ops (first ∷ z ++ o.rest)) v ∙ ap (λ z. stands_alone s.ops (first ∷ over ++ z)) r));
     may = subst (λ z. MayLook z o.look) k o.may;
     lone = subst (λ z. IsAloneKind s.ops first kind o.look z) v (subst (λ z. IsAloneKind s.ops first z o.look o.over) k o.lone);
+    brackets = subst (λ z. Brackets kind (first ∷ z)) v (subst (λ z. Brackets z (first ∷ o.over)) k o.brackets);
   }
 
   by-opened : Opened s first (over ++ left) ⊎ (begins s (first ∷ over ++ left) ≡ Fails) → SoOpened s kind first over left

@@ -1,5 +1,5 @@
 -- Where no token goes on.
-use Rattle.std.proofs.Common.{◌≡◌, ◌∙◌, ℕ, ◌≤◌, nat_le, Bool, true, false, not, ◌&&◌, List, [], ◌∷◌, ◌++◌, Some, refl, sym, ap, subst, arith, append_assoc}
+use Rattle.std.proofs.Common.{◌≡◌, ◌∙◌, ℕ, ◌≤◌, nat_le, Bool, true, false, not, ◌&&◌, List, [], ◌∷◌, ◌++◌, length, Some, refl, sym, ap, subst, arith, append_assoc}
 use Rattle.au_model.specs.Characters.{chars_from}
 use Rattle.au_model.specs.Lexemes as words
 use Rattle.au_model.specs.Lexemes.{Lexeme, Token, token, scanned, ScannedTo, ScannedNone, is_end, tokens_of}
@@ -13,6 +13,7 @@ use Rattle.term_reader.specs.Looks as looks
 use Rattle.term_reader.specs.Looks.{Look, Free, Named, Lone, InList, InCurly, Joined, is_plain, presumed, Scans, none, onto, IsName, IsLone}
 use Rattle.term_reader.specs.Positions.{Due, There, Suits, Led, LoneBefore, DoubtsBefore}
 use Rattle.term_reader.specs.Refusing.{Stuck, is_named_joint}
+use Rattle.term_reader.specs.TextFaults.{IsOneTooMany}
 use Rattle.term_reader.proofs.Completed.{completion, completes}
 use Rattle.term_reader.proofs.Scanning.{scans-tokens, scans-then}
 use Rattle.term_reader.proofs.Looking.{presumed-alike, IsSure, first-sure, joint_alone, joins-is, and-left, and-right, and-both}
@@ -20,6 +21,9 @@ use Rattle.term_reader.proofs.Opened.{ends-same, name-begins, name-plain, lone-b
 use Rattle.term_reader.proofs.Ledger.{led-begins, begins-more}
 use Rattle.term_reader.proofs.Follows.{name-call}
 use Rattle.term_reader.proofs.Fronts.{tokens-first}
+use Rattle.term_reader.proofs.Many.{many, completes-close}
+use Rattle.term_reader.proofs.Nested.{nests-more}
+use Rattle.term_reader.proofs.Pairing.{balanced-plain, IsNoBracket}
 use Rattle.term_reader.proofs.Turns.{prefix_within, opened_prefix, opened_call}
 
 pub none_first : (ts us : List Token) (t : Token) → ts ≡ [] → ts ≡ t ∷ us → ⊥
@@ -49,6 +53,11 @@ pub name_no_end : (x : Lexeme) (sign : Bool) (n : List ℕ) → IsName x sign n 
 name_no_end words.End sign n h = absurd h
 name_no_end x sign n h = refl
 
+name-no_bracket : (x : Lexeme) (sign : Bool) (n : List ℕ) → IsName x sign n → IsNoBracket x
+name-no_bracket (words.Name m) sign n h d = refl
+name-no_bracket (words.QuotedName m) sign n h d = refl
+name-no_bracket x sign n h d = absurd h
+
 pub tails : (ts us vs : List Token) (t : Token) → ts ≡ t ∷ us → ts ≡ t ∷ vs → us ≡ vs
 tails ts us vs t e h = cc
 
@@ -68,7 +77,7 @@ opens-never ops x sign n h ts = absurd h
 pub next-alike : (ops : OperatorTable) (x : Lexeme) (u : Token) (us vs : List Token) → ends_before ops x (u ∷ us) ≡ ends_before ops x (u ∷ vs)
 next-alike ops x (token a y) us vs = ends-same ops x (token a y ∷ us) (token a y ∷ vs) refl refl
 
-true_false : {A : Type 0} (b : Bool) → b ≡ true → b ≡ false → A
+pub true_false : {A : Type 0} (b : Bool) → b ≡ true → b ≡ false → A
 true_false b e h = let z : ⊥ = cc in absurd z
 
 high : (m n : ℕ) → m ≤ n → nat_le m n ≡ false → ⊥
@@ -126,7 +135,7 @@ module _ (s : Setting) (text : List ℕ) (start at end : ℕ) (k : List Frame) (
         let no : nat_le o.priority (bound_of b.stack) ≡ false = sym b.lone.may ∙ e in
         high o.priority (bound_of b.stack) le no
 
-  here-ends : (d && is_named_joint s.ops x) ≡ false → (more : List Token) (goal : Tree) → Wants s [] (led.read ++ t ∷ more) goal → ⊥
+  pub here-ends : (d && is_named_joint s.ops x) ≡ false → (more : List Token) (goal : Tree) → Wants s [] (led.read ++ t ∷ more) goal → ⊥
   here-ends n more goal w = by-look led.look refl led.doubts led.suits where
     alike : is_named_joint s.ops x ≡ false → ⊥
     alike e = closed more goal (presumed-alike s.ops led.look t us more (unnamed-alike s.ops x e more us) fits) w
@@ -149,12 +158,13 @@ module _ (s : Setting) (text : List ℕ) (start at end : ℕ) (k : List Frame) (
     by-look (Joined y) h q i = sure (Joined y) h tt
 
   -- the token is refused
-  pub stuck-here : (d && is_named_joint s.ops x) ≡ false → Stuck s text start at
-  stuck-here n = record {
+  pub stuck-here : (d && is_named_joint s.ops x) ≡ false → ((vs : List Token) (m : ℕ) (name : List ℕ) → IsOneTooMany s (led.read ++ t ∷ vs) (length led.read) m name → ⊥) → Stuck s text start at
+  stuck-here n few = record {
     read = led.read;
     scans = led.scans;
     begins = led-begins s text start at d (There k l p) led kept within;
     ends = λ u vs e more goal w. here-ends n more goal (subst (λ z. Wants s [] (led.read ++ z ∷ more) goal) (same_first (tokens_of (chars_from text at)) us vs t u first-is e) w);
+    few = λ u vs e m name o. few vs m name (subst (λ z. IsOneTooMany s (led.read ++ z ∷ vs) (length led.read) m name) (same_first (tokens_of (chars_from text at)) us vs t u first-is e) o);
   }
 
   -- behind a prefix operator that may have an operand the next one is
@@ -173,18 +183,18 @@ module _ (s : Setting) (text : List ℕ) (start at end : ℕ) (k : List Frame) (
 
     -- an operand that begins with this token and a bracket
     abbrev operand : List Token
-    operand = token false words.Open ∷ completion (Due (stack.ArgumentOf j.name [] ∷ stack.PrefixOf b.lone.name o ∷ b.stack))
+    operand = token false words.Open ∷ completion (Due (stack.ArgumentOf j.name 0 [] ∷ stack.PrefixOf b.lone.name o ∷ b.stack))
 
     never-before : ends_before s.ops x operand ≡ false
-    never-before = opens-never s.ops x j.sign j.name j.named (completion (Due (stack.ArgumentOf j.name [] ∷ stack.PrefixOf b.lone.name o ∷ b.stack)))
+    never-before = opens-never s.ops x j.sign j.name j.named (completion (Due (stack.ArgumentOf j.name 0 [] ∷ stack.PrefixOf b.lone.name o ∷ b.stack)))
 
     complete : (goal : Tree) × Wants s [] ((led.read ++ t ∷ []) ++ operand) goal
     complete =
         let below : o.priority ≤ bound_of b.stack = low o.priority (bound_of b.stack) (sym b.lone.may ∙ e) in
-        let c = completes s (Due (stack.ArgumentOf j.name [] ∷ stack.PrefixOf b.lone.name o ∷ b.stack)) (omega arith, (below, b.kept)) tt in
-        let call : begins s (t ∷ operand) ≡ Call j.name (completion (Due (stack.ArgumentOf j.name [] ∷ stack.PrefixOf b.lone.name o ∷ b.stack))) =
+        let c = completes s (Due (stack.ArgumentOf j.name 0 [] ∷ stack.PrefixOf b.lone.name o ∷ b.stack)) (omega arith, (below, b.kept)) tt in
+        let call : begins s (t ∷ operand) ≡ Call j.name (completion (Due (stack.ArgumentOf j.name 0 [] ∷ stack.PrefixOf b.lone.name o ∷ b.stack))) =
         name-begins s a x j.sign j.name j.named operand ∙ sym (name-call s.ops j.sign j.name operand _ refl) in
-        let inner = opened_call s (t ∷ operand) (completion (Due (stack.ArgumentOf j.name [] ∷ stack.PrefixOf b.lone.name o ∷ b.stack))) j.name call c.1 in
+        let inner = opened_call s (t ∷ operand) (completion (Due (stack.ArgumentOf j.name 0 [] ∷ stack.PrefixOf b.lone.name o ∷ b.stack))) j.name 0 call c.1 in
         let opens = lone-over s b.lone.apart b.lone.lexeme sign b.lone.name o (t ∷ operand) b.lone.named b.lone.prefix (plain-all operand) never-before in
         let outer = opened_prefix s (token b.lone.apart b.lone.lexeme ∷ t ∷ operand) (t ∷ operand) b.lone.name o opens inner in
         let whole = b.back (t ∷ operand) c.0 (subst (λ u. Wants s b.stack (u ∷ t ∷ operand) c.0) (sym b.lone.is) outer) in
@@ -196,12 +206,27 @@ module _ (s : Setting) (text : List ℕ) (start at end : ℕ) (k : List Frame) (
         let same : ends_before s.ops x (u ∷ more) ≡ ends_before s.ops x us = next-alike s.ops x u more vs ∙ ap (ends_before s.ops x) (sym is) in
         closed (u ∷ more) goal (presumed-alike s.ops led.look t us (u ∷ more) same fits) (subst (λ ts. Wants s [] ts goal) (append_assoc led.read (t ∷ []) (u ∷ more)) w)
 
+    -- a bracket would be refused just as a comma
+    close-ends : (b : Bool) (vs : List Token) → tokens_of (chars_from text end) ≡ token b words.Comma ∷ vs → (more : List Token) (goal : Tree) → Wants s [] ((led.read ++ t ∷ []) ++ token false words.Close ∷ more) goal → ⊥
+    close-ends b vs i more goal w =
+        let is : us ≡ token b words.Comma ∷ vs = tails (tokens_of (chars_from text at)) us (tokens_of (chars_from text end)) t first-is (scans-tokens (onto found not-end none)) ∙ i in
+        let same : ends_before s.ops x (token false words.Close ∷ more) ≡ ends_before s.ops x us = ends-same s.ops x (token false words.Close ∷ more) (token b words.Comma ∷ vs) refl refl ∙ ap (ends_before s.ops x) (sym is) in
+        closed (token false words.Close ∷ more) goal (presumed-alike s.ops led.look t us (token false words.Close ∷ more) same fits) (subst (λ ts. Wants s [] ts goal) (append_assoc led.read (t ∷ []) (token false words.Close ∷ more)) w)
+
+    few-next : (u : Token) (vs : List Token) → tokens_of (chars_from text end) ≡ u ∷ vs → (m : ℕ) (name : List ℕ) → IsOneTooMany s ((led.read ++ t ∷ []) ++ u ∷ vs) (length (led.read ++ t ∷ [])) m name → ⊥
+    few-next u vs i m name o =
+        let h = many s (led.read ++ t ∷ []) vs u m name o in
+        let nests = nests-more s text start k led.read (t ∷ []) (balanced-plain a x (name-no_bracket x j.sign j.name j.named)) led.nests in
+        let c = completes-close s text start k (led.read ++ t ∷ []) kept nests h.full in
+        close-ends h.apart vs (i ∙ ap (λ z. z ∷ vs) h.comma) c.more c.goal c.wants
+
     pub stuck-next : Stuck s text start end
     stuck-next = record {
       read = led.read ++ t ∷ [];
       scans = scans-then led.scans (onto found not-end none);
       begins = begins-more s (led.read ++ t ∷ []) operand complete.0 complete.1;
       ends = behind-ends;
+      few = few-next;
     }
 
   not-doubt : d ≡ true → d ≡ false → Stuck s text start end

@@ -51,7 +51,7 @@ top-bound stack.Round k = refl
 top-bound stack.Braces k = refl
 top-bound (stack.ItemOf ts) k = refl
 top-bound (stack.TailOf ts) k = refl
-top-bound (stack.ArgumentOf n ts) k = refl
+top-bound (stack.ArgumentOf n w ts) k = refl
 top-bound (stack.PrefixOf n o) k = refl
 top-bound (stack.InfixOf n o l) k = refl
 
@@ -129,7 +129,7 @@ prefix-top stack.Round n o e = let z : ⊥ = cc in absurd z
 prefix-top stack.Braces n o e = let z : ⊥ = cc in absurd z
 prefix-top (stack.ItemOf ts) n o e = let z : ⊥ = cc in absurd z
 prefix-top (stack.TailOf ts) n o e = let z : ⊥ = cc in absurd z
-prefix-top (stack.ArgumentOf m ts) n o e = let z : ⊥ = cc in absurd z
+prefix-top (stack.ArgumentOf m w ts) n o e = let z : ⊥ = cc in absurd z
 prefix-top (stack.PrefixOf m q) n o e = cc
 prefix-top (stack.InfixOf m q l) n o e = let z : ⊥ = cc in absurd z
 
@@ -138,7 +138,7 @@ infix-top stack.Round n o e = let z : ⊥ = cc in absurd z
 infix-top stack.Braces n o e = let z : ⊥ = cc in absurd z
 infix-top (stack.ItemOf ts) n o e = let z : ⊥ = cc in absurd z
 infix-top (stack.TailOf ts) n o e = let z : ⊥ = cc in absurd z
-infix-top (stack.ArgumentOf m ts) n o e = let z : ⊥ = cc in absurd z
+infix-top (stack.ArgumentOf m w ts) n o e = let z : ⊥ = cc in absurd z
 infix-top (stack.PrefixOf m q) n o e = let z : ⊥ = cc in absurd z
 infix-top (stack.InfixOf m q l) n o e = (l, cc)
 
@@ -156,6 +156,7 @@ over-prefix-at s j below l p old new n o h e sheet fails = record {
   stands = record { shapes = e; sheet = sheet; kept = h.kept.1; low = h.kept.0 };
   same = over-prefix s j below n o l p h.low fails;
   apart = over-prefix s Nothing below n o l p h.low refl;
+  nests = λ text start read n. n;
 }
 
 over-infix-at : (s : Setting) (j : Joint) (below : List stack.Frame) (l m : Tree) (p : ℕ) (old new : State) (n : List ℕ) (o : Operator) → Stands old (There (stack.InfixOf n o m ∷ below) l p)
@@ -167,6 +168,7 @@ over-infix-at s j below l m p old new n o h e sheet fails = record {
   stands = record { shapes = e; sheet = sheet; kept = h.kept.1; low = h.kept.0 };
   same = over-infix s j below n o m l p h.low fails;
   apart = over-infix s Nothing below n o m l p h.low refl;
+  nests = λ text start read n. n;
 }
 
 -- a prefix or infix operator is put over its operand
@@ -201,7 +203,7 @@ shut-top stack.Round x e a b k = tt
 shut-top stack.Braces x e a b k = tt
 shut-top (stack.ItemOf ts) x e a b k = tt
 shut-top (stack.TailOf ts) x e a b k = tt
-shut-top (stack.ArgumentOf m ts) x e a b k = tt
+shut-top (stack.ArgumentOf m w ts) x e a b k = tt
 shut-top (stack.PrefixOf n o) (frame.Prefix m d) e a b k = a m d refl
 shut-top (stack.PrefixOf n o) x e a b k = cc
 shut-top (stack.InfixOf n o l) (frame.Infix m d) e a b k = b m d refl

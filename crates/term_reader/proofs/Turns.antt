@@ -116,21 +116,21 @@ module _ (s : Setting) where
   some_arguments (final w) = omega arith
   some_arguments (argument w i) = omega arith
 
-  arguments_in : {k : List Frame} {us vs : List Token} {n : List ℕ} {args : Trees} {goal : Tree} (before : List Tree)
-      → Arguments s us vs args → length before + tree_count args ≤ 65535 → Goes s k vs (CompoundTree n (trees_of before args)) 0 goal → Wants s (ArgumentOf n before ∷ k) us goal
+  pub arguments_in : {k : List Frame} {us vs : List Token} {n : List ℕ} {w : ℕ} {args : Trees} {goal : Tree} (before : List Tree)
+      → Arguments s us vs args → length before + tree_count args ≤ 65535 → Goes s k vs (CompoundTree n (trees_of before args)) 0 goal → Wants s (ArgumentOf n w before ∷ k) us goal
   arguments_in before (final w) le g = wants w (k.final g)
   arguments_in before (argument {t = t} w i) le g =
       let some = some_arguments i in wants w (k.argument (omega arith) (arguments_in (t ∷ before) i (omega arith) g))
 
-  call_in : {k : List Frame} {us vs ws : List Token} {n : List ℕ} {l t goal : Tree} {p : ℕ}
-      → Begun s (Call n us) vs l p → p ≤ bound_of k → Rest s (next s.ops (bound_of k) p vs) (bound_of k) vs l ws t → Plugs s k ws t goal → Wants s (ArgumentOf n [] ∷ k) us goal
+  call_in : {k : List Frame} {us vs ws : List Token} {n : List ℕ} {w : ℕ} {l t goal : Tree} {p : ℕ}
+      → Begun s (Call n us) vs l p → p ≤ bound_of k → Rest s (next s.ops (bound_of k) p vs) (bound_of k) vs l ws t → Plugs s k ws t goal → Wants s (ArgumentOf n w [] ∷ k) us goal
   call_in (called i few) le r q = arguments_in [] i (omega arith) (goes le r q)
 
-  pub opens_call : {k : List Frame} (ts us : List Token) (n : List ℕ) {goal : Tree} → begins s ts ≡ Call n us → Wants s k ts goal → Wants s (ArgumentOf n [] ∷ k) us goal
-  opens_call ts us n e (wants (whole {us = ws} {l = l} {p = p} f le r) q) =
+  pub opens_call : {k : List Frame} (ts us : List Token) (n : List ℕ) (w : ℕ) {goal : Tree} → begins s ts ≡ Call n us → Wants s k ts goal → Wants s (ArgumentOf n w [] ∷ k) us goal
+  opens_call ts us n w e (wants (whole {us = ws} {l = l} {p = p} f le r) q) =
       let P : Opening → Type 0 = λ o. Begun s o ws l p in call_in (subst P e f) le r q
 
-  record ArgumentsFrom (k : List Frame) (us : List Token) (n : List ℕ) (before : List Tree) (goal : Tree) : Type 0 where
+  pub record ArgumentsFrom (k : List Frame) (us : List Token) (n : List ℕ) (before : List Tree) (goal : Tree) : Type 0 where
     pub rest : List Token
     pub args : Trees
     pub are : Arguments s us rest args
@@ -138,11 +138,11 @@ module _ (s : Setting) where
     pub on : Goes s k rest (CompoundTree n (trees_of before args)) 0 goal
 
   mutual
-    arguments_out : {k : List Frame} {us : List Token} {n : List ℕ} {goal : Tree} (before : List Tree) → length before ≤ 65534 → Wants s (ArgumentOf n before ∷ k) us goal → ArgumentsFrom k us n before goal
+    pub arguments_out : {k : List Frame} {us : List Token} {n : List ℕ} {w : ℕ} {goal : Tree} (before : List Tree) → length before ≤ 65534 → Wants s (ArgumentOf n w before ∷ k) us goal → ArgumentsFrom k us n before goal
     arguments_out before le (wants w q) = arguments_plugged before le w q
 
-    arguments_plugged : {k : List Frame} {us vs : List Token} {n : List ℕ} {t goal : Tree} (before : List Tree) → length before ≤ 65534
-        → Whole s 999 us vs t → Plugs s (ArgumentOf n before ∷ k) vs t goal → ArgumentsFrom k us n before goal
+    arguments_plugged : {k : List Frame} {us vs : List Token} {n : List ℕ} {w : ℕ} {t goal : Tree} (before : List Tree) → length before ≤ 65534
+        → Whole s 999 us vs t → Plugs s (ArgumentOf n w before ∷ k) vs t goal → ArgumentsFrom k us n before goal
     arguments_plugged before le w (k.final {us = vs} {t = t} g) = record { rest = vs; args = more_trees t no_trees; are = final w; few = omega arith; on = g }
     arguments_plugged before le w (k.argument {t = t} lt m) =
         let r = arguments_out (t ∷ before) (omega arith) m in
@@ -153,9 +153,9 @@ module _ (s : Setting) where
       → Arguments s us vs args → tree_count args ≤ 65535 → Goes s k vs (CompoundTree n args) 0 goal → Wants s k ts goal
   call_out ts e vs args i few (goes le r q) = wants (whole (rw e (called i few)) le r) q
 
-  pub opened_call : {k : List Frame} (ts us : List Token) (n : List ℕ) {goal : Tree} → begins s ts ≡ Call n us → Wants s (ArgumentOf n [] ∷ k) us goal → Wants s k ts goal
-  opened_call ts us n e w =
-      let r = arguments_out [] (omega arith) w in
+  pub opened_call : {k : List Frame} (ts us : List Token) (n : List ℕ) (w : ℕ) {goal : Tree} → begins s ts ≡ Call n us → Wants s (ArgumentOf n w [] ∷ k) us goal → Wants s k ts goal
+  opened_call ts us n w e h =
+      let r = arguments_out [] (omega arith) h in
       let few = r.few in
       call_out ts e r.rest r.args r.are (omega arith) r.on
 
@@ -256,12 +256,12 @@ module _ (s : Setting) where
   pub out_tail : {k : List Frame} {a : Bool} {us : List Token} {t goal : Tree} {ts : List Tree} → Plugs s (TailOf ts ∷ k) (token a CloseList ∷ us) t goal → Goes s k us (list_of ts t) 0 goal
   out_tail (k.tail g) = g
 
-  pub out_argument : {k : List Frame} {a : Bool} {us : List Token} {n : List ℕ} {t goal : Tree} {ts : List Tree}
-      → Plugs s (ArgumentOf n ts ∷ k) (token a Comma ∷ us) t goal → (length ts < 65534) × Wants s (ArgumentOf n (t ∷ ts) ∷ k) us goal
+  pub out_argument : {k : List Frame} {a : Bool} {us : List Token} {n : List ℕ} {w : ℕ} {t goal : Tree} {ts : List Tree}
+      → Plugs s (ArgumentOf n w ts ∷ k) (token a Comma ∷ us) t goal → (length ts < 65534) × Wants s (ArgumentOf n w (t ∷ ts) ∷ k) us goal
   out_argument (k.argument lt w) = (lt, w)
 
-  pub out_final : {k : List Frame} {a : Bool} {us : List Token} {n : List ℕ} {t goal : Tree} {ts : List Tree}
-      → Plugs s (ArgumentOf n ts ∷ k) (token a Close ∷ us) t goal → Goes s k us (CompoundTree n (trees_of (t ∷ ts) no_trees)) 0 goal
+  pub out_final : {k : List Frame} {a : Bool} {us : List Token} {n : List ℕ} {w : ℕ} {t goal : Tree} {ts : List Tree}
+      → Plugs s (ArgumentOf n w ts ∷ k) (token a Close ∷ us) t goal → Goes s k us (CompoundTree n (trees_of (t ∷ ts) no_trees)) 0 goal
   out_final (k.final g) = g
 
   pub out_end : {us : List Token} {t goal : Tree} → Plugs s [] us t goal → t ≡ goal

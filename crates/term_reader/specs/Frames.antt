@@ -16,7 +16,7 @@ pub data Shape : Type 0 where
   CurlyShape : Shape
   ItemShape : ℕ → Shape
   TailShape : ℕ → Shape
-  ArgumentShape : List ℕ → ℕ → Shape
+  ArgumentShape : List ℕ → ℕ → ℕ → Shape
   PrefixShape : List ℕ → Operator → Shape
   InfixShape : List ℕ → Operator → Shape
 
@@ -25,7 +25,7 @@ frame_meant frame.Round = RoundShape
 frame_meant frame.Curly = CurlyShape
 frame_meant (frame.Item n) = ItemShape n
 frame_meant (frame.Tail n) = TailShape n
-frame_meant (frame.Argument name n place) = ArgumentShape name n
+frame_meant (frame.Argument name n place) = ArgumentShape name place n
 frame_meant (frame.Prefix name o) = PrefixShape name (operator_meant o)
 frame_meant (frame.Infix name o) = InfixShape name (operator_meant o)
 
@@ -34,7 +34,7 @@ shape_of stack.Round = RoundShape
 shape_of stack.Braces = CurlyShape
 shape_of (stack.ItemOf ts) = ItemShape (length ts)
 shape_of (stack.TailOf ts) = TailShape (length ts)
-shape_of (stack.ArgumentOf n ts) = ArgumentShape n (length ts)
+shape_of (stack.ArgumentOf n place ts) = ArgumentShape n place (length ts)
 shape_of (stack.PrefixOf n o) = PrefixShape n o
 shape_of (stack.InfixOf n o l) = InfixShape n o
 
@@ -48,7 +48,7 @@ shape_bound RoundShape = 1200
 shape_bound CurlyShape = 1200
 shape_bound (ItemShape n) = 999
 shape_bound (TailShape n) = 999
-shape_bound (ArgumentShape name n) = 999
+shape_bound (ArgumentShape name place n) = 999
 shape_bound (PrefixShape name o) = right_bound o
 shape_bound (InfixShape name o) = right_bound o
 
@@ -68,7 +68,7 @@ put_stack (stack.Round ∷ k) = put_stack k
 put_stack (stack.Braces ∷ k) = put_stack k
 put_stack (stack.ItemOf ts ∷ k) = put_before (put_stack k) ts
 put_stack (stack.TailOf ts ∷ k) = put_before (put_stack k) ts
-put_stack (stack.ArgumentOf n ts ∷ k) = put_before (put_stack k) ts
+put_stack (stack.ArgumentOf n place ts ∷ k) = put_before (put_stack k) ts
 put_stack (stack.PrefixOf n o ∷ k) = put_stack k
 put_stack (stack.InfixOf n o l ∷ k) = put_tree (put_stack k) l
 
@@ -77,7 +77,7 @@ abbrev pub IsKept : List stack.Frame → Type 0
 IsKept [] = Unit {0}
 IsKept (stack.PrefixOf n o ∷ k) = (o.priority ≤ bound_of k) × IsKept k
 IsKept (stack.InfixOf n o l ∷ k) = (o.priority ≤ bound_of k) × IsKept k
-IsKept (stack.ArgumentOf n ts ∷ k) = (length ts ≤ 65534) × IsKept k
+IsKept (stack.ArgumentOf n place ts ∷ k) = (length ts ≤ 65534) × IsKept k
 IsKept (stack.Round ∷ k) = IsKept k
 IsKept (stack.Braces ∷ k) = IsKept k
 IsKept (stack.ItemOf ts ∷ k) = IsKept k

@@ -7,8 +7,10 @@ pub mod Sheets
 pub mod Kept
 pub mod Readings
 pub mod Stack
+pub mod Brackets
 pub mod Frames
 pub mod Looks
+pub mod Nesting
 pub mod Positions
 pub mod Settling
 pub mod Starting

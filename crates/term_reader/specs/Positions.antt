@@ -7,6 +7,7 @@ use Rattle.au_model.specs.Openings.{Setting, stands_alone}
 use Rattle.term_reader.specs.Looks.{Look, Free, Lone, Over as OverOperand, InList, InCurly, presumed, Scans, IsLone, Doubts}
 use Rattle.token_scan.specs.Parts.{IsPlaceFrom}
 use Rattle.term_reader.specs.Stack.{Frame, Wants, Goes, bound_of}
+use Rattle.term_reader.specs.Nesting.{Nests}
 use Rattle.term_reader.specs.Sheets.{Sheet, no_cells, put_tree}
 use Rattle.term_reader.specs.Kept.{IsSheetOf}
 use Rattle.term_reader.specs.Frames.{frame_meant, shapes_up, put_stack, IsKept}
@@ -59,11 +60,22 @@ Suits (There k l p) InList = ⊥
 Suits (There k l p) InCurly = ⊥
 Suits _ _ = Unit {0}
 
+-- these tokens lead to the new position, where they stand behind others that were read up to here and nest in the stack
+abbrev pub NestsBegun : Setting → List ℕ → ℕ → List Frame → List Token → Look → Position → Type 0
+NestsBegun s text at k over look new =
+    (start : ℕ) (read : List Token) → Scans (chars_from text start) read (chars_from text at) → Nests s text start read k
+    → ((vs : List Token) (goal : Tree) → presumed s.ops look vs ≡ true → Wants s [] ((read ++ over) ++ vs) goal → Reads s new vs goal)
+    → ((vs : List Token) (goal : Tree) → presumed s.ops look vs ≡ true → Reads s new vs goal → Wants s [] ((read ++ over) ++ vs) goal) → Nests s text start (read ++ over) (stack_of new)
+
+abbrev pub NestsBehind : Setting → List ℕ → List Frame → Token → List Frame → Type 0
+NestsBehind s text k first new = (start : ℕ) (read : List Token) → Nests s text start read k → Nests s text start (read ++ first ∷ []) new
+
 -- The beginning of an operand presumes something of the tokens behind it; a token behind an operand does not.
-abbrev pub IsStep : Setting → Position → Position → Token → List Token → List Token → Look → Bool → Type 0
-IsStep s (Due k) new first over us look doubt =
+abbrev pub IsStep : Setting → List ℕ → ℕ → Position → Position → Token → List Token → List Token → Look → Bool → Type 0
+IsStep s text at (Due k) new first over us look doubt =
     ((vs : List Token) → presumed s.ops look vs ≡ true → stands_alone s.ops (first ∷ over ++ vs) ≡ stands_alone s.ops (first ∷ over ++ us)) × Suits new look × Doubts s k first over look doubt
-IsStep s (There k l p) new first over us look doubt = (over ≡ []) × (look ≡ Free) × (doubt ≡ false)
+    × NestsBegun s text at k (first ∷ over) look new
+IsStep s text at (There k l p) new first over us look doubt = (over ≡ []) × (look ≡ Free) × (doubt ≡ false) × NestsBehind s text k first (stack_of new)
 
 -- A step over some tokens: whatever comes behind them, if it is as presumed, is read at the old position together
 -- with them just as it is at the new one.
@@ -75,7 +87,7 @@ pub record Leads (s : Setting) (text : List ℕ) (old : Position) (at : ℕ) (ne
   pub fits : presumed s.ops look (tokens_of (chars_from text end)) ≡ true
   pub to : (vs : List Token) (goal : Tree) → presumed s.ops look vs ≡ true → Reads s old (first ∷ over ++ vs) goal → Reads s new vs goal
   pub back : (vs : List Token) (goal : Tree) → presumed s.ops look vs ≡ true → Reads s new vs goal → Reads s old (first ∷ over ++ vs) goal
-  pub step : IsStep s old new first over (tokens_of (chars_from text end)) look doubt
+  pub step : IsStep s text at old new first over (tokens_of (chars_from text end)) look doubt
 
 pub record Went (s : Setting) (text : List ℕ) (old : Position) (at : ℕ) (st : State) (phase : Option ℕ) (doubt : Bool) : Type 0 where
   pub new : Position
@@ -109,6 +121,7 @@ pub record Led (s : Setting) (text : List ℕ) (start : ℕ) (x : Position) (at 
   pub back : (vs : List Token) (goal : Tree) → presumed s.ops look vs ≡ true → Reads s x vs goal → Wants s [] (read ++ vs) goal
   pub suits : Suits x look
   pub doubts : DoubtsBefore s read look doubt
+  pub nests : Nests s text start read (stack_of x)
 
 -- the term is whole, and its end stands in front of this place
 pub record Ended (s : Setting) (text : List ℕ) (old : Position) (at : ℕ) (st : State) (end : ℕ) : Type 0 where

@@ -1,12 +1,11 @@
 -- Where no token goes on, and what is refused there.
-use Rattle.std.specs.Prelude.{◌≡◌, ◌^◌, ◌≤◌, ◌<◌, ◌&&◌, ◌||◌, not, ℕ, Bool, nat_le, false, List, [], ◌∷◌, ◌++◌, Option, Some, None, IsCharBoundary, if◌then◌else◌}
+use Rattle.std.specs.Prelude.{◌≡◌, ◌^◌, ◌≤◌, ◌<◌, ◌&&◌, ◌||◌, not, ℕ, Bool, nat_le, false, List, [], ◌∷◌, ◌++◌, length, Option, Some, None, IsCharBoundary, if◌then◌else◌}
 use Rattle.au_model.specs.Characters.{chars_from}
 use Rattle.au_model.specs.Lexemes.{Lexeme, Name, QuotedName, Integer, Close, Comma, Token, token, scanned, ScannedTo, tokens_of}
 use Rattle.au_model.specs.Operators.{OperatorTable, prefix_of}
 use Rattle.au_model.specs.Joints.{Joint, named_joint, joint_fits, right_bound}
 use Rattle.au_model.specs.Trees.{Tree}
-use Rattle.au_model.specs.Openings.{Setting, Call, begins, is_joint, is_operator}
-use Rattle.au_model.specs.Layout.{GapThen, behind_layout}
+use Rattle.au_model.specs.Openings.{Setting, is_joint, is_operator}
 use Rattle.au_model.specs.declared.fault_kind.FaultKind.{FaultKind}
 use Rattle.au_model.specs.declared.fault_kind.FaultKind.TheVariants.{UnexpectedToken, WideNumeral, TooManyArguments}
 use Rattle.term_reader.specs.Stack.{Frame, PrefixOf, InfixOf, Wants, Goes, bound_of}
@@ -25,17 +24,19 @@ use Rattle.op_table.specs.declared.operator.Operator.{Operator as DeclaredOperat
 use Rattle.term_reader.specs.declared.state.Frame.{Frame as DeclaredFrame}
 use Rattle.term_reader.specs.declared.state.Frame.TheVariants as frame
 use Rattle.term_reader.specs.Looks.{Scans}
-use Rattle.term_reader.specs.TextFaults.{Begins, Fault, Has, AreClosing}
+use Rattle.term_reader.specs.Nesting.{Nests}
+use Rattle.term_reader.specs.TextFaults.{Begins, Fault, IsOneTooMany}
 use Rattle.term_reader.specs.declared.refusal.Refused.{Refused}
 use Rattle.term_reader.specs.declared.steps.Turn.{Turn}
 use Rattle.term_reader.specs.declared.steps.Turn.TheVariants.{Refused as RefusedTurn}
 
--- the tokens up to a place begin a term, and with the next one they do not
+-- the tokens up to a place begin a term, and with the next one they do not; this is not one argument too many
 pub record Stuck (s : Setting) (text : List ℕ) (start at : ℕ) : Type 0 where
   pub read : List Token
   pub scans : Scans (chars_from text start) read (chars_from text at)
   pub begins : Begins s read
   pub ends : (t : Token) (us : List Token) → tokens_of (chars_from text at) ≡ t ∷ us → (more : List Token) (goal : Tree) → Wants s [] (read ++ t ∷ more) goal → ⊥
+  pub few : (t : Token) (us : List Token) → tokens_of (chars_from text at) ≡ t ∷ us → (m : ℕ) (name : List ℕ) → IsOneTooMany s (read ++ t ∷ us) (length read) m name → ⊥
 
 abbrev pub unexpected_kind : Lexeme → FaultKind
 unexpected_kind (Integer k) = if nat_le (2 ^ 63) k then WideNumeral else UnexpectedToken
@@ -67,6 +68,7 @@ pub record NotTaken (source : Source) (start : ℕ) (k : List Frame) (l : Tree) 
   pub found : scanned (chars_from source.text.now at) ≡ ScannedTo (token apart lexeme) (chars_from source.text.now end)
   pub starts : IsStart source.text.now at place
   pub refused : (more : List Token) (goal : Tree) → Goes (setting_of source) k (token apart lexeme ∷ more) l p goal → ⊥
+  pub few : (us : List Token) (m : ℕ) (name : List ℕ) → IsOneTooMany (setting_of source) (led.read ++ token apart lexeme ∷ us) (length led.read) m name → ⊥
 
 -- what is read at a place with this token is read in this stack, behind operators that were put over their operands;
 -- and what this stack reads behind a bracket that closes is read at the place
@@ -79,45 +81,21 @@ pub record IsPassed (source : Source) (start at : ℕ) (doubt : Bool) (t : Token
   pub low : priority ≤ bound_of stack
   pub passes : (more : List Token) (goal : Tree) → Goes (setting_of source) stack (t ∷ more) tree priority goal → Goes (setting_of source) k (t ∷ more) l p goal
   pub closes : (more : List Token) (goal : Tree) → Goes (setting_of source) k (token false Close ∷ more) l p goal → Goes (setting_of source) stack (token false Close ∷ more) tree priority goal
-
--- ---- places in the stack
-
--- a token between the start and a place where this compound begins
-pub record CallPlace (s : Setting) (text : List ℕ) (start at : ℕ) (name : List ℕ) (place : ℕ) : Type 0 where
-  pub from : List ℕ
-  pub before : List Token
-  pub after : List Token
-  pub args : List Token
-  pub scanned_before : Scans (chars_from text start) before from
-  pub scanned_after : Scans from after (chars_from text at)
-  pub layout : behind_layout from ≡ GapThen (chars_from text place)
-  pub boundary : IsCharBoundary text place
-  pub called : begins s (tokens_of from) ≡ Call name args
-
-abbrev pub IsFramePlace : Setting → List ℕ → ℕ → ℕ → DeclaredFrame → Type 0
-IsFramePlace s text start at (frame.Argument name n place) = CallPlace s text start at name place
-IsFramePlace s text start at _ = Unit {0}
-
-abbrev pub ArePlaces : Setting → List ℕ → ℕ → ℕ → List DeclaredFrame → Type 0
-ArePlaces s text start at [] = Unit {0}
-ArePlaces s text start at (f ∷ fs) = IsFramePlace s text start at f × ArePlaces s text start at fs
+  pub nests : Nests (setting_of source) source.text.now start led.read k
 
 -- ---- where an operand ends
 
--- with a bracket that closes, and more of them, it is read to a term with a compound of this name and so many arguments
-pub record Fills (s : Setting) (k : List Frame) (l : Tree) (p : ℕ) (name : List ℕ) : Type 0 where
-  pub more : List Token
-  pub tree : Tree
-  pub closing : AreClosing more
-  pub has : Has name 65535 tree
-  pub reads : Goes s k (token false Close ∷ more) l p tree
+-- a compound with the last argument but one that it may have
+abbrev pub IsFull : DeclaredFrame → Type 0
+IsFull (frame.Argument name n place) = 65534 ≤ n
+IsFull _ = ⊥
 
--- this is the fault where the token that stands behind the operand is not taken, and where it is a comma that would
--- stand behind the last argument, the compound's place is that of the fault
+-- This is the fault where the token that stands behind the operand is not taken, and is no comma behind the last
+-- argument that a compound may have. Where it is one, the compound's place is that of the fault.
 abbrev pub IsHeldFault : (source : Source) → ℕ → (st : State) → (f : DeclaredFrame) → (k : List Frame) → (l : Tree) → (p : ℕ) → (c : Closer) → (end : ℕ) → IsClosing source st f k l p c end → Refused → Type 0
 IsHeldFault source start st f k l p c end h r =
     ((more : List Token) (goal : Tree) → Goes (setting_of source) k (token h.apart h.lexeme ∷ more) l p goal → ⊥)
-    → IsFault (setting_of source) source.text.now start r × ((place : ℕ) (name : List ℕ) → h.lexeme ≡ Comma → CallPlace (setting_of source) source.text.now start st.at name place → Fills (setting_of source) k l p name → IsFault (setting_of source) source.text.now start (record { at = place; kind = TooManyArguments }))
+    → ((IsFull f → h.lexeme ≡ Comma → ⊥) → IsFault (setting_of source) source.text.now start r) × ((name : List ℕ) (n place : ℕ) → f ≡ frame.Argument name n place → 65534 ≤ n → h.lexeme ≡ Comma → IsFault (setting_of source) source.text.now start (record { at = place; kind = TooManyArguments }))
 
 -- ---- behind a prefix operator
 

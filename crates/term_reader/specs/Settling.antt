@@ -7,6 +7,7 @@ use Rattle.au_model.specs.Joints.{Joint, Nothing, token_joint, joint_fits}
 use Rattle.au_model.specs.Openings.{Setting}
 use Rattle.term_reader.specs.Stack.{Frame, Goes, bound_of}
 use Rattle.term_reader.specs.Frames.{IsShut}
+use Rattle.term_reader.specs.Nesting.{Nests}
 use Rattle.term_reader.specs.Positions.{Stands, There}
 use Rattle.term_reader.specs.declared.state.State.{State}
 use Rattle.term_reader.specs.declared.state.Plug.{Plug}
@@ -22,6 +23,10 @@ pub record Same (s : Setting) (j : Joint) (k : List Frame) (l : Tree) (p : ℕ) 
   pub to : (ts : List Token) (goal : Tree) → first_joint s.ops ts ≡ j → Goes s k ts l p goal → Goes s m ts t q goal
   pub back : (ts : List Token) (goal : Tree) → first_joint s.ops ts ≡ j → Goes s m ts t q goal → Goes s k ts l p goal
 
+-- what nests in one stack nests in the other
+abbrev pub NestSame : Setting → List Frame → List Frame → Type 0
+NestSame s k m = (text : List ℕ) (start : ℕ) (read : List Token) → Nests s text start read k → Nests s text start read m
+
 -- an operator stands over its operand, also where nothing is joined
 pub record IsOver (s : Setting) (k : List Frame) (l : Tree) (p : ℕ) (j : Joint) (st : State) (q : ℕ) : Type 0 where
   pub below : List Frame
@@ -29,6 +34,7 @@ pub record IsOver (s : Setting) (k : List Frame) (l : Tree) (p : ℕ) (j : Joint
   pub stands : Stands st (There below tree q)
   pub same : Same s j k l p below tree q
   pub apart : Same s Nothing k l p below tree q
+  pub nests : NestSame s k below
 
 abbrev pub IsPlug : Setting → List Frame → Tree → ℕ → Joint → State → Plug → Type 0
 IsPlug s k l p j st (Over q) = IsOver s k l p j st q
@@ -50,4 +56,5 @@ pub record IsSettled (s : Setting) (k : List Frame) (l : Tree) (p : ℕ) (j : Jo
   pub stands : Stands st (There below tree q)
   pub same : Same s j k l p below tree q
   pub apart : Same s Nothing k l p below tree q
+  pub nests : NestSame s k below
   pub free : IsFree below q j fits

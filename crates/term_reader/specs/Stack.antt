@@ -7,13 +7,14 @@ use Rattle.au_model.specs.Joints.{right_bound}
 use Rattle.au_model.specs.Openings.{Setting}
 use Rattle.term_reader.specs.Readings.{next, Whole, Rest}
 
--- what is open: brackets, items, a tail or arguments, with those before this one, the last first; and operators
+-- what is open: brackets, items, a tail or arguments, with those before this one, the last first, a compound with its
+-- name and place; and operators
 pub data Frame : Type 0 where
   Round : Frame
   Braces : Frame
   ItemOf : List Tree → Frame
   TailOf : List Tree → Frame
-  ArgumentOf : List ℕ → List Tree → Frame
+  ArgumentOf : List ℕ → ℕ → List Tree → Frame
   PrefixOf : List ℕ → Operator → Frame
   InfixOf : List ℕ → Operator → Tree → Frame
 
@@ -24,7 +25,7 @@ bound_of (Round ∷ k) = 1200
 bound_of (Braces ∷ k) = 1200
 bound_of (ItemOf ts ∷ k) = 999
 bound_of (TailOf ts ∷ k) = 999
-bound_of (ArgumentOf n ts ∷ k) = 999
+bound_of (ArgumentOf n place ts ∷ k) = 999
 bound_of (PrefixOf n o ∷ k) = right_bound o
 bound_of (InfixOf n o l ∷ k) = right_bound o
 
@@ -55,9 +56,9 @@ mutual
     bar : {k : List Frame} {a : Bool} {us : List Token} {t goal : Tree} {ts : List Tree} → Wants s (TailOf (t ∷ ts) ∷ k) us goal → Plugs s (ItemOf ts ∷ k) (token a Bar ∷ us) t goal
     last : {k : List Frame} {a : Bool} {us : List Token} {t goal : Tree} {ts : List Tree} → Goes s k us (list_of (t ∷ ts) (AtomTree nil)) 0 goal → Plugs s (ItemOf ts ∷ k) (token a CloseList ∷ us) t goal
     tail : {k : List Frame} {a : Bool} {us : List Token} {t goal : Tree} {ts : List Tree} → Goes s k us (list_of ts t) 0 goal → Plugs s (TailOf ts ∷ k) (token a CloseList ∷ us) t goal
-    argument : {k : List Frame} {a : Bool} {us : List Token} {t goal : Tree} {n : List ℕ} {ts : List Tree}
-        → length ts < 65534 → Wants s (ArgumentOf n (t ∷ ts) ∷ k) us goal → Plugs s (ArgumentOf n ts ∷ k) (token a Comma ∷ us) t goal
-    final : {k : List Frame} {a : Bool} {us : List Token} {t goal : Tree} {n : List ℕ} {ts : List Tree}
-        → Goes s k us (CompoundTree n (trees_of (t ∷ ts) no_trees)) 0 goal → Plugs s (ArgumentOf n ts ∷ k) (token a Close ∷ us) t goal
+    argument : {k : List Frame} {a : Bool} {us : List Token} {t goal : Tree} {n : List ℕ} {place : ℕ} {ts : List Tree}
+        → length ts < 65534 → Wants s (ArgumentOf n place (t ∷ ts) ∷ k) us goal → Plugs s (ArgumentOf n place ts ∷ k) (token a Comma ∷ us) t goal
+    final : {k : List Frame} {a : Bool} {us : List Token} {t goal : Tree} {n : List ℕ} {place : ℕ} {ts : List Tree}
+        → Goes s k us (CompoundTree n (trees_of (t ∷ ts) no_trees)) 0 goal → Plugs s (ArgumentOf n place ts ∷ k) (token a Close ∷ us) t goal
     prefix : {k : List Frame} {us : List Token} {t goal : Tree} {n : List ℕ} {o : Operator} → Goes s k us (one n t) o.priority goal → Plugs s (PrefixOf n o ∷ k) us t goal
     infixes : {k : List Frame} {us : List Token} {l t goal : Tree} {n : List ℕ} {o : Operator} → Goes s k us (two n l t) o.priority goal → Plugs s (InfixOf n o l ∷ k) us t goal

@@ -1,11 +1,11 @@
 -- Where a text first goes wrong, and what is wrong there.
-use Rattle.std.specs.Prelude.{◌≡◌, ◌<◌, ◌+◌, ◌-◌, ◌^◌, ℕ, suc, Bool, true, false, ◌==◌, nat_le, min, List, [], ◌∷◌, ◌++◌, length, take, drop, slice_get, reverse, Option, Some, if◌then◌else◌, ◌≤◌}
+use Rattle.std.specs.Prelude.{◌≡◌, ◌<◌, ◌+◌, ◌-◌, ◌^◌, ℕ, zero, suc, Bool, true, false, ◌==◌, nat_le, min, List, [], ◌∷◌, ◌++◌, length, take, drop, slice_get, reverse, Option, Some, if◌then◌else◌}
 use Rattle.std.specs.Str.{chars}
 use Rattle.au_model.specs.Characters.{is_in_line, run}
 use Rattle.au_model.specs.Layout.{Gap, GapThen, behind_layout}
 use Rattle.au_model.specs.Tokens.{FoundFault, next_word}
-use Rattle.au_model.specs.Lexemes.{Token, token, Integer, Close, CloseList, CloseCurly, Comma, End, front, first_tokens, tokens_of}
-use Rattle.au_model.specs.Trees.{Tree, Trees, CompoundTree, more_trees, tree_count}
+use Rattle.au_model.specs.Lexemes.{Token, token, Integer, Comma, End, front, first_tokens, tokens_of}
+use Rattle.au_model.specs.Trees.{Tree}
 use Rattle.au_model.specs.Openings.{Setting, Call, begins}
 use Rattle.au_model.specs.Spelling.{Operand}
 use Rattle.au_model.specs.TermTexts.{is_over}
@@ -25,34 +25,17 @@ pub record FaultAt (s : Setting) (ts : List Token) (n : ℕ) : Type 0 where
   pub begins : Begins s (take n ts)
   pub ends : Begins s (take (suc n) ts) → ⊥
 
-mutual
-  -- the term is a compound of this name with so many arguments, or one stands in it
-  pub data Has (name : List ℕ) (count : ℕ) : Tree → Type 0 where
-    itself : {args : Trees} → tree_count args ≡ count → Has name count (CompoundTree name args)
-    within : {n : List ℕ} {args : Trees} → HasAmong name count args → Has name count (CompoundTree n args)
+-- so many arguments, each with a comma behind it
+pub data Past (s : Setting) : ℕ → List Token → List Token → Type 0 where
+  none : {ts : List Token} → Past s zero ts ts
+  one_more : {n : ℕ} {ts us vs : List Token} {a : Bool} {t : Tree} → Operand s 999 ts (token a Comma ∷ us) t → Past s n us vs → Past s (suc n) ts vs
 
-  pub data HasAmong (name : List ℕ) (count : ℕ) : Trees → Type 0 where
-    first : {t : Tree} {ts : Trees} → Has name count t → HasAmong name count (more_trees t ts)
-    later : {t : Tree} {ts : Trees} → HasAmong name count ts → HasAmong name count (more_trees t ts)
-
--- brackets that close, and the end
-abbrev pub AreClosing : List Token → Type 0
-AreClosing [] = Unit {0}
-AreClosing (token apart Close ∷ ts) = AreClosing ts
-AreClosing (token apart CloseList ∷ ts) = AreClosing ts
-AreClosing (token apart CloseCurly ∷ ts) = AreClosing ts
-AreClosing (token apart End ∷ ts) = AreClosing ts
-AreClosing (t ∷ ts) = ⊥
-
--- with a `)` and then the brackets that close they are a term with its end, in which a compound of this name has as
--- many arguments as a compound may have
-pub record IsFull (s : Setting) (ts : List Token) (name : List ℕ) : Type 0 where
-  pub more : List Token
-  pub apart : Bool
-  pub tree : Tree
-  pub closing : AreClosing more
-  pub spelled : Operand s 1200 (ts ++ token false Close ∷ more) (token apart End ∷ []) tree
-  pub has : Has name 65535 tree
+-- the token is the comma behind the last argument that a compound may have; the compound is of this name, and begins
+-- with another token
+pub record IsOneTooMany (s : Setting) (ts : List Token) (n m : ℕ) (name : List ℕ) : Type 0 where
+  pub behind : List Token
+  pub called : begins s (drop m ts) ≡ Call name behind
+  pub past : Past s 65535 behind (drop (suc n) ts)
 
 -- an integer of at least 2^63
 abbrev pub is_wide : Option Token → Bool
@@ -64,14 +47,13 @@ abbrev pub token_start : ℕ → List ℕ → Gap
 token_start n cs = behind_layout (first_tokens n cs).rest
 
 -- The kind of a text's fault, and the characters from its place on. The first token with which the tokens begin no
--- term, behind its layout. Where that is a comma it may be one argument too many, at the name of a compound that begins
--- before it; then a `)` in its place goes on, and what is closed so has a compound of this name with as many arguments
--- as it may have. Or all tokens up to a faulty one, or up to the end of the text, begin a term.
+-- term, behind its layout; where that is the comma behind the last argument that a compound may have, the compound's
+-- name. Or all tokens up to a faulty one, or up to the end of the text, begin a term.
 pub data Fault (s : Setting) (cs : List ℕ) : FaultKind → List ℕ → Type 0 where
-  unexpected : {n : ℕ} {from : List ℕ} → FaultAt s (tokens_of cs) n → is_wide (slice_get (tokens_of cs) n) ≡ false → token_start n cs ≡ GapThen from → Fault s cs UnexpectedToken from
+  unexpected : {n : ℕ} {from : List ℕ} → FaultAt s (tokens_of cs) n → is_wide (slice_get (tokens_of cs) n) ≡ false → ((m : ℕ) (name : List ℕ) → IsOneTooMany s (tokens_of cs) n m name → ⊥)
+      → token_start n cs ≡ GapThen from → Fault s cs UnexpectedToken from
   wide : {n : ℕ} {from : List ℕ} → FaultAt s (tokens_of cs) n → is_wide (slice_get (tokens_of cs) n) ≡ true → token_start n cs ≡ GapThen from → Fault s cs WideNumeral from
-  too_many : {n m : ℕ} {a : Bool} {name : List ℕ} {us : List Token} {from : List ℕ} → FaultAt s (tokens_of cs) n → slice_get (tokens_of cs) n ≡ Some (token a Comma)
-      → m ≤ n → begins s (drop m (tokens_of cs)) ≡ Call name us → IsFull s (take n (tokens_of cs)) name → token_start m cs ≡ GapThen from → Fault s cs TooManyArguments from
+  too_many : {n m : ℕ} {name from : List ℕ} → FaultAt s (tokens_of cs) n → IsOneTooMany s (tokens_of cs) n m name → token_start m cs ≡ GapThen from → Fault s cs TooManyArguments from
   faulty : {kind : FaultKind} {from : List ℕ} → Begins s (tokens_of cs) → next_word (front cs).rest ≡ FoundFault kind from → Fault s cs kind from
   ended : Begins s (tokens_of cs) → is_over (front cs).rest ≡ true → Fault s cs UnexpectedEnd []
 

@@ -5,7 +5,6 @@ ghost use Rattle.au_model.specs.Trees.{Tree};
 ghost use Rattle.au_model.specs.Openings.{Setting};
 ghost use Rattle.au_model.specs.Spelling.{Operand};
 ghost use Rattle.au_model.specs.declared.fault_kind.FaultKind.{FaultKind};
-ghost use Rattle.au_model.specs.declared.fault_kind.FaultKind.TheVariants.{TooManyArguments};
 ghost use Rattle.term_reader.specs.TextFaults.{Fault, FaultAt};
 
 /// A list of tokens has at most one reading within a bound, whatever the operators are.
@@ -18,7 +17,7 @@ pub fn one_faulty_token()
     ensures { (s : Setting) (ts : List Token) (m n : ℕ) → FaultAt s ts m → FaultAt s ts n → m ≡ n }
 {}
 
-/// The fault of a text is one, of one kind and at one place. This leaves out that of too many arguments.
+/// The fault of a text is one, of one kind and at one place.
 pub fn one_fault()
-    ensures { (s : Setting) (cs us vs : List ℕ) (j k : FaultKind) → Fault s cs j us → Fault s cs k vs → (j ≡ TooManyArguments → ⊥) → (k ≡ TooManyArguments → ⊥) → (j ≡ k) × (us ≡ vs) }
+    ensures { (s : Setting) (cs us vs : List ℕ) (j k : FaultKind) → Fault s cs j us → Fault s cs k vs → (j ≡ k) × (us ≡ vs) }
 {}

@@ -8,7 +8,7 @@ ghost use Rattle.term_reader.specs.Stack as stack;
 ghost use Rattle.term_reader.specs.Stack.{bound_of};
 ghost use Rattle.term_reader.specs.Positions.{Due, Stands, There};
 ghost use Rattle.term_reader.specs.Settling.{IsFewer, IsPlug, IsSettled};
-ghost use Rattle.term_reader.specs.Refusing.{takes, ArePlaces};
+ghost use Rattle.term_reader.specs.Refusing.{takes};
 
 use crate::joint::{Joint, right_bound};
 use crate::sheet::Sheet;
@@ -98,7 +98,6 @@ impl State {
     /// Puts the operator that waits for the operand over it, where the operand ends in front of this.
     fn plug(&mut self, priority: u16, joint: Joint) -> Result<Plug, NoMemory>
         ensures at { self.new.at ≡ self.old.at }
-        ensures places { (s : Setting) (text : List ℕ) (start at : ℕ) → ArePlaces s text start at self.old.frames.items → ArePlaces s text start at self.new.frames.items }
         ensures fewer { IfOk result (λ p. IsFewer p (vec_len self.old.frames) (vec_len self.new.frames)) }
         ensures plugged { (s : Setting) (k : List stack.Frame) (l : Tree) (n : List ℕ) → Stands self.old (There k l priority) → IfOk result (λ p. IsPlug s k l priority (joint_meant n joint) self.new p) }
     {
@@ -126,7 +125,6 @@ impl State {
     /// whether this goes on behind it.
     pub(crate) fn settle(&mut self, priority: u16, joint: Joint) -> Result<(u16, bool), NoMemory>
         ensures at { self.new.at ≡ self.old.at }
-        ensures places { (s : Setting) (text : List ℕ) (start at : ℕ) → ArePlaces s text start at self.old.frames.items → ArePlaces s text start at self.new.frames.items }
         ensures settled { (s : Setting) (k : List stack.Frame) (l : Tree) (n : List ℕ) → Stands self.old (There k l priority) → IfOk result (λ r. IsSettled s k l priority (joint_meant n joint) self.new r.0 r.1) }
     {
         let mut last = priority;

@@ -9,7 +9,7 @@ ghost use Rattle.term_reader.specs.Begun.{leaf_tree, setting_of};
 ghost use Rattle.term_reader.specs.Frames.{IsShut};
 ghost use Rattle.term_reader.specs.Looks.{Scans};
 ghost use Rattle.term_reader.specs.Meant.{lexeme_meant, IsStart};
-ghost use Rattle.term_reader.specs.Refusing.{ArePlaces, IsFault, IsFramePlace, IsHeldFault, IsPassed, RefusesWell, Stuck};
+ghost use Rattle.term_reader.specs.Refusing.{IsFault, IsHeldFault, IsPassed, RefusesWell, Stuck};
 ghost use Rattle.term_reader.specs.Positions.{Due, There, Position, Stands, Led, Outcome, Moves, phase_of};
 ghost use Rattle.term_reader.specs.Stack as stack;
 ghost use Rattle.term_reader.specs.Stack.{bound_of};
@@ -84,9 +84,8 @@ fn begin(
 ) -> Result<Turn, NoMemory>
     requires { Starts source state.old.at opening }
     ensures moves { IfOk result (λ t. Moves source.entry.text.now state.old.at state.new t) }
-    ensures outcome { (k : List stack.Frame) → Stands state.old (Due k) → IfOk result (λ t. Outcome (setting_of source.entry) source.entry.text.now (Due k) state.old.at state.new t) }
+    ensures outcome { (k : List stack.Frame) → Stands state.old (Due k) → IsStart source.entry.text.now state.old.at start → IfOk result (λ t. Outcome (setting_of source.entry) source.entry.text.now (Due k) state.old.at state.new t) }
     ensures fault { (first : ℕ) (doubt : Bool) (k : List stack.Frame) → Stands state.old (Due k) → Led (setting_of source.entry) source.entry.text.now first (Due k) state.old.at doubt → (Stuck (setting_of source.entry) source.entry.text.now first state.old.at → IsFault (setting_of source.entry) source.entry.text.now first fault) → IfOk result (λ t. RefusesWell (setting_of source.entry) source.entry.text.now first t) }
-    ensures places { (first : ℕ) (read : List Token) → Scans (chars_from source.entry.text.now first) read (chars_from source.entry.text.now state.old.at) → IsStart source.entry.text.now state.old.at start → ArePlaces (setting_of source.entry) source.entry.text.now first state.old.at state.old.frames.items → IfOk result (λ t. ArePlaces (setting_of source.entry) source.entry.text.now first state.old.at state.new.frames.items) }
 {
     match opening {
         Opening::Leaf(leaf, behind) => put(source, state, leaf, behind, false),
@@ -114,7 +113,6 @@ fn operand(source: Source<'_>, state: &mut State) -> Result<Turn, NoMemory>
     ensures moves { IfOk result (λ t. Moves source.entry.text.now state.old.at state.new t) }
     ensures outcome { (k : List stack.Frame) → Stands state.old (Due k) → IfOk result (λ t. Outcome (setting_of source.entry) source.entry.text.now (Due k) state.old.at state.new t) }
     ensures fault { (first : ℕ) (doubt : Bool) (k : List stack.Frame) → Stands state.old (Due k) → Led (setting_of source.entry) source.entry.text.now first (Due k) state.old.at doubt → IfOk result (λ t. RefusesWell (setting_of source.entry) source.entry.text.now first t) }
-    ensures places { (first : ℕ) (read : List Token) → Scans (chars_from source.entry.text.now first) read (chars_from source.entry.text.now state.old.at) → ArePlaces (setting_of source.entry) source.entry.text.now first state.old.at state.old.frames.items → IfOk result (λ t. ArePlaces (setting_of source.entry) source.entry.text.now first state.old.at state.new.frames.items) }
 {
     let next = scan_at(source.alloc, source.text, state.at)?;
     match next {
@@ -150,8 +148,7 @@ fn behind(
     requires { IsCharBoundary source.text.now state.old.at }
     ensures moves { IfOk result (λ t. Moves source.entry.text.now state.old.at state.new t) }
     ensures outcome { (k : List stack.Frame) (l : Tree) → Stands state.old (There k l priority) → IfOk result (λ t. Outcome (setting_of source.entry) source.entry.text.now (There k l priority) state.old.at state.new t) }
-    ensures fault { (first : ℕ) (k : List stack.Frame) (l : Tree) → Stands state.old (There k l priority) → Led (setting_of source.entry) source.entry.text.now first (There k l priority) state.old.at doubt → ArePlaces (setting_of source.entry) source.entry.text.now first state.old.at state.old.frames.items → IfOk result (λ t. RefusesWell (setting_of source.entry) source.entry.text.now first t) }
-    ensures places { (first : ℕ) → ArePlaces (setting_of source.entry) source.entry.text.now first state.old.at state.old.frames.items → IfOk result (λ t. ArePlaces (setting_of source.entry) source.entry.text.now first state.old.at state.new.frames.items) }
+    ensures fault { (first : ℕ) (k : List stack.Frame) (l : Tree) → Stands state.old (There k l priority) → Led (setting_of source.entry) source.entry.text.now first (There k l priority) state.old.at doubt → IfOk result (λ t. RefusesWell (setting_of source.entry) source.entry.text.now first t) }
 {
     let next = scan_at(source.alloc, source.text, state.at)?;
     match next {
@@ -179,8 +176,7 @@ fn after(
     requires place { IsPlaceFrom source.text.now (suc state.old.at) found.end }
     ensures moves { IfOk result (λ t. Moves source.entry.text.now state.old.at state.new t) }
     ensures outcome { (k : List stack.Frame) (l : Tree) → Stands state.old (There k l priority) → IfOk result (λ t. Outcome (setting_of source.entry) source.entry.text.now (There k l priority) state.old.at state.new t) }
-    ensures fault { (first : ℕ) (k : List stack.Frame) (l : Tree) → Stands state.old (There k l priority) → Led (setting_of source.entry) source.entry.text.now first (There k l priority) state.old.at doubt → IsStart source.entry.text.now state.old.at found.start → ArePlaces (setting_of source.entry) source.entry.text.now first state.old.at state.old.frames.items → IfOk result (λ t. RefusesWell (setting_of source.entry) source.entry.text.now first t) }
-    ensures places { (first : ℕ) → ArePlaces (setting_of source.entry) source.entry.text.now first state.old.at state.old.frames.items → IfOk result (λ t. ArePlaces (setting_of source.entry) source.entry.text.now first state.old.at state.new.frames.items) }
+    ensures fault { (first : ℕ) (k : List stack.Frame) (l : Tree) → Stands state.old (There k l priority) → Led (setting_of source.entry) source.entry.text.now first (There k l priority) state.old.at doubt → IsStart source.entry.text.now state.old.at found.start → IfOk result (λ t. RefusesWell (setting_of source.entry) source.entry.text.now first t) }
 {
     let joint = joint_of(source.ops, &found.lexeme);
     let (last, fits) = state.settle(priority, joint)?;
@@ -215,8 +211,7 @@ fn close(
     requires place { IsPlaceFrom source.text.now (suc state.old.at) found.end }
     ensures moves { IfOk result (λ t. Moves source.entry.text.now state.old.at state.new t) }
     ensures outcome { (k : List stack.Frame) (l : Tree) (p : ℕ) → Stands state.old (There k l p) → IsShut k → joint_fits (bound_of k) p (lexeme_joint source.entry.ops.now (lexeme_meant found.lexeme)) ≡ false → IfOk result (λ t. Outcome (setting_of source.entry) source.entry.text.now (There k l p) state.old.at state.new t) }
-    ensures fault { (first : ℕ) (k : List stack.Frame) (l : Tree) (p : ℕ) → Stands state.old (There k l p) → IsShut k → joint_fits (bound_of k) p (lexeme_joint source.entry.ops.now (lexeme_meant found.lexeme)) ≡ false → IsPassed source.entry first state.old.at doubt (token found.apart (lexeme_meant found.lexeme)) k l p → IsStart source.entry.text.now state.old.at found.start → ArePlaces (setting_of source.entry) source.entry.text.now first state.old.at state.old.frames.items → IfOk result (λ t. RefusesWell (setting_of source.entry) source.entry.text.now first t) }
-    ensures places { (first : ℕ) → ArePlaces (setting_of source.entry) source.entry.text.now first state.old.at state.old.frames.items → IfOk result (λ t. ArePlaces (setting_of source.entry) source.entry.text.now first state.old.at state.new.frames.items) }
+    ensures fault { (first : ℕ) (k : List stack.Frame) (l : Tree) (p : ℕ) → Stands state.old (There k l p) → IsShut k → joint_fits (bound_of k) p (lexeme_joint source.entry.ops.now (lexeme_meant found.lexeme)) ≡ false → IsPassed source.entry first state.old.at doubt (token found.apart (lexeme_meant found.lexeme)) k l p → IsStart source.entry.text.now state.old.at found.start → IfOk result (λ t. RefusesWell (setting_of source.entry) source.entry.text.now first t) }
 {
     let token = closer_token(&found.lexeme);
     let refused = not_taken(source, doubt, &found.lexeme, found.start, found.end)?;
@@ -240,8 +235,7 @@ fn close_frame(
 ) -> Result<Turn, NoMemory>
     ensures moves { IsPlaceFrom source.entry.text.now (suc state.old.at) end → IfOk result (λ t. Moves source.entry.text.now state.old.at state.new t) }
     ensures outcome { (k : List stack.Frame) (l : Tree) (p : ℕ) → IsClosing source.entry state.old frame k l p token end → IfOk result (λ t. Outcome (setting_of source.entry) source.entry.text.now (There k l p) state.old.at state.new t) }
-    ensures fault { (first : ℕ) (k : List stack.Frame) (l : Tree) (p : ℕ) (h : IsClosing source.entry state.old (frame) k l p token end) → IsHeldFault source.entry first state.old (frame) k l p token end h refused → IsFramePlace (setting_of source.entry) source.entry.text.now first state.old.at (frame) → IfOk result (λ t. RefusesWell (setting_of source.entry) source.entry.text.now first t) }
-    ensures places { (first : ℕ) → IsFramePlace (setting_of source.entry) source.entry.text.now first state.old.at (frame) → ArePlaces (setting_of source.entry) source.entry.text.now first state.old.at state.old.frames.items → IfOk result (λ t. ArePlaces (setting_of source.entry) source.entry.text.now first state.old.at state.new.frames.items) }
+    ensures fault { (first : ℕ) (k : List stack.Frame) (l : Tree) (p : ℕ) (h : IsClosing source.entry state.old (frame) k l p token end) → IsHeldFault source.entry first state.old (frame) k l p token end h refused → IfOk result (λ t. RefusesWell (setting_of source.entry) source.entry.text.now first t) }
 {
     match frame {
         Frame::Round => Ok(close_round(source, state, token, end, refused)),
@@ -267,7 +261,6 @@ fn close_round(
     ensures moves { IsPlaceFrom source.entry.text.now (suc state.old.at) end → Moves source.entry.text.now state.old.at state.new result }
     ensures outcome { (k : List stack.Frame) (l : Tree) (p : ℕ) → IsClosing source.entry state.old Frame.Round k l p token end → Outcome (setting_of source.entry) source.entry.text.now (There k l p) state.old.at state.new result }
     ensures fault { (first : ℕ) (k : List stack.Frame) (l : Tree) (p : ℕ) (h : IsClosing source.entry state.old (Frame.Round) k l p token end) → IsHeldFault source.entry first state.old (Frame.Round) k l p token end h refused → RefusesWell (setting_of source.entry) source.entry.text.now first result }
-    ensures places { (first : ℕ) → ArePlaces (setting_of source.entry) source.entry.text.now first state.old.at state.old.frames.items → ArePlaces (setting_of source.entry) source.entry.text.now first state.old.at state.new.frames.items }
 {
     match token {
         Closer::Close => {
@@ -289,7 +282,6 @@ fn close_curly(
     ensures moves { IsPlaceFrom source.entry.text.now (suc state.old.at) end → IfOk result (λ t. Moves source.entry.text.now state.old.at state.new t) }
     ensures outcome { (k : List stack.Frame) (l : Tree) (p : ℕ) → IsClosing source.entry state.old Frame.Curly k l p token end → IfOk result (λ t. Outcome (setting_of source.entry) source.entry.text.now (There k l p) state.old.at state.new t) }
     ensures fault { (first : ℕ) (k : List stack.Frame) (l : Tree) (p : ℕ) (h : IsClosing source.entry state.old (Frame.Curly) k l p token end) → IsHeldFault source.entry first state.old (Frame.Curly) k l p token end h refused → IfOk result (λ t. RefusesWell (setting_of source.entry) source.entry.text.now first t) }
-    ensures places { (first : ℕ) → ArePlaces (setting_of source.entry) source.entry.text.now first state.old.at state.old.frames.items → IfOk result (λ t. ArePlaces (setting_of source.entry) source.entry.text.now first state.old.at state.new.frames.items) }
 {
     match token {
         Closer::CloseCurly => {
@@ -314,7 +306,6 @@ fn close_item(
     ensures moves { IsPlaceFrom source.entry.text.now (suc state.old.at) end → IfOk result (λ t. Moves source.entry.text.now state.old.at state.new t) }
     ensures outcome { (k : List stack.Frame) (l : Tree) (p : ℕ) → IsClosing source.entry state.old (Frame.Item before) k l p token end → IfOk result (λ t. Outcome (setting_of source.entry) source.entry.text.now (There k l p) state.old.at state.new t) }
     ensures fault { (first : ℕ) (k : List stack.Frame) (l : Tree) (p : ℕ) (h : IsClosing source.entry state.old (Frame.Item before) k l p token end) → IsHeldFault source.entry first state.old (Frame.Item before) k l p token end h refused → IfOk result (λ t. RefusesWell (setting_of source.entry) source.entry.text.now first t) }
-    ensures places { (first : ℕ) → ArePlaces (setting_of source.entry) source.entry.text.now first state.old.at state.old.frames.items → IfOk result (λ t. ArePlaces (setting_of source.entry) source.entry.text.now first state.old.at state.new.frames.items) }
 {
     // A list of more than 2^64 items fits no memory.
     if before == usize::MAX {
@@ -345,7 +336,6 @@ fn close_tail(
     ensures moves { IsPlaceFrom source.entry.text.now (suc state.old.at) end → IfOk result (λ t. Moves source.entry.text.now state.old.at state.new t) }
     ensures outcome { (k : List stack.Frame) (l : Tree) (p : ℕ) → IsClosing source.entry state.old (Frame.Tail items) k l p token end → IfOk result (λ t. Outcome (setting_of source.entry) source.entry.text.now (There k l p) state.old.at state.new t) }
     ensures fault { (first : ℕ) (k : List stack.Frame) (l : Tree) (p : ℕ) (h : IsClosing source.entry state.old (Frame.Tail items) k l p token end) → IsHeldFault source.entry first state.old (Frame.Tail items) k l p token end h refused → IfOk result (λ t. RefusesWell (setting_of source.entry) source.entry.text.now first t) }
-    ensures places { (first : ℕ) → ArePlaces (setting_of source.entry) source.entry.text.now first state.old.at state.old.frames.items → IfOk result (λ t. ArePlaces (setting_of source.entry) source.entry.text.now first state.old.at state.new.frames.items) }
 {
     match token {
         Closer::CloseList => {
@@ -370,8 +360,7 @@ fn close_argument(
 ) -> Result<Turn, NoMemory>
     ensures moves { IsPlaceFrom source.entry.text.now (suc state.old.at) end → IfOk result (λ t. Moves source.entry.text.now state.old.at state.new t) }
     ensures outcome { (k : List stack.Frame) (l : Tree) (p : ℕ) → IsClosing source.entry state.old (Frame.Argument name before place) k l p token end → IfOk result (λ t. Outcome (setting_of source.entry) source.entry.text.now (There k l p) state.old.at state.new t) }
-    ensures fault { (first : ℕ) (k : List stack.Frame) (l : Tree) (p : ℕ) (h : IsClosing source.entry state.old (Frame.Argument name before place) k l p token end) → IsHeldFault source.entry first state.old (Frame.Argument name before place) k l p token end h refused → IsFramePlace (setting_of source.entry) source.entry.text.now first state.old.at (Frame.Argument name before place) → IfOk result (λ t. RefusesWell (setting_of source.entry) source.entry.text.now first t) }
-    ensures places { (first : ℕ) → IsFramePlace (setting_of source.entry) source.entry.text.now first state.old.at (Frame.Argument name before place) → ArePlaces (setting_of source.entry) source.entry.text.now first state.old.at state.old.frames.items → IfOk result (λ t. ArePlaces (setting_of source.entry) source.entry.text.now first state.old.at state.new.frames.items) }
+    ensures fault { (first : ℕ) (k : List stack.Frame) (l : Tree) (p : ℕ) (h : IsClosing source.entry state.old (Frame.Argument name before place) k l p token end) → IsHeldFault source.entry first state.old (Frame.Argument name before place) k l p token end h refused → IfOk result (λ t. RefusesWell (setting_of source.entry) source.entry.text.now first t) }
 {
     match token {
         Closer::Comma => {
@@ -405,8 +394,7 @@ pub(crate) fn turn_at(
     requires { IsCharBoundary source.text.now state.old.at }
     ensures moves { IfOk result (λ t. Moves source.entry.text.now state.old.at state.new t) }
     ensures outcome { (x : Position) → Stands state.old x → phase ≡ phase_of x → IfOk result (λ t. Outcome (setting_of source.entry) source.entry.text.now x state.old.at state.new t) }
-    ensures fault { (first : ℕ) (x : Position) → Stands state.old x → phase ≡ phase_of x → Led (setting_of source.entry) source.entry.text.now first x state.old.at doubt → ArePlaces (setting_of source.entry) source.entry.text.now first state.old.at state.old.frames.items → IfOk result (λ t. RefusesWell (setting_of source.entry) source.entry.text.now first t) }
-    ensures places { (first : ℕ) (read : List Token) → Scans (chars_from source.entry.text.now first) read (chars_from source.entry.text.now state.old.at) → ArePlaces (setting_of source.entry) source.entry.text.now first state.old.at state.old.frames.items → IfOk result (λ t. ArePlaces (setting_of source.entry) source.entry.text.now first state.old.at state.new.frames.items) }
+    ensures fault { (first : ℕ) (x : Position) → Stands state.old x → phase ≡ phase_of x → Led (setting_of source.entry) source.entry.text.now first x state.old.at doubt → IfOk result (λ t. RefusesWell (setting_of source.entry) source.entry.text.now first t) }
 {
     match phase {
         None => operand(source, state),

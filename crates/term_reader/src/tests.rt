@@ -225,19 +225,39 @@ fn end_of_text(rt: HostRuntime) -> Result<(), Fail> {
     Ok(())
 }
 
-#[test]
-fn too_many_arguments(rt: HostRuntime) -> Result<(), Fail> {
-    let ops = Ops::initial(rt.alloc())?;
-    let mut text = String::from_str(rt.alloc(), "g- f(")?;
+/// The refusal of a text that begins so and goes on with 65,535 atoms, a comma behind each.
+fn refusal_of_many(
+    rt: &impl Abort,
+    alloc: Global,
+    begin: &str,
+) -> Result<Option<ReadRefused>, Fail> {
+    let ops = Ops::initial(alloc)?;
+    let mut text = String::from_str(alloc, begin)?;
     for _ in 0..65535 {
         text.push_str("a,")?;
     }
-    let found = read_from(&rt, rt.alloc(), text.as_str(), 0, &ops, DoubleQuotes::Codes);
-    let want = ReadRefused::Syntax {
-        line: 1,
-        column: 4,
-        kind: FaultKind::TooManyArguments,
-    };
-    assert_eq!(&rt; found.err(), Some(want));
+    let found = read_from(rt, alloc, text.as_str(), 0, &ops, DoubleQuotes::Codes);
+    Ok(found.err())
+}
+
+#[test]
+fn too_many_arguments(rt: HostRuntime) -> Result<(), Fail> {
+    // Round brackets behind an operator hold one term, however many commas it has.
+    let cases = [
+        ("g- f(", 4, FaultKind::TooManyArguments),
+        ("h(b,'f'(", 5, FaultKind::TooManyArguments),
+        ("h([ ](", 3, FaultKind::TooManyArguments),
+        ("b-(", 131_074, FaultKind::UnexpectedEnd),
+        ("[", 131_072, FaultKind::UnexpectedEnd),
+    ];
+    for (begin, column, kind) in cases {
+        let want = ReadRefused::Syntax {
+            line: 1,
+            column,
+            kind,
+        };
+        let found = refusal_of_many(&rt, rt.alloc(), begin)?;
+        assert_eq!(&rt; found, Some(want), "{begin}");
+    }
     Ok(())
 }

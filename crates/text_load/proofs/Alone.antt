@@ -1,17 +1,19 @@
--- A text loads to one job, or has a fault.
-use Rattle.std.proofs.Common.{◌≡◌, ◌∙◌, ℕ, Bool, true, false, List, [], ◌∷◌, refl, sym, ap, ap₂, subst}
+-- A text loads to one job, or has one first fault.
+use Rattle.std.proofs.Common.{◌≡◌, ◌∙◌, ℕ, Bool, true, List, [], ◌∷◌, ◌++◌, refl, sym, ap, ap₂, subst}
+use Rattle.std.proofs.lemmas.List.{append_cancel_right}
 use Rattle.au_model.specs.Jobs.{Job}
-use Rattle.au_model.specs.Layout.{begins_layout}
-use Rattle.au_model.specs.Lexemes.{Token, token, End, front, tokens_of, scanned_word, ScannedNone}
-use Rattle.au_model.specs.Spelling.{Operand}
-use Rattle.au_model.specs.Tokens.{Lexed, FoundWord, FoundFault, Word, NameWord, QuotedWord, VariableWord, IntegerWord, TextWord, MarkWord, StopWord, LastWord, next_word}
+use Rattle.au_model.specs.Layout.{Gap, GapThen, begins_layout, behind_layout}
+use Rattle.au_model.specs.Lexemes.{tokens_of, scanned_word, ScannedNone}
+use Rattle.au_model.specs.Tokens.{Lexed, FoundWord, FoundFault, NameWord, QuotedWord, VariableWord, IntegerWord, TextWord, MarkWord, StopWord, LastWord, next_word}
 use Rattle.au_model.specs.TermTexts.{SpellsTermWithEnd, is_last, is_over}
 use Rattle.au_model.specs.Trees.{Tree}
 use Rattle.au_model.specs.declared.fault_kind.FaultKind.{FaultKind}
 use Rattle.term_reader.proofs.Fronts.{tokens-none}
+use Rattle.term_reader.proofs.Firsts.{same-fault}
 use Rattle.term_reader.proofs.Unique.{same_reading}
-use Rattle.text_load.specs.Sentences.{Sentence, ClauseSentence, QuerySentence, NoSentence, sentence, IsSentence}
-use Rattle.text_load.specs.Texts.{Sentences, no_more, one_more, FirstFault, unread, no_sentence, further, LoadsTo, job_of, first_setting}
+use Rattle.term_reader.specs.TextFaults.{line_after, column_after}
+use Rattle.text_load.specs.Sentences.{Sentence, NoSentence, sentence, IsSentence}
+use Rattle.text_load.specs.Texts.{Sentences, no_more, one_more, FirstFault, unread, no_sentence, further, LoadsTo, IsRefused, job_of, first_setting}
 use Rattle.text_load.proofs.Going.{no_operand}
 
 -- where nothing but layout is left, no term is spelled
@@ -56,3 +58,28 @@ no_fault cs from (x ∷ xs) kind (one_more h s more) (unread left none fault) = 
 no_fault cs from (x ∷ xs) kind (one_more h s more) (no_sentence k bad place) = is_bad _ kind (ap sentence (one_tree cs _ _ _ _ h k) ∙ bad) s
 no_fault cs from (x ∷ xs) kind (one_more h s more) (further k z fault) =
     no_fault _ from xs kind more (subst (λ r. FirstFault r kind from) (sym (one_rest cs _ _ _ _ h k)) fault)
+
+-- ---- the first fault
+
+same_kind : (x : Sentence) (j k : FaultKind) → x ≡ NoSentence j → x ≡ NoSentence k → j ≡ k
+same_kind x j k e f = cc
+
+same_place : (g : Gap) (us vs : List ℕ) → g ≡ GapThen us → g ≡ GapThen vs → us ≡ vs
+same_place g us vs e f = cc
+
+one_fault : (cs us vs : List ℕ) (j k : FaultKind) → FirstFault cs j us → FirstFault cs k vs → (j ≡ k) × (us ≡ vs)
+one_fault cs us vs j k (unread more none fault) (unread left nothing other) = same-fault first_setting cs us vs j k fault other
+one_fault cs us vs j k (unread more none fault) (no_sentence h bad place) = absurd (none _ _ h)
+one_fault cs us vs j k (unread more none fault) (further h s other) = absurd (none _ _ h)
+one_fault cs us vs j k (no_sentence h bad place) (unread more none fault) = absurd (none _ _ h)
+one_fault cs us vs j k (no_sentence {t = t} h bad place) (no_sentence i worse there) = (same_kind (sentence t) j k bad (ap sentence (one_tree cs _ _ _ _ h i) ∙ worse), same_place (behind_layout cs) us vs place there)
+one_fault cs us vs j k (no_sentence h bad place) (further i s other) = absurd (is_bad _ j (ap sentence (one_tree cs _ _ _ _ i h) ∙ bad) s)
+one_fault cs us vs j k (further h s fault) (unread more none other) = absurd (none _ _ h)
+one_fault cs us vs j k (further h s fault) (no_sentence i bad place) = absurd (is_bad _ k (ap sentence (one_tree cs _ _ _ _ h i) ∙ bad) s)
+one_fault cs us vs j k (further h s fault) (further i z other) = one_fault _ us vs j k fault (subst (λ r. FirstFault r k vs) (sym (one_rest cs _ _ _ _ h i)) other)
+
+pub one_refusal : (text : List ℕ) (line column other_line other_column : ℕ) (kind other : FaultKind) → IsRefused text line column kind → IsRefused text other_line other_column other → (line ≡ other_line) × (column ≡ other_column) × (kind ≡ other)
+one_refusal text line column other_line other_column kind other h i =
+    let same = one_fault text h.from i.from kind other h.fault i.fault in
+    let before = append_cancel_right h.before i.before i.from (ap (λ cs. h.before ++ cs) (sym same.1) ∙ (sym h.splits ∙ i.splits)) in
+    (h.line_is ∙ (ap line_after before ∙ sym i.line_is), h.column_is ∙ (ap column_after before ∙ sym i.column_is), same.0)

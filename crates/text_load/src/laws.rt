@@ -3,10 +3,11 @@ ghost use Rattle.std.specs.Prelude.{◌≡◌, ℕ, List};
 ghost use Rattle.au_model.specs.Jobs.{Job};
 ghost use Rattle.au_model.specs.declared.fault_kind.FaultKind.{FaultKind};
 ghost use Rattle.text_load.specs.Sentences.{Sentence};
-ghost use Rattle.text_load.specs.Texts.{FirstFault, LoadsTo, Sentences};
+ghost use Rattle.text_load.specs.Texts.{FirstFault, IsRefused, LoadsTo, Sentences};
 
-/// A text loads to one job at most, and a text of sentences has no fault.
+/// A text loads to one job at most, a text of sentences has no fault, and the first fault of another text is one.
 pub fn texts_load_to_one_job()
     ensures one { (library text : List ℕ) (job other : Job) → LoadsTo library text job → LoadsTo library text other → job ≡ other }
     ensures none { (text from : List ℕ) (xs : List Sentence) (kind : FaultKind) → Sentences text xs → FirstFault text kind from → ⊥ }
+    ensures refused { (text : List ℕ) (line column other_line other_column : ℕ) (kind other : FaultKind) → IsRefused text line column kind → IsRefused text other_line other_column other → (line ≡ other_line) × (column ≡ other_column) × (kind ≡ other) }
 {}

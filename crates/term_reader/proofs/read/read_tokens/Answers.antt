@@ -1,10 +1,9 @@
-use Rattle.std.proofs.Common.{◌∷◌, [], false, refl, sym, subst, arith}
+use Rattle.std.proofs.Common.{[], false, refl, sym, subst, arith}
 use Rattle.term_reader.specs.Begun.{setting_of}
 use Rattle.token_scan.specs.Parts.{IsPlaceFrom}
 use Rattle.term_reader.specs.Positions.{Due, Led, Outcome, Moves}
-use Rattle.term_reader.specs.Refusing.{RefusesWell, ArePlaces}
+use Rattle.term_reader.specs.Refusing.{RefusesWell}
 use Rattle.term_reader.proofs.Ledger.{led-start, led-then}
-use Rattle.term_reader.proofs.Taking.{places-moved}
 use Rattle.term_reader.proofs.Readings.{spelled, no_term}
 use Rattle.term_reader.proofs.read.read_tokens.Goals as goal
 
@@ -29,7 +28,7 @@ returns-in-Refused c =
     let here = c.tokens.state.at in
     let i = c.tokens.invariant in
     let o = subst (λ t. Outcome s text i.position here c.turn_at.new.state t) c.in-Refused.is (c.in_ok-next.ensures.outcome i.position i.stands i.phase_is) in
-    let f = subst (λ t. RefusesWell s text c.args.at t) c.in-Refused.is (c.in_ok-next.ensures.fault c.args.at i.position i.stands i.phase_is i.led i.places) in
+    let f = subst (λ t. RefusesWell s text c.args.at t) c.in-Refused.is (c.in_ok-next.ensures.fault c.args.at i.position i.stands i.phase_is i.led) in
     (no_term s text c.args.at here i.position c.tokens.doubt i.led o, f)
 
 pub tokens-init : goal.tokens-init
@@ -43,7 +42,6 @@ tokens-init c =
       stands = c.new-state.ensures.stands;
       phase_is = refl;
       led = subst (λ n. Led s text c.args.at (Due []) n false) e (led-start s text c.args.at);
-      places = subst (ArePlaces s text c.args.at c.new-state.result.at) (sym c.new-state.ensures.empty) tt;
     }
 
 pub tokens-preserved : goal.tokens-preserved
@@ -60,5 +58,4 @@ tokens-preserved c =
       stands = w.stands;
       phase_is = w.phase_is;
       led = led-then s text c.args.at here c.turn_at.new.state.at c.tokens.doubt c.in-On.lone i.position w.new i.led i.stands.kept w.leads;
-      places = places-moved s text c.args.at here c.turn_at.new.state.at (w.leads.first ∷ w.leads.over) w.leads.scans c.turn_at.new.state.frames.items (c.in_ok-next.ensures.places c.args.at i.led.read i.led.scans i.places);
     }

@@ -2,7 +2,6 @@ use Rattle.std.proofs.Common.{◌≡◌, ◌-◌, length}
 use Rattle.token_scan.specs.Parts.{IsPlaceFrom}
 use Rattle.term_reader.specs.Begun.{setting_of}
 use Rattle.term_reader.specs.Positions.{Position, Stands, Led, phase_of}
-use Rattle.term_reader.specs.Refusing.{ArePlaces}
 use Rattle.term_reader.proofs.read.read_tokens.Given as goal
 
 abbrev pub invariant-tokens : goal.invariant-tokens
@@ -12,7 +11,6 @@ invariant-tokens l = record {
   stands : Stands l.state position;
   phase_is : l.phase ≡ phase_of position;
   led : Led (setting_of l.source) l.source.text.now l.at position l.state.at l.doubt;
-  places : ArePlaces (setting_of l.source) l.source.text.now l.at l.state.at l.state.frames.items;
 }
 
 abbrev pub decreases-tokens : goal.decreases-tokens

@@ -16,4 +16,4 @@ returns c = λ start k l p at h.
     let text = c.args.source.text.now in
     let x = lexeme_meant c.args.lexeme.now in
     found-fault s text start at _ h.apart x c.args.place c.unexpected.result h.found h.starts
-    (stuck-here s text start at c.args.end k l p c.args.doubt h.apart x h.led h.kept h.low h.found h.refused (sym c.is_held.ensures ∙ c.if-is_held.false)) c.unexpected.ensures.at c.unexpected.ensures.kind
+    (stuck-here s text start at c.args.end k l p c.args.doubt h.apart x h.led h.kept h.low h.found h.refused (sym c.is_held.ensures ∙ c.if-is_held.false) h.few) c.unexpected.ensures.at c.unexpected.ensures.kind

@@ -1,4 +1,4 @@
-use Rattle.std.proofs.Common.{ℕ, List, ◌≡◌, ◌∙◌, true, false, ◌∷◌, Some, refl, sym, ap, subst}
+use Rattle.std.proofs.Common.{◌≡◌, ◌∙◌, true, false, ◌∷◌, Some, refl, sym, ap, subst}
 use Rattle.std.proofs.lemmas.Result.{IfOk-weaker}
 use Rattle.au_term.specs.declared.cell.Cell.TheVariants.{Functor}
 use Rattle.au_model.specs.Joints.{joint_fits}
@@ -13,12 +13,8 @@ use Rattle.term_reader.specs.Sheets.{put_tree, put_cell}
 use Rattle.term_reader.specs.Kept.{IsSheetOf}
 use Rattle.au_model.specs.Lexemes.{token, Close}
 use Rattle.term_reader.specs.Meant.{IsStart}
-use Rattle.term_reader.specs.Refusing.{ArePlaces}
-use Rattle.term_reader.specs.declared.state.Frame.{Frame}
-use Rattle.term_reader.specs.declared.state.Frame.TheVariants as frame
 use Rattle.term_reader.specs.Positions.{There, Led, Outcome}
 use Rattle.term_reader.proofs.Held.{on-well}
-use Rattle.term_reader.proofs.Taking.{places-push}
 use Rattle.term_reader.specs.Settling.{IsFree}
 use Rattle.term_reader.specs.declared.steps.Turn.TheVariants.{On}
 use Rattle.term_reader.proofs.Moving.{first-joint, outcome-same, pushed, infix-leads, postfix-leads, fits-bound}
@@ -33,7 +29,7 @@ returns-then-not-fits-clause-outcome c = λ k l st.
     let fj = first-joint s.ops _ _ c.args.found.apart x c.requires.next ∙ sym c.joint_of-joint.ensures in
     let free = subst (λ b. IsFree z.below c.in_ok-last.last j b) c.if-not-fits.true z.free in
     let inner = c.close.ensures.outcome z.below z.tree c.in_ok-last.last z.stands free.1 (subst (λ i. joint_fits (bound_of z.below) c.in_ok-last.last i ≡ false) c.joint_of-joint.ensures free.0) in
-    IfOk-weaker c.close.result _ _ (λ t w. outcome-same s c.args.source.text.now j k z.below l z.tree c.args.priority c.in_ok-last.last c.args.state.now.at c.close.new.state t z.same fj
+    IfOk-weaker c.close.result _ _ (λ t w. outcome-same s c.args.source.text.now j k z.below l z.tree c.args.priority c.in_ok-last.last c.args.state.now.at c.close.new.state t z.same z.nests fj
     (subst (λ m. Outcome s c.args.source.text.now (There z.below z.tree c.in_ok-last.last) m c.close.new.state t) c.in_ok-last.ensures.at w)) inner
 
 pub returns-in_ok-name-in-Infix-clause-outcome : goal.returns-in_ok-name-in-Infix-clause-outcome
@@ -50,7 +46,7 @@ returns-in_ok-name-in-Infix-clause-outcome c = λ k l st.
     let free = subst (λ b. IsFree z.below q j b) c.if-not-fits.false z.free in
     let fits = subst (λ i. joint_fits (bound_of z.below) q i ≡ true) (ap (joint_meant n) c.in-Infix.is) free in
     let is = sym c.joint_of-joint.ensures ∙ ap (joint_meant n) c.in-Infix.is in
-    IfOk-weaker c.open.result _ _ (λ t d. outcome-same s c.args.source.text.now j k z.below l z.tree c.args.priority q at c.open.new.state t z.same fj
+    IfOk-weaker c.open.result _ _ (λ t d. outcome-same s c.args.source.text.now j k z.below l z.tree c.args.priority q at c.open.new.state t z.same z.nests fj
     (pushed s c.args.source.text.now (There z.below z.tree q) at _ c.open.new.state _ (stack.InfixOf n o z.tree) z.below c.args.found.end t d z.stands.shapes (ap (λ m. InfixShape m o) c.in_ok-name-in-Infix.ensures) z.stands.sheet
     (fits-bound c.args.source at c.args.found.end z.below z.tree q c.args.found.apart x n o fits, z.stands.kept)
     (infix-leads c.args.source at c.args.found.end z.below z.tree q c.args.found.apart x n o c.requires.next is fits z.stands.low))) c.open.ensures
@@ -71,7 +67,7 @@ returns-in_ok-compound-in-Postfix-clause-outcome c = λ k l st.
     let is = sym c.joint_of-joint.ensures ∙ ap (joint_meant n) c.in-Postfix.is in
     let sheet = subst (λ m. IsSheetOf c.compound.new.self (put_cell (put_tree (put_stack z.below) z.tree) (Functor m 1))) c.in_ok-name-in-Postfix.ensures
     (c.in_ok-compound-in-Postfix.ensures (put_tree (put_stack z.below) z.tree) z.stands.sheet) in
-    outcome-same s c.args.source.text.now j k z.below l z.tree c.args.priority q at _ (On (Some o.priority) false) z.same fj (record {
+    outcome-same s c.args.source.text.now j k z.below l z.tree c.args.priority q at _ (On (Some o.priority) false) z.same z.nests fj (record {
       new = There z.below (one n z.tree) o.priority;
       stands = record { shapes = z.stands.shapes; sheet = sheet; kept = z.stands.kept; low = fits-bound c.args.source at c.args.found.end z.below z.tree q c.args.found.apart x n o fits };
       phase_is = refl;
@@ -92,7 +88,7 @@ returns-in-Nothing-clause-outcome c = λ k l st.
     false_true (subst (λ i. joint_fits (bound_of z.below) q i ≡ true) (ap (joint_meant n) c.in-Nothing.is) free)
 
 pub returns-then-not-fits-clause-fault : goal.returns-then-not-fits-clause-fault
-returns-then-not-fits-clause-fault c = λ first k l st led starts places.
+returns-then-not-fits-clause-fault c = λ first k l st led starts.
     let s = setting_of c.args.source in
     let text = c.args.source.text.now in
     let x = lexeme_meant c.args.found.lexeme in
@@ -101,34 +97,25 @@ returns-then-not-fits-clause-fault c = λ first k l st led starts places.
     let free = subst (λ b. IsFree z.below c.in_ok-last.last j b) c.if-not-fits.true z.free in
     let stops = subst (λ i. joint_fits (bound_of z.below) c.in_ok-last.last i ≡ false) c.joint_of-joint.ensures free.0 in
     let at = sym c.in_ok-last.ensures.at in
+    let moved : Led s text first (There k l c.args.priority) c.settle.new.self.at c.args.doubt = subst (λ n. Led s text first (There k l c.args.priority) n c.args.doubt) at led in
     c.close.ensures.fault first z.below z.tree c.in_ok-last.last z.stands free.1 stops (record {
       stack = k;
       tree = l;
       priority = c.args.priority;
-      led = subst (λ n. Led s text first (There k l c.args.priority) n c.args.doubt) at led;
+      led = moved;
       kept = st.kept;
       low = st.low;
       passes = λ more goal g. z.same.to (token c.args.found.apart x ∷ more) goal (sym c.joint_of-joint.ensures) g;
       closes = λ more goal g. z.apart.back (token false Close ∷ more) goal refl g;
-    }) (subst (λ n. IsStart text n c.args.found.start) at starts) (subst (λ n. ArePlaces s text first n c.settle.new.self.frames.items) at (c.in_ok-last.ensures.places (setting_of c.args.source) c.args.source.text.now first c.args.state.now.at places))
-
-pub returns-then-not-fits-clause-places : goal.returns-then-not-fits-clause-places
-returns-then-not-fits-clause-places c = λ first h.
-    let P : ℕ → List Frame → Type 0 = λ n xs. ArePlaces (setting_of c.args.source) c.args.source.text.now first n xs in
-    IfOk-weaker c.close.result _ _ (λ t p. subst (λ n. P n c.close.new.state.frames.items) c.in_ok-last.ensures.at p)
-    (c.close.ensures.places first (subst (λ n. P n c.settle.new.self.frames.items) (sym c.in_ok-last.ensures.at) (c.in_ok-last.ensures.places (setting_of c.args.source) c.args.source.text.now first c.args.state.now.at h)))
+      nests = z.nests text first moved.read moved.nests;
+    }) (subst (λ n. IsStart text n c.args.found.start) at starts)
 
 pub returns-in_ok-name-in-Infix-clause-fault : goal.returns-in_ok-name-in-Infix-clause-fault
-returns-in_ok-name-in-Infix-clause-fault c = λ first k l st led starts places.
+returns-in_ok-name-in-Infix-clause-fault c = λ first k l st led starts.
     IfOk-weaker c.open.result _ _ (λ t d. on-well (setting_of c.args.source) c.args.source.text.now first _ _ t d.turn) c.open.ensures
 
-pub returns-in_ok-name-in-Infix-clause-places : goal.returns-in_ok-name-in-Infix-clause-places
-returns-in_ok-name-in-Infix-clause-places c = λ first h.
-    let text = c.args.source.text.now in
-    IfOk-weaker c.open.result _ _ (λ t d. subst (ArePlaces (setting_of c.args.source) c.args.source.text.now first c.args.state.now.at) (sym d.frames) (places-push (setting_of c.args.source) c.args.source.text.now first c.args.state.now.at _ (frame.Infix _ c.in-Infix.operator) (c.in_ok-last.ensures.places (setting_of c.args.source) c.args.source.text.now first c.args.state.now.at h) tt)) c.open.ensures
-
 pub returns-in-Nothing-clause-fault : goal.returns-in-Nothing-clause-fault
-returns-in-Nothing-clause-fault c = λ first k l st led starts places.
+returns-in-Nothing-clause-fault c = λ first k l st led starts.
     let x = lexeme_meant c.args.found.lexeme in
     let n = joint_name x in
     let j = joint_meant n c.joint_of-joint.result in
@@ -136,12 +123,3 @@ returns-in-Nothing-clause-fault c = λ first k l st led starts places.
     let z = c.in_ok-last.ensures.settled (setting_of c.args.source) k l n st in
     let free = subst (λ b. IsFree z.below q j b) c.if-not-fits.false z.free in
     false_true (subst (λ i. joint_fits (bound_of z.below) q i ≡ true) (ap (joint_meant n) c.in-Nothing.is) free)
-
-pub returns-in-Nothing-clause-places : goal.returns-in-Nothing-clause-places
-returns-in-Nothing-clause-places c = λ first h.
-    let P : ℕ → List Frame → Type 0 = λ n xs. ArePlaces (setting_of c.args.source) c.args.source.text.now first n xs in
-    IfOk-weaker c.close-in-Nothing.result _ _ (λ t p. subst (λ n. P n c.close-in-Nothing.new.state.frames.items) c.in_ok-last.ensures.at p)
-    (c.close-in-Nothing.ensures.places first (subst (λ n. P n c.settle.new.self.frames.items) (sym c.in_ok-last.ensures.at) (c.in_ok-last.ensures.places (setting_of c.args.source) c.args.source.text.now first c.args.state.now.at h)))
-
-pub returns-in_ok-compound-in-Postfix-clause-places : goal.returns-in_ok-compound-in-Postfix-clause-places
-returns-in_ok-compound-in-Postfix-clause-places c = λ first h. c.in_ok-last.ensures.places (setting_of c.args.source) c.args.source.text.now first c.args.state.now.at h

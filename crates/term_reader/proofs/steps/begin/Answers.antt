@@ -1,4 +1,4 @@
-use Rattle.std.proofs.Common.{◌≤◌, nat_le, false, [], refl, sym, ap, subst, arith}
+use Rattle.std.proofs.Common.{◌≤◌, nat_le, false, [], refl, ap, subst, arith}
 use Rattle.std.proofs.lemmas.Result.{IfOk-weaker}
 use Rattle.au_model.specs.Trees.{AtomTree}
 use Rattle.op_table.specs.Meant.{operator_meant}
@@ -8,13 +8,8 @@ use Rattle.term_reader.specs.Stack.{bound_of}
 use Rattle.term_reader.specs.Starting.{Starts}
 use Rattle.term_reader.proofs.Moving.{moved, pushed, put-down, plain-leads, alone-leads, round-leads, curly-leads, list-leads, call-leads, prefix-leads}
 use Rattle.term_reader.proofs.Turns.{fails, prefix_within}
-use Rattle.au_model.specs.Characters.{chars_from}
-use Rattle.term_reader.specs.Looks.{none}
-use Rattle.term_reader.specs.Refusing.{ArePlaces}
-use Rattle.term_reader.specs.declared.state.Frame.TheVariants as frame
 use Rattle.term_reader.proofs.Held.{on-well}
 use Rattle.term_reader.proofs.Highs.{stuck-fails}
-use Rattle.term_reader.proofs.Taking.{places-push}
 use Rattle.term_reader.proofs.steps.begin.Goals as goal
 
 pub returns-in-Leaf-clause-moves : goal.returns-in-Leaf-clause-moves
@@ -23,7 +18,7 @@ returns-in-Leaf-clause-moves c =
     IfOk-weaker c.put.result _ _ (λ t d. moved c.args.source.text.now c.args.state.now.at c.in-Leaf.behind c.put.new.state _ _ t d.turn d.at h.ends.place) c.put.ensures
 
 pub returns-in-Leaf-clause-outcome : goal.returns-in-Leaf-clause-outcome
-returns-in-Leaf-clause-outcome c = λ k st.
+returns-in-Leaf-clause-outcome c = λ k st b.
     let h = subst (Starts c.args.source c.args.state.now.at) c.in-Leaf.is c.requires in
     IfOk-weaker c.put.result _ _ (λ t d. put-down (setting_of c.args.source) c.args.source.text.now k c.args.state.now.at _ c.put.new.state (leaf_tree c.args.source.quotes c.in-Leaf.leaf) c.in-Leaf.behind false t d st
     (plain-leads c.args.source c.args.state.now.at c.in-Leaf.behind k c.in-Leaf.leaf h)) c.put.ensures
@@ -34,7 +29,7 @@ returns-in-Round-clause-moves c =
     IfOk-weaker c.open.result _ _ (λ t d. moved c.args.source.text.now c.args.state.now.at c.in-Round.behind c.open.new.state _ _ t d.turn d.at h.ends.place) c.open.ensures
 
 pub returns-in-Round-clause-outcome : goal.returns-in-Round-clause-outcome
-returns-in-Round-clause-outcome c = λ k st.
+returns-in-Round-clause-outcome c = λ k st b.
     let h = subst (Starts c.args.source c.args.state.now.at) c.in-Round.is c.requires in
     IfOk-weaker c.open.result _ _ (λ t d. pushed (setting_of c.args.source) c.args.source.text.now _ c.args.state.now.at _ c.open.new.state _ stack.Round k c.in-Round.behind t d st.shapes refl st.sheet st.kept
     (round-leads c.args.source c.args.state.now.at c.in-Round.behind k h.begins h.ends)) c.open.ensures
@@ -45,7 +40,7 @@ returns-in-Curly-clause-moves c =
     IfOk-weaker c.open-in-Curly.result _ _ (λ t d. moved c.args.source.text.now c.args.state.now.at c.in-Curly.behind c.open-in-Curly.new.state _ _ t d.turn d.at h.ends.place) c.open-in-Curly.ensures
 
 pub returns-in-Curly-clause-outcome : goal.returns-in-Curly-clause-outcome
-returns-in-Curly-clause-outcome c = λ k st.
+returns-in-Curly-clause-outcome c = λ k st b.
     let h = subst (Starts c.args.source c.args.state.now.at) c.in-Curly.is c.requires in
     IfOk-weaker c.open-in-Curly.result _ _ (λ t d. pushed (setting_of c.args.source) c.args.source.text.now _ c.args.state.now.at _ c.open-in-Curly.new.state _ stack.Braces k c.in-Curly.behind t d st.shapes refl st.sheet st.kept
     (curly-leads c.args.source c.args.state.now.at c.in-Curly.behind k h.begins h.ends)) c.open-in-Curly.ensures
@@ -56,7 +51,7 @@ returns-in-List-clause-moves c =
     IfOk-weaker c.open-in-List.result _ _ (λ t d. moved c.args.source.text.now c.args.state.now.at c.in-List.behind c.open-in-List.new.state _ _ t d.turn d.at h.ends.place) c.open-in-List.ensures
 
 pub returns-in-List-clause-outcome : goal.returns-in-List-clause-outcome
-returns-in-List-clause-outcome c = λ k st.
+returns-in-List-clause-outcome c = λ k st b.
     let h = subst (Starts c.args.source c.args.state.now.at) c.in-List.is c.requires in
     IfOk-weaker c.open-in-List.result _ _ (λ t d. pushed (setting_of c.args.source) c.args.source.text.now _ c.args.state.now.at _ c.open-in-List.new.state _ (stack.ItemOf []) k c.in-List.behind t d st.shapes refl st.sheet st.kept
     (list-leads c.args.source c.args.state.now.at c.in-List.behind k h.begins h.ends)) c.open-in-List.ensures
@@ -67,10 +62,10 @@ returns-in-Call-clause-moves c =
     IfOk-weaker c.open-in-Call.result _ _ (λ t d. moved c.args.source.text.now c.args.state.now.at c.in-Call.behind c.open-in-Call.new.state _ _ t d.turn d.at h.ends.place) c.open-in-Call.ensures
 
 pub returns-in-Call-clause-outcome : goal.returns-in-Call-clause-outcome
-returns-in-Call-clause-outcome c = λ k st.
+returns-in-Call-clause-outcome c = λ k st b.
     let h = subst (Starts c.args.source c.args.state.now.at) c.in-Call.is c.requires in
-    IfOk-weaker c.open-in-Call.result _ _ (λ t d. pushed (setting_of c.args.source) c.args.source.text.now _ c.args.state.now.at _ c.open-in-Call.new.state _ (stack.ArgumentOf c.in-Call.name []) k c.in-Call.behind t d st.shapes refl st.sheet (omega arith, st.kept)
-    (call-leads c.args.source c.args.state.now.at c.in-Call.behind k c.in-Call.name h.begins h.ends)) c.open-in-Call.ensures
+    IfOk-weaker c.open-in-Call.result _ _ (λ t d. pushed (setting_of c.args.source) c.args.source.text.now _ c.args.state.now.at _ c.open-in-Call.new.state _ (stack.ArgumentOf c.in-Call.name c.args.start []) k c.in-Call.behind t d st.shapes refl st.sheet (omega arith, st.kept)
+    (call-leads c.args.source c.args.state.now.at c.in-Call.behind k c.in-Call.name c.args.start b h.begins h.ends)) c.open-in-Call.ensures
 
 pub returns-in-Alone-clause-moves : goal.returns-in-Alone-clause-moves
 returns-in-Alone-clause-moves c =
@@ -78,19 +73,19 @@ returns-in-Alone-clause-moves c =
     IfOk-weaker c.put-in-Alone.result _ _ (λ t d. moved c.args.source.text.now c.args.state.now.at c.in-Alone.behind c.put-in-Alone.new.state _ _ t d.turn d.at h.ends.place) c.put-in-Alone.ensures
 
 pub returns-in-Alone-clause-outcome : goal.returns-in-Alone-clause-outcome
-returns-in-Alone-clause-outcome c = λ k st.
+returns-in-Alone-clause-outcome c = λ k st b.
     let h = subst (Starts c.args.source c.args.state.now.at) c.in-Alone.is c.requires in
     IfOk-weaker c.put-in-Alone.result _ _ (λ t d. put-down (setting_of c.args.source) c.args.source.text.now k c.args.state.now.at _ c.put-in-Alone.new.state (AtomTree c.in-Alone.name) c.in-Alone.behind _ t d st
     (alone-leads c.args.source c.args.state.now.at c.in-Alone.behind k c.in-Alone.name c.in-Alone.operator _ h (ap (λ n. nat_le c.in-Alone.operator.priority n) (c.bound.ensures k st.shapes)))) c.put-in-Alone.ensures
 
 pub returns-then-operator-bound-clause-outcome : goal.returns-then-operator-bound-clause-outcome
-returns-then-operator-bound-clause-outcome c = λ k st goal w.
+returns-then-operator-bound-clause-outcome c = λ k st b goal w.
     let h = subst (Starts c.args.source c.args.state.now.at) c.in-Prefix.is c.requires in
     let le = prefix_within (setting_of c.args.source) (tokens_at c.args.source c.args.state.now.at) (tokens_at c.args.source c.in-Prefix.behind) c.in-Prefix.name (operator_meant c.in-Prefix.operator) h.begins w in
     absurd (omega (arith, le, c.bound-in-Prefix.ensures k st.shapes, c.if-operator-bound.true))
 
 pub returns-else-operator-bound-clause-outcome : goal.returns-else-operator-bound-clause-outcome
-returns-else-operator-bound-clause-outcome c = λ k st.
+returns-else-operator-bound-clause-outcome c = λ k st b.
     let h = subst (Starts c.args.source c.args.state.now.at) c.in-Prefix.is c.requires in
     let o = operator_meant c.in-Prefix.operator in
     let low : o.priority ≤ bound_of k = omega (arith, c.bound-in-Prefix.ensures k st.shapes, c.if-operator-bound.false) in
@@ -98,7 +93,7 @@ returns-else-operator-bound-clause-outcome c = λ k st.
     (prefix-leads c.args.source c.args.state.now.at c.in-Prefix.behind k c.in-Prefix.name o h.begins h.ends)) c.open-in-Prefix.ensures
 
 pub returns-in-Fails-clause-outcome : goal.returns-in-Fails-clause-outcome
-returns-in-Fails-clause-outcome c = λ k st goal w.
+returns-in-Fails-clause-outcome c = λ k st b goal w.
     let h = subst (Starts c.args.source c.args.state.now.at) c.in-Fails.is c.requires in
     fails (setting_of c.args.source) (tokens_at c.args.source c.args.state.now.at) h.begins w
 
@@ -106,64 +101,29 @@ pub returns-in-Leaf-clause-fault : goal.returns-in-Leaf-clause-fault
 returns-in-Leaf-clause-fault c = λ first doubt k st led held.
     IfOk-weaker c.put.result _ _ (λ t d. on-well (setting_of c.args.source) c.args.source.text.now first _ _ t d.turn) c.put.ensures
 
-pub returns-in-Leaf-clause-places : goal.returns-in-Leaf-clause-places
-returns-in-Leaf-clause-places c = λ first read scans b h. IfOk-weaker c.put.result _ _ (λ t d. subst (ArePlaces (setting_of c.args.source) c.args.source.text.now first c.args.state.now.at) (sym d.frames) h) c.put.ensures
-
 pub returns-in-Alone-clause-fault : goal.returns-in-Alone-clause-fault
 returns-in-Alone-clause-fault c = λ first doubt k st led held.
     IfOk-weaker c.put-in-Alone.result _ _ (λ t d. on-well (setting_of c.args.source) c.args.source.text.now first _ _ t d.turn) c.put-in-Alone.ensures
-
-pub returns-in-Alone-clause-places : goal.returns-in-Alone-clause-places
-returns-in-Alone-clause-places c = λ first read scans b h. IfOk-weaker c.put-in-Alone.result _ _ (λ t d. subst (ArePlaces (setting_of c.args.source) c.args.source.text.now first c.args.state.now.at) (sym d.frames) h) c.put-in-Alone.ensures
 
 pub returns-in-Round-clause-fault : goal.returns-in-Round-clause-fault
 returns-in-Round-clause-fault c = λ first doubt k st led held.
     IfOk-weaker c.open.result _ _ (λ t d. on-well (setting_of c.args.source) c.args.source.text.now first _ _ t d.turn) c.open.ensures
 
-pub returns-in-Round-clause-places : goal.returns-in-Round-clause-places
-returns-in-Round-clause-places c = λ first read scans b h. IfOk-weaker c.open.result _ _ (λ t d. subst (ArePlaces (setting_of c.args.source) c.args.source.text.now first c.args.state.now.at) (sym d.frames) (places-push (setting_of c.args.source) c.args.source.text.now first c.args.state.now.at c.args.state.now.frames.items (frame.Round) h tt)) c.open.ensures
-
 pub returns-in-Curly-clause-fault : goal.returns-in-Curly-clause-fault
 returns-in-Curly-clause-fault c = λ first doubt k st led held.
     IfOk-weaker c.open-in-Curly.result _ _ (λ t d. on-well (setting_of c.args.source) c.args.source.text.now first _ _ t d.turn) c.open-in-Curly.ensures
-
-pub returns-in-Curly-clause-places : goal.returns-in-Curly-clause-places
-returns-in-Curly-clause-places c = λ first read scans b h. IfOk-weaker c.open-in-Curly.result _ _ (λ t d. subst (ArePlaces (setting_of c.args.source) c.args.source.text.now first c.args.state.now.at) (sym d.frames) (places-push (setting_of c.args.source) c.args.source.text.now first c.args.state.now.at c.args.state.now.frames.items (frame.Curly) h tt)) c.open-in-Curly.ensures
 
 pub returns-in-List-clause-fault : goal.returns-in-List-clause-fault
 returns-in-List-clause-fault c = λ first doubt k st led held.
     IfOk-weaker c.open-in-List.result _ _ (λ t d. on-well (setting_of c.args.source) c.args.source.text.now first _ _ t d.turn) c.open-in-List.ensures
 
-pub returns-in-List-clause-places : goal.returns-in-List-clause-places
-returns-in-List-clause-places c = λ first read scans b h. IfOk-weaker c.open-in-List.result _ _ (λ t d. subst (ArePlaces (setting_of c.args.source) c.args.source.text.now first c.args.state.now.at) (sym d.frames) (places-push (setting_of c.args.source) c.args.source.text.now first c.args.state.now.at c.args.state.now.frames.items (frame.Item 0) h tt)) c.open-in-List.ensures
-
 pub returns-in-Call-clause-fault : goal.returns-in-Call-clause-fault
 returns-in-Call-clause-fault c = λ first doubt k st led held.
     IfOk-weaker c.open-in-Call.result _ _ (λ t d. on-well (setting_of c.args.source) c.args.source.text.now first _ _ t d.turn) c.open-in-Call.ensures
 
-pub returns-in-Call-clause-places : goal.returns-in-Call-clause-places
-returns-in-Call-clause-places c = λ first read scans b h.
-    let o = subst (Starts c.args.source c.args.state.now.at) c.in-Call.is c.requires in
-    let text = c.args.source.text.now in
-    IfOk-weaker c.open-in-Call.result _ _ (λ t d. subst (ArePlaces (setting_of c.args.source) c.args.source.text.now first c.args.state.now.at) (sym d.frames) (places-push (setting_of c.args.source) c.args.source.text.now first c.args.state.now.at c.args.state.now.frames.items (frame.Argument c.in-Call.name 0 c.args.start) h (record {
-      from = chars_from text c.args.state.now.at;
-      before = read;
-      after = [];
-      args = tokens_at c.args.source c.in-Call.behind;
-      scanned_before = scans;
-      scanned_after = none;
-      layout = b.1;
-      boundary = b.0;
-      called = o.begins;
-    }))) c.open-in-Call.ensures
-
 pub returns-else-operator-bound-clause-fault : goal.returns-else-operator-bound-clause-fault
 returns-else-operator-bound-clause-fault c = λ first doubt k st led held.
     IfOk-weaker c.open-in-Prefix.result _ _ (λ t d. on-well (setting_of c.args.source) c.args.source.text.now first _ _ t d.turn) c.open-in-Prefix.ensures
-
-pub returns-else-operator-bound-clause-places : goal.returns-else-operator-bound-clause-places
-returns-else-operator-bound-clause-places c = λ first read scans b h.
-    IfOk-weaker c.open-in-Prefix.result _ _ (λ t d. subst (ArePlaces (setting_of c.args.source) c.args.source.text.now first c.args.state.now.at) (sym d.frames) (places-push (setting_of c.args.source) c.args.source.text.now first c.args.state.now.at c.args.state.now.frames.items (frame.Prefix c.in-Prefix.name c.in-Prefix.operator) h tt)) c.open-in-Prefix.ensures
 
 pub returns-then-operator-bound-clause-fault : goal.returns-then-operator-bound-clause-fault
 returns-then-operator-bound-clause-fault c = λ first doubt k st led held.

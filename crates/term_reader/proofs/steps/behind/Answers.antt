@@ -23,18 +23,18 @@ returns-in-EndOfText-clause-outcome c = λ k l st goal g.
     nothing-there (setting_of c.args.source) k l c.args.priority (chars_from c.args.source.text.now c.args.state.now.at) (sym c.in_ok-next.ensures.scan ∙ ap (scan_meant c.args.source.text.now) c.in-EndOfText.is) goal g
 
 pub returns-in-Found-clause-fault : goal.returns-in-Found-clause-fault
-returns-in-Found-clause-fault c = λ first k l st led places.
-    c.after.ensures.fault first k l st led (subst (IsScan c.args.source.text.now c.args.state.now.at) c.in-Found.is c.in_ok-next.ensures.place).2 places
+returns-in-Found-clause-fault c = λ first k l st led.
+    c.after.ensures.fault first k l st led (subst (IsScan c.args.source.text.now c.args.state.now.at) c.in-Found.is c.in_ok-next.ensures.place).2
 
 pub returns-in-Bad-clause-fault : goal.returns-in-Bad-clause-fault
-returns-in-Bad-clause-fault c = λ first k l st led places.
+returns-in-Bad-clause-fault c = λ first k l st led.
     let text = c.args.source.text.now in
     let none = sym c.in_ok-next.ensures.scan ∙ ap (scan_meant text) c.in-Bad.is in
     bad-fault (setting_of c.args.source) text first c.args.state.now.at c.in-Bad.bad (subst (IsScan text c.args.state.now.at) c.in-Bad.is c.in_ok-next.ensures.place)
     (stuck-none (setting_of c.args.source) text first c.args.state.now.at (There k l c.args.priority) c.args.doubt led st.kept st.low none)
 
 pub returns-in-EndOfText-clause-fault : goal.returns-in-EndOfText-clause-fault
-returns-in-EndOfText-clause-fault c = λ first k l st led places.
+returns-in-EndOfText-clause-fault c = λ first k l st led.
     let text = c.args.source.text.now in
     let none = sym c.in_ok-next.ensures.scan ∙ ap (scan_meant text) c.in-EndOfText.is in
     end-fault (setting_of c.args.source) text first c.args.state.now.at (subst (IsScan text c.args.state.now.at) c.in-EndOfText.is c.in_ok-next.ensures.place)

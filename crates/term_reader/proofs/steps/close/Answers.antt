@@ -1,14 +1,12 @@
-use Rattle.std.proofs.Common.{◌∙◌, map, sym, ap, subst, arith}
-use Rattle.term_reader.specs.Frames.{frame_meant}
+use Rattle.std.proofs.Common.{◌≡◌, ◌∙◌, [], ◌∷◌, ◌++◌, map, sym, ap, subst, arith}
+use Rattle.term_reader.specs.Frames.{frame_meant, shapes_up}
 use Rattle.term_reader.specs.Meant.{lexeme_meant}
 use Rattle.term_reader.proofs.Turning.{no_items}
 use Rattle.term_reader.proofs.Settled.{no_frames}
-use Rattle.term_reader.proofs.Closing.{is-end_token}
+use Rattle.term_reader.proofs.Closing.{is-end_token, argument-frame, full-frame}
 use Rattle.term_reader.proofs.Closed.{over-ends, over-refuses, over-never}
-use Rattle.term_reader.specs.Refusing.{ArePlaces}
-use Rattle.term_reader.proofs.Taking.{places-last, places-front}
-use Rattle.term_reader.proofs.Held.{not-taken, many-fault, passed-fills}
-use Rattle.term_reader.specs.Begun.{setting_of}
+use Rattle.term_reader.proofs.Held.{not-taken, many-fault}
+use Rattle.term_reader.proofs.Many.{IsFullStack}
 use Rattle.term_reader.proofs.steps.close.Goals as goal
 
 pub returns-clause-moves : goal.returns-clause-moves
@@ -43,13 +41,13 @@ returns-in-None-clause-outcome c = λ k l p st shut stops.
     (λ e. c.in_default.not-End (c.closer_token-token.ensures ∙ e))
 
 pub returns-clause-fault : goal.returns-clause-fault
-returns-clause-fault c = λ first k l p st shut stops passed starts places.
-    let text = c.args.source.text.now in
-    let here = subst (ArePlaces (setting_of c.args.source) text first c.args.state.now.at) c.in-Some.ensures.items places in
+returns-clause-fault c = λ first k l p st shut stops passed starts.
+    let source = c.args.source in
+    let at = c.args.state.now.at in
     let x = lexeme_meant c.args.found.lexeme in
-    let nt = not-taken c.args.source first c.args.state.now.at c.args.doubt c.args.found.apart x k l p c.args.found.start c.args.found.end passed c.requires.next starts in
+    let shapes = sym (ap (map frame_meant) c.in-Some.ensures.items) ∙ st.shapes in
     c.close_frame.ensures.fault first k l p (record {
-      shapes = sym (ap (map frame_meant) c.in-Some.ensures.items) ∙ st.shapes;
+      shapes = shapes;
       sheet = st.sheet;
       kept = st.kept;
       low = st.low;
@@ -61,22 +59,21 @@ returns-clause-fault c = λ first k l p st shut stops passed starts places.
       stops = stops;
     })
     (λ never. (
-      c.in_ok-refused.ensures first passed.stack passed.tree passed.priority c.args.state.now.at (nt never),
-      λ place name e b f. many-fault c.args.source first passed.stack passed.tree passed.priority c.args.state.now.at c.args.doubt x c.args.found.start c.args.found.end (nt never) place name e b (passed-fills (setting_of c.args.source) k passed.stack l passed.tree p passed.priority name passed.closes f),
+      λ spare. c.in_ok-refused.ensures first passed.stack passed.tree passed.priority at
+          (not-taken source first at c.args.found.end c.args.doubt c.args.found.apart x k l p passed c.requires.next never c.args.found.start st.kept shut st.low starts (λ e full. spare (full-frame c.pop.new.self.items c.in-Some.frame k shapes full) e)),
+      λ name n place is many e.
+          let f = argument-frame c.pop.new.self.items k name n place (subst (λ g. map frame_meant (c.pop.new.self.items ++ g ∷ []) ≡ shapes_up k) is shapes) in
+          many-fault source first at c.args.found.end c.args.doubt c.args.found.apart x k l p passed c.requires.next never name place f.0 f.2.below e f.2.is st.kept st.low,
     ))
-    (places-last (setting_of c.args.source) text first c.args.state.now.at c.pop.new.self.items c.in-Some.frame here)
-
-pub returns-clause-places : goal.returns-clause-places
-returns-clause-places c = λ first places.
-    let text = c.args.source.text.now in
-    let here = subst (ArePlaces (setting_of c.args.source) text first c.args.state.now.at) c.in-Some.ensures.items places in
-    c.close_frame.ensures.places first (places-last (setting_of c.args.source) text first c.args.state.now.at c.pop.new.self.items c.in-Some.frame here) (places-front (setting_of c.args.source) text first c.args.state.now.at c.pop.new.self.items c.in-Some.frame here)
 
 pub returns-in-None-clause-fault : goal.returns-in-None-clause-fault
-returns-in-None-clause-fault c = λ first k l p st shut stops passed starts places.
+returns-in-None-clause-fault c = λ first k l p st shut stops passed starts.
+    let source = c.args.source in
+    let at = c.args.state.now.at in
     let x = lexeme_meant c.args.found.lexeme in
     let before = no_items c.args.state.now.frames.items (omega (arith, c.in-None.ensures.cases)) in
     let none = no_frames k (sym (ap (map frame_meant) before) ∙ st.shapes) in
-    c.in_ok-refused.ensures first passed.stack passed.tree passed.priority c.args.state.now.at
-    (not-taken c.args.source first c.args.state.now.at c.args.doubt c.args.found.apart x k l p c.args.found.start c.args.found.end passed c.requires.next starts
-    (over-never c.args.source c.args.state.now.at c.args.found.end p l c.args.found.apart x k none c.requires.next st.low stops (λ e. c.in_default.not-End (c.closer_token-token.ensures ∙ e))))
+    c.in_ok-refused.ensures first passed.stack passed.tree passed.priority at
+    (not-taken source first at c.args.found.end c.args.doubt c.args.found.apart x k l p passed c.requires.next
+    (over-never source at c.args.found.end p l c.args.found.apart x k none c.requires.next st.low stops (λ e. c.in_default.not-End (c.closer_token-token.ensures ∙ e)))
+    c.args.found.start st.kept shut st.low starts (λ e full. subst IsFullStack none full))

@@ -1,14 +1,11 @@
-use Rattle.std.proofs.Common.{◌∙◌, ◌+◌, ◌<◌, refl, sym, subst, arith}
+use Rattle.std.proofs.Common.{◌∙◌, ◌<◌, refl, sym, ap, arith}
 use Rattle.std.proofs.lemmas.Result.{IfOk-weaker}
 use Rattle.term_reader.specs.Frames.{put_stack}
 use Rattle.term_reader.specs.Sheets.{put_tree}
 use Rattle.term_reader.proofs.Closed.{compound-closes, argument-goes_on, argument-refuses, too_many, few_arguments}
 use Rattle.term_reader.specs.declared.state.Frame.TheVariants as frame
-use Rattle.term_reader.specs.Refusing.{ArePlaces}
-use Rattle.term_reader.proofs.Taking.{places-push}
 use Rattle.term_reader.proofs.Closing.{refuses, is-comma}
-use Rattle.term_reader.proofs.Filled.{fills}
-use Rattle.term_reader.specs.Begun.{setting_of}
+use Rattle.term_reader.specs.Following.{closer_of}
 use Rattle.term_reader.proofs.steps.close_argument.Goals as goal
 
 pub returns-then-before-ge65534-clause-outcome : goal.returns-then-before-ge65534-clause-outcome
@@ -16,9 +13,8 @@ returns-then-before-ge65534-clause-outcome c = λ k l p h goal g.
     refuses c.args.source c.args.state.now (frame.Argument c.args.name c.args.before c.args.place) k l p c.args.token c.args.end h (too_many c.args.source c.args.state.now c.args.state.now k l p c.args.token c.args.end c.args.name c.args.before c.args.place h c.in-Comma.is (omega arith)) goal g
 
 pub returns-then-before-ge65534-clause-fault : goal.returns-then-before-ge65534-clause-fault
-returns-then-before-ge65534-clause-fault c = λ first k l p h held b.
-    (held (too_many c.args.source c.args.state.now c.args.state.now k l p c.args.token c.args.end c.args.name c.args.before c.args.place h c.in-Comma.is (omega arith))).1 c.args.place c.args.name (is-comma h.lexeme (sym h.closer ∙ c.in-Comma.is)) b
-    (fills c.args.source c.args.state.now k l p c.args.token c.args.end c.args.name c.args.before c.args.place h (omega arith))
+returns-then-before-ge65534-clause-fault c = λ first k l p h held.
+    (held (too_many c.args.source c.args.state.now c.args.state.now k l p c.args.token c.args.end c.args.name c.args.before c.args.place h c.in-Comma.is (omega arith))).1 c.args.name c.args.before c.args.place refl (omega arith) (is-comma h.lexeme (sym h.closer ∙ c.in-Comma.is))
 
 pub returns-else-before-ge65534-clause-outcome : goal.returns-else-before-ge65534-clause-outcome
 returns-else-before-ge65534-clause-outcome c = λ k l p h.
@@ -38,8 +34,4 @@ returns-in_default-clause-outcome c = λ k l p h goal g.
     refuses c.args.source c.args.state.now (frame.Argument c.args.name c.args.before c.args.place) k l p c.args.token c.args.end h (argument-refuses c.args.source c.args.state.now c.args.state.now k l p c.args.token c.args.end c.args.name c.args.before c.args.place h c.in_default.not-Comma c.in_default.not-Close) goal g
 
 pub returns-in_default-clause-fault : goal.returns-in_default-clause-fault
-returns-in_default-clause-fault c = λ first k l p h held b. (held (argument-refuses c.args.source c.args.state.now c.args.state.now k l p c.args.token c.args.end c.args.name c.args.before c.args.place h c.in_default.not-Comma c.in_default.not-Close)).0
-
-pub returns-else-before-ge65534-clause-places : goal.returns-else-before-ge65534-clause-places
-returns-else-before-ge65534-clause-places c = λ first b h.
-    IfOk-weaker c.open.result _ _ (λ t d. subst (ArePlaces (setting_of c.args.source) c.args.source.text.now first c.args.state.now.at) (sym d.frames) (places-push (setting_of c.args.source) c.args.source.text.now first c.args.state.now.at c.args.state.now.frames.items (frame.Argument c.args.name (c.args.before + 1) c.args.place) h b)) c.open.ensures
+returns-in_default-clause-fault c = λ first k l p h held. (held (argument-refuses c.args.source c.args.state.now c.args.state.now k l p c.args.token c.args.end c.args.name c.args.before c.args.place h c.in_default.not-Comma c.in_default.not-Close)).0 (λ full e. c.in_default.not-Comma (h.closer ∙ ap closer_of e))

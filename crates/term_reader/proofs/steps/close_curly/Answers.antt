@@ -16,4 +16,4 @@ returns-in_default-clause-outcome c = λ k l p h goal g.
     refuses c.args.source c.args.state.now (frame.Curly) k l p c.args.token c.args.end h (curly-refuses c.args.source c.args.state.now c.args.state.now k l p c.args.token c.args.end h c.in_default.not-CloseCurly) goal g
 
 pub returns-in_default-clause-fault : goal.returns-in_default-clause-fault
-returns-in_default-clause-fault c = λ first k l p h held. (held (curly-refuses c.args.source c.args.state.now c.args.state.now k l p c.args.token c.args.end h c.in_default.not-CloseCurly)).0
+returns-in_default-clause-fault c = λ first k l p h held. (held (curly-refuses c.args.source c.args.state.now c.args.state.now k l p c.args.token c.args.end h c.in_default.not-CloseCurly)).0 (λ full e. full)

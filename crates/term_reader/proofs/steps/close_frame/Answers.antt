@@ -2,7 +2,7 @@ use Rattle.std.proofs.Common.{ℕ, List, IfOk, sym, subst}
 use Rattle.au_model.specs.Trees.{Tree}
 use Rattle.term_reader.specs.Begun.{setting_of}
 use Rattle.term_reader.specs.Stack as stack
-use Rattle.term_reader.specs.Refusing.{IsHeldFault, IsFramePlace, RefusesWell}
+use Rattle.term_reader.specs.Refusing.{IsHeldFault, RefusesWell}
 use Rattle.term_reader.specs.Starting.{IsClosing}
 use Rattle.term_reader.proofs.Closed.{prefix-shut, infix-shut}
 use Rattle.term_reader.proofs.steps.close_frame.Goals as goal
@@ -37,33 +37,25 @@ returns-clause-outcome c = λ k l p h goal g.
 
 pub returns-in-Round-clause-fault : goal.returns-in-Round-clause-fault
 returns-in-Round-clause-fault c =
-    subst (λ f. (first : ℕ) (k : List stack.Frame) (l : Tree) (p : ℕ) (h : IsClosing c.args.source c.args.state.now f k l p c.args.token c.args.end) → IsHeldFault c.args.source first c.args.state.now f k l p c.args.token c.args.end h c.args.refused
-    → IsFramePlace (setting_of c.args.source) c.args.source.text.now first c.args.state.now.at f → RefusesWell (setting_of c.args.source) c.args.source.text.now first c.close_round.result) (sym c.in-Round.is)
-    (λ first k l p h held b. c.close_round.ensures.fault first k l p h held)
+    subst (λ f. (first : ℕ) (k : List stack.Frame) (l : Tree) (p : ℕ) (h : IsClosing c.args.source c.args.state.now f k l p c.args.token c.args.end) → IsHeldFault c.args.source first c.args.state.now f k l p c.args.token c.args.end h c.args.refused → RefusesWell (setting_of c.args.source) c.args.source.text.now first c.close_round.result) (sym c.in-Round.is)
+    (λ first k l p h held. c.close_round.ensures.fault first k l p h held)
 
 pub returns-in-Curly-clause-fault : goal.returns-in-Curly-clause-fault
 returns-in-Curly-clause-fault c =
-    subst (λ f. (first : ℕ) (k : List stack.Frame) (l : Tree) (p : ℕ) (h : IsClosing c.args.source c.args.state.now f k l p c.args.token c.args.end) → IsHeldFault c.args.source first c.args.state.now f k l p c.args.token c.args.end h c.args.refused
-    → IsFramePlace (setting_of c.args.source) c.args.source.text.now first c.args.state.now.at f → IfOk c.close_curly.result (λ t. RefusesWell (setting_of c.args.source) c.args.source.text.now first t)) (sym c.in-Curly.is)
-    (λ first k l p h held b. c.close_curly.ensures.fault first k l p h held)
+    subst (λ f. (first : ℕ) (k : List stack.Frame) (l : Tree) (p : ℕ) (h : IsClosing c.args.source c.args.state.now f k l p c.args.token c.args.end) → IsHeldFault c.args.source first c.args.state.now f k l p c.args.token c.args.end h c.args.refused → IfOk c.close_curly.result (λ t. RefusesWell (setting_of c.args.source) c.args.source.text.now first t)) (sym c.in-Curly.is)
+    (λ first k l p h held. c.close_curly.ensures.fault first k l p h held)
 
 pub returns-in-Item-clause-fault : goal.returns-in-Item-clause-fault
 returns-in-Item-clause-fault c =
-    subst (λ f. (first : ℕ) (k : List stack.Frame) (l : Tree) (p : ℕ) (h : IsClosing c.args.source c.args.state.now f k l p c.args.token c.args.end) → IsHeldFault c.args.source first c.args.state.now f k l p c.args.token c.args.end h c.args.refused
-    → IsFramePlace (setting_of c.args.source) c.args.source.text.now first c.args.state.now.at f → IfOk c.close_item.result (λ t. RefusesWell (setting_of c.args.source) c.args.source.text.now first t)) (sym c.in-Item.is)
-    (λ first k l p h held b. c.close_item.ensures.fault first k l p h held)
+    subst (λ f. (first : ℕ) (k : List stack.Frame) (l : Tree) (p : ℕ) (h : IsClosing c.args.source c.args.state.now f k l p c.args.token c.args.end) → IsHeldFault c.args.source first c.args.state.now f k l p c.args.token c.args.end h c.args.refused → IfOk c.close_item.result (λ t. RefusesWell (setting_of c.args.source) c.args.source.text.now first t)) (sym c.in-Item.is)
+    (λ first k l p h held. c.close_item.ensures.fault first k l p h held)
 
 pub returns-in-Tail-clause-fault : goal.returns-in-Tail-clause-fault
 returns-in-Tail-clause-fault c =
-    subst (λ f. (first : ℕ) (k : List stack.Frame) (l : Tree) (p : ℕ) (h : IsClosing c.args.source c.args.state.now f k l p c.args.token c.args.end) → IsHeldFault c.args.source first c.args.state.now f k l p c.args.token c.args.end h c.args.refused
-    → IsFramePlace (setting_of c.args.source) c.args.source.text.now first c.args.state.now.at f → IfOk c.close_tail.result (λ t. RefusesWell (setting_of c.args.source) c.args.source.text.now first t)) (sym c.in-Tail.is)
-    (λ first k l p h held b. c.close_tail.ensures.fault first k l p h held)
+    subst (λ f. (first : ℕ) (k : List stack.Frame) (l : Tree) (p : ℕ) (h : IsClosing c.args.source c.args.state.now f k l p c.args.token c.args.end) → IsHeldFault c.args.source first c.args.state.now f k l p c.args.token c.args.end h c.args.refused → IfOk c.close_tail.result (λ t. RefusesWell (setting_of c.args.source) c.args.source.text.now first t)) (sym c.in-Tail.is)
+    (λ first k l p h held. c.close_tail.ensures.fault first k l p h held)
 
 pub returns-in-Argument-clause-fault : goal.returns-in-Argument-clause-fault
 returns-in-Argument-clause-fault c =
-    subst (λ f. (first : ℕ) (k : List stack.Frame) (l : Tree) (p : ℕ) (h : IsClosing c.args.source c.args.state.now f k l p c.args.token c.args.end) → IsHeldFault c.args.source first c.args.state.now f k l p c.args.token c.args.end h c.args.refused
-    → IsFramePlace (setting_of c.args.source) c.args.source.text.now first c.args.state.now.at f → IfOk c.close_argument.result (λ t. RefusesWell (setting_of c.args.source) c.args.source.text.now first t)) (sym c.in-Argument.is)
-    (λ first k l p h held b. c.close_argument.ensures.fault first k l p h held b)
-
-pub returns-in-Round-clause-places : goal.returns-in-Round-clause-places
-returns-in-Round-clause-places c = λ first b h. c.close_round.ensures.places first h
+    subst (λ f. (first : ℕ) (k : List stack.Frame) (l : Tree) (p : ℕ) (h : IsClosing c.args.source c.args.state.now f k l p c.args.token c.args.end) → IsHeldFault c.args.source first c.args.state.now f k l p c.args.token c.args.end h c.args.refused → IfOk c.close_argument.result (λ t. RefusesWell (setting_of c.args.source) c.args.source.text.now first t)) (sym c.in-Argument.is)
+    (λ first k l p h held. c.close_argument.ensures.fault first k l p h held)

@@ -1,4 +1,4 @@
-use Rattle.std.proofs.Common.{◌+◌, refl, sym, subst}
+use Rattle.std.proofs.Common.{refl}
 use Rattle.std.proofs.lemmas.Result.{IfOk-weaker}
 use Rattle.term_reader.specs.Frames.{put_stack}
 use Rattle.au_model.specs.Trees.{AtomTree, nil}
@@ -6,10 +6,7 @@ use Rattle.term_reader.specs.Sheets.{put_tree}
 use Rattle.term_reader.proofs.Closed.{list-closes, item-goes_on, tail-goes_on, item-refuses}
 use Rattle.term_reader.proofs.Moving.{moved}
 use Rattle.term_reader.specs.declared.state.Frame.TheVariants as frame
-use Rattle.term_reader.specs.Refusing.{ArePlaces}
-use Rattle.term_reader.proofs.Taking.{places-push}
 use Rattle.term_reader.proofs.Closing.{refuses}
-use Rattle.term_reader.specs.Begun.{setting_of}
 use Rattle.term_reader.proofs.steps.close_item.Goals as goal
 
 pub returns-in-Comma-clause-moves : goal.returns-in-Comma-clause-moves
@@ -39,12 +36,4 @@ returns-in_default-clause-outcome c = λ k l p h goal g.
     refuses c.args.source c.args.state.now (frame.Item c.args.before) k l p c.args.token c.args.end h (item-refuses c.args.source c.args.state.now c.args.state.now k l p c.args.token c.args.end c.args.before h c.in_default.not-Comma c.in_default.not-Bar c.in_default.not-CloseList) goal g
 
 pub returns-in_default-clause-fault : goal.returns-in_default-clause-fault
-returns-in_default-clause-fault c = λ first k l p h held. (held (item-refuses c.args.source c.args.state.now c.args.state.now k l p c.args.token c.args.end c.args.before h c.in_default.not-Comma c.in_default.not-Bar c.in_default.not-CloseList)).0
-
-pub returns-in-Comma-clause-places : goal.returns-in-Comma-clause-places
-returns-in-Comma-clause-places c = λ first h.
-    IfOk-weaker c.open.result _ _ (λ t d. subst (ArePlaces (setting_of c.args.source) c.args.source.text.now first c.args.state.now.at) (sym d.frames) (places-push (setting_of c.args.source) c.args.source.text.now first c.args.state.now.at c.args.state.now.frames.items (frame.Item (c.args.before + 1)) h tt)) c.open.ensures
-
-pub returns-in-Bar-clause-places : goal.returns-in-Bar-clause-places
-returns-in-Bar-clause-places c = λ first h.
-    IfOk-weaker c.open-in-Bar.result _ _ (λ t d. subst (ArePlaces (setting_of c.args.source) c.args.source.text.now first c.args.state.now.at) (sym d.frames) (places-push (setting_of c.args.source) c.args.source.text.now first c.args.state.now.at c.args.state.now.frames.items (frame.Tail (c.args.before + 1)) h tt)) c.open-in-Bar.ensures
+returns-in_default-clause-fault c = λ first k l p h held. (held (item-refuses c.args.source c.args.state.now c.args.state.now k l p c.args.token c.args.end c.args.before h c.in_default.not-Comma c.in_default.not-Bar c.in_default.not-CloseList)).0 (λ full e. full)

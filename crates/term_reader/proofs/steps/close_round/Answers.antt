@@ -12,4 +12,4 @@ returns-in_default-clause-outcome c = λ k l p h goal g.
     refuses c.args.source c.args.state.now (frame.Round) k l p c.args.token c.args.end h (round-refuses c.args.source c.args.state.now c.args.state.now k l p c.args.token c.args.end h c.in_default.not-Close) goal g
 
 pub returns-in_default-clause-fault : goal.returns-in_default-clause-fault
-returns-in_default-clause-fault c = λ first k l p h held. (held (round-refuses c.args.source c.args.state.now c.args.state.now k l p c.args.token c.args.end h c.in_default.not-Close)).0
+returns-in_default-clause-fault c = λ first k l p h held. (held (round-refuses c.args.source c.args.state.now c.args.state.now k l p c.args.token c.args.end h c.in_default.not-Close)).0 (λ full e. full)

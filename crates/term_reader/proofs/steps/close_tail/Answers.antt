@@ -15,4 +15,4 @@ returns-in_default-clause-outcome c = λ k l p h goal g.
     refuses c.args.source c.args.state.now (frame.Tail c.args.items) k l p c.args.token c.args.end h (tail-refuses c.args.source c.args.state.now c.args.state.now k l p c.args.token c.args.end c.args.items h c.in_default.not-CloseList) goal g
 
 pub returns-in_default-clause-fault : goal.returns-in_default-clause-fault
-returns-in_default-clause-fault c = λ first k l p h held. (held (tail-refuses c.args.source c.args.state.now c.args.state.now k l p c.args.token c.args.end c.args.items h c.in_default.not-CloseList)).0
+returns-in_default-clause-fault c = λ first k l p h held. (held (tail-refuses c.args.source c.args.state.now c.args.state.now k l p c.args.token c.args.end c.args.items h c.in_default.not-CloseList)).0 (λ full e. full)

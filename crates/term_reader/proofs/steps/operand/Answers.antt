@@ -14,6 +14,10 @@ opening_at-requires-clause-next c = sym c.in_ok-next.ensures.scan ∙ ap (scan_m
 pub opening_at-requires-clause-place : goal.opening_at-requires-clause-place
 opening_at-requires-clause-place c = (subst (IsScan c.args.source.text.now c.args.state.now.at) c.in-Found.is c.in_ok-next.ensures.place).0
 
+pub returns-in_ok-opening-in-Found-clause-outcome : goal.returns-in_ok-opening-in-Found-clause-outcome
+returns-in_ok-opening-in-Found-clause-outcome c = λ k st.
+    c.begin.ensures.outcome k st (subst (IsScan c.args.source.text.now c.args.state.now.at) c.in-Found.is c.in_ok-next.ensures.place).2
+
 pub returns-in-Bad-clause-outcome : goal.returns-in-Bad-clause-outcome
 returns-in-Bad-clause-outcome c = λ k st goal w.
     nothing-due (setting_of c.args.source) k (chars_from c.args.source.text.now c.args.state.now.at) (sym c.in_ok-next.ensures.scan ∙ ap (scan_meant c.args.source.text.now) c.in-Bad.is) goal w
@@ -30,10 +34,6 @@ returns-in_ok-opening-in-Found-clause-fault c = λ first doubt k st led.
     let found = sym c.in_ok-next.ensures.scan ∙ ap (scan_meant text) c.in-Found.is in
     let is = subst (IsScan text at) c.in-Found.is c.in_ok-next.ensures.place in
     c.begin.ensures.fault first doubt k st led (λ h. found-fault (setting_of c.args.source) text first at _ f.apart (lexeme_meant f.lexeme) f.start c.unexpected-fault.result found is.2 h c.unexpected-fault.ensures.at c.unexpected-fault.ensures.kind)
-
-pub returns-in_ok-opening-in-Found-clause-places : goal.returns-in_ok-opening-in-Found-clause-places
-returns-in_ok-opening-in-Found-clause-places c = λ first read scans h.
-    c.begin.ensures.places first read scans (subst (IsScan c.args.source.text.now c.args.state.now.at) c.in-Found.is c.in_ok-next.ensures.place).2 h
 
 pub returns-in-Bad-clause-fault : goal.returns-in-Bad-clause-fault
 returns-in-Bad-clause-fault c = λ first doubt k st led.

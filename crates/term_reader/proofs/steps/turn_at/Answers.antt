@@ -26,11 +26,11 @@ returns-in-Some-clause-outcome c = λ x st e.
     (c.behind.ensures.outcome d.0 d.1 (subst (λ y. Stands c.args.state.now y) d.2 st))
 
 pub returns-in-None-clause-fault : goal.returns-in-None-clause-fault
-returns-in-None-clause-fault c = λ first x st e led places.
+returns-in-None-clause-fault c = λ first x st e led.
     let d = due x (sym e ∙ c.in-None.is) in
     c.operand.ensures.fault first c.args.doubt d.0 (subst (λ y. Stands c.args.state.now y) d.1 st) (subst (λ y. Led (setting_of c.args.source) c.args.source.text.now first y c.args.state.now.at c.args.doubt) d.1 led)
 
 pub returns-in-Some-clause-fault : goal.returns-in-Some-clause-fault
-returns-in-Some-clause-fault c = λ first x st e led places.
+returns-in-Some-clause-fault c = λ first x st e led.
     let d = there x c.in-Some.priority (sym e ∙ c.in-Some.is) in
-    c.behind.ensures.fault first d.0 d.1 (subst (λ y. Stands c.args.state.now y) d.2 st) (subst (λ y. Led (setting_of c.args.source) c.args.source.text.now first y c.args.state.now.at c.args.doubt) d.2 led) places
+    c.behind.ensures.fault first d.0 d.1 (subst (λ y. Stands c.args.state.now y) d.2 st) (subst (λ y. Led (setting_of c.args.source) c.args.source.text.now first y c.args.state.now.at c.args.doubt) d.2 led)

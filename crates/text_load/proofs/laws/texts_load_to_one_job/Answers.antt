@@ -1,4 +1,4 @@
-use Rattle.text_load.proofs.Alone.{one_job, no_fault}
+use Rattle.text_load.proofs.Alone.{one_job, no_fault, one_refusal}
 use Rattle.text_load.proofs.laws.texts_load_to_one_job.Goals as goal
 
 pub returns-clause-one : goal.returns-clause-one
@@ -6,3 +6,6 @@ returns-clause-one c = one_job
 
 pub returns-clause-none : goal.returns-clause-none
 returns-clause-none c = no_fault
+
+pub returns-clause-refused : goal.returns-clause-refused
+returns-clause-refused c = one_refusal

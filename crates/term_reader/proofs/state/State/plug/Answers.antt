@@ -1,11 +1,9 @@
-use Rattle.std.proofs.Common.{◌∙◌, sym, ap, subst, refl}
+use Rattle.std.proofs.Common.{◌∙◌, sym, ap, refl}
 use Rattle.au_model.specs.Joints.{joint_fits}
 use Rattle.op_table.specs.Meant.{operator_meant}
 use Rattle.term_reader.specs.Meant.{joint_meant}
 use Rattle.term_reader.specs.Frames.{frame_meant, put_stack}
 use Rattle.term_reader.specs.Sheets.{put_tree}
-use Rattle.term_reader.specs.Refusing.{ArePlaces}
-use Rattle.term_reader.proofs.Taking.{places-front}
 use Rattle.term_reader.proofs.Settled.{plug-prefix, plug-infix}
 use Rattle.term_reader.proofs.state.State.plug.Goals as goal
 
@@ -24,15 +22,3 @@ returns-in_ok-compound-in-Some-Infix-clause-plugged c = λ s k l n h.
     plug-infix s j k l c.args.priority c.args.self.now _ c.pop.new.self.items a.field-0 a.name (operator_meant a.operator) h a.ensures.items (ap frame_meant a.field-0-is) refl
     (c.in_ok-compound-in-Some-Infix.ensures (put_tree (put_stack k) l) h.sheet)
     (sym (c.fits.ensures n ∙ ap (λ b. joint_fits b c.args.priority j) (c.bound.ensures k h.shapes)) ∙ c.if-fits.false)
-
-pub returns-in_ok-compound-in-Some-Prefix-clause-places : goal.returns-in_ok-compound-in-Some-Prefix-clause-places
-returns-in_ok-compound-in-Some-Prefix-clause-places c = λ s text start at h. places-front s text start at c.pop.new.self.items c.in-Some-Prefix.field-0 (subst (ArePlaces s text start at) c.in-Some-Prefix.ensures.items h)
-
-pub returns-in_ok-compound-in-Some-Infix-clause-places : goal.returns-in_ok-compound-in-Some-Infix-clause-places
-returns-in_ok-compound-in-Some-Infix-clause-places c = λ s text start at h. places-front s text start at c.pop.new.self.items c.in-Some-Infix.field-0 (subst (ArePlaces s text start at) c.in-Some-Infix.ensures.items h)
-
-pub returns-in_err-compound-in-Some-Prefix-clause-places : goal.returns-in_err-compound-in-Some-Prefix-clause-places
-returns-in_err-compound-in-Some-Prefix-clause-places c = λ s text start at h. places-front s text start at c.pop.new.self.items c.in-Some-Prefix.field-0 (subst (ArePlaces s text start at) c.in-Some-Prefix.ensures.items h)
-
-pub returns-in_err-compound-in-Some-Infix-clause-places : goal.returns-in_err-compound-in-Some-Infix-clause-places
-returns-in_err-compound-in-Some-Infix-clause-places c = λ s text start at h. places-front s text start at c.pop.new.self.items c.in-Some-Infix.field-0 (subst (ArePlaces s text start at) c.in-Some-Infix.ensures.items h)

@@ -11,27 +11,17 @@ operators-preserved c = (
   λ s k t n h.
       let i = c.operators.invariant.1 s k t n h in
       let o = subst (λ p. IsPlug s i.below i.tree c.operators.last (joint_meant n c.args.joint) c.plug.new.self p) c.in-Over.is (c.in_ok-next.ensures.plugged s i.below i.tree n i.stands) in
-      record { below = o.below; tree = o.tree; stands = o.stands; same = same-then s (joint_meant n c.args.joint) k i.below o.below t i.tree o.tree c.args.priority c.operators.last c.in-Over.next i.same o.same; apart = same-then s Nothing k i.below o.below t i.tree o.tree c.args.priority c.operators.last c.in-Over.next i.apart o.apart },
-  λ s text start at h. c.in_ok-next.ensures.places s text start at (c.operators.invariant.2 s text start at h),
+      record { below = o.below; tree = o.tree; stands = o.stands; same = same-then s (joint_meant n c.args.joint) k i.below o.below t i.tree o.tree c.args.priority c.operators.last c.in-Over.next i.same o.same; apart = same-then s Nothing k i.below o.below t i.tree o.tree c.args.priority c.operators.last c.in-Over.next i.apart o.apart; nests = λ text start read m. o.nests text start read (i.nests text start read m) },
 )
 
 pub returns-in-Fits-clause-settled : goal.returns-in-Fits-clause-settled
 returns-in-Fits-clause-settled c = λ s k l n h.
     let i = c.operators.invariant.1 s k l n h in
     let o = subst (λ p. IsPlug s i.below i.tree c.operators.last (joint_meant n c.args.joint) c.plug.new.self p) c.in-Fits.is (c.in_ok-next.ensures.plugged s i.below i.tree n i.stands) in
-    record { below = i.below; tree = i.tree; stands = o.0; same = i.same; apart = i.apart; free = o.1 }
+    record { below = i.below; tree = i.tree; stands = o.0; same = i.same; apart = i.apart; nests = i.nests; free = o.1 }
 
 pub returns-in-Ends-clause-settled : goal.returns-in-Ends-clause-settled
 returns-in-Ends-clause-settled c = λ s k l n h.
     let i = c.operators.invariant.1 s k l n h in
     let o = subst (λ p. IsPlug s i.below i.tree c.operators.last (joint_meant n c.args.joint) c.plug.new.self p) c.in-Ends.is (c.in_ok-next.ensures.plugged s i.below i.tree n i.stands) in
-    record { below = i.below; tree = i.tree; stands = o.0; same = i.same; apart = i.apart; free = (o.1, o.2) }
-
-pub returns-in-Fits-clause-places : goal.returns-in-Fits-clause-places
-returns-in-Fits-clause-places c = λ s text start at h. c.in_ok-next.ensures.places s text start at (c.operators.invariant.2 s text start at h)
-
-pub returns-in-Ends-clause-places : goal.returns-in-Ends-clause-places
-returns-in-Ends-clause-places c = λ s text start at h. c.in_ok-next.ensures.places s text start at (c.operators.invariant.2 s text start at h)
-
-pub returns-in_err-next-clause-places : goal.returns-in_err-next-clause-places
-returns-in_err-next-clause-places c = λ s text start at h. c.in_err-next.ensures.places s text start at (c.operators.invariant.2 s text start at h)
+    record { below = i.below; tree = i.tree; stands = o.0; same = i.same; apart = i.apart; nests = i.nests; free = (o.1, o.2) }

@@ -5,13 +5,11 @@ use Rattle.term_reader.specs.Meant.{joint_meant}
 use Rattle.term_reader.specs.Stack.{Frame}
 use Rattle.term_reader.specs.Positions.{Stands, There}
 use Rattle.term_reader.specs.Settling.{IsOver}
-use Rattle.term_reader.specs.Refusing.{ArePlaces}
 use Rattle.term_reader.proofs.state.State.settle.Given as goal
 
 abbrev pub invariant-operators : goal.invariant-operators
 invariant-operators l = (l.self.at ≡ l.fn.self.at)
     × ((s : Setting) (k : List Frame) (t : Tree) (n : List ℕ) → Stands l.fn.self (There k t l.fn.priority) → IsOver s k t l.fn.priority (joint_meant n l.joint) l.self l.last)
-    × ((s : Setting) (text : List ℕ) (start at : ℕ) → ArePlaces s text start at l.fn.self.frames.items → ArePlaces s text start at l.self.frames.items)
 
 abbrev pub decreases-operators : goal.decreases-operators
 decreases-operators l = vec_len l.self.frames

@@ -1,0 +1,29 @@
+-- How brackets pair.
+use Rattle.std.specs.Prelude.{◌≡◌, ℕ, zero, suc, List, [], ◌∷◌, Option, Some, None}
+use Rattle.au_model.specs.Lexemes.{Lexeme, Token, token, Open, Close, OpenList, CloseList, OpenCurly, CloseCurly}
+
+-- how many brackets are open behind a token where so many were; none where it closes one that was not opened
+abbrev pub open_behind : Lexeme → ℕ → Option ℕ
+open_behind Open d = Some (suc d)
+open_behind OpenList d = Some (suc d)
+open_behind OpenCurly d = Some (suc d)
+open_behind Close zero = None
+open_behind CloseList zero = None
+open_behind CloseCurly zero = None
+open_behind Close (suc d) = Some d
+open_behind CloseList (suc d) = Some d
+open_behind CloseCurly (suc d) = Some d
+open_behind _ d = Some d
+
+abbrev pub depth_then : (ℕ → Option ℕ) → Option ℕ → Option ℕ
+depth_then more (Some d) = more d
+depth_then more None = None
+
+-- and behind some tokens
+abbrev pub depth : List Token → ℕ → Option ℕ
+depth [] d = Some d
+depth (token a x ∷ ts) d = depth_then (depth ts) (open_behind x d)
+
+-- they close the brackets that they open, and no others
+abbrev pub Balanced : List Token → Type 0
+Balanced ts = (d : ℕ) → depth ts d ≡ Some d
