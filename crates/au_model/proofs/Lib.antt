@@ -23,3 +23,4 @@ pub mod Trying
 pub mod Simple
 pub mod Building
 pub mod Copying
+pub mod Reserved

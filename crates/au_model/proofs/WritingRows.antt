@@ -1,8 +1,8 @@
 -- Terms as they are written.
-use Rattle.std.specs.Prelude.{◌≡◌, ℕ, List, [], ◌∷◌, ◌++◌, codes, pos, negsuc, refl}
-use Rattle.au_term.specs.Term.{Term, VarTerm, IntTerm, AtomTerm, Compound, end, more}
+use Rattle.std.specs.Prelude.{◌≡◌, ℕ, List, [], ◌∷◌, codes, negsuc, refl}
+use Rattle.au_term.specs.Term.{Term, VarTerm, IntTerm}
 use Rattle.au_model.specs.Forms.{unary, binary, list_term}
-use Rattle.au_model.specs.Operators.{OperatorTable, KindYf, KindFy, KindXfx, with_operator, initial_operators}
+use Rattle.au_model.specs.Operators.{OperatorTable, KindYf, with_operator, initial_operators}
 use Rattle.au_model.specs.Writing.{written_as, written_as_value}
 use Rattle.au_model.specs.declared.style.Style.TheVariants.{Plain, Quoted, Canonical}
 use Rattle.au_model.proofs.RowTerms.{atom, int}

@@ -41,6 +41,7 @@ pub mod Openings
 pub mod Spelling
 pub mod TermNumbers
 pub mod TermTexts
+pub mod TextFaults
 pub mod NameForms
 pub mod Pieces
 pub mod OperatorForms

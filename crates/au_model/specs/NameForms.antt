@@ -1,5 +1,5 @@
 -- Names as they are written: bare, or between quotes (ISO/IEC 13211-1, 6.4.2 and 7.10.5).
-use Rattle.std.specs.Prelude.{ℕ, Bool, true, false, not, ◌&&◌, ◌||◌, ◌==◌, nat_lt, ◌/◌, ◌%◌, List, [], ◌∷◌, ◌++◌, codes, if◌then◌else◌}
+use Rattle.std.specs.Prelude.{ℕ, Bool, false, not, ◌&&◌, ◌||◌, ◌==◌, nat_lt, ◌/◌, ◌%◌, List, [], ◌∷◌, ◌++◌, codes, if◌then◌else◌}
 use Rattle.std.specs.List.{list_all}
 use Rattle.std.specs.Char.{digit_char, encode_utf8}
 use Rattle.au_model.specs.Characters.{is_symbol, is_solo, is_small, is_alphanumeric, first_is, first_passes}

@@ -4,7 +4,7 @@ use Rattle.std.specs.Cmp.Lexicographic.{pointwise}
 use Rattle.au_model.specs.Operators.{Operator, OperatorTable, prefix_of}
 use Rattle.au_model.specs.Lexemes.{Lexeme, Token, token, Name, QuotedName, Variable, Integer, Text, Open, Close, OpenList, CloseList, OpenCurly, CloseCurly, Comma, Bar, End}
 use Rattle.au_model.specs.Trees.{Tree, VarTree, IntTree, AtomTree, nil, braces, text_tree}
-use Rattle.au_model.specs.Joints.{Joint, Infix, Postfix, Nothing, named_joint}
+use Rattle.au_model.specs.Joints.{Joint, Nothing, named_joint}
 use Rattle.au_model.specs.declared.double_quotes.DoubleQuotes.{DoubleQuotes}
 
 -- the operators, and what a double-quoted item stands for

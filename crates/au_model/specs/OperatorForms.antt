@@ -1,7 +1,7 @@
 -- The form in which a compound is written, and which operands stand in brackets (ISO/IEC 13211-1, 6.3.4 and 7.10.5).
-use Rattle.std.specs.Prelude.{ℕ, Bool, true, false, ◌&&◌, ◌||◌, ◌==◌, nat_lt, List, codes, Option, Some, None, if◌then◌else◌}
+use Rattle.std.specs.Prelude.{ℕ, Bool, false, ◌&&◌, ◌||◌, ◌==◌, nat_lt, List, codes, Option, Some, None, if◌then◌else◌}
 use Rattle.std.specs.Option.{is_some}
-use Rattle.au_term.specs.Term.{Term, VarTerm, IntTerm, AtomTerm, Compound, Terms, end, more}
+use Rattle.au_term.specs.Term.{Term, AtomTerm, Compound, Terms, end, more}
 use Rattle.au_model.specs.Forms.{same_name}
 use Rattle.au_model.specs.Operators.{OperatorTable, Operator, prefix_of, infix_of, postfix_of}
 use Rattle.au_model.specs.Joints.{takes_equal_left, takes_equal_right, left_bound}

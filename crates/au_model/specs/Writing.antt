@@ -8,7 +8,7 @@ use Rattle.au_model.specs.Operators.{OperatorTable, Operator}
 use Rattle.au_model.specs.Joints.{right_bound}
 use Rattle.au_model.specs.NameForms.{nil_name, braces_name, is_bare, is_symbol_name}
 use Rattle.au_model.specs.Pieces.{Piece, Put, Space, NothingYet, joined, quoted_text, plain_text, text_of_tokens}
-use Rattle.au_model.specs.OperatorForms.{Notation, CompoundForm, ListForm, BracedForm, InfixForm, PrefixForm, PostfixForm, FunctionalForm, form_of, form_priority, is_above, is_enclosed, is_enclosed_left}
+use Rattle.au_model.specs.OperatorForms.{Notation, CompoundForm, ListForm, BracedForm, InfixForm, PrefixForm, PostfixForm, form_of, form_priority, is_above, is_enclosed, is_enclosed_left}
 use Rattle.au_model.specs.declared.style.Style.{Style}
 use Rattle.au_model.specs.declared.style.Style.TheVariants.{Plain, Quoted, Canonical}
 

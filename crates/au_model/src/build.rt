@@ -14,7 +14,7 @@ pub fn atom(alloc: Global, name: &str) -> Result<FlatTerm, NoMemory>
     requires { IsAscii name.now }
     ensures { IfOk result (λ t. t ≡ AtomTerm name.now) }
 {
-    single(alloc, Cell::Atom(ascii_atom(alloc, name)?))
+    single(alloc, Cell::Atom(Atom::ascii(alloc, name)?))
 }
 
 /// A compound of this name with one argument.
@@ -22,7 +22,7 @@ pub fn unary(alloc: Global, name: &str, argument: &FlatTerm) -> Result<FlatTerm,
     requires { IsAscii name.now }
     ensures { IfOk result (λ t. t ≡ unary name.now argument.now) }
 {
-    compound(alloc, ascii_atom(alloc, name)?, &[argument])
+    compound(alloc, Atom::ascii(alloc, name)?, &[argument])
 }
 
 /// A compound of this name with two arguments.
@@ -35,7 +35,7 @@ pub fn binary(
     requires { IsAscii name.now }
     ensures { IfOk result (λ t. t ≡ binary name.now left.now right.now) }
 {
-    compound(alloc, ascii_atom(alloc, name)?, &[left, right])
+    compound(alloc, Atom::ascii(alloc, name)?, &[left, right])
 }
 
 /// A procedure's name and number of arguments, as a term (ISO/IEC 13211-1, 7.1.6.6).
@@ -70,12 +70,4 @@ fn single(alloc: Global, cell: Cell) -> Result<FlatTerm, NoMemory>
     let mut builder = TermBuilder::new(alloc);
     builder.push(cell)?;
     Ok(builder.finish())
-}
-
-/// The name of these characters.
-pub(crate) fn ascii_atom(alloc: Global, name: &str) -> Result<Atom, NoMemory>
-    requires { IsAscii name.now }
-    ensures { IfOk result (λ a. a ≡ name.now) }
-{
-    Atom::new(alloc, name)
 }

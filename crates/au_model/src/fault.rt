@@ -7,7 +7,7 @@ ghost use Rattle.au_model.specs.Forms.{binary};
 ghost use Rattle.au_model.specs.ErrorTerms.{error_term, permission_error};
 ghost use Rattle.au_model.specs.Faults.{type_word, domain_word, permission_error_of, limit_word, evaluation_word, error_term_of};
 
-use crate::build::{ascii_atom, atom, binary, compound, indicator, unary};
+use crate::build::{atom, binary, compound, indicator, unary};
 use au_term::{Atom, FlatTerm, NoMemory};
 use std::alloc::Global;
 
@@ -213,7 +213,7 @@ fn permission_error(
     let (action, object) = (atom(alloc, action)?, atom(alloc, object)?);
     compound(
         alloc,
-        ascii_atom(alloc, "permission_error")?,
+        Atom::ascii(alloc, "permission_error")?,
         &[&action, &object, culprit],
     )
 }

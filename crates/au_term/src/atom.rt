@@ -1,6 +1,6 @@
 //! Atoms.
 ghost use Rattle.std.specs.Prelude.{◌≡◌, IfOk, nat_eq, Some, refl};
-ghost use Rattle.std.specs.Str.{chars};
+ghost use Rattle.std.specs.Str.{chars, IsAscii};
 ghost use Rattle.std.specs.Ordering.{nat_cmp};
 ghost use Rattle.std.specs.Cmp.Lexicographic.{pointwise, slice_cmp, nat_list_eq_equiv, nat_list_cmp_total, texts_ties, texts_po};
 ghost use Rattle.std.specs.Cmp;
@@ -38,11 +38,27 @@ impl Atom {
         })
     }
 
+    /// The atom of these ASCII characters.
+    pub fn ascii(alloc: Global, text: &str) -> Result<Atom, NoMemory>
+        requires { IsAscii text.now }
+        ensures { IfOk result (λ a. a ≡ text.now) }
+    {
+        Atom::new(alloc, text)
+    }
+
     /// The characters, as text.
     pub fn text(&self) -> &str
         ensures { chars result.now ≡ self.now }
     {
         self.text.as_str()
+    }
+
+    /// Whether it has these ASCII characters.
+    pub fn is_text(&self, text: &str) -> bool
+        requires { IsAscii text.now }
+        ensures { result ≡ pointwise nat_eq self.now text.now }
+    {
+        is_text(self.text(), text)
     }
 
     /// Whether two atoms are the same.
@@ -60,6 +76,14 @@ impl Atom {
             text: self.text.clone()?,
         })
     }
+}
+
+/// Whether a name has these ASCII characters.
+pub fn is_text(name: &str, text: &str) -> bool
+    requires { IsAscii text.now }
+    ensures { result ≡ pointwise nat_eq (chars name.now) text.now }
+{
+    name == text
 }
 
 impl PartialEq for Atom {

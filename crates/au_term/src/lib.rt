@@ -14,7 +14,7 @@ pub mod steps;
 mod tests;
 
 pub use arguments::Arguments;
-pub use atom::Atom;
+pub use atom::{Atom, is_text};
 pub use builder::TermBuilder;
 pub use cell::{Cell, VarNo};
 pub use flat::FlatTerm;

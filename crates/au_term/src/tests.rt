@@ -2,7 +2,7 @@
 ghost use Rattle.std.specs.Prelude.{◌≡◌, ◌<◌};
 
 use crate::{
-    Atom, Binding, Bindings, Cell, FlatTerm, NoMemory, Segment, Shared, Steps, TermBuilder,
+    Atom, Binding, Bindings, Cell, FlatTerm, NoMemory, Segment, Shared, Steps, TermBuilder, is_text,
 };
 use std::alloc::Global;
 use std::marker::Brand;
@@ -37,7 +37,11 @@ fn compare(
 fn atoms(rt: HostRuntime) -> Result<(), Fail> {
     compare(&rt, rt.alloc(), "ab", "ab", true)?;
     compare(&rt, rt.alloc(), "ab", "a", false)?;
-    compare(&rt, rt.alloc(), "", "é", false)
+    compare(&rt, rt.alloc(), "", "é", false)?;
+    let name = Atom::ascii(rt.alloc(), "[]")?;
+    assert_eq!(rt; name.text(), "[]");
+    assert!(rt; name.is_text("[]") && !name.is_text("[") && !is_text("é", "e"));
+    Ok(())
 }
 
 #[test]

@@ -7,7 +7,7 @@ use Rattle.au_model.specs.TermTexts.{is_over}
 use Rattle.au_model.specs.Layout.{behind_layout}
 use Rattle.au_model.specs.Jobs.{Job}
 use Rattle.au_model.specs.declared.fault_kind.FaultKind.TheVariants.{NotUtf8}
-use Rattle.term_reader.specs.TextFaults.{IsPlace, line_after, column_after}
+use Rattle.au_model.specs.TextFaults.{IsPlace, line_after, column_after}
 use Rattle.text_load.specs.Loading.{IsRefusal}
 use Rattle.text_load.specs.Texts.{IsRefused, LoadsTo, Sentences, no_more}
 use Rattle.text_load.specs.declared.reading.LoadRefusal.{LoadRefusal}

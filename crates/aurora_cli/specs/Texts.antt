@@ -4,7 +4,7 @@ use Rattle.std.specs.Str.{chars, IsUtf8, IsValidUpTo}
 use Rattle.au_model.specs.Jobs.{Job}
 use Rattle.au_model.specs.declared.fault_kind.FaultKind.{FaultKind}
 use Rattle.au_model.specs.declared.fault_kind.FaultKind.TheVariants.{NotUtf8}
-use Rattle.term_reader.specs.TextFaults.{line_after, column_after}
+use Rattle.au_model.specs.TextFaults.{line_after, column_after}
 use Rattle.text_load.specs.Texts.{LoadsTo, IsRefused}
 
 -- no procedures stand before those of a text

@@ -6,8 +6,8 @@ ghost use Rattle.au_model.specs.Bodies.{body_of, call_of, goals_of, clause_goals
 ghost use Rattle.clause_compile.specs.Keeping.{bodies_cells, KeepsGoal};
 ghost use Rattle.clause_compile.specs.Places.{AreGoalsAt, PassesGoal};
 
-use crate::names::{call_name, is_conjunction_cell, is_junction_cell, is_true_cell};
-use au_term::{Cell, FlatTerm, NoMemory, TermBuilder, VarNo};
+use crate::names::{is_conjunction_cell, is_junction_cell, is_true_cell};
+use au_term::{Atom, Cell, FlatTerm, NoMemory, TermBuilder, VarNo};
 use std::alloc::Global;
 
 /// The body that a term stands for, if it stands for one (ISO/IEC 13211-1, 7.6.2).
@@ -59,7 +59,7 @@ fn push_call(alloc: Global, number: VarNo, builder: &mut TermBuilder) -> Result<
     requires sound { number < 2 ^ 64 - 1 }
     ensures { OnOk result (builder.new ≡ builder.old ++ cells_of (call_of (VarTerm number))) }
 {
-    builder.push(Cell::Functor(call_name(alloc)?, 1))?;
+    builder.push(Cell::Functor(Atom::ascii(alloc, "call")?, 1))?;
     builder.push(Cell::Var(number))
 }
 

@@ -1,19 +1,8 @@
 //! The names that bodies are told by.
-ghost use Rattle.std.specs.Prelude.{◌≡◌, IfOk, codes};
-ghost use Rattle.std.specs.Str.{IsAscii};
-ghost use Rattle.au_model.specs.Forms.{same_name};
+ghost use Rattle.std.specs.Prelude.{◌≡◌};
 ghost use Rattle.clause_compile.specs.Cells.{opens_junction, opens_conjunction, opens_plain_goal, is_true};
 
-use au_term::{Atom, Cell, NoMemory};
-use std::alloc::Global;
-
-/// Whether a name is this text.
-pub(crate) fn is_named(name: &Atom, text: &str) -> bool
-    requires { IsAscii text.now }
-    ensures { result ≡ same_name name.now text.now }
-{
-    name.text() == text
-}
+use au_term::Cell;
 
 /// Whether a cell begins a compound in which goals are due on both sides.
 pub(crate) fn is_junction_cell(cell: &Cell) -> bool
@@ -21,7 +10,7 @@ pub(crate) fn is_junction_cell(cell: &Cell) -> bool
 {
     match cell {
         Cell::Functor(name, arguments) => {
-            *arguments == 2 && (is_named(name, ",") || is_named(name, ";") || is_named(name, "->"))
+            *arguments == 2 && (name.is_text(",") || name.is_text(";") || name.is_text("->"))
         }
         _ => false,
     }
@@ -32,7 +21,7 @@ pub(crate) fn is_conjunction_cell(cell: &Cell) -> bool
     ensures { result ≡ opens_conjunction cell.now }
 {
     match cell {
-        Cell::Functor(name, arguments) => *arguments == 2 && is_named(name, ","),
+        Cell::Functor(name, arguments) => *arguments == 2 && name.is_text(","),
         _ => false,
     }
 }
@@ -52,14 +41,7 @@ pub(crate) fn is_true_cell(cell: &Cell) -> bool
     ensures { result ≡ is_true cell.now }
 {
     match cell {
-        Cell::Atom(name) => is_named(name, "true"),
+        Cell::Atom(name) => name.is_text("true"),
         _ => false,
     }
-}
-
-/// The name of `call/1`.
-pub(crate) fn call_name(alloc: Global) -> Result<Atom, NoMemory>
-    ensures { IfOk result (λ name. name ≡ codes "call") }
-{
-    Atom::new(alloc, "call")
 }

@@ -1,27 +1,18 @@
 //! Cells told by name.
 ghost use Rattle.std.specs.Prelude.{◌≡◌, true, IfOk};
-ghost use Rattle.std.specs.Str.{IsAscii};
-ghost use Rattle.au_model.specs.Forms.{is_callable, name_of, same_name};
+ghost use Rattle.au_model.specs.Forms.{is_callable, name_of};
 ghost use Rattle.clause_compile.specs.Cells.{opens_junction, opens_conjunction};
 ghost use Rattle.engine_core.specs.Calling.{is_variable_cell, is_integer_cell};
 ghost use Rattle.engine_core.specs.TakingApart.{opens_condition};
 
 use au_term::{Atom, Cell, NoMemory, Shared};
 
-/// Whether a name is this text.
-pub(crate) fn is_named(name: &Atom, text: &str) -> bool
-    requires { IsAscii text.now }
-    ensures { result ≡ same_name name.now text.now }
-{
-    name.text() == text
-}
-
 /// Whether a cell begins a conjunction.
 pub(crate) fn is_conjunction(cell: &Cell) -> bool
     ensures { result ≡ opens_conjunction cell.now }
 {
     match cell {
-        Cell::Functor(name, arity) => *arity == 2 && is_named(name, ","),
+        Cell::Functor(name, arity) => *arity == 2 && name.is_text(","),
         _ => false,
     }
 }
@@ -31,7 +22,7 @@ pub(crate) fn is_condition(cell: &Cell) -> bool
     ensures { result ≡ opens_condition cell.now }
 {
     match cell {
-        Cell::Functor(name, arity) => *arity == 2 && is_named(name, "->"),
+        Cell::Functor(name, arity) => *arity == 2 && name.is_text("->"),
         _ => false,
     }
 }
@@ -42,7 +33,7 @@ pub(crate) fn is_junction(cell: &Cell) -> bool
 {
     match cell {
         Cell::Functor(name, arity) => {
-            *arity == 2 && (is_named(name, ",") || is_named(name, ";") || is_named(name, "->"))
+            *arity == 2 && (name.is_text(",") || name.is_text(";") || name.is_text("->"))
         }
         _ => false,
     }

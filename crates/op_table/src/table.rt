@@ -1,7 +1,5 @@
 //! The operator table (ISO/IEC 13211-1, 6.3.4).
 ghost use Rattle.std.specs.Prelude.{◌≡◌, true, IfOk, OnOk, OnErr, chars, map, nat_eq, option_map};
-ghost use Rattle.std.specs.Str.{IsAscii};
-ghost use Rattle.std.specs.Cmp.Lexicographic.{pointwise};
 ghost use Rattle.au_model.specs.Operators.{class_of, prefix_of, infix_of, postfix_of, initial_operators, with_operator, IsOperatorTable};
 ghost use Rattle.op_table.specs.Meant.{kind_meant, operator_meant, row_meant};
 ghost use Rattle.op_table.specs.Entries.{entry_meant};
@@ -9,7 +7,7 @@ ghost use Rattle.op_table.specs.Putting.{is_kept_name, may_be_put, other_joint};
 
 use crate::operator::{OpClass, OpKind, OpRow, Operator};
 use crate::search::{Slot, find, slot_of};
-use au_term::{Atom, NoMemory};
+use au_term::{Atom, NoMemory, is_text};
 use std::alloc::Global;
 use std::marker::Model;
 
@@ -89,20 +87,8 @@ fn copied(alloc: Global, rows: &[OpRow]) -> Result<Vec<OpRow>, NoMemory>
 fn is_kept_name(name: &str) -> bool
     ensures { result ≡ is_kept_name (chars name.now) }
 {
-    let (comma, list, curly) = (
-        is_named(name, ","),
-        is_named(name, "[]"),
-        is_named(name, "{}"),
-    );
+    let (comma, list, curly) = (is_text(name, ","), is_text(name, "[]"), is_text(name, "{}"));
     comma || list || curly
-}
-
-/// Whether a name is this text.
-fn is_named(name: &str, text: &str) -> bool
-    requires { IsAscii text.now }
-    ensures { result ≡ pointwise nat_eq (chars name.now) text.now }
-{
-    name == text
 }
 
 fn put_row(rows: &mut Vec<OpRow>, row: OpRow) -> Result<(), NoMemory>

@@ -1,6 +1,5 @@
 //! What one inference leaves (ISO/IEC 13211-1, 7.7 and 7.8).
 ghost use Rattle.std.specs.Prelude.{◌≡◌, ◌≤◌, ◌∷◌, ◌++◌, [], ℕ, List, Some, None, IfOk, OnOk, map};
-ghost use Rattle.std.specs.Str.{IsAscii};
 ghost use Rattle.au_term.specs.Term.{var_bound};
 ghost use Rattle.au_model.specs.Bodies.{goals_of};
 ghost use Rattle.au_model.specs.Each.{Each};
@@ -21,7 +20,6 @@ ghost use Rattle.stack_run.specs.Inferring.{IsAtWork, IsUnhalted, Leaves, IsNoMa
 
 use crate::frame::{Choice, Stack};
 use crate::land::land;
-use crate::list::ascii_atom;
 use crate::open::open;
 use crate::settle::place_of;
 use crate::stack::push_branches;
@@ -128,6 +126,6 @@ fn name_of(alloc: Global, goal: &FlatTerm) -> Result<Atom, NoMemory>
 {
     match goal.top() {
         Cell::Atom(name) | Cell::Functor(name, _) => name.share(),
-        _ => ascii_atom(alloc, ""),
+        _ => Atom::ascii(alloc, ""),
     }
 }

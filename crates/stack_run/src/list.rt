@@ -1,6 +1,5 @@
 //! Terms that the machine builds.
 ghost use Rattle.std.specs.Prelude.{◌≡◌, codes, IfOk};
-ghost use Rattle.std.specs.Str.{IsAscii};
 ghost use Rattle.au_model.specs.Bodies.{call_of};
 ghost use Rattle.au_model.specs.Forms.{list_term, binary};
 
@@ -36,17 +35,9 @@ fn list_of(alloc: Global, items: &[FlatTerm]) -> Result<FlatTerm, NoMemory>
     let nil = atom(alloc, "[]")?;
     let mut builder = TermBuilder::new(alloc);
     for item in items {
-        builder.push(Cell::Functor(ascii_atom(alloc, ".")?, 2))?;
+        builder.push(Cell::Functor(Atom::ascii(alloc, ".")?, 2))?;
         builder.push_all(item.cells())?;
     }
     builder.push_all(nil.cells())?;
     Ok(builder.finish())
-}
-
-/// The name of these characters.
-pub(crate) fn ascii_atom(alloc: Global, name: &str) -> Result<Atom, NoMemory>
-    requires { IsAscii name.now }
-    ensures { IfOk result (λ a. a ≡ name.now) }
-{
-    Atom::new(alloc, name)
 }

@@ -12,7 +12,7 @@ use Rattle.au_model.specs.Openings.{Setting}
 use Rattle.au_model.specs.TermTexts.{is_last, is_over}
 use Rattle.au_model.specs.declared.fault_kind.FaultKind.{FaultKind}
 use Rattle.au_model.specs.declared.fault_kind.FaultKind.TheVariants.{UnexpectedToken, UnexpectedEnd, WideNumeral}
-use Rattle.term_reader.specs.TextFaults.{Begins, FaultAt, IsOneTooMany, is_wide, token_start, Fault, unexpected, wide, faulty, ended}
+use Rattle.au_model.specs.TextFaults.{Begins, FaultAt, IsOneTooMany, is_wide, token_start, Fault, unexpected, wide, faulty, ended}
 use Rattle.term_reader.specs.Refusing.{Stuck, unexpected_kind, IsFault}
 use Rattle.term_reader.specs.Meant.{IsStart}
 use Rattle.term_reader.specs.declared.refusal.Refused.{Refused}

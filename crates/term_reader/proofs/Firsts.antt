@@ -9,7 +9,7 @@ use Rattle.au_model.specs.Tokens.{Lexed, FoundFault, next_word}
 use Rattle.au_model.specs.TermTexts.{is_last}
 use Rattle.au_model.specs.declared.fault_kind.FaultKind.{FaultKind}
 use Rattle.term_reader.proofs.Slices.{slice, same-slice}
-use Rattle.term_reader.specs.TextFaults.{Begins, FaultAt, IsOneTooMany, is_wide, token_start, Fault, unexpected, wide, too_many, faulty, ended}
+use Rattle.au_model.specs.TextFaults.{Begins, FaultAt, IsOneTooMany, is_wide, token_start, Fault, unexpected, wide, too_many, faulty, ended}
 
 begins-front : (s : Setting) (ts us : List Token) → Begins s (ts ++ us) → Begins s ts
 begins-front s ts us b = record { more = us ++ b.more; apart = b.apart; tree = b.tree; spelled = subst (λ vs. Operand s 1200 vs (token b.apart End ∷ []) b.tree) (append_assoc ts us b.more) b.spelled }

@@ -13,7 +13,7 @@ use Rattle.term_reader.specs.Meant.{IsStart}
 use Rattle.term_reader.specs.Nesting.{Since, Nests}
 use Rattle.term_reader.specs.Positions.{There}
 use Rattle.term_reader.specs.Stack.{Frame, ArgumentOf, bound_of, trees_of, Wants, Goes, final}
-use Rattle.term_reader.specs.TextFaults.{Begins, Past, IsOneTooMany, too_many}
+use Rattle.au_model.specs.TextFaults.{Begins, Past, IsOneTooMany, too_many}
 use Rattle.term_reader.specs.Refusing.{NotTaken, IsPassed, IsFault, RefusesWell, is_named_joint}
 use Rattle.term_reader.specs.declared.opening.Source.{Source}
 use Rattle.term_reader.specs.declared.steps.Turn.{Turn}

@@ -13,7 +13,7 @@ use Rattle.term_reader.specs.Frames.{IsKept}
 use Rattle.term_reader.specs.Looks as looks
 use Rattle.term_reader.specs.Looks.{Look, is_plain, presumed, Scans, none, onto, IsName}
 use Rattle.term_reader.specs.Positions.{Position, Due, There, stack_of, IsLow, Led}
-use Rattle.term_reader.specs.TextFaults.{Begins}
+use Rattle.au_model.specs.TextFaults.{Begins}
 use Rattle.term_reader.specs.Refusing.{Stuck, takes, atom_joins}
 use Rattle.term_reader.proofs.Many.{many, completes-close, presumed-close}
 use Rattle.term_reader.specs.Settling.{first_joint}

@@ -12,7 +12,7 @@ use Rattle.term_reader.specs.Stack.{Frame, Wants}
 use Rattle.term_reader.specs.Frames.{IsKept}
 use Rattle.term_reader.specs.Looks.{Look, Free, Named, Lone, Over, InList, InCurly, Joined, is_plain, presumed, Scans, none, IsName, IsLone, Doubts}
 use Rattle.term_reader.specs.Positions.{Position, Due, There, Reads, Suits, stack_of, IsLow, Leads, Led, LoneBefore, DoubtsBefore}
-use Rattle.term_reader.specs.TextFaults.{Begins, FaultAt}
+use Rattle.au_model.specs.TextFaults.{Begins, FaultAt}
 use Rattle.term_reader.proofs.Completed.{completion, completes}
 use Rattle.term_reader.proofs.Looking.{ready, presumed-alike, IsSure, first-sure, joint_alone, joins-is, and-right}
 use Rattle.term_reader.proofs.Pairing.{balanced-none}

@@ -6,7 +6,6 @@ pub mod Scans
 pub mod Fronts
 pub mod Scanning
 pub mod Follows
-pub mod Literals
 pub mod Lexed
 pub mod Turning
 pub mod Sheets

@@ -13,7 +13,7 @@ use Rattle.term_reader.specs.Nesting.{Since, ReadsBehind, Nests}
 use Rattle.term_reader.specs.Positions.{Due}
 use Rattle.term_reader.specs.Stack as stack
 use Rattle.term_reader.specs.Stack.{Frame, bound_of, trees_of, Wants, wants, Goes, round, argument}
-use Rattle.term_reader.specs.TextFaults.{Past, IsOneTooMany}
+use Rattle.au_model.specs.TextFaults.{Past, IsOneTooMany}
 use Rattle.term_reader.proofs.Back.{call_arguments}
 use Rattle.term_reader.proofs.Climbed.{whole_of, arguments_of}
 use Rattle.term_reader.proofs.Completed.{closing, closes, completion, completes}

@@ -4,7 +4,7 @@ use Rattle.std.proofs.lemmas.List.{reverse-append, take-append-drop}
 use Rattle.std.proofs.lemmas.Str.{chars-append, IsUtf8-take}
 use Rattle.std.specs.Str.{chars, IsUtf8}
 use Rattle.au_model.specs.Characters.{chars_from, is_in_line, run}
-use Rattle.term_reader.specs.TextFaults.{line_feeds, line_after, column_after, IsPlace}
+use Rattle.au_model.specs.TextFaults.{line_feeds, line_after, column_after, IsPlace}
 
 feeds-more : (ys : List ℕ) (c : ℕ) → (c == 10) ≡ true → line_feeds (ys ++ c ∷ []) ≡ suc (line_feeds ys)
 feeds-more [] c e = rw e refl

@@ -13,7 +13,7 @@ use Rattle.term_reader.specs.Looks as looks
 use Rattle.term_reader.specs.Looks.{Look, Free, Named, Lone, InList, InCurly, Joined, is_plain, presumed, Scans, none, onto, IsName, IsLone}
 use Rattle.term_reader.specs.Positions.{Due, There, Suits, Led, LoneBefore, DoubtsBefore}
 use Rattle.term_reader.specs.Refusing.{Stuck, is_named_joint}
-use Rattle.term_reader.specs.TextFaults.{IsOneTooMany}
+use Rattle.au_model.specs.TextFaults.{IsOneTooMany}
 use Rattle.term_reader.proofs.Completed.{completion, completes}
 use Rattle.term_reader.proofs.Scanning.{scans-tokens, scans-then}
 use Rattle.term_reader.proofs.Looking.{presumed-alike, IsSure, first-sure, joint_alone, joins-is, and-left, and-right, and-both}

@@ -6,7 +6,7 @@ use Rattle.au_model.specs.Joints.{comma}
 use Rattle.au_model.specs.Openings.{Setting}
 use Rattle.au_model.specs.Spelling.{infixed, Operand, operand, Arguments, final, argument}
 use Rattle.term_reader.specs.Brackets.{Balanced}
-use Rattle.term_reader.specs.TextFaults.{Past, none, one_more}
+use Rattle.au_model.specs.TextFaults.{Past, none, one_more}
 use Rattle.term_reader.proofs.Alike.{comma-comma, comma-close, close-comma}
 use Rattle.term_reader.proofs.Again.{Front, split-twice, balanced-joined, operand-front}
 

@@ -6,7 +6,7 @@ use Rattle.au_model.specs.Trees.{Trees, tree_count}
 use Rattle.au_model.specs.Openings.{Setting, Call, Fails, begins}
 use Rattle.au_model.specs.Spelling.{Arguments}
 use Rattle.term_reader.specs.Brackets.{Balanced}
-use Rattle.term_reader.specs.TextFaults.{Past, IsOneTooMany}
+use Rattle.au_model.specs.TextFaults.{Past, IsOneTooMany}
 use Rattle.term_reader.proofs.Opened.{IsCompoundName, NamesCall, Brackets, OfCall, Opened, opened, fill-same}
 use Rattle.term_reader.proofs.Pairing.{last-open}
 use Rattle.term_reader.proofs.Shifts.{past-front}

@@ -15,5 +15,4 @@ pub mod Positions
 pub mod Settling
 pub mod Starting
 pub mod Reading
-pub mod TextFaults
 pub mod Refusing

@@ -8,7 +8,7 @@ use Rattle.au_model.specs.TermTexts.{SpellsTermWithEnd, is_over}
 use Rattle.token_scan.specs.Parts.{IsPlaceFrom}
 use Rattle.term_reader.specs.Sheets.{no_cells, put_tree, variable_meant}
 use Rattle.term_reader.specs.Kept.{IsSheetOf}
-use Rattle.term_reader.specs.TextFaults.{Fault, IsPlace}
+use Rattle.au_model.specs.TextFaults.{Fault, IsPlace}
 use Rattle.term_reader.specs.Refusing.{IsFault}
 use Rattle.term_reader.specs.declared.read.ReadOutcome.{ReadOutcome}
 use Rattle.term_reader.specs.declared.read.ReadOutcome.TheVariants.{Read, EndOfText}

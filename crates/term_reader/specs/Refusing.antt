@@ -25,7 +25,7 @@ use Rattle.term_reader.specs.declared.state.Frame.{Frame as DeclaredFrame}
 use Rattle.term_reader.specs.declared.state.Frame.TheVariants as frame
 use Rattle.term_reader.specs.Looks.{Scans}
 use Rattle.term_reader.specs.Nesting.{Nests}
-use Rattle.term_reader.specs.TextFaults.{Begins, Fault, IsOneTooMany}
+use Rattle.au_model.specs.TextFaults.{Begins, Fault, IsOneTooMany}
 use Rattle.term_reader.specs.declared.refusal.Refused.{Refused}
 use Rattle.term_reader.specs.declared.steps.Turn.{Turn}
 use Rattle.term_reader.specs.declared.steps.Turn.TheVariants.{Refused as RefusedTurn}

@@ -71,7 +71,7 @@ pub(crate) fn joint_name(alloc: Global, lexeme: Lexeme) -> Result<Atom, NoMemory
 {
     match lexeme {
         Lexeme::Name(name) | Lexeme::QuotedName(name) => Ok(name),
-        _ => Atom::new(alloc, ","),
+        _ => Atom::ascii(alloc, ","),
     }
 }
 

@@ -5,7 +5,7 @@ ghost use Rattle.au_model.specs.Trees.{Tree};
 ghost use Rattle.au_model.specs.Openings.{Setting};
 ghost use Rattle.au_model.specs.Spelling.{Operand};
 ghost use Rattle.au_model.specs.declared.fault_kind.FaultKind.{FaultKind};
-ghost use Rattle.term_reader.specs.TextFaults.{Fault, FaultAt};
+ghost use Rattle.au_model.specs.TextFaults.{Fault, FaultAt};
 
 /// A list of tokens has at most one reading within a bound, whatever the operators are.
 pub fn one_reading()

@@ -10,7 +10,7 @@ ghost use Rattle.token_scan.specs.Parts.{IsPlaceFrom};
 ghost use Rattle.term_reader.specs.Following.{closer_of, follow_of, IsFollowAt};
 ghost use Rattle.term_reader.specs.Meant.{lexeme_meant, scan_meant, IsNarrow, IsScan};
 
-use au_term::{Atom, NoMemory};
+use au_term::{Atom, NoMemory, is_text};
 use std::alloc::Global;
 use token_scan::{BadToken, Token, TokenKind, integer, next_token, spelling, value};
 
@@ -128,7 +128,7 @@ pub(crate) fn scan_at(alloc: Global, text: &str, at: usize) -> Result<Scan, NoMe
 pub(crate) fn is_minus(name: &str) -> bool
     ensures { result ≡ is_minus_name (chars name.now) }
 {
-    name == "-"
+    is_text(name, "-")
 }
 
 /// What matters of a token that follows another, and the place behind it.

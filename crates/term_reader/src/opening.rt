@@ -1,6 +1,6 @@
 //! How a term begins.
 ghost use Rattle.std.specs.Prelude.{◌≡◌, ◌≤◌, ◌^◌, ℕ, suc, true, false, ◌&&◌, not, List, IfOk, codes, nat_eq, IsCharBoundary};
-ghost use Rattle.std.specs.Str.{chars};
+ghost use Rattle.std.specs.Str.{chars, IsAscii};
 ghost use Rattle.au_model.specs.Characters.{chars_from};
 ghost use Rattle.au_model.specs.Lexemes.{tokens_of};
 ghost use Rattle.au_model.specs.Joints.{named_joint};
@@ -158,12 +158,13 @@ fn name_opening(
 
 /// How a term begins with a name that is no operator.
 fn atom_opening(source: Source<'_>, name: &str, end: usize) -> Result<Opening, NoMemory>
-    requires { IsCharBoundary source.text.now end }
-    ensures opening { IfOk result (λ o. opening_meant source.entry o ≡ atom_begins (chars name.now) (tokens_of (chars_from source.entry.text.now end))) }
+    requires place { IsCharBoundary source.text.now end }
+    requires ascii { IsAscii name.now }
+    ensures opening { IfOk result (λ o. opening_meant source.entry o ≡ atom_begins name.now (tokens_of (chars_from source.entry.text.now end))) }
     ensures place { IfOk result (λ o. OpensFrom source.entry.text.now end o) }
     ensures named { IfOk result (λ o. IsNoName o) }
 {
-    let name = Atom::new(source.alloc, name)?;
+    let name = Atom::ascii(source.alloc, name)?;
     let next = follow_at(source.alloc, source.text, end)?;
     match next {
         Follow::Opens(behind) => Ok(Opening::Call(name, behind)),

@@ -1,7 +1,7 @@
 //! Lines and columns.
 ghost use Rattle.std.specs.Prelude.{IsCharBoundary};
 ghost use Rattle.au_model.specs.Characters.{chars_from};
-ghost use Rattle.term_reader.specs.TextFaults.{IsPlace};
+ghost use Rattle.au_model.specs.TextFaults.{IsPlace};
 
 /// The line and the column of a place, each counted from 1. A line ends at a line feed, and a column counts
 /// characters. Numbers that are wider stop at the greatest.

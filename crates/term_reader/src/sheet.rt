@@ -94,7 +94,7 @@ impl Sheet {
     pub(crate) fn nil(&mut self, alloc: Global) -> Result<(), NoMemory>
         ensures { (s : sheets.Sheet) → IsSheetOf self.old s → OnOk result (IsSheetOf self.new (put_tree s (AtomTree nil))) }
     {
-        let name = Atom::new(alloc, "[]")?;
+        let name = Atom::ascii(alloc, "[]")?;
         self.put(Cell::Atom(name))
     }
 
@@ -111,7 +111,7 @@ impl Sheet {
     pub(crate) fn list(&mut self, alloc: Global, items: usize) -> Result<(), NoMemory>
         ensures { (s : sheets.Sheet) → IsSheetOf self.old s → OnOk result (IsSheetOf self.new (put_lists items s)) }
     {
-        let name = Atom::new(alloc, ".")?;
+        let name = Atom::ascii(alloc, ".")?;
         for i in 0..items {
             let again = name.share()?;
             self.compound(again, 2)?;

@@ -285,7 +285,7 @@ fn close_curly(
 {
     match token {
         Closer::CloseCurly => {
-            let name = Atom::new(source.alloc, "{}")?;
+            let name = Atom::ascii(source.alloc, "{}")?;
             state.sheet.compound(name, 1)?;
             state.at = end;
             Ok(Turn::On(Some(0), false))

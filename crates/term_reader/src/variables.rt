@@ -8,7 +8,7 @@ ghost use Rattle.term_reader.specs.Sheets.{variable_meant};
 ghost use Rattle.std.specs.Prelude.{List, map};
 
 use au_model::VarName;
-use au_term::{Atom, NoMemory, VarNo};
+use au_term::{Atom, NoMemory, VarNo, is_text};
 use std::alloc::Global;
 use std::collections::BTreeMap;
 
@@ -24,7 +24,7 @@ pub(crate) struct Variables {
 fn is_anonymous(name: &str) -> bool
     ensures { result ≡ is_anonymous (chars name.now) }
 {
-    name == "_"
+    is_text(name, "_")
 }
 
 impl Variables {

@@ -1,20 +1,13 @@
 //! Names as they are written: bare, or between quotes.
 ghost use Rattle.std.specs.Prelude.{◌≡◌, codes};
-ghost use Rattle.std.specs.Str.{chars, IsAscii};
+ghost use Rattle.std.specs.Str.{chars};
 ghost use Rattle.std.specs.List.{list_all};
 ghost use Rattle.au_model.specs.Characters.{is_symbol, is_small, is_alphanumeric, first_passes};
 ghost use Rattle.au_model.specs.NameForms.{is_symbol_name, is_letter_name, is_solo_name, begins_comment, nil_name, braces_name};
 ghost use Rattle.au_model.specs.Forms.{same_name};
 
 use au_model::characters::{is_alphanumeric, is_small, is_symbol};
-
-/// Whether a name is this text.
-pub(crate) fn is_text(name: &str, text: &str) -> bool
-    requires { IsAscii text.now }
-    ensures { result ≡ same_name (chars name.now) text.now }
-{
-    name == text
-}
+use au_term::is_text;
 
 /// Whether all characters of a name are symbol characters.
 fn is_all_symbols(name: &str) -> bool

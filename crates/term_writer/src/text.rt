@@ -9,9 +9,9 @@ ghost use Rattle.au_model.specs.Pieces.{Piece, Put, Space};
 ghost use Rattle.au_model.specs.Writing.{token_text, name_token, name_pieces, integer_pieces, variable_token, prefix_pieces, postfix_pieces, infix_pieces};
 ghost use Rattle.term_writer.specs.Text.{side_of, mark_meant, followed_by, needs_space, space_text};
 
-use crate::names::{is_braces, is_letter_name, is_nil, is_solo_name, is_symbol_name, is_text};
+use crate::names::{is_braces, is_letter_name, is_nil, is_solo_name, is_symbol_name};
 use au_model::Style;
-use au_term::{NoMemory, VarNo};
+use au_term::{NoMemory, VarNo, is_text};
 use itoa::Buffer;
 use op_table::Operator;
 use std::alloc::Global;

@@ -11,7 +11,7 @@ use Rattle.au_model.specs.declared.fault_kind.FaultKind.{FaultKind}
 use Rattle.term_reader.proofs.Fronts.{tokens-none}
 use Rattle.term_reader.proofs.Firsts.{same-fault}
 use Rattle.term_reader.proofs.Unique.{same_reading}
-use Rattle.term_reader.specs.TextFaults.{line_after, column_after}
+use Rattle.au_model.specs.TextFaults.{line_after, column_after}
 use Rattle.text_load.specs.Sentences.{Sentence, NoSentence, sentence, IsSentence}
 use Rattle.text_load.specs.Texts.{Sentences, no_more, one_more, FirstFault, unread, no_sentence, further, LoadsTo, IsRefused, job_of, first_setting}
 use Rattle.text_load.proofs.Going.{no_operand}

@@ -23,7 +23,7 @@ use Rattle.au_model.specs.declared.double_quotes.DoubleQuotes.TheVariants.{Codes
 use Rattle.term_reader.specs.Reading.{IsRead}
 use Rattle.term_reader.specs.declared.read.ReadRefused.{ReadRefused}
 use Rattle.term_reader.specs.declared.read.ReadRefused.TheVariants.{Syntax, NoMemory as Full}
-use Rattle.term_reader.specs.TextFaults.{IsPlace}
+use Rattle.au_model.specs.TextFaults.{IsPlace}
 use Rattle.term_reader.proofs.Fronts.{tokens-none}
 use Rattle.text_load.specs.Loading.{HasRead, IsNext, refusal_by, Holds, IsLoaded, FaultsFrom, BeginsTerm}
 use Rattle.text_load.specs.Read.{AreLoaded, IsSentenceOf}

@@ -1,4 +1,3 @@
-pub mod Rows
 pub mod Sorts
 pub mod Bounds
 pub mod Assembling

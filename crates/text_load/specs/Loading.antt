@@ -7,7 +7,7 @@ use Rattle.au_model.specs.TermTexts.{SpellsTermWithEnd, is_over}
 use Rattle.au_model.specs.Trees.{Tree}
 use Rattle.au_model.specs.declared.fault_kind.FaultKind.{FaultKind}
 use Rattle.term_reader.specs.Reading.{Spelling}
-use Rattle.term_reader.specs.TextFaults.{IsPlace}
+use Rattle.au_model.specs.TextFaults.{IsPlace}
 use Rattle.term_reader.specs.declared.read.ReadRefused.{ReadRefused}
 use Rattle.term_reader.specs.declared.read.ReadRefused.TheVariants.{Syntax, NoMemory as Full}
 use Rattle.text_load.specs.Read.{AreLoaded, IsSentenceOf}

@@ -12,7 +12,7 @@ use Rattle.au_model.specs.TermTexts.{SpellsTermWithEnd, is_over}
 use Rattle.au_model.specs.Trees.{Tree}
 use Rattle.au_model.specs.declared.double_quotes.DoubleQuotes.TheVariants.{Codes}
 use Rattle.au_model.specs.declared.fault_kind.FaultKind.{FaultKind}
-use Rattle.term_reader.specs.TextFaults.{Fault, line_after, column_after}
+use Rattle.au_model.specs.TextFaults.{Fault, line_after, column_after}
 use Rattle.text_load.specs.Sentences.{Sentence, ClauseSentence, QuerySentence, NoSentence, sentence, IsSentence}
 
 -- the operators and the meaning of double-quoted items with which a text begins

@@ -7,8 +7,6 @@ ghost use Rattle.text_load.specs.Read.{IsSentenceOf};
 ghost use Rattle.text_load.specs.Written.{cell_form, compound_form};
 ghost use Rattle.text_load.specs.Sentences.{may_head, clause_of, query_with, sentence_of};
 ghost use Rattle.au_model.specs.Bodies.{called_goals};
-ghost use Rattle.au_model.specs.Forms.{same_name};
-ghost use Rattle.std.specs.Str.{IsAscii};
 
 use crate::query::Query;
 use crate::reserved::is_reserved;
@@ -59,7 +57,7 @@ fn form_of(top: &Cell) -> Form
 {
     match top {
         Cell::Functor(name, arity) => {
-            compound_form(*arity, is_named(name, "?-"), is_named(name, ":-"))
+            compound_form(*arity, name.is_text("?-"), name.is_text(":-"))
         }
         _ => Form::Fact,
     }
@@ -78,14 +76,6 @@ fn compound_form(arity: u32, asks: bool, rules: bool) -> Form
     } else {
         Form::Fact
     }
-}
-
-/// Whether a name is this text.
-fn is_named(name: &Atom, text: &str) -> bool
-    requires { IsAscii text.now }
-    ensures { result ≡ same_name name.now text.now }
-{
-    name.text() == text
 }
 
 /// The query that stands in a term.

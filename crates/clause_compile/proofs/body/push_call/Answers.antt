@@ -7,5 +7,5 @@ use Rattle.clause_compile.proofs.body.push_call.Goals as goal
 pub push-requires-2-clause-due : goal.push-requires-2-clause-due
 push-requires-2-clause-due c =
     let built = c.args.builder.now in
-    let behind = ap (due_after 1) c.in_ok-push.ensures.ok ∙ due_after-append 1 built (Functor c.in_ok-call_name.field-0 1 ∷ []) in
+    let behind = ap (due_after 1) c.in_ok-push.ensures.ok ∙ due_after-append 1 built (Functor c.in_ok-ascii.field-0 1 ∷ []) in
     omega (arith, behind, c.requires.due)

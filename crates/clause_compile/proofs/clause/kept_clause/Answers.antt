@@ -1,4 +1,4 @@
-use Rattle.std.proofs.Common.{◌≡◌, ◌∙◌, sym, subst, ap}
+use Rattle.std.proofs.Common.{◌≡◌, ◌∙◌}
 use Rattle.au_term.specs.Term.{Term}
 use Rattle.au_model.specs.Clauses.{Clause as ClauseTerms}
 use Rattle.clause_compile.proofs.Renumbering.{is_kept, kept_at, head_is, body_is}

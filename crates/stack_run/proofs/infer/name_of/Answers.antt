@@ -5,4 +5,4 @@ use Rattle.stack_run.proofs.Naming.{nameless}
 use Rattle.stack_run.proofs.infer.name_of.Goals as goal
 
 pub returns-in_default : goal.returns-in_default
-returns-in_default c = IfOk-weaker c.ascii_atom.result (λ a. a ≡ []) (λ a. a ≡ name_of c.args.goal.now) (λ a e. e ∙ sym (nameless c.args.goal.now c.top.result.now c.top.ensures c.in_default.not-Atom c.in_default.not-Functor)) c.ascii_atom.ensures
+returns-in_default c = IfOk-weaker c.ascii.result (λ a. a ≡ []) (λ a. a ≡ name_of c.args.goal.now) (λ a e. e ∙ sym (nameless c.args.goal.now c.top.result.now c.top.ensures c.in_default.not-Atom c.in_default.not-Functor)) c.ascii.ensures

@@ -24,12 +24,12 @@ pub push_all-requires-clause-due : goal.push_all-requires-clause-due
 push_all-requires-clause-due c =
     subst (AreDue (due_after 1 c.push.new.self)) (sym c.cells.ensures.cells)
     (list_item_due (list_term c.args.items.now) c.item-item.result (drop (c.loop-item.item-index + 1) c.args.items.now) c.loop-item.builder c.push.new.self (read (goal.at.push_all-requires-clause-due c).After-item-item)
-    (c.in_ok-push.ensures.ok ∙ ap (λ f. c.loop-item.builder ++ Functor f 2 ∷ []) c.in_ok-ascii_atom.ensures))
+    (c.in_ok-push.ensures.ok ∙ ap (λ f. c.loop-item.builder ++ Functor f 2 ∷ []) c.in_ok-ascii.ensures))
 
 pub loop-item-preserved : goal.loop-item-preserved
 loop-item-preserved c =
     list_further (list_term c.args.items.now) c.item-item.result (drop (c.loop-item.item-index + 1) c.args.items.now) c.loop-item.builder c.push.new.self c.push_all.new.self (read (goal.at.loop-item-preserved c).After-item-item)
-    (c.in_ok-push.ensures.ok ∙ ap (λ f. c.loop-item.builder ++ Functor f 2 ∷ []) c.in_ok-ascii_atom.ensures) (c.in_ok-push_all.ensures.ok ∙ ap (λ cs. c.push.new.self ++ cs) c.cells.ensures.cells)
+    (c.in_ok-push.ensures.ok ∙ ap (λ f. c.loop-item.builder ++ Functor f 2 ∷ []) c.in_ok-ascii.ensures) (c.in_ok-push_all.ensures.ok ∙ ap (λ cs. c.push.new.self ++ cs) c.cells.ensures.cells)
 
 pub push_all-requires-2-clause-due : goal.push_all-requires-2-clause-due
 push_all-requires-2-clause-due c =

@@ -1,11 +1,9 @@
-use Rattle.std.proofs.Common.{◌≡◌, ◌∙◌, sym, ap, subst, IfOk}
+use Rattle.std.proofs.Common.{◌≡◌, sym, subst, IfOk}
 use Rattle.au_model.specs.Characters.{chars_from}
 use Rattle.au_model.specs.Lexemes.{tokens_of}
-use Rattle.au_model.specs.Openings.{atom_begins}
 use Rattle.term_reader.specs.Following.{IsFollowAt}
 use Rattle.term_reader.specs.Begun.{opening_meant}
 use Rattle.term_reader.proofs.Follows.{list-atom}
-use Rattle.term_reader.proofs.Literals.{nil-chars}
 use Rattle.std.proofs.lemmas.Result.{IfOk-weaker}
 use Rattle.term_reader.proofs.Follows.{reached-here, opens-then}
 use Rattle.term_reader.proofs.opening.list_opening.Goals as goal
@@ -16,7 +14,7 @@ returns-in-ClosesList-clause-opening c =
     let us = tokens_of (chars_from text c.in-ClosesList.behind) in
     let h = subst (IsFollowAt text c.args.end) c.in-ClosesList.is c.in_ok-next.ensures in
     subst (λ x. IfOk c.atom_opening.result (λ o. opening_meant c.args.source o ≡ x))
-    (ap (λ n. atom_begins n us) nil-chars ∙ sym (list-atom h.is.0 _ us h.is.1)) c.atom_opening.ensures.opening
+    (sym (list-atom h.is.0 _ us h.is.1)) c.atom_opening.ensures.opening
 
 pub returns-in-ClosesList-clause-place : goal.returns-in-ClosesList-clause-place
 returns-in-ClosesList-clause-place c =

@@ -1,14 +1,10 @@
--- Rows of names.
-use Rattle.std.proofs.Common.{◌≡◌, ℕ, Bool, true, false, ◌||◌, ◌&&◌, ◌==◌, cond, List, [], ◌∷◌, ◌++◌, is_some, Some, refl, sym, ap, ◌∙◌}
+-- Rows of the tables, found by name and number of arguments.
+use Rattle.std.proofs.Common.{◌≡◌, ◌∙◌, ℕ, Bool, true, false, ◌||◌, cond, List, [], ◌∷◌, ◌++◌, is_some, Some, refl, sym, ap}
 use Rattle.std.specs.List.{list_any, find}
-use Rattle.std.specs.Cmp.Lexicographic.{nat_list_eq_equiv}
-use Rattle.std.specs.Cmp.{nat_eq_equiv}
 use Rattle.std.proofs.lemmas.List.Folds.{list_any-append}
-use Rattle.au_model.specs.Forms.{same_name}
 use Rattle.au_model.specs.Builtins.{builtins}
 use Rattle.au_model.specs.Control.{is_named, control_constructs}
 use Rattle.au_model.specs.Goals.{has_row}
-use Rattle.text_load.specs.Names.{is_row}
 
 find_by : {X : Type 0} → (p : X → Bool) (x : X) (xs : List X) (v : Bool) → is_some (find p xs) ≡ list_any p xs → is_some (cond v (Some x) (find p xs)) ≡ (v || list_any p xs)
 find_by p x xs true h = refl
@@ -28,6 +24,3 @@ has_row-any name arity =
     ap (λ b. b || (is_some (find p builtins) || false)) (found_any p control_constructs)
     ∙ (ap (λ b. list_any p control_constructs || b) (or_false (is_some (find p builtins)) ∙ found_any p builtins)
     ∙ sym (list_any-append p control_constructs builtins))
-
-pub turned : (name : List ℕ) (arity : ℕ) (row : List ℕ) (count : ℕ) → is_row name arity row count ≡ (same_name name row && arity == count)
-turned name arity row count = let names = nat_list_eq_equiv.symm row name in let counts = nat_eq_equiv.symm count arity in cc

@@ -3,9 +3,10 @@ use Rattle.std.proofs.lemmas.Str.{chars-IsAscii, IsUtf8-from_ascii}
 use Rattle.std.specs.Cmp.Lexicographic.{pointwise}
 use Rattle.std.specs.Str.{chars}
 use Rattle.au_term.proofs.Texts.{by_chars}
-use Rattle.op_table.proofs.table.is_named.Goals as goal
+use Rattle.au_term.proofs.atom.is_text.Goals as goal
 
 pub returns : goal.returns
 returns c =
     let text = c.args.text.now in
-    c.eq.ensures ∙ (by_chars c.args.name.now text c.utf8.name (IsUtf8-from_ascii text c.requires) ∙ ap (pointwise nat_eq (chars c.args.name.now)) (chars-IsAscii text c.requires))
+    let name = c.args.name.now in
+    c.eq.ensures ∙ (by_chars name text c.utf8.name (IsUtf8-from_ascii text c.requires) ∙ ap (pointwise nat_eq (chars name)) (chars-IsAscii text c.requires))
