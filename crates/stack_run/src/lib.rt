@@ -10,5 +10,7 @@ mod run;
 mod settle;
 mod stack;
 mod step;
+#[cfg(test)]
+mod tests;
 
 pub use run::run_job;
