@@ -5,6 +5,7 @@ use Rattle.au_model.specs.Operators.{OperatorTable}
 use Rattle.au_model.specs.Joints.{comma, fits, goes_on}
 use Rattle.au_model.specs.Openings.{opens, counts, stands_alone}
 use Rattle.term_reader.specs.Looks.{Look, Free, Named, Lone, Over, InList, InCurly, Joined, closes_list, closes_curly, is_plain, presumed}
+use Rattle.term_reader.proofs.Looking.{list-first, curly-first}
 use Rattle.term_reader.proofs.Opened.{plain-alike, ends-same}
 
 -- they begin and go on alike, as far as they are seen from there
@@ -21,14 +22,6 @@ opens-first (token a x) us vs = refl
 
 counts-first : (t : Token) (us vs : List Token) → counts (t ∷ us) ≡ counts (t ∷ vs)
 counts-first (token a x) us vs = refl
-
-list-first : (t : Token) (us vs : List Token) → closes_list (t ∷ us) ≡ closes_list (t ∷ vs)
-list-first (token a CloseList) us vs = refl
-list-first (token a x) us vs = refl
-
-curly-first : (t : Token) (us vs : List Token) → closes_curly (t ∷ us) ≡ closes_curly (t ∷ vs)
-curly-first (token a CloseCurly) us vs = refl
-curly-first (token a x) us vs = refl
 
 alone-first : (ops : OperatorTable) (t : Token) (us vs : List Token) → opens us ≡ opens vs → counts us ≡ counts vs → stands_alone ops (t ∷ us) ≡ stands_alone ops (t ∷ vs)
 alone-first ops (token a x) us vs e f = ends-same ops x us vs e f

@@ -114,11 +114,11 @@ ready-close ops k l p (Joined y) us vs h e = ends-quiet ops y us (token false wo
 plain-first : (sign : Bool) (t : Token) (us vs : List Token) → is_plain sign (t ∷ us) ≡ true → is_plain sign (t ∷ vs) ≡ true
 plain-first sign (token a x) us vs e = e
 
-list-first : (t : Token) (us vs : List Token) → closes_list (t ∷ us) ≡ closes_list (t ∷ vs)
+pub list-first : (t : Token) (us vs : List Token) → closes_list (t ∷ us) ≡ closes_list (t ∷ vs)
 list-first (token a words.CloseList) us vs = refl
 list-first (token a x) us vs = refl
 
-curly-first : (t : Token) (us vs : List Token) → closes_curly (t ∷ us) ≡ closes_curly (t ∷ vs)
+pub curly-first : (t : Token) (us vs : List Token) → closes_curly (t ∷ us) ≡ closes_curly (t ∷ vs)
 curly-first (token a words.CloseCurly) us vs = refl
 curly-first (token a x) us vs = refl
 

@@ -7,6 +7,7 @@ use Rattle.au_model.specs.Openings.{Setting, Call, Fails, begins}
 use Rattle.au_model.specs.Spelling.{Arguments}
 use Rattle.term_reader.specs.Brackets.{Balanced}
 use Rattle.au_model.specs.TextFaults.{Past, IsOneTooMany}
+use Rattle.term_reader.proofs.Ledger.{get-behind}
 use Rattle.term_reader.proofs.Opened.{IsCompoundName, NamesCall, Brackets, OfCall, Opened, opened, fill-same}
 use Rattle.term_reader.proofs.Pairing.{last-open}
 use Rattle.term_reader.proofs.Shifts.{past-front}
@@ -53,10 +54,7 @@ front-length ts before t n lt e =
     omega (arith, length-drop (suc n) ts)
 
 get-seam : (before behind : List Token) (t : Token) (n : ℕ) → length before ≡ n → slice_get (before ++ t ∷ behind) n ≡ Some t
-get-seam before behind t n e = subst (λ k. slice_get (before ++ t ∷ behind) k ≡ Some t) e (go before) where
-  go : (us : List Token) → slice_get (us ++ t ∷ behind) (length us) ≡ Some t
-  go [] = refl
-  go (u ∷ us) = go us
+get-seam before behind t n e = subst (λ k. slice_get (before ++ t ∷ behind) k ≡ Some t) e (get-behind before behind t)
 
 pub slice : (s : Setting) (ts : List Token) (n m : ℕ) (name : List ℕ) → n < length ts → IsOneTooMany s ts n m name → Slice s ts n m
 slice s ts n m name lt h =
