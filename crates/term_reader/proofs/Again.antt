@@ -58,7 +58,8 @@ last-listed xs b = record { named = []; apart = b.0; bracket = OpenList; opens =
 last-call : (n : List ℕ) → OpensLast (OfCall n)
 last-call n xs b = record { named = b.named; apart = false; bracket = Open; opens = tt; balanced = b.balanced; is = b.is }
 
-joint-plain : (ops : OperatorTable) (x : Lexeme) → is_joint (lexeme_joint ops x) ≡ true → IsNoBracket x
+-- a token that joins is no bracket
+pub joint-plain : (ops : OperatorTable) (x : Lexeme) → is_joint (lexeme_joint ops x) ≡ true → IsNoBracket x
 joint-plain ops (Name n) e d = refl
 joint-plain ops (QuotedName n) e d = refl
 joint-plain ops Comma e d = refl

@@ -7,7 +7,7 @@ use Rattle.au_model.specs.Operators.{Operator, OperatorTable, prefix_of}
 use Rattle.au_model.specs.Joints.{Joint, Infix, Postfix, joint_fits, lexeme_joint, token_joint}
 use Rattle.au_model.specs.Trees.{Tree, AtomTree, one, two}
 use Rattle.au_model.specs.Openings as begun
-use Rattle.au_model.specs.Openings.{Setting, begins, lexeme_begins, is_minus_name}
+use Rattle.au_model.specs.Openings.{Setting, begins, lexeme_begins, is_joint, is_minus_name}
 use Rattle.au_model.specs.declared.double_quotes.DoubleQuotes.{DoubleQuotes}
 use Rattle.op_table.specs.declared.operator.Operator.{Operator as DeclaredOperator}
 use Rattle.term_reader.specs.declared.opening.Leaf.{Leaf}
@@ -26,7 +26,8 @@ use Rattle.term_reader.specs.Kept.{IsSheetOf}
 use Rattle.term_reader.specs.Positions.{Position, Due, There, Reads, Stands, Suits, NestsBegun, Leads, Outcome, Moves}
 use Rattle.term_reader.specs.Settling.{first_joint, Same, NestSame}
 use Rattle.term_reader.specs.Meant.{IsStart}
-use Rattle.term_reader.proofs.Nested.{level-begun, round-begun, curly-begun, list-begun, call-begun, level-behind, infix-plain, postfix-plain}
+use Rattle.term_reader.proofs.Nested.{level-begun, round-begun, curly-begun, list-begun, call-begun, level-behind}
+use Rattle.term_reader.proofs.Again.{joint-plain}
 use Rattle.term_reader.specs.Starting.{Starts, StartEnds, IsFurther, IsPushed, IsPut}
 use Rattle.term_reader.specs.declared.opening.Source.{Source}
 use Rattle.term_reader.specs.declared.opening.Opening.{Opening}
@@ -370,7 +371,7 @@ module _ (source : Source) (at end : ℕ) (k : List stack.Frame) (l : Tree) (p :
         fits = refl;
         to = λ vs goal f g. turns.goes_infix (setting_of source) (token a x ∷ vs) vs n o l p (i vs) (fits-within (bound_of k) p o h) g;
         back = λ vs goal f w. turns.went_infix (setting_of source) (token a x ∷ vs) vs n o l p (i vs) le w;
-        step = (refl, refl, refl, level-behind (setting_of source) source.text.now k a x (stack.InfixOf n o l ∷ k) (infix-plain source.ops.now x n o j) (λ start read m. m));
+        step = (refl, refl, refl, level-behind (setting_of source) source.text.now k a x (stack.InfixOf n o l ∷ k) (joint-plain source.ops.now x (ap is_joint j)) (λ start read m. m));
       }
 
   pub postfix-leads : scanned (chars_from source.text.now at) ≡ ScannedTo (token a x) (chars_from source.text.now end) → lexeme_joint source.ops.now x ≡ Postfix n o → joint_fits (bound_of k) p (Postfix n o) ≡ true
@@ -385,7 +386,7 @@ module _ (source : Source) (at end : ℕ) (k : List stack.Frame) (l : Tree) (p :
         fits = refl;
         to = λ vs goal f g. turns.goes_postfix (setting_of source) (token a x ∷ vs) vs n o l p (i vs) (fits-within (bound_of k) p o h) g;
         back = λ vs goal f w. turns.went_postfix (setting_of source) (token a x ∷ vs) vs n o l p (i vs) le w;
-        step = (refl, refl, refl, level-behind (setting_of source) source.text.now k a x k (postfix-plain source.ops.now x n o j) (λ start read m. m));
+        step = (refl, refl, refl, level-behind (setting_of source) source.text.now k a x k (joint-plain source.ops.now x (ap is_joint j)) (λ start read m. m));
       }
 
   pub fits-bound : joint_fits (bound_of k) p (Infix n o) ≡ true → o.priority ≤ bound_of k

@@ -4,8 +4,6 @@ use Rattle.au_model.specs.Characters.{chars_from}
 use Rattle.au_model.specs.Layout.{GapThen, behind_layout}
 use Rattle.au_model.specs.Lexemes as words
 use Rattle.au_model.specs.Lexemes.{Lexeme, Token, token}
-use Rattle.au_model.specs.Operators.{Operator, OperatorTable}
-use Rattle.au_model.specs.Joints.{Infix, Postfix, lexeme_joint}
 use Rattle.au_model.specs.Openings.{Setting, Call, begins}
 use Rattle.term_reader.specs.Brackets.{Balanced}
 use Rattle.term_reader.specs.Looks.{Look, Free, presumed}
@@ -102,15 +100,3 @@ module _ (s : Setting) (text : List ℕ) (at : ℕ) (k : List Frame) (ts : List 
 module _ (s : Setting) (text : List ℕ) (k : List Frame) (a : Bool) (x : Lexeme) where
   pub level-behind : (new : List Frame) → IsNoBracket x → ((start : ℕ) (read : List Token) → Nests s text start read k → Nests s text start read new) → NestsBehind s text k (token a x) new
   level-behind new h same start read n = nests-more s text start new read (token a x ∷ []) (balanced-plain a x h) (same start read n)
-
--- a token that joins is no bracket
-pub infix-plain : (ops : OperatorTable) (x : Lexeme) (n : List ℕ) (o : Operator) → lexeme_joint ops x ≡ Infix n o → IsNoBracket x
-infix-plain ops (words.Name m) n o e d = refl
-infix-plain ops (words.QuotedName m) n o e d = refl
-infix-plain ops words.Comma n o e d = refl
-infix-plain ops x n o e d = let z : ⊥ = cc in absurd z
-
-pub postfix-plain : (ops : OperatorTable) (x : Lexeme) (n : List ℕ) (o : Operator) → lexeme_joint ops x ≡ Postfix n o → IsNoBracket x
-postfix-plain ops (words.Name m) n o e d = refl
-postfix-plain ops (words.QuotedName m) n o e d = refl
-postfix-plain ops x n o e d = let z : ⊥ = cc in absurd z

@@ -150,6 +150,11 @@ over-begins ops n o ts e h = ap (λ q. prefix_or_atom ops n q ts) e ∙ ap (λ b
 
 -- ---- names
 
+pub name-balanced : (a : Bool) (x : Lexeme) (sign : Bool) (n : List ℕ) → IsName x sign n → Balanced (token a x ∷ [])
+name-balanced a (words.Name m) sign n h d = refl
+name-balanced a (words.QuotedName m) sign n h d = refl
+name-balanced a x sign n h d = absurd h
+
 module _ (s : Setting) (a : Bool) (x : Lexeme) (sign : Bool) (n : List ℕ) (h : IsName x sign n) (ts : List Token) where
   same-alone : (us vs : List Token) → is_plain sign us ≡ true → is_plain sign vs ≡ true → ends_before s.ops x vs ≡ ends_before s.ops x us
   same-alone us vs e f = ends-plain s.ops x sign n h vs f ∙ sym (ends-plain s.ops x sign n h us e)
@@ -166,11 +171,6 @@ module _ (s : Setting) (a : Bool) (x : Lexeme) (sign : Bool) (n : List ℕ) (h :
   one-name (words.QuotedName k) b m g = tt
   one-name y b m g = absurd g
 
-  plain-name : (y : Lexeme) (b : Bool) (m : List ℕ) → IsName y b m → Balanced (token a y ∷ [])
-  plain-name (words.Name k) b m g d = refl
-  plain-name (words.QuotedName k) b m g d = refl
-  plain-name y b m g d = absurd g
-
   named-call : (us : List Token) → ts ≡ token false words.Open ∷ us → Opened s (token a x) ts
   named-call us e = record {
     kind = OfCall n;
@@ -184,7 +184,7 @@ module _ (s : Setting) (a : Bool) (x : Lexeme) (sign : Bool) (n : List ℕ) (h :
     alone = λ vs f. ends-same s.ops x (token false words.Open ∷ vs) (token false words.Open ∷ us) refl refl;
     may = tt;
     lone = tt;
-    brackets = record { named = token a x ∷ []; is = refl; is_name = one-name x sign n h; balanced = plain-name x sign n h };
+    brackets = record { named = token a x ∷ []; is = refl; is_name = one-name x sign n h; balanced = name-balanced a x sign n h };
   }
 
   named-number : (k : ℕ) (us : List Token) → sign ≡ true → ts ≡ token false (words.Integer k) ∷ us → Opened s (token a x) ts
@@ -200,7 +200,7 @@ module _ (s : Setting) (a : Bool) (x : Lexeme) (sign : Bool) (n : List ℕ) (h :
     alone = λ vs f. ends-same s.ops x (token false (words.Integer k) ∷ vs) (token false (words.Integer k) ∷ us) refl refl;
     may = tt;
     lone = λ m b q e. let z : ⊥ = cc in z;
-    brackets = λ d. plain-name x sign n h d;
+    brackets = λ d. name-balanced a x sign n h d;
   }
 
   named-alone : is_plain sign ts ≡ true → prefix_of s.ops n ≡ None → Opened s (token a x) ts
@@ -216,7 +216,7 @@ module _ (s : Setting) (a : Bool) (x : Lexeme) (sign : Bool) (n : List ℕ) (h :
     alone = λ vs f. same-alone ts vs e f;
     may = tt;
     lone = λ m b g. ap (prefix_of s.ops) (sym (same-name m b g)) ∙ p;
-    brackets = plain-name x sign n h;
+    brackets = name-balanced a x sign n h;
   }
 
   named-lone : (o : Operator) → is_plain sign ts ≡ true → prefix_of s.ops n ≡ Some o → stands_alone s.ops ts ≡ true → Opened s (token a x) ts
@@ -232,7 +232,7 @@ module _ (s : Setting) (a : Bool) (x : Lexeme) (sign : Bool) (n : List ℕ) (h :
     alone = λ vs f. same-alone ts vs e (and-left _ _ f);
     may = tt;
     lone = (n, o, h, p, refl, refl);
-    brackets = plain-name x sign n h;
+    brackets = name-balanced a x sign n h;
   }
 
   named-over : (o : Operator) → is_plain sign ts ≡ true → prefix_of s.ops n ≡ Some o → stands_alone s.ops ts ≡ false → Opened s (token a x) ts
@@ -248,7 +248,7 @@ module _ (s : Setting) (a : Bool) (x : Lexeme) (sign : Bool) (n : List ℕ) (h :
     alone = λ vs f. same-alone ts vs e (and-left _ _ f);
     may = tt;
     lone = (sign, h, p, refl, refl);
-    brackets = plain-name x sign n h;
+    brackets = name-balanced a x sign n h;
   }
 
   by-prefix : is_plain sign ts ≡ true → (q : Option Operator) → prefix_of s.ops n ≡ q → (b : Bool) → stands_alone s.ops ts ≡ b → Opened s (token a x) ts

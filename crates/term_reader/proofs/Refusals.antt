@@ -17,13 +17,12 @@ use Rattle.au_model.specs.TextFaults.{IsOneTooMany}
 use Rattle.term_reader.proofs.Completed.{completion, completes}
 use Rattle.term_reader.proofs.Scanning.{scans-tokens, scans-then}
 use Rattle.term_reader.proofs.Looking.{presumed-alike, IsSure, first-sure, joint_alone, joins-is, and-left, and-right, and-both}
-use Rattle.term_reader.proofs.Opened.{ends-same, name-begins, name-plain, lone-begins, over-begins}
+use Rattle.term_reader.proofs.Opened.{ends-same, name-balanced, name-begins, name-plain, lone-begins, over-begins}
 use Rattle.term_reader.proofs.Ledger.{led-begins, begins-more}
 use Rattle.term_reader.proofs.Follows.{name-call}
 use Rattle.term_reader.proofs.Fronts.{tokens-first}
 use Rattle.term_reader.proofs.Many.{many, completes-close}
 use Rattle.term_reader.proofs.Nested.{nests-more}
-use Rattle.term_reader.proofs.Pairing.{balanced-plain, IsNoBracket}
 use Rattle.term_reader.proofs.Turns.{prefix_within, opened_prefix, opened_call}
 
 pub none_first : (ts us : List Token) (t : Token) → ts ≡ [] → ts ≡ t ∷ us → ⊥
@@ -52,11 +51,6 @@ named-joint ops x e = let z : ⊥ = cc in absurd z
 pub name_no_end : (x : Lexeme) (sign : Bool) (n : List ℕ) → IsName x sign n → is_end x ≡ false
 name_no_end words.End sign n h = absurd h
 name_no_end x sign n h = refl
-
-name-no_bracket : (x : Lexeme) (sign : Bool) (n : List ℕ) → IsName x sign n → IsNoBracket x
-name-no_bracket (words.Name m) sign n h d = refl
-name-no_bracket (words.QuotedName m) sign n h d = refl
-name-no_bracket x sign n h d = absurd h
 
 pub tails : (ts us vs : List Token) (t : Token) → ts ≡ t ∷ us → ts ≡ t ∷ vs → us ≡ vs
 tails ts us vs t e h = cc
@@ -216,7 +210,7 @@ module _ (s : Setting) (text : List ℕ) (start at end : ℕ) (k : List Frame) (
     few-next : (u : Token) (vs : List Token) → tokens_of (chars_from text end) ≡ u ∷ vs → (m : ℕ) (name : List ℕ) → IsOneTooMany s ((led.read ++ t ∷ []) ++ u ∷ vs) (length (led.read ++ t ∷ [])) m name → ⊥
     few-next u vs i m name o =
         let h = many s (led.read ++ t ∷ []) vs u m name o in
-        let nests = nests-more s text start k led.read (t ∷ []) (balanced-plain a x (name-no_bracket x j.sign j.name j.named)) led.nests in
+        let nests = nests-more s text start k led.read (t ∷ []) (name-balanced a x j.sign j.name j.named) led.nests in
         let c = completes-close s text start k (led.read ++ t ∷ []) kept nests h.full in
         close-ends h.apart vs (i ∙ ap (λ z. z ∷ vs) h.comma) c.more c.goal c.wants
 
