@@ -35,6 +35,8 @@ is_callable (Compound f ts) = true
 abbrev pub indicator : List ℕ → ℕ → Term
 indicator name arity = binary (codes "/") (AtomTerm name) (IntTerm (pos arity))
 
-abbrev pub append_arguments : Terms → Terms → Terms
-append_arguments end us = us
-append_arguments (more t ts) us = more t (append_arguments ts us)
+abbrev pub nil_name : List ℕ
+nil_name = codes "[]"
+
+abbrev pub braces_name : List ℕ
+braces_name = codes "{}"

@@ -4,12 +4,7 @@ use Rattle.au_term.specs.Term.{Term, VarTerm, var_bound}
 use Rattle.au_model.specs.Clauses.{Clause}
 use Rattle.au_model.specs.Databases.{Database}
 use Rattle.au_model.specs.Operators.{OperatorTable}
-use Rattle.au_model.specs.Lines.{NamedTerm}
-use Rattle.au_model.specs.Worlds.{World}
-
-pub record NamedVariable : Type 0 where
-  pub name : List ℕ
-  pub number : ℕ
+use Rattle.au_model.specs.Named.{NamedVariable, NamedTerm}
 
 -- a query's goals, and its variables that have names
 pub record Query : Type 0 where
@@ -38,6 +33,3 @@ names_bound (v ∷ vs) = max (suc v.number) (names_bound vs)
 -- the least number above all variables of a query
 abbrev pub query_bound : Query → ℕ
 query_bound q = max (goals_bound q.goals) (names_bound q.names)
-
-abbrev pub first_world : Job → World
-first_world job = record { written = []; database = job.database; operators = job.operators }

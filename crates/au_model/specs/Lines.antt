@@ -2,14 +2,10 @@
 use Rattle.std.specs.Prelude.{ℕ, List, [], ◌∷◌, ◌++◌, Option, Some, None, codes}
 use Rattle.std.specs.Str.{encode_utf8_all}
 use Rattle.au_term.specs.Term.{Term}
+use Rattle.au_model.specs.Named.{NamedTerm}
 use Rattle.au_model.specs.Operators.{OperatorTable}
 use Rattle.au_model.specs.Writing.{written_as, written_as_value}
 use Rattle.au_model.specs.declared.style.Style.TheVariants.{Quoted}
-
--- a query's variable by its name, and the term that it stands for
-pub record NamedTerm : Type 0 where
-  pub name : List ℕ
-  pub term : Term
 
 abbrev pub shown_binding : OperatorTable → NamedTerm → List ℕ
 shown_binding operators v = encode_utf8_all v.name ++ codes " = " ++ written_as_value operators v.term

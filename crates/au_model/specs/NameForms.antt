@@ -5,12 +5,6 @@ use Rattle.std.specs.Char.{digit_char, encode_utf8}
 use Rattle.au_model.specs.Characters.{is_symbol, is_solo, is_small, is_alphanumeric, first_is, first_passes}
 use Rattle.au_model.specs.Forms.{same_name}
 
-abbrev pub nil_name : List ℕ
-nil_name = codes "[]"
-
-abbrev pub braces_name : List ℕ
-braces_name = codes "{}"
-
 -- a small letter, and then letters, digits and `_`
 abbrev pub is_letter_name : List ℕ → Bool
 is_letter_name n = first_passes is_small n && list_all is_alphanumeric n

@@ -38,7 +38,3 @@ abbrev mutual
   pub AreWritable : Terms → Type 0
   AreWritable end = Unit {0}
   AreWritable (more t ts) = IsWritable t × AreWritable ts
-
--- the tokens of a term in quoted style, with a space and a full stop behind it
-abbrev pub tokens_with_end : OperatorTable → Term → List Token
-tokens_with_end operators t = joined NothingYet (pieces (notation_of Quoted operators) t (Space ∷ Put End ∷ []))

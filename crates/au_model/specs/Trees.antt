@@ -1,6 +1,7 @@
 -- A term as it is spelled: its variables have names, and no numbers yet. A list's cells have the name `'.'`
 -- (ISO/IEC 13211-1:1995, 6.3.5).
 use Rattle.std.specs.Prelude.{ℕ, suc, ℤ, pos, List, [], ◌∷◌, codes}
+use Rattle.au_model.specs.Forms.{nil_name}
 use Rattle.au_model.specs.declared.double_quotes.DoubleQuotes.{DoubleQuotes}
 use Rattle.au_model.specs.declared.double_quotes.DoubleQuotes.TheVariants.{Codes, Chars, Atom}
 
@@ -25,12 +26,6 @@ one n t = CompoundTree n (more_trees t no_trees)
 abbrev pub two : List ℕ → Tree → Tree → Tree
 two n t u = CompoundTree n (more_trees t (more_trees u no_trees))
 
-abbrev pub nil : List ℕ
-nil = codes "[]"
-
-abbrev pub braces : List ℕ
-braces = codes "{}"
-
 abbrev pub list_name : List ℕ
 list_name = codes "."
 
@@ -38,11 +33,11 @@ abbrev pub cell : Tree → Tree → Tree
 cell t u = two list_name t u
 
 abbrev pub code_list : List ℕ → Tree
-code_list [] = AtomTree nil
+code_list [] = AtomTree nil_name
 code_list (c ∷ cs) = cell (IntTree (pos c)) (code_list cs)
 
 abbrev pub char_list : List ℕ → Tree
-char_list [] = AtomTree nil
+char_list [] = AtomTree nil_name
 char_list (c ∷ cs) = cell (AtomTree (c ∷ [])) (char_list cs)
 
 -- what a double-quoted item with these characters stands for

@@ -6,6 +6,7 @@ use Rattle.au_model.specs.Clauses.{Clause}
 use Rattle.au_model.specs.ErrorTerms.{error_term, existence_error}
 use Rattle.au_model.specs.Outcomes.{Reply, Solutions, Ball, alternatives_of}
 use Rattle.au_model.specs.Operators.{OperatorTable}
+use Rattle.au_model.specs.Jobs.{Job}
 use Rattle.au_model.specs.Databases.{Database, NumberedClause, clauses_of, plain_clauses}
 
 -- the bytes written, the dynamic procedures, and the operators
@@ -13,6 +14,10 @@ pub record World : Type 0 where
   pub written : List ℕ
   pub database : Database
   pub operators : OperatorTable
+
+-- a run begins with nothing written, and with the job's dynamic procedures and operators
+abbrev pub first_world : Job → World
+first_world job = record { written = []; database = job.database; operators = job.operators }
 
 -- what goals of a name and number of arguments do: by the text's clauses, their arguments, the next number and the world
 pub record WorldConstruct : Type 0 where

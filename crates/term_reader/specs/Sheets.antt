@@ -9,9 +9,6 @@ use Rattle.au_model.specs.Trees.{Tree, VarTree, IntTree, AtomTree, CompoundTree,
 use Rattle.au_model.specs.TermNumbers.{Variables, no_variables, numbered_name}
 use Rattle.au_model.specs.declared.var_name.VarName.{VarName}
 
-abbrev pub variable_meant : VarName → NamedVariable
-variable_meant v = record { name = chars (string_bytes v.text); number = v.number }
-
 pub record Sheet : Type 0 where
   pub cells : List Cell
   pub variables : Variables

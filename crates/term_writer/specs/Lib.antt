@@ -3,3 +3,4 @@ pub mod Text
 pub mod Tasks
 pub mod Sources
 pub mod Bindings
+pub mod TokensWithEnd

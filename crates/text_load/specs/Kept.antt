@@ -3,15 +3,13 @@ use Rattle.std.specs.Prelude.{◌≡◌, ℕ, List, [], ◌∷◌, map}
 use Rattle.std.specs.Str.{chars}
 use Rattle.std.specs.String.{string_bytes}
 use Rattle.au_term.specs.Term.{Term}
-use Rattle.au_model.specs.Jobs.{NamedVariable, Query as QueryTerms, query_bound}
+use Rattle.au_model.specs.Named.{variable_meant}
+use Rattle.au_model.specs.Jobs.{Query as QueryTerms, query_bound}
 use Rattle.au_model.specs.declared.var_name.VarName.{VarName}
 use Rattle.clause_compile.specs.Compiling.{goal_items}
 use Rattle.clause_compile.specs.declared.item.Scope.TheVariants.{Local}
 use Rattle.clause_compile.specs.declared.item.Item.{Item}
 use Rattle.clause_compile.specs.declared.item.Item.TheVariants.{Goal, CatchEnd, Collect, Remove, End}
-
-abbrev pub variable_meant : VarName → NamedVariable
-variable_meant v = record { name = chars (string_bytes v.text); number = v.number }
 
 -- the terms of goals
 abbrev pub goal_terms : List Item → List Term
