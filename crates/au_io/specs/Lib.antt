@@ -1,2 +1,2 @@
-pub mod Causes
-pub mod Memory
+pub mod FaultCounts
+pub mod MemoryFiles

@@ -1,7 +1,7 @@
 //! Files of the machine.
 ghost use Rattle.std.specs.Prelude.{◌≡◌, ◌+◌, ◌<◌, ◌≤◌, ◌≢◌, ◌++◌, ℕ, List, IfOk, IfErr, IfSome, OnOk, IsErrOf, length, drop, vec_len, Some, None, Ok};
 ghost use Rattle.std.specs.Io.KnownBytes.{Consumes, IsAtEnd};
-ghost use Rattle.au_io.specs.Causes.{Rose, RoseBy};
+ghost use Rattle.au_io.specs.FaultCounts.{Increased, IncreasedBy};
 
 use crate::shelf::{ReadRefusal, Shelf};
 use std::alloc::Global;
@@ -60,7 +60,7 @@ impl Tally {
     /// Counts a reading that failed.
     fn fault(&mut self) -> ReadRefusal
         ensures refusal { result ≡ ReadRefusal.ReadFault }
-        ensures faults { Rose self.old.faults self.new.faults }
+        ensures faults { Increased self.old.faults self.new.faults }
         ensures faults_stay { self.old.faults ≤ self.new.faults }
         ensures drawn { self.new.drawn ≡ self.old.drawn }
     {
@@ -77,9 +77,9 @@ impl Tally {
     ) -> Result<Vec<u8>, ReadRefusal>
         ensures whole { IfOk result (λ bytes. IfSome (F.remaining file.old) (λ told. bytes.items ≡ told)) }
         ensures within { IfOk result (λ bytes. vec_len bytes ≤ most) }
-        ensures fault { IsErrOf result ReadRefusal.ReadFault → Rose self.old.faults self.new.faults }
+        ensures fault { IsErrOf result ReadRefusal.ReadFault → Increased self.old.faults self.new.faults }
         ensures long { IsErrOf result ReadRefusal.TooLong → IfSome (F.remaining file.old) (λ told. most < length told) }
-        ensures too_long { IsErrOf result ReadRefusal.TooLong → RoseBy (most + 1) self.old.drawn self.new.drawn }
+        ensures too_long { IsErrOf result ReadRefusal.TooLong → IncreasedBy (most + 1) self.old.drawn self.new.drawn }
         ensures faults_stay { self.old.faults ≤ self.new.faults }
         ensures drawn_stay { self.old.drawn ≤ self.new.drawn }
         ensures least { self.new.drawn ≤ self.old.drawn + (most + 1) }

@@ -1,7 +1,7 @@
 //! Shelves and sinks in memory, which tell their bytes.
 ghost use Rattle.std.specs.Prelude.{◌≡◌, ◌+◌, ◌-◌, ◌<◌, ◌≤◌, ◌↔◌, ◌++◌, [], ℕ, List, IfOk, IfSome, IsErrOf, IsTrue, IsOk, OnOk, OnErr, Some, cond, false, length, option_map, take, vec_capacity, vec_len};
-ghost use Rattle.au_io.specs.Causes.{HasCause, Rose, RoseBy, Took, TookFront, counted};
-ghost use Rattle.au_io.specs.Memory.{file_of, is_fault};
+ghost use Rattle.au_io.specs.FaultCounts.{HasCause, Increased, IncreasedBy, Appended, AppendedPrefix, increased_count};
+ghost use Rattle.au_io.specs.MemoryFiles.{file_of, is_fault};
 
 use crate::shelf::{ReadRefusal, Shelf};
 use crate::sink::{Sink, WriteFault};
@@ -34,13 +34,13 @@ impl Shelf for MemoryShelf {
         ensures fault { IsErrOf result ReadRefusal.ReadFault ↔ IsTrue (is_fault self.old name.now) }
         ensures long { IsErrOf result ReadRefusal.TooLong → IfSome (file_of name.now self.old.files.items) (λ told. most < length told) }
         ensures told_long { is_fault self.old name.now ≡ false → IfSome (file_of name.now self.old.files.items) (λ told. most < length told → IsErrOf result ReadRefusal.TooLong) }
-        ensures too_long { IsErrOf result ReadRefusal.TooLong → RoseBy (most + 1) self.old.drawn self.new.drawn }
-        ensures faults { self.new.faults ≡ cond (is_fault self.old name.now) (counted 1 self.old.faults) self.old.faults }
+        ensures too_long { IsErrOf result ReadRefusal.TooLong → IncreasedBy (most + 1) self.old.drawn self.new.drawn }
+        ensures faults { self.new.faults ≡ cond (is_fault self.old name.now) (increased_count 1 self.old.faults) self.old.faults }
         ensures faults_stay { self.old.faults ≤ self.new.faults }
-        ensures drawn { IfOk result (λ bytes. self.new.drawn ≡ counted (vec_len bytes) self.old.drawn) }
+        ensures drawn { IfOk result (λ bytes. self.new.drawn ≡ increased_count (vec_len bytes) self.old.drawn) }
         ensures drawn_stay { self.old.drawn ≤ self.new.drawn }
         ensures least { self.new.drawn ≤ self.old.drawn + (most + 1) }
-        ensures calls { self.new.calls ≡ counted 1 self.old.calls }
+        ensures calls { self.new.calls ≡ increased_count 1 self.old.calls }
         ensures kept { (self.new.files ≡ self.old.files) × (self.new.failing ≡ self.old.failing) }
     {
         let call = self.calls;
@@ -110,8 +110,8 @@ impl Sink for MemorySink {
 
     /// The write that would pass the room takes what fits and is a fault. No other write is one.
     fn write_all(&mut self, bytes: &[u8]) -> Result<(), WriteFault>
-        ensures ok { OnOk result (Took (Some self.old.bytes.items) (Some self.new.bytes.items) bytes.now) }
-        ensures err { OnErr result (TookFront (Some self.old.bytes.items) (Some self.new.bytes.items) bytes.now) }
+        ensures ok { OnOk result (Appended (Some self.old.bytes.items) (Some self.new.bytes.items) bytes.now) }
+        ensures err { OnErr result (AppendedPrefix (Some self.old.bytes.items) (Some self.new.bytes.items) bytes.now) }
         ensures cause { HasCause self.old.faults self.new.faults result }
         ensures room { self.new.room ≡ self.old.room }
         ensures fits { IsOk result ↔ (vec_len self.old.bytes + length bytes.now ≤ self.old.room) }

@@ -1,6 +1,6 @@
 //! Where texts are read from.
 ghost use Rattle.std.specs.Prelude.{◌≡◌, ◌+◌, ◌<◌, ◌≤◌, ℕ, List, Option, IfOk, IfSome, IsErrOf, length, vec_len};
-ghost use Rattle.au_io.specs.Causes.{Rose, RoseBy};
+ghost use Rattle.au_io.specs.FaultCounts.{Increased, IncreasedBy};
 
 use au_term::NoMemory;
 use std::alloc::{AllocError, Global};
@@ -40,9 +40,9 @@ pub trait Shelf {
     fn read_all(&mut self, alloc: Global, name: &str, most: usize) -> Result<Vec<u8>, ReadRefusal>
         ensures whole { IfOk result (λ bytes. IfSome (held self.old name.now) (λ told. bytes.items ≡ told)) }
         ensures within { IfOk result (λ bytes. vec_len bytes ≤ most) }
-        ensures fault { IsErrOf result ReadRefusal.ReadFault → Rose (faults self.old) (faults self.new) }
+        ensures fault { IsErrOf result ReadRefusal.ReadFault → Increased (faults self.old) (faults self.new) }
         ensures long { IsErrOf result ReadRefusal.TooLong → IfSome (held self.old name.now) (λ told. most < length told) }
-        ensures too_long { IsErrOf result ReadRefusal.TooLong → RoseBy (most + 1) (drawn self.old) (drawn self.new) }
+        ensures too_long { IsErrOf result ReadRefusal.TooLong → IncreasedBy (most + 1) (drawn self.old) (drawn self.new) }
         ensures faults_stay { faults self.old ≤ faults self.new }
         ensures drawn_stay { drawn self.old ≤ drawn self.new }
         ensures least { drawn self.new ≤ drawn self.old + (most + 1) }

@@ -1,6 +1,6 @@
 //! Where bytes are written to.
 ghost use Rattle.std.specs.Prelude.{ℕ, List, Option, OnOk, OnErr};
-ghost use Rattle.au_io.specs.Causes.{HasCause, Took, TookFront};
+ghost use Rattle.au_io.specs.FaultCounts.{HasCause, Appended, AppendedPrefix};
 
 /// A write that failed.
 #[derive(Clone, Copy, Debug, PartialEq, Eq)]
@@ -16,7 +16,7 @@ pub trait Sink {
 
     /// Takes all the bytes, or a front of them where it fails.
     fn write_all(&mut self, bytes: &[u8]) -> Result<(), WriteFault>
-        ensures ok { OnOk result (Took (taken self.old) (taken self.new) bytes.now) }
-        ensures err { OnErr result (TookFront (taken self.old) (taken self.new) bytes.now) }
+        ensures ok { OnOk result (Appended (taken self.old) (taken self.new) bytes.now) }
+        ensures err { OnErr result (AppendedPrefix (taken self.old) (taken self.new) bytes.now) }
         ensures cause { HasCause (faults self.old) (faults self.new) result };
 }

@@ -1,13 +1,18 @@
 -- Terms as they are written.
-use Rattle.std.specs.Prelude.{◌≡◌, ℕ, List, [], ◌∷◌, codes, negsuc, refl}
-use Rattle.au_term.specs.Term.{Term, VarTerm, IntTerm}
-use Rattle.au_model.specs.Forms.{unary, binary, list_term}
-use Rattle.au_model.specs.Operators.{OperatorTable, KindYf, with_operator, initial_operators}
-use Rattle.au_model.specs.Writing.{written_as, written_as_value}
+use Rattle.std.specs.Prelude.{◌≡◌, ℕ, List, [], ◌∷◌, codes, pos, negsuc, refl}
+use Rattle.au_term.specs.Term.{Term, VarTerm, IntTerm, AtomTerm}
+use Rattle.au_model.specs.Terms.Forms.{unary, binary, list_term}
+use Rattle.au_model.specs.Syntax.Operators.{OperatorTable, KindYf, with_operator, initial_operators}
+use Rattle.au_model.specs.Writing.WrittenTerms.{written_term, written_as_value}
 use Rattle.au_model.specs.declared.style.Style.TheVariants.{Plain, Quoted, Canonical}
-use Rattle.au_model.proofs.RowTerms.{atom, int}
 use lib.Utf8.{encode}
 use Rattle.std.specs.Fmt.{digits}
+
+abbrev atom : List ℕ → Term
+atom a = AtomTerm a
+
+abbrev int : ℕ → Term
+int n = IntTerm (pos n)
 
 abbrev b : Term
 b = atom (codes "b")
@@ -19,7 +24,7 @@ abbrev minus_one : Term
 minus_one = IntTerm (negsuc 0)
 
 abbrev quoted : Term → List ℕ
-quoted t = written_as Quoted initial_operators t
+quoted t = written_term Quoted initial_operators t
 
 partial_list : quoted (binary (codes ".") (atom (codes "a")) (atom (codes "b"))) ≡ codes "[a|b]"
 unfolding encode digits
@@ -141,15 +146,15 @@ variable : quoted (unary (codes "f") (VarTerm 3)) ≡ codes "f(_3)"
 unfolding encode digits
 variable = refl
 
-plain_name : written_as Plain initial_operators (unary (codes "-") (atom (codes "A"))) ≡ codes "-A"
+plain_name : written_term Plain initial_operators (unary (codes "-") (atom (codes "A"))) ≡ codes "-A"
 unfolding encode digits
 plain_name = refl
 
-canonical_sum : written_as Canonical initial_operators (binary (codes "+") (int 1) (list_term (atom (codes "A") ∷ atom (codes "-") ∷ []))) ≡ codes "+(1,['A',-])"
+canonical_sum : written_term Canonical initial_operators (binary (codes "+") (int 1) (list_term (atom (codes "A") ∷ atom (codes "-") ∷ []))) ≡ codes "+(1,['A',-])"
 unfolding encode digits
 canonical_sum = refl
 
-canonical_braces : written_as Canonical initial_operators (unary (codes "{}") (atom (codes "x"))) ≡ codes "{}(x)"
+canonical_braces : written_term Canonical initial_operators (unary (codes "{}") (atom (codes "x"))) ≡ codes "{}(x)"
 unfolding encode digits
 canonical_braces = refl
 
@@ -165,10 +170,10 @@ value_operator = refl
 abbrev table : OperatorTable
 table = with_operator (with_operator initial_operators (record { name = codes "q"; operator = record { priority = 200; kind = KindYf } })) (record { name = codes "!!"; operator = record { priority = 200; kind = KindYf } })
 
-word_postfix : written_as Quoted table (unary (codes "q") (minus b)) ≡ codes "(-b) q"
+word_postfix : written_term Quoted table (unary (codes "q") (minus b)) ≡ codes "(-b) q"
 unfolding encode digits
 word_postfix = refl
 
-quoted_postfix : written_as Quoted table (unary (codes "!!") b) ≡ codes "b '!!'"
+quoted_postfix : written_term Quoted table (unary (codes "!!") b) ≡ codes "b '!!'"
 unfolding encode digits
 quoted_postfix = refl

@@ -1,51 +1,38 @@
-pub mod Status
-pub mod Operators
-pub mod Substitutions
-pub mod Unifier
-pub mod MostGeneral
-pub mod Copies
-pub mod Forms
-pub mod Bodies
-pub mod ErrorTerms
-pub mod Faults
-pub mod Clauses
-pub mod Outcomes
-pub mod Control
-pub mod Builtins
-pub mod Databases
-pub mod Worlds
-pub mod Goals
-pub mod Lines
-pub mod Items
-pub mod Entries
-pub mod FreeSteps
-pub mod Balls
-pub mod Heights
-pub mod Jobs
-pub mod States
-pub mod Runs
-pub mod RunLaws
-pub mod Each
-pub mod Numbering
-pub mod HeightLaws
-pub mod ClauseLaws
-pub mod Characters
-pub mod Layout
-pub mod Quoted
-pub mod Numerals
-pub mod Tokens
-pub mod Lexemes
-pub mod Trees
-pub mod Joints
-pub mod Openings
-pub mod Spelling
-pub mod TermNumbers
-pub mod TermTexts
-pub mod TextFaults
-pub mod NameForms
-pub mod Pieces
-pub mod OperatorForms
+-- Terms: terms, substitutions and unifiers
+--   Forms            terms by name and arguments
+--   Lists            arguments from a list
+--   Each             what holds of each element of a list
+--   Named            a query's variables by their names
+--   Substitutions    what each variable stands for
+--   Unifier          the unifier of a list of equations, with the occurs check
+--   MostGeneral      what a unifier is for
+--   EquationsInTurn  equations that are unified one after another
+--   Copies           copies of a term with new variables
+--   CopiedCells      copies cell by cell
+--   ErrorTerms       error(E, N/A)
+--   Faults           the error term of each fault
+pub mod Terms
+-- Syntax: from characters to terms
+--   Characters       the classes of characters
+--   Layout           blanks and comments
+--   Quoted           quoted items and their escapes
+--   Numerals         numerals
+--   Words            the longest token at the front of a text
+--   Tokens           the tokens of a text as a reader of terms sees them
+--   Operators        operators and their table
+--   Trees            terms as they are spelled
+--   PostOperators    infix and postfix operators after an operand
+--   Primaries        how a term begins
+--   Spelling         a rule for each form of a term
+--   VariableNumbers  the numbers of a read term's variables
+--   TermTexts        texts whose front spells a term with its end
+--   TextFaults       where a text first goes wrong
+pub mod Syntax
+-- Writing: from terms to bytes
+--   NameForms      names bare or between quotes
+--   Pieces         the pieces of a written term, and the spaces between them
+--   OperatorForms  the form of a compound, and its brackets
+--   WrittenTerms   the pieces and the bytes of a term
+--   Lines          the lines that a run writes
+--   ReadBack       written terms as tokens
 pub mod Writing
-pub mod ReadBack
-pub mod Lists
-pub mod Seen

@@ -2,9 +2,9 @@
 ghost use Rattle.std.specs.Prelude.{◌≡◌, ◌<◌, ◌≤◌, IfOk, length, map, ◌∷◌, []};
 ghost use Rattle.std.specs.Str.{IsAscii};
 ghost use Rattle.au_term.specs.Term.{AtomTerm, Compound};
-ghost use Rattle.au_term.specs.Prefix.{IsSound, arity, cells_of};
-ghost use Rattle.au_model.specs.Forms.{unary, binary, indicator};
-ghost use Rattle.au_model.specs.Lists.{terms_from};
+ghost use Rattle.au_term.specs.PrefixOrder.{IsValidCell, arity, cells_of};
+ghost use Rattle.au_model.specs.Terms.Forms.{unary, binary, indicator};
+ghost use Rattle.au_model.specs.Terms.Lists.{terms_from};
 
 use au_term::{Atom, Cell, FlatTerm, NoMemory, TermBuilder};
 use std::alloc::Global;
@@ -63,7 +63,7 @@ pub fn compound(alloc: Global, name: Atom, arguments: &[&FlatTerm]) -> Result<Fl
 
 /// The term of one cell.
 fn single(alloc: Global, cell: Cell) -> Result<FlatTerm, NoMemory>
-    requires sound { IsSound cell }
+    requires sound { IsValidCell cell }
     requires alone { arity cell ≡ 0 }
     ensures { IfOk result (λ t. cells_of t ≡ cell ∷ []) }
 {

@@ -1,6 +1,6 @@
 //! The classes of characters (ISO/IEC 13211-1, 6.5).
 ghost use Rattle.std.specs.Prelude.{◌≡◌, ◌&&◌, nat_le};
-ghost use Rattle.au_model.specs.Characters.{is_alphanumeric, is_blank, is_capital, is_decimal_category, is_punctuation, is_small, is_solo, is_symbol};
+ghost use Rattle.au_model.specs.Syntax.Characters.{is_alphanumeric, is_blank, is_capital, is_decimal_category, is_punctuation, is_small, is_solo, is_symbol};
 ghost use Rattle.unicode.specs.GeneralCategory.{general_category};
 
 use unicode::properties::{GeneralCategory, is_alphabetic};

@@ -1,9 +1,9 @@
 //! Copies of terms, whose variables are numbered in order of first occurrence (ISO/IEC 13211-1, 7.1.6.2).
 ghost use Rattle.std.specs.Prelude.{◌≡◌, ◌<◌, ◌+◌, ◌-◌, ◌^◌, [], length, IfOk, OnOk};
-ghost use Rattle.au_term.specs.Prefix.{IsSound};
-ghost use Rattle.au_model.specs.Substitutions.{apply};
-ghost use Rattle.au_model.specs.Copies.{copied, copy_takes, noted, place_of, renamed, seen_in};
-ghost use Rattle.au_model.specs.Seen.{seen_at, renamed_cell};
+ghost use Rattle.au_term.specs.PrefixOrder.{IsValidCell};
+ghost use Rattle.au_model.specs.Terms.Substitutions.{apply};
+ghost use Rattle.au_model.specs.Terms.Copies.{copied, copy_takes, noted, place_of, renamed, seen_in};
+ghost use Rattle.au_model.specs.Terms.CopiedCells.{occurrences_at, renamed_cell};
 
 use au_term::{Cell, FlatTerm, NoMemory, TermBuilder, VarNo};
 use std::alloc::Global;
@@ -21,7 +21,7 @@ impl Model for Renaming {
     ghost use Rattle.std.specs.Prelude.{◌≡◌, ℕ, List};
     ghost use Rattle.std.specs.Ordering.{nat_cmp};
     ghost use Rattle.std.specs.BTreeMap.{get};
-    ghost use Rattle.au_model.specs.Seen.{place_among};
+    ghost use Rattle.au_model.specs.Terms.CopiedCells.{place_among};
 
     ghost Value = { List ℕ };
 
@@ -83,10 +83,10 @@ impl Renaming {
 
     /// A cell with its variable renamed.
     fn cell(&mut self, cell: &Cell, next: VarNo) -> Result<Cell, NoMemory>
-        requires { IsSound cell.now }
-        ensures seen { OnOk result (self.new ≡ seen_at cell.now self.old) }
+        requires { IsValidCell cell.now }
+        ensures seen { OnOk result (self.new ≡ occurrences_at cell.now self.old) }
         ensures renamed { IfOk result (λ c. c ≡ renamed_cell self.new next cell.now) }
-        ensures sound { IfOk result IsSound }
+        ensures sound { IfOk result IsValidCell }
     {
         match cell {
             Cell::Var(number) => {

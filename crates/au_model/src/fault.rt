@@ -3,9 +3,9 @@
 ghost use Rattle.std.specs.Prelude.{◌≡◌, IfOk};
 ghost use Rattle.std.specs.Str.{IsAscii};
 ghost use Rattle.au_term.specs.Term.{AtomTerm};
-ghost use Rattle.au_model.specs.Forms.{binary};
-ghost use Rattle.au_model.specs.ErrorTerms.{error_term, permission_error};
-ghost use Rattle.au_model.specs.Faults.{type_word, domain_word, permission_error_of, limit_word, evaluation_word, error_term_of};
+ghost use Rattle.au_model.specs.Terms.Forms.{binary};
+ghost use Rattle.au_model.specs.Terms.ErrorTerms.{error_term, permission_error};
+ghost use Rattle.au_model.specs.Terms.Faults.{type_word, domain_word, permission_error_of, limit_word, evaluation_word, error_term_of};
 
 use crate::build::{atom, binary, compound, indicator, unary};
 use au_term::{Atom, FlatTerm, NoMemory};

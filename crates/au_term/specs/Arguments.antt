@@ -3,7 +3,7 @@ use Rattle.std.specs.Prelude.{◌≡◌, List, []}
 use Rattle.std.proofs.Common.{sym, ap, ◌∙◌, append-nil, refl}
 use Rattle.std.specs.Coded.{Coded, code_by, coded_list}
 use Rattle.au_term.specs.Term.{Terms, end, more}
-use Rattle.au_term.specs.Prefix.{all_cells, terms_of, terms_of-all_cells, append_terms, cell_code}
+use Rattle.au_term.specs.PrefixOrder.{all_cells, terms_of, terms_of-all_cells, append_terms, cell_code}
 use Rattle.au_term.specs.declared.cell.Cell.{Cell}
 
 append_end : (ts : Terms) → append_terms ts end ≡ ts

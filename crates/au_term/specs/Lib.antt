@@ -1,5 +1,5 @@
 pub mod Term
-pub mod Prefix
-pub mod Sizes
-pub mod Raised
+pub mod PrefixOrder
+pub mod SubtermSizes
+pub mod Shifted
 pub mod Arguments

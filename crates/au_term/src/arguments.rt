@@ -1,7 +1,7 @@
 //! The arguments of a term, one after another.
 ghost use Rattle.std.specs.Prelude.{◌≡◌, MatchOption};
 ghost use Rattle.std.specs.Iterator.{at_most};
-ghost use Rattle.au_term.specs.Prefix.{term_of, IsTerm};
+ghost use Rattle.au_term.specs.PrefixOrder.{term_of, IsTerm};
 ghost use Rattle.au_term.specs.Term.{arguments, count, end, more};
 
 use crate::cell::Cell;
@@ -20,7 +20,7 @@ pub struct Arguments<'a> {
 impl<'a> Model for Arguments<'a> {
     ghost use Rattle.std.specs.Prelude.{drop, ◌≤◌};
     ghost use Rattle.au_term.specs.Term.{Terms, count, take_terms};
-    ghost use Rattle.au_term.specs.Prefix.{cells_of, terms_of};
+    ghost use Rattle.au_term.specs.PrefixOrder.{cells_of, terms_of};
     ghost use Rattle.au_term.specs.Arguments.{terms_code};
 
     ghost Value = { Terms };

@@ -1,6 +1,6 @@
 //! Terms made cell by cell.
 ghost use Rattle.std.specs.Prelude.{◌≡◌, ◌+◌, ◌<◌, ◌≤◌, ◌^◌, OnOk, OnErr, ℕ, List, [], ◌∷◌, ◌++◌, take};
-ghost use Rattle.au_term.specs.Prefix.{cells_of, term_of, due_after, AreDue, IsSound, AreSound};
+ghost use Rattle.au_term.specs.PrefixOrder.{cells_of, term_of, due_after, AreDue, IsValidCell, AreValidCells};
 
 use crate::NoMemory;
 use crate::cell::Cell;
@@ -20,7 +20,7 @@ pub struct TermBuilder {
 impl Model for TermBuilder {
     ghost use Rattle.std.specs.Prelude.{List, ◌≤◌, length};
     ghost use Rattle.au_term.specs.declared.cell.Cell.{Cell};
-    ghost use Rattle.au_term.specs.Prefix.{cell_code, IsStarted};
+    ghost use Rattle.au_term.specs.PrefixOrder.{cell_code, IsTermPrefix};
     ghost use Rattle.std.specs.Coded.{coded_list};
 
     ghost Value = { List Cell };
@@ -29,7 +29,7 @@ impl Model for TermBuilder {
 
     ghost view = { λ b. b.cells.items };
 
-    ghost invariant = { λ b. IsStarted b.cells.items b.due × (length b.cells.items ≤ length b.sizes.items) };
+    ghost invariant = { λ b. IsTermPrefix b.cells.items b.due × (length b.cells.items ≤ length b.sizes.items) };
 }
 
 impl TermBuilder {
@@ -54,7 +54,7 @@ impl TermBuilder {
     /// Puts the next cell behind the others.
     pub fn push(&mut self, cell: Cell) -> Result<(), NoMemory>
         requires due { 0 < due_after 1 self.old }
-        requires sound { IsSound cell }
+        requires sound { IsValidCell cell }
         ensures ok { OnOk result (self.new ≡ self.old ++ cell ∷ []) }
         ensures err { OnErr result (self.new ≡ self.old) }
     {
@@ -71,7 +71,7 @@ impl TermBuilder {
     /// Puts a copy of these cells behind the others.
     pub fn push_all(&mut self, cells: &[Cell]) -> Result<(), NoMemory>
         requires due { AreDue (due_after 1 self.old) cells.now }
-        requires sound { AreSound cells.now }
+        requires sound { AreValidCells cells.now }
         ensures ok { OnOk result (self.new ≡ self.old ++ cells.now) }
         ensures err { OnErr result (self.new ≡ self.old) }
     {
@@ -87,7 +87,7 @@ impl TermBuilder {
     /// The same, but after an error some of the cells may be there.
     fn push_each(&mut self, cells: &[Cell]) -> Result<(), NoMemory>
         requires due { AreDue (due_after 1 self.old) cells.now }
-        requires sound { AreSound cells.now }
+        requires sound { AreValidCells cells.now }
         ensures ok { OnOk result (self.new ≡ self.old ++ cells.now) }
         ensures err { OnErr result ((n : ℕ) × (self.new ≡ self.old ++ take n cells.now)) }
     {

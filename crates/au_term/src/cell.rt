@@ -1,7 +1,7 @@
 //! Cells.
 ghost use Rattle.std.specs.Prelude.{◌≡◌, ◌+◌, ◌<◌, ◌^◌, IfOk, map};
-ghost use Rattle.au_term.specs.Prefix.{arity, cell_bound, IsSound};
-ghost use Rattle.au_term.specs.Raised.{raised_cell};
+ghost use Rattle.au_term.specs.PrefixOrder.{arity, cell_bound, IsValidCell};
+ghost use Rattle.au_term.specs.Shifted.{shifted_cell};
 
 use crate::NoMemory;
 use crate::atom::Atom;
@@ -33,7 +33,7 @@ impl Cell {
 
     /// The least number above its variable, or 0.
     pub(crate) fn bound(&self) -> VarNo
-        requires { IsSound self.now }
+        requires { IsValidCell self.now }
         ensures { result ≡ cell_bound self.now }
     {
         match self {
@@ -57,7 +57,7 @@ impl Cell {
     /// The same cell, with `base` added to the number of a variable.
     pub fn raised(&self, base: VarNo) -> Result<Cell, NoMemory>
         requires { base + cell_bound self.now < 2 ^ 64 }
-        ensures { IfOk result (λ cell. cell ≡ raised_cell base self.now) }
+        ensures { IfOk result (λ cell. cell ≡ shifted_cell base self.now) }
     {
         match self {
             Cell::Var(number) => Ok(Cell::Var(base + *number)),

@@ -1,6 +1,6 @@
 //! Terms kept as the list of their cells.
 ghost use Rattle.std.specs.Prelude.{◌≡◌, ◌+◌, ◌<◌, ◌≤◌, ◌++◌, IfOk, length, drop, vec_len};
-ghost use Rattle.au_term.specs.Prefix.{cells_of, term_of, top_of, subterm, IsTerm};
+ghost use Rattle.au_term.specs.PrefixOrder.{cells_of, term_of, top_of, subterm, IsTerm};
 ghost use Rattle.au_term.specs.Term.{var_bound, argument, argument_count};
 
 use crate::NoMemory;
@@ -19,8 +19,8 @@ pub struct FlatTerm {
 
 impl Model for FlatTerm {
     ghost use Rattle.au_term.specs.Term.{Term};
-    ghost use Rattle.au_term.specs.Prefix.{term_code, term_of};
-    ghost use Rattle.au_term.specs.Sizes.{IsMeasured};
+    ghost use Rattle.au_term.specs.PrefixOrder.{term_code, term_of};
+    ghost use Rattle.au_term.specs.SubtermSizes.{IsMeasured};
 
     ghost Value = { Term };
 

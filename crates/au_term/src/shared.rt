@@ -1,8 +1,8 @@
 //! Subterms of shared terms.
 ghost use Rattle.std.specs.Prelude.{◌≡◌, ◌+◌, ◌<◌, ◌^◌, IfOk};
 ghost use Rattle.std.specs.Arc.{arc_value};
-ghost use Rattle.au_term.specs.Prefix.{term_of, top_of, subterm, IsTerm};
-ghost use Rattle.au_term.specs.Raised.{raised, IsPlace};
+ghost use Rattle.au_term.specs.PrefixOrder.{term_of, top_of, subterm, IsTerm};
+ghost use Rattle.au_term.specs.Shifted.{shifted, IsShiftablePlace};
 ghost use Rattle.au_term.specs.Term.{var_bound, argument, argument_count};
 
 use crate::NoMemory;
@@ -23,24 +23,24 @@ pub struct Shared {
 
 impl Model for Shared {
     ghost use Rattle.au_term.specs.Term.{Term};
-    ghost use Rattle.au_term.specs.Prefix.{term_code, subterm};
-    ghost use Rattle.au_term.specs.Raised.{raised, IsPlace};
+    ghost use Rattle.au_term.specs.PrefixOrder.{term_code, subterm};
+    ghost use Rattle.au_term.specs.Shifted.{shifted, IsShiftablePlace};
     ghost use Rattle.std.specs.Arc.{arc_value};
 
     ghost Value = { Term };
 
     ghost coded = { term_code };
 
-    ghost view = { λ s. raised s.base (subterm s.at (arc_value s.skeleton)) };
+    ghost view = { λ s. shifted s.base (subterm s.at (arc_value s.skeleton)) };
 
-    ghost invariant = { λ s. IsPlace (arc_value s.skeleton) s.at s.base };
+    ghost invariant = { λ s. IsShiftablePlace (arc_value s.skeleton) s.at s.base };
 }
 
 impl Shared {
     /// The subterm that begins at this cell, with `base` added to its variables.
     pub fn new(skeleton: Arc<FlatTerm>, at: usize, base: VarNo) -> Shared
-        requires { IsPlace (arc_value skeleton) at base }
-        ensures { result ≡ raised base (subterm at (arc_value skeleton)) }
+        requires { IsShiftablePlace (arc_value skeleton) at base }
+        ensures { result ≡ shifted base (subterm at (arc_value skeleton)) }
     {
         Shared { skeleton, at, base }
     }
@@ -71,7 +71,7 @@ impl Shared {
 
     /// The skeleton's cells, and the number to be added to their variables.
     pub fn parts(&self) -> (&[Cell], VarNo)
-        ensures term { raised result.1 (term_of result.0.now) ≡ self.now }
+        ensures term { shifted result.1 (term_of result.0.now) ≡ self.now }
         ensures whole { IsTerm result.0.now }
         ensures fits { result.1 + var_bound (term_of result.0.now) < 2 ^ 64 }
     {
@@ -80,8 +80,8 @@ impl Shared {
 
     /// The skeleton, where the subterm begins in it, and the number to be added to its variables.
     pub fn place(&self) -> (&FlatTerm, usize, VarNo)
-        ensures term { raised result.2 (subterm result.1 result.0.now) ≡ self.now }
-        ensures place { IsPlace result.0.now result.1 result.2 }
+        ensures term { shifted result.2 (subterm result.1 result.0.now) ≡ self.now }
+        ensures place { IsShiftablePlace result.0.now result.1 result.2 }
     {
         (&self.skeleton, self.at, self.base)
     }

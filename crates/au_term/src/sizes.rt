@@ -1,7 +1,7 @@
 //! How many cells the subterms of a term take.
 ghost use Rattle.std.specs.Prelude.{◌≡◌, ◌+◌, length};
-ghost use Rattle.au_term.specs.Prefix.{all_cells, terms_of, IsForest};
-ghost use Rattle.au_term.specs.Sizes.{all_sizes, HasSizes};
+ghost use Rattle.au_term.specs.PrefixOrder.{all_cells, terms_of, IsForest};
+ghost use Rattle.au_term.specs.SubtermSizes.{all_sizes, HasSizes};
 ghost use Rattle.au_term.specs.Term.{Terms, take_terms};
 
 use crate::cell::Cell;

@@ -1,3 +1,3 @@
-pub mod Budgets
-pub mod Obeying
-pub mod Refusing
+pub mod BudgetLemmas
+pub mod EndingLemmas
+pub mod RefusalLemmas

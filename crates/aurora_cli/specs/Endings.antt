@@ -1,16 +1,16 @@
 -- How the program ends.
 use Rattle.std.specs.Prelude.{◌≡◌, ◌⊎◌, ℕ, ◌≤◌, List, length, Option, IfSome}
-use Rattle.au_model.specs.declared.ending.Ending.{Ending}
-use Rattle.au_model.specs.declared.ending.Ending.TheVariants.{Finished, Halted, Budget, Refused, TooLong, Usage, ReadFault, WriteFault, NoMemory}
-use Rattle.au_model.specs.declared.ending.RunEnding.{RunEnding}
-use Rattle.au_model.specs.declared.ending.RunEnding.TheVariants.{Finished as RanOut, Halted as RanToHalt, Budget as RanToBudget, WriteFault as RanToFault, NoMemory as RanFull}
+use Rattle.run_model.specs.declared.ending.Ending.{Ending}
+use Rattle.run_model.specs.declared.ending.Ending.TheVariants.{Finished, Halted, Budget, Refused, TooLong, Usage, ReadFault, WriteFault, NoMemory}
+use Rattle.run_model.specs.declared.ending.RunEnding.{RunEnding}
+use Rattle.run_model.specs.declared.ending.RunEnding.TheVariants.{Finished as RanOut, Halted as RanToHalt, Budget as RanToBudget, WriteFault as RanToFault, NoMemory as RanFull}
 use Rattle.au_model.specs.declared.fault_kind.FaultKind.{FaultKind}
-use Rattle.au_model.specs.Jobs.{Job as JobTerms}
-use Rattle.au_model.specs.Runs.{text_of, ending_of}
-use Rattle.au_io.specs.Causes.{Took, TookFront}
+use Rattle.run_model.specs.Programs.Jobs.{Job as JobTerms}
+use Rattle.run_model.specs.Machine.Runs.{text_of, ending_of}
+use Rattle.au_io.specs.FaultCounts.{Appended, AppendedPrefix}
 use Rattle.text_load.specs.declared.job.Job.{Job}
-use Rattle.text_load.specs.Meant.{job_meant}
-use Rattle.aurora_cli.specs.Texts.{StandsFor, IsRefusedText}
+use Rattle.text_load.specs.JobView.{job_meant}
+use Rattle.aurora_cli.specs.ProgramTexts.{StandsFor, IsRefusedText}
 
 -- the ending of a run is the program's
 abbrev pub ending_after : RunEnding → Ending
@@ -21,42 +21,42 @@ ending_after RanToFault = WriteFault
 ending_after RanFull = NoMemory
 
 -- a text was read: the one that the shelf held, where it tells
-abbrev pub IsRead : Option (List ℕ) → List ℕ → Type 0
-IsRead held text = IfSome held (λ told. text ≡ told)
+abbrev pub IsTextRead : Option (List ℕ) → List ℕ → Type 0
+IsTextRead held text = IfSome held (λ told. text ≡ told)
 
 -- a text was read, and stands for a job
-pub record IsLoaded (held : Option (List ℕ)) (job : Job) : Type 0 where
+pub record IsJobLoaded (held : Option (List ℕ)) (job : Job) : Type 0 where
   pub text : List ℕ
-  pub read : IsRead held text
+  pub read : IsTextRead held text
   pub stands : StandsFor text (job_meant job)
 
 -- a text was read, and is refused so
-pub record IsRefusedRead (held : Option (List ℕ)) (line column : ℕ) (kind : FaultKind) : Type 0 where
+pub record IsTextReadRefused (held : Option (List ℕ)) (line column : ℕ) (kind : FaultKind) : Type 0 where
   pub text : List ℕ
-  pub read : IsRead held text
+  pub read : IsTextRead held text
   pub refused : IsRefusedText text line column kind
 
 -- the ending is that of the run of the text's job within the budget, and the bytes are that run's
 pub record IsRunOf (held : Option (List ℕ)) (budget : ℕ) (before after : Option (List ℕ)) (e : Ending) : Type 0 where
   pub job : Job
-  pub loaded : IsLoaded held job
+  pub loaded : IsJobLoaded held job
   pub ends : e ≡ ending_after (ending_of (job_meant job) budget)
-  pub bytes : Took before after (text_of (job_meant job) budget)
+  pub bytes : Appended before after (text_of (job_meant job) budget)
 
 -- the bytes are a front of those of that run
-pub record IsFrontOf (held : Option (List ℕ)) (budget : ℕ) (before after : Option (List ℕ)) : Type 0 where
+pub record IsPrefixOfRun (held : Option (List ℕ)) (budget : ℕ) (before after : Option (List ℕ)) : Type 0 where
   pub job : Job
-  pub loaded : IsLoaded held job
-  pub bytes : TookFront before after (text_of (job_meant job) budget)
+  pub loaded : IsJobLoaded held job
+  pub bytes : AppendedPrefix before after (text_of (job_meant job) budget)
 
 -- what each ending says of the text that was asked for, the budget, and the bytes that the sink took
 abbrev pub EndsBy : Ending → Option (List ℕ) → ℕ → Option (List ℕ) → Option (List ℕ) → Type 0
 EndsBy Finished held budget before after = IsRunOf held budget before after Finished
 EndsBy (Halted k) held budget before after = IsRunOf held budget before after (Halted k)
 EndsBy Budget held budget before after = IsRunOf held budget before after Budget
-EndsBy WriteFault held budget before after = IsFrontOf held budget before after
-EndsBy NoMemory held budget before after = (before ≡ after) ⊎ IsFrontOf held budget before after
-EndsBy (Refused line column kind) held budget before after = IsRefusedRead held line column kind × (before ≡ after)
+EndsBy WriteFault held budget before after = IsPrefixOfRun held budget before after
+EndsBy NoMemory held budget before after = (before ≡ after) ⊎ IsPrefixOfRun held budget before after
+EndsBy (Refused line column kind) held budget before after = IsTextReadRefused held line column kind × (before ≡ after)
 EndsBy TooLong held budget before after = before ≡ after
 EndsBy (Usage kind) held budget before after = before ≡ after
 EndsBy ReadFault held budget before after = before ≡ after

@@ -1,5 +1,5 @@
-pub mod Words
-pub mod Texts
+pub mod CommandWords
+pub mod ProgramTexts
 pub mod Endings
-pub mod Loading
+pub mod LoadFaults
 pub mod Notes

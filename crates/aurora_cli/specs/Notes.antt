@@ -1,8 +1,8 @@
 -- The note that the program prints of an ending.
 use Rattle.std.specs.Prelude.{ℕ, List, [], ◌++◌, codes}
 use Rattle.std.specs.Fmt.{decimal}
-use Rattle.au_model.specs.declared.ending.Ending.{Ending}
-use Rattle.au_model.specs.declared.ending.Ending.TheVariants.{Finished, Halted, Budget, Refused, TooLong, Usage, ReadFault, WriteFault, NoMemory}
+use Rattle.run_model.specs.declared.ending.Ending.{Ending}
+use Rattle.run_model.specs.declared.ending.Ending.TheVariants.{Finished, Halted, Budget, Refused, TooLong, Usage, ReadFault, WriteFault, NoMemory}
 use Rattle.au_model.specs.declared.fault_kind.FaultKind.{FaultKind}
 use Rattle.au_model.specs.declared.fault_kind.FaultKind.TheVariants.{NotUtf8, BadCharacter, BadEscape, UnclosedQuote, UnclosedComment, FloatNumeral, WideNumeral, TooManyArguments, UnexpectedToken, UnexpectedEnd, BadClause, BadDirective, StaticTwice, Unbuilt}
 

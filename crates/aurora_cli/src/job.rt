@@ -1,11 +1,13 @@
 //! The job for which bytes stand.
 ghost use Rattle.std.specs.Prelude.{◌≡◌, IfOk, IfErr};
 ghost use Rattle.std.specs.Str.{IsValidUpTo};
-ghost use Rattle.text_load.specs.Meant.{job_meant};
-ghost use Rattle.aurora_cli.specs.Loading.{IsTextFault, refused_as};
-ghost use Rattle.aurora_cli.specs.Texts.{StandsFor};
+ghost use Rattle.text_load.specs.JobView.{job_meant};
+ghost use Rattle.aurora_cli.specs.LoadFaults.{IsTextFault, refused_as};
+ghost use Rattle.aurora_cli.specs.ProgramTexts.{StandsFor};
 
-use au_model::{Ending, FaultKind};
+use au_model::FaultKind;
+
+use run_model::Ending;
 use std::alloc::Global;
 use std::str;
 use term_reader::line_and_column;

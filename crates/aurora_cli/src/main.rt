@@ -15,7 +15,7 @@ mod words;
 use crate::note::note_line;
 use crate::top::aurora;
 use au_io::{FileShelf, NoGate, StdoutSink};
-use au_model::{Ending, UsageKind, code};
+use run_model::{Ending, UsageKind, code};
 use std::env;
 use std::io::{ErrorKind, Write};
 use std::process::ExitCode;

@@ -2,7 +2,9 @@
 ghost use Rattle.std.specs.Prelude.{◌≡◌, ◌≤◌, ◌+◌, ◌++◌, length, take};
 ghost use Rattle.aurora_cli.specs.Notes.{kind_text, note_of, refused_note};
 
-use au_model::{Ending, FaultKind};
+use au_model::FaultKind;
+
+use run_model::Ending;
 use itoa::Buffer;
 
 /// Puts the note for an ending in front of the line, and answers its number of bytes: 0 where the run ended by itself,

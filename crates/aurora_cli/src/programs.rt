@@ -1,6 +1,6 @@
 //! The larger programs of `examples/`, whose texts stand here too, since a test can read no file outside its crate.
 use crate::tests::ends;
-use au_model::Ending;
+use run_model::Ending;
 use std::test::Fail;
 
 const PARSER: &str =

@@ -2,7 +2,8 @@
 use crate::note::note_line;
 use crate::top::aurora;
 use au_io::{MemoryShelf, MemorySink, NoGate};
-use au_model::{Ending, FaultKind, UsageKind};
+use au_model::FaultKind;
+use run_model::{Ending, UsageKind};
 use std::alloc::Global;
 use std::sync::Wait;
 use std::test::Fail;

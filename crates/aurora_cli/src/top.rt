@@ -1,15 +1,15 @@
 //! The public call.
 ghost use Rattle.std.specs.Prelude.{◌≡◌, ◌≢◌, ◌≤◌, ◌<◌, length, map, IfOk, IfErr, IsErrOf, IfSome, None};
 ghost use Rattle.std.specs.String.{string_bytes};
-ghost use Rattle.au_io.specs.Causes.{Rose, RoseBy};
-ghost use Rattle.aurora_cli.specs.Words.{asked_by};
-ghost use Rattle.aurora_cli.specs.Endings.{ComesOfText, EndsBy, IsComplete, IsLoaded, ending_after};
-ghost use Rattle.aurora_cli.specs.Loading.{IsLoadFault, IsReadWhole};
+ghost use Rattle.au_io.specs.FaultCounts.{Increased, IncreasedBy};
+ghost use Rattle.aurora_cli.specs.CommandWords.{asked_by};
+ghost use Rattle.aurora_cli.specs.Endings.{ComesOfText, EndsBy, IsComplete, IsJobLoaded, ending_after};
+ghost use Rattle.aurora_cli.specs.LoadFaults.{IsLoadFault, IsReadWhole};
 
 use crate::job::job_of;
 use crate::words::{Command, command_of};
 use au_io::{Gate, ReadRefusal, Shelf, Sink};
-use au_model::{Ending, RunEnding, UsageKind};
+use run_model::{Ending, RunEnding, UsageKind};
 use stack_run::run_job;
 use std::alloc::Global;
 use std::sync::Wait;
@@ -32,13 +32,13 @@ pub fn aurora<R: Threads + Wait + Sync, S: Shelf, K: Sink, G: Gate>(
     ensures usage { asked_by (map string_bytes words.now) ≡ None → result ≡ Ending.Usage UsageKind.Words }
     ensures asked { result ≡ Ending.Usage UsageKind.Words → asked_by (map string_bytes words.now) ≡ None }
     ensures unwritten { asked_by (map string_bytes words.now) ≡ None → K.taken out.new ≡ K.taken out.old }
-    ensures read_fault { result ≡ Ending.ReadFault → Rose (S.faults shelf.old) (S.faults shelf.new) }
-    ensures too_long { result ≡ Ending.TooLong → RoseBy 16777217 (S.drawn shelf.old) (S.drawn shelf.new) }
+    ensures read_fault { result ≡ Ending.ReadFault → Increased (S.faults shelf.old) (S.faults shelf.new) }
+    ensures too_long { result ≡ Ending.TooLong → IncreasedBy 16777217 (S.drawn shelf.old) (S.drawn shelf.new) }
     ensures long { result ≡ Ending.TooLong → IfSome (asked_by (map string_bytes words.now)) (λ asked. IfSome (S.held shelf.old asked.file) (λ told. 16777216 < length told)) }
     ensures short { ComesOfText result → IfSome (asked_by (map string_bytes words.now)) (λ asked. IfSome (S.held shelf.old asked.file) (λ told. length told ≤ 16777216)) }
-    ensures write_fault { result ≡ Ending.WriteFault → Rose (K.faults out.old) (K.faults out.new) }
+    ensures write_fault { result ≡ Ending.WriteFault → Increased (K.faults out.old) (K.faults out.new) }
     ensures run { IfSome (asked_by (map string_bytes words.now)) (λ asked. EndsBy result (S.held shelf.old asked.file) asked.budget (K.taken out.old) (K.taken out.new)) }
-    ensures complete { (Rose (S.faults shelf.old) (S.faults shelf.new) → ⊥) → (Rose (K.faults out.old) (K.faults out.new) → ⊥) → IfSome (asked_by (map string_bytes words.now)) (λ asked. IfSome (S.held shelf.old asked.file) (IsComplete result asked.budget)) }
+    ensures complete { (Increased (S.faults shelf.old) (S.faults shelf.new) → ⊥) → (Increased (K.faults out.old) (K.faults out.new) → ⊥) → IfSome (asked_by (map string_bytes words.now)) (λ asked. IfSome (S.held shelf.old asked.file) (IsComplete result asked.budget)) }
 {
     match command_of(words) {
         None => Ending::Usage(UsageKind::Words),
@@ -54,13 +54,13 @@ fn obey<S: Shelf, K: Sink>(
     out: &mut K,
 ) -> Ending
     ensures used { result ≢ Ending.Usage UsageKind.Words }
-    ensures read_fault { result ≡ Ending.ReadFault → Rose (S.faults shelf.old) (S.faults shelf.new) }
-    ensures too_long { result ≡ Ending.TooLong → RoseBy 16777217 (S.drawn shelf.old) (S.drawn shelf.new) }
+    ensures read_fault { result ≡ Ending.ReadFault → Increased (S.faults shelf.old) (S.faults shelf.new) }
+    ensures too_long { result ≡ Ending.TooLong → IncreasedBy 16777217 (S.drawn shelf.old) (S.drawn shelf.new) }
     ensures long { result ≡ Ending.TooLong → IfSome (S.held shelf.old command.now.file.now) (λ told. 16777216 < length told) }
     ensures short { ComesOfText result → IfSome (S.held shelf.old command.now.file.now) (λ told. length told ≤ 16777216) }
-    ensures write_fault { result ≡ Ending.WriteFault → Rose (K.faults out.old) (K.faults out.new) }
+    ensures write_fault { result ≡ Ending.WriteFault → Increased (K.faults out.old) (K.faults out.new) }
     ensures run { EndsBy result (S.held shelf.old command.now.file.now) command.now.budget (K.taken out.old) (K.taken out.new) }
-    ensures complete { (Rose (S.faults shelf.old) (S.faults shelf.new) → ⊥) → (Rose (K.faults out.old) (K.faults out.new) → ⊥) → IfSome (S.held shelf.old command.now.file.now) (IsComplete result command.now.budget) }
+    ensures complete { (Increased (S.faults shelf.old) (S.faults shelf.new) → ⊥) → (Increased (K.faults out.old) (K.faults out.new) → ⊥) → IfSome (S.held shelf.old command.now.file.now) (IsComplete result command.now.budget) }
 {
     match load(alloc, command.file, shelf) {
         Ok(job) => after(run_job(alloc, job, command.budget, out).end),
@@ -83,10 +83,10 @@ fn after(end: RunEnding) -> Ending
 
 /// The job for which a text stands.
 fn load<S: Shelf>(alloc: Global, file: &str, shelf: &mut S) -> Result<Job, Ending>
-    ensures job { IfOk result (IsLoaded (S.held shelf.old file.now)) }
+    ensures job { IfOk result (IsJobLoaded (S.held shelf.old file.now)) }
     ensures cause { IfErr result (IsLoadFault (S.held shelf.old file.now)) }
-    ensures read_fault { IsErrOf result Ending.ReadFault → Rose (S.faults shelf.old) (S.faults shelf.new) }
-    ensures too_long { IsErrOf result Ending.TooLong → RoseBy 16777217 (S.drawn shelf.old) (S.drawn shelf.new) }
+    ensures read_fault { IsErrOf result Ending.ReadFault → Increased (S.faults shelf.old) (S.faults shelf.new) }
+    ensures too_long { IsErrOf result Ending.TooLong → IncreasedBy 16777217 (S.drawn shelf.old) (S.drawn shelf.new) }
     ensures long { IsErrOf result Ending.TooLong → IfSome (S.held shelf.old file.now) (λ told. 16777216 < length told) }
     ensures short { IsReadWhole result → IfSome (S.held shelf.old file.now) (λ told. length told ≤ 16777216) }
 {

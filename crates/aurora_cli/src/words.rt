@@ -4,7 +4,7 @@ ghost use Rattle.std.specs.Option.{option_map};
 ghost use Rattle.std.specs.String.{string_bytes};
 ghost use Rattle.std.specs.Str.{all_ascii_digits};
 ghost use Rattle.std.specs.Str.Parse.{digits_value};
-ghost use Rattle.aurora_cli.specs.Words.{asked_by, is_budget};
+ghost use Rattle.aurora_cli.specs.CommandWords.{asked_by, is_budget};
 
 /// A command: the name of a text, and the budget in inferences.
 #[derive(Drop)]

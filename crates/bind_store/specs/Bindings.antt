@@ -1,8 +1,8 @@
 -- Bindings in the order in which they were made.
 use Rattle.std.specs.Prelude.{◌≡◌, ℕ, zero, suc, ◌<◌, ◌≤◌, ◌==◌, false, cond, List, [], ◌∷◌, Option, Some, None, option_map}
 use Rattle.au_term.specs.Term.{Term, VarTerm, var_bound}
-use Rattle.au_model.specs.Substitutions.{Substitution, occurs}
-use Rattle.au_model.specs.Unifier.{bound}
+use Rattle.au_model.specs.Terms.Substitutions.{Substitution, occurs}
+use Rattle.au_model.specs.Terms.Unifier.{bound}
 
 abbrev pub Binding : Type 0
 Binding = ℕ × Term
@@ -30,9 +30,9 @@ variable_at (b ∷ bs) zero = b.0
 variable_at (b ∷ bs) (suc i) = variable_at bs i
 
 -- a variable was not bound
-abbrev pub IsFree : ℕ → List Binding → Type 0
-IsFree x [] = Unit {0}
-IsFree x (b ∷ bs) = ((b.0 == x) ≡ false) × IsFree x bs
+abbrev pub IsUnboundIn : ℕ → List Binding → Type 0
+IsUnboundIn x [] = Unit {0}
+IsUnboundIn x (b ∷ bs) = ((b.0 == x) ≡ false) × IsUnboundIn x bs
 
 -- a variable was bound at a place of the order
 abbrev pub IsBoundAt : List Binding → ℕ → ℕ → Type 0
@@ -41,9 +41,9 @@ IsBoundAt (b ∷ bs) zero x = b.0 ≡ x
 IsBoundAt (b ∷ bs) (suc i) x = IsBoundAt bs i x
 
 -- where it was bound, or that it wasn't
-abbrev pub IsFound : List Binding → ℕ → Option ℕ → Type 0
-IsFound bs x None = IsFree x bs
-IsFound bs x (Some i) = IsBoundAt bs i x
+abbrev pub IsLookedUp : List Binding → ℕ → Option ℕ → Type 0
+IsLookedUp bs x None = IsUnboundIn x bs
+IsLookedUp bs x (Some i) = IsBoundAt bs i x
 
 -- a variable stands nowhere in bindings
 abbrev pub IsAbsent : ℕ → List Binding → Type 0
@@ -51,14 +51,14 @@ IsAbsent x [] = Unit {0}
 IsAbsent x (b ∷ bs) = ((x == b.0) ≡ false) × (occurs x b.1 ≡ false) × IsAbsent x bs
 
 -- none of the bound variables stands in its own value or in a later binding
-abbrev pub AreApart : List Binding → Type 0
-AreApart [] = Unit {0}
-AreApart (b ∷ bs) = (occurs b.0 b.1 ≡ false) × IsAbsent b.0 bs × AreApart bs
+abbrev pub AreTriangular : List Binding → Type 0
+AreTriangular [] = Unit {0}
+AreTriangular (b ∷ bs) = (occurs b.0 b.1 ≡ false) × IsAbsent b.0 bs × AreTriangular bs
 
 -- a term has none of the bound variables
-abbrev pub Avoids : List Binding → Term → Type 0
-Avoids [] t = Unit {0}
-Avoids (b ∷ bs) t = (occurs b.0 t ≡ false) × Avoids bs t
+abbrev pub HasNoBoundVariable : List Binding → Term → Type 0
+HasNoBoundVariable [] t = Unit {0}
+HasNoBoundVariable (b ∷ bs) t = (occurs b.0 t ≡ false) × HasNoBoundVariable bs t
 
 -- the variable of a binding and those of its value are below a number
 abbrev pub IsBindingBelow : ℕ → Binding → Type 0

@@ -1,8 +1,8 @@
 pub mod Bindings
-pub mod Cells
-pub mod Raised
-pub mod Resolving
-pub mod Unifying
+pub mod CellTests
+pub mod ShiftedCells
+pub mod ResolvedCells
+pub mod UnificationSteps
 pub mod Sides
-pub mod Stored
-pub mod Laws
+pub mod StoreView
+pub mod BindingLaws

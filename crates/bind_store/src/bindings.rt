@@ -1,7 +1,7 @@
 //! What has been bound so far.
 ghost use Rattle.std.specs.Prelude.{◌≡◌, ◌<◌, ◌-◌, ◌++◌, ◌∷◌, [], false, length, take, IfOk, OnOk, OnErr};
-ghost use Rattle.au_model.specs.Substitutions.{occurs};
-ghost use Rattle.bind_store.specs.Bindings.{IsFree, IsFound, AreApart, Avoids, value_at, variable_at};
+ghost use Rattle.au_model.specs.Terms.Substitutions.{occurs};
+ghost use Rattle.bind_store.specs.Bindings.{IsUnboundIn, IsLookedUp, AreTriangular, HasNoBoundVariable, value_at, variable_at};
 
 use crate::kept::Kept;
 use au_term::{FlatTerm, NoMemory, Shared, VarNo};
@@ -21,8 +21,8 @@ impl Model for Bindings {
     ghost use Rattle.std.specs.Coded.{coded_list, coded×, coded_ℕ};
     ghost use Rattle.std.specs.Ordering.{nat_cmp};
     ghost use Rattle.std.specs.BTreeMap.{get};
-    ghost use Rattle.au_term.specs.Prefix.{term_code};
-    ghost use Rattle.bind_store.specs.Bindings.{Binding, AreApart, place_in};
+    ghost use Rattle.au_term.specs.PrefixOrder.{term_code};
+    ghost use Rattle.bind_store.specs.Bindings.{Binding, AreTriangular, place_in};
 
     ghost Value = { List Binding };
 
@@ -30,7 +30,7 @@ impl Model for Bindings {
 
     ghost view = { λ b. b.values.items };
 
-    ghost invariant = { λ b. AreApart b.values.items × ((x : ℕ) → get nat_cmp b.places x ≡ place_in x b.values.items) };
+    ghost invariant = { λ b. AreTriangular b.values.items × ((x : ℕ) → get nat_cmp b.places x ≡ place_in x b.values.items) };
 }
 
 impl Bindings {
@@ -47,15 +47,15 @@ impl Bindings {
     /// How many there are.
     pub(crate) fn len(&self) -> usize
         ensures count { result ≡ length self.now }
-        ensures apart { AreApart self.now }
+        ensures apart { AreTriangular self.now }
     {
         self.values.len()
     }
 
     /// Where in the order the variable was bound.
     pub(crate) fn find(&self, variable: VarNo) -> Option<usize>
-        ensures found { IsFound self.now variable result }
-        ensures apart { AreApart self.now }
+        ensures found { IsLookedUp self.now variable result }
+        ensures apart { AreTriangular self.now }
     {
         self.places.get(&variable).copied()
     }
@@ -86,8 +86,8 @@ impl Bindings {
 
     /// Binds a variable that isn't bound to a term that has neither it nor a bound variable.
     pub(crate) fn push(&mut self, variable: VarNo, value: Kept) -> Result<(), NoMemory>
-        requires free { IsFree variable self.old }
-        requires avoids { Avoids self.old value }
+        requires free { IsUnboundIn variable self.old }
+        requires avoids { HasNoBoundVariable self.old value }
         requires apart { occurs variable value ≡ false }
         ensures ok { OnOk result (self.new ≡ self.old ++ (variable, value) ∷ []) }
         ensures err { OnErr result (self.new ≡ self.old) }

@@ -14,7 +14,7 @@ pub(crate) struct Kept {
 
 impl Model for Kept {
     ghost use Rattle.au_term.specs.Term.{Term};
-    ghost use Rattle.au_term.specs.Prefix.{term_code};
+    ghost use Rattle.au_term.specs.PrefixOrder.{term_code};
     ghost use Rattle.std.specs.Arc.{arc_value};
 
     ghost Value = { Term };

@@ -1,11 +1,11 @@
 //! Terms with bindings applied.
 ghost use Rattle.std.specs.Prelude.{◌≡◌, ◌<◌, ◌+◌, ◌-◌, ◌^◌, ◌++◌, ◌∷◌, [], ℕ, IfOk, OnOk, MatchOption, reverse, drop, length};
-ghost use Rattle.au_term.specs.Prefix.{IsTerm, AreSound, IsSound, Leaves, term_of, due_after};
-ghost use Rattle.au_model.specs.Substitutions.{resolve, value_of};
+ghost use Rattle.au_term.specs.PrefixOrder.{IsTerm, AreValidCells, IsValidCell, LeavesDue, term_of, due_after};
+ghost use Rattle.au_model.specs.Terms.Substitutions.{resolve, value_of};
 ghost use Rattle.bind_store.specs.Bindings.{composed};
-ghost use Rattle.au_term.specs.Raised.{raised as raised_term, raised_cell as raised_cell_of};
-ghost use Rattle.bind_store.specs.Raised.{raised_cells};
-ghost use Rattle.bind_store.specs.Resolving.{rebuilt, piece_cells, pending_cells, Advances, IsPlaced, ArePlaced, behind_piece, IsPut, IsCellFound};
+ghost use Rattle.au_term.specs.Shifted.{shifted as raised_term, shifted_cell as raised_cell_of};
+ghost use Rattle.bind_store.specs.ShiftedCells.{shifted_cells};
+ghost use Rattle.bind_store.specs.ResolvedCells.{rebuilt, piece_cells, pending_cells, Advances, IsPiecePlaced, ArePiecesPlaced, next_piece, IsCellEmitted, IsCellFound};
 
 use crate::bindings::Bindings;
 use au_term::{Cell, FlatTerm, NoMemory, TermBuilder, VarNo};
@@ -46,10 +46,10 @@ fn advance(
     builder: &mut TermBuilder,
     pieces: &mut Vec<Piece>,
 ) -> Result<(), NoMemory>
-    requires sound { AreSound cells.now }
-    requires placed { ArePlaced bindings.now (piece ∷ reverse pieces.old.items) }
-    requires whole { Leaves 1 (builder.old ++ rebuilt (value_of (composed bindings.now)) (pending_cells (raised_cells base cells.now) bindings.now (piece ∷ reverse pieces.old.items))) 0 }
-    ensures { OnOk result (Advances (raised_cells base cells.now) bindings.now builder.old builder.new (piece ∷ reverse pieces.old.items) (reverse pieces.new.items)) }
+    requires sound { AreValidCells cells.now }
+    requires placed { ArePiecesPlaced bindings.now (piece ∷ reverse pieces.old.items) }
+    requires whole { LeavesDue 1 (builder.old ++ rebuilt (value_of (composed bindings.now)) (pending_cells (shifted_cells base cells.now) bindings.now (piece ∷ reverse pieces.old.items))) 0 }
+    ensures { OnOk result (Advances (shifted_cells base cells.now) bindings.now builder.old builder.new (piece ∷ reverse pieces.old.items) (reverse pieces.new.items)) }
 {
     match first_cell(piece, cells, base, bindings)? {
         None => Ok(()),
@@ -71,8 +71,8 @@ fn put(
     pieces: &mut Vec<Piece>,
 ) -> Result<(), NoMemory>
     requires due { 0 < due_after 1 builder.old }
-    requires sound { IsSound cell }
-    ensures put { OnOk result (IsPut bindings.now cell builder.old builder.new pieces.old.items pieces.new.items) }
+    requires sound { IsValidCell cell }
+    ensures put { OnOk result (IsCellEmitted bindings.now cell builder.old builder.new pieces.old.items pieces.new.items) }
 {
     match bound_place(&cell, bindings) {
         None => builder.push(cell),
@@ -103,10 +103,10 @@ fn first_cell(
     base: VarNo,
     bindings: &Bindings,
 ) -> Result<Option<Cell>, NoMemory>
-    requires sound { AreSound cells.now }
-    requires placed { IsPlaced bindings.now piece }
-    ensures { IfOk result (λ o. MatchOption o (piece_cells (raised_cells base cells.now) bindings.now piece ≡ [])
-        (λ c. IsSound c × (piece.at < 2 ^ 64 - 1) × (piece_cells (raised_cells base cells.now) bindings.now piece ≡ c ∷ piece_cells (raised_cells base cells.now) bindings.now (behind_piece piece)))) }
+    requires sound { AreValidCells cells.now }
+    requires placed { IsPiecePlaced bindings.now piece }
+    ensures { IfOk result (λ o. MatchOption o (piece_cells (shifted_cells base cells.now) bindings.now piece ≡ [])
+        (λ c. IsValidCell c × (piece.at < 2 ^ 64 - 1) × (piece_cells (shifted_cells base cells.now) bindings.now piece ≡ c ∷ piece_cells (shifted_cells base cells.now) bindings.now (next_piece piece)))) }
 {
     match piece.value {
         None => raised_cell_at(cells, piece.at, base),
@@ -116,9 +116,9 @@ fn first_cell(
 
 /// The cell at a place, with its variable raised, if a cell is there.
 fn raised_cell_at(cells: &[Cell], at: usize, base: VarNo) -> Result<Option<Cell>, NoMemory>
-    requires { AreSound cells.now }
-    ensures { IfOk result (λ o. MatchOption o (drop at (raised_cells base cells.now) ≡ [])
-        (λ c. IsSound c × (at < 2 ^ 64 - 1) × (drop at (raised_cells base cells.now) ≡ c ∷ drop (at + 1) (raised_cells base cells.now)))) }
+    requires { AreValidCells cells.now }
+    ensures { IfOk result (λ o. MatchOption o (drop at (shifted_cells base cells.now) ≡ [])
+        (λ c. IsValidCell c × (at < 2 ^ 64 - 1) × (drop at (shifted_cells base cells.now) ≡ c ∷ drop (at + 1) (shifted_cells base cells.now)))) }
 {
     if at >= cells.len() {
         return Ok(None);
@@ -128,9 +128,9 @@ fn raised_cell_at(cells: &[Cell], at: usize, base: VarNo) -> Result<Option<Cell>
 
 /// A cell with its variable raised.
 fn raised_cell(cell: &Cell, base: VarNo) -> Result<Cell, NoMemory>
-    requires { IsSound cell.now }
+    requires { IsValidCell cell.now }
     ensures cell { IfOk result (λ c. c ≡ raised_cell_of base cell.now) }
-    ensures sound { IfOk result IsSound }
+    ensures sound { IfOk result IsValidCell }
 {
     match cell {
         Cell::Var(number) => Ok(Cell::Var(raised(*number, base)?)),

@@ -1,12 +1,12 @@
 //! The store of a branch: its bindings and its next variable number.
 ghost use Rattle.std.specs.Prelude.{◌≡◌, ◌<◌, ◌≤◌, ◌+◌, ◌++◌, ◌∷◌, [], length, IfOk, OnOk, OnErr};
 ghost use Rattle.au_term.specs.Term.{var_bound};
-ghost use Rattle.au_model.specs.Copies.{copied, copy_takes};
-ghost use Rattle.au_model.specs.Substitutions.{resolve};
-ghost use Rattle.au_model.specs.Each.{Each};
-ghost use Rattle.bind_store.specs.Bindings.{composed, AreApart, IsBindingBelow};
-ghost use Rattle.bind_store.specs.Unifying.{Grown, IsSolved};
-ghost use Rattle.bind_store.specs.Stored.{Stored, IsSound, substitution, with_numbers, with_segment, IsUnified, mark_of, Continues, IsMarked, pairs_of, IsReachedTerm};
+ghost use Rattle.au_model.specs.Terms.Copies.{copied, copy_takes};
+ghost use Rattle.au_model.specs.Terms.Substitutions.{resolve};
+ghost use Rattle.au_model.specs.Terms.Each.{Each};
+ghost use Rattle.bind_store.specs.Bindings.{composed, AreTriangular, IsBindingBelow};
+ghost use Rattle.bind_store.specs.UnificationSteps.{HasFurther, IsSolved};
+ghost use Rattle.bind_store.specs.StoreView.{StoreView, IsValidStore, substitution, with_numbers, with_segment, IsUnified, mark_of, Continues, IsMarkOf, pairs_of, IsDereferencedTerm};
 
 use crate::bindings::Bindings;
 use crate::kept::Kept;
@@ -27,12 +27,12 @@ pub struct Store {
 
 impl Model for Store {
     ghost use Rattle.std.specs.Coded.{codes};
-    ghost use Rattle.au_term.specs.Prefix.{term_code};
-    ghost use Rattle.au_model.specs.Each.{Each};
+    ghost use Rattle.au_term.specs.PrefixOrder.{term_code};
+    ghost use Rattle.au_model.specs.Terms.Each.{Each};
     ghost use Rattle.bind_store.specs.Bindings.{IsBindingBelow};
-    ghost use Rattle.bind_store.specs.Stored.{Stored};
+    ghost use Rattle.bind_store.specs.StoreView.{StoreView};
 
-    ghost Value = { Stored };
+    ghost Value = { StoreView };
 
     ghost coded = { Prim.hlevel (codes, term_code) };
 
@@ -63,7 +63,7 @@ impl Store {
     /// The next variable number.
     pub fn next(&self) -> VarNo
         ensures next { result ≡ self.now.next }
-        ensures sound { IsSound self.now }
+        ensures sound { IsValidStore self.now }
     {
         // The proof reads off that the bindings are apart.
         let _made = self.bindings.len();
@@ -86,7 +86,7 @@ impl Store {
 
     /// Takes the numbers of a segment, and makes its bindings again.
     pub fn extend(&mut self, segment: &Segment) -> Result<(), NoMemory>
-        requires apart { AreApart (self.old.made ++ pairs_of segment.now.bindings) }
+        requires apart { AreTriangular (self.old.made ++ pairs_of segment.now.bindings) }
         requires below { Each (IsBindingBelow (self.old.next + segment.now.vars)) (pairs_of segment.now.bindings) }
         ensures ok { OnOk result (self.new ≡ with_segment segment.now self.old) }
         ensures err { OnErr result (self.new ≡ self.old) }
@@ -140,7 +140,7 @@ impl Store {
 
     /// A term that stands for the same and is no bound variable.
     pub fn reached(&self, term: &Shared) -> Result<Shared, NoMemory>
-        ensures { IfOk result (λ t. IsReachedTerm self.now term.now t) }
+        ensures { IfOk result (λ t. IsDereferencedTerm self.now term.now t) }
     {
         let Some(first) = bound_place(&term.top()?, &self.bindings) else {
             return term.share();
@@ -178,8 +178,8 @@ impl Store {
     /// The bindings up to the mark's number stay: so a mark that outlived an older undoing is one of the bindings that
     /// stand there now.
     pub fn undo_to(&mut self, mark: Mark)
-        requires { IsMarked mark self.old }
-        ensures { (before : Stored) → mark ≡ mark_of before → Continues before self.old → self.new ≡ before }
+        requires { IsMarkOf mark self.old }
+        ensures { (before : StoreView) → mark ≡ mark_of before → Continues before self.old → self.new ≡ before }
     {
         self.bindings.cut_to(mark.made);
         self.next = mark.next;
@@ -187,8 +187,8 @@ impl Store {
 
     /// The bindings that were made since a mark, in their order.
     pub fn made_since(&self, mark: &Mark) -> Result<BindingList, NoMemory>
-        requires { IsMarked mark.now self.now }
-        ensures { IfOk result (λ list. (before : Stored) → mark.now ≡ mark_of before → Continues before self.now → self.now.made ≡ before.made ++ pairs_of list) }
+        requires { IsMarkOf mark.now self.now }
+        ensures { IfOk result (λ list. (before : StoreView) → mark.now ≡ mark_of before → Continues before self.now → self.now.made ≡ before.made ++ pairs_of list) }
     {
         let mut list = BindingList::new(self.alloc);
         for at in mark.made..self.bindings.len() {
@@ -203,8 +203,8 @@ impl Store {
 
 /// Makes bindings again, in their order.
 fn bind_all(alloc: Global, list: &[Binding], bindings: &mut Bindings) -> Result<(), NoMemory>
-    requires { AreApart (bindings.old ++ pairs_of list.now) }
-    ensures grown { Grown bindings.old bindings.new }
+    requires { AreTriangular (bindings.old ++ pairs_of list.now) }
+    ensures grown { HasFurther bindings.old bindings.new }
     ensures made { OnOk result (bindings.new ≡ bindings.old ++ pairs_of list.now) }
 {
     for binding in list {
@@ -221,7 +221,7 @@ fn unify_terms(
     b: &Shared,
     bindings: &mut Bindings,
 ) -> Result<bool, NoMemory>
-    ensures grown { Grown bindings.old bindings.new }
+    ensures grown { HasFurther bindings.old bindings.new }
     ensures solved { IfOk result (λ goes. IsSolved ((resolve (composed bindings.old) a.now, resolve (composed bindings.old) b.now) ∷ []) bindings.old bindings.new goes) }
 {
     let (left, left_at, left_base) = a.place();

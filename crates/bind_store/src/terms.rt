@@ -1,8 +1,8 @@
 //! Whether a variable occurs in a term.
 ghost use Rattle.std.specs.Prelude.{◌≡◌};
 ghost use Rattle.std.specs.List.{list_any};
-ghost use Rattle.au_model.specs.Substitutions.{occurs};
-ghost use Rattle.bind_store.specs.Cells.{is_variable};
+ghost use Rattle.au_model.specs.Terms.Substitutions.{occurs};
+ghost use Rattle.bind_store.specs.CellTests.{is_variable};
 
 use au_term::{Cell, FlatTerm, VarNo};
 

@@ -1,10 +1,10 @@
 //! The unifier of two terms under the bindings made so far (ISO/IEC 13211-1, 7.3.2).
 ghost use Rattle.std.specs.Prelude.{◌≡◌, ◌<◌, ◌≤◌, ◌+◌, ◌-◌, ◌^◌, ◌++◌, ◌∷◌, [], ℕ, cond, IfOk, OnOk, OnErr, MatchOption, MatchBool, length, reverse};
-ghost use Rattle.au_term.specs.Prefix.{top_of, IsSound};
-ghost use Rattle.au_term.specs.Raised.{raised_cell};
-ghost use Rattle.au_model.specs.Substitutions.{resolve};
-ghost use Rattle.bind_store.specs.Bindings.{composed, IsFree, AreApart};
-ghost use Rattle.bind_store.specs.Unifying.{whole_at, base_at, place_term, IsThere, Stand, Stands, AllStand, equations_at, pending_equations, IsReached, IsBindingOf, IsBehind, Reaches, Goes, IsBound, cell_step, variable_step, HasArguments, both_resolved, Grown, IsSolved};
+ghost use Rattle.au_term.specs.PrefixOrder.{top_of, IsValidCell};
+ghost use Rattle.au_term.specs.Shifted.{shifted_cell};
+ghost use Rattle.au_model.specs.Terms.Substitutions.{resolve};
+ghost use Rattle.bind_store.specs.Bindings.{composed, IsUnboundIn, AreTriangular};
+ghost use Rattle.bind_store.specs.UnificationSteps.{whole_at, base_at, place_term, IsThere, HasTermsAt, IsEquationValid, AreEquationsValid, equations_at, pending_equations, IsDereferenced, IsBindingOf, IsNextPlace, DereferencesTo, TakesRule, IsBound, cell_step, variable_step, HasArguments, both_resolved, HasFurther, IsSolved};
 ghost use Rattle.bind_store.specs.Sides.{pair_of};
 
 use crate::bindings::Bindings;
@@ -64,8 +64,8 @@ pub(crate) fn extend(
     first: Equation,
     bindings: &mut Bindings,
 ) -> Result<bool, NoMemory>
-    requires { Stands (pair_of sides.now) bindings.old first }
-    ensures grown { Grown bindings.old bindings.new }
+    requires { IsEquationValid (pair_of sides.now) bindings.old first }
+    ensures grown { HasFurther bindings.old bindings.new }
     ensures solved { IfOk result (λ goes. IsSolved (both_resolved bindings.old (equations_at (pair_of sides.now) bindings.old first)) bindings.old bindings.new goes) }
 {
     // The proof reads off that the bindings are apart.
@@ -111,11 +111,11 @@ fn push_rest(
     equation: Equation,
     pending: &mut Vec<Equation>,
 ) -> Result<(), NoMemory>
-    requires stands { Stands (pair_of sides.now) bindings.now equation }
-    requires others { AllStand (pair_of sides.now) bindings.now (reverse pending.old.items) }
+    requires stands { IsEquationValid (pair_of sides.now) bindings.now equation }
+    requires others { AreEquationsValid (pair_of sides.now) bindings.now (reverse pending.old.items) }
     ensures rest { OnOk result ((place_term (pair_of sides.now) bindings.now equation.left, place_term (pair_of sides.now) bindings.now equation.right) ∷ pending_equations (pair_of sides.now) bindings.now (reverse pending.new.items)
         ≡ equations_at (pair_of sides.now) bindings.now equation ++ pending_equations (pair_of sides.now) bindings.now (reverse pending.old.items)) }
-    ensures stand { OnOk result (AllStand (pair_of sides.now) bindings.now (reverse pending.new.items)) }
+    ensures stand { OnOk result (AreEquationsValid (pair_of sides.now) bindings.now (reverse pending.new.items)) }
 {
     if equation.count > 1 {
         pending.push(Equation {
@@ -129,8 +129,8 @@ fn push_rest(
 
 /// The place behind a subterm.
 fn behind(sides: &Sides, bindings: &Bindings, place: Place) -> Place
-    requires { Stand (pair_of sides.now) bindings.now place 1 }
-    ensures { IsBehind (pair_of sides.now) bindings.now place result }
+    requires { HasTermsAt (pair_of sides.now) bindings.now place 1 }
+    ensures { IsNextPlace (pair_of sides.now) bindings.now place result }
 {
     Place {
         source: place.source,
@@ -146,9 +146,9 @@ fn first_goes(
     bindings: &mut Bindings,
     pending: &mut Vec<Equation>,
 ) -> Result<bool, NoMemory>
-    requires stands { Stands (pair_of sides.now) bindings.old equation }
-    requires apart { AreApart bindings.old }
-    ensures goes { IfOk result (λ goes. Goes (pair_of sides.now) equation bindings.old bindings.new pending.old.items pending.new.items goes) }
+    requires stands { IsEquationValid (pair_of sides.now) bindings.old equation }
+    requires apart { AreTriangular bindings.old }
+    ensures goes { IfOk result (λ goes. TakesRule (pair_of sides.now) equation bindings.old bindings.new pending.old.items pending.new.items goes) }
     ensures kept { OnErr result (bindings.new ≡ bindings.old) }
 {
     let left = reached(sides, bindings, equation.left)?;
@@ -182,9 +182,9 @@ fn first_argument(place: Place) -> Place
 
 /// What a subterm stands for: itself, or, where it is a bound variable, what its value stands for.
 fn reached(sides: &Sides, bindings: &Bindings, place: Place) -> Result<Place, NoMemory>
-    requires stand { Stand (pair_of sides.now) bindings.now place 1 }
-    requires apart { AreApart bindings.now }
-    ensures { IfOk result (λ at. Reaches (pair_of sides.now) bindings.now place at) }
+    requires stand { HasTermsAt (pair_of sides.now) bindings.now place 1 }
+    requires apart { AreTriangular bindings.now }
+    ensures { IfOk result (λ at. DereferencesTo (pair_of sides.now) bindings.now place at) }
 {
     let mut at = place;
     while let Some(binding) = binding_at(sides, bindings, at)? {
@@ -198,7 +198,7 @@ fn reached(sides: &Sides, bindings: &Bindings, place: Place) -> Result<Place, No
 
 /// The binding of the variable at a place, if a bound variable stands there.
 fn binding_at(sides: &Sides, bindings: &Bindings, place: Place) -> Result<Option<usize>, NoMemory>
-    requires { Stand (pair_of sides.now) bindings.now place 1 }
+    requires { HasTermsAt (pair_of sides.now) bindings.now place 1 }
     ensures { IfOk result (IsBindingOf bindings.now (top_of (place_term (pair_of sides.now) bindings.now place))) }
 {
     match cell_at(sides, bindings, place) {
@@ -209,9 +209,9 @@ fn binding_at(sides: &Sides, bindings: &Bindings, place: Place) -> Result<Option
 
 /// The first cell of a subterm, with its variable not raised.
 fn cell_at<'a>(sides: &Sides<'a>, bindings: &'a Bindings, place: Place) -> &'a Cell
-    requires { Stand (pair_of sides.now) bindings.now place 1 }
-    ensures top { raised_cell (base_at (pair_of sides.entry.now) place.source) result.now ≡ top_of (place_term (pair_of sides.entry.now) bindings.entry.now place) }
-    ensures sound { IsSound result.now }
+    requires { HasTermsAt (pair_of sides.now) bindings.now place 1 }
+    ensures top { shifted_cell (base_at (pair_of sides.entry.now) place.source) result.now ≡ top_of (place_term (pair_of sides.entry.now) bindings.entry.now place) }
+    ensures sound { IsValidCell result.now }
     ensures short { place.at < 2 ^ 64 - 1 }
 {
     &whole(sides, bindings, place.source).cells()[place.at]
@@ -219,8 +219,8 @@ fn cell_at<'a>(sides: &Sides<'a>, bindings: &'a Bindings, place: Place) -> &'a C
 
 /// What becomes of an equation between two subterms that are no bound variables.
 fn step_at(sides: &Sides, bindings: &Bindings, left: Place, right: Place) -> Result<Step, NoMemory>
-    requires left { Stand (pair_of sides.now) bindings.now left 1 }
-    requires right { Stand (pair_of sides.now) bindings.now right 1 }
+    requires left { HasTermsAt (pair_of sides.now) bindings.now left 1 }
+    requires right { HasTermsAt (pair_of sides.now) bindings.now right 1 }
     ensures step { IfOk result (λ s. s ≡ cell_step (top_of (place_term (pair_of sides.now) bindings.now left)) (top_of (place_term (pair_of sides.now) bindings.now right))) }
     ensures some { IfOk result HasArguments }
     ensures short { (left.at < 2 ^ 64 - 1) × (right.at < 2 ^ 64 - 1) }
@@ -235,8 +235,8 @@ fn step_at(sides: &Sides, bindings: &Bindings, left: Place, right: Place) -> Res
 
 /// What becomes of an equation, by the first cells of its sides and how much their variables are raised.
 fn step_of(left: &Cell, left_base: VarNo, right: &Cell, right_base: VarNo) -> Result<Step, NoMemory>
-    requires { IsSound left.now }
-    ensures step { IfOk result (λ s. s ≡ cell_step (raised_cell left_base left.now) (raised_cell right_base right.now)) }
+    requires { IsValidCell left.now }
+    ensures step { IfOk result (λ s. s ≡ cell_step (shifted_cell left_base left.now) (shifted_cell right_base right.now)) }
     ensures some { IfOk result HasArguments }
 {
     match (left, right) {
@@ -283,9 +283,9 @@ fn bind(
     place: Place,
     bindings: &mut Bindings,
 ) -> Result<bool, NoMemory>
-    requires free { IsFree variable bindings.old }
-    requires apart { AreApart bindings.old }
-    requires stand { Stand (pair_of sides.now) bindings.old place 1 }
+    requires free { IsUnboundIn variable bindings.old }
+    requires apart { AreTriangular bindings.old }
+    requires stand { HasTermsAt (pair_of sides.now) bindings.old place 1 }
     ensures bound { IfOk result (λ goes. IsBound variable (resolve (composed bindings.old) (place_term (pair_of sides.now) bindings.old place)) bindings.old bindings.new goes) }
     ensures kept { OnErr result (bindings.new ≡ bindings.old) }
 {
@@ -304,7 +304,7 @@ fn resolved_at(
     bindings: &Bindings,
     place: Place,
 ) -> Result<FlatTerm, NoMemory>
-    requires { Stand (pair_of sides.now) bindings.now place 1 }
+    requires { HasTermsAt (pair_of sides.now) bindings.now place 1 }
     ensures { IfOk result (λ t. t ≡ resolve (composed bindings.now) (place_term (pair_of sides.now) bindings.now place)) }
 {
     let cells = whole(sides, bindings, place.source).subterm(place.at);

@@ -1,4 +1,4 @@
-pub mod Keeping
-pub mod Passing
-pub mod Compiled
-pub mod Renumbering
+pub mod NormalBodyLemmas
+pub mod GoalPlaceLemmas
+pub mod CompiledClauseLemmas
+pub mod RenumberingLemmas

@@ -1,6 +1,6 @@
-pub mod Cells
-pub mod Chains
-pub mod Keeping
-pub mod Places
-pub mod Kept
-pub mod Compiling
+pub mod BodyCells
+pub mod GoalChains
+pub mod NormalBodies
+pub mod GoalPlaces
+pub mod ClauseInvariant
+pub mod CompiledClauses

@@ -1,10 +1,10 @@
 //! Bodies, as they are kept.
 ghost use Rattle.std.specs.Prelude.{◌≡◌, ◌<◌, ◌-◌, ◌^◌, ◌++◌, IfOk, MatchOption, OnOk, None, length, drop};
 ghost use Rattle.au_term.specs.Term.{VarTerm, count};
-ghost use Rattle.au_term.specs.Prefix.{cells_of, terms_of, due_after};
-ghost use Rattle.au_model.specs.Bodies.{body_of, call_of, goals_of, clause_goals_of};
-ghost use Rattle.clause_compile.specs.Keeping.{bodies_cells, KeepsGoal};
-ghost use Rattle.clause_compile.specs.Places.{AreGoalsAt, PassesGoal};
+ghost use Rattle.au_term.specs.PrefixOrder.{cells_of, terms_of, due_after};
+ghost use Rattle.run_model.specs.Programs.Bodies.{body_of, call_of, goals_of, clause_goals_of};
+ghost use Rattle.clause_compile.specs.NormalBodies.{bodies_cells, NormalizesGoal};
+ghost use Rattle.clause_compile.specs.GoalPlaces.{AreGoalsAt, PassesGoal};
 
 use crate::names::{is_conjunction_cell, is_junction_cell, is_true_cell};
 use au_term::{Atom, Cell, FlatTerm, NoMemory, TermBuilder, VarNo};
@@ -36,7 +36,7 @@ fn keep_goal(
 ) -> Result<Option<usize>, NoMemory>
     requires place { at < length (cells_of body.now) }
     requires due { due_after 1 builder.old ≡ count (terms_of (drop at (cells_of body.now))) }
-    ensures { IfOk result (λ o. MatchOption o (bodies_cells (terms_of (drop at (cells_of body.now))) ≡ None) (λ next. KeepsGoal (cells_of body.now) at next builder.old builder.new)) }
+    ensures { IfOk result (λ o. MatchOption o (bodies_cells (terms_of (drop at (cells_of body.now))) ≡ None) (λ next. NormalizesGoal (cells_of body.now) at next builder.old builder.new)) }
 {
     let end = body.term_end(at);
     let goal = body.subterm(at);

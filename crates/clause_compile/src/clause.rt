@@ -1,14 +1,14 @@
 //! Clauses as they are kept, and terms that are called.
 ghost use Rattle.std.specs.Prelude.{◌≡◌, ◌<◌, ◌≤◌, ◌+◌, ◌^◌, ◌++◌, IfOk, Some, true, map};
 ghost use Rattle.std.specs.Arc.{arc_value};
-ghost use Rattle.au_term.specs.Prefix.{IsTerm};
-ghost use Rattle.au_term.specs.Raised.{raised, IsPlace};
-ghost use Rattle.au_model.specs.Forms.{is_callable};
-ghost use Rattle.au_model.specs.Bodies.{body_of, clause_goals_of};
-ghost use Rattle.clause_compile.specs.Places.{subterms_at, ArePlaces};
-ghost use Rattle.clause_compile.specs.Compiling.{clause_bound, goal_items, numbered, IsCompiled, IsCalled};
-ghost use Rattle.clause_compile.specs.Kept.{numbers_from};
-ghost use Rattle.au_model.specs.Clauses.{clause_variables};
+ghost use Rattle.au_term.specs.PrefixOrder.{IsTerm};
+ghost use Rattle.au_term.specs.Shifted.{shifted, IsShiftablePlace};
+ghost use Rattle.au_model.specs.Terms.Forms.{is_callable};
+ghost use Rattle.run_model.specs.Programs.Bodies.{body_of, clause_goals_of};
+ghost use Rattle.clause_compile.specs.GoalPlaces.{subterms_at, ArePlaces};
+ghost use Rattle.clause_compile.specs.CompiledClauses.{clause_bound, goal_items, numbered, IsCompiled, IsCalledAs};
+ghost use Rattle.clause_compile.specs.ClauseInvariant.{numbers_from};
+ghost use Rattle.run_model.specs.Programs.Clauses.{clause_variables};
 
 use crate::body::{clause_places, goal_places, kept_body};
 use crate::goal_list::Goals;
@@ -33,18 +33,18 @@ pub struct Clause {
 impl Model for Clause {
     ghost use Rattle.std.specs.Arc.{arc_value};
     ghost use Rattle.std.specs.Coded.{codes};
-    ghost use Rattle.au_term.specs.Prefix.{term_code};
-    ghost use Rattle.au_model.specs.Clauses.{Clause as ClauseTerms};
+    ghost use Rattle.au_term.specs.PrefixOrder.{term_code};
+    ghost use Rattle.run_model.specs.Programs.Clauses.{Clause as ClauseTerms};
 
     ghost Value = { ClauseTerms };
 
     ghost coded = { Prim.hlevel (codes, term_code) };
 
-    ghost use Rattle.clause_compile.specs.Kept.{IsKept};
+    ghost use Rattle.clause_compile.specs.ClauseInvariant.{IsClauseInvariant};
 
     ghost view = { λ c. record { head = arc_value c.head; body = arc_value c.body } };
 
-    ghost invariant = { λ c. IsKept (arc_value c.head) (arc_value c.body) c.goals.items c.vars };
+    ghost invariant = { λ c. IsClauseInvariant (arc_value c.head) (arc_value c.body) c.goals.items c.vars };
 }
 
 /// A part of a clause.
@@ -149,7 +149,7 @@ impl Clause {
     /// The head, with `base` added to its variables.
     pub fn raised_head(&self, base: VarNo) -> Result<Shared, NoMemory>
         requires { base + clause_bound self.now < 2 ^ 64 }
-        ensures { IfOk result (λ head. head ≡ raised base self.now.head) }
+        ensures { IfOk result (λ head. head ≡ shifted base self.now.head) }
     {
         Ok(Shared::new(self.head.clone()?, 0, base))
     }
@@ -157,7 +157,7 @@ impl Clause {
     /// The body, with `base` added to its variables.
     pub fn raised_body(&self, base: VarNo) -> Result<Shared, NoMemory>
         requires { base + clause_bound self.now < 2 ^ 64 }
-        ensures { IfOk result (λ body. body ≡ raised base self.now.body) }
+        ensures { IfOk result (λ body. body ≡ shifted base self.now.body) }
     {
         Ok(Shared::new(self.body.clone()?, 0, base))
     }
@@ -171,7 +171,7 @@ impl Clause {
         rest: &Goals,
     ) -> Result<Goals, NoMemory>
         requires { base + clause_bound self.now < 2 ^ 64 }
-        ensures { IfOk result (λ goals. goals ≡ goal_items cut (map (raised base) (clause_goals_of self.now.body)) ++ rest.now) }
+        ensures { IfOk result (λ goals. goals ≡ goal_items cut (map (shifted base) (clause_goals_of self.now.body)) ++ rest.now) }
     {
         goals_before(alloc, &self.body, &self.goals, base, cut, rest)
     }
@@ -184,7 +184,7 @@ pub fn body_goals(
     cut: Scope,
     rest: &Goals,
 ) -> Result<Goals, ClauseRefusal>
-    ensures { IsCalled body.now cut rest.now result }
+    ensures { IsCalledAs body.now cut rest.now result }
 {
     if is_plain_goal(&body.top()?) {
         let term = body.share()?;
@@ -210,7 +210,7 @@ fn goals_before(
     rest: &Goals,
 ) -> Result<Goals, NoMemory>
     requires { ArePlaces (arc_value skeleton.now) base places.now }
-    ensures { IfOk result (λ goals. goals ≡ goal_items cut (map (raised base) (subterms_at (arc_value skeleton.now) places.now)) ++ rest.now) }
+    ensures { IfOk result (λ goals. goals ≡ goal_items cut (map (shifted base) (subterms_at (arc_value skeleton.now) places.now)) ++ rest.now) }
 {
     let mut goals = rest.share()?;
     let mut left = places.len();

@@ -2,7 +2,7 @@
 ghost use Rattle.std.specs.Prelude.{◌≡◌, ◌<◌, [], ◌∷◌, IfOk, length, slice_get, drop};
 ghost use Rattle.std.specs.Option.{option_copied};
 ghost use Rattle.std.specs.Iterator.{YieldsFirstRef, item_count};
-ghost use Rattle.clause_compile.specs.Chains.{items_of};
+ghost use Rattle.clause_compile.specs.GoalChains.{items_of};
 
 use crate::item::Item;
 use au_term::NoMemory;
@@ -31,7 +31,7 @@ impl Model for Goals {
 
     ghost coded = { Prim.hlevel (codes, flat.the_row.coded, shared.the_row.coded) };
 
-    ghost use Rattle.clause_compile.specs.Chains.{items_of};
+    ghost use Rattle.clause_compile.specs.GoalChains.{items_of};
 
     ghost view = { λ g. items_of g.first };
 }
@@ -139,7 +139,7 @@ impl<'a> Model for GoalItems<'a> {
 
     ghost coded = { Prim.hlevel (codes, flat.the_row.coded, shared.the_row.coded) };
 
-    ghost use Rattle.clause_compile.specs.Chains.{items_of};
+    ghost use Rattle.clause_compile.specs.GoalChains.{items_of};
 
     ghost view = { λ g. items_of g.next.now };
 }

@@ -1,6 +1,6 @@
 //! The names that bodies are told by.
 ghost use Rattle.std.specs.Prelude.{◌≡◌};
-ghost use Rattle.clause_compile.specs.Cells.{opens_junction, opens_conjunction, opens_plain_goal, is_true};
+ghost use Rattle.clause_compile.specs.BodyCells.{opens_junction, opens_conjunction, opens_plain_goal, is_true};
 
 use au_term::Cell;
 

@@ -1,17 +1,17 @@
 -- The branches that the ways of a goal to hold become, beside a store of bindings.
 use Rattle.std.specs.Prelude.{◌≡◌, ℕ, ◌+◌, ◌≤◌, List, [], ◌∷◌, ◌++◌, map, Some, None}
 use Rattle.au_term.specs.Term.{Term, var_bound}
-use Rattle.au_model.specs.Each.{Each}
-use Rattle.au_model.specs.Substitutions.{resolve}
-use Rattle.au_model.specs.Unifier.{unifier}
-use Rattle.au_model.specs.Outcomes.{Solution}
-use Rattle.clause_compile.specs.Compiling.{goal_items}
+use Rattle.au_model.specs.Terms.Each.{Each}
+use Rattle.au_model.specs.Terms.Substitutions.{resolve}
+use Rattle.au_model.specs.Terms.Unifier.{unifier}
+use Rattle.run_model.specs.Goals.Outcomes.{Solution}
+use Rattle.clause_compile.specs.CompiledClauses.{goal_items}
 use Rattle.clause_compile.specs.declared.item.Scope.{Scope}
 use Rattle.clause_compile.specs.declared.item.Item.{Item}
 use Rattle.clause_compile.specs.declared.item.Item.TheVariants.{Goal, CatchEnd, Collect, Remove, End}
 use Rattle.clause_compile.specs.declared.event.Branch.{Branch}
-use Rattle.bind_store.specs.Bindings.{Binding, composed, AreApart, IsBindingBelow}
-use Rattle.bind_store.specs.Stored.{Stored, pairs_of}
+use Rattle.bind_store.specs.Bindings.{Binding, composed, AreTriangular, IsBindingBelow}
+use Rattle.bind_store.specs.StoreView.{StoreView, pairs_of}
 
 -- all variables of an item are below a number, those of an uncaught ball excepted
 abbrev pub IsItemBelow : ℕ → Item → Type 0
@@ -22,7 +22,7 @@ IsItemBelow n (Remove id) = Unit {0}
 IsItemBelow n (End ball) = Unit {0}
 
 -- items begin with goals in one scope that stand, by these bindings, for the given ones, and go on with the rest
-pub record Stands (bindings : List Binding) (cut : Scope) (gs : List Term) (rest items : List Item) : Type 0 where
+pub record HasGoalsBefore (bindings : List Binding) (cut : Scope) (gs : List Term) (rest items : List Item) : Type 0 where
   pub terms : List Term
   pub are : items ≡ goal_items cut terms ++ rest
   pub same : map (resolve (composed bindings)) terms ≡ gs
@@ -33,27 +33,27 @@ made_by b = pairs_of b.segment.bindings
 
 -- What a branch keeps, so that its segment can be made again where the store is as it was: it takes so many numbers,
 -- binds variables that were unbound, each once, and all that it has is below its last number.
-pub record Takes (st : Stored) (variables : ℕ) (b : Branch) : Type 0 where
+pub record TakesNumbers (st : StoreView) (variables : ℕ) (b : Branch) : Type 0 where
   pub base : b.segment.base ≡ st.next
   pub vars : b.segment.vars ≡ variables
-  pub apart : AreApart (st.made ++ made_by b)
+  pub apart : AreTriangular (st.made ++ made_by b)
   pub bindings : Each (IsBindingBelow (st.next + variables)) (made_by b)
   pub items : Each (IsItemBelow (st.next + variables)) b.goals
 
 -- a branch is that of a solution: its bindings are the unifier, and its goals come, in this scope, before the rest
-pub record Solves (here : Scope) (rest : List Item) (st : Stored) (s : Solution) (b : Branch) : Type 0 where
-  pub takes : Takes st s.variables b
+pub record IsBranchOf (here : Scope) (rest : List Item) (st : StoreView) (s : Solution) (b : Branch) : Type 0 where
+  pub takes : TakesNumbers st s.variables b
   pub unified : unifier s.equations ≡ Some (composed (made_by b))
-  pub goals : Stands (st.made ++ made_by b) here (map (resolve (composed (made_by b))) s.goals) rest b.goals
+  pub goals : HasGoalsBefore (st.made ++ made_by b) here (map (resolve (composed (made_by b))) s.goals) rest b.goals
 
 -- the branches are those of the solutions whose equations unify, in their order
-pub data AreSolved (here : Scope) (rest : List Item) (st : Stored) : List Solution → List Branch → Type 0 where
+pub data AreSolved (here : Scope) (rest : List Item) (st : StoreView) : List Solution → List Branch → Type 0 where
   none_left : AreSolved here rest st [] []
   one_fails : {s : Solution} {ss : List Solution} {bs : List Branch} → unifier s.equations ≡ None → AreSolved here rest st ss bs → AreSolved here rest st (s ∷ ss) bs
-  one_solves : {s : Solution} {ss : List Solution} {b : Branch} {bs : List Branch} → Solves here rest st s b → AreSolved here rest st ss bs → AreSolved here rest st (s ∷ ss) (b ∷ bs)
+  one_solves : {s : Solution} {ss : List Solution} {b : Branch} {bs : List Branch} → IsBranchOf here rest st s b → AreSolved here rest st ss bs → AreSolved here rest st (s ∷ ss) (b ∷ bs)
 
 -- a branch without further bindings, whose goals come, in this scope, before the rest
-pub record GoesOn (cut : Scope) (gs : List Term) (rest : List Item) (st : Stored) (b : Branch) : Type 0 where
-  pub takes : Takes st 0 b
+pub record GoesOnPlainly (cut : Scope) (gs : List Term) (rest : List Item) (st : StoreView) (b : Branch) : Type 0 where
+  pub takes : TakesNumbers st 0 b
   pub bindings : b.segment.bindings ≡ []
-  pub goals : Stands st.made cut gs rest b.goals
+  pub goals : HasGoalsBefore st.made cut gs rest b.goals

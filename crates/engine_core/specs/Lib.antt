@@ -1,9 +1,9 @@
 pub mod Branches
 pub mod Reductions
 pub mod Constructs
-pub mod TakingApart
-pub mod Onward
-pub mod Arguments
-pub mod Trying
-pub mod Calling
-pub mod Reducing
+pub mod Conjunctions
+pub mod PlainBranches
+pub mod GoalArguments
+pub mod Attempts
+pub mod Calls
+pub mod GoalReductions

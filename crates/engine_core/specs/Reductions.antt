@@ -1,11 +1,11 @@
 -- What one item comes to, beside a store of bindings: the table of outcomes, with its terms as they stand unresolved.
 use Rattle.std.specs.Prelude.{◌≡◌, ◌≤◌, List, [], ◌∷◌}
 use Rattle.au_term.specs.Term.{Term, var_bound}
-use Rattle.au_model.specs.Substitutions.{resolve}
-use Rattle.au_model.specs.Bodies.{goals_of}
-use Rattle.au_model.specs.Clauses.{Clause as ClauseTerms}
-use Rattle.au_model.specs.Outcomes.{Outcome, Replies, Solutions, Ball, Controls, GoesOnWith, EitherOf, TestOf, CutToScope, CatchOf, FindallOf, AskWorld}
-use Rattle.au_model.specs.Goals.{outcome_of}
+use Rattle.au_model.specs.Terms.Substitutions.{resolve}
+use Rattle.run_model.specs.Programs.Bodies.{goals_of}
+use Rattle.run_model.specs.Programs.Clauses.{Clause as ClauseTerms}
+use Rattle.run_model.specs.Goals.Outcomes.{Outcome, Replies, Solutions, Ball, Controls, GoesOnWith, EitherOf, TestOf, CutToScope, CatchOf, FindallOf, AskWorld}
+use Rattle.run_model.specs.Goals.GoalOutcomes.{outcome_of}
 use Rattle.clause_compile.specs.declared.item.Scope.{Scope}
 use Rattle.clause_compile.specs.declared.item.Item.{Item}
 use Rattle.clause_compile.specs.declared.item.Item.TheVariants as item
@@ -14,40 +14,40 @@ use Rattle.clause_compile.specs.declared.event.Opening.{Opening}
 use Rattle.clause_compile.specs.declared.event.Opening.TheVariants.{Condition, Catch, Findall}
 use Rattle.clause_compile.specs.declared.event.Effect.{Effect}
 use Rattle.clause_compile.specs.declared.event.Effect.TheVariants as effect
-use Rattle.bind_store.specs.Stored.{Stored, substitution}
-use Rattle.engine_core.specs.Branches.{AreSolved, GoesOn}
+use Rattle.bind_store.specs.StoreView.{StoreView, substitution}
+use Rattle.engine_core.specs.Branches.{AreSolved, GoesOnPlainly}
 use Rattle.engine_core.specs.declared.reduction.Reduction.{Reduction}
 use Rattle.engine_core.specs.declared.reduction.Reduction.TheVariants.{Alternatives, Raise, Prune, Open, Collect, Gate}
 
 -- where the goals that were left carry on
-abbrev pub IsOnly : Scope → List Term → List Item → Stored → List Branch → Type 0
-IsOnly cut gs rest st (b ∷ []) = GoesOn cut gs rest st b
+abbrev pub IsOnly : Scope → List Term → List Item → StoreView → List Branch → Type 0
+IsOnly cut gs rest st (b ∷ []) = GoesOnPlainly cut gs rest st b
 IsOnly cut gs rest st bs = ⊥
 
-abbrev pub AreTwo : Scope → List Term → List Term → List Item → Stored → List Branch → Type 0
-AreTwo cut gs others rest st (b ∷ c ∷ []) = GoesOn cut gs rest st b × GoesOn cut others rest st c
+abbrev pub AreTwo : Scope → List Term → List Term → List Item → StoreView → List Branch → Type 0
+AreTwo cut gs others rest st (b ∷ c ∷ []) = GoesOnPlainly cut gs rest st b × GoesOnPlainly cut others rest st c
 AreTwo cut gs others rest st bs = ⊥
 
 -- an unresolved term below the next number that stands for this one
-pub record StandsFor (st : Stored) (t : Term) (shared : Term) : Type 0 where
+pub record ResolvesTo (st : StoreView) (t : Term) (shared : Term) : Type 0 where
   pub is : resolve (substitution st) shared ≡ t
   pub below : var_bound shared ≤ st.next
 
 -- an unresolved body whose goals are these
-pub record HasGoals (st : Stored) (gs : List Term) (shared : Term) : Type 0 where
+pub record HasGoals (st : StoreView) (gs : List Term) (shared : Term) : Type 0 where
   pub are : goals_of (resolve (substitution st) shared) ≡ gs
   pub below : var_bound shared ≤ st.next
 
-abbrev pub IsCondition : Stored → List Term → List Term → List Term → Opening → Type 0
+abbrev pub IsCondition : StoreView → List Term → List Term → List Term → Opening → Type 0
 IsCondition st test thens others (Condition c t e) = HasGoals st test c × HasGoals st thens t × HasGoals st others e
 IsCondition st test thens others o = ⊥
 
-abbrev pub IsCatch : Stored → Term → Term → Term → Opening → Type 0
-IsCatch st goal catcher recovery (Catch g c r) = StandsFor st goal g × StandsFor st catcher c × StandsFor st recovery r
+abbrev pub IsCatch : StoreView → Term → Term → Term → Opening → Type 0
+IsCatch st goal catcher recovery (Catch g c r) = ResolvesTo st goal g × ResolvesTo st catcher c × ResolvesTo st recovery r
 IsCatch st goal catcher recovery o = ⊥
 
-abbrev pub IsFindall : Stored → Term → Term → Term → Opening → Type 0
-IsFindall st template goal list (Findall t g l) = StandsFor st template t × StandsFor st goal g × StandsFor st list l
+abbrev pub IsFindall : StoreView → Term → Term → Term → Opening → Type 0
+IsFindall st template goal list (Findall t g l) = ResolvesTo st template t × ResolvesTo st goal g × ResolvesTo st list l
 IsFindall st template goal list o = ⊥
 
 abbrev pub AsksWorld : Term → Effect → Type 0
@@ -55,7 +55,7 @@ AsksWorld goal (effect.Call t) = t ≡ goal
 AsksWorld goal e = ⊥
 
 -- what an outcome is here: cut is the scope that the goal carries, and here the entry's own
-abbrev pub IsOutcome : Scope → Scope → List Item → Stored → Outcome → Reduction → Type 0
+abbrev pub IsOutcome : Scope → Scope → List Item → StoreView → Outcome → Reduction → Type 0
 IsOutcome cut here rest st (Replies (Solutions ss)) (Alternatives bs) = AreSolved here rest st ss bs.items
 IsOutcome cut here rest st (Replies (Ball ball)) (Raise t) = t ≡ ball
 IsOutcome cut here rest st (Controls (GoesOnWith gs)) (Alternatives bs) = IsOnly here gs rest st bs.items
@@ -74,7 +74,7 @@ IsRemoval i e = ⊥
 
 -- What an item comes to, by the text's clauses: a goal to its outcome, every binding applied. The end of what a catch
 -- guards is passed; a result is collected; a removal and the end of a query are the world's.
-abbrev pub IsReduced : List ClauseTerms → Scope → List Item → Stored → Item → Reduction → Type 0
+abbrev pub IsReduced : List ClauseTerms → Scope → List Item → StoreView → Item → Reduction → Type 0
 IsReduced clauses here rest st (item.Goal t cut) r = IsOutcome cut here rest st (outcome_of clauses (resolve (substitution st) t) st.next) r
 IsReduced clauses here rest st (item.CatchEnd scope) (Alternatives bs) = IsOnly here [] rest st bs.items
 IsReduced clauses here rest st (item.Collect t scope) (Collect u) = u ≡ resolve (substitution st) t

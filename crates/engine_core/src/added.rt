@@ -1,10 +1,10 @@
 //! Goals made of a term and further arguments.
 ghost use Rattle.std.specs.Prelude.{◌≡◌, ◌≤◌, ◌<◌, ◌+◌, ◌++◌, true, IfOk, OnOk, drop, length};
 ghost use Rattle.au_term.specs.Term.{Compound, arguments, argument_count, drop_terms};
-ghost use Rattle.au_model.specs.Control.{with_arguments};
-ghost use Rattle.au_model.specs.Forms.{is_callable, name_of};
-ghost use Rattle.au_model.specs.Lists.{terms_from};
-ghost use Rattle.engine_core.specs.Arguments.{listed};
+ghost use Rattle.run_model.specs.Goals.Control.{with_arguments};
+ghost use Rattle.au_model.specs.Terms.Forms.{is_callable, name_of};
+ghost use Rattle.au_model.specs.Terms.Lists.{terms_from};
+ghost use Rattle.engine_core.specs.GoalArguments.{listed};
 
 use crate::names::name_of;
 use au_term::{Atom, Cell, FlatTerm, NoMemory, Shared, TermBuilder};

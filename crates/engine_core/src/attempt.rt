@@ -1,13 +1,13 @@
 //! Attempts: two terms made one, and the branch that this leaves. Each begins from the store as it is, and leaves it so.
 ghost use Rattle.std.specs.Prelude.{◌≡◌, ◌≤◌, IfOk};
 ghost use Rattle.au_term.specs.Term.{var_bound};
-ghost use Rattle.au_model.specs.Each.{Each};
-ghost use Rattle.au_model.specs.Substitutions.{resolve};
-ghost use Rattle.au_model.specs.Outcomes.{clause_solution};
+ghost use Rattle.au_model.specs.Terms.Each.{Each};
+ghost use Rattle.au_model.specs.Terms.Substitutions.{resolve};
+ghost use Rattle.run_model.specs.Goals.Outcomes.{clause_solution};
 ghost use Rattle.clause_compile.specs.declared.item.Scope.{Scope};
-ghost use Rattle.bind_store.specs.Stored.{substitution, IsSound, Continues};
+ghost use Rattle.bind_store.specs.StoreView.{substitution, IsValidStore, Continues};
 ghost use Rattle.engine_core.specs.Branches.{IsItemBelow};
-ghost use Rattle.engine_core.specs.Trying.{equation_solution, AreMadeOne, IsTried};
+ghost use Rattle.engine_core.specs.Attempts.{equation_solution, AreUnifiedBy, IsTried};
 
 use au_term::{Bindings, NoMemory, Segment, Shared};
 use bind_store::Store;
@@ -46,7 +46,7 @@ fn clause_branch(
     requires goal { var_bound goal.now ≤ store.old.next }
     requires rest { Each (IsItemBelow store.old.next) rest.now }
     ensures tried { IfOk result (IsTried here rest.now store.old (clause_solution (resolve (substitution store.old) goal.now) store.old.next clause.now)) }
-    ensures sound { IsSound store.old }
+    ensures sound { IsValidStore store.old }
     ensures since { Continues store.old store.new }
 {
     let base = store.next();
@@ -97,7 +97,7 @@ fn equation_branch(
     requires right { var_bound right.now ≤ store.old.next }
     requires rest { Each (IsItemBelow store.old.next) rest.now }
     ensures tried { IfOk result (λ branch. (here : Scope) → IsTried here rest.now store.old (equation_solution (resolve (substitution store.old) left.now) (resolve (substitution store.old) right.now)) branch) }
-    ensures sound { IsSound store.old }
+    ensures sound { IsValidStore store.old }
     ensures since { Continues store.old store.new }
 {
     let base = store.next();
@@ -121,7 +121,7 @@ fn bindings_between(
 ) -> Result<Option<Bindings>, NoMemory>
     requires left { var_bound left.now ≤ store.old.next }
     requires right { var_bound right.now ≤ store.old.next }
-    ensures made { IfOk result (AreMadeOne left.now right.now store.old) }
+    ensures made { IfOk result (AreUnifiedBy left.now right.now store.old) }
     ensures since { Continues store.old store.new }
 {
     let mark = store.mark();

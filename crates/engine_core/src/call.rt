@@ -1,15 +1,15 @@
 //! Calls (ISO/IEC 13211-1, 7.8.3, and 8.15.4 of its second corrigendum).
 ghost use Rattle.std.specs.Prelude.{◌≡◌, ◌≤◌, ◌<◌, true, IfOk, MatchOption};
 ghost use Rattle.au_term.specs.Term.{var_bound, arguments, argument_count, drop_terms};
-ghost use Rattle.au_model.specs.Each.{Each};
-ghost use Rattle.au_model.specs.Bodies.{called_goals};
-ghost use Rattle.au_model.specs.Control.{call_outcome, called};
-ghost use Rattle.au_model.specs.Forms.{is_callable};
-ghost use Rattle.au_model.specs.Substitutions.{resolve};
-ghost use Rattle.bind_store.specs.Stored.{substitution};
-ghost use Rattle.engine_core.specs.Arguments.{resolved_argument};
+ghost use Rattle.au_model.specs.Terms.Each.{Each};
+ghost use Rattle.run_model.specs.Programs.Bodies.{called_goals};
+ghost use Rattle.run_model.specs.Goals.Control.{call_outcome, called};
+ghost use Rattle.au_model.specs.Terms.Forms.{is_callable};
+ghost use Rattle.au_model.specs.Terms.Substitutions.{resolve};
+ghost use Rattle.bind_store.specs.StoreView.{substitution};
+ghost use Rattle.engine_core.specs.GoalArguments.{resolved_argument};
 ghost use Rattle.engine_core.specs.Branches.{IsItemBelow};
-ghost use Rattle.engine_core.specs.Calling.{IsUncallable};
+ghost use Rattle.engine_core.specs.Calls.{IsUncallable};
 ghost use Rattle.engine_core.specs.Reductions.{IsOutcome};
 
 use crate::added::with_arguments;

@@ -1,12 +1,12 @@
 //! Bodies taken apart into goals.
 ghost use Rattle.std.specs.Prelude.{◌≡◌, ◌≤◌, IfOk};
 ghost use Rattle.au_term.specs.Term.{var_bound};
-ghost use Rattle.au_model.specs.Each.{Each};
-ghost use Rattle.au_model.specs.Bodies.{goals_of};
-ghost use Rattle.au_model.specs.Substitutions.{resolve};
-ghost use Rattle.bind_store.specs.Stored.{substitution};
-ghost use Rattle.engine_core.specs.Branches.{IsItemBelow, Stands};
-ghost use Rattle.engine_core.specs.TakingApart.{TakesApart};
+ghost use Rattle.au_model.specs.Terms.Each.{Each};
+ghost use Rattle.run_model.specs.Programs.Bodies.{goals_of};
+ghost use Rattle.au_model.specs.Terms.Substitutions.{resolve};
+ghost use Rattle.bind_store.specs.StoreView.{substitution};
+ghost use Rattle.engine_core.specs.Branches.{IsItemBelow, HasGoalsBefore};
+ghost use Rattle.engine_core.specs.Conjunctions.{SplitsBodies};
 
 use crate::names::is_conjunction;
 use au_term::{NoMemory, Shared};
@@ -25,7 +25,7 @@ pub fn goals_before(
 ) -> Result<Goals, NoMemory>
     requires body { var_bound body.now ≤ store.now.next }
     requires rest { Each (IsItemBelow store.now.next) rest.now }
-    ensures goals { IfOk result (Stands store.now.made cut (goals_of (resolve (substitution store.now) body.now)) rest.now) }
+    ensures goals { IfOk result (HasGoalsBefore store.now.made cut (goals_of (resolve (substitution store.now) body.now)) rest.now) }
     ensures below { IfOk result (Each (IsItemBelow store.now.next)) }
 {
     let mut goals = rest.share()?;
@@ -47,7 +47,7 @@ fn take_apart(
     store: &Store,
 ) -> Result<Goals, NoMemory>
     requires body { var_bound body.now ≤ store.now.next }
-    ensures { IfOk result (λ now. TakesApart store.now cut body.now goals now bodies.old.items bodies.new.items) }
+    ensures { IfOk result (λ now. SplitsBodies store.now cut body.now goals now bodies.old.items bodies.new.items) }
 {
     let goal = store.reached(body)?;
     if !is_conjunction(&goal.top()?) {

@@ -1,8 +1,8 @@
 //! The control constructs and the built-in predicates, told by name and number of arguments.
 ghost use Rattle.std.specs.Prelude.{◌≡◌, false, MatchOption, map};
 ghost use Rattle.std.specs.Str.{chars};
-ghost use Rattle.au_model.specs.Goals.{has_row};
-ghost use Rattle.engine_core.specs.Constructs.{IsConstruct, construct_in, is_row};
+ghost use Rattle.run_model.specs.Goals.GoalOutcomes.{has_row};
+ghost use Rattle.engine_core.specs.Constructs.{IsConstruct, construct_in, is_construct_row};
 
 use au_term::Atom;
 
@@ -68,7 +68,7 @@ fn construct_among(rows: &[(&str, u32, Construct)], name: &str, arity: u32) -> O
 
 /// Whether a row's name and number are this name and number of arguments.
 fn is_row(row: &str, count: u32, name: &str, arity: u32) -> bool
-    ensures { result ≡ is_row (chars name.now) arity (chars row.now) count }
+    ensures { result ≡ is_construct_row (chars name.now) arity (chars row.now) count }
 {
     count == arity && row == name
 }

@@ -1,16 +1,16 @@
 //! What the goals of constructs come to (ISO/IEC 13211-1, 7.8, 8.2.1, 8.10.1 and 8.15).
 ghost use Rattle.std.specs.Prelude.{◌≡◌, ◌≤◌, ◌<◌, ◌∷◌, [], true, IfOk};
 ghost use Rattle.au_term.specs.Term.{var_bound, argument_count};
-ghost use Rattle.au_model.specs.Each.{Each};
-ghost use Rattle.au_model.specs.Control.{either_form, throw_outcome};
-ghost use Rattle.au_model.specs.Forms.{is_callable, name_of};
-ghost use Rattle.au_model.specs.Outcomes.{Controls, Replies, Solutions};
-ghost use Rattle.engine_core.specs.Arguments.{resolved_argument};
+ghost use Rattle.au_model.specs.Terms.Each.{Each};
+ghost use Rattle.run_model.specs.Goals.Control.{either_form, throw_outcome};
+ghost use Rattle.au_model.specs.Terms.Forms.{is_callable, name_of};
+ghost use Rattle.run_model.specs.Goals.Outcomes.{Controls, Replies, Solutions};
+ghost use Rattle.engine_core.specs.GoalArguments.{resolved_argument};
 ghost use Rattle.engine_core.specs.Branches.{IsItemBelow};
 ghost use Rattle.engine_core.specs.Constructs.{IsConstruct};
 ghost use Rattle.engine_core.specs.Reductions.{IsOutcome};
-ghost use Rattle.engine_core.specs.Reducing.{ComesTo, Raises};
-ghost use Rattle.engine_core.specs.Trying.{equation_solution};
+ghost use Rattle.engine_core.specs.GoalReductions.{ComesTo, Raises};
+ghost use Rattle.engine_core.specs.Attempts.{equation_solution};
 
 use crate::call::call;
 use crate::construct::Construct;

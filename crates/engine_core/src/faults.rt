@@ -1,8 +1,8 @@
 //! The errors that goals of control raise (ISO/IEC 13211-1, 7.12.2).
 ghost use Rattle.std.specs.Prelude.{◌≡◌, IfOk, codes};
 ghost use Rattle.std.specs.Str.{IsAscii};
-ghost use Rattle.au_model.specs.ErrorTerms.{error_term, instantiation_error, type_error, representation_error};
-ghost use Rattle.au_model.specs.Faults.{error_term_of};
+ghost use Rattle.au_model.specs.Terms.ErrorTerms.{error_term, instantiation_error, type_error, representation_error};
+ghost use Rattle.au_model.specs.Terms.Faults.{error_term_of};
 
 use au_model::{Fault, LimitName, TypeName};
 use au_term::{Atom, FlatTerm, NoMemory, Shared};

@@ -1,11 +1,11 @@
 //! What one item comes to.
 ghost use Rattle.std.specs.Prelude.{◌≡◌, ◌≤◌, true, false, [], IfOk};
 ghost use Rattle.au_term.specs.Term.{var_bound, argument_count};
-ghost use Rattle.au_model.specs.Each.{Each};
-ghost use Rattle.au_model.specs.Forms.{is_callable, name_of};
-ghost use Rattle.au_model.specs.Goals.{has_row, outcome_of};
-ghost use Rattle.au_model.specs.Substitutions.{resolve};
-ghost use Rattle.bind_store.specs.Stored.{substitution};
+ghost use Rattle.au_model.specs.Terms.Each.{Each};
+ghost use Rattle.au_model.specs.Terms.Forms.{is_callable, name_of};
+ghost use Rattle.run_model.specs.Goals.GoalOutcomes.{has_row, outcome_of};
+ghost use Rattle.au_model.specs.Terms.Substitutions.{resolve};
+ghost use Rattle.bind_store.specs.StoreView.{substitution};
 ghost use Rattle.engine_core.specs.Branches.{IsItemBelow};
 ghost use Rattle.engine_core.specs.Reductions.{IsOutcome, IsReduced};
 

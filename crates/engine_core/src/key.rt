@@ -1,9 +1,9 @@
 //! What a goal's first argument can be told by.
 ghost use Rattle.std.specs.Prelude.{◌≡◌, true, IfOk};
-ghost use Rattle.au_model.specs.Forms.{is_callable};
-ghost use Rattle.au_model.specs.Substitutions.{resolve};
-ghost use Rattle.bind_store.specs.Stored.{substitution};
-ghost use Rattle.engine_core.specs.Trying.{first_key, cell_key};
+ghost use Rattle.au_model.specs.Terms.Forms.{is_callable};
+ghost use Rattle.au_model.specs.Terms.Substitutions.{resolve};
+ghost use Rattle.bind_store.specs.StoreView.{substitution};
+ghost use Rattle.engine_core.specs.Attempts.{first_key, cell_key};
 
 use au_term::{Cell, NoMemory, Shared};
 use bind_store::Store;

@@ -1,9 +1,9 @@
 //! Cells told by name.
 ghost use Rattle.std.specs.Prelude.{◌≡◌, true, IfOk};
-ghost use Rattle.au_model.specs.Forms.{is_callable, name_of};
-ghost use Rattle.clause_compile.specs.Cells.{opens_junction, opens_conjunction};
-ghost use Rattle.engine_core.specs.Calling.{is_variable_cell, is_integer_cell};
-ghost use Rattle.engine_core.specs.TakingApart.{opens_condition};
+ghost use Rattle.au_model.specs.Terms.Forms.{is_callable, name_of};
+ghost use Rattle.clause_compile.specs.BodyCells.{opens_junction, opens_conjunction};
+ghost use Rattle.engine_core.specs.Calls.{is_variable_cell, is_integer_cell};
+ghost use Rattle.engine_core.specs.Conjunctions.{opens_condition};
 
 use au_term::{Atom, Cell, NoMemory, Shared};
 

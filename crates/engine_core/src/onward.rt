@@ -1,12 +1,12 @@
 //! Branches that make no bindings.
 ghost use Rattle.std.specs.Prelude.{◌≡◌, ◌≤◌, ◌∷◌, [], IfOk};
 ghost use Rattle.au_term.specs.Term.{Term, var_bound};
-ghost use Rattle.au_model.specs.Each.{Each};
-ghost use Rattle.au_model.specs.Bodies.{goals_of};
-ghost use Rattle.au_model.specs.Substitutions.{resolve};
-ghost use Rattle.bind_store.specs.Stored.{substitution};
-ghost use Rattle.engine_core.specs.Branches.{IsItemBelow, GoesOn, Stands};
-ghost use Rattle.engine_core.specs.Onward.{IsAlone, MakesNone};
+ghost use Rattle.au_model.specs.Terms.Each.{Each};
+ghost use Rattle.run_model.specs.Programs.Bodies.{goals_of};
+ghost use Rattle.au_model.specs.Terms.Substitutions.{resolve};
+ghost use Rattle.bind_store.specs.StoreView.{substitution};
+ghost use Rattle.engine_core.specs.Branches.{IsItemBelow, GoesOnPlainly, HasGoalsBefore};
+ghost use Rattle.engine_core.specs.PlainBranches.{IsAlone, MakesNone};
 ghost use Rattle.clause_compile.specs.declared.item.Scope.{Scope};
 
 use crate::conjunction::goals_before;
@@ -48,7 +48,7 @@ pub(crate) fn body_branch(
 ) -> Result<Branch, NoMemory>
     requires body { var_bound body.now ≤ store.now.next }
     requires rest { Each (IsItemBelow store.now.next) rest.now }
-    ensures { IfOk result (GoesOn cut (goals_of (resolve (substitution store.now) body.now)) rest.now store.now) }
+    ensures { IfOk result (GoesOnPlainly cut (goals_of (resolve (substitution store.now) body.now)) rest.now store.now) }
 {
     let goals = goals_before(alloc, body, cut, rest, store)?;
     Ok(onward(alloc, goals, store))
@@ -64,7 +64,7 @@ pub(crate) fn goal_branch(
 ) -> Result<Branch, NoMemory>
     requires goal { var_bound goal.now ≤ store.now.next }
     requires rest { Each (IsItemBelow store.now.next) rest.now }
-    ensures { IfOk result (GoesOn cut (resolve (substitution store.now) goal.now ∷ []) rest.now store.now) }
+    ensures { IfOk result (GoesOnPlainly cut (resolve (substitution store.now) goal.now ∷ []) rest.now store.now) }
 {
     let term = goal.share()?;
     let goals = rest.push(alloc, Item::Goal { term, cut })?;
@@ -74,7 +74,7 @@ pub(crate) fn goal_branch(
 /// The branch of the items that follow alone.
 pub(crate) fn rest_branch(alloc: Global, rest: &Goals, store: &Store) -> Result<Branch, NoMemory>
     requires { Each (IsItemBelow store.now.next) rest.now }
-    ensures { IfOk result (λ b. (cut : Scope) → GoesOn cut [] rest.now store.now b) }
+    ensures { IfOk result (λ b. (cut : Scope) → GoesOnPlainly cut [] rest.now store.now b) }
 {
     let goals = rest.share()?;
     Ok(onward(alloc, goals, store))

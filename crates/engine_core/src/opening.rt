@@ -2,10 +2,10 @@
 ghost use Rattle.std.specs.Prelude.{◌≡◌, ◌≤◌, ◌<◌, ◌∷◌, [], IfOk};
 ghost use Rattle.std.specs.Str.{IsAscii};
 ghost use Rattle.au_term.specs.Term.{AtomTerm, var_bound, argument_count};
-ghost use Rattle.au_model.specs.Bodies.{goals_of, call_of};
-ghost use Rattle.au_model.specs.Control.{true_goals, fail_goals};
-ghost use Rattle.engine_core.specs.Arguments.{resolved_argument};
-ghost use Rattle.engine_core.specs.Reductions.{StandsFor, HasGoals, IsCondition, IsCatch, IsFindall};
+ghost use Rattle.run_model.specs.Programs.Bodies.{goals_of, call_of};
+ghost use Rattle.run_model.specs.Goals.Control.{true_goals, fail_goals};
+ghost use Rattle.engine_core.specs.GoalArguments.{resolved_argument};
+ghost use Rattle.engine_core.specs.Reductions.{ResolvesTo, HasGoals, IsCondition, IsCatch, IsFindall};
 
 use au_model::build::{atom, unary};
 use au_term::{NoMemory, Shared};
@@ -17,7 +17,7 @@ use std::alloc::Global;
 pub(crate) fn argument(goal: &Shared, i: u32, store: &Store) -> Result<Shared, NoMemory>
     requires argument { i < argument_count goal.now }
     requires below { var_bound goal.now ≤ store.now.next }
-    ensures { IfOk result (StandsFor store.now (resolved_argument i store.now goal.now)) }
+    ensures { IfOk result (ResolvesTo store.now (resolved_argument i store.now goal.now)) }
 {
     goal.argument(i)
 }

@@ -1,14 +1,14 @@
 //! The clauses of a goal's procedure, tried in their order (ISO/IEC 13211-1, 7.7.10), and unification as a goal (8.2.1).
 ghost use Rattle.std.specs.Prelude.{◌≡◌, ◌≤◌, ◌∷◌, [], true, IfOk};
 ghost use Rattle.au_term.specs.Term.{var_bound, argument_count};
-ghost use Rattle.au_model.specs.Each.{Each};
-ghost use Rattle.au_model.specs.Forms.{is_callable, name_of};
-ghost use Rattle.au_model.specs.Substitutions.{resolve};
-ghost use Rattle.au_model.specs.Outcomes.{alternatives_of};
+ghost use Rattle.au_model.specs.Terms.Each.{Each};
+ghost use Rattle.au_model.specs.Terms.Forms.{is_callable, name_of};
+ghost use Rattle.au_model.specs.Terms.Substitutions.{resolve};
+ghost use Rattle.run_model.specs.Goals.Outcomes.{alternatives_of};
 ghost use Rattle.clause_compile.specs.declared.item.Scope.{Scope};
-ghost use Rattle.bind_store.specs.Stored.{substitution};
+ghost use Rattle.bind_store.specs.StoreView.{substitution};
 ghost use Rattle.engine_core.specs.Branches.{AreSolved, IsItemBelow};
-ghost use Rattle.engine_core.specs.Trying.{AreAlternatives, equation_solution};
+ghost use Rattle.engine_core.specs.Attempts.{AreAlternatives, equation_solution};
 
 use crate::attempt;
 use crate::key::first_key;

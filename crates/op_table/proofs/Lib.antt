@@ -1,3 +1,3 @@
-pub mod Sorted
-pub mod Initial
-pub mod Putting
+pub mod SortedRowLemmas
+pub mod InitialTableLemmas
+pub mod TableChangeLemmas

@@ -1,3 +1,3 @@
-pub mod Meant
-pub mod Entries
-pub mod Putting
+pub mod OperatorView
+pub mod TableRows
+pub mod TableChanges

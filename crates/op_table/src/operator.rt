@@ -1,7 +1,7 @@
 //! Operators and rows of a table.
 ghost use Rattle.std.specs.Prelude.{◌≡◌, IfOk};
-ghost use Rattle.au_model.specs.Operators.{class_of, class_rank};
-ghost use Rattle.op_table.specs.Meant.{class_meant, kind_meant};
+ghost use Rattle.au_model.specs.Syntax.Operators.{class_of, class_rank};
+ghost use Rattle.op_table.specs.OperatorView.{class_meant, kind_meant};
 
 use au_term::{Atom, NoMemory};
 

@@ -1,8 +1,8 @@
 //! Binary search in the rows of a table.
 ghost use Rattle.std.specs.Prelude.{◌≡◌, chars, map, option_map};
-ghost use Rattle.au_model.specs.Operators.{operator_of, IsOperatorTable};
-ghost use Rattle.op_table.specs.Meant.{class_meant, operator_meant, place_order, row_meant};
-ghost use Rattle.op_table.specs.Putting.{IsSlot};
+ghost use Rattle.au_model.specs.Syntax.Operators.{operator_of, IsOperatorTable};
+ghost use Rattle.op_table.specs.OperatorView.{class_meant, operator_meant, place_order, row_meant};
+ghost use Rattle.op_table.specs.TableChanges.{IsSlot};
 
 use crate::operator::{OpClass, OpRow, Operator};
 use std::cmp::Ordering;

@@ -1,9 +1,9 @@
 //! The operator table (ISO/IEC 13211-1, 6.3.4).
 ghost use Rattle.std.specs.Prelude.{◌≡◌, true, IfOk, OnOk, OnErr, chars, map, nat_eq, option_map};
-ghost use Rattle.au_model.specs.Operators.{class_of, prefix_of, infix_of, postfix_of, initial_operators, with_operator, IsOperatorTable};
-ghost use Rattle.op_table.specs.Meant.{kind_meant, operator_meant, row_meant};
-ghost use Rattle.op_table.specs.Entries.{entry_meant};
-ghost use Rattle.op_table.specs.Putting.{is_kept_name, may_be_put, other_joint};
+ghost use Rattle.au_model.specs.Syntax.Operators.{class_of, prefix_of, infix_of, postfix_of, initial_operators, with_operator, IsOperatorTable};
+ghost use Rattle.op_table.specs.OperatorView.{kind_meant, operator_meant, row_meant};
+ghost use Rattle.op_table.specs.TableRows.{stored_row};
+ghost use Rattle.op_table.specs.TableChanges.{is_protected_name, may_be_added, conflicting_operator};
 
 use crate::operator::{OpClass, OpKind, OpRow, Operator};
 use crate::search::{Slot, find, slot_of};
@@ -58,7 +58,7 @@ static INITIAL: [Entry; 39] = [
 ];
 
 fn rows_of(alloc: Global, entries: &[Entry]) -> Result<Vec<OpRow>, NoMemory>
-    ensures { IfOk result (λ rows. map row_meant rows.items ≡ map entry_meant entries.now) }
+    ensures { IfOk result (λ rows. map row_meant rows.items ≡ map stored_row entries.now) }
 {
     let mut rows = Vec::new(alloc);
     for (name, priority, kind) in entries {
@@ -85,7 +85,7 @@ fn copied(alloc: Global, rows: &[OpRow]) -> Result<Vec<OpRow>, NoMemory>
 
 /// Whether a name is one that no table changes.
 fn is_kept_name(name: &str) -> bool
-    ensures { result ≡ is_kept_name (chars name.now) }
+    ensures { result ≡ is_protected_name (chars name.now) }
 {
     let (comma, list, curly) = (is_text(name, ","), is_text(name, "[]"), is_text(name, "{}"));
     comma || list || curly
@@ -110,8 +110,8 @@ pub struct Ops {
 
 impl Model for Ops {
     ghost use Rattle.std.specs.Prelude.{map};
-    ghost use Rattle.au_model.specs.Operators.{OperatorTable, IsOperatorTable};
-    ghost use Rattle.op_table.specs.Meant.{row_meant};
+    ghost use Rattle.au_model.specs.Syntax.Operators.{OperatorTable, IsOperatorTable};
+    ghost use Rattle.op_table.specs.OperatorView.{row_meant};
 
     ghost Value = { OperatorTable };
 
@@ -157,7 +157,7 @@ impl Ops {
     /// Whether an operator may be put into the table (8.14.3.3): its priority is from 1 to 1200, it is no comma, `[]` or
     /// `{}`, and no name is both infix and postfix.
     pub fn may_put(&self, row: &OpRow) -> bool
-        ensures { result ≡ may_be_put self.now (row_meant row.now) }
+        ensures { result ≡ may_be_added self.now (row_meant row.now) }
     {
         let Operator { priority, kind } = row.operator;
         let name = row.name.text();
@@ -169,7 +169,7 @@ impl Ops {
 
     /// The operator with which one of this kind may not share a name.
     fn other_joint(&self, name: &str, kind: OpKind) -> Option<Operator>
-        ensures { option_map operator_meant result ≡ other_joint self.now (class_of (kind_meant kind)) (chars name.now) }
+        ensures { option_map operator_meant result ≡ conflicting_operator self.now (class_of (kind_meant kind)) (chars name.now) }
     {
         match kind.class() {
             OpClass::Prefix => None,
@@ -180,7 +180,7 @@ impl Ops {
 
     /// Puts an operator in the place of the one that its name has in its class (8.14.3).
     pub fn put(&mut self, row: OpRow) -> Result<(), NoMemory>
-        requires { may_be_put self.old (row_meant row) ≡ true }
+        requires { may_be_added self.old (row_meant row) ≡ true }
         ensures ok { OnOk result (self.new ≡ with_operator self.old (row_meant row)) }
         ensures err { OnErr result (self.new ≡ self.old) }
     {

@@ -1,2 +1,2 @@
-pub mod Adding
-pub mod Matching
+pub mod IndexLemmas
+pub mod KeyLemmas

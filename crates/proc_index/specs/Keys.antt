@@ -4,8 +4,8 @@ use Rattle.std.specs.Ordering.{int_eq}
 use Rattle.au_term.specs.Term.{Term, VarTerm, IntTerm, AtomTerm, Compound, Terms, end, more, count, arguments}
 use Rattle.au_term.specs.declared.cell.Cell.{Cell}
 use Rattle.au_term.specs.declared.cell.Cell.TheVariants.{Var as VarCell, Int as IntCell, Atom as AtomCell, Functor as FunctorCell}
-use Rattle.au_model.specs.Forms.{same_name}
-use Rattle.au_model.specs.Clauses.{Clause as ClauseTerms}
+use Rattle.au_model.specs.Terms.Forms.{same_name}
+use Rattle.run_model.specs.Programs.Clauses.{Clause as ClauseTerms}
 use Rattle.proc_index.specs.declared.key.Key.{Key}
 use Rattle.proc_index.specs.declared.key.Key.TheVariants.{Any, Int, Atom, Functor}
 

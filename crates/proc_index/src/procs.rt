@@ -3,8 +3,8 @@ ghost use Rattle.std.specs.Prelude.{◌≡◌, OnOk, IfOk, map, true, ◌++◌};
 ghost use Rattle.std.specs.Arc.{arc_value};
 ghost use Rattle.std.specs.Iterator.{YieldsFirstBy, item_count};
 ghost use Rattle.au_term.specs.Term.{argument_count};
-ghost use Rattle.au_model.specs.Forms.{is_callable, name_of};
-ghost use Rattle.proc_index.specs.Procedures.{HaveHeads, IsAdded, IsAddedTo, candidates_of, procedure_of};
+ghost use Rattle.au_model.specs.Terms.Forms.{is_callable, name_of};
+ghost use Rattle.proc_index.specs.ProcedureIndex.{HaveHeads, IsAdded, IsAddedTo, candidates_of, procedure_of};
 
 use crate::key::Key;
 use au_term::{Atom, Cell, FlatTerm, NoMemory};
@@ -28,18 +28,18 @@ impl Model for Procs {
     ghost use Rattle.std.specs.Prelude.{List, map};
     ghost use Rattle.std.specs.Arc.{arc_value};
     ghost use Rattle.std.specs.Coded.{codes};
-    ghost use Rattle.au_term.specs.Prefix.{term_code};
-    ghost use Rattle.au_model.specs.Clauses.{Clause as ClauseTerms};
+    ghost use Rattle.au_term.specs.PrefixOrder.{term_code};
+    ghost use Rattle.run_model.specs.Programs.Clauses.{Clause as ClauseTerms};
 
     ghost Value = { List ClauseTerms };
 
     ghost coded = { Prim.hlevel (codes, term_code) };
 
-    ghost use Rattle.proc_index.specs.Procedures.{IsKeptIn};
+    ghost use Rattle.proc_index.specs.ProcedureIndex.{IsIndexOf};
 
     ghost view = { λ p. map arc_value p.clauses.items };
 
-    ghost invariant = { λ p. IsKeptIn p.index (map arc_value p.clauses.items) };
+    ghost invariant = { λ p. IsIndexOf p.index (map arc_value p.clauses.items) };
 }
 
 impl Procs {
@@ -142,8 +142,8 @@ impl<'a> Model for Candidates<'a> {
     ghost use Rattle.std.specs.Prelude.{List, map};
     ghost use Rattle.std.specs.Arc.{arc_value};
     ghost use Rattle.std.specs.Coded.{codes};
-    ghost use Rattle.au_term.specs.Prefix.{term_code};
-    ghost use Rattle.au_model.specs.Clauses.{Clause as ClauseTerms};
+    ghost use Rattle.au_term.specs.PrefixOrder.{term_code};
+    ghost use Rattle.run_model.specs.Programs.Clauses.{Clause as ClauseTerms};
 
     ghost Value = { List ClauseTerms };
 

@@ -1,8 +1,8 @@
-pub mod Views
-pub mod Fitting
-pub mod Stacking
-pub mod Settling
-pub mod Inferring
-pub mod Machines
-pub mod Stepping
-pub mod Ends
+pub mod StackView
+pub mod StackInvariant
+pub mod ChoicePoints
+pub mod FreeStepsTaken
+pub mod Inferences
+pub mod MachineView
+pub mod ItemsTaken
+pub mod RunEnds

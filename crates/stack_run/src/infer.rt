@@ -1,22 +1,22 @@
 //! What one inference leaves (ISO/IEC 13211-1, 7.7 and 7.8).
 ghost use Rattle.std.specs.Prelude.{◌≡◌, ◌≤◌, ◌∷◌, ◌++◌, [], ℕ, List, Some, None, IfOk, OnOk, map};
 ghost use Rattle.au_term.specs.Term.{var_bound};
-ghost use Rattle.au_model.specs.Bodies.{goals_of};
-ghost use Rattle.au_model.specs.Each.{Each};
-ghost use Rattle.au_model.specs.Balls.{landing};
-ghost use Rattle.au_model.specs.Entries.{PlainEntry, lowest};
-ghost use Rattle.au_model.specs.Forms.{name_of};
-ghost use Rattle.au_model.specs.Heights.{after_reply, after_control};
-ghost use Rattle.au_model.specs.Items.{first_mark};
-ghost use Rattle.au_model.specs.Lines.{NamedTerm};
-ghost use Rattle.au_model.specs.Outcomes.{TestOf, CatchOf, FindallOf};
-ghost use Rattle.au_model.specs.Substitutions.{resolve};
-ghost use Rattle.au_model.specs.Worlds.{dynamic_call};
-ghost use Rattle.bind_store.specs.Stored.{substitution};
+ghost use Rattle.run_model.specs.Programs.Bodies.{goals_of};
+ghost use Rattle.au_model.specs.Terms.Each.{Each};
+ghost use Rattle.run_model.specs.Machine.Balls.{unwound};
+ghost use Rattle.run_model.specs.Machine.Entries.{PlainEntry, lowest};
+ghost use Rattle.au_model.specs.Terms.Forms.{name_of};
+ghost use Rattle.run_model.specs.Machine.Heights.{after_reply, after_control};
+ghost use Rattle.run_model.specs.Machine.Items.{first_mark};
+ghost use Rattle.au_model.specs.Terms.Named.{NamedTerm};
+ghost use Rattle.run_model.specs.Goals.Outcomes.{TestOf, CatchOf, FindallOf};
+ghost use Rattle.au_model.specs.Terms.Substitutions.{resolve};
+ghost use Rattle.run_model.specs.Goals.Worlds.{dynamic_call};
+ghost use Rattle.bind_store.specs.StoreView.{substitution};
 ghost use Rattle.engine_core.specs.Branches.{IsItemBelow};
-ghost use Rattle.stack_run.specs.Views.{items_view, item_view, scope_height};
-ghost use Rattle.stack_run.specs.Fitting.{IsChoiceFit};
-ghost use Rattle.stack_run.specs.Inferring.{IsAtWork, IsUnhalted, Leaves, IsNoMark, branch_entry, cut_of, following, gate_entries, item_entries, under};
+ghost use Rattle.stack_run.specs.StackView.{items_view, item_view, scope_height};
+ghost use Rattle.stack_run.specs.StackInvariant.{IsChoiceFit};
+ghost use Rattle.stack_run.specs.Inferences.{IsWorking, IsUnhalted, HasEntries, IsNoMark, branch_entry, cut_of, following, gate_entries, item_entries, entries_below};
 
 use crate::frame::{Choice, Stack};
 use crate::land::land;
@@ -38,11 +38,11 @@ pub(crate) fn infer(
     procs: &Procs,
     stack: &mut Stack,
 ) -> Result<(), NoMemory>
-    requires work { IsAtWork stack.old }
+    requires work { IsWorking stack.old }
     requires item { IsItemBelow stack.old.store.next item.now }
     requires rest { Each (IsItemBelow stack.old.store.next) rest.now }
     requires goal { IsNoMark item.now }
-    ensures leaves { OnOk result (Leaves (λ own. item_entries procs.now (item_view (substitution stack.old.store) item.now) (following stack.old rest.now own) (under stack.old own)) stack.new) }
+    ensures leaves { OnOk result (HasEntries (λ own. item_entries procs.now (item_view (substitution stack.old.store) item.now) (following stack.old rest.now own) (entries_below stack.old own)) stack.new) }
     ensures halts { OnOk result (IsUnhalted procs.now stack.old.store item.now) }
 {
     let here = Scope::Local(stack.frames.len() as u64);
@@ -63,8 +63,8 @@ fn pass_gate(
     rest: &Goals,
     stack: &mut Stack,
 ) -> Result<(), NoMemory>
-    requires { IsAtWork stack.old }
-    ensures { OnOk result (Leaves (λ own. gate_entries effect.now (following stack.old rest.now own) (under stack.old own)) stack.new) }
+    requires { IsWorking stack.old }
+    ensures { OnOk result (HasEntries (λ own. gate_entries effect.now (following stack.old rest.now own) (entries_below stack.old own)) stack.new) }
 {
     match effect {
         Effect::Call(goal) => raise_unknown(alloc, goal, rest, stack),
@@ -84,9 +84,9 @@ fn cut_of(item: &Item) -> Scope
 
 /// Leaves the branches to be run, the first on top.
 fn branch_off(branches: Vec<Branch>, stack: &mut Stack) -> Result<(), NoMemory>
-    requires work { IsAtWork stack.old }
+    requires work { IsWorking stack.old }
     requires branches { Each (λ b. IsChoiceFit stack.old.store (Choice.Branch b)) branches.items }
-    ensures { OnOk result (Leaves (λ own. map (branch_entry own stack.old.store) branches.items ++ under stack.old own) stack.new) }
+    ensures { OnOk result (HasEntries (λ own. map (branch_entry own stack.old.store) branches.items ++ entries_below stack.old own) stack.new) }
 {
     let mark = stack.store.mark();
     push_branches(&mut stack.frames, branches, mark)
@@ -94,9 +94,9 @@ fn branch_off(branches: Vec<Branch>, stack: &mut Stack) -> Result<(), NoMemory>
 
 /// Drops the choice points from a scope on, and goes on.
 fn prune(scope: Scope, rest: &Goals, stack: &mut Stack) -> Result<(), NoMemory>
-    requires work { IsAtWork stack.old }
+    requires work { IsWorking stack.old }
     requires rest { Each (IsItemBelow stack.old.store.next) rest.now }
-    ensures { OnOk result (Leaves (λ own. PlainEntry (following stack.old rest.now own) ∷ lowest (scope_height scope) (under stack.old own)) stack.new) }
+    ensures { OnOk result (HasEntries (λ own. PlainEntry (following stack.old rest.now own) ∷ lowest (scope_height scope) (entries_below stack.old own)) stack.new) }
 {
     stack.frames.truncate(place_of(scope) as usize);
     stack.current = Some(rest.share()?);
@@ -110,8 +110,8 @@ fn raise_unknown(
     rest: &Goals,
     stack: &mut Stack,
 ) -> Result<(), NoMemory>
-    requires { IsAtWork stack.old }
-    ensures { OnOk result (Leaves (λ own. after_reply (dynamic_call None goal.now stack.old.store.next) (following stack.old rest.now own) (under stack.old own)) stack.new) }
+    requires { IsWorking stack.old }
+    ensures { OnOk result (HasEntries (λ own. after_reply (dynamic_call None goal.now stack.old.store.next) (following stack.old rest.now own) (entries_below stack.old own)) stack.new) }
 {
     let name = name_of(alloc, goal)?;
     let arity = goal.arity();

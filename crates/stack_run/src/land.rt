@@ -1,13 +1,13 @@
 //! Where a ball lands (ISO/IEC 13211-1, 7.8.9 and 7.8.10).
 ghost use Rattle.std.specs.Prelude.{◌≡◌, ℕ, List, Some, None, IfOk, OnOk, map};
 ghost use Rattle.au_term.specs.Term.{Term};
-ghost use Rattle.au_model.specs.Balls.{landing};
-ghost use Rattle.au_model.specs.Items.{first_mark};
-ghost use Rattle.au_model.specs.Lines.{NamedTerm};
-ghost use Rattle.au_model.specs.Substitutions.{Substitution};
-ghost use Rattle.stack_run.specs.Views.{item_view, items_view};
-ghost use Rattle.stack_run.specs.Fitting.{IsChoiceFit};
-ghost use Rattle.stack_run.specs.Inferring.{IsAtWork, Leaves, IsCatchOf, IsRecovered, height_at, marked_place, under};
+ghost use Rattle.run_model.specs.Machine.Balls.{unwound};
+ghost use Rattle.run_model.specs.Machine.Items.{first_mark};
+ghost use Rattle.au_model.specs.Terms.Named.{NamedTerm};
+ghost use Rattle.au_model.specs.Terms.Substitutions.{Substitution};
+ghost use Rattle.stack_run.specs.StackView.{item_view, items_view};
+ghost use Rattle.stack_run.specs.StackInvariant.{IsChoiceFit};
+ghost use Rattle.stack_run.specs.Inferences.{IsWorking, HasEntries, IsCatchOf, IsRecovered, height_at, marked_place, entries_below};
 
 use crate::frame::{Catch, Choice, QueryEnd, Stack};
 use crate::list::call_of;
@@ -26,8 +26,8 @@ pub(crate) fn land(
     rest: &Goals,
     stack: &mut Stack,
 ) -> Result<(), NoMemory>
-    requires { IsAtWork stack.old }
-    ensures { OnOk result (Leaves (λ own. landing ball.now (first_mark (items_view stack.old.store rest.now)) (under stack.old own)) stack.new) }
+    requires { IsWorking stack.old }
+    ensures { OnOk result (HasEntries (λ own. unwound ball.now (first_mark (items_view stack.old.store rest.now)) (entries_below stack.old own)) stack.new) }
 {
     let mut mark = first_catch(rest);
     while let Some(choice) = pop_choice(&mut stack.frames, &mut stack.store) {
@@ -83,7 +83,7 @@ fn recover(
     catch: &Catch,
     stack: &mut Stack,
 ) -> Result<bool, NoMemory>
-    requires work { IsAtWork stack.old }
+    requires work { IsWorking stack.old }
     requires catch { IsChoiceFit stack.old.store (Choice.Catch catch.now) }
     ensures { IfOk result (IsRecovered ball.now catch.now stack.old stack.new) }
 {

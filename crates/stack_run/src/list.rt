@@ -1,7 +1,7 @@
 //! Terms that the machine builds.
 ghost use Rattle.std.specs.Prelude.{◌≡◌, codes, IfOk};
-ghost use Rattle.au_model.specs.Bodies.{call_of};
-ghost use Rattle.au_model.specs.Forms.{list_term, binary};
+ghost use Rattle.run_model.specs.Programs.Bodies.{call_of};
+ghost use Rattle.au_model.specs.Terms.Forms.{list_term, binary};
 
 use au_model::build::{atom, binary, unary};
 use au_term::{Atom, Cell, FlatTerm, NoMemory, Shared, TermBuilder};

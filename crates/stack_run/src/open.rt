@@ -1,16 +1,16 @@
 //! What opens a choice point of its own (ISO/IEC 13211-1, 7.8.7 to 7.8.9 and 8.10.1).
 ghost use Rattle.std.specs.Prelude.{◌≡◌, ◌≤◌, ◌∷◌, [], ℕ, List, Some, None, IfOk, OnOk, codes};
 ghost use Rattle.au_term.specs.Term.{AtomTerm, var_bound};
-ghost use Rattle.au_model.specs.Bodies.{goals_of, call_of};
-ghost use Rattle.au_model.specs.Each.{Each};
-ghost use Rattle.au_model.specs.Heights.{after_control};
-ghost use Rattle.au_model.specs.Lines.{NamedTerm};
-ghost use Rattle.au_model.specs.Outcomes.{TestOf, CatchOf, FindallOf};
-ghost use Rattle.au_model.specs.Substitutions.{resolve};
-ghost use Rattle.bind_store.specs.Stored.{substitution};
+ghost use Rattle.run_model.specs.Programs.Bodies.{goals_of, call_of};
+ghost use Rattle.au_model.specs.Terms.Each.{Each};
+ghost use Rattle.run_model.specs.Machine.Heights.{after_control};
+ghost use Rattle.au_model.specs.Terms.Named.{NamedTerm};
+ghost use Rattle.run_model.specs.Goals.Outcomes.{TestOf, CatchOf, FindallOf};
+ghost use Rattle.au_model.specs.Terms.Substitutions.{resolve};
+ghost use Rattle.bind_store.specs.StoreView.{substitution};
 ghost use Rattle.engine_core.specs.Branches.{IsItemBelow};
-ghost use Rattle.stack_run.specs.Views.{scope_height};
-ghost use Rattle.stack_run.specs.Inferring.{IsAtWork, Leaves, IsOpeningBelow, following, opened_form, under};
+ghost use Rattle.stack_run.specs.StackView.{scope_height};
+ghost use Rattle.stack_run.specs.Inferences.{IsWorking, HasEntries, IsOpeningBelow, following, opened_form, entries_below};
 
 use crate::frame::{Catch, Choice, Findall, Stack};
 use crate::list::call_of;
@@ -29,10 +29,10 @@ pub(crate) fn open(
     rest: &Goals,
     stack: &mut Stack,
 ) -> Result<(), NoMemory>
-    requires work { IsAtWork stack.old }
+    requires work { IsWorking stack.old }
     requires opening { IsOpeningBelow stack.old.store.next opening }
     requires rest { Each (IsItemBelow stack.old.store.next) rest.now }
-    ensures { OnOk result (Leaves (λ own. after_control (opened_form stack.old.store opening) (scope_height cut) (following stack.old rest.now own) (under stack.old own)) stack.new) }
+    ensures { OnOk result (HasEntries (λ own. after_control (opened_form stack.old.store opening) (scope_height cut) (following stack.old rest.now own) (entries_below stack.old own)) stack.new) }
 {
     match opening {
         Opening::Condition { test, yes, no } => condition(
@@ -61,12 +61,12 @@ fn condition(
     rest: &Goals,
     stack: &mut Stack,
 ) -> Result<(), NoMemory>
-    requires work { IsAtWork stack.old }
+    requires work { IsWorking stack.old }
     requires test { var_bound test.now ≤ stack.old.store.next }
     requires yes { var_bound yes.now ≤ stack.old.store.next }
     requires no { var_bound no.now ≤ stack.old.store.next }
     requires rest { Each (IsItemBelow stack.old.store.next) rest.now }
-    ensures { OnOk result (Leaves (λ own. after_control (TestOf (goals_of (resolve (substitution stack.old.store) test.now)) (goals_of (resolve (substitution stack.old.store) yes.now)) (goals_of (resolve (substitution stack.old.store) no.now))) (scope_height cut) (following stack.old rest.now own) (under stack.old own)) stack.new) }
+    ensures { OnOk result (HasEntries (λ own. after_control (TestOf (goals_of (resolve (substitution stack.old.store) test.now)) (goals_of (resolve (substitution stack.old.store) yes.now)) (goals_of (resolve (substitution stack.old.store) no.now))) (scope_height cut) (following stack.old rest.now own) (entries_below stack.old own)) stack.new) }
 {
     let place = stack.frames.len() as u64;
     let others = goals_before(alloc, no, cut, rest, &stack.store)?;
@@ -103,12 +103,12 @@ fn catch(
     rest: &Goals,
     stack: &mut Stack,
 ) -> Result<(), NoMemory>
-    requires work { IsAtWork stack.old }
+    requires work { IsWorking stack.old }
     requires goal { var_bound goal.now ≤ stack.old.store.next }
     requires catcher { var_bound catcher ≤ stack.old.store.next }
     requires recovery { var_bound recovery ≤ stack.old.store.next }
     requires rest { Each (IsItemBelow stack.old.store.next) rest.now }
-    ensures { OnOk result (Leaves (λ own. after_control (CatchOf (resolve (substitution stack.old.store) goal.now) (resolve (substitution stack.old.store) catcher) (resolve (substitution stack.old.store) recovery)) 0 (following stack.old rest.now own) (under stack.old own)) stack.new) }
+    ensures { OnOk result (HasEntries (λ own. after_control (CatchOf (resolve (substitution stack.old.store) goal.now) (resolve (substitution stack.old.store) catcher) (resolve (substitution stack.old.store) recovery)) 0 (following stack.old rest.now own) (entries_below stack.old own)) stack.new) }
 {
     let place = stack.frames.len() as u64;
     let end = rest.push(alloc, Item::CatchEnd(Scope::Local(place)))?;
@@ -140,12 +140,12 @@ fn findall(
     rest: &Goals,
     stack: &mut Stack,
 ) -> Result<(), NoMemory>
-    requires work { IsAtWork stack.old }
+    requires work { IsWorking stack.old }
     requires template { var_bound template ≤ stack.old.store.next }
     requires goal { var_bound goal.now ≤ stack.old.store.next }
     requires list { var_bound list ≤ stack.old.store.next }
     requires rest { Each (IsItemBelow stack.old.store.next) rest.now }
-    ensures { OnOk result (Leaves (λ own. after_control (FindallOf (resolve (substitution stack.old.store) template) (resolve (substitution stack.old.store) goal.now) (resolve (substitution stack.old.store) list)) 0 (following stack.old rest.now own) (under stack.old own)) stack.new) }
+    ensures { OnOk result (HasEntries (λ own. after_control (FindallOf (resolve (substitution stack.old.store) template) (resolve (substitution stack.old.store) goal.now) (resolve (substitution stack.old.store) list)) 0 (following stack.old rest.now own) (entries_below stack.old own)) stack.new) }
 {
     let place = stack.frames.len() as u64;
     let scope = Scope::Local(place);

@@ -1,12 +1,12 @@
 //! Whole runs.
 ghost use Rattle.std.specs.Prelude.{◌≡◌, ◌≤◌};
-ghost use Rattle.au_io.specs.Causes.{Rose};
-ghost use Rattle.stack_run.specs.Ends.{IsRun};
-ghost use Rattle.text_load.specs.Meant.{job_meant};
+ghost use Rattle.au_io.specs.FaultCounts.{Increased};
+ghost use Rattle.stack_run.specs.RunEnds.{IsRun};
+ghost use Rattle.text_load.specs.JobView.{job_meant};
 
 use crate::step::{opening, step};
 use au_io::Sink;
-use au_model::{RunEnd, RunEnding};
+use run_model::{RunEnd, RunEnding};
 use std::alloc::Global;
 use text_load::Job;
 
@@ -14,7 +14,7 @@ use text_load::Job;
 /// memory cuts short has written a front of its text, and its numbers are 0.
 pub fn run_job<K: Sink>(alloc: Global, job: Job, budget: u64, out: &mut K) -> RunEnd
     ensures run { IsRun (job_meant job) budget (K.taken out.old) (K.taken out.new) result }
-    ensures fault { result.end ≡ RunEnding.WriteFault → Rose (K.faults out.old) (K.faults out.new) }
+    ensures fault { result.end ≡ RunEnding.WriteFault → Increased (K.faults out.old) (K.faults out.new) }
     ensures faults_stay { K.faults out.old ≤ K.faults out.new }
 {
     let Ok(mut machine) = opening(alloc, &job) else {

@@ -1,17 +1,17 @@
 //! The steps that cost no inference (ISO/IEC 13211-1, 7.8.9 and 8.10.1).
 ghost use Rattle.std.specs.Prelude.{◌≡◌, ℕ, ◌++◌, ◌≤◌, ◌∷◌, [], List, Some, None, IfOk, OnOk, length, map, reverse};
 ghost use Rattle.std.specs.Option.{option_map};
-ghost use Rattle.au_model.specs.Each.{Each};
-ghost use Rattle.au_model.specs.Items.{without_marks};
-ghost use Rattle.au_model.specs.Lines.{NamedTerm};
-ghost use Rattle.au_model.specs.Entries.{with_result, collected};
-ghost use Rattle.au_model.specs.FreeSteps.{settle};
-ghost use Rattle.au_model.specs.Substitutions.{Substitution};
+ghost use Rattle.au_model.specs.Terms.Each.{Each};
+ghost use Rattle.run_model.specs.Machine.Items.{without_marks};
+ghost use Rattle.au_model.specs.Terms.Named.{NamedTerm};
+ghost use Rattle.run_model.specs.Machine.Entries.{with_result, collected};
+ghost use Rattle.run_model.specs.Machine.FreeSteps.{take_free_steps};
+ghost use Rattle.au_model.specs.Terms.Substitutions.{Substitution};
 ghost use Rattle.engine_core.specs.Branches.{IsItemBelow};
-ghost use Rattle.bind_store.specs.Stored.{Stored, IsSound};
-ghost use Rattle.stack_run.specs.Views.{stack_view, item_view, choice_view, frames_view, end_view, scope_place, scope_height};
-ghost use Rattle.stack_run.specs.Fitting.{IsFit, AreFit, IsChoiceFit};
-ghost use Rattle.stack_run.specs.Settling.{IsFreeStep, with_current, IsResting, FindallEnds, begins_with_mark, result_in_front};
+ghost use Rattle.bind_store.specs.StoreView.{StoreView, IsValidStore};
+ghost use Rattle.stack_run.specs.StackView.{stack_view, item_view, choice_view, frames_view, end_view, scope_place, scope_height};
+ghost use Rattle.stack_run.specs.StackInvariant.{IsFit, AreFit, IsChoiceFit};
+ghost use Rattle.stack_run.specs.FreeStepsTaken.{IsFreeStep, with_current, IsResting, FindallEnds, begins_with_mark, result_in_front};
 ghost use Rattle.stack_run.specs.declared.frame.QueryEnd.{QueryEnd};
 
 use crate::frame::{Choice, Findall, Frame, Stack};
@@ -25,7 +25,7 @@ use std::alloc::Global;
 /// Takes all free steps.
 pub(crate) fn settle(alloc: Global, stack: &mut Stack) -> Result<(), NoMemory>
     requires { IsFit stack.old }
-    ensures view { OnOk result ((own : List NamedTerm) → stack_view own stack.new ≡ settle (stack_view own stack.old)) }
+    ensures view { OnOk result ((own : List NamedTerm) → stack_view own stack.new ≡ take_free_steps (stack_view own stack.old)) }
     ensures fit { OnOk result (IsFit stack.new) }
     ensures end { stack.new.end ≡ stack.old.end }
     ensures resting { OnOk result (IsResting stack.new) }
@@ -109,9 +109,9 @@ fn collect(
     scope: Scope,
     frames: &mut Vec<Frame>,
 ) -> Result<(), NoMemory>
-    ensures view { OnOk result ((own : List NamedTerm) (st : Stored) (end : QueryEnd) →
+    ensures view { OnOk result ((own : List NamedTerm) (st : StoreView) (end : QueryEnd) →
         frames_view own st (reverse frames.new.items) ++ end_view (Some end) ≡ collected (scope_height scope) term.now (frames_view own st (reverse frames.old.items) ++ end_view (Some end))) }
-    ensures fit { OnOk result ((st : Stored) → AreFit st (reverse frames.old.items) → AreFit st (reverse frames.new.items)) }
+    ensures fit { OnOk result ((st : StoreView) → AreFit st (reverse frames.old.items) → AreFit st (reverse frames.new.items)) }
     ensures count { OnOk result (length frames.new.items ≡ length frames.old.items) }
 {
     let place = place_of(scope) as usize;
@@ -123,8 +123,8 @@ fn collect(
 
 /// Adds a result, with the next numbers, to a findall goal.
 fn add_result(alloc: Global, term: &FlatTerm, choice: &mut Choice) -> Result<(), NoMemory>
-    ensures view { OnOk result ((own : List NamedTerm) (st : Stored) → choice_view own st choice.new ≡ with_result term.now (choice_view own st choice.old)) }
-    ensures fit { OnOk result ((st : Stored) → IsSound st → IsChoiceFit st choice.old → IsChoiceFit st choice.new) }
+    ensures view { OnOk result ((own : List NamedTerm) (st : StoreView) → choice_view own st choice.new ≡ with_result term.now (choice_view own st choice.old)) }
+    ensures fit { OnOk result ((st : StoreView) → IsValidStore st → IsChoiceFit st choice.old → IsChoiceFit st choice.new) }
 {
     if let Choice::Findall(findall) = choice {
         let (copy, taken) = copy_term(alloc, term, findall.next)?;

@@ -1,10 +1,10 @@
 //! Choice points pushed and popped.
 ghost use Rattle.std.specs.Prelude.{◌≡◌, ◌∷◌, ◌++◌, List, OnOk, reverse, length, map};
-ghost use Rattle.au_model.specs.Lines.{NamedTerm};
-ghost use Rattle.bind_store.specs.Stored.{IsSound, mark_of};
-ghost use Rattle.stack_run.specs.Views.{frames_view, choice_view};
-ghost use Rattle.stack_run.specs.Fitting.{AreFit, IsChoiceFit};
-ghost use Rattle.stack_run.specs.Stacking.{IsPopped, branch_frame};
+ghost use Rattle.au_model.specs.Terms.Named.{NamedTerm};
+ghost use Rattle.bind_store.specs.StoreView.{IsValidStore, mark_of};
+ghost use Rattle.stack_run.specs.StackView.{frames_view, choice_view};
+ghost use Rattle.stack_run.specs.StackInvariant.{AreFit, IsChoiceFit};
+ghost use Rattle.stack_run.specs.ChoicePoints.{IsPopped, branch_frame};
 
 use crate::frame::{Choice, Frame};
 use au_term::NoMemory;

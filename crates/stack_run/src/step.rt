@@ -2,19 +2,20 @@
 ghost use Rattle.std.specs.Prelude.{◌≡◌, ◌<◌, ◌^◌, ◌-◌, ◌+◌, ◌++◌, ◌∷◌, [], ℕ, List, Some, None, IfOk, OnOk, map};
 ghost use Rattle.std.specs.Arc.{arc_value};
 ghost use Rattle.au_term.specs.Term.{VarTerm};
-ghost use Rattle.au_model.specs.Jobs.{own_terms};
-ghost use Rattle.au_model.specs.Lines.{NamedTerm, end_line};
-ghost use Rattle.au_model.specs.States.{opened, settled, step, opening};
-ghost use Rattle.text_load.specs.Meant.{job_meant};
-ghost use Rattle.text_load.specs.Kept.{variable_meant};
-ghost use Rattle.au_model.specs.Substitutions.{resolve};
-ghost use Rattle.bind_store.specs.Stored.{substitution};
-ghost use Rattle.stack_run.specs.Views.{stack_view};
-ghost use Rattle.stack_run.specs.Fitting.{IsFit};
-ghost use Rattle.stack_run.specs.Settling.{with_current};
-ghost use Rattle.stack_run.specs.Inferring.{HasEnd, IsAtWork};
-ghost use Rattle.stack_run.specs.Stepping.{IsAtItem};
-ghost use Rattle.stack_run.specs.Machines.{state_view, stack_state, names_asked, opened_state, ball_of, value_in, IsReady};
+ghost use Rattle.run_model.specs.Programs.Jobs.{own_terms};
+ghost use Rattle.au_model.specs.Terms.Named.{NamedTerm};
+ghost use Rattle.au_model.specs.Writing.Lines.{end_line};
+ghost use Rattle.run_model.specs.Machine.States.{opened, with_free_steps, step, opening};
+ghost use Rattle.text_load.specs.JobView.{job_meant};
+ghost use Rattle.au_model.specs.Terms.Named.{variable_meant};
+ghost use Rattle.au_model.specs.Terms.Substitutions.{resolve};
+ghost use Rattle.bind_store.specs.StoreView.{substitution};
+ghost use Rattle.stack_run.specs.StackView.{stack_view};
+ghost use Rattle.stack_run.specs.StackInvariant.{IsFit};
+ghost use Rattle.stack_run.specs.FreeStepsTaken.{with_current};
+ghost use Rattle.stack_run.specs.Inferences.{HasEnd, IsWorking};
+ghost use Rattle.stack_run.specs.ItemsTaken.{IsAtItem};
+ghost use Rattle.stack_run.specs.MachineView.{state_view, stack_state, names_asked, opened_state, ball_of, value_in, IsReady};
 
 use crate::frame::{Machine, QueryEnd, Stack};
 use crate::infer::infer;
@@ -30,7 +31,7 @@ use text_load::{Job, Query};
 
 /// The machine before the first inference.
 pub(crate) fn opening(alloc: Global, job: &Job) -> Result<Machine, NoMemory>
-    ensures state { IfOk result (λ m. state_view job.now m [] 0 ≡ settled (opening (job_meant job.now))) }
+    ensures state { IfOk result (λ m. state_view job.now m [] 0 ≡ with_free_steps (opening (job_meant job.now))) }
     ensures ready { IfOk result (λ m. IsReady m.stack) }
 {
     let mut machine = Machine {
@@ -92,7 +93,7 @@ pub(crate) fn step(alloc: Global, job: &Job, machine: &mut Machine) -> Result<()
     requires ready { IsReady machine.old.stack }
     requires some { HasEnd machine.old.stack }
     requires few { machine.old.answers < 2 ^ 64 - 1 }
-    ensures state { OnOk result ((written : List ℕ) (inferences : ℕ) → state_view job.now machine.new (written ++ machine.new.line.items) (inferences + 1) ≡ settled (step (arc_value job.now.procs) (state_view job.now machine.old written inferences))) }
+    ensures state { OnOk result ((written : List ℕ) (inferences : ℕ) → state_view job.now machine.new (written ++ machine.new.line.items) (inferences + 1) ≡ with_free_steps (step (arc_value job.now.procs) (state_view job.now machine.old written inferences))) }
     ensures ready { OnOk result (IsReady machine.new.stack) }
 {
     machine.line.clear();
@@ -134,7 +135,7 @@ fn take_item(alloc: Global, job: &Job, goals: &Goals, machine: &mut Machine) -> 
 
 /// Writes the line of an answer.
 fn answer(alloc: Global, job: &Job, machine: &mut Machine) -> Result<(), NoMemory>
-    requires work { IsAtWork machine.old.stack }
+    requires work { IsWorking machine.old.stack }
     requires line { machine.old.line.items ≡ [] }
     requires few { machine.old.answers < 2 ^ 64 - 1 }
     ensures state { OnOk result ((written : List ℕ) (inferences : ℕ) → state_view job.now machine.new (written ++ machine.new.line.items) (inferences + 1) ≡ step (arc_value job.now.procs) (stack_state job.now machine.old.asked machine.old.answers (with_current [] machine.old.stack) written inferences)) }

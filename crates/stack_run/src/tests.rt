@@ -1,7 +1,7 @@
 //! Whole runs of small texts: how they end, their answers and inferences, and their bytes.
 use crate::run_job;
 use au_io::MemorySink;
-use au_model::{RunEnd, RunEnding};
+use run_model::{RunEnd, RunEnding};
 use std::test::Fail;
 use text_load::load;
 

@@ -1,19 +1,19 @@
 -- How brackets pair.
 use Rattle.std.specs.Prelude.{◌≡◌, ℕ, zero, suc, List, [], ◌∷◌, Option, Some, None}
-use Rattle.au_model.specs.Lexemes.{Lexeme, Token, token, Open, Close, OpenList, CloseList, OpenCurly, CloseCurly}
+use Rattle.au_model.specs.Syntax.Tokens.{Lexeme, Token, token, Open, Close, OpenList, CloseList, OpenCurly, CloseCurly}
 
 -- how many brackets are open behind a token where so many were; none where it closes one that was not opened
-abbrev pub open_behind : Lexeme → ℕ → Option ℕ
-open_behind Open d = Some (suc d)
-open_behind OpenList d = Some (suc d)
-open_behind OpenCurly d = Some (suc d)
-open_behind Close zero = None
-open_behind CloseList zero = None
-open_behind CloseCurly zero = None
-open_behind Close (suc d) = Some d
-open_behind CloseList (suc d) = Some d
-open_behind CloseCurly (suc d) = Some d
-open_behind _ d = Some d
+abbrev pub open_after : Lexeme → ℕ → Option ℕ
+open_after Open d = Some (suc d)
+open_after OpenList d = Some (suc d)
+open_after OpenCurly d = Some (suc d)
+open_after Close zero = None
+open_after CloseList zero = None
+open_after CloseCurly zero = None
+open_after Close (suc d) = Some d
+open_after CloseList (suc d) = Some d
+open_after CloseCurly (suc d) = Some d
+open_after _ d = Some d
 
 abbrev pub depth_then : (ℕ → Option ℕ) → Option ℕ → Option ℕ
 depth_then more (Some d) = more d
@@ -22,7 +22,7 @@ depth_then more None = None
 -- and behind some tokens
 abbrev pub depth : List Token → ℕ → Option ℕ
 depth [] d = Some d
-depth (token a x ∷ ts) d = depth_then (depth ts) (open_behind x d)
+depth (token a x ∷ ts) d = depth_then (depth ts) (open_after x d)
 
 -- they close the brackets that they open, and no others
 abbrev pub Balanced : List Token → Type 0

@@ -1,9 +1,9 @@
 //! Operators behind an operand.
 ghost use Rattle.std.specs.Prelude.{◌≡◌, ℕ, List, IfOk};
 ghost use Rattle.std.specs.Str.{chars};
-ghost use Rattle.au_model.specs.Joints.{joint_fits, left_bound, lexeme_joint, named_joint, right_bound};
-ghost use Rattle.op_table.specs.Meant.{operator_meant};
-ghost use Rattle.term_reader.specs.Meant.{joint_meant, joint_name, lexeme_meant};
+ghost use Rattle.au_model.specs.Syntax.PostOperators.{post_operator_fits, left_bound, lexeme_post_operator, named_post_operator, right_bound};
+ghost use Rattle.op_table.specs.OperatorView.{operator_meant};
+ghost use Rattle.term_reader.specs.LexemeView.{post_operator_meant, post_operator_name, lexeme_meant};
 
 use crate::lexeme::Lexeme;
 use au_term::{Atom, NoMemory};
@@ -40,7 +40,7 @@ pub(crate) fn right_bound(o: Operator) -> u16
 
 /// The operator of a name behind an operand.
 pub(crate) fn named_joint(ops: &Ops, name: &str) -> Joint
-    ensures { joint_meant (chars name.now) result ≡ named_joint ops.now (chars name.now) }
+    ensures { post_operator_meant (chars name.now) result ≡ named_post_operator ops.now (chars name.now) }
 {
     if let Some(o) = ops.infix(name) {
         return Joint::Infix(o);
@@ -53,7 +53,7 @@ pub(crate) fn named_joint(ops: &Ops, name: &str) -> Joint
 
 /// The operator that a token is behind an operand.
 pub(crate) fn joint_of(ops: &Ops, lexeme: &Lexeme) -> Joint
-    ensures { joint_meant (joint_name (lexeme_meant lexeme.now)) result ≡ lexeme_joint ops.now (lexeme_meant lexeme.now) }
+    ensures { post_operator_meant (post_operator_name (lexeme_meant lexeme.now)) result ≡ lexeme_post_operator ops.now (lexeme_meant lexeme.now) }
 {
     match lexeme {
         Lexeme::Name(name) | Lexeme::QuotedName(name) => named_joint(ops, name.text()),
@@ -67,7 +67,7 @@ pub(crate) fn joint_of(ops: &Ops, lexeme: &Lexeme) -> Joint
 
 /// The name of such an operator.
 pub(crate) fn joint_name(alloc: Global, lexeme: Lexeme) -> Result<Atom, NoMemory>
-    ensures { IfOk result (λ a. a ≡ joint_name (lexeme_meant lexeme)) }
+    ensures { IfOk result (λ a. a ≡ post_operator_name (lexeme_meant lexeme)) }
 {
     match lexeme {
         Lexeme::Name(name) | Lexeme::QuotedName(name) => Ok(name),
@@ -78,7 +78,7 @@ pub(crate) fn joint_name(alloc: Global, lexeme: Lexeme) -> Result<Atom, NoMemory
 impl Joint {
     /// Whether it goes on behind an operand of this priority, within this bound.
     pub(crate) fn fits(self, bound: u16, priority: u16) -> bool
-        ensures { (n : List ℕ) → result ≡ joint_fits bound priority (joint_meant n self) }
+        ensures { (n : List ℕ) → result ≡ post_operator_fits bound priority (post_operator_meant n self) }
     {
         match self {
             Joint::Infix(o) | Joint::Postfix(o) => {

@@ -1,11 +1,11 @@
 //! Laws of the spelling of terms.
 ghost use Rattle.std.specs.Prelude.{◌≡◌, ℕ, List};
-ghost use Rattle.au_model.specs.Lexemes.{Token};
-ghost use Rattle.au_model.specs.Trees.{Tree};
-ghost use Rattle.au_model.specs.Openings.{Setting};
-ghost use Rattle.au_model.specs.Spelling.{Operand};
+ghost use Rattle.au_model.specs.Syntax.Tokens.{Token};
+ghost use Rattle.au_model.specs.Syntax.Trees.{Tree};
+ghost use Rattle.au_model.specs.Syntax.Primaries.{Setting};
+ghost use Rattle.au_model.specs.Syntax.Spelling.{Operand};
 ghost use Rattle.au_model.specs.declared.fault_kind.FaultKind.{FaultKind};
-ghost use Rattle.au_model.specs.TextFaults.{Fault, FaultAt};
+ghost use Rattle.au_model.specs.Syntax.TextFaults.{Fault, FaultAt};
 
 /// A list of tokens has at most one reading within a bound, whatever the operators are.
 pub fn one_reading()

@@ -1,14 +1,14 @@
 //! Tokens as a reader of terms sees them.
 ghost use Rattle.std.specs.Prelude.{◌≡◌, ◌≤◌, ◌^◌, ℕ, suc, true, false, List, [], ◌∷◌, IfOk, IfSome, IfNone, option_map, IsCharBoundary};
 ghost use Rattle.std.specs.Str.{chars};
-ghost use Rattle.au_model.specs.Characters.{chars_from};
-ghost use Rattle.au_model.specs.Lexemes.{lexeme_of, mark_lexeme, scanned};
-ghost use Rattle.au_model.specs.Openings.{is_minus_name};
-ghost use Rattle.au_model.specs.Tokens.{word_characters};
-ghost use Rattle.token_scan.specs.Found.{is_quoted, word_of, IsNextToken, IsToken};
-ghost use Rattle.token_scan.specs.Parts.{IsPlaceFrom};
-ghost use Rattle.term_reader.specs.Following.{closer_of, follow_of, IsFollowAt};
-ghost use Rattle.term_reader.specs.Meant.{lexeme_meant, scan_meant, IsNarrow, IsScan};
+ghost use Rattle.au_model.specs.Syntax.Characters.{chars_from};
+ghost use Rattle.au_model.specs.Syntax.Tokens.{lexeme_of, mark_lexeme, scanned};
+ghost use Rattle.au_model.specs.Syntax.Primaries.{is_minus_name};
+ghost use Rattle.au_model.specs.Syntax.Words.{word_characters};
+ghost use Rattle.token_scan.specs.NextToken.{is_quoted_kind, word_of, IsNextToken, IsToken};
+ghost use Rattle.token_scan.specs.ScannedParts.{IsPlaceFrom};
+ghost use Rattle.term_reader.specs.FollowingToken.{closer_of, follow_of, IsFollowingAt};
+ghost use Rattle.term_reader.specs.LexemeView.{lexeme_meant, scan_meant, IsNarrow, IsScan};
 
 use au_term::{Atom, NoMemory, is_text};
 use std::alloc::Global;
@@ -70,7 +70,7 @@ fn mark(text: &str) -> Lexeme
 /// The characters of a quoted token.
 fn quoted(alloc: Global, text: &str, token: &Token) -> Result<Atom, NoMemory>
     requires token { IsToken text.now token.now }
-    requires quoted { is_quoted token.now.kind ≡ true }
+    requires quoted { is_quoted_kind token.now.kind ≡ true }
     ensures { IfOk result (λ a. a ≡ word_characters (word_of text.now token.now)) }
 {
     Atom::new(alloc, value(alloc, text, token)?.as_str())
@@ -158,7 +158,7 @@ fn follow_token(lexeme: &Lexeme, apart: bool, end: usize) -> Follow
 /// What follows at a place.
 pub(crate) fn follow_at(alloc: Global, text: &str, at: usize) -> Result<Follow, NoMemory>
     requires { IsCharBoundary text.now at }
-    ensures { IfOk result (λ f. IsFollowAt text.now at f) }
+    ensures { IfOk result (λ f. IsFollowingAt text.now at f) }
 {
     let next = scan_at(alloc, text, at)?;
     match next {

@@ -1,13 +1,13 @@
 //! How a term begins.
 ghost use Rattle.std.specs.Prelude.{◌≡◌, ◌≤◌, ◌^◌, ℕ, suc, true, false, ◌&&◌, not, List, IfOk, codes, nat_eq, IsCharBoundary};
 ghost use Rattle.std.specs.Str.{chars, IsAscii};
-ghost use Rattle.au_model.specs.Characters.{chars_from};
-ghost use Rattle.au_model.specs.Lexemes.{tokens_of};
-ghost use Rattle.au_model.specs.Joints.{named_joint};
-ghost use Rattle.au_model.specs.Operators.{prefix_of};
-ghost use Rattle.au_model.specs.Openings.{atom_begins, curly_begins, ends_before, is_joint, is_operator, lexeme_begins, list_begins, minus, name_begins, prefix_or_atom, stands_alone};
-ghost use Rattle.term_reader.specs.Meant.{lexeme_meant};
-ghost use Rattle.term_reader.specs.Begun.{joins_as, opening_meant, setting_of, IsNamed, IsNamedBy, IsNoName, OpensFrom};
+ghost use Rattle.au_model.specs.Syntax.Characters.{chars_from};
+ghost use Rattle.au_model.specs.Syntax.Tokens.{tokens_of};
+ghost use Rattle.au_model.specs.Syntax.PostOperators.{named_post_operator};
+ghost use Rattle.au_model.specs.Syntax.Operators.{prefix_of};
+ghost use Rattle.au_model.specs.Syntax.Primaries.{atom_primary, curly_primary, ends_operand_before, is_post_operator, is_some_operator, lexeme_primary, list_primary, negative_of, name_primary, prefix_or_atom, prefix_is_atom};
+ghost use Rattle.term_reader.specs.LexemeView.{lexeme_meant};
+ghost use Rattle.term_reader.specs.PrimaryView.{is_operator_between, primary_meant, setting_of, IsPrimaryOfName, IsPrimaryOfLexeme, IsPrimaryOfNoName, PrimaryEndsFrom};
 
 use crate::joint::{Joint, named_joint};
 use crate::lexeme::{Follow, Lexeme, Scan, follow_at, is_minus, scan_at};
@@ -54,7 +54,7 @@ pub(crate) const WIDEST: u64 = 1 << 63;
 /// The number with this absolute value that isn't above 0.
 fn negative(number: u64) -> i64
     requires { number ≤ 2 ^ 63 }
-    ensures { result ≡ minus number }
+    ensures { result ≡ negative_of number }
 {
     if number == WIDEST {
         i64::MIN
@@ -65,7 +65,7 @@ fn negative(number: u64) -> i64
 
 /// Whether a name is an infix or postfix operator and no prefix operator.
 pub(crate) fn is_joint_alone(ops: &Ops, name: &str) -> bool
-    ensures { result ≡ (is_joint (named_joint ops.now (chars name.now)) && not (is_operator (prefix_of ops.now (chars name.now)))) }
+    ensures { result ≡ (is_post_operator (named_post_operator ops.now (chars name.now)) && not (is_some_operator (prefix_of ops.now (chars name.now)))) }
 {
     !matches!(named_joint(ops, name), Joint::Nothing) && ops.prefix(name).is_none()
 }
@@ -73,7 +73,7 @@ pub(crate) fn is_joint_alone(ops: &Ops, name: &str) -> bool
 /// Whether a name joins what stands in front of it to what stands at this place.
 fn joins(source: Source<'_>, name: &str, is_sign: bool, end: usize) -> Result<bool, NoMemory>
     requires { IsCharBoundary source.text.now end }
-    ensures { IfOk result (λ b. b ≡ joins_as source.entry.ops.now (chars name.now) is_sign (tokens_of (chars_from source.entry.text.now end))) }
+    ensures { IfOk result (λ b. b ≡ is_operator_between source.entry.ops.now (chars name.now) is_sign (tokens_of (chars_from source.entry.text.now end))) }
 {
     if !is_joint_alone(source.ops, name) {
         return Ok(false);
@@ -89,7 +89,7 @@ fn joins(source: Source<'_>, name: &str, is_sign: bool, end: usize) -> Result<bo
 /// Whether a prefix operator stands for itself in front of a token that ends here.
 fn ends_before(source: Source<'_>, lexeme: &Lexeme, end: usize) -> Result<bool, NoMemory>
     requires { IsCharBoundary source.text.now end }
-    ensures { IfOk result (λ b. b ≡ ends_before source.entry.ops.now (lexeme_meant lexeme.now) (tokens_of (chars_from source.entry.text.now end))) }
+    ensures { IfOk result (λ b. b ≡ ends_operand_before source.entry.ops.now (lexeme_meant lexeme.now) (tokens_of (chars_from source.entry.text.now end))) }
 {
     match lexeme {
         Lexeme::End
@@ -107,7 +107,7 @@ fn ends_before(source: Source<'_>, lexeme: &Lexeme, end: usize) -> Result<bool, 
 /// Whether a prefix operator in front of this place stands for itself.
 fn stands_alone(source: Source<'_>, at: usize) -> Result<bool, NoMemory>
     requires { IsCharBoundary source.text.now at }
-    ensures { IfOk result (λ b. b ≡ stands_alone source.entry.ops.now (tokens_of (chars_from source.entry.text.now at))) }
+    ensures { IfOk result (λ b. b ≡ prefix_is_atom source.entry.ops.now (tokens_of (chars_from source.entry.text.now at))) }
 {
     let next = scan_at(source.alloc, source.text, at)?;
     match next {
@@ -120,9 +120,9 @@ fn stands_alone(source: Source<'_>, at: usize) -> Result<bool, NoMemory>
 /// How a term begins with a name that ends here, where it is neither a compound's nor a number's sign.
 fn operator_opening(source: Source<'_>, name: Atom, end: usize) -> Result<Opening, NoMemory>
     requires { IsCharBoundary source.text.now end }
-    ensures opening { IfOk result (λ o. opening_meant source.entry o ≡ prefix_or_atom source.entry.ops.now name (prefix_of source.entry.ops.now name) (tokens_of (chars_from source.entry.text.now end))) }
-    ensures place { IfOk result (λ o. OpensFrom source.entry.text.now end o) }
-    ensures named { IfOk result (λ o. IsNamed source.entry.ops.now name o) }
+    ensures opening { IfOk result (λ o. primary_meant source.entry o ≡ prefix_or_atom source.entry.ops.now name (prefix_of source.entry.ops.now name) (tokens_of (chars_from source.entry.text.now end))) }
+    ensures place { IfOk result (λ o. PrimaryEndsFrom source.entry.text.now end o) }
+    ensures named { IfOk result (λ o. IsPrimaryOfName source.entry.ops.now name o) }
 {
     let Some(operator) = source.ops.prefix(name.text()) else {
         return Ok(Opening::Leaf(Leaf::Atom(name), end));
@@ -142,9 +142,9 @@ fn name_opening(
     end: usize,
 ) -> Result<Opening, NoMemory>
     requires { IsCharBoundary source.text.now end }
-    ensures opening { IfOk result (λ o. opening_meant source.entry o ≡ name_begins source.entry.ops.now is_sign name (tokens_of (chars_from source.entry.text.now end))) }
-    ensures place { IfOk result (λ o. OpensFrom source.entry.text.now end o) }
-    ensures named { IfOk result (λ o. IsNamed source.entry.ops.now name o) }
+    ensures opening { IfOk result (λ o. primary_meant source.entry o ≡ name_primary source.entry.ops.now is_sign name (tokens_of (chars_from source.entry.text.now end))) }
+    ensures place { IfOk result (λ o. PrimaryEndsFrom source.entry.text.now end o) }
+    ensures named { IfOk result (λ o. IsPrimaryOfName source.entry.ops.now name o) }
 {
     let next = follow_at(source.alloc, source.text, end)?;
     match next {
@@ -160,9 +160,9 @@ fn name_opening(
 fn atom_opening(source: Source<'_>, name: &str, end: usize) -> Result<Opening, NoMemory>
     requires place { IsCharBoundary source.text.now end }
     requires ascii { IsAscii name.now }
-    ensures opening { IfOk result (λ o. opening_meant source.entry o ≡ atom_begins name.now (tokens_of (chars_from source.entry.text.now end))) }
-    ensures place { IfOk result (λ o. OpensFrom source.entry.text.now end o) }
-    ensures named { IfOk result (λ o. IsNoName o) }
+    ensures opening { IfOk result (λ o. primary_meant source.entry o ≡ atom_primary name.now (tokens_of (chars_from source.entry.text.now end))) }
+    ensures place { IfOk result (λ o. PrimaryEndsFrom source.entry.text.now end o) }
+    ensures named { IfOk result (λ o. IsPrimaryOfNoName o) }
 {
     let name = Atom::ascii(source.alloc, name)?;
     let next = follow_at(source.alloc, source.text, end)?;
@@ -175,9 +175,9 @@ fn atom_opening(source: Source<'_>, name: &str, end: usize) -> Result<Opening, N
 /// How a term begins with `[`.
 fn list_opening(source: Source<'_>, end: usize) -> Result<Opening, NoMemory>
     requires { IsCharBoundary source.text.now end }
-    ensures opening { IfOk result (λ o. opening_meant source.entry o ≡ list_begins (tokens_of (chars_from source.entry.text.now end))) }
-    ensures place { IfOk result (λ o. OpensFrom source.entry.text.now end o) }
-    ensures named { IfOk result (λ o. IsNoName o) }
+    ensures opening { IfOk result (λ o. primary_meant source.entry o ≡ list_primary (tokens_of (chars_from source.entry.text.now end))) }
+    ensures place { IfOk result (λ o. PrimaryEndsFrom source.entry.text.now end o) }
+    ensures named { IfOk result (λ o. IsPrimaryOfNoName o) }
 {
     let next = follow_at(source.alloc, source.text, end)?;
     match next {
@@ -189,9 +189,9 @@ fn list_opening(source: Source<'_>, end: usize) -> Result<Opening, NoMemory>
 /// How a term begins with `{`.
 fn curly_opening(source: Source<'_>, end: usize) -> Result<Opening, NoMemory>
     requires { IsCharBoundary source.text.now end }
-    ensures opening { IfOk result (λ o. opening_meant source.entry o ≡ curly_begins (tokens_of (chars_from source.entry.text.now end))) }
-    ensures place { IfOk result (λ o. OpensFrom source.entry.text.now end o) }
-    ensures named { IfOk result (λ o. IsNoName o) }
+    ensures opening { IfOk result (λ o. primary_meant source.entry o ≡ curly_primary (tokens_of (chars_from source.entry.text.now end))) }
+    ensures place { IfOk result (λ o. PrimaryEndsFrom source.entry.text.now end o) }
+    ensures named { IfOk result (λ o. IsPrimaryOfNoName o) }
 {
     let next = follow_at(source.alloc, source.text, end)?;
     match next {
@@ -207,9 +207,9 @@ pub(crate) fn opening_of(
     end: usize,
 ) -> Result<Opening, NoMemory>
     requires { IsCharBoundary source.text.now end }
-    ensures opening { IfOk result (λ o. opening_meant source.entry o ≡ lexeme_begins (setting_of source.entry) (lexeme_meant lexeme) (tokens_of (chars_from source.entry.text.now end))) }
-    ensures place { IfOk result (λ o. OpensFrom source.entry.text.now end o) }
-    ensures named { IfOk result (λ o. IsNamedBy source.entry.ops.now (lexeme_meant lexeme) o) }
+    ensures opening { IfOk result (λ o. primary_meant source.entry o ≡ lexeme_primary (setting_of source.entry) (lexeme_meant lexeme) (tokens_of (chars_from source.entry.text.now end))) }
+    ensures place { IfOk result (λ o. PrimaryEndsFrom source.entry.text.now end o) }
+    ensures named { IfOk result (λ o. IsPrimaryOfLexeme source.entry.ops.now (lexeme_meant lexeme) o) }
 {
     match lexeme {
         Lexeme::Name(name) => {

@@ -1,10 +1,10 @@
 //! From cells behind their arguments to cells in front of them.
 ghost use Rattle.std.specs.Prelude.{◌≡◌, List, IfOk, OnOk};
 ghost use Rattle.au_term.specs.Term.{Term};
-ghost use Rattle.au_term.specs.Prefix.{cells_of};
+ghost use Rattle.au_term.specs.PrefixOrder.{cells_of};
 ghost use Rattle.au_term.specs.declared.cell.Cell.{Cell};
-ghost use Rattle.term_reader.specs.Orders.{postorder};
-ghost use Rattle.term_reader.specs.Levels.{Settles, Turns};
+ghost use Rattle.term_reader.specs.Postorder.{postorder};
+ghost use Rattle.term_reader.specs.PostorderLevels.{IsCompleting, IsReordering};
 
 use au_term::{Cell, NoMemory};
 use std::alloc::Global;
@@ -18,7 +18,7 @@ struct Pending {
 
 /// An argument has come: each compound that has all of them comes too.
 fn settle(waiting: &mut Vec<Pending>, out: &mut Vec<Cell>) -> Result<(), NoMemory>
-    ensures { (cells whole : List Cell) → Settles cells waiting.old.items out.old.items whole → OnOk result (Turns cells waiting.new.items out.new.items whole) }
+    ensures { (cells whole : List Cell) → IsCompleting cells waiting.old.items out.old.items whole → OnOk result (IsReordering cells waiting.new.items out.new.items whole) }
 {
     while let Some(pending) = waiting.pop() {
         let Pending { cell, left } = pending;

@@ -1,9 +1,9 @@
 //! Reading a term.
 ghost use Rattle.std.specs.Prelude.{◌≡◌, IfOk, IsCharBoundary};
-ghost use Rattle.au_model.specs.Characters.{chars_from};
-ghost use Rattle.au_model.specs.TermTexts.{is_over};
-ghost use Rattle.term_reader.specs.Begun.{setting_of};
-ghost use Rattle.term_reader.specs.Reading.{IsRead, IsReading};
+ghost use Rattle.au_model.specs.Syntax.Characters.{chars_from};
+ghost use Rattle.au_model.specs.Syntax.TermTexts.{is_over};
+ghost use Rattle.term_reader.specs.PrimaryView.{setting_of};
+ghost use Rattle.term_reader.specs.ReadTerm.{IsTermRead, IsReadTo};
 
 use crate::opening::Source;
 use crate::place::line_and_column;
@@ -60,7 +60,7 @@ enum Reading {
 /// Reads tokens up to an end or a fault.
 fn read_tokens(source: Source<'_>, at: usize) -> Result<Reading, NoMemory>
     requires { IsCharBoundary source.text.now at }
-    ensures { IfOk result (λ r. IsReading (setting_of source.entry) source.entry.text.now at r) }
+    ensures { IfOk result (λ r. IsReadTo (setting_of source.entry) source.entry.text.now at r) }
 {
     let mut state = State::new(source.alloc, at);
     let mut phase = None;
@@ -100,7 +100,7 @@ pub fn read_term(
     quotes: DoubleQuotes,
 ) -> Result<ReadOutcome, ReadRefused>
     requires { IsCharBoundary text.now at }
-    ensures { IsRead (record { ops = ops.now; quotes = quotes }) text.now at result }
+    ensures { IsTermRead (record { ops = ops.now; quotes = quotes }) text.now at result }
 {
     if is_over(text, at) {
         return Ok(ReadOutcome::EndOfText);

@@ -1,14 +1,14 @@
 //! Where and why a text is refused.
 ghost use Rattle.std.specs.Prelude.{◌≡◌, ◌&&◌, ℕ, List, IfOk, IfSome, map, IsCharBoundary};
-ghost use Rattle.au_model.specs.Characters.{chars_from};
-ghost use Rattle.au_model.specs.Lexemes.{scanned};
-ghost use Rattle.au_model.specs.Openings.{Setting};
-ghost use Rattle.au_model.specs.Trees.{Tree};
-ghost use Rattle.term_reader.specs.Begun.{setting_of};
-ghost use Rattle.term_reader.specs.Frames.{frame_meant, shapes_up};
-ghost use Rattle.term_reader.specs.Meant.{lexeme_meant, scan_meant, IsScan};
-ghost use Rattle.term_reader.specs.Stack as stack;
-ghost use Rattle.term_reader.specs.Refusing.{atom_joins, is_named_joint, joined_end, unexpected_kind, IsFault, IsHigh, NotTaken, Stuck};
+ghost use Rattle.au_model.specs.Syntax.Characters.{chars_from};
+ghost use Rattle.au_model.specs.Syntax.Tokens.{scanned};
+ghost use Rattle.au_model.specs.Syntax.Primaries.{Setting};
+ghost use Rattle.au_model.specs.Syntax.Trees.{Tree};
+ghost use Rattle.term_reader.specs.PrimaryView.{setting_of};
+ghost use Rattle.term_reader.specs.FrameShapes.{frame_meant, shapes_up};
+ghost use Rattle.term_reader.specs.LexemeView.{lexeme_meant, scan_meant, IsScan};
+ghost use Rattle.term_reader.specs.Completion as stack;
+ghost use Rattle.term_reader.specs.Refusals.{lexeme_follows_atom, is_named_post_operator, follower_end, unexpected_kind, IsFirstFault, IsPrefixAboveBound, IsNotAccepted, IsStuck};
 
 use crate::joint::{Joint, named_joint};
 use crate::lexeme::{Lexeme, Scan, scan_at};
@@ -53,7 +53,7 @@ pub(crate) fn unexpected(lexeme: &Lexeme, start: usize) -> Refused
 
 /// What may not stand here, or is faulty itself.
 pub(crate) fn refusal_of(text: &str, scan: &Scan) -> Refused
-    ensures { (s : Setting) (start at : ℕ) → scan_meant text.now scan.now ≡ scanned (chars_from text.now at) → IsScan text.now at scan.now → Stuck s text.now start at → IsFault s text.now start result }
+    ensures { (s : Setting) (start at : ℕ) → scan_meant text.now scan.now ≡ scanned (chars_from text.now at) → IsScan text.now at scan.now → IsStuck s text.now start at → IsFirstFault s text.now start result }
 {
     match scan {
         Scan::Found(found) => unexpected(&found.lexeme, found.start),
@@ -71,7 +71,7 @@ pub(crate) fn refusal_of(text: &str, scan: &Scan) -> Refused
 /// What is refused at a place.
 fn refusal_at(source: Source<'_>, at: usize) -> Result<Refused, NoMemory>
     requires { IsCharBoundary source.text.now at }
-    ensures { (start : ℕ) → Stuck (setting_of source.entry) source.entry.text.now start at → IfOk result (λ r. IsFault (setting_of source.entry) source.entry.text.now start r) }
+    ensures { (start : ℕ) → IsStuck (setting_of source.entry) source.entry.text.now start at → IfOk result (λ r. IsFirstFault (setting_of source.entry) source.entry.text.now start r) }
 {
     let next = scan_at(source.alloc, source.text, at)?;
     Ok(refusal_of(source.text, &next))
@@ -85,7 +85,7 @@ pub(crate) fn behind_prefix(
     end: usize,
 ) -> Result<Refused, NoMemory>
     requires { IsCharBoundary source.text.now end }
-    ensures { (start at : ℕ) (k : List stack.Frame) → map frame_meant state.now.frames.items ≡ shapes_up k → IsHigh source.entry start k at end → IfOk result (λ r. IsFault (setting_of source.entry) source.entry.text.now start r) }
+    ensures { (start at : ℕ) (k : List stack.OpenFrame) → map frame_meant state.now.frames.items ≡ shapes_up k → IsPrefixAboveBound source.entry start k at end → IfOk result (λ r. IsFirstFault (setting_of source.entry) source.entry.text.now start r) }
 {
     let next = scan_at(source.alloc, source.text, end)?;
     if let Some(behind) = joined_end(source, state, end, &next) {
@@ -97,7 +97,7 @@ pub(crate) fn behind_prefix(
 /// The place behind a token that joins an atom.
 fn joined_end(source: Source<'_>, state: &State, at: usize, scan: &Scan) -> Option<usize>
     ensures place { IsScan source.entry.text.now at scan.now → IfSome result (λ end. IsCharBoundary source.entry.text.now end) }
-    ensures end { (k : List stack.Frame) → map frame_meant state.now.frames.items ≡ shapes_up k → result ≡ joined_end source.entry.ops.now k scan.now }
+    ensures end { (k : List stack.OpenFrame) → map frame_meant state.now.frames.items ≡ shapes_up k → result ≡ follower_end source.entry.ops.now k scan.now }
 {
     let Scan::Found(found) = scan else {
         return None;
@@ -110,7 +110,7 @@ fn joined_end(source: Source<'_>, state: &State, at: usize, scan: &Scan) -> Opti
 
 /// Whether a token is an operator that goes on behind an atom here, and no prefix operator.
 fn joins_atom(source: Source<'_>, state: &State, lexeme: &Lexeme) -> bool
-    ensures { (k : List stack.Frame) → map frame_meant state.now.frames.items ≡ shapes_up k → result ≡ atom_joins source.entry.ops.now k (lexeme_meant lexeme.now) }
+    ensures { (k : List stack.OpenFrame) → map frame_meant state.now.frames.items ≡ shapes_up k → result ≡ lexeme_follows_atom source.entry.ops.now k (lexeme_meant lexeme.now) }
 {
     match lexeme {
         Lexeme::Name(name) | Lexeme::QuotedName(name) => {
@@ -123,7 +123,7 @@ fn joins_atom(source: Source<'_>, state: &State, lexeme: &Lexeme) -> bool
 
 /// Whether a token has the name of an operator that stands behind an operand.
 fn is_named_joint(ops: &Ops, lexeme: &Lexeme) -> bool
-    ensures { result ≡ is_named_joint ops.now (lexeme_meant lexeme.now) }
+    ensures { result ≡ is_named_post_operator ops.now (lexeme_meant lexeme.now) }
 {
     match lexeme {
         Lexeme::Name(name) | Lexeme::QuotedName(name) => {
@@ -135,7 +135,7 @@ fn is_named_joint(ops: &Ops, lexeme: &Lexeme) -> bool
 
 /// Whether it could also begin the operand of a prefix operator.
 fn is_held(ops: &Ops, doubt: bool, lexeme: &Lexeme) -> bool
-    ensures { result ≡ (doubt && is_named_joint ops.now (lexeme_meant lexeme.now)) }
+    ensures { result ≡ (doubt && is_named_post_operator ops.now (lexeme_meant lexeme.now)) }
 {
     doubt && is_named_joint(ops, lexeme)
 }
@@ -150,7 +150,7 @@ pub(crate) fn not_taken(
     end: usize,
 ) -> Result<Refused, NoMemory>
     requires { IsCharBoundary source.text.now end }
-    ensures { (start : ℕ) (k : List stack.Frame) (l : Tree) (p at : ℕ) → NotTaken source.entry start k l p at doubt (lexeme_meant lexeme.now) place end → IfOk result (λ r. IsFault (setting_of source.entry) source.entry.text.now start r) }
+    ensures { (start : ℕ) (k : List stack.OpenFrame) (l : Tree) (p at : ℕ) → IsNotAccepted source.entry start k l p at doubt (lexeme_meant lexeme.now) place end → IfOk result (λ r. IsFirstFault (setting_of source.entry) source.entry.text.now start r) }
 {
     if is_held(source.ops, doubt, lexeme) {
         return refusal_at(source, end);

@@ -2,13 +2,15 @@
 ghost use Rattle.std.specs.Prelude.{◌≡◌, ◌<◌, ◌≤◌, pos, [], ◌∷◌, IfOk, OnOk, length, map};
 ghost use Rattle.std.specs.Str.{chars};
 ghost use Rattle.au_term.specs.declared.cell.Cell.TheVariants.{Functor};
-ghost use Rattle.au_term.specs.Prefix.{IsSound};
-ghost use Rattle.au_model.specs.Trees.{Tree, code_list, char_list, AtomTree, nil};
-ghost use Rattle.au_model.specs.TermNumbers.{no_variables, numbered};
-ghost use Rattle.term_reader.specs.Begun.{leaf_tree};
-ghost use Rattle.term_reader.specs.Kept.{IsSheetOf};
-ghost use Rattle.term_reader.specs.Sheets as sheets;
-ghost use Rattle.term_reader.specs.Sheets.{no_cells, put_cell, put_chars, put_codes, put_lists, put_tree, variable_meant};
+ghost use Rattle.au_term.specs.PrefixOrder.{IsValidCell};
+ghost use Rattle.au_model.specs.Syntax.Trees.{Tree, code_list, char_list, AtomTree};
+ghost use Rattle.au_model.specs.Terms.Forms.{nil_name};
+ghost use Rattle.au_model.specs.Syntax.VariableNumbers.{no_variables, numbered};
+ghost use Rattle.term_reader.specs.PrimaryView.{leaf_tree};
+ghost use Rattle.term_reader.specs.OutputView.{IsOutputOf};
+ghost use Rattle.term_reader.specs.TermOutput as sheets;
+ghost use Rattle.term_reader.specs.TermOutput.{no_cells, emit_cell, emit_chars, emit_codes, emit_lists, emit_tree};
+ghost use Rattle.au_model.specs.Terms.Named.{variable_meant};
 
 use crate::opening::Leaf;
 use crate::order::prefix_order;
@@ -43,7 +45,7 @@ fn code_of(c: char) -> i64
 impl Sheet {
     /// No term.
     pub(crate) fn new(alloc: Global) -> Sheet
-        ensures { IsSheetOf result no_cells }
+        ensures { IsOutputOf result no_cells }
     {
         Sheet {
             cells: Vec::new(alloc),
@@ -53,8 +55,8 @@ impl Sheet {
 
     /// Puts a cell behind the others.
     fn put(&mut self, cell: Cell) -> Result<(), NoMemory>
-        requires { IsSound cell }
-        ensures { (s : sheets.Sheet) → IsSheetOf self.old s → OnOk result (IsSheetOf self.new (put_cell s cell)) }
+        requires { IsValidCell cell }
+        ensures { (s : sheets.TermOutput) → IsOutputOf self.old s → OnOk result (IsOutputOf self.new (emit_cell s cell)) }
     {
         self.cells.push(cell)?;
         Ok(())
@@ -62,7 +64,7 @@ impl Sheet {
 
     /// Puts an occurrence of a variable.
     fn variable(&mut self, alloc: Global, name: Atom) -> Result<(), NoMemory>
-        ensures { (s : sheets.Sheet) → IsSheetOf self.old s → OnOk result (IsSheetOf self.new (sheets.put_variable s name)) }
+        ensures { (s : sheets.TermOutput) → IsOutputOf self.old s → OnOk result (IsOutputOf self.new (sheets.emit_variable s name)) }
     {
         let number = self.variables.number(alloc, name)?;
         self.cells.push(Cell::Var(number))?;
@@ -76,7 +78,7 @@ impl Sheet {
         quotes: DoubleQuotes,
         leaf: Leaf,
     ) -> Result<(), NoMemory>
-        ensures { (s : sheets.Sheet) → IsSheetOf self.old s → OnOk result (IsSheetOf self.new (put_tree s (leaf_tree quotes leaf))) }
+        ensures { (s : sheets.TermOutput) → IsOutputOf self.old s → OnOk result (IsOutputOf self.new (emit_tree s (leaf_tree quotes leaf))) }
     {
         match leaf {
             Leaf::Variable(name) => self.variable(alloc, name),
@@ -92,7 +94,7 @@ impl Sheet {
 
     /// Puts the empty list.
     pub(crate) fn nil(&mut self, alloc: Global) -> Result<(), NoMemory>
-        ensures { (s : sheets.Sheet) → IsSheetOf self.old s → OnOk result (IsSheetOf self.new (put_tree s (AtomTree nil))) }
+        ensures { (s : sheets.TermOutput) → IsOutputOf self.old s → OnOk result (IsOutputOf self.new (emit_tree s (AtomTree nil_name))) }
     {
         let name = Atom::ascii(alloc, "[]")?;
         self.put(Cell::Atom(name))
@@ -102,14 +104,14 @@ impl Sheet {
     pub(crate) fn compound(&mut self, name: Atom, arguments: u32) -> Result<(), NoMemory>
         requires some { 0 < arguments }
         requires few { arguments ≤ 65535 }
-        ensures { (s : sheets.Sheet) → IsSheetOf self.old s → OnOk result (IsSheetOf self.new (put_cell s (Functor name arguments))) }
+        ensures { (s : sheets.TermOutput) → IsOutputOf self.old s → OnOk result (IsOutputOf self.new (emit_cell s (Functor name arguments))) }
     {
         self.put(Cell::Functor(name, arguments))
     }
 
     /// Puts the list of the last terms, so many items and a tail.
     pub(crate) fn list(&mut self, alloc: Global, items: usize) -> Result<(), NoMemory>
-        ensures { (s : sheets.Sheet) → IsSheetOf self.old s → OnOk result (IsSheetOf self.new (put_lists items s)) }
+        ensures { (s : sheets.TermOutput) → IsOutputOf self.old s → OnOk result (IsOutputOf self.new (emit_lists items s)) }
     {
         let name = Atom::ascii(alloc, ".")?;
         for i in 0..items {
@@ -121,7 +123,7 @@ impl Sheet {
 
     /// Puts the codes of a text's characters, and answers how many.
     fn each_code(&mut self, text: &str) -> Result<usize, NoMemory>
-        ensures { (s : sheets.Sheet) → IsSheetOf self.old s → IfOk result (λ n. (n ≡ length (chars text.now)) × IsSheetOf self.new (put_codes s (chars text.now))) }
+        ensures { (s : sheets.TermOutput) → IsOutputOf self.old s → IfOk result (λ n. (n ≡ length (chars text.now)) × IsOutputOf self.new (emit_codes s (chars text.now))) }
     {
         let mut items: usize = 0;
         for c in text.chars() {
@@ -136,7 +138,7 @@ impl Sheet {
 
     /// Puts a text's characters, each as an atom, and answers how many.
     fn each_char(&mut self, alloc: Global, text: &str) -> Result<usize, NoMemory>
-        ensures { (s : sheets.Sheet) → IsSheetOf self.old s → IfOk result (λ n. (n ≡ length (chars text.now)) × IsSheetOf self.new (put_chars s (chars text.now))) }
+        ensures { (s : sheets.TermOutput) → IsOutputOf self.old s → IfOk result (λ n. (n ≡ length (chars text.now)) × IsOutputOf self.new (emit_chars s (chars text.now))) }
     {
         let mut items: usize = 0;
         for c in text.chars() {
@@ -152,7 +154,7 @@ impl Sheet {
 
     /// Puts the list of the codes of a text's characters.
     fn codes(&mut self, alloc: Global, text: &str) -> Result<(), NoMemory>
-        ensures { (s : sheets.Sheet) → IsSheetOf self.old s → OnOk result (IsSheetOf self.new (put_tree s (code_list (chars text.now)))) }
+        ensures { (s : sheets.TermOutput) → IsOutputOf self.old s → OnOk result (IsOutputOf self.new (emit_tree s (code_list (chars text.now)))) }
     {
         let items = self.each_code(text)?;
         self.nil(alloc)?;
@@ -161,7 +163,7 @@ impl Sheet {
 
     /// Puts the list of a text's characters, each as an atom.
     fn chars(&mut self, alloc: Global, text: &str) -> Result<(), NoMemory>
-        ensures { (s : sheets.Sheet) → IsSheetOf self.old s → OnOk result (IsSheetOf self.new (put_tree s (char_list (chars text.now)))) }
+        ensures { (s : sheets.TermOutput) → IsOutputOf self.old s → OnOk result (IsOutputOf self.new (emit_tree s (char_list (chars text.now)))) }
     {
         let items = self.each_char(alloc, text)?;
         self.nil(alloc)?;
@@ -170,8 +172,8 @@ impl Sheet {
 
     /// The one term, and the named variables.
     pub(crate) fn finish(self, alloc: Global) -> Result<(FlatTerm, Vec<VarName>), NoMemory>
-        requires { (t : Tree) × IsSheetOf self (put_tree no_cells t) }
-        ensures { (t : Tree) → IsSheetOf self (put_tree no_cells t) → IfOk result (λ r. (r.0 ≡ (numbered no_variables t).0) × (map variable_meant r.1.items ≡ (numbered no_variables t).1.named)) }
+        requires { (t : Tree) × IsOutputOf self (emit_tree no_cells t) }
+        ensures { (t : Tree) → IsOutputOf self (emit_tree no_cells t) → IfOk result (λ r. (r.0 ≡ (numbered no_variables t).0) × (map variable_meant r.1.items ≡ (numbered no_variables t).1.named)) }
     {
         let Sheet { cells, variables } = self;
         let turned = prefix_order(alloc, cells)?;

@@ -1,14 +1,14 @@
 //! What is open, and what was read.
 ghost use Rattle.std.specs.Prelude.{◌≡◌, ◌≤◌, ℕ, List, [], IfOk, map, vec_len};
-ghost use Rattle.au_model.specs.Openings.{Setting};
-ghost use Rattle.au_model.specs.Trees.{Tree};
-ghost use Rattle.term_reader.specs.Meant.{joint_meant};
-ghost use Rattle.term_reader.specs.Frames.{frame_meant, shape_bound, shape_operator, shapes_up};
-ghost use Rattle.term_reader.specs.Stack as stack;
-ghost use Rattle.term_reader.specs.Stack.{bound_of};
-ghost use Rattle.term_reader.specs.Positions.{Due, Stands, There};
-ghost use Rattle.term_reader.specs.Settling.{IsFewer, IsPlug, IsSettled};
-ghost use Rattle.term_reader.specs.Refusing.{takes};
+ghost use Rattle.au_model.specs.Syntax.Primaries.{Setting};
+ghost use Rattle.au_model.specs.Syntax.Trees.{Tree};
+ghost use Rattle.term_reader.specs.LexemeView.{post_operator_meant};
+ghost use Rattle.term_reader.specs.FrameShapes.{frame_meant, shape_bound, shape_operator, shapes_up};
+ghost use Rattle.term_reader.specs.Completion as stack;
+ghost use Rattle.term_reader.specs.Completion.{bound_of};
+ghost use Rattle.term_reader.specs.Positions.{Due, IsAtPosition, There};
+ghost use Rattle.term_reader.specs.OperatorReductions.{IsFewer, IsReduceOutcome, IsReducedBefore};
+ghost use Rattle.term_reader.specs.Refusals.{accepts};
 
 use crate::joint::{Joint, right_bound};
 use crate::sheet::Sheet;
@@ -76,7 +76,7 @@ impl State {
     pub(crate) fn new(alloc: Global, at: usize) -> State
         ensures at { result.at ≡ at }
         ensures empty { result.frames.items ≡ [] }
-        ensures stands { Stands result (Due []) }
+        ensures stands { IsAtPosition result (Due []) }
     {
         State {
             at,
@@ -87,7 +87,7 @@ impl State {
 
     /// The greatest priority of the operand that is due.
     pub(crate) fn bound(&self) -> u16
-        ensures { (k : List stack.Frame) → map frame_meant self.now.frames.items ≡ shapes_up k → result ≡ bound_of k }
+        ensures { (k : List stack.OpenFrame) → map frame_meant self.now.frames.items ≡ shapes_up k → result ≡ bound_of k }
     {
         match self.frames.last() {
             Some(frame) => frame.bound(),
@@ -99,7 +99,7 @@ impl State {
     fn plug(&mut self, priority: u16, joint: Joint) -> Result<Plug, NoMemory>
         ensures at { self.new.at ≡ self.old.at }
         ensures fewer { IfOk result (λ p. IsFewer p (vec_len self.old.frames) (vec_len self.new.frames)) }
-        ensures plugged { (s : Setting) (k : List stack.Frame) (l : Tree) (n : List ℕ) → Stands self.old (There k l priority) → IfOk result (λ p. IsPlug s k l priority (joint_meant n joint) self.new p) }
+        ensures plugged { (s : Setting) (k : List stack.OpenFrame) (l : Tree) (n : List ℕ) → IsAtPosition self.old (There k l priority) → IfOk result (λ p. IsReduceOutcome s k l priority (post_operator_meant n joint) self.new p) }
     {
         if joint.fits(self.bound(), priority) {
             return Ok(Plug::Fits);
@@ -125,7 +125,7 @@ impl State {
     /// whether this goes on behind it.
     pub(crate) fn settle(&mut self, priority: u16, joint: Joint) -> Result<(u16, bool), NoMemory>
         ensures at { self.new.at ≡ self.old.at }
-        ensures settled { (s : Setting) (k : List stack.Frame) (l : Tree) (n : List ℕ) → Stands self.old (There k l priority) → IfOk result (λ r. IsSettled s k l priority (joint_meant n joint) self.new r.0 r.1) }
+        ensures settled { (s : Setting) (k : List stack.OpenFrame) (l : Tree) (n : List ℕ) → IsAtPosition self.old (There k l priority) → IfOk result (λ r. IsReducedBefore s k l priority (post_operator_meant n joint) self.new r.0 r.1) }
     {
         let mut last = priority;
         'operators: loop {
@@ -139,7 +139,7 @@ impl State {
 
     /// Whether an operator goes on behind an atom.
     pub(crate) fn takes(&self, joint: Joint) -> bool
-        ensures { (k : List stack.Frame) (n : List ℕ) → map frame_meant self.now.frames.items ≡ shapes_up k → result ≡ takes k 0 (joint_meant n joint) }
+        ensures { (k : List stack.OpenFrame) (n : List ℕ) → map frame_meant self.now.frames.items ≡ shapes_up k → result ≡ accepts k 0 (post_operator_meant n joint) }
     {
         let mut frames = self.frames.as_slice();
         let mut priority = 0;

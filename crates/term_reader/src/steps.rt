@@ -1,19 +1,19 @@
 //! The steps of a reader.
 ghost use Rattle.std.specs.Prelude.{◌≡◌, ◌≤◌, ℕ, suc, Bool, false, List, IfOk, IsCharBoundary};
-ghost use Rattle.au_model.specs.Characters.{chars_from};
-ghost use Rattle.au_model.specs.Lexemes.{scanned, token, ScannedTo, Token};
-ghost use Rattle.au_model.specs.Joints.{joint_fits, lexeme_joint};
-ghost use Rattle.au_model.specs.Trees.{Tree};
-ghost use Rattle.token_scan.specs.Parts.{IsPlaceFrom};
-ghost use Rattle.term_reader.specs.Begun.{leaf_tree, setting_of};
-ghost use Rattle.term_reader.specs.Frames.{IsShut};
-ghost use Rattle.term_reader.specs.Looks.{Scans};
-ghost use Rattle.term_reader.specs.Meant.{lexeme_meant, IsStart};
-ghost use Rattle.term_reader.specs.Refusing.{IsFault, IsHeldFault, IsPassed, RefusesWell, Stuck};
-ghost use Rattle.term_reader.specs.Positions.{Due, There, Position, Stands, Led, Outcome, Moves, phase_of};
-ghost use Rattle.term_reader.specs.Stack as stack;
-ghost use Rattle.term_reader.specs.Stack.{bound_of};
-ghost use Rattle.term_reader.specs.Starting.{Starts, IsClosing, IsPushed, IsPut};
+ghost use Rattle.au_model.specs.Syntax.Characters.{chars_from};
+ghost use Rattle.au_model.specs.Syntax.Tokens.{scanned, token, ScannedTo, Token};
+ghost use Rattle.au_model.specs.Syntax.PostOperators.{post_operator_fits, lexeme_post_operator};
+ghost use Rattle.au_model.specs.Syntax.Trees.{Tree};
+ghost use Rattle.token_scan.specs.ScannedParts.{IsPlaceFrom};
+ghost use Rattle.term_reader.specs.PrimaryView.{leaf_tree, setting_of};
+ghost use Rattle.term_reader.specs.FrameShapes.{HasNoOperatorOnTop};
+ghost use Rattle.term_reader.specs.Lookahead.{Scans};
+ghost use Rattle.term_reader.specs.LexemeView.{lexeme_meant, IsStart};
+ghost use Rattle.term_reader.specs.Refusals.{IsFirstFault, IsFaultAtFrame, IsReadBelow, RefusesFirstFault, IsStuck};
+ghost use Rattle.term_reader.specs.Positions.{Due, There, Position, IsAtPosition, HasReadTo, IsStepOutcome, MovesForward, priority_of_operand};
+ghost use Rattle.term_reader.specs.Completion as stack;
+ghost use Rattle.term_reader.specs.Completion.{bound_of};
+ghost use Rattle.term_reader.specs.ReaderSteps.{StartsPrimary, IsFrameClosing, IsFramePushed, IsOperandEmitted};
 
 use crate::joint::{Joint, joint_name, joint_of};
 use crate::lexeme::{Closer, Lexeme, Placed, Scan, closer_token, scan_at};
@@ -36,7 +36,7 @@ pub(crate) enum Turn {
 
 /// Opens a frame in front of an operand.
 fn open(state: &mut State, frame: Frame, end: usize) -> Result<Turn, NoMemory>
-    ensures { IfOk result (λ t. IsPushed state.old frame end state.new t) }
+    ensures { IfOk result (λ t. IsFramePushed state.old frame end state.new t) }
 {
     state.frames.push(frame)?;
     state.at = end;
@@ -51,7 +51,7 @@ fn put(
     end: usize,
     doubt: bool,
 ) -> Result<Turn, NoMemory>
-    ensures { IfOk result (λ t. IsPut state.old (leaf_tree source.entry.quotes leaf) end doubt state.new t) }
+    ensures { IfOk result (λ t. IsOperandEmitted state.old (leaf_tree source.entry.quotes leaf) end doubt state.new t) }
 {
     state.sheet.leaf(source.alloc, source.quotes, leaf)?;
     state.at = end;
@@ -68,7 +68,7 @@ fn opening_at(
 ) -> Result<Opening, NoMemory>
     requires next { scanned (chars_from source.text.now at) ≡ ScannedTo (token apart (lexeme_meant lexeme)) (chars_from source.text.now end) }
     requires place { IsPlaceFrom source.text.now (suc at) end }
-    ensures { IfOk result (λ o. Starts source.entry at o) }
+    ensures { IfOk result (λ o. StartsPrimary source.entry at o) }
 {
     let opening = opening_of(source, lexeme, end)?;
     Ok(opening)
@@ -82,10 +82,10 @@ fn begin(
     start: usize,
     fault: Refused,
 ) -> Result<Turn, NoMemory>
-    requires { Starts source state.old.at opening }
-    ensures moves { IfOk result (λ t. Moves source.entry.text.now state.old.at state.new t) }
-    ensures outcome { (k : List stack.Frame) → Stands state.old (Due k) → IsStart source.entry.text.now state.old.at start → IfOk result (λ t. Outcome (setting_of source.entry) source.entry.text.now (Due k) state.old.at state.new t) }
-    ensures fault { (first : ℕ) (doubt : Bool) (k : List stack.Frame) → Stands state.old (Due k) → Led (setting_of source.entry) source.entry.text.now first (Due k) state.old.at doubt → (Stuck (setting_of source.entry) source.entry.text.now first state.old.at → IsFault (setting_of source.entry) source.entry.text.now first fault) → IfOk result (λ t. RefusesWell (setting_of source.entry) source.entry.text.now first t) }
+    requires { StartsPrimary source state.old.at opening }
+    ensures moves { IfOk result (λ t. MovesForward source.entry.text.now state.old.at state.new t) }
+    ensures outcome { (k : List stack.OpenFrame) → IsAtPosition state.old (Due k) → IsStart source.entry.text.now state.old.at start → IfOk result (λ t. IsStepOutcome (setting_of source.entry) source.entry.text.now (Due k) state.old.at state.new t) }
+    ensures fault { (first : ℕ) (doubt : Bool) (k : List stack.OpenFrame) → IsAtPosition state.old (Due k) → HasReadTo (setting_of source.entry) source.entry.text.now first (Due k) state.old.at doubt → (IsStuck (setting_of source.entry) source.entry.text.now first state.old.at → IsFirstFault (setting_of source.entry) source.entry.text.now first fault) → IfOk result (λ t. RefusesFirstFault (setting_of source.entry) source.entry.text.now first t) }
 {
     match opening {
         Opening::Leaf(leaf, behind) => put(source, state, leaf, behind, false),
@@ -110,9 +110,9 @@ fn begin(
 /// Reads the token with which an operand begins.
 fn operand(source: Source<'_>, state: &mut State) -> Result<Turn, NoMemory>
     requires { IsCharBoundary source.text.now state.old.at }
-    ensures moves { IfOk result (λ t. Moves source.entry.text.now state.old.at state.new t) }
-    ensures outcome { (k : List stack.Frame) → Stands state.old (Due k) → IfOk result (λ t. Outcome (setting_of source.entry) source.entry.text.now (Due k) state.old.at state.new t) }
-    ensures fault { (first : ℕ) (doubt : Bool) (k : List stack.Frame) → Stands state.old (Due k) → Led (setting_of source.entry) source.entry.text.now first (Due k) state.old.at doubt → IfOk result (λ t. RefusesWell (setting_of source.entry) source.entry.text.now first t) }
+    ensures moves { IfOk result (λ t. MovesForward source.entry.text.now state.old.at state.new t) }
+    ensures outcome { (k : List stack.OpenFrame) → IsAtPosition state.old (Due k) → IfOk result (λ t. IsStepOutcome (setting_of source.entry) source.entry.text.now (Due k) state.old.at state.new t) }
+    ensures fault { (first : ℕ) (doubt : Bool) (k : List stack.OpenFrame) → IsAtPosition state.old (Due k) → HasReadTo (setting_of source.entry) source.entry.text.now first (Due k) state.old.at doubt → IfOk result (λ t. RefusesFirstFault (setting_of source.entry) source.entry.text.now first t) }
 {
     let next = scan_at(source.alloc, source.text, state.at)?;
     match next {
@@ -146,9 +146,9 @@ fn behind(
     doubt: bool,
 ) -> Result<Turn, NoMemory>
     requires { IsCharBoundary source.text.now state.old.at }
-    ensures moves { IfOk result (λ t. Moves source.entry.text.now state.old.at state.new t) }
-    ensures outcome { (k : List stack.Frame) (l : Tree) → Stands state.old (There k l priority) → IfOk result (λ t. Outcome (setting_of source.entry) source.entry.text.now (There k l priority) state.old.at state.new t) }
-    ensures fault { (first : ℕ) (k : List stack.Frame) (l : Tree) → Stands state.old (There k l priority) → Led (setting_of source.entry) source.entry.text.now first (There k l priority) state.old.at doubt → IfOk result (λ t. RefusesWell (setting_of source.entry) source.entry.text.now first t) }
+    ensures moves { IfOk result (λ t. MovesForward source.entry.text.now state.old.at state.new t) }
+    ensures outcome { (k : List stack.OpenFrame) (l : Tree) → IsAtPosition state.old (There k l priority) → IfOk result (λ t. IsStepOutcome (setting_of source.entry) source.entry.text.now (There k l priority) state.old.at state.new t) }
+    ensures fault { (first : ℕ) (k : List stack.OpenFrame) (l : Tree) → IsAtPosition state.old (There k l priority) → HasReadTo (setting_of source.entry) source.entry.text.now first (There k l priority) state.old.at doubt → IfOk result (λ t. RefusesFirstFault (setting_of source.entry) source.entry.text.now first t) }
 {
     let next = scan_at(source.alloc, source.text, state.at)?;
     match next {
@@ -174,9 +174,9 @@ fn after(
 ) -> Result<Turn, NoMemory>
     requires next { scanned (chars_from source.text.now state.old.at) ≡ ScannedTo (token found.apart (lexeme_meant found.lexeme)) (chars_from source.text.now found.end) }
     requires place { IsPlaceFrom source.text.now (suc state.old.at) found.end }
-    ensures moves { IfOk result (λ t. Moves source.entry.text.now state.old.at state.new t) }
-    ensures outcome { (k : List stack.Frame) (l : Tree) → Stands state.old (There k l priority) → IfOk result (λ t. Outcome (setting_of source.entry) source.entry.text.now (There k l priority) state.old.at state.new t) }
-    ensures fault { (first : ℕ) (k : List stack.Frame) (l : Tree) → Stands state.old (There k l priority) → Led (setting_of source.entry) source.entry.text.now first (There k l priority) state.old.at doubt → IsStart source.entry.text.now state.old.at found.start → IfOk result (λ t. RefusesWell (setting_of source.entry) source.entry.text.now first t) }
+    ensures moves { IfOk result (λ t. MovesForward source.entry.text.now state.old.at state.new t) }
+    ensures outcome { (k : List stack.OpenFrame) (l : Tree) → IsAtPosition state.old (There k l priority) → IfOk result (λ t. IsStepOutcome (setting_of source.entry) source.entry.text.now (There k l priority) state.old.at state.new t) }
+    ensures fault { (first : ℕ) (k : List stack.OpenFrame) (l : Tree) → IsAtPosition state.old (There k l priority) → HasReadTo (setting_of source.entry) source.entry.text.now first (There k l priority) state.old.at doubt → IsStart source.entry.text.now state.old.at found.start → IfOk result (λ t. RefusesFirstFault (setting_of source.entry) source.entry.text.now first t) }
 {
     let joint = joint_of(source.ops, &found.lexeme);
     let (last, fits) = state.settle(priority, joint)?;
@@ -209,9 +209,9 @@ fn close(
 ) -> Result<Turn, NoMemory>
     requires next { scanned (chars_from source.text.now state.old.at) ≡ ScannedTo (token found.apart (lexeme_meant found.lexeme)) (chars_from source.text.now found.end) }
     requires place { IsPlaceFrom source.text.now (suc state.old.at) found.end }
-    ensures moves { IfOk result (λ t. Moves source.entry.text.now state.old.at state.new t) }
-    ensures outcome { (k : List stack.Frame) (l : Tree) (p : ℕ) → Stands state.old (There k l p) → IsShut k → joint_fits (bound_of k) p (lexeme_joint source.entry.ops.now (lexeme_meant found.lexeme)) ≡ false → IfOk result (λ t. Outcome (setting_of source.entry) source.entry.text.now (There k l p) state.old.at state.new t) }
-    ensures fault { (first : ℕ) (k : List stack.Frame) (l : Tree) (p : ℕ) → Stands state.old (There k l p) → IsShut k → joint_fits (bound_of k) p (lexeme_joint source.entry.ops.now (lexeme_meant found.lexeme)) ≡ false → IsPassed source.entry first state.old.at doubt (token found.apart (lexeme_meant found.lexeme)) k l p → IsStart source.entry.text.now state.old.at found.start → IfOk result (λ t. RefusesWell (setting_of source.entry) source.entry.text.now first t) }
+    ensures moves { IfOk result (λ t. MovesForward source.entry.text.now state.old.at state.new t) }
+    ensures outcome { (k : List stack.OpenFrame) (l : Tree) (p : ℕ) → IsAtPosition state.old (There k l p) → HasNoOperatorOnTop k → post_operator_fits (bound_of k) p (lexeme_post_operator source.entry.ops.now (lexeme_meant found.lexeme)) ≡ false → IfOk result (λ t. IsStepOutcome (setting_of source.entry) source.entry.text.now (There k l p) state.old.at state.new t) }
+    ensures fault { (first : ℕ) (k : List stack.OpenFrame) (l : Tree) (p : ℕ) → IsAtPosition state.old (There k l p) → HasNoOperatorOnTop k → post_operator_fits (bound_of k) p (lexeme_post_operator source.entry.ops.now (lexeme_meant found.lexeme)) ≡ false → IsReadBelow source.entry first state.old.at doubt (token found.apart (lexeme_meant found.lexeme)) k l p → IsStart source.entry.text.now state.old.at found.start → IfOk result (λ t. RefusesFirstFault (setting_of source.entry) source.entry.text.now first t) }
 {
     let token = closer_token(&found.lexeme);
     let refused = not_taken(source, doubt, &found.lexeme, found.start, found.end)?;
@@ -233,9 +233,9 @@ fn close_frame(
     end: usize,
     refused: Refused,
 ) -> Result<Turn, NoMemory>
-    ensures moves { IsPlaceFrom source.entry.text.now (suc state.old.at) end → IfOk result (λ t. Moves source.entry.text.now state.old.at state.new t) }
-    ensures outcome { (k : List stack.Frame) (l : Tree) (p : ℕ) → IsClosing source.entry state.old frame k l p token end → IfOk result (λ t. Outcome (setting_of source.entry) source.entry.text.now (There k l p) state.old.at state.new t) }
-    ensures fault { (first : ℕ) (k : List stack.Frame) (l : Tree) (p : ℕ) (h : IsClosing source.entry state.old (frame) k l p token end) → IsHeldFault source.entry first state.old (frame) k l p token end h refused → IfOk result (λ t. RefusesWell (setting_of source.entry) source.entry.text.now first t) }
+    ensures moves { IsPlaceFrom source.entry.text.now (suc state.old.at) end → IfOk result (λ t. MovesForward source.entry.text.now state.old.at state.new t) }
+    ensures outcome { (k : List stack.OpenFrame) (l : Tree) (p : ℕ) → IsFrameClosing source.entry state.old frame k l p token end → IfOk result (λ t. IsStepOutcome (setting_of source.entry) source.entry.text.now (There k l p) state.old.at state.new t) }
+    ensures fault { (first : ℕ) (k : List stack.OpenFrame) (l : Tree) (p : ℕ) (h : IsFrameClosing source.entry state.old (frame) k l p token end) → IsFaultAtFrame source.entry first state.old (frame) k l p token end h refused → IfOk result (λ t. RefusesFirstFault (setting_of source.entry) source.entry.text.now first t) }
 {
     match frame {
         Frame::Round => Ok(close_round(source, state, token, end, refused)),
@@ -258,9 +258,9 @@ fn close_round(
     end: usize,
     refused: Refused,
 ) -> Turn
-    ensures moves { IsPlaceFrom source.entry.text.now (suc state.old.at) end → Moves source.entry.text.now state.old.at state.new result }
-    ensures outcome { (k : List stack.Frame) (l : Tree) (p : ℕ) → IsClosing source.entry state.old Frame.Round k l p token end → Outcome (setting_of source.entry) source.entry.text.now (There k l p) state.old.at state.new result }
-    ensures fault { (first : ℕ) (k : List stack.Frame) (l : Tree) (p : ℕ) (h : IsClosing source.entry state.old (Frame.Round) k l p token end) → IsHeldFault source.entry first state.old (Frame.Round) k l p token end h refused → RefusesWell (setting_of source.entry) source.entry.text.now first result }
+    ensures moves { IsPlaceFrom source.entry.text.now (suc state.old.at) end → MovesForward source.entry.text.now state.old.at state.new result }
+    ensures outcome { (k : List stack.OpenFrame) (l : Tree) (p : ℕ) → IsFrameClosing source.entry state.old Frame.Round k l p token end → IsStepOutcome (setting_of source.entry) source.entry.text.now (There k l p) state.old.at state.new result }
+    ensures fault { (first : ℕ) (k : List stack.OpenFrame) (l : Tree) (p : ℕ) (h : IsFrameClosing source.entry state.old (Frame.Round) k l p token end) → IsFaultAtFrame source.entry first state.old (Frame.Round) k l p token end h refused → RefusesFirstFault (setting_of source.entry) source.entry.text.now first result }
 {
     match token {
         Closer::Close => {
@@ -279,9 +279,9 @@ fn close_curly(
     end: usize,
     refused: Refused,
 ) -> Result<Turn, NoMemory>
-    ensures moves { IsPlaceFrom source.entry.text.now (suc state.old.at) end → IfOk result (λ t. Moves source.entry.text.now state.old.at state.new t) }
-    ensures outcome { (k : List stack.Frame) (l : Tree) (p : ℕ) → IsClosing source.entry state.old Frame.Curly k l p token end → IfOk result (λ t. Outcome (setting_of source.entry) source.entry.text.now (There k l p) state.old.at state.new t) }
-    ensures fault { (first : ℕ) (k : List stack.Frame) (l : Tree) (p : ℕ) (h : IsClosing source.entry state.old (Frame.Curly) k l p token end) → IsHeldFault source.entry first state.old (Frame.Curly) k l p token end h refused → IfOk result (λ t. RefusesWell (setting_of source.entry) source.entry.text.now first t) }
+    ensures moves { IsPlaceFrom source.entry.text.now (suc state.old.at) end → IfOk result (λ t. MovesForward source.entry.text.now state.old.at state.new t) }
+    ensures outcome { (k : List stack.OpenFrame) (l : Tree) (p : ℕ) → IsFrameClosing source.entry state.old Frame.Curly k l p token end → IfOk result (λ t. IsStepOutcome (setting_of source.entry) source.entry.text.now (There k l p) state.old.at state.new t) }
+    ensures fault { (first : ℕ) (k : List stack.OpenFrame) (l : Tree) (p : ℕ) (h : IsFrameClosing source.entry state.old (Frame.Curly) k l p token end) → IsFaultAtFrame source.entry first state.old (Frame.Curly) k l p token end h refused → IfOk result (λ t. RefusesFirstFault (setting_of source.entry) source.entry.text.now first t) }
 {
     match token {
         Closer::CloseCurly => {
@@ -303,9 +303,9 @@ fn close_item(
     end: usize,
     refused: Refused,
 ) -> Result<Turn, NoMemory>
-    ensures moves { IsPlaceFrom source.entry.text.now (suc state.old.at) end → IfOk result (λ t. Moves source.entry.text.now state.old.at state.new t) }
-    ensures outcome { (k : List stack.Frame) (l : Tree) (p : ℕ) → IsClosing source.entry state.old (Frame.Item before) k l p token end → IfOk result (λ t. Outcome (setting_of source.entry) source.entry.text.now (There k l p) state.old.at state.new t) }
-    ensures fault { (first : ℕ) (k : List stack.Frame) (l : Tree) (p : ℕ) (h : IsClosing source.entry state.old (Frame.Item before) k l p token end) → IsHeldFault source.entry first state.old (Frame.Item before) k l p token end h refused → IfOk result (λ t. RefusesWell (setting_of source.entry) source.entry.text.now first t) }
+    ensures moves { IsPlaceFrom source.entry.text.now (suc state.old.at) end → IfOk result (λ t. MovesForward source.entry.text.now state.old.at state.new t) }
+    ensures outcome { (k : List stack.OpenFrame) (l : Tree) (p : ℕ) → IsFrameClosing source.entry state.old (Frame.Item before) k l p token end → IfOk result (λ t. IsStepOutcome (setting_of source.entry) source.entry.text.now (There k l p) state.old.at state.new t) }
+    ensures fault { (first : ℕ) (k : List stack.OpenFrame) (l : Tree) (p : ℕ) (h : IsFrameClosing source.entry state.old (Frame.Item before) k l p token end) → IsFaultAtFrame source.entry first state.old (Frame.Item before) k l p token end h refused → IfOk result (λ t. RefusesFirstFault (setting_of source.entry) source.entry.text.now first t) }
 {
     // A list of more than 2^64 items fits no memory.
     if before == usize::MAX {
@@ -333,9 +333,9 @@ fn close_tail(
     end: usize,
     refused: Refused,
 ) -> Result<Turn, NoMemory>
-    ensures moves { IsPlaceFrom source.entry.text.now (suc state.old.at) end → IfOk result (λ t. Moves source.entry.text.now state.old.at state.new t) }
-    ensures outcome { (k : List stack.Frame) (l : Tree) (p : ℕ) → IsClosing source.entry state.old (Frame.Tail items) k l p token end → IfOk result (λ t. Outcome (setting_of source.entry) source.entry.text.now (There k l p) state.old.at state.new t) }
-    ensures fault { (first : ℕ) (k : List stack.Frame) (l : Tree) (p : ℕ) (h : IsClosing source.entry state.old (Frame.Tail items) k l p token end) → IsHeldFault source.entry first state.old (Frame.Tail items) k l p token end h refused → IfOk result (λ t. RefusesWell (setting_of source.entry) source.entry.text.now first t) }
+    ensures moves { IsPlaceFrom source.entry.text.now (suc state.old.at) end → IfOk result (λ t. MovesForward source.entry.text.now state.old.at state.new t) }
+    ensures outcome { (k : List stack.OpenFrame) (l : Tree) (p : ℕ) → IsFrameClosing source.entry state.old (Frame.Tail items) k l p token end → IfOk result (λ t. IsStepOutcome (setting_of source.entry) source.entry.text.now (There k l p) state.old.at state.new t) }
+    ensures fault { (first : ℕ) (k : List stack.OpenFrame) (l : Tree) (p : ℕ) (h : IsFrameClosing source.entry state.old (Frame.Tail items) k l p token end) → IsFaultAtFrame source.entry first state.old (Frame.Tail items) k l p token end h refused → IfOk result (λ t. RefusesFirstFault (setting_of source.entry) source.entry.text.now first t) }
 {
     match token {
         Closer::CloseList => {
@@ -358,9 +358,9 @@ fn close_argument(
     end: usize,
     refused: Refused,
 ) -> Result<Turn, NoMemory>
-    ensures moves { IsPlaceFrom source.entry.text.now (suc state.old.at) end → IfOk result (λ t. Moves source.entry.text.now state.old.at state.new t) }
-    ensures outcome { (k : List stack.Frame) (l : Tree) (p : ℕ) → IsClosing source.entry state.old (Frame.Argument name before place) k l p token end → IfOk result (λ t. Outcome (setting_of source.entry) source.entry.text.now (There k l p) state.old.at state.new t) }
-    ensures fault { (first : ℕ) (k : List stack.Frame) (l : Tree) (p : ℕ) (h : IsClosing source.entry state.old (Frame.Argument name before place) k l p token end) → IsHeldFault source.entry first state.old (Frame.Argument name before place) k l p token end h refused → IfOk result (λ t. RefusesWell (setting_of source.entry) source.entry.text.now first t) }
+    ensures moves { IsPlaceFrom source.entry.text.now (suc state.old.at) end → IfOk result (λ t. MovesForward source.entry.text.now state.old.at state.new t) }
+    ensures outcome { (k : List stack.OpenFrame) (l : Tree) (p : ℕ) → IsFrameClosing source.entry state.old (Frame.Argument name before place) k l p token end → IfOk result (λ t. IsStepOutcome (setting_of source.entry) source.entry.text.now (There k l p) state.old.at state.new t) }
+    ensures fault { (first : ℕ) (k : List stack.OpenFrame) (l : Tree) (p : ℕ) (h : IsFrameClosing source.entry state.old (Frame.Argument name before place) k l p token end) → IsFaultAtFrame source.entry first state.old (Frame.Argument name before place) k l p token end h refused → IfOk result (λ t. RefusesFirstFault (setting_of source.entry) source.entry.text.now first t) }
 {
     match token {
         Closer::Comma => {
@@ -392,9 +392,9 @@ pub(crate) fn turn_at(
     doubt: bool,
 ) -> Result<Turn, NoMemory>
     requires { IsCharBoundary source.text.now state.old.at }
-    ensures moves { IfOk result (λ t. Moves source.entry.text.now state.old.at state.new t) }
-    ensures outcome { (x : Position) → Stands state.old x → phase ≡ phase_of x → IfOk result (λ t. Outcome (setting_of source.entry) source.entry.text.now x state.old.at state.new t) }
-    ensures fault { (first : ℕ) (x : Position) → Stands state.old x → phase ≡ phase_of x → Led (setting_of source.entry) source.entry.text.now first x state.old.at doubt → IfOk result (λ t. RefusesWell (setting_of source.entry) source.entry.text.now first t) }
+    ensures moves { IfOk result (λ t. MovesForward source.entry.text.now state.old.at state.new t) }
+    ensures outcome { (x : Position) → IsAtPosition state.old x → phase ≡ priority_of_operand x → IfOk result (λ t. IsStepOutcome (setting_of source.entry) source.entry.text.now x state.old.at state.new t) }
+    ensures fault { (first : ℕ) (x : Position) → IsAtPosition state.old x → phase ≡ priority_of_operand x → HasReadTo (setting_of source.entry) source.entry.text.now first x state.old.at doubt → IfOk result (λ t. RefusesFirstFault (setting_of source.entry) source.entry.text.now first t) }
 {
     match phase {
         None => operand(source, state),

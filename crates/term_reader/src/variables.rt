@@ -1,10 +1,10 @@
 //! The variables of a term.
 ghost use Rattle.std.specs.Prelude.{◌≡◌, ◌-◌, ◌<◌, ◌^◌, IfOk, None, suc};
 ghost use Rattle.std.specs.Str.{chars};
-ghost use Rattle.au_model.specs.TermNumbers as numbers;
-ghost use Rattle.au_model.specs.TermNumbers.{is_anonymous, no_variables};
-ghost use Rattle.term_reader.specs.Kept.{IsNumbered, IsVariablesOf};
-ghost use Rattle.term_reader.specs.Sheets.{variable_meant};
+ghost use Rattle.au_model.specs.Syntax.VariableNumbers as numbers;
+ghost use Rattle.au_model.specs.Syntax.VariableNumbers.{is_anonymous, no_variables};
+ghost use Rattle.term_reader.specs.OutputView.{IsVariableNumbered, IsVariablesOf};
+ghost use Rattle.au_model.specs.Terms.Named.{variable_meant};
 ghost use Rattle.std.specs.Prelude.{List, map};
 
 use au_model::VarName;
@@ -41,7 +41,7 @@ impl Variables {
 
     /// The number of an occurrence of a variable.
     pub(crate) fn number(&mut self, alloc: Global, name: Atom) -> Result<VarNo, NoMemory>
-        ensures { (vs : numbers.Variables) → IsVariablesOf self.old vs → IfOk result (λ k. IsNumbered self.new vs name k) }
+        ensures { (vs : numbers.Variables) → IsVariablesOf self.old vs → IfOk result (λ k. IsVariableNumbered self.new vs name k) }
     {
         if is_anonymous(name.text()) {
             return self.draw();

@@ -1,6 +1,6 @@
-pub mod Meant
-pub mod Text
-pub mod Tasks
-pub mod Sources
-pub mod Bindings
+pub mod NotationView
+pub mod TextInProgress
+pub mod WritingTasks
+pub mod WritingSources
+pub mod AnswerParts
 pub mod TokensWithEnd

@@ -1,11 +1,11 @@
 //! The form in which a compound is written, and which operands stand in brackets.
 ghost use Rattle.std.specs.Prelude.{◌≡◌, option_map};
 ghost use Rattle.std.specs.Str.{chars};
-ghost use Rattle.au_model.specs.Operators.{prefix_of, infix_of, postfix_of};
-ghost use Rattle.au_model.specs.Joints.{left_bound, right_bound, takes_equal_left, takes_equal_right};
-ghost use Rattle.au_model.specs.OperatorForms.{unary_form, binary_form, form_priority, takes_equal_last, is_operator};
-ghost use Rattle.op_table.specs.Meant.{operator_meant, kind_meant};
-ghost use Rattle.term_writer.specs.Meant.{notation_meant, form_meant, cell_form, cell_is_operator, cell_above, cell_enclosed, cell_enclosed_left};
+ghost use Rattle.au_model.specs.Syntax.Operators.{prefix_of, infix_of, postfix_of};
+ghost use Rattle.au_model.specs.Syntax.PostOperators.{left_bound, right_bound, takes_equal_left, takes_equal_right};
+ghost use Rattle.au_model.specs.Writing.OperatorForms.{unary_form, binary_form, form_priority, takes_equal_last, is_operator_name};
+ghost use Rattle.op_table.specs.OperatorView.{operator_meant, kind_meant};
+ghost use Rattle.term_writer.specs.NotationView.{notation_meant, form_meant, compound_form_of_cell, cell_is_operator, cell_above, cell_enclosed, cell_enclosed_left};
 
 use crate::names::{is_braces, is_cell_name};
 use au_term::Cell;
@@ -78,7 +78,7 @@ impl<'a> Notation<'a> {
 
     /// The form of the term that begins with this cell.
     pub(crate) fn form(self, cell: &Cell) -> Form
-        ensures { form_meant result ≡ cell_form (notation_meant self.entry) cell.now }
+        ensures { form_meant result ≡ compound_form_of_cell (notation_meant self.entry) cell.now }
     {
         match cell {
             Cell::Functor(name, 1) => self.unary_form(name.text()),
@@ -89,7 +89,7 @@ impl<'a> Notation<'a> {
 
     /// Whether a name is an operator.
     fn is_operator(self, name: &str) -> bool
-        ensures { result ≡ is_operator (notation_meant self.entry).operators (chars name.now) }
+        ensures { result ≡ is_operator_name (notation_meant self.entry).operators (chars name.now) }
     {
         self.prefix(name).is_some() || self.infix(name).is_some() || self.postfix(name).is_some()
     }

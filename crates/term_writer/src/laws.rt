@@ -2,13 +2,13 @@
 ghost use Rattle.std.specs.Prelude.{◌≡◌, [], ◌++◌, codes};
 ghost use Rattle.std.specs.Str.{chars};
 ghost use Rattle.au_term.specs.Term.{Term};
-ghost use Rattle.au_model.specs.Copies.{copied};
-ghost use Rattle.au_model.specs.Openings.{Setting};
-ghost use Rattle.au_model.specs.Operators.{IsOperatorTable};
-ghost use Rattle.au_model.specs.ReadBack.{tree_of, IsWritable};
-ghost use Rattle.au_model.specs.TermNumbers.{no_variables, numbered};
-ghost use Rattle.au_model.specs.TermTexts.{SpellsTermWithEnd};
-ghost use Rattle.au_model.specs.Writing.{written_as};
+ghost use Rattle.au_model.specs.Terms.Copies.{copied};
+ghost use Rattle.au_model.specs.Syntax.Primaries.{Setting};
+ghost use Rattle.au_model.specs.Syntax.Operators.{IsOperatorTable};
+ghost use Rattle.au_model.specs.Writing.ReadBack.{tree_of, IsWritable};
+ghost use Rattle.au_model.specs.Syntax.VariableNumbers.{no_variables, numbered};
+ghost use Rattle.au_model.specs.Syntax.TermTexts.{SpellsTermWithEnd};
+ghost use Rattle.au_model.specs.Writing.WrittenTerms.{written_term};
 ghost use Rattle.au_model.specs.declared.style.Style.TheVariants.{Quoted};
 
 /// What is written of a term in quoted style, with a space and a full stop behind it, spells the term again and nothing
@@ -16,5 +16,5 @@ ghost use Rattle.au_model.specs.declared.style.Style.TheVariants.{Quoted};
 /// it, so the term that is read is the copy with variables numbered from 0.
 pub fn written_is_read_back()
     ensures { (s : Setting) → IsOperatorTable s.ops → (t : Term) → IsWritable t
-        → SpellsTermWithEnd s (chars (written_as Quoted s.ops t ++ codes " .")) (tree_of t) [] × ((numbered no_variables (tree_of t)).0 ≡ copied t 0) }
+        → SpellsTermWithEnd s (chars (written_term Quoted s.ops t ++ codes " .")) (tree_of t) [] × ((numbered no_variables (tree_of t)).0 ≡ copied t 0) }
 {}

@@ -1,8 +1,8 @@
 //! The lines of answers and of uncaught balls.
 ghost use Rattle.std.specs.Prelude.{◌≡◌, ◌++◌, OnOk, OnErr};
-ghost use Rattle.au_model.specs.Lines.{answer_line, shown_binding, error_line};
-ghost use Rattle.au_model.specs.Writing.{written_as_value};
-ghost use Rattle.term_writer.specs.Bindings.{named_term, named_terms, separator, line_end};
+ghost use Rattle.au_model.specs.Writing.Lines.{answer_line, shown_binding, error_line};
+ghost use Rattle.au_model.specs.Writing.WrittenTerms.{written_as_value};
+ghost use Rattle.term_writer.specs.AnswerParts.{named_term, named_terms, separator, line_end};
 
 use crate::forms::Notation;
 use crate::tasks::Source;

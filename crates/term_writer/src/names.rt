@@ -2,9 +2,10 @@
 ghost use Rattle.std.specs.Prelude.{◌≡◌, codes};
 ghost use Rattle.std.specs.Str.{chars};
 ghost use Rattle.std.specs.List.{list_all};
-ghost use Rattle.au_model.specs.Characters.{is_symbol, is_small, is_alphanumeric, first_passes};
-ghost use Rattle.au_model.specs.NameForms.{is_symbol_name, is_letter_name, is_solo_name, begins_comment, nil_name, braces_name};
-ghost use Rattle.au_model.specs.Forms.{same_name};
+ghost use Rattle.au_model.specs.Syntax.Characters.{is_symbol, is_small, is_alphanumeric, first_passes};
+ghost use Rattle.au_model.specs.Writing.NameForms.{is_symbol_name, is_letter_name, is_solo_name, begins_comment};
+ghost use Rattle.au_model.specs.Terms.Forms.{nil_name, braces_name};
+ghost use Rattle.au_model.specs.Terms.Forms.{same_name};
 
 use au_model::characters::{is_alphanumeric, is_small, is_symbol};
 use au_term::is_text;

@@ -1,16 +1,16 @@
 //! What is still to be written of a term. Nothing recurses on a term's depth.
 ghost use Rattle.std.specs.Prelude.{◌≡◌, ◌+◌, ◌<◌, ◌≤◌, ℕ, List, ◌∷◌, OnOk};
 ghost use Rattle.au_term.specs.Term.{more, count, take_terms, arguments, argument_count};
-ghost use Rattle.au_term.specs.Prefix.{top_of, IsSound};
+ghost use Rattle.au_term.specs.PrefixOrder.{top_of, IsValidCell};
 ghost use Rattle.au_term.specs.declared.cell.Cell.TheVariants.{Functor};
-ghost use Rattle.au_model.specs.Joints.{right_bound};
-ghost use Rattle.au_model.specs.Lexemes.{Bar as BarMark};
-ghost use Rattle.au_model.specs.OperatorForms.{ListForm, BracedForm, InfixForm, PrefixForm, PostfixForm, FunctionalForm, unary_form, binary_form, is_above, is_enclosed, is_enclosed_left};
-ghost use Rattle.au_model.specs.Pieces.{Put};
-ghost use Rattle.au_model.specs.Writing.{enclosed, pieces, cell_pieces, further_pieces, tail_pieces};
-ghost use Rattle.op_table.specs.Meant.{operator_meant};
-ghost use Rattle.term_writer.specs.Tasks.{terms_at, term_weight, terms_weight};
-ghost use Rattle.term_writer.specs.Sources.{notation_of_source, term_of_source, part_of, IsPlace, Puts, Opens};
+ghost use Rattle.au_model.specs.Syntax.PostOperators.{right_bound};
+ghost use Rattle.au_model.specs.Syntax.Tokens.{Bar as BarMark};
+ghost use Rattle.au_model.specs.Writing.OperatorForms.{ListForm, BracedForm, InfixForm, PrefixForm, PostfixForm, FunctionalForm, unary_form, binary_form, is_above, is_enclosed, is_enclosed_left};
+ghost use Rattle.au_model.specs.Writing.Pieces.{Put};
+ghost use Rattle.au_model.specs.Writing.WrittenTerms.{enclosed, pieces, cell_pieces, further_pieces, tail_pieces};
+ghost use Rattle.op_table.specs.OperatorView.{operator_meant};
+ghost use Rattle.term_writer.specs.WritingTasks.{terms_at, term_weight, terms_weight};
+ghost use Rattle.term_writer.specs.WritingSources.{notation_of_source, term_of_source, source_subterm, IsSourcePlace, PushesTasks, OpensCompound};
 
 use crate::forms::{Form, Notation, right_bound};
 use crate::names::{is_cell_name, is_nil};
@@ -44,28 +44,28 @@ pub(crate) struct Source<'a> {
 impl<'a> Source<'a> {
     /// The first cell of the subterm at a place.
     pub(crate) fn cell(self, at: usize) -> &'a Cell
-        requires { IsPlace self at }
-        ensures top { result.now ≡ top_of (part_of self.entry at) }
-        ensures sound { IsSound result.now }
+        requires { IsSourcePlace self at }
+        ensures top { result.now ≡ top_of (source_subterm self.entry at) }
+        ensures sound { IsValidCell result.now }
     {
         &self.term.subterm(at)[0]
     }
 
     /// Where the term behind the subterm at a place begins.
     fn behind(self, at: usize) -> usize
-        requires { IsPlace self at }
-        ensures { terms_at (term_of_source self.entry) at ≡ more (part_of self.entry at) (terms_at (term_of_source self.entry) result) }
+        requires { IsSourcePlace self at }
+        ensures { terms_at (term_of_source self.entry) at ≡ more (source_subterm self.entry at) (terms_at (term_of_source self.entry) result) }
     {
         self.term.term_end(at)
     }
 
     /// Where the arguments of the compound at a place begin.
     fn first_argument(self, at: usize) -> usize
-        requires place { IsPlace self at }
-        requires some { 0 < argument_count (part_of self at) }
-        ensures place { IsPlace self.entry result }
-        ensures arguments { take_terms (argument_count (part_of self.entry at)) (terms_at (term_of_source self.entry) result) ≡ arguments (part_of self.entry at) }
-        ensures enough { argument_count (part_of self.entry at) ≤ count (terms_at (term_of_source self.entry) result) }
+        requires place { IsSourcePlace self at }
+        requires some { 0 < argument_count (source_subterm self at) }
+        ensures place { IsSourcePlace self.entry result }
+        ensures arguments { take_terms (argument_count (source_subterm self.entry at)) (terms_at (term_of_source self.entry) result) ≡ arguments (source_subterm self.entry at) }
+        ensures enough { argument_count (source_subterm self.entry at) ≤ count (terms_at (term_of_source self.entry) result) }
     {
         let length = self.term.cells().len();
         prove!(at < length);
@@ -79,9 +79,9 @@ impl<'a> Source<'a> {
         is_enclosed: bool,
         due: &mut Vec<Task<'a>>,
     ) -> Result<(), NoMemory>
-        requires { IsPlace self at }
-        ensures { OnOk result (Puts self.entry due.old.items due.new.items
-            (enclosed is_enclosed (pieces (notation_of_source self.entry) (part_of self.entry at))) (2 + term_weight (part_of self.entry at))) }
+        requires { IsSourcePlace self at }
+        ensures { OnOk result (PushesTasks self.entry due.old.items due.new.items
+            (enclosed is_enclosed (pieces (notation_of_source self.entry) (source_subterm self.entry at))) (2 + term_weight (source_subterm self.entry at))) }
     {
         if is_enclosed {
             due.push(Task::Mark(Mark::Close))?;
@@ -95,10 +95,10 @@ impl<'a> Source<'a> {
 
     /// An argument or item.
     fn argument(self, at: usize, due: &mut Vec<Task<'a>>) -> Result<(), NoMemory>
-        requires { IsPlace self at }
-        ensures { OnOk result (Puts self.entry due.old.items due.new.items
-            (enclosed (is_above (notation_of_source self.entry) 999 (part_of self.entry at)) (pieces (notation_of_source self.entry) (part_of self.entry at)))
-            (2 + term_weight (part_of self.entry at))) }
+        requires { IsSourcePlace self at }
+        ensures { OnOk result (PushesTasks self.entry due.old.items due.new.items
+            (enclosed (is_above (notation_of_source self.entry) 999 (source_subterm self.entry at)) (pieces (notation_of_source self.entry) (source_subterm self.entry at)))
+            (2 + term_weight (source_subterm self.entry at))) }
     {
         self.part(at, self.notation.is_above(999, self.cell(at)), due)
     }
@@ -110,10 +110,10 @@ impl<'a> Source<'a> {
         operator: Operator,
         due: &mut Vec<Task<'a>>,
     ) -> Result<(), NoMemory>
-        requires { IsPlace self at }
-        ensures { OnOk result (Puts self.entry due.old.items due.new.items
-            (enclosed (is_enclosed (notation_of_source self.entry) (right_bound (operator_meant operator)) (part_of self.entry at)) (pieces (notation_of_source self.entry) (part_of self.entry at)))
-            (2 + term_weight (part_of self.entry at))) }
+        requires { IsSourcePlace self at }
+        ensures { OnOk result (PushesTasks self.entry due.old.items due.new.items
+            (enclosed (is_enclosed (notation_of_source self.entry) (right_bound (operator_meant operator)) (source_subterm self.entry at)) (pieces (notation_of_source self.entry) (source_subterm self.entry at)))
+            (2 + term_weight (source_subterm self.entry at))) }
     {
         let is_enclosed = self
             .notation
@@ -128,10 +128,10 @@ impl<'a> Source<'a> {
         operator: Operator,
         due: &mut Vec<Task<'a>>,
     ) -> Result<(), NoMemory>
-        requires { IsPlace self at }
-        ensures { OnOk result (Puts self.entry due.old.items due.new.items
-            (enclosed (is_enclosed_left (notation_of_source self.entry) (operator_meant operator) (part_of self.entry at)) (pieces (notation_of_source self.entry) (part_of self.entry at)))
-            (2 + term_weight (part_of self.entry at))) }
+        requires { IsSourcePlace self at }
+        ensures { OnOk result (PushesTasks self.entry due.old.items due.new.items
+            (enclosed (is_enclosed_left (notation_of_source self.entry) (operator_meant operator) (source_subterm self.entry at)) (pieces (notation_of_source self.entry) (source_subterm self.entry at)))
+            (2 + term_weight (source_subterm self.entry at))) }
     {
         let is_enclosed = self.notation.is_enclosed_left(operator, self.cell(at));
         self.part(at, is_enclosed, due)
@@ -139,9 +139,9 @@ impl<'a> Source<'a> {
 
     /// A list, whose first cell stands at a place.
     fn list(self, at: usize, due: &mut Vec<Task<'a>>) -> Result<(), NoMemory>
-        requires place { IsPlace self at }
-        requires two { argument_count (part_of self at) ≡ 2 }
-        ensures { OnOk result ((name : List ℕ) → Opens self.entry at ListForm name due.old.items due.new.items) }
+        requires place { IsSourcePlace self at }
+        requires two { argument_count (source_subterm self at) ≡ 2 }
+        ensures { OnOk result ((name : List ℕ) → OpensCompound self.entry at ListForm name due.old.items due.new.items) }
     {
         due.push(Task::Mark(Mark::CloseList))?;
         due.push(Task::Tail(self.term.arg_start(at, 1)))?;
@@ -152,9 +152,9 @@ impl<'a> Source<'a> {
 
     /// A term in braces.
     fn braces(self, at: usize, due: &mut Vec<Task<'a>>) -> Result<(), NoMemory>
-        requires place { IsPlace self at }
-        requires one { argument_count (part_of self at) ≡ 1 }
-        ensures { OnOk result ((name : List ℕ) → Opens self.entry at BracedForm name due.old.items due.new.items) }
+        requires place { IsSourcePlace self at }
+        requires one { argument_count (source_subterm self at) ≡ 1 }
+        ensures { OnOk result ((name : List ℕ) → OpensCompound self.entry at BracedForm name due.old.items due.new.items) }
     {
         due.push(Task::Mark(Mark::CloseCurly))?;
         due.push(Task::Term(self.term.arg_start(at, 0)))?;
@@ -170,9 +170,9 @@ impl<'a> Source<'a> {
         operator: Operator,
         due: &mut Vec<Task<'a>>,
     ) -> Result<(), NoMemory>
-        requires place { IsPlace self at }
-        requires two { argument_count (part_of self at) ≡ 2 }
-        ensures { OnOk result (Opens self.entry at (InfixForm (operator_meant operator)) name.now due.old.items due.new.items) }
+        requires place { IsSourcePlace self at }
+        requires two { argument_count (source_subterm self at) ≡ 2 }
+        ensures { OnOk result (OpensCompound self.entry at (InfixForm (operator_meant operator)) name.now due.old.items due.new.items) }
     {
         self.last_operand(self.term.arg_start(at, 1), operator, due)?;
         due.push(Task::Infix(name, operator))?;
@@ -187,9 +187,9 @@ impl<'a> Source<'a> {
         operator: Operator,
         due: &mut Vec<Task<'a>>,
     ) -> Result<(), NoMemory>
-        requires place { IsPlace self at }
-        requires one { argument_count (part_of self at) ≡ 1 }
-        ensures { OnOk result (Opens self.entry at (PrefixForm (operator_meant operator)) name.now due.old.items due.new.items) }
+        requires place { IsSourcePlace self at }
+        requires one { argument_count (source_subterm self at) ≡ 1 }
+        ensures { OnOk result (OpensCompound self.entry at (PrefixForm (operator_meant operator)) name.now due.old.items due.new.items) }
     {
         self.last_operand(self.term.arg_start(at, 0), operator, due)?;
         due.push(Task::Prefix(name))?;
@@ -204,9 +204,9 @@ impl<'a> Source<'a> {
         operator: Operator,
         due: &mut Vec<Task<'a>>,
     ) -> Result<(), NoMemory>
-        requires place { IsPlace self at }
-        requires one { argument_count (part_of self at) ≡ 1 }
-        ensures { OnOk result (Opens self.entry at (PostfixForm (operator_meant operator)) name.now due.old.items due.new.items) }
+        requires place { IsSourcePlace self at }
+        requires one { argument_count (source_subterm self at) ≡ 1 }
+        ensures { OnOk result (OpensCompound self.entry at (PostfixForm (operator_meant operator)) name.now due.old.items due.new.items) }
     {
         due.push(Task::Postfix(name))?;
         self.left_operand(self.term.arg_start(at, 0), operator, due)
@@ -220,10 +220,10 @@ impl<'a> Source<'a> {
         arity: u32,
         due: &mut Vec<Task<'a>>,
     ) -> Result<(), NoMemory>
-        requires place { IsPlace self at }
+        requires place { IsSourcePlace self at }
         requires some { 0 < arity }
-        requires count { argument_count (part_of self at) ≡ arity }
-        ensures { OnOk result (Opens self.entry at FunctionalForm name.now due.old.items due.new.items) }
+        requires count { argument_count (source_subterm self at) ≡ arity }
+        ensures { OnOk result (OpensCompound self.entry at FunctionalForm name.now due.old.items due.new.items) }
     {
         let first = self.first_argument(at);
         due.push(Task::Further(self.behind(first), arity - 1))?;
@@ -235,9 +235,9 @@ impl<'a> Source<'a> {
 
     /// A compound with one argument.
     fn unary(self, at: usize, name: &'a Atom, due: &mut Vec<Task<'a>>) -> Result<(), NoMemory>
-        requires place { IsPlace self at }
-        requires one { argument_count (part_of self at) ≡ 1 }
-        ensures { OnOk result (Opens self.entry at (unary_form (notation_of_source self.entry) name.now) name.now due.old.items due.new.items) }
+        requires place { IsSourcePlace self at }
+        requires one { argument_count (source_subterm self at) ≡ 1 }
+        ensures { OnOk result (OpensCompound self.entry at (unary_form (notation_of_source self.entry) name.now) name.now due.old.items due.new.items) }
     {
         match self.notation.unary_form(name.text()) {
             Form::Braces => self.braces(at, due),
@@ -249,9 +249,9 @@ impl<'a> Source<'a> {
 
     /// A compound with two arguments.
     fn binary(self, at: usize, name: &'a Atom, due: &mut Vec<Task<'a>>) -> Result<(), NoMemory>
-        requires place { IsPlace self at }
-        requires two { argument_count (part_of self at) ≡ 2 }
-        ensures { OnOk result (Opens self.entry at (binary_form (notation_of_source self.entry) name.now) name.now due.old.items due.new.items) }
+        requires place { IsSourcePlace self at }
+        requires two { argument_count (source_subterm self at) ≡ 2 }
+        ensures { OnOk result (OpensCompound self.entry at (binary_form (notation_of_source self.entry) name.now) name.now due.old.items due.new.items) }
     {
         match self.notation.binary_form(name.text()) {
             Form::List => self.list(at, due),
@@ -268,10 +268,10 @@ impl<'a> Source<'a> {
         arity: u32,
         due: &mut Vec<Task<'a>>,
     ) -> Result<(), NoMemory>
-        requires place { IsPlace self at }
+        requires place { IsSourcePlace self at }
         requires some { 0 < arity }
-        requires top { top_of (part_of self at) ≡ Functor name.now arity }
-        ensures { OnOk result (Puts self.entry due.old.items due.new.items (pieces (notation_of_source self.entry) (part_of self.entry at)) (9 + terms_weight (arguments (part_of self.entry at)))) }
+        requires top { top_of (source_subterm self at) ≡ Functor name.now arity }
+        ensures { OnOk result (PushesTasks self.entry due.old.items due.new.items (pieces (notation_of_source self.entry) (source_subterm self.entry at)) (9 + terms_weight (arguments (source_subterm self.entry at)))) }
     {
         match arity {
             1 => self.unary(at, name, due),
@@ -288,7 +288,7 @@ impl<'a> Source<'a> {
         due: &mut Vec<Task<'a>>,
     ) -> Result<(), NoMemory>
         requires { left ≤ count (terms_at (term_of_source self) at) }
-        ensures { OnOk result (Puts self.entry due.old.items due.new.items (further_pieces (notation_of_source self.entry) (take_terms left (terms_at (term_of_source self.entry) at))) (1 + terms_weight (take_terms left (terms_at (term_of_source self.entry) at)))) }
+        ensures { OnOk result (PushesTasks self.entry due.old.items due.new.items (further_pieces (notation_of_source self.entry) (take_terms left (terms_at (term_of_source self.entry) at))) (1 + terms_weight (take_terms left (terms_at (term_of_source self.entry) at)))) }
     {
         if left == 0 {
             due.push(Task::Mark(Mark::Close))?;
@@ -302,8 +302,8 @@ impl<'a> Source<'a> {
 
     /// The rest of a list, behind an item.
     pub(crate) fn tail(self, at: usize, due: &mut Vec<Task<'a>>) -> Result<(), NoMemory>
-        requires { IsPlace self at }
-        ensures { OnOk result (Puts self.entry due.old.items due.new.items (tail_pieces (notation_of_source self.entry) (part_of self.entry at)) (5 + term_weight (part_of self.entry at))) }
+        requires { IsSourcePlace self at }
+        ensures { OnOk result (PushesTasks self.entry due.old.items due.new.items (tail_pieces (notation_of_source self.entry) (source_subterm self.entry at)) (5 + term_weight (source_subterm self.entry at))) }
     {
         match self.cell(at) {
             Cell::Atom(name) if is_nil(name.text()) => Ok(()),
@@ -314,9 +314,9 @@ impl<'a> Source<'a> {
 
     /// A tail that is a list's cell.
     fn next_item(self, at: usize, due: &mut Vec<Task<'a>>) -> Result<(), NoMemory>
-        requires place { IsPlace self at }
-        requires two { argument_count (part_of self at) ≡ 2 }
-        ensures { OnOk result (Puts self.entry due.old.items due.new.items (cell_pieces (notation_of_source self.entry) (arguments (part_of self.entry at))) (9 + terms_weight (arguments (part_of self.entry at)))) }
+        requires place { IsSourcePlace self at }
+        requires two { argument_count (source_subterm self at) ≡ 2 }
+        ensures { OnOk result (PushesTasks self.entry due.old.items due.new.items (cell_pieces (notation_of_source self.entry) (arguments (source_subterm self.entry at))) (9 + terms_weight (arguments (source_subterm self.entry at)))) }
     {
         due.push(Task::Tail(self.term.arg_start(at, 1)))?;
         self.argument(self.term.arg_start(at, 0), due)?;
@@ -326,8 +326,8 @@ impl<'a> Source<'a> {
 
     /// A tail that is no list.
     fn rest(self, at: usize, due: &mut Vec<Task<'a>>) -> Result<(), NoMemory>
-        requires { IsPlace self at }
-        ensures { OnOk result (Puts self.entry due.old.items due.new.items (λ rest. Put BarMark ∷ enclosed (is_above (notation_of_source self.entry) 999 (part_of self.entry at)) (pieces (notation_of_source self.entry) (part_of self.entry at)) rest) (3 + term_weight (part_of self.entry at))) }
+        requires { IsSourcePlace self at }
+        ensures { OnOk result (PushesTasks self.entry due.old.items due.new.items (λ rest. Put BarMark ∷ enclosed (is_above (notation_of_source self.entry) 999 (source_subterm self.entry at)) (pieces (notation_of_source self.entry) (source_subterm self.entry at)) rest) (3 + term_weight (source_subterm self.entry at))) }
     {
         self.argument(at, due)?;
         due.push(Task::Mark(Mark::Bar))?;

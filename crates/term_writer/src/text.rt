@@ -1,13 +1,13 @@
 //! Text in the making, token by token.
 ghost use Rattle.std.specs.Prelude.{◌≡◌, ◌+◌, ◌<◌, ◌^◌, ◌++◌, ◌&&◌, nat_lt, true, OnOk, List, [], ◌∷◌, length};
 ghost use Rattle.std.specs.Str.{chars};
-ghost use Rattle.au_model.specs.Lexemes.{QuotedName};
-ghost use Rattle.op_table.specs.Meant.{operator_meant};
+ghost use Rattle.au_model.specs.Syntax.Tokens.{QuotedName};
+ghost use Rattle.op_table.specs.OperatorView.{operator_meant};
 ghost use Rattle.std.specs.Char.{digit_char};
-ghost use Rattle.au_model.specs.NameForms.{is_symbol_name, escaped, escaped_all, hexadecimal};
-ghost use Rattle.au_model.specs.Pieces.{Piece, Put, Space};
-ghost use Rattle.au_model.specs.Writing.{token_text, name_token, name_pieces, integer_pieces, variable_token, prefix_pieces, postfix_pieces, infix_pieces};
-ghost use Rattle.term_writer.specs.Text.{side_of, mark_meant, followed_by, needs_space, space_text};
+ghost use Rattle.au_model.specs.Writing.NameForms.{is_symbol_name, escaped, escaped_all, hexadecimal};
+ghost use Rattle.au_model.specs.Writing.Pieces.{Piece, Put, Space};
+ghost use Rattle.au_model.specs.Writing.WrittenTerms.{token_text, name_token, name_pieces, integer_pieces, variable_token, prefix_pieces, postfix_pieces, infix_pieces};
+ghost use Rattle.term_writer.specs.TextInProgress.{side_of, mark_meant, followed_by, needs_space, space_text};
 
 use crate::names::{is_braces, is_letter_name, is_nil, is_solo_name, is_symbol_name};
 use au_model::Style;

@@ -1,10 +1,10 @@
 //! Whole terms written.
 ghost use Rattle.std.specs.Prelude.{◌≡◌, ◌++◌, [], OnOk, OnErr};
-ghost use Rattle.au_model.specs.Writing.{enclosed, pieces, notation_of, written_as};
-ghost use Rattle.term_writer.specs.Meant.{notation_meant};
-ghost use Rattle.term_writer.specs.Tasks.{IsPlaced};
-ghost use Rattle.term_writer.specs.Text.{followed_by};
-ghost use Rattle.term_writer.specs.Sources.{notation_of_source, term_of_source, IsPlace, Finishes};
+ghost use Rattle.au_model.specs.Writing.WrittenTerms.{enclosed, pieces, notation_of, written_term};
+ghost use Rattle.term_writer.specs.NotationView.{notation_meant};
+ghost use Rattle.term_writer.specs.WritingTasks.{IsTaskPlaced};
+ghost use Rattle.term_writer.specs.TextInProgress.{followed_by};
+ghost use Rattle.term_writer.specs.WritingSources.{notation_of_source, term_of_source, IsSourcePlace, FinishesTask};
 ghost use Rattle.term_writer.specs.declared.tasks.Task.TheVariants.{Term as TermTask};
 
 use crate::forms::Notation;
@@ -24,7 +24,7 @@ pub fn write_into(
     ops: &Ops,
     style: Style,
 ) -> Result<(), NoMemory>
-    ensures ok { OnOk result (out.new.items ≡ out.old.items ++ written_as style ops.now term.now) }
+    ensures ok { OnOk result (out.new.items ≡ out.old.items ++ written_term style ops.now term.now) }
     ensures err { OnErr result (out.new.items ≡ out.old.items) }
 {
     let mut text = Text::new(alloc, style);
@@ -69,8 +69,8 @@ impl<'a> Source<'a> {
 
     /// Does a task that was taken from those that are due.
     fn take(self, task: Task<'a>, due: &mut Vec<Task<'a>>, text: &mut Text) -> Result<(), NoMemory>
-        requires { IsPlaced (term_of_source self) task }
-        ensures { OnOk result (Finishes self.entry task.entry due.old.items due.new.items text.old text.new) }
+        requires { IsTaskPlaced (term_of_source self) task }
+        ensures { OnOk result (FinishesTask self.entry task.entry due.old.items due.new.items text.old text.new) }
     {
         match task {
             Task::Term(at) => self.take_term(at, due, text),
@@ -86,8 +86,8 @@ impl<'a> Source<'a> {
 
     /// The subterm at a place: a leaf is written, a compound gives further tasks.
     fn take_term(self, at: usize, due: &mut Vec<Task<'a>>, text: &mut Text) -> Result<(), NoMemory>
-        requires { IsPlace self at }
-        ensures { OnOk result (Finishes self.entry (TermTask at) due.old.items due.new.items text.old text.new) }
+        requires { IsSourcePlace self at }
+        ensures { OnOk result (FinishesTask self.entry (TermTask at) due.old.items due.new.items text.old text.new) }
     {
         match self.cell(at) {
             Cell::Var(number) => text.variable(*number),

@@ -1,5 +1,5 @@
-pub mod Sorts
-pub mod Bounds
-pub mod Assembling
-pub mod Going
-pub mod Alone
+pub mod SentenceFormLemmas
+pub mod GoalBoundLemmas
+pub mod JobAssemblyLemmas
+pub mod SentenceLemmas
+pub mod UniqueLoadLemmas

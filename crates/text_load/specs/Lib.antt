@@ -1,8 +1,8 @@
-pub mod Kept
-pub mod Loading
-pub mod Meant
-pub mod Names
-pub mod Read
+pub mod QueryView
+pub mod LoadOutcome
+pub mod JobView
+pub mod ReservedNames
+pub mod LoadedSentences
 pub mod Sentences
-pub mod Texts
-pub mod Written
+pub mod LoadedTexts
+pub mod SentenceForms

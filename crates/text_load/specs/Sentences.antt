@@ -2,17 +2,18 @@
 -- text is our own.
 use Rattle.std.specs.Prelude.{ℕ, Bool, not, ◌&&◌, List, Option, Some, None, codes, if◌then◌else◌, cond}
 use Rattle.au_term.specs.Term.{Term, AtomTerm, Compound, end, more, argument_count}
-use Rattle.au_model.specs.Forms.{same_name, name_of, is_callable}
-use Rattle.au_model.specs.Bodies.{body_of, called_goals}
-use Rattle.au_model.specs.Clauses.{Clause}
-use Rattle.au_model.specs.Goals.{is_reserved}
-use Rattle.au_model.specs.Jobs.{NamedVariable, Query}
-use Rattle.au_model.specs.Trees.{Tree}
-use Rattle.au_model.specs.TermNumbers as reading
-use Rattle.au_model.specs.TermNumbers.{no_variables}
+use Rattle.au_model.specs.Terms.Forms.{same_name, name_of, is_callable}
+use Rattle.run_model.specs.Programs.Bodies.{body_of, called_goals}
+use Rattle.run_model.specs.Programs.Clauses.{Clause}
+use Rattle.run_model.specs.Goals.GoalOutcomes.{is_reserved}
+use Rattle.au_model.specs.Terms.Named.{NamedVariable}
+use Rattle.run_model.specs.Programs.Jobs.{Query}
+use Rattle.au_model.specs.Syntax.Trees.{Tree}
+use Rattle.au_model.specs.Syntax.VariableNumbers as reading
+use Rattle.au_model.specs.Syntax.VariableNumbers.{no_variables}
 use Rattle.au_model.specs.declared.fault_kind.FaultKind.{FaultKind}
 use Rattle.au_model.specs.declared.fault_kind.FaultKind.TheVariants.{BadClause, BadDirective}
-use Rattle.clause_compile.specs.Compiling.{numbered}
+use Rattle.clause_compile.specs.CompiledClauses.{numbered}
 
 pub data Sentence : Type 0 where
   ClauseSentence : Clause → Sentence

@@ -2,12 +2,12 @@
 ghost use Rattle.std.specs.Prelude.{◌≡◌, ◌++◌, ◌&&◌, ◌==◌, true, IfOk, List, OnOk, map};
 ghost use Rattle.std.specs.Arc.{arc_value};
 ghost use Rattle.au_term.specs.Term.{argument_count};
-ghost use Rattle.au_model.specs.Forms.{is_callable, name_of, same_name};
-ghost use Rattle.au_model.specs.Clauses.{is_clause_of, is_defined};
-ghost use Rattle.au_model.specs.Operators.{initial_operators};
-ghost use Rattle.text_load.specs.Meant.{job_meant};
-ghost use Rattle.text_load.specs.Texts.{job_of, not_defined_by};
-ghost use Rattle.text_load.specs.Read.{AreLoaded};
+ghost use Rattle.au_model.specs.Terms.Forms.{is_callable, name_of, same_name};
+ghost use Rattle.run_model.specs.Programs.Clauses.{is_clause_of, is_defined};
+ghost use Rattle.au_model.specs.Syntax.Operators.{initial_operators};
+ghost use Rattle.text_load.specs.JobView.{job_meant};
+ghost use Rattle.text_load.specs.LoadedTexts.{job_of, not_defined_by};
+ghost use Rattle.text_load.specs.LoadedSentences.{AreLoaded};
 ghost use Rattle.text_load.specs.Sentences.{Sentence as SentenceTerms};
 
 use crate::job::Job;

@@ -1,9 +1,9 @@
 //! Laws of loading: each function does nothing, and its contract is the law.
 ghost use Rattle.std.specs.Prelude.{◌≡◌, ℕ, List};
-ghost use Rattle.au_model.specs.Jobs.{Job};
+ghost use Rattle.run_model.specs.Programs.Jobs.{Job};
 ghost use Rattle.au_model.specs.declared.fault_kind.FaultKind.{FaultKind};
 ghost use Rattle.text_load.specs.Sentences.{Sentence};
-ghost use Rattle.text_load.specs.Texts.{FirstFault, IsRefused, LoadsTo, Sentences};
+ghost use Rattle.text_load.specs.LoadedTexts.{FirstFault, IsRefused, LoadsTo, Sentences};
 
 /// A text loads to one job at most, a text of sentences has no fault, and the first fault of another text is one.
 pub fn texts_load_to_one_job()

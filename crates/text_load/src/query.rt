@@ -1,9 +1,10 @@
 //! Queries.
 ghost use Rattle.std.specs.Prelude.{◌≡◌, map};
-ghost use Rattle.au_model.specs.Jobs.{query_bound};
-ghost use Rattle.clause_compile.specs.Compiling.{goal_items};
+ghost use Rattle.run_model.specs.Programs.Jobs.{query_bound};
+ghost use Rattle.clause_compile.specs.CompiledClauses.{goal_items};
 ghost use Rattle.clause_compile.specs.declared.item.Scope.TheVariants.{Local};
-ghost use Rattle.text_load.specs.Kept.{query_meant, variable_meant, IsKept};
+ghost use Rattle.text_load.specs.QueryView.{query_meant, IsQueryInvariant};
+ghost use Rattle.au_model.specs.Terms.Named.{variable_meant};
 
 use au_model::VarName;
 use au_term::VarNo;
@@ -21,9 +22,9 @@ pub struct Query {
 
 impl Model for Query {
     ghost use Rattle.std.specs.Coded.{codes};
-    ghost use Rattle.au_term.specs.Prefix.{term_code};
-    ghost use Rattle.au_model.specs.Jobs.{Query as QueryTerms};
-    ghost use Rattle.text_load.specs.Kept.{query_meant, IsKept};
+    ghost use Rattle.au_term.specs.PrefixOrder.{term_code};
+    ghost use Rattle.run_model.specs.Programs.Jobs.{Query as QueryTerms};
+    ghost use Rattle.text_load.specs.QueryView.{query_meant, IsQueryInvariant};
 
     ghost Value = { QueryTerms };
 
@@ -31,13 +32,13 @@ impl Model for Query {
 
     ghost view = { λ q. query_meant q.goals q.names.items };
 
-    ghost invariant = { λ q. IsKept q.goals q.names.items q.vars };
+    ghost invariant = { λ q. IsQueryInvariant q.goals q.names.items q.vars };
 }
 
 impl Query {
     /// A query of these goals and named variables.
     pub(crate) fn new(goals: Goals, names: Vec<VarName>, vars: VarNo) -> Query
-        requires { IsKept goals names.items vars }
+        requires { IsQueryInvariant goals names.items vars }
         ensures { result ≡ query_meant goals names.items }
     {
         Query { goals, names, vars }

@@ -1,14 +1,14 @@
 //! Loading a text.
 ghost use Rattle.std.specs.Prelude.{◌≡◌, ◌++◌, ◌∷◌, [], IfOk, OnOk, IfErr, IsCharBoundary, List};
 ghost use Rattle.std.specs.Str.{chars};
-ghost use Rattle.au_model.specs.Characters.{chars_from};
-ghost use Rattle.au_model.specs.Operators.{initial_operators};
-ghost use Rattle.au_model.specs.Trees.{Tree};
-ghost use Rattle.text_load.specs.Loading.{IsLoaded, IsNext, IsRefusedAt, IsRefusal, Holds, BeginsTerm, refusal_by};
-ghost use Rattle.text_load.specs.Meant.{job_meant};
-ghost use Rattle.text_load.specs.Read.{AreLoaded, IsSentenceOf};
+ghost use Rattle.au_model.specs.Syntax.Characters.{chars_from};
+ghost use Rattle.au_model.specs.Syntax.Operators.{initial_operators};
+ghost use Rattle.au_model.specs.Syntax.Trees.{Tree};
+ghost use Rattle.text_load.specs.LoadOutcome.{AreSentencesLoaded, IsNext, IsRefusedAt, IsRefusal, HoldsSentence, BeginsTermAt, refusal_by};
+ghost use Rattle.text_load.specs.JobView.{job_meant};
+ghost use Rattle.text_load.specs.LoadedSentences.{AreLoaded, IsSentenceOf};
 ghost use Rattle.text_load.specs.Sentences.{Sentence as SentenceTerms, IsSentence};
-ghost use Rattle.text_load.specs.Texts.{LoadsTo};
+ghost use Rattle.text_load.specs.LoadedTexts.{LoadsTo};
 
 use crate::assembly::{Loaded, job_from};
 use crate::job::Job;
@@ -56,7 +56,7 @@ pub fn load(alloc: Global, library: &str, text: &str) -> Result<Job, LoadRefusal
 /// The clauses and queries of a text.
 fn loaded(alloc: Global, ops: &Ops, text: &str) -> Result<Loaded, LoadRefusal>
     requires { ops.now ≡ initial_operators }
-    ensures ok { IfOk result (IsLoaded (chars text.now)) }
+    ensures ok { IfOk result (AreSentencesLoaded (chars text.now)) }
     ensures refused { IfErr result (IsRefusedAt (chars text.now)) }
 {
     let mut loaded = Loaded {
@@ -112,7 +112,7 @@ fn refusal_of(refused: ReadRefused) -> LoadRefusal
 /// A sentence that was read, or the refusal of its term, which is blamed at its first token.
 fn sentence_at(text: &str, at: usize, sentence: Sentence, end: usize) -> Result<Next, LoadRefusal>
     requires { IsCharBoundary text.now at }
-    ensures { (t : Tree) → Holds text.now at t sentence end → IsNext text.now at result }
+    ensures { (t : Tree) → HoldsSentence text.now at t sentence end → IsNext text.now at result }
 {
     match sentence {
         Sentence::Refused(kind) => {
@@ -126,7 +126,7 @@ fn sentence_at(text: &str, at: usize, sentence: Sentence, end: usize) -> Result<
 /// The place of the first token behind a place.
 fn first_token(text: &str, at: usize) -> usize
     requires { IsCharBoundary text.now at }
-    ensures begins { BeginsTerm text.now at result }
+    ensures begins { BeginsTermAt text.now at result }
     ensures place { IsCharBoundary text.now result }
 {
     match next_token(text, at) {

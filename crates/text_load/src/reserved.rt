@@ -1,9 +1,9 @@
 //! Names that no clause of a text may define.
 ghost use Rattle.std.specs.Prelude.{◌≡◌};
 ghost use Rattle.std.specs.List.{list_any};
-ghost use Rattle.text_load.specs.Names.{is_row};
+ghost use Rattle.text_load.specs.ReservedNames.{is_reserved_row};
 ghost use Rattle.std.specs.Str.{chars};
-ghost use Rattle.au_model.specs.Goals.{is_reserved};
+ghost use Rattle.run_model.specs.Goals.GoalOutcomes.{is_reserved};
 
 /// The conjunction, the control constructs and the built-in predicates, each with its number of arguments.
 const RESERVED: [(&str, u32); 21] = [
@@ -39,14 +39,14 @@ pub(crate) fn is_reserved(name: &str, arity: u32) -> bool
 
 /// Whether a name with so many arguments has one of these rows.
 fn is_among(rows: &[(&str, u32)], name: &str, arity: u32) -> bool
-    ensures { result ≡ list_any (λ row. is_row (chars name.now) arity (chars row.0.now) row.1) rows.now }
+    ensures { result ≡ list_any (λ row. is_reserved_row (chars name.now) arity (chars row.0.now) row.1) rows.now }
 {
     rows.iter().any(|row| is_row(row.0, row.1, name, arity))
 }
 
 /// Whether a row's name and number are this name and number of arguments.
 fn is_row(row: &str, count: u32, name: &str, arity: u32) -> bool
-    ensures { result ≡ is_row (chars name.now) arity (chars row.now) count }
+    ensures { result ≡ is_reserved_row (chars name.now) arity (chars row.now) count }
 {
     row == name && count == arity
 }

@@ -1,12 +1,12 @@
 //! Terms as sentences of a text.
 ghost use Rattle.std.specs.Prelude.{◌≡◌, ◌<◌, IfOk, map};
-ghost use Rattle.au_model.specs.Jobs.{names_bound};
+ghost use Rattle.run_model.specs.Programs.Jobs.{names_bound};
 ghost use Rattle.au_term.specs.Term.{argument, argument_count};
-ghost use Rattle.text_load.specs.Kept.{variable_meant};
-ghost use Rattle.text_load.specs.Read.{IsSentenceOf};
-ghost use Rattle.text_load.specs.Written.{cell_form, compound_form};
+ghost use Rattle.au_model.specs.Terms.Named.{variable_meant};
+ghost use Rattle.text_load.specs.LoadedSentences.{IsSentenceOf};
+ghost use Rattle.text_load.specs.SentenceForms.{sentence_form_of_cell, compound_form};
 ghost use Rattle.text_load.specs.Sentences.{may_head, clause_of, query_with, sentence_of};
-ghost use Rattle.au_model.specs.Bodies.{called_goals};
+ghost use Rattle.run_model.specs.Programs.Bodies.{called_goals};
 
 use crate::query::Query;
 use crate::reserved::is_reserved;
@@ -53,7 +53,7 @@ pub(crate) enum Form {
 
 /// The form of a term by its first cell.
 fn form_of(top: &Cell) -> Form
-    ensures { result ≡ cell_form top.now }
+    ensures { result ≡ sentence_form_of_cell top.now }
 {
     match top {
         Cell::Functor(name, arity) => {

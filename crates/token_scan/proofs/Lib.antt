@@ -1,7 +1,7 @@
-pub mod Steps
-pub mod Capped
-pub mod Layouts
-pub mod QuotedItems
-pub mod Words
-pub mod Again
-mod Rows
+pub mod RunLemmas
+pub mod CappedNumberLemmas
+pub mod LayoutLemmas
+pub mod QuotedItemLemmas
+pub mod WordLemmas
+pub mod RescanLemmas
+mod WordRows

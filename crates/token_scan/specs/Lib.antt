@@ -1,3 +1,3 @@
-pub mod Parts
-pub mod Found
-pub mod Laws
+pub mod ScannedParts
+pub mod NextToken
+pub mod ScannerLaws

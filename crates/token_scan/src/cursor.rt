@@ -2,8 +2,8 @@
 ghost use Rattle.std.specs.Prelude.{◌≡◌, ◌+◌, ◌-◌, ◌^◌, ◌≤◌, ◌∷◌, Some, min, slice_get, IsCharBoundary};
 ghost use Rattle.std.specs.Char.{len_utf8};
 ghost use Rattle.std.specs.Str.Parse.{digits_value};
-ghost use Rattle.au_model.specs.Characters.{behind_run, chars_from, first_is, first_passes, is_digit_of, run};
-ghost use Rattle.token_scan.specs.Parts.{passes, IsPlaceFrom};
+ghost use Rattle.au_model.specs.Syntax.Characters.{after_run, chars_from, first_is, first_passes, is_digit_of, run};
+ghost use Rattle.token_scan.specs.ScannedParts.{passes, IsPlaceFrom};
 
 use au_model::characters::{is_alphanumeric, is_symbol};
 
@@ -60,7 +60,7 @@ pub(crate) fn is_next(text: &str, at: usize, c: char) -> bool
 pub(crate) fn run_end(text: &str, at: usize, class: Class) -> usize
     requires { IsCharBoundary text.now at }
     ensures place { IsPlaceFrom text.now at result }
-    ensures rest { chars_from text.now result ≡ behind_run (passes class) (chars_from text.now at) }
+    ensures rest { chars_from text.now result ≡ after_run (passes class) (chars_from text.now at) }
 {
     let mut end = at;
     while let Some(c) = peek(text, end) {
@@ -78,7 +78,7 @@ pub(crate) fn digits(text: &str, at: usize, base: u32) -> (u64, usize)
     requires low { 2 ≤ base }
     requires high { base ≤ 36 }
     ensures place { IsPlaceFrom text.now at result.1 }
-    ensures rest { chars_from text.now result.1 ≡ behind_run (is_digit_of base) (chars_from text.now at) }
+    ensures rest { chars_from text.now result.1 ≡ after_run (is_digit_of base) (chars_from text.now at) }
     ensures number { result.0 ≡ min (digits_value base (run (is_digit_of base) (chars_from text.now at))) (2 ^ 64 - 1) }
 {
     let mut number: u64 = 0;

@@ -1,5 +1,5 @@
 //! Laws of tokens.
-ghost use Rattle.token_scan.specs.Laws.{LayoutIsLongest, PlacesAreTold, RunsAreLongest};
+ghost use Rattle.token_scan.specs.ScannerLaws.{LayoutIsLongest, PlacesAreUnique, RunsAreLongest};
 
 /// A run is all of its characters, and the next character is none of them.
 pub fn runs_are_longest()
@@ -13,5 +13,5 @@ pub fn layout_is_longest()
 
 /// So a token and a fault have one place each.
 pub fn places_are_told()
-    ensures { PlacesAreTold }
+    ensures { PlacesAreUnique }
 {}

@@ -1,8 +1,8 @@
 //! Numerals.
 ghost use Rattle.std.specs.Prelude.{◌≡◌, ◌^◌, ◌≤◌, IfSome, option_map, drop, IsCharBoundary};
-ghost use Rattle.au_model.specs.Characters.{chars_from};
-ghost use Rattle.au_model.specs.Numerals.{character_numeral, decimal_numeral, digits_numeral, named_base, numeral, zero_numeral};
-ghost use Rattle.token_scan.specs.Parts.{numeral_of, IsFrom, IsPlaceFrom};
+ghost use Rattle.au_model.specs.Syntax.Characters.{chars_from};
+ghost use Rattle.au_model.specs.Syntax.Numerals.{character_numeral, decimal_numeral, digits_numeral, named_base, numeral, zero_numeral};
+ghost use Rattle.token_scan.specs.ScannedParts.{numeral_of, IsNumberFrom, IsPlaceFrom};
 
 use crate::cursor::{digits, is_digit_next, is_next, peek, step};
 use crate::quotes::{Piece, escape};
@@ -26,7 +26,7 @@ fn digits_numeral(text: &str, at: usize, base: u32) -> Number
     requires low { 2 ≤ base }
     requires high { base ≤ 36 }
     ensures numeral { digits_numeral base (chars_from text.now at) ≡ numeral_of text.now result }
-    ensures place { IsFrom text.now at result }
+    ensures place { IsNumberFrom text.now at result }
 {
     let (number, end) = digits(text, at, base);
     if number > WIDEST {
@@ -40,7 +40,7 @@ fn digits_numeral(text: &str, at: usize, base: u32) -> Number
 fn decimal_numeral(text: &str, at: usize) -> Number
     requires { IsCharBoundary text.now at }
     ensures numeral { decimal_numeral (chars_from text.now at) ≡ numeral_of text.now result }
-    ensures place { IsFrom text.now at result }
+    ensures place { IsNumberFrom text.now at result }
 {
     let (number, end) = digits(text, at, 10);
     if is_next(text, end, '.') && is_digit_next(text, step(text, end, '.'), 10) {
@@ -80,7 +80,7 @@ fn named_base(text: &str, at: usize) -> Option<(u32, usize)>
 fn character_numeral(text: &str, at: usize) -> Option<Number>
     requires { IsCharBoundary text.now at }
     ensures numeral { character_numeral (chars_from text.now at) ≡ option_map (numeral_of text.now) result }
-    ensures place { IfSome result (λ n. IsFrom text.now at n) }
+    ensures place { IfSome result (λ n. IsNumberFrom text.now at n) }
 {
     let c = peek(text, at)?;
     let behind = step(text, at, c);
@@ -104,7 +104,7 @@ fn character_numeral(text: &str, at: usize) -> Option<Number>
 fn zero_numeral(text: &str, at: usize) -> Option<Number>
     requires { IsCharBoundary text.now at }
     ensures numeral { zero_numeral (chars_from text.now at) ≡ option_map (numeral_of text.now) result }
-    ensures place { IfSome result (λ n. IsFrom text.now at n) }
+    ensures place { IfSome result (λ n. IsNumberFrom text.now at n) }
 {
     if let Some((base, behind)) = named_base(text, at) {
         Some(digits_numeral(text, behind, base))
@@ -120,7 +120,7 @@ fn zero_numeral(text: &str, at: usize) -> Option<Number>
 pub(crate) fn numeral(text: &str, at: usize) -> Number
     requires { IsCharBoundary text.now at }
     ensures numeral { numeral (chars_from text.now at) ≡ numeral_of text.now result }
-    ensures place { IsFrom text.now at result }
+    ensures place { IsNumberFrom text.now at result }
 {
     if is_next(text, at, '0') {
         if let Some(number) = zero_numeral(text, step(text, at, '0')) {

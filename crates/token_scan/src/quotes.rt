@@ -1,11 +1,11 @@
 //! Quoted items and their escapes.
 ghost use Rattle.std.specs.Prelude.{◌≡◌, ◌≤◌, false, true, [], ◌∷◌, ◌++◌, IfOk, OnOk, IfErr, IsSome, MatchOption, Some, slice_get, string_bytes, chars, IsCharBoundary};
 ghost use lib.Utf8.{scalar};
-ghost use Rattle.au_model.specs.Characters.{chars_from};
-ghost use Rattle.au_model.specs.Quoted.{escape, named_escape, numbered_escape, part, quoted};
-ghost use Rattle.au_model.specs.Tokens.{quoted_word, QuotedWord};
-ghost use Rattle.token_scan.specs.Parts.{part_of, quoted_characters, quoted_rest, EndsBehind, IsPlaceFrom};
-ghost use Rattle.token_scan.specs.Found.{IsFault};
+ghost use Rattle.au_model.specs.Syntax.Characters.{chars_from};
+ghost use Rattle.au_model.specs.Syntax.Quoted.{escape, named_escape, numbered_escape, part, quoted};
+ghost use Rattle.au_model.specs.Syntax.Words.{quoted_word, QuotedWord};
+ghost use Rattle.token_scan.specs.ScannedParts.{quoted_part_of, quoted_characters, quoted_rest, EndsAfter, IsPlaceFrom};
+ghost use Rattle.token_scan.specs.NextToken.{IsTokenFault};
 
 use crate::cursor::{digits, is_digit_next, is_next, peek, step};
 use crate::token::BadToken;
@@ -57,8 +57,8 @@ fn numbered_escape(text: &str, at: usize, base: u32) -> Piece
     requires boundary { IsCharBoundary text.now at }
     requires low { 2 ≤ base }
     requires high { base ≤ 36 }
-    ensures part { numbered_escape base (chars_from text.now at) ≡ part_of text.now result }
-    ensures place { EndsBehind text.now at result }
+    ensures part { numbered_escape base (chars_from text.now at) ≡ quoted_part_of text.now result }
+    ensures place { EndsAfter text.now at result }
 {
     let has_digit = is_digit_next(text, at, base);
     let (number, end) = digits(text, at, base);
@@ -75,8 +75,8 @@ fn numbered_escape(text: &str, at: usize, base: u32) -> Piece
 /// The escape behind a backslash.
 pub(crate) fn escape(text: &str, at: usize) -> Piece
     requires { IsCharBoundary text.now at }
-    ensures part { escape (chars_from text.now at) ≡ part_of text.now result }
-    ensures place { EndsBehind text.now at result }
+    ensures part { escape (chars_from text.now at) ≡ quoted_part_of text.now result }
+    ensures place { EndsAfter text.now at result }
 {
     let Some(c) = peek(text, at) else {
         return Piece::Cut;
@@ -96,8 +96,8 @@ pub(crate) fn escape(text: &str, at: usize) -> Piece
 /// The part at a place behind the opening quote.
 pub(crate) fn part(text: &str, at: usize, quote: char) -> Piece
     requires { IsCharBoundary text.now at }
-    ensures part { part quote (chars_from text.now at) ≡ part_of text.now result }
-    ensures place { EndsBehind text.now at result }
+    ensures part { part quote (chars_from text.now at) ≡ quoted_part_of text.now result }
+    ensures place { EndsAfter text.now at result }
 {
     let Some(c) = peek(text, at) else {
         return Piece::Cut;
@@ -129,7 +129,7 @@ pub(crate) fn quoted_end(
     requires boundary { IsPlaceFrom text.now quote_at at }
     ensures ok { IfOk result (λ end. quoted_rest (quoted quote (chars_from text.now at)) ≡ Some (chars_from text.now end)) }
     ensures place { IfOk result (λ end. IsPlaceFrom text.now at end) }
-    ensures err { IfErr result (λ e. IsFault (quoted_word QuotedWord (chars_from text.now quote_at) (quoted quote (chars_from text.now at))) text.now quote_at e) }
+    ensures err { IfErr result (λ e. IsTokenFault (quoted_word QuotedWord (chars_from text.now quote_at) (quoted quote (chars_from text.now at))) text.now quote_at e) }
 {
     let mut here = at;
     'parts: loop {

@@ -1,10 +1,10 @@
 //! The next token.
 ghost use Rattle.std.specs.Prelude.{◌≡◌, IfOk, IfErr, Some, IsCharBoundary};
-ghost use Rattle.au_model.specs.Characters.{chars_from};
-ghost use Rattle.au_model.specs.Tokens.{ends_term, next_word, numeral_word, word_at_front};
-ghost use Rattle.au_model.specs.Numerals.{numeral};
-ghost use Rattle.token_scan.specs.Found.{kind_found, IsFault, IsNextToken};
-ghost use Rattle.token_scan.specs.Parts.{IsPlaceFrom};
+ghost use Rattle.au_model.specs.Syntax.Characters.{chars_from};
+ghost use Rattle.au_model.specs.Syntax.Words.{ends_term, next_word, numeral_word, word_at_front};
+ghost use Rattle.au_model.specs.Syntax.Numerals.{numeral};
+ghost use Rattle.token_scan.specs.NextToken.{kind_found, IsTokenFault, IsNextToken};
+ghost use Rattle.token_scan.specs.ScannedParts.{IsPlaceFrom};
 
 use crate::cursor::{Class, peek, run_end, step};
 use crate::layout::skip_layout;
@@ -30,7 +30,7 @@ fn integer_word(text: &str, at: usize) -> Result<usize, BadToken>
     requires { IsCharBoundary text.now at }
     ensures ok { IfOk result (λ end. kind_found (numeral_word (chars_from text.now at) (numeral (chars_from text.now at))) ≡ Some (TokenKind.Integer, chars_from text.now end)) }
     ensures place { IfOk result (λ end. IsPlaceFrom text.now at end) }
-    ensures err { IfErr result (λ e. IsFault (numeral_word (chars_from text.now at) (numeral (chars_from text.now at))) text.now at e) }
+    ensures err { IfErr result (λ e. IsTokenFault (numeral_word (chars_from text.now at) (numeral (chars_from text.now at))) text.now at e) }
 {
     let (place, kind) = match numeral(text, at) {
         Number::Fits(_, end) => return Ok(end),
@@ -46,7 +46,7 @@ fn word(text: &str, at: usize) -> Result<(TokenKind, usize), BadToken>
     requires { IsCharBoundary text.now at }
     ensures ok { IfOk result (λ r. kind_found (word_at_front (chars_from text.now at)) ≡ Some (r.0, chars_from text.now r.1)) }
     ensures place { IfOk result (λ r. IsPlaceFrom text.now at r.1) }
-    ensures err { IfErr result (λ e. IsFault (word_at_front (chars_from text.now at)) text.now at e) }
+    ensures err { IfErr result (λ e. IsTokenFault (word_at_front (chars_from text.now at)) text.now at e) }
 {
     let Some(c) = peek(text, at) else {
         return Ok((TokenKind::EndOfText, at));
@@ -85,7 +85,7 @@ fn word(text: &str, at: usize) -> Result<(TokenKind, usize), BadToken>
 pub fn next_token(text: &str, at: usize) -> Result<Token, BadToken>
     requires { IsCharBoundary text.now at }
     ensures token { IfOk result (λ t. IsNextToken text.now at t) }
-    ensures fault { IfErr result (λ e. IsFault (next_word (chars_from text.now at)) text.now at e) }
+    ensures fault { IfErr result (λ e. IsTokenFault (next_word (chars_from text.now at)) text.now at e) }
 {
     match skip_layout(text, at) {
         Ok(start) => {

@@ -1,6 +1,6 @@
 //! Tokens by ISO/IEC 13211-1, 6.4, narrowed to Aurora's language.
 ghost use Rattle.std.specs.Prelude.{IfOk};
-ghost use Rattle.token_scan.specs.Found.{IsToken};
+ghost use Rattle.token_scan.specs.NextToken.{IsToken};
 
 use crate::{BadToken, Token, TokenKind, integer, next_token, spelling, value};
 use au_model::FaultKind;

@@ -1,6 +1,6 @@
 use Rattle.std.proofs.Common.{◌≡◌, ◌++◌, ◌+◌, ◌≤◌, length, take, ap, ◌∙◌, sym, subst, arith, vec_len, length-drop}
 use Rattle.std.specs.Io.KnownBytes.{Consumes}
-use Rattle.au_io.proofs.Pieces.{own_part, read_in, front_is, part_is, rest_from}
+use Rattle.au_io.proofs.PieceLemmas.{own_part, read_in, front_is, part_is, rest_from}
 use Rattle.au_io.proofs.files.read_piece.Given as given
 use Rattle.au_io.proofs.files.read_piece.Goals as goal
 use Rattle.au_io.proofs.files.read_piece.Goals.{After-truncate}

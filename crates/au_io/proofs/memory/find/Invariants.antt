@@ -1,5 +1,5 @@
 use Rattle.std.proofs.Common.{◌≡◌, drop}
-use Rattle.au_io.specs.Memory.{file_of}
+use Rattle.au_io.specs.MemoryFiles.{file_of}
 use Rattle.au_io.proofs.memory.find.Given as goal
 
 abbrev pub invariant-loop-file : goal.invariant-loop-file

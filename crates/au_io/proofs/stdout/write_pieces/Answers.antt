@@ -1,5 +1,5 @@
 use Rattle.std.proofs.Common.{◌≡◌, ◌++◌, take, drop, ap, ◌∙◌, sym}
-use Rattle.au_io.proofs.Pieces.{Appends-then, Appends-keep, rest_from, front, split_more, on_err_always}
+use Rattle.au_io.proofs.PieceLemmas.{Appends-then, Appends-keep, rest_from, front, split_more, on_err_always}
 use Rattle.au_io.proofs.stdout.write_pieces.Goals as goal
 use Rattle.au_io.proofs.stdout.write_pieces.Goals.{in-Ok, in-Err+else-ne}
 

@@ -1,7 +1,7 @@
 use Rattle.std.proofs.Common.{◌≡◌, ◌++◌, map, drop}
 use Rattle.au_term.specs.Term.{Compound}
-use Rattle.au_term.specs.Prefix.{cells_of, all_cells}
-use Rattle.au_model.specs.Lists.{terms_from}
+use Rattle.au_term.specs.PrefixOrder.{cells_of, all_cells}
+use Rattle.au_model.specs.Terms.Lists.{terms_from}
 use Rattle.au_model.proofs.build.compound.Given as goal
 
 abbrev pub invariant-loop-argument : goal.invariant-loop-argument

@@ -2,7 +2,7 @@ use Rattle.std.proofs.Common.{nat_eq, ap, ◌∙◌}
 use Rattle.std.proofs.lemmas.Str.{chars-IsAscii, IsUtf8-from_ascii}
 use Rattle.std.specs.Cmp.Lexicographic.{pointwise}
 use Rattle.std.specs.Str.{chars}
-use Rattle.au_term.proofs.Texts.{by_chars}
+use Rattle.au_term.proofs.TextLemmas.{by_chars}
 use Rattle.au_term.proofs.atom.is_text.Goals as goal
 
 pub returns : goal.returns

@@ -1,7 +1,7 @@
 use Rattle.std.proofs.Common.{◌≡◌, ◌+◌, ◌-◌, ◌<◌, length, drop, arith}
-use Rattle.au_term.specs.Prefix.{terms_of}
-use Rattle.au_term.specs.Sizes.{HasSizes}
-use Rattle.au_term.proofs.Fills.{has_next, fills}
+use Rattle.au_term.specs.PrefixOrder.{terms_of}
+use Rattle.au_term.specs.SubtermSizes.{HasSizes}
+use Rattle.au_term.proofs.SizeFillLemmas.{has_next, fills}
 use Rattle.au_term.proofs.sizes.fill_sizes.Goals as goal
 use Rattle.au_term.proofs.sizes.fill_sizes.Goals.{After-arity}
 

@@ -1,6 +1,6 @@
 use Rattle.std.proofs.Common.{◌≡◌, ◌≤◌, length, drop}
-use Rattle.au_term.specs.Prefix.{terms_of}
-use Rattle.au_term.specs.Sizes.{all_sizes}
+use Rattle.au_term.specs.PrefixOrder.{terms_of}
+use Rattle.au_term.specs.SubtermSizes.{all_sizes}
 use Rattle.au_term.proofs.sizes.fill_sizes.Given as goal
 
 abbrev pub invariant-loop-at : goal.invariant-loop-at

@@ -1,5 +1,5 @@
 use Rattle.std.proofs.Common.{◌<◌, ◌≤◌, ◌+◌, length, get_or, refl, rules}
-use Rattle.au_term.proofs.Measures.{Passes, passes}
+use Rattle.au_term.proofs.SubtermSizeLemmas.{Passes, passes}
 use Rattle.au_term.proofs.sizes.skip_terms.Goals as goal
 use Rattle.au_term.proofs.sizes.skip_terms.Goals.{In-loop-passed}
 

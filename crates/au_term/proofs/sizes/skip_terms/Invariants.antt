@@ -1,6 +1,6 @@
 use Rattle.std.proofs.Common.{◌≡◌, ◌+◌, length}
-use Rattle.au_term.specs.Prefix.{all_cells}
-use Rattle.au_term.specs.Sizes.{HasSizes}
+use Rattle.au_term.specs.PrefixOrder.{all_cells}
+use Rattle.au_term.specs.SubtermSizes.{HasSizes}
 use Rattle.au_term.specs.Term.{Terms, take_terms}
 use Rattle.au_term.proofs.sizes.skip_terms.Given as goal
 

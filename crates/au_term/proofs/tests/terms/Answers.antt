@@ -1,6 +1,6 @@
 use Rattle.std.proofs.Common.{◌≡◌, ◌<◌, sym, ap, subst, arith}
-use Rattle.au_term.specs.Prefix.{due_after, AreDue}
-use Rattle.au_term.proofs.Whole.{cells_are_due}
+use Rattle.au_term.specs.PrefixOrder.{due_after, AreDue}
+use Rattle.au_term.proofs.WholeTermLemmas.{cells_are_due}
 use Rattle.au_term.proofs.tests.terms.Goals as goal
 
 pub push_all-requires-clause-due : goal.push_all-requires-clause-due

@@ -1,7 +1,7 @@
 use Rattle.std.proofs.Common.{sym, subst}
-use Rattle.aurora_cli.specs.Loading.{IsTextFault}
-use Rattle.text_load.specs.Meant.{job_meant}
-use Rattle.aurora_cli.proofs.Refusing.{stands_for, refused_text}
+use Rattle.aurora_cli.specs.LoadFaults.{IsTextFault}
+use Rattle.text_load.specs.JobView.{job_meant}
+use Rattle.aurora_cli.proofs.RefusalLemmas.{stands_for, refused_text}
 use Rattle.aurora_cli.proofs.job.job_of.Goals as goal
 
 pub returns-in-Ok-load-clause-ok : goal.returns-in-Ok-load-clause-ok

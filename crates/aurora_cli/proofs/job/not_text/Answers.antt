@@ -1,4 +1,4 @@
-use Rattle.aurora_cli.proofs.Refusing.{no_text_at}
+use Rattle.aurora_cli.proofs.RefusalLemmas.{no_text_at}
 use Rattle.aurora_cli.proofs.job.not_text.Goals as goal
 
 pub returns : goal.returns

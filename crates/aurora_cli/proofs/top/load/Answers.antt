@@ -1,4 +1,4 @@
-use Rattle.aurora_cli.proofs.Obeying.{load_fault, loaded_job}
+use Rattle.aurora_cli.proofs.EndingLemmas.{load_fault, loaded_job}
 use Rattle.aurora_cli.proofs.top.load.Goals as goal
 
 pub returns-in-Ok-clause-job : goal.returns-in-Ok-clause-job

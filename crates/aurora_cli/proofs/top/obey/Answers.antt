@@ -1,4 +1,4 @@
-use Rattle.aurora_cli.proofs.Obeying.{ran, complete_run, complete_fault}
+use Rattle.aurora_cli.proofs.EndingLemmas.{ran, complete_run, complete_fault}
 use Rattle.aurora_cli.proofs.top.obey.Goals as goal
 
 pub returns-in-Ok-clause-run : goal.returns-in-Ok-clause-run

@@ -1,5 +1,5 @@
 use Rattle.std.proofs.Common.{arith}
-use Rattle.aurora_cli.proofs.Budgets.{no_budget, not_parsed}
+use Rattle.aurora_cli.proofs.BudgetLemmas.{no_budget, not_parsed}
 use Rattle.aurora_cli.proofs.words.budget_of.Goals as goal
 use Rattle.aurora_cli.proofs.words.budget_of.Goals.{then-word-gt10-via-then-word-gt10, then-word-gt10-via-else-word-gt10+then-not-is_digits}
 

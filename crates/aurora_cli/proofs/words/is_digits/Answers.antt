@@ -1,6 +1,6 @@
 use Rattle.std.proofs.Common.{◌≡◌, ℕ, List, true, false, suc, ◌+◌, take, sym, subst, arith}
 use Rattle.std.specs.Str.{all_ascii_digits}
-use Rattle.aurora_cli.proofs.Budgets.{not_all, one_more}
+use Rattle.aurora_cli.proofs.BudgetLemmas.{not_all, one_more}
 use Rattle.aurora_cli.proofs.words.is_digits.Goals as goal
 
 pub returns-then-not-is_ascii_digit : goal.returns-then-not-is_ascii_digit

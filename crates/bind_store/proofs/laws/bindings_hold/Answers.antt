@@ -1,4 +1,4 @@
-use Rattle.bind_store.proofs.Holding.{in_turn, new_is_unbound, resolved_stays, bound_once}
+use Rattle.bind_store.proofs.BindingLemmas.{in_turn, new_is_unbound, resolved_stays, bound_once}
 use Rattle.bind_store.proofs.laws.bindings_hold.Goals as goal
 
 pub returns : goal.returns

@@ -1,5 +1,5 @@
 use Rattle.std.proofs.Common.{refl}
-use Rattle.bind_store.specs.Resolving.{put_on_top}
+use Rattle.bind_store.specs.ResolvedCells.{put_on_top}
 use Rattle.bind_store.proofs.resolved.put.Goals as goal
 
 pub returns-in_ok-push-in-Some : goal.returns-in_ok-push-in-Some

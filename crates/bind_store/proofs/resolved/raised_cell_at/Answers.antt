@@ -1,7 +1,7 @@
 use Rattle.std.proofs.Common.{◌+◌, ◌∷◌, drop, ◌∙◌, ap, sym, arith}
-use Rattle.au_term.proofs.Bounds.{AreSound-at}
-use Rattle.bind_store.specs.Raised.{raised_cells}
-use Rattle.bind_store.proofs.Resolving.{raised_at, none_at}
+use Rattle.au_term.proofs.VariableBoundLemmas.{AreSound-at}
+use Rattle.bind_store.specs.ShiftedCells.{shifted_cells}
+use Rattle.bind_store.proofs.ResolvingLemmas.{raised_at, none_at}
 use Rattle.bind_store.proofs.resolved.raised_cell_at.Goals as goal
 
 pub returns-then-at-cells : goal.returns-then-at-cells
@@ -15,5 +15,5 @@ returns c = (
   c.in_ok-raised_cell.ensures.sound,
   omega arith,
   raised_at c.args.base c.args.cells.now c.args.at c.index-cells-at.result c.if-at-cells.false c.index-cells-at.is
-      ∙ ap (λ d. d ∷ drop (c.args.at + 1) (raised_cells c.args.base c.args.cells.now)) (sym c.in_ok-raised_cell.ensures.cell),
+      ∙ ap (λ d. d ∷ drop (c.args.at + 1) (shifted_cells c.args.base c.args.cells.now)) (sym c.in_ok-raised_cell.ensures.cell),
 )

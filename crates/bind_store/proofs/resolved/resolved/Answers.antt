@@ -1,8 +1,8 @@
 use Rattle.std.proofs.Common.{◌++◌, ◌∷◌, [], reverse, ap, ◌∙◌, sym, subst, arith}
 use Rattle.std.proofs.lemmas.List.{nil_from_length}
-use Rattle.bind_store.specs.Resolving.{term_piece}
-use Rattle.bind_store.proofs.Rebuilding.{none_due, same_term}
-use Rattle.bind_store.proofs.Resolving.{Resolving, begins, leaves_whole, ends, reverse-push}
+use Rattle.bind_store.specs.ResolvedCells.{term_piece}
+use Rattle.bind_store.proofs.RebuiltTermLemmas.{none_due, same_term}
+use Rattle.bind_store.proofs.ResolvingLemmas.{Resolving, begins, leaves_whole, ends, reverse-push}
 use Rattle.bind_store.proofs.resolved.resolved.Goals as goal
 
 pub loop-piece-init : goal.loop-piece-init

@@ -1,7 +1,7 @@
 use Rattle.std.proofs.Common.{subst}
 use Rattle.std.specs.Prelude.{IfOk}
-use Rattle.bind_store.specs.Unifying.{IsSolved}
-use Rattle.bind_store.proofs.Storing.{first_stands, first_equations}
+use Rattle.bind_store.specs.UnificationSteps.{IsSolved}
+use Rattle.bind_store.proofs.StoreLemmas.{first_stands, first_equations}
 use Rattle.bind_store.proofs.store.unify_terms.Goals as goal
 
 pub extend-requires : goal.extend-requires

@@ -1,7 +1,7 @@
 use Rattle.std.proofs.Common.{◌∙◌, ap}
 use Rattle.std.specs.List.{list_any}
-use Rattle.bind_store.specs.Cells.{is_variable}
-use Rattle.bind_store.proofs.Questions.{any-cells_of}
+use Rattle.bind_store.specs.CellTests.{is_variable}
+use Rattle.bind_store.proofs.CellTestLemmas.{any-cells_of}
 use Rattle.bind_store.proofs.terms.occurs.Goals as goal
 
 pub returns : goal.returns

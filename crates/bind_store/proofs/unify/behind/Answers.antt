@@ -1,7 +1,7 @@
 use Rattle.std.proofs.Common.{◌≡◌, ◌++◌, drop, refl, subst}
-use Rattle.au_term.specs.Prefix.{cells_of, subterm}
+use Rattle.au_term.specs.PrefixOrder.{cells_of, subterm}
 use Rattle.bind_store.specs.Sides.{pair_of}
-use Rattle.bind_store.proofs.Placing.{behind_is}
+use Rattle.bind_store.proofs.PlaceLemmas.{behind_is}
 use Rattle.bind_store.proofs.unify.behind.Goals as goal
 
 pub returns : goal.returns

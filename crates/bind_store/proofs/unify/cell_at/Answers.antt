@@ -1,9 +1,9 @@
 use Rattle.std.proofs.Common.{◌<◌, ◌∙◌, ap, sym, subst, length, get_or}
-use Rattle.au_term.specs.Prefix.{cells_of}
-use Rattle.au_term.proofs.Bounds.{AreSound-at}
+use Rattle.au_term.specs.PrefixOrder.{cells_of}
+use Rattle.au_term.proofs.VariableBoundLemmas.{AreSound-at}
 use Rattle.bind_store.specs.Sides.{pair_of}
-use Rattle.bind_store.specs.Unifying.{base_at, whole_at}
-use Rattle.bind_store.proofs.Placing.{top_of-place, stand_within}
+use Rattle.bind_store.specs.UnificationSteps.{base_at, whole_at}
+use Rattle.bind_store.proofs.PlaceLemmas.{top_of-place, stand_within}
 use Rattle.bind_store.proofs.unify.cell_at.Goals as goal
 
 pub returns-clause-top : goal.returns-clause-top

@@ -1,9 +1,9 @@
 use Rattle.std.proofs.Common.{◌++◌, ◌∷◌, [], reverse, refl, sym, ap, ◌∙◌, subst, arith}
 use Rattle.std.proofs.lemmas.List.{nil_from_length}
 use Rattle.bind_store.specs.Sides.{pair_of}
-use Rattle.bind_store.specs.Unifying.{Goes, pending_equations, both_resolved, equations_at}
-use Rattle.bind_store.proofs.Resolving.{reverse-push}
-use Rattle.bind_store.proofs.Unifying.{begun, follows, clashed, ended}
+use Rattle.bind_store.specs.UnificationSteps.{TakesRule, pending_equations, both_resolved, equations_at}
+use Rattle.bind_store.proofs.ResolvingLemmas.{reverse-push}
+use Rattle.bind_store.proofs.UnificationLemmas.{begun, follows, clashed, ended}
 use Rattle.bind_store.proofs.unify.extend.Goals as goal
 
 pub loop-equation-init : goal.loop-equation-init
@@ -19,7 +19,7 @@ loop-equation-smaller c =
     let popped = ap reverse c.in-Some.ensures.items ∙ reverse-push c.pop.new.self.items c.in-Some.equation in
     let first = c.in_ok-push_rest.ensures.rest ∙ ap (pending_equations p bs) (sym popped) in
     (follows (both_resolved before (equations_at p before c.args.first)) p before bs (reverse c.loop-equation.pending.items) (reverse c.push_rest.new.pending.items) c.in-Some.equation c.loop-equation.invariant first c.in_ok-push_rest.ensures.stand c.first_goes.new.bindings c.push_rest.new.pending.items c.first_goes.new.pending.items refl
-    (subst (Goes p c.in-Some.equation bs c.first_goes.new.bindings c.push_rest.new.pending.items c.first_goes.new.pending.items) c.if-not-branch.false c.in_ok-first_goes.ensures.goes)).less
+    (subst (TakesRule p c.in-Some.equation bs c.first_goes.new.bindings c.push_rest.new.pending.items c.first_goes.new.pending.items) c.if-not-branch.false c.in_ok-first_goes.ensures.goes)).less
 
 pub loop-equation-preserved : goal.loop-equation-preserved
 loop-equation-preserved c =
@@ -29,7 +29,7 @@ loop-equation-preserved c =
     let popped = ap reverse c.in-Some.ensures.items ∙ reverse-push c.pop.new.self.items c.in-Some.equation in
     let first = c.in_ok-push_rest.ensures.rest ∙ ap (pending_equations p bs) (sym popped) in
     (follows (both_resolved before (equations_at p before c.args.first)) p before bs (reverse c.loop-equation.pending.items) (reverse c.push_rest.new.pending.items) c.in-Some.equation c.loop-equation.invariant first c.in_ok-push_rest.ensures.stand c.first_goes.new.bindings c.push_rest.new.pending.items c.first_goes.new.pending.items refl
-    (subst (Goes p c.in-Some.equation bs c.first_goes.new.bindings c.push_rest.new.pending.items c.first_goes.new.pending.items) c.if-not-branch.false c.in_ok-first_goes.ensures.goes)).unifying
+    (subst (TakesRule p c.in-Some.equation bs c.first_goes.new.bindings c.push_rest.new.pending.items c.first_goes.new.pending.items) c.if-not-branch.false c.in_ok-first_goes.ensures.goes)).unifying
 
 pub returns-then-not-branch-clause-solved : goal.returns-then-not-branch-clause-solved
 returns-then-not-branch-clause-solved c =
@@ -39,7 +39,7 @@ returns-then-not-branch-clause-solved c =
     let popped = ap reverse c.in-Some.ensures.items ∙ reverse-push c.pop.new.self.items c.in-Some.equation in
     let first = c.in_ok-push_rest.ensures.rest ∙ ap (pending_equations p bs) (sym popped) in
     clashed (both_resolved before (equations_at p before c.args.first)) p before bs (reverse c.loop-equation.pending.items) (reverse c.push_rest.new.pending.items) c.in-Some.equation c.loop-equation.invariant first c.in_ok-push_rest.ensures.stand
-    (subst (Goes p c.in-Some.equation bs c.first_goes.new.bindings c.push_rest.new.pending.items c.first_goes.new.pending.items) c.if-not-branch.true c.in_ok-first_goes.ensures.goes).0
+    (subst (TakesRule p c.in-Some.equation bs c.first_goes.new.bindings c.push_rest.new.pending.items c.first_goes.new.pending.items) c.if-not-branch.true c.in_ok-first_goes.ensures.goes).0
 
 pub returns-clause-solved : goal.returns-clause-solved
 returns-clause-solved c =

@@ -1,7 +1,7 @@
 use Rattle.std.proofs.Common.{reverse}
 use Rattle.bind_store.specs.Sides.{pair_of}
-use Rattle.bind_store.specs.Unifying.{both_resolved, equations_at}
-use Rattle.bind_store.proofs.Unifying.{Unifying, left_work}
+use Rattle.bind_store.specs.UnificationSteps.{both_resolved, equations_at}
+use Rattle.bind_store.proofs.UnificationLemmas.{Unifying, left_work}
 use Rattle.bind_store.proofs.unify.extend.Given as goal
 
 abbrev pub invariant-loop-equation : goal.invariant-loop-equation

@@ -1,12 +1,12 @@
 use Rattle.std.proofs.Common.{◌∷◌, [], ◌++◌, ◌∙◌, ap, sym, subst, refl}
 use Rattle.std.proofs.lemmas.Result.{IfOk-weaker}
-use Rattle.au_model.specs.Substitutions.{resolve}
+use Rattle.au_model.specs.Terms.Substitutions.{resolve}
 use Rattle.bind_store.specs.Bindings.{composed}
 use Rattle.bind_store.specs.Sides.{pair_of}
-use Rattle.bind_store.specs.Unifying.{place_term, step_rule, after_drop, HasArguments}
-use Rattle.bind_store.proofs.Steps.{reached_rule, binding_goes}
-use Rattle.bind_store.specs.Unifying.{IsBound}
-use Rattle.bind_store.proofs.Opening.{opening_goes, opened_as}
+use Rattle.bind_store.specs.UnificationSteps.{place_term, step_rule, after_drop, HasArguments}
+use Rattle.bind_store.proofs.EquationStepLemmas.{reached_rule, binding_goes}
+use Rattle.bind_store.specs.UnificationSteps.{IsBound}
+use Rattle.bind_store.proofs.DecompositionLemmas.{opening_goes, opened_as}
 use Rattle.bind_store.proofs.unify.first_goes.Goals as goal
 
 pub returns-in-Drops-clause-goes : goal.returns-in-Drops-clause-goes

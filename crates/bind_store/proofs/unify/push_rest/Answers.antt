@@ -1,6 +1,6 @@
 use Rattle.std.proofs.Common.{◌-◌, refl, arith}
 use Rattle.bind_store.specs.Sides.{pair_of}
-use Rattle.bind_store.proofs.Placing.{rest_pending}
+use Rattle.bind_store.proofs.PlaceLemmas.{rest_pending}
 use Rattle.bind_store.proofs.unify.push_rest.Goals as goal
 
 pub returns-in_ok-push-clause-rest : goal.returns-in_ok-push-clause-rest

@@ -1,8 +1,8 @@
 use Rattle.std.proofs.Common.{refl, subst}
-use Rattle.au_term.specs.Prefix.{top_of}
+use Rattle.au_term.specs.PrefixOrder.{top_of}
 use Rattle.bind_store.specs.Sides.{pair_of}
-use Rattle.bind_store.specs.Unifying.{place_term, IsBindingOf}
-use Rattle.bind_store.proofs.Reaching.{followed}
+use Rattle.bind_store.specs.UnificationSteps.{place_term, IsBindingOf}
+use Rattle.bind_store.proofs.DereferencedTermLemmas.{followed}
 use Rattle.bind_store.proofs.unify.reached.Goals as goal
 
 pub loop-binding-smaller : goal.loop-binding-smaller

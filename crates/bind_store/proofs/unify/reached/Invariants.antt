@@ -1,8 +1,8 @@
-use Rattle.au_term.specs.Prefix.{cells_of}
-use Rattle.bind_store.specs.Resolving.{cells_weight, weight_of}
+use Rattle.au_term.specs.PrefixOrder.{cells_of}
+use Rattle.bind_store.specs.ResolvedCells.{cells_weight, weight_of}
 use Rattle.bind_store.specs.Sides.{pair_of}
-use Rattle.bind_store.specs.Unifying.{place_term}
-use Rattle.bind_store.proofs.Reaching.{Reaching}
+use Rattle.bind_store.specs.UnificationSteps.{place_term}
+use Rattle.bind_store.proofs.DereferencedTermLemmas.{Reaching}
 use Rattle.bind_store.proofs.unify.reached.Given as goal
 
 abbrev pub invariant-loop-binding : goal.invariant-loop-binding

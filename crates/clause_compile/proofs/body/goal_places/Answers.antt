@@ -1,5 +1,5 @@
 use Rattle.std.proofs.Common.{sym, subst}
-use Rattle.clause_compile.proofs.Passing.{Placing, starts}
+use Rattle.clause_compile.proofs.GoalPlaceLemmas.{Placing, starts}
 use Rattle.clause_compile.proofs.body.goal_places.Goals as goal
 
 pub loop-at-init : goal.loop-at-init

@@ -1,6 +1,6 @@
 use Rattle.std.proofs.Common.{◌-◌, length}
-use Rattle.au_term.specs.Prefix.{cells_of}
-use Rattle.clause_compile.proofs.Passing.{Placing}
+use Rattle.au_term.specs.PrefixOrder.{cells_of}
+use Rattle.clause_compile.proofs.GoalPlaceLemmas.{Placing}
 use Rattle.clause_compile.proofs.body.goal_places.Given as goal
 
 abbrev pub invariant-loop-at : goal.invariant-loop-at

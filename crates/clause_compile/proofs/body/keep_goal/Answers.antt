@@ -1,9 +1,9 @@
 use Rattle.std.proofs.Common.{◌∷◌, [], ◌++◌, ◌∙◌, ap, sym, subst, arith, get_or}
 use Rattle.au_term.specs.Term.{count}
-use Rattle.au_term.specs.Prefix.{subterm, due_after, AreDue}
-use Rattle.au_term.proofs.Whole.{first_cell, cells_are_due}
-use Rattle.clause_compile.specs.Cells.{opens_junction}
-use Rattle.clause_compile.proofs.Keeping.{stands_first, junction_sides, keeps_junction, keeps_goal, own_body, variable_body}
+use Rattle.au_term.specs.PrefixOrder.{subterm, due_after, AreDue}
+use Rattle.au_term.proofs.WholeTermLemmas.{first_cell, cells_are_due}
+use Rattle.clause_compile.specs.BodyCells.{opens_junction}
+use Rattle.clause_compile.proofs.NormalBodyLemmas.{stands_first, junction_sides, keeps_junction, keeps_goal, own_body, variable_body}
 use Rattle.clause_compile.proofs.body.keep_goal.Goals as goal
 
 pub returns-then-is_junction_cell : goal.returns-then-is_junction_cell

@@ -1,5 +1,5 @@
 use Rattle.std.proofs.Common.{◌≤◌, length, sym, subst}
-use Rattle.clause_compile.proofs.Keeping.{Keeping, starts, ends}
+use Rattle.clause_compile.proofs.NormalBodyLemmas.{Keeping, starts, ends}
 use Rattle.clause_compile.proofs.body.kept_body.Goals as goal
 
 pub loop-at-init : goal.loop-at-init

@@ -1,6 +1,6 @@
 use Rattle.std.proofs.Common.{◌-◌, length}
-use Rattle.au_term.specs.Prefix.{cells_of}
-use Rattle.clause_compile.proofs.Keeping.{Keeping}
+use Rattle.au_term.specs.PrefixOrder.{cells_of}
+use Rattle.clause_compile.proofs.NormalBodyLemmas.{Keeping}
 use Rattle.clause_compile.proofs.body.kept_body.Given as goal
 
 abbrev pub invariant-loop-at : goal.invariant-loop-at

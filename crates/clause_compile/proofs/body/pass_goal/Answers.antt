@@ -1,8 +1,8 @@
 use Rattle.std.proofs.Common.{◌∙◌, ap, sym, get_or}
-use Rattle.au_term.specs.Prefix.{subterm}
-use Rattle.au_term.proofs.Whole.{first_cell}
-use Rattle.clause_compile.specs.Cells.{opens_conjunction}
-use Rattle.clause_compile.proofs.Passing.{conjunction_sides, passes_conjunction, passes_goal}
+use Rattle.au_term.specs.PrefixOrder.{subterm}
+use Rattle.au_term.proofs.WholeTermLemmas.{first_cell}
+use Rattle.clause_compile.specs.BodyCells.{opens_conjunction}
+use Rattle.clause_compile.proofs.GoalPlaceLemmas.{conjunction_sides, passes_conjunction, passes_goal}
 use Rattle.clause_compile.proofs.body.pass_goal.Goals as goal
 
 pub returns-then-is_conjunction_cell : goal.returns-then-is_conjunction_cell

@@ -1,7 +1,7 @@
 use Rattle.std.proofs.Common.{[], ◌∷◌, ap, ◌∙◌, arith}
-use Rattle.au_term.specs.Prefix.{due_after}
+use Rattle.au_term.specs.PrefixOrder.{due_after}
 use Rattle.au_term.specs.declared.cell.Cell.TheVariants.{Functor}
-use Rattle.au_term.proofs.Whole.{due_after-append}
+use Rattle.au_term.proofs.WholeTermLemmas.{due_after-append}
 use Rattle.clause_compile.proofs.body.push_call.Goals as goal
 
 pub push-requires-2-clause-due : goal.push-requires-2-clause-due

@@ -1,6 +1,6 @@
 use Rattle.std.proofs.Common.{◌≡◌, ◌≤◌, length}
 use Rattle.std.specs.Arc.{arc_value}
-use Rattle.clause_compile.proofs.Compiled.{goals_from}
+use Rattle.clause_compile.proofs.CompiledClauseLemmas.{goals_from}
 use Rattle.clause_compile.proofs.clause.goals_before.Given as goal
 
 abbrev pub invariant-loop-left : goal.invariant-loop-left

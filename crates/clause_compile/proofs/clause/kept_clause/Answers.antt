@@ -1,7 +1,7 @@
 use Rattle.std.proofs.Common.{◌≡◌, ◌∙◌}
 use Rattle.au_term.specs.Term.{Term}
-use Rattle.au_model.specs.Clauses.{Clause as ClauseTerms}
-use Rattle.clause_compile.proofs.Renumbering.{is_kept, kept_at, head_is, body_is}
+use Rattle.run_model.specs.Programs.Clauses.{Clause as ClauseTerms}
+use Rattle.clause_compile.proofs.RenumberingLemmas.{is_kept, kept_at, head_is, body_is}
 use Rattle.clause_compile.proofs.clause.kept_clause.Goals as goal
 
 same_clause : {a b c d : Term} → a ≡ b → c ≡ d → ◌≡◌ {A = ClauseTerms} (record { head = a; body = c }) (record { head = b; body = d })

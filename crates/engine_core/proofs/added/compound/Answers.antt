@@ -1,10 +1,10 @@
 use Rattle.std.proofs.Common.{◌≡◌, ◌+◌, ◌++◌, ◌∷◌, [], drop, length, ap, sym, ◌∙◌, subst, arith}
 use Rattle.std.proofs.lemmas.List.{drop_more, drop_all}
 use Rattle.au_term.specs.Term.{Compound}
-use Rattle.au_term.specs.Prefix.{cells_of, all_cells, AreDue, due_after}
+use Rattle.au_term.specs.PrefixOrder.{cells_of, all_cells, AreDue, due_after}
 use Rattle.au_term.specs.declared.cell.Cell.TheVariants.{Functor}
-use Rattle.au_model.specs.Lists.{terms_from}
-use Rattle.au_model.proofs.Building.{count-terms_from, due_next, built_more, none_due, is_whole}
+use Rattle.au_model.specs.Terms.Lists.{terms_from}
+use Rattle.au_model.proofs.ListTermLemmas.{count-terms_from, due_next, built_more, none_due, is_whole}
 use Rattle.engine_core.proofs.added.compound.Goals as goal
 use Rattle.engine_core.proofs.added.compound.Goals.{After-cells, After-loop-argument}
 

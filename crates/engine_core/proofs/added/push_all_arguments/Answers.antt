@@ -1,6 +1,6 @@
 use Rattle.std.proofs.Common.{◌++◌, ◌∷◌, [], append_assoc, append-nil, ap, sym, ◌∙◌}
 use Rattle.au_term.specs.Term.{arguments}
-use Rattle.engine_core.specs.Arguments.{listed}
+use Rattle.engine_core.specs.GoalArguments.{listed}
 use Rattle.engine_core.proofs.added.push_all_arguments.Goals as goal
 
 pub loop-cells-init : goal.loop-cells-init

@@ -1,6 +1,6 @@
 use Rattle.std.proofs.Common.{◌≡◌, ◌++◌}
 use Rattle.au_term.specs.Term.{arguments}
-use Rattle.engine_core.specs.Arguments.{listed}
+use Rattle.engine_core.specs.GoalArguments.{listed}
 use Rattle.engine_core.proofs.added.push_all_arguments.Given as goal
 
 abbrev pub invariant-loop-cells : goal.invariant-loop-cells

@@ -1,8 +1,8 @@
 use Rattle.std.proofs.Common.{arith}
 use Rattle.std.proofs.Common.{◌++◌, drop}
 use Rattle.au_term.specs.Term.{arguments}
-use Rattle.engine_core.specs.Arguments.{listed}
-use Rattle.engine_core.proofs.Calls.{one_listed, every_listed}
+use Rattle.engine_core.specs.GoalArguments.{listed}
+use Rattle.engine_core.proofs.CallArgumentLemmas.{one_listed, every_listed}
 use Rattle.engine_core.proofs.added.push_arguments.Goals as goal
 
 pub loop-i-preserved : goal.loop-i-preserved

@@ -1,8 +1,8 @@
 use Rattle.std.proofs.Common.{◌≡◌, ◌+◌, ◌++◌, [], List, suc, length, drop, ◌∙◌, ap, arith}
 use Rattle.au_term.specs.Term.{Term, Compound, arguments, argument_count}
-use Rattle.au_model.specs.Lists.{terms_from}
-use Rattle.engine_core.specs.Arguments.{listed}
-use Rattle.engine_core.proofs.Calls.{added_listed, none_added, all_length}
+use Rattle.au_model.specs.Terms.Lists.{terms_from}
+use Rattle.engine_core.specs.GoalArguments.{listed}
+use Rattle.engine_core.proofs.CallArgumentLemmas.{added_listed, none_added, all_length}
 use Rattle.engine_core.proofs.added.with_arguments.Goals as goal
 use Rattle.engine_core.proofs.added.with_arguments.Goals.{After-deref}
 

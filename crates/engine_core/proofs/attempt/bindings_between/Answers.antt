@@ -1,6 +1,6 @@
 use Rattle.std.proofs.Common.{subst}
-use Rattle.bind_store.specs.Stored.{IsUnified}
-use Rattle.engine_core.proofs.Solving.{unified_since, same_next, marked_since, make_one}
+use Rattle.bind_store.specs.StoreView.{IsUnified}
+use Rattle.engine_core.proofs.SolutionLemmas.{unified_since, same_next, marked_since, make_one}
 use Rattle.engine_core.proofs.attempt.bindings_between.Goals as goal
 
 pub made_since-requires : goal.made_since-requires

@@ -1,19 +1,19 @@
 use Rattle.std.proofs.Common.{◌≡◌, ◌∙◌, ◌≤◌, ◌<◌, ◌+◌, ap, sym, subst, arith, true}
 use Rattle.std.proofs.lemmas.Result.{IfOk-weaker}
 use Rattle.std.specs.Prelude.{MatchOption, codes}
-use Rattle.au_model.specs.ErrorTerms.{error_term, representation_error}
+use Rattle.au_model.specs.Terms.ErrorTerms.{error_term, representation_error}
 use Rattle.au_term.specs.Term.{var_bound, argument, arguments, argument_count, drop_terms}
-use Rattle.au_model.specs.Bodies.{called_goals}
-use Rattle.au_model.specs.Control.{call_outcome, called}
-use Rattle.au_model.specs.Forms.{is_callable}
-use Rattle.au_model.specs.Substitutions.{resolve}
-use Rattle.bind_store.specs.Stored.{substitution}
-use Rattle.engine_core.specs.Arguments.{resolved_argument}
-use Rattle.engine_core.specs.Calling.{IsUncallable}
+use Rattle.run_model.specs.Programs.Bodies.{called_goals}
+use Rattle.run_model.specs.Goals.Control.{call_outcome, called}
+use Rattle.au_model.specs.Terms.Forms.{is_callable}
+use Rattle.au_model.specs.Terms.Substitutions.{resolve}
+use Rattle.bind_store.specs.StoreView.{substitution}
+use Rattle.engine_core.specs.GoalArguments.{resolved_argument}
+use Rattle.engine_core.specs.Calls.{IsUncallable}
 use Rattle.engine_core.specs.Reductions.{IsOutcome}
-use Rattle.engine_core.proofs.Calls.{added_callable, added_below}
-use Rattle.engine_core.proofs.Standing.{argument_below}
-use Rattle.engine_core.proofs.Coming.{call_raises, call_limited, call_goes}
+use Rattle.engine_core.proofs.CallArgumentLemmas.{added_callable, added_below}
+use Rattle.engine_core.proofs.ResolvedTermLemmas.{argument_below}
+use Rattle.engine_core.proofs.GoalOutcomeLemmas.{call_raises, call_limited, call_goes}
 use Rattle.engine_core.proofs.call.call.Goals as goal
 use Rattle.engine_core.proofs.call.call.Goals.{After-callee, After-from}
 

@@ -1,12 +1,12 @@
 use Rattle.std.proofs.Common.{◌∙◌}
 use Rattle.std.proofs.lemmas.Result.{IfOk-weaker}
-use Rattle.au_model.specs.Bodies.{called_goals}
-use Rattle.au_model.specs.Control.{called}
-use Rattle.au_model.specs.Substitutions.{resolve}
-use Rattle.bind_store.specs.Stored.{substitution}
-use Rattle.engine_core.specs.Onward.{IsAlone}
+use Rattle.run_model.specs.Programs.Bodies.{called_goals}
+use Rattle.run_model.specs.Goals.Control.{called}
+use Rattle.au_model.specs.Terms.Substitutions.{resolve}
+use Rattle.bind_store.specs.StoreView.{substitution}
+use Rattle.engine_core.specs.PlainBranches.{IsAlone}
 use Rattle.engine_core.specs.Reductions.{IsOutcome}
-use Rattle.engine_core.proofs.Coming.{called_below, called_alone}
+use Rattle.engine_core.proofs.GoalOutcomeLemmas.{called_below, called_alone}
 use Rattle.engine_core.proofs.call.called_body.Goals as goal
 
 pub onward-requires : goal.onward-requires

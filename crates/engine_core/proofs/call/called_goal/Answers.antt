@@ -1,13 +1,13 @@
 use Rattle.std.proofs.Common.{◌∙◌, ap, sym}
 use Rattle.std.proofs.lemmas.Result.{IfOk-weaker}
-use Rattle.au_model.specs.Bodies.{called_goals}
-use Rattle.au_model.specs.Control.{called}
-use Rattle.au_model.specs.Substitutions.{resolve}
-use Rattle.bind_store.specs.Stored.{substitution}
-use Rattle.clause_compile.specs.Cells.{opens_junction}
-use Rattle.engine_core.specs.Onward.{IsAlone}
+use Rattle.run_model.specs.Programs.Bodies.{called_goals}
+use Rattle.run_model.specs.Goals.Control.{called}
+use Rattle.au_model.specs.Terms.Substitutions.{resolve}
+use Rattle.bind_store.specs.StoreView.{substitution}
+use Rattle.clause_compile.specs.BodyCells.{opens_junction}
+use Rattle.engine_core.specs.PlainBranches.{IsAlone}
 use Rattle.engine_core.specs.Reductions.{IsOutcome}
-use Rattle.engine_core.proofs.Coming.{plain_alone}
+use Rattle.engine_core.proofs.GoalOutcomeLemmas.{plain_alone}
 use Rattle.engine_core.proofs.call.called_goal.Goals as goal
 
 pub returns : goal.returns

@@ -1,6 +1,6 @@
 use Rattle.std.proofs.Common.{◌∙◌, ap, sym}
-use Rattle.engine_core.specs.Calling.{is_variable_cell, is_integer_cell}
-use Rattle.engine_core.proofs.Calls.{unbound_uncallable, integer_uncallable, callable_by}
+use Rattle.engine_core.specs.Calls.{is_variable_cell, is_integer_cell}
+use Rattle.engine_core.proofs.CallArgumentLemmas.{unbound_uncallable, integer_uncallable, callable_by}
 use Rattle.engine_core.proofs.call.calling_ball.Goals as goal
 
 pub returns-then-is_variable : goal.returns-then-is_variable

@@ -1,4 +1,4 @@
-use Rattle.engine_core.proofs.Dividing.{last_below, further, smaller_now, divided_below}
+use Rattle.engine_core.proofs.ConjunctionLemmas.{last_below, further, smaller_now, divided_below}
 use Rattle.engine_core.proofs.conjunction.goals_before.Goals as goal
 
 pub loop-last-smaller : goal.loop-last-smaller

@@ -1,6 +1,6 @@
-use Rattle.bind_store.specs.Stored.{substitution}
-use Rattle.engine_core.specs.TakingApart.{bodies_size}
-use Rattle.engine_core.proofs.Dividing.{IsDivided}
+use Rattle.bind_store.specs.StoreView.{substitution}
+use Rattle.engine_core.specs.Conjunctions.{bodies_size}
+use Rattle.engine_core.proofs.ConjunctionLemmas.{IsDivided}
 use Rattle.engine_core.proofs.conjunction.goals_before.Given as goal
 
 abbrev pub invariant-loop-last : goal.invariant-loop-last

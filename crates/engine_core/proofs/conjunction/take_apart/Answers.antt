@@ -1,6 +1,6 @@
 use Rattle.std.proofs.Common.{◌∙◌, sym, ap}
-use Rattle.clause_compile.specs.Cells.{opens_conjunction}
-use Rattle.engine_core.proofs.Dividing.{goal_found, sides_found}
+use Rattle.clause_compile.specs.BodyCells.{opens_conjunction}
+use Rattle.engine_core.proofs.ConjunctionLemmas.{goal_found, sides_found}
 use Rattle.engine_core.proofs.conjunction.take_apart.Goals as goal
 
 pub returns-then-not-is_conjunction : goal.returns-then-not-is_conjunction

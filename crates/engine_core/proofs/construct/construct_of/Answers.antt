@@ -3,8 +3,8 @@ use Rattle.std.specs.Prelude.{codes}
 use Rattle.std.specs.Str.{chars}
 use Rattle.engine_core.specs.Constructs.{Row}
 use Rattle.engine_core.specs.declared.construct.Construct.TheVariants.{Succeed, Fail, Cut, Either, Then, Not, Once, Throw, Catch, Findall, Call, Unify}
-use Rattle.au_model.proofs.Reserved.{has_row-any}
-use Rattle.engine_core.proofs.Rows.{found_construct}
+use Rattle.run_model.proofs.ReservedNameLemmas.{has_row-any}
+use Rattle.engine_core.proofs.ConstructRowLemmas.{found_construct}
 use Rattle.engine_core.proofs.construct.construct_of.Goals as goal
 
 -- the rows, read

@@ -1,8 +1,8 @@
 use Rattle.std.proofs.Common.{◌≡◌, ◌∙◌, ◌&&◌, Bool, true, false, ap, sym, refl}
 use Rattle.std.proofs.lemmas.Bool.{eq-eqb}
 use Rattle.std.specs.Str.{chars}
-use Rattle.au_model.specs.Forms.{same_name}
-use Rattle.au_term.proofs.Texts.{by_chars}
+use Rattle.au_model.specs.Terms.Forms.{same_name}
+use Rattle.au_term.proofs.TextLemmas.{by_chars}
 use Rattle.engine_core.proofs.construct.is_row.Goals as goal
 
 and_true : (b : Bool) → b ≡ (b && true)

@@ -2,20 +2,20 @@ use Rattle.std.proofs.Common.{◌∷◌, [], refl, subst}
 use Rattle.std.specs.Prelude.{codes}
 use Rattle.std.proofs.lemmas.Result.{IfOk-weaker}
 use Rattle.au_term.specs.Term.{arguments, argument_count, drop_terms}
-use Rattle.au_model.specs.Control.{call_outcome, either_form, throw_outcome}
-use Rattle.au_model.specs.Forms.{name_of}
-use Rattle.au_model.specs.Outcomes.{Controls, Replies, Solutions}
-use Rattle.au_model.specs.Substitutions.{resolve}
-use Rattle.bind_store.specs.Stored.{substitution}
-use Rattle.engine_core.specs.Arguments.{resolved_argument}
+use Rattle.run_model.specs.Goals.Control.{call_outcome, either_form, throw_outcome}
+use Rattle.au_model.specs.Terms.Forms.{name_of}
+use Rattle.run_model.specs.Goals.Outcomes.{Controls, Replies, Solutions}
+use Rattle.au_model.specs.Terms.Substitutions.{resolve}
+use Rattle.bind_store.specs.StoreView.{substitution}
+use Rattle.engine_core.specs.GoalArguments.{resolved_argument}
 use Rattle.engine_core.specs.Constructs.{IsConstruct}
-use Rattle.engine_core.specs.Onward.{IsAlone}
-use Rattle.engine_core.specs.Reducing.{ComesTo, Raises}
+use Rattle.engine_core.specs.PlainBranches.{IsAlone}
+use Rattle.engine_core.specs.GoalReductions.{ComesTo, Raises}
 use Rattle.engine_core.specs.Reductions.{IsOutcome}
-use Rattle.engine_core.specs.Trying.{equation_solution}
+use Rattle.engine_core.specs.Attempts.{equation_solution}
 use Rattle.engine_core.specs.declared.reduction.Reduction.TheVariants.{Prune, Open}
-use Rattle.engine_core.proofs.Coming.{only_branch}
-use Rattle.engine_core.proofs.Naming.{by_name, by_call, by_unification, raised_so, fails}
+use Rattle.engine_core.proofs.GoalOutcomeLemmas.{only_branch}
+use Rattle.engine_core.proofs.NamedOutcomeLemmas.{by_name, by_call, by_unification, raised_so, fails}
 use Rattle.engine_core.proofs.control.construct_outcome.Goals as goal
 
 pub returns-in_ok-rest_branch-in-Succeed-clause-outcome : goal.returns-in_ok-rest_branch-in-Succeed-clause-outcome

@@ -1,16 +1,16 @@
 use Rattle.std.proofs.Common.{◌≡◌, ◌++◌, ◌∷◌, [], List, ◌∙◌, ap, sym, subst, arith}
-use Rattle.au_model.specs.Bodies.{goals_of}
-use Rattle.au_model.specs.Outcomes.{Controls}
-use Rattle.au_model.specs.Substitutions.{resolve}
+use Rattle.run_model.specs.Programs.Bodies.{goals_of}
+use Rattle.run_model.specs.Goals.Outcomes.{Controls}
+use Rattle.au_model.specs.Terms.Substitutions.{resolve}
 use Rattle.clause_compile.specs.declared.event.Branch.{Branch}
-use Rattle.bind_store.specs.Stored.{substitution}
-use Rattle.engine_core.specs.Arguments.{resolved_argument}
-use Rattle.engine_core.specs.Branches.{GoesOn}
+use Rattle.bind_store.specs.StoreView.{substitution}
+use Rattle.engine_core.specs.GoalArguments.{resolved_argument}
+use Rattle.engine_core.specs.Branches.{GoesOnPlainly}
 use Rattle.engine_core.specs.Reductions.{IsOutcome}
-use Rattle.engine_core.specs.TakingApart.{opens_condition}
+use Rattle.engine_core.specs.Conjunctions.{opens_condition}
 use Rattle.engine_core.specs.declared.reduction.Reduction.TheVariants.{Alternatives, Open}
-use Rattle.engine_core.proofs.Naming.{condition_count, condition_form, either_so, two_branches}
-use Rattle.engine_core.proofs.Standing.{argument_below, left_argument}
+use Rattle.engine_core.proofs.NamedOutcomeLemmas.{condition_count, condition_form, either_so, two_branches}
+use Rattle.engine_core.proofs.ResolvedTermLemmas.{argument_below, left_argument}
 use Rattle.engine_core.proofs.control.either.Goals as goal
 
 pub condition-requires-clause-arguments : goal.condition-requires-clause-arguments
@@ -46,4 +46,4 @@ returns c =
     subst (λ o. IsOutcome place.cut place.here place.rest.now st (Controls o) (Alternatives c.push-2.new.self))
     (sym (either_so st c.in_ok-left.left (resolved_argument 0 st t) (resolved_argument 1 st t) c.in_ok-left.ensures.unbound (ap opens_condition (sym c.in_ok-top.ensures) ∙ (sym c.is_condition.ensures ∙ c.if-is_condition.false)) left))
     (two_branches place.cut place.here (goals_of (resolve (substitution st) c.in_ok-left.left)) (goals_of (resolved_argument 1 st t)) place.rest.now st c.in_ok-body_branch.field-0 c.in_ok-body_branch-2.field-0 c.push-2.new.self.items c.in_ok-body_branch.ensures
-    (subst (λ u. GoesOn place.cut (goals_of u) place.rest.now st c.in_ok-body_branch-2.field-0) c.in_ok-right.ensures.is c.in_ok-body_branch-2.ensures) bs)
+    (subst (λ u. GoesOnPlainly place.cut (goals_of u) place.rest.now st c.in_ok-body_branch-2.field-0) c.in_ok-right.ensures.is c.in_ok-body_branch-2.ensures) bs)

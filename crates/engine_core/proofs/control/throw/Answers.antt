@@ -1,8 +1,8 @@
 use Rattle.std.proofs.Common.{◌∙◌, ap, sym}
-use Rattle.au_model.specs.Substitutions.{resolve}
-use Rattle.bind_store.specs.Stored.{substitution}
-use Rattle.engine_core.specs.Calling.{is_variable_cell}
-use Rattle.engine_core.proofs.Naming.{thrown_unbound, thrown}
+use Rattle.au_model.specs.Terms.Substitutions.{resolve}
+use Rattle.bind_store.specs.StoreView.{substitution}
+use Rattle.engine_core.specs.Calls.{is_variable_cell}
+use Rattle.engine_core.proofs.NamedOutcomeLemmas.{thrown_unbound, thrown}
 use Rattle.engine_core.proofs.control.throw.Goals as goal
 
 pub returns-then-is_variable : goal.returns-then-is_variable

@@ -1,7 +1,7 @@
 use Rattle.std.proofs.Common.{◌∙◌, ap}
 use Rattle.std.proofs.lemmas.Str.{chars-IsAscii}
-use Rattle.au_model.specs.ErrorTerms.{error_term}
-use Rattle.au_model.specs.Faults.{error_term_of}
+use Rattle.au_model.specs.Terms.ErrorTerms.{error_term}
+use Rattle.au_model.specs.Terms.Faults.{error_term_of}
 use Rattle.engine_core.proofs.faults.error_ball.Goals as goal
 
 pub returns : goal.returns

@@ -1,8 +1,8 @@
 use Rattle.std.proofs.Common.{◌≡◌, true, subst}
 use Rattle.std.specs.Prelude.{MatchOption}
-use Rattle.au_model.specs.Forms.{is_callable}
-use Rattle.engine_core.specs.Calling.{IsUncallable}
-use Rattle.engine_core.proofs.Naming.{goal_raises}
+use Rattle.au_model.specs.Terms.Forms.{is_callable}
+use Rattle.engine_core.specs.Calls.{IsUncallable}
+use Rattle.engine_core.proofs.NamedOutcomeLemmas.{goal_raises}
 use Rattle.engine_core.proofs.items.goal_outcome.Goals as goal
 
 pub returns-in-Some-clause-outcome : goal.returns-in-Some-clause-outcome

@@ -1,8 +1,8 @@
 use Rattle.std.proofs.Common.{◌∙◌, ap, subst}
-use Rattle.au_model.specs.Substitutions.{resolve}
-use Rattle.bind_store.specs.Stored.{substitution}
-use Rattle.engine_core.specs.Trying.{AreAlternatives}
-use Rattle.engine_core.proofs.Naming.{by_clauses, by_world}
+use Rattle.au_model.specs.Terms.Substitutions.{resolve}
+use Rattle.bind_store.specs.StoreView.{substitution}
+use Rattle.engine_core.specs.Attempts.{AreAlternatives}
+use Rattle.engine_core.proofs.NamedOutcomeLemmas.{by_clauses, by_world}
 use Rattle.engine_core.proofs.items.procedure_outcome.Goals as goal
 
 pub returns-in-Some-clause-outcome : goal.returns-in-Some-clause-outcome

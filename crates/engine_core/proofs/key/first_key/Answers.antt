@@ -1,6 +1,6 @@
 use Rattle.std.proofs.Common.{sym, ◌∙◌, arith}
-use Rattle.engine_core.proofs.Clashing.{no_arguments, key_reached}
-use Rattle.bind_store.specs.Stored.{substitution}
+use Rattle.engine_core.proofs.ClashLemmas.{no_arguments, key_reached}
+use Rattle.bind_store.specs.StoreView.{substitution}
 use Rattle.engine_core.proofs.key.first_key.Goals as goal
 
 pub returns-then-arity-eq0 : goal.returns-then-arity-eq0

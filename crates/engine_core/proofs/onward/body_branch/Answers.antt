@@ -1,7 +1,7 @@
-use Rattle.au_model.specs.Bodies.{goals_of}
-use Rattle.au_model.specs.Substitutions.{resolve}
-use Rattle.bind_store.specs.Stored.{substitution}
-use Rattle.engine_core.proofs.Going.{goes_on}
+use Rattle.run_model.specs.Programs.Bodies.{goals_of}
+use Rattle.au_model.specs.Terms.Substitutions.{resolve}
+use Rattle.bind_store.specs.StoreView.{substitution}
+use Rattle.engine_core.proofs.PlainBranchLemmas.{goes_on}
 use Rattle.engine_core.proofs.onward.body_branch.Goals as goal
 
 pub returns : goal.returns

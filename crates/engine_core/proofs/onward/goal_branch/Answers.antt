@@ -1,7 +1,7 @@
-use Rattle.au_model.specs.Substitutions.{resolve}
-use Rattle.bind_store.specs.Stored.{substitution}
+use Rattle.au_model.specs.Terms.Substitutions.{resolve}
+use Rattle.bind_store.specs.StoreView.{substitution}
 use Rattle.std.proofs.Common.{◌∷◌, []}
-use Rattle.engine_core.proofs.Going.{goes_on, one_goal, one_below}
+use Rattle.engine_core.proofs.PlainBranchLemmas.{goes_on, one_goal, one_below}
 use Rattle.engine_core.proofs.onward.goal_branch.Goals as goal
 
 pub onward-requires : goal.onward-requires

@@ -1,5 +1,5 @@
 use Rattle.std.proofs.Common.{[]}
-use Rattle.engine_core.proofs.Going.{goes_on, no_goal}
+use Rattle.engine_core.proofs.PlainBranchLemmas.{goes_on, no_goal}
 use Rattle.engine_core.proofs.onward.rest_branch.Goals as goal
 
 pub returns : goal.returns

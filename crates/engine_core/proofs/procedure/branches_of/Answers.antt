@@ -1,5 +1,5 @@
 use Rattle.std.proofs.Common.{refl, ◌∙◌}
-use Rattle.engine_core.proofs.Listing.{all_ahead, none_ahead, one_found, none_found}
+use Rattle.engine_core.proofs.BranchListLemmas.{all_ahead, none_ahead, one_found, none_found}
 use Rattle.engine_core.proofs.procedure.branches_of.Goals as goal
 
 pub loop-clause-init : goal.loop-clause-init

@@ -1,5 +1,5 @@
 use Rattle.std.proofs.Common.{◌≡◌}
-use Rattle.engine_core.proofs.Listing.{Ahead}
+use Rattle.engine_core.proofs.BranchListLemmas.{Ahead}
 use Rattle.engine_core.proofs.procedure.branches_of.Given as goal
 
 abbrev pub invariant-loop-clause : goal.invariant-loop-clause

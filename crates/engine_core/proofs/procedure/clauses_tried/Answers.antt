@@ -1,4 +1,4 @@
-use Rattle.engine_core.proofs.Clashing.{all_tried}
+use Rattle.engine_core.proofs.ClashLemmas.{all_tried}
 use Rattle.engine_core.proofs.procedure.clauses_tried.Goals as goal
 
 pub returns-in-Some-clause-tried : goal.returns-in-Some-clause-tried

@@ -1,6 +1,6 @@
 use Rattle.std.proofs.Common.{List, ap, ◌∙◌}
 use Rattle.clause_compile.specs.declared.event.Branch.{Branch}
-use Rattle.engine_core.proofs.Listing.{one_way, no_way}
+use Rattle.engine_core.proofs.BranchListLemmas.{one_way, no_way}
 use Rattle.engine_core.proofs.procedure.equation_tried.Goals as goal
 use Rattle.engine_core.proofs.procedure.equation_tried.Goals.{in-Some+in_ok-push, in_default}
 

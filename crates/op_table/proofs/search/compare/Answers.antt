@@ -5,8 +5,8 @@ use Rattle.std.specs.Str.{chars}
 use Rattle.std.specs.Str.Iter.{chars_rest}
 use Rattle.std.proofs.lemmas.Iterator.{YieldsList-from_chars}
 use Rattle.std.proofs.lemmas.Iterator.Search.{cmp_from_yields_List}
-use Rattle.au_model.specs.Operators.{class_rank, class_of}
-use Rattle.op_table.specs.Meant.{class_meant, kind_meant}
+use Rattle.au_model.specs.Syntax.Operators.{class_rank, class_of}
+use Rattle.op_table.specs.OperatorView.{class_meant, kind_meant}
 use Rattle.op_table.proofs.search.compare.Goals as goal
 
 pub returns : goal.returns

@@ -1,10 +1,10 @@
 use Rattle.std.proofs.Common.{◌≡◌, ◌∙◌, ◌+◌, ◌-◌, ◌/◌, ap, sym, subst, map, length, take, drop, List, arith, length-take, length-drop}
 use Rattle.std.specs.List.Sorted.{IsStrictlySortedBy}
 use Rattle.std.specs.Str.{chars}
-use Rattle.au_model.specs.Operators.{row_order, operator_of}
+use Rattle.au_model.specs.Syntax.Operators.{row_order, operator_of}
 use Rattle.op_table.specs.declared.operator.OpRow.{OpRow}
-use Rattle.op_table.specs.Meant.{row_meant, class_meant}
-use Rattle.op_table.proofs.Sorted.{search-less, search-equal, search-greater, sorted-drop, sorted-take, drop-whole, middle-within}
+use Rattle.op_table.specs.OperatorView.{row_meant, class_meant}
+use Rattle.op_table.proofs.SortedRowLemmas.{search-less, search-equal, search-greater, sorted-drop, sorted-take, drop-whole, middle-within}
 use Rattle.op_table.proofs.search.find.Goals as goal
 
 pub loop-rest-preserved-in-Less : goal.loop-rest-preserved-in-Less

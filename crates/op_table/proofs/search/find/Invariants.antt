@@ -1,8 +1,8 @@
 use Rattle.std.proofs.Common.{◌≡◌, ◌≤◌, map, length}
 use Rattle.std.specs.List.Sorted.{IsStrictlySortedBy}
 use Rattle.std.specs.Str.{chars}
-use Rattle.au_model.specs.Operators.{row_order, operator_of}
-use Rattle.op_table.specs.Meant.{row_meant, class_meant}
+use Rattle.au_model.specs.Syntax.Operators.{row_order, operator_of}
+use Rattle.op_table.specs.OperatorView.{row_meant, class_meant}
 use Rattle.op_table.proofs.search.find.Given as goal
 
 abbrev pub invariant-loop-rest : goal.invariant-loop-rest

@@ -1,6 +1,6 @@
 use Rattle.std.proofs.Common.{rules, ◌∙◌, sym, chars}
-use Rattle.op_table.specs.Meant.{class_meant, row_meant}
-use Rattle.op_table.proofs.Putting.{from_row, slot_passed, slot_taken, slot_free}
+use Rattle.op_table.specs.OperatorView.{class_meant, row_meant}
+use Rattle.op_table.proofs.TableChangeLemmas.{from_row, slot_passed, slot_taken, slot_free}
 use Rattle.op_table.proofs.search.slot_of.Goals as goal
 
 pub returns-in-Equal : goal.returns-in-Equal

@@ -1,6 +1,6 @@
 use Rattle.std.proofs.Common.{◌≡◌, ◌++◌, map, take, drop}
-use Rattle.au_model.specs.Operators.{with_operator}
-use Rattle.op_table.specs.Meant.{row_meant}
+use Rattle.au_model.specs.Syntax.Operators.{with_operator}
+use Rattle.op_table.specs.OperatorView.{row_meant}
 use Rattle.op_table.proofs.search.slot_of.Given as goal
 
 abbrev pub invariant-loop-at : goal.invariant-loop-at

@@ -2,9 +2,9 @@ use Rattle.std.proofs.Common.{◌∙◌, sym, subst, ap, map, refl, List, arith}
 use Rattle.std.proofs.lemmas.List.{length-map}
 use Rattle.op_table.specs.declared.operator.OpRow.{OpRow}
 use Rattle.op_table.specs.declared.search.Slot.TheVariants.{Taken, Free}
-use Rattle.op_table.specs.Meant.{row_meant}
-use Rattle.op_table.specs.Putting.{IsSlot}
-use Rattle.op_table.proofs.Putting.{set_at, put_at}
+use Rattle.op_table.specs.OperatorView.{row_meant}
+use Rattle.op_table.specs.TableChanges.{IsSlot}
+use Rattle.op_table.proofs.TableChangeLemmas.{set_at, put_at}
 use Rattle.op_table.proofs.table.put_row.Goals as goal
 
 pub returns-in-Taken-clause-ok : goal.returns-in-Taken-clause-ok

@@ -1,5 +1,5 @@
 use Rattle.std.proofs.lemmas.Result.{on_ok_weaker}
-use Rattle.stack_run.proofs.Inferring.{branched}
+use Rattle.stack_run.proofs.InferenceLemmas.{branched}
 use Rattle.stack_run.proofs.infer.branch_off.Goals as goal
 
 pub returns : goal.returns

@@ -1,13 +1,13 @@
 use Rattle.std.proofs.Common.{sym, subst, arith}
 use Rattle.std.proofs.lemmas.Result.{on_ok_weaker}
-use Rattle.au_model.specs.Each.{Each}
+use Rattle.au_model.specs.Terms.Each.{Each}
 use Rattle.clause_compile.specs.declared.item.Scope.TheVariants.{Local}
 use Rattle.engine_core.specs.Branches.{IsItemBelow}
 use Rattle.engine_core.specs.Reductions.{IsReduced}
-use Rattle.stack_run.specs.Fitting.{IsChoiceFit}
-use Rattle.stack_run.specs.Inferring.{IsOpeningBelow}
+use Rattle.stack_run.specs.StackInvariant.{IsChoiceFit}
+use Rattle.stack_run.specs.Inferences.{IsOpeningBelow}
 use Rattle.stack_run.specs.declared.frame.Choice.TheVariants.{Branch}
-use Rattle.stack_run.proofs.Reduced.{alternatives_fit, open_below, goes_on, none_collects, alternatives_left, ball_left, cut_left, open_left, gate_left}
+use Rattle.stack_run.proofs.ReductionLemmas.{alternatives_fit, open_below, goes_on, none_collects, alternatives_left, ball_left, cut_left, open_left, gate_left}
 use Rattle.stack_run.proofs.infer.infer.Goals as goal
 
 pub branch_off-requires-clause-branches : goal.branch_off-requires-clause-branches

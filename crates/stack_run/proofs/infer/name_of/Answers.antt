@@ -1,7 +1,7 @@
 use Rattle.std.proofs.Common.{◌≡◌, [], ◌∙◌, sym}
 use Rattle.std.proofs.lemmas.Result.{IfOk-weaker}
-use Rattle.au_model.specs.Forms.{name_of}
-use Rattle.stack_run.proofs.Naming.{nameless}
+use Rattle.au_model.specs.Terms.Forms.{name_of}
+use Rattle.stack_run.proofs.UnnamedGoalLemmas.{nameless}
 use Rattle.stack_run.proofs.infer.name_of.Goals as goal
 
 pub returns-in_default : goal.returns-in_default

@@ -1,4 +1,4 @@
-use Rattle.stack_run.proofs.Inferring.{pruned}
+use Rattle.stack_run.proofs.InferenceLemmas.{pruned}
 use Rattle.stack_run.proofs.infer.prune.Goals as goal
 
 pub returns : goal.returns

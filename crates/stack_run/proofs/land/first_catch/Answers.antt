@@ -1,7 +1,7 @@
 use Rattle.std.proofs.Common.{map, ◌∙◌, ap, sym}
-use Rattle.au_model.specs.Items.{first_mark}
-use Rattle.stack_run.specs.Views.{item_view}
-use Rattle.stack_run.proofs.Landing.{mark_found, mark_further}
+use Rattle.run_model.specs.Machine.Items.{first_mark}
+use Rattle.stack_run.specs.StackView.{item_view}
+use Rattle.stack_run.proofs.UnwindingLemmas.{mark_found, mark_further}
 use Rattle.stack_run.proofs.land.first_catch.Goals as goal
 
 pub returns-in-Some-marked_place : goal.returns-in-Some-marked_place

@@ -1,7 +1,7 @@
 use Rattle.std.proofs.Common.{◌≡◌, map}
-use Rattle.au_model.specs.Items.{first_mark}
-use Rattle.au_model.specs.Substitutions.{Substitution}
-use Rattle.stack_run.specs.Views.{item_view}
+use Rattle.run_model.specs.Machine.Items.{first_mark}
+use Rattle.au_model.specs.Terms.Substitutions.{Substitution}
+use Rattle.stack_run.specs.StackView.{item_view}
 use Rattle.stack_run.proofs.land.first_catch.Given as goal
 
 abbrev pub invariant-loop-item : goal.invariant-loop-item

@@ -1,14 +1,14 @@
 use Rattle.std.proofs.Common.{ap, ◌∙◌, subst, refl, arith}
-use Rattle.au_model.specs.Balls.{landing}
-use Rattle.stack_run.specs.Inferring.{IsRecovered, HasEnd, under}
+use Rattle.run_model.specs.Machine.Balls.{unwound}
+use Rattle.stack_run.specs.Inferences.{IsRecovered, HasEnd, entries_below}
 use Rattle.stack_run.specs.declared.frame.Stack.{Stack}
-use Rattle.bind_store.specs.Stored.{substitution}
-use Rattle.stack_run.proofs.Landing.{lands_past, lands_on, lands_further, further_fit}
+use Rattle.bind_store.specs.StoreView.{substitution}
+use Rattle.stack_run.proofs.UnwindingLemmas.{lands_past, lands_on, lands_further, further_fit}
 use Rattle.stack_run.proofs.land.land.Goals as goal
 
 pub loop-choice-init : goal.loop-choice-init
 loop-choice-init c = record {
-  same = λ own. ap (λ m. landing c.args.ball.now m (under c.args.stack.now own)) (c.first_catch-mark.ensures (substitution c.args.stack.now.store));
+  same = λ own. ap (λ m. unwound c.args.ball.now m (entries_below c.args.stack.now own)) (c.first_catch-mark.ensures (substitution c.args.stack.now.store));
   fit = c.requires.frames;
   none = c.requires.none;
   end = refl;

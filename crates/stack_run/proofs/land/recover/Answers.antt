@@ -1,6 +1,6 @@
 use Rattle.std.proofs.Common.{subst, refl, arith}
-use Rattle.bind_store.specs.Stored.{IsUnified}
-use Rattle.stack_run.proofs.Landing.{recovers, copy_below, missed}
+use Rattle.bind_store.specs.StoreView.{IsUnified}
+use Rattle.stack_run.proofs.UnwindingLemmas.{recovers, copy_below, missed}
 use Rattle.stack_run.proofs.land.recover.Goals as goal
 
 pub unify-requires-clause-right : goal.unify-requires-clause-right

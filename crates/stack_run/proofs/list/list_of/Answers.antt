@@ -1,9 +1,9 @@
 use Rattle.std.proofs.Common.{◌≡◌, ◌≤◌, ◌+◌, ◌++◌, ◌∷◌, [], drop, length, ap, sym, ◌∙◌, subst}
 use Rattle.std.proofs.lemmas.List.{drop_more, drop_all}
-use Rattle.au_term.specs.Prefix.{cells_of, AreDue, due_after}
+use Rattle.au_term.specs.PrefixOrder.{cells_of, AreDue, due_after}
 use Rattle.au_term.specs.declared.cell.Cell.TheVariants.{Functor}
-use Rattle.au_model.specs.Forms.{list_term}
-use Rattle.stack_run.proofs.Building.{list_due, list_item_due, list_further, nil_due, list_whole, list_built}
+use Rattle.au_model.specs.Terms.Forms.{list_term}
+use Rattle.stack_run.proofs.ListTermLemmas.{list_due, list_item_due, list_further, nil_due, list_whole, list_built}
 use Rattle.stack_run.proofs.list.list_of.Goals as goal
 use Rattle.stack_run.proofs.list.list_of.Goals.{After-loop-item, After-item-item}
 

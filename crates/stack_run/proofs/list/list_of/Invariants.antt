@@ -1,6 +1,6 @@
 use Rattle.std.proofs.Common.{◌≡◌, ◌++◌, drop}
-use Rattle.au_term.specs.Prefix.{cells_of}
-use Rattle.au_model.specs.Forms.{list_term}
+use Rattle.au_term.specs.PrefixOrder.{cells_of}
+use Rattle.au_model.specs.Terms.Forms.{list_term}
 use Rattle.stack_run.proofs.list.list_of.Given as goal
 
 abbrev pub invariant-loop-item : goal.invariant-loop-item

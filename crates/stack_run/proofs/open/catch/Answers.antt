@@ -1,5 +1,5 @@
 use Rattle.std.proofs.Common.{◌+◌, arith}
-use Rattle.stack_run.proofs.Inferring.{caught_by, catch_fit}
+use Rattle.stack_run.proofs.InferenceLemmas.{caught_by, catch_fit}
 use Rattle.stack_run.proofs.open.catch.Goals as goal
 
 pub push_choice-requires-clause-choice : goal.push_choice-requires-clause-choice

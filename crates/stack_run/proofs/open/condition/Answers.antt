@@ -1,5 +1,5 @@
 use Rattle.std.proofs.Common.{◌+◌, refl, arith}
-use Rattle.stack_run.proofs.Inferring.{tested, no_bindings_fit}
+use Rattle.stack_run.proofs.InferenceLemmas.{tested, no_bindings_fit}
 use Rattle.stack_run.proofs.open.condition.Goals as goal
 
 pub push_choice-requires-clause-choice : goal.push_choice-requires-clause-choice

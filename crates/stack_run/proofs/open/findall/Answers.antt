@@ -1,5 +1,5 @@
 use Rattle.std.proofs.Common.{◌+◌, ◌∙◌, arith}
-use Rattle.stack_run.proofs.Inferring.{collected_by, findall_fit}
+use Rattle.stack_run.proofs.InferenceLemmas.{collected_by, findall_fit}
 use Rattle.stack_run.proofs.open.findall.Goals as goal
 
 pub push_choice-requires-clause-choice : goal.push_choice-requires-clause-choice

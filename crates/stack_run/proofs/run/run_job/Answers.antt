@@ -1,8 +1,8 @@
 use Rattle.std.proofs.Common.{sym, subst, arith}
-use Rattle.au_io.specs.Causes.{Took, TookFront}
-use Rattle.stack_run.specs.Ends.{IsRun}
-use Rattle.text_load.specs.Meant.{job_meant}
-use Rattle.stack_run.proofs.Running.{begins, goes_on, few_answers, finished, cut_short, write_failed, no_query, some_query}
+use Rattle.au_io.specs.FaultCounts.{Appended, AppendedPrefix}
+use Rattle.stack_run.specs.RunEnds.{IsRun}
+use Rattle.text_load.specs.JobView.{job_meant}
+use Rattle.stack_run.proofs.RunLemmas.{begins, goes_on, few_answers, finished, cut_short, write_failed, no_query, some_query}
 use Rattle.stack_run.proofs.run.run_job.Goals as goal
 
 pub loop-taken-init : goal.loop-taken-init
@@ -29,8 +29,8 @@ returns-in_default-step-clause-run g c =
 pub returns-in-Err-clause-run : goal.returns-in-Err-clause-run
 returns-in-Err-clause-run g c =
     subst (IsRun (job_meant c.args.job) c.args.budget (g.K.Sink.taken c.args.out.now) (g.K.Sink.taken c.write_all.new.self)) (sym c.failed-in-Err.ensures)
-    (write_failed c.args.job c.loop-taken.machine c.step.new.machine c.loop-taken.taken c.args.budget _ _ _ _ _ c.loop-taken.invariant c.loop-taken-test.true c.in-Ok-step.ensures.state (subst (TookFront (g.K.Sink.taken c.loop-taken.out) (g.K.Sink.taken c.write_all.new.self)) c.deref.ensures.value c.in-Err.ensures.err))
+    (write_failed c.args.job c.loop-taken.machine c.step.new.machine c.loop-taken.taken c.args.budget _ _ _ _ _ c.loop-taken.invariant c.loop-taken-test.true c.in-Ok-step.ensures.state (subst (AppendedPrefix (g.K.Sink.taken c.loop-taken.out) (g.K.Sink.taken c.write_all.new.self)) c.deref.ensures.value c.in-Err.ensures.err))
 
 pub loop-taken-preserved : goal.loop-taken-preserved
 loop-taken-preserved g c =
-    goes_on c.args.job c.loop-taken.machine c.step.new.machine c.loop-taken.taken _ _ _ _ _ _ c.loop-taken.invariant c.in-Ok-step.ensures.state c.in-Ok-step.ensures.ready (subst (Took (g.K.Sink.taken c.loop-taken.out) (g.K.Sink.taken c.write_all.new.self)) c.deref.ensures.value c.in-Ok-write_all.ensures.ok) c.write_all.ensures.cause.later
+    goes_on c.args.job c.loop-taken.machine c.step.new.machine c.loop-taken.taken _ _ _ _ _ _ c.loop-taken.invariant c.in-Ok-step.ensures.state c.in-Ok-step.ensures.ready (subst (Appended (g.K.Sink.taken c.loop-taken.out) (g.K.Sink.taken c.write_all.new.self)) c.deref.ensures.value c.in-Ok-write_all.ensures.ok) c.write_all.ensures.cause.later

@@ -1,4 +1,4 @@
-use Rattle.stack_run.proofs.Running.{IsRunning}
+use Rattle.stack_run.proofs.RunLemmas.{IsRunning}
 use Rattle.stack_run.proofs.run.run_job.Given as goal
 
 abbrev pub invariant-loop-taken : goal.invariant-loop-taken

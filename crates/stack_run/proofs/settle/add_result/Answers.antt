@@ -1,6 +1,6 @@
 use Rattle.std.proofs.Common.{subst, arith}
-use Rattle.stack_run.specs.Fitting.{IsChoiceFit}
-use Rattle.stack_run.proofs.Copies.{result_fits}
+use Rattle.stack_run.specs.StackInvariant.{IsChoiceFit}
+use Rattle.stack_run.proofs.CopyLemmas.{result_fits}
 use Rattle.stack_run.proofs.settle.add_result.Goals as goal
 
 pub returns-in_ok-push-clause-fit : goal.returns-in_ok-push-clause-fit

@@ -1,9 +1,9 @@
 use Rattle.std.proofs.Common.{map, ◌∙◌, ap, sym, subst}
-use Rattle.au_model.specs.Each.{Each}
-use Rattle.au_model.specs.Items.{without_marks}
+use Rattle.au_model.specs.Terms.Each.{Each}
+use Rattle.run_model.specs.Machine.Items.{without_marks}
 use Rattle.engine_core.specs.Branches.{IsItemBelow}
-use Rattle.stack_run.specs.Views.{item_view}
-use Rattle.stack_run.proofs.Resuming.{mark_passed, no_mark, rest_below}
+use Rattle.stack_run.specs.StackView.{item_view}
+use Rattle.stack_run.proofs.ResumptionLemmas.{mark_passed, no_mark, rest_below}
 use Rattle.stack_run.proofs.settle.behind_marks.Goals as goal
 
 pub loop-behind-preserved : goal.loop-behind-preserved

@@ -1,9 +1,9 @@
 use Rattle.std.proofs.Common.{◌≡◌, ℕ, length, map}
-use Rattle.au_model.specs.Each.{Each}
-use Rattle.au_model.specs.Items.{without_marks}
-use Rattle.au_model.specs.Substitutions.{Substitution}
+use Rattle.au_model.specs.Terms.Each.{Each}
+use Rattle.run_model.specs.Machine.Items.{without_marks}
+use Rattle.au_model.specs.Terms.Substitutions.{Substitution}
 use Rattle.engine_core.specs.Branches.{IsItemBelow}
-use Rattle.stack_run.specs.Views.{item_view}
+use Rattle.stack_run.specs.StackView.{item_view}
 use Rattle.stack_run.proofs.settle.behind_marks.Given as goal
 
 abbrev pub invariant-loop-behind : goal.invariant-loop-behind

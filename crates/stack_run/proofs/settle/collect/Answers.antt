@@ -1,7 +1,7 @@
 use Rattle.std.proofs.Common.{refl, ap, ◌∙◌, arith, suc, ◌++◌, ◌∷◌, [], reverse}
-use Rattle.au_model.specs.Entries.{EndEntry, collected}
-use Rattle.stack_run.specs.Views.{frames_view}
-use Rattle.stack_run.proofs.Settling.{added_view, added_fit, added_none}
+use Rattle.run_model.specs.Machine.Entries.{EndEntry, collected}
+use Rattle.stack_run.specs.StackView.{frames_view}
+use Rattle.stack_run.proofs.FreeStepLemmas.{added_view, added_fit, added_none}
 use Rattle.stack_run.proofs.settle.collect.Goals as goal
 
 pub returns-in_ok-add_result-clause-view : goal.returns-in_ok-add_result-clause-view

@@ -1,8 +1,8 @@
 use Rattle.std.proofs.Common.{◌-◌, ◌∙◌, ap, arith}
 use Rattle.std.specs.Prelude.{codes}
-use Rattle.au_model.specs.Forms.{binary, list_term}
-use Rattle.bind_store.specs.Stored.{with_numbers}
-use Rattle.stack_run.proofs.Resuming.{findall_goes}
+use Rattle.au_model.specs.Terms.Forms.{binary, list_term}
+use Rattle.bind_store.specs.StoreView.{with_numbers}
+use Rattle.stack_run.proofs.ResumptionLemmas.{findall_goes}
 use Rattle.stack_run.proofs.settle.finish.Goals as goal
 
 pub returns-clause-ends : goal.returns-clause-ends

@@ -1,5 +1,5 @@
 use Rattle.std.proofs.Common.{sym}
-use Rattle.stack_run.proofs.Resuming.{alternative_rests, result_given}
+use Rattle.stack_run.proofs.ResumptionLemmas.{alternative_rests, result_given}
 use Rattle.stack_run.proofs.settle.go_on.Goals as goal
 
 pub returns-in-Some-clause-step : goal.returns-in-Some-clause-step

@@ -1,4 +1,4 @@
-use Rattle.stack_run.proofs.Resuming.{branch_resumes, segment_below}
+use Rattle.stack_run.proofs.ResumptionLemmas.{branch_resumes, segment_below}
 use Rattle.stack_run.proofs.settle.resume.Goals as goal
 
 pub extend-requires-clause-below : goal.extend-requires-clause-below

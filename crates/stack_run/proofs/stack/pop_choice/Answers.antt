@@ -1,5 +1,5 @@
-use Rattle.stack_run.specs.Views.{stored_at}
-use Rattle.stack_run.proofs.Frames.{top_under, taken_top, marked, mark_is, since_mark}
+use Rattle.stack_run.specs.StackView.{stored_at}
+use Rattle.stack_run.proofs.FrameLemmas.{top_under, taken_top, marked, mark_is, since_mark}
 use Rattle.stack_run.proofs.stack.pop_choice.Goals as goal
 
 pub undo_to-requires : goal.undo_to-requires

@@ -1,5 +1,5 @@
 use Rattle.std.proofs.Common.{◌≡◌, ◌++◌, length, map, reverse}
-use Rattle.stack_run.specs.Stacking.{branch_frame}
+use Rattle.stack_run.specs.ChoicePoints.{branch_frame}
 use Rattle.stack_run.proofs.stack.push_branches.Given as goal
 
 abbrev pub invariant-loop-branch : goal.invariant-loop-branch

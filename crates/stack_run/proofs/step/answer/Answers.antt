@@ -1,7 +1,7 @@
 use Rattle.std.proofs.Common.{◌++◌, ap, ◌∙◌}
-use Rattle.au_model.specs.Lines.{answer_line}
-use Rattle.term_writer.specs.Bindings.{named_terms}
-use Rattle.stack_run.proofs.Stepping.{answers_so}
+use Rattle.au_model.specs.Writing.Lines.{answer_line}
+use Rattle.term_writer.specs.AnswerParts.{named_terms}
+use Rattle.stack_run.proofs.StepLemmas.{answers_so}
 use Rattle.stack_run.proofs.step.answer.Goals as goal
 
 pub returns-clause-state : goal.returns-clause-state

@@ -1,5 +1,5 @@
 use Rattle.std.proofs.Common.{arith}
-use Rattle.stack_run.proofs.Stepping.{query_opens}
+use Rattle.stack_run.proofs.StepLemmas.{query_opens}
 use Rattle.stack_run.proofs.step.ask_next.Goals as goal
 
 pub returns-in_ok-machine-clause-state : goal.returns-in_ok-machine-clause-state

@@ -1,6 +1,6 @@
 use Rattle.std.proofs.Common.{sym, ap, ◌∙◌, arith}
-use Rattle.stack_run.specs.Machines.{names_asked}
-use Rattle.stack_run.proofs.Stepping.{names_past, names_at}
+use Rattle.stack_run.specs.MachineView.{names_asked}
+use Rattle.stack_run.proofs.StepLemmas.{names_past, names_at}
 use Rattle.stack_run.proofs.step.asked_names.Goals as goal
 use Rattle.stack_run.proofs.step.asked_names.Goals.{then-asked-eq0-via-then-asked-eq0, then-asked-eq0-via-else-asked-eq0+then-asked-len}
 

@@ -1,8 +1,8 @@
 use Rattle.std.proofs.Common.{ℕ, ◌+◌, ◌++◌, Vec, Global, ap, ◌∙◌}
 use Rattle.std.proofs.lemmas.Result.{on_ok_weaker}
-use Rattle.au_model.specs.Lines.{end_line}
-use Rattle.stack_run.specs.Machines.{ball_of}
-use Rattle.stack_run.proofs.Stepping.{query_ends}
+use Rattle.au_model.specs.Writing.Lines.{end_line}
+use Rattle.stack_run.specs.MachineView.{ball_of}
+use Rattle.stack_run.proofs.StepLemmas.{query_ends}
 use Rattle.stack_run.proofs.step.end_query.Goals as goal
 
 pub returns-clause-state : goal.returns-clause-state

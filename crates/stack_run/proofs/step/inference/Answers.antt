@@ -1,8 +1,8 @@
 use Rattle.std.proofs.Common.{sym, ap, ◌∙◌}
 use Rattle.std.proofs.lemmas.Result.{on_ok_weaker}
 use Rattle.std.specs.Arc.{arc_value}
-use Rattle.au_model.specs.States.{step}
-use Rattle.stack_run.proofs.Stepping.{at_item, taken_state}
+use Rattle.run_model.specs.Machine.States.{step}
+use Rattle.stack_run.proofs.StepLemmas.{at_item, taken_state}
 use Rattle.stack_run.proofs.step.inference.Goals as goal
 
 pub take_item-requires-clause-goals : goal.take_item-requires-clause-goals

@@ -1,13 +1,13 @@
 use Rattle.std.proofs.Common.{[], ap, ◌∙◌}
-use Rattle.au_model.specs.States.{settled}
-use Rattle.stack_run.proofs.Stepping.{settles_so, ready}
+use Rattle.run_model.specs.Machine.States.{with_free_steps}
+use Rattle.stack_run.proofs.StepLemmas.{settles_so, ready}
 use Rattle.stack_run.proofs.step.opening.Goals as goal
 
 pub returns-clause-state : goal.returns-clause-state
 returns-clause-state c =
     let job = c.args.job.now in
     let m = c.ask_next.new.machine in
-    settles_so job m.asked m.answers m.stack c.settle.new.stack c.in_ok-settle.ensures.view [] 0 ∙ ap settled (c.in_ok-ask_next.ensures.state [] 0)
+    settles_so job m.asked m.answers m.stack c.settle.new.stack c.in_ok-settle.ensures.view [] 0 ∙ ap with_free_steps (c.in_ok-ask_next.ensures.state [] 0)
 
 pub returns-clause-ready : goal.returns-clause-ready
 returns-clause-ready c = ready c.ask_next.new.machine.stack c.settle.new.stack c.in_ok-settle.ensures.view c.in_ok-settle.ensures.fit c.in_ok-settle.ensures.resting

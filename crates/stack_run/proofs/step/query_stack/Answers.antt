@@ -1,5 +1,5 @@
 use Rattle.std.proofs.Common.{◌∙◌}
-use Rattle.stack_run.proofs.Stepping.{query_begun, query_fit}
+use Rattle.stack_run.proofs.StepLemmas.{query_begun, query_fit}
 use Rattle.stack_run.proofs.step.query_stack.Goals as goal
 
 pub returns-clause-view : goal.returns-clause-view

@@ -1,6 +1,6 @@
 use Rattle.std.proofs.Common.{◌∷◌, sym, ap, ◌∙◌}
-use Rattle.stack_run.proofs.Lists.{first_is}
-use Rattle.stack_run.proofs.Stepping.{infers_so, first_no_mark, both_ok}
+use Rattle.stack_run.proofs.FrameListLemmas.{first_is}
+use Rattle.stack_run.proofs.StepLemmas.{infers_so, first_no_mark, both_ok}
 use Rattle.stack_run.proofs.step.take_item.Goals as goal
 
 pub returns-in_ok-rest-in-Some-clause-state : goal.returns-in_ok-rest-in-Some-clause-state

@@ -1,5 +1,5 @@
 use Rattle.std.proofs.Common.{◌≡◌, take, map}
-use Rattle.stack_run.specs.Machines.{value_in}
+use Rattle.stack_run.specs.MachineView.{value_in}
 use Rattle.stack_run.proofs.step.values_of.Given as goal
 
 abbrev pub invariant-loop-name : goal.invariant-loop-name

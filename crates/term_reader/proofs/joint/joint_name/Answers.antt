@@ -1,10 +1,10 @@
 use Rattle.std.proofs.Common.{◌≡◌, List, ℕ, IfOk, codes, refl, subst}
-use Rattle.term_reader.specs.Meant.{joint_name, lexeme_meant}
+use Rattle.term_reader.specs.LexemeView.{post_operator_name, lexeme_meant}
 use Rattle.term_reader.specs.declared.lexeme.Lexeme.{Lexeme}
 use Rattle.term_reader.specs.declared.lexeme.Lexeme.TheVariants as lex
 use Rattle.term_reader.proofs.joint.joint_name.Goals as goal
 
-other_name : (x : Lexeme) → ((n : List ℕ) → x ≡ lex.Name n → ⊥) → ((n : List ℕ) → x ≡ lex.QuotedName n → ⊥) → codes "," ≡ joint_name (lexeme_meant x)
+other_name : (x : Lexeme) → ((n : List ℕ) → x ≡ lex.Name n → ⊥) → ((n : List ℕ) → x ≡ lex.QuotedName n → ⊥) → codes "," ≡ post_operator_name (lexeme_meant x)
 other_name (lex.Name n) a b = absurd (a n refl)
 other_name (lex.QuotedName n) a b = absurd (b n refl)
 other_name x a b = refl

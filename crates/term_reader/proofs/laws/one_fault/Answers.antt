@@ -1,4 +1,4 @@
-use Rattle.term_reader.proofs.Firsts.{same-fault}
+use Rattle.term_reader.proofs.FirstFaultLemmas.{same-fault}
 use Rattle.term_reader.proofs.laws.one_fault.Goals as goal
 
 pub returns : goal.returns

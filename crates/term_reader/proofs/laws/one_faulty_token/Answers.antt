@@ -1,4 +1,4 @@
-use Rattle.term_reader.proofs.Firsts.{one-fault}
+use Rattle.term_reader.proofs.FirstFaultLemmas.{one-fault}
 use Rattle.term_reader.proofs.laws.one_faulty_token.Goals as goal
 
 pub returns : goal.returns

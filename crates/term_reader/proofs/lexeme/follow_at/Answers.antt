@@ -1,7 +1,7 @@
 use Rattle.std.proofs.Common.{◌∙◌, sym, ap, subst, arith}
-use Rattle.term_reader.specs.Meant.{scan_meant, IsScan}
-use Rattle.term_reader.specs.Following.{IsFollowAt}
-use Rattle.term_reader.proofs.Follows.{follow-is, follow-none}
+use Rattle.term_reader.specs.LexemeView.{scan_meant, IsScan}
+use Rattle.term_reader.specs.FollowingToken.{IsFollowingAt}
+use Rattle.term_reader.proofs.FollowingTokenLemmas.{follow-is, follow-none}
 use Rattle.term_reader.proofs.lexeme.follow_at.Goals as goal
 
 pub returns-in-Found : goal.returns-in-Found
@@ -9,7 +9,7 @@ returns-in-Found c =
     let text = c.args.text.now in
     let t = c.in-Found.token in
     let p = subst (IsScan text c.args.at) c.in-Found.is c.in_ok-next.ensures.place in
-    subst (λ f. IsFollowAt text c.args.at f) (sym c.follow_token.ensures)
+    subst (λ f. IsFollowingAt text c.args.at f) (sym c.follow_token.ensures)
     (follow-is text c.args.at t.end t.apart t.lexeme (sym c.in_ok-next.ensures.scan ∙ ap (scan_meant text) c.in-Found.is) (omega (arith, p.0.0), p.0.1) p.1)
 
 pub returns-in-Bad : goal.returns-in-Bad

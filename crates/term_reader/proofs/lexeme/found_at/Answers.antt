@@ -1,7 +1,7 @@
 use Rattle.std.proofs.Common.{◌∙◌, IfSome, option_map, sym, ap, subst, arith}
-use Rattle.term_reader.specs.Meant.{lexeme_meant, IsNarrow}
-use Rattle.term_reader.proofs.Fronts.{next-scanned, ends-behind}
-use Rattle.term_reader.proofs.Readings.{over-none}
+use Rattle.term_reader.specs.LexemeView.{lexeme_meant, IsNarrow}
+use Rattle.term_reader.proofs.FirstTokenLemmas.{next-scanned, ends-behind}
+use Rattle.term_reader.proofs.WholeReadingLemmas.{over-none}
 use Rattle.term_reader.proofs.lexeme.found_at.Goals as goal
 
 pub returns-in-Some-clause-place : goal.returns-in-Some-clause-place

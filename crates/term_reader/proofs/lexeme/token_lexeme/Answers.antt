@@ -1,6 +1,6 @@
 use Rattle.std.proofs.Common.{◌∙◌}
-use Rattle.token_scan.specs.Found.{word_of}
-use Rattle.term_reader.proofs.Lexed.{name-lexeme, variable-lexeme}
+use Rattle.token_scan.specs.NextToken.{word_of}
+use Rattle.term_reader.proofs.LexemeLemmas.{name-lexeme, variable-lexeme}
 use Rattle.term_reader.proofs.lexeme.token_lexeme.Goals as goal
 
 pub returns-in_ok-new-in-Name-clause-lexeme : goal.returns-in_ok-new-in-Name-clause-lexeme

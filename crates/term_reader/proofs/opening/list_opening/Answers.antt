@@ -1,25 +1,25 @@
 use Rattle.std.proofs.Common.{◌≡◌, sym, subst, IfOk}
-use Rattle.au_model.specs.Characters.{chars_from}
-use Rattle.au_model.specs.Lexemes.{tokens_of}
-use Rattle.term_reader.specs.Following.{IsFollowAt}
-use Rattle.term_reader.specs.Begun.{opening_meant}
-use Rattle.term_reader.proofs.Follows.{list-atom}
+use Rattle.au_model.specs.Syntax.Characters.{chars_from}
+use Rattle.au_model.specs.Syntax.Tokens.{tokens_of}
+use Rattle.term_reader.specs.FollowingToken.{IsFollowingAt}
+use Rattle.term_reader.specs.PrimaryView.{primary_meant}
+use Rattle.term_reader.proofs.FollowingTokenLemmas.{list-atom}
 use Rattle.std.proofs.lemmas.Result.{IfOk-weaker}
-use Rattle.term_reader.proofs.Follows.{reached-here, opens-then}
+use Rattle.term_reader.proofs.FollowingTokenLemmas.{reached-here, opens-then}
 use Rattle.term_reader.proofs.opening.list_opening.Goals as goal
 
 pub returns-in-ClosesList-clause-opening : goal.returns-in-ClosesList-clause-opening
 returns-in-ClosesList-clause-opening c =
     let text = c.args.source.text.now in
     let us = tokens_of (chars_from text c.in-ClosesList.behind) in
-    let h = subst (IsFollowAt text c.args.end) c.in-ClosesList.is c.in_ok-next.ensures in
-    subst (λ x. IfOk c.atom_opening.result (λ o. opening_meant c.args.source o ≡ x))
+    let h = subst (IsFollowingAt text c.args.end) c.in-ClosesList.is c.in_ok-next.ensures in
+    subst (λ x. IfOk c.atom_opening.result (λ o. primary_meant c.args.source o ≡ x))
     (sym (list-atom h.is.0 _ us h.is.1)) c.atom_opening.ensures.opening
 
 pub returns-in-ClosesList-clause-place : goal.returns-in-ClosesList-clause-place
 returns-in-ClosesList-clause-place c =
     let text = c.args.source.text.now in
-    let h = subst (IsFollowAt text c.args.end) c.in-ClosesList.is c.in_ok-next.ensures in
+    let h = subst (IsFollowingAt text c.args.end) c.in-ClosesList.is c.in_ok-next.ensures in
     IfOk-weaker c.atom_opening.result _ _ (λ o d. opens-then text c.args.end c.in-ClosesList.behind o h.ends d) c.atom_opening.ensures.place
 
 pub returns-in_default-clause-place : goal.returns-in_default-clause-place

@@ -1,4 +1,4 @@
-use Rattle.term_reader.proofs.Follows.{reached-here}
+use Rattle.term_reader.proofs.FollowingTokenLemmas.{reached-here}
 use Rattle.term_reader.proofs.opening.opening_of.Goals as goal
 
 pub returns-in-Variable-clause-place : goal.returns-in-Variable-clause-place

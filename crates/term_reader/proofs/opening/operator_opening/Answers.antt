@@ -1,4 +1,4 @@
-use Rattle.term_reader.proofs.Follows.{reached-here}
+use Rattle.term_reader.proofs.FollowingTokenLemmas.{reached-here}
 use Rattle.term_reader.proofs.opening.operator_opening.Goals as goal
 
 pub returns-in_default-clause-place : goal.returns-in_default-clause-place

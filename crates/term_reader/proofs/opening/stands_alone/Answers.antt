@@ -1,7 +1,7 @@
 use Rattle.std.proofs.Common.{◌≡◌, ◌∙◌, sym, ap, subst, IfOk}
-use Rattle.au_model.specs.Characters.{chars_from}
-use Rattle.term_reader.specs.Meant.{lexeme_meant, scan_meant}
-use Rattle.term_reader.proofs.Fronts.{alone-is, alone-none}
+use Rattle.au_model.specs.Syntax.Characters.{chars_from}
+use Rattle.term_reader.specs.LexemeView.{lexeme_meant, scan_meant}
+use Rattle.term_reader.proofs.FirstTokenLemmas.{alone-is, alone-none}
 use Rattle.term_reader.proofs.opening.stands_alone.Goals as goal
 
 pub returns-in-Found : goal.returns-in-Found

@@ -1,8 +1,8 @@
 use Rattle.std.proofs.Common.{◌≡◌, ◌∙◌, ◌<◌, [], ◌∷◌, ◌++◌, sym, ap, subst, arith}
-use Rattle.au_term.specs.Prefix.{cells_of, arity}
-use Rattle.term_reader.specs.Levels.{Settles, Turns}
-use Rattle.term_reader.specs.Orders.{pending}
-use Rattle.term_reader.proofs.Turning.{turns-start, turns-more, turns-single, turns-over, no_items}
+use Rattle.au_term.specs.PrefixOrder.{cells_of, arity}
+use Rattle.term_reader.specs.PostorderLevels.{IsCompleting, IsReordering}
+use Rattle.term_reader.specs.Postorder.{pending}
+use Rattle.term_reader.proofs.PostorderLemmas.{turns-start, turns-more, turns-single, turns-over, no_items}
 use Rattle.term_reader.proofs.order.prefix_order.Goals as goal
 
 pub loop-cell-init : goal.loop-cell-init
@@ -17,9 +17,9 @@ loop-cell-preserved-in-Continue-1 c = λ t e.
     let stack = c.loop-cell.open.items in
     let out = c.loop-cell.out.items in
     let rest = c.pop.new.self.items in
-    let h = subst (λ cs. Turns cs stack out (cells_of t)) c.in-Some.ensures.items (c.loop-cell.invariant t e) in
+    let h = subst (λ cs. IsReordering cs stack out (cells_of t)) c.in-Some.ensures.items (c.loop-cell.invariant t e) in
     let lt : 0 < arity cell = omega (arith, c.arity-left.ensures) in
-    subst (λ ps. Turns rest ps out (cells_of t)) (sym (c.in_ok-push.ensures.items ∙ ap (λ n. stack ++ pending cell n ∷ []) c.arity-left.ensures)) (turns-more rest cell stack out (cells_of t) h lt)
+    subst (λ ps. IsReordering rest ps out (cells_of t)) (sym (c.in_ok-push.ensures.items ∙ ap (λ n. stack ++ pending cell n ∷ []) c.arity-left.ensures)) (turns-more rest cell stack out (cells_of t) h lt)
 
 pub loop-cell-preserved : goal.loop-cell-preserved
 loop-cell-preserved c = λ t e.
@@ -27,13 +27,13 @@ loop-cell-preserved c = λ t e.
     let stack = c.loop-cell.open.items in
     let out = c.loop-cell.out.items in
     let rest = c.pop.new.self.items in
-    let h = subst (λ cs. Turns cs stack out (cells_of t)) c.in-Some.ensures.items (c.loop-cell.invariant t e) in
+    let h = subst (λ cs. IsReordering cs stack out (cells_of t)) c.in-Some.ensures.items (c.loop-cell.invariant t e) in
     let none : arity cell ≡ 0 = omega (arith, c.arity-left.ensures) in
-    c.in_ok-settle.ensures rest (cells_of t) (subst (λ o. Settles rest stack o (cells_of t)) (sym c.in_ok-push-2.ensures.items) (turns-single rest cell stack out (cells_of t) h none))
+    c.in_ok-settle.ensures rest (cells_of t) (subst (λ o. IsCompleting rest stack o (cells_of t)) (sym c.in_ok-push-2.ensures.items) (turns-single rest cell stack out (cells_of t) h none))
 
 pub returns : goal.returns
 returns c = λ t e.
     let out = c.loop-cell.out.items in
     let stack = c.loop-cell.open.items in
     let before : c.loop-cell.cells.items ≡ [] = no_items c.loop-cell.cells.items (omega (arith, c.in_default.ensures.cases)) in
-    c.reverse.ensures.items ∙ turns-over stack out (cells_of t) (subst (λ cs. Turns cs stack out (cells_of t)) before (c.loop-cell.invariant t e))
+    c.reverse.ensures.items ∙ turns-over stack out (cells_of t) (subst (λ cs. IsReordering cs stack out (cells_of t)) before (c.loop-cell.invariant t e))

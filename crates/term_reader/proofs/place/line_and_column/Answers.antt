@@ -2,8 +2,8 @@ use Rattle.std.proofs.Common.{◌≡◌, ◌∙◌, ◌+◌, ◌-◌, ◌^◌, t
 use Rattle.std.proofs.lemmas.Iterator.{YieldsList-from_chars}
 use Rattle.std.proofs.lemmas.Iterator.Consumers.{YieldsList-end}
 use Rattle.std.specs.Str.{chars}
-use Rattle.term_reader.proofs.Places.{line-more, line-same, column-first, column-more, place}
-use Rattle.term_reader.proofs.Sheets.{map_same}
+use Rattle.term_reader.proofs.LineColumnLemmas.{line-more, line-same, column-first, column-more, place}
+use Rattle.term_reader.proofs.TermOutputLemmas.{map_same}
 use Rattle.term_reader.proofs.place.line_and_column.Goals as goal
 
 pub loop-c-preserved-then-c-eq10 : goal.loop-c-preserved-then-c-eq10

@@ -1,5 +1,5 @@
 use Rattle.std.proofs.Common.{◌≡◌}
-use Rattle.au_model.specs.TextFaults.{line_after, column_after}
+use Rattle.au_model.specs.Syntax.TextFaults.{line_after, column_after}
 use Rattle.term_reader.proofs.place.line_and_column.Given as goal
 
 abbrev pub invariant-loop-c : goal.invariant-loop-c

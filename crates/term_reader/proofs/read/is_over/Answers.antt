@@ -1,5 +1,5 @@
 use Rattle.std.proofs.Common.{sym}
-use Rattle.term_reader.proofs.Readings.{over-is, over-not, over-fault}
+use Rattle.term_reader.proofs.WholeReadingLemmas.{over-is, over-not, over-fault}
 use Rattle.term_reader.proofs.read.is_over.Goals as goal
 
 pub returns-in-EndOfText : goal.returns-in-EndOfText

@@ -1,10 +1,10 @@
 use Rattle.std.proofs.Common.{[], false, refl, sym, subst, arith}
-use Rattle.term_reader.specs.Begun.{setting_of}
-use Rattle.token_scan.specs.Parts.{IsPlaceFrom}
-use Rattle.term_reader.specs.Positions.{Due, Led, Outcome, Moves}
-use Rattle.term_reader.specs.Refusing.{RefusesWell}
-use Rattle.term_reader.proofs.Ledger.{led-start, led-then}
-use Rattle.term_reader.proofs.Readings.{spelled, no_term}
+use Rattle.term_reader.specs.PrimaryView.{setting_of}
+use Rattle.token_scan.specs.ScannedParts.{IsPlaceFrom}
+use Rattle.term_reader.specs.Positions.{Due, HasReadTo, IsStepOutcome, MovesForward}
+use Rattle.term_reader.specs.Refusals.{RefusesFirstFault}
+use Rattle.term_reader.proofs.HasReadLemmas.{led-start, led-then}
+use Rattle.term_reader.proofs.WholeReadingLemmas.{spelled, no_term}
 use Rattle.term_reader.proofs.read.read_tokens.Goals as goal
 
 pub returns-in-Over : goal.returns-in-Over
@@ -13,8 +13,8 @@ returns-in-Over c =
     let text = c.args.source.text.now in
     let here = c.tokens.state.at in
     let i = c.tokens.invariant in
-    let o = subst (λ t. Outcome s text i.position here c.turn_at.new.state t) c.in-Over.is (c.in_ok-next.ensures.outcome i.position i.stands i.phase_is) in
-    let m = subst (λ t. Moves text here c.turn_at.new.state t) c.in-Over.is c.in_ok-next.ensures.moves in
+    let o = subst (λ t. IsStepOutcome s text i.position here c.turn_at.new.state t) c.in-Over.is (c.in_ok-next.ensures.outcome i.position i.stands i.phase_is) in
+    let m = subst (λ t. MovesForward text here c.turn_at.new.state t) c.in-Over.is c.in_ok-next.ensures.moves in
     record {
       tree = o.tree;
       sheet = o.sheet;
@@ -27,8 +27,8 @@ returns-in-Refused c =
     let text = c.args.source.text.now in
     let here = c.tokens.state.at in
     let i = c.tokens.invariant in
-    let o = subst (λ t. Outcome s text i.position here c.turn_at.new.state t) c.in-Refused.is (c.in_ok-next.ensures.outcome i.position i.stands i.phase_is) in
-    let f = subst (λ t. RefusesWell s text c.args.at t) c.in-Refused.is (c.in_ok-next.ensures.fault c.args.at i.position i.stands i.phase_is i.led) in
+    let o = subst (λ t. IsStepOutcome s text i.position here c.turn_at.new.state t) c.in-Refused.is (c.in_ok-next.ensures.outcome i.position i.stands i.phase_is) in
+    let f = subst (λ t. RefusesFirstFault s text c.args.at t) c.in-Refused.is (c.in_ok-next.ensures.fault c.args.at i.position i.stands i.phase_is i.led) in
     (no_term s text c.args.at here i.position c.tokens.doubt i.led o, f)
 
 pub tokens-init : goal.tokens-init
@@ -41,7 +41,7 @@ tokens-init c =
       position = Due [];
       stands = c.new-state.ensures.stands;
       phase_is = refl;
-      led = subst (λ n. Led s text c.args.at (Due []) n false) e (led-start s text c.args.at);
+      led = subst (λ n. HasReadTo s text c.args.at (Due []) n false) e (led-start s text c.args.at);
     }
 
 pub tokens-preserved : goal.tokens-preserved
@@ -50,8 +50,8 @@ tokens-preserved c =
     let text = c.args.source.text.now in
     let here = c.tokens.state.at in
     let i = c.tokens.invariant in
-    let w = subst (λ t. Outcome s text i.position here c.turn_at.new.state t) c.in-On.is (c.in_ok-next.ensures.outcome i.position i.stands i.phase_is) in
-    let m = subst (λ t. Moves text here c.turn_at.new.state t) c.in-On.is c.in_ok-next.ensures.moves in
+    let w = subst (λ t. IsStepOutcome s text i.position here c.turn_at.new.state t) c.in-On.is (c.in_ok-next.ensures.outcome i.position i.stands i.phase_is) in
+    let m = subst (λ t. MovesForward text here c.turn_at.new.state t) c.in-On.is c.in_ok-next.ensures.moves in
     record {
       place = (omega (arith, i.place.0, m.0), m.1);
       position = w.new;

@@ -1,6 +1,6 @@
 use Rattle.std.proofs.Common.{◌∙◌, sym}
-use Rattle.term_reader.specs.Begun.{setting_of}
-use Rattle.term_reader.proofs.Prefixes.{joined-stuck, other-stuck}
+use Rattle.term_reader.specs.PrimaryView.{setting_of}
+use Rattle.term_reader.proofs.PrefixRefusalLemmas.{joined-stuck, other-stuck}
 use Rattle.term_reader.proofs.refusal.behind_prefix.Goals as goal
 
 pub returns-in-Some : goal.returns-in-Some

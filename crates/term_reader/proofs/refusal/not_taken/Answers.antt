@@ -1,8 +1,8 @@
 use Rattle.std.proofs.Common.{◌∙◌, sym}
-use Rattle.term_reader.specs.Begun.{setting_of}
-use Rattle.term_reader.specs.Meant.{lexeme_meant}
-use Rattle.term_reader.proofs.Faulty.{found-fault}
-use Rattle.term_reader.proofs.Refusals.{stuck-here, stuck-behind}
+use Rattle.term_reader.specs.PrimaryView.{setting_of}
+use Rattle.term_reader.specs.LexemeView.{lexeme_meant}
+use Rattle.term_reader.proofs.FaultyTokenLemmas.{found-fault}
+use Rattle.term_reader.proofs.RefusalLemmas.{stuck-here, stuck-behind}
 use Rattle.term_reader.proofs.refusal.not_taken.Goals as goal
 
 pub returns-then-is_held : goal.returns-then-is_held

@@ -1,4 +1,4 @@
-use Rattle.term_reader.specs.Begun.{setting_of}
+use Rattle.term_reader.specs.PrimaryView.{setting_of}
 use Rattle.term_reader.proofs.refusal.refusal_at.Goals as goal
 
 pub returns : goal.returns

@@ -1,6 +1,6 @@
 use Rattle.std.proofs.Common.{◌∙◌, sym, ap, subst}
-use Rattle.term_reader.specs.Meant.{lexeme_meant, scan_meant, IsScan}
-use Rattle.term_reader.proofs.Faulty.{found-fault, bad-fault, end-fault}
+use Rattle.term_reader.specs.LexemeView.{lexeme_meant, scan_meant, IsScan}
+use Rattle.term_reader.proofs.FaultyTokenLemmas.{found-fault, bad-fault, end-fault}
 use Rattle.term_reader.proofs.refusal.refusal_of.Goals as goal
 
 pub returns-in-Found : goal.returns-in-Found

@@ -2,7 +2,7 @@ use Rattle.std.proofs.Common.{◌≡◌, ◌∙◌, [], ◌∷◌, ◌++◌, IfO
 use Rattle.std.specs.Str.{chars}
 use Rattle.std.specs.String.{string_bytes}
 use Rattle.std.proofs.lemmas.Str.{chars-nil, IsUtf8-string_bytes}
-use Rattle.token_scan.proofs.QuotedItems.{chars-put}
+use Rattle.token_scan.proofs.QuotedItemLemmas.{chars-put}
 use Rattle.term_reader.proofs.sheet.char_atom.Goals as goal
 
 pub returns : goal.returns

@@ -1,51 +1,51 @@
 use Rattle.std.proofs.Common.{◌≡◌, ◌∙◌, true, false, ◌∷◌, Some, refl, sym, ap, subst}
 use Rattle.std.proofs.lemmas.Result.{IfOk-weaker}
 use Rattle.au_term.specs.declared.cell.Cell.TheVariants.{Functor}
-use Rattle.au_model.specs.Joints.{joint_fits}
-use Rattle.au_model.specs.Trees.{one}
-use Rattle.op_table.specs.Meant.{operator_meant}
-use Rattle.term_reader.specs.Begun.{setting_of}
-use Rattle.term_reader.specs.Meant.{joint_meant, joint_name, lexeme_meant}
-use Rattle.term_reader.specs.Stack as stack
-use Rattle.term_reader.specs.Stack.{bound_of}
-use Rattle.term_reader.specs.Frames.{InfixShape, put_stack}
-use Rattle.term_reader.specs.Sheets.{put_tree, put_cell}
-use Rattle.term_reader.specs.Kept.{IsSheetOf}
-use Rattle.au_model.specs.Lexemes.{token, Close}
-use Rattle.term_reader.specs.Meant.{IsStart}
-use Rattle.term_reader.specs.Positions.{There, Led, Outcome}
-use Rattle.term_reader.proofs.Held.{on-well}
-use Rattle.term_reader.specs.Settling.{IsFree}
+use Rattle.au_model.specs.Syntax.PostOperators.{post_operator_fits}
+use Rattle.au_model.specs.Syntax.Trees.{one}
+use Rattle.op_table.specs.OperatorView.{operator_meant}
+use Rattle.term_reader.specs.PrimaryView.{setting_of}
+use Rattle.term_reader.specs.LexemeView.{post_operator_meant, post_operator_name, lexeme_meant}
+use Rattle.term_reader.specs.Completion as stack
+use Rattle.term_reader.specs.Completion.{bound_of}
+use Rattle.term_reader.specs.FrameShapes.{InfixShape, emitted_stack}
+use Rattle.term_reader.specs.TermOutput.{emit_tree, emit_cell}
+use Rattle.term_reader.specs.OutputView.{IsOutputOf}
+use Rattle.au_model.specs.Syntax.Tokens.{token, Close}
+use Rattle.term_reader.specs.LexemeView.{IsStart}
+use Rattle.term_reader.specs.Positions.{There, HasReadTo, IsStepOutcome}
+use Rattle.term_reader.proofs.FrameRefusalLemmas.{on-well}
+use Rattle.term_reader.specs.OperatorReductions.{IsFullyReduced}
 use Rattle.term_reader.specs.declared.steps.Turn.TheVariants.{On}
-use Rattle.term_reader.proofs.Moving.{first-joint, outcome-same, pushed, infix-leads, postfix-leads, fits-bound}
+use Rattle.term_reader.proofs.ReaderStepLemmas.{first-joint, outcome-same, pushed, infix-leads, postfix-leads, fits-bound}
 use Rattle.term_reader.proofs.steps.after.Goals as goal
 
 pub returns-then-not-fits-clause-outcome : goal.returns-then-not-fits-clause-outcome
 returns-then-not-fits-clause-outcome c = λ k l st.
     let s = setting_of c.args.source in
     let x = lexeme_meant c.args.found.lexeme in
-    let j = joint_meant (joint_name x) c.joint_of-joint.result in
-    let z = c.in_ok-last.ensures.settled s k l (joint_name x) st in
+    let j = post_operator_meant (post_operator_name x) c.joint_of-joint.result in
+    let z = c.in_ok-last.ensures.settled s k l (post_operator_name x) st in
     let fj = first-joint s.ops _ _ c.args.found.apart x c.requires.next ∙ sym c.joint_of-joint.ensures in
-    let free = subst (λ b. IsFree z.below c.in_ok-last.last j b) c.if-not-fits.true z.free in
-    let inner = c.close.ensures.outcome z.below z.tree c.in_ok-last.last z.stands free.1 (subst (λ i. joint_fits (bound_of z.below) c.in_ok-last.last i ≡ false) c.joint_of-joint.ensures free.0) in
+    let free = subst (λ b. IsFullyReduced z.below c.in_ok-last.last j b) c.if-not-fits.true z.free in
+    let inner = c.close.ensures.outcome z.below z.tree c.in_ok-last.last z.stands free.1 (subst (λ i. post_operator_fits (bound_of z.below) c.in_ok-last.last i ≡ false) c.joint_of-joint.ensures free.0) in
     IfOk-weaker c.close.result _ _ (λ t w. outcome-same s c.args.source.text.now j k z.below l z.tree c.args.priority c.in_ok-last.last c.args.state.now.at c.close.new.state t z.same z.nests fj
-    (subst (λ m. Outcome s c.args.source.text.now (There z.below z.tree c.in_ok-last.last) m c.close.new.state t) c.in_ok-last.ensures.at w)) inner
+    (subst (λ m. IsStepOutcome s c.args.source.text.now (There z.below z.tree c.in_ok-last.last) m c.close.new.state t) c.in_ok-last.ensures.at w)) inner
 
 pub returns-in_ok-name-in-Infix-clause-outcome : goal.returns-in_ok-name-in-Infix-clause-outcome
 returns-in_ok-name-in-Infix-clause-outcome c = λ k l st.
     let s = setting_of c.args.source in
     let x = lexeme_meant c.args.found.lexeme in
-    let n = joint_name x in
+    let n = post_operator_name x in
     let o = operator_meant c.in-Infix.operator in
-    let j = joint_meant n c.joint_of-joint.result in
+    let j = post_operator_meant n c.joint_of-joint.result in
     let at = c.args.state.now.at in
     let q = c.in_ok-last.last in
     let z = c.in_ok-last.ensures.settled s k l n st in
     let fj = first-joint s.ops _ _ c.args.found.apart x c.requires.next ∙ sym c.joint_of-joint.ensures in
-    let free = subst (λ b. IsFree z.below q j b) c.if-not-fits.false z.free in
-    let fits = subst (λ i. joint_fits (bound_of z.below) q i ≡ true) (ap (joint_meant n) c.in-Infix.is) free in
-    let is = sym c.joint_of-joint.ensures ∙ ap (joint_meant n) c.in-Infix.is in
+    let free = subst (λ b. IsFullyReduced z.below q j b) c.if-not-fits.false z.free in
+    let fits = subst (λ i. post_operator_fits (bound_of z.below) q i ≡ true) (ap (post_operator_meant n) c.in-Infix.is) free in
+    let is = sym c.joint_of-joint.ensures ∙ ap (post_operator_meant n) c.in-Infix.is in
     IfOk-weaker c.open.result _ _ (λ t d. outcome-same s c.args.source.text.now j k z.below l z.tree c.args.priority q at c.open.new.state t z.same z.nests fj
     (pushed s c.args.source.text.now (There z.below z.tree q) at _ c.open.new.state _ (stack.InfixOf n o z.tree) z.below c.args.found.end t d z.stands.shapes (ap (λ m. InfixShape m o) c.in_ok-name-in-Infix.ensures) z.stands.sheet
     (fits-bound c.args.source at c.args.found.end z.below z.tree q c.args.found.apart x n o fits, z.stands.kept)
@@ -55,18 +55,18 @@ pub returns-in_ok-compound-in-Postfix-clause-outcome : goal.returns-in_ok-compou
 returns-in_ok-compound-in-Postfix-clause-outcome c = λ k l st.
     let s = setting_of c.args.source in
     let x = lexeme_meant c.args.found.lexeme in
-    let n = joint_name x in
+    let n = post_operator_name x in
     let o = operator_meant c.in-Postfix.operator in
-    let j = joint_meant n c.joint_of-joint.result in
+    let j = post_operator_meant n c.joint_of-joint.result in
     let at = c.args.state.now.at in
     let q = c.in_ok-last.last in
     let z = c.in_ok-last.ensures.settled s k l n st in
     let fj = first-joint s.ops _ _ c.args.found.apart x c.requires.next ∙ sym c.joint_of-joint.ensures in
-    let free = subst (λ b. IsFree z.below q j b) c.if-not-fits.false z.free in
-    let fits = subst (λ i. joint_fits (bound_of z.below) q i ≡ true) (ap (joint_meant n) c.in-Postfix.is) free in
-    let is = sym c.joint_of-joint.ensures ∙ ap (joint_meant n) c.in-Postfix.is in
-    let sheet = subst (λ m. IsSheetOf c.compound.new.self (put_cell (put_tree (put_stack z.below) z.tree) (Functor m 1))) c.in_ok-name-in-Postfix.ensures
-    (c.in_ok-compound-in-Postfix.ensures (put_tree (put_stack z.below) z.tree) z.stands.sheet) in
+    let free = subst (λ b. IsFullyReduced z.below q j b) c.if-not-fits.false z.free in
+    let fits = subst (λ i. post_operator_fits (bound_of z.below) q i ≡ true) (ap (post_operator_meant n) c.in-Postfix.is) free in
+    let is = sym c.joint_of-joint.ensures ∙ ap (post_operator_meant n) c.in-Postfix.is in
+    let sheet = subst (λ m. IsOutputOf c.compound.new.self (emit_cell (emit_tree (emitted_stack z.below) z.tree) (Functor m 1))) c.in_ok-name-in-Postfix.ensures
+    (c.in_ok-compound-in-Postfix.ensures (emit_tree (emitted_stack z.below) z.tree) z.stands.sheet) in
     outcome-same s c.args.source.text.now j k z.below l z.tree c.args.priority q at _ (On (Some o.priority) false) z.same z.nests fj (record {
       new = There z.below (one n z.tree) o.priority;
       stands = record { shapes = z.stands.shapes; sheet = sheet; kept = z.stands.kept; low = fits-bound c.args.source at c.args.found.end z.below z.tree q c.args.found.apart x n o fits };
@@ -80,24 +80,24 @@ false_true e = let z : ⊥ = cc in absurd z
 pub returns-in-Nothing-clause-outcome : goal.returns-in-Nothing-clause-outcome
 returns-in-Nothing-clause-outcome c = λ k l st.
     let x = lexeme_meant c.args.found.lexeme in
-    let n = joint_name x in
-    let j = joint_meant n c.joint_of-joint.result in
+    let n = post_operator_name x in
+    let j = post_operator_meant n c.joint_of-joint.result in
     let q = c.in_ok-last.last in
     let z = c.in_ok-last.ensures.settled (setting_of c.args.source) k l n st in
-    let free = subst (λ b. IsFree z.below q j b) c.if-not-fits.false z.free in
-    false_true (subst (λ i. joint_fits (bound_of z.below) q i ≡ true) (ap (joint_meant n) c.in-Nothing.is) free)
+    let free = subst (λ b. IsFullyReduced z.below q j b) c.if-not-fits.false z.free in
+    false_true (subst (λ i. post_operator_fits (bound_of z.below) q i ≡ true) (ap (post_operator_meant n) c.in-Nothing.is) free)
 
 pub returns-then-not-fits-clause-fault : goal.returns-then-not-fits-clause-fault
 returns-then-not-fits-clause-fault c = λ first k l st led starts.
     let s = setting_of c.args.source in
     let text = c.args.source.text.now in
     let x = lexeme_meant c.args.found.lexeme in
-    let j = joint_meant (joint_name x) c.joint_of-joint.result in
-    let z = c.in_ok-last.ensures.settled s k l (joint_name x) st in
-    let free = subst (λ b. IsFree z.below c.in_ok-last.last j b) c.if-not-fits.true z.free in
-    let stops = subst (λ i. joint_fits (bound_of z.below) c.in_ok-last.last i ≡ false) c.joint_of-joint.ensures free.0 in
+    let j = post_operator_meant (post_operator_name x) c.joint_of-joint.result in
+    let z = c.in_ok-last.ensures.settled s k l (post_operator_name x) st in
+    let free = subst (λ b. IsFullyReduced z.below c.in_ok-last.last j b) c.if-not-fits.true z.free in
+    let stops = subst (λ i. post_operator_fits (bound_of z.below) c.in_ok-last.last i ≡ false) c.joint_of-joint.ensures free.0 in
     let at = sym c.in_ok-last.ensures.at in
-    let moved : Led s text first (There k l c.args.priority) c.settle.new.self.at c.args.doubt = subst (λ n. Led s text first (There k l c.args.priority) n c.args.doubt) at led in
+    let moved : HasReadTo s text first (There k l c.args.priority) c.settle.new.self.at c.args.doubt = subst (λ n. HasReadTo s text first (There k l c.args.priority) n c.args.doubt) at led in
     c.close.ensures.fault first z.below z.tree c.in_ok-last.last z.stands free.1 stops (record {
       stack = k;
       tree = l;
@@ -117,9 +117,9 @@ returns-in_ok-name-in-Infix-clause-fault c = λ first k l st led starts.
 pub returns-in-Nothing-clause-fault : goal.returns-in-Nothing-clause-fault
 returns-in-Nothing-clause-fault c = λ first k l st led starts.
     let x = lexeme_meant c.args.found.lexeme in
-    let n = joint_name x in
-    let j = joint_meant n c.joint_of-joint.result in
+    let n = post_operator_name x in
+    let j = post_operator_meant n c.joint_of-joint.result in
     let q = c.in_ok-last.last in
     let z = c.in_ok-last.ensures.settled (setting_of c.args.source) k l n st in
-    let free = subst (λ b. IsFree z.below q j b) c.if-not-fits.false z.free in
-    false_true (subst (λ i. joint_fits (bound_of z.below) q i ≡ true) (ap (joint_meant n) c.in-Nothing.is) free)
+    let free = subst (λ b. IsFullyReduced z.below q j b) c.if-not-fits.false z.free in
+    false_true (subst (λ i. post_operator_fits (bound_of z.below) q i ≡ true) (ap (post_operator_meant n) c.in-Nothing.is) free)

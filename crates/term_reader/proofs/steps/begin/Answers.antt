@@ -1,92 +1,92 @@
 use Rattle.std.proofs.Common.{◌≤◌, nat_le, false, [], refl, ap, subst, arith}
 use Rattle.std.proofs.lemmas.Result.{IfOk-weaker}
-use Rattle.au_model.specs.Trees.{AtomTree}
-use Rattle.op_table.specs.Meant.{operator_meant}
-use Rattle.term_reader.specs.Begun.{leaf_tree, setting_of, tokens_at}
-use Rattle.term_reader.specs.Stack as stack
-use Rattle.term_reader.specs.Stack.{bound_of}
-use Rattle.term_reader.specs.Starting.{Starts}
-use Rattle.term_reader.proofs.Moving.{moved, pushed, put-down, plain-leads, alone-leads, round-leads, curly-leads, list-leads, call-leads, prefix-leads}
-use Rattle.term_reader.proofs.Turns.{fails, prefix_within}
-use Rattle.term_reader.proofs.Held.{on-well}
-use Rattle.term_reader.proofs.Highs.{stuck-fails}
+use Rattle.au_model.specs.Syntax.Trees.{AtomTree}
+use Rattle.op_table.specs.OperatorView.{operator_meant}
+use Rattle.term_reader.specs.PrimaryView.{leaf_tree, setting_of, tokens_at}
+use Rattle.term_reader.specs.Completion as stack
+use Rattle.term_reader.specs.Completion.{bound_of}
+use Rattle.term_reader.specs.ReaderSteps.{StartsPrimary}
+use Rattle.term_reader.proofs.ReaderStepLemmas.{moved, pushed, put-down, plain-leads, alone-leads, round-leads, curly-leads, list-leads, call-leads, prefix-leads}
+use Rattle.term_reader.proofs.CompletionStepLemmas.{fails, prefix_within}
+use Rattle.term_reader.proofs.FrameRefusalLemmas.{on-well}
+use Rattle.term_reader.proofs.NoOperandLemmas.{stuck-fails}
 use Rattle.term_reader.proofs.steps.begin.Goals as goal
 
 pub returns-in-Leaf-clause-moves : goal.returns-in-Leaf-clause-moves
 returns-in-Leaf-clause-moves c =
-    let h = subst (Starts c.args.source c.args.state.now.at) c.in-Leaf.is c.requires in
+    let h = subst (StartsPrimary c.args.source c.args.state.now.at) c.in-Leaf.is c.requires in
     IfOk-weaker c.put.result _ _ (λ t d. moved c.args.source.text.now c.args.state.now.at c.in-Leaf.behind c.put.new.state _ _ t d.turn d.at h.ends.place) c.put.ensures
 
 pub returns-in-Leaf-clause-outcome : goal.returns-in-Leaf-clause-outcome
 returns-in-Leaf-clause-outcome c = λ k st b.
-    let h = subst (Starts c.args.source c.args.state.now.at) c.in-Leaf.is c.requires in
+    let h = subst (StartsPrimary c.args.source c.args.state.now.at) c.in-Leaf.is c.requires in
     IfOk-weaker c.put.result _ _ (λ t d. put-down (setting_of c.args.source) c.args.source.text.now k c.args.state.now.at _ c.put.new.state (leaf_tree c.args.source.quotes c.in-Leaf.leaf) c.in-Leaf.behind false t d st
     (plain-leads c.args.source c.args.state.now.at c.in-Leaf.behind k c.in-Leaf.leaf h)) c.put.ensures
 
 pub returns-in-Round-clause-moves : goal.returns-in-Round-clause-moves
 returns-in-Round-clause-moves c =
-    let h = subst (Starts c.args.source c.args.state.now.at) c.in-Round.is c.requires in
+    let h = subst (StartsPrimary c.args.source c.args.state.now.at) c.in-Round.is c.requires in
     IfOk-weaker c.open.result _ _ (λ t d. moved c.args.source.text.now c.args.state.now.at c.in-Round.behind c.open.new.state _ _ t d.turn d.at h.ends.place) c.open.ensures
 
 pub returns-in-Round-clause-outcome : goal.returns-in-Round-clause-outcome
 returns-in-Round-clause-outcome c = λ k st b.
-    let h = subst (Starts c.args.source c.args.state.now.at) c.in-Round.is c.requires in
+    let h = subst (StartsPrimary c.args.source c.args.state.now.at) c.in-Round.is c.requires in
     IfOk-weaker c.open.result _ _ (λ t d. pushed (setting_of c.args.source) c.args.source.text.now _ c.args.state.now.at _ c.open.new.state _ stack.Round k c.in-Round.behind t d st.shapes refl st.sheet st.kept
     (round-leads c.args.source c.args.state.now.at c.in-Round.behind k h.begins h.ends)) c.open.ensures
 
 pub returns-in-Curly-clause-moves : goal.returns-in-Curly-clause-moves
 returns-in-Curly-clause-moves c =
-    let h = subst (Starts c.args.source c.args.state.now.at) c.in-Curly.is c.requires in
+    let h = subst (StartsPrimary c.args.source c.args.state.now.at) c.in-Curly.is c.requires in
     IfOk-weaker c.open-in-Curly.result _ _ (λ t d. moved c.args.source.text.now c.args.state.now.at c.in-Curly.behind c.open-in-Curly.new.state _ _ t d.turn d.at h.ends.place) c.open-in-Curly.ensures
 
 pub returns-in-Curly-clause-outcome : goal.returns-in-Curly-clause-outcome
 returns-in-Curly-clause-outcome c = λ k st b.
-    let h = subst (Starts c.args.source c.args.state.now.at) c.in-Curly.is c.requires in
+    let h = subst (StartsPrimary c.args.source c.args.state.now.at) c.in-Curly.is c.requires in
     IfOk-weaker c.open-in-Curly.result _ _ (λ t d. pushed (setting_of c.args.source) c.args.source.text.now _ c.args.state.now.at _ c.open-in-Curly.new.state _ stack.Braces k c.in-Curly.behind t d st.shapes refl st.sheet st.kept
     (curly-leads c.args.source c.args.state.now.at c.in-Curly.behind k h.begins h.ends)) c.open-in-Curly.ensures
 
 pub returns-in-List-clause-moves : goal.returns-in-List-clause-moves
 returns-in-List-clause-moves c =
-    let h = subst (Starts c.args.source c.args.state.now.at) c.in-List.is c.requires in
+    let h = subst (StartsPrimary c.args.source c.args.state.now.at) c.in-List.is c.requires in
     IfOk-weaker c.open-in-List.result _ _ (λ t d. moved c.args.source.text.now c.args.state.now.at c.in-List.behind c.open-in-List.new.state _ _ t d.turn d.at h.ends.place) c.open-in-List.ensures
 
 pub returns-in-List-clause-outcome : goal.returns-in-List-clause-outcome
 returns-in-List-clause-outcome c = λ k st b.
-    let h = subst (Starts c.args.source c.args.state.now.at) c.in-List.is c.requires in
+    let h = subst (StartsPrimary c.args.source c.args.state.now.at) c.in-List.is c.requires in
     IfOk-weaker c.open-in-List.result _ _ (λ t d. pushed (setting_of c.args.source) c.args.source.text.now _ c.args.state.now.at _ c.open-in-List.new.state _ (stack.ItemOf []) k c.in-List.behind t d st.shapes refl st.sheet st.kept
     (list-leads c.args.source c.args.state.now.at c.in-List.behind k h.begins h.ends)) c.open-in-List.ensures
 
 pub returns-in-Call-clause-moves : goal.returns-in-Call-clause-moves
 returns-in-Call-clause-moves c =
-    let h = subst (Starts c.args.source c.args.state.now.at) c.in-Call.is c.requires in
+    let h = subst (StartsPrimary c.args.source c.args.state.now.at) c.in-Call.is c.requires in
     IfOk-weaker c.open-in-Call.result _ _ (λ t d. moved c.args.source.text.now c.args.state.now.at c.in-Call.behind c.open-in-Call.new.state _ _ t d.turn d.at h.ends.place) c.open-in-Call.ensures
 
 pub returns-in-Call-clause-outcome : goal.returns-in-Call-clause-outcome
 returns-in-Call-clause-outcome c = λ k st b.
-    let h = subst (Starts c.args.source c.args.state.now.at) c.in-Call.is c.requires in
+    let h = subst (StartsPrimary c.args.source c.args.state.now.at) c.in-Call.is c.requires in
     IfOk-weaker c.open-in-Call.result _ _ (λ t d. pushed (setting_of c.args.source) c.args.source.text.now _ c.args.state.now.at _ c.open-in-Call.new.state _ (stack.ArgumentOf c.in-Call.name c.args.start []) k c.in-Call.behind t d st.shapes refl st.sheet (omega arith, st.kept)
     (call-leads c.args.source c.args.state.now.at c.in-Call.behind k c.in-Call.name c.args.start b h.begins h.ends)) c.open-in-Call.ensures
 
 pub returns-in-Alone-clause-moves : goal.returns-in-Alone-clause-moves
 returns-in-Alone-clause-moves c =
-    let h = subst (Starts c.args.source c.args.state.now.at) c.in-Alone.is c.requires in
+    let h = subst (StartsPrimary c.args.source c.args.state.now.at) c.in-Alone.is c.requires in
     IfOk-weaker c.put-in-Alone.result _ _ (λ t d. moved c.args.source.text.now c.args.state.now.at c.in-Alone.behind c.put-in-Alone.new.state _ _ t d.turn d.at h.ends.place) c.put-in-Alone.ensures
 
 pub returns-in-Alone-clause-outcome : goal.returns-in-Alone-clause-outcome
 returns-in-Alone-clause-outcome c = λ k st b.
-    let h = subst (Starts c.args.source c.args.state.now.at) c.in-Alone.is c.requires in
+    let h = subst (StartsPrimary c.args.source c.args.state.now.at) c.in-Alone.is c.requires in
     IfOk-weaker c.put-in-Alone.result _ _ (λ t d. put-down (setting_of c.args.source) c.args.source.text.now k c.args.state.now.at _ c.put-in-Alone.new.state (AtomTree c.in-Alone.name) c.in-Alone.behind _ t d st
     (alone-leads c.args.source c.args.state.now.at c.in-Alone.behind k c.in-Alone.name c.in-Alone.operator _ h (ap (λ n. nat_le c.in-Alone.operator.priority n) (c.bound.ensures k st.shapes)))) c.put-in-Alone.ensures
 
 pub returns-then-operator-bound-clause-outcome : goal.returns-then-operator-bound-clause-outcome
 returns-then-operator-bound-clause-outcome c = λ k st b goal w.
-    let h = subst (Starts c.args.source c.args.state.now.at) c.in-Prefix.is c.requires in
+    let h = subst (StartsPrimary c.args.source c.args.state.now.at) c.in-Prefix.is c.requires in
     let le = prefix_within (setting_of c.args.source) (tokens_at c.args.source c.args.state.now.at) (tokens_at c.args.source c.in-Prefix.behind) c.in-Prefix.name (operator_meant c.in-Prefix.operator) h.begins w in
     absurd (omega (arith, le, c.bound-in-Prefix.ensures k st.shapes, c.if-operator-bound.true))
 
 pub returns-else-operator-bound-clause-outcome : goal.returns-else-operator-bound-clause-outcome
 returns-else-operator-bound-clause-outcome c = λ k st b.
-    let h = subst (Starts c.args.source c.args.state.now.at) c.in-Prefix.is c.requires in
+    let h = subst (StartsPrimary c.args.source c.args.state.now.at) c.in-Prefix.is c.requires in
     let o = operator_meant c.in-Prefix.operator in
     let low : o.priority ≤ bound_of k = omega (arith, c.bound-in-Prefix.ensures k st.shapes, c.if-operator-bound.false) in
     IfOk-weaker c.open-in-Prefix.result _ _ (λ t d. pushed (setting_of c.args.source) c.args.source.text.now _ c.args.state.now.at _ c.open-in-Prefix.new.state _ (stack.PrefixOf c.in-Prefix.name o) k c.in-Prefix.behind t d st.shapes refl st.sheet (low, st.kept)
@@ -94,7 +94,7 @@ returns-else-operator-bound-clause-outcome c = λ k st b.
 
 pub returns-in-Fails-clause-outcome : goal.returns-in-Fails-clause-outcome
 returns-in-Fails-clause-outcome c = λ k st b goal w.
-    let h = subst (Starts c.args.source c.args.state.now.at) c.in-Fails.is c.requires in
+    let h = subst (StartsPrimary c.args.source c.args.state.now.at) c.in-Fails.is c.requires in
     fails (setting_of c.args.source) (tokens_at c.args.source c.args.state.now.at) h.begins w
 
 pub returns-in-Leaf-clause-fault : goal.returns-in-Leaf-clause-fault
@@ -127,7 +127,7 @@ returns-else-operator-bound-clause-fault c = λ first doubt k st led held.
 
 pub returns-then-operator-bound-clause-fault : goal.returns-then-operator-bound-clause-fault
 returns-then-operator-bound-clause-fault c = λ first doubt k st led held.
-    let h = subst (Starts c.args.source c.args.state.now.at) c.in-Prefix.is c.requires in
+    let h = subst (StartsPrimary c.args.source c.args.state.now.at) c.in-Prefix.is c.requires in
     c.in_ok-behind_prefix-in-Prefix.ensures first c.args.state.now.at k st.shapes (record {
       doubt = doubt;
       name = c.in-Prefix.name;
@@ -140,5 +140,5 @@ returns-then-operator-bound-clause-fault c = λ first doubt k st led held.
 
 pub returns-in-Fails-clause-fault : goal.returns-in-Fails-clause-fault
 returns-in-Fails-clause-fault c = λ first doubt k st led held.
-    let h = subst (Starts c.args.source c.args.state.now.at) c.in-Fails.is c.requires in
+    let h = subst (StartsPrimary c.args.source c.args.state.now.at) c.in-Fails.is c.requires in
     held (stuck-fails (setting_of c.args.source) c.args.source.text.now first c.args.state.now.at k doubt h.apart h.lexeme h.left led st.kept h.found h.begins)

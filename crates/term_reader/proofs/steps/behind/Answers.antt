@@ -1,11 +1,11 @@
 use Rattle.std.proofs.Common.{◌∙◌, sym, ap, subst}
-use Rattle.au_model.specs.Characters.{chars_from}
-use Rattle.term_reader.specs.Begun.{setting_of}
-use Rattle.term_reader.specs.Meant.{scan_meant, IsScan}
+use Rattle.au_model.specs.Syntax.Characters.{chars_from}
+use Rattle.term_reader.specs.PrimaryView.{setting_of}
+use Rattle.term_reader.specs.LexemeView.{scan_meant, IsScan}
 use Rattle.term_reader.specs.Positions.{There}
-use Rattle.term_reader.proofs.Faulty.{bad-fault, end-fault}
-use Rattle.term_reader.proofs.Highs.{stuck-none}
-use Rattle.term_reader.proofs.Moving.{nothing-there}
+use Rattle.term_reader.proofs.FaultyTokenLemmas.{bad-fault, end-fault}
+use Rattle.term_reader.proofs.NoOperandLemmas.{stuck-none}
+use Rattle.term_reader.proofs.ReaderStepLemmas.{nothing-there}
 use Rattle.term_reader.proofs.steps.behind.Goals as goal
 
 pub after-requires-clause-next : goal.after-requires-clause-next

@@ -1,12 +1,12 @@
 use Rattle.std.proofs.Common.{◌≡◌, ◌∙◌, [], ◌∷◌, ◌++◌, map, sym, ap, subst, arith}
-use Rattle.term_reader.specs.Frames.{frame_meant, shapes_up}
-use Rattle.term_reader.specs.Meant.{lexeme_meant}
-use Rattle.term_reader.proofs.Turning.{no_items}
-use Rattle.term_reader.proofs.Settled.{no_frames}
-use Rattle.term_reader.proofs.Closing.{is-end_token, argument-frame, full-frame}
-use Rattle.term_reader.proofs.Closed.{over-ends, over-refuses, over-never}
-use Rattle.term_reader.proofs.Held.{not-taken, many-fault}
-use Rattle.term_reader.proofs.Many.{IsFullStack}
+use Rattle.term_reader.specs.FrameShapes.{frame_meant, shapes_up}
+use Rattle.term_reader.specs.LexemeView.{lexeme_meant}
+use Rattle.term_reader.proofs.PostorderLemmas.{no_items}
+use Rattle.term_reader.proofs.OperatorReductionLemmas.{no_frames}
+use Rattle.term_reader.proofs.ClosingTokenLemmas.{is-end_token, argument-frame, full-frame}
+use Rattle.term_reader.proofs.FrameEndLemmas.{over-ends, over-refuses, over-never}
+use Rattle.term_reader.proofs.FrameRefusalLemmas.{not-taken, many-fault}
+use Rattle.term_reader.proofs.TooManyArgumentsLemmas.{IsFullStack}
 use Rattle.term_reader.proofs.steps.close.Goals as goal
 
 pub returns-clause-moves : goal.returns-clause-moves

@@ -1,11 +1,11 @@
 use Rattle.std.proofs.Common.{◌∙◌, ◌<◌, refl, sym, ap, arith}
 use Rattle.std.proofs.lemmas.Result.{IfOk-weaker}
-use Rattle.term_reader.specs.Frames.{put_stack}
-use Rattle.term_reader.specs.Sheets.{put_tree}
-use Rattle.term_reader.proofs.Closed.{compound-closes, argument-goes_on, argument-refuses, too_many, few_arguments}
+use Rattle.term_reader.specs.FrameShapes.{emitted_stack}
+use Rattle.term_reader.specs.TermOutput.{emit_tree}
+use Rattle.term_reader.proofs.FrameEndLemmas.{compound-closes, argument-goes_on, argument-refuses, too_many, few_arguments}
 use Rattle.term_reader.specs.declared.state.Frame.TheVariants as frame
-use Rattle.term_reader.proofs.Closing.{refuses, is-comma}
-use Rattle.term_reader.specs.Following.{closer_of}
+use Rattle.term_reader.proofs.ClosingTokenLemmas.{refuses, is-comma}
+use Rattle.term_reader.specs.FollowingToken.{closer_of}
 use Rattle.term_reader.proofs.steps.close_argument.Goals as goal
 
 pub returns-then-before-ge65534-clause-outcome : goal.returns-then-before-ge65534-clause-outcome
@@ -23,7 +23,7 @@ returns-else-before-ge65534-clause-outcome c = λ k l p h.
 
 pub returns-in_ok-compound-in-Close-clause-outcome : goal.returns-in_ok-compound-in-Close-clause-outcome
 returns-in_ok-compound-in-Close-clause-outcome c = λ k l p h.
-    compound-closes c.args.source c.args.state.now _ k l p c.args.token c.args.end c.args.name c.args.before c.args.place h c.in-Close.is refl refl (c.in_ok-compound-in-Close.ensures (put_tree (put_stack k) l) h.sheet)
+    compound-closes c.args.source c.args.state.now _ k l p c.args.token c.args.end c.args.name c.args.before c.args.place h c.in-Close.is refl refl (c.in_ok-compound-in-Close.ensures (emit_tree (emitted_stack k) l) h.sheet)
 
 pub returns-then-before-gt65534-clause-outcome : goal.returns-then-before-gt65534-clause-outcome
 returns-then-before-gt65534-clause-outcome c = λ k l p h goal g.

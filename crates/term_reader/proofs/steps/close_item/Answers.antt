@@ -1,12 +1,13 @@
 use Rattle.std.proofs.Common.{refl}
 use Rattle.std.proofs.lemmas.Result.{IfOk-weaker}
-use Rattle.term_reader.specs.Frames.{put_stack}
-use Rattle.au_model.specs.Trees.{AtomTree, nil}
-use Rattle.term_reader.specs.Sheets.{put_tree}
-use Rattle.term_reader.proofs.Closed.{list-closes, item-goes_on, tail-goes_on, item-refuses}
-use Rattle.term_reader.proofs.Moving.{moved}
+use Rattle.term_reader.specs.FrameShapes.{emitted_stack}
+use Rattle.au_model.specs.Syntax.Trees.{AtomTree}
+use Rattle.au_model.specs.Terms.Forms.{nil_name}
+use Rattle.term_reader.specs.TermOutput.{emit_tree}
+use Rattle.term_reader.proofs.FrameEndLemmas.{list-closes, item-goes_on, tail-goes_on, item-refuses}
+use Rattle.term_reader.proofs.ReaderStepLemmas.{moved}
 use Rattle.term_reader.specs.declared.state.Frame.TheVariants as frame
-use Rattle.term_reader.proofs.Closing.{refuses}
+use Rattle.term_reader.proofs.ClosingTokenLemmas.{refuses}
 use Rattle.term_reader.proofs.steps.close_item.Goals as goal
 
 pub returns-in-Comma-clause-moves : goal.returns-in-Comma-clause-moves
@@ -27,9 +28,9 @@ returns-in-Bar-clause-outcome c = λ k l p h.
 
 pub returns-in_ok-list-in-CloseList-clause-outcome : goal.returns-in_ok-list-in-CloseList-clause-outcome
 returns-in_ok-list-in-CloseList-clause-outcome c = λ k l p h.
-    let s = put_tree (put_stack k) l in
+    let s = emit_tree (emitted_stack k) l in
     list-closes c.args.source c.args.state.now _ k l p c.args.token c.args.end c.args.before h c.in-CloseList.is refl refl
-    (c.in_ok-list-in-CloseList.ensures (put_tree s (AtomTree nil)) (c.in_ok-nil-in-CloseList.ensures s h.sheet))
+    (c.in_ok-list-in-CloseList.ensures (emit_tree s (AtomTree nil_name)) (c.in_ok-nil-in-CloseList.ensures s h.sheet))
 
 pub returns-in_default-clause-outcome : goal.returns-in_default-clause-outcome
 returns-in_default-clause-outcome c = λ k l p h goal g.

@@ -1,7 +1,7 @@
 use Rattle.std.proofs.Common.{refl}
-use Rattle.term_reader.proofs.Closed.{round-closes, round-refuses}
+use Rattle.term_reader.proofs.FrameEndLemmas.{round-closes, round-refuses}
 use Rattle.term_reader.specs.declared.state.Frame.TheVariants as frame
-use Rattle.term_reader.proofs.Closing.{refuses}
+use Rattle.term_reader.proofs.ClosingTokenLemmas.{refuses}
 use Rattle.term_reader.proofs.steps.close_round.Goals as goal
 
 pub returns-in-Close-clause-outcome : goal.returns-in-Close-clause-outcome

@@ -1,5 +1,5 @@
-use Rattle.term_reader.specs.Meant.{lexeme_meant}
-use Rattle.term_reader.proofs.Moving.{starts}
+use Rattle.term_reader.specs.LexemeView.{lexeme_meant}
+use Rattle.term_reader.proofs.ReaderStepLemmas.{starts}
 use Rattle.term_reader.proofs.steps.opening_at.Goals as goal
 
 pub returns : goal.returns

@@ -1,11 +1,11 @@
 use Rattle.std.proofs.Common.{◌∙◌, sym, ap, subst}
-use Rattle.au_model.specs.Characters.{chars_from}
-use Rattle.term_reader.specs.Begun.{setting_of}
-use Rattle.term_reader.specs.Meant.{lexeme_meant, scan_meant, IsScan}
+use Rattle.au_model.specs.Syntax.Characters.{chars_from}
+use Rattle.term_reader.specs.PrimaryView.{setting_of}
+use Rattle.term_reader.specs.LexemeView.{lexeme_meant, scan_meant, IsScan}
 use Rattle.term_reader.specs.Positions.{Due}
-use Rattle.term_reader.proofs.Faulty.{bad-fault, end-fault, found-fault}
-use Rattle.term_reader.proofs.Highs.{stuck-none}
-use Rattle.term_reader.proofs.Moving.{nothing-due}
+use Rattle.term_reader.proofs.FaultyTokenLemmas.{bad-fault, end-fault, found-fault}
+use Rattle.term_reader.proofs.NoOperandLemmas.{stuck-none}
+use Rattle.term_reader.proofs.ReaderStepLemmas.{nothing-due}
 use Rattle.term_reader.proofs.steps.operand.Goals as goal
 
 pub opening_at-requires-clause-next : goal.opening_at-requires-clause-next

@@ -1,5 +1,5 @@
-use Rattle.term_writer.proofs.ReadEnd.{read_back}
-use Rattle.term_writer.proofs.ReadNumbers.{numbered-copy}
+use Rattle.term_writer.proofs.WrittenEndLemmas.{read_back}
+use Rattle.term_writer.proofs.ReadVariableLemmas.{numbered-copy}
 use Rattle.term_writer.proofs.laws.written_is_read_back.Goals as goal
 
 pub returns : goal.returns

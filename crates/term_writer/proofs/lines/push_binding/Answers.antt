@@ -3,8 +3,8 @@ use Rattle.std.proofs.lemmas.Result.{on_ok_weaker}
 use Rattle.std.specs.Str.{encode_utf8_all, chars}
 use Rattle.std.specs.String.{string_bytes}
 use Rattle.std.proofs.lemmas.Str.{encodes-chars}
-use Rattle.au_model.specs.Writing.{written_as_value}
-use Rattle.term_writer.proofs.BindingLines.{binding_text}
+use Rattle.au_model.specs.Writing.WrittenTerms.{written_as_value}
+use Rattle.term_writer.proofs.AnswerLineLemmas.{binding_text}
 use Rattle.term_writer.proofs.lines.push_binding.Goals as goal
 
 pub returns : goal.returns

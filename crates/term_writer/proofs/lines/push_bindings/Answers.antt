@@ -1,6 +1,6 @@
 use Rattle.std.proofs.lemmas.Result.{on_ok_weaker}
 use Rattle.std.proofs.Common.{◌∙◌, arith}
-use Rattle.term_writer.proofs.BindingLines.{line_goes, line_ends}
+use Rattle.term_writer.proofs.AnswerLineLemmas.{line_goes, line_ends}
 use Rattle.term_writer.proofs.lines.push_bindings.Goals as goal
 
 pub returns : goal.returns

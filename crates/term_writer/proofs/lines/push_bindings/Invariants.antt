@@ -1,5 +1,5 @@
 use Rattle.std.proofs.Common.{◌≡◌, ◌++◌, drop}
-use Rattle.term_writer.specs.Bindings.{named_terms, line_from}
+use Rattle.term_writer.specs.AnswerParts.{named_terms, line_from}
 use Rattle.term_writer.proofs.lines.push_bindings.Given as goal
 
 abbrev pub invariant-loop-i : goal.invariant-loop-i

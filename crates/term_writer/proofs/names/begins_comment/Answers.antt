@@ -3,7 +3,7 @@ use Rattle.std.specs.Str.{chars}
 use Rattle.std.specs.Str.Iter.{chars_rest}
 use Rattle.std.specs.List.{slice_get}
 use Rattle.std.proofs.lemmas.Str.{chars_past_char}
-use Rattle.au_model.specs.NameForms.{begins_comment}
+use Rattle.au_model.specs.Writing.NameForms.{begins_comment}
 use Rattle.term_writer.proofs.names.begins_comment.Goals as goal
 
 second_is : (cs : List ℕ) (c d : ℕ) → c ≡ 47 → Some d ≡ slice_get cs 0 → nat_eq d 42 ≡ begins_comment (c ∷ cs)

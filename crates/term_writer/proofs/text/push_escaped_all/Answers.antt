@@ -2,8 +2,8 @@ use Rattle.std.proofs.Common.{◌++◌, sym, ap, ◌∙◌, append_assoc}
 use Rattle.std.proofs.Common.{map-id}
 use Rattle.std.proofs.lemmas.Iterator.{YieldsList-from_chars}
 use Rattle.std.proofs.lemmas.Iterator.Consumers.{YieldsList-end}
-use Rattle.au_model.specs.NameForms.{escaped, escaped_all}
-use Rattle.term_writer.proofs.Seams.{escaped_more}
+use Rattle.au_model.specs.Writing.NameForms.{escaped, escaped_all}
+use Rattle.term_writer.proofs.SeamLemmas.{escaped_more}
 use Rattle.term_writer.proofs.text.push_escaped_all.Goals as goal
 
 pub loop-c-preserved : goal.loop-c-preserved

@@ -1,7 +1,7 @@
 use Rattle.std.proofs.Common.{◌∙◌, ◌++◌, map, ap, ap₂}
 use Rattle.std.specs.Arc.{arc_value}
-use Rattle.text_load.specs.Texts.{not_defined_by}
-use Rattle.text_load.proofs.Assembling.{assembled}
+use Rattle.text_load.specs.LoadedTexts.{not_defined_by}
+use Rattle.text_load.proofs.JobAssemblyLemmas.{assembled}
 use Rattle.text_load.proofs.assembly.job_from.Goals as goal
 
 pub returns : goal.returns

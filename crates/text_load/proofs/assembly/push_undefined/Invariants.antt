@@ -1,6 +1,6 @@
 use Rattle.std.proofs.Common.{◌≡◌, ◌++◌, map, drop}
 use Rattle.std.specs.Arc.{arc_value}
-use Rattle.text_load.specs.Texts.{not_defined_by}
+use Rattle.text_load.specs.LoadedTexts.{not_defined_by}
 use Rattle.text_load.proofs.assembly.push_undefined.Given as goal
 
 abbrev pub invariant-loop-clause : goal.invariant-loop-clause

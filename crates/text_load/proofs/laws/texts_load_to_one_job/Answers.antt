@@ -1,4 +1,4 @@
-use Rattle.text_load.proofs.Alone.{one_job, no_fault, one_refusal}
+use Rattle.text_load.proofs.UniqueLoadLemmas.{one_job, no_fault, one_refusal}
 use Rattle.text_load.proofs.laws.texts_load_to_one_job.Goals as goal
 
 pub returns-clause-one : goal.returns-clause-one

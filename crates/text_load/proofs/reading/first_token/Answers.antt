@@ -1,4 +1,4 @@
-use Rattle.text_load.proofs.Going.{begins_no_fault}
+use Rattle.text_load.proofs.SentenceLemmas.{begins_no_fault}
 use Rattle.text_load.proofs.reading.first_token.Goals as goal
 
 pub returns-in-Err-clause-begins : goal.returns-in-Err-clause-begins

@@ -1,6 +1,6 @@
 use Rattle.std.proofs.Common.{subst, refl}
-use Rattle.text_load.specs.Read.{IsSentenceOf}
-use Rattle.text_load.proofs.Going.{clause_kept, query_kept_behind}
+use Rattle.text_load.specs.LoadedSentences.{IsSentenceOf}
+use Rattle.text_load.proofs.SentenceLemmas.{clause_kept, query_kept_behind}
 use Rattle.text_load.proofs.reading.keep.Goals as goal
 
 pub returns-in_ok-push-in-Clause : goal.returns-in_ok-push-in-Clause

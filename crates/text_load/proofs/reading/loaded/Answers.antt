@@ -1,8 +1,8 @@
 use Rattle.std.proofs.Common.{Ok, subst}
 use Rattle.std.proofs.lemmas.Str.{IsCharBoundary-start}
-use Rattle.text_load.specs.Loading.{IsNext}
+use Rattle.text_load.specs.LoadOutcome.{IsNext}
 use Rattle.text_load.specs.Sentences.{sentence}
-use Rattle.text_load.proofs.Going.{read_none, read_all, read_on}
+use Rattle.text_load.proofs.SentenceLemmas.{read_none, read_all, read_on}
 use Rattle.text_load.proofs.reading.loaded.Goals as goal
 
 pub sentences-init : goal.sentences-init

@@ -1,5 +1,5 @@
 use Rattle.std.proofs.Common.{◌-◌, length, IsCharBoundary}
-use Rattle.text_load.specs.Loading.{HasRead}
+use Rattle.text_load.specs.LoadOutcome.{HasRead}
 use Rattle.text_load.proofs.reading.loaded.Given as goal
 
 abbrev pub invariant-sentences : goal.invariant-sentences

@@ -1,6 +1,6 @@
 use Rattle.std.proofs.Common.{Err, sym, subst}
-use Rattle.text_load.specs.Loading.{IsNext}
-use Rattle.text_load.proofs.Going.{unread_from}
+use Rattle.text_load.specs.LoadOutcome.{IsNext}
+use Rattle.text_load.proofs.SentenceLemmas.{unread_from}
 use Rattle.text_load.proofs.reading.next_sentence.Goals as goal
 
 pub returns-in-Err : goal.returns-in-Err

@@ -3,14 +3,14 @@ use Rattle.std.specs.Cmp.{nat_eq_equiv}
 use Rattle.std.specs.Cmp.Lexicographic.{nat_list_eq_equiv}
 use Rattle.std.specs.List.{list_any}
 use Rattle.std.specs.Str.{chars}
-use Rattle.au_model.specs.Builtins.{builtins}
-use Rattle.au_model.specs.Control.{is_named, control_constructs}
-use Rattle.au_model.specs.Forms.{same_name}
-use Rattle.au_model.proofs.Reserved.{has_row-any}
-use Rattle.text_load.specs.Names.{is_row}
+use Rattle.run_model.specs.Goals.Builtins.{builtins}
+use Rattle.run_model.specs.Goals.Control.{is_named, control_constructs}
+use Rattle.au_model.specs.Terms.Forms.{same_name}
+use Rattle.run_model.proofs.ReservedNameLemmas.{has_row-any}
+use Rattle.text_load.specs.ReservedNames.{is_reserved_row}
 use Rattle.text_load.proofs.reserved.is_reserved.Goals as goal
 
-turned : (name : List ℕ) (arity : ℕ) (row : List ℕ) (count : ℕ) → is_row name arity row count ≡ (same_name name row && arity == count)
+turned : (name : List ℕ) (arity : ℕ) (row : List ℕ) (count : ℕ) → is_reserved_row name arity row count ≡ (same_name name row && arity == count)
 turned name arity row count = let names = nat_list_eq_equiv.symm row name in let counts = nat_eq_equiv.symm count arity in cc
 
 pub returns : goal.returns

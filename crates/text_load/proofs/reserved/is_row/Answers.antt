@@ -1,5 +1,5 @@
 use Rattle.std.proofs.Common.{◌∙◌, ◌==◌, ◌&&◌, ap, sym}
-use Rattle.au_term.proofs.Texts.{by_chars}
+use Rattle.au_term.proofs.TextLemmas.{by_chars}
 use Rattle.text_load.proofs.reserved.is_row.Goals as goal
 
 pub returns-else-eq : goal.returns-else-eq

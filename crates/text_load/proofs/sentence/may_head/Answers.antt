@@ -1,5 +1,5 @@
 use Rattle.std.proofs.Common.{◌∙◌, sym}
-use Rattle.text_load.proofs.Sorts.{may_atom, may_functor}
+use Rattle.text_load.proofs.SentenceFormLemmas.{may_atom, may_functor}
 use Rattle.text_load.proofs.sentence.may_head.Goals as goal
 
 pub returns-in-Atom : goal.returns-in-Atom

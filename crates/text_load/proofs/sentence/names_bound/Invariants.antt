@@ -1,6 +1,6 @@
 use Rattle.std.proofs.Common.{◌≡◌, map, max, drop}
-use Rattle.au_model.specs.Jobs.{names_bound}
-use Rattle.text_load.specs.Kept.{variable_meant}
+use Rattle.run_model.specs.Programs.Jobs.{names_bound}
+use Rattle.au_model.specs.Terms.Named.{variable_meant}
 use Rattle.text_load.proofs.sentence.names_bound.Given as goal
 
 abbrev pub invariant-loop-name : goal.invariant-loop-name

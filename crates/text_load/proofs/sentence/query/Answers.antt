@@ -1,12 +1,12 @@
 use Rattle.std.proofs.Common.{◌∙◌, sym, subst, ap, ap₂, max, map, refl, List}
-use Rattle.au_model.specs.Jobs.{names_bound}
+use Rattle.run_model.specs.Programs.Jobs.{names_bound}
 use Rattle.au_model.specs.declared.var_name.VarName.{VarName}
 use Rattle.au_term.specs.Term.{var_bound}
-use Rattle.text_load.specs.Kept.{variable_meant}
+use Rattle.au_model.specs.Terms.Named.{variable_meant}
 use Rattle.text_load.specs.Sentences as form
-use Rattle.text_load.specs.Read.{IsSentenceOf}
+use Rattle.text_load.specs.LoadedSentences.{IsSentenceOf}
 use Rattle.text_load.specs.declared.sentence.Sentence.TheVariants.{Query}
-use Rattle.text_load.proofs.Bounds.{made_of, made_kept, query_kept}
+use Rattle.text_load.proofs.GoalBoundLemmas.{made_of, made_kept, query_kept}
 use Rattle.text_load.proofs.sentence.query.Goals as goal
 
 pub new-requires : goal.new-requires

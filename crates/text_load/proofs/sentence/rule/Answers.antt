@@ -1,7 +1,7 @@
 use Rattle.std.proofs.Common.{◌∙◌, ap, ap₂}
 use Rattle.au_term.specs.Term.{argument}
 use Rattle.text_load.specs.Sentences.{clause_of}
-use Rattle.text_load.proofs.Sorts.{same_sentence}
+use Rattle.text_load.proofs.SentenceFormLemmas.{same_sentence}
 use Rattle.text_load.proofs.sentence.rule.Goals as goal
 
 pub returns : goal.returns

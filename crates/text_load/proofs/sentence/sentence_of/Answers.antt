@@ -1,7 +1,7 @@
 use Rattle.std.proofs.Common.{◌∙◌, sym, ap, map}
-use Rattle.text_load.specs.Kept.{variable_meant}
+use Rattle.au_model.specs.Terms.Named.{variable_meant}
 use Rattle.text_load.specs.Sentences.{clause_of}
-use Rattle.text_load.proofs.Sorts.{as_form, same_sentence}
+use Rattle.text_load.proofs.SentenceFormLemmas.{as_form, same_sentence}
 use Rattle.text_load.proofs.sentence.sentence_of.Goals as goal
 
 pub returns-in_ok-atom-in-Fact : goal.returns-in_ok-atom-in-Fact

@@ -1,8 +1,8 @@
 use Rattle.std.proofs.Common.{◌≡◌, ◌∙◌, ◌-◌, ◌^◌, ◌+◌, ◌*◌, min, ap, sym, rules, slice_get, None, true, false, arith}
 use Rattle.std.specs.Char.{digit_value}
-use Rattle.au_model.specs.Characters.{chars_from, is_digit_of, run, behind_run}
-use Rattle.token_scan.proofs.Steps.{behind_run-none, behind_run-stops, behind_run-passes, run-none, run-stops}
-use Rattle.token_scan.proofs.Capped.{number-goes_on, number-stops}
+use Rattle.au_model.specs.Syntax.Characters.{chars_from, is_digit_of, run, after_run}
+use Rattle.token_scan.proofs.RunLemmas.{behind_run-none, behind_run-stops, behind_run-passes, run-none, run-stops}
+use Rattle.token_scan.proofs.CappedNumberLemmas.{number-goes_on, number-stops}
 use Rattle.token_scan.proofs.cursor.digits.Goals as goal
 
 pub returns-in_default-to_digit-clause-rest : goal.returns-in_default-to_digit-clause-rest
@@ -36,7 +36,7 @@ loop-c-preserved c =
       fits = omega arith;
       place = search rules;
       rest = sym (behind_run-passes (is_digit_of c.args.base) c.in-Some.c (chars_from c.args.text.now c.step-end.result) passes)
-          ∙ (ap (behind_run (is_digit_of c.args.base)) (sym c.step-end.ensures.rest) ∙ c.loop-c.invariant.rest);
+          ∙ (ap (after_run (is_digit_of c.args.base)) (sym c.step-end.ensures.rest) ∙ c.loop-c.invariant.rest);
       number = number-goes_on c.args.base (2 ^ 64 - 1) c.loop-c.number c.in-Some-to_digit.digit c.saturating_add-number.result c.in-Some.c _ _ (omega arith)
           c.step-end.ensures.rest passes value new ∙ c.loop-c.invariant.number;
     }

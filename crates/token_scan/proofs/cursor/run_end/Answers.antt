@@ -1,7 +1,7 @@
 use Rattle.std.proofs.Common.{◌≡◌, ◌∙◌, sym, rules, slice_get, None, false}
-use Rattle.au_model.specs.Characters.{chars_from}
-use Rattle.token_scan.specs.Parts.{passes}
-use Rattle.token_scan.proofs.Steps.{behind_run-none, behind_run-stops}
+use Rattle.au_model.specs.Syntax.Characters.{chars_from}
+use Rattle.token_scan.specs.ScannedParts.{passes}
+use Rattle.token_scan.proofs.RunLemmas.{behind_run-none, behind_run-stops}
 use Rattle.token_scan.proofs.cursor.run_end.Goals as goal
 
 pub returns-then-not-passes-clause-rest : goal.returns-then-not-passes-clause-rest

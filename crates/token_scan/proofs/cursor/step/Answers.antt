@@ -1,6 +1,6 @@
 use Rattle.std.proofs.Common.{drop}
 use Rattle.std.proofs.lemmas.Str.{IsCharBoundary-past_char, IsUtf8-drop, chars_past_char, drop_past_char}
-use Rattle.token_scan.proofs.Steps.{begins}
+use Rattle.token_scan.proofs.RunLemmas.{begins}
 use Rattle.token_scan.proofs.cursor.step.Goals as goal
 
 pub returns-clause-boundary : goal.returns-clause-boundary

@@ -1,4 +1,4 @@
-use Rattle.token_scan.proofs.Steps.{run-longest}
+use Rattle.token_scan.proofs.RunLemmas.{run-longest}
 use Rattle.token_scan.proofs.laws.runs_are_longest.Goals as goal
 
 pub returns : goal.returns

@@ -1,6 +1,6 @@
 use Rattle.std.proofs.Common.{◌≡◌, ◌∙◌, ◌==◌, ◌&&◌, true, false, None, slice_get, rules, arith}
-use Rattle.au_model.specs.Characters.{chars_from, is_blank, first_is}
-use Rattle.token_scan.proofs.Layouts.{layout-blank, layout-line, layout-comment, layout-unclosed, layout-none, layout-end}
+use Rattle.au_model.specs.Syntax.Characters.{chars_from, is_blank, first_is}
+use Rattle.token_scan.proofs.LayoutLemmas.{layout-blank, layout-line, layout-comment, layout-unclosed, layout-none, layout-end}
 use Rattle.token_scan.proofs.layout.skip_layout.Goals as goal
 use Rattle.token_scan.proofs.layout.skip_layout.Goals.{else-c-eq47-via-then-c-eq47+else-is_next, else-c-eq47-via-else-c-eq47}
 

@@ -2,9 +2,9 @@ use Rattle.std.proofs.Common.{◌≡◌, ◌∙◌, ap, sym, arith, [], subst, i
 use Rattle.std.specs.Str.{chars}
 use Rattle.std.specs.String.{string_bytes}
 use Rattle.std.proofs.lemmas.Str.{chars-nil}
-use Rattle.au_model.specs.Characters.{chars_from}
-use Rattle.token_scan.specs.Parts.{quoted_characters, part_of}
-use Rattle.token_scan.proofs.QuotedItems.{Gone, gone-start, gone-stands, gone-nothing, gone-closes, closed-wrong, closed-cut}
+use Rattle.au_model.specs.Syntax.Characters.{chars_from}
+use Rattle.token_scan.specs.ScannedParts.{quoted_characters, quoted_part_of}
+use Rattle.token_scan.proofs.QuotedItemLemmas.{Gone, gone-start, gone-stands, gone-nothing, gone-closes, closed-wrong, closed-cut}
 use Rattle.token_scan.proofs.quotes.characters.Goals as goal
 
 pub parts-init : goal.parts-init
@@ -32,6 +32,6 @@ returns-in-Closes c = sym (ap quoted_characters (gone-closes _ _ _ _ _ c.parts.i
 
 pub unreachable-requires : goal.unreachable-requires
 unreachable-requires c = elim c.in-Wrong.is [
-  | inl e ↦ closed-wrong _ _ _ _ c.parts.invariant.1 c.requires.closed (c.part.ensures.part ∙ ap (part_of c.args.text.now) e)
-  | inr e ↦ closed-cut _ _ _ _ c.parts.invariant.1 c.requires.closed (c.part.ensures.part ∙ ap (part_of c.args.text.now) e)
+  | inl e ↦ closed-wrong _ _ _ _ c.parts.invariant.1 c.requires.closed (c.part.ensures.part ∙ ap (quoted_part_of c.args.text.now) e)
+  | inr e ↦ closed-cut _ _ _ _ c.parts.invariant.1 c.requires.closed (c.part.ensures.part ∙ ap (quoted_part_of c.args.text.now) e)
 ]

@@ -1,9 +1,9 @@
 use Rattle.std.proofs.Common.{◌-◌, length}
 use Rattle.std.specs.String.{string_bytes}
 use Rattle.std.specs.Str.{chars}
-use Rattle.au_model.specs.Characters.{chars_from}
-use Rattle.token_scan.specs.Parts.{IsPlaceFrom}
-use Rattle.token_scan.proofs.QuotedItems.{Gone}
+use Rattle.au_model.specs.Syntax.Characters.{chars_from}
+use Rattle.token_scan.specs.ScannedParts.{IsPlaceFrom}
+use Rattle.token_scan.proofs.QuotedItemLemmas.{Gone}
 use Rattle.token_scan.proofs.quotes.characters.Given as goal
 
 abbrev pub invariant-parts : goal.invariant-parts

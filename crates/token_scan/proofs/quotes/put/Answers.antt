@@ -1,7 +1,7 @@
 use Rattle.std.proofs.Common.{◌∙◌, ap}
 use Rattle.std.specs.Str.{chars}
 use Rattle.std.proofs.lemmas.Str.{IsUtf8-string_bytes}
-use Rattle.token_scan.proofs.QuotedItems.{chars-put}
+use Rattle.token_scan.proofs.QuotedItemLemmas.{chars-put}
 use Rattle.token_scan.proofs.quotes.put.Goals as goal
 
 pub returns : goal.returns

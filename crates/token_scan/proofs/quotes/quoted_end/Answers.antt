@@ -1,8 +1,8 @@
 use Rattle.std.proofs.Common.{ap, arith}
-use Rattle.au_model.specs.Characters.{chars_from}
-use Rattle.au_model.specs.Tokens.{quoted_word, QuotedWord}
-use Rattle.token_scan.specs.Parts.{quoted_rest}
-use Rattle.token_scan.proofs.QuotedItems.{gone-stands, gone-nothing, gone-closes, gone-wrong, gone-cut}
+use Rattle.au_model.specs.Syntax.Characters.{chars_from}
+use Rattle.au_model.specs.Syntax.Words.{quoted_word, QuotedWord}
+use Rattle.token_scan.specs.ScannedParts.{quoted_rest}
+use Rattle.token_scan.proofs.QuotedItemLemmas.{gone-stands, gone-nothing, gone-closes, gone-wrong, gone-cut}
 use Rattle.token_scan.proofs.quotes.quoted_end.Goals as goal
 
 pub returns-in-Closes-clause-ok : goal.returns-in-Closes-clause-ok

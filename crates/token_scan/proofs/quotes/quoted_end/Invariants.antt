@@ -1,7 +1,7 @@
 use Rattle.std.proofs.Common.{◌-◌, List, ℕ, length}
-use Rattle.au_model.specs.Characters.{chars_from}
-use Rattle.token_scan.specs.Parts.{IsPlaceFrom}
-use Rattle.token_scan.proofs.QuotedItems.{Gone}
+use Rattle.au_model.specs.Syntax.Characters.{chars_from}
+use Rattle.token_scan.specs.ScannedParts.{IsPlaceFrom}
+use Rattle.token_scan.proofs.QuotedItemLemmas.{Gone}
 use Rattle.token_scan.proofs.quotes.quoted_end.Given as goal
 
 abbrev pub invariant-parts : goal.invariant-parts

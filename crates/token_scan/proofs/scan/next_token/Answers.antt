@@ -1,7 +1,7 @@
-use Rattle.au_model.specs.Characters.{chars_from}
-use Rattle.au_model.specs.Tokens.{word_at_front}
-use Rattle.token_scan.proofs.Words.{found-is}
-use Rattle.token_scan.proofs.Layouts.{layout-before}
+use Rattle.au_model.specs.Syntax.Characters.{chars_from}
+use Rattle.au_model.specs.Syntax.Words.{word_at_front}
+use Rattle.token_scan.proofs.WordLemmas.{found-is}
+use Rattle.token_scan.proofs.LayoutLemmas.{layout-before}
 use Rattle.token_scan.proofs.scan.next_token.Goals as goal
 
 pub returns-in_ok-kind-in-Ok-clause-token : goal.returns-in_ok-kind-in-Ok-clause-token

@@ -1,5 +1,5 @@
-use Rattle.au_model.specs.Characters.{chars_from}
-use Rattle.token_scan.proofs.Words.{is-found, integer_fits, integer_is}
+use Rattle.au_model.specs.Syntax.Characters.{chars_from}
+use Rattle.token_scan.proofs.WordLemmas.{is-found, integer_fits, integer_is}
 use Rattle.token_scan.proofs.values.integer.Goals as goal
 
 pub unreachable-requires : goal.unreachable-requires

@@ -3,10 +3,10 @@ use Rattle.std.specs.Str.{chars}
 use Rattle.std.proofs.lemmas.List.{append_cancel_right}
 use Rattle.std.proofs.lemmas.List.Folds.{drop_split}
 use Rattle.std.proofs.lemmas.Str.{chars-append}
-use Rattle.au_model.specs.Characters.{chars_from}
-use Rattle.au_model.specs.Tokens.{word_characters}
-use Rattle.token_scan.specs.Found.{word_of}
-use Rattle.token_scan.proofs.Words.{is-found, plain-is}
+use Rattle.au_model.specs.Syntax.Characters.{chars_from}
+use Rattle.au_model.specs.Syntax.Words.{word_characters}
+use Rattle.token_scan.specs.NextToken.{word_of}
+use Rattle.token_scan.proofs.WordLemmas.{is-found, plain-is}
 use Rattle.token_scan.proofs.values.spelling.Goals as goal
 
 pub returns : goal.returns

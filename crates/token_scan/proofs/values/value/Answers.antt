@@ -1,7 +1,7 @@
 use Rattle.std.proofs.Common.{◌≡◌, sym, subst, IfOk}
 use Rattle.std.specs.Str.{chars}
 use Rattle.std.specs.String.{string_bytes}
-use Rattle.token_scan.proofs.Words.{is-found, quoted_item}
+use Rattle.token_scan.proofs.WordLemmas.{is-found, quoted_item}
 use Rattle.token_scan.proofs.values.value.Goals as goal
 
 pub characters-requires-clause-closed : goal.characters-requires-clause-closed

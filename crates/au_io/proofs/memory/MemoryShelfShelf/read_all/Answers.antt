@@ -1,6 +1,6 @@
 use Rattle.std.proofs.Common.{◌≡◌, ◌∙◌, true, sym, rules}
 use Rattle.std.proofs.lemmas.Bool.{false≢true}
-use Rattle.au_io.specs.Memory.{is_fault}
+use Rattle.au_io.specs.MemoryFiles.{is_fault}
 use Rattle.au_io.proofs.memory.MemoryShelfShelf.read_all.Goals as goal
 
 pub returns-in_default-clause-told_long : goal.returns-in_default-clause-told_long

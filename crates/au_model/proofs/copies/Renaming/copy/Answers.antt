@@ -1,9 +1,9 @@
 use Rattle.std.proofs.Common.{arith}
 use Rattle.au_term.specs.Term.{Term}
-use Rattle.au_term.proofs.Bounds.{AreSound-at}
-use Rattle.au_model.specs.Substitutions.{apply}
-use Rattle.au_model.specs.Copies.{seen_in, renamed}
-use Rattle.au_model.proofs.Copying.{copying_begins, cell_due, copying_more, copied_all, copy_done, copy_is}
+use Rattle.au_term.proofs.VariableBoundLemmas.{AreSound-at}
+use Rattle.au_model.specs.Terms.Substitutions.{apply}
+use Rattle.au_model.specs.Terms.Copies.{seen_in, renamed}
+use Rattle.au_model.proofs.CopyLemmas.{copying_begins, cell_due, copying_more, copied_all, copy_done, copy_is}
 use Rattle.au_model.proofs.copies.Renaming.copy.Goals as goal
 
 pub loop-cell-init : goal.loop-cell-init

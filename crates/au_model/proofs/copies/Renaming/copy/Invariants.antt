@@ -1,4 +1,4 @@
-use Rattle.au_model.proofs.Copying.{Copying}
+use Rattle.au_model.proofs.CopyLemmas.{Copying}
 use Rattle.au_model.proofs.copies.Renaming.copy.Given as goal
 
 abbrev pub invariant-loop-cell : goal.invariant-loop-cell

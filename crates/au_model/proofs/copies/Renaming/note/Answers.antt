@@ -3,9 +3,9 @@ use Rattle.std.specs.Cmp.{unsigned_tied}
 use Rattle.std.specs.BTreeMap.{get}
 use Rattle.std.specs.List.{list_any}
 use Rattle.std.specs.Option.{option_copied}
-use Rattle.au_model.specs.Copies.{place_of}
-use Rattle.au_model.specs.Seen.{place_among}
-use Rattle.au_model.proofs.Copying.{among_more, not_among, last_place}
+use Rattle.au_model.specs.Terms.Copies.{place_of}
+use Rattle.au_model.specs.Terms.CopiedCells.{place_among}
+use Rattle.au_model.proofs.CopyLemmas.{among_more, not_among, last_place}
 use Rattle.au_model.proofs.copies.Renaming.note.Goals as goal
 use Rattle.au_model.proofs.copies.Renaming.note.Goals.{After-unwrap}
 

@@ -1,7 +1,7 @@
 use Rattle.std.proofs.Common.{◌≡◌, ◌≤◌, ◌-◌, ap, ap₂, ◌∙◌, sym, subst, arith, drop}
 use Rattle.au_term.specs.Term.{more, count, take_terms}
-use Rattle.au_term.specs.Prefix.{cells_of, terms_of, term_of, subterm, term_of-cells_of}
-use Rattle.au_term.proofs.Following.{Follows, follows}
+use Rattle.au_term.specs.PrefixOrder.{cells_of, terms_of, term_of, subterm, term_of-cells_of}
+use Rattle.au_term.proofs.ArgumentLemmas.{Follows, follows}
 use Rattle.au_term.proofs.arguments.ArgumentsIterator.next.Goals as goal
 use Rattle.au_term.proofs.arguments.ArgumentsIterator.next.Goals.{After-self-2-1}
 

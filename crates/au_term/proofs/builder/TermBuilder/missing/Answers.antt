@@ -1,6 +1,6 @@
 use Rattle.std.proofs.Common.{sym, ap, ◌∙◌}
-use Rattle.au_term.specs.Prefix.{due_after}
-use Rattle.au_term.proofs.Whole.{due_after-is}
+use Rattle.au_term.specs.PrefixOrder.{due_after}
+use Rattle.au_term.proofs.WholeTermLemmas.{due_after-is}
 use Rattle.au_term.proofs.builder.TermBuilder.missing.Goals as goal
 
 pub returns : goal.returns

@@ -1,6 +1,6 @@
 use Rattle.std.proofs.Common.{◌≡◌, ◌≤◌, [], ◌∷◌, length, sym, ap, ◌∙◌, arith, length-append}
-use Rattle.au_term.specs.Prefix.{due_after}
-use Rattle.au_term.proofs.Whole.{due_after-is, IsStarted-push}
+use Rattle.au_term.specs.PrefixOrder.{due_after}
+use Rattle.au_term.proofs.WholeTermLemmas.{due_after-is, IsStarted-push}
 use Rattle.au_term.proofs.builder.TermBuilder.push.Goals as goal
 
 pub overflow_sub-self-inside : goal.overflow_sub-self-inside

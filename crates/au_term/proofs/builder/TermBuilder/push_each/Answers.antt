@@ -1,7 +1,7 @@
 use Rattle.std.proofs.Common.{◌<◌, ap, ◌∙◌, sym, subst, take}
-use Rattle.au_term.specs.Prefix.{due_after, IsSound}
-use Rattle.au_term.proofs.Whole.{due_after-append, AreDue-at}
-use Rattle.au_term.proofs.Bounds.{AreSound-at}
+use Rattle.au_term.specs.PrefixOrder.{due_after, IsValidCell}
+use Rattle.au_term.proofs.WholeTermLemmas.{due_after-append, AreDue-at}
+use Rattle.au_term.proofs.VariableBoundLemmas.{AreSound-at}
 use Rattle.au_term.proofs.builder.TermBuilder.push_each.Goals as goal
 
 pub push-requires-clause-due : goal.push-requires-clause-due
@@ -11,4 +11,4 @@ push-requires-clause-due c =
 
 pub push-requires-clause-sound : goal.push-requires-clause-sound
 push-requires-clause-sound c =
-    subst IsSound (sym c.in_ok-share.ensures) (AreSound-at c.args.cells.now c.loop-cell.cell-index c.cell-item.result c.requires.sound c.loop-cell-test.true c.cell-item.is)
+    subst IsValidCell (sym c.in_ok-share.ensures) (AreSound-at c.args.cells.now c.loop-cell.cell-index c.cell-item.result c.requires.sound c.loop-cell-test.true c.cell-item.is)

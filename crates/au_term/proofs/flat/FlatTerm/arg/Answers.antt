@@ -1,7 +1,7 @@
 use Rattle.std.proofs.Common.{ap, ◌∙◌, sym, subst, ◌<◌}
-use Rattle.au_term.specs.Prefix.{cells_of}
+use Rattle.au_term.specs.PrefixOrder.{cells_of}
 use Rattle.au_term.specs.Term.{argument, argument_count}
-use Rattle.au_term.proofs.Places.{subterm-zero}
+use Rattle.au_term.proofs.SubtermLemmas.{subterm-zero}
 use Rattle.au_term.proofs.flat.FlatTerm.arg.Goals as goal
 
 pub arg_start-requires-clause-argument : goal.arg_start-requires-clause-argument

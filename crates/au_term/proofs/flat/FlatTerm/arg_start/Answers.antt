@@ -1,8 +1,8 @@
 use Rattle.std.proofs.Common.{◌≤◌, ◌+◌, length, drop, arith, rules, ap, ◌∙◌}
-use Rattle.au_term.specs.Prefix.{cells_of, terms_of, term_of}
-use Rattle.au_term.proofs.Kept.{kept}
-use Rattle.au_term.proofs.Places.{term_forest}
-use Rattle.au_term.proofs.Fills.{Argument, argument_at}
+use Rattle.au_term.specs.PrefixOrder.{cells_of, terms_of, term_of}
+use Rattle.au_term.proofs.StoredTermLemmas.{kept}
+use Rattle.au_term.proofs.SubtermLemmas.{term_forest}
+use Rattle.au_term.proofs.SizeFillLemmas.{Argument, argument_at}
 use Rattle.au_term.proofs.flat.FlatTerm.arg_start.Goals as goal
 use Rattle.au_term.proofs.flat.FlatTerm.arg_start.Goals.{After-deref}
 

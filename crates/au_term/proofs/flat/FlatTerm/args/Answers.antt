@@ -1,7 +1,7 @@
 use Rattle.std.proofs.Common.{ap, ◌∙◌, arith, drop}
 use Rattle.au_term.specs.Term.{take_terms}
-use Rattle.au_term.specs.Prefix.{arity, cells_of, terms_of}
-use Rattle.au_term.proofs.Following.{all_follow, enough_follow}
+use Rattle.au_term.specs.PrefixOrder.{arity, cells_of, terms_of}
+use Rattle.au_term.proofs.ArgumentLemmas.{all_follow, enough_follow}
 use Rattle.au_term.proofs.flat.FlatTerm.args.Goals as goal
 
 pub invariant_of-result : goal.invariant_of-result

@@ -1,6 +1,6 @@
 use Rattle.std.proofs.Common.{ap, ◌∙◌}
-use Rattle.au_term.specs.Prefix.{arity}
-use Rattle.au_term.proofs.Following.{arity-top_of}
+use Rattle.au_term.specs.PrefixOrder.{arity}
+use Rattle.au_term.proofs.ArgumentLemmas.{arity-top_of}
 use Rattle.au_term.proofs.flat.FlatTerm.arity.Goals as goal
 
 pub returns : goal.returns

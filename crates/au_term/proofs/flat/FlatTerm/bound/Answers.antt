@@ -1,13 +1,13 @@
 use Rattle.std.proofs.Common.{◌≡◌, sym, ap, ◌∙◌, arith, drop, subst, []}
 use Rattle.std.proofs.lemmas.List.{drop_all}
-use Rattle.au_term.specs.Prefix.{cells_of, AreSound}
-use Rattle.au_term.proofs.Bounds.{cells_bound, cells_bound-cells_of, AreSound-at}
-use Rattle.au_term.proofs.Whole.{whole}
+use Rattle.au_term.specs.PrefixOrder.{cells_of, AreValidCells}
+use Rattle.au_term.proofs.VariableBoundLemmas.{cells_bound, cells_bound-cells_of, AreSound-at}
+use Rattle.au_term.proofs.WholeTermLemmas.{whole}
 use Rattle.au_term.proofs.flat.FlatTerm.bound.Goals as goal
 
 pub bound-requires : goal.bound-requires
 bound-requires c =
-    AreSound-at c.deref-cell-items.result.now c.loop-cell.cell-index c.cell-item.result (subst AreSound (sym c.deref-cell-items.ensures.value) c.self.invariant.term.sound) c.loop-cell-test.true c.cell-item.is
+    AreSound-at c.deref-cell-items.result.now c.loop-cell.cell-index c.cell-item.result (subst AreValidCells (sym c.deref-cell-items.ensures.value) c.self.invariant.term.sound) c.loop-cell-test.true c.cell-item.is
 
 pub returns : goal.returns
 returns c =

@@ -1,6 +1,6 @@
 use Rattle.std.proofs.Common.{subst, sym, ◌∙◌, ap}
-use Rattle.au_term.specs.Prefix.{cells_of, IsTerm}
-use Rattle.au_term.proofs.Whole.{whole}
+use Rattle.au_term.specs.PrefixOrder.{cells_of, IsTerm}
+use Rattle.au_term.proofs.WholeTermLemmas.{whole}
 use Rattle.au_term.proofs.flat.FlatTerm.cells.Goals as goal
 
 pub returns-clause-cells : goal.returns-clause-cells

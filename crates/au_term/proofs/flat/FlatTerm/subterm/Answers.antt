@@ -1,6 +1,6 @@
 use Rattle.std.proofs.Common.{◌≡◌, ◌<◌, ◌≤◌, length, slice_range, arith, rules, ap, ◌∙◌, sym, subst}
-use Rattle.au_term.specs.Prefix.{cells_of, IsTerm, subterm}
-use Rattle.au_term.proofs.Kept.{Kept, kept, taken, subterm_whole}
+use Rattle.au_term.specs.PrefixOrder.{cells_of, IsTerm, subterm}
+use Rattle.au_term.proofs.StoredTermLemmas.{Kept, kept, taken, subterm_whole}
 use Rattle.au_term.proofs.flat.FlatTerm.subterm.Goals as goal
 use Rattle.au_term.proofs.flat.FlatTerm.subterm.Goals.{After-term_end}
 

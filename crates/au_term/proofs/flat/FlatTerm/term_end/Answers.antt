@@ -1,5 +1,5 @@
 use Rattle.std.proofs.Common.{◌<◌, ◌≤◌, ◌+◌, length, arith, rules}
-use Rattle.au_term.proofs.Kept.{kept, Ends, ends_by}
+use Rattle.au_term.proofs.StoredTermLemmas.{kept, Ends, ends_by}
 use Rattle.au_term.proofs.flat.FlatTerm.term_end.Goals as goal
 use Rattle.au_term.proofs.flat.FlatTerm.term_end.Goals.{After-row_known-1}
 

@@ -1,6 +1,6 @@
 use Rattle.std.proofs.Common.{◌∙◌, ap, get_or}
-use Rattle.au_term.specs.Prefix.{cells_of}
-use Rattle.au_term.proofs.Whole.{whole, first_cell}
+use Rattle.au_term.specs.PrefixOrder.{cells_of}
+use Rattle.au_term.proofs.WholeTermLemmas.{whole, first_cell}
 use Rattle.au_term.proofs.flat.FlatTerm.top.Goals as goal
 
 pub returns : goal.returns

@@ -1,7 +1,7 @@
 use Rattle.std.proofs.Common.{sym, subst}
-use Rattle.au_term.specs.Prefix.{IsForest}
-use Rattle.au_term.proofs.Whole.{whole}
-use Rattle.au_term.proofs.Kept.{whole_forest}
+use Rattle.au_term.specs.PrefixOrder.{IsForest}
+use Rattle.au_term.proofs.WholeTermLemmas.{whole}
+use Rattle.au_term.proofs.StoredTermLemmas.{whole_forest}
 use Rattle.au_term.proofs.flat.FlatTerm.with_places.Goals as goal
 
 pub fill_sizes-requires-clause-forest : goal.fill_sizes-requires-clause-forest

@@ -1,8 +1,8 @@
 use Rattle.std.proofs.Common.{◌≡◌, ◌<◌, ap, ◌∙◌, sym, subst, arith}
-use Rattle.au_term.specs.Prefix.{subterm}
-use Rattle.au_term.specs.Raised.{raised, IsPlace}
+use Rattle.au_term.specs.PrefixOrder.{subterm}
+use Rattle.au_term.specs.Shifted.{shifted, IsShiftablePlace}
 use Rattle.au_term.specs.Term.{argument, argument_count, var_bound}
-use Rattle.au_term.proofs.Raises.{argument_count-raised, argument-raised, argument-bound}
+use Rattle.au_term.proofs.ShiftLemmas.{argument_count-raised, argument-raised, argument-bound}
 use Rattle.au_term.proofs.shared.Shared.argument.Goals as goal
 use Rattle.au_term.proofs.shared.Shared.argument.Goals.{After-deref}
 
@@ -19,17 +19,17 @@ pub invariant_of-result : goal.invariant_of-result
 invariant_of-result c =
     let t = c.deref.result.now in
     let less = argument-bound c.args.i (subterm c.self.inside.at t) (few (goal.at.invariant_of-result c).After-deref) in
-    let place : IsPlace t c.arg_start.result c.self.inside.base = record {
+    let place : IsShiftablePlace t c.arg_start.result c.self.inside.base = record {
       within = c.arg_start.ensures.within;
       fits = omega (arith, ap var_bound c.arg_start.ensures.is, less, ap (λ u. var_bound (subterm c.self.inside.at u)) c.deref.ensures, c.self.invariant.fits);
     } in
-    subst (λ u. IsPlace u c.arg_start.result c.self.inside.base) (c.deref.ensures ∙ sym c.in_ok-clone.ensures.cases) place
+    subst (λ u. IsShiftablePlace u c.arg_start.result c.self.inside.base) (c.deref.ensures ∙ sym c.in_ok-clone.ensures.cases) place
 
 pub returns : goal.returns
 returns c =
     let base = c.self.inside.base in
     let at = c.self.inside.at in
-    ap (λ t. raised base (subterm c.arg_start.result t)) (c.in_ok-clone.ensures.cases ∙ sym c.deref.ensures)
-    ∙ (ap (raised base) c.arg_start.ensures.is
+    ap (λ t. shifted base (subterm c.arg_start.result t)) (c.in_ok-clone.ensures.cases ∙ sym c.deref.ensures)
+    ∙ (ap (shifted base) c.arg_start.ensures.is
     ∙ (sym (argument-raised base c.args.i (subterm at c.deref.result.now) (few (goal.at.returns c).After-deref))
-    ∙ (ap (λ t. argument c.args.i (raised base (subterm at t))) c.deref.ensures ∙ ap (argument c.args.i) c.self.view_is)))
+    ∙ (ap (λ t. argument c.args.i (shifted base (subterm at t))) c.deref.ensures ∙ ap (argument c.args.i) c.self.view_is)))

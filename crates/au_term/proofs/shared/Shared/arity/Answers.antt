@@ -1,9 +1,9 @@
 use Rattle.std.proofs.Common.{◌≡◌, ap, ◌∙◌, sym, get_or}
-use Rattle.au_term.specs.Prefix.{arity, top_of, term_of}
+use Rattle.au_term.specs.PrefixOrder.{arity, top_of, term_of}
 use Rattle.au_term.specs.Term.{argument_count}
-use Rattle.au_term.proofs.Whole.{whole, first_cell}
-use Rattle.au_term.proofs.Following.{arity-top_of}
-use Rattle.au_term.proofs.Raises.{argument_count-raised}
+use Rattle.au_term.proofs.WholeTermLemmas.{whole, first_cell}
+use Rattle.au_term.proofs.ArgumentLemmas.{arity-top_of}
+use Rattle.au_term.proofs.ShiftLemmas.{argument_count-raised}
 use Rattle.au_term.proofs.shared.Shared.arity.Goals as goal
 
 pub returns : goal.returns

@@ -1,10 +1,10 @@
 use Rattle.std.proofs.Common.{◌≡◌, ap, ◌∙◌, sym, subst, arith, get_or, length, ◌<◌}
 use Rattle.std.specs.Result.{IfOk}
-use Rattle.au_term.proofs.Places.{some_cell}
-use Rattle.au_term.specs.Prefix.{top_of, term_of}
-use Rattle.au_term.specs.Raised.{raised_cell}
-use Rattle.au_term.proofs.Whole.{whole, first_cell}
-use Rattle.au_term.proofs.Raises.{bound_at, bound_whole, top_of-raised}
+use Rattle.au_term.proofs.SubtermLemmas.{some_cell}
+use Rattle.au_term.specs.PrefixOrder.{top_of, term_of}
+use Rattle.au_term.specs.Shifted.{shifted_cell}
+use Rattle.au_term.proofs.WholeTermLemmas.{whole, first_cell}
+use Rattle.au_term.proofs.ShiftLemmas.{bound_at, bound_whole, top_of-raised}
 use Rattle.au_term.proofs.shared.Shared.top.Goals as goal
 
 pub raised-requires : goal.raised-requires
@@ -17,6 +17,6 @@ pub returns : goal.returns
 returns c =
     let first : c.index-cells-0.result ≡ top_of (term_of c.parts-base.result.0.now) =
     c.index-cells-0.is ∙ (ap (λ cs. get_or cs 0 c.index-cells-0.result) (whole c.parts-base.result.0.now c.parts-base.ensures.whole.leaves) ∙ first_cell (term_of c.parts-base.result.0.now) c.index-cells-0.result) in
-    let same : raised_cell c.parts-base.result.1 c.index-cells-0.result ≡ top_of c.args.self.now =
-    ap (raised_cell c.parts-base.result.1) first ∙ (sym (top_of-raised c.parts-base.result.1 (term_of c.parts-base.result.0.now)) ∙ ap top_of c.parts-base.ensures.term) in
+    let same : shifted_cell c.parts-base.result.1 c.index-cells-0.result ≡ top_of c.args.self.now =
+    ap (shifted_cell c.parts-base.result.1) first ∙ (sym (top_of-raised c.parts-base.result.1 (term_of c.parts-base.result.0.now)) ∙ ap top_of c.parts-base.ensures.term) in
     subst (λ u. IfOk c.raised.result (λ cell. cell ≡ u)) same c.raised.ensures

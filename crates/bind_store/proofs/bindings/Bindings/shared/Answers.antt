@@ -1,7 +1,7 @@
 use Rattle.std.proofs.Common.{◌≡◌, ◌<◌, length, ◌∙◌, ap, sym, subst}
 use Rattle.std.specs.Prelude.{IfOk}
 use Rattle.bind_store.specs.Bindings.{value_at}
-use Rattle.bind_store.proofs.Apart.{value_at-is}
+use Rattle.bind_store.proofs.TriangularLemmas.{value_at-is}
 use Rattle.bind_store.proofs.bindings.Bindings.shared.Goals as goal
 
 pub returns : goal.returns

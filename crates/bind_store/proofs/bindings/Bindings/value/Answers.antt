@@ -1,6 +1,6 @@
 use Rattle.std.proofs.Common.{◌<◌, length, ◌∙◌, ap, sym, subst}
 use Rattle.bind_store.specs.Bindings.{value_at}
-use Rattle.bind_store.proofs.Apart.{value_at-is}
+use Rattle.bind_store.proofs.TriangularLemmas.{value_at-is}
 use Rattle.bind_store.proofs.bindings.Bindings.value.Goals as goal
 
 pub returns : goal.returns

@@ -1,6 +1,6 @@
 use Rattle.std.proofs.Common.{◌<◌, length, ◌∙◌, ap, sym, subst}
 use Rattle.bind_store.specs.Bindings.{variable_at}
-use Rattle.bind_store.proofs.Taking.{variable_at-is}
+use Rattle.bind_store.proofs.UndoLemmas.{variable_at-is}
 use Rattle.bind_store.proofs.bindings.Bindings.variable.Goals as goal
 
 pub returns : goal.returns

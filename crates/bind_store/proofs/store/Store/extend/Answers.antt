@@ -1,8 +1,8 @@
 use Rattle.std.proofs.Common.{◌+◌, ◌++◌, ap, ◌∙◌, sym, subst, arith}
-use Rattle.au_model.specs.Each.{Each}
+use Rattle.au_model.specs.Terms.Each.{Each}
 use Rattle.bind_store.specs.Bindings.{IsBindingBelow}
-use Rattle.bind_store.specs.Stored.{pairs_of}
-use Rattle.bind_store.proofs.Storing.{further_below, both_below}
+use Rattle.bind_store.specs.StoreView.{pairs_of}
+use Rattle.bind_store.proofs.StoreLemmas.{further_below, both_below}
 use Rattle.bind_store.proofs.store.Store.extend.Goals as goal
 
 pub invariant_of-self : goal.invariant_of-self

@@ -1,4 +1,4 @@
-use Rattle.bind_store.proofs.Following.{listed_more}
+use Rattle.bind_store.proofs.DereferenceLemmas.{listed_more}
 use Rattle.std.proofs.Common.{arith}
 use Rattle.bind_store.proofs.store.Store.made_since.Goals as goal
 

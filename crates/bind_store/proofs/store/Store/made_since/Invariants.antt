@@ -1,5 +1,5 @@
 use Rattle.std.proofs.Common.{◌≡◌, ◌++◌, drop}
-use Rattle.bind_store.specs.Stored.{pairs_of}
+use Rattle.bind_store.specs.StoreView.{pairs_of}
 use Rattle.bind_store.proofs.store.Store.made_since.Given as goal
 
 abbrev pub invariant-loop-at : goal.invariant-loop-at

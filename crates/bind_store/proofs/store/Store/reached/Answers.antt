@@ -1,10 +1,10 @@
 use Rattle.std.proofs.Common.{◌≡◌, ◌∙◌, ap, sym, subst}
 use Rattle.std.specs.Prelude.{IfOk}
 use Rattle.std.proofs.lemmas.Result.{IfOk-weaker}
-use Rattle.au_term.specs.Prefix.{top_of}
+use Rattle.au_term.specs.PrefixOrder.{top_of}
 use Rattle.bind_store.specs.Bindings.{value_at}
-use Rattle.bind_store.specs.Stored.{IsReachedTerm}
-use Rattle.bind_store.proofs.Following.{follows, reached_value}
+use Rattle.bind_store.specs.StoreView.{IsDereferencedTerm}
+use Rattle.bind_store.proofs.DereferenceLemmas.{follows, reached_value}
 use Rattle.bind_store.proofs.store.Store.reached.Goals as goal
 
 pub loop-next-init : goal.loop-next-init
@@ -26,5 +26,5 @@ pub returns : goal.returns
 returns c =
     let bs = c.self.inside.bindings in
     let r = reached_value (record { made = bs; next = c.self.inside.next }) c.args.term.now c.loop-next.at c.top-in-loop-next.result.now c.loop-next.invariant.0 c.loop-next.invariant.1 c.self.invariant (c.top-in-loop-next.ensures ∙ ap top_of c.value.ensures) c.in_default-bound_place.ensures in
-    subst (λ u. IfOk c.shared.result (λ t. IsReachedTerm u c.args.term.now t)) c.self.view_is
-    (IfOk-weaker c.shared.result (λ t. t ≡ value_at bs c.loop-next.at) _ (λ t e. subst (IsReachedTerm (record { made = bs; next = c.self.inside.next }) c.args.term.now) (sym e) r) c.shared.ensures)
+    subst (λ u. IfOk c.shared.result (λ t. IsDereferencedTerm u c.args.term.now t)) c.self.view_is
+    (IfOk-weaker c.shared.result (λ t. t ≡ value_at bs c.loop-next.at) _ (λ t e. subst (IsDereferencedTerm (record { made = bs; next = c.self.inside.next }) c.args.term.now) (sym e) r) c.shared.ensures)

@@ -1,8 +1,8 @@
 use Rattle.std.proofs.Common.{◌≡◌, ◌<◌, length}
-use Rattle.au_term.specs.Prefix.{cells_of}
-use Rattle.au_model.specs.Substitutions.{resolve}
+use Rattle.au_term.specs.PrefixOrder.{cells_of}
+use Rattle.au_model.specs.Terms.Substitutions.{resolve}
 use Rattle.bind_store.specs.Bindings.{composed, value_at}
-use Rattle.bind_store.specs.Resolving.{cells_weight, weight_of}
+use Rattle.bind_store.specs.ResolvedCells.{cells_weight, weight_of}
 use Rattle.bind_store.proofs.store.Store.reached.Given as goal
 
 abbrev pub invariant-loop-next : goal.invariant-loop-next

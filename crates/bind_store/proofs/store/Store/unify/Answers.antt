@@ -1,9 +1,9 @@
 use Rattle.std.proofs.Common.{◌≤◌, ◌∷◌, [], sym, subst}
 use Rattle.au_term.specs.Term.{var_bound}
-use Rattle.au_model.specs.Substitutions.{resolve}
+use Rattle.au_model.specs.Terms.Substitutions.{resolve}
 use Rattle.bind_store.specs.Bindings.{composed}
-use Rattle.bind_store.specs.Unifying.{IsSolved}
-use Rattle.bind_store.proofs.Storing.{extended_below}
+use Rattle.bind_store.specs.UnificationSteps.{IsSolved}
+use Rattle.bind_store.proofs.StoreLemmas.{extended_below}
 use Rattle.bind_store.proofs.store.Store.unify.Goals as goal
 
 pub invariant_of-self : goal.invariant_of-self

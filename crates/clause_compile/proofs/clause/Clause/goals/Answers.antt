@@ -1,7 +1,7 @@
 use Rattle.std.proofs.Common.{arith, sym, subst}
 use Rattle.std.specs.Arc.{arc_value}
-use Rattle.clause_compile.specs.Places.{ArePlaces}
-use Rattle.clause_compile.proofs.Compiled.{body_is, part_places}
+use Rattle.clause_compile.specs.GoalPlaces.{ArePlaces}
+use Rattle.clause_compile.proofs.CompiledClauseLemmas.{body_is, part_places}
 use Rattle.clause_compile.proofs.clause.Clause.goals.Goals as goal
 
 pub goals_before-requires : goal.goals_before-requires

@@ -1,5 +1,5 @@
 use Rattle.std.proofs.Common.{◌∙◌, arith}
-use Rattle.clause_compile.proofs.Compiled.{body_is, part_place, part_raised}
+use Rattle.clause_compile.proofs.CompiledClauseLemmas.{body_is, part_place, part_raised}
 use Rattle.clause_compile.proofs.clause.Clause.raised_body.Goals as goal
 
 pub new-requires : goal.new-requires

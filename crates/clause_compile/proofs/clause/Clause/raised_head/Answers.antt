@@ -1,5 +1,5 @@
 use Rattle.std.proofs.Common.{◌∙◌, arith}
-use Rattle.clause_compile.proofs.Compiled.{head_is, part_place, part_raised}
+use Rattle.clause_compile.proofs.CompiledClauseLemmas.{head_is, part_place, part_raised}
 use Rattle.clause_compile.proofs.clause.Clause.raised_head.Goals as goal
 
 pub new-requires : goal.new-requires

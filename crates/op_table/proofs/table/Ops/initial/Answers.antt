@@ -1,8 +1,8 @@
 use Rattle.std.proofs.Common.{◌≡◌, sym, subst, map}
 use Rattle.std.specs.Str.{chars}
-use Rattle.au_model.specs.Operators.{IsOperatorTable, initial_operators}
-use Rattle.op_table.specs.Meant.{row_meant}
-use Rattle.op_table.proofs.Initial.{initial_operators-table}
+use Rattle.au_model.specs.Syntax.Operators.{IsOperatorTable, initial_operators}
+use Rattle.op_table.specs.OperatorView.{row_meant}
+use Rattle.op_table.proofs.InitialTableLemmas.{initial_operators-table}
 use Rattle.op_table.proofs.table.Ops.initial.Goals as goal
 
 pub invariant_of-result : goal.invariant_of-result

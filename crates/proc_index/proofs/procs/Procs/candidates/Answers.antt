@@ -2,7 +2,7 @@ use Rattle.std.proofs.Common.{◌∙◌, sym, map, length}
 use Rattle.std.proofs.lemmas.List.{length-map}
 use Rattle.std.specs.Arc.{arc_value}
 use Rattle.std.proofs.lemmas.Bool.{eqb-true}
-use Rattle.proc_index.proofs.Adding.{no_candidates, some_candidates, positive}
+use Rattle.proc_index.proofs.IndexLemmas.{no_candidates, some_candidates, positive}
 use Rattle.proc_index.proofs.procs.Procs.candidates.Goals as goal
 
 pub returns-then-is_empty-clause-candidates : goal.returns-then-is_empty-clause-candidates

@@ -1,7 +1,7 @@
 use Rattle.std.proofs.Common.{map, take}
 use Rattle.std.specs.Arc.{arc_value}
-use Rattle.proc_index.specs.Procedures.{IsKeptIn}
+use Rattle.proc_index.specs.ProcedureIndex.{IsIndexOf}
 use Rattle.proc_index.proofs.procs.Procs.new.Given as goal
 
 abbrev pub invariant-loop-clause : goal.invariant-loop-clause
-invariant-loop-clause l = IsKeptIn l.index (map arc_value (take l.clause-index l.clause-items))
+invariant-loop-clause l = IsIndexOf l.index (map arc_value (take l.clause-index l.clause-items))

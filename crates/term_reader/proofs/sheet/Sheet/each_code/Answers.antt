@@ -5,9 +5,9 @@ use Rattle.std.proofs.lemmas.Int.{to_z-of_z}
 use mir.Val.{SFits, to_z, of_z}
 use Rattle.std.proofs.lemmas.List.{length_push}
 use Rattle.au_term.specs.declared.cell.Cell.TheVariants.{Int as IntCell}
-use Rattle.term_reader.specs.Kept.{IsSheetOf}
-use Rattle.term_reader.specs.Sheets.{put_cell, put_codes}
-use Rattle.term_reader.proofs.Sheets.{put_codes-last, map_same}
+use Rattle.term_reader.specs.OutputView.{IsOutputOf}
+use Rattle.term_reader.specs.TermOutput.{emit_cell, emit_codes}
+use Rattle.term_reader.proofs.TermOutputLemmas.{put_codes-last, map_same}
 use Rattle.term_reader.proofs.sheet.Sheet.each_code.Goals as goal
 
 same : (z : ℤ) → SFits w64 z → to_z w64 (of_z w64 z) ≡ z
@@ -19,12 +19,12 @@ loop-c-preserved c =
     let x = c.in-Some.c in
     let f : SFits w64 c.code_of.result = search rules in (
       omega (arith, length_push xs x, c.loop-c.invariant.0, c.in-Some-checked_add.ensures),
-      λ s h. subst (λ z. IsSheetOf c.put.new.self z) (sym (put_codes-last s xs x))
-          (subst (λ v. IsSheetOf c.put.new.self (put_cell (put_codes s xs) (IntCell v))) c.code_of.ensures (subst (λ v. IsSheetOf c.put.new.self (put_cell (put_codes s xs) (IntCell v))) (same c.code_of.result f) (c.in_ok-put.ensures (put_codes s xs) (c.loop-c.invariant.1 s h)))),
+      λ s h. subst (λ z. IsOutputOf c.put.new.self z) (sym (put_codes-last s xs x))
+          (subst (λ v. IsOutputOf c.put.new.self (emit_cell (emit_codes s xs) (IntCell v))) c.code_of.ensures (subst (λ v. IsOutputOf c.put.new.self (emit_cell (emit_codes s xs) (IntCell v))) (same c.code_of.result f) (c.in_ok-put.ensures (emit_codes s xs) (c.loop-c.invariant.1 s h)))),
     )
 
 pub returns : goal.returns
 returns c = λ s h.
     let xs = c.loop-c.yielded in
     let t = YieldsList-end (YieldsList-from_chars c.args.text.now c.utf8.text cc) xs _ c.loop-c.yielded_by _ _ c.in-None.is c.next.ensures.steps in
-    (c.loop-c.invariant.0 ∙ t.1, subst (λ zs. IsSheetOf c.loop-c.self (put_codes s zs)) (sym (map_same xs) ∙ t.0) (c.loop-c.invariant.1 s h))
+    (c.loop-c.invariant.0 ∙ t.1, subst (λ zs. IsOutputOf c.loop-c.self (emit_codes s zs)) (sym (map_same xs) ∙ t.0) (c.loop-c.invariant.1 s h))

@@ -2,9 +2,9 @@ use Rattle.std.proofs.Common.{◌≡◌, ℤ, OnOk, sym, subst, w64, rules}
 use Rattle.std.proofs.lemmas.Int.{to_z-of_z}
 use mir.Val.{SFits, to_z, of_z}
 use Rattle.au_term.specs.declared.cell.Cell.TheVariants.{Int as IntCell}
-use Rattle.term_reader.specs.Begun.{leaf_tree}
-use Rattle.term_reader.specs.Kept.{IsSheetOf}
-use Rattle.term_reader.specs.Sheets.{put_cell, put_tree}
+use Rattle.term_reader.specs.PrimaryView.{leaf_tree}
+use Rattle.term_reader.specs.OutputView.{IsOutputOf}
+use Rattle.term_reader.specs.TermOutput.{emit_cell, emit_tree}
 use Rattle.term_reader.proofs.sheet.Sheet.leaf.Goals as goal
 
 same : (z : ℤ) → SFits w64 z → to_z w64 (of_z w64 z) ≡ z
@@ -13,5 +13,5 @@ same z f = to_z-of_z w64 z f
 pub returns-in-Integer : goal.returns-in-Integer
 returns-in-Integer c = λ s h.
     let f : SFits w64 c.in-Integer.number = search rules in
-    subst (λ l. OnOk c.put.result (IsSheetOf c.put.new.self (put_tree s (leaf_tree c.args.quotes l)))) (sym c.in-Integer.is)
-    (subst (λ z. OnOk c.put.result (IsSheetOf c.put.new.self (put_cell s (IntCell z)))) (same c.in-Integer.number f) (c.put.ensures s h))
+    subst (λ l. OnOk c.put.result (IsOutputOf c.put.new.self (emit_tree s (leaf_tree c.args.quotes l)))) (sym c.in-Integer.is)
+    (subst (λ z. OnOk c.put.result (IsOutputOf c.put.new.self (emit_cell s (IntCell z)))) (same c.in-Integer.number f) (c.put.ensures s h))

@@ -1,5 +1,5 @@
 use Rattle.std.proofs.Common.{◌∙◌, [], ◌∷◌, ◌++◌, ap}
-use Rattle.au_term.proofs.Whole.{AreSound-push}
+use Rattle.au_term.proofs.WholeTermLemmas.{AreSound-push}
 use Rattle.term_reader.proofs.sheet.Sheet.put.Goals as goal
 
 pub returns : goal.returns

@@ -1,6 +1,6 @@
 use Rattle.std.proofs.Common.{◌∙◌, ◌-◌, length, slice_get, sym, ap}
 use Rattle.std.specs.Option.{option_copied}
-use Rattle.term_reader.proofs.Settled.{bound-some, bound-none}
+use Rattle.term_reader.proofs.OperatorReductionLemmas.{bound-some, bound-none}
 use Rattle.term_reader.proofs.state.State.bound.Goals as goal
 
 pub returns-in-Some : goal.returns-in-Some

@@ -4,10 +4,10 @@ use Rattle.std.specs.Cmp.Lexicographic.{slice_cmp}
 use Rattle.std.specs.Ordering.{nat_cmp}
 use Rattle.std.specs.Str.{chars}
 use Rattle.std.proofs.lemmas.List.{map-append}
-use Rattle.au_model.specs.Jobs.{NamedVariable}
-use Rattle.au_model.specs.TermNumbers.{number_of}
-use Rattle.term_reader.specs.Sheets.{variable_meant}
-use Rattle.term_reader.proofs.Named.{more-named, below-more}
+use Rattle.au_model.specs.Terms.Named.{NamedVariable}
+use Rattle.au_model.specs.Syntax.VariableNumbers.{number_of}
+use Rattle.au_model.specs.Terms.Named.{variable_meant}
+use Rattle.term_reader.proofs.VariableNumberLemmas.{more-named, below-more}
 use Rattle.term_reader.proofs.variables.Variables.add.Goals as goal
 
 pub returns : goal.returns

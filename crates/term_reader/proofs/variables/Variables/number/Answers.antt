@@ -1,8 +1,8 @@
 use Rattle.std.proofs.Common.{◌≡◌, ◌∙◌, ◌<◌, Some, None, option_map, sym, ap, subst, arith}
 use Rattle.std.proofs.lemmas.Result.{IfOk-weaker}
-use Rattle.au_model.specs.TermNumbers.{is_anonymous, number_of}
-use Rattle.term_reader.specs.Kept.{IsVariablesOf}
-use Rattle.term_reader.proofs.Named.{numbered-anonymous, numbered-old, numbered-new}
+use Rattle.au_model.specs.Syntax.VariableNumbers.{is_anonymous, number_of}
+use Rattle.term_reader.specs.OutputView.{IsVariablesOf}
+use Rattle.term_reader.proofs.VariableNumberLemmas.{numbered-anonymous, numbered-old, numbered-new}
 use Rattle.term_reader.proofs.variables.Variables.number.Goals as goal
 
 pub returns-then-is_anonymous : goal.returns-then-is_anonymous

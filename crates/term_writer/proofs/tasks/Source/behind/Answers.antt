@@ -1,5 +1,5 @@
-use Rattle.term_writer.specs.Sources.{term_of_source}
-use Rattle.term_writer.proofs.Adding.{terms_behind}
+use Rattle.term_writer.specs.WritingSources.{term_of_source}
+use Rattle.term_writer.proofs.TaskLemmas.{terms_behind}
 use Rattle.term_writer.proofs.tasks.Source.behind.Goals as goal
 
 pub returns : goal.returns

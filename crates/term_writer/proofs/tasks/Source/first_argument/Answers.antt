@@ -1,5 +1,5 @@
-use Rattle.term_writer.specs.Sources.{term_of_source}
-use Rattle.term_writer.proofs.Opening.{firsts}
+use Rattle.term_writer.specs.WritingSources.{term_of_source}
+use Rattle.term_writer.proofs.CompoundTaskLemmas.{firsts}
 use Rattle.term_writer.proofs.tasks.Source.first_argument.Goals as goal
 
 pub returns : goal.returns

@@ -1,12 +1,12 @@
 use Rattle.std.proofs.Common.{◌≡◌, ◌+◌, ◌-◌, ◌<◌, ap, sym, refl, arith}
 use Rattle.au_term.specs.Term.{more, end, take_terms}
-use Rattle.au_model.specs.Writing.{further_pieces}
-use Rattle.term_writer.specs.Sources.{notation_of_source, term_of_source, part_of}
-use Rattle.term_writer.specs.Tasks.{terms_at, terms_weight}
+use Rattle.au_model.specs.Writing.WrittenTerms.{further_pieces}
+use Rattle.term_writer.specs.WritingSources.{notation_of_source, term_of_source, source_subterm}
+use Rattle.term_writer.specs.WritingTasks.{terms_at, terms_weight}
 use Rattle.term_writer.specs.declared.tasks.Task.TheVariants.{Further, Mark}
 use Rattle.term_writer.specs.declared.text.Mark.TheVariants.{Close, Comma}
-use Rattle.term_writer.proofs.Adding.{adds_one, adds_then, adds_same}
-use Rattle.term_writer.proofs.Opening.{taken_more, enough_behind}
+use Rattle.term_writer.proofs.TaskLemmas.{adds_one, adds_then, adds_same}
+use Rattle.term_writer.proofs.CompoundTaskLemmas.{taken_more, enough_behind}
 use Rattle.term_writer.proofs.tasks.Source.further.Goals as goal
 
 pub returns-in_ok-push : goal.returns-in_ok-push
@@ -26,7 +26,7 @@ returns-in_ok-push-3 c =
     let us = terms_at t c.args.at in
     let rest = terms_at t c.behind.result in
     let some : 0 < k = omega (arith, c.if-left-eq0.false) in
-    let opened : take_terms k us ≡ more (part_of c.args.self c.args.at) (take_terms (k - 1) rest) = taken_more k us rest _ c.behind.ensures some in
+    let opened : take_terms k us ≡ more (source_subterm c.args.self c.args.at) (take_terms (k - 1) rest) = taken_more k us rest _ c.behind.ensures some in
     let further = adds_one n t _ _ (Further c.behind.result (k - 1)) c.in_ok-push-2.ensures.items (enough_behind k us rest _ c.behind.ensures c.requires) in
     let comma = adds_one n t _ _ (Mark Comma) c.in_ok-push-3.ensures.items tt in
     let all = adds_then n t _ _ _ _ _ _ _ (adds_then n t _ _ _ _ _ _ _ further c.in_ok-argument.ensures) comma in

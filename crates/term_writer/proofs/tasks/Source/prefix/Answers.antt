@@ -1,20 +1,20 @@
 use Rattle.std.proofs.Common.{◌+◌, ap, sym, arith}
 use Rattle.au_term.specs.Term.{arguments}
-use Rattle.au_model.specs.OperatorForms.{PrefixForm}
-use Rattle.au_model.specs.Writing.{compound_pieces}
-use Rattle.op_table.specs.Meant.{operator_meant}
-use Rattle.term_writer.specs.Sources.{notation_of_source, term_of_source, part_of}
-use Rattle.term_writer.specs.Tasks.{terms_weight}
+use Rattle.au_model.specs.Writing.OperatorForms.{PrefixForm}
+use Rattle.au_model.specs.Writing.WrittenTerms.{compound_pieces}
+use Rattle.op_table.specs.OperatorView.{operator_meant}
+use Rattle.term_writer.specs.WritingSources.{notation_of_source, term_of_source, source_subterm}
+use Rattle.term_writer.specs.WritingTasks.{terms_weight}
 use Rattle.term_writer.specs.declared.tasks.Task.TheVariants.{Prefix}
-use Rattle.term_writer.proofs.Adding.{adds_one, adds_then, adds_same}
-use Rattle.term_writer.proofs.Opening.{one_argument}
+use Rattle.term_writer.proofs.TaskLemmas.{adds_one, adds_then, adds_same}
+use Rattle.term_writer.proofs.CompoundTaskLemmas.{one_argument}
 use Rattle.term_writer.proofs.tasks.Source.prefix.Goals as goal
 
 pub returns : goal.returns
 returns c =
     let n = notation_of_source c.args.self in
     let t = term_of_source c.args.self in
-    let u = part_of c.args.self c.args.at in
+    let u = source_subterm c.args.self c.args.at in
     let form = PrefixForm (operator_meant c.args.operator) in
     let name = c.args.name.now in
     let one = one_argument (arguments u) _ c.requires.one c.arg_start.ensures.is in

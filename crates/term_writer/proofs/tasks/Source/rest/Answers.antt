@@ -1,8 +1,8 @@
 use Rattle.std.proofs.Common.{refl, arith}
-use Rattle.term_writer.specs.Sources.{notation_of_source, term_of_source}
+use Rattle.term_writer.specs.WritingSources.{notation_of_source, term_of_source}
 use Rattle.term_writer.specs.declared.tasks.Task.TheVariants.{Mark}
 use Rattle.term_writer.specs.declared.text.Mark.TheVariants.{Bar}
-use Rattle.term_writer.proofs.Adding.{adds_one, adds_then, adds_same}
+use Rattle.term_writer.proofs.TaskLemmas.{adds_one, adds_then, adds_same}
 use Rattle.term_writer.proofs.tasks.Source.rest.Goals as goal
 
 pub returns : goal.returns

@@ -1,7 +1,7 @@
 use Rattle.std.proofs.Common.{◌++◌, sym, ap₂, ◌∙◌}
 use Rattle.std.proofs.lemmas.Result.{on_ok_weaker}
-use Rattle.term_writer.specs.Text.{needs_space, space_text}
-use Rattle.term_writer.proofs.NameTokens.{symbol_token, letter_token, solo_token}
+use Rattle.term_writer.specs.TextInProgress.{needs_space, space_text}
+use Rattle.term_writer.proofs.NameTokenLemmas.{symbol_token, letter_token, solo_token}
 use Rattle.term_writer.proofs.text.Text.name_token.Goals as goal
 
 pub returns-then-is_symbol_name-clause-bytes : goal.returns-then-is_symbol_name-clause-bytes

@@ -2,9 +2,9 @@ use Rattle.std.proofs.Common.{◌≡◌, ◌++◌, sym, ap, ◌∙◌}
 use Rattle.std.specs.Str.{chars}
 use Rattle.std.proofs.lemmas.Result.{on_ok_weaker}
 use Rattle.std.proofs.lemmas.Str.{encodes-chars}
-use Rattle.au_model.specs.Lexemes.{QuotedName}
-use Rattle.au_model.specs.Writing.{token_text}
-use Rattle.term_writer.specs.Text.{needs_space, space_text}
+use Rattle.au_model.specs.Syntax.Tokens.{QuotedName}
+use Rattle.au_model.specs.Writing.WrittenTerms.{token_text}
+use Rattle.term_writer.specs.TextInProgress.{needs_space, space_text}
 use Rattle.term_writer.specs.declared.text.Side.TheVariants.{Other}
 use Rattle.term_writer.proofs.text.Text.quoted.Goals as goal
 

@@ -4,10 +4,10 @@ use Rattle.std.specs.Str.{encode_utf8_all}
 use Rattle.std.proofs.lemmas.Str.{encode_ascii, encodes-IsAscii}
 use Rattle.std.specs.Str.{IsAscii}
 use Rattle.std.proofs.Common.{subst}
-use Rattle.au_model.specs.Writing.{variable_token}
-use Rattle.term_writer.specs.Text.{space_text, needs_space}
+use Rattle.au_model.specs.Writing.WrittenTerms.{variable_token}
+use Rattle.term_writer.specs.TextInProgress.{space_text, needs_space}
 use Rattle.term_writer.specs.declared.text.Side.TheVariants.{Letters}
-use Rattle.term_writer.proofs.Seams.{token_put, same_text}
+use Rattle.term_writer.proofs.SeamLemmas.{token_put, same_text}
 use Rattle.term_writer.proofs.text.Text.variable.Goals as goal
 
 pub returns : goal.returns

@@ -1,6 +1,6 @@
 use Rattle.std.specs.Str.{chars}
-use Rattle.au_model.specs.Writing.{name_token}
-use Rattle.term_writer.proofs.Seams.{token_put}
+use Rattle.au_model.specs.Writing.WrittenTerms.{name_token}
+use Rattle.term_writer.proofs.SeamLemmas.{token_put}
 use Rattle.term_writer.proofs.text.Text.word.Goals as goal
 
 pub returns : goal.returns

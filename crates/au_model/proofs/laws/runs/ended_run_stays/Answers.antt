@@ -1,5 +1,0 @@
-use Rattle.au_model.proofs.Running.{ended_run_stays}
-use Rattle.au_model.proofs.laws.runs.ended_run_stays.Goals as goal
-
-pub returns : goal.returns
-returns c = ended_run_stays

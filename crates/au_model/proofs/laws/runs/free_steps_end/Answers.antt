@@ -1,5 +1,0 @@
-use Rattle.au_model.proofs.Settled.{all_settle, settled_stays}
-use Rattle.au_model.proofs.laws.runs.free_steps_end.Goals as goal
-
-pub returns : goal.returns
-returns c = record { end = all_settle; stay = settled_stays }

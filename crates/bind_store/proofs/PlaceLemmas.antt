@@ -1,0 +1,79 @@
+-- Subterms by their places.
+use Rattle.std.proofs.Common.{◌≡◌, ℕ, zero, suc, ◌+◌, ◌-◌, ◌<◌, ◌≤◌, List, [], ◌∷◌, ◌++◌, length, drop, get_or, reverse, refl, sym, ap, ◌∙◌, subst, zero-add, arith}
+use Rattle.au_term.specs.Term.{Term, VarTerm, IntTerm, AtomTerm, Compound, Terms, end, more, count, first_of, take_terms}
+use Rattle.au_term.specs.PrefixOrder.{cells_of, terms_of, term_of, terms_of-cells_of, subterm, top_of, with_cell, IsForest}
+use Rattle.au_term.specs.Shifted.{shifted, all_shifted, shifted_cell}
+use Rattle.au_term.specs.declared.cell.Cell.{Cell}
+use Rattle.au_term.specs.declared.cell.Cell.TheVariants.{Var as VarCell, Int as IntCell, Atom as AtomCell, Functor}
+use Rattle.au_term.proofs.WholeTermLemmas.{count-take}
+use Rattle.au_term.proofs.SubtermLemmas.{opens, forest_from, term_forest}
+use Rattle.au_term.proofs.SizeFillLemmas.{opened}
+use Rattle.au_term.proofs.ShiftLemmas.{top_of-raised}
+use Rattle.bind_store.specs.Bindings.{Binding}
+use Rattle.au_model.specs.Terms.Unifier.{pairs}
+use Rattle.bind_store.specs.UnificationSteps.{Pair, whole_at, base_at, place_term, place_terms, HasTermsAt, IsNextPlace, equations_at, pending_equations}
+use Rattle.bind_store.specs.declared.unify.Equation.{Equation}
+use Rattle.bind_store.proofs.ResolvingLemmas.{reverse-push}
+use Rattle.bind_store.specs.declared.unify.Place.{Place}
+
+mutual
+  pub raised-none : (t : Term) → shifted 0 t ≡ t
+  raised-none (VarTerm n) = ap VarTerm (zero-add n)
+  raised-none (IntTerm z) = refl
+  raised-none (AtomTerm a) = refl
+  raised-none (Compound f ts) = ap (Compound f) (all_raised-none ts)
+
+  all_raised-none : (ts : Terms) → all_shifted 0 ts ≡ ts
+  all_raised-none end = refl
+  all_raised-none (more t ts) = let first = raised-none t in let rest = all_raised-none ts in cc
+
+top_of-first : (c : Cell) (cs : List Cell) → IsForest (c ∷ cs) → top_of (first_of (with_cell c (terms_of cs))) ≡ c
+top_of-first (VarCell n) cs h = refl
+top_of-first (IntCell z) cs h = refl
+top_of-first (AtomCell a) cs h = refl
+top_of-first (Functor f n) cs h = ap (Functor f) (count-take n (terms_of cs) (opens (Functor f n) cs h).enough)
+
+-- the first cell of a subterm
+pub top_of-subterm : (t : Term) (at : ℕ) (c : Cell) → at < length (cells_of t) → c ≡ get_or (cells_of t) at c → top_of (subterm at t) ≡ c
+top_of-subterm t at c lt is =
+    let here = opened (cells_of t) at c lt is in
+    ap (λ cs. top_of (term_of cs)) here ∙ top_of-first c (drop (at + 1) (cells_of t)) (subst IsForest here (forest_from (cells_of t) at (term_forest t)))
+
+pub top_of-place : (base : ℕ) (t : Term) (at : ℕ) (c : Cell) → at < length (cells_of t) → c ≡ get_or (cells_of t) at c → shifted_cell base c ≡ top_of (shifted base (subterm at t))
+top_of-place base t at c lt is = ap (shifted_cell base) (sym (top_of-subterm t at c lt is)) ∙ sym (top_of-raised base (subterm at t))
+
+-- the terms from a place on are the subterm and the terms behind it
+pub behind_is : (p : Pair) (bs : List Binding) (at next : Place) → next.source ≡ at.source → drop at.at (cells_of (whole_at p bs at.source)) ≡ cells_of (subterm at.at (whole_at p bs at.source)) ++ drop next.at (cells_of (whole_at p bs at.source)) → IsNextPlace p bs at next
+behind_is p bs at next s e =
+    let t = whole_at p bs at.source in
+    let here : terms_of (drop at.at (cells_of t)) ≡ more (subterm at.at t) (terms_of (drop next.at (cells_of t))) = ap terms_of e ∙ terms_of-cells_of (subterm at.at t) (drop next.at (cells_of t)) in
+    let there : terms_of (drop at.at (cells_of t)) ≡ more (subterm at.at t) (terms_of (drop next.at (cells_of (whole_at p bs next.source)))) = here ∙ ap (λ o. more (subterm at.at t) (terms_of (drop next.at (cells_of (whole_at p bs o))))) (sym s) in
+    record {
+      source = s;
+      terms = ap (all_shifted (base_at p at.source)) there ∙ ap (λ o. more (place_term p bs at) (all_shifted (base_at p o) (terms_of (drop next.at (cells_of (whole_at p bs next.source)))))) (sym s);
+      number = ap count there ∙ omega arith;
+    }
+
+-- the equations behind the first
+pub rest_is : (p : Pair) (bs : List Binding) (e f : Equation) → 0 < e.count → f.count ≡ e.count - 1 → IsNextPlace p bs e.left f.left → IsNextPlace p bs e.right f.right
+    → (place_term p bs e.left, place_term p bs e.right) ∷ equations_at p bs f ≡ equations_at p bs e
+rest_is p bs e f lt n l r =
+    let number : e.count ≡ suc f.count = omega arith in
+    sym (ap (λ k. pairs (take_terms k (place_terms p bs e.left)) (take_terms k (place_terms p bs e.right))) number
+    ∙ (ap (λ ts. pairs (take_terms (suc f.count) ts) (take_terms (suc f.count) (place_terms p bs e.right))) l.terms
+    ∙ ap (λ us. pairs (take_terms (suc f.count) (more (place_term p bs e.left) (place_terms p bs f.left))) (take_terms (suc f.count) us)) r.terms))
+
+pub rest_pending : (p : Pair) (bs : List Binding) (e f : Equation) (olds news : List Equation) → 0 < e.count → f.count ≡ e.count - 1 → IsNextPlace p bs e.left f.left → IsNextPlace p bs e.right f.right → news ≡ olds ++ f ∷ []
+    → (place_term p bs e.left, place_term p bs e.right) ∷ pending_equations p bs (reverse news) ≡ equations_at p bs e ++ pending_equations p bs (reverse olds)
+rest_pending p bs e f olds news lt n l r h =
+    ap (λ es. (place_term p bs e.left, place_term p bs e.right) ∷ pending_equations p bs es) (ap reverse h ∙ reverse-push olds f)
+    ∙ ap (λ qs. qs ++ pending_equations p bs (reverse olds)) (rest_is p bs e f lt n l r)
+
+within_by : (cs : List Cell) (at : ℕ) → 1 ≤ count (terms_of (drop at cs)) → at < length cs
+within_by [] zero h = absurd (omega arith)
+within_by [] (suc at) h = absurd (omega arith)
+within_by (c ∷ cs) zero h = omega arith
+within_by (c ∷ cs) (suc at) h = let lt = within_by cs at h in omega arith
+
+pub stand_within : (p : Pair) (bs : List Binding) (at : Place) → HasTermsAt p bs at 1 → at.at < length (cells_of (whole_at p bs at.source))
+stand_within p bs at s = within_by (cells_of (whole_at p bs at.source)) at.at s.enough

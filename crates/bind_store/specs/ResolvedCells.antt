@@ -1,0 +1,94 @@
+-- Terms with bindings applied, cell by cell.
+use Rattle.std.specs.Prelude.{◌≡◌, ℕ, ◌+◌, ◌<◌, ◌==◌, cond, List, [], ◌∷◌, ◌++◌, drop, length, Option, Some, None}
+use Rattle.au_term.specs.Term.{Term}
+use Rattle.au_model.specs.Terms.Substitutions.{value_of}
+use Rattle.au_term.specs.PrefixOrder.{cells_of}
+use Rattle.au_term.specs.declared.cell.Cell.{Cell}
+use Rattle.au_term.specs.declared.cell.Cell.TheVariants.{Var as VarCell, Int as IntCell, Atom as AtomCell, Functor}
+use Rattle.bind_store.specs.Bindings.{Binding, composed, value_at, IsLookedUp, AreTriangular}
+use Rattle.bind_store.specs.declared.resolved.Piece.{Piece}
+
+-- the cells in a cell's place
+abbrev pub in_place : (ℕ → Term) → Cell → List Cell
+in_place f (VarCell n) = cells_of (f n)
+in_place f (IntCell z) = IntCell z ∷ []
+in_place f (AtomCell a) = AtomCell a ∷ []
+in_place f (Functor a n) = Functor a n ∷ []
+
+abbrev pub rebuilt : (ℕ → Term) → List Cell → List Cell
+rebuilt f [] = []
+rebuilt f (c ∷ cs) = in_place f c ++ rebuilt f cs
+
+-- a piece stands in the term itself, whose cells these are, or in the value of a binding
+abbrev pub cells_at : List Cell → List Binding → Option ℕ → List Cell
+cells_at cells bs None = cells
+cells_at cells bs (Some i) = cells_of (value_at bs i)
+
+abbrev pub piece_cells : List Cell → List Binding → Piece → List Cell
+piece_cells cells bs p = drop p.at (cells_at cells bs p.value)
+
+-- the cells still to be gone over, the top piece first
+abbrev pub pending_cells : List Cell → List Binding → List Piece → List Cell
+pending_cells cells bs [] = []
+pending_cells cells bs (p ∷ ps) = piece_cells cells bs p ++ pending_cells cells bs ps
+
+-- how many steps a cell takes, by those of the variables
+abbrev pub cell_weight : (ℕ → ℕ) → Cell → ℕ
+cell_weight w (VarCell n) = w n
+cell_weight w (IntCell z) = 1
+cell_weight w (AtomCell a) = 1
+cell_weight w (Functor f n) = 1
+
+abbrev pub cells_weight : (ℕ → ℕ) → List Cell → ℕ
+cells_weight w [] = 0
+cells_weight w (c ∷ cs) = cell_weight w c + cells_weight w cs
+
+-- a bound variable takes the steps of its value
+abbrev pub weight_of : List Binding → ℕ → ℕ
+weight_of [] n = 1
+weight_of (b ∷ bs) n = cond (b.0 == n) (2 + cells_weight (weight_of bs) (cells_of b.1)) (weight_of bs n)
+
+-- how many steps are left
+abbrev pub resolving_steps_left : List Cell → List Binding → List Piece → ℕ
+resolving_steps_left cells bs ps = cells_weight (weight_of bs) (pending_cells cells bs ps) + length ps
+
+-- a piece behind its first cell
+abbrev pub next_piece : Piece → Piece
+next_piece p = record { value = p.value; at = p.at + 1 }
+
+-- all of the term itself
+abbrev pub term_piece : Piece
+term_piece = record { value = None; at = 0 }
+
+-- all of the value of a binding
+abbrev pub value_piece : ℕ → Piece
+value_piece i = record { value = Some i; at = 0 }
+
+-- the value that a piece stands in is there
+abbrev pub IsPlacedIn : List Binding → Option ℕ → Type 0
+IsPlacedIn bs None = Unit {0}
+IsPlacedIn bs (Some i) = i < length bs
+
+abbrev pub IsPiecePlaced : List Binding → Piece → Type 0
+IsPiecePlaced bs p = IsPlacedIn bs p.value
+
+abbrev pub ArePiecesPlaced : List Binding → List Piece → Type 0
+ArePiecesPlaced bs [] = Unit {0}
+ArePiecesPlaced bs (p ∷ ps) = IsPiecePlaced bs p × ArePiecesPlaced bs ps
+
+-- where the variable of a cell was bound, and that the bindings are apart; none for a free variable and any other cell
+abbrev pub IsCellFound : List Binding → Cell → Option ℕ → Type 0
+IsCellFound bs (VarCell x) o = IsLookedUp bs x o × AreTriangular bs
+IsCellFound bs c None = Unit {0}
+IsCellFound bs c (Some i) = ⊥
+
+-- a cell was put behind the others, or its value on top of the pieces
+pub data IsCellEmitted (bs : List Binding) (c : Cell) (built now : List Cell) (ps qs : List Piece) : Type 0 where
+  put_behind : IsCellFound bs c None → now ≡ built ++ c ∷ [] → qs ≡ ps → IsCellEmitted bs c built now ps qs
+  put_on_top : (i : ℕ) → IsCellFound bs c (Some i) → now ≡ built → qs ≡ ps ++ value_piece i ∷ [] → IsCellEmitted bs c built now ps qs
+
+-- a cell was gone over: what is built and what the cells stand for stays the same, and fewer steps are left
+pub record Advances (cs : List Cell) (bs : List Binding) (built now : List Cell) (before after : List Piece) : Type 0 where
+  pub same : now ++ rebuilt (value_of (composed bs)) (pending_cells cs bs after) ≡ built ++ rebuilt (value_of (composed bs)) (pending_cells cs bs before)
+  pub fewer : resolving_steps_left cs bs after < resolving_steps_left cs bs before
+  pub placed : ArePiecesPlaced bs before → ArePiecesPlaced bs after

@@ -1,0 +1,179 @@
+-- Clauses that give nothing by their name, number of arguments or first argument.
+use Rattle.std.proofs.Common.{◌≡◌, ℕ, ◌<◌, arith, Bool, true, false, ◌&&◌, ◌==◌, cond, List, [], ◌∷◌, ◌++◌, Option, Some, None, refl, sym, ap, ◌∙◌, subst}
+use Rattle.std.specs.Global.{Global}
+use Rattle.std.specs.Prelude.{Vec}
+use Rattle.au_term.specs.Term.{Term, VarTerm, IntTerm, AtomTerm, Compound, Terms, end, more, count, argument, argument_count, arguments}
+use Rattle.au_term.specs.PrefixOrder.{top_of}
+use Rattle.au_term.specs.declared.cell.Cell.{Cell}
+use Rattle.run_model.specs.Programs.Clauses.{Clause as ClauseTerms, is_clause_of, is_defined, renamed_head, clause_renaming}
+use Rattle.run_model.specs.Machine.Entries.{unified}
+use Rattle.au_model.specs.Terms.Forms.{same_name, name_of, is_callable}
+use Rattle.run_model.specs.Machine.Items.{Continuation}
+use Rattle.run_model.specs.Goals.Outcomes.{Solution, clause_solution, alternatives_of}
+use Rattle.au_model.specs.Terms.Substitutions.{Substitution, apply, apply_all, resolve, value_of}
+use Rattle.au_model.specs.Terms.Unifier.{Equations, Dropped, Opened, Clash, rule, pairs, by_rule, unifier}
+use Rattle.au_model.proofs.UnifierRuleLemmas.{count-apply_all}
+use Rattle.run_model.proofs.ClauseTrialLemmas.{others_give_nothing}
+use Rattle.au_model.proofs.UnifierLemmas.{unifier-first}
+use Rattle.clause_compile.specs.declared.item.Item.{Item}
+use Rattle.clause_compile.specs.declared.item.Scope.{Scope}
+use Rattle.clause_compile.specs.declared.event.Branch.{Branch}
+use Rattle.proc_index.specs.declared.key.Key.{Key}
+use Rattle.proc_index.specs.declared.key.Key.TheVariants.{Any, Functor}
+use Rattle.proc_index.specs.Keys.{has_key, first_has, may_match, matching}
+use Rattle.proc_index.specs.ProcedureIndex.{procedure_of, candidates_of, HaveHeads}
+use Rattle.bind_store.specs.Bindings.{Binding, composed}
+use Rattle.bind_store.specs.StoreView.{StoreView, substitution, IsUnbound, IsDereferencedTerm}
+use Rattle.bind_store.proofs.TriangularLemmas.{free-composed}
+use Rattle.engine_core.specs.Branches.{AreSolved, one_fails, one_solves}
+use Rattle.engine_core.specs.Attempts.{key_of, first_key, cell_key, AreAlternatives}
+
+-- terms of other keys clash
+other_key : (t u : Term) (r : ℕ → Term) → has_key (key_of t) u ≡ false → rule t (apply r u) ≡ Clash
+other_key (VarTerm n) u r h = cc
+other_key (IntTerm z) (VarTerm n) r h = cc
+other_key (IntTerm z) (IntTerm y) r h = ap (λ b. cond b Dropped Clash) h
+other_key (IntTerm z) (AtomTerm b) r h = refl
+other_key (IntTerm z) (Compound g us) r h = refl
+other_key (AtomTerm a) (VarTerm n) r h = cc
+other_key (AtomTerm a) (IntTerm y) r h = refl
+other_key (AtomTerm a) (AtomTerm b) r h = ap (λ c. cond c Dropped Clash) h
+other_key (AtomTerm a) (Compound g us) r h = refl
+other_key (Compound f ts) (VarTerm n) r h = cc
+other_key (Compound f ts) (IntTerm y) r h = refl
+other_key (Compound f ts) (AtomTerm b) r h = refl
+other_key (Compound f ts) (Compound g us) r h =
+    let renamed = apply_all r us in
+    let differ : (same_name f g && count ts == count renamed) ≡ false = ap (λ n. same_name f g && count ts == n) (count-apply_all r us) ∙ h in
+    ap (λ c. cond c (Opened (pairs ts renamed)) Clash) differ
+
+first_clashes : (t u : Term) (es : Equations) → rule t u ≡ Clash → unifier ((t, u) ∷ es) ≡ None
+first_clashes t u es h = unifier-first t u es ∙ ap (λ q. by_rule q es unifier) h
+
+-- a clash of the first arguments is one of the compounds
+opened_clash : (t u : Term) (es : Equations) (b : Bool) → rule t u ≡ Clash → by_rule (cond b (Opened ((t, u) ∷ es)) Clash) [] unifier ≡ None
+opened_clash t u es true h = first_clashes t u (es ++ []) h
+opened_clash t u es false h = refl
+
+all_match : (ts : Terms) → first_has Any ts ≡ true
+all_match end = refl
+all_match (more t ts) = refl
+
+any_fits : {A : Type 0} (ts : Terms) → first_has Any ts ≡ false → A
+any_fits ts h = let k = all_match ts in absurd (cc)
+
+arguments_clash : (f g : List ℕ) (t u : Term) (ts us : Terms) (r : ℕ → Term) → has_key (key_of t) u ≡ false → unifier ((Compound f (more t ts), apply r (Compound g (more u us))) ∷ []) ≡ None
+arguments_clash f g t u ts us r h =
+    unifier-first (Compound f (more t ts)) (apply r (Compound g (more u us))) []
+    ∙ opened_clash t (apply r u) (pairs ts (apply_all r us)) (same_name f g && count (more t ts) == count (more (apply r u) (apply_all r us))) (other_key t u r h)
+
+-- a head whose first argument has another key
+key_clash : (goal head : Term) (r : ℕ → Term) → may_match (first_key goal) head ≡ false → unifier ((goal, apply r head) ∷ []) ≡ None
+key_clash (VarTerm n) head r h = any_fits (arguments head) h
+key_clash (IntTerm z) head r h = any_fits (arguments head) h
+key_clash (AtomTerm a) head r h = any_fits (arguments head) h
+key_clash (Compound f end) head r h = any_fits (arguments head) h
+key_clash (Compound f (more t ts)) (VarTerm n) r h = cc
+key_clash (Compound f (more t ts)) (IntTerm z) r h = cc
+key_clash (Compound f (more t ts)) (AtomTerm a) r h = cc
+key_clash (Compound f (more t ts)) (Compound g end) r h = cc
+key_clash (Compound f (more t ts)) (Compound g (more u us)) r h = arguments_clash f g t u ts us r h
+
+none_unified : (o : Option Substitution) (f : Continuation ℕ) → unified o f ≡ [] → o ≡ None
+none_unified None f h = refl
+none_unified (Some s) f h = cc
+
+-- a clause of another procedure
+other_clash : (c : ClauseTerms) (goal : Term) (next : ℕ) → is_callable goal ≡ true → is_callable c.head ≡ true → is_clause_of (name_of goal) (argument_count goal) c ≡ false → unifier ((goal, renamed_head c next) ∷ []) ≡ None
+other_clash c goal next g h e =
+    none_unified (unifier ((goal, renamed_head c next) ∷ [])) _ (others_give_nothing c goal 0 (record { items = []; named = []; next = next }) g h e)
+
+module _ (here : Scope) (rest : List Item) (st : StoreView) where
+  one_solution_more : (s : Solution) (ss all : List Solution) (bs : List Branch) → ((cs : List Branch) → AreSolved here rest st ss cs → AreSolved here rest st all cs) → AreSolved here rest st (s ∷ ss) bs → AreSolved here rest st (s ∷ all) bs
+  one_solution_more s ss all bs h (one_fails u k) = one_fails u (h bs k)
+  one_solution_more s ss all (b ∷ bs) h (one_solves u k) = one_solves u (h bs k)
+
+  module _ (goal : Term) (next : ℕ) (callable : is_callable goal ≡ true) where
+    abbrev kept : List ClauseTerms → List ClauseTerms
+    kept cs = matching (first_key goal) (procedure_of cs (name_of goal) (argument_count goal))
+
+    by_key : (c : ClauseTerms) (cs : List ClauseTerms) (bs : List Branch) (fits : Bool) → may_match (first_key goal) c.head ≡ fits
+        → ((ds : List Branch) → AreSolved here rest st (alternatives_of (kept cs) goal next) ds → AreSolved here rest st (alternatives_of cs goal next) ds)
+        → AreSolved here rest st (alternatives_of (cond fits (c ∷ kept cs) (kept cs)) goal next) bs → AreSolved here rest st (alternatives_of (c ∷ cs) goal next) bs
+    by_key c cs bs true e h k = one_solution_more (clause_solution goal next c) (alternatives_of (kept cs) goal next) (alternatives_of cs goal next) bs h k
+    by_key c cs bs false e h k = one_fails (key_clash goal c.head (clause_renaming c next) e) (h bs k)
+
+    by_procedure : (c : ClauseTerms) (cs : List ClauseTerms) (bs : List Branch) (own : Bool) → is_callable c.head ≡ true → is_clause_of (name_of goal) (argument_count goal) c ≡ own
+        → ((ds : List Branch) → AreSolved here rest st (alternatives_of (kept cs) goal next) ds → AreSolved here rest st (alternatives_of cs goal next) ds)
+        → AreSolved here rest st (alternatives_of (matching (first_key goal) (cond own (c ∷ procedure_of cs (name_of goal) (argument_count goal)) (procedure_of cs (name_of goal) (argument_count goal)))) goal next) bs → AreSolved here rest st (alternatives_of (c ∷ cs) goal next) bs
+    by_procedure c cs bs true head e h k = by_key c cs bs (may_match (first_key goal) c.head) refl h k
+    by_procedure c cs bs false head e h k = one_fails (other_clash c goal next callable head e) (h bs k)
+
+    -- the clauses that are passed over give nothing
+    pub among_all : (clauses : List ClauseTerms) (bs : List Branch) → HaveHeads clauses → AreSolved here rest st (alternatives_of (kept clauses) goal next) bs → AreSolved here rest st (alternatives_of clauses goal next) bs
+    among_all [] bs heads h = h
+    among_all (c ∷ cs) bs heads h = by_procedure c cs bs (is_clause_of (name_of goal) (argument_count goal) c) heads.0 refl (λ ds k. among_all cs ds heads.1 k) h
+
+-- what a goal keeps where bindings are applied
+callable_kept : (s : Substitution) (t : Term) → is_callable t ≡ true → is_callable (resolve s t) ≡ true
+callable_kept s (VarTerm n) h = cc
+callable_kept s (IntTerm z) h = cc
+callable_kept s (AtomTerm a) h = refl
+callable_kept s (Compound f ts) h = refl
+
+name_kept : (s : Substitution) (t : Term) → is_callable t ≡ true → name_of (resolve s t) ≡ name_of t
+name_kept s (VarTerm n) h = cc
+name_kept s (IntTerm z) h = cc
+name_kept s (AtomTerm a) h = refl
+name_kept s (Compound f ts) h = refl
+
+arity_kept : (s : Substitution) (t : Term) → is_callable t ≡ true → argument_count (resolve s t) ≡ argument_count t
+arity_kept s (VarTerm n) h = cc
+arity_kept s (IntTerm z) h = cc
+arity_kept s (AtomTerm a) h = refl
+arity_kept s (Compound f ts) h = count-apply_all (value_of s) ts
+
+some_defined : (clauses : List ClauseTerms) (name : List ℕ) (arity : ℕ) (key : Key) (left : List ClauseTerms) → Some left ≡ candidates_of clauses name arity key → (is_defined clauses name arity ≡ true) × (left ≡ matching key (procedure_of clauses name arity))
+some_defined clauses name arity key left h = go (is_defined clauses name arity) h
+  where
+    go : (b : Bool) → Some left ≡ cond b (Some (matching key (procedure_of clauses name arity))) None → (b ≡ true) × (left ≡ matching key (procedure_of clauses name arity))
+    go true e = (refl, cc)
+    go false e = cc
+
+-- the key of a goal's first argument
+pub no_arguments : (s : Substitution) (goal : Term) → is_callable goal ≡ true → argument_count goal ≡ 0 → Any ≡ first_key (resolve s goal)
+no_arguments s (VarTerm n) h e = cc
+no_arguments s (IntTerm z) h e = cc
+no_arguments s (AtomTerm a) h e = refl
+no_arguments s (Compound f end) h e = refl
+no_arguments s (Compound f (more t ts)) h e = absurd (omega arith)
+
+unbound_key : (bs : List Binding) (t : Term) → IsUnbound bs t → cell_key (top_of t) ≡ key_of (resolve (composed bs) t)
+unbound_key bs (VarTerm n) h = sym (ap key_of (free-composed bs n h))
+unbound_key bs (IntTerm z) h = refl
+unbound_key bs (AtomTerm a) h = refl
+unbound_key bs (Compound f ts) h = ap (Functor f) (sym (count-apply_all (value_of (composed bs)) ts))
+
+pub key_reached : (st : StoreView) (goal first reached : Term) (cell : Cell) (key : Key) → is_callable goal ≡ true → 0 < argument_count goal → first ≡ argument 0 goal → IsDereferencedTerm st first reached → cell ≡ top_of reached → key ≡ cell_key cell
+    → key ≡ first_key (resolve (substitution st) goal)
+key_reached st (VarTerm n) first reached cell key h lt f r top is = cc
+key_reached st (IntTerm z) first reached cell key h lt f r top is = cc
+key_reached st (AtomTerm a) first reached cell key h lt f r top is = absurd (omega arith)
+key_reached st (Compound g end) first reached cell key h lt f r top is = absurd (omega arith)
+key_reached st (Compound g (more t ts)) first reached cell key h lt f r top is =
+    is ∙ (ap cell_key top ∙ (unbound_key st.made reached r.unbound ∙ ap key_of (r.same ∙ ap (resolve (substitution st)) f)))
+
+-- all clauses were tried where the candidates were
+pub all_tried : (here : Scope) (rest : List Item) (st : StoreView) (clauses left : List ClauseTerms) (goal : Term) (name : List ℕ) (arity : ℕ) (key : Key) (bs : Vec Branch Global)
+    → is_callable goal ≡ true → HaveHeads clauses → name_of goal ≡ name → argument_count goal ≡ arity → key ≡ first_key (resolve (substitution st) goal) → Some left ≡ candidates_of clauses name arity key
+    → AreSolved here rest st (alternatives_of left (resolve (substitution st) goal) st.next) bs.items → AreAlternatives clauses here rest st goal (Some bs)
+all_tried here rest st clauses left goal name arity key bs callable heads n a k h solved =
+    let defined = some_defined clauses name arity key left h in
+    let applied = resolve (substitution st) goal in
+    let own_name : name ≡ name_of applied = sym n ∙ sym (name_kept (substitution st) goal callable) in
+    let own_arity : arity ≡ argument_count applied = sym a ∙ sym (arity_kept (substitution st) goal callable) in
+    let are : left ≡ matching (first_key applied) (procedure_of clauses (name_of applied) (argument_count applied)) =
+    defined.1 ∙ (ap (λ q. matching q (procedure_of clauses name arity)) k ∙ (ap (λ m. matching (first_key applied) (procedure_of clauses m arity)) own_name ∙ ap (λ m. matching (first_key applied) (procedure_of clauses (name_of applied) m)) own_arity)) in (
+      ap (λ m. is_defined clauses m (argument_count goal)) n ∙ (ap (is_defined clauses name) a ∙ defined.0),
+      among_all here rest st applied st.next (callable_kept (substitution st) goal callable) clauses bs.items heads (subst (λ cs. AreSolved here rest st (alternatives_of cs applied st.next) bs.items) are solved),
+    )

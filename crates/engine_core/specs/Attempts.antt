@@ -1,0 +1,68 @@
+-- Trying one way for a goal to hold.
+use Rattle.std.specs.Prelude.{◌≡◌, true, false, List, [], ◌∷◌, ◌++◌, Option, Some, None, Vec}
+use Rattle.std.specs.Global.{Global}
+use Rattle.au_term.specs.Term.{Term, Terms, VarTerm, IntTerm, AtomTerm, Compound, end, more, count, arguments, argument_count}
+use Rattle.au_term.specs.declared.cell.Cell.{Cell}
+use Rattle.au_term.specs.declared.cell.Cell.TheVariants.{Var as VarCell, Int as IntCell, Atom as AtomCell, Functor as FunctorCell}
+use Rattle.au_term.specs.declared.segment.Binding.{Binding as SharedBinding}
+use Rattle.au_model.specs.Terms.Each.{Each}
+use Rattle.au_model.specs.Terms.Forms.{name_of}
+use Rattle.au_model.specs.Terms.Substitutions.{resolve}
+use Rattle.au_model.specs.Terms.Unifier.{unifier}
+use Rattle.run_model.specs.Programs.Clauses.{Clause as ClauseTerms, is_defined}
+use Rattle.run_model.specs.Goals.Outcomes.{Solution, alternatives_of}
+use Rattle.clause_compile.specs.declared.item.Scope.{Scope}
+use Rattle.clause_compile.specs.declared.item.Item.{Item}
+use Rattle.clause_compile.specs.declared.event.Branch.{Branch}
+use Rattle.proc_index.specs.declared.key.Key.{Key}
+use Rattle.proc_index.specs.declared.key.Key.TheVariants.{Any, Int, Atom, Functor}
+use Rattle.bind_store.specs.Bindings.{composed, AreTriangular, IsBindingBelow}
+use Rattle.bind_store.specs.StoreView.{StoreView, substitution, pairs_of}
+use Rattle.engine_core.specs.Branches.{IsBranchOf, AreSolved}
+
+-- the key of a term: a variable may be anything
+abbrev pub key_of : Term → Key
+key_of (VarTerm n) = Any
+key_of (IntTerm z) = Int z
+key_of (AtomTerm a) = Atom a
+key_of (Compound f ts) = Functor f (count ts)
+
+abbrev pub first_key_of : Terms → Key
+first_key_of end = Any
+first_key_of (more t ts) = key_of t
+
+-- the key of a goal's first argument
+abbrev pub first_key : Term → Key
+first_key goal = first_key_of (arguments goal)
+
+-- the same by a term's first cell
+abbrev pub cell_key : Cell → Key
+cell_key (VarCell n) = Any
+cell_key (IntCell z) = Int z
+cell_key (AtomCell a) = Atom a
+cell_key (FunctorCell f n) = Functor f n
+
+-- one way for an equation to hold, without new goals or variables
+abbrev pub equation_solution : Term → Term → Solution
+equation_solution left right = record { equations = (left, right) ∷ []; goals = []; variables = 0 }
+
+-- these further bindings are the unifier of what two terms stand for, and keep a store sound
+pub record UnifyBy (left right : Term) (st : StoreView) (bindings : List SharedBinding) : Type 0 where
+  pub unified : unifier ((resolve (substitution st) left, resolve (substitution st) right) ∷ []) ≡ Some (composed (pairs_of bindings))
+  pub apart : AreTriangular (st.made ++ pairs_of bindings)
+  pub below : Each (IsBindingBelow st.next) (pairs_of bindings)
+
+-- the bindings that make two terms one, or none where there is no unifier
+abbrev pub AreUnifiedBy : Term → Term → StoreView → Option (List SharedBinding) → Type 0
+AreUnifiedBy left right st (Some bindings) = UnifyBy left right st bindings
+AreUnifiedBy left right st None = unifier ((resolve (substitution st) left, resolve (substitution st) right) ∷ []) ≡ None
+
+-- the branch of a solution, or none where its equations do not unify
+abbrev pub IsTried : Scope → List Item → StoreView → Solution → Option Branch → Type 0
+IsTried here rest st s (Some b) = IsBranchOf here rest st s b
+IsTried here rest st s None = unifier s.equations ≡ None
+
+-- the branches of a goal's alternatives, where its procedure has a clause
+abbrev pub AreAlternatives : List ClauseTerms → Scope → List Item → StoreView → Term → Option (Vec Branch Global) → Type 0
+AreAlternatives clauses here rest st goal (Some bs) = (is_defined clauses (name_of goal) (argument_count goal) ≡ true) × AreSolved here rest st (alternatives_of clauses (resolve (substitution st) goal) st.next) bs.items
+AreAlternatives clauses here rest st goal None = is_defined clauses (name_of goal) (argument_count goal) ≡ false

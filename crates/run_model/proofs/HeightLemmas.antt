@@ -1,0 +1,172 @@
+-- The heights that entries of a run carry.
+use Rattle.std.proofs.Common.{◌≡◌, ℕ, zero, suc, ◌-◌, ◌+◌, ◌≤◌, min, Bool, true, false, cond, List, [], ◌∷◌, ◌++◌, map, length, take, drop, ◌==◌, Option, Some, None, sym, subst, arith}
+use Rattle.std.proofs.lemmas.List.{take-append-drop, length-drop, length-append}
+use Rattle.std.specs.Prelude.{codes}
+use Rattle.au_term.specs.Term.{Term, AtomTerm}
+use Rattle.run_model.specs.Laws.HeightLaws.{HeightsFall, FitsHeight, FitHeights, KeepsLowerPart}
+use Rattle.au_model.specs.Terms.Substitutions.{Substitution}
+use Rattle.au_model.specs.Terms.Unifier.{unifier}
+use Rattle.run_model.specs.Programs.Clauses.{Clause}
+use Rattle.run_model.specs.Programs.Databases.{Database, without_clause}
+use Rattle.run_model.specs.Goals.Worlds.{world_step}
+use Rattle.run_model.specs.Goals.Outcomes.{Solution, Reply, Solutions, Ball, HaltNumber, ControlForm, GoesOnWith, EitherOf, TestOf, CutToScope, CatchOf, FindallOf, Outcome, Replies, Controls, AskWorld}
+use Rattle.run_model.specs.Goals.GoalOutcomes.{outcome_of}
+use Rattle.run_model.specs.Machine.Items.{Item, GoalItem, CatchMark, CollectMark, RemovalItem, Continuation, resolve_item, goals_at, with_items, before, with_next, without_marks, first_mark}
+use Rattle.run_model.specs.Machine.Entries.{Entry, PlainEntry, CatchEntry, FindallEntry, EndEntry, lowest, unified, solution_entries, with_result, collected}
+use Rattle.run_model.specs.Machine.FreeSteps.{plain_free_step, free_steps_within}
+use Rattle.run_model.specs.Machine.Balls.{taken_by, next_mark, recovered, unwound}
+use Rattle.run_model.specs.Machine.Heights.{after_reply, after_control}
+use Rattle.run_model.specs.Programs.Jobs.{Query, Job}
+use Rattle.run_model.specs.Machine.States.{State, opened, goal_taken, removal_taken, item_taken, entry_taken, step}
+use Rattle.run_model.specs.Machine.Runs.{seq}
+use Rattle.run_model.proofs.FreeStepLemmas.{length-collected}
+use Rattle.run_model.proofs.StepLemmas.{along}
+
+-- a cut
+pub keeps_lower_part : (h : ℕ) (es : List Entry) → KeepsLowerPart h es
+keeps_lower_part h es = record { above = take (length es - h) es; joined = sym (take-append-drop (length es - h) es); height = omega (arith, length-drop (length es - h) es) }
+
+held-drop : (k : ℕ) (es : List Entry) → FitHeights es → FitHeights (drop k es)
+held-drop zero es h = h
+held-drop (suc k) [] h = h
+held-drop (suc k) (e ∷ es) h = held-drop k es h.1
+
+-- items
+fall-more : (m n : ℕ) → m ≤ n → (items : List (Item ℕ)) → HeightsFall m items → HeightsFall n items
+fall-more m n k [] h = tt
+fall-more m n k (GoalItem t l ∷ items) h = (omega arith, h.1)
+fall-more m n k (CatchMark l ∷ items) h = (omega arith, h.1)
+fall-more m n k (CollectMark t l ∷ items) h = (omega arith, h.1)
+fall-more m n k (RemovalItem l ∷ items) h = fall-more m n k items h
+
+fall-resolved : (s : Substitution) (n : ℕ) (items : List (Item ℕ)) → HeightsFall n items → HeightsFall n (map (resolve_item s) items)
+fall-resolved s n [] h = tt
+fall-resolved s n (GoalItem t l ∷ items) h = (h.0, fall-resolved s l items h.1)
+fall-resolved s n (CatchMark l ∷ items) h = (h.0, fall-resolved s l items h.1)
+fall-resolved s n (CollectMark t l ∷ items) h = (h.0, fall-resolved s l items h.1)
+fall-resolved s n (RemovalItem l ∷ items) h = fall-resolved s n items h
+
+-- goals of one height before items that are no higher
+fall-goals : (m n : ℕ) → m ≤ n → (gs : List Term) (items : List (Item ℕ)) → HeightsFall m items → HeightsFall n (goals_at m gs ++ items)
+fall-goals m n k [] items h = fall-more m n k items h
+fall-goals m n k (g ∷ gs) items h = (k, fall-goals m m (omega arith) gs items h)
+
+fall-marks : (n : ℕ) (items : List (Item ℕ)) → HeightsFall n items → HeightsFall n (without_marks items)
+fall-marks n [] h = tt
+fall-marks n (CatchMark l ∷ items) h = fall-marks n items (fall-more l n (omega arith) items h.1)
+fall-marks n (GoalItem t l ∷ items) h = h
+fall-marks n (CollectMark t l ∷ items) h = h
+fall-marks n (RemovalItem l ∷ items) h = h
+
+-- solutions, each over the later ones
+unified-held : (n : ℕ) (o : Option Substitution) (f : Continuation ℕ) (rest es : List Entry) → n ≤ length es → HeightsFall n f.items → FitHeights (rest ++ es) → FitHeights ((unified o f ++ rest) ++ es)
+unified-held n None f rest es k h r = r
+unified-held n (Some s) f rest es k h r = (fall-more n (length (rest ++ es)) (omega (arith, length-append rest es)) (map (resolve_item s) f.items) (fall-resolved s n f.items h), r)
+
+solutions-held : (n : ℕ) (f : Continuation ℕ) (ss : List Solution) (es : List Entry) → n ≤ length es → HeightsFall n f.items → FitHeights es → FitHeights (solution_entries n f ss ++ es)
+solutions-held n f [] es k h e = e
+solutions-held n f (s ∷ ss) es k h e =
+    unified-held n (unifier s.equations) (with_next (f.next + s.variables) (before (goals_at n s.goals) f)) (solution_entries n f ss) es k (fall-goals n n (omega arith) s.goals f.items h) (solutions-held n f ss es k h e)
+
+-- balls
+recovery-held : (o : Option Substitution) (ball r : Term) (f : Continuation ℕ) (es further : List Entry) → HeightsFall (length es) f.items → FitHeights es → FitHeights further → FitHeights (recovered o ball r f es further)
+recovery-held None ball r f es further h e g = g
+recovery-held (Some s) ball r f es further h e g = ((omega arith, fall-resolved s (length es) f.items h), e)
+
+landing-held : (ball : Term) (mark : Option ℕ) (es : List Entry) → FitHeights es → FitHeights (unwound ball mark es)
+landing-held ball mark [] h = (tt, tt)
+landing-held ball mark (CatchEntry c r f ∷ es) h = recovery-held (taken_by mark (length es) ball c f) ball r f es _ h.0 h.1 (landing-held ball (next_mark mark (length es) f) es h.1)
+landing-held ball mark (PlainEntry f ∷ es) h = landing-held ball mark es h.1
+landing-held ball mark (FindallEntry results l f ∷ es) h = landing-held ball mark es h.1
+landing-held ball mark (EndEntry b ∷ es) h = landing-held ball mark es h.1
+
+-- what takes the place of a goal that carries height h
+reply-held : (r : Reply) (f : Continuation ℕ) (es : List Entry) → HeightsFall (length es) f.items → FitHeights es → FitHeights (after_reply r f es)
+reply-held (Solutions ss) f es h e = solutions-held (length es) f ss es (omega arith) h e
+reply-held (Ball b) f es h e = landing-held b (first_mark f.items) es e
+reply-held (HaltNumber k) f es h e = tt
+
+form-held : (o : ControlForm) (h : ℕ) (f : Continuation ℕ) (es : List Entry) → h ≤ length es → HeightsFall h f.items → FitHeights es → FitHeights (after_control o h f es)
+form-held (GoesOnWith gs) h f es k i e = (fall-goals (length es) (length es) (omega arith) gs f.items (fall-more h (length es) k f.items i), e)
+form-held (EitherOf gs others) h f es k i e = (fall-goals h (suc (length es)) (omega arith) gs f.items i, (fall-goals h (length es) k others f.items i, e))
+form-held (TestOf gs thens others) h f es k i e = (test-held gs thens h (length es) f.items k i, (fall-goals h (length es) k others f.items i, e))
+  where
+    test-held : (gs thens : List Term) (h n : ℕ) (items : List (Item ℕ)) → h ≤ n → HeightsFall h items → HeightsFall (suc n) ((goals_at (suc n) gs ++ GoalItem (AtomTerm (codes "!")) n ∷ goals_at h thens) ++ items)
+    test-held [] thens h n items k i = (omega arith, fall-goals h n k thens items i)
+    test-held (g ∷ gs) thens h n items k i = (omega arith, test-held gs thens h n items k i)
+form-held CutToScope h f es k i e =
+    let lower : length (lowest h es) ≡ min h (length es) = (keeps_lower_part h es).height in
+    (fall-more h (length (lowest h es)) (omega arith) f.items i, held-drop (length es - h) es e)
+form-held (CatchOf g c r) h f es k i e = ((omega arith, (omega arith, fall-more h (length es) k f.items i)), (fall-more h (length es) k f.items i, e))
+form-held (FindallOf t g l) h f es k i e = ((omega arith, (omega arith, fall-more h (length es) k f.items i)), (fall-more h (length es) k f.items i, e))
+
+goal-held : (clauses : List Clause) (o : Outcome) (h : ℕ) (f : Continuation ℕ) (es : List Entry) (st : State) → h ≤ length es → HeightsFall h f.items → FitHeights es → FitHeights (goal_taken clauses o h f es st).entries
+goal-held clauses (Replies r) h f es st k i e = reply-held r f es (fall-more h (length es) k f.items i) e
+goal-held clauses (Controls form) h f es st k i e = form-held form h f es k i e
+goal-held clauses (AskWorld g) h f es st k i e = reply-held ((world_step clauses g f.next st.world).1) f es (fall-more h (length es) k f.items i) e
+
+removal-held : (db : Option Database) (f : Continuation ℕ) (es : List Entry) (st : State) → HeightsFall (length es) f.items → FitHeights es → FitHeights (removal_taken db f es st).entries
+removal-held None f es st i e = e
+removal-held (Some db) f es st i e = (i, e)
+
+opened-held : (qs : List Query) → FitHeights (opened qs)
+opened-held [] = tt
+opened-held (q ∷ qs) = (go q.goals, (tt, tt))
+  where
+    go : (gs : List Term) → HeightsFall 1 (goals_at 1 gs)
+    go [] = tt
+    go (g ∷ gs) = (omega arith, go gs)
+
+-- one inference
+item-held : (clauses : List Clause) (items : List (Item ℕ)) (f : Continuation ℕ) (es : List Entry) (st : State) → HeightsFall (length es) items → FitHeights es → FitHeights st.entries → FitHeights (item_taken clauses items f es st).entries
+item-held clauses [] f es st i e s = e
+item-held clauses (GoalItem g h ∷ items) f es st i e s = goal-held clauses (outcome_of clauses g f.next) h (with_items items f) es st i.0 i.1 e
+item-held clauses (RemovalItem number ∷ items) f es st i e s = removal-held (without_clause number st.world.database) (with_items items f) es st i e
+item-held clauses (CatchMark h ∷ items) f es st i e s = s
+item-held clauses (CollectMark t h ∷ items) f es st i e s = s
+
+entry-held : (clauses : List Clause) (es : List Entry) (st : State) → FitHeights es → FitHeights st.entries → FitHeights (entry_taken clauses es st).entries
+entry-held clauses [] st h s = s
+entry-held clauses (PlainEntry f ∷ es) st h s = item-held clauses f.items f es st h.0 h.1 s
+entry-held clauses (EndEntry b ∷ es) st h s = opened-held st.queries
+entry-held clauses (CatchEntry c r f ∷ es) st h s = s
+entry-held clauses (FindallEntry results l f ∷ es) st h s = s
+
+-- the free steps
+result-held : (n : ℕ) (t : Term) (e : Entry) → FitsHeight n e → FitsHeight n (with_result t e)
+result-held n t (PlainEntry f) h = h
+result-held n t (CatchEntry c r f) h = h
+result-held n t (FindallEntry results l f) h = h
+result-held n t (EndEntry b) h = h
+
+collected-held : (h : ℕ) (t : Term) (es : List Entry) → FitHeights es → FitHeights (collected h t es)
+collected-held h t [] k = tt
+collected-held h t (e ∷ es) k = go (length es == h) (result-held (length es) t e k.0) (collected-held h t es k.1)
+  where
+    go : (b : Bool) → FitsHeight (length es) (with_result t e) → FitHeights (collected h t es) → FitHeights (cond b (with_result t e ∷ es) (e ∷ collected h t es))
+    go true one rest = (one, k.1)
+    go false one rest = (subst (λ n. FitsHeight n e) (sym (length-collected h t es)) k.0, rest)
+
+plain-held : (items : List (Item ℕ)) (f : Continuation ℕ) (es : List Entry) (go : List Entry → List Entry) → HeightsFall (length es) items → FitHeights es → ((ds : List Entry) → FitHeights ds → FitHeights (go ds)) → FitHeights (plain_free_step items f es go)
+plain-held [] f es go i e g = (i, e)
+plain-held (GoalItem t m ∷ items) f es go i e g = (i, e)
+plain-held (RemovalItem m ∷ items) f es go i e g = (i, e)
+plain-held (CatchMark m ∷ items) f es go i e g = (i, e)
+plain-held (CollectMark t m ∷ items) f es go i e g = g (collected m t es) (collected-held m t es e)
+
+settle_in-held : (k : ℕ) (es : List Entry) → FitHeights es → FitHeights (free_steps_within k es)
+settle_in-held zero es h = h
+settle_in-held (suc k) [] h = tt
+settle_in-held (suc k) (CatchEntry c r f ∷ es) h = settle_in-held k es h.1
+settle_in-held (suc k) (FindallEntry results l f ∷ es) h = ((omega arith, h.0), h.1)
+settle_in-held (suc k) (PlainEntry f ∷ es) h = plain-held (without_marks f.items) f es (free_steps_within k) (fall-marks (length es) f.items h.0) h.1 (settle_in-held k)
+settle_in-held (suc k) (EndEntry b ∷ es) h = h
+
+step-held : (clauses : List Clause) (st : State) → FitHeights st.entries → FitHeights (step clauses st).entries
+unfolding step
+step-held clauses st h = entry-held clauses st.entries st h h
+
+pub run_held : (job : Job) (n : ℕ) → FitHeights (seq job n).entries
+run_held job n =
+    along (λ st. FitHeights st.entries) job (settle_in-held _ (opened job.queries) (opened-held job.queries))
+    (λ st h. settle_in-held _ (step job.clauses st).entries (step-held job.clauses st h)) n

@@ -1,0 +1,5 @@
+-- What is said of every run.
+pub mod ClauseLaws
+pub mod HeightLaws
+pub mod Numbering
+pub mod RunLaws

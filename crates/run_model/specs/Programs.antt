@@ -1,0 +1,5 @@
+-- What a text loads to.
+pub mod Bodies
+pub mod Clauses
+pub mod Databases
+pub mod Jobs

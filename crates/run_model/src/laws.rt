@@ -1,0 +1,4 @@
+//! Laws of the definitions: each function does nothing, and its contract is the law.
+
+pub mod clauses;
+pub mod runs;

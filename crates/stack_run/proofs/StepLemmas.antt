@@ -1,0 +1,231 @@
+-- Steps of a run.
+use Rattle.std.proofs.Common.{◌≡◌, ℕ, zero, suc, ◌+◌, ◌-◌, ◌<◌, ◌≤◌, List, [], ◌∷◌, ◌++◌, length, map, drop, reverse, get_or, Option, Some, None, Result, Ok, Err, OnOk, Vec, Global, refl, sym, ap, ◌∙◌, subst, append-nil, arith}
+use Rattle.std.specs.Arc.{arc_value}
+use Rattle.std.proofs.lemmas.List.{drop_more}
+use Rattle.au_term.specs.Term.{Term, VarTerm}
+use Rattle.au_model.specs.Terms.Each.{Each}
+use Rattle.run_model.specs.Programs.Clauses.{Clause}
+use Rattle.run_model.specs.Programs.Databases.{no_procedures}
+use Rattle.run_model.specs.Machine.FreeSteps.{take_free_steps, HasNoFreeStep, HaveNoMarkFirst}
+use Rattle.run_model.specs.Goals.GoalOutcomes.{outcome_of}
+use Rattle.au_model.specs.Terms.Named.{NamedVariable}
+use Rattle.run_model.specs.Programs.Jobs.{Query, goals_bound, own_terms, query_bound}
+use Rattle.au_model.specs.Terms.Named.{NamedTerm}
+use Rattle.au_model.specs.Writing.Lines.{answer_line, end_line}
+use Rattle.run_model.specs.Machine.Items.{GoalItem, Continuation, goals_at, resolve_named}
+use Rattle.run_model.specs.Machine.Entries.{Entry, PlainEntry, EndEntry}
+use Rattle.run_model.specs.Goals.Outcomes.{Outcome, Replies, Solutions, Ball, HaltNumber, Controls, AskWorld}
+use Rattle.run_model.specs.Machine.States.{State, opened, remaining_queries, item_taken, goal_taken, with_free_steps, step}
+use Rattle.au_model.specs.Terms.Substitutions.{Substitution, resolve}
+use Rattle.au_model.specs.declared.var_name.VarName.{VarName}
+use Rattle.run_model.proofs.FreeStepLemmas.{all_settle}
+use Rattle.run_model.proofs.StepLemmas.{plain_step, end_step}
+use Rattle.clause_compile.specs.CompiledClauses.{goal_items}
+use Rattle.clause_compile.specs.declared.item.Scope.{Scope}
+use Rattle.clause_compile.specs.declared.item.Scope.TheVariants.{Local}
+use Rattle.clause_compile.specs.declared.item.Item.{Item}
+use Rattle.clause_compile.specs.declared.item.Item.TheVariants.{Goal, CatchEnd, Collect, Remove, End}
+use Rattle.bind_store.specs.StoreView.{StoreView, IsValidStore, substitution, with_numbers}
+use Rattle.bind_store.proofs.ApplyLemmas.{resolve_none}
+use Rattle.engine_core.specs.Branches.{IsItemBelow}
+use Rattle.term_writer.specs.AnswerParts.{named_term, named_terms}
+use Rattle.au_model.specs.Terms.Named.{variable_meant}
+use Rattle.text_load.specs.declared.job.Job.{Job}
+use Rattle.stack_run.specs.StackView.{item_view, items_view, continuation_view, frames_view, end_view, entries_under, stack_view}
+use Rattle.stack_run.specs.StackInvariant.{IsFit, AreFit, IsCurrentFit}
+use Rattle.stack_run.specs.FreeStepsTaken.{IsResting, with_current}
+use Rattle.stack_run.specs.Inferences.{IsWorking, HasEnd, IsUnhalted, IsNoHalt, IsNoMark, HasEntries, following, item_entries, outcome_entries, entries_below}
+use Rattle.stack_run.specs.ItemsTaken.{BeginsWithNoMark, IsAtItem}
+use Rattle.stack_run.specs.MachineView.{names_asked, own_asked, stack_state, opened_state, ball_of, value_in, IsReady}
+use Rattle.stack_run.specs.declared.frame.Frame.{Frame}
+use Rattle.stack_run.specs.declared.frame.QueryEnd.{QueryEnd}
+use Rattle.stack_run.specs.declared.frame.Stack.{Stack}
+use Rattle.stack_run.proofs.CopyLemmas.{numbers_sound}
+use Rattle.stack_run.proofs.ResumptionLemmas.{nothing_at_hand}
+
+-- the names of the query that was asked last
+pub names_past : (n : ℕ) (qs : List Query) → length qs < n → names_asked n qs ≡ []
+names_past zero qs lt = absurd (omega arith)
+names_past (suc n) [] lt = refl
+names_past (suc zero) (q ∷ qs) lt = absurd (omega arith)
+names_past (suc (suc n)) (q ∷ qs) lt = names_past (suc n) qs (omega arith)
+
+pub names_at : (n : ℕ) (qs : List Query) (q : Query) → 0 < n → n ≤ length qs → q ≡ get_or qs (n - 1) q → q.names ≡ names_asked n qs
+names_at zero qs q lt le e = absurd (omega arith)
+names_at (suc n) [] q lt le e = absurd (omega arith)
+names_at (suc zero) (p ∷ qs) q lt le e = ap (λ x. x.names) e
+names_at (suc (suc n)) (p ∷ qs) q lt le e =
+    let i : suc (suc n) - 1 ≡ suc n = omega arith in
+    let j : suc n - 1 ≡ n = omega arith in
+    names_at (suc n) qs q (omega arith) (omega arith) (e ∙ ap (λ k. get_or (p ∷ qs) k q) i ∙ ap (λ k. get_or qs k q) (sym j))
+
+-- a query that has not begun
+goals_unbound : (cut : Scope) (gs : List Term) → map (item_view []) (goal_items (Local 0) gs) ≡ goals_at 1 gs
+goals_unbound cut [] = refl
+goals_unbound cut (g ∷ gs) = ap (λ t. GoalItem t 1 ∷ map (item_view []) (goal_items (Local 0) gs)) (resolve_none g) ∙ ap (λ is. GoalItem g 1 ∷ is) (goals_unbound cut gs)
+
+names_unbound : (vs : List NamedVariable) → map (resolve_named []) (own_terms vs) ≡ own_terms vs
+names_unbound [] = refl
+names_unbound (v ∷ vs) = ap (λ ns. record { name = v.name; term = VarTerm v.number } ∷ ns) (names_unbound vs)
+
+pub query_begun : (q : Query) (st first : StoreView) (n : ℕ) (goals kept : List Item) (frames : Vec Frame Global) → first ≡ record { made = []; next = 0 } → st ≡ with_numbers n first → n ≡ query_bound q → kept ≡ goals → goals ≡ goal_items (Local 0) q.goals → frames.items ≡ []
+    → PlainEntry (continuation_view (own_terms q.names) st kept) ∷ entries_under (own_terms q.names) st frames.items (Some (record { ball = None })) ≡ opened (q ∷ [])
+query_begun q st first n goals kept frames z s b k g f =
+    let store : st ≡ record { made = []; next = n } = s ∙ (ap (with_numbers n) z ∙ ap (λ m. record { made = []; next = m }) (plus n)) in
+    let own = own_terms q.names in
+    ap (λ fs. PlainEntry (continuation_view own st kept) ∷ frames_view own st (reverse fs) ++ EndEntry None ∷ []) f
+    ∙ (ap (λ x. PlainEntry (continuation_view own x kept) ∷ EndEntry None ∷ []) store
+    ∙ (ap (λ is. PlainEntry (continuation_view own (record { made = []; next = n }) is) ∷ EndEntry None ∷ []) (k ∙ g)
+    ∙ (ap (λ is. PlainEntry (record { items = is; named = map (resolve_named []) own; next = n }) ∷ EndEntry None ∷ []) (goals_unbound (Local 0) q.goals)
+    ∙ (ap (λ vs. PlainEntry (record { items = goals_at 1 q.goals; named = vs; next = n }) ∷ EndEntry None ∷ []) (names_unbound q.names)
+    ∙ ap (λ m. PlainEntry (record { items = goals_at 1 q.goals; named = own; next = m }) ∷ EndEntry None ∷ []) b))))
+  where
+    plus : (m : ℕ) → 0 + m ≡ m
+    plus m = omega arith
+
+goals_below : (n : ℕ) (gs : List Term) → goals_bound gs ≤ n → Each (IsItemBelow n) (goal_items (Local 0) gs)
+goals_below n [] h = tt
+goals_below n (g ∷ gs) h = (omega arith, goals_below n gs (omega arith))
+
+pub query_fit : (q : Query) (st first : StoreView) (n : ℕ) (goals kept : List Item) (frames : Vec Frame Global) → first ≡ record { made = []; next = 0 } → st ≡ with_numbers n first → n ≡ query_bound q → kept ≡ goals → goals ≡ goal_items (Local 0) q.goals → frames.items ≡ []
+    → IsFit (record { store = st; current = Some kept; frames = frames; end = Some (record { ball = None }) })
+query_fit q st first n goals kept frames z s b k g f =
+    let bound : goals_bound q.goals ≤ st.next = omega (arith, b, ap (λ (x : StoreView). x.next) s, ap (λ (x : StoreView). x.next) z) in
+    let empty : IsValidStore first = subst IsValidStore (sym z) (record { apart = tt; below = tt }) in
+    record {
+      sound = subst IsValidStore (sym s) (numbers_sound first n empty);
+      current = subst (Each (IsItemBelow st.next)) (sym (k ∙ g)) (goals_below st.next q.goals bound);
+      frames = subst (λ fs. AreFit st (reverse fs)) (sym f) tt;
+      ended = λ x. absurd (never (record { ball = None }) x);
+    }
+  where
+    never : (e : QueryEnd) → Some e ≡ None → ⊥
+    never e x = cc
+
+-- a state by its parts
+abbrev state_of : Job → List ℕ → ℕ → ℕ → List Query → List Entry → State
+state_of job written answers inferences queries entries = record {
+  entries = entries;
+  world = record { written = written; database = no_procedures; operators = job.ops };
+  queries = queries;
+  answers = answers;
+  inferences = inferences;
+  halted = None;
+}
+
+pub query_opens : (job : Job) (asked answers : ℕ) (q : Query) (new old : Stack) → asked < length job.queries.items → q ≡ get_or job.queries.items asked q → stack_view (own_terms q.names) new ≡ opened (q ∷ [])
+    → (written : List ℕ) (inferences : ℕ) → stack_state job (asked + 1) answers new written inferences ≡ opened_state (stack_state job asked answers old written inferences)
+query_opens job asked answers q new old lt is view written inferences =
+    let qs = job.queries.items in
+    let split : drop asked qs ≡ q ∷ drop (asked + 1) qs = drop_more qs asked q lt ∙ ap (λ d. d ∷ drop (asked + 1) qs) (sym is) in
+    let back : asked ≡ asked + 1 - 1 = omega arith in
+    let named : names_asked (asked + 1) qs ≡ q.names = sym (names_at (asked + 1) qs q (omega arith) (omega arith) (is ∙ ap (λ k. get_or qs k q) back)) in
+    let entries : stack_view (own_asked (asked + 1) qs) new ≡ opened (drop asked qs) = ap (λ ns. stack_view (own_terms ns) new) named ∙ (view ∙ ap opened (sym split)) in
+    ap (state_of job written answers inferences (drop (asked + 1) qs)) entries ∙ ap (λ d. state_of job written answers inferences d (opened (drop asked qs))) (ap remaining_queries (sym split))
+
+-- a query ends
+pub query_ends : (job : Job) (asked answers : ℕ) (s : Stack) (line : List ℕ) → IsReady s → s.current ≡ None → HasEnd s → line ≡ end_line job.ops (ball_of s.end) → (written : List ℕ) (inferences : ℕ)
+    → opened_state (stack_state job asked answers s (written ++ line) (inferences + 1)) ≡ step (arc_value job.procs) (stack_state job asked answers s written inferences)
+query_ends job asked answers s line r n h l written inferences =
+    let qs = job.queries.items in
+    let own = own_asked asked qs in
+    let entries : stack_view own s ≡ EndEntry (ball_of s.end) ∷ [] =
+    nothing_at_hand own s n ∙ (ap (λ fs. frames_view own s.store (reverse fs) ++ end_view s.end) (r.resting n)
+    ∙ (ap end_view h.1 ∙ ap (λ o. EndEntry (ball_of o) ∷ []) (sym h.1))) in
+    ap (λ x. state_of job (written ++ x) answers (inferences + 1) (remaining_queries (drop asked qs)) (opened (drop asked qs))) l
+    ∙ sym (end_step (arc_value job.procs) (stack_state job asked answers s written inferences) (ball_of s.end) [] entries)
+
+-- an answer
+values_named : (st : StoreView) (names : List VarName) → named_terms names (map (value_in st) names) ≡ map (resolve_named (substitution st)) (own_terms (map variable_meant names))
+values_named st [] = refl
+values_named st (v ∷ names) = ap (λ ns. named_term v (value_in st v) ∷ ns) (values_named st names)
+
+pub answers_so : (job : Job) (asked answers : ℕ) (s : Stack) (names : List VarName) (values : List Term) (line : List ℕ) → IsWorking s → map variable_meant names ≡ names_asked asked job.queries.items → values ≡ map (value_in s.store) names
+    → line ≡ answer_line job.ops (named_terms names values) → (written : List ℕ) (inferences : ℕ)
+    → stack_state job asked (answers + 1) s (written ++ line) (inferences + 1) ≡ step (arc_value job.procs) (stack_state job asked answers (with_current [] s) written inferences)
+answers_so job asked answers s names values line w m v l written inferences =
+    let qs = job.queries.items in
+    let own = own_asked asked qs in
+    let f = continuation_view own s.store [] in
+    let named : named_terms names values ≡ f.named = ap (named_terms names) v ∙ (values_named s.store names ∙ ap (λ ns. map (resolve_named (substitution s.store)) (own_terms ns)) m) in
+    ap (λ x. state_of job (written ++ x) (answers + 1) (inferences + 1) (drop asked qs) (stack_view own s)) (l ∙ ap (answer_line job.ops) named)
+    ∙ (ap (state_of job (written ++ answer_line job.ops f.named) (answers + 1) (inferences + 1) (drop asked qs)) (nothing_at_hand own s w.none)
+    ∙ sym (plain_step (arc_value job.procs) (stack_state job asked answers (with_current [] s) written inferences) f (entries_below s own) refl))
+
+pub answer_fit : (s : Stack) → IsWorking s → IsFit s
+answer_fit s w = record { sound = w.sound; current = subst (IsCurrentFit s.store) (sym w.none) tt; frames = w.frames; ended = λ x. absurd (never x) }
+  where
+    never : s.end ≡ None → ⊥
+    never x = let y = w.ending.1 in cc
+
+-- an item is taken
+goal_goes : (clauses : List Clause) (o : Outcome) (h : ℕ) (f : Continuation ℕ) (es : List Entry) (job : Job) (written : List ℕ) (answers inferences : ℕ) (qs : List Query) (all : List Entry) → IsNoHalt o
+    → goal_taken clauses o h f es (state_of job written answers inferences qs all) ≡ state_of job written answers (inferences + 1) qs (outcome_entries o h f es)
+goal_goes clauses (Replies (Solutions ss)) h f es job written answers inferences qs all n = refl
+goal_goes clauses (Replies (Ball b)) h f es job written answers inferences qs all n = refl
+goal_goes clauses (Replies (HaltNumber k)) h f es job written answers inferences qs all n = absurd n
+goal_goes clauses (Controls form) h f es job written answers inferences qs all n = refl
+goal_goes clauses (AskWorld goal) h f es job written answers inferences qs all n = refl
+
+item_goes : (clauses : List Clause) (own : List NamedTerm) (st : StoreView) (i : Item) (rest : List Item) (es : List Entry) (job : Job) (written : List ℕ) (answers inferences : ℕ) (qs : List Query) (all : List Entry) → IsNoMark i → IsUnhalted clauses st i
+    → item_taken clauses (items_view st (i ∷ rest)) (continuation_view own st (i ∷ rest)) es (state_of job written answers inferences qs all)
+    ≡ state_of job written answers (inferences + 1) qs (item_entries clauses (item_view (substitution st) i) (continuation_view own st rest) es)
+item_goes clauses own st (Goal t cut) rest es job written answers inferences qs all m g = goal_goes clauses (outcome_of clauses (resolve (substitution st) t) st.next) _ (continuation_view own st rest) es job written answers inferences qs all g
+item_goes clauses own st (CatchEnd scope) rest es job written answers inferences qs all m g = absurd m
+item_goes clauses own st (Collect t scope) rest es job written answers inferences qs all m g = absurd m
+item_goes clauses own st (Remove id) rest es job written answers inferences qs all m g = refl
+item_goes clauses own st (End ball) rest es job written answers inferences qs all m g = refl
+
+pub infers_so : (job : Job) (clauses : List Clause) (asked answers : ℕ) (s new : Stack) (goals rest : List Item) (i : Item) (line : List ℕ) → clauses ≡ arc_value job.procs → goals ≡ i ∷ rest → IsNoMark i → IsUnhalted clauses s.store i → line ≡ []
+    → HasEntries (λ own. item_entries clauses (item_view (substitution s.store) i) (following s rest own) (entries_below s own)) new → (written : List ℕ) (inferences : ℕ)
+    → stack_state job asked answers new (written ++ line) (inferences + 1) ≡ step (arc_value job.procs) (stack_state job asked answers (with_current goals s) written inferences)
+infers_so job clauses asked answers s new goals rest i line p g m o l v written inferences =
+    let qs = job.queries.items in
+    let own = own_asked asked qs in
+    let bytes : written ++ line ≡ written = ap (λ x. written ++ x) l ∙ append-nil written in
+    ap (λ x. state_of job x answers (inferences + 1) (drop asked qs) (stack_view own new)) bytes
+    ∙ (ap (state_of job written answers (inferences + 1) (drop asked qs)) (v.view own)
+    ∙ (sym (item_goes clauses own s.store i rest (entries_below s own) job written answers inferences (drop asked qs) (stack_view own (with_current (i ∷ rest) s)) m o)
+    ∙ (sym (plain_step clauses (stack_state job asked answers (with_current (i ∷ rest) s) written inferences) (continuation_view own s.store (i ∷ rest)) (entries_below s own) refl)
+    ∙ (ap (λ is. step clauses (stack_state job asked answers (with_current is s) written inferences)) (sym g)
+    ∙ ap (λ cs. step cs (stack_state job asked answers (with_current goals s) written inferences)) p))))
+
+-- free steps after it
+pub settles_so : (job : Job) (asked answers : ℕ) (s new : Stack) → ((own : List NamedTerm) → stack_view own new ≡ take_free_steps (stack_view own s)) → (written : List ℕ) (inferences : ℕ)
+    → stack_state job asked answers new written inferences ≡ with_free_steps (stack_state job asked answers s written inferences)
+settles_so job asked answers s new h written inferences = ap (state_of job written answers inferences (drop asked job.queries.items)) (h (own_asked asked job.queries.items))
+
+pub ready : (s new : Stack) → ((own : List NamedTerm) → stack_view own new ≡ take_free_steps (stack_view own s)) → IsFit new → IsResting new → IsReady new
+ready s new h f r = record { fit = f; resting = r; settled = λ own. subst HasNoFreeStep (sym (h own)) (all_settle (stack_view own s)) }
+
+-- the item in front of a stack that is ready is no mark
+front_by : (s : Substitution) (goals : List Item) → HaveNoMarkFirst (map (item_view s) goals) → BeginsWithNoMark goals
+front_by s [] h = tt
+front_by s (Goal t cut ∷ goals) h = tt
+front_by s (CatchEnd scope ∷ goals) h = absurd h
+front_by s (Collect t scope ∷ goals) h = absurd h
+front_by s (Remove id ∷ goals) h = tt
+front_by s (End ball ∷ goals) h = tt
+
+pub at_item : (s : Stack) (goals : List Item) (taken : Option (List Item)) → s.current ≡ Some goals → taken ≡ None → IsReady s → HasEnd s → IsAtItem goals (record { store = s.store; current = taken; frames = s.frames; end = s.end })
+at_item s goals taken c t r e =
+    let same : s ≡ with_current goals s = ap (λ o. record { store = s.store; current = o; frames = s.frames; end = s.end }) c in
+    record {
+      fit = subst IsFit same r.fit;
+      none = t;
+      ending = e;
+      front = front_by (substitution s.store) goals (subst (λ u. HasNoFreeStep (stack_view [] u)) same (r.settled []));
+    }
+
+-- what was taken stands for the stack as it was
+pub taken_state : (job : Job) (asked answers : ℕ) (s : Stack) (goals : List Item) → s.current ≡ Some goals → (written : List ℕ) (inferences : ℕ)
+    → stack_state job asked answers (with_current goals s) written inferences ≡ stack_state job asked answers s written inferences
+taken_state job asked answers s goals c written inferences =
+    ap (λ o. stack_state job asked answers (record { store = s.store; current = o; frames = s.frames; end = s.end }) written inferences) (sym c)
+
+pub first_no_mark : (goals rest : List Item) (i : Item) → goals ≡ i ∷ rest → BeginsWithNoMark goals → IsNoMark i
+first_no_mark goals rest i e h = subst BeginsWithNoMark e h
+
+pub both_ok : {T E : Type 0} (r : Result T E) {A B C : Type 0} → (A → B → C) → OnOk r A → OnOk r B → OnOk r C
+both_ok (Ok x) f a b = f a b
+both_ok (Err x) f a b = tt

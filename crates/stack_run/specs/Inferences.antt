@@ -1,0 +1,145 @@
+-- One inference, by what the item at hand comes to.
+use Rattle.std.specs.Prelude.{◌≡◌, ℕ, suc, Bool, true, false, ◌≤◌, length, List, [], ◌∷◌, reverse, Option, Some, None}
+use Rattle.std.specs.Option.{option_map}
+use Rattle.au_term.specs.Term.{Term, var_bound}
+use Rattle.run_model.specs.Programs.Bodies.{goals_of}
+use Rattle.au_model.specs.Terms.Named.{NamedTerm}
+use Rattle.run_model.specs.Programs.Clauses.{Clause}
+use Rattle.au_model.specs.Terms.Copies.{copied}
+use Rattle.run_model.specs.Goals.GoalOutcomes.{outcome_of}
+use Rattle.run_model.specs.Goals.Outcomes.{Outcome, Replies, Solutions, Ball, HaltNumber, Controls, AskWorld, ControlForm, TestOf, CatchOf, FindallOf}
+use Rattle.au_model.specs.Terms.Substitutions.{resolve}
+use Rattle.au_model.specs.Terms.Unifier.{unifier}
+use Rattle.run_model.specs.Goals.Worlds.{dynamic_call}
+use Rattle.run_model.specs.Machine.Items.{Item as ItemTerms, GoalItem, CatchMark, CollectMark, RemovalItem, Continuation}
+use Rattle.run_model.specs.Machine.Balls.{unwound, recovered}
+use Rattle.run_model.specs.Machine.Entries.{Entry}
+use Rattle.run_model.specs.Machine.Heights.{after_reply, after_control}
+use Rattle.clause_compile.specs.declared.item.Item.{Item}
+use Rattle.clause_compile.specs.declared.item.Item.TheVariants.{Goal, CatchEnd, Collect, Remove, End}
+use Rattle.clause_compile.specs.declared.item.Scope.{Scope}
+use Rattle.clause_compile.specs.declared.item.Scope.TheVariants.{Local}
+use Rattle.clause_compile.specs.declared.event.Effect.{Effect}
+use Rattle.clause_compile.specs.declared.event.Effect.TheVariants as effect
+use Rattle.clause_compile.specs.declared.event.Opening.{Opening}
+use Rattle.clause_compile.specs.declared.event.Opening.TheVariants as opening
+use Rattle.clause_compile.specs.declared.event.Branch.{Branch as BranchTerms}
+use Rattle.bind_store.specs.StoreView.{StoreView, IsValidStore, Continues, substitution}
+use Rattle.stack_run.specs.StackView.{stack_view, continuation_view, choice_view, entries_under, scope_place}
+use Rattle.stack_run.specs.StackInvariant.{IsFit, AreFit}
+use Rattle.stack_run.specs.declared.frame.Catch.{Catch}
+use Rattle.stack_run.specs.declared.frame.Choice.{Choice}
+use Rattle.stack_run.specs.declared.frame.Choice.TheVariants.{Branch as BranchChoice, Catch as CatchChoice}
+use Rattle.stack_run.specs.declared.frame.QueryEnd.{QueryEnd}
+use Rattle.stack_run.specs.declared.frame.Stack.{Stack}
+
+-- there is a query's end
+abbrev pub HasEnd : Stack → Type 0
+HasEnd s = (e : QueryEnd) × (s.end ≡ Some e)
+
+-- the alternative at hand was taken
+pub record IsWorking (s : Stack) : Type 0 where
+  pub sound : IsValidStore s.store
+  pub none : s.current ≡ None
+  pub frames : AreFit s.store (reverse s.frames.items)
+  pub ending : HasEnd s
+
+-- the entries that are left
+pub record HasEntries (entries : List NamedTerm → List Entry) (s : Stack) : Type 0 where
+  pub view : (own : List NamedTerm) → stack_view own s ≡ entries own
+  pub fit : IsFit s
+  pub ending : HasEnd s
+
+abbrev pub entries_below : Stack → List NamedTerm → List Entry
+entries_below s own = entries_under own s.store s.frames.items s.end
+
+abbrev pub following : Stack → List Item → List NamedTerm → Continuation ℕ
+following s rest own = continuation_view own s.store rest
+
+abbrev pub branch_entry : List NamedTerm → StoreView → BranchTerms → Entry
+branch_entry own st b = choice_view own st (BranchChoice b)
+
+-- a height by its place
+abbrev pub height_at : Option ℕ → Option ℕ
+height_at place = option_map (λ i. suc i) place
+
+-- what takes the place of a goal by its outcome, where no procedure is dynamic
+abbrev pub outcome_entries : Outcome → ℕ → Continuation ℕ → List Entry → List Entry
+outcome_entries (Replies r) h f es = after_reply r f es
+outcome_entries (Controls form) h f es = after_control form h f es
+outcome_entries (AskWorld goal) h f es = after_reply (dynamic_call None goal f.next) f es
+
+-- by the item in front; a removal fails where no procedure is dynamic
+abbrev pub item_entries : List Clause → ItemTerms ℕ → Continuation ℕ → List Entry → List Entry
+item_entries clauses (GoalItem g h) f es = outcome_entries (outcome_of clauses g f.next) h f es
+item_entries clauses (CatchMark h) f es = es
+item_entries clauses (CollectMark t h) f es = es
+item_entries clauses (RemovalItem n) f es = es
+
+-- an item that is no mark
+abbrev pub IsNoMark : Item → Type 0
+IsNoMark (Goal t cut) = Unit {0}
+IsNoMark (CatchEnd scope) = ⊥
+IsNoMark (Collect t scope) = ⊥
+IsNoMark (Remove id) = Unit {0}
+IsNoMark (End ball) = Unit {0}
+
+-- the choice point is the catch of the mark, or lets balls by
+abbrev pub IsCatchOf : Choice → Option ℕ → ℕ → Option Catch → Type 0
+IsCatchOf choice mark place None = (own : List NamedTerm) (st : StoreView) (ball : Term) (es : List Entry) → length es ≡ suc place → unwound ball (height_at mark) (choice_view own st choice ∷ es) ≡ unwound ball (height_at mark) es
+IsCatchOf choice mark place (Some catch) = (choice ≡ CatchChoice catch) × (mark ≡ Some place)
+
+-- a catch took a ball, or there is no unifier and nothing older was undone
+abbrev pub IsRecovered : Term → Catch → Stack → Stack → Bool → Type 0
+IsRecovered ball catch old new true =
+    (further : List NamedTerm → List Entry) → HasEntries (λ own. recovered (unifier ((resolve (substitution old.store) catch.catcher, copied ball old.store.next) ∷ [])) ball (resolve (substitution old.store) catch.recovery) (following old catch.rest own) (entries_below old own) (further own)) new
+IsRecovered ball catch old new false =
+    (unifier ((resolve (substitution old.store) catch.catcher, copied ball old.store.next) ∷ []) ≡ None)
+    × Continues old.store new.store × IsValidStore new.store × (new.current ≡ None) × (new.frames ≡ old.frames) × (new.end ≡ old.end)
+
+-- the frame that a catch mark names
+abbrev pub marked_place : Item → Option ℕ
+marked_place (Goal t cut) = None
+marked_place (CatchEnd scope) = Some (scope_place scope)
+marked_place (Collect t scope) = None
+marked_place (Remove id) = None
+marked_place (End ball) = None
+
+-- the scope of a cut in a goal
+abbrev pub cut_of : Item → Scope
+cut_of (Goal t cut) = cut
+cut_of (CatchEnd scope) = Local 0
+cut_of (Collect t scope) = Local 0
+cut_of (Remove id) = Local 0
+cut_of (End ball) = Local 0
+
+abbrev pub IsOpeningBelow : ℕ → Opening → Type 0
+IsOpeningBelow n (opening.Condition c t e) = (var_bound c ≤ n) × (var_bound t ≤ n) × (var_bound e ≤ n)
+IsOpeningBelow n (opening.Catch g c r) = (var_bound g ≤ n) × (var_bound c ≤ n) × (var_bound r ≤ n)
+IsOpeningBelow n (opening.Findall t g l) = (var_bound t ≤ n) × (var_bound g ≤ n) × (var_bound l ≤ n)
+
+-- the construct that opens so
+abbrev pub opened_form : StoreView → Opening → ControlForm
+opened_form st (opening.Condition c t e) = TestOf (goals_of (resolve (substitution st) c)) (goals_of (resolve (substitution st) t)) (goals_of (resolve (substitution st) e))
+opened_form st (opening.Catch g c r) = CatchOf (resolve (substitution st) g) (resolve (substitution st) c) (resolve (substitution st) r)
+opened_form st (opening.Findall t g l) = FindallOf (resolve (substitution st) t) (resolve (substitution st) g) (resolve (substitution st) l)
+
+-- what takes the place of an effect: the call of a procedure that is not there raises its error, others fail
+abbrev pub gate_entries : Effect → Continuation ℕ → List Entry → List Entry
+gate_entries (effect.Call goal) f es = after_reply (dynamic_call None goal f.next) f es
+gate_entries e f es = es
+
+-- a goal that does not end the run
+abbrev pub IsNoHalt : Outcome → Type 0
+IsNoHalt (Replies (Solutions ss)) = Unit {0}
+IsNoHalt (Replies (Ball b)) = Unit {0}
+IsNoHalt (Replies (HaltNumber k)) = ⊥
+IsNoHalt (Controls form) = Unit {0}
+IsNoHalt (AskWorld goal) = Unit {0}
+
+abbrev pub IsUnhalted : List Clause → StoreView → Item → Type 0
+IsUnhalted clauses st (Goal t cut) = IsNoHalt (outcome_of clauses (resolve (substitution st) t) st.next)
+IsUnhalted clauses st (CatchEnd scope) = Unit {0}
+IsUnhalted clauses st (Collect t scope) = Unit {0}
+IsUnhalted clauses st (Remove id) = Unit {0}
+IsUnhalted clauses st (End ball) = Unit {0}

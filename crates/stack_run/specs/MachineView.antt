@@ -1,0 +1,62 @@
+-- What a run stands for.
+use Rattle.std.specs.Prelude.{ℕ, zero, suc, List, [], ◌∷◌, drop, Option, Some, None}
+use Rattle.au_term.specs.Term.{Term, VarTerm}
+use Rattle.run_model.specs.Programs.Databases.{no_procedures}
+use Rattle.au_model.specs.Terms.Substitutions.{resolve}
+use Rattle.run_model.specs.Machine.FreeSteps.{HasNoFreeStep}
+use Rattle.au_model.specs.Terms.Named.{NamedTerm}
+use Rattle.au_model.specs.Terms.Named.{NamedVariable}
+use Rattle.run_model.specs.Programs.Jobs.{Query, own_terms}
+use Rattle.run_model.specs.Machine.States.{State, opened, remaining_queries}
+use Rattle.au_model.specs.declared.var_name.VarName.{VarName}
+use Rattle.bind_store.specs.StoreView.{StoreView, substitution}
+use Rattle.text_load.specs.declared.job.Job.{Job}
+use Rattle.stack_run.specs.StackView.{stack_view}
+use Rattle.stack_run.specs.StackInvariant.{IsFit}
+use Rattle.stack_run.specs.FreeStepsTaken.{IsResting}
+use Rattle.stack_run.specs.declared.frame.QueryEnd.{QueryEnd}
+use Rattle.stack_run.specs.declared.frame.Stack.{Stack}
+use Rattle.stack_run.specs.declared.frame.Machine.{Machine}
+
+-- the names of the query that was asked last, where so many were asked
+abbrev pub names_asked : ℕ → List Query → List NamedVariable
+names_asked zero qs = []
+names_asked (suc n) [] = []
+names_asked (suc zero) (q ∷ qs) = q.names
+names_asked (suc (suc n)) (q ∷ qs) = names_asked (suc n) qs
+
+-- what they stand for to begin with
+abbrev pub own_asked : ℕ → List Query → List NamedTerm
+own_asked asked qs = own_terms (names_asked asked qs)
+
+-- the state of a run with this stack, after these bytes and so many inferences
+abbrev pub stack_state : Job → ℕ → ℕ → Stack → List ℕ → ℕ → State
+stack_state job asked answers s written inferences = record {
+  entries = stack_view (own_asked asked job.queries.items) s;
+  world = record { written = written; database = no_procedures; operators = job.ops };
+  queries = drop asked job.queries.items;
+  answers = answers;
+  inferences = inferences;
+  halted = None;
+}
+
+abbrev pub state_view : Job → Machine → List ℕ → ℕ → State
+state_view job m written inferences = stack_state job m.asked m.answers m.stack written inferences
+
+-- no free step is left
+pub record IsReady (s : Stack) : Type 0 where
+  pub fit : IsFit s
+  pub resting : IsResting s
+  pub settled : (own : List NamedTerm) → HasNoFreeStep (stack_view own s)
+
+-- what a query's variable stands for
+abbrev pub value_in : StoreView → VarName → Term
+value_in st v = resolve (substitution st) (VarTerm v.number)
+
+-- the next query in place of what is left of the last one
+abbrev pub opened_state : State → State
+opened_state st = record st { entries = opened st.queries; queries = remaining_queries st.queries }
+
+abbrev pub ball_of : Option QueryEnd → Option Term
+ball_of None = None
+ball_of (Some e) = e.ball

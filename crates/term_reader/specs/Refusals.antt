@@ -1,0 +1,131 @@
+-- Where no token goes on, and what is refused there.
+use Rattle.std.specs.Prelude.{◌≡◌, ◌^◌, ◌≤◌, ◌<◌, ◌&&◌, ◌||◌, not, ℕ, Bool, nat_le, false, List, [], ◌∷◌, ◌++◌, length, Option, Some, None, IsCharBoundary, if◌then◌else◌}
+use Rattle.au_model.specs.Syntax.Characters.{chars_from}
+use Rattle.au_model.specs.Syntax.Tokens.{Lexeme, Name, QuotedName, Integer, Close, Comma, Token, token, scanned, ScannedTo, tokens_of}
+use Rattle.au_model.specs.Syntax.Operators.{OperatorTable, prefix_of}
+use Rattle.au_model.specs.Syntax.PostOperators.{PostOperator, named_post_operator, post_operator_fits, right_bound}
+use Rattle.au_model.specs.Syntax.Trees.{Tree}
+use Rattle.au_model.specs.Syntax.Primaries.{Setting, is_post_operator, is_some_operator}
+use Rattle.au_model.specs.declared.fault_kind.FaultKind.{FaultKind}
+use Rattle.au_model.specs.declared.fault_kind.FaultKind.TheVariants.{UnexpectedToken, WideNumeral, TooManyArguments}
+use Rattle.term_reader.specs.Completion.{OpenFrame, PrefixOf, InfixOf, CompletesOperand, CompletesAfter, bound_of}
+use Rattle.term_reader.specs.FrameShapes.{IsWithinBounds}
+use Rattle.term_reader.specs.Positions.{Due, There, HasReadTo}
+use Rattle.term_reader.specs.PrimaryView.{setting_of}
+use Rattle.term_reader.specs.LexemeView.{lexeme_meant, IsStart}
+use Rattle.term_reader.specs.declared.lexeme.Scan.{Scan}
+use Rattle.term_reader.specs.declared.lexeme.Scan.TheVariants.{Found}
+use Rattle.term_reader.specs.ReaderSteps.{StartsPrimary, IsFrameClosing}
+use Rattle.term_reader.specs.declared.lexeme.Closer.{Closer}
+use Rattle.term_reader.specs.declared.state.State.{State}
+use Rattle.term_reader.specs.declared.opening.Source.{Source}
+use Rattle.term_reader.specs.declared.opening.Opening.TheVariants as opening
+use Rattle.op_table.specs.declared.operator.Operator.{Operator as DeclaredOperator}
+use Rattle.term_reader.specs.declared.state.Frame.{Frame as DeclaredFrame}
+use Rattle.term_reader.specs.declared.state.Frame.TheVariants as frame
+use Rattle.term_reader.specs.Lookahead.{Scans}
+use Rattle.term_reader.specs.Nesting.{NestsIn}
+use Rattle.au_model.specs.Syntax.TextFaults.{BeginsTerm, Fault, IsOneTooMany}
+use Rattle.term_reader.specs.declared.refusal.Refused.{Refused}
+use Rattle.term_reader.specs.declared.steps.Turn.{Turn}
+use Rattle.term_reader.specs.declared.steps.Turn.TheVariants.{Refused as RefusedTurn}
+
+-- the tokens up to a place begin a term, and with the next one they do not; this is not one argument too many
+pub record IsStuck (s : Setting) (text : List ℕ) (start at : ℕ) : Type 0 where
+  pub read : List Token
+  pub scans : Scans (chars_from text start) read (chars_from text at)
+  pub begins : BeginsTerm s read
+  pub ends : (t : Token) (us : List Token) → tokens_of (chars_from text at) ≡ t ∷ us → (more : List Token) (goal : Tree) → CompletesOperand s [] (read ++ t ∷ more) goal → ⊥
+  pub few : (t : Token) (us : List Token) → tokens_of (chars_from text at) ≡ t ∷ us → (m : ℕ) (name : List ℕ) → IsOneTooMany s (read ++ t ∷ us) (length read) m name → ⊥
+
+abbrev pub unexpected_kind : Lexeme → FaultKind
+unexpected_kind (Integer k) = if nat_le (2 ^ 63) k then WideNumeral else UnexpectedToken
+unexpected_kind _ = UnexpectedToken
+
+-- the fault of the text from its start is this one
+pub record IsFirstFault (s : Setting) (text : List ℕ) (start : ℕ) (r : Refused) : Type 0 where
+  pub place : IsCharBoundary text r.at
+  pub fault : Fault s (chars_from text start) r.kind (chars_from text r.at)
+
+abbrev pub RefusesFirstFault : Setting → List ℕ → ℕ → Turn → Type 0
+RefusesFirstFault s text start (RefusedTurn r) = IsFirstFault s text start r
+RefusesFirstFault s text start _ = Unit {0}
+
+-- ---- behind an operand
+
+-- an operator of this name
+abbrev pub is_named_post_operator : OperatorTable → Lexeme → Bool
+is_named_post_operator ops (Name n) = is_post_operator (named_post_operator ops n)
+is_named_post_operator ops (QuotedName n) = is_post_operator (named_post_operator ops n)
+is_named_post_operator ops _ = false
+
+-- a token at a place, with which no operand there goes on and none ends
+pub record IsNotAccepted (source : Source) (start : ℕ) (k : List OpenFrame) (l : Tree) (p at : ℕ) (doubt : Bool) (lexeme : Lexeme) (place end : ℕ) : Type 0 where
+  pub led : HasReadTo (setting_of source) source.text.now start (There k l p) at doubt
+  pub kept : IsWithinBounds k
+  pub low : p ≤ bound_of k
+  pub apart : Bool
+  pub found : scanned (chars_from source.text.now at) ≡ ScannedTo (token apart lexeme) (chars_from source.text.now end)
+  pub starts : IsStart source.text.now at place
+  pub refused : (more : List Token) (goal : Tree) → CompletesAfter (setting_of source) k (token apart lexeme ∷ more) l p goal → ⊥
+  pub few : (us : List Token) (m : ℕ) (name : List ℕ) → IsOneTooMany (setting_of source) (led.read ++ token apart lexeme ∷ us) (length led.read) m name → ⊥
+
+-- what is read at a place with this token is read in this stack, behind operators that were put over their operands;
+-- and what this stack reads behind a bracket that closes is read at the place
+pub record IsReadBelow (source : Source) (start at : ℕ) (doubt : Bool) (t : Token) (k : List OpenFrame) (l : Tree) (p : ℕ) : Type 0 where
+  pub stack : List OpenFrame
+  pub tree : Tree
+  pub priority : ℕ
+  pub led : HasReadTo (setting_of source) source.text.now start (There stack tree priority) at doubt
+  pub kept : IsWithinBounds stack
+  pub low : priority ≤ bound_of stack
+  pub passes : (more : List Token) (goal : Tree) → CompletesAfter (setting_of source) stack (t ∷ more) tree priority goal → CompletesAfter (setting_of source) k (t ∷ more) l p goal
+  pub closes : (more : List Token) (goal : Tree) → CompletesAfter (setting_of source) k (token false Close ∷ more) l p goal → CompletesAfter (setting_of source) stack (token false Close ∷ more) tree priority goal
+  pub nests : NestsIn (setting_of source) source.text.now start led.read k
+
+-- ---- where an operand ends
+
+-- a compound with the last argument but one that it may have
+abbrev pub HasAllArguments : DeclaredFrame → Type 0
+HasAllArguments (frame.Argument name n place) = 65534 ≤ n
+HasAllArguments _ = ⊥
+
+-- This is the fault where the token that stands behind the operand is not taken, and is no comma behind the last
+-- argument that a compound may have. Where it is one, the compound's place is that of the fault.
+abbrev pub IsFaultAtFrame : (source : Source) → ℕ → (st : State) → (f : DeclaredFrame) → (k : List OpenFrame) → (l : Tree) → (p : ℕ) → (c : Closer) → (end : ℕ) → IsFrameClosing source st f k l p c end → Refused → Type 0
+IsFaultAtFrame source start st f k l p c end h r =
+    ((more : List Token) (goal : Tree) → CompletesAfter (setting_of source) k (token h.apart h.lexeme ∷ more) l p goal → ⊥)
+    → ((HasAllArguments f → h.lexeme ≡ Comma → ⊥) → IsFirstFault (setting_of source) source.text.now start r) × ((name : List ℕ) (n place : ℕ) → f ≡ frame.Argument name n place → 65534 ≤ n → h.lexeme ≡ Comma → IsFirstFault (setting_of source) source.text.now start (record { at = place; kind = TooManyArguments }))
+
+-- ---- behind a prefix operator
+
+-- the joint goes on behind an operand of this priority, maybe when operators were put over it
+abbrev pub accepts : List OpenFrame → ℕ → PostOperator → Bool
+accepts [] p j = post_operator_fits 1200 p j
+accepts (PrefixOf n o ∷ k) p j = post_operator_fits (right_bound o) p j || accepts k o.priority j
+accepts (InfixOf n o l ∷ k) p j = post_operator_fits (right_bound o) p j || accepts k o.priority j
+accepts (f ∷ k) p j = post_operator_fits (bound_of (f ∷ k)) p j
+
+-- an operator, and no prefix operator, that goes on behind an atom
+abbrev pub name_follows_atom : OperatorTable → List OpenFrame → List ℕ → Bool
+name_follows_atom ops k n = (is_post_operator (named_post_operator ops n) && not (is_some_operator (prefix_of ops n))) && accepts k 0 (named_post_operator ops n)
+
+abbrev pub lexeme_follows_atom : OperatorTable → List OpenFrame → Lexeme → Bool
+lexeme_follows_atom ops k (Name n) = name_follows_atom ops k n
+lexeme_follows_atom ops k (QuotedName n) = name_follows_atom ops k n
+lexeme_follows_atom ops k _ = false
+
+-- a prefix operator above the bound
+pub record IsPrefixAboveBound (source : Source) (start : ℕ) (k : List OpenFrame) (at end : ℕ) : Type 0 where
+  pub doubt : Bool
+  pub name : List ℕ
+  pub operator : DeclaredOperator
+  pub led : HasReadTo (setting_of source) source.text.now start (Due k) at doubt
+  pub kept : IsWithinBounds k
+  pub starts : StartsPrimary source at (opening.Prefix name operator end)
+  pub high : bound_of k < operator.priority
+
+-- the place behind a token that joins an atom
+abbrev pub follower_end : OperatorTable → List OpenFrame → Scan → Option ℕ
+follower_end ops k (Found t) = if lexeme_follows_atom ops k (lexeme_meant t.lexeme) then Some t.end else None
+follower_end ops k _ = None

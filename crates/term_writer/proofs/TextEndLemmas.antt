@@ -1,0 +1,23 @@
+-- A text with nothing behind it.
+use Rattle.std.proofs.Common.{◌≡◌, ℕ, true, false, List, [], ◌++◌, refl, sym, ap, ◌∙◌, append-nil}
+use Rattle.au_model.specs.declared.style.Style.{Style}
+use Rattle.au_model.specs.Writing.Pieces.{Piece, text_of_tokens}
+use Rattle.au_model.specs.Writing.WrittenTerms.{token_text}
+use Rattle.term_writer.specs.declared.text.Front.{Front}
+use Rattle.term_writer.specs.declared.text.Front.TheVariants.{Nothing, Space, Token, PrefixOperator}
+use Rattle.term_writer.specs.TextInProgress.{joined_after, bytes_with}
+
+nothing_behind : (front : Front) → joined_after front [] ≡ []
+nothing_behind Nothing = refl
+nothing_behind Space = refl
+nothing_behind (Token side) = refl
+nothing_behind (PrefixOperator true) = refl
+nothing_behind (PrefixOperator false) = refl
+
+pub ends_here : (style : Style) (bytes : List ℕ) (front : Front) → bytes_with style bytes front [] ≡ bytes
+ends_here style bytes front = ap (λ ts. bytes ++ text_of_tokens (token_text style) ts) (nothing_behind front) ∙ append-nil bytes
+
+-- what was written behind bytes of a text in which nothing stands in front
+pub written_behind : (style after : Style) (old new : List ℕ) (front behind : Front) (ps : List Piece)
+    → bytes_with after new behind [] ≡ bytes_with style old front ps → front ≡ Nothing → new ≡ bytes_with style old Nothing ps
+written_behind style after old new front behind ps e f = sym (ends_here after new behind) ∙ (e ∙ ap (λ g. bytes_with style old g ps) f)

@@ -1,9 +1,0 @@
--- What a job stands for.
-use Rattle.std.specs.Arc.{arc_value}
-use Rattle.au_model.specs.Databases.{no_procedures}
-use Rattle.au_model.specs.Jobs.{Job as JobTerms}
-use Rattle.text_load.specs.declared.job.Job.{Job}
-
--- no procedure is dynamic
-abbrev pub job_meant : Job → JobTerms
-job_meant job = record { clauses = arc_value job.procs; database = no_procedures; operators = job.ops; queries = job.queries.items }
