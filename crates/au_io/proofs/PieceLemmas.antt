@@ -28,8 +28,8 @@ pub own_part : (xs zeros : List ℕ) (n room : ℕ) → length xs ≡ n → take
 own_part xs zeros n room e =
     ap (λ ys. take n (ys ++ zeros)) (take_all (n + room) xs (omega (arith, e))) ∙ (ap (λ m. take m (xs ++ zeros)) (sym e) ∙ take-append_seam xs zeros)
 
-read_behind : (xs read rest : List ℕ) (count : ℕ) → count ≤ length read → take (length xs + count) (xs ++ (read ++ rest)) ≡ xs ++ take count read
-read_behind xs read rest count le = take-append-add xs (read ++ rest) count ∙ ap (λ ys. xs ++ ys) (take-append-le count read rest le)
+read_after : (xs read rest : List ℕ) (count : ℕ) → count ≤ length read → take (length xs + count) (xs ++ (read ++ rest)) ≡ xs ++ take count read
+read_after xs read rest count le = take-append-add xs (read ++ rest) count ∙ ap (λ ys. xs ++ ys) (take-append-le count read rest le)
 
 -- what is left of a list that was made longer, read into behind its own part, and cut
 pub read_in : (xs made read behind rest : List ℕ) (n long count : ℕ) → length xs ≡ n → take n made ≡ xs → count ≤ length read → n + count ≤ long
@@ -39,7 +39,7 @@ read_in xs made read behind rest n long count e own le few =
     ∙ (ap (λ ys. take (n + count) ((ys ++ (read ++ behind)) ++ rest)) own
     ∙ (ap (λ m. take (m + count) ((xs ++ (read ++ behind)) ++ rest)) (sym e)
     ∙ (ap (take (length xs + count)) (append_assoc xs (read ++ behind) rest ∙ ap (λ ys. xs ++ ys) (append_assoc read behind rest))
-    ∙ read_behind xs read (behind ++ rest) count le)))
+    ∙ read_after xs read (behind ++ rest) count le)))
 
 pub part_is : (xs new part : List ℕ) (n : ℕ) → length xs ≡ n → new ≡ xs ++ part → drop n new ≡ part
 part_is xs new part n l e = ap (drop n) e ∙ (ap (λ m. drop m (xs ++ part)) (sym l) ∙ drop-append_seam xs part)

@@ -8,7 +8,7 @@ use Rattle.au_term.specs.Term.{Term, VarTerm, IntTerm, AtomTerm, Compound, Terms
 use Rattle.au_term.specs.PrefixOrder.{cells_of, all_cells, term_of, term_of-cells_of, arity, due_after}
 use Rattle.au_term.specs.declared.cell.Cell.{Cell}
 use Rattle.au_term.specs.declared.cell.Cell.TheVariants.{Var as VarCell, Int as IntCell, Atom as AtomCell, Functor}
-use Rattle.au_term.proofs.WholeTermLemmas.{Leaves-term, Leaves-AreDue, AreDue-at, due_after-is}
+use Rattle.au_term.proofs.WholeTermLemmas.{DueAfter-term, DueAfter-AreDue, AreDue-at, due_after-is}
 use Rattle.au_model.specs.Terms.Substitutions.{apply, apply_all}
 use Rattle.au_model.specs.Terms.Copies.{noted, seen_in, seen_in_all, place_of, renamed}
 use Rattle.au_model.specs.Terms.CopiedCells.{occurrences_at, occurrences_along, renamed_cell, place_among}
@@ -156,7 +156,7 @@ copying_begins t before next cells built e b = record { cells_are = e; left = ap
 module _ (t : Term) (before : List ℕ) (next : ℕ) (cells : List Cell) (i : ℕ) (seen : List ℕ) (built : List Cell) (h : Copying t before next cells i seen built) where
   pub cell_due : i < length cells → 0 < due_after 1 built
   cell_due lt =
-      let due = AreDue-at 1 (cells_of t) i (Leaves-AreDue 1 (cells_of t) 0 (Leaves-term t)) (subst (λ cs. i < length cs) h.cells_are lt) in
+      let due = AreDue-at 1 (cells_of t) i (DueAfter-AreDue 1 (cells_of t) 0 (DueAfter-term t)) (subst (λ cs. i < length cs) h.cells_are lt) in
       let same : due_after 1 built ≡ due_after 1 (take i (cells_of t)) = ap (due_after 1) h.built_is ∙ (due-renamed 1 (seen_in t before) next (take i cells) ∙ ap (λ cs. due_after 1 (take i cs)) h.cells_are) in
       omega (arith, due, same)
 
@@ -184,7 +184,7 @@ module _ (t : Term) (before : List ℕ) (next : ℕ) (cells : List Cell) (i : �
   )
 
 pub copy_done : (u : Term) (built : List Cell) → built ≡ cells_of u → due_after 1 built ≡ 0
-copy_done u built e = ap (due_after 1) e ∙ due_after-is 1 (cells_of u) 0 (Leaves-term u)
+copy_done u built e = ap (due_after 1) e ∙ due_after-is 1 (cells_of u) 0 (DueAfter-term u)
 
 pub copy_is : (t u : Term) (built : List Cell) → cells_of t ≡ built → built ≡ cells_of u → t ≡ u
 copy_is t u built c e = sym (term_of-cells_of t) ∙ (ap term_of (c ∙ e) ∙ term_of-cells_of u)

@@ -7,11 +7,7 @@ use Rattle.au_term.specs.Term.{Term, VarTerm, IntTerm, AtomTerm, Compound, Terms
 use Rattle.au_model.specs.Terms.Substitutions.{Substitution, apply, apply_all, value_of, resolve, only}
 use Rattle.au_model.specs.Terms.Unifier.{Equations, Rule, Dropped, Replaced, Opened, Clash, rule, pairs, replace, bound, by_rule, unifier}
 use Rattle.au_model.specs.Terms.Forms.{same_name, name_of, is_callable}
-use Rattle.run_model.specs.Programs.Clauses.{clause_renaming, renamed_head, clause_takes, renamed_goals}
-use Rattle.run_model.specs.Machine.Items.{before, goals_at, with_next}
-use Rattle.run_model.specs.Machine.Entries.{unified}
 use Rattle.au_model.specs.Terms.EquationsInTurn.{after, resolved_equations, further_unified, FrontFirst}
-use Rattle.run_model.specs.Laws.ClauseLaws.{FirstClauseTried, OthersGiveNothing}
 use Rattle.au_model.proofs.ApplyLemmas.{two, apply-same, apply-apply}
 use Rattle.au_model.proofs.UnifierRuleLemmas.{count-apply_all}
 use Rattle.au_model.proofs.UnifierLemmas.{Next, by_rules, unifier-first, bound_first}

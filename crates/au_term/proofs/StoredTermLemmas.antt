@@ -5,7 +5,7 @@ use Rattle.au_term.specs.Term.{Term}
 use Rattle.au_term.specs.PrefixOrder.{cells_of, terms_of, term_of, IsForest, AreValidCells, IsTerm, subterm}
 use Rattle.au_term.specs.SubtermSizes.{all_sizes, IsMeasured}
 use Rattle.au_term.specs.declared.cell.Cell.{Cell}
-use Rattle.au_term.proofs.WholeTermLemmas.{whole, stands, Leaves-term}
+use Rattle.au_term.proofs.WholeTermLemmas.{whole, stands, DueAfter-term}
 use Rattle.au_term.proofs.SubtermLemmas.{forest_from, term_forest, first_splits, first_taken}
 use Rattle.au_term.proofs.SubtermSizeLemmas.{length-all_sizes, size_at}
 
@@ -70,6 +70,6 @@ pub subterm_whole : (t : Term) (at : ℕ) → AreValidCells (cells_of t) → at 
 subterm_whole t at h lt =
     let e = ends t at (at + length (cells_of (subterm at t))) lt refl in
     record {
-      leaves = Leaves-term (subterm at t);
+      leaves = DueAfter-term (subterm at t);
       sound = AreSound-front (cells_of (subterm at t)) _ (subst AreValidCells e.rest (AreSound-drop (cells_of t) at h));
     }

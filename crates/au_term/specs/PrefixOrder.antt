@@ -55,9 +55,9 @@ pub record IsForest (cs : List Cell) : Type 0 where
   pub cells : all_cells (terms_of cs) ≡ cs
 
 -- where this many terms are due and these cells come, this many terms are still due
-abbrev pub LeavesDue : ℕ → List Cell → ℕ → Type 0
-LeavesDue due [] left = due ≡ left
-LeavesDue due (c ∷ cs) left = (0 < due) × LeavesDue (due - 1 + arity c) cs left
+abbrev pub DueAfter : ℕ → List Cell → ℕ → Type 0
+DueAfter due [] left = due ≡ left
+DueAfter due (c ∷ cs) left = (0 < due) × DueAfter (due - 1 + arity c) cs left
 
 -- where this many terms are due, each of these cells comes while one is
 abbrev pub AreDue : ℕ → List Cell → Type 0
@@ -87,12 +87,12 @@ AreValidCells (c ∷ cs) = IsValidCell c × AreValidCells cs
 
 -- the cells of a whole term
 pub record IsTerm (cs : List Cell) : Type 0 where
-  pub leaves : LeavesDue 1 cs 0
+  pub leaves : DueAfter 1 cs 0
   pub sound : AreValidCells cs
 
 -- the first cells of a term, of which so many terms are still due
 pub record IsTermPrefix (cs : List Cell) (due : ℕ) : Type 0 where
-  pub leaves : LeavesDue 1 cs due
+  pub leaves : DueAfter 1 cs due
   pub sound : AreValidCells cs
 
 abbrev pub append_terms : Terms → Terms → Terms

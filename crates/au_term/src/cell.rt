@@ -55,7 +55,7 @@ impl Cell {
     }
 
     /// The same cell, with `base` added to the number of a variable.
-    pub fn raised(&self, base: VarNo) -> Result<Cell, NoMemory>
+    pub fn shifted(&self, base: VarNo) -> Result<Cell, NoMemory>
         requires { base + cell_bound self.now < 2 ^ 64 }
         ensures { IfOk result (λ cell. cell ≡ shifted_cell base self.now) }
     {

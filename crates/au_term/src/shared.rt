@@ -91,7 +91,7 @@ impl Shared {
         ensures { IfOk result (λ cell. cell ≡ top_of self.now) }
     {
         let (cells, base) = self.parts();
-        cells[0].raised(base)
+        cells[0].shifted(base)
     }
 
     /// How many arguments it has; 0 where it is no compound.
@@ -118,10 +118,10 @@ impl Shared {
         ensures { IfOk result (λ t. t ≡ self.now) }
     {
         let (cells, base) = self.parts();
-        let mut raised = Vec::new(alloc);
+        let mut shifted = Vec::new(alloc);
         for cell in cells {
-            raised.push(cell.raised(base)?)?;
+            shifted.push(cell.shifted(base)?)?;
         }
-        FlatTerm::from_cells(raised)
+        FlatTerm::from_cells(shifted)
     }
 }

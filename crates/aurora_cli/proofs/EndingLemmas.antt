@@ -46,18 +46,18 @@ not_both : (bytes : List ℕ) (job : JobTerms) (line column : ℕ) (kind : Fault
 not_both bytes job line column kind h (no_text v) = no_valid bytes _ v h.utf8
 not_both bytes job line column kind h (text_fault utf8 r) = no_fault (chars bytes) r.from h.loads.own kind h.loads.text_is r.fault
 
-module _ (held : Option (List ℕ)) (job : Job) (budget : ℕ) (before after : Option (List ℕ)) (r : RunEnd) (loaded : IsJobLoaded held job) where
-  by_end : (end : RunEnding) → r.end ≡ end → IsRunBy end (job_meant job) budget before after r → EndsBy (ending_after end) held budget before after
+module _ (held : Option (List ℕ)) (job : Job) (budget : ℕ) (before ending_of_run : Option (List ℕ)) (r : RunEnd) (loaded : IsJobLoaded held job) where
+  by_end : (end : RunEnding) → r.end ≡ end → IsRunBy end (job_meant job) budget before ending_of_run r → EndsBy (ending_after end) held budget before ending_of_run
   by_end Finished q w = record { job = job; loaded = loaded; ends = ap ending_after (sym q ∙ w.ended); bytes = w.bytes }
   by_end (Halted k) q w = record { job = job; loaded = loaded; ends = ap ending_after (sym q ∙ w.ended); bytes = w.bytes }
   by_end Budget q w = record { job = job; loaded = loaded; ends = ap ending_after (sym q ∙ w.ended); bytes = w.bytes }
   by_end WriteFault q w = record { job = job; loaded = loaded; bytes = w.bytes }
   by_end NoMemory q w = inr (record { job = job; loaded = loaded; bytes = w.bytes })
 
-  pub ran : (e : Ending) → IsRun (job_meant job) budget before after r → e ≡ ending_after r.end → EndsBy e held budget before after
-  ran e run is = subst (λ k. EndsBy k held budget before after) (sym is) (by_end r.end refl run)
+  pub ran : (e : Ending) → IsRun (job_meant job) budget before ending_of_run r → e ≡ ending_after r.end → EndsBy e held budget before ending_of_run
+  ran e run is = subst (λ k. EndsBy k held budget before ending_of_run) (sym is) (by_end r.end refl run)
 
-  whole_by : (j : JobTerms) → job_meant job ≡ j → (end : RunEnding) → r.end ≡ end → IsRunBy end (job_meant job) budget before after r → (end ≡ WriteFault → ⊥)
+  whole_by : (j : JobTerms) → job_meant job ≡ j → (end : RunEnding) → r.end ≡ end → IsRunBy end (job_meant job) budget before ending_of_run r → (end ≡ WriteFault → ⊥)
       → (ending_after end ≡ ending_after (ending_of j budget)) ⊎ (ending_after end ≡ ItsMemory)
   whole_by j same Finished q w n = inl (ap ending_after (sym q ∙ (w.ended ∙ ap (λ k. ending_of k budget) same)))
   whole_by j same (Halted k) q w n = inl (ap ending_after (sym q ∙ (w.ended ∙ ap (λ k. ending_of k budget) same)))
@@ -65,12 +65,12 @@ module _ (held : Option (List ℕ)) (job : Job) (budget : ℕ) (before after : O
   whole_by j same WriteFault q w n = absurd (n refl)
   whole_by j same NoMemory q w n = inr refl
 
-pub complete_run : (held : Option (List ℕ)) (job : Job) (budget : ℕ) (before after : Option (List ℕ)) (r : RunEnd) (e : Ending) → IsJobLoaded held job → IsRun (job_meant job) budget before after r → e ≡ ending_after r.end
+pub complete_run : (held : Option (List ℕ)) (job : Job) (budget : ℕ) (before ending_of_run : Option (List ℕ)) (r : RunEnd) (e : Ending) → IsJobLoaded held job → IsRun (job_meant job) budget before ending_of_run r → e ≡ ending_after r.end
     → (r.end ≡ WriteFault → ⊥) → IfSome held (IsComplete e budget)
-complete_run None job budget before after r e loaded run is n = tt
-complete_run (Some told) job budget before after r e loaded run is n = λ j short s.
+complete_run None job budget before ending_of_run r e loaded run is n = tt
+complete_run (Some told) job budget before ending_of_run r e loaded run is n = λ j short s.
     let same = stands_alone told (job_meant job) j (subst (λ t. StandsFor t (job_meant job)) loaded.read loaded.stands) s in
-    subst (λ k. (k ≡ ending_after (ending_of j budget)) ⊎ (k ≡ ItsMemory)) (sym is) (whole_by (Some told) job budget before after r loaded j same r.end refl run n)
+    subst (λ k. (k ≡ ending_after (ending_of j budget)) ⊎ (k ≡ ItsMemory)) (sym is) (whole_by (Some told) job budget before ending_of_run r loaded j same r.end refl run n)
 
 fault_by : (told : List ℕ) (e : Ending) (budget : ℕ) → IsLoadFault (Some told) e → (e ≡ ReadFault → ⊥) → (e ≡ TooLong → 16777216 < length told) → IsComplete e budget told
 fault_by told (Refused line column kind) budget f r l = λ j short s. absurd (not_both told j line column kind s (subst (λ (t : List ℕ). IsRefusedText t line column kind) f.read f.refused))

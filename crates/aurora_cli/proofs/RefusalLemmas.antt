@@ -20,12 +20,12 @@ append-none : {X : Type 0} (xs : List X) → xs ++ [] ≡ xs
 append-none [] = refl
 append-none (x ∷ xs) = ap (λ ys. x ∷ ys) (append-none xs)
 
-none_behind : (text : List ℕ) → chars_from text (length text) ≡ []
+none_after : (text : List ℕ) → chars_from text (length text) ≡ []
 unfolding chars
-none_behind text = ap chars (drop_all (length text) text (omega arith))
+none_after text = ap chars (drop_all (length text) text (omega arith))
 
 whole_before : (text before : List ℕ) → chars text ≡ before ++ chars_from text (length text) → before ≡ chars text
-whole_before text before e = sym (e ∙ (ap (λ cs. before ++ cs) (none_behind text) ∙ append-none before))
+whole_before text before e = sym (e ∙ (ap (λ cs. before ++ cs) (none_after text) ∙ append-none before))
 
 pub no_text_at : (bytes text : List ℕ) (n line column : ℕ) → IsValidUpTo bytes n → text ≡ take n bytes → IsLineAndColumn text (chars_from text (length text)) line column → IsRefusedText bytes line column NotUtf8
 no_text_at bytes text n line column v e p =

@@ -37,29 +37,29 @@ pub record IsTextReadRefused (held : Option (List ℕ)) (line column : ℕ) (kin
   pub refused : IsRefusedText text line column kind
 
 -- the ending is that of the run of the text's job within the budget, and the bytes are that run's
-pub record IsRunOf (held : Option (List ℕ)) (budget : ℕ) (before after : Option (List ℕ)) (e : Ending) : Type 0 where
+pub record IsRunOf (held : Option (List ℕ)) (budget : ℕ) (before ending_of_run : Option (List ℕ)) (e : Ending) : Type 0 where
   pub job : Job
   pub loaded : IsJobLoaded held job
   pub ends : e ≡ ending_after (ending_of (job_meant job) budget)
-  pub bytes : Appended before after (text_of (job_meant job) budget)
+  pub bytes : Appended before ending_of_run (text_of (job_meant job) budget)
 
 -- the bytes are a front of those of that run
-pub record IsPrefixOfRun (held : Option (List ℕ)) (budget : ℕ) (before after : Option (List ℕ)) : Type 0 where
+pub record IsPrefixOfRun (held : Option (List ℕ)) (budget : ℕ) (before ending_of_run : Option (List ℕ)) : Type 0 where
   pub job : Job
   pub loaded : IsJobLoaded held job
-  pub bytes : AppendedPrefix before after (text_of (job_meant job) budget)
+  pub bytes : AppendedPrefix before ending_of_run (text_of (job_meant job) budget)
 
 -- what each ending says of the text that was asked for, the budget, and the bytes that the sink took
 abbrev pub EndsBy : Ending → Option (List ℕ) → ℕ → Option (List ℕ) → Option (List ℕ) → Type 0
-EndsBy Finished held budget before after = IsRunOf held budget before after Finished
-EndsBy (Halted k) held budget before after = IsRunOf held budget before after (Halted k)
-EndsBy Budget held budget before after = IsRunOf held budget before after Budget
-EndsBy WriteFault held budget before after = IsPrefixOfRun held budget before after
-EndsBy NoMemory held budget before after = (before ≡ after) ⊎ IsPrefixOfRun held budget before after
-EndsBy (Refused line column kind) held budget before after = IsTextReadRefused held line column kind × (before ≡ after)
-EndsBy TooLong held budget before after = before ≡ after
-EndsBy (Usage kind) held budget before after = before ≡ after
-EndsBy ReadFault held budget before after = before ≡ after
+EndsBy Finished held budget before ending_of_run = IsRunOf held budget before ending_of_run Finished
+EndsBy (Halted k) held budget before ending_of_run = IsRunOf held budget before ending_of_run (Halted k)
+EndsBy Budget held budget before ending_of_run = IsRunOf held budget before ending_of_run Budget
+EndsBy WriteFault held budget before ending_of_run = IsPrefixOfRun held budget before ending_of_run
+EndsBy NoMemory held budget before ending_of_run = (before ≡ ending_of_run) ⊎ IsPrefixOfRun held budget before ending_of_run
+EndsBy (Refused line column kind) held budget before ending_of_run = IsTextReadRefused held line column kind × (before ≡ ending_of_run)
+EndsBy TooLong held budget before ending_of_run = before ≡ ending_of_run
+EndsBy (Usage kind) held budget before ending_of_run = before ≡ ending_of_run
+EndsBy ReadFault held budget before ending_of_run = before ≡ ending_of_run
 
 -- a text that stands for a job and is not too long is run, unless memory is wanting
 abbrev pub IsComplete : Ending → ℕ → List ℕ → Type 0

@@ -31,12 +31,12 @@ fn main(rt: HostRuntime) -> ExitCode {
         }
         Err(ending) => ending,
     };
-    tell(rt.stderr(), &ending);
+    print_note(rt.stderr(), &ending);
     ExitCode::from(code(&ending))
 }
 
 /// Prints the note of an ending. That it cannot be printed changes nothing.
-fn tell<W: Write + Drop>(mut out: W, ending: &Ending) {
+fn print_note<W: Write + Drop>(mut out: W, ending: &Ending) {
     let mut line = [0; 160];
     let length = note_line(ending, &mut line);
     let _ = out.write_all(&line[..length]);

@@ -96,7 +96,7 @@ const PLANNER: &str =
 opposite(left, right).
 opposite(right, left).
 
-% Where farmer, wolf, goat and cabbage are, before and after each crossing.
+% Where farmer, wolf, goat and cabbage are, before and ending_of_run each crossing.
 crossing(goat, at(A, W, A, C), at(B, W, B, C)) :- opposite(A, B).
 crossing(wolf, at(A, A, G, C), at(B, B, G, C)) :- opposite(A, B).
 crossing(cabbage, at(A, W, G, A), at(B, W, G, B)) :- opposite(A, B).

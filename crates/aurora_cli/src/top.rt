@@ -42,12 +42,12 @@ pub fn aurora<R: Threads + Wait + Sync, S: Shelf, K: Sink, G: Gate>(
 {
     match command_of(words) {
         None => Ending::Usage(UsageKind::Words),
-        Some(command) => obey(alloc, &command, shelf, out),
+        Some(command) => run_command(alloc, &command, shelf, out),
     }
 }
 
 /// Does what a command asks for.
-fn obey<S: Shelf, K: Sink>(
+fn run_command<S: Shelf, K: Sink>(
     alloc: Global,
     command: &Command<'_>,
     shelf: &mut S,
@@ -63,13 +63,13 @@ fn obey<S: Shelf, K: Sink>(
     ensures complete { (Increased (S.faults shelf.old) (S.faults shelf.new) → ⊥) → (Increased (K.faults out.old) (K.faults out.new) → ⊥) → IfSome (S.held shelf.old command.now.file.now) (IsComplete result command.now.budget) }
 {
     match load(alloc, command.file, shelf) {
-        Ok(job) => after(run_job(alloc, job, command.budget, out).end),
+        Ok(job) => ending_of_run(run_job(alloc, job, command.budget, out).end),
         Err(ending) => ending,
     }
 }
 
 /// The ending of the program by that of its run.
-fn after(end: RunEnding) -> Ending
+fn ending_of_run(end: RunEnding) -> Ending
     ensures { result ≡ ending_after end }
 {
     match end {

@@ -65,22 +65,22 @@ record Argued (p : Pair) (bs : List Binding) (at : Place) (n : ℕ) : Type 0 whe
   pub terms : arguments (place_term p bs at) ≡ take_terms n (place_terms p bs (inside at))
   pub stand : HasTermsAt p bs (inside at) n
 
-all_raised-take : (base n : ℕ) (ts : Terms) → all_shifted base (take_terms n ts) ≡ take_terms n (all_shifted base ts)
-all_raised-take base zero ts = refl
-all_raised-take base (suc n) end = refl
-all_raised-take base (suc n) (more t ts) = ap (more (shifted base t)) (all_raised-take base n ts)
+all_shifted-take : (base n : ℕ) (ts : Terms) → all_shifted base (take_terms n ts) ≡ take_terms n (all_shifted base ts)
+all_shifted-take base zero ts = refl
+all_shifted-take base (suc n) end = refl
+all_shifted-take base (suc n) (more t ts) = ap (more (shifted base t)) (all_shifted-take base n ts)
 
-arity-raised : (base : ℕ) (c : Cell) → arity (shifted_cell base c) ≡ arity c
-arity-raised base (VarCell n) = refl
-arity-raised base (IntCell z) = refl
-arity-raised base (AtomCell a) = refl
-arity-raised base (Functor f n) = refl
+arity-shifted : (base : ℕ) (c : Cell) → arity (shifted_cell base c) ≡ arity c
+arity-shifted base (VarCell n) = refl
+arity-shifted base (IntCell z) = refl
+arity-shifted base (AtomCell a) = refl
+arity-shifted base (Functor f n) = refl
 
 arguments_of : (base : ℕ) (c : Cell) (cs : List Cell) (n : ℕ) → 0 < n → arity c ≡ n → arguments (shifted base (first_of (with_cell c (terms_of cs)))) ≡ take_terms n (all_shifted base (terms_of cs))
 arguments_of base (VarCell m) cs n lt e = absurd (omega arith)
 arguments_of base (IntCell z) cs n lt e = absurd (omega arith)
 arguments_of base (AtomCell a) cs n lt e = absurd (omega arith)
-arguments_of base (Functor f m) cs n lt e = all_raised-take base m (terms_of cs) ∙ ap (λ k. take_terms k (all_shifted base (terms_of cs))) e
+arguments_of base (Functor f m) cs n lt e = all_shifted-take base m (terms_of cs) ∙ ap (λ k. take_terms k (all_shifted base (terms_of cs))) e
 
 argued_at : (p : Pair) (bs : List Binding) (at : Place) (n : ℕ) (c : Cell) → 0 < n → HasTermsAt p bs at 1 → c ≡ get_or (cells_of (whole_at p bs at.source)) at.at c → arity (top_of (place_term p bs at)) ≡ n → Argued p bs at n
 argued_at p bs at n c lt s is e =
@@ -89,7 +89,7 @@ argued_at p bs at n c lt s is e =
     let within = stand_within p bs at s in
     let here = opened (cells_of t) at.at c within is in
     let forest = subst IsForest here (forest_from (cells_of t) at.at (term_forest t)) in
-    let number : arity c ≡ n = sym (arity-raised base c) ∙ (ap arity (top_of-place base t at.at c within is) ∙ e) in
+    let number : arity c ≡ n = sym (arity-shifted base c) ∙ (ap arity (top_of-place base t at.at c within is) ∙ e) in
     record {
       terms = ap (λ cs. arguments (shifted base (term_of cs))) here ∙ arguments_of base c (drop (at.at + 1) (cells_of t)) n lt number;
       stand = record { there = s.there; enough = subst (λ k. k ≤ count (terms_of (drop (at.at + 1) (cells_of t)))) number (opens c (drop (at.at + 1) (cells_of t)) forest).enough };

@@ -12,7 +12,7 @@ use Rattle.bind_store.specs.UnificationSteps.{Pair, place_term, HasTermsAt, IsBi
 use Rattle.bind_store.specs.declared.unify.Source.TheVariants.{Value}
 use Rattle.bind_store.specs.declared.unify.Place.{Place}
 use Rattle.bind_store.proofs.TriangularLemmas.{value-composed, bound_within}
-use Rattle.bind_store.proofs.PlaceLemmas.{raised-none}
+use Rattle.bind_store.proofs.PlaceLemmas.{shifted-none}
 use Rattle.bind_store.proofs.WeightLemmas.{weight-bound}
 
 -- a subterm that stands for what another does
@@ -25,7 +25,7 @@ abbrev pub value_place : ℕ → Place
 value_place i = record { source = Value i; at = 0 }
 
 pub place_term-value : (p : Pair) (bs : List Binding) (i : ℕ) → place_term p bs (value_place i) ≡ value_at bs i
-place_term-value p bs i = raised-none (subterm 0 (value_at bs i)) ∙ subterm-zero (value_at bs i)
+place_term-value p bs i = shifted-none (subterm 0 (value_at bs i)) ∙ subterm-zero (value_at bs i)
 
 pub var_top : (t : Term) (x : ℕ) → top_of t ≡ VarCell x → t ≡ VarTerm x
 var_top (VarTerm n) x e = cc

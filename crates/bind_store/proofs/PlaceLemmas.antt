@@ -8,7 +8,7 @@ use Rattle.au_term.specs.declared.cell.Cell.TheVariants.{Var as VarCell, Int as 
 use Rattle.au_term.proofs.WholeTermLemmas.{count-take}
 use Rattle.au_term.proofs.SubtermLemmas.{opens, forest_from, term_forest}
 use Rattle.au_term.proofs.SizeFillLemmas.{opened}
-use Rattle.au_term.proofs.ShiftLemmas.{top_of-raised}
+use Rattle.au_term.proofs.ShiftLemmas.{top_of-shifted}
 use Rattle.bind_store.specs.Bindings.{Binding}
 use Rattle.au_model.specs.Terms.Unifier.{pairs}
 use Rattle.bind_store.specs.UnificationSteps.{Pair, whole_at, base_at, place_term, place_terms, HasTermsAt, IsNextPlace, equations_at, pending_equations}
@@ -17,15 +17,15 @@ use Rattle.bind_store.proofs.ResolvingLemmas.{reverse-push}
 use Rattle.bind_store.specs.declared.unify.Place.{Place}
 
 mutual
-  pub raised-none : (t : Term) → shifted 0 t ≡ t
-  raised-none (VarTerm n) = ap VarTerm (zero-add n)
-  raised-none (IntTerm z) = refl
-  raised-none (AtomTerm a) = refl
-  raised-none (Compound f ts) = ap (Compound f) (all_raised-none ts)
+  pub shifted-none : (t : Term) → shifted 0 t ≡ t
+  shifted-none (VarTerm n) = ap VarTerm (zero-add n)
+  shifted-none (IntTerm z) = refl
+  shifted-none (AtomTerm a) = refl
+  shifted-none (Compound f ts) = ap (Compound f) (all_shifted-none ts)
 
-  all_raised-none : (ts : Terms) → all_shifted 0 ts ≡ ts
-  all_raised-none end = refl
-  all_raised-none (more t ts) = let first = raised-none t in let rest = all_raised-none ts in cc
+  all_shifted-none : (ts : Terms) → all_shifted 0 ts ≡ ts
+  all_shifted-none end = refl
+  all_shifted-none (more t ts) = let first = shifted-none t in let rest = all_shifted-none ts in cc
 
 top_of-first : (c : Cell) (cs : List Cell) → IsForest (c ∷ cs) → top_of (first_of (with_cell c (terms_of cs))) ≡ c
 top_of-first (VarCell n) cs h = refl
@@ -40,11 +40,11 @@ top_of-subterm t at c lt is =
     ap (λ cs. top_of (term_of cs)) here ∙ top_of-first c (drop (at + 1) (cells_of t)) (subst IsForest here (forest_from (cells_of t) at (term_forest t)))
 
 pub top_of-place : (base : ℕ) (t : Term) (at : ℕ) (c : Cell) → at < length (cells_of t) → c ≡ get_or (cells_of t) at c → shifted_cell base c ≡ top_of (shifted base (subterm at t))
-top_of-place base t at c lt is = ap (shifted_cell base) (sym (top_of-subterm t at c lt is)) ∙ sym (top_of-raised base (subterm at t))
+top_of-place base t at c lt is = ap (shifted_cell base) (sym (top_of-subterm t at c lt is)) ∙ sym (top_of-shifted base (subterm at t))
 
 -- the terms from a place on are the subterm and the terms behind it
-pub behind_is : (p : Pair) (bs : List Binding) (at next : Place) → next.source ≡ at.source → drop at.at (cells_of (whole_at p bs at.source)) ≡ cells_of (subterm at.at (whole_at p bs at.source)) ++ drop next.at (cells_of (whole_at p bs at.source)) → IsNextPlace p bs at next
-behind_is p bs at next s e =
+pub after_is : (p : Pair) (bs : List Binding) (at next : Place) → next.source ≡ at.source → drop at.at (cells_of (whole_at p bs at.source)) ≡ cells_of (subterm at.at (whole_at p bs at.source)) ++ drop next.at (cells_of (whole_at p bs at.source)) → IsNextPlace p bs at next
+after_is p bs at next s e =
     let t = whole_at p bs at.source in
     let here : terms_of (drop at.at (cells_of t)) ≡ more (subterm at.at t) (terms_of (drop next.at (cells_of t))) = ap terms_of e ∙ terms_of-cells_of (subterm at.at t) (drop next.at (cells_of t)) in
     let there : terms_of (drop at.at (cells_of t)) ≡ more (subterm at.at t) (terms_of (drop next.at (cells_of (whole_at p bs next.source)))) = here ∙ ap (λ o. more (subterm at.at t) (terms_of (drop next.at (cells_of (whole_at p bs o))))) (sym s) in

@@ -1,14 +1,14 @@
 -- Terms rebuilt cell by cell.
 use Rattle.std.proofs.Common.{◌≡◌, ℕ, suc, ◌<◌, List, [], ◌∷◌, ◌++◌, refl, sym, ap, ◌∙◌, append_assoc, append-nil, zero-add}
 use Rattle.au_term.specs.Term.{Term, VarTerm, IntTerm, AtomTerm, Compound, Terms, end, more, count}
-use Rattle.au_term.specs.PrefixOrder.{cells_of, all_cells, term_of, term_of-cells_of, LeavesDue, due_after}
+use Rattle.au_term.specs.PrefixOrder.{cells_of, all_cells, term_of, term_of-cells_of, DueAfter, due_after}
 use Rattle.au_term.specs.declared.cell.Cell.{Cell}
 use Rattle.au_term.specs.declared.cell.Cell.TheVariants.{Var as VarCell, Int as IntCell, Atom as AtomCell, Functor}
-use Rattle.au_term.proofs.WholeTermLemmas.{Leaves-due, Leaves-term, due_after-is}
+use Rattle.au_term.proofs.WholeTermLemmas.{DueAfter-due, DueAfter-term, due_after-is}
 use Rattle.au_model.specs.Terms.Substitutions.{apply, apply_all, value_of}
 use Rattle.bind_store.specs.Bindings.{Binding, composed, value_at, IsUnboundIn, IsBoundAt, AreTriangular}
 use Rattle.au_term.specs.Shifted.{shifted, all_shifted, shifted_cell}
-use Rattle.au_term.proofs.ShiftLemmas.{count-all_raised}
+use Rattle.au_term.proofs.ShiftLemmas.{count-all_shifted}
 use Rattle.bind_store.specs.ShiftedCells.{shifted_cells}
 use Rattle.bind_store.specs.ResolvedCells.{in_place, rebuilt}
 use Rattle.bind_store.proofs.TriangularLemmas.{value-composed, free-composed}
@@ -32,37 +32,37 @@ mutual
   rebuilt-all_cells f end = refl
   rebuilt-all_cells f (more t ts) = rebuilt-append f (cells_of t) (all_cells ts) ∙ rw (rebuilt-cells_of f t, rebuilt-all_cells f ts)
 
-raised_cells-append : (base : ℕ) (cs ds : List Cell) → shifted_cells base (cs ++ ds) ≡ shifted_cells base cs ++ shifted_cells base ds
-raised_cells-append base [] ds = refl
-raised_cells-append base (c ∷ cs) ds = ap (λ es. shifted_cell base c ∷ es) (raised_cells-append base cs ds)
+shifted_cells-append : (base : ℕ) (cs ds : List Cell) → shifted_cells base (cs ++ ds) ≡ shifted_cells base cs ++ shifted_cells base ds
+shifted_cells-append base [] ds = refl
+shifted_cells-append base (c ∷ cs) ds = ap (λ es. shifted_cell base c ∷ es) (shifted_cells-append base cs ds)
 
 mutual
-  pub raised_cells-cells_of : (base : ℕ) (t : Term) → shifted_cells base (cells_of t) ≡ cells_of (shifted base t)
-  raised_cells-cells_of base (VarTerm n) = refl
-  raised_cells-cells_of base (IntTerm z) = refl
-  raised_cells-cells_of base (AtomTerm a) = refl
-  raised_cells-cells_of base (Compound g ts) = rw (raised_cells-all_cells base ts, count-all_raised base ts)
+  pub shifted_cells-cells_of : (base : ℕ) (t : Term) → shifted_cells base (cells_of t) ≡ cells_of (shifted base t)
+  shifted_cells-cells_of base (VarTerm n) = refl
+  shifted_cells-cells_of base (IntTerm z) = refl
+  shifted_cells-cells_of base (AtomTerm a) = refl
+  shifted_cells-cells_of base (Compound g ts) = rw (shifted_cells-all_cells base ts, count-all_shifted base ts)
 
-  pub raised_cells-all_cells : (base : ℕ) (ts : Terms) → shifted_cells base (all_cells ts) ≡ all_cells (all_shifted base ts)
-  raised_cells-all_cells base end = refl
-  raised_cells-all_cells base (more t ts) = raised_cells-append base (cells_of t) (all_cells ts) ∙ rw (raised_cells-cells_of base t, raised_cells-all_cells base ts)
+  pub shifted_cells-all_cells : (base : ℕ) (ts : Terms) → shifted_cells base (all_cells ts) ≡ all_cells (all_shifted base ts)
+  shifted_cells-all_cells base end = refl
+  shifted_cells-all_cells base (more t ts) = shifted_cells-append base (cells_of t) (all_cells ts) ∙ rw (shifted_cells-cells_of base t, shifted_cells-all_cells base ts)
 
-raised_cell-none : (c : Cell) → shifted_cell 0 c ≡ c
-raised_cell-none (VarCell n) = ap VarCell (zero-add n)
-raised_cell-none (IntCell z) = refl
-raised_cell-none (AtomCell a) = refl
-raised_cell-none (Functor f n) = refl
+shifted_cell-none : (c : Cell) → shifted_cell 0 c ≡ c
+shifted_cell-none (VarCell n) = ap VarCell (zero-add n)
+shifted_cell-none (IntCell z) = refl
+shifted_cell-none (AtomCell a) = refl
+shifted_cell-none (Functor f n) = refl
 
-pub raised_cells-none : (cs : List Cell) → shifted_cells 0 cs ≡ cs
-raised_cells-none [] = refl
-raised_cells-none (c ∷ cs) = let first = raised_cell-none c in let rest = raised_cells-none cs in cc
+pub shifted_cells-none : (cs : List Cell) → shifted_cells 0 cs ≡ cs
+shifted_cells-none [] = refl
+shifted_cells-none (c ∷ cs) = let first = shifted_cell-none c in let rest = shifted_cells-none cs in cc
 
 -- where the cells of a term go on, something was due
-pub is_due : (done rest : List Cell) (c : Cell) → LeavesDue 1 (done ++ c ∷ rest) 0 → 0 < due_after 1 done
-is_due done rest c h = Leaves-due 1 0 done rest c h
+pub is_due : (done rest : List Cell) (c : Cell) → DueAfter 1 (done ++ c ∷ rest) 0 → 0 < due_after 1 done
+is_due done rest c h = DueAfter-due 1 0 done rest c h
 
 pub none_due : (t : Term) (done : List Cell) → done ≡ cells_of t → due_after 1 done ≡ 0
-none_due t done e = ap (due_after 1) e ∙ due_after-is 1 (cells_of t) 0 (Leaves-term t)
+none_due t done e = ap (due_after 1) e ∙ due_after-is 1 (cells_of t) 0 (DueAfter-term t)
 
 pub same_term : (t u : Term) → cells_of t ≡ cells_of u → t ≡ u
 same_term t u e = sym (term_of-cells_of t) ∙ (ap term_of e ∙ term_of-cells_of u)

@@ -39,13 +39,13 @@ same_eqb a = grind (arith, nat_tests)
 pub eqb_turned : (a b : ℕ) → (a == b) ≡ false → (b == a) ≡ false
 eqb_turned a b e = grind (arith, nat_tests)
 
-found_behind : (b : Binding) (bs : List Binding) (x : ℕ) (o : Option ℕ) → ((b.0 == x) ≡ false) → IsLookedUp bs x o → IsLookedUp (b ∷ bs) x (option_map (λ i. suc i) o)
-found_behind b bs x None f h = (f, h)
-found_behind b bs x (Some i) f h = h
+found_after : (b : Binding) (bs : List Binding) (x : ℕ) (o : Option ℕ) → ((b.0 == x) ≡ false) → IsLookedUp bs x o → IsLookedUp (b ∷ bs) x (option_map (λ i. suc i) o)
+found_after b bs x None f h = (f, h)
+found_after b bs x (Some i) f h = h
 
 found_by : (b : Binding) (bs : List Binding) (x : ℕ) (v : Bool) → (b.0 == x) ≡ v → IsLookedUp bs x (place_in x bs) → IsLookedUp (b ∷ bs) x (cond v (Some 0) (option_map (λ i. suc i) (place_in x bs)))
 found_by b bs x true e h = eqb_same b.0 x e
-found_by b bs x false e h = found_behind b bs x (place_in x bs) e h
+found_by b bs x false e h = found_after b bs x (place_in x bs) e h
 
 pub found_of : (bs : List Binding) (x : ℕ) → IsLookedUp bs x (place_in x bs)
 found_of [] x = tt
@@ -131,14 +131,14 @@ avoids_value (b ∷ bs) a n = (first_gone b bs a n, by_test (b.0 == n) (avoids-a
 pub resolved_avoids : (bs : List Binding) → AreTriangular bs → (t : Term) → HasNoBoundVariable bs (resolve (composed bs) t)
 resolved_avoids bs a t = avoids-apply bs (value_of (composed bs)) (avoids_value bs a) t
 
-absent_behind : (x : ℕ) (bs : List Binding) (y : ℕ) (t : Term) → IsAbsent x bs → ((x == y) ≡ false) → occurs x t ≡ false → IsAbsent x (bs ++ (y, t) ∷ [])
-absent_behind x [] y t a e o = (e, o, tt)
-absent_behind x (b ∷ bs) y t a e o = (a.0, a.1, absent_behind x bs y t a.2 e o)
+absent_after : (x : ℕ) (bs : List Binding) (y : ℕ) (t : Term) → IsAbsent x bs → ((x == y) ≡ false) → occurs x t ≡ false → IsAbsent x (bs ++ (y, t) ∷ [])
+absent_after x [] y t a e o = (e, o, tt)
+absent_after x (b ∷ bs) y t a e o = (a.0, a.1, absent_after x bs y t a.2 e o)
 
 -- one more binding
 pub apart_more : (bs : List Binding) (x : ℕ) (t : Term) → AreTriangular bs → IsUnboundIn x bs → HasNoBoundVariable bs t → occurs x t ≡ false → AreTriangular (bs ++ (x, t) ∷ [])
 apart_more [] x t a f v o = (o, tt, tt)
-apart_more (b ∷ bs) x t a f v o = (a.0, absent_behind b.0 bs x t a.1 f.0 v.0, apart_more bs x t a.2 f.1 v.1 o)
+apart_more (b ∷ bs) x t a f v o = (a.0, absent_after b.0 bs x t a.1 f.0 v.0, apart_more bs x t a.2 f.1 v.1 o)
 
 -- a binding more is its variable replaced in all that the others leave
 pub composed-more : (bs : List Binding) (x : ℕ) (t : Term) (n : ℕ) → value_of (composed (bs ++ (x, t) ∷ [])) n ≡ apply (only x t) (value_of (composed bs) n)

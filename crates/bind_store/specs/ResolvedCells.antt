@@ -84,7 +84,7 @@ IsCellFound bs c (Some i) = ⊥
 
 -- a cell was put behind the others, or its value on top of the pieces
 pub data IsCellEmitted (bs : List Binding) (c : Cell) (built now : List Cell) (ps qs : List Piece) : Type 0 where
-  put_behind : IsCellFound bs c None → now ≡ built ++ c ∷ [] → qs ≡ ps → IsCellEmitted bs c built now ps qs
+  put_after : IsCellFound bs c None → now ≡ built ++ c ∷ [] → qs ≡ ps → IsCellEmitted bs c built now ps qs
   put_on_top : (i : ℕ) → IsCellFound bs c (Some i) → now ≡ built → qs ≡ ps ++ value_piece i ∷ [] → IsCellEmitted bs c built now ps qs
 
 -- a cell was gone over: what is built and what the cells stand for stays the same, and fewer steps are left

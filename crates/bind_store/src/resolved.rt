@@ -1,9 +1,9 @@
 //! Terms with bindings applied.
 ghost use Rattle.std.specs.Prelude.{◌≡◌, ◌<◌, ◌+◌, ◌-◌, ◌^◌, ◌++◌, ◌∷◌, [], ℕ, IfOk, OnOk, MatchOption, reverse, drop, length};
-ghost use Rattle.au_term.specs.PrefixOrder.{IsTerm, AreValidCells, IsValidCell, LeavesDue, term_of, due_after};
+ghost use Rattle.au_term.specs.PrefixOrder.{IsTerm, AreValidCells, IsValidCell, DueAfter, term_of, due_after};
 ghost use Rattle.au_model.specs.Terms.Substitutions.{resolve, value_of};
 ghost use Rattle.bind_store.specs.Bindings.{composed};
-ghost use Rattle.au_term.specs.Shifted.{shifted as raised_term, shifted_cell as raised_cell_of};
+ghost use Rattle.au_term.specs.Shifted.{shifted as shifted_term, shifted_cell as shifted_cell_of};
 ghost use Rattle.bind_store.specs.ShiftedCells.{shifted_cells};
 ghost use Rattle.bind_store.specs.ResolvedCells.{rebuilt, piece_cells, pending_cells, Advances, IsPiecePlaced, ArePiecesPlaced, next_piece, IsCellEmitted, IsCellFound};
 
@@ -26,7 +26,7 @@ pub(crate) fn resolved(
     bindings: &Bindings,
 ) -> Result<FlatTerm, NoMemory>
     requires { IsTerm cells.now }
-    ensures { IfOk result (λ t. t ≡ resolve (composed bindings.now) (raised_term base (term_of cells.now))) }
+    ensures { IfOk result (λ t. t ≡ resolve (composed bindings.now) (shifted_term base (term_of cells.now))) }
 {
     let mut builder = TermBuilder::new(alloc);
     let mut pieces = Vec::new(alloc);
@@ -48,7 +48,7 @@ fn advance(
 ) -> Result<(), NoMemory>
     requires sound { AreValidCells cells.now }
     requires placed { ArePiecesPlaced bindings.now (piece ∷ reverse pieces.old.items) }
-    requires whole { LeavesDue 1 (builder.old ++ rebuilt (value_of (composed bindings.now)) (pending_cells (shifted_cells base cells.now) bindings.now (piece ∷ reverse pieces.old.items))) 0 }
+    requires whole { DueAfter 1 (builder.old ++ rebuilt (value_of (composed bindings.now)) (pending_cells (shifted_cells base cells.now) bindings.now (piece ∷ reverse pieces.old.items))) 0 }
     ensures { OnOk result (Advances (shifted_cells base cells.now) bindings.now builder.old builder.new (piece ∷ reverse pieces.old.items) (reverse pieces.new.items)) }
 {
     match first_cell(piece, cells, base, bindings)? {
@@ -109,13 +109,13 @@ fn first_cell(
         (λ c. IsValidCell c × (piece.at < 2 ^ 64 - 1) × (piece_cells (shifted_cells base cells.now) bindings.now piece ≡ c ∷ piece_cells (shifted_cells base cells.now) bindings.now (next_piece piece)))) }
 {
     match piece.value {
-        None => raised_cell_at(cells, piece.at, base),
-        Some(place) => raised_cell_at(bindings.value(place).cells(), piece.at, 0),
+        None => shifted_cell_at(cells, piece.at, base),
+        Some(place) => shifted_cell_at(bindings.value(place).cells(), piece.at, 0),
     }
 }
 
 /// The cell at a place, with its variable raised, if a cell is there.
-fn raised_cell_at(cells: &[Cell], at: usize, base: VarNo) -> Result<Option<Cell>, NoMemory>
+fn shifted_cell_at(cells: &[Cell], at: usize, base: VarNo) -> Result<Option<Cell>, NoMemory>
     requires { AreValidCells cells.now }
     ensures { IfOk result (λ o. MatchOption o (drop at (shifted_cells base cells.now) ≡ [])
         (λ c. IsValidCell c × (at < 2 ^ 64 - 1) × (drop at (shifted_cells base cells.now) ≡ c ∷ drop (at + 1) (shifted_cells base cells.now)))) }
@@ -123,23 +123,23 @@ fn raised_cell_at(cells: &[Cell], at: usize, base: VarNo) -> Result<Option<Cell>
     if at >= cells.len() {
         return Ok(None);
     }
-    Ok(Some(raised_cell(&cells[at], base)?))
+    Ok(Some(shifted_cell(&cells[at], base)?))
 }
 
 /// A cell with its variable raised.
-fn raised_cell(cell: &Cell, base: VarNo) -> Result<Cell, NoMemory>
+fn shifted_cell(cell: &Cell, base: VarNo) -> Result<Cell, NoMemory>
     requires { IsValidCell cell.now }
-    ensures cell { IfOk result (λ c. c ≡ raised_cell_of base cell.now) }
+    ensures cell { IfOk result (λ c. c ≡ shifted_cell_of base cell.now) }
     ensures sound { IfOk result IsValidCell }
 {
     match cell {
-        Cell::Var(number) => Ok(Cell::Var(raised(*number, base)?)),
+        Cell::Var(number) => Ok(Cell::Var(shifted(*number, base)?)),
         _ => cell.share(),
     }
 }
 
 /// A variable's number raised by `base`; past the greatest number there is no memory for it.
-pub(crate) fn raised(number: VarNo, base: VarNo) -> Result<VarNo, NoMemory>
+pub(crate) fn shifted(number: VarNo, base: VarNo) -> Result<VarNo, NoMemory>
     ensures sum { IfOk result (λ n. n ≡ base + number) }
     ensures sound { IfOk result (λ n. n < 2 ^ 64 - 1) }
 {

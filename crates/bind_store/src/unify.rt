@@ -9,7 +9,7 @@ ghost use Rattle.bind_store.specs.Sides.{pair_of};
 
 use crate::bindings::Bindings;
 use crate::kept::Kept;
-use crate::resolved::{raised, resolved};
+use crate::resolved::{shifted, resolved};
 use crate::terms::occurs;
 use au_term::{Cell, FlatTerm, NoMemory, VarNo};
 use std::alloc::Global;
@@ -119,8 +119,8 @@ fn push_rest(
 {
     if equation.count > 1 {
         pending.push(Equation {
-            left: behind(sides, bindings, equation.left),
-            right: behind(sides, bindings, equation.right),
+            left: after(sides, bindings, equation.left),
+            right: after(sides, bindings, equation.right),
             count: equation.count - 1,
         })?;
     }
@@ -128,7 +128,7 @@ fn push_rest(
 }
 
 /// The place behind a subterm.
-fn behind(sides: &Sides, bindings: &Bindings, place: Place) -> Place
+fn after(sides: &Sides, bindings: &Bindings, place: Place) -> Place
     requires { HasTermsAt (pair_of sides.now) bindings.now place 1 }
     ensures { IsNextPlace (pair_of sides.now) bindings.now place result }
 {
@@ -202,7 +202,7 @@ fn binding_at(sides: &Sides, bindings: &Bindings, place: Place) -> Result<Option
     ensures { IfOk result (IsBindingOf bindings.now (top_of (place_term (pair_of sides.now) bindings.now place))) }
 {
     match cell_at(sides, bindings, place) {
-        Cell::Var(number) => Ok(bindings.find(raised(*number, base_of(sides, place.source))?)),
+        Cell::Var(number) => Ok(bindings.find(shifted(*number, base_of(sides, place.source))?)),
         _ => Ok(None),
     }
 }
@@ -241,11 +241,11 @@ fn step_of(left: &Cell, left_base: VarNo, right: &Cell, right_base: VarNo) -> Re
 {
     match (left, right) {
         (Cell::Var(m), Cell::Var(n)) => Ok(step_of_variables(
-            raised(*m, left_base)?,
-            raised(*n, right_base)?,
+            shifted(*m, left_base)?,
+            shifted(*n, right_base)?,
         )),
-        (Cell::Var(m), _) => Ok(Step::BindsLeft(raised(*m, left_base)?)),
-        (_, Cell::Var(n)) => Ok(Step::BindsRight(raised(*n, right_base)?)),
+        (Cell::Var(m), _) => Ok(Step::BindsLeft(shifted(*m, left_base)?)),
+        (_, Cell::Var(n)) => Ok(Step::BindsRight(shifted(*n, right_base)?)),
         (Cell::Int(y), Cell::Int(z)) => Ok(step_where(*y == *z, Step::Drops)),
         (Cell::Atom(a), Cell::Atom(b)) => Ok(step_where(a.same(b), Step::Drops)),
         (Cell::Functor(f, m), Cell::Functor(g, n)) => {

@@ -5,7 +5,7 @@ use Rattle.std.specs.Option.{option_map}
 use Rattle.au_term.specs.Term.{Term, VarTerm, IntTerm, AtomTerm, Compound, end, more, var_bound}
 use Rattle.au_term.specs.PrefixOrder.{cells_of, top_of, subterm, AreValidCells}
 use Rattle.au_term.specs.Shifted.{shifted, IsShiftablePlace}
-use Rattle.au_term.proofs.ShiftLemmas.{place_of, raised-zero, AreSound-bound}
+use Rattle.au_term.proofs.ShiftLemmas.{place_of, shifted-zero, AreSound-bound}
 use Rattle.au_term.proofs.VariableBoundLemmas.{cells_bound-cells_of}
 use Rattle.au_term.proofs.SubtermLemmas.{some_cell, subterm-zero}
 use Rattle.au_model.specs.Terms.Each.{Each}
@@ -82,8 +82,8 @@ body_is c d e = ap (λ k. let b : Term = k.body in b) e
 pub part_place : (t u : Term) (base b : ℕ) → t ≡ u → base + b < 2 ^ 64 → var_bound u ≤ b → IsShiftablePlace t 0 base
 part_place t u base b e h l = subst (λ v. IsShiftablePlace v 0 base) (sym e) (whole_place u base b h l)
 
-pub part_raised : (s t u : Term) (base : ℕ) → s ≡ shifted base (subterm 0 t) → t ≡ u → s ≡ shifted base u
-part_raised s t u base h e = h ∙ ap (shifted base) (subterm-zero t ∙ e)
+pub part_shifted : (s t u : Term) (base : ℕ) → s ≡ shifted base (subterm 0 t) → t ≡ u → s ≡ shifted base u
+part_shifted s t u base h e = h ∙ ap (shifted base) (subterm-zero t ∙ e)
 
 pub part_places : (t u : Term) (base b : ℕ) (places : List ℕ) → t ≡ u → base + b < 2 ^ 64 → var_bound u ≤ b → Each (λ at. at < length (cells_of t)) places → ArePlaces t base places
 part_places t u base b places e h l k = each_place t base places (omega (arith, ap var_bound e)) k
@@ -92,15 +92,15 @@ pub called_places : (t u : Term) (places : List ℕ) (gs : List Term) → u ≡ 
 called_places t u places gs e s g =
     subst (λ v. ArePlaces v 0 places) (sym e) (each_place t 0 places (omega (arith, AreSound-bound (cells_of t) s, cells_bound-cells_of t)) g.within)
 
-raised-none : (gs : List Term) → map (shifted 0) gs ≡ gs
-raised-none [] = refl
-raised-none (g ∷ gs) = ap₂ (λ t ts. t ∷ ts) (raised-zero g) (raised-none gs)
+shifted-none : (gs : List Term) → map (shifted 0) gs ≡ gs
+shifted-none [] = refl
+shifted-none (g ∷ gs) = ap₂ (λ t ts. t ∷ ts) (shifted-zero g) (shifted-none gs)
 
 pub called_are : (b kept sk : Term) (places : List ℕ) (cut : Scope) (rest goals : List Item) → Some kept ≡ body_of b → sk ≡ kept → AreGoalsAt kept places (goals_of kept)
     → goals ≡ goal_items cut (map (shifted 0) (subterms_at sk places)) ++ rest → option_map (λ gs. goal_items cut gs ++ rest) (called_goals b) ≡ Some goals
 called_are b kept sk places cut rest goals k e g h =
     ap (λ o. option_map (λ gs. goal_items cut gs ++ rest) (option_map goals_of o)) (sym k)
-    ∙ ap Some (ap (λ gs. goal_items cut gs ++ rest) (sym g.are ∙ (sym (raised-none (subterms_at kept places)) ∙ ap (λ t. map (shifted 0) (subterms_at t places)) (sym e))) ∙ sym h)
+    ∙ ap Some (ap (λ gs. goal_items cut gs ++ rest) (sym g.are ∙ (sym (shifted-none (subterms_at kept places)) ∙ ap (λ t. map (shifted 0) (subterms_at t places)) (sym e))) ∙ sym h)
 
 pub not_called : (b : Term) → None ≡ body_of b → called_goals b ≡ None
 not_called b e = ap (option_map goals_of) (sym e)

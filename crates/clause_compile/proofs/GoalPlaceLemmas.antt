@@ -11,7 +11,7 @@ use Rattle.au_model.specs.Terms.Forms.{same_name, binary}
 use Rattle.run_model.specs.Programs.Bodies.{goals_of, clause_goals_of}
 use Rattle.clause_compile.specs.BodyCells.{opens_conjunction, is_true}
 use Rattle.clause_compile.specs.GoalPlaces.{subterms_at, AreGoalsAt, goals_of_all, PassesGoal}
-use Rattle.clause_compile.proofs.NormalBodyLemmas.{stands_first, goes_forward, both_behind, IsBinary, is_binary}
+use Rattle.clause_compile.proofs.NormalBodyLemmas.{stands_first, goes_forward, both_after, IsBinary, is_binary}
 
 pub conjunction_sides : (t : Term) → opens_conjunction (top_of t) ≡ true → IsBinary t (top_of t) (λ f. same_name f (codes ","))
 conjunction_sides (Compound f ts) h = is_binary (Compound f ts) f (count ts) (λ f. same_name f (codes ",")) refl h
@@ -41,7 +41,7 @@ passes_conjunction t at stop places e s =
       within = omega (arith, goes_forward t at stop e, e.within);
       placed = λ h. h;
       same = ap (λ gs. subterms_at t places ++ gs)
-          (ap goals_of_all (both_behind t at stop s.name s.left s.right e s.is) ∙ (sym (append_assoc (goals_of s.left) (goals_of s.right) (goals_of_all rest))
+          (ap goals_of_all (both_after t at stop s.name s.left s.right e s.is) ∙ (sym (append_assoc (goals_of s.left) (goals_of s.right) (goals_of_all rest))
           ∙ (ap (λ gs. gs ++ goals_of_all rest) (sym goals) ∙ ap goals_of_all (sym (stands_first t at stop e)))));
     }
 

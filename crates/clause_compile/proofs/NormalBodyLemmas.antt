@@ -7,7 +7,7 @@ use Rattle.au_term.specs.Term.{Term, VarTerm, IntTerm, AtomTerm, Compound, end, 
 use Rattle.au_term.specs.PrefixOrder.{cells_of, top_of, terms_of, term_of, term_of-cells_of, terms_of-cells_of, terms_of-all_cells, subterm, due_after}
 use Rattle.au_term.specs.declared.cell.Cell.{Cell}
 use Rattle.au_term.specs.declared.cell.Cell.TheVariants.{Var as VarCell, Int as IntCell, Functor}
-use Rattle.au_term.proofs.WholeTermLemmas.{Leaves-cells_of, due_after-is, due_after-append}
+use Rattle.au_term.proofs.WholeTermLemmas.{DueAfter-cells_of, due_after-is, due_after-append}
 use Rattle.au_term.proofs.StoredTermLemmas.{Ends}
 use Rattle.au_term.proofs.SubtermLemmas.{some_cell}
 use Rattle.au_model.specs.Terms.Forms.{binary}
@@ -26,8 +26,8 @@ joined-twice : (cs ds : List Cell) (o : Option (List Cell)) → joined_cells (So
 joined-twice cs ds None = refl
 joined-twice cs ds (Some es) = ap Some (append_assoc cs ds es)
 
-due_behind : (t : Term) (n : ℕ) → due_after (suc n) (cells_of t) ≡ n
-due_behind t n = due_after-is (suc n) (cells_of t) n (rw (← append-nil (cells_of t)) (Leaves-cells_of t [] n n refl))
+due_after_term : (t : Term) (n : ℕ) → due_after (suc n) (cells_of t) ≡ n
+due_after_term t n = due_after-is (suc n) (cells_of t) n (rw (← append-nil (cells_of t)) (DueAfter-cells_of t [] n n refl))
 
 -- a goal that stands at a place is kept as it is, or as a call
 pub keeps_goal : (t : Term) (at stop : ℕ) (built now : List Cell) (kept : Term) → Ends t at stop → due_after 1 built ≡ count (terms_of (drop at (cells_of t)))
@@ -38,7 +38,7 @@ keeps_goal t at stop built now kept e d b n =
     record {
       forward = goes_forward t at stop e;
       within = e.within;
-      due = ap (due_after 1) n ∙ (due_after-append 1 built (cells_of kept) ∙ (ap (λ k. due_after k (cells_of kept)) (d ∙ ap count first) ∙ due_behind kept (count rest)));
+      due = ap (due_after 1) n ∙ (due_after-append 1 built (cells_of kept) ∙ (ap (λ k. due_after k (cells_of kept)) (d ∙ ap count first) ∙ due_after_term kept (count rest)));
       same = ap (λ cs. joined_cells (Some cs) (bodies_cells rest)) n ∙ (joined-twice built (cells_of kept) (bodies_cells rest)
           ∙ ap (joined_cells (Some built)) (ap (λ o. joined_cells (option_map cells_of o) (bodies_cells rest)) (sym b) ∙ ap bodies_cells (sym first)));
     }
@@ -93,9 +93,9 @@ pub junction_body : (f : List ℕ) (a b : Term) → is_junction f ≡ true → b
 junction_body f a b h = ap (λ k. cond k (junction f (body_of a) (body_of b)) (Some (binary f a b))) h
 
 -- the cells behind the first one of a compound of two arguments
-pub both_behind : (t : Term) (at stop : ℕ) (f : List ℕ) (a b : Term) → Ends t at stop → subterm at t ≡ binary f a b
+pub both_after : (t : Term) (at stop : ℕ) (f : List ℕ) (a b : Term) → Ends t at stop → subterm at t ≡ binary f a b
     → terms_of (drop (at + 1) (cells_of t)) ≡ more a (more b (terms_of (drop stop (cells_of t))))
-both_behind t at stop f a b e is =
+both_after t at stop f a b e is =
     let cells : drop at (cells_of t) ≡ cells_of (binary f a b) ++ drop stop (cells_of t) = e.rest ∙ ap (λ u. cells_of u ++ drop stop (cells_of t)) is in
     ap terms_of (sym (drop-drop 1 at (cells_of t)) ∙ ap (drop 1) cells) ∙ terms_of-all_cells (more a (more b end)) (drop stop (cells_of t))
 
@@ -104,7 +104,7 @@ pub keeps_junction : (t : Term) (at stop : ℕ) (built now : List Cell) → Ends
 keeps_junction t at stop built now e d s n =
     let rest = terms_of (drop stop (cells_of t)) in
     let first = stands_first t at stop e in
-    let behind = both_behind t at stop s.name s.left s.right e s.is in
+    let behind = both_after t at stop s.name s.left s.right e s.is in
     let step : due_after (suc (count rest)) (Functor s.name 2 ∷ []) ≡ suc (suc (count rest)) = omega arith in
     let put : now ≡ built ++ Functor s.name 2 ∷ [] = n ∙ ap (λ c. built ++ c ∷ []) s.top in
     record {

@@ -11,14 +11,14 @@ use au_term::{Atom, Cell, FlatTerm, NoMemory, TermBuilder, VarNo};
 use std::alloc::Global;
 
 /// The body that a term stands for, if it stands for one (ISO/IEC 13211-1, 7.6.2).
-pub(crate) fn kept_body(alloc: Global, body: &FlatTerm) -> Result<Option<FlatTerm>, NoMemory>
+pub(crate) fn normal_body(alloc: Global, body: &FlatTerm) -> Result<Option<FlatTerm>, NoMemory>
     ensures { IfOk result (λ kept. kept ≡ body_of body.now) }
 {
     let mut builder = TermBuilder::new(alloc);
     let count = body.cells().len();
     let mut at = 0;
     while at < count {
-        match keep_goal(alloc, body, at, &mut builder)? {
+        match normalize_goal(alloc, body, at, &mut builder)? {
             Some(next) => at = next,
             None => return Ok(None),
         }
@@ -28,7 +28,7 @@ pub(crate) fn kept_body(alloc: Global, body: &FlatTerm) -> Result<Option<FlatTer
 
 /// Keeps what stands where a goal is due, and says where the next one is due: on the left of a junction, or behind
 /// the goal. None where no goal can stand there.
-fn keep_goal(
+fn normalize_goal(
     alloc: Global,
     body: &FlatTerm,
     at: usize,

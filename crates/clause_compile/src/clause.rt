@@ -10,7 +10,7 @@ ghost use Rattle.clause_compile.specs.CompiledClauses.{clause_bound, goal_items,
 ghost use Rattle.clause_compile.specs.ClauseInvariant.{numbers_from};
 ghost use Rattle.run_model.specs.Programs.Clauses.{clause_variables};
 
-use crate::body::{clause_places, goal_places, kept_body};
+use crate::body::{clause_places, goal_places, normal_body};
 use crate::goal_list::Goals;
 use crate::item::{Item, Scope};
 use crate::names::is_plain_goal;
@@ -97,14 +97,14 @@ pub fn compile(
         Cell::Int(_) => return Err(ClauseRefusal::NotCallable(Part::Head)),
         _ => {}
     }
-    let Some(kept) = kept_body(alloc, body)? else {
+    let Some(kept) = normal_body(alloc, body)? else {
         return Err(ClauseRefusal::NotCallable(Part::Body));
     };
-    Ok(Arc::new(alloc, kept_clause(alloc, head, &kept)?)?)
+    Ok(Arc::new(alloc, numbered_clause(alloc, head, &kept)?)?)
 }
 
 /// The clause of a head that is callable and a body that is kept as it is, with its variables numbered.
-fn kept_clause(alloc: Global, head: &FlatTerm, body: &FlatTerm) -> Result<Clause, NoMemory>
+fn numbered_clause(alloc: Global, head: &FlatTerm, body: &FlatTerm) -> Result<Clause, NoMemory>
     requires head { is_callable head.now ≡ true }
     requires body { body_of body.now ≡ Some body.now }
     ensures { IfOk result (λ clause. clause ≡ numbered (record { head = head.now; body = body.now })) }
@@ -147,7 +147,7 @@ impl Clause {
     }
 
     /// The head, with `base` added to its variables.
-    pub fn raised_head(&self, base: VarNo) -> Result<Shared, NoMemory>
+    pub fn shifted_head(&self, base: VarNo) -> Result<Shared, NoMemory>
         requires { base + clause_bound self.now < 2 ^ 64 }
         ensures { IfOk result (λ head. head ≡ shifted base self.now.head) }
     {
@@ -155,7 +155,7 @@ impl Clause {
     }
 
     /// The body, with `base` added to its variables.
-    pub fn raised_body(&self, base: VarNo) -> Result<Shared, NoMemory>
+    pub fn shifted_body(&self, base: VarNo) -> Result<Shared, NoMemory>
         requires { base + clause_bound self.now < 2 ^ 64 }
         ensures { IfOk result (λ body. body ≡ shifted base self.now.body) }
     {
@@ -190,7 +190,7 @@ pub fn body_goals(
         let term = body.share()?;
         return Ok(rest.push(alloc, Item::Goal { term, cut })?);
     }
-    let Some(kept) = kept_body(alloc, &body.to_term(alloc)?)? else {
+    let Some(kept) = normal_body(alloc, &body.to_term(alloc)?)? else {
         return Err(ClauseRefusal::NotCallable(Part::Body));
     };
     let places = goal_places(alloc, &kept)?;

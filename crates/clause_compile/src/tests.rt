@@ -106,7 +106,7 @@ fn expect_clause(
     let clause = compiled(rt, alloc, head, body)??;
     assert_eq!(rt; clause.vars(), vars);
     let wanted = term(rt, alloc, head)?;
-    assert!(rt; clause.raised_head(0)?.to_term(alloc)?.cells() == wanted.cells());
+    assert!(rt; clause.shifted_head(0)?.to_term(alloc)?.cells() == wanted.cells());
     let goals = clause.goals(alloc, 0, Scope::Local(3), &Goals::empty())?;
     expect_goals(rt, alloc, &goals, expected)
 }

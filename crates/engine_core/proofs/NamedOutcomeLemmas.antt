@@ -79,13 +79,13 @@ by_unification cut here rest st goal r h n a o =
     subst (λ x. IsOutcome cut here rest st x r) (sym (ap (λ name. by_builtin (construct_of builtins name (argument_count g)) clauses g st.next) (name_resolved f goal h ∙ n) ∙ ap (λ k. by_builtin (construct_of builtins (codes "=") k) clauses g st.next) (count_resolved f goal h ∙ a))) (o clauses))
 
 -- the ball of an outcome
-pub raised_so : (cut here : Scope) (rest : List Item) (st : StoreView) (o : Outcome) (r : Reduction) → Raises o r → IsOutcome cut here rest st o r
-raised_so cut here rest st o (Alternatives bs) h = absurd h
-raised_so cut here rest st o (Raise ball) h = subst (λ x. IsOutcome cut here rest st x (Raise ball)) (sym h) refl
-raised_so cut here rest st o (Prune scope) h = absurd h
-raised_so cut here rest st o (Open x) h = absurd h
-raised_so cut here rest st o (Collect t) h = absurd h
-raised_so cut here rest st o (Gate e) h = absurd h
+pub shifted_so : (cut here : Scope) (rest : List Item) (st : StoreView) (o : Outcome) (r : Reduction) → Raises o r → IsOutcome cut here rest st o r
+shifted_so cut here rest st o (Alternatives bs) h = absurd h
+shifted_so cut here rest st o (Raise ball) h = subst (λ x. IsOutcome cut here rest st x (Raise ball)) (sym h) refl
+shifted_so cut here rest st o (Prune scope) h = absurd h
+shifted_so cut here rest st o (Open x) h = absurd h
+shifted_so cut here rest st o (Collect t) h = absurd h
+shifted_so cut here rest st o (Gate e) h = absurd h
 
 -- throw
 pub thrown_unbound : (st : StoreView) (goal ball error : Term) → 0 < argument_count goal → IsUnbound st.made ball → resolve (substitution st) ball ≡ resolve (substitution st) (argument 0 goal) → is_variable_cell (top_of ball) ≡ true → error ≡ error_term instantiation_error (codes "throw") 1

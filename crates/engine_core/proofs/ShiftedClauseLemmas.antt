@@ -32,38 +32,38 @@ place_is : (k n : ℕ) (seen : List ℕ) → seen ≡ numbers_from 0 k → n < k
 place_is k n seen e lt = let p = place_among 0 k n (omega arith) (omega arith) in ap (λ s. place_of s n) e ∙ omega arith
 
 mutual
-  pub renamed-raised : (k next : ℕ) (seen : List ℕ) (t : Term) → seen ≡ numbers_from 0 k → var_bound t ≤ k → apply (renamed seen next) t ≡ shifted next t
-  renamed-raised k next seen (VarTerm n) e h = ap (λ m. VarTerm (next + m)) (place_is k n seen e (omega arith))
-  renamed-raised k next seen (IntTerm z) e h = refl
-  renamed-raised k next seen (AtomTerm a) e h = refl
-  renamed-raised k next seen (Compound f ts) e h = ap (Compound f) (all_renamed-raised k next seen ts e h)
+  pub renamed-shifted : (k next : ℕ) (seen : List ℕ) (t : Term) → seen ≡ numbers_from 0 k → var_bound t ≤ k → apply (renamed seen next) t ≡ shifted next t
+  renamed-shifted k next seen (VarTerm n) e h = ap (λ m. VarTerm (next + m)) (place_is k n seen e (omega arith))
+  renamed-shifted k next seen (IntTerm z) e h = refl
+  renamed-shifted k next seen (AtomTerm a) e h = refl
+  renamed-shifted k next seen (Compound f ts) e h = ap (Compound f) (all_renamed-shifted k next seen ts e h)
 
-  all_renamed-raised : (k next : ℕ) (seen : List ℕ) (ts : Terms) → seen ≡ numbers_from 0 k → all_bound ts ≤ k → apply_all (renamed seen next) ts ≡ all_shifted next ts
-  all_renamed-raised k next seen end e h = refl
-  all_renamed-raised k next seen (more t ts) e h = two (renamed-raised k next seen t e (omega arith)) (all_renamed-raised k next seen ts e (omega arith))
+  all_renamed-shifted : (k next : ℕ) (seen : List ℕ) (ts : Terms) → seen ≡ numbers_from 0 k → all_bound ts ≤ k → apply_all (renamed seen next) ts ≡ all_shifted next ts
+  all_renamed-shifted k next seen end e h = refl
+  all_renamed-shifted k next seen (more t ts) e h = two (renamed-shifted k next seen t e (omega arith)) (all_renamed-shifted k next seen ts e (omega arith))
 
 -- what is unbound from a number on stays
 mutual
-  pub raised_stays : (s : Substitution) (next : ℕ) (t : Term) → ((n : ℕ) → next ≤ n → value_of s n ≡ VarTerm n) → resolve s (shifted next t) ≡ shifted next t
-  raised_stays s next (VarTerm n) h = h (next + n) (omega arith)
-  raised_stays s next (IntTerm z) h = refl
-  raised_stays s next (AtomTerm a) h = refl
-  raised_stays s next (Compound f ts) h = ap (Compound f) (all_raised_stay s next ts h)
+  pub shifted_stays : (s : Substitution) (next : ℕ) (t : Term) → ((n : ℕ) → next ≤ n → value_of s n ≡ VarTerm n) → resolve s (shifted next t) ≡ shifted next t
+  shifted_stays s next (VarTerm n) h = h (next + n) (omega arith)
+  shifted_stays s next (IntTerm z) h = refl
+  shifted_stays s next (AtomTerm a) h = refl
+  shifted_stays s next (Compound f ts) h = ap (Compound f) (all_shifted_stay s next ts h)
 
-  all_raised_stay : (s : Substitution) (next : ℕ) (ts : Terms) → ((n : ℕ) → next ≤ n → value_of s n ≡ VarTerm n) → apply_all (value_of s) (all_shifted next ts) ≡ all_shifted next ts
-  all_raised_stay s next end h = refl
-  all_raised_stay s next (more t ts) h = two (raised_stays s next t h) (all_raised_stay s next ts h)
+  all_shifted_stay : (s : Substitution) (next : ℕ) (ts : Terms) → ((n : ℕ) → next ≤ n → value_of s n ≡ VarTerm n) → apply_all (value_of s) (all_shifted next ts) ≡ all_shifted next ts
+  all_shifted_stay s next end h = refl
+  all_shifted_stay s next (more t ts) h = two (shifted_stays s next t h) (all_shifted_stay s next ts h)
 
 mutual
-  pub raised-below : (next k : ℕ) (t : Term) → var_bound t ≤ k → var_bound (shifted next t) ≤ next + k
-  raised-below next k (VarTerm n) h = omega arith
-  raised-below next k (IntTerm z) h = omega arith
-  raised-below next k (AtomTerm a) h = omega arith
-  raised-below next k (Compound f ts) h = all_raised-below next k ts h
+  pub shifted-below : (next k : ℕ) (t : Term) → var_bound t ≤ k → var_bound (shifted next t) ≤ next + k
+  shifted-below next k (VarTerm n) h = omega arith
+  shifted-below next k (IntTerm z) h = omega arith
+  shifted-below next k (AtomTerm a) h = omega arith
+  shifted-below next k (Compound f ts) h = all_shifted-below next k ts h
 
-  all_raised-below : (next k : ℕ) (ts : Terms) → all_bound ts ≤ k → all_bound (all_shifted next ts) ≤ next + k
-  all_raised-below next k end h = omega arith
-  all_raised-below next k (more t ts) h = omega (arith, raised-below next k t (omega arith), all_raised-below next k ts (omega arith))
+  all_shifted-below : (next k : ℕ) (ts : Terms) → all_bound ts ≤ k → all_bound (all_shifted next ts) ≤ next + k
+  all_shifted-below next k end h = omega arith
+  all_shifted-below next k (more t ts) h = omega (arith, shifted-below next k t (omega arith), all_shifted-below next k ts (omega arith))
 
 -- the goals of a body are below what the body is below
 goals-below : (k : ℕ) (t : Term) → var_bound t ≤ k → Each (λ g. var_bound g ≤ k) (goals_of t)

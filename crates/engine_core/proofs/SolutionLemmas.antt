@@ -26,7 +26,7 @@ use Rattle.bind_store.proofs.StoreLemmas.{front_below, further_below}
 use Rattle.bind_store.proofs.UndoLemmas.{apart_front, drop_front}
 use Rattle.engine_core.specs.Branches.{IsItemBelow, IsBranchOf}
 use Rattle.engine_core.specs.Attempts.{UnifyBy, AreUnifiedBy}
-use Rattle.engine_core.proofs.ShiftedClauseLemmas.{renamed-raised, raised_stays, raised-below, clause_goals-below}
+use Rattle.engine_core.proofs.ShiftedClauseLemmas.{renamed-shifted, shifted_stays, shifted-below, clause_goals-below}
 
 -- items below a number
 item_further : (m n : ℕ) → m ≤ n → (i : Item) → IsItemBelow m i → IsItemBelow n i
@@ -84,12 +84,12 @@ goals_stand : (bs made : List Binding) (next k : ℕ) (seen : List ℕ) (gs : Li
 goals_stand bs made next k seen [] e h b = refl
 goals_stand bs made next k seen (g ∷ gs) e h b =
     let one : resolve (composed (bs ++ made)) (shifted next g) ≡ resolve (composed made) (apply (renamed seen next) g) =
-    in_turn bs made (shifted next g) ∙ ap (resolve (composed made)) (raised_stays (composed bs) next g h ∙ sym (renamed-raised k next seen g e b.0)) in
+    in_turn bs made (shifted next g) ∙ ap (resolve (composed made)) (shifted_stays (composed bs) next g h ∙ sym (renamed-shifted k next seen g e b.0)) in
     let others = goals_stand bs made next k seen gs e h b.1 in cc
 
 module _ (st : StoreView) (c : ClauseTerms) (k : ℕ) (sound : IsValidStore st) (numbered : clause_variables c ≡ numbers_from 0 k) (bound : clause_bound c ≤ k) where
   head_is : resolve (substitution st) (shifted st.next c.head) ≡ renamed_head c st.next
-  head_is = raised_stays (substitution st) st.next c.head (λ n le. new_is_unbound st n sound le) ∙ sym (renamed-raised k st.next (clause_variables c) c.head numbered (omega arith))
+  head_is = shifted_stays (substitution st) st.next c.head (λ n le. new_is_unbound st n sound le) ∙ sym (renamed-shifted k st.next (clause_variables c) c.head numbered (omega arith))
 
   takes : clause_takes c ≡ k
   takes = ap length numbered ∙ length-numbers 0 k
@@ -113,7 +113,7 @@ module _ (st : StoreView) (c : ClauseTerms) (k : ℕ) (sound : IsValidStore st) 
           bindings = further_below (pairs_of b.segment.bindings) (st.next + k) (st.next + clause_takes c) last m.below;
           items = subst (Each (IsItemBelow (st.next + clause_takes c))) (sym goals)
               (goals_before_below (st.next + clause_takes c) here (map (shifted st.next) (clause_goals_of c.body)) rest
-              (each-map (λ g. var_bound g ≤ k) (λ g. var_bound g ≤ st.next + clause_takes c) (shifted st.next) (λ g h. let l = raised-below st.next k g h in omega arith) (clause_goals_of c.body) body)
+              (each-map (λ g. var_bound g ≤ k) (λ g. var_bound g ≤ st.next + clause_takes c) (shifted st.next) (λ g h. let l = shifted-below st.next k g h in omega arith) (clause_goals_of c.body) body)
               (items_further st.next (st.next + clause_takes c) (omega arith) rest below));
         };
         unified = ap (λ t. unifier ((resolve (substitution st) goal, t) ∷ [])) (sym head_is) ∙ m.unified;
@@ -127,23 +127,23 @@ module _ (st : StoreView) (c : ClauseTerms) (k : ℕ) (sound : IsValidStore st) 
 -- the same of the numbers, the head and the store as they are computed
 module _ (st new : StoreView) (c : ClauseTerms) (k base : ℕ) (goal head : Term) (sound : IsValidStore st) (numbered : clause_variables c ≡ numbers_from 0 k) (bound : clause_bound c ≤ k)
     (first : base ≡ st.next) (taken : new ≡ with_numbers k st) (is : head ≡ shifted base c.head) where
-  head_raised : head ≡ shifted st.next c.head
-  head_raised = is ∙ ap (λ b. shifted b c.head) first
+  head_shifted : head ≡ shifted st.next c.head
+  head_shifted = is ∙ ap (λ b. shifted b c.head) first
 
   pub head_below : var_bound head ≤ new.next
   head_below =
-      let below : var_bound (shifted st.next c.head) ≤ st.next + k = raised-below st.next k c.head (omega arith) in
+      let below : var_bound (shifted st.next c.head) ≤ st.next + k = shifted-below st.next k c.head (omega arith) in
       let next : new.next ≡ st.next + k = ap (λ s. let n : ℕ = s.next in n) taken in
-      omega (arith, ap var_bound head_raised)
+      omega (arith, ap var_bound head_shifted)
 
   pub branch_missing : AreUnifiedBy goal head new None → unifier ((resolve (substitution st) goal, renamed_head c st.next) ∷ []) ≡ None
   branch_missing h =
       clause_fails st c k sound numbered bound goal
-      (subst (λ t. AreUnifiedBy goal t (with_numbers k st) None) head_raised (subst (λ s. AreUnifiedBy goal head s None) taken h))
+      (subst (λ t. AreUnifiedBy goal t (with_numbers k st) None) head_shifted (subst (λ s. AreUnifiedBy goal head s None) taken h))
 
   pub branch_solves : (here : Scope) (rest goals : List Item) (bindings : List SharedBinding) → Each (IsItemBelow st.next) rest → UnifyBy goal head new bindings → goals ≡ goal_items here (map (shifted base) (clause_goals_of c.body)) ++ rest
       → IsBranchOf here rest st (clause_solution (resolve (substitution st) goal) st.next c) (record { goals = goals; segment = record { base = base; vars = k; bindings = bindings } })
   branch_solves here rest goals bindings below h e =
       clause_solves st c k sound numbered bound here rest goal (record { goals = goals; segment = record { base = base; vars = k; bindings = bindings } }) below first refl
-      (subst (λ t. UnifyBy goal t (with_numbers k st) bindings) head_raised (subst (λ s. UnifyBy goal head s bindings) taken h))
+      (subst (λ t. UnifyBy goal t (with_numbers k st) bindings) head_shifted (subst (λ s. UnifyBy goal head s bindings) taken h))
       (e ∙ ap (λ b. goal_items here (map (shifted b) (clause_goals_of c.body)) ++ rest) first)

@@ -54,7 +54,7 @@ fn clause_branch(
     store.fresh(vars)?;
     // The proof reads off that the new numbers fit.
     let _last = store.next();
-    let head = clause.raised_head(base)?;
+    let head = clause.shifted_head(base)?;
     let Some(bindings) = bindings_between(goal, &head, store)? else {
         return Ok(None);
     };

@@ -122,8 +122,8 @@ not_named m n e = go (pointwise nat_eq n m) refl
     go true k = absurd (other_text m n (sym e) (sym (same_text n m (sym k))))
     go false k = refl
 
-apart_behind : (t : OperatorTable) (row r : OperatorRow) → is_operator_row InfixClass row.name r ≡ false → is_operator_name_free t r ≡ true → is_operator_name_free (with_operator t row) r ≡ true
-apart_behind t row r miss h = go (row_rank r == 1) (pointwise nat_eq r.name row.name) refl refl
+apart_after : (t : OperatorTable) (row r : OperatorRow) → is_operator_row InfixClass row.name r ≡ false → is_operator_name_free t r ≡ true → is_operator_name_free (with_operator t row) r ≡ true
+apart_after t row r miss h = go (row_rank r == 1) (pointwise nat_eq r.name row.name) refl refl
   where
     go : (b c : Bool) → (row_rank r == 1) ≡ b → pointwise nat_eq r.name row.name ≡ c → is_operator_name_free (with_operator t row) r ≡ true
     go false c e k = ap (λ x. not x || is_none (postfix_of (with_operator t row) r.name)) e
@@ -132,17 +132,17 @@ apart_behind t row r miss h = go (row_rank r == 1) (pointwise nat_eq r.name row.
         let f : ⊥ = cc in absurd f
     go true false e k = apart_still t row r (ap (λ x. x && row_rank row == 2) (not_named r.name row.name k)) h
 
-all_apart_behind : (t : OperatorTable) (row : OperatorRow) (rs : OperatorTable) → AllByRecursion (λ r. is_operator_row InfixClass row.name r ≡ false) rs → AllByRecursion (λ r. is_operator_name_free t r ≡ true) rs
+all_apart_after : (t : OperatorTable) (row : OperatorRow) (rs : OperatorTable) → AllByRecursion (λ r. is_operator_row InfixClass row.name r ≡ false) rs → AllByRecursion (λ r. is_operator_name_free t r ≡ true) rs
     → AllByRecursion (λ r. is_operator_name_free (with_operator t row) r ≡ true) rs
-all_apart_behind t row [] n h = tt
-all_apart_behind t row (r ∷ rs) n h = (apart_behind t row r n.0 h.0, all_apart_behind t row rs n.1 h.1)
+all_apart_after t row [] n h = tt
+all_apart_after t row (r ∷ rs) n h = (apart_after t row r n.0 h.0, all_apart_after t row rs n.1 h.1)
 
 -- by the row's class
 apart_others : (class : OperatorClass) (t : OperatorTable) (row : OperatorRow) → class_of row.operator.kind ≡ class → conflicting_operator t class row.name ≡ None → AllByRecursion (λ r. is_operator_name_free t r ≡ true) t
     → AllByRecursion (λ r. is_operator_name_free (with_operator t row) r ≡ true) t
 apart_others PrefixClass t row e n h = all_apart_still t row t (ap (λ c. class_rank c == 2) e) h
 apart_others InfixClass t row e n h = all_apart_still t row t (ap (λ c. class_rank c == 2) e) h
-apart_others PostfixClass t row e n h = all_apart_behind t row t (none_found InfixClass row.name t n) h
+apart_others PostfixClass t row e n h = all_apart_after t row t (none_found InfixClass row.name t n) h
 
 apart_own : (class : OperatorClass) (t : OperatorTable) (row : OperatorRow) → class_of row.operator.kind ≡ class → conflicting_operator t class row.name ≡ None → is_operator_name_free (with_operator t row) row ≡ true
 apart_own PrefixClass t row e n = ap (λ c. not (class_rank c == 1) || is_none (postfix_of (with_operator t row) row.name)) e

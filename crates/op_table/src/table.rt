@@ -12,10 +12,10 @@ use std::alloc::Global;
 use std::marker::Model;
 
 /// A name, its operator's priority and kind.
-type Entry = (&'static str, u16, OpKind);
+type StoredRow = (&'static str, u16, OpKind);
 
 /// The operators that a text begins with, by name, then prefix, infix, postfix.
-static INITIAL: [Entry; 39] = [
+static INITIAL: [StoredRow; 39] = [
     ("*", 400, OpKind::Yfx),
     ("**", 200, OpKind::Xfx),
     ("+", 500, OpKind::Yfx),
@@ -57,7 +57,7 @@ static INITIAL: [Entry; 39] = [
     ("rem", 400, OpKind::Yfx),
 ];
 
-fn rows_of(alloc: Global, entries: &[Entry]) -> Result<Vec<OpRow>, NoMemory>
+fn rows_of(alloc: Global, entries: &[StoredRow]) -> Result<Vec<OpRow>, NoMemory>
     ensures { IfOk result (λ rows. map row_meant rows.items ≡ map stored_row entries.now) }
 {
     let mut rows = Vec::new(alloc);
@@ -84,7 +84,7 @@ fn copied(alloc: Global, rows: &[OpRow]) -> Result<Vec<OpRow>, NoMemory>
 }
 
 /// Whether a name is one that no table changes.
-fn is_kept_name(name: &str) -> bool
+fn is_protected_name(name: &str) -> bool
     ensures { result ≡ is_protected_name (chars name.now) }
 {
     let (comma, list, curly) = (is_text(name, ","), is_text(name, "[]"), is_text(name, "{}"));
@@ -163,12 +163,12 @@ impl Ops {
         let name = row.name.text();
         0 < priority
             && priority <= 1200
-            && !is_kept_name(name)
-            && self.other_joint(name, kind).is_none()
+            && !is_protected_name(name)
+            && self.conflicting_operator(name, kind).is_none()
     }
 
     /// The operator with which one of this kind may not share a name.
-    fn other_joint(&self, name: &str, kind: OpKind) -> Option<Operator>
+    fn conflicting_operator(&self, name: &str, kind: OpKind) -> Option<Operator>
         ensures { option_map operator_meant result ≡ conflicting_operator self.now (class_of (kind_meant kind)) (chars name.now) }
     {
         match kind.class() {

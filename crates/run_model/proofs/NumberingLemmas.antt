@@ -206,13 +206,13 @@ plain-numbered (RemovalItem m ∷ items) f es go i n e g = (record { items = i; 
 plain-numbered (CatchMark m ∷ items) f es go i n e g = (record { items = i; named = n }, e)
 plain-numbered (CollectMark t m ∷ items) f es go i n e g = g (collected m t es) (collected-numbered m t es e)
 
-settle_in-numbered : (k : ℕ) (es : List Entry) → AreEntriesNumbered es → AreEntriesNumbered (free_steps_within k es)
-settle_in-numbered zero es h = h
-settle_in-numbered (suc k) [] h = tt
-settle_in-numbered (suc k) (CatchEntry c r f ∷ es) h = settle_in-numbered k es h.1
-settle_in-numbered (suc k) (FindallEntry results l f ∷ es) h = (findall-numbered results l f es h.0.0 h.0.1 h.0.2, h.1)
-settle_in-numbered (suc k) (PlainEntry f ∷ es) h = plain-numbered (without_marks f.items) f es (free_steps_within k) (marks-numbered f.next f.items h.0.items) h.0.named h.1 (settle_in-numbered k)
-settle_in-numbered (suc k) (EndEntry b ∷ es) h = h
+free_steps_within-numbered : (k : ℕ) (es : List Entry) → AreEntriesNumbered es → AreEntriesNumbered (free_steps_within k es)
+free_steps_within-numbered zero es h = h
+free_steps_within-numbered (suc k) [] h = tt
+free_steps_within-numbered (suc k) (CatchEntry c r f ∷ es) h = free_steps_within-numbered k es h.1
+free_steps_within-numbered (suc k) (FindallEntry results l f ∷ es) h = (findall-numbered results l f es h.0.0 h.0.1 h.0.2, h.1)
+free_steps_within-numbered (suc k) (PlainEntry f ∷ es) h = plain-numbered (without_marks f.items) f es (free_steps_within k) (marks-numbered f.next f.items h.0.items) h.0.named h.1 (free_steps_within-numbered k)
+free_steps_within-numbered (suc k) (EndEntry b ∷ es) h = h
 
 step-numbered : (clauses : List Clause) (st : State) → AreEntriesNumbered st.entries → AreEntriesNumbered (step clauses st).entries
 unfolding step
@@ -220,5 +220,5 @@ step-numbered clauses st h = entry-numbered clauses st.entries st h h
 
 pub run_numbered : (job : Job) (n : ℕ) → AreEntriesNumbered (seq job n).entries
 run_numbered job n =
-    along (λ st. AreEntriesNumbered st.entries) job (settle_in-numbered _ (opened job.queries) (opened-numbered job.queries))
-    (λ st h. settle_in-numbered _ (step job.clauses st).entries (step-numbered job.clauses st h)) n
+    along (λ st. AreEntriesNumbered st.entries) job (free_steps_within-numbered _ (opened job.queries) (opened-numbered job.queries))
+    (λ st h. free_steps_within-numbered _ (step job.clauses st).entries (step-numbered job.clauses st h)) n

@@ -2,15 +2,15 @@
 use Rattle.std.proofs.Common.{◌≡◌, ◌<◌, List, [], ◌∷◌, ◌++◌, sym, ap, ◌∙◌, subst, append_assoc, append-nil}
 use Rattle.std.specs.Prelude.{codes}
 use Rattle.au_term.specs.Term.{Term, AtomTerm}
-use Rattle.au_term.specs.PrefixOrder.{cells_of, LeavesDue, AreDue, due_after}
+use Rattle.au_term.specs.PrefixOrder.{cells_of, DueAfter, AreDue, due_after}
 use Rattle.au_term.specs.declared.cell.Cell.{Cell}
 use Rattle.au_term.specs.declared.cell.Cell.TheVariants.{Functor}
-use Rattle.au_term.proofs.WholeTermLemmas.{Leaves-term, Leaves-due}
+use Rattle.au_term.proofs.WholeTermLemmas.{DueAfter-term, DueAfter-due}
 use Rattle.au_model.specs.Terms.Forms.{list_term}
 use Rattle.au_model.proofs.ListTermLemmas.{due_next, none_due, is_whole}
 
 pub list_due : (whole t : Term) (ts : List Term) (built : List Cell) → built ++ cells_of (list_term (t ∷ ts)) ≡ cells_of whole → 0 < due_after 1 built
-list_due whole t ts built e = Leaves-due 1 0 built (cells_of t ++ (cells_of (list_term ts) ++ [])) (Functor (codes ".") 2) (subst (λ cs. LeavesDue 1 cs 0) (sym e) (Leaves-term whole))
+list_due whole t ts built e = DueAfter-due 1 0 built (cells_of t ++ (cells_of (list_term ts) ++ [])) (Functor (codes ".") 2) (subst (λ cs. DueAfter 1 cs 0) (sym e) (DueAfter-term whole))
 
 pub list_opened : (whole t : Term) (ts : List Term) (built now : List Cell) → built ++ cells_of (list_term (t ∷ ts)) ≡ cells_of whole → now ≡ built ++ Functor (codes ".") 2 ∷ []
     → now ++ (cells_of t ++ (cells_of (list_term ts) ++ [])) ≡ cells_of whole

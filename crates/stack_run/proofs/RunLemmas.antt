@@ -147,10 +147,10 @@ not_begun job budget out = record { bytes = none out; answers = refl; inferences
     none None = tt
     none (Some old) = (0, ap Some (sym (append-nil old)))
 
-front_behind : (a b c : Option (List ℕ)) (x y : List ℕ) → Appended a b x → AppendedPrefix b c y → (more : List ℕ) → AppendedPrefix a c ((x ++ y) ++ more)
-front_behind None b c x y h k more = tt
-front_behind (Some old) None c x y h k more = cc
-front_behind (Some old) (Some new) c x y h k more =
+front_after : (a b c : Option (List ℕ)) (x y : List ℕ) → Appended a b x → AppendedPrefix b c y → (more : List ℕ) → AppendedPrefix a c ((x ++ y) ++ more)
+front_after None b c x y h k more = tt
+front_after (Some old) None c x y h k more = cc
+front_after (Some old) (Some new) c x y h k more =
     (length x + min k.0 (length y), k.1 ∙ ap Some (ap (λ z. z ++ take k.0 y) (inside h) ∙ (append_assoc old x (take k.0 y) ∙ ap (λ z. old ++ z) (sym front))))
   where
     inside : Some new ≡ Some (old ++ x) → new ≡ old ++ x
@@ -172,7 +172,7 @@ write_failed job m new i budget before now after fb fn r lt k t =
     let sum : i + 1 + (budget - (i + 1)) ≡ budget = omega arith in
     let whole : text_of J budget ≡ (text_of J i ++ new.line.items) ++ more.rest = ap (text_of J) (sym sum) ∙ (more.joined ∙ ap (λ z. z ++ more.rest) (sym text)) in
     record {
-      bytes = subst (AppendedPrefix before after) (sym whole) (front_behind before now after (text_of J i) new.line.items r.bytes t more.rest);
+      bytes = subst (AppendedPrefix before after) (sym whole) (front_after before now after (text_of J i) new.line.items r.bytes t more.rest);
       answers = refl;
       inferences = refl;
     }

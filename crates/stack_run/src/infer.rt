@@ -19,9 +19,9 @@ ghost use Rattle.stack_run.specs.StackInvariant.{IsChoiceFit};
 ghost use Rattle.stack_run.specs.Inferences.{IsWorking, IsUnhalted, HasEntries, IsNoMark, branch_entry, cut_of, following, gate_entries, item_entries, entries_below};
 
 use crate::frame::{Choice, Stack};
-use crate::land::land;
+use crate::unwind::unwind;
 use crate::open::open;
-use crate::settle::place_of;
+use crate::take_free_steps::place_of;
 use crate::stack::push_branches;
 use au_model::Fault;
 use au_term::{Atom, Cell, FlatTerm, NoMemory};
@@ -48,7 +48,7 @@ pub(crate) fn infer(
     let here = Scope::Local(stack.frames.len() as u64);
     match reduce(alloc, item, rest, here, &mut stack.store, procs)? {
         Reduction::Alternatives(branches) => branch_off(branches, stack),
-        Reduction::Raise(ball) => land(alloc, &ball, rest, stack),
+        Reduction::Raise(ball) => unwind(alloc, &ball, rest, stack),
         Reduction::Prune(scope) => prune(scope, rest, stack),
         Reduction::Open(opening) => open(alloc, opening, cut_of(item), rest, stack),
         Reduction::Gate(effect) => pass_gate(alloc, &effect, rest, stack),
@@ -117,7 +117,7 @@ fn raise_unknown(
     let arity = goal.arity();
     let fault = Fault::Existence(name.share()?, arity);
     let ball = fault.term(alloc, &name, arity)?;
-    land(alloc, &ball, rest, stack)
+    unwind(alloc, &ball, rest, stack)
 }
 
 /// The name of a goal.

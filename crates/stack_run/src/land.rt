@@ -11,7 +11,7 @@ ghost use Rattle.stack_run.specs.Inferences.{IsWorking, HasEntries, IsCatchOf, I
 
 use crate::frame::{Catch, Choice, QueryEnd, Stack};
 use crate::list::call_of;
-use crate::settle::place_of;
+use crate::take_free_steps::place_of;
 use crate::stack::pop_choice;
 use au_model::copies::copy_term;
 use au_term::{FlatTerm, NoMemory};
@@ -20,7 +20,7 @@ use clause_compile::{Goals, Item, Scope};
 use std::alloc::Global;
 
 /// Throws a ball in front of these items: the catch that takes it goes on with its recovery, or the query ends.
-pub(crate) fn land(
+pub(crate) fn unwind(
     alloc: Global,
     ball: &FlatTerm,
     rest: &Goals,

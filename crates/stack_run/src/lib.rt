@@ -3,11 +3,11 @@
 
 mod frame;
 mod infer;
-mod land;
+mod unwind;
 mod list;
 mod open;
 mod run;
-mod settle;
+mod take_free_steps;
 mod stack;
 mod step;
 #[cfg(test)]

@@ -23,7 +23,7 @@ use clause_compile::{Goals, Item, Scope};
 use std::alloc::Global;
 
 /// Takes all free steps.
-pub(crate) fn settle(alloc: Global, stack: &mut Stack) -> Result<(), NoMemory>
+pub(crate) fn take_free_steps(alloc: Global, stack: &mut Stack) -> Result<(), NoMemory>
     requires { IsFit stack.old }
     ensures view { OnOk result ((own : List NamedTerm) → stack_view own stack.new ≡ take_free_steps (stack_view own stack.old)) }
     ensures fit { OnOk result (IsFit stack.new) }
@@ -53,7 +53,7 @@ fn go_on(alloc: Global, goals: Goals, stack: &mut Stack) -> Result<bool, NoMemor
     ensures step { IfOk result (IsFreeStep (with_current goals stack.old) stack.new) }
     ensures end { stack.new.end ≡ stack.old.end }
 {
-    let goals = behind_marks(goals)?;
+    let goals = after_marks(goals)?;
     if let Some((template, scope)) = result_in_front(&goals) {
         let result = stack.store.resolve(template)?;
         collect(alloc, &result, scope, &mut stack.frames)?;
@@ -64,7 +64,7 @@ fn go_on(alloc: Global, goals: Goals, stack: &mut Stack) -> Result<bool, NoMemor
 }
 
 /// The items behind the catch marks in front.
-fn behind_marks(goals: Goals) -> Result<Goals, NoMemory>
+fn after_marks(goals: Goals) -> Result<Goals, NoMemory>
     ensures items { IfOk result (λ behind. (s : Substitution) → map (item_view s) behind ≡ without_marks (map (item_view s) goals)) }
     ensures below { IfOk result (λ behind. (n : ℕ) → Each (IsItemBelow n) goals → Each (IsItemBelow n) behind) }
 {

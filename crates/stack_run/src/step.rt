@@ -19,7 +19,7 @@ ghost use Rattle.stack_run.specs.MachineView.{state_view, stack_state, names_ask
 
 use crate::frame::{Machine, QueryEnd, Stack};
 use crate::infer::infer;
-use crate::settle::settle;
+use crate::take_free_steps::take_free_steps;
 use au_model::VarName;
 use au_term::{Cell, FlatTerm, NoMemory, Shared, TermBuilder, VarNo};
 use bind_store::Store;
@@ -41,7 +41,7 @@ pub(crate) fn opening(alloc: Global, job: &Job) -> Result<Machine, NoMemory>
         line: Vec::new(alloc),
     };
     ask_next(alloc, job, &mut machine)?;
-    settle(alloc, &mut machine.stack)?;
+    take_free_steps(alloc, &mut machine.stack)?;
     Ok(machine)
 }
 
@@ -98,7 +98,7 @@ pub(crate) fn step(alloc: Global, job: &Job, machine: &mut Machine) -> Result<()
 {
     machine.line.clear();
     inference(alloc, job, machine)?;
-    settle(alloc, &mut machine.stack)
+    take_free_steps(alloc, &mut machine.stack)
 }
 
 /// One inference, without the free steps after it.

@@ -3,11 +3,11 @@ use Rattle.std.proofs.Common.{◌≡◌, ◌∙◌, ℕ, zero, suc, Bool, List, 
 use Rattle.au_model.specs.Syntax.Tokens.{Lexeme, Token, token, Open, Close, OpenList, CloseList, OpenCurly, CloseCurly}
 use Rattle.term_reader.specs.Brackets.{open_after, depth_then, depth, Balanced}
 
-abbrev pub Opens : Lexeme → Type 0
-Opens Open = Unit {0}
-Opens OpenList = Unit {0}
-Opens OpenCurly = Unit {0}
-Opens _ = ⊥
+abbrev pub OpenRound : Lexeme → Type 0
+OpenRound Open = Unit {0}
+OpenRound OpenList = Unit {0}
+OpenRound OpenCurly = Unit {0}
+OpenRound _ = ⊥
 
 abbrev pub Closes : Lexeme → Type 0
 Closes Close = Unit {0}
@@ -32,7 +32,7 @@ depth-append (token a x ∷ xs) ys d = go (λ e. depth-append xs ys e) (open_aft
   go f (Some e) = f e
   go f None = refl
 
-opens-one : (x : Lexeme) → Opens x → (d : ℕ) → open_after x d ≡ Some (suc d)
+opens-one : (x : Lexeme) → OpenRound x → (d : ℕ) → open_after x d ≡ Some (suc d)
 opens-one Open o d = refl
 opens-one OpenList o d = refl
 opens-one OpenCurly o d = refl
@@ -53,7 +53,7 @@ closes-none x c = absurd c
 pub balanced-append : (xs ys : List Token) → Balanced xs → Balanced ys → Balanced (xs ++ ys)
 balanced-append xs ys h i d = depth-append xs ys d ∙ (ap (depth_then (depth ys)) (h d) ∙ i d)
 
-pub balanced-pair : (a b : Bool) (x y : Lexeme) (body : List Token) → Opens x → Closes y → Balanced body → Balanced (token a x ∷ body ++ token b y ∷ [])
+pub balanced-pair : (a b : Bool) (x y : Lexeme) (body : List Token) → OpenRound x → Closes y → Balanced body → Balanced (token a x ∷ body ++ token b y ∷ [])
 balanced-pair a b x y body o c h d =
     ap (depth_then (depth (body ++ token b y ∷ []))) (opens-one x o d)
     ∙ (depth-append body (token b y ∷ []) (suc d)
@@ -64,44 +64,44 @@ none-some : (o : Option ℕ) (d : ℕ) → o ≡ None → o ≡ Some d → ⊥
 none-some o d e f = cc
 
 -- none is open where all pair
-pub none-open : (xs bs : List Token) (a : Bool) (x : Lexeme) → Opens x → Balanced bs → Balanced (xs ++ token a x ∷ bs) → ⊥
-none-open xs bs a x o h i = go (depth xs 0) (sym (depth-append xs (token a x ∷ bs) 0) ∙ i 0) where
+pub none-push_frame : (xs bs : List Token) (a : Bool) (x : Lexeme) → OpenRound x → Balanced bs → Balanced (xs ++ token a x ∷ bs) → ⊥
+none-push_frame xs bs a x o h i = go (depth xs 0) (sym (depth-append xs (token a x ∷ bs) 0) ∙ i 0) where
   go : (q : Option ℕ) → depth_then (depth (token a x ∷ bs)) q ≡ Some 0 → ⊥
   go (Some e) f = let g : Some (suc e) ≡ Some 0 = sym (ap (depth_then (depth bs)) (opens-one x o e) ∙ h (suc e)) ∙ f in cc
   go None f = cc
 
 -- the last bracket that is open is one
-pub last-open : (xs ys bs cs : List Token) (a b : Bool) (x y : Lexeme) → Opens x → Opens y → Balanced bs → Balanced cs → xs ++ token a x ∷ bs ≡ ys ++ token b y ∷ cs → (xs ≡ ys) × (token a x ≡ token b y) × (bs ≡ cs)
-last-open [] [] bs cs a b x y o p h i e = (refl, cc, cc)
-last-open [] (t ∷ ys) bs cs a b x y o p h i e =
+pub last-push_frame : (xs ys bs cs : List Token) (a b : Bool) (x y : Lexeme) → OpenRound x → OpenRound y → Balanced bs → Balanced cs → xs ++ token a x ∷ bs ≡ ys ++ token b y ∷ cs → (xs ≡ ys) × (token a x ≡ token b y) × (bs ≡ cs)
+last-push_frame [] [] bs cs a b x y o p h i e = (refl, cc, cc)
+last-push_frame [] (t ∷ ys) bs cs a b x y o p h i e =
     let f : bs ≡ ys ++ token b y ∷ cs = cc in
-    absurd (none-open ys cs b y p i (subst Balanced f h))
-last-open (t ∷ xs) [] bs cs a b x y o p h i e =
+    absurd (none-push_frame ys cs b y p i (subst Balanced f h))
+last-push_frame (t ∷ xs) [] bs cs a b x y o p h i e =
     let f : cs ≡ xs ++ token a x ∷ bs = cc in
-    absurd (none-open xs bs a x o h (subst Balanced f i))
-last-open (t ∷ xs) (u ∷ ys) bs cs a b x y o p h i e =
+    absurd (none-push_frame xs bs a x o h (subst Balanced f i))
+last-push_frame (t ∷ xs) (u ∷ ys) bs cs a b x y o p h i e =
     let f : xs ++ token a x ∷ bs ≡ ys ++ token b y ∷ cs = cc in
     let g : t ≡ u = cc in
-    let r = last-open xs ys bs cs a b x y o p h i f in (cc, r.1, r.2)
+    let r = last-push_frame xs ys bs cs a b x y o p h i f in (cc, r.1, r.2)
 
 -- tokens behind which no bracket is open, and the first one that closes none of theirs
-close-behind : (bs cs us vs : List Token) (a b : Bool) (x y : Lexeme) (d : ℕ) → Closes x → Closes y → depth bs d ≡ Some 0 → depth cs d ≡ Some 0 → bs ++ token a x ∷ us ≡ cs ++ token b y ∷ vs → (bs ≡ cs) × (token a x ≡ token b y) × (us ≡ vs)
-close-behind [] [] us vs a b x y d o p h i e = (refl, cc, cc)
-close-behind [] (token c z ∷ cs) us vs a b x y d o p h i e =
+close-after : (bs cs us vs : List Token) (a b : Bool) (x y : Lexeme) (d : ℕ) → Closes x → Closes y → depth bs d ≡ Some 0 → depth cs d ≡ Some 0 → bs ++ token a x ∷ us ≡ cs ++ token b y ∷ vs → (bs ≡ cs) × (token a x ≡ token b y) × (us ≡ vs)
+close-after [] [] us vs a b x y d o p h i e = (refl, cc, cc)
+close-after [] (token c z ∷ cs) us vs a b x y d o p h i e =
     let f : d ≡ 0 = cc in
     let g : x ≡ z = cc in
     let k : open_after z d ≡ None = ap (λ w. open_after w d) (sym g) ∙ (ap (open_after x) f ∙ closes-none x o) in
     absurd (none-some (depth_then (depth cs) (open_after z d)) 0 (ap (depth_then (depth cs)) k) i)
-close-behind (token c z ∷ bs) [] us vs a b x y d o p h i e =
+close-after (token c z ∷ bs) [] us vs a b x y d o p h i e =
     let f : d ≡ 0 = cc in
     let g : y ≡ z = cc in
     let k : open_after z d ≡ None = ap (λ w. open_after w d) (sym g) ∙ (ap (open_after y) f ∙ closes-none y p) in
     absurd (none-some (depth_then (depth bs) (open_after z d)) 0 (ap (depth_then (depth bs)) k) h)
-close-behind (token c z ∷ bs) (token k w ∷ cs) us vs a b x y d o p h i e =
+close-after (token c z ∷ bs) (token k w ∷ cs) us vs a b x y d o p h i e =
     let f : bs ++ token a x ∷ us ≡ cs ++ token b y ∷ vs = cc in
     let g : token c z ≡ token k w = cc in
     let m : w ≡ z = cc in
-    let r = go (λ n j l. close-behind bs cs us vs a b x y n o p j l f) (open_after z d) h (ap (λ v. depth_then (depth cs) (open_after v d)) (sym m) ∙ i) in (cc, r.1, r.2)
+    let r = go (λ n j l. close-after bs cs us vs a b x y n o p j l f) (open_after z d) h (ap (λ v. depth_then (depth cs) (open_after v d)) (sym m) ∙ i) in (cc, r.1, r.2)
   where
     go : ((n : ℕ) → depth bs n ≡ Some 0 → depth cs n ≡ Some 0 → (bs ≡ cs) × (token a x ≡ token b y) × (us ≡ vs))
         → (q : Option ℕ) → depth_then (depth bs) q ≡ Some 0 → depth_then (depth cs) q ≡ Some 0 → (bs ≡ cs) × (token a x ≡ token b y) × (us ≡ vs)
@@ -110,4 +110,4 @@ close-behind (token c z ∷ bs) (token k w ∷ cs) us vs a b x y d o p h i e =
 
 -- the first bracket that closes one that was not opened is one
 pub first-close : (bs cs us vs : List Token) (a b : Bool) (x y : Lexeme) → Closes x → Closes y → Balanced bs → Balanced cs → bs ++ token a x ∷ us ≡ cs ++ token b y ∷ vs → (bs ≡ cs) × (token a x ≡ token b y) × (us ≡ vs)
-first-close bs cs us vs a b x y o p h i e = close-behind bs cs us vs a b x y 0 o p (h 0) (i 0) e
+first-close bs cs us vs a b x y o p h i e = close-after bs cs us vs a b x y 0 o p (h 0) (i 0) e

@@ -16,15 +16,15 @@ use Rattle.term_reader.specs.Completion.{bound_of, list_of, trees_of, CompletesA
 use Rattle.term_reader.specs.FrameShapes.{RoundShape, CurlyShape, ItemShape, TailShape, ArgumentShape, frame_meant, shape_of, shapes_up, emitted_stack, emitted_before, IsWithinBounds}
 use Rattle.term_reader.specs.TermOutput.{TermOutput, emit_tree, emit_trees, emit_cell, emit_lists}
 use Rattle.term_reader.specs.OutputView.{IsOutputOf}
-use Rattle.term_reader.specs.Positions.{Position, There, Completes, stack_of, NestsAfterToken, LeadsTo, IsStepOutcome}
+use Rattle.term_reader.specs.Positions.{Position, AfterOperand, Completes, stack_of, NestsAfterToken, LeadsTo, IsStepOutcome}
 use Rattle.term_reader.specs.ReaderSteps.{IsFrameClosing}
 use Rattle.term_reader.specs.declared.lexeme.Closer.{Closer}
 use Rattle.term_reader.specs.declared.lexeme.Closer.TheVariants as closer
-use Rattle.term_reader.specs.declared.opening.Source.{Source}
+use Rattle.term_reader.specs.declared.primary.Source.{Source}
 use Rattle.term_reader.specs.declared.state.State.{State}
 use Rattle.term_reader.specs.declared.state.Frame.{Frame}
 use Rattle.term_reader.specs.declared.state.Frame.TheVariants as frame
-use Rattle.term_reader.specs.declared.steps.Turn.TheVariants.{On}
+use Rattle.term_reader.specs.declared.steps.Step.TheVariants.{Continue}
 use Rattle.term_reader.proofs.FirstTokenLemmas.{tokens-first}
 use Rattle.term_reader.specs.Refusals.{HasAllArguments}
 use Rattle.term_reader.proofs.TooManyArgumentsLemmas.{IsFullStack}
@@ -71,7 +71,7 @@ module _ (source : Source) (st : State) (f : Frame) (k : List stack.OpenFrame) (
   pub leads : (x : Lexeme) → h.lexeme ≡ x → is_end x ≡ false → (new : Position)
       → ((vs : List Token) (goal : Tree) → CompletesFrame set k (token h.apart x ∷ vs) l goal → Completes set new vs goal)
       → ((vs : List Token) (goal : Tree) → Completes set new vs goal → CompletesFrame set k (token h.apart x ∷ vs) l goal)
-      → NestsAfterToken set here k (token h.apart x) (stack_of new) → LeadsTo set here (There k l p) st.at new end false
+      → NestsAfterToken set here k (token h.apart x) (stack_of new) → LeadsTo set here (AfterOperand k l p) st.at new end false
   leads x e n new to back nests = record {
     first = token h.apart x;
     over = [];
@@ -94,13 +94,13 @@ module _ (source : Source) (st : State) (f : Frame) (k : List stack.OpenFrame) (
 
 -- a bracket is closed
 pub closed : (source : Source) (old new : State) (f : Frame) (k below : List stack.OpenFrame) (l tree : Tree) (p : ℕ) (c : Closer) (end : ℕ) → map frame_meant new.frames.items ≡ shapes_up below
-    → IsOutputOf new.sheet (emit_tree (emitted_stack below) tree) → IsWithinBounds below → new.at ≡ end
-    → LeadsTo (setting_of source) source.text.now (There k l p) old.at (There below tree 0) end false → IsStepOutcome (setting_of source) source.text.now (There k l p) old.at new (On (Some 0) false)
-closed source old new f k below l tree p c end shapes sheet kept at leads = record {
-  new = There below tree 0;
-  stands = record { shapes = shapes; sheet = sheet; kept = kept; low = omega arith };
+    → IsOutputOf new.output (emit_tree (emitted_stack below) tree) → IsWithinBounds below → new.at ≡ end
+    → LeadsTo (setting_of source) source.text.now (AfterOperand k l p) old.at (AfterOperand below tree 0) end false → IsStepOutcome (setting_of source) source.text.now (AfterOperand k l p) old.at new (Continue (Some 0) false)
+closed source old new f k below l tree p c end shapes output bounds at leads = record {
+  new = AfterOperand below tree 0;
+  at_position = record { shapes = shapes; output = output; bounds = bounds; low = omega arith };
   phase_is = refl;
-  leads = subst (λ n. LeadsTo (setting_of source) source.text.now (There k l p) old.at (There below tree 0) n false) (sym at) leads;
+  leads = subst (λ n. LeadsTo (setting_of source) source.text.now (AfterOperand k l p) old.at (AfterOperand below tree 0) n false) (sym at) leads;
 }
 
 -- ---- the frames
@@ -196,24 +196,24 @@ not-over s a x us l goal n over = n refl
 
 -- ---- what is put on the sheet
 
-pub put-list : (s : TermOutput) (ts : List Tree) (u : Tree) → emit_lists (length ts) (emit_tree (emitted_before s ts) u) ≡ emit_tree s (list_of ts u)
-put-list s [] u = refl
-put-list s (t ∷ ts) u = put-lists-in (length ts) (emit_tree (emit_tree (emitted_before s ts) t) u) ∙ put-list s ts (cell t u)
+pub emit-list : (s : TermOutput) (ts : List Tree) (u : Tree) → emit_lists (length ts) (emit_tree (emitted_before s ts) u) ≡ emit_tree s (list_of ts u)
+emit-list s [] u = refl
+emit-list s (t ∷ ts) u = emit-lists-in (length ts) (emit_tree (emit_tree (emitted_before s ts) t) u) ∙ emit-list s ts (cell t u)
   where
-    put-lists-in : (n : ℕ) (x : TermOutput) → emit_cell (emit_lists n x) (Functor list_name 2) ≡ emit_lists n (emit_cell x (Functor list_name 2))
-    put-lists-in zero x = refl
-    put-lists-in (suc n) x = ap (λ y. emit_cell y (Functor list_name 2)) (put-lists-in n x)
+    emit-lists-in : (n : ℕ) (x : TermOutput) → emit_cell (emit_lists n x) (Functor list_name 2) ≡ emit_lists n (emit_cell x (Functor list_name 2))
+    emit-lists-in zero x = refl
+    emit-lists-in (suc n) x = ap (λ y. emit_cell y (Functor list_name 2)) (emit-lists-in n x)
 
-put-arguments : (s : TermOutput) (ts : List Tree) (us : Trees) → emit_trees (emitted_before s ts) us ≡ emit_trees s (trees_of ts us)
-put-arguments s [] us = refl
-put-arguments s (t ∷ ts) us = put-arguments s ts (more_trees t us)
+emit-arguments : (s : TermOutput) (ts : List Tree) (us : Trees) → emit_trees (emitted_before s ts) us ≡ emit_trees s (trees_of ts us)
+emit-arguments s [] us = refl
+emit-arguments s (t ∷ ts) us = emit-arguments s ts (more_trees t us)
 
 pub trees-count : (ts : List Tree) (us : Trees) → tree_count (trees_of ts us) ≡ length ts + tree_count us
 trees-count [] us = omega arith
 trees-count (t ∷ ts) us = omega (arith, trees-count ts (more_trees t us))
 
-pub put-compound : (s : TermOutput) (m : List ℕ) (ts : List Tree) (t : Tree) (n : ℕ) → n ≡ length ts → emit_cell (emit_tree (emitted_before s ts) t) (Functor m (n + 1)) ≡ emit_tree s (CompoundTree m (trees_of (t ∷ ts) no_trees))
-put-compound s m ts t n e =
+pub emit-compound : (s : TermOutput) (m : List ℕ) (ts : List Tree) (t : Tree) (n : ℕ) → n ≡ length ts → emit_cell (emit_tree (emitted_before s ts) t) (Functor m (n + 1)) ≡ emit_tree s (CompoundTree m (trees_of (t ∷ ts) no_trees))
+emit-compound s m ts t n e =
     let number : n + 1 ≡ tree_count (trees_of (t ∷ ts) no_trees) = omega (arith, trees-count (t ∷ ts) no_trees) in
     ap (λ k. emit_cell (emit_tree (emitted_before s ts) t) (Functor m k)) number
-    ∙ ap (λ x. emit_cell x (Functor m (tree_count (trees_of (t ∷ ts) no_trees)))) (put-arguments s (t ∷ ts) no_trees)
+    ∙ ap (λ x. emit_cell x (Functor m (tree_count (trees_of (t ∷ ts) no_trees)))) (emit-arguments s (t ∷ ts) no_trees)

@@ -7,7 +7,7 @@ use Rattle.au_model.specs.Syntax.Primaries.{Setting}
 use Rattle.term_reader.specs.LeftToRight.{Stop, next_operator}
 use Rattle.term_reader.specs.Completion.{OpenFrame, Round, Braces, ItemOf, TailOf, ArgumentOf, PrefixOf, InfixOf, bound_of, list_of, trees_of, CompletesAfter, CompletesFrame, over, round, braced, last, tail, final, prefix, infixes}
 use Rattle.term_reader.specs.FrameShapes.{IsWithinBounds}
-use Rattle.term_reader.specs.Positions.{Position, Due, There, Completes, stack_of, IsWithinBound}
+use Rattle.term_reader.specs.Positions.{Position, ExpectsOperand, AfterOperand, Completes, stack_of, IsWithinBound}
 use Rattle.term_reader.proofs.CompletionStepLemmas.{went_stop, took_leaf}
 
 abbrev pub closing : List OpenFrame → List Token
@@ -22,8 +22,8 @@ closing (InfixOf n o l ∷ k) = closing k
 
 -- the tokens that complete what is read at a position
 abbrev pub completion : Position → List Token
-completion (Due k) = token true (Variable []) ∷ closing k
-completion (There k l p) = closing k
+completion (ExpectsOperand k) = token true (Variable []) ∷ closing k
+completion (AfterOperand k l p) = closing k
 
 module _ (s : Setting) where
   next-closing : (b p : ℕ) (k : List OpenFrame) → next_operator s.ops b p (closing k) ≡ Stop
@@ -50,5 +50,5 @@ module _ (s : Setting) where
   closes (InfixOf n o m ∷ k) h l p le = let r = closes k h.1 (two n m l) o.priority h.0 in (r.0, plugged (InfixOf n o m ∷ k) l r.0 p le (infixes r.1))
 
   pub completes : (x : Position) → IsWithinBounds (stack_of x) → IsWithinBound x → (goal : Tree) × Completes s x (completion x) goal
-  completes (Due k) h le = let r = closes k h (VarTree []) 0 (omega arith) in (r.0, took_leaf s (token true (Variable []) ∷ closing k) (closing k) (VarTree []) refl r.1)
-  completes (There k l p) h le = closes k h l p le
+  completes (ExpectsOperand k) h le = let r = closes k h (VarTree []) 0 (omega arith) in (r.0, took_leaf s (token true (Variable []) ∷ closing k) (closing k) (VarTree []) refl r.1)
+  completes (AfterOperand k l p) h le = closes k h l p le

@@ -20,7 +20,7 @@ use Rattle.token_scan.specs.NextToken.{IsTokenFault as BadFault}
 use Rattle.token_scan.specs.declared.token.BadToken.{BadToken}
 use Rattle.term_reader.proofs.FirstTokenLemmas.{front-scanned, tokens-none, tokens-first}
 use Rattle.term_reader.proofs.ScannedTokenLemmas.{scans-tokens, scans-rest, scans-first}
-use Rattle.term_reader.proofs.HasReadLemmas.{fault-of, get-behind}
+use Rattle.term_reader.proofs.HasReadLemmas.{fault-of, get-after}
 
 by-kind : (s : Setting) (cs from : List ℕ) (n : ℕ) (a : Bool) (x : Lexeme) → FaultAt s (tokens_of cs) n → slice_get (tokens_of cs) n ≡ Some (token a x) → ((m : ℕ) (name : List ℕ) → IsOneTooMany s (tokens_of cs) n m name → ⊥) → token_start n cs ≡ GapThen from
     → Fault s cs (unexpected_kind x) from
@@ -61,7 +61,7 @@ module _ (s : Setting) (text : List ℕ) (start at : ℕ) (h : IsStuck s text st
       let is : tokens_of (chars_from text start) ≡ h.read ++ token a x ∷ first.more = scans-tokens h.scans ∙ ap (λ ts. h.read ++ ts) first.is in
       by-kind s (chars_from text start) (chars_from text place) (length h.read) a x
       (fault-of s (tokens_of (chars_from text start)) h.read first.more (token a x) is h.begins (h.ends (token a x) first.more first.is))
-      (ap (λ ts. slice_get ts (length h.read)) is ∙ get-behind h.read first.more (token a x))
+      (ap (λ ts. slice_get ts (length h.read)) is ∙ get-after h.read first.more (token a x))
       (λ m name o. h.few (token a x) first.more first.is m name (subst (λ ts. IsOneTooMany s ts (length h.read) m name) is o))
       (ap after_layout (scans-first h.scans) ∙ g)
 

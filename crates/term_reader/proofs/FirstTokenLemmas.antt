@@ -58,8 +58,8 @@ next-scanned text at t x h e =
     ∙ ap (λ b. ScannedTo (token b x) (chars_from text t.end)) (sym h.before)))
 
 -- a token ends behind the place from which it was scanned
-pub ends-behind : (text : List ℕ) (at end : ℕ) (t : Token) → scanned (chars_from text at) ≡ ScannedTo t (chars_from text end) → at ≤ end → at < end
-ends-behind text at end t e le =
+pub ends-after : (text : List ℕ) (at end : ℕ) (t : Token) → scanned (chars_from text at) ≡ ScannedTo t (chars_from text end) → at ≤ end → at < end
+ends-after text at end t e le =
     let s = scanned-shorter (chars_from text at) (chars_from text end) t e in
     let apart : at ≡ end → ⊥ = (λ (k : at ≡ end). let same = ap (λ n. length (chars_from text n)) k in let f : ⊥ = omega arith in f) in
     omega arith

@@ -12,13 +12,13 @@ use Rattle.token_scan.specs.ScannedParts.{IsPlaceFrom}
 use Rattle.term_reader.specs.declared.lexeme.Lexeme.{Lexeme as DeclaredLexeme}
 use Rattle.term_reader.specs.declared.lexeme.Lexeme.TheVariants as lex
 use Rattle.term_reader.specs.declared.lexeme.Follow.{Follow}
-use Rattle.term_reader.specs.declared.lexeme.Follow.TheVariants.{Opens, Counts, ClosesList, ClosesCurly, Other}
+use Rattle.term_reader.specs.declared.lexeme.Follow.TheVariants.{OpenRound, Unsigned, ClosesList, ClosesCurly, Other}
 use Rattle.term_reader.specs.LexemeView.{lexeme_meant, IsNarrow}
 use Rattle.term_reader.specs.FollowingToken.{follow_of, NoneOfFourFollows, IsPlaceAfterTokens, IsFollowingAt}
 use Rattle.term_reader.specs.PrimaryView.{is_operator_between, PrimaryEndsFrom}
 use Rattle.term_reader.specs.Lookahead.{none, onto}
-use Rattle.term_reader.specs.declared.opening.Opening.{Opening}
-use Rattle.term_reader.specs.declared.opening.Opening.TheVariants as kind
+use Rattle.term_reader.specs.declared.primary.Primary.{Primary}
+use Rattle.term_reader.specs.declared.primary.Primary.TheVariants as kind
 use Rattle.term_reader.proofs.ScannedTokenLemmas.{scans-then}
 use Rattle.term_reader.proofs.FirstTokenLemmas.{tokens-none, tokens-more, tokens-end}
 
@@ -32,7 +32,7 @@ reached-here text at b = record { place = (omega arith, b); over = []; scans = n
 pub reached-then : (text : List ℕ) (at mid end : ℕ) → IsPlaceAfterTokens text at mid → IsPlaceAfterTokens text mid end → IsPlaceAfterTokens text at end
 reached-then text at mid end a b = record { place = (omega (arith, a.place.0, b.place.0), b.place.1); over = a.over ++ b.over; scans = scans-then a.scans b.scans }
 
-pub opens-then : (text : List ℕ) (at mid : ℕ) (o : Opening) → IsPlaceAfterTokens text at mid → PrimaryEndsFrom text mid o → PrimaryEndsFrom text at o
+pub opens-then : (text : List ℕ) (at mid : ℕ) (o : Primary) → IsPlaceAfterTokens text at mid → PrimaryEndsFrom text mid o → PrimaryEndsFrom text at o
 opens-then text at mid (kind.Leaf l end) a h = reached-then text at mid end a h
 opens-then text at mid (kind.Alone n o end) a h = reached-then text at mid end a h
 opens-then text at mid (kind.Round end) a h = reached-then text at mid end a h
@@ -90,10 +90,10 @@ name-other ops b n ts h = go b where
 
 -- a name that is neither a compound's nor a sign
 pub name-operator : (text : List ℕ) (at : ℕ) (ops : OperatorTable) (b : Bool) (n : List ℕ) (f : Follow) → IsFollowingAt text at f
-    → ((end : ℕ) → f ≡ Opens end → ⊥) → ((k end : ℕ) → f ≡ Counts k end → b ≡ false)
+    → ((end : ℕ) → f ≡ OpenRound end → ⊥) → ((k end : ℕ) → f ≡ Unsigned k end → b ≡ false)
     → name_primary ops b n (tokens_of (chars_from text at)) ≡ prefix_or_atom ops n (prefix_of ops n) (tokens_of (chars_from text at))
-name-operator text at ops b n (Opens end) h no_open no_count = absurd (no_open end refl)
-name-operator text at ops b n (Counts k end) h no_open no_count = name-plain ops n k b _ _ (no_count k end refl) h.is.0
+name-operator text at ops b n (OpenRound end) h no_open no_count = absurd (no_open end refl)
+name-operator text at ops b n (Unsigned k end) h no_open no_count = name-plain ops n k b _ _ (no_count k end refl) h.is.0
 name-operator text at ops b n (ClosesList end) h no_open no_count = name-list ops b h.is.0 n _ _ h.is.1
 name-operator text at ops b n (ClosesCurly end) h no_open no_count = name-curly ops b h.is.0 n _ _ h.is.1
 name-operator text at ops b n Other h no_open no_count = name-other ops b n _ h.is
@@ -101,10 +101,10 @@ name-operator text at ops b n Other h no_open no_count = name-other ops b n _ h.
 pub atom-call : (n : List ℕ) (ts us : List Token) → ts ≡ token false words.Open ∷ us → Call n us ≡ atom_primary n ts
 atom-call n ts us e = sym (ap (atom_primary n) e)
 
-pub atom-alone : (text : List ℕ) (at : ℕ) (n : List ℕ) (f : Follow) → IsFollowingAt text at f → ((end : ℕ) → f ≡ Opens end → ⊥)
+pub atom-alone : (text : List ℕ) (at : ℕ) (n : List ℕ) (f : Follow) → IsFollowingAt text at f → ((end : ℕ) → f ≡ OpenRound end → ⊥)
     → Leaf (AtomTree n) (tokens_of (chars_from text at)) ≡ atom_primary n (tokens_of (chars_from text at))
-atom-alone text at n (Opens end) h no_open = absurd (no_open end refl)
-atom-alone text at n (Counts k end) h no_open = ap (Leaf (AtomTree n)) h.is.0 ∙ sym (ap (atom_primary n) h.is.0)
+atom-alone text at n (OpenRound end) h no_open = absurd (no_open end refl)
+atom-alone text at n (Unsigned k end) h no_open = ap (Leaf (AtomTree n)) h.is.0 ∙ sym (ap (atom_primary n) h.is.0)
 atom-alone text at n (ClosesList end) h no_open = ap (Leaf (AtomTree n)) h.is.1 ∙ sym (ap (atom_primary n) h.is.1)
 atom-alone text at n (ClosesCurly end) h no_open = ap (Leaf (AtomTree n)) h.is.1 ∙ sym (ap (atom_primary n) h.is.1)
 atom-alone text at n Other h no_open = let o = h.is.no_open in rw o
@@ -114,8 +114,8 @@ list-atom a ts us e = ap list_primary e
 
 pub list-listed : (text : List ℕ) (at : ℕ) (f : Follow) → IsFollowingAt text at f → ((end : ℕ) → f ≡ ClosesList end → ⊥)
     → Listed (tokens_of (chars_from text at)) ≡ list_primary (tokens_of (chars_from text at))
-list-listed text at (Opens end) h not_closed = ap Listed h.is ∙ sym (ap list_primary h.is)
-list-listed text at (Counts k end) h not_closed = ap Listed h.is.0 ∙ sym (ap list_primary h.is.0)
+list-listed text at (OpenRound end) h not_closed = ap Listed h.is ∙ sym (ap list_primary h.is)
+list-listed text at (Unsigned k end) h not_closed = ap Listed h.is.0 ∙ sym (ap list_primary h.is.0)
 list-listed text at (ClosesList end) h not_closed = absurd (not_closed end refl)
 list-listed text at (ClosesCurly end) h not_closed = ap Listed h.is.1 ∙ sym (ap list_primary h.is.1)
 list-listed text at Other h not_closed = sym h.is.no_list
@@ -123,17 +123,17 @@ list-listed text at Other h not_closed = sym h.is.no_list
 pub curly-atom : (a : Bool) (ts us : List Token) → ts ≡ token a words.CloseCurly ∷ us → curly_primary ts ≡ atom_primary braces_name us
 curly-atom a ts us e = ap curly_primary e
 
-pub curly-open : (text : List ℕ) (at : ℕ) (f : Follow) → IsFollowingAt text at f → ((end : ℕ) → f ≡ ClosesCurly end → ⊥)
+pub curly-push_frame : (text : List ℕ) (at : ℕ) (f : Follow) → IsFollowingAt text at f → ((end : ℕ) → f ≡ ClosesCurly end → ⊥)
     → Curly (tokens_of (chars_from text at)) ≡ curly_primary (tokens_of (chars_from text at))
-curly-open text at (Opens end) h not_closed = ap Curly h.is ∙ sym (ap curly_primary h.is)
-curly-open text at (Counts k end) h not_closed = ap Curly h.is.0 ∙ sym (ap curly_primary h.is.0)
-curly-open text at (ClosesList end) h not_closed = ap Curly h.is.1 ∙ sym (ap curly_primary h.is.1)
-curly-open text at (ClosesCurly end) h not_closed = absurd (not_closed end refl)
-curly-open text at Other h not_closed = sym h.is.no_curly
+curly-push_frame text at (OpenRound end) h not_closed = ap Curly h.is ∙ sym (ap curly_primary h.is)
+curly-push_frame text at (Unsigned k end) h not_closed = ap Curly h.is.0 ∙ sym (ap curly_primary h.is.0)
+curly-push_frame text at (ClosesList end) h not_closed = ap Curly h.is.1 ∙ sym (ap curly_primary h.is.1)
+curly-push_frame text at (ClosesCurly end) h not_closed = absurd (not_closed end refl)
+curly-push_frame text at Other h not_closed = sym h.is.no_curly
 
 -- a name between its neighbours
-abbrev joint_alone : OperatorTable → List ℕ → Bool
-joint_alone ops n = is_post_operator (named_post_operator ops n) && not (is_some_operator (prefix_of ops n))
+abbrev post_operator_alone : OperatorTable → List ℕ → Bool
+post_operator_alone ops n = is_post_operator (named_post_operator ops n) && not (is_some_operator (prefix_of ops n))
 
 rest_of : (x y z : Bool) → (x && y) ≡ true → (x && (y && z)) ≡ z
 rest_of true true z e = refl
@@ -145,20 +145,20 @@ none_of true true z e = let f : ⊥ = cc in absurd f
 none_of true false z e = refl
 none_of false y z e = refl
 
-pub joins-not : (ops : OperatorTable) (n : List ℕ) (b : Bool) (ts : List Token) → joint_alone ops n ≡ false → false ≡ is_operator_between ops n b ts
+pub joins-not : (ops : OperatorTable) (n : List ℕ) (b : Bool) (ts : List Token) → post_operator_alone ops n ≡ false → false ≡ is_operator_between ops n b ts
 joins-not ops n b ts e = sym (none_of (is_post_operator (named_post_operator ops n)) (not (is_some_operator (prefix_of ops n))) (not (has_direct_open ts) && not (b && has_direct_integer ts)) e)
 
 -- what is answered for each
 abbrev pub joined_by : Bool → Follow → Bool
-joined_by b (Opens end) = false
-joined_by b (Counts k end) = not b
+joined_by b (OpenRound end) = false
+joined_by b (Unsigned k end) = not b
 joined_by b _ = true
 
 follows-join : (text : List ℕ) (at : ℕ) (b : Bool) (f : Follow) → IsFollowingAt text at f
     → (not (has_direct_open (tokens_of (chars_from text at))) && not (b && has_direct_integer (tokens_of (chars_from text at)))) ≡ joined_by b f
-follows-join text at b (Opens end) h = ap (λ ts. not (has_direct_open ts) && not (b && has_direct_integer ts)) h.is
-follows-join text at true (Counts k end) h = ap (λ ts. not (has_direct_open ts) && not (has_direct_integer ts)) h.is.0
-follows-join text at false (Counts k end) h = ap (λ ts. not (has_direct_open ts) && true) h.is.0
+follows-join text at b (OpenRound end) h = ap (λ ts. not (has_direct_open ts) && not (b && has_direct_integer ts)) h.is
+follows-join text at true (Unsigned k end) h = ap (λ ts. not (has_direct_open ts) && not (has_direct_integer ts)) h.is.0
+follows-join text at false (Unsigned k end) h = ap (λ ts. not (has_direct_open ts) && true) h.is.0
 follows-join text at true (ClosesList end) h = ap (λ ts. not (has_direct_open ts) && not (has_direct_integer ts)) h.is.1
 follows-join text at false (ClosesList end) h = ap (λ ts. not (has_direct_open ts) && true) h.is.1
 follows-join text at true (ClosesCurly end) h = ap (λ ts. not (has_direct_open ts) && not (has_direct_integer ts)) h.is.1
@@ -166,7 +166,7 @@ follows-join text at false (ClosesCurly end) h = ap (λ ts. not (has_direct_open
 follows-join text at true Other h = let o = h.is.no_open in let k = h.is.no_count in rw (o, k)
 follows-join text at false Other h = let o = h.is.no_open in rw o
 
-pub joins-follow : (text : List ℕ) (at : ℕ) (ops : OperatorTable) (n : List ℕ) (b : Bool) (f : Follow) → joint_alone ops n ≡ true → IsFollowingAt text at f
+pub joins-follow : (text : List ℕ) (at : ℕ) (ops : OperatorTable) (n : List ℕ) (b : Bool) (f : Follow) → post_operator_alone ops n ≡ true → IsFollowingAt text at f
     → joined_by b f ≡ is_operator_between ops n b (tokens_of (chars_from text at))
 joins-follow text at ops n b f e h =
     sym (rest_of (is_post_operator (named_post_operator ops n)) (not (is_some_operator (prefix_of ops n))) _ e ∙ follows-join text at b f h)

@@ -19,27 +19,27 @@ use Rattle.term_reader.specs.Completion.{bound_of, list_of, trees_of, CompletesA
 use Rattle.term_reader.specs.FrameShapes.{ItemShape, TailShape, ArgumentShape, frame_meant, shapes_up, emitted_stack, emitted_before, HasNoOperatorOnTop}
 use Rattle.term_reader.specs.TermOutput.{emit_tree, emit_cell, emit_lists}
 use Rattle.term_reader.specs.OutputView.{IsOutputOf}
-use Rattle.term_reader.specs.Positions.{Due, There, IsStepOutcome, rest_at}
+use Rattle.term_reader.specs.Positions.{ExpectsOperand, AfterOperand, IsStepOutcome, rest_at}
 use Rattle.term_reader.specs.ReaderSteps.{IsFrameClosing, IsFramePushed}
 use Rattle.term_reader.specs.declared.lexeme.Closer.{Closer}
 use Rattle.term_reader.specs.declared.lexeme.Closer.TheVariants as closer
-use Rattle.term_reader.specs.declared.opening.Source.{Source}
+use Rattle.term_reader.specs.declared.primary.Source.{Source}
 use Rattle.term_reader.specs.declared.state.State.{State}
 use Rattle.term_reader.specs.declared.state.Frame.{Frame}
 use Rattle.term_reader.specs.declared.state.Frame.TheVariants as frame
-use Rattle.term_reader.specs.declared.steps.Turn.{Turn}
-use Rattle.term_reader.specs.declared.steps.Turn.TheVariants.{On, Over}
-use Rattle.term_reader.proofs.ClosingTokenLemmas.{Top, closed, leads, never, round-frame, curly-frame, item-frame, tail-frame, argument-frame, not-round, not-curly, not-item, not-tail, not-argument, not-more, is-close, is-close_list, is-close_curly, is-comma, is-bar, not-over, put-list, put-compound}
-use Rattle.term_reader.proofs.ReaderStepLemmas.{pushed, first-joint}
-use Rattle.term_reader.proofs.NestingLemmas.{nests-closed, level-behind}
+use Rattle.term_reader.specs.declared.steps.Step.{Step}
+use Rattle.term_reader.specs.declared.steps.Step.TheVariants.{Continue, Accept}
+use Rattle.term_reader.proofs.ClosingTokenLemmas.{Top, closed, leads, never, round-frame, curly-frame, item-frame, tail-frame, argument-frame, not-round, not-curly, not-item, not-tail, not-argument, not-more, is-close, is-close_list, is-close_curly, is-comma, is-bar, not-over, emit-list, emit-compound}
+use Rattle.term_reader.proofs.ReaderStepLemmas.{pushed, first-post_operator}
+use Rattle.term_reader.proofs.NestingLemmas.{nests-closed, level-after}
 use Rattle.term_reader.proofs.CompletionStepLemmas.{goes_stop, went_stop, out_round, out_braces, out_item, out_bar, out_last, out_tail, out_argument, out_final}
 
 by-top : (P : List stack.OpenFrame → Type 0) (xs : List Frame) (k : List stack.OpenFrame) (g : stack.OpenFrame) → Top xs k g → ((below : List stack.OpenFrame) → map frame_meant xs ≡ shapes_up below → P (g ∷ below)) → P k
 by-top P xs k g t f = subst P (sym t.is) (f t.below t.rest)
 
 module _ (source : Source) (st new : State) (k : List stack.OpenFrame) (l : Tree) (p : ℕ) (c : Closer) (end : ℕ) where
-  abbrev Comes : List stack.OpenFrame → Turn → Type 0
-  Comes m t = IsStepOutcome (setting_of source) source.text.now (There m l p) st.at new t
+  abbrev Comes : List stack.OpenFrame → Step → Type 0
+  Comes m t = IsStepOutcome (setting_of source) source.text.now (AfterOperand m l p) st.at new t
 
   -- no token list that begins with this one is read
   abbrev Never : (f : Frame) (m : List stack.OpenFrame) → IsFrameClosing source st f m l p c end → Type 0
@@ -47,11 +47,11 @@ module _ (source : Source) (st new : State) (k : List stack.OpenFrame) (l : Tree
 
   -- ---- round and curly brackets
 
-  pub round-closes : IsFrameClosing source st frame.Round k l p c end → c ≡ closer.Close → new.frames.items ≡ st.frames.items → new.at ≡ end → IsOutputOf new.sheet (emit_tree (emitted_stack k) l) → Comes k (On (Some 0) false)
-  round-closes h e fr at sheet =
-      by-top (λ m. IsFrameClosing source st frame.Round m l p c end → IsOutputOf new.sheet (emit_tree (emitted_stack m) l) → Comes m (On (Some 0) false)) st.frames.items k stack.Round (round-frame st.frames.items k h.shapes)
-      (λ below rest i s. closed source st new frame.Round (stack.Round ∷ below) below l l p c end (ap (map frame_meant) fr ∙ rest) s i.kept at
-      (leads source st frame.Round (stack.Round ∷ below) l p c end i words.Close (is-close i.lexeme (sym i.closer ∙ e)) refl (There below l 0) (λ vs goal q. out_round (setting_of source) q) (λ vs goal g. round g) (λ start read n. nests-closed (setting_of source) source.text.now start below words.Open words.Close i.apart read tt tt n.0 n.2))) h sheet
+  pub round-closes : IsFrameClosing source st frame.Round k l p c end → c ≡ closer.Close → new.frames.items ≡ st.frames.items → new.at ≡ end → IsOutputOf new.output (emit_tree (emitted_stack k) l) → Comes k (Continue (Some 0) false)
+  round-closes h e fr at output =
+      by-top (λ m. IsFrameClosing source st frame.Round m l p c end → IsOutputOf new.output (emit_tree (emitted_stack m) l) → Comes m (Continue (Some 0) false)) st.frames.items k stack.Round (round-frame st.frames.items k h.shapes)
+      (λ below rest i s. closed source st new frame.Round (stack.Round ∷ below) below l l p c end (ap (map frame_meant) fr ∙ rest) s i.bounds at
+      (leads source st frame.Round (stack.Round ∷ below) l p c end i words.Close (is-close i.lexeme (sym i.closer ∙ e)) refl (AfterOperand below l 0) (λ vs goal q. out_round (setting_of source) q) (λ vs goal g. round g) (λ start read n. nests-closed (setting_of source) source.text.now start below words.Open words.Close i.apart read tt tt n.0 n.2))) h output
 
   pub round-refuses : (h : IsFrameClosing source st frame.Round k l p c end) → (c ≡ closer.Close → ⊥) → Never frame.Round k h
   round-refuses h n =
@@ -59,11 +59,11 @@ module _ (source : Source) (st new : State) (k : List stack.OpenFrame) (l : Tree
       (λ below rest i. never source st frame.Round (stack.Round ∷ below) l p c end i (λ goal us. not-round (setting_of source) below i.apart i.lexeme us l goal (λ e. n (i.closer ∙ e)))) h
 
   pub curly-closes : (name : List ℕ) → name ≡ braces_name → IsFrameClosing source st frame.Curly k l p c end → c ≡ closer.CloseCurly → new.frames.items ≡ st.frames.items → new.at ≡ end
-      → IsOutputOf new.sheet (emit_cell (emit_tree (emitted_stack k) l) (Functor name 1)) → Comes k (On (Some 0) false)
-  curly-closes name same h e fr at sheet =
-      by-top (λ m. IsFrameClosing source st frame.Curly m l p c end → IsOutputOf new.sheet (emit_cell (emit_tree (emitted_stack m) l) (Functor name 1)) → Comes m (On (Some 0) false)) st.frames.items k stack.Braces (curly-frame st.frames.items k h.shapes)
-      (λ below rest i s. closed source st new frame.Curly (stack.Braces ∷ below) below l (one braces_name l) p c end (ap (map frame_meant) fr ∙ rest) (subst (λ n. IsOutputOf new.sheet (emit_cell (emit_tree (emitted_stack below) l) (Functor n 1))) same s) i.kept at
-      (leads source st frame.Curly (stack.Braces ∷ below) l p c end i words.CloseCurly (is-close_curly i.lexeme (sym i.closer ∙ e)) refl (There below (one braces_name l) 0) (λ vs goal q. out_braces (setting_of source) q) (λ vs goal g. braced g) (λ start read n. nests-closed (setting_of source) source.text.now start below words.OpenCurly words.CloseCurly i.apart read tt tt n.0 n.1))) h sheet
+      → IsOutputOf new.output (emit_cell (emit_tree (emitted_stack k) l) (Functor name 1)) → Comes k (Continue (Some 0) false)
+  curly-closes name same h e fr at output =
+      by-top (λ m. IsFrameClosing source st frame.Curly m l p c end → IsOutputOf new.output (emit_cell (emit_tree (emitted_stack m) l) (Functor name 1)) → Comes m (Continue (Some 0) false)) st.frames.items k stack.Braces (curly-frame st.frames.items k h.shapes)
+      (λ below rest i s. closed source st new frame.Curly (stack.Braces ∷ below) below l (one braces_name l) p c end (ap (map frame_meant) fr ∙ rest) (subst (λ n. IsOutputOf new.output (emit_cell (emit_tree (emitted_stack below) l) (Functor n 1))) same s) i.bounds at
+      (leads source st frame.Curly (stack.Braces ∷ below) l p c end i words.CloseCurly (is-close_curly i.lexeme (sym i.closer ∙ e)) refl (AfterOperand below (one braces_name l) 0) (λ vs goal q. out_braces (setting_of source) q) (λ vs goal g. braced g) (λ start read n. nests-closed (setting_of source) source.text.now start below words.OpenCurly words.CloseCurly i.apart read tt tt n.0 n.1))) h output
 
   pub curly-refuses : (h : IsFrameClosing source st frame.Curly k l p c end) → (c ≡ closer.CloseCurly → ⊥) → Never frame.Curly k h
   curly-refuses h n =
@@ -73,47 +73,47 @@ module _ (source : Source) (st new : State) (k : List stack.OpenFrame) (l : Tree
   -- ---- lists
 
   pub list-closes : (n : ℕ) → IsFrameClosing source st (frame.Item n) k l p c end → c ≡ closer.CloseList → new.frames.items ≡ st.frames.items → new.at ≡ end
-      → IsOutputOf new.sheet (emit_lists (n + 1) (emit_tree (emit_tree (emitted_stack k) l) (AtomTree nil_name))) → Comes k (On (Some 0) false)
-  list-closes n h e fr at sheet =
+      → IsOutputOf new.output (emit_lists (n + 1) (emit_tree (emit_tree (emitted_stack k) l) (AtomTree nil_name))) → Comes k (Continue (Some 0) false)
+  list-closes n h e fr at output =
       let t = item-frame st.frames.items k n h.shapes in
       let ts = t.0 in
-      by-top (λ m. IsFrameClosing source st (frame.Item n) m l p c end → IsOutputOf new.sheet (emit_lists (n + 1) (emit_tree (emit_tree (emitted_stack m) l) (AtomTree nil_name))) → Comes m (On (Some 0) false)) st.frames.items k (stack.ItemOf ts) t.2
+      by-top (λ m. IsFrameClosing source st (frame.Item n) m l p c end → IsOutputOf new.output (emit_lists (n + 1) (emit_tree (emit_tree (emitted_stack m) l) (AtomTree nil_name))) → Comes m (Continue (Some 0) false)) st.frames.items k (stack.ItemOf ts) t.2
       (λ below rest i s.
       let number : n + 1 ≡ length (l ∷ ts) = omega (arith, t.1) in
-      let sheets = ap (λ q. emit_lists q (emit_tree (emit_tree (emitted_before (emitted_stack below) ts) l) (AtomTree nil_name))) number ∙ put-list (emitted_stack below) (l ∷ ts) (AtomTree nil_name) in
-      closed source st new (frame.Item n) (stack.ItemOf ts ∷ below) below l (list_of (l ∷ ts) (AtomTree nil_name)) p c end (ap (map frame_meant) fr ∙ rest) (subst (λ x. IsOutputOf new.sheet x) sheets s) i.kept at
-      (leads source st (frame.Item n) (stack.ItemOf ts ∷ below) l p c end i words.CloseList (is-close_list i.lexeme (sym i.closer ∙ e)) refl (There below (list_of (l ∷ ts) (AtomTree nil_name)) 0) (λ vs goal q. out_last (setting_of source) q) (λ vs goal g. last g) (λ start read n. nests-closed (setting_of source) source.text.now start below words.OpenList words.CloseList i.apart read tt tt n.0 n.1))) h sheet
+      let sheets = ap (λ q. emit_lists q (emit_tree (emit_tree (emitted_before (emitted_stack below) ts) l) (AtomTree nil_name))) number ∙ emit-list (emitted_stack below) (l ∷ ts) (AtomTree nil_name) in
+      closed source st new (frame.Item n) (stack.ItemOf ts ∷ below) below l (list_of (l ∷ ts) (AtomTree nil_name)) p c end (ap (map frame_meant) fr ∙ rest) (subst (λ x. IsOutputOf new.output x) sheets s) i.bounds at
+      (leads source st (frame.Item n) (stack.ItemOf ts ∷ below) l p c end i words.CloseList (is-close_list i.lexeme (sym i.closer ∙ e)) refl (AfterOperand below (list_of (l ∷ ts) (AtomTree nil_name)) 0) (λ vs goal q. out_last (setting_of source) q) (λ vs goal g. last g) (λ start read n. nests-closed (setting_of source) source.text.now start below words.OpenList words.CloseList i.apart read tt tt n.0 n.1))) h output
 
   pub tail-closes : (n : ℕ) → IsFrameClosing source st (frame.Tail n) k l p c end → c ≡ closer.CloseList → new.frames.items ≡ st.frames.items → new.at ≡ end
-      → IsOutputOf new.sheet (emit_lists n (emit_tree (emitted_stack k) l)) → Comes k (On (Some 0) false)
-  tail-closes n h e fr at sheet =
+      → IsOutputOf new.output (emit_lists n (emit_tree (emitted_stack k) l)) → Comes k (Continue (Some 0) false)
+  tail-closes n h e fr at output =
       let t = tail-frame st.frames.items k n h.shapes in
       let ts = t.0 in
-      by-top (λ m. IsFrameClosing source st (frame.Tail n) m l p c end → IsOutputOf new.sheet (emit_lists n (emit_tree (emitted_stack m) l)) → Comes m (On (Some 0) false)) st.frames.items k (stack.TailOf ts) t.2
+      by-top (λ m. IsFrameClosing source st (frame.Tail n) m l p c end → IsOutputOf new.output (emit_lists n (emit_tree (emitted_stack m) l)) → Comes m (Continue (Some 0) false)) st.frames.items k (stack.TailOf ts) t.2
       (λ below rest i s.
-      let sheets = ap (λ q. emit_lists q (emit_tree (emitted_before (emitted_stack below) ts) l)) (sym t.1) ∙ put-list (emitted_stack below) ts l in
-      closed source st new (frame.Tail n) (stack.TailOf ts ∷ below) below l (list_of ts l) p c end (ap (map frame_meant) fr ∙ rest) (subst (λ x. IsOutputOf new.sheet x) sheets s) i.kept at
-      (leads source st (frame.Tail n) (stack.TailOf ts ∷ below) l p c end i words.CloseList (is-close_list i.lexeme (sym i.closer ∙ e)) refl (There below (list_of ts l) 0) (λ vs goal q. out_tail (setting_of source) q) (λ vs goal g. tail g) (λ start read n. nests-closed (setting_of source) source.text.now start below words.OpenList words.CloseList i.apart read tt tt n.0 n.1))) h sheet
+      let sheets = ap (λ q. emit_lists q (emit_tree (emitted_before (emitted_stack below) ts) l)) (sym t.1) ∙ emit-list (emitted_stack below) ts l in
+      closed source st new (frame.Tail n) (stack.TailOf ts ∷ below) below l (list_of ts l) p c end (ap (map frame_meant) fr ∙ rest) (subst (λ x. IsOutputOf new.output x) sheets s) i.bounds at
+      (leads source st (frame.Tail n) (stack.TailOf ts ∷ below) l p c end i words.CloseList (is-close_list i.lexeme (sym i.closer ∙ e)) refl (AfterOperand below (list_of ts l) 0) (λ vs goal q. out_tail (setting_of source) q) (λ vs goal g. tail g) (λ start read n. nests-closed (setting_of source) source.text.now start below words.OpenList words.CloseList i.apart read tt tt n.0 n.1))) h output
 
-  pub item-goes_on : (n place : ℕ) (t : Turn) → IsFrameClosing source st (frame.Item n) k l p c end → c ≡ closer.Comma → IsFramePushed st (frame.Item (n + 1)) end new t → Comes k t
+  pub item-goes_on : (n place : ℕ) (t : Step) → IsFrameClosing source st (frame.Item n) k l p c end → c ≡ closer.Comma → IsFramePushed st (frame.Item (n + 1)) end new t → Comes k t
   item-goes_on n place t h e push =
       let f = item-frame st.frames.items k n h.shapes in
       let ts = f.0 in
       by-top (λ m. IsFrameClosing source st (frame.Item n) m l p c end → Comes m t) st.frames.items k (stack.ItemOf ts) f.2
       (λ below rest i.
       let number : n + 1 ≡ length (l ∷ ts) = omega (arith, f.1) in
-      pushed (setting_of source) source.text.now (There (stack.ItemOf ts ∷ below) l p) st.at st new (frame.Item (n + 1)) (stack.ItemOf (l ∷ ts)) below end t push rest (ap ItemShape number) i.sheet i.kept
-      (leads source st (frame.Item n) (stack.ItemOf ts ∷ below) l p c end i words.Comma (is-comma i.lexeme (sym i.closer ∙ e)) refl (Due (stack.ItemOf (l ∷ ts) ∷ below)) (λ vs goal q. out_item (setting_of source) q) (λ vs goal w. item w) (level-behind (setting_of source) source.text.now (stack.ItemOf ts ∷ below) i.apart words.Comma (stack.ItemOf (l ∷ ts) ∷ below) (λ d. refl) (λ start read n. n)))) h
+      pushed (setting_of source) source.text.now (AfterOperand (stack.ItemOf ts ∷ below) l p) st.at st new (frame.Item (n + 1)) (stack.ItemOf (l ∷ ts)) below end t push rest (ap ItemShape number) i.output i.bounds
+      (leads source st (frame.Item n) (stack.ItemOf ts ∷ below) l p c end i words.Comma (is-comma i.lexeme (sym i.closer ∙ e)) refl (ExpectsOperand (stack.ItemOf (l ∷ ts) ∷ below)) (λ vs goal q. out_item (setting_of source) q) (λ vs goal w. item w) (level-after (setting_of source) source.text.now (stack.ItemOf ts ∷ below) i.apart words.Comma (stack.ItemOf (l ∷ ts) ∷ below) (λ d. refl) (λ start read n. n)))) h
 
-  pub tail-goes_on : (n place : ℕ) (t : Turn) → IsFrameClosing source st (frame.Item n) k l p c end → c ≡ closer.Bar → IsFramePushed st (frame.Tail (n + 1)) end new t → Comes k t
+  pub tail-goes_on : (n place : ℕ) (t : Step) → IsFrameClosing source st (frame.Item n) k l p c end → c ≡ closer.Bar → IsFramePushed st (frame.Tail (n + 1)) end new t → Comes k t
   tail-goes_on n place t h e push =
       let f = item-frame st.frames.items k n h.shapes in
       let ts = f.0 in
       by-top (λ m. IsFrameClosing source st (frame.Item n) m l p c end → Comes m t) st.frames.items k (stack.ItemOf ts) f.2
       (λ below rest i.
       let number : n + 1 ≡ length (l ∷ ts) = omega (arith, f.1) in
-      pushed (setting_of source) source.text.now (There (stack.ItemOf ts ∷ below) l p) st.at st new (frame.Tail (n + 1)) (stack.TailOf (l ∷ ts)) below end t push rest (ap TailShape number) i.sheet i.kept
-      (leads source st (frame.Item n) (stack.ItemOf ts ∷ below) l p c end i words.Bar (is-bar i.lexeme (sym i.closer ∙ e)) refl (Due (stack.TailOf (l ∷ ts) ∷ below)) (λ vs goal q. out_bar (setting_of source) q) (λ vs goal w. bar w) (level-behind (setting_of source) source.text.now (stack.ItemOf ts ∷ below) i.apart words.Bar (stack.TailOf (l ∷ ts) ∷ below) (λ d. refl) (λ start read n. n)))) h
+      pushed (setting_of source) source.text.now (AfterOperand (stack.ItemOf ts ∷ below) l p) st.at st new (frame.Tail (n + 1)) (stack.TailOf (l ∷ ts)) below end t push rest (ap TailShape number) i.output i.bounds
+      (leads source st (frame.Item n) (stack.ItemOf ts ∷ below) l p c end i words.Bar (is-bar i.lexeme (sym i.closer ∙ e)) refl (ExpectsOperand (stack.TailOf (l ∷ ts) ∷ below)) (λ vs goal q. out_bar (setting_of source) q) (λ vs goal w. bar w) (level-after (setting_of source) source.text.now (stack.ItemOf ts ∷ below) i.apart words.Bar (stack.TailOf (l ∷ ts) ∷ below) (λ d. refl) (λ start read n. n)))) h
 
   pub item-refuses : (n : ℕ) → (h : IsFrameClosing source st (frame.Item n) k l p c end) → (c ≡ closer.Comma → ⊥) → (c ≡ closer.Bar → ⊥) → (c ≡ closer.CloseList → ⊥) → Never (frame.Item n) k h
   item-refuses n h x y z =
@@ -131,17 +131,17 @@ module _ (source : Source) (st new : State) (k : List stack.OpenFrame) (l : Tree
   -- ---- arguments
 
   pub compound-closes : (m : List ℕ) (n place : ℕ) → IsFrameClosing source st (frame.Argument m n place) k l p c end → c ≡ closer.Close → new.frames.items ≡ st.frames.items → new.at ≡ end
-      → IsOutputOf new.sheet (emit_cell (emit_tree (emitted_stack k) l) (Functor m (n + 1))) → Comes k (On (Some 0) false)
-  compound-closes m n place h e fr at sheet =
+      → IsOutputOf new.output (emit_cell (emit_tree (emitted_stack k) l) (Functor m (n + 1))) → Comes k (Continue (Some 0) false)
+  compound-closes m n place h e fr at output =
       let t = argument-frame st.frames.items k m n place h.shapes in
       let ts = t.0 in
-      by-top (λ q. IsFrameClosing source st (frame.Argument m n place) q l p c end → IsOutputOf new.sheet (emit_cell (emit_tree (emitted_stack q) l) (Functor m (n + 1))) → Comes q (On (Some 0) false)) st.frames.items k (stack.ArgumentOf m place ts) t.2
+      by-top (λ q. IsFrameClosing source st (frame.Argument m n place) q l p c end → IsOutputOf new.output (emit_cell (emit_tree (emitted_stack q) l) (Functor m (n + 1))) → Comes q (Continue (Some 0) false)) st.frames.items k (stack.ArgumentOf m place ts) t.2
       (λ below rest i s.
       closed source st new (frame.Argument m n place) (stack.ArgumentOf m place ts ∷ below) below l (CompoundTree m (trees_of (l ∷ ts) no_trees)) p c end (ap (map frame_meant) fr ∙ rest)
-      (subst (λ x. IsOutputOf new.sheet x) (put-compound (emitted_stack below) m ts l n (sym t.1)) s) i.kept.1 at
-      (leads source st (frame.Argument m n place) (stack.ArgumentOf m place ts ∷ below) l p c end i words.Close (is-close i.lexeme (sym i.closer ∙ e)) refl (There below (CompoundTree m (trees_of (l ∷ ts) no_trees)) 0) (λ vs goal q. out_final (setting_of source) q) (λ vs goal g. final g) (λ start read n. nests-closed (setting_of source) source.text.now start below words.Open words.Close i.apart read tt tt n.0 n.3))) h sheet
+      (subst (λ x. IsOutputOf new.output x) (emit-compound (emitted_stack below) m ts l n (sym t.1)) s) i.bounds.1 at
+      (leads source st (frame.Argument m n place) (stack.ArgumentOf m place ts ∷ below) l p c end i words.Close (is-close i.lexeme (sym i.closer ∙ e)) refl (AfterOperand below (CompoundTree m (trees_of (l ∷ ts) no_trees)) 0) (λ vs goal q. out_final (setting_of source) q) (λ vs goal g. final g) (λ start read n. nests-closed (setting_of source) source.text.now start below words.Open words.Close i.apart read tt tt n.0 n.3))) h output
 
-  pub argument-goes_on : (m : List ℕ) (n place : ℕ) (t : Turn) → IsFrameClosing source st (frame.Argument m n place) k l p c end → c ≡ closer.Comma → n < 65534 → IsFramePushed st (frame.Argument m (n + 1) place) end new t → Comes k t
+  pub argument-goes_on : (m : List ℕ) (n place : ℕ) (t : Step) → IsFrameClosing source st (frame.Argument m n place) k l p c end → c ≡ closer.Comma → n < 65534 → IsFramePushed st (frame.Argument m (n + 1) place) end new t → Comes k t
   argument-goes_on m n place t h e lt push =
       let f = argument-frame st.frames.items k m n place h.shapes in
       let ts = f.0 in
@@ -150,8 +150,8 @@ module _ (source : Source) (st new : State) (k : List stack.OpenFrame) (l : Tree
       let number : n + 1 ≡ length (l ∷ ts) = omega (arith, f.1) in
       let few : length ts < 65534 = omega (arith, f.1, lt) in
       let more : length (l ∷ ts) ≤ 65534 = omega (arith, f.1, lt) in
-      pushed (setting_of source) source.text.now (There (stack.ArgumentOf m place ts ∷ below) l p) st.at st new (frame.Argument m (n + 1) place) (stack.ArgumentOf m place (l ∷ ts)) below end t push rest (ap (ArgumentShape m place) number) i.sheet (more, i.kept.1)
-      (leads source st (frame.Argument m n place) (stack.ArgumentOf m place ts ∷ below) l p c end i words.Comma (is-comma i.lexeme (sym i.closer ∙ e)) refl (Due (stack.ArgumentOf m place (l ∷ ts) ∷ below)) (λ vs goal q. (out_argument (setting_of source) q).1) (λ vs goal w. argument few w) (level-behind (setting_of source) source.text.now (stack.ArgumentOf m place ts ∷ below) i.apart words.Comma (stack.ArgumentOf m place (l ∷ ts) ∷ below) (λ d. refl) (λ start read n. n)))) h
+      pushed (setting_of source) source.text.now (AfterOperand (stack.ArgumentOf m place ts ∷ below) l p) st.at st new (frame.Argument m (n + 1) place) (stack.ArgumentOf m place (l ∷ ts)) below end t push rest (ap (ArgumentShape m place) number) i.output (more, i.bounds.1)
+      (leads source st (frame.Argument m n place) (stack.ArgumentOf m place ts ∷ below) l p c end i words.Comma (is-comma i.lexeme (sym i.closer ∙ e)) refl (ExpectsOperand (stack.ArgumentOf m place (l ∷ ts) ∷ below)) (λ vs goal q. (out_argument (setting_of source) q).1) (λ vs goal w. argument few w) (level-after (setting_of source) source.text.now (stack.ArgumentOf m place ts ∷ below) i.apart words.Comma (stack.ArgumentOf m place (l ∷ ts) ∷ below) (λ d. refl) (λ start read n. n)))) h
 
   pub argument-refuses : (m : List ℕ) (n place : ℕ) → (h : IsFrameClosing source st (frame.Argument m n place) k l p c end) → (c ≡ closer.Comma → ⊥) → (c ≡ closer.Close → ⊥) → Never (frame.Argument m n place) k h
   argument-refuses m n place h x y =
@@ -168,7 +168,7 @@ module _ (source : Source) (st new : State) (k : List stack.OpenFrame) (l : Tree
   pub few_arguments : (m : List ℕ) (n place : ℕ) → IsFrameClosing source st (frame.Argument m n place) k l p c end → 65534 < n → ⊥
   few_arguments m n place h lt =
       let f = argument-frame st.frames.items k m n place h.shapes in
-      by-top (λ q. IsFrameClosing source st (frame.Argument m n place) q l p c end → ⊥) st.frames.items k (stack.ArgumentOf m place f.0) f.2 (λ below rest i. let few = i.kept.0 in omega (arith, f.1, lt)) h
+      by-top (λ q. IsFrameClosing source st (frame.Argument m n place) q l p c end → ⊥) st.frames.items k (stack.ArgumentOf m place f.0) f.2 (λ below rest i. let few = i.bounds.0 in omega (arith, f.1, lt)) h
 
   -- ---- operators, of which none is left
 
@@ -186,7 +186,7 @@ module _ (source : Source) (st new : State) (k : List stack.OpenFrame) (l : Tree
 
 module _ (source : Source) (at end p : ℕ) (l : Tree) (a : Bool) (x : Lexeme) (found : scanned (chars_from source.text.now at) ≡ ScannedTo (token a x) (chars_from source.text.now end)) (low : p ≤ 1200) (stops : post_operator_fits 1200 p (lexeme_post_operator source.ops.now x) ≡ false) where
   halt : next_operator source.ops.now 1200 p (tokens_at source at) ≡ Stop
-  halt = stops-at source.ops.now 1200 p (tokens_at source at) (lexeme_post_operator source.ops.now x) (first-joint source.ops.now _ _ a x found) stops
+  halt = stops-at source.ops.now 1200 p (tokens_at source at) (lexeme_post_operator source.ops.now x) (first-post_operator source.ops.now _ _ a x found) stops
 
   whole : x ≡ words.End → CompletesAfter (setting_of source) [] (tokens_at source at) l p l
   whole e =
@@ -203,11 +203,11 @@ module _ (source : Source) (at end p : ℕ) (l : Tree) (a : Bool) (x : Lexeme) (
 
 -- the end stands there
 pub over-ends : (source : Source) (at end p : ℕ) (l : Tree) (a : Bool) (x : Lexeme) (st : State) (k : List stack.OpenFrame) → k ≡ [] → scanned (chars_from source.text.now at) ≡ ScannedTo (token a x) (chars_from source.text.now end)
-    → p ≤ bound_of k → post_operator_fits (bound_of k) p (lexeme_post_operator source.ops.now x) ≡ false → IsOutputOf st.sheet (emit_tree (emitted_stack k) l) → x ≡ words.End → IsStepOutcome (setting_of source) source.text.now (There k l p) at st (Over end)
-over-ends source at end p l a x st k none found low stops sheet e =
-    let P : List stack.OpenFrame → Type 0 = λ m. p ≤ bound_of m → post_operator_fits (bound_of m) p (lexeme_post_operator source.ops.now x) ≡ false → IsOutputOf st.sheet (emit_tree (emitted_stack m) l) → IsStepOutcome (setting_of source) source.text.now (There m l p) at st (Over end) in
-    let here : P [] = λ b f d. record { tree = l; sheet = d; reads = whole source at end p l a x found b f e; rest = rest source at end p l a x found b f e } in
-    subst P (sym none) here low stops sheet
+    → p ≤ bound_of k → post_operator_fits (bound_of k) p (lexeme_post_operator source.ops.now x) ≡ false → IsOutputOf st.output (emit_tree (emitted_stack k) l) → x ≡ words.End → IsStepOutcome (setting_of source) source.text.now (AfterOperand k l p) at st (Accept end)
+over-ends source at end p l a x st k none found low stops output e =
+    let P : List stack.OpenFrame → Type 0 = λ m. p ≤ bound_of m → post_operator_fits (bound_of m) p (lexeme_post_operator source.ops.now x) ≡ false → IsOutputOf st.output (emit_tree (emitted_stack m) l) → IsStepOutcome (setting_of source) source.text.now (AfterOperand m l p) at st (Accept end) in
+    let here : P [] = λ b f d. record { tree = l; output = d; reads = whole source at end p l a x found b f e; rest = rest source at end p l a x found b f e } in
+    subst P (sym none) here low stops output
 
 -- or it does not
 pub over-never : (source : Source) (at end p : ℕ) (l : Tree) (a : Bool) (x : Lexeme) (k : List stack.OpenFrame) → k ≡ [] → scanned (chars_from source.text.now at) ≡ ScannedTo (token a x) (chars_from source.text.now end)

@@ -7,9 +7,9 @@ use Rattle.au_model.specs.Syntax.Primaries.{Setting, Call, Fails, primary_of}
 use Rattle.au_model.specs.Syntax.Spelling.{Arguments}
 use Rattle.term_reader.specs.Brackets.{Balanced}
 use Rattle.au_model.specs.Syntax.TextFaults.{Past, IsOneTooMany}
-use Rattle.term_reader.proofs.HasReadLemmas.{get-behind}
+use Rattle.term_reader.proofs.HasReadLemmas.{get-after}
 use Rattle.term_reader.proofs.PrimaryLemmas.{IsCompoundName, NamesCall, Brackets, OfCall, Opened, opened, fill-same}
-use Rattle.term_reader.proofs.BracketLemmas.{last-open}
+use Rattle.term_reader.proofs.BracketLemmas.{last-push_frame}
 use Rattle.term_reader.proofs.ArgumentTokenLemmas.{past-front}
 use Rattle.term_reader.proofs.PostorderLemmas.{snoc-front, snoc-last}
 
@@ -28,17 +28,17 @@ pub record Slice (s : Setting) (ts : List Token) (n m : ℕ) : Type 0 where
   pub closed : (a : Bool) (vs : List Token) → (args : Trees) × (tree_count args ≡ 65535) × Arguments s (inside ++ token a Close ∷ vs) vs args
 
 -- a compound's name and its bracket come first
-record NameFront (ts behind : List Token) : Type 0 where
+record NameFront (ts after : List Token) : Type 0 where
   pub named : List Token
-  pub is : ts ≡ named ++ token false Open ∷ behind
+  pub is : ts ≡ named ++ token false Open ∷ after
   pub is_name : IsCompoundName named
 
-name-front : (s : Setting) (ts : List Token) (name : List ℕ) (behind : List Token) → primary_of s ts ≡ Call name behind → NameFront ts behind
-name-front s [] name behind e = let z : ⊥ = cc in absurd z
-name-front s (t ∷ ts) name behind e = by-opened (opened s t ts) where
-  by-opened : Opened s t ts ⊎ (primary_of s (t ∷ ts) ≡ Fails) → NameFront (t ∷ ts) behind
+name-front : (s : Setting) (ts : List Token) (name : List ℕ) (after : List Token) → primary_of s ts ≡ Call name after → NameFront ts after
+name-front s [] name after e = let z : ⊥ = cc in absurd z
+name-front s (t ∷ ts) name after e = by-opened (opened s t ts) where
+  by-opened : Opened s t ts ⊎ (primary_of s (t ∷ ts) ≡ Fails) → NameFront (t ∷ ts) after
   by-opened (inl o) =
-      let h = fill-same o.kind (OfCall name) o.rest behind (sym o.now ∙ e) in
+      let h = fill-same o.kind (OfCall name) o.rest after (sym o.now ∙ e) in
       let b : NamesCall (t ∷ o.over) = subst (λ k. Brackets k (t ∷ o.over)) h.0 o.brackets in
       record {
         named = b.named;
@@ -53,13 +53,13 @@ front-length ts before t n lt e =
     let whole = ap length e ∙ length-append before (t ∷ drop (suc n) ts) in
     omega (arith, length-drop (suc n) ts)
 
-get-seam : (before behind : List Token) (t : Token) (n : ℕ) → length before ≡ n → slice_get (before ++ t ∷ behind) n ≡ Some t
-get-seam before behind t n e = subst (λ k. slice_get (before ++ t ∷ behind) k ≡ Some t) e (get-behind before behind t)
+get-seam : (before after : List Token) (t : Token) (n : ℕ) → length before ≡ n → slice_get (before ++ t ∷ after) n ≡ Some t
+get-seam before after t n e = subst (λ k. slice_get (before ++ t ∷ after) k ≡ Some t) e (get-after before after t)
 
 pub slice : (s : Setting) (ts : List Token) (n m : ℕ) (name : List ℕ) → n < length ts → IsOneTooMany s ts n m name → Slice s ts n m
 slice s ts n m name lt h =
-    let f = name-front s (drop m ts) name h.behind h.called in
-    let p = past-front s 65534 h.behind (drop (suc n) ts) h.past in
+    let f = name-front s (drop m ts) name h.after h.called in
+    let p = past-front s 65534 h.after (drop (suc n) ts) h.past in
     let first = take m ts in
     let before = (first ++ f.named) ++ token false Open ∷ p.inside in
     let comma = token p.apart Comma ∷ drop (suc n) ts in
@@ -67,7 +67,7 @@ slice s ts n m name lt h =
     sym (take-append-drop m ts) ∙ (ap (λ us. first ++ us) (f.is ∙ ap (λ us. f.named ++ token false Open ∷ us) p.is)
     ∙ (sym (append_assoc first f.named (token false Open ∷ p.inside ++ comma)) ∙ sym (append_assoc (first ++ f.named) (token false Open ∷ p.inside) comma))) in
     let long = front-length ts before (token p.apart Comma) n lt whole in
-    let left = ap length f.is ∙ length-append f.named (token false Open ∷ h.behind) in
+    let left = ap length f.is ∙ length-append f.named (token false Open ∷ h.after) in
     record {
       first = first;
       named = f.named;
@@ -115,5 +115,5 @@ same-front xs ys us vs h i e =
 -- the compound is one
 pub same-slice : (s : Setting) (ts : List Token) (n j m : ℕ) → Slice s ts n j → Slice s ts n m → j ≡ m
 same-slice s ts n j m a b =
-    let h = last-open (a.first ++ a.named) (b.first ++ b.named) a.inside b.inside false false Open Open tt tt a.balanced b.balanced (sym a.read ∙ b.read) in
+    let h = last-push_frame (a.first ++ a.named) (b.first ++ b.named) a.inside b.inside false false Open Open tt tt a.balanced b.balanced (sym a.read ∙ b.read) in
     sym a.starts ∙ (same-front a.first b.first a.named b.named a.is_name b.is_name h.0 ∙ b.starts)

@@ -8,8 +8,8 @@ use Rattle.au_model.specs.Syntax.Primaries.{has_direct_open, has_direct_integer,
 use Rattle.au_model.specs.Syntax.Trees.{Tree}
 use Rattle.term_reader.specs.Completion as stack
 use Rattle.term_reader.specs.Completion.{OpenFrame}
-use Rattle.term_reader.specs.Lookahead.{Lookahead, Free, Named, Lone, Over, InList, InCurly, Joined, closes_list, closes_curly, is_plain_name_before, is_as_expected}
-use Rattle.term_reader.specs.Positions.{Position, Due, There, SuitsLookahead}
+use Rattle.term_reader.specs.Lookahead.{Lookahead, Free, Named, Lone, Accept, InList, InCurly, Joined, closes_list, closes_curly, is_plain_name_before, is_as_expected}
+use Rattle.term_reader.specs.Positions.{Position, ExpectsOperand, AfterOperand, SuitsLookahead}
 use Rattle.term_reader.proofs.CompletionLemmas.{closing, completion}
 
 -- ---- tokens that end an operand, and one that is an operand
@@ -40,8 +40,8 @@ closing-alone ops (stack.PrefixOf n o ∷ k) = closing-alone ops k
 closing-alone ops (stack.InfixOf n o l ∷ k) = closing-alone ops k
 
 pub completion-quiet : (x : Position) → IsQuiet (completion x)
-completion-quiet (Due k) = record { no_open = refl; no_count = refl }
-completion-quiet (There k l p) = closing-quiet k
+completion-quiet (ExpectsOperand k) = record { no_open = refl; no_count = refl }
+completion-quiet (AfterOperand k l p) = closing-quiet k
 
 pub quiet-plain : (sign : Bool) (ts : List Token) → IsQuiet ts → is_plain_name_before sign ts ≡ true
 quiet-plain true ts q = let o = q.no_open in let k = q.no_count in rw (o, k) refl
@@ -49,14 +49,14 @@ quiet-plain false ts q = let o = q.no_open in rw o refl
 
 -- ---- a name between its neighbours
 
-abbrev pub joint_alone : OperatorTable → List ℕ → Bool
-joint_alone ops n = is_post_operator (named_post_operator ops n) && not (is_some_operator (prefix_of ops n))
+abbrev pub post_operator_alone : OperatorTable → List ℕ → Bool
+post_operator_alone ops n = is_post_operator (named_post_operator ops n) && not (is_some_operator (prefix_of ops n))
 
 joins-by : (x y z : Bool) → (x && (y && z)) ≡ ((x && y) && z)
 joins-by true y z = refl
 joins-by false y z = refl
 
-pub joins-is : (ops : OperatorTable) (n : List ℕ) (x : Lexeme) (ts : List Token) → is_operator_here ops n x ts ≡ (joint_alone ops n && is_plain_name_before (is_minus x) ts)
+pub joins-is : (ops : OperatorTable) (n : List ℕ) (x : Lexeme) (ts : List Token) → is_operator_here ops n x ts ≡ (post_operator_alone ops n && is_plain_name_before (is_minus x) ts)
 joins-is ops n x ts = joins-by (is_post_operator (named_post_operator ops n)) (not (is_some_operator (prefix_of ops n))) (is_plain_name_before (is_minus x) ts)
 
 both-true : (x y : Bool) → (x && y) ≡ true → (x ≡ true) × (y ≡ true)
@@ -78,7 +78,7 @@ not-true false e = refl
 
 joined-quiet : (ops : OperatorTable) (n : List ℕ) (x : Lexeme) (us vs : List Token) → is_operator_here ops n x us ≡ true → IsQuiet vs → is_operator_here ops n x vs ≡ true
 joined-quiet ops n x us vs e q =
-    let a = and-left (joint_alone ops n) (is_plain_name_before (is_minus x) us) (sym (joins-is ops n x us) ∙ e) in
+    let a = and-left (post_operator_alone ops n) (is_plain_name_before (is_minus x) us) (sym (joins-is ops n x us) ∙ e) in
     joins-is ops n x vs ∙ and-both _ _ a (quiet-plain (is_minus x) vs q)
 
 pub ends-quiet : (ops : OperatorTable) (x : Lexeme) (us vs : List Token) → ends_operand_before ops x us ≡ true → IsQuiet vs → ends_operand_before ops x vs ≡ true
@@ -90,22 +90,22 @@ ends-quiet ops x us vs e q = e
 pub ready : (ops : OperatorTable) (x : Position) (look : Lookahead) (us : List Token) → SuitsLookahead x look → is_as_expected ops look us ≡ true → is_as_expected ops look (completion x) ≡ true
 ready ops x Free us h e = refl
 ready ops x (Named sign) us h e = quiet-plain sign (completion x) (completion-quiet x)
-ready ops (There k l p) (Lone sign) us h e = and-both _ _ (quiet-plain sign (closing k) (closing-quiet k)) (closing-alone ops k)
-ready ops (Due k) (Lone sign) us h e = absurd h
-ready ops (Due k) (Over sign) us h e = and-both _ _ (quiet-plain sign (completion (Due k)) (completion-quiet (Due k))) refl
-ready ops (There k l p) (Over sign) us h e = absurd h
-ready ops (Due k) InList us h e = refl
-ready ops (There k l p) InList us h e = absurd h
-ready ops (Due k) InCurly us h e = refl
-ready ops (There k l p) InCurly us h e = absurd h
+ready ops (AfterOperand k l p) (Lone sign) us h e = and-both _ _ (quiet-plain sign (closing k) (closing-quiet k)) (closing-alone ops k)
+ready ops (ExpectsOperand k) (Lone sign) us h e = absurd h
+ready ops (ExpectsOperand k) (Accept sign) us h e = and-both _ _ (quiet-plain sign (completion (ExpectsOperand k)) (completion-quiet (ExpectsOperand k))) refl
+ready ops (AfterOperand k l p) (Accept sign) us h e = absurd h
+ready ops (ExpectsOperand k) InList us h e = refl
+ready ops (AfterOperand k l p) InList us h e = absurd h
+ready ops (ExpectsOperand k) InCurly us h e = refl
+ready ops (AfterOperand k l p) InCurly us h e = absurd h
 ready ops x (Joined y) us h e = ends-quiet ops y us (completion x) e (completion-quiet x)
 
 -- and so is a bracket that closes
-pub ready-close : (ops : OperatorTable) (k : List OpenFrame) (l : Tree) (p : ℕ) (look : Lookahead) (us vs : List Token) → SuitsLookahead (There k l p) look → is_as_expected ops look us ≡ true → is_as_expected ops look (token false words.Close ∷ vs) ≡ true
+pub ready-close : (ops : OperatorTable) (k : List OpenFrame) (l : Tree) (p : ℕ) (look : Lookahead) (us vs : List Token) → SuitsLookahead (AfterOperand k l p) look → is_as_expected ops look us ≡ true → is_as_expected ops look (token false words.Close ∷ vs) ≡ true
 ready-close ops k l p Free us vs h e = refl
 ready-close ops k l p (Named sign) us vs h e = quiet-plain sign (token false words.Close ∷ vs) (record { no_open = refl; no_count = refl })
 ready-close ops k l p (Lone sign) us vs h e = and-both _ _ (quiet-plain sign (token false words.Close ∷ vs) (record { no_open = refl; no_count = refl })) refl
-ready-close ops k l p (Over sign) us vs h e = absurd h
+ready-close ops k l p (Accept sign) us vs h e = absurd h
 ready-close ops k l p InList us vs h e = absurd h
 ready-close ops k l p InCurly us vs h e = absurd h
 ready-close ops k l p (Joined y) us vs h e = ends-quiet ops y us (token false words.Close ∷ vs) e (record { no_open = refl; no_count = refl })
@@ -132,7 +132,7 @@ presumed-alike ops Free t us vs h e = refl
 presumed-alike ops (Named sign) t us vs h e = plain-first sign t us vs e
 presumed-alike ops (Lone sign) t us vs h e =
     and-both _ _ (plain-first sign t us vs (and-left _ _ e)) (h ∙ and-right _ _ e)
-presumed-alike ops (Over sign) t us vs h e =
+presumed-alike ops (Accept sign) t us vs h e =
     and-both _ _ (plain-first sign t us vs (and-left _ _ e)) (ap not h ∙ and-right _ _ e)
 presumed-alike ops InList t us vs h e = ap not (sym (list-first t us vs)) ∙ e
 presumed-alike ops InCurly t us vs h e = ap not (sym (curly-first t us vs)) ∙ e
@@ -141,14 +141,14 @@ presumed-alike ops (Joined x) t us vs h e = sym (joined-first ops x t us vs) ∙
 -- no prefix operator waits for the next token
 abbrev pub IsSure : Lookahead → Type 0
 IsSure (Lone sign) = ⊥
-IsSure (Over sign) = ⊥
+IsSure (Accept sign) = ⊥
 IsSure _ = Unit {0}
 
 pub first-sure : (ops : OperatorTable) (look : Lookahead) (t : Token) (us vs : List Token) → IsSure look → is_as_expected ops look (t ∷ us) ≡ true → is_as_expected ops look (t ∷ vs) ≡ true
 first-sure ops Free t us vs h e = refl
 first-sure ops (Named sign) t us vs h e = plain-first sign t us vs e
 first-sure ops (Lone sign) t us vs h e = absurd h
-first-sure ops (Over sign) t us vs h e = absurd h
+first-sure ops (Accept sign) t us vs h e = absurd h
 first-sure ops InList t us vs h e = ap not (sym (list-first t us vs)) ∙ e
 first-sure ops InCurly t us vs h e = ap not (sym (curly-first t us vs)) ∙ e
 first-sure ops (Joined x) t us vs h e = sym (joined-first ops x t us vs) ∙ e

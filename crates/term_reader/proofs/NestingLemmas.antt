@@ -10,9 +10,9 @@ use Rattle.term_reader.specs.Lookahead.{Lookahead, Free, is_as_expected}
 use Rattle.term_reader.specs.Completion as stack
 use Rattle.term_reader.specs.Completion.{OpenFrame, CompletesOperand}
 use Rattle.term_reader.specs.Nesting.{OpenSince, NestsIn}
-use Rattle.term_reader.specs.Positions.{Position, Due, stack_of, NestsAfterPrimary, NestsAfterToken}
+use Rattle.term_reader.specs.Positions.{Position, ExpectsOperand, stack_of, NestsAfterPrimary, NestsAfterToken}
 use Rattle.term_reader.proofs.PrimaryLemmas.{NamesCall}
-use Rattle.term_reader.proofs.BracketLemmas.{Opens, Closes, IsNoBracket, balanced-none, balanced-plain, balanced-append, balanced-pair}
+use Rattle.term_reader.proofs.BracketLemmas.{OpenRound, Closes, IsNoBracket, balanced-none, balanced-plain, balanced-append, balanced-pair}
 
 -- more tokens of which none opens or closes a bracket for good
 abbrev since-more : (x : Lexeme) (read ts : List Token) → Balanced ts → OpenSince x read → OpenSince x (read ++ ts)
@@ -36,7 +36,7 @@ module _ (s : Setting) (text : List ℕ) (start : ℕ) where
   nests-more (stack.InfixOf m o l ∷ k) read ts h n = nests-more k read ts h n
 
   -- the bracket is closed
-  pub nests-closed : (k : List OpenFrame) (x y : Lexeme) (a : Bool) (read : List Token) → Opens x → Closes y → (b : OpenSince x read) → NestsIn s text start b.before k → NestsIn s text start (read ++ token a y ∷ []) k
+  pub nests-closed : (k : List OpenFrame) (x y : Lexeme) (a : Bool) (read : List Token) → OpenRound x → Closes y → (b : OpenSince x read) → NestsIn s text start b.before k → NestsIn s text start (read ++ token a y ∷ []) k
   nests-closed k x y a read o c b n =
       let pair = balanced-pair b.apart a x y b.inside o c b.balanced in
       subst (λ ts. NestsIn s text start ts k) (sym (ap (λ ts. ts ++ token a y ∷ []) b.is ∙ append_assoc b.before (token b.apart x ∷ b.inside) (token a y ∷ [])))
@@ -51,7 +51,7 @@ module _ (s : Setting) (text : List ℕ) (at : ℕ) (k : List OpenFrame) (ts : L
   pub level-begun : (new : Position) → Balanced ts → ((start : ℕ) (read : List Token) → NestsIn s text start read k → NestsIn s text start read (stack_of new)) → NestsAfterPrimary s text at k ts look new
   level-begun new h same start read scans n to back = nests-more s text start (stack_of new) read ts h (same start read n)
 
-  pub round-begun : (a : Bool) → ts ≡ token a words.Open ∷ [] → look ≡ Free → NestsAfterPrimary s text at k ts look (Due (stack.Round ∷ k))
+  pub round-begun : (a : Bool) → ts ≡ token a words.Open ∷ [] → look ≡ Free → NestsAfterPrimary s text at k ts look (ExpectsOperand (stack.Round ∷ k))
   round-begun a e f start read scans n to back = (
     since-here words.Open a read read ts (ap (λ us. read ++ us) e),
     record {
@@ -63,14 +63,14 @@ module _ (s : Setting) (text : List ℕ) (at : ℕ) (k : List OpenFrame) (ts : L
     whole : (vs : List Token) → read ++ token a words.Open ∷ vs ≡ (read ++ ts) ++ vs
     whole vs = sym (append_assoc read (token a words.Open ∷ []) vs) ∙ ap (λ us. (read ++ us) ++ vs) (sym e)
 
-  pub curly-begun : (a : Bool) → ts ≡ token a words.OpenCurly ∷ [] → NestsAfterPrimary s text at k ts look (Due (stack.Braces ∷ k))
+  pub curly-begun : (a : Bool) → ts ≡ token a words.OpenCurly ∷ [] → NestsAfterPrimary s text at k ts look (ExpectsOperand (stack.Braces ∷ k))
   curly-begun a e start read scans n to back = (since-here words.OpenCurly a read read ts (ap (λ us. read ++ us) e), n)
 
-  pub list-begun : (a : Bool) → ts ≡ token a words.OpenList ∷ [] → NestsAfterPrimary s text at k ts look (Due (stack.ItemOf [] ∷ k))
+  pub list-begun : (a : Bool) → ts ≡ token a words.OpenList ∷ [] → NestsAfterPrimary s text at k ts look (ExpectsOperand (stack.ItemOf [] ∷ k))
   list-begun a e start read scans n to back = (since-here words.OpenList a read read ts (ap (λ us. read ++ us) e), n)
 
   pub call-begun : (name : List ℕ) (place : ℕ) → (c : NamesCall ts) → look ≡ Free → IsCharBoundary text place → after_layout (chars_from text at) ≡ GapThen (chars_from text place)
-      → ((vs : List Token) → primary_of s (ts ++ vs) ≡ Call name vs) → NestsAfterPrimary s text at k ts look (Due (stack.ArgumentOf name place [] ∷ k))
+      → ((vs : List Token) → primary_of s (ts ++ vs) ≡ Call name vs) → NestsAfterPrimary s text at k ts look (ExpectsOperand (stack.ArgumentOf name place [] ∷ k))
   call-begun name place c f b layout call start read scans n to back = (
     since-here words.Open false read (read ++ c.named) ts (ap (λ us. read ++ us) c.is ∙ sym (append_assoc read c.named (token false words.Open ∷ []))),
     record {
@@ -98,5 +98,5 @@ module _ (s : Setting) (text : List ℕ) (at : ℕ) (k : List OpenFrame) (ts : L
 -- ---- behind an operand
 
 module _ (s : Setting) (text : List ℕ) (k : List OpenFrame) (a : Bool) (x : Lexeme) where
-  pub level-behind : (new : List OpenFrame) → IsNoBracket x → ((start : ℕ) (read : List Token) → NestsIn s text start read k → NestsIn s text start read new) → NestsAfterToken s text k (token a x) new
-  level-behind new h same start read n = nests-more s text start new read (token a x ∷ []) (balanced-plain a x h) (same start read n)
+  pub level-after : (new : List OpenFrame) → IsNoBracket x → ((start : ℕ) (read : List Token) → NestsIn s text start read k → NestsIn s text start read new) → NestsAfterToken s text k (token a x) new
+  level-after new h same start read n = nests-more s text start new read (token a x ∷ []) (balanced-plain a x h) (same start read n)

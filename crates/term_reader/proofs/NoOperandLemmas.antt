@@ -12,7 +12,7 @@ use Rattle.term_reader.specs.Completion.{OpenFrame, bound_of, CompletesOperand, 
 use Rattle.term_reader.specs.FrameShapes.{IsWithinBounds}
 use Rattle.term_reader.specs.Lookahead as looks
 use Rattle.term_reader.specs.Lookahead.{Lookahead, is_plain_name_before, is_as_expected, Scans, none, onto, IsName}
-use Rattle.term_reader.specs.Positions.{Position, Due, There, stack_of, IsWithinBound, HasReadTo}
+use Rattle.term_reader.specs.Positions.{Position, ExpectsOperand, AfterOperand, stack_of, IsWithinBound, HasReadTo}
 use Rattle.au_model.specs.Syntax.TextFaults.{BeginsTerm}
 use Rattle.term_reader.specs.Refusals.{IsStuck, accepts, lexeme_follows_atom}
 use Rattle.term_reader.proofs.TooManyArgumentsLemmas.{many, completes-close, presumed-close}
@@ -20,9 +20,9 @@ use Rattle.term_reader.specs.OperatorReductions.{first_post_operator}
 use Rattle.term_reader.proofs.ReadingIsSpellingLemmas.{fits-within}
 use Rattle.term_reader.proofs.CompletionLemmas.{closing, closes, completion, completes}
 use Rattle.term_reader.proofs.ScannedTokenLemmas.{scans-tokens, scans-then}
-use Rattle.term_reader.proofs.LookaheadLemmas.{presumed-alike, joint_alone, joins-is, not-true, and-left, and-right, closing-quiet, closing-alone, completion-quiet, quiet-plain, IsQuiet}
+use Rattle.term_reader.proofs.LookaheadLemmas.{presumed-alike, post_operator_alone, joins-is, not-true, and-left, and-right, closing-quiet, closing-alone, completion-quiet, quiet-plain, IsQuiet}
 use Rattle.term_reader.proofs.PrimaryLemmas.{Opened, ends-plain, by-call, list-opened, curly-opened, fill-fails}
-use Rattle.term_reader.proofs.HasReadLemmas.{prefix-never, led-begins, begins-more}
+use Rattle.term_reader.proofs.HasReadLemmas.{prefix-never, read_to-begins, begins-more}
 use Rattle.term_reader.proofs.FirstTokenLemmas.{tokens-none, tokens-first}
 use Rattle.term_reader.proofs.OperatorReductionLemmas.{over-prefix, over-infix, stops-at}
 use Rattle.term_reader.proofs.RefusalLemmas.{lone-over, lone-alone, same_first, none_first, next-alike, name_no_end, tails, true_false}
@@ -32,10 +32,10 @@ use Rattle.term_reader.proofs.CompletionStepLemmas.{fails, prefix_within, took_l
 -- ---- nothing stands there
 
 pub stuck-none : (s : Setting) (text : List ℕ) (start at : ℕ) (x : Position) (d : Bool) → HasReadTo s text start x at d → IsWithinBounds (stack_of x) → IsWithinBound x → scanned (chars_from text at) ≡ ScannedNone → IsStuck s text start at
-stuck-none s text start at x d led kept low e = record {
-  read = led.read;
-  scans = led.scans;
-  primary_of = led-begins s text start at d x led kept low;
+stuck-none s text start at x d read_to bounds low e = record {
+  read = read_to.read;
+  scans = read_to.scans;
+  begins = read_to-begins s text start at d x read_to bounds low;
   ends = λ t us h more goal w. none_first (tokens_of (chars_from text at)) us t (tokens-none (chars_from text at) e) h;
   few = λ t us h m name o. none_first (tokens_of (chars_from text at)) us t (tokens-none (chars_from text at) e) h;
 }
@@ -47,8 +47,8 @@ record BeginsNever (s : Setting) (a : Bool) (x : Lexeme) : Type 0 where
   pub never : (vs : List Token) → primary_of s (token a x ∷ vs) ≡ Fails
   pub alike : (us vs : List Token) → ends_operand_before s.ops x us ≡ ends_operand_before s.ops x vs
 
-opening-never : (s : Setting) (a : Bool) (x : Lexeme) (us : List Token) → primary_of s (token a x ∷ us) ≡ Fails → Opened s (token a x) us → BeginsNever s a x
-opening-never s a x us e o = absurd (fill-fails o.kind o.rest (sym o.now ∙ e))
+primary-never : (s : Setting) (a : Bool) (x : Lexeme) (us : List Token) → primary_of s (token a x ∷ us) ≡ Fails → Opened s (token a x) us → BeginsNever s a x
+primary-never s a x us e o = absurd (fill-fails o.kind o.rest (sym o.now ∙ e))
 
 integer-never : (s : Setting) (a : Bool) (k : ℕ) (us : List Token) → primary_of s (token a (words.Integer k) ∷ us) ≡ Fails → (b : Bool) → nat_lt k (2 ^ 63) ≡ b → BeginsNever s a (words.Integer k)
 integer-never s a k us e true g =
@@ -57,34 +57,34 @@ integer-never s a k us e true g =
 integer-never s a k us e false g = record { never = λ vs. ap (λ c. if c then Leaf (IntTree (pos k)) vs else Fails) g; alike = λ us vs. refl }
 
 begins-never : (s : Setting) (a : Bool) (x : Lexeme) (us : List Token) → primary_of s (token a x ∷ us) ≡ Fails → BeginsNever s a x
-begins-never s a (words.Name n) us e = opening-never s a (words.Name n) us e (by-call s a (words.Name n) (is_minus_name n) n (refl, refl) us (has_direct_open us) refl)
-begins-never s a (words.QuotedName n) us e = opening-never s a (words.QuotedName n) us e (by-call s a (words.QuotedName n) false n (refl, refl) us (has_direct_open us) refl)
+begins-never s a (words.Name n) us e = primary-never s a (words.Name n) us e (by-call s a (words.Name n) (is_minus_name n) n (refl, refl) us (has_direct_open us) refl)
+begins-never s a (words.QuotedName n) us e = primary-never s a (words.QuotedName n) us e (by-call s a (words.QuotedName n) false n (refl, refl) us (has_direct_open us) refl)
 begins-never s a (words.Variable n) us e = let z : ⊥ = cc in absurd z
 begins-never s a (words.Integer k) us e = integer-never s a k us e (nat_lt k (2 ^ 63)) refl
 begins-never s a (words.Text cs) us e = let z : ⊥ = cc in absurd z
 begins-never s a words.Open us e = let z : ⊥ = cc in absurd z
-begins-never s a words.OpenList us e = opening-never s a words.OpenList us e (list-opened s a us)
-begins-never s a words.OpenCurly us e = opening-never s a words.OpenCurly us e (curly-opened s a us)
+begins-never s a words.OpenList us e = primary-never s a words.OpenList us e (list-opened s a us)
+begins-never s a words.OpenCurly us e = primary-never s a words.OpenCurly us e (curly-opened s a us)
 begins-never s a x us e = record { never = λ vs. refl; alike = λ us vs. refl }
 
-pub stuck-fails : (s : Setting) (text : List ℕ) (start at : ℕ) (k : List OpenFrame) (d a : Bool) (x : Lexeme) (rest : List ℕ) → HasReadTo s text start (Due k) at d → IsWithinBounds k → scanned (chars_from text at) ≡ ScannedTo (token a x) rest
+pub stuck-fails : (s : Setting) (text : List ℕ) (start at : ℕ) (k : List OpenFrame) (d a : Bool) (x : Lexeme) (rest : List ℕ) → HasReadTo s text start (ExpectsOperand k) at d → IsWithinBounds k → scanned (chars_from text at) ≡ ScannedTo (token a x) rest
     → primary_of s (tokens_of (chars_from text at)) ≡ Fails → IsStuck s text start at
-stuck-fails s text start at k d a x rest led kept e f =
+stuck-fails s text start at k d a x rest read_to bounds e f =
     let first = tokens-first (chars_from text at) rest a x e in
     let n = begins-never s a x first.more (sym (ap (primary_of s) first.is) ∙ f) in
-    let fits = ap (is_as_expected s.ops led.look) (sym first.is) ∙ led.fits in
+    let fits = ap (is_as_expected s.ops read_to.look) (sym first.is) ∙ read_to.fits in
     record {
-      read = led.read;
-      scans = led.scans;
-      primary_of = led-begins s text start at d (Due k) led kept tt;
+      read = read_to.read;
+      scans = read_to.scans;
+      begins = read_to-begins s text start at d (ExpectsOperand k) read_to bounds tt;
       ends = λ t us h more goal w.
-          let v = subst (λ u. CompletesOperand s [] (led.read ++ u ∷ more) goal) (same_first (tokens_of (chars_from text at)) first.more us (token a x) t first.is h) w in
-          fails s (token a x ∷ more) (n.never more) (led.to (token a x ∷ more) goal (presumed-alike s.ops led.look (token a x) first.more more (n.alike more first.more) fits) v);
+          let v = subst (λ u. CompletesOperand s [] (read_to.read ++ u ∷ more) goal) (same_first (tokens_of (chars_from text at)) first.more us (token a x) t first.is h) w in
+          fails s (token a x ∷ more) (n.never more) (read_to.to (token a x ∷ more) goal (presumed-alike s.ops read_to.look (token a x) first.more more (n.alike more first.more) fits) v);
       few = λ t us h m name o.
-          let g = many s led.read us t m name o in
-          let c = completes-close s text start k led.read kept led.nests g.full in
-          let f = ap (is_as_expected s.ops led.look) (sym (h ∙ ap (λ u. u ∷ us) g.comma)) ∙ led.fits in
-          fails s (token false words.Close ∷ c.more) refl (led.to (token false words.Close ∷ c.more) c.goal (presumed-close s.ops led.look g.apart us c.more f) c.wants);
+          let g = many s read_to.read us t m name o in
+          let c = completes-close s text start k read_to.read bounds read_to.nests g.full in
+          let f = ap (is_as_expected s.ops read_to.look) (sym (h ∙ ap (λ u. u ∷ us) g.comma)) ∙ read_to.fits in
+          fails s (token false words.Close ∷ c.more) refl (read_to.to (token false words.Close ∷ c.more) c.goal (presumed-close s.ops read_to.look g.apart us c.more f) c.completes);
     }
 
 -- ---- operators put over an operand
@@ -153,13 +153,13 @@ record Taken (s : Setting) (j : PostOperator) (k : List OpenFrame) (l : Tree) (p
   pub below : List OpenFrame
   pub tree : Tree
   pub priority : ℕ
-  pub kept : IsWithinBounds below
+  pub bounds : IsWithinBounds below
   pub low : priority ≤ bound_of below
   pub fits : post_operator_fits (bound_of below) priority j ≡ true
   pub back : (ts : List Token) (goal : Tree) → first_post_operator s.ops ts ≡ j → CompletesAfter s below ts tree priority goal → CompletesAfter s k ts l p goal
 
 taken-here : (s : Setting) (j : PostOperator) (k : List OpenFrame) (l : Tree) (p : ℕ) → IsWithinBounds k → p ≤ bound_of k → post_operator_fits (bound_of k) p j ≡ true → Taken s j k l p
-taken-here s j k l p h le e = record { below = k; tree = l; priority = p; kept = h; low = le; fits = e; back = λ ts goal f g. g }
+taken-here s j k l p h le e = record { below = k; tree = l; priority = p; bounds = h; low = le; fits = e; back = λ ts goal f g. g }
 
 taken : (s : Setting) (j : PostOperator) (k : List OpenFrame) (l : Tree) (p : ℕ) → IsWithinBounds k → p ≤ bound_of k → accepts k p j ≡ true → Taken s j k l p
 taken s j [] l p h le e = taken-here s j [] l p h le e
@@ -174,33 +174,33 @@ taken s j (stack.PrefixOf m o ∷ k) l p h le e = go (post_operator_fits (right_
   go false f i r =
       let t = r i in
       let v = over-prefix s j k m o l p le f in
-      record { below = t.below; tree = t.tree; priority = t.priority; kept = t.kept; low = t.low; fits = t.fits; back = λ ts goal q g. v.back ts goal q (t.back ts goal q g) }
+      record { below = t.below; tree = t.tree; priority = t.priority; bounds = t.bounds; low = t.low; fits = t.fits; back = λ ts goal q g. v.back ts goal q (t.back ts goal q g) }
 taken s j (stack.InfixOf m o u ∷ k) l p h le e = go (post_operator_fits (right_bound o) p j) refl e (taken s j k (two m u l) o.priority h.1 h.0) where
   go : (b : Bool) → post_operator_fits (right_bound o) p j ≡ b → (b || accepts k o.priority j) ≡ true → (accepts k o.priority j ≡ true → Taken s j k (two m u l) o.priority) → Taken s j (stack.InfixOf m o u ∷ k) l p
   go true f i r = taken-here s j (stack.InfixOf m o u ∷ k) l p h le f
   go false f i r =
       let t = r i in
       let v = over-infix s j k m o u l p le f in
-      record { below = t.below; tree = t.tree; priority = t.priority; kept = t.kept; low = t.low; fits = t.fits; back = λ ts goal q g. v.back ts goal q (t.back ts goal q g) }
+      record { below = t.below; tree = t.tree; priority = t.priority; bounds = t.bounds; low = t.low; fits = t.fits; back = λ ts goal q g. v.back ts goal q (t.back ts goal q g) }
 
 -- what completes an operand with the joint behind it
 record Joined (s : Setting) (a : Bool) (x : Lexeme) (k : List OpenFrame) (l : Tree) (p : ℕ) : Type 0 where
   pub more : List Token
   pub quiet : IsQuiet more
   pub goal : Tree
-  pub goes : CompletesAfter s k (token a x ∷ more) l p goal
+  pub continues : CompletesAfter s k (token a x ∷ more) l p goal
 
 joined : (s : Setting) (a : Bool) (x : Lexeme) (k : List OpenFrame) (l : Tree) (p : ℕ) → (j : PostOperator) → lexeme_post_operator s.ops x ≡ j → Taken s j k l p → Joined s a x k l p
 joined s a x k l p (Infix n o) e t =
-    let y = Due (stack.InfixOf n o t.tree ∷ t.below) in
-    let c = completes s y (fits-within (bound_of t.below) t.priority o t.fits, t.kept) tt in
+    let y = ExpectsOperand (stack.InfixOf n o t.tree ∷ t.below) in
+    let c = completes s y (fits-within (bound_of t.below) t.priority o t.fits, t.bounds) tt in
     let i = on-infix s.ops (bound_of t.below) t.priority (token a x ∷ completion y) (completion y) (token a x) n o refl e t.fits in
-    record { more = completion y; quiet = completion-quiet y; goal = c.0; goes = t.back (token a x ∷ completion y) c.0 e (went_infix s (token a x ∷ completion y) (completion y) n o t.tree t.priority i t.low c.1) }
+    record { more = completion y; quiet = completion-quiet y; goal = c.0; continues = t.back (token a x ∷ completion y) c.0 e (went_infix s (token a x ∷ completion y) (completion y) n o t.tree t.priority i t.low c.1) }
 joined s a x k l p (Postfix n o) e t =
-    let y = There t.below (one n t.tree) o.priority in
-    let c = completes s y t.kept (fits-within (bound_of t.below) t.priority o t.fits) in
+    let y = AfterOperand t.below (one n t.tree) o.priority in
+    let c = completes s y t.bounds (fits-within (bound_of t.below) t.priority o t.fits) in
     let i = on-postfix s.ops (bound_of t.below) t.priority (token a x ∷ completion y) (completion y) (token a x) n o refl e t.fits in
-    record { more = completion y; quiet = completion-quiet y; goal = c.0; goes = t.back (token a x ∷ completion y) c.0 e (went_postfix s (token a x ∷ completion y) (completion y) n o t.tree t.priority i t.low c.1) }
+    record { more = completion y; quiet = completion-quiet y; goal = c.0; continues = t.back (token a x ∷ completion y) c.0 e (went_postfix s (token a x ∷ completion y) (completion y) n o t.tree t.priority i t.low c.1) }
 joined s a x k l p Nothing e t = absurd (nothing_fits (bound_of t.below) t.priority t.fits) where
   nothing_fits : (b q : ℕ) → post_operator_fits b q Nothing ≡ true → ⊥
   nothing_fits b q i = cc
@@ -211,12 +211,12 @@ record JoinsName (ops : OperatorTable) (k : List OpenFrame) (y : Lexeme) : Type 
   pub sign : Bool
   pub name : List ℕ
   pub named : IsName y sign name
-  pub alone : joint_alone ops name ≡ true
+  pub alone : post_operator_alone ops name ≡ true
   pub takes : accepts k 0 (lexeme_post_operator ops y) ≡ true
 
 joins-name : (ops : OperatorTable) (k : List OpenFrame) (y : Lexeme) → lexeme_follows_atom ops k y ≡ true → JoinsName ops k y
-joins-name ops k (words.Name m) e = record { sign = is_minus_name m; name = m; named = (refl, refl); alone = and-left (joint_alone ops m) (accepts k 0 (named_post_operator ops m)) e; takes = and-right (joint_alone ops m) (accepts k 0 (named_post_operator ops m)) e }
-joins-name ops k (words.QuotedName m) e = record { sign = false; name = m; named = (refl, refl); alone = and-left (joint_alone ops m) (accepts k 0 (named_post_operator ops m)) e; takes = and-right (joint_alone ops m) (accepts k 0 (named_post_operator ops m)) e }
+joins-name ops k (words.Name m) e = record { sign = is_minus_name m; name = m; named = (refl, refl); alone = and-left (post_operator_alone ops m) (accepts k 0 (named_post_operator ops m)) e; takes = and-right (post_operator_alone ops m) (accepts k 0 (named_post_operator ops m)) e }
+joins-name ops k (words.QuotedName m) e = record { sign = false; name = m; named = (refl, refl); alone = and-left (post_operator_alone ops m) (accepts k 0 (named_post_operator ops m)) e; takes = and-right (post_operator_alone ops m) (accepts k 0 (named_post_operator ops m)) e }
 joins-name ops k y e = let z : ⊥ = cc in absurd z
 
 and-false : (x y : Bool) → x ≡ true → (x && y) ≡ false → y ≡ false
@@ -226,11 +226,11 @@ and-false false y e h = let z : ⊥ = cc in absurd z
 -- a token in front of which an operator may stand for itself or not is a name that joins, and no frame takes it
 not-joined : (s : Setting) (b : Bool) (y : Lexeme) (k : List OpenFrame) (n : List ℕ) (more us : List Token) (goal : Tree) → ends_operand_before s.ops y us ≡ false → ends_operand_before s.ops y more ≡ true → lexeme_follows_atom s.ops k y ≡ false → CompletesAfter s k (token b y ∷ more) (AtomTree n) 0 goal → ⊥
 not-joined s b (words.Name m) k n more us goal e f h g =
-    let alone = and-left (joint_alone s.ops m) (is_plain_name_before (is_minus_name m) more) (sym (joins-is s.ops m (words.Name m) more) ∙ f) in
-    takes-never s b (words.Name m) (is_minus_name m) m (refl, refl) k (AtomTree n) 0 more goal (and-false (joint_alone s.ops m) (accepts k 0 (named_post_operator s.ops m)) alone h) g
+    let alone = and-left (post_operator_alone s.ops m) (is_plain_name_before (is_minus_name m) more) (sym (joins-is s.ops m (words.Name m) more) ∙ f) in
+    takes-never s b (words.Name m) (is_minus_name m) m (refl, refl) k (AtomTree n) 0 more goal (and-false (post_operator_alone s.ops m) (accepts k 0 (named_post_operator s.ops m)) alone h) g
 not-joined s b (words.QuotedName m) k n more us goal e f h g =
-    let alone = and-left (joint_alone s.ops m) (is_plain_name_before false more) (sym (joins-is s.ops m (words.QuotedName m) more) ∙ f) in
-    takes-never s b (words.QuotedName m) false m (refl, refl) k (AtomTree n) 0 more goal (and-false (joint_alone s.ops m) (accepts k 0 (named_post_operator s.ops m)) alone h) g
+    let alone = and-left (post_operator_alone s.ops m) (is_plain_name_before false more) (sym (joins-is s.ops m (words.QuotedName m) more) ∙ f) in
+    takes-never s b (words.QuotedName m) false m (refl, refl) k (AtomTree n) 0 more goal (and-false (post_operator_alone s.ops m) (accepts k 0 (named_post_operator s.ops m)) alone h) g
 not-joined s b y k n more us goal e f h g = let z : ⊥ = cc in absurd z
 
 -- in front of a comma a prefix operator stands for itself
@@ -240,9 +240,9 @@ comma-alone ops b y c us e h = let z : ⊥ = cc in z
 
 -- ---- behind a prefix operator above the bound
 
-module _ (s : Setting) (text : List ℕ) (start at end : ℕ) (k : List OpenFrame) (d a : Bool) (x : Lexeme) (sign : Bool) (n : List ℕ) (o : Operator) (led : HasReadTo s text start (Due k) at d) (kept : IsWithinBounds k)
+module _ (s : Setting) (text : List ℕ) (start at end : ℕ) (k : List OpenFrame) (d a : Bool) (x : Lexeme) (sign : Bool) (n : List ℕ) (o : Operator) (read_to : HasReadTo s text start (ExpectsOperand k) at d) (bounds : IsWithinBounds k)
     (found : scanned (chars_from text at) ≡ ScannedTo (token a x) (chars_from text end)) (named : IsName x sign n) (pre : prefix_of s.ops n ≡ Some o) (high : bound_of k < o.priority)
-    (over : is_as_expected s.ops (looks.Over sign) (tokens_of (chars_from text end)) ≡ true) (no_end : is_end x ≡ false) where
+    (over : is_as_expected s.ops (looks.Accept sign) (tokens_of (chars_from text end)) ≡ true) (no_end : is_end x ≡ false) where
   abbrev first : Token
   first = token a x
 
@@ -252,8 +252,8 @@ module _ (s : Setting) (text : List ℕ) (start at end : ℕ) (k : List OpenFram
   here : tokens_of (chars_from text at) ≡ first ∷ left
   here = scans-tokens (onto found no_end none)
 
-  sure : (vs : List Token) → is_as_expected s.ops led.look (first ∷ vs) ≡ true
-  sure vs = presumed-alike s.ops led.look first left vs (prefix-never s.ops x sign n o named pre vs ∙ sym (prefix-never s.ops x sign n o named pre left)) (ap (is_as_expected s.ops led.look) (sym here) ∙ led.fits)
+  sure : (vs : List Token) → is_as_expected s.ops read_to.look (first ∷ vs) ≡ true
+  sure vs = presumed-alike s.ops read_to.look first left vs (prefix-never s.ops x sign n o named pre vs ∙ sym (prefix-never s.ops x sign n o named pre left)) (ap (is_as_expected s.ops read_to.look) (sym here) ∙ read_to.fits)
 
   plain-left : is_plain_name_before sign left ≡ true
   plain-left = and-left (is_plain_name_before sign left) (not (prefix_is_atom s.ops left)) over
@@ -261,11 +261,11 @@ module _ (s : Setting) (text : List ℕ) (start at end : ℕ) (k : List OpenFram
   alone-left : not (prefix_is_atom s.ops left) ≡ true
   alone-left = and-right (is_plain_name_before sign left) (not (prefix_is_atom s.ops left)) over
 
-  front : (vs : List Token) (goal : Tree) → CompletesOperand s [] ((led.read ++ first ∷ []) ++ vs) goal → CompletesOperand s k (first ∷ vs) goal
-  front vs goal w = led.to (first ∷ vs) goal (sure vs) (subst (λ ts. CompletesOperand s [] ts goal) (append_assoc led.read (first ∷ []) vs) w)
+  front : (vs : List Token) (goal : Tree) → CompletesOperand s [] ((read_to.read ++ first ∷ []) ++ vs) goal → CompletesOperand s k (first ∷ vs) goal
+  front vs goal w = read_to.to (first ∷ vs) goal (sure vs) (subst (λ ts. CompletesOperand s [] ts goal) (append_assoc read_to.read (first ∷ []) vs) w)
 
-  behind : (vs : List Token) (goal : Tree) → CompletesOperand s k (first ∷ vs) goal → CompletesOperand s [] ((led.read ++ first ∷ []) ++ vs) goal
-  behind vs goal w = subst (λ ts. CompletesOperand s [] ts goal) (sym (append_assoc led.read (first ∷ []) vs)) (led.back (first ∷ vs) goal (sure vs) w)
+  after : (vs : List Token) (goal : Tree) → CompletesOperand s k (first ∷ vs) goal → CompletesOperand s [] ((read_to.read ++ first ∷ []) ++ vs) goal
+  after vs goal w = subst (λ ts. CompletesOperand s [] ts goal) (sym (append_assoc read_to.read (first ∷ []) vs)) (read_to.back (first ∷ vs) goal (sure vs) w)
 
   -- it has no operand
   no-operand : (vs : List Token) (goal : Tree) → is_plain_name_before sign vs ≡ true → prefix_is_atom s.ops vs ≡ false → CompletesOperand s k (first ∷ vs) goal → ⊥
@@ -280,19 +280,19 @@ module _ (s : Setting) (text : List ℕ) (start at end : ℕ) (k : List OpenFram
   itself : (vs : List Token) (goal : Tree) → is_plain_name_before sign vs ≡ true → prefix_is_atom s.ops vs ≡ true → CompletesOperand s k (first ∷ vs) goal → CompletesAfter s k vs (AtomTree n) 0 goal
   itself vs goal e f w = takes_leaf s (first ∷ vs) vs (AtomTree n) (lone-alone s a x sign n o vs named pre e f) w
 
-  begins-alone : BeginsTerm s (led.read ++ first ∷ [])
+  begins-alone : BeginsTerm s (read_to.read ++ first ∷ [])
   begins-alone =
-      let c = closes s k kept (AtomTree n) 0 (omega arith) in
-      begins-more s (led.read ++ first ∷ []) (closing k) c.0 (behind (closing k) c.0 (by-itself (closing k) c.0 (quiet-plain sign (closing k) (closing-quiet k)) (closing-alone s.ops k) c.1))
+      let c = closes s k bounds (AtomTree n) 0 (omega arith) in
+      begins-more s (read_to.read ++ first ∷ []) (closing k) c.0 (after (closing k) c.0 (by-itself (closing k) c.0 (quiet-plain sign (closing k) (closing-quiet k)) (closing-alone s.ops k) c.1))
 
-  scans-first : Scans (chars_from text start) (led.read ++ first ∷ []) (chars_from text end)
-  scans-first = scans-then led.scans (onto found no_end none)
+  scans-first : Scans (chars_from text start) (read_to.read ++ first ∷ []) (chars_from text end)
+  scans-first = scans-then read_to.scans (onto found no_end none)
 
   pub high-none : scanned (chars_from text end) ≡ ScannedNone → IsStuck s text start end
   high-none e = record {
-    read = led.read ++ first ∷ [];
+    read = read_to.read ++ first ∷ [];
     scans = scans-first;
-    primary_of = begins-alone;
+    begins = begins-alone;
     ends = λ t us h more goal w. none_first left us t (tokens-none (chars_from text end) e) h;
     few = λ t us h m name o. none_first left us t (tokens-none (chars_from text end) e) h;
   }
@@ -323,12 +323,12 @@ module _ (s : Setting) (text : List ℕ) (start at end : ℕ) (k : List OpenFram
 
     pub high-here : lexeme_follows_atom s.ops k y ≡ false → IsStuck s text start end
     high-here e = record {
-      read = led.read ++ first ∷ [];
+      read = read_to.read ++ first ∷ [];
       scans = scans-first;
-      primary_of = begins-alone;
-      ends = λ u vs h more goal w. ends-here e more goal (front (t ∷ more) goal (subst (λ z. CompletesOperand s [] ((led.read ++ first ∷ []) ++ z ∷ more) goal) (same_first left us vs t u left-is h) w));
+      begins = begins-alone;
+      ends = λ u vs h more goal w. ends-here e more goal (front (t ∷ more) goal (subst (λ z. CompletesOperand s [] ((read_to.read ++ first ∷ []) ++ z ∷ more) goal) (same_first left us vs t u left-is h) w));
       few = λ u vs h m name o.
-          let g = many s (led.read ++ first ∷ []) vs u m name o in
+          let g = many s (read_to.read ++ first ∷ []) vs u m name o in
           comma-alone s.ops b y g.apart us (sym (same_first left us vs t u left-is h) ∙ g.comma) not-alone;
     }
 
@@ -336,20 +336,20 @@ module _ (s : Setting) (text : List ℕ) (start at end : ℕ) (k : List OpenFram
     pub high-next : lexeme_follows_atom s.ops k y ≡ true → IsStuck s text start last
     high-next e =
         let j = joins-name s.ops k y e in
-        let c = joined s b y k (AtomTree n) 0 (lexeme_post_operator s.ops y) refl (taken s (lexeme_post_operator s.ops y) k (AtomTree n) 0 kept (omega arith) j.takes) in
+        let c = joined s b y k (AtomTree n) 0 (lexeme_post_operator s.ops y) refl (taken s (lexeme_post_operator s.ops y) k (AtomTree n) 0 bounds (omega arith) j.takes) in
         let alone : prefix_is_atom s.ops (t ∷ c.more) ≡ true = ends-plain s.ops y j.sign j.name j.named c.more (quiet-plain j.sign c.more c.quiet) ∙ j.alone in
         let end_no = name_no_end y j.sign j.name j.named in
         record {
-          read = (led.read ++ first ∷ []) ++ t ∷ [];
+          read = (read_to.read ++ first ∷ []) ++ t ∷ [];
           scans = scans-then scans-first (onto next end_no none);
-          primary_of = begins-more s ((led.read ++ first ∷ []) ++ t ∷ []) c.more c.goal
-              (subst (λ ts. CompletesOperand s [] ts c.goal) (sym (append_assoc (led.read ++ first ∷ []) (t ∷ []) c.more)) (behind (t ∷ c.more) c.goal (by-itself (t ∷ c.more) c.goal (plain c.more) alone c.goes)));
+          begins = begins-more s ((read_to.read ++ first ∷ []) ++ t ∷ []) c.more c.goal
+              (subst (λ ts. CompletesOperand s [] ts c.goal) (sym (append_assoc (read_to.read ++ first ∷ []) (t ∷ []) c.more)) (after (t ∷ c.more) c.goal (by-itself (t ∷ c.more) c.goal (plain c.more) alone c.continues)));
           ends = λ u vs h more goal w.
               let is : us ≡ u ∷ vs = tails left us (tokens_of (chars_from text last)) t left-is (scans-tokens (onto next end_no none)) ∙ h in
               let f : ends_operand_before s.ops y (u ∷ more) ≡ false = next-alike s.ops y u more vs ∙ (ap (ends_operand_before s.ops y) (sym is) ∙ not-alone) in
-              no-operand (t ∷ u ∷ more) goal (plain (u ∷ more)) f (front (t ∷ u ∷ more) goal (subst (λ ts. CompletesOperand s [] ts goal) (append_assoc (led.read ++ first ∷ []) (t ∷ []) (u ∷ more)) w));
+              no-operand (t ∷ u ∷ more) goal (plain (u ∷ more)) f (front (t ∷ u ∷ more) goal (subst (λ ts. CompletesOperand s [] ts goal) (append_assoc (read_to.read ++ first ∷ []) (t ∷ []) (u ∷ more)) w));
           few = λ u vs h m name o.
-              let g = many s ((led.read ++ first ∷ []) ++ t ∷ []) vs u m name o in
+              let g = many s ((read_to.read ++ first ∷ []) ++ t ∷ []) vs u m name o in
               let is : us ≡ token g.apart words.Comma ∷ vs = tails left us (tokens_of (chars_from text last)) t left-is (scans-tokens (onto next end_no none)) ∙ (h ∙ ap (λ z. z ∷ vs) g.comma) in
               let joins : ends_operand_before s.ops y (token g.apart words.Comma ∷ vs) ≡ true = ends-plain s.ops y j.sign j.name j.named (token g.apart words.Comma ∷ vs) (quiet-plain j.sign (token g.apart words.Comma ∷ vs) (record { no_open = refl; no_count = refl })) ∙ j.alone in
               true_false (ends_operand_before s.ops y us) (ap (ends_operand_before s.ops y) is ∙ joins) not-alone;

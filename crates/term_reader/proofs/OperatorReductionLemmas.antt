@@ -8,12 +8,12 @@ use Rattle.au_model.specs.Syntax.PostOperators.{PostOperator, Nothing, right_bou
 use Rattle.au_model.specs.Syntax.Primaries.{Setting}
 use Rattle.au_term.specs.declared.cell.Cell.TheVariants.{Functor}
 use Rattle.term_reader.specs.Completion as stack
-use Rattle.term_reader.specs.Completion.{bound_of, CompletesAfter, CompletesFrame, goes, prefix, infixes}
+use Rattle.term_reader.specs.Completion.{bound_of, CompletesAfter, CompletesFrame, by_rest, prefix, infixes}
 use Rattle.term_reader.specs.LeftToRight.{Stop, next_operator}
 use Rattle.term_reader.specs.FrameShapes.{Shape, PrefixShape, InfixShape, frame_meant, shape_of, shapes_up, shape_bound, emitted_stack, HasNoOperatorOnTop}
 use Rattle.term_reader.specs.TermOutput.{emit_tree, emit_cell}
 use Rattle.term_reader.specs.OutputView.{IsOutputOf}
-use Rattle.term_reader.specs.Positions.{IsAtPosition, There}
+use Rattle.term_reader.specs.Positions.{IsAtPosition, AfterOperand}
 use Rattle.term_reader.specs.OperatorReductions.{first_post_operator, ReadSame, IsReducedOnce}
 use Rattle.term_reader.specs.declared.state.State.{State}
 use Rattle.term_reader.specs.declared.state.Frame.{Frame}
@@ -147,55 +147,55 @@ popped-bound k xs f e =
     let r = popped k xs f e in
     ap shape_bound (sym r.shape) ∙ (sym (top-bound r.top r.below) ∙ ap bound_of (sym r.is))
 
-over-prefix-at : (s : Setting) (j : PostOperator) (below : List stack.OpenFrame) (l : Tree) (p : ℕ) (old new : State) (n : List ℕ) (o : Operator) → IsAtPosition old (There (stack.PrefixOf n o ∷ below) l p)
-    → map frame_meant new.frames.items ≡ shapes_up below → IsOutputOf new.sheet (emit_cell (emit_tree (emitted_stack below) l) (Functor n 1)) → post_operator_fits (right_bound o) p j ≡ false
+over-prefix-at : (s : Setting) (j : PostOperator) (below : List stack.OpenFrame) (l : Tree) (p : ℕ) (old new : State) (n : List ℕ) (o : Operator) → IsAtPosition old (AfterOperand (stack.PrefixOf n o ∷ below) l p)
+    → map frame_meant new.frames.items ≡ shapes_up below → IsOutputOf new.output (emit_cell (emit_tree (emitted_stack below) l) (Functor n 1)) → post_operator_fits (right_bound o) p j ≡ false
     → IsReducedOnce s (stack.PrefixOf n o ∷ below) l p j new o.priority
-over-prefix-at s j below l p old new n o h e sheet fails = record {
+over-prefix-at s j below l p old new n o h e output fails = record {
   below = below;
   tree = one n l;
-  stands = record { shapes = e; sheet = sheet; kept = h.kept.1; low = h.kept.0 };
+  at_position = record { shapes = e; output = output; bounds = h.bounds.1; low = h.bounds.0 };
   same = over-prefix s j below n o l p h.low fails;
   apart = over-prefix s Nothing below n o l p h.low refl;
   nests = λ text start read n. n;
 }
 
-over-infix-at : (s : Setting) (j : PostOperator) (below : List stack.OpenFrame) (l m : Tree) (p : ℕ) (old new : State) (n : List ℕ) (o : Operator) → IsAtPosition old (There (stack.InfixOf n o m ∷ below) l p)
-    → map frame_meant new.frames.items ≡ shapes_up below → IsOutputOf new.sheet (emit_cell (emit_tree (emit_tree (emitted_stack below) m) l) (Functor n 2)) → post_operator_fits (right_bound o) p j ≡ false
+over-infix-at : (s : Setting) (j : PostOperator) (below : List stack.OpenFrame) (l m : Tree) (p : ℕ) (old new : State) (n : List ℕ) (o : Operator) → IsAtPosition old (AfterOperand (stack.InfixOf n o m ∷ below) l p)
+    → map frame_meant new.frames.items ≡ shapes_up below → IsOutputOf new.output (emit_cell (emit_tree (emit_tree (emitted_stack below) m) l) (Functor n 2)) → post_operator_fits (right_bound o) p j ≡ false
     → IsReducedOnce s (stack.InfixOf n o m ∷ below) l p j new o.priority
-over-infix-at s j below l m p old new n o h e sheet fails = record {
+over-infix-at s j below l m p old new n o h e output fails = record {
   below = below;
   tree = two n m l;
-  stands = record { shapes = e; sheet = sheet; kept = h.kept.1; low = h.kept.0 };
+  at_position = record { shapes = e; output = output; bounds = h.bounds.1; low = h.bounds.0 };
   same = over-infix s j below n o m l p h.low fails;
   apart = over-infix s Nothing below n o m l p h.low refl;
   nests = λ text start read n. n;
 }
 
 -- a prefix or infix operator is put over its operand
-pub plug-prefix : (s : Setting) (j : PostOperator) (k : List stack.OpenFrame) (l : Tree) (p : ℕ) (old new : State) (xs : List Frame) (f : Frame) (n : List ℕ) (o : Operator)
-    → IsAtPosition old (There k l p) → old.frames.items ≡ xs ++ f ∷ [] → frame_meant f ≡ PrefixShape n o → new.frames.items ≡ xs
-    → IsOutputOf new.sheet (emit_cell (emit_tree (emitted_stack k) l) (Functor n 1)) → post_operator_fits (bound_of k) p j ≡ false → IsReducedOnce s k l p j new o.priority
-plug-prefix s j k l p old new xs f n o h e q same sheet fails =
+pub reduce_top-prefix : (s : Setting) (j : PostOperator) (k : List stack.OpenFrame) (l : Tree) (p : ℕ) (old new : State) (xs : List Frame) (f : Frame) (n : List ℕ) (o : Operator)
+    → IsAtPosition old (AfterOperand k l p) → old.frames.items ≡ xs ++ f ∷ [] → frame_meant f ≡ PrefixShape n o → new.frames.items ≡ xs
+    → IsOutputOf new.output (emit_cell (emit_tree (emitted_stack k) l) (Functor n 1)) → post_operator_fits (bound_of k) p j ≡ false → IsReducedOnce s k l p j new o.priority
+reduce_top-prefix s j k l p old new xs f n o h e q same output fails =
     let r = popped k xs f (sym (ap (map frame_meant) e) ∙ h.shapes) in
     let is : k ≡ stack.PrefixOf n o ∷ r.below = r.is ∙ ap (λ x. x ∷ r.below) (prefix-top r.top n o (r.shape ∙ q)) in
     subst (λ m. IsReducedOnce s m l p j new o.priority) (sym is)
-    (over-prefix-at s j r.below l p old new n o (subst (λ m. IsAtPosition old (There m l p)) is h) (ap (map frame_meant) same ∙ r.rest)
-    (subst (λ m. IsOutputOf new.sheet (emit_cell (emit_tree (emitted_stack m) l) (Functor n 1))) is sheet) (subst (λ m. post_operator_fits (bound_of m) p j ≡ false) is fails))
+    (over-prefix-at s j r.below l p old new n o (subst (λ m. IsAtPosition old (AfterOperand m l p)) is h) (ap (map frame_meant) same ∙ r.rest)
+    (subst (λ m. IsOutputOf new.output (emit_cell (emit_tree (emitted_stack m) l) (Functor n 1))) is output) (subst (λ m. post_operator_fits (bound_of m) p j ≡ false) is fails))
 
-pub plug-infix : (s : Setting) (j : PostOperator) (k : List stack.OpenFrame) (l : Tree) (p : ℕ) (old new : State) (xs : List Frame) (f : Frame) (n : List ℕ) (o : Operator)
-    → IsAtPosition old (There k l p) → old.frames.items ≡ xs ++ f ∷ [] → frame_meant f ≡ InfixShape n o → new.frames.items ≡ xs
-    → IsOutputOf new.sheet (emit_cell (emit_tree (emitted_stack k) l) (Functor n 2)) → post_operator_fits (bound_of k) p j ≡ false → IsReducedOnce s k l p j new o.priority
-plug-infix s j k l p old new xs f n o h e q same sheet fails =
+pub reduce_top-infix : (s : Setting) (j : PostOperator) (k : List stack.OpenFrame) (l : Tree) (p : ℕ) (old new : State) (xs : List Frame) (f : Frame) (n : List ℕ) (o : Operator)
+    → IsAtPosition old (AfterOperand k l p) → old.frames.items ≡ xs ++ f ∷ [] → frame_meant f ≡ InfixShape n o → new.frames.items ≡ xs
+    → IsOutputOf new.output (emit_cell (emit_tree (emitted_stack k) l) (Functor n 2)) → post_operator_fits (bound_of k) p j ≡ false → IsReducedOnce s k l p j new o.priority
+reduce_top-infix s j k l p old new xs f n o h e q same output fails =
     let r = popped k xs f (sym (ap (map frame_meant) e) ∙ h.shapes) in
     let t = infix-top r.top n o (r.shape ∙ q) in
     let is : k ≡ stack.InfixOf n o t.0 ∷ r.below = r.is ∙ ap (λ x. x ∷ r.below) t.1 in
     subst (λ m. IsReducedOnce s m l p j new o.priority) (sym is)
-    (over-infix-at s j r.below l t.0 p old new n o (subst (λ m. IsAtPosition old (There m l p)) is h) (ap (map frame_meant) same ∙ r.rest)
-    (subst (λ m. IsOutputOf new.sheet (emit_cell (emit_tree (emitted_stack m) l) (Functor n 2))) is sheet) (subst (λ m. post_operator_fits (bound_of m) p j ≡ false) is fails))
+    (over-infix-at s j r.below l t.0 p old new n o (subst (λ m. IsAtPosition old (AfterOperand m l p)) is h) (ap (map frame_meant) same ∙ r.rest)
+    (subst (λ m. IsOutputOf new.output (emit_cell (emit_tree (emitted_stack m) l) (Functor n 2))) is output) (subst (λ m. post_operator_fits (bound_of m) p j ≡ false) is fails))
 
 -- the same frames again
-pub stands-again : (k : List stack.OpenFrame) (l : Tree) (p : ℕ) (old new : State) → IsAtPosition old (There k l p) → new.frames.items ≡ old.frames.items → new.sheet ≡ old.sheet → IsAtPosition new (There k l p)
-stands-again k l p old new h e f = record { shapes = ap (map frame_meant) e ∙ h.shapes; sheet = subst (λ d. IsOutputOf d (emit_tree (emitted_stack k) l)) (sym f) h.sheet; kept = h.kept; low = h.low }
+pub at_position-again : (k : List stack.OpenFrame) (l : Tree) (p : ℕ) (old new : State) → IsAtPosition old (AfterOperand k l p) → new.frames.items ≡ old.frames.items → new.output ≡ old.output → IsAtPosition new (AfterOperand k l p)
+at_position-again k l p old new h e f = record { shapes = ap (map frame_meant) e ∙ h.shapes; output = subst (λ d. IsOutputOf d (emit_tree (emitted_stack k) l)) (sym f) h.output; bounds = h.bounds; low = h.low }
 
 shut-top : (f : stack.OpenFrame) (x : Frame) → shape_of f ≡ frame_meant x → ((n : List ℕ) (o : DeclaredOperator) → x ≡ frame.Prefix n o → ⊥) → ((n : List ℕ) (o : DeclaredOperator) → x ≡ frame.Infix n o → ⊥)
     → (k : List stack.OpenFrame) → HasNoOperatorOnTop (f ∷ k)

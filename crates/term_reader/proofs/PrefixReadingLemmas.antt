@@ -10,8 +10,8 @@ use Rattle.au_model.specs.Syntax.Spelling.{Spelled, form, infixed, postfixed, Op
 use Rattle.term_reader.specs.Brackets.{Balanced}
 use Rattle.term_reader.specs.Lookahead.{is_as_expected}
 use Rattle.term_reader.proofs.PrimaryLemmas.{Kind, OfLeaf, OfBracket, OfCurly, OfListed, OfCall, OfPrefix, fill, Brackets, Opened, opened}
-use Rattle.term_reader.proofs.BracketLemmas.{Opens, Closes, IsNoBracket, balanced-plain, balanced-append, balanced-pair}
-use Rattle.term_reader.proofs.SameTokenLemmas.{Alike, alike-first, alike-behind, presumed-same, close-close, list-list, curly-curly, bar-bar, comma-comma}
+use Rattle.term_reader.proofs.BracketLemmas.{OpenRound, Closes, IsNoBracket, balanced-plain, balanced-append, balanced-pair}
+use Rattle.term_reader.proofs.SameTokenLemmas.{Alike, alike-first, alike-after, presumed-same, close-close, list-list, curly-curly, bar-bar, comma-comma}
 
 -- the tokens that are read
 pub record Front (s : Setting) (bound : ℕ) (Reads : List Token → List Token → Type 0) (ts us : List Token) : Type 0 where
@@ -40,7 +40,7 @@ record LastOpens (xs : List Token) : Type 0 where
   pub named : List Token
   pub apart : Bool
   pub bracket : Lexeme
-  pub opens : Opens bracket
+  pub opens : OpenRound bracket
   pub balanced : Balanced named
   pub is : xs ≡ named ++ token apart bracket ∷ []
 
@@ -60,11 +60,11 @@ last-call : (n : List ℕ) → OpensLast (OfCall n)
 last-call n xs b = record { named = b.named; apart = false; bracket = Open; opens = tt; balanced = b.balanced; is = b.is }
 
 -- a token that joins is no bracket
-pub joint-plain : (ops : OperatorTable) (x : Lexeme) → is_post_operator (lexeme_post_operator ops x) ≡ true → IsNoBracket x
-joint-plain ops (Name n) e d = refl
-joint-plain ops (QuotedName n) e d = refl
-joint-plain ops Comma e d = refl
-joint-plain ops x e d = let z : ⊥ = cc in absurd z
+pub post_operator-plain : (ops : OperatorTable) (x : Lexeme) → is_post_operator (lexeme_post_operator ops x) ≡ true → IsNoBracket x
+post_operator-plain ops (Name n) e d = refl
+post_operator-plain ops (QuotedName n) e d = refl
+post_operator-plain ops Comma e d = refl
+post_operator-plain ops x e d = let z : ⊥ = cc in absurd z
 
 bound_le : (b : Bool) (n : ℕ) → (if b then n else n - 1) ≤ n
 bound_le true n = omega arith
@@ -99,7 +99,7 @@ module _ (s : Setting) where
     is = ap (λ z. x ∷ z) (o.is ∙ (ap (λ z. o.over ++ z) i.is ∙ sym (append_assoc o.over i.front us)));
     balanced = i.balanced (x ∷ o.over) o.brackets;
     again = λ vs h.
-        let f : is_as_expected s.ops o.look (i.front ++ vs) ≡ true = sym (presumed-same s.ops bound (i.front ++ us) (i.front ++ vs) (alike-behind s.ops bound i.front us vs h) o.look) ∙ (ap (is_as_expected s.ops o.look) (sym i.is) ∙ o.fits) in
+        let f : is_as_expected s.ops o.look (i.front ++ vs) ≡ true = sym (presumed-same s.ops bound (i.front ++ us) (i.front ++ vs) (alike-after s.ops bound i.front us vs h) o.look) ∙ (ap (is_as_expected s.ops o.look) (sym i.is) ∙ o.fits) in
         let P : Primary → Type 0 = λ q. Form s q vs t p in
         let Q : List Token → Type 0 = λ ys. Spelled s ys vs t p in
         subst Q (sym (append_assoc (x ∷ o.over) i.front vs)) (form (subst P (sym (o.again (i.front ++ vs) f)) (i.again vs h)));
@@ -192,9 +192,9 @@ module _ (s : Setting) where
   infix-front bound ts us vs a x l r p n o j k f g = record {
     front = f.front ++ token a x ∷ g.front;
     is = split-twice ts f.front us g.front vs (token a x) f.is g.is;
-    balanced = balanced-joined f.front g.front a x (joint-plain s.ops x (ap is_post_operator j)) f.balanced g.balanced;
+    balanced = balanced-joined f.front g.front a x (post_operator-plain s.ops x (ap is_post_operator j)) f.balanced g.balanced;
     again = λ zs h.
-        let i = alike-behind s.ops bound g.front vs zs h in
+        let i = alike-after s.ops bound g.front vs zs h in
         let m = alike-first s.ops bound (token a x) us (g.front ++ zs) (ap has_direct_open g.is ∙ i.opens_same) (ap has_direct_integer g.is ∙ i.counts_same) in
         let P : List Token → Type 0 = λ ys. Spelled s ys zs (two n l r) o.priority in
         subst P (sym (append_assoc f.front (token a x ∷ g.front) zs)) (infixed (f.again (token a x ∷ g.front ++ zs) m) j k (g.again zs h));
@@ -205,7 +205,7 @@ module _ (s : Setting) where
   postfix-front bound ts us a x l p n o j k f = record {
     front = f.front ++ token a x ∷ [];
     is = split-twice ts f.front us [] us (token a x) f.is refl;
-    balanced = balanced-joined f.front [] a x (joint-plain s.ops x (ap is_post_operator j)) f.balanced (λ d. refl);
+    balanced = balanced-joined f.front [] a x (post_operator-plain s.ops x (ap is_post_operator j)) f.balanced (λ d. refl);
     again = λ zs h.
         let P : List Token → Type 0 = λ ys. Spelled s ys zs (one n l) o.priority in
         subst P (sym (append_assoc f.front (token a x ∷ []) zs)) (postfixed (f.again (token a x ∷ zs) (alike-first s.ops bound (token a x) us zs h.opens_same h.counts_same)) j k);

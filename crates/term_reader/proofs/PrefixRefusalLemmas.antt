@@ -8,14 +8,14 @@ use Rattle.token_scan.specs.ScannedParts.{IsPlaceFrom}
 use Rattle.op_table.specs.OperatorView.{operator_meant}
 use Rattle.term_reader.specs.Completion.{OpenFrame, bound_of}
 use Rattle.term_reader.specs.FrameShapes.{IsWithinBounds}
-use Rattle.term_reader.specs.Lookahead.{Over, is_as_expected, Scans, none, onto, IsName}
-use Rattle.term_reader.specs.Positions.{Due, HasReadTo}
+use Rattle.term_reader.specs.Lookahead.{Accept, is_as_expected, Scans, none, onto, IsName}
+use Rattle.term_reader.specs.Positions.{ExpectsOperand, HasReadTo}
 use Rattle.term_reader.specs.PrimaryView.{setting_of, tokens_at}
 use Rattle.term_reader.specs.LexemeView.{lexeme_meant, scan_meant, IsScan}
 use Rattle.term_reader.specs.Refusals.{IsStuck, IsPrefixAboveBound, lexeme_follows_atom, follower_end}
 use Rattle.term_reader.specs.declared.lexeme.Scan.{Scan}
 use Rattle.term_reader.specs.declared.lexeme.Scan.TheVariants.{Found, Bad, EndOfText}
-use Rattle.term_reader.specs.declared.opening.Source.{Source}
+use Rattle.term_reader.specs.declared.primary.Source.{Source}
 use Rattle.term_reader.proofs.ScannedTokenLemmas.{scans-tokens}
 use Rattle.term_reader.proofs.PrimaryLemmas.{OfPrefix, SoOpened, so-opened}
 use Rattle.term_reader.proofs.NoOperandLemmas.{high-none, high-here, high-next}
@@ -25,19 +25,19 @@ scan-one (onto e n none) = (e, n)
 
 -- the operator was found by its name
 record HighAt (source : Source) (start : ℕ) (k : List OpenFrame) (at end : ℕ) : Type 0 where
-  pub doubt : Bool
+  pub may_take_operand : Bool
   pub apart : Bool
   pub lexeme : Lexeme
   pub sign : Bool
   pub name : List ℕ
   pub operator : Operator
-  pub led : HasReadTo (setting_of source) source.text.now start (Due k) at doubt
-  pub kept : IsWithinBounds k
+  pub read_to : HasReadTo (setting_of source) source.text.now start (ExpectsOperand k) at may_take_operand
+  pub bounds : IsWithinBounds k
   pub found : scanned (chars_from source.text.now at) ≡ ScannedTo (token apart lexeme) (chars_from source.text.now end)
   pub named : IsName lexeme sign name
   pub prefix : prefix_of source.ops.now name ≡ Some operator
   pub high : bound_of k < operator.priority
-  pub over : is_as_expected source.ops.now (Over sign) (tokens_at source end) ≡ true
+  pub over : is_as_expected source.ops.now (Accept sign) (tokens_at source end) ≡ true
   pub no_end : is_end lexeme ≡ false
 
 module _ (source : Source) (start : ℕ) (k : List OpenFrame) (at end : ℕ) (h : IsPrefixAboveBound source start k at end) where
@@ -52,14 +52,14 @@ module _ (source : Source) (start : ℕ) (k : List OpenFrame) (at end : ℕ) (h 
       let i = so.lone in
       let one = scan-one (subst (λ ts. Scans (chars_from source.text.now at) (token a x ∷ ts) (chars_from source.text.now end)) i.3 scans) in
       record {
-        doubt = h.doubt;
+        may_take_operand = h.may_take_operand;
         apart = a;
         lexeme = x;
         sign = i.0;
         name = h.name;
         operator = o;
-        led = h.led;
-        kept = h.kept;
+        read_to = h.read_to;
+        bounds = h.bounds;
         found = one.0;
         named = i.1;
         prefix = i.2;
@@ -79,7 +79,7 @@ module _ (source : Source) (start : ℕ) (k : List OpenFrame) (at end : ℕ) (h 
       let g = high-at in
       let same : end_of ≡ last = cc in
       subst (λ m. IsStuck set source.text.now start m) same
-      (high-next set source.text.now start at end k g.doubt g.apart g.lexeme g.sign g.name g.operator g.led g.kept g.found g.named g.prefix g.high g.over g.no_end end_of b y n e)
+      (high-next set source.text.now start at end k g.may_take_operand g.apart g.lexeme g.sign g.name g.operator g.read_to g.bounds g.found g.named g.prefix g.high g.over g.no_end end_of b y n e)
   joined-found b y end_of last false e n i = let z : ⊥ = cc in absurd z
 
   other-found : (b : Bool) (y : Lexeme) (end_of : ℕ) (c : Bool) → lexeme_follows_atom source.ops.now k y ≡ c → scanned (chars_from source.text.now end) ≡ ScannedTo (token b y) (chars_from source.text.now end_of)
@@ -87,12 +87,12 @@ module _ (source : Source) (start : ℕ) (k : List OpenFrame) (at end : ℕ) (h 
   other-found b y end_of true e n i = let z : ⊥ = cc in absurd z
   other-found b y end_of false e n i =
       let g = high-at in
-      high-here set source.text.now start at end k g.doubt g.apart g.lexeme g.sign g.name g.operator g.led g.kept g.found g.named g.prefix g.high g.over g.no_end end_of b y n e
+      high-here set source.text.now start at end k g.may_take_operand g.apart g.lexeme g.sign g.name g.operator g.read_to g.bounds g.found g.named g.prefix g.high g.over g.no_end end_of b y n e
 
   nothing-found : scanned (chars_from source.text.now end) ≡ ScannedNone → IsStuck set source.text.now start end
   nothing-found e =
       let g = high-at in
-      high-none set source.text.now start at end k g.doubt g.apart g.lexeme g.sign g.name g.operator g.led g.kept g.found g.named g.prefix g.high g.over g.no_end e
+      high-none set source.text.now start at end k g.may_take_operand g.apart g.lexeme g.sign g.name g.operator g.read_to g.bounds g.found g.named g.prefix g.high g.over g.no_end e
 
   pub joined-stuck : (scan : Scan) (last : ℕ) → follower_end source.ops.now k scan ≡ Some last → scan_meant source.text.now scan ≡ scanned (chars_from source.text.now end) → IsStuck set source.text.now start last
   joined-stuck (Found t) last i e = joined-found t.apart (lexeme_meant t.lexeme) t.end last (lexeme_follows_atom source.ops.now k (lexeme_meant t.lexeme)) refl (sym e) i

@@ -8,9 +8,9 @@ use Rattle.au_model.specs.Terms.Forms.{nil_name, braces_name}
 use Rattle.au_model.specs.Syntax.Operators.{Operator, OperatorTable, prefix_of}
 use Rattle.au_model.specs.Syntax.Primaries.{Setting, Primary, Leaf, Bracket, Curly, Listed, Call, Prefix, Fails, has_direct_open, has_direct_integer, is_minus, is_minus_name, negative_of, tokens_after, negated, is_operator_here, ends_operand_before, prefix_is_atom, prefix_or_atom, name_primary, atom_primary, list_primary, curly_primary, primary_of}
 use Rattle.term_reader.specs.Brackets.{Balanced}
-use Rattle.term_reader.specs.Lookahead.{Lookahead, Free, Named, Lone, Over, InList, InCurly, closes_list, closes_curly, is_plain_name_before, is_as_expected, IsName}
+use Rattle.term_reader.specs.Lookahead.{Lookahead, Free, Named, Lone, Accept, InList, InCurly, closes_list, closes_curly, is_plain_name_before, is_as_expected, IsName}
 use Rattle.term_reader.proofs.FollowingTokenLemmas.{name-call, name-number, atom-call}
-use Rattle.term_reader.proofs.LookaheadLemmas.{joint_alone, and-left, and-right, and-both, joins-is, not-true}
+use Rattle.term_reader.proofs.LookaheadLemmas.{post_operator_alone, and-left, and-right, and-both, joins-is, not-true}
 
 -- an opening without the tokens behind it
 pub data Kind : Type 0 where
@@ -50,7 +50,7 @@ IsAlone ops x t _ over = (n : List ℕ) (b : Bool) → IsName x b n → t ≡ At
 
 abbrev pub IsAloneKind : OperatorTable → Token → Kind → Lookahead → List Token → Type 0
 IsAloneKind ops (token a x) (OfLeaf t) look over = IsAlone ops x t look over
-IsAloneKind ops (token a x) (OfPrefix n o) look over = (sign : Bool) × IsName x sign n × (prefix_of ops n ≡ Some o) × (over ≡ []) × (look ≡ Over sign)
+IsAloneKind ops (token a x) (OfPrefix n o) look over = (sign : Bool) × IsName x sign n × (prefix_of ops n ≡ Some o) × (over ≡ []) × (look ≡ Accept sign)
 IsAloneKind ops t k look over = Unit {0}
 
 -- the name of a compound in front of its bracket
@@ -108,7 +108,7 @@ pub plain-alike : (sign : Bool) (us vs : List Token) → has_direct_open us ≡ 
 plain-alike sign us vs e h = ap (λ z. not z && not (sign && has_direct_integer us)) e ∙ ap (λ z. not (has_direct_open vs) && not (sign && z)) h
 
 joins-same : (ops : OperatorTable) (n : List ℕ) (x : Lexeme) (us vs : List Token) → has_direct_open us ≡ has_direct_open vs → has_direct_integer us ≡ has_direct_integer vs → is_operator_here ops n x us ≡ is_operator_here ops n x vs
-joins-same ops n x us vs e h = joins-is ops n x us ∙ (ap (λ z. joint_alone ops n && z) (plain-alike (is_minus x) us vs e h) ∙ sym (joins-is ops n x vs))
+joins-same ops n x us vs e h = joins-is ops n x us ∙ (ap (λ z. post_operator_alone ops n && z) (plain-alike (is_minus x) us vs e h) ∙ sym (joins-is ops n x vs))
 
 pub ends-same : (ops : OperatorTable) (x : Lexeme) (us vs : List Token) → has_direct_open us ≡ has_direct_open vs → has_direct_integer us ≡ has_direct_integer vs → ends_operand_before ops x us ≡ ends_operand_before ops x vs
 ends-same ops (words.Name n) us vs e h = joins-same ops n (words.Name n) us vs e h
@@ -120,12 +120,12 @@ and-true true y e = e
 and-true false y e = refl
 
 -- a name's token in front of plain tokens
-pub ends-plain : (ops : OperatorTable) (x : Lexeme) (sign : Bool) (n : List ℕ) → IsName x sign n → (us : List Token) → is_plain_name_before sign us ≡ true → ends_operand_before ops x us ≡ joint_alone ops n
+pub ends-plain : (ops : OperatorTable) (x : Lexeme) (sign : Bool) (n : List ℕ) → IsName x sign n → (us : List Token) → is_plain_name_before sign us ≡ true → ends_operand_before ops x us ≡ post_operator_alone ops n
 ends-plain ops (words.Name m) sign n h us e =
     let g : is_minus_name m ≡ sign = ap is_minus_name h.0 ∙ sym h.1 in
-    joins-is ops m (words.Name m) us ∙ (and-true (joint_alone ops m) (is_plain_name_before (is_minus_name m) us) (ap (λ b. is_plain_name_before b us) g ∙ e) ∙ ap (joint_alone ops) h.0)
+    joins-is ops m (words.Name m) us ∙ (and-true (post_operator_alone ops m) (is_plain_name_before (is_minus_name m) us) (ap (λ b. is_plain_name_before b us) g ∙ e) ∙ ap (post_operator_alone ops) h.0)
 ends-plain ops (words.QuotedName m) sign n h us e =
-    joins-is ops m (words.QuotedName m) us ∙ (and-true (joint_alone ops m) (is_plain_name_before false us) (ap (λ b. is_plain_name_before b us) (sym h.1) ∙ e) ∙ ap (joint_alone ops) h.0)
+    joins-is ops m (words.QuotedName m) us ∙ (and-true (post_operator_alone ops m) (is_plain_name_before false us) (ap (λ b. is_plain_name_before b us) (sym h.1) ∙ e) ∙ ap (post_operator_alone ops) h.0)
 ends-plain ops x sign n h us e = absurd h
 
 pub name-begins : (s : Setting) (a : Bool) (x : Lexeme) (sign : Bool) (n : List ℕ) → IsName x sign n → (ts : List Token) → primary_of s (token a x ∷ ts) ≡ name_primary s.ops sign n ts
@@ -242,7 +242,7 @@ module _ (s : Setting) (a : Bool) (x : Lexeme) (sign : Bool) (n : List ℕ) (h :
     over = [];
     rest = ts;
     is = refl;
-    look = Over sign;
+    look = Accept sign;
     fits = and-both _ _ e (ap not g);
     now = name-begins s a x sign n h ts ∙ (name-plain s.ops sign n ts e ∙ over-begins s.ops n o ts p g);
     again = λ vs f. name-begins s a x sign n h vs ∙ (name-plain s.ops sign n vs (and-left _ _ f) ∙ over-begins s.ops n o vs p (not-true _ (and-right _ _ f)));
@@ -268,22 +268,22 @@ module _ (s : Setting) (a : Bool) (x : Lexeme) (sign : Bool) (n : List ℕ) (h :
 
 -- ---- brackets
 
-list-open : (vs : List Token) → not (closes_list vs) ≡ true → list_primary vs ≡ Listed vs
-list-open [] e = refl
-list-open (token a words.CloseList ∷ vs) e = let z : ⊥ = cc in absurd z
-list-open (token a x ∷ vs) e = refl
+list-push_frame : (vs : List Token) → not (closes_list vs) ≡ true → list_primary vs ≡ Listed vs
+list-push_frame [] e = refl
+list-push_frame (token a words.CloseList ∷ vs) e = let z : ⊥ = cc in absurd z
+list-push_frame (token a x ∷ vs) e = refl
 
-curly-open : (vs : List Token) → not (closes_curly vs) ≡ true → curly_primary vs ≡ Curly vs
-curly-open [] e = refl
-curly-open (token a words.CloseCurly ∷ vs) e = let z : ⊥ = cc in absurd z
-curly-open (token a x ∷ vs) e = refl
+curly-push_frame : (vs : List Token) → not (closes_curly vs) ≡ true → curly_primary vs ≡ Curly vs
+curly-push_frame [] e = refl
+curly-push_frame (token a words.CloseCurly ∷ vs) e = let z : ⊥ = cc in absurd z
+curly-push_frame (token a x ∷ vs) e = refl
 
 atom-plain : (n : List ℕ) (vs : List Token) → is_plain_name_before false vs ≡ true → atom_primary n vs ≡ Leaf (AtomTree n) vs
 atom-plain n vs e = ap (λ b. if b then Call n (tokens_after vs) else Leaf (AtomTree n) vs) (not-true (has_direct_open vs) (and-left (not (has_direct_open vs)) true e))
 
 module _ (s : Setting) (a : Bool) where
   list-more : (ts : List Token) → not (closes_list ts) ≡ true → Opened s (token a words.OpenList) ts
-  list-more ts e = record { kind = OfListed; over = []; rest = ts; is = refl; look = InList; fits = e; now = list-open ts e; again = λ vs f. list-open vs f; alone = λ vs f. refl; may = tt; lone = tt; brackets = (a, refl) }
+  list-more ts e = record { kind = OfListed; over = []; rest = ts; is = refl; look = InList; fits = e; now = list-push_frame ts e; again = λ vs f. list-push_frame vs f; alone = λ vs f. refl; may = tt; lone = tt; brackets = (a, refl) }
 
   list-atom : (b : Bool) (us : List Token) (c : Bool) → has_direct_open us ≡ c → Opened s (token a words.OpenList) (token b words.CloseList ∷ us)
   list-atom b us true e =
@@ -293,7 +293,7 @@ module _ (s : Setting) (a : Bool) where
       record { kind = OfLeaf (AtomTree nil_name); over = token b words.CloseList ∷ []; rest = us; is = refl; look = Named false; fits = rw e refl; now = atom-plain nil_name us (rw e refl); again = λ vs f. atom-plain nil_name vs f; alone = λ vs f. refl; may = tt; lone = λ m c h. absurd h; brackets = λ d. refl }
 
   curly-more : (ts : List Token) → not (closes_curly ts) ≡ true → Opened s (token a words.OpenCurly) ts
-  curly-more ts e = record { kind = OfCurly; over = []; rest = ts; is = refl; look = InCurly; fits = e; now = curly-open ts e; again = λ vs f. curly-open vs f; alone = λ vs f. refl; may = tt; lone = tt; brackets = (a, refl) }
+  curly-more ts e = record { kind = OfCurly; over = []; rest = ts; is = refl; look = InCurly; fits = e; now = curly-push_frame ts e; again = λ vs f. curly-push_frame vs f; alone = λ vs f. refl; may = tt; lone = tt; brackets = (a, refl) }
 
   curly-atom : (b : Bool) (us : List Token) (c : Bool) → has_direct_open us ≡ c → Opened s (token a words.OpenCurly) (token b words.CloseCurly ∷ us)
   curly-atom b us true e =

@@ -13,7 +13,7 @@ pub record Behind (ops : OperatorTable) (bound p : ℕ) (us vs : List Token) (o 
   pub apart : Bool
   pub w : Lexeme
   pub is : us ≡ token apart w ∷ vs
-  pub joint : lexeme_post_operator ops w ≡ j
+  pub post_operator : lexeme_post_operator ops w ≡ j
   pub low : p ≤ left_bound o
   pub within : o.priority ≤ bound
 
@@ -43,16 +43,16 @@ postfix_stop e = let k : ⊥ = cc in absurd k
 crossed : {n m : List ℕ} {o q : Operator} {us vs : List Token} {A : Type 0} → OnInfix n o vs ≡ OnPostfix m q us → A
 crossed e = let k : ⊥ = cc in absurd k
 
-infix-behind : (ops : OperatorTable) (bound p : ℕ) (us vs : List Token) (n : List ℕ) (o : Operator) → OnInfix n o vs ≡ next_operator ops bound p us → Behind ops bound p us vs o (Infix n o)
-infix-behind ops bound p [] vs n o e = infix_stop e
-infix-behind ops bound p (token a w ∷ us) vs n o e = go (lexeme_post_operator ops w) refl e
+infix-after : (ops : OperatorTable) (bound p : ℕ) (us vs : List Token) (n : List ℕ) (o : Operator) → OnInfix n o vs ≡ next_operator ops bound p us → Behind ops bound p us vs o (Infix n o)
+infix-after ops bound p [] vs n o e = infix_stop e
+infix-after ops bound p (token a w ∷ us) vs n o e = go (lexeme_post_operator ops w) refl e
   where
     found : (m : List ℕ) (q : Operator) → lexeme_post_operator ops w ≡ Infix m q → (x : Bool) → fits bound p q ≡ x → OnInfix n o vs ≡ (if x then OnInfix m q us else Stop) → Behind ops bound p (token a w ∷ us) vs o (Infix n o)
     found m q j false f g = infix_stop g
     found m q j true f g =
         let h = infix_is g in
         let k : fits bound p o ≡ true = ap (fits bound p) h.1 ∙ f in
-        record { apart = a; w = w; is = ap (λ z. token a w ∷ z) (sym h.2); joint = j ∙ rw (h.0, h.1) refl; low = fits-low bound p o k; within = fits-within bound p o k }
+        record { apart = a; w = w; is = ap (λ z. token a w ∷ z) (sym h.2); post_operator = j ∙ rw (h.0, h.1) refl; low = fits-low bound p o k; within = fits-within bound p o k }
 
     not_postfix : (m : List ℕ) (q : Operator) (x : Bool) → OnInfix n o vs ≡ (if x then OnPostfix m q us else Stop) → Behind ops bound p (token a w ∷ us) vs o (Infix n o)
     not_postfix m q true g = crossed g
@@ -63,16 +63,16 @@ infix-behind ops bound p (token a w ∷ us) vs n o e = go (lexeme_post_operator 
     go (Postfix m q) f g = not_postfix m q (fits bound p q) g
     go Nothing f g = infix_stop g
 
-postfix-behind : (ops : OperatorTable) (bound p : ℕ) (us vs : List Token) (n : List ℕ) (o : Operator) → OnPostfix n o vs ≡ next_operator ops bound p us → Behind ops bound p us vs o (Postfix n o)
-postfix-behind ops bound p [] vs n o e = postfix_stop e
-postfix-behind ops bound p (token a w ∷ us) vs n o e = go (lexeme_post_operator ops w) refl e
+postfix-after : (ops : OperatorTable) (bound p : ℕ) (us vs : List Token) (n : List ℕ) (o : Operator) → OnPostfix n o vs ≡ next_operator ops bound p us → Behind ops bound p us vs o (Postfix n o)
+postfix-after ops bound p [] vs n o e = postfix_stop e
+postfix-after ops bound p (token a w ∷ us) vs n o e = go (lexeme_post_operator ops w) refl e
   where
     found : (m : List ℕ) (q : Operator) → lexeme_post_operator ops w ≡ Postfix m q → (x : Bool) → fits bound p q ≡ x → OnPostfix n o vs ≡ (if x then OnPostfix m q us else Stop) → Behind ops bound p (token a w ∷ us) vs o (Postfix n o)
     found m q j false f g = postfix_stop g
     found m q j true f g =
         let h = postfix_is g in
         let k : fits bound p o ≡ true = ap (fits bound p) h.1 ∙ f in
-        record { apart = a; w = w; is = ap (λ z. token a w ∷ z) (sym h.2); joint = j ∙ rw (h.0, h.1) refl; low = fits-low bound p o k; within = fits-within bound p o k }
+        record { apart = a; w = w; is = ap (λ z. token a w ∷ z) (sym h.2); post_operator = j ∙ rw (h.0, h.1) refl; low = fits-low bound p o k; within = fits-within bound p o k }
 
     not_infix : (m : List ℕ) (q : Operator) (x : Bool) → OnPostfix n o vs ≡ (if x then OnInfix m q us else Stop) → Behind ops bound p (token a w ∷ us) vs o (Postfix n o)
     not_infix m q true g = crossed (sym g)
@@ -91,14 +91,14 @@ stop-postfix : (x : Bool) (n : List ℕ) (o : Operator) (us : List Token) → St
 stop-postfix true n o us e = postfix_stop (sym e)
 stop-postfix false n o us e = refl
 
-joint-stops : (bound p : ℕ) (j : PostOperator) (us : List Token) → Stop ≡ next_by_operator bound p j us → post_operator_fits bound p j ≡ false
-joint-stops bound p (Infix n o) us e = stop-infix (fits bound p o) n o us e
-joint-stops bound p (Postfix n o) us e = stop-postfix (fits bound p o) n o us e
-joint-stops bound p Nothing us e = refl
+post_operator-stops : (bound p : ℕ) (j : PostOperator) (us : List Token) → Stop ≡ next_by_operator bound p j us → post_operator_fits bound p j ≡ false
+post_operator-stops bound p (Infix n o) us e = stop-infix (fits bound p o) n o us e
+post_operator-stops bound p (Postfix n o) us e = stop-postfix (fits bound p o) n o us e
+post_operator-stops bound p Nothing us e = refl
 
 stops : (ops : OperatorTable) (bound p : ℕ) (us : List Token) → Stop ≡ next_operator ops bound p us → continues_with ops bound p us ≡ false
 stops ops bound p [] e = refl
-stops ops bound p (x ∷ us) e = joint-stops bound p (token_post_operator ops x) us e
+stops ops bound p (x ∷ us) e = post_operator-stops bound p (token_post_operator ops x) us e
 
 mutual
   pub operand_of : {s : Setting} {bound : ℕ} {ts us : List Token} {t : Tree} → ReadsOperand s bound ts us t → d.Operand s bound ts us t
@@ -108,13 +108,13 @@ mutual
       → (ts : List Token) (p : ℕ) → k ≡ next_operator s.ops bound p us → p ≤ bound → d.Spelled s ts us l p → d.Operand s bound ts vs t
   spelled_rest {s = s} {bound = bound} (stop {us = us}) ts p e le sp = d.operand sp le (stops s.ops bound p us e)
   spelled_rest {s = s} {bound = bound} (on_infix {us = us} {vs = vs} {l = l} {n = n} {o = o} w r) ts p e le sp =
-      let b = infix-behind s.ops bound p us vs n o e in
+      let b = infix-after s.ops bound p us vs n o e in
       let P : List Token → Type 0 = λ z. d.Spelled s ts z l p in
-      spelled_rest r ts o.priority refl b.within (d.infixed (subst P b.is sp) b.joint b.low (operand_of w))
+      spelled_rest r ts o.priority refl b.within (d.infixed (subst P b.is sp) b.post_operator b.low (operand_of w))
   spelled_rest {s = s} {bound = bound} (on_postfix {us = us} {vs = vs} {l = l} {n = n} {o = o} r) ts p e le sp =
-      let b = postfix-behind s.ops bound p us vs n o e in
+      let b = postfix-after s.ops bound p us vs n o e in
       let P : List Token → Type 0 = λ z. d.Spelled s ts z l p in
-      spelled_rest r ts o.priority refl b.within (d.postfixed (subst P b.is sp) b.joint b.low)
+      spelled_rest r ts o.priority refl b.within (d.postfixed (subst P b.is sp) b.post_operator b.low)
 
   pub form_of : {s : Setting} {k : Primary} {us : List Token} {t : Tree} {p : ℕ} → ReadsPrimary s k us t p → d.Form s k us t p
   form_of leaf = d.leaf

@@ -4,7 +4,7 @@ use Rattle.au_model.specs.Syntax.Tokens.{Token, token, Close, CloseList, CloseCu
 use Rattle.au_model.specs.Syntax.Operators.{OperatorTable}
 use Rattle.au_model.specs.Syntax.PostOperators.{comma, fits, continues_with}
 use Rattle.au_model.specs.Syntax.Primaries.{has_direct_open, has_direct_integer, prefix_is_atom}
-use Rattle.term_reader.specs.Lookahead.{Lookahead, Free, Named, Lone, Over, InList, InCurly, Joined, closes_list, closes_curly, is_plain_name_before, is_as_expected}
+use Rattle.term_reader.specs.Lookahead.{Lookahead, Free, Named, Lone, Accept, InList, InCurly, Joined, closes_list, closes_curly, is_plain_name_before, is_as_expected}
 use Rattle.term_reader.proofs.LookaheadLemmas.{list-first, curly-first}
 use Rattle.term_reader.proofs.PrimaryLemmas.{plain-alike, ends-same}
 
@@ -38,17 +38,17 @@ alike-first ops bound t us vs e f = record {
 }
 
 -- and with some
-pub alike-behind : (ops : OperatorTable) (bound : ℕ) (ys us vs : List Token) → Alike ops bound us vs → Alike ops bound (ys ++ us) (ys ++ vs)
-alike-behind ops bound [] us vs h = h
-alike-behind ops bound (t ∷ ys) us vs h =
-    let i = alike-behind ops bound ys us vs h in alike-first ops bound t (ys ++ us) (ys ++ vs) i.opens_same i.counts_same
+pub alike-after : (ops : OperatorTable) (bound : ℕ) (ys us vs : List Token) → Alike ops bound us vs → Alike ops bound (ys ++ us) (ys ++ vs)
+alike-after ops bound [] us vs h = h
+alike-after ops bound (t ∷ ys) us vs h =
+    let i = alike-after ops bound ys us vs h in alike-first ops bound t (ys ++ us) (ys ++ vs) i.opens_same i.counts_same
 
 pub presumed-same : (ops : OperatorTable) (bound : ℕ) (us vs : List Token) → Alike ops bound us vs → (look : Lookahead) → is_as_expected ops look us ≡ is_as_expected ops look vs
 presumed-same ops bound us vs h Free = refl
 presumed-same ops bound us vs h (Named sign) = plain-alike sign us vs h.opens_same h.counts_same
 presumed-same ops bound us vs h (Lone sign) =
     ap (λ z. z && prefix_is_atom ops us) (plain-alike sign us vs h.opens_same h.counts_same) ∙ ap (λ z. is_plain_name_before sign vs && z) h.alone_same
-presumed-same ops bound us vs h (Over sign) =
+presumed-same ops bound us vs h (Accept sign) =
     ap (λ z. z && not (prefix_is_atom ops us)) (plain-alike sign us vs h.opens_same h.counts_same) ∙ ap (λ z. is_plain_name_before sign vs && not z) h.alone_same
 presumed-same ops bound us vs h InList = ap not h.list_same
 presumed-same ops bound us vs h InCurly = ap not h.curly_same

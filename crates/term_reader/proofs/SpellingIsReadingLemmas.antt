@@ -26,14 +26,14 @@ next-postfix : (ops : OperatorTable) (bound p : ℕ) (a : Bool) (w : Lexeme) (us
     → lexeme_post_operator ops w ≡ Postfix n o → o.priority ≤ bound → p ≤ left_bound o → next_operator ops bound p (token a w ∷ us) ≡ OnPostfix n o us
 next-postfix ops bound p a w us n o j h k = rw j (rw (fits-true bound p o h k) refl)
 
-joint-stop : (bound p : ℕ) (j : PostOperator) (us : List Token) → post_operator_fits bound p j ≡ false → next_by_operator bound p j us ≡ Stop
-joint-stop bound p (Infix n o) us e = rw e refl
-joint-stop bound p (Postfix n o) us e = rw e refl
-joint-stop bound p Nothing us e = refl
+post_operator-stop : (bound p : ℕ) (j : PostOperator) (us : List Token) → post_operator_fits bound p j ≡ false → next_by_operator bound p j us ≡ Stop
+post_operator-stop bound p (Infix n o) us e = rw e refl
+post_operator-stop bound p (Postfix n o) us e = rw e refl
+post_operator-stop bound p Nothing us e = refl
 
 pub next-stop : (ops : OperatorTable) (bound p : ℕ) (us : List Token) → continues_with ops bound p us ≡ false → next_operator ops bound p us ≡ Stop
 next-stop ops bound p [] e = refl
-next-stop ops bound p (x ∷ us) e = joint-stop bound p (token_post_operator ops x) us e
+next-stop ops bound p (x ∷ us) e = post_operator-stop bound p (token_post_operator ops x) us e
 
 mutual
   pub climbs : {s : Setting} {bound : ℕ} {ts us vs : List Token} {l t : Tree} {p : ℕ}

@@ -2,7 +2,7 @@
 use Rattle.std.proofs.Common.{◌≡◌, ◌∙◌, ℕ, suc, pos, List, [], ◌∷◌, ◌++◌, map, length, refl, sym, ap, append_assoc, append-nil}
 use Rattle.au_term.specs.Term.{Term, VarTerm, IntTerm, AtomTerm, Compound, Terms, end, more, count}
 use Rattle.au_term.specs.PrefixOrder.{cells_of, all_cells, AreValidCells, IsTerm}
-use Rattle.au_term.proofs.WholeTermLemmas.{Leaves-term}
+use Rattle.au_term.proofs.WholeTermLemmas.{DueAfter-term}
 use Rattle.au_term.specs.declared.cell.Cell.{Cell}
 use Rattle.au_term.specs.declared.cell.Cell.TheVariants.{Int as IntCell, Atom as AtomCell, Functor}
 use Rattle.au_model.specs.Syntax.Trees.{Tree, VarTree, IntTree, AtomTree, CompoundTree, Trees, no_trees, more_trees, tree_count, list_name, code_list, char_list}
@@ -17,11 +17,11 @@ count-numbered vs (more_trees t ts) = ap suc (count-numbered (numbered vs t).1 t
 
 -- a sheet with a term behind it has the cells of the numbered term behind its arguments
 mutual
-  pub put-numbered : (s : TermOutput) (t : Tree) → emit_tree s t ≡ record { cells = s.cells ++ postorder (numbered s.variables t).0; variables = (numbered s.variables t).1 }
-  put-numbered s (VarTree n) = refl
-  put-numbered s (IntTree z) = refl
-  put-numbered s (AtomTree n) = refl
-  put-numbered s (CompoundTree n ts) =
+  pub emit-numbered : (s : TermOutput) (t : Tree) → emit_tree s t ≡ record { cells = s.cells ++ postorder (numbered s.variables t).0; variables = (numbered s.variables t).1 }
+  emit-numbered s (VarTree n) = refl
+  emit-numbered s (IntTree z) = refl
+  emit-numbered s (AtomTree n) = refl
+  emit-numbered s (CompoundTree n ts) =
       let r = all_numbered s.variables ts in
       ap (λ x. emit_cell x (Functor n (tree_count ts))) (puts-numbered s ts)
       ∙ (ap (λ (cs : List Cell). let out : TermOutput = record { cells = cs; variables = r.1 } in out) (append_assoc s.cells (all_postorder r.0) (Functor n (tree_count ts) ∷ []))
@@ -32,18 +32,18 @@ mutual
   puts-numbered s (more_trees t ts) =
       let r = numbered s.variables t in
       let q = all_numbered r.1 ts in
-      ap (λ x. emit_trees x ts) (put-numbered s t)
+      ap (λ x. emit_trees x ts) (emit-numbered s t)
       ∙ (puts-numbered (record { cells = s.cells ++ postorder r.0; variables = r.1 }) ts
       ∙ ap (λ (cs : List Cell). let out : TermOutput = record { cells = cs; variables = q.1 } in out) (append_assoc s.cells (postorder r.0) (all_postorder q.0)))
 
 -- lists
-pub put-codes : (s : TermOutput) (cs : List ℕ) → emit_lists (length cs) (emit_tree (emit_codes s cs) (AtomTree nil_name)) ≡ emit_tree s (code_list cs)
-put-codes s [] = refl
-put-codes s (c ∷ cs) = ap (λ x. emit_cell x (Functor list_name 2)) (put-codes (emit_cell s (IntCell (pos c))) cs)
+pub emit-codes : (s : TermOutput) (cs : List ℕ) → emit_lists (length cs) (emit_tree (emit_codes s cs) (AtomTree nil_name)) ≡ emit_tree s (code_list cs)
+emit-codes s [] = refl
+emit-codes s (c ∷ cs) = ap (λ x. emit_cell x (Functor list_name 2)) (emit-codes (emit_cell s (IntCell (pos c))) cs)
 
-pub put-chars : (s : TermOutput) (cs : List ℕ) → emit_lists (length cs) (emit_tree (emit_chars s cs) (AtomTree nil_name)) ≡ emit_tree s (char_list cs)
-put-chars s [] = refl
-put-chars s (c ∷ cs) = ap (λ x. emit_cell x (Functor list_name 2)) (put-chars (emit_cell s (AtomCell (c ∷ []))) cs)
+pub emit-chars : (s : TermOutput) (cs : List ℕ) → emit_lists (length cs) (emit_tree (emit_chars s cs) (AtomTree nil_name)) ≡ emit_tree s (char_list cs)
+emit-chars s [] = refl
+emit-chars s (c ∷ cs) = ap (λ x. emit_cell x (Functor list_name 2)) (emit-chars (emit_cell s (AtomCell (c ∷ []))) cs)
 
 pub put_codes-last : (s : TermOutput) (cs : List ℕ) (c : ℕ) → emit_codes s (cs ++ c ∷ []) ≡ emit_cell (emit_codes s cs) (IntCell (pos c))
 put_codes-last s [] c = refl
@@ -79,7 +79,7 @@ mutual
       sound-both (cells_of t) (all_cells ts) (sound-turned t (sound-front (postorder t) (all_postorder ts) h)) (all_sound-turned ts (sound-back (postorder t) (all_postorder ts) h))
 
 pub turned-term : (t : Term) → AreValidCells (postorder t) → IsTerm (cells_of t)
-turned-term t h = record { leaves = Leaves-term t; sound = sound-turned t h }
+turned-term t h = record { leaves = DueAfter-term t; sound = sound-turned t h }
 
 pub map_same : (xs : List ℕ) → map (λ x. x) xs ≡ xs
 map_same [] = refl

@@ -7,7 +7,7 @@ use Rattle.au_model.specs.Syntax.Quoted.{Part, StandsFor, StandsForNothing, Clos
 use Rattle.au_model.specs.Syntax.Numerals.{Numeral, NumeralThen, FloatingPoint, TooWide, WrongCharacter, numeral, decimal_numeral, digits_numeral, begins_fraction, named_base, based_numeral, character_numeral, character_escape, zero_numeral, or_numeral}
 use Rattle.au_model.specs.Syntax.Words.{Word, NameWord, QuotedWord, VariableWord, TextWord, Lexed, FoundWord, FoundFault, run_word, numeral_word, quoted_word, ends_term, word_at_front, word_after}
 use Rattle.au_model.specs.Syntax.Tokens.{Lexeme, Token, token, lexeme_of, Scanned, ScannedTo, ScannedNone, scanned_lexeme, scanned_word, scanned, Front, front_with, no_front, is_end, after_token, after_scanned, first_tokens, front}
-use Rattle.token_scan.proofs.RunLemmas.{length-behind_run}
+use Rattle.token_scan.proofs.RunLemmas.{length-after_run}
 use Rattle.token_scan.proofs.LayoutLemmas.{layout-within}
 use Rattle.token_scan.proofs.QuotedItemLemmas.{EndsWithin, escape-within, part-within}
 
@@ -29,12 +29,12 @@ width-less true n k rest lt = lt
 width-less false n k rest lt = tt
 
 digits-less : (base n : ℕ) (cs : List ℕ) → length cs < n → NumeralLess n (digits_numeral base cs)
-digits-less base n cs lt = width-less (nat_le (digits_value base (run (is_digit_of base) cs)) (2 ^ 63)) n _ (after_run (is_digit_of base) cs) (omega (arith, length-behind_run (is_digit_of base) cs))
+digits-less base n cs lt = width-less (nat_le (digits_value base (run (is_digit_of base) cs)) (2 ^ 63)) n _ (after_run (is_digit_of base) cs) (omega (arith, length-after_run (is_digit_of base) cs))
 
 decimal-less : (n c : ℕ) (cs : List ℕ) → is_digit_of 10 c ≡ true → length cs < n → NumeralLess n (decimal_numeral (c ∷ cs))
 decimal-less n c cs d lt = go (begins_fraction (after_run (is_digit_of 10) (c ∷ cs))) where
   short : length (after_run (is_digit_of 10) (c ∷ cs)) < n
-  short = rw d (omega (arith, length-behind_run (is_digit_of 10) cs))
+  short = rw d (omega (arith, length-after_run (is_digit_of 10) cs))
 
   go : (b : Bool) → NumeralLess n (if b then FloatingPoint else digits_numeral 10 (c ∷ cs))
   go true = tt
@@ -123,9 +123,9 @@ word-less : (c : ℕ) (cs : List ℕ) → LeavesLess (suc (length cs)) (word_at_
 word-less c cs =
     let n = suc (length cs) in
     let P : Lexed → Type 0 = LeavesLess n in
-    let name : P (run_word NameWord is_alphanumeric c cs) = omega (arith, length-behind_run is_alphanumeric cs) in
-    let variable : P (run_word VariableWord is_alphanumeric c cs) = omega (arith, length-behind_run is_alphanumeric cs) in
-    let symbol : P (run_word NameWord is_symbol c cs) = omega (arith, length-behind_run is_symbol cs) in
+    let name : P (run_word NameWord is_alphanumeric c cs) = omega (arith, length-after_run is_alphanumeric cs) in
+    let variable : P (run_word VariableWord is_alphanumeric c cs) = omega (arith, length-after_run is_alphanumeric cs) in
+    let symbol : P (run_word NameWord is_symbol c cs) = omega (arith, length-after_run is_symbol cs) in
     let here : length cs < n = omega arith in
     either P (is_small c) _ _ (λ _. name) (λ _.
     either P (starts_variable c) _ _ (λ _. variable) (λ _.
@@ -164,8 +164,8 @@ scanned-shorter cs rest t e = go (after_layout cs) refl where
       let f : ⊥ = cc in absurd f
 
 -- more tokens than characters make no difference
-after-same : (f g : List ℕ → Front) (t : Token) (rest : List ℕ) → f rest ≡ g rest → after_token f t rest ≡ after_token g t rest
-after-same f g (token a x) rest e = go (is_end x) where
+with_token-same : (f g : List ℕ → Front) (t : Token) (rest : List ℕ) → f rest ≡ g rest → after_token f t rest ≡ after_token g t rest
+with_token-same f g (token a x) rest e = go (is_end x) where
   go : (b : Bool) → (if b then front_with (token a x) (no_front rest) else front_with (token a x) (f rest)) ≡ (if b then front_with (token a x) (no_front rest) else front_with (token a x) (g rest))
   go true = refl
   go false = ap (front_with (token a x)) e
@@ -185,7 +185,7 @@ enough (suc m) zero (c ∷ cs) a b = absurd (omega arith)
 enough (suc m) (suc n) cs a b = go (scanned cs) refl (enough m n) where
   go : (s : Scanned) → scanned cs ≡ s → ((ds : List ℕ) → length ds ≤ m → length ds ≤ n → first_tokens m ds ≡ first_tokens n ds)
       → after_scanned (first_tokens m) cs s ≡ after_scanned (first_tokens n) cs s
-  go (ScannedTo t rest) e more = let l = scanned-shorter cs rest t e in after-same (first_tokens m) (first_tokens n) t rest (more rest (omega arith) (omega arith))
+  go (ScannedTo t rest) e more = let l = scanned-shorter cs rest t e in with_token-same (first_tokens m) (first_tokens n) t rest (more rest (omega arith) (omega arith))
   go ScannedNone e more = refl
 
 one_token : (n : ℕ) (cs : List ℕ) → n ≡ length cs → first_tokens n cs ≡ after_scanned front cs (scanned cs)
@@ -195,7 +195,7 @@ one_token zero (c ∷ cs) h = absurd (omega arith)
 one_token (suc n) cs h = go (scanned cs) refl where
   go : (s : Scanned) → scanned cs ≡ s → after_scanned (first_tokens n) cs s ≡ after_scanned front cs s
   go (ScannedTo t rest) e =
-      let l = scanned-shorter cs rest t e in after-same (first_tokens n) front t rest (enough n (length rest) rest (omega arith) (omega arith))
+      let l = scanned-shorter cs rest t e in with_token-same (first_tokens n) front t rest (enough n (length rest) rest (omega arith) (omega arith))
   go ScannedNone e = refl
 
 -- the first token, and then the rest

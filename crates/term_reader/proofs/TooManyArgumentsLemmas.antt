@@ -8,18 +8,18 @@ use Rattle.au_model.specs.Syntax.Spelling as d
 use Rattle.au_model.specs.Syntax.Trees.{Tree, Trees, VarTree, CompoundTree, no_trees, more_trees, tree_count}
 use Rattle.term_reader.specs.Brackets.{Balanced}
 use Rattle.term_reader.specs.FrameShapes.{IsWithinBounds, HasNoOperatorOnTop}
-use Rattle.term_reader.specs.Lookahead.{Lookahead, Free, Named, Lone, Over, InList, InCurly, Joined, is_as_expected}
+use Rattle.term_reader.specs.Lookahead.{Lookahead, Free, Named, Lone, Accept, InList, InCurly, Joined, is_as_expected}
 use Rattle.term_reader.specs.Nesting.{OpenSince, ReadsAfterRound, NestsIn}
-use Rattle.term_reader.specs.Positions.{Due}
+use Rattle.term_reader.specs.Positions.{ExpectsOperand}
 use Rattle.term_reader.specs.Completion as stack
-use Rattle.term_reader.specs.Completion.{OpenFrame, bound_of, trees_of, CompletesOperand, wants, CompletesAfter, round, argument}
+use Rattle.term_reader.specs.Completion.{OpenFrame, bound_of, trees_of, CompletesOperand, by_operand, CompletesAfter, round, argument}
 use Rattle.au_model.specs.Syntax.TextFaults.{Past, IsOneTooMany}
 use Rattle.term_reader.proofs.ReadingIsSpellingLemmas.{call_arguments}
 use Rattle.term_reader.proofs.SpellingIsReadingLemmas.{whole_of, arguments_of}
 use Rattle.term_reader.proofs.CompletionLemmas.{closing, closes, completion, completes}
-use Rattle.term_reader.proofs.HasReadLemmas.{get-behind}
+use Rattle.term_reader.proofs.HasReadLemmas.{get-after}
 use Rattle.term_reader.proofs.PrimaryLemmas.{ends-same}
-use Rattle.term_reader.proofs.BracketLemmas.{last-open, none-open, first-close}
+use Rattle.term_reader.proofs.BracketLemmas.{last-push_frame, none-push_frame, first-close}
 use Rattle.term_reader.proofs.ArgumentTokenLemmas.{arguments-front, arguments-term, past-arguments, past-term}
 use Rattle.term_reader.proofs.LongCompoundLemmas.{slice}
 use Rattle.term_reader.proofs.CompletionStepLemmas.{went_stop, arguments_in, arguments_out}
@@ -57,7 +57,7 @@ many s read us t m name h =
         closed = c.closed;
       };
       apart = c.apart;
-      comma = some-same t (token c.apart Comma) (sym (get-behind read us t) ∙ c.comma);
+      comma = some-same t (token c.apart Comma) (sym (get-after read us t) ∙ c.comma);
     }
 
 -- what is presumed of a comma is presumed of a bracket too
@@ -65,7 +65,7 @@ pub presumed-close : (ops : OperatorTable) (look : Lookahead) (a : Bool) (us vs 
 presumed-close ops Free a us vs e = refl
 presumed-close ops (Named sign) a us vs e = e
 presumed-close ops (Lone sign) a us vs e = e
-presumed-close ops (Over sign) a us vs e = e
+presumed-close ops (Accept sign) a us vs e = e
 presumed-close ops InList a us vs e = refl
 presumed-close ops InCurly a us vs e = refl
 presumed-close ops (Joined x) a us vs e = ends-same ops x (token false Close ∷ vs) (token a Comma ∷ us) refl refl ∙ e
@@ -81,57 +81,57 @@ IsFullStack _ = ⊥
 pub record Completes (s : Setting) (read : List Token) (t : Token) : Type 0 where
   pub more : List Token
   pub goal : Tree
-  pub wants : CompletesOperand s [] (read ++ t ∷ more) goal
+  pub completes : CompletesOperand s [] (read ++ t ∷ more) goal
 
 module _ (s : Setting) (text : List ℕ) (start : ℕ) where
   module _ (read : List Token) (f : FullInside s read) where
     -- it is the last one that is open
     here : (b : OpenSince Open read) → (b.inside ≡ f.inside) × (token b.apart Open ≡ token false Open)
-    here b = let e = last-open b.before f.before b.inside f.inside b.apart false Open Open tt tt b.balanced f.balanced (sym b.is ∙ f.is) in (e.2, e.1)
+    here b = let e = last-push_frame b.before f.before b.inside f.inside b.apart false Open Open tt tt b.balanced f.balanced (sym b.is ∙ f.is) in (e.2, e.1)
 
     not-curly : (b : OpenSince OpenCurly read) {A : Type 0} → A
     not-curly b =
-        let e = (last-open b.before f.before b.inside f.inside b.apart false OpenCurly Open tt tt b.balanced f.balanced (sym b.is ∙ f.is)).1 in
+        let e = (last-push_frame b.before f.before b.inside f.inside b.apart false OpenCurly Open tt tt b.balanced f.balanced (sym b.is ∙ f.is)).1 in
         let z : ⊥ = cc in absurd z
 
     not-list : (b : OpenSince OpenList read) {A : Type 0} → A
     not-list b =
-        let e = (last-open b.before f.before b.inside f.inside b.apart false OpenList Open tt tt b.balanced f.balanced (sym b.is ∙ f.is)).1 in
+        let e = (last-push_frame b.before f.before b.inside f.inside b.apart false OpenList Open tt tt b.balanced f.balanced (sym b.is ∙ f.is)).1 in
         let z : ⊥ = cc in absurd z
 
     not-none : Balanced read → {A : Type 0} → A
-    not-none h = absurd (none-open f.before f.inside false Open tt f.balanced (subst Balanced f.is h))
+    not-none h = absurd (none-push_frame f.before f.inside false Open tt f.balanced (subst Balanced f.is h))
 
     whole : (b : OpenSince Open read) (vs : List Token) → b.before ++ token b.apart Open ∷ (f.inside ++ vs) ≡ read ++ vs
     whole b vs = sym (append_assoc b.before (token b.apart Open ∷ f.inside) vs) ∙ ap (λ us. us ++ vs) (ap (λ us. b.before ++ token b.apart Open ∷ us) (sym (here b).0) ∙ sym b.is)
 
     from-bracket : (b : OpenSince Open read) (k : List OpenFrame) (t : Token) (more : List Token) (goal : Tree) → ReadsAfterRound s k b.before b.apart → CompletesOperand s k (f.inside ++ t ∷ more) goal → Completes s read t
-    from-bracket b k t more goal r w = record { more = more; goal = goal; wants = subst (λ us. CompletesOperand s [] us goal) (whole b (t ∷ more)) (r.back (f.inside ++ t ∷ more) goal w) }
+    from-bracket b k t more goal r w = record { more = more; goal = goal; completes = subst (λ us. CompletesOperand s [] us goal) (whole b (t ∷ more)) (r.back (f.inside ++ t ∷ more) goal w) }
 
     in-round : (k : List OpenFrame) → IsWithinBounds k → (us : List Token) → (a : Bool) (u : Tree) → d.Operand s 1200 us (token a Close ∷ closing k) u → (goal : Tree) × CompletesOperand s (stack.Round ∷ k) us goal
-    in-round k kept us a u o = let c = closes s k kept u 0 (omega arith) in (c.0, wants (whole_of o) (round c.1))
+    in-round k bounds us a u o = let c = closes s k bounds u 0 (omega arith) in (c.0, by_operand (whole_of o) (round c.1))
 
     round-close : (b : OpenSince Open read) (k : List OpenFrame) → IsWithinBounds k → ReadsAfterRound s (stack.Round ∷ k) b.before b.apart → Completes s read (token false Close)
-    round-close b k kept r =
+    round-close b k bounds r =
         let c = f.closed false (closing k) in
         let o = arguments-term s (f.inside ++ token false Close ∷ closing k) (closing k) c.0 c.2 in
-        let w = in-round k kept (f.inside ++ token false Close ∷ closing k) o.0 o.1 o.2 in
+        let w = in-round k bounds (f.inside ++ token false Close ∷ closing k) o.0 o.1 o.2 in
         from-bracket b (stack.Round ∷ k) (token false Close) (closing k) w.0 r w.1
 
     atom-operand : (k : List OpenFrame) → d.Operand s 999 (token true (Variable []) ∷ token false Close ∷ closing k) (token false Close ∷ closing k) (VarTree [])
     atom-operand k = d.operand (d.form d.leaf) (omega arith) refl
 
     round-comma : (b : OpenSince Open read) (k : List OpenFrame) (a : Bool) → IsWithinBounds k → ReadsAfterRound s (stack.Round ∷ k) b.before b.apart → Completes s read (token a Comma)
-    round-comma b k a kept r =
+    round-comma b k a bounds r =
         let more = token true (Variable []) ∷ token false Close ∷ closing k in
         let o = past-term s 65535 (f.inside ++ token a Comma ∷ more) more (closing k) false (VarTree []) (f.again a more) (atom-operand k) in
-        let w = in-round k kept (f.inside ++ token a Comma ∷ more) false o.0 o.1 in
+        let w = in-round k bounds (f.inside ++ token a Comma ∷ more) false o.0 o.1 in
         from-bracket b (stack.Round ∷ k) (token a Comma) more w.0 r w.1
 
     call-close : (b : OpenSince Open read) (k : List OpenFrame) (n : List ℕ) (w : ℕ) → IsWithinBounds k → ReadsAfterRound s (stack.ArgumentOf n w [] ∷ k) b.before b.apart → Completes s read (token false Close)
-    call-close b k n w kept r =
+    call-close b k n w bounds r =
         let c = f.closed false (closing k) in
-        let g = closes s k kept (CompoundTree n (trees_of [] c.0)) 0 (omega arith) in
+        let g = closes s k bounds (CompoundTree n (trees_of [] c.0)) 0 (omega arith) in
         let few : length {A = Tree} [] + tree_count c.0 ≤ 65535 = omega (arith, c.1) in
         from-bracket b (stack.ArgumentOf n w [] ∷ k) (token false Close) (closing k) g.0 r (arguments_in s [] (arguments_of c.2) few g.1)
 
@@ -150,28 +150,28 @@ module _ (s : Setting) (text : List ℕ) (start : ℕ) where
 
   -- a compound with fewer arguments takes the comma
   call-comma : (m : List ℕ) (w : ℕ) (ts : List Tree) (k : List OpenFrame) (l : Tree) (p : ℕ) (a : Bool) → IsWithinBounds k → p ≤ 999 → length ts < 65534 → (more : List Token) × (goal : Tree) × CompletesAfter s (stack.ArgumentOf m w ts ∷ k) (token a Comma ∷ more) l p goal
-  call-comma m w ts k l p a kept low lt =
-      let x = Due (stack.ArgumentOf m w (l ∷ ts) ∷ k) in
-      let c = completes s x (omega arith, kept) tt in
+  call-comma m w ts k l p a bounds low lt =
+      let x = ExpectsOperand (stack.ArgumentOf m w (l ∷ ts) ∷ k) in
+      let c = completes s x (omega arith, bounds) tt in
       (completion x, c.0, went_stop s (token a Comma ∷ completion x) l p refl low (argument lt c.1))
 
-  pub few-behind : (k : List OpenFrame) (read : List Token) (l : Tree) (p : ℕ) (a : Bool) → IsWithinBounds k → HasNoOperatorOnTop k → p ≤ bound_of k → NestsIn s text start read k → FullInside s read
+  pub few-after : (k : List OpenFrame) (read : List Token) (l : Tree) (p : ℕ) (a : Bool) → IsWithinBounds k → HasNoOperatorOnTop k → p ≤ bound_of k → NestsIn s text start read k → FullInside s read
       → ((more : List Token) (goal : Tree) → CompletesOperand s [] (read ++ token a Comma ∷ more) goal → ⊥) → ((more : List Token) (goal : Tree) → CompletesAfter s k (token a Comma ∷ more) l p goal → ⊥) → (IsFullStack k → ⊥) → ⊥
-  few-behind [] read l p a h i le n f ends refused spare = not-none read f n
-  few-behind (stack.Round ∷ k) read l p a h i le n f ends refused spare = let c = round-comma read f n.0 k a h n.1 in ends c.more c.goal c.wants
-  few-behind (stack.Braces ∷ k) read l p a h i le n f ends refused spare = not-curly read f n.0
-  few-behind (stack.ItemOf ts ∷ k) read l p a h i le n f ends refused spare = not-list read f n.0
-  few-behind (stack.TailOf ts ∷ k) read l p a h i le n f ends refused spare = not-list read f n.0
-  few-behind (stack.ArgumentOf m w ts ∷ k) read l p a h i le n f ends refused spare =
+  few-after [] read l p a h i le n f ends refused spare = not-none read f n
+  few-after (stack.Round ∷ k) read l p a h i le n f ends refused spare = let c = round-comma read f n.0 k a h n.1 in ends c.more c.goal c.completes
+  few-after (stack.Braces ∷ k) read l p a h i le n f ends refused spare = not-curly read f n.0
+  few-after (stack.ItemOf ts ∷ k) read l p a h i le n f ends refused spare = not-list read f n.0
+  few-after (stack.TailOf ts ∷ k) read l p a h i le n f ends refused spare = not-list read f n.0
+  few-after (stack.ArgumentOf m w ts ∷ k) read l p a h i le n f ends refused spare =
       let taken : length ts < 65534 → ⊥ = (λ lt. let g = call-comma m w ts k l p a h.1 le lt in refused g.0 g.1 g.2) in
       let full : 65534 ≤ length ts = omega (arith, taken) in
       spare full
-  few-behind (stack.PrefixOf m o ∷ k) read l p a h i le n f ends refused spare = i
-  few-behind (stack.InfixOf m o u ∷ k) read l p a h i le n f ends refused spare = i
+  few-after (stack.PrefixOf m o ∷ k) read l p a h i le n f ends refused spare = i
+  few-after (stack.InfixOf m o u ∷ k) read l p a h i le n f ends refused spare = i
 
   -- ---- the last argument
 
-  module _ (k : List OpenFrame) (name : List ℕ) (place : ℕ) (read : List Token) (a : Bool) (kept : IsWithinBounds k) (b : OpenSince Open read) (r : ReadsAfterRound s (stack.ArgumentOf name place [] ∷ k) b.before b.apart)
+  module _ (k : List OpenFrame) (name : List ℕ) (place : ℕ) (read : List Token) (a : Bool) (bounds : IsWithinBounds k) (b : OpenSince Open read) (r : ReadsAfterRound s (stack.ArgumentOf name place [] ∷ k) b.before b.apart)
       (ends : (more : List Token) (goal : Tree) → CompletesOperand s [] (read ++ token a Comma ∷ more) goal → ⊥) where
     seam : (vs : List Token) → read ++ vs ≡ b.before ++ token b.apart Open ∷ (b.inside ++ vs)
     seam vs = ap (λ us. us ++ vs) b.is ∙ append_assoc b.before (token b.apart Open ∷ b.inside) vs
@@ -182,7 +182,7 @@ module _ (s : Setting) (text : List ℕ) (start : ℕ) where
         let more = token true (Variable []) ∷ token false Close ∷ closing k in
         let last : d.Arguments s more (closing k) (more_trees (VarTree []) no_trees) = d.final {a = false} (d.operand (d.form d.leaf) (omega arith) refl) in
         let all = past-arguments s n (b.inside ++ token a Comma ∷ more) more (closing k) (more_trees (VarTree []) no_trees) (past more) last in
-        let g = closes s k kept (CompoundTree name (trees_of [] all.0)) 0 (omega arith) in
+        let g = closes s k bounds (CompoundTree name (trees_of [] all.0)) 0 (omega arith) in
         let few : length {A = Tree} [] + tree_count all.0 ≤ 65535 = omega (arith, all.1, lt) in
         let w = arguments_in s {k = k} {w = place} [] (arguments_of all.2) few g.1 in
         ends more g.0 (subst (λ us. CompletesOperand s [] us g.0) (sym (seam (token a Comma ∷ more))) (r.back (b.inside ++ token a Comma ∷ more) g.0 w))

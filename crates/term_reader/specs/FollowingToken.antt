@@ -9,11 +9,11 @@ use Rattle.term_reader.specs.Lookahead.{Scans}
 use Rattle.term_reader.specs.declared.lexeme.Closer.{Closer}
 use Rattle.term_reader.specs.declared.lexeme.Closer.TheVariants as closer
 use Rattle.term_reader.specs.declared.lexeme.Follow.{Follow}
-use Rattle.term_reader.specs.declared.lexeme.Follow.TheVariants.{Opens, Counts, ClosesList, ClosesCurly, Other}
+use Rattle.term_reader.specs.declared.lexeme.Follow.TheVariants.{OpenRound, Unsigned, ClosesList, ClosesCurly, Other}
 
 abbrev pub follow_of : Bool → words.Lexeme → ℕ → Follow
-follow_of apart words.Open end = if apart then Other else Opens end
-follow_of apart (words.Integer k) end = if apart then Other else Counts k end
+follow_of apart words.Open end = if apart then Other else OpenRound end
+follow_of apart (words.Integer k) end = if apart then Other else Unsigned k end
 follow_of apart words.CloseList end = ClosesList end
 follow_of apart words.CloseCurly end = ClosesCurly end
 follow_of apart _ end = Other
@@ -36,8 +36,8 @@ pub record NoneOfFourFollows (ts : List Token) : Type 0 where
 
 -- the first of these tokens, and those behind it
 abbrev pub IsFollowing : List ℕ → List Token → Follow → Type 0
-IsFollowing text ts (Opens end) = ts ≡ token false words.Open ∷ tokens_of (chars_from text end)
-IsFollowing text ts (Counts k end) = (ts ≡ token false (words.Integer k) ∷ tokens_of (chars_from text end)) × (k ≤ 2 ^ 63)
+IsFollowing text ts (OpenRound end) = ts ≡ token false words.Open ∷ tokens_of (chars_from text end)
+IsFollowing text ts (Unsigned k end) = (ts ≡ token false (words.Integer k) ∷ tokens_of (chars_from text end)) × (k ≤ 2 ^ 63)
 IsFollowing text ts (ClosesList end) = (a : Bool) × (ts ≡ token a words.CloseList ∷ tokens_of (chars_from text end))
 IsFollowing text ts (ClosesCurly end) = (a : Bool) × (ts ≡ token a words.CloseCurly ∷ tokens_of (chars_from text end))
 IsFollowing text ts Other = NoneOfFourFollows ts
@@ -49,8 +49,8 @@ pub record IsPlaceAfterTokens (text : List ℕ) (at end : ℕ) : Type 0 where
   pub scans : Scans (chars_from text at) over (chars_from text end)
 
 abbrev pub FollowingTokenEnds : List ℕ → ℕ → Follow → Type 0
-FollowingTokenEnds text at (Opens end) = IsPlaceAfterTokens text at end
-FollowingTokenEnds text at (Counts k end) = IsPlaceAfterTokens text at end
+FollowingTokenEnds text at (OpenRound end) = IsPlaceAfterTokens text at end
+FollowingTokenEnds text at (Unsigned k end) = IsPlaceAfterTokens text at end
 FollowingTokenEnds text at (ClosesList end) = IsPlaceAfterTokens text at end
 FollowingTokenEnds text at (ClosesCurly end) = IsPlaceAfterTokens text at end
 FollowingTokenEnds text at Other = Unit {0}

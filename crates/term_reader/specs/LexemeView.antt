@@ -10,8 +10,8 @@ use Rattle.au_model.specs.Syntax.Words.{next_word}
 use Rattle.au_model.specs.Syntax.TermTexts.{is_over}
 use Rattle.token_scan.specs.NextToken.{IsTokenFault}
 use Rattle.token_scan.specs.ScannedParts.{IsPlaceFrom}
-use Rattle.term_reader.specs.declared.joint.Joint.{Joint as DeclaredJoint}
-use Rattle.term_reader.specs.declared.joint.Joint.TheVariants.{Infix as JointInfix, Postfix as JointPostfix, Nothing as JointNothing}
+use Rattle.term_reader.specs.declared.post_operator.PostOperator.{PostOperator as DeclaredPostOperator}
+use Rattle.term_reader.specs.declared.post_operator.PostOperator.TheVariants.{Infix as PostOperatorInfix, Postfix as PostOperatorPostfix, Nothing as PostOperatorNothing}
 use Rattle.term_reader.specs.declared.lexeme.Lexeme.{Lexeme}
 use Rattle.term_reader.specs.declared.lexeme.Lexeme.TheVariants.{Name, QuotedName, Variable, Integer, Text, Open, Close, OpenList, CloseList, OpenCurly, CloseCurly, Comma, Bar, End}
 use Rattle.term_reader.specs.declared.lexeme.Scan.{Scan}
@@ -55,10 +55,10 @@ IsScan text at (Bad e) = IsTokenFault (next_word (chars_from text at)) text at e
 IsScan text at EndOfText = is_over (chars_from text at) ≡ true
 
 -- what a token behind an operand of this name joins it to
-abbrev pub post_operator_meant : List ℕ → DeclaredJoint → PostOperator
-post_operator_meant n (JointInfix o) = Infix n (operator_meant o)
-post_operator_meant n (JointPostfix o) = Postfix n (operator_meant o)
-post_operator_meant n JointNothing = Nothing
+abbrev pub post_operator_meant : List ℕ → DeclaredPostOperator → PostOperator
+post_operator_meant n (PostOperatorInfix o) = Infix n (operator_meant o)
+post_operator_meant n (PostOperatorPostfix o) = Postfix n (operator_meant o)
+post_operator_meant n PostOperatorNothing = Nothing
 
 -- the name of an operator that is no prefix one
 abbrev pub post_operator_name : words.Lexeme → List ℕ

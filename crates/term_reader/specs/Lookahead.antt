@@ -12,7 +12,7 @@ pub data Lookahead : Type 0 where
   Free : Lookahead
   Named : Bool → Lookahead
   Lone : Bool → Lookahead
-  Over : Bool → Lookahead
+  Accept : Bool → Lookahead
   InList : Lookahead
   InCurly : Lookahead
   Joined : Lexeme → Lookahead
@@ -32,7 +32,7 @@ abbrev pub is_as_expected : OperatorTable → Lookahead → List Token → Bool
 is_as_expected ops Free ts = true
 is_as_expected ops (Named sign) ts = is_plain_name_before sign ts
 is_as_expected ops (Lone sign) ts = is_plain_name_before sign ts && prefix_is_atom ops ts
-is_as_expected ops (Over sign) ts = is_plain_name_before sign ts && not (prefix_is_atom ops ts)
+is_as_expected ops (Accept sign) ts = is_plain_name_before sign ts && not (prefix_is_atom ops ts)
 is_as_expected ops InList ts = not (closes_list ts)
 is_as_expected ops InCurly ts = not (closes_curly ts)
 is_as_expected ops (Joined x) ts = ends_operand_before ops x ts
@@ -49,7 +49,7 @@ IsName (QuotedName m) sign n = (m ≡ n) × (sign ≡ false)
 IsName _ sign n = ⊥
 
 -- a prefix operator, and whether it may have an operand here
-pub record IsPrefixAsAtom (s : Setting) (k : List OpenFrame) (first : Token) (sign doubt : Bool) : Type 0 where
+pub record IsPrefixAsAtom (s : Setting) (k : List OpenFrame) (first : Token) (sign may_take_operand : Bool) : Type 0 where
   pub apart : Bool
   pub lexeme : Lexeme
   pub name : List ℕ
@@ -57,8 +57,8 @@ pub record IsPrefixAsAtom (s : Setting) (k : List OpenFrame) (first : Token) (si
   pub is : first ≡ token apart lexeme
   pub named : IsName lexeme sign name
   pub prefix : prefix_of s.ops name ≡ Some operator
-  pub may : doubt ≡ nat_le operator.priority (bound_of k)
+  pub may : may_take_operand ≡ nat_le operator.priority (bound_of k)
 
 abbrev pub MayTakeOperand : Setting → List OpenFrame → Token → List Token → Lookahead → Bool → Type 0
-MayTakeOperand s k first over (Lone sign) doubt = IsPrefixAsAtom s k first sign doubt × (over ≡ [])
-MayTakeOperand s k first over _ doubt = doubt ≡ false
+MayTakeOperand s k first over (Lone sign) may_take_operand = IsPrefixAsAtom s k first sign may_take_operand × (over ≡ [])
+MayTakeOperand s k first over _ may_take_operand = may_take_operand ≡ false

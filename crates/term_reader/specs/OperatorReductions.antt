@@ -8,10 +8,10 @@ use Rattle.au_model.specs.Syntax.Primaries.{Setting}
 use Rattle.term_reader.specs.Completion.{OpenFrame, CompletesAfter, bound_of}
 use Rattle.term_reader.specs.FrameShapes.{HasNoOperatorOnTop}
 use Rattle.term_reader.specs.Nesting.{NestsIn}
-use Rattle.term_reader.specs.Positions.{IsAtPosition, There}
+use Rattle.term_reader.specs.Positions.{IsAtPosition, AfterOperand}
 use Rattle.term_reader.specs.declared.state.State.{State}
-use Rattle.term_reader.specs.declared.state.Plug.{Plug}
-use Rattle.term_reader.specs.declared.state.Plug.TheVariants.{Over, Fits, Ends}
+use Rattle.term_reader.specs.declared.state.Reduced.{Reduced}
+use Rattle.term_reader.specs.declared.state.Reduced.TheVariants.{Accept, Fits, Ends}
 
 -- what the first token joins
 abbrev pub first_post_operator : OperatorTable → List Token → PostOperator
@@ -31,18 +31,18 @@ NestSame s k m = (text : List ℕ) (start : ℕ) (read : List Token) → NestsIn
 pub record IsReducedOnce (s : Setting) (k : List OpenFrame) (l : Tree) (p : ℕ) (j : PostOperator) (st : State) (q : ℕ) : Type 0 where
   pub below : List OpenFrame
   pub tree : Tree
-  pub stands : IsAtPosition st (There below tree q)
+  pub at_position : IsAtPosition st (AfterOperand below tree q)
   pub same : ReadSame s j k l p below tree q
   pub apart : ReadSame s Nothing k l p below tree q
   pub nests : NestSame s k below
 
-abbrev pub IsReduceOutcome : Setting → List OpenFrame → Tree → ℕ → PostOperator → State → Plug → Type 0
-IsReduceOutcome s k l p j st (Over q) = IsReducedOnce s k l p j st q
-IsReduceOutcome s k l p j st Fits = IsAtPosition st (There k l p) × (post_operator_fits (bound_of k) p j ≡ true)
-IsReduceOutcome s k l p j st Ends = IsAtPosition st (There k l p) × (post_operator_fits (bound_of k) p j ≡ false) × HasNoOperatorOnTop k
+abbrev pub IsReduceOutcome : Setting → List OpenFrame → Tree → ℕ → PostOperator → State → Reduced → Type 0
+IsReduceOutcome s k l p j st (Accept q) = IsReducedOnce s k l p j st q
+IsReduceOutcome s k l p j st Fits = IsAtPosition st (AfterOperand k l p) × (post_operator_fits (bound_of k) p j ≡ true)
+IsReduceOutcome s k l p j st Ends = IsAtPosition st (AfterOperand k l p) × (post_operator_fits (bound_of k) p j ≡ false) × HasNoOperatorOnTop k
 
-abbrev pub IsFewer : Plug → ℕ → ℕ → Type 0
-IsFewer (Over q) m n = n + 1 ≡ m
+abbrev pub IsFewer : Reduced → ℕ → ℕ → Type 0
+IsFewer (Accept q) m n = n + 1 ≡ m
 IsFewer _ m n = Unit {0}
 
 -- nothing is left to be put over the operand; a joint goes on behind it, or none is open
@@ -53,7 +53,7 @@ IsFullyReduced k q j false = (post_operator_fits (bound_of k) q j ≡ false) × 
 pub record IsReducedBefore (s : Setting) (k : List OpenFrame) (l : Tree) (p : ℕ) (j : PostOperator) (st : State) (q : ℕ) (fits : Bool) : Type 0 where
   pub below : List OpenFrame
   pub tree : Tree
-  pub stands : IsAtPosition st (There below tree q)
+  pub at_position : IsAtPosition st (AfterOperand below tree q)
   pub same : ReadSame s j k l p below tree q
   pub apart : ReadSame s Nothing k l p below tree q
   pub nests : NestSame s k below

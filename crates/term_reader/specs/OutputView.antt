@@ -9,7 +9,7 @@ use Rattle.au_model.specs.Syntax.VariableNumbers.{number_of}
 use Rattle.term_reader.specs.TermOutput as sheets
 use Rattle.au_model.specs.Terms.Named.{variable_meant}
 use Rattle.term_reader.specs.declared.variables.Variables.{Variables}
-use Rattle.term_reader.specs.declared.sheet.Sheet.{Sheet}
+use Rattle.term_reader.specs.declared.output.TermOutput.{TermOutput}
 
 -- the named variables and the next number are these, and the map finds the names
 pub record IsVariablesOf (v : Variables) (vs : numbers.Variables) : Type 0 where
@@ -20,7 +20,7 @@ pub record IsVariablesOf (v : Variables) (vs : numbers.Variables) : Type 0 where
   pub below : (n : List ℕ) (k : ℕ) → number_of vs.named n ≡ Some k → k < vs.next
 
 -- the cells and the variables are these
-pub record IsOutputOf (d : Sheet) (s : sheets.TermOutput) : Type 0 where
+pub record IsOutputOf (d : TermOutput) (s : sheets.TermOutput) : Type 0 where
   pub cells : d.cells.items ≡ s.cells
   pub sound : AreValidCells s.cells
   pub variables : IsVariablesOf d.variables s.variables

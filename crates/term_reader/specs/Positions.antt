@@ -4,7 +4,7 @@ use Rattle.au_model.specs.Syntax.Characters.{chars_from}
 use Rattle.au_model.specs.Syntax.Tokens.{Token, front, tokens_of}
 use Rattle.au_model.specs.Syntax.Trees.{Tree}
 use Rattle.au_model.specs.Syntax.Primaries.{Setting, prefix_is_atom}
-use Rattle.term_reader.specs.Lookahead.{Lookahead, Free, Lone, Over as OverOperand, InList, InCurly, is_as_expected, Scans, IsPrefixAsAtom, MayTakeOperand}
+use Rattle.term_reader.specs.Lookahead.{Lookahead, Free, Lone, Accept as OverOperand, InList, InCurly, is_as_expected, Scans, IsPrefixAsAtom, MayTakeOperand}
 use Rattle.token_scan.specs.ScannedParts.{IsPlaceFrom}
 use Rattle.term_reader.specs.Completion.{OpenFrame, CompletesOperand, CompletesAfter, bound_of}
 use Rattle.term_reader.specs.Nesting.{NestsIn}
@@ -12,41 +12,41 @@ use Rattle.term_reader.specs.TermOutput.{TermOutput, no_cells, emit_tree}
 use Rattle.term_reader.specs.OutputView.{IsOutputOf}
 use Rattle.term_reader.specs.FrameShapes.{frame_meant, shapes_up, emitted_stack, IsWithinBounds}
 use Rattle.term_reader.specs.declared.state.State.{State}
-use Rattle.term_reader.specs.declared.steps.Turn.{Turn}
-use Rattle.term_reader.specs.declared.steps.Turn.TheVariants.{On, Over, Refused}
+use Rattle.term_reader.specs.declared.steps.Step.{Step}
+use Rattle.term_reader.specs.declared.steps.Step.TheVariants.{Continue, Accept, Refused}
 
 -- an operand is due, or this one stands there and has this priority
 pub data Position : Type 0 where
-  Due : List OpenFrame → Position
-  There : List OpenFrame → Tree → ℕ → Position
+  ExpectsOperand : List OpenFrame → Position
+  AfterOperand : List OpenFrame → Tree → ℕ → Position
 
 -- these tokens complete it to the term
 abbrev pub Completes : Setting → Position → List Token → Tree → Type 0
-Completes s (Due k) ts goal = CompletesOperand s k ts goal
-Completes s (There k l p) ts goal = CompletesAfter s k ts l p goal
+Completes s (ExpectsOperand k) ts goal = CompletesOperand s k ts goal
+Completes s (AfterOperand k l p) ts goal = CompletesAfter s k ts l p goal
 
 abbrev pub stack_of : Position → List OpenFrame
-stack_of (Due k) = k
-stack_of (There k l p) = k
+stack_of (ExpectsOperand k) = k
+stack_of (AfterOperand k l p) = k
 
 abbrev pub output_at : Position → TermOutput
-output_at (Due k) = emitted_stack k
-output_at (There k l p) = emit_tree (emitted_stack k) l
+output_at (ExpectsOperand k) = emitted_stack k
+output_at (AfterOperand k l p) = emit_tree (emitted_stack k) l
 
 abbrev pub IsWithinBound : Position → Type 0
-IsWithinBound (Due k) = Unit {0}
-IsWithinBound (There k l p) = p ≤ bound_of k
+IsWithinBound (ExpectsOperand k) = Unit {0}
+IsWithinBound (AfterOperand k l p) = p ≤ bound_of k
 
 -- the priority of the operand, where one stands there
 abbrev pub priority_of_operand : Position → Option ℕ
-priority_of_operand (Due k) = None
-priority_of_operand (There k l p) = Some p
+priority_of_operand (ExpectsOperand k) = None
+priority_of_operand (AfterOperand k l p) = Some p
 
 -- the state is that of a position
 pub record IsAtPosition (st : State) (x : Position) : Type 0 where
   pub shapes : map frame_meant st.frames.items ≡ shapes_up (stack_of x)
-  pub sheet : IsOutputOf st.sheet (output_at x)
-  pub kept : IsWithinBounds (stack_of x)
+  pub output : IsOutputOf st.output (output_at x)
+  pub bounds : IsWithinBounds (stack_of x)
   pub low : IsWithinBound x
 
 abbrev pub rest_at : List ℕ → ℕ → List ℕ
@@ -54,10 +54,10 @@ rest_at text at = (front (chars_from text at)).rest
 
 -- what may be presumed at a position
 abbrev pub SuitsLookahead : Position → Lookahead → Type 0
-SuitsLookahead (Due k) (Lone sign) = ⊥
-SuitsLookahead (There k l p) (OverOperand sign) = ⊥
-SuitsLookahead (There k l p) InList = ⊥
-SuitsLookahead (There k l p) InCurly = ⊥
+SuitsLookahead (ExpectsOperand k) (Lone sign) = ⊥
+SuitsLookahead (AfterOperand k l p) (OverOperand sign) = ⊥
+SuitsLookahead (AfterOperand k l p) InList = ⊥
+SuitsLookahead (AfterOperand k l p) InCurly = ⊥
 SuitsLookahead _ _ = Unit {0}
 
 -- these tokens lead to the new position, where they stand behind others that were read up to here and nest in the stack
@@ -72,14 +72,14 @@ NestsAfterToken s text k first new = (start : ℕ) (read : List Token) → Nests
 
 -- The beginning of an operand presumes something of the tokens behind it; a token behind an operand does not.
 abbrev pub IsStepFrom : Setting → List ℕ → ℕ → Position → Position → Token → List Token → List Token → Lookahead → Bool → Type 0
-IsStepFrom s text at (Due k) new first over us look doubt =
-    ((vs : List Token) → is_as_expected s.ops look vs ≡ true → prefix_is_atom s.ops (first ∷ over ++ vs) ≡ prefix_is_atom s.ops (first ∷ over ++ us)) × SuitsLookahead new look × MayTakeOperand s k first over look doubt
+IsStepFrom s text at (ExpectsOperand k) new first over us look may_take_operand =
+    ((vs : List Token) → is_as_expected s.ops look vs ≡ true → prefix_is_atom s.ops (first ∷ over ++ vs) ≡ prefix_is_atom s.ops (first ∷ over ++ us)) × SuitsLookahead new look × MayTakeOperand s k first over look may_take_operand
     × NestsAfterPrimary s text at k (first ∷ over) look new
-IsStepFrom s text at (There k l p) new first over us look doubt = (over ≡ []) × (look ≡ Free) × (doubt ≡ false) × NestsAfterToken s text k first (stack_of new)
+IsStepFrom s text at (AfterOperand k l p) new first over us look may_take_operand = (over ≡ []) × (look ≡ Free) × (may_take_operand ≡ false) × NestsAfterToken s text k first (stack_of new)
 
 -- A step over some tokens: whatever comes behind them, if it is as presumed, is read at the old position together
 -- with them just as it is at the new one.
-pub record LeadsTo (s : Setting) (text : List ℕ) (old : Position) (at : ℕ) (new : Position) (end : ℕ) (doubt : Bool) : Type 0 where
+pub record LeadsTo (s : Setting) (text : List ℕ) (old : Position) (at : ℕ) (new : Position) (end : ℕ) (may_take_operand : Bool) : Type 0 where
   pub first : Token
   pub over : List Token
   pub scans : Scans (chars_from text at) (first ∷ over) (chars_from text end)
@@ -87,32 +87,32 @@ pub record LeadsTo (s : Setting) (text : List ℕ) (old : Position) (at : ℕ) (
   pub fits : is_as_expected s.ops look (tokens_of (chars_from text end)) ≡ true
   pub to : (vs : List Token) (goal : Tree) → is_as_expected s.ops look vs ≡ true → Completes s old (first ∷ over ++ vs) goal → Completes s new vs goal
   pub back : (vs : List Token) (goal : Tree) → is_as_expected s.ops look vs ≡ true → Completes s new vs goal → Completes s old (first ∷ over ++ vs) goal
-  pub step : IsStepFrom s text at old new first over (tokens_of (chars_from text end)) look doubt
+  pub step : IsStepFrom s text at old new first over (tokens_of (chars_from text end)) look may_take_operand
 
-pub record HasMoved (s : Setting) (text : List ℕ) (old : Position) (at : ℕ) (st : State) (phase : Option ℕ) (doubt : Bool) : Type 0 where
+pub record HasMoved (s : Setting) (text : List ℕ) (old : Position) (at : ℕ) (st : State) (phase : Option ℕ) (may_take_operand : Bool) : Type 0 where
   pub new : Position
-  pub stands : IsAtPosition st new
+  pub at_position : IsAtPosition st new
   pub phase_is : phase ≡ priority_of_operand new
-  pub leads : LeadsTo s text old at new st.at doubt
+  pub leads : LeadsTo s text old at new st.at may_take_operand
 
 -- where a prefix operator was read that stands for itself
-pub record PrefixAtomBefore (s : Setting) (read : List Token) (sign doubt : Bool) : Type 0 where
+pub record PrefixAtomBefore (s : Setting) (read : List Token) (sign may_take_operand : Bool) : Type 0 where
   pub stack : List OpenFrame
-  pub kept : IsWithinBounds stack
+  pub bounds : IsWithinBounds stack
   pub before : List Token
   pub first : Token
   pub is : read ≡ before ++ first ∷ []
-  pub lone : IsPrefixAsAtom s stack first sign doubt
+  pub lone : IsPrefixAsAtom s stack first sign may_take_operand
   pub to : (vs : List Token) (goal : Tree) → CompletesOperand s [] (before ++ first ∷ vs) goal → CompletesOperand s stack (first ∷ vs) goal
   pub back : (vs : List Token) (goal : Tree) → CompletesOperand s stack (first ∷ vs) goal → CompletesOperand s [] (before ++ first ∷ vs) goal
 
 abbrev pub MayTakeOperandBefore : Setting → List Token → Lookahead → Bool → Type 0
-MayTakeOperandBefore s read (Lone sign) doubt = PrefixAtomBefore s read sign doubt
-MayTakeOperandBefore s read _ doubt = doubt ≡ false
+MayTakeOperandBefore s read (Lone sign) may_take_operand = PrefixAtomBefore s read sign may_take_operand
+MayTakeOperandBefore s read _ may_take_operand = may_take_operand ≡ false
 
 -- The tokens from the start lead to this position: whatever comes behind them, if it is as presumed, is read there
 -- just as it is from the start together with them.
-pub record HasReadTo (s : Setting) (text : List ℕ) (start : ℕ) (x : Position) (at : ℕ) (doubt : Bool) : Type 0 where
+pub record HasReadTo (s : Setting) (text : List ℕ) (start : ℕ) (x : Position) (at : ℕ) (may_take_operand : Bool) : Type 0 where
   pub read : List Token
   pub scans : Scans (chars_from text start) read (chars_from text at)
   pub look : Lookahead
@@ -120,23 +120,23 @@ pub record HasReadTo (s : Setting) (text : List ℕ) (start : ℕ) (x : Position
   pub to : (vs : List Token) (goal : Tree) → is_as_expected s.ops look vs ≡ true → CompletesOperand s [] (read ++ vs) goal → Completes s x vs goal
   pub back : (vs : List Token) (goal : Tree) → is_as_expected s.ops look vs ≡ true → Completes s x vs goal → CompletesOperand s [] (read ++ vs) goal
   pub suits : SuitsLookahead x look
-  pub doubts : MayTakeOperandBefore s read look doubt
+  pub may_take : MayTakeOperandBefore s read look may_take_operand
   pub nests : NestsIn s text start read (stack_of x)
 
 -- the term is whole, and its end stands in front of this place
 pub record HasEnded (s : Setting) (text : List ℕ) (old : Position) (at : ℕ) (st : State) (end : ℕ) : Type 0 where
   pub tree : Tree
-  pub sheet : IsOutputOf st.sheet (emit_tree no_cells tree)
+  pub output : IsOutputOf st.output (emit_tree no_cells tree)
   pub reads : Completes s old (tokens_of (chars_from text at)) tree
   pub rest : rest_at text at ≡ chars_from text end
 
-abbrev pub IsStepOutcome : Setting → List ℕ → Position → ℕ → State → Turn → Type 0
-IsStepOutcome s text old at st (On phase doubt) = HasMoved s text old at st phase doubt
-IsStepOutcome s text old at st (Over end) = HasEnded s text old at st end
+abbrev pub IsStepOutcome : Setting → List ℕ → Position → ℕ → State → Step → Type 0
+IsStepOutcome s text old at st (Continue phase may_take_operand) = HasMoved s text old at st phase may_take_operand
+IsStepOutcome s text old at st (Accept end) = HasEnded s text old at st end
 IsStepOutcome s text old at st (Refused r) = (goal : Tree) → Completes s old (tokens_of (chars_from text at)) goal → ⊥
 
 -- the place moved on
-abbrev pub MovesForward : List ℕ → ℕ → State → Turn → Type 0
-MovesForward text at st (On phase doubt) = IsPlaceFrom text (suc at) st.at
-MovesForward text at st (Over end) = IsPlaceFrom text (suc at) end
+abbrev pub MovesForward : List ℕ → ℕ → State → Step → Type 0
+MovesForward text at st (Continue phase may_take_operand) = IsPlaceFrom text (suc at) st.at
+MovesForward text at st (Accept end) = IsPlaceFrom text (suc at) end
 MovesForward text at st (Refused r) = Unit {0}

@@ -11,11 +11,11 @@ use Rattle.au_model.specs.Syntax.Primaries.{Setting, is_post_operator, is_some_o
 use Rattle.au_model.specs.declared.double_quotes.DoubleQuotes.{DoubleQuotes}
 use Rattle.op_table.specs.OperatorView.{operator_meant}
 use Rattle.term_reader.specs.FollowingToken.{IsPlaceAfterTokens}
-use Rattle.term_reader.specs.declared.opening.Source.{Source}
-use Rattle.term_reader.specs.declared.opening.Leaf.{Leaf}
-use Rattle.term_reader.specs.declared.opening.Leaf.TheVariants as leaf
-use Rattle.term_reader.specs.declared.opening.Opening.{Opening}
-use Rattle.term_reader.specs.declared.opening.Opening.TheVariants as kind
+use Rattle.term_reader.specs.declared.primary.Source.{Source}
+use Rattle.term_reader.specs.declared.primary.Leaf.{Leaf}
+use Rattle.term_reader.specs.declared.primary.Leaf.TheVariants as leaf
+use Rattle.term_reader.specs.declared.primary.Primary.{Primary}
+use Rattle.term_reader.specs.declared.primary.Primary.TheVariants as kind
 
 abbrev pub setting_of : Source → Setting
 setting_of s = record { ops = s.ops.now; quotes = s.quotes }
@@ -33,7 +33,7 @@ leaf_tree quotes (leaf.Text cs) = text_tree quotes cs
 abbrev pub tokens_at : Source → ℕ → List Token
 tokens_at s at = tokens_of (chars_from s.text.now at)
 
-abbrev pub primary_meant : Source → Opening → begun.Primary
+abbrev pub primary_meant : Source → Primary → begun.Primary
 primary_meant s (kind.Leaf l end) = begun.Leaf (leaf_tree s.quotes l) (tokens_at s end)
 primary_meant s (kind.Alone n o end) = begun.Leaf (AtomTree n) (tokens_at s end)
 primary_meant s (kind.Round end) = begun.Bracket (tokens_at s end)
@@ -44,7 +44,7 @@ primary_meant s (kind.Prefix n o end) = begun.Prefix n (operator_meant o) (token
 primary_meant s kind.Fails = begun.Fails
 
 -- the place behind it is one of the text, from this one on
-abbrev pub PrimaryEndsFrom : List ℕ → ℕ → Opening → Type 0
+abbrev pub PrimaryEndsFrom : List ℕ → ℕ → Primary → Type 0
 PrimaryEndsFrom text at (kind.Leaf l end) = IsPlaceAfterTokens text at end
 PrimaryEndsFrom text at (kind.Alone n o end) = IsPlaceAfterTokens text at end
 PrimaryEndsFrom text at (kind.Round end) = IsPlaceAfterTokens text at end
@@ -55,17 +55,17 @@ PrimaryEndsFrom text at (kind.Prefix n o end) = IsPlaceAfterTokens text at end
 PrimaryEndsFrom text at kind.Fails = Unit {0}
 
 -- a name's opening is that of a prefix operator that stands for itself, or that of no prefix operator
-abbrev pub IsPrimaryOfName : OperatorTable → List ℕ → Opening → Type 0
+abbrev pub IsPrimaryOfName : OperatorTable → List ℕ → Primary → Type 0
 IsPrimaryOfName ops n (kind.Alone m o end) = (m ≡ n) × (prefix_of ops n ≡ Some (operator_meant o))
 IsPrimaryOfName ops n (kind.Leaf (leaf.Integer z) end) = Unit {0}
 IsPrimaryOfName ops n (kind.Leaf l end) = prefix_of ops n ≡ None
 IsPrimaryOfName ops n _ = Unit {0}
 
-abbrev pub IsPrimaryOfNoName : Opening → Type 0
+abbrev pub IsPrimaryOfNoName : Primary → Type 0
 IsPrimaryOfNoName (kind.Alone m o end) = ⊥
 IsPrimaryOfNoName _ = Unit {0}
 
-abbrev pub IsPrimaryOfLexeme : OperatorTable → words.Lexeme → Opening → Type 0
+abbrev pub IsPrimaryOfLexeme : OperatorTable → words.Lexeme → Primary → Type 0
 IsPrimaryOfLexeme ops (words.Name n) o = IsPrimaryOfName ops n o
 IsPrimaryOfLexeme ops (words.QuotedName n) o = IsPrimaryOfName ops n o
 IsPrimaryOfLexeme ops _ o = IsPrimaryOfNoName o

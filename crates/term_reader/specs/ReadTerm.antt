@@ -31,7 +31,7 @@ pub record Spelling (s : Setting) (text : List ℕ) (at end : ℕ) (t : Tree) : 
 -- the state has the cells of what is spelled up to this place
 pub record IsWholeTerm (s : Setting) (text : List ℕ) (at : ℕ) (st : State) (end : ℕ) : Type 0 where
   pub tree : Tree
-  pub sheet : IsOutputOf st.sheet (emit_tree no_cells tree)
+  pub output : IsOutputOf st.output (emit_tree no_cells tree)
   pub spelling : Spelling s text at end tree
 
 abbrev pub IsReadTo : Setting → List ℕ → ℕ → DeclaredReading → Type 0

@@ -15,13 +15,13 @@ use Rattle.term_reader.specs.TermOutput.{TermOutput, emit_tree}
 use Rattle.term_reader.specs.OutputView.{IsOutputOf}
 use Rattle.term_reader.specs.FrameShapes.{frame_meant, shapes_up, emitted_stack, IsWithinBounds, HasNoOperatorOnTop}
 use Rattle.term_reader.specs.declared.lexeme.Closer.{Closer}
-use Rattle.term_reader.specs.declared.opening.Source.{Source}
-use Rattle.term_reader.specs.declared.opening.Opening.{Opening}
-use Rattle.term_reader.specs.declared.opening.Opening.TheVariants as kind
+use Rattle.term_reader.specs.declared.primary.Source.{Source}
+use Rattle.term_reader.specs.declared.primary.Primary.{Primary}
+use Rattle.term_reader.specs.declared.primary.Primary.TheVariants as kind
 use Rattle.term_reader.specs.declared.state.State.{State}
 use Rattle.term_reader.specs.declared.state.Frame.{Frame}
-use Rattle.term_reader.specs.declared.steps.Turn.{Turn}
-use Rattle.term_reader.specs.declared.steps.Turn.TheVariants.{On}
+use Rattle.term_reader.specs.declared.steps.Step.{Step}
+use Rattle.term_reader.specs.declared.steps.Step.TheVariants.{Continue}
 
 -- a place further on, behind a token and maybe some more
 pub record IsPlaceAfterToken (text : List ℕ) (at end : ℕ) : Type 0 where
@@ -30,7 +30,7 @@ pub record IsPlaceAfterToken (text : List ℕ) (at end : ℕ) : Type 0 where
   pub over : List Token
   pub scans : Scans (chars_from text at) (first ∷ over) (chars_from text end)
 
-abbrev pub PrimaryEndsAfter : List ℕ → ℕ → Opening → Type 0
+abbrev pub PrimaryEndsAfter : List ℕ → ℕ → Primary → Type 0
 PrimaryEndsAfter text at (kind.Leaf l end) = IsPlaceAfterToken text at end
 PrimaryEndsAfter text at (kind.Alone n o end) = IsPlaceAfterToken text at end
 PrimaryEndsAfter text at (kind.Round end) = IsPlaceAfterToken text at end
@@ -41,7 +41,7 @@ PrimaryEndsAfter text at (kind.Prefix n o end) = IsPlaceAfterToken text at end
 PrimaryEndsAfter text at kind.Fails = Unit {0}
 
 -- a term begins so at a place
-pub record StartsPrimary (source : Source) (at : ℕ) (o : Opening) : Type 0 where
+pub record StartsPrimary (source : Source) (at : ℕ) (o : Primary) : Type 0 where
   pub begins : begun.primary_of (setting_of source) (tokens_at source at) ≡ primary_meant source o
   pub ends : PrimaryEndsAfter source.text.now at o
   pub apart : Bool
@@ -51,25 +51,25 @@ pub record StartsPrimary (source : Source) (at : ℕ) (o : Opening) : Type 0 whe
   pub named : IsPrimaryOfLexeme source.ops.now lexeme o
 
 -- a frame was put on
-pub record IsFramePushed (old : State) (f : Frame) (end : ℕ) (new : State) (t : Turn) : Type 0 where
+pub record IsFramePushed (old : State) (f : Frame) (end : ℕ) (new : State) (t : Step) : Type 0 where
   pub frames : new.frames.items ≡ old.frames.items ++ f ∷ []
-  pub sheet : new.sheet ≡ old.sheet
+  pub output : new.output ≡ old.output
   pub at : new.at ≡ end
-  pub turn : t ≡ On None false
+  pub step : t ≡ Continue None false
 
 -- an operand was put
-pub record IsOperandEmitted (old : State) (tree : Tree) (end : ℕ) (doubt : Bool) (new : State) (t : Turn) : Type 0 where
+pub record IsOperandEmitted (old : State) (tree : Tree) (end : ℕ) (may_take_operand : Bool) (new : State) (t : Step) : Type 0 where
   pub frames : new.frames.items ≡ old.frames.items
-  pub sheet : (s : TermOutput) → IsOutputOf old.sheet s → IsOutputOf new.sheet (emit_tree s tree)
+  pub output : (s : TermOutput) → IsOutputOf old.output s → IsOutputOf new.output (emit_tree s tree)
   pub at : new.at ≡ end
-  pub turn : t ≡ On (Some 0) doubt
+  pub step : t ≡ Continue (Some 0) may_take_operand
 
 -- A frame was taken off, of a stack without operators on its top, behind an operand that does not go on with the
 -- token that stands there.
 pub record IsFrameClosing (source : Source) (st : State) (f : Frame) (k : List stack.OpenFrame) (l : Tree) (p : ℕ) (c : Closer) (end : ℕ) : Type 0 where
   pub shapes : map frame_meant (st.frames.items ++ f ∷ []) ≡ shapes_up k
-  pub sheet : IsOutputOf st.sheet (emit_tree (emitted_stack k) l)
-  pub kept : IsWithinBounds k
+  pub output : IsOutputOf st.output (emit_tree (emitted_stack k) l)
+  pub bounds : IsWithinBounds k
   pub low : p ≤ bound_of k
   pub shut : HasNoOperatorOnTop k
   pub apart : Bool

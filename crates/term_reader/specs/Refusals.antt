@@ -10,7 +10,7 @@ use Rattle.au_model.specs.declared.fault_kind.FaultKind.{FaultKind}
 use Rattle.au_model.specs.declared.fault_kind.FaultKind.TheVariants.{UnexpectedToken, WideNumeral, TooManyArguments}
 use Rattle.term_reader.specs.Completion.{OpenFrame, PrefixOf, InfixOf, CompletesOperand, CompletesAfter, bound_of}
 use Rattle.term_reader.specs.FrameShapes.{IsWithinBounds}
-use Rattle.term_reader.specs.Positions.{Due, There, HasReadTo}
+use Rattle.term_reader.specs.Positions.{ExpectsOperand, AfterOperand, HasReadTo}
 use Rattle.term_reader.specs.PrimaryView.{setting_of}
 use Rattle.term_reader.specs.LexemeView.{lexeme_meant, IsStart}
 use Rattle.term_reader.specs.declared.lexeme.Scan.{Scan}
@@ -18,8 +18,8 @@ use Rattle.term_reader.specs.declared.lexeme.Scan.TheVariants.{Found}
 use Rattle.term_reader.specs.ReaderSteps.{StartsPrimary, IsFrameClosing}
 use Rattle.term_reader.specs.declared.lexeme.Closer.{Closer}
 use Rattle.term_reader.specs.declared.state.State.{State}
-use Rattle.term_reader.specs.declared.opening.Source.{Source}
-use Rattle.term_reader.specs.declared.opening.Opening.TheVariants as opening
+use Rattle.term_reader.specs.declared.primary.Source.{Source}
+use Rattle.term_reader.specs.declared.primary.Primary.TheVariants as primary
 use Rattle.op_table.specs.declared.operator.Operator.{Operator as DeclaredOperator}
 use Rattle.term_reader.specs.declared.state.Frame.{Frame as DeclaredFrame}
 use Rattle.term_reader.specs.declared.state.Frame.TheVariants as frame
@@ -27,8 +27,8 @@ use Rattle.term_reader.specs.Lookahead.{Scans}
 use Rattle.term_reader.specs.Nesting.{NestsIn}
 use Rattle.au_model.specs.Syntax.TextFaults.{BeginsTerm, Fault, IsOneTooMany}
 use Rattle.term_reader.specs.declared.refusal.Refused.{Refused}
-use Rattle.term_reader.specs.declared.steps.Turn.{Turn}
-use Rattle.term_reader.specs.declared.steps.Turn.TheVariants.{Refused as RefusedTurn}
+use Rattle.term_reader.specs.declared.steps.Step.{Step}
+use Rattle.term_reader.specs.declared.steps.Step.TheVariants.{Refused as RefusedTurn}
 
 -- the tokens up to a place begin a term, and with the next one they do not; this is not one argument too many
 pub record IsStuck (s : Setting) (text : List ℕ) (start at : ℕ) : Type 0 where
@@ -47,7 +47,7 @@ pub record IsFirstFault (s : Setting) (text : List ℕ) (start : ℕ) (r : Refus
   pub place : IsCharBoundary text r.at
   pub fault : Fault s (chars_from text start) r.kind (chars_from text r.at)
 
-abbrev pub RefusesFirstFault : Setting → List ℕ → ℕ → Turn → Type 0
+abbrev pub RefusesFirstFault : Setting → List ℕ → ℕ → Step → Type 0
 RefusesFirstFault s text start (RefusedTurn r) = IsFirstFault s text start r
 RefusesFirstFault s text start _ = Unit {0}
 
@@ -60,28 +60,28 @@ is_named_post_operator ops (QuotedName n) = is_post_operator (named_post_operato
 is_named_post_operator ops _ = false
 
 -- a token at a place, with which no operand there goes on and none ends
-pub record IsNotAccepted (source : Source) (start : ℕ) (k : List OpenFrame) (l : Tree) (p at : ℕ) (doubt : Bool) (lexeme : Lexeme) (place end : ℕ) : Type 0 where
-  pub led : HasReadTo (setting_of source) source.text.now start (There k l p) at doubt
-  pub kept : IsWithinBounds k
+pub record IsNotAccepted (source : Source) (start : ℕ) (k : List OpenFrame) (l : Tree) (p at : ℕ) (may_take_operand : Bool) (lexeme : Lexeme) (place end : ℕ) : Type 0 where
+  pub read_to : HasReadTo (setting_of source) source.text.now start (AfterOperand k l p) at may_take_operand
+  pub bounds : IsWithinBounds k
   pub low : p ≤ bound_of k
   pub apart : Bool
   pub found : scanned (chars_from source.text.now at) ≡ ScannedTo (token apart lexeme) (chars_from source.text.now end)
   pub starts : IsStart source.text.now at place
   pub refused : (more : List Token) (goal : Tree) → CompletesAfter (setting_of source) k (token apart lexeme ∷ more) l p goal → ⊥
-  pub few : (us : List Token) (m : ℕ) (name : List ℕ) → IsOneTooMany (setting_of source) (led.read ++ token apart lexeme ∷ us) (length led.read) m name → ⊥
+  pub few : (us : List Token) (m : ℕ) (name : List ℕ) → IsOneTooMany (setting_of source) (read_to.read ++ token apart lexeme ∷ us) (length read_to.read) m name → ⊥
 
 -- what is read at a place with this token is read in this stack, behind operators that were put over their operands;
 -- and what this stack reads behind a bracket that closes is read at the place
-pub record IsReadBelow (source : Source) (start at : ℕ) (doubt : Bool) (t : Token) (k : List OpenFrame) (l : Tree) (p : ℕ) : Type 0 where
+pub record IsReadBelow (source : Source) (start at : ℕ) (may_take_operand : Bool) (t : Token) (k : List OpenFrame) (l : Tree) (p : ℕ) : Type 0 where
   pub stack : List OpenFrame
   pub tree : Tree
   pub priority : ℕ
-  pub led : HasReadTo (setting_of source) source.text.now start (There stack tree priority) at doubt
-  pub kept : IsWithinBounds stack
+  pub read_to : HasReadTo (setting_of source) source.text.now start (AfterOperand stack tree priority) at may_take_operand
+  pub bounds : IsWithinBounds stack
   pub low : priority ≤ bound_of stack
   pub passes : (more : List Token) (goal : Tree) → CompletesAfter (setting_of source) stack (t ∷ more) tree priority goal → CompletesAfter (setting_of source) k (t ∷ more) l p goal
   pub closes : (more : List Token) (goal : Tree) → CompletesAfter (setting_of source) k (token false Close ∷ more) l p goal → CompletesAfter (setting_of source) stack (token false Close ∷ more) tree priority goal
-  pub nests : NestsIn (setting_of source) source.text.now start led.read k
+  pub nests : NestsIn (setting_of source) source.text.now start read_to.read k
 
 -- ---- where an operand ends
 
@@ -117,12 +117,12 @@ lexeme_follows_atom ops k _ = false
 
 -- a prefix operator above the bound
 pub record IsPrefixAboveBound (source : Source) (start : ℕ) (k : List OpenFrame) (at end : ℕ) : Type 0 where
-  pub doubt : Bool
+  pub may_take_operand : Bool
   pub name : List ℕ
   pub operator : DeclaredOperator
-  pub led : HasReadTo (setting_of source) source.text.now start (Due k) at doubt
-  pub kept : IsWithinBounds k
-  pub starts : StartsPrimary source at (opening.Prefix name operator end)
+  pub read_to : HasReadTo (setting_of source) source.text.now start (ExpectsOperand k) at may_take_operand
+  pub bounds : IsWithinBounds k
+  pub starts : StartsPrimary source at (primary.Prefix name operator end)
   pub high : bound_of k < operator.priority
 
 -- the place behind a token that joins an atom

@@ -135,9 +135,9 @@ pub(crate) fn is_minus(name: &str) -> bool
 #[derive(Clone, Copy)]
 pub(crate) enum Follow {
     /// `(` without layout in front.
-    Opens(usize),
+    OpenRound(usize),
     /// An integer without layout in front.
-    Counts(u64, usize),
+    Unsigned(u64, usize),
     ClosesList(usize),
     ClosesCurly(usize),
     Other,
@@ -147,8 +147,8 @@ fn follow_token(lexeme: &Lexeme, apart: bool, end: usize) -> Follow
     ensures { result ≡ follow_of apart (lexeme_meant lexeme.now) end }
 {
     match lexeme {
-        Lexeme::Open if !apart => Follow::Opens(end),
-        Lexeme::Integer(number) if !apart => Follow::Counts(*number, end),
+        Lexeme::Open if !apart => Follow::OpenRound(end),
+        Lexeme::Integer(number) if !apart => Follow::Unsigned(*number, end),
         Lexeme::CloseList => Follow::ClosesList(end),
         Lexeme::CloseCurly => Follow::ClosesCurly(end),
         _ => Follow::Other,

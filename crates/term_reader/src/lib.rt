@@ -1,15 +1,15 @@
 //! Reading terms.
 #![tactic(auto)]
 
-mod joint;
+mod post_operator;
 pub mod laws;
 mod lexeme;
-mod opening;
+mod primary;
 mod order;
 mod place;
 mod read;
 mod refusal;
-mod sheet;
+mod output;
 mod state;
 mod steps;
 mod variables;

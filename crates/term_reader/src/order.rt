@@ -17,7 +17,7 @@ struct Pending {
 }
 
 /// An argument has come: each compound that has all of them comes too.
-fn settle(waiting: &mut Vec<Pending>, out: &mut Vec<Cell>) -> Result<(), NoMemory>
+fn reduce_operators(waiting: &mut Vec<Pending>, out: &mut Vec<Cell>) -> Result<(), NoMemory>
     ensures { (cells whole : List Cell) → IsCompleting cells waiting.old.items out.old.items whole → OnOk result (IsReordering cells waiting.new.items out.new.items whole) }
 {
     while let Some(pending) = waiting.pop() {
@@ -38,15 +38,15 @@ fn settle(waiting: &mut Vec<Pending>, out: &mut Vec<Cell>) -> Result<(), NoMemor
 pub(crate) fn prefix_order(alloc: Global, mut cells: Vec<Cell>) -> Result<Vec<Cell>, NoMemory>
     ensures { (t : Term) → cells.items ≡ postorder t → IfOk result (λ out. out.items ≡ cells_of t) }
 {
-    let mut open = Vec::new(alloc);
+    let mut push_frame = Vec::new(alloc);
     let mut out = Vec::new(alloc);
     while let Some(cell) = cells.pop() {
         let left = cell.arity();
         if left > 0 {
-            open.push(Pending { cell, left })?;
+            push_frame.push(Pending { cell, left })?;
         } else {
             out.push(cell)?;
-            settle(&mut open, &mut out)?;
+            reduce_operators(&mut push_frame, &mut out)?;
         }
     }
     out.reverse();

@@ -5,11 +5,11 @@ ghost use Rattle.au_model.specs.Syntax.TermTexts.{is_over};
 ghost use Rattle.term_reader.specs.PrimaryView.{setting_of};
 ghost use Rattle.term_reader.specs.ReadTerm.{IsTermRead, IsReadTo};
 
-use crate::opening::Source;
+use crate::primary::Source;
 use crate::place::line_and_column;
 use crate::refusal::Refused;
 use crate::state::State;
-use crate::steps::{Turn, turn_at};
+use crate::steps::{Step, step_at};
 use au_model::{DoubleQuotes, FaultKind, VarName};
 use au_term::{FlatTerm, NoMemory};
 use op_table::Ops;
@@ -64,15 +64,15 @@ fn read_tokens(source: Source<'_>, at: usize) -> Result<Reading, NoMemory>
 {
     let mut state = State::new(source.alloc, at);
     let mut phase = None;
-    let mut doubt = false;
+    let mut may_take_operand = false;
     'tokens: loop {
-        match turn_at(source, &mut state, phase, doubt)? {
-            Turn::On(next, lone) => {
+        match step_at(source, &mut state, phase, may_take_operand)? {
+            Step::Continue(next, lone) => {
                 phase = next;
-                doubt = lone;
+                may_take_operand = lone;
             }
-            Turn::Over(end) => return Ok(Reading::Whole(state, end)),
-            Turn::Refused(refused) => return Ok(Reading::Refused(refused)),
+            Step::Accept(end) => return Ok(Reading::Whole(state, end)),
+            Step::Refused(refused) => return Ok(Reading::Refused(refused)),
         }
     }
 }
@@ -114,7 +114,7 @@ pub fn read_term(
     let reading = read_tokens(source, at)?;
     match reading {
         Reading::Whole(state, end) => {
-            let (term, names) = state.sheet.finish(alloc)?;
+            let (term, names) = state.output.finish(alloc)?;
             Ok(ReadOutcome::Read { term, names, end })
         }
         Reading::Refused(refused) => {

@@ -10,9 +10,9 @@ ghost use Rattle.term_reader.specs.LexemeView.{lexeme_meant, scan_meant, IsScan}
 ghost use Rattle.term_reader.specs.Completion as stack;
 ghost use Rattle.term_reader.specs.Refusals.{lexeme_follows_atom, is_named_post_operator, follower_end, unexpected_kind, IsFirstFault, IsPrefixAboveBound, IsNotAccepted, IsStuck};
 
-use crate::joint::{Joint, named_joint};
+use crate::post_operator::{PostOperator, named_post_operator};
 use crate::lexeme::{Lexeme, Scan, scan_at};
-use crate::opening::{Source, WIDEST, is_joint_alone};
+use crate::primary::{Source, WIDEST, is_post_operator_alone};
 use crate::state::State;
 use au_model::FaultKind;
 use au_term::NoMemory;
@@ -79,7 +79,7 @@ fn refusal_at(source: Source<'_>, at: usize) -> Result<Refused, NoMemory>
 
 /// What is refused behind a prefix operator that is above the bound. A name that could join it to what follows,
 /// as an atom, is not refused itself.
-pub(crate) fn behind_prefix(
+pub(crate) fn after_prefix(
     source: Source<'_>,
     state: &State,
     end: usize,
@@ -88,8 +88,8 @@ pub(crate) fn behind_prefix(
     ensures { (start at : ℕ) (k : List stack.OpenFrame) → map frame_meant state.now.frames.items ≡ shapes_up k → IsPrefixAboveBound source.entry start k at end → IfOk result (λ r. IsFirstFault (setting_of source.entry) source.entry.text.now start r) }
 {
     let next = scan_at(source.alloc, source.text, end)?;
-    if let Some(behind) = joined_end(source, state, end, &next) {
-        return refusal_at(source, behind);
+    if let Some(after) = joined_end(source, state, end, &next) {
+        return refusal_at(source, after);
     }
     Ok(refusal_of(source.text, &next))
 }
@@ -114,45 +114,45 @@ fn joins_atom(source: Source<'_>, state: &State, lexeme: &Lexeme) -> bool
 {
     match lexeme {
         Lexeme::Name(name) | Lexeme::QuotedName(name) => {
-            is_joint_alone(source.ops, name.text())
-                && state.takes(named_joint(source.ops, name.text()))
+            is_post_operator_alone(source.ops, name.text())
+                && state.takes(named_post_operator(source.ops, name.text()))
         }
         _ => false,
     }
 }
 
 /// Whether a token has the name of an operator that stands behind an operand.
-fn is_named_joint(ops: &Ops, lexeme: &Lexeme) -> bool
+fn is_named_post_operator(ops: &Ops, lexeme: &Lexeme) -> bool
     ensures { result ≡ is_named_post_operator ops.now (lexeme_meant lexeme.now) }
 {
     match lexeme {
         Lexeme::Name(name) | Lexeme::QuotedName(name) => {
-            !matches!(named_joint(ops, name.text()), Joint::Nothing)
+            !matches!(named_post_operator(ops, name.text()), PostOperator::Nothing)
         }
         _ => false,
     }
 }
 
 /// Whether it could also begin the operand of a prefix operator.
-fn is_held(ops: &Ops, doubt: bool, lexeme: &Lexeme) -> bool
-    ensures { result ≡ (doubt && is_named_post_operator ops.now (lexeme_meant lexeme.now)) }
+fn is_refused_at_frame(ops: &Ops, may_take_operand: bool, lexeme: &Lexeme) -> bool
+    ensures { result ≡ (may_take_operand && is_named_post_operator ops.now (lexeme_meant lexeme.now)) }
 {
-    doubt && is_named_joint(ops, lexeme)
+    may_take_operand && is_named_post_operator(ops, lexeme)
 }
 
 /// What is refused where no frame takes a token. Behind a prefix operator that stands for itself, and could have
 /// an operand that begins with this token, that is the next one.
 pub(crate) fn not_taken(
     source: Source<'_>,
-    doubt: bool,
+    may_take_operand: bool,
     lexeme: &Lexeme,
     place: usize,
     end: usize,
 ) -> Result<Refused, NoMemory>
     requires { IsCharBoundary source.text.now end }
-    ensures { (start : ℕ) (k : List stack.OpenFrame) (l : Tree) (p at : ℕ) → IsNotAccepted source.entry start k l p at doubt (lexeme_meant lexeme.now) place end → IfOk result (λ r. IsFirstFault (setting_of source.entry) source.entry.text.now start r) }
+    ensures { (start : ℕ) (k : List stack.OpenFrame) (l : Tree) (p at : ℕ) → IsNotAccepted source.entry start k l p at may_take_operand (lexeme_meant lexeme.now) place end → IfOk result (λ r. IsFirstFault (setting_of source.entry) source.entry.text.now start r) }
 {
-    if is_held(source.ops, doubt, lexeme) {
+    if is_refused_at_frame(source.ops, may_take_operand, lexeme) {
         return refusal_at(source, end);
     }
     Ok(unexpected(lexeme, place))

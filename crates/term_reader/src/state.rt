@@ -6,12 +6,12 @@ ghost use Rattle.term_reader.specs.LexemeView.{post_operator_meant};
 ghost use Rattle.term_reader.specs.FrameShapes.{frame_meant, shape_bound, shape_operator, shapes_up};
 ghost use Rattle.term_reader.specs.Completion as stack;
 ghost use Rattle.term_reader.specs.Completion.{bound_of};
-ghost use Rattle.term_reader.specs.Positions.{Due, IsAtPosition, There};
+ghost use Rattle.term_reader.specs.Positions.{ExpectsOperand, IsAtPosition, AfterOperand};
 ghost use Rattle.term_reader.specs.OperatorReductions.{IsFewer, IsReduceOutcome, IsReducedBefore};
 ghost use Rattle.term_reader.specs.Refusals.{accepts};
 
-use crate::joint::{Joint, right_bound};
-use crate::sheet::Sheet;
+use crate::post_operator::{PostOperator, right_bound};
+use crate::output::TermOutput;
 use au_term::{Atom, NoMemory};
 use op_table::Operator;
 use std::alloc::Global;
@@ -34,14 +34,14 @@ pub(crate) enum Frame {
 pub(crate) struct State {
     pub(crate) at: usize,
     pub(crate) frames: Vec<Frame>,
-    pub(crate) sheet: Sheet,
+    pub(crate) output: TermOutput,
 }
 
 /// What becomes of an operator that waits for the operand that stands there.
 #[derive(Clone, Copy)]
-enum Plug {
+enum Reduced {
     /// It stands over its operand now, and has this priority.
-    Over(u16),
+    Accept(u16),
     /// The operand goes on.
     Fits,
     /// None waits, and the operand does not go on.
@@ -76,12 +76,12 @@ impl State {
     pub(crate) fn new(alloc: Global, at: usize) -> State
         ensures at { result.at ≡ at }
         ensures empty { result.frames.items ≡ [] }
-        ensures stands { IsAtPosition result (Due []) }
+        ensures at_position { IsAtPosition result (ExpectsOperand []) }
     {
         State {
             at,
             frames: Vec::new(alloc),
-            sheet: Sheet::new(alloc),
+            output: TermOutput::new(alloc),
         }
     }
 
@@ -96,55 +96,55 @@ impl State {
     }
 
     /// Puts the operator that waits for the operand over it, where the operand ends in front of this.
-    fn plug(&mut self, priority: u16, joint: Joint) -> Result<Plug, NoMemory>
+    fn reduce_top(&mut self, priority: u16, post_operator: PostOperator) -> Result<Reduced, NoMemory>
         ensures at { self.new.at ≡ self.old.at }
         ensures fewer { IfOk result (λ p. IsFewer p (vec_len self.old.frames) (vec_len self.new.frames)) }
-        ensures plugged { (s : Setting) (k : List stack.OpenFrame) (l : Tree) (n : List ℕ) → IsAtPosition self.old (There k l priority) → IfOk result (λ p. IsReduceOutcome s k l priority (post_operator_meant n joint) self.new p) }
+        ensures plugged { (s : Setting) (k : List stack.OpenFrame) (l : Tree) (n : List ℕ) → IsAtPosition self.old (AfterOperand k l priority) → IfOk result (λ p. IsReduceOutcome s k l priority (post_operator_meant n post_operator) self.new p) }
     {
-        if joint.fits(self.bound(), priority) {
-            return Ok(Plug::Fits);
+        if post_operator.fits(self.bound(), priority) {
+            return Ok(Reduced::Fits);
         }
         match self.frames.pop() {
             Some(Frame::Prefix(name, operator)) => {
-                self.sheet.compound(name, 1)?;
-                Ok(Plug::Over(operator.priority))
+                self.output.compound(name, 1)?;
+                Ok(Reduced::Accept(operator.priority))
             }
             Some(Frame::Infix(name, operator)) => {
-                self.sheet.compound(name, 2)?;
-                Ok(Plug::Over(operator.priority))
+                self.output.compound(name, 2)?;
+                Ok(Reduced::Accept(operator.priority))
             }
             Some(other) => {
                 self.frames.push(other)?;
-                Ok(Plug::Ends)
+                Ok(Reduced::Ends)
             }
-            None => Ok(Plug::Ends),
+            None => Ok(Reduced::Ends),
         }
     }
 
     /// Puts all operators over their operands that end in front of this. Answers the last one's priority, and
     /// whether this goes on behind it.
-    pub(crate) fn settle(&mut self, priority: u16, joint: Joint) -> Result<(u16, bool), NoMemory>
+    pub(crate) fn reduce_operators(&mut self, priority: u16, post_operator: PostOperator) -> Result<(u16, bool), NoMemory>
         ensures at { self.new.at ≡ self.old.at }
-        ensures settled { (s : Setting) (k : List stack.OpenFrame) (l : Tree) (n : List ℕ) → IsAtPosition self.old (There k l priority) → IfOk result (λ r. IsReducedBefore s k l priority (post_operator_meant n joint) self.new r.0 r.1) }
+        ensures settled { (s : Setting) (k : List stack.OpenFrame) (l : Tree) (n : List ℕ) → IsAtPosition self.old (AfterOperand k l priority) → IfOk result (λ r. IsReducedBefore s k l priority (post_operator_meant n post_operator) self.new r.0 r.1) }
     {
         let mut last = priority;
         'operators: loop {
-            match self.plug(last, joint)? {
-                Plug::Over(next) => last = next,
-                Plug::Fits => return Ok((last, true)),
-                Plug::Ends => return Ok((last, false)),
+            match self.reduce_top(last, post_operator)? {
+                Reduced::Accept(next) => last = next,
+                Reduced::Fits => return Ok((last, true)),
+                Reduced::Ends => return Ok((last, false)),
             }
         }
     }
 
     /// Whether an operator goes on behind an atom.
-    pub(crate) fn takes(&self, joint: Joint) -> bool
-        ensures { (k : List stack.OpenFrame) (n : List ℕ) → map frame_meant self.now.frames.items ≡ shapes_up k → result ≡ accepts k 0 (post_operator_meant n joint) }
+    pub(crate) fn takes(&self, post_operator: PostOperator) -> bool
+        ensures { (k : List stack.OpenFrame) (n : List ℕ) → map frame_meant self.now.frames.items ≡ shapes_up k → result ≡ accepts k 0 (post_operator_meant n post_operator) }
     {
         let mut frames = self.frames.as_slice();
         let mut priority = 0;
         'frames: while let Some((frame, below)) = frames.split_last() {
-            if joint.fits(frame.bound(), priority) {
+            if post_operator.fits(frame.bound(), priority) {
                 return true;
             }
             let Some(next) = frame.operator() else {
@@ -153,6 +153,6 @@ impl State {
             priority = next;
             frames = below;
         }
-        joint.fits(1200, priority)
+        post_operator.fits(1200, priority)
     }
 }

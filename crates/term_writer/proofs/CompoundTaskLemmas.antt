@@ -68,5 +68,5 @@ pub taken_more : (n : ℕ) (us vs : Terms) (t : Term) → us ≡ more t vs → 0
 taken_more zero us vs t e lt = absurd (omega arith)
 taken_more (suc n) us vs t e lt = let k : suc n - 1 ≡ n = omega arith in rw (e, k) refl
 
-pub enough_behind : (n : ℕ) (us vs : Terms) (t : Term) → us ≡ more t vs → n ≤ count us → n - 1 ≤ count vs
-enough_behind n us vs t e le = omega (arith, ap count e)
+pub enough_after : (n : ℕ) (us vs : Terms) (t : Term) → us ≡ more t vs → n ≤ count us → n - 1 ≤ count vs
+enough_after n us vs t e le = omega (arith, ap count e)

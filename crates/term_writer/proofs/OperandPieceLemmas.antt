@@ -12,7 +12,7 @@ use Rattle.au_model.specs.Writing.OperatorForms.{Notation, CompoundForm, InfixFo
 use Rattle.au_model.specs.Writing.WrittenTerms.{notation_of, enclosed, pieces, tail_pieces}
 use Rattle.au_model.specs.declared.style.Style.TheVariants.{Quoted}
 use Rattle.au_model.specs.Writing.ReadBack.{tree_of}
-use Rattle.term_writer.proofs.PieceSeamLemmas.{behind_token, Follows, lower, follows-stops, closes_round}
+use Rattle.term_writer.proofs.PieceSeamLemmas.{after_token, Follows, lower, follows-stops, closes_round}
 
 abbrev pub notated : OperatorTable → Notation
 notated ops = notation_of Quoted ops
@@ -107,8 +107,8 @@ module _ (s : Setting) where
   -- in round brackets
   pub shut : (t : Term) → Facts s t → (rest : List Piece) (b : InFront) → Reads s (joined_pieces b (Put Open ∷ pieces (notated s.ops) t (Put Close ∷ rest))) rest t 0
   shut t f rest b =
-      let r = f.front (Put Close ∷ rest) closes_round (λ e d. refl) (behind_token Open) in
-      record { before = behind_token Close; is = form (bracket (operand r.is f.limit refl)) }
+      let r = f.front (Put Close ∷ rest) closes_round (λ e d. refl) (after_token Open) in
+      record { before = after_token Close; is = form (bracket (operand r.is f.limit refl)) }
 
   -- an operand in front of what cannot go on inside it
   pub right-reads : (bound : ℕ) (t : Term) (x : Bool) → Facts s t → (x ≡ false → (is_operator_atom (notated s.ops) t ≡ true → ⊥) × (priority s.ops t ≤ bound))

@@ -13,8 +13,8 @@ use Rattle.au_model.specs.Writing.WrittenTerms.{name_token, name_pieces, infix_p
 use Rattle.term_writer.proofs.OperatorTableLemmas.{no_infix, no_prefix}
 use Rattle.au_model.specs.Syntax.Primaries.{atom_primary}
 
-abbrev pub behind_token : Lexeme → InFront
-behind_token x = TokenInFront (ends_of x)
+abbrev pub after_token : Lexeme → InFront
+after_token x = TokenInFront (ends_of x)
 
 pub meets-other : (x : TokenEnds) → run_together x OtherEnds ≡ false
 meets-other SymbolEnds = refl
@@ -124,8 +124,8 @@ module _ (s : Setting) (n : List ℕ) where
       go true = refl
       go false = refl
 
-  joint-name : lexeme_post_operator s.ops (name_token n) ≡ named_post_operator s.ops n
-  joint-name = go (is_bare n)
+  post_operator-name : lexeme_post_operator s.ops (name_token n) ≡ named_post_operator s.ops n
+  post_operator-name = go (is_bare n)
     where
       go : (x : Bool) → lexeme_post_operator s.ops (if x then Name n else QuotedName n) ≡ named_post_operator s.ops n
       go true = refl
@@ -162,8 +162,8 @@ module _ (s : Setting) (n : List ℕ) where
 pub begins_name : (s : Setting) (n : List ℕ) (ts : List Token) → lexeme_primary s (name_token n) ts ≡ name_primary s.ops (is_minus (name_token n)) n ts
 begins_name s n ts = begins-name s n ts
 
-pub joint_name : (s : Setting) (n : List ℕ) → lexeme_post_operator s.ops (name_token n) ≡ named_post_operator s.ops n
-joint_name s n = joint-name s n
+pub post_operator_name : (s : Setting) (n : List ℕ) → lexeme_post_operator s.ops (name_token n) ≡ named_post_operator s.ops n
+post_operator_name s n = post_operator-name s n
 
 pub before_name : (s : Setting) (n : List ℕ) (ts : List Token) → ends_operand_before s.ops (name_token n) ts ≡ is_operator_here s.ops n (name_token n) ts
 before_name s n ts = before-name s n ts
@@ -172,7 +172,7 @@ pub sign_name : (s : Setting) (n : List ℕ) → is_minus (name_token n) ≡ tru
 sign_name s n e = sign-name s n e
 
 pub follows_name : (s : Setting) (n : List ℕ) (c : ℕ) (ps : List Piece) → ((bound p : ℕ) → bound ≤ c → post_operator_fits bound p (named_post_operator s.ops n) ≡ false) → Follows s.ops c (Put (name_token n) ∷ ps)
-follows_name s n c ps h = here (λ bound p k. rw (joint-name s n) (h bound p k)) (opens-name s n) (counts-name s n)
+follows_name s n c ps h = here (λ bound p k. rw (post_operator-name s n) (h bound p k)) (opens-name s n) (counts-name s n)
 
 pub infix-named : (ops : OperatorTable) (n : List ℕ) (o : Operator) → infix_of ops n ≡ Some o → named_post_operator ops n ≡ Infix n o
 infix-named ops n o e = rw e refl
@@ -212,35 +212,35 @@ module _ (s : Setting) (table : IsOperatorTable s.ops) where
       go false = word
 
   -- an infix operator's pieces are its token and what follows
-  pub record JointAt (ts : List Token) (ps : List Piece) (joint : PostOperator) : Type 0 where
+  pub record PostOperatorAt (ts : List Token) (ps : List Piece) (post_operator : PostOperator) : Type 0 where
     pub apart : Bool
     pub w : Lexeme
     pub before : InFront
     pub is : ts ≡ token apart w ∷ joined_pieces before ps
-    pub goes : lexeme_post_operator s.ops w ≡ joint
+    pub goes : lexeme_post_operator s.ops w ≡ post_operator
 
-  pub infix-at : (n : List ℕ) (o : Operator) (ps : List Piece) (b : InFront) → infix_of s.ops n ≡ Some o → JointAt (joined_pieces b (infix_pieces o n ps)) ps (Infix n o)
+  pub infix-at : (n : List ℕ) (o : Operator) (ps : List Piece) (b : InFront) → infix_of s.ops n ≡ Some o → PostOperatorAt (joined_pieces b (infix_pieces o n ps)) ps (Infix n o)
   infix-at n o ps b e = go (same_name n (codes ",")) (is_symbol_name n && nat_lt o.priority 700) refl
     where
       named : lexeme_post_operator s.ops (name_token n) ≡ Infix n o
-      named = joint_name s n ∙ infix-named s.ops n o e
+      named = post_operator_name s n ∙ infix-named s.ops n o e
 
-      go : (x y : Bool) → same_name n (codes ",") ≡ x → JointAt (joined_pieces b (if x then Put Comma ∷ ps else if y then Put (name_token n) ∷ ps else Space ∷ Put (name_token n) ∷ Space ∷ ps)) ps (Infix n o)
+      go : (x y : Bool) → same_name n (codes ",") ≡ x → PostOperatorAt (joined_pieces b (if x then Put Comma ∷ ps else if y then Put (name_token n) ∷ ps else Space ∷ Put (name_token n) ∷ Space ∷ ps)) ps (Infix n o)
       go true y f =
           let q : Infix (codes ",") comma ≡ Infix n o = rw (same_text n (codes ",") (sym f), comma_only n o e f) refl in
-          record { apart = are_separate b Comma; w = Comma; before = behind_token Comma; is = refl; goes = q }
-      go false true f = record { apart = are_separate b (name_token n); w = name_token n; before = behind_token (name_token n); is = refl; goes = named }
+          record { apart = are_separate b Comma; w = Comma; before = after_token Comma; is = refl; goes = q }
+      go false true f = record { apart = are_separate b (name_token n); w = name_token n; before = after_token (name_token n); is = refl; goes = named }
       go false false f = record { apart = true; w = name_token n; before = SpaceInFront; is = refl; goes = named }
 
-  pub postfix-at : (n : List ℕ) (o : Operator) (ps : List Piece) (b : InFront) → postfix_of s.ops n ≡ Some o → JointAt (joined_pieces b (postfix_pieces n ps)) ps (Postfix n o)
+  pub postfix-at : (n : List ℕ) (o : Operator) (ps : List Piece) (b : InFront) → postfix_of s.ops n ≡ Some o → PostOperatorAt (joined_pieces b (postfix_pieces n ps)) ps (Postfix n o)
   postfix-at n o ps b e = go (not (is_symbol_name n))
     where
       named : lexeme_post_operator s.ops (name_token n) ≡ Postfix n o
-      named = joint_name s n ∙ postfix-named s.ops n o (no_infix s.ops n o table e) e
+      named = post_operator_name s n ∙ postfix-named s.ops n o (no_infix s.ops n o table e) e
 
-      go : (x : Bool) → JointAt (joined_pieces b (spaced x (Put (name_token n) ∷ ps))) ps (Postfix n o)
-      go true = record { apart = true; w = name_token n; before = behind_token (name_token n); is = refl; goes = named }
-      go false = record { apart = are_separate b (name_token n); w = name_token n; before = behind_token (name_token n); is = refl; goes = named }
+      go : (x : Bool) → PostOperatorAt (joined_pieces b (spaced x (Put (name_token n) ∷ ps))) ps (Postfix n o)
+      go true = record { apart = true; w = name_token n; before = after_token (name_token n); is = refl; goes = named }
+      go false = record { apart = are_separate b (name_token n); w = name_token n; before = after_token (name_token n); is = refl; goes = named }
 
   -- a name's pieces: the tokens open as that name, with what follows it
   pub record NameAt (ts : List Token) (n : List ℕ) (ps : List Piece) : Type 0 where
@@ -258,6 +258,6 @@ module _ (s : Setting) (table : IsOperatorTable s.ops) where
     where
       go : (x y : Bool) → same_name n nil_name ≡ x → same_name n braces_name ≡ y
           → NameAt (joined_pieces b (if x then Put OpenList ∷ Put CloseList ∷ ps else if y then Put OpenCurly ∷ Put CloseCurly ∷ ps else Put (name_token n) ∷ ps)) n ps
-      go true y e f = record { sign = false; before = behind_token CloseList; is = plain-begins nil_name (joined_pieces (behind_token CloseList) ps) (no_prefix s.ops nil_name table.nil) ∙ ap (λ k. name_primary s.ops false k (joined_pieces (behind_token CloseList) ps)) (sym (same_text n nil_name (sym e))); tight = refl }
-      go false true e f = record { sign = false; before = behind_token CloseCurly; is = plain-begins braces_name (joined_pieces (behind_token CloseCurly) ps) (no_prefix s.ops braces_name table.braces) ∙ ap (λ k. name_primary s.ops false k (joined_pieces (behind_token CloseCurly) ps)) (sym (same_text n braces_name (sym f))); tight = refl }
-      go false false e f = record { sign = is_minus (name_token n); before = behind_token (name_token n); is = begins_name s n (joined_pieces (behind_token (name_token n)) ps); tight = meets-other (ends_of (name_token n)) }
+      go true y e f = record { sign = false; before = after_token CloseList; is = plain-begins nil_name (joined_pieces (after_token CloseList) ps) (no_prefix s.ops nil_name table.nil) ∙ ap (λ k. name_primary s.ops false k (joined_pieces (after_token CloseList) ps)) (sym (same_text n nil_name (sym e))); tight = refl }
+      go false true e f = record { sign = false; before = after_token CloseCurly; is = plain-begins braces_name (joined_pieces (after_token CloseCurly) ps) (no_prefix s.ops braces_name table.braces) ∙ ap (λ k. name_primary s.ops false k (joined_pieces (after_token CloseCurly) ps)) (sym (same_text n braces_name (sym f))); tight = refl }
+      go false false e f = record { sign = is_minus (name_token n); before = after_token (name_token n); is = begins_name s n (joined_pieces (after_token (name_token n)) ps); tight = meets-other (ends_of (name_token n)) }

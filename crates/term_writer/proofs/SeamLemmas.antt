@@ -61,27 +61,27 @@ sides_meet Digits b = letters_meet b
 sides_meet OpenSide b = others_meet b
 sides_meet Other b = others_meet b
 
-name_behind : (m : Bool) (e : TokenEnds) → (m && false || run_together SymbolEnds e) ≡ after_operator m (side_by_ends e)
-name_behind true SymbolEnds = refl
-name_behind true LetterEnds = refl
-name_behind true OtherEnds = refl
-name_behind false SymbolEnds = refl
-name_behind false LetterEnds = refl
-name_behind false OtherEnds = refl
+name_after : (m : Bool) (e : TokenEnds) → (m && false || run_together SymbolEnds e) ≡ after_operator m (side_by_ends e)
+name_after true SymbolEnds = refl
+name_after true LetterEnds = refl
+name_after true OtherEnds = refl
+name_after false SymbolEnds = refl
+name_after false LetterEnds = refl
+name_after false OtherEnds = refl
 
 no_space : (m : Bool) → (m && false || false) ≡ false
 no_space true = refl
 no_space false = refl
 
-digits_behind : (m : Bool) → (m && true || false) ≡ m
-digits_behind true = refl
-digits_behind false = refl
+digits_after : (m : Bool) → (m && true || false) ≡ m
+digits_after true = refl
+digits_after false = refl
 
 operator_seam : (m : Bool) (x : Lexeme) → ((is_open x || (m && is_integer_term x)) || run_together SymbolEnds (ends_of x)) ≡ after_operator m (side_of x)
-operator_seam m (Name n) = name_behind m (name_ends n)
+operator_seam m (Name n) = name_after m (name_ends n)
 operator_seam m (QuotedName n) = no_space m
 operator_seam m (Variable n) = no_space m
-operator_seam m (Integer k) = digits_behind m
+operator_seam m (Integer k) = digits_after m
 operator_seam m (TextItem cs) = no_space m
 operator_seam m OpenBracket = refl
 operator_seam m CloseBracket = no_space m
@@ -111,16 +111,16 @@ with_space text true x = refl
 with_space text false x = refl
 
 -- the bytes of a token were put behind a text
-pub token_put : (style after : Style) (old new : List ℕ) (front behind : Front) (x : Lexeme)
-    → new ≡ old ++ space_text (needs_space front (side_of x)) ++ token_text style x → after ≡ style → behind ≡ BehindToken (side_of x)
-    → (ps : List Piece) → bytes_with after new behind ps ≡ bytes_with style old front (Put x ∷ ps)
-token_put style after old new front behind x b s f ps =
+pub token_put : (style after : Style) (old new : List ℕ) (front front_after : Front) (x : Lexeme)
+    → new ≡ old ++ space_text (needs_space front (side_of x)) ++ token_text style x → after ≡ style → front_after ≡ BehindToken (side_of x)
+    → (ps : List Piece) → bytes_with after new front_after ps ≡ bytes_with style old front (Put x ∷ ps)
+token_put style after old new front front_after x b s f ps =
     let text = token_text style in
     let rest = text_of_tokens text (joined_after (BehindToken (side_of x)) ps) in
     let space = space_text (needs_space front (side_of x)) in
     let whole : text_of_tokens text (joined_after front (Put x ∷ ps)) ≡ space ++ text x ++ rest =
     ap (text_of_tokens text) (seam front x ps) ∙ ap (λ t. t ++ rest) (with_space text (needs_space front (side_of x)) x) in
-    let here : bytes_with after new behind ps ≡ old ++ space ++ text x ++ rest = rw (b, s, f) refl in
+    let here : bytes_with after new front_after ps ≡ old ++ space ++ text x ++ rest = rw (b, s, f) refl in
     here ∙ (ap (λ t. t ++ rest) (append_assoc old space (text x)) ∙ (append_assoc old (space ++ text x) rest ∙ ap (λ t. old ++ t) (sym whole)))
 
 spaced_nothing : (b : Bool) (front : InFront) (ps : List Piece) → joined_pieces front (spaced b (SpacePiece ∷ ps)) ≡ joined_pieces SpaceInFront ps
@@ -128,11 +128,11 @@ spaced_nothing true front ps = refl
 spaced_nothing false front ps = refl
 
 -- a space that a rule asks for
-pub space_behind : (front : Front) (ps : List Piece) → joined_after Space ps ≡ joined_after front (SpacePiece ∷ ps)
-space_behind Nothing ps = refl
-space_behind Space ps = refl
-space_behind (BehindToken side) ps = refl
-space_behind (PrefixOperator m) ps = sym (spaced_nothing (false || (m && false)) (TokenInFront SymbolEnds) ps)
+pub space_after : (front : Front) (ps : List Piece) → joined_after Space ps ≡ joined_after front (SpacePiece ∷ ps)
+space_after Nothing ps = refl
+space_after Space ps = refl
+space_after (BehindToken side) ps = refl
+space_after (PrefixOperator m) ps = sym (spaced_nothing (false || (m && false)) (TokenInFront SymbolEnds) ps)
 
 -- a token whose text is the same in all styles
 pub same_text : (style : Style) (x : Lexeme) → plain_text x ≡ quoted_text x → token_text style x ≡ quoted_text x

@@ -53,8 +53,8 @@ adds_same n t old new f g v w a e h =
     record { pieces = a.pieces ∙ e (due_pieces n t old []); lighter = omega (arith, a.lighter); placed = a.placed }
 
 -- the terms from a place on
-pub terms_behind : (t : Term) (at behind : ℕ) → drop at (cells_of t) ≡ cells_of (subterm at t) ++ drop behind (cells_of t) → terms_at t at ≡ more (subterm at t) (terms_at t behind)
-terms_behind t at behind e = ap terms_of e ∙ terms_of-cells_of (subterm at t) (drop behind (cells_of t))
+pub terms_after : (t : Term) (at after : ℕ) → drop at (cells_of t) ≡ cells_of (subterm at t) ++ drop after (cells_of t) → terms_at t at ≡ more (subterm at t) (terms_at t after)
+terms_after t at after e = ap terms_of e ∙ terms_of-cells_of (subterm at t) (drop after (cells_of t))
 
 form_by_count : (n : Notation) (f : List ℕ) (ts : Terms) → counted_form n f (count ts) ≡ form_of n f ts
 form_by_count n f end = refl

@@ -7,17 +7,17 @@ use Rattle.term_writer.specs.declared.text.Front.{Front}
 use Rattle.term_writer.specs.declared.text.Front.TheVariants.{Nothing, Space, Token, PrefixOperator}
 use Rattle.term_writer.specs.TextInProgress.{joined_after, bytes_with}
 
-nothing_behind : (front : Front) → joined_after front [] ≡ []
-nothing_behind Nothing = refl
-nothing_behind Space = refl
-nothing_behind (Token side) = refl
-nothing_behind (PrefixOperator true) = refl
-nothing_behind (PrefixOperator false) = refl
+nothing_after : (front : Front) → joined_after front [] ≡ []
+nothing_after Nothing = refl
+nothing_after Space = refl
+nothing_after (Token side) = refl
+nothing_after (PrefixOperator true) = refl
+nothing_after (PrefixOperator false) = refl
 
 pub ends_here : (style : Style) (bytes : List ℕ) (front : Front) → bytes_with style bytes front [] ≡ bytes
-ends_here style bytes front = ap (λ ts. bytes ++ text_of_tokens (token_text style) ts) (nothing_behind front) ∙ append-nil bytes
+ends_here style bytes front = ap (λ ts. bytes ++ text_of_tokens (token_text style) ts) (nothing_after front) ∙ append-nil bytes
 
 -- what was written behind bytes of a text in which nothing stands in front
-pub written_behind : (style after : Style) (old new : List ℕ) (front behind : Front) (ps : List Piece)
-    → bytes_with after new behind [] ≡ bytes_with style old front ps → front ≡ Nothing → new ≡ bytes_with style old Nothing ps
-written_behind style after old new front behind ps e f = sym (ends_here after new behind) ∙ (e ∙ ap (λ g. bytes_with style old g ps) f)
+pub written_after : (style after : Style) (old new : List ℕ) (front front_after : Front) (ps : List Piece)
+    → bytes_with after new front_after [] ≡ bytes_with style old front ps → front ≡ Nothing → new ≡ bytes_with style old Nothing ps
+written_after style after old new front front_after ps e f = sym (ends_here after new front_after) ∙ (e ∙ ap (λ g. bytes_with style old g ps) f)

@@ -87,17 +87,17 @@ module _ (nt : Notation) where
       let left = shut (is_enclosed_left nt o l) (pieces nt l) k.front in
       let right = shut (is_enclosed nt (right_bound o) r) (pieces nt r) m.front in
       let before : List Piece → List Piece = enclosed (is_enclosed_left nt o l) (pieces nt l) in
-      let behind : List Piece → List Piece = enclosed (is_enclosed nt (right_bound o) r) (pieces nt r) in
+      let after : List Piece → List Piece = enclosed (is_enclosed nt (right_bound o) r) (pieces nt r) in
       record {
-        last = λ ps qs. ap (λ q. before (infix_pieces o n q)) (right.last ps qs) ∙ (ap before (infix-last o n (behind ps) qs) ∙ left.last (infix_pieces o n (behind ps)) qs);
-        some = λ ps. left.some (infix_pieces o n (behind ps));
+        last = λ ps qs. ap (λ q. before (infix_pieces o n q)) (right.last ps qs) ∙ (ap before (infix-last o n (after ps) qs) ∙ left.last (infix_pieces o n (after ps)) qs);
+        some = λ ps. left.some (infix_pieces o n (after ps));
       }
 
   prefix-extends : (o : Operator) (n : List ℕ) (t : Term) → Extended t → Extends (compound_pieces nt (PrefixForm o) n (more t end))
   prefix-extends o n t k =
       let right = shut (is_enclosed nt (right_bound o) t) (pieces nt t) k.front in
-      let behind : List Piece → List Piece = enclosed (is_enclosed nt (right_bound o) t) (pieces nt t) in
-      record { last = λ ps qs. ap (prefix_pieces n) (right.last ps qs) ∙ prefix-last n (behind ps) qs (right.some ps); some = λ ps. omega arith }
+      let after : List Piece → List Piece = enclosed (is_enclosed nt (right_bound o) t) (pieces nt t) in
+      record { last = λ ps qs. ap (prefix_pieces n) (right.last ps qs) ∙ prefix-last n (after ps) qs (right.some ps); some = λ ps. omega arith }
 
   postfix-extends : (o : Operator) (n : List ℕ) (t : Term) → Extended t → Extends (compound_pieces nt (PostfixForm o) n (more t end))
   postfix-extends o n t k =

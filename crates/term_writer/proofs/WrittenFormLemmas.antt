@@ -18,7 +18,7 @@ use Rattle.au_model.specs.Writing.WrittenTerms.{variable_token, name_token, name
 use Rattle.au_model.specs.Writing.ReadBack.{tree_of, trees_of, IsSmall}
 use Rattle.term_writer.proofs.OperatorTableLemmas.{ranged}
 use Rattle.au_model.specs.Syntax.Operators.{PrefixClass, InfixClass, PostfixClass}
-use Rattle.term_writer.proofs.PieceSeamLemmas.{behind_token, Follows, meets-other, and-false, opens-by, counts-by, follows-opens, follows-counts, closes_round, closes_list, closes_curly, bars, commas, begins_name, before_name, sign_name, infix-follows, postfix-follows, infix-at, postfix-at, name-at}
+use Rattle.term_writer.proofs.PieceSeamLemmas.{after_token, Follows, meets-other, and-false, opens-by, counts-by, follows-opens, follows-counts, closes_round, closes_list, closes_curly, bars, commas, begins_name, before_name, sign_name, infix-follows, postfix-follows, infix-at, postfix-at, name-at}
 use Rattle.term_writer.proofs.OperandPieceLemmas.{notated, form_edge, Reads, OperandReads, ArgumentsRead, Alone, Facts, Tails, starts_term, or-right, right-reads, item-reads, shut-says, left-reads, shut-starts, shut-left-plain, shut-plain, shut-opening}
 
 curly-begins : (ts : List Token) → starts_term ts ≡ true → curly_primary ts ≡ Curly ts
@@ -35,13 +35,13 @@ count_trees : (ts : Terms) → tree_count (trees_of ts) ≡ count ts
 count_trees end = refl
 count_trees (more t ts) = ap suc (count_trees ts)
 
-joint_is : (n : List ℕ) (i p : Option Operator) → is_post_operator (infix_operator n i p) ≡ (is_some i || is_some p)
-joint_is n (Some o) p = refl
-joint_is n None (Some o) = refl
-joint_is n None None = refl
+post_operator_is : (n : List ℕ) (i p : Option Operator) → is_post_operator (infix_operator n i p) ≡ (is_some i || is_some p)
+post_operator_is n (Some o) p = refl
+post_operator_is n None (Some o) = refl
+post_operator_is n None None = refl
 
-no_joint : (ops : OperatorTable) (n : List ℕ) → (is_some (infix_of ops n) || is_some (postfix_of ops n)) ≡ false → is_post_operator (named_post_operator ops n) ≡ false
-no_joint ops n e = joint_is n (infix_of ops n) (postfix_of ops n) ∙ e
+no_post_operator : (ops : OperatorTable) (n : List ℕ) → (is_some (infix_of ops n) || is_some (postfix_of ops n)) ≡ false → is_post_operator (named_post_operator ops n) ≡ false
+no_post_operator ops n e = post_operator_is n (infix_of ops n) (postfix_of ops n) ∙ e
 
 or-mid : (x y z : Bool) → y ≡ true → (x || (y || z)) ≡ true
 or-mid true y z e = refl
@@ -76,8 +76,8 @@ module _ (s : Setting) (table : IsOperatorTable s.ops) where
     tail_reads = λ ts head rest b op.
         let P : List Piece → Type 0 = λ ps. Operand s 999 ts (joined_pieces b ps) head in
         let o = subst P (e (Put CloseList ∷ rest)) op in
-        let r = item-reads s t x f above (Put CloseList ∷ rest) closes_list (λ b. refl) (behind_token Bar) in
-        record { before = behind_token CloseList; is = barred o r.is };
+        let r = item-reads s t x f above (Put CloseList ∷ rest) closes_list (λ b. refl) (after_token Bar) in
+        record { before = after_token CloseList; is = barred o r.is };
   }
 
   -- ---- leaves
@@ -85,12 +85,12 @@ module _ (s : Setting) (table : IsOperatorTable s.ops) where
   pub var-facts : (n : ℕ) → Facts s (VarTerm n)
   var-facts n = record {
     limit = omega arith;
-    front = λ rest w alone b. record { before = behind_token (variable_token n); is = form leaf };
+    front = λ rest w alone b. record { before = after_token (variable_token n); is = form leaf };
     starts = λ e rest b. refl;
     opening = λ rest b. refl;
   }
 
-  pos-begins : (k : ℕ) (ts : List Token) → k < 2 ^ 63 → (if nat_lt k (2 ^ 63) then Leaf (IntTree (pos k)) ts else Opening.Fails) ≡ Leaf (IntTree (pos k)) ts
+  pos-begins : (k : ℕ) (ts : List Token) → k < 2 ^ 63 → (if nat_lt k (2 ^ 63) then Leaf (IntTree (pos k)) ts else Primary.Fails) ≡ Leaf (IntTree (pos k)) ts
   pos-begins k ts h = let e : nat_lt k (2 ^ 63) ≡ true = grind (arith, h) in rw e refl
 
   tight-sign : run_together (name_ends (codes "-")) LetterEnds ≡ false
@@ -109,17 +109,17 @@ module _ (s : Setting) (table : IsOperatorTable s.ops) where
   pub int-facts : (z : ℤ) → IsSmall z → Facts s (IntTerm z)
   int-facts (pos k) h = record {
     limit = omega arith;
-    front = λ rest w alone b. record { before = behind_token (Integer k); is = form (rw (pos-begins k (joined_pieces (behind_token (Integer k)) rest) h) leaf) };
+    front = λ rest w alone b. record { before = after_token (Integer k); is = form (rw (pos-begins k (joined_pieces (after_token (Integer k)) rest) h) leaf) };
     starts = λ e rest b. refl;
     opening = λ rest b. refl;
   }
   int-facts (negsuc k) h = record {
     limit = omega arith;
     front = λ rest w alone b. record {
-      before = behind_token (Integer (suc k));
-      is = form (rw (neg-begins k (run_together (name_ends (codes "-")) LetterEnds) (are_separate b (Name (codes "-"))) (joined_pieces (behind_token (Integer (suc k))) rest) tight-sign) leaf);
+      before = after_token (Integer (suc k));
+      is = form (rw (neg-begins k (run_together (name_ends (codes "-")) LetterEnds) (are_separate b (Name (codes "-"))) (joined_pieces (after_token (Integer (suc k))) rest) tight-sign) leaf);
     };
-    starts = λ e rest b. neg-starts k (run_together (name_ends (codes "-")) LetterEnds) (are_separate b (Name (codes "-"))) (joined_pieces (behind_token (Integer (suc k))) rest) tight-sign;
+    starts = λ e rest b. neg-starts k (run_together (name_ends (codes "-")) LetterEnds) (are_separate b (Name (codes "-"))) (joined_pieces (after_token (Integer (suc k))) rest) tight-sign;
     opening = λ rest b. refl;
   }
 
@@ -132,9 +132,9 @@ module _ (s : Setting) (table : IsOperatorTable s.ops) where
       go (Some p) e = let k : is_operator_name s.ops n ≡ true = rw e refl in rw (h k) refl
 
   plain-starts : (n : List ℕ) (ts : List Token) → is_operator_name s.ops n ≡ false → ends_operand_before s.ops (name_token n) ts ≡ false
-  plain-starts n ts e = before_name s n ts ∙ rw (no_joint s.ops n (or-right (is_some (prefix_of s.ops n)) (is_some (infix_of s.ops n) || is_some (postfix_of s.ops n)) e)) refl
+  plain-starts n ts e = before_name s n ts ∙ rw (no_post_operator s.ops n (or-right (is_some (prefix_of s.ops n)) (is_some (infix_of s.ops n) || is_some (postfix_of s.ops n)) e)) refl
 
-  name-starts : (n : List ℕ) (ps : List Piece) (b : InFront) → ((c : InFront) → ends_operand_before s.ops (name_token n) (joined_pieces (behind_token (name_token n)) ps) ≡ false)
+  name-starts : (n : List ℕ) (ps : List Piece) (b : InFront) → ((c : InFront) → ends_operand_before s.ops (name_token n) (joined_pieces (after_token (name_token n)) ps) ≡ false)
       → prefix_is_atom s.ops (joined_pieces b (name_pieces n ps)) ≡ false
   name-starts n ps b h = go (same_name n nil_name) (same_name n braces_name)
     where
@@ -156,7 +156,7 @@ module _ (s : Setting) (table : IsOperatorTable s.ops) where
       go : (x y : Bool) → starts_term (joined_pieces b (if x then Put OpenList ∷ Put CloseList ∷ ps else if y then Put OpenCurly ∷ Put CloseCurly ∷ ps else Put (name_token n) ∷ ps)) ≡ true
       go true y = refl
       go false true = refl
-      go false false = name-word-starts n (are_separate b (name_token n)) (joined_pieces (behind_token (name_token n)) ps)
+      go false false = name-word-starts n (are_separate b (name_token n)) (joined_pieces (after_token (name_token n)) ps)
 
   pub atom-facts : (n : List ℕ) → Facts s (AtomTerm n)
   atom-facts n = record {
@@ -167,7 +167,7 @@ module _ (s : Setting) (table : IsOperatorTable s.ops) where
           before = a.before;
           is = form (rw (a.is ∙ atom-opens n a.sign (joined_pieces a.before rest) (follows-opens a.before w) (follows-counts a.before w) (λ e. alone e a.before)) leaf);
         };
-    starts = λ e rest b. name-starts n rest b (λ c. plain-starts n (joined_pieces (behind_token (name_token n)) rest) e);
+    starts = λ e rest b. name-starts n rest b (λ c. plain-starts n (joined_pieces (after_token (name_token n)) rest) e);
     opening = λ rest b. name-opening n rest b;
   }
 
@@ -182,9 +182,9 @@ module _ (s : Setting) (table : IsOperatorTable s.ops) where
         tail_reads = λ ts head rest b op.
             let same_rest : tail_pieces (notated s.ops) (AtomTerm n) (Put CloseList ∷ rest) ≡ Put CloseList ∷ rest = rw e refl in
             let P : List Piece → Type 0 = λ ps. Operand s 999 ts (joined_pieces b ps) head in
-            let Q : List ℕ → Type 0 = λ k. Items s ts (joined_pieces (behind_token CloseList) rest) (cell head (AtomTree k)) in
+            let Q : List ℕ → Type 0 = λ k. Items s ts (joined_pieces (after_token CloseList) rest) (cell head (AtomTree k)) in
             let o = subst P same_rest op in
-            record { before = behind_token CloseList; is = subst Q (sym (same_text n nil_name (sym e))) (last o) };
+            record { before = after_token CloseList; is = subst Q (sym (same_text n nil_name (sym e))) (last o) };
       }
 
   -- ---- compounds
@@ -241,7 +241,7 @@ module _ (s : Setting) (table : IsOperatorTable s.ops) where
 
   prefix-start : (n : List ℕ) (ps : List Piece) (b : InFront) → starts_term (joined_pieces b (prefix_pieces n ps)) ≡ true
   prefix-start n ps b =
-      name-word-starts n (are_separate b (name_token n)) (joined_pieces (behind_token (name_token n)) (spaced (not (is_symbol_name n) || (begins_with is_open ps || (same_name n (codes "-") && begins_with is_integer_term ps))) ps))
+      name-word-starts n (are_separate b (name_token n)) (joined_pieces (after_token (name_token n)) (spaced (not (is_symbol_name n) || (begins_with is_open ps || (same_name n (codes "-") && begins_with is_integer_term ps))) ps))
 
   prefix-facts : (n : List ℕ) (o : Operator) (t : Term) → prefix_of s.ops n ≡ Some o → Facts s t → FactsAt (PrefixForm o) n (more t end)
   prefix-facts n o t e f =
@@ -252,11 +252,11 @@ module _ (s : Setting) (table : IsOperatorTable s.ops) where
         front = λ rest w b.
             let ps = enclosed (is_enclosed (notated s.ops) (right_bound o) t) (pieces (notated s.ops) t) rest in
             let x = not (is_symbol_name n) || (begins_with is_open ps || (same_name n (codes "-") && begins_with is_integer_term ps)) in
-            let ts = joined_pieces (behind_token w0) (spaced x ps) in
-            let opens_not = opens-by (behind_token w0) x ps (or-mid (not (is_symbol_name n)) (begins_with is_open ps) (same_name n (codes "-") && begins_with is_integer_term ps)) in
-            let sign_not = and-when (is_minus w0) (has_direct_integer ts) (λ h. counts-by (behind_token w0) x ps (λ k. or-end (not (is_symbol_name n)) (begins_with is_open ps) (same_name n (codes "-") && begins_with is_integer_term ps) (and-both _ _ (sign_name s n h) k))) in
-            let alone_not = spaced-alone x ps (behind_token w0) (λ c. shut-starts s t (is_enclosed (notated s.ops) (right_bound o) t) f (shut-plain s (right_bound o) t) rest c) in
-            let r = spaced-reads x (right_bound o) ps rest t (behind_token w0) (λ c. right-reads s (right_bound o) t (is_enclosed (notated s.ops) (right_bound o) t) f (shut-says s (right_bound o) t) rest w c) in
+            let ts = joined_pieces (after_token w0) (spaced x ps) in
+            let opens_not = opens-by (after_token w0) x ps (or-mid (not (is_symbol_name n)) (begins_with is_open ps) (same_name n (codes "-") && begins_with is_integer_term ps)) in
+            let sign_not = and-when (is_minus w0) (has_direct_integer ts) (λ h. counts-by (after_token w0) x ps (λ k. or-end (not (is_symbol_name n)) (begins_with is_open ps) (same_name n (codes "-") && begins_with is_integer_term ps) (and-both _ _ (sign_name s n h) k))) in
+            let alone_not = spaced-alone x ps (after_token w0) (λ c. shut-starts s t (is_enclosed (notated s.ops) (right_bound o) t) f (shut-plain s (right_bound o) t) rest c) in
+            let r = spaced-reads x (right_bound o) ps rest t (after_token w0) (λ c. right-reads s (right_bound o) t (is_enclosed (notated s.ops) (right_bound o) t) f (shut-says s (right_bound o) t) rest w c) in
             record { before = r.before; is = form (rw (begins_name s n ts ∙ prefix-opens n o (is_minus w0) ts e opens_not sign_not alone_not) (prefixed r.is)) };
         starts = λ rest b. before_name s n _ ∙ rw e (and-false _);
         opening = λ rest b. prefix-start n (enclosed (is_enclosed (notated s.ops) (right_bound o) t) (pieces (notated s.ops) t) rest) b;
@@ -266,10 +266,10 @@ module _ (s : Setting) (table : IsOperatorTable s.ops) where
   curly-facts n t e f = record {
     limit = omega arith;
     front = λ rest w b.
-        let r = f.front (Put CloseCurly ∷ rest) closes_curly (λ k c. refl) (behind_token OpenCurly) in
-        let Q : List ℕ → Type 0 = λ k. Spelled s (joined_pieces b (Put OpenCurly ∷ pieces (notated s.ops) t (Put CloseCurly ∷ rest))) (joined_pieces (behind_token CloseCurly) rest) (one k (tree_of t)) 0 in
-        let sp = form (rw (curly-begins _ (f.opening (Put CloseCurly ∷ rest) (behind_token OpenCurly))) (curly (operand r.is f.limit refl))) in
-        record { before = behind_token CloseCurly; is = subst Q (sym e) sp };
+        let r = f.front (Put CloseCurly ∷ rest) closes_curly (λ k c. refl) (after_token OpenCurly) in
+        let Q : List ℕ → Type 0 = λ k. Spelled s (joined_pieces b (Put OpenCurly ∷ pieces (notated s.ops) t (Put CloseCurly ∷ rest))) (joined_pieces (after_token CloseCurly) rest) (one k (tree_of t)) 0 in
+        let sp = form (rw (curly-begins _ (f.opening (Put CloseCurly ∷ rest) (after_token OpenCurly))) (curly (operand r.is f.limit refl))) in
+        record { before = after_token CloseCurly; is = subst Q (sym e) sp };
     starts = λ rest b. refl;
     opening = λ rest b. refl;
   }
@@ -278,10 +278,10 @@ module _ (s : Setting) (table : IsOperatorTable s.ops) where
   list-facts n t u e f g = record {
     limit = omega arith;
     front = λ rest w b.
-        let r = item-reads s t (is_above (notated s.ops) 999 t) f refl (tail_pieces (notated s.ops) u (Put CloseList ∷ rest)) (g.tail_follows rest) (g.tail_alone rest) (behind_token OpenList) in
+        let r = item-reads s t (is_above (notated s.ops) 999 t) f refl (tail_pieces (notated s.ops) u (Put CloseList ∷ rest)) (g.tail_follows rest) (g.tail_alone rest) (after_token OpenList) in
         let i = g.tail_reads _ (tree_of t) rest r.before r.is in
         let Q : List ℕ → Type 0 = λ k. Spelled s (joined_pieces b (Put OpenList ∷ enclosed (is_above (notated s.ops) 999 t) (pieces (notated s.ops) t) (tail_pieces (notated s.ops) u (Put CloseList ∷ rest)))) (joined_pieces i.before rest) (two k (tree_of t) (tree_of u)) 0 in
-        let sp = form (rw (list-begins _ (shut-opening s t (is_above (notated s.ops) 999 t) f (tail_pieces (notated s.ops) u (Put CloseList ∷ rest)) (behind_token OpenList))) (listed i.is)) in
+        let sp = form (rw (list-begins _ (shut-opening s t (is_above (notated s.ops) 999 t) f (tail_pieces (notated s.ops) u (Put CloseList ∷ rest)) (after_token OpenList))) (listed i.is)) in
         record { before = i.before; is = subst Q (sym e) sp };
     starts = λ rest b. refl;
     opening = λ rest b. refl;
@@ -301,9 +301,9 @@ module _ (s : Setting) (table : IsOperatorTable s.ops) where
 
   later-reads : (ts : Terms) → AllFacts ts → (us : List Token) (t : Tree) (rest : List Piece) (b : InFront)
       → Operand s 999 us (joined_pieces b (further_pieces (notated s.ops) ts rest)) t → ArgumentsRead s us rest (more_trees t (trees_of ts))
-  later-reads end f us t rest b op = record { before = behind_token Close; is = final op }
+  later-reads end f us t rest b op = record { before = after_token Close; is = final op }
   later-reads (more u ts) f us t rest b op =
-      let r = item-reads s u (is_above (notated s.ops) 999 u) f.0 refl (further_pieces (notated s.ops) ts rest) (later-follows ts rest) (later-alone ts rest) (behind_token Comma) in
+      let r = item-reads s u (is_above (notated s.ops) 999 u) f.0 refl (further_pieces (notated s.ops) ts rest) (later-follows ts rest) (later-alone ts rest) (after_token Comma) in
       let i = later-reads ts f.1 _ (tree_of u) rest r.before r.is in
       record { before = i.before; is = argument op i.is }
 
@@ -319,9 +319,9 @@ module _ (s : Setting) (table : IsOperatorTable s.ops) where
     front = λ rest w b.
         let ps = enclosed (is_above (notated s.ops) 999 t) (pieces (notated s.ops) t) (further_pieces (notated s.ops) ts rest) in
         let a = name-at s table n (Put Open ∷ ps) b in
-        let r = item-reads s t (is_above (notated s.ops) 999 t) f refl (further_pieces (notated s.ops) ts rest) (later-follows ts rest) (later-alone ts rest) (behind_token Open) in
+        let r = item-reads s t (is_above (notated s.ops) 999 t) f refl (further_pieces (notated s.ops) ts rest) (later-follows ts rest) (later-alone ts rest) (after_token Open) in
         let i = later-reads ts g _ (tree_of t) rest r.before r.is in
-        record { before = i.before; is = form (rw (a.is ∙ call-opens n a.sign (are_separate a.before Open) (joined_pieces (behind_token Open) ps) a.tight) (called i.is (omega (arith, h, count_trees ts)))) };
+        record { before = i.before; is = form (rw (a.is ∙ call-opens n a.sign (are_separate a.before Open) (joined_pieces (after_token Open) ps) a.tight) (called i.is (omega (arith, h, count_trees ts)))) };
     starts = λ rest b. name-starts n _ b (λ c. call-starts n _ _ (meets-other _));
     opening = λ rest b. name-opening n _ b;
   }
@@ -361,7 +361,7 @@ module _ (s : Setting) (table : IsOperatorTable s.ops) where
         let as_cell : tail_pieces (notated s.ops) (Compound n (more t (more u end))) (Put CloseList ∷ rest) ≡ Put Comma ∷ ps = rw e refl in
         let P : List Piece → Type 0 = λ ps. Operand s 999 ts (joined_pieces b ps) head in
         let o = subst P as_cell op in
-        let r = item-reads s t (is_above (notated s.ops) 999 t) f refl (tail_pieces (notated s.ops) u (Put CloseList ∷ rest)) (g.tail_follows rest) (g.tail_alone rest) (behind_token Comma) in
+        let r = item-reads s t (is_above (notated s.ops) 999 t) f refl (tail_pieces (notated s.ops) u (Put CloseList ∷ rest)) (g.tail_follows rest) (g.tail_alone rest) (after_token Comma) in
         let i = g.tail_reads _ (tree_of t) rest r.before r.is in
         let Q : List ℕ → Type 0 = λ k. Items s ts (joined_pieces i.before rest) (cell head (two k (tree_of t) (tree_of u))) in
         record { before = i.before; is = subst Q (sym (same_text n (codes ".") (sym e))) (item o i.is) };

@@ -52,7 +52,7 @@ impl<'a> Source<'a> {
     }
 
     /// Where the term behind the subterm at a place begins.
-    fn behind(self, at: usize) -> usize
+    fn after(self, at: usize) -> usize
         requires { IsSourcePlace self at }
         ensures { terms_at (term_of_source self.entry) at ≡ more (source_subterm self.entry at) (terms_at (term_of_source self.entry) result) }
     {
@@ -226,7 +226,7 @@ impl<'a> Source<'a> {
         ensures { OnOk result (OpensCompound self.entry at FunctionalForm name.now due.old.items due.new.items) }
     {
         let first = self.first_argument(at);
-        due.push(Task::Further(self.behind(first), arity - 1))?;
+        due.push(Task::Further(self.after(first), arity - 1))?;
         self.argument(first, due)?;
         due.push(Task::Mark(Mark::Open))?;
         due.push(Task::Name(name))?;
@@ -293,7 +293,7 @@ impl<'a> Source<'a> {
         if left == 0 {
             due.push(Task::Mark(Mark::Close))?;
         } else {
-            due.push(Task::Further(self.behind(at), left - 1))?;
+            due.push(Task::Further(self.after(at), left - 1))?;
             self.argument(at, due)?;
             due.push(Task::Mark(Mark::Comma))?;
         }

@@ -59,14 +59,14 @@ clause_kept xs (ClauseSentence d) l new c e k a is = record {
 clause_kept xs (QuerySentence q) l new c e k a is = absurd is
 clause_kept xs (NoSentence kind) l new c e k a is = absurd is
 
-pub query_kept_behind : (xs : List Sentence) (x : Sentence) (l new : Loaded) (q : QueryTerms) → new.queries.items ≡ l.queries.items ++ q ∷ [] → new.clauses.items ≡ l.clauses.items
+pub query_kept_after : (xs : List Sentence) (x : Sentence) (l new : Loaded) (q : QueryTerms) → new.queries.items ≡ l.queries.items ++ q ∷ [] → new.clauses.items ≡ l.clauses.items
     → AreLoaded xs l → IsSentenceOf x (kept.Query q) → AreLoaded (xs ++ x ∷ []) new
-query_kept_behind xs (ClauseSentence d) l new q e k a is = absurd is
-query_kept_behind xs (QuerySentence d) l new q e k a is = record {
+query_kept_after xs (ClauseSentence d) l new q e k a is = absurd is
+query_kept_after xs (QuerySentence d) l new q e k a is = record {
   clauses = ap (map arc_value) k ∙ (a.clauses ∙ (sym (append-none (clauses_in xs)) ∙ sym (clauses-more xs (QuerySentence d))));
   queries = e ∙ (ap (λ ys. ys ++ q ∷ []) a.queries ∙ (ap (λ y. queries_in xs ++ y ∷ []) is ∙ sym (queries-more xs (QuerySentence d))));
 }
-query_kept_behind xs (NoSentence kind) l new q e k a is = absurd is
+query_kept_after xs (NoSentence kind) l new q e k a is = absurd is
 
 pub none_kept : (xs : List Sentence) (x : Sentence) (l : Loaded) (kind : FaultKind) → AreLoaded xs l → IsSentence x → IsSentenceOf x (kept.Refused kind) → AreLoaded (xs ++ x ∷ []) l
 none_kept xs (ClauseSentence d) l kind a s is = absurd is

@@ -4,11 +4,11 @@ use Rattle.std.specs.Str.{IsUtf8, IsCharBoundary}
 use Rattle.std.proofs.lemmas.Bool.{lt-ltb, le-ltb}
 use Rattle.au_model.specs.Syntax.Characters.{is_blank, is_in_line, first_is, after_run, chars_from}
 use Rattle.au_model.specs.Syntax.Layout.{LayoutItem, ItemThen, NotClosed, NoLayout, comment_item, layout_item, after_comment, GapThen, GapNotClosed, after_layout_item, after_layout_items, after_layout, begins_layout, is_layout}
-use Rattle.token_scan.proofs.RunLemmas.{length-behind_run, none_left, one_place}
+use Rattle.token_scan.proofs.RunLemmas.{length-after_run, none_left, one_place}
 
-behind_comment-shorter : (cs rest : List ℕ) → after_comment cs ≡ Some rest → length rest < length cs
-behind_comment-shorter [] rest e = let f : ⊥ = cc in absurd f
-behind_comment-shorter (c ∷ cs) rest e = go ((c == 42) && first_is 47 cs) refl (behind_comment-shorter cs rest) where
+after_comment-shorter : (cs rest : List ℕ) → after_comment cs ≡ Some rest → length rest < length cs
+after_comment-shorter [] rest e = let f : ⊥ = cc in absurd f
+after_comment-shorter (c ∷ cs) rest e = go ((c == 42) && first_is 47 cs) refl (after_comment-shorter cs rest) where
   go : (b : Bool) → ((c == 42) && first_is 47 cs) ≡ b → (after_comment cs ≡ Some rest → length rest < length cs) → length rest < length (c ∷ cs)
   go true h more = let k = rw h at e in let same : drop 1 cs ≡ rest = cc in omega (arith, ap length same, length-drop 1 cs)
   go false h more = let k = rw h at e in let l = more k in omega arith
@@ -24,11 +24,11 @@ item-shorter (c ∷ cs) rest e = blank (is_blank c) refl where
   comment : (b : Bool) → ((c == 47) && first_is 42 cs) ≡ b → is_blank c ≡ false → (c == 37) ≡ false → length rest < length (c ∷ cs)
   comment true h n m =
       let k : comment_item (after_comment (drop 1 cs)) ≡ ItemThen rest = rw (n, m, h) at e in
-      let l = behind_comment-shorter (drop 1 cs) rest (comment-shorter (after_comment (drop 1 cs)) rest k) in omega (arith, length-drop 1 cs)
+      let l = after_comment-shorter (drop 1 cs) rest (comment-shorter (after_comment (drop 1 cs)) rest k) in omega (arith, length-drop 1 cs)
   comment false h n m = let k = rw (n, m, h) at e in let f : ⊥ = cc in absurd f
 
   line : (b : Bool) → (c == 37) ≡ b → is_blank c ≡ false → length rest < length (c ∷ cs)
-  line true h n = let k = rw (n, h) at e in let same : after_run is_in_line cs ≡ rest = cc in omega (arith, ap length same, length-behind_run is_in_line cs)
+  line true h n = let k = rw (n, h) at e in let same : after_run is_in_line cs ≡ rest = cc in omega (arith, ap length same, length-after_run is_in_line cs)
   line false h n = comment ((c == 47) && first_is 42 cs) refl n h
 
   blank : (b : Bool) → is_blank c ≡ b → length rest < length (c ∷ cs)
@@ -60,9 +60,9 @@ one_item (suc n) cs h = go (layout_item cs) refl where
   go NotClosed e = rw e
   go NoLayout e = rw e
 
-pub behind_layout-item : (cs : List ℕ) → after_layout cs ≡ after_layout_item after_layout cs (layout_item cs)
+pub after_layout-item : (cs : List ℕ) → after_layout cs ≡ after_layout_item after_layout cs (layout_item cs)
 unfolding after_layout
-behind_layout-item cs = one_item (length cs) cs refl
+after_layout-item cs = one_item (length cs) cs refl
 
 -- what is left behind layout is no longer than the text
 items-within : (n : ℕ) (cs rest : List ℕ) → after_layout_items n cs ≡ GapThen rest → length rest ≤ length cs
@@ -96,9 +96,9 @@ layout-shorter cs rest b e = go (layout_item cs) refl where
   go : (i : LayoutItem) → layout_item cs ≡ i → length rest < length cs
   go (ItemThen ds) h =
       let s = item-shorter cs ds h in
-      let k : after_layout ds ≡ GapThen rest = ap (after_layout_item after_layout cs) (sym h) ∙ (sym (behind_layout-item cs) ∙ e) in
+      let k : after_layout ds ≡ GapThen rest = ap (after_layout_item after_layout cs) (sym h) ∙ (sym (after_layout-item cs) ∙ e) in
       let l = layout-within ds rest k in omega arith
-  go NotClosed h = let k : GapNotClosed cs ≡ GapThen rest = ap (after_layout_item after_layout cs) (sym h) ∙ (sym (behind_layout-item cs) ∙ e) in let f : ⊥ = cc in absurd f
+  go NotClosed h = let k : GapNotClosed cs ≡ GapThen rest = ap (after_layout_item after_layout cs) (sym h) ∙ (sym (after_layout-item cs) ∙ e) in let f : ⊥ = cc in absurd f
   go NoLayout h = let k = rw h at b in let f : ⊥ = cc in absurd f
 
 no_layout : (cs rest : List ℕ) → begins_layout cs ≡ false → after_layout cs ≡ GapThen rest → cs ≡ rest
@@ -106,7 +106,7 @@ no_layout cs rest b e = go (layout_item cs) refl where
   go : (i : LayoutItem) → layout_item cs ≡ i → cs ≡ rest
   go (ItemThen ds) h = let k = rw h at b in let f : ⊥ = cc in absurd f
   go NotClosed h = let k = rw h at b in let f : ⊥ = cc in absurd f
-  go NoLayout h = let k : GapThen cs ≡ GapThen rest = ap (after_layout_item after_layout cs) (sym h) ∙ (sym (behind_layout-item cs) ∙ e) in cc
+  go NoLayout h = let k : GapThen cs ≡ GapThen rest = ap (after_layout_item after_layout cs) (sym h) ∙ (sym (after_layout-item cs) ∙ e) in cc
 
 -- layout stands before a token just where the token is further on
 pub layout-before : (text : List ℕ) (at start : ℕ) → IsUtf8 text → IsCharBoundary text at → IsCharBoundary text start → at ≤ start
@@ -123,7 +123,7 @@ layout-before text at start u i j l e = go (begins_layout (chars_from text at)) 
       rw h (le-ltb at start (omega arith))
 
 step : (cs : List ℕ) (i : LayoutItem) → layout_item cs ≡ i → after_layout cs ≡ after_layout_item after_layout cs i
-step cs i e = behind_layout-item cs ∙ ap (after_layout_item after_layout cs) e
+step cs i e = after_layout-item cs ∙ ap (after_layout_item after_layout cs) e
 
 -- the same by the first characters
 pub layout-blank : {cs ds : List ℕ} {c : ℕ} → cs ≡ c ∷ ds → is_blank c ≡ true → after_layout cs ≡ after_layout ds

@@ -7,7 +7,7 @@ use Rattle.std.proofs.lemmas.Str.{chars-append, chars-nil, chars_past_char, IsUt
 use Rattle.au_model.specs.Syntax.Characters.{is_digit_of, first_is, after_run}
 use Rattle.au_model.specs.Syntax.Quoted.{Part, StandsFor, StandsForNothing, ClosingQuote, NoEscape, CutOff, named_escape, named_part, numbered_part, numbered_escape, escape, part, Quoted, QuotedThen, WrongEscape, NeverClosed, with_characters, after_part, quoted_parts, quoted}
 use Rattle.token_scan.specs.ScannedParts.{quoted_rest}
-use Rattle.token_scan.proofs.RunLemmas.{length-behind_run}
+use Rattle.token_scan.proofs.RunLemmas.{length-after_run}
 
 -- what is left behind a part is shorter
 abbrev pub EndsWithin : ℕ → Part → Type 0
@@ -33,13 +33,13 @@ numbered_part-within b d n (c ∷ cs) l = feed (c == 10) refl where
   feed false e = sign (b && (c == 92)) refl e
 
 numbered-within : (base n : ℕ) (cs : List ℕ) → length cs ≤ n → EndsWithin n (numbered_escape base cs)
-numbered-within base n cs l = numbered_part-within _ _ n (after_run (is_digit_of base) cs) (omega (arith, length-behind_run (is_digit_of base) cs))
+numbered-within base n cs l = numbered_part-within _ _ n (after_run (is_digit_of base) cs) (omega (arith, length-after_run (is_digit_of base) cs))
 
 pub escape-within : (n : ℕ) (cs : List ℕ) → length cs ≤ n → EndsWithin n (escape cs)
 escape-within n [] l = tt
 escape-within n (c ∷ cs) l = feed (c == 10) refl where
   octal : (t : Bool) → is_digit_of 8 c ≡ t → (c == 10) ≡ false → (c == 120) ≡ false → EndsWithin n (escape (c ∷ cs))
-  octal true e f x = rw (f, x, e) (numbered_part-within _ _ n (after_run (is_digit_of 8) cs) (omega (arith, length-behind_run (is_digit_of 8) cs)))
+  octal true e f x = rw (f, x, e) (numbered_part-within _ _ n (after_run (is_digit_of 8) cs) (omega (arith, length-after_run (is_digit_of 8) cs)))
   octal false e f x = rw (f, x, e) (named-within (named_escape c) n cs (omega arith))
 
   hex : (t : Bool) → (c == 120) ≡ t → (c == 10) ≡ false → EndsWithin n (escape (c ∷ cs))

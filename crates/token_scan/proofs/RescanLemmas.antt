@@ -6,7 +6,7 @@ use Rattle.au_model.specs.Syntax.Characters.{is_small, is_solo, is_punctuation, 
 use Rattle.au_model.specs.Syntax.Layout.{GapThen, NoLayout, layout_item, after_layout}
 use Rattle.au_model.specs.Syntax.Numerals.{NumeralThen, begins_fraction, decimal_numeral, zero_numeral, numeral}
 use Rattle.au_model.specs.Syntax.Words.{NameWord, VariableWord, MarkWord, Word, FoundWord, run_word, ends_term, word_at_front}
-use Rattle.token_scan.proofs.LayoutLemmas.{behind_layout-item}
+use Rattle.token_scan.proofs.LayoutLemmas.{after_layout-item}
 
 and_first : (x y : Bool) → (x && y) ≡ true → x ≡ true
 and_first true y e = refl
@@ -21,14 +21,14 @@ run-again p [] [] h e = refl
 run-again p [] (d ∷ z) h e = rw e refl
 run-again p (c ∷ cs) z h e = rw (and_first (p c) (list_all p cs) h) (ap (λ ds. c ∷ ds) (run-again p cs z (and_second (p c) (list_all p cs) h) e))
 
-pub behind_run-again : (p : ℕ → Bool) (cs z : List ℕ) → list_all p cs ≡ true → first_passes p z ≡ false → after_run p (cs ++ z) ≡ z
-behind_run-again p [] [] h e = refl
-behind_run-again p [] (d ∷ z) h e = rw e refl
-behind_run-again p (c ∷ cs) z h e = rw (and_first (p c) (list_all p cs) h) (behind_run-again p cs z (and_second (p c) (list_all p cs) h) e)
+pub after_run-again : (p : ℕ → Bool) (cs z : List ℕ) → list_all p cs ≡ true → first_passes p z ≡ false → after_run p (cs ++ z) ≡ z
+after_run-again p [] [] h e = refl
+after_run-again p [] (d ∷ z) h e = rw e refl
+after_run-again p (c ∷ cs) z h e = rw (and_first (p c) (list_all p cs) h) (after_run-again p cs z (and_second (p c) (list_all p cs) h) e)
 
 run_word-again : (word : List ℕ → Word) (p : ℕ → Bool) (c : ℕ) (cs z : List ℕ) → list_all p cs ≡ true → first_passes p z ≡ false
     → run_word word p c (cs ++ z) ≡ FoundWord (word (c ∷ cs)) z
-run_word-again word p c cs z h e = ap (λ ds. FoundWord (word (c ∷ ds)) (after_run p (cs ++ z))) (run-again p cs z h e) ∙ ap (FoundWord (word (c ∷ cs))) (behind_run-again p cs z h e)
+run_word-again word p c cs z h e = ap (λ ds. FoundWord (word (c ∷ ds)) (after_run p (cs ++ z))) (run-again p cs z h e) ∙ ap (FoundWord (word (c ∷ cs))) (after_run-again p cs z h e)
 
 pub name-again : (c : ℕ) (cs z : List ℕ) → is_small c ≡ true → list_all is_alphanumeric cs ≡ true → first_passes is_alphanumeric z ≡ false
     → word_at_front ((c ∷ cs) ++ z) ≡ FoundWord (NameWord (c ∷ cs)) z
@@ -58,10 +58,10 @@ symbols-again c cs z i s p n y h e = rw (i.small, i.variable, i.digit, i.single,
 
 -- where no layout stands, and behind one space
 pub none-again : (z : List ℕ) → layout_item z ≡ NoLayout → after_layout z ≡ GapThen z
-none-again z e = let h = behind_layout-item z in rw e at h
+none-again z e = let h = after_layout-item z in rw e at h
 
 pub space-again : (z : List ℕ) → layout_item z ≡ NoLayout → after_layout (32 ∷ z) ≡ GapThen z
-space-again z e = behind_layout-item (32 ∷ z) ∙ none-again z e
+space-again z e = after_layout-item (32 ∷ z) ∙ none-again z e
 
 -- digits, behind which neither a digit nor a fraction stands, and where a `0` comes first nothing that makes more of it
 pub decimal-again : (ds z : List ℕ) → list_all (is_digit_of 10) ds ≡ true → first_passes (is_digit_of 10) z ≡ false → begins_fraction z ≡ false
@@ -69,7 +69,7 @@ pub decimal-again : (ds z : List ℕ) → list_all (is_digit_of 10) ds ≡ true 
 unfolding numeral
 decimal-again ds z h e f w n = go (first_is 48 (ds ++ z)) refl where
   plain : decimal_numeral (ds ++ z) ≡ NumeralThen (digits_value 10 ds) z
-  plain = rw (behind_run-again (is_digit_of 10) ds z h e, run-again (is_digit_of 10) ds z h e, f, w)
+  plain = rw (after_run-again (is_digit_of 10) ds z h e, run-again (is_digit_of 10) ds z h e, f, w)
 
   go : (b : Bool) → first_is 48 (ds ++ z) ≡ b → numeral (ds ++ z) ≡ NumeralThen (digits_value 10 ds) z
   go true t = rw (t, n t) plain

@@ -31,14 +31,14 @@ pub none_left : (cs : List ℕ) → slice_get cs 0 ≡ None → cs ≡ []
 none_left [] h = refl
 none_left (x ∷ cs) h = absurd (some_none x cs h)
 
-pub behind_run-stops : (p : ℕ → Bool) (cs : List ℕ) (c : ℕ) → slice_get cs 0 ≡ Some c → p c ≡ false → after_run p cs ≡ cs
-behind_run-stops p [] c h e = refl
-behind_run-stops p (x ∷ cs) c h e =
+pub after_run-stops : (p : ℕ → Bool) (cs : List ℕ) (c : ℕ) → slice_get cs 0 ≡ Some c → p c ≡ false → after_run p cs ≡ cs
+after_run-stops p [] c h e = refl
+after_run-stops p (x ∷ cs) c h e =
     let same : x ≡ c = cc in
     let fails : p x ≡ false = ap p same ∙ e in rw fails
 
-pub behind_run-none : (p : ℕ → Bool) (cs : List ℕ) → slice_get cs 0 ≡ None → after_run p cs ≡ cs
-behind_run-none p cs h = rw (none_left cs h)
+pub after_run-none : (p : ℕ → Bool) (cs : List ℕ) → slice_get cs 0 ≡ None → after_run p cs ≡ cs
+after_run-none p cs h = rw (none_left cs h)
 
 pub run-stops : (p : ℕ → Bool) (cs : List ℕ) (c : ℕ) → slice_get cs 0 ≡ Some c → p c ≡ false → run p cs ≡ []
 run-stops p [] c h e = refl
@@ -52,13 +52,13 @@ run-none p cs h = rw (none_left cs h)
 pub run-passes : (p : ℕ → Bool) (c : ℕ) (cs : List ℕ) → p c ≡ true → run p (c ∷ cs) ≡ c ∷ run p cs
 run-passes p c cs e = rw e
 
-pub behind_run-passes : (p : ℕ → Bool) (c : ℕ) (cs : List ℕ) → p c ≡ true → after_run p (c ∷ cs) ≡ after_run p cs
-behind_run-passes p c cs e = rw e
+pub after_run-passes : (p : ℕ → Bool) (c : ℕ) (cs : List ℕ) → p c ≡ true → after_run p (c ∷ cs) ≡ after_run p cs
+after_run-passes p c cs e = rw e
 
 -- a run and what is left behind it are the text
-pub run-and_behind : (p : ℕ → Bool) (cs : List ℕ) → run p cs ++ after_run p cs ≡ cs
-run-and_behind p [] = refl
-run-and_behind p (c ∷ cs) = go (p c) refl (run-and_behind p cs) where
+pub run-and_after : (p : ℕ → Bool) (cs : List ℕ) → run p cs ++ after_run p cs ≡ cs
+run-and_after p [] = refl
+run-and_after p (c ∷ cs) = go (p c) refl (run-and_after p cs) where
   go : (b : Bool) → p c ≡ b → run p cs ++ after_run p cs ≡ cs → run p (c ∷ cs) ++ after_run p (c ∷ cs) ≡ c ∷ cs
   go true e h = rw e (ap (λ ds. c ∷ ds) h)
   go false e h = rw e
@@ -70,9 +70,9 @@ run-longest p (c ∷ cs) = go (p c) refl (run-longest p cs) where
   go true e h = rw e (record { whole = ap (λ ds. c ∷ ds) h.whole; passes = rw e h.passes; stops = h.stops })
   go false e h = rw e (record { whole = refl; passes = refl; stops = e })
 
-pub length-behind_run : (p : ℕ → Bool) (cs : List ℕ) → length (after_run p cs) ≤ length cs
-length-behind_run p [] = omega arith
-length-behind_run p (c ∷ cs) = go (p c) refl (length-behind_run p cs) where
+pub length-after_run : (p : ℕ → Bool) (cs : List ℕ) → length (after_run p cs) ≤ length cs
+length-after_run p [] = omega arith
+length-after_run p (c ∷ cs) = go (p c) refl (length-after_run p cs) where
   go : (b : Bool) → p c ≡ b → length (after_run p cs) ≤ length cs → length (after_run p (c ∷ cs)) ≤ length (c ∷ cs)
   go true e h = rw e (omega arith)
   go false e h = rw e (omega arith)

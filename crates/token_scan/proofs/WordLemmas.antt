@@ -6,7 +6,7 @@ use Rattle.au_model.specs.Syntax.Quoted.{Quoted, QuotedThen, WrongEscape, NeverC
 use Rattle.au_model.specs.Syntax.Numerals.{Numeral, NumeralThen, FloatingPoint, TooWide, WrongCharacter, numeral}
 use Rattle.au_model.specs.Syntax.Words.{Word, NameWord, QuotedWord, VariableWord, TextWord, MarkWord, StopWord, Lexed, FoundWord, FoundFault, run_word, numeral_word, quoted_word, ends_term, word_at_front, word_after, next_word, word_characters, word_number, found_word}
 use Rattle.au_model.specs.declared.fault_kind.FaultKind.TheVariants.{BadCharacter}
-use Rattle.token_scan.proofs.RunLemmas.{run-and_behind}
+use Rattle.token_scan.proofs.RunLemmas.{run-and_after}
 use Rattle.token_scan.specs.NextToken.{kind_of, kind_found, is_plain_kind, is_quoted_kind, is_integer_kind, word_of, IsNextToken}
 use Rattle.token_scan.specs.ScannedParts.{quoted_rest, quoted_characters, numeral_of}
 use Rattle.token_scan.specs.declared.numbers.Number.{Number}
@@ -156,7 +156,7 @@ run_plain : (word : List ℕ → Word) (p : ℕ → Bool) (c : ℕ) (cs rest : L
 unfolding rest_in
 run_plain word p c cs rest k h e =
     let left : after_run p cs ≡ rest = ap (λ o. rest_in o rest) e in
-    sym (ap (λ ds. c ∷ ds) (run-and_behind p cs)) ∙ (ap (λ ds. (c ∷ run p cs) ++ ds) left ∙ ap (λ ds. ds ++ rest) (sym (h (c ∷ run p cs))))
+    sym (ap (λ ds. c ∷ ds) (run-and_after p cs)) ∙ (ap (λ ds. (c ∷ run p cs) ++ ds) left ∙ ap (λ ds. ds ++ rest) (sym (h (c ∷ run p cs))))
 
 one_plain : (j k : TokenKind) (c : ℕ) (cs rest : List ℕ) → found j cs ≡ found k rest → c ∷ cs ≡ (c ∷ []) ++ rest
 unfolding rest_in

@@ -16,11 +16,11 @@ fn comment_end(text: &str, at: usize) -> Option<usize>
 {
     let mut here = at;
     while let Some(c) = peek(text, here) {
-        let behind = step(text, here, c);
-        if c == '*' && is_next(text, behind, '/') {
-            return Some(step(text, behind, '/'));
+        let after = step(text, here, c);
+        if c == '*' && is_next(text, after, '/') {
+            return Some(step(text, after, '/'));
         }
-        here = behind;
+        here = after;
     }
     None
 }
@@ -35,13 +35,13 @@ pub(crate) fn skip_layout(text: &str, at: usize) -> Result<usize, usize>
 {
     let mut here = at;
     while let Some(c) = peek(text, here) {
-        let behind = step(text, here, c);
+        let after = step(text, here, c);
         if is_blank(c) {
-            here = behind;
+            here = after;
         } else if c == '%' {
-            here = run_end(text, behind, Class::Line);
-        } else if c == '/' && is_next(text, behind, '*') {
-            match comment_end(text, step(text, behind, '*')) {
+            here = run_end(text, after, Class::Line);
+        } else if c == '/' && is_next(text, after, '*') {
+            match comment_end(text, step(text, after, '*')) {
                 Some(end) => here = end,
                 None => return Err(here),
             }

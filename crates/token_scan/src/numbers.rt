@@ -62,15 +62,15 @@ fn named_base(text: &str, at: usize) -> Option<(u32, usize)>
     ensures high { IfSome result (λ r. r.0 ≤ 36) }
 {
     let letter = peek(text, at)?;
-    let behind = step(text, at, letter);
+    let after = step(text, at, letter);
     let base = match letter {
         'x' => 16,
         'o' => 8,
         'b' => 2,
         _ => return None,
     };
-    if is_digit_next(text, behind, base) {
-        Some((base, behind))
+    if is_digit_next(text, after, base) {
+        Some((base, after))
     } else {
         None
     }
@@ -83,20 +83,20 @@ fn character_numeral(text: &str, at: usize) -> Option<Number>
     ensures place { IfSome result (λ n. IsNumberFrom text.now at n) }
 {
     let c = peek(text, at)?;
-    let behind = step(text, at, c);
+    let after = step(text, at, c);
     if c == '\'' {
-        if is_next(text, behind, '\'') {
-            Some(Number::Fits(u64::from(c), step(text, behind, '\'')))
+        if is_next(text, after, '\'') {
+            Some(Number::Fits(u64::from(c), step(text, after, '\'')))
         } else {
             None
         }
     } else if c == '\\' {
-        match escape(text, behind) {
+        match escape(text, after) {
             Piece::Stands(d, end) => Some(Number::Fits(u64::from(d), end)),
             _ => Some(Number::NoCharacter(at)),
         }
     } else {
-        Some(Number::Fits(u64::from(c), behind))
+        Some(Number::Fits(u64::from(c), after))
     }
 }
 
@@ -106,8 +106,8 @@ fn zero_numeral(text: &str, at: usize) -> Option<Number>
     ensures numeral { zero_numeral (chars_from text.now at) ≡ option_map (numeral_of text.now) result }
     ensures place { IfSome result (λ n. IsNumberFrom text.now at n) }
 {
-    if let Some((base, behind)) = named_base(text, at) {
-        Some(digits_numeral(text, behind, base))
+    if let Some((base, after)) = named_base(text, at) {
+        Some(digits_numeral(text, after, base))
     } else if is_next(text, at, '\'') {
         character_numeral(text, step(text, at, '\''))
     } else {
@@ -116,7 +116,7 @@ fn zero_numeral(text: &str, at: usize) -> Option<Number>
 }
 
 /// The numeral at a place.
-#[tactic(auto, unfolding(au_model::specs::Numerals::numeral))]
+#[tactic(auto, unfolding(au_model::specs::Syntax::Numerals::numeral))]
 pub(crate) fn numeral(text: &str, at: usize) -> Number
     requires { IsCharBoundary text.now at }
     ensures numeral { numeral (chars_from text.now at) ≡ numeral_of text.now result }

@@ -81,13 +81,13 @@ pub(crate) fn escape(text: &str, at: usize) -> Piece
     let Some(c) = peek(text, at) else {
         return Piece::Cut;
     };
-    let behind = step(text, at, c);
+    let after = step(text, at, c);
     match c {
-        '\n' => Piece::Skips(behind),
-        'x' => numbered_escape(text, behind, 16),
+        '\n' => Piece::Skips(after),
+        'x' => numbered_escape(text, after, 16),
         _ if c.is_digit(8) => numbered_escape(text, at, 8),
         _ => match named_escape(c) {
-            Some(d) => Piece::Stands(d, behind),
+            Some(d) => Piece::Stands(d, after),
             None => Piece::Wrong,
         },
     }
@@ -102,19 +102,19 @@ pub(crate) fn part(text: &str, at: usize, quote: char) -> Piece
     let Some(c) = peek(text, at) else {
         return Piece::Cut;
     };
-    let behind = step(text, at, c);
+    let after = step(text, at, c);
     if c == quote {
-        if is_next(text, behind, quote) {
-            Piece::Stands(quote, step(text, behind, quote))
+        if is_next(text, after, quote) {
+            Piece::Stands(quote, step(text, after, quote))
         } else {
-            Piece::Closes(behind)
+            Piece::Closes(after)
         }
     } else if c == '\\' {
-        escape(text, behind)
+        escape(text, after)
     } else if c == '\n' {
         Piece::Cut
     } else {
-        Piece::Stands(c, behind)
+        Piece::Stands(c, after)
     }
 }
 

@@ -51,28 +51,28 @@ fn word(text: &str, at: usize) -> Result<(TokenKind, usize), BadToken>
     let Some(c) = peek(text, at) else {
         return Ok((TokenKind::EndOfText, at));
     };
-    let behind = step(text, at, c);
+    let after = step(text, at, c);
     if is_small(c) {
-        Ok((TokenKind::Name, run_end(text, behind, Class::Alphanumeric)))
+        Ok((TokenKind::Name, run_end(text, after, Class::Alphanumeric)))
     } else if is_capital(c) || c == '_' {
         Ok((
             TokenKind::Variable,
-            run_end(text, behind, Class::Alphanumeric),
+            run_end(text, after, Class::Alphanumeric),
         ))
     } else if c.is_digit(10) {
         Ok((TokenKind::Integer, integer_word(text, at)?))
     } else if c == '\'' {
-        Ok((TokenKind::QuotedName, quoted_end(text, at, behind, c)?))
+        Ok((TokenKind::QuotedName, quoted_end(text, at, after, c)?))
     } else if c == '"' {
-        Ok((TokenKind::DoubleQuoted, quoted_end(text, at, behind, c)?))
+        Ok((TokenKind::DoubleQuoted, quoted_end(text, at, after, c)?))
     } else if is_solo(c) {
-        Ok((TokenKind::Name, behind))
+        Ok((TokenKind::Name, after))
     } else if is_punctuation(c) {
-        Ok((TokenKind::Punctuation, behind))
-    } else if c == '.' && ends_term(text, behind) {
-        Ok((TokenKind::End, behind))
+        Ok((TokenKind::Punctuation, after))
+    } else if c == '.' && ends_term(text, after) {
+        Ok((TokenKind::End, after))
     } else if is_symbol(c) {
-        Ok((TokenKind::Name, run_end(text, behind, Class::Symbol)))
+        Ok((TokenKind::Name, run_end(text, after, Class::Symbol)))
     } else {
         Err(BadToken {
             at,

@@ -33,9 +33,9 @@ pub data Past (s : Setting) : ℕ → List Token → List Token → Type 0 where
 -- the token is the comma behind the last argument that a compound may have; the compound is of this name, and begins
 -- with another token
 pub record IsOneTooMany (s : Setting) (ts : List Token) (n m : ℕ) (name : List ℕ) : Type 0 where
-  pub behind : List Token
-  pub called : primary_of s (drop m ts) ≡ Call name behind
-  pub past : Past s 65535 behind (drop (suc n) ts)
+  pub after : List Token
+  pub called : primary_of s (drop m ts) ≡ Call name after
+  pub past : Past s 65535 after (drop (suc n) ts)
 
 -- an integer of at least 2^63
 abbrev pub is_wide : Option Token → Bool

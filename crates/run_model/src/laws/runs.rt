@@ -35,7 +35,7 @@ pub fn variables_are_numbered()
 {}
 
 /// A cut keeps a lower part of the entries, and no height that an entry of a run carries passes what stands under it.
-pub fn heights_are_held()
+pub fn heights_fit()
     ensures cut { (h : ℕ) (es : List Entry) → KeepsLowerPart h es }
-    ensures held { (job : Job) (n : ℕ) → FitHeights (seq job n).entries }
+    ensures fit { (job : Job) (n : ℕ) → FitHeights (seq job n).entries }
 {}

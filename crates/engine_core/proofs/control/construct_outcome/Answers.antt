@@ -15,7 +15,7 @@ use Rattle.engine_core.specs.Reductions.{IsOutcome}
 use Rattle.engine_core.specs.Attempts.{equation_solution}
 use Rattle.engine_core.specs.declared.reduction.Reduction.TheVariants.{Prune, Open}
 use Rattle.engine_core.proofs.GoalOutcomeLemmas.{only_branch}
-use Rattle.engine_core.proofs.NamedOutcomeLemmas.{by_name, by_call, by_unification, raised_so, fails}
+use Rattle.engine_core.proofs.NamedOutcomeLemmas.{by_name, by_call, by_unification, shifted_so, fails}
 use Rattle.engine_core.proofs.control.construct_outcome.Goals as goal
 
 pub returns-in_ok-rest_branch-in-Succeed-clause-outcome : goal.returns-in_ok-rest_branch-in-Succeed-clause-outcome
@@ -100,7 +100,7 @@ returns-in-Throw-clause-outcome c =
     let t = c.args.goal.now in
     let named = subst (λ k. IsConstruct k (name_of t) (argument_count t)) c.in-Throw.is c.requires.construct in
     let o = throw_outcome (resolved_argument 0 st t) in
-    IfOk-weaker c.throw.result (Raises o) (ComesTo place.cut place.here place.rest.now st t) (λ r h. by_name place.cut place.here place.rest.now st t r (codes "throw") 1 c.requires.callable named.0 named.1 (λ clauses. raised_so place.cut place.here place.rest.now st o r h)) c.throw.ensures
+    IfOk-weaker c.throw.result (Raises o) (ComesTo place.cut place.here place.rest.now st t) (λ r h. by_name place.cut place.here place.rest.now st t r (codes "throw") 1 c.requires.callable named.0 named.1 (λ clauses. shifted_so place.cut place.here place.rest.now st o r h)) c.throw.ensures
 
 pub returns-in-Call-clause-outcome : goal.returns-in-Call-clause-outcome
 returns-in-Call-clause-outcome c =

@@ -26,9 +26,9 @@ returns-in-Alternatives-clause-leaves c =
 pub returns-in-Raise-clause-leaves : goal.returns-in-Raise-clause-leaves
 returns-in-Raise-clause-leaves c =
     let st = c.args.stack.now.store in
-    on_ok_weaker c.land.result (λ l.
-    ball_left c.args.procs.now c.args.item.now (Local c.len.result) c.args.rest.now c.args.stack.now c.land.new.stack c.reduce.new.store c.in-Raise.ball c.in_ok-branches.ensures.store
-    (subst (IsReduced c.args.procs.now (Local c.len.result) c.args.rest.now st c.args.item.now) c.in-Raise.is c.in_ok-branches.ensures.reduced) l) c.land.ensures
+    on_ok_weaker c.unwind.result (λ l.
+    ball_left c.args.procs.now c.args.item.now (Local c.len.result) c.args.rest.now c.args.stack.now c.unwind.new.stack c.reduce.new.store c.in-Raise.ball c.in_ok-branches.ensures.store
+    (subst (IsReduced c.args.procs.now (Local c.len.result) c.args.rest.now st c.args.item.now) c.in-Raise.is c.in_ok-branches.ensures.reduced) l) c.unwind.ensures
 
 pub prune-requires-clause-rest : goal.prune-requires-clause-rest
 prune-requires-clause-rest c = subst (λ s. Each (IsItemBelow s.next) c.args.rest.now) (sym c.in_ok-branches.ensures.store) c.requires.rest
@@ -72,7 +72,7 @@ pub returns-in-Alternatives-clause-halts : goal.returns-in-Alternatives-clause-h
 returns-in-Alternatives-clause-halts c = on_ok_weaker c.branch_off.result (λ l. goes_on c.args.procs.now (Local c.len.result) c.args.rest.now c.args.stack.now.store c.args.item.now c.in_ok-branches.field-0 c.in_ok-branches.ensures.reduced) c.branch_off.ensures
 
 pub returns-in-Raise-clause-halts : goal.returns-in-Raise-clause-halts
-returns-in-Raise-clause-halts c = on_ok_weaker c.land.result (λ l. goes_on c.args.procs.now (Local c.len.result) c.args.rest.now c.args.stack.now.store c.args.item.now c.in_ok-branches.field-0 c.in_ok-branches.ensures.reduced) c.land.ensures
+returns-in-Raise-clause-halts c = on_ok_weaker c.unwind.result (λ l. goes_on c.args.procs.now (Local c.len.result) c.args.rest.now c.args.stack.now.store c.args.item.now c.in_ok-branches.field-0 c.in_ok-branches.ensures.reduced) c.unwind.ensures
 
 pub returns-in-Prune-clause-halts : goal.returns-in-Prune-clause-halts
 returns-in-Prune-clause-halts c = on_ok_weaker c.prune.result (λ l. goes_on c.args.procs.now (Local c.len.result) c.args.rest.now c.args.stack.now.store c.args.item.now c.in_ok-branches.field-0 c.in_ok-branches.ensures.reduced) c.prune.ensures

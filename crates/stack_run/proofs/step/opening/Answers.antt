@@ -7,7 +7,7 @@ pub returns-clause-state : goal.returns-clause-state
 returns-clause-state c =
     let job = c.args.job.now in
     let m = c.ask_next.new.machine in
-    settles_so job m.asked m.answers m.stack c.settle.new.stack c.in_ok-settle.ensures.view [] 0 ∙ ap with_free_steps (c.in_ok-ask_next.ensures.state [] 0)
+    settles_so job m.asked m.answers m.stack c.take_free_steps.new.stack c.in_ok-take_free_steps.ensures.view [] 0 ∙ ap with_free_steps (c.in_ok-ask_next.ensures.state [] 0)
 
 pub returns-clause-ready : goal.returns-clause-ready
-returns-clause-ready c = ready c.ask_next.new.machine.stack c.settle.new.stack c.in_ok-settle.ensures.view c.in_ok-settle.ensures.fit c.in_ok-settle.ensures.resting
+returns-clause-ready c = ready c.ask_next.new.machine.stack c.take_free_steps.new.stack c.in_ok-take_free_steps.ensures.view c.in_ok-take_free_steps.ensures.fit c.in_ok-take_free_steps.ensures.resting

@@ -9,9 +9,9 @@ use Rattle.stack_run.proofs.step.step.Goals as goal
 pub returns-clause-state : goal.returns-clause-state
 returns-clause-state c =
     let m = c.inference.new.machine in
-    on_ok_weaker c.settle.result (λ h. λ written inferences. settles_so c.args.job.now m.asked m.answers m.stack c.settle.new.stack h (written ++ m.line.items) (inferences + 1) ∙ ap with_free_steps (c.in_ok-inference.ensures.state written inferences)) c.settle.ensures.view
+    on_ok_weaker c.take_free_steps.result (λ h. λ written inferences. settles_so c.args.job.now m.asked m.answers m.stack c.take_free_steps.new.stack h (written ++ m.line.items) (inferences + 1) ∙ ap with_free_steps (c.in_ok-inference.ensures.state written inferences)) c.take_free_steps.ensures.view
 
 pub returns-clause-ready : goal.returns-clause-ready
 returns-clause-ready c =
     let s = c.inference.new.machine.stack in
-    both_ok c.settle.result (λ h (k : IsFit c.settle.new.stack × IsResting c.settle.new.stack). ready s c.settle.new.stack h k.0 k.1) c.settle.ensures.view (both_ok c.settle.result (λ f r. (f, r)) c.settle.ensures.fit c.settle.ensures.resting)
+    both_ok c.take_free_steps.result (λ h (k : IsFit c.take_free_steps.new.stack × IsResting c.take_free_steps.new.stack). ready s c.take_free_steps.new.stack h k.0 k.1) c.take_free_steps.ensures.view (both_ok c.take_free_steps.result (λ f r. (f, r)) c.take_free_steps.ensures.fit c.take_free_steps.ensures.resting)

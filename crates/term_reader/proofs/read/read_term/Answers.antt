@@ -12,13 +12,13 @@ pub finish-requires : goal.finish-requires
 finish-requires c =
     let s : Setting = record { ops = c.args.ops.now; quotes = c.args.quotes } in
     let w = subst (IsReadTo s c.args.text.now c.args.at) c.in-Whole.is c.in_ok-reading.ensures in
-    (w.tree, w.sheet)
+    (w.tree, w.output)
 
 pub returns-in_ok-term-in-Whole : goal.returns-in_ok-term-in-Whole
 returns-in_ok-term-in-Whole c =
     let s : Setting = record { ops = c.args.ops.now; quotes = c.args.quotes } in
     let w = subst (IsReadTo s c.args.text.now c.args.at) c.in-Whole.is c.in_ok-reading.ensures in
-    let f = c.in_ok-term-in-Whole.ensures w.tree w.sheet in
+    let f = c.in_ok-term-in-Whole.ensures w.tree w.output in
     (w.tree, w.spelling, f.0, f.1)
 
 refused-as : (s : Setting) (text : List ℕ) (at : ℕ) (r : Reading) (f : DeclaredRefused) → r ≡ Refused f → IsReadTo s text at r → NoTerm s (chars_from text at) × IsFirstFault s text at f

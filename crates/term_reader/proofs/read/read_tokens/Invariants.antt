@@ -8,9 +8,9 @@ abbrev pub invariant-tokens : goal.invariant-tokens
 invariant-tokens l = record {
   place : IsPlaceFrom l.source.text.now l.at l.state.at;
   position : Position;
-  stands : IsAtPosition l.state position;
+  at_position : IsAtPosition l.state position;
   phase_is : l.phase ≡ priority_of_operand position;
-  led : HasReadTo (setting_of l.source) l.source.text.now l.at position l.state.at l.doubt;
+  read_to : HasReadTo (setting_of l.source) l.source.text.now l.at position l.state.at l.may_take_operand;
 }
 
 abbrev pub decreases-tokens : goal.decreases-tokens

@@ -13,17 +13,17 @@ returns-then-before-ge65534-clause-outcome c = λ k l p h goal g.
     refuses c.args.source c.args.state.now (frame.Argument c.args.name c.args.before c.args.place) k l p c.args.token c.args.end h (too_many c.args.source c.args.state.now c.args.state.now k l p c.args.token c.args.end c.args.name c.args.before c.args.place h c.in-Comma.is (omega arith)) goal g
 
 pub returns-then-before-ge65534-clause-fault : goal.returns-then-before-ge65534-clause-fault
-returns-then-before-ge65534-clause-fault c = λ first k l p h held.
-    (held (too_many c.args.source c.args.state.now c.args.state.now k l p c.args.token c.args.end c.args.name c.args.before c.args.place h c.in-Comma.is (omega arith))).1 c.args.name c.args.before c.args.place refl (omega arith) (is-comma h.lexeme (sym h.closer ∙ c.in-Comma.is))
+returns-then-before-ge65534-clause-fault c = λ first k l p h refused.
+    (refused (too_many c.args.source c.args.state.now c.args.state.now k l p c.args.token c.args.end c.args.name c.args.before c.args.place h c.in-Comma.is (omega arith))).1 c.args.name c.args.before c.args.place refl (omega arith) (is-comma h.lexeme (sym h.closer ∙ c.in-Comma.is))
 
 pub returns-else-before-ge65534-clause-outcome : goal.returns-else-before-ge65534-clause-outcome
 returns-else-before-ge65534-clause-outcome c = λ k l p h.
     let lt : c.args.before < 65534 = omega arith in
-    IfOk-weaker c.open.result _ _ (λ t d. argument-goes_on c.args.source c.args.state.now c.open.new.state k l p c.args.token c.args.end c.args.name c.args.before c.args.place t h c.in-Comma.is lt d) c.open.ensures
+    IfOk-weaker c.push_frame.result _ _ (λ t d. argument-goes_on c.args.source c.args.state.now c.push_frame.new.state k l p c.args.token c.args.end c.args.name c.args.before c.args.place t h c.in-Comma.is lt d) c.push_frame.ensures
 
 pub returns-in_ok-compound-in-Close-clause-outcome : goal.returns-in_ok-compound-in-Close-clause-outcome
 returns-in_ok-compound-in-Close-clause-outcome c = λ k l p h.
-    compound-closes c.args.source c.args.state.now _ k l p c.args.token c.args.end c.args.name c.args.before c.args.place h c.in-Close.is refl refl (c.in_ok-compound-in-Close.ensures (emit_tree (emitted_stack k) l) h.sheet)
+    compound-closes c.args.source c.args.state.now _ k l p c.args.token c.args.end c.args.name c.args.before c.args.place h c.in-Close.is refl refl (c.in_ok-compound-in-Close.ensures (emit_tree (emitted_stack k) l) h.output)
 
 pub returns-then-before-gt65534-clause-outcome : goal.returns-then-before-gt65534-clause-outcome
 returns-then-before-gt65534-clause-outcome c = λ k l p h goal g.
@@ -34,4 +34,4 @@ returns-in_default-clause-outcome c = λ k l p h goal g.
     refuses c.args.source c.args.state.now (frame.Argument c.args.name c.args.before c.args.place) k l p c.args.token c.args.end h (argument-refuses c.args.source c.args.state.now c.args.state.now k l p c.args.token c.args.end c.args.name c.args.before c.args.place h c.in_default.not-Comma c.in_default.not-Close) goal g
 
 pub returns-in_default-clause-fault : goal.returns-in_default-clause-fault
-returns-in_default-clause-fault c = λ first k l p h held. (held (argument-refuses c.args.source c.args.state.now c.args.state.now k l p c.args.token c.args.end c.args.name c.args.before c.args.place h c.in_default.not-Comma c.in_default.not-Close)).0 (λ full e. c.in_default.not-Comma (h.closer ∙ ap closer_of e))
+returns-in_default-clause-fault c = λ first k l p h refused. (refused (argument-refuses c.args.source c.args.state.now c.args.state.now k l p c.args.token c.args.end c.args.name c.args.before c.args.place h c.in_default.not-Comma c.in_default.not-Close)).0 (λ full e. c.in_default.not-Comma (h.closer ∙ ap closer_of e))

@@ -38,24 +38,24 @@ returns-clause-outcome c = λ k l p h goal g.
 pub returns-in-Round-clause-fault : goal.returns-in-Round-clause-fault
 returns-in-Round-clause-fault c =
     subst (λ f. (first : ℕ) (k : List stack.OpenFrame) (l : Tree) (p : ℕ) (h : IsFrameClosing c.args.source c.args.state.now f k l p c.args.token c.args.end) → IsFaultAtFrame c.args.source first c.args.state.now f k l p c.args.token c.args.end h c.args.refused → RefusesFirstFault (setting_of c.args.source) c.args.source.text.now first c.close_round.result) (sym c.in-Round.is)
-    (λ first k l p h held. c.close_round.ensures.fault first k l p h held)
+    (λ first k l p h refused. c.close_round.ensures.fault first k l p h refused)
 
 pub returns-in-Curly-clause-fault : goal.returns-in-Curly-clause-fault
 returns-in-Curly-clause-fault c =
     subst (λ f. (first : ℕ) (k : List stack.OpenFrame) (l : Tree) (p : ℕ) (h : IsFrameClosing c.args.source c.args.state.now f k l p c.args.token c.args.end) → IsFaultAtFrame c.args.source first c.args.state.now f k l p c.args.token c.args.end h c.args.refused → IfOk c.close_curly.result (λ t. RefusesFirstFault (setting_of c.args.source) c.args.source.text.now first t)) (sym c.in-Curly.is)
-    (λ first k l p h held. c.close_curly.ensures.fault first k l p h held)
+    (λ first k l p h refused. c.close_curly.ensures.fault first k l p h refused)
 
 pub returns-in-Item-clause-fault : goal.returns-in-Item-clause-fault
 returns-in-Item-clause-fault c =
     subst (λ f. (first : ℕ) (k : List stack.OpenFrame) (l : Tree) (p : ℕ) (h : IsFrameClosing c.args.source c.args.state.now f k l p c.args.token c.args.end) → IsFaultAtFrame c.args.source first c.args.state.now f k l p c.args.token c.args.end h c.args.refused → IfOk c.close_item.result (λ t. RefusesFirstFault (setting_of c.args.source) c.args.source.text.now first t)) (sym c.in-Item.is)
-    (λ first k l p h held. c.close_item.ensures.fault first k l p h held)
+    (λ first k l p h refused. c.close_item.ensures.fault first k l p h refused)
 
 pub returns-in-Tail-clause-fault : goal.returns-in-Tail-clause-fault
 returns-in-Tail-clause-fault c =
     subst (λ f. (first : ℕ) (k : List stack.OpenFrame) (l : Tree) (p : ℕ) (h : IsFrameClosing c.args.source c.args.state.now f k l p c.args.token c.args.end) → IsFaultAtFrame c.args.source first c.args.state.now f k l p c.args.token c.args.end h c.args.refused → IfOk c.close_tail.result (λ t. RefusesFirstFault (setting_of c.args.source) c.args.source.text.now first t)) (sym c.in-Tail.is)
-    (λ first k l p h held. c.close_tail.ensures.fault first k l p h held)
+    (λ first k l p h refused. c.close_tail.ensures.fault first k l p h refused)
 
 pub returns-in-Argument-clause-fault : goal.returns-in-Argument-clause-fault
 returns-in-Argument-clause-fault c =
     subst (λ f. (first : ℕ) (k : List stack.OpenFrame) (l : Tree) (p : ℕ) (h : IsFrameClosing c.args.source c.args.state.now f k l p c.args.token c.args.end) → IsFaultAtFrame c.args.source first c.args.state.now f k l p c.args.token c.args.end h c.args.refused → IfOk c.close_argument.result (λ t. RefusesFirstFault (setting_of c.args.source) c.args.source.text.now first t)) (sym c.in-Argument.is)
-    (λ first k l p h held. c.close_argument.ensures.fault first k l p h held)
+    (λ first k l p h refused. c.close_argument.ensures.fault first k l p h refused)

@@ -2,14 +2,14 @@ use Rattle.std.proofs.Common.{◌≡◌, ◌<◌, ap, ◌∙◌, sym, subst, ari
 use Rattle.au_term.specs.PrefixOrder.{subterm}
 use Rattle.au_term.specs.Shifted.{shifted, IsShiftablePlace}
 use Rattle.au_term.specs.Term.{argument, argument_count, var_bound}
-use Rattle.au_term.proofs.ShiftLemmas.{argument_count-raised, argument-raised, argument-bound}
+use Rattle.au_term.proofs.ShiftLemmas.{argument_count-shifted, argument-shifted, argument-bound}
 use Rattle.au_term.proofs.shared.Shared.argument.Goals as goal
 use Rattle.au_term.proofs.shared.Shared.argument.Goals.{After-deref}
 
 few : (c : After-deref) → c.args.i < argument_count (subterm c.self.inside.at c.deref.result.now)
 few c =
     let number : argument_count c.args.self.now ≡ argument_count (subterm c.self.inside.at c.deref.result.now) =
-    sym (ap argument_count c.self.view_is) ∙ (argument_count-raised c.self.inside.base _ ∙ ap (λ t. argument_count (subterm c.self.inside.at t)) (sym c.deref.ensures)) in
+    sym (ap argument_count c.self.view_is) ∙ (argument_count-shifted c.self.inside.base _ ∙ ap (λ t. argument_count (subterm c.self.inside.at t)) (sym c.deref.ensures)) in
     subst (λ n. c.args.i < n) number c.requires
 
 pub arg_start-requires-clause-argument : goal.arg_start-requires-clause-argument
@@ -31,5 +31,5 @@ returns c =
     let at = c.self.inside.at in
     ap (λ t. shifted base (subterm c.arg_start.result t)) (c.in_ok-clone.ensures.cases ∙ sym c.deref.ensures)
     ∙ (ap (shifted base) c.arg_start.ensures.is
-    ∙ (sym (argument-raised base c.args.i (subterm at c.deref.result.now) (few (goal.at.returns c).After-deref))
+    ∙ (sym (argument-shifted base c.args.i (subterm at c.deref.result.now) (few (goal.at.returns c).After-deref))
     ∙ (ap (λ t. argument c.args.i (shifted base (subterm at t))) c.deref.ensures ∙ ap (argument c.args.i) c.self.view_is)))

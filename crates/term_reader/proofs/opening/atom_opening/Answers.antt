@@ -1,5 +1,0 @@
-use Rattle.term_reader.proofs.FollowingTokenLemmas.{reached-here}
-use Rattle.term_reader.proofs.opening.atom_opening.Goals as goal
-
-pub returns-in_default-clause-place : goal.returns-in_default-clause-place
-returns-in_default-clause-place c = reached-here c.args.source.text.now c.args.end c.requires.place

@@ -1,8 +1,0 @@
-use Rattle.std.proofs.Common.{OnOk, subst}
-use Rattle.au_term.specs.declared.cell.Cell.TheVariants.{Atom as AtomCell}
-use Rattle.term_reader.specs.OutputView.{IsOutputOf}
-use Rattle.term_reader.specs.TermOutput.{emit_cell}
-use Rattle.term_reader.proofs.sheet.Sheet.nil.Goals as goal
-
-pub returns : goal.returns
-returns c = λ s h. subst (λ x. OnOk c.put.result (IsOutputOf c.put.new.self (emit_cell s (AtomCell x)))) c.in_ok-name.ensures (c.put.ensures s h)

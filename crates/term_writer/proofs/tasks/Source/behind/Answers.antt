@@ -1,6 +1,0 @@
-use Rattle.term_writer.specs.WritingSources.{term_of_source}
-use Rattle.term_writer.proofs.TaskLemmas.{terms_behind}
-use Rattle.term_writer.proofs.tasks.Source.behind.Goals as goal
-
-pub returns : goal.returns
-returns c = terms_behind (term_of_source c.args.self) c.args.at c.term_end.result c.term_end.ensures.rest
