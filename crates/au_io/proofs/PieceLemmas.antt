@@ -31,7 +31,7 @@ own_part xs zeros n room e =
 read_after : (xs read rest : List ℕ) (count : ℕ) → count ≤ length read → take (length xs + count) (xs ++ (read ++ rest)) ≡ xs ++ take count read
 read_after xs read rest count le = take-append-add xs (read ++ rest) count ∙ ap (λ ys. xs ++ ys) (take-append-le count read rest le)
 
--- what is left of a list that was made longer, read into behind its own part, and cut
+-- what is left of a list that was made longer, read into after its own part, and cut
 pub read_in : (xs made read behind rest : List ℕ) (n long count : ℕ) → length xs ≡ n → take n made ≡ xs → count ≤ length read → n + count ≤ long
     → take (n + count) (take long ((take n made ++ (read ++ behind)) ++ rest)) ≡ xs ++ take count read
 read_in xs made read behind rest n long count e own le few =

@@ -5,7 +5,7 @@ use Rattle.std.specs.Prelude.{◌≡◌, ℕ, ◌+◌, ◌-◌, ◌^◌, ◌≤�
 abbrev pub increased_count : ℕ → ℕ → ℕ
 increased_count n before = min (before + n) (2 ^ 64 - 1)
 
--- a count went up by so many or more, or stands at the greatest number
+-- a count went up by so many or more, or is at the greatest number
 abbrev pub IncreasedBy : ℕ → ℕ → ℕ → Type 0
 IncreasedBy n before now = increased_count n before ≤ now
 

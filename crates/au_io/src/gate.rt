@@ -1,7 +1,7 @@
 //! The gate that workers pass.
 use std::sync::Wait;
 
-/// Where a worker stands as it passes the gate.
+/// Where a worker is as it passes the gate.
 #[derive(Clone, Copy, Debug, PartialEq, Eq)]
 pub enum Moment {
     Claimed,

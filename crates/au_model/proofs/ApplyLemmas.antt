@@ -4,13 +4,10 @@ use Rattle.std.proofs.lemmas.Bool.{eqb-true}
 use Rattle.au_term.specs.Term.{Term, VarTerm, IntTerm, AtomTerm, Compound, Terms, end, more}
 use Rattle.au_model.specs.Terms.Substitutions.{Substitution, apply, apply_all, value_of, resolve, only, occurs, occurs_in}
 use Rattle.au_model.specs.Terms.Unifier.{size, size_all}
+use Rattle.au_term.proofs.LogicLemmas.{neither}
 
 pub two : {a b : Term} {s t : Terms} → a ≡ b → s ≡ t → more a s ≡ more b t
 two p q = cc
-
-pub neither : (a b : Bool) → (a || b) ≡ false → (a ≡ false) × (b ≡ false)
-neither true b h = cc
-neither false b h = (refl, h)
 
 -- substitutions that agree give the same
 mutual

@@ -14,6 +14,7 @@ use Rattle.au_model.specs.Terms.Copies.{noted, seen_in, seen_in_all, place_of, r
 use Rattle.au_model.specs.Terms.CopiedCells.{occurrences_at, occurrences_along, renamed_cell, place_among}
 use Rattle.au_model.proofs.VariableBoundLemmas.{noted-seen}
 use Rattle.au_model.proofs.UnifierRuleLemmas.{count-apply_all}
+use Rattle.au_term.proofs.LogicLemmas.{neither as both_false}
 
 -- the places with one variable more
 among_first : (m y : ℕ) (seen : List ℕ) → place_among y (m ∷ seen) ≡ cond (m == y) (Some 0) (option_map (λ i. suc i) (place_among y seen))
@@ -29,10 +30,6 @@ one_place true true n o p h e = absurd (h refl refl)
 one_place true false n o p h e = refl
 one_place false true n o p h e = ap (option_map (λ i. suc i)) e
 one_place false false n o p h e = ap (option_map (λ i. suc i)) e
-
-both_false : (a b : Bool) → (a || b) ≡ false → (a ≡ false) × (b ≡ false)
-both_false true b e = absurd (cc)
-both_false false b e = (refl, e)
 
 pub among_more : (seen : List ℕ) (x y : ℕ) → list_any (λ m. m == x) seen ≡ false → place_among y (seen ++ x ∷ []) ≡ cond (x == y) (Some (length seen)) (place_among y seen)
 among_more [] x y h = go (x == y)

@@ -1,15 +1,11 @@
 -- Equations in front are unified first.
-use Rattle.std.proofs.Common.{◌≡◌, ℕ, ◌+◌, Bool, true, false, ◌&&◌, cond, List, [], ◌∷◌, ◌++◌, ◌==◌, nat_eq, Option, Some, None, refl, sym, ap, ◌∙◌, arith, append_assoc}
+use Rattle.std.proofs.Common.{◌≡◌, ℕ, Bool, true, false, cond, [], ◌∷◌, ◌++◌, ◌==◌, Option, Some, None, refl, sym, ap, ◌∙◌, append_assoc}
 use Rattle.std.specs.Option.{option_map}
-use Rattle.std.specs.Cmp.Lexicographic.{pointwise, same_text, other_text}
-use Rattle.std.proofs.lemmas.Bool.Decides.{nat_tests}
-use Rattle.au_term.specs.Term.{Term, VarTerm, IntTerm, AtomTerm, Compound, Terms, end, more, count, argument_count}
+use Rattle.au_term.specs.Term.{Term, VarTerm, IntTerm, AtomTerm, Compound, Terms, end, more}
 use Rattle.au_model.specs.Terms.Substitutions.{Substitution, apply, apply_all, value_of, resolve, only}
-use Rattle.au_model.specs.Terms.Unifier.{Equations, Rule, Dropped, Replaced, Opened, Clash, rule, pairs, replace, bound, by_rule, unifier}
-use Rattle.au_model.specs.Terms.Forms.{same_name, name_of, is_callable}
+use Rattle.au_model.specs.Terms.Unifier.{Equations, Rule, Dropped, Replaced, Opened, Clash, rule, replace, bound, by_rule, unifier}
 use Rattle.au_model.specs.Terms.EquationsInTurn.{after, resolved_equations, further_unified, FrontFirst}
 use Rattle.au_model.proofs.ApplyLemmas.{two, apply-same, apply-apply}
-use Rattle.au_model.proofs.UnifierRuleLemmas.{count-apply_all}
 use Rattle.au_model.proofs.UnifierLemmas.{Next, by_rules, unifier-first, bound_first}
 
 -- a substitution of nothing

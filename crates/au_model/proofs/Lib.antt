@@ -10,3 +10,4 @@ pub mod VariableBoundLemmas
 pub mod ListTermLemmas
 pub mod CopyLemmas
 pub mod EquationsInTurnLemmas
+pub mod PostOperatorLemmas

@@ -2,7 +2,7 @@
 use Rattle.std.specs.Prelude.{◌≡◌, length, Some, None, codes, refl}
 use Rattle.au_model.specs.Syntax.Operators.{KindXfx, KindYfx, KindFy, prefix_of, infix_of, postfix_of, with_operator, without_operator, PrefixClass, initial_operators}
 
--- all 39 rows stand in the table, each under its own name and class
+-- all 39 rows are in the table, each under its own name and class
 all_placed : length initial_operators ≡ 39
 all_placed = refl
 

@@ -206,7 +206,7 @@ less_dropped b l r eqs h =
       less = smaller (tally b eqs) (tally b ((l, r) ∷ eqs)) (equations_size eqs) (equations_size ((l, r) ∷ eqs)) (tally-le b eqs ((l, r) ∷ eqs) among) (omega (arith, size_pos l));
     }
 
--- x is replaced by t, where both stand in the equation
+-- x is replaced by t, where both are in the equation
 replaced : (b : ℕ) (l r : Term) (eqs : Equations) (x : ℕ) (t : Term) → AllBelow b ((l, r) ∷ eqs) → occurs x t ≡ false → (occurs x l || occurs x r) ≡ true → ((y : ℕ) → occurs y t ≡ true → (occurs y l || occurs y r) ≡ true) → size t ≤ size l + size r → Less b (replace x t eqs) ((l, r) ∷ eqs)
 replaced b l r eqs x t h absent there from small =
     let among : (y : ℕ) → appears y (replace x t eqs) ≡ true → appears y ((l, r) ∷ eqs) ≡ true = λ y k. elim (appears-replace y x t eqs k) [ inl m ↦ or_right (occurs y l || occurs y r) (appears y eqs) m | inr m ↦ or_left (occurs y l || occurs y r) (appears y eqs) (from y m) ] in

@@ -8,6 +8,7 @@ use Rattle.au_term.specs.Term.{Term, VarTerm, IntTerm, AtomTerm, Compound, Terms
 use Rattle.au_model.specs.Terms.Substitutions.{apply, apply_all, occurs, occurs_in}
 use Rattle.au_model.specs.Terms.Unifier.{Equations, Rule, Dropped, Replaced, Opened, Clash, rule, pairs, size}
 use Rattle.au_model.proofs.ApplyLemmas.{size_all-occurs}
+use Rattle.au_term.proofs.LogicLemmas.{numbers_turned as turned, both}
 
 pub record Binds (a b : Term) (x : ℕ) (t : Term) : Type 0 where
   pub sides : ((a ≡ VarTerm x) × (b ≡ t)) ⊎ ((a ≡ t) × (b ≡ VarTerm x))
@@ -46,9 +47,6 @@ module _ (a b : Term) where
 too_large : (x : ℕ) (g : List ℕ) (us : Terms) (f : ℕ → Term) → occurs_in x us ≡ true → f x ≡ apply f (Compound g us) → ⊥
 too_large x g us f o e = let k = size_all-occurs f x us o in let l = ap size e in omega arith
 
-turned : (m n : ℕ) → (m == n) ≡ false → (n == m) ≡ false
-turned m n e = grind (arith, nat_tests)
-
 below : (m n : ℕ) → nat_lt m n ≡ true → m < n
 below m n l = grind (arith, nat_tests)
 
@@ -69,10 +67,6 @@ count-apply_all f (more t ts) = ap suc (count-apply_all f ts)
 
 ints_differ : (y z : ℤ) → int_eq y z ≡ false → IntTerm y ≡ IntTerm z → ⊥
 ints_differ y z e h = let k : y ≡ z = cc in let t = (Decides-int_eq y z).1 k in cc
-
-both : (a b : Bool) → (a && b) ≡ true → (a ≡ true) × (b ≡ true)
-both true b h = (refl, h)
-both false b h = cc
 
 opened : (g h : List ℕ) (ts us : Terms) → (pointwise nat_eq g h ≡ true) × ((count ts == count us) ≡ true) → Opens (Compound g ts) (Compound h us) (pairs ts us)
 opened g h ts us e =

@@ -4,7 +4,7 @@ use Rattle.au_term.specs.Term.{Term, VarTerm, IntTerm, AtomTerm}
 use Rattle.au_model.specs.Terms.Forms.{unary, binary, list_term}
 use Rattle.au_model.specs.Syntax.Operators.{OperatorTable, KindYf, with_operator, initial_operators}
 use Rattle.au_model.specs.Writing.WrittenTerms.{written_term, written_as_value}
-use Rattle.au_model.specs.declared.style.Style.TheVariants.{Plain, Quoted, Canonical}
+use Rattle.au_model.specs.declared.types.Style.TheVariants.{Plain, Quoted, Canonical}
 use lib.Utf8.{encode}
 use Rattle.std.specs.Fmt.{digits}
 

@@ -113,7 +113,7 @@ impl Renaming {
     }
 }
 
-/// The number at a place behind the next one; past the greatest number there is no memory for it.
+/// The number at a place after the next one; past the greatest number there is no memory for it.
 fn number_at(next: VarNo, place: usize) -> Result<VarNo, NoMemory>
     ensures sum { IfOk result (λ n. n ≡ next + place) }
     ensures sound { IfOk result (λ n. n < 2 ^ 64 - 1) }

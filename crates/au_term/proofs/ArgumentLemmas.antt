@@ -12,7 +12,7 @@ take_every : (ts : Terms) → take_terms (count ts) ts ≡ ts
 take_every end = refl
 take_every (more t ts) = ap (more t) (take_every ts)
 
--- behind the first cell stand a term's arguments, and no others
+-- after the first cell are a term's arguments, and no others
 pub all_follow : (t : Term) → take_terms (arity (top_of t)) (terms_of (drop 1 (cells_of t))) ≡ arguments t
 all_follow (VarTerm n) = refl
 all_follow (IntTerm n) = refl
@@ -44,7 +44,7 @@ first_long : (ts : Terms) → 0 < count ts → length (all_cells (take_terms 1 t
 first_long end lt = absurd (omega arith)
 first_long (more t ts) lt = ap length (append-nil (cells_of t))
 
--- the terms behind the first one
+-- the terms after the first one
 rest_terms : (cs : List Cell) → IsForest cs → 0 < count (terms_of cs) → terms_of (drop (length (cells_of (term_of cs))) cs) ≡ drop_terms 1 (terms_of cs)
 rest_terms cs f some =
     let ts = terms_of cs in

@@ -7,3 +7,4 @@ pub mod ShiftLemmas
 pub mod ArgumentLemmas
 pub mod VariableBoundLemmas
 pub mod TextLemmas
+pub mod LogicLemmas

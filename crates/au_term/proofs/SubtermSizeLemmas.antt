@@ -59,7 +59,7 @@ one_more_taken (suc p) (more t ts) lt =
 few_cells : (n : ℕ) (ts : Terms) → length (all_cells (take_terms n ts)) ≤ length (all_cells ts)
 few_cells n ts = omega (arith, ap length (take_drop_cells n ts), length-append (all_cells (take_terms n ts)) (all_cells (drop_terms n ts)))
 
--- the size behind the first terms is that of the next one
+-- the size after the first terms is that of the next one
 next_size : (p d : ℕ) (ts : Terms) → p < count ts → get_or (all_sizes ts) (length (all_cells (take_terms p ts))) d ≡ length (cells_of (term_at p ts))
 next_size p d ts lt =
     let k = length (all_cells (take_terms p ts)) in

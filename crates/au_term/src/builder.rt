@@ -51,7 +51,7 @@ impl TermBuilder {
         self.due
     }
 
-    /// Puts the next cell behind the others.
+    /// Puts the next cell after the others.
     pub fn push(&mut self, cell: Cell) -> Result<(), NoMemory>
         requires due { 0 < due_after 1 self.old }
         requires sound { IsValidCell cell }
@@ -68,7 +68,7 @@ impl TermBuilder {
         Ok(())
     }
 
-    /// Puts a copy of these cells behind the others.
+    /// Puts a copy of these cells after the others.
     pub fn push_all(&mut self, cells: &[Cell]) -> Result<(), NoMemory>
         requires due { AreDue (due_after 1 self.old) cells.now }
         requires sound { AreValidCells cells.now }

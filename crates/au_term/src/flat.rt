@@ -9,7 +9,7 @@ use crate::sizes::{fill_sizes, skip_terms};
 use std::alloc::Global;
 use std::marker::Model;
 
-/// A finite term, kept as its cells in prefix order. Beside each cell stands how many cells the
+/// A finite term, kept as its cells in prefix order. Beside each cell is how many cells the
 /// subterm that begins there takes, so that a walk passes an argument in one step.
 #[derive(Drop)]
 pub struct FlatTerm {

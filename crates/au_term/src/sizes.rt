@@ -6,7 +6,7 @@ ghost use Rattle.au_term.specs.Term.{Terms, take_terms};
 
 use crate::cell::Cell;
 
-/// The place behind the first `number` of the terms that begin at `start`, by a step for each.
+/// The place after the first `number` of the terms that begin at `start`, by a step for each.
 pub(crate) fn skip_terms(sizes: &[usize], start: usize, number: u32) -> usize
     requires { (ts : Terms) × HasSizes sizes.now start number ts }
     ensures { (ts : Terms) → HasSizes sizes.now start number ts → result ≡ start + length (all_cells (take_terms number ts)) }

@@ -9,7 +9,7 @@ use Rattle.run_model.specs.declared.ending.RunEnding.{RunEnding}
 use Rattle.run_model.specs.declared.ending.RunEnding.TheVariants.{Finished, Halted, Budget, WriteFault, NoMemory}
 use Rattle.run_model.specs.declared.ending.RunEnd.{RunEnd}
 use Rattle.run_model.specs.Programs.Jobs.{Job as JobTerms}
-use Rattle.au_model.specs.declared.fault_kind.FaultKind.{FaultKind}
+use Rattle.au_model.specs.declared.types.FaultKind.{FaultKind}
 use Rattle.std.specs.Str.{chars, IsUtf8, IsValidUpTo}
 use Rattle.text_load.specs.declared.job.Job.{Job}
 use Rattle.text_load.proofs.UniqueLoadLemmas.{one_job, no_fault}

@@ -6,7 +6,7 @@ use Rattle.au_model.specs.Syntax.Characters.{chars_from}
 use Rattle.au_model.specs.Syntax.TermTexts.{is_over}
 use Rattle.au_model.specs.Syntax.Layout.{after_layout}
 use Rattle.run_model.specs.Programs.Jobs.{Job}
-use Rattle.au_model.specs.declared.fault_kind.FaultKind.TheVariants.{NotUtf8}
+use Rattle.au_model.specs.declared.types.FaultKind.TheVariants.{NotUtf8}
 use Rattle.au_model.specs.Syntax.TextFaults.{IsLineAndColumn, line_after, column_after}
 use Rattle.text_load.specs.LoadOutcome.{IsRefusal}
 use Rattle.text_load.specs.LoadedTexts.{IsRefused, LoadsTo, Sentences, no_more}
@@ -15,17 +15,11 @@ use Rattle.text_load.specs.declared.reading.LoadRefusal.TheVariants.{Refused, No
 use Rattle.text_load.proofs.UniqueLoadLemmas.{no_fault}
 use Rattle.aurora_cli.specs.LoadFaults.{IsTextFault, refused_as}
 use Rattle.aurora_cli.specs.ProgramTexts.{StandsFor, IsRefusedText, no_text, text_fault}
-
-append-none : {X : Type 0} (xs : List X) → xs ++ [] ≡ xs
-append-none [] = refl
-append-none (x ∷ xs) = ap (λ ys. x ∷ ys) (append-none xs)
-
-none_after : (text : List ℕ) → chars_from text (length text) ≡ []
-unfolding chars
-none_after text = ap chars (drop_all (length text) text (omega arith))
+use Rattle.term_reader.proofs.FaultyTokenLemmas.{at-end as none_after}
+use Rattle.std.proofs.Common.{append-nil}
 
 whole_before : (text before : List ℕ) → chars text ≡ before ++ chars_from text (length text) → before ≡ chars text
-whole_before text before e = sym (e ∙ (ap (λ cs. before ++ cs) (none_after text) ∙ append-none before))
+whole_before text before e = sym (e ∙ (ap (λ cs. before ++ cs) (none_after text) ∙ append-nil before))
 
 pub no_text_at : (bytes text : List ℕ) (n line column : ℕ) → IsValidUpTo bytes n → text ≡ take n bytes → IsLineAndColumn text (chars_from text (length text)) line column → IsRefusedText bytes line column NotUtf8
 no_text_at bytes text n line column v e p =

@@ -4,7 +4,7 @@ use Rattle.run_model.specs.declared.ending.Ending.{Ending}
 use Rattle.run_model.specs.declared.ending.Ending.TheVariants.{Finished, Halted, Budget, Refused, TooLong, Usage, ReadFault, WriteFault, NoMemory}
 use Rattle.run_model.specs.declared.ending.RunEnding.{RunEnding}
 use Rattle.run_model.specs.declared.ending.RunEnding.TheVariants.{Finished as RanOut, Halted as RanToHalt, Budget as RanToBudget, WriteFault as RanToFault, NoMemory as RanFull}
-use Rattle.au_model.specs.declared.fault_kind.FaultKind.{FaultKind}
+use Rattle.au_model.specs.declared.types.FaultKind.{FaultKind}
 use Rattle.run_model.specs.Programs.Jobs.{Job as JobTerms}
 use Rattle.run_model.specs.Machine.Runs.{text_of, ending_of}
 use Rattle.au_io.specs.FaultCounts.{Appended, AppendedPrefix}
@@ -61,7 +61,7 @@ EndsBy TooLong held budget before ending_of_run = before ≡ ending_of_run
 EndsBy (Usage kind) held budget before ending_of_run = before ≡ ending_of_run
 EndsBy ReadFault held budget before ending_of_run = before ≡ ending_of_run
 
--- a text that stands for a job and is not too long is run, unless memory is wanting
+-- a text that stands for a job and is not too long is run, unless memory runs out
 abbrev pub IsComplete : Ending → ℕ → List ℕ → Type 0
 IsComplete e budget text = (job : JobTerms) → length text ≤ 16777216 → StandsFor text job → (e ≡ ending_after (ending_of job budget)) ⊎ (e ≡ NoMemory)
 

@@ -21,7 +21,7 @@ abbrev pub IsReadWhole : Result Job Ending → Type 0
 IsReadWhole (Ok job) = Unit {0}
 IsReadWhole (Err e) = ComesOfText e
 
--- bytes are refused, or memory is wanting
+-- bytes are refused, or memory runs out
 abbrev pub IsTextFault : List ℕ → Ending → Type 0
 IsTextFault bytes (Refused line column kind) = IsRefusedText bytes line column kind
 IsTextFault bytes NoMemory = Unit {0}

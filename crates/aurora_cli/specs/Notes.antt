@@ -3,8 +3,8 @@ use Rattle.std.specs.Prelude.{ℕ, List, [], ◌++◌, codes}
 use Rattle.std.specs.Fmt.{decimal}
 use Rattle.run_model.specs.declared.ending.Ending.{Ending}
 use Rattle.run_model.specs.declared.ending.Ending.TheVariants.{Finished, Halted, Budget, Refused, TooLong, Usage, ReadFault, WriteFault, NoMemory}
-use Rattle.au_model.specs.declared.fault_kind.FaultKind.{FaultKind}
-use Rattle.au_model.specs.declared.fault_kind.FaultKind.TheVariants.{NotUtf8, BadCharacter, BadEscape, UnclosedQuote, UnclosedComment, FloatNumeral, WideNumeral, TooManyArguments, UnexpectedToken, UnexpectedEnd, BadClause, BadDirective, StaticTwice, Unbuilt}
+use Rattle.au_model.specs.declared.types.FaultKind.{FaultKind}
+use Rattle.au_model.specs.declared.types.FaultKind.TheVariants.{NotUtf8, BadCharacter, BadEscape, UnclosedQuote, UnclosedComment, FloatNumeral, WideNumeral, TooManyArguments, UnexpectedToken, UnexpectedEnd, BadClause, BadDirective, StaticTwice, Unbuilt}
 
 abbrev pub kind_text : FaultKind → List ℕ
 kind_text NotUtf8 = codes "not UTF-8"

@@ -2,12 +2,12 @@
 use Rattle.std.specs.Prelude.{ℕ, List, [], take}
 use Rattle.std.specs.Str.{chars, IsUtf8, IsValidUpTo}
 use Rattle.run_model.specs.Programs.Jobs.{Job}
-use Rattle.au_model.specs.declared.fault_kind.FaultKind.{FaultKind}
-use Rattle.au_model.specs.declared.fault_kind.FaultKind.TheVariants.{NotUtf8}
+use Rattle.au_model.specs.declared.types.FaultKind.{FaultKind}
+use Rattle.au_model.specs.declared.types.FaultKind.TheVariants.{NotUtf8}
 use Rattle.au_model.specs.Syntax.TextFaults.{line_after, column_after}
 use Rattle.text_load.specs.LoadedTexts.{LoadsTo, IsRefused}
 
--- no procedures stand before those of a text
+-- no procedures are before those of a text
 abbrev pub library : List ℕ
 library = []
 

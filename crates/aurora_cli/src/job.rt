@@ -6,14 +6,13 @@ ghost use Rattle.aurora_cli.specs.LoadFaults.{IsTextFault, refused_as};
 ghost use Rattle.aurora_cli.specs.ProgramTexts.{StandsFor};
 
 use au_model::FaultKind;
-
 use run_model::Ending;
 use std::alloc::Global;
 use std::str;
 use term_reader::line_and_column;
 use text_load::{Job, LoadRefusal, load};
 
-/// The procedures that stand before those of a text: none yet.
+/// The procedures that are before those of a text: none yet.
 const LIBRARY: &str = "";
 
 /// The job for which bytes stand, or their refusal.
@@ -40,7 +39,7 @@ fn ending_of(refusal: LoadRefusal) -> Ending
     }
 }
 
-/// The refusal of bytes that are no text behind so many.
+/// The refusal of bytes that are no text after so many.
 fn not_text(bytes: &[u8], valid: usize) -> Ending
     requires { IsValidUpTo bytes.now valid }
     ensures { IsTextFault bytes.now result }

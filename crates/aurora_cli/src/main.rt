@@ -58,7 +58,7 @@ fn command_line<R: Env + AllocGlobal>(rt: &R) -> Result<Vec<String>, Ending> {
     }
 }
 
-/// Why the words were not read: some are no text, or want of memory.
+/// Why the words were not read: some are no text, or running out of memory.
 fn unread(kind: ErrorKind) -> Ending {
     match kind {
         ErrorKind::OutOfMemory => Ending::NoMemory,

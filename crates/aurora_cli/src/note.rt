@@ -3,9 +3,8 @@ ghost use Rattle.std.specs.Prelude.{◌≡◌, ◌≤◌, ◌+◌, ◌++◌, len
 ghost use Rattle.aurora_cli.specs.Notes.{kind_text, note_of, refused_note};
 
 use au_model::FaultKind;
-
-use run_model::Ending;
 use itoa::Buffer;
+use run_model::Ending;
 
 /// Puts the note for an ending in front of the line, and answers its number of bytes: 0 where the run ended by itself,
 /// else those of one line with its end.
@@ -44,7 +43,7 @@ fn put_refused(line: &mut [u8; 160], row: u32, column: u32, kind: FaultKind) -> 
     put(line, at, b"\n")
 }
 
-/// Puts bytes behind the first ones of a line, and answers how many there are then.
+/// Puts bytes after the first ones of a line, and answers how many there are then.
 fn put(line: &mut [u8; 160], at: usize, bytes: &[u8]) -> usize
     requires { at + length bytes.now ≤ 160 }
     ensures len { result ≡ at + length bytes.now }

@@ -1,4 +1,4 @@
-//! The larger programs of `examples/`, whose texts stand here too, since a test can read no file outside its crate.
+//! The larger programs of `examples/`, whose texts are here too, since a test can read no file outside its crate.
 use crate::tests::ends;
 use run_model::Ending;
 use std::test::Fail;

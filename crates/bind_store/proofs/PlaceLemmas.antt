@@ -42,7 +42,7 @@ top_of-subterm t at c lt is =
 pub top_of-place : (base : ℕ) (t : Term) (at : ℕ) (c : Cell) → at < length (cells_of t) → c ≡ get_or (cells_of t) at c → shifted_cell base c ≡ top_of (shifted base (subterm at t))
 top_of-place base t at c lt is = ap (shifted_cell base) (sym (top_of-subterm t at c lt is)) ∙ sym (top_of-shifted base (subterm at t))
 
--- the terms from a place on are the subterm and the terms behind it
+-- the terms from a place on are the subterm and the terms after it
 pub after_is : (p : Pair) (bs : List Binding) (at next : Place) → next.source ≡ at.source → drop at.at (cells_of (whole_at p bs at.source)) ≡ cells_of (subterm at.at (whole_at p bs at.source)) ++ drop next.at (cells_of (whole_at p bs at.source)) → IsNextPlace p bs at next
 after_is p bs at next s e =
     let t = whole_at p bs at.source in
@@ -54,7 +54,7 @@ after_is p bs at next s e =
       number = ap count there ∙ omega arith;
     }
 
--- the equations behind the first
+-- the equations after the first
 pub rest_is : (p : Pair) (bs : List Binding) (e f : Equation) → 0 < e.count → f.count ≡ e.count - 1 → IsNextPlace p bs e.left f.left → IsNextPlace p bs e.right f.right
     → (place_term p bs e.left, place_term p bs e.right) ∷ equations_at p bs f ≡ equations_at p bs e
 rest_is p bs e f lt n l r =

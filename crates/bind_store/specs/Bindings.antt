@@ -45,12 +45,12 @@ abbrev pub IsLookedUp : List Binding → ℕ → Option ℕ → Type 0
 IsLookedUp bs x None = IsUnboundIn x bs
 IsLookedUp bs x (Some i) = IsBoundAt bs i x
 
--- a variable stands nowhere in bindings
+-- a variable is nowhere in bindings
 abbrev pub IsAbsent : ℕ → List Binding → Type 0
 IsAbsent x [] = Unit {0}
 IsAbsent x (b ∷ bs) = ((x == b.0) ≡ false) × (occurs x b.1 ≡ false) × IsAbsent x bs
 
--- none of the bound variables stands in its own value or in a later binding
+-- none of the bound variables is in its own value or in a later binding
 abbrev pub AreTriangular : List Binding → Type 0
 AreTriangular [] = Unit {0}
 AreTriangular (b ∷ bs) = (occurs b.0 b.1 ≡ false) × IsAbsent b.0 bs × AreTriangular bs

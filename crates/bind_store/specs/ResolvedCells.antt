@@ -19,7 +19,7 @@ abbrev pub rebuilt : (ℕ → Term) → List Cell → List Cell
 rebuilt f [] = []
 rebuilt f (c ∷ cs) = in_place f c ++ rebuilt f cs
 
--- a piece stands in the term itself, whose cells these are, or in the value of a binding
+-- a piece is in the term itself, whose cells these are, or in the value of a binding
 abbrev pub cells_at : List Cell → List Binding → Option ℕ → List Cell
 cells_at cells bs None = cells
 cells_at cells bs (Some i) = cells_of (value_at bs i)
@@ -52,7 +52,7 @@ weight_of (b ∷ bs) n = cond (b.0 == n) (2 + cells_weight (weight_of bs) (cells
 abbrev pub resolving_steps_left : List Cell → List Binding → List Piece → ℕ
 resolving_steps_left cells bs ps = cells_weight (weight_of bs) (pending_cells cells bs ps) + length ps
 
--- a piece behind its first cell
+-- a piece after its first cell
 abbrev pub next_piece : Piece → Piece
 next_piece p = record { value = p.value; at = p.at + 1 }
 
@@ -64,7 +64,7 @@ term_piece = record { value = None; at = 0 }
 abbrev pub value_piece : ℕ → Piece
 value_piece i = record { value = Some i; at = 0 }
 
--- the value that a piece stands in is there
+-- the value that a piece is in is there
 abbrev pub IsPlacedIn : List Binding → Option ℕ → Type 0
 IsPlacedIn bs None = Unit {0}
 IsPlacedIn bs (Some i) = i < length bs
@@ -82,7 +82,7 @@ IsCellFound bs (VarCell x) o = IsLookedUp bs x o × AreTriangular bs
 IsCellFound bs c None = Unit {0}
 IsCellFound bs c (Some i) = ⊥
 
--- a cell was put behind the others, or its value on top of the pieces
+-- a cell was put after the others, or its value on top of the pieces
 pub data IsCellEmitted (bs : List Binding) (c : Cell) (built now : List Cell) (ps qs : List Piece) : Type 0 where
   put_after : IsCellFound bs c None → now ≡ built ++ c ∷ [] → qs ≡ ps → IsCellEmitted bs c built now ps qs
   put_on_top : (i : ℕ) → IsCellFound bs c (Some i) → now ≡ built → qs ≡ ps ++ value_piece i ∷ [] → IsCellEmitted bs c built now ps qs

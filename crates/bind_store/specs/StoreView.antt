@@ -9,7 +9,7 @@ use Rattle.au_model.specs.Terms.Unifier.{unifier}
 use Rattle.bind_store.specs.Bindings.{Binding, composed, IsUnboundIn, AreTriangular, IsBindingBelow}
 use Rattle.bind_store.specs.declared.store.Mark.{Mark}
 
--- the bindings in the order in which they were made, each value as it stood then, and the next number
+-- the bindings in the order in which they were made, each value as it was then, and the next number
 pub record StoreView : Type 0 where
   pub made : List Binding
   pub next : ℕ

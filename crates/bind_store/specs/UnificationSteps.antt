@@ -1,4 +1,4 @@
--- Equations by the places where their sides stand.
+-- Equations by the places where their sides are.
 use Rattle.std.specs.Prelude.{◌≡◌, ℕ, ◌+◌, ◌<◌, ◌≤◌, ◌==◌, ◌&&◌, Bool, true, false, cond, nat_eq, nat_lt, List, [], ◌∷◌, ◌++◌, length, drop, map, Option, Some, None}
 use Rattle.std.specs.Ordering.{int_eq}
 use Rattle.std.specs.Cmp.Lexicographic.{pointwise}
@@ -47,7 +47,7 @@ place_term p bs at = shifted (base_at p at.source) (subterm at.at (whole_at p bs
 abbrev pub place_terms : Pair → List Binding → Place → Terms
 place_terms p bs at = all_shifted (base_at p at.source) (terms_of (drop at.at (cells_of (whole_at p bs at.source))))
 
--- so many terms stand from a place on
+-- so many terms are from a place on
 pub record HasTermsAt (p : Pair) (bs : List Binding) (at : Place) (number : ℕ) : Type 0 where
   pub there : IsThere bs at.source
   pub enough : number ≤ count (terms_of (drop at.at (cells_of (whole_at p bs at.source))))
@@ -107,13 +107,13 @@ abbrev pub HasArguments : Step → Type 0
 HasArguments (Opens n) = 0 < n
 HasArguments s = Unit {0}
 
--- a place just behind the subterm at another
+-- a place just after the subterm at another
 pub record IsNextPlace (p : Pair) (bs : List Binding) (at next : Place) : Type 0 where
   pub source : next.source ≡ at.source
   pub terms : place_terms p bs at ≡ more (place_term p bs at) (place_terms p bs next)
   pub number : count (terms_of (drop at.at (cells_of (whole_at p bs at.source)))) ≡ 1 + count (terms_of (drop next.at (cells_of (whole_at p bs next.source))))
 
--- what a place stands for, with the bindings, stands at another, and no bound variable there
+-- what a place stands for, with the bindings, is at another, and no bound variable there
 pub record DereferencesTo (p : Pair) (bs : List Binding) (from at : Place) : Type 0 where
   pub stand : HasTermsAt p bs at 1
   pub same : resolve (composed bs) (place_term p bs at) ≡ resolve (composed bs) (place_term p bs from)

@@ -107,7 +107,7 @@ impl Bindings {
         }
     }
 
-    /// Takes the bindings behind the first ones back.
+    /// Takes the bindings after the first ones back.
     pub(crate) fn cut_to(&mut self, count: usize)
         ensures { self.new ≡ take count self.old }
     {

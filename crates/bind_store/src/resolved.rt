@@ -63,7 +63,7 @@ fn advance(
     }
 }
 
-/// Puts a cell behind those of the builder, or, for a bound variable, its value on top of the pieces.
+/// Puts a cell after those of the builder, or, for a bound variable, its value on top of the pieces.
 fn put(
     cell: Cell,
     bindings: &Bindings,

@@ -176,7 +176,7 @@ impl Store {
 
     /// Takes the store back to where a mark was made.
     /// The bindings up to the mark's number stay: so a mark that outlived an older undoing is one of the bindings that
-    /// stand there now.
+    /// are there now.
     pub fn undo_to(&mut self, mark: Mark)
         requires { IsMarkOf mark self.old }
         ensures { (before : StoreView) → mark ≡ mark_of before → Continues before self.old → self.new ≡ before }

@@ -9,7 +9,7 @@ ghost use Rattle.bind_store.specs.Sides.{pair_of};
 
 use crate::bindings::Bindings;
 use crate::kept::Kept;
-use crate::resolved::{shifted, resolved};
+use crate::resolved::{resolved, shifted};
 use crate::terms::occurs;
 use au_term::{Cell, FlatTerm, NoMemory, VarNo};
 use std::alloc::Global;
@@ -22,7 +22,7 @@ pub(crate) enum Source {
     Value(usize),
 }
 
-/// A subterm, by where its first cell stands.
+/// A subterm, by where its first cell is.
 #[derive(Clone, Copy)]
 pub(crate) struct Place {
     pub(crate) source: Source,
@@ -56,7 +56,7 @@ pub(crate) struct Sides<'a> {
     pub(crate) right_base: VarNo,
 }
 
-/// Adds the bindings that solve an equation, and answers whether any do. Where none do, or memory is wanting, some
+/// Adds the bindings that solve an equation, and answers whether any do. Where none do, or memory runs out, some
 /// bindings may be left.
 pub(crate) fn extend(
     alloc: Global,
@@ -127,7 +127,7 @@ fn push_rest(
     Ok(())
 }
 
-/// The place behind a subterm.
+/// The place after a subterm.
 fn after(sides: &Sides, bindings: &Bindings, place: Place) -> Place
     requires { HasTermsAt (pair_of sides.now) bindings.now place 1 }
     ensures { IsNextPlace (pair_of sides.now) bindings.now place result }
@@ -169,7 +169,7 @@ fn first_goes(
     }
 }
 
-/// Where a compound's first argument stands.
+/// Where a compound's first argument is.
 fn first_argument(place: Place) -> Place
     requires { place.at < 2 ^ 64 - 1 }
     ensures { result ≡ record { source = place.source; at = place.at + 1 } }
@@ -196,7 +196,7 @@ fn reached(sides: &Sides, bindings: &Bindings, place: Place) -> Result<Place, No
     Ok(at)
 }
 
-/// The binding of the variable at a place, if a bound variable stands there.
+/// The binding of the variable at a place, if a bound variable is there.
 fn binding_at(sides: &Sides, bindings: &Bindings, place: Place) -> Result<Option<usize>, NoMemory>
     requires { HasTermsAt (pair_of sides.now) bindings.now place 1 }
     ensures { IfOk result (IsBindingOf bindings.now (top_of (place_term (pair_of sides.now) bindings.now place))) }

@@ -9,7 +9,7 @@ use Rattle.au_term.proofs.ShiftLemmas.{place_of, shifted-zero, AreSound-bound}
 use Rattle.au_term.proofs.VariableBoundLemmas.{cells_bound-cells_of}
 use Rattle.au_term.proofs.SubtermLemmas.{some_cell, subterm-zero}
 use Rattle.au_model.specs.Terms.Each.{Each}
-use Rattle.std.specs.Prelude.{codes, not, ◌||◌}
+use Rattle.std.specs.Prelude.{codes, ◌||◌}
 use Rattle.au_model.specs.Terms.Forms.{binary, same_name}
 use Rattle.clause_compile.specs.BodyCells.{opens_plain_goal}
 use Rattle.run_model.specs.Programs.Bodies.{body_of, goals_of, called_goals, is_junction, junction}
@@ -20,6 +20,7 @@ use Rattle.clause_compile.specs.declared.item.Item.TheVariants.{Goal}
 use Rattle.clause_compile.specs.GoalPlaces.{subterms_at, ArePlaces, AreGoalsAt}
 use Rattle.clause_compile.specs.CompiledClauses.{goal_items}
 use Rattle.clause_compile.proofs.NormalBodyLemmas.{junction_body}
+use Rattle.au_term.proofs.LogicLemmas.{not-true}
 
 -- a body that was kept is kept as it is
 IsOwnBody : Option Term → Type 0
@@ -108,10 +109,6 @@ not_called b e = ap (option_map goals_of) (sym e)
 or-left : (a b : Bool) → a || b ≡ false → a ≡ false
 or-left true b h = absurd cc
 or-left false b h = refl
-
-not-true : (a : Bool) → not a ≡ true → a ≡ false
-not-true true h = absurd cc
-not-true false h = refl
 
 plain_binary : (f : List ℕ) (a b : Term) → is_junction f ≡ false → called_goals (binary f a b) ≡ Some (binary f a b ∷ [])
 plain_binary f a b h =

@@ -56,7 +56,7 @@ passes_goal t at stop places now e lt h n =
           ∙ (append_assoc (subterms_at t places) (subterm at t ∷ []) (goals_of_all rest) ∙ ap (λ gs. subterms_at t places ++ gs) (ap (λ gs. gs ++ goals_of_all rest) (sym (one_goal (subterm at t) h)) ∙ ap goals_of_all (sym (stands_first t at stop e)))));
     }
 
--- the goals found so far and those behind are the goals of the whole
+-- the goals found so far and those after are the goals of the whole
 pub record Placing (t : Term) (at : ℕ) (places : List ℕ) : Type 0 where
   pub within : at ≤ length (cells_of t)
   pub placed : Each (λ i. i < length (cells_of t)) places

@@ -15,7 +15,7 @@ use Rattle.run_model.specs.Programs.Bodies.{body_of, call_of, is_junction, junct
 use Rattle.clause_compile.specs.BodyCells.{opens_junction}
 use Rattle.clause_compile.specs.NormalBodies.{joined_cells, bodies_cells, NormalizesGoal}
 
--- the term that stands at a place, and those behind it
+-- the term that is at a place, and those after it
 pub stands_first : (t : Term) (at stop : ℕ) → Ends t at stop → terms_of (drop at (cells_of t)) ≡ more (subterm at t) (terms_of (drop stop (cells_of t)))
 stands_first t at stop e = ap terms_of e.rest ∙ terms_of-cells_of (subterm at t) (drop stop (cells_of t))
 
@@ -29,7 +29,7 @@ joined-twice cs ds (Some es) = ap Some (append_assoc cs ds es)
 due_after_term : (t : Term) (n : ℕ) → due_after (suc n) (cells_of t) ≡ n
 due_after_term t n = due_after-is (suc n) (cells_of t) n (rw (← append-nil (cells_of t)) (DueAfter-cells_of t [] n n refl))
 
--- a goal that stands at a place is kept as it is, or as a call
+-- a goal that is at a place is kept as it is, or as a call
 pub keeps_goal : (t : Term) (at stop : ℕ) (built now : List Cell) (kept : Term) → Ends t at stop → due_after 1 built ≡ count (terms_of (drop at (cells_of t)))
     → body_of (subterm at t) ≡ Some kept → now ≡ built ++ cells_of kept → NormalizesGoal (cells_of t) at stop built now
 keeps_goal t at stop built now kept e d b n =
@@ -81,7 +81,7 @@ junction_sides (VarTerm m) h = absurd cc
 junction_sides (IntTerm m) h = absurd cc
 junction_sides (AtomTerm m) h = absurd cc
 
--- the bodies of both sides of a junction come one behind the other
+-- the bodies of both sides of a junction come one after the other
 junction-cells : (f : List ℕ) (a b : Option Term) (o : Option (List Cell)) → joined_cells (option_map cells_of (junction f a b)) o ≡ joined_cells (Some (Functor f 2 ∷ [])) (joined_cells (option_map cells_of a) (joined_cells (option_map cells_of b) o))
 junction-cells f (Some a) (Some b) (Some cs) =
     ap (λ ds. Some (Functor f 2 ∷ ds)) (append_assoc (cells_of a) (cells_of b ++ []) cs ∙ ap (λ ds. cells_of a ++ (ds ++ cs)) (append-nil (cells_of b)))
@@ -92,7 +92,7 @@ junction-cells f None b o = refl
 pub junction_body : (f : List ℕ) (a b : Term) → is_junction f ≡ true → body_of (binary f a b) ≡ junction f (body_of a) (body_of b)
 junction_body f a b h = ap (λ k. cond k (junction f (body_of a) (body_of b)) (Some (binary f a b))) h
 
--- the cells behind the first one of a compound of two arguments
+-- the cells after the first one of a compound of two arguments
 pub both_after : (t : Term) (at stop : ℕ) (f : List ℕ) (a b : Term) → Ends t at stop → subterm at t ≡ binary f a b
     → terms_of (drop (at + 1) (cells_of t)) ≡ more a (more b (terms_of (drop stop (cells_of t))))
 both_after t at stop f a b e is =

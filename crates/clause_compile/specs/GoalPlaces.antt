@@ -1,4 +1,4 @@
--- Where the goals of a body stand.
+-- Where the goals of a body are.
 use Rattle.std.specs.Prelude.{◌≡◌, ℕ, ◌<◌, ◌≤◌, List, [], ◌++◌, map, length, drop}
 use Rattle.au_term.specs.Term.{Term, Terms, end, more}
 use Rattle.au_term.specs.PrefixOrder.{cells_of, terms_of, subterm}
@@ -20,7 +20,7 @@ abbrev pub goals_of_all : Terms → List Term
 goals_of_all end = []
 goals_of_all (more t ts) = goals_of t ++ goals_of_all ts
 
--- a place was passed: the goals that were found and those behind it are the same as before
+-- a place was passed: the goals that were found and those after it are the same as before
 pub record PassesGoal (t : Term) (at next : ℕ) (places now : List ℕ) : Type 0 where
   pub forward : at < next
   pub within : next ≤ length (cells_of t)

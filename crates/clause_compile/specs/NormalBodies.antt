@@ -11,12 +11,12 @@ joined_cells (Some cs) (Some ds) = Some (cs ++ ds)
 joined_cells (Some cs) None = None
 joined_cells None o = None
 
--- the cells of the bodies that terms stand for, one behind the other, where each of them stands for one
+-- the cells of the bodies that terms stand for, one after the other, where each of them stands for one
 abbrev pub bodies_cells : Terms → Option (List Cell)
 bodies_cells end = Some []
 bodies_cells (more t ts) = joined_cells (option_map cells_of (body_of t)) (bodies_cells ts)
 
--- what stood at a place was kept: what is built and the bodies behind it are the same cells as before
+-- what was at a place was kept: what is built and the bodies after it are the same cells as before
 pub record NormalizesGoal (cells : List Cell) (at next : ℕ) (built now : List Cell) : Type 0 where
   pub forward : at < next
   pub within : next ≤ length cells

@@ -26,8 +26,8 @@ pub(crate) fn normal_body(alloc: Global, body: &FlatTerm) -> Result<Option<FlatT
     Ok(Some(builder.finish()))
 }
 
-/// Keeps what stands where a goal is due, and says where the next one is due: on the left of a junction, or behind
-/// the goal. None where no goal can stand there.
+/// Keeps what is where a goal is due, and says where the next one is due: on the left of a junction, or after
+/// the goal. None where no goal can be there.
 fn normalize_goal(
     alloc: Global,
     body: &FlatTerm,
@@ -53,7 +53,7 @@ fn normalize_goal(
     Ok(Some(end))
 }
 
-/// Puts a call of a variable behind the cells of the builder.
+/// Puts a call of a variable after the cells of the builder.
 fn push_call(alloc: Global, number: VarNo, builder: &mut TermBuilder) -> Result<(), NoMemory>
     requires due { 0 < due_after 1 builder.old }
     requires sound { number < 2 ^ 64 - 1 }
@@ -86,7 +86,7 @@ pub(crate) fn goal_places(alloc: Global, body: &FlatTerm) -> Result<Vec<usize>, 
     Ok(places)
 }
 
-/// Notes the place of the goal that stands here, and says where the next goal is: inside a conjunction, or behind it.
+/// Notes the place of the goal that is here, and says where the next goal is: inside a conjunction, or after it.
 fn pass_goal(body: &FlatTerm, at: usize, places: &mut Vec<usize>) -> Result<usize, NoMemory>
     requires { at < length (cells_of body.now) }
     ensures { IfOk result (λ next. PassesGoal body.now at next places.old.items places.new.items) }

@@ -20,7 +20,7 @@ use std::alloc::{AllocFailed, Global};
 use std::marker::Model;
 use std::sync::Arc;
 
-/// A clause: its head, its body with a call of each variable goal, where the body's goals stand, and how many variables
+/// A clause: its head, its body with a call of each variable goal, where the body's goals are, and how many variables
 /// it has. Contracts see the head and the body.
 #[derive(Drop)]
 pub struct Clause {

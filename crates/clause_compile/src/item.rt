@@ -1,7 +1,7 @@
 //! What is left to do of one alternative (a continuation of ISO/IEC 13211-1, 7.7.2).
 use au_term::{FlatTerm, Shared};
 
-/// A choice point: a node of the search tree by its number, or a choice point of the region at hand,
+/// A choice point: a node of the search tree by its number, or a choice point of the current region,
 /// of which `Local(i)` is the one above the i + 1 oldest entries.
 #[derive(Clone, Copy, Debug, PartialEq, Eq)]
 pub enum Scope {
@@ -24,6 +24,6 @@ pub enum Item {
     Collect { template: Shared, scope: Scope },
     /// The removal of a clause.
     Remove(ClauseId),
-    /// The end of a query, with its uncaught ball if there is one. It stands alone.
+    /// The end of a query, with its uncaught ball if there is one. It is alone.
     End(Option<FlatTerm>),
 }

@@ -94,7 +94,7 @@ fn expect_goals(
     Ok(())
 }
 
-/// The goals of a clause, none of which stands before others.
+/// The goals of a clause, none of which is before others.
 fn expect_clause(
     rt: &impl Abort,
     alloc: Global,

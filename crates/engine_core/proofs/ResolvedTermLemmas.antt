@@ -32,7 +32,7 @@ argument_resolved f (IntTerm z) i lt = absurd (omega arith)
 argument_resolved f (AtomTerm a) i lt = absurd (omega arith)
 argument_resolved f (Compound g ts) i lt = term_resolved f ts i lt
 
--- an argument, as it stands
+-- an argument, as it is
 pub argument_stands : (st : StoreView) (t a : Term) (i : ℕ) → i < argument_count t → var_bound t ≤ st.next → a ≡ argument i t → ResolvesTo st (argument i (resolve (substitution st) t)) a
 argument_stands st t a i lt h e = record {
   is = ap (resolve (substitution st)) e ∙ sym (argument_resolved (value_of (substitution st)) t i lt);

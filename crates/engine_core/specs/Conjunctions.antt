@@ -23,7 +23,7 @@ abbrev pub bodies_size : Substitution → List Term → ℕ
 bodies_size s [] = 0
 bodies_size s (t ∷ ts) = size (resolve s t) + bodies_size s ts
 
--- a body behind others was taken apart: further goals stand before those that were found, and the goals of all bodies
+-- a body after others was taken apart: further goals are before those that were found, and the goals of all bodies
 -- that are left, with those, are the same as before
 pub record SplitsBodies (st : StoreView) (cut : Scope) (body : Term) (goals now : List Item) (bodies left : List Term) : Type 0 where
   pub terms : List Term

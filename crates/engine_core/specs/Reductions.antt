@@ -1,4 +1,4 @@
--- What one item comes to, beside a store of bindings: the table of outcomes, with its terms as they stand unresolved.
+-- What one item comes to, beside a store of bindings: the table of outcomes, with its terms as they are unresolved.
 use Rattle.std.specs.Prelude.{◌≡◌, ◌≤◌, List, [], ◌∷◌}
 use Rattle.au_term.specs.Term.{Term, var_bound}
 use Rattle.au_model.specs.Terms.Substitutions.{resolve}

@@ -32,7 +32,7 @@ pub(crate) fn with_arguments(
     Ok(called)
 }
 
-/// Puts all arguments of a term behind others, in time linear in the term: an argument found by its number is searched
+/// Puts all arguments of a term after others, in time linear in the term: an argument found by its number is searched
 /// for from the first one.
 fn push_all_arguments(alloc: Global, term: &Shared, all: &mut Vec<Shared>) -> Result<(), NoMemory>
     ensures { OnOk result (all.new.items ≡ all.old.items ++ listed (arguments term.now)) }
@@ -45,7 +45,7 @@ fn push_all_arguments(alloc: Global, term: &Shared, all: &mut Vec<Shared>) -> Re
     Ok(())
 }
 
-/// Puts the arguments of a goal from this one on behind others.
+/// Puts the arguments of a goal from this one on after others.
 fn push_arguments(term: &Shared, from: u32, all: &mut Vec<Shared>) -> Result<(), NoMemory>
     requires { from ≤ argument_count term.now }
     ensures { OnOk result (all.new.items ≡ all.old.items ++ drop from (listed (arguments term.now))) }

@@ -1,4 +1,4 @@
-//! Where a goal stands.
+//! Where a goal is.
 
 use clause_compile::{Goals, Scope};
 

@@ -8,7 +8,7 @@ use au_model::{Fault, LimitName, TypeName};
 use au_term::{Atom, FlatTerm, NoMemory, Shared};
 use std::alloc::Global;
 
-/// The ball where a variable stands in place of what a goal of this name needs.
+/// The ball where a variable is in place of what a goal of this name needs.
 pub(crate) fn unbound_ball(alloc: Global, name: &str, arity: u32) -> Result<FlatTerm, NoMemory>
     requires { IsAscii name.now }
     ensures { IfOk result (λ ball. ball ≡ error_term instantiation_error name.now arity) }

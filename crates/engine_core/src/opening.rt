@@ -13,7 +13,7 @@ use bind_store::Store;
 use clause_compile::Opening;
 use std::alloc::Global;
 
-/// An argument of a goal, as it stands.
+/// An argument of a goal, as it is.
 pub(crate) fn argument(goal: &Shared, i: u32, store: &Store) -> Result<Shared, NoMemory>
     requires argument { i < argument_count goal.now }
     requires below { var_bound goal.now ≤ store.now.next }

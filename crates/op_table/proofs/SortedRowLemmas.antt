@@ -13,7 +13,7 @@ use Rattle.op_table.specs.OperatorView.{place_order}
 pub row_order-total : IsTotalOrder row_order
 row_order-total = then_total (on_total (λ (r : OperatorRow). r.name) nat_list_cmp_total) (on_total row_rank nat_cmp_total)
 
--- a row that stands at a place
+-- a row that is at a place
 kind_in : OperatorClass → OperatorKind
 kind_in PrefixClass = KindFy
 kind_in InfixClass = KindXfx

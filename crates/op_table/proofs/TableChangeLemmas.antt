@@ -14,6 +14,7 @@ use Rattle.op_table.specs.OperatorView.{place_order}
 use Rattle.op_table.specs.TableChanges.{conflicting_operator, is_protected_name, may_be_added, IsSlot}
 use Rattle.op_table.specs.declared.search.Slot.TheVariants.{Taken, Free}
 use Rattle.op_table.proofs.SortedRowLemmas.{row_order-total, row_at, at_place, is_row-place}
+use Rattle.au_term.proofs.LogicLemmas.{both as both_true, not-true as not_true}
 
 -- what holds of the row and of all others holds of all
 all_with : (P : OperatorRow → Type 0) (row : OperatorRow) (t : OperatorTable) → P row → AllByRecursion P t → AllByRecursion P (with_operator t row)
@@ -167,17 +168,9 @@ record MayBePut (t : OperatorTable) (r : OperatorRow) : Type 0 where
   braces : pointwise nat_eq r.name (codes "{}") ≡ false
   apart : conflicting_operator t (class_of r.operator.kind) r.name ≡ None
 
-both_true : (a b : Bool) → (a && b) ≡ true → (a ≡ true) × (b ≡ true)
-both_true true b e = (refl, e)
-both_true false b e = let f : ⊥ = cc in absurd f
-
 neither_true : (a b : Bool) → not (a || b) ≡ true → (a ≡ false) × (not b ≡ true)
 neither_true true b e = let f : ⊥ = cc in absurd f
 neither_true false b e = (refl, e)
-
-not_true : (a : Bool) → not a ≡ true → a ≡ false
-not_true true e = let f : ⊥ = cc in absurd f
-not_true false e = refl
 
 none_there : {X : Type 0} (o : Option X) → is_none o ≡ true → o ≡ None
 none_there None e = refl
@@ -215,7 +208,7 @@ table_with t row h p =
       braces = no_operator_still (codes "{}") row t m.braces ∙ h.braces;
     }
 
--- where rows stand from the new one
+-- where rows are from the new one
 pub from_row : (class : OperatorClass) (name : List ℕ) (row r : OperatorRow) → class ≡ class_of row.operator.kind → name ≡ row.name → place_order class name r ≡ row_order r row
 from_row class name row r e k = ap₂ (λ n c. ordering_then (slice_cmp nat_cmp r.name n) (nat_cmp (row_rank r) (class_rank c))) k e
 

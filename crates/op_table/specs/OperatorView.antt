@@ -31,6 +31,6 @@ operator_meant o = record { priority = o.priority; kind = kind_meant o.kind }
 abbrev pub row_meant : OpRow → OperatorRow
 row_meant r = record { name = r.name; operator = operator_meant r.operator }
 
--- where a row stands from the place of a class and a name
+-- where a row is from the place of a class and a name
 abbrev pub place_order : OperatorClass → List ℕ → OperatorRow → Ordering
 place_order class name r = ordering_then (slice_cmp nat_cmp r.name name) (nat_cmp (row_rank r) (class_rank class))

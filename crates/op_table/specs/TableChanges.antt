@@ -22,7 +22,7 @@ abbrev pub may_be_added : OperatorTable → OperatorRow → Bool
 may_be_added t r =
     nat_lt 0 r.operator.priority && (nat_le r.operator.priority 1200 && (not (is_protected_name r.name) && is_none (conflicting_operator t (class_of r.operator.kind) r.name)))
 
--- where a row belongs: in the place of another, or in front of what stands there
+-- where a row belongs: in the place of another, or in front of what is there
 abbrev pub IsSlot : OperatorTable → OperatorRow → Slot → Type 0
 IsSlot t r (Taken at) = (at < length t) × (with_operator t r ≡ take at t ++ r ∷ drop (at + 1) t)
 IsSlot t r (Free at) = (at ≤ length t) × (with_operator t r ≡ take at t ++ r ∷ drop at t)

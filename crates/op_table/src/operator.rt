@@ -1,11 +1,12 @@
 //! Operators and rows of a table.
 ghost use Rattle.std.specs.Prelude.{◌≡◌, IfOk};
 ghost use Rattle.au_model.specs.Syntax.Operators.{class_of, class_rank};
-ghost use Rattle.op_table.specs.OperatorView.{class_meant, kind_meant};
+ghost use Rattle.au_model.specs.Syntax.PostOperators.{left_bound, right_bound, takes_equal_left, takes_equal_right};
+ghost use Rattle.op_table.specs.OperatorView.{class_meant, kind_meant, operator_meant};
 
 use au_term::{Atom, NoMemory};
 
-/// Where the operands stand: `f` is the operator, `x` an operand of lower priority, `y` one of at
+/// Where the operands are: `f` is the operator, `x` an operand of lower priority, `y` one of at
 /// most the operator's.
 #[derive(Clone, Copy, Debug, PartialEq, Eq)]
 pub enum OpKind {
@@ -48,6 +49,44 @@ impl OpKind {
             OpKind::Fy | OpKind::Fx => OpClass::Prefix,
             OpKind::Xfx | OpKind::Xfy | OpKind::Yfx => OpClass::Infix,
             OpKind::Xf | OpKind::Yf => OpClass::Postfix,
+        }
+    }
+
+    /// Whether the left operand may have the operator's own priority.
+    pub fn takes_equal_left(self) -> bool
+        ensures { result ≡ takes_equal_left (kind_meant self) }
+    {
+        matches!(self, OpKind::Yfx | OpKind::Yf)
+    }
+
+    /// Whether the right operand may have the operator's own priority.
+    pub fn takes_equal_right(self) -> bool
+        ensures { result ≡ takes_equal_right (kind_meant self) }
+    {
+        matches!(self, OpKind::Xfy | OpKind::Fy)
+    }
+}
+
+impl Operator {
+    /// The greatest priority of a left operand without brackets.
+    pub fn left_bound(self) -> u16
+        ensures { result ≡ left_bound (operator_meant self) }
+    {
+        if self.kind.takes_equal_left() {
+            self.priority
+        } else {
+            self.priority.saturating_sub(1)
+        }
+    }
+
+    /// The greatest priority of a right operand without brackets.
+    pub fn right_bound(self) -> u16
+        ensures { result ≡ right_bound (operator_meant self) }
+    {
+        if self.kind.takes_equal_right() {
+            self.priority
+        } else {
+            self.priority.saturating_sub(1)
         }
     }
 }

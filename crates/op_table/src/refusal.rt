@@ -2,7 +2,7 @@
 
 use au_model::Fault;
 
-/// Why an operator was not added: the error of `op/3` (ISO/IEC 13211-1, 8.14.3.3), or want of memory.
+/// Why an operator was not added: the error of `op/3` (ISO/IEC 13211-1, 8.14.3.3), or running out of memory.
 #[derive(Drop)]
 pub enum OpRefusal {
     Fault(Fault),

@@ -7,7 +7,7 @@ ghost use Rattle.op_table.specs.TableChanges.{IsSlot};
 use crate::operator::{OpClass, OpRow, Operator};
 use std::cmp::Ordering;
 
-/// Where a row stands from the place of a name and a class.
+/// Where a row is from the place of a name and a class.
 fn compare(row: &OpRow, name: &str, class: OpClass) -> Ordering
     ensures { result ≡ place_order (class_meant class) (chars name.now) (row_meant row.now) }
 {
@@ -33,7 +33,7 @@ pub(crate) fn find(rows: &[OpRow], name: &str, class: OpClass) -> Option<Operato
     None
 }
 
-/// Where a row belongs in a table: in the place of one of its name and class, or in front of what stands there.
+/// Where a row belongs in a table: in the place of one of its name and class, or in front of what is there.
 #[derive(Clone, Copy)]
 pub(crate) enum Slot {
     Taken(usize),

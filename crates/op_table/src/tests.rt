@@ -100,7 +100,7 @@ fn rows_in_order(rt: HostRuntime) -> Result<(), Fail> {
 }
 
 /// Operators of which each may be put into the table that those before it leave: of new names between the others, in
-/// front of them and behind them, of a name that has an operator of another class, and in place of another.
+/// front of them and after them, of a name that has an operator of another class, and in place of another.
 static PUT: [(&str, u16, OpKind); 6] = [
     ("===>", 700, OpKind::Xfx),
     ("~", 200, OpKind::Fy),

@@ -14,7 +14,7 @@ use Rattle.std.specs.Ordering.{nat_cmp}
 use Rattle.std.specs.Global.{Global}
 use Rattle.std.specs.declared.sync.Arc.{Arc}
 use Rattle.au_term.specs.declared.atom.Atom.{Atom}
-use Rattle.au_term.specs.Term.{Term, argument_count}
+use Rattle.au_term.specs.Term.{argument_count}
 use Rattle.au_model.specs.Terms.Forms.{same_name, name_of}
 use Rattle.run_model.specs.Programs.Clauses.{Clause as ClauseTerms, is_clause_of, is_defined}
 use Rattle.clause_compile.specs.declared.clause.Clause.{Clause}
@@ -115,9 +115,6 @@ no_candidates clauses name arity key own e z =
 pub some_candidates : (clauses : List ClauseTerms) (name : List ℕ) (arity : ℕ) (key : Key) (own : List ClauseTerms) → own ≡ procedure_of clauses name arity → 0 < length own → Some (matching key own) ≡ candidates_of clauses name arity key
 some_candidates clauses name arity key own e lt =
     ap (λ cs. Some (matching key cs)) e ∙ sym (ap (λ k. cond k (Some (matching key (procedure_of clauses name arity))) None) (is_there clauses name arity (subst (λ cs. 0 < length cs) e lt)))
-
-pub head_is : (c d : ClauseTerms) → c ≡ d → c.head ≡ d.head
-head_is c d e = ap (λ k. let h : Term = k.head in h) e
 
 pub positive : (m n : ℕ) → m ≡ n → (n == 0) ≡ false → 0 < m
 positive m zero e h = absurd cc

@@ -42,7 +42,7 @@ clauses_under index name arity = found_in (get (slice_cmp nat_cmp) index name) a
 abbrev pub IsIndexed : BTreeMap Atom Arities → List ClauseTerms → Type 0
 IsIndexed index clauses = (name : List ℕ) (arity : ℕ) → clauses_under index name arity ≡ procedure_of clauses name arity
 
--- a clause was put behind those of its procedure
+-- a clause was put after those of its procedure
 abbrev pub IsAdded : BTreeMap Atom Arities → BTreeMap Atom Arities → ClauseTerms → Type 0
 IsAdded index now c = (name : List ℕ) (arity : ℕ) → clauses_under now name arity ≡ clauses_under index name arity ++ procedure_of (c ∷ []) name arity
 

@@ -87,7 +87,7 @@ impl Procs {
     }
 }
 
-/// Puts a clause behind those of its procedure.
+/// Puts a clause after those of its procedure.
 fn add(
     alloc: Global,
     index: &mut BTreeMap<Atom, Arities>,
@@ -103,7 +103,7 @@ fn add(
     Ok(())
 }
 
-/// Puts a clause behind those with its number of arguments.
+/// Puts a clause after those with its number of arguments.
 fn add_to(
     alloc: Global,
     arities: &mut Arities,

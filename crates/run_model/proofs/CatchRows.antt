@@ -120,7 +120,7 @@ recovery_throws_11 : shown recovery_throws 11 ≡ record { text = lines (codes "
 unfolding shown
 recovery_throws_11 = refl
 
--- ?- (catch(throw(e), e, fail) ; true).   (what stands under the catch stays)
+-- ?- (catch(throw(e), e, fail) ; true).   (what is under the catch stays)
 abbrev alternatives_below : Job
 alternatives_below = asked [] (either (catch (throw e) e fail_atom) true_atom) []
 
@@ -210,7 +210,7 @@ cut_keeps_catch_9 : shown cut_keeps_catch 9 ≡ record { text = lines (codes "X 
 unfolding shown
 cut_keeps_catch_9 = refl
 
--- ?- catch(p(X), _, true), !.   (a cut behind it drops it with its alternatives)
+-- ?- catch(p(X), _, true), !.   (a cut after it drops it with its alternatives)
 abbrev cut_drops_catch : Job
 cut_drops_catch = asked two_facts (conj (catch (p X) Y true_atom) cut) only_x
 

@@ -1,20 +1,17 @@
 -- What trying a clause comes to.
-use Rattle.std.proofs.Common.{◌≡◌, ℕ, ◌+◌, Bool, true, false, ◌&&◌, cond, List, [], ◌∷◌, ◌++◌, ◌==◌, nat_eq, Option, Some, None, refl, sym, ap, ◌∙◌, arith, append_assoc}
-use Rattle.std.specs.Option.{option_map}
+use Rattle.std.proofs.Common.{◌≡◌, ℕ, ◌+◌, Bool, true, false, ◌&&◌, cond, List, [], ◌∷◌, ◌==◌, nat_eq, None, refl, sym, ap, ◌∙◌, arith}
 use Rattle.std.specs.Cmp.Lexicographic.{pointwise, same_text, other_text}
 use Rattle.std.proofs.lemmas.Bool.Decides.{nat_tests}
-use Rattle.au_term.specs.Term.{Term, VarTerm, IntTerm, AtomTerm, Compound, Terms, end, more, count, argument_count}
-use Rattle.au_model.specs.Terms.Substitutions.{Substitution, apply, apply_all, value_of, resolve, only}
-use Rattle.au_model.specs.Terms.Unifier.{Equations, Rule, Dropped, Replaced, Opened, Clash, rule, pairs, replace, bound, by_rule, unifier}
+use Rattle.au_term.specs.Term.{Term, VarTerm, IntTerm, AtomTerm, Compound, count, argument_count}
+use Rattle.au_model.specs.Terms.Substitutions.{apply, apply_all}
+use Rattle.au_model.specs.Terms.Unifier.{Dropped, Opened, Clash, rule, pairs, by_rule, unifier}
 use Rattle.au_model.specs.Terms.Forms.{same_name, name_of, is_callable}
 use Rattle.run_model.specs.Programs.Clauses.{clause_renaming, renamed_head, clause_takes, renamed_goals}
 use Rattle.run_model.specs.Machine.Items.{before, goals_at, with_next}
 use Rattle.run_model.specs.Machine.Entries.{unified}
-use Rattle.au_model.specs.Terms.EquationsInTurn.{after, resolved_equations, further_unified, FrontFirst}
 use Rattle.run_model.specs.Laws.ClauseLaws.{FirstClauseTried, OthersGiveNothing}
-use Rattle.au_model.proofs.ApplyLemmas.{two, apply-same, apply-apply}
 use Rattle.au_model.proofs.UnifierRuleLemmas.{count-apply_all}
-use Rattle.au_model.proofs.UnifierLemmas.{Next, by_rules, unifier-first, bound_first}
+use Rattle.au_model.proofs.UnifierLemmas.{unifier-first}
 
 pub first_clause_tried : FirstClauseTried
 first_clause_tried c cs goal h f = refl

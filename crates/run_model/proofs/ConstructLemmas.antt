@@ -1,5 +1,5 @@
 -- A goal that is no control construct, built-in or world goal is a call of its procedure.
-use Rattle.std.proofs.Common.{◌≡◌, ℕ, Bool, true, false, ◌||◌, List, Option, Some, None, refl, ap, ◌∙◌}
+use Rattle.std.proofs.Common.{◌≡◌, ℕ, true, false, ◌||◌, List, Option, Some, None, refl, ap, ◌∙◌}
 use Rattle.std.specs.Prelude.{is_some, codes, ◌&&◌, ◌==◌}
 use Rattle.au_term.specs.Term.{Term, VarTerm, IntTerm, AtomTerm, Compound, argument_count}
 use Rattle.au_model.specs.Terms.Forms.{same_name, name_of, is_callable}
@@ -10,18 +10,11 @@ use Rattle.run_model.specs.Goals.Builtins.{builtins}
 use Rattle.run_model.specs.Goals.Worlds.{World, is_world_goal, world_construct_of, dynamic_call, by_world_construct, world_step}
 use Rattle.run_model.specs.Programs.Databases.{clauses_of}
 use Rattle.run_model.specs.Goals.GoalOutcomes.{by_procedure, by_world_goal, by_builtin, by_construct, named_outcome, outcome_of, has_row, is_reserved}
+use Rattle.au_term.proofs.LogicLemmas.{or-left as first_is_false, or-right as second_is_false}
 
 none_of : {A : Type 0} (o : Option A) → is_some o ≡ false → o ≡ None
 none_of None h = refl
 none_of (Some a) h = cc
-
-first_is_false : (a b : Bool) → (a || b) ≡ false → a ≡ false
-first_is_false false b h = refl
-first_is_false true b h = h
-
-second_is_false : (a b : Bool) → (a || b) ≡ false → b ≡ false
-second_is_false false b h = h
-second_is_false true b h = cc
 
 named_goal : (clauses : List Clause) (g : Term) (next : ℕ) → has_row (name_of g) (argument_count g) ≡ false → named_outcome clauses g next ≡ by_procedure (is_defined clauses (name_of g) (argument_count g)) clauses g next
 named_goal clauses g next h =

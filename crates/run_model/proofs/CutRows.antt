@@ -20,7 +20,7 @@ loop = atom (codes "loop")
 abbrev q_with : Term → List Clause
 q_with body = clause (q X) body ∷ two_facts
 
--- and behind it the fact q(9)
+-- and after it the fact q(9)
 abbrev q_twice : Term → List Clause
 q_twice body = clause (q X) body ∷ fact (q (int 9)) ∷ two_facts
 

@@ -40,7 +40,7 @@ front_same bytes = record { rest = []; joined = sym (append-nil bytes) }
 pub front_front : {a b c : List ℕ} → IsPrefixOf a b → IsPrefixOf b c → IsPrefixOf a c
 front_front {a} h k = record { rest = h.rest ++ k.rest; joined = k.joined ∙ (ap (λ bytes. bytes ++ k.rest) h.joined ∙ append_assoc a h.rest k.rest) }
 
--- a goal that looks at the world or changes it writes behind what is written
+-- a goal that looks at the world or changes it writes after what is written
 abbrev pub Writes : WorldConstruct → Type 0
 Writes c = (clauses : List Clause) (ts : Terms) (next : ℕ) (w : World) → IsPrefixOf w.written ((c.effect clauses ts next w).0).written
 

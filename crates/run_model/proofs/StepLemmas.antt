@@ -12,7 +12,7 @@ pub step_is : (clauses : List Clause) (st : State) → step clauses st ≡ entry
 unfolding step
 step_is clauses st = refl
 
--- by what stands on top
+-- by what is on top
 pub plain_step : (clauses : List Clause) (st : State) (f : Continuation ℕ) (es : List Entry) → st.entries ≡ PlainEntry f ∷ es → step clauses st ≡ item_taken clauses f.items f es st
 plain_step clauses st f es h = step_is clauses st ∙ ap (λ is. entry_taken clauses is st) h
 

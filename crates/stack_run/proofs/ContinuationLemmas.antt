@@ -134,7 +134,7 @@ pub branches_fit : (st : StoreView) (bs : List BranchTerms) (fs : List Frame) �
 branches_fit st [] fs s h k = k
 branches_fit st (b ∷ bs) fs s h k = pushed_fit st (Branch b) (map (branch_frame (mark_of st)) bs ++ fs) s h.0 (branches_fit st bs fs s h.1 k)
 
--- how many entries are under the one at hand
+-- how many entries are under the current one
 pub length-under : (own : List NamedTerm) (st : StoreView) (frames : List Frame) (end : Option QueryEnd) (e : QueryEnd) → end ≡ Some e → length (entries_under own st frames end) ≡ suc (length frames)
 length-under own st frames end e h =
     ap (λ o. length (frames_view own st (reverse frames) ++ end_view o)) h ∙ omega (arith, length-append (frames_view own st (reverse frames)) (EndEntry e.ball ∷ []), length-frames own st (reverse frames), length-reverse frames)

@@ -80,7 +80,7 @@ pub length-frames : (own : List NamedTerm) (st : StoreView) (fs : List Frame) �
 length-frames own st [] = refl
 length-frames own st (f ∷ fs) = ap (λ n. suc n) (length-frames own (stored_at f.mark st) fs)
 
--- what stood on top
+-- what was on top
 pub taken_top : (st : StoreView) (frames left : List Frame) (new : StoreView) (f : Frame) → frames ≡ left ++ f ∷ [] → new ≡ stored_at f.mark st → AreFit st (reverse frames) → IsTaken st frames new left f.choice
 taken_top st frames left new f e n h =
     let turned : reverse frames ≡ f ∷ reverse left = ap reverse e ∙ reverse-push left f in

@@ -42,7 +42,7 @@ leaves_same d e s h l = record { view = λ own. l.view own ∙ h own; fit = l.fi
 no_end : (s : Stack) → HasEnd s → s.end ≡ None → ⊥
 no_end s h x = let y = h.1 in cc
 
--- nothing but what is under the alternative at hand is left
+-- nothing but what is under the current alternative is left
 pub leaves_under : (s : Stack) → IsWorking s → HasEntries (entries_below s) s
 leaves_under s w = record {
   view = λ own. nothing_at_hand own s w.none;
@@ -197,7 +197,7 @@ findall_fit st f list rest choice e r n l x b h =
       subst (Each (IsItemBelow st.next)) (sym x) h,
     )
 
--- a branch without bindings, as it stands in the code
+-- a branch without bindings, as it is in the code
 no_bindings : (own : List NamedTerm) (st : StoreView) (goals : List Item) (segment : Segment) → segment.vars ≡ 0 → segment.bindings ≡ [] → choice_view own st (Branch (record { goals = goals; segment = segment })) ≡ PlainEntry (continuation_view own st goals)
 no_bindings own st goals segment v b =
     ap (λ n. PlainEntry (continuation_view own (record { made = st.made ++ pairs_of segment.bindings; next = st.next + n }) goals)) v

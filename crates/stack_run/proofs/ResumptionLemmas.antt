@@ -48,7 +48,7 @@ back_below n (b ∷ bs) cs h = back_below n bs cs h.1
 pub segment_below : (st : StoreView) (b : BranchTerms) → IsChoiceFit st (Branch b) → Each (IsBindingBelow (st.next + b.segment.vars)) (pairs_of b.segment.bindings)
 segment_below st b h = back_below (st.next + b.segment.vars) st.made (pairs_of b.segment.bindings) h.0.below
 
--- entries where no alternative is at hand
+-- entries where no alternative is current
 pub nothing_at_hand : (own : List NamedTerm) (s : Stack) → s.current ≡ None → stack_view own s ≡ entries_under own s.store s.frames.items s.end
 nothing_at_hand own s e = ap (λ o. current_view own s.store o ++ entries_under own s.store s.frames.items s.end) e
 
@@ -133,7 +133,7 @@ front_mark s (Collect u h ∷ items) t scope e = pair_same s u t h scope (map (i
 front_mark s (Remove n ∷ items) t scope e = absurd cc
 front_mark s (End b ∷ items) t scope e = absurd cc
 
--- an alternative stays at hand
+-- an alternative stays current
 pub alternative_rests : (old : Stack) (goals behind : List Item) → ((s : Substitution) → map (item_view s) behind ≡ without_marks (map (item_view s) goals)) → ((n : ℕ) → Each (IsItemBelow n) goals → Each (IsItemBelow n) behind)
     → result_in_front behind ≡ None → IsFit (with_current goals old) → IsFreeStep (with_current goals old) (record { store = old.store; current = Some behind; frames = old.frames; end = old.end }) true
 alternative_rests old goals behind m b e h = record {

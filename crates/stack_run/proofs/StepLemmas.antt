@@ -17,7 +17,7 @@ use Rattle.run_model.specs.Machine.Entries.{Entry, PlainEntry, EndEntry}
 use Rattle.run_model.specs.Goals.Outcomes.{Outcome, Replies, Solutions, Ball, HaltNumber, Controls, AskWorld}
 use Rattle.run_model.specs.Machine.States.{State, opened, remaining_queries, item_taken, goal_taken, with_free_steps, step}
 use Rattle.au_model.specs.Terms.Substitutions.{Substitution, resolve}
-use Rattle.au_model.specs.declared.var_name.VarName.{VarName}
+use Rattle.au_model.specs.declared.types.VarName.{VarName}
 use Rattle.run_model.proofs.FreeStepLemmas.{all_settle}
 use Rattle.run_model.proofs.StepLemmas.{plain_step, end_step}
 use Rattle.clause_compile.specs.CompiledClauses.{goal_items}

@@ -17,7 +17,7 @@ use Rattle.stack_run.specs.declared.frame.Stack.{Stack}
 abbrev pub with_current : List Item → Stack → Stack
 with_current items s = record s { current = Some items }
 
--- nothing is left but the end of the query, or an alternative is at hand
+-- nothing is left but the end of the query, or an alternative is current
 abbrev pub IsResting : Stack → Type 0
 IsResting s = s.current ≡ None → s.frames.items ≡ []
 

@@ -1,4 +1,4 @@
--- One inference, by what the item at hand comes to.
+-- One inference, by what the current item comes to.
 use Rattle.std.specs.Prelude.{◌≡◌, ℕ, suc, Bool, true, false, ◌≤◌, length, List, [], ◌∷◌, reverse, Option, Some, None}
 use Rattle.std.specs.Option.{option_map}
 use Rattle.au_term.specs.Term.{Term, var_bound}
@@ -37,7 +37,7 @@ use Rattle.stack_run.specs.declared.frame.Stack.{Stack}
 abbrev pub HasEnd : Stack → Type 0
 HasEnd s = (e : QueryEnd) × (s.end ≡ Some e)
 
--- the alternative at hand was taken
+-- the current alternative was taken
 pub record IsWorking (s : Stack) : Type 0 where
   pub sound : IsValidStore s.store
   pub none : s.current ≡ None

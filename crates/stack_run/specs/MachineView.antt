@@ -8,7 +8,7 @@ use Rattle.au_model.specs.Terms.Named.{NamedTerm}
 use Rattle.au_model.specs.Terms.Named.{NamedVariable}
 use Rattle.run_model.specs.Programs.Jobs.{Query, own_terms}
 use Rattle.run_model.specs.Machine.States.{State, opened, remaining_queries}
-use Rattle.au_model.specs.declared.var_name.VarName.{VarName}
+use Rattle.au_model.specs.declared.types.VarName.{VarName}
 use Rattle.bind_store.specs.StoreView.{StoreView, substitution}
 use Rattle.text_load.specs.declared.job.Job.{Job}
 use Rattle.stack_run.specs.StackView.{stack_view}

@@ -40,5 +40,5 @@ pub record IsFit (s : Stack) : Type 0 where
   pub sound : IsValidStore s.store
   pub current : IsCurrentFit s.store s.current
   pub frames : AreFit s.store (reverse s.frames.items)
-  -- nothing stands on a query's end that is not there
+  -- nothing is on a query's end that is not there
   pub ended : s.end ≡ None → (s.current ≡ None) × (s.frames.items ≡ [])

@@ -63,7 +63,7 @@ abbrev pub end_view : Option QueryEnd → List Entry
 end_view None = []
 end_view (Some e) = EndEntry e.ball ∷ []
 
--- the entries under the one at hand
+-- the entries under the current one
 abbrev pub entries_under : List NamedTerm → StoreView → List Frame → Option QueryEnd → List Entry
 entries_under own st frames end = frames_view own st (reverse frames) ++ end_view end
 

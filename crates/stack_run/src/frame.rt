@@ -1,4 +1,4 @@
-//! What stands under the alternative at hand.
+//! What is under the current alternative.
 use au_term::{FlatTerm, Shared, VarNo};
 use bind_store::{Mark, Store};
 use clause_compile::{Branch, Goals};
@@ -11,7 +11,7 @@ pub(crate) struct Catch {
     pub(crate) rest: Goals,
 }
 
-/// A findall goal: the results so far, the next variable number behind them, what their list is unified with, and what
+/// A findall goal: the results so far, the next variable number after them, what their list is unified with, and what
 /// follows.
 #[derive(Drop)]
 pub(crate) struct Findall {
@@ -42,7 +42,7 @@ pub(crate) struct QueryEnd {
     pub(crate) ball: Option<FlatTerm>,
 }
 
-/// What is left to do of a query: what the alternative at hand goes on with, over the whole store; the choice points,
+/// What is left to do of a query: what the current alternative goes on with, over the whole store; the choice points,
 /// the newest last; and under them the query's end.
 #[derive(Drop)]
 pub(crate) struct Stack {
@@ -52,7 +52,7 @@ pub(crate) struct Stack {
     pub(crate) end: Option<QueryEnd>,
 }
 
-/// A run: what is left of the query at hand, how many queries were asked and answers written, and what the last step
+/// A run: what is left of the current query, how many queries were asked and answers written, and what the last step
 /// wrote.
 #[derive(Drop)]
 pub(crate) struct Machine {

@@ -19,10 +19,10 @@ ghost use Rattle.stack_run.specs.StackInvariant.{IsChoiceFit};
 ghost use Rattle.stack_run.specs.Inferences.{IsWorking, IsUnhalted, HasEntries, IsNoMark, branch_entry, cut_of, following, gate_entries, item_entries, entries_below};
 
 use crate::frame::{Choice, Stack};
-use crate::unwind::unwind;
+use crate::free_steps::place_of;
 use crate::open::open;
-use crate::take_free_steps::place_of;
 use crate::stack::push_branches;
+use crate::unwinding::unwind;
 use au_model::Fault;
 use au_term::{Atom, Cell, FlatTerm, NoMemory};
 use clause_compile::{Branch, Effect, Goals, Item, Scope};
@@ -30,7 +30,7 @@ use engine_core::{Reduction, reduce};
 use proc_index::Procs;
 use std::alloc::Global;
 
-/// Takes the item that was in front of the alternative at hand.
+/// Takes the item that was in front of the current alternative.
 pub(crate) fn infer(
     alloc: Global,
     item: &Item,

@@ -2,15 +2,15 @@
 #![tactic(auto)]
 
 mod frame;
+mod free_steps;
 mod infer;
-mod unwind;
 mod list;
 mod open;
 mod run;
-mod take_free_steps;
 mod stack;
 mod step;
 #[cfg(test)]
 mod tests;
+mod unwinding;
 
 pub use run::run_job;

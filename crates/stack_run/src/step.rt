@@ -18,8 +18,8 @@ ghost use Rattle.stack_run.specs.ItemsTaken.{IsAtItem};
 ghost use Rattle.stack_run.specs.MachineView.{state_view, stack_state, names_asked, opened_state, ball_of, value_in, IsReady};
 
 use crate::frame::{Machine, QueryEnd, Stack};
+use crate::free_steps::take_free_steps;
 use crate::infer::infer;
-use crate::take_free_steps::take_free_steps;
 use au_model::VarName;
 use au_term::{Cell, FlatTerm, NoMemory, Shared, TermBuilder, VarNo};
 use bind_store::Store;
@@ -195,7 +195,7 @@ fn end_query(alloc: Global, job: &Job, machine: &mut Machine) -> Result<(), NoMe
     ask_next(alloc, job, machine)
 }
 
-/// Puts the line that ends a query behind the bytes of `line`.
+/// Puts the line that ends a query after the bytes of `line`.
 fn end_line(
     alloc: Global,
     end: &Option<QueryEnd>,

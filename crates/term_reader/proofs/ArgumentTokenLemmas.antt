@@ -1,4 +1,4 @@
--- Arguments with other tokens behind them.
+-- Arguments with other tokens after them.
 use Rattle.std.proofs.Common.{◌≡◌, ℕ, zero, suc, ◌+◌, ◌≤◌, Bool, codes, List, ◌∷◌, ◌++◌, refl, sym, ap, subst, arith, append_assoc}
 use Rattle.au_model.specs.Syntax.Tokens.{Token, token, Close, Comma}
 use Rattle.au_model.specs.Syntax.Trees.{Tree, Trees, tree_count, no_trees, more_trees, two}
@@ -10,7 +10,7 @@ use Rattle.au_model.specs.Syntax.TextFaults.{Past, none, one_more}
 use Rattle.term_reader.proofs.SameTokenLemmas.{comma-comma, comma-close, close-comma}
 use Rattle.term_reader.proofs.PrefixReadingLemmas.{Front, split-twice, balanced-joined, operand-front}
 
--- some arguments, each with a comma behind it; the last one may be followed by other tokens, or by a bracket
+-- some arguments, each with a comma after it; the last one may be followed by other tokens, or by a bracket
 pub record PastFront (s : Setting) (n : ℕ) (us ws : List Token) : Type 0 where
   pub inside : List Token
   pub apart : Bool
@@ -88,7 +88,7 @@ pub arguments-front : (s : Setting) (us vs : List Token) (args : Trees) → Argu
 arguments-front s us vs args (final {a = a} {t = t} op) = arguments-one s us vs a t (operand-front op 999 (omega arith))
 arguments-front s us vs all (argument {us = zs} {a = a} {t = t} {args = args} op i) = arguments-more s us zs vs a t args (operand-front op 999 (omega arith)) (arguments-front s zs vs args i)
 
--- with more arguments behind them
+-- with more arguments after them
 pub past-arguments : (s : Setting) (n : ℕ) (us ws vs : List Token) (args : Trees) → Past s n us ws → Arguments s ws vs args → (all : Trees) × (tree_count all ≡ n + tree_count args) × Arguments s us vs all
 past-arguments s zero us ws vs args none h = (args, omega arith, h)
 past-arguments s (suc n) us ws vs args (one_more {us = zs} {t = t} op p) h =
@@ -102,7 +102,7 @@ past-arguments s (suc n) us ws vs args (one_more {us = zs} {t = t} op p) h =
 widened : (s : Setting) (b bound : ℕ) (us vs : List Token) (a : Bool) (t : Tree) → b ≤ bound → Operand s b us (token a Close ∷ vs) t → Operand s bound us (token a Close ∷ vs) t
 widened s b bound us vs a t h (operand {p = p} sp le e) = let i : p ≤ bound = omega (arith, h, le) in operand sp i refl
 
--- a comma, and a term behind it
+-- a comma, and a term after it
 with-comma : (s : Setting) (us zs vs : List Token) (a b : Bool) (t u : Tree) → Operand s 999 us (token b Comma ∷ zs) t → Operand s 1000 zs (token a Close ∷ vs) u → Operand s 1000 us (token a Close ∷ vs) (two (codes ",") t u)
 with-comma s us zs vs a b t u (operand {p = p} sp le e) h = operand (infixed {n = codes ","} {o = comma} sp refl le h) (omega arith) refl
 

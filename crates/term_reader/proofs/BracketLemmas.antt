@@ -24,7 +24,7 @@ balanced-none d = refl
 pub balanced-plain : (a : Bool) (x : Lexeme) → IsNoBracket x → Balanced (token a x ∷ [])
 balanced-plain a x h d = ap (depth_then (depth [])) (h d)
 
--- the tokens behind go on from where those in front stop
+-- the tokens after go on from where those in front stop
 depth-append : (xs ys : List Token) (d : ℕ) → depth (xs ++ ys) d ≡ depth_then (depth ys) (depth xs d)
 depth-append [] ys d = refl
 depth-append (token a x ∷ xs) ys d = go (λ e. depth-append xs ys e) (open_after x d) where
@@ -84,7 +84,7 @@ last-push_frame (t ∷ xs) (u ∷ ys) bs cs a b x y o p h i e =
     let g : t ≡ u = cc in
     let r = last-push_frame xs ys bs cs a b x y o p h i f in (cc, r.1, r.2)
 
--- tokens behind which no bracket is open, and the first one that closes none of theirs
+-- tokens after which no bracket is open, and the first one that closes none of theirs
 close-after : (bs cs us vs : List Token) (a b : Bool) (x y : Lexeme) (d : ℕ) → Closes x → Closes y → depth bs d ≡ Some 0 → depth cs d ≡ Some 0 → bs ++ token a x ∷ us ≡ cs ++ token b y ∷ vs → (bs ≡ cs) × (token a x ≡ token b y) × (us ≡ vs)
 close-after [] [] us vs a b x y d o p h i e = (refl, cc, cc)
 close-after [] (token c z ∷ cs) us vs a b x y d o p h i e =

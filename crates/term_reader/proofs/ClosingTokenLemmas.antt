@@ -83,7 +83,7 @@ module _ (source : Source) (st : State) (f : Frame) (k : List stack.OpenFrame) (
     step = (refl, refl, refl, nests);
   }
 
-  -- it is not taken, whatever comes behind it
+  -- it is not taken, whatever comes after it
   pub never : ((goal : Tree) (us : List Token) → CompletesFrame set k (token h.apart h.lexeme ∷ us) l goal → ⊥) → (more : List Token) (goal : Tree) → CompletesAfter set k (token h.apart h.lexeme ∷ more) l p goal → ⊥
   never not more goal g = not goal more (turns.goes_stop set (token h.apart h.lexeme ∷ more) l p (stop-at h.lexeme refl more) g)
 

@@ -70,7 +70,7 @@ module _ (s : Setting) where
   pub opened_curly : {k : List OpenFrame} (ts us : List Token) {goal : Tree} → primary_of s ts ≡ Curly us → CompletesOperand s (Braces ∷ k) us goal → CompletesOperand s k ts goal
   opened_curly ts us e (by_operand w q) = curly_out ts e w q
 
-  -- the items from here on, behind those that were read
+  -- the items from here on, after those that were read
   items_in : {k : List OpenFrame} {us vs : List Token} {t goal : Tree} (before : List Tree) → ReadsItems s us vs t → CompletesAfter s k vs (list_of before t) 0 goal → CompletesOperand s (ItemOf before ∷ k) us goal
   items_in before (last w) g = by_operand w (k.last g)
   items_in before (barred w v) g = by_operand w (k.bar (by_operand v (k.tail g)))
@@ -112,7 +112,7 @@ module _ (s : Setting) where
   pub opened_list : {k : List OpenFrame} (ts us : List Token) {goal : Tree} → primary_of s ts ≡ Listed us → CompletesOperand s (ItemOf [] ∷ k) us goal → CompletesOperand s k ts goal
   opened_list ts us e w = let i = items_out [] w in list_out ts e i.rest i.list i.items i.on
 
-  -- the arguments from here on, behind those that were read
+  -- the arguments from here on, after those that were read
   some_arguments : {us vs : List Token} {args : Trees} → ReadsArguments s us vs args → 1 ≤ tree_count args
   some_arguments (final w) = omega arith
   some_arguments (argument w i) = omega arith
@@ -189,7 +189,7 @@ module _ (s : Setting) where
   fails ts e (by_operand (whole {us = ws} {l = l} {p = p} f le r) q) =
       let P : Primary → Type 0 = λ x. ReadsPrimary s x ws l p in nothing_fails (subst P e f)
 
-  -- ---- behind an operand
+  -- ---- after an operand
 
   infix_in : {k : List OpenFrame} {us zs ws : List Token} {n : List ℕ} {o : Operator} {l t goal : Tree}
       → ReadsRest s (OnInfix n o us) (bound_of k) zs l ws t → CompletesFrame s k ws t goal → o.priority ≤ bound_of k → CompletesOperand s (InfixOf n o l ∷ k) us goal

@@ -10,8 +10,8 @@ use Rattle.au_model.specs.Syntax.Tokens as words
 use Rattle.au_model.specs.Syntax.Tokens.{Lexeme, Token, token, scanned, scanned_word, ScannedTo, ScannedNone, front, tokens_of}
 use Rattle.au_model.specs.Syntax.Primaries.{Setting}
 use Rattle.au_model.specs.Syntax.TermTexts.{is_last, is_over}
-use Rattle.au_model.specs.declared.fault_kind.FaultKind.{FaultKind}
-use Rattle.au_model.specs.declared.fault_kind.FaultKind.TheVariants.{UnexpectedToken, UnexpectedEnd, WideNumeral}
+use Rattle.au_model.specs.declared.types.FaultKind.{FaultKind}
+use Rattle.au_model.specs.declared.types.FaultKind.TheVariants.{UnexpectedToken, UnexpectedEnd, WideNumeral}
 use Rattle.au_model.specs.Syntax.TextFaults.{BeginsTerm, FaultAt, IsOneTooMany, is_wide, token_start, Fault, unexpected, wide, faulty, ended}
 use Rattle.term_reader.specs.Refusals.{IsStuck, unexpected_kind, IsFirstFault}
 use Rattle.term_reader.specs.LexemeView.{IsStart}
@@ -30,7 +30,7 @@ by-kind s cs from n a (words.Integer k) f e few h = go (nat_le (2 ^ 63) k) refl 
   go false g = unexpected f (ap is_wide e ∙ g) few h
 by-kind s cs from n a x f e few h = unexpected f (ap is_wide e) few h
 
-no_word : (lx : Lexed) (b : Bool) → is_last lx ≡ true → scanned_word b lx ≡ ScannedNone
+pub no_word : (lx : Lexed) (b : Bool) → is_last lx ≡ true → scanned_word b lx ≡ ScannedNone
 no_word (FoundWord LastWord rest) b e = refl
 no_word (FoundWord (NameWord cs) rest) b e = let z : ⊥ = cc in absurd z
 no_word (FoundWord (QuotedWord cs) rest) b e = let z : ⊥ = cc in absurd z

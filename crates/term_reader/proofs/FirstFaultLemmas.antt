@@ -7,7 +7,7 @@ use Rattle.au_model.specs.Syntax.Spelling.{Operand}
 use Rattle.au_model.specs.Syntax.Layout.{GapThen}
 use Rattle.au_model.specs.Syntax.Words.{Lexed, FoundFault, next_word}
 use Rattle.au_model.specs.Syntax.TermTexts.{is_last}
-use Rattle.au_model.specs.declared.fault_kind.FaultKind.{FaultKind}
+use Rattle.au_model.specs.declared.types.FaultKind.{FaultKind}
 use Rattle.term_reader.proofs.LongCompoundLemmas.{slice, same-slice}
 use Rattle.au_model.specs.Syntax.TextFaults.{BeginsTerm, FaultAt, IsOneTooMany, is_wide, token_start, Fault, unexpected, wide, too_many, faulty, ended}
 

@@ -57,7 +57,7 @@ next-scanned text at t x h e =
     ∙ (ap (scanned_lexeme (begins_layout (chars_from text at)) (chars_from text t.end)) e
     ∙ ap (λ b. ScannedTo (token b x) (chars_from text t.end)) (sym h.before)))
 
--- a token ends behind the place from which it was scanned
+-- a token ends after the place from which it was scanned
 pub ends-after : (text : List ℕ) (at end : ℕ) (t : Token) → scanned (chars_from text at) ≡ ScannedTo t (chars_from text end) → at ≤ end → at < end
 ends-after text at end t e le =
     let s = scanned-shorter (chars_from text at) (chars_from text end) t e in

@@ -201,7 +201,7 @@ module _ (source : Source) (at end p : ℕ) (l : Tree) (a : Bool) (x : Lexeme) (
   open_end : (closer_of x ≡ closer.End → ⊥) → (more : List Token) (goal : Tree) → CompletesAfter (setting_of source) [] (token a x ∷ more) l p goal → ⊥
   open_end n more goal g = not-over (setting_of source) a x more l goal n (goes_stop (setting_of source) (token a x ∷ more) l p (stops-at source.ops.now 1200 p (token a x ∷ more) (lexeme_post_operator source.ops.now x) refl stops) g)
 
--- the end stands there
+-- the end is there
 pub over-ends : (source : Source) (at end p : ℕ) (l : Tree) (a : Bool) (x : Lexeme) (st : State) (k : List stack.OpenFrame) → k ≡ [] → scanned (chars_from source.text.now at) ≡ ScannedTo (token a x) (chars_from source.text.now end)
     → p ≤ bound_of k → post_operator_fits (bound_of k) p (lexeme_post_operator source.ops.now x) ≡ false → IsOutputOf st.output (emit_tree (emitted_stack k) l) → x ≡ words.End → IsStepOutcome (setting_of source) source.text.now (AfterOperand k l p) at st (Accept end)
 over-ends source at end p l a x st k none found low stops output e =

@@ -6,7 +6,7 @@ use Rattle.au_model.specs.Syntax.Characters.{chars_from}
 use Rattle.au_model.specs.Syntax.Tokens.{Lexeme, Open, Close, Comma, Token, token, scanned, ScannedTo, tokens_of}
 use Rattle.au_model.specs.Syntax.Trees.{Tree, CompoundTree, no_trees}
 use Rattle.au_model.specs.Syntax.Primaries.{Setting, Call, primary_of}
-use Rattle.au_model.specs.declared.fault_kind.FaultKind.TheVariants.{TooManyArguments}
+use Rattle.au_model.specs.declared.types.FaultKind.TheVariants.{TooManyArguments}
 use Rattle.term_reader.specs.PrimaryView.{setting_of}
 use Rattle.term_reader.specs.FrameShapes.{IsWithinBounds, HasNoOperatorOnTop}
 use Rattle.term_reader.specs.LexemeView.{IsStart}
@@ -26,10 +26,7 @@ use Rattle.term_reader.proofs.TooManyArgumentsLemmas.{IsFullStack, many, few-aft
 use Rattle.term_reader.proofs.RefusalLemmas.{here-ends}
 use Rattle.term_reader.proofs.ScannedTokenLemmas.{scans-tokens, scans-first}
 use Rattle.term_reader.proofs.CompletionStepLemmas.{went_stop}
-
-never_named : (d : Bool) → (d && false) ≡ false
-never_named true = refl
-never_named false = refl
+use Rattle.au_term.proofs.LogicLemmas.{and-false as never_named}
 
 drop-after : (read us : List Token) (t : Token) → drop (suc (length read)) (read ++ t ∷ us) ≡ us
 drop-after [] us t = refl
@@ -51,7 +48,7 @@ at-comma s read us comma t name b first named e is called past =
       past = subst (λ ts. Past s 65535 (b.inside ++ t ∷ us) ts) (sym after) (subst (λ u. Past s 65535 (b.inside ++ u ∷ us) us) e (past us));
     }
 
--- a token that is not taken where it stands, with which the operand in this frame does not go on
+-- a token that is not taken where it is, with which the operand in this frame does not go on
 module _ (source : Source) (start at end : ℕ) (may_take_operand a : Bool) (x : Lexeme) (k : List OpenFrame) (l : Tree) (p : ℕ) (h : IsReadBelow source start at may_take_operand (token a x) k l p)
     (found : scanned (chars_from source.text.now at) ≡ ScannedTo (token a x) (chars_from source.text.now end)) (never : (more : List Token) (goal : Tree) → CompletesAfter (setting_of source) k (token a x ∷ more) l p goal → ⊥) where
   abbrev s : Setting
@@ -78,7 +75,7 @@ module _ (source : Source) (start at end : ℕ) (may_take_operand a : Bool) (x :
   pub not-taken : (place : ℕ) → IsWithinBounds k → HasNoOperatorOnTop k → p ≤ bound_of k → IsStart text at place → (x ≡ Comma → IsFullStack k → ⊥) → IsNotAccepted source start h.stack h.tree h.priority at may_take_operand x place end
   not-taken place bounds shut low b spare = record { read_to = h.read_to; bounds = h.bounds; low = h.low; apart = a; found = found; starts = b; refused = refused; few = few bounds shut low spare }
 
-  -- the comma behind the last argument
+  -- the comma after the last argument
   module _ (name : List ℕ) (place : ℕ) (ts : List Tree) (below : List OpenFrame) (e : x ≡ Comma) (is : k ≡ ArgumentOf name place ts ∷ below) (bounds : IsWithinBounds k) (low : p ≤ bound_of k) where
     bounds-below : IsWithinBounds below
     bounds-below = (subst IsWithinBounds is bounds).1

@@ -10,11 +10,12 @@ use Rattle.au_model.specs.Syntax.Primaries.{Setting, is_post_operator, is_some_o
 use Rattle.au_model.specs.Syntax.Trees.{Tree}
 use Rattle.term_reader.specs.Completion.{OpenFrame, CompletesOperand}
 use Rattle.term_reader.specs.FrameShapes.{IsWithinBounds}
-use Rattle.term_reader.specs.Lookahead.{Lookahead, Free, Named, Lone, Accept, InList, InCurly, Joined, is_plain_name_before, is_as_expected, Scans, none, IsName, IsPrefixAsAtom, MayTakeOperand}
+use Rattle.term_reader.specs.Lookahead.{Lookahead, Free, Named, Lone, WithOperand, InList, InCurly, Joined, is_plain_name_before, is_as_expected, Scans, none, IsName, IsPrefixAsAtom, MayTakeOperand}
 use Rattle.term_reader.specs.Positions.{Position, ExpectsOperand, AfterOperand, Completes, SuitsLookahead, stack_of, IsWithinBound, LeadsTo, HasReadTo, PrefixAtomBefore, MayTakeOperandBefore}
 use Rattle.au_model.specs.Syntax.TextFaults.{BeginsTerm, FaultAt}
 use Rattle.term_reader.proofs.CompletionLemmas.{completion, completes}
-use Rattle.term_reader.proofs.LookaheadLemmas.{ready, presumed-alike, IsSure, first-sure, post_operator_alone, joins-is, and-right}
+use Rattle.term_reader.proofs.LookaheadLemmas.{ready, presumed-alike, IsSure, first-sure, post_operator_alone, joins-is}
+use Rattle.au_term.proofs.LogicLemmas.{and-right}
 use Rattle.term_reader.proofs.BracketLemmas.{balanced-none}
 use Rattle.term_reader.proofs.ScannedTokenLemmas.{scans-tokens, scans-then}
 use Rattle.term_reader.proofs.CompletionStepLemmas.{starts, reaches}
@@ -71,7 +72,7 @@ module _ (s : Setting) (text : List ℕ) (start at end : ℕ) (d e : Bool) where
     may_take-before (Lone sign) h = lone-before sign h
     may_take-before Free h = h
     may_take-before (Named sign) h = h
-    may_take-before (Accept sign) h = h
+    may_take-before (WithOperand sign) h = h
     may_take-before InList h = h
     may_take-before InCurly h = h
     may_take-before (Joined x) h = h
@@ -156,7 +157,7 @@ module _ (s : Setting) (text : List ℕ) (start at end : ℕ) (d e : Bool) where
     by-look (Lone sign) h suits = by-token b.first refl where
       by-token : (t : Token) → b.first ≡ t → HasReadTo s text start y end e
       by-token (token q x) i = after-lone sign q x h i
-    by-look (Accept sign) h suits = absurd suits
+    by-look (WithOperand sign) h suits = absurd suits
     by-look Free h suits = with-look Free refl (suits-free y) b.step.2 (λ vs g. sure-first Free h tt vs)
     by-look (Named sign) h suits = with-look Free refl (suits-free y) b.step.2 (λ vs g. sure-first (Named sign) h tt vs)
     by-look InList h suits = absurd suits

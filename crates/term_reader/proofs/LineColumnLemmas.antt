@@ -1,4 +1,4 @@
--- Lines and columns behind one more character.
+-- Lines and columns after one more character.
 use Rattle.std.proofs.Common.{◌≡◌, ◌∙◌, ℕ, suc, ◌+◌, ◌-◌, ◌^◌, Bool, true, false, ◌==◌, min, List, [], ◌∷◌, ◌++◌, length, reverse, take, drop, refl, sym, ap, arith, IsCharBoundary, if◌then◌else◌}
 use Rattle.std.proofs.lemmas.List.{reverse-append, take-append-drop}
 use Rattle.std.proofs.lemmas.Str.{chars-append, IsUtf8-take}

@@ -13,7 +13,7 @@ use Rattle.term_reader.proofs.BracketLemmas.{last-push_frame}
 use Rattle.term_reader.proofs.ArgumentTokenLemmas.{past-front}
 use Rattle.term_reader.proofs.PostorderLemmas.{snoc-front, snoc-last}
 
--- the tokens up to the comma: those in front of the compound, its name, its bracket and what stands in it
+-- the tokens up to the comma: those in front of the compound, its name, its bracket and what is in it
 pub record Slice (s : Setting) (ts : List Token) (n m : ℕ) : Type 0 where
   pub first : List Token
   pub named : List Token
@@ -47,7 +47,7 @@ name-front s (t ∷ ts) name after e = by-opened (opened s t ts) where
       }
   by-opened (inr f) = let z : ⊥ = cc in absurd z
 
--- the tokens in front of one that has all the others behind it
+-- the tokens in front of one that has all the others after it
 front-length : (ts before : List Token) (t : Token) (n : ℕ) → n < length ts → ts ≡ before ++ t ∷ drop (suc n) ts → length before ≡ n
 front-length ts before t n lt e =
     let whole = ap length e ∙ length-append before (t ∷ drop (suc n) ts) in
@@ -82,7 +82,7 @@ slice s ts n m name lt h =
       closed = p.closed;
     }
 
--- how many tokens of a name stand in front of its last one
+-- how many tokens of a name are in front of its last one
 abbrev name_front : Token → ℕ
 name_front (token a CloseList) = 1
 name_front (token a CloseCurly) = 1
@@ -101,7 +101,7 @@ name-end (token a OpenList ∷ token b CloseList ∷ []) h = record { front = to
 name-end (token a OpenCurly ∷ token b CloseCurly ∷ []) h = record { front = token a OpenCurly ∷ []; end = token b CloseCurly; is = refl; long = refl }
 name-end ts h = absurd h
 
--- what stands in front of a name is as long as its last token says
+-- what is in front of a name is as long as its last token says
 same-front : (xs ys us vs : List Token) → IsCompoundName us → IsCompoundName vs → xs ++ us ≡ ys ++ vs → length xs ≡ length ys
 same-front xs ys us vs h i e =
     let a = name-end us h in

@@ -8,9 +8,10 @@ use Rattle.au_model.specs.Syntax.Primaries.{has_direct_open, has_direct_integer,
 use Rattle.au_model.specs.Syntax.Trees.{Tree}
 use Rattle.term_reader.specs.Completion as stack
 use Rattle.term_reader.specs.Completion.{OpenFrame}
-use Rattle.term_reader.specs.Lookahead.{Lookahead, Free, Named, Lone, Accept, InList, InCurly, Joined, closes_list, closes_curly, is_plain_name_before, is_as_expected}
+use Rattle.term_reader.specs.Lookahead.{Lookahead, Free, Named, Lone, WithOperand, InList, InCurly, Joined, closes_list, closes_curly, is_plain_name_before, is_as_expected}
 use Rattle.term_reader.specs.Positions.{Position, ExpectsOperand, AfterOperand, SuitsLookahead}
 use Rattle.term_reader.proofs.CompletionLemmas.{closing, completion}
+use Rattle.au_term.proofs.LogicLemmas.{and-left, and-right, and-both}
 
 -- ---- tokens that end an operand, and one that is an operand
 
@@ -59,23 +60,6 @@ joins-by false y z = refl
 pub joins-is : (ops : OperatorTable) (n : List ℕ) (x : Lexeme) (ts : List Token) → is_operator_here ops n x ts ≡ (post_operator_alone ops n && is_plain_name_before (is_minus x) ts)
 joins-is ops n x ts = joins-by (is_post_operator (named_post_operator ops n)) (not (is_some_operator (prefix_of ops n))) (is_plain_name_before (is_minus x) ts)
 
-both-true : (x y : Bool) → (x && y) ≡ true → (x ≡ true) × (y ≡ true)
-both-true true y e = (refl, e)
-both-true false y e = let f : ⊥ = cc in absurd f
-
-pub and-left : (x y : Bool) → (x && y) ≡ true → x ≡ true
-and-left x y e = (both-true x y e).0
-
-pub and-right : (x y : Bool) → (x && y) ≡ true → y ≡ true
-and-right x y e = (both-true x y e).1
-
-pub and-both : (x y : Bool) → x ≡ true → y ≡ true → (x && y) ≡ true
-and-both x y e h = rw (e, h) refl
-
-pub not-true : (x : Bool) → not x ≡ true → x ≡ false
-not-true true e = let f : ⊥ = cc in absurd f
-not-true false e = refl
-
 joined-quiet : (ops : OperatorTable) (n : List ℕ) (x : Lexeme) (us vs : List Token) → is_operator_here ops n x us ≡ true → IsQuiet vs → is_operator_here ops n x vs ≡ true
 joined-quiet ops n x us vs e q =
     let a = and-left (post_operator_alone ops n) (is_plain_name_before (is_minus x) us) (sym (joins-is ops n x us) ∙ e) in
@@ -92,8 +76,8 @@ ready ops x Free us h e = refl
 ready ops x (Named sign) us h e = quiet-plain sign (completion x) (completion-quiet x)
 ready ops (AfterOperand k l p) (Lone sign) us h e = and-both _ _ (quiet-plain sign (closing k) (closing-quiet k)) (closing-alone ops k)
 ready ops (ExpectsOperand k) (Lone sign) us h e = absurd h
-ready ops (ExpectsOperand k) (Accept sign) us h e = and-both _ _ (quiet-plain sign (completion (ExpectsOperand k)) (completion-quiet (ExpectsOperand k))) refl
-ready ops (AfterOperand k l p) (Accept sign) us h e = absurd h
+ready ops (ExpectsOperand k) (WithOperand sign) us h e = and-both _ _ (quiet-plain sign (completion (ExpectsOperand k)) (completion-quiet (ExpectsOperand k))) refl
+ready ops (AfterOperand k l p) (WithOperand sign) us h e = absurd h
 ready ops (ExpectsOperand k) InList us h e = refl
 ready ops (AfterOperand k l p) InList us h e = absurd h
 ready ops (ExpectsOperand k) InCurly us h e = refl
@@ -105,12 +89,12 @@ pub ready-close : (ops : OperatorTable) (k : List OpenFrame) (l : Tree) (p : ℕ
 ready-close ops k l p Free us vs h e = refl
 ready-close ops k l p (Named sign) us vs h e = quiet-plain sign (token false words.Close ∷ vs) (record { no_open = refl; no_count = refl })
 ready-close ops k l p (Lone sign) us vs h e = and-both _ _ (quiet-plain sign (token false words.Close ∷ vs) (record { no_open = refl; no_count = refl })) refl
-ready-close ops k l p (Accept sign) us vs h e = absurd h
+ready-close ops k l p (WithOperand sign) us vs h e = absurd h
 ready-close ops k l p InList us vs h e = absurd h
 ready-close ops k l p InCurly us vs h e = absurd h
 ready-close ops k l p (Joined y) us vs h e = ends-quiet ops y us (token false words.Close ∷ vs) e (record { no_open = refl; no_count = refl })
 
--- what is presumed of one token and those behind it, where a prefix operator in front makes no difference
+-- what is presumed of one token and those after it, where a prefix operator in front makes no difference
 plain-first : (sign : Bool) (t : Token) (us vs : List Token) → is_plain_name_before sign (t ∷ us) ≡ true → is_plain_name_before sign (t ∷ vs) ≡ true
 plain-first sign (token a x) us vs e = e
 
@@ -122,7 +106,7 @@ pub curly-first : (t : Token) (us vs : List Token) → closes_curly (t ∷ us) �
 curly-first (token a words.CloseCurly) us vs = refl
 curly-first (token a x) us vs = refl
 
-joined-first : (ops : OperatorTable) (x : Lexeme) (t : Token) (us vs : List Token) → ends_operand_before ops x (t ∷ us) ≡ ends_operand_before ops x (t ∷ vs)
+pub joined-first : (ops : OperatorTable) (x : Lexeme) (t : Token) (us vs : List Token) → ends_operand_before ops x (t ∷ us) ≡ ends_operand_before ops x (t ∷ vs)
 joined-first ops (words.Name n) (token a y) us vs = refl
 joined-first ops (words.QuotedName n) (token a y) us vs = refl
 joined-first ops x t us vs = refl
@@ -132,7 +116,7 @@ presumed-alike ops Free t us vs h e = refl
 presumed-alike ops (Named sign) t us vs h e = plain-first sign t us vs e
 presumed-alike ops (Lone sign) t us vs h e =
     and-both _ _ (plain-first sign t us vs (and-left _ _ e)) (h ∙ and-right _ _ e)
-presumed-alike ops (Accept sign) t us vs h e =
+presumed-alike ops (WithOperand sign) t us vs h e =
     and-both _ _ (plain-first sign t us vs (and-left _ _ e)) (ap not h ∙ and-right _ _ e)
 presumed-alike ops InList t us vs h e = ap not (sym (list-first t us vs)) ∙ e
 presumed-alike ops InCurly t us vs h e = ap not (sym (curly-first t us vs)) ∙ e
@@ -141,14 +125,14 @@ presumed-alike ops (Joined x) t us vs h e = sym (joined-first ops x t us vs) ∙
 -- no prefix operator waits for the next token
 abbrev pub IsSure : Lookahead → Type 0
 IsSure (Lone sign) = ⊥
-IsSure (Accept sign) = ⊥
+IsSure (WithOperand sign) = ⊥
 IsSure _ = Unit {0}
 
 pub first-sure : (ops : OperatorTable) (look : Lookahead) (t : Token) (us vs : List Token) → IsSure look → is_as_expected ops look (t ∷ us) ≡ true → is_as_expected ops look (t ∷ vs) ≡ true
 first-sure ops Free t us vs h e = refl
 first-sure ops (Named sign) t us vs h e = plain-first sign t us vs e
 first-sure ops (Lone sign) t us vs h e = absurd h
-first-sure ops (Accept sign) t us vs h e = absurd h
+first-sure ops (WithOperand sign) t us vs h e = absurd h
 first-sure ops InList t us vs h e = ap not (sym (list-first t us vs)) ∙ e
 first-sure ops InCurly t us vs h e = ap not (sym (curly-first t us vs)) ∙ e
 first-sure ops (Joined x) t us vs h e = sym (joined-first ops x t us vs) ∙ e

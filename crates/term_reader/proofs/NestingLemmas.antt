@@ -95,7 +95,7 @@ module _ (s : Setting) (text : List ℕ) (at : ℕ) (k : List OpenFrame) (ts : L
     whole : (vs : List Token) → (read ++ c.named) ++ token false words.Open ∷ vs ≡ (read ++ ts) ++ vs
     whole vs = append_assoc read c.named (token false words.Open ∷ vs) ∙ (ap (λ us. read ++ us) (sym (named vs)) ∙ sym (append_assoc read ts vs))
 
--- ---- behind an operand
+-- ---- after an operand
 
 module _ (s : Setting) (text : List ℕ) (k : List OpenFrame) (a : Bool) (x : Lexeme) where
   pub level-after : (new : List OpenFrame) → IsNoBracket x → ((start : ℕ) (read : List Token) → NestsIn s text start read k → NestsIn s text start read new) → NestsAfterToken s text k (token a x) new

@@ -20,16 +20,19 @@ use Rattle.term_reader.specs.OperatorReductions.{first_post_operator}
 use Rattle.term_reader.proofs.ReadingIsSpellingLemmas.{fits-within}
 use Rattle.term_reader.proofs.CompletionLemmas.{closing, closes, completion, completes}
 use Rattle.term_reader.proofs.ScannedTokenLemmas.{scans-tokens, scans-then}
-use Rattle.term_reader.proofs.LookaheadLemmas.{presumed-alike, post_operator_alone, joins-is, not-true, and-left, and-right, closing-quiet, closing-alone, completion-quiet, quiet-plain, IsQuiet}
+use Rattle.term_reader.proofs.LookaheadLemmas.{presumed-alike, post_operator_alone, joins-is, closing-quiet, closing-alone, completion-quiet, quiet-plain, IsQuiet}
+use Rattle.au_term.proofs.LogicLemmas.{not-true, and-left, and-right}
 use Rattle.term_reader.proofs.PrimaryLemmas.{Opened, ends-plain, by-call, list-opened, curly-opened, fill-fails}
 use Rattle.term_reader.proofs.HasReadLemmas.{prefix-never, read_to-begins, begins-more}
 use Rattle.term_reader.proofs.FirstTokenLemmas.{tokens-none, tokens-first}
 use Rattle.term_reader.proofs.OperatorReductionLemmas.{over-prefix, over-infix, stops-at}
-use Rattle.term_reader.proofs.RefusalLemmas.{lone-over, lone-alone, same_first, none_first, next-alike, name_no_end, tails, true_false}
+use Rattle.term_reader.proofs.RefusalLemmas.{lone-over, lone-alone, same_first, none_first, name_no_end, tails, true_false}
+use Rattle.term_reader.proofs.LookaheadLemmas.{joined-first as next-alike}
 use Rattle.term_reader.proofs.ReaderStepLemmas.{on-infix, on-postfix}
 use Rattle.term_reader.proofs.CompletionStepLemmas.{fails, prefix_within, took_leaf, takes_leaf, goes_stop, went_infix, went_postfix, out_prefix, out_infix}
+use Rattle.au_term.proofs.LogicLemmas.{or-left, or-right}
 
--- ---- nothing stands there
+-- ---- nothing is there
 
 pub stuck-none : (s : Setting) (text : List ℕ) (start at : ℕ) (x : Position) (d : Bool) → HasReadTo s text start x at d → IsWithinBounds (stack_of x) → IsWithinBound x → scanned (chars_from text at) ≡ ScannedNone → IsStuck s text start at
 stuck-none s text start at x d read_to bounds low e = record {
@@ -42,7 +45,7 @@ stuck-none s text start at x d read_to bounds low e = record {
 
 -- ---- no term begins so
 
--- a token that begins no term begins none, whatever comes behind it
+-- a token that begins no term begins none, whatever comes after it
 record BeginsNever (s : Setting) (a : Bool) (x : Lexeme) : Type 0 where
   pub never : (vs : List Token) → primary_of s (token a x ∷ vs) ≡ Fails
   pub alike : (us vs : List Token) → ends_operand_before s.ops x us ≡ ends_operand_before s.ops x vs
@@ -88,14 +91,6 @@ stuck-fails s text start at k d a x rest read_to bounds e f =
     }
 
 -- ---- operators put over an operand
-
-or-left : (x y : Bool) → (x || y) ≡ false → x ≡ false
-or-left true y e = e
-or-left false y e = refl
-
-or-right : (x y : Bool) → (x || y) ≡ false → y ≡ false
-or-right true y e = let z : ⊥ = cc in absurd z
-or-right false y e = e
 
 -- no frame takes a name
 module _ (s : Setting) (a : Bool) (sign : Bool) (n : List ℕ) (k : List OpenFrame) (more : List Token) (l goal : Tree) where
@@ -183,7 +178,7 @@ taken s j (stack.InfixOf m o u ∷ k) l p h le e = go (post_operator_fits (right
       let v = over-infix s j k m o u l p le f in
       record { below = t.below; tree = t.tree; priority = t.priority; bounds = t.bounds; low = t.low; fits = t.fits; back = λ ts goal q g. v.back ts goal q (t.back ts goal q g) }
 
--- what completes an operand with the joint behind it
+-- what completes an operand with the joint after it
 record Joined (s : Setting) (a : Bool) (x : Lexeme) (k : List OpenFrame) (l : Tree) (p : ℕ) : Type 0 where
   pub more : List Token
   pub quiet : IsQuiet more
@@ -238,11 +233,11 @@ comma-alone : (ops : OperatorTable) (b : Bool) (y : Lexeme) (c : Bool) (us : Lis
 comma-alone ops b words.Comma c us e h = let z : ⊥ = cc in z
 comma-alone ops b y c us e h = let z : ⊥ = cc in z
 
--- ---- behind a prefix operator above the bound
+-- ---- after a prefix operator above the bound
 
 module _ (s : Setting) (text : List ℕ) (start at end : ℕ) (k : List OpenFrame) (d a : Bool) (x : Lexeme) (sign : Bool) (n : List ℕ) (o : Operator) (read_to : HasReadTo s text start (ExpectsOperand k) at d) (bounds : IsWithinBounds k)
     (found : scanned (chars_from text at) ≡ ScannedTo (token a x) (chars_from text end)) (named : IsName x sign n) (pre : prefix_of s.ops n ≡ Some o) (high : bound_of k < o.priority)
-    (over : is_as_expected s.ops (looks.Accept sign) (tokens_of (chars_from text end)) ≡ true) (no_end : is_end x ≡ false) where
+    (over : is_as_expected s.ops (looks.WithOperand sign) (tokens_of (chars_from text end)) ≡ true) (no_end : is_end x ≡ false) where
   abbrev first : Token
   first = token a x
 

@@ -12,6 +12,7 @@ use Rattle.term_reader.specs.Lookahead.{is_as_expected}
 use Rattle.term_reader.proofs.PrimaryLemmas.{Kind, OfLeaf, OfBracket, OfCurly, OfListed, OfCall, OfPrefix, fill, Brackets, Opened, opened}
 use Rattle.term_reader.proofs.BracketLemmas.{OpenRound, Closes, IsNoBracket, balanced-plain, balanced-append, balanced-pair}
 use Rattle.term_reader.proofs.SameTokenLemmas.{Alike, alike-first, alike-after, presumed-same, close-close, list-list, curly-curly, bar-bar, comma-comma}
+use Rattle.au_model.proofs.PostOperatorLemmas.{bound_le, left_bound-le as left-low}
 
 -- the tokens that are read
 pub record Front (s : Setting) (bound : ℕ) (Reads : List Token → List Token → Type 0) (ts us : List Token) : Type 0 where
@@ -28,7 +29,7 @@ pub record Enclosed (close : Lexeme) (Reads : List Token → List Token → Type
   pub balanced : Balanced body
   pub again : (vs : List Token) → Reads (body ++ token apart close ∷ vs) vs
 
--- behind what opens a term
+-- after what opens a term
 pub record Inner (s : Setting) (bound : ℕ) (kind : Kind) (ts us : List Token) (t : Tree) (p : ℕ) : Type 0 where
   pub front : List Token
   pub is : ts ≡ front ++ us
@@ -65,13 +66,6 @@ post_operator-plain ops (Name n) e d = refl
 post_operator-plain ops (QuotedName n) e d = refl
 post_operator-plain ops Comma e d = refl
 post_operator-plain ops x e d = let z : ⊥ = cc in absurd z
-
-bound_le : (b : Bool) (n : ℕ) → (if b then n else n - 1) ≤ n
-bound_le true n = omega arith
-bound_le false n = omega arith
-
-left-low : (o : Operator) → left_bound o ≤ o.priority
-left-low o = bound_le (takes_equal_left o.kind) o.priority
 
 right-low : (o : Operator) → right_bound o ≤ o.priority
 right-low o = bound_le (takes_equal_right o.kind) o.priority

@@ -1,4 +1,4 @@
--- What is refused behind a prefix operator above the bound.
+-- What is refused after a prefix operator above the bound.
 use Rattle.std.proofs.Common.{◌≡◌, ◌∙◌, ℕ, suc, ◌<◌, Bool, true, false, List, [], ◌∷◌, Some, None, refl, sym, ap, subst, if◌then◌else◌, IsCharBoundary}
 use Rattle.au_model.specs.Syntax.Characters.{chars_from}
 use Rattle.au_model.specs.Syntax.Tokens.{Lexeme, Token, token, scanned, ScannedTo, ScannedNone, is_end}
@@ -8,7 +8,7 @@ use Rattle.token_scan.specs.ScannedParts.{IsPlaceFrom}
 use Rattle.op_table.specs.OperatorView.{operator_meant}
 use Rattle.term_reader.specs.Completion.{OpenFrame, bound_of}
 use Rattle.term_reader.specs.FrameShapes.{IsWithinBounds}
-use Rattle.term_reader.specs.Lookahead.{Accept, is_as_expected, Scans, none, onto, IsName}
+use Rattle.term_reader.specs.Lookahead.{WithOperand, is_as_expected, Scans, none, onto, IsName}
 use Rattle.term_reader.specs.Positions.{ExpectsOperand, HasReadTo}
 use Rattle.term_reader.specs.PrimaryView.{setting_of, tokens_at}
 use Rattle.term_reader.specs.LexemeView.{lexeme_meant, scan_meant, IsScan}
@@ -37,7 +37,7 @@ record HighAt (source : Source) (start : ℕ) (k : List OpenFrame) (at end : ℕ
   pub named : IsName lexeme sign name
   pub prefix : prefix_of source.ops.now name ≡ Some operator
   pub high : bound_of k < operator.priority
-  pub over : is_as_expected source.ops.now (Accept sign) (tokens_at source end) ≡ true
+  pub over : is_as_expected source.ops.now (WithOperand sign) (tokens_at source end) ≡ true
   pub no_end : is_end lexeme ≡ false
 
 module _ (source : Source) (start : ℕ) (k : List OpenFrame) (at end : ℕ) (h : IsPrefixAboveBound source start k at end) where
@@ -104,7 +104,7 @@ module _ (source : Source) (start : ℕ) (k : List OpenFrame) (at end : ℕ) (h 
   other-stuck (Bad b) i e = nothing-found (sym e)
   other-stuck EndOfText i e = nothing-found (sym e)
 
--- the place behind a token that was found
+-- the place after a token that was found
 place-if : (text : List ℕ) (at end last : ℕ) (c : Bool) → IsPlaceFrom text (suc at) end → (if c then Some end else None) ≡ Some last → IsCharBoundary text last
 place-if text at end last true p e = let same : end ≡ last = cc in subst (IsCharBoundary text) same p.1
 place-if text at end last false p e = let z : ⊥ = cc in absurd z

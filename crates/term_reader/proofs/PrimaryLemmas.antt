@@ -1,4 +1,4 @@
--- How a term begins, whatever comes behind its first tokens.
+-- How a term begins, whatever comes after its first tokens.
 use Rattle.std.proofs.Common.{◌≡◌, ◌∙◌, ℕ, ◌^◌, ◌⊎◌, inl, inr, pos, nat_lt, Bool, true, false, not, ◌&&◌, List, [], ◌∷◌, ◌++◌, Option, Some, None, refl, sym, ap, subst, if◌then◌else◌}
 use Rattle.std.proofs.lemmas.List.{append_cancel_right}
 use Rattle.au_model.specs.Syntax.Tokens as words
@@ -8,11 +8,12 @@ use Rattle.au_model.specs.Terms.Forms.{nil_name, braces_name}
 use Rattle.au_model.specs.Syntax.Operators.{Operator, OperatorTable, prefix_of}
 use Rattle.au_model.specs.Syntax.Primaries.{Setting, Primary, Leaf, Bracket, Curly, Listed, Call, Prefix, Fails, has_direct_open, has_direct_integer, is_minus, is_minus_name, negative_of, tokens_after, negated, is_operator_here, ends_operand_before, prefix_is_atom, prefix_or_atom, name_primary, atom_primary, list_primary, curly_primary, primary_of}
 use Rattle.term_reader.specs.Brackets.{Balanced}
-use Rattle.term_reader.specs.Lookahead.{Lookahead, Free, Named, Lone, Accept, InList, InCurly, closes_list, closes_curly, is_plain_name_before, is_as_expected, IsName}
+use Rattle.term_reader.specs.Lookahead.{Lookahead, Free, Named, Lone, WithOperand, InList, InCurly, closes_list, closes_curly, is_plain_name_before, is_as_expected, IsName}
 use Rattle.term_reader.proofs.FollowingTokenLemmas.{name-call, name-number, atom-call}
-use Rattle.term_reader.proofs.LookaheadLemmas.{post_operator_alone, and-left, and-right, and-both, joins-is, not-true}
+use Rattle.term_reader.proofs.LookaheadLemmas.{post_operator_alone, joins-is}
+use Rattle.au_term.proofs.LogicLemmas.{and-left, and-right, and-both, not-true}
 
--- an opening without the tokens behind it
+-- an opening without the tokens after it
 pub data Kind : Type 0 where
   OfLeaf : Tree → Kind
   OfBracket : Kind
@@ -42,7 +43,7 @@ MayLook (OfCall n) _ = ⊥
 MayLook k (Lone sign) = ⊥
 MayLook k _ = Unit {0}
 
--- a leaf that presumes that a prefix operator stands alone is such a one, and a name alone is one where its name is one
+-- a leaf that presumes that a prefix operator is alone is such a one, and a name alone is one where its name is one
 abbrev pub IsAlone : OperatorTable → Lexeme → Tree → Lookahead → List Token → Type 0
 IsAlone ops x t (Lone sign) over = (n : List ℕ) × (o : Operator) × IsName x sign n × (prefix_of ops n ≡ Some o) × (t ≡ AtomTree n) × (over ≡ [])
 IsAlone ops x t (Named sign) over = (n : List ℕ) (b : Bool) → IsName x b n → prefix_of ops n ≡ None
@@ -50,7 +51,7 @@ IsAlone ops x t _ over = (n : List ℕ) (b : Bool) → IsName x b n → t ≡ At
 
 abbrev pub IsAloneKind : OperatorTable → Token → Kind → Lookahead → List Token → Type 0
 IsAloneKind ops (token a x) (OfLeaf t) look over = IsAlone ops x t look over
-IsAloneKind ops (token a x) (OfPrefix n o) look over = (sign : Bool) × IsName x sign n × (prefix_of ops n ≡ Some o) × (over ≡ []) × (look ≡ Accept sign)
+IsAloneKind ops (token a x) (OfPrefix n o) look over = (sign : Bool) × IsName x sign n × (prefix_of ops n ≡ Some o) × (over ≡ []) × (look ≡ WithOperand sign)
 IsAloneKind ops t k look over = Unit {0}
 
 -- the name of a compound in front of its bracket
@@ -242,7 +243,7 @@ module _ (s : Setting) (a : Bool) (x : Lexeme) (sign : Bool) (n : List ℕ) (h :
     over = [];
     rest = ts;
     is = refl;
-    look = Accept sign;
+    look = WithOperand sign;
     fits = and-both _ _ e (ap not g);
     now = name-begins s a x sign n h ts ∙ (name-plain s.ops sign n ts e ∙ over-begins s.ops n o ts p g);
     again = λ vs f. name-begins s a x sign n h vs ∙ (name-plain s.ops sign n vs (and-left _ _ f) ∙ over-begins s.ops n o vs p (not-true _ (and-right _ _ f)));
@@ -328,7 +329,7 @@ opened s (token a words.OpenList) ts = inl (list-opened s a ts)
 opened s (token a words.OpenCurly) ts = inl (curly-opened s a ts)
 opened s (token a x) ts = inr refl
 
--- ---- with the tokens that were found behind it
+-- ---- with the tokens that were found after it
 
 pub record SoOpened (s : Setting) (kind : Kind) (first : Token) (over left : List Token) : Type 0 where
   pub look : Lookahead

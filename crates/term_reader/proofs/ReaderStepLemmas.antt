@@ -8,7 +8,7 @@ use Rattle.au_model.specs.Syntax.PostOperators.{PostOperator, Infix, Postfix, po
 use Rattle.au_model.specs.Syntax.Trees.{Tree, AtomTree, one, two}
 use Rattle.au_model.specs.Syntax.Primaries as begun
 use Rattle.au_model.specs.Syntax.Primaries.{Setting, primary_of, lexeme_primary, is_post_operator, is_minus_name}
-use Rattle.au_model.specs.declared.double_quotes.DoubleQuotes.{DoubleQuotes}
+use Rattle.au_model.specs.declared.types.DoubleQuotes.{DoubleQuotes}
 use Rattle.op_table.specs.declared.operator.Operator.{Operator as DeclaredOperator}
 use Rattle.term_reader.specs.declared.primary.Leaf.{Leaf}
 use Rattle.term_reader.specs.declared.primary.Leaf.TheVariants as leaf
@@ -112,7 +112,7 @@ suits-leaf : (t : Tree) (k : List stack.OpenFrame) (m : Tree) (look : Lookahead)
 suits-leaf t k m Free h = tt
 suits-leaf t k m (Named sign) h = tt
 suits-leaf t k m (Lone sign) h = tt
-suits-leaf t k m (looks.Accept sign) h = absurd h
+suits-leaf t k m (looks.WithOperand sign) h = absurd h
 suits-leaf t k m InList h = absurd h
 suits-leaf t k m InCurly h = absurd h
 suits-leaf t k m (Joined x) h = absurd h
@@ -134,7 +134,7 @@ suits-due : (kind : Kind) (k : List stack.OpenFrame) (look : Lookahead) → Open
 suits-due kind k Free o h = tt
 suits-due kind k (Named sign) o h = tt
 suits-due kind k (Lone sign) o h = not-lone kind sign o h
-suits-due kind k (looks.Accept sign) o h = tt
+suits-due kind k (looks.WithOperand sign) o h = tt
 suits-due kind k InList o h = tt
 suits-due kind k InCurly o h = tt
 suits-due kind k (Joined x) o h = tt
@@ -151,7 +151,7 @@ no-may_take : (s : Setting) (kind : Kind) (k : List stack.OpenFrame) (first : To
 no-may_take s kind k first over Free o h = refl
 no-may_take s kind k first over (Named sign) o h = refl
 no-may_take s kind k first over (Lone sign) o h = absurd (not-lone kind sign o h)
-no-may_take s kind k first over (looks.Accept sign) o h = refl
+no-may_take s kind k first over (looks.WithOperand sign) o h = refl
 no-may_take s kind k first over InList o h = refl
 no-may_take s kind k first over InCurly o h = refl
 no-may_take s kind k first over (Joined x) o h = refl
@@ -238,7 +238,7 @@ leaf-no-may_take_operand : (s : Setting) (k : List stack.OpenFrame) (a : Bool) (
 leaf-no-may_take_operand s k a x over l quotes end d (Lone sign) h i = absurd (none-some _ i.1 (name-alone s.ops x sign i.0 l quotes end i.2 d i.4) i.3)
 leaf-no-may_take_operand s k a x over l quotes end d Free h i = refl
 leaf-no-may_take_operand s k a x over l quotes end d (Named sign) h i = refl
-leaf-no-may_take_operand s k a x over l quotes end d (looks.Accept sign) h i = refl
+leaf-no-may_take_operand s k a x over l quotes end d (looks.WithOperand sign) h i = refl
 leaf-no-may_take_operand s k a x over l quotes end d InList h i = refl
 leaf-no-may_take_operand s k a x over l quotes end d InCurly h i = refl
 leaf-no-may_take_operand s k a x over l quotes end d (Joined y) h i = refl
@@ -265,7 +265,7 @@ alone-may_take_operand s k a x over m o may_take_operand f d (Lone sign) h i =
     (record { apart = a; lexeme = x; name = m; operator = o; is = refl; named = subst (λ n. IsName x sign n) (one_name x sign f.sign i.0 m i.2 f.named) i.2; prefix = f.prefix; may = d }, i.5)
 alone-may_take_operand s k a x over m o may_take_operand f d Free h i = absurd (i m f.sign f.named refl)
 alone-may_take_operand s k a x over m o may_take_operand f d (Named sign) h i = absurd (none-some _ o (i m f.sign f.named) f.prefix)
-alone-may_take_operand s k a x over m o may_take_operand f d (looks.Accept sign) h i = absurd h
+alone-may_take_operand s k a x over m o may_take_operand f d (looks.WithOperand sign) h i = absurd h
 alone-may_take_operand s k a x over m o may_take_operand f d InList h i = absurd h
 alone-may_take_operand s k a x over m o may_take_operand f d InCurly h i = absurd h
 alone-may_take_operand s k a x over m o may_take_operand f d (Joined y) h i = absurd h
@@ -293,7 +293,7 @@ module _ (source : Source) (at end : ℕ) (k : List stack.OpenFrame) where
       (subst (λ u. (look : Lookahead) → MayLook (OfLeaf t) look → IsAloneKind s.ops u (OfLeaf t) look h.ends.over → MayTakeOperand s k u h.ends.over look may_take_operand) (sym f)
       (alone-may_take_operand s k h.apart h.lexeme h.ends.over m (operator_meant o) may_take_operand (found_name s.ops h.lexeme m o end h.named) d))
 
--- nothing is read where no token stands
+-- nothing is read where no token is
 pub nothing-due : (s : Setting) (k : List stack.OpenFrame) (cs : List ℕ) → scanned cs ≡ ScannedNone → (goal : Tree) → CompletesOperand s k (tokens_of cs) goal → ⊥
 nothing-due s k cs e goal w = turns.fails s (tokens_of cs) (ap (primary_of s) (tokens-none cs e)) w
 
@@ -310,7 +310,7 @@ plugs-none s (stack.InfixOf n o m ∷ k) l goal (infixes g) = plugs-none s k (tw
 pub nothing-there : (s : Setting) (k : List stack.OpenFrame) (l : Tree) (p : ℕ) (cs : List ℕ) → scanned cs ≡ ScannedNone → (goal : Tree) → CompletesAfter s k (tokens_of cs) l p goal → ⊥
 nothing-there s k l p cs e goal g = plugs-none s k l goal (turns.goes_stop s [] l p refl (subst (λ ts. CompletesAfter s k ts l p goal) (tokens-none cs e) g))
 
--- ---- behind operators that were put over their operands
+-- ---- after operators that were put over their operands
 
 pub first-post_operator : (ops : OperatorTable) (cs rest : List ℕ) (a : Bool) (x : Lexeme) → scanned cs ≡ ScannedTo (token a x) rest → first_post_operator ops (tokens_of cs) ≡ lexeme_post_operator ops x
 first-post_operator ops cs rest a x e = ap (first_post_operator ops) (tokens-first cs rest a x e).is
@@ -341,7 +341,7 @@ outcome-same s text j k m l u p q at st (Continue phase may_take_operand) same n
 outcome-same s text j k m l u p q at st (Accept end) same nests e w = record { tree = w.tree; output = w.output; reads = same.back _ w.tree e w.reads; rest = w.rest }
 outcome-same s text j k m l u p q at st (Refused r) same nests e w = λ goal g. w goal (same.to _ goal e g)
 
--- ---- an operator behind an operand
+-- ---- an operator after an operand
 
 pub on-infix : (ops : OperatorTable) (bound p : ℕ) (ts us : List Token) (t : Token) (n : List ℕ) (o : Operator) → ts ≡ t ∷ us → token_post_operator ops t ≡ Infix n o → post_operator_fits bound p (Infix n o) ≡ true → next_operator ops bound p ts ≡ OnInfix n o us
 on-infix ops bound p ts us t n o e f h = ap (next_operator ops bound p) e ∙ rw f (rw h refl)

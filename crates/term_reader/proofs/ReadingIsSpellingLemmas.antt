@@ -8,7 +8,7 @@ use Rattle.au_model.specs.Syntax.Primaries.{Setting, Primary}
 use Rattle.au_model.specs.Syntax.Spelling as d
 use Rattle.term_reader.specs.LeftToRight.{NextOperator, Stop, OnInfix, OnPostfix, next_by_operator, next_operator, ReadsOperand, whole, ReadsRest, stop, on_infix, on_postfix, ReadsPrimary, leaf, bracket, curly, listed, called, prefixed, ReadsItems, last, barred, item, ReadsArguments, final, argument}
 
--- the token behind an operand, where it goes on
+-- the token after an operand, where it goes on
 pub record Behind (ops : OperatorTable) (bound p : ℕ) (us vs : List Token) (o : Operator) (j : PostOperator) : Type 0 where
   pub apart : Bool
   pub w : Lexeme

@@ -16,7 +16,8 @@ use Rattle.term_reader.specs.Refusals.{IsStuck, is_named_post_operator}
 use Rattle.au_model.specs.Syntax.TextFaults.{IsOneTooMany}
 use Rattle.term_reader.proofs.CompletionLemmas.{completion, completes}
 use Rattle.term_reader.proofs.ScannedTokenLemmas.{scans-tokens, scans-then}
-use Rattle.term_reader.proofs.LookaheadLemmas.{presumed-alike, IsSure, first-sure, post_operator_alone, joins-is, and-left, and-right, and-both}
+use Rattle.term_reader.proofs.LookaheadLemmas.{presumed-alike, IsSure, first-sure, post_operator_alone, joins-is}
+use Rattle.au_term.proofs.LogicLemmas.{and-left, and-right, and-both}
 use Rattle.term_reader.proofs.PrimaryLemmas.{ends-same, name-balanced, name-begins, name-plain, lone-begins, over-begins}
 use Rattle.term_reader.proofs.HasReadLemmas.{read_to-begins, begins-more}
 use Rattle.term_reader.proofs.FollowingTokenLemmas.{name-call}
@@ -24,6 +25,7 @@ use Rattle.term_reader.proofs.FirstTokenLemmas.{tokens-first}
 use Rattle.term_reader.proofs.TooManyArgumentsLemmas.{many, completes-close}
 use Rattle.term_reader.proofs.NestingLemmas.{nests-more}
 use Rattle.term_reader.proofs.CompletionStepLemmas.{prefix_within, opened_prefix, opened_call}
+use Rattle.term_reader.proofs.LookaheadLemmas.{joined-first as next-alike}
 
 pub none_first : (ts us : List Token) (t : Token) → ts ≡ [] → ts ≡ t ∷ us → ⊥
 none_first ts us t e h = cc
@@ -31,7 +33,7 @@ none_first ts us t e h = cc
 pub same_first : (ts us vs : List Token) (t u : Token) → ts ≡ t ∷ us → ts ≡ u ∷ vs → u ≡ t
 same_first ts us vs t u e h = cc
 
--- a token that no operator's name is stands the same in front of all
+-- a token that no operator's name is is the same in front of all
 unnamed-alike : (ops : OperatorTable) (x : Lexeme) → is_named_post_operator ops x ≡ false → (us vs : List Token) → ends_operand_before ops x us ≡ ends_operand_before ops x vs
 unnamed-alike ops (words.Name n) e us vs = joins-is ops n (words.Name n) us ∙ (ap (λ b. (b && not (is_some_operator (prefix_of ops n))) && is_plain_name_before (is_minus_name n) us) e ∙ (ap (λ b. (b && not (is_some_operator (prefix_of ops n))) && is_plain_name_before (is_minus_name n) vs) (sym e) ∙ sym (joins-is ops n (words.Name n) vs)))
 unnamed-alike ops (words.QuotedName n) e us vs = joins-is ops n (words.QuotedName n) us ∙ (ap (λ b. (b && not (is_some_operator (prefix_of ops n))) && is_plain_name_before false us) e ∙ (ap (λ b. (b && not (is_some_operator (prefix_of ops n))) && is_plain_name_before false vs) (sym e) ∙ sym (joins-is ops n (words.QuotedName n) vs)))
@@ -68,9 +70,6 @@ opens-never ops (words.QuotedName m) sign n h ts = joins-is ops m (words.QuotedN
 opens-never ops x sign n h ts = absurd h
 
 -- only the next token counts
-pub next-alike : (ops : OperatorTable) (x : Lexeme) (u : Token) (us vs : List Token) → ends_operand_before ops x (u ∷ us) ≡ ends_operand_before ops x (u ∷ vs)
-next-alike ops x (token a y) us vs = ends-same ops x (token a y ∷ us) (token a y ∷ vs) refl refl
-
 pub true_false : {A : Type 0} (b : Bool) → b ≡ true → b ≡ false → A
 true_false b e h = let z : ⊥ = cc in absurd z
 
@@ -89,7 +88,7 @@ pub lone-alone : (s : Setting) (a : Bool) (x : Lexeme) (sign : Bool) (n : List �
     → primary_of s (token a x ∷ ts) ≡ Leaf (AtomTree n) ts
 lone-alone s a x sign n o ts h p e f = name-begins s a x sign n h ts ∙ (name-plain s.ops sign n ts e ∙ lone-begins s.ops n o ts p f)
 
--- ---- behind an operand
+-- ---- after an operand
 
 module _ (s : Setting) (text : List ℕ) (start at end : ℕ) (k : List OpenFrame) (l : Tree) (p : ℕ) (d : Bool) (a : Bool) (x : Lexeme) (read_to : HasReadTo s text start (AfterOperand k l p) at d) (bounds : IsWithinBounds k) (within : p ≤ bound_of k)
     (found : scanned (chars_from text at) ≡ ScannedTo (token a x) (chars_from text end)) (refused : (more : List Token) (goal : Tree) → CompletesAfter s k (token a x ∷ more) l p goal → ⊥) where
@@ -144,7 +143,7 @@ module _ (s : Setting) (text : List ℕ) (start at end : ℕ) (k : List OpenFram
 
     by-look : (look : Lookahead) → read_to.look ≡ look → MayTakeOperandBefore s read_to.read look d → SuitsLookahead (AfterOperand k l p) look → ⊥
     by-look (Lone sign) h q i = by-may_take_operand sign h q d (is_named_post_operator s.ops x) refl refl
-    by-look (looks.Accept sign) h q i = i
+    by-look (looks.WithOperand sign) h q i = i
     by-look Free h q i = sure Free h tt
     by-look (Named sign) h q i = sure (Named sign) h tt
     by-look InList h q i = i
@@ -161,7 +160,7 @@ module _ (s : Setting) (text : List ℕ) (start at end : ℕ) (k : List OpenFram
     few = λ u vs e m name o. few vs m name (subst (λ z. IsOneTooMany s (read_to.read ++ z ∷ vs) (length read_to.read) m name) (same_first (tokens_of (chars_from text at)) us vs t u first-is e) o);
   }
 
-  -- behind a prefix operator that may have an operand the next one is
+  -- after a prefix operator that may have an operand the next one is
   module _ (sign : Bool) (h : read_to.look ≡ Lone sign) (b : PrefixAtomBefore s read_to.read sign d) (e : d ≡ true) (j : NamedPostOperator s.ops x) where
     abbrev o : Operator
     o = b.lone.operator
@@ -235,7 +234,7 @@ module _ (s : Setting) (text : List ℕ) (start at end : ℕ) (k : List OpenFram
     by-look (Lone sign) h q = stuck-next sign h q e (named-post_operator s.ops x (and-right d (is_named_post_operator s.ops x) n))
     by-look Free h q = not-may_take_operand e q
     by-look (Named sign) h q = not-may_take_operand e q
-    by-look (looks.Accept sign) h q = not-may_take_operand e q
+    by-look (looks.WithOperand sign) h q = not-may_take_operand e q
     by-look InList h q = not-may_take_operand e q
     by-look InCurly h q = not-may_take_operand e q
     by-look (Joined y) h q = not-may_take_operand e q

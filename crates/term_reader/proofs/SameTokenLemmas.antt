@@ -4,7 +4,7 @@ use Rattle.au_model.specs.Syntax.Tokens.{Token, token, Close, CloseList, CloseCu
 use Rattle.au_model.specs.Syntax.Operators.{OperatorTable}
 use Rattle.au_model.specs.Syntax.PostOperators.{comma, fits, continues_with}
 use Rattle.au_model.specs.Syntax.Primaries.{has_direct_open, has_direct_integer, prefix_is_atom}
-use Rattle.term_reader.specs.Lookahead.{Lookahead, Free, Named, Lone, Accept, InList, InCurly, Joined, closes_list, closes_curly, is_plain_name_before, is_as_expected}
+use Rattle.term_reader.specs.Lookahead.{Lookahead, Free, Named, Lone, WithOperand, InList, InCurly, Joined, closes_list, closes_curly, is_plain_name_before, is_as_expected}
 use Rattle.term_reader.proofs.LookaheadLemmas.{list-first, curly-first}
 use Rattle.term_reader.proofs.PrimaryLemmas.{plain-alike, ends-same}
 
@@ -48,13 +48,13 @@ presumed-same ops bound us vs h Free = refl
 presumed-same ops bound us vs h (Named sign) = plain-alike sign us vs h.opens_same h.counts_same
 presumed-same ops bound us vs h (Lone sign) =
     ap (λ z. z && prefix_is_atom ops us) (plain-alike sign us vs h.opens_same h.counts_same) ∙ ap (λ z. is_plain_name_before sign vs && z) h.alone_same
-presumed-same ops bound us vs h (Accept sign) =
+presumed-same ops bound us vs h (WithOperand sign) =
     ap (λ z. z && not (prefix_is_atom ops us)) (plain-alike sign us vs h.opens_same h.counts_same) ∙ ap (λ z. is_plain_name_before sign vs && not z) h.alone_same
 presumed-same ops bound us vs h InList = ap not h.list_same
 presumed-same ops bound us vs h InCurly = ap not h.curly_same
 presumed-same ops bound us vs h (Joined x) = ends-same ops x us vs h.opens_same h.counts_same
 
--- a bracket that closes, whatever comes behind it
+-- a bracket that closes, whatever comes after it
 pub close-close : (ops : OperatorTable) (bound : ℕ) (a b : Bool) (us vs : List Token) → Alike ops bound (token a Close ∷ us) (token b Close ∷ vs)
 close-close ops bound a b us vs = record { opens_same = refl; counts_same = refl; alone_same = refl; list_same = refl; curly_same = refl; goes_same = λ c p h. refl }
 

@@ -7,13 +7,7 @@ use Rattle.au_model.specs.Syntax.PostOperators.{PostOperator, Infix, Postfix, No
 use Rattle.au_model.specs.Syntax.Primaries.{Setting, Primary}
 use Rattle.au_model.specs.Syntax.Spelling as d
 use Rattle.term_reader.specs.LeftToRight.{Stop, OnInfix, OnPostfix, next_by_operator, next_operator, ReadsOperand, whole, ReadsRest, stop, on_infix, on_postfix, ReadsPrimary, leaf, bracket, curly, listed, called, prefixed, ReadsItems, last, barred, item, ReadsArguments, final, argument}
-
-bound_le : (b : Bool) (n : ℕ) → (if b then n else n - 1) ≤ n
-bound_le true n = omega arith
-bound_le false n = omega arith
-
-left_bound-le : (o : Operator) → left_bound o ≤ o.priority
-left_bound-le o = bound_le (takes_equal_left o.kind) o.priority
+use Rattle.au_model.proofs.PostOperatorLemmas.{bound_le, left_bound-le}
 
 fits-true : (bound p : ℕ) (o : Operator) → o.priority ≤ bound → p ≤ left_bound o → fits bound p o ≡ true
 fits-true bound p o h k = grind (arith, h, k)

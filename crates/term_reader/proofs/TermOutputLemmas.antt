@@ -15,7 +15,7 @@ count-numbered : (vs : Variables) (ts : Trees) → count (all_numbered vs ts).0 
 count-numbered vs no_trees = refl
 count-numbered vs (more_trees t ts) = ap suc (count-numbered (numbered vs t).1 ts)
 
--- a sheet with a term behind it has the cells of the numbered term behind its arguments
+-- a sheet with a term after it has the cells of the numbered term after its arguments
 mutual
   pub emit-numbered : (s : TermOutput) (t : Tree) → emit_tree s t ≡ record { cells = s.cells ++ postorder (numbered s.variables t).0; variables = (numbered s.variables t).1 }
   emit-numbered s (VarTree n) = refl

@@ -1,4 +1,4 @@
--- Each token takes a character, so the tokens of a text are its first token and those of what is left behind it.
+-- Each token takes a character, so the tokens of a text are its first token and those of what is left after it.
 use Rattle.std.proofs.Common.{◌≡◌, ◌∙◌, ℕ, zero, suc, ◌≤◌, ◌<◌, ◌^◌, nat_le, Bool, true, false, ◌&&◌, ◌==◌, cond, List, [], ◌∷◌, length, drop, Option, Some, None, refl, sym, ap, arith, length-drop, if◌then◌else◌}
 use Rattle.std.specs.Str.Parse.{digits_value}
 use Rattle.au_model.specs.Syntax.Characters.{is_small, starts_variable, is_digit_of, is_solo, is_punctuation, is_symbol, is_alphanumeric, first_is, run, after_run}
@@ -10,6 +10,7 @@ use Rattle.au_model.specs.Syntax.Tokens.{Lexeme, Token, token, lexeme_of, Scanne
 use Rattle.token_scan.proofs.RunLemmas.{length-after_run}
 use Rattle.token_scan.proofs.LayoutLemmas.{layout-within}
 use Rattle.token_scan.proofs.QuotedItemLemmas.{EndsWithin, escape-within, part-within}
+use Rattle.token_scan.proofs.WordLemmas.{if_cases as either}
 
 -- what is left is shorter than this
 abbrev LeavesLess : ℕ → Lexed → Type 0
@@ -113,10 +114,6 @@ quoted_word-less : (n : ℕ) (word : List ℕ → Word) (from : List ℕ) (q : Q
 quoted_word-less n word from (QuotedThen cs rest) h = h
 quoted_word-less n word from (WrongEscape place) h = tt
 quoted_word-less n word from NeverClosed h = tt
-
-either : (P : Lexed → Type 0) (b : Bool) (x y : Lexed) → (b ≡ true → P x) → (b ≡ false → P y) → P (cond b x y)
-either P true x y h k = h refl
-either P false x y h k = k refl
 
 -- a word takes a character
 word-less : (c : ℕ) (cs : List ℕ) → LeavesLess (suc (length cs)) (word_at_front (c ∷ cs))

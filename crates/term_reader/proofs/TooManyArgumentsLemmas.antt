@@ -1,4 +1,4 @@
--- A comma behind the last argument that a compound may have.
+-- A comma after the last argument that a compound may have.
 use Rattle.std.proofs.Common.{◌≡◌, ◌∙◌, ℕ, ◌+◌, ◌≤◌, ◌<◌, Bool, true, false, List, [], ◌∷◌, ◌++◌, length, length-append, Some, refl, sym, ap, subst, arith, append_assoc}
 use Rattle.std.proofs.Math.Seq.{take-append_seam}
 use Rattle.au_model.specs.Syntax.Tokens.{Token, token, Variable, Open, OpenList, OpenCurly, Close, Comma}
@@ -8,7 +8,7 @@ use Rattle.au_model.specs.Syntax.Spelling as d
 use Rattle.au_model.specs.Syntax.Trees.{Tree, Trees, VarTree, CompoundTree, no_trees, more_trees, tree_count}
 use Rattle.term_reader.specs.Brackets.{Balanced}
 use Rattle.term_reader.specs.FrameShapes.{IsWithinBounds, HasNoOperatorOnTop}
-use Rattle.term_reader.specs.Lookahead.{Lookahead, Free, Named, Lone, Accept, InList, InCurly, Joined, is_as_expected}
+use Rattle.term_reader.specs.Lookahead.{Lookahead, Free, Named, Lone, WithOperand, InList, InCurly, Joined, is_as_expected}
 use Rattle.term_reader.specs.Nesting.{OpenSince, ReadsAfterRound, NestsIn}
 use Rattle.term_reader.specs.Positions.{ExpectsOperand}
 use Rattle.term_reader.specs.Completion as stack
@@ -65,7 +65,7 @@ pub presumed-close : (ops : OperatorTable) (look : Lookahead) (a : Bool) (us vs 
 presumed-close ops Free a us vs e = refl
 presumed-close ops (Named sign) a us vs e = e
 presumed-close ops (Lone sign) a us vs e = e
-presumed-close ops (Accept sign) a us vs e = e
+presumed-close ops (WithOperand sign) a us vs e = e
 presumed-close ops InList a us vs e = refl
 presumed-close ops InCurly a us vs e = refl
 presumed-close ops (Joined x) a us vs e = ends-same ops x (token false Close ∷ vs) (token a Comma ∷ us) refl refl ∙ e
@@ -75,7 +75,7 @@ abbrev pub IsFullStack : List OpenFrame → Type 0
 IsFullStack (stack.ArgumentOf m w ts ∷ k) = 65534 ≤ length ts
 IsFullStack _ = ⊥
 
--- ---- the bracket behind which the arguments stand
+-- ---- the bracket after which the arguments are
 
 -- with a bracket in place of the comma, all can be read
 pub record Completes (s : Setting) (read : List Token) (t : Token) : Type 0 where
@@ -146,7 +146,7 @@ module _ (s : Setting) (text : List ℕ) (start : ℕ) where
   completes-close (stack.PrefixOf m o ∷ k) read h n f = completes-close k read h.1 n f
   completes-close (stack.InfixOf m o l ∷ k) read h n f = completes-close k read h.1 n f
 
-  -- ---- behind an operand
+  -- ---- after an operand
 
   -- a compound with fewer arguments takes the comma
   call-comma : (m : List ℕ) (w : ℕ) (ts : List Tree) (k : List OpenFrame) (l : Tree) (p : ℕ) (a : Bool) → IsWithinBounds k → p ≤ 999 → length ts < 65534 → (more : List Token) × (goal : Tree) × CompletesAfter s (stack.ArgumentOf m w ts ∷ k) (token a Comma ∷ more) l p goal

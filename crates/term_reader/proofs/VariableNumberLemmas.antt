@@ -19,7 +19,7 @@ number-last (v ∷ vs) n q k = go (pointwise nat_eq v.name q) (number-last vs n 
   go true h = refl
   go false h = h
 
--- a new name behind the others
+-- a new name after the others
 pub more-named : (vs : List NamedVariable) (n : List ℕ) (k : ℕ) → number_of vs n ≡ None → (q : List ℕ)
     → cond (is_at (slice_cmp nat_cmp n) q) (Some k) (number_of vs q) ≡ number_of (vs ++ record { name = n; number = k } ∷ []) q
 unfolding or_number

@@ -43,7 +43,7 @@ mutual
   pub data CompletesOperand (s : Setting) : List OpenFrame → List Token → Tree → Type 0 where
     by_operand : {k : List OpenFrame} {ts us : List Token} {t goal : Tree} → ReadsOperand s (bound_of k) ts us t → CompletesFrame s k us t goal → CompletesOperand s k ts goal
 
-  -- an operand of this priority stands there, and may go on
+  -- an operand of this priority is there, and may go on
   pub data CompletesAfter (s : Setting) : List OpenFrame → List Token → Tree → ℕ → Tree → Type 0 where
     by_rest : {k : List OpenFrame} {us vs : List Token} {l t goal : Tree} {p : ℕ}
         → p ≤ bound_of k → ReadsRest s (next_operator s.ops (bound_of k) p us) (bound_of k) us l vs t → CompletesFrame s k vs t goal → CompletesAfter s k us l p goal

@@ -27,14 +27,14 @@ closer_of words.Bar = closer.Bar
 closer_of words.End = closer.End
 closer_of _ = closer.Other
 
--- none of the four stands in front
+-- none of the four is in front
 pub record NoneOfFourFollows (ts : List Token) : Type 0 where
   pub no_open : has_direct_open ts ≡ false
   pub no_count : has_direct_integer ts ≡ false
   pub no_list : list_primary ts ≡ Listed ts
   pub no_curly : curly_primary ts ≡ Curly ts
 
--- the first of these tokens, and those behind it
+-- the first of these tokens, and those after it
 abbrev pub IsFollowing : List ℕ → List Token → Follow → Type 0
 IsFollowing text ts (OpenRound end) = ts ≡ token false words.Open ∷ tokens_of (chars_from text end)
 IsFollowing text ts (Unsigned k end) = (ts ≡ token false (words.Integer k) ∷ tokens_of (chars_from text end)) × (k ≤ 2 ^ 63)
@@ -42,7 +42,7 @@ IsFollowing text ts (ClosesList end) = (a : Bool) × (ts ≡ token a words.Close
 IsFollowing text ts (ClosesCurly end) = (a : Bool) × (ts ≡ token a words.CloseCurly ∷ tokens_of (chars_from text end))
 IsFollowing text ts Other = NoneOfFourFollows ts
 
--- a place further on, behind some tokens
+-- a place further on, after some tokens
 pub record IsPlaceAfterTokens (text : List ℕ) (at end : ℕ) : Type 0 where
   pub place : IsPlaceFrom text at end
   pub over : List Token

@@ -72,7 +72,7 @@ emitted_stack (stack.ArgumentOf n place ts ∷ k) = emitted_before (emitted_stac
 emitted_stack (stack.PrefixOf n o ∷ k) = emitted_stack k
 emitted_stack (stack.InfixOf n o l ∷ k) = emit_tree (emitted_stack k) l
 
--- an operator is within the bound of what it stands in, and another argument is allowed
+-- an operator is within the bound of what it is in, and another argument is allowed
 abbrev pub IsWithinBounds : List stack.OpenFrame → Type 0
 IsWithinBounds [] = Unit {0}
 IsWithinBounds (stack.PrefixOf n o ∷ k) = (o.priority ≤ bound_of k) × IsWithinBounds k

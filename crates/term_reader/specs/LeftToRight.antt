@@ -27,7 +27,7 @@ mutual
     whole : {bound : ℕ} {ts us vs : List Token} {l t : Tree} {p : ℕ}
         → ReadsPrimary s (primary_of s ts) us l p → p ≤ bound → ReadsRest s (next_operator s.ops bound p us) bound us l vs t → ReadsOperand s bound ts vs t
 
-  -- what goes on behind a left operand
+  -- what goes on after a left operand
   pub data ReadsRest (s : Setting) : NextOperator → ℕ → List Token → Tree → List Token → Tree → Type 0 where
     stop : {bound : ℕ} {us : List Token} {l : Tree} → ReadsRest s Stop bound us l us l
     on_infix : {bound : ℕ} {us vs ws zs : List Token} {l r t : Tree} {n : List ℕ} {o : Operator}

@@ -44,17 +44,17 @@ abbrev pub IsNarrow : Lexeme → Type 0
 IsNarrow (Integer k) = k ≤ 2 ^ 63
 IsNarrow _ = Unit {0}
 
--- it starts here, behind the layout
+-- it starts here, after the layout
 abbrev pub IsStart : List ℕ → ℕ → ℕ → Type 0
 IsStart text at start = IsCharBoundary text start × (after_layout (chars_from text at) ≡ GapThen (chars_from text start))
 
--- the token ends behind this place; the faulty token's fault; or nothing but layout is left
+-- the token ends after this place; the faulty token's fault; or nothing but layout is left
 abbrev pub IsScan : List ℕ → ℕ → Scan → Type 0
 IsScan text at (Found t) = IsPlaceFrom text (suc at) t.end × IsNarrow t.lexeme × IsStart text at t.start
 IsScan text at (Bad e) = IsTokenFault (next_word (chars_from text at)) text at e
 IsScan text at EndOfText = is_over (chars_from text at) ≡ true
 
--- what a token behind an operand of this name joins it to
+-- what a token after an operand of this name joins it to
 abbrev pub post_operator_meant : List ℕ → DeclaredPostOperator → PostOperator
 post_operator_meant n (PostOperatorInfix o) = Infix n (operator_meant o)
 post_operator_meant n (PostOperatorPostfix o) = Postfix n (operator_meant o)

@@ -16,3 +16,4 @@ pub mod OperatorReductions
 pub mod ReaderSteps
 pub mod ReadTerm
 pub mod Refusals
+pub mod StepAnswers

@@ -5,14 +5,14 @@ use Rattle.au_model.specs.Syntax.Operators.{Operator, OperatorTable, prefix_of}
 use Rattle.au_model.specs.Syntax.Primaries.{Setting, has_direct_open, has_direct_integer, ends_operand_before, prefix_is_atom, is_minus_name}
 use Rattle.term_reader.specs.Completion.{OpenFrame, bound_of}
 
--- Nothing. Behind a name, that it is neither a compound's nor a sign: then the name may be a prefix operator that
--- stands for itself, or one with an operand. Behind an open bracket, that it is not closed at once. Behind a token
+-- Nothing. After a name, that it is neither a compound's nor a sign: then the name may be a prefix operator that
+-- stands for itself, or one with an operand. After an open bracket, that it is not closed at once. After a token
 -- in front of which a prefix operator stands for itself, that this token allows it.
 pub data Lookahead : Type 0 where
   Free : Lookahead
   Named : Bool → Lookahead
   Lone : Bool → Lookahead
-  Accept : Bool → Lookahead
+  WithOperand : Bool → Lookahead
   InList : Lookahead
   InCurly : Lookahead
   Joined : Lexeme → Lookahead
@@ -32,12 +32,12 @@ abbrev pub is_as_expected : OperatorTable → Lookahead → List Token → Bool
 is_as_expected ops Free ts = true
 is_as_expected ops (Named sign) ts = is_plain_name_before sign ts
 is_as_expected ops (Lone sign) ts = is_plain_name_before sign ts && prefix_is_atom ops ts
-is_as_expected ops (Accept sign) ts = is_plain_name_before sign ts && not (prefix_is_atom ops ts)
+is_as_expected ops (WithOperand sign) ts = is_plain_name_before sign ts && not (prefix_is_atom ops ts)
 is_as_expected ops InList ts = not (closes_list ts)
 is_as_expected ops InCurly ts = not (closes_curly ts)
 is_as_expected ops (Joined x) ts = ends_operand_before ops x ts
 
--- these tokens, none of them the end, stand at the front of a text, and this is left behind them
+-- these tokens, none of them the end, are at the front of a text, and this is left after them
 pub data Scans : List ℕ → List Token → List ℕ → Type 0 where
   none : {cs : List ℕ} → Scans cs [] cs
   onto : {cs mid rest : List ℕ} {a : Bool} {x : Lexeme} {ts : List Token} → scanned cs ≡ ScannedTo (token a x) mid → is_end x ≡ false → Scans mid ts rest → Scans cs (token a x ∷ ts) rest

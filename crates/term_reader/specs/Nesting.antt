@@ -9,7 +9,7 @@ use Rattle.term_reader.specs.Brackets.{Balanced}
 use Rattle.term_reader.specs.Lookahead.{Scans}
 use Rattle.term_reader.specs.Completion.{OpenFrame, Round, Braces, ItemOf, TailOf, ArgumentOf, PrefixOf, InfixOf, CompletesOperand}
 
--- what was read up to a bracket that is open, and behind it
+-- what was read up to a bracket that is open, and after it
 pub record OpenSince (x : Lexeme) (read : List Token) : Type 0 where
   pub before : List Token
   pub apart : Bool
@@ -17,7 +17,7 @@ pub record OpenSince (x : Lexeme) (read : List Token) : Type 0 where
   pub is : read ≡ before ++ token apart x ∷ inside
   pub balanced : Balanced inside
 
--- what comes behind a round bracket is read in this stack just as it is from the start
+-- what comes after a round bracket is read in this stack just as it is from the start
 pub record ReadsAfterRound (s : Setting) (k : List OpenFrame) (before : List Token) (apart : Bool) : Type 0 where
   pub to : (vs : List Token) (goal : Tree) → CompletesOperand s [] (before ++ token apart Open ∷ vs) goal → CompletesOperand s k vs goal
   pub back : (vs : List Token) (goal : Tree) → CompletesOperand s k vs goal → CompletesOperand s [] (before ++ token apart Open ∷ vs) goal

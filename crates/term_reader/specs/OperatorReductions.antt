@@ -11,7 +11,7 @@ use Rattle.term_reader.specs.Nesting.{NestsIn}
 use Rattle.term_reader.specs.Positions.{IsAtPosition, AfterOperand}
 use Rattle.term_reader.specs.declared.state.State.{State}
 use Rattle.term_reader.specs.declared.state.Reduced.{Reduced}
-use Rattle.term_reader.specs.declared.state.Reduced.TheVariants.{Accept, Fits, Ends}
+use Rattle.term_reader.specs.declared.state.Reduced.TheVariants.{Applied, Fits, Ends}
 
 -- what the first token joins
 abbrev pub first_post_operator : OperatorTable → List Token → PostOperator
@@ -27,7 +27,7 @@ pub record ReadSame (s : Setting) (j : PostOperator) (k : List OpenFrame) (l : T
 abbrev pub NestSame : Setting → List OpenFrame → List OpenFrame → Type 0
 NestSame s k m = (text : List ℕ) (start : ℕ) (read : List Token) → NestsIn s text start read k → NestsIn s text start read m
 
--- an operator stands over its operand, also where nothing is joined
+-- an operator is over its operand, also where nothing is joined
 pub record IsReducedOnce (s : Setting) (k : List OpenFrame) (l : Tree) (p : ℕ) (j : PostOperator) (st : State) (q : ℕ) : Type 0 where
   pub below : List OpenFrame
   pub tree : Tree
@@ -37,15 +37,15 @@ pub record IsReducedOnce (s : Setting) (k : List OpenFrame) (l : Tree) (p : ℕ)
   pub nests : NestSame s k below
 
 abbrev pub IsReduceOutcome : Setting → List OpenFrame → Tree → ℕ → PostOperator → State → Reduced → Type 0
-IsReduceOutcome s k l p j st (Accept q) = IsReducedOnce s k l p j st q
+IsReduceOutcome s k l p j st (Applied q) = IsReducedOnce s k l p j st q
 IsReduceOutcome s k l p j st Fits = IsAtPosition st (AfterOperand k l p) × (post_operator_fits (bound_of k) p j ≡ true)
 IsReduceOutcome s k l p j st Ends = IsAtPosition st (AfterOperand k l p) × (post_operator_fits (bound_of k) p j ≡ false) × HasNoOperatorOnTop k
 
 abbrev pub IsFewer : Reduced → ℕ → ℕ → Type 0
-IsFewer (Accept q) m n = n + 1 ≡ m
+IsFewer (Applied q) m n = n + 1 ≡ m
 IsFewer _ m n = Unit {0}
 
--- nothing is left to be put over the operand; a joint goes on behind it, or none is open
+-- nothing is left to be put over the operand; a joint goes on after it, or none is open
 abbrev pub IsFullyReduced : List OpenFrame → ℕ → PostOperator → Bool → Type 0
 IsFullyReduced k q j true = post_operator_fits (bound_of k) q j ≡ true
 IsFullyReduced k q j false = (post_operator_fits (bound_of k) q j ≡ false) × HasNoOperatorOnTop k
@@ -58,3 +58,7 @@ pub record IsReducedBefore (s : Setting) (k : List OpenFrame) (l : Tree) (p : �
   pub apart : ReadSame s Nothing k l p below tree q
   pub nests : NestSame s k below
   pub free : IsFullyReduced below q j fits
+
+-- for each setting, each stack and operand of this priority at which the state is, and each name
+abbrev pub WhereOperand : State → ℕ → (Setting → List OpenFrame → Tree → List ℕ → Type 0) → Type 0
+WhereOperand st priority P = (s : Setting) (k : List OpenFrame) (l : Tree) (n : List ℕ) → IsAtPosition st (AfterOperand k l priority) → P s k l n

@@ -25,8 +25,12 @@ pub record IsOutputOf (d : TermOutput) (s : sheets.TermOutput) : Type 0 where
   pub sound : AreValidCells s.cells
   pub variables : IsVariablesOf d.variables s.variables
 
--- the sheet after a variable came, and its number
+-- the variables after a variable came, and its number
 pub record IsVariableNumbered (v : Variables) (vs : numbers.Variables) (n : List ℕ) (k : ℕ) : Type 0 where
   pub number : k ≡ (numbers.numbered_name vs n).0
   pub rest : IsVariablesOf v (numbers.numbered_name vs n).1
   pub low : k < 2 ^ 64 - 1
+
+-- the variables after a name came that had none, and its number
+abbrev pub IsNewVariable : Variables → numbers.Variables → List ℕ → ℕ → Type 0
+IsNewVariable v vs name k = (k ≡ vs.next) × (k < 2 ^ 64 - 1) × IsVariablesOf v (numbers.new_name vs name)

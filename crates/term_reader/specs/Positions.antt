@@ -4,7 +4,7 @@ use Rattle.au_model.specs.Syntax.Characters.{chars_from}
 use Rattle.au_model.specs.Syntax.Tokens.{Token, front, tokens_of}
 use Rattle.au_model.specs.Syntax.Trees.{Tree}
 use Rattle.au_model.specs.Syntax.Primaries.{Setting, prefix_is_atom}
-use Rattle.term_reader.specs.Lookahead.{Lookahead, Free, Lone, Accept as OverOperand, InList, InCurly, is_as_expected, Scans, IsPrefixAsAtom, MayTakeOperand}
+use Rattle.term_reader.specs.Lookahead.{Lookahead, Free, Lone, WithOperand as OverOperand, InList, InCurly, is_as_expected, Scans, IsPrefixAsAtom, MayTakeOperand}
 use Rattle.token_scan.specs.ScannedParts.{IsPlaceFrom}
 use Rattle.term_reader.specs.Completion.{OpenFrame, CompletesOperand, CompletesAfter, bound_of}
 use Rattle.term_reader.specs.Nesting.{NestsIn}
@@ -15,7 +15,7 @@ use Rattle.term_reader.specs.declared.state.State.{State}
 use Rattle.term_reader.specs.declared.steps.Step.{Step}
 use Rattle.term_reader.specs.declared.steps.Step.TheVariants.{Continue, Accept, Refused}
 
--- an operand is due, or this one stands there and has this priority
+-- an operand is due, or this one is there and has this priority
 pub data Position : Type 0 where
   ExpectsOperand : List OpenFrame → Position
   AfterOperand : List OpenFrame → Tree → ℕ → Position
@@ -37,7 +37,7 @@ abbrev pub IsWithinBound : Position → Type 0
 IsWithinBound (ExpectsOperand k) = Unit {0}
 IsWithinBound (AfterOperand k l p) = p ≤ bound_of k
 
--- the priority of the operand, where one stands there
+-- the priority of the operand, where one is there
 abbrev pub priority_of_operand : Position → Option ℕ
 priority_of_operand (ExpectsOperand k) = None
 priority_of_operand (AfterOperand k l p) = Some p
@@ -60,7 +60,7 @@ SuitsLookahead (AfterOperand k l p) InList = ⊥
 SuitsLookahead (AfterOperand k l p) InCurly = ⊥
 SuitsLookahead _ _ = Unit {0}
 
--- these tokens lead to the new position, where they stand behind others that were read up to here and nest in the stack
+-- these tokens lead to the new position, where they are after others that were read up to here and nest in the stack
 abbrev pub NestsAfterPrimary : Setting → List ℕ → ℕ → List OpenFrame → List Token → Lookahead → Position → Type 0
 NestsAfterPrimary s text at k over look new =
     (start : ℕ) (read : List Token) → Scans (chars_from text start) read (chars_from text at) → NestsIn s text start read k
@@ -70,14 +70,14 @@ NestsAfterPrimary s text at k over look new =
 abbrev pub NestsAfterToken : Setting → List ℕ → List OpenFrame → Token → List OpenFrame → Type 0
 NestsAfterToken s text k first new = (start : ℕ) (read : List Token) → NestsIn s text start read k → NestsIn s text start (read ++ first ∷ []) new
 
--- The beginning of an operand presumes something of the tokens behind it; a token behind an operand does not.
+-- The beginning of an operand presumes something of the tokens after it; a token after an operand does not.
 abbrev pub IsStepFrom : Setting → List ℕ → ℕ → Position → Position → Token → List Token → List Token → Lookahead → Bool → Type 0
 IsStepFrom s text at (ExpectsOperand k) new first over us look may_take_operand =
     ((vs : List Token) → is_as_expected s.ops look vs ≡ true → prefix_is_atom s.ops (first ∷ over ++ vs) ≡ prefix_is_atom s.ops (first ∷ over ++ us)) × SuitsLookahead new look × MayTakeOperand s k first over look may_take_operand
     × NestsAfterPrimary s text at k (first ∷ over) look new
 IsStepFrom s text at (AfterOperand k l p) new first over us look may_take_operand = (over ≡ []) × (look ≡ Free) × (may_take_operand ≡ false) × NestsAfterToken s text k first (stack_of new)
 
--- A step over some tokens: whatever comes behind them, if it is as presumed, is read at the old position together
+-- A step over some tokens: whatever comes after them, if it is as presumed, is read at the old position together
 -- with them just as it is at the new one.
 pub record LeadsTo (s : Setting) (text : List ℕ) (old : Position) (at : ℕ) (new : Position) (end : ℕ) (may_take_operand : Bool) : Type 0 where
   pub first : Token
@@ -110,7 +110,7 @@ abbrev pub MayTakeOperandBefore : Setting → List Token → Lookahead → Bool 
 MayTakeOperandBefore s read (Lone sign) may_take_operand = PrefixAtomBefore s read sign may_take_operand
 MayTakeOperandBefore s read _ may_take_operand = may_take_operand ≡ false
 
--- The tokens from the start lead to this position: whatever comes behind them, if it is as presumed, is read there
+-- The tokens from the start lead to this position: whatever comes after them, if it is as presumed, is read there
 -- just as it is from the start together with them.
 pub record HasReadTo (s : Setting) (text : List ℕ) (start : ℕ) (x : Position) (at : ℕ) (may_take_operand : Bool) : Type 0 where
   pub read : List Token
@@ -123,7 +123,7 @@ pub record HasReadTo (s : Setting) (text : List ℕ) (start : ℕ) (x : Position
   pub may_take : MayTakeOperandBefore s read look may_take_operand
   pub nests : NestsIn s text start read (stack_of x)
 
--- the term is whole, and its end stands in front of this place
+-- the term is whole, and its end is in front of this place
 pub record HasEnded (s : Setting) (text : List ℕ) (old : Position) (at : ℕ) (st : State) (end : ℕ) : Type 0 where
   pub tree : Tree
   pub output : IsOutputOf st.output (emit_tree no_cells tree)

@@ -1,4 +1,4 @@
--- The cells of a term with each compound's behind its arguments, and how they are turned.
+-- The cells of a term with each compound's after its arguments, and how they are turned.
 use Rattle.std.specs.Prelude.{ℕ, suc, ◌<◌, List, [], ◌∷◌, ◌++◌, length}
 use Rattle.au_term.specs.Term.{Term, VarTerm, IntTerm, AtomTerm, Compound, Terms, end, more, count}
 use Rattle.au_term.specs.PrefixOrder.{cells_of}

@@ -8,7 +8,7 @@ use Rattle.au_model.specs.Syntax.Operators.{OperatorTable, prefix_of}
 use Rattle.au_model.specs.Syntax.PostOperators.{named_post_operator}
 use Rattle.au_model.specs.Syntax.Primaries as begun
 use Rattle.au_model.specs.Syntax.Primaries.{Setting, is_post_operator, is_some_operator, has_direct_open, has_direct_integer}
-use Rattle.au_model.specs.declared.double_quotes.DoubleQuotes.{DoubleQuotes}
+use Rattle.au_model.specs.declared.types.DoubleQuotes.{DoubleQuotes}
 use Rattle.op_table.specs.OperatorView.{operator_meant}
 use Rattle.term_reader.specs.FollowingToken.{IsPlaceAfterTokens}
 use Rattle.term_reader.specs.declared.primary.Source.{Source}
@@ -43,7 +43,7 @@ primary_meant s (kind.Call n end) = begun.Call n (tokens_at s end)
 primary_meant s (kind.Prefix n o end) = begun.Prefix n (operator_meant o) (tokens_at s end)
 primary_meant s kind.Fails = begun.Fails
 
--- the place behind it is one of the text, from this one on
+-- the place after it is one of the text, from this one on
 abbrev pub PrimaryEndsFrom : List ℕ → ℕ → Primary → Type 0
 PrimaryEndsFrom text at (kind.Leaf l end) = IsPlaceAfterTokens text at end
 PrimaryEndsFrom text at (kind.Alone n o end) = IsPlaceAfterTokens text at end

@@ -38,7 +38,7 @@ abbrev pub IsReadTo : Setting → List ℕ → ℕ → DeclaredReading → Type 
 IsReadTo s text at (Whole st end) = IsWholeTerm s text at st end
 IsReadTo s text at (Refused r) = NoTerm s (chars_from text at) × IsFirstFault s text at r
 
--- The term that is spelled, with its named variables, and the place behind its end; or nothing but layout is left. A
+-- The term that is spelled, with its named variables, and the place after its end; or nothing but layout is left. A
 -- text is refused only where more is left and no front of it is a term with its end, with the kind and the place of its
 -- fault, by line and column in the whole text.
 abbrev pub IsTermRead : Setting → List ℕ → ℕ → Result ReadOutcome ReadRefused → Type 0

@@ -23,7 +23,7 @@ use Rattle.term_reader.specs.declared.state.Frame.{Frame}
 use Rattle.term_reader.specs.declared.steps.Step.{Step}
 use Rattle.term_reader.specs.declared.steps.Step.TheVariants.{Continue}
 
--- a place further on, behind a token and maybe some more
+-- a place further on, after a token and maybe some more
 pub record IsPlaceAfterToken (text : List ℕ) (at end : ℕ) : Type 0 where
   pub place : IsPlaceFrom text (suc at) end
   pub first : Token
@@ -64,8 +64,8 @@ pub record IsOperandEmitted (old : State) (tree : Tree) (end : ℕ) (may_take_op
   pub at : new.at ≡ end
   pub step : t ≡ Continue (Some 0) may_take_operand
 
--- A frame was taken off, of a stack without operators on its top, behind an operand that does not go on with the
--- token that stands there.
+-- A frame was taken off, of a stack without operators on its top, after an operand that does not go on with the
+-- token that is there.
 pub record IsFrameClosing (source : Source) (st : State) (f : Frame) (k : List stack.OpenFrame) (l : Tree) (p : ℕ) (c : Closer) (end : ℕ) : Type 0 where
   pub shapes : map frame_meant (st.frames.items ++ f ∷ []) ≡ shapes_up k
   pub output : IsOutputOf st.output (emit_tree (emitted_stack k) l)

@@ -1,18 +1,18 @@
 -- Where no token goes on, and what is refused there.
-use Rattle.std.specs.Prelude.{◌≡◌, ◌^◌, ◌≤◌, ◌<◌, ◌&&◌, ◌||◌, not, ℕ, Bool, nat_le, false, List, [], ◌∷◌, ◌++◌, length, Option, Some, None, IsCharBoundary, if◌then◌else◌}
+use Rattle.std.specs.Prelude.{◌≡◌, ◌^◌, ◌≤◌, ◌<◌, ◌&&◌, ◌||◌, not, ℕ, Bool, nat_le, false, List, [], ◌∷◌, ◌++◌, length, map, Option, Some, None, IsCharBoundary, if◌then◌else◌}
 use Rattle.au_model.specs.Syntax.Characters.{chars_from}
 use Rattle.au_model.specs.Syntax.Tokens.{Lexeme, Name, QuotedName, Integer, Close, Comma, Token, token, scanned, ScannedTo, tokens_of}
 use Rattle.au_model.specs.Syntax.Operators.{OperatorTable, prefix_of}
 use Rattle.au_model.specs.Syntax.PostOperators.{PostOperator, named_post_operator, post_operator_fits, right_bound}
 use Rattle.au_model.specs.Syntax.Trees.{Tree}
 use Rattle.au_model.specs.Syntax.Primaries.{Setting, is_post_operator, is_some_operator}
-use Rattle.au_model.specs.declared.fault_kind.FaultKind.{FaultKind}
-use Rattle.au_model.specs.declared.fault_kind.FaultKind.TheVariants.{UnexpectedToken, WideNumeral, TooManyArguments}
+use Rattle.au_model.specs.declared.types.FaultKind.{FaultKind}
+use Rattle.au_model.specs.declared.types.FaultKind.TheVariants.{UnexpectedToken, WideNumeral, TooManyArguments}
 use Rattle.term_reader.specs.Completion.{OpenFrame, PrefixOf, InfixOf, CompletesOperand, CompletesAfter, bound_of}
-use Rattle.term_reader.specs.FrameShapes.{IsWithinBounds}
+use Rattle.term_reader.specs.FrameShapes.{IsWithinBounds, frame_meant, shapes_up}
 use Rattle.term_reader.specs.Positions.{ExpectsOperand, AfterOperand, HasReadTo}
 use Rattle.term_reader.specs.PrimaryView.{setting_of}
-use Rattle.term_reader.specs.LexemeView.{lexeme_meant, IsStart}
+use Rattle.term_reader.specs.LexemeView.{lexeme_meant, scan_meant, IsScan, IsStart}
 use Rattle.term_reader.specs.declared.lexeme.Scan.{Scan}
 use Rattle.term_reader.specs.declared.lexeme.Scan.TheVariants.{Found}
 use Rattle.term_reader.specs.ReaderSteps.{StartsPrimary, IsFrameClosing}
@@ -51,7 +51,7 @@ abbrev pub RefusesFirstFault : Setting → List ℕ → ℕ → Step → Type 0
 RefusesFirstFault s text start (RefusedTurn r) = IsFirstFault s text start r
 RefusesFirstFault s text start _ = Unit {0}
 
--- ---- behind an operand
+-- ---- after an operand
 
 -- an operator of this name
 abbrev pub is_named_post_operator : OperatorTable → Lexeme → Bool
@@ -70,8 +70,8 @@ pub record IsNotAccepted (source : Source) (start : ℕ) (k : List OpenFrame) (l
   pub refused : (more : List Token) (goal : Tree) → CompletesAfter (setting_of source) k (token apart lexeme ∷ more) l p goal → ⊥
   pub few : (us : List Token) (m : ℕ) (name : List ℕ) → IsOneTooMany (setting_of source) (read_to.read ++ token apart lexeme ∷ us) (length read_to.read) m name → ⊥
 
--- what is read at a place with this token is read in this stack, behind operators that were put over their operands;
--- and what this stack reads behind a bracket that closes is read at the place
+-- what is read at a place with this token is read in this stack, after operators that were put over their operands;
+-- and what this stack reads after a bracket that closes is read at the place
 pub record IsReadBelow (source : Source) (start at : ℕ) (may_take_operand : Bool) (t : Token) (k : List OpenFrame) (l : Tree) (p : ℕ) : Type 0 where
   pub stack : List OpenFrame
   pub tree : Tree
@@ -90,23 +90,23 @@ abbrev pub HasAllArguments : DeclaredFrame → Type 0
 HasAllArguments (frame.Argument name n place) = 65534 ≤ n
 HasAllArguments _ = ⊥
 
--- This is the fault where the token that stands behind the operand is not taken, and is no comma behind the last
+-- This is the fault where the token that is after the operand is not taken, and is no comma after the last
 -- argument that a compound may have. Where it is one, the compound's place is that of the fault.
 abbrev pub IsFaultAtFrame : (source : Source) → ℕ → (st : State) → (f : DeclaredFrame) → (k : List OpenFrame) → (l : Tree) → (p : ℕ) → (c : Closer) → (end : ℕ) → IsFrameClosing source st f k l p c end → Refused → Type 0
 IsFaultAtFrame source start st f k l p c end h r =
     ((more : List Token) (goal : Tree) → CompletesAfter (setting_of source) k (token h.apart h.lexeme ∷ more) l p goal → ⊥)
     → ((HasAllArguments f → h.lexeme ≡ Comma → ⊥) → IsFirstFault (setting_of source) source.text.now start r) × ((name : List ℕ) (n place : ℕ) → f ≡ frame.Argument name n place → 65534 ≤ n → h.lexeme ≡ Comma → IsFirstFault (setting_of source) source.text.now start (record { at = place; kind = TooManyArguments }))
 
--- ---- behind a prefix operator
+-- ---- after a prefix operator
 
--- the joint goes on behind an operand of this priority, maybe when operators were put over it
+-- the joint goes on after an operand of this priority, maybe when operators were put over it
 abbrev pub accepts : List OpenFrame → ℕ → PostOperator → Bool
 accepts [] p j = post_operator_fits 1200 p j
 accepts (PrefixOf n o ∷ k) p j = post_operator_fits (right_bound o) p j || accepts k o.priority j
 accepts (InfixOf n o l ∷ k) p j = post_operator_fits (right_bound o) p j || accepts k o.priority j
 accepts (f ∷ k) p j = post_operator_fits (bound_of (f ∷ k)) p j
 
--- an operator, and no prefix operator, that goes on behind an atom
+-- an operator, and no prefix operator, that goes on after an atom
 abbrev pub name_follows_atom : OperatorTable → List OpenFrame → List ℕ → Bool
 name_follows_atom ops k n = (is_post_operator (named_post_operator ops n) && not (is_some_operator (prefix_of ops n))) && accepts k 0 (named_post_operator ops n)
 
@@ -125,7 +125,25 @@ pub record IsPrefixAboveBound (source : Source) (start : ℕ) (k : List OpenFram
   pub starts : StartsPrimary source at (primary.Prefix name operator end)
   pub high : bound_of k < operator.priority
 
--- the place behind a token that joins an atom
+-- the place after a token that joins an atom
 abbrev pub follower_end : OperatorTable → List OpenFrame → Scan → Option ℕ
 follower_end ops k (Found t) = if lexeme_follows_atom ops k (lexeme_meant t.lexeme) then Some t.end else None
 follower_end ops k _ = None
+
+-- the first fault of the source's text from a place on
+abbrev pub IsFaultFrom : Source → ℕ → Refused → Type 0
+IsFaultFrom source start r = IsFirstFault (setting_of source) source.text.now start r
+
+-- what is open is this stack
+abbrev pub HasFrames : State → List OpenFrame → Type 0
+HasFrames st k = map frame_meant st.frames.items ≡ shapes_up k
+
+-- for each place and operand there that this token neither goes on nor ends
+abbrev pub WhereNotAccepted : Source → Bool → Lexeme → ℕ → ℕ → (ℕ → Type 0) → Type 0
+WhereNotAccepted source may_take_operand lexeme place end P =
+    (start : ℕ) (k : List OpenFrame) (l : Tree) (p at : ℕ) → IsNotAccepted source start k l p at may_take_operand lexeme place end → P start
+
+-- for each place at which this was scanned and no token goes on
+abbrev pub WhereStuck : List ℕ → Scan → (Setting → ℕ → Type 0) → Type 0
+WhereStuck text scan P =
+    (s : Setting) (start at : ℕ) → scan_meant text scan ≡ scanned (chars_from text at) → IsScan text at scan → IsStuck s text start at → P s start

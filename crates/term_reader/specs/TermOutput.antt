@@ -1,4 +1,4 @@
--- The cells of what was read, each compound's behind its arguments, and the variables.
+-- The cells of what was read, each compound's after its arguments, and the variables.
 use Rattle.std.specs.Prelude.{ℕ, zero, suc, pos, List, [], ◌∷◌, ◌++◌}
 use Rattle.std.specs.Str.{chars}
 use Rattle.std.specs.String.{string_bytes}
@@ -7,7 +7,7 @@ use Rattle.au_term.specs.declared.cell.Cell.TheVariants.{Var as VarCell, Int as 
 use Rattle.au_model.specs.Terms.Named.{NamedVariable}
 use Rattle.au_model.specs.Syntax.Trees.{Tree, VarTree, IntTree, AtomTree, CompoundTree, Trees, no_trees, more_trees, tree_count, list_name}
 use Rattle.au_model.specs.Syntax.VariableNumbers.{Variables, no_variables, numbered_name}
-use Rattle.au_model.specs.declared.var_name.VarName.{VarName}
+use Rattle.au_model.specs.declared.types.VarName.{VarName}
 
 pub record TermOutput : Type 0 where
   pub cells : List Cell
@@ -22,7 +22,7 @@ emit_cell s c = record { cells = s.cells ++ c ∷ []; variables = s.variables }
 abbrev pub emit_variable : TermOutput → List ℕ → TermOutput
 emit_variable s n = let r = numbered_name s.variables n in record { cells = s.cells ++ VarCell r.0 ∷ []; variables = r.1 }
 
--- a term behind the others
+-- a term after the others
 abbrev mutual
   pub emit_tree : TermOutput → Tree → TermOutput
   emit_tree s (VarTree n) = emit_variable s n

@@ -4,7 +4,7 @@ ghost use Rattle.au_model.specs.Syntax.Tokens.{Token};
 ghost use Rattle.au_model.specs.Syntax.Trees.{Tree};
 ghost use Rattle.au_model.specs.Syntax.Primaries.{Setting};
 ghost use Rattle.au_model.specs.Syntax.Spelling.{Operand};
-ghost use Rattle.au_model.specs.declared.fault_kind.FaultKind.{FaultKind};
+ghost use Rattle.au_model.specs.declared.types.FaultKind.{FaultKind};
 ghost use Rattle.au_model.specs.Syntax.TextFaults.{Fault, FaultAt};
 
 /// A list of tokens has at most one reading within a bound, whatever the operators are.

@@ -42,7 +42,7 @@ pub(crate) struct Placed {
     pub(crate) end: usize,
 }
 
-/// What stands at a place of a text, behind layout.
+/// What is at a place of a text, after layout.
 #[derive(Drop)]
 pub(crate) enum Scan {
     Found(Placed),
@@ -112,7 +112,7 @@ fn found_at(alloc: Global, text: &str, at: usize, token: Token) -> Result<Scan, 
     }
 }
 
-/// What stands at a place.
+/// What is at a place.
 pub(crate) fn scan_at(alloc: Global, text: &str, at: usize) -> Result<Scan, NoMemory>
     requires { IsCharBoundary text.now at }
     ensures scan { IfOk result (λ s. scan_meant text.now s ≡ scanned (chars_from text.now at)) }
@@ -131,7 +131,7 @@ pub(crate) fn is_minus(name: &str) -> bool
     is_text(name, "-")
 }
 
-/// What matters of a token that follows another, and the place behind it.
+/// What matters of a token that follows another, and the place after it.
 #[derive(Clone, Copy)]
 pub(crate) enum Follow {
     /// `(` without layout in front.

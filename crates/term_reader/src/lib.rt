@@ -1,15 +1,15 @@
 //! Reading terms.
 #![tactic(auto)]
 
-mod post_operator;
 pub mod laws;
 mod lexeme;
-mod primary;
 mod order;
+mod output;
 mod place;
+mod post_operator;
+mod primary;
 mod read;
 mod refusal;
-mod output;
 mod state;
 mod steps;
 mod variables;

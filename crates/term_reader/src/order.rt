@@ -1,4 +1,4 @@
-//! From cells behind their arguments to cells in front of them.
+//! From cells after their arguments to cells in front of them.
 ghost use Rattle.std.specs.Prelude.{◌≡◌, List, IfOk, OnOk};
 ghost use Rattle.au_term.specs.Term.{Term};
 ghost use Rattle.au_term.specs.PrefixOrder.{cells_of};
@@ -34,7 +34,7 @@ fn reduce_operators(waiting: &mut Vec<Pending>, out: &mut Vec<Cell>) -> Result<(
     Ok(())
 }
 
-/// The cells of a term in prefix order, from those in which each compound's cell stands behind its arguments.
+/// The cells of a term in prefix order, from those in which each compound's cell is after its arguments.
 pub(crate) fn prefix_order(alloc: Global, mut cells: Vec<Cell>) -> Result<Vec<Cell>, NoMemory>
     ensures { (t : Term) → cells.items ≡ postorder t → IfOk result (λ out. out.items ≡ cells_of t) }
 {

@@ -1,4 +1,4 @@
-//! The cells of what was read, each behind its arguments.
+//! The cells of what was read, each after its arguments.
 ghost use Rattle.std.specs.Prelude.{◌≡◌, ◌<◌, ◌≤◌, pos, [], ◌∷◌, IfOk, OnOk, length, map};
 ghost use Rattle.std.specs.Str.{chars};
 ghost use Rattle.au_term.specs.declared.cell.Cell.TheVariants.{Functor};
@@ -12,14 +12,14 @@ ghost use Rattle.term_reader.specs.TermOutput as sheets;
 ghost use Rattle.term_reader.specs.TermOutput.{no_cells, emit_cell, emit_chars, emit_codes, emit_lists, emit_tree};
 ghost use Rattle.au_model.specs.Terms.Named.{variable_meant};
 
-use crate::primary::Leaf;
 use crate::order::prefix_order;
+use crate::primary::Leaf;
 use crate::variables::Variables;
 use au_model::{DoubleQuotes, VarName};
 use au_term::{Atom, Cell, FlatTerm, NoMemory};
 use std::alloc::Global;
 
-/// The cells of the terms that were read, and their variables. A compound's cell stands behind its arguments.
+/// The cells of the terms that were read, and their variables. A compound's cell is after its arguments.
 #[derive(Drop)]
 pub(crate) struct TermOutput {
     cells: Vec<Cell>,
@@ -53,7 +53,7 @@ impl TermOutput {
         }
     }
 
-    /// Puts a cell behind the others.
+    /// Puts a cell after the others.
     fn emit(&mut self, cell: Cell) -> Result<(), NoMemory>
         requires { IsValidCell cell }
         ensures { (s : sheets.TermOutput) → IsOutputOf self.old s → OnOk result (IsOutputOf self.new (emit_cell s cell)) }

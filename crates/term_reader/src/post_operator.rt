@@ -1,7 +1,7 @@
-//! Operators behind an operand.
+//! Operators after an operand.
 ghost use Rattle.std.specs.Prelude.{◌≡◌, ℕ, List, IfOk};
 ghost use Rattle.std.specs.Str.{chars};
-ghost use Rattle.au_model.specs.Syntax.PostOperators.{post_operator_fits, left_bound, lexeme_post_operator, named_post_operator, right_bound};
+ghost use Rattle.au_model.specs.Syntax.PostOperators.{post_operator_fits, lexeme_post_operator, named_post_operator};
 ghost use Rattle.op_table.specs.OperatorView.{operator_meant};
 ghost use Rattle.term_reader.specs.LexemeView.{post_operator_meant, post_operator_name, lexeme_meant};
 
@@ -10,7 +10,7 @@ use au_term::{Atom, NoMemory};
 use op_table::{OpKind, Operator, Ops};
 use std::alloc::Global;
 
-/// What a token behind an operand joins it to.
+/// What a token after an operand joins it to.
 #[derive(Clone, Copy)]
 pub(crate) enum PostOperator {
     Infix(Operator),
@@ -18,27 +18,7 @@ pub(crate) enum PostOperator {
     Nothing,
 }
 
-/// The greatest priority of a left operand.
-pub(crate) fn left_bound(o: Operator) -> u16
-    ensures { result ≡ left_bound (operator_meant o) }
-{
-    match o.kind {
-        OpKind::Yfx | OpKind::Yf => o.priority,
-        _ => o.priority.saturating_sub(1),
-    }
-}
-
-/// The greatest priority of a right operand.
-pub(crate) fn right_bound(o: Operator) -> u16
-    ensures { result ≡ right_bound (operator_meant o) }
-{
-    match o.kind {
-        OpKind::Xfy | OpKind::Fy => o.priority,
-        _ => o.priority.saturating_sub(1),
-    }
-}
-
-/// The operator of a name behind an operand.
+/// The operator of a name after an operand.
 pub(crate) fn named_post_operator(ops: &Ops, name: &str) -> PostOperator
     ensures { post_operator_meant (chars name.now) result ≡ named_post_operator ops.now (chars name.now) }
 {
@@ -51,7 +31,7 @@ pub(crate) fn named_post_operator(ops: &Ops, name: &str) -> PostOperator
     }
 }
 
-/// The operator that a token is behind an operand.
+/// The operator that a token is after an operand.
 pub(crate) fn post_operator_of(ops: &Ops, lexeme: &Lexeme) -> PostOperator
     ensures { post_operator_meant (post_operator_name (lexeme_meant lexeme.now)) result ≡ lexeme_post_operator ops.now (lexeme_meant lexeme.now) }
 {
@@ -76,13 +56,13 @@ pub(crate) fn post_operator_name(alloc: Global, lexeme: Lexeme) -> Result<Atom, 
 }
 
 impl PostOperator {
-    /// Whether it goes on behind an operand of this priority, within this bound.
+    /// Whether it goes on after an operand of this priority, within this bound.
     pub(crate) fn fits(self, bound: u16, priority: u16) -> bool
         ensures { (n : List ℕ) → result ≡ post_operator_fits bound priority (post_operator_meant n self) }
     {
         match self {
             PostOperator::Infix(o) | PostOperator::Postfix(o) => {
-                o.priority <= bound && priority <= left_bound(o)
+                o.priority <= bound && priority <= o.left_bound()
             }
             PostOperator::Nothing => false,
         }

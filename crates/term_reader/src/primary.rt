@@ -9,8 +9,8 @@ ghost use Rattle.au_model.specs.Syntax.Primaries.{atom_primary, curly_primary, e
 ghost use Rattle.term_reader.specs.LexemeView.{lexeme_meant};
 ghost use Rattle.term_reader.specs.PrimaryView.{is_operator_between, primary_meant, setting_of, IsPrimaryOfName, IsPrimaryOfLexeme, IsPrimaryOfNoName, PrimaryEndsFrom};
 
-use crate::post_operator::{PostOperator, named_post_operator};
 use crate::lexeme::{Follow, Lexeme, Scan, follow_at, is_minus, scan_at};
+use crate::post_operator::{PostOperator, named_post_operator};
 use au_model::DoubleQuotes;
 use au_term::{Atom, NoMemory};
 use op_table::{Operator, Ops};
@@ -34,7 +34,7 @@ pub(crate) enum Leaf {
     Text(Atom),
 }
 
-/// What stands where an operand is expected, and the place behind it.
+/// What is where an operand is expected, and the place after it.
 #[derive(Drop)]
 pub(crate) enum Primary {
     Leaf(Leaf, usize),
@@ -70,7 +70,7 @@ pub(crate) fn is_post_operator_alone(ops: &Ops, name: &str) -> bool
     !matches!(named_post_operator(ops, name), PostOperator::Nothing) && ops.prefix(name).is_none()
 }
 
-/// Whether a name joins what stands in front of it to what stands at this place.
+/// Whether a name joins what is in front of it to what is at this place.
 fn joins(source: Source<'_>, name: &str, is_sign: bool, end: usize) -> Result<bool, NoMemory>
     requires { IsCharBoundary source.text.now end }
     ensures { IfOk result (λ b. b ≡ is_operator_between source.entry.ops.now (chars name.now) is_sign (tokens_of (chars_from source.entry.text.now end))) }

@@ -5,8 +5,8 @@ ghost use Rattle.au_model.specs.Syntax.TermTexts.{is_over};
 ghost use Rattle.term_reader.specs.PrimaryView.{setting_of};
 ghost use Rattle.term_reader.specs.ReadTerm.{IsTermRead, IsReadTo};
 
-use crate::primary::Source;
 use crate::place::line_and_column;
+use crate::primary::Source;
 use crate::refusal::Refused;
 use crate::state::State;
 use crate::steps::{Step, step_at};
@@ -16,10 +16,10 @@ use op_table::Ops;
 use std::alloc::Global;
 use token_scan::{TokenKind, next_token};
 
-/// What stands at the front of a text.
+/// What is at the front of a text.
 #[derive(Drop)]
 pub enum ReadOutcome {
-    /// A term with its end. Its named variables stand in the order of first occurrence.
+    /// A term with its end. Its named variables are in the order of first occurrence.
     Read {
         term: FlatTerm,
         names: Vec<VarName>,

@@ -8,10 +8,10 @@ ghost use Rattle.term_reader.specs.PrimaryView.{setting_of};
 ghost use Rattle.term_reader.specs.FrameShapes.{frame_meant, shapes_up};
 ghost use Rattle.term_reader.specs.LexemeView.{lexeme_meant, scan_meant, IsScan};
 ghost use Rattle.term_reader.specs.Completion as stack;
-ghost use Rattle.term_reader.specs.Refusals.{lexeme_follows_atom, is_named_post_operator, follower_end, unexpected_kind, IsFirstFault, IsPrefixAboveBound, IsNotAccepted, IsStuck};
+ghost use Rattle.term_reader.specs.Refusals.{HasFrames, WhereNotAccepted, WhereStuck, lexeme_follows_atom, is_named_post_operator, follower_end, unexpected_kind, IsFaultFrom, IsFirstFault, IsPrefixAboveBound, IsStuck};
 
-use crate::post_operator::{PostOperator, named_post_operator};
 use crate::lexeme::{Lexeme, Scan, scan_at};
+use crate::post_operator::{PostOperator, named_post_operator};
 use crate::primary::{Source, WIDEST, is_post_operator_alone};
 use crate::state::State;
 use au_model::FaultKind;
@@ -25,7 +25,7 @@ pub(crate) struct Refused {
     pub(crate) kind: FaultKind,
 }
 
-/// Why a token may not stand somewhere.
+/// Why a token may not be somewhere.
 fn unexpected_kind(lexeme: &Lexeme) -> FaultKind
     ensures { result ≡ unexpected_kind (lexeme_meant lexeme.now) }
 {
@@ -40,7 +40,7 @@ fn unexpected_kind(lexeme: &Lexeme) -> FaultKind
     }
 }
 
-/// A token that may not stand here.
+/// A token that may not be here.
 pub(crate) fn unexpected(lexeme: &Lexeme, start: usize) -> Refused
     ensures at { result.at ≡ start }
     ensures kind { result.kind ≡ unexpected_kind (lexeme_meant lexeme.now) }
@@ -51,9 +51,9 @@ pub(crate) fn unexpected(lexeme: &Lexeme, start: usize) -> Refused
     }
 }
 
-/// What may not stand here, or is faulty itself.
+/// What may not be here, or is faulty itself.
 pub(crate) fn refusal_of(text: &str, scan: &Scan) -> Refused
-    ensures { (s : Setting) (start at : ℕ) → scan_meant text.now scan.now ≡ scanned (chars_from text.now at) → IsScan text.now at scan.now → IsStuck s text.now start at → IsFirstFault s text.now start result }
+    ensures { WhereStuck text.now scan.now (λ s start. IsFirstFault s text.now start result) }
 {
     match scan {
         Scan::Found(found) => unexpected(&found.lexeme, found.start),
@@ -71,13 +71,13 @@ pub(crate) fn refusal_of(text: &str, scan: &Scan) -> Refused
 /// What is refused at a place.
 fn refusal_at(source: Source<'_>, at: usize) -> Result<Refused, NoMemory>
     requires { IsCharBoundary source.text.now at }
-    ensures { (start : ℕ) → IsStuck (setting_of source.entry) source.entry.text.now start at → IfOk result (λ r. IsFirstFault (setting_of source.entry) source.entry.text.now start r) }
+    ensures { (start : ℕ) → IsStuck (setting_of source.entry) source.entry.text.now start at → IfOk result (λ r. IsFaultFrom source.entry start r) }
 {
     let next = scan_at(source.alloc, source.text, at)?;
     Ok(refusal_of(source.text, &next))
 }
 
-/// What is refused behind a prefix operator that is above the bound. A name that could join it to what follows,
+/// What is refused after a prefix operator that is above the bound. A name that could join it to what follows,
 /// as an atom, is not refused itself.
 pub(crate) fn after_prefix(
     source: Source<'_>,
@@ -85,7 +85,7 @@ pub(crate) fn after_prefix(
     end: usize,
 ) -> Result<Refused, NoMemory>
     requires { IsCharBoundary source.text.now end }
-    ensures { (start at : ℕ) (k : List stack.OpenFrame) → map frame_meant state.now.frames.items ≡ shapes_up k → IsPrefixAboveBound source.entry start k at end → IfOk result (λ r. IsFirstFault (setting_of source.entry) source.entry.text.now start r) }
+    ensures { (start at : ℕ) (k : List stack.OpenFrame) → HasFrames state.now k → IsPrefixAboveBound source.entry start k at end → IfOk result (λ r. IsFaultFrom source.entry start r) }
 {
     let next = scan_at(source.alloc, source.text, end)?;
     if let Some(after) = joined_end(source, state, end, &next) {
@@ -94,7 +94,7 @@ pub(crate) fn after_prefix(
     Ok(refusal_of(source.text, &next))
 }
 
-/// The place behind a token that joins an atom.
+/// The place after a token that joins an atom.
 fn joined_end(source: Source<'_>, state: &State, at: usize, scan: &Scan) -> Option<usize>
     ensures place { IsScan source.entry.text.now at scan.now → IfSome result (λ end. IsCharBoundary source.entry.text.now end) }
     ensures end { (k : List stack.OpenFrame) → map frame_meant state.now.frames.items ≡ shapes_up k → result ≡ follower_end source.entry.ops.now k scan.now }
@@ -108,7 +108,7 @@ fn joined_end(source: Source<'_>, state: &State, at: usize, scan: &Scan) -> Opti
     None
 }
 
-/// Whether a token is an operator that goes on behind an atom here, and no prefix operator.
+/// Whether a token is an operator that goes on after an atom here, and no prefix operator.
 fn joins_atom(source: Source<'_>, state: &State, lexeme: &Lexeme) -> bool
     ensures { (k : List stack.OpenFrame) → map frame_meant state.now.frames.items ≡ shapes_up k → result ≡ lexeme_follows_atom source.entry.ops.now k (lexeme_meant lexeme.now) }
 {
@@ -121,7 +121,7 @@ fn joins_atom(source: Source<'_>, state: &State, lexeme: &Lexeme) -> bool
     }
 }
 
-/// Whether a token has the name of an operator that stands behind an operand.
+/// Whether a token has the name of an operator that is after an operand.
 fn is_named_post_operator(ops: &Ops, lexeme: &Lexeme) -> bool
     ensures { result ≡ is_named_post_operator ops.now (lexeme_meant lexeme.now) }
 {
@@ -140,7 +140,7 @@ fn is_refused_at_frame(ops: &Ops, may_take_operand: bool, lexeme: &Lexeme) -> bo
     may_take_operand && is_named_post_operator(ops, lexeme)
 }
 
-/// What is refused where no frame takes a token. Behind a prefix operator that stands for itself, and could have
+/// What is refused where no frame takes a token. After a prefix operator that stands for itself, and could have
 /// an operand that begins with this token, that is the next one.
 pub(crate) fn not_taken(
     source: Source<'_>,
@@ -150,7 +150,7 @@ pub(crate) fn not_taken(
     end: usize,
 ) -> Result<Refused, NoMemory>
     requires { IsCharBoundary source.text.now end }
-    ensures { (start : ℕ) (k : List stack.OpenFrame) (l : Tree) (p at : ℕ) → IsNotAccepted source.entry start k l p at may_take_operand (lexeme_meant lexeme.now) place end → IfOk result (λ r. IsFirstFault (setting_of source.entry) source.entry.text.now start r) }
+    ensures { WhereNotAccepted source.entry may_take_operand (lexeme_meant lexeme.now) place end (λ start. IfOk result (λ r. IsFaultFrom source.entry start r)) }
 {
     if is_refused_at_frame(source.ops, may_take_operand, lexeme) {
         return refusal_at(source, end);

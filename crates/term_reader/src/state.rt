@@ -1,22 +1,20 @@
 //! What is open, and what was read.
 ghost use Rattle.std.specs.Prelude.{◌≡◌, ◌≤◌, ℕ, List, [], IfOk, map, vec_len};
-ghost use Rattle.au_model.specs.Syntax.Primaries.{Setting};
-ghost use Rattle.au_model.specs.Syntax.Trees.{Tree};
 ghost use Rattle.term_reader.specs.LexemeView.{post_operator_meant};
 ghost use Rattle.term_reader.specs.FrameShapes.{frame_meant, shape_bound, shape_operator, shapes_up};
 ghost use Rattle.term_reader.specs.Completion as stack;
 ghost use Rattle.term_reader.specs.Completion.{bound_of};
-ghost use Rattle.term_reader.specs.Positions.{ExpectsOperand, IsAtPosition, AfterOperand};
-ghost use Rattle.term_reader.specs.OperatorReductions.{IsFewer, IsReduceOutcome, IsReducedBefore};
+ghost use Rattle.term_reader.specs.Positions.{ExpectsOperand, IsAtPosition};
+ghost use Rattle.term_reader.specs.OperatorReductions.{IsFewer, IsReduceOutcome, IsReducedBefore, WhereOperand};
 ghost use Rattle.term_reader.specs.Refusals.{accepts};
 
-use crate::post_operator::{PostOperator, right_bound};
 use crate::output::TermOutput;
+use crate::post_operator::PostOperator;
 use au_term::{Atom, NoMemory};
 use op_table::Operator;
 use std::alloc::Global;
 
-/// What is open. Items and arguments are counted without the one that stands or is due.
+/// What is open. Items and arguments are counted without the one that is or is due.
 #[derive(Drop)]
 pub(crate) enum Frame {
     Round,
@@ -37,11 +35,11 @@ pub(crate) struct State {
     pub(crate) output: TermOutput,
 }
 
-/// What becomes of an operator that waits for the operand that stands there.
+/// What becomes of an operator that waits for the operand that is there.
 #[derive(Clone, Copy)]
 enum Reduced {
-    /// It stands over its operand now, and has this priority.
-    Accept(u16),
+    /// It is over its operand now, and has this priority.
+    Applied(u16),
     /// The operand goes on.
     Fits,
     /// None waits, and the operand does not go on.
@@ -56,7 +54,7 @@ impl Frame {
         match self {
             Frame::Round | Frame::Curly => 1200,
             Frame::Item(_) | Frame::Tail(_) | Frame::Argument(_, _, _) => 999,
-            Frame::Prefix(_, operator) | Frame::Infix(_, operator) => right_bound(*operator),
+            Frame::Prefix(_, operator) | Frame::Infix(_, operator) => operator.right_bound(),
         }
     }
 
@@ -96,10 +94,14 @@ impl State {
     }
 
     /// Puts the operator that waits for the operand over it, where the operand ends in front of this.
-    fn reduce_top(&mut self, priority: u16, post_operator: PostOperator) -> Result<Reduced, NoMemory>
+    fn reduce_top(
+        &mut self,
+        priority: u16,
+        post_operator: PostOperator,
+    ) -> Result<Reduced, NoMemory>
         ensures at { self.new.at ≡ self.old.at }
         ensures fewer { IfOk result (λ p. IsFewer p (vec_len self.old.frames) (vec_len self.new.frames)) }
-        ensures plugged { (s : Setting) (k : List stack.OpenFrame) (l : Tree) (n : List ℕ) → IsAtPosition self.old (AfterOperand k l priority) → IfOk result (λ p. IsReduceOutcome s k l priority (post_operator_meant n post_operator) self.new p) }
+        ensures plugged { WhereOperand self.old priority (λ s k l n. IfOk result (λ p. IsReduceOutcome s k l priority (post_operator_meant n post_operator) self.new p)) }
     {
         if post_operator.fits(self.bound(), priority) {
             return Ok(Reduced::Fits);
@@ -107,11 +109,11 @@ impl State {
         match self.frames.pop() {
             Some(Frame::Prefix(name, operator)) => {
                 self.output.compound(name, 1)?;
-                Ok(Reduced::Accept(operator.priority))
+                Ok(Reduced::Applied(operator.priority))
             }
             Some(Frame::Infix(name, operator)) => {
                 self.output.compound(name, 2)?;
-                Ok(Reduced::Accept(operator.priority))
+                Ok(Reduced::Applied(operator.priority))
             }
             Some(other) => {
                 self.frames.push(other)?;
@@ -122,22 +124,26 @@ impl State {
     }
 
     /// Puts all operators over their operands that end in front of this. Answers the last one's priority, and
-    /// whether this goes on behind it.
-    pub(crate) fn reduce_operators(&mut self, priority: u16, post_operator: PostOperator) -> Result<(u16, bool), NoMemory>
+    /// whether this goes on after it.
+    pub(crate) fn reduce_operators(
+        &mut self,
+        priority: u16,
+        post_operator: PostOperator,
+    ) -> Result<(u16, bool), NoMemory>
         ensures at { self.new.at ≡ self.old.at }
-        ensures settled { (s : Setting) (k : List stack.OpenFrame) (l : Tree) (n : List ℕ) → IsAtPosition self.old (AfterOperand k l priority) → IfOk result (λ r. IsReducedBefore s k l priority (post_operator_meant n post_operator) self.new r.0 r.1) }
+        ensures settled { WhereOperand self.old priority (λ s k l n. IfOk result (λ r. IsReducedBefore s k l priority (post_operator_meant n post_operator) self.new r.0 r.1)) }
     {
         let mut last = priority;
         'operators: loop {
             match self.reduce_top(last, post_operator)? {
-                Reduced::Accept(next) => last = next,
+                Reduced::Applied(next) => last = next,
                 Reduced::Fits => return Ok((last, true)),
                 Reduced::Ends => return Ok((last, false)),
             }
         }
     }
 
-    /// Whether an operator goes on behind an atom.
+    /// Whether an operator goes on after an atom.
     pub(crate) fn takes(&self, post_operator: PostOperator) -> bool
         ensures { (k : List stack.OpenFrame) (n : List ℕ) → map frame_meant self.now.frames.items ≡ shapes_up k → result ≡ accepts k 0 (post_operator_meant n post_operator) }
     {

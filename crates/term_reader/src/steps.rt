@@ -1,22 +1,28 @@
 //! The steps of a reader.
+//!
+//! The reader goes through the tokens once, as a shift-reduce parser. What is open is a stack of frames, the innermost
+//! last: a round or curly bracket, an item or a tail of a list, an argument of a compound, an operator that waits for its
+//! right operand. Where an operand is expected, a token begins a primary: a whole operand is emitted, anything else is
+//! shifted as a frame. After an operand, a token is an infix or postfix operator, or it ends the operand. First the
+//! operators on top of the stack whose bounds end there are reduced: each takes its operands and becomes one. Then the
+//! operator is shifted, or the frame below is closed. Two tokens of look-ahead decide only whether a name is a compound's,
+//! a sign or a prefix operator with an operand. Terms are emitted after their arguments, and put into prefix order once,
+//! at the end.
 ghost use Rattle.std.specs.Prelude.{◌≡◌, ◌≤◌, ℕ, suc, Bool, false, List, IfOk, IsCharBoundary};
 ghost use Rattle.au_model.specs.Syntax.Characters.{chars_from};
 ghost use Rattle.au_model.specs.Syntax.Tokens.{scanned, token, ScannedTo, Token};
-ghost use Rattle.au_model.specs.Syntax.PostOperators.{post_operator_fits, lexeme_post_operator};
 ghost use Rattle.au_model.specs.Syntax.Trees.{Tree};
 ghost use Rattle.token_scan.specs.ScannedParts.{IsPlaceFrom};
-ghost use Rattle.term_reader.specs.PrimaryView.{leaf_tree, setting_of};
-ghost use Rattle.term_reader.specs.FrameShapes.{HasNoOperatorOnTop};
+ghost use Rattle.term_reader.specs.PrimaryView.{leaf_tree};
 ghost use Rattle.term_reader.specs.Lookahead.{Scans};
-ghost use Rattle.term_reader.specs.LexemeView.{lexeme_meant, IsStart};
-ghost use Rattle.term_reader.specs.Refusals.{IsFirstFault, IsFaultAtFrame, IsReadBelow, RefusesFirstFault, IsStuck};
-ghost use Rattle.term_reader.specs.Positions.{ExpectsOperand, AfterOperand, Position, IsAtPosition, HasReadTo, IsStepOutcome, MovesForward, priority_of_operand};
-ghost use Rattle.term_reader.specs.Completion as stack;
-ghost use Rattle.term_reader.specs.Completion.{bound_of};
+ghost use Rattle.term_reader.specs.LexemeView.{lexeme_meant};
+ghost use Rattle.term_reader.specs.Positions.{AfterOperand, Position, IsAtPosition, priority_of_operand};
+ghost use Rattle.term_reader.specs.Completion.{OpenFrame};
+ghost use Rattle.term_reader.specs.StepAnswers.{IsFaultIfStuck, IsTokenFound, MovesOn, RefusesWell, StartsAt, StepsFrom, WhereAfter, WhereClosing, WhereEnding, WhereExpecting, WhereFault, WhereReadAfter, WhereReadAt, WhereReadEnding, WhereReadExpecting};
 ghost use Rattle.term_reader.specs.ReaderSteps.{StartsPrimary, IsFrameClosing, IsFramePushed, IsOperandEmitted};
 
-use crate::post_operator::{PostOperator, post_operator_name, post_operator_of};
 use crate::lexeme::{Closer, Lexeme, Placed, Scan, closer_token, scan_at};
+use crate::post_operator::{PostOperator, post_operator_name, post_operator_of};
 use crate::primary::{Leaf, Primary, Source, primary_of};
 use crate::refusal::{Refused, after_prefix, not_taken, unexpected};
 use crate::state::{Frame, State};
@@ -26,10 +32,10 @@ use au_term::{Atom, NoMemory};
 /// Where a step leads.
 #[derive(Clone, Copy)]
 pub(crate) enum Step {
-    /// An operand of this priority stands there, or one is due. It may be a prefix operator that stands for itself
+    /// An operand of this priority is there, or one is due. It may be a prefix operator that stands for itself
     /// and could have an operand.
     Continue(Option<u16>, bool),
-    /// The end stands there, in front of this place.
+    /// The end is there, in front of this place.
     Accept(usize),
     Refused(Refused),
 }
@@ -83,9 +89,9 @@ fn start_primary(
     fault: Refused,
 ) -> Result<Step, NoMemory>
     requires { StartsPrimary source state.old.at primary }
-    ensures moves { IfOk result (λ t. MovesForward source.entry.text.now state.old.at state.new t) }
-    ensures outcome { (k : List stack.OpenFrame) → IsAtPosition state.old (ExpectsOperand k) → IsStart source.entry.text.now state.old.at start → IfOk result (λ t. IsStepOutcome (setting_of source.entry) source.entry.text.now (ExpectsOperand k) state.old.at state.new t) }
-    ensures fault { (first : ℕ) (may_take_operand : Bool) (k : List stack.OpenFrame) → IsAtPosition state.old (ExpectsOperand k) → HasReadTo (setting_of source.entry) source.entry.text.now first (ExpectsOperand k) state.old.at may_take_operand → (IsStuck (setting_of source.entry) source.entry.text.now first state.old.at → IsFirstFault (setting_of source.entry) source.entry.text.now first fault) → IfOk result (λ t. RefusesFirstFault (setting_of source.entry) source.entry.text.now first t) }
+    ensures moves { IfOk result (λ t. MovesOn source.entry state.old state.new t) }
+    ensures outcome { WhereExpecting state.old (λ x. StartsAt source.entry state.old start → IfOk result (λ t. StepsFrom source.entry state.old x state.new t)) }
+    ensures fault { WhereReadExpecting source.entry state.old (λ first. IsFaultIfStuck source.entry state.old first fault → IfOk result (λ t. RefusesWell source.entry first t)) }
 {
     match primary {
         Primary::Leaf(leaf, end) => emit(source, state, leaf, end, false),
@@ -110,9 +116,9 @@ fn start_primary(
 /// Reads the token with which an operand begins.
 fn operand(source: Source<'_>, state: &mut State) -> Result<Step, NoMemory>
     requires { IsCharBoundary source.text.now state.old.at }
-    ensures moves { IfOk result (λ t. MovesForward source.entry.text.now state.old.at state.new t) }
-    ensures outcome { (k : List stack.OpenFrame) → IsAtPosition state.old (ExpectsOperand k) → IfOk result (λ t. IsStepOutcome (setting_of source.entry) source.entry.text.now (ExpectsOperand k) state.old.at state.new t) }
-    ensures fault { (first : ℕ) (may_take_operand : Bool) (k : List stack.OpenFrame) → IsAtPosition state.old (ExpectsOperand k) → HasReadTo (setting_of source.entry) source.entry.text.now first (ExpectsOperand k) state.old.at may_take_operand → IfOk result (λ t. RefusesFirstFault (setting_of source.entry) source.entry.text.now first t) }
+    ensures moves { IfOk result (λ t. MovesOn source.entry state.old state.new t) }
+    ensures outcome { WhereExpecting state.old (λ x. IfOk result (λ t. StepsFrom source.entry state.old x state.new t)) }
+    ensures fault { WhereReadExpecting source.entry state.old (λ first. IfOk result (λ t. RefusesWell source.entry first t)) }
 {
     let next = scan_at(source.alloc, source.text, state.at)?;
     match next {
@@ -138,7 +144,7 @@ fn operand(source: Source<'_>, state: &mut State) -> Result<Step, NoMemory>
     }
 }
 
-/// Reads what stands behind an operand of this priority.
+/// Reads what is after an operand of this priority.
 fn after_operand(
     source: Source<'_>,
     state: &mut State,
@@ -146,9 +152,9 @@ fn after_operand(
     may_take_operand: bool,
 ) -> Result<Step, NoMemory>
     requires { IsCharBoundary source.text.now state.old.at }
-    ensures moves { IfOk result (λ t. MovesForward source.entry.text.now state.old.at state.new t) }
-    ensures outcome { (k : List stack.OpenFrame) (l : Tree) → IsAtPosition state.old (AfterOperand k l priority) → IfOk result (λ t. IsStepOutcome (setting_of source.entry) source.entry.text.now (AfterOperand k l priority) state.old.at state.new t) }
-    ensures fault { (first : ℕ) (k : List stack.OpenFrame) (l : Tree) → IsAtPosition state.old (AfterOperand k l priority) → HasReadTo (setting_of source.entry) source.entry.text.now first (AfterOperand k l priority) state.old.at may_take_operand → IfOk result (λ t. RefusesFirstFault (setting_of source.entry) source.entry.text.now first t) }
+    ensures moves { IfOk result (λ t. MovesOn source.entry state.old state.new t) }
+    ensures outcome { WhereAfter state.old priority (λ x. IfOk result (λ t. StepsFrom source.entry state.old x state.new t)) }
+    ensures fault { WhereReadAfter source.entry state.old priority may_take_operand (λ first. IfOk result (λ t. RefusesWell source.entry first t)) }
 {
     let next = scan_at(source.alloc, source.text, state.at)?;
     match next {
@@ -164,7 +170,7 @@ fn after_operand(
     }
 }
 
-/// Reads a token behind an operand of this priority.
+/// Reads a token after an operand of this priority.
 fn with_token(
     source: Source<'_>,
     state: &mut State,
@@ -172,11 +178,11 @@ fn with_token(
     priority: u16,
     may_take_operand: bool,
 ) -> Result<Step, NoMemory>
-    requires next { scanned (chars_from source.text.now state.old.at) ≡ ScannedTo (token found.apart (lexeme_meant found.lexeme)) (chars_from source.text.now found.end) }
+    requires next { IsTokenFound source state.old found }
     requires place { IsPlaceFrom source.text.now (suc state.old.at) found.end }
-    ensures moves { IfOk result (λ t. MovesForward source.entry.text.now state.old.at state.new t) }
-    ensures outcome { (k : List stack.OpenFrame) (l : Tree) → IsAtPosition state.old (AfterOperand k l priority) → IfOk result (λ t. IsStepOutcome (setting_of source.entry) source.entry.text.now (AfterOperand k l priority) state.old.at state.new t) }
-    ensures fault { (first : ℕ) (k : List stack.OpenFrame) (l : Tree) → IsAtPosition state.old (AfterOperand k l priority) → HasReadTo (setting_of source.entry) source.entry.text.now first (AfterOperand k l priority) state.old.at may_take_operand → IsStart source.entry.text.now state.old.at found.start → IfOk result (λ t. RefusesFirstFault (setting_of source.entry) source.entry.text.now first t) }
+    ensures moves { IfOk result (λ t. MovesOn source.entry state.old state.new t) }
+    ensures outcome { WhereAfter state.old priority (λ x. IfOk result (λ t. StepsFrom source.entry state.old x state.new t)) }
+    ensures fault { WhereReadAfter source.entry state.old priority may_take_operand (λ first. StartsAt source.entry state.old found.start → IfOk result (λ t. RefusesWell source.entry first t)) }
 {
     let post_operator = post_operator_of(source.ops, &found.lexeme);
     let (last, fits) = state.reduce_operators(priority, post_operator)?;
@@ -207,14 +213,20 @@ fn close(
     found: Placed,
     may_take_operand: bool,
 ) -> Result<Step, NoMemory>
-    requires next { scanned (chars_from source.text.now state.old.at) ≡ ScannedTo (token found.apart (lexeme_meant found.lexeme)) (chars_from source.text.now found.end) }
+    requires next { IsTokenFound source state.old found }
     requires place { IsPlaceFrom source.text.now (suc state.old.at) found.end }
-    ensures moves { IfOk result (λ t. MovesForward source.entry.text.now state.old.at state.new t) }
-    ensures outcome { (k : List stack.OpenFrame) (l : Tree) (p : ℕ) → IsAtPosition state.old (AfterOperand k l p) → HasNoOperatorOnTop k → post_operator_fits (bound_of k) p (lexeme_post_operator source.entry.ops.now (lexeme_meant found.lexeme)) ≡ false → IfOk result (λ t. IsStepOutcome (setting_of source.entry) source.entry.text.now (AfterOperand k l p) state.old.at state.new t) }
-    ensures fault { (first : ℕ) (k : List stack.OpenFrame) (l : Tree) (p : ℕ) → IsAtPosition state.old (AfterOperand k l p) → HasNoOperatorOnTop k → post_operator_fits (bound_of k) p (lexeme_post_operator source.entry.ops.now (lexeme_meant found.lexeme)) ≡ false → IsReadBelow source.entry first state.old.at may_take_operand (token found.apart (lexeme_meant found.lexeme)) k l p → IsStart source.entry.text.now state.old.at found.start → IfOk result (λ t. RefusesFirstFault (setting_of source.entry) source.entry.text.now first t) }
+    ensures moves { IfOk result (λ t. MovesOn source.entry state.old state.new t) }
+    ensures outcome { WhereEnding source.entry state.old found (λ k l p. IfOk result (λ t. StepsFrom source.entry state.old (AfterOperand k l p) state.new t)) }
+    ensures fault { WhereReadEnding source.entry state.old may_take_operand found (λ first. StartsAt source.entry state.old found.start → IfOk result (λ t. RefusesWell source.entry first t)) }
 {
     let token = closer_token(&found.lexeme);
-    let refused = not_taken(source, may_take_operand, &found.lexeme, found.start, found.end)?;
+    let refused = not_taken(
+        source,
+        may_take_operand,
+        &found.lexeme,
+        found.start,
+        found.end,
+    )?;
     match state.frames.pop() {
         None => match token {
             Closer::End => Ok(Step::Accept(found.end)),
@@ -224,7 +236,7 @@ fn close(
     }
 }
 
-/// What a token means behind the operand in a frame that was open.
+/// What a token means after the operand in a frame that was open.
 fn close_frame(
     source: Source<'_>,
     state: &mut State,
@@ -233,9 +245,9 @@ fn close_frame(
     end: usize,
     refused: Refused,
 ) -> Result<Step, NoMemory>
-    ensures moves { IsPlaceFrom source.entry.text.now (suc state.old.at) end → IfOk result (λ t. MovesForward source.entry.text.now state.old.at state.new t) }
-    ensures outcome { (k : List stack.OpenFrame) (l : Tree) (p : ℕ) → IsFrameClosing source.entry state.old frame k l p token end → IfOk result (λ t. IsStepOutcome (setting_of source.entry) source.entry.text.now (AfterOperand k l p) state.old.at state.new t) }
-    ensures fault { (first : ℕ) (k : List stack.OpenFrame) (l : Tree) (p : ℕ) (h : IsFrameClosing source.entry state.old (frame) k l p token end) → IsFaultAtFrame source.entry first state.old (frame) k l p token end h refused → IfOk result (λ t. RefusesFirstFault (setting_of source.entry) source.entry.text.now first t) }
+    ensures moves { IsPlaceFrom source.entry.text.now (suc state.old.at) end → IfOk result (λ t. MovesOn source.entry state.old state.new t) }
+    ensures outcome { WhereClosing source.entry state.old frame token end (λ k l p. IfOk result (λ t. StepsFrom source.entry state.old (AfterOperand k l p) state.new t)) }
+    ensures fault { WhereFault source.entry state.old (frame) token end refused (λ first. IfOk result (λ t. RefusesWell source.entry first t)) }
 {
     match frame {
         Frame::Round => Ok(close_round(source, state, token, end, refused)),
@@ -258,9 +270,9 @@ fn close_round(
     end: usize,
     refused: Refused,
 ) -> Step
-    ensures moves { IsPlaceFrom source.entry.text.now (suc state.old.at) end → MovesForward source.entry.text.now state.old.at state.new result }
-    ensures outcome { (k : List stack.OpenFrame) (l : Tree) (p : ℕ) → IsFrameClosing source.entry state.old Frame.Round k l p token end → IsStepOutcome (setting_of source.entry) source.entry.text.now (AfterOperand k l p) state.old.at state.new result }
-    ensures fault { (first : ℕ) (k : List stack.OpenFrame) (l : Tree) (p : ℕ) (h : IsFrameClosing source.entry state.old (Frame.Round) k l p token end) → IsFaultAtFrame source.entry first state.old (Frame.Round) k l p token end h refused → RefusesFirstFault (setting_of source.entry) source.entry.text.now first result }
+    ensures moves { IsPlaceFrom source.entry.text.now (suc state.old.at) end → MovesOn source.entry state.old state.new result }
+    ensures outcome { WhereClosing source.entry state.old Frame.Round token end (λ k l p. StepsFrom source.entry state.old (AfterOperand k l p) state.new result) }
+    ensures fault { WhereFault source.entry state.old (Frame.Round) token end refused (λ first. RefusesWell source.entry first result) }
 {
     match token {
         Closer::Close => {
@@ -279,9 +291,9 @@ fn close_curly(
     end: usize,
     refused: Refused,
 ) -> Result<Step, NoMemory>
-    ensures moves { IsPlaceFrom source.entry.text.now (suc state.old.at) end → IfOk result (λ t. MovesForward source.entry.text.now state.old.at state.new t) }
-    ensures outcome { (k : List stack.OpenFrame) (l : Tree) (p : ℕ) → IsFrameClosing source.entry state.old Frame.Curly k l p token end → IfOk result (λ t. IsStepOutcome (setting_of source.entry) source.entry.text.now (AfterOperand k l p) state.old.at state.new t) }
-    ensures fault { (first : ℕ) (k : List stack.OpenFrame) (l : Tree) (p : ℕ) (h : IsFrameClosing source.entry state.old (Frame.Curly) k l p token end) → IsFaultAtFrame source.entry first state.old (Frame.Curly) k l p token end h refused → IfOk result (λ t. RefusesFirstFault (setting_of source.entry) source.entry.text.now first t) }
+    ensures moves { IsPlaceFrom source.entry.text.now (suc state.old.at) end → IfOk result (λ t. MovesOn source.entry state.old state.new t) }
+    ensures outcome { WhereClosing source.entry state.old Frame.Curly token end (λ k l p. IfOk result (λ t. StepsFrom source.entry state.old (AfterOperand k l p) state.new t)) }
+    ensures fault { WhereFault source.entry state.old (Frame.Curly) token end refused (λ first. IfOk result (λ t. RefusesWell source.entry first t)) }
 {
     match token {
         Closer::CloseCurly => {
@@ -294,7 +306,7 @@ fn close_curly(
     }
 }
 
-/// In a list, behind so many other items.
+/// In a list, after so many other items.
 fn close_item(
     source: Source<'_>,
     state: &mut State,
@@ -303,9 +315,9 @@ fn close_item(
     end: usize,
     refused: Refused,
 ) -> Result<Step, NoMemory>
-    ensures moves { IsPlaceFrom source.entry.text.now (suc state.old.at) end → IfOk result (λ t. MovesForward source.entry.text.now state.old.at state.new t) }
-    ensures outcome { (k : List stack.OpenFrame) (l : Tree) (p : ℕ) → IsFrameClosing source.entry state.old (Frame.Item before) k l p token end → IfOk result (λ t. IsStepOutcome (setting_of source.entry) source.entry.text.now (AfterOperand k l p) state.old.at state.new t) }
-    ensures fault { (first : ℕ) (k : List stack.OpenFrame) (l : Tree) (p : ℕ) (h : IsFrameClosing source.entry state.old (Frame.Item before) k l p token end) → IsFaultAtFrame source.entry first state.old (Frame.Item before) k l p token end h refused → IfOk result (λ t. RefusesFirstFault (setting_of source.entry) source.entry.text.now first t) }
+    ensures moves { IsPlaceFrom source.entry.text.now (suc state.old.at) end → IfOk result (λ t. MovesOn source.entry state.old state.new t) }
+    ensures outcome { WhereClosing source.entry state.old (Frame.Item before) token end (λ k l p. IfOk result (λ t. StepsFrom source.entry state.old (AfterOperand k l p) state.new t)) }
+    ensures fault { WhereFault source.entry state.old (Frame.Item before) token end refused (λ first. IfOk result (λ t. RefusesWell source.entry first t)) }
 {
     // A list of more than 2^64 items fits no memory.
     if before == usize::MAX {
@@ -333,9 +345,9 @@ fn close_tail(
     end: usize,
     refused: Refused,
 ) -> Result<Step, NoMemory>
-    ensures moves { IsPlaceFrom source.entry.text.now (suc state.old.at) end → IfOk result (λ t. MovesForward source.entry.text.now state.old.at state.new t) }
-    ensures outcome { (k : List stack.OpenFrame) (l : Tree) (p : ℕ) → IsFrameClosing source.entry state.old (Frame.Tail items) k l p token end → IfOk result (λ t. IsStepOutcome (setting_of source.entry) source.entry.text.now (AfterOperand k l p) state.old.at state.new t) }
-    ensures fault { (first : ℕ) (k : List stack.OpenFrame) (l : Tree) (p : ℕ) (h : IsFrameClosing source.entry state.old (Frame.Tail items) k l p token end) → IsFaultAtFrame source.entry first state.old (Frame.Tail items) k l p token end h refused → IfOk result (λ t. RefusesFirstFault (setting_of source.entry) source.entry.text.now first t) }
+    ensures moves { IsPlaceFrom source.entry.text.now (suc state.old.at) end → IfOk result (λ t. MovesOn source.entry state.old state.new t) }
+    ensures outcome { WhereClosing source.entry state.old (Frame.Tail items) token end (λ k l p. IfOk result (λ t. StepsFrom source.entry state.old (AfterOperand k l p) state.new t)) }
+    ensures fault { WhereFault source.entry state.old (Frame.Tail items) token end refused (λ first. IfOk result (λ t. RefusesWell source.entry first t)) }
 {
     match token {
         Closer::CloseList => {
@@ -347,7 +359,7 @@ fn close_tail(
     }
 }
 
-/// In a compound, behind so many other arguments. It has at most 65,535.
+/// In a compound, after so many other arguments. It has at most 65,535.
 fn close_argument(
     source: Source<'_>,
     state: &mut State,
@@ -358,9 +370,9 @@ fn close_argument(
     end: usize,
     refused: Refused,
 ) -> Result<Step, NoMemory>
-    ensures moves { IsPlaceFrom source.entry.text.now (suc state.old.at) end → IfOk result (λ t. MovesForward source.entry.text.now state.old.at state.new t) }
-    ensures outcome { (k : List stack.OpenFrame) (l : Tree) (p : ℕ) → IsFrameClosing source.entry state.old (Frame.Argument name before place) k l p token end → IfOk result (λ t. IsStepOutcome (setting_of source.entry) source.entry.text.now (AfterOperand k l p) state.old.at state.new t) }
-    ensures fault { (first : ℕ) (k : List stack.OpenFrame) (l : Tree) (p : ℕ) (h : IsFrameClosing source.entry state.old (Frame.Argument name before place) k l p token end) → IsFaultAtFrame source.entry first state.old (Frame.Argument name before place) k l p token end h refused → IfOk result (λ t. RefusesFirstFault (setting_of source.entry) source.entry.text.now first t) }
+    ensures moves { IsPlaceFrom source.entry.text.now (suc state.old.at) end → IfOk result (λ t. MovesOn source.entry state.old state.new t) }
+    ensures outcome { WhereClosing source.entry state.old (Frame.Argument name before place) token end (λ k l p. IfOk result (λ t. StepsFrom source.entry state.old (AfterOperand k l p) state.new t)) }
+    ensures fault { WhereFault source.entry state.old (Frame.Argument name before place) token end refused (λ first. IfOk result (λ t. RefusesWell source.entry first t)) }
 {
     match token {
         Closer::Comma => {
@@ -384,7 +396,7 @@ fn close_argument(
     }
 }
 
-/// Reads what stands at the place of the state.
+/// Reads what is at the place of the state.
 pub(crate) fn step_at(
     source: Source<'_>,
     state: &mut State,
@@ -392,9 +404,9 @@ pub(crate) fn step_at(
     may_take_operand: bool,
 ) -> Result<Step, NoMemory>
     requires { IsCharBoundary source.text.now state.old.at }
-    ensures moves { IfOk result (λ t. MovesForward source.entry.text.now state.old.at state.new t) }
-    ensures outcome { (x : Position) → IsAtPosition state.old x → phase ≡ priority_of_operand x → IfOk result (λ t. IsStepOutcome (setting_of source.entry) source.entry.text.now x state.old.at state.new t) }
-    ensures fault { (first : ℕ) (x : Position) → IsAtPosition state.old x → phase ≡ priority_of_operand x → HasReadTo (setting_of source.entry) source.entry.text.now first x state.old.at may_take_operand → IfOk result (λ t. RefusesFirstFault (setting_of source.entry) source.entry.text.now first t) }
+    ensures moves { IfOk result (λ t. MovesOn source.entry state.old state.new t) }
+    ensures outcome { (x : Position) → IsAtPosition state.old x → phase ≡ priority_of_operand x → IfOk result (λ t. StepsFrom source.entry state.old x state.new t) }
+    ensures fault { WhereReadAt source.entry state.old phase may_take_operand (λ first. IfOk result (λ t. RefusesWell source.entry first t)) }
 {
     match phase {
         None => operand(source, state),

@@ -7,7 +7,7 @@ use std::alloc::Global;
 use std::process::Abort;
 use std::test::Fail;
 
-/// A text, the place from which it is read, its term in functional notation, and the place behind it.
+/// A text, the place from which it is read, its term in functional notation, and the place after it.
 type Case = (&'static str, usize, &'static str, usize);
 
 /// A text, the place from which it is read, and the line, column and kind of its fault.
@@ -225,7 +225,7 @@ fn end_of_text(rt: HostRuntime) -> Result<(), Fail> {
     Ok(())
 }
 
-/// The refusal of a text that begins so and goes on with 65,535 atoms, a comma behind each.
+/// The refusal of a text that begins so and goes on with 65,535 atoms, a comma after each.
 fn refusal_of_many(
     rt: &impl Abort,
     alloc: Global,
@@ -242,7 +242,7 @@ fn refusal_of_many(
 
 #[test]
 fn too_many_arguments(rt: HostRuntime) -> Result<(), Fail> {
-    // Round brackets behind an operator hold one term, however many commas it has.
+    // Round brackets after an operator hold one term, however many commas it has.
     let cases = [
         ("g- f(", 4, FaultKind::TooManyArguments),
         ("h(b,'f'(", 5, FaultKind::TooManyArguments),

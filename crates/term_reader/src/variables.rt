@@ -3,7 +3,7 @@ ghost use Rattle.std.specs.Prelude.{◌≡◌, ◌-◌, ◌<◌, ◌^◌, IfOk, 
 ghost use Rattle.std.specs.Str.{chars};
 ghost use Rattle.au_model.specs.Syntax.VariableNumbers as numbers;
 ghost use Rattle.au_model.specs.Syntax.VariableNumbers.{is_anonymous, no_variables};
-ghost use Rattle.term_reader.specs.OutputView.{IsVariableNumbered, IsVariablesOf};
+ghost use Rattle.term_reader.specs.OutputView.{IsNewVariable, IsVariableNumbered, IsVariablesOf};
 ghost use Rattle.au_model.specs.Terms.Named.{variable_meant};
 ghost use Rattle.std.specs.Prelude.{List, map};
 
@@ -54,7 +54,7 @@ impl Variables {
 
     /// A new number for a name.
     fn add(&mut self, alloc: Global, name: Atom) -> Result<VarNo, NoMemory>
-        ensures { (vs : numbers.Variables) → IsVariablesOf self.old vs → numbers.number_of vs.named name ≡ None → IfOk result (λ k. (k ≡ vs.next) × (k < 2 ^ 64 - 1) × IsVariablesOf self.new (numbers.new_name vs name)) }
+        ensures { (vs : numbers.Variables) → IsVariablesOf self.old vs → numbers.number_of vs.named name ≡ None → IfOk result (λ k. IsNewVariable self.new vs name k) }
     {
         let number = self.draw()?;
         let text = String::from_str(alloc, name.text())?;

@@ -5,7 +5,7 @@ use Rattle.au_term.specs.Term.{Term}
 use Rattle.au_model.specs.Terms.Named.{NamedTerm}
 use Rattle.au_model.specs.Writing.Lines.{shown_binding, further_bindings}
 use Rattle.au_model.specs.Syntax.Operators.{OperatorTable}
-use Rattle.au_model.specs.declared.var_name.VarName.{VarName}
+use Rattle.au_model.specs.declared.types.VarName.{VarName}
 use Rattle.term_writer.specs.AnswerParts.{named_term, named_terms, separator, line_end, line_from}
 
 pub binding_text : (old n m e f one two : List ℕ) → n ≡ m → one ≡ old ++ n → two ≡ one ++ e → two ++ f ≡ old ++ ((m ++ e) ++ f)

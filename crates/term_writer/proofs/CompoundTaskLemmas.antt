@@ -15,7 +15,7 @@ count_appended : (ts us : Terms) → count ts ≤ count (append_terms ts us)
 count_appended end us = omega arith
 count_appended (more t ts) us = omega (arith, count_appended ts us)
 
--- behind the first cell of a compound stand its arguments
+-- after the first cell of a compound are its arguments
 record Inside (ts : Terms) (cs : List Cell) : Type 0 where
   pub taken : take_terms (count ts) (terms_of cs) ≡ ts
   pub enough : count ts ≤ count (terms_of cs)
@@ -36,7 +36,7 @@ inside_term (IntTerm z) rest lt = absurd (omega arith)
 inside_term (AtomTerm a) rest lt = absurd (omega arith)
 inside_term (Compound f ts) rest lt = inside_all ts rest lt
 
--- the place behind the first cell of a compound
+-- the place after the first cell of a compound
 pub record Firsts (t u : Term) (first : ℕ) : Type 0 where
   pub place : first < length (cells_of t)
   pub taken : take_terms (count (arguments u)) (terms_at t first) ≡ arguments u

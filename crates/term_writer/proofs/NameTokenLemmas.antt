@@ -2,7 +2,7 @@
 use Rattle.std.proofs.Common.{◌≡◌, ℕ, true, false, List, refl, ◌∙◌}
 use Rattle.std.specs.Str.{chars, IsUtf8}
 use Rattle.std.proofs.lemmas.Str.{encodes-chars}
-use Rattle.au_model.specs.declared.style.Style.{Style}
+use Rattle.au_model.specs.declared.types.Style.{Style}
 use Rattle.au_model.specs.Syntax.Tokens.{Name}
 use Rattle.au_model.specs.Writing.NameForms.{is_symbol_name, is_letter_name, is_solo_name}
 use Rattle.au_model.specs.Writing.WrittenTerms.{name_token, token_text}

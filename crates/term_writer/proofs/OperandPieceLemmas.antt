@@ -10,9 +10,11 @@ use Rattle.au_model.specs.Syntax.Spelling.{Spelled, form, Operand, operand, brac
 use Rattle.au_model.specs.Writing.Pieces.{Piece, Put, InFront, joined_pieces}
 use Rattle.au_model.specs.Writing.OperatorForms.{Notation, CompoundForm, InfixForm, PrefixForm, form_of_term, form_priority, takes_equal_last, is_operator_atom, is_above, is_enclosed, is_enclosed_left}
 use Rattle.au_model.specs.Writing.WrittenTerms.{notation_of, enclosed, pieces, tail_pieces}
-use Rattle.au_model.specs.declared.style.Style.TheVariants.{Quoted}
+use Rattle.au_model.specs.declared.types.Style.TheVariants.{Quoted}
 use Rattle.au_model.specs.Writing.ReadBack.{tree_of}
 use Rattle.term_writer.proofs.PieceSeamLemmas.{after_token, Follows, lower, follows-stops, closes_round}
+use Rattle.au_term.proofs.LogicLemmas.{or-left, or-right}
+use Rattle.au_model.proofs.PostOperatorLemmas.{bound_le}
 
 abbrev pub notated : OperatorTable → Notation
 notated ops = notation_of Quoted ops
@@ -28,10 +30,6 @@ priority ops t = form_priority (form_of_term (notated ops) t)
 
 abbrev pub edge : OperatorTable → Term → ℕ
 edge ops t = form_edge (form_of_term (notated ops) t)
-
-bound_le : (b : Bool) (n : ℕ) → (if b then n else n - 1) ≤ n
-bound_le true n = omega arith
-bound_le false n = omega arith
 
 shape_edge-le : (sh : CompoundForm) → form_edge sh ≤ form_priority sh
 shape_edge-le (InfixForm o) = bound_le (takes_equal_right o.kind) o.priority
@@ -92,14 +90,6 @@ pub record Tails (s : Setting) (t : Term) : Type 0 where
 pub gt-false : (m n : ℕ) → nat_lt m n ≡ false → n ≤ m
 gt-false m n h = grind (arith, h)
 
-pub or-left : (x y : Bool) → (x || y) ≡ false → x ≡ false
-or-left false y h = refl
-or-left true y h = h
-
-pub or-right : (x y : Bool) → (x || y) ≡ false → y ≡ false
-or-right false y h = h
-or-right true y h = let f : ⊥ = cc in absurd f
-
 pub false-true : {x : Bool} {A : Type 0} → x ≡ false → x ≡ true → A
 false-true e f = let g : false ≡ true = sym e ∙ f in let h : ⊥ = cc in absurd h
 
@@ -120,7 +110,7 @@ module _ (s : Setting) where
       let r = f.front rest (lower (edge s.ops t) (omega (arith, g.1, edge-le s.ops t)) w) (λ e. absurd (g.0 e)) b in
       record { before = r.before; is = operand r.is g.1 (follows-stops r.before bound (priority s.ops t) (omega arith) w) }
 
-  -- an item: an operator stands alone there
+  -- an item: an operator is alone there
   pub item-reads : (t : Term) (x : Bool) → Facts s t → is_above (notated s.ops) 999 t ≡ x
       → (rest : List Piece) → Follows s.ops 999 rest → Alone s rest → (b : InFront) → OperandReads s 999 (joined_pieces b (enclosed x (pieces (notated s.ops) t) rest)) rest t
   item-reads t true f e rest w alone b =

@@ -5,6 +5,7 @@ use Rattle.std.specs.Option.{is_none}
 use Rattle.std.specs.Cmp.Lexicographic.{pointwise, same_text}
 use Rattle.std.proofs.lemmas.List.Elements.{recursion_from_All}
 use Rattle.au_model.specs.Syntax.Operators.{Operator, OperatorRow, OperatorTable, OperatorClass, InfixClass, class_rank, row_rank, is_operator_row, operator_of, prefix_of, infix_of, postfix_of, is_operator_name_free, is_no_operator, IsOperatorTable}
+use Rattle.au_term.proofs.LogicLemmas.{both}
 
 abbrev Ranged : OperatorRow → Type 0
 Ranged r = (0 < r.operator.priority) × (r.operator.priority ≤ 1200)
@@ -23,10 +24,6 @@ ranged class t n o table e = ranged_in class t n o (recursion_from_All Ranged t 
 none_is : {A : Type 0} (o : Option A) → is_none o ≡ true → o ≡ None
 none_is None e = refl
 none_is (Some x) e = let f : ⊥ = cc in absurd f
-
-both : (a b : Bool) → (a && b) ≡ true → (a ≡ true) × (b ≡ true)
-both true b e = (refl, e)
-both false b e = let f : ⊥ = cc in absurd f
 
 apart_row : (t : OperatorTable) (r : OperatorRow) (n : List ℕ) → is_operator_name_free t r ≡ true → is_operator_row InfixClass n r ≡ true → is_none (postfix_of t n) ≡ true
 apart_row t r n h e =

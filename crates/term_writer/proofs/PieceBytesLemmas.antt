@@ -8,7 +8,8 @@ use Rattle.std.proofs.lemmas.Str.{IsUtf8-from_ascii, encodes-append, encodes-IsA
 use Rattle.au_model.specs.Syntax.Tokens.{Lexeme, Name, QuotedName, Variable, Integer, Text, Open, Close, OpenList, CloseList, OpenCurly, CloseCurly, Comma, Bar, End, token, front}
 use Rattle.au_model.specs.Writing.NameForms.{hexadecimal, escaped, escaped_all}
 use Rattle.au_model.specs.Writing.Pieces.{Piece, Space, Put, InFront, SpaceInFront, TokenInFront, ends_of, are_separate, joined_pieces, quoted_text, text_of_token, text_of_tokens}
-use Rattle.term_writer.proofs.TokenTextLemmas.{EachBelow, below, same_number, escaped_char, escaped_chars, token_chars, and_left, and_right}
+use Rattle.term_writer.proofs.TokenTextLemmas.{EachBelow, below, escaped_char, escaped_chars, token_chars}
+use Rattle.au_term.proofs.LogicLemmas.{same_number, and-left as and_left, and-right as and_right}
 use Rattle.term_writer.proofs.PieceTokenLemmas.{IsFine, Well, takes_quote}
 use Rattle.term_writer.proofs.PieceScanLemmas.{token_text_chars, pieces_chars, whole, scan-pieces}
 

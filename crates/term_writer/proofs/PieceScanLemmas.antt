@@ -11,7 +11,8 @@ use Rattle.au_model.specs.Writing.NameForms.{begins_comment, is_symbol_name, is_
 use Rattle.au_model.specs.Syntax.Numerals.{begins_fraction}
 use Rattle.au_model.specs.Writing.Pieces.{Piece, Space, Put, name_ends, TokenEnds, SymbolEnds, LetterEnds, OtherEnds, ends_of, run_together, InFront, SpaceInFront, TokenInFront, are_separate, joined_pieces}
 use Rattle.token_scan.proofs.RescanLemmas.{none-again, space-again}
-use Rattle.term_writer.proofs.TokenTextLemmas.{one_of, not_false, and_none, decimal_digits, escaped_chars, token_chars, word_of, Rescans, letter_rescans, symbols_rescan, solo_rescans, variable_rescans, integer_rescans, quoted_rescans, Open_rescans, Close_rescans, OpenList_rescans, CloseList_rescans, OpenCurly_rescans, CloseCurly_rescans, Comma_rescans, Bar_rescans, End_rescans, symbol_mark, solo_mark, digit_first, and_left, and_right}
+use Rattle.term_writer.proofs.TokenTextLemmas.{one_of, decimal_digits, escaped_chars, token_chars, word_of, Rescans, letter_rescans, symbols_rescan, solo_rescans, variable_rescans, integer_rescans, quoted_rescans, Open_rescans, Close_rescans, OpenList_rescans, CloseList_rescans, OpenCurly_rescans, CloseCurly_rescans, Comma_rescans, Bar_rescans, End_rescans, symbol_mark, solo_mark, digit_first}
+use Rattle.au_term.proofs.LogicLemmas.{not-true as not_false, and-false as and_none, and-left as and_left, and-right as and_right}
 use Rattle.term_writer.proofs.PieceTokenLemmas.{is_quoted, takes_quote, IsFine, EndsHere, Well}
 
 abbrev pub token_text_chars : Token → List ℕ
@@ -50,7 +51,7 @@ follows-mark ends hot c z a s q f = record { letters = λ e. a; symbols = λ e. 
 no_letters : {x : Bool} {A : Type 0} → x ≡ true → x ≡ false → A
 no_letters e f = let g : true ≡ false = sym e ∙ f in let h : ⊥ = cc in absurd h
 
--- what begins with a letter, behind what does not end with one
+-- what begins with a letter, after what does not end with one
 follows-letter : (ends : TokenEnds) (hot : Bool) (c : ℕ) (z : List ℕ) → run_together ends LetterEnds ≡ false → is_symbol c ≡ false → (c == 39) ≡ false → Follows ends hot (c ∷ z)
 follows-letter SymbolEnds hot c z r s q = record { letters = λ e. let f : ⊥ = cc in absurd f; symbols = λ e. s; quote = λ e. q; fraction = λ e. let f : ⊥ = cc in absurd f }
 follows-letter LetterEnds hot c z r s q = let f : ⊥ = cc in absurd f
@@ -85,7 +86,7 @@ no_fraction c (d ∷ cs) z e h =
     let m = symbol_mark d (and_left (is_symbol d) _ h) in
     rw m.mark.sign.digit (and_none (c == 46))
 
--- a symbol run behind what does not end with a symbol character; a point in it is followed by one
+-- a symbol run after what does not end with a symbol character; a point in it is followed by one
 pub symbol-name : (ends : TokenEnds) (hot : Bool) (n z : List ℕ) → is_symbol_name n ≡ true → run_together ends SymbolEnds ≡ false → Follows ends hot (n ++ z)
 symbol-name ends hot [] z e r = let f : ⊥ = cc in absurd f
 symbol-name ends hot (c ∷ cs) z e r =
@@ -143,11 +144,11 @@ follows-integer ends hot k z h r =
     go LetterEnds q s o = let g : ⊥ = cc in absurd g
     go OtherEnds q s o = record { letters = λ e. let g : ⊥ = cc in absurd g; symbols = λ e. let g : ⊥ = cc in absurd g; quote = λ e. o; fraction = λ e. let g : ⊥ = cc in absurd g }
 
--- a quote behind what takes none
+-- a quote after what takes none
 follows-quote : (ends : TokenEnds) (z : List ℕ) → Follows ends false (39 ∷ z)
 follows-quote ends z = record { letters = λ e. refl; symbols = λ e. refl; quote = λ e. let f : ⊥ = cc in absurd f; fraction = λ e. refl }
 
--- what the next token says, where no space stands between
+-- what the next token says, where no space is between
 pub follows-token : (ends : TokenEnds) (hot : Bool) (y : Lexeme) (z : List ℕ) → (is_quoted y && hot) ≡ false → IsFine false y → run_together ends (ends_of y) ≡ false → Follows ends hot (token_chars y ++ z)
 follows-token ends hot (Name n) z q f r = follows-name ends hot n z f.0 r
 follows-token ends true (QuotedName n) z q f r = let g : ⊥ = cc in absurd g

@@ -1,4 +1,4 @@
--- What stands behind and in front of the pieces of a written term.
+-- What is after and in front of the pieces of a written term.
 use Rattle.std.proofs.Common.{◌≡◌, ℕ, ◌<◌, ◌≤◌, Bool, true, false, not, ◌&&◌, nat_le, nat_lt, List, [], ◌∷◌, Some, None, codes, refl, sym, ap, ◌∙◌, arith, if◌then◌else◌}
 use Rattle.std.specs.Cmp.Lexicographic.{same_text}
 use Rattle.au_model.specs.Terms.Forms.{same_name}
@@ -40,10 +40,6 @@ word_counts-other a _ e = refl
 not_so : (x : Bool) → (x ≡ true → false ≡ true) → x ≡ false
 not_so true h = let f : false ≡ true = h refl in let g : ⊥ = cc in absurd g
 not_so false h = refl
-
-pub and-false : (x : Bool) → (x && false) ≡ false
-and-false true = refl
-and-false false = refl
 
 pub opens-spaced : (ps : List Piece) → has_direct_open (joined_pieces SpaceInFront ps) ≡ false
 opens-spaced [] = refl

@@ -1,5 +1,5 @@
--- The pieces of a term are tokens that are scanned again, and no quoted name stands where the quote would be read with
--- what stands before it.
+-- The pieces of a term are tokens that are scanned again, and no quoted name is where the quote would be read with
+-- what is before it.
 use Rattle.std.proofs.Common.{◌≡◌, ℕ, ℤ, pos, negsuc, ◌<◌, ◌≤◌, ◌^◌, Bool, true, false, not, ◌&&◌, ◌||◌, nat_lt, List, [], ◌∷◌, codes, refl, arith, if◌then◌else◌}
 use Rattle.std.specs.Fmt.{decimal}
 use Rattle.std.specs.Str.{all_scalars}
@@ -19,7 +19,7 @@ abbrev pub is_quoted : Lexeme → Bool
 is_quoted (QuotedName n) = true
 is_quoted _ = false
 
--- a quote directly behind it would be read as a part of it: `'a''b'`, `0'b'`
+-- a quote directly after it would be read as a part of it: `'a''b'`, `0'b'`
 abbrev pub takes_quote : Lexeme → Bool
 takes_quote (QuotedName n) = true
 takes_quote (Integer k) = true
@@ -30,7 +30,7 @@ pub record IsVariableName (n : List ℕ) : Type 0 where
   pub is : n ≡ 95 ∷ decimal number
   pub small : number < 2 ^ 64
 
--- a token that can be scanned again; an end behind a space
+-- a token that can be scanned again; an end after a space
 abbrev pub IsFine : Bool → Lexeme → Type 0
 IsFine is_spaced (Name n) = (is_bare n ≡ true) × (all_scalars n ≡ true)
 IsFine is_spaced (QuotedName n) = all_scalars n ≡ true
@@ -44,17 +44,17 @@ abbrev pub EndsHere : Lexeme → List Piece → Type 0
 EndsHere End ps = ps ≡ []
 EndsHere x ps = Unit {0}
 
--- the pieces are fine, behind a space or not, and behind what would take a quote or not
+-- the pieces are fine, after a space or not, and after what would take a quote or not
 abbrev pub Well : Bool → Bool → List Piece → Type 0
 Well is_spaced hot [] = Unit {0}
 Well is_spaced hot (Space ∷ ps) = Well true false ps
 Well is_spaced hot (Put x ∷ ps) = ((is_quoted x && hot) ≡ false) × IsFine is_spaced x × EndsHere x ps × Well false (takes_quote x) ps
 
--- fine whatever stood before
+-- fine whatever was before
 abbrev Free : List Piece → Type 0
 Free ps = (is_spaced hot : Bool) → Well is_spaced hot ps
 
--- fine behind what takes no quote
+-- fine after what takes no quote
 abbrev Cool : List Piece → Type 0
 Cool ps = (is_spaced : Bool) → Well is_spaced false ps
 

@@ -12,6 +12,7 @@ use Rattle.au_model.specs.Writing.ReadBack.{tree_of, trees_of, IsWritable, AreWr
 use Rattle.au_model.specs.Terms.Substitutions.{apply, apply_all}
 use Rattle.au_model.specs.Syntax.VariableNumbers.{Variables, no_variables, number_of, is_anonymous, old_or_new, numbered_name, numbered, all_numbered}
 use Rattle.term_writer.proofs.TokenTextLemmas.{decimal_value}
+use Rattle.au_term.proofs.LogicLemmas.{same_number as is_same}
 
 abbrev IsWord : ℕ → Type 0
 IsWord n = n < 2 ^ 64
@@ -52,9 +53,6 @@ same-decimal m n h k e = sym (decimal_value m h) ∙ (ap (digits_value 10) e ∙
 
 same_is : (m n : ℕ) → m ≡ n → (m == n) ≡ true
 same_is m n e = grind (arith, e)
-
-is_same : (m n : ℕ) → (m == n) ≡ true → m ≡ n
-is_same m n e = grind (arith, e)
 
 -- variables have one name where they are the same
 same-name : (m n : ℕ) → IsWord m → IsWord n → pointwise nat_eq (name_of m) (name_of n) ≡ (m == n)

@@ -7,8 +7,8 @@ use Rattle.term_writer.specs.declared.text.Side.{Side}
 use Rattle.term_writer.specs.declared.text.Side.TheVariants.{Symbols, Letters, Digits, Open as OpenSide, Other}
 use Rattle.term_writer.specs.declared.text.Front.{Front}
 use Rattle.term_writer.specs.declared.text.Front.TheVariants.{Nothing, Space, Token as BehindToken, PrefixOperator}
-use Rattle.au_model.specs.declared.style.Style.{Style}
-use Rattle.au_model.specs.declared.style.Style.TheVariants.{Plain, Quoted, Canonical}
+use Rattle.au_model.specs.declared.types.Style.{Style}
+use Rattle.au_model.specs.declared.types.Style.TheVariants.{Plain, Quoted, Canonical}
 use Rattle.au_model.specs.Writing.NameForms.{escaped, escaped_all}
 use Rattle.term_writer.specs.TextInProgress.{side_by_ends, side_of, ends_of_side, after_side, after_operator, needs_space, space_text, joined_after, bytes_with}
 
@@ -110,7 +110,7 @@ with_space : (text : Lexeme → List ℕ) (b : Bool) (x : Lexeme) → text_of_to
 with_space text true x = refl
 with_space text false x = refl
 
--- the bytes of a token were put behind a text
+-- the bytes of a token were put after a text
 pub token_put : (style after : Style) (old new : List ℕ) (front front_after : Front) (x : Lexeme)
     → new ≡ old ++ space_text (needs_space front (side_of x)) ++ token_text style x → after ≡ style → front_after ≡ BehindToken (side_of x)
     → (ps : List Piece) → bytes_with after new front_after ps ≡ bytes_with style old front (Put x ∷ ps)

@@ -17,6 +17,7 @@ use Rattle.au_model.specs.Syntax.Quoted.{StandsFor, part, QuotedThen, quoted, wi
 use Rattle.au_model.specs.Syntax.Words.{Word, NameWord, QuotedWord, VariableWord, IntegerWord, TextWord, MarkWord, StopWord, FoundWord, word_at_front, ends_term, numeral_word, quoted_word}
 use Rattle.token_scan.proofs.RescanLemmas.{IsSign, name-again, variable-again, solo-again, mark-again, symbols-again, decimal-again}
 use Rattle.token_scan.proofs.QuotedItemLemmas.{quoted-part, quoted-stands}
+use Rattle.au_term.proofs.LogicLemmas.{and-left as and_left, and-right as and_right, not-true as not_false, and-false as and_none, same_number, or-left as or_left, or-right as or_right}
 
 -- a character between quotes, escaped where it has to be
 abbrev pub escaped_char : ℕ → List ℕ
@@ -161,18 +162,6 @@ no_layout c cs b p s = rw (b, p, s) refl
 
 -- ---- names
 
-pub and_left : (x y : Bool) → (x && y) ≡ true → x ≡ true
-and_left true y e = refl
-and_left false y e = e
-
-pub and_right : (x y : Bool) → (x && y) ≡ true → y ≡ true
-and_right true y e = e
-and_right false y e = let f : ⊥ = cc in absurd f
-
-pub not_false : (x : Bool) → not x ≡ true → x ≡ false
-not_false true e = sym e
-not_false false e = refl
-
 -- a small letter is no blank and begins no comment
 small_high : (c : ℕ) → is_small c ≡ true → 64 ≤ c
 small_high c e = go (nat_le 64 c) refl
@@ -214,10 +203,6 @@ no_comment c cs z e h = go (c == 47) e
     go : (b : Bool) → (b && first_is 42 cs) ≡ false → (b && first_is 42 (cs ++ z)) ≡ false
     go true k = no_star cs z k h
     go false k = refl
-
-pub and_none : (b : Bool) → (b && false) ≡ false
-and_none true = refl
-and_none false = refl
 
 -- a run of symbol characters other than `.` alone ends no term
 runs_on : (c : ℕ) (cs z : List ℕ) → same_name (c ∷ cs) (codes ".") ≡ false → list_all is_symbol cs ≡ true → ((c == 46) && ends_term (cs ++ z)) ≡ false
@@ -370,9 +355,6 @@ digits_part (d ∷ ds) e = let m = digit_mark d (and_left (is_ascii_digit d) _ e
 pub variable_rescans : (k : ℕ) (z : List ℕ) → k < 2 ^ 64 → first_passes is_alphanumeric z ≡ false → Rescans (Variable (95 ∷ decimal k)) z
 variable_rescans k z h e = record { word = variable-again 95 (decimal k) z refl refl (digits_part (decimal k) (decimal_digits k h)) e; bare = no_layout 95 (decimal k ++ z) refl refl refl }
 
-pub same_number : (d q : ℕ) → (d == q) ≡ true → d ≡ q
-same_number d q e = grind (arith, e)
-
 not_first : (q : ℕ) → is_alphanumeric q ≡ true → (z : List ℕ) → first_passes is_alphanumeric z ≡ false → first_is q z ≡ false
 not_first q a [] h = refl
 not_first q a (d ∷ z) h = go (d == q) refl
@@ -388,15 +370,7 @@ not_first q a (d ∷ z) h = go (d == q) refl
 none_based : (cs : List ℕ) → first_is 120 cs ≡ false → first_is 111 cs ≡ false → first_is 98 cs ≡ false → first_is 39 cs ≡ false → zero_numeral cs ≡ None
 none_based cs a b d e = rw (a, b, d, e) refl
 
-or_left : (x y : Bool) → (x || y) ≡ false → x ≡ false
-or_left false y e = refl
-or_left true y e = e
-
-or_right : (x y : Bool) → (x || y) ≡ false → y ≡ false
-or_right false y e = e
-or_right true y e = let f : ⊥ = cc in absurd f
-
--- behind a `0` nothing makes more of it
+-- after a `0` nothing makes more of it
 zero_alone : (ds z : List ℕ) → all_ascii_digits ds ≡ true → first_passes is_alphanumeric z ≡ false → first_is 39 z ≡ false → zero_numeral (ds ++ z) ≡ None
 zero_alone [] z e h q = none_based z (not_first 120 refl z h) (not_first 111 refl z h) (not_first 98 refl z h) q
 zero_alone (d ∷ ds) z e h q =

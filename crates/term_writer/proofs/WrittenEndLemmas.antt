@@ -15,7 +15,7 @@ use Rattle.au_model.specs.Writing.OperatorForms.{Notation, CompoundForm, ListFor
 use Rattle.au_model.specs.Writing.WrittenTerms.{notation_of, name_token, name_pieces, integer_pieces, infix_pieces, prefix_pieces, postfix_pieces, spaced, is_open, is_integer_term, enclosed, pieces, compound_pieces, tail_pieces, further_pieces, cell_pieces, is_cell, written_term}
 use Rattle.au_model.specs.Writing.ReadBack.{tree_of, IsWritable}
 use Rattle.term_writer.specs.TokensWithEnd.{tokens_with_end}
-use Rattle.au_model.specs.declared.style.Style.TheVariants.{Quoted}
+use Rattle.au_model.specs.declared.types.Style.TheVariants.{Quoted}
 use Rattle.au_model.specs.Syntax.TermTexts.{SpellsTermWithEnd}
 use Rattle.term_writer.proofs.ReadBackLemmas.{written_spelled}
 use Rattle.term_writer.proofs.PieceTokenLemmas.{written-well}

@@ -18,8 +18,11 @@ use Rattle.au_model.specs.Writing.WrittenTerms.{variable_token, name_token, name
 use Rattle.au_model.specs.Writing.ReadBack.{tree_of, trees_of, IsSmall}
 use Rattle.term_writer.proofs.OperatorTableLemmas.{ranged}
 use Rattle.au_model.specs.Syntax.Operators.{PrefixClass, InfixClass, PostfixClass}
-use Rattle.term_writer.proofs.PieceSeamLemmas.{after_token, Follows, meets-other, and-false, opens-by, counts-by, follows-opens, follows-counts, closes_round, closes_list, closes_curly, bars, commas, begins_name, before_name, sign_name, infix-follows, postfix-follows, infix-at, postfix-at, name-at}
-use Rattle.term_writer.proofs.OperandPieceLemmas.{notated, form_edge, Reads, OperandReads, ArgumentsRead, Alone, Facts, Tails, starts_term, or-right, right-reads, item-reads, shut-says, left-reads, shut-starts, shut-left-plain, shut-plain, shut-opening}
+use Rattle.term_writer.proofs.PieceSeamLemmas.{after_token, Follows, meets-other, opens-by, counts-by, follows-opens, follows-counts, closes_round, closes_list, closes_curly, bars, commas, begins_name, before_name, sign_name, infix-follows, postfix-follows, infix-at, postfix-at, name-at}
+use Rattle.au_term.proofs.LogicLemmas.{and-false}
+use Rattle.term_writer.proofs.OperandPieceLemmas.{notated, form_edge, Reads, OperandReads, ArgumentsRead, Alone, Facts, Tails, starts_term, right-reads, item-reads, shut-says, left-reads, shut-starts, shut-left-plain, shut-plain, shut-opening}
+use Rattle.au_term.proofs.LogicLemmas.{or-right}
+use Rattle.au_term.proofs.LogicLemmas.{and-both}
 
 curly-begins : (ts : List Token) → starts_term ts ≡ true → curly_primary ts ≡ Curly ts
 curly-begins [] e = refl
@@ -52,9 +55,6 @@ or-end true y z e = refl
 or-end false true z e = refl
 or-end false false z e = e
 
-and-both : (x y : Bool) → x ≡ true → y ≡ true → (x && y) ≡ true
-and-both x y e f = rw (e, f) refl
-
 and-when : (x y : Bool) → (x ≡ true → y ≡ false) → (x && y) ≡ false
 and-when true y h = h refl
 and-when false y h = refl
@@ -66,7 +66,7 @@ and-3 : (x y z : Bool) → (x && (y && (z && false))) ≡ false
 and-3 x y z = rw (and-false z) (and-2 x y)
 
 module _ (s : Setting) (table : IsOperatorTable s.ops) where
-  -- ---- the rest of a list behind the bar
+  -- ---- the rest of a list after the bar
 
   pub bar-tails : (t : Term) (x : Bool) → Facts s t → is_above (notated s.ops) 999 t ≡ x
       → ((rest : List Piece) → tail_pieces (notated s.ops) t rest ≡ Put Bar ∷ enclosed x (pieces (notated s.ops) t) rest) → Tails s t

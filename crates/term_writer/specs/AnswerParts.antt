@@ -6,7 +6,7 @@ use Rattle.au_term.specs.Term.{Term}
 use Rattle.au_model.specs.Terms.Named.{NamedTerm}
 use Rattle.au_model.specs.Writing.Lines.{answer_line, further_bindings}
 use Rattle.au_model.specs.Syntax.Operators.{OperatorTable}
-use Rattle.au_model.specs.declared.var_name.VarName.{VarName}
+use Rattle.au_model.specs.declared.types.VarName.{VarName}
 
 abbrev pub named_term : VarName → Term → NamedTerm
 named_term v t = record { name = chars (string_bytes v.text); term = t }
@@ -25,7 +25,7 @@ abbrev pub line_end : ℕ → List ℕ
 line_end zero = codes "true" ++ 10 ∷ []
 line_end (suc n) = 10 ∷ []
 
--- the rest of the line, behind so many bindings
+-- the rest of the line, after so many bindings
 abbrev pub line_from : OperatorTable → ℕ → List NamedTerm → List ℕ
 line_from ops zero vs = answer_line ops vs
 line_from ops (suc n) vs = further_bindings ops vs

@@ -33,7 +33,7 @@ counted_form n f (suc zero) = unary_form n f
 counted_form n f (suc (suc zero)) = binary_form n f
 counted_form n f (suc (suc (suc k))) = FunctionalForm
 
--- of a term by its first cell: its form, and whether it stands in brackets
+-- of a term by its first cell: its form, and whether it is in brackets
 abbrev pub compound_form_of_cell : Notation → Cell → CompoundForm
 compound_form_of_cell n (Functor f k) = counted_form n f k
 compound_form_of_cell n _ = FunctionalForm

@@ -3,7 +3,7 @@ use Rattle.std.specs.Prelude.{ℕ, Bool, true, false, ◌&&◌, ◌||◌, List, 
 use Rattle.au_model.specs.Syntax.Tokens.{Lexeme, Token, Name, Variable, Integer, Open as OpenBracket, Close as CloseBracket, OpenList as OpenSquare, CloseList as CloseSquare, OpenCurly as OpenBrace, CloseCurly as CloseBrace, Comma as CommaMark, Bar as BarMark}
 use Rattle.au_model.specs.Writing.Pieces.{Piece, TokenEnds, SymbolEnds, LetterEnds, OtherEnds, NothingYet, SpaceInFront, TokenInFront, name_ends, joined_pieces, text_of_tokens}
 use Rattle.au_model.specs.Writing.WrittenTerms.{spaced, begins_with, is_open, is_integer_term, token_text}
-use Rattle.au_model.specs.declared.style.Style.{Style}
+use Rattle.au_model.specs.declared.types.Style.{Style}
 use Rattle.term_writer.specs.declared.text.Mark.{Mark}
 use Rattle.term_writer.specs.declared.text.Mark.TheVariants.{Open, Close, OpenList, CloseList, OpenCurly, CloseCurly, Comma, Bar}
 use Rattle.term_writer.specs.declared.text.Side.{Side}
@@ -41,7 +41,7 @@ ends_of_side Digits = LetterEnds
 ends_of_side OpenSide = OtherEnds
 ends_of_side Other = OtherEnds
 
--- whether a space stands in front of a token with these sides
+-- whether a space is in front of a token with these sides
 abbrev pub after_symbols : Side → Bool
 after_symbols Symbols = true
 after_symbols _ = false
@@ -75,7 +75,7 @@ abbrev pub space_text : Bool → List ℕ
 space_text true = 32 ∷ []
 space_text false = []
 
--- the tokens of pieces behind what stands in front
+-- the tokens of pieces after what is in front
 abbrev pub joined_after : Front → List Piece → List Token
 joined_after Nothing ps = joined_pieces NothingYet ps
 joined_after Space ps = joined_pieces SpaceInFront ps
@@ -83,10 +83,14 @@ joined_after (BehindToken side) ps = joined_pieces (TokenInFront (ends_of_side s
 joined_after (PrefixOperator is_minus) ps =
     joined_pieces (TokenInFront SymbolEnds) (spaced (begins_with is_open ps || (is_minus && begins_with is_integer_term ps)) ps)
 
--- bytes in a style, with pieces behind them
+-- bytes in a style, with pieces after them
 abbrev pub bytes_with : Style → List ℕ → Front → List Piece → List ℕ
 bytes_with style bytes front ps = bytes ++ text_of_tokens (token_text style) (joined_after front ps)
 
--- the text with these pieces behind it
+-- the text with these pieces after it
 abbrev pub followed_by : Text → List Piece → List ℕ
 followed_by t ps = bytes_with t.style t.bytes.items t.front ps
+
+-- the bytes of a text with a token after them, and the space before it if one is needed
+abbrev pub with_token : Text → Lexeme → List ℕ
+with_token t x = t.bytes.items ++ space_text (needs_space t.front (side_of x)) ++ token_text t.style x

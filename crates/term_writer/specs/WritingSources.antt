@@ -1,12 +1,13 @@
 -- A term with its notation, as the tasks of writing it see them.
-use Rattle.std.specs.Prelude.{ℕ, ◌+◌, ◌<◌, List, length}
-use Rattle.au_term.specs.Term.{Term, arguments}
+use Rattle.std.specs.Prelude.{ℕ, ◌+◌, ◌<◌, List, ◌∷◌, length}
+use Rattle.au_term.specs.Term.{Term, arguments, take_terms}
 use Rattle.au_term.specs.PrefixOrder.{cells_of, subterm}
-use Rattle.au_model.specs.Writing.OperatorForms.{Notation, CompoundForm}
-use Rattle.au_model.specs.Writing.Pieces.{Piece}
-use Rattle.au_model.specs.Writing.WrittenTerms.{compound_pieces}
+use Rattle.au_model.specs.Syntax.Tokens.{Bar as BarMark}
+use Rattle.au_model.specs.Writing.OperatorForms.{Notation, CompoundForm, is_above}
+use Rattle.au_model.specs.Writing.Pieces.{Piece, Put}
+use Rattle.au_model.specs.Writing.WrittenTerms.{compound_pieces, cell_pieces, further_pieces, enclosed, pieces}
 use Rattle.term_writer.specs.NotationView.{notation_meant}
-use Rattle.term_writer.specs.WritingTasks.{AddsTasks, DoesTask, terms_weight}
+use Rattle.term_writer.specs.WritingTasks.{AddsTasks, DoesTask, term_weight, terms_at, terms_weight}
 use Rattle.term_writer.specs.declared.text.Text.{Text}
 use Rattle.term_writer.specs.declared.tasks.Task.{Task}
 use Rattle.term_writer.specs.declared.tasks.Source.{Source}
@@ -36,3 +37,22 @@ FinishesTask s task old new before after = DoesTask (notation_of_source s) (term
 abbrev pub OpensCompound : Source → ℕ → CompoundForm → List ℕ → List Task → List Task → Type 0
 OpensCompound s at form name old new =
     PushesTasks s old new (compound_pieces (notation_of_source s) form name (arguments (source_subterm s at))) (9 + terms_weight (arguments (source_subterm s at)))
+
+-- a tail that is no list, after a bar
+abbrev pub PushesTail : Source → ℕ → List Task → List Task → Type 0
+PushesTail s at old new =
+    let t = source_subterm s at in
+    let notation = notation_of_source s in
+    PushesTasks s old new (λ rest. Put BarMark ∷ enclosed (is_above notation 999 t) (pieces notation t) rest) (3 + term_weight t)
+
+-- so many further arguments from a place on
+abbrev pub PushesFurther : Source → ℕ → ℕ → List Task → List Task → Type 0
+PushesFurther s at number old new =
+    let ts = take_terms number (terms_at (term_of_source s) at) in
+    PushesTasks s old new (further_pieces (notation_of_source s) ts) (1 + terms_weight ts)
+
+-- an item of a list and what follows it
+abbrev pub PushesItem : Source → ℕ → List Task → List Task → Type 0
+PushesItem s at old new =
+    let ts = arguments (source_subterm s at) in
+    PushesTasks s old new (cell_pieces (notation_of_source s) ts) (9 + terms_weight ts)

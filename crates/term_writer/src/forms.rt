@@ -1,4 +1,4 @@
-//! The form in which a compound is written, and which operands stand in brackets.
+//! The form in which a compound is written, and which operands are in brackets.
 ghost use Rattle.std.specs.Prelude.{◌≡◌, option_map};
 ghost use Rattle.std.specs.Str.{chars};
 ghost use Rattle.au_model.specs.Syntax.Operators.{prefix_of, infix_of, postfix_of};
@@ -104,29 +104,29 @@ impl<'a> Notation<'a> {
         }
     }
 
-    /// Whether an argument or item that begins with this cell stands in brackets.
+    /// Whether an argument or item that begins with this cell is in brackets.
     pub(crate) fn is_above(self, bound: u16, cell: &Cell) -> bool
         ensures { result ≡ cell_above (notation_meant self.entry) bound cell.now }
     {
         bound < self.form(cell).priority()
     }
 
-    /// Whether an operand that begins with this cell stands in brackets.
+    /// Whether an operand that begins with this cell is in brackets.
     pub(crate) fn is_enclosed(self, bound: u16, cell: &Cell) -> bool
         ensures { result ≡ cell_enclosed (notation_meant self.entry) bound cell.now }
     {
         self.is_operator_atom(cell) || self.is_above(bound, cell)
     }
 
-    /// Whether a left operand of this operator that begins with this cell stands in brackets.
+    /// Whether a left operand of this operator that begins with this cell is in brackets.
     pub(crate) fn is_enclosed_left(self, operator: Operator, cell: &Cell) -> bool
         ensures { result ≡ cell_enclosed_left (notation_meant self.entry) (operator_meant operator) cell.now }
     {
-        if self.is_enclosed(left_bound(operator), cell) {
+        if self.is_enclosed(operator.left_bound(), cell) {
             return true;
         }
         let form = self.form(cell);
-        takes_equal_left(operator.kind)
+        operator.kind.takes_equal_left()
             && form.takes_equal_last()
             && form.priority() == operator.priority
     }
@@ -149,44 +149,8 @@ impl Form {
         ensures { result ≡ takes_equal_last (form_meant self) }
     {
         match self {
-            Form::Infix(operator) | Form::Prefix(operator) => takes_equal_right(operator.kind),
+            Form::Infix(operator) | Form::Prefix(operator) => operator.kind.takes_equal_right(),
             _ => false,
         }
-    }
-}
-
-/// Whether the left operand may have the operator's own priority.
-fn takes_equal_left(kind: OpKind) -> bool
-    ensures { result ≡ takes_equal_left (kind_meant kind) }
-{
-    matches!(kind, OpKind::Yfx | OpKind::Yf)
-}
-
-/// Whether the right operand may have the operator's own priority.
-fn takes_equal_right(kind: OpKind) -> bool
-    ensures { result ≡ takes_equal_right (kind_meant kind) }
-{
-    matches!(kind, OpKind::Xfy | OpKind::Fy)
-}
-
-/// The greatest priority of a left operand without brackets.
-fn left_bound(operator: Operator) -> u16
-    ensures { result ≡ left_bound (operator_meant operator) }
-{
-    if takes_equal_left(operator.kind) {
-        operator.priority
-    } else {
-        operator.priority.saturating_sub(1)
-    }
-}
-
-/// The greatest priority of a right operand without brackets.
-pub(crate) fn right_bound(operator: Operator) -> u16
-    ensures { result ≡ right_bound (operator_meant operator) }
-{
-    if takes_equal_right(operator.kind) {
-        operator.priority
-    } else {
-        operator.priority.saturating_sub(1)
     }
 }

@@ -9,9 +9,9 @@ ghost use Rattle.au_model.specs.Writing.ReadBack.{tree_of, IsWritable};
 ghost use Rattle.au_model.specs.Syntax.VariableNumbers.{no_variables, numbered};
 ghost use Rattle.au_model.specs.Syntax.TermTexts.{SpellsTermWithEnd};
 ghost use Rattle.au_model.specs.Writing.WrittenTerms.{written_term};
-ghost use Rattle.au_model.specs.declared.style.Style.TheVariants.{Quoted};
+ghost use Rattle.au_model.specs.declared.types.Style.TheVariants.{Quoted};
 
-/// What is written of a term in quoted style, with a space and a full stop behind it, spells the term again and nothing
+/// What is written of a term in quoted style, with a space and a full stop after it, spells the term again and nothing
 /// more, under the same operators and whatever double-quoted items stand for. A variable's name is what is written for
 /// it, so the term that is read is the copy with variables numbered from 0.
 pub fn written_is_read_back()

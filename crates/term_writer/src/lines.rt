@@ -13,8 +13,8 @@ use au_term::{FlatTerm, NoMemory};
 use op_table::Ops;
 use std::alloc::Global;
 
-/// Puts the line of an answer behind the bytes of `out`: each name with the value beside it, or `true` where there is
-/// none. A value stands as the right operand of an infix operator of priority 700, as `writeq` writes it. After an error
+/// Puts the line of an answer after the bytes of `out`: each name with the value beside it, or `true` where there is
+/// none. A value is as the right operand of an infix operator of priority 700, as `writeq` writes it. After an error
 /// `out` is as before.
 pub fn answer_line(
     alloc: Global,
@@ -32,7 +32,7 @@ pub fn answer_line(
     Ok(())
 }
 
-/// Puts the line that an uncaught ball ends a query with behind the bytes of `out`. After an error `out` is as before.
+/// Puts the line that an uncaught ball ends a query with after the bytes of `out`. After an error `out` is as before.
 pub fn ball_line(
     alloc: Global,
     out: &mut Vec<u8>,
@@ -50,7 +50,7 @@ pub fn ball_line(
     Ok(())
 }
 
-/// Puts an answer's line behind the bytes of `line`.
+/// Puts an answer's line after the bytes of `line`.
 fn push_bindings(
     alloc: Global,
     names: &[VarName],
@@ -68,7 +68,7 @@ fn push_bindings(
     end_line(count, line)
 }
 
-/// What stands in front of a binding, by how many stand before it.
+/// What is in front of a binding, by how many are before it.
 fn push_separator(before: usize, line: &mut Vec<u8>) -> Result<(), NoMemory>
     ensures { OnOk result (line.new.items ≡ line.old.items ++ separator before) }
 {

@@ -10,9 +10,9 @@ ghost use Rattle.au_model.specs.Writing.Pieces.{Put};
 ghost use Rattle.au_model.specs.Writing.WrittenTerms.{enclosed, pieces, cell_pieces, further_pieces, tail_pieces};
 ghost use Rattle.op_table.specs.OperatorView.{operator_meant};
 ghost use Rattle.term_writer.specs.WritingTasks.{terms_at, term_weight, terms_weight};
-ghost use Rattle.term_writer.specs.WritingSources.{notation_of_source, term_of_source, source_subterm, IsSourcePlace, PushesTasks, OpensCompound};
+ghost use Rattle.term_writer.specs.WritingSources.{PushesTail, PushesFurther, PushesItem, notation_of_source, term_of_source, source_subterm, IsSourcePlace, PushesTasks, OpensCompound};
 
-use crate::forms::{Form, Notation, right_bound};
+use crate::forms::{Form, Notation};
 use crate::names::{is_cell_name, is_nil};
 use crate::text::Mark;
 use au_term::{Atom, Cell, FlatTerm, NoMemory};
@@ -23,9 +23,9 @@ use op_table::Operator;
 pub(crate) enum Task<'a> {
     /// The subterm at this place.
     Term(usize),
-    /// So many arguments from this place on, behind the first, and the bracket.
+    /// So many arguments from this place on, after the first, and the bracket.
     Further(usize, u32),
-    /// The rest of a list at this place, behind an item.
+    /// The rest of a list at this place, after an item.
     Tail(usize),
     Mark(Mark),
     Name(&'a Atom),
@@ -51,7 +51,7 @@ impl<'a> Source<'a> {
         &self.term.subterm(at)[0]
     }
 
-    /// Where the term behind the subterm at a place begins.
+    /// Where the term after the subterm at a place begins.
     fn after(self, at: usize) -> usize
         requires { IsSourcePlace self at }
         ensures { terms_at (term_of_source self.entry) at ≡ more (source_subterm self.entry at) (terms_at (term_of_source self.entry) result) }
@@ -117,7 +117,7 @@ impl<'a> Source<'a> {
     {
         let is_enclosed = self
             .notation
-            .is_enclosed(right_bound(operator), self.cell(at));
+            .is_enclosed(operator.right_bound(), self.cell(at));
         self.part(at, is_enclosed, due)
     }
 
@@ -137,7 +137,7 @@ impl<'a> Source<'a> {
         self.part(at, is_enclosed, due)
     }
 
-    /// A list, whose first cell stands at a place.
+    /// A list, whose first cell is at a place.
     fn list(self, at: usize, due: &mut Vec<Task<'a>>) -> Result<(), NoMemory>
         requires place { IsSourcePlace self at }
         requires two { argument_count (source_subterm self at) ≡ 2 }
@@ -196,7 +196,7 @@ impl<'a> Source<'a> {
         Ok(())
     }
 
-    /// A postfix operator behind its operand.
+    /// A postfix operator after its operand.
     fn postfix(
         self,
         at: usize,
@@ -280,7 +280,7 @@ impl<'a> Source<'a> {
         }
     }
 
-    /// So many arguments from a place on, behind the first, and the bracket.
+    /// So many arguments from a place on, after the first, and the bracket.
     pub(crate) fn further(
         self,
         at: usize,
@@ -288,7 +288,7 @@ impl<'a> Source<'a> {
         due: &mut Vec<Task<'a>>,
     ) -> Result<(), NoMemory>
         requires { left ≤ count (terms_at (term_of_source self) at) }
-        ensures { OnOk result (PushesTasks self.entry due.old.items due.new.items (further_pieces (notation_of_source self.entry) (take_terms left (terms_at (term_of_source self.entry) at))) (1 + terms_weight (take_terms left (terms_at (term_of_source self.entry) at)))) }
+        ensures { OnOk result (PushesFurther self.entry at left due.old.items due.new.items) }
     {
         if left == 0 {
             due.push(Task::Mark(Mark::Close))?;
@@ -300,7 +300,7 @@ impl<'a> Source<'a> {
         Ok(())
     }
 
-    /// The rest of a list, behind an item.
+    /// The rest of a list, after an item.
     pub(crate) fn tail(self, at: usize, due: &mut Vec<Task<'a>>) -> Result<(), NoMemory>
         requires { IsSourcePlace self at }
         ensures { OnOk result (PushesTasks self.entry due.old.items due.new.items (tail_pieces (notation_of_source self.entry) (source_subterm self.entry at)) (5 + term_weight (source_subterm self.entry at))) }
@@ -316,7 +316,7 @@ impl<'a> Source<'a> {
     fn next_item(self, at: usize, due: &mut Vec<Task<'a>>) -> Result<(), NoMemory>
         requires place { IsSourcePlace self at }
         requires two { argument_count (source_subterm self at) ≡ 2 }
-        ensures { OnOk result (PushesTasks self.entry due.old.items due.new.items (cell_pieces (notation_of_source self.entry) (arguments (source_subterm self.entry at))) (9 + terms_weight (arguments (source_subterm self.entry at)))) }
+        ensures { OnOk result (PushesItem self.entry at due.old.items due.new.items) }
     {
         due.push(Task::Tail(self.term.arg_start(at, 1)))?;
         self.argument(self.term.arg_start(at, 0), due)?;
@@ -327,7 +327,7 @@ impl<'a> Source<'a> {
     /// A tail that is no list.
     fn rest(self, at: usize, due: &mut Vec<Task<'a>>) -> Result<(), NoMemory>
         requires { IsSourcePlace self at }
-        ensures { OnOk result (PushesTasks self.entry due.old.items due.new.items (λ rest. Put BarMark ∷ enclosed (is_above (notation_of_source self.entry) 999 (source_subterm self.entry at)) (pieces (notation_of_source self.entry) (source_subterm self.entry at)) rest) (3 + term_weight (source_subterm self.entry at))) }
+        ensures { OnOk result (PushesTail self.entry at due.old.items due.new.items) }
     {
         self.argument(at, due)?;
         due.push(Task::Mark(Mark::Bar))?;

@@ -7,7 +7,7 @@ ghost use Rattle.std.specs.Char.{digit_char};
 ghost use Rattle.au_model.specs.Writing.NameForms.{is_symbol_name, escaped, escaped_all, hexadecimal};
 ghost use Rattle.au_model.specs.Writing.Pieces.{Piece, Put, Space};
 ghost use Rattle.au_model.specs.Writing.WrittenTerms.{token_text, name_token, name_pieces, integer_pieces, variable_token, prefix_pieces, postfix_pieces, infix_pieces};
-ghost use Rattle.term_writer.specs.TextInProgress.{side_of, mark_meant, followed_by, needs_space, space_text};
+ghost use Rattle.term_writer.specs.TextInProgress.{with_token, side_of, mark_meant, followed_by, needs_space, space_text};
 
 use crate::names::{is_braces, is_letter_name, is_nil, is_solo_name, is_symbol_name};
 use au_model::Style;
@@ -42,7 +42,7 @@ pub(crate) enum Side {
     Other,
 }
 
-/// What stands in front of the next token.
+/// What is in front of the next token.
 #[derive(Clone, Copy)]
 pub(crate) enum Front {
     Nothing,
@@ -87,7 +87,7 @@ impl Mark {
 }
 
 impl Front {
-    /// Whether a space stands between this and a token with these sides.
+    /// Whether a space is between this and a token with these sides.
     fn needs_space(self, side: Side) -> bool
         ensures { result ≡ needs_space self side }
     {
@@ -120,7 +120,7 @@ impl Text {
         }
     }
 
-    /// Puts these bytes behind the text; the next token is kept apart from nothing.
+    /// Puts these bytes after the text; the next token is kept apart from nothing.
     pub(crate) fn raw(&mut self, bytes: &[u8]) -> Result<(), NoMemory>
         ensures bytes { OnOk result (self.new.bytes.items ≡ self.old.bytes.items ++ bytes.now) }
         ensures style { self.new.style ≡ self.old.style }
@@ -144,7 +144,7 @@ impl Text {
         Ok(())
     }
 
-    /// Puts a token with these sides and bytes behind the text.
+    /// Puts a token with these sides and bytes after the text.
     fn token(&mut self, side: Side, bytes: &[u8]) -> Result<(), NoMemory>
         ensures bytes { OnOk result (self.new.bytes.items ≡ self.old.bytes.items ++ space_text (needs_space self.old.front side) ++ bytes.now) }
         ensures style { self.new.style ≡ self.old.style }
@@ -210,7 +210,7 @@ impl Text {
 
     /// A name as one token, bare or between quotes.
     fn name_token(&mut self, name: &str) -> Result<(), NoMemory>
-        ensures bytes { OnOk result (self.new.bytes.items ≡ self.old.bytes.items ++ space_text (needs_space self.old.front (side_of (name_token (chars name.now)))) ++ token_text self.old.style (name_token (chars name.now))) }
+        ensures bytes { OnOk result (self.new.bytes.items ≡ with_token self.old (name_token (chars name.now))) }
         ensures style { self.new.style ≡ self.old.style }
         ensures front { OnOk result (self.new.front ≡ Front.Token (side_of (name_token (chars name.now)))) }
     {
@@ -261,7 +261,7 @@ impl Text {
         }
     }
 
-    /// A prefix operator that is a symbol run; a space behind it depends on what follows.
+    /// A prefix operator that is a symbol run; a space after it depends on what follows.
     fn symbol_prefix(&mut self, name: &str) -> Result<(), NoMemory>
         requires { is_symbol_name (chars name.now) ≡ true }
         ensures { OnOk result ((ps : List Piece) → followed_by self.new ps ≡ followed_by self.old (prefix_pieces (chars name.now) ps)) }
@@ -299,14 +299,14 @@ impl Text {
     }
 }
 
-/// Whether an infix operator stands without spaces: a symbol run of priority below 700.
+/// Whether an infix operator is without spaces: a symbol run of priority below 700.
 fn is_tight(operator: Operator, name: &str) -> bool
     ensures { result ≡ (is_symbol_name (chars name.now) && nat_lt operator.priority 700) }
 {
     is_symbol_name(name) && operator.priority < 700
 }
 
-/// Puts the characters of a name behind the bytes, escaped as between quotes.
+/// Puts the characters of a name after the bytes, escaped as between quotes.
 fn push_escaped_all(bytes: &mut Vec<u8>, name: &str) -> Result<(), NoMemory>
     ensures { OnOk result (bytes.new.items ≡ bytes.old.items ++ escaped_all (chars name.now)) }
 {
@@ -316,7 +316,7 @@ fn push_escaped_all(bytes: &mut Vec<u8>, name: &str) -> Result<(), NoMemory>
     Ok(())
 }
 
-/// Puts a character behind the bytes, escaped as between quotes.
+/// Puts a character after the bytes, escaped as between quotes.
 fn push_escaped(bytes: &mut Vec<u8>, c: char) -> Result<(), NoMemory>
     ensures { OnOk result (bytes.new.items ≡ bytes.old.items ++ escaped c) }
 {
@@ -335,7 +335,7 @@ fn push_escaped(bytes: &mut Vec<u8>, c: char) -> Result<(), NoMemory>
     Ok(())
 }
 
-/// Puts a number's hexadecimal digits behind the bytes.
+/// Puts a number's hexadecimal digits after the bytes.
 fn push_hexadecimal(bytes: &mut Vec<u8>, number: u8) -> Result<(), NoMemory>
     ensures { OnOk result (bytes.new.items ≡ bytes.old.items ++ hexadecimal number) }
 {

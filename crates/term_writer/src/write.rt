@@ -15,7 +15,7 @@ use au_term::{Cell, FlatTerm, NoMemory};
 use op_table::Ops;
 use std::alloc::Global;
 
-/// Puts the text of a term behind the bytes of `out` (ISO/IEC 13211-1, 7.10.5), under these operators. After an error
+/// Puts the text of a term after the bytes of `out` (ISO/IEC 13211-1, 7.10.5), under these operators. After an error
 /// `out` is as before. It takes time linear in the text.
 pub fn write_into(
     alloc: Global,
@@ -50,7 +50,7 @@ fn notation(style: Style, ops: &Ops) -> Notation<'_>
 }
 
 impl<'a> Source<'a> {
-    /// Puts the term behind the text, in brackets or not.
+    /// Puts the term after the text, in brackets or not.
     pub(crate) fn write(
         self,
         alloc: Global,

@@ -5,7 +5,7 @@ use Rattle.au_term.specs.Term.{Term, VarTerm, IntTerm, AtomTerm, Compound, end, 
 use Rattle.au_model.specs.Terms.Forms.{same_name, binary}
 use Rattle.run_model.specs.Programs.Bodies.{is_junction, junction, body_of, goals_of, called_goals, call_of}
 use Rattle.run_model.specs.Programs.Jobs.{Query, goals_bound, names_bound}
-use Rattle.au_model.specs.declared.var_name.VarName.{VarName}
+use Rattle.au_model.specs.declared.types.VarName.{VarName}
 use Rattle.clause_compile.specs.CompiledClauses.{goal_items}
 use Rattle.clause_compile.specs.declared.item.Item.{Item}
 use Rattle.clause_compile.specs.declared.item.Scope.{Scope}

@@ -1,4 +1,4 @@
--- Sentences read one behind another.
+-- Sentences read one after another.
 use Rattle.std.proofs.Common.{◌≡◌, ◌∙◌, ℕ, List, [], ◌∷◌, ◌++◌, map, true, Err, refl, sym, ap, subst, append_assoc}
 use Rattle.std.specs.Arc.{arc_value}
 use Rattle.std.specs.Global.{Global}
@@ -14,12 +14,12 @@ use Rattle.au_model.specs.Syntax.TermTexts.{is_over}
 use Rattle.au_model.specs.Syntax.Trees.{Tree}
 use Rattle.run_model.specs.Programs.Jobs.{Query as QueryTerms}
 use Rattle.au_model.specs.Syntax.Layout.{begins_layout}
-use Rattle.au_model.specs.declared.fault_kind.FaultKind.{FaultKind}
+use Rattle.au_model.specs.declared.types.FaultKind.{FaultKind}
 use Rattle.clause_compile.specs.declared.clause.Clause.{Clause}
 use Rattle.token_scan.specs.NextToken.{IsTokenFault}
 use Rattle.token_scan.specs.declared.token.BadToken.{BadToken}
 use Rattle.au_model.specs.Syntax.Operators.{OperatorTable, initial_operators}
-use Rattle.au_model.specs.declared.double_quotes.DoubleQuotes.TheVariants.{Codes}
+use Rattle.au_model.specs.declared.types.DoubleQuotes.TheVariants.{Codes}
 use Rattle.term_reader.specs.ReadTerm.{IsTermRead}
 use Rattle.term_reader.specs.declared.read.ReadRefused.{ReadRefused}
 use Rattle.term_reader.specs.declared.read.ReadRefused.TheVariants.{Syntax, NoMemory as Full}
@@ -32,6 +32,7 @@ use Rattle.text_load.specs.LoadedTexts.{Sentences, no_more, one_more, unread, no
 use Rattle.text_load.specs.declared.assembly.Loaded.{Loaded}
 use Rattle.text_load.specs.declared.sentence.Sentence.{Sentence as Kept}
 use Rattle.text_load.specs.declared.sentence.Sentence.TheVariants as kept
+use Rattle.std.proofs.Common.{append-nil}
 
 clauses-more : (xs : List Sentence) (x : Sentence) → clauses_in (xs ++ x ∷ []) ≡ clauses_in xs ++ clauses_in (x ∷ [])
 clauses-more [] x = refl
@@ -45,16 +46,12 @@ queries-more (ClauseSentence c ∷ xs) x = queries-more xs x
 queries-more (QuerySentence q ∷ xs) x = ap (λ qs. q ∷ qs) (queries-more xs x)
 queries-more (NoSentence kind ∷ xs) x = queries-more xs x
 
-append-none : {X : Type 0} (xs : List X) → xs ++ [] ≡ xs
-append-none [] = refl
-append-none (x ∷ xs) = ap (λ ys. x ∷ ys) (append-none xs)
-
--- a clause or a query is kept behind the others
+-- a clause or a query is kept after the others
 pub clause_kept : (xs : List Sentence) (x : Sentence) (l new : Loaded) (c : Arc Clause Global) → new.clauses.items ≡ l.clauses.items ++ c ∷ [] → new.queries.items ≡ l.queries.items
     → AreLoaded xs l → IsSentenceOf x (kept.Clause c) → AreLoaded (xs ++ x ∷ []) new
 clause_kept xs (ClauseSentence d) l new c e k a is = record {
   clauses = ap (map arc_value) e ∙ (map-append arc_value l.clauses.items (c ∷ []) ∙ (ap (λ ys. ys ++ arc_value c ∷ []) a.clauses ∙ (ap (λ y. clauses_in xs ++ y ∷ []) is ∙ sym (clauses-more xs (ClauseSentence d)))));
-  queries = k ∙ (a.queries ∙ (sym (append-none (queries_in xs)) ∙ sym (queries-more xs (ClauseSentence d))));
+  queries = k ∙ (a.queries ∙ (sym (append-nil (queries_in xs)) ∙ sym (queries-more xs (ClauseSentence d))));
 }
 clause_kept xs (QuerySentence q) l new c e k a is = absurd is
 clause_kept xs (NoSentence kind) l new c e k a is = absurd is
@@ -63,7 +60,7 @@ pub query_kept_after : (xs : List Sentence) (x : Sentence) (l new : Loaded) (q :
     → AreLoaded xs l → IsSentenceOf x (kept.Query q) → AreLoaded (xs ++ x ∷ []) new
 query_kept_after xs (ClauseSentence d) l new q e k a is = absurd is
 query_kept_after xs (QuerySentence d) l new q e k a is = record {
-  clauses = ap (map arc_value) k ∙ (a.clauses ∙ (sym (append-none (clauses_in xs)) ∙ sym (clauses-more xs (QuerySentence d))));
+  clauses = ap (map arc_value) k ∙ (a.clauses ∙ (sym (append-nil (clauses_in xs)) ∙ sym (clauses-more xs (QuerySentence d))));
   queries = e ∙ (ap (λ ys. ys ++ q ∷ []) a.queries ∙ (ap (λ y. queries_in xs ++ y ∷ []) is ∙ sym (queries-more xs (QuerySentence d))));
 }
 query_kept_after xs (NoSentence kind) l new q e k a is = absurd is
@@ -105,7 +102,7 @@ pub read_none : (text : List ℕ) (l : Loaded) → l.clauses.items ≡ [] → l.
 read_none text l c q = record { done = []; loaded = record { clauses = ap (map arc_value) c; queries = q }; leads = λ xs h. h; faults = λ kind from f. f }
 
 pub read_all : (text : List ℕ) (at : ℕ) (l : Loaded) → HasRead text at l → is_over (chars_from text at) ≡ true → AreSentencesLoaded (chars text) l
-read_all text at l r over = record { sentences = r.done; are = subst (Sentences (chars text)) (append-none r.done) (r.leads [] (no_more over)); loaded = r.loaded }
+read_all text at l r over = record { sentences = r.done; are = subst (Sentences (chars text)) (append-nil r.done) (r.leads [] (no_more over)); loaded = r.loaded }
 
 pub refused_from : (text : List ℕ) (at line column : ℕ) (kind : FaultKind) (l : Loaded) → HasRead text at l → FaultsFrom text at line column kind → IsRefused (chars text) line column kind
 refused_from text at line column kind l r f = record {

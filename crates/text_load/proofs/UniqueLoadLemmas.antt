@@ -7,7 +7,7 @@ use Rattle.au_model.specs.Syntax.Tokens.{tokens_of, scanned_word, ScannedNone}
 use Rattle.au_model.specs.Syntax.Words.{Lexed, FoundWord, FoundFault, NameWord, QuotedWord, VariableWord, IntegerWord, TextWord, MarkWord, StopWord, LastWord, next_word}
 use Rattle.au_model.specs.Syntax.TermTexts.{SpellsTermWithEnd, is_last, is_over}
 use Rattle.au_model.specs.Syntax.Trees.{Tree}
-use Rattle.au_model.specs.declared.fault_kind.FaultKind.{FaultKind}
+use Rattle.au_model.specs.declared.types.FaultKind.{FaultKind}
 use Rattle.term_reader.proofs.FirstTokenLemmas.{tokens-none}
 use Rattle.term_reader.proofs.FirstFaultLemmas.{same-fault}
 use Rattle.term_reader.proofs.UniqueReadingLemmas.{same_reading}
@@ -15,19 +15,9 @@ use Rattle.au_model.specs.Syntax.TextFaults.{line_after, column_after}
 use Rattle.text_load.specs.Sentences.{Sentence, NoSentence, sentence, IsSentence}
 use Rattle.text_load.specs.LoadedTexts.{Sentences, no_more, one_more, FirstFault, unread, no_sentence, further, LoadsTo, IsRefused, job_of, first_setting}
 use Rattle.text_load.proofs.SentenceLemmas.{no_operand}
+use Rattle.term_reader.proofs.FaultyTokenLemmas.{no_word as last_none}
 
 -- where nothing but layout is left, no term is spelled
-last_none : (l : Lexed) (b : Bool) → is_last l ≡ true → scanned_word b l ≡ ScannedNone
-last_none (FoundWord LastWord rest) b e = refl
-last_none (FoundWord (NameWord cs) rest) b e = let f : ⊥ = cc in absurd f
-last_none (FoundWord (QuotedWord cs) rest) b e = let f : ⊥ = cc in absurd f
-last_none (FoundWord (VariableWord cs) rest) b e = let f : ⊥ = cc in absurd f
-last_none (FoundWord (IntegerWord n) rest) b e = let f : ⊥ = cc in absurd f
-last_none (FoundWord (TextWord cs) rest) b e = let f : ⊥ = cc in absurd f
-last_none (FoundWord (MarkWord c) rest) b e = let f : ⊥ = cc in absurd f
-last_none (FoundWord StopWord rest) b e = let f : ⊥ = cc in absurd f
-last_none (FoundFault kind from) b e = let f : ⊥ = cc in absurd f
-
 over_spells_none : (cs rest : List ℕ) (t : Tree) → is_over cs ≡ true → SpellsTermWithEnd first_setting cs t rest → ⊥
 over_spells_none cs rest t over h = no_operand (tokens_of cs) (tokens-none cs (last_none (next_word cs) (begins_layout cs) over)) h.spelled
 

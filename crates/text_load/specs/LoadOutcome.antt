@@ -5,7 +5,7 @@ use Rattle.au_model.specs.Syntax.Characters.{chars_from}
 use Rattle.au_model.specs.Syntax.Layout.{GapThen, after_layout}
 use Rattle.au_model.specs.Syntax.TermTexts.{SpellsTermWithEnd, is_over}
 use Rattle.au_model.specs.Syntax.Trees.{Tree}
-use Rattle.au_model.specs.declared.fault_kind.FaultKind.{FaultKind}
+use Rattle.au_model.specs.declared.types.FaultKind.{FaultKind}
 use Rattle.term_reader.specs.ReadTerm.{Spelling}
 use Rattle.au_model.specs.Syntax.TextFaults.{IsLineAndColumn}
 use Rattle.term_reader.specs.declared.read.ReadRefused.{ReadRefused}
@@ -20,7 +20,7 @@ use Rattle.text_load.specs.declared.reading.LoadRefusal.TheVariants.{Refused, No
 use Rattle.text_load.specs.declared.reading.Next.{Next}
 use Rattle.text_load.specs.declared.reading.Next.TheVariants as next
 
--- a text is refused, or memory is wanting
+-- a text is refused, or memory runs out
 abbrev pub IsRefusedAt : List ℕ → LoadRefusal → Type 0
 IsRefusedAt text (Refused line column kind) = IsRefused text line column kind
 IsRefusedAt text NoMemory = Unit {0}

@@ -10,8 +10,8 @@ use Rattle.au_model.specs.Syntax.Operators.{initial_operators}
 use Rattle.au_model.specs.Syntax.Primaries.{Setting}
 use Rattle.au_model.specs.Syntax.TermTexts.{SpellsTermWithEnd, is_over}
 use Rattle.au_model.specs.Syntax.Trees.{Tree}
-use Rattle.au_model.specs.declared.double_quotes.DoubleQuotes.TheVariants.{Codes}
-use Rattle.au_model.specs.declared.fault_kind.FaultKind.{FaultKind}
+use Rattle.au_model.specs.declared.types.DoubleQuotes.TheVariants.{Codes}
+use Rattle.au_model.specs.declared.types.FaultKind.{FaultKind}
 use Rattle.au_model.specs.Syntax.TextFaults.{Fault, line_after, column_after}
 use Rattle.text_load.specs.Sentences.{Sentence, ClauseSentence, QuerySentence, NoSentence, sentence, IsSentence}
 
@@ -19,16 +19,16 @@ use Rattle.text_load.specs.Sentences.{Sentence, ClauseSentence, QuerySentence, N
 abbrev pub first_setting : Setting
 first_setting = record { ops = initial_operators; quotes = Codes }
 
--- terms with their ends, one behind another, each a sentence, and then nothing but layout
+-- terms with their ends, one after another, each a sentence, and then nothing but layout
 pub data Sentences : List ℕ → List Sentence → Type 0 where
   no_more : {cs : List ℕ} → is_over cs ≡ true → Sentences cs []
   one_more : {cs rest : List ℕ} {t : Tree} {xs : List Sentence} → SpellsTermWithEnd first_setting cs t rest → IsSentence (sentence t) → Sentences rest xs → Sentences cs (sentence t ∷ xs)
 
--- no term with its end stands in front of what is left
+-- no term with its end is in front of what is left
 abbrev pub IsNoTermFirst : List ℕ → Type 0
 IsNoTermFirst cs = (t : Tree) (rest : List ℕ) → SpellsTermWithEnd first_setting cs t rest → ⊥
 
--- Behind sentences, the first thing that is none: its kind, and the characters from its place on. A term that is no
+-- After sentences, the first thing that is none: its kind, and the characters from its place on. A term that is no
 -- sentence is blamed at its first token.
 pub data FirstFault : List ℕ → FaultKind → List ℕ → Type 0 where
   unread : {cs from : List ℕ} {kind : FaultKind} → is_over cs ≡ false → IsNoTermFirst cs → Fault first_setting cs kind from → FirstFault cs kind from
@@ -75,3 +75,9 @@ pub record IsRefused (text : List ℕ) (line column : ℕ) (kind : FaultKind) : 
   pub fault : FirstFault text kind from
   pub line_is : line ≡ line_after before
   pub column_is : column ≡ column_after before
+
+-- what a text is refused with is one line, one column and one kind
+abbrev pub IsOneRefusal : List ℕ → Type 0
+IsOneRefusal text =
+    (line column other_line other_column : ℕ) (kind other : FaultKind) → IsRefused text line column kind
+    → IsRefused text other_line other_column other → (line ≡ other_line) × (column ≡ other_column) × (kind ≡ other)

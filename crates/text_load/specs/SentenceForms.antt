@@ -6,7 +6,7 @@ use Rattle.au_term.specs.declared.cell.Cell.TheVariants.{Var as VarCell, Int as 
 use Rattle.au_model.specs.Terms.Forms.{same_name}
 use Rattle.run_model.specs.Programs.Bodies.{called_goals}
 use Rattle.au_model.specs.Terms.Named.{NamedVariable}
-use Rattle.au_model.specs.declared.fault_kind.FaultKind.TheVariants.{BadDirective}
+use Rattle.au_model.specs.declared.types.FaultKind.TheVariants.{BadDirective}
 use Rattle.text_load.specs.Sentences as form
 use Rattle.text_load.specs.Sentences.{query_with, clause_of, fact_of, NoSentence}
 use Rattle.text_load.specs.declared.sentence.Form.{Form}

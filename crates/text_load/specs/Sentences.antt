@@ -1,4 +1,4 @@
--- What a term of a text is: a clause, a query, or neither (ISO/IEC 13211-1, 6.2.1 and 7.4). That a query stands in the
+-- What a term of a text is: a clause, a query, or neither (ISO/IEC 13211-1, 6.2.1 and 7.4). That a query is in the
 -- text is our own.
 use Rattle.std.specs.Prelude.{ℕ, Bool, not, ◌&&◌, List, Option, Some, None, codes, if◌then◌else◌, cond}
 use Rattle.au_term.specs.Term.{Term, AtomTerm, Compound, end, more, argument_count}
@@ -11,8 +11,8 @@ use Rattle.run_model.specs.Programs.Jobs.{Query}
 use Rattle.au_model.specs.Syntax.Trees.{Tree}
 use Rattle.au_model.specs.Syntax.VariableNumbers as reading
 use Rattle.au_model.specs.Syntax.VariableNumbers.{no_variables}
-use Rattle.au_model.specs.declared.fault_kind.FaultKind.{FaultKind}
-use Rattle.au_model.specs.declared.fault_kind.FaultKind.TheVariants.{BadClause, BadDirective}
+use Rattle.au_model.specs.declared.types.FaultKind.{FaultKind}
+use Rattle.au_model.specs.declared.types.FaultKind.TheVariants.{BadClause, BadDirective}
 use Rattle.clause_compile.specs.CompiledClauses.{numbered}
 
 pub data Sentence : Type 0 where

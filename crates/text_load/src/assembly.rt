@@ -61,7 +61,7 @@ fn clauses_of(
     Ok(clauses)
 }
 
-/// Puts the clauses of procedures that others do not define behind those that are there.
+/// Puts the clauses of procedures that others do not define after those that are there.
 fn push_undefined(
     library: &[Arc<Clause>],
     others: &[Arc<Clause>],
@@ -77,7 +77,7 @@ fn push_undefined(
     Ok(())
 }
 
-/// Puts clauses behind those that are there.
+/// Puts clauses after those that are there.
 fn push_all(more: &[Arc<Clause>], clauses: &mut Vec<Arc<Clause>>) -> Result<(), NoMemory>
     ensures { OnOk result (map arc_value clauses.new.items ≡ map arc_value clauses.old.items ++ map arc_value more.now) }
 {

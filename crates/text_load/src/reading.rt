@@ -20,7 +20,7 @@ use std::alloc::Global;
 use term_reader::{ReadOutcome, ReadRefused, line_and_column, read_term};
 use token_scan::next_token;
 
-/// Why a text loads to no job: its first fault, with its line and column, or want of memory.
+/// Why a text loads to no job: its first fault, with its line and column, or running out of memory.
 #[derive(Clone, Copy, Debug, PartialEq, Eq)]
 pub enum LoadRefusal {
     Refused {
@@ -76,7 +76,7 @@ fn loaded(alloc: Global, ops: &Ops, text: &str) -> Result<Loaded, LoadRefusal>
     }
 }
 
-/// What stands next in a text: a sentence, and the place behind it, or nothing but layout.
+/// What is next in a text: a sentence, and the place after it, or nothing but layout.
 #[derive(Drop)]
 pub(crate) enum Next {
     Sentence(Sentence, usize),
@@ -123,7 +123,7 @@ fn sentence_at(text: &str, at: usize, sentence: Sentence, end: usize) -> Result<
     }
 }
 
-/// The place of the first token behind a place.
+/// The place of the first token after a place.
 fn first_token(text: &str, at: usize) -> usize
     requires { IsCharBoundary text.now at }
     ensures begins { BeginsTermAt text.now at result }
@@ -135,7 +135,7 @@ fn first_token(text: &str, at: usize) -> usize
     }
 }
 
-/// Puts a sentence behind those that are kept.
+/// Puts a sentence after those that are kept.
 fn keep(loaded: &mut Loaded, sentence: Sentence) -> Result<(), NoMemory>
     ensures { OnOk result ((xs : List SentenceTerms) (x : SentenceTerms) → AreLoaded xs loaded.old → IsSentence x → IsSentenceOf x sentence → AreLoaded (xs ++ x ∷ []) loaded.new) }
 {

@@ -78,7 +78,7 @@ fn compound_form(arity: u32, asks: bool, rules: bool) -> Form
     }
 }
 
-/// The query that stands in a term.
+/// The query that is in a term.
 fn asked(alloc: Global, term: FlatTerm, names: Vec<VarName>) -> Result<Sentence, NoMemory>
     requires { 0 < argument_count term }
     ensures { IfOk result (IsSentenceOf (query_with (map variable_meant names.items) (called_goals (argument 0 term)))) }
@@ -88,7 +88,7 @@ fn asked(alloc: Global, term: FlatTerm, names: Vec<VarName>) -> Result<Sentence,
     query(alloc, &body, names)
 }
 
-/// The clause of a head and a body that stand in one term.
+/// The clause of a head and a body that are in one term.
 fn rule(alloc: Global, term: FlatTerm) -> Result<Sentence, NoMemory>
     requires { 1 < argument_count term }
     ensures { IfOk result (IsSentenceOf (clause_of (argument 0 term) (argument 1 term))) }

@@ -19,7 +19,7 @@ one_digit base most n d b = elim (cases_order n most) [ inl e ↦ below (omega a
       let y : n * 1 ≤ n * base = mul-le-mul_left n b in
       rw e (omega arith)
 
--- digits behind a number that was cut at the greatest one
+-- digits after a number that was cut at the greatest one
 pub digits-capped : (base most n : ℕ) (ds : List ℕ) → 1 ≤ base → min (digits_value_after base (min n most) ds) most ≡ min (digits_value_after base n ds) most
 digits-capped base most n [] b = omega arith
 digits-capped base most n (c ∷ ds) b =

@@ -64,7 +64,7 @@ pub after_layout-item : (cs : List ℕ) → after_layout cs ≡ after_layout_ite
 unfolding after_layout
 after_layout-item cs = one_item (length cs) cs refl
 
--- what is left behind layout is no longer than the text
+-- what is left after layout is no longer than the text
 items-within : (n : ℕ) (cs rest : List ℕ) → after_layout_items n cs ≡ GapThen rest → length rest ≤ length cs
 items-within zero cs rest e = let same : cs ≡ rest = cc in omega (arith, ap length same)
 items-within (suc n) cs rest e = go (layout_item cs) refl (items-within n) where
@@ -108,7 +108,7 @@ no_layout cs rest b e = go (layout_item cs) refl where
   go NotClosed h = let k = rw h at b in let f : ⊥ = cc in absurd f
   go NoLayout h = let k : GapThen cs ≡ GapThen rest = ap (after_layout_item after_layout cs) (sym h) ∙ (sym (after_layout-item cs) ∙ e) in cc
 
--- layout stands before a token just where the token is further on
+-- layout is before a token just where the token is further on
 pub layout-before : (text : List ℕ) (at start : ℕ) → IsUtf8 text → IsCharBoundary text at → IsCharBoundary text start → at ≤ start
     → after_layout (chars_from text at) ≡ GapThen (chars_from text start) → nat_lt at start ≡ begins_layout (chars_from text at)
 layout-before text at start u i j l e = go (begins_layout (chars_from text at)) refl where

@@ -9,7 +9,7 @@ use Rattle.au_model.specs.Syntax.Quoted.{Part, StandsFor, StandsForNothing, Clos
 use Rattle.token_scan.specs.ScannedParts.{quoted_rest}
 use Rattle.token_scan.proofs.RunLemmas.{length-after_run}
 
--- what is left behind a part is shorter
+-- what is left after a part is shorter
 abbrev pub EndsWithin : ℕ → Part → Type 0
 EndsWithin n (StandsFor d rest) = length rest < n
 EndsWithin n (StandsForNothing rest) = length rest < n
@@ -162,7 +162,7 @@ closed-wrong q start done here g s e = let n : quoted_rest (quoted q start) ≡ 
 pub closed-cut : (q : ℕ) (start done here : List ℕ) → Gone q start done here → IsSome (quoted_rest (quoted q start)) → part q here ≡ CutOff → ⊥
 closed-cut q start done here g s e = let n : quoted_rest (quoted q start) ≡ None = ap quoted_rest (gone-cut q start done here g e) in let f : IsSome {T = List ℕ} None = subst IsSome n s in absurd (some_none f)
 
--- a character behind a text
+-- a character after a text
 pub chars-put : (bs : List ℕ) (c : ℕ) → IsUtf8 bs → IsScalar c → chars (bs ++ encode c) ≡ chars bs ++ (c ∷ [])
 chars-put bs c u s =
     let one : chars (encode c) ≡ c ∷ [] = chars_past_char (encode c) [] c (IsUtf8-encode c s) (sym (append-nil (encode c))) ∙ ap (λ cs. c ∷ cs) chars-nil in

@@ -7,14 +7,7 @@ use Rattle.au_model.specs.Syntax.Layout.{GapThen, NoLayout, layout_item, after_l
 use Rattle.au_model.specs.Syntax.Numerals.{NumeralThen, begins_fraction, decimal_numeral, zero_numeral, numeral}
 use Rattle.au_model.specs.Syntax.Words.{NameWord, VariableWord, MarkWord, Word, FoundWord, run_word, ends_term, word_at_front}
 use Rattle.token_scan.proofs.LayoutLemmas.{after_layout-item}
-
-and_first : (x y : Bool) → (x && y) ≡ true → x ≡ true
-and_first true y e = refl
-and_first false y e = e
-
-and_second : (x y : Bool) → (x && y) ≡ true → y ≡ true
-and_second true y e = e
-and_second false y e = let f : ⊥ = cc in absurd f
+use Rattle.au_term.proofs.LogicLemmas.{and-left as and_first, and-right as and_second}
 
 pub run-again : (p : ℕ → Bool) (cs z : List ℕ) → list_all p cs ≡ true → first_passes p z ≡ false → run p (cs ++ z) ≡ cs
 run-again p [] [] h e = refl
@@ -56,14 +49,14 @@ pub symbols-again : (c : ℕ) (cs z : List ℕ) → IsSign c → is_solo c ≡ f
     → list_all is_symbol cs ≡ true → first_passes is_symbol z ≡ false → word_at_front ((c ∷ cs) ++ z) ≡ FoundWord (NameWord (c ∷ cs)) z
 symbols-again c cs z i s p n y h e = rw (i.small, i.variable, i.digit, i.single, i.double, s, p, n, y) (run_word-again NameWord is_symbol c cs z h e)
 
--- where no layout stands, and behind one space
+-- where no layout is, and after one space
 pub none-again : (z : List ℕ) → layout_item z ≡ NoLayout → after_layout z ≡ GapThen z
 none-again z e = let h = after_layout-item z in rw e at h
 
 pub space-again : (z : List ℕ) → layout_item z ≡ NoLayout → after_layout (32 ∷ z) ≡ GapThen z
 space-again z e = after_layout-item (32 ∷ z) ∙ none-again z e
 
--- digits, behind which neither a digit nor a fraction stands, and where a `0` comes first nothing that makes more of it
+-- digits, after which neither a digit nor a fraction is, and where a `0` comes first nothing that makes more of it
 pub decimal-again : (ds z : List ℕ) → list_all (is_digit_of 10) ds ≡ true → first_passes (is_digit_of 10) z ≡ false → begins_fraction z ≡ false
     → nat_le (digits_value 10 ds) (2 ^ 63) ≡ true → (first_is 48 (ds ++ z) ≡ true → zero_numeral (drop 1 (ds ++ z)) ≡ None) → numeral (ds ++ z) ≡ NumeralThen (digits_value 10 ds) z
 unfolding numeral

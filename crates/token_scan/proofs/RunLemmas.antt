@@ -55,7 +55,7 @@ run-passes p c cs e = rw e
 pub after_run-passes : (p : ℕ → Bool) (c : ℕ) (cs : List ℕ) → p c ≡ true → after_run p (c ∷ cs) ≡ after_run p cs
 after_run-passes p c cs e = rw e
 
--- a run and what is left behind it are the text
+-- a run and what is left after it are the text
 pub run-and_after : (p : ℕ → Bool) (cs : List ℕ) → run p cs ++ after_run p cs ≡ cs
 run-and_after p [] = refl
 run-and_after p (c ∷ cs) = go (p c) refl (run-and_after p cs) where

@@ -5,7 +5,7 @@ use Rattle.au_model.specs.Syntax.Characters.{is_symbol, is_solo, is_punctuation,
 use Rattle.au_model.specs.Syntax.Quoted.{Quoted, QuotedThen, WrongEscape, NeverClosed, quoted}
 use Rattle.au_model.specs.Syntax.Numerals.{Numeral, NumeralThen, FloatingPoint, TooWide, WrongCharacter, numeral}
 use Rattle.au_model.specs.Syntax.Words.{Word, NameWord, QuotedWord, VariableWord, TextWord, MarkWord, StopWord, Lexed, FoundWord, FoundFault, run_word, numeral_word, quoted_word, ends_term, word_at_front, word_after, next_word, word_characters, word_number, found_word}
-use Rattle.au_model.specs.declared.fault_kind.FaultKind.TheVariants.{BadCharacter}
+use Rattle.au_model.specs.declared.types.FaultKind.TheVariants.{BadCharacter}
 use Rattle.token_scan.proofs.RunLemmas.{run-and_after}
 use Rattle.token_scan.specs.NextToken.{kind_of, kind_found, is_plain_kind, is_quoted_kind, is_integer_kind, word_of, IsNextToken}
 use Rattle.token_scan.specs.ScannedParts.{quoted_rest, quoted_characters, numeral_of}
@@ -15,11 +15,11 @@ use Rattle.token_scan.specs.declared.token.Token.{Token}
 use Rattle.token_scan.specs.declared.token.TokenKind.{TokenKind}
 use Rattle.token_scan.specs.declared.token.TokenKind.TheVariants.{Integer}
 
-if_cases : (P : Lexed → Type 0) (b : Bool) (x y : Lexed) → (b ≡ true → P x) → (b ≡ false → P y) → P (cond b x y)
+pub if_cases : (P : Lexed → Type 0) (b : Bool) (x y : Lexed) → (b ≡ true → P x) → (b ≡ false → P y) → P (cond b x y)
 if_cases P true x y h k = h refl
 if_cases P false x y h k = k refl
 
--- what holds of each word that may stand at the front holds of the one that does
+-- what holds of each word that may be at the front holds of the one that does
 pub word_cases : (P : Lexed → Type 0) (c : ℕ) (cs : List ℕ)
     → P (run_word NameWord is_alphanumeric c cs) → P (run_word VariableWord is_alphanumeric c cs) → P (numeral_word (c ∷ cs) (numeral (c ∷ cs)))
     → (c ≡ 39 → P (quoted_word QuotedWord (c ∷ cs) (quoted 39 cs))) → (c ≡ 34 → P (quoted_word TextWord (c ∷ cs) (quoted 34 cs)))
@@ -61,7 +61,7 @@ other_kind p j k r rest e n h = let f : false ≡ true = sym n ∙ (ap p (same_k
 no_kind : {A : Type 0} (rest : List ℕ) (k : TokenKind) → None ≡ found k rest → A
 no_kind rest k e = let g : ⊥ = cc in absurd g
 
--- a word that is found is a word with what is left behind it
+-- a word that is found is a word with what is left after it
 pub found-is : (lx : Lexed) (k : TokenKind) (rest : List ℕ) → Finds lx k rest → (lx ≡ FoundWord (found_word lx) rest) × (k ≡ kind_of (found_word lx))
 unfolding rest_in
 found-is (FoundWord w r) k rest e = let same : r ≡ rest = ap (λ o. rest_in o r) e in (ap (FoundWord w) same, sym (same_kind (kind_of w) k r rest e))
@@ -74,7 +74,7 @@ is-found lx k w rest e h = ap kind_found e ∙ ap (λ j. found j rest) (sym h)
 pub next_word-found : (text : List ℕ) (at : ℕ) (t : Token) → IsNextToken text at t → next_word (chars_from text at) ≡ FoundWord (word_of text t) (chars_from text t.end)
 next_word-found text at t n = ap word_after n.layout ∙ n.token.word
 
--- a quoted item that was found, by what stands behind its quote
+-- a quoted item that was found, by what is after its quote
 pub record IsQuotedItem (lx : Lexed) (q : Quoted) : Type 0 where
   pub closed : IsSome (quoted_rest q)
   pub characters : word_characters (found_word lx) ≡ quoted_characters q
@@ -162,7 +162,7 @@ one_plain : (j k : TokenKind) (c : ℕ) (cs rest : List ℕ) → found j cs ≡ 
 unfolding rest_in
 one_plain j k c cs rest e = ap (λ ds. c ∷ ds) (ap (λ o. rest_in o rest) e)
 
--- a name, a variable and a mark stand in the text with their characters
+-- a name, a variable and a mark are in the text with their characters
 pub plain-is : (cs rest : List ℕ) (k : TokenKind) → Finds (word_at_front cs) k rest → is_plain_kind k ≡ true → cs ≡ word_characters (found_word (word_at_front cs)) ++ rest
 plain-is [] rest k = λ e. other_kind is_plain_kind _ k _ rest e refl
 plain-is (c ∷ cs) rest k = word_cases (λ lx. Finds lx k rest → is_plain_kind k ≡ true → c ∷ cs ≡ word_characters (found_word lx) ++ rest) c cs

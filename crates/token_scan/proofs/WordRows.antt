@@ -6,7 +6,7 @@ use Rattle.au_model.specs.Syntax.Layout.{after_layout}
 use Rattle.au_model.specs.Syntax.Quoted.{quoted}
 use Rattle.au_model.specs.Syntax.Numerals.{numeral}
 use Rattle.au_model.specs.Syntax.Words.{NameWord, QuotedWord, VariableWord, IntegerWord, TextWord, MarkWord, StopWord, LastWord, FoundWord, FoundFault, next_word}
-use Rattle.au_model.specs.declared.fault_kind.FaultKind.TheVariants.{BadCharacter, BadEscape, UnclosedQuote, UnclosedComment, FloatNumeral, WideNumeral}
+use Rattle.au_model.specs.declared.types.FaultKind.TheVariants.{BadCharacter, BadEscape, UnclosedQuote, UnclosedComment, FloatNumeral, WideNumeral}
 
 layout_and_comments : map next_word (codes " bar+" ∷ codes "/* */" ∷ codes "%c" ∷ codes "/* x" ∷ codes "./*c*/" ∷ codes ".%c" ∷ codes "." ∷ codes ".(" ∷ codes "+/*" ∷ [])
     ≡ FoundWord (NameWord (codes "bar")) (codes "+")

@@ -18,7 +18,7 @@ kind_of (MarkWord c) = Punctuation
 kind_of StopWord = End
 kind_of LastWord = EndOfText
 
--- names, variables and marks stand in the text as they are
+-- names, variables and marks are in the text as they are
 abbrev pub is_plain_kind : TokenKind → Bool
 is_plain_kind Name = true
 is_plain_kind Variable = true
@@ -34,7 +34,7 @@ abbrev pub is_integer_kind : TokenKind → Bool
 is_integer_kind Integer = true
 is_integer_kind _ = false
 
--- the kind of a found word and what is left behind it
+-- the kind of a found word and what is left after it
 abbrev pub kind_found : Lexed → Option (TokenKind × List ℕ)
 kind_found (FoundWord w rest) = Some (kind_of w, rest)
 kind_found (FoundFault k from) = None
@@ -51,7 +51,7 @@ pub record IsToken (text : List ℕ) (t : Token) : Type 0 where
   pub word : word_at_front (chars_from text t.start) ≡ FoundWord (word_of text t) (chars_from text t.end)
   pub kind : t.kind ≡ kind_of (word_of text t)
 
--- the first token from a place on, and whether layout stands before it
+-- the first token from a place on, and whether layout is before it
 pub record IsNextToken (text : List ℕ) (at : ℕ) (t : Token) : Type 0 where
   pub token : IsToken text t
   pub from : at ≤ t.start

@@ -27,14 +27,14 @@ quoted_part_of text Cut = CutOff
 abbrev pub IsPlaceFrom : List ℕ → ℕ → ℕ → Type 0
 IsPlaceFrom text at place = (at ≤ place) × IsCharBoundary text place
 
--- the piece ends behind this place
+-- the piece ends after this place
 abbrev pub EndsAfter : List ℕ → ℕ → Piece → Type 0
 EndsAfter text at (Stands c end) = IsPlaceFrom text (suc at) end
 EndsAfter text at (Skips end) = IsPlaceFrom text (suc at) end
 EndsAfter text at (Closes end) = IsPlaceFrom text (suc at) end
 EndsAfter text at _ = Unit {0}
 
--- what is left behind a quoted item
+-- what is left after a quoted item
 abbrev pub quoted_rest : Quoted → Option (List ℕ)
 quoted_rest (QuotedThen cs rest) = Some rest
 quoted_rest _ = None
@@ -51,7 +51,7 @@ numeral_of text Float = FloatingPoint
 numeral_of text Wide = TooWide
 numeral_of text (NoCharacter place) = WrongCharacter (chars_from text place)
 
--- the number is not too wide and ends, or its escape stands, from this place on
+-- the number is not too wide and ends, or its escape is, from this place on
 abbrev pub IsNumberFrom : List ℕ → ℕ → Number → Type 0
 IsNumberFrom text at (Fits n end) = IsPlaceFrom text at end × (n ≤ 2 ^ 63)
 IsNumberFrom text at (NoCharacter place) = IsPlaceFrom text at place

@@ -14,7 +14,7 @@ pub record IsLongestPrefix (p : ℕ → Bool) (cs front rest : List ℕ) : Type 
 abbrev pub RunsAreLongest : Type 0
 RunsAreLongest = (p : ℕ → Bool) (cs : List ℕ) → IsLongestPrefix p cs (run p cs) (after_run p cs)
 
--- what is left behind layout begins with none
+-- what is left after layout begins with none
 abbrev pub LayoutIsLongest : Type 0
 LayoutIsLongest = (cs rest : List ℕ) → after_layout cs ≡ GapThen rest → begins_layout rest ≡ false
 

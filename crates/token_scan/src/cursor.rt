@@ -34,7 +34,7 @@ pub(crate) fn peek(text: &str, at: usize) -> Option<char>
     text[at..].chars().next()
 }
 
-/// The place behind the character at a place.
+/// The place after the character at a place.
 pub(crate) fn step(text: &str, at: usize, c: char) -> usize
     requires boundary { IsCharBoundary text.now at }
     requires there { slice_get (chars_from text.now at) 0 ≡ Some c }
@@ -45,7 +45,7 @@ pub(crate) fn step(text: &str, at: usize, c: char) -> usize
     at + c.len_utf8()
 }
 
-/// Whether this character stands at a place.
+/// Whether this character is at a place.
 pub(crate) fn is_next(text: &str, at: usize, c: char) -> bool
     requires { IsCharBoundary text.now at }
     ensures { result ≡ first_is c (chars_from text.now at) }
@@ -95,7 +95,7 @@ pub(crate) fn digits(text: &str, at: usize, base: u32) -> (u64, usize)
     (number, end)
 }
 
-/// Whether a digit of a base stands at a place.
+/// Whether a digit of a base is at a place.
 pub(crate) fn is_digit_next(text: &str, at: usize, base: u32) -> bool
     requires boundary { IsCharBoundary text.now at }
     requires low { 2 ≤ base }

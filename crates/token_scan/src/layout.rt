@@ -25,7 +25,7 @@ fn comment_end(text: &str, at: usize) -> Option<usize>
     None
 }
 
-/// The place behind layout, or that of a comment that is not closed.
+/// The place after layout, or that of a comment that is not closed.
 pub(crate) fn skip_layout(text: &str, at: usize) -> Result<usize, usize>
     requires { IsCharBoundary text.now at }
     ensures clear { IfOk result (λ end. after_layout (chars_from text.now at) ≡ GapThen (chars_from text.now end)) }

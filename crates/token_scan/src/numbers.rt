@@ -52,7 +52,7 @@ fn decimal_numeral(text: &str, at: usize) -> Number
     }
 }
 
-/// The base that a letter behind a `0` names, and the place of its digits.
+/// The base that a letter after a `0` names, and the place of its digits.
 fn named_base(text: &str, at: usize) -> Option<(u32, usize)>
     requires { IsCharBoundary text.now at }
     ensures base { option_map (λ r. r.0) result ≡ named_base (chars_from text.now at) }
@@ -76,7 +76,7 @@ fn named_base(text: &str, at: usize) -> Option<(u32, usize)>
     }
 }
 
-/// The character that stands behind `0'`.
+/// The character that is after `0'`.
 fn character_numeral(text: &str, at: usize) -> Option<Number>
     requires { IsCharBoundary text.now at }
     ensures numeral { character_numeral (chars_from text.now at) ≡ option_map (numeral_of text.now) result }

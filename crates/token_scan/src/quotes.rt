@@ -28,7 +28,7 @@ pub(crate) enum Piece {
     Cut,
 }
 
-/// The character that a sign behind a backslash stands for.
+/// The character that a sign after a backslash stands for.
 fn named_escape(c: char) -> Option<char>
     ensures { result ≡ named_escape c }
 {
@@ -72,7 +72,7 @@ fn numbered_escape(text: &str, at: usize, base: u32) -> Piece
     }
 }
 
-/// The escape behind a backslash.
+/// The escape after a backslash.
 pub(crate) fn escape(text: &str, at: usize) -> Piece
     requires { IsCharBoundary text.now at }
     ensures part { escape (chars_from text.now at) ≡ quoted_part_of text.now result }
@@ -93,7 +93,7 @@ pub(crate) fn escape(text: &str, at: usize) -> Piece
     }
 }
 
-/// The part at a place behind the opening quote.
+/// The part at a place after the opening quote.
 pub(crate) fn part(text: &str, at: usize, quote: char) -> Piece
     requires { IsCharBoundary text.now at }
     ensures part { part quote (chars_from text.now at) ≡ quoted_part_of text.now result }
@@ -118,7 +118,7 @@ pub(crate) fn part(text: &str, at: usize, quote: char) -> Piece
     }
 }
 
-/// Where the quoted item ends whose opening quote stands at one place, and whose first part at the next.
+/// Where the quoted item ends whose opening quote is at one place, and whose first part at the next.
 pub(crate) fn quoted_end(
     text: &str,
     quote_at: usize,
@@ -152,7 +152,7 @@ pub(crate) fn quoted_end(
     }
 }
 
-/// Puts a character behind a text.
+/// Puts a character after a text.
 fn put(text: &mut String, c: char) -> Result<(), NoMemory>
     ensures { OnOk result (chars (string_bytes text.new) ≡ chars (string_bytes text.old) ++ c ∷ []) }
 {
@@ -160,7 +160,7 @@ fn put(text: &mut String, c: char) -> Result<(), NoMemory>
     Ok(())
 }
 
-/// The characters of the quoted item whose first part stands at a place.
+/// The characters of the quoted item whose first part is at a place.
 pub(crate) fn characters(
     alloc: Global,
     text: &str,

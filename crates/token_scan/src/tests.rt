@@ -10,7 +10,7 @@ use std::test::Fail;
 
 type Row = (&'static str, usize, TokenKind, usize, usize, bool);
 
-/// A text, a place, and the kind, start and end of the token from there on, and whether layout stands before it.
+/// A text, a place, and the kind, start and end of the token from there on, and whether layout is before it.
 static TOKENS: [Row; 68] = [
     ("foo bar", 0, TokenKind::Name, 0, 3, false),
     ("foo bar", 3, TokenKind::Name, 4, 7, true),

@@ -20,7 +20,7 @@ pub enum TokenKind {
 pub struct Token {
     pub kind: TokenKind,
     pub start: usize,
-    /// The place behind its last character.
+    /// The place after its last character.
     pub end: usize,
     pub layout_before: bool,
 }

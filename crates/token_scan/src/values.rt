@@ -10,7 +10,7 @@ use crate::token::Token;
 use au_term::NoMemory;
 use std::alloc::Global;
 
-/// The characters of a name, a variable or a mark, as they stand in the text.
+/// The characters of a name, a variable or a mark, as they are in the text.
 pub fn spelling<'a>(text: &'a str, token: &Token) -> &'a str
     requires token { IsToken text.now token.now }
     requires plain { is_plain_kind token.now.kind ≡ true }

@@ -78,7 +78,7 @@ abbrev pub run : (ℕ → Bool) → List ℕ → List ℕ
 run p [] = []
 run p (c ∷ cs) = if p c then c ∷ run p cs else []
 
--- what is left behind the longest front of characters that pass
+-- what is left after the longest front of characters that pass
 abbrev pub after_run : (ℕ → Bool) → List ℕ → List ℕ
 after_run p [] = []
 after_run p (c ∷ cs) = if p c then after_run p cs else (c ∷ cs)

@@ -4,7 +4,7 @@ use Rattle.std.specs.Str.Parse.{digits_value}
 use Rattle.au_model.specs.Syntax.Characters.{is_digit_of, first_passes, first_is, run, after_run}
 use Rattle.au_model.specs.Syntax.Quoted.{Part, StandsFor, escape}
 
--- a number and what is left behind its numeral, or what is wrong; an escape that is none is named by its place
+-- a number and what is left after its numeral, or what is wrong; an escape that is none is named by its place
 pub data Numeral : Type 0 where
   NumeralThen : ℕ → List ℕ → Numeral
   FloatingPoint : Numeral
@@ -25,7 +25,7 @@ begins_fraction cs = first_is 46 cs && first_passes (is_digit_of 10) (drop 1 cs)
 abbrev pub decimal_numeral : List ℕ → Numeral
 decimal_numeral cs = if begins_fraction (after_run (is_digit_of 10) cs) then FloatingPoint else digits_numeral 10 cs
 
--- the base that `x`, `o` or `b` behind a `0` names, where a digit of that base follows
+-- the base that `x`, `o` or `b` after a `0` names, where a digit of that base follows
 abbrev pub named_base : List ℕ → Option ℕ
 named_base cs =
     if first_is 120 cs && first_passes (is_digit_of 16) (drop 1 cs) then Some 16
@@ -38,7 +38,7 @@ abbrev pub character_escape : List ℕ → Part → Numeral
 character_escape from (StandsFor d rest) = NumeralThen d rest
 character_escape from _ = WrongCharacter from
 
--- what stands behind `0'`: the quote doubled, an escape, or any other character but a quote
+-- what is after `0'`: the quote doubled, an escape, or any other character but a quote
 abbrev pub character_numeral : List ℕ → Option Numeral
 character_numeral [] = None
 character_numeral (c ∷ cs) =
@@ -51,7 +51,7 @@ abbrev pub based_numeral : Option ℕ → List ℕ → Option Numeral
 based_numeral (Some base) cs = Some (digits_numeral base (drop 1 cs))
 based_numeral None cs = if first_is 39 cs then character_numeral (drop 1 cs) else None
 
--- what makes more of a `0` than the decimal number, where it stands behind it
+-- what makes more of a `0` than the decimal number, where it is after it
 abbrev pub zero_numeral : List ℕ → Option Numeral
 zero_numeral cs = based_numeral (named_base cs) cs
 

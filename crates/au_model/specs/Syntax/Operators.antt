@@ -7,7 +7,7 @@ use Rattle.std.specs.Cmp.Lexicographic.{pointwise, slice_cmp}
 use Rattle.std.specs.List.Sorted.{IsStrictlySortedBy}
 use Rattle.std.specs.Option.{is_none}
 
--- where the operands stand: f is the operator, x an operand of lower priority, y one of at most the operator's
+-- where the operands are: f is the operator, x an operand of lower priority, y one of at most the operator's
 pub data OperatorKind : Type 0 where
   KindXfx : OperatorKind
   KindXfy : OperatorKind

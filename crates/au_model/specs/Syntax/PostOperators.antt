@@ -1,4 +1,4 @@
--- What a token behind an operand joins it to (ISO/IEC 13211-1, 6.3.4).
+-- What a token after an operand joins it to (ISO/IEC 13211-1, 6.3.4).
 use Rattle.std.specs.Prelude.{ℕ, ◌-◌, Bool, true, false, ◌&&◌, nat_le, List, [], ◌∷◌, Option, Some, None, codes, if◌then◌else◌}
 use Rattle.au_model.specs.Syntax.Operators.{OperatorKind, KindXfy, KindYfx, KindFy, KindYf, Operator, OperatorTable, infix_of, postfix_of}
 use Rattle.au_model.specs.Syntax.Tokens.{Lexeme, Token, token, Name, QuotedName, Comma}
@@ -49,7 +49,7 @@ lexeme_post_operator ops _ = Nothing
 abbrev pub token_post_operator : OperatorTable → Token → PostOperator
 token_post_operator ops (token apart x) = lexeme_post_operator ops x
 
--- behind an operand of this priority, within this bound
+-- after an operand of this priority, within this bound
 abbrev pub fits : ℕ → ℕ → Operator → Bool
 fits bound p o = nat_le o.priority bound && nat_le p (left_bound o)
 

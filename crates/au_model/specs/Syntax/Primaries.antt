@@ -6,7 +6,7 @@ use Rattle.au_model.specs.Syntax.Tokens.{Lexeme, Token, token, Name, QuotedName,
 use Rattle.au_model.specs.Syntax.Trees.{Tree, VarTree, IntTree, AtomTree, text_tree}
 use Rattle.au_model.specs.Terms.Forms.{nil_name, braces_name}
 use Rattle.au_model.specs.Syntax.PostOperators.{PostOperator, Nothing, named_post_operator}
-use Rattle.au_model.specs.declared.double_quotes.DoubleQuotes.{DoubleQuotes}
+use Rattle.au_model.specs.declared.types.DoubleQuotes.{DoubleQuotes}
 
 -- the operators, and what a double-quoted item stands for
 pub record Setting : Type 0 where
@@ -14,7 +14,7 @@ pub record Setting : Type 0 where
   pub quotes : DoubleQuotes
 
 -- A whole operand of one or two tokens; a bracket of one of the three kinds; a compound's name and bracket; a prefix
--- operator. With the tokens behind it.
+-- operator. With the tokens after it.
 pub data Primary : Type 0 where
   Leaf : Tree → List Token → Primary
   Bracket : List Token → Primary
@@ -105,7 +105,7 @@ name_primary ops is_sign n ts =
 abbrev pub atom_primary : List ℕ → List Token → Primary
 atom_primary n ts = if has_direct_open ts then Call n (tokens_after ts) else Leaf (AtomTree n) ts
 
--- behind `[` and `{`: `[]` and `{}` are names
+-- after `[` and `{`: `[]` and `{}` are names
 abbrev pub list_primary : List Token → Primary
 list_primary (token apart CloseList ∷ ts) = atom_primary nil_name ts
 list_primary ts = Listed ts
@@ -114,7 +114,7 @@ abbrev pub curly_primary : List Token → Primary
 curly_primary (token apart CloseCurly ∷ ts) = atom_primary braces_name ts
 curly_primary ts = Curly ts
 
--- 9223372036854775808 is an operand only behind its sign
+-- 9223372036854775808 is an operand only after its sign
 abbrev pub lexeme_primary : Setting → Lexeme → List Token → Primary
 lexeme_primary s (Name n) ts = name_primary s.ops (is_minus_name n) n ts
 lexeme_primary s (QuotedName n) ts = name_primary s.ops false n ts

@@ -4,7 +4,7 @@ use lib.Utf8.{scalar}
 use Rattle.std.specs.Str.Parse.{digits_value}
 use Rattle.au_model.specs.Syntax.Characters.{is_one_of, is_digit_of, first_passes, first_is, run, after_run}
 
--- The first part of what stands between quotes, with what is left behind it: it stands for a character or for nothing,
+-- The first part of what is between quotes, with what is left after it: it stands for a character or for nothing,
 -- or it is the closing quote; or it is no escape; or the text or the line ends in it.
 pub data Part : Type 0 where
   StandsFor : ℕ → List ℕ → Part
@@ -13,7 +13,7 @@ pub data Part : Type 0 where
   NoEscape : Part
   CutOff : Part
 
--- the character that a sign behind a backslash stands for: `\ ' "` and the back quote for themselves
+-- the character that a sign after a backslash stands for: `\ ' "` and the back quote for themselves
 abbrev pub named_escape : ℕ → Option ℕ
 named_escape c =
     if is_one_of (codes "\\'\"`") c then Some c
@@ -44,7 +44,7 @@ numbered_escape base cs =
     let n = digits_value base (run (is_digit_of base) cs) in
     numbered_part (first_passes (is_digit_of base) cs && scalar n) n (after_run (is_digit_of base) cs)
 
--- what stands behind a backslash: a line feed, `x` and hexadecimal digits, octal digits, or a sign with a name
+-- what is after a backslash: a line feed, `x` and hexadecimal digits, octal digits, or a sign with a name
 abbrev pub escape : List ℕ → Part
 escape [] = CutOff
 escape (c ∷ cs) =
@@ -53,7 +53,7 @@ escape (c ∷ cs) =
     else if is_digit_of 8 c then numbered_escape 8 (c ∷ cs)
     else named_part (named_escape c) cs
 
--- the first part behind the opening quote q: the quote doubled or alone, an escape, or any character but a line feed
+-- the first part after the opening quote q: the quote doubled or alone, an escape, or any character but a line feed
 abbrev pub part : ℕ → List ℕ → Part
 part q [] = CutOff
 part q (c ∷ cs) =
@@ -62,7 +62,7 @@ part q (c ∷ cs) =
     else if c == 10 then CutOff
     else StandsFor c cs
 
--- a quoted item's characters and what is left behind its closing quote, the place of what is no escape, or no end
+-- a quoted item's characters and what is left after its closing quote, the place of what is no escape, or no end
 pub data Quoted : Type 0 where
   QuotedThen : List ℕ → List ℕ → Quoted
   WrongEscape : List ℕ → Quoted
@@ -85,6 +85,6 @@ abbrev pub quoted_parts : ℕ → ℕ → List ℕ → Quoted
 quoted_parts zero q cs = NeverClosed
 quoted_parts (suc n) q cs = after_part (quoted_parts n q) cs (part q cs)
 
--- what stands behind the opening quote q: each part takes a character, so there are no more than characters
+-- what is after the opening quote q: each part takes a character, so there are no more than characters
 unfoldable pub quoted : ℕ → List ℕ → Quoted
 quoted q cs = quoted_parts (length cs) q cs

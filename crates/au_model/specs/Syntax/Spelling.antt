@@ -8,7 +8,7 @@ use Rattle.au_model.specs.Syntax.PostOperators.{Infix, Postfix, left_bound, righ
 use Rattle.au_model.specs.Syntax.Primaries.{Setting, Primary, Leaf, Bracket, Curly, Listed, Call, Prefix, primary_of}
 
 mutual
-  -- The first tokens up to the second ones spell the term, of this priority. What stands from the second on is not read.
+  -- The first tokens up to the second ones spell the term, of this priority. What is from the second on is not read.
   pub data Spelled (s : Setting) : List Token → List Token → Tree → ℕ → Type 0 where
     form : {ts us : List Token} {t : Tree} {p : ℕ} → Form s (primary_of s ts) us t p → Spelled s ts us t p
     infixed : {ts us vs : List Token} {a : Bool} {x : Lexeme} {l r : Tree} {p : ℕ} {n : List ℕ} {o : Operator}
@@ -30,14 +30,14 @@ mutual
     called : {ts us : List Token} {n : List ℕ} {args : Trees} → Arguments s ts us args → tree_count args ≤ 65535 → Form s (Call n ts) us (CompoundTree n args) 0
     prefixed : {ts us : List Token} {n : List ℕ} {o : Operator} {t : Tree} → Operand s (right_bound o) ts us t → Form s (Prefix n o ts) us (one n t) o.priority
 
-  -- behind `[` or a comma
+  -- after `[` or a comma
   pub data Items (s : Setting) : List Token → List Token → Tree → Type 0 where
     last : {ts us : List Token} {a : Bool} {t : Tree} → Operand s 999 ts (token a CloseList ∷ us) t → Items s ts us (cell t (AtomTree nil_name))
     barred : {ts us vs : List Token} {a b : Bool} {t u : Tree}
         → Operand s 999 ts (token a Bar ∷ us) t → Operand s 999 us (token b CloseList ∷ vs) u → Items s ts vs (cell t u)
     item : {ts us vs : List Token} {a : Bool} {t u : Tree} → Operand s 999 ts (token a Comma ∷ us) t → Items s us vs u → Items s ts vs (cell t u)
 
-  -- behind a compound's bracket or a comma
+  -- after a compound's bracket or a comma
   pub data Arguments (s : Setting) : List Token → List Token → Trees → Type 0 where
     final : {ts us : List Token} {a : Bool} {t : Tree} → Operand s 999 ts (token a Close ∷ us) t → Arguments s ts us (more_trees t no_trees)
     argument : {ts us vs : List Token} {a : Bool} {t : Tree} {args : Trees}

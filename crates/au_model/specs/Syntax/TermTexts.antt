@@ -6,7 +6,7 @@ use Rattle.au_model.specs.Syntax.Trees.{Tree}
 use Rattle.au_model.specs.Syntax.Primaries.{Setting}
 use Rattle.au_model.specs.Syntax.Spelling.{Operand}
 
--- The tokens up to the first end spell the term, of priority at most 1200, and the end. This is left behind it.
+-- The tokens up to the first end spell the term, of priority at most 1200, and the end. This is left after it.
 pub record SpellsTermWithEnd (s : Setting) (cs : List ℕ) (t : Tree) (rest : List ℕ) : Type 0 where
   pub apart : Bool
   pub spelled : Operand s 1200 (tokens_of cs) (token apart End ∷ []) t

@@ -9,8 +9,8 @@ use Rattle.au_model.specs.Syntax.Trees.{Tree}
 use Rattle.au_model.specs.Syntax.Primaries.{Setting, Call, primary_of}
 use Rattle.au_model.specs.Syntax.Spelling.{Operand}
 use Rattle.au_model.specs.Syntax.TermTexts.{is_over}
-use Rattle.au_model.specs.declared.fault_kind.FaultKind.{FaultKind}
-use Rattle.au_model.specs.declared.fault_kind.FaultKind.TheVariants.{UnexpectedToken, UnexpectedEnd, WideNumeral, TooManyArguments}
+use Rattle.au_model.specs.declared.types.FaultKind.{FaultKind}
+use Rattle.au_model.specs.declared.types.FaultKind.TheVariants.{UnexpectedToken, UnexpectedEnd, WideNumeral, TooManyArguments}
 
 -- some further tokens complete them to a term with its end
 pub record BeginsTerm (s : Setting) (ts : List Token) : Type 0 where
@@ -25,12 +25,12 @@ pub record FaultAt (s : Setting) (ts : List Token) (n : ℕ) : Type 0 where
   pub begins : BeginsTerm s (take n ts)
   pub ends : BeginsTerm s (take (suc n) ts) → ⊥
 
--- so many arguments, each with a comma behind it
+-- so many arguments, each with a comma after it
 pub data Past (s : Setting) : ℕ → List Token → List Token → Type 0 where
   none : {ts : List Token} → Past s zero ts ts
   one_more : {n : ℕ} {ts us vs : List Token} {a : Bool} {t : Tree} → Operand s 999 ts (token a Comma ∷ us) t → Past s n us vs → Past s (suc n) ts vs
 
--- the token is the comma behind the last argument that a compound may have; the compound is of this name, and begins
+-- the token is the comma after the last argument that a compound may have; the compound is of this name, and begins
 -- with another token
 pub record IsOneTooMany (s : Setting) (ts : List Token) (n m : ℕ) (name : List ℕ) : Type 0 where
   pub after : List Token
@@ -42,12 +42,12 @@ abbrev pub is_wide : Option Token → Bool
 is_wide (Some (token apart (Integer k))) = nat_le (2 ^ 63) k
 is_wide _ = false
 
--- where this token of a text starts, behind its layout
+-- where this token of a text starts, after its layout
 abbrev pub token_start : ℕ → List ℕ → Gap
 token_start n cs = after_layout (first_tokens n cs).rest
 
 -- The kind of a text's fault, and the characters from its place on. The first token with which the tokens begin no
--- term, behind its layout; where that is the comma behind the last argument that a compound may have, the compound's
+-- term, after its layout; where that is the comma after the last argument that a compound may have, the compound's
 -- name. Or all tokens up to a faulty one, or up to the end of the text, begin a term.
 pub data Fault (s : Setting) (cs : List ℕ) : FaultKind → List ℕ → Type 0 where
   unexpected : {n : ℕ} {from : List ℕ} → FaultAt s (tokens_of cs) n → is_wide (slice_get (tokens_of cs) n) ≡ false → ((m : ℕ) (name : List ℕ) → IsOneTooMany s (tokens_of cs) n m name → ⊥)
@@ -57,7 +57,7 @@ pub data Fault (s : Setting) (cs : List ℕ) : FaultKind → List ℕ → Type 0
   faulty : {kind : FaultKind} {from : List ℕ} → BeginsTerm s (tokens_of cs) → next_word (front cs).rest ≡ FoundFault kind from → Fault s cs kind from
   ended : BeginsTerm s (tokens_of cs) → is_over (front cs).rest ≡ true → Fault s cs UnexpectedEnd []
 
--- the line is counted by the line feeds before, the column by the characters behind the last of them
+-- the line is counted by the line feeds before, the column by the characters after the last of them
 abbrev pub line_feeds : List ℕ → ℕ
 line_feeds [] = 0
 line_feeds (c ∷ cs) = if c == 10 then suc (line_feeds cs) else line_feeds cs

@@ -20,7 +20,7 @@ pub data Lexeme : Type 0 where
   Bar : Lexeme
   End : Lexeme
 
--- a token, and whether layout stands before it
+-- a token, and whether layout is before it
 pub data Token : Type 0 where
   token : Bool → Lexeme → Token
 
@@ -47,7 +47,7 @@ lexeme_of (MarkWord c) = Some (mark_lexeme c)
 lexeme_of StopWord = Some End
 lexeme_of LastWord = None
 
--- a token and what is left behind it, or none: the text is at its end, or something faulty stands there
+-- a token and what is left after it, or none: the text is at its end, or something faulty is there
 pub data Scanned : Type 0 where
   ScannedTo : Token → List ℕ → Scanned
   ScannedNone : Scanned
@@ -64,7 +64,7 @@ scanned_word apart (FoundFault kind from) = ScannedNone
 abbrev pub scanned : List ℕ → Scanned
 scanned cs = scanned_word (begins_layout cs) (next_word cs)
 
--- tokens, and what is left of the text behind them
+-- tokens, and what is left of the text after them
 pub record Front : Type 0 where
   pub tokens : List Token
   pub rest : List ℕ
@@ -79,7 +79,7 @@ abbrev pub is_end : Lexeme → Bool
 is_end End = true
 is_end _ = false
 
--- nothing is read behind an end
+-- nothing is read after an end
 abbrev pub after_token : (List ℕ → Front) → Token → List ℕ → Front
 after_token more (token apart x) rest = if is_end x then front_with (token apart x) (no_front rest) else front_with (token apart x) (more rest)
 

@@ -2,8 +2,8 @@
 -- (ISO/IEC 13211-1:1995, 6.3.5).
 use Rattle.std.specs.Prelude.{ℕ, suc, ℤ, pos, List, [], ◌∷◌, codes}
 use Rattle.au_model.specs.Terms.Forms.{nil_name}
-use Rattle.au_model.specs.declared.double_quotes.DoubleQuotes.{DoubleQuotes}
-use Rattle.au_model.specs.declared.double_quotes.DoubleQuotes.TheVariants.{Codes, Chars, Atom}
+use Rattle.au_model.specs.declared.types.DoubleQuotes.{DoubleQuotes}
+use Rattle.au_model.specs.declared.types.DoubleQuotes.TheVariants.{Codes, Chars, Atom}
 
 mutual
   pub data Tree : Type 0 where

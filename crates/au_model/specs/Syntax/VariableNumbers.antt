@@ -33,7 +33,7 @@ numbered_name vs n =
     if is_anonymous n then (vs.next, record { named = vs.named; next = suc vs.next })
     else old_or_new vs n (number_of vs.named n)
 
--- the term of a tree behind these variables, and the variables after it
+-- the term of a tree after these variables, and the variables after it
 abbrev mutual
   pub numbered : Variables → Tree → Term × Variables
   numbered vs (VarTree n) = let r = numbered_name vs n in (VarTerm r.0, r.1)

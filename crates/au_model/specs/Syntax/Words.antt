@@ -1,11 +1,11 @@
--- Tokens (ISO/IEC 13211-1, 6.4): the longest that stands at the front of a text.
+-- Tokens (ISO/IEC 13211-1, 6.4): the longest that is at the front of a text.
 use Rattle.std.specs.Prelude.{ℕ, Bool, true, ◌&&◌, ◌||◌, ◌==◌, List, [], ◌∷◌, if◌then◌else◌}
 use Rattle.au_model.specs.Syntax.Characters.{is_blank, is_symbol, is_solo, is_punctuation, is_small, starts_variable, is_alphanumeric, is_digit_of, run, after_run}
 use Rattle.au_model.specs.Syntax.Layout.{Gap, GapThen, GapNotClosed, after_layout}
 use Rattle.au_model.specs.Syntax.Quoted.{Quoted, QuotedThen, WrongEscape, NeverClosed, quoted}
 use Rattle.au_model.specs.Syntax.Numerals.{Numeral, NumeralThen, FloatingPoint, TooWide, WrongCharacter, numeral}
-use Rattle.au_model.specs.declared.fault_kind.FaultKind.{FaultKind}
-use Rattle.au_model.specs.declared.fault_kind.FaultKind.TheVariants.{BadCharacter, BadEscape, UnclosedQuote, UnclosedComment, FloatNumeral, WideNumeral}
+use Rattle.au_model.specs.declared.types.FaultKind.{FaultKind}
+use Rattle.au_model.specs.declared.types.FaultKind.TheVariants.{BadCharacter, BadEscape, UnclosedQuote, UnclosedComment, FloatNumeral, WideNumeral}
 
 -- what a token is: names, variables and quoted items have their characters, escapes undone; a mark is punctuation
 pub data Word : Type 0 where
@@ -18,12 +18,12 @@ pub data Word : Type 0 where
   StopWord : Word
   LastWord : Word
 
--- a word and what is left behind it, or a fault and what stands from its place on
+-- a word and what is left after it, or a fault and what is from its place on
 pub data Lexed : Type 0 where
   FoundWord : Word → List ℕ → Lexed
   FoundFault : FaultKind → List ℕ → Lexed
 
--- the first character and the run behind it
+-- the first character and the run after it
 abbrev pub run_word : (List ℕ → Word) → (ℕ → Bool) → ℕ → List ℕ → Lexed
 run_word word p c cs = FoundWord (word (c ∷ run p cs)) (after_run p cs)
 

@@ -5,7 +5,7 @@ use Rattle.au_term.specs.declared.cell.Cell.{Cell}
 use Rattle.au_term.specs.declared.cell.Cell.TheVariants.{Var as VarCell, Int as IntCell, Atom as AtomCell, Functor}
 use Rattle.au_model.specs.Terms.Copies.{noted, place_of}
 
--- the variables seen along cells, in order of first occurrence, behind those seen before
+-- the variables seen along cells, in order of first occurrence, after those seen before
 abbrev pub occurrences_at : Cell → List ℕ → List ℕ
 occurrences_at (VarCell n) seen = noted seen n
 occurrences_at (IntCell z) seen = seen

@@ -8,7 +8,7 @@ use Rattle.au_model.specs.Terms.Substitutions.{apply}
 abbrev pub noted : List ℕ → ℕ → List ℕ
 noted seen n = cond (list_any (λ m. m == n) seen) seen (seen ++ n ∷ [])
 
--- the variables of a term behind those seen so far, in order of first occurrence
+-- the variables of a term after those seen so far, in order of first occurrence
 abbrev mutual
   pub seen_in : Term → List ℕ → List ℕ
   seen_in (VarTerm n) seen = noted seen n

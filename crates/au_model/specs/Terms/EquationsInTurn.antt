@@ -1,5 +1,5 @@
 -- Equations that are unified one after another (ISO/IEC 13211-1, 7.3.2).
-use Rattle.std.specs.Prelude.{◌≡◌, List, ◌++◌, Option, Some, None, map}
+use Rattle.std.specs.Prelude.{◌≡◌, ◌++◌, Option, Some, None, map}
 use Rattle.std.specs.Option.{option_map}
 use Rattle.au_model.specs.Terms.Substitutions.{Substitution, resolve}
 use Rattle.au_model.specs.Terms.Unifier.{Equations, unifier}

@@ -3,7 +3,7 @@ use Rattle.std.specs.Prelude.{ℕ, List}
 use Rattle.std.specs.Str.{chars}
 use Rattle.std.specs.String.{string_bytes}
 use Rattle.au_term.specs.Term.{Term}
-use Rattle.au_model.specs.declared.var_name.VarName.{VarName}
+use Rattle.au_model.specs.declared.types.VarName.{VarName}
 
 pub record NamedVariable : Type 0 where
   pub name : List ℕ

@@ -5,7 +5,7 @@ use Rattle.au_term.specs.Term.{Term}
 use Rattle.au_model.specs.Terms.Named.{NamedTerm}
 use Rattle.au_model.specs.Syntax.Operators.{OperatorTable}
 use Rattle.au_model.specs.Writing.WrittenTerms.{written_term, written_as_value}
-use Rattle.au_model.specs.declared.style.Style.TheVariants.{Quoted}
+use Rattle.au_model.specs.declared.types.Style.TheVariants.{Quoted}
 
 abbrev pub shown_binding : OperatorTable → NamedTerm → List ℕ
 shown_binding operators v = encode_utf8_all v.name ++ codes " = " ++ written_as_value operators v.term

@@ -30,7 +30,7 @@ is_bare n = is_symbol_name n || (is_letter_name n || is_solo_name n)
 abbrev pub hexadecimal : ℕ → List ℕ
 hexadecimal c = if nat_lt c 16 then digit_char c ∷ [] else digit_char (c / 16) ∷ digit_char (c % 16) ∷ []
 
--- a character between quotes: a backslash and a quote behind a backslash, a line feed as `\n`, other control characters
+-- a character between quotes: a backslash and a quote after a backslash, a line feed as `\n`, other control characters
 -- by their codes
 abbrev pub escaped : ℕ → List ℕ
 escaped c =

@@ -1,4 +1,4 @@
--- The form in which a compound is written, and which operands stand in brackets (ISO/IEC 13211-1, 6.3.4 and 7.10.5).
+-- The form in which a compound is written, and which operands are in brackets (ISO/IEC 13211-1, 6.3.4 and 7.10.5).
 use Rattle.std.specs.Prelude.{ℕ, Bool, false, ◌&&◌, ◌||◌, ◌==◌, nat_lt, List, codes, Option, Some, None, if◌then◌else◌}
 use Rattle.std.specs.Option.{is_some}
 use Rattle.au_term.specs.Term.{Term, AtomTerm, Compound, Terms, end, more}

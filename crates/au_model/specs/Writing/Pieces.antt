@@ -10,7 +10,7 @@ pub data Piece : Type 0 where
   Put : Lexeme → Piece
   Space : Piece
 
--- what stands at both ends of a token: symbol characters, letters and digits, or neither
+-- what is at both ends of a token: symbol characters, letters and digits, or neither
 pub data TokenEnds : Type 0 where
   SymbolEnds : TokenEnds
   LetterEnds : TokenEnds
@@ -31,7 +31,7 @@ run_together SymbolEnds SymbolEnds = true
 run_together LetterEnds LetterEnds = true
 run_together _ _ = false
 
--- what stands in front of a token: nothing yet, a space that a rule asks for, or a token with these ends
+-- what is in front of a token: nothing yet, a space that a rule asks for, or a token with these ends
 pub data InFront : Type 0 where
   NothingYet : InFront
   SpaceInFront : InFront

@@ -1,14 +1,9 @@
 -- Written terms as tokens, and what they are when they are read (ISO/IEC 13211-1, 7.10.5).
-use Rattle.std.specs.Prelude.{◌≡◌, true, ℤ, pos, negsuc, ◌<◌, ◌≤◌, ◌^◌, List, [], ◌∷◌}
+use Rattle.std.specs.Prelude.{◌≡◌, true, ℤ, pos, negsuc, ◌<◌, ◌≤◌, ◌^◌, ◌∷◌}
 use Rattle.std.specs.Fmt.{decimal}
 use Rattle.std.specs.Str.{all_scalars}
 use Rattle.au_term.specs.Term.{Term, VarTerm, IntTerm, AtomTerm, Compound, Terms, end, more, count}
-use Rattle.au_model.specs.Syntax.Operators.{OperatorTable}
-use Rattle.au_model.specs.Syntax.Tokens.{Token, End}
 use Rattle.au_model.specs.Syntax.Trees.{Tree, VarTree, IntTree, AtomTree, CompoundTree, Trees, no_trees, more_trees}
-use Rattle.au_model.specs.Writing.Pieces.{Put, Space, NothingYet, joined_pieces}
-use Rattle.au_model.specs.Writing.WrittenTerms.{notation_of, pieces}
-use Rattle.au_model.specs.declared.style.Style.TheVariants.{Quoted}
 
 -- a variable is named as it is written
 abbrev mutual

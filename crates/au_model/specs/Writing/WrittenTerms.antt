@@ -10,8 +10,8 @@ use Rattle.au_model.specs.Terms.Forms.{nil_name, braces_name}
 use Rattle.au_model.specs.Writing.NameForms.{is_bare, is_symbol_name}
 use Rattle.au_model.specs.Writing.Pieces.{Piece, Put, Space, NothingYet, joined_pieces, quoted_text, plain_text, text_of_tokens}
 use Rattle.au_model.specs.Writing.OperatorForms.{Notation, CompoundForm, ListForm, BracedForm, InfixForm, PrefixForm, PostfixForm, form_of, form_priority, is_above, is_enclosed, is_enclosed_left}
-use Rattle.au_model.specs.declared.style.Style.{Style}
-use Rattle.au_model.specs.declared.style.Style.TheVariants.{Plain, Quoted, Canonical}
+use Rattle.au_model.specs.declared.types.Style.{Style}
+use Rattle.au_model.specs.declared.types.Style.TheVariants.{Plain, Quoted, Canonical}
 
 abbrev pub name_token : List ℕ → Lexeme
 name_token n = if is_bare n then Name n else QuotedName n
@@ -88,7 +88,7 @@ module _ (notation : Notation) where
     compound_pieces _ n end rest = name_pieces n (Put Open ∷ Put Close ∷ rest)
     compound_pieces _ n (more t ts) rest = name_pieces n (Put Open ∷ enclosed (is_above notation 999 t) (pieces t) (further_pieces ts rest))
 
-    -- the rest of a list, behind an item
+    -- the rest of a list, after an item
     pub tail_pieces : Term → List Piece → List Piece
     tail_pieces (VarTerm n) rest = Put Bar ∷ Put (variable_token n) ∷ rest
     tail_pieces (IntTerm z) rest = Put Bar ∷ integer_pieces z rest
@@ -101,7 +101,7 @@ module _ (notation : Notation) where
     cell_pieces (more t (more u end)) rest = Put Comma ∷ enclosed (is_above notation 999 t) (pieces t) (tail_pieces u rest)
     cell_pieces _ rest = rest
 
-    -- the arguments behind the first, and the closing bracket
+    -- the arguments after the first, and the closing bracket
     pub further_pieces : Terms → List Piece → List Piece
     further_pieces end rest = Put Close ∷ rest
     further_pieces (more t ts) rest = Put Comma ∷ enclosed (is_above notation 999 t) (pieces t) (further_pieces ts rest)

@@ -1,4 +1,4 @@
--- What a goal can come to (ISO/IEC 13211-1, 7.7 and 7.8), with scopes named by how they stand to the entry at hand:
+-- What a goal can come to (ISO/IEC 13211-1, 7.7 and 7.8), with scopes named by how they stand to the current entry:
 -- the scope that the goal carries; the entry's own scope, which a cut in a called body cuts to; the scope of a test,
 -- just above the other branch.
 use Rattle.std.specs.Prelude.{ℕ, List, [], ◌∷◌, map}

@@ -1,9 +1,7 @@
 -- What trying clauses comes to.
-use Rattle.std.specs.Prelude.{◌≡◌, ℕ, ◌+◌, true, false, List, [], ◌∷◌, ◌++◌, Option, Some, None, map}
-use Rattle.std.specs.Option.{option_map}
+use Rattle.std.specs.Prelude.{◌≡◌, ℕ, ◌+◌, true, false, List, [], ◌∷◌, ◌++◌}
 use Rattle.au_term.specs.Term.{Term, argument_count}
-use Rattle.au_model.specs.Terms.Substitutions.{Substitution, resolve}
-use Rattle.au_model.specs.Terms.Unifier.{Equations, unifier}
+use Rattle.au_model.specs.Terms.Unifier.{unifier}
 use Rattle.au_model.specs.Terms.Forms.{name_of, is_callable}
 use Rattle.run_model.specs.Programs.Clauses.{Clause, renamed_head, renamed_goals, clause_takes, is_clause_of}
 use Rattle.run_model.specs.Goals.Outcomes.{clause_solution, alternatives_of}

@@ -1,4 +1,4 @@
--- Heights name entries that are there: along what is left to do they never rise, and none passes what stands under it.
+-- Heights name entries that are there: along what is left to do they never rise, and none passes what is under it.
 use Rattle.std.specs.Prelude.{◌≡◌, ℕ, suc, min, ◌≤◌, List, [], ◌∷◌, ◌++◌, length}
 use Rattle.run_model.specs.Machine.Items.{Item, GoalItem, CatchMark, CollectMark, RemovalItem}
 use Rattle.run_model.specs.Machine.Entries.{Entry, PlainEntry, CatchEntry, FindallEntry, EndEntry, lowest}

@@ -1,4 +1,4 @@
--- The steps that cost no inference: what happens at the top until a goal, an answer or an end stands there.
+-- The steps that cost no inference: what happens at the top until a goal, an answer or an end is there.
 use Rattle.std.specs.Prelude.{ℕ, zero, suc, List, [], ◌∷◌, length, codes}
 use Rattle.au_term.specs.Term.{Term}
 use Rattle.au_model.specs.Terms.Forms.{binary, list_term}
@@ -9,7 +9,7 @@ use Rattle.run_model.specs.Machine.Entries.{Entry, PlainEntry, CatchEntry, Finda
 abbrev pub findall_ends : List Term → Term → Continuation ℕ → List Entry → Entry
 findall_ends results l f es = PlainEntry (before (GoalItem (binary (codes "=") l (list_term results)) (length es) ∷ []) f)
 
--- a plain entry with these items behind its catch marks: a collect mark in front gives its result, and the entry ends
+-- a plain entry with these items after its catch marks: a collect mark in front gives its result, and the entry ends
 abbrev pub plain_free_step : List (Item ℕ) → Continuation ℕ → List Entry → (List Entry → List Entry) → List Entry
 plain_free_step (CollectMark t h ∷ items) f es go = go (collected h t es)
 plain_free_step items f es go = PlainEntry (with_items items f) ∷ es

@@ -46,7 +46,7 @@ before items f = with_items (items ++ f.items) f
 abbrev pub with_next : {N : Type 0} → ℕ → Continuation N → Continuation N
 with_next n f = record { items = f.items; named = f.named; next = n }
 
--- the items behind the catch marks in front
+-- the items after the catch marks in front
 abbrev pub without_marks : {N : Type 0} → List (Item N) → List (Item N)
 without_marks [] = []
 without_marks (CatchMark h ∷ items) = without_marks items

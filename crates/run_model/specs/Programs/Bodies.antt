@@ -18,7 +18,7 @@ junction f (Some a) None = None
 junction f None b = None
 
 -- the body that a term stands for: a variable where a goal is due becomes a call of it, below `,`, `;` and `->` too;
--- none where an integer stands there
+-- none where an integer is there
 abbrev pub body_of : Term → Option Term
 body_of (VarTerm n) = Some (call_of (VarTerm n))
 body_of (IntTerm z) = None

@@ -34,7 +34,7 @@ pub fn variables_are_numbered()
     ensures { (job : Job) (n : ℕ) → AreEntriesNumbered (seq job n).entries }
 {}
 
-/// A cut keeps a lower part of the entries, and no height that an entry of a run carries passes what stands under it.
+/// A cut keeps a lower part of the entries, and no height that an entry of a run carries passes what is under it.
 pub fn heights_fit()
     ensures cut { (h : ℕ) (es : List Entry) → KeepsLowerPart h es }
     ensures fit { (job : Job) (n : ℕ) → FitHeights (seq job n).entries }

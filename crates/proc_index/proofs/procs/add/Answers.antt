@@ -1,7 +1,8 @@
 use Rattle.std.proofs.Common.{◌∙◌, ap}
 use Rattle.au_term.specs.Term.{argument_count}
 use Rattle.au_model.specs.Terms.Forms.{name_of}
-use Rattle.proc_index.proofs.IndexLemmas.{added, taken_out, head_is}
+use Rattle.proc_index.proofs.IndexLemmas.{added, taken_out}
+use Rattle.clause_compile.proofs.CompiledClauseLemmas.{head_is}
 use Rattle.proc_index.proofs.procs.add.Goals as goal
 
 pub returns-clause-added : goal.returns-clause-added

@@ -1,5 +1,5 @@
 use Rattle.std.proofs.Common.{[], ◌++◌, ap, ap₂, ◌∙◌}
-use Rattle.au_model.specs.declared.style.Style.TheVariants.{Quoted}
+use Rattle.au_model.specs.declared.types.Style.TheVariants.{Quoted}
 use Rattle.au_model.specs.Writing.Pieces.{joined_pieces, NothingYet, quoted_text, text_of_tokens}
 use Rattle.au_model.specs.Writing.WrittenTerms.{enclosed, pieces, notation_of}
 use Rattle.term_writer.specs.NotationView.{cell_enclosed}

@@ -1,6 +1,6 @@
 use Rattle.std.proofs.Common.{◌∙◌, sym, subst, ap, ap₂, max, map, refl, List}
 use Rattle.run_model.specs.Programs.Jobs.{names_bound}
-use Rattle.au_model.specs.declared.var_name.VarName.{VarName}
+use Rattle.au_model.specs.declared.types.VarName.{VarName}
 use Rattle.au_term.specs.Term.{var_bound}
 use Rattle.au_model.specs.Terms.Named.{variable_meant}
 use Rattle.text_load.specs.Sentences as form
