@@ -1,10 +1,10 @@
 -- What is read of tokens is read again where others follow that are the same to it.
-use Rattle.std.proofs.Common.{◌≡◌, ◌∙◌, ℕ, ◌-◌, ◌≤◌, Bool, true, false, List, [], ◌∷◌, ◌++◌, ◌⊎◌, inl, inr, refl, sym, ap, subst, arith, append_assoc, append-nil, if◌then◌else◌}
+use Rattle.std.proofs.Common.{◌≡◌, ◌∙◌, ℕ, ◌≤◌, Bool, true, false, List, [], ◌∷◌, ◌++◌, ◌⊎◌, inl, inr, refl, sym, ap, subst, arith, append_assoc, append-nil}
 use Rattle.au_model.specs.Syntax.Tokens.{Lexeme, Token, token, Name, QuotedName, Open, Close, OpenList, CloseList, OpenCurly, CloseCurly, Comma, Bar}
 use Rattle.au_model.specs.Syntax.Trees.{Tree, Trees, tree_count, no_trees, more_trees, AtomTree, CompoundTree, one, two, cell}
 use Rattle.au_model.specs.Terms.Forms.{nil_name, braces_name}
 use Rattle.au_model.specs.Syntax.Operators.{Operator, OperatorTable}
-use Rattle.au_model.specs.Syntax.PostOperators.{Infix, Postfix, left_bound, right_bound, lexeme_post_operator, continues_with, takes_equal_left, takes_equal_right}
+use Rattle.au_model.specs.Syntax.PostOperators.{Infix, Postfix, left_bound, right_bound, lexeme_post_operator, continues_with, takes_equal_right}
 use Rattle.au_model.specs.Syntax.Primaries.{Setting, Primary, Leaf, Bracket, Curly, Listed, Call, Prefix, Fails, is_post_operator, has_direct_open, has_direct_integer, primary_of}
 use Rattle.au_model.specs.Syntax.Spelling.{Spelled, form, infixed, postfixed, Operand, operand, Form, leaf, bracket, curly, listed, called, prefixed, Items, last, barred, item, Arguments, final, argument}
 use Rattle.term_reader.specs.Brackets.{Balanced}

@@ -1,13 +1,13 @@
 -- Each spelling is such a reading.
-use Rattle.std.proofs.Common.{◌≡◌, ℕ, ◌-◌, ◌≤◌, Bool, true, false, List, [], ◌∷◌, refl, arith, if◌then◌else◌}
+use Rattle.std.proofs.Common.{◌≡◌, ℕ, ◌≤◌, Bool, true, false, List, [], ◌∷◌, refl, arith}
 use Rattle.au_model.specs.Syntax.Tokens.{Token, token, Lexeme}
 use Rattle.au_model.specs.Syntax.Trees.{Tree, Trees}
 use Rattle.au_model.specs.Syntax.Operators.{OperatorTable, Operator}
-use Rattle.au_model.specs.Syntax.PostOperators.{PostOperator, Infix, Postfix, Nothing, left_bound, token_post_operator, lexeme_post_operator, fits, continues_with, post_operator_fits, takes_equal_left}
+use Rattle.au_model.specs.Syntax.PostOperators.{PostOperator, Infix, Postfix, Nothing, left_bound, token_post_operator, lexeme_post_operator, fits, continues_with, post_operator_fits}
 use Rattle.au_model.specs.Syntax.Primaries.{Setting, Primary}
 use Rattle.au_model.specs.Syntax.Spelling as d
 use Rattle.term_reader.specs.LeftToRight.{Stop, OnInfix, OnPostfix, next_by_operator, next_operator, ReadsOperand, whole, ReadsRest, stop, on_infix, on_postfix, ReadsPrimary, leaf, bracket, curly, listed, called, prefixed, ReadsItems, last, barred, item, ReadsArguments, final, argument}
-use Rattle.au_model.proofs.PostOperatorLemmas.{bound_le, left_bound-le}
+use Rattle.au_model.proofs.PostOperatorLemmas.{left_bound-le}
 
 fits-true : (bound p : ℕ) (o : Operator) → o.priority ≤ bound → p ≤ left_bound o → fits bound p o ≡ true
 fits-true bound p o h k = grind (arith, h, k)

@@ -1,5 +1,5 @@
 -- Each token takes a character, so the tokens of a text are its first token and those of what is left after it.
-use Rattle.std.proofs.Common.{◌≡◌, ◌∙◌, ℕ, zero, suc, ◌≤◌, ◌<◌, ◌^◌, nat_le, Bool, true, false, ◌&&◌, ◌==◌, cond, List, [], ◌∷◌, length, drop, Option, Some, None, refl, sym, ap, arith, length-drop, if◌then◌else◌}
+use Rattle.std.proofs.Common.{◌≡◌, ◌∙◌, ℕ, zero, suc, ◌≤◌, ◌<◌, ◌^◌, nat_le, Bool, true, false, ◌&&◌, ◌==◌, List, [], ◌∷◌, length, drop, Option, Some, None, refl, sym, ap, arith, length-drop, if◌then◌else◌}
 use Rattle.std.specs.Str.Parse.{digits_value}
 use Rattle.au_model.specs.Syntax.Characters.{is_small, starts_variable, is_digit_of, is_solo, is_punctuation, is_symbol, is_alphanumeric, first_is, run, after_run}
 use Rattle.au_model.specs.Syntax.Layout.{Gap, GapThen, GapNotClosed, after_layout, begins_layout}

@@ -1,13 +1,9 @@
 -- The cells of what was read, each compound's after its arguments, and the variables.
 use Rattle.std.specs.Prelude.{ℕ, zero, suc, pos, List, [], ◌∷◌, ◌++◌}
-use Rattle.std.specs.Str.{chars}
-use Rattle.std.specs.String.{string_bytes}
 use Rattle.au_term.specs.declared.cell.Cell.{Cell}
 use Rattle.au_term.specs.declared.cell.Cell.TheVariants.{Var as VarCell, Int as IntCell, Atom as AtomCell, Functor}
-use Rattle.au_model.specs.Terms.Named.{NamedVariable}
 use Rattle.au_model.specs.Syntax.Trees.{Tree, VarTree, IntTree, AtomTree, CompoundTree, Trees, no_trees, more_trees, tree_count, list_name}
 use Rattle.au_model.specs.Syntax.VariableNumbers.{Variables, no_variables, numbered_name}
-use Rattle.au_model.specs.declared.types.VarName.{VarName}
 
 pub record TermOutput : Type 0 where
   pub cells : List Cell

@@ -1,11 +1,11 @@
 -- A text loads to one job, or has one first fault.
-use Rattle.std.proofs.Common.{◌≡◌, ◌∙◌, ℕ, Bool, true, List, [], ◌∷◌, ◌++◌, refl, sym, ap, ap₂, subst}
+use Rattle.std.proofs.Common.{◌≡◌, ◌∙◌, ℕ, true, List, [], ◌∷◌, ◌++◌, refl, sym, ap, ap₂, subst}
 use Rattle.std.proofs.lemmas.List.{append_cancel_right}
 use Rattle.run_model.specs.Programs.Jobs.{Job}
 use Rattle.au_model.specs.Syntax.Layout.{Gap, GapThen, begins_layout, after_layout}
-use Rattle.au_model.specs.Syntax.Tokens.{tokens_of, scanned_word, ScannedNone}
-use Rattle.au_model.specs.Syntax.Words.{Lexed, FoundWord, FoundFault, NameWord, QuotedWord, VariableWord, IntegerWord, TextWord, MarkWord, StopWord, LastWord, next_word}
-use Rattle.au_model.specs.Syntax.TermTexts.{SpellsTermWithEnd, is_last, is_over}
+use Rattle.au_model.specs.Syntax.Tokens.{tokens_of}
+use Rattle.au_model.specs.Syntax.Words.{next_word}
+use Rattle.au_model.specs.Syntax.TermTexts.{SpellsTermWithEnd, is_over}
 use Rattle.au_model.specs.Syntax.Trees.{Tree}
 use Rattle.au_model.specs.declared.types.FaultKind.{FaultKind}
 use Rattle.term_reader.proofs.FirstTokenLemmas.{tokens-none}

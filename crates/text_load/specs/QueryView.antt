@@ -1,7 +1,5 @@
 -- Queries as they are kept.
 use Rattle.std.specs.Prelude.{◌≡◌, ℕ, List, [], ◌∷◌, map}
-use Rattle.std.specs.Str.{chars}
-use Rattle.std.specs.String.{string_bytes}
 use Rattle.au_term.specs.Term.{Term}
 use Rattle.au_model.specs.Terms.Named.{variable_meant}
 use Rattle.run_model.specs.Programs.Jobs.{Query as QueryTerms, query_bound}
