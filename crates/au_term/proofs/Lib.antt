@@ -4,6 +4,7 @@ pub mod SubtermSizeLemmas
 pub mod SizeFillLemmas
 pub mod StoredTermLemmas
 pub mod ShiftLemmas
+pub mod InnerTermLemmas
 pub mod ArgumentLemmas
 pub mod VariableBoundLemmas
 pub mod TextLemmas

@@ -1,8 +1,8 @@
 //! Subterms of shared terms.
-ghost use Rattle.std.specs.Prelude.{◌≡◌, ◌+◌, ◌<◌, ◌^◌, IfOk};
+ghost use Rattle.std.specs.Prelude.{◌≡◌, ◌+◌, ◌≤◌, ◌<◌, ◌^◌, ◌++◌, ◌∷◌, IfOk, length, drop};
 ghost use Rattle.std.specs.Arc.{arc_value};
-ghost use Rattle.au_term.specs.PrefixOrder.{term_of, top_of, subterm, IsTerm};
-ghost use Rattle.au_term.specs.Shifted.{shifted, IsShiftablePlace};
+ghost use Rattle.au_term.specs.PrefixOrder.{cells_of, term_of, top_of, subterm, cell_bound, IsTerm, IsValidCell};
+ghost use Rattle.au_term.specs.Shifted.{shifted, shifted_cell, IsShiftablePlace};
 ghost use Rattle.au_term.specs.Term.{var_bound, argument, argument_count};
 
 use crate::NoMemory;
@@ -109,6 +109,49 @@ impl Shared {
         Ok(Shared {
             skeleton: self.skeleton.clone()?,
             at: self.skeleton.arg_start(self.at, i),
+            base: self.base,
+        })
+    }
+
+    /// How many cells it has.
+    pub fn len(&self) -> usize
+        ensures { result ≡ length (cells_of self.now) }
+    {
+        self.parts().0.len()
+    }
+
+    /// The cell at a place of the term, and the number to be added to its variable.
+    pub fn cell_at(&self, at: usize) -> (&Cell, VarNo)
+        requires { at < length (cells_of self.now) }
+        ensures cell { drop at (cells_of self.now) ≡ shifted_cell result.1 result.0.now ∷ drop (at + 1) (cells_of self.now) }
+        ensures sound { IsValidCell result.0.now }
+        ensures fits { result.1 + cell_bound result.0.now < 2 ^ 64 }
+    {
+        let cells = self.skeleton.cells();
+        (&cells[self.at + at], self.base)
+    }
+
+    /// Where the cells of the subterm that begins at this cell end. It takes constant time.
+    pub fn term_end(&self, at: usize) -> usize
+        requires { at < length (cells_of self.now) }
+        ensures rest { drop at (cells_of self.now) ≡ cells_of (subterm at self.now) ++ drop result (cells_of self.now) }
+        ensures within { result ≤ length (cells_of self.now) }
+    {
+        // The proof reads off that the place is a number.
+        let _cells = self.skeleton.cells();
+        self.skeleton.term_end(self.at + at) - self.at
+    }
+
+    /// The subterm whose cells begin at this cell, shared.
+    pub fn subterm(&self, at: usize) -> Result<Shared, NoMemory>
+        requires { at < length (cells_of self.now) }
+        ensures { IfOk result (λ s. s ≡ subterm at self.now) }
+    {
+        // The proof reads off that the place is a number.
+        let _cells = self.skeleton.cells();
+        Ok(Shared {
+            skeleton: self.skeleton.clone()?,
+            at: self.at + at,
             base: self.base,
         })
     }

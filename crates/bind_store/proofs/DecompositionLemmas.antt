@@ -5,19 +5,18 @@ use Rattle.std.specs.Cmp.Lexicographic.{pointwise}
 use Rattle.std.proofs.lemmas.Bool.Decides.{nat_tests}
 use Rattle.au_term.specs.Term.{Term, VarTerm, IntTerm, AtomTerm, Compound, Terms, end, more, count, arguments, first_of, take_terms}
 use Rattle.au_term.specs.PrefixOrder.{cells_of, terms_of, term_of, top_of, arity, with_cell, IsForest}
-use Rattle.au_term.specs.Shifted.{shifted, all_shifted, shifted_cell}
 use Rattle.au_term.specs.declared.cell.Cell.{Cell}
 use Rattle.au_term.specs.declared.cell.Cell.TheVariants.{Var as VarCell, Int as IntCell, Atom as AtomCell, Functor}
 use Rattle.au_term.proofs.SubtermLemmas.{opens, forest_from, term_forest}
 use Rattle.au_term.proofs.SizeFillLemmas.{opened}
 use Rattle.au_model.specs.Terms.Substitutions.{apply, apply_all, value_of, resolve}
 use Rattle.au_model.specs.Terms.Unifier.{Opened, pairs}
-use Rattle.bind_store.specs.Bindings.{Binding, composed}
-use Rattle.bind_store.specs.UnificationSteps.{Pair, whole_at, base_at, place_term, place_terms, HasTermsAt, equations_at, DereferencesTo, cell_step, both_resolved, FollowsRule, after_opening}
+use Rattle.bind_store.specs.Bindings.{Binding, substitution_of}
+use Rattle.bind_store.specs.UnificationSteps.{Pair, whole_at, place_term, place_terms, HasTermsAt, equations_at, DereferencesTo, cell_step, both_resolved, FollowsRule, after_opening}
 use Rattle.bind_store.specs.declared.unify.Step.TheVariants.{Drops, BindsLeft, BindsRight, Opens, Clashes}
 use Rattle.bind_store.specs.declared.unify.Place.{Place}
 use Rattle.bind_store.specs.declared.unify.Equation.{Equation}
-use Rattle.bind_store.proofs.PlaceLemmas.{stand_within, top_of-place}
+use Rattle.bind_store.proofs.PlaceLemmas.{stand_within, top_of-subterm}
 use Rattle.bind_store.proofs.EquationStepLemmas.{reached_rule}
 
 -- both sides of what is opened have so many arguments
@@ -65,33 +64,21 @@ record Argued (p : Pair) (bs : List Binding) (at : Place) (n : ℕ) : Type 0 whe
   pub terms : arguments (place_term p bs at) ≡ take_terms n (place_terms p bs (inside at))
   pub stand : HasTermsAt p bs (inside at) n
 
-all_shifted-take : (base n : ℕ) (ts : Terms) → all_shifted base (take_terms n ts) ≡ take_terms n (all_shifted base ts)
-all_shifted-take base zero ts = refl
-all_shifted-take base (suc n) end = refl
-all_shifted-take base (suc n) (more t ts) = ap (more (shifted base t)) (all_shifted-take base n ts)
-
-arity-shifted : (base : ℕ) (c : Cell) → arity (shifted_cell base c) ≡ arity c
-arity-shifted base (VarCell n) = refl
-arity-shifted base (IntCell z) = refl
-arity-shifted base (AtomCell a) = refl
-arity-shifted base (Functor f n) = refl
-
-arguments_of : (base : ℕ) (c : Cell) (cs : List Cell) (n : ℕ) → 0 < n → arity c ≡ n → arguments (shifted base (first_of (with_cell c (terms_of cs)))) ≡ take_terms n (all_shifted base (terms_of cs))
-arguments_of base (VarCell m) cs n lt e = absurd (omega arith)
-arguments_of base (IntCell z) cs n lt e = absurd (omega arith)
-arguments_of base (AtomCell a) cs n lt e = absurd (omega arith)
-arguments_of base (Functor f m) cs n lt e = all_shifted-take base m (terms_of cs) ∙ ap (λ k. take_terms k (all_shifted base (terms_of cs))) e
+arguments_of : (c : Cell) (cs : List Cell) (n : ℕ) → 0 < n → arity c ≡ n → arguments (first_of (with_cell c (terms_of cs))) ≡ take_terms n (terms_of cs)
+arguments_of (VarCell m) cs n lt e = absurd (omega arith)
+arguments_of (IntCell z) cs n lt e = absurd (omega arith)
+arguments_of (AtomCell a) cs n lt e = absurd (omega arith)
+arguments_of (Functor f m) cs n lt e = ap (λ k. take_terms k (terms_of cs)) e
 
 argued_at : (p : Pair) (bs : List Binding) (at : Place) (n : ℕ) (c : Cell) → 0 < n → HasTermsAt p bs at 1 → c ≡ get_or (cells_of (whole_at p bs at.source)) at.at c → arity (top_of (place_term p bs at)) ≡ n → Argued p bs at n
 argued_at p bs at n c lt s is e =
     let t = whole_at p bs at.source in
-    let base = base_at p at.source in
     let within = stand_within p bs at s in
     let here = opened (cells_of t) at.at c within is in
     let forest = subst IsForest here (forest_from (cells_of t) at.at (term_forest t)) in
-    let number : arity c ≡ n = sym (arity-shifted base c) ∙ (ap arity (top_of-place base t at.at c within is) ∙ e) in
+    let number : arity c ≡ n = ap arity (sym (top_of-subterm t at.at c here)) ∙ e in
     record {
-      terms = ap (λ cs. arguments (shifted base (term_of cs))) here ∙ arguments_of base c (drop (at.at + 1) (cells_of t)) n lt number;
+      terms = ap (λ cs. arguments (term_of cs)) here ∙ arguments_of c (drop (at.at + 1) (cells_of t)) n lt number;
       stand = record { there = s.there; enough = subst (λ k. k ≤ count (terms_of (drop (at.at + 1) (cells_of t)))) number (opens c (drop (at.at + 1) (cells_of t)) forest).enough };
     }
 
@@ -113,10 +100,10 @@ arguments-apply f (IntTerm z) lt = refl
 arguments-apply f (AtomTerm a) lt = refl
 arguments-apply f (Compound g ts) lt = refl
 
-both_resolved-pairs : (bs : List Binding) (ts us : Terms) → both_resolved bs (pairs ts us) ≡ pairs (apply_all (value_of (composed bs)) ts) (apply_all (value_of (composed bs)) us)
+both_resolved-pairs : (bs : List Binding) (ts us : Terms) → both_resolved bs (pairs ts us) ≡ pairs (apply_all (value_of (substitution_of bs)) ts) (apply_all (value_of (substitution_of bs)) us)
 both_resolved-pairs bs end us = refl
 both_resolved-pairs bs (more t ts) end = refl
-both_resolved-pairs bs (more t ts) (more u us) = ap (λ es. (resolve (composed bs) t, resolve (composed bs) u) ∷ es) (both_resolved-pairs bs ts us)
+both_resolved-pairs bs (more t ts) (more u us) = ap (λ es. (resolve (substitution_of bs) t, resolve (substitution_of bs) u) ∷ es) (both_resolved-pairs bs ts us)
 
 pub opening_goes : (p : Pair) (bs : List Binding) (from to left right : Place) (n : ℕ) (es fs : List Equation) → DereferencesTo p bs from left → DereferencesTo p bs to right → Opens n ≡ cell_step (top_of (place_term p bs left)) (top_of (place_term p bs right)) → 0 < n
     → fs ≡ es ++ (record { left = inside left; right = inside right; count = n }) ∷ [] → FollowsRule p (place_term p bs from) (place_term p bs to) bs bs es fs
@@ -124,12 +111,12 @@ opening_goes p bs from to left right n es fs l r e lt q =
     let b = both (top_of (place_term p bs left)) (top_of (place_term p bs right)) n (sym e) in
     let a = argued p bs left n lt l.stand b.left in
     let c = argued p bs right n lt r.stand b.right in
-    let f = value_of (composed bs) in
+    let f = value_of (substitution_of bs) in
     let some_left : 0 < arity (top_of (place_term p bs left)) = omega (arith, b.left) in
     let some_right : 0 < arity (top_of (place_term p bs right)) = omega (arith, b.right) in
     let new : Equation = record { left = inside left; right = inside right; count = n } in
-    let sides : pairs (arguments (resolve (composed bs) (place_term p bs left))) (arguments (resolve (composed bs) (place_term p bs right))) ≡ both_resolved bs (equations_at p bs new) =
-    ap (λ ts. pairs ts (arguments (resolve (composed bs) (place_term p bs right)))) (arguments-apply f (place_term p bs left) some_left ∙ ap (apply_all f) a.terms)
+    let sides : pairs (arguments (resolve (substitution_of bs) (place_term p bs left))) (arguments (resolve (substitution_of bs) (place_term p bs right))) ≡ both_resolved bs (equations_at p bs new) =
+    ap (λ ts. pairs ts (arguments (resolve (substitution_of bs) (place_term p bs right)))) (arguments-apply f (place_term p bs left) some_left ∙ ap (apply_all f) a.terms)
     ∙ (ap (pairs (apply_all f (take_terms n (place_terms p bs (inside left))))) (arguments-apply f (place_term p bs right) some_right ∙ ap (apply_all f) c.terms)
     ∙ sym (both_resolved-pairs bs (take_terms n (place_terms p bs (inside left))) (take_terms n (place_terms p bs (inside right))))) in
     after_opening new (reached_rule p bs from to left right (Opens n) l r e ∙ ap Opened sides) (record { some = lt; left = a.stand; right = c.stand }) refl q

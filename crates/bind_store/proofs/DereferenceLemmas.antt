@@ -1,60 +1,49 @@
--- Bound variables followed to a term that is none.
-use Rattle.std.proofs.Common.{◌≡◌, ℕ, zero, suc, ◌+◌, ◌<◌, ◌≤◌, List, [], ◌∷◌, ◌++◌, length, drop, map, Some, None, refl, sym, ap, ◌∙◌, subst, arith, append_assoc}
+-- Bound variables followed, and bindings listed.
+use Rattle.std.proofs.Common.{◌≡◌, ℕ, zero, suc, ◌+◌, ◌<◌, ◌≤◌, List, [], ◌∷◌, ◌++◌, length, take, drop, take-append-drop, map, Some, None, refl, sym, ap, ◌∙◌, subst, arith, append_assoc, append-nil}
 use Rattle.std.proofs.lemmas.List.{drop_all}
-use Rattle.au_term.specs.Term.{Term, VarTerm, IntTerm, AtomTerm, Compound, var_bound}
+use Rattle.au_term.specs.Term.{Term, VarTerm, IntTerm, AtomTerm, Compound}
 use Rattle.au_term.specs.PrefixOrder.{cells_of, top_of}
 use Rattle.au_term.specs.declared.cell.Cell.{Cell}
 use Rattle.au_term.specs.declared.cell.Cell.TheVariants.{Var as VarCell, Int as IntCell, Atom as AtomCell, Functor}
 use Rattle.au_term.specs.declared.segment.Binding.{Binding as SharedBinding}
-use Rattle.au_model.specs.Terms.Each.{Each}
 use Rattle.au_model.specs.Terms.Substitutions.{resolve}
-use Rattle.bind_store.specs.Bindings.{Binding, composed, value_at, variable_at, IsBoundAt, AreTriangular, IsBindingBelow}
-use Rattle.bind_store.specs.ResolvedCells.{cells_weight, weight_of, IsCellFound}
-use Rattle.bind_store.specs.StoreView.{StoreView, IsUnbound, IsDereferencedTerm, pairs_of, mark_of, Continues}
+use Rattle.bind_store.specs.Bindings.{Binding, value_at, variable_at, resolved_after, resolved_bindings, substitution_of, IsReached}
+use Rattle.bind_store.specs.ResolvedCells.{IsCellEnd}
+use Rattle.bind_store.specs.StoreView.{StoreView, IsUnbound, pairs_of, mark_of, Continues}
 use Rattle.bind_store.specs.declared.store.Mark.{Mark}
-use Rattle.bind_store.proofs.TriangularLemmas.{value-composed, bound_within}
-use Rattle.bind_store.proofs.DereferencedTermLemmas.{var_top}
-use Rattle.bind_store.proofs.UndoLemmas.{drop_front}
-use Rattle.bind_store.proofs.WeightLemmas.{weight-bound}
+use Rattle.bind_store.proofs.DereferencedTermLemmas.{no_end}
+use Rattle.bind_store.proofs.ResolvedLemmas.{variable_top, free-resolved, resolved-append, resolved-take}
+use Rattle.bind_store.proofs.UndoLemmas.{take_front}
 
--- a bound variable's value stands for what the variable does
-pub record Follows (bs : List Binding) (t : Term) (i : ℕ) : Type 0 where
+first_cell : (t : Term) (c : Cell) (cs : List Cell) → cells_of t ≡ c ∷ cs → c ≡ top_of t
+first_cell (VarTerm n) c cs e = cc
+first_cell (IntTerm z) c cs e = cc
+first_cell (AtomTerm a) c cs e = cc
+first_cell (Compound g ts) c cs e = cc
+
+-- the value at the end of a variable's chain
+pub record Reached (bs : List Binding) (term : Term) (i : ℕ) : Type 0 where
   pub within : i < length bs
-  pub same : resolve (composed bs) (value_at bs i) ≡ resolve (composed bs) t
-  pub less : cells_weight (weight_of bs) (cells_of (value_at bs i)) < cells_weight (weight_of bs) (cells_of t)
+  pub same : resolve (substitution_of bs) (value_at bs i) ≡ resolve (substitution_of bs) term
+  pub reached : IsReached bs (top_of (value_at bs i))
 
-follows_by : (bs : List Binding) (t : Term) (i x : ℕ) → top_of t ≡ VarCell x → IsBoundAt bs i x → AreTriangular bs → Follows bs t i
-follows_by bs t i x top b a =
-    let is = var_top t x top in
-    record {
-      within = bound_within bs i x b;
-      same = sym (value-composed bs i x a b) ∙ ap (resolve (composed bs)) (sym is);
-      less = omega (arith, weight-bound bs i x a b, ap (λ u. cells_weight (weight_of bs) (cells_of u)) is);
-    }
+reached_by : (bs : List Binding) (term : Term) (i : ℕ) (c : Cell) → top_of term ≡ c → IsCellEnd bs c (Some i) → Reached bs term i
+reached_by bs term i (VarCell x) top h = record { within = h.within; same = h.same ∙ ap (resolve (substitution_of bs)) (sym (variable_top term x top)); reached = h.reached }
+reached_by bs term i (IntCell z) top h = absurd h
+reached_by bs term i (AtomCell a) top h = absurd h
+reached_by bs term i (Functor g n) top h = absurd h
 
-pub follows : (bs : List Binding) (t : Term) (i : ℕ) (c : Cell) → c ≡ top_of t → IsCellFound bs c (Some i) → Follows bs t i
-follows bs t i (VarCell x) top f = follows_by bs t i x (sym top) f.0 f.1
-follows bs t i (IntCell z) top f = absurd f
-follows bs t i (AtomCell a) top f = absurd f
-follows bs t i (Functor g n) top f = absurd f
+pub reached_value : (bs : List Binding) (term : Term) (i : ℕ) (c : Cell) (cs : List Cell) → cells_of term ≡ c ∷ cs → IsCellEnd bs c (Some i) → Reached bs term i
+reached_value bs term i c cs e h = reached_by bs term i c (sym (first_cell term c cs e)) h
 
-pub unbound : (bs : List Binding) (t : Term) (c : Cell) → c ≡ top_of t → IsCellFound bs c None → IsUnbound bs t
-unbound bs (VarTerm n) c top f = (subst (λ d. IsCellFound bs d None) top f).0
-unbound bs (IntTerm z) c top f = tt
-unbound bs (AtomTerm a) c top f = tt
-unbound bs (Compound g ts) c top f = tt
+pub reached_itself : (bs : List Binding) (term : Term) (c : Cell) (cs : List Cell) → cells_of term ≡ c ∷ cs → IsCellEnd bs c None → IsReached bs (top_of term)
+reached_itself bs term c cs e h = subst (IsReached bs) (first_cell term c cs e) (no_end bs c h)
 
-value_below : (bs : List Binding) (i n : ℕ) → i < length bs → Each (IsBindingBelow n) bs → var_bound (value_at bs i) ≤ n
-value_below [] i n lt h = absurd (omega arith)
-value_below (b ∷ bs) zero n lt h = h.0.1
-value_below (b ∷ bs) (suc i) n lt h = value_below bs i n (omega arith) h.1
-
-pub reached_value : (st : StoreView) (term : Term) (i : ℕ) (c : Cell) → i < length st.made → resolve (composed st.made) (value_at st.made i) ≡ resolve (composed st.made) term → Each (IsBindingBelow st.next) st.made → c ≡ top_of (value_at st.made i) → IsCellFound st.made c None
-    → IsDereferencedTerm st term (value_at st.made i)
-reached_value st term i c lt same h top f = record { same = same; unbound = unbound st.made (value_at st.made i) c top f; below = λ k. value_below st.made i st.next lt h }
-
-pub itself : (st : StoreView) (term : Term) (c : Cell) → c ≡ top_of term → IsCellFound st.made c None → IsDereferencedTerm st term term
-itself st term c top f = record { same = refl; unbound = unbound st.made term c top f; below = λ k. k }
+pub unbound : (bs : List Binding) (t : Term) → IsReached bs (top_of t) → IsUnbound (resolved_bindings bs) t
+unbound bs (VarTerm n) h = free-resolved [] bs n h
+unbound bs (IntTerm z) h = tt
+unbound bs (AtomTerm a) h = tt
+unbound bs (Compound g ts) h = tt
 
 -- one binding more of the list
 pub drop_one : (bs : List Binding) (i : ℕ) → i < length bs → drop i bs ≡ (variable_at bs i, value_at bs i) ∷ drop (i + 1) bs
@@ -72,13 +61,19 @@ listed_more bs from i list now x t lt h p q n =
     let one : drop i bs ≡ (x, t) ∷ drop (i + 1) bs = drop_one bs i lt ∙ (ap (λ y. (y, value_at bs i) ∷ drop (i + 1) bs) (sym p) ∙ ap (λ u. (x, u) ∷ drop (i + 1) bs) (sym q)) in
     h ∙ (ap (λ ds. pairs_of list ++ ds) one ∙ (sym (append_assoc (pairs_of list) ((x, t) ∷ []) (drop (i + 1) bs)) ∙ ap (λ ps. ps ++ drop (i + 1) bs) (sym (ap pairs_of n ∙ map-push (λ b. (b.var, b.value)) list (record { var = x; value = t })))))
 
-pub all_listed : (st : StoreView) (m : Mark) (from i : ℕ) (list : List SharedBinding) → from ≡ m.made → length st.made ≤ i → drop from st.made ≡ pairs_of list ++ drop i st.made
-    → (before : StoreView) → m ≡ mark_of before → Continues before st → st.made ≡ before.made ++ pairs_of list
-all_listed st m from i list e le h before is c =
-    let none : drop i st.made ≡ [] = drop_all i st.made le in
-    let last : drop from st.made ≡ c.more = drop_front before.made c.more st.made from c.is (e ∙ ap (λ k. let n : ℕ = k.made in n) is) in
-    c.is ∙ ap (λ ds. before.made ++ ds) (sym last ∙ (h ∙ (ap (λ ds. pairs_of list ++ ds) none ∙ nothing_more (pairs_of list))))
-  where
-    nothing_more : (xs : List Binding) → xs ++ [] ≡ xs
-    nothing_more [] = refl
-    nothing_more (x ∷ xs) = ap (λ k. x ∷ k) (nothing_more xs)
+-- the bindings since a mark
+made_before : (bs : List Binding) (st before : StoreView) (m : Mark) → st.made ≡ resolved_bindings bs → m ≡ mark_of before → Continues before st → resolved_bindings (take m.made bs) ≡ before.made
+made_before bs st before m e is c =
+    resolved-take [] bs m.made ∙ take_front before.made c.more (resolved_bindings bs) m.made (sym e ∙ c.is) (ap (λ k. let n : ℕ = k.made in n) is)
+
+pub undone : (bs cs : List Binding) (st before : StoreView) (m : Mark) → st.made ≡ resolved_bindings bs → m ≡ mark_of before → Continues before st → cs ≡ take m.made bs → resolved_bindings cs ≡ before.made
+undone bs cs st before m e is c h = ap resolved_bindings h ∙ made_before bs st before m e is c
+
+pub all_listed : (bs : List Binding) (st : StoreView) (m : Mark) (from i : ℕ) (list : List SharedBinding) → st.made ≡ resolved_bindings bs → from ≡ m.made → length bs ≤ i → drop from bs ≡ pairs_of list ++ drop i bs
+    → (before : StoreView) → m ≡ mark_of before → Continues before st → st.made ≡ before.made ++ resolved_after before.made (pairs_of list)
+all_listed bs st m from i list e f le h before is c =
+    let front = take m.made bs in
+    let rest : drop m.made bs ≡ pairs_of list = ap (λ n. drop n bs) (sym f) ∙ (h ∙ (ap (λ ds. pairs_of list ++ ds) (drop_all i bs le) ∙ append-nil (pairs_of list))) in
+    e ∙ (ap resolved_bindings (sym (take-append-drop m.made bs))
+    ∙ (resolved-append [] front (drop m.made bs)
+    ∙ (ap (λ made. made ++ resolved_after made (drop m.made bs)) (made_before bs st before m e is c) ∙ ap (λ ds. before.made ++ resolved_after before.made ds) rest)))

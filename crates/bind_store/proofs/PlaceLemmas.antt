@@ -1,31 +1,17 @@
 -- Subterms by their places.
-use Rattle.std.proofs.Common.{◌≡◌, ℕ, zero, suc, ◌+◌, ◌-◌, ◌<◌, ◌≤◌, List, [], ◌∷◌, ◌++◌, length, drop, get_or, reverse, refl, sym, ap, ◌∙◌, subst, zero-add, arith}
-use Rattle.au_term.specs.Term.{Term, VarTerm, IntTerm, AtomTerm, Compound, Terms, end, more, count, first_of, take_terms}
+use Rattle.std.proofs.Common.{◌≡◌, ℕ, zero, suc, ◌+◌, ◌-◌, ◌<◌, ◌≤◌, List, [], ◌∷◌, ◌++◌, length, drop, reverse, refl, sym, ap, ◌∙◌, subst, arith}
+use Rattle.au_term.specs.Term.{Term, more, count, first_of, take_terms}
 use Rattle.au_term.specs.PrefixOrder.{cells_of, terms_of, term_of, terms_of-cells_of, subterm, top_of, with_cell, IsForest}
-use Rattle.au_term.specs.Shifted.{shifted, all_shifted, shifted_cell}
 use Rattle.au_term.specs.declared.cell.Cell.{Cell}
 use Rattle.au_term.specs.declared.cell.Cell.TheVariants.{Var as VarCell, Int as IntCell, Atom as AtomCell, Functor}
 use Rattle.au_term.proofs.WholeTermLemmas.{count-take}
 use Rattle.au_term.proofs.SubtermLemmas.{opens, forest_from, term_forest}
-use Rattle.au_term.proofs.SizeFillLemmas.{opened}
-use Rattle.au_term.proofs.ShiftLemmas.{top_of-shifted}
 use Rattle.bind_store.specs.Bindings.{Binding}
 use Rattle.au_model.specs.Terms.Unifier.{pairs}
-use Rattle.bind_store.specs.UnificationSteps.{Pair, whole_at, base_at, place_term, place_terms, HasTermsAt, IsNextPlace, equations_at, pending_equations}
+use Rattle.bind_store.specs.UnificationSteps.{Pair, whole_at, place_term, place_terms, HasTermsAt, IsNextPlace, equations_at, pending_equations}
 use Rattle.bind_store.specs.declared.unify.Equation.{Equation}
-use Rattle.bind_store.proofs.ResolvingLemmas.{reverse-push}
+use Rattle.bind_store.proofs.WalkLemmas.{reverse-push}
 use Rattle.bind_store.specs.declared.unify.Place.{Place}
-
-mutual
-  pub shifted-none : (t : Term) → shifted 0 t ≡ t
-  shifted-none (VarTerm n) = ap VarTerm (zero-add n)
-  shifted-none (IntTerm z) = refl
-  shifted-none (AtomTerm a) = refl
-  shifted-none (Compound f ts) = ap (Compound f) (all_shifted-none ts)
-
-  all_shifted-none : (ts : Terms) → all_shifted 0 ts ≡ ts
-  all_shifted-none end = refl
-  all_shifted-none (more t ts) = let first = shifted-none t in let rest = all_shifted-none ts in cc
 
 top_of-first : (c : Cell) (cs : List Cell) → IsForest (c ∷ cs) → top_of (first_of (with_cell c (terms_of cs))) ≡ c
 top_of-first (VarCell n) cs h = refl
@@ -34,13 +20,8 @@ top_of-first (AtomCell a) cs h = refl
 top_of-first (Functor f n) cs h = ap (Functor f) (count-take n (terms_of cs) (opens (Functor f n) cs h).enough)
 
 -- the first cell of a subterm
-pub top_of-subterm : (t : Term) (at : ℕ) (c : Cell) → at < length (cells_of t) → c ≡ get_or (cells_of t) at c → top_of (subterm at t) ≡ c
-top_of-subterm t at c lt is =
-    let here = opened (cells_of t) at c lt is in
-    ap (λ cs. top_of (term_of cs)) here ∙ top_of-first c (drop (at + 1) (cells_of t)) (subst IsForest here (forest_from (cells_of t) at (term_forest t)))
-
-pub top_of-place : (base : ℕ) (t : Term) (at : ℕ) (c : Cell) → at < length (cells_of t) → c ≡ get_or (cells_of t) at c → shifted_cell base c ≡ top_of (shifted base (subterm at t))
-top_of-place base t at c lt is = ap (shifted_cell base) (sym (top_of-subterm t at c lt is)) ∙ sym (top_of-shifted base (subterm at t))
+pub top_of-subterm : (t : Term) (at : ℕ) (c : Cell) → drop at (cells_of t) ≡ c ∷ drop (at + 1) (cells_of t) → top_of (subterm at t) ≡ c
+top_of-subterm t at c here = ap (λ cs. top_of (term_of cs)) here ∙ top_of-first c (drop (at + 1) (cells_of t)) (subst IsForest here (forest_from (cells_of t) at (term_forest t)))
 
 -- the terms from a place on are the subterm and the terms after it
 pub after_is : (p : Pair) (bs : List Binding) (at next : Place) → next.source ≡ at.source → drop at.at (cells_of (whole_at p bs at.source)) ≡ cells_of (subterm at.at (whole_at p bs at.source)) ++ drop next.at (cells_of (whole_at p bs at.source)) → IsNextPlace p bs at next
@@ -48,11 +29,7 @@ after_is p bs at next s e =
     let t = whole_at p bs at.source in
     let here : terms_of (drop at.at (cells_of t)) ≡ more (subterm at.at t) (terms_of (drop next.at (cells_of t))) = ap terms_of e ∙ terms_of-cells_of (subterm at.at t) (drop next.at (cells_of t)) in
     let there : terms_of (drop at.at (cells_of t)) ≡ more (subterm at.at t) (terms_of (drop next.at (cells_of (whole_at p bs next.source)))) = here ∙ ap (λ o. more (subterm at.at t) (terms_of (drop next.at (cells_of (whole_at p bs o))))) (sym s) in
-    record {
-      source = s;
-      terms = ap (all_shifted (base_at p at.source)) there ∙ ap (λ o. more (place_term p bs at) (all_shifted (base_at p o) (terms_of (drop next.at (cells_of (whole_at p bs next.source)))))) (sym s);
-      number = ap count there ∙ omega arith;
-    }
+    record { source = s; terms = there; number = ap count there ∙ omega arith }
 
 -- the equations after the first
 pub rest_is : (p : Pair) (bs : List Binding) (e f : Equation) → 0 < e.count → f.count ≡ e.count - 1 → IsNextPlace p bs e.left f.left → IsNextPlace p bs e.right f.right

@@ -1,51 +1,38 @@
 -- What a store keeps.
-use Rattle.std.proofs.Common.{◌≡◌, ℕ, ◌<◌, ◌≤◌, ◌==◌, Bool, true, false, cond, List, [], ◌∷◌, ◌++◌, length, drop, refl, sym, ap, ◌∙◌, subst, arith, length-drop}
-use Rattle.au_term.specs.Term.{Term, VarTerm, IntTerm, AtomTerm, Compound, Terms, end, more as another, count, first_of, take_terms, var_bound, all_bound}
-use Rattle.au_term.specs.PrefixOrder.{cells_of, terms_of, subterm}
-use Rattle.au_term.specs.Shifted.{shifted, all_shifted, IsShiftablePlace}
-use Rattle.au_term.specs.declared.cell.Cell.{Cell}
-use Rattle.au_term.specs.declared.cell.Cell.TheVariants.{Var as VarCell, Int as IntCell, Atom as AtomCell, Functor}
+use Rattle.std.proofs.Common.{◌≡◌, ℕ, zero, suc, ◌<◌, ◌≤◌, ◌==◌, Bool, true, false, cond, List, [], ◌∷◌, ◌++◌, length, Option, Some, None, sym, ap, ◌∙◌, subst, append_assoc, append-nil, arith}
+use Rattle.au_term.specs.Term.{Term, VarTerm, IntTerm, AtomTerm, Compound, Terms, end, more as another, count, take_terms, var_bound, all_bound}
+use Rattle.au_term.specs.PrefixOrder.{cells_of, terms_of, terms_of-cells_of}
 use Rattle.au_model.specs.Terms.Each.{Each}
 use Rattle.au_model.specs.Terms.Substitutions.{apply, apply_all, value_of, resolve}
 use Rattle.au_model.specs.Terms.Unifier.{pairs, equations_bound}
-use Rattle.bind_store.specs.Bindings.{Binding, composed, IsBindingBelow}
-use Rattle.bind_store.specs.UnificationSteps.{Pair, IsEquationValid, equations_at, both_resolved, IsExtended}
+use Rattle.bind_store.specs.Bindings.{Binding, composed, resolved_after, resolved_bindings, substitution_of, place_in, value_at, IsBoundAt, IsLookedUp, IsBindingBelow}
+use Rattle.bind_store.specs.UnificationSteps.{Pair, IsEquationValid, equations_at, both_resolved, IsExtended, AreOlder, IsOlder, AreOlderThan}
+use Rattle.bind_store.specs.StoreView.{StoreView}
 use Rattle.bind_store.specs.declared.unify.Equation.{Equation}
 use Rattle.bind_store.specs.declared.unify.Source.TheVariants.{Left, Right}
+use Rattle.bind_store.proofs.TriangularLemmas.{free-composed, found_of}
+use Rattle.bind_store.proofs.ResolvedLemmas.{resolved-append}
 
-some_terms : (cs : List Cell) → 0 < length cs → 1 ≤ count (terms_of cs)
-some_terms [] lt = absurd (omega arith)
-some_terms (VarCell n ∷ cs) lt = omega arith
-some_terms (IntCell z ∷ cs) lt = omega arith
-some_terms (AtomCell a ∷ cs) lt = omega arith
-some_terms (Functor f n ∷ cs) lt = omega arith
+only_term : (t : Term) → terms_of (cells_of t) ≡ another t end
+only_term t = ap terms_of (sym (append-nil (cells_of t))) ∙ terms_of-cells_of t []
 
-terms_at : (t : Term) (at : ℕ) → at < length (cells_of t) → 1 ≤ count (terms_of (drop at (cells_of t)))
-terms_at t at lt = some_terms (drop at (cells_of t)) (omega (arith, length-drop at (cells_of t)))
+abbrev pub first_equation : Equation
+first_equation = record { left = record { source = Left; at = 0 }; right = record { source = Right; at = 0 }; count = 1 }
 
-abbrev pub sides : Term → ℕ → Term → ℕ → Pair
-sides t base u other = record { left = t; left_base = base; right = u; right_base = other }
+abbrev pub sides : Term → Term → Pair
+sides a b = record { left = a; right = b }
 
-abbrev pub first_equation : ℕ → ℕ → Equation
-first_equation at place = record { left = record { source = Left; at = at }; right = record { source = Right; at = place }; count = 1 }
-
-pub first_stands : (t u : Term) (base other at place : ℕ) (bs : List Binding) → IsShiftablePlace t at base → IsShiftablePlace u place other → IsEquationValid (sides t base u other) bs (first_equation at place)
-first_stands t u base other at place bs h k = record {
+pub first_stands : (a b : Term) (bs : List Binding) → IsEquationValid (sides a b) bs first_equation
+first_stands a b bs = record {
   some = omega arith;
-  left = record { there = tt; enough = terms_at t at h.within };
-  right = record { there = tt; enough = terms_at u place k.within };
+  left = record { there = tt; enough = omega (arith, ap count (only_term a)) };
+  right = record { there = tt; enough = omega (arith, ap count (only_term b)) };
 }
 
-first_taken : (base : ℕ) (ts : Terms) → 1 ≤ count ts → take_terms 1 (all_shifted base ts) ≡ another (shifted base (first_of ts)) end
-first_taken base end h = absurd (omega arith)
-first_taken base (another t ts) h = refl
-
-pub first_equations : (t u a b : Term) (base other at place : ℕ) (bs : List Binding) → IsShiftablePlace t at base → IsShiftablePlace u place other → shifted base (subterm at t) ≡ a → shifted other (subterm place u) ≡ b
-    → both_resolved bs (equations_at (sides t base u other) bs (first_equation at place)) ≡ (resolve (composed bs) a, resolve (composed bs) b) ∷ []
-first_equations t u a b base other at place bs h k p q =
-    let left = first_taken base (terms_of (drop at (cells_of t))) (terms_at t at h.within) ∙ ap (λ s. another s end) p in
-    let right = first_taken other (terms_of (drop place (cells_of u))) (terms_at u place k.within) ∙ ap (λ s. another s end) q in
-    ap (λ ts. both_resolved bs (pairs ts (take_terms 1 (all_shifted other (terms_of (drop place (cells_of u))))))) left ∙ ap (λ us. both_resolved bs (pairs (another a end) us)) right
+pub first_equations : (a b : Term) (bs : List Binding) → both_resolved bs (equations_at (sides a b) bs first_equation) ≡ (resolve (substitution_of bs) a, resolve (substitution_of bs) b) ∷ []
+first_equations a b bs =
+    ap (λ ts. both_resolved bs (pairs (take_terms 1 ts) (take_terms 1 (terms_of (cells_of b))))) (only_term a)
+    ∙ ap (λ us. both_resolved bs (pairs (another a end) (take_terms 1 us))) (only_term b)
 
 -- what terms stand for is below
 mutual
@@ -85,7 +72,54 @@ pub front_below : (bs cs : List Binding) (n : ℕ) → Each (IsBindingBelow n) (
 front_below [] cs n h = tt
 front_below (b ∷ bs) cs n h = (h.0, front_below bs cs n h.1)
 
+pub back_below : (bs cs : List Binding) (n : ℕ) → Each (IsBindingBelow n) (bs ++ cs) → Each (IsBindingBelow n) cs
+back_below [] cs n h = h
+back_below (b ∷ bs) cs n h = back_below bs cs n h.1
+
 -- further bindings keep a store sound
-pub extended_below : (bs cs : List Binding) (n : ℕ) (a b : Term) → Each (IsBindingBelow n) bs → var_bound a ≤ n → var_bound b ≤ n → IsExtended ((resolve (composed bs) a, resolve (composed bs) b) ∷ []) bs cs → Each (IsBindingBelow n) cs
+pub extended_below : (bs cs : List Binding) (n : ℕ) (a b : Term) → Each (IsBindingBelow n) (resolved_bindings bs) → var_bound a ≤ n → var_bound b ≤ n → IsExtended ((resolve (substitution_of bs) a, resolve (substitution_of bs) b) ∷ []) bs cs → Each (IsBindingBelow n) (resolved_bindings cs)
 extended_below bs cs n a b h p q e =
-    subst (Each (IsBindingBelow n)) (sym e.is) (both_below bs e.more n h (further_below e.more (equations_bound ((resolve (composed bs) a, resolve (composed bs) b) ∷ [])) n (sides_below bs n a b h p q) e.below))
+    let made = resolved_bindings bs in
+    subst (Each (IsBindingBelow n)) (sym (ap resolved_bindings e.is ∙ resolved-append [] bs e.more))
+    (both_below made (resolved_after made e.more) n h (further_below (resolved_after made e.more) (equations_bound ((resolve (substitution_of bs) a, resolve (substitution_of bs) b) ∷ [])) n (sides_below made n a b h p q) e.below))
+
+-- a term whose bound variables and what they stand for are below is below
+bound_below : (bs : List Binding) (i x n : ℕ) → Each (IsBindingBelow n) bs → IsBoundAt bs i x → x < n
+bound_below [] i x n h k = absurd k
+bound_below (b ∷ bs) zero x n h k = omega (arith, h.0.0, k)
+bound_below (b ∷ bs) (suc i) x n h k = bound_below bs i x n h.1 k
+
+found_below : (bs : List Binding) (x n : ℕ) (o : Option ℕ) → Each (IsBindingBelow n) bs → IsLookedUp bs x o → var_bound (value_of (composed bs) x) ≤ n → x < n
+found_below bs x n None h f le = omega (arith, ap var_bound (free-composed bs x f))
+found_below bs x n (Some i) h f le = bound_below bs i x n h f
+
+mutual
+  unresolved_below : (bs : List Binding) (n : ℕ) (t : Term) → Each (IsBindingBelow n) bs → var_bound (resolve (composed bs) t) ≤ n → var_bound t ≤ n
+  unresolved_below bs n (VarTerm x) h le = let lt = found_below bs x n (place_in x bs) h (found_of bs x) le in omega arith
+  unresolved_below bs n (IntTerm z) h le = omega arith
+  unresolved_below bs n (AtomTerm a) h le = omega arith
+  unresolved_below bs n (Compound g ts) h le = all_unresolved_below bs n ts h le
+
+  all_unresolved_below : (bs : List Binding) (n : ℕ) (ts : Terms) → Each (IsBindingBelow n) bs → all_bound (apply_all (value_of (composed bs)) ts) ≤ n → all_bound ts ≤ n
+  all_unresolved_below bs n end h le = omega arith
+  all_unresolved_below bs n (another t ts) h le = omega (arith, unresolved_below bs n t h (omega arith), all_unresolved_below bs n ts h (omega arith))
+
+value_below_after : (made bs : List Binding) (i n : ℕ) → Each (IsBindingBelow n) (made ++ resolved_after made bs) → i < length bs → var_bound (value_at bs i) ≤ n
+value_below_after made [] i n h lt = absurd (omega arith)
+value_below_after made (b ∷ bs) zero n h lt =
+    let v : Binding = (b.0, resolve (composed made) b.1) in
+    let last = back_below made (v ∷ resolved_after (made ++ v ∷ []) bs) n h in
+    unresolved_below made n b.1 (front_below made (v ∷ resolved_after (made ++ v ∷ []) bs) n h) last.0.1
+value_below_after made (b ∷ bs) (suc i) n h lt =
+    let v : Binding = (b.0, resolve (composed made) b.1) in
+    value_below_after (made ++ v ∷ []) bs i n (subst (Each (IsBindingBelow n)) (sym (append_assoc made (v ∷ []) (resolved_after (made ++ v ∷ []) bs))) h) (omega arith)
+
+pub raw_value_below : (bs : List Binding) (i n : ℕ) → Each (IsBindingBelow n) (resolved_bindings bs) → i < length bs → var_bound (value_at bs i) ≤ n
+raw_value_below bs i n h lt = value_below_after [] bs i n h lt
+
+-- what is older than a clause
+pub all_older : (bs : List Binding) (fresh : Option ℕ) (t : Term) (st : StoreView) → st.made ≡ resolved_bindings bs → AreOlderThan fresh t st → AreOlder fresh bs × IsOlder fresh (resolve (substitution_of bs) t)
+all_older bs None t st e h = (tt, tt)
+all_older bs (Some base) t st e h =
+    let below = subst (Each (IsBindingBelow base)) e h.0 in
+    (λ x lt. value_below (resolved_bindings bs) base x below lt, resolve_below (resolved_bindings bs) base t below h.1)

@@ -26,10 +26,8 @@ place_by bs x y n true e f = sym (free-place_in bs x f) ∙ ap (λ z. place_in z
 place_by bs x y n false e f = refl
 
 -- without the last binding
-pub place_in-less : (bs : List Binding) (x y : ℕ) (t : Term) → AreTriangular (bs ++ (x, t) ∷ []) → cond (x == y) None (place_in y (bs ++ (x, t) ∷ [])) ≡ place_in y bs
-place_in-less bs x y t h =
-    let f = free_last bs x t h in
-    ap (cond (x == y) None) (place_in-more bs x y t f) ∙ place_by bs x y (length bs) (x == y) refl f
+pub place_in-less : (bs : List Binding) (x y : ℕ) (t : Term) → IsUnboundIn x bs → cond (x == y) None (place_in y (bs ++ (x, t) ∷ [])) ≡ place_in y bs
+place_in-less bs x y t f = ap (cond (x == y) None) (place_in-more bs x y t f) ∙ place_by bs x y (length bs) (x == y) refl f
 
 pub variable_at-is : (bs : List Binding) (i : ℕ) (d : Binding) → i < length bs → (get_or bs i d).0 ≡ variable_at bs i
 variable_at-is [] i d lt = absurd (omega arith)

@@ -3,7 +3,6 @@ use Rattle.std.proofs.Common.{◌≡◌, ℕ, ◌<◌, ◌≤◌, List, [], ◌�
 use Rattle.std.specs.Option.{option_map}
 use Rattle.au_term.specs.Term.{Term, VarTerm, IntTerm, AtomTerm, Compound, Terms, end, more, count, take_terms, var_bound, all_bound}
 use Rattle.au_term.specs.PrefixOrder.{cells_of, terms_of}
-use Rattle.au_term.specs.Shifted.{all_shifted}
 use Rattle.au_model.specs.Terms.Each.{Each}
 use Rattle.au_model.specs.Terms.Substitutions.{Substitution, resolve, occurs, occurs_in}
 use Rattle.au_model.specs.Terms.Unifier.{Equations, Dropped, Replaced, Opened, Clash, rule, by_rule, replace, bound, unifier, equations_bound, pairs}
@@ -11,14 +10,15 @@ use Rattle.au_model.proofs.ApplyLemmas.{or_left, or_right}
 use Rattle.au_model.proofs.UnifierRuleLemmas.{Says, rule_says, Binds}
 use Rattle.au_model.proofs.UnifierMeasureLemmas.{appears, AllBelow, work, Less, less_dropped, less_bound, less_opened}
 use Rattle.au_model.proofs.UnifierLemmas.{unifier-first, unifier_goes, all_below}
-use Rattle.bind_store.specs.Bindings.{Binding, composed, value_at, AreTriangular, IsBindingBelow}
-use Rattle.bind_store.specs.UnificationSteps.{Pair, whole_at, base_at, place_term, place_terms, IsThere, HasTermsAt, IsEquationValid, AreEquationsValid, equations_at, pending_equations, both_resolved, FollowsRule, after_drop, after_binding, after_opening, HasFurther, IsExtended}
+use Rattle.bind_store.specs.Bindings.{Binding, composed, resolved_after, resolved_bindings, substitution_of, value_at, IsConsistent, IsBindingBelow}
+use Rattle.bind_store.specs.UnificationSteps.{Pair, whole_at, place_term, place_terms, IsThere, HasTermsAt, IsEquationValid, AreEquationsValid, equations_at, pending_equations, both_resolved, IsBoundTo, FollowsRule, after_drop, after_binding, after_opening, HasFurther, IsExtended}
 use Rattle.bind_store.specs.declared.unify.Source.{Source}
 use Rattle.bind_store.specs.declared.unify.Source.TheVariants.{Left, Right, Value}
 use Rattle.bind_store.specs.declared.unify.Place.{Place}
 use Rattle.bind_store.specs.declared.unify.Equation.{Equation}
-use Rattle.bind_store.proofs.TriangularLemmas.{resolve-more, same_eqb}
-use Rattle.bind_store.proofs.ResolvingLemmas.{reverse-push}
+use Rattle.bind_store.proofs.TriangularLemmas.{same_eqb}
+use Rattle.bind_store.proofs.ResolvedLemmas.{resolved-append, resolve-push}
+use Rattle.bind_store.proofs.WalkLemmas.{reverse-push}
 
 -- what is found with what the rest gives
 abbrev pub completed : List Binding → Option Substitution → Option Substitution
@@ -29,11 +29,11 @@ completed (b ∷ bs) o = option_map (bound b.0 b.1) (completed bs o)
 pub record Unifying (eqs : Equations) (p : Pair) (before bs : List Binding) (es : List Equation) : Type 0 where
   pub more : List Binding
   pub is : bs ≡ before ++ more
-  pub result : completed more (unifier (both_resolved bs (pending_equations p bs es))) ≡ unifier eqs
+  pub result : completed (resolved_after (resolved_bindings before) more) (unifier (both_resolved bs (pending_equations p bs es))) ≡ unifier eqs
   pub below : AllBelow (equations_bound eqs) (both_resolved bs (pending_equations p bs es))
-  pub made : Each (IsBindingBelow (equations_bound eqs)) more
+  pub made : Each (IsBindingBelow (equations_bound eqs)) (resolved_after (resolved_bindings before) more)
   pub stand : AreEquationsValid p bs es
-  pub apart : AreTriangular bs
+  pub consistent : IsConsistent bs
 
 abbrev pub left_work : Equations → Pair → List Binding → List Equation → ℕ
 left_work eqs p bs es = work (equations_bound eqs) (both_resolved bs (pending_equations p bs es))
@@ -60,9 +60,11 @@ pub ended : (eqs : Equations) (p : Pair) (before bs : List Binding) (es : List E
 ended eqs p before bs es u e = record {
   more = u.more;
   is = u.is;
-  unified = sym u.result ∙ (ap (λ k. completed u.more (unifier (both_resolved bs (pending_equations p bs k)))) e ∙ (ap (completed u.more) unifier_goes.none_left ∙ completed-some u.more));
+  unified =
+      let made = resolved_after (resolved_bindings before) u.more in
+      sym u.result ∙ (ap (λ k. completed made (unifier (both_resolved bs (pending_equations p bs k)))) e ∙ (ap (completed made) unifier_goes.none_left ∙ completed-some made));
   below = u.made;
-  apart = u.apart;
+  consistent = u.consistent;
 }
 
 pub grown : (eqs : Equations) (p : Pair) (before bs : List Binding) (es : List Equation) → Unifying eqs p before bs es → HasFurther before bs
@@ -131,9 +133,9 @@ all_stand-more p bs cs [] h = tt
 all_stand-more p bs cs (e ∷ es) h = (stands-more p bs cs e h.0, all_stand-more p bs cs es h.1)
 
 place_terms-more : (p : Pair) (bs cs : List Binding) (at : Place) → IsThere bs at.source → place_terms p (bs ++ cs) at ≡ place_terms p bs at
-place_terms-more p bs cs at h = ap (λ t. all_shifted (base_at p at.source) (terms_of (drop at.at (cells_of t)))) (whole_at-more p bs cs at.source h)
+place_terms-more p bs cs at h = ap (λ t. terms_of (drop at.at (cells_of t))) (whole_at-more p bs cs at.source h)
 
-pending-more : (p : Pair) (bs cs : List Binding) (es : List Equation) → AreEquationsValid p bs es → pending_equations p (bs ++ cs) es ≡ pending_equations p bs es
+pub pending-more : (p : Pair) (bs cs : List Binding) (es : List Equation) → AreEquationsValid p bs es → pending_equations p (bs ++ cs) es ≡ pending_equations p bs es
 pending-more p bs cs [] h = refl
 pending-more p bs cs (e ∷ es) h =
     let left = place_terms-more p bs cs e.left h.0.left.there in
@@ -142,32 +144,35 @@ pending-more p bs cs (e ∷ es) h =
     ∙ (ap (λ us. pairs (take_terms e.count (place_terms p bs e.left)) (take_terms e.count us) ++ pending_equations p (bs ++ cs) es) right
     ∙ ap (λ qs. equations_at p bs e ++ qs) (pending-more p bs cs es h.1))
 
-both_resolved-append : (bs : List Binding) (es fs : Equations) → both_resolved bs (es ++ fs) ≡ both_resolved bs es ++ both_resolved bs fs
+pub both_resolved-append : (bs : List Binding) (es fs : Equations) → both_resolved bs (es ++ fs) ≡ both_resolved bs es ++ both_resolved bs fs
 both_resolved-append bs [] fs = refl
-both_resolved-append bs (e ∷ es) fs = ap (λ qs. (resolve (composed bs) e.0, resolve (composed bs) e.1) ∷ qs) (both_resolved-append bs es fs)
+both_resolved-append bs (e ∷ es) fs = ap (λ qs. (resolve (substitution_of bs) e.0, resolve (substitution_of bs) e.1) ∷ qs) (both_resolved-append bs es fs)
 
-both_resolved-more : (bs : List Binding) (x : ℕ) (t : Term) (es : Equations) → both_resolved (bs ++ (x, t) ∷ []) es ≡ replace x t (both_resolved bs es)
-both_resolved-more bs x t [] = refl
-both_resolved-more bs x t (e ∷ es) =
-    let first = resolve-more bs x t e.0 in
-    let second = resolve-more bs x t e.1 in
-    let rest = both_resolved-more bs x t es in cc
+pub both_resolved-more : (bs : List Binding) (x : ℕ) (v : Term) (es : Equations) → both_resolved (bs ++ (x, v) ∷ []) es ≡ replace x (resolve (substitution_of bs) v) (both_resolved bs es)
+both_resolved-more bs x v [] = refl
+both_resolved-more bs x v (e ∷ es) =
+    let first = resolve-push bs x v e.0 in
+    let second = resolve-push bs x v e.1 in
+    let rest = both_resolved-more bs x v es in cc
 
 module _ (eqs : Equations) (p : Pair) (before bs : List Binding) (all rest : List Equation) (e : Equation) (u : Unifying eqs p before bs all) (first : (place_term p bs e.left, place_term p bs e.right) ∷ pending_equations p bs rest ≡ pending_equations p bs all) (stand : AreEquationsValid p bs rest) where
   abbrev a : Term
-  a = resolve (composed bs) (place_term p bs e.left)
+  a = resolve (substitution_of bs) (place_term p bs e.left)
 
   abbrev b : Term
-  b = resolve (composed bs) (place_term p bs e.right)
+  b = resolve (substitution_of bs) (place_term p bs e.right)
 
   abbrev n : ℕ
   n = equations_bound eqs
 
+  abbrev made : List Binding
+  made = resolved_after (resolved_bindings before) u.more
+
   turned : both_resolved bs (pending_equations p bs all) ≡ (a, b) ∷ both_resolved bs (pending_equations p bs rest)
   turned = ap (both_resolved bs) (sym first)
 
-  first_result : completed u.more (by_rule (rule a b) (both_resolved bs (pending_equations p bs rest)) unifier) ≡ unifier eqs
-  first_result = ap (completed u.more) (sym (ap unifier turned ∙ unifier-first a b (both_resolved bs (pending_equations p bs rest)))) ∙ u.result
+  first_result : completed made (by_rule (rule a b) (both_resolved bs (pending_equations p bs rest)) unifier) ≡ unifier eqs
+  first_result = ap (completed made) (sym (ap unifier turned ∙ unifier-first a b (both_resolved bs (pending_equations p bs rest)))) ∙ u.result
 
   first_below : AllBelow n ((a, b) ∷ both_resolved bs (pending_equations p bs rest))
   first_below = subst (AllBelow n) turned u.below
@@ -182,30 +187,39 @@ module _ (eqs : Equations) (p : Pair) (before bs : List Binding) (all rest : Lis
         unifying = record {
           more = u.more;
           is = u.is;
-          result = ap (λ t. completed u.more (by_rule t (both_resolved bs (pending_equations p bs rest)) unifier)) (sym k) ∙ first_result;
+          result = ap (λ t. completed made (by_rule t (both_resolved bs (pending_equations p bs rest)) unifier)) (sym k) ∙ first_result;
           below = h.below;
           made = u.made;
           stand = stand;
-          apart = u.apart;
+          consistent = u.consistent;
         };
         less = less_than_old (both_resolved bs (pending_equations p bs rest)) h;
       }
 
-  was_bound : (x : ℕ) (t : Term) → rule a b ≡ Replaced x t → AreTriangular (bs ++ (x, t) ∷ []) → GoesOn eqs p before (left_work eqs p bs all) (bs ++ (x, t) ∷ []) rest
-  was_bound x t k apart =
+  was_bound : (x : ℕ) (t : Term) (cs : List Binding) → rule a b ≡ Replaced x t → IsBoundTo x t bs cs → GoesOn eqs p before (left_work eqs p bs all) cs rest
+  was_bound x t cs k v =
+      let one : List Binding = (x, v.value) ∷ [] in
       let says = subst (Says a b) k (rule_says a b) in
       let h = less_bound n a b (both_resolved bs (pending_equations p bs rest)) x t first_below says in
-      let is : both_resolved (bs ++ (x, t) ∷ []) (pending_equations p (bs ++ (x, t) ∷ []) rest) ≡ replace x t (both_resolved bs (pending_equations p bs rest)) =
-      ap (both_resolved (bs ++ (x, t) ∷ [])) (pending-more p bs ((x, t) ∷ []) rest stand) ∙ both_resolved-more bs x t (pending_equations p bs rest) in
+      let value : resolve (substitution_of bs) v.value ≡ t = v.same in
+      let is : both_resolved cs (pending_equations p cs rest) ≡ replace x t (both_resolved bs (pending_equations p bs rest)) =
+      ap (λ ds. both_resolved ds (pending_equations p ds rest)) v.is
+      ∙ (ap (both_resolved (bs ++ one)) (pending-more p bs one rest stand)
+      ∙ (both_resolved-more bs x v.value (pending_equations p bs rest) ∙ ap (λ w. replace x w (both_resolved bs (pending_equations p bs rest))) value)) in
+      let same_made : resolved_bindings before ++ made ≡ resolved_bindings bs = sym (resolved-append [] before u.more) ∙ ap resolved_bindings (sym u.is) in
+      let further : resolved_after (resolved_bindings before) (u.more ++ one) ≡ made ++ (x, t) ∷ [] =
+      resolved-append (resolved_bindings before) u.more one
+      ∙ ap (λ w. made ++ (x, w) ∷ []) (ap (λ m. resolve (composed m) v.value) same_made ∙ value) in
       record {
         unifying = record {
-          more = u.more ++ (x, t) ∷ [];
-          is = ap (λ cs. cs ++ (x, t) ∷ []) u.is ∙ append_assoc before u.more ((x, t) ∷ []);
-          result = ap (λ q. completed (u.more ++ (x, t) ∷ []) (unifier q)) is ∙ (completed-push u.more x t (unifier (replace x t (both_resolved bs (pending_equations p bs rest)))) ∙ (ap (λ q. completed u.more (by_rule q (both_resolved bs (pending_equations p bs rest)) unifier)) (sym k) ∙ first_result));
+          more = u.more ++ one;
+          is = v.is ∙ (ap (λ ds. ds ++ one) u.is ∙ append_assoc before u.more one);
+          result = ap (λ m. completed m (unifier (both_resolved cs (pending_equations p cs rest)))) further
+              ∙ (ap (λ q. completed (made ++ (x, t) ∷ []) (unifier q)) is ∙ (completed-push made x t (unifier (replace x t (both_resolved bs (pending_equations p bs rest)))) ∙ (ap (λ q. completed made (by_rule q (both_resolved bs (pending_equations p bs rest)) unifier)) (sym k) ∙ first_result)));
           below = subst (AllBelow n) (sym is) h.below;
-          made = Each-push (IsBindingBelow n) u.more (x, t) u.made (bound_below a b (both_resolved bs (pending_equations p bs rest)) n x t first_below says);
-          stand = all_stand-more p bs ((x, t) ∷ []) rest stand;
-          apart = apart;
+          made = subst (Each (IsBindingBelow n)) (sym further) (Each-push (IsBindingBelow n) made (x, t) u.made (bound_below a b (both_resolved bs (pending_equations p bs rest)) n x t first_below says));
+          stand = subst (λ ds. AreEquationsValid p ds rest) (sym v.is) (all_stand-more p bs one rest stand);
+          consistent = v.consistent;
         };
         less = subst (λ q. work n q < left_work eqs p bs all) (sym is) (less_than_old (replace x t (both_resolved bs (pending_equations p bs rest))) h);
       }
@@ -219,28 +233,27 @@ module _ (eqs : Equations) (p : Pair) (before bs : List Binding) (all rest : Lis
         unifying = record {
           more = u.more;
           is = u.is;
-          result = ap (λ q. completed u.more (unifier q)) is ∙ (ap (λ q. completed u.more (by_rule q (both_resolved bs (pending_equations p bs rest)) unifier)) (sym k) ∙ first_result);
+          result = ap (λ q. completed made (unifier q)) is ∙ (ap (λ q. completed made (by_rule q (both_resolved bs (pending_equations p bs rest)) unifier)) (sym k) ∙ first_result);
           below = subst (AllBelow n) (sym is) h.below;
           made = u.made;
           stand = (s, stand);
-          apart = u.apart;
+          consistent = u.consistent;
         };
         less = subst (λ q. work n q < left_work eqs p bs all) (sym is) (less_than_old (es ++ both_resolved bs (pending_equations p bs rest)) h);
       }
 
   pub clashed : rule a b ≡ Clash → unifier eqs ≡ None
-  clashed k = sym first_result ∙ (ap (λ t. completed u.more (by_rule t (both_resolved bs (pending_equations p bs rest)) unifier)) k ∙ completed-none u.more)
+  clashed k = sym first_result ∙ (ap (λ t. completed made (by_rule t (both_resolved bs (pending_equations p bs rest)) unifier)) k ∙ completed-none made)
 
   pub follows : (cs : List Binding) (es fs : List Equation) → rest ≡ reverse es → FollowsRule p (place_term p bs e.left) (place_term p bs e.right) bs cs es fs → GoesOn eqs p before (left_work eqs p bs all) cs (reverse fs)
   follows cs es fs q (after_drop k c f) =
       subst (λ d. GoesOn eqs p before (left_work eqs p bs all) d (reverse fs)) (sym c) (subst (GoesOn eqs p before (left_work eqs p bs all) bs) (q ∙ ap reverse (sym f)) (dropped k))
-  follows cs es fs q (after_binding x t k apart c f) =
-      subst (λ d. GoesOn eqs p before (left_work eqs p bs all) d (reverse fs)) (sym c) (subst (GoesOn eqs p before (left_work eqs p bs all) (bs ++ (x, t) ∷ [])) (q ∙ ap reverse (sym f)) (was_bound x t k (subst AreTriangular c apart)))
+  follows cs es fs q (after_binding x t k v f) = subst (GoesOn eqs p before (left_work eqs p bs all) cs) (q ∙ ap reverse (sym f)) (was_bound x t cs k v)
   follows cs es fs q (after_opening g k s c f) =
       subst (λ d. GoesOn eqs p before (left_work eqs p bs all) d (reverse fs)) (sym c) (subst (GoesOn eqs p before (left_work eqs p bs all) bs) (ap (λ d. g ∷ d) q ∙ sym (ap reverse f ∙ reverse-push es g)) (opened g k s))
 
 -- an equation to begin with
-pub begun : (p : Pair) (bs : List Binding) (e : Equation) (es : List Equation) → AreTriangular bs → IsEquationValid p bs e → es ≡ e ∷ [] → Unifying (both_resolved bs (equations_at p bs e)) p bs bs es
+pub begun : (p : Pair) (bs : List Binding) (e : Equation) (es : List Equation) → IsConsistent bs → IsEquationValid p bs e → es ≡ e ∷ [] → Unifying (both_resolved bs (equations_at p bs e)) p bs bs es
 begun p bs e es a s h =
     let eqs = both_resolved bs (equations_at p bs e) in
     let all : both_resolved bs (pending_equations p bs es) ≡ eqs = ap (λ k. both_resolved bs (pending_equations p bs k)) h ∙ ap (both_resolved bs) (append-nil (equations_at p bs e)) in
@@ -251,5 +264,5 @@ begun p bs e es a s h =
       below = subst (AllBelow (equations_bound eqs)) (sym all) (all_below eqs);
       made = tt;
       stand = subst (AreEquationsValid p bs) (sym h) (s, tt);
-      apart = a;
+      consistent = a;
     }

@@ -1,7 +1,11 @@
 -- Bindings in the order in which they were made.
-use Rattle.std.specs.Prelude.{◌≡◌, ℕ, zero, suc, ◌<◌, ◌≤◌, ◌==◌, false, cond, List, [], ◌∷◌, Option, Some, None, option_map}
+use Rattle.std.specs.Prelude.{◌≡◌, ℕ, zero, suc, ◌<◌, ◌≤◌, ◌==◌, true, false, cond, List, [], ◌∷◌, ◌++◌, length, Option, Some, None, option_map, is_some}
 use Rattle.au_term.specs.Term.{Term, VarTerm, var_bound}
-use Rattle.au_model.specs.Terms.Substitutions.{Substitution, occurs}
+use Rattle.au_term.specs.PrefixOrder.{top_of}
+use Rattle.au_term.specs.declared.cell.Cell.{Cell}
+use Rattle.au_term.specs.declared.cell.Cell.TheVariants.{Var as VarCell}
+use Rattle.au_model.specs.Terms.Substitutions.{Substitution, occurs, resolve, value_of}
+use Rattle.au_model.specs.Terms.Each.{Each}
 use Rattle.au_model.specs.Terms.Unifier.{bound}
 
 abbrev pub Binding : Type 0
@@ -63,3 +67,44 @@ HasNoBoundVariable (b ∷ bs) t = (occurs b.0 t ≡ false) × HasNoBoundVariable
 -- the variable of a binding and those of its value are below a number
 abbrev pub IsBindingBelow : ℕ → Binding → Type 0
 IsBindingBelow n b = (b.0 < n) × (var_bound b.1 ≤ n)
+
+-- bindings that were made after others, each value with all those before it applied
+abbrev pub resolved_after : List Binding → List Binding → List Binding
+resolved_after made [] = []
+resolved_after made (b ∷ bs) = (b.0, resolve (composed made) b.1) ∷ resolved_after (made ++ (b.0, resolve (composed made) b.1) ∷ []) bs
+
+-- bindings in the order in which they were made, each value as it was then
+abbrev pub resolved_bindings : List Binding → List Binding
+resolved_bindings bs = resolved_after [] bs
+
+-- what bindings make of each variable
+abbrev pub substitution_of : List Binding → Substitution
+substitution_of bs = composed (resolved_bindings bs)
+
+-- the first cell of a term that is no bound variable
+abbrev pub IsReached : List Binding → Cell → Type 0
+IsReached bs (VarCell x) = IsUnboundIn x bs
+IsReached bs c = Unit {0}
+
+-- no variable is reached from itself, and no value was a bound variable where it was bound
+pub record IsConsistent (bs : List Binding) : Type 0 where
+  pub apart : AreTriangular (resolved_bindings bs)
+  pub tops : (i : ℕ) → i < length bs → top_of (value_at (resolved_bindings bs) i) ≡ top_of (value_at bs i)
+
+-- the binding at the end of the chain of bound variables that a variable begins: its value is no bound variable
+pub record Ends (bs : List Binding) (x i : ℕ) : Type 0 where
+  pub within : i < length bs
+  pub bound : is_some (place_in x bs) ≡ true
+  pub same : resolve (substitution_of bs) (value_at bs i) ≡ value_of (substitution_of bs) x
+  pub reached : IsReached bs (top_of (value_at bs i))
+
+-- that binding, or that the variable is free
+abbrev pub IsEnd : List Binding → ℕ → Option ℕ → Type 0
+IsEnd bs x None = IsUnboundIn x bs
+IsEnd bs x (Some i) = Ends bs x i
+
+-- a term that stands for what another does and is no bound variable
+pub record IsReachedFrom (bs : List Binding) (term t : Term) : Type 0 where
+  pub same : resolve (substitution_of bs) t ≡ resolve (substitution_of bs) term
+  pub reached : IsReached bs (top_of t)
+  pub below : (n : ℕ) → Each (IsBindingBelow n) (resolved_bindings bs) → var_bound term ≤ n → var_bound t ≤ n

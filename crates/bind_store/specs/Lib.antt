@@ -1,6 +1,5 @@
 pub mod Bindings
 pub mod CellTests
-pub mod ShiftedCells
 pub mod ResolvedCells
 pub mod UnificationSteps
 pub mod Sides

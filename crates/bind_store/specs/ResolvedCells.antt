@@ -1,12 +1,12 @@
 -- Terms with bindings applied, cell by cell.
-use Rattle.std.specs.Prelude.{◌≡◌, ℕ, ◌+◌, ◌<◌, ◌==◌, cond, List, [], ◌∷◌, ◌++◌, drop, length, Option, Some, None}
+use Rattle.std.specs.Prelude.{◌≡◌, ℕ, ◌+◌, ◌*◌, ◌<◌, cond, List, [], ◌∷◌, ◌++◌, drop, length, Option, Some, None, is_some}
 use Rattle.au_term.specs.Term.{Term}
 use Rattle.au_model.specs.Terms.Substitutions.{value_of}
 use Rattle.au_term.specs.PrefixOrder.{cells_of}
 use Rattle.au_term.specs.declared.cell.Cell.{Cell}
 use Rattle.au_term.specs.declared.cell.Cell.TheVariants.{Var as VarCell, Int as IntCell, Atom as AtomCell, Functor}
-use Rattle.bind_store.specs.Bindings.{Binding, composed, value_at, IsLookedUp, AreTriangular}
-use Rattle.bind_store.specs.declared.resolved.Piece.{Piece}
+use Rattle.bind_store.specs.Bindings.{Binding, value_at, place_in, substitution_of, IsEnd}
+use Rattle.bind_store.specs.declared.walk.Piece.{Piece}
 
 -- the cells in a cell's place
 abbrev pub in_place : (ℕ → Term) → Cell → List Cell
@@ -19,7 +19,7 @@ abbrev pub rebuilt : (ℕ → Term) → List Cell → List Cell
 rebuilt f [] = []
 rebuilt f (c ∷ cs) = in_place f c ++ rebuilt f cs
 
--- a piece is in the term itself, whose cells these are, or in the value of a binding
+-- a piece is a part of the term itself, whose cells these are, or of the value of a binding
 abbrev pub cells_at : List Cell → List Binding → Option ℕ → List Cell
 cells_at cells bs None = cells
 cells_at cells bs (Some i) = cells_of (value_at bs i)
@@ -32,6 +32,10 @@ abbrev pub pending_cells : List Cell → List Binding → List Piece → List Ce
 pending_cells cells bs [] = []
 pending_cells cells bs (p ∷ ps) = piece_cells cells bs p ++ pending_cells cells bs ps
 
+-- the same with the bindings applied
+abbrev pub cells_left : List Cell → List Binding → List Piece → List Cell
+cells_left cells bs ps = rebuilt (value_of (substitution_of bs)) (pending_cells cells bs ps)
+
 -- how many steps a cell takes, by those of the variables
 abbrev pub cell_weight : (ℕ → ℕ) → Cell → ℕ
 cell_weight w (VarCell n) = w n
@@ -43,10 +47,9 @@ abbrev pub cells_weight : (ℕ → ℕ) → List Cell → ℕ
 cells_weight w [] = 0
 cells_weight w (c ∷ cs) = cell_weight w c + cells_weight w cs
 
--- a bound variable takes the steps of its value
+-- a bound variable takes fewer steps than three times the cells of what it stands for
 abbrev pub weight_of : List Binding → ℕ → ℕ
-weight_of [] n = 1
-weight_of (b ∷ bs) n = cond (b.0 == n) (2 + cells_weight (weight_of bs) (cells_of b.1)) (weight_of bs n)
+weight_of bs n = cond (is_some (place_in n bs)) (3 * length (cells_of (value_of (substitution_of bs) n))) 1
 
 -- how many steps are left
 abbrev pub resolving_steps_left : List Cell → List Binding → List Piece → ℕ
@@ -64,7 +67,7 @@ term_piece = record { value = None; at = 0 }
 abbrev pub value_piece : ℕ → Piece
 value_piece i = record { value = Some i; at = 0 }
 
--- the value that a piece is in is there
+-- the value that a piece is a part of is there
 abbrev pub IsPlacedIn : List Binding → Option ℕ → Type 0
 IsPlacedIn bs None = Unit {0}
 IsPlacedIn bs (Some i) = i < length bs
@@ -76,19 +79,14 @@ abbrev pub ArePiecesPlaced : List Binding → List Piece → Type 0
 ArePiecesPlaced bs [] = Unit {0}
 ArePiecesPlaced bs (p ∷ ps) = IsPiecePlaced bs p × ArePiecesPlaced bs ps
 
--- where the variable of a cell was bound, and that the bindings are apart; none for a free variable and any other cell
-abbrev pub IsCellFound : List Binding → Cell → Option ℕ → Type 0
-IsCellFound bs (VarCell x) o = IsLookedUp bs x o × AreTriangular bs
-IsCellFound bs c None = Unit {0}
-IsCellFound bs c (Some i) = ⊥
+-- the end of the chain that the variable of a cell begins; none for a free variable and any other cell
+abbrev pub IsCellEnd : List Binding → Cell → Option ℕ → Type 0
+IsCellEnd bs (VarCell x) o = IsEnd bs x o
+IsCellEnd bs c None = Unit {0}
+IsCellEnd bs c (Some i) = ⊥
 
--- a cell was put after the others, or its value on top of the pieces
-pub data IsCellEmitted (bs : List Binding) (c : Cell) (built now : List Cell) (ps qs : List Piece) : Type 0 where
-  put_after : IsCellFound bs c None → now ≡ built ++ c ∷ [] → qs ≡ ps → IsCellEmitted bs c built now ps qs
-  put_on_top : (i : ℕ) → IsCellFound bs c (Some i) → now ≡ built → qs ≡ ps ++ value_piece i ∷ [] → IsCellEmitted bs c built now ps qs
-
--- a cell was gone over: what is built and what the cells stand for stays the same, and fewer steps are left
-pub record Advances (cs : List Cell) (bs : List Binding) (built now : List Cell) (before after : List Piece) : Type 0 where
-  pub same : now ++ rebuilt (value_of (composed bs)) (pending_cells cs bs after) ≡ built ++ rebuilt (value_of (composed bs)) (pending_cells cs bs before)
-  pub fewer : resolving_steps_left cs bs after < resolving_steps_left cs bs before
+-- a step gave these cells: with what is left they are what was left before, and fewer steps are left
+pub record Advances (cells : List Cell) (bs : List Binding) (given : List Cell) (before after : List Piece) : Type 0 where
+  pub same : given ++ cells_left cells bs after ≡ cells_left cells bs before
+  pub fewer : resolving_steps_left cells bs after < resolving_steps_left cells bs before
   pub placed : ArePiecesPlaced bs before → ArePiecesPlaced bs after

@@ -6,7 +6,7 @@ use Rattle.au_term.specs.declared.segment.Segment.{Segment}
 use Rattle.au_model.specs.Terms.Each.{Each}
 use Rattle.au_model.specs.Terms.Substitutions.{Substitution, resolve}
 use Rattle.au_model.specs.Terms.Unifier.{unifier}
-use Rattle.bind_store.specs.Bindings.{Binding, composed, IsUnboundIn, AreTriangular, IsBindingBelow}
+use Rattle.bind_store.specs.Bindings.{Binding, composed, resolved_after, IsUnboundIn, AreTriangular, IsBindingBelow}
 use Rattle.bind_store.specs.declared.store.Mark.{Mark}
 
 -- the bindings in the order in which they were made, each value as it was then, and the next number
@@ -76,6 +76,10 @@ pub record IsDereferencedTerm (st : StoreView) (term reached : Term) : Type 0 wh
   pub unbound : IsUnbound st.made reached
   pub below : var_bound term ≤ st.next → var_bound reached ≤ st.next
 
+-- the bindings of a segment, made after those of a store
+abbrev pub made_by : Segment → StoreView → List Binding
+made_by segment st = resolved_after st.made (pairs_of segment.bindings)
+
 -- the numbers of a segment were taken and its bindings made
 abbrev pub with_segment : Segment → StoreView → StoreView
-with_segment segment st = record { made = st.made ++ pairs_of segment.bindings; next = st.next + segment.vars }
+with_segment segment st = record { made = st.made ++ made_by segment st; next = st.next + segment.vars }

@@ -1,18 +1,20 @@
 //! What has been bound so far.
 ghost use Rattle.std.specs.Prelude.{◌≡◌, ◌<◌, ◌-◌, ◌++◌, ◌∷◌, [], false, length, take, IfOk, OnOk, OnErr};
-ghost use Rattle.au_model.specs.Terms.Substitutions.{occurs};
-ghost use Rattle.bind_store.specs.Bindings.{IsUnboundIn, IsLookedUp, AreTriangular, HasNoBoundVariable, value_at, variable_at};
+ghost use Rattle.au_term.specs.PrefixOrder.{top_of};
+ghost use Rattle.au_model.specs.Terms.Substitutions.{occurs, resolve};
+ghost use Rattle.bind_store.specs.Bindings.{IsUnboundIn, IsLookedUp, IsEnd, IsReached, IsConsistent, substitution_of, value_at, variable_at};
+ghost use Rattle.bind_store.specs.CellTests.{IsCellFound};
 
-use crate::kept::Kept;
-use au_term::{FlatTerm, NoMemory, Shared, VarNo};
+use au_term::{Cell, NoMemory, Shared, VarNo};
 use std::alloc::Global;
 use std::collections::BTreeMap;
 use std::marker::Model;
 
-/// Bindings in the order in which they were made: no value has a variable that was bound up to it.
+/// Bindings in the order in which they were made. A value shares its cells with the term that it was bound to, and may
+/// have bound variables: no binding is applied to it.
 #[derive(Drop)]
 pub(crate) struct Bindings {
-    values: Vec<(VarNo, Kept)>,
+    values: Vec<(VarNo, Shared)>,
     places: BTreeMap<VarNo, usize>,
 }
 
@@ -22,7 +24,7 @@ impl Model for Bindings {
     ghost use Rattle.std.specs.Ordering.{nat_cmp};
     ghost use Rattle.std.specs.BTreeMap.{get};
     ghost use Rattle.au_term.specs.PrefixOrder.{term_code};
-    ghost use Rattle.bind_store.specs.Bindings.{Binding, AreTriangular, place_in};
+    ghost use Rattle.bind_store.specs.Bindings.{Binding, IsConsistent, place_in};
 
     ghost Value = { List Binding };
 
@@ -30,7 +32,7 @@ impl Model for Bindings {
 
     ghost view = { λ b. b.values.items };
 
-    ghost invariant = { λ b. AreTriangular b.values.items × ((x : ℕ) → get nat_cmp b.places x ≡ place_in x b.values.items) };
+    ghost invariant = { λ b. IsConsistent b.values.items × ((x : ℕ) → get nat_cmp b.places x ≡ place_in x b.values.items) };
 }
 
 impl Bindings {
@@ -47,17 +49,40 @@ impl Bindings {
     /// How many there are.
     pub(crate) fn len(&self) -> usize
         ensures count { result ≡ length self.now }
-        ensures apart { AreTriangular self.now }
+        ensures consistent { IsConsistent self.now }
     {
         self.values.len()
     }
 
     /// Where in the order the variable was bound.
-    pub(crate) fn find(&self, variable: VarNo) -> Option<usize>
-        ensures found { IsLookedUp self.now variable result }
-        ensures apart { AreTriangular self.now }
+    fn find(&self, variable: VarNo) -> Option<usize>
+        ensures { IsLookedUp self.now variable result }
     {
         self.places.get(&variable).copied()
+    }
+
+    /// The place of the binding at the end of the chain of bound variables that a variable begins.
+    pub(crate) fn end_of(&self, variable: VarNo) -> Option<usize>
+        ensures { IsEnd self.now variable result }
+    {
+        // The proof reads off that the bindings are consistent.
+        let _made = self.len();
+        let mut at = self.find(variable)?;
+        while let Some(next) = self.find_top(at) {
+            at = next;
+        }
+        Some(at)
+    }
+
+    /// Where the variable was bound that the value at a place of the order is, if it is a bound one.
+    fn find_top(&self, place: usize) -> Option<usize>
+        requires { place < length self.now }
+        ensures { IsCellFound self.now (top_of (value_at self.now place)) result }
+    {
+        match self.value(place).cell_at(0) {
+            (Cell::Var(number), base) => self.find(base + *number),
+            _ => None,
+        }
     }
 
     /// The variable that was bound at a place of the order.
@@ -69,26 +94,18 @@ impl Bindings {
     }
 
     /// The value of the binding at a place of the order.
-    pub(crate) fn value(&self, place: usize) -> &FlatTerm
+    pub(crate) fn value(&self, place: usize) -> &Shared
         requires { place < length self.now }
         ensures { result.now ≡ value_at self.now place }
     {
-        self.values[place].1.term()
+        &self.values[place].1
     }
 
-    /// The value of the binding at a place of the order, shared.
-    pub(crate) fn shared(&self, place: usize) -> Result<Shared, NoMemory>
-        requires { place < length self.now }
-        ensures { IfOk result (λ s. s ≡ value_at self.now place) }
-    {
-        self.values[place].1.shared()
-    }
-
-    /// Binds a variable that isn't bound to a term that has neither it nor a bound variable.
-    pub(crate) fn push(&mut self, variable: VarNo, value: Kept) -> Result<(), NoMemory>
+    /// Binds a variable that isn't bound to a term that is no bound variable and in which it doesn't occur.
+    pub(crate) fn push(&mut self, variable: VarNo, value: Shared) -> Result<(), NoMemory>
         requires free { IsUnboundIn variable self.old }
-        requires avoids { HasNoBoundVariable self.old value }
-        requires apart { occurs variable value ≡ false }
+        requires reached { IsReached self.old (top_of value) }
+        requires apart { occurs variable (resolve (substitution_of self.old) value) ≡ false }
         ensures ok { OnOk result (self.new ≡ self.old ++ (variable, value) ∷ []) }
         ensures err { OnErr result (self.new ≡ self.old) }
     {

@@ -2,13 +2,12 @@
 #![tactic(auto)]
 
 mod bindings;
-mod kept;
 pub mod laws;
 mod resolved;
 pub mod store;
-mod terms;
 #[cfg(test)]
 mod tests;
 mod unify;
+mod walk;
 
 pub use store::{Mark, Store};

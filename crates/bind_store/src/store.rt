@@ -1,17 +1,17 @@
 //! The store of a branch: its bindings and its next variable number.
-ghost use Rattle.std.specs.Prelude.{◌≡◌, ◌<◌, ◌≤◌, ◌+◌, ◌++◌, ◌∷◌, [], length, IfOk, OnOk, OnErr};
+ghost use Rattle.std.specs.Prelude.{◌≡◌, ◌<◌, ◌≤◌, ◌+◌, ◌++◌, ◌∷◌, [], length, IfOk, OnOk, OnErr, ℕ};
 ghost use Rattle.au_term.specs.Term.{var_bound};
 ghost use Rattle.au_model.specs.Terms.Copies.{copied, copy_takes};
 ghost use Rattle.au_model.specs.Terms.Substitutions.{resolve};
 ghost use Rattle.au_model.specs.Terms.Each.{Each};
-ghost use Rattle.bind_store.specs.Bindings.{composed, AreTriangular, IsBindingBelow};
-ghost use Rattle.bind_store.specs.UnificationSteps.{HasFurther, IsSolved};
-ghost use Rattle.bind_store.specs.StoreView.{StoreView, IsValidStore, substitution, with_numbers, with_segment, IsUnified, mark_of, Continues, IsMarkOf, pairs_of, IsDereferencedTerm};
+ghost use Rattle.bind_store.specs.Bindings.{AreTriangular, IsBindingBelow, IsReachedFrom, resolved_after, resolved_bindings, substitution_of};
+ghost use Rattle.bind_store.specs.UnificationSteps.{HasFurther, IsSolved, AreOlder, IsOlder, AreOlderThan};
+ghost use Rattle.bind_store.specs.StoreView.{StoreView, IsValidStore, substitution, with_numbers, with_segment, made_by, IsUnified, mark_of, Continues, IsMarkOf, pairs_of, IsDereferencedTerm};
 
 use crate::bindings::Bindings;
-use crate::kept::Kept;
-use crate::resolved::{bound_place, resolved};
+use crate::resolved::resolved;
 use crate::unify::{Equation, Place, Sides, Source, extend};
+use crate::walk::end_of_cell;
 use au_model::copies::copy_term;
 use au_term::{Binding, Bindings as BindingList, FlatTerm, NoMemory, Segment, Shared, VarNo};
 use std::alloc::Global;
@@ -29,16 +29,16 @@ impl Model for Store {
     ghost use Rattle.std.specs.Coded.{codes};
     ghost use Rattle.au_term.specs.PrefixOrder.{term_code};
     ghost use Rattle.au_model.specs.Terms.Each.{Each};
-    ghost use Rattle.bind_store.specs.Bindings.{IsBindingBelow};
+    ghost use Rattle.bind_store.specs.Bindings.{IsBindingBelow, resolved_bindings};
     ghost use Rattle.bind_store.specs.StoreView.{StoreView};
 
     ghost Value = { StoreView };
 
     ghost coded = { Prim.hlevel (codes, term_code) };
 
-    ghost view = { λ s. record { made = s.bindings; next = s.next } };
+    ghost view = { λ s. record { made = resolved_bindings s.bindings; next = s.next } };
 
-    ghost invariant = { λ s. Each (IsBindingBelow s.next) s.bindings };
+    ghost invariant = { λ s. Each (IsBindingBelow s.next) (resolved_bindings s.bindings) };
 }
 
 /// A state of a store, to which it can be taken back.
@@ -65,7 +65,7 @@ impl Store {
         ensures next { result ≡ self.now.next }
         ensures sound { IsValidStore self.now }
     {
-        // The proof reads off that the bindings are apart.
+        // The proof reads off that the bindings are consistent.
         let _made = self.bindings.len();
         self.next
     }
@@ -86,8 +86,8 @@ impl Store {
 
     /// Takes the numbers of a segment, and makes its bindings again.
     pub fn extend(&mut self, segment: &Segment) -> Result<(), NoMemory>
-        requires apart { AreTriangular (self.old.made ++ pairs_of segment.now.bindings) }
-        requires below { Each (IsBindingBelow (self.old.next + segment.now.vars)) (pairs_of segment.now.bindings) }
+        requires apart { AreTriangular (self.old.made ++ made_by segment.now self.old) }
+        requires below { Each (IsBindingBelow (self.old.next + segment.now.vars)) (made_by segment.now self.old) }
         ensures ok { OnOk result (self.new ≡ with_segment segment.now self.old) }
         ensures err { OnErr result (self.new ≡ self.old) }
     {
@@ -95,7 +95,7 @@ impl Store {
             return Err(NoMemory);
         };
         let made = self.bindings.len();
-        let answer = bind_all(self.alloc, segment.bindings.as_slice(), &mut self.bindings);
+        let answer = bind_all(segment.bindings.as_slice(), &mut self.bindings);
         match answer {
             Ok(()) => {
                 self.next = next;
@@ -108,15 +108,33 @@ impl Store {
         }
     }
 
-    /// Makes two terms one by further bindings, or answers that none do.
+    /// Makes two terms one by further bindings, or answers that none do and leaves the store as it was.
     pub fn unify(&mut self, a: &Shared, b: &Shared) -> Result<bool, NoMemory>
         requires left { var_bound a.now ≤ self.old.next }
         requires right { var_bound b.now ≤ self.old.next }
         ensures unified { IfOk result (IsUnified a.now b.now self.old self.new) }
         ensures err { OnErr result (self.new ≡ self.old) }
     {
+        self.unify_from(a, b, None)
+    }
+
+    /// The same. With a number the left side is a goal, and the right one the head of a clause whose variables are numbered
+    /// from it on: no variable of the clause is in what an older one stands for, so it is bound without the search for it
+    /// in its value, until an older variable is bound to a compound of the head.
+    pub fn unify_from(
+        &mut self,
+        a: &Shared,
+        b: &Shared,
+        fresh: Option<VarNo>,
+    ) -> Result<bool, NoMemory>
+        requires left { var_bound a.now ≤ self.old.next }
+        requires right { var_bound b.now ≤ self.old.next }
+        requires older { AreOlderThan fresh a.now self.old }
+        ensures unified { IfOk result (IsUnified a.now b.now self.old self.new) }
+        ensures err { OnErr result (self.new ≡ self.old) }
+    {
         let made = self.bindings.len();
-        let answer = unify_terms(self.alloc, a, b, &mut self.bindings);
+        let answer = unify_terms(self.alloc, a, b, fresh, &mut self.bindings);
         match answer {
             Ok(true) => Ok(true),
             Ok(false) => {
@@ -134,22 +152,14 @@ impl Store {
     pub fn resolve(&self, term: &Shared) -> Result<FlatTerm, NoMemory>
         ensures { IfOk result (λ t. t ≡ resolve (substitution self.now) term.now) }
     {
-        let (cells, base) = term.parts();
-        resolved(self.alloc, cells, base, &self.bindings)
+        resolved(self.alloc, term, &self.bindings)
     }
 
     /// A term that stands for the same and is no bound variable.
     pub fn reached(&self, term: &Shared) -> Result<Shared, NoMemory>
         ensures { IfOk result (λ t. IsDereferencedTerm self.now term.now t) }
     {
-        let Some(first) = bound_place(&term.top()?, &self.bindings) else {
-            return term.share();
-        };
-        let mut at = first;
-        while let Some(next) = bound_place(self.bindings.value(at).top(), &self.bindings) {
-            at = next;
-        }
-        self.bindings.shared(at)
+        reached(term, &self.bindings)
     }
 
     /// A copy of a term, whose variables take the next numbers in order of first occurrence.
@@ -185,30 +195,42 @@ impl Store {
         self.next = mark.next;
     }
 
-    /// The bindings that were made since a mark, in their order.
+    /// The bindings that were made since a mark, in their order. Their values are not resolved: each becomes what it was
+    /// for where the bindings before it are applied.
     pub fn made_since(&self, mark: &Mark) -> Result<BindingList, NoMemory>
         requires { IsMarkOf mark.now self.now }
-        ensures { IfOk result (λ list. (before : StoreView) → mark.now ≡ mark_of before → Continues before self.now → self.now.made ≡ before.made ++ pairs_of list) }
+        ensures { IfOk result (λ list. (before : StoreView) → mark.now ≡ mark_of before → Continues before self.now → self.now.made ≡ before.made ++ resolved_after before.made (pairs_of list)) }
     {
         let mut list = BindingList::new(self.alloc);
         for at in mark.made..self.bindings.len() {
             list.push(Binding {
                 var: self.bindings.variable(at),
-                value: self.bindings.shared(at)?,
+                value: self.bindings.value(at).share()?,
             })?;
         }
         Ok(list)
     }
 }
 
+/// A term that stands for the same and is no bound variable.
+fn reached(term: &Shared, bindings: &Bindings) -> Result<Shared, NoMemory>
+    ensures { IfOk result (IsReachedFrom bindings.now term.now) }
+{
+    let (cell, base) = term.cell_at(0);
+    match end_of_cell(cell, base, bindings) {
+        None => term.share(),
+        Some(place) => bindings.value(place).share(),
+    }
+}
+
 /// Makes bindings again, in their order.
-fn bind_all(alloc: Global, list: &[Binding], bindings: &mut Bindings) -> Result<(), NoMemory>
-    requires { AreTriangular (bindings.old ++ pairs_of list.now) }
+fn bind_all(list: &[Binding], bindings: &mut Bindings) -> Result<(), NoMemory>
+    requires { AreTriangular (resolved_bindings bindings.old ++ resolved_after (resolved_bindings bindings.old) (pairs_of list.now)) }
     ensures grown { HasFurther bindings.old bindings.new }
-    ensures made { OnOk result (bindings.new ≡ bindings.old ++ pairs_of list.now) }
+    ensures made { OnOk result (resolved_bindings bindings.new ≡ resolved_bindings bindings.old ++ resolved_after (resolved_bindings bindings.old) (pairs_of list.now)) }
 {
     for binding in list {
-        let value = Kept::new(alloc, binding.value.to_term(alloc)?)?;
+        let value = reached(&binding.value, bindings)?;
         bindings.push(binding.var, value)?;
     }
     Ok(())
@@ -219,29 +241,24 @@ fn unify_terms(
     alloc: Global,
     a: &Shared,
     b: &Shared,
+    fresh: Option<VarNo>,
     bindings: &mut Bindings,
 ) -> Result<bool, NoMemory>
+    requires older { AreOlder fresh bindings.old }
+    requires left { IsOlder fresh (resolve (substitution_of bindings.old) a.now) }
     ensures grown { HasFurther bindings.old bindings.new }
-    ensures solved { IfOk result (λ goes. IsSolved ((resolve (composed bindings.old) a.now, resolve (composed bindings.old) b.now) ∷ []) bindings.old bindings.new goes) }
+    ensures solved { IfOk result (λ goes. IsSolved ((resolve (substitution_of bindings.old) a.now, resolve (substitution_of bindings.old) b.now) ∷ []) bindings.old bindings.new goes) }
 {
-    let (left, left_at, left_base) = a.place();
-    let (right, right_at, right_base) = b.place();
-    let sides = Sides {
-        left,
-        left_base,
-        right,
-        right_base,
-    };
     let first = Equation {
         left: Place {
             source: Source::Left,
-            at: left_at,
+            at: 0,
         },
         right: Place {
             source: Source::Right,
-            at: right_at,
+            at: 0,
         },
         count: 1,
     };
-    extend(alloc, &sides, first, bindings)
+    extend(alloc, &Sides { left: a, right: b }, first, fresh, bindings)
 }

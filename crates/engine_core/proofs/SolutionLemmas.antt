@@ -18,7 +18,7 @@ use Rattle.clause_compile.specs.declared.item.Item.{Item}
 use Rattle.clause_compile.specs.declared.item.Item.TheVariants.{Goal, CatchEnd, Collect, Remove, End}
 use Rattle.clause_compile.specs.declared.event.Branch.{Branch}
 use Rattle.clause_compile.proofs.RenumberingLemmas.{length-numbers}
-use Rattle.bind_store.specs.Bindings.{Binding, composed, AreTriangular, IsBindingBelow}
+use Rattle.bind_store.specs.Bindings.{Binding, composed, resolved_after, AreTriangular, IsBindingBelow}
 use Rattle.bind_store.specs.StoreView.{StoreView, IsValidStore, substitution, with_numbers, AreUnified, mark_of, Continues, IsMarkOf, pairs_of}
 use Rattle.bind_store.specs.declared.store.Mark.{Mark}
 use Rattle.bind_store.proofs.BindingLemmas.{in_turn, new_is_unbound}
@@ -67,15 +67,16 @@ marked_since m old new is c same s =
       since = c;
     }
 
-pub make_one : (left right : Term) (old new : StoreView) (list : List SharedBinding) → AreUnified left right old new → IsValidStore new → new.made ≡ old.made ++ pairs_of list → UnifyBy left right old list
+pub make_one : (left right : Term) (old new : StoreView) (list : List SharedBinding) → AreUnified left right old new → IsValidStore new → new.made ≡ old.made ++ resolved_after old.made (pairs_of list) → UnifyBy left right old list
 make_one left right old new list u s listed =
     let made : new.made ≡ old.made ++ u.more = ap (λ st. let bs : List Binding = st.made in bs) u.is in
     let next = same_next left right old new u in
-    let same : u.more ≡ pairs_of list = sym (drop_front old.made u.more new.made (length old.made) made refl) ∙ drop_front old.made (pairs_of list) new.made (length old.made) listed refl in
+    let given = resolved_after old.made (pairs_of list) in
+    let same : u.more ≡ given = sym (drop_front old.made u.more new.made (length old.made) made refl) ∙ drop_front old.made given new.made (length old.made) listed refl in
     record {
       unified = u.unified ∙ ap (λ bs. Some (composed bs)) same;
       apart = subst AreTriangular listed s.apart;
-      below = back_below old.made (pairs_of list) old.next (subst (Each (IsBindingBelow old.next)) listed (subst (λ n. Each (IsBindingBelow n) new.made) next s.below));
+      below = back_below old.made given old.next (subst (Each (IsBindingBelow old.next)) listed (subst (λ n. Each (IsBindingBelow n) new.made) next s.below));
     }
 
 -- the goals of a clause, raised and resolved
@@ -110,7 +111,7 @@ module _ (st : StoreView) (c : ClauseTerms) (k : ℕ) (sound : IsValidStore st) 
           base = base;
           vars = vars ∙ sym takes;
           apart = m.apart;
-          bindings = further_below (pairs_of b.segment.bindings) (st.next + k) (st.next + clause_takes c) last m.below;
+          bindings = further_below (resolved_after st.made (pairs_of b.segment.bindings)) (st.next + k) (st.next + clause_takes c) last m.below;
           items = subst (Each (IsItemBelow (st.next + clause_takes c))) (sym goals)
               (goals_before_below (st.next + clause_takes c) here (map (shifted st.next) (clause_goals_of c.body)) rest
               (each-map (λ g. var_bound g ≤ k) (λ g. var_bound g ≤ st.next + clause_takes c) (shifted st.next) (λ g h. let l = shifted-below st.next k g h in omega arith) (clause_goals_of c.body) body)
@@ -120,7 +121,7 @@ module _ (st : StoreView) (c : ClauseTerms) (k : ℕ) (sound : IsValidStore st) 
         goals = record {
           terms = map (shifted st.next) (clause_goals_of c.body);
           are = goals;
-          same = goals_stand st.made (pairs_of b.segment.bindings) st.next k (clause_variables c) (clause_goals_of c.body) numbered (λ n le. new_is_unbound st n sound le) body;
+          same = goals_stand st.made (resolved_after st.made (pairs_of b.segment.bindings)) st.next k (clause_variables c) (clause_goals_of c.body) numbered (λ n le. new_is_unbound st n sound le) body;
         };
       }
 

@@ -16,7 +16,7 @@ use Rattle.clause_compile.specs.declared.item.Item.{Item}
 use Rattle.clause_compile.specs.declared.event.Branch.{Branch}
 use Rattle.proc_index.specs.declared.key.Key.{Key}
 use Rattle.proc_index.specs.declared.key.Key.TheVariants.{Any, Int, Atom, Functor}
-use Rattle.bind_store.specs.Bindings.{composed, AreTriangular, IsBindingBelow}
+use Rattle.bind_store.specs.Bindings.{composed, resolved_after, AreTriangular, IsBindingBelow}
 use Rattle.bind_store.specs.StoreView.{StoreView, substitution, pairs_of}
 use Rattle.engine_core.specs.Branches.{IsBranchOf, AreSolved}
 
@@ -48,9 +48,9 @@ equation_solution left right = record { equations = (left, right) ∷ []; goals 
 
 -- these further bindings are the unifier of what two terms stand for, and keep a store sound
 pub record UnifyBy (left right : Term) (st : StoreView) (bindings : List SharedBinding) : Type 0 where
-  pub unified : unifier ((resolve (substitution st) left, resolve (substitution st) right) ∷ []) ≡ Some (composed (pairs_of bindings))
-  pub apart : AreTriangular (st.made ++ pairs_of bindings)
-  pub below : Each (IsBindingBelow st.next) (pairs_of bindings)
+  pub unified : unifier ((resolve (substitution st) left, resolve (substitution st) right) ∷ []) ≡ Some (composed (resolved_after st.made (pairs_of bindings)))
+  pub apart : AreTriangular (st.made ++ resolved_after st.made (pairs_of bindings))
+  pub below : Each (IsBindingBelow st.next) (resolved_after st.made (pairs_of bindings))
 
 -- the bindings that make two terms one, or none where there is no unifier
 abbrev pub AreUnifiedBy : Term → Term → StoreView → Option (List SharedBinding) → Type 0

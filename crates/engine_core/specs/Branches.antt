@@ -10,7 +10,7 @@ use Rattle.clause_compile.specs.declared.item.Scope.{Scope}
 use Rattle.clause_compile.specs.declared.item.Item.{Item}
 use Rattle.clause_compile.specs.declared.item.Item.TheVariants.{Goal, CatchEnd, Collect, Remove, End}
 use Rattle.clause_compile.specs.declared.event.Branch.{Branch}
-use Rattle.bind_store.specs.Bindings.{Binding, composed, AreTriangular, IsBindingBelow}
+use Rattle.bind_store.specs.Bindings.{Binding, composed, resolved_after, AreTriangular, IsBindingBelow}
 use Rattle.bind_store.specs.StoreView.{StoreView, pairs_of}
 
 -- all variables of an item are below a number, those of an uncaught ball excepted
@@ -27,24 +27,24 @@ pub record HasGoalsBefore (bindings : List Binding) (cut : Scope) (gs : List Ter
   pub are : items ≡ goal_items cut terms ++ rest
   pub same : map (resolve (composed bindings)) terms ≡ gs
 
--- the bindings that a branch makes
-abbrev pub made_by : Branch → List Binding
-made_by b = pairs_of b.segment.bindings
+-- the bindings that a branch makes after those of a store
+abbrev pub made_by : StoreView → Branch → List Binding
+made_by st b = resolved_after st.made (pairs_of b.segment.bindings)
 
 -- What a branch keeps, so that its segment can be made again where the store is as it was: it takes so many numbers,
 -- binds variables that were unbound, each once, and all that it has is below its last number.
 pub record TakesNumbers (st : StoreView) (variables : ℕ) (b : Branch) : Type 0 where
   pub base : b.segment.base ≡ st.next
   pub vars : b.segment.vars ≡ variables
-  pub apart : AreTriangular (st.made ++ made_by b)
-  pub bindings : Each (IsBindingBelow (st.next + variables)) (made_by b)
+  pub apart : AreTriangular (st.made ++ made_by st b)
+  pub bindings : Each (IsBindingBelow (st.next + variables)) (made_by st b)
   pub items : Each (IsItemBelow (st.next + variables)) b.goals
 
 -- a branch is that of a solution: its bindings are the unifier, and its goals come, in this scope, before the rest
 pub record IsBranchOf (here : Scope) (rest : List Item) (st : StoreView) (s : Solution) (b : Branch) : Type 0 where
   pub takes : TakesNumbers st s.variables b
-  pub unified : unifier s.equations ≡ Some (composed (made_by b))
-  pub goals : HasGoalsBefore (st.made ++ made_by b) here (map (resolve (composed (made_by b))) s.goals) rest b.goals
+  pub unified : unifier s.equations ≡ Some (composed (made_by st b))
+  pub goals : HasGoalsBefore (st.made ++ made_by st b) here (map (resolve (composed (made_by st b))) s.goals) rest b.goals
 
 -- the branches are those of the solutions whose equations unify, in their order
 pub data AreSolved (here : Scope) (rest : List Item) (st : StoreView) : List Solution → List Branch → Type 0 where

@@ -6,10 +6,11 @@ ghost use Rattle.au_model.specs.Terms.Substitutions.{resolve};
 ghost use Rattle.run_model.specs.Goals.Outcomes.{clause_solution};
 ghost use Rattle.clause_compile.specs.declared.item.Scope.{Scope};
 ghost use Rattle.bind_store.specs.StoreView.{substitution, IsValidStore, Continues};
+ghost use Rattle.bind_store.specs.UnificationSteps.{AreOlderThan};
 ghost use Rattle.engine_core.specs.Branches.{IsItemBelow};
 ghost use Rattle.engine_core.specs.Attempts.{equation_solution, AreUnifiedBy, IsTried};
 
-use au_term::{Bindings, NoMemory, Segment, Shared};
+use au_term::{Bindings, NoMemory, Segment, Shared, VarNo};
 use bind_store::Store;
 use clause_compile::{Branch, Clause, Goals, Scope};
 use std::alloc::Global;
@@ -55,7 +56,7 @@ fn clause_branch(
     // The proof reads off that the new numbers fit.
     let _last = store.next();
     let head = clause.shifted_head(base)?;
-    let Some(bindings) = bindings_between(goal, &head, store)? else {
+    let Some(bindings) = bindings_between(goal, &head, Some(base), store)? else {
         return Ok(None);
     };
     let goals = clause.goals(alloc, base, here, rest)?;
@@ -101,7 +102,7 @@ fn equation_branch(
     ensures since { Continues store.old store.new }
 {
     let base = store.next();
-    let Some(bindings) = bindings_between(left, right, store)? else {
+    let Some(bindings) = bindings_between(left, right, None, store)? else {
         return Ok(None);
     };
     let segment = Segment {
@@ -113,19 +114,22 @@ fn equation_branch(
     Ok(Some(Branch { goals, segment }))
 }
 
-/// The bindings that make two terms one, or none where they do not unify. They stay in the store.
+/// The bindings that make two terms one, or none where they do not unify. They stay in the store. With a number the right
+/// side is a clause's head whose variables are numbered from it on.
 fn bindings_between(
     left: &Shared,
     right: &Shared,
+    fresh: Option<VarNo>,
     store: &mut Store,
 ) -> Result<Option<Bindings>, NoMemory>
     requires left { var_bound left.now ≤ store.old.next }
     requires right { var_bound right.now ≤ store.old.next }
+    requires older { AreOlderThan fresh left.now store.old }
     ensures made { IfOk result (AreUnifiedBy left.now right.now store.old) }
     ensures since { Continues store.old store.new }
 {
     let mark = store.mark();
-    if !store.unify(left, right)? {
+    if !store.unify_from(left, right, fresh)? {
         return Ok(None);
     }
     // The proof reads off that the bindings are apart.

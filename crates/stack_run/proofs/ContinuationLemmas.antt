@@ -14,7 +14,7 @@ use Rattle.clause_compile.specs.declared.item.Scope.{Scope}
 use Rattle.clause_compile.specs.declared.item.Item.{Item}
 use Rattle.clause_compile.specs.declared.item.Item.TheVariants.{Goal, CatchEnd, Collect, Remove, End}
 use Rattle.clause_compile.specs.declared.event.Branch.{Branch as BranchTerms}
-use Rattle.bind_store.specs.Bindings.{Binding, composed, IsBindingBelow}
+use Rattle.bind_store.specs.Bindings.{Binding, composed, resolved_after, IsBindingBelow}
 use Rattle.bind_store.specs.StoreView.{StoreView, IsValidStore, substitution, pairs_of, mark_of}
 use Rattle.bind_store.proofs.BindingLemmas.{in_turn}
 use Rattle.bind_store.proofs.StoreLemmas.{further_below, both_below}
@@ -72,7 +72,7 @@ goals_resolved s h (g ∷ gs) = ap (λ is. GoalItem (resolve s g) h ∷ is) (goa
 pub solved_entry : (own : List NamedTerm) (here : Scope) (rest : List Item) (st : StoreView) (s : Solution) (b : BranchTerms) → IsBranchOf here rest st s b
     → branch_entry own st b ∷ [] ≡ solution_entry (scope_height here) (continuation_view own st rest) s
 solved_entry own here rest st s b h =
-    let more = made_by b in
+    let more = made_by st b in
     let S = composed more in
     let sum : st.next + b.segment.vars ≡ st.next + s.variables = ap (λ n. st.next + n) h.takes.vars in
     let items : map (item_view (composed (st.made ++ more))) b.goals ≡ map (resolve_item S) (goals_at (scope_height here) s.goals ++ items_view st rest) =
@@ -100,7 +100,7 @@ pub onward_entry : (own : List NamedTerm) (cut : Scope) (gs : List Term) (rest :
     → branch_entry own st b ≡ goals_entry (scope_height cut) gs (continuation_view own st rest)
 onward_entry own cut gs rest st b h =
     let sum : st.next + b.segment.vars ≡ st.next = ap (λ n. st.next + n) h.takes.vars ∙ plus_none st.next in
-    ap (λ bs. PlainEntry (continuation_view own (record { made = st.made ++ pairs_of bs; next = st.next + b.segment.vars }) b.goals)) h.bindings
+    ap (λ bs. PlainEntry (continuation_view own (record { made = st.made ++ resolved_after st.made (pairs_of bs); next = st.next + b.segment.vars }) b.goals)) h.bindings
     ∙ (ap (λ bs. PlainEntry (continuation_view own (record { made = bs; next = st.next + b.segment.vars }) b.goals)) (append-nil st.made)
     ∙ (ap (λ n. PlainEntry (continuation_view own (record { made = st.made; next = n }) b.goals)) sum
     ∙ ap (λ is. PlainEntry (record { items = is; named = map (resolve_named (substitution st)) own; next = st.next })) (stands_view st.made cut gs rest b.goals h.goals)))
@@ -114,7 +114,7 @@ takes_fit st variables b s h =
     let same : st.next + variables ≡ st.next + b.segment.vars = ap (λ n. st.next + n) (sym h.vars) in (
       record {
         apart = h.apart;
-        below = both_below st.made (made_by b) (st.next + b.segment.vars) (further_below st.made st.next (st.next + b.segment.vars) (omega arith) s.below) (subst (λ n. Each (IsBindingBelow n) (made_by b)) same h.bindings);
+        below = both_below st.made (made_by st b) (st.next + b.segment.vars) (further_below st.made st.next (st.next + b.segment.vars) (omega arith) s.below) (subst (λ n. Each (IsBindingBelow n) (made_by st b)) same h.bindings);
       },
       subst (λ n. Each (IsItemBelow n) b.goals) same h.items,
     )

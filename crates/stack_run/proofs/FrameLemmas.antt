@@ -6,7 +6,7 @@ use Rattle.bind_store.specs.StoreView.{StoreView, IsValidStore, mark_of, Continu
 use Rattle.bind_store.specs.declared.store.Mark.{Mark}
 use Rattle.stack_run.specs.StackView.{stored_at, choice_view, frames_view}
 use Rattle.clause_compile.specs.declared.event.Branch.{Branch}
-use Rattle.bind_store.proofs.ResolvingLemmas.{reverse-push}
+use Rattle.bind_store.proofs.WalkLemmas.{reverse-push}
 use Rattle.stack_run.specs.ChoicePoints.{branch_frame, IsTaken}
 use Rattle.stack_run.specs.StackInvariant.{IsChoiceFit, IsMarkBelow, AreFit}
 use Rattle.stack_run.specs.declared.frame.Choice.{Choice}

@@ -19,6 +19,7 @@ use Rattle.clause_compile.specs.declared.item.Item.{Item}
 use Rattle.clause_compile.specs.declared.item.Item.TheVariants.{Goal, CatchEnd, Collect}
 use Rattle.clause_compile.specs.declared.event.Branch.{Branch as BranchTerms}
 use Rattle.au_term.specs.declared.segment.Segment.{Segment}
+use Rattle.bind_store.specs.Bindings.{resolved_after}
 use Rattle.bind_store.specs.StoreView.{StoreView, IsValidStore, substitution, mark_of, with_segment, pairs_of}
 use Rattle.bind_store.specs.declared.store.Mark.{Mark}
 use Rattle.engine_core.specs.Branches.{IsItemBelow, HasGoalsBefore}
@@ -200,8 +201,8 @@ findall_fit st f list rest choice e r n l x b h =
 -- a branch without bindings, as it is in the code
 no_bindings : (own : List NamedTerm) (st : StoreView) (goals : List Item) (segment : Segment) → segment.vars ≡ 0 → segment.bindings ≡ [] → choice_view own st (Branch (record { goals = goals; segment = segment })) ≡ PlainEntry (continuation_view own st goals)
 no_bindings own st goals segment v b =
-    ap (λ n. PlainEntry (continuation_view own (record { made = st.made ++ pairs_of segment.bindings; next = st.next + n }) goals)) v
-    ∙ (ap (λ bs. PlainEntry (continuation_view own (record { made = st.made ++ pairs_of bs; next = st.next + 0 }) goals)) b
+    ap (λ n. PlainEntry (continuation_view own (record { made = st.made ++ resolved_after st.made (pairs_of segment.bindings); next = st.next + n }) goals)) v
+    ∙ (ap (λ bs. PlainEntry (continuation_view own (record { made = st.made ++ resolved_after st.made (pairs_of bs); next = st.next + 0 }) goals)) b
     ∙ (ap (λ bs. PlainEntry (continuation_view own (record { made = bs; next = st.next + 0 }) goals)) (append-nil st.made) ∙ ap (λ n. PlainEntry (continuation_view own (record { made = st.made; next = n }) goals)) (plus_none st.next)))
   where
     plus_none : (n : ℕ) → n + 0 ≡ n
@@ -210,8 +211,8 @@ no_bindings own st goals segment v b =
 pub no_bindings_fit : (st : StoreView) (goals : List Item) (segment : Segment) → IsValidStore st → segment.vars ≡ 0 → segment.bindings ≡ [] → Each (IsItemBelow st.next) goals → IsChoiceFit st (Branch (record { goals = goals; segment = segment }))
 no_bindings_fit st goals segment s v b h =
     let sum : st.next ≡ st.next + segment.vars = omega (arith, v) in
-    let made : st.made ≡ st.made ++ pairs_of segment.bindings = sym (ap (λ bs. st.made ++ pairs_of bs) b ∙ append-nil st.made) in
-    let same : st ≡ with_segment segment st = ap (λ bs. record { made = bs; next = st.next }) made ∙ ap (λ n. record { made = st.made ++ pairs_of segment.bindings; next = n }) sum in
+    let made : st.made ≡ st.made ++ resolved_after st.made (pairs_of segment.bindings) = sym (ap (λ bs. st.made ++ resolved_after st.made (pairs_of bs)) b ∙ append-nil st.made) in
+    let same : st ≡ with_segment segment st = ap (λ bs. record { made = bs; next = st.next }) made ∙ ap (λ n. record { made = st.made ++ resolved_after st.made (pairs_of segment.bindings); next = n }) sum in
     (subst IsValidStore same s, subst (λ u. Each (IsItemBelow u.next) goals) same h)
 
 -- a condition

@@ -18,7 +18,7 @@ use Rattle.clause_compile.specs.declared.item.Item.{Item}
 use Rattle.clause_compile.specs.declared.item.Item.TheVariants.{Goal, CatchEnd, Collect, Remove, End}
 use Rattle.clause_compile.specs.declared.event.Branch.{Branch as BranchTerms}
 use Rattle.bind_store.specs.Bindings.{Binding, IsBindingBelow}
-use Rattle.bind_store.specs.StoreView.{StoreView, IsValidStore, Continues, substitution, with_segment, with_numbers, pairs_of}
+use Rattle.bind_store.specs.StoreView.{StoreView, IsValidStore, Continues, substitution, with_segment, with_numbers, made_by}
 use Rattle.engine_core.specs.Branches.{IsItemBelow}
 use Rattle.engine_core.proofs.SolutionLemmas.{items_further}
 use Rattle.stack_run.specs.StackView.{item_view, continuation_view, frames_view, current_view, end_view, entries_under, stack_view, scope_height}
@@ -36,7 +36,7 @@ use Rattle.stack_run.proofs.FreeStepLemmas.{marks_drop}
 
 -- further bindings or numbers continue a store
 pub segment_continues : (segment : Segment) (st : StoreView) → Continues st (with_segment segment st)
-segment_continues segment st = record { more = pairs_of segment.bindings; is = refl; next = omega arith }
+segment_continues segment st = record { more = made_by segment st; is = refl; next = omega arith }
 
 pub numbers_continue : (k : ℕ) (st : StoreView) → Continues st (with_numbers k st)
 numbers_continue k st = record { more = []; is = sym (append-nil st.made); next = omega arith }
@@ -45,8 +45,8 @@ back_below : (n : ℕ) (bs cs : List Binding) → Each (IsBindingBelow n) (bs ++
 back_below n [] cs h = h
 back_below n (b ∷ bs) cs h = back_below n bs cs h.1
 
-pub segment_below : (st : StoreView) (b : BranchTerms) → IsChoiceFit st (Branch b) → Each (IsBindingBelow (st.next + b.segment.vars)) (pairs_of b.segment.bindings)
-segment_below st b h = back_below (st.next + b.segment.vars) st.made (pairs_of b.segment.bindings) h.0.below
+pub segment_below : (st : StoreView) (b : BranchTerms) → IsChoiceFit st (Branch b) → Each (IsBindingBelow (st.next + b.segment.vars)) (made_by b.segment st)
+segment_below st b h = back_below (st.next + b.segment.vars) st.made (made_by b.segment st) h.0.below
 
 -- entries where no alternative is current
 pub nothing_at_hand : (own : List NamedTerm) (s : Stack) → s.current ≡ None → stack_view own s ≡ entries_under own s.store s.frames.items s.end

@@ -1,28 +1,38 @@
-use Rattle.std.proofs.Common.{◌++◌, ◌∷◌, [], reverse, ap, ◌∙◌, sym, subst, arith}
+use Rattle.std.proofs.Common.{◌≡◌, [], ◌∷◌, ◌++◌, reverse, sym, ap, ◌∙◌, arith}
 use Rattle.std.proofs.lemmas.List.{nil_from_length}
-use Rattle.bind_store.specs.ResolvedCells.{term_piece}
+use Rattle.au_term.specs.PrefixOrder.{cells_of}
+use Rattle.au_term.specs.Shifted.{shifted_cell}
+use Rattle.au_model.specs.Terms.Substitutions.{resolve}
+use Rattle.bind_store.specs.Bindings.{substitution_of}
+use Rattle.bind_store.specs.ResolvedCells.{cells_left, term_piece}
 use Rattle.bind_store.proofs.RebuiltTermLemmas.{none_due, same_term}
-use Rattle.bind_store.proofs.ResolvingLemmas.{Resolving, begins, leaves_whole, ends, reverse-push}
+use Rattle.bind_store.proofs.WalkLemmas.{reverse-push, all_left, all_placed, given_due, all_built}
 use Rattle.bind_store.proofs.resolved.resolved.Goals as goal
 
 pub loop-piece-init : goal.loop-piece-init
 loop-piece-init c =
-    subst (λ b. Resolving c.args.cells.now c.args.base c.args.bindings.now b (reverse c.push.new.self.items)) (sym c.new-builder.ensures)
-    (subst (λ ps. Resolving c.args.cells.now c.args.base c.args.bindings.now [] (reverse ps)) (sym (c.in_ok-push.ensures.items ∙ ap (λ ps. ps ++ term_piece ∷ []) c.new-pieces.ensures.items))
-    (begins c.args.cells.now c.args.base c.args.bindings.now c.requires))
+    let t = c.args.term.now in
+    let bs = c.args.bindings.now in
+    let items : c.push.new.self.items ≡ [] ++ term_piece ∷ [] = c.in_ok-push.ensures.items ∙ ap (λ ps. ps ++ term_piece ∷ []) c.new-pieces.ensures.items in
+    (ap (λ built. built ++ cells_left (cells_of t) bs (reverse c.push.new.self.items)) c.new-builder.ensures ∙ all_left bs t c.push.new.self.items items, all_placed bs c.push.new.self.items items)
 
-pub advance-requires-clause-whole : goal.advance-requires-clause-whole
-advance-requires-clause-whole c =
-    let popped = ap reverse c.in-Some.ensures.items ∙ reverse-push c.pop.new.self.items c.in-Some.piece in
-    leaves_whole c.args.cells.now c.args.base c.args.bindings.now c.loop-piece.builder (c.in-Some.piece ∷ reverse c.pop.new.self.items)
-    (subst (Resolving c.args.cells.now c.args.base c.args.bindings.now c.loop-piece.builder) popped c.loop-piece.invariant)
+pub push-requires-in-Some-2-clause-due : goal.push-requires-in-Some-2-clause-due
+push-requires-in-Some-2-clause-due c =
+    let h = rw c.in-Some-2.is at c.in_ok-cell.ensures in
+    let t = c.args.term.now in
+    let bs = c.args.bindings.now in
+    let left = cells_left (cells_of t) bs in
+    let turned = ap reverse c.in-Some.ensures.items ∙ reverse-push c.pop.new.self.items c.in-Some.piece in
+    given_due (resolve (substitution_of bs) t) c.loop-piece.builder (left (reverse c.loop-piece.pieces.items)) (left (reverse c.advance.new.pieces.items)) (shifted_cell c.in-Some-2.base c.in-Some-2.cell.now) c.loop-piece.invariant.0
+    (h.2.same ∙ ap left (sym turned))
 
 pub finish-requires : goal.finish-requires
 finish-requires c =
-    let none = nil_from_length c.loop-piece.pieces.items (omega (arith, c.in_default.ensures.cases, c.loop-piece.pieces.ok.0)) in
-    none_due _ c.loop-piece.builder (ends c.args.cells.now c.args.base c.args.bindings.now c.loop-piece.builder (reverse c.loop-piece.pieces.items) c.loop-piece.invariant (ap reverse none))
+    let t = resolve (substitution_of c.args.bindings.now) c.args.term.now in
+    none_due t c.loop-piece.builder (all_built t (cells_of c.args.term.now) c.loop-piece.builder c.args.bindings.now c.loop-piece.pieces.items c.loop-piece.invariant.0 (nil_from_length c.loop-piece.pieces.items (omega (arith, c.in_default.ensures.cases, c.loop-piece.pieces.ok.0))))
 
 pub returns : goal.returns
 returns c =
-    let none = nil_from_length c.loop-piece.pieces.items (omega (arith, c.in_default.ensures.cases, c.loop-piece.pieces.ok.0)) in
-    same_term _ _ (c.finish.ensures.cells ∙ ends c.args.cells.now c.args.base c.args.bindings.now c.loop-piece.builder (reverse c.loop-piece.pieces.items) c.loop-piece.invariant (ap reverse none))
+    let t = resolve (substitution_of c.args.bindings.now) c.args.term.now in
+    same_term c.finish.result t (c.finish.ensures.cells
+    ∙ all_built t (cells_of c.args.term.now) c.loop-piece.builder c.args.bindings.now c.loop-piece.pieces.items c.loop-piece.invariant.0 (nil_from_length c.loop-piece.pieces.items (omega (arith, c.in_default.ensures.cases, c.loop-piece.pieces.ok.0))))

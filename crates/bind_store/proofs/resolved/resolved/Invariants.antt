@@ -1,11 +1,13 @@
-use Rattle.std.proofs.Common.{reverse}
-use Rattle.bind_store.specs.ShiftedCells.{shifted_cells}
-use Rattle.bind_store.specs.ResolvedCells.{resolving_steps_left}
-use Rattle.bind_store.proofs.ResolvingLemmas.{Resolving}
+use Rattle.std.proofs.Common.{◌≡◌, ◌++◌, reverse}
+use Rattle.au_term.specs.PrefixOrder.{cells_of}
+use Rattle.au_model.specs.Terms.Substitutions.{resolve}
+use Rattle.bind_store.specs.Bindings.{substitution_of}
+use Rattle.bind_store.specs.ResolvedCells.{cells_left, resolving_steps_left, ArePiecesPlaced}
 use Rattle.bind_store.proofs.resolved.resolved.Given as goal
 
 abbrev pub invariant-loop-piece : goal.invariant-loop-piece
-invariant-loop-piece l = Resolving l.cells l.base l.bindings l.builder (reverse l.pieces.items)
+invariant-loop-piece l =
+    (l.builder ++ cells_left (cells_of l.term) l.bindings (reverse l.pieces.items) ≡ cells_of (resolve (substitution_of l.bindings) l.term)) × ArePiecesPlaced l.bindings (reverse l.pieces.items)
 
 abbrev pub decreases-loop-piece : goal.decreases-loop-piece
-decreases-loop-piece l = resolving_steps_left (shifted_cells l.base l.cells) l.bindings (reverse l.pieces.items)
+decreases-loop-piece l = resolving_steps_left (cells_of l.term) l.bindings (reverse l.pieces.items)

@@ -5,7 +5,6 @@ use Rattle.bind_store.proofs.bindings.Bindings.value.Goals as goal
 
 pub returns : goal.returns
 returns c =
-    c.term.ensures
-    ∙ (ap (λ b. b.1) c.index.ensures
+    ap (λ b. b.1) c.index.ensures
     ∙ (value_at-is c.self.inside.values.items c.args.place c.index.result.now (subst (λ bs. c.args.place < length bs) (sym c.self.view_is) c.requires)
-    ∙ ap (λ bs. value_at bs c.args.place) c.self.view_is))
+    ∙ ap (λ bs. value_at bs c.args.place) c.self.view_is)
