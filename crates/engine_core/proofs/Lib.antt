@@ -1,4 +1,3 @@
-pub mod ConstructRowLemmas
 pub mod ResolvedTermLemmas
 pub mod ConjunctionLemmas
 pub mod PlainBranchLemmas
@@ -9,3 +8,5 @@ pub mod BranchListLemmas
 pub mod CallArgumentLemmas
 pub mod GoalOutcomeLemmas
 pub mod NamedOutcomeLemmas
+pub mod Solutions
+pub mod BuiltinGoals

@@ -1,9 +1,9 @@
 pub mod Branches
 pub mod Reductions
-pub mod Constructs
 pub mod Conjunctions
 pub mod PlainBranches
 pub mod GoalArguments
 pub mod Attempts
 pub mod Calls
 pub mod GoalReductions
+pub mod Solved

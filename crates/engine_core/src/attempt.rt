@@ -116,7 +116,7 @@ fn equation_branch(
 
 /// The bindings that make two terms one, or none where they do not unify. They stay in the store. With a number the right
 /// side is a clause's head whose variables are numbered from it on.
-fn bindings_between(
+pub(crate) fn bindings_between(
     left: &Shared,
     right: &Shared,
     fresh: Option<VarNo>,

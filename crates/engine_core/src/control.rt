@@ -7,13 +7,12 @@ ghost use Rattle.au_model.specs.Terms.Forms.{is_callable, name_of};
 ghost use Rattle.run_model.specs.Goals.Outcomes.{Controls, Replies, Solutions};
 ghost use Rattle.engine_core.specs.GoalArguments.{resolved_argument};
 ghost use Rattle.engine_core.specs.Branches.{IsItemBelow};
-ghost use Rattle.engine_core.specs.Constructs.{IsConstruct};
+ghost use Rattle.std_builtins.specs.Controls.{IsControl};
 ghost use Rattle.engine_core.specs.Reductions.{IsOutcome};
 ghost use Rattle.engine_core.specs.GoalReductions.{ComesTo, Raises};
 ghost use Rattle.engine_core.specs.Attempts.{equation_solution};
 
 use crate::call::call;
-use crate::construct::Construct;
 use crate::continuation::Continuation;
 use crate::faults::unbound_ball;
 use crate::names::{is_condition, is_variable};
@@ -24,16 +23,17 @@ use crate::reduction::Reduction;
 use au_term::{NoMemory, Shared};
 use bind_store::Store;
 use std::alloc::Global;
+use std_builtins::Control;
 
 /// What a construct's goal comes to.
 pub(crate) fn construct_outcome(
     alloc: Global,
-    construct: Construct,
+    construct: Control,
     goal: &Shared,
     place: &Continuation<'_>,
     store: &mut Store,
 ) -> Result<Reduction, NoMemory>
-    requires construct { IsConstruct construct (name_of goal.now) (argument_count goal.now) }
+    requires construct { IsControl construct (name_of goal.now) (argument_count goal.now) }
     requires callable { is_callable goal.now ≡ true }
     requires below { var_bound goal.now ≤ store.old.next }
     requires rest { Each (IsItemBelow store.old.next) place.now.rest.now }
@@ -41,18 +41,17 @@ pub(crate) fn construct_outcome(
     ensures store { store.new ≡ store.old }
 {
     match construct {
-        Construct::Succeed => alone(alloc, rest_branch(alloc, place.rest, store)?),
-        Construct::Fail => Ok(Reduction::Alternatives(Vec::new(alloc))),
-        Construct::Cut => Ok(Reduction::Prune(place.cut)),
-        Construct::Either => either(alloc, goal, place, store),
-        Construct::Then => Ok(Reduction::Open(then(alloc, goal, store)?)),
-        Construct::Not => Ok(Reduction::Open(not(alloc, goal, store)?)),
-        Construct::Once => Ok(Reduction::Open(once(alloc, goal, store)?)),
-        Construct::Throw => throw(alloc, goal, store),
-        Construct::Catch => Ok(Reduction::Open(catch(goal, store)?)),
-        Construct::Findall => Ok(Reduction::Open(findall(goal, store)?)),
-        Construct::Call => call(alloc, goal, place, store),
-        Construct::Unify => unify(alloc, goal, place, store),
+        Control::Succeed => alone(alloc, rest_branch(alloc, place.rest, store)?),
+        Control::Fail => Ok(Reduction::Alternatives(Vec::new(alloc))),
+        Control::Cut => Ok(Reduction::Prune(place.cut)),
+        Control::Either => either(alloc, goal, place, store),
+        Control::Then => Ok(Reduction::Open(then(alloc, goal, store)?)),
+        Control::Not => Ok(Reduction::Open(not(alloc, goal, store)?)),
+        Control::Once => Ok(Reduction::Open(once(alloc, goal, store)?)),
+        Control::Throw => throw(alloc, goal, store),
+        Control::Catch => Ok(Reduction::Open(catch(goal, store)?)),
+        Control::Findall => Ok(Reduction::Open(findall(goal, store)?)),
+        Control::Call => call(alloc, goal, place, store),
     }
 }
 
@@ -96,7 +95,7 @@ fn throw(alloc: Global, goal: &Shared, store: &Store) -> Result<Reduction, NoMem
 }
 
 /// What a goal of `=` comes to.
-fn unify(
+pub(crate) fn unify(
     alloc: Global,
     goal: &Shared,
     place: &Continuation<'_>,

@@ -9,8 +9,8 @@ ghost use Rattle.bind_store.specs.StoreView.{substitution};
 ghost use Rattle.engine_core.specs.Branches.{IsItemBelow};
 ghost use Rattle.engine_core.specs.Reductions.{IsOutcome, IsReduced};
 
+use crate::builtin::builtin_outcome;
 use crate::call::calling_ball;
-use crate::construct::construct_of;
 use crate::continuation::Continuation;
 use crate::control::construct_outcome;
 use crate::names::name_of;
@@ -22,6 +22,7 @@ use bind_store::Store;
 use clause_compile::{Effect, Goals, Item, Scope};
 use proc_index::Procs;
 use std::alloc::Global;
+use std_builtins::{builtin_of, control_of};
 
 /// What an item comes to, before the items that follow, beside a store; `here` is the choice point to which a cut in a
 /// called body or a clause's body cuts (ISO/IEC 13211-1, 7.7). The store stays as it is.
@@ -105,8 +106,12 @@ fn callable_outcome(
     ensures store { store.new ≡ store.old }
 {
     let name = name_of(goal)?;
-    if let Some(construct) = construct_of(&name, goal.arity()) {
+    let arity = goal.arity();
+    if let Some(construct) = control_of(name.text(), arity) {
         return construct_outcome(alloc, construct, goal, place, store);
+    }
+    if let Some(builtin) = builtin_of(name.text(), arity) {
+        return builtin_outcome(alloc, builtin, goal, &name, place, store);
     }
     procedure_outcome(alloc, goal, &name, place, store, procs)
 }

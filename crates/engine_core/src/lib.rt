@@ -3,9 +3,9 @@
 
 mod added;
 mod attempt;
+mod builtin;
 mod call;
 mod conjunction;
-mod construct;
 mod continuation;
 mod control;
 mod faults;

@@ -3,10 +3,14 @@ mod FactRows
 mod CutRows
 mod CatchRows
 mod WorldRows
+mod ArithmeticRows
+mod TermGoalRows
 pub mod ConstructLemmas
 pub mod FreeStepLemmas
 pub mod StepLemmas
 pub mod RunLemmas
+pub mod BuiltinRowBoundLemmas
+pub mod BuiltinBoundLemmas
 pub mod OutcomeBoundLemmas
 pub mod NumberingLemmas
 pub mod HeightLemmas

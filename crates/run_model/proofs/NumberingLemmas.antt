@@ -25,7 +25,8 @@ use Rattle.run_model.specs.Machine.States.{State, opened, goal_taken, removal_ta
 use Rattle.run_model.specs.Machine.Runs.{seq}
 use Rattle.au_model.proofs.EachLemmas.{each-append, each-map, each-more, each-drop}
 use Rattle.au_model.proofs.VariableBoundLemmas.{apply-below, KeepsBelow, unifier_below, copied-below}
-use Rattle.run_model.proofs.OutcomeBoundLemmas.{IsSolutionBelow, IsReplyBelow, IsFormBelow, IsOutcomeBelow, outcome-below, world-below}
+use Rattle.run_model.proofs.BuiltinRowBoundLemmas.{IsSolutionBelow, IsReplyBelow, IsFormBelow, IsOutcomeBelow}
+use Rattle.run_model.proofs.OutcomeBoundLemmas.{outcome-below, world-below}
 use Rattle.run_model.proofs.StepLemmas.{along}
 
 -- items and named terms

@@ -12,37 +12,16 @@ use Rattle.au_model.specs.Terms.Forms.{same_name, binary, name_of}
 use Rattle.au_term.specs.PrefixOrder.{append_terms}
 use Rattle.run_model.specs.Programs.Bodies.{is_junction, junction, body_of, goals_of, clause_goals_of, called_goals, call_of}
 use Rattle.run_model.specs.Programs.Clauses.{Clause, clause_variables, clause_renaming, renamed_head, is_defined}
-use Rattle.au_model.specs.Terms.Unifier.{equations_bound}
-use Rattle.run_model.specs.Goals.Outcomes.{Solution, Reply, Solutions, Ball, HaltNumber, ControlForm, GoesOnWith, EitherOf, TestOf, CutToScope, CatchOf, FindallOf, Outcome, Replies, Controls, AskWorld, clause_solution, alternatives_of}
+use Rattle.run_model.specs.Goals.Outcomes.{Ball, EitherOf, TestOf, Outcome, clause_solution, alternatives_of}
 use Rattle.run_model.specs.Goals.Control.{Construct, is_named, construct_of, control_constructs, with_arguments, called, call_outcome, throw_outcome, either_form}
 use Rattle.run_model.specs.Goals.Builtins.{builtins}
 use Rattle.run_model.specs.Programs.Databases.{NumberedClause, clauses_of, plain_clauses}
 use Rattle.run_model.specs.Goals.Worlds.{World, WorldConstruct, world_constructs, is_world_construct, world_construct_of, is_world_goal, dynamic_call, by_world_construct, world_step}
 use Rattle.run_model.specs.Goals.GoalOutcomes.{by_procedure, by_world_goal, by_builtin, by_construct, named_outcome, outcome_of}
 use Rattle.au_model.proofs.EachLemmas.{IfFound, found_row, each-append, each-map}
+use Rattle.run_model.proofs.BuiltinRowBoundLemmas.{IsSolutionBelow, IsReplyBelow, IsFormBelow, IsOutcomeBelow, IsRowBelow, term-below}
+use Rattle.run_model.proofs.BuiltinBoundLemmas.{builtins_below}
 use Rattle.au_model.proofs.VariableBoundLemmas.{AllSeen, all_seen, still_seen, renamed-below}
-
--- the variables of a solution are below the next number and the new ones
-abbrev pub IsSolutionBelow : ℕ → Solution → Type 0
-IsSolutionBelow next s = (equations_bound s.equations ≤ next + s.variables) × AreTermsBelow (next + s.variables) s.goals
-
-abbrev pub IsReplyBelow : ℕ → Reply → Type 0
-IsReplyBelow next (Solutions ss) = Each (IsSolutionBelow next) ss
-IsReplyBelow next (Ball b) = Unit {0}
-IsReplyBelow next (HaltNumber k) = Unit {0}
-
-abbrev pub IsFormBelow : ℕ → ControlForm → Type 0
-IsFormBelow next (GoesOnWith gs) = AreTermsBelow next gs
-IsFormBelow next (EitherOf gs others) = AreTermsBelow next gs × AreTermsBelow next others
-IsFormBelow next (TestOf gs thens others) = AreTermsBelow next gs × AreTermsBelow next thens × AreTermsBelow next others
-IsFormBelow next CutToScope = Unit {0}
-IsFormBelow next (CatchOf g c r) = IsTermBelow next g × IsTermBelow next c × IsTermBelow next r
-IsFormBelow next (FindallOf t g l) = IsTermBelow next t × IsTermBelow next g × IsTermBelow next l
-
-abbrev pub IsOutcomeBelow : ℕ → Outcome → Type 0
-IsOutcomeBelow next (Replies r) = IsReplyBelow next r
-IsOutcomeBelow next (Controls form) = IsFormBelow next form
-IsOutcomeBelow next (AskWorld g) = IsTermBelow next g
 
 -- bodies and goals
 goals-below : (b : ℕ) (t : Term) → IsTermBelow b t → AreTermsBelow b (goals_of t)
@@ -129,15 +108,6 @@ either-below b (Compound f (more c (more t end))) e h k = go (same_name f (codes
     go false whole left right other = (whole, other)
 either-below b (Compound f (more c (more t (more u ts)))) e h k = (goals-below b (Compound f (more c (more t (more u ts)))) h, goals-below b e k)
 
--- the rows of the tables, at as many arguments as they say
-abbrev pub IsRowBelow : Construct → Type 0
-IsRowBelow c = (ts : Terms) (next : ℕ) → count ts ≡ c.arity → all_bound ts ≤ next → IsOutcomeBelow next (c.outcome ts next)
-
-term-below : (i b : ℕ) (ts : Terms) → suc i ≤ count ts → all_bound ts ≤ b → IsTermBelow b (term_at i ts)
-term-below i b end h k = absurd (omega arith)
-term-below zero b (more t ts) h k = omega arith
-term-below (suc i) b (more t ts) h k = term-below i b ts (omega arith) (omega arith)
-
 atom_goal : (b : ℕ) (a : List ℕ) → AreTermsBelow b (AtomTerm a ∷ [])
 atom_goal b a = (omega arith, tt)
 
@@ -207,12 +177,6 @@ control_below = (
   ),
 )
 
-pub builtins_below : Each IsRowBelow builtins
-builtins_below = (
-  λ ts next n h. let left = term-below 0 next ts (omega arith) h in let right = term-below 1 next ts (omega arith) h in ((omega arith, tt), tt),
-  tt,
-)
-
 -- clauses
 seen_goals : (seen : List ℕ) (t : Term) → AllSeen seen t → Each (AllSeen seen) (goals_of t)
 seen_goals seen (VarTerm n) h = (h, tt)
@@ -266,7 +230,7 @@ world_goal-below : (b : Bool) (clauses : List Clause) (g : Term) (next : ℕ) �
 world_goal-below true clauses g next h = h
 world_goal-below false clauses g next h = procedure-below (is_defined clauses (name_of g) (argument_count g)) clauses g next h
 
-arguments-below : (b : ℕ) (g : Term) → IsTermBelow b g → all_bound (arguments g) ≤ b
+pub arguments-below : (b : ℕ) (g : Term) → IsTermBelow b g → all_bound (arguments g) ≤ b
 arguments-below b (VarTerm n) h = omega arith
 arguments-below b (IntTerm z) h = omega arith
 arguments-below b (AtomTerm a) h = omega arith

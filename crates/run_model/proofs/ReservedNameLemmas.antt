@@ -10,7 +10,7 @@ find_by : {X : Type 0} → (p : X → Bool) (x : X) (xs : List X) (v : Bool) →
 find_by p x xs true h = refl
 find_by p x xs false h = h
 
-found_any : {X : Type 0} → (p : X → Bool) (xs : List X) → is_some (find p xs) ≡ list_any p xs
+pub found_any : {X : Type 0} → (p : X → Bool) (xs : List X) → is_some (find p xs) ≡ list_any p xs
 found_any p [] = refl
 found_any p (x ∷ xs) = find_by p x xs (p x) (found_any p xs)
 

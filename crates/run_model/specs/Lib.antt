@@ -5,11 +5,19 @@
 --   Jobs       static clauses, dynamic procedures, operators and queries
 pub mod Programs
 -- Goals: what a goal comes to
---   Outcomes      the kinds of outcomes
---   Control       the control constructs
---   Builtins      the predicates that look at their arguments alone
---   Worlds        the goals that look at the world or change it
---   GoalOutcomes  the table of all goals
+--   Outcomes          the kinds of outcomes
+--   Control           the control constructs
+--   BuiltinAnswers    solutions and errors of built-in predicates
+--   StandardOrder     the standard order of terms
+--   ListForms         lists, partial lists and their items
+--   TermTests         type tests and comparisons
+--   TermParts         goals that take terms apart and put them together
+--   Arithmetic        the values of expressions, and their errors
+--   ArithmeticGoals   is/2 and the comparisons of numbers
+--   UnificationGoals  unification
+--   Builtins          the table of built-in predicates
+--   Worlds            the goals that look at the world or change it
+--   GoalOutcomes      the table of all goals
 pub mod Goals
 -- Machine: the sequential machine
 --   Items      what is left to do of one alternative

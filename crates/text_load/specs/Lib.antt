@@ -1,7 +1,6 @@
 pub mod QueryView
 pub mod LoadOutcome
 pub mod JobView
-pub mod ReservedNames
 pub mod LoadedSentences
 pub mod Sentences
 pub mod LoadedTexts

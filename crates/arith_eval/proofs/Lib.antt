@@ -1,0 +1,3 @@
+pub mod Powers
+pub mod Names
+pub mod Stacks

@@ -1,0 +1,4 @@
+pub mod RowLemmas
+pub mod AnswerLemmas
+pub mod Fixed
+pub mod ControlLemmas

@@ -1,0 +1,10 @@
+use Rattle.std.proofs.Common.{◌∙◌, sym}
+use Rattle.std.specs.Str.{chars}
+use Rattle.run_model.specs.Goals.Control.{is_named}
+use Rattle.run_model.specs.Goals.Builtins.{builtins}
+use Rattle.run_model.proofs.ReservedNameLemmas.{found_any}
+use Rattle.std_builtins.proofs.table.is_builtin.Goals as goal
+
+pub returns : goal.returns
+unfolding chars
+returns c = c.is_among.ensures ∙ sym (found_any (is_named (chars c.args.name.now) c.args.arity) builtins)

@@ -1,0 +1,39 @@
+//! Built-in predicates called.
+ghost use Rattle.std.specs.Prelude.{◌≡◌, length};
+ghost use Rattle.au_model.specs.Terms.Lists.{terms_from};
+ghost use Rattle.std_builtins.specs.Answers.{IsAnswer};
+ghost use Rattle.std_builtins.specs.Meanings.{answer_of, arguments_of};
+
+use crate::answer::{BuiltinRefusal, Solution, equal, holds_if};
+use crate::arithmetic::{compared_values, is};
+use crate::comparisons::compared;
+use crate::table::Builtin;
+use crate::unification::differ;
+use au_term::{FlatTerm, VarNo};
+use std::alloc::Global;
+use term_order::compare;
+
+impl Builtin {
+    /// The solutions of a goal with these arguments in their order, with new variables from the next number on; or its
+    /// error.
+    pub fn call(
+        self,
+        alloc: Global,
+        args: &[FlatTerm],
+        next: VarNo,
+    ) -> Result<Vec<Solution>, BuiltinRefusal>
+        requires { length args.now ≡ arguments_of self }
+        ensures { IsAnswer (answer_of self (terms_from args.now) next) result }
+    {
+        let _next = next;
+        match self {
+            Builtin::Unify => equal(alloc, args[0].copy()?, args[1].copy()?),
+            Builtin::Differ => holds_if(alloc, differ(alloc, &args[0], &args[1])?),
+            Builtin::Type(test) => holds_if(alloc, test.holds(&args[0])),
+            Builtin::Order(test) => { holds_if(alloc, test.holds_of(compare(&args[0], &args[1]))) }
+            Builtin::Compare => compared(alloc, &args[0], &args[1], &args[2]),
+            Builtin::Is => is(alloc, &args[0], &args[1]),
+            Builtin::Value(test) => compared_values(alloc, test, &args[0], &args[1]),
+        }
+    }
+}

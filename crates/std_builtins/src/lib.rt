@@ -1,0 +1,19 @@
+//! The built-in predicates that look at their arguments alone.
+#![tactic(auto)]
+
+pub mod answer;
+mod arithmetic;
+mod call;
+pub mod comparisons;
+pub mod control;
+pub mod table;
+#[cfg(test)]
+mod tests;
+pub mod type_tests;
+mod unification;
+
+pub use answer::{BuiltinRefusal, Solution};
+pub use comparisons::Comparison;
+pub use control::{Control, control_of, is_control};
+pub use table::{Builtin, builtin_of, is_builtin};
+pub use type_tests::TypeTest;

@@ -1,0 +1,2 @@
+pub mod CellOrder
+pub mod TermOrder
