@@ -229,10 +229,10 @@ fn end_of_text(rt: HostRuntime) -> Result<(), Fail> {
 fn refusal_of_many(
     rt: &impl Abort,
     alloc: Global,
-    start_primary: &str,
+    beginning: &str,
 ) -> Result<Option<ReadRefused>, Fail> {
     let ops = Ops::initial(alloc)?;
-    let mut text = String::from_str(alloc, start_primary)?;
+    let mut text = String::from_str(alloc, beginning)?;
     for _ in 0..65535 {
         text.push_str("a,")?;
     }
@@ -250,14 +250,14 @@ fn too_many_arguments(rt: HostRuntime) -> Result<(), Fail> {
         ("b-(", 131_074, FaultKind::UnexpectedEnd),
         ("[", 131_072, FaultKind::UnexpectedEnd),
     ];
-    for (start_primary, column, kind) in cases {
+    for (beginning, column, kind) in cases {
         let want = ReadRefused::Syntax {
             line: 1,
             column,
             kind,
         };
-        let found = refusal_of_many(&rt, rt.alloc(), start_primary)?;
-        assert_eq!(&rt; found, Some(want), "{begin}");
+        let found = refusal_of_many(&rt, rt.alloc(), beginning)?;
+        assert_eq!(&rt; found, Some(want), "{beginning}");
     }
     Ok(())
 }
