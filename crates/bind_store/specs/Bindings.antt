@@ -21,6 +21,11 @@ abbrev pub place_in : ℕ → List Binding → Option ℕ
 place_in x [] = None
 place_in x (b ∷ bs) = cond (b.0 == x) (Some 0) (option_map (λ i. suc i) (place_in x bs))
 
+-- the place of a variable's binding by the number that is kept of it
+abbrev pub place_from : ℕ → Option ℕ
+place_from zero = None
+place_from (suc i) = Some i
+
 -- the value of the binding at a place of the order
 abbrev pub value_at : List Binding → ℕ → Term
 value_at [] i = VarTerm 0

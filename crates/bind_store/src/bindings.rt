@@ -1,13 +1,12 @@
 //! What has been bound so far.
-ghost use Rattle.std.specs.Prelude.{◌≡◌, ◌<◌, ◌-◌, ◌++◌, ◌∷◌, [], false, length, take, IfOk, OnOk, OnErr};
+ghost use Rattle.std.specs.Prelude.{◌≡◌, ℕ, ◌<◌, ◌-◌, ◌++◌, ◌∷◌, [], false, length, take, get_or, IfOk, OnOk, OnErr};
 ghost use Rattle.au_term.specs.PrefixOrder.{top_of};
 ghost use Rattle.au_model.specs.Terms.Substitutions.{occurs, resolve};
-ghost use Rattle.bind_store.specs.Bindings.{IsUnboundIn, IsLookedUp, IsEnd, IsReached, IsConsistent, substitution_of, value_at, variable_at};
+ghost use Rattle.bind_store.specs.Bindings.{IsUnboundIn, IsLookedUp, IsEnd, IsReached, IsConsistent, substitution_of, place_from, value_at, variable_at};
 ghost use Rattle.bind_store.specs.CellTests.{IsCellFound};
 
 use au_term::{Cell, NoMemory, Shared, VarNo};
 use std::alloc::Global;
-use std::collections::BTreeMap;
 use std::marker::Model;
 
 /// Bindings in the order in which they were made. A value shares its cells with the term that it was bound to, and may
@@ -15,16 +14,15 @@ use std::marker::Model;
 #[derive(Drop)]
 pub(crate) struct Bindings {
     values: Vec<(VarNo, Shared)>,
-    places: BTreeMap<VarNo, usize>,
+    /// For each variable number one more than its place among the values, 0 where it has none.
+    places: Vec<usize>,
 }
 
 impl Model for Bindings {
-    ghost use Rattle.std.specs.Prelude.{◌≡◌, ℕ, List};
+    ghost use Rattle.std.specs.Prelude.{◌≡◌, ℕ, List, get_or};
     ghost use Rattle.std.specs.Coded.{coded_list, coded×, coded_ℕ};
-    ghost use Rattle.std.specs.Ordering.{nat_cmp};
-    ghost use Rattle.std.specs.BTreeMap.{get};
     ghost use Rattle.au_term.specs.PrefixOrder.{term_code};
-    ghost use Rattle.bind_store.specs.Bindings.{Binding, IsConsistent, place_in};
+    ghost use Rattle.bind_store.specs.Bindings.{Binding, IsConsistent, place_in, place_from};
 
     ghost Value = { List Binding };
 
@@ -32,7 +30,7 @@ impl Model for Bindings {
 
     ghost view = { λ b. b.values.items };
 
-    ghost invariant = { λ b. IsConsistent b.values.items × ((x : ℕ) → get nat_cmp b.places x ≡ place_in x b.values.items) };
+    ghost invariant = { λ b. IsConsistent b.values.items × ((x : ℕ) → place_from (get_or b.places.items x 0) ≡ place_in x b.values.items) };
 }
 
 impl Bindings {
@@ -42,7 +40,7 @@ impl Bindings {
     {
         Bindings {
             values: Vec::new(alloc),
-            places: BTreeMap::new(alloc),
+            places: Vec::new(alloc),
         }
     }
 
@@ -58,7 +56,7 @@ impl Bindings {
     fn find(&self, variable: VarNo) -> Option<usize>
         ensures { IsLookedUp self.now variable result }
     {
-        self.places.get(&variable).copied()
+        place_at(&self.places, variable as usize)
     }
 
     /// The place of the binding at the end of the chain of bound variables that a variable begins.
@@ -110,8 +108,9 @@ impl Bindings {
         ensures err { OnErr result (self.new ≡ self.old) }
     {
         self.values.reserve(1)?;
-        self.places.insert(variable, self.values.len())?;
+        make_room(&mut self.places, variable as usize)?;
         self.values.push((variable, value)).unwrap();
+        self.places[variable as usize] = self.values.len();
         Ok(())
     }
 
@@ -120,7 +119,7 @@ impl Bindings {
         ensures { self.new ≡ take (length self.old - 1) self.old }
     {
         if let Some((variable, _value)) = self.values.pop() {
-            self.places.remove(&variable);
+            self.places[variable as usize] = 0;
         }
     }
 
@@ -132,4 +131,29 @@ impl Bindings {
             self.pop();
         }
     }
+}
+
+/// The place of a variable's binding, by the numbers that are kept of them.
+fn place_at(places: &[usize], variable: usize) -> Option<usize>
+    ensures { result ≡ place_from (get_or places.now variable 0) }
+{
+    match places.get(variable) {
+        Some(place) => place.checked_sub(1),
+        None => None,
+    }
+}
+
+/// Makes room for the place of a variable's binding.
+fn make_room(places: &mut Vec<usize>, variable: usize) -> Result<(), NoMemory>
+    ensures room { OnOk result (variable < length places.new.items) }
+    ensures same { (x : ℕ) → get_or places.new.items x 0 ≡ get_or places.old.items x 0 }
+{
+    if variable < places.len() {
+        return Ok(());
+    }
+    let Some(length) = variable.checked_add(1) else {
+        return Err(NoMemory);
+    };
+    places.resize(length, 0)?;
+    Ok(())
 }

@@ -1,2 +1,4 @@
-pub mod IndexLemmas
+pub mod PlacesLemmas
 pub mod KeyLemmas
+pub mod IndexLemmas
+pub mod LawLemmas

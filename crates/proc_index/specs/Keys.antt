@@ -37,18 +37,37 @@ may_match key head = first_has key (arguments head)
 abbrev pub matching : Key → List ClauseTerms → List ClauseTerms
 matching key clauses = filter (λ c. may_match key c.head) clauses
 
--- the same of a term's first cell
-abbrev pub cell_has : Key → Cell → Bool
-cell_has Any c = true
-cell_has (Int z) (VarCell n) = true
-cell_has (Int z) (IntCell y) = int_eq z y
-cell_has (Int z) (AtomCell b) = false
-cell_has (Int z) (FunctorCell g n) = false
-cell_has (Atom a) (VarCell n) = true
-cell_has (Atom a) (IntCell y) = false
-cell_has (Atom a) (AtomCell b) = same_name a b
-cell_has (Atom a) (FunctorCell g n) = false
-cell_has (Functor f m) (VarCell n) = true
-cell_has (Functor f m) (IntCell y) = false
-cell_has (Functor f m) (AtomCell b) = false
-cell_has (Functor f m) (FunctorCell g n) = same_name f g && m == n
+-- the key of a term, by its first cell; a variable may be anything
+abbrev pub cell_key : Cell → Key
+cell_key (VarCell n) = Any
+cell_key (IntCell z) = Int z
+cell_key (AtomCell a) = Atom a
+cell_key (FunctorCell f n) = Functor f n
+
+abbrev pub key_of : Term → Key
+key_of (VarTerm n) = Any
+key_of (IntTerm z) = Int z
+key_of (AtomTerm a) = Atom a
+key_of (Compound f ts) = Functor f (count ts)
+
+abbrev pub first_key_of : Terms → Key
+first_key_of end = Any
+first_key_of (more t ts) = key_of t
+
+-- the key of a head's first argument
+abbrev pub head_key : Term → Key
+head_key head = first_key_of (arguments head)
+
+abbrev pub is_any : Key → Bool
+is_any Any = true
+is_any (Int z) = false
+is_any (Atom a) = false
+is_any (Functor f n) = false
+
+-- two keys are the same, and neither stands for all
+abbrev pub same_key : Key → Key → Bool
+same_key Any k = false
+same_key (Int z) (Int y) = int_eq z y
+same_key (Atom a) (Atom b) = same_name a b
+same_key (Functor f n) (Functor g m) = same_name f g && n == m
+same_key _ _ = false

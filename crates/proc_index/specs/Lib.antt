@@ -1,2 +1,4 @@
 pub mod Keys
+pub mod Places
 pub mod ProcedureIndex
+pub mod Laws

@@ -1,11 +1,11 @@
 //! What a first argument can be told by.
-ghost use Rattle.std.specs.Prelude.{◌≡◌};
-ghost use Rattle.proc_index.specs.Keys.{cell_has, may_match};
+ghost use Rattle.std.specs.Prelude.{◌≡◌, IfOk};
+ghost use Rattle.proc_index.specs.Keys.{cell_key, head_key, is_any};
 
-use au_term::{Atom, Cell, FlatTerm};
+use au_term::{Atom, Cell, FlatTerm, NoMemory};
 
 /// The key of a first argument: its integer, its atom, or its name and number of arguments. `Any` stands for all.
-#[derive(Drop)]
+#[derive(PartialEq, Eq, PartialOrd, Ord, Drop)]
 pub enum Key {
     Any,
     Int(i64),
@@ -14,37 +14,32 @@ pub enum Key {
 }
 
 impl Key {
-    /// Whether a head's first argument is a variable or has the key, or the head has no argument.
-    pub(crate) fn may_match(&self, head: &FlatTerm) -> bool
-        ensures { result ≡ may_match self.now head.now }
+    /// The key of a head's first argument; `Any` for a variable and for a head without arguments.
+    pub(crate) fn of_head(head: &FlatTerm) -> Result<Key, NoMemory>
+        ensures { IfOk result (λ key. key ≡ head_key head.now) }
     {
         match head.cells() {
-            [_, first, ..] => self.is_of(first),
-            _ => true,
+            [_, first, ..] => Key::of_cell(first),
+            _ => Ok(Key::Any),
         }
     }
 
-    /// Whether a term that begins with this cell is a variable or has the key.
-    fn is_of(&self, cell: &Cell) -> bool
-        ensures { result ≡ cell_has self.now cell.now }
+    /// The key of a term that begins with this cell.
+    fn of_cell(cell: &Cell) -> Result<Key, NoMemory>
+        ensures { IfOk result (λ key. key ≡ cell_key cell.now) }
     {
-        match self {
-            Key::Any => true,
-            Key::Int(value) => match cell {
-                Cell::Var(_) => true,
-                Cell::Int(other) => *value == *other,
-                _ => false,
-            },
-            Key::Atom(name) => match cell {
-                Cell::Var(_) => true,
-                Cell::Atom(other) => name.same(other),
-                _ => false,
-            },
-            Key::Functor(name, arity) => match cell {
-                Cell::Var(_) => true,
-                Cell::Functor(other, arguments) => name.same(other) && *arity == *arguments,
-                _ => false,
-            },
-        }
+        Ok(match cell {
+            Cell::Var(_) => Key::Any,
+            Cell::Int(value) => Key::Int(*value),
+            Cell::Atom(name) => Key::Atom(name.share()?),
+            Cell::Functor(name, arity) => Key::Functor(name.share()?, *arity),
+        })
+    }
+
+    /// Whether it stands for all.
+    pub(crate) fn is_any(&self) -> bool
+        ensures { result ≡ is_any self.now }
+    {
+        matches!(self, Key::Any)
     }
 }

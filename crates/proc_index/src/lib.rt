@@ -2,6 +2,9 @@
 #![tactic(auto)]
 
 mod key;
+pub mod laws;
+mod places;
+mod procedure;
 mod procs;
 #[cfg(test)]
 mod tests;

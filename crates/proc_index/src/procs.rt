@@ -1,12 +1,14 @@
 //! Procedures in a map by name and number of arguments.
-ghost use Rattle.std.specs.Prelude.{◌≡◌, OnOk, IfOk, map, true, ◌++◌};
+ghost use Rattle.std.specs.Prelude.{◌≡◌, OnOk, IfOk, map, true};
 ghost use Rattle.std.specs.Arc.{arc_value};
 ghost use Rattle.std.specs.Iterator.{YieldsFirstBy, item_count};
 ghost use Rattle.au_term.specs.Term.{argument_count};
 ghost use Rattle.au_model.specs.Terms.Forms.{is_callable, name_of};
-ghost use Rattle.proc_index.specs.ProcedureIndex.{HaveHeads, IsAdded, IsAddedTo, candidates_of, procedure_of};
+ghost use Rattle.proc_index.specs.ProcedureIndex.{HaveHeads, IsAdded, IsAddedTo, candidates_of};
 
 use crate::key::Key;
+use crate::places::Merged;
+use crate::procedure::Procedure;
 use au_term::{Atom, Cell, FlatTerm, NoMemory};
 use clause_compile::Clause;
 use std::alloc::Global;
@@ -14,8 +16,8 @@ use std::collections::BTreeMap;
 use std::marker::Model;
 use std::sync::Arc;
 
-/// The clauses of a name, by number of arguments.
-type Arities = BTreeMap<u32, Vec<Arc<Clause>>>;
+/// The procedures of a name, by number of arguments.
+type Arities = BTreeMap<u32, Procedure>;
 
 /// The static clauses. Contracts see them as their list in the order of the text.
 #[derive(Drop)]
@@ -48,73 +50,60 @@ impl Procs {
         ensures { IfOk result (λ procs. procs ≡ map arc_value clauses.items) }
     {
         let mut index = BTreeMap::new(alloc);
-        for clause in &clauses {
-            add(alloc, &mut index, clause)?;
+        for (place, clause) in clauses.iter().enumerate() {
+            add(alloc, &mut index, place, clause)?;
         }
         Ok(Procs { clauses, index })
     }
 
     /// The clauses of a procedure whose first argument is a variable or has the key, in the order of the text; none
     /// where no clause has the name and number of arguments.
-    pub fn candidates<'a>(
-        &'a self,
-        name: &Atom,
-        arity: u32,
-        first: &'a Key,
-    ) -> Option<Candidates<'a>>
+    pub fn candidates<'a>(&'a self, name: &Atom, arity: u32, first: &Key) -> Option<Candidates<'a>>
         ensures candidates { result ≡ candidates_of self.now name.now arity first.now }
         ensures heads { HaveHeads self.now }
     {
-        let clauses = self.clauses_of(name, arity);
-        if clauses.is_empty() {
+        let procedure = self.index.get(name)?.get(&arity)?;
+        if procedure.all.is_empty() {
             return None;
         }
-        Some(Candidates { clauses, first })
-    }
-
-    /// The clauses of a procedure, none where it has none.
-    fn clauses_of(&self, name: &Atom, arity: u32) -> &[Arc<Clause>]
-        ensures clauses { map arc_value result.now ≡ procedure_of self.now name.now arity }
-        ensures heads { HaveHeads self.now }
-    {
-        match self.index.get(name) {
-            Some(arities) => match arities.get(&arity) {
-                Some(clauses) => clauses,
-                None => &[],
-            },
-            None => &[],
-        }
+        Some(Candidates {
+            clauses: &self.clauses,
+            places: procedure.places_of(first),
+        })
     }
 }
 
-/// Puts a clause after those of its procedure.
+/// Puts the place of a clause after those of its procedure.
 fn add(
     alloc: Global,
     index: &mut BTreeMap<Atom, Arities>,
-    clause: &Arc<Clause>,
+    place: usize,
+    clause: &Clause,
 ) -> Result<(), NoMemory>
-    ensures added { OnOk result (IsAdded index.old index.new (arc_value clause.now)) }
-    ensures head { is_callable (arc_value clause.now).head ≡ true }
+    ensures added { OnOk result (IsAdded index.old index.new place clause.now) }
+    ensures head { is_callable clause.now.head ≡ true }
 {
     let (name, arity) = indicator(clause.head())?;
+    let key = Key::of_head(clause.head())?;
     let mut arities = index.remove(&name).unwrap_or(BTreeMap::new(alloc));
-    add_to(alloc, &mut arities, arity, clause)?;
+    add_to(alloc, &mut arities, arity, place, key)?;
     index.insert(name, arities)?;
     Ok(())
 }
 
-/// Puts a clause after those with its number of arguments.
+/// Puts the place of a clause with this key after those with its number of arguments.
 fn add_to(
     alloc: Global,
     arities: &mut Arities,
     arity: u32,
-    clause: &Arc<Clause>,
+    place: usize,
+    key: Key,
 ) -> Result<(), NoMemory>
-    ensures { OnOk result (IsAddedTo arities.old arities.new arity (arc_value clause.now)) }
+    ensures { OnOk result (IsAddedTo arities.old arities.new arity place key) }
 {
-    let mut clauses = arities.remove(&arity).unwrap_or(Vec::new(alloc));
-    clauses.push(clause.clone()?)?;
-    arities.insert(arity, clauses)?;
+    let mut procedure = arities.remove(&arity).unwrap_or(Procedure::new(alloc));
+    procedure.put(alloc, place, key)?;
+    arities.insert(arity, procedure)?;
     Ok(())
 }
 
@@ -135,23 +124,26 @@ fn indicator(head: &FlatTerm) -> Result<(Atom, u32), NoMemory>
 #[derive(Drop)]
 pub struct Candidates<'a> {
     clauses: &'a [Arc<Clause>],
-    first: &'a Key,
+    places: Merged<'a>,
 }
 
 impl<'a> Model for Candidates<'a> {
-    ghost use Rattle.std.specs.Prelude.{List, map};
+    ghost use Rattle.std.specs.Prelude.{List, map, length, ◌<◌};
     ghost use Rattle.std.specs.Arc.{arc_value};
     ghost use Rattle.std.specs.Coded.{codes};
     ghost use Rattle.au_term.specs.PrefixOrder.{term_code};
     ghost use Rattle.run_model.specs.Programs.Clauses.{Clause as ClauseTerms};
+    ghost use Rattle.au_model.specs.Terms.Each.{Each};
 
     ghost Value = { List ClauseTerms };
 
     ghost coded = { Prim.hlevel (codes, term_code) };
 
-    ghost use Rattle.proc_index.specs.Keys.{matching};
+    ghost use Rattle.proc_index.specs.Places.{merged, clauses_at};
 
-    ghost view = { λ c. matching c.first.now (map arc_value c.clauses.now) };
+    ghost view = { λ c. clauses_at (map arc_value c.clauses.now) (merged c.places.left.now c.places.right.now) };
+
+    ghost invariant = { λ c. Each (λ i. i < length c.clauses.now) (merged c.places.left.now c.places.right.now) };
 }
 
 impl<'a> Iterator for Candidates<'a> {
@@ -162,12 +154,7 @@ impl<'a> Iterator for Candidates<'a> {
     ghost remaining = { item_count (λ s. s) };
 
     fn next(&mut self) -> Option<&'a Arc<Clause>> {
-        while let Some((clause, others)) = self.clauses.split_first() {
-            self.clauses = others;
-            if self.first.may_match(clause.head()) {
-                return Some(clause);
-            }
-        }
-        None
+        let place = self.places.take_least()?;
+        Some(&self.clauses[place])
     }
 }

@@ -3,5 +3,5 @@ use Rattle.std.specs.Arc.{arc_value}
 use Rattle.proc_index.specs.ProcedureIndex.{IsIndexOf}
 use Rattle.proc_index.proofs.procs.Procs.new.Given as goal
 
-abbrev pub invariant-loop-clause : goal.invariant-loop-clause
-invariant-loop-clause l = IsIndexOf l.index (map arc_value (take l.clause-index l.clause-items))
+abbrev pub invariant-loop-place : goal.invariant-loop-place
+invariant-loop-place l = IsIndexOf l.index (map arc_value (take l.place l.clause-items))
