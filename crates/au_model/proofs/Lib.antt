@@ -8,6 +8,7 @@ pub mod EquationOrderLemmas
 pub mod EachLemmas
 pub mod VariableBoundLemmas
 pub mod ListTermLemmas
+pub mod ListBuildingLemmas
 pub mod CopyLemmas
 pub mod EquationsInTurnLemmas
 pub mod PostOperatorLemmas

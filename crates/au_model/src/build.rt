@@ -3,7 +3,7 @@ ghost use Rattle.std.specs.Prelude.{◌≡◌, ◌<◌, ◌≤◌, IfOk, length,
 ghost use Rattle.std.specs.Str.{IsAscii};
 ghost use Rattle.au_term.specs.Term.{AtomTerm, Compound};
 ghost use Rattle.au_term.specs.PrefixOrder.{IsValidCell, arity, cells_of};
-ghost use Rattle.au_model.specs.Terms.Forms.{unary, binary, indicator};
+ghost use Rattle.au_model.specs.Terms.Forms.{unary, binary, indicator, list_term};
 ghost use Rattle.au_model.specs.Terms.Lists.{terms_from};
 
 use au_term::{Atom, Cell, FlatTerm, NoMemory, TermBuilder};
@@ -61,8 +61,36 @@ pub fn compound(alloc: Global, name: Atom, arguments: &[&FlatTerm]) -> Result<Fl
     Ok(builder.finish())
 }
 
+/// A compound of this name with these arguments.
+pub fn compound_of(alloc: Global, name: Atom, arguments: &[FlatTerm]) -> Result<FlatTerm, NoMemory>
+    requires some { 0 < length arguments.now }
+    requires most { length arguments.now ≤ 65535 }
+    ensures { IfOk result (λ t. t ≡ Compound name (terms_from arguments.now)) }
+{
+    let mut builder = TermBuilder::new(alloc);
+    builder.push(Cell::Functor(name, arguments.len() as u32))?;
+    for argument in arguments {
+        builder.push_all(argument.cells())?;
+    }
+    Ok(builder.finish())
+}
+
+/// The list of these terms.
+pub fn list_of(alloc: Global, items: &[FlatTerm]) -> Result<FlatTerm, NoMemory>
+    ensures { IfOk result (λ t. t ≡ list_term items.now) }
+{
+    let nil = atom(alloc, "[]")?;
+    let mut builder = TermBuilder::new(alloc);
+    for item in items {
+        builder.push(Cell::Functor(Atom::ascii(alloc, ".")?, 2))?;
+        builder.push_all(item.cells())?;
+    }
+    builder.push_all(nil.cells())?;
+    Ok(builder.finish())
+}
+
 /// The term of one cell.
-fn single(alloc: Global, cell: Cell) -> Result<FlatTerm, NoMemory>
+pub fn single(alloc: Global, cell: Cell) -> Result<FlatTerm, NoMemory>
     requires sound { IsValidCell cell }
     requires alone { arity cell ≡ 0 }
     ensures { IfOk result (λ t. cells_of t ≡ cell ∷ []) }

@@ -14,28 +14,13 @@ use Rattle.run_model.specs.Goals.Arithmetic.{Evaluated, value_of}
 use Rattle.run_model.specs.Goals.ArithmeticGoals.{with_value, is_answer, comparison_answer, comparison, arithmetic_goals}
 use Rattle.run_model.specs.Goals.StandardOrder.{order}
 use Rattle.run_model.specs.Goals.TermTests.{is_variable, is_integer, is_atom, is_compound, is_atomic, is_ground, test_row, type_tests, order_row, order_symbol, is_order_symbol, compare_answer, order_goals}
+use Rattle.run_model.specs.Goals.TermParts.{term_parts}
 use Rattle.run_model.specs.Goals.UnificationGoals.{apart_answer, unification_goals}
 use Rattle.run_model.specs.Goals.Builtins.{builtins}
 use Rattle.au_model.proofs.EachLemmas.{each-append}
+use Rattle.run_model.proofs.AnswerBoundLemmas.{IsAnswerBelow, row-below, holds-below, equal-below}
+use Rattle.run_model.proofs.TermPartBoundLemmas.{term_parts-below}
 use Rattle.run_model.proofs.BuiltinRowBoundLemmas.{IsSolutionBelow, IsOutcomeBelow, IsRowBelow, term-below}
-
-abbrev IsAnswerBelow : ℕ → Answer → Type 0
-IsAnswerBelow next (Ok solutions) = Each (IsSolutionBelow next) solutions
-IsAnswerBelow next (Err e) = Unit {0}
-
-row-below : (name : List ℕ) (arity : ℕ) (answer : Terms → ℕ → Answer) → ((ts : Terms) (next : ℕ) → count ts ≡ arity → all_bound ts ≤ next → IsAnswerBelow next (answer ts next)) → IsRowBelow (predicate name arity answer)
-row-below name arity answer h = λ ts next n k. by next (answer ts next) (h ts next n k)
-  where
-    by : (next : ℕ) (a : Answer) → IsAnswerBelow next a → IsOutcomeBelow next ((predicate name arity (λ ts k. a)).outcome end next)
-    by next (Ok solutions) k = k
-    by next (Err e) k = tt
-
-holds-below : (next : ℕ) (b : Bool) → IsAnswerBelow next (holds_if b)
-holds-below next true = ((omega arith, tt), tt)
-holds-below next false = tt
-
-equal-below : (next : ℕ) (a b : Term) → IsTermBelow next a → IsTermBelow next b → IsAnswerBelow next (equal a b)
-equal-below next a b h k = ((omega arith, tt), tt)
 
 -- tests
 test-below : (name : List ℕ) (test : Term → Bool) → IsRowBelow (test_row name test)
@@ -82,5 +67,5 @@ unification_goals-below =
 pub builtins_below : Each IsRowBelow builtins
 builtins_below = (
   λ ts next n h. let left = term-below 0 next ts (omega arith) h in let right = term-below 1 next ts (omega arith) h in ((omega arith, tt), tt),
-  each-append IsRowBelow unification_goals (type_tests ++ (order_goals ++ arithmetic_goals)) unification_goals-below (each-append IsRowBelow type_tests (order_goals ++ arithmetic_goals) type_tests-below (each-append IsRowBelow order_goals arithmetic_goals order_goals-below arithmetic_goals-below)),
+  each-append IsRowBelow unification_goals (type_tests ++ (order_goals ++ (arithmetic_goals ++ term_parts))) unification_goals-below (each-append IsRowBelow type_tests (order_goals ++ (arithmetic_goals ++ term_parts)) type_tests-below (each-append IsRowBelow order_goals (arithmetic_goals ++ term_parts) order_goals-below (each-append IsRowBelow arithmetic_goals term_parts arithmetic_goals-below term_parts-below))),
 )

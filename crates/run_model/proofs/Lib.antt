@@ -17,3 +17,5 @@ pub mod HeightLemmas
 pub mod ClauseTrialLemmas
 pub mod PlainEntryLemmas
 pub mod ReservedNameLemmas
+pub mod AnswerBoundLemmas
+pub mod TermPartBoundLemmas

@@ -1,6 +1,5 @@
 pub mod FrameListLemmas
 pub mod CopyLemmas
-pub mod ListTermLemmas
 pub mod FrameLemmas
 pub mod FreeStepLemmas
 pub mod ResumptionLemmas

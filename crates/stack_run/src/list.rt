@@ -3,8 +3,8 @@ ghost use Rattle.std.specs.Prelude.{◌≡◌, codes, IfOk};
 ghost use Rattle.run_model.specs.Programs.Bodies.{call_of};
 ghost use Rattle.au_model.specs.Terms.Forms.{list_term, binary};
 
-use au_model::build::{atom, binary, unary};
-use au_term::{Atom, Cell, FlatTerm, NoMemory, Shared, TermBuilder};
+use au_model::build::{binary, list_of, unary};
+use au_term::{FlatTerm, NoMemory, Shared};
 use std::alloc::Global;
 
 /// The call of a goal.
@@ -26,18 +26,4 @@ pub(crate) fn list_goal(
     let left = list.to_term(alloc)?;
     let right = list_of(alloc, items)?;
     Shared::from_term(alloc, binary(alloc, "=", &left, &right)?)
-}
-
-/// The list of these terms.
-fn list_of(alloc: Global, items: &[FlatTerm]) -> Result<FlatTerm, NoMemory>
-    ensures { IfOk result (λ t. t ≡ list_term items.now) }
-{
-    let nil = atom(alloc, "[]")?;
-    let mut builder = TermBuilder::new(alloc);
-    for item in items {
-        builder.push(Cell::Functor(Atom::ascii(alloc, ".")?, 2))?;
-        builder.push_all(item.cells())?;
-    }
-    builder.push_all(nil.cells())?;
-    Ok(builder.finish())
 }

@@ -6,7 +6,7 @@ use Rattle.std.specs.Cmp.Lexicographic.{same_text}
 use Rattle.std.proofs.lemmas.Bool.{eqb-true}
 use Rattle.au_model.specs.Terms.Each.{Each}
 use Rattle.au_model.specs.Terms.Forms.{same_name}
-use Rattle.run_model.specs.Goals.Control.{is_named, construct_of, control_constructs}
+use Rattle.run_model.specs.Goals.Control.{construct_of, control_constructs}
 use Rattle.std_builtins.specs.Controls.{IsControl, ControlRow, control_in}
 use Rattle.std_builtins.specs.Rows.{is_row}
 use Rattle.std_builtins.specs.declared.control.Control.{Control}

@@ -1,11 +1,11 @@
 -- Rows found by name and number of arguments.
-use Rattle.std.proofs.Common.{◌≡◌, ℕ, Bool, true, false, ◌&&◌, ◌==◌, cond, List, [], ◌∷◌, Option, Some, None, find, map, refl, sym, ap, ap₂, ◌∙◌, subst}
+use Rattle.std.proofs.Common.{◌≡◌, ℕ, Bool, true, false, ◌&&◌, ◌==◌, cond, List, [], ◌∷◌, Option, Some, None, map, refl, sym, ap₂, ◌∙◌, subst}
 use Rattle.std.specs.Prelude.{MatchOption}
 use Rattle.std.specs.Cmp.Lexicographic.{same_text}
 use Rattle.std.proofs.lemmas.Bool.{eqb-true}
 use Rattle.au_model.specs.Terms.Each.{Each}
 use Rattle.au_model.specs.Terms.Forms.{same_name}
-use Rattle.run_model.specs.Goals.Control.{Construct, is_named, construct_of}
+use Rattle.run_model.specs.Goals.Control.{Construct, construct_of}
 use Rattle.run_model.specs.Goals.BuiltinAnswers.{predicate}
 use Rattle.run_model.specs.Goals.Builtins.{builtins}
 use Rattle.std_builtins.specs.Meanings.{answer_of, arguments_of}

@@ -1,5 +1,5 @@
 -- What a call answers.
-use Rattle.std.specs.Prelude.{◌≡◌, ℕ, List, [], map, Result, Ok, Err, Vec}
+use Rattle.std.specs.Prelude.{◌≡◌, [], map, Result, Ok, Err, Vec}
 use Rattle.std.specs.Global.{Global}
 use Rattle.au_model.specs.Terms.Faults.{error_term_of}
 use Rattle.run_model.specs.Goals.Outcomes.{Solution as SolutionTerms}

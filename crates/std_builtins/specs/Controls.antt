@@ -1,5 +1,5 @@
 -- Which goals are of a control construct, by name and number of arguments.
-use Rattle.std.specs.Prelude.{◌≡◌, ◌⊎◌, ℕ, ◌≤◌, ◌&&◌, ◌==◌, Bool, cond, List, [], ◌∷◌, Option, Some, None, codes}
+use Rattle.std.specs.Prelude.{◌≡◌, ◌⊎◌, ℕ, ◌≤◌, cond, List, [], ◌∷◌, Option, Some, None, codes}
 use Rattle.std_builtins.specs.Rows.{is_row}
 use Rattle.std_builtins.specs.declared.control.Control.{Control}
 use Rattle.std_builtins.specs.declared.control.Control.TheVariants.{Succeed, Fail, Cut, Either, Then, Not, Once, Throw, Catch, Findall, Call}

@@ -1,5 +1,5 @@
 -- What the cases of the code mean.
-use Rattle.std.specs.Prelude.{◌≡◌, ℕ, Bool, not, ℤ, int_lt, int_le, List, [], ◌∷◌, is_none}
+use Rattle.std.specs.Prelude.{ℕ, Bool, not, ℤ, int_lt, int_le}
 use Rattle.std.specs.declared.cmp.Ordering.{Ordering}
 use Rattle.std.specs.Ordering.{int_eq, is_eq, is_ne, is_lt, is_le, is_gt, is_ge}
 use Rattle.au_term.specs.Term.{Term, Terms, term_at}
@@ -8,6 +8,7 @@ use Rattle.run_model.specs.Goals.BuiltinAnswers.{Answer, equal, holds_if}
 use Rattle.run_model.specs.Goals.ArithmeticGoals.{is_answer, comparison_answer}
 use Rattle.run_model.specs.Goals.StandardOrder.{order}
 use Rattle.run_model.specs.Goals.TermTests.{is_variable, is_integer, is_atom, is_compound, is_atomic, is_ground, compare_answer}
+use Rattle.run_model.specs.Goals.TermParts.{functor_answer, argument_answer, parts_answer, copy_answer}
 use Rattle.run_model.specs.Goals.UnificationGoals.{apart_answer}
 use Rattle.std_builtins.specs.declared.type_tests.TypeTest.{TypeTest}
 use Rattle.std_builtins.specs.declared.type_tests.TypeTest.TheVariants as type
@@ -53,6 +54,10 @@ answer_of (goal.Order test) ts next = holds_if (order_test test (order (term_at 
 answer_of goal.Compare ts next = compare_answer (term_at 0 ts) (term_at 1 ts) (term_at 2 ts)
 answer_of goal.Is ts next = is_answer (term_at 0 ts) (term_at 1 ts)
 answer_of (goal.Value test) ts next = comparison_answer (value_test test) (term_at 0 ts) (term_at 1 ts)
+answer_of goal.Functor ts next = functor_answer (term_at 0 ts) (term_at 1 ts) (term_at 2 ts) next
+answer_of goal.Argument ts next = argument_answer (term_at 0 ts) (term_at 1 ts) (term_at 2 ts)
+answer_of goal.Parts ts next = parts_answer (term_at 0 ts) (term_at 1 ts)
+answer_of goal.Copy ts next = copy_answer (term_at 0 ts) (term_at 1 ts) next
 
 abbrev pub arguments_of : Builtin → ℕ
 arguments_of goal.Unify = 2
@@ -62,3 +67,7 @@ arguments_of (goal.Order test) = 2
 arguments_of goal.Compare = 3
 arguments_of goal.Is = 2
 arguments_of (goal.Value test) = 2
+arguments_of goal.Functor = 3
+arguments_of goal.Argument = 3
+arguments_of goal.Parts = 2
+arguments_of goal.Copy = 2

@@ -1,7 +1,7 @@
 -- The table of built-in predicates and the code's.
 use Rattle.std.specs.Prelude.{◌≡◌, ℕ, cond, ◌&&◌, ◌==◌, Bool, List, [], ◌∷◌, Option, Some, None}
 use Rattle.au_model.specs.Terms.Forms.{same_name}
-use Rattle.run_model.specs.Goals.Control.{Construct, construct_of}
+use Rattle.run_model.specs.Goals.Control.{construct_of}
 use Rattle.run_model.specs.Goals.BuiltinAnswers.{predicate}
 use Rattle.run_model.specs.Goals.Builtins.{builtins}
 use Rattle.std_builtins.specs.declared.table.Builtin.{Builtin}

@@ -1,7 +1,7 @@
 //! What a built-in predicate answers.
 ghost use Rattle.std.specs.Prelude.{◌≡◌, ◌∷◌, [], Ok, Err};
 ghost use Rattle.au_model.specs.Terms.Faults.{error_term_of};
-ghost use Rattle.run_model.specs.Goals.BuiltinAnswers.{holds_if, equal};
+ghost use Rattle.run_model.specs.Goals.BuiltinAnswers.{holds_if, equal, one_solution};
 ghost use Rattle.std_builtins.specs.Answers.{IsAnswer};
 
 use au_model::Fault;
@@ -62,8 +62,36 @@ pub(crate) fn equal(
 ) -> Result<Vec<Solution>, BuiltinRefusal>
     ensures { IsAnswer (equal left right) result }
 {
+    equal_with(alloc, left, right, 0)
+}
+
+/// One solution with new variables, where two terms unify.
+pub(crate) fn equal_with(
+    alloc: Global,
+    left: FlatTerm,
+    right: FlatTerm,
+    vars: u64,
+) -> Result<Vec<Solution>, BuiltinRefusal>
+    ensures { IsAnswer (Ok (record { equations = (left, right) ∷ []; goals = []; variables = vars } ∷ [])) result }
+{
     let mut equations = Vec::new(alloc);
     equations.push((left, right))?;
+    let mut solutions = Vec::new(alloc);
+    solutions.push(Solution { equations, vars })?;
+    Ok(solutions)
+}
+
+/// One solution, where the terms of two pairs unify.
+pub(crate) fn both_equal(
+    alloc: Global,
+    first: (FlatTerm, FlatTerm),
+    second: (FlatTerm, FlatTerm),
+) -> Result<Vec<Solution>, BuiltinRefusal>
+    ensures { IsAnswer (one_solution (first ∷ second ∷ [])) result }
+{
+    let mut equations = Vec::new(alloc);
+    equations.push(first)?;
+    equations.push(second)?;
     let mut solutions = Vec::new(alloc);
     solutions.push(Solution { equations, vars: 0 })?;
     Ok(solutions)

@@ -1,6 +1,4 @@
 //! Goals that evaluate (ISO/IEC 13211-1, 8.6 and 8.7).
-ghost use Rattle.std.specs.Prelude.{◌≡◌, IfOk};
-ghost use Rattle.au_term.specs.Term.{IntTerm};
 ghost use Rattle.run_model.specs.Goals.ArithmeticGoals.{is_answer, comparison_answer, with_value};
 ghost use Rattle.run_model.specs.Goals.Arithmetic.{value_of};
 ghost use Rattle.run_model.specs.Goals.BuiltinAnswers.{holds_if};
@@ -9,8 +7,9 @@ ghost use Rattle.std_builtins.specs.Meanings.{value_test};
 
 use crate::answer::{BuiltinRefusal, Solution, equal, failed, holds_if};
 use crate::comparisons::Comparison;
+use crate::integers::integer;
 use arith_eval::{EvalRefusal, eval};
-use au_term::{Cell, FlatTerm, NoMemory};
+use au_term::FlatTerm;
 use std::alloc::Global;
 
 /// What `X is E` answers.
@@ -58,11 +57,4 @@ fn compared_to(
         Err(EvalRefusal::Fault(fault)) => failed(fault),
         Err(EvalRefusal::NoMemory) => Err(BuiltinRefusal::NoMemory),
     }
-}
-
-/// An integer.
-fn integer(alloc: Global, value: i64) -> Result<FlatTerm, NoMemory>
-    ensures { IfOk result (λ t. t ≡ IntTerm value) }
-{
-    FlatTerm::from_slice(alloc, &[Cell::Int(value)])
 }

@@ -5,8 +5,11 @@ ghost use Rattle.std_builtins.specs.Answers.{IsAnswer};
 ghost use Rattle.std_builtins.specs.Meanings.{answer_of, arguments_of};
 
 use crate::answer::{BuiltinRefusal, Solution, equal, holds_if};
+use crate::argument::argument;
 use crate::arithmetic::{compared_values, is};
 use crate::comparisons::compared;
+use crate::functor::functor;
+use crate::parts::{copied, parts};
 use crate::table::Builtin;
 use crate::unification::differ;
 use au_term::{FlatTerm, VarNo};
@@ -25,7 +28,6 @@ impl Builtin {
         requires { length args.now ≡ arguments_of self }
         ensures { IsAnswer (answer_of self (terms_from args.now) next) result }
     {
-        let _next = next;
         match self {
             Builtin::Unify => equal(alloc, args[0].copy()?, args[1].copy()?),
             Builtin::Differ => holds_if(alloc, differ(alloc, &args[0], &args[1])?),
@@ -34,6 +36,10 @@ impl Builtin {
             Builtin::Compare => compared(alloc, &args[0], &args[1], &args[2]),
             Builtin::Is => is(alloc, &args[0], &args[1]),
             Builtin::Value(test) => compared_values(alloc, test, &args[0], &args[1]),
+            Builtin::Functor => functor(alloc, &args[0], &args[1], &args[2], next),
+            Builtin::Argument => argument(alloc, &args[0], &args[1], &args[2]),
+            Builtin::Parts => parts(alloc, &args[0], &args[1]),
+            Builtin::Copy => copied(alloc, &args[0], &args[1], next),
         }
     }
 }

@@ -2,10 +2,15 @@
 #![tactic(auto)]
 
 pub mod answer;
+mod argument;
 mod arithmetic;
 mod call;
 pub mod comparisons;
 pub mod control;
+mod functor;
+mod integers;
+mod lists;
+mod parts;
 pub mod table;
 #[cfg(test)]
 mod tests;

@@ -19,10 +19,14 @@ pub enum Builtin {
     Compare,
     Is,
     Value(Comparison),
+    Functor,
+    Argument,
+    Parts,
+    Copy,
 }
 
 /// Each built-in predicate with its name and number of arguments.
-const BUILTINS: [(&str, u32, Builtin); 26] = [
+const BUILTINS: [(&str, u32, Builtin); 30] = [
     ("=", 2, Builtin::Unify),
     ("\\=", 2, Builtin::Differ),
     ("unify_with_occurs_check", 2, Builtin::Unify),
@@ -49,6 +53,10 @@ const BUILTINS: [(&str, u32, Builtin); 26] = [
     ("=<", 2, Builtin::Value(Comparison::AtMost)),
     (">", 2, Builtin::Value(Comparison::Greater)),
     (">=", 2, Builtin::Value(Comparison::AtLeast)),
+    ("functor", 3, Builtin::Functor),
+    ("arg", 3, Builtin::Argument),
+    ("=..", 2, Builtin::Parts),
+    ("copy_term", 2, Builtin::Copy),
 ];
 
 /// The built-in predicate of this name and number of arguments, if there is one.

@@ -1,4 +1,4 @@
-use Rattle.std.proofs.Common.{◌≡◌, [], ◌∙◌, ap}
+use Rattle.std.proofs.Common.{◌∙◌, ap}
 use Rattle.bind_store.specs.StoreView.{with_numbers}
 use Rattle.std_builtins.proofs.AnswerLemmas.{unified_or_not}
 use Rattle.std_builtins.proofs.unification.differ.Goals as goal

@@ -3,9 +3,9 @@ use Rattle.std.proofs.lemmas.List.{drop_more, drop_all}
 use Rattle.au_term.specs.PrefixOrder.{cells_of, AreDue, due_after}
 use Rattle.au_term.specs.declared.cell.Cell.TheVariants.{Functor}
 use Rattle.au_model.specs.Terms.Forms.{list_term}
-use Rattle.stack_run.proofs.ListTermLemmas.{list_due, list_item_due, list_further, nil_due, list_whole, list_built}
-use Rattle.stack_run.proofs.list.list_of.Goals as goal
-use Rattle.stack_run.proofs.list.list_of.Goals.{After-loop-item, After-item-item}
+use Rattle.au_model.proofs.ListBuildingLemmas.{list_due, list_item_due, list_further, nil_due, list_whole, list_built}
+use Rattle.au_model.proofs.build.list_of.Goals as goal
+use Rattle.au_model.proofs.build.list_of.Goals.{After-loop-item, After-item-item}
 
 read : (c : After-item-item) → c.loop-item.builder ++ cells_of (list_term (c.item-item.result ∷ drop (c.loop-item.item-index + 1) c.args.items.now)) ≡ cells_of (list_term c.args.items.now)
 read c =
