@@ -16,4 +16,4 @@ pub mod OlderLemmas
 pub mod StoreLemmas
 pub mod DereferenceLemmas
 pub mod RebindingLemmas
-pub mod PlaceLemmas
+pub mod BindingPlaceLemmas

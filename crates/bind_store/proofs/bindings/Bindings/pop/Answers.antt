@@ -1,6 +1,6 @@
 use Rattle.std.proofs.Common.{◌<◌, length, ◌∙◌, ap, subst, arith}
 use Rattle.bind_store.specs.Bindings.{IsConsistent, place_in}
-use Rattle.bind_store.proofs.PlaceLemmas.{place_popped, place_there}
+use Rattle.bind_store.proofs.BindingPlaceLemmas.{place_popped, place_there}
 use Rattle.bind_store.proofs.ResolvedLemmas.{consistent_front, free_pushed}
 use Rattle.bind_store.proofs.bindings.Bindings.pop.Goals as goal
 use Rattle.bind_store.proofs.bindings.Bindings.pop.Goals.{In-Some}

@@ -2,7 +2,7 @@ use Rattle.std.proofs.Common.{◌≡◌, ◌∷◌, [], ◌++◌, false, suc, co
 use Rattle.au_term.specs.PrefixOrder.{top_of}
 use Rattle.au_model.specs.Terms.Substitutions.{occurs, resolve}
 use Rattle.bind_store.specs.Bindings.{IsUnboundIn, IsReached, IsConsistent, substitution_of, place_in, place_from}
-use Rattle.bind_store.proofs.PlaceLemmas.{place_pushed}
+use Rattle.bind_store.proofs.BindingPlaceLemmas.{place_pushed}
 use Rattle.bind_store.proofs.ResolvedLemmas.{consistent_more}
 use Rattle.bind_store.proofs.bindings.Bindings.push.Goals as goal
 

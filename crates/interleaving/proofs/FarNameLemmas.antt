@@ -1,0 +1,224 @@
+-- What names nothing inside but by marks goes on so.
+use Rattle.std.proofs.Common.{ℕ, zero, suc, ◌+◌, Bool, true, false, cond, List, [], ◌∷◌, ◌++◌, map, Option, Some, None, sym, ap, ◌∙◌}
+use Rattle.au_term.specs.Term.{Term}
+use Rattle.au_model.specs.Terms.Each.{Each}
+use Rattle.au_model.specs.Terms.Substitutions.{Substitution}
+use Rattle.au_model.specs.Terms.Unifier.{unifier}
+use Rattle.au_model.specs.Terms.Copies.{copied}
+use Rattle.run_model.specs.Programs.Clauses.{Clause}
+use Rattle.run_model.specs.Programs.Databases.{Database, without_clause}
+use Rattle.run_model.specs.Goals.Worlds.{world_step}
+use Rattle.run_model.specs.Goals.GoalOutcomes.{outcome_of}
+use Rattle.run_model.specs.Goals.Outcomes.{Solution, Reply, Solutions, Ball, HaltNumber, ControlForm, GoesOnWith, EitherOf, TestOf, CutToScope, CatchOf, FindallOf, Outcome, Replies, Controls, AskWorld}
+use Rattle.run_model.specs.Machine.Items.{Item, GoalItem, CatchMark, CollectMark, RemovalItem, Continuation, resolve_item, goals_at, with_items, with_next, before, without_marks, first_mark}
+use Rattle.interleaving.specs.Machine.{Look, On, Here}
+use Rattle.tree_model.specs.Elements.{Name, same, Record, Element, Credit, Plain, EndOf, Catch, Findall, End}
+use Rattle.interleaving.specs.Scopes.{left_standing, Shared, Sought, Scope, Thrown, Caught, Does, Lands, unified, solution_entries, reply_place, test_items, control_place, goal_act, removed, unmarked, item_act, act, recovered, look, with_result, give, scoped}
+use Rattle.interleaving.specs.Views.{IsApart, IsBeside}
+use Rattle.interleaving.proofs.RunFrontLemmas.{each-append, append-assoc-at, PlaceOk, ActOk, LookOk, Closed}
+
+module _ (inside : Name → Bool) where
+  abbrev pub IsItemFar : Item Name → Type 0
+  IsItemFar (GoalItem t h) = IsApart inside h
+  IsItemFar (CatchMark s) = Unit {0}
+  IsItemFar (CollectMark t s) = Unit {0}
+  IsItemFar (RemovalItem number) = Unit {0}
+
+  -- marks are free
+  abbrev pub IsFar : Element → Type 0
+  IsFar (Credit k rs) = Unit {0}
+  IsFar (Plain p f) = IsBeside inside p × Each IsItemFar f.items
+  IsFar (EndOf s) = Unit {0}
+  IsFar (Catch s u c r p f) = IsApart inside u × IsBeside inside p × Each IsItemFar f.items
+  IsFar (Findall s u results list p f) = IsApart inside u × IsBeside inside p × Each IsItemFar f.items
+  IsFar (End p ball) = Unit {0}
+
+abbrev pub IsAnyRecord : Record → Type 0
+IsAnyRecord r = Unit {0}
+
+any_records : (rs : List Record) → Each IsAnyRecord rs
+any_records [] = tt
+any_records (r ∷ rs) = (tt, any_records rs)
+
+module _ (clauses : List Clause) (inside : Name → Bool) where
+  abbrev S : Type 0
+  S = List (Item Name)
+
+  abbrev Apart : Name → Type 0
+  Apart s = IsApart inside s
+
+  abbrev Items : S → Type 0
+  Items items = Each (IsItemFar inside) items
+
+  abbrev Blind : Element → Type 0
+  Blind x = IsFar inside x
+
+  abbrev pub IsSoughtFar : Sought → Type 0
+  IsSoughtFar (Scope h x) = IsApart inside h × IsFar inside x
+  IsSoughtFar (Thrown b mark o) = Unit {0}
+  IsSoughtFar (Caught b h o) = Unit {0}
+
+  abbrev PlaceBlind : Lands → Type 0
+  PlaceBlind p = PlaceOk (scoped clauses) (IsFar inside) IsSoughtFar IsAnyRecord p
+
+  abbrev ActBlind : Does → Type 0
+  ActBlind a = ActOk (scoped clauses) (IsFar inside) IsSoughtFar IsAnyRecord a
+
+  abbrev LookBlind : Look Element Sought → Type 0
+  LookBlind a = LookOk (scoped clauses) (IsFar inside) IsSoughtFar IsAnyRecord a
+
+  beside_child : (s : Name) (i : ℕ) → IsBeside inside s → IsBeside inside (i ∷ s)
+  beside_child s i h = λ more. ap inside (sym (append-assoc-at more (i ∷ []) s)) ∙ h (more ++ i ∷ [])
+
+  goals-apart : (h : Name) (gs : List Term) (items : S) → Apart h → Items items → Items (goals_at h gs ++ items)
+  goals-apart h [] items k i = i
+  goals-apart h (g ∷ gs) items k i = (k, goals-apart h gs items k i)
+
+  resolved-apart : (s : Substitution) (items : S) → Items items → Items (map (resolve_item s) items)
+  resolved-apart s [] h = tt
+  resolved-apart s (CatchMark k ∷ items) h = (tt, resolved-apart s items h.1)
+  resolved-apart s (GoalItem g k ∷ items) h = (h.0, resolved-apart s items h.1)
+  resolved-apart s (CollectMark t k ∷ items) h = (tt, resolved-apart s items h.1)
+  resolved-apart s (RemovalItem n ∷ items) h = (tt, resolved-apart s items h.1)
+
+  unified-blind : (o : Option Substitution) (p : Name) (f : Continuation Name) → IsBeside inside p → Items f.items
+      → Each Blind (unified o p f)
+  unified-blind None p f b i = tt
+  unified-blind (Some s) p f b i = ((b, resolved-apart s f.items i), tt)
+
+  solutions-blind : (n : ℕ) (p : Name) (f : Continuation Name) (ss : List Solution) → IsBeside inside p → Items f.items
+      → Each Blind (solution_entries n p f ss)
+  solutions-blind n p f [] b i = (tt, tt)
+  solutions-blind n p f (s ∷ ss) b i =
+      let one : Continuation Name = with_next (f.next + s.variables) (before (goals_at p s.goals) f) in
+      each-append Blind (unified (unifier s.equations) (n ∷ p) one) (solution_entries (suc n) p f ss)
+      (unified-blind (unifier s.equations) (n ∷ p) one (beside_child p n b) (goals-apart p s.goals f.items (b []) i))
+      (solutions-blind (suc n) p f ss b i)
+
+  reply-blind : (r : Reply) (p : Name) (f : Continuation Name) → IsBeside inside p → Items f.items → PlaceBlind (reply_place r p f)
+  reply-blind (Solutions ss) p f b i = solutions-blind zero p f ss b i
+  reply-blind (Ball t) p f b i = tt
+  reply-blind (HaltNumber k) p f b i = tt
+
+  control-blind : (o : ControlForm) (p h : Name) (f : Continuation Name) → IsBeside inside p → Apart h → Items f.items
+      → PlaceBlind (control_place o p h f)
+  control-blind (GoesOnWith gs) p h f b k i = ((beside_child p 0 b, goals-apart p gs f.items (b []) i), (tt, tt))
+  control-blind (EitherOf gs others) p h f b k i =
+      ((beside_child p 0 b, goals-apart h gs f.items k i), ((beside_child p 1 b, goals-apart h others f.items k i), tt))
+  control-blind (TestOf gs thens others) p h f b k i =
+      ((beside_child p 0 b, test-apart gs), (tt, ((beside_child p 1 b, goals-apart h others f.items k i), (tt, tt))))
+    where
+      test-apart : (gs : List Term) → Items (test_items (2 ∷ p) p h gs thens ++ f.items)
+      test-apart [] = (b [], goals-apart h thens f.items k i)
+      test-apart (g ∷ gs) = (beside_child p 2 b [], test-apart gs)
+  control-blind CutToScope p h f b k i = (k, (b, i))
+  control-blind (CatchOf g c r) p h f b k i =
+      ((beside_child p 0 b, (beside_child p 2 b [], (tt, i))), (tt, ((b [], beside_child p 1 b, i), (tt, tt))))
+  control-blind (FindallOf t g l) p h f b k i =
+      ((beside_child p 0 b, (beside_child p 2 b [], (tt, i))), (tt, ((b [], beside_child p 1 b, i), (tt, tt))))
+
+  goal-blind : (o : Outcome) (p h : Name) (f : Continuation Name) → IsBeside inside p → Apart h → Items f.items
+      → ActBlind (goal_act clauses o p h f)
+  goal-blind (Replies (Solutions ss)) p h f b k i = reply-blind (Solutions ss) p f b i
+  goal-blind (Replies (Ball t)) p h f b k i = reply-blind (Ball t) p f b i
+  goal-blind (Replies (HaltNumber n)) p h f b k i = λ w. tt
+  goal-blind (Controls form) p h f b k i = control-blind form p h f b k i
+  goal-blind (AskWorld g) p h f b k i = λ w. reply-blind (world_step clauses g f.next w.world).1 p f b i
+
+  removed-blind : (o : Option Database) (p : Name) (f : Continuation Name) (w : Shared) → IsBeside inside p → Items f.items
+      → PlaceBlind (removed o p f w).1
+  removed-blind None p f w b i = tt
+  removed-blind (Some db) p f w b i = ((b, i), tt)
+
+  unmarked-blind : (items : S) (p : Name) (f : Continuation Name) → IsBeside inside p → Items items → ActBlind (unmarked items p f)
+  unmarked-blind [] p f b i = (b, i)
+  unmarked-blind (CollectMark t s ∷ items) p f b i = (tt, tt)
+  unmarked-blind (GoalItem t s ∷ items) p f b i = (b, i)
+  unmarked-blind (CatchMark s ∷ items) p f b i = (b, i)
+  unmarked-blind (RemovalItem s ∷ items) p f b i = (b, i)
+
+  marks-apart : (items : S) → Items items → Items (without_marks items)
+  marks-apart [] h = tt
+  marks-apart (CatchMark s ∷ items) h = marks-apart items h.1
+  marks-apart (GoalItem g k ∷ items) h = h
+  marks-apart (CollectMark t s ∷ items) h = h
+  marks-apart (RemovalItem n ∷ items) h = h
+
+  items-blind : (items : S) (p : Name) (f : Continuation Name) → IsBeside inside p → Items items → ActBlind (item_act clauses items p f)
+  items-blind [] p f b i = λ w. tt
+  items-blind (GoalItem g h ∷ items) p f b i = goal-blind (outcome_of clauses g f.next) p h (with_items items f) b i.0 i.1
+  items-blind (RemovalItem n ∷ items) p f b i = λ w. removed-blind (without_clause n w.world.database) p (with_items items f) w b i.1
+  items-blind (CatchMark s ∷ items) p f b i = unmarked-blind (without_marks items) p f b (marks-apart items i.1)
+  items-blind (CollectMark t s ∷ items) p f b i = (tt, tt)
+
+  act-blind : (x : Element) → Blind x → ActBlind (act clauses x)
+  act-blind (Credit zero rs) h = any_records rs
+  act-blind (Credit (suc k) rs) h = (tt, tt)
+  act-blind (Plain p f) h = items-blind f.items p f h.0 h.1
+  act-blind (EndOf s) h = tt
+  act-blind (Catch s u c r p f) h = tt
+  act-blind (Findall s u results list p f) h = (h.1, (h.0, h.2))
+  act-blind (End p b) h = λ w. tt
+
+  either_look : (t : Bool) (a b : Look Element Sought) → LookBlind a → LookBlind b → LookBlind (cond t a b)
+  either_look true a b h k = h
+  either_look false a b h k = k
+
+  recovered-blind : (o : Option Substitution) (b r : Term) (u p : Name) (f : Continuation Name) (q : Sought) → Apart u
+      → IsBeside inside p → Items f.items → IsSoughtFar q → LookBlind (recovered o b r u p f q)
+  recovered-blind None b r u p f q a h i k = k
+  recovered-blind (Some s) b r u p f q a h i k = ((h, (a, resolved-apart s f.items i)), tt)
+
+  look-blind : (q : Sought) (x : Element) → IsSoughtFar q → Blind x → LookBlind (look q x)
+  look-blind (Scope h y) (EndOf s) k b = either_look (same h s) (Here (y ∷ EndOf s ∷ [])) (On (Scope h y)) (k.1, (tt, tt)) k
+  look-blind (Scope h y) (Credit j rs) k b = k
+  look-blind (Scope h y) (Plain p f) k b = k
+  look-blind (Scope h y) (Catch s u c r p f) k b = k
+  look-blind (Scope h y) (Findall s u results list p f) k b = k
+  look-blind (Scope h y) (End p o) k b = k
+  look-blind (Thrown b None o) (EndOf s) k h = k
+  look-blind (Thrown b None o) (Credit j rs) k h = k
+  look-blind (Thrown b None o) (Plain p f) k h = k
+  look-blind (Thrown b None o) (Catch s u c r p f) k h = k
+  look-blind (Thrown b None o) (Findall s u results list p f) k h = k
+  look-blind (Thrown b None o) (End p e) k h = k
+  look-blind (Thrown b (Some m) o) (EndOf s) k h = either_look (same m s) (On (Caught b m o)) (On (Thrown b (Some m) o)) k k
+  look-blind (Thrown b (Some m) o) (Credit j rs) k h = k
+  look-blind (Thrown b (Some m) o) (Plain p f) k h = k
+  look-blind (Thrown b (Some m) o) (Catch s u c r p f) k h = k
+  look-blind (Thrown b (Some m) o) (Findall s u results list p f) k h = k
+  look-blind (Thrown b (Some m) o) (End p e) k h = k
+  look-blind (Caught b m o) (Catch s u c r p f) k h =
+      let next : Sought = Thrown b (first_mark f.items) o in
+      let take : Option Substitution = unifier ((c, copied b f.next) ∷ []) in
+      either_look (same m s) (recovered take b r u p f next) (On (Caught b m o)) (recovered-blind take b r u p f next h.0 h.1 h.2 tt) k
+  look-blind (Caught b m o) (EndOf s) k h = k
+  look-blind (Caught b m o) (Credit j rs) k h = k
+  look-blind (Caught b m o) (Plain p f) k h = k
+  look-blind (Caught b m o) (Findall s u results list p f) k h = k
+  look-blind (Caught b m o) (End p e) k h = k
+
+  either_blind : (t : Bool) (x y : Element) → Blind x → Blind y → Blind (cond t x y)
+  either_blind true x y h k = h
+  either_blind false x y h k = k
+
+  give-blind : (r : Record) (x : Element) → IsAnyRecord r → Blind x → Blind (give r x)
+  give-blind r (Findall s u results list p f) k b = either_blind (same r.0 s) (with_result r.1 s u results list p f)
+      (Findall s u results list p f) b b
+  give-blind r (Credit j rs) k b = b
+  give-blind r (Plain p f) k b = b
+  give-blind r (EndOf s) k b = b
+  give-blind r (Catch s u c q p f) k b = b
+  give-blind r (End p o) k b = b
+
+  -- what names nothing inside goes on so
+  pub far_closed : Closed (scoped clauses) (IsFar inside) IsSoughtFar IsAnyRecord
+  far_closed = record { acts = act-blind; looks = look-blind; given = give-blind }
+
+  pub far_stands : (x : Element) → IsFar inside x → IsFar inside (left_standing x)
+  far_stands (Plain p f) h = (h.0, marks-apart f.items h.1)
+  far_stands (Credit j rs) h = h
+  far_stands (EndOf s) h = h
+  far_stands (Catch s u c q p f) h = h
+  far_stands (Findall s u results list p f) h = h
+  far_stands (End p o) h = h

@@ -1,0 +1,89 @@
+-- The free steps of own entries with heights are free steps by names.
+use Rattle.std.proofs.Common.{◌≡◌, inl, inr, ℕ, suc, ◌-◌, ◌+◌, ◌≤◌, ◌==◌, Bool, true, false, cond, List, [], ◌∷◌, ◌++◌, length, length-append, refl, sym, ap, ◌∙◌, arith}
+use Rattle.std.proofs.lemmas.Bool.{eq-eqb, eqb-true, false≢true}
+use Rattle.au_term.specs.Term.{Term}
+use Rattle.au_model.specs.Terms.Each.{Each}
+use Rattle.run_model.specs.Machine.Entries.{Entry, with_result, collected}
+use Rattle.tree_model.specs.Elements.{Name, Element, Credit, Plain, EndOf, Catch, Findall, End}
+use Rattle.interleaving.specs.Erased.{count}
+use Rattle.interleaving.specs.Views.{IsInner, IsUnder}
+use Rattle.interleaving.proofs.GivenRecordLemmas.{StandsAt, stands-low}
+
+-- where a findall entry is, by whether it is inside
+stands-none : (inside : Name → Bool) (zs : List Element) (s : Name) (h : ℕ) → Each (IsUnder inside) zs → inside s ≡ true
+    → StandsAt zs s h → ⊥
+stands-none inside [] s h u i k = k
+stands-none inside (EndOf e ∷ zs) s h u i k = stands-none inside zs s h u.1 i k
+stands-none inside (Credit j rs ∷ zs) s h u i k = stands-none inside zs s h u.1 i k
+stands-none inside (Plain p f ∷ zs) s h u i k = stands-none inside zs s h u.1 i k
+stands-none inside (Catch e v c r p f ∷ zs) s h u i k = stands-none inside zs s h u.1 i k
+stands-none inside (End p b ∷ zs) s h u i k = stands-none inside zs s h u.1 i k
+stands-none inside (Findall e v results list p f ∷ zs) s h u i (inl k) = false≢true (sym u.0 ∙ ap inside k.0 ∙ i)
+stands-none inside (Findall e v results list p f ∷ zs) s h u i (inr k) = stands-none inside zs s h u.1 i k.1
+
+pub count-after : (xs ls : List Element) → count ls ≤ count (xs ++ ls)
+count-after [] ls = omega arith
+count-after (EndOf e ∷ xs) ls = count-after xs ls
+count-after (Credit k rs ∷ xs) ls = omega (arith, count-after xs ls)
+count-after (Plain p f ∷ xs) ls = omega (arith, count-after xs ls)
+count-after (Catch e u c r p f ∷ xs) ls = omega (arith, count-after xs ls)
+count-after (Findall e u results list p f ∷ xs) ls = omega (arith, count-after xs ls)
+count-after (End p b ∷ xs) ls = omega (arith, count-after xs ls)
+
+pub stands-high : (inside : Name → Bool) (xs zs : List Element) (s : Name) (h : ℕ) → Each (IsUnder inside) zs → inside s ≡ true
+    → StandsAt (xs ++ zs) s h → count zs ≤ h
+stands-high inside [] zs s h u i k = absurd (stands-none inside zs s h u i k)
+stands-high inside (EndOf e ∷ xs) zs s h u i k = stands-high inside xs zs s h u i k
+stands-high inside (Credit j rs ∷ xs) zs s h u i k = stands-high inside xs zs s h u i k
+stands-high inside (Plain p f ∷ xs) zs s h u i k = stands-high inside xs zs s h u i k
+stands-high inside (Catch e v c r p f ∷ xs) zs s h u i k = stands-high inside xs zs s h u i k
+stands-high inside (End p b ∷ xs) zs s h u i k = stands-high inside xs zs s h u i k
+stands-high inside (Findall e v results list p f ∷ xs) zs s h u i (inl k) = omega (arith, k.1, count-after xs zs)
+stands-high inside (Findall e v results list p f ∷ xs) zs s h u i (inr k) = stands-high inside xs zs s h u i k.1
+
+pub stands-deep : (inside : Name → Bool) (xs zs : List Element) (s : Name) (h : ℕ) → Each (IsInner inside) xs → inside s ≡ false
+    → StandsAt (xs ++ zs) s h → suc h ≤ count zs
+stands-deep inside [] zs s h u i k = stands-low zs s h k
+stands-deep inside (EndOf e ∷ xs) zs s h u i k = stands-deep inside xs zs s h u.1 i k
+stands-deep inside (Credit j rs ∷ xs) zs s h u i k = stands-deep inside xs zs s h u.1 i k
+stands-deep inside (Plain p f ∷ xs) zs s h u i k = stands-deep inside xs zs s h u.1 i k
+stands-deep inside (Catch e v c r p f ∷ xs) zs s h u i k = stands-deep inside xs zs s h u.1 i k
+stands-deep inside (End p b ∷ xs) zs s h u i k = stands-deep inside xs zs s h u.1 i k
+stands-deep inside (Findall e v results list p f ∷ xs) zs s h u i (inl k) = absurd (false≢true (sym i ∙ ap inside (sym k.0) ∙ u.0.0))
+stands-deep inside (Findall e v results list p f ∷ xs) zs s h u i (inr k) = stands-deep inside xs zs s h u.1 i k.1
+
+-- a result given over a floor
+collected-none : (h : ℕ) (t : Term) (floor : List Entry) → length floor ≤ h → collected h t floor ≡ floor
+collected-none h t [] k = refl
+collected-none h t (e ∷ es) k = ap (λ b. cond b (with_result t e ∷ es) (e ∷ collected h t es)) (other (length es) (omega arith))
+    ∙ ap (λ l. e ∷ l) (collected-none h t es (omega arith))
+  where
+    other : (a : ℕ) → suc a ≤ h → (a == h) ≡ false
+    other a low = go (a == h) refl
+      where
+        go : (b : Bool) → (a == h) ≡ b → b ≡ false
+        go true e = let equal = eqb-true a h e in absurd (omega (arith, low, equal))
+        go false e = refl
+
+shifted : (a b h low : ℕ) → b ≡ a + low → low ≤ h → (b == h) ≡ (a == (h - low))
+shifted a b h low e k = go (b == h) refl (a == (h - low)) refl
+  where
+    go : (s : Bool) → (b == h) ≡ s → (t : Bool) → (a == (h - low)) ≡ t → s ≡ t
+    go true p true q = refl
+    go false p false q = refl
+    go true p false q = let equal = eqb-true b h p in sym (eq-eqb a (h - low) (omega (arith, equal, e, k))) ∙ q
+    go false p true q = let equal = eqb-true a (h - low) q in sym p ∙ eq-eqb b h (omega (arith, equal, e, k))
+
+pub collected-over : (h : ℕ) (t : Term) (es floor : List Entry) → length floor ≤ h → collected h t (es ++ floor)
+    ≡ collected (h - length floor) t es ++ floor
+collected-over h t [] floor k = collected-none h t floor k
+collected-over h t (e ∷ es) floor k =
+    ap (λ b. cond b (with_result t e ∷ (es ++ floor)) (e ∷ collected h t (es ++ floor)))
+    (shifted (length es) (length (es ++ floor)) h (length floor) (length-append es floor) k)
+    ∙ go (length es == (h - length floor)) (collected-over h t es floor k)
+  where
+    go : (b : Bool) → collected h t (es ++ floor) ≡ collected (h - length floor) t es ++ floor
+        → cond b (with_result t e ∷ (es ++ floor)) (e ∷ collected h t (es ++ floor))
+        ≡ cond b (with_result t e ∷ es) (e ∷ collected (h - length floor) t es) ++ floor
+    go true n = refl
+    go false n = ap (λ l. e ∷ l) n
