@@ -69,6 +69,10 @@ fn shared(rt: HostRuntime) -> Result<(), Fail> {
     let term = shared.share()?.to_term(rt.alloc())?;
     assert!(rt; *term.top() == shared.top()?);
     assert_eq!(rt; (term.bound(), term.arity(), shared.arity()), (1, 2, 2));
+    assert_eq!(rt; shared.len(), 3);
+    assert!(rt; shared.cell_at(1).0 == &Cell::Int(1));
+    assert_eq!(rt; (shared.term_end(0), shared.term_end(1)), (3, 2));
+    assert!(rt; shared.subterm(2)?.top()? == Cell::Var(0));
     let mut bindings = Bindings::new(rt.alloc());
     if shared.arity() > 1 {
         let value = shared.argument(1)?;
