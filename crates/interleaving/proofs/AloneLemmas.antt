@@ -1,10 +1,15 @@
 -- What a segment does by itself, as a function, is a private run; and a private run runs over anything that may be there.
-use Rattle.std.proofs.Common.{◌≡◌, ℕ, zero, suc, Bool, true, false, cond, List, [], ◌∷◌, ◌++◌, map, Option, Some, None, refl, sym, ap, ◌∙◌, subst}
+use Rattle.std.proofs.Common.{◌≡◌, ℕ, zero, suc, Bool, true, false, cond, List, [], ◌∷◌, ◌++◌, map, Option, Some, None, refl, sym, ap}
+use Rattle.std.proofs.Common.{◌∙◌, subst}
 use Rattle.std.specs.Option.{option_map}
 use Rattle.au_model.specs.Terms.Each.{Each}
-use Rattle.interleaving.specs.Machine.{Machine, Act, Vanishes, Wakes, Takes, Asks, Look, On, Here, Place, Put, Only, Seek, gives, freed, free_steps}
-use Rattle.interleaving.specs.Segments.{IsActive, outer, found_in, search_in, placed_in, freed_alone, free_steps_alone, go_on, taken_alone, front_alone, run_alone, Private, private_none, private_goes, private_stands, private_wakes, private_takes}
-use Rattle.interleaving.proofs.RunFrontLemmas.{each-append, append-assoc-at, maps-append, map-seam, map-none, append-none, some-same, none-some, settle-map, PlaceOk, ActOk, LookOk, Closed, map-ok}
+use Rattle.interleaving.specs.Machine.{Machine, Act, Vanishes, Wakes, Takes, Asks, Look, On, Here, Place, Put, Only, Seek, gives, freed}
+use Rattle.interleaving.specs.Machine.{free_steps}
+use Rattle.interleaving.specs.Segments.{IsActive, outer, found_in, search_in, placed_in, freed_alone, free_steps_alone, go_on}
+use Rattle.interleaving.specs.Segments.{taken_alone, front_alone, run_alone, Private, private_none, private_goes, private_stands}
+use Rattle.interleaving.specs.Segments.{private_wakes, private_takes}
+use Rattle.interleaving.proofs.RunFrontLemmas.{each-append, append-assoc-at, maps-append, map-seam, map-none, append-none, some-same}
+use Rattle.interleaving.proofs.RunFrontLemmas.{none-some, settle-map, PlaceOk, ActOk, LookOk, Closed, map-ok}
 use Rattle.interleaving.proofs.EarlyLemmas.{Ground, Runs}
 use Rattle.interleaving.proofs.JoinedLemmas.{runs-then, runs_step, resting, placed-within}
 

@@ -1,12 +1,15 @@
 -- What closes, lands or is cut away keeps the answers, and their order.
-use Rattle.std.proofs.Common.{◌≡◌, inl, inr, ℕ, ◌+◌, ◌≤◌, ◌==◌, Bool, true, false, cond, List, [], ◌∷◌, Option, Some, None, refl, sym, ap, ◌∙◌, subst, arith}
+use Rattle.std.proofs.Common.{◌≡◌, inl, inr, ℕ, ◌+◌, ◌≤◌, ◌==◌, Bool, true, false, cond, List, [], ◌∷◌, Option, Some, None, refl, sym, ap}
+use Rattle.std.proofs.Common.{◌∙◌, subst, arith}
 use Rattle.std.specs.Prelude.{min}
 use Rattle.run_model.specs.Machine.Entries.{Entry, PlainEntry, CatchEntry, FindallEntry, EndEntry}
 use Rattle.tree_model.specs.Credits.{Credit, greatest, no_credit, added, credit_of, without_records}
-use Rattle.tree_model.specs.Nodes.{Numbered, Alternatives, none, alternative, Status, Pending, Inner, Closed, credits_among, credits_below, single}
+use Rattle.tree_model.specs.Nodes.{Numbered, Alternatives, none, alternative, Status, Pending, Inner, Closed, credits_among}
+use Rattle.tree_model.specs.Nodes.{credits_below, single}
 use Rattle.tree_model.specs.Levels.{Level, put_left, level_node, plug}
 use Rattle.tree_model.specs.Orders.{is_closed, credits_left}
-use Rattle.tree_model.specs.Closing.{guarded, with_right, and_then, closed_credit, all_right, all_left, all_closed, folds, wakes, findall_goes_on, with_results, goal_side_closes, closes}
+use Rattle.tree_model.specs.Closing.{guarded, with_right, and_then, closed_credit, all_right, all_left, all_closed, folds, wakes}
+use Rattle.tree_model.specs.Closing.{findall_goes_on, with_results, goal_side_closes, closes}
 use Rattle.tree_model.specs.Pruning.{is_findall, emptied, pruned, kept_records, left_after, lands}
 use Rattle.tree_model.specs.Effects.{spending}
 use Rattle.tree_model.specs.SoundTrees.{IsOpen}
@@ -14,7 +17,8 @@ use Rattle.tree_model.specs.GivenAnswers.{answers_in, answers_among, AreInOrder,
 use Rattle.interleaving.proofs.ContextLemmas.{IsAround}
 use Rattle.interleaving.proofs.ClosingListLemmas.{Guards, guards_of}
 use Rattle.interleaving.proofs.ListEndLemmas.{levels_down}
-use Rattle.interleaving.proofs.AnswerOrderLemmas.{answers_before, put_answers, plug_answers, none_ordered, RightsEmpty, rights_empty, SameLeft, same_left, put_order}
+use Rattle.interleaving.proofs.AnswerOrderLemmas.{answers_before, put_answers, plug_answers, none_ordered, RightsEmpty, rights_empty}
+use Rattle.interleaving.proofs.AnswerOrderLemmas.{SameLeft, same_left, put_order}
 
 clash : {A : Type 0} → false ≡ true → A
 clash h = let no_way : ⊥ = cc in absurd no_way

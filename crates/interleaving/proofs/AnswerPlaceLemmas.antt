@@ -24,7 +24,8 @@ use Rattle.interleaving.proofs.ClockLemmas.{AreClear}
 use Rattle.interleaving.proofs.FallLemmas.{Fall, Nobody, Catches, fall_entries, IsTaken}
 use Rattle.interleaving.proofs.BallPlaceLemmas.{query_at, scope_down}
 use Rattle.interleaving.proofs.EntryLemmas.{length-floor}
-use Rattle.interleaving.proofs.AnswerOrderLemmas.{plug_answers, none_ordered, RightsEmpty, rights_empty, SameLeft, same_left, put_order, round_same}
+use Rattle.interleaving.proofs.AnswerOrderLemmas.{plug_answers, none_ordered, RightsEmpty, rights_empty, SameLeft, same_left, put_order}
+use Rattle.interleaving.proofs.AnswerOrderLemmas.{round_same}
 use Rattle.interleaving.proofs.AnswerClosingLemmas.{IsOrdered, closes_order, lands_order, spent_left, pruned_left}
 
 clash : {A : Type 0} → false ≡ true → A

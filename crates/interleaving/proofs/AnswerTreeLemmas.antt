@@ -20,8 +20,10 @@ use Rattle.tree_model.specs.PrivateRuns.{taken_alone}
 use Rattle.tree_model.specs.FrontGates.{Taken, Raises, reply_taken, goal_at_front, removal_at_front, item_at_front, taken_at_front}
 use Rattle.tree_model.specs.Events.{Event, Claim, Nodes, Empty, Collected, Lost, Suspend, Resume, Prune, Answer, Stop}
 use Rattle.tree_model.specs.TreeStates.{TreeState, leftmost}
-use Rattle.tree_model.specs.Legality.{claimable, resumable, taken_at, gate_of, run_of, is_world_gate, is_spot_at, at_spot, may_prune, is_legal}
-use Rattle.tree_model.specs.Effects.{spending, closed_with, or_none, gate_pruned, front_taken, stack_of, world_moved, run_placed, results_of, gate_or_frozen, with_status, where_some, after_event}
+use Rattle.tree_model.specs.Legality.{claimable, resumable, taken_at, gate_of, run_of, is_world_gate, is_spot_at, at_spot, may_prune}
+use Rattle.tree_model.specs.Legality.{is_legal}
+use Rattle.tree_model.specs.Effects.{spending, closed_with, or_none, gate_pruned, front_taken, stack_of, world_moved, run_placed}
+use Rattle.tree_model.specs.Effects.{results_of, gate_or_frozen, with_status, where_some, after_event}
 use Rattle.tree_model.specs.PendingLists.{way_of}
 use Rattle.tree_model.specs.Ways.{AreScoped, under_query, IsAsked, IsOnWay}
 use Rattle.tree_model.specs.SoundTrees.{IsOpen, IsSoundTree}
@@ -44,7 +46,8 @@ use Rattle.interleaving.proofs.FallLemmas.{fall, fall_entries, landing_falls, fa
 use Rattle.interleaving.proofs.PruneCasesLemmas.{plain_moves}
 use Rattle.interleaving.proofs.AnswerOrderLemmas.{same_left, rights_empty}
 use Rattle.interleaving.proofs.AnswerClosingLemmas.{IsOrdered, spent_left}
-use Rattle.interleaving.proofs.AnswerPlaceLemmas.{placed_none, put_kept, closed_kept, answer_kept, left_kept, cut_kept, fallen_kept, halt_kept, queries_kept}
+use Rattle.interleaving.proofs.AnswerPlaceLemmas.{placed_none, put_kept, closed_kept, answer_kept, left_kept, cut_kept, fallen_kept}
+use Rattle.interleaving.proofs.AnswerPlaceLemmas.{halt_kept, queries_kept}
 
 clash : {A : Type 0} → false ≡ true → A
 clash h = let no_way : ⊥ = cc in absurd no_way

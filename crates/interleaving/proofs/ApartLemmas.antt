@@ -1,5 +1,6 @@
 -- What names nothing inside goes on so, and passes what was made inside.
-use Rattle.std.proofs.Common.{◌≡◌, ℕ, zero, suc, ◌+◌, Bool, true, false, ◌&&◌, cond, List, [], ◌∷◌, ◌++◌, map, Option, Some, None, ◌==◌, refl, sym, ap, ◌∙◌}
+use Rattle.std.proofs.Common.{◌≡◌, ℕ, zero, suc, ◌+◌, Bool, true, false, ◌&&◌, cond, List, [], ◌∷◌, ◌++◌, map, Option, Some, None, ◌==◌}
+use Rattle.std.proofs.Common.{refl, sym, ap, ◌∙◌}
 use Rattle.std.proofs.lemmas.Bool.{eqb-true, false≢true}
 use Rattle.au_term.specs.Term.{Term}
 use Rattle.au_model.specs.Terms.Each.{Each}
@@ -10,11 +11,15 @@ use Rattle.run_model.specs.Programs.Clauses.{Clause}
 use Rattle.run_model.specs.Programs.Databases.{Database, without_clause}
 use Rattle.run_model.specs.Goals.Worlds.{world_step}
 use Rattle.run_model.specs.Goals.GoalOutcomes.{outcome_of}
-use Rattle.run_model.specs.Goals.Outcomes.{Solution, Reply, Solutions, Ball, HaltNumber, ControlForm, GoesOnWith, EitherOf, TestOf, CutToScope, CatchOf, FindallOf, Outcome, Replies, Controls, AskWorld}
-use Rattle.run_model.specs.Machine.Items.{Item, GoalItem, CatchMark, CollectMark, RemovalItem, Continuation, resolve_item, goals_at, with_items, with_next, before, without_marks, first_mark}
+use Rattle.run_model.specs.Goals.Outcomes.{Solution, Reply, Solutions, Ball, HaltNumber, ControlForm, GoesOnWith, EitherOf, TestOf, CutToScope}
+use Rattle.run_model.specs.Goals.Outcomes.{CatchOf, FindallOf, Outcome, Replies, Controls, AskWorld}
+use Rattle.run_model.specs.Machine.Items.{Item, GoalItem, CatchMark, CollectMark, RemovalItem, Continuation, resolve_item, goals_at, with_items}
+use Rattle.run_model.specs.Machine.Items.{with_next, before, without_marks, first_mark}
 use Rattle.interleaving.specs.Machine.{Look, On, Here}
 use Rattle.tree_model.specs.Elements.{Name, same, Record, Element, Credit, Plain, EndOf, Catch, Findall, End}
-use Rattle.interleaving.specs.Scopes.{Shared, Sought, Scope, Thrown, Caught, Does, Lands, unified, solution_entries, reply_place, test_items, control_place, goal_act, removed, unmarked, item_act, act, recovered, look, with_result, give, scoped}
+use Rattle.interleaving.specs.Scopes.{Shared, Sought, Scope, Thrown, Caught, Does, Lands, unified, solution_entries, reply_place}
+use Rattle.interleaving.specs.Scopes.{test_items, control_place, goal_act, removed, unmarked, item_act, act, recovered, look, with_result}
+use Rattle.interleaving.specs.Scopes.{give, scoped}
 use Rattle.interleaving.specs.Views.{IsApart, IsBeside, IsItemApart, IsRecordApart, IsBlind, IsInner}
 use Rattle.interleaving.proofs.RunFrontLemmas.{each-append, append-assoc-at, PlaceOk, ActOk, LookOk, Closed, Unseen}
 

@@ -1,38 +1,34 @@
 -- A ball finds the recovery of the catch that takes it, or nothing.
-use Rattle.std.proofs.Common.{◌≡◌, ℕ, suc, ◌+◌, ◌≤◌, ◌==◌, Bool, true, false, cond, List, [], ◌∷◌, ◌++◌, map, length, Option, Some, None, refl, sym, ap, ◌∙◌, subst, arith}
-use Rattle.std.specs.Prelude.{◌||◌}
+use Rattle.std.proofs.Common.{◌≡◌, ℕ, ◌==◌, Bool, true, false, cond, List, [], ◌∷◌, ◌++◌, map, length, Option, Some, None, refl, sym, ap}
+use Rattle.std.proofs.Common.{◌∙◌, subst}
 use Rattle.au_term.specs.Term.{Term}
 use Rattle.run_model.specs.Programs.Clauses.{Clause}
 use Rattle.au_model.specs.Terms.Substitutions.{Substitution}
 use Rattle.au_model.specs.Terms.Unifier.{unifier}
-use Rattle.au_model.specs.Terms.Copies.{copied, copy_takes}
-use Rattle.run_model.specs.Programs.Bodies.{call_of}
-use Rattle.run_model.specs.Machine.Items.{Item, GoalItem, CatchMark, CollectMark, RemovalItem, Continuation, first_mark, resolve_continuation, before, with_next}
+use Rattle.au_model.specs.Terms.Copies.{copied}
+use Rattle.run_model.specs.Machine.Items.{Continuation, first_mark}
 use Rattle.run_model.specs.Machine.Entries.{CatchEntry}
 use Rattle.tree_model.specs.Nodes.{Dormant, Status, Pending, Inner}
 use Rattle.tree_model.specs.Levels.{Level, level_node, plug}
-use Rattle.tree_model.specs.Floors.{renamed_item}
-use Rattle.tree_model.specs.PendingLists.{Step, Way, way_of, scope_on, named_continuation, list_right, back_of}
-use Rattle.tree_model.specs.Ways.{is_on}
-use Rattle.tree_model.specs.SoundTrees.{count_among, one_if, IsOpen}
+use Rattle.tree_model.specs.PendingLists.{way_of, scope_on, named_continuation, list_right, back_of}
+use Rattle.tree_model.specs.SoundTrees.{IsOpen}
 use Rattle.tree_model.specs.CaughtTrees.{catch_right}
 use Rattle.tree_model.specs.Elements.{Name, same, Record, Element, Credit, Plain, EndOf, Catch, Findall, End}
 use Rattle.interleaving.specs.Machine.{Machine, Look, On, Here, gives, looked, search_for}
-use Rattle.interleaving.specs.Scopes.{Shared, Sought, Scope, Thrown, Caught, look, give, with_result, recovered, scoped}
+use Rattle.interleaving.specs.Scopes.{Shared, Sought, Scope, Thrown, Caught, look, recovered, scoped}
 use Rattle.interleaving.specs.Segments.{found_in, search_in}
-use Rattle.interleaving.proofs.ContextLemmas.{IsAround, count_left, count_around}
-use Rattle.interleaving.proofs.WayLemmas.{cond-true, cond-false, same_self, other_number, unlike}
-use Rattle.interleaving.proofs.AppendLemmas.{append-assoc}
-use Rattle.interleaving.proofs.NamingLemmas.{same-itself}
-use Rattle.interleaving.proofs.ListEndLemmas.{on-counts, ends_in, no_end_among, other_node, scope_at}
+use Rattle.interleaving.proofs.ContextLemmas.{IsAround}
+use Rattle.interleaving.proofs.WayLemmas.{cond-true, cond-false, same_self}
 use Rattle.interleaving.proofs.ListScopeLemmas.{IsDistinct, distinct-up, sleeps_on}
 use Rattle.interleaving.proofs.ListMarkLemmas.{catch_sleeps}
 use Rattle.interleaving.proofs.ClosingListLemmas.{Guards}
 use Rattle.interleaving.proofs.WakeLemmas.{second_right}
 use Rattle.interleaving.proofs.CaughtContextLemmas.{RootCaught}
 use Rattle.interleaving.proofs.LowerListLemmas.{lower_back}
-use Rattle.interleaving.proofs.FallLemmas.{Fall, Nobody, Catches, caught_or, right_falls, fall, MarkSleeps, first_sleeps, sleeps_way, sleeper_marks, sleeper_guards, IsTaken, fall_taken}
-use Rattle.interleaving.proofs.BallSearchLemmas.{mark_name, second_step, catch_element, named_recovery, next_in, thrown_pass, to_catch, end_pass, right_passes, mark_up, mark_apart, to_side, Finds, passes_level, off_catcher}
+use Rattle.interleaving.proofs.FallLemmas.{Fall, Nobody, Catches, caught_or, right_falls, fall, MarkSleeps, first_sleeps, sleeps_way}
+use Rattle.interleaving.proofs.FallLemmas.{sleeper_marks, sleeper_guards}
+use Rattle.interleaving.proofs.BallSearchLemmas.{mark_name, second_step, catch_element, named_recovery, next_in, thrown_pass, to_catch}
+use Rattle.interleaving.proofs.BallSearchLemmas.{end_pass, right_passes, mark_up, mark_apart, to_side, Finds, passes_level, off_catcher}
 
 module _ (clauses : List Clause) where
   abbrev m : Machine Shared Element Sought Record
@@ -64,7 +60,8 @@ module _ (clauses : List Clause) where
 
       here : Found (Catches v rest t g z)
       here x2 un2 =
-          ap (λ n. search_in m (Thrown ball (Some n) o) (map (gives m rs) (lower_back v.number (v ∷ rest) ++ to_side clauses v rest x2 t g zs)))
+          ap (λ n. search_in m (Thrown ball (Some n) o)
+          (map (gives m rs) (lower_back v.number (v ∷ rest) ++ to_side clauses v rest x2 t g zs)))
           itself
           ∙ (ap (λ l. search_in m (Thrown ball (Some (0 ∷ v.number ∷ [])) o) (map (gives m rs) (l ++ to_side clauses v rest x2 t g zs)))
           (cond-true (v.number == v.number) [] _ (same_self v.number))
@@ -86,14 +83,16 @@ module _ (clauses : List Clause) where
       (cond-false (v.number == w.number) [] (list_right (way_of rest) v ++ lower_back w.number rest) off
       ∙ ap (λ l. l ++ lower_back w.number rest)
       (second_right v rest q.spent (Pending Dormant (CatchEntry y t g)) q.left q.right)) in
-      ap (λ n. search_in m (Thrown ball (Some n) o) (map (gives m rs) (lower_back w.number (v ∷ rest) ++ to_side clauses w up x r f zs))) itself
+      ap (λ n. search_in m (Thrown ball (Some n) o)
+      (map (gives m rs) (lower_back w.number (v ∷ rest) ++ to_side clauses w up x r f zs))) itself
       ∙ (ap (λ l. search_in m (Thrown ball (Some (0 ∷ v.number ∷ [])) o) (map (gives m rs) l)) list
       ∙ (to_catch clauses ball y t o rs v rest g (EndOf (1 ∷ v.number ∷ []) ∷ tail)
       ∙ (ap (λ c. found_in m (recovered c ball t (1 ∷ v.number ∷ []) (0 ∷ 1 ∷ v.number ∷ [])
       (named_continuation (second_step v ∷ way_of rest) g) (Thrown ball (mark_name (second_step v ∷ way_of rest) mark) o))
       (λ p. search_in m p (map (gives m rs) (EndOf (1 ∷ v.number ∷ []) ∷ tail)))
       (map (gives m rs) (EndOf (1 ∷ v.number ∷ []) ∷ tail))) n
-      ∙ (ap (λ c. search_in m (Thrown ball c o) (map (gives m rs) (EndOf (1 ∷ v.number ∷ []) ∷ tail))) (mark_up clauses v rest mark a.0.new sleeps)
+      ∙ (ap (λ c. search_in m (Thrown ball c o) (map (gives m rs) (EndOf (1 ∷ v.number ∷ []) ∷ tail)))
+      (mark_up clauses v rest mark a.0.new sleeps)
       ∙ (end_pass clauses ball (mark_name (way_of rest) mark) o rs v.number tail (mark_apart clauses v rest mark a.0.new sleeps)
       ∙ more mark sleeps w up r f u k x un zs)))))
 
@@ -239,7 +238,8 @@ module _ (clauses : List Clause) where
           (map (gives m rs) (EndOf (1 ∷ v.number ∷ []) ∷ back_of rest))) n
           ∙ (ap (λ x. search_in m (Thrown ball x o) (map (gives m rs) (EndOf (1 ∷ v.number ∷ []) ∷ back_of rest)))
           (mark_up clauses v rest mark a.0.new sleeps)
-          ∙ (end_pass clauses ball (mark_name (way_of rest) mark) o rs v.number (back_of rest) (mark_apart clauses v rest mark a.0.new sleeps)
+          ∙ (end_pass clauses ball (mark_name (way_of rest) mark) o rs v.number (back_of rest)
+          (mark_apart clauses v rest mark a.0.new sleeps)
           ∙ more mark sleeps c)))))
 
       go : (b : Bool) → (v.number == s) ≡ b → cond b (catch_right v.right) (sleeps_on rest s) ≡ true

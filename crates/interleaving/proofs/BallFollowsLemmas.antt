@@ -1,5 +1,6 @@
 -- A ball that is caught: its goal side is one credit, and the recovery wakes.
-use Rattle.std.proofs.Common.{◌≡◌, ℕ, ◌+◌, ◌≤◌, ◌<◌, ◌==◌, Bool, true, false, cond, List, [], ◌∷◌, ◌++◌, map, length, Option, Some, refl, sym, ap, ◌∙◌, subst, arith}
+use Rattle.std.proofs.Common.{◌≡◌, ℕ, ◌+◌, ◌≤◌, ◌<◌, ◌==◌, Bool, true, false, List, [], ◌∷◌, ◌++◌, map, length, Option, Some, refl, sym}
+use Rattle.std.proofs.Common.{ap, ◌∙◌, subst, arith}
 use Rattle.std.specs.Prelude.{min}
 use Rattle.au_term.specs.Term.{Term}
 use Rattle.au_model.specs.Terms.Each.{Each}
@@ -14,9 +15,8 @@ use Rattle.tree_model.specs.Nodes.{ChoiceNode, Dormant, Status, Pending}
 use Rattle.tree_model.specs.Levels.{Level, plug}
 use Rattle.tree_model.specs.Floors.{node_of, with_nodes, floor_of}
 use Rattle.tree_model.specs.Orders.{levels_below}
-use Rattle.tree_model.specs.Closing.{wakes}
 use Rattle.tree_model.specs.CaughtTrees.{is_side}
-use Rattle.tree_model.specs.PendingLists.{Way, way_of, findall_on, balance_on, element_on, list_left, pending_list, spent_at, front_of, back_of}
+use Rattle.tree_model.specs.PendingLists.{way_of, findall_on, element_on, list_left, spent_at, front_of, back_of}
 use Rattle.tree_model.specs.Ways.{is_on, IsAsked}
 use Rattle.tree_model.specs.SoundTrees.{one_if, IsOpen}
 use Rattle.tree_model.specs.Elements.{Name, Record, Element, Credit, Plain, Catch, Findall, End, EndOf}
@@ -28,40 +28,36 @@ use Rattle.interleaving.specs.Roots.{rooted}
 use Rattle.interleaving.specs.Views.{IsBlind, IsInner, IsUnder, IsRecordApart}
 use Rattle.interleaving.specs.Laws.{is_inner_record, IsSegment}
 use Rattle.interleaving.specs.Erased.{count, erased}
-use Rattle.interleaving.specs.Sound.{IsSound}
-use Rattle.interleaving.specs.Follows.{lead, Follows}
+use Rattle.interleaving.specs.Follows.{lead}
 use Rattle.interleaving.proofs.ContextLemmas.{IsAround, count_around}
-use Rattle.interleaving.proofs.WayLemmas.{off_way, same_self, cond-false}
+use Rattle.interleaving.proofs.WayLemmas.{same_self, cond-false}
 use Rattle.interleaving.proofs.RoundtripLemmas.{by_heights}
 use Rattle.interleaving.proofs.ClosingSoundLemmas.{IsFree}
 use Rattle.interleaving.proofs.AppendLemmas.{append-assoc, each-append}
 use Rattle.interleaving.proofs.RunFrontLemmas.{append-none}
-use Rattle.interleaving.proofs.QuietCreditLemmas.{gives-fixed, map-fixed, quiet-private}
-use Rattle.interleaving.proofs.SoundEarlyLemmas.{sound-after, sound_exchange, private-sound, all-gathered}
-use Rattle.interleaving.proofs.SoundStepLemmas.{AllGathered}
-use Rattle.interleaving.specs.Segments.{Private}
+use Rattle.interleaving.proofs.QuietCreditLemmas.{gives-fixed}
 use Rattle.interleaving.proofs.ContextLemmas.{count_left}
 use Rattle.tree_model.specs.SoundTrees.{count_among}
 use Rattle.interleaving.proofs.RootLemmas.{are_told}
 use Rattle.interleaving.proofs.ClockLemmas.{AreClear, quiet-append, inferences-append}
-use Rattle.interleaving.proofs.ListChangeLemmas.{becomes as private_becomes, no_credit}
-use Rattle.interleaving.proofs.RunHeightLemmas.{names_are_free}
-use Rattle.interleaving.proofs.FrontSameLemmas.{front_is_same}
+use Rattle.interleaving.proofs.ListChangeLemmas.{becomes as private_becomes}
 use Rattle.interleaving.proofs.LeadLemmas.{lead-quiet, lead-grows}
-use Rattle.interleaving.proofs.FoldLemmas.{Passes, side_name, passes_then, passes_becoming, credit_counted, SidesKept, named_by, records-append}
-use Rattle.interleaving.proofs.WakeLemmas.{second_right, after_wake}
+use Rattle.interleaving.proofs.FoldLemmas.{Passes, side_name, passes_then, passes_becoming, credit_counted, SidesKept, named_by}
+use Rattle.interleaving.proofs.FoldLemmas.{records-append}
+use Rattle.interleaving.proofs.WakeLemmas.{second_right}
 use Rattle.interleaving.proofs.ListEndLemmas.{levels_down}
 use Rattle.interleaving.proofs.ListScopeLemmas.{IsDistinct}
 use Rattle.interleaving.proofs.ListMarkLemmas.{around-down}
 use Rattle.interleaving.proofs.PublishedBareLemmas.{right_of}
 use Rattle.interleaving.proofs.FrontCloseLemmas.{bare}
 use Rattle.interleaving.proofs.CaughtContextLemmas.{IsCaughtRoot}
-use Rattle.interleaving.proofs.CaughtClosingLemmas.{sleeper_on}
 use Rattle.interleaving.proofs.CaughtBallLemmas.{catch_no_side}
 use Rattle.interleaving.proofs.BallLevelLemmas.{landed, FirstShut}
 use Rattle.interleaving.proofs.FallLemmas.{Catches, fall, MarkSleeps, IsCatcher}
-use Rattle.interleaving.proofs.LowerListLemmas.{lower_front, lower_back, front_split, back_split, lower_quiet, landed_counts, landed_low, count_lower, count_split, lower_inner}
-use Rattle.interleaving.proofs.UpperBlindLemmas.{NoSideTop, blind_is_under, is_free_of, free_zero, zero_free, upper_front, upper_back, upper_findall, landed_rows}
+use Rattle.interleaving.proofs.LowerListLemmas.{lower_front, lower_back, front_split, back_split, lower_quiet, landed_counts, landed_low}
+use Rattle.interleaving.proofs.LowerListLemmas.{count_lower, count_split, lower_inner}
+use Rattle.interleaving.proofs.UpperBlindLemmas.{NoSideTop, blind_is_under, is_free_of, zero_free, upper_front, upper_back, upper_findall}
+use Rattle.interleaving.proofs.UpperBlindLemmas.{landed_rows}
 use Rattle.interleaving.proofs.BallSearchLemmas.{second_step, catch_element, named_recovery, mark_name}
 use Rattle.interleaving.proofs.BallCatchLemmas.{finds}
 use Rattle.interleaving.proofs.RecoveryNamesLemmas.{recovery_same}
@@ -80,7 +76,7 @@ some_count (Findall s u rs l p f ∷ xs) ys h = let i = some_count xs ys h in om
 some_count (End p b ∷ xs) ys h = let i = some_count xs ys h in omega (arith, i)
 
 -- the recovery, over what is right of its node
-recovery_heights : (levels : List Level) (w : Level) (up : List Level) (next : ℕ) (ball r : Term) (f g : Continuation ℕ)
+pub recovery_heights : (levels : List Level) (w : Level) (up : List Level) (next : ℕ) (ball r : Term) (f g : Continuation ℕ)
     (o : Substitution) → levels_down levels w.number ≡ w ∷ up → is_on (way_of up) w.number ≡ false → is_on (way_of up) next ≡ false
     → IsAsked (way_of up) f.items
     → g.items ≡ map (resolve_item o) (GoalItem (call_of r) (length (floor_of up)) ∷ by_heights up f.items) → g.named
@@ -92,7 +88,7 @@ recovery_heights levels w [] next ball r f g o down new fresh asked is named nex
 recovery_heights levels w (u ∷ up) next ball r f g o down new fresh asked is named next_is = recovery_same levels w u up next
     (right_of (u ∷ up)) down new fresh ball r f g o asked is named next_is
 
-rows_apart : (inside : Name → Bool) (name : Name) → inside name ≡ false → (ts : List Term)
+pub rows_apart : (inside : Name → Bool) (name : Name) → inside name ≡ false → (ts : List Term)
     → Each (IsRecordApart inside) (map {B = Record} (λ t. (name, t)) ts)
 rows_apart inside name h [] = tt
 rows_apart inside name h (t ∷ ts) = (h, rows_apart inside name h ts)
@@ -112,7 +108,7 @@ module _ (clauses : List Clause) (next : ℕ) (v : Level) (above : List Level) (
       abbrev inside : Name → Bool
       inside = rooted (is_free_of up)
 
-      top : IsAround (w ∷ up) IsOpen
+      pub top : IsAround (w ∷ up) IsOpen
       top = subst (λ l. IsAround l IsOpen) c.down (around-down levels w.number a)
 
       free_lower : (k : ℕ) → 1 ≤ count_lower k w.number levels → is_free_of up k ≡ true
@@ -123,7 +119,7 @@ module _ (clauses : List Clause) (next : ℕ) (v : Level) (above : List Level) (
           let less : count_around k up ≤ count_around k (w ∷ up) = omega arith in
           zero_free up k (omega (arith, all, most, here, less, l))
 
-      free_own : is_free_of up w.number ≡ true
+      pub free_own : is_free_of up w.number ≡ true
       free_own =
           let all = count_split w.number w.number levels in
           let most = d w.number in
@@ -132,7 +128,7 @@ module _ (clauses : List Clause) (next : ℕ) (v : Level) (above : List Level) (
           let one : one_if (w.number == w.number) ≡ 1 = ap one_if (same_self w.number) in
           zero_free up w.number (omega (arith, all, most, here, one))
 
-      free_next : is_free_of up next ≡ true
+      pub free_next : is_free_of up next ≡ true
       free_next =
           let all = count_split next w.number levels in
           let none_there = free.fresh next (omega arith) in
@@ -169,7 +165,7 @@ module _ (clauses : List Clause) (next : ℕ) (v : Level) (above : List Level) (
       mid = lower_back w.number (v ∷ above)
           ++ (EndOf (0 ∷ w.number ∷ []) ∷ (catch_element w up c.catcher r f ∷ (EndOf (1 ∷ w.number ∷ []) ∷ [])))
 
-      list_is : front_of (v ∷ above) ++ (Credit v.spent [] ∷ (Plain p named ∷ back_of (v ∷ above)))
+      pub list_is : front_of (v ∷ above) ++ (Credit v.spent [] ∷ (Plain p named ∷ back_of (v ∷ above)))
           ≡ front ++ ((credits ++ (Plain p named ∷ mid)) ++ back)
       list_is =
           let low = lower_front w.number levels in
@@ -187,17 +183,17 @@ module _ (clauses : List Clause) (next : ℕ) (v : Level) (above : List Level) (
           ∙ append-assoc low (Credit v.spent [] ∷ []) (Plain p named ∷ (mid ++ back))))))
 
       -- the segment
-      front_blind : Each (IsBlind inside) front
+      pub front_blind : Each (IsBlind inside) front
       front_blind = each-append (IsBlind inside) (front_of up) _ (upper_front up top.1)
           (tt, subst (λ l. Each (IsBlind inside) (list_left (way_of up) w.number w.kind l)) (sym c.sleeper.left) tt)
 
-      back_under : Each (IsUnder inside) back
+      pub back_under : Each (IsUnder inside) back
       back_under = blind_is_under inside back (upper_back up top.1)
 
-      lower : Each (IsInner inside) (lower_front w.number levels) × Each (IsInner inside) (lower_back w.number levels)
+      pub lower : Each (IsInner inside) (lower_front w.number levels) × Each (IsInner inside) (lower_back w.number levels)
       lower = lower_inner inside (is_free_of up) (λ s h. h) w.number levels free_lower
 
-      segment : inside p ≡ true → IsSegment inside front (credits ++ (Plain p named ∷ mid)) back
+      pub segment : inside p ≡ true → IsSegment inside front (credits ++ (Plain p named ∷ mid)) back
       segment own = record {
         grown = are_told.root (is_free_of up);
         front = front_blind;
@@ -259,7 +255,7 @@ module _ (clauses : List Clause) (next : ℕ) (v : Level) (above : List Level) (
       no_side_top : is_side w.kind (length w.left) ≡ false
       no_side_top = catch_no_side w up top c.catcher r f c.sleeper
 
-      findall_above : inside (findall_on (way_of (w ∷ up))) ≡ false
+      pub findall_above : inside (findall_on (way_of (w ∷ up))) ≡ false
       findall_above = ap inside (side_name (way_of up) w.number (length w.left) w.kind no_side_top) ∙ upper_findall up
 
       pub rows_are : AreClear (levels_below (Some w.number) (v ∷ above)) → rows
@@ -272,135 +268,3 @@ module _ (clauses : List Clause) (next : ℕ) (v : Level) (above : List Level) (
           ∙ (landed_rows inside w.number levels (credit_of 1) clear sides (subst FirstShut (sym c.down) c.sleeper.left)
           (subst NoSideTop (sym c.down) no_side_top) (ap (λ l. inside (findall_on (way_of l))) c.down ∙ findall_above) free_lower
           ∙ ap (λ l. named_by (way_of l) (landed w.number levels (credit_of 1)).records) c.down))
-
-      asked : IsAsked (way_of up) f.items
-      asked = sleeper_on w up IsOpen c.sleeper.spent (CatchEntry c.catcher r f) top.0 c.sleeper.right
-
-      -- the tree's list
-      pub ball_wakes : (g : Continuation ℕ) → g.items
-          ≡ map (resolve_item o) (GoalItem (call_of r) (length (floor_of up)) ∷ by_heights up f.items) → g.named
-          ≡ map (resolve_named o) f.named → g.next ≡ f.next + copy_takes ball → AreClear (levels_below (Some w.number) (v ∷ above))
-          → v.spent ≡ 0
-          → IsSound (front ++ (Credit (min greatest (inferences credits + 1)) rows ∷ (first ++ back)))
-          → IsSound (pending_list (wakes next w up (landed w.number (v ∷ above) (credit_of 1))
-          (with_nodes (node_of (v ∷ above)) (PlainEntry g))).root)
-          → Follows clauses (front ++ (Credit (min greatest (inferences credits + 1)) rows ∷ (first ++ back)))
-          (pending_list (wakes next w up (landed w.number (v ∷ above) (credit_of 1))
-          (with_nodes (node_of (v ∷ above)) (PlainEntry g))).root)
-      ball_wakes g is named_is next_is clear unspent i j =
-          let e = with_nodes (node_of levels) (PlainEntry g) in
-          let cr = landed w.number levels (credit_of 1) in
-          let far : Way = record { node = next; index = 0; kind = ChoiceNode } ∷ second_step w ∷ way_of up in
-          let y = element_on far e in
-          let second = EndOf (0 ∷ w.number ∷ []) ∷ (y ∷ (EndOf (0 ∷ next ∷ []) ∷ (EndOf (1 ∷ w.number ∷ []) ∷ []))) in
-          let balance : Credit (min greatest (inferences credits + 1)) rows ≡ balance_on (way_of (w ∷ up)) cr = ap (λ n. Credit n rows)
-          (credit_is clear unspent) ∙ ap (λ l. Credit cr.inferences l) (rows_are clear) in
-          let pre = front ++ (balance_on (way_of (w ∷ up)) cr ∷ []) in
-          let old : front ++ (Credit (min greatest (inferences credits + 1)) rows ∷ (first ++ back))
-          ≡ pre ++ (first ++ back) = ap (λ x. front ++ (x ∷ (first ++ back))) balance
-          ∙ sym (append-assoc front (balance_on (way_of (w ∷ up)) cr ∷ []) (first ++ back)) in
-          let pre2 = front ++ (balance_on (way_of (w ∷ up)) cr ∷ EndOf (0 ∷ w.number ∷ []) ∷ []) in
-          let ys = y ∷ (EndOf (0 ∷ next ∷ []) ∷ (EndOf (1 ∷ w.number ∷ []) ∷ back)) in
-          let root = (wakes next w up cr e).root in
-          let new : pending_list root ≡ pre2 ++ (Credit 0 [] ∷ (Credit 0 [] ∷ ys)) = after_wake next w up cr e c.sleeper.left in
-          let shift : pre ++ (second ++ back) ≡ pre2 ++ ys = append-assoc front (balance_on (way_of (w ∷ up)) cr ∷ []) (second ++ back)
-          ∙ sym (append-assoc front (balance_on (way_of (w ∷ up)) cr ∷ EndOf (0 ∷ w.number ∷ []) ∷ []) ys) in
-          let one = no_credit clauses pre2 (Credit 0 [] ∷ ys) in
-          let two = no_credit clauses pre2 ys in
-          let sound_new : IsSound (pre2 ++ ys) = two.sound (one.sound (subst IsSound new j)) in
-          let off_next : is_on (way_of up) next ≡ false = off_way next up (free_zero up next free_next) in
-          let heights : erased (first ++ back) ≡ erased (second ++ back) = recovery_heights levels w up next ball r f g o c.down top.0.new
-          off_next asked is named_is next_is in
-          let blind : Each (IsBlind inside) pre = each-append (IsBlind inside) front (balance_on (way_of (w ∷ up)) cr ∷ []) front_blind
-          (rows_apart inside (findall_on (way_of (w ∷ up))) findall_above cr.records, tt) in
-          let same : erased (pre ++ (first ++ back)) ≡ erased (pre2 ++ ys) = front_is_same inside pre first second back blind
-          (free_own, (free_own, tt)) (free_own, (free_next, (free_next, (free_own, tt)))) heights ∙ ap erased shift in
-          let names = names_are_free clauses (pre ++ (first ++ back)) (pre2 ++ ys) (subst IsSound old i) sound_new same in
-          let more : lead (pre ++ (first ++ back)) ≤ lead (pre2 ++ (Credit 0 [] ∷ (Credit 0 [] ∷ ys))) =
-          let x = ap lead (append-assoc front (balance_on (way_of (w ∷ up)) cr ∷ []) (first ++ back)) in
-          let z = ap lead (append-assoc front (balance_on (way_of (w ∷ up)) cr ∷ EndOf (0 ∷ w.number ∷ []) ∷ [])
-          (Credit 0 [] ∷ (Credit 0 [] ∷ ys))) in
-          let grows = lead-grows front (balance_on (way_of (w ∷ up)) cr ∷ (first ++ back))
-          (balance_on (way_of (w ∷ up)) cr ∷ (EndOf (0 ∷ w.number ∷ []) ∷ (Credit 0 [] ∷ (Credit 0 [] ∷ ys)))) (omega arith) in
-          omega (arith, x, z, grows) in
-          let follows : Follows clauses (pre ++ (first ++ back)) (pre2 ++ (Credit 0 [] ∷ (Credit 0 [] ∷ ys))) = record {
-            alike = λ n x b. names n x ∙ (sym (two.alike n x) ∙ sym (one.alike n x));
-            lead = λ n b l. omega (arith, more, l);
-          } in
-          subst (λ l. Follows clauses l (pending_list root)) (sym old) (subst (Follows clauses (pre ++ (first ++ back))) (sym new) follows)
-
-      first_inner : Each (IsInner inside) first
-      first_inner = (free_own, (free_own, tt))
-
-      -- where the world throws, the inference is there already
-      pub front_passes : AreClear (levels_below (Some w.number) (v ∷ above))
-          → Passes clauses (front_of (v ∷ above) ++ (Credit (v.spent + 1) [] ∷ (first ++ back)))
-          (front ++ (Credit (min greatest (inferences credits + 1)) rows ∷ (first ++ back)))
-      front_passes clear =
-          let low = lower_front w.number levels in
-          let ones = low ++ (Credit (v.spent + 1) [] ∷ []) in
-          let quiet = quiet-append low (Credit (v.spent + 1) [] ∷ []) (lower_quiet w.number levels clear) tt in
-          let list : front_of levels ++ (Credit (v.spent + 1) [] ∷ (first ++ back)) ≡ front ++ ((ones ++ first) ++ back) =
-          ap (λ l. l ++ (Credit (v.spent + 1) [] ∷ (first ++ back))) (front_split w.number levels ∙ ap (λ l. front_of l ++ low) c.down)
-          ∙ (append-assoc front low (Credit (v.spent + 1) [] ∷ (first ++ back))
-          ∙ ap (λ l. front ++ l) (sym (append-assoc ones first back ∙ append-assoc low (Credit (v.spent + 1) [] ∷ [])
-          (first ++ back)))) in
-          let fixed : map (gives m (records ones)) first ≡ first = map-fixed clauses (records ones) first (tt, (tt, tt)) in
-          let same : records ones ≡ records credits = records-append low (Credit (v.spent + 1) [] ∷ [])
-          ∙ sym (records-append low (Credit v.spent [] ∷ [])) in
-          let out : outer (is_inner_record inside) (records ones) ≡ rows = ap (outer (is_inner_record inside)) same
-          ∙ sym (append-none (outer (is_inner_record inside) (records credits))) in
-          let counted : inferences ones ≡ inferences low + (v.spent + 1 + 0) = inferences-append low (Credit (v.spent + 1) [] ∷ []) in
-          let counted_old : inferences credits ≡ inferences low + (v.spent + 0) = inferences-append low (Credit v.spent [] ∷ []) in
-          let number : inferences ones ≡ inferences credits + 1 = omega (arith, counted, counted_old) in
-          let part : IsSegment inside front (ones ++ first) back = record {
-            grown = are_told.root (is_free_of up);
-            front = front_blind;
-            own = each-append (IsInner inside) ones first
-                (each-append (IsInner inside) low (Credit (v.spent + 1) [] ∷ []) lower.0 (tt, tt)) first_inner;
-            under = back_under;
-            some = some_count ones first (omega arith);
-          } in
-          let run = quiet-private clauses (is_inner_record inside) ones first quiet in
-          let becomes = private_becomes clauses inside (inferences ones) rows front (ones ++ first) first back part
-          (subst (λ l. Private m (is_inner_record inside) (inferences ones) rows (ones ++ first) l) fixed
-          (subst (λ rs. Private m (is_inner_record inside) (inferences ones) rs (ones ++ first) (map (gives m (records ones)) first))
-          out run)) in
-          let total : lead ((ones ++ first) ++ back) ≡ inferences ones + 0 = ap lead (append-assoc ones first back)
-          ∙ lead-quiet ones (first ++ back) quiet in
-          let one : Passes clauses (front ++ ((ones ++ first) ++ back)) (front ++ (Credit (inferences ones) rows ∷ (first ++ back))) =
-          passes_becoming clauses _ _ becomes
-          (lead-grows front ((ones ++ first) ++ back) (Credit (inferences ones) rows ∷ (first ++ back)) (omega (arith, total))) in
-          let two = credit_counted clauses front (first ++ back) (inferences ones) rows in
-          subst (λ k. Passes clauses (front_of levels ++ (Credit (v.spent + 1) [] ∷ (first ++ back)))
-          (front ++ (Credit (min greatest k) rows ∷ (first ++ back)))) number
-          (subst (λ l. Passes clauses l (front ++ (Credit (min greatest (inferences ones)) rows ∷ (first ++ back)))) (sym list)
-          (passes_then clauses _ _ _ one two))
-
-      pub front_sound : AreClear (levels_below (Some w.number) (v ∷ above)) → inside p ≡ true
-          → IsSound (front_of (v ∷ above) ++ (Credit v.spent [] ∷ (Plain p named ∷ back_of (v ∷ above)))) → IsSound (first ++ back)
-          → IsSound (front ++ (Credit (min greatest (inferences credits + 1)) rows ∷ (first ++ back)))
-      front_sound clear own i j =
-          let inner = is_inner_record inside in
-          let quiet = quiet-append (lower_front w.number levels) (Credit v.spent [] ∷ []) (lower_quiet w.number levels clear) tt in
-          let old : IsSound (front ++ ((credits ++ (Plain p named ∷ mid)) ++ back)) = subst IsSound list_is i in
-          let run = quiet-private clauses inner credits (Plain p named ∷ mid) quiet in
-          let s = segment own in
-          let gathered = (private-sound clauses inside s.grown back s.under (inferences credits) (outer inner (records credits))
-          (credits ++ (Plain p named ∷ mid)) (map (gives m (records credits)) (Plain p named ∷ mid)) run s.own
-          (sound-after front _ old)).1 in
-          let all = all-gathered clauses inside first back (outer inner (records credits)) first_inner (outer_apart (records credits))
-          gathered in
-          let whole : AllGathered clauses (first ++ back) rows = subst (AllGathered clauses (first ++ back))
-          (sym (append-none (outer inner (records credits)))) all in
-          sound_exchange clauses inside front (credits ++ (Plain p named ∷ mid))
-          (Credit (min greatest (inferences credits + 1)) rows ∷ first) back front_blind s.own (tt, first_inner) s.some old (whole, j)
-        where
-          outer_apart : (rs : List Record) → Each (λ r. inside r.0 ≡ false) (outer (is_inner_record inside) rs)
-          outer_apart [] = tt
-          outer_apart (r ∷ rs) = go (inside r.0) refl (outer_apart rs)
-            where
-              go : (b : Bool) → inside r.0 ≡ b → Each (λ r. inside r.0 ≡ false) (outer (is_inner_record inside) rs)
-                  → Each (λ r. inside r.0 ≡ false) (cond b (outer (is_inner_record inside) rs) (r ∷ outer (is_inner_record inside) rs))
-              go true e h = h
-              go false e h = (e, h)

@@ -1,5 +1,6 @@
 -- A ball by names finds the catch that it finds by levels.
-use Rattle.std.proofs.Common.{◌≡◌, ℕ, suc, ◌+◌, ◌≤◌, ◌==◌, Bool, true, false, cond, List, [], ◌∷◌, ◌++◌, map, length, Option, Some, None, refl, sym, ap, ◌∙◌, subst, arith}
+use Rattle.std.proofs.Common.{◌≡◌, ℕ, suc, ◌+◌, ◌≤◌, ◌==◌, Bool, true, false, cond, List, [], ◌∷◌, ◌++◌, map, length, Option, Some, None}
+use Rattle.std.proofs.Common.{refl, sym, ap, ◌∙◌, subst, arith}
 use Rattle.std.specs.Prelude.{◌||◌}
 use Rattle.au_term.specs.Term.{Term}
 use Rattle.run_model.specs.Programs.Clauses.{Clause}
@@ -7,31 +8,27 @@ use Rattle.au_model.specs.Terms.Substitutions.{Substitution}
 use Rattle.au_model.specs.Terms.Unifier.{unifier}
 use Rattle.au_model.specs.Terms.Copies.{copied, copy_takes}
 use Rattle.run_model.specs.Programs.Bodies.{call_of}
-use Rattle.run_model.specs.Machine.Items.{Item, GoalItem, CatchMark, CollectMark, RemovalItem, Continuation, first_mark, resolve_continuation, before, with_next}
-use Rattle.run_model.specs.Machine.Entries.{CatchEntry}
-use Rattle.tree_model.specs.Nodes.{Dormant, Status, Pending, Inner}
+use Rattle.run_model.specs.Machine.Items.{Item, GoalItem, CatchMark, CollectMark, RemovalItem, Continuation, first_mark, resolve_continuation}
+use Rattle.run_model.specs.Machine.Items.{before, with_next}
+use Rattle.tree_model.specs.Nodes.{Status, Inner}
 use Rattle.tree_model.specs.Levels.{Level, level_node, plug}
 use Rattle.tree_model.specs.Floors.{renamed_item}
-use Rattle.tree_model.specs.PendingLists.{Step, Way, way_of, scope_on, named_continuation, list_right, back_of}
+use Rattle.tree_model.specs.PendingLists.{Step, Way, way_of, scope_on, named_continuation, list_right}
 use Rattle.tree_model.specs.Ways.{is_on}
 use Rattle.tree_model.specs.SoundTrees.{count_among, one_if, IsOpen}
-use Rattle.tree_model.specs.CaughtTrees.{catch_right}
 use Rattle.tree_model.specs.Elements.{Name, same, Record, Element, Credit, Plain, EndOf, Catch, Findall, End}
-use Rattle.interleaving.specs.Machine.{Machine, Look, On, Here, gives, looked, search_for}
+use Rattle.interleaving.specs.Machine.{Machine, On, Here, gives}
 use Rattle.interleaving.specs.Scopes.{Shared, Sought, Scope, Thrown, Caught, look, give, with_result, recovered, scoped}
 use Rattle.interleaving.specs.Segments.{found_in, search_in}
 use Rattle.interleaving.proofs.ContextLemmas.{IsAround, count_left, count_around}
-use Rattle.interleaving.proofs.WayLemmas.{cond-true, cond-false, same_self, other_number, unlike}
+use Rattle.interleaving.proofs.WayLemmas.{cond-false, other_number, unlike}
 use Rattle.interleaving.proofs.AppendLemmas.{append-assoc}
 use Rattle.interleaving.proofs.NamingLemmas.{same-itself}
 use Rattle.interleaving.proofs.ListEndLemmas.{on-counts, ends_in, no_end_among, other_node, scope_at}
-use Rattle.interleaving.proofs.ListScopeLemmas.{IsDistinct, distinct-up, sleeps_on}
-use Rattle.interleaving.proofs.ListMarkLemmas.{catch_sleeps}
-use Rattle.interleaving.proofs.ClosingListLemmas.{Guards}
-use Rattle.interleaving.proofs.WakeLemmas.{second_right}
+use Rattle.interleaving.proofs.ListScopeLemmas.{IsDistinct}
 use Rattle.interleaving.proofs.CaughtContextLemmas.{RootCaught}
 use Rattle.interleaving.proofs.LowerListLemmas.{lower_back}
-use Rattle.interleaving.proofs.FallLemmas.{Fall, Nobody, Catches, caught_or, right_falls, fall, MarkSleeps, first_sleeps, sleeps_way, sleeper_marks, sleeper_guards, IsTaken, fall_taken}
+use Rattle.interleaving.proofs.FallLemmas.{Catches, fall, MarkSleeps, sleeps_way, IsTaken, fall_taken}
 
 clash : {A : Type 0} → false ≡ true → A
 clash h = let no_way : ⊥ = cc in absurd no_way

@@ -1,5 +1,6 @@
 -- What a ball leaves of a stack, node by node of the branch.
-use Rattle.std.proofs.Common.{◌≡◌, ◌⊎◌, inl, inr, ℕ, suc, ◌+◌, ◌≤◌, ◌==◌, Bool, true, false, cond, List, [], ◌∷◌, map, length, Option, Some, None, refl, sym, ap, ◌∙◌, subst, arith}
+use Rattle.std.proofs.Common.{◌≡◌, ◌⊎◌, inl, inr, ℕ, suc, ◌+◌, ◌≤◌, ◌==◌, Bool, true, false, cond, List, [], ◌∷◌, map, length, Option}
+use Rattle.std.proofs.Common.{Some, None, refl, sym, ap, ◌∙◌, subst, arith}
 use Rattle.au_term.specs.Term.{Term}
 use Rattle.au_model.specs.Terms.Substitutions.{Substitution}
 use Rattle.au_model.specs.Terms.Copies.{copied, copy_takes}
@@ -8,7 +9,8 @@ use Rattle.run_model.specs.Machine.Items.{GoalItem, Continuation, first_mark, re
 use Rattle.run_model.specs.Machine.Entries.{Entry, PlainEntry, CatchEntry, FindallEntry, EndEntry}
 use Rattle.run_model.specs.Machine.Balls.{is_height, taken_by, next_mark, recovered, unwound}
 use Rattle.tree_model.specs.Credits.{Credit}
-use Rattle.tree_model.specs.Nodes.{Kind, ChoiceNode, CatchNode, FindallNode, QueryNode, Ready, TakenBy, Waiting, Dormant, Alternatives, none, alternative, Status, Pending, Inner, Closed}
+use Rattle.tree_model.specs.Nodes.{Kind, ChoiceNode, CatchNode, FindallNode, QueryNode, Ready, TakenBy, Waiting, Dormant, Alternatives}
+use Rattle.tree_model.specs.Nodes.{none, alternative, Status, Pending, Inner, Closed}
 use Rattle.tree_model.specs.Levels.{Level}
 use Rattle.tree_model.specs.Floors.{node_of, floor_of}
 use Rattle.tree_model.specs.Pruning.{left_after}
@@ -24,7 +26,8 @@ use Rattle.interleaving.proofs.GrowingLemmas.{no_three, none_sleeps-of}
 use Rattle.interleaving.proofs.MarkLemmas.{no_query_to, IsMarkOn, first_mark_on}
 use Rattle.au_model.specs.Terms.Unifier.{unifier}
 use Rattle.interleaving.proofs.EntryLemmas.{own_height, length-floor}
-use Rattle.interleaving.proofs.BallLemmas.{NamesFloor, names-above, node_on, IsLow, landing_low, fallen, IsFalling, falls-above, stops_here, ends_sound, passes, recovery_on}
+use Rattle.interleaving.proofs.BallLemmas.{NamesFloor, names-above, node_on, IsLow, landing_low, fallen, IsFalling, falls-above}
+use Rattle.interleaving.proofs.BallLemmas.{stops_here, ends_sound, passes, recovery_on}
 
 -- where nothing can take a ball
 pub nothing_takes : (ball : Term) (es : List Entry) → unwound ball None es ≡ EndEntry (Some (copied ball 0)) ∷ []

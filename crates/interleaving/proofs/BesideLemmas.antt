@@ -1,5 +1,6 @@
 -- What is round an alternative in the list of a tree names nothing that the alternative and new nodes make.
-use Rattle.std.proofs.Common.{◌≡◌, ℕ, suc, ◌+◌, ◌≤◌, ◌==◌, Bool, true, false, cond, List, [], ◌∷◌, ◌++◌, map, length, refl, sym, ap, ◌∙◌, arith}
+use Rattle.std.proofs.Common.{◌≡◌, ℕ, suc, ◌+◌, ◌≤◌, ◌==◌, Bool, true, false, cond, List, [], ◌∷◌, ◌++◌, map, length, refl, sym, ap, ◌∙◌}
+use Rattle.std.proofs.Common.{arith}
 use Rattle.std.specs.Prelude.{◌||◌, nat_le}
 use Rattle.au_term.specs.Term.{Term}
 use Rattle.au_model.specs.Terms.Each.{Each}
@@ -8,10 +9,12 @@ use Rattle.run_model.specs.Machine.Entries.{Entry, PlainEntry, CatchEntry, Finda
 use Rattle.tree_model.specs.Elements.{Name, same, Element, EndOf}
 use Rattle.interleaving.specs.Roots.{rooted}
 use Rattle.interleaving.specs.Views.{IsBeside, IsItemApart, IsRecordApart, IsBlind}
-use Rattle.tree_model.specs.Nodes.{Kind, CatchNode, FindallNode, Hold, Ready, TakenBy, Waiting, Dormant, Node, Numbered, Alternatives, none, alternative, Status, Pending, Inner, Closed}
+use Rattle.tree_model.specs.Nodes.{Kind, CatchNode, FindallNode, Hold, Ready, TakenBy, Waiting, Dormant, Node, Numbered, Alternatives}
+use Rattle.tree_model.specs.Nodes.{none, alternative, Status, Pending, Inner, Closed}
 use Rattle.tree_model.specs.Floors.{renamed_item}
 use Rattle.tree_model.specs.Pruning.{is_findall}
-use Rattle.tree_model.specs.PendingLists.{Step, Way, step_name, scope_on, findall_on, element_at, own_credit, list_in, list_among, list_below, list_left}
+use Rattle.tree_model.specs.PendingLists.{Step, Way, step_name, scope_on, findall_on, element_at, own_credit, list_in, list_among}
+use Rattle.tree_model.specs.PendingLists.{list_below, list_left}
 use Rattle.tree_model.specs.Ways.{is_on, way_from, way_above, AreScoped, IsOnWay}
 use Rattle.tree_model.specs.SoundTrees.{one_if, count_in, count_among, count_below, IsSoundNode, AreSound, IsSound}
 use Rattle.interleaving.proofs.WayLemmas.{cond-same, reach-on, through-on, same_self}

@@ -4,14 +4,17 @@ use Rattle.au_term.specs.Term.{Term}
 use Rattle.au_model.specs.Terms.Each.{Each}
 use Rattle.run_model.specs.Machine.Items.{Item, GoalItem, CatchMark, CollectMark, RemovalItem}
 use Rattle.run_model.specs.Machine.Entries.{Entry, PlainEntry, CatchEntry, FindallEntry, EndEntry}
-use Rattle.tree_model.specs.Nodes.{Kind, CatchNode, FindallNode, Ready, TakenBy, Waiting, Dormant, Node, Numbered, Alternatives, none, alternative, Status, Pending, Inner, Closed}
+use Rattle.tree_model.specs.Nodes.{Kind, CatchNode, FindallNode, Ready, TakenBy, Waiting, Dormant, Node, Numbered, Alternatives, none}
+use Rattle.tree_model.specs.Nodes.{alternative, Status, Pending, Inner, Closed}
 use Rattle.tree_model.specs.Levels.{Level}
 use Rattle.tree_model.specs.Floors.{renamed_item}
 use Rattle.tree_model.specs.Pruning.{is_findall}
 use Rattle.tree_model.specs.Elements.{Name, Element, Credit, Plain, EndOf, Catch, Findall, End}
-use Rattle.tree_model.specs.PendingLists.{Step, Way, way_of, scope_on, findall_on, element_on, list_in, list_among, list_below, list_left, list_right, level_front, front_of, back_of}
+use Rattle.tree_model.specs.PendingLists.{Step, Way, way_of, scope_on, findall_on, element_on, list_in, list_among, list_below, list_left}
+use Rattle.tree_model.specs.PendingLists.{list_right, level_front, front_of, back_of}
 use Rattle.tree_model.specs.Ways.{is_on, way_from, way_above, AreScoped, IsOnWay}
-use Rattle.tree_model.specs.SoundTrees.{one_if, count_in, count_among, count_below, IsOpen, IsSound as IsSoundStatus, IsSoundNode, AreSound}
+use Rattle.tree_model.specs.SoundTrees.{one_if, count_in, count_among, count_below, IsOpen, IsSound as IsSoundStatus, IsSoundNode}
+use Rattle.tree_model.specs.SoundTrees.{AreSound}
 use Rattle.interleaving.specs.Roots.{rooted}
 use Rattle.interleaving.specs.Views.{IsApart, IsBeside, IsItemApart, IsRecordApart, IsBlind, IsUnder}
 use Rattle.interleaving.proofs.ContextLemmas.{LeftSound, IsAround, count_left, count_around}

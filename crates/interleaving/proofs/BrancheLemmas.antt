@@ -1,5 +1,6 @@
 -- Where the scopes of a branch end: below, and in the list to the right.
-use Rattle.std.proofs.Common.{◌≡◌, ℕ, suc, ◌==◌, Bool, true, false, cond, List, [], ◌∷◌, ◌++◌, length, length-append, refl, sym, ap, ◌∙◌, subst, arith}
+use Rattle.std.proofs.Common.{◌≡◌, ℕ, suc, ◌==◌, Bool, true, false, cond, List, [], ◌∷◌, ◌++◌, length, length-append, refl, sym, ap, ◌∙◌}
+use Rattle.std.proofs.Common.{subst, arith}
 use Rattle.tree_model.specs.Elements.{Name}
 use Rattle.interleaving.specs.Erased.{from}
 use Rattle.interleaving.specs.Sound.{IsOlder}

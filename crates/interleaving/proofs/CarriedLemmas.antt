@@ -1,13 +1,16 @@
 -- Entries whose names can be read stay so as their own steps change what is under them.
-use Rattle.std.proofs.Common.{◌≡◌, ℕ, Bool, true, false, cond, List, [], ◌∷◌, ◌++◌, map, length, length-append, sym, ap, ◌∙◌, subst, arith}
+use Rattle.std.proofs.Common.{◌≡◌, ℕ, Bool, true, false, cond, List, [], ◌∷◌, ◌++◌, map, length, length-append, sym, ap, ◌∙◌, subst}
+use Rattle.std.proofs.Common.{arith}
 use Rattle.au_term.specs.Term.{Term}
 use Rattle.au_model.specs.Terms.Each.{Each}
 use Rattle.au_model.specs.Terms.Substitutions.{Substitution}
 use Rattle.run_model.specs.Machine.Items.{Item, GoalItem, CatchMark, CollectMark, RemovalItem, resolve_item, goals_at, without_marks}
 use Rattle.tree_model.specs.Elements.{Name, same, Element, Credit, Plain, EndOf, Catch, Findall, End}
 use Rattle.interleaving.specs.Erased.{from}
-use Rattle.interleaving.specs.Sound.{names, IsOlder, IsPresent, AreCarried, IsGuarded, IsGathered, IsMarkSound, EachFindall, IsEntrySound, IsSound}
-use Rattle.interleaving.proofs.NamingLemmas.{names-resolved, IsMadeBy, from_end, from_own, from-made, not_child, all-later, carried_child, carried_cut, carried_rest, not_longer}
+use Rattle.interleaving.specs.Sound.{names, IsOlder, IsPresent, AreCarried, IsGuarded, IsGathered, IsMarkSound, EachFindall, IsEntrySound}
+use Rattle.interleaving.specs.Sound.{IsSound}
+use Rattle.interleaving.proofs.NamingLemmas.{names-resolved, IsMadeBy, from_end, from_own, from-made, not_child, all-later, carried_child}
+use Rattle.interleaving.proofs.NamingLemmas.{carried_cut, carried_rest, not_longer}
 
 -- Findall entries
 pub findalls-from : (P : Name → Type 0) (xs : List Element) (s : Name) → EachFindall P xs → EachFindall P (from xs s)

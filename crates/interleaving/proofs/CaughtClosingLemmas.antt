@@ -1,5 +1,6 @@
 -- Where an alternative closes, the tree keeps its marks, records and queries.
-use Rattle.std.proofs.Common.{◌≡◌, ◌⊎◌, inl, inr, ℕ, suc, ◌==◌, Bool, true, false, List, [], ◌∷◌, ◌++◌, length, Option, Some, None, refl, sym, ap, ◌∙◌, subst, arith}
+use Rattle.std.proofs.Common.{◌≡◌, ◌⊎◌, inl, inr, ℕ, suc, ◌==◌, Bool, true, false, List, [], ◌∷◌, ◌++◌, length, Option, Some, None, refl}
+use Rattle.std.proofs.Common.{sym, ap, ◌∙◌, subst, arith}
 use Rattle.std.specs.Prelude.{◌||◌}
 use Rattle.au_term.specs.Term.{Term}
 use Rattle.run_model.specs.Machine.Items.{Item, GoalItem, CatchMark, CollectMark, RemovalItem, Continuation}
@@ -7,7 +8,8 @@ use Rattle.run_model.specs.Machine.Entries.{Entry, PlainEntry, CatchEntry, Finda
 use Rattle.tree_model.specs.Credits.{Credit, no_credit, added, credit_of, without_records}
 use Rattle.tree_model.specs.Nodes.{Kind, CatchNode, Dormant, Alternatives, none, alternative, Status, Pending, Inner, Closed, single}
 use Rattle.tree_model.specs.Levels.{Level, put_left, level_node, plug}
-use Rattle.tree_model.specs.Closing.{with_right, with_results, findall_goes_on, guarded, and_then, all_right, all_left, all_closed, folds, wakes, goal_side_closes, closes}
+use Rattle.tree_model.specs.Closing.{with_right, with_results, findall_goes_on, guarded, and_then, all_right, all_left, all_closed, folds}
+use Rattle.tree_model.specs.Closing.{wakes, goal_side_closes, closes}
 use Rattle.tree_model.specs.PendingLists.{Way, way_of}
 use Rattle.tree_model.specs.Ways.{is_on, way_from, way_above, AreScoped, IsOnWay}
 use Rattle.tree_model.specs.SoundTrees.{Profile, IsOpen, AreSound}
@@ -20,7 +22,8 @@ use Rattle.interleaving.proofs.ClosingListLemmas.{guards_of, no_side}
 use Rattle.interleaving.proofs.ListScopeLemmas.{sleeps_on}
 use Rattle.interleaving.proofs.FoldLemmas.{CaughtAt}
 use Rattle.interleaving.proofs.ListsSoundLemmas.{under_of}
-use Rattle.interleaving.proofs.CaughtContextLemmas.{caught_plug, caught_level, caught_after, caught_down, Rests, AllRest, rests_plug, rests_level, unspent_nodes, unspent_level, IsCaughtRoot}
+use Rattle.interleaving.proofs.CaughtContextLemmas.{caught_plug, caught_level, caught_after, caught_down, Rests, AllRest, rests_plug}
+use Rattle.interleaving.proofs.CaughtContextLemmas.{rests_level, unspent_nodes, unspent_level, IsCaughtRoot}
 
 clash : {A : Type 0} → false ≡ true → A
 clash h = let no_way : ⊥ = cc in absurd no_way

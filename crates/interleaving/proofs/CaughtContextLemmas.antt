@@ -3,7 +3,8 @@ use Rattle.std.proofs.Common.{◌≡◌, inl, inr, ℕ, Bool, true, false, List,
 use Rattle.tree_model.specs.Nodes.{Kind, Alternatives, none, alternative, Numbered, Status, Pending, Inner, Closed}
 use Rattle.tree_model.specs.Levels.{Level, put_left, level_node, plug}
 use Rattle.tree_model.specs.Orders.{is_closed}
-use Rattle.tree_model.specs.CaughtTrees.{catch_right, with_catch, is_side, IsCaught, AreCaught, HasNoQuery, HaveNoQuery, HasNoQueryNode, AreNoQueryNodes, IsDoneBefore, IsLastQuery, AreLast, IsUnspent, AreUnspent}
+use Rattle.tree_model.specs.CaughtTrees.{catch_right, with_catch, is_side, IsCaught, AreCaught, HasNoQuery, HaveNoQuery, HasNoQueryNode}
+use Rattle.tree_model.specs.CaughtTrees.{AreNoQueryNodes, IsDoneBefore, IsLastQuery, AreLast, IsUnspent, AreUnspent}
 use Rattle.interleaving.proofs.ListScopeLemmas.{sleeps_on}
 use Rattle.interleaving.proofs.ListsSoundLemmas.{under_of}
 use Rattle.interleaving.proofs.FoldLemmas.{CaughtAt}

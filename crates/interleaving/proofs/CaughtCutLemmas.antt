@@ -8,7 +8,8 @@ use Rattle.tree_model.specs.Pruning.{emptied, pruned}
 use Rattle.tree_model.specs.PendingLists.{Way, way_of}
 use Rattle.tree_model.specs.Ways.{is_on, way_from, way_above, AreScoped}
 use Rattle.tree_model.specs.SoundTrees.{IsOpen}
-use Rattle.tree_model.specs.CaughtTrees.{catch_right, with_catch, MarksCaught, is_side, IsCaught, AreCaught, HaveNoQuery, AreNoQueryNodes, AreLast, IsUnspent, AreUnspent}
+use Rattle.tree_model.specs.CaughtTrees.{catch_right, with_catch, MarksCaught, is_side, IsCaught, AreCaught, HaveNoQuery, AreNoQueryNodes}
+use Rattle.tree_model.specs.CaughtTrees.{AreLast, IsUnspent, AreUnspent}
 use Rattle.interleaving.proofs.ContextLemmas.{IsAround}
 use Rattle.interleaving.proofs.WayLemmas.{cond-false, through-on, other_number}
 use Rattle.interleaving.proofs.RoundtripLemmas.{part_from, part_above}

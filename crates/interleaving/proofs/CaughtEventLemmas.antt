@@ -1,18 +1,21 @@
 -- Each event keeps the marks, records and queries of a tree.
-use Rattle.std.proofs.Common.{◌≡◌, inr, ℕ, suc, ◌+◌, ◌==◌, Bool, true, false, cond, List, [], ◌∷◌, ◌++◌, map, Option, Some, None, refl, sym, subst}
+use Rattle.std.proofs.Common.{◌≡◌, inr, ℕ, suc, ◌+◌, ◌==◌, Bool, true, false, cond, List, [], ◌∷◌, ◌++◌, map, Option, Some, None, refl}
+use Rattle.std.proofs.Common.{sym, subst}
 use Rattle.au_term.specs.Term.{Term}
 use Rattle.au_model.specs.Terms.Each.{Each}
 use Rattle.au_model.specs.Terms.Substitutions.{Substitution}
 use Rattle.au_model.specs.Terms.Unifier.{unifier}
 use Rattle.run_model.specs.Goals.Outcomes.{Solution}
-use Rattle.run_model.specs.Machine.Items.{Item, GoalItem, CatchMark, CollectMark, RemovalItem, Continuation, goals_at, before, with_next, without_marks}
+use Rattle.run_model.specs.Machine.Items.{Item, GoalItem, CatchMark, CollectMark, RemovalItem, Continuation, goals_at, before, with_next}
+use Rattle.run_model.specs.Machine.Items.{without_marks}
 use Rattle.run_model.specs.Machine.Entries.{Entry, unified, solution_entry, solution_entries}
 use Rattle.tree_model.specs.Nodes.{ChoiceNode, Ready, standing}
 use Rattle.tree_model.specs.Levels.{Level}
 use Rattle.tree_model.specs.Floors.{with_nodes}
 use Rattle.tree_model.specs.Orders.{levels_below}
 use Rattle.tree_model.specs.TreeStates.{TreeState}
-use Rattle.tree_model.specs.CaughtTrees.{catch_right, with_catch, MarksCaught, EntryCaught, AreCaught, IsNoEnd, HaveNoQuery, AreNoQueryNodes, AreLast, AreUnspent, IsCaughtTree}
+use Rattle.tree_model.specs.CaughtTrees.{catch_right, with_catch, MarksCaught, EntryCaught, AreCaught, IsNoEnd, HaveNoQuery}
+use Rattle.tree_model.specs.CaughtTrees.{AreNoQueryNodes, AreLast, AreUnspent, IsCaughtTree}
 use Rattle.interleaving.proofs.RoundtripLemmas.{by_nodes}
 use Rattle.interleaving.proofs.AppendLemmas.{each-append}
 use Rattle.interleaving.proofs.ClockLemmas.{AreClear}

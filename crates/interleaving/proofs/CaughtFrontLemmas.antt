@@ -1,5 +1,6 @@
 -- What is at the front is taken, and the tree keeps its marks, records and queries.
-use Rattle.std.proofs.Common.{◌≡◌, inl, inr, ℕ, ◌+◌, Bool, true, false, cond, List, [], ◌∷◌, length, Option, Some, None, refl, sym, ◌∙◌, subst}
+use Rattle.std.proofs.Common.{◌≡◌, inl, inr, ℕ, ◌+◌, Bool, true, false, cond, List, [], ◌∷◌, length, Option, Some, None, refl, sym, ◌∙◌}
+use Rattle.std.proofs.Common.{subst}
 use Rattle.au_term.specs.Term.{Term}
 use Rattle.run_model.specs.Programs.Clauses.{Clause}
 use Rattle.run_model.specs.Programs.Databases.{Database, without_clause}
@@ -23,14 +24,16 @@ use Rattle.tree_model.specs.TreeStates.{TreeState, opened_node}
 use Rattle.tree_model.specs.Effects.{query_opens, front_taken, world_moved}
 use Rattle.tree_model.specs.PendingLists.{way_of}
 use Rattle.tree_model.specs.Ways.{AreScoped, under_query, IsAsked, IsOnWay}
-use Rattle.tree_model.specs.CaughtTrees.{catch_right, MarksCaught, EntryCaught, IsNoEnd, HasNoQuery, HaveNoQuery, IsLastQuery, AreLast, IsCaughtTree}
+use Rattle.tree_model.specs.CaughtTrees.{catch_right, MarksCaught, EntryCaught, IsNoEnd, HasNoQuery, HaveNoQuery, IsLastQuery, AreLast}
+use Rattle.tree_model.specs.CaughtTrees.{IsCaughtTree}
 use Rattle.tree_model.specs.SoundTrees.{IsOpen}
 use Rattle.interleaving.proofs.RoundtripLemmas.{by_heights}
 use Rattle.interleaving.proofs.GrowingLemmas.{around_path}
 use Rattle.interleaving.proofs.PlacedEntryLemmas.{IsAt, marks_dropped, marks_heights, rest_asked}
 use Rattle.interleaving.proofs.ListScopeLemmas.{sleeps_on}
 use Rattle.interleaving.proofs.ClockLemmas.{AreShut, AreClear}
-use Rattle.interleaving.proofs.CaughtContextLemmas.{IsSome, last_down, caught_level, first_rests, rests_level, unspent_level, IsCaughtRoot}
+use Rattle.interleaving.proofs.CaughtContextLemmas.{IsSome, last_down, caught_level, first_rests, rests_level, unspent_level}
+use Rattle.interleaving.proofs.CaughtContextLemmas.{IsCaughtRoot}
 use Rattle.interleaving.proofs.CaughtHoldLemmas.{open_right}
 use Rattle.interleaving.proofs.CaughtEventLemmas.{as_tree, marks_opened, marks_without, solutions_caught}
 use Rattle.interleaving.proofs.CaughtPruneLemmas.{closed_kept, left_kept, marks_left, thrown_kept}

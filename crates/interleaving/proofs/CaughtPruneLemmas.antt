@@ -1,16 +1,19 @@
 -- A cut or a ball keeps the marks, records and queries of a tree.
-use Rattle.std.proofs.Common.{◌≡◌, inl, ℕ, suc, ◌+◌, ◌==◌, Bool, true, false, cond, List, [], ◌∷◌, map, length, Some, None, refl, sym, ap, ◌∙◌, subst, arith}
+use Rattle.std.proofs.Common.{◌≡◌, inl, ℕ, suc, ◌+◌, ◌==◌, Bool, true, false, cond, List, [], ◌∷◌, map, length, Some, None, refl, sym, ap}
+use Rattle.std.proofs.Common.{◌∙◌, subst, arith}
 use Rattle.std.specs.Prelude.{nat_lt}
 use Rattle.au_term.specs.Term.{Term}
 use Rattle.au_model.specs.Terms.Each.{Each}
 use Rattle.run_model.specs.Programs.Clauses.{Clause}
 use Rattle.run_model.specs.Goals.GoalOutcomes.{outcome_of}
 use Rattle.run_model.specs.Machine.Balls.{unwound}
-use Rattle.run_model.specs.Goals.Outcomes.{Solutions, Ball, HaltNumber, GoesOnWith, EitherOf, TestOf, CutToScope, CatchOf, FindallOf, Outcome, Replies, Controls, AskWorld}
+use Rattle.run_model.specs.Goals.Outcomes.{Solutions, Ball, HaltNumber, GoesOnWith, EitherOf, TestOf, CutToScope, CatchOf, FindallOf, Outcome}
+use Rattle.run_model.specs.Goals.Outcomes.{Replies, Controls, AskWorld}
 use Rattle.run_model.specs.Machine.Items.{Item, GoalItem, CatchMark, CollectMark, RemovalItem, Continuation, first_mark, with_items, without_marks}
 use Rattle.run_model.specs.Machine.Entries.{Entry, PlainEntry, CatchEntry, FindallEntry, EndEntry}
 use Rattle.tree_model.specs.Credits.{Credit, no_credit, credit_of}
-use Rattle.tree_model.specs.Nodes.{CutGate, BallGate, ChoiceNode, Ready, Node, Numbered, Alternatives, alternative, Status, Inner, Closed, single, standing}
+use Rattle.tree_model.specs.Nodes.{CutGate, BallGate, ChoiceNode, Ready, Node, Numbered, Alternatives, alternative, Status, Inner, Closed}
+use Rattle.tree_model.specs.Nodes.{single, standing}
 use Rattle.tree_model.specs.Levels.{Level, plug, Spot, levels_of}
 use Rattle.tree_model.specs.Floors.{height_of, floor_of, node_of, with_heights, with_nodes}
 use Rattle.tree_model.specs.Gates.{landing_scope, lands_above, ball_gate, control_gate, goal_gate, item_gate, gate_on}
@@ -36,11 +39,13 @@ use Rattle.interleaving.proofs.ClockLemmas.{AreClear}
 use Rattle.interleaving.proofs.CaughtContextLemmas.{caught_level, Rests, first_rests, rests_level, unspent_level, IsCaughtRoot}
 use Rattle.interleaving.proofs.CaughtClosingLemmas.{RecordsUnder, closed_rests, root_put, closes_caught, marks_other, off_numbers}
 use Rattle.interleaving.proofs.BallLevelLemmas.{clear_below}
-use Rattle.interleaving.proofs.FallLemmas.{Fall, Nobody, Catches, fall, fall_entries, IsTaken, landing_falls, fall_taken, first_height, first_sleeps}
+use Rattle.interleaving.proofs.FallLemmas.{Fall, Nobody, Catches, fall, fall_entries, IsTaken, landing_falls, fall_taken, first_height}
+use Rattle.interleaving.proofs.FallLemmas.{first_sleeps}
 use Rattle.interleaving.proofs.BallPlaceLemmas.{scope_down, query_at}
 use Rattle.interleaving.proofs.CaughtBallLemmas.{recovery_caught, lost_caught}
 use Rattle.interleaving.proofs.CaughtCutLemmas.{marks_agree, cut_root}
-use Rattle.interleaving.proofs.CaughtEventLemmas.{clash, as_tree, clear_spent, marks_without, NewCaught, OverCaught, each_named, standing_caught, standing_no_query, standing_no_node, standing_last, standing_unspent}
+use Rattle.interleaving.proofs.CaughtEventLemmas.{clash, as_tree, clear_spent, marks_without, NewCaught, OverCaught, each_named}
+use Rattle.interleaving.proofs.CaughtEventLemmas.{standing_caught, standing_no_query, standing_no_node, standing_last, standing_unspent}
 
 -- round an open place
 module _ (t : TreeState) (s : Spot) (h : IsAt t s) (old : Status)

@@ -24,7 +24,8 @@ use Rattle.interleaving.proofs.CaughtPruneLemmas.{closed_kept, stack_pruned}
 use Rattle.tree_model.specs.Events.{Event, Empty, Collected, Prune, Answer}
 use Rattle.tree_model.specs.Levels.{Place}
 use Rattle.tree_model.specs.TreeStates.{leftmost}
-use Rattle.tree_model.specs.Legality.{is_world_gate, is_spot_at, taken_at, gate_of, at_spot, is_legal, run_of, run_is_empty, run_gives_result}
+use Rattle.tree_model.specs.Legality.{is_world_gate, is_spot_at, taken_at, gate_of, at_spot, is_legal, run_of, run_is_empty}
+use Rattle.tree_model.specs.Legality.{run_gives_result}
 use Rattle.tree_model.specs.Effects.{stack_of, where_some, after_event, results_of}
 use Rattle.tree_model.specs.SoundTrees.{IsSoundTree}
 use Rattle.std.specs.Prelude.{◌&&◌}

@@ -1,16 +1,19 @@
 -- The clock of the leftmost pending alternative counts what is in front of the list; where nothing is pending, the
 -- list is credits and ends alone.
-use Rattle.std.proofs.Common.{◌≡◌, ℕ, suc, ◌+◌, Bool, true, false, cond, List, [], ◌∷◌, ◌++◌, length, Option, Some, None, refl, sym, ap, ◌∙◌, subst, arith}
+use Rattle.std.proofs.Common.{◌≡◌, ℕ, suc, ◌+◌, Bool, true, false, cond, List, [], ◌∷◌, ◌++◌, length, Option, Some, None, refl, sym, ap}
+use Rattle.std.proofs.Common.{◌∙◌, subst, arith}
 use Rattle.std.specs.Prelude.{min}
 use Rattle.au_model.specs.Terms.Each.{Each}
 use Rattle.run_model.specs.Machine.Entries.{Entry, PlainEntry, CatchEntry, FindallEntry, EndEntry}
 use Rattle.tree_model.specs.Credits.{greatest}
-use Rattle.tree_model.specs.Nodes.{Kind, Hold, Ready, TakenBy, Waiting, Dormant, Node, Numbered, Alternatives, none, alternative, Status, Pending, Inner, Closed}
+use Rattle.tree_model.specs.Nodes.{Kind, Hold, Ready, TakenBy, Waiting, Dormant, Node, Numbered, Alternatives, none, alternative, Status}
+use Rattle.tree_model.specs.Nodes.{Pending, Inner, Closed}
 use Rattle.tree_model.specs.Levels.{Level, Place, Spot, levels_of, pending_in, pending_among, pending_below, pending_of}
 use Rattle.tree_model.specs.Orders.{is_closed, first_open_left, first_open, credits_left, clock_of}
 use Rattle.tree_model.specs.TreeStates.{TreeState, leftmost, first_spot, pending}
 use Rattle.tree_model.specs.Elements.{Element, Credit as CreditElement, EndOf, Plain, Catch, Findall, End}
-use Rattle.tree_model.specs.PendingLists.{Way, way_of, element_on, own_credit, list_in, list_among, list_below, pending_list, list_left, spent_at, front_of, back_of}
+use Rattle.tree_model.specs.PendingLists.{Way, way_of, element_on, own_credit, list_in, list_among, list_below, pending_list, list_left}
+use Rattle.tree_model.specs.PendingLists.{spent_at, front_of, back_of}
 use Rattle.tree_model.specs.Ways.{IsOnWay, IsAwake, IsHeldBy}
 use Rattle.tree_model.specs.SoundTrees.{IsOpen, profile, IsSound, IsSoundTree}
 use Rattle.interleaving.specs.Quiet.{IsQuiet, inferences}

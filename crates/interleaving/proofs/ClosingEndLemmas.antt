@@ -5,7 +5,8 @@ use Rattle.run_model.specs.Machine.Entries.{Entry, PlainEntry, CatchEntry, Finda
 use Rattle.tree_model.specs.Credits.{Credit, no_credit, without_records}
 use Rattle.tree_model.specs.Nodes.{Alternatives, Status, Inner, Closed, single}
 use Rattle.tree_model.specs.Levels.{Level}
-use Rattle.tree_model.specs.Closing.{Grown, dormant_right, guarded, with_right, all_closed, folds, wakes, findall_goes_on, with_results, goal_side_closes, closes}
+use Rattle.tree_model.specs.Closing.{Grown, dormant_right, guarded, with_right, all_closed, folds, wakes, findall_goes_on, with_results}
+use Rattle.tree_model.specs.Closing.{goal_side_closes, closes}
 use Rattle.tree_model.specs.PendingLists.{way_of, list_right, pending_list, back_of}
 use Rattle.tree_model.specs.Ways.{under_query, is_query}
 use Rattle.tree_model.specs.SoundTrees.{IsOpen}

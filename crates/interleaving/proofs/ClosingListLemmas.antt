@@ -1,17 +1,21 @@
 -- A place that closes: nodes fold along its branch, a recovery that slept is gone, and what sleeps else wakes.
-use Rattle.std.proofs.Common.{◌≡◌, ℕ, suc, ◌==◌, Bool, true, false, List, [], ◌∷◌, ◌++◌, map, length, Option, Some, None, refl, sym, ap, ◌∙◌, subst, arith}
+use Rattle.std.proofs.Common.{◌≡◌, ℕ, suc, ◌==◌, Bool, true, false, List, [], ◌∷◌, ◌++◌, map, length, Option, Some, None, refl, sym, ap}
+use Rattle.std.proofs.Common.{◌∙◌, subst, arith}
 use Rattle.au_term.specs.Term.{Term}
 use Rattle.au_model.specs.Terms.Each.{Each}
 use Rattle.run_model.specs.Programs.Clauses.{Clause}
 use Rattle.run_model.specs.Machine.Items.{Continuation}
 use Rattle.run_model.specs.Machine.Entries.{Entry, PlainEntry, CatchEntry, FindallEntry, EndEntry}
 use Rattle.tree_model.specs.Credits.{Credit as TreeCredit, added, credit_of, no_credit, without_records}
-use Rattle.tree_model.specs.Nodes.{Kind, ChoiceNode, CatchNode, FindallNode, QueryNode, Ready, TakenBy, Waiting, Dormant, Alternatives, none, alternative, Status, Pending, Inner, Closed}
+use Rattle.tree_model.specs.Nodes.{Kind, ChoiceNode, CatchNode, FindallNode, QueryNode, Ready, TakenBy, Waiting, Dormant, Alternatives}
+use Rattle.tree_model.specs.Nodes.{none, alternative, Status, Pending, Inner, Closed}
 use Rattle.tree_model.specs.Levels.{Level, plug}
 use Rattle.tree_model.specs.Pruning.{is_findall}
-use Rattle.tree_model.specs.Closing.{dormant_right, guarded, with_right, all_closed, folds, wakes, findall_goes_on, with_results, goal_side_closes, closes}
+use Rattle.tree_model.specs.Closing.{dormant_right, guarded, with_right, all_closed, folds, wakes, findall_goes_on, with_results}
+use Rattle.tree_model.specs.Closing.{goal_side_closes, closes}
 use Rattle.tree_model.specs.Elements.{Record, Credit, EndOf}
-use Rattle.tree_model.specs.PendingLists.{way_of, findall_on, balance_on, element_on, list_among, list_left, list_right, pending_list, front_of, back_of}
+use Rattle.tree_model.specs.PendingLists.{way_of, findall_on, balance_on, element_on, list_among, list_left, list_right, pending_list}
+use Rattle.tree_model.specs.PendingLists.{front_of, back_of}
 use Rattle.tree_model.specs.SoundTrees.{one_if, IsOpen, Sleeps, profile, profiles, is_shape, guards}
 use Rattle.tree_model.specs.CaughtTrees.{is_side}
 use Rattle.interleaving.specs.Laws.{IsSegment}

@@ -1,16 +1,21 @@
 -- Where an alternative closes, the tree stays sound.
-use Rattle.std.proofs.Common.{◌≡◌, ℕ, suc, ◌+◌, ◌≤◌, ◌==◌, Bool, true, false, List, [], ◌∷◌, Option, Some, None, refl, sym, ap, ◌∙◌, subst, arith}
+use Rattle.std.proofs.Common.{◌≡◌, ℕ, suc, ◌+◌, ◌≤◌, ◌==◌, Bool, true, false, List, [], ◌∷◌, Option, Some, None, refl, sym, ap, ◌∙◌}
+use Rattle.std.proofs.Common.{subst, arith}
 use Rattle.au_term.specs.Term.{Term}
 use Rattle.run_model.specs.Machine.Items.{Continuation}
 use Rattle.run_model.specs.Machine.Entries.{Entry, PlainEntry, CatchEntry, FindallEntry, EndEntry}
 use Rattle.tree_model.specs.Credits.{Credit, no_credit}
-use Rattle.tree_model.specs.Nodes.{Kind, ChoiceNode, Ready, TakenBy, Waiting, Dormant, Alternatives, none, alternative, Status, Pending, Inner, Closed, single}
+use Rattle.tree_model.specs.Nodes.{Kind, ChoiceNode, Ready, TakenBy, Waiting, Dormant, Alternatives, none, alternative, Status, Pending}
+use Rattle.tree_model.specs.Nodes.{Inner, Closed, single}
 use Rattle.tree_model.specs.Levels.{Level, plug}
-use Rattle.tree_model.specs.Closing.{Grown, guarded, with_right, with_results, findall_goes_on, and_then, closed_credit, all_right, all_left, all_closed, folds, wakes, goal_side_closes, closes}
+use Rattle.tree_model.specs.Closing.{Grown, guarded, with_right, with_results, findall_goes_on, and_then, closed_credit, all_right}
+use Rattle.tree_model.specs.Closing.{all_left, all_closed, folds, wakes, goal_side_closes, closes}
 use Rattle.tree_model.specs.PendingLists.{Step, Way, way_of}
 use Rattle.tree_model.specs.Ways.{is_on, in_reach, way_from, AreScoped, is_query, under_query, IsAsked, IsOnWay, IsAwake}
-use Rattle.tree_model.specs.SoundTrees.{one_if, count_among, count_below, Profile, IsOpen, Sleeps, IsShut, profile, profiles, some_open, IsSound}
-use Rattle.interleaving.proofs.ContextLemmas.{put_profiles, level_profiles, IsLevel, IsAround, live_at, put_open, put_in, count_around, count_plug}
+use Rattle.tree_model.specs.SoundTrees.{one_if, count_among, count_below, Profile, IsOpen, Sleeps, IsShut, profile, profiles, some_open}
+use Rattle.tree_model.specs.SoundTrees.{IsSound}
+use Rattle.interleaving.proofs.ContextLemmas.{put_profiles, level_profiles, IsLevel, IsAround, live_at, put_open, put_in, count_around}
+use Rattle.interleaving.proofs.ContextLemmas.{count_plug}
 use Rattle.interleaving.proofs.WayLemmas.{cond-true, cond-false, cond-same, one_if-zero, off_way, below_new, same_self, unlike}
 use Rattle.interleaving.proofs.ShapeLemmas.{sleeping, shape_shut, shape_woken, shape_gone, plain_awake, findall_kind}
 

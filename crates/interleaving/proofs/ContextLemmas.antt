@@ -4,7 +4,8 @@ use Rattle.tree_model.specs.Nodes.{Kind, Alternatives, alternative, Status, Inne
 use Rattle.tree_model.specs.Levels.{Level, put_left, level_node, plug}
 use Rattle.tree_model.specs.PendingLists.{Way, way_of}
 use Rattle.tree_model.specs.Ways.{is_on}
-use Rattle.tree_model.specs.SoundTrees.{one_if, count_among, count_below, Profile, IsOpen, Sleeps, IsShut, profile, profiles, is_shape, some_open, is_live, AreSound, IsSound}
+use Rattle.tree_model.specs.SoundTrees.{one_if, count_among, count_below, Profile, IsOpen, Sleeps, IsShut, profile, profiles, is_shape}
+use Rattle.tree_model.specs.SoundTrees.{some_open, is_live, AreSound, IsSound}
 
 -- alternatives to the left, the nearest first
 abbrev pub LeftSound : Way → ℕ → Kind → List (ℕ × Status) → Type 0

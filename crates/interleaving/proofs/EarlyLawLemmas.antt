@@ -1,5 +1,6 @@
 -- The laws of the list.
-use Rattle.std.proofs.Common.{◌≡◌, ℕ, zero, suc, Bool, true, false, ◌&&◌, cond, List, [], ◌∷◌, ◌++◌, map, Option, Some, None, refl, sym, ap, ◌∙◌, subst}
+use Rattle.std.proofs.Common.{◌≡◌, ℕ, zero, suc, Bool, true, false, ◌&&◌, cond, List, [], ◌∷◌, ◌++◌, map, Option, Some, None, refl, sym}
+use Rattle.std.proofs.Common.{ap, ◌∙◌, subst}
 use Rattle.std.proofs.lemmas.Bool.{false≢true}
 use Rattle.std.specs.Option.{option_map}
 use Rattle.au_model.specs.Terms.Each.{Each}
@@ -7,7 +8,8 @@ use Rattle.run_model.specs.Programs.Clauses.{Clause}
 use Rattle.interleaving.specs.Machine.{Machine, Act, Vanishes, Wakes, Takes, Asks, gives, Alike}
 use Rattle.tree_model.specs.Elements.{Name, Record, Element, Credit}
 use Rattle.interleaving.specs.Scopes.{Shared, Sought, scoped}
-use Rattle.interleaving.specs.Segments.{all_inner, outer, placed_in, freed_alone, free_steps_alone, go_on, taken_alone, front_alone, run_alone, Private}
+use Rattle.interleaving.specs.Segments.{all_inner, outer, placed_in, freed_alone, free_steps_alone, go_on, taken_alone, front_alone}
+use Rattle.interleaving.specs.Segments.{run_alone, Private}
 use Rattle.interleaving.specs.Views.{IsGrown, IsRecordApart, IsBlind, IsInner, IsUnder}
 use Rattle.interleaving.specs.Laws.{is_inner_record, alone, run_off, IsSegment, SameAlone}
 use Rattle.interleaving.proofs.RunFrontLemmas.{append-none, some-same, none-some}

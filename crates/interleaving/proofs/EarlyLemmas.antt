@@ -1,8 +1,10 @@
 -- Work that a segment does by itself may be done early.
 use Rattle.std.proofs.Common.{◌≡◌, inl, inr, ℕ, zero, suc, false, List, [], ◌∷◌, ◌++◌, map, refl, sym, ap, ◌∙◌, subst}
 use Rattle.au_model.specs.Terms.Each.{Each}
-use Rattle.interleaving.specs.Machine.{Machine, Act, Vanishes, Wakes, Takes, Asks, On, Place, Put, gives, looked, search_for, placed, freed, free_steps, acted, step, run, is_over, seen, Alike}
-use Rattle.interleaving.proofs.RunFrontLemmas.{append-assoc-at, maps-append, map-seam, map-none, settle-map, PlaceOk, ActOk, Closed, Unseen, gives-unseen, map-unseen, search-unseen, Freed, freed-found, placed-found}
+use Rattle.interleaving.specs.Machine.{Machine, Act, Vanishes, Wakes, Takes, Asks, On, Place, Put, gives, looked, search_for, placed}
+use Rattle.interleaving.specs.Machine.{freed, free_steps, acted, step, run, is_over, seen, Alike}
+use Rattle.interleaving.proofs.RunFrontLemmas.{append-assoc-at, maps-append, map-seam, map-none, settle-map, PlaceOk, ActOk, Closed}
+use Rattle.interleaving.proofs.RunFrontLemmas.{Unseen, gives-unseen, map-unseen, search-unseen, Freed, freed-found, placed-found}
 
 module _ {W X Q R : Type 0} (m : Machine W X Q R) where
   -- what may be under a segment, and credits: inferences that change nothing, and records

@@ -1,14 +1,17 @@
 -- Where something under a query is pending, the end of the query is still to come.
-use Rattle.std.proofs.Common.{◌≡◌, ℕ, suc, ◌≤◌, ◌<◌, ◌==◌, ◌⊎◌, inl, inr, Bool, true, false, cond, List, [], ◌∷◌, ◌++◌, map, length, Option, None, refl, sym, ap, ◌∙◌, subst, arith}
+use Rattle.std.proofs.Common.{◌≡◌, ℕ, suc, ◌≤◌, ◌<◌, ◌==◌, ◌⊎◌, inl, inr, Bool, true, false, cond, List, [], ◌∷◌, ◌++◌, map, length}
+use Rattle.std.proofs.Common.{Option, None, refl, sym, ap, ◌∙◌, subst, arith}
 use Rattle.std.specs.Prelude.{nat_le}
 use Rattle.au_term.specs.Term.{Term}
 use Rattle.run_model.specs.Programs.Clauses.{Clause}
 use Rattle.run_model.specs.Machine.Entries.{Entry, PlainEntry, CatchEntry, FindallEntry, EndEntry}
-use Rattle.tree_model.specs.Nodes.{Kind, ChoiceNode, CatchNode, FindallNode, QueryNode, Ready, TakenBy, Waiting, Dormant, Alternatives, none, alternative, Status, Pending, Inner, Closed}
+use Rattle.tree_model.specs.Nodes.{Kind, ChoiceNode, CatchNode, FindallNode, QueryNode, Ready, TakenBy, Waiting, Dormant, Alternatives}
+use Rattle.tree_model.specs.Nodes.{none, alternative, Status, Pending, Inner, Closed}
 use Rattle.tree_model.specs.Levels.{Level, plug, Spot, levels_of}
 use Rattle.tree_model.specs.TreeStates.{TreeState, leftmost}
 use Rattle.tree_model.specs.Elements.{Record, Element, Credit, Plain, EndOf, Catch, Findall, End}
-use Rattle.tree_model.specs.PendingLists.{Way, way_of, element_on, list_among, list_below, pending_list, list_right, spent_at, front_of, back_of}
+use Rattle.tree_model.specs.PendingLists.{Way, way_of, element_on, list_among, list_below, pending_list, list_right, spent_at, front_of}
+use Rattle.tree_model.specs.PendingLists.{back_of}
 use Rattle.tree_model.specs.Ways.{under_query, is_query, IsOnWay}
 use Rattle.tree_model.specs.SoundTrees.{IsOpen, profiles, is_shape, are_pair, IsSound, IsSoundTree}
 use Rattle.interleaving.specs.Machine.{Act, Vanishes, Wakes, Takes, Asks, gives, freed, free_steps, is_over}

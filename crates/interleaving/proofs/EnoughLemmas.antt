@@ -1,7 +1,8 @@
 -- Credits of more inferences than are looked at are the same.
 use Rattle.std.proofs.Common.{◌≡◌, inl, inr, ℕ, zero, suc, ◌≤◌, false, List, [], ◌∷◌, ◌++◌, map, refl, sym, ap, ◌∙◌, arith}
 use Rattle.au_model.specs.Terms.Each.{Each}
-use Rattle.interleaving.specs.Machine.{Machine, Act, Vanishes, Wakes, Takes, Asks, Place, gives, looked, search_for, placed, free_steps, acted, step, run, seen}
+use Rattle.interleaving.specs.Machine.{Machine, Act, Vanishes, Wakes, Takes, Asks, Place, gives, looked, search_for, placed, free_steps}
+use Rattle.interleaving.specs.Machine.{acted, step, run, seen}
 use Rattle.interleaving.proofs.RunFrontLemmas.{settle-map, PlaceOk, ActOk, Closed, gives-unseen, Freed, freed-found, placed-found}
 use Rattle.interleaving.proofs.EarlyLemmas.{Ground, next_front, next_step, credit-unseen}
 

@@ -8,7 +8,8 @@ use Rattle.tree_model.specs.FrontGates.{Taken, Continues, Answered, Raises, Halt
 use Rattle.tree_model.specs.Events.{Event, Claim, Nodes, Empty, Collected, Lost, Suspend, Resume, Prune, Answer, Stop}
 use Rattle.tree_model.specs.TreeStates.{TreeState}
 use Rattle.tree_model.specs.Legality.{claimable, resumable, taken_at, gate_of, run_of}
-use Rattle.tree_model.specs.Effects.{ball_falls, gate_pruned, query_opens, front_taken, run_placed, where_some, or_none, stack_of, after_allowed, after_event}
+use Rattle.tree_model.specs.Effects.{ball_falls, gate_pruned, query_opens, front_taken, run_placed, where_some, or_none, stack_of}
+use Rattle.tree_model.specs.Effects.{after_allowed, after_event}
 use Rattle.tree_model.specs.PrivateRuns.{taken_alone}
 
 some_stays : {A : Type 0} → (of : TreeState → A) (t : TreeState) (o : Option Spot) (new : Spot → TreeState)

@@ -1,5 +1,6 @@
 -- What follows a findall wakes, with the results that its goal side has left.
-use Rattle.std.proofs.Common.{◌≡◌, ℕ, suc, ◌+◌, ◌≤◌, ◌==◌, Bool, true, false, cond, List, [], ◌∷◌, ◌++◌, map, length, refl, sym, ap, ◌∙◌, subst, arith, codes}
+use Rattle.std.proofs.Common.{◌≡◌, ℕ, suc, ◌+◌, ◌≤◌, ◌==◌, Bool, true, false, cond, List, [], ◌∷◌, ◌++◌, map, length, refl, sym, ap, ◌∙◌}
+use Rattle.std.proofs.Common.{subst, arith, codes}
 use Rattle.std.specs.Prelude.{◌&&◌}
 use Rattle.au_term.specs.Term.{Term}
 use Rattle.au_model.specs.Terms.Each.{Each}
@@ -15,7 +16,8 @@ use Rattle.tree_model.specs.Pruning.{is_findall}
 use Rattle.tree_model.specs.Floors.{renamed_item}
 use Rattle.tree_model.specs.Closing.{wakes, findall_goes_on, with_results}
 use Rattle.tree_model.specs.Elements.{Name, same, Record, Element, Credit, Plain, EndOf, Findall}
-use Rattle.tree_model.specs.PendingLists.{Way, way_of, scope_on, findall_on, balance_on, element_on, named_continuation, list_left, pending_list, front_of, back_of}
+use Rattle.tree_model.specs.PendingLists.{Way, way_of, scope_on, findall_on, balance_on, element_on, named_continuation, list_left}
+use Rattle.tree_model.specs.PendingLists.{pending_list, front_of, back_of}
 use Rattle.tree_model.specs.Ways.{is_on, IsAsked}
 use Rattle.tree_model.specs.SoundTrees.{IsOpen, Sleeps, profiles, is_shape, AreSound}
 use Rattle.interleaving.specs.Views.{IsBlind}

@@ -1,8 +1,10 @@
 -- The counts of a tree that has ended.
-use Rattle.std.proofs.Common.{◌≡◌, ℕ, zero, suc, ◌+◌, ◌-◌, ◌≤◌, ◌<◌, Bool, true, false, cond, List, [], ◌∷◌, ◌++◌, refl, sym, ap, ◌∙◌, arith}
+use Rattle.std.proofs.Common.{◌≡◌, ℕ, zero, suc, ◌+◌, ◌-◌, ◌≤◌, ◌<◌, Bool, true, false, cond, List, [], ◌∷◌, ◌++◌, refl, sym, ap, ◌∙◌}
+use Rattle.std.proofs.Common.{arith}
 use Rattle.std.specs.Prelude.{min}
 use Rattle.tree_model.specs.Credits.{greatest}
-use Rattle.tree_model.specs.Nodes.{Kind, Numbered, Alternatives, none, alternative, Status, Pending, Inner, Closed, credits_among, credits_below}
+use Rattle.tree_model.specs.Nodes.{Kind, Numbered, Alternatives, none, alternative, Status, Pending, Inner, Closed, credits_among}
+use Rattle.tree_model.specs.Nodes.{credits_below}
 use Rattle.tree_model.specs.Levels.{Level, pending_among, pending_of}
 use Rattle.tree_model.specs.Elements.{Element}
 use Rattle.tree_model.specs.PendingLists.{Way, list_among, pending_list}

@@ -1,5 +1,6 @@
 -- A node all of whose alternatives have closed is one credit.
-use Rattle.std.proofs.Common.{◌≡◌, ℕ, suc, ◌+◌, ◌≤◌, ◌<◌, ◌==◌, ◌⊎◌, inl, inr, Bool, true, false, cond, List, [], ◌∷◌, ◌++◌, map, length, Option, Some, None, refl, sym, ap, ◌∙◌, subst, arith}
+use Rattle.std.proofs.Common.{◌≡◌, ℕ, suc, ◌+◌, ◌≤◌, ◌<◌, ◌==◌, ◌⊎◌, inl, inr, Bool, true, false, cond, List, [], ◌∷◌, ◌++◌, map, length}
+use Rattle.std.proofs.Common.{Option, Some, None, refl, sym, ap, ◌∙◌, subst, arith}
 use Rattle.std.specs.Prelude.{min, nat_le, ◌&&◌}
 use Rattle.au_term.specs.Term.{Term}
 use Rattle.au_model.specs.Terms.Each.{Each}
@@ -14,7 +15,8 @@ use Rattle.tree_model.specs.Levels.{Level, put_left, level_node, plug}
 use Rattle.tree_model.specs.Pruning.{is_findall}
 use Rattle.tree_model.specs.Closing.{and_then, all_right, all_left, all_closed}
 use Rattle.tree_model.specs.Elements.{Name, Record, Element, Credit, Plain, EndOf, Catch, Findall, End}
-use Rattle.tree_model.specs.PendingLists.{Way, way_of, findall_on, balance_on, list_among, list_left, list_right, pending_list, spent_at, front_of, back_of}
+use Rattle.tree_model.specs.PendingLists.{Way, way_of, findall_on, balance_on, list_among, list_left, list_right, pending_list, spent_at}
+use Rattle.tree_model.specs.PendingLists.{front_of, back_of}
 use Rattle.tree_model.specs.CaughtTrees.{is_side, IsCaught, AreCaught}
 use Rattle.interleaving.specs.Laws.{MayBecome}
 use Rattle.interleaving.specs.Quiet.{IsQuiet, inferences, records}

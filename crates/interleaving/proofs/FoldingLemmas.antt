@@ -1,5 +1,6 @@
 -- A node all of whose alternatives have closed folds into the alternative above.
-use Rattle.std.proofs.Common.{◌≡◌, ℕ, suc, ◌+◌, ◌==◌, false, cond, List, [], ◌∷◌, ◌++◌, map, length, Option, Some, None, refl, sym, ap, ◌∙◌, subst, arith}
+use Rattle.std.proofs.Common.{◌≡◌, ℕ, suc, ◌+◌, ◌==◌, false, cond, List, [], ◌∷◌, ◌++◌, map, length, Option, Some, None, refl, sym, ap}
+use Rattle.std.proofs.Common.{◌∙◌, subst, arith}
 use Rattle.std.specs.Prelude.{min}
 use Rattle.au_model.specs.Terms.Each.{Each}
 use Rattle.run_model.specs.Programs.Clauses.{Clause}
@@ -8,7 +9,8 @@ use Rattle.tree_model.specs.Nodes.{Kind, Alternatives, none, alternative, Status
 use Rattle.tree_model.specs.Levels.{Level, plug}
 use Rattle.tree_model.specs.Closing.{and_then, all_right, all_left, all_closed}
 use Rattle.tree_model.specs.Elements.{Record, Element, Credit}
-use Rattle.tree_model.specs.PendingLists.{Way, way_of, findall_on, balance_on, list_among, list_left, list_right, pending_list, spent_at, front_of, back_of}
+use Rattle.tree_model.specs.PendingLists.{Way, way_of, findall_on, balance_on, list_among, list_left, list_right, pending_list, spent_at}
+use Rattle.tree_model.specs.PendingLists.{front_of, back_of}
 use Rattle.tree_model.specs.SoundTrees.{IsOpen}
 use Rattle.tree_model.specs.CaughtTrees.{is_side}
 use Rattle.interleaving.specs.Segments.{outer}
@@ -23,7 +25,8 @@ use Rattle.interleaving.proofs.RootLemmas.{are_told}
 use Rattle.interleaving.proofs.ListChangeLemmas.{quiet_early}
 use Rattle.interleaving.proofs.LeadLemmas.{lead-quiet, lead-grows}
 use Rattle.interleaving.proofs.BlindLemmas.{of_node, front_blind, back_under, records_apart, off_levels}
-use Rattle.interleaving.proofs.FoldLemmas.{Passes, passes_becoming, passes_then, credit_counted, LeftSides, node_list, node_totals, closed_round}
+use Rattle.interleaving.proofs.FoldLemmas.{Passes, passes_becoming, passes_then, credit_counted, LeftSides, node_list, node_totals}
+use Rattle.interleaving.proofs.FoldLemmas.{closed_round}
 
 inner-append : (n : ℕ) (xs ys : List Element) → Each (IsInner (of_node n)) xs → Each (IsInner (of_node n)) ys
     → Each (IsInner (of_node n)) (xs ++ ys)

@@ -12,7 +12,8 @@ use Rattle.interleaving.specs.Machine.{Machine, Vanishes, Wakes, Takes, Asks, gi
 use Rattle.tree_model.specs.Elements.{Name, Record, Element, Credit, Plain, EndOf, Catch, Findall, End}
 use Rattle.interleaving.specs.Scopes.{Shared, Sought, Does, unmarked, results_first, act, scoped}
 use Rattle.interleaving.specs.Segments.{IsActive}
-use Rattle.interleaving.specs.HeightMachine.{HeightElement, HeightEntry, held_collected_all, held_findall_ends, held_plain_free_step, held_free_steps_within, held_settle}
+use Rattle.interleaving.specs.HeightMachine.{HeightElement, HeightEntry, held_collected_all, held_findall_ends, held_plain_free_step}
+use Rattle.interleaving.specs.HeightMachine.{held_free_steps_within, held_settle}
 use Rattle.interleaving.specs.Erased.{count, height, with_height, with_heights, record_height, erased}
 use Rattle.interleaving.specs.Sound.{names, IsGathered, IsEntrySound, IsSound}
 use Rattle.interleaving.proofs.RunFrontLemmas.{map-none, settle-map}

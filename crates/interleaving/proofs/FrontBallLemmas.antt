@@ -1,5 +1,6 @@
 -- A goal of the world at the front that throws.
-use Rattle.std.proofs.Common.{◌≡◌, ℕ, suc, ◌+◌, true, false, List, [], ◌∷◌, ◌++◌, map, length, Option, Some, None, refl, sym, ap, ◌∙◌, subst, arith}
+use Rattle.std.proofs.Common.{◌≡◌, ℕ, suc, ◌+◌, true, false, List, [], ◌∷◌, ◌++◌, map, length, Option, Some, None, refl, sym, ap, ◌∙◌}
+use Rattle.std.proofs.Common.{subst, arith}
 use Rattle.au_term.specs.Term.{Term}
 use Rattle.au_model.specs.Terms.Substitutions.{Substitution}
 use Rattle.au_model.specs.Terms.Copies.{copied}
@@ -45,14 +46,17 @@ use Rattle.interleaving.proofs.ListsSoundLemmas.{lists_are_sound}
 use Rattle.interleaving.proofs.WakeLemmas.{second_right}
 use Rattle.interleaving.proofs.FrontCloseLemmas.{bare}
 use Rattle.interleaving.proofs.CaughtFrontLemmas.{clear_part}
-use Rattle.interleaving.proofs.FallLemmas.{Fall, Nobody, Catches, fall, fall_entries, MarkSleeps, IsTaken, IsCatcher, landing_falls, fall_taken, first_height, first_sleeps}
+use Rattle.interleaving.proofs.FallLemmas.{Fall, Nobody, Catches, fall, fall_entries, MarkSleeps, IsTaken, IsCatcher, landing_falls}
+use Rattle.interleaving.proofs.FallLemmas.{fall_taken, first_height, first_sleeps}
 use Rattle.interleaving.proofs.BallPlaceLemmas.{query_at}
 use Rattle.interleaving.proofs.LowerListLemmas.{lower_back, back_split}
 use Rattle.interleaving.proofs.BallSearchLemmas.{mark_name, first_name, named_recovery, catch_element}
 use Rattle.interleaving.proofs.BallCatchLemmas.{finds, search_found, none_lost, loses}
-use Rattle.interleaving.proofs.BallFollowsLemmas.{ball_wakes, free_top, front_passes, front_sound}
+use Rattle.interleaving.proofs.BallFollowsLemmas.{free_top}
+use Rattle.interleaving.proofs.BallRecoveryLemmas.{ball_wakes, front_passes, front_sound}
 use Rattle.interleaving.proofs.LostBallLemmas.{lost_end, lost_lands}
-use Rattle.interleaving.proofs.PrunedBallLemmas.{placed_here, free_here, distinct_here, root_here, unspent_here, sides_here, list_here, sound_here, root_is, recovery, caught_ends}
+use Rattle.interleaving.proofs.PrunedBallLemmas.{placed_here, free_here, distinct_here, root_here, unspent_here, sides_here, list_here}
+use Rattle.interleaving.proofs.PrunedBallLemmas.{sound_here, root_is, recovery, caught_ends}
 use Rattle.interleaving.proofs.FrontStepLemmas.{bare_sound, front_taken, gate_moves}
 use Rattle.interleaving.proofs.WorldGoalLemmas.{moved_is, fh}
 

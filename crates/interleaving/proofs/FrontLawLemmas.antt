@@ -1,8 +1,10 @@
 -- What is taken after credits alone.
-use Rattle.std.proofs.Common.{◌≡◌, ℕ, zero, suc, ◌+◌, Bool, true, false, cond, List, [], ◌∷◌, ◌++◌, map, Some, refl, sym, ap, ◌∙◌, subst, arith}
+use Rattle.std.proofs.Common.{◌≡◌, ℕ, zero, suc, ◌+◌, Bool, true, false, cond, List, [], ◌∷◌, ◌++◌, map, Some, refl, sym, ap, ◌∙◌, subst}
+use Rattle.std.proofs.Common.{arith}
 use Rattle.au_model.specs.Terms.Each.{Each}
 use Rattle.run_model.specs.Programs.Clauses.{Clause}
-use Rattle.interleaving.specs.Machine.{Machine, Takes, Asks, On, Here, Put, Seek, gives, acted, placed, free_steps, step, run, is_over, seen, Alike}
+use Rattle.interleaving.specs.Machine.{Machine, Takes, Asks, On, Here, Put, Seek, gives, acted, placed, free_steps, step, run, is_over}
+use Rattle.interleaving.specs.Machine.{seen, Alike}
 use Rattle.tree_model.specs.Elements.{Name, same, Record, Element, Credit, Plain, EndOf, Catch, Findall, End}
 use Rattle.interleaving.specs.Scopes.{Shared, Sought, Scope, Lands, act, look, with_result, give, scoped}
 use Rattle.interleaving.specs.Segments.{IsActive, outer, found_in, search_in, Private, private_none, private_goes, private_takes}

@@ -1,12 +1,15 @@
 -- The leftmost pending alternative is open, and all to its left is closed.
-use Rattle.std.proofs.Common.{◌≡◌, ℕ, suc, Bool, true, false, cond, List, [], ◌∷◌, ◌++◌, length, Option, Some, None, refl, sym, ap, ◌∙◌, subst}
+use Rattle.std.proofs.Common.{◌≡◌, ℕ, suc, Bool, true, false, cond, List, [], ◌∷◌, ◌++◌, length, Option, Some, None, refl, sym, ap, ◌∙◌}
+use Rattle.std.proofs.Common.{subst}
 use Rattle.run_model.specs.Machine.Entries.{Entry}
-use Rattle.tree_model.specs.Nodes.{Kind, ChoiceNode, CatchNode, FindallNode, QueryNode, Hold, Ready, TakenBy, Waiting, Dormant, Node, Numbered, Alternatives, none, alternative, Status, Pending, Inner, Closed}
+use Rattle.tree_model.specs.Nodes.{Kind, ChoiceNode, CatchNode, FindallNode, QueryNode, Hold, Ready, TakenBy, Waiting, Dormant, Node}
+use Rattle.tree_model.specs.Nodes.{Numbered, Alternatives, none, alternative, Status, Pending, Inner, Closed}
 use Rattle.tree_model.specs.Levels.{Level, put_left, level_node, plug, Place, Spot, levels_of, pending_in, pending_among, pending_of}
 use Rattle.tree_model.specs.Orders.{is_node, levels_below, is_closed, first_open_left, first_open}
 use Rattle.tree_model.specs.Pruning.{Task, tasks_among, tasks_below}
 use Rattle.tree_model.specs.PendingLists.{Step, Way}
-use Rattle.tree_model.specs.SoundTrees.{Profile, IsOpen, Sleeps, IsShut, guards, profile, profiles, is_pair, are_pair, is_shape, some_open, IsSoundNode, AreSound, IsSound}
+use Rattle.tree_model.specs.SoundTrees.{Profile, IsOpen, Sleeps, IsShut, guards, profile, profiles, is_pair, are_pair, is_shape}
+use Rattle.tree_model.specs.SoundTrees.{some_open, IsSoundNode, AreSound, IsSound}
 use Rattle.interleaving.proofs.ContextLemmas.{put_profiles}
 use Rattle.interleaving.proofs.GrowingLemmas.{none_sleeps-of, no_three}
 

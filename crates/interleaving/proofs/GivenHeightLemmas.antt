@@ -1,5 +1,6 @@
 -- Records reach by names the Findall entries that they reach by heights.
-use Rattle.std.proofs.Common.{◌≡◌, ◌⊎◌, inl, inr, ℕ, suc, ◌-◌, ◌≤◌, ◌==◌, Bool, true, false, cond, List, [], ◌∷◌, map, length, refl, sym, ap, ◌∙◌, subst, arith}
+use Rattle.std.proofs.Common.{◌≡◌, ◌⊎◌, inl, inr, ℕ, suc, ◌-◌, ◌≤◌, ◌==◌, Bool, true, false, cond, List, [], ◌∷◌, map, length, refl, sym}
+use Rattle.std.proofs.Common.{ap, ◌∙◌, subst, arith}
 use Rattle.std.proofs.lemmas.Bool.{eq-eqb, eqb-true}
 use Rattle.au_term.specs.Term.{Term}
 use Rattle.au_model.specs.Terms.Each.{Each}
@@ -9,11 +10,13 @@ use Rattle.run_model.specs.Machine.Entries.{PlainEntry, CatchEntry, FindallEntry
 use Rattle.interleaving.specs.Machine.{gives}
 use Rattle.tree_model.specs.Elements.{Name, same, Record, Element, Credit, Plain, EndOf, Catch, Findall, End}
 use Rattle.interleaving.specs.Scopes.{with_result, give, scoped}
-use Rattle.interleaving.specs.HeightMachine.{HeightElement, HeightCredit, HeightEntry, held_with_result, held_collected, held_collected_all}
+use Rattle.interleaving.specs.HeightMachine.{HeightElement, HeightCredit, HeightEntry, held_with_result, held_collected}
+use Rattle.interleaving.specs.HeightMachine.{held_collected_all}
 use Rattle.interleaving.specs.Erased.{count, height, with_heights, record_height, erased}
 use Rattle.interleaving.specs.Sound.{names, IsGathered, EachFindall, IsSound}
 use Rattle.interleaving.proofs.NamingLemmas.{same-itself, not-same, same-heights, length-erased}
-use Rattle.interleaving.proofs.GivenRecordLemmas.{given, count-given, height-given, findalls-given, sound-given, StandsAt, stands-low, gathered_stands}
+use Rattle.interleaving.proofs.GivenRecordLemmas.{given, count-given, height-given, findalls-given, sound-given, StandsAt, stands-low}
+use Rattle.interleaving.proofs.GivenRecordLemmas.{gathered_stands}
 
 all-same : (r : Record) (xs : List Element) (hs : List Name) → Each (λ s. height (given r xs) s ≡ height xs s) hs
 all-same r xs [] = tt

@@ -1,5 +1,6 @@
 -- Records given by names and by heights.
-use Rattle.std.proofs.Common.{◌≡◌, ◌⊎◌, inl, inr, ℕ, suc, ◌-◌, ◌+◌, ◌≤◌, Bool, true, false, cond, List, [], ◌∷◌, map, refl, sym, ap, ◌∙◌, subst, arith}
+use Rattle.std.proofs.Common.{◌≡◌, ◌⊎◌, inl, inr, ℕ, suc, ◌-◌, ◌+◌, ◌≤◌, Bool, true, false, cond, List, [], ◌∷◌, map, refl, sym, ap, ◌∙◌}
+use Rattle.std.proofs.Common.{subst, arith}
 use Rattle.au_term.specs.Term.{Term}
 use Rattle.au_model.specs.Terms.Each.{Each}
 use Rattle.au_model.specs.Terms.Copies.{copy_takes}
@@ -7,7 +8,8 @@ use Rattle.run_model.specs.Machine.Items.{Item, GoalItem, CatchMark, CollectMark
 use Rattle.tree_model.specs.Elements.{Name, same, Record, Element, Credit, Plain, EndOf, Catch, Findall, End}
 use Rattle.interleaving.specs.Scopes.{with_result, give}
 use Rattle.interleaving.specs.Erased.{from, count, height}
-use Rattle.interleaving.specs.Sound.{names, IsOlder, IsPresent, IsChain, IsGuarded, IsGathered, IsMarkSound, EachFindall, IsEntrySound, IsRightUnder, IsSound}
+use Rattle.interleaving.specs.Sound.{names, IsOlder, IsPresent, IsChain, IsGuarded, IsGathered, IsMarkSound, EachFindall, IsEntrySound}
+use Rattle.interleaving.specs.Sound.{IsRightUnder, IsSound}
 use Rattle.interleaving.proofs.CarriedLemmas.{findalls-from}
 
 module _ (r : Record) where

@@ -1,16 +1,20 @@
 -- New nodes below a place, and pruning round it.
-use Rattle.std.proofs.Common.{◌≡◌, ℕ, suc, ◌+◌, ◌≤◌, ◌==◌, Bool, true, false, cond, List, [], ◌∷◌, length, refl, sym, ap, ◌∙◌, subst, arith}
+use Rattle.std.proofs.Common.{◌≡◌, ℕ, suc, ◌+◌, ◌≤◌, ◌==◌, Bool, true, false, cond, List, [], ◌∷◌, length, refl, sym, ap, ◌∙◌, subst}
+use Rattle.std.proofs.Common.{arith}
 use Rattle.std.specs.Prelude.{◌&&◌}
 use Rattle.au_model.specs.Terms.Each.{Each}
 use Rattle.run_model.specs.Machine.Entries.{Entry, PlainEntry, CatchEntry, FindallEntry, EndEntry}
-use Rattle.tree_model.specs.Nodes.{Kind, ChoiceNode, CatchNode, FindallNode, QueryNode, Ready, Numbered, Alternatives, none, alternative, Status, Inner, standing}
+use Rattle.tree_model.specs.Nodes.{Kind, ChoiceNode, CatchNode, FindallNode, QueryNode, Ready, Numbered, Alternatives, none, alternative}
+use Rattle.tree_model.specs.Nodes.{Status, Inner, standing}
 use Rattle.tree_model.specs.Levels.{Level, plug}
 use Rattle.tree_model.specs.Pruning.{emptied, pruned}
 use Rattle.tree_model.specs.Effects.{spending}
 use Rattle.tree_model.specs.PendingLists.{Way, way_of, step_of}
 use Rattle.tree_model.specs.Ways.{is_on, same_kind, stops_cuts, is_barrier, in_reach, IsAsked, IsOnWay, IsAwake}
-use Rattle.tree_model.specs.SoundTrees.{one_if, count_among, count_below, Profile, IsOpen, Sleeps, IsShut, profile, profiles, is_live, none_sleeps, are_pair, is_shape, AreSound, IsSound}
-use Rattle.interleaving.proofs.ContextLemmas.{LeftSound, put_profiles, IsAround, live_at, live_open, put_in, count_left, count_around, count_plug}
+use Rattle.tree_model.specs.SoundTrees.{one_if, count_among, count_below, Profile, IsOpen, Sleeps, IsShut, profile, profiles, is_live}
+use Rattle.tree_model.specs.SoundTrees.{none_sleeps, are_pair, is_shape, AreSound, IsSound}
+use Rattle.interleaving.proofs.ContextLemmas.{LeftSound, put_profiles, IsAround, live_at, live_open, put_in, count_left, count_around}
+use Rattle.interleaving.proofs.ContextLemmas.{count_plug}
 use Rattle.interleaving.proofs.WayLemmas.{off_way, below_new}
 use Rattle.interleaving.proofs.ShapeLemmas.{none_sleeps-put}
 use Rattle.interleaving.proofs.RoundtripLemmas.{IsPath}

@@ -1,17 +1,20 @@
 -- A place that changes, and the alternatives that a history has handed out.
-use Rattle.std.proofs.Common.{◌≡◌, ℕ, suc, ◌+◌, ◌≤◌, ◌==◌, Bool, true, false, cond, List, [], ◌∷◌, ◌++◌, length, Option, Some, None, refl, ap, ◌∙◌, arith}
+use Rattle.std.proofs.Common.{◌≡◌, ℕ, suc, ◌+◌, ◌≤◌, ◌==◌, Bool, true, false, cond, List, [], ◌∷◌, ◌++◌, length, Option, Some, None, refl}
+use Rattle.std.proofs.Common.{ap, ◌∙◌, arith}
 use Rattle.std.specs.Prelude.{◌&&◌}
 use Rattle.au_model.specs.Terms.Each.{Each}
 use Rattle.run_model.specs.Machine.Entries.{Entry, PlainEntry, CatchEntry, FindallEntry, EndEntry}
 use Rattle.tree_model.specs.Credits.{Credit, no_credit}
-use Rattle.tree_model.specs.Nodes.{Hold, Ready, TakenBy, Waiting, Dormant, Node, Numbered, Alternatives, none, alternative, Status, Pending, Inner, Closed}
+use Rattle.tree_model.specs.Nodes.{Hold, Ready, TakenBy, Waiting, Dormant, Node, Numbered, Alternatives, none, alternative, Status}
+use Rattle.tree_model.specs.Nodes.{Pending, Inner, Closed}
 use Rattle.tree_model.specs.Levels.{Level, Place, same_place}
 use Rattle.tree_model.specs.Closing.{Grown, guarded, with_right, all_closed, wakes, goal_side_closes, closes}
 use Rattle.tree_model.specs.Pruning.{Task, task_at, tasks_in, tasks_among, tasks_below, emptied, pruned, tasks_pruned, left_after, lands}
 use Rattle.tree_model.specs.HandOuts.{Handed, Out}
 use Rattle.tree_model.specs.SoundTrees.{one_if, count_in, count_among, count_below}
 use Rattle.interleaving.proofs.WayLemmas.{same_self}
-use Rattle.interleaving.proofs.HandOutCountLemmas.{handed, at, AgreesNode, AgreesAll, Agrees, stand_in, stand_all, stand, AgreesAround, stand_around, NewIn, IsAgreed, folds_agreed, wakes_agreed}
+use Rattle.interleaving.proofs.HandOutCountLemmas.{handed, at, AgreesNode, AgreesAll, Agrees, stand_in, stand_all, stand, AgreesAround}
+use Rattle.interleaving.proofs.HandOutCountLemmas.{stand_around, NewIn, IsAgreed, folds_agreed, wakes_agreed}
 
 side_agreed : (G : Place → Option Handed) (next : ℕ) (v : Level) (up : List Level) (c : Credit) (o : Option Entry) (go : Credit → Grown)
     (most : Place → ℕ) → NewIn G next → AgreesAround G (v ∷ up) → ((a : Place) → stand_around a (v ∷ up) ≤ most a)

@@ -14,7 +14,8 @@ use Rattle.interleaving.specs.Machine.{free_steps, run, seen, is_over}
 use Rattle.interleaving.specs.Scopes.{first_shared, scoped}
 use Rattle.interleaving.specs.Readings.{opening_list, has_ended}
 use Rattle.interleaving.specs.Follows.{lead, Follows}
-use Rattle.interleaving.specs.HistoryInvariants.{shared_of, list_of, IsSeenFrom, IsInStep, ListFollows, AnswerMoves, IsOwn, EventFollows, AnswersMove, KeepsCaught, IsAny}
+use Rattle.interleaving.specs.HistoryInvariants.{shared_of, list_of, IsSeenFrom, IsInStep, ListFollows, AnswerMoves, IsOwn, EventFollows}
+use Rattle.interleaving.specs.HistoryInvariants.{AnswersMove, KeepsCaught, IsAny}
 use Rattle.tree_model.specs.CaughtTrees.{IsCaughtTree}
 use Rattle.interleaving.proofs.OpenSpotLemmas.{both_left, both_right}
 use Rattle.interleaving.proofs.LegalLemmas.{event_sound}

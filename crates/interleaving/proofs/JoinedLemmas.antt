@@ -1,9 +1,11 @@
 -- Runs of segments, put together, and private runs.
 use Rattle.std.proofs.Common.{◌≡◌, ℕ, zero, suc, List, [], ◌∷◌, ◌++◌, map, Some, refl, sym, ap, ◌∙◌, subst}
 use Rattle.au_model.specs.Terms.Each.{Each}
-use Rattle.interleaving.specs.Machine.{Machine, Act, Vanishes, Wakes, Takes, Asks, Look, On, Here, Place, Put, Only, Seek, gives, looked, search_for, placed, freed, free_steps, acted, step, run, is_over}
+use Rattle.interleaving.specs.Machine.{Machine, Act, Vanishes, Wakes, Takes, Asks, Look, On, Here, Place, Put, Only, Seek, gives, looked}
+use Rattle.interleaving.specs.Machine.{search_for, placed, freed, free_steps, acted, step, run, is_over}
 use Rattle.interleaving.specs.Segments.{IsActive, found_in, search_in, placed_in}
-use Rattle.interleaving.proofs.RunFrontLemmas.{each-append, append-assoc-at, some-same, none-some, maps-append, map-seam, map-none, settle-map}
+use Rattle.interleaving.proofs.RunFrontLemmas.{each-append, append-assoc-at, some-same, none-some, maps-append, map-seam, map-none}
+use Rattle.interleaving.proofs.RunFrontLemmas.{settle-map}
 use Rattle.interleaving.proofs.EarlyLemmas.{Ground, Runs, z-map, last, next_front, next_step}
 
 module _ {W X Q R : Type 0} (m : Machine W X Q R) (g : Ground m) where

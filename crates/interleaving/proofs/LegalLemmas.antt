@@ -1,10 +1,12 @@
 -- Every legal tree is sound.
-use Rattle.std.proofs.Common.{◌≡◌, ℕ, zero, suc, ◌+◌, ◌-◌, ◌≤◌, ◌==◌, Bool, true, false, List, [], ◌∷◌, length, Option, Some, None, refl, sym, ap, ◌∙◌, subst, arith}
+use Rattle.std.proofs.Common.{◌≡◌, ℕ, zero, suc, ◌+◌, ◌-◌, ◌≤◌, ◌==◌, Bool, true, false, List, [], ◌∷◌, length, Option, Some, None, refl}
+use Rattle.std.proofs.Common.{sym, ap, ◌∙◌, subst, arith}
 use Rattle.std.specs.Prelude.{◌&&◌, not, nat_le, is_none}
 use Rattle.run_model.specs.Machine.Items.{Item, GoalItem, CatchMark, CollectMark, RemovalItem}
 use Rattle.run_model.specs.Machine.Entries.{Entry, PlainEntry, CatchEntry, FindallEntry, EndEntry}
 use Rattle.run_model.specs.Programs.Jobs.{Query, Job}
-use Rattle.tree_model.specs.Nodes.{Hold, Ready, TakenBy, Waiting, Dormant, ChoiceNode, Numbered, Status, Pending, Inner, standing, nodes_below}
+use Rattle.tree_model.specs.Nodes.{Hold, Ready, TakenBy, Waiting, Dormant, ChoiceNode, Numbered, Status, Pending, Inner, standing}
+use Rattle.tree_model.specs.Nodes.{nodes_below}
 use Rattle.tree_model.specs.Levels.{Level, plug, Place, Spot, levels_of}
 use Rattle.tree_model.specs.Floors.{node_of, with_nodes, with_heights}
 use Rattle.tree_model.specs.PrivateRuns.{if_any, one_more, private_run}

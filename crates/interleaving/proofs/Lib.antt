@@ -176,3 +176,8 @@ mod FrontSameLemmas
 mod InsideStepLemmas
 mod OwnRunStepLemmas
 mod BallCatchLemmas
+mod BallRecoveryLemmas
+mod CutTakenLemmas
+mod CutTreeLemmas
+mod CutHeightLemmas
+mod OncePlaceLemmas

@@ -9,7 +9,8 @@ use Rattle.interleaving.specs.Segments.{outer, Private, private_none, private_wa
 use Rattle.interleaving.specs.Views.{IsBlind}
 use Rattle.interleaving.specs.Quiet.{IsQuiet, inferences, records, IsStill}
 use Rattle.interleaving.specs.Sound.{IsSound}
-use Rattle.interleaving.specs.Laws.{is_inner_record, PrivateEarly, Expansion, DoneEarly, QuietEarly, TakenEarly, WokenEarly, CollectedEarly, CreditsAdd, NoCredit, TakenInFront, RecordsGiven}
+use Rattle.interleaving.specs.Laws.{is_inner_record, PrivateEarly, Expansion, DoneEarly, QuietEarly, TakenEarly, WokenEarly}
+use Rattle.interleaving.specs.Laws.{CollectedEarly, CreditsAdd, NoCredit, TakenInFront, RecordsGiven}
 use Rattle.interleaving.specs.Readings.{NamedAnew}
 use Rattle.interleaving.proofs.RunFrontLemmas.{append-none}
 use Rattle.interleaving.proofs.EarlyLemmas.{early}

@@ -3,7 +3,8 @@ use Rattle.std.proofs.Common.{◌≡◌, ℕ, suc, List, [], ◌∷◌, ◌++◌
 use Rattle.tree_model.specs.Nodes.{Kind, Alternatives, alternative, Status, Inner}
 use Rattle.tree_model.specs.Levels.{Level, put_left, level_node, plug}
 use Rattle.tree_model.specs.Elements.{Element, Credit as CreditElement, EndOf}
-use Rattle.tree_model.specs.PendingLists.{Way, way_of, list_in, list_among, list_below, pending_list, list_left, list_right, spent_at, front_of, back_of}
+use Rattle.tree_model.specs.PendingLists.{Way, way_of, list_in, list_among, list_below, pending_list, list_left, list_right, spent_at}
+use Rattle.tree_model.specs.PendingLists.{front_of, back_of}
 use Rattle.interleaving.proofs.AppendLemmas.{append-assoc}
 
 level : (way : Way) (n : ℕ) (kind : Kind) (left : List (ℕ × Status)) (others : Alternatives)

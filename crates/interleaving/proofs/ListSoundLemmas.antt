@@ -1,8 +1,10 @@
 -- The list of a tree that keeps its invariants has sound names.
-use Rattle.std.proofs.Common.{◌≡◌, ℕ, suc, ◌+◌, ◌==◌, Bool, true, false, cond, List, [], ◌∷◌, ◌++◌, length, length-append, refl, sym, ap, ◌∙◌, subst, arith}
+use Rattle.std.proofs.Common.{◌≡◌, ℕ, suc, ◌+◌, ◌==◌, Bool, true, false, cond, List, [], ◌∷◌, ◌++◌, length, length-append, refl, sym, ap}
+use Rattle.std.proofs.Common.{◌∙◌, subst, arith}
 use Rattle.run_model.specs.Machine.Items.{Item, GoalItem, CatchMark, CollectMark, RemovalItem}
 use Rattle.run_model.specs.Machine.Entries.{Entry, PlainEntry, CatchEntry, FindallEntry, EndEntry}
-use Rattle.tree_model.specs.Nodes.{Kind, CatchNode, FindallNode, Ready, TakenBy, Waiting, Dormant, Node, Numbered, Alternatives, none, alternative, Status, Pending, Inner, Closed}
+use Rattle.tree_model.specs.Nodes.{Kind, CatchNode, FindallNode, Ready, TakenBy, Waiting, Dormant, Node, Numbered, Alternatives, none}
+use Rattle.tree_model.specs.Nodes.{alternative, Status, Pending, Inner, Closed}
 use Rattle.tree_model.specs.Levels.{Level}
 use Rattle.tree_model.specs.Elements.{Name}
 use Rattle.tree_model.specs.PendingLists.{Step, Way, way_of, element_on, list_in, list_among, list_below, list_right, back_of}

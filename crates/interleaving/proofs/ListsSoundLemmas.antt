@@ -1,15 +1,18 @@
 -- The list of a tree that keeps its invariants has sound names: the whole tree.
-use Rattle.std.proofs.Common.{◌≡◌, ℕ, ◌≤◌, ◌==◌, ◌⊎◌, inl, inr, Bool, true, false, List, [], ◌∷◌, ◌++◌, map, length, refl, sym, ap, ◌∙◌, subst, arith}
+use Rattle.std.proofs.Common.{◌≡◌, ℕ, ◌≤◌, ◌==◌, ◌⊎◌, inl, inr, Bool, true, false, List, [], ◌∷◌, ◌++◌, map, length, refl, sym, ap, ◌∙◌}
+use Rattle.std.proofs.Common.{subst, arith}
 use Rattle.std.specs.Prelude.{◌&&◌, ◌||◌}
 use Rattle.au_term.specs.Term.{Term}
 use Rattle.au_model.specs.Terms.Each.{Each}
 use Rattle.tree_model.specs.Credits.{Credit as TreeCredit}
-use Rattle.tree_model.specs.Nodes.{Kind, ChoiceNode, CatchNode, FindallNode, QueryNode, Ready, TakenBy, Waiting, Dormant, Node, Numbered, Alternatives, none, alternative, Status, Pending, Inner, Closed}
+use Rattle.tree_model.specs.Nodes.{Kind, ChoiceNode, CatchNode, FindallNode, QueryNode, Ready, TakenBy, Waiting, Dormant, Node, Numbered}
+use Rattle.tree_model.specs.Nodes.{Alternatives, none, alternative, Status, Pending, Inner, Closed}
 use Rattle.tree_model.specs.Levels.{Level, put_left, plug}
 use Rattle.tree_model.specs.Pruning.{is_findall}
 use Rattle.tree_model.specs.TreeStates.{TreeState}
 use Rattle.tree_model.specs.Elements.{Record}
-use Rattle.tree_model.specs.PendingLists.{way_of, scope_on, findall_on, list_in, list_among, list_below, list_right, pending_list, back_of}
+use Rattle.tree_model.specs.PendingLists.{way_of, scope_on, findall_on, list_in, list_among, list_below, list_right, pending_list}
+use Rattle.tree_model.specs.PendingLists.{back_of}
 use Rattle.tree_model.specs.SoundTrees.{IsSound as IsSoundStatus, count_below, IsOpen, IsSoundTree}
 use Rattle.tree_model.specs.Ways.{is_on}
 use Rattle.tree_model.specs.CaughtTrees.{is_side, IsCaught, IsCaughtNode, AreCaught, IsCaughtTree}

@@ -1,12 +1,14 @@
 -- The floor by names is sound, and so is an alternative's entry over it, where the whole list is.
-use Rattle.std.proofs.Common.{◌≡◌, ◌⊎◌, inl, inr, ℕ, suc, ◌==◌, true, false, List, [], ◌∷◌, ◌++◌, map, length, refl, sym, ap, ◌∙◌, subst, arith}
+use Rattle.std.proofs.Common.{◌≡◌, ◌⊎◌, inl, inr, ℕ, suc, ◌==◌, true, false, List, [], ◌∷◌, ◌++◌, map, length, refl, sym, ap, ◌∙◌, subst}
+use Rattle.std.proofs.Common.{arith}
 use Rattle.au_model.specs.Terms.Each.{Each}
 use Rattle.run_model.specs.Machine.Items.{Continuation}
 use Rattle.run_model.specs.Machine.Entries.{Entry, PlainEntry, CatchEntry, FindallEntry, EndEntry}
 use Rattle.tree_model.specs.Elements.{Name, EndOf}
 use Rattle.interleaving.specs.Erased.{from, count}
 use Rattle.interleaving.specs.Sound.{names, IsOlder, IsMarkSound, EachFindall, IsEntrySound, IsRightUnder, IsSound}
-use Rattle.tree_model.specs.Nodes.{Kind, ChoiceNode, Ready, TakenBy, Waiting, Dormant, Alternatives, none, alternative, Status, Pending, Inner, Closed}
+use Rattle.tree_model.specs.Nodes.{Kind, ChoiceNode, Ready, TakenBy, Waiting, Dormant, Alternatives, none, alternative, Status, Pending}
+use Rattle.tree_model.specs.Nodes.{Inner, Closed}
 use Rattle.tree_model.specs.Levels.{Level}
 use Rattle.tree_model.specs.Floors.{renamed_item}
 use Rattle.tree_model.specs.PendingLists.{Step, Way, way_of, scope_on, named_continuation, element_at, list_among, back_of}

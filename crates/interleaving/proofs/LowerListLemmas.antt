@@ -1,14 +1,17 @@
 -- The part of a tree's list that is below a node of a branch: left and right of a place.
-use Rattle.std.proofs.Common.{◌≡◌, ℕ, suc, ◌+◌, ◌≤◌, ◌==◌, Bool, true, false, cond, List, [], ◌∷◌, ◌++◌, length, Some, refl, sym, ap, ◌∙◌, subst, arith}
+use Rattle.std.proofs.Common.{◌≡◌, ℕ, suc, ◌+◌, ◌≤◌, ◌==◌, Bool, true, false, cond, List, [], ◌∷◌, ◌++◌, length, Some, refl, sym, ap, ◌∙◌}
+use Rattle.std.proofs.Common.{subst, arith}
 use Rattle.std.specs.Prelude.{min}
 use Rattle.au_model.specs.Terms.Each.{Each}
 use Rattle.run_model.specs.Machine.Entries.{Entry, PlainEntry, CatchEntry, FindallEntry, EndEntry}
 use Rattle.tree_model.specs.Credits.{Credit as TreeCredit, greatest, without_records}
-use Rattle.tree_model.specs.Nodes.{Kind, Ready, TakenBy, Waiting, Dormant, Node, Numbered, Alternatives, none, alternative, Status, Pending, Inner, Closed}
+use Rattle.tree_model.specs.Nodes.{Kind, Ready, TakenBy, Waiting, Dormant, Node, Numbered, Alternatives, none, alternative, Status}
+use Rattle.tree_model.specs.Nodes.{Pending, Inner, Closed}
 use Rattle.tree_model.specs.Levels.{Level}
 use Rattle.tree_model.specs.Orders.{credits_left, levels_below}
 use Rattle.tree_model.specs.Pruning.{is_findall, kept_records, left_after}
-use Rattle.tree_model.specs.PendingLists.{Step, Way, way_of, element_on, list_in, list_among, list_below, list_left, list_right, level_front, spent_at, front_of, back_of}
+use Rattle.tree_model.specs.PendingLists.{Step, Way, way_of, element_on, list_in, list_among, list_below, list_left, list_right}
+use Rattle.tree_model.specs.PendingLists.{level_front, spent_at, front_of, back_of}
 use Rattle.tree_model.specs.SoundTrees.{one_if, count_in, count_among, count_below}
 use Rattle.tree_model.specs.Elements.{Name, Element}
 use Rattle.interleaving.specs.Quiet.{IsQuiet, inferences}

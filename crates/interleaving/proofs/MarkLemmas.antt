@@ -1,12 +1,14 @@
 -- The catches that a ball may meet are below the innermost query.
-use Rattle.std.proofs.Common.{◌≡◌, ◌⊎◌, inr, ℕ, suc, ◌-◌, ◌≤◌, ◌==◌, Bool, true, false, cond, List, [], ◌∷◌, length, Option, Some, None, refl, sym, ap, ◌∙◌, subst, arith}
+use Rattle.std.proofs.Common.{◌≡◌, ◌⊎◌, inr, ℕ, suc, ◌-◌, ◌≤◌, ◌==◌, Bool, true, false, cond, List, [], ◌∷◌, length, Option, Some, None}
+use Rattle.std.proofs.Common.{refl, sym, ap, ◌∙◌, subst, arith}
 use Rattle.std.specs.Prelude.{◌&&◌}
 use Rattle.run_model.specs.Machine.Items.{Item, GoalItem, CatchMark, CollectMark, RemovalItem, first_mark}
 use Rattle.tree_model.specs.Nodes.{Kind, ChoiceNode, CatchNode, FindallNode, QueryNode}
 use Rattle.tree_model.specs.Levels.{Level}
 use Rattle.tree_model.specs.Floors.{height_of, node_of}
 use Rattle.tree_model.specs.PendingLists.{Way, way_of}
-use Rattle.tree_model.specs.Ways.{is_on, same_kind, stops_cuts, is_barrier, in_reach, through, way_from, way_above, AreScoped, is_query, under_query}
+use Rattle.tree_model.specs.Ways.{is_on, same_kind, stops_cuts, is_barrier, in_reach, through, way_from, way_above, AreScoped, is_query}
+use Rattle.tree_model.specs.Ways.{under_query}
 use Rattle.interleaving.proofs.WayLemmas.{cond-false, cond-same, through-on}
 use Rattle.interleaving.proofs.RoundtripLemmas.{by_heights, node_height, height_positive, height_low, IsPart, part_from, part_above}
 

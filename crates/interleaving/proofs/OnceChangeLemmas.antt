@@ -14,9 +14,12 @@ use Rattle.tree_model.specs.Floors.{node_of, with_nodes}
 use Rattle.tree_model.specs.TreeStates.{TreeState, opened_node}
 use Rattle.tree_model.specs.Effects.{spending, closed_with, left_at, ball_falls, cut_at, query_opens, run_placed}
 use Rattle.tree_model.specs.HandOuts.{Handed}
-use Rattle.interleaving.proofs.HandOutCountLemmas.{at, Agrees, AgreesAround, stand, stand_around, stand_plug, node_here, index_here, agrees_in, NewIn, one_place}
+use Rattle.interleaving.proofs.HandOutCountLemmas.{at, Agrees, AgreesAround, stand, stand_around, stand_plug, node_here, index_here}
+use Rattle.interleaving.proofs.HandOutCountLemmas.{agrees_in, NewIn, one_place}
 use Rattle.interleaving.proofs.HandOutPlaceLemmas.{closes_agreed, tasks_at, IsOut, pruned_out, pruned_agrees, pruned_stands, lands_agreed}
-use Rattle.interleaving.proofs.OnceLemmas.{IsGoing, moved_at, IsThere, IsMoved, around_here, new_here, closes_next, lands_next, append-none, new_agrees, new_stands, first_node, first_stands}
+use Rattle.interleaving.proofs.OnceLemmas.{IsGoing, moved_at, IsThere, IsMoved}
+use Rattle.interleaving.proofs.OncePlaceLemmas.{around_here, new_here, closes_next, lands_next}
+use Rattle.interleaving.proofs.OncePlaceLemmas.{append-none, new_agrees, new_stands, first_node, first_stands}
 
 -- what closings do
 module _ (G : Place → Option Handed) (t : TreeState) (s : Spot) (tr : Handed → Option Handed) (d : (a : Place) → G a ≢ None)

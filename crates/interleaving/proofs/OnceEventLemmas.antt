@@ -3,7 +3,8 @@ use Rattle.std.proofs.Common.{◌≡◌, ◌≢◌, ℕ, ◌==◌, Bool, true, f
 use Rattle.std.specs.Prelude.{◌&&◌, nat_le, find}
 use Rattle.run_model.specs.Programs.Clauses.{Clause}
 use Rattle.run_model.specs.Programs.Databases.{Database, without_clause}
-use Rattle.run_model.specs.Goals.Outcomes.{Reply, Solutions, Ball, HaltNumber, GoesOnWith, EitherOf, TestOf, CutToScope, CatchOf, FindallOf, Outcome, Replies, Controls, AskWorld}
+use Rattle.run_model.specs.Goals.Outcomes.{Reply, Solutions, Ball, HaltNumber, GoesOnWith, EitherOf, TestOf, CutToScope, CatchOf, FindallOf}
+use Rattle.run_model.specs.Goals.Outcomes.{Outcome, Replies, Controls, AskWorld}
 use Rattle.run_model.specs.Goals.GoalOutcomes.{outcome_of}
 use Rattle.run_model.specs.Goals.Worlds.{World, world_step}
 use Rattle.run_model.specs.Machine.Balls.{unwound}
@@ -14,7 +15,8 @@ use Rattle.tree_model.specs.Levels.{Level, Place, same_place, Spot, levels_of, p
 use Rattle.tree_model.specs.Gates.{goal_gate, item_gate, gate_on}
 use Rattle.tree_model.specs.PrivateRuns.{goal_alone, item_alone, taken_alone}
 use Rattle.tree_model.specs.Pruning.{Task}
-use Rattle.tree_model.specs.FrontGates.{Taken, Continues, Answered, Raises, Halts, QueryEnds, reply_taken, goal_at_front, removal_at_front, item_at_front, taken_at_front}
+use Rattle.tree_model.specs.FrontGates.{Taken, Continues, Answered, Raises, Halts, QueryEnds, reply_taken, goal_at_front}
+use Rattle.tree_model.specs.FrontGates.{removal_at_front, item_at_front, taken_at_front}
 use Rattle.tree_model.specs.TreeStates.{TreeState, pending}
 use Rattle.tree_model.specs.Legality.{is_ready, is_taken_by, is_spot_at, claimable, may_resume, taken_at, run_fits, may_prune, at_spot}
 use Rattle.tree_model.specs.Effects.{with_status, or_none, gate_pruned, front_taken, run_placed, where_some}
@@ -28,7 +30,8 @@ use Rattle.interleaving.proofs.PlacedSoundLemmas.{two_not_one}
 use Rattle.interleaving.proofs.HandOutCountLemmas.{handed}
 use Rattle.interleaving.proofs.UnchangedPlaceLemmas.{and_first, and_second, same_place-is}
 use Rattle.interleaving.proofs.OpenSpotLemmas.{if_room-some}
-use Rattle.interleaving.proofs.OnceLemmas.{IsGoing, IsKept, moved_at, here, all_defined, IsThere, there, IsMoved, moved_going, held_going}
+use Rattle.interleaving.proofs.OnceLemmas.{IsGoing, IsKept, moved_at, here, all_defined, IsThere, there, IsMoved, moved_going}
+use Rattle.interleaving.proofs.OncePlaceLemmas.{held_going}
 use Rattle.interleaving.proofs.OnceChangeLemmas.{closed_moved, left_moved, cut_moved, fall_moved, opens_moved, placed_moved}
 
 -- a tree after a closing event, unless it was halted

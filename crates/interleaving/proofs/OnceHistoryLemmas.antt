@@ -1,5 +1,6 @@
 -- Every event of a legal history hands out and takes back in order.
-use Rattle.std.proofs.Common.{◌≡◌, ◌≢◌, ℕ, ◌+◌, ◌≤◌, ◌==◌, Bool, true, false, List, [], ◌∷◌, Option, Some, None, refl, sym, ap, ◌∙◌, subst, arith}
+use Rattle.std.proofs.Common.{◌≡◌, ◌≢◌, ℕ, ◌+◌, ◌≤◌, ◌==◌, Bool, true, false, List, [], ◌∷◌, Option, Some, None, refl, sym, ap, ◌∙◌}
+use Rattle.std.proofs.Common.{subst, arith}
 use Rattle.std.specs.Prelude.{◌&&◌, ◌||◌, not, is_none}
 use Rattle.std.specs.List.{list_any}
 use Rattle.au_model.specs.Terms.Each.{Each}
@@ -11,8 +12,10 @@ use Rattle.tree_model.specs.Pruning.{Task}
 use Rattle.tree_model.specs.FrontGates.{taken_at_front}
 use Rattle.tree_model.specs.Events.{Event, Claim, Nodes, Empty, Collected, Lost, Suspend, Resume, Prune, Answer, Stop}
 use Rattle.tree_model.specs.TreeStates.{TreeState, opening_root, opening_tree, pending, leftmost, ended, end_by}
-use Rattle.tree_model.specs.Legality.{is_spot_at, claimable, may_resume, resumable, taken_at, gate_of, run_of, is_task, at_spot, is_allowed, is_legal}
-use Rattle.tree_model.specs.Effects.{with_status, closed_with, or_none, gate_pruned, world_moved, stack_of, run_placed, without_task, where_some, gate_or_frozen, after_allowed, after_event}
+use Rattle.tree_model.specs.Legality.{is_spot_at, claimable, may_resume, resumable, taken_at, gate_of, run_of, is_task, at_spot}
+use Rattle.tree_model.specs.Legality.{is_allowed, is_legal}
+use Rattle.tree_model.specs.Effects.{with_status, closed_with, or_none, gate_pruned, world_moved, stack_of, run_placed, without_task}
+use Rattle.tree_model.specs.Effects.{where_some, gate_or_frozen, after_allowed, after_event}
 use Rattle.tree_model.specs.Histories.{are_legal}
 use Rattle.tree_model.specs.HandOuts.{Handed, Never, Out, Away, Over, resumed, given_back, handed_by, and_so_on, handed_after}
 use Rattle.tree_model.specs.Promises.{Once}
@@ -26,7 +29,8 @@ use Rattle.interleaving.proofs.LegalLemmas.{allowed_sound, event_sound, opening_
 use Rattle.interleaving.proofs.UnchangedPlaceLemmas.{and_first, and_second, same_place-is, place_self}
 use Rattle.interleaving.proofs.OnceLemmas.{IsKept, after_one, moved_at, elsewhere, here, all_defined, lost_elsewhere}
 use Rattle.interleaving.proofs.OnceChangeLemmas.{closed_moved}
-use Rattle.interleaving.proofs.OnceEventLemmas.{taken_out, taken_here, closing, stack_some, prune_moves, front_whole, answer_moves, nodes_move, waiting_away, spot_is, holding, claim_kept}
+use Rattle.interleaving.proofs.OnceEventLemmas.{taken_out, taken_here, closing, stack_some, prune_moves, front_whole, answer_moves}
+use Rattle.interleaving.proofs.OnceEventLemmas.{nodes_move, waiting_away, spot_is, holding, claim_kept}
 
 resume_kept : (G : Place → Option Handed) (t : TreeState) (w : ℕ) (a : Place) → IsKept G t → t.halted ≡ None → IsSoundTree t
     → (o : Option Spot) → resumable t ≡ o → is_spot_at a o ≡ true

@@ -5,7 +5,8 @@ use Rattle.au_term.specs.Term.{Term}
 use Rattle.run_model.specs.Goals.Worlds.{World, world_step}
 use Rattle.run_model.specs.Goals.GoalOutcomes.{outcome_of}
 use Rattle.run_model.specs.Machine.Balls.{unwound}
-use Rattle.run_model.specs.Goals.Outcomes.{Reply, Solutions, Ball, HaltNumber, GoesOnWith, EitherOf, TestOf, CutToScope, CatchOf, FindallOf, Outcome, Replies, Controls, AskWorld}
+use Rattle.run_model.specs.Goals.Outcomes.{Reply, Solutions, Ball, HaltNumber, GoesOnWith, EitherOf, TestOf, CutToScope, CatchOf, FindallOf}
+use Rattle.run_model.specs.Goals.Outcomes.{Outcome, Replies, Controls, AskWorld}
 use Rattle.run_model.specs.Machine.Items.{Item, GoalItem, CatchMark, CollectMark, RemovalItem, Continuation, first_mark, without_marks}
 use Rattle.run_model.specs.Machine.Entries.{Entry, PlainEntry, CatchEntry, FindallEntry, EndEntry}
 use Rattle.tree_model.specs.Nodes.{BallGate, CutGate, Pending}

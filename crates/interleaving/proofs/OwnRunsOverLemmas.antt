@@ -1,11 +1,13 @@
 -- The same over a floor that begins with an end which goals don't name.
-use Rattle.std.proofs.Common.{◌≡◌, inl, inr, ℕ, zero, suc, ◌-◌, ◌+◌, ◌≤◌, Bool, true, false, cond, List, [], ◌∷◌, ◌++◌, map, length, take, nat_lt, nat_le, Option, Some, None, refl, sym, ap, ◌∙◌, subst, arith}
+use Rattle.std.proofs.Common.{◌≡◌, inl, inr, ℕ, zero, suc, ◌-◌, ◌+◌, ◌≤◌, Bool, true, false, cond, List, [], ◌∷◌, ◌++◌, map, length, take}
+use Rattle.std.proofs.Common.{nat_lt, nat_le, Option, Some, None, refl, sym, ap, ◌∙◌, subst, arith}
 use Rattle.std.proofs.lemmas.Bool.Decides.{nat_tests}
 use Rattle.au_term.specs.Term.{Term}
 use Rattle.au_model.specs.Terms.Each.{Each}
 use Rattle.run_model.specs.Programs.Clauses.{Clause}
 use Rattle.run_model.specs.Goals.GoalOutcomes.{outcome_of}
-use Rattle.run_model.specs.Goals.Outcomes.{Reply, Solutions, Ball, HaltNumber, ControlForm, GoesOnWith, EitherOf, TestOf, CutToScope, CatchOf, FindallOf, Outcome, Replies, Controls, AskWorld}
+use Rattle.run_model.specs.Goals.Outcomes.{Reply, Solutions, Ball, HaltNumber, ControlForm, GoesOnWith, EitherOf, TestOf, CutToScope, CatchOf}
+use Rattle.run_model.specs.Goals.Outcomes.{FindallOf, Outcome, Replies, Controls, AskWorld}
 use Rattle.run_model.specs.Machine.Items.{Item, GoalItem, CatchMark, CollectMark, RemovalItem, Continuation, with_items, first_mark}
 use Rattle.run_model.specs.Machine.Entries.{Entry, PlainEntry, CatchEntry, FindallEntry, EndEntry}
 use Rattle.run_model.specs.Machine.Balls.{unwound}
@@ -19,7 +21,8 @@ use Rattle.interleaving.specs.HeightMachine.{HeightElement, HeightEntry, held_en
 use Rattle.interleaving.specs.Views.{IsGrown, IsInner}
 use Rattle.interleaving.specs.Laws.{is_inner_record}
 use Rattle.interleaving.specs.Sound.{names, IsEntrySound, IsSound}
-use Rattle.interleaving.specs.OwnRuns.{landed, own_control, own_goal, own_item, own_taken, own_part, own_left, own_more, own_run, StandsFor, IsFloorUnder, RunsPrivately}
+use Rattle.interleaving.specs.OwnRuns.{landed, own_control, own_goal, own_item, own_taken, own_part, own_left, own_more, own_run}
+use Rattle.interleaving.specs.OwnRuns.{StandsFor, IsFloorUnder, RunsPrivately}
 use Rattle.interleaving.proofs.RunFrontLemmas.{append-assoc-at, map-none, some-same, none-some}
 use Rattle.interleaving.proofs.JoinedLemmas.{placed-within}
 use Rattle.interleaving.proofs.InsideLemmas.{under_ground}

@@ -1,5 +1,6 @@
 -- What takes a goal's place by names stands for what takes it by heights.
-use Rattle.std.proofs.Common.{◌≡◌, ℕ, suc, ◌-◌, ◌+◌, Bool, true, false, cond, List, [], ◌∷◌, ◌++◌, map, length, Option, Some, None, refl, sym, ap, ◌∙◌, arith}
+use Rattle.std.proofs.Common.{◌≡◌, ℕ, suc, ◌-◌, ◌+◌, Bool, true, false, cond, List, [], ◌∷◌, ◌++◌, map, length, Option, Some, None, refl}
+use Rattle.std.proofs.Common.{sym, ap, ◌∙◌, arith}
 use Rattle.std.specs.Prelude.{codes}
 use Rattle.au_term.specs.Term.{Term, AtomTerm}
 use Rattle.au_model.specs.Terms.Each.{Each}
@@ -19,7 +20,8 @@ use Rattle.interleaving.specs.HeightMachine.{HeightElement, HeightEntry, held_en
 use Rattle.interleaving.specs.Erased.{from, count, height, with_height, with_heights, erased}
 use Rattle.interleaving.specs.Sound.{names, IsOlder, AreCarried}
 use Rattle.interleaving.proofs.RunFrontLemmas.{append-assoc-at}
-use Rattle.interleaving.proofs.NamingLemmas.{heights-same, resolved-heights, same-heights, body-heights, goals-heights, length-erased, lowest-from, IsMadeBy, from_end, from_own, heights-made, heights-cut, longer, sames}
+use Rattle.interleaving.proofs.NamingLemmas.{heights-same, resolved-heights, same-heights, body-heights, goals-heights, length-erased}
+use Rattle.interleaving.proofs.NamingLemmas.{lowest-from, IsMadeBy, from_end, from_own, heights-made, heights-cut, longer, sames}
 
 pub entries-append : (es ds : List Entry) → held_entries (es ++ ds) ≡ held_entries es ++ held_entries ds
 entries-append [] ds = refl

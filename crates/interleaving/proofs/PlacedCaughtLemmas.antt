@@ -1,17 +1,21 @@
 -- Placed nodes keep marks and queries.
-use Rattle.std.proofs.Common.{◌≡◌, ℕ, suc, ◌+◌, ◌-◌, ◌≤◌, ◌==◌, Bool, true, false, cond, List, [], ◌∷◌, ◌++◌, map, length, take, drop, length-append, refl, sym, ap, ◌∙◌, subst, arith}
+use Rattle.std.proofs.Common.{◌≡◌, ℕ, suc, ◌+◌, ◌-◌, ◌≤◌, ◌==◌, Bool, true, false, cond, List, [], ◌∷◌, ◌++◌, map, length, take, drop}
+use Rattle.std.proofs.Common.{length-append, refl, sym, ap, ◌∙◌, subst, arith}
 use Rattle.std.specs.Prelude.{◌||◌, not, nat_le}
 use Rattle.std.specs.List.{list_any}
 use Rattle.au_model.specs.Terms.Each.{Each}
 use Rattle.run_model.specs.Machine.Items.{Item, GoalItem, CatchMark, CollectMark, RemovalItem}
 use Rattle.run_model.specs.Machine.Entries.{Entry, PlainEntry, CatchEntry, FindallEntry, EndEntry}
-use Rattle.tree_model.specs.Nodes.{Kind, Hold, Ready, TakenBy, Waiting, Dormant, Alternatives, none, alternative, Status, Pending, Inner, Closed, standing}
+use Rattle.tree_model.specs.Nodes.{Kind, Hold, Ready, TakenBy, Waiting, Dormant, Alternatives, none, alternative, Status, Pending, Inner}
+use Rattle.tree_model.specs.Nodes.{Closed, standing}
 use Rattle.tree_model.specs.Levels.{Level}
 use Rattle.tree_model.specs.Floors.{node_of, with_nodes, right_entry, with_heights, floor_of}
-use Rattle.tree_model.specs.Shapes.{further, is_guard, is_alone, fits, holder, guard_kind, guard_hold, further_alternatives, placed_status}
+use Rattle.tree_model.specs.Shapes.{further, is_guard, is_alone, fits, holder, guard_kind, guard_hold, further_alternatives}
+use Rattle.tree_model.specs.Shapes.{placed_status}
 use Rattle.tree_model.specs.PendingLists.{way_of}
 use Rattle.tree_model.specs.Ways.{is_query}
-use Rattle.tree_model.specs.CaughtTrees.{catch_right, with_catch, MarksCaught, EntryCaught, is_side, IsCaught, AreCaught, IsNoEnd, HasNoQuery, HaveNoQuery, IsUnspent, AreUnspent}
+use Rattle.tree_model.specs.CaughtTrees.{catch_right, with_catch, MarksCaught, EntryCaught, is_side, IsCaught, AreCaught, IsNoEnd}
+use Rattle.tree_model.specs.CaughtTrees.{HasNoQuery, HaveNoQuery, IsUnspent, AreUnspent}
 use Rattle.interleaving.proofs.WayLemmas.{cond-true, cond-false, same_self, other_number}
 use Rattle.interleaving.proofs.RoundtripLemmas.{by_nodes, IsPath, not_same}
 use Rattle.interleaving.proofs.EntryLemmas.{length-floor, own_height}

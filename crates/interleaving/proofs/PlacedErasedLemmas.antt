@@ -1,5 +1,6 @@
 -- The list of placed nodes stands for the entries of the run.
-use Rattle.std.proofs.Common.{◌≡◌, ℕ, suc, ◌+◌, ◌-◌, ◌≤◌, Bool, true, false, List, [], ◌∷◌, ◌++◌, map, length, take, drop, refl, sym, ap, ◌∙◌, subst, arith}
+use Rattle.std.proofs.Common.{◌≡◌, ℕ, suc, ◌+◌, ◌-◌, ◌≤◌, Bool, true, false, List, [], ◌∷◌, ◌++◌, map, length, take, drop, refl, sym, ap}
+use Rattle.std.proofs.Common.{◌∙◌, subst, arith}
 use Rattle.std.specs.Prelude.{nat_le}
 use Rattle.run_model.specs.Machine.Entries.{Entry}
 use Rattle.tree_model.specs.Elements.{Element, EndOf}
@@ -15,7 +16,8 @@ use Rattle.interleaving.proofs.NamingLemmas.{from_own}
 use Rattle.interleaving.proofs.PlacedSoundLemmas.{take-drop, drop-length}
 use Rattle.interleaving.proofs.PlacedShapeLemmas.{holder_first, holder_later, made, made_equal}
 use Rattle.interleaving.proofs.NamedFloorLemmas.{from-other, scope-here, scope-above}
-use Rattle.interleaving.proofs.PlacedNameLemmas.{bare, bare-append, bare-element, olders, bare_olders, IsMet, AreMeasured, measured_split, entry_back, from_olders, count_olders, other_node, older_erased}
+use Rattle.interleaving.proofs.PlacedNameLemmas.{bare, bare-append, bare-element, olders, bare_olders, IsMet, AreMeasured, measured_split}
+use Rattle.interleaving.proofs.PlacedNameLemmas.{entry_back, from_olders, count_olders, other_node, older_erased}
 
 -- no whole height falls inside a node
 abbrev pub NoneInside : (ℕ → Type 0) → ℕ → List ℕ → Type 0

@@ -11,7 +11,8 @@ use Rattle.tree_model.specs.PendingLists.{Step, Way, scope_on, element_at, list_
 use Rattle.interleaving.proofs.AppendLemmas.{append-assoc}
 use Rattle.interleaving.proofs.PlacedSoundLemmas.{take-drop, drop-length}
 use Rattle.interleaving.proofs.PlacedShapeLemmas.{made_equal}
-use Rattle.interleaving.proofs.PlacedNameLemmas.{bare, bare-element, olders, IsMet, ItemsMeasured, EntryMeasured, AreMeasured, measured_split, older_met}
+use Rattle.interleaving.proofs.PlacedNameLemmas.{bare, bare-element, olders, IsMet, ItemsMeasured, EntryMeasured, AreMeasured}
+use Rattle.interleaving.proofs.PlacedNameLemmas.{measured_split, older_met}
 use Rattle.interleaving.proofs.PlacedErasedLemmas.{IsNaming, bare_made, inner_naming}
 use Rattle.interleaving.proofs.ReadableLemmas.{AreReadable, IsReadable, high_present}
 

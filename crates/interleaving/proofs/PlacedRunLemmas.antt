@@ -1,5 +1,6 @@
 -- The nodes that a private run becomes stand for what the run leaves, over the floor of the branch.
-use Rattle.std.proofs.Common.{◌≡◌, ℕ, suc, ◌+◌, ◌≤◌, ◌==◌, Bool, true, false, cond, List, [], ◌∷◌, ◌++◌, length, refl, sym, ap, ◌∙◌, subst, arith}
+use Rattle.std.proofs.Common.{◌≡◌, ℕ, suc, ◌+◌, ◌≤◌, ◌==◌, Bool, true, false, cond, List, [], ◌∷◌, ◌++◌, length, refl, sym, ap, ◌∙◌}
+use Rattle.std.proofs.Common.{subst, arith}
 use Rattle.std.specs.Prelude.{nat_le}
 use Rattle.au_model.specs.Terms.Each.{Each}
 use Rattle.run_model.specs.Machine.Entries.{Entry}
@@ -22,7 +23,8 @@ use Rattle.interleaving.proofs.NamedFloorLemmas.{below_named, count-below, low_h
 use Rattle.interleaving.proofs.PlacedNameLemmas.{bare, IsMet, AreMeasured}
 use Rattle.interleaving.proofs.PlacedErasedLemmas.{NoneInside, Fills, IsNaming, held-append, placed_erased}
 use Rattle.interleaving.proofs.PlacedReadableLemmas.{placed_read}
-use Rattle.interleaving.proofs.RunMeasuredLemmas.{NotInside, not_inside_low, none_inside, fits_fill, cut_not_inside, GuardAt, guard_not_inside}
+use Rattle.interleaving.proofs.RunMeasuredLemmas.{NotInside, not_inside_low, none_inside, fits_fill, cut_not_inside, GuardAt}
+use Rattle.interleaving.proofs.RunMeasuredLemmas.{guard_not_inside}
 use Rattle.interleaving.proofs.RunNameLemmas.{are_measured}
 use Rattle.interleaving.proofs.ReadableLemmas.{IsReadable}
 

@@ -1,20 +1,25 @@
 -- Entries that become nodes: their scopes, shapes and kinds.
-use Rattle.std.proofs.Common.{◌≡◌, ℕ, suc, ◌+◌, ◌-◌, ◌≤◌, ◌==◌, Bool, true, false, List, [], ◌∷◌, ◌++◌, map, length, take, drop, refl, sym, ap, ◌∙◌, subst, arith}
+use Rattle.std.proofs.Common.{◌≡◌, ℕ, suc, ◌+◌, ◌-◌, ◌≤◌, ◌==◌, Bool, true, false, List, [], ◌∷◌, ◌++◌, map, length, take, drop, refl}
+use Rattle.std.proofs.Common.{sym, ap, ◌∙◌, subst, arith}
 use Rattle.std.specs.Prelude.{◌&&◌, nat_lt, nat_le}
 use Rattle.au_model.specs.Terms.Each.{Each}
 use Rattle.run_model.specs.Machine.Entries.{Entry, PlainEntry, CatchEntry, FindallEntry, EndEntry}
 use Rattle.tree_model.specs.Nodes.{CatchNode, FindallNode, Numbered, alternative, Status, Inner}
 use Rattle.tree_model.specs.Floors.{with_nodes}
-use Rattle.tree_model.specs.Shapes.{further, is_unsplit, is_alone, fits, holder, guard_kind, guard_hold, further_alternatives, placed_status}
+use Rattle.tree_model.specs.Shapes.{further, is_unsplit, is_alone, fits, holder, guard_kind, guard_hold, further_alternatives}
+use Rattle.tree_model.specs.Shapes.{placed_status}
 use Rattle.tree_model.specs.PendingLists.{Step, Way}
 use Rattle.tree_model.specs.Ways.{is_on, is_query, under_query, is_below}
-use Rattle.tree_model.specs.SoundTrees.{one_if, count_among, count_below, Profile, IsOpen, profile, profiles, some_open, is_live, is_shape, IsSound}
+use Rattle.tree_model.specs.SoundTrees.{one_if, count_among, count_below, Profile, IsOpen, profile, profiles, some_open, is_live}
+use Rattle.tree_model.specs.SoundTrees.{is_shape, IsSound}
 use Rattle.interleaving.proofs.WayLemmas.{cond-true, cond-false}
 use Rattle.interleaving.proofs.RoundtripLemmas.{not_same, IsPath}
 use Rattle.interleaving.proofs.CollapseLemmas.{Collapses, kept}
 use Rattle.interleaving.proofs.StackLemmas.{IsCounted, entry_step, stack_way, length-stack, counted_stack, AreOver}
 use Rattle.interleaving.proofs.RunSoundLemmas.{IsAwakeTop}
-use Rattle.interleaving.proofs.PlacedSoundLemmas.{named_in, IsSeen, inside_hidden, placed_asked, over_split, take-drop, map-take, map-drop, map-length, drop-length, take_awake, each-take, each-drop, two_not_one, several_awake, first_awake, standing_none, IsOlder, plain_older}
+use Rattle.interleaving.proofs.PlacedSoundLemmas.{named_in, IsSeen, inside_hidden, placed_asked, over_split, take-drop, map-take}
+use Rattle.interleaving.proofs.PlacedSoundLemmas.{map-drop, map-length, drop-length, take_awake, each-take, each-drop, two_not_one}
+use Rattle.interleaving.proofs.PlacedSoundLemmas.{several_awake, first_awake, standing_none, IsOlder, plain_older}
 
 older : (name : ℕ → ℕ) (seen : ℕ → Bool) (w a : Way) (next : ℕ) (o : Entry) (os : List Entry) → is_alone (o ∷ os) ≡ true →
     Collapses name seen w a → IsPath a → under_query a ≡ true → is_on a next ≡ false → Each (IsSeen seen) (o ∷ os) → AreOver w (o ∷ os)

@@ -1,5 +1,6 @@
 -- The nodes that a private run becomes are sound.
-use Rattle.std.proofs.Common.{◌≡◌, ℕ, zero, suc, ◌+◌, ◌-◌, ◌≤◌, ◌==◌, Bool, true, false, List, [], ◌∷◌, ◌++◌, map, length, take, drop, refl, sym, ap, ◌∙◌, subst, arith}
+use Rattle.std.proofs.Common.{◌≡◌, ℕ, zero, suc, ◌+◌, ◌-◌, ◌≤◌, ◌==◌, Bool, true, false, List, [], ◌∷◌, ◌++◌, map, length, take, drop}
+use Rattle.std.proofs.Common.{refl, sym, ap, ◌∙◌, subst, arith}
 use Rattle.std.specs.Prelude.{◌&&◌, ◌||◌, not, nat_lt}
 use Rattle.std.specs.List.{list_any}
 use Rattle.au_model.specs.Terms.Each.{Each}
@@ -7,7 +8,8 @@ use Rattle.run_model.specs.Machine.Items.{Item, GoalItem, CatchMark, CollectMark
 use Rattle.run_model.specs.Machine.Entries.{Entry, PlainEntry, CatchEntry, FindallEntry, EndEntry}
 use Rattle.tree_model.specs.Nodes.{ChoiceNode, Hold, Ready, standing}
 use Rattle.tree_model.specs.Floors.{with_nodes}
-use Rattle.tree_model.specs.Shapes.{further, is_guard, cuts_of_items, cuts_of_entry, cuts_of, is_unsplit, is_alone, guard_kind, guard_hold, further_alternatives}
+use Rattle.tree_model.specs.Shapes.{further, is_guard, cuts_of_items, cuts_of_entry, cuts_of, is_unsplit, is_alone, guard_kind}
+use Rattle.tree_model.specs.Shapes.{guard_hold, further_alternatives}
 use Rattle.tree_model.specs.PendingLists.{Way}
 use Rattle.tree_model.specs.Ways.{is_on, is_query, under_query, IsAsked, IsAwake}
 use Rattle.tree_model.specs.SoundTrees.{count_among, IsOpen, profiles, none_sleeps, is_shape, AreSound}

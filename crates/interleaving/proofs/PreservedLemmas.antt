@@ -1,5 +1,6 @@
 -- What takes a goal's place leaves a list whose names can be read.
-use Rattle.std.proofs.Common.{◌≡◌, ℕ, zero, suc, ◌+◌, Bool, true, false, cond, List, [], ◌∷◌, ◌++◌, Option, Some, None, refl, sym, ap, ◌∙◌, subst}
+use Rattle.std.proofs.Common.{◌≡◌, ℕ, zero, suc, ◌+◌, Bool, true, false, cond, List, [], ◌∷◌, ◌++◌, Option, Some, None, refl, sym, ap}
+use Rattle.std.proofs.Common.{◌∙◌, subst}
 use Rattle.std.specs.Prelude.{codes}
 use Rattle.au_term.specs.Term.{Term, AtomTerm}
 use Rattle.au_model.specs.Terms.Each.{Each}
@@ -9,16 +10,19 @@ use Rattle.au_model.specs.Terms.Unifier.{unifier}
 use Rattle.au_model.specs.Terms.Copies.{copied, copy_takes}
 use Rattle.run_model.specs.Programs.Clauses.{Clause}
 use Rattle.run_model.specs.Programs.Jobs.{Query}
-use Rattle.run_model.specs.Goals.Outcomes.{Solution, Reply, Solutions, Ball, HaltNumber, ControlForm, GoesOnWith, EitherOf, TestOf, CutToScope, CatchOf, FindallOf}
+use Rattle.run_model.specs.Goals.Outcomes.{Solution, Reply, Solutions, Ball, HaltNumber, ControlForm, GoesOnWith, EitherOf, TestOf, CutToScope}
+use Rattle.run_model.specs.Goals.Outcomes.{CatchOf, FindallOf}
 use Rattle.run_model.specs.Machine.Items.{Item, GoalItem, CatchMark, CollectMark, Continuation, goals_at, with_next, before, first_mark}
 use Rattle.interleaving.specs.Machine.{Look, On, Here, looked, search_for, placed}
 use Rattle.tree_model.specs.Elements.{Name, same, Element, Credit, Plain, EndOf, Catch, Findall, End}
-use Rattle.interleaving.specs.Scopes.{Sought, Scope, Thrown, Caught, unified, solution_entries, reply_place, control_place, goals_first, test_items, opened, recovered, look, scoped}
+use Rattle.interleaving.specs.Scopes.{Sought, Scope, Thrown, Caught, unified, solution_entries, reply_place, control_place, goals_first}
+use Rattle.interleaving.specs.Scopes.{test_items, opened, recovered, look, scoped}
 use Rattle.interleaving.specs.Erased.{from, count}
 use Rattle.interleaving.specs.Sound.{names, IsOlder, AreCarried, IsGuarded, IsGathered, IsMarkSound, EachFindall, IsEntrySound, IsSound}
 use Rattle.interleaving.proofs.RunFrontLemmas.{append-assoc-at, append-none}
 use Rattle.interleaving.proofs.NamingLemmas.{IsMadeBy, from_end, from_own, longer, not_longer}
-use Rattle.interleaving.proofs.CarriedLemmas.{findalls-map, sound-from, entry_child, entry_rest, entry_cut, entry_goals, front_of, front_child, older-goals, own_front, here_front, from_first, other_child, entry_resolved}
+use Rattle.interleaving.proofs.CarriedLemmas.{findalls-map, sound-from, entry_child, entry_rest, entry_cut, entry_goals, front_of}
+use Rattle.interleaving.proofs.CarriedLemmas.{front_child, older-goals, own_front, here_front, from_first, other_child, entry_resolved}
 use Rattle.interleaving.proofs.PlaceHeightLemmas.{ends_made, solutions-made, from-solutions, search-from}
 
 -- solutions

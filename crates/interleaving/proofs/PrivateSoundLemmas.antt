@@ -1,13 +1,16 @@
 -- A private run keeps its entries on their ways.
-use Rattle.std.proofs.Common.{◌≡◌, ℕ, suc, ◌+◌, ◌-◌, ◌≤◌, ◌==◌, Bool, true, false, cond, List, [], ◌∷◌, ◌++◌, length, drop, Option, Some, None, refl, sym, ap, ◌∙◌, subst, arith}
+use Rattle.std.proofs.Common.{◌≡◌, ℕ, suc, ◌+◌, ◌-◌, ◌≤◌, ◌==◌, Bool, true, false, cond, List, [], ◌∷◌, ◌++◌, length, drop, Option, Some}
+use Rattle.std.proofs.Common.{None, refl, sym, ap, ◌∙◌, subst, arith}
 use Rattle.std.specs.Prelude.{codes, nat_lt, nat_le}
 use Rattle.std.proofs.lemmas.List.{length-append}
 use Rattle.au_term.specs.Term.{Term, AtomTerm}
 use Rattle.run_model.specs.Programs.Bodies.{call_of}
 use Rattle.au_model.specs.Terms.Substitutions.{Substitution}
 use Rattle.au_model.specs.Terms.Copies.{copy_takes}
-use Rattle.run_model.specs.Goals.Outcomes.{Reply, Solutions, Ball, HaltNumber, ControlForm, GoesOnWith, EitherOf, TestOf, CutToScope, CatchOf, FindallOf}
-use Rattle.run_model.specs.Machine.Items.{Item, GoalItem, CatchMark, CollectMark, Continuation, goals_at, resolve_continuation, before, with_next, first_mark}
+use Rattle.run_model.specs.Goals.Outcomes.{Reply, Solutions, Ball, HaltNumber, ControlForm, GoesOnWith, EitherOf, TestOf, CutToScope, CatchOf}
+use Rattle.run_model.specs.Goals.Outcomes.{FindallOf}
+use Rattle.run_model.specs.Machine.Items.{Item, GoalItem, CatchMark, CollectMark, Continuation, goals_at, resolve_continuation, before, with_next}
+use Rattle.run_model.specs.Machine.Items.{first_mark}
 use Rattle.run_model.specs.Machine.Entries.{Entry, PlainEntry, CatchEntry, FindallEntry, EndEntry, solution_entries}
 use Rattle.run_model.specs.Machine.Balls.{taken_by, next_mark, recovered, unwound}
 use Rattle.run_model.specs.Machine.Heights.{goals_entry, test_items, guarded_goal, after_reply, after_control}
@@ -22,7 +25,9 @@ use Rattle.interleaving.proofs.WayLemmas.{cond-true, same_self}
 use Rattle.interleaving.proofs.RoundtripLemmas.{weaken_from}
 use Rattle.interleaving.proofs.BallLemmas.{IsLow, landing_low}
 use Rattle.interleaving.proofs.CollapseLemmas.{as_scopes}
-use Rattle.interleaving.proofs.StackLemmas.{IsCounted, counted_path, stack_way, length-stack, counted_stack, AreOver, drop_over, resolved_scopes, top_reach, top_from, top_goals, scope_goals, over_plain, solutions_over, drop-append, from_stack, stack_asked}
+use Rattle.interleaving.proofs.StackLemmas.{IsCounted, counted_path, stack_way, length-stack, counted_stack, AreOver, drop_over}
+use Rattle.interleaving.proofs.StackLemmas.{resolved_scopes, top_reach, top_from, top_goals, scope_goals, over_plain, solutions_over}
+use Rattle.interleaving.proofs.StackLemmas.{drop-append, from_stack, stack_asked}
 
 le_by : (a b : ℕ) → nat_le a b ≡ true → a ≤ b
 le_by a b h = grind arith

@@ -1,5 +1,6 @@
 -- One private step keeps its entries on their ways.
-use Rattle.std.proofs.Common.{◌≡◌, ℕ, zero, suc, ◌+◌, ◌-◌, ◌==◌, Bool, true, false, cond, List, [], ◌∷◌, ◌++◌, length, take, Option, Some, None, refl, sym, ap, ◌∙◌, subst, arith}
+use Rattle.std.proofs.Common.{◌≡◌, ℕ, zero, suc, ◌+◌, ◌-◌, ◌==◌, Bool, true, false, cond, List, [], ◌∷◌, ◌++◌, length, take, Option, Some}
+use Rattle.std.proofs.Common.{None, refl, sym, ap, ◌∙◌, subst, arith}
 use Rattle.std.specs.Prelude.{codes, nat_lt}
 use Rattle.std.proofs.lemmas.List.{length-append}
 use Rattle.au_term.specs.Term.{Term}
@@ -13,7 +14,8 @@ use Rattle.tree_model.specs.Nodes.{Gate}
 use Rattle.tree_model.specs.Levels.{Level}
 use Rattle.tree_model.specs.Floors.{floor_of}
 use Rattle.tree_model.specs.Gates.{goal_gate, item_gate}
-use Rattle.tree_model.specs.PrivateRuns.{own_settles, own_free_steps, settled_own, own_part, goal_alone, item_alone, if_no_gate, own_after, one_more}
+use Rattle.tree_model.specs.PrivateRuns.{own_settles, own_free_steps, settled_own, own_part, goal_alone, item_alone, if_no_gate}
+use Rattle.tree_model.specs.PrivateRuns.{own_after, one_more}
 use Rattle.tree_model.specs.Shapes.{guard_kind}
 use Rattle.tree_model.specs.PendingLists.{Way}
 use Rattle.tree_model.specs.Ways.{IsAsked}

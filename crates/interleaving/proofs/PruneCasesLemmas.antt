@@ -1,10 +1,12 @@
 -- A prune is a cut to a node of the branch, or a ball that lands at one.
-use Rattle.std.proofs.Common.{◌≡◌, ℕ, suc, ◌==◌, Bool, true, false, cond, List, [], ◌∷◌, map, length, Option, Some, None, refl, sym, ap, ◌∙◌, subst, arith}
+use Rattle.std.proofs.Common.{◌≡◌, ℕ, suc, ◌==◌, Bool, true, false, cond, List, [], ◌∷◌, map, length, Option, Some, None, refl, sym, ap}
+use Rattle.std.proofs.Common.{◌∙◌, subst, arith}
 use Rattle.std.specs.Prelude.{nat_lt}
 use Rattle.au_term.specs.Term.{Term}
 use Rattle.run_model.specs.Goals.GoalOutcomes.{outcome_of}
 use Rattle.run_model.specs.Machine.Balls.{unwound}
-use Rattle.run_model.specs.Goals.Outcomes.{Solutions, Ball, HaltNumber, GoesOnWith, EitherOf, TestOf, CutToScope, CatchOf, FindallOf, Outcome, Replies, Controls, AskWorld}
+use Rattle.run_model.specs.Goals.Outcomes.{Solutions, Ball, HaltNumber, GoesOnWith, EitherOf, TestOf, CutToScope, CatchOf, FindallOf, Outcome}
+use Rattle.run_model.specs.Goals.Outcomes.{Replies, Controls, AskWorld}
 use Rattle.run_model.specs.Machine.Items.{Item, GoalItem, CatchMark, CollectMark, RemovalItem, Continuation, first_mark, with_items, without_marks}
 use Rattle.run_model.specs.Machine.Entries.{Entry, PlainEntry}
 use Rattle.tree_model.specs.Nodes.{CutGate, BallGate, Pending}
@@ -34,7 +36,8 @@ use Rattle.interleaving.proofs.ListScopeLemmas.{sleeps_on}
 use Rattle.interleaving.proofs.FrontCloseLemmas.{bare}
 use Rattle.interleaving.proofs.CaughtEventLemmas.{marks_without}
 use Rattle.interleaving.proofs.BallLevelLemmas.{clear_below}
-use Rattle.interleaving.proofs.FallLemmas.{Fall, fall, fall_entries, MarkSleeps, IsTaken, landing_falls, fall_taken, first_height, first_sleeps}
+use Rattle.interleaving.proofs.FallLemmas.{Fall, fall, fall_entries, MarkSleeps, IsTaken, landing_falls, fall_taken, first_height}
+use Rattle.interleaving.proofs.FallLemmas.{first_sleeps}
 use Rattle.interleaving.proofs.BallSearchLemmas.{mark_name, first_name}
 use Rattle.interleaving.proofs.PrunedBallLemmas.{placed_here, root_here}
 

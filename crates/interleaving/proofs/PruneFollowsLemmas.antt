@@ -24,7 +24,7 @@ use Rattle.interleaving.proofs.ListScopeLemmas.{sleeps_on}
 use Rattle.interleaving.proofs.ListsSoundLemmas.{lists_are_sound}
 use Rattle.interleaving.proofs.CaughtContextLemmas.{caught_down}
 use Rattle.interleaving.proofs.PrunedBallLemmas.{PruneMoves, falls_so}
-use Rattle.interleaving.proofs.CutFollowsLemmas.{cut_moves}
+use Rattle.interleaving.proofs.CutHeightLemmas.{cut_moves}
 use Rattle.interleaving.proofs.PruneCasesLemmas.{plain_moves}
 
 clash : {A : Type 0} → false ≡ true → A

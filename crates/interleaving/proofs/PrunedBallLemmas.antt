@@ -1,5 +1,6 @@
 -- A ball at an alternative that is out: the list runs as before.
-use Rattle.std.proofs.Common.{◌≡◌, ℕ, suc, ◌+◌, ◌≤◌, true, false, List, [], ◌∷◌, ◌++◌, map, length, Option, Some, None, refl, sym, ap, ◌∙◌, subst, arith}
+use Rattle.std.proofs.Common.{◌≡◌, ℕ, suc, ◌+◌, ◌≤◌, true, false, List, [], ◌∷◌, ◌++◌, map, length, Option, Some, None, refl, sym, ap}
+use Rattle.std.proofs.Common.{◌∙◌, subst, arith}
 use Rattle.au_term.specs.Term.{Term}
 use Rattle.au_model.specs.Terms.Substitutions.{Substitution}
 use Rattle.au_model.specs.Terms.Copies.{copied, copy_takes}
@@ -52,7 +53,8 @@ use Rattle.interleaving.proofs.FallLemmas.{Fall, Nobody, Catches, fall, fall_ent
 use Rattle.interleaving.proofs.BallPlaceLemmas.{scope_down, query_at}
 use Rattle.interleaving.proofs.BallSearchLemmas.{mark_name}
 use Rattle.interleaving.proofs.BallCatchLemmas.{none_lost, loses}
-use Rattle.interleaving.proofs.BallFollowsLemmas.{ball_taken, ball_wakes, free_top}
+use Rattle.interleaving.proofs.BallFollowsLemmas.{ball_taken, free_top}
+use Rattle.interleaving.proofs.BallRecoveryLemmas.{ball_wakes}
 use Rattle.interleaving.proofs.LostBallLemmas.{unmarked_becomes, all_clear, lost_end, lost_lands}
 
 -- what a prune does

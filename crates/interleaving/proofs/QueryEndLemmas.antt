@@ -1,5 +1,6 @@
 -- The end of a query at the front.
-use Rattle.std.proofs.Common.{◌≡◌, ℕ, suc, ◌+◌, ◌==◌, ◌≤◌, true, false, List, [], ◌∷◌, ◌++◌, map, length, Option, Some, None, refl, sym, ap, ◌∙◌, subst, arith}
+use Rattle.std.proofs.Common.{◌≡◌, ℕ, suc, ◌+◌, ◌==◌, ◌≤◌, true, false, List, [], ◌∷◌, ◌++◌, map, length, Option, Some, None, refl, sym}
+use Rattle.std.proofs.Common.{ap, ◌∙◌, subst, arith}
 use Rattle.au_term.specs.Term.{Term}
 use Rattle.run_model.specs.Programs.Jobs.{Query, own_terms, query_bound}
 use Rattle.au_model.specs.Writing.Lines.{end_line}
@@ -51,7 +52,8 @@ use Rattle.interleaving.proofs.FrontSoundLemmas.{ended_sound}
 use Rattle.interleaving.proofs.BaredLemmas.{bare_becomes}
 use Rattle.interleaving.proofs.PlacedNameLemmas.{bare}
 use Rattle.interleaving.proofs.FrontEntriesLemmas.{map-parts}
-use Rattle.interleaving.proofs.QueryLastLemmas.{RightsNone, rights_none, OnlyEnds, back_ends, ends_lead, ends_given, ends_settle, ends_erased, closes_lead}
+use Rattle.interleaving.proofs.QueryLastLemmas.{RightsNone, rights_none, OnlyEnds, back_ends, ends_lead, ends_given, ends_settle}
+use Rattle.interleaving.proofs.QueryLastLemmas.{ends_erased, closes_lead}
 use Rattle.interleaving.proofs.FrontStepLemmas.{front_asked, gate_moves}
 
 -- goals in a scope, by heights

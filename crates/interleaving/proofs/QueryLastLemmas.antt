@@ -1,5 +1,6 @@
 -- To the right of a query, and of a query's end, nothing is left; nor anything open to the left of a query's node.
-use Rattle.std.proofs.Common.{◌≡◌, inl, inr, ℕ, suc, ◌+◌, ◌≤◌, true, false, List, [], ◌∷◌, ◌++◌, map, length, Option, Some, None, refl, sym, ap, subst, arith}
+use Rattle.std.proofs.Common.{◌≡◌, inl, inr, ℕ, suc, ◌+◌, ◌≤◌, true, false, List, [], ◌∷◌, ◌++◌, map, length, Option, Some, None, refl}
+use Rattle.std.proofs.Common.{sym, ap, subst, arith}
 use Rattle.std.specs.Prelude.{min}
 use Rattle.run_model.specs.Programs.Clauses.{Clause}
 use Rattle.run_model.specs.Machine.Entries.{Entry}
@@ -10,7 +11,8 @@ use Rattle.tree_model.specs.Orders.{is_closed}
 use Rattle.tree_model.specs.Closing.{dormant_right, guarded, all_closed, folds, goal_side_closes, closes}
 use Rattle.tree_model.specs.PendingLists.{way_of, balance_on, list_among, list_left, list_right, pending_list, front_of, back_of}
 use Rattle.tree_model.specs.SoundTrees.{IsOpen}
-use Rattle.tree_model.specs.CaughtTrees.{is_side, HasNoQuery, HaveNoQuery, HasNoQueryNode, AreNoQueryNodes, IsDoneBefore, IsLastQuery, AreLast}
+use Rattle.tree_model.specs.CaughtTrees.{is_side, HasNoQuery, HaveNoQuery, HasNoQueryNode, AreNoQueryNodes, IsDoneBefore, IsLastQuery}
+use Rattle.tree_model.specs.CaughtTrees.{AreLast}
 use Rattle.tree_model.specs.Elements.{Record, Element, Credit, Plain, EndOf, Catch, Findall, End}
 use Rattle.interleaving.specs.Machine.{gives, free_steps}
 use Rattle.interleaving.specs.Scopes.{scoped}

@@ -12,7 +12,8 @@ use Rattle.interleaving.proofs.CollapseLemmas.{AreSeen, as_scopes}
 use Rattle.interleaving.proofs.StackLemmas.{IsCounted, stack_way, length-stack, counted_stack, IsOver, AreOver}
 use Rattle.interleaving.proofs.PlacedSoundLemmas.{IsSeen}
 use Rattle.interleaving.proofs.PlacedNameLemmas.{ItemsMeasured, EntryMeasured, AreMeasured}
-use Rattle.interleaving.proofs.RunMeasuredLemmas.{GuardAt, counted_on, catch_guards, findall_guards, HasStep, has_through, has_from, has_above, step_guard}
+use Rattle.interleaving.proofs.RunMeasuredLemmas.{GuardAt, counted_on, catch_guards, findall_guards, HasStep, has_through, has_from}
+use Rattle.interleaving.proofs.RunMeasuredLemmas.{has_above, step_guard}
 
 -- what is known of a way
 record IsRanged (Whole : ℕ → Type 0) (q : ℕ) (way : Way) : Type 0 where

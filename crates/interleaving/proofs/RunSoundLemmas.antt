@@ -1,5 +1,6 @@
 -- The private run of an alternative, over the way of its floor by heights.
-use Rattle.std.proofs.Common.{◌≡◌, ℕ, zero, suc, ◌-◌, ◌≤◌, ◌==◌, Bool, true, false, cond, List, [], ◌∷◌, ◌++◌, map, length, Option, Some, None, refl, sym, ap, ◌∙◌, subst, arith}
+use Rattle.std.proofs.Common.{◌≡◌, ℕ, zero, suc, ◌-◌, ◌≤◌, ◌==◌, Bool, true, false, cond, List, [], ◌∷◌, ◌++◌, map, length, Option, Some}
+use Rattle.std.proofs.Common.{None, refl, sym, ap, ◌∙◌, subst, arith}
 use Rattle.std.specs.Prelude.{nat_lt}
 use Rattle.run_model.specs.Programs.Clauses.{Clause}
 use Rattle.run_model.specs.Machine.Items.{Item, GoalItem, CatchMark, CollectMark, RemovalItem, Continuation, without_marks}
@@ -7,7 +8,8 @@ use Rattle.run_model.specs.Machine.Entries.{Entry, PlainEntry, CatchEntry, Finda
 use Rattle.tree_model.specs.Nodes.{CatchNode, FindallNode}
 use Rattle.tree_model.specs.Levels.{Level}
 use Rattle.tree_model.specs.Floors.{renamed_item, height_of, with_heights, floor_of}
-use Rattle.tree_model.specs.PrivateRuns.{own_settles, own_free_steps, settled_own, own_part, own_after, if_no_gate, if_any, one_more, taken_alone, private_run}
+use Rattle.tree_model.specs.PrivateRuns.{own_settles, own_free_steps, settled_own, own_part, own_after, if_no_gate, if_any, one_more}
+use Rattle.tree_model.specs.PrivateRuns.{taken_alone, private_run}
 use Rattle.tree_model.specs.Gates.{gate_on}
 use Rattle.tree_model.specs.PendingLists.{Step, Way, way_of, step_of}
 use Rattle.tree_model.specs.Ways.{is_on, way_from, way_above, AreScoped, is_query, under_query, IsOnWay, IsAwake}

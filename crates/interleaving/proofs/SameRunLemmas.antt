@@ -1,9 +1,11 @@
 -- The tree's private run is the run of own entries over a floor.
-use Rattle.std.proofs.Common.{◌≡◌, ◌≤◌, ◌==◌, arith, ◌⊎◌, inl, inr, ℕ, zero, suc, ◌-◌, Bool, true, false, cond, List, [], ◌∷◌, ◌++◌, length, Option, Some, None, refl, sym, ap, ◌∙◌}
+use Rattle.std.proofs.Common.{◌≡◌, ◌≤◌, ◌==◌, arith, ◌⊎◌, inl, inr, ℕ, zero, suc, ◌-◌, Bool, true, false, cond, List, [], ◌∷◌, ◌++◌}
+use Rattle.std.proofs.Common.{length, Option, Some, None, refl, sym, ap, ◌∙◌}
 use Rattle.std.specs.Prelude.{nat_lt, nat_le}
 use Rattle.au_term.specs.Term.{Term}
 use Rattle.run_model.specs.Programs.Clauses.{Clause}
-use Rattle.run_model.specs.Goals.Outcomes.{Solutions, Ball, HaltNumber, ControlForm, GoesOnWith, EitherOf, TestOf, CutToScope, CatchOf, FindallOf, Outcome, Replies, Controls, AskWorld}
+use Rattle.run_model.specs.Goals.Outcomes.{Solutions, Ball, HaltNumber, ControlForm, GoesOnWith, EitherOf, TestOf, CutToScope, CatchOf}
+use Rattle.run_model.specs.Goals.Outcomes.{FindallOf, Outcome, Replies, Controls, AskWorld}
 use Rattle.run_model.specs.Goals.GoalOutcomes.{outcome_of}
 use Rattle.run_model.specs.Machine.Heights.{after_control}
 use Rattle.run_model.specs.Machine.Items.{Item, GoalItem, CatchMark, CollectMark, RemovalItem, Continuation, with_items, without_marks, first_mark}
@@ -13,8 +15,10 @@ use Rattle.tree_model.specs.Nodes.{CutGate, BallGate}
 use Rattle.tree_model.specs.Levels.{Level}
 use Rattle.tree_model.specs.Floors.{node_of, floor_of}
 use Rattle.tree_model.specs.Gates.{landing_scope, ball_gate, control_gate, goal_gate, item_gate, gate_on}
-use Rattle.tree_model.specs.PrivateRuns.{own_settles, own_free_steps, own_part, goal_alone, item_alone, taken_alone, if_no_gate, own_after, one_more, if_any, private_run}
-use Rattle.interleaving.specs.OwnRuns.{own_settles as their_settles, own_settle, landed, own_control, own_goal, own_item, own_left, own_more, own_run}
+use Rattle.tree_model.specs.PrivateRuns.{own_settles, own_free_steps, own_part, goal_alone, item_alone, taken_alone, if_no_gate}
+use Rattle.tree_model.specs.PrivateRuns.{own_after, one_more, if_any, private_run}
+use Rattle.interleaving.specs.OwnRuns.{own_settles as their_settles, own_settle, landed, own_control, own_goal, own_item, own_left}
+use Rattle.interleaving.specs.OwnRuns.{own_more, own_run}
 
 -- the free steps
 settles_same : (items : List (Item ℕ)) (f : Continuation ℕ) (es floor : List Entry) (go other : List Entry → List Entry)

@@ -1,5 +1,6 @@
 -- What is in front of a segment keeps sound names where the segment changes.
-use Rattle.std.proofs.Common.{◌≡◌, ◌⊎◌, inl, inr, suc, ◌+◌, ◌≤◌, ◌<◌, Bool, true, false, cond, List, [], ◌∷◌, ◌++◌, length, length-append, refl, sym, ap, ◌∙◌, arith}
+use Rattle.std.proofs.Common.{◌≡◌, ◌⊎◌, inl, inr, suc, ◌+◌, ◌≤◌, ◌<◌, Bool, true, false, cond, List, [], ◌∷◌, ◌++◌, length, length-append}
+use Rattle.std.proofs.Common.{refl, sym, ap, ◌∙◌, arith}
 use Rattle.std.proofs.lemmas.List.{append_cancel_right}
 use Rattle.std.proofs.lemmas.Bool.{false≢true}
 use Rattle.au_term.specs.Term.{Term}
@@ -8,7 +9,8 @@ use Rattle.run_model.specs.Machine.Items.{Item, GoalItem, CatchMark, CollectMark
 use Rattle.tree_model.specs.Elements.{Name, same, Record, Element, Credit, Plain, EndOf, Catch, Findall, End}
 use Rattle.interleaving.specs.Erased.{from, count, height}
 use Rattle.interleaving.specs.Views.{IsApart, IsBeside, IsItemApart, IsRecordApart, IsBlind}
-use Rattle.interleaving.specs.Sound.{names, IsOlder, IsPresent, IsChain, IsGuarded, IsGathered, IsMarkSound, EachFindall, IsEntrySound, IsRightUnder, IsSound}
+use Rattle.interleaving.specs.Sound.{names, IsOlder, IsPresent, IsChain, IsGuarded, IsGathered, IsMarkSound, EachFindall, IsEntrySound}
+use Rattle.interleaving.specs.Sound.{IsRightUnder, IsSound}
 use Rattle.interleaving.proofs.NamingLemmas.{height-le}
 use Rattle.interleaving.proofs.ApartLemmas.{same-true}
 

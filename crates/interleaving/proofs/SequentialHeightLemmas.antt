@@ -1,11 +1,13 @@
 -- The sequential run is the run with heights in which no credit is.
-use Rattle.std.proofs.Common.{◌≡◌, ℕ, zero, suc, ◌-◌, ◌+◌, Bool, true, false, cond, List, [], ◌∷◌, ◌++◌, length, drop, ◌==◌, Option, Some, None, refl, sym, ap, ◌∙◌, subst, arith}
+use Rattle.std.proofs.Common.{◌≡◌, ℕ, zero, suc, ◌-◌, ◌+◌, Bool, true, false, cond, List, [], ◌∷◌, ◌++◌, length, drop, ◌==◌, Option, Some}
+use Rattle.std.proofs.Common.{None, refl, sym, ap, ◌∙◌, subst, arith}
 use Rattle.au_term.specs.Term.{Term}
 use Rattle.au_model.specs.Terms.Substitutions.{Substitution}
 use Rattle.run_model.specs.Programs.Clauses.{Clause}
 use Rattle.run_model.specs.Programs.Databases.{Database, without_clause}
 use Rattle.run_model.specs.Goals.Worlds.{world_step}
-use Rattle.run_model.specs.Goals.Outcomes.{Reply, Solutions, Ball, HaltNumber, ControlForm, GoesOnWith, EitherOf, TestOf, CutToScope, CatchOf, FindallOf, Outcome, Replies, Controls, AskWorld}
+use Rattle.run_model.specs.Goals.Outcomes.{Reply, Solutions, Ball, HaltNumber, ControlForm, GoesOnWith, EitherOf, TestOf, CutToScope, CatchOf}
+use Rattle.run_model.specs.Goals.Outcomes.{FindallOf, Outcome, Replies, Controls, AskWorld}
 use Rattle.run_model.specs.Goals.GoalOutcomes.{outcome_of}
 use Rattle.run_model.specs.Machine.Items.{Item, GoalItem, CatchMark, CollectMark, RemovalItem, Continuation, with_items, without_marks, first_mark}
 use Rattle.run_model.specs.Machine.Entries.{Entry, PlainEntry, CatchEntry, FindallEntry, EndEntry, solution_entries, with_result, collected}
@@ -19,7 +21,9 @@ use Rattle.run_model.proofs.StepLemmas.{step_is, no_step, seq-zero, seq-suc}
 use Rattle.run_model.proofs.RunLemmas.{run_settled, is_stopped}
 use Rattle.interleaving.specs.Machine.{is_over}
 use Rattle.interleaving.specs.Scopes.{shared}
-use Rattle.interleaving.specs.HeightMachine.{HeightEntry, HeldState, held_entries, held_recovered, held_landing, held_reply, held_control, held_goal, held_removed, held_item, held_taken, held_collected, held_plain_free_step, held_free_steps_within, held_settle, held_step, held_run}
+use Rattle.interleaving.specs.HeightMachine.{HeightEntry, HeldState, held_entries, held_recovered, held_landing, held_reply, held_control}
+use Rattle.interleaving.specs.HeightMachine.{held_goal, held_removed, held_item, held_taken, held_collected, held_plain_free_step}
+use Rattle.interleaving.specs.HeightMachine.{held_free_steps_within, held_settle, held_step, held_run}
 use Rattle.interleaving.specs.Counted.{counted}
 use Rattle.interleaving.specs.SequentialHeights.{held_opening, held_after, IsHeldRun}
 

@@ -1,7 +1,8 @@
 -- The shapes of nodes, where an alternative closes or what sleeps wakes.
 use Rattle.std.proofs.Common.{◌≡◌, ℕ, Bool, true, false, List, [], ◌∷◌, Option, None, refl, sym, ◌∙◌}
 use Rattle.run_model.specs.Machine.Entries.{Entry}
-use Rattle.tree_model.specs.Nodes.{Kind, ChoiceNode, CatchNode, FindallNode, QueryNode, Ready, TakenBy, Waiting, Dormant, Alternatives, none, alternative, Status, Pending, Inner, Closed}
+use Rattle.tree_model.specs.Nodes.{Kind, ChoiceNode, CatchNode, FindallNode, QueryNode, Ready, TakenBy, Waiting, Dormant, Alternatives}
+use Rattle.tree_model.specs.Nodes.{none, alternative, Status, Pending, Inner, Closed}
 use Rattle.tree_model.specs.Closing.{dormant_right}
 use Rattle.tree_model.specs.Ways.{is_query}
 use Rattle.tree_model.specs.SoundTrees.{Profile, IsOpen, Sleeps, IsShut, profile, profiles, none_sleeps, is_pair, are_pair, is_shape}

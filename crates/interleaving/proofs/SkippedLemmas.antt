@@ -1,9 +1,11 @@
 -- Scopes of a branch in the list to the right of an alternative.
-use Rattle.std.proofs.Common.{◌≡◌, ◌⊎◌, inl, inr, ℕ, zero, suc, ◌≤◌, ◌==◌, Bool, true, false, List, [], ◌∷◌, ◌++◌, length, None, refl, sym, ap, ◌∙◌, arith}
+use Rattle.std.proofs.Common.{◌≡◌, ◌⊎◌, inl, inr, ℕ, zero, suc, ◌≤◌, ◌==◌, Bool, true, false, List, [], ◌∷◌, ◌++◌, length, None, refl}
+use Rattle.std.proofs.Common.{sym, ap, ◌∙◌, arith}
 use Rattle.run_model.specs.Machine.Entries.{Entry}
 use Rattle.tree_model.specs.Elements.{Name, same, Element, EndOf, End}
 use Rattle.interleaving.specs.Erased.{from}
-use Rattle.tree_model.specs.Nodes.{Kind, ChoiceNode, CatchNode, FindallNode, QueryNode, Ready, TakenBy, Waiting, Dormant, Node, Numbered, Alternatives, none, alternative, Status, Pending, Inner, Closed}
+use Rattle.tree_model.specs.Nodes.{Kind, ChoiceNode, CatchNode, FindallNode, QueryNode, Ready, TakenBy, Waiting, Dormant, Node, Numbered}
+use Rattle.tree_model.specs.Nodes.{Alternatives, none, alternative, Status, Pending, Inner, Closed}
 use Rattle.tree_model.specs.Levels.{Level}
 use Rattle.tree_model.specs.PendingLists.{Step, Way, way_of, list_in, list_among, list_below, back_of}
 use Rattle.tree_model.specs.Ways.{is_on}

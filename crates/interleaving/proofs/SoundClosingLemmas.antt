@@ -1,5 +1,6 @@
 -- Each event keeps a tree sound, where balls and published nodes do.
-use Rattle.std.proofs.Common.{◌≡◌, ℕ, suc, ◌+◌, ◌≤◌, ◌==◌, Bool, true, false, List, [], ◌∷◌, map, Option, Some, None, refl, sym, ap, ◌∙◌, subst, arith}
+use Rattle.std.proofs.Common.{◌≡◌, ℕ, suc, ◌+◌, ◌≤◌, ◌==◌, Bool, true, false, List, [], ◌∷◌, map, Option, Some, None, refl, sym, ap, ◌∙◌}
+use Rattle.std.proofs.Common.{subst, arith}
 use Rattle.au_term.specs.Term.{Term}
 use Rattle.au_model.specs.Terms.Each.{Each}
 use Rattle.run_model.specs.Machine.Items.{goals_at}
@@ -13,14 +14,16 @@ use Rattle.tree_model.specs.Pruning.{pruned}
 use Rattle.tree_model.specs.FrontGates.{Halts}
 use Rattle.tree_model.specs.TreeStates.{TreeState, opened_node}
 use Rattle.tree_model.specs.Legality.{taken_at, gate_of}
-use Rattle.tree_model.specs.Effects.{with_status, spending, closed_with, left_at, cut_at, query_opens, front_taken, gate_or_frozen, where_some}
+use Rattle.tree_model.specs.Effects.{with_status, spending, closed_with, left_at, cut_at, query_opens, front_taken, gate_or_frozen}
+use Rattle.tree_model.specs.Effects.{where_some}
 use Rattle.tree_model.specs.PendingLists.{Way, way_of}
 use Rattle.tree_model.specs.Ways.{is_on, in_reach, way_from, AreScoped}
 use Rattle.tree_model.specs.SoundTrees.{one_if, IsOpen, Sleeps, profile, is_live, IsSound, IsSoundTree}
 use Rattle.interleaving.proofs.ContextLemmas.{IsAround, count_around}
 use Rattle.interleaving.proofs.WayLemmas.{cond-true, off_way, same_self}
 use Rattle.interleaving.proofs.ClosingSoundLemmas.{IsSoundGrown, IsFree, one_if-same, closes_sound}
-use Rattle.interleaving.proofs.GrowingLemmas.{plug_sound, IsReadyOn, new_node_sound, spending_around, spending_free, pruned_way, pruned_around, pruned_free}
+use Rattle.interleaving.proofs.GrowingLemmas.{plug_sound, IsReadyOn, new_node_sound, spending_around, spending_free, pruned_way}
+use Rattle.interleaving.proofs.GrowingLemmas.{pruned_around, pruned_free}
 use Rattle.interleaving.proofs.EntryLemmas.{IsOverFloor, each-map}
 use Rattle.interleaving.proofs.OpenSpotLemmas.{IsOpenSpot, IsPlaced, placed_at, count_at, held_sound, taken_at_open, some_sound}
 

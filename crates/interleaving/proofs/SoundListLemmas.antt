@@ -1,9 +1,11 @@
 -- The list of a tree that keeps its invariants has sound names: entry by entry.
-use Rattle.std.proofs.Common.{◌≡◌, ℕ, suc, ◌==◌, ◌⊎◌, inl, Bool, true, false, cond, List, [], ◌∷◌, ◌++◌, length, refl, sym, ap, ◌∙◌, subst, arith}
+use Rattle.std.proofs.Common.{◌≡◌, ℕ, suc, ◌==◌, ◌⊎◌, inl, Bool, true, false, cond, List, [], ◌∷◌, ◌++◌, length, refl, sym, ap, ◌∙◌}
+use Rattle.std.proofs.Common.{subst, arith}
 use Rattle.au_model.specs.Terms.Each.{Each}
 use Rattle.run_model.specs.Machine.Items.{Item, Continuation}
 use Rattle.run_model.specs.Machine.Entries.{Entry, PlainEntry, CatchEntry, FindallEntry, EndEntry}
-use Rattle.tree_model.specs.Nodes.{Kind, ChoiceNode, CatchNode, FindallNode, QueryNode, Hold, Ready, TakenBy, Waiting, Dormant, Alternatives, none, alternative, Status, Pending}
+use Rattle.tree_model.specs.Nodes.{Kind, ChoiceNode, CatchNode, FindallNode, QueryNode, Hold, Ready, TakenBy, Waiting, Dormant}
+use Rattle.tree_model.specs.Nodes.{Alternatives, none, alternative, Status, Pending}
 use Rattle.tree_model.specs.Levels.{Level}
 use Rattle.tree_model.specs.Elements.{Name, EndOf}
 use Rattle.tree_model.specs.PendingLists.{way_of, element_on, list_among, back_of}
@@ -17,7 +19,8 @@ use Rattle.interleaving.proofs.WayLemmas.{cond-false, same_self}
 use Rattle.interleaving.proofs.NamingLemmas.{from_own}
 use Rattle.interleaving.proofs.GrowingLemmas.{none_sleeps-of, no_three}
 use Rattle.interleaving.proofs.ListEndLemmas.{from_back}
-use Rattle.interleaving.proofs.ListScopeLemmas.{IsDistinct, sleeps_on, distinct-up, apart_above, Reads, reads_itself, named, IsOf, chained}
+use Rattle.interleaving.proofs.ListScopeLemmas.{IsDistinct, sleeps_on, distinct-up, apart_above, Reads, reads_itself, named, IsOf}
+use Rattle.interleaving.proofs.ListScopeLemmas.{chained}
 use Rattle.interleaving.proofs.ListMarkLemmas.{at_level, marks_sound}
 use Rattle.interleaving.proofs.ListSoundLemmas.{scoped_by, older_scope, short_back, other_back}
 

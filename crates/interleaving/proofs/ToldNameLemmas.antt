@@ -1,5 +1,6 @@
 -- Scopes of one height on the floor by names have one height in the list to the right.
-use Rattle.std.proofs.Common.{◌≡◌, ◌⊎◌, inl, inr, ℕ, suc, ◌==◌, true, false, List, [], ◌∷◌, ◌++◌, length, refl, sym, ap, ◌∙◌, subst, arith}
+use Rattle.std.proofs.Common.{◌≡◌, ◌⊎◌, inl, inr, ℕ, suc, ◌==◌, true, false, List, [], ◌∷◌, ◌++◌, length, refl, sym, ap, ◌∙◌, subst}
+use Rattle.std.proofs.Common.{arith}
 use Rattle.tree_model.specs.Elements.{Name, Element, EndOf}
 use Rattle.interleaving.specs.Erased.{from, count, height}
 use Rattle.interleaving.specs.Sound.{IsPresent}

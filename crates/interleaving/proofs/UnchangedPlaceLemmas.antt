@@ -1,5 +1,6 @@
 -- Promises that rest on sound trees alone.
-use Rattle.std.proofs.Common.{◌≡◌, ◌≢◌, ◌⊎◌, inl, inr, ℕ, ◌==◌, Bool, true, false, List, [], ◌∷◌, ◌++◌, Option, Some, None, refl, sym, ap, ◌∙◌, subst, arith}
+use Rattle.std.proofs.Common.{◌≡◌, ◌≢◌, ◌⊎◌, inl, inr, ℕ, ◌==◌, Bool, true, false, List, [], ◌∷◌, ◌++◌, Option, Some, None, refl, sym, ap}
+use Rattle.std.proofs.Common.{◌∙◌, subst, arith}
 use Rattle.std.specs.Prelude.{◌&&◌, ◌||◌, not, nat_lt, find, is_none}
 use Rattle.run_model.specs.Machine.Entries.{Entry}
 use Rattle.au_model.specs.Terms.Each.{Each}
@@ -10,7 +11,8 @@ use Rattle.tree_model.specs.Orders.{first_open, is_cleared}
 use Rattle.tree_model.specs.Pruning.{Task, tasks_below}
 use Rattle.tree_model.specs.Events.{Event, Claim, Nodes, Empty, Collected, Lost, Suspend, Resume, Prune, Answer, Stop}
 use Rattle.tree_model.specs.TreeStates.{TreeState, pending, first_spot, leftmost, live, end_by, ended, opening_tree}
-use Rattle.tree_model.specs.Legality.{is_ready, may_resume, is_spot_at, if_room, claimable, resumable, taken_at, gate_of, run_of, is_world_gate, at_spot, is_allowed, is_legal}
+use Rattle.tree_model.specs.Legality.{is_ready, may_resume, is_spot_at, if_room, claimable, resumable, taken_at, gate_of, run_of}
+use Rattle.tree_model.specs.Legality.{is_world_gate, at_spot, is_allowed, is_legal}
 use Rattle.tree_model.specs.Effects.{ball_falls, cut_at, gate_pruned, run_placed, where_some, after_allowed, after_event}
 use Rattle.tree_model.specs.Histories.{after_events, are_legal, tree_after}
 use Rattle.tree_model.specs.Promises.{IsFrontAnswer, NoPrunedEffect, tasks_out, NeverStuck}

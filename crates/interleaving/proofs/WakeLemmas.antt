@@ -8,7 +8,8 @@ use Rattle.tree_model.specs.Nodes.{ChoiceNode, Dormant, none, alternative, Statu
 use Rattle.tree_model.specs.Levels.{Level, plug}
 use Rattle.tree_model.specs.Closing.{with_right, wakes}
 use Rattle.tree_model.specs.Elements.{Element, Credit, EndOf, End}
-use Rattle.tree_model.specs.PendingLists.{way_of, balance_on, element_on, list_among, list_below, list_right, pending_list, front_of, back_of}
+use Rattle.tree_model.specs.PendingLists.{way_of, balance_on, element_on, list_among, list_below, list_right, pending_list, front_of}
+use Rattle.tree_model.specs.PendingLists.{back_of}
 use Rattle.tree_model.specs.SoundTrees.{one_if, IsOpen}
 use Rattle.interleaving.specs.Views.{IsBlind}
 use Rattle.interleaving.specs.Sound.{IsSound}

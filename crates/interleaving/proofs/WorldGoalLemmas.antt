@@ -1,5 +1,6 @@
 -- A goal of the world with solutions, and a removal, at the front.
-use Rattle.std.proofs.Common.{◌≡◌, ℕ, suc, ◌+◌, ◌-◌, true, false, List, [], ◌∷◌, ◌++◌, map, length, Option, Some, None, refl, sym, ap, ◌∙◌, subst}
+use Rattle.std.proofs.Common.{◌≡◌, ℕ, suc, ◌+◌, ◌-◌, true, false, List, [], ◌∷◌, ◌++◌, map, length, Option, Some, None, refl, sym, ap}
+use Rattle.std.proofs.Common.{◌∙◌, subst}
 use Rattle.au_term.specs.Term.{Term}
 use Rattle.au_model.specs.Terms.Substitutions.{Substitution}
 use Rattle.au_model.specs.Terms.Unifier.{unifier}
@@ -9,7 +10,7 @@ use Rattle.run_model.specs.Goals.Worlds.{World, world_step}
 use Rattle.run_model.specs.Goals.Outcomes.{Solution, Solutions, AskWorld}
 use Rattle.run_model.specs.Goals.GoalOutcomes.{outcome_of}
 use Rattle.run_model.specs.Machine.Items.{Item, GoalItem, RemovalItem, Continuation, with_items, without_marks, goals_at, before, with_next}
-use Rattle.run_model.specs.Machine.Entries.{Entry, PlainEntry, unified as unified_entries, solution_entries       as solved_entries}
+use Rattle.run_model.specs.Machine.Entries.{Entry, PlainEntry, unified as unified_entries, solution_entries as solved_entries}
 use Rattle.tree_model.specs.Nodes.{ChoiceNode}
 use Rattle.tree_model.specs.Levels.{Place, Spot, levels_of}
 use Rattle.tree_model.specs.Floors.{height_of, floor_of, with_heights, renamed_item, renamed_continuation, node_of, with_nodes}

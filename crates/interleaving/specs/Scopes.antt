@@ -10,9 +10,11 @@ use Rattle.run_model.specs.Programs.Clauses.{Clause}
 use Rattle.run_model.specs.Programs.Databases.{Database, without_clause}
 use Rattle.au_model.specs.Writing.Lines.{answer_line, end_line}
 use Rattle.run_model.specs.Goals.Worlds.{World, world_step}
-use Rattle.run_model.specs.Goals.Outcomes.{Solution, Reply, Solutions, Ball, HaltNumber, ControlForm, GoesOnWith, EitherOf, TestOf, CutToScope, CatchOf, FindallOf, Outcome, Replies, Controls, AskWorld}
+use Rattle.run_model.specs.Goals.Outcomes.{Solution, Reply, Solutions, Ball, HaltNumber, ControlForm, GoesOnWith, EitherOf, TestOf, CutToScope}
+use Rattle.run_model.specs.Goals.Outcomes.{CatchOf, FindallOf, Outcome, Replies, Controls, AskWorld}
 use Rattle.run_model.specs.Goals.GoalOutcomes.{outcome_of}
-use Rattle.run_model.specs.Machine.Items.{Item, GoalItem, CatchMark, CollectMark, RemovalItem, Continuation, resolve_continuation, goals_at, with_items, with_next, before, without_marks, first_mark}
+use Rattle.run_model.specs.Machine.Items.{Item, GoalItem, CatchMark, CollectMark, RemovalItem, Continuation, resolve_continuation, goals_at}
+use Rattle.run_model.specs.Machine.Items.{with_items, with_next, before, without_marks, first_mark}
 use Rattle.run_model.specs.Programs.Jobs.{Query, Job, own_terms, query_bound}
 use Rattle.run_model.specs.Goals.Worlds.{first_world}
 use Rattle.run_model.specs.Machine.States.{State, writes, halt_number, remaining_queries}

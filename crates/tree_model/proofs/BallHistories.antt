@@ -1,9 +1,9 @@
--- Worked histories: balls and results.
+-- Worked histories: balls.
 use Rattle.std.specs.Prelude.{◌≡◌, true, false, List, [], ◌∷◌, Some, codes, pos, refl}
 use Rattle.au_term.specs.Term.{VarTerm, IntTerm, AtomTerm, Compound, end, more}
 use Rattle.run_model.specs.declared.ending.RunEnding.TheVariants.{Finished}
 use Rattle.run_model.specs.Programs.Jobs.{Job}
-use Rattle.tree_model.specs.Events.{Event, Claim, Nodes, Empty, Collected, Lost, Suspend, Resume, Prune, Answer}
+use Rattle.tree_model.specs.Events.{Event, Claim, Nodes, Empty, Lost, Suspend, Resume, Prune, Answer}
 use Rattle.tree_model.proofs.WorkedJobs.{clause, named, query, job, lines, at_place, replayed}
 
 -- The goal side of the catch closes by a ball that is caught there: its recovery wakes. If it closed like one that
@@ -11,15 +11,15 @@ use Rattle.tree_model.proofs.WorkedJobs.{clause, named, query, job, lines, at_pl
 -- p(1). p(2). ?- catch((p(X), throw(e)), e, true).
 abbrev recovery_wakes_job : Job
 recovery_wakes_job =
-  job
+    job
     (
-      clause (Compound (codes "p") (more (IntTerm (pos 1)) end)) (AtomTerm (codes "true")) ∷
-      clause (Compound (codes "p") (more (IntTerm (pos 2)) end)) (AtomTerm (codes "true")) ∷ [])
+    clause (Compound (codes "p") (more (IntTerm (pos 1)) end)) (AtomTerm (codes "true")) ∷
+    clause (Compound (codes "p") (more (IntTerm (pos 2)) end)) (AtomTerm (codes "true")) ∷ [])
     (
-      query (Compound (codes "catch") (more
-      (Compound (codes ",") (more (Compound (codes "p") (more (VarTerm 0) end))
-      (more (Compound (codes "throw") (more (AtomTerm (codes "e")) end)) end)))
-      (more (AtomTerm (codes "e")) (more (AtomTerm (codes "true")) end)))) (named (codes "X") 0 ∷ []) ∷ [])
+    query (Compound (codes "catch") (more
+    (Compound (codes ",") (more (Compound (codes "p") (more (VarTerm 0) end))
+    (more (Compound (codes "throw") (more (AtomTerm (codes "e")) end)) end)))
+    (more (AtomTerm (codes "e")) (more (AtomTerm (codes "true")) end)))) (named (codes "X") 0 ∷ []) ∷ [])
 
 abbrev recovery_wakes_events : List Event
 recovery_wakes_events =
@@ -29,8 +29,14 @@ recovery_wakes_events =
     Suspend 0 (at_place 5 0) false ∷ Resume 0 (at_place 5 0) ∷ Lost 0 (at_place 2 1) ∷ Suspend 0 (at_place 5 0) false ∷
     Resume 0 (at_place 5 0) ∷ Answer 0 (at_place 5 0) false ∷ Claim 0 (at_place 6 0) ∷ Answer 0 (at_place 6 0) false ∷ []
 
-recovery_wakes : replayed recovery_wakes_job 50 10000 recovery_wakes_events ≡ record { legal = true; text = lines
-      (codes "X = _0" ∷ codes "no" ∷ []); end = Some Finished; answers = 1; inferences = 8 }
+recovery_wakes : replayed recovery_wakes_job 50 10000 recovery_wakes_events ≡ record {
+  legal = true;
+  text = lines
+      (codes "X = _0" ∷ codes "no" ∷ []);
+  end = Some Finished;
+  answers = 1;
+  inferences = 8;
+}
 unfolding replayed
 recovery_wakes = refl
 
@@ -38,16 +44,16 @@ recovery_wakes = refl
 -- p(1). p(2). ?- catch(catch((p(X), throw(a)), b, fail), a, true).
 abbrev ball_goes_on_job : Job
 ball_goes_on_job =
-  job
+    job
     (
-      clause (Compound (codes "p") (more (IntTerm (pos 1)) end)) (AtomTerm (codes "true")) ∷
-      clause (Compound (codes "p") (more (IntTerm (pos 2)) end)) (AtomTerm (codes "true")) ∷ [])
+    clause (Compound (codes "p") (more (IntTerm (pos 1)) end)) (AtomTerm (codes "true")) ∷
+    clause (Compound (codes "p") (more (IntTerm (pos 2)) end)) (AtomTerm (codes "true")) ∷ [])
     (
-      query (Compound (codes "catch") (more
-      (Compound (codes "catch") (more (Compound (codes ",")
-      (more (Compound (codes "p") (more (VarTerm 0) end)) (more (Compound (codes "throw") (more (AtomTerm (codes "a")) end)) end)))
-      (more (AtomTerm (codes "b")) (more (AtomTerm (codes "fail")) end))))
-      (more (AtomTerm (codes "a")) (more (AtomTerm (codes "true")) end)))) (named (codes "X") 0 ∷ []) ∷ [])
+    query (Compound (codes "catch") (more
+    (Compound (codes "catch") (more (Compound (codes ",")
+    (more (Compound (codes "p") (more (VarTerm 0) end)) (more (Compound (codes "throw") (more (AtomTerm (codes "a")) end)) end)))
+    (more (AtomTerm (codes "b")) (more (AtomTerm (codes "fail")) end))))
+    (more (AtomTerm (codes "a")) (more (AtomTerm (codes "true")) end)))) (named (codes "X") 0 ∷ []) ∷ [])
 
 abbrev ball_goes_on_events : List Event
 ball_goes_on_events =
@@ -62,8 +68,14 @@ ball_goes_on_events =
     Resume 0 (at_place 9 0) ∷ Suspend 0 (at_place 9 0) false ∷ Resume 3 (at_place 9 0) ∷ Suspend 3 (at_place 9 0) false ∷
     Resume 2 (at_place 9 0) ∷ Answer 2 (at_place 9 0) false ∷ []
 
-ball_goes_on : replayed ball_goes_on_job 12 1 ball_goes_on_events ≡ record { legal = true; text = lines
-      (codes "X = _0" ∷ codes "no" ∷ []); end = Some Finished; answers = 1; inferences = 10 }
+ball_goes_on : replayed ball_goes_on_job 12 1 ball_goes_on_events ≡ record {
+  legal = true;
+  text = lines
+      (codes "X = _0" ∷ codes "no" ∷ []);
+  end = Some Finished;
+  answers = 1;
+  inferences = 10;
+}
 unfolding replayed
 ball_goes_on = refl
 
@@ -71,16 +83,16 @@ ball_goes_on = refl
 -- p(1). p(2). ?- catch(p(X), Y, true), X = 2, throw(late).
 abbrev catch_is_left_job : Job
 catch_is_left_job =
-  job
+    job
     (
-      clause (Compound (codes "p") (more (IntTerm (pos 1)) end)) (AtomTerm (codes "true")) ∷
-      clause (Compound (codes "p") (more (IntTerm (pos 2)) end)) (AtomTerm (codes "true")) ∷ [])
+    clause (Compound (codes "p") (more (IntTerm (pos 1)) end)) (AtomTerm (codes "true")) ∷
+    clause (Compound (codes "p") (more (IntTerm (pos 2)) end)) (AtomTerm (codes "true")) ∷ [])
     (
-      query (Compound (codes ",") (more (Compound (codes "catch")
-      (more (Compound (codes "p") (more (VarTerm 0) end)) (more (VarTerm 1) (more (AtomTerm (codes "true")) end))))
-      (more (Compound (codes ",") (more (Compound (codes "=") (more (VarTerm 0) (more (IntTerm (pos 2)) end)))
-      (more (Compound (codes "throw") (more (AtomTerm (codes "late")) end)) end))) end)))
-      (named (codes "X") 0 ∷ named (codes "Y") 1 ∷ []) ∷ [])
+    query (Compound (codes ",") (more (Compound (codes "catch")
+    (more (Compound (codes "p") (more (VarTerm 0) end)) (more (VarTerm 1) (more (AtomTerm (codes "true")) end))))
+    (more (Compound (codes ",") (more (Compound (codes "=") (more (VarTerm 0) (more (IntTerm (pos 2)) end)))
+    (more (Compound (codes "throw") (more (AtomTerm (codes "late")) end)) end))) end)))
+    (named (codes "X") 0 ∷ named (codes "Y") 1 ∷ []) ∷ [])
 
 abbrev catch_is_left_events : List Event
 catch_is_left_events =
@@ -89,119 +101,31 @@ catch_is_left_events =
     Claim 0 (at_place 3 1) ∷ Nodes 0 (at_place 3 1) 1 (1 ∷ []) ∷ Claim 0 (at_place 4 0) ∷ Suspend 0 (at_place 4 0) false ∷
     Resume 0 (at_place 4 0) ∷ Prune 0 (at_place 4 0) ∷ Claim 0 (at_place 5 0) ∷ Answer 0 (at_place 5 0) false ∷ []
 
-catch_is_left : replayed catch_is_left_job 60 10000 catch_is_left_events ≡ record { legal = true; text = lines
-      (codes "error: late" ∷ []); end = Some Finished; answers = 0; inferences = 7 }
+catch_is_left : replayed catch_is_left_job 60 10000 catch_is_left_events ≡ record {
+  legal = true;
+  text = lines
+      (codes "error: late" ∷ []);
+  end = Some Finished;
+  answers = 0;
+  inferences = 7;
+}
 unfolding replayed
 catch_is_left = refl
-
--- Results are gathered from left to right, whatever the order in which they came.
--- p(1). p(2). ?- findall(X, p(X), L).
-abbrev findall_gathers_job : Job
-findall_gathers_job =
-  job
-    (
-      clause (Compound (codes "p") (more (IntTerm (pos 1)) end)) (AtomTerm (codes "true")) ∷
-      clause (Compound (codes "p") (more (IntTerm (pos 2)) end)) (AtomTerm (codes "true")) ∷ [])
-    (
-      query (Compound (codes "findall") (more (VarTerm 0)
-      (more (Compound (codes "p") (more (VarTerm 0) end)) (more (VarTerm 1) end)))) (named (codes "X") 0 ∷ named (codes "L") 1 ∷ []) ∷ [])
-
-abbrev findall_gathers_events : List Event
-findall_gathers_events =
-    Claim 0 (at_place 0 0) ∷ Nodes 0 (at_place 0 0) 2 (2 ∷ []) ∷ Claim 1 (at_place 1 0) ∷ Nodes 1 (at_place 1 0) 1 (2 ∷ []) ∷
-    Claim 1 (at_place 2 0) ∷ Claim 0 (at_place 2 1) ∷ Collected 0 (at_place 2 1) 0 ∷ Collected 1 (at_place 2 0) 0 ∷
-    Claim 1 (at_place 3 0) ∷ Nodes 1 (at_place 3 0) 1 (1 ∷ []) ∷ Claim 1 (at_place 4 0) ∷ Suspend 1 (at_place 4 0) false ∷
-    Resume 1 (at_place 4 0) ∷ Suspend 1 (at_place 4 0) false ∷ Resume 0 (at_place 4 0) ∷ Suspend 0 (at_place 4 0) false ∷
-    Resume 0 (at_place 4 0) ∷ Answer 0 (at_place 4 0) false ∷ Claim 0 (at_place 5 0) ∷ Answer 0 (at_place 5 0) false ∷ []
-
-findall_gathers : replayed findall_gathers_job 50 10000 findall_gathers_events ≡ record { legal = true; text = lines
-      (codes "X = _0, L = [1,2]" ∷ codes "no" ∷ []); end = Some Finished; answers = 1; inferences = 6 }
-unfolding replayed
-findall_gathers = refl
-
--- A ball passes an inner findall: its results go, and those of the outer one remain.
--- ?- findall(Y, catch((Y = 1 ; findall(X, (X = 2 ; throw(e)), _)), _, Y = 3), L).
-abbrev inner_results_go_job : Job
-inner_results_go_job =
-  job
-    []
-    (
-      query (Compound (codes "findall") (more (VarTerm 0)
-      (more (Compound (codes "catch") (more
-      (Compound (codes ";") (more (Compound (codes "=") (more (VarTerm 0) (more (IntTerm (pos 1)) end)))
-      (more (Compound (codes "findall") (more (VarTerm 1)
-      (more (Compound (codes ";") (more (Compound (codes "=") (more (VarTerm 1) (more (IntTerm (pos 2)) end)))
-      (more (Compound (codes "throw") (more (AtomTerm (codes "e")) end)) end))) (more (VarTerm 2) end)))) end)))
-      (more (VarTerm 3) (more (Compound (codes "=") (more (VarTerm 0) (more (IntTerm (pos 3)) end))) end)))) (more (VarTerm 4) end))))
-      (named (codes "Y") 0 ∷ named (codes "X") 1 ∷ named (codes "L") 4 ∷ []) ∷ [])
-
-abbrev inner_results_go_events : List Event
-inner_results_go_events =
-    Claim 1 (at_place 0 0) ∷ Nodes 1 (at_place 0 0) 1 (2 ∷ []) ∷ Claim 2 (at_place 1 0) ∷ Nodes 2 (at_place 1 0) 2 (2 ∷ []) ∷
-    Claim 1 (at_place 2 0) ∷ Nodes 1 (at_place 2 0) 2 (2 ∷ []) ∷ Claim 2 (at_place 3 0) ∷ Claim 2 (at_place 3 1) ∷
-    Nodes 2 (at_place 3 0) 1 (1 ∷ []) ∷ Nodes 2 (at_place 3 1) 2 (2 ∷ []) ∷ Claim 0 (at_place 4 0) ∷ Collected 0 (at_place 4 0) 0 ∷
-    Claim 1 (at_place 5 0) ∷ Nodes 1 (at_place 5 0) 1 (2 ∷ []) ∷ Claim 2 (at_place 6 0) ∷ Collected 2 (at_place 6 0) 1 ∷
-    Claim 2 (at_place 6 1) ∷ Suspend 2 (at_place 6 1) false ∷ Resume 1 (at_place 6 1) ∷ Prune 1 (at_place 6 1) ∷
-    Claim 2 (at_place 7 0) ∷ Collected 2 (at_place 7 0) 2 ∷ Claim 2 (at_place 8 0) ∷ Nodes 2 (at_place 8 0) 1 (1 ∷ []) ∷
-    Claim 2 (at_place 9 0) ∷ Suspend 2 (at_place 9 0) false ∷ Resume 2 (at_place 9 0) ∷ Answer 2 (at_place 9 0) false ∷
-    Claim 2 (at_place 10 0) ∷ Answer 2 (at_place 10 0) false ∷ []
-
-inner_results_go : replayed inner_results_go_job 99 10000 inner_results_go_events ≡ record { legal = true; text = lines
-      (codes "Y = _0, X = _1, L = [1,3]" ∷ codes "no" ∷ []); end = Some Finished; answers = 1; inferences = 16 }
-unfolding replayed
-inner_results_go = refl
-
--- The same where results of the outer findall are on both sides of the ball.
--- p(1). p(2). ?- findall(X, (p(X) ; catch(findall(Y, (p(Y) ; throw(s)), M), s, X = 9) ; X = 10), L).
-abbrev throw_past_findall_job : Job
-throw_past_findall_job =
-  job
-    (
-      clause (Compound (codes "p") (more (IntTerm (pos 1)) end)) (AtomTerm (codes "true")) ∷
-      clause (Compound (codes "p") (more (IntTerm (pos 2)) end)) (AtomTerm (codes "true")) ∷ [])
-    (
-      query (Compound (codes "findall") (more (VarTerm 0)
-      (more (Compound (codes ";") (more (Compound (codes "p") (more (VarTerm 0) end))
-      (more (Compound (codes ";") (more (Compound (codes "catch")
-      (more (Compound (codes "findall") (more (VarTerm 1)
-      (more (Compound (codes ";") (more (Compound (codes "p") (more (VarTerm 1) end))
-      (more (Compound (codes "throw") (more (AtomTerm (codes "s")) end)) end))) (more (VarTerm 2) end))))
-      (more (AtomTerm (codes "s")) (more (Compound (codes "=") (more (VarTerm 0) (more (IntTerm (pos 9)) end))) end))))
-      (more (Compound (codes "=") (more (VarTerm 0) (more (IntTerm (pos 10)) end))) end))) end))) (more (VarTerm 3) end))))
-      (named (codes "X") 0 ∷ named (codes "Y") 1 ∷ named (codes "M") 2 ∷ named (codes "L") 3 ∷ []) ∷ [])
-
-abbrev throw_past_findall_events : List Event
-throw_past_findall_events =
-    Claim 0 (at_place 0 0) ∷ Nodes 0 (at_place 0 0) 1 (2 ∷ []) ∷ Claim 0 (at_place 1 0) ∷ Nodes 0 (at_place 1 0) 3 (3 ∷ []) ∷
-    Claim 1 (at_place 2 0) ∷ Claim 0 (at_place 2 1) ∷ Collected 0 (at_place 2 1) 0 ∷ Collected 1 (at_place 2 0) 0 ∷
-    Claim 1 (at_place 2 2) ∷ Nodes 1 (at_place 2 2) 2 (2 ∷ 2 ∷ []) ∷ Claim 0 (at_place 4 0) ∷ Claim 1 (at_place 3 1) ∷
-    Nodes 0 (at_place 4 0) 1 (1 ∷ []) ∷ Collected 1 (at_place 3 1) 1 ∷ Claim 1 (at_place 5 0) ∷
-    Nodes 1 (at_place 5 0) 3 (2 ∷ 2 ∷ []) ∷ Claim 1 (at_place 7 0) ∷ Nodes 1 (at_place 7 0) 1 (2 ∷ []) ∷ Claim 0 (at_place 8 0) ∷
-    Collected 0 (at_place 8 0) 0 ∷ Claim 1 (at_place 8 1) ∷ Collected 1 (at_place 8 1) 0 ∷ Claim 0 (at_place 7 1) ∷
-    Suspend 0 (at_place 7 1) false ∷ Resume 1 (at_place 7 1) ∷ Prune 1 (at_place 7 1) ∷ Claim 0 (at_place 9 0) ∷
-    Nodes 0 (at_place 9 0) 1 (1 ∷ []) ∷ Claim 1 (at_place 10 0) ∷ Collected 1 (at_place 10 0) 1 ∷ Claim 0 (at_place 11 0) ∷
-    Nodes 0 (at_place 11 0) 1 (1 ∷ []) ∷ Claim 0 (at_place 12 0) ∷ Answer 0 (at_place 12 0) false ∷ Claim 0 (at_place 13 0) ∷
-    Answer 0 (at_place 13 0) false ∷ []
-
-throw_past_findall : replayed throw_past_findall_job 60 10000 throw_past_findall_events ≡ record { legal = true; text = lines
-      (codes "X = _0, Y = _1, M = _2, L = [1,2,9,10]" ∷ codes "no" ∷ []); end = Some Finished; answers = 1; inferences = 18 }
-unfolding replayed
-throw_past_findall = refl
 
 -- A ball from the goals after an inner catch is caught by the outer one.
 -- p(1). p(2). ?- catch((catch(p(X), a, true), throw(a)), a, true).
 abbrev second_catch_job : Job
 second_catch_job =
-  job
+    job
     (
-      clause (Compound (codes "p") (more (IntTerm (pos 1)) end)) (AtomTerm (codes "true")) ∷
-      clause (Compound (codes "p") (more (IntTerm (pos 2)) end)) (AtomTerm (codes "true")) ∷ [])
+    clause (Compound (codes "p") (more (IntTerm (pos 1)) end)) (AtomTerm (codes "true")) ∷
+    clause (Compound (codes "p") (more (IntTerm (pos 2)) end)) (AtomTerm (codes "true")) ∷ [])
     (
-      query (Compound (codes "catch") (more
-      (Compound (codes ",") (more (Compound (codes "catch")
-      (more (Compound (codes "p") (more (VarTerm 0) end)) (more (AtomTerm (codes "a")) (more (AtomTerm (codes "true")) end))))
-      (more (Compound (codes "throw") (more (AtomTerm (codes "a")) end)) end)))
-      (more (AtomTerm (codes "a")) (more (AtomTerm (codes "true")) end)))) (named (codes "X") 0 ∷ []) ∷ [])
+    query (Compound (codes "catch") (more
+    (Compound (codes ",") (more (Compound (codes "catch")
+    (more (Compound (codes "p") (more (VarTerm 0) end)) (more (AtomTerm (codes "a")) (more (AtomTerm (codes "true")) end))))
+    (more (Compound (codes "throw") (more (AtomTerm (codes "a")) end)) end)))
+    (more (AtomTerm (codes "a")) (more (AtomTerm (codes "true")) end)))) (named (codes "X") 0 ∷ []) ∷ [])
 
 abbrev second_catch_events : List Event
 second_catch_events =
@@ -210,44 +134,23 @@ second_catch_events =
     Claim 0 (at_place 4 0) ∷ Nodes 0 (at_place 4 0) 2 (1 ∷ []) ∷ Claim 0 (at_place 5 0) ∷ Answer 0 (at_place 5 0) false ∷
     Claim 0 (at_place 6 0) ∷ Answer 0 (at_place 6 0) false ∷ []
 
-second_catch : replayed second_catch_job 40 3 second_catch_events ≡ record { legal = true; text = lines
-      (codes "X = _0" ∷ codes "no" ∷ []); end = Some Finished; answers = 1; inferences = 10 }
+second_catch : replayed second_catch_job 40 3 second_catch_events ≡ record {
+  legal = true;
+  text = lines
+      (codes "X = _0" ∷ codes "no" ∷ []);
+  end = Some Finished;
+  answers = 1;
+  inferences = 10;
+}
 unfolding replayed
 second_catch = refl
-
--- A ball out of a findall drops its results.
--- ?- catch(findall(X, (X = 1 ; throw(e)), L), e, true).
-abbrev throw_in_findall_job : Job
-throw_in_findall_job =
-  job
-    []
-    (
-      query (Compound (codes "catch") (more
-      (Compound (codes "findall") (more (VarTerm 0)
-      (more (Compound (codes ";") (more (Compound (codes "=") (more (VarTerm 0) (more (IntTerm (pos 1)) end)))
-      (more (Compound (codes "throw") (more (AtomTerm (codes "e")) end)) end))) (more (VarTerm 1) end))))
-      (more (AtomTerm (codes "e")) (more (AtomTerm (codes "true")) end)))) (named (codes "X") 0 ∷ named (codes "L") 1 ∷ []) ∷ [])
-
-abbrev throw_in_findall_events : List Event
-throw_in_findall_events =
-    Claim 0 (at_place 0 0) ∷ Nodes 0 (at_place 0 0) 2 (2 ∷ []) ∷ Claim 1 (at_place 1 0) ∷ Nodes 1 (at_place 1 0) 1 (2 ∷ []) ∷
-    Claim 0 (at_place 2 0) ∷ Nodes 0 (at_place 2 0) 2 (2 ∷ []) ∷ Claim 0 (at_place 3 0) ∷ Nodes 0 (at_place 3 0) 1 (1 ∷ []) ∷
-    Claim 1 (at_place 4 0) ∷ Collected 1 (at_place 4 0) 0 ∷ Claim 1 (at_place 3 1) ∷ Suspend 1 (at_place 3 1) false ∷
-    Resume 1 (at_place 3 1) ∷ Suspend 1 (at_place 3 1) false ∷ Resume 1 (at_place 3 1) ∷ Prune 1 (at_place 3 1) ∷
-    Claim 0 (at_place 5 0) ∷ Nodes 0 (at_place 5 0) 2 (1 ∷ []) ∷ Claim 1 (at_place 6 0) ∷ Answer 1 (at_place 6 0) false ∷
-    Claim 0 (at_place 7 0) ∷ Suspend 0 (at_place 7 0) false ∷ Resume 0 (at_place 7 0) ∷ Answer 0 (at_place 7 0) false ∷ []
-
-throw_in_findall : replayed throw_in_findall_job 12 2 throw_in_findall_events ≡ record { legal = true; text = lines
-      (codes "X = _0, L = _1" ∷ codes "no" ∷ []); end = Some Finished; answers = 1; inferences = 11 }
-unfolding replayed
-throw_in_findall = refl
 
 -- The goal of a catch fails: its recovery goes with it, and does not wake.
 -- ?- catch(fail, e, true).
 abbrev catch_fails_job : Job
 catch_fails_job =
-  job [] (query (Compound (codes "catch") (more (AtomTerm (codes "fail")) (more (AtomTerm (codes "e"))
-      (more (AtomTerm (codes "true")) end)))) [] ∷ [])
+    job [] (query (Compound (codes "catch") (more (AtomTerm (codes "fail")) (more (AtomTerm (codes "e"))
+    (more (AtomTerm (codes "true")) end)))) [] ∷ [])
 
 abbrev catch_fails_events : List Event
 catch_fails_events =
@@ -255,6 +158,6 @@ catch_fails_events =
     Claim 0 (at_place 2 0) ∷ Answer 0 (at_place 2 0) false ∷ []
 
 catch_fails : replayed catch_fails_job 10 10000 catch_fails_events ≡
-      record { legal = true; text = lines (codes "no" ∷ []); end = Some Finished; answers = 0; inferences = 4 }
+    record { legal = true; text = lines (codes "no" ∷ []); end = Some Finished; answers = 0; inferences = 4 }
 unfolding replayed
 catch_fails = refl

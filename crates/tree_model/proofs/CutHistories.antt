@@ -10,14 +10,14 @@ use Rattle.tree_model.proofs.WorkedJobs.{clause, named, query, job, lines, at_pl
 -- p(1). p(2) :- q. q. ?- p(X), !.
 abbrev cut_prunes_claimed_job : Job
 cut_prunes_claimed_job =
-  job
+    job
     (
-      clause (Compound (codes "p") (more (IntTerm (pos 1)) end)) (AtomTerm (codes "true")) ∷
-      clause (Compound (codes "p") (more (IntTerm (pos 2)) end)) (AtomTerm (codes "q")) ∷
-      clause (AtomTerm (codes "q")) (AtomTerm (codes "true")) ∷ [])
+    clause (Compound (codes "p") (more (IntTerm (pos 1)) end)) (AtomTerm (codes "true")) ∷
+    clause (Compound (codes "p") (more (IntTerm (pos 2)) end)) (AtomTerm (codes "q")) ∷
+    clause (AtomTerm (codes "q")) (AtomTerm (codes "true")) ∷ [])
     (
-      query (Compound (codes ",") (more (Compound (codes "p") (more (VarTerm 0) end)) (more (AtomTerm (codes "!")) end)))
-      (named (codes "X") 0 ∷ []) ∷ [])
+    query (Compound (codes ",") (more (Compound (codes "p") (more (VarTerm 0) end)) (more (AtomTerm (codes "!")) end)))
+    (named (codes "X") 0 ∷ []) ∷ [])
 
 abbrev cut_prunes_claimed_events : List Event
 cut_prunes_claimed_events =
@@ -25,8 +25,14 @@ cut_prunes_claimed_events =
     Prune 0 (at_place 1 0) ∷ Lost 1 (at_place 1 1) ∷ Claim 1 (at_place 2 0) ∷ Answer 1 (at_place 2 0) false ∷
     Claim 0 (at_place 3 0) ∷ Answer 0 (at_place 3 0) false ∷ []
 
-cut_prunes_claimed : replayed cut_prunes_claimed_job 100 10000 cut_prunes_claimed_events ≡ record { legal = true; text = lines
-      (codes "X = 1" ∷ codes "no" ∷ []); end = Some Finished; answers = 1; inferences = 4 }
+cut_prunes_claimed : replayed cut_prunes_claimed_job 100 10000 cut_prunes_claimed_events ≡ record {
+  legal = true;
+  text = lines
+      (codes "X = 1" ∷ codes "no" ∷ []);
+  end = Some Finished;
+  answers = 1;
+  inferences = 4;
+}
 unfolding replayed
 cut_prunes_claimed = refl
 
@@ -34,13 +40,13 @@ cut_prunes_claimed = refl
 -- p(1). p(2) :- fail. ?- p(X), !.
 abbrev pruned_credit_job : Job
 pruned_credit_job =
-  job
+    job
     (
-      clause (Compound (codes "p") (more (IntTerm (pos 1)) end)) (AtomTerm (codes "true")) ∷
-      clause (Compound (codes "p") (more (IntTerm (pos 2)) end)) (AtomTerm (codes "fail")) ∷ [])
+    clause (Compound (codes "p") (more (IntTerm (pos 1)) end)) (AtomTerm (codes "true")) ∷
+    clause (Compound (codes "p") (more (IntTerm (pos 2)) end)) (AtomTerm (codes "fail")) ∷ [])
     (
-      query (Compound (codes ",") (more (Compound (codes "p") (more (VarTerm 0) end)) (more (AtomTerm (codes "!")) end)))
-      (named (codes "X") 0 ∷ []) ∷ [])
+    query (Compound (codes ",") (more (Compound (codes "p") (more (VarTerm 0) end)) (more (AtomTerm (codes "!")) end)))
+    (named (codes "X") 0 ∷ []) ∷ [])
 
 abbrev pruned_credit_events : List Event
 pruned_credit_events =
@@ -48,8 +54,14 @@ pruned_credit_events =
     Claim 0 (at_place 1 1) ∷ Empty 0 (at_place 1 1) 1 ∷ Resume 0 (at_place 1 0) ∷ Prune 0 (at_place 1 0) ∷ Claim 0 (at_place 2 0) ∷
     Answer 0 (at_place 2 0) false ∷ Claim 0 (at_place 3 0) ∷ Answer 0 (at_place 3 0) false ∷ []
 
-pruned_credit : replayed pruned_credit_job 9 10000 pruned_credit_events ≡ record { legal = true; text = lines
-      (codes "X = 1" ∷ codes "no" ∷ []); end = Some Finished; answers = 1; inferences = 4 }
+pruned_credit : replayed pruned_credit_job 9 10000 pruned_credit_events ≡ record {
+  legal = true;
+  text = lines
+      (codes "X = 1" ∷ codes "no" ∷ []);
+  end = Some Finished;
+  answers = 1;
+  inferences = 4;
+}
 unfolding replayed
 pruned_credit = refl
 
@@ -58,12 +70,12 @@ pruned_credit = refl
 -- u :- !. ?- (u ; (true ; true)).
 abbrev right_below_scope_job : Job
 right_below_scope_job =
-  job
+    job
     (
-      clause (AtomTerm (codes "u")) (AtomTerm (codes "!")) ∷ [])
+    clause (AtomTerm (codes "u")) (AtomTerm (codes "!")) ∷ [])
     (
-      query (Compound (codes ";") (more (AtomTerm (codes "u"))
-      (more (Compound (codes ";") (more (AtomTerm (codes "true")) (more (AtomTerm (codes "true")) end))) end))) ([]) ∷ [])
+    query (Compound (codes ";") (more (AtomTerm (codes "u"))
+    (more (Compound (codes ";") (more (AtomTerm (codes "true")) (more (AtomTerm (codes "true")) end))) end))) ([]) ∷ [])
 
 abbrev right_below_scope_events : List Event
 right_below_scope_events =
@@ -76,8 +88,14 @@ right_below_scope_events =
     Resume 2 (at_place 5 0) ∷ Suspend 2 (at_place 5 0) false ∷ Resume 0 (at_place 5 0) ∷ Suspend 0 (at_place 5 0) false ∷
     Resume 0 (at_place 5 0) ∷ Suspend 0 (at_place 5 0) false ∷ Resume 0 (at_place 5 0) ∷ Answer 0 (at_place 5 0) false ∷ []
 
-right_below_scope : replayed right_below_scope_job 12 2 right_below_scope_events ≡ record { legal = true; text = lines
-      (codes "true" ∷ codes "true" ∷ codes "true" ∷ codes "no" ∷ []); end = Some Finished; answers = 3; inferences = 10 }
+right_below_scope : replayed right_below_scope_job 12 2 right_below_scope_events ≡ record {
+  legal = true;
+  text = lines
+      (codes "true" ∷ codes "true" ∷ codes "true" ∷ codes "no" ∷ []);
+  end = Some Finished;
+  answers = 3;
+  inferences = 10;
+}
 unfolding replayed
 right_below_scope = refl
 
@@ -86,13 +104,13 @@ right_below_scope = refl
 -- u :- v, !. v. v :- fail. ?- (u ; fail).
 abbrev credit_beyond_scope_job : Job
 credit_beyond_scope_job =
-  job
+    job
     (
-      clause (AtomTerm (codes "u")) (Compound (codes ",") (more (AtomTerm (codes "v")) (more (AtomTerm (codes "!")) end))) ∷
-      clause (AtomTerm (codes "v")) (AtomTerm (codes "true")) ∷
-      clause (AtomTerm (codes "v")) (AtomTerm (codes "fail")) ∷ [])
+    clause (AtomTerm (codes "u")) (Compound (codes ",") (more (AtomTerm (codes "v")) (more (AtomTerm (codes "!")) end))) ∷
+    clause (AtomTerm (codes "v")) (AtomTerm (codes "true")) ∷
+    clause (AtomTerm (codes "v")) (AtomTerm (codes "fail")) ∷ [])
     (
-      query (Compound (codes ";") (more (AtomTerm (codes "u")) (more (AtomTerm (codes "fail")) end))) ([]) ∷ [])
+    query (Compound (codes ";") (more (AtomTerm (codes "u")) (more (AtomTerm (codes "fail")) end))) ([]) ∷ [])
 
 abbrev credit_beyond_scope_events : List Event
 credit_beyond_scope_events =
@@ -104,8 +122,14 @@ credit_beyond_scope_events =
     Resume 2 (at_place 4 0) ∷ Answer 2 (at_place 4 0) false ∷ Claim 0 (at_place 5 0) ∷ Suspend 0 (at_place 5 0) false ∷
     Resume 1 (at_place 5 0) ∷ Answer 1 (at_place 5 0) false ∷ []
 
-credit_beyond_scope : replayed credit_beyond_scope_job 60 10000 credit_beyond_scope_events ≡ record { legal = true; text = lines
-      (codes "true" ∷ codes "no" ∷ []); end = Some Finished; answers = 1; inferences = 7 }
+credit_beyond_scope : replayed credit_beyond_scope_job 60 10000 credit_beyond_scope_events ≡ record {
+  legal = true;
+  text = lines
+      (codes "true" ∷ codes "no" ∷ []);
+  end = Some Finished;
+  answers = 1;
+  inferences = 7;
+}
 unfolding replayed
 credit_beyond_scope = refl
 
@@ -113,14 +137,14 @@ credit_beyond_scope = refl
 -- p(1). p(2). ?- (p(X) -> true ; X = 0).
 abbrev condition_commits_job : Job
 condition_commits_job =
-  job
+    job
     (
-      clause (Compound (codes "p") (more (IntTerm (pos 1)) end)) (AtomTerm (codes "true")) ∷
-      clause (Compound (codes "p") (more (IntTerm (pos 2)) end)) (AtomTerm (codes "true")) ∷ [])
+    clause (Compound (codes "p") (more (IntTerm (pos 1)) end)) (AtomTerm (codes "true")) ∷
+    clause (Compound (codes "p") (more (IntTerm (pos 2)) end)) (AtomTerm (codes "true")) ∷ [])
     (
-      query (Compound (codes ";") (more (Compound (codes "->")
-      (more (Compound (codes "p") (more (VarTerm 0) end)) (more (AtomTerm (codes "true")) end)))
-      (more (Compound (codes "=") (more (VarTerm 0) (more (IntTerm (pos 0)) end))) end))) (named (codes "X") 0 ∷ []) ∷ [])
+    query (Compound (codes ";") (more (Compound (codes "->")
+    (more (Compound (codes "p") (more (VarTerm 0) end)) (more (AtomTerm (codes "true")) end)))
+    (more (Compound (codes "=") (more (VarTerm 0) (more (IntTerm (pos 0)) end))) end))) (named (codes "X") 0 ∷ []) ∷ [])
 
 abbrev condition_commits_events : List Event
 condition_commits_events =
@@ -129,8 +153,14 @@ condition_commits_events =
     Claim 0 (at_place 4 0) ∷ Answer 0 (at_place 4 0) false ∷ Claim 1 (at_place 5 0) ∷ Suspend 1 (at_place 5 0) false ∷
     Resume 0 (at_place 5 0) ∷ Answer 0 (at_place 5 0) false ∷ []
 
-condition_commits : replayed condition_commits_job 12 3 condition_commits_events ≡ record { legal = true; text = lines
-      (codes "X = 1" ∷ codes "no" ∷ []); end = Some Finished; answers = 1; inferences = 6 }
+condition_commits : replayed condition_commits_job 12 3 condition_commits_events ≡ record {
+  legal = true;
+  text = lines
+      (codes "X = 1" ∷ codes "no" ∷ []);
+  end = Some Finished;
+  answers = 1;
+  inferences = 6;
+}
 unfolding replayed
 condition_commits = refl
 
@@ -138,15 +168,15 @@ condition_commits = refl
 -- p(1). p(2). ?- call(p, X), call((p(Y), !)).
 abbrev cut_in_call_job : Job
 cut_in_call_job =
-  job
+    job
     (
-      clause (Compound (codes "p") (more (IntTerm (pos 1)) end)) (AtomTerm (codes "true")) ∷
-      clause (Compound (codes "p") (more (IntTerm (pos 2)) end)) (AtomTerm (codes "true")) ∷ [])
+    clause (Compound (codes "p") (more (IntTerm (pos 1)) end)) (AtomTerm (codes "true")) ∷
+    clause (Compound (codes "p") (more (IntTerm (pos 2)) end)) (AtomTerm (codes "true")) ∷ [])
     (
-      query (Compound (codes ",") (more (Compound (codes "call") (more (AtomTerm (codes "p")) (more (VarTerm 0) end)))
-      (more (Compound (codes "call") (more
-      (Compound (codes ",") (more (Compound (codes "p") (more (VarTerm 1) end)) (more (AtomTerm (codes "!")) end))) end)) end)))
-      (named (codes "X") 0 ∷ named (codes "Y") 1 ∷ []) ∷ [])
+    query (Compound (codes ",") (more (Compound (codes "call") (more (AtomTerm (codes "p")) (more (VarTerm 0) end)))
+    (more (Compound (codes "call") (more
+    (Compound (codes ",") (more (Compound (codes "p") (more (VarTerm 1) end)) (more (AtomTerm (codes "!")) end))) end)) end)))
+    (named (codes "X") 0 ∷ named (codes "Y") 1 ∷ []) ∷ [])
 
 abbrev cut_in_call_events : List Event
 cut_in_call_events =
@@ -160,8 +190,14 @@ cut_in_call_events =
     Resume 3 (at_place 5 0) ∷ Suspend 3 (at_place 5 0) false ∷ Resume 2 (at_place 5 0) ∷ Suspend 2 (at_place 5 0) false ∷
     Resume 1 (at_place 5 0) ∷ Answer 1 (at_place 5 0) false ∷ Claim 3 (at_place 6 0) ∷ Answer 3 (at_place 6 0) false ∷ []
 
-cut_in_call : replayed cut_in_call_job 40 10000 cut_in_call_events ≡ record { legal = true; text = lines
-      (codes "X = 1, Y = 1" ∷ codes "X = 2, Y = 1" ∷ codes "no" ∷ []); end = Some Finished; answers = 2; inferences = 11 }
+cut_in_call : replayed cut_in_call_job 40 10000 cut_in_call_events ≡ record {
+  legal = true;
+  text = lines
+      (codes "X = 1, Y = 1" ∷ codes "X = 2, Y = 1" ∷ codes "no" ∷ []);
+  end = Some Finished;
+  answers = 2;
+  inferences = 11;
+}
 unfolding replayed
 cut_in_call = refl
 
@@ -169,14 +205,14 @@ cut_in_call = refl
 -- p(1). p(2). q(X) :- p(X), !. ?- q(X).
 abbrev cut_in_rule_job : Job
 cut_in_rule_job =
-  job
+    job
     (
-      clause (Compound (codes "p") (more (IntTerm (pos 1)) end)) (AtomTerm (codes "true")) ∷
-      clause (Compound (codes "p") (more (IntTerm (pos 2)) end)) (AtomTerm (codes "true")) ∷
-      clause (Compound (codes "q") (more (VarTerm 0) end))
-      (Compound (codes ",") (more (Compound (codes "p") (more (VarTerm 0) end)) (more (AtomTerm (codes "!")) end))) ∷ [])
+    clause (Compound (codes "p") (more (IntTerm (pos 1)) end)) (AtomTerm (codes "true")) ∷
+    clause (Compound (codes "p") (more (IntTerm (pos 2)) end)) (AtomTerm (codes "true")) ∷
+    clause (Compound (codes "q") (more (VarTerm 0) end))
+    (Compound (codes ",") (more (Compound (codes "p") (more (VarTerm 0) end)) (more (AtomTerm (codes "!")) end))) ∷ [])
     (
-      query (Compound (codes "q") (more (VarTerm 0) end)) (named (codes "X") 0 ∷ []) ∷ [])
+    query (Compound (codes "q") (more (VarTerm 0) end)) (named (codes "X") 0 ∷ []) ∷ [])
 
 abbrev cut_in_rule_events : List Event
 cut_in_rule_events =
@@ -186,13 +222,25 @@ cut_in_rule_events =
     Suspend 0 (at_place 3 0) false ∷ Resume 0 (at_place 3 0) ∷ Answer 0 (at_place 3 0) false ∷ Claim 0 (at_place 4 0) ∷
     Answer 0 (at_place 4 0) false ∷ []
 
-cut_in_rule : replayed cut_in_rule_job 40 10000 cut_in_rule_events ≡ record { legal = true; text = lines
-      (codes "X = 1" ∷ codes "no" ∷ []); end = Some Finished; answers = 1; inferences = 5 }
+cut_in_rule : replayed cut_in_rule_job 40 10000 cut_in_rule_events ≡ record {
+  legal = true;
+  text = lines
+      (codes "X = 1" ∷ codes "no" ∷ []);
+  end = Some Finished;
+  answers = 1;
+  inferences = 5;
+}
 unfolding replayed
 cut_in_rule = refl
 
 -- The same under a budget of four inferences: it has finished, and with the credit left it would have used its budget.
-pruned_credit_at_budget : replayed pruned_credit_job 4 10000 pruned_credit_events ≡ record { legal = true; text = lines
-      (codes "X = 1" ∷ codes "no" ∷ []); end = Some Finished; answers = 1; inferences = 4 }
+pruned_credit_at_budget : replayed pruned_credit_job 4 10000 pruned_credit_events ≡ record {
+  legal = true;
+  text = lines
+      (codes "X = 1" ∷ codes "no" ∷ []);
+  end = Some Finished;
+  answers = 1;
+  inferences = 4;
+}
 unfolding replayed
 pruned_credit_at_budget = refl

@@ -17,13 +17,13 @@ error_events =
     Answer 0 (at_place 1 0) false ∷ Claim 0 (at_place 2 0) ∷ Answer 0 (at_place 2 0) false ∷ []
 
 error : replayed error_job 10 10000 error_events ≡
-      record {
-        legal = true;
-        text = lines (codes "error: error(existence_error(procedure,nosuch/0),nosuch/0)" ∷ []);
-        end = Some Finished;
-        answers = 0;
-        inferences = 3
-      }
+    record {
+      legal = true;
+      text = lines (codes "error: error(existence_error(procedure,nosuch/0),nosuch/0)" ∷ []);
+      end = Some Finished;
+      answers = 0;
+      inferences = 3;
+    }
 unfolding replayed
 error = refl
 
@@ -31,7 +31,7 @@ error = refl
 -- l :- l. ?- true ; l.
 abbrev frozen_job : Job
 frozen_job =
-  job (clause (AtomTerm (codes "l")) (AtomTerm (codes "l")) ∷ [])
+    job (clause (AtomTerm (codes "l")) (AtomTerm (codes "l")) ∷ [])
     (query (Compound (codes ";") (more (AtomTerm (codes "true")) (more (AtomTerm (codes "l")) end))) [] ∷ [])
 
 abbrev frozen_events : List Event
@@ -46,55 +46,55 @@ frozen = refl
 -- p(1). ?- p(1).
 abbrev fact_job : Job
 fact_job =
-  job (clause (Compound (codes "p") (more (IntTerm (pos 1)) end)) (AtomTerm (codes "true")) ∷ [])
+    job (clause (Compound (codes "p") (more (IntTerm (pos 1)) end)) (AtomTerm (codes "true")) ∷ [])
     (query (Compound (codes "p") (more (IntTerm (pos 1)) end)) [] ∷ [])
 
 -- Nothing is out yet, and only the query's goals may be claimed.
 opening_refuses : shown_legal fact_job 10 10000 [] (
-      (Claim 0 (at_place 0 1) ∷ Nodes 0 (at_place 0 0) 1 (1 ∷ []) ∷ Empty 0 (at_place 0 0) 1 ∷ Collected 0 (at_place 0 0) 1 ∷
-      Lost 0 (at_place 0 0) ∷ Suspend 0 (at_place 0 0) false ∷ Resume 0 (at_place 0 0) ∷ Prune 0 (at_place 0 0) ∷
-      Answer 0 (at_place 0 0) false ∷ []) ∷ [])
-      ≡ false ∷ false ∷ false ∷ false ∷ false ∷ false ∷ false ∷ false ∷ false ∷ []
+    (Claim 0 (at_place 0 1) ∷ Nodes 0 (at_place 0 0) 1 (1 ∷ []) ∷ Empty 0 (at_place 0 0) 1 ∷ Collected 0 (at_place 0 0) 1 ∷
+    Lost 0 (at_place 0 0) ∷ Suspend 0 (at_place 0 0) false ∷ Resume 0 (at_place 0 0) ∷ Prune 0 (at_place 0 0) ∷
+    Answer 0 (at_place 0 0) false ∷ []) ∷ [])
+    ≡ false ∷ false ∷ false ∷ false ∷ false ∷ false ∷ false ∷ false ∷ false ∷ []
 unfolding shown_legal
 opening_refuses = refl
 
 -- Out to worker 0: another worker, another place, another shape, another count, a gate that is none.
 claimed_refuses : shown_legal fact_job 10 10000 (Claim 0 (at_place 0 0) ∷ []) ([] ∷
-      (Claim 1 (at_place 0 0) ∷ Nodes 1 (at_place 0 0) 1 (1 ∷ []) ∷ Nodes 0 (at_place 0 1) 1 (1 ∷ []) ∷
-      Nodes 0 (at_place 0 0) 1 (2 ∷ []) ∷ Nodes 0 (at_place 0 0) 0 (1 ∷ []) ∷ Empty 0 (at_place 0 0) 1 ∷
-      Collected 0 (at_place 0 0) 1 ∷ Suspend 0 (at_place 0 0) false ∷ Prune 0 (at_place 0 0) ∷
-      Answer 0 (at_place 0 0) false ∷ Nodes 0 (at_place 0 0) 1 (1 ∷ []) ∷ []) ∷ [])
-      ≡ false ∷ false ∷ false ∷ false ∷ false ∷ false ∷ false ∷ false ∷ false ∷ false ∷ true ∷ []
+    (Claim 1 (at_place 0 0) ∷ Nodes 1 (at_place 0 0) 1 (1 ∷ []) ∷ Nodes 0 (at_place 0 1) 1 (1 ∷ []) ∷
+    Nodes 0 (at_place 0 0) 1 (2 ∷ []) ∷ Nodes 0 (at_place 0 0) 0 (1 ∷ []) ∷ Empty 0 (at_place 0 0) 1 ∷
+    Collected 0 (at_place 0 0) 1 ∷ Suspend 0 (at_place 0 0) false ∷ Prune 0 (at_place 0 0) ∷
+    Answer 0 (at_place 0 0) false ∷ Nodes 0 (at_place 0 0) 1 (1 ∷ []) ∷ []) ∷ [])
+    ≡ false ∷ false ∷ false ∷ false ∷ false ∷ false ∷ false ∷ false ∷ false ∷ false ∷ true ∷ []
 unfolding shown_legal
 claimed_refuses = refl
 
 -- p(1). p(2). ?- p(X), !.
 abbrev cut_job : Job
 cut_job =
-  job (clause (Compound (codes "p") (more (IntTerm (pos 1)) end)) (AtomTerm (codes "true")) ∷
-      clause (Compound (codes "p") (more (IntTerm (pos 2)) end)) (AtomTerm (codes "true")) ∷ [])
+    job (clause (Compound (codes "p") (more (IntTerm (pos 1)) end)) (AtomTerm (codes "true")) ∷
+    clause (Compound (codes "p") (more (IntTerm (pos 2)) end)) (AtomTerm (codes "true")) ∷ [])
     (query (Compound (codes ",") (more (Compound (codes "p") (more (VarTerm 0) end)) (more (AtomTerm (codes "!")) end)))
-      (named (codes "X") 0 ∷ []) ∷ [])
+    (named (codes "X") 0 ∷ []) ∷ [])
 
 abbrev both_out : List Event
 both_out = Claim 0 (at_place 0 0) ∷ Nodes 0 (at_place 0 0) 1 (2 ∷ []) ∷ Claim 0 (at_place 1 0) ∷ Claim 1 (at_place 1 1) ∷ []
 
 -- The second alternative's cut is not taken, and is not resumed, while the first one is open.
 cut_is_not_cleared : shown_legal cut_job 10 10000 both_out ([] ∷ [] ∷ [] ∷ [] ∷
-      (Prune 1 (at_place 1 1) ∷ Answer 1 (at_place 1 1) false ∷ Suspend 1 (at_place 1 1) false ∷ Prune 0 (at_place 1 0) ∷ []) ∷ [])
-      ≡ false ∷ false ∷ true ∷ true ∷ []
+    (Prune 1 (at_place 1 1) ∷ Answer 1 (at_place 1 1) false ∷ Suspend 1 (at_place 1 1) false ∷ Prune 0 (at_place 1 0) ∷ []) ∷ [])
+    ≡ false ∷ false ∷ true ∷ true ∷ []
 unfolding shown_legal
 cut_is_not_cleared = refl
 
 waiting_is_not_cleared : shown_legal cut_job 10 10000
-      (Claim 0 (at_place 0 0) ∷ Nodes 0 (at_place 0 0) 1 (2 ∷ []) ∷ Claim 0 (at_place 1 0) ∷ Claim 1 (at_place 1 1) ∷
-      Suspend 1 (at_place 1 1) false ∷ [])
-      ([] ∷ [] ∷ [] ∷ [] ∷ [] ∷ (Resume 1 (at_place 1 1) ∷ Prune 0 (at_place 1 0) ∷ []) ∷ []) ≡ false ∷ true ∷ []
+    (Claim 0 (at_place 0 0) ∷ Nodes 0 (at_place 0 0) 1 (2 ∷ []) ∷ Claim 0 (at_place 1 0) ∷ Claim 1 (at_place 1 1) ∷
+    Suspend 1 (at_place 1 1) false ∷ [])
+    ([] ∷ [] ∷ [] ∷ [] ∷ [] ∷ (Resume 1 (at_place 1 1) ∷ Prune 0 (at_place 1 0) ∷ []) ∷ []) ≡ false ∷ true ∷ []
 unfolding shown_legal
 waiting_is_not_cleared = refl
 
 -- Where the tree has been stopped nothing is legal, another stop included.
 stopped_refuses : shown_legal fact_job 10 10000 (Stop 0 ∷ []) ((Stop 0 ∷ []) ∷ (Stop 0 ∷ Claim 0 (at_place 0 0) ∷ []) ∷ [])
-      ≡ true ∷ false ∷ false ∷ []
+    ≡ true ∷ false ∷ false ∷ []
 unfolding shown_legal
 stopped_refuses = refl

@@ -11,19 +11,25 @@ use Rattle.tree_model.proofs.WorkedJobs.{clause, named, query, job, lines, at_pl
 -- p(1). ?- p(1).
 abbrev smallest_query_job : Job
 smallest_query_job =
-  job
+    job
     (
-      clause (Compound (codes "p") (more (IntTerm (pos 1)) end)) (AtomTerm (codes "true")) ∷ [])
+    clause (Compound (codes "p") (more (IntTerm (pos 1)) end)) (AtomTerm (codes "true")) ∷ [])
     (
-      query (Compound (codes "p") (more (IntTerm (pos 1)) end)) ([]) ∷ [])
+    query (Compound (codes "p") (more (IntTerm (pos 1)) end)) ([]) ∷ [])
 
 abbrev smallest_query_events : List Event
 smallest_query_events =
     Claim 0 (at_place 0 0) ∷ Nodes 0 (at_place 0 0) 1 (1 ∷ []) ∷ Claim 0 (at_place 1 0) ∷ Answer 0 (at_place 1 0) false ∷
     Claim 0 (at_place 2 0) ∷ Answer 0 (at_place 2 0) false ∷ []
 
-smallest_query : replayed smallest_query_job 10 10000 smallest_query_events ≡ record { legal = true; text = lines
-      (codes "true" ∷ codes "no" ∷ []); end = Some Finished; answers = 1; inferences = 3 }
+smallest_query : replayed smallest_query_job 10 10000 smallest_query_events ≡ record {
+  legal = true;
+  text = lines
+      (codes "true" ∷ codes "no" ∷ []);
+  end = Some Finished;
+  answers = 1;
+  inferences = 3;
+}
 unfolding replayed
 smallest_query = refl
 
@@ -31,20 +37,26 @@ smallest_query = refl
 -- p(1). p(2). ?- p(X).
 abbrev two_answers_job : Job
 two_answers_job =
-  job
+    job
     (
-      clause (Compound (codes "p") (more (IntTerm (pos 1)) end)) (AtomTerm (codes "true")) ∷
-      clause (Compound (codes "p") (more (IntTerm (pos 2)) end)) (AtomTerm (codes "true")) ∷ [])
+    clause (Compound (codes "p") (more (IntTerm (pos 1)) end)) (AtomTerm (codes "true")) ∷
+    clause (Compound (codes "p") (more (IntTerm (pos 2)) end)) (AtomTerm (codes "true")) ∷ [])
     (
-      query (Compound (codes "p") (more (VarTerm 0) end)) (named (codes "X") 0 ∷ []) ∷ [])
+    query (Compound (codes "p") (more (VarTerm 0) end)) (named (codes "X") 0 ∷ []) ∷ [])
 
 abbrev two_answers_events : List Event
 two_answers_events =
     Claim 0 (at_place 0 0) ∷ Nodes 0 (at_place 0 0) 1 (2 ∷ []) ∷ Claim 0 (at_place 1 0) ∷ Answer 0 (at_place 1 0) false ∷
     Claim 0 (at_place 1 1) ∷ Answer 0 (at_place 1 1) false ∷ Claim 0 (at_place 2 0) ∷ Answer 0 (at_place 2 0) false ∷ []
 
-two_answers : replayed two_answers_job 10 10000 two_answers_events ≡ record { legal = true; text = lines
-      (codes "X = 1" ∷ codes "X = 2" ∷ codes "no" ∷ []); end = Some Finished; answers = 2; inferences = 4 }
+two_answers : replayed two_answers_job 10 10000 two_answers_events ≡ record {
+  legal = true;
+  text = lines
+      (codes "X = 1" ∷ codes "X = 2" ∷ codes "no" ∷ []);
+  end = Some Finished;
+  answers = 2;
+  inferences = 4;
+}
 unfolding replayed
 two_answers = refl
 
@@ -52,20 +64,26 @@ two_answers = refl
 -- p(1). p(2). ?- p(X).
 abbrev budget_is_used_job : Job
 budget_is_used_job =
-  job
+    job
     (
-      clause (Compound (codes "p") (more (IntTerm (pos 1)) end)) (AtomTerm (codes "true")) ∷
-      clause (Compound (codes "p") (more (IntTerm (pos 2)) end)) (AtomTerm (codes "true")) ∷ [])
+    clause (Compound (codes "p") (more (IntTerm (pos 1)) end)) (AtomTerm (codes "true")) ∷
+    clause (Compound (codes "p") (more (IntTerm (pos 2)) end)) (AtomTerm (codes "true")) ∷ [])
     (
-      query (Compound (codes "p") (more (VarTerm 0) end)) (named (codes "X") 0 ∷ []) ∷ [])
+    query (Compound (codes "p") (more (VarTerm 0) end)) (named (codes "X") 0 ∷ []) ∷ [])
 
 abbrev budget_is_used_events : List Event
 budget_is_used_events =
     Claim 0 (at_place 0 0) ∷ Nodes 0 (at_place 0 0) 1 (2 ∷ []) ∷ Claim 0 (at_place 1 0) ∷ Answer 0 (at_place 1 0) false ∷
     Claim 0 (at_place 1 1) ∷ Answer 0 (at_place 1 1) false ∷ []
 
-budget_is_used : replayed budget_is_used_job 3 10000 budget_is_used_events ≡ record { legal = true; text = lines
-      (codes "X = 1" ∷ codes "X = 2" ∷ []); end = Some Budget; answers = 2; inferences = 3 }
+budget_is_used : replayed budget_is_used_job 3 10000 budget_is_used_events ≡ record {
+  legal = true;
+  text = lines
+      (codes "X = 1" ∷ codes "X = 2" ∷ []);
+  end = Some Budget;
+  answers = 2;
+  inferences = 3;
+}
 unfolding replayed
 budget_is_used = refl
 
@@ -73,20 +91,26 @@ budget_is_used = refl
 -- p(1). p(2). ?- p(X).
 abbrev answer_waits_job : Job
 answer_waits_job =
-  job
+    job
     (
-      clause (Compound (codes "p") (more (IntTerm (pos 1)) end)) (AtomTerm (codes "true")) ∷
-      clause (Compound (codes "p") (more (IntTerm (pos 2)) end)) (AtomTerm (codes "true")) ∷ [])
+    clause (Compound (codes "p") (more (IntTerm (pos 1)) end)) (AtomTerm (codes "true")) ∷
+    clause (Compound (codes "p") (more (IntTerm (pos 2)) end)) (AtomTerm (codes "true")) ∷ [])
     (
-      query (Compound (codes "p") (more (VarTerm 0) end)) (named (codes "X") 0 ∷ []) ∷ [])
+    query (Compound (codes "p") (more (VarTerm 0) end)) (named (codes "X") 0 ∷ []) ∷ [])
 
 abbrev answer_waits_events : List Event
 answer_waits_events =
     Claim 0 (at_place 0 0) ∷ Nodes 0 (at_place 0 0) 1 (2 ∷ []) ∷ Claim 0 (at_place 1 0) ∷ Claim 1 (at_place 1 1) ∷
     Suspend 1 (at_place 1 1) false ∷ Answer 0 (at_place 1 0) false ∷ Resume 1 (at_place 1 1) ∷ Answer 1 (at_place 1 1) false ∷ []
 
-answer_waits : replayed answer_waits_job 10 10000 answer_waits_events ≡ record { legal = true; text = lines
-      (codes "X = 1" ∷ codes "X = 2" ∷ []); end = None; answers = 2; inferences = 3 }
+answer_waits : replayed answer_waits_job 10 10000 answer_waits_events ≡ record {
+  legal = true;
+  text = lines
+      (codes "X = 1" ∷ codes "X = 2" ∷ []);
+  end = None;
+  answers = 2;
+  inferences = 3;
+}
 unfolding replayed
 answer_waits = refl
 
@@ -94,14 +118,14 @@ answer_waits = refl
 -- p(1). p(2). ?- p(X), !. ?- p(2).
 abbrev two_queries_job : Job
 two_queries_job =
-  job
+    job
     (
-      clause (Compound (codes "p") (more (IntTerm (pos 1)) end)) (AtomTerm (codes "true")) ∷
-      clause (Compound (codes "p") (more (IntTerm (pos 2)) end)) (AtomTerm (codes "true")) ∷ [])
+    clause (Compound (codes "p") (more (IntTerm (pos 1)) end)) (AtomTerm (codes "true")) ∷
+    clause (Compound (codes "p") (more (IntTerm (pos 2)) end)) (AtomTerm (codes "true")) ∷ [])
     (
-      query (Compound (codes ",") (more (Compound (codes "p") (more (VarTerm 0) end)) (more (AtomTerm (codes "!")) end)))
-      (named (codes "X") 0 ∷ []) ∷
-      query (Compound (codes "p") (more (IntTerm (pos 2)) end)) ([]) ∷ [])
+    query (Compound (codes ",") (more (Compound (codes "p") (more (VarTerm 0) end)) (more (AtomTerm (codes "!")) end)))
+    (named (codes "X") 0 ∷ []) ∷
+    query (Compound (codes "p") (more (IntTerm (pos 2)) end)) ([]) ∷ [])
 
 abbrev two_queries_events : List Event
 two_queries_events =
@@ -115,8 +139,14 @@ two_queries_events =
     Resume 1 (at_place 5 0) ∷ Answer 1 (at_place 5 0) false ∷ Claim 0 (at_place 6 0) ∷ Suspend 0 (at_place 6 0) false ∷
     Resume 0 (at_place 6 0) ∷ Answer 0 (at_place 6 0) false ∷ []
 
-two_queries : replayed two_queries_job 12 10000 two_queries_events ≡ record { legal = true; text = lines
-      (codes "X = 1" ∷ codes "no" ∷ codes "true" ∷ codes "no" ∷ []); end = Some Finished; answers = 2; inferences = 7 }
+two_queries : replayed two_queries_job 12 10000 two_queries_events ≡ record {
+  legal = true;
+  text = lines
+      (codes "X = 1" ∷ codes "no" ∷ codes "true" ∷ codes "no" ∷ []);
+  end = Some Finished;
+  answers = 2;
+  inferences = 7;
+}
 unfolding replayed
 two_queries = refl
 
@@ -124,13 +154,27 @@ two_queries = refl
 -- :- dynamic(k/1). k(1). k(2). ?- k(X), !. ?- k(Y).
 abbrev world_changes_job : Job
 world_changes_job =
-  record { clauses = ([]); database = record { procedures =
-      (record { name = codes "k"; arity = 1; clauses =
-      (record { number = 0; clause = clause (Compound (codes "k") (more (IntTerm (pos 1)) end)) (AtomTerm (codes "true")) } ∷ record {
-      number = 1; clause = clause (Compound (codes "k") (more (IntTerm (pos 2)) end)) (AtomTerm (codes "true")) } ∷ []) } ∷ []); next
-      = 2 }; operators = initial_operators; queries =
-      (query (Compound (codes ",") (more (Compound (codes "k") (more (VarTerm 0) end)) (more (AtomTerm (codes "!")) end)))
-      (named (codes "X") 0 ∷ []) ∷ query (Compound (codes "k") (more (VarTerm 0) end)) (named (codes "Y") 0 ∷ []) ∷ []) }
+    record {
+      clauses = ([]);
+      database = record {
+        procedures =
+            (record {
+              name = codes "k";
+              arity = 1;
+              clauses =
+                  (record { number = 0; clause = clause (Compound (codes "k") (more (IntTerm (pos 1)) end)) (AtomTerm (codes "true")) } ∷ record {
+                    number = 1;
+                    clause = clause (Compound (codes "k") (more (IntTerm (pos 2)) end)) (AtomTerm (codes "true"));
+                  } ∷ []);
+            } ∷ []);
+        next
+            = 2;
+      };
+      operators = initial_operators;
+      queries =
+          (query (Compound (codes ",") (more (Compound (codes "k") (more (VarTerm 0) end)) (more (AtomTerm (codes "!")) end)))
+          (named (codes "X") 0 ∷ []) ∷ query (Compound (codes "k") (more (VarTerm 0) end)) (named (codes "Y") 0 ∷ []) ∷ []);
+    }
 
 abbrev world_changes_events : List Event
 world_changes_events =
@@ -144,9 +188,14 @@ world_changes_events =
     Claim 0 (at_place 5 1) ∷ Answer 0 (at_place 5 1) false ∷ Claim 0 (at_place 6 0) ∷ Suspend 0 (at_place 6 0) false ∷
     Resume 2 (at_place 6 0) ∷ Answer 2 (at_place 6 0) false ∷ []
 
-world_changes : replayed world_changes_job 40 3 world_changes_events ≡ record { legal = true; text = lines
-      (codes "X = 1" ∷ codes "no" ∷ codes "Y = 1" ∷ codes "Y = 2" ∷ codes "no" ∷ []); end = Some Finished; answers = 3; inferences = 8
-      }
+world_changes : replayed world_changes_job 40 3 world_changes_events ≡ record {
+  legal = true;
+  text = lines
+      (codes "X = 1" ∷ codes "no" ∷ codes "Y = 1" ∷ codes "Y = 2" ∷ codes "no" ∷ []);
+  end = Some Finished;
+  answers = 3;
+  inferences = 8;
+}
 unfolding replayed
 world_changes = refl
 
@@ -154,16 +203,16 @@ world_changes = refl
 -- p(1). p(2). ?- p(X), ( X = 2 -> nosuch(X) ; true ).
 abbrev error_ends_query_job : Job
 error_ends_query_job =
-  job
+    job
     (
-      clause (Compound (codes "p") (more (IntTerm (pos 1)) end)) (AtomTerm (codes "true")) ∷
-      clause (Compound (codes "p") (more (IntTerm (pos 2)) end)) (AtomTerm (codes "true")) ∷ [])
+    clause (Compound (codes "p") (more (IntTerm (pos 1)) end)) (AtomTerm (codes "true")) ∷
+    clause (Compound (codes "p") (more (IntTerm (pos 2)) end)) (AtomTerm (codes "true")) ∷ [])
     (
-      query (Compound (codes ",") (more (Compound (codes "p") (more (VarTerm 0) end))
-      (more (Compound (codes ";") (more (Compound (codes "->")
-      (more (Compound (codes "=") (more (VarTerm 0) (more (IntTerm (pos 2)) end)))
-      (more (Compound (codes "nosuch") (more (VarTerm 0) end)) end))) (more (AtomTerm (codes "true")) end))) end)))
-      (named (codes "X") 0 ∷ []) ∷ [])
+    query (Compound (codes ",") (more (Compound (codes "p") (more (VarTerm 0) end))
+    (more (Compound (codes ";") (more (Compound (codes "->")
+    (more (Compound (codes "=") (more (VarTerm 0) (more (IntTerm (pos 2)) end)))
+    (more (Compound (codes "nosuch") (more (VarTerm 0) end)) end))) (more (AtomTerm (codes "true")) end))) end)))
+    (named (codes "X") 0 ∷ []) ∷ [])
 
 abbrev error_ends_query_events : List Event
 error_ends_query_events =
@@ -174,8 +223,13 @@ error_ends_query_events =
     Resume 0 (at_place 5 0) ∷ Prune 0 (at_place 5 0) ∷ Claim 0 (at_place 6 0) ∷ Answer 0 (at_place 6 0) false ∷
     Claim 0 (at_place 7 0) ∷ Answer 0 (at_place 7 0) false ∷ []
 
-error_ends_query : replayed error_ends_query_job 40 1 error_ends_query_events ≡ record { legal = true; text = lines
-      (codes "X = 1" ∷ codes "error: error(existence_error(procedure,nosuch/1),nosuch/1)" ∷ []); end = Some Finished; answers = 1;
-      inferences = 10 }
+error_ends_query : replayed error_ends_query_job 40 1 error_ends_query_events ≡ record {
+  legal = true;
+  text = lines
+      (codes "X = 1" ∷ codes "error: error(existence_error(procedure,nosuch/1),nosuch/1)" ∷ []);
+  end = Some Finished;
+  answers = 1;
+  inferences = 10;
+}
 unfolding replayed
 error_ends_query = refl

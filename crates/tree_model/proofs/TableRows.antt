@@ -12,8 +12,12 @@ use Rattle.tree_model.specs.Tables.{Table, PendingCell, InnerCell, ClosedCell, t
 abbrev two_nodes : Table
 two_nodes =
     Some (record { parent = None; kind = ChoiceNode; cells = (0, InnerCell 1) ∷ [] })
-    ∷ Some (record { parent = Some (record { node = 0; index = 0 }); kind = ChoiceNode; cells = (0, ClosedCell (credit_of 2))
-        ∷ (0, PendingCell Ready (EndEntry None)) ∷ [] })
+    ∷ Some (record {
+      parent = Some (record { node = 0; index = 0 });
+      kind = ChoiceNode;
+      cells = (0, ClosedCell (credit_of 2))
+          ∷ (0, PendingCell Ready (EndEntry None)) ∷ [];
+    })
     ∷ []
 
 abbrev upper : Level

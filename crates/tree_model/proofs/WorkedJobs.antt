@@ -52,8 +52,13 @@ unfoldable pub replayed : Job → ℕ → ℕ → List Event → Replayed
 unfolding after_event is_legal gate_of run_of private_run outcome_of unifier encode digits
 replayed j budget window es =
     let t = tree_after j budget window es in
-    record { legal = are_legal (opening_tree j budget window) es; text = t.world.written; end = ended t; answers = (counts t).0;
-        inferences = (counts t).1 }
+    record {
+      legal = are_legal (opening_tree j budget window) es;
+      text = t.world.written;
+      end = ended t;
+      answers = (counts t).0;
+      inferences = (counts t).1;
+    }
 
 -- which of these events may happen in each tree of a history
 abbrev legal_here : TreeState → List Event → List Bool

@@ -6,7 +6,8 @@ use Rattle.au_model.specs.Terms.Forms.{binary, list_term}
 use Rattle.run_model.specs.Machine.Items.{GoalItem, before}
 use Rattle.run_model.specs.Machine.Entries.{Entry, PlainEntry, CatchEntry, FindallEntry, EndEntry, with_result}
 use Rattle.tree_model.specs.Credits.{Credit, no_credit, added, credit_of, without_records}
-use Rattle.tree_model.specs.Nodes.{Hold, Ready, TakenBy, Waiting, Dormant, Alternatives, none, alternative, Status, Pending, Inner, Closed, single}
+use Rattle.tree_model.specs.Nodes.{Hold, Ready, TakenBy, Waiting, Dormant, Alternatives, none, alternative, Status, Pending, Inner}
+use Rattle.tree_model.specs.Nodes.{Closed, single}
 use Rattle.tree_model.specs.Levels.{Level, plug}
 
 -- a tree, and the number that the next node gets

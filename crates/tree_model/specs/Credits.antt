@@ -20,8 +20,12 @@ counted a b = min greatest (a + b)
 
 -- credits add from left to right
 abbrev pub added : Credit → Credit → Credit
-added a b = record { inferences = counted a.inferences b.inferences; answers = counted a.answers b.answers; records = a.records
-    ++ b.records }
+added a b = record {
+  inferences = counted a.inferences b.inferences;
+  answers = counted a.answers b.answers;
+  records = a.records
+      ++ b.records;
+}
 
 abbrev pub credit_of : ℕ → Credit
 credit_of n = record { inferences = n; answers = 0; records = [] }

@@ -6,7 +6,8 @@ use Rattle.run_model.specs.Machine.Entries.{Entry, PlainEntry}
 use Rattle.run_model.specs.Programs.Jobs.{Query}
 use Rattle.run_model.specs.Goals.Worlds.{World}
 use Rattle.tree_model.specs.Credits.{Credit, credit_of}
-use Rattle.tree_model.specs.Nodes.{Gate, CutGate, BallGate, WorldGate, FrozenGate, ChoiceNode, Hold, Ready, TakenBy, Waiting, Numbered, Status, Pending, Inner, single, standing}
+use Rattle.tree_model.specs.Nodes.{Gate, CutGate, BallGate, WorldGate, FrozenGate, ChoiceNode, Hold, Ready, TakenBy, Waiting, Numbered}
+use Rattle.tree_model.specs.Nodes.{Status, Pending, Inner, single, standing}
 use Rattle.tree_model.specs.Levels.{Level, plug, Place, Spot, levels_of}
 use Rattle.tree_model.specs.Floors.{floor_of, with_heights, with_nodes, node_of}
 use Rattle.tree_model.specs.Gates.{landing_scope}
@@ -38,8 +39,11 @@ closed_with s c t = grown (closes t.next (levels_of s) c) t
 abbrev pub left_at : Spot → List Entry → TreeState → TreeState
 left_at s [] t = closed_with s (credit_of 1) t
 left_at s (e ∷ es) t =
-    record t { root = plug (spending 1 (levels_of s))
-        (Inner (Numbered t.next ChoiceNode (standing Ready (map (with_nodes (node_of (levels_of s))) (e ∷ es))))); next = suc t.next }
+    record t {
+      root = plug (spending 1 (levels_of s))
+          (Inner (Numbered t.next ChoiceNode (standing Ready (map (with_nodes (node_of (levels_of s))) (e ∷ es)))));
+      next = suc t.next;
+    }
 
 -- a ball falls from a place, and leaves this of the stack
 abbrev pub ball_falls : Spot → List Entry → TreeState → TreeState
@@ -47,7 +51,7 @@ ball_falls s [] t = t
 ball_falls s (e ∷ es) t =
     let scope = landing_scope (levels_of s) (e ∷ es) in
     grown (lands t.next scope (levels_of s) (credit_of 1) (with_nodes (node_of (levels_of s)) e))
-        (record t { lost = t.lost ++ tasks_pruned scope (levels_of s) })
+    (record t { lost = t.lost ++ tasks_pruned scope (levels_of s) })
 
 -- a cut leaves this entry
 abbrev pub cut_at : Spot → ℕ → List Entry → TreeState → TreeState

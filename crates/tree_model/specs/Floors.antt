@@ -3,7 +3,8 @@
 use Rattle.std.specs.Prelude.{ℕ, suc, ◌-◌, ◌==◌, cond, List, [], ◌∷◌, None, length, map}
 use Rattle.run_model.specs.Machine.Items.{Item, GoalItem, CatchMark, CollectMark, RemovalItem, Continuation}
 use Rattle.run_model.specs.Machine.Entries.{Entry, PlainEntry, CatchEntry, FindallEntry, EndEntry}
-use Rattle.tree_model.specs.Nodes.{Kind, QueryNode, ChoiceNode, CatchNode, FindallNode, Hold, Ready, TakenBy, Waiting, Dormant, Alternatives, none, alternative, Pending, Inner, Closed}
+use Rattle.tree_model.specs.Nodes.{Kind, QueryNode, ChoiceNode, CatchNode, FindallNode, Hold, Ready, TakenBy, Waiting, Dormant}
+use Rattle.tree_model.specs.Nodes.{Alternatives, none, alternative, Pending, Inner, Closed}
 use Rattle.tree_model.specs.Levels.{Level}
 
 -- scopes and marks under other names

@@ -3,7 +3,7 @@ use Rattle.std.specs.Prelude.{◌≡◌, ◌<◌, ℕ, true, List}
 use Rattle.run_model.specs.Programs.Jobs.{Job}
 use Rattle.tree_model.specs.Credits.{greatest}
 use Rattle.run_model.specs.Machine.Entries.{Entry}
-use Rattle.tree_model.specs.Nodes.{Hold, Status, Pending}
+use Rattle.tree_model.specs.Nodes.{Hold, Pending}
 use Rattle.tree_model.specs.Levels.{Level, plug}
 use Rattle.tree_model.specs.PendingLists.{pending_list}
 use Rattle.tree_model.specs.Events.{Event}

@@ -1,5 +1,6 @@
 -- Which events may happen.
-use Rattle.std.specs.Prelude.{ℕ, ◌==◌, ◌&&◌, ◌||◌, Bool, true, false, not, cond, List, [], ◌∷◌, Option, Some, None, is_some, is_none, find, length, nat_le, nat_lt}
+use Rattle.std.specs.Prelude.{ℕ, ◌==◌, ◌&&◌, ◌||◌, Bool, true, false, not, cond, List, [], ◌∷◌, Option, Some, None, is_some, is_none}
+use Rattle.std.specs.Prelude.{find, length, nat_le, nat_lt}
 use Rattle.std.specs.List.{list_any}
 use Rattle.run_model.specs.Machine.Items.{CollectMark}
 use Rattle.run_model.specs.Machine.Entries.{Entry, PlainEntry}

@@ -4,7 +4,8 @@ use Rattle.au_model.specs.Terms.Each.{Each}
 use Rattle.run_model.specs.Machine.Items.{Continuation}
 use Rattle.run_model.specs.Machine.Entries.{Entry, PlainEntry, CatchEntry, FindallEntry, EndEntry}
 use Rattle.tree_model.specs.Credits.{Credit}
-use Rattle.tree_model.specs.Nodes.{Kind, Node, Numbered, Alternatives, none, alternative, Status, Pending, Inner, Closed, Hold, Ready, TakenBy, Waiting, Dormant}
+use Rattle.tree_model.specs.Nodes.{Kind, Node, Numbered, Alternatives, none, alternative, Status, Pending, Inner, Closed, Hold, Ready}
+use Rattle.tree_model.specs.Nodes.{TakenBy, Waiting, Dormant}
 use Rattle.tree_model.specs.Levels.{Level, plug}
 use Rattle.tree_model.specs.Floors.{renamed_continuation}
 use Rattle.tree_model.specs.Orders.{is_node}
@@ -75,7 +76,7 @@ abbrev mutual
   list_among way n kind i none = []
   list_among way n kind i (alternative spent status others) =
       list_below (record { node = n; index = i; kind = kind } ∷ way) spent status
-          ++ (EndOf (i ∷ n ∷ []) ∷ list_among way n kind (suc i) others)
+      ++ (EndOf (i ∷ n ∷ []) ∷ list_among way n kind (suc i) others)
 
   pub list_below : Way → ℕ → Status → List Element
   list_below way spent (Pending hold entry) = own_credit hold spent ++ element_on way entry ∷ []
@@ -91,7 +92,7 @@ abbrev pub list_left : Way → ℕ → Kind → List (ℕ × Status) → List El
 list_left way n kind [] = []
 list_left way n kind (a ∷ left) =
     list_left way n kind left ++ (list_below (record { node = n; index = length left; kind = kind } ∷ way) a.0 a.1 ++ EndOf
-        (length left ∷ n ∷ []) ∷ [])
+    (length left ∷ n ∷ []) ∷ [])
 
 abbrev pub list_right : Way → Level → List Element
 list_right way v = EndOf (length v.left ∷ v.number ∷ []) ∷ list_among way v.number v.kind (suc (length v.left)) v.right

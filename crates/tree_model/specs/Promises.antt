@@ -53,7 +53,7 @@ pub record IsFrontAnswer (t : TreeState) (e : Event) : Type 0 where
 abbrev pub NoPrunedEffect : Type 0
 NoPrunedEffect = (job : Job) (budget window : ℕ) (es : List Event) (e : Event) → IsLegalHistory job budget window (es ++ e ∷ []) →
     (tree_after job budget window (es ++ e ∷ [])).world ≡ (tree_after job budget window es).world ⊎ IsFrontAnswer
-        (tree_after job budget window es) e
+    (tree_after job budget window es) e
 
 -- where nobody has a task, there is one to take
 abbrev pub tasks_out : TreeState → List Task

@@ -1,9 +1,11 @@
 -- How the entries of a private run become nodes: the oldest entries are the further alternatives of the outermost node.
-use Rattle.std.specs.Prelude.{ℕ, suc, ◌+◌, ◌-◌, ◌==◌, ◌&&◌, ◌||◌, Bool, true, false, not, cond, List, [], ◌∷◌, ◌++◌, map, length, take, drop, nat_lt, nat_le}
+use Rattle.std.specs.Prelude.{ℕ, suc, ◌+◌, ◌-◌, ◌==◌, ◌&&◌, ◌||◌, Bool, true, false, not, cond, List, [], ◌∷◌, ◌++◌, map, length, take}
+use Rattle.std.specs.Prelude.{drop, nat_lt, nat_le}
 use Rattle.std.specs.List.{list_any}
 use Rattle.run_model.specs.Machine.Items.{Item, GoalItem, CatchMark, CollectMark, RemovalItem}
 use Rattle.run_model.specs.Machine.Entries.{Entry, PlainEntry, CatchEntry, FindallEntry, EndEntry}
-use Rattle.tree_model.specs.Nodes.{Kind, ChoiceNode, CatchNode, FindallNode, Hold, Ready, Dormant, Numbered, Alternatives, alternative, Status, Pending, Inner, Closed, standing}
+use Rattle.tree_model.specs.Nodes.{Kind, ChoiceNode, CatchNode, FindallNode, Hold, Ready, Dormant, Numbered, Alternatives, alternative}
+use Rattle.tree_model.specs.Nodes.{Status, Pending, Inner, Closed, standing}
 use Rattle.tree_model.specs.Credits.{no_credit}
 use Rattle.tree_model.specs.Levels.{Level}
 use Rattle.tree_model.specs.Floors.{node_of, with_nodes}
@@ -50,7 +52,7 @@ fits low cuts [] es = length es == 1
 fits low cuts (size ∷ sizes) es =
     let rest = length es - further size in
     nat_le 2 size && (nat_lt (further size) (length es) &&
-        (is_alone (drop rest es) && (is_unsplit low size cuts && fits (low + further size) cuts sizes (take rest es))))
+    (is_alone (drop rest es) && (is_unsplit low size cuts && fits (low + further size) cuts sizes (take rest es))))
 
 abbrev pub same_sizes : List ℕ → List ℕ → Bool
 same_sizes [] [] = true
@@ -94,7 +96,7 @@ placed_status next [] (e ∷ es) = Pending Ready e
 placed_status next (size ∷ sizes) es =
     let rest = length es - further size in
     Inner (Numbered next (guard_kind (drop rest es))
-        (alternative 0 (placed_status (suc next) sizes (take rest es)) (further_alternatives (drop rest es))))
+    (alternative 0 (placed_status (suc next) sizes (take rest es)) (further_alternatives (drop rest es))))
 
 abbrev pub placed : ℕ → List ℕ → List Level → List Entry → Status
 placed next sizes levels es = placed_status next sizes (map (with_nodes (placed_scope next sizes levels)) es)

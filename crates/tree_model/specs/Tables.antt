@@ -2,7 +2,8 @@
 use Rattle.std.specs.Prelude.{◌≡◌, ℕ, zero, suc, List, [], ◌∷◌, length, Option, Some, None}
 use Rattle.run_model.specs.Machine.Entries.{Entry}
 use Rattle.tree_model.specs.Credits.{Credit, no_credit}
-use Rattle.tree_model.specs.Nodes.{Kind, ChoiceNode, Hold, Node, Numbered, Alternatives, none, alternative, Status, Pending, Inner, Closed}
+use Rattle.tree_model.specs.Nodes.{Kind, ChoiceNode, Hold, Node, Numbered, Alternatives, none, alternative, Status, Pending, Inner}
+use Rattle.tree_model.specs.Nodes.{Closed}
 use Rattle.tree_model.specs.Levels.{Level, plug, Place, place_at}
 
 pub data Cell : Type 0 where
@@ -54,7 +55,7 @@ tree_of rows (Some n) = Inner (node_below (length rows) rows n)
 abbrev pub SetsAt : Place → ℕ → Status → Status → Status → Type 0
 SetsAt a spent status old new =
     (v : Level) (up : List Level) (was : Status) → old ≡ plug (v ∷ up) was → place_at v ≡ a → new
-        ≡ plug (record v { spent = spent } ∷ up) status
+    ≡ plug (record v { spent = spent } ∷ up) status
 
 -- a new node is at this place
 abbrev pub AddsAt : Place → Node → Status → Status → Type 0

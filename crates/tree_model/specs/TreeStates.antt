@@ -8,7 +8,8 @@ use Rattle.run_model.specs.Programs.Jobs.{Query, Job, own_terms, query_bound}
 use Rattle.run_model.specs.Goals.Worlds.{first_world}
 use Rattle.run_model.specs.Goals.Worlds.{World}
 use Rattle.tree_model.specs.Credits.{no_credit}
-use Rattle.tree_model.specs.Nodes.{QueryNode, Ready, Dormant, Node, Numbered, none, alternative, Status, Pending, Inner, Closed, credits_below, nodes_below}
+use Rattle.tree_model.specs.Nodes.{QueryNode, Ready, Dormant, Node, Numbered, none, alternative, Status, Pending, Inner, Closed}
+use Rattle.tree_model.specs.Nodes.{credits_below, nodes_below}
 use Rattle.tree_model.specs.Levels.{Spot, levels_of, pending_of}
 use Rattle.tree_model.specs.Orders.{clock_of, answers_left}
 use Rattle.tree_model.specs.Pruning.{Task}
@@ -37,7 +38,7 @@ pub record TreeState : Type 0 where
 abbrev pub opened_node : ℕ → Query → Node
 opened_node n q =
     Numbered n QueryNode (alternative 0
-        (Pending Ready (PlainEntry (record { items = goals_at n q.goals; named = own_terms q.names; next = query_bound q })))
+    (Pending Ready (PlainEntry (record { items = goals_at n q.goals; named = own_terms q.names; next = query_bound q })))
     (alternative 0 (Pending Dormant (EndEntry None)) none))
 
 abbrev pub opening_root : List Query → Status
