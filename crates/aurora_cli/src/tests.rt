@@ -331,6 +331,79 @@ static FAULTS: [Bad; 24] = [
     ),
 ];
 
+/// Texts of built-in predicates, which end, and their lines.
+static BUILTINS: [(&'static str, &'static str); 16] = [
+    ("?- X is 2 + 3 * 4 - 10 // 3.", "X = 11\nno\n"),
+    (
+        "?- X is 7 mod -2, Y is -7 // 2, Z is 7 rem -2.",
+        "X = -1, Y = -3, Z = 1\nno\n",
+    ),
+    (
+        "?- X is 9223372036854775807 + 1.",
+        "error: error(evaluation_error(int_overflow),(is)/2)\n",
+    ),
+    (
+        "?- catch(X is 1 // 0, error(E, I), true).",
+        "X = _0, E = evaluation_error(zero_divisor), I = (is)/2\nno\n",
+    ),
+    (
+        "?- X is foo + Y.",
+        "error: error(type_error(evaluable,foo/0),(is)/2)\n",
+    ),
+    ("?- 1 =:= 2 - 1, 1 < 2, \\+ 2 < 1.", "true\nno\n"),
+    (
+        "?- X = f(A, B, A), copy_term(X, Y), Y = f(1, C, D).",
+        "X = f(_1,_2,_1), A = _1, B = _2, Y = f(1,_4,1), C = _4, D = 1\nno\n",
+    ),
+    ("?- compare(O, f(a), 1), a @< b, 1 @< a.", "O = (>)\nno\n"),
+    (
+        "?- functor(f(a, b), N, A), functor(T, g, 2).",
+        "N = f, A = 2, T = g(_3,_4)\nno\n",
+    ),
+    (
+        "?- functor(T, N, 2).",
+        "error: error(instantiation_error,functor/3)\n",
+    ),
+    (
+        "?- arg(2, f(a, b), X), \\+ arg(3, f(a, b), _).",
+        "X = b\nno\n",
+    ),
+    (
+        "?- f(a, b) =.. L, T =.. [g, 1].",
+        "L = [f,a,b], T = g(1)\nno\n",
+    ),
+    (
+        "?- T =.. [f|a].",
+        "error: error(type_error(list,[f|a]),(=..)/2)\n",
+    ),
+    (
+        "?- var(X), atom(a), \\+ ground(f(X)), X \\= f(X).",
+        "X = _0\nno\n",
+    ),
+    (
+        "n(0, 0) :- !. n(N, S) :- M is N - 1, n(M, T), S is T + N. ?- n(1000, S).",
+        "S = 500500\nno\n",
+    ),
+    (
+        "q([], _, _). q([Q|Qs], D, X) :- Q =\\= X, Q - X =\\= D, X - Q =\\= D, E is D + 1, q(Qs, E, X). \
+         s(X, [X|R], R). s(X, [Y|R], [Y|S]) :- s(X, R, S). \
+         p([], []). p(L, [X|Q]) :- s(X, L, R), p(R, Q), q(Q, 1, X). \
+         ?- once(p([1,2,3,4,5,6], Q)).",
+        "Q = [2,4,6,1,3,5]\nno\n",
+    ),
+];
+
+#[test]
+fn builtins(rt: HostRuntime) -> Result<(), Fail> {
+    for (text, lines) in BUILTINS {
+        assert!(rt;
+            ends(&rt, rt.alloc(), text, "1000000", 999, FINISHED, lines)?,
+            "{text}"
+        );
+    }
+    Ok(())
+}
+
 #[test]
 fn control(rt: HostRuntime) -> Result<(), Fail> {
     for (text, budget, ending, lines) in CONTROL {
