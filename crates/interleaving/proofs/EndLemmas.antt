@@ -64,14 +64,14 @@ quiet_no_end (EndOf s ∷ xs) q h = quiet_no_end xs q h
 quiet_no_end (Catch s u c r p f ∷ xs) q h = quiet_no_end xs q h
 quiet_no_end (Findall s u results list p f ∷ xs) q h = q
 
-end_after : (xs ys : List Element) → IsQuiet xs → has_end (xs ++ ys) ≡ true → has_end ys ≡ true
-end_after [] ys q h = h
-end_after (End p b ∷ xs) ys q h = absurd q
-end_after (Credit k rs ∷ xs) ys q h = end_after xs ys q h
-end_after (Plain p f ∷ xs) ys q h = absurd q
-end_after (EndOf s ∷ xs) ys q h = end_after xs ys q h
-end_after (Catch s u c r p f ∷ xs) ys q h = end_after xs ys q h
-end_after (Findall s u results list p f ∷ xs) ys q h = absurd q
+end_past_quiet : (xs ys : List Element) → IsQuiet xs → has_end (xs ++ ys) ≡ true → has_end ys ≡ true
+end_past_quiet [] ys q h = h
+end_past_quiet (End p b ∷ xs) ys q h = absurd q
+end_past_quiet (Credit k rs ∷ xs) ys q h = end_past_quiet xs ys q h
+end_past_quiet (Plain p f ∷ xs) ys q h = absurd q
+end_past_quiet (EndOf s ∷ xs) ys q h = end_past_quiet xs ys q h
+end_past_quiet (Catch s u c r p f ∷ xs) ys q h = end_past_quiet xs ys q h
+end_past_quiet (Findall s u results list p f ∷ xs) ys q h = absurd q
 
 -- the free steps never pass the end of a query
 freed_stays : (clauses : List Clause) (a : Act Shared Element Sought Record) (y : Element) (go : List Record → List Element)
@@ -107,7 +107,7 @@ not_over clauses xs n w e l = go (nat_le (lead xs) n) refl
     h = parted xs
 
     rest_end : has_end h.rest ≡ true
-    rest_end = end_after h.front h.rest h.quiet (subst (λ ys. has_end ys ≡ true) h.joined e)
+    rest_end = end_past_quiet h.front h.rest h.quiet (subst (λ ys. has_end ys ≡ true) h.joined e)
 
     passed : has_ended clauses w xs (inferences h.front) ≡ false
     passed =
