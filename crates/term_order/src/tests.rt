@@ -23,8 +23,8 @@ fn terms(rt: HostRuntime) -> Result<(), Fail> {
     terms.push(a.copy()?)?;
     terms.push(atom(alloc, "ab")?)?;
     terms.push(atom(alloc, "b")?)?;
-    terms.push(atom(alloc, "\u{e9}")?)?;
-    terms.push(atom(alloc, "\u{10000}")?)?;
+    terms.push(single(alloc, Cell::Atom(Atom::new(alloc, "\u{e9}")?))?)?;
+    terms.push(single(alloc, Cell::Atom(Atom::new(alloc, "\u{10000}")?))?)?;
     terms.push(unary(alloc, "f", &one)?)?;
     terms.push(unary(alloc, "f", &a)?)?;
     terms.push(unary(alloc, "g", &one)?)?;
