@@ -24,6 +24,7 @@ use Rattle.term_reader.specs.declared.primary.Source.{Source}
 use Rattle.term_reader.specs.declared.state.State.{State}
 use Rattle.term_reader.specs.declared.state.Frame.{Frame}
 use Rattle.term_reader.specs.declared.state.Frame.TheVariants as frame
+use Rattle.term_reader.proofs.ReaderStepLemmas.{after_bracket}
 use Rattle.term_reader.specs.declared.steps.Step.TheVariants.{Continue}
 use Rattle.term_reader.proofs.FirstTokenLemmas.{tokens-first}
 use Rattle.term_reader.specs.Refusals.{HasAllArguments}
@@ -95,11 +96,11 @@ module _ (source : Source) (st : State) (f : Frame) (k : List stack.OpenFrame) (
 -- a bracket is closed
 pub closed : (source : Source) (old new : State) (f : Frame) (k below : List stack.OpenFrame) (l tree : Tree) (p : ℕ) (c : Closer) (end : ℕ) → map frame_meant new.frames.items ≡ shapes_up below
     → IsOutputOf new.output (emit_tree (emitted_stack below) tree) → IsWithinBounds below → new.at ≡ end
-    → LeadsTo (setting_of source) source.text.now (AfterOperand k l p) old.at (AfterOperand below tree 0) end false → IsStepOutcome (setting_of source) source.text.now (AfterOperand k l p) old.at new (Continue (Some 0) false)
+    → LeadsTo (setting_of source) source.text.now (AfterOperand k l p) old.at (AfterOperand below tree 0) end false → IsStepOutcome (setting_of source) source.text.now (AfterOperand k l p) old.at new (Continue after_bracket)
 closed source old new f k below l tree p c end shapes output bounds at leads = record {
   new = AfterOperand below tree 0;
   at_position = record { shapes = shapes; output = output; bounds = bounds; low = omega arith };
-  phase_is = refl;
+  expected_is = refl;
   leads = subst (λ n. LeadsTo (setting_of source) source.text.now (AfterOperand k l p) old.at (AfterOperand below tree 0) n false) (sym at) leads;
 }
 

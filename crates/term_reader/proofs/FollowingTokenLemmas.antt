@@ -11,8 +11,8 @@ use Rattle.au_model.specs.Syntax.Primaries.{Leaf, Listed, Curly, Call, has_direc
 use Rattle.token_scan.specs.ScannedParts.{IsPlaceFrom}
 use Rattle.term_reader.specs.declared.lexeme.Lexeme.{Lexeme as DeclaredLexeme}
 use Rattle.term_reader.specs.declared.lexeme.Lexeme.TheVariants as lex
-use Rattle.term_reader.specs.declared.lexeme.Follow.{Follow}
-use Rattle.term_reader.specs.declared.lexeme.Follow.TheVariants.{OpenRound, Unsigned, ClosesList, ClosesCurly, Other}
+use Rattle.term_reader.specs.declared.lookahead.Follow.{Follow}
+use Rattle.term_reader.specs.declared.lookahead.Follow.TheVariants.{OpenRound, Unsigned, ClosesList, ClosesCurly, Other}
 use Rattle.term_reader.specs.LexemeView.{lexeme_meant, IsNarrow}
 use Rattle.term_reader.specs.FollowingToken.{follow_of, NoneOfFourFollows, IsPlaceAfterTokens, IsFollowingAt}
 use Rattle.term_reader.specs.PrimaryView.{is_operator_between, PrimaryEndsFrom}

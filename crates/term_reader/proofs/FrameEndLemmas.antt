@@ -28,6 +28,7 @@ use Rattle.term_reader.specs.declared.state.State.{State}
 use Rattle.term_reader.specs.declared.state.Frame.{Frame}
 use Rattle.term_reader.specs.declared.state.Frame.TheVariants as frame
 use Rattle.term_reader.specs.declared.steps.Step.{Step}
+use Rattle.term_reader.proofs.ReaderStepLemmas.{after_bracket}
 use Rattle.term_reader.specs.declared.steps.Step.TheVariants.{Continue, Accept}
 use Rattle.term_reader.proofs.ClosingTokenLemmas.{Top, closed, leads, never, round-frame, curly-frame, item-frame, tail-frame, argument-frame, not-round, not-curly, not-item, not-tail, not-argument, not-more, is-close, is-close_list, is-close_curly, is-comma, is-bar, not-over, emit-list, emit-compound}
 use Rattle.term_reader.proofs.ReaderStepLemmas.{pushed, first-post_operator}
@@ -47,9 +48,9 @@ module _ (source : Source) (st new : State) (k : List stack.OpenFrame) (l : Tree
 
   -- ---- round and curly brackets
 
-  pub round-closes : IsFrameClosing source st frame.Round k l p c end → c ≡ closer.Close → new.frames.items ≡ st.frames.items → new.at ≡ end → IsOutputOf new.output (emit_tree (emitted_stack k) l) → Comes k (Continue (Some 0) false)
+  pub round-closes : IsFrameClosing source st frame.Round k l p c end → c ≡ closer.Close → new.frames.items ≡ st.frames.items → new.at ≡ end → IsOutputOf new.output (emit_tree (emitted_stack k) l) → Comes k (Continue after_bracket)
   round-closes h e fr at output =
-      by-top (λ m. IsFrameClosing source st frame.Round m l p c end → IsOutputOf new.output (emit_tree (emitted_stack m) l) → Comes m (Continue (Some 0) false)) st.frames.items k stack.Round (round-frame st.frames.items k h.shapes)
+      by-top (λ m. IsFrameClosing source st frame.Round m l p c end → IsOutputOf new.output (emit_tree (emitted_stack m) l) → Comes m (Continue after_bracket)) st.frames.items k stack.Round (round-frame st.frames.items k h.shapes)
       (λ below rest i s. closed source st new frame.Round (stack.Round ∷ below) below l l p c end (ap (map frame_meant) fr ∙ rest) s i.bounds at
       (leads source st frame.Round (stack.Round ∷ below) l p c end i words.Close (is-close i.lexeme (sym i.closer ∙ e)) refl (AfterOperand below l 0) (λ vs goal q. out_round (setting_of source) q) (λ vs goal g. round g) (λ start read n. nests-closed (setting_of source) source.text.now start below words.Open words.Close i.apart read tt tt n.0 n.2))) h output
 
@@ -59,9 +60,9 @@ module _ (source : Source) (st new : State) (k : List stack.OpenFrame) (l : Tree
       (λ below rest i. never source st frame.Round (stack.Round ∷ below) l p c end i (λ goal us. not-round (setting_of source) below i.apart i.lexeme us l goal (λ e. n (i.closer ∙ e)))) h
 
   pub curly-closes : (name : List ℕ) → name ≡ braces_name → IsFrameClosing source st frame.Curly k l p c end → c ≡ closer.CloseCurly → new.frames.items ≡ st.frames.items → new.at ≡ end
-      → IsOutputOf new.output (emit_cell (emit_tree (emitted_stack k) l) (Functor name 1)) → Comes k (Continue (Some 0) false)
+      → IsOutputOf new.output (emit_cell (emit_tree (emitted_stack k) l) (Functor name 1)) → Comes k (Continue after_bracket)
   curly-closes name same h e fr at output =
-      by-top (λ m. IsFrameClosing source st frame.Curly m l p c end → IsOutputOf new.output (emit_cell (emit_tree (emitted_stack m) l) (Functor name 1)) → Comes m (Continue (Some 0) false)) st.frames.items k stack.Braces (curly-frame st.frames.items k h.shapes)
+      by-top (λ m. IsFrameClosing source st frame.Curly m l p c end → IsOutputOf new.output (emit_cell (emit_tree (emitted_stack m) l) (Functor name 1)) → Comes m (Continue after_bracket)) st.frames.items k stack.Braces (curly-frame st.frames.items k h.shapes)
       (λ below rest i s. closed source st new frame.Curly (stack.Braces ∷ below) below l (one braces_name l) p c end (ap (map frame_meant) fr ∙ rest) (subst (λ n. IsOutputOf new.output (emit_cell (emit_tree (emitted_stack below) l) (Functor n 1))) same s) i.bounds at
       (leads source st frame.Curly (stack.Braces ∷ below) l p c end i words.CloseCurly (is-close_curly i.lexeme (sym i.closer ∙ e)) refl (AfterOperand below (one braces_name l) 0) (λ vs goal q. out_braces (setting_of source) q) (λ vs goal g. braced g) (λ start read n. nests-closed (setting_of source) source.text.now start below words.OpenCurly words.CloseCurly i.apart read tt tt n.0 n.1))) h output
 
@@ -73,11 +74,11 @@ module _ (source : Source) (st new : State) (k : List stack.OpenFrame) (l : Tree
   -- ---- lists
 
   pub list-closes : (n : ℕ) → IsFrameClosing source st (frame.Item n) k l p c end → c ≡ closer.CloseList → new.frames.items ≡ st.frames.items → new.at ≡ end
-      → IsOutputOf new.output (emit_lists (n + 1) (emit_tree (emit_tree (emitted_stack k) l) (AtomTree nil_name))) → Comes k (Continue (Some 0) false)
+      → IsOutputOf new.output (emit_lists (n + 1) (emit_tree (emit_tree (emitted_stack k) l) (AtomTree nil_name))) → Comes k (Continue after_bracket)
   list-closes n h e fr at output =
       let t = item-frame st.frames.items k n h.shapes in
       let ts = t.0 in
-      by-top (λ m. IsFrameClosing source st (frame.Item n) m l p c end → IsOutputOf new.output (emit_lists (n + 1) (emit_tree (emit_tree (emitted_stack m) l) (AtomTree nil_name))) → Comes m (Continue (Some 0) false)) st.frames.items k (stack.ItemOf ts) t.2
+      by-top (λ m. IsFrameClosing source st (frame.Item n) m l p c end → IsOutputOf new.output (emit_lists (n + 1) (emit_tree (emit_tree (emitted_stack m) l) (AtomTree nil_name))) → Comes m (Continue after_bracket)) st.frames.items k (stack.ItemOf ts) t.2
       (λ below rest i s.
       let number : n + 1 ≡ length (l ∷ ts) = omega (arith, t.1) in
       let sheets = ap (λ q. emit_lists q (emit_tree (emit_tree (emitted_before (emitted_stack below) ts) l) (AtomTree nil_name))) number ∙ emit-list (emitted_stack below) (l ∷ ts) (AtomTree nil_name) in
@@ -85,11 +86,11 @@ module _ (source : Source) (st new : State) (k : List stack.OpenFrame) (l : Tree
       (leads source st (frame.Item n) (stack.ItemOf ts ∷ below) l p c end i words.CloseList (is-close_list i.lexeme (sym i.closer ∙ e)) refl (AfterOperand below (list_of (l ∷ ts) (AtomTree nil_name)) 0) (λ vs goal q. out_last (setting_of source) q) (λ vs goal g. last g) (λ start read n. nests-closed (setting_of source) source.text.now start below words.OpenList words.CloseList i.apart read tt tt n.0 n.1))) h output
 
   pub tail-closes : (n : ℕ) → IsFrameClosing source st (frame.Tail n) k l p c end → c ≡ closer.CloseList → new.frames.items ≡ st.frames.items → new.at ≡ end
-      → IsOutputOf new.output (emit_lists n (emit_tree (emitted_stack k) l)) → Comes k (Continue (Some 0) false)
+      → IsOutputOf new.output (emit_lists n (emit_tree (emitted_stack k) l)) → Comes k (Continue after_bracket)
   tail-closes n h e fr at output =
       let t = tail-frame st.frames.items k n h.shapes in
       let ts = t.0 in
-      by-top (λ m. IsFrameClosing source st (frame.Tail n) m l p c end → IsOutputOf new.output (emit_lists n (emit_tree (emitted_stack m) l)) → Comes m (Continue (Some 0) false)) st.frames.items k (stack.TailOf ts) t.2
+      by-top (λ m. IsFrameClosing source st (frame.Tail n) m l p c end → IsOutputOf new.output (emit_lists n (emit_tree (emitted_stack m) l)) → Comes m (Continue after_bracket)) st.frames.items k (stack.TailOf ts) t.2
       (λ below rest i s.
       let sheets = ap (λ q. emit_lists q (emit_tree (emitted_before (emitted_stack below) ts) l)) (sym t.1) ∙ emit-list (emitted_stack below) ts l in
       closed source st new (frame.Tail n) (stack.TailOf ts ∷ below) below l (list_of ts l) p c end (ap (map frame_meant) fr ∙ rest) (subst (λ x. IsOutputOf new.output x) sheets s) i.bounds at
@@ -131,11 +132,11 @@ module _ (source : Source) (st new : State) (k : List stack.OpenFrame) (l : Tree
   -- ---- arguments
 
   pub compound-closes : (m : List ℕ) (n place : ℕ) → IsFrameClosing source st (frame.Argument m n place) k l p c end → c ≡ closer.Close → new.frames.items ≡ st.frames.items → new.at ≡ end
-      → IsOutputOf new.output (emit_cell (emit_tree (emitted_stack k) l) (Functor m (n + 1))) → Comes k (Continue (Some 0) false)
+      → IsOutputOf new.output (emit_cell (emit_tree (emitted_stack k) l) (Functor m (n + 1))) → Comes k (Continue after_bracket)
   compound-closes m n place h e fr at output =
       let t = argument-frame st.frames.items k m n place h.shapes in
       let ts = t.0 in
-      by-top (λ q. IsFrameClosing source st (frame.Argument m n place) q l p c end → IsOutputOf new.output (emit_cell (emit_tree (emitted_stack q) l) (Functor m (n + 1))) → Comes q (Continue (Some 0) false)) st.frames.items k (stack.ArgumentOf m place ts) t.2
+      by-top (λ q. IsFrameClosing source st (frame.Argument m n place) q l p c end → IsOutputOf new.output (emit_cell (emit_tree (emitted_stack q) l) (Functor m (n + 1))) → Comes q (Continue after_bracket)) st.frames.items k (stack.ArgumentOf m place ts) t.2
       (λ below rest i s.
       closed source st new (frame.Argument m n place) (stack.ArgumentOf m place ts ∷ below) below l (CompoundTree m (trees_of (l ∷ ts) no_trees)) p c end (ap (map frame_meant) fr ∙ rest)
       (subst (λ x. IsOutputOf new.output x) (emit-compound (emitted_stack below) m ts l n (sym t.1)) s) i.bounds.1 at

@@ -17,6 +17,7 @@ use Rattle.au_model.specs.Syntax.TextFaults.{BeginsTerm, Past, IsOneTooMany, too
 use Rattle.term_reader.specs.Refusals.{IsNotAccepted, IsReadBelow, IsFirstFault, RefusesFirstFault, is_named_post_operator}
 use Rattle.term_reader.specs.declared.primary.Source.{Source}
 use Rattle.term_reader.specs.declared.steps.Step.{Step}
+use Rattle.term_reader.specs.declared.state.Expected.{Expected}
 use Rattle.term_reader.specs.declared.steps.Step.TheVariants.{Continue}
 use Rattle.term_reader.proofs.CompletionLemmas.{closing, closes}
 use Rattle.term_reader.proofs.FirstTokenLemmas.{First, tokens-first}
@@ -114,5 +115,5 @@ module _ (source : Source) (start at end : ℕ) (may_take_operand a : Bool) (x :
           (subst (λ us. IsOneTooMany s us (length h.read_to.read) (length nests.2.first) name) (sym tokens) one-too-many) (ap after_layout (scans-first nests.2.scans) ∙ nests.2.layout);
     }
 
-pub on-well : (s : Setting) (text : List ℕ) (start : ℕ) (o : Option ℕ) (d : Bool) (t : Step) → t ≡ Continue o d → RefusesFirstFault s text start t
-on-well s text start o d t e = subst (RefusesFirstFault s text start) (sym e) tt
+pub on-well : (s : Setting) (text : List ℕ) (start : ℕ) (x : Expected) (t : Step) → t ≡ Continue x → RefusesFirstFault s text start t
+on-well s text start x t e = subst (RefusesFirstFault s text start) (sym e) tt

@@ -6,6 +6,7 @@ pub mod TokenSequenceLemmas
 pub mod FirstTokenLemmas
 pub mod ScannedTokenLemmas
 pub mod FollowingTokenLemmas
+pub mod AheadLemmas
 pub mod LexemeLemmas
 pub mod PostorderLemmas
 pub mod TermOutputLemmas

@@ -35,6 +35,11 @@ use Rattle.term_reader.specs.declared.primary.Primary.TheVariants as kind
 use Rattle.term_reader.specs.declared.state.State.{State}
 use Rattle.term_reader.specs.declared.state.Frame.{Frame}
 use Rattle.term_reader.specs.declared.steps.Step.{Step}
+use Rattle.term_reader.specs.Expectations.{may_take_operand}
+use Rattle.term_reader.specs.declared.state.Expected.{Expected}
+use Rattle.term_reader.specs.declared.state.Expected.TheVariants.{Operand, Operator as ExpectsOperator}
+use Rattle.term_reader.specs.declared.state.LastOperand.{LastOperand}
+use Rattle.term_reader.specs.declared.state.LastOperand.TheVariants.{Whole}
 use Rattle.term_reader.specs.declared.steps.Step.TheVariants.{Continue, Accept, Refused}
 use Rattle.term_reader.proofs.FirstTokenLemmas.{tokens-none, tokens-more, tokens-end, tokens-first}
 use Rattle.term_reader.proofs.OperatorReductionLemmas.{shapes-push}
@@ -81,28 +86,31 @@ starts source at end a x o e p h q m =
 
 -- ---- what the steps do to the state
 
-pub moved : (text : List ℕ) (at end : ℕ) (new : State) (o : Option ℕ) (d : Bool) (t : Step) → t ≡ Continue o d → new.at ≡ end → IsPlaceFrom text (suc at) end → MovesForward text at new t
-moved text at end new o d t e f p = subst (λ u. MovesForward text at new u) (sym e) (subst (λ n. IsPlaceFrom text (suc at) n) (sym f) p)
+abbrev pub after_bracket : Expected
+after_bracket = ExpectsOperator 0 Whole
+
+pub moved : (text : List ℕ) (at end : ℕ) (new : State) (x : Expected) (t : Step) → t ≡ Continue x → new.at ≡ end → IsPlaceFrom text (suc at) end → MovesForward text at new t
+moved text at end new x t e f p = subst (λ u. MovesForward text at new u) (sym e) (subst (λ n. IsPlaceFrom text (suc at) n) (sym f) p)
 
 pub pushed : (s : Setting) (text : List ℕ) (x : Position) (at : ℕ) (old new : State) (f : Frame) (g : stack.OpenFrame) (k : List stack.OpenFrame) (end : ℕ) (t : Step) → IsFramePushed old f end new t
     → map frame_meant old.frames.items ≡ shapes_up k → frame_meant f ≡ shape_of g → IsOutputOf old.output (emitted_stack (g ∷ k)) → IsWithinBounds (g ∷ k) → LeadsTo s text x at (ExpectsOperand (g ∷ k)) end false → IsStepOutcome s text x at new t
 pushed s text x at old new f g k end t h shapes same output bounds leads =
-    let w : IsStepOutcome s text x at new (Continue None false) = record {
+    let w : IsStepOutcome s text x at new (Continue Operand) = record {
       new = ExpectsOperand (g ∷ k);
       at_position = record { shapes = ap (map frame_meant) h.frames ∙ shapes-push old.frames.items f k g shapes same; output = subst (λ d. IsOutputOf d (emitted_stack (g ∷ k))) (sym h.output) output; bounds = bounds; low = tt };
-      phase_is = refl;
+      expected_is = refl;
       leads = subst (λ n. LeadsTo s text x at (ExpectsOperand (g ∷ k)) n false) (sym h.at) leads;
     } in
     subst (λ u. IsStepOutcome s text x at new u) (sym h.step) w
 
-pub emit-down : (s : Setting) (text : List ℕ) (k : List stack.OpenFrame) (at : ℕ) (old new : State) (tree : Tree) (end : ℕ) (d : Bool) (t : Step) → IsOperandEmitted old tree end d new t → IsAtPosition old (ExpectsOperand k)
-    → LeadsTo s text (ExpectsOperand k) at (AfterOperand k tree 0) end d → IsStepOutcome s text (ExpectsOperand k) at new t
-emit-down s text k at old new tree end d t h st leads =
-    let w : IsStepOutcome s text (ExpectsOperand k) at new (Continue (Some 0) d) = record {
+pub emit-down : (s : Setting) (text : List ℕ) (k : List stack.OpenFrame) (at : ℕ) (old new : State) (tree : Tree) (end : ℕ) (last : LastOperand) (t : Step) → IsOperandEmitted old tree end last new t → IsAtPosition old (ExpectsOperand k)
+    → LeadsTo s text (ExpectsOperand k) at (AfterOperand k tree 0) end (may_take_operand last) → IsStepOutcome s text (ExpectsOperand k) at new t
+emit-down s text k at old new tree end last t h st leads =
+    let w : IsStepOutcome s text (ExpectsOperand k) at new (Continue (ExpectsOperator 0 last)) = record {
       new = AfterOperand k tree 0;
       at_position = record { shapes = ap (map frame_meant) h.frames ∙ st.shapes; output = h.output (emitted_stack k) st.output; bounds = st.bounds; low = omega arith };
-      phase_is = refl;
-      leads = subst (λ n. LeadsTo s text (ExpectsOperand k) at (AfterOperand k tree 0) n d) (sym h.at) leads;
+      expected_is = refl;
+      leads = subst (λ n. LeadsTo s text (ExpectsOperand k) at (AfterOperand k tree 0) n (may_take_operand last)) (sym h.at) leads;
     } in
     subst (λ u. IsStepOutcome s text (ExpectsOperand k) at new u) (sym h.step) w
 
@@ -320,13 +328,13 @@ post_operator-of-first ops ts us over vs t j e h = sym (ap (first_post_operator 
 
 pub outcome-same : (s : Setting) (text : List ℕ) (j : PostOperator) (k m : List stack.OpenFrame) (l u : Tree) (p q at : ℕ) (st : State) (t : Step) → ReadSame s j k l p m u q → NestSame s k m → first_post_operator s.ops (tokens_of (chars_from text at)) ≡ j
     → IsStepOutcome s text (AfterOperand m u q) at st t → IsStepOutcome s text (AfterOperand k l p) at st t
-outcome-same s text j k m l u p q at st (Continue phase may_take_operand) same nests e w =
+outcome-same s text j k m l u p q at st (Continue expected) same nests e w =
     let b = w.leads in
     let first : (vs : List Token) → first_post_operator s.ops (b.first ∷ b.over ++ vs) ≡ j = λ vs. post_operator-of-first s.ops (tokens_of (chars_from text at)) (tokens_of (chars_from text st.at)) b.over vs b.first j (scans-tokens b.scans) e in
     record {
       new = w.new;
       at_position = w.at_position;
-      phase_is = w.phase_is;
+      expected_is = w.expected_is;
       leads = record {
         first = b.first;
         over = b.over;

@@ -1,15 +1,18 @@
 -- What matters of a token that follows another.
-use Rattle.std.specs.Prelude.{◌≡◌, ◌≤◌, ◌^◌, ℕ, Bool, false, List, ◌∷◌, if◌then◌else◌}
+use Rattle.std.specs.Prelude.{◌≡◌, ◌≤◌, ◌^◌, ℕ, Bool, false, List, ◌∷◌, Option, Some, None, if◌then◌else◌}
 use Rattle.au_model.specs.Syntax.Characters.{chars_from}
 use Rattle.au_model.specs.Syntax.Tokens as words
-use Rattle.au_model.specs.Syntax.Tokens.{Token, token, tokens_of}
+use Rattle.au_model.specs.Syntax.Tokens.{Token, token, tokens_of, scanned, ScannedNone}
 use Rattle.au_model.specs.Syntax.Primaries.{Listed, Curly, has_direct_open, has_direct_integer, list_primary, curly_primary}
+use Rattle.token_scan.specs.NextToken.{IsNextToken}
 use Rattle.token_scan.specs.ScannedParts.{IsPlaceFrom}
+use Rattle.token_scan.specs.declared.token.Token.{Token as Ahead}
+use Rattle.token_scan.specs.declared.token.TokenKind.TheVariants.{EndOfText}
 use Rattle.term_reader.specs.Lookahead.{Scans}
 use Rattle.term_reader.specs.declared.lexeme.Closer.{Closer}
 use Rattle.term_reader.specs.declared.lexeme.Closer.TheVariants as closer
-use Rattle.term_reader.specs.declared.lexeme.Follow.{Follow}
-use Rattle.term_reader.specs.declared.lexeme.Follow.TheVariants.{OpenRound, Unsigned, ClosesList, ClosesCurly, Other}
+use Rattle.term_reader.specs.declared.lookahead.Follow.{Follow}
+use Rattle.term_reader.specs.declared.lookahead.Follow.TheVariants.{OpenRound, Unsigned, ClosesList, ClosesCurly, Other}
 
 abbrev pub follow_of : Bool → words.Lexeme → ℕ → Follow
 follow_of apart words.Open end = if apart then Other else OpenRound end
@@ -26,6 +29,11 @@ closer_of words.Comma = closer.Comma
 closer_of words.Bar = closer.Bar
 closer_of words.End = closer.End
 closer_of _ = closer.Other
+
+-- the token at a place, seen ahead; none at the end of the text or where the token is faulty
+abbrev pub IsAhead : List ℕ → ℕ → Option Ahead → Type 0
+IsAhead text at None = scanned (chars_from text at) ≡ ScannedNone
+IsAhead text at (Some t) = IsNextToken text at t × (t.kind ≡ EndOfText → ⊥)
 
 -- none of the four is in front
 pub record NoneOfFourFollows (ts : List Token) : Type 0 where

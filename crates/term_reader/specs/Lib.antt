@@ -11,6 +11,7 @@ pub mod Brackets
 pub mod FrameShapes
 pub mod Lookahead
 pub mod Nesting
+pub mod Expectations
 pub mod Positions
 pub mod OperatorReductions
 pub mod ReaderSteps

@@ -11,6 +11,8 @@ use Rattle.term_reader.specs.Nesting.{NestsIn}
 use Rattle.term_reader.specs.TermOutput.{TermOutput, no_cells, emit_tree}
 use Rattle.term_reader.specs.OutputView.{IsOutputOf}
 use Rattle.term_reader.specs.FrameShapes.{frame_meant, shapes_up, emitted_stack, IsWithinBounds}
+use Rattle.term_reader.specs.Expectations.{expected_after, last_may_take}
+use Rattle.term_reader.specs.declared.state.Expected.{Expected}
 use Rattle.term_reader.specs.declared.state.State.{State}
 use Rattle.term_reader.specs.declared.steps.Step.{Step}
 use Rattle.term_reader.specs.declared.steps.Step.TheVariants.{Continue, Accept, Refused}
@@ -89,11 +91,11 @@ pub record LeadsTo (s : Setting) (text : List ℕ) (old : Position) (at : ℕ) (
   pub back : (vs : List Token) (goal : Tree) → is_as_expected s.ops look vs ≡ true → Completes s new vs goal → Completes s old (first ∷ over ++ vs) goal
   pub step : IsStepFrom s text at old new first over (tokens_of (chars_from text end)) look may_take_operand
 
-pub record HasMoved (s : Setting) (text : List ℕ) (old : Position) (at : ℕ) (st : State) (phase : Option ℕ) (may_take_operand : Bool) : Type 0 where
+pub record HasMoved (s : Setting) (text : List ℕ) (old : Position) (at : ℕ) (st : State) (expected : Expected) : Type 0 where
   pub new : Position
   pub at_position : IsAtPosition st new
-  pub phase_is : phase ≡ priority_of_operand new
-  pub leads : LeadsTo s text old at new st.at may_take_operand
+  pub expected_is : expected_after expected ≡ priority_of_operand new
+  pub leads : LeadsTo s text old at new st.at (last_may_take expected)
 
 -- where a prefix operator was read that stands for itself
 pub record PrefixAtomBefore (s : Setting) (read : List Token) (sign may_take_operand : Bool) : Type 0 where
@@ -131,12 +133,12 @@ pub record HasEnded (s : Setting) (text : List ℕ) (old : Position) (at : ℕ) 
   pub rest : rest_at text at ≡ chars_from text end
 
 abbrev pub IsStepOutcome : Setting → List ℕ → Position → ℕ → State → Step → Type 0
-IsStepOutcome s text old at st (Continue phase may_take_operand) = HasMoved s text old at st phase may_take_operand
+IsStepOutcome s text old at st (Continue expected) = HasMoved s text old at st expected
 IsStepOutcome s text old at st (Accept end) = HasEnded s text old at st end
 IsStepOutcome s text old at st (Refused r) = (goal : Tree) → Completes s old (tokens_of (chars_from text at)) goal → ⊥
 
 -- the place moved on
 abbrev pub MovesForward : List ℕ → ℕ → State → Step → Type 0
-MovesForward text at st (Continue phase may_take_operand) = IsPlaceFrom text (suc at) st.at
+MovesForward text at st (Continue expected) = IsPlaceFrom text (suc at) st.at
 MovesForward text at st (Accept end) = IsPlaceFrom text (suc at) end
 MovesForward text at st (Refused r) = Unit {0}

@@ -1,5 +1,5 @@
 -- What the beginning of a term that was found stands for.
-use Rattle.std.specs.Prelude.{◌≡◌, ℕ, Bool, not, ◌&&◌, List, Some, None}
+use Rattle.std.specs.Prelude.{◌≡◌, ℕ, Bool, true, false, not, ◌&&◌, List, Some, None}
 use Rattle.au_model.specs.Syntax.Characters.{chars_from}
 use Rattle.au_model.specs.Syntax.Tokens as words
 use Rattle.au_model.specs.Syntax.Tokens.{Token, tokens_of}
@@ -23,6 +23,15 @@ setting_of s = record { ops = s.ops.now; quotes = s.quotes }
 -- a name is an operator between its neighbours
 abbrev pub is_operator_between : OperatorTable → List ℕ → Bool → List Token → Bool
 is_operator_between ops n is_sign ts = is_post_operator (named_post_operator ops n) && (not (is_some_operator (prefix_of ops n)) && (not (has_direct_open ts) && not (is_sign && has_direct_integer ts)))
+
+-- a bracket, the comma or the bar, after which nothing of the operand comes
+abbrev pub is_ending_mark : words.Lexeme → Bool
+is_ending_mark words.Close = true
+is_ending_mark words.CloseList = true
+is_ending_mark words.CloseCurly = true
+is_ending_mark words.Comma = true
+is_ending_mark words.Bar = true
+is_ending_mark _ = false
 
 abbrev pub leaf_tree : DoubleQuotes → Leaf → Tree
 leaf_tree quotes (leaf.Variable n) = VarTree n

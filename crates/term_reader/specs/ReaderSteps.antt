@@ -18,6 +18,8 @@ use Rattle.term_reader.specs.declared.lexeme.Closer.{Closer}
 use Rattle.term_reader.specs.declared.primary.Source.{Source}
 use Rattle.term_reader.specs.declared.primary.Primary.{Primary}
 use Rattle.term_reader.specs.declared.primary.Primary.TheVariants as kind
+use Rattle.term_reader.specs.declared.state.Expected.TheVariants.{Operand, Operator}
+use Rattle.term_reader.specs.declared.state.LastOperand.{LastOperand}
 use Rattle.term_reader.specs.declared.state.State.{State}
 use Rattle.term_reader.specs.declared.state.Frame.{Frame}
 use Rattle.term_reader.specs.declared.steps.Step.{Step}
@@ -55,14 +57,14 @@ pub record IsFramePushed (old : State) (f : Frame) (end : ℕ) (new : State) (t 
   pub frames : new.frames.items ≡ old.frames.items ++ f ∷ []
   pub output : new.output ≡ old.output
   pub at : new.at ≡ end
-  pub step : t ≡ Continue None false
+  pub step : t ≡ Continue Operand
 
 -- an operand was put
-pub record IsOperandEmitted (old : State) (tree : Tree) (end : ℕ) (may_take_operand : Bool) (new : State) (t : Step) : Type 0 where
+pub record IsOperandEmitted (old : State) (tree : Tree) (end : ℕ) (last : LastOperand) (new : State) (t : Step) : Type 0 where
   pub frames : new.frames.items ≡ old.frames.items
   pub output : (s : TermOutput) → IsOutputOf old.output s → IsOutputOf new.output (emit_tree s tree)
   pub at : new.at ≡ end
-  pub step : t ≡ Continue (Some 0) may_take_operand
+  pub step : t ≡ Continue (Operator 0 last)
 
 -- A frame was taken off, of a stack without operators on its top, after an operand that does not go on with the
 -- token that is there.

@@ -5,6 +5,7 @@ use Rattle.au_model.specs.Syntax.Tokens.{scanned, token, ScannedTo}
 use Rattle.au_model.specs.Syntax.PostOperators.{post_operator_fits, lexeme_post_operator}
 use Rattle.au_model.specs.Syntax.Trees.{Tree}
 use Rattle.term_reader.specs.Completion.{OpenFrame, bound_of}
+use Rattle.term_reader.specs.Expectations.{expected_after, last_may_take, may_take_operand}
 use Rattle.term_reader.specs.LexemeView.{lexeme_meant, IsStart}
 use Rattle.term_reader.specs.Positions.{Position, ExpectsOperand, AfterOperand, IsAtPosition, HasReadTo, IsStepOutcome, MovesForward, priority_of_operand}
 use Rattle.term_reader.specs.PrimaryView.{setting_of}
@@ -15,7 +16,9 @@ use Rattle.term_reader.specs.declared.lexeme.Closer.{Closer}
 use Rattle.term_reader.specs.declared.lexeme.Placed.{Placed}
 use Rattle.term_reader.specs.declared.primary.Source.{Source}
 use Rattle.term_reader.specs.declared.refusal.Refused.{Refused}
+use Rattle.term_reader.specs.declared.state.Expected.{Expected}
 use Rattle.term_reader.specs.declared.state.Frame.{Frame}
+use Rattle.term_reader.specs.declared.state.LastOperand.{LastOperand}
 use Rattle.term_reader.specs.declared.state.State.{State}
 use Rattle.term_reader.specs.declared.steps.Step.{Step}
 
@@ -73,10 +76,10 @@ WhereReadExpecting source old P =
     (first : ℕ) (may_take_operand : Bool) (k : List OpenFrame) → IsAtPosition old (ExpectsOperand k)
     → HasRead source first (ExpectsOperand k) old may_take_operand → P first
 
-abbrev pub WhereReadAfter : Source → State → ℕ → Bool → (ℕ → Type 0) → Type 0
-WhereReadAfter source old priority may_take_operand P =
+abbrev pub WhereReadAfter : Source → State → ℕ → LastOperand → (ℕ → Type 0) → Type 0
+WhereReadAfter source old priority last P =
     (first : ℕ) (k : List OpenFrame) (l : Tree) → IsAtPosition old (AfterOperand k l priority)
-    → HasRead source first (AfterOperand k l priority) old may_take_operand → P first
+    → HasRead source first (AfterOperand k l priority) old (may_take_operand last) → P first
 
 -- after an operand with which neither an operator nor the token found goes on
 abbrev pub WhereEnding : Source → State → Placed → (List OpenFrame → Tree → ℕ → Type 0) → Type 0
@@ -84,20 +87,21 @@ WhereEnding source old found P =
     (k : List OpenFrame) (l : Tree) (p : ℕ) → IsAtPosition old (AfterOperand k l p) → HasNoOperatorOnTop k → IsNotContinued source found k p → P k l p
 
 -- what was read from a place on is read below operators that were put over their operands
-abbrev pub IsReadUpTo : Source → ℕ → State → Bool → Placed → List OpenFrame → Tree → ℕ → Type 0
-IsReadUpTo source first old may_take_operand found k l p =
-    IsReadBelow source first old.at may_take_operand (token found.apart (lexeme_meant found.lexeme)) k l p
+abbrev pub IsReadUpTo : Source → ℕ → State → LastOperand → Placed → List OpenFrame → Tree → ℕ → Type 0
+IsReadUpTo source first old last found k l p =
+    IsReadBelow source first old.at (may_take_operand last) (token found.apart (lexeme_meant found.lexeme)) k l p
 
 -- there, with all that was read from some place on
-abbrev pub WhereReadEnding : Source → State → Bool → Placed → (ℕ → Type 0) → Type 0
-WhereReadEnding source old may_take_operand found P =
+abbrev pub WhereReadEnding : Source → State → LastOperand → Placed → (ℕ → Type 0) → Type 0
+WhereReadEnding source old last found P =
     (first : ℕ) (k : List OpenFrame) (l : Tree) (p : ℕ) → IsAtPosition old (AfterOperand k l p) → HasNoOperatorOnTop k
-    → IsNotContinued source found k p → IsReadUpTo source first old may_take_operand found k l p → P first
+    → IsNotContinued source found k p → IsReadUpTo source first old last found k l p → P first
 
 -- at a position whose operand has this priority, or that expects one, with all that was read from some place on
-abbrev pub WhereReadAt : Source → State → Option ℕ → Bool → (ℕ → Type 0) → Type 0
-WhereReadAt source old priority may_take_operand P =
-    (first : ℕ) (x : Position) → IsAtPosition old x → priority ≡ priority_of_operand x → HasRead source first x old may_take_operand → P first
+abbrev pub WhereReadAt : Source → State → Expected → (ℕ → Type 0) → Type 0
+WhereReadAt source old expected P =
+    (first : ℕ) (x : Position) → IsAtPosition old x → expected_after expected ≡ priority_of_operand x
+    → HasRead source first x old (last_may_take expected) → P first
 
 -- the layout after the state's place ends here
 abbrev pub StartsAt : Source → State → ℕ → Type 0

@@ -7,7 +7,7 @@ ghost use Rattle.au_model.specs.Syntax.Primaries.{is_minus_name};
 ghost use Rattle.au_model.specs.Syntax.Words.{word_characters};
 ghost use Rattle.token_scan.specs.NextToken.{is_quoted_kind, word_of, IsNextToken, IsToken};
 ghost use Rattle.token_scan.specs.ScannedParts.{IsPlaceFrom};
-ghost use Rattle.term_reader.specs.FollowingToken.{closer_of, follow_of, IsFollowingAt};
+ghost use Rattle.term_reader.specs.FollowingToken.{closer_of};
 ghost use Rattle.term_reader.specs.LexemeView.{lexeme_meant, scan_meant, IsNarrow, IsScan};
 
 use au_term::{Atom, NoMemory, is_text};
@@ -51,7 +51,7 @@ pub(crate) enum Scan {
 }
 
 /// `( ) [ ] { } ,` or the bar.
-fn mark(text: &str) -> Lexeme
+pub(crate) fn mark(text: &str) -> Lexeme
     ensures mark { (c : ℕ) → chars text.now ≡ c ∷ [] → lexeme_meant result ≡ mark_lexeme c }
     ensures narrow { IsNarrow result }
 {
@@ -68,7 +68,7 @@ fn mark(text: &str) -> Lexeme
 }
 
 /// The characters of a quoted token.
-fn quoted(alloc: Global, text: &str, token: &Token) -> Result<Atom, NoMemory>
+pub(crate) fn quoted(alloc: Global, text: &str, token: &Token) -> Result<Atom, NoMemory>
     requires token { IsToken text.now token.now }
     requires quoted { is_quoted_kind token.now.kind ≡ true }
     ensures { IfOk result (λ a. a ≡ word_characters (word_of text.now token.now)) }
@@ -129,43 +129,6 @@ pub(crate) fn is_minus(name: &str) -> bool
     ensures { result ≡ is_minus_name (chars name.now) }
 {
     is_text(name, "-")
-}
-
-/// What matters of a token that follows another, and the place after it.
-#[derive(Clone, Copy)]
-pub(crate) enum Follow {
-    /// `(` without layout in front.
-    OpenRound(usize),
-    /// An integer without layout in front.
-    Unsigned(u64, usize),
-    ClosesList(usize),
-    ClosesCurly(usize),
-    Other,
-}
-
-fn follow_token(lexeme: &Lexeme, apart: bool, end: usize) -> Follow
-    ensures { result ≡ follow_of apart (lexeme_meant lexeme.now) end }
-{
-    match lexeme {
-        Lexeme::Open if !apart => Follow::OpenRound(end),
-        Lexeme::Integer(number) if !apart => Follow::Unsigned(*number, end),
-        Lexeme::CloseList => Follow::ClosesList(end),
-        Lexeme::CloseCurly => Follow::ClosesCurly(end),
-        _ => Follow::Other,
-    }
-}
-
-/// What follows at a place.
-pub(crate) fn follow_at(alloc: Global, text: &str, at: usize) -> Result<Follow, NoMemory>
-    requires { IsCharBoundary text.now at }
-    ensures { IfOk result (λ f. IsFollowingAt text.now at f) }
-{
-    let next = scan_at(alloc, text, at)?;
-    match next {
-        Scan::Found(token) => Ok(follow_token(&token.lexeme, token.apart, token.end)),
-        Scan::Bad(_) => Ok(Follow::Other),
-        Scan::EndOfText => Ok(Follow::Other),
-    }
 }
 
 /// A token that may end an operand.

@@ -3,6 +3,7 @@
 
 pub mod laws;
 mod lexeme;
+mod lookahead;
 mod order;
 mod output;
 mod place;

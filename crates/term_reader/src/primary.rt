@@ -1,20 +1,24 @@
 //! How a term begins.
-ghost use Rattle.std.specs.Prelude.{◌≡◌, ◌≤◌, ◌^◌, ℕ, suc, true, false, ◌&&◌, not, List, IfOk, codes, nat_eq, IsCharBoundary};
+ghost use Rattle.std.specs.Prelude.{◌≡◌, ◌≤◌, ◌^◌, ℕ, suc, true, false, ◌&&◌, not, List, IfOk, IfSome, codes, nat_eq, IsCharBoundary};
 ghost use Rattle.std.specs.Str.{chars, IsAscii};
 ghost use Rattle.au_model.specs.Syntax.Characters.{chars_from};
 ghost use Rattle.au_model.specs.Syntax.Tokens.{tokens_of};
 ghost use Rattle.au_model.specs.Syntax.PostOperators.{named_post_operator};
 ghost use Rattle.au_model.specs.Syntax.Operators.{prefix_of};
-ghost use Rattle.au_model.specs.Syntax.Primaries.{atom_primary, curly_primary, ends_operand_before, is_post_operator, is_some_operator, lexeme_primary, list_primary, negative_of, name_primary, prefix_or_atom, prefix_is_atom};
+ghost use Rattle.au_model.specs.Syntax.Primaries.{atom_primary, curly_primary, is_post_operator, is_some_operator, lexeme_primary, list_primary, negative_of, name_primary, prefix_or_atom, prefix_is_atom};
 ghost use Rattle.term_reader.specs.LexemeView.{lexeme_meant};
-ghost use Rattle.term_reader.specs.PrimaryView.{is_operator_between, primary_meant, setting_of, IsPrimaryOfName, IsPrimaryOfLexeme, IsPrimaryOfNoName, PrimaryEndsFrom};
+ghost use Rattle.token_scan.specs.NextToken.{IsToken};
+ghost use Rattle.term_reader.specs.FollowingToken.{IsAhead};
+ghost use Rattle.term_reader.specs.PrimaryView.{is_ending_mark, is_operator_between, primary_meant, setting_of, IsPrimaryOfName, IsPrimaryOfLexeme, IsPrimaryOfNoName, PrimaryEndsFrom};
 
-use crate::lexeme::{Follow, Lexeme, Scan, follow_at, is_minus, scan_at};
+use crate::lexeme::{Lexeme, is_minus, mark, quoted};
+use crate::lookahead::{Follow, look_ahead};
 use crate::post_operator::{PostOperator, named_post_operator};
 use au_model::DoubleQuotes;
 use au_term::{Atom, NoMemory};
 use op_table::{Operator, Ops};
 use std::alloc::Global;
+use token_scan::{Token, TokenKind, spelling};
 
 /// A text, the operators, and what a double-quoted item stands for.
 #[derive(Clone, Copy)]
@@ -71,55 +75,66 @@ pub(crate) fn is_post_operator_alone(ops: &Ops, name: &str) -> bool
 }
 
 /// Whether a name joins what is in front of it to what is at this place.
-fn joins(source: Source<'_>, name: &str, is_sign: bool, end: usize) -> Result<bool, NoMemory>
+fn joins(source: Source<'_>, name: &str, is_sign: bool, end: usize) -> bool
     requires { IsCharBoundary source.text.now end }
-    ensures { IfOk result (λ b. b ≡ is_operator_between source.entry.ops.now (chars name.now) is_sign (tokens_of (chars_from source.entry.text.now end))) }
+    ensures { result ≡ is_operator_between source.entry.ops.now (chars name.now) is_sign (tokens_of (chars_from source.entry.text.now end)) }
 {
     if !is_post_operator_alone(source.ops, name) {
-        return Ok(false);
+        return false;
     }
-    let next = follow_at(source.alloc, source.text, end)?;
+    let (_, next) = look_ahead(source.text, end);
     match next {
-        Follow::OpenRound(_) => Ok(false),
-        Follow::Unsigned(_, _) => Ok(!is_sign),
-        Follow::ClosesList(_) | Follow::ClosesCurly(_) | Follow::Other => Ok(true),
+        Follow::OpenRound(_) => false,
+        Follow::Unsigned(_, _) => !is_sign,
+        Follow::ClosesList(_) | Follow::ClosesCurly(_) | Follow::Other => true,
     }
 }
 
-/// Whether a prefix operator stands for itself in front of a token that ends here.
-fn ends_before(source: Source<'_>, lexeme: &Lexeme, end: usize) -> Result<bool, NoMemory>
-    requires { IsCharBoundary source.text.now end }
-    ensures { IfOk result (λ b. b ≡ ends_operand_before source.entry.ops.now (lexeme_meant lexeme.now) (tokens_of (chars_from source.entry.text.now end))) }
+/// Whether a bracket, comma or bar ends what is in front of it.
+fn ends_operand(mark: &Lexeme) -> bool
+    ensures { result ≡ is_ending_mark (lexeme_meant mark.now) }
 {
-    match lexeme {
-        Lexeme::End
-        | Lexeme::Close
-        | Lexeme::CloseList
-        | Lexeme::CloseCurly
-        | Lexeme::Comma
-        | Lexeme::Bar => Ok(true),
-        Lexeme::Name(name) => joins(source, name.text(), is_minus(name.text()), end),
-        Lexeme::QuotedName(name) => joins(source, name.text(), false, end),
+    matches!(
+        mark,
+        Lexeme::Close | Lexeme::CloseList | Lexeme::CloseCurly | Lexeme::Comma | Lexeme::Bar
+    )
+}
+
+/// Whether a prefix operator in front of the token ahead stands for itself.
+fn prefix_is_atom(source: Source<'_>, ahead: Option<Token>) -> Result<bool, NoMemory>
+    requires { IfSome ahead (λ t. IsToken source.text.now t) }
+    ensures { (at : ℕ) → IsAhead source.entry.text.now at ahead → IfOk result (λ b. b ≡ prefix_is_atom source.entry.ops.now (tokens_of (chars_from source.entry.text.now at))) }
+{
+    let Some(token) = ahead else {
+        return Ok(true);
+    };
+    match token.kind {
+        TokenKind::End => Ok(true),
+        TokenKind::Punctuation => {
+            let mark = mark(spelling(source.text, &token));
+            Ok(ends_operand(&mark))
+        }
+        TokenKind::Name => {
+            let name = spelling(source.text, &token);
+            Ok(joins(source, name, is_minus(name), token.end))
+        }
+        TokenKind::QuotedName => {
+            let name = quoted(source.alloc, source.text, &token)?;
+            Ok(joins(source, name.text(), false, token.end))
+        }
         _ => Ok(false),
     }
 }
 
-/// Whether a prefix operator in front of this place stands for itself.
-fn prefix_is_atom(source: Source<'_>, at: usize) -> Result<bool, NoMemory>
-    requires { IsCharBoundary source.text.now at }
-    ensures { IfOk result (λ b. b ≡ prefix_is_atom source.entry.ops.now (tokens_of (chars_from source.entry.text.now at))) }
-{
-    let next = scan_at(source.alloc, source.text, at)?;
-    match next {
-        Scan::Found(token) => ends_before(source, &token.lexeme, token.end),
-        Scan::Bad(_) => Ok(true),
-        Scan::EndOfText => Ok(true),
-    }
-}
-
 /// How a term begins with a name that ends here, where it is neither a compound's nor a number's sign.
-fn operator_primary(source: Source<'_>, name: Atom, end: usize) -> Result<Primary, NoMemory>
-    requires { IsCharBoundary source.text.now end }
+fn operator_primary(
+    source: Source<'_>,
+    name: Atom,
+    end: usize,
+    ahead: Option<Token>,
+) -> Result<Primary, NoMemory>
+    requires place { IsCharBoundary source.text.now end }
+    requires ahead { IsAhead source.text.now end ahead }
     ensures primary { IfOk result (λ o. primary_meant source.entry o ≡ prefix_or_atom source.entry.ops.now name (prefix_of source.entry.ops.now name) (tokens_of (chars_from source.entry.text.now end))) }
     ensures place { IfOk result (λ o. PrimaryEndsFrom source.entry.text.now end o) }
     ensures named { IfOk result (λ o. IsPrimaryOfName source.entry.ops.now name o) }
@@ -127,7 +142,7 @@ fn operator_primary(source: Source<'_>, name: Atom, end: usize) -> Result<Primar
     let Some(operator) = source.ops.prefix(name.text()) else {
         return Ok(Primary::Leaf(Leaf::Atom(name), end));
     };
-    if prefix_is_atom(source, end)? {
+    if prefix_is_atom(source, ahead)? {
         Ok(Primary::Alone(name, operator, end))
     } else {
         Ok(Primary::Prefix(name, operator, end))
@@ -146,13 +161,13 @@ fn name_primary(
     ensures place { IfOk result (λ o. PrimaryEndsFrom source.entry.text.now end o) }
     ensures named { IfOk result (λ o. IsPrimaryOfName source.entry.ops.now name o) }
 {
-    let next = follow_at(source.alloc, source.text, end)?;
+    let (ahead, next) = look_ahead(source.text, end);
     match next {
         Follow::OpenRound(after) => Ok(Primary::Call(name, after)),
         Follow::Unsigned(number, after) if is_sign => {
             Ok(Primary::Leaf(Leaf::Integer(negative(number)), after))
         }
-        _ => operator_primary(source, name, end),
+        _ => operator_primary(source, name, end, ahead),
     }
 }
 
@@ -165,7 +180,7 @@ fn atom_primary(source: Source<'_>, name: &str, end: usize) -> Result<Primary, N
     ensures named { IfOk result (λ o. IsPrimaryOfNoName o) }
 {
     let name = Atom::ascii(source.alloc, name)?;
-    let next = follow_at(source.alloc, source.text, end)?;
+    let (_, next) = look_ahead(source.text, end);
     match next {
         Follow::OpenRound(after) => Ok(Primary::Call(name, after)),
         _ => Ok(Primary::Leaf(Leaf::Atom(name), end)),
@@ -179,7 +194,7 @@ fn list_primary(source: Source<'_>, end: usize) -> Result<Primary, NoMemory>
     ensures place { IfOk result (λ o. PrimaryEndsFrom source.entry.text.now end o) }
     ensures named { IfOk result (λ o. IsPrimaryOfNoName o) }
 {
-    let next = follow_at(source.alloc, source.text, end)?;
+    let (_, next) = look_ahead(source.text, end);
     match next {
         Follow::ClosesList(after) => atom_primary(source, "[]", after),
         _ => Ok(Primary::List(end)),
@@ -193,7 +208,7 @@ fn curly_primary(source: Source<'_>, end: usize) -> Result<Primary, NoMemory>
     ensures place { IfOk result (λ o. PrimaryEndsFrom source.entry.text.now end o) }
     ensures named { IfOk result (λ o. IsPrimaryOfNoName o) }
 {
-    let next = follow_at(source.alloc, source.text, end)?;
+    let (_, next) = look_ahead(source.text, end);
     match next {
         Follow::ClosesCurly(after) => atom_primary(source, "{}", after),
         _ => Ok(Primary::Curly(end)),

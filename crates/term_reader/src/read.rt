@@ -8,7 +8,7 @@ ghost use Rattle.term_reader.specs.ReadTerm.{IsTermRead, IsReadTo};
 use crate::place::line_and_column;
 use crate::primary::Source;
 use crate::refusal::Refused;
-use crate::state::State;
+use crate::state::{Expected, State};
 use crate::steps::{Step, step_at};
 use au_model::{DoubleQuotes, FaultKind, VarName};
 use au_term::{FlatTerm, NoMemory};
@@ -63,14 +63,10 @@ fn read_tokens(source: Source<'_>, at: usize) -> Result<Reading, NoMemory>
     ensures { IfOk result (λ r. IsReadTo (setting_of source.entry) source.entry.text.now at r) }
 {
     let mut state = State::new(source.alloc, at);
-    let mut phase = None;
-    let mut may_take_operand = false;
+    let mut expected = Expected::Operand;
     'tokens: loop {
-        match step_at(source, &mut state, phase, may_take_operand)? {
-            Step::Continue(next, lone) => {
-                phase = next;
-                may_take_operand = lone;
-            }
+        match step_at(source, &mut state, expected)? {
+            Step::Continue(next) => expected = next,
             Step::Accept(end) => return Ok(Reading::Whole(state, end)),
             Step::Refused(refused) => return Ok(Reading::Refused(refused)),
         }

@@ -6,6 +6,7 @@ ghost use Rattle.au_model.specs.Syntax.Primaries.{Setting};
 ghost use Rattle.au_model.specs.Syntax.Trees.{Tree};
 ghost use Rattle.term_reader.specs.PrimaryView.{setting_of};
 ghost use Rattle.term_reader.specs.FrameShapes.{frame_meant, shapes_up};
+ghost use Rattle.term_reader.specs.Expectations.{may_take_operand};
 ghost use Rattle.term_reader.specs.LexemeView.{lexeme_meant, scan_meant, IsScan};
 ghost use Rattle.term_reader.specs.Completion as stack;
 ghost use Rattle.term_reader.specs.Refusals.{HasFrames, WhereNotAccepted, WhereStuck, lexeme_follows_atom, is_named_post_operator, follower_end, unexpected_kind, IsFaultFrom, IsFirstFault, IsPrefixAboveBound, IsStuck};
@@ -13,7 +14,7 @@ ghost use Rattle.term_reader.specs.Refusals.{HasFrames, WhereNotAccepted, WhereS
 use crate::lexeme::{Lexeme, Scan, scan_at};
 use crate::post_operator::{PostOperator, named_post_operator};
 use crate::primary::{Source, WIDEST, is_post_operator_alone};
-use crate::state::State;
+use crate::state::{LastOperand, State};
 use au_model::FaultKind;
 use au_term::NoMemory;
 use op_table::Ops;
@@ -134,25 +135,25 @@ fn is_named_post_operator(ops: &Ops, lexeme: &Lexeme) -> bool
 }
 
 /// Whether it could also begin the operand of a prefix operator.
-fn is_refused_at_frame(ops: &Ops, may_take_operand: bool, lexeme: &Lexeme) -> bool
-    ensures { result ≡ (may_take_operand && is_named_post_operator ops.now (lexeme_meant lexeme.now)) }
+fn is_refused_at_frame(ops: &Ops, last_operand: LastOperand, lexeme: &Lexeme) -> bool
+    ensures { result ≡ (may_take_operand last_operand && is_named_post_operator ops.now (lexeme_meant lexeme.now)) }
 {
-    may_take_operand && is_named_post_operator(ops, lexeme)
+    matches!(last_operand, LastOperand::LonePrefix) && is_named_post_operator(ops, lexeme)
 }
 
 /// What is refused where no frame takes a token. After a prefix operator that stands for itself, and could have
 /// an operand that begins with this token, that is the next one.
 pub(crate) fn not_taken(
     source: Source<'_>,
-    may_take_operand: bool,
+    last_operand: LastOperand,
     lexeme: &Lexeme,
     place: usize,
     end: usize,
 ) -> Result<Refused, NoMemory>
     requires { IsCharBoundary source.text.now end }
-    ensures { WhereNotAccepted source.entry may_take_operand (lexeme_meant lexeme.now) place end (λ start. IfOk result (λ r. IsFaultFrom source.entry start r)) }
+    ensures { WhereNotAccepted source.entry (may_take_operand last_operand) (lexeme_meant lexeme.now) place end (λ start. IfOk result (λ r. IsFaultFrom source.entry start r)) }
 {
-    if is_refused_at_frame(source.ops, may_take_operand, lexeme) {
+    if is_refused_at_frame(source.ops, last_operand, lexeme) {
         return refusal_at(source, end);
     }
     Ok(unexpected(lexeme, place))

@@ -1,5 +1,6 @@
 //! What is open, and what was read.
-ghost use Rattle.std.specs.Prelude.{◌≡◌, ◌≤◌, ℕ, List, [], IfOk, map, vec_len};
+ghost use Rattle.std.specs.Prelude.{◌≡◌, ◌≤◌, ℕ, List, [], IfOk, map, nat_le, vec_len};
+ghost use Rattle.term_reader.specs.Expectations.{may_take_operand};
 ghost use Rattle.term_reader.specs.LexemeView.{post_operator_meant};
 ghost use Rattle.term_reader.specs.FrameShapes.{frame_meant, shape_bound, shape_operator, shapes_up};
 ghost use Rattle.term_reader.specs.Completion as stack;
@@ -33,6 +34,23 @@ pub(crate) struct State {
     pub(crate) at: usize,
     pub(crate) frames: Vec<Frame>,
     pub(crate) output: TermOutput,
+}
+
+/// What the last operand is.
+#[derive(Clone, Copy)]
+pub(crate) enum LastOperand {
+    Whole,
+    /// A prefix operator as an atom, which could have had an operand.
+    LonePrefix,
+}
+
+/// What is expected at the place of the state.
+#[derive(Clone, Copy)]
+pub(crate) enum Expected {
+    /// An operand.
+    Operand,
+    /// An operator after an operand of this priority, or its end.
+    Operator(u16, LastOperand),
 }
 
 /// What becomes of an operator that waits for the operand that is there.
@@ -90,6 +108,17 @@ impl State {
         match self.frames.last() {
             Some(frame) => frame.bound(),
             None => 1200,
+        }
+    }
+
+    /// What a prefix operator as an atom is.
+    pub(crate) fn lone_prefix(&self, operator: Operator) -> LastOperand
+        ensures { (k : List stack.OpenFrame) → map frame_meant self.now.frames.items ≡ shapes_up k → may_take_operand result ≡ nat_le operator.priority (bound_of k) }
+    {
+        if operator.priority <= self.bound() {
+            LastOperand::LonePrefix
+        } else {
+            LastOperand::Whole
         }
     }
 

@@ -18,6 +18,7 @@ ghost use Rattle.term_reader.specs.Lookahead.{Scans};
 ghost use Rattle.term_reader.specs.LexemeView.{lexeme_meant};
 ghost use Rattle.term_reader.specs.Positions.{AfterOperand, Position, IsAtPosition, priority_of_operand};
 ghost use Rattle.term_reader.specs.Completion.{OpenFrame};
+ghost use Rattle.term_reader.specs.Expectations.{expected_after};
 ghost use Rattle.term_reader.specs.StepAnswers.{IsFaultIfStuck, IsTokenFound, MovesOn, RefusesWell, StartsAt, StepsFrom, WhereAfter, WhereClosing, WhereEnding, WhereExpecting, WhereFault, WhereReadAfter, WhereReadAt, WhereReadEnding, WhereReadExpecting};
 ghost use Rattle.term_reader.specs.ReaderSteps.{StartsPrimary, IsFrameClosing, IsFramePushed, IsOperandEmitted};
 
@@ -25,16 +26,14 @@ use crate::lexeme::{Closer, Lexeme, Placed, Scan, closer_token, scan_at};
 use crate::post_operator::{PostOperator, post_operator_name, post_operator_of};
 use crate::primary::{Leaf, Primary, Source, primary_of};
 use crate::refusal::{Refused, after_prefix, not_taken, unexpected};
-use crate::state::{Frame, State};
+use crate::state::{Expected, Frame, LastOperand, State};
 use au_model::FaultKind;
 use au_term::{Atom, NoMemory};
 
 /// Where a step leads.
 #[derive(Clone, Copy)]
 pub(crate) enum Step {
-    /// An operand of this priority is there, or one is due. It may be a prefix operator that stands for itself
-    /// and could have an operand.
-    Continue(Option<u16>, bool),
+    Continue(Expected),
     /// The end is there, in front of this place.
     Accept(usize),
     Refused(Refused),
@@ -46,7 +45,7 @@ fn push_frame(state: &mut State, frame: Frame, end: usize) -> Result<Step, NoMem
 {
     state.frames.push(frame)?;
     state.at = end;
-    Ok(Step::Continue(None, false))
+    Ok(Step::Continue(Expected::Operand))
 }
 
 /// Puts an operand of one or two tokens.
@@ -55,13 +54,13 @@ fn emit(
     state: &mut State,
     leaf: Leaf,
     end: usize,
-    may_take_operand: bool,
+    last: LastOperand,
 ) -> Result<Step, NoMemory>
-    ensures { IfOk result (λ t. IsOperandEmitted state.old (leaf_tree source.entry.quotes leaf) end may_take_operand state.new t) }
+    ensures { IfOk result (λ t. IsOperandEmitted state.old (leaf_tree source.entry.quotes leaf) end last state.new t) }
 {
     state.output.leaf(source.alloc, source.quotes, leaf)?;
     state.at = end;
-    Ok(Step::Continue(Some(0), may_take_operand))
+    Ok(Step::Continue(Expected::Operator(0, last)))
 }
 
 /// How a term begins at the place of a token.
@@ -94,10 +93,10 @@ fn start_primary(
     ensures fault { WhereReadExpecting source.entry state.old (λ first. IsFaultIfStuck source.entry state.old first fault → IfOk result (λ t. RefusesWell source.entry first t)) }
 {
     match primary {
-        Primary::Leaf(leaf, end) => emit(source, state, leaf, end, false),
+        Primary::Leaf(leaf, end) => emit(source, state, leaf, end, LastOperand::Whole),
         Primary::Alone(name, operator, end) => {
-            let may_take_operand = operator.priority <= state.bound();
-            emit(source, state, Leaf::Atom(name), end, may_take_operand)
+            let last = state.lone_prefix(operator);
+            emit(source, state, Leaf::Atom(name), end, last)
         }
         Primary::Round(end) => push_frame(state, Frame::Round, end),
         Primary::Curly(end) => push_frame(state, Frame::Curly, end),
@@ -149,16 +148,16 @@ fn after_operand(
     source: Source<'_>,
     state: &mut State,
     priority: u16,
-    may_take_operand: bool,
+    last_operand: LastOperand,
 ) -> Result<Step, NoMemory>
     requires { IsCharBoundary source.text.now state.old.at }
     ensures moves { IfOk result (λ t. MovesOn source.entry state.old state.new t) }
     ensures outcome { WhereAfter state.old priority (λ x. IfOk result (λ t. StepsFrom source.entry state.old x state.new t)) }
-    ensures fault { WhereReadAfter source.entry state.old priority may_take_operand (λ first. IfOk result (λ t. RefusesWell source.entry first t)) }
+    ensures fault { WhereReadAfter source.entry state.old priority last_operand (λ first. IfOk result (λ t. RefusesWell source.entry first t)) }
 {
     let next = scan_at(source.alloc, source.text, state.at)?;
     match next {
-        Scan::Found(found) => with_token(source, state, found, priority, may_take_operand),
+        Scan::Found(found) => with_token(source, state, found, priority, last_operand),
         Scan::Bad(bad) => Ok(Step::Refused(Refused {
             at: bad.at,
             kind: bad.kind,
@@ -176,18 +175,18 @@ fn with_token(
     state: &mut State,
     found: Placed,
     priority: u16,
-    may_take_operand: bool,
+    last_operand: LastOperand,
 ) -> Result<Step, NoMemory>
     requires next { IsTokenFound source state.old found }
     requires place { IsPlaceFrom source.text.now (suc state.old.at) found.end }
     ensures moves { IfOk result (λ t. MovesOn source.entry state.old state.new t) }
     ensures outcome { WhereAfter state.old priority (λ x. IfOk result (λ t. StepsFrom source.entry state.old x state.new t)) }
-    ensures fault { WhereReadAfter source.entry state.old priority may_take_operand (λ first. StartsAt source.entry state.old found.start → IfOk result (λ t. RefusesWell source.entry first t)) }
+    ensures fault { WhereReadAfter source.entry state.old priority last_operand (λ first. StartsAt source.entry state.old found.start → IfOk result (λ t. RefusesWell source.entry first t)) }
 {
     let post_operator = post_operator_of(source.ops, &found.lexeme);
     let (last, fits) = state.reduce_operators(priority, post_operator)?;
     if !fits {
-        return close(source, state, found, may_take_operand);
+        return close(source, state, found, last_operand);
     }
     match post_operator {
         PostOperator::Infix(operator) => {
@@ -200,9 +199,10 @@ fn with_token(
             let name = post_operator_name(source.alloc, found.lexeme)?;
             state.output.compound(name, 1)?;
             state.at = end;
-            Ok(Step::Continue(Some(operator.priority), false))
+            let expected = Expected::Operator(operator.priority, LastOperand::Whole);
+            Ok(Step::Continue(expected))
         }
-        PostOperator::Nothing => close(source, state, found, may_take_operand),
+        PostOperator::Nothing => close(source, state, found, last_operand),
     }
 }
 
@@ -211,22 +211,16 @@ fn close(
     source: Source<'_>,
     state: &mut State,
     found: Placed,
-    may_take_operand: bool,
+    last_operand: LastOperand,
 ) -> Result<Step, NoMemory>
     requires next { IsTokenFound source state.old found }
     requires place { IsPlaceFrom source.text.now (suc state.old.at) found.end }
     ensures moves { IfOk result (λ t. MovesOn source.entry state.old state.new t) }
     ensures outcome { WhereEnding source.entry state.old found (λ k l p. IfOk result (λ t. StepsFrom source.entry state.old (AfterOperand k l p) state.new t)) }
-    ensures fault { WhereReadEnding source.entry state.old may_take_operand found (λ first. StartsAt source.entry state.old found.start → IfOk result (λ t. RefusesWell source.entry first t)) }
+    ensures fault { WhereReadEnding source.entry state.old last_operand found (λ first. StartsAt source.entry state.old found.start → IfOk result (λ t. RefusesWell source.entry first t)) }
 {
     let token = closer_token(&found.lexeme);
-    let refused = not_taken(
-        source,
-        may_take_operand,
-        &found.lexeme,
-        found.start,
-        found.end,
-    )?;
+    let refused = not_taken(source, last_operand, &found.lexeme, found.start, found.end)?;
     match state.frames.pop() {
         None => match token {
             Closer::End => Ok(Step::Accept(found.end)),
@@ -277,7 +271,7 @@ fn close_round(
     match token {
         Closer::Close => {
             state.at = end;
-            Step::Continue(Some(0), false)
+            Step::Continue(Expected::Operator(0, LastOperand::Whole))
         }
         _ => Step::Refused(refused),
     }
@@ -300,7 +294,7 @@ fn close_curly(
             let name = Atom::ascii(source.alloc, "{}")?;
             state.output.compound(name, 1)?;
             state.at = end;
-            Ok(Step::Continue(Some(0), false))
+            Ok(Step::Continue(Expected::Operator(0, LastOperand::Whole)))
         }
         _ => Ok(Step::Refused(refused)),
     }
@@ -330,7 +324,7 @@ fn close_item(
             state.output.nil(source.alloc)?;
             state.output.list(source.alloc, before + 1)?;
             state.at = end;
-            Ok(Step::Continue(Some(0), false))
+            Ok(Step::Continue(Expected::Operator(0, LastOperand::Whole)))
         }
         _ => Ok(Step::Refused(refused)),
     }
@@ -353,7 +347,7 @@ fn close_tail(
         Closer::CloseList => {
             state.output.list(source.alloc, items)?;
             state.at = end;
-            Ok(Step::Continue(Some(0), false))
+            Ok(Step::Continue(Expected::Operator(0, LastOperand::Whole)))
         }
         _ => Ok(Step::Refused(refused)),
     }
@@ -390,7 +384,7 @@ fn close_argument(
             }
             state.output.compound(name, before + 1)?;
             state.at = end;
-            Ok(Step::Continue(Some(0), false))
+            Ok(Step::Continue(Expected::Operator(0, LastOperand::Whole)))
         }
         _ => Ok(Step::Refused(refused)),
     }
@@ -400,16 +394,15 @@ fn close_argument(
 pub(crate) fn step_at(
     source: Source<'_>,
     state: &mut State,
-    phase: Option<u16>,
-    may_take_operand: bool,
+    expected: Expected,
 ) -> Result<Step, NoMemory>
     requires { IsCharBoundary source.text.now state.old.at }
     ensures moves { IfOk result (λ t. MovesOn source.entry state.old state.new t) }
-    ensures outcome { (x : Position) → IsAtPosition state.old x → phase ≡ priority_of_operand x → IfOk result (λ t. StepsFrom source.entry state.old x state.new t) }
-    ensures fault { WhereReadAt source.entry state.old phase may_take_operand (λ first. IfOk result (λ t. RefusesWell source.entry first t)) }
+    ensures outcome { (x : Position) → IsAtPosition state.old x → expected_after expected ≡ priority_of_operand x → IfOk result (λ t. StepsFrom source.entry state.old x state.new t) }
+    ensures fault { WhereReadAt source.entry state.old expected (λ first. IfOk result (λ t. RefusesWell source.entry first t)) }
 {
-    match phase {
-        None => operand(source, state),
-        Some(priority) => after_operand(source, state, priority, may_take_operand),
+    match expected {
+        Expected::Operand => operand(source, state),
+        Expected::Operator(priority, last) => after_operand(source, state, priority, last),
     }
 }

@@ -12,14 +12,14 @@ pub returns-in-ClosesCurly-clause-primary : goal.returns-in-ClosesCurly-clause-p
 returns-in-ClosesCurly-clause-primary c =
     let text = c.args.source.text.now in
     let us = tokens_of (chars_from text c.in-ClosesCurly.after) in
-    let h = subst (IsFollowingAt text c.args.end) c.in-ClosesCurly.is c.in_ok-next.ensures in
+    let h = subst (IsFollowingAt text c.args.end) c.in-ClosesCurly.is c.look_ahead-next.ensures.follow in
     subst (λ x. IfOk c.atom_primary.result (λ o. primary_meant c.args.source o ≡ x))
     (sym (curly-atom h.is.0 _ us h.is.1)) c.atom_primary.ensures.primary
 
 pub returns-in-ClosesCurly-clause-place : goal.returns-in-ClosesCurly-clause-place
 returns-in-ClosesCurly-clause-place c =
     let text = c.args.source.text.now in
-    let h = subst (IsFollowingAt text c.args.end) c.in-ClosesCurly.is c.in_ok-next.ensures in
+    let h = subst (IsFollowingAt text c.args.end) c.in-ClosesCurly.is c.look_ahead-next.ensures.follow in
     IfOk-weaker c.atom_primary.result _ _ (λ o d. opens-then text c.args.end c.in-ClosesCurly.after o h.ends d) c.atom_primary.ensures.place
 
 pub returns-in_default-clause-place : goal.returns-in_default-clause-place

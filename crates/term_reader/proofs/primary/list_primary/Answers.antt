@@ -12,14 +12,14 @@ pub returns-in-ClosesList-clause-primary : goal.returns-in-ClosesList-clause-pri
 returns-in-ClosesList-clause-primary c =
     let text = c.args.source.text.now in
     let us = tokens_of (chars_from text c.in-ClosesList.after) in
-    let h = subst (IsFollowingAt text c.args.end) c.in-ClosesList.is c.in_ok-next.ensures in
+    let h = subst (IsFollowingAt text c.args.end) c.in-ClosesList.is c.look_ahead-next.ensures.follow in
     subst (λ x. IfOk c.atom_primary.result (λ o. primary_meant c.args.source o ≡ x))
     (sym (list-atom h.is.0 _ us h.is.1)) c.atom_primary.ensures.primary
 
 pub returns-in-ClosesList-clause-place : goal.returns-in-ClosesList-clause-place
 returns-in-ClosesList-clause-place c =
     let text = c.args.source.text.now in
-    let h = subst (IsFollowingAt text c.args.end) c.in-ClosesList.is c.in_ok-next.ensures in
+    let h = subst (IsFollowingAt text c.args.end) c.in-ClosesList.is c.look_ahead-next.ensures.follow in
     IfOk-weaker c.atom_primary.result _ _ (λ o d. opens-then text c.args.end c.in-ClosesList.after o h.ends d) c.atom_primary.ensures.place
 
 pub returns-in_default-clause-place : goal.returns-in_default-clause-place

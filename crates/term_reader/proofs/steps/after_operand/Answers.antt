@@ -1,5 +1,6 @@
 use Rattle.std.proofs.Common.{◌∙◌, sym, ap, subst}
 use Rattle.au_model.specs.Syntax.Characters.{chars_from}
+use Rattle.term_reader.specs.Expectations.{may_take_operand}
 use Rattle.term_reader.specs.PrimaryView.{setting_of}
 use Rattle.term_reader.specs.LexemeView.{scan_meant, IsScan}
 use Rattle.term_reader.specs.Positions.{AfterOperand}
@@ -31,11 +32,11 @@ returns-in-Bad-clause-fault c = λ first k l st read_to.
     let text = c.args.source.text.now in
     let none = sym c.in_ok-next.ensures.scan ∙ ap (scan_meant text) c.in-Bad.is in
     bad-fault (setting_of c.args.source) text first c.args.state.now.at c.in-Bad.bad (subst (IsScan text c.args.state.now.at) c.in-Bad.is c.in_ok-next.ensures.place)
-    (stuck-none (setting_of c.args.source) text first c.args.state.now.at (AfterOperand k l c.args.priority) c.args.may_take_operand read_to st.bounds st.low none)
+    (stuck-none (setting_of c.args.source) text first c.args.state.now.at (AfterOperand k l c.args.priority) (may_take_operand c.args.last_operand) read_to st.bounds st.low none)
 
 pub returns-in-EndOfText-clause-fault : goal.returns-in-EndOfText-clause-fault
 returns-in-EndOfText-clause-fault c = λ first k l st read_to.
     let text = c.args.source.text.now in
     let none = sym c.in_ok-next.ensures.scan ∙ ap (scan_meant text) c.in-EndOfText.is in
     end-fault (setting_of c.args.source) text first c.args.state.now.at (subst (IsScan text c.args.state.now.at) c.in-EndOfText.is c.in_ok-next.ensures.place)
-    (stuck-none (setting_of c.args.source) text first c.args.state.now.at (AfterOperand k l c.args.priority) c.args.may_take_operand read_to st.bounds st.low none)
+    (stuck-none (setting_of c.args.source) text first c.args.state.now.at (AfterOperand k l c.args.priority) (may_take_operand c.args.last_operand) read_to st.bounds st.low none)

@@ -1,4 +1,5 @@
 use Rattle.std.proofs.Common.{◌≡◌, ◌∙◌, [], ◌∷◌, ◌++◌, map, sym, ap, subst, arith}
+use Rattle.term_reader.specs.Expectations.{may_take_operand}
 use Rattle.term_reader.specs.FrameShapes.{frame_meant, shapes_up}
 use Rattle.term_reader.specs.LexemeView.{lexeme_meant}
 use Rattle.term_reader.proofs.PostorderLemmas.{no_items}
@@ -60,10 +61,10 @@ returns-clause-fault c = λ first k l p st shut stops passed starts.
     })
     (λ never. (
       λ spare. c.in_ok-refused.ensures first passed.stack passed.tree passed.priority at
-          (not-taken source first at c.args.found.end c.args.may_take_operand c.args.found.apart x k l p passed c.requires.next never c.args.found.start st.bounds shut st.low starts (λ e full. spare (full-frame c.pop.new.self.items c.in-Some.frame k shapes full) e)),
+          (not-taken source first at c.args.found.end (may_take_operand c.args.last_operand) c.args.found.apart x k l p passed c.requires.next never c.args.found.start st.bounds shut st.low starts (λ e full. spare (full-frame c.pop.new.self.items c.in-Some.frame k shapes full) e)),
       λ name n place is many e.
           let f = argument-frame c.pop.new.self.items k name n place (subst (λ g. map frame_meant (c.pop.new.self.items ++ g ∷ []) ≡ shapes_up k) is shapes) in
-          many-fault source first at c.args.found.end c.args.may_take_operand c.args.found.apart x k l p passed c.requires.next never name place f.0 f.2.below e f.2.is st.bounds st.low,
+          many-fault source first at c.args.found.end (may_take_operand c.args.last_operand) c.args.found.apart x k l p passed c.requires.next never name place f.0 f.2.below e f.2.is st.bounds st.low,
     ))
 
 pub returns-in-None-clause-fault : goal.returns-in-None-clause-fault
@@ -74,6 +75,6 @@ returns-in-None-clause-fault c = λ first k l p st shut stops passed starts.
     let before = no_items c.args.state.now.frames.items (omega (arith, c.in-None.ensures.cases)) in
     let none = no_frames k (sym (ap (map frame_meant) before) ∙ st.shapes) in
     c.in_ok-refused.ensures first passed.stack passed.tree passed.priority at
-    (not-taken source first at c.args.found.end c.args.may_take_operand c.args.found.apart x k l p passed c.requires.next
+    (not-taken source first at c.args.found.end (may_take_operand c.args.last_operand) c.args.found.apart x k l p passed c.requires.next
     (over-never source at c.args.found.end p l c.args.found.apart x k none c.requires.next st.low stops (λ e. c.in_default.not-End (c.closer_token-token.ensures ∙ e)))
     c.args.found.start st.bounds shut st.low starts (λ e full. subst IsFullStack none full))

@@ -12,7 +12,7 @@ use Rattle.term_reader.proofs.steps.close_item.Goals as goal
 
 pub returns-in-Comma-clause-moves : goal.returns-in-Comma-clause-moves
 returns-in-Comma-clause-moves c = λ place.
-    IfOk-weaker c.push_frame.result _ _ (λ t d. moved c.args.source.text.now c.args.state.now.at c.args.end c.push_frame.new.state _ _ t d.step d.at place) c.push_frame.ensures
+    IfOk-weaker c.push_frame.result _ _ (λ t d. moved c.args.source.text.now c.args.state.now.at c.args.end c.push_frame.new.state _ t d.step d.at place) c.push_frame.ensures
 
 pub returns-in-Comma-clause-outcome : goal.returns-in-Comma-clause-outcome
 returns-in-Comma-clause-outcome c = λ k l p h.
@@ -20,7 +20,7 @@ returns-in-Comma-clause-outcome c = λ k l p h.
 
 pub returns-in-Bar-clause-moves : goal.returns-in-Bar-clause-moves
 returns-in-Bar-clause-moves c = λ place.
-    IfOk-weaker c.push_frame-in-Bar.result _ _ (λ t d. moved c.args.source.text.now c.args.state.now.at c.args.end c.push_frame-in-Bar.new.state _ _ t d.step d.at place) c.push_frame-in-Bar.ensures
+    IfOk-weaker c.push_frame-in-Bar.result _ _ (λ t d. moved c.args.source.text.now c.args.state.now.at c.args.end c.push_frame-in-Bar.new.state _ t d.step d.at place) c.push_frame-in-Bar.ensures
 
 pub returns-in-Bar-clause-outcome : goal.returns-in-Bar-clause-outcome
 returns-in-Bar-clause-outcome c = λ k l p h.

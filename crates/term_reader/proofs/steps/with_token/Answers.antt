@@ -4,6 +4,7 @@ use Rattle.au_term.specs.declared.cell.Cell.TheVariants.{Functor}
 use Rattle.au_model.specs.Syntax.PostOperators.{post_operator_fits}
 use Rattle.au_model.specs.Syntax.Trees.{one}
 use Rattle.op_table.specs.OperatorView.{operator_meant}
+use Rattle.term_reader.specs.Expectations.{may_take_operand}
 use Rattle.term_reader.specs.PrimaryView.{setting_of}
 use Rattle.term_reader.specs.LexemeView.{post_operator_meant, post_operator_name, lexeme_meant}
 use Rattle.term_reader.specs.Completion as stack
@@ -16,6 +17,8 @@ use Rattle.term_reader.specs.LexemeView.{IsStart}
 use Rattle.term_reader.specs.Positions.{AfterOperand, HasReadTo, IsStepOutcome}
 use Rattle.term_reader.proofs.FrameRefusalLemmas.{on-well}
 use Rattle.term_reader.specs.OperatorReductions.{IsFullyReduced}
+use Rattle.term_reader.specs.declared.state.Expected.TheVariants.{Operator}
+use Rattle.term_reader.specs.declared.state.LastOperand.TheVariants.{Whole}
 use Rattle.term_reader.specs.declared.steps.Step.TheVariants.{Continue}
 use Rattle.term_reader.proofs.ReaderStepLemmas.{first-post_operator, outcome-same, pushed, infix-leads, postfix-leads, fits-bound}
 use Rattle.term_reader.proofs.steps.with_token.Goals as goal
@@ -67,10 +70,10 @@ returns-in_ok-compound-in-Postfix-clause-outcome c = λ k l st.
     let is = sym c.post_operator_of-post_operator.ensures ∙ ap (post_operator_meant n) c.in-Postfix.is in
     let output = subst (λ m. IsOutputOf c.compound.new.self (emit_cell (emit_tree (emitted_stack z.below) z.tree) (Functor m 1))) c.in_ok-name-in-Postfix.ensures
     (c.in_ok-compound-in-Postfix.ensures (emit_tree (emitted_stack z.below) z.tree) z.at_position.output) in
-    outcome-same s c.args.source.text.now j k z.below l z.tree c.args.priority q at _ (Continue (Some o.priority) false) z.same z.nests fj (record {
+    outcome-same s c.args.source.text.now j k z.below l z.tree c.args.priority q at _ (Continue (Operator o.priority Whole)) z.same z.nests fj (record {
       new = AfterOperand z.below (one n z.tree) o.priority;
       at_position = record { shapes = z.at_position.shapes; output = output; bounds = z.at_position.bounds; low = fits-bound c.args.source at c.args.found.end z.below z.tree q c.args.found.apart x n o fits };
-      phase_is = refl;
+      expected_is = refl;
       leads = postfix-leads c.args.source at c.args.found.end z.below z.tree q c.args.found.apart x n o c.requires.next is fits z.at_position.low;
     })
 
@@ -97,7 +100,7 @@ returns-then-not-fits-clause-fault c = λ first k l st read_to starts.
     let free = subst (λ b. IsFullyReduced z.below c.in_ok-last.last j b) c.if-not-fits.true z.free in
     let stops = subst (λ i. post_operator_fits (bound_of z.below) c.in_ok-last.last i ≡ false) c.post_operator_of-post_operator.ensures free.0 in
     let at = sym c.in_ok-last.ensures.at in
-    let moved : HasReadTo s text first (AfterOperand k l c.args.priority) c.reduce_operators.new.self.at c.args.may_take_operand = subst (λ n. HasReadTo s text first (AfterOperand k l c.args.priority) n c.args.may_take_operand) at read_to in
+    let moved : HasReadTo s text first (AfterOperand k l c.args.priority) c.reduce_operators.new.self.at (may_take_operand c.args.last_operand) = subst (λ n. HasReadTo s text first (AfterOperand k l c.args.priority) n (may_take_operand c.args.last_operand)) at read_to in
     c.close.ensures.fault first z.below z.tree c.in_ok-last.last z.at_position free.1 stops (record {
       stack = k;
       tree = l;
@@ -112,7 +115,7 @@ returns-then-not-fits-clause-fault c = λ first k l st read_to starts.
 
 pub returns-in_ok-name-in-Infix-clause-fault : goal.returns-in_ok-name-in-Infix-clause-fault
 returns-in_ok-name-in-Infix-clause-fault c = λ first k l st read_to starts.
-    IfOk-weaker c.push_frame.result _ _ (λ t d. on-well (setting_of c.args.source) c.args.source.text.now first _ _ t d.step) c.push_frame.ensures
+    IfOk-weaker c.push_frame.result _ _ (λ t d. on-well (setting_of c.args.source) c.args.source.text.now first _ t d.step) c.push_frame.ensures
 
 pub returns-in-Nothing-clause-fault : goal.returns-in-Nothing-clause-fault
 returns-in-Nothing-clause-fault c = λ first k l st read_to starts.
