@@ -5,7 +5,7 @@ use Rattle.std.specs.Option.{option_map}
 use Rattle.au_term.specs.Term.{Term, VarTerm, IntTerm, AtomTerm, Compound, Terms, end, more}
 use Rattle.au_model.specs.Terms.Substitutions.{Substitution, apply, apply_all, value_of}
 use Rattle.au_model.specs.Terms.Unifier.{Equations, Rule, Dropped, Replaced, Opened, Clash, rule, by_rule, replace, bound, unifier}
-use Rattle.au_model.specs.Terms.MostGeneral.{Unifies, IsMostGeneral, IsAnswer, SameValues, SameUnifiers}
+use Rattle.au_model.specs.Terms.MostGeneral.{Unifies, IsMostGeneral, IsUnifierAnswer, SameValues, SameUnifiers}
 use Rattle.au_model.proofs.ApplyLemmas.{two, value_of-bound}
 use Rattle.au_model.proofs.UnifierRuleLemmas.{Says, rule_says, Binds}
 use Rattle.au_model.proofs.UnifierLemmas.{Next, by_rules, unifier-first, unifier_answers}
@@ -74,7 +74,7 @@ same_value eqs es s t p q ks kt there back n =
     let round : apply f (apply g (f n)) ≡ f n = ap (apply f) through_f ∙ through_g in
     sym (sym through_f ∙ one_term f g ks kt (f n) round)
 
-both_values : (eqs es : Equations) (o r : Option Substitution) → IsAnswer o eqs → IsAnswer r es → KeepsOlder o → KeepsOlder r → ((f : ℕ → Term) → Unifies f eqs → Unifies f es) → ((f : ℕ → Term) → Unifies f es → Unifies f eqs) → SameValues o r
+both_values : (eqs es : Equations) (o r : Option Substitution) → IsUnifierAnswer o eqs → IsUnifierAnswer r es → KeepsOlder o → KeepsOlder r → ((f : ℕ → Term) → Unifies f eqs → Unifies f es) → ((f : ℕ → Term) → Unifies f es → Unifies f eqs) → SameValues o r
 both_values eqs es None None p q ks kt there back = tt
 both_values eqs es None (Some t) p q ks kt there back = p (value_of t) (back (value_of t) q.unifies)
 both_values eqs es (Some s) None p q ks kt there back = q (value_of s) (there (value_of s) p.unifies)

@@ -5,7 +5,7 @@ use Rattle.std.specs.Option.{option_map}
 use Rattle.au_term.specs.Term.{Term, VarTerm, IntTerm, AtomTerm, Compound, Terms, end, more, count, var_bound, all_bound}
 use Rattle.au_model.specs.Terms.Substitutions.{Substitution, apply, apply_all, value_of, only, occurs, occurs_in}
 use Rattle.au_model.specs.Terms.Unifier.{Equations, Rule, Dropped, Replaced, Opened, Clash, rule, by_rule, pairs, replace, bound, solve, unifier, equations_size, equations_bound, steps_for}
-use Rattle.au_model.specs.Terms.MostGeneral.{Unifies, IsAnswer, GoesByRules}
+use Rattle.au_model.specs.Terms.MostGeneral.{Unifies, IsUnifierAnswer, GoesByRules}
 use Rattle.au_model.proofs.ApplyLemmas.{either, two, only_first, after_only, value_of-bound, apply-same, apply-apply, apply-only_absent}
 use Rattle.au_model.proofs.UnifierRuleLemmas.{Says, rule_says, Binds, Opens}
 use Rattle.au_model.proofs.UnifierMeasureLemmas.{appears, tally, work, AllBelow, Less, less_dropped, less_bound, less_opened, steps-variables, flag}
@@ -151,11 +151,11 @@ unside : (a b : Term) (f : ℕ → Term) (x : ℕ) (t : Term) → ((a ≡ VarTer
 unside a b f x t (inl p) h = ap (apply f) p.0 ∙ (h ∙ sym (ap (apply f) p.1))
 unside a b f x t (inr p) h = ap (apply f) p.0 ∙ (sym h ∙ sym (ap (apply f) p.1))
 
-dropped_answers : (a b : Term) (eqs : Equations) (o : Option Substitution) → a ≡ b → IsAnswer o eqs → IsAnswer o ((a, b) ∷ eqs)
+dropped_answers : (a b : Term) (eqs : Equations) (o : Option Substitution) → a ≡ b → IsUnifierAnswer o eqs → IsUnifierAnswer o ((a, b) ∷ eqs)
 dropped_answers a b eqs (Some s) e h = record { unifies = (ap (apply (value_of s)) e, h.unifies); general = λ f u n. h.general f u.1 n }
 dropped_answers a b eqs None e h = λ f u. h f u.1
 
-bound_answers : (a b : Term) (eqs : Equations) (x : ℕ) (t : Term) (o : Option Substitution) → Binds a b x t → IsAnswer o (replace x t eqs) → IsAnswer (option_map (bound x t) o) ((a, b) ∷ eqs)
+bound_answers : (a b : Term) (eqs : Equations) (x : ℕ) (t : Term) (o : Option Substitution) → Binds a b x t → IsUnifierAnswer o (replace x t eqs) → IsUnifierAnswer (option_map (bound x t) o) ((a, b) ∷ eqs)
 bound_answers a b eqs x t (Some s) k h = record {
   unifies = (unside a b _ x t k.sides (bound_sides s x t k.absent), replace-Unifies s x t eqs h.unifies);
   general = λ f u n.
@@ -174,7 +174,7 @@ same_opened a b es f k h =
     let e : Compound k.name (apply_all f k.left) ≡ Compound k.name (apply_all f k.right) = sym (ap (apply f) k.a_is) ∙ (h ∙ ap (apply f) k.b_is) in
     subst (Unifies f) (sym k.es_are) (pairs-Unifies f k.left k.right cc)
 
-opened_answers : (a b : Term) (eqs es : Equations) (o : Option Substitution) → Opens a b es → IsAnswer o (es ++ eqs) → IsAnswer o ((a, b) ∷ eqs)
+opened_answers : (a b : Term) (eqs es : Equations) (o : Option Substitution) → Opens a b es → IsUnifierAnswer o (es ++ eqs) → IsUnifierAnswer o ((a, b) ∷ eqs)
 opened_answers a b eqs es (Some s) k h =
     let parts = Unifies-append (value_of s) es eqs h.unifies in
     record {
@@ -183,16 +183,16 @@ opened_answers a b eqs es (Some s) k h =
     }
 opened_answers a b eqs es None k h = λ f u. h f (append-Unifies f es eqs (same_opened a b es f k u.0) u.1)
 
-answers_by : (a b : Term) (eqs : Equations) (t : Rule) → Says a b t → Next (λ new. IsAnswer (unifier new) new) t eqs → IsAnswer (by_rule t eqs unifier) ((a, b) ∷ eqs)
+answers_by : (a b : Term) (eqs : Equations) (t : Rule) → Says a b t → Next (λ new. IsUnifierAnswer (unifier new) new) t eqs → IsUnifierAnswer (by_rule t eqs unifier) ((a, b) ∷ eqs)
 answers_by a b eqs Dropped s h = dropped_answers a b eqs (unifier eqs) s h
 answers_by a b eqs (Replaced x t) s h = bound_answers a b eqs x t (unifier (replace x t eqs)) s h
 answers_by a b eqs (Opened es) s h = opened_answers a b eqs es (unifier (es ++ eqs)) s h
 answers_by a b eqs Clash s h = λ f u. s f u.0
 
-none_answers : IsAnswer (unifier []) []
+none_answers : IsUnifierAnswer (unifier []) []
 unfolding unifier
 none_answers = record { unifies = tt; general = λ f u n. refl }
 
 -- the unifier is most general, and none is given only where none exists
-pub unifier_answers : (eqs : Equations) → IsAnswer (unifier eqs) eqs
-unifier_answers = by_rules (λ eqs. IsAnswer (unifier eqs) eqs) none_answers (λ a b eqs h. subst (λ o. IsAnswer o ((a, b) ∷ eqs)) (sym (unifier-first a b eqs)) (answers_by a b eqs (rule a b) (rule_says a b) h))
+pub unifier_answers : (eqs : Equations) → IsUnifierAnswer (unifier eqs) eqs
+unifier_answers = by_rules (λ eqs. IsUnifierAnswer (unifier eqs) eqs) none_answers (λ a b eqs h. subst (λ o. IsUnifierAnswer o ((a, b) ∷ eqs)) (sym (unifier-first a b eqs)) (answers_by a b eqs (rule a b) (rule_says a b) h))

@@ -10,13 +10,16 @@ use std::alloc::Global;
 /// The number of a variable.
 pub type VarNo = u64;
 
+/// The most arguments that a compound has.
+pub const MAX_ARITY: u32 = 65_535;
+
 /// One place of a term in prefix order.
 #[derive(PartialEq, Eq, Drop)]
 pub enum Cell {
     Var(VarNo),
     Int(i64),
     Atom(Atom),
-    /// A compound's name, and its number of arguments, from 1 to 65,535.
+    /// A compound's name, and its number of arguments, from 1 to `MAX_ARITY`.
     Functor(Atom, u32),
 }
 

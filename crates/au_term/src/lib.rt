@@ -16,14 +16,14 @@ mod tests;
 pub use arguments::Arguments;
 pub use atom::{Atom, is_text};
 pub use builder::TermBuilder;
-pub use cell::{Cell, VarNo};
+pub use cell::{Cell, MAX_ARITY, VarNo};
 pub use flat::FlatTerm;
 pub use segment::{Binding, Bindings, Segment};
 pub use shared::Shared;
 use std::alloc::{AllocError, AllocFailed};
 pub use steps::Steps;
 
-/// Want of memory.
+/// Out of memory.
 #[derive(Clone, Copy, Debug, PartialEq, Eq)]
 pub struct NoMemory;
 

@@ -8,7 +8,7 @@ use Rattle.au_model.specs.Syntax.Layout.{after_layout}
 use Rattle.run_model.specs.Programs.Jobs.{Job}
 use Rattle.au_model.specs.declared.types.FaultKind.TheVariants.{NotUtf8}
 use Rattle.au_model.specs.Syntax.TextFaults.{IsLineAndColumn, line_after, column_after}
-use Rattle.text_load.specs.LoadOutcome.{IsRefusal}
+use Rattle.text_load.specs.LoadOutcome.{IsLoadRefusal}
 use Rattle.text_load.specs.LoadedTexts.{IsRefused, LoadsTo, Sentences, no_more}
 use Rattle.text_load.specs.declared.reading.LoadRefusal.{LoadRefusal}
 use Rattle.text_load.specs.declared.reading.LoadRefusal.TheVariants.{Refused, NoMemory}
@@ -36,7 +36,7 @@ no_library : Sentences (chars (codes "")) []
 unfolding chars
 no_library = no_more nothing_is_over
 
-pub refused_text : (bytes text : List ℕ) (r : LoadRefusal) → text ≡ bytes → IsUtf8 bytes → IsRefusal (chars (codes "")) (chars text) r → IsTextFault bytes (refused_as r)
+pub refused_text : (bytes text : List ℕ) (r : LoadRefusal) → text ≡ bytes → IsUtf8 bytes → IsLoadRefusal (chars (codes "")) (chars text) r → IsTextFault bytes (refused_as r)
 refused_text bytes text (Refused line column kind) e u (inl r) = absurd (no_fault (chars (codes "")) r.from [] kind no_library r.fault)
 refused_text bytes text (Refused line column kind) e u (inr r) = text_fault u (subst (λ (b : List ℕ). IsRefused (chars b) line column kind) e r.text_is)
 refused_text bytes text NoMemory e u r = tt

@@ -4,7 +4,7 @@ ghost use Rattle.au_term.specs.PrefixOrder.{cell_bound, IsValidCell};
 ghost use Rattle.au_term.specs.Shifted.{shifted_cell};
 ghost use Rattle.au_model.specs.Terms.Substitutions.{resolve, occurs};
 ghost use Rattle.bind_store.specs.Bindings.{substitution_of};
-ghost use Rattle.bind_store.specs.CellTests.{is_variable};
+ghost use Rattle.bind_store.specs.CellTests.{is_cell_of_variable};
 
 use crate::bindings::Bindings;
 use crate::walk::{Piece, advance};
@@ -43,7 +43,7 @@ pub(crate) fn occurs(
     pieces.push(Piece { value: None, at: 0 })?;
     while let Some(piece) = pieces.pop() {
         if let Some((cell, base)) = advance(piece, term, bindings, &mut pieces)? {
-            if is_variable(cell, base, variable) {
+            if is_cell_of_variable(cell, base, variable) {
                 return Ok(true);
             }
         }
@@ -52,9 +52,9 @@ pub(crate) fn occurs(
 }
 
 /// Whether a cell, with `base` added to its variable, is this variable.
-fn is_variable(cell: &Cell, base: VarNo, variable: VarNo) -> bool
+fn is_cell_of_variable(cell: &Cell, base: VarNo, variable: VarNo) -> bool
     requires { base + cell_bound cell.now < 2 ^ 64 }
-    ensures { result ≡ is_variable variable (shifted_cell base cell.now) }
+    ensures { result ≡ is_cell_of_variable variable (shifted_cell base cell.now) }
 {
     match cell {
         Cell::Var(number) => variable == base + *number,

@@ -14,6 +14,6 @@ abbrev mutual
   chained_items None' = []
   chained_items (Some' p n) = cell_items n
 
-abbrev pub items_of : Option (Arc GoalCell Global) → List Item
-items_of None = []
-items_of (Some a) = cell_items (arc_value a)
+abbrev pub chain_items : Option (Arc GoalCell Global) → List Item
+chain_items None = []
+chain_items (Some a) = cell_items (arc_value a)

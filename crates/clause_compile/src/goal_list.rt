@@ -2,7 +2,7 @@
 ghost use Rattle.std.specs.Prelude.{◌≡◌, ◌<◌, [], ◌∷◌, IfOk, length, slice_get, drop};
 ghost use Rattle.std.specs.Option.{option_copied};
 ghost use Rattle.std.specs.Iterator.{YieldsFirstRef, item_count};
-ghost use Rattle.clause_compile.specs.GoalChains.{items_of};
+ghost use Rattle.clause_compile.specs.GoalChains.{chain_items};
 
 use crate::item::Item;
 use au_term::NoMemory;
@@ -31,9 +31,9 @@ impl Model for Goals {
 
     ghost coded = { Prim.hlevel (codes, flat.the_row.coded, shared.the_row.coded) };
 
-    ghost use Rattle.clause_compile.specs.GoalChains.{items_of};
+    ghost use Rattle.clause_compile.specs.GoalChains.{chain_items};
 
-    ghost view = { λ g. items_of g.first };
+    ghost view = { λ g. chain_items g.first };
 }
 
 impl Drop for Goals {
@@ -114,7 +114,7 @@ impl Goals {
 }
 
 fn share_chain(chain: &Option<Arc<GoalCell>>) -> Result<Option<Arc<GoalCell>>, NoMemory>
-    ensures { IfOk result (λ shared. items_of shared ≡ items_of chain.now) }
+    ensures { IfOk result (λ shared. chain_items shared ≡ chain_items chain.now) }
 {
     match chain {
         Some(cell) => Ok(Some(Arc::try_clone(cell)?)),
@@ -139,9 +139,9 @@ impl<'a> Model for GoalItems<'a> {
 
     ghost coded = { Prim.hlevel (codes, flat.the_row.coded, shared.the_row.coded) };
 
-    ghost use Rattle.clause_compile.specs.GoalChains.{items_of};
+    ghost use Rattle.clause_compile.specs.GoalChains.{chain_items};
 
-    ghost view = { λ g. items_of g.next.now };
+    ghost view = { λ g. chain_items g.next.now };
 }
 
 impl<'a> Iterator for GoalItems<'a> {

@@ -6,7 +6,7 @@ pub mod clause;
 pub mod event;
 pub mod goal_list;
 pub mod item;
-mod names;
+pub mod names;
 #[cfg(test)]
 mod tests;
 

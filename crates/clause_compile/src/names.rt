@@ -5,7 +5,7 @@ ghost use Rattle.clause_compile.specs.BodyCells.{opens_junction, opens_conjuncti
 use au_term::Cell;
 
 /// Whether a cell begins a compound in which goals are due on both sides.
-pub(crate) fn is_junction_cell(cell: &Cell) -> bool
+pub fn is_junction_cell(cell: &Cell) -> bool
     ensures { result ≡ opens_junction cell.now }
 {
     match cell {
@@ -17,7 +17,7 @@ pub(crate) fn is_junction_cell(cell: &Cell) -> bool
 }
 
 /// Whether a cell begins a conjunction.
-pub(crate) fn is_conjunction_cell(cell: &Cell) -> bool
+pub fn is_conjunction_cell(cell: &Cell) -> bool
     ensures { result ≡ opens_conjunction cell.now }
 {
     match cell {

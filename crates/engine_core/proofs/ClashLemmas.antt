@@ -20,13 +20,13 @@ use Rattle.clause_compile.specs.declared.item.Scope.{Scope}
 use Rattle.clause_compile.specs.declared.event.Branch.{Branch}
 use Rattle.proc_index.specs.declared.key.Key.{Key}
 use Rattle.proc_index.specs.declared.key.Key.TheVariants.{Any, Functor}
-use Rattle.proc_index.specs.Keys.{has_key, first_has, may_match, matching}
+use Rattle.proc_index.specs.Keys.{cell_key, first_has, has_key, head_key, key_of, may_match, matching}
 use Rattle.proc_index.specs.ProcedureIndex.{procedure_of, candidates_of, HaveHeads}
 use Rattle.bind_store.specs.Bindings.{Binding, composed}
 use Rattle.bind_store.specs.StoreView.{StoreView, substitution, IsUnbound, IsDereferencedTerm}
 use Rattle.bind_store.proofs.TriangularLemmas.{free-composed}
 use Rattle.engine_core.specs.Branches.{AreSolved, one_fails, one_solves}
-use Rattle.engine_core.specs.Attempts.{key_of, first_key, cell_key, AreAlternatives}
+use Rattle.engine_core.specs.Attempts.{AreAlternatives}
 
 -- terms of other keys clash
 other_key : (t u : Term) (r : ℕ → Term) → has_key (key_of t) u ≡ false → rule t (apply r u) ≡ Clash
@@ -68,7 +68,7 @@ arguments_clash f g t u ts us r h =
     ∙ opened_clash t (apply r u) (pairs ts (apply_all r us)) (same_name f g && count (more t ts) == count (more (apply r u) (apply_all r us))) (other_key t u r h)
 
 -- a head whose first argument has another key
-key_clash : (goal head : Term) (r : ℕ → Term) → may_match (first_key goal) head ≡ false → unifier ((goal, apply r head) ∷ []) ≡ None
+key_clash : (goal head : Term) (r : ℕ → Term) → may_match (head_key goal) head ≡ false → unifier ((goal, apply r head) ∷ []) ≡ None
 key_clash (VarTerm n) head r h = any_fits (arguments head) h
 key_clash (IntTerm z) head r h = any_fits (arguments head) h
 key_clash (AtomTerm a) head r h = any_fits (arguments head) h
@@ -95,9 +95,9 @@ module _ (here : Scope) (rest : List Item) (st : StoreView) where
 
   module _ (goal : Term) (next : ℕ) (callable : is_callable goal ≡ true) where
     abbrev kept : List ClauseTerms → List ClauseTerms
-    kept cs = matching (first_key goal) (procedure_of cs (name_of goal) (argument_count goal))
+    kept cs = matching (head_key goal) (procedure_of cs (name_of goal) (argument_count goal))
 
-    by_key : (c : ClauseTerms) (cs : List ClauseTerms) (bs : List Branch) (fits : Bool) → may_match (first_key goal) c.head ≡ fits
+    by_key : (c : ClauseTerms) (cs : List ClauseTerms) (bs : List Branch) (fits : Bool) → may_match (head_key goal) c.head ≡ fits
         → ((ds : List Branch) → AreSolved here rest st (alternatives_of (kept cs) goal next) ds → AreSolved here rest st (alternatives_of cs goal next) ds)
         → AreSolved here rest st (alternatives_of (cond fits (c ∷ kept cs) (kept cs)) goal next) bs → AreSolved here rest st (alternatives_of (c ∷ cs) goal next) bs
     by_key c cs bs true e h k = one_solution_more (clause_solution goal next c) (alternatives_of (kept cs) goal next) (alternatives_of cs goal next) bs h k
@@ -105,8 +105,8 @@ module _ (here : Scope) (rest : List Item) (st : StoreView) where
 
     by_procedure : (c : ClauseTerms) (cs : List ClauseTerms) (bs : List Branch) (own : Bool) → is_callable c.head ≡ true → is_clause_of (name_of goal) (argument_count goal) c ≡ own
         → ((ds : List Branch) → AreSolved here rest st (alternatives_of (kept cs) goal next) ds → AreSolved here rest st (alternatives_of cs goal next) ds)
-        → AreSolved here rest st (alternatives_of (matching (first_key goal) (cond own (c ∷ procedure_of cs (name_of goal) (argument_count goal)) (procedure_of cs (name_of goal) (argument_count goal)))) goal next) bs → AreSolved here rest st (alternatives_of (c ∷ cs) goal next) bs
-    by_procedure c cs bs true head e h k = by_key c cs bs (may_match (first_key goal) c.head) refl h k
+        → AreSolved here rest st (alternatives_of (matching (head_key goal) (cond own (c ∷ procedure_of cs (name_of goal) (argument_count goal)) (procedure_of cs (name_of goal) (argument_count goal)))) goal next) bs → AreSolved here rest st (alternatives_of (c ∷ cs) goal next) bs
+    by_procedure c cs bs true head e h k = by_key c cs bs (may_match (head_key goal) c.head) refl h k
     by_procedure c cs bs false head e h k = one_fails (other_clash c goal next callable head e) (h bs k)
 
     -- the clauses that are passed over give nothing
@@ -141,7 +141,7 @@ some_defined clauses name arity key left h = go (is_defined clauses name arity) 
     go false e = cc
 
 -- the key of a goal's first argument
-pub no_arguments : (s : Substitution) (goal : Term) → is_callable goal ≡ true → argument_count goal ≡ 0 → Any ≡ first_key (resolve s goal)
+pub no_arguments : (s : Substitution) (goal : Term) → is_callable goal ≡ true → argument_count goal ≡ 0 → Any ≡ head_key (resolve s goal)
 no_arguments s (VarTerm n) h e = cc
 no_arguments s (IntTerm z) h e = cc
 no_arguments s (AtomTerm a) h e = refl
@@ -155,7 +155,7 @@ unbound_key bs (AtomTerm a) h = refl
 unbound_key bs (Compound f ts) h = ap (Functor f) (sym (count-apply_all (value_of (composed bs)) ts))
 
 pub key_reached : (st : StoreView) (goal first reached : Term) (cell : Cell) (key : Key) → is_callable goal ≡ true → 0 < argument_count goal → first ≡ argument 0 goal → IsDereferencedTerm st first reached → cell ≡ top_of reached → key ≡ cell_key cell
-    → key ≡ first_key (resolve (substitution st) goal)
+    → key ≡ head_key (resolve (substitution st) goal)
 key_reached st (VarTerm n) first reached cell key h lt f r top is = cc
 key_reached st (IntTerm z) first reached cell key h lt f r top is = cc
 key_reached st (AtomTerm a) first reached cell key h lt f r top is = absurd (omega arith)
@@ -165,15 +165,15 @@ key_reached st (Compound g (more t ts)) first reached cell key h lt f r top is =
 
 -- all clauses were tried where the candidates were
 pub all_tried : (here : Scope) (rest : List Item) (st : StoreView) (clauses left : List ClauseTerms) (goal : Term) (name : List ℕ) (arity : ℕ) (key : Key) (bs : Vec Branch Global)
-    → is_callable goal ≡ true → HaveHeads clauses → name_of goal ≡ name → argument_count goal ≡ arity → key ≡ first_key (resolve (substitution st) goal) → Some left ≡ candidates_of clauses name arity key
+    → is_callable goal ≡ true → HaveHeads clauses → name_of goal ≡ name → argument_count goal ≡ arity → key ≡ head_key (resolve (substitution st) goal) → Some left ≡ candidates_of clauses name arity key
     → AreSolved here rest st (alternatives_of left (resolve (substitution st) goal) st.next) bs.items → AreAlternatives clauses here rest st goal (Some bs)
 all_tried here rest st clauses left goal name arity key bs callable heads n a k h solved =
     let defined = some_defined clauses name arity key left h in
     let applied = resolve (substitution st) goal in
     let own_name : name ≡ name_of applied = sym n ∙ sym (name_kept (substitution st) goal callable) in
     let own_arity : arity ≡ argument_count applied = sym a ∙ sym (arity_kept (substitution st) goal callable) in
-    let are : left ≡ matching (first_key applied) (procedure_of clauses (name_of applied) (argument_count applied)) =
-    defined.1 ∙ (ap (λ q. matching q (procedure_of clauses name arity)) k ∙ (ap (λ m. matching (first_key applied) (procedure_of clauses m arity)) own_name ∙ ap (λ m. matching (first_key applied) (procedure_of clauses (name_of applied) m)) own_arity)) in (
+    let are : left ≡ matching (head_key applied) (procedure_of clauses (name_of applied) (argument_count applied)) =
+    defined.1 ∙ (ap (λ q. matching q (procedure_of clauses name arity)) k ∙ (ap (λ m. matching (head_key applied) (procedure_of clauses m arity)) own_name ∙ ap (λ m. matching (head_key applied) (procedure_of clauses (name_of applied) m)) own_arity)) in (
       ap (λ m. is_defined clauses m (argument_count goal)) n ∙ (ap (is_defined clauses name) a ∙ defined.0),
       among_all here rest st applied st.next (callable_kept (substitution st) goal callable) clauses bs.items heads (subst (λ cs. AreSolved here rest st (alternatives_of cs applied st.next) bs.items) are solved),
     )

@@ -9,12 +9,12 @@ use Rattle.clause_compile.specs.declared.item.Item.TheVariants.{Goal}
 use Rattle.clause_compile.specs.declared.event.Branch.{Branch}
 use Rattle.bind_store.specs.Bindings.{AreTriangular, IsBindingBelow, resolved_after}
 use Rattle.bind_store.specs.StoreView.{StoreView, pairs_of, substitution}
-use Rattle.engine_core.specs.Branches.{IsItemBelow, HasGoalsBefore, GoesOnPlainly, made_by}
+use Rattle.engine_core.specs.Branches.{IsItemBelow, HasGoalsBefore, GoesOnPlainly, branch_bindings}
 use Rattle.engine_core.specs.PlainBranches.{MakesNone}
 
 pub goes_on : (st : StoreView) (cut : Scope) (gs : List Term) (rest goals : List Item) (b : Branch) → MakesNone st goals b → HasGoalsBefore st.made cut gs rest goals → GoesOnPlainly cut gs rest st b
 goes_on st cut gs rest goals b m s =
-    let none : made_by st b ≡ [] = ap (λ ds. resolved_after st.made (pairs_of ds)) m.bindings in
+    let none : branch_bindings st b ≡ [] = ap (λ ds. resolved_after st.made (pairs_of ds)) m.bindings in
     let same : st.next ≡ st.next + 0 = omega arith in
     record {
       takes = record {

@@ -1,9 +1,7 @@
 -- Trying one way for a goal to hold.
 use Rattle.std.specs.Prelude.{◌≡◌, true, false, List, [], ◌∷◌, ◌++◌, Option, Some, None, Vec}
 use Rattle.std.specs.Global.{Global}
-use Rattle.au_term.specs.Term.{Term, Terms, VarTerm, IntTerm, AtomTerm, Compound, end, more, count, arguments, argument_count}
-use Rattle.au_term.specs.declared.cell.Cell.{Cell}
-use Rattle.au_term.specs.declared.cell.Cell.TheVariants.{Var as VarCell, Int as IntCell, Atom as AtomCell, Functor as FunctorCell}
+use Rattle.au_term.specs.Term.{Term, argument_count}
 use Rattle.au_term.specs.declared.segment.Binding.{Binding as SharedBinding}
 use Rattle.au_model.specs.Terms.Each.{Each}
 use Rattle.au_model.specs.Terms.Forms.{name_of}
@@ -14,33 +12,9 @@ use Rattle.run_model.specs.Goals.Outcomes.{Solution, alternatives_of}
 use Rattle.clause_compile.specs.declared.item.Scope.{Scope}
 use Rattle.clause_compile.specs.declared.item.Item.{Item}
 use Rattle.clause_compile.specs.declared.event.Branch.{Branch}
-use Rattle.proc_index.specs.declared.key.Key.{Key}
-use Rattle.proc_index.specs.declared.key.Key.TheVariants.{Any, Int, Atom, Functor}
 use Rattle.bind_store.specs.Bindings.{composed, resolved_after, AreTriangular, IsBindingBelow}
 use Rattle.bind_store.specs.StoreView.{StoreView, substitution, pairs_of}
 use Rattle.engine_core.specs.Branches.{IsBranchOf, AreSolved}
-
--- the key of a term: a variable may be anything
-abbrev pub key_of : Term → Key
-key_of (VarTerm n) = Any
-key_of (IntTerm z) = Int z
-key_of (AtomTerm a) = Atom a
-key_of (Compound f ts) = Functor f (count ts)
-
-abbrev pub first_key_of : Terms → Key
-first_key_of end = Any
-first_key_of (more t ts) = key_of t
-
--- the key of a goal's first argument
-abbrev pub first_key : Term → Key
-first_key goal = first_key_of (arguments goal)
-
--- the same by a term's first cell
-abbrev pub cell_key : Cell → Key
-cell_key (VarCell n) = Any
-cell_key (IntCell z) = Int z
-cell_key (AtomCell a) = Atom a
-cell_key (FunctorCell f n) = Functor f n
 
 -- one way for an equation to hold, without new goals or variables
 abbrev pub equation_solution : Term → Term → Solution

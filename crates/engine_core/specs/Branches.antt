@@ -28,23 +28,23 @@ pub record HasGoalsBefore (bindings : List Binding) (cut : Scope) (gs : List Ter
   pub same : map (resolve (composed bindings)) terms ≡ gs
 
 -- the bindings that a branch makes after those of a store
-abbrev pub made_by : StoreView → Branch → List Binding
-made_by st b = resolved_after st.made (pairs_of b.segment.bindings)
+abbrev pub branch_bindings : StoreView → Branch → List Binding
+branch_bindings st b = resolved_after st.made (pairs_of b.segment.bindings)
 
 -- What a branch keeps, so that its segment can be made again where the store is as it was: it takes so many numbers,
 -- binds variables that were unbound, each once, and all that it has is below its last number.
 pub record TakesNumbers (st : StoreView) (variables : ℕ) (b : Branch) : Type 0 where
   pub base : b.segment.base ≡ st.next
   pub vars : b.segment.vars ≡ variables
-  pub apart : AreTriangular (st.made ++ made_by st b)
-  pub bindings : Each (IsBindingBelow (st.next + variables)) (made_by st b)
+  pub apart : AreTriangular (st.made ++ branch_bindings st b)
+  pub bindings : Each (IsBindingBelow (st.next + variables)) (branch_bindings st b)
   pub items : Each (IsItemBelow (st.next + variables)) b.goals
 
 -- a branch is that of a solution: its bindings are the unifier, and its goals come, in this scope, before the rest
 pub record IsBranchOf (here : Scope) (rest : List Item) (st : StoreView) (s : Solution) (b : Branch) : Type 0 where
   pub takes : TakesNumbers st s.variables b
-  pub unified : unifier s.equations ≡ Some (composed (made_by st b))
-  pub goals : HasGoalsBefore (st.made ++ made_by st b) here (map (resolve (composed (made_by st b))) s.goals) rest b.goals
+  pub unified : unifier s.equations ≡ Some (composed (branch_bindings st b))
+  pub goals : HasGoalsBefore (st.made ++ branch_bindings st b) here (map (resolve (composed (branch_bindings st b))) s.goals) rest b.goals
 
 -- the branches are those of the solutions whose equations unify, in their order
 pub data AreSolved (here : Scope) (rest : List Item) (st : StoreView) : List Solution → List Branch → Type 0 where

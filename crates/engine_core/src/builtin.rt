@@ -15,10 +15,9 @@ ghost use Rattle.engine_core.specs.GoalReductions.{ComesTo};
 ghost use Rattle.engine_core.specs.Solved.{IsUnboundSolution, IsJoined};
 ghost use Rattle.engine_core.specs.Attempts.{IsTried};
 
-use crate::attempt::bindings_between;
-use crate::continuation::Continuation;
 use crate::control::unify;
-use crate::reduction::Reduction;
+use crate::procedure::bindings_between;
+use crate::reduction::{Continuation, Reduction};
 use au_model::build::{atom, compound};
 use au_term::{Atom, FlatTerm, NoMemory, Segment, Shared};
 use bind_store::Store;

@@ -1,30 +1,28 @@
-//! Calls (ISO/IEC 13211-1, 7.8.3, and 8.15.4 of its second corrigendum).
-ghost use Rattle.std.specs.Prelude.{◌≡◌, ◌≤◌, ◌<◌, true, IfOk, MatchOption};
-ghost use Rattle.au_term.specs.Term.{var_bound, arguments, argument_count, drop_terms};
+//! Calls (ISO/IEC 13211-1, 7.8.3, and 8.15.4 of its second corrigendum), and the goals that they make.
+ghost use Rattle.std.specs.Prelude.{◌≡◌, ◌≤◌, ◌<◌, true, IfOk, MatchOption, ◌+◌, ◌++◌, OnOk, drop, length};
+ghost use Rattle.au_term.specs.Term.{var_bound, arguments, argument_count, drop_terms, Compound};
 ghost use Rattle.au_model.specs.Terms.Each.{Each};
 ghost use Rattle.run_model.specs.Programs.Bodies.{called_goals};
-ghost use Rattle.run_model.specs.Goals.Control.{call_outcome, called};
-ghost use Rattle.au_model.specs.Terms.Forms.{is_callable};
+ghost use Rattle.run_model.specs.Goals.Control.{call_outcome, called, with_arguments};
+ghost use Rattle.au_model.specs.Terms.Forms.{is_callable, name_of};
 ghost use Rattle.au_model.specs.Terms.Substitutions.{resolve};
 ghost use Rattle.bind_store.specs.StoreView.{substitution};
-ghost use Rattle.engine_core.specs.GoalArguments.{resolved_argument};
+ghost use Rattle.engine_core.specs.GoalArguments.{resolved_argument, listed};
 ghost use Rattle.engine_core.specs.Branches.{IsItemBelow};
 ghost use Rattle.engine_core.specs.Calls.{IsUncallable};
 ghost use Rattle.engine_core.specs.Reductions.{IsOutcome};
+ghost use Rattle.au_model.specs.Terms.Lists.{terms_from};
 
-use crate::added::with_arguments;
-use crate::continuation::Continuation;
+use crate::bodies::{alone, goal_branch, onward};
 use crate::faults::{arity_ball, unbound_ball, uncallable_ball};
-use crate::names::{is_integer, is_junction, is_variable};
-use crate::onward::{alone, goal_branch, onward};
-use crate::reduction::Reduction;
-use au_term::{FlatTerm, NoMemory, Shared};
+use crate::names::{is_integer, is_variable};
+use crate::reduction::{Continuation, Reduction};
+use au_model::names::name_of_shared;
+use au_term::{Atom, Cell, FlatTerm, MAX_ARITY, NoMemory, Shared, TermBuilder};
 use bind_store::Store;
+use clause_compile::names::is_junction_cell;
 use clause_compile::{ClauseRefusal, body_goals};
 use std::alloc::Global;
-
-/// The most arguments that a compound has.
-const MAX_ARITY: u64 = 65_535;
 
 /// The ball of calling a variable or an integer, with so many arguments in all; none for an atom or a compound.
 pub(crate) fn calling_ball(
@@ -65,7 +63,7 @@ pub(crate) fn call(
         return Ok(Reduction::Raise(ball));
     }
     // The call's first argument is none of the goal's.
-    if u64::from(callee.arity()) + u64::from(arity) > MAX_ARITY + 1 {
+    if u64::from(callee.arity()) + u64::from(arity) > u64::from(MAX_ARITY) + 1 {
         let ball = arity_ball(alloc, arity)?;
         return Ok(Reduction::Raise(ball));
     }
@@ -87,7 +85,7 @@ fn called_goal(
     ensures { IfOk result (IsOutcome place.now.cut place.now.here place.now.rest.now store.now
         (called arity (resolve (substitution store.now) goal.now) (called_goals (resolve (substitution store.now) goal.now)))) }
 {
-    if is_junction(&goal.top()?) {
+    if is_junction_cell(&goal.top()?) {
         return called_body(alloc, goal, arity, place, store);
     }
     let branch = goal_branch(alloc, goal, place.here, place.rest, store)?;
@@ -115,4 +113,67 @@ fn called_body(
         Err(ClauseRefusal::NoMemory) => Err(NoMemory),
         Err(_) => Ok(Reduction::Raise(uncallable_ball(alloc, &body, arity)?)),
     }
+}
+
+/// What is called: a term with all arguments of a goal but the first added to its own.
+pub(crate) fn with_arguments(
+    alloc: Global,
+    callee: &Shared,
+    goal: &Shared,
+) -> Result<Shared, NoMemory>
+    requires callable { is_callable callee.now ≡ true }
+    requires some { 0 < argument_count goal.now }
+    requires most { argument_count callee.now + argument_count goal.now ≤ 65536 }
+    ensures { IfOk result (λ called. called ≡ with_arguments callee.now (drop_terms 1 (arguments goal.now))) }
+{
+    if goal.arity() == 1 {
+        let same = callee.share()?;
+        return Ok(same);
+    }
+    let mut arguments = Vec::new(alloc);
+    push_all_arguments(alloc, callee, &mut arguments)?;
+    push_arguments(goal, 1, &mut arguments)?;
+    let called = compound(alloc, name_of_shared(callee)?, &arguments)?;
+    Ok(called)
+}
+
+/// Puts all arguments of a term after others, in time linear in the term: an argument found by its number is searched
+/// for from the first one.
+fn push_all_arguments(alloc: Global, term: &Shared, all: &mut Vec<Shared>) -> Result<(), NoMemory>
+    ensures { OnOk result (all.new.items ≡ all.old.items ++ listed (arguments term.now)) }
+{
+    let own = term.to_term(alloc)?;
+    for cells in own.args() {
+        let argument = FlatTerm::from_slice(alloc, cells)?;
+        all.push(Shared::from_term(alloc, argument)?)?;
+    }
+    Ok(())
+}
+
+/// Puts the arguments of a goal from this one on after others.
+fn push_arguments(term: &Shared, from: u32, all: &mut Vec<Shared>) -> Result<(), NoMemory>
+    requires { from ≤ argument_count term.now }
+    ensures { OnOk result (all.new.items ≡ all.old.items ++ drop from (listed (arguments term.now))) }
+{
+    for i in from..term.arity() {
+        all.push(term.argument(i)?)?;
+    }
+    Ok(())
+}
+
+/// A compound of this name with these arguments.
+fn compound(alloc: Global, name: Atom, arguments: &[Shared]) -> Result<Shared, NoMemory>
+    requires some { 0 < length arguments.now }
+    requires most { length arguments.now ≤ 65535 }
+    ensures { IfOk result (λ t. t ≡ Compound name (terms_from arguments.now)) }
+{
+    let mut builder = TermBuilder::new(alloc);
+    builder.push(Cell::Functor(name, arguments.len() as u32))?;
+    for argument in arguments {
+        let term = argument.to_term(alloc)?;
+        builder.push_all(term.cells())?;
+    }
+    let term = builder.finish();
+    let shared = Shared::from_term(alloc, term)?;
+    Ok(shared)
 }

@@ -9,14 +9,13 @@ ghost use Rattle.bind_store.specs.StoreView.{substitution};
 ghost use Rattle.engine_core.specs.Branches.{IsItemBelow};
 ghost use Rattle.engine_core.specs.Reductions.{IsOutcome, IsReduced};
 
+use crate::bodies::{alone, rest_branch};
 use crate::builtin::builtin_outcome;
 use crate::call::calling_ball;
-use crate::continuation::Continuation;
 use crate::control::construct_outcome;
-use crate::names::name_of;
-use crate::onward::{alone, rest_branch};
 use crate::procedure::clauses_tried;
-use crate::reduction::Reduction;
+use crate::reduction::{Continuation, Reduction};
+use au_model::names::name_of_shared;
 use au_term::{Atom, FlatTerm, NoMemory, Shared};
 use bind_store::Store;
 use clause_compile::{Effect, Goals, Item, Scope};
@@ -105,7 +104,7 @@ fn callable_outcome(
     ensures outcome { IfOk result (IsOutcome place.now.cut place.now.here place.now.rest.now store.old (outcome_of procs.now (resolve (substitution store.old) goal.now) store.old.next)) }
     ensures store { store.new ≡ store.old }
 {
-    let name = name_of(goal)?;
+    let name = name_of_shared(goal)?;
     let arity = goal.arity();
     if let Some(construct) = control_of(name.text(), arity) {
         return construct_outcome(alloc, construct, goal, place, store);

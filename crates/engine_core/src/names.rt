@@ -1,21 +1,15 @@
-//! Cells told by name.
+//! Cells told by name, and what a goal's first argument can be told by.
 ghost use Rattle.std.specs.Prelude.{◌≡◌, true, IfOk};
-ghost use Rattle.au_model.specs.Terms.Forms.{is_callable, name_of};
-ghost use Rattle.clause_compile.specs.BodyCells.{opens_junction, opens_conjunction};
+ghost use Rattle.au_model.specs.Terms.Forms.{is_callable};
 ghost use Rattle.engine_core.specs.Calls.{is_variable_cell, is_integer_cell};
 ghost use Rattle.engine_core.specs.Conjunctions.{opens_condition};
+ghost use Rattle.au_model.specs.Terms.Substitutions.{resolve};
+ghost use Rattle.bind_store.specs.StoreView.{substitution};
+ghost use Rattle.proc_index.specs.Keys.{cell_key, head_key};
 
-use au_term::{Atom, Cell, NoMemory, Shared};
-
-/// Whether a cell begins a conjunction.
-pub(crate) fn is_conjunction(cell: &Cell) -> bool
-    ensures { result ≡ opens_conjunction cell.now }
-{
-    match cell {
-        Cell::Functor(name, arity) => *arity == 2 && name.is_text(","),
-        _ => false,
-    }
-}
+use au_term::{Cell, NoMemory, Shared};
+use bind_store::Store;
+use proc_index::Key;
 
 /// Whether a cell begins a condition with its goal.
 pub(crate) fn is_condition(cell: &Cell) -> bool
@@ -23,18 +17,6 @@ pub(crate) fn is_condition(cell: &Cell) -> bool
 {
     match cell {
         Cell::Functor(name, arity) => *arity == 2 && name.is_text("->"),
-        _ => false,
-    }
-}
-
-/// Whether a cell begins a compound in which goals are due on both sides.
-pub(crate) fn is_junction(cell: &Cell) -> bool
-    ensures { result ≡ opens_junction cell.now }
-{
-    match cell {
-        Cell::Functor(name, arity) => {
-            *arity == 2 && (name.is_text(",") || name.is_text(";") || name.is_text("->"))
-        }
         _ => false,
     }
 }
@@ -59,13 +41,26 @@ pub(crate) fn is_integer(cell: &Cell) -> bool
     }
 }
 
-/// The name of an atom or compound.
-pub(crate) fn name_of(term: &Shared) -> Result<Atom, NoMemory>
-    requires { is_callable term.now ≡ true }
-    ensures { IfOk result (λ name. name ≡ name_of term.now) }
+/// The key of a goal's first argument, its bindings applied; `Any` where it is a variable or there is none.
+pub(crate) fn first_key(goal: &Shared, store: &Store) -> Result<Key, NoMemory>
+    requires { is_callable goal.now ≡ true }
+    ensures { IfOk result (λ key. key ≡ head_key (resolve (substitution store.now) goal.now)) }
 {
-    match term.top()? {
-        Cell::Atom(name) | Cell::Functor(name, _) => Ok(name),
-        _ => unreachable!(),
+    if goal.arity() == 0 {
+        return Ok(Key::Any);
+    }
+    let first = store.reached(&goal.argument(0)?)?;
+    Ok(key_of(first.top()?))
+}
+
+/// The key of a term that begins with this cell.
+fn key_of(cell: Cell) -> Key
+    ensures { result ≡ cell_key cell }
+{
+    match cell {
+        Cell::Var(_) => Key::Any,
+        Cell::Int(value) => Key::Int(value),
+        Cell::Atom(name) => Key::Atom(name),
+        Cell::Functor(name, arity) => Key::Functor(name, arity),
     }
 }

@@ -1,7 +1,7 @@
-//! What one item comes to.
+//! What a goal comes to, and where it is.
 
 use au_term::FlatTerm;
-use clause_compile::{Branch, Effect, Opening, Scope};
+use clause_compile::{Branch, Effect, Goals, Opening, Scope};
 
 /// What an item comes to (ISO/IEC 13211-1, 7.7 and 7.8).
 #[derive(Drop)]
@@ -18,4 +18,15 @@ pub enum Reduction {
     Collect(FlatTerm),
     /// A goal that looks at the world or changes it, a removal, or the end of a query.
     Gate(Effect),
+}
+
+/// What follows a goal, and the choice points to which cuts lead (ISO/IEC 13211-1, 7.7.2).
+#[derive(Drop)]
+pub(crate) struct Continuation<'a> {
+    /// The items that follow the goal.
+    pub rest: &'a Goals,
+    /// The choice point to which a cut in the goal's own body cuts.
+    pub cut: Scope,
+    /// The one to which a cut in a called body or a clause's body cuts.
+    pub here: Scope,
 }

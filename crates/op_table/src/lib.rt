@@ -6,7 +6,7 @@ mod refusal;
 mod search;
 mod table;
 
-pub use operator::{OpKind, OpRow, Operator};
+pub use operator::{ARGUMENT_PRIORITY, MAX_PRIORITY, OpKind, OpRow, Operator};
 pub use refusal::OpRefusal;
 pub use table::Ops;
 

@@ -27,7 +27,13 @@ pub(crate) enum OpClass {
     Postfix,
 }
 
-/// An operator's priority, from 1 to 1200, and kind.
+/// The greatest priority of a term (6.3.1.1).
+pub const MAX_PRIORITY: u16 = 1200;
+
+/// The greatest priority of an argument or an item of a list (6.3.3).
+pub const ARGUMENT_PRIORITY: u16 = 999;
+
+/// An operator's priority, from 1 to `MAX_PRIORITY`, and kind.
 #[derive(Clone, Copy, Debug, PartialEq, Eq)]
 pub struct Operator {
     pub priority: u16,

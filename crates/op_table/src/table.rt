@@ -5,7 +5,7 @@ ghost use Rattle.op_table.specs.OperatorView.{kind_meant, operator_meant, row_me
 ghost use Rattle.op_table.specs.TableRows.{stored_row};
 ghost use Rattle.op_table.specs.TableChanges.{is_protected_name, may_be_added, conflicting_operator};
 
-use crate::operator::{OpClass, OpKind, OpRow, Operator};
+use crate::operator::{MAX_PRIORITY, OpClass, OpKind, OpRow, Operator};
 use crate::search::{Slot, find, slot_of};
 use au_term::{Atom, NoMemory, is_text};
 use std::alloc::Global;
@@ -162,7 +162,7 @@ impl Ops {
         let Operator { priority, kind } = row.operator;
         let name = row.name.text();
         0 < priority
-            && priority <= 1200
+            && priority <= MAX_PRIORITY
             && !is_protected_name(name)
             && self.conflicting_operator(name, kind).is_none()
     }

@@ -19,7 +19,7 @@ use Rattle.proc_index.specs.declared.key.Key.{Key}
 use Rattle.proc_index.specs.declared.procedure.Procedure.{Procedure}
 use Rattle.proc_index.specs.Keys.{matching, may_match, head_key, is_any, same_key}
 use Rattle.proc_index.specs.Places.{places_from, places, merged, clauses_at}
-use Rattle.proc_index.specs.ProcedureIndex.{Arities, key_cmp, found_places, all_in, variables_in, keyed_in, found_in, procedure_at, and_place, IsListed, IsIndexed, IsPlacedIn, IsPut, IsPutUnder, IsEmpty, IsAdded, IsAddedTo, procedure_of, candidates_of}
+use Rattle.proc_index.specs.ProcedureIndex.{Arities, key_cmp, found_places, all_in, variables_in, keyed_in, found_in, procedure_at, and_place, IsListed, IsIndexed, GainsPlace, IsPut, IsPutUnder, IsEmpty, IsAdded, IsAddedTo, procedure_of, candidates_of}
 use Rattle.proc_index.proofs.KeyLemmas.{key_tied, same_key_is, match_by_key, all_match, any_or_same}
 use Rattle.proc_index.proofs.PlacesLemmas.{merged_nil, merged_places, same_places, push_places, clauses_at_places, places_within, filter_twice, filter_same}
 
@@ -55,7 +55,7 @@ pub taken_procedure : (taken : Option Procedure) (fresh procedure : Procedure) �
 taken_procedure (Some p) fresh procedure e h = record { all = ap (λ q. all_in (Some q)) h; variables = ap (λ q. variables_in (Some q)) h; keyed = λ k. ap (λ q. keyed_in (Some q) k) h }
 taken_procedure None fresh procedure e h = record { all = ap (λ q. all_in (Some q)) h ∙ e.0; variables = ap (λ q. variables_in (Some q)) h ∙ e.1; keyed = λ k. ap (λ q. keyed_in (Some q) k) h ∙ e.2 k }
 
-stays : (o : Option Procedure) (place : ℕ) (key : Key) → IsPlacedIn o o false place key
+stays : (o : Option Procedure) (place : ℕ) (key : Key) → GainsPlace o o false place key
 stays o place key = record { all = sym (append-nil (all_in o)); variables = sym (append-nil (variables_in o)); keyed = λ k. sym (append-nil (keyed_in o k)) }
 
 pub added_to : (arities mid now : Arities) (own place : ℕ) (key : Key) (taken : Option Procedure) (procedure put : Procedure) → taken ≡ get nat_cmp arities own
@@ -63,18 +63,18 @@ pub added_to : (arities mid now : Arities) (own place : ℕ) (key : Key) (taken 
     → SameLists (Some procedure) taken → IsPut procedure put place key → IsAddedTo arities now own place key
 added_to arities mid now own place key taken procedure put t m n s h arity = go (own == arity) refl
   where
-    go : (b : Bool) → (own == arity) ≡ b → IsPlacedIn (get nat_cmp arities arity) (get nat_cmp now arity) b place key
+    go : (b : Bool) → (own == arity) ≡ b → GainsPlace (get nat_cmp arities arity) (get nat_cmp now arity) b place key
     go true e =
         let there : get nat_cmp now arity ≡ Some put = n arity ∙ ap (λ b. cond b (Some put) (get nat_cmp mid arity)) (at-arity own arity ∙ e) in
         let here : taken ≡ get nat_cmp arities arity = t ∙ ap (get nat_cmp arities) (eqb-true own arity e) in
-        subst (λ o. IsPlacedIn (get nat_cmp arities arity) o true place key) (sym there) (subst (λ o. IsPlacedIn o (Some put) true place key) here (record {
+        subst (λ o. GainsPlace (get nat_cmp arities arity) o true place key) (sym there) (subst (λ o. GainsPlace o (Some put) true place key) here (record {
           all = h.all ∙ ap (λ ks. ks ++ and_place true place) s.all;
           variables = h.variables ∙ ap (λ ks. ks ++ and_place (is_any key) place) s.variables;
           keyed = λ k. h.keyed k ∙ ap (λ ks. ks ++ and_place (same_key k key) place) (s.keyed k);
         }))
     go false e =
         let same : get nat_cmp now arity ≡ get nat_cmp arities arity = n arity ∙ (ap (λ b. cond b (Some put) (get nat_cmp mid arity)) (at-arity own arity ∙ e) ∙ (m arity ∙ ap (λ b. cond b None (get nat_cmp arities arity)) (at-arity own arity ∙ e))) in
-        subst (λ o. IsPlacedIn (get nat_cmp arities arity) o false place key) (sym same) (stays (get nat_cmp arities arity) place key)
+        subst (λ o. GainsPlace (get nat_cmp arities arity) o false place key) (sym same) (stays (get nat_cmp arities arity) place key)
 
 -- the procedures of a name that was taken out, or none
 pub taken_out : (taken : Option Arities) (fresh arities : Arities) → fresh.entries ≡ [] → arities ≡ unwrap_or taken fresh → (b : ℕ) → get nat_cmp arities b ≡ found_in taken b
@@ -87,22 +87,22 @@ pub added : (index mid now : BTreeMap Atom Arities) (own : List ℕ) (number pla
     → ((q : List ℕ) → get (slice_cmp nat_cmp) now q ≡ cond (is_at (slice_cmp nat_cmp own) q) (Some put) (get (slice_cmp nat_cmp) mid q))
     → ((b : ℕ) → get nat_cmp arities b ≡ found_in taken b) → IsAddedTo arities put number place key → IsAdded index now place c
 added index mid now own number place c key taken arities put o k e t m n f a name arity =
-    subst (λ u. IsPlacedIn (procedure_at index name arity) (procedure_at now name arity) (same_name u name && argument_count c.head == arity) place (head_key c.head)) o
-    (subst (λ u. IsPlacedIn (procedure_at index name arity) (procedure_at now name arity) (same_name own name && u == arity) place (head_key c.head)) k
-    (subst (IsPlacedIn (procedure_at index name arity) (procedure_at now name arity) (same_name own name && number == arity) place) e (go (same_name own name) refl)))
+    subst (λ u. GainsPlace (procedure_at index name arity) (procedure_at now name arity) (same_name u name && argument_count c.head == arity) place (head_key c.head)) o
+    (subst (λ u. GainsPlace (procedure_at index name arity) (procedure_at now name arity) (same_name own name && u == arity) place (head_key c.head)) k
+    (subst (GainsPlace (procedure_at index name arity) (procedure_at now name arity) (same_name own name && number == arity) place) e (go (same_name own name) refl)))
   where
-    go : (b : Bool) → same_name own name ≡ b → IsPlacedIn (procedure_at index name arity) (procedure_at now name arity) (b && number == arity) place key
+    go : (b : Bool) → same_name own name ≡ b → GainsPlace (procedure_at index name arity) (procedure_at now name arity) (b && number == arity) place key
     go true h =
         let there : procedure_at now name arity ≡ get nat_cmp put arity = ap (λ x. found_in x arity) (n name ∙ ap (λ b. cond b (Some put) (get (slice_cmp nat_cmp) mid name)) (at-name own name ∙ h)) in
         let here : get nat_cmp arities arity ≡ procedure_at index name arity = f arity ∙ ap (λ x. found_in x arity) (t ∙ ap (get (slice_cmp nat_cmp) index) (same_text own name (sym h))) in
-        subst (λ x. IsPlacedIn (procedure_at index name arity) x (number == arity) place key) (sym there) (subst (λ x. IsPlacedIn x (get nat_cmp put arity) (number == arity) place key) here (a arity))
+        subst (λ x. GainsPlace (procedure_at index name arity) x (number == arity) place key) (sym there) (subst (λ x. GainsPlace x (get nat_cmp put arity) (number == arity) place key) here (a arity))
     go false h =
         let same : procedure_at now name arity ≡ procedure_at index name arity =
         ap (λ x. found_in x arity) (n name ∙ (ap (λ b. cond b (Some put) (get (slice_cmp nat_cmp) mid name)) (at-name own name ∙ h) ∙ (m name ∙ ap (λ b. cond b None (get (slice_cmp nat_cmp) index name)) (at-name own name ∙ h)))) in
-        subst (λ x. IsPlacedIn (procedure_at index name arity) x false place key) (sym same) (stays (procedure_at index name arity) place key)
+        subst (λ x. GainsPlace (procedure_at index name arity) x false place key) (sym same) (stays (procedure_at index name arity) place key)
 
 -- one clause more
-listed_more : (o now : Option Procedure) (p : ClauseTerms → Bool) (done : List ClauseTerms) (c : ClauseTerms) → IsListed o p done → IsPlacedIn o now (p c) (length done) (head_key c.head) → IsListed now p (done ++ c ∷ [])
+listed_more : (o now : Option Procedure) (p : ClauseTerms → Bool) (done : List ClauseTerms) (c : ClauseTerms) → IsListed o p done → GainsPlace o now (p c) (length done) (head_key c.head) → IsListed now p (done ++ c ∷ [])
 listed_more o now p done c h k = record {
   all = k.all ∙ (ap (λ ks. ks ++ and_place (p c) (length done)) h.all ∙ sym (push_places p done c));
   variables = k.variables ∙ (ap (λ ks. ks ++ and_place (p c && is_any (head_key c.head)) (length done)) h.variables ∙ sym (push_places (λ d. p d && is_any (head_key d.head)) done c));

@@ -3,7 +3,7 @@ use Rattle.std.proofs.Common.{◌≡◌, ℕ, zero, suc, ◌<◌, Bool, true, fa
 use Rattle.au_term.specs.Term.{Term, VarTerm, IntTerm, AtomTerm, Compound, Terms, end, more, count, argument_count, argument, term_at}
 use Rattle.au_model.specs.Terms.Substitutions.{Substitution, apply, apply_all, value_of}
 use Rattle.au_model.specs.Terms.Unifier.{unifier}
-use Rattle.au_model.specs.Terms.MostGeneral.{IsAnswer}
+use Rattle.au_model.specs.Terms.MostGeneral.{IsUnifierAnswer}
 use Rattle.au_model.proofs.UnifierRuleLemmas.{count-apply_all}
 use Rattle.au_model.proofs.UnifierLemmas.{unifier_answers}
 use Rattle.proc_index.specs.declared.key.Key.{Key}
@@ -48,7 +48,7 @@ no_unifier goal head i f l m a e =
     let self = same_key_self (key_of (argument i goal)) a.left in
     let other : same_key (key_of (argument i goal)) (key_of (argument i goal)) ≡ false = ap (same_key (key_of (argument i goal))) keys ∙ a.other in cc
 
-none_by : (goal head : Term) (i : ℕ) (o : Option Substitution) → i < argument_count goal → i < argument_count head → Apart (key_of (argument i goal)) (key_of (argument i head)) → IsAnswer o ((goal, head) ∷ []) → o ≡ None
+none_by : (goal head : Term) (i : ℕ) (o : Option Substitution) → i < argument_count goal → i < argument_count head → Apart (key_of (argument i goal)) (key_of (argument i head)) → IsUnifierAnswer o ((goal, head) ∷ []) → o ≡ None
 none_by goal head i None l m a h = refl
 none_by goal head i (Some s) l m a h = absurd (no_unifier goal head i (value_of s) l m a h.unifies.0)
 

@@ -70,13 +70,13 @@ IsIndexed index clauses = (name : List ℕ) (arity : ℕ) → IsListed (procedur
 abbrev pub and_place : Bool → ℕ → List ℕ
 and_place own place = cond own (place ∷ []) []
 
-pub record IsPlacedIn (old now : Option Procedure) (own : Bool) (place : ℕ) (key : Key) : Type 0 where
+pub record GainsPlace (old now : Option Procedure) (own : Bool) (place : ℕ) (key : Key) : Type 0 where
   pub all : all_in now ≡ all_in old ++ and_place own place
   pub variables : variables_in now ≡ variables_in old ++ and_place (own && is_any key) place
   pub keyed : (k : Key) → keyed_in now k ≡ keyed_in old k ++ and_place (own && same_key k key) place
 
 abbrev pub IsPut : Procedure → Procedure → ℕ → Key → Type 0
-IsPut old now place key = IsPlacedIn (Some old) (Some now) true place key
+IsPut old now place key = GainsPlace (Some old) (Some now) true place key
 
 abbrev pub IsPutUnder : BTreeMap Key (Vec ℕ Global) → BTreeMap Key (Vec ℕ Global) → Key → ℕ → Type 0
 IsPutUnder old now key place = (k : Key) → found_places (get key_cmp now k) ≡ found_places (get key_cmp old k) ++ and_place (same_key k key) place
@@ -86,10 +86,10 @@ IsEmpty p = (all_in (Some p) ≡ []) × (variables_in (Some p) ≡ []) × ((key 
 
 -- a clause of this head was put in at a place
 abbrev pub IsAdded : BTreeMap Atom Arities → BTreeMap Atom Arities → ℕ → ClauseTerms → Type 0
-IsAdded index now place c = (name : List ℕ) (arity : ℕ) → IsPlacedIn (procedure_at index name arity) (procedure_at now name arity) (is_clause_of name arity c) place (head_key c.head)
+IsAdded index now place c = (name : List ℕ) (arity : ℕ) → GainsPlace (procedure_at index name arity) (procedure_at now name arity) (is_clause_of name arity c) place (head_key c.head)
 
 abbrev pub IsAddedTo : Arities → Arities → ℕ → ℕ → Key → Type 0
-IsAddedTo arities now own place key = (arity : ℕ) → IsPlacedIn (get nat_cmp arities arity) (get nat_cmp now arity) (own == arity) place key
+IsAddedTo arities now own place key = (arity : ℕ) → GainsPlace (get nat_cmp arities arity) (get nat_cmp now arity) (own == arity) place key
 
 -- each clause has a head that names a procedure
 abbrev pub HaveHeads : List ClauseTerms → Type 0

@@ -9,7 +9,8 @@ ghost use Rattle.proc_index.specs.ProcedureIndex.{HaveHeads, IsAdded, IsAddedTo,
 use crate::key::Key;
 use crate::places::Merged;
 use crate::procedure::Procedure;
-use au_term::{Atom, Cell, FlatTerm, NoMemory};
+use au_model::names::name_of;
+use au_term::{Atom, NoMemory};
 use clause_compile::Clause;
 use std::alloc::Global;
 use std::collections::BTreeMap;
@@ -83,8 +84,10 @@ fn add(
     ensures added { OnOk result (IsAdded index.old index.new place clause.now) }
     ensures head { is_callable clause.now.head ≡ true }
 {
-    let (name, arity) = indicator(clause.head())?;
-    let key = Key::of_head(clause.head())?;
+    let head = clause.head();
+    let name = name_of(head).share()?;
+    let arity = head.arity();
+    let key = Key::of_head(head)?;
     let mut arities = index.remove(&name).unwrap_or(BTreeMap::new(alloc));
     add_to(alloc, &mut arities, arity, place, key)?;
     index.insert(name, arities)?;
@@ -105,19 +108,6 @@ fn add_to(
     procedure.put(alloc, place, key)?;
     arities.insert(arity, procedure)?;
     Ok(())
-}
-
-/// The name and number of arguments of a head.
-fn indicator(head: &FlatTerm) -> Result<(Atom, u32), NoMemory>
-    requires { is_callable head.now ≡ true }
-    ensures name { IfOk result (λ p. p.0 ≡ name_of head.now) }
-    ensures arity { IfOk result (λ p. p.1 ≡ argument_count head.now) }
-{
-    match head.top() {
-        Cell::Atom(name) => Ok((name.share()?, 0)),
-        Cell::Functor(name, arity) => Ok((name.share()?, *arity)),
-        _ => unreachable!(),
-    }
 }
 
 /// Clauses that may be tried for a goal. Contracts see those that are left.

@@ -18,7 +18,7 @@ use Rattle.bind_store.specs.Bindings.{Binding, composed, resolved_after, IsBindi
 use Rattle.bind_store.specs.StoreView.{StoreView, IsValidStore, substitution, pairs_of, mark_of}
 use Rattle.bind_store.proofs.BindingLemmas.{in_turn}
 use Rattle.bind_store.proofs.StoreLemmas.{further_below, both_below}
-use Rattle.engine_core.specs.Branches.{IsItemBelow, HasGoalsBefore, TakesNumbers, IsBranchOf, AreSolved, none_left, one_fails, one_solves, GoesOnPlainly, made_by}
+use Rattle.engine_core.specs.Branches.{IsItemBelow, HasGoalsBefore, TakesNumbers, IsBranchOf, AreSolved, none_left, one_fails, one_solves, GoesOnPlainly, branch_bindings}
 use Rattle.stack_run.specs.StackView.{item_view, items_view, continuation_view, frames_view, end_view, entries_under, scope_height}
 use Rattle.stack_run.specs.StackInvariant.{IsChoiceFit, AreFit}
 use Rattle.stack_run.specs.ChoicePoints.{branch_frame}
@@ -72,7 +72,7 @@ goals_resolved s h (g ∷ gs) = ap (λ is. GoalItem (resolve s g) h ∷ is) (goa
 pub solved_entry : (own : List NamedTerm) (here : Scope) (rest : List Item) (st : StoreView) (s : Solution) (b : BranchTerms) → IsBranchOf here rest st s b
     → branch_entry own st b ∷ [] ≡ solution_entry (scope_height here) (continuation_view own st rest) s
 solved_entry own here rest st s b h =
-    let more = made_by st b in
+    let more = branch_bindings st b in
     let S = composed more in
     let sum : st.next + b.segment.vars ≡ st.next + s.variables = ap (λ n. st.next + n) h.takes.vars in
     let items : map (item_view (composed (st.made ++ more))) b.goals ≡ map (resolve_item S) (goals_at (scope_height here) s.goals ++ items_view st rest) =
@@ -114,7 +114,7 @@ takes_fit st variables b s h =
     let same : st.next + variables ≡ st.next + b.segment.vars = ap (λ n. st.next + n) (sym h.vars) in (
       record {
         apart = h.apart;
-        below = both_below st.made (made_by st b) (st.next + b.segment.vars) (further_below st.made st.next (st.next + b.segment.vars) (omega arith) s.below) (subst (λ n. Each (IsBindingBelow n) (made_by st b)) same h.bindings);
+        below = both_below st.made (branch_bindings st b) (st.next + b.segment.vars) (further_below st.made st.next (st.next + b.segment.vars) (omega arith) s.below) (subst (λ n. Each (IsBindingBelow n) (branch_bindings st b)) same h.bindings);
       },
       subst (λ n. Each (IsItemBelow n) b.goals) same h.items,
     )

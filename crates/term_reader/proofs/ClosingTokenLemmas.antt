@@ -12,11 +12,11 @@ use Rattle.term_reader.specs.FollowingToken.{closer_of}
 use Rattle.term_reader.specs.LeftToRight.{Stop, next_operator}
 use Rattle.term_reader.specs.Lookahead.{Free, none, onto}
 use Rattle.term_reader.specs.Completion as stack
-use Rattle.term_reader.specs.Completion.{bound_of, list_of, trees_of, CompletesAfter, CompletesFrame, over, round, braced, item, bar, last, tail, argument, final}
+use Rattle.term_reader.specs.Completion.{bound_of, list_tree, trees_of, CompletesAfter, CompletesFrame, over, round, braced, item, bar, last, tail, argument, final}
 use Rattle.term_reader.specs.FrameShapes.{RoundShape, CurlyShape, ItemShape, TailShape, ArgumentShape, frame_meant, shape_of, shapes_up, emitted_stack, emitted_before, IsWithinBounds}
 use Rattle.term_reader.specs.TermOutput.{TermOutput, emit_tree, emit_trees, emit_cell, emit_lists}
 use Rattle.term_reader.specs.OutputView.{IsOutputOf}
-use Rattle.term_reader.specs.Positions.{Position, AfterOperand, Completes, stack_of, NestsAfterToken, LeadsTo, IsStepOutcome}
+use Rattle.term_reader.specs.Positions.{Position, AfterOperand, Completes, open_frames, NestsAfterToken, LeadsTo, IsStepOutcome}
 use Rattle.term_reader.specs.ReaderSteps.{IsFrameClosing}
 use Rattle.term_reader.specs.declared.lexeme.Closer.{Closer}
 use Rattle.term_reader.specs.declared.lexeme.Closer.TheVariants as closer
@@ -72,7 +72,7 @@ module _ (source : Source) (st : State) (f : Frame) (k : List stack.OpenFrame) (
   pub leads : (x : Lexeme) → h.lexeme ≡ x → is_end x ≡ false → (new : Position)
       → ((vs : List Token) (goal : Tree) → CompletesFrame set k (token h.apart x ∷ vs) l goal → Completes set new vs goal)
       → ((vs : List Token) (goal : Tree) → Completes set new vs goal → CompletesFrame set k (token h.apart x ∷ vs) l goal)
-      → NestsAfterToken set here k (token h.apart x) (stack_of new) → LeadsTo set here (AfterOperand k l p) st.at new end false
+      → NestsAfterToken set here k (token h.apart x) (open_frames new) → LeadsTo set here (AfterOperand k l p) st.at new end false
   leads x e n new to back nests = record {
     first = token h.apart x;
     over = [];
@@ -197,7 +197,7 @@ not-over s a x us l goal n over = n refl
 
 -- ---- what is put on the sheet
 
-pub emit-list : (s : TermOutput) (ts : List Tree) (u : Tree) → emit_lists (length ts) (emit_tree (emitted_before s ts) u) ≡ emit_tree s (list_of ts u)
+pub emit-list : (s : TermOutput) (ts : List Tree) (u : Tree) → emit_lists (length ts) (emit_tree (emitted_before s ts) u) ≡ emit_tree s (list_tree ts u)
 emit-list s [] u = refl
 emit-list s (t ∷ ts) u = emit-lists-in (length ts) (emit_tree (emit_tree (emitted_before s ts) t) u) ∙ emit-list s ts (cell t u)
   where

@@ -10,7 +10,7 @@ use Rattle.au_model.specs.Syntax.Spelling.{Operand}
 use Rattle.term_reader.specs.LeftToRight.{NextOperator, Stop, OnInfix, OnPostfix, next_operator, ReadsOperand, whole, ReadsRest, stop, on_infix, on_postfix, ReadsPrimary, leaf, bracket, curly, listed, called, prefixed, ReadsItems, last, barred, item, ReadsArguments, final, argument}
 use Rattle.term_reader.proofs.SpellingIsReadingLemmas.{whole_of}
 use Rattle.term_reader.proofs.ReadingIsSpellingLemmas.{operand_of}
-use Rattle.term_reader.specs.Completion.{OpenFrame, Round, Braces, ItemOf, TailOf, ArgumentOf, PrefixOf, InfixOf, bound_of, list_of, trees_of, CompletesOperand, by_operand, CompletesAfter, by_rest, CompletesFrame, over, round, braced, prefix, infixes}
+use Rattle.term_reader.specs.Completion.{OpenFrame, Round, Braces, ItemOf, TailOf, ArgumentOf, PrefixOf, InfixOf, bound_of, list_tree, trees_of, CompletesOperand, by_operand, CompletesAfter, by_rest, CompletesFrame, over, round, braced, prefix, infixes}
 use Rattle.term_reader.specs.Completion as k
 
 module _ (s : Setting) where
@@ -71,7 +71,7 @@ module _ (s : Setting) where
   opened_curly ts us e (by_operand w q) = curly_out ts e w q
 
   -- the items from here on, after those that were read
-  items_in : {k : List OpenFrame} {us vs : List Token} {t goal : Tree} (before : List Tree) → ReadsItems s us vs t → CompletesAfter s k vs (list_of before t) 0 goal → CompletesOperand s (ItemOf before ∷ k) us goal
+  items_in : {k : List OpenFrame} {us vs : List Token} {t goal : Tree} (before : List Tree) → ReadsItems s us vs t → CompletesAfter s k vs (list_tree before t) 0 goal → CompletesOperand s (ItemOf before ∷ k) us goal
   items_in before (last w) g = by_operand w (k.last g)
   items_in before (barred w v) g = by_operand w (k.bar (by_operand v (k.tail g)))
   items_in before (item {t = t} w i) g = by_operand w (k.item (items_in (t ∷ before) i g))
@@ -88,7 +88,7 @@ module _ (s : Setting) where
     pub rest : List Token
     pub list : Tree
     pub items : ReadsItems s us rest list
-    pub on : CompletesAfter s k rest (list_of before list) 0 goal
+    pub on : CompletesAfter s k rest (list_tree before list) 0 goal
 
   mutual
     items_out : {k : List OpenFrame} {us : List Token} {goal : Tree} (before : List Tree) → CompletesOperand s (ItemOf before ∷ k) us goal → ItemsFrom k us before goal
@@ -251,10 +251,10 @@ module _ (s : Setting) where
   pub out_bar : {k : List OpenFrame} {a : Bool} {us : List Token} {t goal : Tree} {ts : List Tree} → CompletesFrame s (ItemOf ts ∷ k) (token a Bar ∷ us) t goal → CompletesOperand s (TailOf (t ∷ ts) ∷ k) us goal
   out_bar (k.bar w) = w
 
-  pub out_last : {k : List OpenFrame} {a : Bool} {us : List Token} {t goal : Tree} {ts : List Tree} → CompletesFrame s (ItemOf ts ∷ k) (token a CloseList ∷ us) t goal → CompletesAfter s k us (list_of (t ∷ ts) (AtomTree nil_name)) 0 goal
+  pub out_last : {k : List OpenFrame} {a : Bool} {us : List Token} {t goal : Tree} {ts : List Tree} → CompletesFrame s (ItemOf ts ∷ k) (token a CloseList ∷ us) t goal → CompletesAfter s k us (list_tree (t ∷ ts) (AtomTree nil_name)) 0 goal
   out_last (k.last g) = g
 
-  pub out_tail : {k : List OpenFrame} {a : Bool} {us : List Token} {t goal : Tree} {ts : List Tree} → CompletesFrame s (TailOf ts ∷ k) (token a CloseList ∷ us) t goal → CompletesAfter s k us (list_of ts t) 0 goal
+  pub out_tail : {k : List OpenFrame} {a : Bool} {us : List Token} {t goal : Tree} {ts : List Tree} → CompletesFrame s (TailOf ts ∷ k) (token a CloseList ∷ us) t goal → CompletesAfter s k us (list_tree ts t) 0 goal
   out_tail (k.tail g) = g
 
   pub out_argument : {k : List OpenFrame} {a : Bool} {us : List Token} {n : List ℕ} {w : ℕ} {t goal : Tree} {ts : List Tree}

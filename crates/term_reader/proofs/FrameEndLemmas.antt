@@ -15,7 +15,7 @@ use Rattle.au_model.specs.Terms.Forms.{nil_name, braces_name}
 use Rattle.au_term.specs.declared.cell.Cell.TheVariants.{Functor}
 use Rattle.term_reader.specs.PrimaryView.{setting_of, tokens_at}
 use Rattle.term_reader.specs.Completion as stack
-use Rattle.term_reader.specs.Completion.{bound_of, list_of, trees_of, CompletesAfter, CompletesFrame, over, round, braced, item, bar, last, tail, argument, final}
+use Rattle.term_reader.specs.Completion.{bound_of, list_tree, trees_of, CompletesAfter, CompletesFrame, over, round, braced, item, bar, last, tail, argument, final}
 use Rattle.term_reader.specs.FrameShapes.{ItemShape, TailShape, ArgumentShape, frame_meant, shapes_up, emitted_stack, emitted_before, HasNoOperatorOnTop}
 use Rattle.term_reader.specs.TermOutput.{emit_tree, emit_cell, emit_lists}
 use Rattle.term_reader.specs.OutputView.{IsOutputOf}
@@ -82,8 +82,8 @@ module _ (source : Source) (st new : State) (k : List stack.OpenFrame) (l : Tree
       (λ below rest i s.
       let number : n + 1 ≡ length (l ∷ ts) = omega (arith, t.1) in
       let sheets = ap (λ q. emit_lists q (emit_tree (emit_tree (emitted_before (emitted_stack below) ts) l) (AtomTree nil_name))) number ∙ emit-list (emitted_stack below) (l ∷ ts) (AtomTree nil_name) in
-      closed source st new (frame.Item n) (stack.ItemOf ts ∷ below) below l (list_of (l ∷ ts) (AtomTree nil_name)) p c end (ap (map frame_meant) fr ∙ rest) (subst (λ x. IsOutputOf new.output x) sheets s) i.bounds at
-      (leads source st (frame.Item n) (stack.ItemOf ts ∷ below) l p c end i words.CloseList (is-close_list i.lexeme (sym i.closer ∙ e)) refl (AfterOperand below (list_of (l ∷ ts) (AtomTree nil_name)) 0) (λ vs goal q. out_last (setting_of source) q) (λ vs goal g. last g) (λ start read n. nests-closed (setting_of source) source.text.now start below words.OpenList words.CloseList i.apart read tt tt n.0 n.1))) h output
+      closed source st new (frame.Item n) (stack.ItemOf ts ∷ below) below l (list_tree (l ∷ ts) (AtomTree nil_name)) p c end (ap (map frame_meant) fr ∙ rest) (subst (λ x. IsOutputOf new.output x) sheets s) i.bounds at
+      (leads source st (frame.Item n) (stack.ItemOf ts ∷ below) l p c end i words.CloseList (is-close_list i.lexeme (sym i.closer ∙ e)) refl (AfterOperand below (list_tree (l ∷ ts) (AtomTree nil_name)) 0) (λ vs goal q. out_last (setting_of source) q) (λ vs goal g. last g) (λ start read n. nests-closed (setting_of source) source.text.now start below words.OpenList words.CloseList i.apart read tt tt n.0 n.1))) h output
 
   pub tail-closes : (n : ℕ) → IsFrameClosing source st (frame.Tail n) k l p c end → c ≡ closer.CloseList → new.frames.items ≡ st.frames.items → new.at ≡ end
       → IsOutputOf new.output (emit_lists n (emit_tree (emitted_stack k) l)) → Comes k (Continue after_bracket)
@@ -93,8 +93,8 @@ module _ (source : Source) (st new : State) (k : List stack.OpenFrame) (l : Tree
       by-top (λ m. IsFrameClosing source st (frame.Tail n) m l p c end → IsOutputOf new.output (emit_lists n (emit_tree (emitted_stack m) l)) → Comes m (Continue after_bracket)) st.frames.items k (stack.TailOf ts) t.2
       (λ below rest i s.
       let sheets = ap (λ q. emit_lists q (emit_tree (emitted_before (emitted_stack below) ts) l)) (sym t.1) ∙ emit-list (emitted_stack below) ts l in
-      closed source st new (frame.Tail n) (stack.TailOf ts ∷ below) below l (list_of ts l) p c end (ap (map frame_meant) fr ∙ rest) (subst (λ x. IsOutputOf new.output x) sheets s) i.bounds at
-      (leads source st (frame.Tail n) (stack.TailOf ts ∷ below) l p c end i words.CloseList (is-close_list i.lexeme (sym i.closer ∙ e)) refl (AfterOperand below (list_of ts l) 0) (λ vs goal q. out_tail (setting_of source) q) (λ vs goal g. tail g) (λ start read n. nests-closed (setting_of source) source.text.now start below words.OpenList words.CloseList i.apart read tt tt n.0 n.1))) h output
+      closed source st new (frame.Tail n) (stack.TailOf ts ∷ below) below l (list_tree ts l) p c end (ap (map frame_meant) fr ∙ rest) (subst (λ x. IsOutputOf new.output x) sheets s) i.bounds at
+      (leads source st (frame.Tail n) (stack.TailOf ts ∷ below) l p c end i words.CloseList (is-close_list i.lexeme (sym i.closer ∙ e)) refl (AfterOperand below (list_tree ts l) 0) (λ vs goal q. out_tail (setting_of source) q) (λ vs goal g. tail g) (λ start read n. nests-closed (setting_of source) source.text.now start below words.OpenList words.CloseList i.apart read tt tt n.0 n.1))) h output
 
   pub item-goes_on : (n place : ℕ) (t : Step) → IsFrameClosing source st (frame.Item n) k l p c end → c ≡ closer.Comma → IsFramePushed st (frame.Item (n + 1)) end new t → Comes k t
   item-goes_on n place t h e push =

@@ -11,7 +11,7 @@ use Rattle.au_model.specs.Syntax.Trees.{Tree}
 use Rattle.term_reader.specs.Completion.{OpenFrame, CompletesOperand}
 use Rattle.term_reader.specs.FrameShapes.{IsWithinBounds}
 use Rattle.term_reader.specs.Lookahead.{Lookahead, Free, Named, Lone, WithOperand, InList, InCurly, Joined, is_plain_name_before, is_as_expected, Scans, none, IsName, IsPrefixAsAtom, MayTakeOperand}
-use Rattle.term_reader.specs.Positions.{Position, ExpectsOperand, AfterOperand, Completes, SuitsLookahead, stack_of, IsWithinBound, LeadsTo, HasReadTo, PrefixAtomBefore, MayTakeOperandBefore}
+use Rattle.term_reader.specs.Positions.{Position, ExpectsOperand, AfterOperand, Completes, SuitsLookahead, open_frames, IsWithinBound, LeadsTo, HasReadTo, PrefixAtomBefore, MayTakeOperandBefore}
 use Rattle.au_model.specs.Syntax.TextFaults.{BeginsTerm, FaultAt}
 use Rattle.term_reader.proofs.CompletionLemmas.{completion, completes}
 use Rattle.term_reader.proofs.LookaheadLemmas.{ready, presumed-alike, IsSure, first-sure, post_operator_alone, joins-is}
@@ -167,7 +167,7 @@ module _ (s : Setting) (text : List ℕ) (start at end : ℕ) (d e : Bool) where
     pub read_to-there : HasReadTo s text start y end e
     read_to-there = by-look a.look refl a.suits
 
-pub read_to-then : (s : Setting) (text : List ℕ) (start at end : ℕ) (d e : Bool) (x y : Position) → HasReadTo s text start x at d → IsWithinBounds (stack_of x) → LeadsTo s text x at y end e → HasReadTo s text start y end e
+pub read_to-then : (s : Setting) (text : List ℕ) (start at end : ℕ) (d e : Bool) (x y : Position) → HasReadTo s text start x at d → IsWithinBounds (open_frames x) → LeadsTo s text x at y end e → HasReadTo s text start y end e
 read_to-then s text start at end d e (ExpectsOperand k) y a bounds b = read_to-due s text start at end d e k y a b bounds
 read_to-then s text start at end d e (AfterOperand k l p) y a bounds b = read_to-there s text start at end d e k l p y a b
 
@@ -176,7 +176,7 @@ read_to-then s text start at end d e (AfterOperand k l p) y a bounds b = read_to
 pub begins-more : (s : Setting) (ts more : List Token) (goal : Tree) → CompletesOperand s [] (ts ++ more) goal → BeginsTerm s ts
 begins-more s ts more goal w = let e = reaches s (ts ++ more) goal w in record { more = more; apart = e.apart; tree = goal; spelled = e.is }
 
-pub read_to-begins : (s : Setting) (text : List ℕ) (start at : ℕ) (d : Bool) (x : Position) → (a : HasReadTo s text start x at d) → IsWithinBounds (stack_of x) → IsWithinBound x → BeginsTerm s a.read
+pub read_to-begins : (s : Setting) (text : List ℕ) (start at : ℕ) (d : Bool) (x : Position) → (a : HasReadTo s text start x at d) → IsWithinBounds (open_frames x) → IsWithinBound x → BeginsTerm s a.read
 read_to-begins s text start at d x a bounds low =
     let c = completes s x bounds low in
     begins-more s a.read (completion x) c.0 (a.back (completion x) c.0 (ready s.ops x a.look (tokens_of (chars_from text at)) a.suits a.fits) c.1)

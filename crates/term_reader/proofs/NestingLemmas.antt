@@ -10,7 +10,7 @@ use Rattle.term_reader.specs.Lookahead.{Lookahead, Free, is_as_expected}
 use Rattle.term_reader.specs.Completion as stack
 use Rattle.term_reader.specs.Completion.{OpenFrame, CompletesOperand}
 use Rattle.term_reader.specs.Nesting.{OpenSince, NestsIn}
-use Rattle.term_reader.specs.Positions.{Position, ExpectsOperand, stack_of, NestsAfterPrimary, NestsAfterToken}
+use Rattle.term_reader.specs.Positions.{Position, ExpectsOperand, open_frames, NestsAfterPrimary, NestsAfterToken}
 use Rattle.term_reader.proofs.PrimaryLemmas.{NamesCall}
 use Rattle.term_reader.proofs.BracketLemmas.{OpenRound, Closes, IsNoBracket, balanced-none, balanced-plain, balanced-append, balanced-pair}
 
@@ -48,8 +48,8 @@ abbrev since-here : (x : Lexeme) (a : Bool) (read before ts : List Token) → re
 since-here x a read before ts e = record { before = before; apart = a; inside = []; is = e; balanced = balanced-none }
 
 module _ (s : Setting) (text : List ℕ) (at : ℕ) (k : List OpenFrame) (ts : List Token) (look : Lookahead) where
-  pub level-begun : (new : Position) → Balanced ts → ((start : ℕ) (read : List Token) → NestsIn s text start read k → NestsIn s text start read (stack_of new)) → NestsAfterPrimary s text at k ts look new
-  level-begun new h same start read scans n to back = nests-more s text start (stack_of new) read ts h (same start read n)
+  pub level-begun : (new : Position) → Balanced ts → ((start : ℕ) (read : List Token) → NestsIn s text start read k → NestsIn s text start read (open_frames new)) → NestsAfterPrimary s text at k ts look new
+  level-begun new h same start read scans n to back = nests-more s text start (open_frames new) read ts h (same start read n)
 
   pub round-begun : (a : Bool) → ts ≡ token a words.Open ∷ [] → look ≡ Free → NestsAfterPrimary s text at k ts look (ExpectsOperand (stack.Round ∷ k))
   round-begun a e f start read scans n to back = (

@@ -12,7 +12,7 @@ use Rattle.term_reader.specs.Completion.{OpenFrame, bound_of, CompletesOperand, 
 use Rattle.term_reader.specs.FrameShapes.{IsWithinBounds}
 use Rattle.term_reader.specs.Lookahead as looks
 use Rattle.term_reader.specs.Lookahead.{Lookahead, is_plain_name_before, is_as_expected, Scans, none, onto, IsName}
-use Rattle.term_reader.specs.Positions.{Position, ExpectsOperand, AfterOperand, stack_of, IsWithinBound, HasReadTo}
+use Rattle.term_reader.specs.Positions.{Position, ExpectsOperand, AfterOperand, open_frames, IsWithinBound, HasReadTo}
 use Rattle.au_model.specs.Syntax.TextFaults.{BeginsTerm}
 use Rattle.term_reader.specs.Refusals.{IsStuck, accepts, lexeme_follows_atom}
 use Rattle.term_reader.proofs.TooManyArgumentsLemmas.{many, completes-close, presumed-close}
@@ -34,7 +34,7 @@ use Rattle.au_term.proofs.LogicLemmas.{or-left, or-right}
 
 -- ---- nothing is there
 
-pub stuck-none : (s : Setting) (text : List ℕ) (start at : ℕ) (x : Position) (d : Bool) → HasReadTo s text start x at d → IsWithinBounds (stack_of x) → IsWithinBound x → scanned (chars_from text at) ≡ ScannedNone → IsStuck s text start at
+pub stuck-none : (s : Setting) (text : List ℕ) (start at : ℕ) (x : Position) (d : Bool) → HasReadTo s text start x at d → IsWithinBounds (open_frames x) → IsWithinBound x → scanned (chars_from text at) ≡ ScannedNone → IsStuck s text start at
 stuck-none s text start at x d read_to bounds low e = record {
   read = read_to.read;
   scans = read_to.scans;

@@ -7,7 +7,7 @@ use Rattle.au_term.specs.declared.cell.Cell.{Cell}
 use Rattle.au_term.specs.declared.cell.Cell.TheVariants.{Var as VarCell, Int as IntCell, Atom as AtomCell, Functor}
 use Rattle.term_reader.specs.declared.order.Pending.{Pending}
 use Rattle.term_reader.specs.PostorderLevels.{IsReordering, IsCompleting}
-use Rattle.term_reader.specs.Postorder.{postorder, all_postorder, back_post, back_pre, Levels, base, level, posts, finals, pending, lower_levels_pending, levels_pending, IsBusy}
+use Rattle.term_reader.specs.Postorder.{postorder, all_postorder, back_post, back_pre, Levels, base, level, posts, finals, pending_compound, lower_levels_pending, levels_pending, IsBusy}
 
 -- lists that end with one item
 pub snoc-front : {A : Type 0} (xs ys : List A) (x y : A) → xs ++ x ∷ [] ≡ ys ++ y ∷ [] → xs ≡ ys
@@ -149,13 +149,13 @@ turns-single rest c stack out whole h a =
       come = ap (finals k.levels) (reverse-append out (c ∷ []) ∙ ap (λ ds. ds ++ reverse out) (sym m.cells_are)) ∙ (sym (k.all (reverse out)) ∙ h.come);
     }
 
-pub turns-more : (rest : List Cell) (c : Cell) (stack : List Pending) (out whole : List Cell) → IsReordering (rest ++ c ∷ []) stack out whole → 0 < arity c → IsReordering rest (stack ++ pending c (arity c) ∷ []) out whole
+pub turns-more : (rest : List Cell) (c : Cell) (stack : List Pending) (out whole : List Cell) → IsReordering (rest ++ c ∷ []) stack out whole → 0 < arity c → IsReordering rest (stack ++ pending_compound c (arity c) ∷ []) out whole
 turns-more rest c stack out whole h lt =
     let k = taken h.levels rest c h.busy (sym h.left) in
     let m = has_more k.term k.levels rest c k.cells lt in
     record {
       levels = level m.terms c k.levels;
-      opened = ap (λ ps. ps ++ pending c (arity c) ∷ []) (h.opened ∙ k.waiting) ∙ ap (λ n. lower_levels_pending k.levels ++ pending c n ∷ []) (sym m.number);
+      opened = ap (λ ps. ps ++ pending_compound c (arity c) ∷ []) (h.opened ∙ k.waiting) ∙ ap (λ n. lower_levels_pending k.levels ++ pending_compound c n ∷ []) (sym m.number);
       busy = omega (arith, m.number);
       left = m.rest_is;
       come = ap (λ ds. finals k.levels (ds ++ reverse out)) (sym m.cells_are) ∙ (sym (k.all (reverse out)) ∙ h.come);
@@ -166,7 +166,7 @@ turns-over stack out whole h = sym (none_left h.levels h.busy (sym h.left) (reve
 
 no_under : (ls : Levels) → lower_levels_pending ls ≡ [] → (ts : List Term) × (ls ≡ base ts)
 no_under (base ts) e = (ts, refl)
-no_under (level ts c ls) e = absurd (snoc-none (lower_levels_pending ls) (pending c (suc (length ts))) e)
+no_under (level ts c ls) e = absurd (snoc-none (lower_levels_pending ls) (pending_compound c (suc (length ts))) e)
 
 -- no compound is open
 pub settles-over : (cells : List Cell) (stack : List Pending) (out whole : List Cell) → IsCompleting cells stack out whole → stack ≡ [] → IsReordering cells stack out whole
@@ -186,7 +186,7 @@ pub record Inner (ls : Levels) (below : List Pending) (p : Pending) : Type 0 whe
   pub cell : Cell
   pub outer : Levels
   pub is : ls ≡ level terms cell outer
-  pub pending_is : p ≡ pending cell (suc (length terms))
+  pub pending_is : p ≡ pending_compound cell (suc (length terms))
   pub below_is : below ≡ lower_levels_pending outer
 
 pub inner : (ls : Levels) (below : List Pending) (p : Pending) → lower_levels_pending ls ≡ below ++ p ∷ [] → Inner ls below p
@@ -194,16 +194,16 @@ inner (base ts) below p e = absurd (snoc-none below p (sym e))
 inner (level ts c ls) below p e = record { terms = ts; cell = c; outer = ls; is = refl; pending_is = sym (snoc-last _ _ _ _ e); below_is = sym (snoc-front _ _ _ _ e) }
 
 -- it waits for more
-pub settles-waits : (cells : List Cell) (below : List Pending) (c : Cell) (n : ℕ) (out whole : List Cell) → IsCompleting cells (below ++ pending c n ∷ []) out whole → 1 < n
-    → IsReordering cells (below ++ pending c (n - 1) ∷ []) out whole
+pub settles-waits : (cells : List Cell) (below : List Pending) (c : Cell) (n : ℕ) (out whole : List Cell) → IsCompleting cells (below ++ pending_compound c n ∷ []) out whole → 1 < n
+    → IsReordering cells (below ++ pending_compound c (n - 1) ∷ []) out whole
 settles-waits cells below c n out whole h lt =
-    let k = inner h.levels below (pending c n) (sym h.opened) in
+    let k = inner h.levels below (pending_compound c n) (sym h.opened) in
     let number : n ≡ suc (length k.terms) = ap (λ p. p.left) k.pending_is in
     let same : c ≡ k.cell = ap (λ p. p.cell) k.pending_is in
     let less : n - 1 ≡ length k.terms = omega arith in
     record {
       levels = level k.terms k.cell k.outer;
-      opened = ap (λ ps. ps ++ pending c (n - 1) ∷ []) k.below_is ∙ (ap (λ d. lower_levels_pending k.outer ++ pending d (n - 1) ∷ []) same ∙ ap (λ m. lower_levels_pending k.outer ++ pending k.cell m ∷ []) less);
+      opened = ap (λ ps. ps ++ pending_compound c (n - 1) ∷ []) k.below_is ∙ (ap (λ d. lower_levels_pending k.outer ++ pending_compound d (n - 1) ∷ []) same ∙ ap (λ m. lower_levels_pending k.outer ++ pending_compound k.cell m ∷ []) less);
       busy = omega arith;
       left = h.left ∙ ap posts k.is;
       come = ap (λ ls. finals ls (reverse out)) (sym k.is) ∙ h.come;
@@ -214,10 +214,10 @@ no_items [] e = refl
 no_items (x ∷ xs) e = absurd (omega arith)
 
 -- it is complete too
-pub settles-more : (cells : List Cell) (below : List Pending) (c : Cell) (n : ℕ) (out whole : List Cell) → IsCompleting cells (below ++ pending c n ∷ []) out whole → n ≤ 1
+pub settles-more : (cells : List Cell) (below : List Pending) (c : Cell) (n : ℕ) (out whole : List Cell) → IsCompleting cells (below ++ pending_compound c n ∷ []) out whole → n ≤ 1
     → IsCompleting cells below (out ++ c ∷ []) whole
 settles-more cells below c n out whole h le =
-    let k = inner h.levels below (pending c n) (sym h.opened) in
+    let k = inner h.levels below (pending_compound c n) (sym h.opened) in
     let number : n ≡ suc (length k.terms) = ap (λ p. p.left) k.pending_is in
     let same : c ≡ k.cell = ap (λ p. p.cell) k.pending_is in
     let none : k.terms ≡ [] = no_items k.terms (omega arith) in

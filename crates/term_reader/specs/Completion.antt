@@ -30,9 +30,9 @@ bound_of (ArgumentOf n place ts ∷ k) = 999
 bound_of (PrefixOf n o ∷ k) = right_bound o
 bound_of (InfixOf n o l ∷ k) = right_bound o
 
-abbrev pub list_of : List Tree → Tree → Tree
-list_of [] u = u
-list_of (t ∷ ts) u = list_of ts (cell t u)
+abbrev pub list_tree : List Tree → Tree → Tree
+list_tree [] u = u
+list_tree (t ∷ ts) u = list_tree ts (cell t u)
 
 abbrev pub trees_of : List Tree → Trees → Trees
 trees_of [] us = us
@@ -55,8 +55,8 @@ mutual
     braced : {k : List OpenFrame} {a : Bool} {us : List Token} {t goal : Tree} → CompletesAfter s k us (one braces_name t) 0 goal → CompletesFrame s (Braces ∷ k) (token a CloseCurly ∷ us) t goal
     item : {k : List OpenFrame} {a : Bool} {us : List Token} {t goal : Tree} {ts : List Tree} → CompletesOperand s (ItemOf (t ∷ ts) ∷ k) us goal → CompletesFrame s (ItemOf ts ∷ k) (token a Comma ∷ us) t goal
     bar : {k : List OpenFrame} {a : Bool} {us : List Token} {t goal : Tree} {ts : List Tree} → CompletesOperand s (TailOf (t ∷ ts) ∷ k) us goal → CompletesFrame s (ItemOf ts ∷ k) (token a Bar ∷ us) t goal
-    last : {k : List OpenFrame} {a : Bool} {us : List Token} {t goal : Tree} {ts : List Tree} → CompletesAfter s k us (list_of (t ∷ ts) (AtomTree nil_name)) 0 goal → CompletesFrame s (ItemOf ts ∷ k) (token a CloseList ∷ us) t goal
-    tail : {k : List OpenFrame} {a : Bool} {us : List Token} {t goal : Tree} {ts : List Tree} → CompletesAfter s k us (list_of ts t) 0 goal → CompletesFrame s (TailOf ts ∷ k) (token a CloseList ∷ us) t goal
+    last : {k : List OpenFrame} {a : Bool} {us : List Token} {t goal : Tree} {ts : List Tree} → CompletesAfter s k us (list_tree (t ∷ ts) (AtomTree nil_name)) 0 goal → CompletesFrame s (ItemOf ts ∷ k) (token a CloseList ∷ us) t goal
+    tail : {k : List OpenFrame} {a : Bool} {us : List Token} {t goal : Tree} {ts : List Tree} → CompletesAfter s k us (list_tree ts t) 0 goal → CompletesFrame s (TailOf ts ∷ k) (token a CloseList ∷ us) t goal
     argument : {k : List OpenFrame} {a : Bool} {us : List Token} {t goal : Tree} {n : List ℕ} {place : ℕ} {ts : List Tree}
         → length ts < 65534 → CompletesOperand s (ArgumentOf n place (t ∷ ts) ∷ k) us goal → CompletesFrame s (ArgumentOf n place ts ∷ k) (token a Comma ∷ us) t goal
     final : {k : List OpenFrame} {a : Bool} {us : List Token} {t goal : Tree} {n : List ℕ} {place : ℕ} {ts : List Tree}

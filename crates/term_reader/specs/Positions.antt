@@ -27,9 +27,9 @@ abbrev pub Completes : Setting → Position → List Token → Tree → Type 0
 Completes s (ExpectsOperand k) ts goal = CompletesOperand s k ts goal
 Completes s (AfterOperand k l p) ts goal = CompletesAfter s k ts l p goal
 
-abbrev pub stack_of : Position → List OpenFrame
-stack_of (ExpectsOperand k) = k
-stack_of (AfterOperand k l p) = k
+abbrev pub open_frames : Position → List OpenFrame
+open_frames (ExpectsOperand k) = k
+open_frames (AfterOperand k l p) = k
 
 abbrev pub output_at : Position → TermOutput
 output_at (ExpectsOperand k) = emitted_stack k
@@ -46,9 +46,9 @@ priority_of_operand (AfterOperand k l p) = Some p
 
 -- the state is that of a position
 pub record IsAtPosition (st : State) (x : Position) : Type 0 where
-  pub shapes : map frame_meant st.frames.items ≡ shapes_up (stack_of x)
+  pub shapes : map frame_meant st.frames.items ≡ shapes_up (open_frames x)
   pub output : IsOutputOf st.output (output_at x)
-  pub bounds : IsWithinBounds (stack_of x)
+  pub bounds : IsWithinBounds (open_frames x)
   pub low : IsWithinBound x
 
 abbrev pub rest_at : List ℕ → ℕ → List ℕ
@@ -67,7 +67,7 @@ abbrev pub NestsAfterPrimary : Setting → List ℕ → ℕ → List OpenFrame �
 NestsAfterPrimary s text at k over look new =
     (start : ℕ) (read : List Token) → Scans (chars_from text start) read (chars_from text at) → NestsIn s text start read k
     → ((vs : List Token) (goal : Tree) → is_as_expected s.ops look vs ≡ true → CompletesOperand s [] ((read ++ over) ++ vs) goal → Completes s new vs goal)
-    → ((vs : List Token) (goal : Tree) → is_as_expected s.ops look vs ≡ true → Completes s new vs goal → CompletesOperand s [] ((read ++ over) ++ vs) goal) → NestsIn s text start (read ++ over) (stack_of new)
+    → ((vs : List Token) (goal : Tree) → is_as_expected s.ops look vs ≡ true → Completes s new vs goal → CompletesOperand s [] ((read ++ over) ++ vs) goal) → NestsIn s text start (read ++ over) (open_frames new)
 
 abbrev pub NestsAfterToken : Setting → List ℕ → List OpenFrame → Token → List OpenFrame → Type 0
 NestsAfterToken s text k first new = (start : ℕ) (read : List Token) → NestsIn s text start read k → NestsIn s text start (read ++ first ∷ []) new
@@ -77,7 +77,7 @@ abbrev pub IsStepFrom : Setting → List ℕ → ℕ → Position → Position �
 IsStepFrom s text at (ExpectsOperand k) new first over us look may_take_operand =
     ((vs : List Token) → is_as_expected s.ops look vs ≡ true → prefix_is_atom s.ops (first ∷ over ++ vs) ≡ prefix_is_atom s.ops (first ∷ over ++ us)) × SuitsLookahead new look × MayTakeOperand s k first over look may_take_operand
     × NestsAfterPrimary s text at k (first ∷ over) look new
-IsStepFrom s text at (AfterOperand k l p) new first over us look may_take_operand = (over ≡ []) × (look ≡ Free) × (may_take_operand ≡ false) × NestsAfterToken s text k first (stack_of new)
+IsStepFrom s text at (AfterOperand k l p) new first over us look may_take_operand = (over ≡ []) × (look ≡ Free) × (may_take_operand ≡ false) × NestsAfterToken s text k first (open_frames new)
 
 -- A step over some tokens: whatever comes after them, if it is as presumed, is read at the old position together
 -- with them just as it is at the new one.
@@ -123,7 +123,7 @@ pub record HasReadTo (s : Setting) (text : List ℕ) (start : ℕ) (x : Position
   pub back : (vs : List Token) (goal : Tree) → is_as_expected s.ops look vs ≡ true → Completes s x vs goal → CompletesOperand s [] (read ++ vs) goal
   pub suits : SuitsLookahead x look
   pub may_take : MayTakeOperandBefore s read look may_take_operand
-  pub nests : NestsIn s text start read (stack_of x)
+  pub nests : NestsIn s text start read (open_frames x)
 
 -- the term is whole, and its end is in front of this place
 pub record HasEnded (s : Setting) (text : List ℕ) (old : Position) (at : ℕ) (st : State) (end : ℕ) : Type 0 where

@@ -41,18 +41,18 @@ abbrev pub finals : Levels → List Cell → List Cell
 finals (base ts) cs = back_pre ts ++ cs
 finals (level ts c ls) cs = finals ls (c ∷ (back_pre ts ++ cs))
 
-abbrev pub pending : Cell → ℕ → Pending
-pending c n = record { cell = c; left = n }
+abbrev pub pending_compound : Cell → ℕ → Pending
+pending_compound c n = record { cell = c; left = n }
 
 -- with one argument of each compound under way
 abbrev pub lower_levels_pending : Levels → List Pending
 lower_levels_pending (base ts) = []
-lower_levels_pending (level ts c ls) = lower_levels_pending ls ++ pending c (suc (length ts)) ∷ []
+lower_levels_pending (level ts c ls) = lower_levels_pending ls ++ pending_compound c (suc (length ts)) ∷ []
 
 -- with none of the last compound under way
 abbrev pub levels_pending : Levels → List Pending
 levels_pending (base ts) = []
-levels_pending (level ts c ls) = lower_levels_pending ls ++ pending c (length ts) ∷ []
+levels_pending (level ts c ls) = lower_levels_pending ls ++ pending_compound c (length ts) ∷ []
 
 -- an argument of the last compound is still to come
 abbrev pub IsBusy : Levels → Type 0

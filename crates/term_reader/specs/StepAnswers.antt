@@ -40,8 +40,8 @@ IsFaultIfStuck source old first refused =
     IsStuck (setting_of source) source.text.now first old.at → IsFirstFault (setting_of source) source.text.now first refused
 
 -- the tokens from this place on have led to the position
-abbrev pub HasRead : Source → ℕ → Position → State → Bool → Type 0
-HasRead source first x old may_take_operand = HasReadTo (setting_of source) source.text.now first x old.at may_take_operand
+abbrev pub HasReadIn : Source → ℕ → Position → State → Bool → Type 0
+HasReadIn source first x old may_take_operand = HasReadTo (setting_of source) source.text.now first x old.at may_take_operand
 
 -- the next token was found
 abbrev pub IsTokenFound : Source → State → Placed → Type 0
@@ -74,12 +74,12 @@ WhereAfter old priority P = (k : List OpenFrame) (l : Tree) → IsAtPosition old
 abbrev pub WhereReadExpecting : Source → State → (ℕ → Type 0) → Type 0
 WhereReadExpecting source old P =
     (first : ℕ) (may_take_operand : Bool) (k : List OpenFrame) → IsAtPosition old (ExpectsOperand k)
-    → HasRead source first (ExpectsOperand k) old may_take_operand → P first
+    → HasReadIn source first (ExpectsOperand k) old may_take_operand → P first
 
 abbrev pub WhereReadAfter : Source → State → ℕ → LastOperand → (ℕ → Type 0) → Type 0
 WhereReadAfter source old priority last P =
     (first : ℕ) (k : List OpenFrame) (l : Tree) → IsAtPosition old (AfterOperand k l priority)
-    → HasRead source first (AfterOperand k l priority) old (may_take_operand last) → P first
+    → HasReadIn source first (AfterOperand k l priority) old (may_take_operand last) → P first
 
 -- after an operand with which neither an operator nor the token found goes on
 abbrev pub WhereEnding : Source → State → Placed → (List OpenFrame → Tree → ℕ → Type 0) → Type 0
@@ -101,7 +101,7 @@ WhereReadEnding source old last found P =
 abbrev pub WhereReadAt : Source → State → Expected → (ℕ → Type 0) → Type 0
 WhereReadAt source old expected P =
     (first : ℕ) (x : Position) → IsAtPosition old x → expected_after expected ≡ priority_of_operand x
-    → HasRead source first x old (last_may_take expected) → P first
+    → HasReadIn source first x old (last_may_take expected) → P first
 
 -- the layout after the state's place ends here
 abbrev pub StartsAt : Source → State → ℕ → Type 0

@@ -12,7 +12,7 @@ ghost use Rattle.term_reader.specs.Refusals.{accepts};
 use crate::output::TermOutput;
 use crate::post_operator::PostOperator;
 use au_term::{Atom, NoMemory};
-use op_table::Operator;
+use op_table::{ARGUMENT_PRIORITY, MAX_PRIORITY, Operator};
 use std::alloc::Global;
 
 /// What is open. Items and arguments are counted without the one that is or is due.
@@ -70,8 +70,8 @@ impl Frame {
         ensures { result ≡ shape_bound (frame_meant self.now) }
     {
         match self {
-            Frame::Round | Frame::Curly => 1200,
-            Frame::Item(_) | Frame::Tail(_) | Frame::Argument(_, _, _) => 999,
+            Frame::Round | Frame::Curly => MAX_PRIORITY,
+            Frame::Item(_) | Frame::Tail(_) | Frame::Argument(_, _, _) => ARGUMENT_PRIORITY,
             Frame::Prefix(_, operator) | Frame::Infix(_, operator) => operator.right_bound(),
         }
     }
@@ -107,7 +107,7 @@ impl State {
     {
         match self.frames.last() {
             Some(frame) => frame.bound(),
-            None => 1200,
+            None => MAX_PRIORITY,
         }
     }
 
@@ -188,6 +188,6 @@ impl State {
             priority = next;
             frames = below;
         }
-        post_operator.fits(1200, priority)
+        post_operator.fits(MAX_PRIORITY, priority)
     }
 }

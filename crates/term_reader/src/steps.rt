@@ -28,7 +28,7 @@ use crate::primary::{Leaf, Primary, Source, primary_of};
 use crate::refusal::{Refused, after_prefix, not_taken, unexpected};
 use crate::state::{Expected, Frame, LastOperand, State};
 use au_model::FaultKind;
-use au_term::{Atom, NoMemory};
+use au_term::{Atom, MAX_ARITY, NoMemory};
 
 /// Where a step leads.
 #[derive(Clone, Copy)]
@@ -370,7 +370,7 @@ fn close_argument(
 {
     match token {
         Closer::Comma => {
-            if before >= 65534 {
+            if before >= MAX_ARITY - 1 {
                 return Ok(Step::Refused(Refused {
                     at: place,
                     kind: FaultKind::TooManyArguments,
@@ -379,7 +379,7 @@ fn close_argument(
             push_frame(state, Frame::Argument(name, before + 1, place), end)
         }
         Closer::Close => {
-            if before > 65534 {
+            if before >= MAX_ARITY {
                 return Ok(Step::Refused(refused));
             }
             state.output.compound(name, before + 1)?;

@@ -16,7 +16,7 @@ use crate::forms::{Form, Notation};
 use crate::names::{is_cell_name, is_nil};
 use crate::text::Mark;
 use au_term::{Atom, Cell, FlatTerm, NoMemory};
-use op_table::Operator;
+use op_table::{ARGUMENT_PRIORITY, Operator};
 
 /// What is still to be written, by places of the term's cells.
 #[derive(Clone, Copy)]
@@ -100,7 +100,11 @@ impl<'a> Source<'a> {
             (enclosed (is_above (notation_of_source self.entry) 999 (source_subterm self.entry at)) (pieces (notation_of_source self.entry) (source_subterm self.entry at)))
             (2 + term_weight (source_subterm self.entry at))) }
     {
-        self.part(at, self.notation.is_above(999, self.cell(at)), due)
+        self.part(
+            at,
+            self.notation.is_above(ARGUMENT_PRIORITY, self.cell(at)),
+            due,
+        )
     }
 
     /// The last operand of an operator.

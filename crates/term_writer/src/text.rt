@@ -299,11 +299,14 @@ impl Text {
     }
 }
 
-/// Whether an infix operator is without spaces: a symbol run of priority below 700.
+/// Infix operators of this priority and above have spaces around them.
+const SPACED_PRIORITY: u16 = 700;
+
+/// Whether an infix operator is without spaces: a symbol run of a lower priority.
 fn is_tight(operator: Operator, name: &str) -> bool
     ensures { result ≡ (is_symbol_name (chars name.now) && nat_lt operator.priority 700) }
 {
-    is_symbol_name(name) && operator.priority < 700
+    is_symbol_name(name) && operator.priority < SPACED_PRIORITY
 }
 
 /// Puts the characters of a name after the bytes, escaped as between quotes.

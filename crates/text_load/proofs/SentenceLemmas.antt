@@ -25,7 +25,7 @@ use Rattle.term_reader.specs.declared.read.ReadRefused.{ReadRefused}
 use Rattle.term_reader.specs.declared.read.ReadRefused.TheVariants.{Syntax, NoMemory as Full}
 use Rattle.au_model.specs.Syntax.TextFaults.{IsLineAndColumn}
 use Rattle.term_reader.proofs.FirstTokenLemmas.{tokens-none}
-use Rattle.text_load.specs.LoadOutcome.{HasRead, IsNext, refusal_by, HoldsSentence, AreSentencesLoaded, FaultsFrom, BeginsTermAt}
+use Rattle.text_load.specs.LoadOutcome.{AreSentencesRead, IsNext, refusal_by, HoldsSentence, AreSentencesLoaded, FaultsFrom, BeginsTermAt}
 use Rattle.text_load.specs.LoadedSentences.{AreLoaded, IsSentenceOf}
 use Rattle.text_load.specs.Sentences.{Sentence, ClauseSentence, QuerySentence, NoSentence, sentence, IsSentence}
 use Rattle.text_load.specs.LoadedTexts.{Sentences, no_more, one_more, unread, no_sentence, further, IsRefused, clauses_in, queries_in}
@@ -90,7 +90,7 @@ begins_no_fault text at e f t rest h =
     absurd (no_operand (tokens_of (chars_from text at)) none h.spelled)
 
 -- one sentence further
-pub read_on : (text : List ℕ) (at end : ℕ) (l new : Loaded) (t : Tree) (k : Kept) (r : HasRead text at l) → HoldsSentence text at t k end → IsSentence (sentence t) → AreLoaded (r.done ++ sentence t ∷ []) new → HasRead text end new
+pub read_on : (text : List ℕ) (at end : ℕ) (l new : Loaded) (t : Tree) (k : Kept) (r : AreSentencesRead text at l) → HoldsSentence text at t k end → IsSentence (sentence t) → AreLoaded (r.done ++ sentence t ∷ []) new → AreSentencesRead text end new
 read_on text at end l new t k r h s a = record {
   done = r.done ++ sentence t ∷ [];
   loaded = a;
@@ -98,13 +98,13 @@ read_on text at end l new t k r h s a = record {
   faults = λ kind from f. r.faults kind from (further h.spelling.spelled s f);
 }
 
-pub read_none : (text : List ℕ) (l : Loaded) → l.clauses.items ≡ [] → l.queries.items ≡ [] → HasRead text 0 l
+pub read_none : (text : List ℕ) (l : Loaded) → l.clauses.items ≡ [] → l.queries.items ≡ [] → AreSentencesRead text 0 l
 read_none text l c q = record { done = []; loaded = record { clauses = ap (map arc_value) c; queries = q }; leads = λ xs h. h; faults = λ kind from f. f }
 
-pub read_all : (text : List ℕ) (at : ℕ) (l : Loaded) → HasRead text at l → is_over (chars_from text at) ≡ true → AreSentencesLoaded (chars text) l
+pub read_all : (text : List ℕ) (at : ℕ) (l : Loaded) → AreSentencesRead text at l → is_over (chars_from text at) ≡ true → AreSentencesLoaded (chars text) l
 read_all text at l r over = record { sentences = r.done; are = subst (Sentences (chars text)) (append-nil r.done) (r.leads [] (no_more over)); loaded = r.loaded }
 
-pub refused_from : (text : List ℕ) (at line column : ℕ) (kind : FaultKind) (l : Loaded) → HasRead text at l → FaultsFrom text at line column kind → IsRefused (chars text) line column kind
+pub refused_from : (text : List ℕ) (at line column : ℕ) (kind : FaultKind) (l : Loaded) → AreSentencesRead text at l → FaultsFrom text at line column kind → IsRefused (chars text) line column kind
 refused_from text at line column kind l r f = record {
   before = f.place.before;
   from = f.from;

@@ -31,9 +31,9 @@ pub record IsTextRefused (library text : List ℕ) (line column : ℕ) (kind : F
   pub library_is : Sentences library others
   pub text_is : IsRefused text line column kind
 
-abbrev pub IsRefusal : List ℕ → List ℕ → LoadRefusal → Type 0
-IsRefusal library text (Refused line column kind) = IsRefused library line column kind ⊎ IsTextRefused library text line column kind
-IsRefusal library text NoMemory = Unit {0}
+abbrev pub IsLoadRefusal : List ℕ → List ℕ → LoadRefusal → Type 0
+IsLoadRefusal library text (Refused line column kind) = IsRefused library line column kind ⊎ IsTextRefused library text line column kind
+IsLoadRefusal library text NoMemory = Unit {0}
 
 -- the clauses and queries of all sentences of a text
 pub record AreSentencesLoaded (text : List ℕ) (l : Loaded) : Type 0 where
@@ -68,7 +68,7 @@ refusal_by (Syntax line column kind) = Refused line column kind
 refusal_by Full = NoMemory
 
 -- sentences were read up to a place
-pub record HasRead (text : List ℕ) (at : ℕ) (l : Loaded) : Type 0 where
+pub record AreSentencesRead (text : List ℕ) (at : ℕ) (l : Loaded) : Type 0 where
   pub done : List Sentence
   pub loaded : AreLoaded done l
   pub leads : (xs : List Sentence) → Sentences (chars_from text at) xs → Sentences (chars text) (done ++ xs)

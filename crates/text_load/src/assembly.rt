@@ -12,7 +12,8 @@ ghost use Rattle.text_load.specs.Sentences.{Sentence as SentenceTerms};
 
 use crate::job::Job;
 use crate::query::Query;
-use au_term::{Atom, Cell, FlatTerm, NoMemory};
+use au_model::names::name_of;
+use au_term::{FlatTerm, NoMemory};
 use clause_compile::Clause;
 use op_table::Ops;
 use proc_index::Procs;
@@ -108,16 +109,4 @@ fn is_alike(head: &FlatTerm, other: &FlatTerm) -> bool
 {
     let same = name_of(head).same(name_of(other));
     same && head.arity() == other.arity()
-}
-
-/// The name of a head.
-fn name_of(head: &FlatTerm) -> &Atom
-    requires { is_callable head.now ≡ true }
-    ensures { result.now ≡ name_of head.now }
-{
-    match head.top() {
-        Cell::Atom(name) => name,
-        Cell::Functor(name, _) => name,
-        _ => unreachable!(),
-    }
 }

@@ -4,7 +4,7 @@ ghost use Rattle.std.specs.Str.{chars};
 ghost use Rattle.au_model.specs.Syntax.Characters.{chars_from};
 ghost use Rattle.au_model.specs.Syntax.Operators.{initial_operators};
 ghost use Rattle.au_model.specs.Syntax.Trees.{Tree};
-ghost use Rattle.text_load.specs.LoadOutcome.{AreSentencesLoaded, IsNext, IsRefusedAt, IsRefusal, HoldsSentence, BeginsTermAt, refusal_by};
+ghost use Rattle.text_load.specs.LoadOutcome.{AreSentencesLoaded, IsNext, IsRefusedAt, IsLoadRefusal, HoldsSentence, BeginsTermAt, refusal_by};
 ghost use Rattle.text_load.specs.JobView.{job_meant};
 ghost use Rattle.text_load.specs.LoadedSentences.{AreLoaded, IsSentenceOf};
 ghost use Rattle.text_load.specs.Sentences.{Sentence as SentenceTerms, IsSentence};
@@ -45,7 +45,7 @@ impl From<NoMemory> for LoadRefusal {
 /// 7.4), or the first fault of the library or else of the text.
 pub fn load(alloc: Global, library: &str, text: &str) -> Result<Job, LoadRefusal>
     ensures ok { IfOk result (λ job. LoadsTo (chars library.now) (chars text.now) (job_meant job)) }
-    ensures refused { IfErr result (IsRefusal (chars library.now) (chars text.now)) }
+    ensures refused { IfErr result (IsLoadRefusal (chars library.now) (chars text.now)) }
 {
     let ops = Ops::initial(alloc)?;
     let library = loaded(alloc, &ops, library)?;

@@ -15,9 +15,9 @@ pub record IsMostGeneral (s : Substitution) (eqs : Equations) : Type 0 where
   pub general : (f : ℕ → Term) → Unifies f eqs → (n : ℕ) → apply f (value_of s n) ≡ f n
 
 -- the answer is a most general unifier, and none only where no substitution unifies
-abbrev pub IsAnswer : Option Substitution → Equations → Type 0
-IsAnswer (Some s) eqs = IsMostGeneral s eqs
-IsAnswer None eqs = (f : ℕ → Term) → Unifies f eqs → ⊥
+abbrev pub IsUnifierAnswer : Option Substitution → Equations → Type 0
+IsUnifierAnswer (Some s) eqs = IsMostGeneral s eqs
+IsUnifierAnswer None eqs = (f : ℕ → Term) → Unifies f eqs → ⊥
 
 -- the unifier takes the first equation and goes by its rule
 pub record GoesByRules : Type 0 where

@@ -16,5 +16,5 @@ returns c =
     let place = c.args.place.now in
     let t = resolve (substitution st) c.args.goal.now in
     IfOk-weaker c.alone.result (IsAlone c.in_ok-branch.branch) (IsOutcome place.cut place.here place.rest.now st (called c.args.arity t (called_goals t)))
-    (λ r a. plain_alone st place.cut place.here c.args.arity c.args.goal.now place.rest.now c.in_ok-branch.branch r c.requires.callable (ap opens_junction (sym c.in_ok-top.ensures) ∙ (sym c.is_junction.ensures ∙ c.if-is_junction.false)) c.in_ok-branch.ensures a)
+    (λ r a. plain_alone st place.cut place.here c.args.arity c.args.goal.now place.rest.now c.in_ok-branch.branch r c.requires.callable (ap opens_junction (sym c.in_ok-top.ensures) ∙ (sym c.is_junction_cell.ensures ∙ c.if-is_junction_cell.false)) c.in_ok-branch.ensures a)
     c.alone.ensures

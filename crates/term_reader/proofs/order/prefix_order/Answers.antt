@@ -1,7 +1,7 @@
 use Rattle.std.proofs.Common.{◌≡◌, ◌∙◌, ◌<◌, [], ◌∷◌, ◌++◌, sym, ap, subst, arith}
 use Rattle.au_term.specs.PrefixOrder.{cells_of, arity}
 use Rattle.term_reader.specs.PostorderLevels.{IsCompleting, IsReordering}
-use Rattle.term_reader.specs.Postorder.{pending}
+use Rattle.term_reader.specs.Postorder.{pending_compound}
 use Rattle.term_reader.proofs.PostorderLemmas.{turns-start, turns-more, turns-single, turns-over, no_items}
 use Rattle.term_reader.proofs.order.prefix_order.Goals as goal
 
@@ -19,7 +19,7 @@ loop-cell-preserved-in-Continue-1 c = λ t e.
     let rest = c.pop.new.self.items in
     let h = subst (λ cs. IsReordering cs stack out (cells_of t)) c.in-Some.ensures.items (c.loop-cell.invariant t e) in
     let lt : 0 < arity cell = omega (arith, c.arity-left.ensures) in
-    subst (λ ps. IsReordering rest ps out (cells_of t)) (sym (c.in_ok-push.ensures.items ∙ ap (λ n. stack ++ pending cell n ∷ []) c.arity-left.ensures)) (turns-more rest cell stack out (cells_of t) h lt)
+    subst (λ ps. IsReordering rest ps out (cells_of t)) (sym (c.in_ok-push.ensures.items ∙ ap (λ n. stack ++ pending_compound cell n ∷ []) c.arity-left.ensures)) (turns-more rest cell stack out (cells_of t) h lt)
 
 pub loop-cell-preserved : goal.loop-cell-preserved
 loop-cell-preserved c = λ t e.
