@@ -7,10 +7,11 @@ use Rattle.run_model.specs.declared.ending.RunEnding.TheVariants.{Finished as Ra
 use Rattle.au_model.specs.declared.types.FaultKind.{FaultKind}
 use Rattle.run_model.specs.Programs.Jobs.{Job as JobTerms}
 use Rattle.run_model.specs.Machine.Runs.{text_of, ending_of}
-use Rattle.au_io.specs.FaultCounts.{Appended, AppendedPrefix}
+use Rattle.au_io.specs.FaultCounts.{Appended, AppendedPrefix, Increased}
 use Rattle.text_load.specs.declared.job.Job.{Job}
 use Rattle.text_load.specs.JobView.{job_meant}
 use Rattle.aurora_cli.specs.ProgramTexts.{StandsFor, IsRefusedText}
+use Rattle.aurora_cli.specs.CommandWords.{Asked}
 
 -- the ending of a run is the program's
 abbrev pub ending_after : RunEnding → Ending
@@ -64,6 +65,14 @@ EndsBy ReadFault held budget before ending_of_run = before ≡ ending_of_run
 -- a text that stands for a job and is not too long is run, unless memory runs out
 abbrev pub IsComplete : Ending → ℕ → List ℕ → Type 0
 IsComplete e budget text = (job : JobTerms) → length text ≤ 16777216 → StandsFor text job → (e ≡ ending_after (ending_of job budget)) ⊎ (e ≡ NoMemory)
+
+-- the same of a command, by what the shelf held
+abbrev pub IsCompleteFor : (List ℕ → Option (List ℕ)) → Ending → Asked → Type 0
+IsCompleteFor held e asked = IfSome (held asked.file) (IsComplete e asked.budget)
+
+-- a count of faults did not rise
+abbrev pub IsNotIncreased : ℕ → ℕ → Type 0
+IsNotIncreased before now = Increased before now → ⊥
 
 -- the endings that come of a text that was read whole
 abbrev pub ComesOfText : Ending → Type 0

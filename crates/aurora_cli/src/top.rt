@@ -3,7 +3,7 @@ ghost use Rattle.std.specs.Prelude.{◌≡◌, ◌≢◌, ◌≤◌, ◌<◌, le
 ghost use Rattle.std.specs.String.{string_bytes};
 ghost use Rattle.au_io.specs.FaultCounts.{Increased, IncreasedBy};
 ghost use Rattle.aurora_cli.specs.CommandWords.{asked_by};
-ghost use Rattle.aurora_cli.specs.Endings.{ComesOfText, EndsBy, IsComplete, IsJobLoaded, ending_after};
+ghost use Rattle.aurora_cli.specs.Endings.{ComesOfText, EndsBy, IsComplete, IsJobLoaded, ending_after, IsCompleteFor, IsNotIncreased};
 ghost use Rattle.aurora_cli.specs.LoadFaults.{IsLoadFault, IsReadWhole};
 
 use crate::job::job_of;
@@ -38,7 +38,8 @@ pub fn aurora<R: Threads + Wait + Sync, S: Shelf, K: Sink, G: Gate>(
     ensures short { ComesOfText result → IfSome (asked_by (map string_bytes words.now)) (λ asked. IfSome (S.held shelf.old asked.file) (λ told. length told ≤ 16777216)) }
     ensures write_fault { result ≡ Ending.WriteFault → Increased (K.faults out.old) (K.faults out.new) }
     ensures run { IfSome (asked_by (map string_bytes words.now)) (λ asked. EndsBy result (S.held shelf.old asked.file) asked.budget (K.taken out.old) (K.taken out.new)) }
-    ensures complete { (Increased (S.faults shelf.old) (S.faults shelf.new) → ⊥) → (Increased (K.faults out.old) (K.faults out.new) → ⊥) → IfSome (asked_by (map string_bytes words.now)) (λ asked. IfSome (S.held shelf.old asked.file) (IsComplete result asked.budget)) }
+    ensures complete { IsNotIncreased (S.faults shelf.old) (S.faults shelf.new) → IsNotIncreased (K.faults out.old) (K.faults out.new)
+        → IfSome (asked_by (map string_bytes words.now)) (IsCompleteFor (S.held shelf.old) result) }
 {
     match command_of(words) {
         None => Ending::Usage(UsageKind::Words),
@@ -60,7 +61,8 @@ fn run_command<S: Shelf, K: Sink>(
     ensures short { ComesOfText result → IfSome (S.held shelf.old command.now.file.now) (λ told. length told ≤ 16777216) }
     ensures write_fault { result ≡ Ending.WriteFault → Increased (K.faults out.old) (K.faults out.new) }
     ensures run { EndsBy result (S.held shelf.old command.now.file.now) command.now.budget (K.taken out.old) (K.taken out.new) }
-    ensures complete { (Increased (S.faults shelf.old) (S.faults shelf.new) → ⊥) → (Increased (K.faults out.old) (K.faults out.new) → ⊥) → IfSome (S.held shelf.old command.now.file.now) (IsComplete result command.now.budget) }
+    ensures complete { IsNotIncreased (S.faults shelf.old) (S.faults shelf.new) → IsNotIncreased (K.faults out.old) (K.faults out.new)
+        → IfSome (S.held shelf.old command.now.file.now) (IsComplete result command.now.budget) }
 {
     match load(alloc, command.file, shelf) {
         Ok(job) => ending_of_run(run_job(alloc, job, command.budget, out).end),

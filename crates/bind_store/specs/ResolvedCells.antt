@@ -1,12 +1,13 @@
 -- Terms with bindings applied, cell by cell.
-use Rattle.std.specs.Prelude.{◌≡◌, ℕ, ◌+◌, ◌*◌, ◌<◌, cond, List, [], ◌∷◌, ◌++◌, drop, length, Option, Some, None, is_some}
+use Rattle.std.specs.Prelude.{◌≡◌, ℕ, ◌+◌, ◌*◌, ◌<◌, cond, List, [], ◌∷◌, ◌++◌, drop, length, Option, Some, None, is_some, ◌^◌, reverse, ◌-◌}
 use Rattle.au_term.specs.Term.{Term}
 use Rattle.au_model.specs.Terms.Substitutions.{value_of}
-use Rattle.au_term.specs.PrefixOrder.{cells_of}
+use Rattle.au_term.specs.PrefixOrder.{cells_of, cell_bound, IsValidCell}
 use Rattle.au_term.specs.declared.cell.Cell.{Cell}
 use Rattle.au_term.specs.declared.cell.Cell.TheVariants.{Var as VarCell, Int as IntCell, Atom as AtomCell, Functor}
 use Rattle.bind_store.specs.Bindings.{Binding, value_at, place_in, substitution_of, IsEnd}
 use Rattle.bind_store.specs.declared.walk.Piece.{Piece}
+use Rattle.au_term.specs.Shifted.{shifted_cell}
 
 -- the cells in a cell's place
 abbrev pub in_place : (ℕ → Term) → Cell → List Cell
@@ -90,3 +91,18 @@ pub record Advances (cells : List Cell) (bs : List Binding) (given : List Cell) 
   pub same : given ++ cells_left cells bs after ≡ cells_left cells bs before
   pub fewer : resolving_steps_left cells bs after < resolving_steps_left cells bs before
   pub placed : ArePiecesPlaced bs before → ArePiecesPlaced bs after
+
+-- a step over the first cell of this piece gave no cell, or this one with what is to be added to its variable
+abbrev pub PassesNone : Term → List Binding → Piece → List Piece → List Piece → Type 0
+PassesNone t bs piece old new = Advances (cells_of t) bs [] (piece ∷ reverse old) (reverse new)
+
+abbrev pub PassesCell : Term → List Binding → Piece → List Piece → List Piece → Cell → ℕ → Type 0
+PassesCell t bs piece old new cell base =
+    IsValidCell cell × (base + cell_bound cell < 2 ^ 64) × Advances (cells_of t) bs (shifted_cell base cell ∷ []) (piece ∷ reverse old) (reverse new)
+
+-- cells begin with this one, shifted, and then come these
+abbrev pub BeginsWithCell : List Cell → ℕ → Cell → ℕ → List Cell → Type 0
+BeginsWithCell cells at cell base rest = IsValidCell cell × (base + cell_bound cell < 2 ^ 64) × (at < 2 ^ 64 - 1) × (cells ≡ shifted_cell base cell ∷ rest)
+
+abbrev pub BeginsWithPiece : Term → List Binding → Piece → Cell → ℕ → Type 0
+BeginsWithPiece t bs piece cell base = BeginsWithCell (piece_cells (cells_of t) bs piece) piece.at cell base (piece_cells (cells_of t) bs (next_piece piece))

@@ -1,5 +1,5 @@
 -- Equations by the places of their sides.
-use Rattle.std.specs.Prelude.{◌≡◌, ℕ, ◌+◌, ◌<◌, ◌≤◌, ◌==◌, ◌&&◌, ◌⊎◌, Bool, true, false, cond, nat_eq, nat_lt, nat_le, List, [], ◌∷◌, ◌++◌, length, drop, map, Option, Some, None}
+use Rattle.std.specs.Prelude.{◌≡◌, ℕ, ◌+◌, ◌<◌, ◌≤◌, ◌==◌, ◌&&◌, ◌⊎◌, Bool, true, false, cond, nat_eq, nat_lt, nat_le, List, [], ◌∷◌, ◌++◌, length, drop, map, Option, Some, None, reverse}
 use Rattle.std.specs.Ordering.{int_eq}
 use Rattle.std.specs.Cmp.Lexicographic.{pointwise}
 use Rattle.au_term.specs.Term.{Term, Terms, more, count, take_terms, arguments, var_bound}
@@ -187,3 +187,8 @@ pub record IsExtended (eqs : Equations) (bs cs : List Binding) : Type 0 where
 abbrev pub IsSolved : Equations → List Binding → List Binding → Bool → Type 0
 IsSolved eqs bs cs true = IsExtended eqs bs cs
 IsSolved eqs bs cs false = unifier eqs ≡ None
+
+-- the equations but for the first of these were put on top
+abbrev pub HasRestPending : Pair → List Binding → Equation → List Equation → List Equation → Type 0
+HasRestPending p bs e old new =
+    (place_term p bs e.left, place_term p bs e.right) ∷ pending_equations p bs (reverse new) ≡ equations_at p bs e ++ pending_equations p bs (reverse old)

@@ -5,7 +5,7 @@ ghost use Rattle.au_term.specs.Shifted.{shifted_cell};
 ghost use Rattle.au_model.specs.Terms.Each.{Each};
 ghost use Rattle.au_model.specs.Terms.Substitutions.{occurs, resolve};
 ghost use Rattle.bind_store.specs.Bindings.{IsUnboundIn, IsReached, IsConsistent, substitution_of};
-ghost use Rattle.bind_store.specs.UnificationSteps.{whole_at, place_term, resolved_at, IsThere, HasTermsAt, IsEquationValid, AreEquationsValid, equations_at, pending_equations, IsNextPlace, DereferencesTo, TakesRule, IsBound, IsSmaller, cell_step, variable_step, HasArguments, is_functor, is_fresh, both_resolved, AreOlder, IsOlder, StaysFresh, HasFurther, IsSolved};
+ghost use Rattle.bind_store.specs.UnificationSteps.{whole_at, place_term, resolved_at, IsThere, HasTermsAt, IsEquationValid, AreEquationsValid, equations_at, pending_equations, IsNextPlace, DereferencesTo, TakesRule, IsBound, IsSmaller, cell_step, variable_step, HasArguments, is_functor, is_fresh, both_resolved, AreOlder, IsOlder, StaysFresh, HasFurther, IsSolved, HasRestPending};
 ghost use Rattle.bind_store.specs.Sides.{pair_of};
 
 use crate::bindings::Bindings;
@@ -105,8 +105,7 @@ fn push_rest(
 ) -> Result<(), NoMemory>
     requires stands { IsEquationValid (pair_of sides.now) bindings.now equation }
     requires others { AreEquationsValid (pair_of sides.now) bindings.now (reverse pending.old.items) }
-    ensures rest { OnOk result ((place_term (pair_of sides.now) bindings.now equation.left, place_term (pair_of sides.now) bindings.now equation.right) ∷ pending_equations (pair_of sides.now) bindings.now (reverse pending.new.items)
-        ≡ equations_at (pair_of sides.now) bindings.now equation ++ pending_equations (pair_of sides.now) bindings.now (reverse pending.old.items)) }
+    ensures rest { OnOk result (HasRestPending (pair_of sides.now) bindings.now equation pending.old.items pending.new.items) }
     ensures stand { OnOk result (AreEquationsValid (pair_of sides.now) bindings.now (reverse pending.new.items)) }
 {
     if equation.count > 1 {

@@ -2,7 +2,7 @@
 ghost use Rattle.std.specs.Prelude.{◌≡◌, ◌<◌, ◌+◌, ◌-◌, ◌^◌, ◌∷◌, [], IfOk, MatchOption, drop, reverse};
 ghost use Rattle.au_term.specs.PrefixOrder.{cells_of, cell_bound, IsValidCell};
 ghost use Rattle.au_term.specs.Shifted.{shifted_cell};
-ghost use Rattle.bind_store.specs.ResolvedCells.{piece_cells, next_piece, ArePiecesPlaced, IsPiecePlaced, IsCellEnd, Advances};
+ghost use Rattle.bind_store.specs.ResolvedCells.{piece_cells, next_piece, ArePiecesPlaced, IsPiecePlaced, IsCellEnd, Advances, PassesNone, PassesCell, BeginsWithPiece, BeginsWithCell};
 
 use crate::bindings::Bindings;
 use au_term::{Cell, NoMemory, Shared, VarNo};
@@ -24,9 +24,8 @@ pub(crate) fn advance<'a>(
 ) -> Result<Option<(&'a Cell, VarNo)>, NoMemory>
     requires { ArePiecesPlaced bindings.now (piece ∷ reverse pieces.old.items) }
     ensures { IfOk result (λ o. MatchOption o
-        (Advances (cells_of term.entry.now) bindings.entry.now [] (piece ∷ reverse pieces.old.items) (reverse pieces.new.items))
-        (λ c. IsValidCell c.0.now × (c.1 + cell_bound c.0.now < 2 ^ 64)
-        × Advances (cells_of term.entry.now) bindings.entry.now (shifted_cell c.1 c.0.now ∷ []) (piece ∷ reverse pieces.old.items) (reverse pieces.new.items))) }
+        (PassesNone term.entry.now bindings.entry.now piece pieces.old.items pieces.new.items)
+        (λ c. PassesCell term.entry.now bindings.entry.now piece pieces.old.items pieces.new.items c.0.now c.1)) }
 {
     let Some((cell, base)) = first_cell(piece, term, bindings) else {
         return Ok(None);
@@ -55,8 +54,7 @@ fn first_cell<'a>(
 ) -> Option<(&'a Cell, VarNo)>
     requires { IsPiecePlaced bindings.now piece }
     ensures { MatchOption result (piece_cells (cells_of term.entry.now) bindings.entry.now piece ≡ [])
-        (λ c. IsValidCell c.0.now × (c.1 + cell_bound c.0.now < 2 ^ 64) × (piece.at < 2 ^ 64 - 1)
-        × (piece_cells (cells_of term.entry.now) bindings.entry.now piece ≡ shifted_cell c.1 c.0.now ∷ piece_cells (cells_of term.entry.now) bindings.entry.now (next_piece piece))) }
+        (λ c. BeginsWithPiece term.entry.now bindings.entry.now piece c.0.now c.1) }
 {
     match piece.value {
         None => cell_of(term, piece.at),
@@ -67,8 +65,7 @@ fn first_cell<'a>(
 /// The cell at a place of a term and what is to be added to its variable, if a cell is there.
 fn cell_of(term: &Shared, at: usize) -> Option<(&Cell, VarNo)>
     ensures { MatchOption result (drop at (cells_of term.now) ≡ [])
-        (λ c. IsValidCell c.0.now × (c.1 + cell_bound c.0.now < 2 ^ 64) × (at < 2 ^ 64 - 1)
-        × (drop at (cells_of term.now) ≡ shifted_cell c.1 c.0.now ∷ drop (at + 1) (cells_of term.now))) }
+        (λ c. BeginsWithCell (drop at (cells_of term.now)) at c.0.now c.1 (drop (at + 1) (cells_of term.now))) }
 {
     if at < term.len() {
         Some(term.cell_at(at))

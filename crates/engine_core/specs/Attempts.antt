@@ -20,6 +20,10 @@ use Rattle.engine_core.specs.Branches.{IsBranchOf, AreSolved}
 abbrev pub equation_solution : Term → Term → Solution
 equation_solution left right = record { equations = (left, right) ∷ []; goals = []; variables = 0 }
 
+-- the same for what two terms stand for
+abbrev pub resolved_equation : StoreView → Term → Term → Solution
+resolved_equation st left right = equation_solution (resolve (substitution st) left) (resolve (substitution st) right)
+
 -- these further bindings are the unifier of what two terms stand for, and keep a store sound
 pub record UnifyBy (left right : Term) (st : StoreView) (bindings : List SharedBinding) : Type 0 where
   pub unified : unifier ((resolve (substitution st) left, resolve (substitution st) right) ∷ []) ≡ Some (composed (resolved_after st.made (pairs_of bindings)))

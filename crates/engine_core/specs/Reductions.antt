@@ -16,6 +16,7 @@ use Rattle.clause_compile.specs.declared.event.Effect.{Effect}
 use Rattle.clause_compile.specs.declared.event.Effect.TheVariants as effect
 use Rattle.bind_store.specs.StoreView.{StoreView, substitution}
 use Rattle.engine_core.specs.Branches.{AreSolved, GoesOnPlainly}
+use Rattle.engine_core.specs.declared.reduction.Continuation.{Continuation}
 use Rattle.engine_core.specs.declared.reduction.Reduction.{Reduction}
 use Rattle.engine_core.specs.declared.reduction.Reduction.TheVariants.{Alternatives, Raise, Prune, Open, Collect, Gate}
 
@@ -66,6 +67,10 @@ IsOutcome cut here rest st (Controls (CatchOf goal catcher recovery)) (Open o) =
 IsOutcome cut here rest st (Controls (FindallOf template goal list)) (Open o) = IsFindall st template goal list o
 IsOutcome cut here rest st (AskWorld goal) (Gate e) = AsksWorld goal e
 IsOutcome cut here rest st outcome r = ⊥
+
+-- the same for a goal at this place
+abbrev pub IsOutcomeAt : Continuation → StoreView → Outcome → Reduction → Type 0
+IsOutcomeAt place st outcome r = IsOutcome place.cut place.here place.rest.now st outcome r
 
 abbrev pub IsRemoval : Item → Effect → Type 0
 IsRemoval (item.Remove id) (effect.Remove other) = other ≡ id

@@ -7,10 +7,10 @@ ghost use Rattle.run_model.specs.Goals.Control.{call_outcome, called, with_argum
 ghost use Rattle.au_model.specs.Terms.Forms.{is_callable, name_of};
 ghost use Rattle.au_model.specs.Terms.Substitutions.{resolve};
 ghost use Rattle.bind_store.specs.StoreView.{substitution};
-ghost use Rattle.engine_core.specs.GoalArguments.{resolved_argument, listed};
+ghost use Rattle.engine_core.specs.GoalArguments.{resolved_argument, listed, further_arguments, called_term};
 ghost use Rattle.engine_core.specs.Branches.{IsItemBelow};
 ghost use Rattle.engine_core.specs.Calls.{IsUncallable};
-ghost use Rattle.engine_core.specs.Reductions.{IsOutcome};
+ghost use Rattle.engine_core.specs.Reductions.{IsOutcome, IsOutcomeAt};
 ghost use Rattle.au_model.specs.Terms.Lists.{terms_from};
 
 use crate::bodies::{alone, goal_branch, onward};
@@ -54,8 +54,8 @@ pub(crate) fn call(
     requires some { 0 < argument_count goal.now }
     requires below { var_bound goal.now ≤ store.now.next }
     requires rest { Each (IsItemBelow store.now.next) place.now.rest.now }
-    ensures { IfOk result (IsOutcome place.now.cut place.now.here place.now.rest.now store.now
-        (call_outcome (argument_count goal.now) (resolved_argument 0 store.now goal.now) (drop_terms 1 (arguments (resolve (substitution store.now) goal.now))))) }
+    ensures { IfOk result (IsOutcomeAt place.now store.now
+        (call_outcome (argument_count goal.now) (resolved_argument 0 store.now goal.now) (further_arguments store.now goal.now))) }
 {
     let callee = store.reached(&goal.argument(0)?)?;
     let arity = goal.arity();
@@ -82,8 +82,7 @@ fn called_goal(
     requires callable { is_callable goal.now ≡ true }
     requires below { var_bound goal.now ≤ store.now.next }
     requires rest { Each (IsItemBelow store.now.next) place.now.rest.now }
-    ensures { IfOk result (IsOutcome place.now.cut place.now.here place.now.rest.now store.now
-        (called arity (resolve (substitution store.now) goal.now) (called_goals (resolve (substitution store.now) goal.now)))) }
+    ensures { IfOk result (IsOutcomeAt place.now store.now (called_term arity store.now goal.now)) }
 {
     if is_junction_cell(&goal.top()?) {
         return called_body(alloc, goal, arity, place, store);
@@ -102,8 +101,7 @@ fn called_body(
 ) -> Result<Reduction, NoMemory>
     requires below { var_bound goal.now ≤ store.now.next }
     requires rest { Each (IsItemBelow store.now.next) place.now.rest.now }
-    ensures { IfOk result (IsOutcome place.now.cut place.now.here place.now.rest.now store.now
-        (called arity (resolve (substitution store.now) goal.now) (called_goals (resolve (substitution store.now) goal.now)))) }
+    ensures { IfOk result (IsOutcomeAt place.now store.now (called_term arity store.now goal.now)) }
 {
     // The proof reads off that the bindings are apart.
     let _next = store.next();

@@ -5,10 +5,10 @@ ghost use Rattle.au_model.specs.Terms.Each.{Each};
 ghost use Rattle.run_model.specs.Goals.Control.{either_form, throw_outcome, true_goals, fail_goals};
 ghost use Rattle.au_model.specs.Terms.Forms.{is_callable, name_of};
 ghost use Rattle.run_model.specs.Goals.Outcomes.{Controls, Replies, Solutions};
-ghost use Rattle.engine_core.specs.GoalArguments.{resolved_argument};
+ghost use Rattle.engine_core.specs.GoalArguments.{resolved_argument, argument_goals};
 ghost use Rattle.engine_core.specs.Branches.{IsItemBelow};
 ghost use Rattle.std_builtins.specs.Controls.{IsControl};
-ghost use Rattle.engine_core.specs.Reductions.{IsOutcome, ResolvesTo, HasGoals, IsCondition, IsCatch, IsFindall};
+ghost use Rattle.engine_core.specs.Reductions.{IsOutcome, ResolvesTo, HasGoals, IsCondition, IsCatch, IsFindall, IsOutcomeAt};
 ghost use Rattle.engine_core.specs.GoalReductions.{ComesTo, Raises};
 ghost use Rattle.engine_core.specs.Attempts.{equation_solution};
 ghost use Rattle.std.specs.Str.{IsAscii};
@@ -106,7 +106,7 @@ pub(crate) fn unify(
     requires arguments { argument_count goal.now ≡ 2 }
     requires below { var_bound goal.now ≤ store.old.next }
     requires rest { Each (IsItemBelow store.old.next) place.now.rest.now }
-    ensures outcome { IfOk result (IsOutcome place.now.cut place.now.here place.now.rest.now store.old
+    ensures outcome { IfOk result (IsOutcomeAt place.now store.old
         (Replies (Solutions (equation_solution (resolved_argument 0 store.old goal.now) (resolved_argument 1 store.old goal.now) ∷ [])))) }
     ensures store { store.new ≡ store.old }
 {
@@ -162,7 +162,7 @@ pub(crate) fn condition(left: &Shared, goal: &Shared, store: &Store) -> Result<O
     requires left { var_bound left.now ≤ store.now.next }
     requires goal_arguments { argument_count goal.now ≡ 2 }
     requires goal { var_bound goal.now ≤ store.now.next }
-    ensures { IfOk result (IsCondition store.now (goals_of (resolved_argument 0 store.now left.now)) (goals_of (resolved_argument 1 store.now left.now)) (goals_of (resolved_argument 1 store.now goal.now))) }
+    ensures { IfOk result (IsCondition store.now (argument_goals 0 store.now left.now) (argument_goals 1 store.now left.now) (argument_goals 1 store.now goal.now)) }
 {
     let test = argument(left, 0, store)?;
     let yes = argument(left, 1, store)?;

@@ -9,7 +9,7 @@ ghost use Rattle.run_model.specs.Goals.Outcomes.{alternatives_of, clause_solutio
 ghost use Rattle.clause_compile.specs.declared.item.Scope.{Scope};
 ghost use Rattle.bind_store.specs.StoreView.{substitution, IsValidStore, Continues};
 ghost use Rattle.engine_core.specs.Branches.{AreSolved, IsItemBelow};
-ghost use Rattle.engine_core.specs.Attempts.{AreAlternatives, equation_solution, AreUnifiedBy, IsTried};
+ghost use Rattle.engine_core.specs.Attempts.{AreAlternatives, equation_solution, AreUnifiedBy, IsTried, resolved_equation};
 ghost use Rattle.bind_store.specs.UnificationSteps.{AreOlderThan};
 
 use crate::names::first_key;
@@ -80,7 +80,7 @@ pub(crate) fn equation_tried(
     requires left { var_bound left.now ≤ store.old.next }
     requires right { var_bound right.now ≤ store.old.next }
     requires rest { Each (IsItemBelow store.old.next) rest.now }
-    ensures solved { IfOk result (λ branches. (here : Scope) → AreSolved here rest.now store.old (equation_solution (resolve (substitution store.old) left.now) (resolve (substitution store.old) right.now) ∷ []) branches.items) }
+    ensures solved { IfOk result (λ branches. (here : Scope) → AreSolved here rest.now store.old (resolved_equation store.old left.now right.now ∷ []) branches.items) }
     ensures store { store.new ≡ store.old }
 {
     let mut branches = Vec::new(alloc);
@@ -153,7 +153,7 @@ pub(crate) fn try_equation(
     requires left { var_bound left.now ≤ store.old.next }
     requires right { var_bound right.now ≤ store.old.next }
     requires rest { Each (IsItemBelow store.old.next) rest.now }
-    ensures tried { IfOk result (λ branch. (here : Scope) → IsTried here rest.now store.old (equation_solution (resolve (substitution store.old) left.now) (resolve (substitution store.old) right.now)) branch) }
+    ensures tried { IfOk result (λ branch. (here : Scope) → IsTried here rest.now store.old (resolved_equation store.old left.now right.now) branch) }
     ensures store { store.new ≡ store.old }
 {
     let mark = store.mark();
@@ -172,7 +172,7 @@ fn equation_branch(
     requires left { var_bound left.now ≤ store.old.next }
     requires right { var_bound right.now ≤ store.old.next }
     requires rest { Each (IsItemBelow store.old.next) rest.now }
-    ensures tried { IfOk result (λ branch. (here : Scope) → IsTried here rest.now store.old (equation_solution (resolve (substitution store.old) left.now) (resolve (substitution store.old) right.now)) branch) }
+    ensures tried { IfOk result (λ branch. (here : Scope) → IsTried here rest.now store.old (resolved_equation store.old left.now right.now) branch) }
     ensures sound { IsValidStore store.old }
     ensures since { Continues store.old store.new }
 {

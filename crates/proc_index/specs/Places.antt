@@ -1,5 +1,5 @@
 -- Places of clauses in rising order.
-use Rattle.std.specs.Prelude.{ℕ, suc, Bool, cond, nat_lt, List, [], ◌∷◌, ◌++◌, take, drop}
+use Rattle.std.specs.Prelude.{ℕ, suc, Bool, cond, nat_lt, List, [], ◌∷◌, ◌++◌, take, drop, ◌≡◌}
 use Rattle.run_model.specs.Programs.Clauses.{Clause as ClauseTerms}
 
 -- the places of the clauses that pass a test, where the first has this place
@@ -24,3 +24,10 @@ merged (v ∷ vs) ks = put_in v ks (merged vs)
 abbrev pub clauses_at : List ClauseTerms → List ℕ → List ClauseTerms
 clauses_at clauses [] = []
 clauses_at clauses (i ∷ is) = take 1 (drop i clauses) ++ clauses_at clauses is
+
+-- none was left, or the least was taken
+abbrev pub HasNoneLeft : List ℕ → List ℕ → Type 0
+HasNoneLeft left right = merged left right ≡ []
+
+abbrev pub IsLeastTaken : List ℕ → List ℕ → ℕ → List ℕ → List ℕ → Type 0
+IsLeastTaken left right place rest others = merged left right ≡ place ∷ merged rest others

@@ -1,5 +1,5 @@
 -- Free steps.
-use Rattle.std.specs.Prelude.{◌≡◌, ℕ, ◌+◌, ◌*◌, ◌<◌, Bool, true, false, List, [], ◌∷◌, length, Option, Some, None}
+use Rattle.std.specs.Prelude.{◌≡◌, ℕ, ◌+◌, ◌*◌, ◌<◌, Bool, true, false, List, [], ◌∷◌, length, Option, Some, None, ◌++◌, reverse}
 use Rattle.au_model.specs.Terms.Named.{NamedTerm}
 use Rattle.run_model.specs.Machine.FreeSteps.{take_free_steps, findall_ends, HasNoFreeStep}
 use Rattle.run_model.specs.Machine.Items.{with_next}
@@ -8,11 +8,14 @@ use Rattle.au_term.specs.Term.{Term}
 use Rattle.clause_compile.specs.declared.item.Scope.{Scope}
 use Rattle.clause_compile.specs.declared.item.Item.{Item}
 use Rattle.clause_compile.specs.declared.item.Item.TheVariants.{CatchEnd, Collect}
-use Rattle.bind_store.specs.StoreView.{substitution}
-use Rattle.stack_run.specs.StackView.{stack_view, continuation_view, entries_under}
+use Rattle.bind_store.specs.StoreView.{substitution, StoreView}
+use Rattle.stack_run.specs.StackView.{stack_view, continuation_view, entries_under, frames_view, end_view, scope_height}
 use Rattle.stack_run.specs.StackInvariant.{IsFit}
 use Rattle.stack_run.specs.declared.frame.Findall.{Findall}
 use Rattle.stack_run.specs.declared.frame.Stack.{Stack}
+use Rattle.stack_run.specs.declared.frame.Frame.{Frame}
+use Rattle.stack_run.specs.declared.frame.QueryEnd.{QueryEnd}
+use Rattle.run_model.specs.Machine.Entries.{collected}
 
 abbrev pub with_current : List Item → Stack → Stack
 with_current items s = record s { current = Some items }
@@ -56,3 +59,9 @@ abbrev pub result_in_front : List Item → Option (Term × Scope)
 result_in_front [] = None
 result_in_front (Collect t scope ∷ items) = Some (t, scope)
 result_in_front (i ∷ items) = None
+
+-- a result was added to the findall that a scope names
+abbrev pub CollectsInto : Scope → Term → List Frame → List Frame → Type 0
+CollectsInto scope t old new =
+    (own : List NamedTerm) (st : StoreView) (end : QueryEnd)
+    → frames_view own st (reverse new) ++ end_view (Some end) ≡ collected (scope_height scope) t (frames_view own st (reverse old) ++ end_view (Some end))

@@ -25,7 +25,7 @@ use Rattle.clause_compile.specs.declared.event.Opening.{Opening}
 use Rattle.clause_compile.specs.declared.event.Opening.TheVariants as opening
 use Rattle.clause_compile.specs.declared.event.Branch.{Branch as BranchTerms}
 use Rattle.bind_store.specs.StoreView.{StoreView, IsValidStore, Continues, substitution}
-use Rattle.stack_run.specs.StackView.{stack_view, continuation_view, choice_view, entries_under, scope_place}
+use Rattle.stack_run.specs.StackView.{stack_view, continuation_view, choice_view, entries_under, scope_place, item_view}
 use Rattle.stack_run.specs.StackInvariant.{IsFit, AreFit}
 use Rattle.stack_run.specs.declared.frame.Catch.{Catch}
 use Rattle.stack_run.specs.declared.frame.Choice.{Choice}
@@ -55,6 +55,14 @@ entries_below s own = entries_under own s.store s.frames.items s.end
 
 abbrev pub following : Stack → List Item → List NamedTerm → Continuation ℕ
 following s rest own = continuation_view own s.store rest
+
+-- what a term stands for
+abbrev pub in_store : Stack → Term → Term
+in_store s t = resolve (substitution s.store) t
+
+-- the stack goes on as a control construct of this form says
+abbrev pub GoesOnBy : ControlForm → ℕ → List Item → Stack → Stack → Type 0
+GoesOnBy form height rest old new = HasEntries (λ own. after_control form height (following old rest own) (entries_below old own)) new
 
 abbrev pub branch_entry : List NamedTerm → StoreView → BranchTerms → Entry
 branch_entry own st b = choice_view own st (BranchChoice b)
@@ -143,3 +151,8 @@ IsUnhalted clauses st (CatchEnd scope) = Unit {0}
 IsUnhalted clauses st (Collect t scope) = Unit {0}
 IsUnhalted clauses st (Remove id) = Unit {0}
 IsUnhalted clauses st (End ball) = Unit {0}
+
+-- the stack goes on as the item in front says
+abbrev pub TakesItem : List Clause → Item → List Item → Stack → Stack → Type 0
+TakesItem clauses item rest old new =
+    HasEntries (λ own. item_entries clauses (item_view (substitution old.store) item) (following old rest own) (entries_below old own)) new

@@ -1,5 +1,5 @@
 -- What a run stands for.
-use Rattle.std.specs.Prelude.{ℕ, zero, suc, List, [], ◌∷◌, drop, Option, Some, None}
+use Rattle.std.specs.Prelude.{ℕ, zero, suc, List, [], ◌∷◌, drop, Option, Some, None, ◌≡◌, ◌+◌, ◌++◌}
 use Rattle.au_term.specs.Term.{Term, VarTerm}
 use Rattle.run_model.specs.Programs.Databases.{no_procedures}
 use Rattle.au_model.specs.Terms.Substitutions.{resolve}
@@ -7,7 +7,7 @@ use Rattle.run_model.specs.Machine.FreeSteps.{HasNoFreeStep}
 use Rattle.au_model.specs.Terms.Named.{NamedTerm}
 use Rattle.au_model.specs.Terms.Named.{NamedVariable}
 use Rattle.run_model.specs.Programs.Jobs.{Query, own_terms}
-use Rattle.run_model.specs.Machine.States.{State, opened, remaining_queries}
+use Rattle.run_model.specs.Machine.States.{State, opened, remaining_queries, with_free_steps, step}
 use Rattle.au_model.specs.declared.types.VarName.{VarName}
 use Rattle.bind_store.specs.StoreView.{StoreView, substitution}
 use Rattle.text_load.specs.declared.job.Job.{Job}
@@ -17,6 +17,7 @@ use Rattle.stack_run.specs.FreeStepsTaken.{IsResting}
 use Rattle.stack_run.specs.declared.frame.QueryEnd.{QueryEnd}
 use Rattle.stack_run.specs.declared.frame.Stack.{Stack}
 use Rattle.stack_run.specs.declared.frame.Machine.{Machine}
+use Rattle.std.specs.Arc.{arc_value}
 
 -- the names of the query that was asked last, where so many were asked
 abbrev pub names_asked : ℕ → List Query → List NamedVariable
@@ -60,3 +61,12 @@ opened_state st = record st { entries = opened st.queries; queries = remaining_q
 abbrev pub ball_of : Option QueryEnd → Option Term
 ball_of None = None
 ball_of (Some e) = e.ball
+
+-- the machine is one inference on, whatever was written and inferred before: without the free steps after it, or with them
+abbrev pub IsInferredFrom : Job → (List ℕ → ℕ → State) → Machine → Type 0
+IsInferredFrom job before m =
+    (written : List ℕ) (inferences : ℕ) → state_view job m (written ++ m.line.items) (inferences + 1) ≡ step (arc_value job.procs) (before written inferences)
+
+abbrev pub IsStepFrom : Job → (List ℕ → ℕ → State) → Machine → Type 0
+IsStepFrom job before m =
+    (written : List ℕ) (inferences : ℕ) → state_view job m (written ++ m.line.items) (inferences + 1) ≡ with_free_steps (step (arc_value job.procs) (before written inferences))

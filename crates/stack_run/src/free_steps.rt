@@ -11,7 +11,7 @@ ghost use Rattle.engine_core.specs.Branches.{IsItemBelow};
 ghost use Rattle.bind_store.specs.StoreView.{StoreView, IsValidStore};
 ghost use Rattle.stack_run.specs.StackView.{stack_view, item_view, choice_view, frames_view, end_view, scope_place, scope_height};
 ghost use Rattle.stack_run.specs.StackInvariant.{IsFit, AreFit, IsChoiceFit};
-ghost use Rattle.stack_run.specs.FreeStepsTaken.{IsFreeStep, with_current, IsResting, FindallEnds, begins_with_mark, result_in_front};
+ghost use Rattle.stack_run.specs.FreeStepsTaken.{IsFreeStep, with_current, IsResting, FindallEnds, begins_with_mark, result_in_front, CollectsInto};
 ghost use Rattle.stack_run.specs.declared.frame.QueryEnd.{QueryEnd};
 
 use crate::frame::{Choice, Findall, Frame, Stack};
@@ -109,8 +109,7 @@ fn collect(
     scope: Scope,
     frames: &mut Vec<Frame>,
 ) -> Result<(), NoMemory>
-    ensures view { OnOk result ((own : List NamedTerm) (st : StoreView) (end : QueryEnd) →
-        frames_view own st (reverse frames.new.items) ++ end_view (Some end) ≡ collected (scope_height scope) term.now (frames_view own st (reverse frames.old.items) ++ end_view (Some end))) }
+    ensures view { OnOk result (CollectsInto scope term.now frames.old.items frames.new.items) }
     ensures fit { OnOk result ((st : StoreView) → AreFit st (reverse frames.old.items) → AreFit st (reverse frames.new.items)) }
     ensures count { OnOk result (length frames.new.items ≡ length frames.old.items) }
 {

@@ -16,7 +16,7 @@ ghost use Rattle.bind_store.specs.StoreView.{substitution};
 ghost use Rattle.engine_core.specs.Branches.{IsItemBelow};
 ghost use Rattle.stack_run.specs.StackView.{items_view, item_view, scope_height};
 ghost use Rattle.stack_run.specs.StackInvariant.{IsChoiceFit};
-ghost use Rattle.stack_run.specs.Inferences.{IsWorking, IsUnhalted, HasEntries, IsNoMark, branch_entry, cut_of, following, gate_entries, item_entries, entries_below};
+ghost use Rattle.stack_run.specs.Inferences.{IsWorking, IsUnhalted, HasEntries, IsNoMark, branch_entry, cut_of, following, gate_entries, item_entries, entries_below, TakesItem};
 
 use crate::frame::{Choice, Stack};
 use crate::free_steps::place_of;
@@ -42,7 +42,7 @@ pub(crate) fn infer(
     requires item { IsItemBelow stack.old.store.next item.now }
     requires rest { Each (IsItemBelow stack.old.store.next) rest.now }
     requires goal { IsNoMark item.now }
-    ensures leaves { OnOk result (HasEntries (λ own. item_entries procs.now (item_view (substitution stack.old.store) item.now) (following stack.old rest.now own) (entries_below stack.old own)) stack.new) }
+    ensures leaves { OnOk result (TakesItem procs.now item.now rest.now stack.old stack.new) }
     ensures halts { OnOk result (IsUnhalted procs.now stack.old.store item.now) }
 {
     let here = Scope::Local(stack.frames.len() as u64);

@@ -10,7 +10,7 @@ ghost use Rattle.au_model.specs.Terms.Substitutions.{resolve};
 ghost use Rattle.bind_store.specs.StoreView.{substitution};
 ghost use Rattle.engine_core.specs.Branches.{IsItemBelow};
 ghost use Rattle.stack_run.specs.StackView.{scope_height};
-ghost use Rattle.stack_run.specs.Inferences.{IsWorking, HasEntries, IsOpeningBelow, following, opened_form, entries_below};
+ghost use Rattle.stack_run.specs.Inferences.{IsWorking, HasEntries, IsOpeningBelow, following, opened_form, entries_below, GoesOnBy, in_store};
 
 use crate::frame::{Catch, Choice, Findall, Stack};
 use crate::list::call_of;
@@ -66,7 +66,7 @@ fn condition(
     requires yes { var_bound yes.now ≤ stack.old.store.next }
     requires no { var_bound no.now ≤ stack.old.store.next }
     requires rest { Each (IsItemBelow stack.old.store.next) rest.now }
-    ensures { OnOk result (HasEntries (λ own. after_control (TestOf (goals_of (resolve (substitution stack.old.store) test.now)) (goals_of (resolve (substitution stack.old.store) yes.now)) (goals_of (resolve (substitution stack.old.store) no.now))) (scope_height cut) (following stack.old rest.now own) (entries_below stack.old own)) stack.new) }
+    ensures { OnOk result (GoesOnBy (TestOf (goals_of (in_store stack.old test.now)) (goals_of (in_store stack.old yes.now)) (goals_of (in_store stack.old no.now))) (scope_height cut) rest.now stack.old stack.new) }
 {
     let place = stack.frames.len() as u64;
     let others = goals_before(alloc, no, cut, rest, &stack.store)?;
@@ -108,7 +108,7 @@ fn catch(
     requires catcher { var_bound catcher ≤ stack.old.store.next }
     requires recovery { var_bound recovery ≤ stack.old.store.next }
     requires rest { Each (IsItemBelow stack.old.store.next) rest.now }
-    ensures { OnOk result (HasEntries (λ own. after_control (CatchOf (resolve (substitution stack.old.store) goal.now) (resolve (substitution stack.old.store) catcher) (resolve (substitution stack.old.store) recovery)) 0 (following stack.old rest.now own) (entries_below stack.old own)) stack.new) }
+    ensures { OnOk result (GoesOnBy (CatchOf (in_store stack.old goal.now) (in_store stack.old catcher) (in_store stack.old recovery)) 0 rest.now stack.old stack.new) }
 {
     let place = stack.frames.len() as u64;
     let end = rest.push(alloc, Item::CatchEnd(Scope::Local(place)))?;
@@ -145,7 +145,7 @@ fn findall(
     requires goal { var_bound goal.now ≤ stack.old.store.next }
     requires list { var_bound list ≤ stack.old.store.next }
     requires rest { Each (IsItemBelow stack.old.store.next) rest.now }
-    ensures { OnOk result (HasEntries (λ own. after_control (FindallOf (resolve (substitution stack.old.store) template) (resolve (substitution stack.old.store) goal.now) (resolve (substitution stack.old.store) list)) 0 (following stack.old rest.now own) (entries_below stack.old own)) stack.new) }
+    ensures { OnOk result (GoesOnBy (FindallOf (in_store stack.old template) (in_store stack.old goal.now) (in_store stack.old list)) 0 rest.now stack.old stack.new) }
 {
     let place = stack.frames.len() as u64;
     let scope = Scope::Local(place);

@@ -15,7 +15,7 @@ ghost use Rattle.stack_run.specs.StackInvariant.{IsFit};
 ghost use Rattle.stack_run.specs.FreeStepsTaken.{with_current};
 ghost use Rattle.stack_run.specs.Inferences.{HasEnd, IsWorking};
 ghost use Rattle.stack_run.specs.ItemsTaken.{IsAtItem};
-ghost use Rattle.stack_run.specs.MachineView.{state_view, stack_state, names_asked, opened_state, ball_of, value_in, IsReady};
+ghost use Rattle.stack_run.specs.MachineView.{state_view, stack_state, names_asked, opened_state, ball_of, value_in, IsReady, IsInferredFrom, IsStepFrom};
 
 use crate::frame::{Machine, QueryEnd, Stack};
 use crate::free_steps::take_free_steps;
@@ -93,7 +93,7 @@ pub(crate) fn step(alloc: Global, job: &Job, machine: &mut Machine) -> Result<()
     requires ready { IsReady machine.old.stack }
     requires some { HasEnd machine.old.stack }
     requires few { machine.old.answers < 2 ^ 64 - 1 }
-    ensures state { OnOk result ((written : List ℕ) (inferences : ℕ) → state_view job.now machine.new (written ++ machine.new.line.items) (inferences + 1) ≡ with_free_steps (step (arc_value job.now.procs) (state_view job.now machine.old written inferences))) }
+    ensures state { OnOk result (IsStepFrom job.now (state_view job.now machine.old) machine.new) }
     ensures ready { OnOk result (IsReady machine.new.stack) }
 {
     machine.line.clear();
@@ -107,7 +107,7 @@ fn inference(alloc: Global, job: &Job, machine: &mut Machine) -> Result<(), NoMe
     requires some { HasEnd machine.old.stack }
     requires line { machine.old.line.items ≡ [] }
     requires few { machine.old.answers < 2 ^ 64 - 1 }
-    ensures state { OnOk result ((written : List ℕ) (inferences : ℕ) → state_view job.now machine.new (written ++ machine.new.line.items) (inferences + 1) ≡ step (arc_value job.now.procs) (state_view job.now machine.old written inferences)) }
+    ensures state { OnOk result (IsInferredFrom job.now (state_view job.now machine.old) machine.new) }
     ensures fit { OnOk result (IsFit machine.new.stack) }
 {
     match machine.stack.current.take() {
@@ -121,7 +121,7 @@ fn take_item(alloc: Global, job: &Job, goals: &Goals, machine: &mut Machine) -> 
     requires goals { IsAtItem goals.now machine.old.stack }
     requires line { machine.old.line.items ≡ [] }
     requires few { machine.old.answers < 2 ^ 64 - 1 }
-    ensures state { OnOk result ((written : List ℕ) (inferences : ℕ) → state_view job.now machine.new (written ++ machine.new.line.items) (inferences + 1) ≡ step (arc_value job.now.procs) (stack_state job.now machine.old.asked machine.old.answers (with_current goals.now machine.old.stack) written inferences)) }
+    ensures state { OnOk result (IsInferredFrom job.now (stack_state job.now machine.old.asked machine.old.answers (with_current goals.now machine.old.stack)) machine.new) }
     ensures fit { OnOk result (IsFit machine.new.stack) }
 {
     match goals.first() {
@@ -138,7 +138,7 @@ fn answer(alloc: Global, job: &Job, machine: &mut Machine) -> Result<(), NoMemor
     requires work { IsWorking machine.old.stack }
     requires line { machine.old.line.items ≡ [] }
     requires few { machine.old.answers < 2 ^ 64 - 1 }
-    ensures state { OnOk result ((written : List ℕ) (inferences : ℕ) → state_view job.now machine.new (written ++ machine.new.line.items) (inferences + 1) ≡ step (arc_value job.now.procs) (stack_state job.now machine.old.asked machine.old.answers (with_current [] machine.old.stack) written inferences)) }
+    ensures state { OnOk result (IsInferredFrom job.now (stack_state job.now machine.old.asked machine.old.answers (with_current [] machine.old.stack)) machine.new) }
     ensures fit { OnOk result (IsFit machine.new.stack) }
 {
     let names = asked_names(job, machine.asked);
@@ -188,7 +188,7 @@ fn end_query(alloc: Global, job: &Job, machine: &mut Machine) -> Result<(), NoMe
     requires none { machine.old.stack.current ≡ None }
     requires some { HasEnd machine.old.stack }
     requires line { machine.old.line.items ≡ [] }
-    ensures state { OnOk result ((written : List ℕ) (inferences : ℕ) → state_view job.now machine.new (written ++ machine.new.line.items) (inferences + 1) ≡ step (arc_value job.now.procs) (state_view job.now machine.old written inferences)) }
+    ensures state { OnOk result (IsInferredFrom job.now (state_view job.now machine.old) machine.new) }
     ensures fit { OnOk result (IsFit machine.new.stack) }
 {
     end_line(alloc, &machine.stack.end, &job.ops, &mut machine.line)?;

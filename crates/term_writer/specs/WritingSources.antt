@@ -1,11 +1,11 @@
 -- A term with its notation, as the tasks of writing it see them.
-use Rattle.std.specs.Prelude.{ℕ, ◌+◌, ◌<◌, List, ◌∷◌, length}
+use Rattle.std.specs.Prelude.{ℕ, Bool, ◌+◌, ◌<◌, List, ◌∷◌, length}
 use Rattle.au_term.specs.Term.{Term, arguments, take_terms}
 use Rattle.au_term.specs.PrefixOrder.{cells_of, subterm}
 use Rattle.au_model.specs.Syntax.Tokens.{Bar as BarMark}
 use Rattle.au_model.specs.Writing.OperatorForms.{Notation, CompoundForm, is_above}
 use Rattle.au_model.specs.Writing.Pieces.{Piece, Put}
-use Rattle.au_model.specs.Writing.WrittenTerms.{compound_pieces, cell_pieces, further_pieces, enclosed, pieces}
+use Rattle.au_model.specs.Writing.WrittenTerms.{compound_pieces, cell_pieces, further_pieces, tail_pieces, enclosed, pieces}
 use Rattle.term_writer.specs.NotationView.{notation_meant}
 use Rattle.term_writer.specs.WritingTasks.{AddsTasks, DoesTask, term_weight, terms_at, terms_weight}
 use Rattle.term_writer.specs.declared.text.Text.{Text}
@@ -28,6 +28,19 @@ source_subterm s at = subterm at (term_of_source s)
 -- tasks for these pieces were put on top
 abbrev pub PushesTasks : Source → List Task → List Task → (List Piece → List Piece) → ℕ → Type 0
 PushesTasks s old new f weight = AddsTasks (notation_of_source s) (term_of_source s) old new f weight
+
+-- the subterm at a place, in brackets or not
+abbrev pub PushesSubterm : Source → ℕ → Bool → List Task → List Task → Type 0
+PushesSubterm s at is_enclosed old new =
+    PushesTasks s old new (enclosed is_enclosed (pieces (notation_of_source s) (source_subterm s at))) (2 + term_weight (source_subterm s at))
+
+-- the compound at a place
+abbrev pub PushesCompound : Source → ℕ → List Task → List Task → Type 0
+PushesCompound s at old new = PushesTasks s old new (pieces (notation_of_source s) (source_subterm s at)) (9 + terms_weight (arguments (source_subterm s at)))
+
+-- what is left of a list after an item
+abbrev pub PushesListRest : Source → ℕ → List Task → List Task → Type 0
+PushesListRest s at old new = PushesTasks s old new (tail_pieces (notation_of_source s) (source_subterm s at)) (5 + term_weight (source_subterm s at))
 
 -- a task was done
 abbrev pub FinishesTask : Source → Task → List Task → List Task → Text → Text → Type 0

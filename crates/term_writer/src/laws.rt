@@ -15,6 +15,6 @@ ghost use Rattle.au_model.specs.declared.types.Style.TheVariants.{Quoted};
 /// more, under the same operators and whatever double-quoted items stand for. A variable's name is what is written for
 /// it, so the term that is read is the copy with variables numbered from 0.
 pub fn written_is_read_back()
-    ensures { (s : Setting) → IsOperatorTable s.ops → (t : Term) → IsWritable t
-        → SpellsTermWithEnd s (chars (written_term Quoted s.ops t ++ codes " .")) (tree_of t) [] × ((numbered no_variables (tree_of t)).0 ≡ copied t 0) }
+    ensures spelled { (s : Setting) → IsOperatorTable s.ops → (t : Term) → IsWritable t → SpellsTermWithEnd s (chars (written_term Quoted s.ops t ++ codes " .")) (tree_of t) [] }
+    ensures copied { (t : Term) → IsWritable t → (numbered no_variables (tree_of t)).0 ≡ copied t 0 }
 {}

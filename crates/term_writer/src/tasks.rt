@@ -10,7 +10,7 @@ ghost use Rattle.au_model.specs.Writing.Pieces.{Put};
 ghost use Rattle.au_model.specs.Writing.WrittenTerms.{enclosed, pieces, cell_pieces, further_pieces, tail_pieces};
 ghost use Rattle.op_table.specs.OperatorView.{operator_meant};
 ghost use Rattle.term_writer.specs.WritingTasks.{terms_at, term_weight, terms_weight};
-ghost use Rattle.term_writer.specs.WritingSources.{PushesTail, PushesFurther, PushesItem, notation_of_source, term_of_source, source_subterm, IsSourcePlace, PushesTasks, OpensCompound};
+ghost use Rattle.term_writer.specs.WritingSources.{PushesTail, PushesFurther, PushesItem, notation_of_source, term_of_source, source_subterm, IsSourcePlace, PushesTasks, OpensCompound, PushesSubterm, PushesCompound, PushesListRest};
 
 use crate::forms::{Form, Notation};
 use crate::names::{is_cell_name, is_nil};
@@ -80,8 +80,7 @@ impl<'a> Source<'a> {
         due: &mut Vec<Task<'a>>,
     ) -> Result<(), NoMemory>
         requires { IsSourcePlace self at }
-        ensures { OnOk result (PushesTasks self.entry due.old.items due.new.items
-            (enclosed is_enclosed (pieces (notation_of_source self.entry) (source_subterm self.entry at))) (2 + term_weight (source_subterm self.entry at))) }
+        ensures { OnOk result (PushesSubterm self.entry at is_enclosed due.old.items due.new.items) }
     {
         if is_enclosed {
             due.push(Task::Mark(Mark::Close))?;
@@ -96,9 +95,7 @@ impl<'a> Source<'a> {
     /// An argument or item.
     fn argument(self, at: usize, due: &mut Vec<Task<'a>>) -> Result<(), NoMemory>
         requires { IsSourcePlace self at }
-        ensures { OnOk result (PushesTasks self.entry due.old.items due.new.items
-            (enclosed (is_above (notation_of_source self.entry) 999 (source_subterm self.entry at)) (pieces (notation_of_source self.entry) (source_subterm self.entry at)))
-            (2 + term_weight (source_subterm self.entry at))) }
+        ensures { OnOk result (PushesSubterm self.entry at (is_above (notation_of_source self.entry) 999 (source_subterm self.entry at)) due.old.items due.new.items) }
     {
         self.part(
             at,
@@ -115,9 +112,7 @@ impl<'a> Source<'a> {
         due: &mut Vec<Task<'a>>,
     ) -> Result<(), NoMemory>
         requires { IsSourcePlace self at }
-        ensures { OnOk result (PushesTasks self.entry due.old.items due.new.items
-            (enclosed (is_enclosed (notation_of_source self.entry) (right_bound (operator_meant operator)) (source_subterm self.entry at)) (pieces (notation_of_source self.entry) (source_subterm self.entry at)))
-            (2 + term_weight (source_subterm self.entry at))) }
+        ensures { OnOk result (PushesSubterm self.entry at (is_enclosed (notation_of_source self.entry) (right_bound (operator_meant operator)) (source_subterm self.entry at)) due.old.items due.new.items) }
     {
         let is_enclosed = self
             .notation
@@ -133,9 +128,7 @@ impl<'a> Source<'a> {
         due: &mut Vec<Task<'a>>,
     ) -> Result<(), NoMemory>
         requires { IsSourcePlace self at }
-        ensures { OnOk result (PushesTasks self.entry due.old.items due.new.items
-            (enclosed (is_enclosed_left (notation_of_source self.entry) (operator_meant operator) (source_subterm self.entry at)) (pieces (notation_of_source self.entry) (source_subterm self.entry at)))
-            (2 + term_weight (source_subterm self.entry at))) }
+        ensures { OnOk result (PushesSubterm self.entry at (is_enclosed_left (notation_of_source self.entry) (operator_meant operator) (source_subterm self.entry at)) due.old.items due.new.items) }
     {
         let is_enclosed = self.notation.is_enclosed_left(operator, self.cell(at));
         self.part(at, is_enclosed, due)
@@ -275,7 +268,7 @@ impl<'a> Source<'a> {
         requires place { IsSourcePlace self at }
         requires some { 0 < arity }
         requires top { top_of (source_subterm self at) ≡ Functor name.now arity }
-        ensures { OnOk result (PushesTasks self.entry due.old.items due.new.items (pieces (notation_of_source self.entry) (source_subterm self.entry at)) (9 + terms_weight (arguments (source_subterm self.entry at)))) }
+        ensures { OnOk result (PushesCompound self.entry at due.old.items due.new.items) }
     {
         match arity {
             1 => self.unary(at, name, due),
@@ -307,7 +300,7 @@ impl<'a> Source<'a> {
     /// The rest of a list, after an item.
     pub(crate) fn tail(self, at: usize, due: &mut Vec<Task<'a>>) -> Result<(), NoMemory>
         requires { IsSourcePlace self at }
-        ensures { OnOk result (PushesTasks self.entry due.old.items due.new.items (tail_pieces (notation_of_source self.entry) (source_subterm self.entry at)) (5 + term_weight (source_subterm self.entry at))) }
+        ensures { OnOk result (PushesListRest self.entry at due.old.items due.new.items) }
     {
         match self.cell(at) {
             Cell::Atom(name) if is_nil(name.text()) => Ok(()),
