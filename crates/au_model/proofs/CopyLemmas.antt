@@ -25,7 +25,7 @@ among_first m y seen = go (m == y) (list_any (λ k. k == y) seen)
     go false true = refl
     go false false = refl
 
-one_place : (v w : Bool) (n : ℕ) (o p : Option ℕ) → (v ≡ true → w ≡ true → ⊥) → o ≡ cond w (Some n) p → cond v (Some 0) (option_map (λ i. suc i) o) ≡ cond w (Some (suc n)) (cond v (Some 0) (option_map (λ i. suc i) p))
+pub one_place : (v w : Bool) (n : ℕ) (o p : Option ℕ) → (v ≡ true → w ≡ true → ⊥) → o ≡ cond w (Some n) p → cond v (Some 0) (option_map (λ i. suc i) o) ≡ cond w (Some (suc n)) (cond v (Some 0) (option_map (λ i. suc i) p))
 one_place true true n o p h e = absurd (h refl refl)
 one_place true false n o p h e = refl
 one_place false true n o p h e = ap (option_map (λ i. suc i)) e
@@ -84,7 +84,7 @@ pub along_extends : (cs : List Cell) (seen : List ℕ) → Extends seen (occurre
 along_extends [] seen = extends_same seen
 along_extends (c ∷ cs) seen = extends_both seen (occurrences_at c seen) (occurrences_along cs (occurrences_at c seen)) (at_extends c seen) (along_extends cs (occurrences_at c seen))
 
-place_front : (seen more : List ℕ) (n : ℕ) → place_of seen n < length seen → place_of (seen ++ more) n ≡ place_of seen n
+pub place_front : (seen more : List ℕ) (n : ℕ) → place_of seen n < length seen → place_of (seen ++ more) n ≡ place_of seen n
 place_front [] more n lt = absurd (omega arith)
 place_front (m ∷ seen) more n lt = go (m == n) lt (place_front seen more n)
   where

@@ -47,7 +47,7 @@ module _ (a b : Term) where
 too_large : (x : ℕ) (g : List ℕ) (us : Terms) (f : ℕ → Term) → occurs_in x us ≡ true → f x ≡ apply f (Compound g us) → ⊥
 too_large x g us f o e = let k = size_all-occurs f x us o in let l = ap size e in omega arith
 
-below : (m n : ℕ) → nat_lt m n ≡ true → m < n
+pub below : (m n : ℕ) → nat_lt m n ≡ true → m < n
 below m n l = grind (arith, nat_tests)
 
 above : (m n : ℕ) → (m == n) ≡ false → nat_lt m n ≡ false → n < m

@@ -7,6 +7,8 @@ use Rattle.std.specs.Str.Parse.{digits_value, ParsesUnsigned}
 use Rattle.std.proofs.lemmas.Str.Parse.{parse_digits, numerals_by_value, tells_all_ascii_digits}
 use Rattle.std.specs.Char.{is_ascii_digit}
 use Rattle.aurora_cli.specs.CommandWords.{is_budget}
+use Rattle.au_term.proofs.LogicLemmas.{and-both as joined}
+use Rattle.au_model.proofs.UnifierRuleLemmas.{below as lower}
 
 record Both (a b : Bool) : Type 0 where
   left : a ≡ true
@@ -21,10 +23,6 @@ pub digit_in : (word : List ℕ) (i : ℕ) → i < length word → all_ascii_dig
 digit_in [] i lt h = absurd (omega arith)
 digit_in (c ∷ cs) zero lt h = (both (is_ascii_digit c) (all_ascii_digits cs) h).left
 digit_in (c ∷ cs) (suc i) lt h = digit_in cs i (omega arith) (both (is_ascii_digit c) (all_ascii_digits cs) h).right
-
-joined : (a b : Bool) → a ≡ true → b ≡ true → (a && b) ≡ true
-joined true b h k = k
-joined false b h k = cc
 
 pub one_more : (word : List ℕ) (i : ℕ) → i < length word → all_ascii_digits (take i word) ≡ true → is_ascii_digit (get_or word i 0) ≡ true → all_ascii_digits (take (suc i) word) ≡ true
 one_more [] i lt h k = absurd (omega arith)
@@ -46,9 +44,6 @@ pub record IsBudget (word : List ℕ) : Type 0 where
   pub few : length word < 11
   pub least : 0 < digits_value 10 word
   pub most : digits_value 10 word < 4294967296
-
-lower : (a b : ℕ) → nat_lt a b ≡ true → a < b
-lower a b h = grind (arith, nat_tests)
 
 pub budget_parts : (word : List ℕ) → is_budget word ≡ true → IsBudget word
 budget_parts word h =

@@ -2,9 +2,7 @@
 use Rattle.std.proofs.Common.{◌≡◌, ℕ, [], refl, ap}
 use Rattle.au_term.specs.Term.{Term, VarTerm, IntTerm, AtomTerm, Compound, Terms, end, more}
 use Rattle.au_model.specs.Terms.Substitutions.{apply, apply_all, value_of, resolve}
-
-pub two : {t u : Term} {ts us : Terms} → t ≡ u → ts ≡ us → more t ts ≡ more u us
-two p q = cc
+use Rattle.au_model.proofs.ApplyLemmas.{two}
 
 -- what stands for the variables decides
 mutual

@@ -4,8 +4,9 @@ use Rattle.std.proofs.lemmas.Bool.Decides.{nat_tests}
 use Rattle.std.proofs.lemmas.List.{get_or-set_same, get_or-set_other}
 use Rattle.au_term.specs.Term.{Term}
 use Rattle.bind_store.specs.Bindings.{Binding, place_in, place_from, IsUnboundIn}
-use Rattle.bind_store.proofs.TriangularLemmas.{eqb_same, place_in-more}
+use Rattle.bind_store.proofs.TriangularLemmas.{place_in-more}
 use Rattle.bind_store.proofs.UndoLemmas.{place_in-less}
+use Rattle.au_term.proofs.LogicLemmas.{same_number as eqb_same}
 
 -- a number written
 written : (xs : List ℕ) (i x v : ℕ) → i < length xs → get_or (slice_set xs i v) x 0 ≡ cond (i == x) v (get_or xs x 0)

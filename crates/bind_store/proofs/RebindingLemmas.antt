@@ -16,7 +16,7 @@ pub again_apart : (bs : List Binding) (x : ℕ) (t : Term) (more : List Binding)
 again_apart [] x t more h = h.0
 again_apart (b ∷ bs) x t more h = again_apart bs x t more h.2
 
-split_at : {X : Type 0} (xs : List X) (i : ℕ) (x : X) → i < length xs → x ≡ get_or xs i x → xs ≡ take i xs ++ x ∷ drop (suc i) xs
+pub split_at : {X : Type 0} (xs : List X) (i : ℕ) (x : X) → i < length xs → x ≡ get_or xs i x → xs ≡ take i xs ++ x ∷ drop (suc i) xs
 split_at [] i x lt e = absurd (omega arith)
 split_at (y ∷ xs) zero x lt e = ap (λ z. z ∷ xs) (sym e)
 split_at (y ∷ xs) (suc i) x lt e = ap (λ z. y ∷ z) (split_at xs i x (omega arith) e)

@@ -6,14 +6,11 @@ use Rattle.au_term.specs.declared.cell.Cell.{Cell}
 use Rattle.au_term.proofs.WholeTermLemmas.{DueAfter-due, DueAfter-term, due_after-is}
 use Rattle.au_model.specs.Terms.Substitutions.{apply, apply_all}
 use Rattle.bind_store.specs.ResolvedCells.{in_place, rebuilt}
+use Rattle.au_model.proofs.UnifierRuleLemmas.{count-apply_all}
 
 pub rebuilt-append : (f : ℕ → Term) (cs ds : List Cell) → rebuilt f (cs ++ ds) ≡ rebuilt f cs ++ rebuilt f ds
 rebuilt-append f [] ds = refl
 rebuilt-append f (c ∷ cs) ds = ap (λ es. in_place f c ++ es) (rebuilt-append f cs ds) ∙ sym (append_assoc (in_place f c) (rebuilt f cs) (rebuilt f ds))
-
-pub count-apply_all : (f : ℕ → Term) (ts : Terms) → count (apply_all f ts) ≡ count ts
-count-apply_all f end = refl
-count-apply_all f (more t ts) = ap suc (count-apply_all f ts)
 
 mutual
   pub rebuilt-cells_of : (f : ℕ → Term) (t : Term) → rebuilt f (cells_of t) ≡ cells_of (apply f t)
@@ -29,9 +26,6 @@ mutual
 -- where the cells of a term go on, something was due
 pub is_due : (done rest : List Cell) (c : Cell) → DueAfter 1 (done ++ c ∷ rest) 0 → 0 < due_after 1 done
 is_due done rest c h = DueAfter-due 1 0 done rest c h
-
-pub none_due : (t : Term) (done : List Cell) → done ≡ cells_of t → due_after 1 done ≡ 0
-none_due t done e = ap (due_after 1) e ∙ due_after-is 1 (cells_of t) 0 (DueAfter-term t)
 
 pub same_term : (t u : Term) → cells_of t ≡ cells_of u → t ≡ u
 same_term t u e = sym (term_of-cells_of t) ∙ (ap term_of e ∙ term_of-cells_of u)

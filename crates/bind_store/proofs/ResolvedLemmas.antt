@@ -13,7 +13,8 @@ use Rattle.bind_store.specs.CellTests.{IsCellFound}
 use Rattle.std.proofs.lemmas.Bool.{false≢true}
 use Rattle.bind_store.proofs.BindingLemmas.{in_turn, avoiding_stays}
 use Rattle.bind_store.proofs.UndoLemmas.{apart_front, free_last}
-use Rattle.bind_store.proofs.RebuiltTermLemmas.{count-apply_all}
+use Rattle.au_model.proofs.UnifierRuleLemmas.{count-apply_all}
+
 
 -- a binding after others, with these applied
 abbrev pub and_one : List Binding → Binding → List Binding
@@ -88,7 +89,7 @@ top_of-resolve bs (IntTerm z) h = refl
 top_of-resolve bs (AtomTerm a) h = refl
 top_of-resolve bs (Compound f ts) h = ap (Functor f) (count-apply_all (value_of (substitution_of bs)) ts)
 
-value_at-front : (bs cs : List Binding) (i : ℕ) → i < length bs → value_at (bs ++ cs) i ≡ value_at bs i
+pub value_at-front : (bs cs : List Binding) (i : ℕ) → i < length bs → value_at (bs ++ cs) i ≡ value_at bs i
 value_at-front [] cs i lt = absurd (omega arith)
 value_at-front (b ∷ bs) cs zero lt = refl
 value_at-front (b ∷ bs) cs (suc i) lt = value_at-front bs cs i (omega arith)

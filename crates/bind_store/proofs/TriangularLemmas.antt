@@ -7,10 +7,8 @@ use Rattle.std.proofs.lemmas.Bool.Decides.{nat_tests}
 use Rattle.std.proofs.lemmas.Bool.{false≢true}
 use Rattle.bind_store.specs.Bindings.{Binding, composed, place_in, value_at, IsUnboundIn, IsBoundAt, IsLookedUp, IsAbsent, AreTriangular, HasNoBoundVariable}
 use Rattle.bind_store.proofs.ApplyLemmas.{apply_same, apply_twice, resolve_none}
-
-pub either_false : (a b : Bool) → (a || b) ≡ false → (a ≡ false) × (b ≡ false)
-either_false true b e = absurd (cc)
-either_false false b e = (refl, e)
+use Rattle.au_term.proofs.LogicLemmas.{neither as either_false, same_number as eqb_same, numbers_turned as eqb_turned}
+use Rattle.au_model.proofs.CopyLemmas.{one_place}
 
 neither : (a b : Bool) → a ≡ false → b ≡ false → (a || b) ≡ false
 neither a b p q = rw (p, q)
@@ -30,14 +28,8 @@ mutual
       let first = resolve_skips x u s t both.0 in
       let rest = resolve_all_skips x u s ts both.1 in cc
 
-pub eqb_same : (a b : ℕ) → (a == b) ≡ true → a ≡ b
-eqb_same a b e = grind (arith, nat_tests)
-
 pub same_eqb : (a : ℕ) → (a == a) ≡ true
 same_eqb a = grind (arith, nat_tests)
-
-pub eqb_turned : (a b : ℕ) → (a == b) ≡ false → (b == a) ≡ false
-eqb_turned a b e = grind (arith, nat_tests)
 
 found_after : (b : Binding) (bs : List Binding) (x : ℕ) (o : Option ℕ) → ((b.0 == x) ≡ false) → IsLookedUp bs x o → IsLookedUp (b ∷ bs) x (option_map (λ i. suc i) o)
 found_after b bs x None f h = (f, h)
@@ -170,12 +162,6 @@ bound_within (b ∷ bs) (suc i) x h = let lt = bound_within bs i x h in omega ar
 pub free-place_in : (bs : List Binding) (x : ℕ) → IsUnboundIn x bs → place_in x bs ≡ None
 free-place_in [] x h = refl
 free-place_in (b ∷ bs) x h = ap (λ v. cond v (Some 0) (option_map (λ i. suc i) (place_in x bs))) h.0 ∙ ap (option_map (λ i. suc i)) (free-place_in bs x h.1)
-
-one_place : (v w : Bool) (n : ℕ) (o p : Option ℕ) → (v ≡ true → w ≡ true → ⊥) → o ≡ cond w (Some n) p → cond v (Some 0) (option_map (λ i. suc i) o) ≡ cond w (Some (suc n)) (cond v (Some 0) (option_map (λ i. suc i) p))
-one_place true true n o p h e = absurd (h refl refl)
-one_place true false n o p h e = refl
-one_place false true n o p h e = ap (option_map (λ i. suc i)) e
-one_place false false n o p h e = ap (option_map (λ i. suc i)) e
 
 pub place_in-more : (bs : List Binding) (x y : ℕ) (t : Term) → IsUnboundIn x bs → place_in y (bs ++ (x, t) ∷ []) ≡ cond (x == y) (Some (length bs)) (place_in y bs)
 place_in-more [] x y t h = refl

@@ -3,7 +3,8 @@ use Rattle.std.proofs.Common.{◌≡◌, ℕ, zero, suc, ◌<◌, ◌==◌, Bool
 use Rattle.std.proofs.Math.Seq.{take-append_seam, drop-append_seam}
 use Rattle.au_term.specs.Term.{Term}
 use Rattle.bind_store.specs.Bindings.{Binding, place_in, variable_at, IsUnboundIn, IsAbsent, AreTriangular}
-use Rattle.bind_store.proofs.TriangularLemmas.{eqb_same, free-place_in, place_in-more}
+use Rattle.bind_store.proofs.TriangularLemmas.{free-place_in, place_in-more}
+use Rattle.au_term.proofs.LogicLemmas.{same_number as eqb_same}
 
 absent_front : (x : ℕ) (bs cs : List Binding) → IsAbsent x (bs ++ cs) → IsAbsent x bs
 absent_front x [] cs h = tt

@@ -17,7 +17,7 @@ use Rattle.bind_store.specs.declared.unify.Source.TheVariants.{Left, Right, Valu
 use Rattle.bind_store.specs.declared.unify.Place.{Place}
 use Rattle.bind_store.specs.declared.unify.Equation.{Equation}
 use Rattle.bind_store.proofs.TriangularLemmas.{same_eqb}
-use Rattle.bind_store.proofs.ResolvedLemmas.{resolved-append, resolve-push}
+use Rattle.bind_store.proofs.ResolvedLemmas.{resolved-append, resolve-push, value_at-front as value_at-more}
 use Rattle.bind_store.proofs.WalkLemmas.{reverse-push}
 
 -- what is found with what the rest gives
@@ -105,12 +105,6 @@ bound_below a b rest n x t h s = elim s.sides [
 Each-push : {X : Type 0} (P : X → Type 0) (xs : List X) (x : X) → Each P xs → P x → Each P (xs ++ x ∷ [])
 Each-push P [] x h p = (p, tt)
 Each-push P (y ∷ xs) x h p = (h.0, Each-push P xs x h.1 p)
-
--- values that are there stay as they are
-value_at-more : (bs cs : List Binding) (i : ℕ) → i < length bs → value_at (bs ++ cs) i ≡ value_at bs i
-value_at-more [] cs i lt = absurd (omega arith)
-value_at-more (b ∷ bs) cs zero lt = refl
-value_at-more (b ∷ bs) cs (suc i) lt = value_at-more bs cs i (omega arith)
 
 whole_at-more : (p : Pair) (bs cs : List Binding) (s : Source) → IsThere bs s → whole_at p (bs ++ cs) s ≡ whole_at p bs s
 whole_at-more p bs cs Left h = refl

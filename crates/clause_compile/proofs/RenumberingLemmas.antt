@@ -9,7 +9,7 @@ use Rattle.au_model.specs.Terms.Forms.{is_callable, binary}
 use Rattle.au_model.specs.Terms.Substitutions.{apply, apply_all}
 use Rattle.au_model.proofs.ApplyLemmas.{two}
 use Rattle.au_model.proofs.VariableBoundLemmas.{IsSeen, AllSeen, AreAllSeen, all_seen, still_seen, renamed-below, noted-seen}
-use Rattle.au_model.proofs.CopyLemmas.{Extends, along_extends, extends_both, last_place, seen_along-term}
+use Rattle.au_model.proofs.CopyLemmas.{Extends, along_extends, extends_both, last_place, seen_along-term, place_front as front_place}
 use Rattle.au_term.specs.PrefixOrder.{cells_of, top_of}
 use Rattle.au_term.specs.declared.cell.Cell.TheVariants.{Var as VarCell, Int as IntCell}
 use Rattle.clause_compile.specs.ClauseInvariant.{numbers_from, IsClauseInvariant}
@@ -17,14 +17,6 @@ use Rattle.clause_compile.specs.GoalPlaces.{AreGoalsAt}
 
 term_extends : (t : Term) (seen : List ℕ) → Extends seen (seen_in t seen)
 term_extends t seen = subst (Extends seen) (seen_along-term t seen) (along_extends (cells_of t) seen)
-
-front_place : (seen more : List ℕ) (n : ℕ) → place_of seen n < length seen → place_of (seen ++ more) n ≡ place_of seen n
-front_place [] more n lt = absurd (omega arith)
-front_place (m ∷ seen) more n lt = go (m == n) lt (front_place seen more n)
-  where
-    go : (b : Bool) → cond b 0 (suc (place_of seen n)) < suc (length seen) → (place_of seen n < length seen → place_of (seen ++ more) n ≡ place_of seen n) → cond b 0 (suc (place_of (seen ++ more) n)) ≡ cond b 0 (suc (place_of seen n))
-    go true lt h = refl
-    go false lt h = ap suc (h (omega arith))
 
 stays_in : (seen all : List ℕ) (n : ℕ) → Extends seen all → IsSeen seen n → place_of all n ≡ place_of seen n
 stays_in seen all n e h = ap (λ ns. place_of ns n) e.is ∙ front_place seen e.more n h

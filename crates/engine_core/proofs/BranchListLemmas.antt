@@ -20,7 +20,7 @@ ways st goal clauses = alternatives_of clauses (resolve (substitution st) goal) 
 abbrev pub Ahead : Scope → List Item → StoreView → Term → List ClauseTerms → List ClauseTerms → List Branch → Type 0
 Ahead here rest st goal left all done = (bs : List Branch) → AreSolved here rest st (ways st goal left) bs → AreSolved here rest st (ways st goal all) (done ++ bs)
 
-nothing_more : {X : Type 0} (xs : List X) → xs ++ [] ≡ xs
+pub nothing_more : {X : Type 0} (xs : List X) → xs ++ [] ≡ xs
 nothing_more [] = refl
 nothing_more (x ∷ xs) = ap (λ k. x ∷ k) (nothing_more xs)
 

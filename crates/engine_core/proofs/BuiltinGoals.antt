@@ -38,10 +38,7 @@ use Rattle.engine_core.specs.declared.reduction.Reduction.{Reduction}
 use Rattle.engine_core.specs.declared.reduction.Reduction.TheVariants.{Alternatives, Raise}
 use Rattle.engine_core.proofs.NamedOutcomeLemmas.{by_name}
 use Rattle.engine_core.proofs.ResolvedTermLemmas.{name_resolved, count_resolved}
-
-none_of : {A : Type 0} (o : Option A) → is_some o ≡ false → o ≡ None
-none_of None h = refl
-none_of (Some a) h = cc
+use Rattle.run_model.proofs.ConstructLemmas.{none_of}
 
 arguments_fixed : (f : ℕ → Term) (t : Term) → apply f t ≡ t → apply_all f (arguments t) ≡ arguments t
 arguments_fixed f (VarTerm n) e = refl

@@ -14,6 +14,7 @@ use Rattle.au_term.specs.PrefixOrder.{top_of}
 use Rattle.run_model.specs.Goals.Outcomes.{Replies, Ball}
 use Rattle.engine_core.specs.GoalArguments.{listed}
 use Rattle.engine_core.specs.Calls.{IsUncallable, is_variable_cell, is_integer_cell}
+use Rattle.run_model.proofs.OutcomeBoundLemmas.{drop-below as dropped_below, append-below as append_below}
 
 pub length-listed : (ts : Terms) → length (listed ts) ≡ count ts
 length-listed end = refl
@@ -105,15 +106,6 @@ arguments_resolved f (VarTerm n) lt = absurd (omega arith)
 arguments_resolved f (IntTerm z) lt = absurd (omega arith)
 arguments_resolved f (AtomTerm a) lt = absurd (omega arith)
 arguments_resolved f (Compound g ts) lt = refl
-
-dropped_below : (n b : ℕ) (ts : Terms) → all_bound ts ≤ b → all_bound (drop_terms n ts) ≤ b
-dropped_below zero b ts h = h
-dropped_below (suc n) b end h = h
-dropped_below (suc n) b (more t ts) h = dropped_below n b ts (omega arith)
-
-append_below : (b : ℕ) (ts us : Terms) → all_bound ts ≤ b → all_bound us ≤ b → all_bound (append_terms ts us) ≤ b
-append_below b end us h k = k
-append_below b (more t ts) us h k = omega (arith, append_below b ts us (omega arith) k)
 
 with_below : (b : ℕ) (t : Term) (us : Terms) → var_bound t ≤ b → all_bound us ≤ b → var_bound (with_arguments t us) ≤ b
 with_below b (VarTerm n) end h k = h

@@ -27,6 +27,7 @@ use Rattle.bind_store.specs.StoreView.{StoreView, substitution, IsUnbound, IsDer
 use Rattle.bind_store.proofs.TriangularLemmas.{free-composed}
 use Rattle.engine_core.specs.Branches.{AreSolved, one_fails, one_solves}
 use Rattle.engine_core.specs.Attempts.{AreAlternatives}
+use Rattle.proc_index.proofs.KeyLemmas.{any_match as all_match}
 
 -- terms of other keys clash
 other_key : (t u : Term) (r : ℕ → Term) → has_key (key_of t) u ≡ false → rule t (apply r u) ≡ Clash
@@ -54,10 +55,6 @@ first_clashes t u es h = unifier-first t u es ∙ ap (λ q. by_rule q es unifier
 opened_clash : (t u : Term) (es : Equations) (b : Bool) → rule t u ≡ Clash → by_rule (cond b (Opened ((t, u) ∷ es)) Clash) [] unifier ≡ None
 opened_clash t u es true h = first_clashes t u (es ++ []) h
 opened_clash t u es false h = refl
-
-all_match : (ts : Terms) → first_has Any ts ≡ true
-all_match end = refl
-all_match (more t ts) = refl
 
 any_fits : {A : Type 0} (ts : Terms) → first_has Any ts ≡ false → A
 any_fits ts h = let k = all_match ts in absurd (cc)

@@ -20,6 +20,7 @@ use Rattle.bind_store.proofs.TriangularLemmas.{free-composed}
 use Rattle.engine_core.specs.Branches.{IsItemBelow}
 use Rattle.engine_core.specs.Conjunctions.{goals_of_bodies, bodies_size, SplitsBodies}
 use Rattle.engine_core.proofs.ResolvedTermLemmas.{argument_below}
+use Rattle.au_model.proofs.UnifierMeasureLemmas.{size_pos as some_size}
 
 -- a goal that is no conjunction
 pub single_goal : (st : StoreView) (g : Term) → IsUnbound st.made g → opens_conjunction (top_of g) ≡ false → goals_of (resolve (substitution st) g) ≡ resolve (substitution st) g ∷ []
@@ -62,12 +63,6 @@ goals-last s (c ∷ bs) b = ap (λ gs. goals_of (resolve s c) ++ gs) (goals-last
 size-last : (s : Substitution) (bs : List Term) (b : Term) → bodies_size s (bs ++ b ∷ []) ≡ bodies_size s bs + size (resolve s b)
 size-last s [] b = omega arith
 size-last s (c ∷ bs) b = omega (arith, size-last s bs b)
-
-some_size : (t : Term) → 0 < size t
-some_size (VarTerm x) = omega arith
-some_size (IntTerm z) = omega arith
-some_size (AtomTerm a) = omega arith
-some_size (Compound f ts) = omega arith
 
 pub goal_found : (st : StoreView) (cut : Scope) (body goal : Term) (goals now : List Item) (bodies : List Term) → var_bound body ≤ st.next → IsDereferencedTerm st body goal → opens_conjunction (top_of goal) ≡ false → now ≡ Goal goal cut ∷ goals → SplitsBodies st cut body goals now bodies bodies
 goal_found st cut body goal goals now bodies le r o is =
@@ -115,7 +110,7 @@ pub record IsDivided (st : StoreView) (cut : Scope) (body : Term) (rest goals : 
   pub goals_below : Each (λ t. var_bound t ≤ st.next) terms
   pub bodies_below : Each (λ t. var_bound t ≤ st.next) bodies
 
-map-both : {X Y : Type 0} (f : X → Y) (xs ys : List X) → map f (xs ++ ys) ≡ map f xs ++ map f ys
+pub map-both : {X Y : Type 0} (f : X → Y) (xs ys : List X) → map f (xs ++ ys) ≡ map f xs ++ map f ys
 map-both f [] ys = refl
 map-both f (x ∷ xs) ys = ap (λ zs. f x ∷ zs) (map-both f xs ys)
 

@@ -30,10 +30,12 @@ use Rattle.engine_core.specs.PlainBranches.{IsAlone, MakesNone}
 use Rattle.engine_core.specs.Reductions.{IsOnly, IsOutcome}
 use Rattle.engine_core.specs.declared.reduction.Reduction.{Reduction}
 use Rattle.engine_core.specs.declared.reduction.Reduction.TheVariants.{Alternatives, Raise, Prune, Open, Collect, Gate}
-use Rattle.engine_core.proofs.ConjunctionLemmas.{before_rest}
+use Rattle.engine_core.proofs.ConjunctionLemmas.{before_rest, map-both}
 use Rattle.engine_core.proofs.PlainBranchLemmas.{goes_on}
-use Rattle.engine_core.proofs.ResolvedTermLemmas.{argument_resolved, itself_resolved, callable_resolved, count_resolved}
+use Rattle.engine_core.proofs.ResolvedTermLemmas.{itself_resolved, count_resolved}
 use Rattle.engine_core.proofs.CallArgumentLemmas.{call_form, added_count, added_resolved, added_callable, dropped_resolved, dropped_count, arguments_resolved}
+use Rattle.proc_index.proofs.LawLemmas.{argument_resolved}
+use Rattle.clause_compile.proofs.RenumberingLemmas.{callable_renamed as callable_resolved}
 
 is_less : (a b : ℕ) → a < b → nat_lt a b ≡ true
 is_less a b lt = grind (arith, nat_tests)
@@ -50,7 +52,7 @@ only_branch cut here gs rest st b (Collect t) g a = absurd a
 only_branch cut here gs rest st b (Gate e) g a = absurd a
 
 -- bodies and goals below a number
-goals_below : (b : ℕ) (t : Term) → var_bound t ≤ b → Each (λ g. var_bound g ≤ b) (goals_of t)
+pub goals_below : (b : ℕ) (t : Term) → var_bound t ≤ b → Each (λ g. var_bound g ≤ b) (goals_of t)
 goals_below b (VarTerm n) h = (h, tt)
 goals_below b (IntTerm z) h = (h, tt)
 goals_below b (AtomTerm a) h = (h, tt)
@@ -80,11 +82,6 @@ body_below b (Compound f (more t (more u end))) h = go (is_junction f) (junction
     go true k = k
     go false k = h
 body_below b (Compound f (more t (more u (more v ts)))) h = h
-
--- goals of a body that stands for itself do so too
-map-both : {X Y : Type 0} (f : X → Y) (xs ys : List X) → map f (xs ++ ys) ≡ map f xs ++ map f ys
-map-both f [] ys = refl
-map-both f (x ∷ xs) ys = ap (λ zs. f x ∷ zs) (map-both f xs ys)
 
 left_stays : (f : ℕ → Term) (g : List ℕ) (a b : Term) → apply f (binary g a b) ≡ binary g a b → apply f a ≡ a
 left_stays f g a b h = cc

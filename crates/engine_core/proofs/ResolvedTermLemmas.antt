@@ -8,6 +8,7 @@ use Rattle.bind_store.specs.StoreView.{StoreView, IsUnbound, IsDereferencedTerm,
 use Rattle.bind_store.proofs.TriangularLemmas.{free-composed}
 use Rattle.engine_core.specs.GoalArguments.{resolved_argument}
 use Rattle.engine_core.specs.Reductions.{ResolvesTo}
+use Rattle.proc_index.proofs.LawLemmas.{term_resolved, argument_resolved}
 
 -- arguments
 term_below : (i b : ℕ) (ts : Terms) → i < count ts → all_bound ts ≤ b → var_bound (term_at i ts) ≤ b
@@ -20,17 +21,6 @@ argument_below (VarTerm n) i b lt h = absurd (omega arith)
 argument_below (IntTerm z) i b lt h = absurd (omega arith)
 argument_below (AtomTerm a) i b lt h = absurd (omega arith)
 argument_below (Compound f ts) i b lt h = term_below i b ts lt h
-
-term_resolved : (f : ℕ → Term) (ts : Terms) (i : ℕ) → i < count ts → term_at i (apply_all f ts) ≡ apply f (term_at i ts)
-term_resolved f end i lt = absurd (omega arith)
-term_resolved f (more t ts) zero lt = refl
-term_resolved f (more t ts) (suc i) lt = term_resolved f ts i (omega arith)
-
-pub argument_resolved : (f : ℕ → Term) (t : Term) (i : ℕ) → i < argument_count t → argument i (apply f t) ≡ apply f (argument i t)
-argument_resolved f (VarTerm n) i lt = absurd (omega arith)
-argument_resolved f (IntTerm z) i lt = absurd (omega arith)
-argument_resolved f (AtomTerm a) i lt = absurd (omega arith)
-argument_resolved f (Compound g ts) i lt = term_resolved f ts i lt
 
 -- an argument, as it is
 pub argument_stands : (st : StoreView) (t a : Term) (i : ℕ) → i < argument_count t → var_bound t ≤ st.next → a ≡ argument i t → ResolvesTo st (argument i (resolve (substitution st) t)) a
@@ -51,12 +41,6 @@ count_resolved f (VarTerm n) h = cc
 count_resolved f (IntTerm z) h = cc
 count_resolved f (AtomTerm a) h = refl
 count_resolved f (Compound g ts) h = count-apply_all f ts
-
-pub callable_resolved : (f : ℕ → Term) (t : Term) → is_callable t ≡ true → is_callable (apply f t) ≡ true
-callable_resolved f (VarTerm n) h = cc
-callable_resolved f (IntTerm z) h = cc
-callable_resolved f (AtomTerm a) h = refl
-callable_resolved f (Compound g ts) h = refl
 
 -- others stand for themselves where they are no bound variables
 pub itself_resolved : (st : StoreView) (t : Term) → IsUnbound st.made t → is_callable t ≡ false → resolve (substitution st) t ≡ t

@@ -12,9 +12,8 @@ use Rattle.au_model.specs.Terms.Substitutions.{Substitution, apply, apply_all, v
 use Rattle.au_model.proofs.ApplyLemmas.{two}
 use Rattle.au_model.proofs.EachLemmas.{each-append}
 use Rattle.clause_compile.specs.ClauseInvariant.{numbers_from}
-
-same_number : (a b : ℕ) → (a == b) ≡ true → a ≡ b
-same_number a b e = grind (arith, nat_tests)
+use Rattle.au_term.proofs.LogicLemmas.{same_number}
+use Rattle.engine_core.proofs.GoalOutcomeLemmas.{goals_below as goals-below}
 
 further_on : (a b : ℕ) → (a == b) ≡ false → a ≤ b → suc a ≤ b
 further_on a b e le = grind (arith, nat_tests)
@@ -64,20 +63,6 @@ mutual
   all_shifted-below : (next k : ℕ) (ts : Terms) → all_bound ts ≤ k → all_bound (all_shifted next ts) ≤ next + k
   all_shifted-below next k end h = omega arith
   all_shifted-below next k (more t ts) h = omega (arith, shifted-below next k t (omega arith), all_shifted-below next k ts (omega arith))
-
--- the goals of a body are below what the body is below
-goals-below : (k : ℕ) (t : Term) → var_bound t ≤ k → Each (λ g. var_bound g ≤ k) (goals_of t)
-goals-below k (VarTerm n) h = (h, tt)
-goals-below k (IntTerm z) h = (h, tt)
-goals-below k (AtomTerm a) h = (h, tt)
-goals-below k (Compound f end) h = (h, tt)
-goals-below k (Compound f (more t end)) h = (h, tt)
-goals-below k (Compound f (more t (more u end))) h = go (same_name f (codes ",")) (each-append (λ g. var_bound g ≤ k) (goals_of t) (goals_of u) (goals-below k t (omega arith)) (goals-below k u (omega arith)))
-  where
-    go : (c : Bool) → Each (λ g. var_bound g ≤ k) (goals_of t ++ goals_of u) → Each (λ g. var_bound g ≤ k) (cond c (goals_of t ++ goals_of u) (binary f t u ∷ []))
-    go true b = b
-    go false b = (h, tt)
-goals-below k (Compound f (more t (more u (more v ts)))) h = (h, tt)
 
 pub clause_goals-below : (k : ℕ) (t : Term) → var_bound t ≤ k → Each (λ g. var_bound g ≤ k) (clause_goals_of t)
 clause_goals-below k (VarTerm n) h = (h, tt)

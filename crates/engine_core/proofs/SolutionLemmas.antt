@@ -22,7 +22,7 @@ use Rattle.bind_store.specs.Bindings.{Binding, composed, resolved_after, AreTria
 use Rattle.bind_store.specs.StoreView.{StoreView, IsValidStore, substitution, with_numbers, AreUnified, mark_of, Continues, IsMarkOf, pairs_of}
 use Rattle.bind_store.specs.declared.store.Mark.{Mark}
 use Rattle.bind_store.proofs.BindingLemmas.{in_turn, new_is_unbound}
-use Rattle.bind_store.proofs.StoreLemmas.{front_below, further_below}
+use Rattle.bind_store.proofs.StoreLemmas.{front_below, further_below, back_below}
 use Rattle.bind_store.proofs.UndoLemmas.{apart_front, drop_front}
 use Rattle.engine_core.specs.Branches.{IsItemBelow, IsBranchOf}
 use Rattle.engine_core.specs.Attempts.{UnifyBy, AreUnifiedBy}
@@ -43,10 +43,6 @@ items_further m n le (i ∷ items) h = (item_further m n le i h.0, items_further
 goals_before_below : (n : ℕ) (cut : Scope) (gs : List Term) (rest : List Item) → Each (λ g. var_bound g ≤ n) gs → Each (IsItemBelow n) rest → Each (IsItemBelow n) (goal_items cut gs ++ rest)
 goals_before_below n cut [] rest h k = k
 goals_before_below n cut (g ∷ gs) rest h k = (h.0, goals_before_below n cut gs rest h.1 k)
-
-back_below : (bs cs : List Binding) (n : ℕ) → Each (IsBindingBelow n) (bs ++ cs) → Each (IsBindingBelow n) cs
-back_below [] cs n h = h
-back_below (b ∷ bs) cs n h = back_below bs cs n h.1
 
 -- the bindings since a mark
 pub same_next : (left right : Term) (old new : StoreView) → AreUnified left right old new → new.next ≡ old.next

@@ -18,6 +18,7 @@ use Rattle.engine_core.specs.Branches.{IsItemBelow, IsBranchOf, AreSolved, none_
 use Rattle.engine_core.specs.Solved.{IsUnboundSolution, IsJoined}
 use Rattle.engine_core.specs.Attempts.{AreUnifiedBy, IsTried}
 use Rattle.engine_core.proofs.SolutionLemmas.{items_further}
+use Rattle.engine_core.proofs.BranchListLemmas.{nothing_more}
 
 -- one equation in the place of none, one or two
 pub joined_none : (eqs : Equations) (l r : Term) → length eqs < 1 → l ≡ AtomTerm (codes "[]") → r ≡ AtomTerm (codes "[]") → IsJoined eqs l r
@@ -95,10 +96,6 @@ module _ (st new : StoreView) (eqs : Equations) (n : ℕ) (l r : Term) (apart : 
 -- with the branches of the solutions that are left, these are the branches of all
 abbrev pub Further : List Item → StoreView → List Solution → List Solution → List Branch → Type 0
 Further rest st left all done = (here : Scope) (bs : List Branch) → AreSolved here rest st left bs → AreSolved here rest st all (done ++ bs)
-
-nothing_more : {X : Type 0} (xs : List X) → xs ++ [] ≡ xs
-nothing_more [] = refl
-nothing_more (x ∷ xs) = ap (λ k. x ∷ k) (nothing_more xs)
 
 pub all_further : (rest : List Item) (st : StoreView) (all : List Solution) (done : List Branch) → done ≡ [] → Further rest st all all done
 all_further rest st all done d = λ here bs k. subst (λ ds. AreSolved here rest st all (ds ++ bs)) (sym d) k

@@ -175,9 +175,6 @@ pub some_candidates : (clauses : List ClauseTerms) (name : List ℕ) (arity : �
 some_candidates clauses name arity key o given h lt e =
     ap Some e ∙ sym (ap (λ k. cond k (Some (matching key (procedure_of clauses name arity))) None) (one_passes 0 (is_clause_of name arity) clauses (subst (λ ks. 0 < length ks) h.all lt)))
 
-pub head_is : (c d : ClauseTerms) → c ≡ d → c.head ≡ d.head
-head_is c d e = ap (λ k. let h : Term = k.head in h) e
-
 -- the places that were taken out, or none
 pub taken_places : (taken : Option (Vec ℕ Global)) (fresh places : Vec ℕ Global) → fresh.items ≡ [] → places ≡ unwrap_or taken fresh → places.items ≡ found_places taken
 taken_places (Some v) fresh places e h = ap (λ p. let ks : List ℕ = p.items in ks) h

@@ -42,7 +42,7 @@ first_match k (more t ts) e = term_match k t e
 pub match_by_key : (k : Key) (head : Term) → is_any k ≡ false → may_match k head ≡ (is_any (head_key head) || same_key k (head_key head))
 match_by_key k head e = first_match k (arguments head) e
 
-any_match : (ts : Terms) → first_has Any ts ≡ true
+pub any_match : (ts : Terms) → first_has Any ts ≡ true
 any_match end = refl
 any_match (more t ts) = refl
 

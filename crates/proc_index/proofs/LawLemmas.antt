@@ -12,12 +12,12 @@ use Rattle.proc_index.specs.Keys.{key_of, is_any, same_key}
 use Rattle.proc_index.specs.Laws.{ToldApart}
 use Rattle.proc_index.proofs.KeyLemmas.{same_key_self}
 
-term_resolved : (f : ℕ → Term) (ts : Terms) (i : ℕ) → i < count ts → term_at i (apply_all f ts) ≡ apply f (term_at i ts)
+pub term_resolved : (f : ℕ → Term) (ts : Terms) (i : ℕ) → i < count ts → term_at i (apply_all f ts) ≡ apply f (term_at i ts)
 term_resolved f end i lt = absurd (omega arith)
 term_resolved f (more t ts) zero lt = refl
 term_resolved f (more t ts) (suc i) lt = term_resolved f ts i (omega arith)
 
-argument_resolved : (f : ℕ → Term) (t : Term) (i : ℕ) → i < argument_count t → argument i (apply f t) ≡ apply f (argument i t)
+pub argument_resolved : (f : ℕ → Term) (t : Term) (i : ℕ) → i < argument_count t → argument i (apply f t) ≡ apply f (argument i t)
 argument_resolved f (VarTerm n) i lt = absurd (omega arith)
 argument_resolved f (IntTerm z) i lt = absurd (omega arith)
 argument_resolved f (AtomTerm a) i lt = absurd (omega arith)

@@ -12,7 +12,7 @@ use Rattle.run_model.specs.Programs.Databases.{clauses_of}
 use Rattle.run_model.specs.Goals.GoalOutcomes.{by_procedure, by_world_goal, by_builtin, by_construct, named_outcome, outcome_of, has_row, is_reserved}
 use Rattle.au_term.proofs.LogicLemmas.{or-left as first_is_false, or-right as second_is_false}
 
-none_of : {A : Type 0} (o : Option A) → is_some o ≡ false → o ≡ None
+pub none_of : {A : Type 0} (o : Option A) → is_some o ≡ false → o ≡ None
 none_of None h = refl
 none_of (Some a) h = cc
 

@@ -60,12 +60,12 @@ called-below b arity g None h = tt
 called-below b arity g (Some t) h = goals-below b t h
 
 -- arguments
-drop-below : (n b : ℕ) (ts : Terms) → all_bound ts ≤ b → all_bound (drop_terms n ts) ≤ b
+pub drop-below : (n b : ℕ) (ts : Terms) → all_bound ts ≤ b → all_bound (drop_terms n ts) ≤ b
 drop-below zero b ts h = h
 drop-below (suc n) b end h = h
 drop-below (suc n) b (more t ts) h = drop-below n b ts (omega arith)
 
-append-below : (b : ℕ) (ts us : Terms) → all_bound ts ≤ b → all_bound us ≤ b → all_bound (append_terms ts us) ≤ b
+pub append-below : (b : ℕ) (ts us : Terms) → all_bound ts ≤ b → all_bound us ≤ b → all_bound (append_terms ts us) ≤ b
 append-below b end us h k = k
 append-below b (more t ts) us h k = omega (arith, append-below b ts us (omega arith) k)
 

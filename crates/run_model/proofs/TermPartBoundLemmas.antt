@@ -123,7 +123,7 @@ terms-below : (b : ℕ) (ts : List Term) → AreTermsBelow b ts → all_bound (t
 terms-below b [] h = omega arith
 terms-below b (t ∷ ts) h = omega (arith, h.0, terms-below b ts h.1)
 
-list-below : (b : ℕ) (ts : List Term) → AreTermsBelow b ts → var_bound (list_term ts) ≤ b
+pub list-below : (b : ℕ) (ts : List Term) → AreTermsBelow b ts → var_bound (list_term ts) ≤ b
 list-below b [] h = omega arith
 list-below b (t ∷ ts) h = omega (arith, h.0, list-below b ts h.1)
 

@@ -25,10 +25,6 @@ pub list_stays : (s : Substitution) (ts : List Term) → Each (λ t. resolve s t
 list_stays s [] h = refl
 list_stays s (t ∷ ts) h = ap (λ a. binary (codes ".") a (resolve s (list_term ts))) h.0 ∙ ap (binary (codes ".") t) (list_stays s ts h.1)
 
-pub list_below : (n : ℕ) (ts : List Term) → AreTermsBelow n ts → var_bound (list_term ts) ≤ n
-list_below n [] h = omega arith
-list_below n (t ∷ ts) h = omega (arith, h.0, list_below n ts h.1)
-
 pub numbers_sound : (st : StoreView) (k : ℕ) → IsValidStore st → IsValidStore (with_numbers k st)
 numbers_sound st k s = record { apart = s.apart; below = further_below st.made st.next (st.next + k) (omega arith) s.below }
 

@@ -3,11 +3,6 @@ use Rattle.std.proofs.Common.{◌≡◌, ℕ, zero, suc, ◌<◌, List, [], ◌�
 use Rattle.std.specs.Prelude.{slice_get}
 use Rattle.std.proofs.lemmas.List.{reverse-append}
 
-pub split_at : {X : Type 0} (xs : List X) (i : ℕ) (x : X) → i < length xs → x ≡ get_or xs i x → xs ≡ take i xs ++ x ∷ drop (suc i) xs
-split_at [] i x lt e = absurd (omega arith)
-split_at (y ∷ xs) zero x lt e = ap (λ z. z ∷ xs) (sym e)
-split_at (y ∷ xs) (suc i) x lt e = ap (λ z. y ∷ z) (split_at xs i x (omega arith) e)
-
 pub set_at : {X : Type 0} (xs : List X) (i : ℕ) (x : X) → i < length xs → set xs i x ≡ take i xs ++ x ∷ drop (suc i) xs
 set_at [] i x lt = absurd (omega arith)
 set_at (y ∷ xs) zero x lt = refl

@@ -13,7 +13,8 @@ use Rattle.stack_run.specs.declared.frame.Frame.{Frame}
 use Rattle.stack_run.specs.StackView.{stored_at, choice_view, frames_view}
 use Rattle.stack_run.specs.StackInvariant.{IsMarkBelow, IsChoiceFit, AreFit}
 use Rattle.stack_run.proofs.FrameLemmas.{length-frames}
-use Rattle.stack_run.proofs.FrameListLemmas.{split_at, set_at, reverse_middle}
+use Rattle.stack_run.proofs.FrameListLemmas.{set_at, reverse_middle}
+use Rattle.bind_store.proofs.RebindingLemmas.{split_at}
 
 -- marks in front do not count
 marks_once : (items : List (ItemTerms ℕ)) → without_marks (without_marks items) ≡ without_marks items

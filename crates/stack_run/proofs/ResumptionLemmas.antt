@@ -30,9 +30,10 @@ use Rattle.stack_run.specs.declared.frame.Findall.{Findall}
 use Rattle.stack_run.specs.declared.frame.Frame.{Frame}
 use Rattle.stack_run.specs.declared.frame.QueryEnd.{QueryEnd}
 use Rattle.stack_run.specs.declared.frame.Stack.{Stack}
-use Rattle.stack_run.proofs.CopyLemmas.{list_stays, list_below, numbers_sound}
+use Rattle.stack_run.proofs.CopyLemmas.{list_stays, numbers_sound}
 use Rattle.stack_run.proofs.FrameLemmas.{fit_further, view_further, length-frames}
 use Rattle.stack_run.proofs.FreeStepLemmas.{marks_drop}
+use Rattle.run_model.proofs.TermPartBoundLemmas.{list-below as list_below}
 
 -- further bindings or numbers continue a store
 pub segment_continues : (segment : Segment) (st : StoreView) → Continues st (with_segment segment st)

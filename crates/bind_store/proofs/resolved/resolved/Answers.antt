@@ -5,9 +5,10 @@ use Rattle.au_term.specs.Shifted.{shifted_cell}
 use Rattle.au_model.specs.Terms.Substitutions.{resolve}
 use Rattle.bind_store.specs.Bindings.{substitution_of}
 use Rattle.bind_store.specs.ResolvedCells.{cells_left, term_piece}
-use Rattle.bind_store.proofs.RebuiltTermLemmas.{none_due, same_term}
+use Rattle.bind_store.proofs.RebuiltTermLemmas.{same_term}
 use Rattle.bind_store.proofs.WalkLemmas.{reverse-push, all_left, all_placed, given_due, all_built}
 use Rattle.bind_store.proofs.resolved.resolved.Goals as goal
+use Rattle.au_model.proofs.CopyLemmas.{copy_done as none_due}
 
 pub loop-piece-init : goal.loop-piece-init
 loop-piece-init c =

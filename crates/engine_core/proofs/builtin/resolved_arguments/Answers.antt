@@ -4,9 +4,10 @@ use Rattle.au_term.specs.PrefixOrder.{append_terms}
 use Rattle.au_model.specs.Terms.Lists.{terms_from}
 use Rattle.au_model.specs.Terms.Substitutions.{value_of, resolve}
 use Rattle.bind_store.specs.StoreView.{substitution}
-use Rattle.engine_core.proofs.ResolvedTermLemmas.{argument_resolved, count_resolved}
+use Rattle.engine_core.proofs.ResolvedTermLemmas.{count_resolved}
 use Rattle.engine_core.proofs.Solutions.{append_end, append_one, drop_next, drop_every}
 use Rattle.engine_core.proofs.builtin.resolved_arguments.Goals as goal
+use Rattle.proc_index.proofs.LawLemmas.{argument_resolved}
 
 pub loop-i-preserved : goal.loop-i-preserved
 loop-i-preserved c =
