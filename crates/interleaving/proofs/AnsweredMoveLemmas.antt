@@ -84,7 +84,7 @@ answered_moves t s f e answers i k running first entry bare asked j r =
     (closed_sound (length s.level.left) s.level.number clauses levels s.level.spent 1 named back first.clear
     (subst IsSound old (lists_are_sound t i k))) in
     let follows : Follows clauses (pending_list (plug levels (Closed one_answer))) (pending_list new.root) = closes_follow clauses
-    (end_wakes clauses) (findall_wakes clauses) t.next levels one_answer placed.around distinct fresh caught.0 sound_base
+    (end_wakes clauses) (findall_wakes clauses) t.next levels one_answer placed.around distinct fresh caught.0 asked sound_base
     (lists_are_sound new j r) in
     let count : lead (pending_list t.root) ≡ inferences front = (let z = first.leads in omega (arith, z, unspent)) in
     let gone = unmarked_names (scopes s) (scopes s) f.items bare in

@@ -42,6 +42,7 @@ use Rattle.interleaving.proofs.RootLemmas.{are_told}
 use Rattle.interleaving.proofs.ClockLemmas.{AreClear, quiet-append, inferences-append}
 use Rattle.interleaving.proofs.ListChangeLemmas.{becomes as private_becomes}
 use Rattle.interleaving.proofs.LeadLemmas.{lead-quiet, lead-grows}
+use Rattle.interleaving.proofs.EndLemmas.{has_end, end_after, back_end}
 use Rattle.interleaving.proofs.FoldLemmas.{Passes, side_name, passes_then, passes_becoming, credit_counted, SidesKept, named_by}
 use Rattle.interleaving.proofs.FoldLemmas.{records-append}
 use Rattle.interleaving.proofs.WakeLemmas.{second_right}
@@ -52,6 +53,7 @@ use Rattle.interleaving.proofs.PublishedBareLemmas.{right_of}
 use Rattle.interleaving.proofs.FrontCloseLemmas.{bare}
 use Rattle.interleaving.proofs.CaughtContextLemmas.{IsCaughtRoot}
 use Rattle.interleaving.proofs.CaughtBallLemmas.{catch_no_side}
+use Rattle.interleaving.proofs.CaughtClosingLemmas.{sleeper_on}
 use Rattle.interleaving.proofs.BallLevelLemmas.{landed, FirstShut}
 use Rattle.interleaving.proofs.FallLemmas.{Catches, fall, MarkSleeps, IsCatcher}
 use Rattle.interleaving.proofs.LowerListLemmas.{lower_front, lower_back, front_split, back_split, lower_quiet, landed_counts, landed_low}
@@ -214,6 +216,11 @@ module _ (clauses : List Clause) (next : ℕ) (v : Level) (above : List Level) (
       abbrev first : List Element
       first = named_recovery ball w up r f o ∷ (EndOf (1 ∷ w.number ∷ []) ∷ [])
 
+      -- the end of the query is behind
+      pub behind_end : has_end (first ++ back) ≡ true
+      behind_end = end_after first back (back_end up top.1 (sleeper_on w up IsOpen c.sleeper.spent (CatchEntry c.catcher r f) top.0
+          c.sleeper.right).asked)
+
       -- the ball, taken at once
       pub ball_taken : (status : Status) (mark : Option ℕ) → IsCaughtRoot (plug (v ∷ above) status) → MarkSleeps (v ∷ above) mark
           → fall ball (v ∷ above) mark ≡ Catches w up r f o → AreClear (levels_below (Some w.number) (v ∷ above)) → inside p ≡ true
@@ -237,7 +244,7 @@ module _ (clauses : List Clause) (next : ℕ) (v : Level) (above : List Level) (
           (front ++ (Credit (inferences credits + 1) rows ∷ (first ++ back))) = passes_becoming clauses _ _ becomes
           (lead-grows front ((credits ++ (Plain p named ∷ mid)) ++ back) (Credit (inferences credits + 1) rows ∷ (first ++ back))
           (omega (arith, total))) in
-          let two = credit_counted clauses front (first ++ back) (inferences credits + 1) rows in
+          let two = credit_counted clauses front (first ++ back) (inferences credits + 1) rows behind_end in
           subst (λ l. Passes clauses l (front ++ (Credit (min greatest (inferences credits + 1)) rows ∷ (first ++ back)))) (sym list_is)
           (passes_then clauses _ _ _ one two)
 

@@ -57,6 +57,7 @@ use Rattle.interleaving.proofs.UpperBlindLemmas.{is_free_of, free_zero}
 use Rattle.interleaving.proofs.BallSearchLemmas.{second_step, catch_element, named_recovery}
 use Rattle.interleaving.proofs.BallFollowsLemmas.{some_count, recovery_heights, rows_apart, top, free_own, free_next, list_is}
 use Rattle.interleaving.proofs.BallFollowsLemmas.{front_blind, back_under, lower, segment, credit_is, findall_above, rows_are}
+use Rattle.interleaving.proofs.BallFollowsLemmas.{behind_end}
 
 module _ (clauses : List Clause) (next : ℕ) (v : Level) (above : List Level) (p : Name) (named : Continuation Name)
     (a : IsAround (v ∷ above) IsOpen) (d : IsDistinct (v ∷ above)) (free : IsFree next (v ∷ above)) (sides : SidesKept (v ∷ above))
@@ -212,7 +213,8 @@ module _ (clauses : List Clause) (next : ℕ) (v : Level) (above : List Level) (
           let one : Passes clauses (front ++ ((ones ++ first) ++ back)) (front ++ (Credit (inferences ones) rows ∷ (first ++ back))) =
           passes_becoming clauses _ _ becomes
           (lead-grows front ((ones ++ first) ++ back) (Credit (inferences ones) rows ∷ (first ++ back)) (omega (arith, total))) in
-          let two = credit_counted clauses front (first ++ back) (inferences ones) rows in
+          let two = credit_counted clauses front (first ++ back) (inferences ones) rows
+          (behind_end clauses next v above p named a d free sides w up r f o ball c) in
           subst (λ k. Passes clauses (front_of levels ++ (Credit (v.spent + 1) [] ∷ (first ++ back)))
           (front ++ (Credit (min greatest k) rows ∷ (first ++ back)))) number
           (subst (λ l. Passes clauses l (front ++ (Credit (min greatest (inferences ones)) rows ∷ (first ++ back)))) (sym list)

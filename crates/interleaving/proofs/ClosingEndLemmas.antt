@@ -26,7 +26,7 @@ folds_end next v [] c (Some d) go h f = round_end (v ∷ []) (Closed c) h
 folds_end next v (u ∷ up) c (Some d) go h f = f _ (λ e. let no_way : ⊥ = cc in no_way)
 
 -- what sleeps after a query's goals is its end
-guards_end : (v : Level) → HasQueryEnd v → (b : Option Term) × guarded v ≡ Some (EndEntry b)
+pub guards_end : (v : Level) → HasQueryEnd v → (b : Option Term) × guarded v ≡ Some (EndEntry b)
 guards_end v h = (
   h.ball,
   subst (λ l. Guards l v.right) (sym h.left)

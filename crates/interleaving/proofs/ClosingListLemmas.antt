@@ -1,5 +1,5 @@
 -- A place that closes: nodes fold along its branch, a recovery that slept is gone, and what sleeps else wakes.
-use Rattle.std.proofs.Common.{◌≡◌, ℕ, suc, ◌==◌, Bool, true, false, List, [], ◌∷◌, ◌++◌, map, length, Option, Some, None, refl, sym, ap}
+use Rattle.std.proofs.Common.{◌≡◌, ◌⊎◌, inl, inr, ℕ, suc, ◌==◌, Bool, true, false, List, [], ◌∷◌, ◌++◌, map, length, Option, Some, None, refl, sym, ap}
 use Rattle.std.proofs.Common.{◌∙◌, subst, arith}
 use Rattle.au_term.specs.Term.{Term}
 use Rattle.au_model.specs.Terms.Each.{Each}
@@ -18,6 +18,7 @@ use Rattle.tree_model.specs.PendingLists.{way_of, findall_on, balance_on, elemen
 use Rattle.tree_model.specs.PendingLists.{front_of, back_of}
 use Rattle.tree_model.specs.SoundTrees.{one_if, IsOpen, Sleeps, profile, profiles, is_shape, guards}
 use Rattle.tree_model.specs.CaughtTrees.{is_side}
+use Rattle.tree_model.specs.Ways.{under_query, is_query}
 use Rattle.interleaving.specs.Laws.{IsSegment}
 use Rattle.interleaving.specs.Views.{IsBlind, IsRecordApart}
 use Rattle.interleaving.specs.Sound.{IsSound}
@@ -30,6 +31,8 @@ use Rattle.interleaving.proofs.OpenSpotLemmas.{both_left, both_right}
 use Rattle.interleaving.proofs.RootLemmas.{are_told}
 use Rattle.interleaving.proofs.ListChangeLemmas.{quiet_early}
 use Rattle.interleaving.proofs.LeadLemmas.{lead-grows, follows_then, follows_itself}
+use Rattle.interleaving.proofs.EndLemmas.{HasQueryEnd, query_here, back_end}
+use Rattle.interleaving.proofs.ClosingEndLemmas.{guards_end}
 use Rattle.interleaving.proofs.ListScopeLemmas.{IsDistinct, distinct-up}
 use Rattle.interleaving.proofs.ListMarkLemmas.{no_left, findall_sleeps}
 use Rattle.interleaving.proofs.BlindLemmas.{of_node, front_blind, back_under, records_apart, off_levels}
@@ -194,38 +197,49 @@ module _ (clauses : List Clause) (end_wakes : EndWakes clauses) (findall_wakes :
   -- a node folds, or stays
   folds_follow : (next : ℕ) (v : Level) (up : List Level) (c : TreeCredit) (o : Option TreeCredit) → all_closed v c ≡ o
       → LeftSides v.kind v.left → is_side v.kind (length v.left) ≡ false → count_around v.number up ≡ 0 → IsAround up IsOpen
-      → ((d : TreeCredit) → Ends next up d) → IsSound (pending_list (plug (v ∷ up) (Closed c)))
+      → under_query (way_of up) ≡ true → ((d : TreeCredit) → Ends next up d) → IsSound (pending_list (plug (v ∷ up) (Closed c)))
       → IsSound (pending_list (folds next v up c o (closes next up)).root)
       → Follows clauses (pending_list (plug (v ∷ up) (Closed c))) (pending_list (folds next v up c o (closes next up)).root)
-  folds_follow next v up c None q s off z a go i j = follows_itself clauses (pending_list (plug (v ∷ up) (Closed c)))
-  folds_follow next v [] c (Some total) q s off z a go i j = follows_itself clauses (pending_list (plug (v ∷ []) (Closed c)))
-  folds_follow next v (u ∷ up) c (Some total) q s off z a go i j =
+  folds_follow next v up c None q s off z a u go i j = follows_itself clauses (pending_list (plug (v ∷ up) (Closed c)))
+  folds_follow next v [] c (Some total) q s off z a u go i j = follows_itself clauses (pending_list (plug (v ∷ []) (Closed c)))
+  folds_follow next v (u ∷ up) c (Some total) q s off z a asked go i j =
       let d = added (credit_of u.spent) total in
-      let p = fold_passes clauses v (u ∷ up) c total s off q z a in
+      let p = fold_passes clauses v (u ∷ up) c total s off q z a (back_end (u ∷ up) a asked) in
       let p2 : Passes clauses (pending_list (plug (v ∷ u ∷ up) (Closed c))) (pending_list (plug (u ∷ up) (Closed d))) = subst
       (Passes clauses (pending_list (plug (v ∷ u ∷ up) (Closed c)))) (sym (closed_list (u ∷ up) d)) p in
       follows_then clauses (pending_list (plug (v ∷ u ∷ up) (Closed c))) (pending_list (plug (u ∷ up) (Closed d))) _ p2.follows
       (go d (p2.sound i) j)
 
   pub closes_follow : (next : ℕ) (levels : List Level) (c : TreeCredit) → IsAround levels IsOpen → IsDistinct levels
-      → count_around next levels ≡ 0 → SidesKept levels → Ends next levels c
-  closes_follow next [] c a d fresh s i j = follows_itself clauses _
-  closes_follow next (v ∷ up) c a d fresh s i j = pick (guarded v) refl
-      (λ x. closes_follow next up x a.1 (distinct-up v up d) (omega (arith, fresh)) s.1) j
+      → count_around next levels ≡ 0 → SidesKept levels → under_query (way_of levels) ≡ true → Ends next levels c
+  closes_follow next [] c a d fresh s asked i j = follows_itself clauses _
+  closes_follow next (v ∷ up) c a d fresh s asked i j = pick (guarded v) refl
+      (λ u x. closes_follow next up x a.1 (distinct-up v up d) (omega (arith, fresh)) s.1 u) j
     where
-      pick : (o : Option Entry) → guarded v ≡ o → ((x : TreeCredit) → Ends next up x)
+      -- the query is above a node whose end does not sleep here
+      above : (o : Option Entry) → guarded v ≡ o → ((b : Option Term) → o ≡ Some (EndEntry b) → ⊥) → under_query (way_of up) ≡ true
+      above o g other = go (query_here v up a.0 asked)
+        where
+          go : (is_query v.kind ≡ true × HasQueryEnd v) ⊎ ((is_query v.kind ≡ false) × (under_query (way_of up) ≡ true))
+              → under_query (way_of up) ≡ true
+          go (inl q) = let e = guards_end v q.1 in absurd (other e.0 (sym g ∙ e.1))
+          go (inr q) = q.1
+
+      pick : (o : Option Entry) → guarded v ≡ o → (under_query (way_of up) ≡ true → (x : TreeCredit) → Ends next up x)
           → IsSound (pending_list (goal_side_closes next v up c o (closes next up)).root)
           → Follows clauses (pending_list (plug (v ∷ up) (Closed c)))
           (pending_list (goal_side_closes next v up c o (closes next up)).root)
-      pick None g f j = folds_follow next v up c (all_closed v c) refl s.0 (no_side v up a.0 None g tt) (none_above v up d) a.1 f i j
-      pick (Some (PlainEntry x)) g f j = folds_follow next v up c (all_closed v c) refl s.0
-          (no_side v up a.0 (Some (PlainEntry x)) g tt) (none_above v up d) a.1 f i j
+      pick None g f j = let u = above None g (λ b e. let no_way : ⊥ = cc in no_way) in folds_follow next v up c (all_closed v c) refl s.0
+          (no_side v up a.0 None g tt) (none_above v up d) a.1 u (f u) i j
+      pick (Some (PlainEntry x)) g f j = let u = above (Some (PlainEntry x)) g (λ b e. let no_way : ⊥ = cc in no_way) in folds_follow
+          next v up c (all_closed v c) refl s.0 (no_side v up a.0 (Some (PlainEntry x)) g tt) (none_above v up d) a.1 u (f u) i j
       pick (Some (EndEntry b)) g f j = end_wakes next v up c b (guards_of v up (EndEntry b) a.0 g) a d fresh i j
       pick (Some (FindallEntry results l x)) g f j = findall_wakes next v up c results l x
           (guards_of v up (FindallEntry results l x) a.0 g) a d fresh i j
       pick (Some (CatchEntry k r x)) g f j =
           let off = no_side v up a.0 (Some (CatchEntry k r x)) g tt in
+          let u = above (Some (CatchEntry k r x)) g (λ b e. let no_way : ⊥ = cc in no_way) in
           let gone = with_right (Closed no_credit) v in
           let p = gone_passes clauses v up c k r x (guards_of v up (CatchEntry k r x) a.0 g) off (none_above v up d) a.1 in
           follows_then clauses (pending_list (plug (v ∷ up) (Closed c))) (pending_list (plug (gone ∷ up) (Closed c))) _ p.follows
-          (folds_follow next gone up c (all_closed gone c) refl s.0 off (none_above v up d) a.1 f (p.sound i) j)
+          (folds_follow next gone up c (all_closed gone c) refl s.0 off (none_above v up d) a.1 u (f u) (p.sound i) j)

@@ -1,10 +1,10 @@
 -- The laws of credits, and of what is taken after them.
-use Rattle.std.proofs.Common.{◌≡◌, ℕ, zero, suc, ◌+◌, Bool, false, List, [], ◌∷◌, ◌++◌, map, refl, sym, ap, ◌∙◌, subst, arith}
+use Rattle.std.proofs.Common.{◌≡◌, ℕ, zero, suc, ◌+◌, ◌≤◌, Bool, false, List, [], ◌∷◌, ◌++◌, map, refl, sym, ap, ◌∙◌, subst, arith}
 use Rattle.std.proofs.lemmas.Bool.{false≢true}
 use Rattle.au_model.specs.Terms.Each.{Each}
 use Rattle.run_model.specs.Programs.Clauses.{Clause}
 use Rattle.run_model.specs.Machine.Items.{Item, GoalItem, CatchMark, CollectMark, RemovalItem}
-use Rattle.interleaving.specs.Machine.{Machine, gives, free_steps, step, run, seen, Alike}
+use Rattle.interleaving.specs.Machine.{Machine, gives, free_steps, step, run, is_over, seen, Alike}
 use Rattle.tree_model.specs.Elements.{Name, Record, Element, Credit, Plain, EndOf, Catch, Findall, End}
 use Rattle.interleaving.specs.Scopes.{Shared, Sought, scoped}
 use Rattle.interleaving.specs.Segments.{Private}
@@ -17,7 +17,7 @@ use Rattle.interleaving.proofs.AloneLemmas.{private_runs}
 use Rattle.interleaving.proofs.ApartLemmas.{IsSoughtApart, blind_closed, inner_unseen}
 use Rattle.interleaving.proofs.InsideStepLemmas.{any_ground, woken_active}
 use Rattle.interleaving.proofs.QuietCreditLemmas.{outer-all, quiet-private}
-use Rattle.interleaving.proofs.EnoughLemmas.{enough}
+use Rattle.interleaving.proofs.EnoughLemmas.{enough, as_many}
 
 abbrev pub none_inner : Record → Bool
 none_inner r = false
@@ -98,6 +98,14 @@ module _ (clauses : List Clause) where
   pub enough_credit : EnoughCredit clauses
   enough_credit j k os rs n w pre zs hj hk = enough m (any_ground clauses) (IsBlind (λ s. false)) (IsSoughtApart clauses (λ s. false))
       (IsRecordApart (λ s. false)) (blind_closed clauses (λ s. false)) j k os rs n hj hk w pre zs (blind_none pre)
+
+  -- and credits of as many, where what is under them does not go
+  pub as_many_credit : (j k : ℕ) (os rs : List Record) (n : ℕ) (w : Shared) (pre zs : List Element) → n ≤ j → n ≤ k
+      → ((us : List Record) → is_over (free_steps m us zs) ≡ false)
+      → seen (run m n w (free_steps m [] (pre ++ (Credit j os ∷ zs)))) ≡ seen (run m n w (free_steps m [] (pre ++ (Credit k rs ∷ zs))))
+  as_many_credit j k os rs n w pre zs hj hk stays = as_many m (any_ground clauses) (IsBlind (λ s. false))
+      (IsSoughtApart clauses (λ s. false)) (IsRecordApart (λ s. false)) (blind_closed clauses (λ s. false)) j k os rs n hj hk w pre zs
+      (blind_none pre) stays
 
   pub further : (k n : ℕ) (w : Shared) (xs : List Element) → run m (k + n) w xs ≡ run m n (run m k w xs).0 (run m k w xs).1
   further zero n w xs = let same : 0 + n ≡ n = omega arith in ap (λ i. run m i w xs) same

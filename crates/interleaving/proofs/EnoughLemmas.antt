@@ -2,9 +2,9 @@
 use Rattle.std.proofs.Common.{◌≡◌, inl, inr, ℕ, zero, suc, ◌≤◌, false, List, [], ◌∷◌, ◌++◌, map, refl, sym, ap, ◌∙◌, arith}
 use Rattle.au_model.specs.Terms.Each.{Each}
 use Rattle.interleaving.specs.Machine.{Machine, Act, Vanishes, Wakes, Takes, Asks, Place, gives, looked, search_for, placed, free_steps}
-use Rattle.interleaving.specs.Machine.{acted, step, run, seen}
-use Rattle.interleaving.proofs.RunFrontLemmas.{settle-map, PlaceOk, ActOk, Closed, gives-unseen, Freed, freed-found, placed-found}
-use Rattle.interleaving.proofs.EarlyLemmas.{Ground, next_front, next_step, credit-unseen}
+use Rattle.interleaving.specs.Machine.{acted, step, run, is_over, seen}
+use Rattle.interleaving.proofs.RunFrontLemmas.{settle-map, settle-given, PlaceOk, ActOk, Closed, gives-unseen, Freed, freed-found, placed-found}
+use Rattle.interleaving.proofs.EarlyLemmas.{Ground, last, next_front, next_step, credit-unseen}
 
 module _ {W X Q R : Type 0} (m : Machine W X Q R) (g : Ground m) (P : X → Type 0) (K : Q → Type 0) (G : R → Type 0) (c : Closed m P K G)
   where
@@ -79,3 +79,42 @@ module _ {W X Q R : Type 0} (m : Machine W X Q R) (g : Ground m) (P : X → Type
           → seen (run m n w (free_steps m [] (pre ++ (g.credit j os ∷ zs))))
           ≡ seen (run m n w (free_steps m [] (pre ++ (g.credit k rs ∷ zs))))
       enough n hj hk w pre zs h = agree_big n hj hk (stepping_big n hj hk) w pre zs [] h
+
+      -- as many inferences as a credit has, where what is under it does not go
+      whole_credit : (n : ℕ) (w : W) (i : ℕ) (us : List R) (zs : List X) → n ≤ i → is_over (free_steps m us zs) ≡ false
+          → seen (run m n w (free_steps m [] (g.credit i us ∷ zs))) ≡ (w, false)
+      whole_credit zero w zero us zs h e = ap (λ l. seen (w, l)) (last m g us zs ∙ sym (settle-map m us zs)) ∙ ap (λ b. (w, b)) e
+      whole_credit zero w (suc i) us zs h e = ap (λ l. seen (w, l)) (next_front m g i us zs)
+      whole_credit (suc n) w zero us zs h e = absurd (omega arith)
+      whole_credit (suc n) w (suc i) us zs h e = ap (λ l. seen (run m n (step m w l).0 (step m w l).1)) (next_front m g i us zs)
+          ∙ ap (λ s. seen (run m n s.0 s.1)) (next_step m g i us w zs) ∙ whole_credit n w i us zs (omega arith) e
+
+      -- a first step leaves fewer inferences than the credits have
+      after_step : (n : ℕ) → n ≤ j → n ≤ k → (w : W) (x : X) (new zs : List X) → P x → Each P new
+          → Agrees n w (x ∷ (new ++ (g.credit j os ∷ zs))) (x ∷ (new ++ (g.credit k rs ∷ zs)))
+      after_step zero hj hk w x new zs q h = refl
+      after_step (suc n) hj hk w x new zs q h = acting_big n (agree_big n hj hk (stepping_big n hj hk)) w (m.act x) x new zs
+          (c.acts x q) h
+
+      pub as_many : (n : ℕ) → n ≤ j → n ≤ k → (w : W) (pre zs : List X) → Each P pre
+          → ((us : List R) → is_over (free_steps m us zs) ≡ false)
+          → seen (run m n w (free_steps m [] (pre ++ (g.credit j os ∷ zs))))
+          ≡ seen (run m n w (free_steps m [] (pre ++ (g.credit k rs ∷ zs))))
+      as_many n hj hk w pre zs h stays = go (freed-found m P K G c [] pre tt h)
+        where
+          given_stays : (qs us : List R) → is_over (free_steps m us (map (gives m qs) zs)) ≡ false
+          given_stays qs us = ap is_over (sym (settle-given m qs us zs)) ∙ stays (qs ++ us)
+
+          go : Freed m P K G [] pre → Agrees n w (free_steps m [] (pre ++ (g.credit j os ∷ zs)))
+              (free_steps m [] (pre ++ (g.credit k rs ∷ zs)))
+          go (qs, ok, inl f) =
+              ap (λ l. seen (run m n w l)) (f (g.credit j os ∷ zs) ∙ settle-map m qs (g.credit j os ∷ zs)
+              ∙ ap (free_steps m []) (given_credit qs j os zs ok)) ∙ whole_credit n w j os (map (gives m qs) zs) hj (given_stays qs os)
+              ∙ sym (whole_credit n w k rs (map (gives m qs) zs) hk (given_stays qs rs))
+              ∙ sym (ap (λ l. seen (run m n w l))
+              (f (g.credit k rs ∷ zs) ∙ settle-map m qs (g.credit k rs ∷ zs) ∙ ap (free_steps m []) (given_credit qs k rs zs ok)))
+          go (qs, ok, inr f) =
+              ap (λ l. seen (run m n w l)) (f.4 (g.credit j os ∷ zs) ∙ ap (λ l. f.0 ∷ (f.1 ++ l)) (given_credit qs j os zs ok))
+              ∙ after_step n hj hk w f.0 f.1 (map (gives m qs) zs) f.2 f.3
+              ∙ sym (ap (λ l. seen (run m n w l))
+              (f.4 (g.credit k rs ∷ zs) ∙ ap (λ l. f.0 ∷ (f.1 ++ l)) (given_credit qs k rs zs ok)))

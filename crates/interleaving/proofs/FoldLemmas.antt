@@ -25,10 +25,11 @@ use Rattle.interleaving.specs.Sound.{IsSound}
 use Rattle.interleaving.specs.Follows.{lead, Follows}
 use Rattle.interleaving.proofs.ListRoundLemmas.{around}
 use Rattle.interleaving.proofs.AppendLemmas.{append-assoc}
-use Rattle.interleaving.proofs.CreditLawLemmas.{enough_credit}
+use Rattle.interleaving.proofs.CreditLawLemmas.{as_many_credit}
 use Rattle.interleaving.proofs.SoundEarlyLemmas.{sound_exchange, sound-after}
 use Rattle.interleaving.proofs.LeadLemmas.{lead-bounded, follows_then, follows_becoming, follows_itself}
 use Rattle.interleaving.proofs.ClockLemmas.{quiet-append, inferences-append}
+use Rattle.interleaving.proofs.EndLemmas.{has_end, settles_before}
 use Rattle.interleaving.proofs.ListScopeLemmas.{sleeps_on}
 use Rattle.interleaving.proofs.ListsSoundLemmas.{under_of}
 
@@ -70,10 +71,10 @@ nothing_blind (x ∷ xs) = (one x, nothing_blind xs)
     one (Findall s u results list p f) = (refl, refl, λ more. refl, items f.items)
     one (End p b) = λ more. refl
 
--- a credit is kept at the greatest count
-pub credit_counted : (clauses : List Clause) (pre zs : List Element) (k : ℕ) (rs : List Record)
+-- before the end of a query a credit is kept at the greatest count
+pub credit_counted : (clauses : List Clause) (pre zs : List Element) (k : ℕ) (rs : List Record) → has_end zs ≡ true
     → Passes clauses (pre ++ (Credit k rs ∷ zs)) (pre ++ (Credit (min greatest k) rs ∷ zs))
-credit_counted clauses pre zs k rs = record {
+credit_counted clauses pre zs k rs end = record {
   follows = record {
     alike = λ n w l. go n w l (nat_le k greatest) refl;
     lead = λ m b l. lead-bounded m pre (Credit k rs ∷ zs) (Credit (min greatest k) rs ∷ zs) (λ j a c. omega (arith, a, b, c)) l;
@@ -82,13 +83,13 @@ credit_counted clauses pre zs k rs = record {
       (Credit (min greatest k) rs ∷ []) zs (nothing_blind pre) (tt, tt) (tt, tt) (omega arith) i here;
 }
   where
-    go : (n : ℕ) (w : Shared) → n < greatest → (b : Bool) → nat_le k greatest ≡ b
+    go : (n : ℕ) (w : Shared) → n ≤ greatest → (b : Bool) → nat_le k greatest ≡ b
         → seen (run (scoped clauses) n w (free_steps (scoped clauses) [] (pre ++ (Credit k rs ∷ zs))))
         ≡ seen (run (scoped clauses) n w (free_steps (scoped clauses) [] (pre ++ (Credit (min greatest k) rs ∷ zs))))
     go n w l true e = let same : k ≡ min greatest k = let low : k ≤ greatest = grind arith in omega (arith, low) in ap
         (λ j. seen (run (scoped clauses) n w (free_steps (scoped clauses) [] (pre ++ (Credit j rs ∷ zs))))) same
-    go n w l false e = let high : greatest < k = grind arith in enough_credit clauses k (min greatest k) rs rs n w pre zs
-        (omega (arith, l, high)) (omega (arith, l, high))
+    go n w l false e = let high : greatest < k = grind arith in as_many_credit clauses k (min greatest k) rs rs n w pre zs
+        (omega (arith, l, high)) (omega (arith, l, high)) (λ us. settles_before clauses us zs end)
 
 -- records that no goal side of the node has
 abbrev pub LeftSides : Kind → List (ℕ × Status) → Type 0

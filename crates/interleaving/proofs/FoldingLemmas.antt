@@ -1,5 +1,5 @@
 -- A node all of whose alternatives have closed folds into the alternative above.
-use Rattle.std.proofs.Common.{◌≡◌, ℕ, suc, ◌+◌, ◌==◌, false, cond, List, [], ◌∷◌, ◌++◌, map, length, Option, Some, None, refl, sym, ap}
+use Rattle.std.proofs.Common.{◌≡◌, ℕ, suc, ◌+◌, ◌==◌, true, false, cond, List, [], ◌∷◌, ◌++◌, map, length, Option, Some, None, refl, sym, ap}
 use Rattle.std.proofs.Common.{◌∙◌, subst, arith}
 use Rattle.std.specs.Prelude.{min}
 use Rattle.au_model.specs.Terms.Each.{Each}
@@ -24,6 +24,7 @@ use Rattle.interleaving.proofs.AppendLemmas.{each-append}
 use Rattle.interleaving.proofs.RootLemmas.{are_told}
 use Rattle.interleaving.proofs.ListChangeLemmas.{quiet_early}
 use Rattle.interleaving.proofs.LeadLemmas.{lead-quiet, lead-grows}
+use Rattle.interleaving.proofs.EndLemmas.{has_end}
 use Rattle.interleaving.proofs.BlindLemmas.{of_node, front_blind, back_under, records_apart, off_levels}
 use Rattle.interleaving.proofs.FoldLemmas.{Passes, passes_becoming, passes_then, credit_counted, LeftSides, node_list, node_totals}
 use Rattle.interleaving.proofs.FoldLemmas.{closed_round}
@@ -75,10 +76,10 @@ outer_apart n (r ∷ rs) h = ap (λ b. cond b (outer (is_inner_record (of_node n
 -- a node all of whose alternatives have closed folds
 pub fold_passes : (clauses : List Clause) (v : Level) (up : List Level) (c total : TreeCredit) → LeftSides v.kind v.left
     → is_side v.kind (length v.left) ≡ false → all_closed v c ≡ Some total → count_around v.number up ≡ 0 → IsAround up IsOpen
-    → Passes clauses (pending_list (plug (v ∷ up) (Closed c)))
+    → has_end (back_of up) ≡ true → Passes clauses (pending_list (plug (v ∷ up) (Closed c)))
     (front_of up ++ (Credit (min greatest (spent_at up + total.inferences)) (map (λ t. (findall_on (way_of up), t)) total.records)
     ∷ back_of up))
-fold_passes clauses v up c total sides off e none_above a =
+fold_passes clauses v up c total sides off e none_above a end =
     let n = v.number in
     let t = node_totals up v c total sides off e in
     let xs = node_list up v c in
@@ -104,7 +105,8 @@ fold_passes clauses v up c total sides off e none_above a =
     (front_of up ++ (Credit (inferences xs) (outer (is_inner_record (of_node n)) (records xs)) ∷ back_of up)) becomes
     (lead-grows (front_of up) (xs ++ back_of up)
     (Credit (inferences xs) (outer (is_inner_record (of_node n)) (records xs)) ∷ back_of up) (omega (arith, quiet_lead))) in
-    let two = credit_counted clauses (front_of up) (back_of up) (inferences xs) (outer (is_inner_record (of_node n)) (records xs)) in
+    let two = credit_counted clauses (front_of up) (back_of up) (inferences xs) (outer (is_inner_record (of_node n)) (records xs))
+    end in
     let last : front_of up ++ (Credit (min greatest (inferences xs)) (outer (is_inner_record (of_node n)) (records xs)) ∷ back_of up)
     ≡ front_of up ++ (Credit (min greatest (spent_at up + total.inferences)) (map (λ t. (findall_on (way_of up), t)) total.records)
     ∷ back_of up) = ap (λ k. front_of up ++ (Credit k (outer (is_inner_record (of_node n)) (records xs)) ∷ back_of up)) counts

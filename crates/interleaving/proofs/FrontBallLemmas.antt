@@ -37,7 +37,7 @@ use Rattle.interleaving.proofs.QuietCreditLemmas.{gives-fixed}
 use Rattle.interleaving.proofs.ListChangeLemmas.{records_given}
 use Rattle.interleaving.proofs.SoundEarlyLemmas.{sound-after}
 use Rattle.interleaving.proofs.SoundStepLemmas.{asks-sound}
-use Rattle.interleaving.proofs.LeadLemmas.{lead-quiet, follows_then, follows_becoming}
+use Rattle.interleaving.proofs.LeadLemmas.{lead-quiet, follows_then, follows_from, follows_becoming}
 use Rattle.interleaving.proofs.ClockLemmas.{IsFirst, quiet-append, inferences-append, front_quiet}
 use Rattle.interleaving.proofs.EndLemmas.{end_pending}
 use Rattle.interleaving.proofs.HaltMoveLemmas.{dropped_names}
@@ -165,8 +165,8 @@ module _ (t : TreeState) (w : ℕ) (a : Place) (s : Spot) (f : Continuation ℕ)
           credit = v.spent + 1;
           one = refl;
           rest = rest;
-          follows = subst (λ x. Follows clauses (front_of levels ++ (Credit (v.spent + 1) [] ∷ rest)) (pending_list x)) (sym same)
-              (follows_then clauses _ _ _ one.follows two);
+          follows = follows_from _ clauses _ _ (subst (λ x. Follows clauses (front_of levels ++ (Credit (v.spent + 1) [] ∷ rest))
+              (pending_list x)) (sym same) (follows_then clauses _ _ _ one.follows two));
           alike = λ n. ap (λ l. seen (run m n (shared_of answers new) (free_steps m [] l))) (sym fixed);
           running = running;
         }) (λ l. absurd (end_pending new j (caught_ends t i k running s o f entry ball mark sleeps c up r h u q) l))
@@ -212,7 +212,8 @@ module _ (t : TreeState) (w : ℕ) (a : Place) (s : Spot) (f : Continuation ℕ)
           credit = v.spent + 1;
           one = refl;
           rest = ball_end ∷ [];
-          follows = subst (λ l. Follows clauses l (pending_list new.root)) joined (follows_then clauses _ _ _ one two);
+          follows = follows_from _ clauses _ _ (subst (λ l. Follows clauses l (pending_list new.root)) joined
+              (follows_then clauses _ _ _ one two));
           alike = λ n. ap (λ l. seen (run m n (shared_of answers new) (free_steps m [] l)))
               (sym (ap (λ x. x ∷ []) (gives-fixed clauses rs ball_end tt)));
           running = running;

@@ -35,7 +35,7 @@ use Rattle.interleaving.proofs.GivenHeightLemmas.{sound-gives}
 use Rattle.interleaving.proofs.SoundStepLemmas.{asks-sound}
 use Rattle.interleaving.proofs.SoundEarlyLemmas.{sound-after}
 use Rattle.interleaving.proofs.RunHeightLemmas.{names_are_free}
-use Rattle.interleaving.proofs.LeadLemmas.{follows_same}
+use Rattle.interleaving.proofs.LeadLemmas.{follows_same, follows_from}
 use Rattle.interleaving.proofs.ClockLemmas.{IsFirst, front_quiet}
 use Rattle.interleaving.proofs.EndLemmas.{end_pending, back_end, round_end}
 use Rattle.interleaving.proofs.ClosingEndLemmas.{closes_end}
@@ -162,7 +162,7 @@ module _ (t : TreeState) (s : Spot) (f : Continuation ℕ) (after : World) (e : 
         credit = s.level.spent + 1;
         one = refl;
         rest = inner ++ back_of levels;
-        follows = follows_same clauses _ _ (sym list);
+        follows = follows_from _ clauses _ _ (follows_same clauses _ _ (sym list));
         alike = λ n. free n (shared_of answers new)
             ∙ (sym (bares.alike n (shared_of answers new)) ∙ ap (λ l. seen (run m n (shared_of answers new) (free_steps m [] l)))
             (sym fixed));
@@ -192,7 +192,7 @@ module _ (t : TreeState) (s : Spot) (f : Continuation ℕ) (after : World) (e : 
       (closed_sound (length s.level.left) s.level.number clauses levels s.level.spent 1 (named_continuation way f) back first.clear
       (subst IsSound old_list (lists_are_sound t i k))) in
       let follows : Follows clauses (pending_list (plug levels (Closed one))) (pending_list new.root) = closes_follow clauses
-      (end_wakes clauses) (findall_wakes clauses) t.next levels one p.around distinct fresh caught.0 sound_base
+      (end_wakes clauses) (findall_wakes clauses) t.next levels one p.around distinct fresh caught.0 asked sound_base
       (lists_are_sound new j r) in
       gate_moves t new s answers i k running first (record {
         element = Plain own (named_continuation way f);
@@ -202,7 +202,7 @@ module _ (t : TreeState) (s : Spot) (f : Continuation ℕ) (after : World) (e : 
         credit = 1;
         one = (let u = unspent in omega (arith, u));
         rest = back;
-        follows = subst (λ l. Follows clauses l (pending_list new.root)) base follows;
+        follows = follows_from _ clauses _ _ (subst (λ l. Follows clauses l (pending_list new.root)) base follows);
         alike = λ n. ap seen (same (shared_of answers new) n);
         running = running;
       }) (λ l. absurd (end_pending new j (closes_end t.next levels one p.around asked) l))

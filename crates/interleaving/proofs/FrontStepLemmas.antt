@@ -14,7 +14,7 @@ use Rattle.interleaving.specs.Scopes.{Shared, Sought, Lands, act, scoped}
 use Rattle.tree_model.specs.Elements.{Record}
 use Rattle.interleaving.specs.Quiet.{IsQuiet, inferences, records}
 use Rattle.interleaving.specs.Sound.{names, IsEntrySound, IsSound}
-use Rattle.interleaving.specs.Follows.{lead, Follows}
+use Rattle.interleaving.specs.Follows.{lead}
 use Rattle.interleaving.specs.HistoryInvariants.{shared_of, AnswerMoves}
 use Rattle.interleaving.proofs.AppendLemmas.{append-assoc}
 use Rattle.interleaving.proofs.RunFrontLemmas.{append-none}
@@ -24,7 +24,7 @@ use Rattle.interleaving.proofs.PassingLemmas.{credits_pass}
 use Rattle.interleaving.proofs.FrontLawLemmas.{gate_taken}
 use Rattle.interleaving.proofs.FrontCloseLemmas.{bare, unmark, passed_at, unspent_out}
 use Rattle.interleaving.proofs.FoldLemmas.{records-append}
-use Rattle.interleaving.proofs.LeadLemmas.{lead-quiet}
+use Rattle.interleaving.proofs.LeadLemmas.{lead-quiet, FollowsFrom}
 use Rattle.interleaving.proofs.ClockLemmas.{IsFirst, quiet-append, inferences-append, front_quiet}
 use Rattle.interleaving.proofs.EndLemmas.{not_over, first_end}
 use Rattle.interleaving.proofs.GoingLemmas.{not_halted}
@@ -122,7 +122,8 @@ pub record IsGateTaken (t new : TreeState) (s : Spot) (answers : ℕ) : Type 0 w
   pub credit : ℕ
   pub one : credit ≡ s.level.spent + 1
   pub rest : List Element
-  pub follows : Follows t.job.clauses (front_of (levels_of s) ++ (Credit credit [] ∷ rest)) (pending_list new.root)
+  pub follows : FollowsFrom (suc (lead (pending_list t.root))) t.job.clauses (front_of (levels_of s) ++ (Credit credit [] ∷ rest))
+      (pending_list new.root)
   pub alike : (n : ℕ) → seen (run (scoped t.job.clauses) n (shared_of answers new) (free_steps (scoped t.job.clauses) [] left))
       ≡ seen (run (scoped t.job.clauses) n (shared_of answers new)
       (free_steps (scoped t.job.clauses) [] (map (gives (scoped t.job.clauses) (records (front_of (levels_of s)))) rest)))
@@ -162,7 +163,7 @@ gate_moves t new s answers i k running first g finished =
           seen old ∙ (g.alike d ∙ ap seen (sym later)) in
           subst (λ x. seen (run (scoped clauses) x (shared_of answers t) (free_steps (scoped clauses) [] (pending_list t.root)))
           ≡ seen (run (scoped clauses) x (shared_of answers new) (free_steps (scoped clauses) [] mid))) n_is both
-          ∙ (g.follows.alike n (shared_of answers new) b
+          ∙ (g.follows.alike n (shared_of answers new) a b
           ∙ ap (λ l. seen (run (scoped clauses) n (shared_of answers new) (free_steps (scoped clauses) [] l)))
           (sym (not_halted new g.running)));
       ahead = λ z m b l. g.follows.lead m b (omega (arith, l, total, count, credit));

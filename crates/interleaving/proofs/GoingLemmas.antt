@@ -1,5 +1,5 @@
 -- A tree that has not ended, and what is legal there.
-use Rattle.std.proofs.Common.{◌≡◌, ℕ, ◌<◌, Bool, true, false, cond, Option, Some, None, refl, ap, subst, arith}
+use Rattle.std.proofs.Common.{◌≡◌, ℕ, ◌≤◌, ◌<◌, Bool, true, false, cond, Option, Some, None, refl, ap, subst, arith}
 use Rattle.std.specs.Prelude.{min, nat_le, not, is_none}
 use Rattle.run_model.specs.declared.ending.RunEnding.TheVariants.{Budget}
 use Rattle.tree_model.specs.Credits.{greatest}
@@ -54,7 +54,7 @@ pub same_shared : (answers : ℕ) (t new : TreeState) → new.world ≡ t.world 
 same_shared answers t new a b c = cc
 
 -- in front of the leftmost clock the count is what it seems
-pub true_clock : (t : TreeState) (budget : ℕ) → budget < greatest → t.budget ≡ budget → (h : IsSoundTree t) → (g : IsGoing t)
+pub true_clock : (t : TreeState) (budget : ℕ) → budget ≤ greatest → t.budget ≡ budget → (h : IsSoundTree t) → (g : IsGoing t)
     → (lead (pending_list t.root) < budget) × (clock_of (levels_of g.spot) ≡ lead (pending_list t.root))
 true_clock t budget b e h g =
     let k = leftmost_known t h g.spot g.first in

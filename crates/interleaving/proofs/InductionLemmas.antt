@@ -29,7 +29,7 @@ use Rattle.interleaving.proofs.AnswerClosingLemmas.{IsOrdered}
 use Rattle.interleaving.proofs.AnswerTreeLemmas.{answers_kept}
 use Rattle.interleaving.proofs.AnswerEventLemmas.{next_few}
 
-module _ (job : Job) (budget : ℕ) (below : budget < greatest) where
+module _ (job : Job) (budget : ℕ) (below : budget ≤ greatest) where
   -- an event that changes the list alone
   own_step : (t new : TreeState) → new.job ≡ t.job → new.budget ≡ t.budget → IsSoundTree new → IsCaughtTree new
       → (h : IsInStep job budget t) → IsGoing t → ListFollows t new → IsOrdered new.root (answers_in t.root + 0)

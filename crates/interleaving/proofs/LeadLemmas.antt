@@ -2,7 +2,8 @@
 use Rattle.std.proofs.Common.{◌≡◌, ℕ, ◌+◌, ◌-◌, ◌≤◌, ◌<◌, false, List, [], ◌∷◌, ◌++◌, refl, ap, ◌∙◌, subst, arith}
 use Rattle.run_model.specs.Programs.Clauses.{Clause}
 use Rattle.tree_model.specs.Elements.{Element, Credit, Plain, EndOf, Catch, Findall, End}
-use Rattle.interleaving.specs.Machine.{free_steps, run, is_over}
+use Rattle.tree_model.specs.Credits.{greatest}
+use Rattle.interleaving.specs.Machine.{free_steps, run, is_over, seen}
 use Rattle.interleaving.specs.Scopes.{Shared, scoped}
 use Rattle.interleaving.specs.Quiet.{IsQuiet, inferences}
 use Rattle.interleaving.specs.Laws.{MayBecome}
@@ -107,3 +108,12 @@ follows_same clauses xs ys e = subst (Follows clauses xs) e (follows_itself clau
 
 pub follows_becoming : (clauses : List Clause) (xs ys : List Element) → MayBecome clauses xs ys → lead xs ≤ lead ys → Follows clauses xs ys
 follows_becoming clauses xs ys h l = record { alike = λ n w b. h.alike n w; lead = λ m b k. omega (arith, l, k) }
+
+-- from an inference on
+pub record FollowsFrom (from : ℕ) (clauses : List Clause) (xs ys : List Element) : Type 0 where
+  pub alike : (n : ℕ) (w : Shared) → from ≤ n → n ≤ greatest → seen (run (scoped clauses) n w (free_steps (scoped clauses) [] xs))
+      ≡ seen (run (scoped clauses) n w (free_steps (scoped clauses) [] ys))
+  pub lead : (m : ℕ) → m ≤ greatest → m ≤ lead xs → m ≤ lead ys
+
+pub follows_from : (from : ℕ) (clauses : List Clause) (xs ys : List Element) → Follows clauses xs ys → FollowsFrom from clauses xs ys
+follows_from from clauses xs ys h = record { alike = λ n w a b. h.alike n w b; lead = h.lead }

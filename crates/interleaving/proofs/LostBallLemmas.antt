@@ -200,8 +200,8 @@ module _ (clauses : List Clause) (next : ℕ) (v : Level) (above : List Level) (
       let low = landed_low s v above (credit_of 1) in
       let here : spent_at levels + (credit_of 1).inferences ≡ v.spent + 1 = refl in
       let most : min greatest k ≡ min greatest j = omega (arith, total_pre, total, split, counts, low, here, unspent, count) in
-      let one = credit_counted clauses [] (End p b ∷ []) k [] in
-      let two = credit_counted clauses [] tail j [] in
+      let one = credit_counted clauses [] (End p b ∷ []) k [] refl in
+      let two = credit_counted clauses [] tail j [] refl in
       let name : erased (Credit (min greatest k) [] ∷ (End p b ∷ [])) ≡ erased (Credit (min greatest k) [] ∷ tail) = ap
       (λ l. HeightCredit (min greatest k) [] ∷ (HeightEntry (EndEntry b) ∷ l)) (sym (ends_erased back ends).0) in
       let free = names_are_free clauses (Credit (min greatest k) [] ∷ (End p b ∷ [])) (Credit (min greatest k) [] ∷ tail) (tt, tt)

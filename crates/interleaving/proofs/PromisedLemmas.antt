@@ -24,17 +24,16 @@ use Rattle.interleaving.specs.Readings.{opening_list, has_ended}
 use Rattle.interleaving.specs.Follows.{lead}
 use Rattle.interleaving.specs.HistoryInvariants.{shared_of, left_by, list_of, IsInStep}
 use Rattle.interleaving.proofs.RunHeightLemmas.{named_run}
-use Rattle.interleaving.proofs.PassingLemmas.{credits_end}
 use Rattle.interleaving.proofs.ClockLemmas.{leftmost_known, none_left}
 use Rattle.interleaving.proofs.EndLemmas.{not_over, first_end}
-use Rattle.interleaving.proofs.FinishingLemmas.{root_counts, counted_turn, lead-all}
+use Rattle.interleaving.proofs.FinishingLemmas.{root_counts, counted_turn, credits_over}
 use Rattle.interleaving.proofs.GoingLemmas.{going, not_halted, true_clock}
 use Rattle.interleaving.proofs.LeadLemmas.{world_stays}
 use Rattle.tree_model.specs.GivenAnswers.{answers_in, AreInOrder}
 use Rattle.interleaving.proofs.AnswerOrderLemmas.{answers_round, plug_answers, RightsEmpty, rights_empty}
 use Rattle.interleaving.proofs.AnswerClosingLemmas.{shown_below, shown_left}
 
-module _ (job : Job) (budget : ℕ) (below : budget < greatest) (t : TreeState) (h : IsInStep job budget t) where
+module _ (job : Job) (budget : ℕ) (below : budget ≤ greatest) (t : TreeState) (h : IsInStep job budget t) where
   abbrev after : ℕ → Shared × List Element
   after n = run (scoped job.clauses) n (first_shared job) (free_steps (scoped job.clauses) [] (opening_list job))
 
@@ -154,9 +153,8 @@ module _ (job : Job) (budget : ℕ) (below : budget < greatest) (t : TreeState) 
       let early = h.early in
       let low : lead (pending_list t.root) ≤ h.from = h.finished e l in
       let high : h.from ≤ lead (pending_list t.root) = h.ahead e in
-      let total : inferences (pending_list t.root) ≡ h.from = let z = lead-all (pending_list t.root) quiet in omega (arith, z, low, high) in
       let over : (n : ℕ) → h.from ≤ n → tree_run (list_of t) n ≡ (shared_of h.answers t, []) = λ n a. ap (λ l. tree_run l n)
-      (not_halted t e) ∙ passed n (omega (arith, total, a)) quiet in
+      (not_halted t e) ∙ credits_over job.clauses (pending_list t.root) n (shared_of h.answers t) quiet (omega (arith, low, a)) in
       let z : IsAtEnd true = at_budget true (ap (λ s. (s.0, is_over s.1)) (over budget h.early)) in
       let left : (seq job budget).entries ≡ [] = none_over (seq job budget).entries (over_right true z) in
       let by : ending_of job budget ≡ ending_by [] None = ap (λ es. ending_by es (seq job budget).halted) left
@@ -165,12 +163,6 @@ module _ (job : Job) (budget : ℕ) (below : budget < greatest) (t : TreeState) 
       ≡ true = λ n a b. ap (λ s. s.1) (h.alike n a (omega (arith, b, below))) ∙ ap (λ s. is_over s.1) (over n a) in
       (world_right true z, sym by, λ n. shown quiet low high ∙ sym (count_right flags))
     where
-      passed : (n : ℕ) → inferences (pending_list t.root) ≤ n → IsQuiet (pending_list t.root) → tree_run (pending_list t.root) n
-          ≡ (shared_of h.answers t, [])
-      passed n a q = let same : inferences (pending_list t.root) + (n - inferences (pending_list t.root))
-          ≡ n = omega (arith, a) in subst (λ k. tree_run (pending_list t.root) k ≡ (shared_of h.answers t, [])) same
-          (credits_end job.clauses (pending_list t.root) (shared_of h.answers t) (n - inferences (pending_list t.root)) q)
-
       none_first : (spots : List Spot) → first_spot spots ≡ None → spots ≡ []
       none_first [] q = refl
       none_first (s ∷ ss) q = let no_way : ⊥ = cc in absurd no_way
@@ -256,14 +248,9 @@ module _ (job : Job) (budget : ℕ) (below : budget < greatest) (t : TreeState) 
           let quiet = none_left t h.sound b in
           let low = h.finished a b in
           let early = h.early in
-          let count = lead-all (pending_list t.root) quiet in
-          let enough : inferences (pending_list t.root) ≤ budget = omega (arith, low, early, count) in
-          let same : inferences (pending_list t.root) + (budget - inferences (pending_list t.root)) ≡ budget = omega (arith, enough) in
           ap (λ s. s.0) (h.alike budget h.early below)
           ∙ (ap (λ l. (tree_run l budget).0) (not_halted t a)
-          ∙ subst (λ n. (tree_run (pending_list t.root) n).0 ≡ shared_of h.answers t) same
-          (ap (λ s. s.0) (credits_end job.clauses (pending_list t.root) (shared_of h.answers t)
-          (budget - inferences (pending_list t.root)) quiet)))
+          ∙ ap (λ s. s.0) (credits_over job.clauses (pending_list t.root) budget (shared_of h.answers t) quiet (omega (arith, low, early))))
       ends None a (Some s) b z = at_clock (nat_le t.budget (clock_of (levels_of s))) refl z
         where
           at_clock : (c : Bool) → nat_le t.budget (clock_of (levels_of s)) ≡ c → cond c (Some Budget) None ≡ Some e → (after budget).0

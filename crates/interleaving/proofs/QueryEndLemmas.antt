@@ -26,7 +26,7 @@ use Rattle.interleaving.specs.Quiet.{inferences, records}
 use Rattle.interleaving.specs.HeightMachine.{HeightEntry}
 use Rattle.interleaving.specs.Erased.{count, height, with_height, erased}
 use Rattle.interleaving.specs.Sound.{IsSound}
-use Rattle.interleaving.specs.Follows.{lead, Follows}
+use Rattle.interleaving.specs.Follows.{lead}
 use Rattle.interleaving.specs.HistoryInvariants.{shared_of, AnswerMoves}
 use Rattle.interleaving.proofs.ListRoundLemmas.{around}
 use Rattle.interleaving.proofs.ContextLemmas.{count_around}
@@ -38,22 +38,21 @@ use Rattle.interleaving.proofs.QuietCreditLemmas.{map-fixed}
 use Rattle.interleaving.proofs.PreservedLemmas.{opened-sound}
 use Rattle.interleaving.proofs.SoundEarlyLemmas.{sound-after}
 use Rattle.interleaving.proofs.RunHeightLemmas.{names_are_free}
-use Rattle.interleaving.proofs.LeadLemmas.{follows_same, lead-quiet}
-use Rattle.interleaving.proofs.ClockLemmas.{IsFirst, front_quiet}
+use Rattle.interleaving.proofs.LeadLemmas.{follows_same, follows_from, lead-quiet}
+use Rattle.interleaving.proofs.FinishingLemmas.{credits_over}
+use Rattle.interleaving.proofs.ClockLemmas.{IsFirst, front_quiet, quiet-append}
 use Rattle.interleaving.proofs.EndLemmas.{has_end, end_pending, end_after}
 use Rattle.interleaving.proofs.ListScopeLemmas.{IsDistinct}
 use Rattle.interleaving.proofs.ListsSoundLemmas.{lists_are_sound}
 use Rattle.interleaving.proofs.FoldLemmas.{caught_out}
-use Rattle.interleaving.proofs.ClosingListLemmas.{closed_list, closes_follow}
-use Rattle.interleaving.proofs.WakeLemmas.{end_wakes}
-use Rattle.interleaving.proofs.FindallWakeLemmas.{findall_wakes}
+use Rattle.interleaving.proofs.ClosingListLemmas.{closed_list}
 use Rattle.interleaving.proofs.FrontCloseLemmas.{unspent_out}
 use Rattle.interleaving.proofs.FrontSoundLemmas.{ended_sound}
 use Rattle.interleaving.proofs.BaredLemmas.{bare_becomes}
 use Rattle.interleaving.proofs.PlacedNameLemmas.{bare}
 use Rattle.interleaving.proofs.FrontEntriesLemmas.{map-parts}
 use Rattle.interleaving.proofs.QueryLastLemmas.{RightsNone, rights_none, OnlyEnds, back_ends, ends_lead, ends_given, ends_settle}
-use Rattle.interleaving.proofs.QueryLastLemmas.{ends_erased, closes_lead}
+use Rattle.interleaving.proofs.QueryLastLemmas.{ends_erased, ends_quiet, closes_lead}
 use Rattle.interleaving.proofs.FrontStepLemmas.{front_asked, gate_moves}
 
 -- goals in a scope, by heights
@@ -155,17 +154,15 @@ module _ (t : TreeState) (w : ℕ) (a : Place) (s : Spot) (b : Option Term) (e :
         let sound_base : IsSound (pending_list (plug levels (Closed one))) = subst IsSound (sym base)
         (ended_sound (length s.level.left) s.level.number clauses levels s.level.spent 1 b back first.clear
         (subst IsSound old_list (lists_are_sound t i k))) in
-        let follows : Follows clauses (pending_list (plug levels (Closed one))) (pending_list new.root) = closes_follow clauses
-        (end_wakes clauses) (findall_wakes clauses) t.next levels one p.around distinct fresh caught.0 sound_base
-        (lists_are_sound new j r) in
         let m = scoped clauses in
-        let less : lead (pending_list new.root) ≤ lead (pending_list (plug levels (Closed one))) = closes_lead t.next levels one
-        p.around rights caught.0 in
+        let settled = closes_lead t.next levels one p.around first.clear rights caught.0 in
+        let less = settled.less in
         let quiet = front_quiet levels first.clear in
         let whole : lead (front ++ (Credit 1 [] ∷ back)) ≡ inferences front + (1 + lead back) = lead-quiet front (Credit 1 [] ∷ back)
         quiet in
         let count : lead (pending_list t.root) ≡ inferences front + s.level.spent = first.leads in
         let zero_back : lead back ≡ 0 = ends_lead back ends in
+        let none_spent = unspent in
         let is_base = ap lead base in
         gate_moves t new s answers i k running first (record {
           element = End own b;
@@ -179,7 +176,13 @@ module _ (t : TreeState) (w : ℕ) (a : Place) (s : Spot) (b : Option Term) (e :
           credit = 1;
           one = (let u = unspent in omega (arith, u));
           rest = back;
-          follows = subst (λ l. Follows clauses l (pending_list new.root)) base follows;
+          follows = record {
+            alike = λ n w x y. ap seen (credits_over clauses (front ++ (Credit 1 [] ∷ back)) n w
+                (quiet-append front (Credit 1 [] ∷ back) quiet (ends_quiet back ends)) (omega (arith, x, whole, count, zero_back, none_spent))
+                ∙ sym (credits_over clauses (pending_list new.root) n w settled.quiet
+                (omega (arith, x, less, whole, count, zero_back, none_spent, is_base))));
+            lead = λ x b l. settled.enough x b (omega (arith, is_base, l));
+          };
           alike = λ n. ap (λ l. seen (run m n (shared_of answers new) l))
               (sym (ap (free_steps m []) (ends_given clauses (records front) back ends) ∙ ends_settle clauses back ends));
           running = running;
@@ -221,7 +224,7 @@ module _ (t : TreeState) (w : ℕ) (a : Place) (s : Spot) (b : Option Term) (e :
           credit = s.level.spent + 1;
           one = refl;
           rest = inner ++ back;
-          follows = follows_same clauses _ _ (sym list);
+          follows = follows_from _ clauses _ _ (follows_same clauses _ _ (sym list));
           alike = λ n. free n (shared_of answers new)
               ∙ (sym (bares.alike n (shared_of answers new)) ∙ ap (λ l. seen (run m n (shared_of answers new) (free_steps m [] l)))
               (sym fixed));

@@ -40,10 +40,11 @@ clash h = let no_way : ⊥ = cc in absurd no_way
 
 -- an open place of a tree, and the tree where it closes
 pub closing_follows : (t : TreeState) (s : Spot) (c : Credit) → IsSoundTree t → IsCaughtTree t → IsOpenSpot t.root s
+    → under_query (way_of (levels_of s)) ≡ true
     → Reaches t.job.clauses (pending_list t.root) (pending_list (plug (levels_of s) (Closed c)))
     → IsSound (pending_list (closes t.next (levels_of s) c).root) → Follows t.job.clauses (pending_list t.root)
     (pending_list (closes t.next (levels_of s) c).root)
-closing_follows t s c i k o r j =
+closing_follows t s c i k o asked r j =
     let placed = placed_at t s i o in
     let distinct : IsDistinct (levels_of s) = λ m. subst (λ x. x ≤ 1) (count_at t s o m) (i.distinct m) in
     let fresh : count_around t.next (levels_of s) ≡ 0 = sym (count_at t s o t.next) ∙ i.fresh t.next (omega arith) in
@@ -52,7 +53,7 @@ closing_follows t s c i k o r j =
     follows_then t.job.clauses (pending_list t.root) (pending_list (plug (levels_of s) (Closed c)))
     (pending_list (closes t.next (levels_of s) c).root) r.follows
     (closes_follow t.job.clauses (end_wakes t.job.clauses) (findall_wakes t.job.clauses) t.next (levels_of s) c placed.around distinct
-    fresh caught.0 r.sound j)
+    fresh caught.0 asked r.sound j)
 
 -- an entry that takes a private step, or leaves nothing, is asked by a query
 abbrev pub IsAskedAt : Spot → Type 0
@@ -86,7 +87,7 @@ module _ (t : TreeState) (i : IsSoundTree t) (k : IsCaughtTree t) where
       → IsCaughtTree (noted (closed_with s c t) e) → ListFollows t (noted (closed_with s c t) e)
   closed_follows e s c o u r j q =
       list_follows t (noted (closed_with s c t) e) j refl refl refl
-      (closing_follows t s c i k o r (lists_are_sound (noted (closed_with s c t) e) j q))
+      (closing_follows t s c i k o u r (lists_are_sound (noted (closed_with s c t) e) j q))
       (λ x l. closes_end t.next (levels_of s) c (placed_at t s i o).around u)
 
   pub empty_follows : EmptyReaches → (w : ℕ) (a : Place) (n : ℕ) → IsSoundTree (after_event t (Empty w a n))

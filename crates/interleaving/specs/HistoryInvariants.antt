@@ -40,7 +40,7 @@ list_of t = left_by t.halted (pending_list t.root)
 
 -- as far as counts go, the run of the new list on the new world is seen like that of the old one from here on
 abbrev pub IsSeenFrom : List Clause → ℕ → Shared → List Element → Shared → List Element → Type 0
-IsSeenFrom clauses from v xs w ys = (n : ℕ) → from ≤ n → n < greatest
+IsSeenFrom clauses from v xs w ys = (n : ℕ) → from ≤ n → n ≤ greatest
     → seen (run (scoped clauses) n v (free_steps (scoped clauses) [] xs))
     ≡ seen (run (scoped clauses) n w (free_steps (scoped clauses) [] ys))
 

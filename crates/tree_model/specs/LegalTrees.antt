@@ -1,5 +1,5 @@
 -- What every legal tree keeps.
-use Rattle.std.specs.Prelude.{◌≡◌, ◌<◌, ℕ, true, List}
+use Rattle.std.specs.Prelude.{◌≡◌, ◌<◌, ◌≤◌, ℕ, true, List}
 use Rattle.run_model.specs.Programs.Jobs.{Job}
 use Rattle.tree_model.specs.Credits.{greatest}
 use Rattle.run_model.specs.Machine.Entries.{Entry}
@@ -28,7 +28,7 @@ EventsKeepTrees =
 
 abbrev pub HistoriesKeepTrees : Type 0
 HistoriesKeepTrees =
-    (job : Job) (budget window : ℕ) (es : List Event) → budget < greatest → IsLegalHistory job budget window es
+    (job : Job) (budget window : ℕ) (es : List Event) → budget ≤ greatest → IsLegalHistory job budget window es
     → IsLegalTree (tree_after job budget window es)
 
 -- who has an open entry is not seen in the list
