@@ -181,3 +181,6 @@ mod CutTakenLemmas
 mod CutTreeLemmas
 mod CutHeightLemmas
 mod OncePlaceLemmas
+mod NumberedPlaceLemmas
+mod NumberedRunLemmas
+mod NumberedEventLemmas

@@ -14,12 +14,14 @@ use Rattle.tree_model.specs.Histories.{tree_after, IsLegalHistory}
 use Rattle.tree_model.specs.SoundTrees.{IsOpen, profile, IsSoundTree}
 use Rattle.tree_model.specs.CaughtTrees.{IsCaughtTree}
 use Rattle.tree_model.specs.GivenAnswers.{answers_in, AreInOrder}
+use Rattle.tree_model.specs.NumberedTrees.{IsNumberedTree}
 
--- numbers, shapes and scopes; catch marks, results, ends of queries and what was spent; the order of answers
+-- numbers, shapes and scopes; catch marks, results, ends of queries and what was spent; the order of answers; variables
 pub record IsLegalTree (t : TreeState) : Type 0 where
   pub sound : IsSoundTree t
   pub caught : IsCaughtTree t
   pub ordered : AreInOrder t.root
+  pub numbered : IsNumberedTree t
 
 -- as long as its answers can be counted
 abbrev pub EventsKeepTrees : Type 0

@@ -19,6 +19,7 @@ pub mod Tables
 pub mod Ways
 pub mod SoundTrees
 pub mod CaughtTrees
+pub mod NumberedTrees
 pub mod GivenAnswers
 pub mod AnswersTold
 pub mod Elements

@@ -1,13 +1,11 @@
 -- What every legal tree keeps.
 use Rattle.std.specs.Prelude.{◌≡◌, ℕ, suc, ◌+◌, ◌≤◌, ◌==◌, Bool, true, false, List, [], ◌∷◌}
-use Rattle.au_model.specs.Terms.Each.{Each}
-use Rattle.run_model.specs.Laws.Numbering.{IsEntryNumbered}
 use Rattle.run_model.specs.Machine.Entries.{Entry, PlainEntry, CatchEntry, FindallEntry, EndEntry}
 use Rattle.tree_model.specs.Nodes.{Kind, ChoiceNode, CatchNode, FindallNode, QueryNode, Hold, Ready, TakenBy, Waiting, Dormant, Node}
 use Rattle.tree_model.specs.Nodes.{Numbered, Alternatives, none, alternative, Status, Pending, Inner, Closed}
 use Rattle.tree_model.specs.PendingLists.{Way}
 use Rattle.tree_model.specs.Ways.{is_on, same_kind, IsOnWay, IsHeldBy}
-use Rattle.tree_model.specs.TreeStates.{TreeState, pending}
+use Rattle.tree_model.specs.TreeStates.{TreeState}
 
 -- how often a number names a node
 abbrev pub one_if : Bool → ℕ
@@ -114,7 +112,3 @@ pub record IsSoundTree (t : TreeState) : Type 0 where
   -- numbers from the next one on name none
   pub fresh : (n : ℕ) → t.next ≤ n → count_below n t.root ≡ 0
   pub sound : IsSound [] t.root
-
--- the variables of each entry are below its next number
-abbrev pub IsNumberedTree : TreeState → Type 0
-IsNumberedTree t = Each (λ s. IsEntryNumbered s.entry) (pending t)
