@@ -9,6 +9,7 @@ pub mod Closing
 pub mod Pruning
 pub mod Shapes
 pub mod Events
+pub mod EventViews
 pub mod TreeStates
 pub mod Legality
 pub mod FrontGates
