@@ -3,7 +3,7 @@ use Rattle.std.proofs.Common.{◌≡◌, ℕ, zero, suc, Bool, true, false, cond
 use Rattle.std.proofs.Common.{◌∙◌, subst}
 use Rattle.std.specs.Option.{option_map}
 use Rattle.au_model.specs.Terms.Each.{Each}
-use Rattle.interleaving.specs.Machine.{Machine, Act, Vanishes, Wakes, Takes, Asks, Look, On, Here, Place, Put, Only, Seek, gives, freed}
+use Rattle.interleaving.specs.Machine.{Machine, Act, Vanishes, Wakes, Takes, Asks, Look, On, Here, Replacement, Put, Only, Seek, gives, freed}
 use Rattle.interleaving.specs.Machine.{free_steps}
 use Rattle.interleaving.specs.Segments.{IsActive, outer, found_in, search_in, placed_in, freed_alone, free_steps_alone, go_on}
 use Rattle.interleaving.specs.Segments.{taken_alone, front_alone, run_alone, Private, private_none, private_goes, private_stands}
@@ -88,7 +88,7 @@ module _ {W X Q R : Type 0} (m : Machine W X Q R) (inner : R → Bool) where
     front k ih first rs b [] e = none-some ((rs, b)) e
     front k ih first rs b (x ∷ xs) e = go (m.act x) refl e
       where
-        taken : (p : Place X Q) (ys : List X) → m.act x ≡ Takes p → placed_in m p xs ≡ Some ys → (o : Option (List R × List X))
+        taken : (p : Replacement X Q) (ys : List X) → m.act x ≡ Takes p → placed_in m p xs ≡ Some ys → (o : Option (List R × List X))
             → run_alone m inner passes k ys ≡ o → option_map (ahead first) o ≡ Some (rs, b) → Taken k (x ∷ xs) first rs b
         taken p ys f h None i e = none-some ((rs, b)) e
         taken p ys f h (Some t) i e =
@@ -102,7 +102,7 @@ module _ {W X Q R : Type 0} (m : Machine W X Q R) (inner : R → Bool) where
                   (subst (λ l. Private m inner k t.0 ys l) same_b (ih ys t.1 t.0 i));
             }
 
-        place : (p : Place X Q) → m.act x ≡ Takes p → (o : Option (List X)) → placed_in m p xs ≡ o
+        place : (p : Replacement X Q) → m.act x ≡ Takes p → (o : Option (List X)) → placed_in m p xs ≡ o
             → option_map (ahead first) (go_on m inner passes o (run_alone m inner passes k)) ≡ Some (rs, b)
             → Taken k (x ∷ xs) first rs b
         place p f None h e = none-some ((rs, b)) e
@@ -176,7 +176,7 @@ module _ {W X Q R : Type 0} (m : Machine W X Q R) (inner : R → Bool) where
         go (On p) ok e next = next p ok e
         go (Here ys) ok e next = subst (Each P) (some-same (ys ++ xs) b e) (each-append P ys xs ok h.1)
 
-    placed_in-ok : (p : Place X Q) (xs b : List X) → PlaceOk m P K G p → Each P xs → placed_in m p xs ≡ Some b → Each P b
+    placed_in-ok : (p : Replacement X Q) (xs b : List X) → PlaceOk m P K G p → Each P xs → placed_in m p xs ≡ Some b → Each P b
     placed_in-ok (Put ys) xs b k h e = subst (Each P) (some-same (ys ++ xs) b e) (each-append P ys xs k h)
     placed_in-ok (Only ys) xs b k h e = none-some b e
     placed_in-ok (Seek q) xs b k h e = search_in-ok q xs b k h e

@@ -17,7 +17,7 @@ use Rattle.tree_model.specs.FrontGates.{reply_taken, goal_at_front, removal_at_f
 use Rattle.tree_model.specs.Events.{Event, Answer}
 use Rattle.tree_model.specs.TreeStates.{TreeState, leftmost, ended}
 use Rattle.tree_model.specs.Legality.{is_spot_at, taken_at, gate_of, is_world_gate, at_spot, is_allowed}
-use Rattle.tree_model.specs.Effects.{stack_of, world_moved, where_some, after_event}
+use Rattle.tree_model.specs.Effects.{spot_stack, world_moved, where_some, after_event}
 use Rattle.tree_model.specs.SoundTrees.{IsSoundTree}
 use Rattle.run_model.specs.Programs.Databases.{Database, without_clause}
 use Rattle.tree_model.specs.AnswersTold.{answers_by, answers_at, answers_first, answers_next}
@@ -41,7 +41,7 @@ answered_is t w a s f e entry bare =
     let e_event : Event = Answer w a false in
     let heights = height_of (levels_of s) in
     let fh = renamed_continuation heights (λ n. heights n - 1) f in
-    ap (λ o. record (where_some o t (λ r. world_moved r (taken_at_front t.job.clauses (stack_of r) t.world) t))
+    ap (λ o. record (where_some o t (λ r. world_moved r (taken_at_front t.job.clauses (spot_stack r) t.world) t))
     { history = t.history ++ e_event ∷ [] }) e
     ∙ (ap (λ x. record (world_moved s (taken_at_front t.job.clauses (with_heights (levels_of s) x ∷ floor_of (levels_of s)) t.world) t)
     { history = t.history ++ e_event ∷ [] }) entry
@@ -83,7 +83,7 @@ halted_is t w a s f goal scope items k after e entry bare h =
     let marks : ℕ → ℕ = λ n. heights n - 1 in
     let fh = renamed_continuation heights marks f in
     let left = map (renamed_item heights marks) items in
-    ap (λ o. record (where_some o t (λ r. world_moved r (taken_at_front t.job.clauses (stack_of r) t.world) t))
+    ap (λ o. record (where_some o t (λ r. world_moved r (taken_at_front t.job.clauses (spot_stack r) t.world) t))
     { history = t.history ++ e_event ∷ [] }) e
     ∙ (ap (λ x. record (world_moved s (taken_at_front t.job.clauses (with_heights (levels_of s) x ∷ floor_of (levels_of s)) t.world) t)
     { history = t.history ++ e_event ∷ [] }) entry

@@ -22,7 +22,7 @@ use Rattle.tree_model.specs.Events.{Event, Claim, Nodes, Empty, Collected, Lost,
 use Rattle.tree_model.specs.TreeStates.{TreeState, leftmost}
 use Rattle.tree_model.specs.Legality.{claimable, resumable, taken_at, gate_of, run_of, is_world_gate, is_spot_at, at_spot, may_prune}
 use Rattle.tree_model.specs.Legality.{is_legal}
-use Rattle.tree_model.specs.Effects.{spending, closed_with, or_none, gate_pruned, front_taken, stack_of, world_moved, run_placed}
+use Rattle.tree_model.specs.Effects.{spending, closed_with, or_none, gate_pruned, front_taken, spot_stack, world_moved, run_placed}
 use Rattle.tree_model.specs.Effects.{results_of, gate_or_frozen, with_status, where_some, after_event}
 use Rattle.tree_model.specs.PendingLists.{way_of}
 use Rattle.tree_model.specs.Ways.{AreScoped, under_query, IsAsked, IsOnWay}
@@ -187,7 +187,7 @@ module _ (t : TreeState) (i : IsSoundTree t) (q : IsCaughtTree t) (order : AreIn
   answers_kept (Stop w) l = none_more t.root _ (order, refl)
   answers_kept (Prune w a) l =
       let parts = legal_parts t (Prune w a) l in
-      somewhere (taken_at w a t) (λ s. gate_pruned s (gate_of t s) (or_none (taken_alone t.job.clauses (stack_of s))) t)
+      somewhere (taken_at w a t) (λ s. gate_pruned s (gate_of t s) (or_none (taken_alone t.job.clauses (spot_stack s))) t)
       (λ s e. taken_at_open w a t s e)
       (λ s o e. let at = known_at w a t s i e in let running = (going t parts.0).halted in prune_kept s o at running s.entry refl
       at.placed.entry.0 (caught_down (levels_of s) (Pending s.hold s.entry) (root_at t s q running o).caught)
@@ -197,7 +197,7 @@ module _ (t : TreeState) (i : IsSoundTree t) (q : IsCaughtTree t) (order : AreIn
       (going t (legal_parts t (Answer w a false) l).0).halted
     where
       go : (x : Option Spot) → taken_at w a t ≡ x → at_spot x (λ s. is_world_gate (gate_of t s) && is_spot_at a (leftmost t)) ≡ true
-          → t.halted ≡ None → IsOrdered (where_some x t (λ s. world_moved s (taken_at_front t.job.clauses (stack_of s) t.world) t)).root
+          → t.halted ≡ None → IsOrdered (where_some x t (λ s. world_moved s (taken_at_front t.job.clauses (spot_stack s) t.world) t)).root
           (answers_in t.root + answers_first t (leftmost t))
       go None e x running = clash x
       go (Some s) e x running =
@@ -207,8 +207,8 @@ module _ (t : TreeState) (i : IsSoundTree t) (q : IsCaughtTree t) (order : AreIn
           let known = leftmost_known t i s first in
           let root = root_at t s q running o in
           let moved = stack_moved s (placed_at t s i o).around known.clear root (order_at s o) (few_at s o)
-          (record t { world = (taken_at_front t.job.clauses (stack_of s) t.world).0 }) t.job.clauses s.entry t.world
+          (record t { world = (taken_at_front t.job.clauses (spot_stack s) t.world).0 }) t.job.clauses s.entry t.world
           at.placed.entry.0 (caught_down (levels_of s) (Pending s.hold s.entry) root.caught) in
-          subst (λ y. IsOrdered (world_moved s (taken_at_front t.job.clauses (stack_of s) t.world) t).root
+          subst (λ y. IsOrdered (world_moved s (taken_at_front t.job.clauses (spot_stack s) t.world) t).root
           (answers_in t.root + answers_first t y)) (sym first)
-          (at_root s o (world_moved s (taken_at_front t.job.clauses (stack_of s) t.world) t).root (answers_at t s) moved)
+          (at_root s o (world_moved s (taken_at_front t.job.clauses (spot_stack s) t.world) t).root (answers_at t s) moved)

@@ -15,7 +15,7 @@ use Rattle.tree_model.specs.SoundTrees.{IsOpen}
 use Rattle.tree_model.specs.CaughtTrees.{catch_right}
 use Rattle.tree_model.specs.Elements.{Name, same, Record, Element, Credit, Plain, EndOf, Catch, Findall, End}
 use Rattle.interleaving.specs.Machine.{Machine, Look, On, Here, gives, looked, search_for}
-use Rattle.interleaving.specs.Scopes.{Shared, Sought, Scope, Thrown, Caught, look, recovered, scoped}
+use Rattle.interleaving.specs.Scopes.{Shared, Sought, Scope, Thrown, Caught, look, recovery_look, scoped}
 use Rattle.interleaving.specs.Segments.{found_in, search_in}
 use Rattle.interleaving.proofs.ContextLemmas.{IsAround}
 use Rattle.interleaving.proofs.WayLemmas.{cond-true, cond-false, same_self}
@@ -66,7 +66,7 @@ module _ (clauses : List Clause) where
           ∙ (ap (λ l. search_in m (Thrown ball (Some (0 ∷ v.number ∷ [])) o) (map (gives m rs) (l ++ to_side clauses v rest x2 t g zs)))
           (cond-true (v.number == v.number) [] _ (same_self v.number))
           ∙ (to_catch clauses ball x2 t o rs v rest g zs
-          ∙ ap (λ c. found_in m (recovered c ball t (1 ∷ v.number ∷ []) (0 ∷ 1 ∷ v.number ∷ [])
+          ∙ ap (λ c. found_in m (recovery_look c ball t (1 ∷ v.number ∷ []) (0 ∷ 1 ∷ v.number ∷ [])
           (named_continuation (second_step v ∷ way_of rest) g)
           (Thrown ball (mark_name (second_step v ∷ way_of rest) (first_mark g.items)) o)) (λ p. search_in m p (map (gives m rs) zs))
           (map (gives m rs) zs)) un2))
@@ -87,7 +87,7 @@ module _ (clauses : List Clause) where
       (map (gives m rs) (lower_back w.number (v ∷ rest) ++ to_side clauses w up x r f zs))) itself
       ∙ (ap (λ l. search_in m (Thrown ball (Some (0 ∷ v.number ∷ [])) o) (map (gives m rs) l)) list
       ∙ (to_catch clauses ball y t o rs v rest g (EndOf (1 ∷ v.number ∷ []) ∷ tail)
-      ∙ (ap (λ c. found_in m (recovered c ball t (1 ∷ v.number ∷ []) (0 ∷ 1 ∷ v.number ∷ [])
+      ∙ (ap (λ c. found_in m (recovery_look c ball t (1 ∷ v.number ∷ []) (0 ∷ 1 ∷ v.number ∷ [])
       (named_continuation (second_step v ∷ way_of rest) g) (Thrown ball (mark_name (second_step v ∷ way_of rest) mark) o))
       (λ p. search_in m p (map (gives m rs) (EndOf (1 ∷ v.number ∷ []) ∷ tail)))
       (map (gives m rs) (EndOf (1 ∷ v.number ∷ []) ∷ tail))) n
@@ -148,7 +148,7 @@ module _ (clauses : List Clause) where
   either_look b o false x y h k = k
 
   recovered_look : (b : Term) (o : Name) (s : Option Substitution) (c r : Term) (u p : Name) (f : Continuation Name) (q : Sought)
-      → IsBallOf b o q → LooksOf b o (recovered s c r u p f q)
+      → IsBallOf b o q → LooksOf b o (recovery_look s c r u p f q)
   recovered_look b o None c r u p f q h = h
   recovered_look b o (Some s) c r u p f q h = tt
 
@@ -170,7 +170,7 @@ module _ (clauses : List Clause) where
   look_of b o (Caught c h p) (Plain n f) k = k
   look_of b o (Caught c h p) (EndOf s) k = k
   look_of b o (Caught c h p) (Catch s u y r n f) k =
-      either_look b o (same h s) (recovered (unifier ((y, copied c f.next) ∷ [])) c r u n f (Thrown c (first_mark f.items) p))
+      either_look b o (same h s) (recovery_look (unifier ((y, copied c f.next) ∷ [])) c r u n f (Thrown c (first_mark f.items) p))
       (On (Caught c h p)) (recovered_look b o (unifier ((y, copied c f.next) ∷ [])) c r u n f (Thrown c (first_mark f.items) p) k) k
   look_of b o (Caught c h p) (Findall s u rs l n f) k = k
   look_of b o (Caught c h p) (End n a) k = k
@@ -232,7 +232,7 @@ module _ (clauses : List Clause) where
           ap (λ j. search_in m (Thrown ball (Some j) o) (map (gives m rs) (back_of (v ∷ rest)))) itself
           ∙ (ap (λ l. search_in m (Thrown ball (Some (0 ∷ v.number ∷ [])) o) (map (gives m rs) l)) list
           ∙ (to_catch clauses ball y t o rs v rest g (EndOf (1 ∷ v.number ∷ []) ∷ back_of rest)
-          ∙ (ap (λ x. found_in m (recovered x ball t (1 ∷ v.number ∷ []) (0 ∷ 1 ∷ v.number ∷ [])
+          ∙ (ap (λ x. found_in m (recovery_look x ball t (1 ∷ v.number ∷ []) (0 ∷ 1 ∷ v.number ∷ [])
           (named_continuation (second_step v ∷ way_of rest) g) (Thrown ball (mark_name (second_step v ∷ way_of rest) mark) o))
           (λ p. search_in m p (map (gives m rs) (EndOf (1 ∷ v.number ∷ []) ∷ back_of rest)))
           (map (gives m rs) (EndOf (1 ∷ v.number ∷ []) ∷ back_of rest))) n

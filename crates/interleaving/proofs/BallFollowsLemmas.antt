@@ -27,7 +27,7 @@ use Rattle.interleaving.specs.Quiet.{inferences, records}
 use Rattle.interleaving.specs.Roots.{rooted}
 use Rattle.interleaving.specs.Views.{IsBlind, IsInner, IsUnder, IsRecordApart}
 use Rattle.interleaving.specs.Laws.{is_inner_record, IsSegment}
-use Rattle.interleaving.specs.Erased.{count, erased}
+use Rattle.interleaving.specs.Erased.{element_count, erased}
 use Rattle.interleaving.specs.Follows.{lead}
 use Rattle.interleaving.proofs.ContextLemmas.{IsAround, count_around}
 use Rattle.interleaving.proofs.WayLemmas.{same_self, cond-false}
@@ -68,7 +68,7 @@ use Rattle.interleaving.proofs.GatePrivateLemmas.{gate_private}
 clash : {A : Type 0} → false ≡ true → A
 clash h = let no_way : ⊥ = cc in absurd no_way
 
-pub some_count : (xs ys : List Element) → 0 < count ys → 0 < count (xs ++ ys)
+pub some_count : (xs ys : List Element) → 0 < element_count ys → 0 < element_count (xs ++ ys)
 some_count [] ys h = h
 some_count (Credit k rs ∷ xs) ys h = let i = some_count xs ys h in omega (arith, i)
 some_count (Plain p f ∷ xs) ys h = let i = some_count xs ys h in omega (arith, i)

@@ -14,9 +14,9 @@ use Rattle.run_model.specs.Machine.Items.{before, first_mark}
 use Rattle.run_model.specs.Machine.Entries.{PlainEntry, CatchEntry}
 use Rattle.interleaving.specs.Machine.{On, looked, search_for}
 use Rattle.tree_model.specs.Elements.{Name, same, Record, Element, Credit, Plain, EndOf, Catch, Findall, End}
-use Rattle.interleaving.specs.Scopes.{Sought, Thrown, Caught, recovered, scoped}
+use Rattle.interleaving.specs.Scopes.{Sought, Thrown, Caught, recovery_look, scoped}
 use Rattle.interleaving.specs.HeightMachine.{HeightElement, HeightEntry, held_recovered, held_landing}
-use Rattle.interleaving.specs.Erased.{from, count, height, with_height, with_heights, erased}
+use Rattle.interleaving.specs.Erased.{from, element_count, height, with_height, continuation_heights, erased}
 use Rattle.interleaving.specs.Sound.{names, IsGuarded, IsMarkSound, IsRightUnder, IsSound}
 use Rattle.interleaving.proofs.NamingLemmas.{same-itself, resolved-heights, goals-heights, length-erased, height-le, sames}
 
@@ -50,8 +50,8 @@ differ a b h = go (a == b) refl
     go true e = let same_number = eqb-true a b e in absurd (omega (arith, h, same_number))
     go false e = refl
 
-guarded-low : (xs : List Element) (s : Name) → IsGuarded xs s → suc (height xs s - 1) ≤ count xs
-guarded-low xs s h = let e : height xs s ≡ suc (count h.under) = ap count h.found in omega (arith, e, height-le xs s)
+guarded-low : (xs : List Element) (s : Name) → IsGuarded xs s → suc (height xs s - 1) ≤ element_count xs
+guarded-low xs s h = let e : height xs s ≡ suc (element_count h.under) = ap element_count h.found in omega (arith, e, height-le xs s)
 
 module _ (clauses : List Clause) (b : Term) (o : Name) where
   abbrev search : Sought → List Element → List Element
@@ -59,12 +59,12 @@ module _ (clauses : List Clause) (b : Term) (o : Name) where
 
   recover-held : (t : Option Substitution) (r : Term) (u p : Name) (f : Continuation Name) (q : Sought) (xs : List Element)
       (further : List HeightElement) → IsRightUnder xs u → erased (search q xs) ≡ further
-      → erased (looked (scoped clauses) (recovered t b r u p f q) (λ a. search_for (scoped clauses) a xs) xs)
-      ≡ held_recovered t b r (with_heights (height xs) f) (erased xs) further
+      → erased (looked (scoped clauses) (recovery_look t b r u p f q) (λ a. search_for (scoped clauses) a xs) xs)
+      ≡ held_recovered t b r (continuation_heights (height xs) f) (erased xs) further
   recover-held None r u p f q xs further h k = k
   recover-held (Some s) r u p f q xs further h k =
       let g : Continuation Name = before (GoalItem (call_of r) u ∷ []) f in
-      let one : with_heights (height xs) g ≡ before (GoalItem (call_of r) (length (erased xs)) ∷ []) (with_heights (height xs) f) =
+      let one : continuation_heights (height xs) g ≡ before (GoalItem (call_of r) (length (erased xs)) ∷ []) (continuation_heights (height xs) f) =
       goals-heights (height xs) (height xs) u (length (erased xs)) (call_of r ∷ []) f (h ∙ sym (length-erased xs))
       (sames (height xs) (names f.items)) in
       ap (λ k. HeightEntry (PlainEntry k) ∷ erased xs) (resolved-heights (height xs) s (with_next (f.next + copy_takes b) g)
@@ -74,7 +74,7 @@ module _ (clauses : List Clause) (b : Term) (o : Name) where
   Lands xs = ((mark : Option Name) → IsSound xs → IsMarkGuarded xs mark → erased (search_for (scoped clauses) (Thrown b mark o) xs)
       ≡ held_landing b (mark_height xs mark) (erased xs))
       × ((s u : Name) (c r : Term) (p : Name) (f : Continuation Name) (t : List Element) → IsSound xs → xs ≡ Catch s u c r p f ∷ t
-      → erased (search_for (scoped clauses) (Caught b s o) xs) ≡ held_landing b (Some (count xs - 1)) (erased xs))
+      → erased (search_for (scoped clauses) (Caught b s o) xs) ≡ held_landing b (Some (element_count xs - 1)) (erased xs))
 
   lands-end : (e : Name) (xs : List Element) → Lands xs → (mark : Option Name) → IsSound xs → IsMarkGuarded (EndOf e ∷ xs) mark
       → erased (search (Thrown b mark o) (EndOf e ∷ xs)) ≡ held_landing b (mark_height (EndOf e ∷ xs) mark) (erased xs)
@@ -83,7 +83,7 @@ module _ (clauses : List Clause) (b : Term) (o : Name) where
     where
       go : (t : Bool) → cond t (EndOf e ∷ xs) (from xs s) ≡ EndOf s ∷ Catch s m.scope m.catcher m.recovery m.name m.after ∷ m.under
           → erased (looked (scoped clauses) (cond t (On (Caught b s o)) (On (Thrown b (Some s) o)))
-          (λ q. search_for (scoped clauses) q xs) xs) ≡ held_landing b (Some (count (cond t (EndOf e ∷ xs) (from xs s)) - 1))
+          (λ q. search_for (scoped clauses) q xs) xs) ≡ held_landing b (Some (element_count (cond t (EndOf e ∷ xs) (from xs s)) - 1))
           (erased xs)
       go true k = let same_tail : xs ≡ Catch s m.scope m.catcher m.recovery m.name m.after ∷ m.under = cc in h.1 s m.scope m.catcher
           m.recovery m.name m.after m.under i same_tail
@@ -98,30 +98,30 @@ module _ (clauses : List Clause) (b : Term) (o : Name) where
 
   lands-catch : (e u : Name) (c r : Term) (p : Name) (f : Continuation Name) (xs : List Element) → Lands xs → (mark : Option Name)
       → IsSound xs → IsMarkGuarded xs mark → erased (search (Thrown b mark o) xs)
-      ≡ held_landing b (mark_height xs mark) (HeightEntry (CatchEntry c r (with_heights (height xs) f)) ∷ erased xs)
+      ≡ held_landing b (mark_height xs mark) (HeightEntry (CatchEntry c r (continuation_heights (height xs) f)) ∷ erased xs)
   lands-catch e u c r p f xs h None i m = h.0 None i tt
   lands-catch e u c r p f xs h (Some s) i m =
       let far : (height xs s - 1 == length (erased xs)) ≡ false = differ (height xs s - 1) (length (erased xs))
       (omega (arith, length-erased xs, guarded-low xs s m)) in
-      h.0 (Some s) i m ∙ sym (lands-by c c r (with_heights (height xs) f) (erased xs) (height xs s - 1) far)
+      h.0 (Some s) i m ∙ sym (lands-by c c r (continuation_heights (height xs) f) (erased xs) (height xs s - 1) far)
 
   lands-there : (e u : Name) (c r : Term) (p : Name) (f : Continuation Name) (xs : List Element) → Lands xs → (s : Name) → s ≡ e
       → IsSound (Catch e u c r p f ∷ xs) → erased (search (Caught b s o) (Catch e u c r p f ∷ xs))
-      ≡ held_landing b (Some (suc (count xs) - 1)) (HeightEntry (CatchEntry c r (with_heights (height xs) f)) ∷ erased xs)
+      ≡ held_landing b (Some (suc (element_count xs) - 1)) (HeightEntry (CatchEntry c r (continuation_heights (height xs) f)) ∷ erased xs)
   lands-there e u c r p f xs h s is i =
-      let g : Continuation ℕ = with_heights (height xs) f in
+      let g : Continuation ℕ = continuation_heights (height xs) f in
       let n : ℕ = length (erased xs) in
-      let near : (suc (count xs) - 1 == n) ≡ true = eq-eqb (suc (count xs) - 1) n (omega (arith, length-erased xs)) in
+      let near : (suc (element_count xs) - 1 == n) ≡ true = eq-eqb (suc (element_count xs) - 1) n (omega (arith, length-erased xs)) in
       let itself : same s e ≡ true = subst (λ o. same s o ≡ true) is (same-itself s) in
       let take : Option Substitution = unifier ((c, copied b f.next) ∷ []) in
       let next : Sought = Thrown b (first_mark f.items) o in
       let on : erased (search next xs) ≡ held_landing b (first_mark g.items) (erased xs) = h.0 (first_mark f.items) i.2
       (mark-guarded xs f.items i.0.marks) ∙ ap (λ k. held_landing b k (erased xs)) (sym (mark-heights xs f.items)) in
-      ap (λ t. erased (looked (scoped clauses) (cond t (recovered take b r u p f next) (On (Caught b s o)))
+      ap (λ t. erased (looked (scoped clauses) (cond t (recovery_look take b r u p f next) (On (Caught b s o)))
       (λ q. search_for (scoped clauses) q xs) xs)) itself
       ∙ recover-held take r u p f next xs (held_landing b (first_mark g.items) (erased xs)) i.1 on
       ∙ sym (ap (λ t. held_recovered (cond t take None) b r g (erased xs)
-      (held_landing b (cond t (first_mark g.items) (Some (suc (count xs) - 1))) (erased xs))) near)
+      (held_landing b (cond t (first_mark g.items) (Some (suc (element_count xs) - 1))) (erased xs))) near)
 
   no_catch : {A : Type 0} → (x : Element) (xs t : List Element) (s u : Name) (c r : Term) (p : Name) (f : Continuation Name)
       → (x ≡ Catch s u c r p f → ⊥) → x ∷ xs ≡ Catch s u c r p f ∷ t → A

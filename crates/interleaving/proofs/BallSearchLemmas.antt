@@ -18,7 +18,7 @@ use Rattle.tree_model.specs.Ways.{is_on}
 use Rattle.tree_model.specs.SoundTrees.{count_among, one_if, IsOpen}
 use Rattle.tree_model.specs.Elements.{Name, same, Record, Element, Credit, Plain, EndOf, Catch, Findall, End}
 use Rattle.interleaving.specs.Machine.{Machine, On, Here, gives}
-use Rattle.interleaving.specs.Scopes.{Shared, Sought, Scope, Thrown, Caught, look, give, with_result, recovered, scoped}
+use Rattle.interleaving.specs.Scopes.{Shared, Sought, Scope, Thrown, Caught, look, give, findall_with_result, recovery_look, scoped}
 use Rattle.interleaving.specs.Segments.{found_in, search_in}
 use Rattle.interleaving.proofs.ContextLemmas.{IsAround, count_left, count_around}
 use Rattle.interleaving.proofs.WayLemmas.{cond-false, other_number, unlike}
@@ -81,7 +81,7 @@ module _ (clauses : List Clause) where
   look_give q r (End p b) = refl
   look_give q r (Findall s u rs l p f) = go (same r.0 s) ∙ sym (look_findall q s u rs l p f)
     where
-      go : (t : Bool) → look q (cond t (with_result r.1 s u rs l p f) (Findall s u rs l p f)) ≡ On q
+      go : (t : Bool) → look q (cond t (findall_with_result r.1 s u rs l p f) (Findall s u rs l p f)) ≡ On q
       go true = look_findall q s u _ l p _
       go false = look_findall q s u rs l p f
 
@@ -143,7 +143,7 @@ module _ (clauses : List Clause) where
   -- at the end of a goal side, and at its catch
   pub to_catch : (b x r : Term) (o : Name) (rs : List Record) (v : Level) (up : List Level) (f : Continuation ℕ) (zs : List Element)
       → search_in m (Thrown b (Some (0 ∷ v.number ∷ [])) o) (map (gives m rs) (EndOf (0 ∷ v.number ∷ []) ∷ (catch_element v up x r f ∷ zs)))
-      ≡ found_in m (recovered (unifier ((x, copied b f.next) ∷ [])) b r (1 ∷ v.number ∷ []) (0 ∷ 1 ∷ v.number ∷ [])
+      ≡ found_in m (recovery_look (unifier ((x, copied b f.next) ∷ [])) b r (1 ∷ v.number ∷ []) (0 ∷ 1 ∷ v.number ∷ [])
       (named_continuation (second_step v ∷ way_of up) f)
       (Thrown b (mark_name (second_step v ∷ way_of up) (first_mark f.items)) o)) (λ p. search_in m p (map (gives m rs) zs))
       (map (gives m rs) zs)
@@ -156,10 +156,10 @@ module _ (clauses : List Clause) where
       ∙ (ap (λ t. found_in m (cond t (On (Caught b h o)) (On (Thrown b (Some h) o))) (λ p. search_in m p (map (gives m rs) (c ∷ zs)))
       (map (gives m rs) (c ∷ zs))) (same-itself h)
       ∙ (next_in (Caught b h o) rs c zs
-      ∙ (ap (λ t. found_in m (cond t (recovered take b r (1 ∷ v.number ∷ []) (0 ∷ 1 ∷ v.number ∷ []) g
+      ∙ (ap (λ t. found_in m (cond t (recovery_look take b r (1 ∷ v.number ∷ []) (0 ∷ 1 ∷ v.number ∷ []) g
       (Thrown b (first_mark g.items) o)) (On (Caught b h o))) (λ p. search_in m p (map (gives m rs) zs)) (map (gives m rs) zs))
       (same-itself h)
-      ∙ ap (λ k. found_in m (recovered take b r (1 ∷ v.number ∷ []) (0 ∷ 1 ∷ v.number ∷ []) g (Thrown b k o))
+      ∙ ap (λ k. found_in m (recovery_look take b r (1 ∷ v.number ∷ []) (0 ∷ 1 ∷ v.number ∷ []) g (Thrown b k o))
       (λ p. search_in m p (map (gives m rs) zs)) (map (gives m rs) zs)) (first_name (second_step v ∷ way_of up) f.items))))
 
   -- the end of a recovery's alternative

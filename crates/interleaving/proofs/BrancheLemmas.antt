@@ -3,7 +3,7 @@ use Rattle.std.proofs.Common.{◌≡◌, ℕ, suc, ◌==◌, Bool, true, false, 
 use Rattle.std.proofs.Common.{subst, arith}
 use Rattle.tree_model.specs.Elements.{Name}
 use Rattle.interleaving.specs.Erased.{from}
-use Rattle.interleaving.specs.Sound.{IsOlder}
+use Rattle.interleaving.specs.Sound.{IsMadeElsewhere}
 use Rattle.tree_model.specs.Levels.{Level}
 use Rattle.tree_model.specs.PendingLists.{Way, way_of, step_of, step_name, scope_on, back_of}
 use Rattle.tree_model.specs.Ways.{is_on, way_from, way_above}
@@ -150,5 +150,5 @@ above_in_from (a ∷ way) h r o = go (a.node == h) (above_in_from way h r) o
     go false f k = f k
 
 -- a name of two numbers was not made by an entry of three
-pub pair_older : (p : Name) → length p ≡ 3 → (k m : ℕ) → IsOlder p (k ∷ m ∷ [])
+pub pair_older : (p : Name) → length p ≡ 3 → (k m : ℕ) → IsMadeElsewhere p (k ∷ m ∷ [])
 pair_older p l k m more e = absurd (omega (arith, l, length-append more p, ap length e))

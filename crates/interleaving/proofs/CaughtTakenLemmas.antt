@@ -26,7 +26,7 @@ use Rattle.tree_model.specs.Levels.{Place}
 use Rattle.tree_model.specs.TreeStates.{leftmost}
 use Rattle.tree_model.specs.Legality.{is_world_gate, is_spot_at, taken_at, gate_of, at_spot, is_legal, run_of, run_is_empty}
 use Rattle.tree_model.specs.Legality.{run_gives_result}
-use Rattle.tree_model.specs.Effects.{stack_of, where_some, after_event, results_of}
+use Rattle.tree_model.specs.Effects.{spot_stack, where_some, after_event, results_of}
 use Rattle.tree_model.specs.SoundTrees.{IsSoundTree}
 use Rattle.std.specs.Prelude.{◌&&◌}
 use Rattle.interleaving.proofs.CaughtFrontLemmas.{clash, stack_kept}
@@ -51,14 +51,14 @@ module _ (t : TreeState) (i : IsSoundTree t) (q : IsCaughtTree t) where
     where
       go : (o : Option Spot) → taken_at w a t ≡ o → at_spot o (λ s. may_prune (levels_of s) (gate_of t s)) ≡ true → t.halted ≡ None
           → IsCaughtTree (record (where_some o t
-          (λ s. gate_pruned s (gate_of t s) (or_none (taken_alone t.job.clauses (stack_of s))) t))
+          (λ s. gate_pruned s (gate_of t s) (or_none (taken_alone t.job.clauses (spot_stack s))) t))
           { history = t.history ++ Prune w a ∷ [] })
       go None e x running = clash x
       go (Some s) e x running =
           let at = known_at w a t s i e in
           let o = taken_at_open w a t s e in
           let root = root_at t s q running o in
-          same_caught (gate_pruned s (gate_of t s) (or_none (taken_alone t.job.clauses (stack_of s))) t) _ refl refl
+          same_caught (gate_pruned s (gate_of t s) (or_none (taken_alone t.job.clauses (spot_stack s))) t) _ refl refl
           (stack_pruned t s at (Pending s.hold s.entry) (λ sp others. open_right s.hold s.entry o.opened sp others) refl root
           t.job.clauses s.entry q at.placed.entry.0 (caught_down (levels_of s) (Pending s.hold s.entry) root.caught) x)
 
@@ -69,7 +69,7 @@ module _ (t : TreeState) (i : IsSoundTree t) (q : IsCaughtTree t) where
     where
       go : (o : Option Spot) → taken_at w a t ≡ o → at_spot o (λ s. is_world_gate (gate_of t s) && is_spot_at a (leftmost t)) ≡ true
           → t.halted ≡ None → IsCaughtTree
-          (record (where_some o t (λ s. world_moved s (taken_at_front t.job.clauses (stack_of s) t.world) t))
+          (record (where_some o t (λ s. world_moved s (taken_at_front t.job.clauses (spot_stack s) t.world) t))
           { history = t.history ++ Answer w a false ∷ [] })
       go None e x running = clash x
       go (Some s) e x running =
@@ -77,7 +77,7 @@ module _ (t : TreeState) (i : IsSoundTree t) (q : IsCaughtTree t) where
           let o = taken_at_open w a t s e in
           let root = root_at t s q running o in
           let known = leftmost_known t i s (taken_first t w a s i e (both_right (is_world_gate (gate_of t s)) _ x)) in
-          same_caught (world_moved s (taken_at_front t.job.clauses (stack_of s) t.world) t) _ refl refl
+          same_caught (world_moved s (taken_at_front t.job.clauses (spot_stack s) t.world) t) _ refl refl
           (stack_kept s o.opened known.clear root t
           (λ v. record {
             sound = record { distinct = i.distinct; fresh = i.fresh; sound = i.sound };

@@ -4,7 +4,7 @@ use Rattle.std.proofs.lemmas.Bool.{false≢true}
 use Rattle.au_model.specs.Terms.Each.{Each}
 use Rattle.run_model.specs.Programs.Clauses.{Clause}
 use Rattle.run_model.specs.Machine.Items.{Item, GoalItem, CatchMark, CollectMark, RemovalItem}
-use Rattle.interleaving.specs.Machine.{Machine, gives, free_steps, step, run, is_over, seen, Alike}
+use Rattle.interleaving.specs.Machine.{Machine, gives, free_steps, step, run, is_finished, seen, Alike}
 use Rattle.tree_model.specs.Elements.{Name, Record, Element, Credit, Plain, EndOf, Catch, Findall, End}
 use Rattle.interleaving.specs.Scopes.{Shared, Sought, scoped}
 use Rattle.interleaving.specs.Segments.{Private}
@@ -101,7 +101,7 @@ module _ (clauses : List Clause) where
 
   -- and credits of as many, where what is under them does not go
   pub as_many_credit : (j k : ℕ) (os rs : List Record) (n : ℕ) (w : Shared) (pre zs : List Element) → n ≤ j → n ≤ k
-      → ((us : List Record) → is_over (free_steps m us zs) ≡ false)
+      → ((us : List Record) → is_finished (free_steps m us zs) ≡ false)
       → seen (run m n w (free_steps m [] (pre ++ (Credit j os ∷ zs)))) ≡ seen (run m n w (free_steps m [] (pre ++ (Credit k rs ∷ zs))))
   as_many_credit j k os rs n w pre zs hj hk stays = as_many m (any_ground clauses) (IsBlind (λ s. false))
       (IsSoughtApart clauses (λ s. false)) (IsRecordApart (λ s. false)) (blind_closed clauses (λ s. false)) j k os rs n hj hk w pre zs

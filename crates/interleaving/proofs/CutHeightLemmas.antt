@@ -23,7 +23,7 @@ use Rattle.interleaving.specs.Roots.{rooted}
 use Rattle.interleaving.specs.Views.{IsBlind, IsInner}
 use Rattle.interleaving.specs.Laws.{is_inner_record}
 use Rattle.interleaving.specs.HeightMachine.{HeightEntry}
-use Rattle.interleaving.specs.Erased.{count, height, with_height, erased}
+use Rattle.interleaving.specs.Erased.{element_count, height, with_height, erased}
 use Rattle.interleaving.specs.Sound.{IsSound}
 use Rattle.interleaving.specs.Follows.{lead}
 use Rattle.interleaving.proofs.ContextLemmas.{count_around}
@@ -186,7 +186,7 @@ module _ (t : TreeState) (i : IsSoundTree t) (k : IsCaughtTree t) (running : t.h
       ) in
       let apart : rooted (is_free_of (w ∷ up)) (sc r) ≡ false = ap (rooted (is_free_of (w ∷ up))) name.1
       ∙ (upper_apart t i k running s o f entry n reach below items part all g same_named same_next clear) r name.0 some in
-      sym (ap (height new_rest) far ∙ ap count
+      sym (ap (height new_rest) far ∙ ap element_count
       (from-inner (rooted (is_free_of (w ∷ up))) (EndOf (0 ∷ t.next ∷ []) ∷ bare_list cut_away) rest (sc r) inner apart))
 
   entries_same : erased (Plain own after_cut ∷ rest) ≡ erased (short ++ rest)
@@ -271,10 +271,10 @@ module _ (t : TreeState) (i : IsSoundTree t) (k : IsCaughtTree t) (running : t.h
       ∙ lead-quiet xs (Plain own named
       ∷ (mid ++ (cut t i k running s o f entry n reach below items part all g same_named same_next clear).under)) quiet in
       let lead_new : lead (ones ++ (placed ++ last)) ≡ inferences ones + 0 = lead-quiet ones (placed ++ last) quiet_ones in
-      let count = (number_is t i k running s o f entry n reach below items part all g same_named same_next clear) in
+      let element_count = (number_is t i k running s o f entry n reach below items part all g same_named same_next clear) in
       let more = lead-grows front ((xs ++ (Plain own named ∷ mid))
       ++ (cut t i k running s o f entry n reach below items part all g same_named same_next clear).under) (ones ++ (placed ++ last))
-      (omega (arith, lead_old, lead_new, count)) in
+      (omega (arith, lead_old, lead_new, element_count)) in
       let all_leads : lead (pending_list t.root) ≤ lead (pending_list (cut_at s n (cut_entry ∷ es) t).root) =
       (let x = ap lead old in let y = ap lead (new ∙ append-assoc front ones (placed ++ last)) in omega (arith, x, y, more)) in
       record {

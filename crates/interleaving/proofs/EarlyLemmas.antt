@@ -1,8 +1,8 @@
 -- Work that a segment does by itself may be done early.
 use Rattle.std.proofs.Common.{◌≡◌, inl, inr, ℕ, zero, suc, false, List, [], ◌∷◌, ◌++◌, map, refl, sym, ap, ◌∙◌, subst}
 use Rattle.au_model.specs.Terms.Each.{Each}
-use Rattle.interleaving.specs.Machine.{Machine, Act, Vanishes, Wakes, Takes, Asks, On, Place, Put, gives, looked, search_for, placed}
-use Rattle.interleaving.specs.Machine.{freed, free_steps, acted, step, run, is_over, seen, Alike}
+use Rattle.interleaving.specs.Machine.{Machine, Act, Vanishes, Wakes, Takes, Asks, On, Replacement, Put, gives, looked, search_for, placed}
+use Rattle.interleaving.specs.Machine.{freed, free_steps, acted, step, run, is_finished, seen, Alike}
 use Rattle.interleaving.proofs.RunFrontLemmas.{append-assoc-at, maps-append, map-seam, map-none, settle-map, PlaceOk, ActOk, Closed}
 use Rattle.interleaving.proofs.RunFrontLemmas.{Unseen, gives-unseen, map-unseen, search-unseen, Freed, freed-found, placed-found}
 
@@ -31,7 +31,7 @@ module _ {W X Q R : Type 0} (m : Machine W X Q R) where
     abbrev pub Runs : ℕ → List R → List X → List X → Type 0
     Runs zero rs a b = (zs : List X) → Each g.Under zs → free_steps m [] (a ++ zs) ≡ free_steps m [] (b ++ map (gives m rs) zs)
     Runs (suc k) rs a b = (s : List X) × (first : List R) × (rest : List R) × rs
-        ≡ first ++ rest × ((zs : List X) → Each g.Under zs → is_over (free_steps m [] (a ++ zs)) ≡ false)
+        ≡ first ++ rest × ((zs : List X) → Each g.Under zs → is_finished (free_steps m [] (a ++ zs)) ≡ false)
         × ((w : W) (zs : List X) → Each g.Under zs → step m w (free_steps m [] (a ++ zs))
         ≡ (w, free_steps m [] (s ++ map (gives m first) zs))) × Runs k rest s b
 
@@ -96,7 +96,7 @@ module _ {W X Q R : Type 0} (m : Machine W X Q R) where
 
         module _ (n : ℕ) (next : (w : W) (pre zs : List X) → Each P pre → Each g.Under zs
             → Same n w (free_steps m [] (pre ++ (a ++ zs))) (free_steps m [] (pre ++ later zs))) where
-          placing : (w : W) (p : Place X Q) (new zs : List X) → PlaceOk m P K G p → Each P new → Each g.Under zs
+          placing : (w : W) (p : Replacement X Q) (new zs : List X) → PlaceOk m P K G p → Each P new → Each g.Under zs
               → Same n w (free_steps m [] (placed m p (new ++ (a ++ zs)))) (free_steps m [] (placed m p (new ++ later zs)))
           placing w p new zs ok h z = elim (placed-found m P K G c p new ok h) [
             | inl f ↦ ap (λ l. seen (run m n w (free_steps m [] l))) (f.2 (a ++ zs)) ∙ next w f.0 zs f.1 z

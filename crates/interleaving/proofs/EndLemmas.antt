@@ -14,7 +14,7 @@ use Rattle.tree_model.specs.PendingLists.{Way, way_of, element_on, list_among, l
 use Rattle.tree_model.specs.PendingLists.{back_of}
 use Rattle.tree_model.specs.Ways.{under_query, is_query, IsOnWay}
 use Rattle.tree_model.specs.SoundTrees.{IsOpen, profiles, is_shape, are_pair, IsSound, IsSoundTree}
-use Rattle.interleaving.specs.Machine.{Act, Vanishes, Wakes, Takes, Asks, gives, freed, free_steps, is_over}
+use Rattle.interleaving.specs.Machine.{Act, Vanishes, Wakes, Takes, Asks, gives, freed, free_steps, is_finished}
 use Rattle.interleaving.specs.Scopes.{Shared, Sought, scoped}
 use Rattle.interleaving.specs.Quiet.{IsQuiet, inferences, records}
 use Rattle.interleaving.specs.Readings.{has_ended}
@@ -75,17 +75,17 @@ end_past_quiet (Findall s u results list p f ∷ xs) ys q h = absurd q
 
 -- the free steps never pass the end of a query
 freed_stays : (clauses : List Clause) (a : Act Shared Element Sought Record) (y : Element) (go : List Record → List Element)
-    (ys : List Element) → ((new : List Record) → is_over (go new) ≡ false) → is_over (freed (scoped clauses) a y go ys) ≡ false
+    (ys : List Element) → ((new : List Record) → is_finished (go new) ≡ false) → is_finished (freed (scoped clauses) a y go ys) ≡ false
 freed_stays clauses (Vanishes new) y go ys h = h new
 freed_stays clauses (Wakes z) y go ys h = refl
 freed_stays clauses (Takes p) y go ys h = refl
 freed_stays clauses (Asks g) y go ys h = refl
 
 pub settles_before : (clauses : List Clause) (rs : List Record) (xs : List Element) → has_end xs ≡ true
-    → is_over (free_steps (scoped clauses) rs xs) ≡ false
+    → is_finished (free_steps (scoped clauses) rs xs) ≡ false
 settles_before clauses rs [] h = let no_way : ⊥ = cc in absurd no_way
 settles_before clauses rs (End p b ∷ xs) h = ap
-    (λ y. is_over (freed (scoped clauses) ((scoped clauses).act y) y (λ new. free_steps (scoped clauses) (rs ++ new) xs)
+    (λ y. is_finished (freed (scoped clauses) ((scoped clauses).act y) y (λ new. free_steps (scoped clauses) (rs ++ new) xs)
     (map (gives (scoped clauses) rs) xs))) (gives-fixed clauses rs (End p b) tt)
 settles_before clauses rs (Credit k qs ∷ xs) h = freed_stays clauses _ _ (λ new. free_steps (scoped clauses) (rs ++ new) xs) _
     (λ new. settles_before clauses (rs ++ new) xs h)
@@ -112,8 +112,8 @@ not_over clauses xs n w e l = go (nat_le (lead xs) n) refl
     passed : has_ended clauses w xs (inferences h.front) ≡ false
     passed =
         ap (λ ys. has_ended clauses w ys (inferences h.front)) h.joined
-        ∙ (ap (λ s. is_over s.1) (credits_pass clauses h.front h.rest w h.quiet).passed
-        ∙ (ap is_over (sym (settle-map (scoped clauses) (records h.front) h.rest)) ∙ settles_before clauses (records h.front) h.rest
+        ∙ (ap (λ s. is_finished s.1) (credits_pass clauses h.front h.rest w h.quiet).passed
+        ∙ (ap is_finished (sym (settle-map (scoped clauses) (records h.front) h.rest)) ∙ settles_before clauses (records h.front) h.rest
         rest_end))
 
     go : (b : Bool) → nat_le (lead xs) n ≡ b → has_ended clauses w xs n ≡ false

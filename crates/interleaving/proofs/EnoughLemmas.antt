@@ -1,8 +1,8 @@
 -- Credits of more inferences than are looked at are the same.
 use Rattle.std.proofs.Common.{◌≡◌, inl, inr, ℕ, zero, suc, ◌≤◌, false, List, [], ◌∷◌, ◌++◌, map, refl, sym, ap, ◌∙◌, arith}
 use Rattle.au_model.specs.Terms.Each.{Each}
-use Rattle.interleaving.specs.Machine.{Machine, Act, Vanishes, Wakes, Takes, Asks, Place, gives, looked, search_for, placed, free_steps}
-use Rattle.interleaving.specs.Machine.{acted, step, run, is_over, seen}
+use Rattle.interleaving.specs.Machine.{Machine, Act, Vanishes, Wakes, Takes, Asks, Replacement, gives, looked, search_for, placed, free_steps}
+use Rattle.interleaving.specs.Machine.{acted, step, run, is_finished, seen}
 use Rattle.interleaving.proofs.RunFrontLemmas.{settle-map, settle-given, PlaceOk, ActOk, Closed, gives-unseen, Freed, freed-found, placed-found}
 use Rattle.interleaving.proofs.EarlyLemmas.{Ground, last, next_front, next_step, credit-unseen}
 
@@ -27,7 +27,7 @@ module _ {W X Q R : Type 0} (m : Machine W X Q R) (g : Ground m) (P : X → Type
 
       module _ (n : ℕ) (next : (w : W) (pre zs ys : List X) → Each P pre → Agrees n w (free_steps m [] (pre ++ (g.credit j os ∷ zs)))
           (free_steps m [] (pre ++ (g.credit k rs ∷ zs)))) where
-        placing_big : (w : W) (p : Place X Q) (new zs : List X) → PlaceOk m P K G p → Each P new
+        placing_big : (w : W) (p : Replacement X Q) (new zs : List X) → PlaceOk m P K G p → Each P new
             → Agrees n w (free_steps m [] (placed m p (new ++ (g.credit j os ∷ zs))))
             (free_steps m [] (placed m p (new ++ (g.credit k rs ∷ zs))))
         placing_big w p new zs ok h = elim (placed-found m P K G c p new ok h) [
@@ -81,7 +81,7 @@ module _ {W X Q R : Type 0} (m : Machine W X Q R) (g : Ground m) (P : X → Type
       enough n hj hk w pre zs h = agree_big n hj hk (stepping_big n hj hk) w pre zs [] h
 
       -- as many inferences as a credit has, where what is under it does not go
-      whole_credit : (n : ℕ) (w : W) (i : ℕ) (us : List R) (zs : List X) → n ≤ i → is_over (free_steps m us zs) ≡ false
+      whole_credit : (n : ℕ) (w : W) (i : ℕ) (us : List R) (zs : List X) → n ≤ i → is_finished (free_steps m us zs) ≡ false
           → seen (run m n w (free_steps m [] (g.credit i us ∷ zs))) ≡ (w, false)
       whole_credit zero w zero us zs h e = ap (λ l. seen (w, l)) (last m g us zs ∙ sym (settle-map m us zs)) ∙ ap (λ b. (w, b)) e
       whole_credit zero w (suc i) us zs h e = ap (λ l. seen (w, l)) (next_front m g i us zs)
@@ -97,13 +97,13 @@ module _ {W X Q R : Type 0} (m : Machine W X Q R) (g : Ground m) (P : X → Type
           (c.acts x q) h
 
       pub as_many : (n : ℕ) → n ≤ j → n ≤ k → (w : W) (pre zs : List X) → Each P pre
-          → ((us : List R) → is_over (free_steps m us zs) ≡ false)
+          → ((us : List R) → is_finished (free_steps m us zs) ≡ false)
           → seen (run m n w (free_steps m [] (pre ++ (g.credit j os ∷ zs))))
           ≡ seen (run m n w (free_steps m [] (pre ++ (g.credit k rs ∷ zs))))
       as_many n hj hk w pre zs h stays = go (freed-found m P K G c [] pre tt h)
         where
-          given_stays : (qs us : List R) → is_over (free_steps m us (map (gives m qs) zs)) ≡ false
-          given_stays qs us = ap is_over (sym (settle-given m qs us zs)) ∙ stays (qs ++ us)
+          given_stays : (qs us : List R) → is_finished (free_steps m us (map (gives m qs) zs)) ≡ false
+          given_stays qs us = ap is_finished (sym (settle-given m qs us zs)) ∙ stays (qs ++ us)
 
           go : Freed m P K G [] pre → Agrees n w (free_steps m [] (pre ++ (g.credit j os ∷ zs)))
               (free_steps m [] (pre ++ (g.credit k rs ∷ zs)))

@@ -15,9 +15,9 @@ use Rattle.run_model.specs.Machine.Items.{Item, GoalItem, CatchMark, CollectMark
 use Rattle.run_model.specs.Machine.Items.{with_next, before, without_marks, first_mark}
 use Rattle.interleaving.specs.Machine.{Look, On, Here}
 use Rattle.tree_model.specs.Elements.{Name, same, Record, Element, Credit, Plain, EndOf, Catch, Findall, End}
-use Rattle.interleaving.specs.Scopes.{left_standing, Shared, Sought, Scope, Thrown, Caught, Does, Lands, unified, solution_entries}
-use Rattle.interleaving.specs.Scopes.{reply_place, test_items, control_place, goal_act, removed, unmarked, item_act, act, recovered, look}
-use Rattle.interleaving.specs.Scopes.{with_result, give, scoped}
+use Rattle.interleaving.specs.Scopes.{left_standing, Shared, Sought, Scope, Thrown, Caught, Does, ElementReplacement, unified_element, solution_elements}
+use Rattle.interleaving.specs.Scopes.{reply_place, named_test_items, control_place, goal_act, removed, unmarked, item_act, act, recovery_look, look}
+use Rattle.interleaving.specs.Scopes.{findall_with_result, give, scoped}
 use Rattle.interleaving.specs.Views.{IsApart, IsBeside}
 use Rattle.interleaving.proofs.RunFrontLemmas.{each-append, append-assoc-at, PlaceOk, ActOk, LookOk, Closed}
 
@@ -62,7 +62,7 @@ module _ (clauses : List Clause) (inside : Name → Bool) where
   IsSoughtFar (Thrown b mark o) = Unit {0}
   IsSoughtFar (Caught b h o) = Unit {0}
 
-  abbrev PlaceBlind : Lands → Type 0
+  abbrev PlaceBlind : ElementReplacement → Type 0
   PlaceBlind p = PlaceOk (scoped clauses) (IsFar inside) IsSoughtFar IsAnyRecord p
 
   abbrev ActBlind : Does → Type 0
@@ -86,16 +86,16 @@ module _ (clauses : List Clause) (inside : Name → Bool) where
   resolved-apart s (RemovalItem n ∷ items) h = (tt, resolved-apart s items h.1)
 
   unified-blind : (o : Option Substitution) (p : Name) (f : Continuation Name) → IsBeside inside p → Items f.items
-      → Each Blind (unified o p f)
+      → Each Blind (unified_element o p f)
   unified-blind None p f b i = tt
   unified-blind (Some s) p f b i = ((b, resolved-apart s f.items i), tt)
 
   solutions-blind : (n : ℕ) (p : Name) (f : Continuation Name) (ss : List Solution) → IsBeside inside p → Items f.items
-      → Each Blind (solution_entries n p f ss)
+      → Each Blind (solution_elements n p f ss)
   solutions-blind n p f [] b i = (tt, tt)
   solutions-blind n p f (s ∷ ss) b i =
       let one : Continuation Name = with_next (f.next + s.variables) (before (goals_at p s.goals) f) in
-      each-append Blind (unified (unifier s.equations) (n ∷ p) one) (solution_entries (suc n) p f ss)
+      each-append Blind (unified_element (unifier s.equations) (n ∷ p) one) (solution_elements (suc n) p f ss)
       (unified-blind (unifier s.equations) (n ∷ p) one (beside_child p n b) (goals-apart p s.goals f.items (b []) i))
       (solutions-blind (suc n) p f ss b i)
 
@@ -112,7 +112,7 @@ module _ (clauses : List Clause) (inside : Name → Bool) where
   control-blind (TestOf gs thens others) p h f b k i =
       ((beside_child p 0 b, test-apart gs), (tt, ((beside_child p 1 b, goals-apart h others f.items k i), (tt, tt))))
     where
-      test-apart : (gs : List Term) → Items (test_items (2 ∷ p) p h gs thens ++ f.items)
+      test-apart : (gs : List Term) → Items (named_test_items (2 ∷ p) p h gs thens ++ f.items)
       test-apart [] = (b [], goals-apart h thens f.items k i)
       test-apart (g ∷ gs) = (beside_child p 2 b [], test-apart gs)
   control-blind CutToScope p h f b k i = (k, (b, i))
@@ -169,7 +169,7 @@ module _ (clauses : List Clause) (inside : Name → Bool) where
   either_look false a b h k = k
 
   recovered-blind : (o : Option Substitution) (b r : Term) (u p : Name) (f : Continuation Name) (q : Sought) → Apart u
-      → IsBeside inside p → Items f.items → IsSoughtFar q → LookBlind (recovered o b r u p f q)
+      → IsBeside inside p → Items f.items → IsSoughtFar q → LookBlind (recovery_look o b r u p f q)
   recovered-blind None b r u p f q a h i k = k
   recovered-blind (Some s) b r u p f q a h i k = ((h, (a, resolved-apart s f.items i)), tt)
 
@@ -195,7 +195,7 @@ module _ (clauses : List Clause) (inside : Name → Bool) where
   look-blind (Caught b m o) (Catch s u c r p f) k h =
       let next : Sought = Thrown b (first_mark f.items) o in
       let take : Option Substitution = unifier ((c, copied b f.next) ∷ []) in
-      either_look (same m s) (recovered take b r u p f next) (On (Caught b m o)) (recovered-blind take b r u p f next h.0 h.1 h.2 tt) k
+      either_look (same m s) (recovery_look take b r u p f next) (On (Caught b m o)) (recovered-blind take b r u p f next h.0 h.1 h.2 tt) k
   look-blind (Caught b m o) (EndOf s) k h = k
   look-blind (Caught b m o) (Credit j rs) k h = k
   look-blind (Caught b m o) (Plain p f) k h = k
@@ -207,7 +207,7 @@ module _ (clauses : List Clause) (inside : Name → Bool) where
   either_blind false x y h k = k
 
   give-blind : (r : Record) (x : Element) → IsAnyRecord r → Blind x → Blind (give r x)
-  give-blind r (Findall s u results list p f) k b = either_blind (same r.0 s) (with_result r.1 s u results list p f)
+  give-blind r (Findall s u results list p f) k b = either_blind (same r.0 s) (findall_with_result r.1 s u results list p f)
       (Findall s u results list p f) b b
   give-blind r (Credit j rs) k b = b
   give-blind r (Plain p f) k b = b

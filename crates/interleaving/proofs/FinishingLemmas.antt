@@ -13,7 +13,7 @@ use Rattle.tree_model.specs.SoundTrees.{profiles, some_open, AreSound, IsSound}
 use Rattle.interleaving.specs.Machine.{free_steps, run}
 use Rattle.interleaving.specs.Scopes.{Shared, scoped}
 use Rattle.interleaving.specs.Quiet.{IsQuiet, inferences}
-use Rattle.interleaving.specs.Counted.{counted}
+use Rattle.interleaving.specs.Counted.{counted_steps}
 use Rattle.interleaving.specs.Follows.{lead}
 use Rattle.interleaving.proofs.ClockLemmas.{no_root}
 use Rattle.interleaving.proofs.LeadLemmas.{lead-quiet}
@@ -81,20 +81,20 @@ root_counts (Inner (Numbered n kind alts)) h p q b =
 
 -- flags that turn at a number
 pub counted_turn : (over : ℕ → Bool) (k : ℕ) → ((n : ℕ) → n < k → over n ≡ false) → (n : ℕ) → ((j : ℕ) → k ≤ j → j ≤ n → over j ≡ true)
-    → k ≤ n → counted over n ≡ k
+    → k ≤ n → counted_steps over n ≡ k
 counted_turn over k f n g l =
     let same : k + (n - k) ≡ n = omega (arith, l) in
-    sym (ap (counted over) same) ∙ high (n - k) (omega (arith, l))
+    sym (ap (counted_steps over) same) ∙ high (n - k) (omega (arith, l))
   where
-    low : (m : ℕ) → m ≤ k → counted over m ≡ m
+    low : (m : ℕ) → m ≤ k → counted_steps over m ≡ m
     low zero l = refl
     low (suc m) l = let h = low m (omega (arith, l)) in let turned : ◌≡◌ {A = ℕ} (cond (over m) 0 1) 1 = ap (λ b. cond b 0 1)
         (f m (omega (arith, l))) in omega (arith, h, turned)
 
-    high : (d : ℕ) → k + d ≤ n → counted over (k + d) ≡ k
-    high zero b = let same : k + zero ≡ k = omega arith in ap (counted over) same ∙ low k (omega arith)
+    high : (d : ℕ) → k + d ≤ n → counted_steps over (k + d) ≡ k
+    high zero b = let same : k + zero ≡ k = omega arith in ap (counted_steps over) same ∙ low k (omega arith)
     high (suc d) b =
         let same : k + suc d ≡ suc (k + d) = omega arith in
         let h = high d (omega (arith, b)) in
         let turned : ◌≡◌ {A = ℕ} (cond (over (k + d)) 0 1) 0 = ap (λ b. cond b 0 1) (g (k + d) (omega arith) (omega (arith, b))) in
-        ap (counted over) same ∙ (let z : counted over (k + d) + cond (over (k + d)) 0 1 ≡ k = omega (arith, h, turned) in z)
+        ap (counted_steps over) same ∙ (let z : counted_steps over (k + d) + cond (over (k + d)) 0 1 ≡ k = omega (arith, h, turned) in z)

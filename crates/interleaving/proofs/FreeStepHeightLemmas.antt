@@ -14,7 +14,7 @@ use Rattle.interleaving.specs.Scopes.{Shared, Sought, Does, unmarked, results_fi
 use Rattle.interleaving.specs.Segments.{IsActive}
 use Rattle.interleaving.specs.HeightMachine.{HeightElement, HeightEntry, held_collected_all, held_findall_ends, held_plain_free_step}
 use Rattle.interleaving.specs.HeightMachine.{held_free_steps_within, held_settle}
-use Rattle.interleaving.specs.Erased.{count, height, with_height, with_heights, record_height, erased}
+use Rattle.interleaving.specs.Erased.{element_count, height, with_height, continuation_heights, record_height, erased}
 use Rattle.interleaving.specs.Sound.{names, IsGathered, IsEntrySound, IsSound}
 use Rattle.interleaving.proofs.RunFrontLemmas.{map-none, settle-map}
 use Rattle.interleaving.proofs.NamingLemmas.{goals-heights, length-erased, sames, carried_rest}
@@ -87,7 +87,7 @@ module _ (clauses : List Clause) where
 
   plain-fine : (items : List (Item Name)) (p : Name) (f : Continuation Name) (xs : List Element) (j : ℕ) → Later xs j → IsSound xs
       → IsEntrySound p xs (names items) items → IsFine (plain_free (without_marks items) p f xs)
-      (held_plain_free_step (map (with_height (height xs)) (without_marks items)) (with_heights (height xs) f) (erased xs)
+      (held_plain_free_step (map (with_height (height xs)) (without_marks items)) (continuation_heights (height xs) f) (erased xs)
       (held_free_steps_within j))
   plain-fine [] p f xs j next i s = stays (Plain p (with_items [] f)) xs _ refl (s, i) tt
   plain-fine (GoalItem g h ∷ items) p f xs j next i s = stays (Plain p (with_items (GoalItem g h ∷ items) f)) xs _ refl (s, i)
@@ -98,8 +98,8 @@ module _ (clauses : List Clause) where
   plain-fine (RemovalItem n ∷ items) p f xs j next i s = stays (Plain p (with_items (RemovalItem n ∷ items) f)) xs _ refl (s, i) tt
 
   later : (xs : List Element) (j : ℕ)
-      → ((ys : List Element) → length ys ≤ length xs → IsSound ys → count ys ≤ j
-      → IsFine (free_steps m [] ys) (held_free_steps_within j (erased ys))) → IsSound xs → count xs ≤ j → Later xs j
+      → ((ys : List Element) → length ys ≤ length xs → IsSound ys → element_count ys ≤ j
+      → IsFine (free_steps m [] ys) (held_free_steps_within j (erased ys))) → IsSound xs → element_count xs ≤ j → Later xs j
   later xs j ih i c rs g =
       let ys : List Element = map (gives m rs) xs in
       let fine : IsFine (free_steps m [] ys) (held_free_steps_within j (erased ys)) = ih ys (omega (arith, length-map (gives m rs) xs))
@@ -107,7 +107,7 @@ module _ (clauses : List Clause) where
       subst (λ l. IsFine l (held_free_steps_within j (held_collected_all (map (record_height xs) rs) (erased xs)))) (sym (settle-map m rs xs))
       (subst (λ hs. IsFine (free_steps m [] ys) (held_free_steps_within j hs)) (gathered-gives clauses rs xs i g) fine)
 
-  settles : (n : ℕ) (xs : List Element) → length xs ≤ n → IsSound xs → (j : ℕ) → count xs ≤ j
+  settles : (n : ℕ) (xs : List Element) → length xs ≤ n → IsSound xs → (j : ℕ) → element_count xs ≤ j
       → IsFine (free_steps m [] xs) (held_free_steps_within j (erased xs))
   settles n [] h i zero c = (refl, tt, tt)
   settles n [] h i (suc j) c = (refl, tt, tt)
@@ -119,25 +119,25 @@ module _ (clauses : List Clause) where
   settles (suc n) (Plain p f ∷ xs) h i zero c = absurd (omega arith)
   settles (suc n) (Plain p f ∷ xs) h i (suc j) c =
       let go : IsFine (plain_free (without_marks f.items) p f xs)
-      (held_plain_free_step (map (with_height (height xs)) (without_marks f.items)) (with_heights (height xs) f) (erased xs)
+      (held_plain_free_step (map (with_height (height xs)) (without_marks f.items)) (continuation_heights (height xs) f) (erased xs)
       (held_free_steps_within j)) = plain-fine f.items p f xs j
       (later xs j (λ ys l s d. settles n ys (omega arith) s j d) i.1 (omega arith)) i.1 i.0 in
       subst (λ l. IsFine l (held_free_steps_within (suc j) (erased (Plain p f ∷ xs)))) (sym (item-free f.items p f xs))
       (subst (λ is. IsFine (plain_free (without_marks f.items) p f xs)
-      (held_plain_free_step is (with_heights (height xs) f) (erased xs) (held_free_steps_within j))) (sym (marks-heights (height xs) f.items))
+      (held_plain_free_step is (continuation_heights (height xs) f) (erased xs) (held_free_steps_within j))) (sym (marks-heights (height xs) f.items))
       go)
   settles (suc n) (Catch s u t r p f ∷ xs) h i zero c = absurd (omega arith)
   settles (suc n) (Catch s u t r p f ∷ xs) h i (suc j) c = settles n xs (omega arith) i.2 j (omega arith)
   settles (suc n) (Findall s u results list p f ∷ xs) h i zero c = absurd (omega arith)
   settles (suc n) (Findall s u results list p f ∷ xs) h i (suc j) c =
       let eq : Term = binary (codes "=") list (list_term results) in
-      let woken : with_heights (height xs) (results_first results list u f) ≡ before (GoalItem eq (length (erased xs)) ∷ [])
-      (with_heights (height xs) f) = goals-heights (height xs) (height xs) u (length (erased xs)) (eq ∷ []) f
+      let woken : continuation_heights (height xs) (results_first results list u f) ≡ before (GoalItem eq (length (erased xs)) ∷ [])
+      (continuation_heights (height xs) f) = goals-heights (height xs) (height xs) u (length (erased xs)) (eq ∷ []) f
       (i.1 ∙ sym (length-erased xs)) (sames (height xs) (names f.items)) in
       let entry : IsEntrySound p xs (u ∷ names f.items) (GoalItem eq u ∷ f.items) = record
       { carried = i.0.carried; marks = (tt, i.0.marks); findalls = i.0.findalls } in
       stays (Plain p (results_first results list u f)) xs
-      (HeightEntry (held_findall_ends results list (with_heights (height xs) f) (erased xs)) ∷ erased xs)
+      (HeightEntry (held_findall_ends results list (continuation_heights (height xs) f) (erased xs)) ∷ erased xs)
       (ap (λ k. HeightEntry (PlainEntry k) ∷ erased xs) woken) (entry, i.3)
       (goal-active clauses (outcome_of clauses eq f.next) p u f)
   settles (suc n) (End p b ∷ xs) h i zero c = absurd (omega arith)
@@ -147,5 +147,5 @@ module _ (clauses : List Clause) where
   pub settle-held : (xs : List Element) (hs : List HeightElement) → erased xs ≡ hs → IsSound xs
       → IsFine (free_steps m [] xs) (held_settle hs)
   settle-held xs hs e i =
-      let size : count xs ≤ length hs = omega (arith, length-erased xs, ap length e) in
+      let size : element_count xs ≤ length hs = omega (arith, length-erased xs, ap length e) in
       subst (λ l. IsFine (free_steps m [] xs) (held_free_steps_within (length hs) l)) e (settles (length xs) xs (omega arith) i (length hs) size)

@@ -24,7 +24,7 @@ use Rattle.tree_model.specs.SoundTrees.{IsSoundTree}
 use Rattle.tree_model.specs.CaughtTrees.{MarksCaught, IsCaughtTree}
 use Rattle.tree_model.specs.Elements.{Name, Record, Element, Credit, Plain, EndOf, End}
 use Rattle.interleaving.specs.Machine.{Machine, Asks, Seek, gives, placed, search_for, free_steps, run, seen}
-use Rattle.interleaving.specs.Scopes.{Shared, Sought, Thrown, Lands, act, item_act, goal_act, replied, scoped}
+use Rattle.interleaving.specs.Scopes.{Shared, Sought, Thrown, ElementReplacement, act, item_act, goal_act, world_replied, scoped}
 use Rattle.interleaving.specs.Quiet.{inferences, records}
 use Rattle.interleaving.specs.Sound.{IsSound}
 use Rattle.interleaving.specs.Follows.{lead, Follows}
@@ -89,7 +89,7 @@ module _ (t : TreeState) (w : ℕ) (a : Place) (s : Spot) (f : Continuation ℕ)
   fallen after ball x = record (ball_falls s (fall_entries ball x) (record t { world = after }))
       { history = t.history ++ Answer w a false ∷ [] }
 
-  module _ (g : Shared → Shared × Lands) (after : World) (ball : Term) (mark : Option ℕ) (sleeps : MarkSleeps (levels_of s) mark)
+  module _ (g : Shared → Shared × ElementReplacement) (after : World) (ball : Term) (mark : Option ℕ) (sleeps : MarkSleeps (levels_of s) mark)
       (asks : act t.job.clauses (bare t.job.clauses own named) ≡ Asks g)
       (place : (v : Shared) → v ≡ shared_of answers t → (g v).1 ≡ Seek (Thrown ball (mark_name (way_of (levels_of s)) mark) own)) where
     abbrev sought : Sought
@@ -252,17 +252,17 @@ module _ (t : TreeState) (w : ℕ) (a : Place) (s : Spot) (f : Continuation ℕ)
       { history = t.history ++ Answer w a false ∷ [] }) step
       ∙ ap (λ es. record (ball_falls s es (record t { world = after })) { history = t.history ++ Answer w a false ∷ [] }) lands_so)) in
       let nr : Continuation Name = record { items = map (renamed_item sc sc) items; named = f.named; next = f.next } in
-      let g : Shared → Shared × Lands = λ v. replied (world_step clauses ask f.next v.world) own nr v in
+      let g : Shared → Shared × ElementReplacement = λ v. world_replied (world_step clauses ask f.next v.world) own nr v in
       let ws : without_marks named.items ≡ GoalItem goal (sc scope) ∷ map (renamed_item sc sc) items = dropped_names sc sc f.items
       ∙ ap (map (renamed_item sc sc)) q in
       let asks : act clauses (bare clauses own named)
       ≡ Asks g = ap (λ is. item_act clauses is own (with_items (without_marks named.items) named)) ws
       ∙ ap (λ x. goal_act clauses x own (sc scope) nr) outcome in
       let place : (g (shared_of answers t)).1 ≡ Seek (Thrown ball (mark_name (way_of levels) mark) own) = ap
-      (λ x. (replied x own nr (shared_of answers t)).1) step
+      (λ x. (world_replied x own nr (shared_of answers t)).1) step
       ∙ ap (λ n. Seek (Thrown ball n own)) (first_name (way_of levels) items) in
       let world : (g (shared_of answers t)).0 ≡ record (shared_of answers t) { world = after; halted = None } = ap
-      (λ x. (replied x own nr (shared_of answers t)).0) step in
+      (λ x. (world_replied x own nr (shared_of answers t)).0) step in
       subst (λ new. AnswerMoves t new answers answers) (sym tree)
       (falls_move g after ball mark sleeps asks (λ x y. ap (λ z. (g z).1) y ∙ place) (fall ball levels mark) refl
       (fall_taken ball levels status mark p.around root.caught sleeps) world (subst IsSoundTree tree j) (subst IsCaughtTree tree r))

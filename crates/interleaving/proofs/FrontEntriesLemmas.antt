@@ -19,7 +19,7 @@ use Rattle.tree_model.specs.SoundTrees.{IsSoundTree}
 use Rattle.tree_model.specs.CaughtTrees.{IsCaught, IsUnspent, IsCaughtTree}
 use Rattle.tree_model.specs.Elements.{Name, Record, Element, Credit, Plain}
 use Rattle.interleaving.specs.Machine.{Machine, Asks, Put, gives, placed, free_steps, run, seen}
-use Rattle.interleaving.specs.Scopes.{Shared, Sought, Lands, act, scoped}
+use Rattle.interleaving.specs.Scopes.{Shared, Sought, ElementReplacement, act, scoped}
 use Rattle.interleaving.specs.Quiet.{IsFixed, inferences, records}
 use Rattle.interleaving.specs.Erased.{erased}
 use Rattle.interleaving.specs.Sound.{IsSound}
@@ -72,7 +72,7 @@ left_tree t s es after e = record (left_at s es (record t { world = after })) { 
 module _ (t : TreeState) (s : Spot) (f : Continuation ℕ) (after : World) (e : Event) (answers : ℕ) (i : IsSoundTree t)
     (k : IsCaughtTree t) (running : t.halted ≡ None) (first : IsFirst t s) (entry : s.entry ≡ PlainEntry f)
     (asked : under_query (way_of (levels_of s)) ≡ true)
-    (g : Shared → Shared × Lands) where
+    (g : Shared → Shared × ElementReplacement) where
   abbrev way : Way
   way = way_of (levels_of s)
 

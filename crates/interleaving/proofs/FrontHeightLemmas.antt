@@ -7,7 +7,7 @@ use Rattle.au_model.specs.Terms.Unifier.{unifier}
 use Rattle.run_model.specs.Goals.Outcomes.{Solution}
 use Rattle.run_model.specs.Machine.Items.{Item, GoalItem, CatchMark, CollectMark, RemovalItem, Continuation, goals_at, resolve_item, resolve_named}
 use Rattle.run_model.specs.Machine.Items.{before, with_next}
-use Rattle.run_model.specs.Machine.Entries.{Entry, PlainEntry, unified as unified_entries, solution_entries as solved_entries}
+use Rattle.run_model.specs.Machine.Entries.{Entry, PlainEntry, unified, solution_entries}
 use Rattle.tree_model.specs.Nodes.{ChoiceNode, CatchNode, FindallNode}
 use Rattle.tree_model.specs.Levels.{Level}
 use Rattle.tree_model.specs.Floors.{renamed_item, height_of, node_of, with_nodes}
@@ -15,9 +15,9 @@ use Rattle.tree_model.specs.PendingLists.{Way, way_of, scope_on}
 use Rattle.tree_model.specs.Ways.{is_on, way_from, way_above, AreScoped}
 use Rattle.tree_model.specs.SoundTrees.{one_if}
 use Rattle.tree_model.specs.Elements.{Name, Element, Plain, EndOf}
-use Rattle.interleaving.specs.Scopes.{unified, solution_entries}
+use Rattle.interleaving.specs.Scopes.{unified_element, solution_elements}
 use Rattle.interleaving.specs.HeightMachine.{HeightEntry}
-use Rattle.interleaving.specs.Erased.{from, count, height, with_height, erased}
+use Rattle.interleaving.specs.Erased.{from, element_count, height, with_height, erased}
 use Rattle.interleaving.proofs.ContextLemmas.{count_around}
 use Rattle.interleaving.proofs.ClosingSoundLemmas.{IsFree, free-above}
 use Rattle.interleaving.proofs.WayLemmas.{reach-on, through-on, same_self}
@@ -156,19 +156,19 @@ module _ (v : Level) (up : List Level) (next : ℕ) (free : IsFree next (v ∷ u
       let apart : node n ≡ next → ⊥ = node_free next (v ∷ up) free (next_some next v up free) n in
       ap (height (EndOf (k ∷ next ∷ []) ∷ (olders way next ChoiceNode (suc k) es ++ rest)))
       (scope-above (record { node = next; index = k; kind = ChoiceNode }) way (node n) (other_node (node n) next apart))
-      ∙ ap count (from-other way (node n) k next (olders way next ChoiceNode (suc k) es ++ rest) apart
+      ∙ ap element_count (from-other way (node n) k next (olders way next ChoiceNode (suc k) es ++ rest) apart
       ∙ from_olders way next ChoiceNode (suc k) es rest (node n) apart)
 
-  pub top_height : tall (suc (length up)) ≡ count rest
+  pub top_height : tall (suc (length up)) ≡ element_count rest
   top_height = ap (λ n. height rest (scope_on way n)) (own_height v up)
       ∙ (ap (height rest) (scope-here (record { node = v.number; index = length v.left; kind = v.kind }) (way_of up) v.number
-      (same_self v.number)) ∙ ap count (from_own (length v.left ∷ v.number ∷ []) tail))
+      (same_self v.number)) ∙ ap element_count (from_own (length v.left ∷ v.number ∷ []) tail))
 
   over_own : (n : ℕ) → height (EndOf own ∷ rest) (scope_on way n) ≡ height rest (scope_on way n)
-  over_own n = ap count (from_end own (scope_on way n) rest (scope_short way n 0 (length v.left) v.number))
+  over_own n = ap element_count (from_end own (scope_on way n) rest (scope_short way n 0 (length v.left) v.number))
 
-  own_count : height (EndOf own ∷ rest) own ≡ count rest
-  own_count = ap count (from_own own rest)
+  own_count : height (EndOf own ∷ rest) own ≡ element_count rest
+  own_count = ap element_count (from_own own rest)
 
   module _ (f : Continuation ℕ) (items : List (Item ℕ)) (scoped : AreScoped (way_of (v ∷ up)) items) where
     -- by names, and by heights
@@ -191,7 +191,7 @@ module _ (v : Level) (up : List Level) (next : ℕ) (free : IsFree next (v ∷ u
         ∙ sym (tree_items (height (EndOf (0 ∷ next ∷ []) ∷ rest)) 0 (λ n. over_olders 0 [] n) (by_heights (v ∷ up) items)))
 
     solved_items : (h : Name → ℕ) (k : ℕ) (es : List Entry) (o : Substitution) (gs : List Term)
-        → ((r : ℕ) → h (scope_on way r) ≡ height rest (scope_on way r)) → h own ≡ count rest
+        → ((r : ℕ) → h (scope_on way r) ≡ height rest (scope_on way r)) → h own ≡ element_count rest
         → map (with_height h) (map (resolve_item o) (goals_at own gs ++ map (renamed_item (scope_on way) (scope_on way)) items))
         ≡ map (with_height (height (EndOf (k ∷ next ∷ []) ∷ (olders way next ChoiceNode (suc k) es ++ rest))))
         (map (renamed_item (scope_on (below k)) (scope_on (below k)))
@@ -207,39 +207,39 @@ module _ (v : Level) (up : List Level) (next : ℕ) (free : IsFree next (v ∷ u
         ∙ sym (tree_items (height (EndOf (k ∷ next ∷ []) ∷ (olders way next ChoiceNode (suc k) es ++ rest))) k (over_olders k es)
         (map (resolve_item o) (goals_at (suc (length up)) gs ++ by_heights (v ∷ up) items)))))
 
-    from_solved : (j : ℕ) (ss : List Solution) (s : Name) → from (solution_entries j own named_rest ss ++ rest) s
+    from_solved : (j : ℕ) (ss : List Solution) (s : Name) → from (solution_elements j own named_rest ss ++ rest) s
         ≡ from (EndOf own ∷ rest) s
     from_solved j [] s = refl
     from_solved j (x ∷ ss) s = go (unifier x.equations) (from_solved (suc j) ss s)
       where
-        go : (o : Option Substitution) → from (solution_entries (suc j) own named_rest ss ++ rest) s ≡ from (EndOf own ∷ rest) s
-            → from ((unified o (j ∷ own) (with_next (f.next + x.variables) (before (goals_at own x.goals) named_rest))
-            ++ solution_entries (suc j) own named_rest ss) ++ rest) s ≡ from (EndOf own ∷ rest) s
+        go : (o : Option Substitution) → from (solution_elements (suc j) own named_rest ss ++ rest) s ≡ from (EndOf own ∷ rest) s
+            → from ((unified_element o (j ∷ own) (with_next (f.next + x.variables) (before (goals_at own x.goals) named_rest))
+            ++ solution_elements (suc j) own named_rest ss) ++ rest) s ≡ from (EndOf own ∷ rest) s
         go None k = k
         go (Some o) k = k
 
     -- all solutions
-    pub solved_same : (j k h : ℕ) → h ≡ suc (length up) → (ss : List Solution) → erased (solution_entries j own named_rest ss ++ rest)
-        ≡ erased (olders way next ChoiceNode k (map (with_nodes node) (solved_entries h height_rest ss)) ++ rest)
+    pub solved_same : (j k h : ℕ) → h ≡ suc (length up) → (ss : List Solution) → erased (solution_elements j own named_rest ss ++ rest)
+        ≡ erased (olders way next ChoiceNode k (map (with_nodes node) (solution_entries h height_rest ss)) ++ rest)
     solved_same j k h e [] = refl
     solved_same j k h e (x ∷ ss) = go (unifier x.equations) (λ n. solved_same (suc j) n h e ss) (λ n. from_solved (suc j) ss n)
       where
-        go : (o : Option Substitution) → ((n : ℕ) → erased (solution_entries (suc j) own named_rest ss ++ rest)
-            ≡ erased (olders way next ChoiceNode n (map (with_nodes node) (solved_entries h height_rest ss)) ++ rest))
-            → ((n : Name) → from (solution_entries (suc j) own named_rest ss ++ rest) n ≡ from (EndOf own ∷ rest) n)
-            → erased ((unified o (j ∷ own) (with_next (f.next + x.variables) (before (goals_at own x.goals) named_rest))
-            ++ solution_entries (suc j) own named_rest ss) ++ rest)
+        go : (o : Option Substitution) → ((n : ℕ) → erased (solution_elements (suc j) own named_rest ss ++ rest)
+            ≡ erased (olders way next ChoiceNode n (map (with_nodes node) (solution_entries h height_rest ss)) ++ rest))
+            → ((n : Name) → from (solution_elements (suc j) own named_rest ss ++ rest) n ≡ from (EndOf own ∷ rest) n)
+            → erased ((unified_element o (j ∷ own) (with_next (f.next + x.variables) (before (goals_at own x.goals) named_rest))
+            ++ solution_elements (suc j) own named_rest ss) ++ rest)
             ≡ erased (olders way next ChoiceNode k
-            (map (with_nodes node) (unified_entries o (with_next (f.next + x.variables) (before (goals_at h x.goals) height_rest))
-            ++ solved_entries h height_rest ss)) ++ rest)
+            (map (with_nodes node) (unified o (with_next (f.next + x.variables) (before (goals_at h x.goals) height_rest))
+            ++ solution_entries h height_rest ss)) ++ rest)
         go None more far = more k
         go (Some o) more far =
-            let es = map (with_nodes node) (solved_entries h height_rest ss) in
-            let hs = height (solution_entries (suc j) own named_rest ss ++ rest) in
-            let same = solved_items hs k es o x.goals (λ r. ap count (far (scope_on way r)) ∙ over_own r)
-            (ap count (far own) ∙ own_count) in
+            let es = map (with_nodes node) (solution_entries h height_rest ss) in
+            let hs = height (solution_elements (suc j) own named_rest ss ++ rest) in
+            let same = solved_items hs k es o x.goals (λ r. ap element_count (far (scope_on way r)) ∙ over_own r)
+            (ap element_count (far own) ∙ own_count) in
             ap (λ l. HeightEntry (PlainEntry (record { items = l; named = map (resolve_named o) f.named; next = f.next + x.variables }))
-            ∷ erased (solution_entries (suc j) own named_rest ss ++ rest)) same
+            ∷ erased (solution_elements (suc j) own named_rest ss ++ rest)) same
             ∙ (ap (λ n. HeightEntry (PlainEntry
             (record {
               items = map (with_height (height (EndOf (k ∷ next ∷ []) ∷ (olders way next ChoiceNode (suc k) es ++ rest))))
@@ -248,7 +248,7 @@ module _ (v : Level) (up : List Level) (next : ℕ) (free : IsFree next (v ∷ u
               named = map (resolve_named o) f.named;
               next = f.next + x.variables;
             })) ∷ erased
-            (solution_entries (suc j) own named_rest ss ++ rest)) (sym e)
+            (solution_elements (suc j) own named_rest ss ++ rest)) (sym e)
             ∙ ap (λ l. HeightEntry (PlainEntry
             (record {
               items = map (with_height (height (EndOf (k ∷ next ∷ []) ∷ (olders way next ChoiceNode (suc k) es ++ rest))))

@@ -3,10 +3,10 @@ use Rattle.std.proofs.Common.{◌≡◌, ℕ, zero, suc, ◌+◌, Bool, true, fa
 use Rattle.std.proofs.Common.{arith}
 use Rattle.au_model.specs.Terms.Each.{Each}
 use Rattle.run_model.specs.Programs.Clauses.{Clause}
-use Rattle.interleaving.specs.Machine.{Machine, Takes, Asks, On, Here, Put, Seek, gives, acted, placed, free_steps, step, run, is_over}
+use Rattle.interleaving.specs.Machine.{Machine, Takes, Asks, On, Here, Put, Seek, gives, acted, placed, free_steps, step, run, is_finished}
 use Rattle.interleaving.specs.Machine.{seen, Alike}
 use Rattle.tree_model.specs.Elements.{Name, same, Record, Element, Credit, Plain, EndOf, Catch, Findall, End}
-use Rattle.interleaving.specs.Scopes.{Shared, Sought, Scope, Lands, act, look, with_result, give, scoped}
+use Rattle.interleaving.specs.Scopes.{Shared, Sought, Scope, ElementReplacement, act, look, findall_with_result, give, scoped}
 use Rattle.interleaving.specs.Segments.{IsActive, outer, found_in, search_in, Private, private_none, private_goes, private_takes}
 use Rattle.interleaving.specs.Views.{IsInner}
 use Rattle.interleaving.specs.Quiet.{IsQuiet, inferences, records, IsFixed, IsStill}
@@ -23,7 +23,7 @@ module _ (clauses : List Clause) where
   abbrev m : Machine Shared Element Sought Record
   m = scoped clauses
 
-  pub asks-fixed : (x : Element) (g : Shared → Shared × Lands) → act clauses x ≡ Asks g → IsFixed x
+  pub asks-fixed : (x : Element) (g : Shared → Shared × ElementReplacement) → act clauses x ≡ Asks g → IsFixed x
   asks-fixed (Credit k rs) g e = tt
   asks-fixed (Plain p f) g e = tt
   asks-fixed (EndOf s) g e = tt
@@ -31,7 +31,7 @@ module _ (clauses : List Clause) where
   asks-fixed (End p b) g e = tt
   asks-fixed (Findall s u results list p f) g e = absurd cc
 
-  pub takes-fixed : (x : Element) (p : Lands) → act clauses x ≡ Takes p → IsFixed x
+  pub takes-fixed : (x : Element) (p : ElementReplacement) → act clauses x ≡ Takes p → IsFixed x
   takes-fixed (Credit k rs) g e = tt
   takes-fixed (Plain p f) g e = tt
   takes-fixed (EndOf s) g e = tt
@@ -49,7 +49,7 @@ module _ (clauses : List Clause) where
       ∙ ap (λ y. (w, free_steps m [] (y ∷ rest))) (gives-fixed clauses rs x f)
       ∙ ap (λ l. (w, l)) (resting m (any_ground clauses) x a rest)
 
-  pub gate_taken : (xs : List Element) (x : Element) (g : Shared → Shared × Lands) (zs : List Element) (w : Shared) (n : ℕ) → IsQuiet xs
+  pub gate_taken : (xs : List Element) (x : Element) (g : Shared → Shared × ElementReplacement) (zs : List Element) (w : Shared) (n : ℕ) → IsQuiet xs
       → act clauses x ≡ Asks g → run m (inferences xs + suc n) w (free_steps m [] (xs ++ (x ∷ zs)))
       ≡ run m n (g w).0 (free_steps m [] (placed m (g w).1 (map (gives m (records xs)) zs)))
   gate_taken xs x g zs w n h e =
@@ -98,7 +98,7 @@ module _ (clauses : List Clause) where
   scope_given h y r (End p b) = refl
   scope_given h y r (Findall s u results list p f) = go (same r.0 s)
     where
-      go : (t : Bool) → look (Scope h y) (cond t (with_result r.1 s u results list p f) (Findall s u results list p f)) ≡ On (Scope h y)
+      go : (t : Bool) → look (Scope h y) (cond t (findall_with_result r.1 s u results list p f) (Findall s u results list p f)) ≡ On (Scope h y)
       go true = refl
       go false = refl
 
@@ -237,7 +237,7 @@ module _ (clauses : List Clause) where
       go (x ∷ xs) z = absurd z.0
   runs_only (suc k) rs a b h = (h.0, [], [], refl, over, steps, runs_only k h.2 h.0 b h.6)
     where
-      over : (zs : List Element) → Each (λ x. ⊥) zs → is_over (free_steps m [] (a ++ zs)) ≡ false
+      over : (zs : List Element) → Each (λ x. ⊥) zs → is_finished (free_steps m [] (a ++ zs)) ≡ false
       over [] z = h.4 [] tt
       over (x ∷ xs) z = absurd z.0
 
@@ -250,7 +250,7 @@ module _ (clauses : List Clause) where
   plus-is zero j = omega arith
   plus-is (suc k) j = (let e : suc (k + j) ≡ suc k + j = omega arith in ap suc (plus-is k j) ∙ e)
 
-  pub front_alike : (xs : List Element) (x : Element) (p : Lands) (pre mid : List Element) → Each IsStill pre → IsQuiet xs
+  pub front_alike : (xs : List Element) (x : Element) (p : ElementReplacement) (pre mid : List Element) → Each IsStill pre → IsQuiet xs
       → act clauses x ≡ Takes p → Alike m (pre ++ (xs ++ (x ∷ mid)))
       (pre ++ (Credit (inferences xs + 1) [] ∷ placed m p (map (gives m (records xs)) mid)))
   front_alike xs x p pre mid still q e n w =
@@ -272,7 +272,7 @@ module _ (clauses : List Clause) where
       ap (λ l. seen (run m n w (free_steps m [] (pre ++ l)))) (sym (append-none (xs ++ (x ∷ mid)))) ∙ whole
       ∙ ap (λ l. seen (run m n w (free_steps m [] (pre ++ (Credit (k + 1) [] ∷ l))))) (append-none left)
     where
-      alone : (rest left : List Element) (p : Lands) → placed m p rest ≡ left → (zs : List Element) → Each (λ z. ⊥) zs
+      alone : (rest left : List Element) (p : ElementReplacement) → placed m p rest ≡ left → (zs : List Element) → Each (λ z. ⊥) zs
           → placed m p (rest ++ zs) ≡ left ++ zs
       alone rest left p h [] z = ap (placed m p) (append-none rest) ∙ h ∙ sym (append-none left)
       alone rest left p h (y ∷ ys) z = absurd z.0

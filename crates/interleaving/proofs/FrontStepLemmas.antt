@@ -10,7 +10,7 @@ use Rattle.tree_model.specs.SoundTrees.{IsSoundTree}
 use Rattle.tree_model.specs.CaughtTrees.{IsUnspent, IsCaughtTree}
 use Rattle.tree_model.specs.Elements.{Name, Element, Credit, Plain}
 use Rattle.interleaving.specs.Machine.{Machine, Asks, gives, placed, free_steps, run, seen}
-use Rattle.interleaving.specs.Scopes.{Shared, Sought, Lands, act, scoped}
+use Rattle.interleaving.specs.Scopes.{Shared, Sought, ElementReplacement, act, scoped}
 use Rattle.tree_model.specs.Elements.{Record}
 use Rattle.interleaving.specs.Quiet.{IsQuiet, inferences, records}
 use Rattle.interleaving.specs.Sound.{names, IsEntrySound, IsSound}
@@ -53,7 +53,7 @@ module _ (clauses : List Clause) where
   m = scoped clauses
 
   -- the gate of the first entry
-  pub front_taken : (front zs : List Element) (sp : ℕ) (p : Name) (f : Continuation Name) (g : Shared → Shared × Lands) (w : Shared)
+  pub front_taken : (front zs : List Element) (sp : ℕ) (p : Name) (f : Continuation Name) (g : Shared → Shared × ElementReplacement) (w : Shared)
       (n : ℕ) → IsQuiet front → sp ≡ 0 → act clauses (bare clauses p f) ≡ Asks g
       → run m (inferences front + suc n) w (free_steps m [] (front ++ (Credit sp [] ∷ (Plain p f ∷ zs))))
       ≡ run m n (g w).0 (free_steps m [] (placed m (g w).1 (map (gives m (records front)) zs)))
@@ -77,7 +77,7 @@ module _ (clauses : List Clause) where
       ∙ (one ∙ (two ∙ ap (λ rs. run m n (g w).0 (free_steps m [] (placed m (g w).1 (map (gives m rs) zs)))) rows)))
 
   -- an end of a query at the front
-  pub front_asked : (front zs : List Element) (sp : ℕ) (x : Element) (g : Shared → Shared × Lands) (w : Shared) (n : ℕ) → IsQuiet front
+  pub front_asked : (front zs : List Element) (sp : ℕ) (x : Element) (g : Shared → Shared × ElementReplacement) (w : Shared) (n : ℕ) → IsQuiet front
       → sp ≡ 0 → act clauses x ≡ Asks g
       → run m (inferences front + suc n) w (free_steps m [] (front ++ (Credit sp [] ∷ (x ∷ zs))))
       ≡ run m n (g w).0 (free_steps m [] (placed m (g w).1 (map (gives m (records front)) zs)))

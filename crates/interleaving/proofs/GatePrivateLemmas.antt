@@ -4,7 +4,7 @@ use Rattle.run_model.specs.Programs.Clauses.{Clause}
 use Rattle.run_model.specs.Machine.Items.{Item, GoalItem, CatchMark, CollectMark, RemovalItem, Continuation, with_items, without_marks}
 use Rattle.tree_model.specs.Elements.{Name, Record, Element, Plain}
 use Rattle.interleaving.specs.Machine.{Machine, Vanishes, Wakes, Takes, gives}
-use Rattle.interleaving.specs.Scopes.{Shared, Sought, Does, Lands, act, unmarked, scoped}
+use Rattle.interleaving.specs.Scopes.{Shared, Sought, Does, ElementReplacement, act, unmarked, scoped}
 use Rattle.interleaving.specs.Segments.{outer, placed_in, Private, private_none, private_wakes, private_takes}
 use Rattle.interleaving.specs.Quiet.{IsQuiet, inferences, records}
 use Rattle.interleaving.proofs.QuietCreditLemmas.{private-then, gives-fixed, quiet-private}
@@ -14,7 +14,7 @@ module _ (clauses : List Clause) where
   abbrev m : Machine Shared Element Sought Record
   m = scoped clauses
 
-  pub wakes_bare : (items : List (Item Name)) (p : Name) (f : Continuation Name) (q : Lands)
+  pub wakes_bare : (items : List (Item Name)) (p : Name) (f : Continuation Name) (q : ElementReplacement)
       → act clauses (Plain p (with_items items f)) ≡ Takes q → unmarked items p f ≡ Wakes (Plain p (with_items items f))
   wakes_bare [] p f q h = refl
   wakes_bare (GoalItem t s ∷ items) p f q h = refl
@@ -26,7 +26,7 @@ module _ (clauses : List Clause) where
       no_way h = cc
 
   -- marks in front wake to what is after them
-  pub unmark_private : (inner : Record → Bool) (j : ℕ) (rs : List Record) (p : Name) (f : Continuation Name) (q : Lands)
+  pub unmark_private : (inner : Record → Bool) (j : ℕ) (rs : List Record) (p : Name) (f : Continuation Name) (q : ElementReplacement)
       (xs b : List Element) → act clauses (bare clauses p f) ≡ Takes q → Private m inner j rs (bare clauses p f ∷ xs) b
       → Private m inner j rs (Plain p f ∷ xs) b
   unmark_private inner j rs p f q xs b h k = go f.items h k
@@ -42,7 +42,7 @@ module _ (clauses : List Clause) where
           (Plain p (with_items (without_marks items) f)) rs xs b
           (wakes_bare (without_marks items) p (with_items (CatchMark s ∷ items) f) q h) k
 
-  pub gate_private : (inner : Record → Bool) (xs : List Element) (p : Name) (f : Continuation Name) (q : Lands) (mid b : List Element)
+  pub gate_private : (inner : Record → Bool) (xs : List Element) (p : Name) (f : Continuation Name) (q : ElementReplacement) (mid b : List Element)
       → IsQuiet xs → act clauses (bare clauses p f) ≡ Takes q → placed_in m q (map (gives m (records xs)) mid) ≡ Some b
       → Private m inner (inferences xs + 1) (outer inner (records xs) ++ []) (xs ++ (Plain p f ∷ mid)) b
   gate_private inner xs p f q mid b quiet h found =

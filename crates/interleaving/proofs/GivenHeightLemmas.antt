@@ -9,10 +9,10 @@ use Rattle.run_model.specs.Machine.Items.{Continuation}
 use Rattle.run_model.specs.Machine.Entries.{PlainEntry, CatchEntry, FindallEntry, EndEntry}
 use Rattle.interleaving.specs.Machine.{gives}
 use Rattle.tree_model.specs.Elements.{Name, same, Record, Element, Credit, Plain, EndOf, Catch, Findall, End}
-use Rattle.interleaving.specs.Scopes.{with_result, give, scoped}
+use Rattle.interleaving.specs.Scopes.{findall_with_result, give, scoped}
 use Rattle.interleaving.specs.HeightMachine.{HeightElement, HeightCredit, HeightEntry, held_with_result, held_collected}
 use Rattle.interleaving.specs.HeightMachine.{held_collected_all}
-use Rattle.interleaving.specs.Erased.{count, height, with_heights, record_height, erased}
+use Rattle.interleaving.specs.Erased.{element_count, height, continuation_heights, record_height, erased}
 use Rattle.interleaving.specs.Sound.{names, IsGathered, EachFindall, IsSound}
 use Rattle.interleaving.proofs.NamingLemmas.{same-itself, not-same, same-heights, length-erased}
 use Rattle.interleaving.proofs.GivenRecordLemmas.{given, count-given, height-given, findalls-given, sound-given, StandsAt, stands-low}
@@ -22,8 +22,8 @@ all-same : (r : Record) (xs : List Element) (hs : List Name) → Each (λ s. hei
 all-same r xs [] = tt
 all-same r xs (s ∷ hs) = (height-given r xs s, all-same r xs hs)
 
-pub heights-given : (r : Record) (xs : List Element) (f : Continuation Name) → with_heights (height (given r xs)) f
-    ≡ with_heights (height xs) f
+pub heights-given : (r : Record) (xs : List Element) (f : Continuation Name) → continuation_heights (height (given r xs)) f
+    ≡ continuation_heights (height xs) f
 heights-given r xs f = same-heights (height (given r xs)) (height xs) f (all-same r xs (names f.items))
 
 records-given : (r : Record) (xs : List Element) (rs : List Record) → map (record_height (given r xs)) rs ≡ map (record_height xs) rs
@@ -40,11 +40,11 @@ none-given r (Plain p f ∷ xs) h = ap (λ l. Plain p f ∷ l) (none-given r xs 
 none-given r (Catch s u c t p f ∷ xs) h = ap (λ l. Catch s u c t p f ∷ l) (none-given r xs h)
 none-given r (End p b ∷ xs) h = ap (λ l. End p b ∷ l) (none-given r xs h)
 none-given r (Findall s u results list p f ∷ xs) h =
-    ap (λ t. cond t (with_result r.1 s u results list p f) (Findall s u results list p f) ∷ given r xs)
+    ap (λ t. cond t (findall_with_result r.1 s u results list p f) (Findall s u results list p f) ∷ given r xs)
     (not-same r.0 s (λ e. h.0 (sym e))) ∙ ap (λ l. Findall s u results list p f ∷ l) (none-given r xs h.1)
 
 -- an element that is not at this height is passed
-passed : (h : ℕ) (t : Term) (x : HeightElement) (xs : List Element) → suc h ≤ count xs → held_collected h t (x ∷ erased xs)
+passed : (h : ℕ) (t : Term) (x : HeightElement) (xs : List Element) → suc h ≤ element_count xs → held_collected h t (x ∷ erased xs)
     ≡ x ∷ held_collected h t (erased xs)
 passed h t x xs k = ap (λ b. cond b (held_with_result t x ∷ erased xs) (x ∷ held_collected h t (erased xs)))
     (other (length (erased xs)) (omega (arith, length-erased xs)))
@@ -64,27 +64,27 @@ erased-given r (Credit j rs ∷ xs) h k =
     (erased-given r xs h k) ∙ sym (passed h r.1 (HeightCredit j (map (record_height xs) rs)) xs (stands-low xs r.0 h k))
 erased-given r (Plain p f ∷ xs) h k =
     ap (λ g. HeightEntry (PlainEntry g) ∷ erased (given r xs)) (heights-given r xs f)
-    ∙ ap (λ l. HeightEntry (PlainEntry (with_heights (height xs) f)) ∷ l) (erased-given r xs h k)
-    ∙ sym (passed h r.1 (HeightEntry (PlainEntry (with_heights (height xs) f))) xs (stands-low xs r.0 h k))
+    ∙ ap (λ l. HeightEntry (PlainEntry (continuation_heights (height xs) f)) ∷ l) (erased-given r xs h k)
+    ∙ sym (passed h r.1 (HeightEntry (PlainEntry (continuation_heights (height xs) f))) xs (stands-low xs r.0 h k))
 erased-given r (Catch s u c t p f ∷ xs) h k =
     ap (λ g. HeightEntry (CatchEntry c t g) ∷ erased (given r xs)) (heights-given r xs f)
-    ∙ ap (λ l. HeightEntry (CatchEntry c t (with_heights (height xs) f)) ∷ l) (erased-given r xs h k)
-    ∙ sym (passed h r.1 (HeightEntry (CatchEntry c t (with_heights (height xs) f))) xs (stands-low xs r.0 h k))
+    ∙ ap (λ l. HeightEntry (CatchEntry c t (continuation_heights (height xs) f)) ∷ l) (erased-given r xs h k)
+    ∙ sym (passed h r.1 (HeightEntry (CatchEntry c t (continuation_heights (height xs) f))) xs (stands-low xs r.0 h k))
 erased-given r (End p b ∷ xs) h k = ap (λ l. HeightEntry (EndEntry b) ∷ l) (erased-given r xs h k)
     ∙ sym (passed h r.1 (HeightEntry (EndEntry b)) xs (stands-low xs r.0 h k))
 erased-given r (Findall s u results list p f ∷ xs) h (inl k) =
     let itself : same r.0 s ≡ true = subst (λ o. same r.0 o ≡ true) (sym k.0) (same-itself r.0) in
     let here : (length (erased xs) == h) ≡ true = eq-eqb (length (erased xs)) h (length-erased xs ∙ sym k.1) in
-    ap (λ t. erased (cond t (with_result r.1 s u results list p f) (Findall s u results list p f) ∷ given r xs)) itself
-    ∙ ap (λ l. erased (with_result r.1 s u results list p f ∷ l)) (none-given r xs k.2)
-    ∙ sym (ap (λ b. cond b (held_with_result r.1 (HeightEntry (FindallEntry results list (with_heights (height xs) f))) ∷ erased xs)
-    (HeightEntry (FindallEntry results list (with_heights (height xs) f)) ∷ held_collected h r.1 (erased xs))) here)
+    ap (λ t. erased (cond t (findall_with_result r.1 s u results list p f) (Findall s u results list p f) ∷ given r xs)) itself
+    ∙ ap (λ l. erased (findall_with_result r.1 s u results list p f ∷ l)) (none-given r xs k.2)
+    ∙ sym (ap (λ b. cond b (held_with_result r.1 (HeightEntry (FindallEntry results list (continuation_heights (height xs) f))) ∷ erased xs)
+    (HeightEntry (FindallEntry results list (continuation_heights (height xs) f)) ∷ held_collected h r.1 (erased xs))) here)
 erased-given r (Findall s u results list p f ∷ xs) h (inr k) =
     let other : same r.0 s ≡ false = not-same r.0 s (λ e. k.0 (sym e)) in
-    ap (λ t. erased (cond t (with_result r.1 s u results list p f) (Findall s u results list p f) ∷ given r xs)) other
+    ap (λ t. erased (cond t (findall_with_result r.1 s u results list p f) (Findall s u results list p f) ∷ given r xs)) other
     ∙ ap (λ g. HeightEntry (FindallEntry results list g) ∷ erased (given r xs)) (heights-given r xs f)
-    ∙ ap (λ l. HeightEntry (FindallEntry results list (with_heights (height xs) f)) ∷ l) (erased-given r xs h k.1)
-    ∙ sym (passed h r.1 (HeightEntry (FindallEntry results list (with_heights (height xs) f))) xs (stands-low xs r.0 h k.1))
+    ∙ ap (λ l. HeightEntry (FindallEntry results list (continuation_heights (height xs) f)) ∷ l) (erased-given r xs h k.1)
+    ∙ sym (passed h r.1 (HeightEntry (FindallEntry results list (continuation_heights (height xs) f))) xs (stands-low xs r.0 h k.1))
 
 pub stands-given : (r : Record) (xs : List Element) (s : Name) (h : ℕ) → StandsAt xs s h → StandsAt (given r xs) s h
 stands-given r [] s h k = absurd k
@@ -96,13 +96,13 @@ stands-given r (End p b ∷ xs) s h k = stands-given r xs s h k
 stands-given r (Findall e u results list p f ∷ xs) s h k = go (same r.0 e) (moved k (λ j. stands-given r xs s h j))
   where
     Here : Type 0
-    Here = ((e ≡ s) × (h ≡ count (given r xs)) × EachFindall (λ o. o ≡ s → ⊥) (given r xs)) ⊎ ((e ≡ s → ⊥) × StandsAt (given r xs) s h)
+    Here = ((e ≡ s) × (h ≡ element_count (given r xs)) × EachFindall (λ o. o ≡ s → ⊥) (given r xs)) ⊎ ((e ≡ s → ⊥) × StandsAt (given r xs) s h)
 
     moved : StandsAt (Findall e u results list p f ∷ xs) s h → (StandsAt xs s h → StandsAt (given r xs) s h) → Here
     moved (inl j) next = inl (j.0, j.1 ∙ sym (count-given r xs), findalls-given r (λ o. o ≡ s → ⊥) xs j.2)
     moved (inr j) next = inr (j.0, next j.1)
 
-    go : (t : Bool) → Here → StandsAt (cond t (with_result r.1 e u results list p f) (Findall e u results list p f) ∷ given r xs) s h
+    go : (t : Bool) → Here → StandsAt (cond t (findall_with_result r.1 e u results list p f) (Findall e u results list p f) ∷ given r xs) s h
     go true j = j
     go false j = j
 
@@ -145,10 +145,10 @@ module _ (clauses : List Clause) where
       none (x ∷ xs) = ap (λ l. x ∷ l) (none xs)
   sound-gives (r ∷ rs) xs h = subst IsSound (sym (gives-next r rs xs)) (sound-gives rs (given r xs) (sound-given r xs h))
 
-  pub count-gives : (rs : List Record) (xs : List Element) → count (map (gives (scoped clauses) rs) xs) ≡ count xs
-  count-gives [] xs = ap count (none xs)
+  pub count-gives : (rs : List Record) (xs : List Element) → element_count (map (gives (scoped clauses) rs) xs) ≡ element_count xs
+  count-gives [] xs = ap element_count (none xs)
     where
       none : (xs : List Element) → map (gives (scoped clauses) []) xs ≡ xs
       none [] = refl
       none (x ∷ xs) = ap (λ l. x ∷ l) (none xs)
-  count-gives (r ∷ rs) xs = ap count (gives-next r rs xs) ∙ count-gives rs (given r xs) ∙ count-given r xs
+  count-gives (r ∷ rs) xs = ap element_count (gives-next r rs xs) ∙ count-gives rs (given r xs) ∙ count-given r xs

@@ -11,7 +11,7 @@ use Rattle.tree_model.specs.Legality.{is_allowed, is_legal}
 use Rattle.tree_model.specs.PendingLists.{pending_list}
 use Rattle.tree_model.specs.SoundTrees.{IsSoundTree}
 use Rattle.interleaving.specs.Follows.{lead}
-use Rattle.interleaving.specs.HistoryInvariants.{shared_of, left_by, list_of}
+use Rattle.interleaving.specs.HistoryInvariants.{shared_of, left_by, tree_list}
 use Rattle.interleaving.proofs.OpenSpotLemmas.{both_left, both_right}
 use Rattle.interleaving.proofs.ClockLemmas.{leftmost_known}
 
@@ -46,7 +46,7 @@ legal_parts t e l =
     (is-none (ended t) (both_left (is_none (ended t)) _ rest), both_right (is_none (ended t)) _ rest)
 
 -- the list of a tree that was not halted
-pub not_halted : (t : TreeState) → t.halted ≡ None → list_of t ≡ pending_list t.root
+pub not_halted : (t : TreeState) → t.halted ≡ None → tree_list t ≡ pending_list t.root
 not_halted t h = ap (λ o. left_by o (pending_list t.root)) h
 
 pub same_shared : (answers : ℕ) (t new : TreeState) → new.world ≡ t.world → new.queries ≡ t.queries → new.halted ≡ t.halted

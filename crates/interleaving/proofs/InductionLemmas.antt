@@ -10,11 +10,11 @@ use Rattle.tree_model.specs.Effects.{after_event}
 use Rattle.tree_model.specs.Histories.{after_events, are_legal, tree_after, IsLegalHistory}
 use Rattle.tree_model.specs.PendingLists.{pending_list}
 use Rattle.tree_model.specs.SoundTrees.{IsSoundTree}
-use Rattle.interleaving.specs.Machine.{free_steps, run, seen, is_over}
+use Rattle.interleaving.specs.Machine.{free_steps, run, seen, is_finished}
 use Rattle.interleaving.specs.Scopes.{first_shared, scoped}
 use Rattle.interleaving.specs.Readings.{opening_list, has_ended}
 use Rattle.interleaving.specs.Follows.{lead, Follows}
-use Rattle.interleaving.specs.HistoryInvariants.{shared_of, list_of, IsSeenFrom, IsInStep, ListFollows, AnswerMoves, IsOwn, EventFollows}
+use Rattle.interleaving.specs.HistoryInvariants.{shared_of, tree_list, IsSeenFrom, IsInStep, ListFollows, AnswerMoves, IsOwn, EventFollows}
 use Rattle.interleaving.specs.HistoryInvariants.{AnswersMove, KeepsCaught, IsAny}
 use Rattle.tree_model.specs.CaughtTrees.{IsCaughtTree}
 use Rattle.interleaving.proofs.OpenSpotLemmas.{both_left, both_right}
@@ -38,13 +38,13 @@ module _ (job : Job) (budget : ℕ) (below : budget ≤ greatest) where
       let none : new.halted ≡ None = f.halted ∙ g.halted in
       let follows : Follows job.clauses (pending_list t.root) (pending_list new.root) = subst
       (λ x. Follows x.clauses (pending_list t.root) (pending_list new.root)) h.same_job f.follows in
-      let start : (n : ℕ) → seen (run (scoped job.clauses) n (shared_of h.answers t) (free_steps (scoped job.clauses) [] (list_of t)))
+      let start : (n : ℕ) → seen (run (scoped job.clauses) n (shared_of h.answers t) (free_steps (scoped job.clauses) [] (tree_list t)))
       ≡ seen (run (scoped job.clauses) n (shared_of h.answers t) (free_steps (scoped job.clauses) [] (pending_list t.root))) = λ n.
       ap (λ l. seen (run (scoped job.clauses) n (shared_of h.answers t) (free_steps (scoped job.clauses) [] l)))
       (not_halted t g.halted) in
       let stop : (n : ℕ) → seen (run (scoped job.clauses) n (shared_of h.answers t)
       (free_steps (scoped job.clauses) [] (pending_list new.root)))
-      ≡ seen (run (scoped job.clauses) n (shared_of h.answers new) (free_steps (scoped job.clauses) [] (list_of new))) = λ n.
+      ≡ seen (run (scoped job.clauses) n (shared_of h.answers new) (free_steps (scoped job.clauses) [] (tree_list new))) = λ n.
       ap (λ w. seen (run (scoped job.clauses) n w (free_steps (scoped job.clauses) [] (pending_list new.root))))
       (same_shared h.answers t new f.world f.queries f.halted)
       ∙ ap (λ l. seen (run (scoped job.clauses) n (shared_of h.answers new) (free_steps (scoped job.clauses) [] l)))
@@ -77,14 +77,14 @@ module _ (job : Job) (budget : ℕ) (below : budget ≤ greatest) where
       let clock = true_clock t budget below h.same_budget h.sound g in
       let small : c < budget = clock.0 in
       let ahead : h.from ≤ c = h.ahead g.halted in
-      let start : (n : ℕ) → seen (run (scoped job.clauses) n (shared_of h.answers t) (free_steps (scoped job.clauses) [] (list_of t)))
+      let start : (n : ℕ) → seen (run (scoped job.clauses) n (shared_of h.answers t) (free_steps (scoped job.clauses) [] (tree_list t)))
       ≡ seen (run (scoped job.clauses) n (shared_of h.answers t) (free_steps (scoped job.clauses) [] (pending_list t.root))) = λ n.
       ap (λ l. seen (run (scoped job.clauses) n (shared_of h.answers t) (free_steps (scoped job.clauses) [] l)))
       (not_halted t g.halted) in
       let moves : IsSeenFrom job.clauses (suc c) (shared_of h.answers t) (pending_list t.root) (shared_of (h.answers + more) new)
-      (list_of new) = subst (λ x. IsSeenFrom x.clauses (suc c) (shared_of h.answers t) (pending_list t.root)
-      (shared_of (h.answers + more) new) (list_of new)) h.same_job f.seen in
-      let last : is_over (run (scoped job.clauses) c (shared_of h.answers t)
+      (tree_list new) = subst (λ x. IsSeenFrom x.clauses (suc c) (shared_of h.answers t) (pending_list t.root)
+      (shared_of (h.answers + more) new) (tree_list new)) h.same_job f.seen in
+      let last : is_finished (run (scoped job.clauses) c (shared_of h.answers t)
       (free_steps (scoped job.clauses) [] (pending_list t.root))).1
       ≡ false = subst (λ x. has_ended x.clauses (shared_of h.answers t) (pending_list t.root) c ≡ false) h.same_job f.going in
       let old : (n : ℕ) → h.from ≤ n → n ≤ c → has_ended job.clauses (first_shared job) (opening_list job) n

@@ -1,8 +1,8 @@
 -- Runs of segments, put together, and private runs.
 use Rattle.std.proofs.Common.{◌≡◌, ℕ, zero, suc, List, [], ◌∷◌, ◌++◌, map, Some, refl, sym, ap, ◌∙◌, subst}
 use Rattle.au_model.specs.Terms.Each.{Each}
-use Rattle.interleaving.specs.Machine.{Machine, Act, Vanishes, Wakes, Takes, Asks, Look, On, Here, Place, Put, Only, Seek, gives, looked}
-use Rattle.interleaving.specs.Machine.{search_for, placed, freed, free_steps, acted, step, run, is_over}
+use Rattle.interleaving.specs.Machine.{Machine, Act, Vanishes, Wakes, Takes, Asks, Look, On, Here, Replacement, Put, Only, Seek, gives, looked}
+use Rattle.interleaving.specs.Machine.{search_for, placed, freed, free_steps, acted, step, run, is_finished}
 use Rattle.interleaving.specs.Segments.{IsActive, found_in, search_in, placed_in}
 use Rattle.interleaving.proofs.RunFrontLemmas.{each-append, append-assoc-at, some-same, none-some, maps-append, map-seam, map-none}
 use Rattle.interleaving.proofs.RunFrontLemmas.{settle-map}
@@ -32,7 +32,7 @@ module _ {W X Q R : Type 0} (m : Machine W X Q R) (g : Ground m) where
     h.1,
     h.2,
     h.3,
-    (λ zs z. ap (λ l. is_over (free_steps m [] l)) (append-assoc-at a c zs)
+    (λ zs z. ap (λ l. is_finished (free_steps m [] l)) (append-assoc-at a c zs)
         ∙ h.4 (c ++ zs) (all-z c zs y z)),
     (λ w zs z. ap (λ l. step m w (free_steps m [] l)) (append-assoc-at a c zs)
         ∙ h.5 w (c ++ zs) (all-z c zs y z) ∙ ap (λ l. (w, free_steps m [] (h.0 ++ l))) (map-seam m h.1 c zs)
@@ -51,7 +51,7 @@ module _ {W X Q R : Type 0} (m : Machine W X Q R) (g : Ground m) where
     l.2,
     ap (λ y. rs ++ y) l.3
         ∙ sym (append-assoc-at rs l.1 l.2),
-    (λ zs z. ap is_over (h zs z) ∙ l.4 (map (gives m rs) zs) (z-map m g rs zs z)),
+    (λ zs z. ap is_finished (h zs z) ∙ l.4 (map (gives m rs) zs) (z-map m g rs zs z)),
     (λ w zs z. ap (step m w) (h zs z) ∙ l.5 w (map (gives m rs) zs) (z-map m g rs zs z)
         ∙ ap (λ y. (w, free_steps m [] (l.0 ++ y))) (sym (maps-append m rs l.1 zs))),
     l.6,
@@ -75,7 +75,7 @@ module _ {W X Q R : Type 0} (m : Machine W X Q R) (g : Ground m) where
     [],
     rs,
     refl,
-    (λ zs z. ap is_over (next_front m g k rs zs)),
+    (λ zs z. ap is_finished (next_front m g k rs zs)),
     (λ w zs z. ap (step m w) (next_front m g k rs zs) ∙ next_step m g k rs w zs
         ∙ ap (λ l. (w, free_steps m [] (g.credit k rs ∷ l))) (sym (map-none m zs))),
     credit_runs k rs,
@@ -94,7 +94,7 @@ module _ {W X Q R : Type 0} (m : Machine W X Q R) (g : Ground m) where
       go (Takes p) e h = ap (λ a. freed m a x (λ new. free_steps m new zs) (map (gives m []) zs)) e
       go (Asks p) e h = ap (λ a. freed m a x (λ new. free_steps m new zs) (map (gives m []) zs)) e
 
-  pub takes_active : (x : X) (p : Place X Q) → m.act x ≡ Takes p → IsActive (m.act x)
+  pub takes_active : (x : X) (p : Replacement X Q) → m.act x ≡ Takes p → IsActive (m.act x)
   takes_active x p e = subst IsActive (sym e) tt
 
   pub runs_woken : (x y : X) → m.act x ≡ Wakes y → IsActive (m.act y) → Runs m g zero [] (x ∷ []) (y ∷ [])
@@ -102,7 +102,7 @@ module _ {W X Q R : Type 0} (m : Machine W X Q R) (g : Ground m) where
       ∙ sym (resting y f (map (gives m []) zs))
 
   -- one inference that stays within a segment
-  pub runs_step : (x : X) (mid b : List X) (p : Place X Q) → m.act x ≡ Takes p
+  pub runs_step : (x : X) (mid b : List X) (p : Replacement X Q) → m.act x ≡ Takes p
       → ((zs : List X) → Each g.Under zs → placed m p (mid ++ zs) ≡ b ++ zs) → Runs m g (suc zero) [] (x ∷ mid) b
   runs_step x mid b p e h =
       let up = resting x (takes_active x p e) in (
@@ -110,7 +110,7 @@ module _ {W X Q R : Type 0} (m : Machine W X Q R) (g : Ground m) where
         [],
         [],
         refl,
-        (λ zs z. ap is_over (up (mid ++ zs))),
+        (λ zs z. ap is_finished (up (mid ++ zs))),
         (λ w zs z. ap (step m w) (up (mid ++ zs)) ∙ ap (λ a. acted m a w x (mid ++ zs)) e
             ∙ ap (λ l. (w, free_steps m [] l)) (h zs z ∙ ap (λ l. b ++ l) (sym (map-none m zs)))),
         λ zs z.
@@ -127,7 +127,7 @@ module _ {W X Q R : Type 0} (m : Machine W X Q R) (g : Ground m) where
       go (On p) e next = next p e
       go (Here ys) e next = sym (append-assoc-at ys xs zs) ∙ ap (λ l. l ++ zs) (some-same (ys ++ xs) b e)
 
-  pub placed-within : (p : Place X Q) (xs b zs : List X) → placed_in m p xs ≡ Some b → placed m p (xs ++ zs) ≡ b ++ zs
+  pub placed-within : (p : Replacement X Q) (xs b zs : List X) → placed_in m p xs ≡ Some b → placed m p (xs ++ zs) ≡ b ++ zs
   placed-within (Put ys) xs b zs e = sym (append-assoc-at ys xs zs) ∙ ap (λ l. l ++ zs) (some-same (ys ++ xs) b e)
   placed-within (Only ys) xs b zs e = none-some b e
   placed-within (Seek q) xs b zs e = search-within q xs b zs e

@@ -3,7 +3,7 @@ use Rattle.std.proofs.Common.{◌≡◌, ℕ, ◌+◌, ◌-◌, ◌≤◌, ◌<�
 use Rattle.run_model.specs.Programs.Clauses.{Clause}
 use Rattle.tree_model.specs.Elements.{Element, Credit, Plain, EndOf, Catch, Findall, End}
 use Rattle.tree_model.specs.Credits.{greatest}
-use Rattle.interleaving.specs.Machine.{free_steps, run, is_over, seen}
+use Rattle.interleaving.specs.Machine.{free_steps, run, is_finished, seen}
 use Rattle.interleaving.specs.Scopes.{Shared, scoped}
 use Rattle.interleaving.specs.Quiet.{IsQuiet, inferences}
 use Rattle.interleaving.specs.Laws.{MayBecome}
@@ -89,11 +89,11 @@ world_stays clauses xs n w l =
 
 -- and before the last of them the run is not over
 pub goes_on : (clauses : List Clause) (xs : List Element) (n : ℕ) (w : Shared) → n < lead xs
-    → is_over (run (scoped clauses) n w (free_steps (scoped clauses) [] xs)).1 ≡ false
+    → is_finished (run (scoped clauses) n w (free_steps (scoped clauses) [] xs)).1 ≡ false
 goes_on clauses xs n w l =
     let h = parted xs in
     let far : n < inferences h.front = subst (λ k. n < k) h.counted l in
-    ap (λ ys. is_over (run (scoped clauses) n w (free_steps (scoped clauses) [] ys)).1) h.joined
+    ap (λ ys. is_finished (run (scoped clauses) n w (free_steps (scoped clauses) [] ys)).1) h.joined
     ∙ (credits_pass clauses h.front h.rest w h.quiet).going n far
 
 -- lists that follow one another

@@ -4,7 +4,7 @@ use Rattle.std.specs.Prelude.{◌&&◌}
 use Rattle.au_model.specs.Terms.Each.{Each}
 use Rattle.run_model.specs.Machine.Items.{Item, GoalItem, CatchMark, CollectMark, RemovalItem}
 use Rattle.tree_model.specs.Elements.{Name, same, Element, Credit, Plain, EndOf, Catch, Findall, End}
-use Rattle.interleaving.specs.Sound.{names, IsOlder, EachFindall}
+use Rattle.interleaving.specs.Sound.{names, IsMadeElsewhere, EachFindall}
 use Rattle.interleaving.specs.Views.{IsGrown, IsBlind}
 use Rattle.tree_model.specs.Floors.{renamed_item}
 use Rattle.tree_model.specs.PendingLists.{Step, Way, step_name, scope_on}
@@ -32,7 +32,7 @@ made_more inside g q h [] = h
 made_more inside g q h (i ∷ more) = g i (more ++ q) (made_more inside g q h more)
 
 pub blind_findalls : (inside : Name → Bool) → IsGrown inside → (q : Name) → inside q ≡ true → (xs : List Element)
-    → Each (IsBlind inside) xs → EachFindall (IsOlder q) xs
+    → Each (IsBlind inside) xs → EachFindall (IsMadeElsewhere q) xs
 blind_findalls inside g q h [] b = tt
 blind_findalls inside g q h (Credit k rs ∷ xs) b = blind_findalls inside g q h xs b.1
 blind_findalls inside g q h (Plain p f ∷ xs) b = blind_findalls inside g q h xs b.1

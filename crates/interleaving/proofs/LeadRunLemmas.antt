@@ -7,10 +7,10 @@ use Rattle.run_model.specs.Machine.Items.{Continuation, with_items}
 use Rattle.run_model.specs.Machine.Entries.{PlainEntry}
 use Rattle.tree_model.specs.Elements.{Name, same, Element, Credit, Plain, EndOf}
 use Rattle.interleaving.specs.HeightMachine.{HeightEntry}
-use Rattle.interleaving.specs.Erased.{from, count, height, erased}
-use Rattle.interleaving.specs.Sound.{names, IsOlder, IsSound}
+use Rattle.interleaving.specs.Erased.{from, element_count, height, erased}
+use Rattle.interleaving.specs.Sound.{names, IsMadeElsewhere, IsSound}
 use Rattle.interleaving.specs.Views.{IsBlind}
-use Rattle.interleaving.specs.OwnRuns.{StandsFor, IsFloorUnder}
+use Rattle.interleaving.specs.OwnRuns.{NamesEntries, IsFloorUnder}
 use Rattle.tree_model.specs.Levels.{Level}
 use Rattle.tree_model.specs.Floors.{with_heights, height_of, floor_of}
 use Rattle.tree_model.specs.PendingLists.{way_of, named_continuation, front_of, back_of}
@@ -73,7 +73,7 @@ module _ (v : Level) (up : List Level) (next : ℕ) (f : Continuation ℕ) (free
   pub run_back : Each (IsBlind (made_at (0 ∷ next ∷ []) next)) (back_of (v ∷ up))
   run_back = blind_back 0 next next (v ∷ up) IsOpen a out_all
 
-  older_names : (p : Name) → length p ≡ 3 → Each (IsOlder p) (names (named_continuation (way_of (v ∷ up)) f).items)
+  older_names : (p : Name) → length p ≡ 3 → Each (IsMadeElsewhere p) (names (named_continuation (way_of (v ∷ up)) f).items)
   older_names p l = (carried_low (v ∷ up) (around_path (v ∷ up) IsOpen a) (below_named (v ∷ up)) (λ r o. below_from (v ∷ up) r) p l
       f.items h.scoped).older
 
@@ -86,7 +86,7 @@ module _ (v : Level) (up : List Level) (next : ℕ) (f : Continuation ℕ) (free
     lead_sound (length v.left ∷ v.number ∷ []) (0 ∷ next ∷ []) (0 ∷ length v.left ∷ v.number ∷ []) (0 ∷ 0 ∷ next ∷ [])
         (floor_named (v ∷ up)) (pair_older (0 ∷ 0 ∷ next ∷ []) refl 0 next) (named_continuation (way_of (v ∷ up)) f).items others
         (older_names (0 ∷ 0 ∷ next ∷ []) refl)
-        (findalls_low (IsOlder (0 ∷ 0 ∷ next ∷ [])) (v ∷ up) (λ m k. pair_older (0 ∷ 0 ∷ next ∷ []) refl 0 m)) s.0,
+        (findalls_low (IsMadeElsewhere (0 ∷ 0 ∷ next ∷ [])) (v ∷ up) (λ m k. pair_older (0 ∷ 0 ∷ next ∷ []) refl 0 m)) s.0,
     s.1,
   )
 
@@ -110,16 +110,16 @@ module _ (v : Level) (up : List Level) (next : ℕ) (f : Continuation ℕ) (free
   run_floor = record { under = under_low 0 next next (v ∷ up) out_all; entries = below_erased (v ∷ up) (around_path (v ∷ up) IsOpen a) }
 
   pub deepest : (s : Name) → same (length v.left ∷ v.number ∷ []) s ≡ false → (t : List Element) → from (below_named (v ∷ up)) s
-      ≡ EndOf s ∷ t → suc (height (below_named (v ∷ up)) s) ≤ count (below_named (v ∷ up))
+      ≡ EndOf s ∷ t → suc (height (below_named (v ∷ up)) s) ≤ element_count (below_named (v ∷ up))
   deepest s e t k =
       let past = from_end (length v.left ∷ v.number ∷ []) s (floor_named (v ∷ up)) apart in
-      omega (arith, floor-low (floor_named (v ∷ up)) s t (first_low (v ∷ up)) (sym past ∙ k), ap count past)
+      omega (arith, floor-low (floor_named (v ∷ up)) s t (first_low (v ∷ up)) (sym past ∙ k), ap element_count past)
     where
       apart : s ≡ length v.left ∷ v.number ∷ [] → ⊥
       apart z = clash (sym (same-itself (length v.left ∷ v.number ∷ [])) ∙ (ap (same (length v.left ∷ v.number ∷ [])) (sym z) ∙ e))
 
   pub run_stands : IsSound (own_plain v up f ∷ below_named (v ∷ up))
-      → StandsFor (made_at (0 ∷ next ∷ []) next) (lead_segment v up next f) (below_named (v ∷ up))
+      → NamesEntries (made_at (0 ∷ next ∷ []) next) (lead_segment v up next f) (below_named (v ∷ up))
       (with_heights (v ∷ up) (PlainEntry f) ∷ []) (floor_of (v ∷ up))
   run_stands s = record {
     sound = low_sound s;

@@ -10,7 +10,7 @@ use Rattle.tree_model.specs.Elements.{Name}
 use Rattle.tree_model.specs.PendingLists.{Step, Way, way_of, element_on, list_in, list_among, list_below, list_right, back_of}
 use Rattle.tree_model.specs.Ways.{is_on, way_above, AreScoped}
 use Rattle.tree_model.specs.SoundTrees.{count_in, count_among, count_below, one_if}
-use Rattle.interleaving.specs.Sound.{IsOlder, EachFindall}
+use Rattle.interleaving.specs.Sound.{IsMadeElsewhere, EachFindall}
 use Rattle.interleaving.proofs.ContextLemmas.{count_around}
 use Rattle.interleaving.proofs.WayLemmas.{cond-false, reach-on, through-on, one_if-zero, same_self}
 use Rattle.interleaving.proofs.CarriedLemmas.{findalls-append}
@@ -108,7 +108,7 @@ scoped_by levels (CollectMark t s ∷ items) d h =
     )
 
 -- what an entry makes has a longer name than any scope of the tree
-pub older_scope : (i n a b : ℕ) → IsOlder (0 ∷ i ∷ n ∷ []) (a ∷ b ∷ [])
+pub older_scope : (i n a b : ℕ) → IsMadeElsewhere (0 ∷ i ∷ n ∷ []) (a ∷ b ∷ [])
 older_scope i n a b more e =
     let lengths : ◌≡◌ {A = ℕ} 2 (length (more ++ 0 ∷ i ∷ n ∷ [])) = ap length e in
     let long : length (more ++ 0 ∷ i ∷ n ∷ []) ≡ length more + 3 = length-append more (0 ∷ i ∷ n ∷ []) in

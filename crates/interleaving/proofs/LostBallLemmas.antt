@@ -18,7 +18,7 @@ use Rattle.tree_model.specs.SoundTrees.{IsOpen}
 use Rattle.tree_model.specs.CaughtTrees.{IsLastQuery}
 use Rattle.tree_model.specs.Elements.{Name, Record, Element, Credit, Plain, EndOf, Catch, Findall, End}
 use Rattle.interleaving.specs.Machine.{Machine, Takes, gives, freed, free_steps, run, seen}
-use Rattle.interleaving.specs.Scopes.{Shared, Sought, Lands, act, scoped}
+use Rattle.interleaving.specs.Scopes.{Shared, Sought, ElementReplacement, act, scoped}
 use Rattle.interleaving.specs.Quiet.{IsQuiet, inferences, records}
 use Rattle.interleaving.specs.Views.{IsBlind}
 use Rattle.interleaving.specs.Laws.{MayBecome}
@@ -69,10 +69,10 @@ module _ (clauses : List Clause) where
   abbrev m : Machine Shared Element Sought Record
   m = scoped clauses
 
-  stands_up : (x : Element) (q : Lands) (zs : List Element) → act clauses x ≡ Takes q → free_steps m [] (x ∷ zs) ≡ x ∷ map (gives m []) zs
+  stands_up : (x : Element) (q : ElementReplacement) (zs : List Element) → act clauses x ≡ Takes q → free_steps m [] (x ∷ zs) ≡ x ∷ map (gives m []) zs
   stands_up x q zs h = ap (λ a. freed m a x (λ new. free_steps m new zs) (map (gives m []) zs)) h
 
-  taken_unmarks : (p : Name) (f : Continuation Name) (q : Lands) (zs : List Element) → act clauses (bare clauses p f) ≡ Takes q
+  taken_unmarks : (p : Name) (f : Continuation Name) (q : ElementReplacement) (zs : List Element) → act clauses (bare clauses p f) ≡ Takes q
       → free_steps m [] (Plain p f ∷ zs) ≡ free_steps m [] (bare clauses p f ∷ zs)
   taken_unmarks p f q zs h = go f.items h
     where
@@ -88,7 +88,7 @@ module _ (clauses : List Clause) where
           (wakes_bare clauses (without_marks items) p (with_items (CatchMark s ∷ items) f) q h)
           ∙ sym (stands_up (Plain p (with_items (without_marks items) f)) q zs h)
 
-  pub unmarked_becomes : (inside : Name → Bool) (pre : List Element) (p : Name) (f : Continuation Name) (q : Lands) (zs : List Element)
+  pub unmarked_becomes : (inside : Name → Bool) (pre : List Element) (p : Name) (f : Continuation Name) (q : ElementReplacement) (zs : List Element)
       → act clauses (bare clauses p f) ≡ Takes q → Each (IsBlind inside) pre → inside p ≡ true
       → MayBecome clauses (pre ++ (Plain p f ∷ zs)) (pre ++ (bare clauses p f ∷ zs))
   unmarked_becomes inside pre p f q zs h front own =

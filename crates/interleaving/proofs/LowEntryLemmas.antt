@@ -4,7 +4,7 @@ use Rattle.au_model.specs.Terms.Each.{Each}
 use Rattle.run_model.specs.Machine.Items.{Item, GoalItem, CatchMark, CollectMark, RemovalItem}
 use Rattle.tree_model.specs.Elements.{Name, Element, Credit, Plain, EndOf, Catch, Findall, End}
 use Rattle.interleaving.specs.Erased.{from}
-use Rattle.interleaving.specs.Sound.{names, IsOlder, IsPresent, IsChain, AreCarried, IsGuarded, IsGathered, IsMarkSound}
+use Rattle.interleaving.specs.Sound.{names, IsMadeElsewhere, IsPresent, IsChain, AreCarried, IsGuarded, IsGathered, IsMarkSound}
 use Rattle.tree_model.specs.Nodes.{CatchNode, FindallNode}
 use Rattle.tree_model.specs.Levels.{Level}
 use Rattle.tree_model.specs.Floors.{renamed_item}
@@ -110,8 +110,8 @@ module _ (levels : List Level) (path : IsPath (way_of levels)) (X : List Element
   abbrev renamed : List (Item ℕ) → List (Item Name)
   renamed items = map (renamed_item (scope_on (way_of levels)) (scope_on (way_of levels))) items
 
-  name_older : (p : Name) → length p ≡ 3 → (s : ℕ) → is_on (way_of levels) s ≡ true → IsOlder p (scope_on (way_of levels) s)
-  name_older p l s h = let n = scope_pair (way_of levels) s h in subst (IsOlder p) (sym n.same) (pair_older p l n.index s)
+  name_older : (p : Name) → length p ≡ 3 → (s : ℕ) → is_on (way_of levels) s ≡ true → IsMadeElsewhere p (scope_on (way_of levels) s)
+  name_older p l s h = let n = scope_pair (way_of levels) s h in subst (IsMadeElsewhere p) (sym n.same) (pair_older p l n.index s)
 
   name_present : (s : ℕ) → is_on (way_of levels) s ≡ true → IsPresent X (scope_on (way_of levels) s)
   name_present s h = let r = upto_first levels s h in (r.0, passes s h ∙ r.1)
@@ -122,7 +122,7 @@ module _ (levels : List Level) (path : IsPath (way_of levels)) (X : List Element
       ∙ (below_after levels path h r k ∙ sym (passes r (part_from (way_of levels) h r k)))
 
   items_older : (p : Name) → length p ≡ 3 → (part : Way) (items : List (Item ℕ)) → IsPart part (way_of levels) → AreScoped part items
-      → Each (IsOlder p) (names (map (renamed_item (scope_on (way_of levels)) (scope_on (way_of levels))) items))
+      → Each (IsMadeElsewhere p) (names (map (renamed_item (scope_on (way_of levels)) (scope_on (way_of levels))) items))
   items_older p l part [] k h = tt
   items_older p l part (GoalItem t s ∷ items) k h =
       (name_older p l s (k s (reach-on part s h.0)), items_older p l (way_from part s) items (λ r z. k r (part_from part s r z)) h.1)

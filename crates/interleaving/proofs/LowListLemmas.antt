@@ -5,8 +5,8 @@ use Rattle.au_model.specs.Terms.Each.{Each}
 use Rattle.run_model.specs.Machine.Items.{Continuation}
 use Rattle.run_model.specs.Machine.Entries.{Entry, PlainEntry, CatchEntry, FindallEntry, EndEntry}
 use Rattle.tree_model.specs.Elements.{Name, EndOf}
-use Rattle.interleaving.specs.Erased.{from, count}
-use Rattle.interleaving.specs.Sound.{names, IsOlder, IsMarkSound, EachFindall, IsEntrySound, IsRightUnder, IsSound}
+use Rattle.interleaving.specs.Erased.{from, element_count}
+use Rattle.interleaving.specs.Sound.{names, IsMadeElsewhere, IsMarkSound, EachFindall, IsEntrySound, IsRightUnder, IsSound}
 use Rattle.tree_model.specs.Nodes.{Kind, ChoiceNode, Ready, TakenBy, Waiting, Dormant, Alternatives, none, alternative, Status, Pending}
 use Rattle.tree_model.specs.Nodes.{Inner, Closed}
 use Rattle.tree_model.specs.Levels.{Level}
@@ -96,11 +96,11 @@ module _ (next : ℕ) (up : List Level) (f : IsFree next up) (a : IsAround up Is
         };
         marks = marks_low up path (EndOf (i ∷ n ∷ []) ∷ below_named up) over (EndOf (i ∷ n ∷ []) ∷ back_of up)
             (scope_on (record { node = n; index = i; kind = kind } ∷ way_of up)) agree real (way_of up) g.items (λ r z. z) h m;
-        findalls = findalls_low (IsOlder (0 ∷ i ∷ n ∷ [])) up (λ m k. pair_older (0 ∷ i ∷ n ∷ []) refl 0 m);
+        findalls = findalls_low (IsMadeElsewhere (0 ∷ i ∷ n ∷ [])) up (λ m k. pair_older (0 ∷ i ∷ n ∷ []) refl 0 m);
       }
 
   under : IsRightUnder (EndOf (i ∷ n ∷ []) ∷ below_named up) (i ∷ n ∷ [])
-  under = ap count (from_own (i ∷ n ∷ []) (below_named up))
+  under = ap element_count (from_own (i ∷ n ∷ []) (below_named up))
 
   pub sleeper_sound : (e : Entry) → (guards e ≡ ChoiceNode → ⊥) → IsOnWay (record { node = n; index = i; kind = kind } ∷ way_of up) e
       → IsSound (element_at n i (record { node = n; index = i; kind = kind } ∷ way_of up) e ∷ EndOf (i ∷ n ∷ []) ∷ back_of up) →
@@ -154,7 +154,7 @@ low_entry next v up g f a h s =
         marks = marks_low (v ∷ up) path (below_named (v ∷ up)) (λ r o. below_from (v ∷ up) r) (back_of (v ∷ up))
             (scope_on (way_of (v ∷ up))) (λ r o. refl) (back_from next (v ∷ up) f a) (way_of (v ∷ up)) g.items (λ r z. z) h.scoped
             s.0.marks;
-        findalls = findalls_low (IsOlder (0 ∷ length v.left ∷ v.number ∷ [])) (v ∷ up)
+        findalls = findalls_low (IsMadeElsewhere (0 ∷ length v.left ∷ v.number ∷ [])) (v ∷ up)
             (λ m k. pair_older (0 ∷ length v.left ∷ v.number ∷ []) refl 0 m);
       },
       low_list next (v ∷ up) f a s.1,

@@ -6,7 +6,7 @@ use Rattle.run_model.specs.Machine.Items.{Item, GoalItem, CatchMark, CollectMark
 use Rattle.run_model.specs.Machine.Entries.{Entry, PlainEntry, CatchEntry, FindallEntry, EndEntry}
 use Rattle.tree_model.specs.Elements.{Name, Element, EndOf, End}
 use Rattle.interleaving.specs.HeightMachine.{HeightEntry, held_entries}
-use Rattle.interleaving.specs.Erased.{from, count, height, with_height, erased}
+use Rattle.interleaving.specs.Erased.{from, element_count, height, with_height, erased}
 use Rattle.interleaving.specs.OwnRuns.{IsFloor}
 use Rattle.tree_model.specs.Levels.{Level}
 use Rattle.tree_model.specs.Nodes.{Hold, Ready, TakenBy, Waiting, Dormant, Alternatives, none, alternative, Pending, Inner, Closed}
@@ -44,7 +44,7 @@ floor_named [] = []
 floor_named (v ∷ up) = right_named v.number (suc (length v.left)) (way_of up) v.right ++ below_named up
 
 -- an element's count, and what it ends: nothing
-pub count-element : (n i : ℕ) (way : Way) (e : Entry) (xs : List Element) → count (element_at n i way e ∷ xs) ≡ suc (count xs)
+pub count-element : (n i : ℕ) (way : Way) (e : Entry) (xs : List Element) → element_count (element_at n i way e ∷ xs) ≡ suc (element_count xs)
 count-element n i way (PlainEntry f) xs = refl
 count-element n i way (CatchEntry c r f) xs = refl
 count-element n i way (FindallEntry results l f) xs = refl
@@ -73,8 +73,8 @@ pub from-other : (way : Way) (s i n : ℕ) (xs : List Element) → (s ≡ n → 
     ≡ from xs (scope_on way s)
 from-other way s i n xs h = from_end (i ∷ n ∷ []) (scope_on way s) xs (scope_other way s i n h)
 
-pub count-right : (n i : ℕ) (way : Way) (right : Alternatives) (xs : List Element) → count (right_named n i way right ++ xs)
-    ≡ suc (count xs)
+pub count-right : (n i : ℕ) (way : Way) (right : Alternatives) (xs : List Element) → element_count (right_named n i way right ++ xs)
+    ≡ suc (element_count xs)
 count-right n i way none xs = refl
 count-right n i way (alternative spent (Inner node) others) xs = refl
 count-right n i way (alternative spent (Closed c) others) xs = refl
@@ -95,7 +95,7 @@ from-right n i way (alternative spent (Pending (Waiting g) e) others) xs s h = r
 from-right n i way (alternative spent (Pending Dormant e) others) xs s h = from-element n i way e (EndOf (i ∷ n ∷ []) ∷ xs) s
     ∙ from_end (i ∷ n ∷ []) s xs h
 
-pub count-below : (levels : List Level) → count (below_named levels) ≡ length levels
+pub count-below : (levels : List Level) → element_count (below_named levels) ≡ length levels
 count-below [] = refl
 count-below (v ∷ up) = count-right v.number (suc (length v.left)) (way_of up) v.right (below_named up) ∙ ap suc (count-below up)
 
@@ -124,8 +124,8 @@ low_height (v ∷ up) s = go (v.number == s) refl (low_height up s)
         ≡ cond b (suc (length up)) (height_of up s)
     go true k f =
         let rest = right_named v.number (suc (length v.left)) (way_of up) v.right ++ below_named up in
-        ap count (from_own (step_name (step_of v)) rest) ∙ count-below (v ∷ up)
-    go false k f = ap count (from-level v up s (λ e. clash (sym k ∙ other e))) ∙ f
+        ap element_count (from_own (step_name (step_of v)) rest) ∙ count-below (v ∷ up)
+    go false k f = ap element_count (from-level v up s (λ e. clash (sym k ∙ other e))) ∙ f
       where
         other : s ≡ v.number → (v.number == s) ≡ true
         other e = ap (λ m. v.number == m) e ∙ same_self v.number
@@ -193,7 +193,7 @@ right_erased n i levels (alternative spent (Pending (TakenBy w) e) others) p = r
 right_erased n i levels (alternative spent (Pending (Waiting g) e) others) p = refl
 right_erased n i levels (alternative spent (Pending Dormant e) others) p =
     entry_low n i (way_of levels) e (EndOf (i ∷ n ∷ []) ∷ below_named levels) (height_of levels)
-    (λ s. ap count (from-beside (way_of levels) s i n (below_named levels) p) ∙ low_height levels s)
+    (λ s. ap element_count (from-beside (way_of levels) s i n (below_named levels) p) ∙ low_height levels s)
 
 pub below_erased : (levels : List Level) → IsPath (way_of levels) → erased (below_named levels) ≡ held_entries (floor_of levels)
 below_erased [] p = refl

@@ -18,7 +18,7 @@ use Rattle.tree_model.specs.Events.{Event, Claim, Nodes, Empty, Collected, Lost,
 use Rattle.tree_model.specs.TreeStates.{TreeState, opened_node, opening_root, opening_tree}
 use Rattle.tree_model.specs.Legality.{claimable, resumable, taken_at, gate_of, run_of}
 use Rattle.tree_model.specs.Effects.{with_status, closed_with, left_at, ball_falls, cut_at, or_none, gate_pruned, query_opens, front_taken}
-use Rattle.tree_model.specs.Effects.{stack_of, world_moved, run_placed, results_of, where_some, gate_or_frozen, after_allowed, after_event}
+use Rattle.tree_model.specs.Effects.{spot_stack, world_moved, run_placed, results_of, where_some, gate_or_frozen, after_allowed, after_event}
 use Rattle.tree_model.specs.Effects.{spending}
 use Rattle.tree_model.specs.Histories.{after_events, tree_after}
 use Rattle.tree_model.specs.NumberedTrees.{IsNumberedStatus, AreNumbered, IsNumberedTree}
@@ -34,7 +34,7 @@ opened_numbered n q = (query-numbered n q, (tt, tt))
 
 -- a place, and the entry there
 module _ (s : Spot) (v : AreLevelsNumbered (levels_of s)) where
-  stack_numbered : IsEntryNumbered s.entry → AreEntriesNumbered (stack_of s)
+  stack_numbered : IsEntryNumbered s.entry → AreEntriesNumbered (spot_stack s)
   stack_numbered h = (renamed_numbered _ _ s.entry h, floor_numbered (levels_of s) v)
 
   closed_numbered : (c : Credit) (t : TreeState) → IsNumberedTree (closed_with s c t)
@@ -102,14 +102,14 @@ module _ (t : TreeState) (h : IsNumberedTree t) where
   held_numbered hold s v k = numbered_in (levels_of s) (Pending (hold s) s.entry) v k
 
   pruned_at : (s : Spot) → AreLevelsNumbered (levels_of s) → IsEntryNumbered s.entry
-      → IsNumberedTree (gate_pruned s (gate_of t s) (or_none (taken_alone t.job.clauses (stack_of s))) t)
+      → IsNumberedTree (gate_pruned s (gate_of t s) (or_none (taken_alone t.job.clauses (spot_stack s))) t)
   pruned_at s v k = gate_numbered s v (gate_of t s) _ t h
-      (or_none_numbered (taken_alone t.job.clauses (stack_of s)) (alone_numbered t.job.clauses (stack_of s) (stack_numbered s v k)))
+      (or_none_numbered (taken_alone t.job.clauses (spot_stack s)) (alone_numbered t.job.clauses (spot_stack s) (stack_numbered s v k)))
 
   answered_at : (s : Spot) → AreLevelsNumbered (levels_of s) → IsEntryNumbered s.entry
-      → IsNumberedTree (world_moved s (taken_at_front t.job.clauses (stack_of s) t.world) t)
-  answered_at s v k = taken_numbered s v _ (record t { world = (taken_at_front t.job.clauses (stack_of s) t.world).0 }) h k
-      (front_numbered t.job.clauses (stack_of s) t.world (stack_numbered s v k))
+      → IsNumberedTree (world_moved s (taken_at_front t.job.clauses (spot_stack s) t.world) t)
+  answered_at s v k = taken_numbered s v _ (record t { world = (taken_at_front t.job.clauses (spot_stack s) t.world).0 }) h k
+      (front_numbered t.job.clauses (spot_stack s) t.world (stack_numbered s v k))
 
   placed_at_spot : (n : ℕ) (sizes : List ℕ) (s : Spot) → AreLevelsNumbered (levels_of s) → IsEntryNumbered s.entry
       → IsNumberedTree (run_placed s n sizes (run_of t s n) t)
@@ -134,9 +134,9 @@ module _ (t : TreeState) (h : IsNumberedTree t) where
       (λ s. with_status s (Pending (gate_or_frozen frozen (gate_of t s)) s.entry) t) (taken_at_open w a t)
       (held_numbered (λ s. gate_or_frozen frozen (gate_of t s)))
   allowed_numbered (Prune w a) = somewhere (taken_at w a t)
-      (λ s. gate_pruned s (gate_of t s) (or_none (taken_alone t.job.clauses (stack_of s))) t) (taken_at_open w a t) pruned_at
+      (λ s. gate_pruned s (gate_of t s) (or_none (taken_alone t.job.clauses (spot_stack s))) t) (taken_at_open w a t) pruned_at
   allowed_numbered (Answer w a frozen) = somewhere (taken_at w a t)
-      (λ s. world_moved s (taken_at_front t.job.clauses (stack_of s) t.world) t) (taken_at_open w a t) answered_at
+      (λ s. world_moved s (taken_at_front t.job.clauses (spot_stack s) t.world) t) (taken_at_open w a t) answered_at
   allowed_numbered (Stop w) = h
 
   pub event_numbered : (e : Event) → IsNumberedTree (after_event t e)

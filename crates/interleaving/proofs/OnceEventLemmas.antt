@@ -17,7 +17,7 @@ use Rattle.tree_model.specs.PrivateRuns.{goal_alone, item_alone, taken_alone}
 use Rattle.tree_model.specs.Pruning.{Task}
 use Rattle.tree_model.specs.FrontGates.{Taken, Continues, Answered, Raises, Halts, QueryEnds, reply_taken, goal_at_front}
 use Rattle.tree_model.specs.FrontGates.{removal_at_front, item_at_front, taken_at_front}
-use Rattle.tree_model.specs.TreeStates.{TreeState, pending}
+use Rattle.tree_model.specs.TreeStates.{TreeState, pending_spots}
 use Rattle.tree_model.specs.Legality.{is_ready, is_taken_by, is_spot_at, claimable, may_resume, taken_at, run_fits, may_prune, at_spot}
 use Rattle.tree_model.specs.Effects.{with_status, or_none, gate_pruned, front_taken, run_placed, where_some}
 use Rattle.tree_model.specs.HandOuts.{Handed, Never, Away, Over, claimed, given_back}
@@ -53,7 +53,7 @@ pub record IsTaken (w : ℕ) (a : Place) (t : TreeState) (s : Spot) : Type 0 whe
 
 pub taken_here : (w : ℕ) (a : Place) (t : TreeState) (s : Spot) → taken_at w a t ≡ Some s → IsTaken w a t s
 taken_here w a t s e =
-    let f = found (IsIn t.root) (λ r. is_taken_by w r.hold && same_place a (place_of_spot r)) (pending t) s (all_in t.root) e in
+    let f = found (IsIn t.root) (λ r. is_taken_by w r.hold && same_place a (place_of_spot r)) (pending_spots t) s (all_in t.root) e in
     record {
       inside = f.holds;
       held = and_first (is_taken_by w s.hold) _ f.passes;
@@ -233,6 +233,6 @@ pub claim_kept : (G : Place → Option Handed) (t : TreeState) (w : ℕ) (a : Pl
     → IsKept (moved_at G a (claimed w)) (where_some o t (λ s. with_status s (Pending (TakenBy w) s.entry) t))
 claim_kept G t w a k z st None e h = let no_way : ⊥ = cc in absurd no_way
 claim_kept G t w a k z st (Some s) e h =
-    let f = found (IsIn t.root) (λ r. is_ready r.hold) (pending t) s (all_in t.root)
-    (if_room-some t (find (λ r. is_ready r.hold) (pending t)) s e) in
+    let f = found (IsIn t.root) (λ r. is_ready r.hold) (pending_spots t) s (all_in t.root)
+    (if_room-some t (find (λ r. is_ready r.hold) (pending_spots t)) s e) in
     holding G t a (claimed w) (TakenBy w) s k z st (spot_is a s h) f.holds (ap (claimed w) (ready_never s.hold f.passes))

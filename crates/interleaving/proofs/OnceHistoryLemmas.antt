@@ -11,10 +11,10 @@ use Rattle.tree_model.specs.PrivateRuns.{taken_alone}
 use Rattle.tree_model.specs.Pruning.{Task}
 use Rattle.tree_model.specs.FrontGates.{taken_at_front}
 use Rattle.tree_model.specs.Events.{Event, Claim, Nodes, Empty, Collected, Lost, Suspend, Resume, Prune, Answer, Stop}
-use Rattle.tree_model.specs.TreeStates.{TreeState, opening_root, opening_tree, pending, leftmost, ended, end_by}
+use Rattle.tree_model.specs.TreeStates.{TreeState, opening_root, opening_tree, pending_spots, leftmost, ended, end_by}
 use Rattle.tree_model.specs.Legality.{is_spot_at, claimable, may_resume, resumable, taken_at, gate_of, run_of, is_task, at_spot}
 use Rattle.tree_model.specs.Legality.{is_allowed, is_legal}
-use Rattle.tree_model.specs.Effects.{with_status, closed_with, or_none, gate_pruned, world_moved, stack_of, run_placed, without_task}
+use Rattle.tree_model.specs.Effects.{with_status, closed_with, or_none, gate_pruned, world_moved, spot_stack, run_placed, without_task}
 use Rattle.tree_model.specs.Effects.{where_some, gate_or_frozen, after_allowed, after_event}
 use Rattle.tree_model.specs.Histories.{are_legal}
 use Rattle.tree_model.specs.HandOuts.{Handed, Never, Out, Away, Over, resumed, given_back, handed_by, and_so_on, handed_after}
@@ -37,7 +37,7 @@ resume_kept : (G : Place → Option Handed) (t : TreeState) (w : ℕ) (a : Place
     → IsKept (moved_at G a (resumed w)) (where_some o t (λ s. with_status s (Pending (TakenBy w) s.entry) t))
 resume_kept G t w a k z st None e h = let no_way : ⊥ = cc in absurd no_way
 resume_kept G t w a k z st (Some s) e h =
-    let f = found (IsIn t.root) (λ r. may_resume r r.hold) (pending t) s (all_in t.root) e in
+    let f = found (IsIn t.root) (λ r. may_resume r r.hold) (pending_spots t) s (all_in t.root) e in
     holding G t a (resumed w) (TakenBy w) s k z st (spot_is a s h) f.holds (ap (resumed w) (waiting_away s s.hold f.passes))
 
 suspend_kept : (G : Place → Option Handed) (t : TreeState) (w : ℕ) (a : Place) (frozen : Bool) (test : Spot → Bool) → IsKept G t
@@ -148,16 +148,16 @@ allowed_kept G t (Collected w a n) k z st h =
     (λ s p g th y. record { gone = []; moved = closed_moved G t s (given_back Over w) k.defined g th _ t.world })
 allowed_kept G t (Lost w a) k z st h = lost_kept G t w a k z h
 allowed_kept G t (Prune w a) k z st h =
-    closing G t w a _ (λ s. gate_pruned s (gate_of t s) (or_none (taken_alone t.job.clauses (stack_of s))) t) k z st (taken_at w a t)
+    closing G t w a _ (λ s. gate_pruned s (gate_of t s) (or_none (taken_alone t.job.clauses (spot_stack s))) t) k z st (taken_at w a t)
     refl h (allowed_sound t (Prune w a) st h)
-    (λ s p g th y. prune_moves G t s w k.defined g th (gate_of t s) p (or_none (taken_alone t.job.clauses (stack_of s)))
-    (stack_some t.job.clauses (levels_of s) (stack_of s) p))
+    (λ s p g th y. prune_moves G t s w k.defined g th (gate_of t s) p (or_none (taken_alone t.job.clauses (spot_stack s)))
+    (stack_some t.job.clauses (levels_of s) (spot_stack s) p))
 allowed_kept G t (Answer w a true) k z st h = let no_way : ⊥ = cc in absurd no_way
 allowed_kept G t (Answer w a false) k z st h =
-    closing G t w a _ (λ s. world_moved s (taken_at_front t.job.clauses (stack_of s) t.world) t) k z st (taken_at w a t) refl h
+    closing G t w a _ (λ s. world_moved s (taken_at_front t.job.clauses (spot_stack s) t.world) t) k z st (taken_at w a t) refl h
     (allowed_sound t (Answer w a false) st h)
-    (λ s p g th y. answer_moves G t s w k.defined g th (taken_at_front t.job.clauses (stack_of s) t.world).0
-    (taken_at_front t.job.clauses (stack_of s) t.world).1 (front_whole t.job.clauses (stack_of s) t.world) y)
+    (λ s p g th y. answer_moves G t s w k.defined g th (taken_at_front t.job.clauses (spot_stack s) t.world).0
+    (taken_at_front t.job.clauses (spot_stack s) t.world).1 (front_whole t.job.clauses (spot_stack s) t.world) y)
 allowed_kept G t (Stop w) k z st h = same_kept G (after_one G (Stop w)) (record t { stopped = true }) (λ a. unchanged (G a))
     (record {
       defined = k.defined;

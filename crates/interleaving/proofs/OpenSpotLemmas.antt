@@ -5,7 +5,7 @@ use Rattle.run_model.specs.Machine.Entries.{Entry}
 use Rattle.tree_model.specs.Nodes.{Hold, Ready, TakenBy, Waiting, Dormant, Status, Pending}
 use Rattle.tree_model.specs.Levels.{plug, Place, same_place, Spot, levels_of, place_of_spot}
 use Rattle.tree_model.specs.PendingLists.{way_of}
-use Rattle.tree_model.specs.TreeStates.{TreeState, pending, leftmost, live}
+use Rattle.tree_model.specs.TreeStates.{TreeState, pending_spots, leftmost, live}
 use Rattle.tree_model.specs.Legality.{is_ready, is_taken_by, is_spot_at, if_room, claimable, may_resume, resumable, taken_at}
 use Rattle.tree_model.specs.Effects.{with_status, where_some}
 use Rattle.tree_model.specs.Ways.{IsHeldBy}
@@ -56,18 +56,18 @@ if_room-some t (Some r) s h = go (is_spot_at (place_of_spot r) (leftmost t) || n
 
 pub claimable_open : (t : TreeState) (s : Spot) → claimable t ≡ Some s → IsOpenSpot t.root s
 claimable_open t s h =
-    let f = found (IsIn t.root) (λ r. is_ready r.hold) (pending t) s (all_in t.root)
-    (if_room-some t (find (λ r. is_ready r.hold) (pending t)) s h) in
+    let f = found (IsIn t.root) (λ r. is_ready r.hold) (pending_spots t) s (all_in t.root)
+    (if_room-some t (find (λ r. is_ready r.hold) (pending_spots t)) s h) in
     record { inside = f.holds; opened = ready_open s.hold s.entry f.passes }
 
 pub resumable_open : (t : TreeState) (s : Spot) → resumable t ≡ Some s → IsOpenSpot t.root s
 resumable_open t s h =
-    let f = found (IsIn t.root) (λ r. may_resume r r.hold) (pending t) s (all_in t.root) h in
+    let f = found (IsIn t.root) (λ r. may_resume r r.hold) (pending_spots t) s (all_in t.root) h in
     record { inside = f.holds; opened = waiting_open s s.hold s.entry f.passes }
 
 pub taken_at_open : (w : ℕ) (a : Place) (t : TreeState) (s : Spot) → taken_at w a t ≡ Some s → IsOpenSpot t.root s
 taken_at_open w a t s h =
-    let f = found (IsIn t.root) (λ r. is_taken_by w r.hold && same_place a (place_of_spot r)) (pending t) s (all_in t.root) h in
+    let f = found (IsIn t.root) (λ r. is_taken_by w r.hold && same_place a (place_of_spot r)) (pending_spots t) s (all_in t.root) h in
     record { inside = f.holds; opened = taken_open w s.hold s.entry (both_left (is_taken_by w s.hold) _ f.passes) }
 
 -- round an open place, and the entry there

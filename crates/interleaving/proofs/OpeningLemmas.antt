@@ -13,7 +13,7 @@ use Rattle.tree_model.specs.Elements.{Name, Element, Credit, Plain, EndOf, End}
 use Rattle.tree_model.specs.PendingLists.{Way, scope_on, pending_list}
 use Rattle.tree_model.specs.Floors.{renamed_item}
 use Rattle.interleaving.specs.Machine.{free_steps, run, seen, Alike}
-use Rattle.interleaving.specs.Scopes.{first_shared, opened, scoped}
+use Rattle.interleaving.specs.Scopes.{first_shared, opened_elements, scoped}
 use Rattle.interleaving.specs.Erased.{height, with_height, erased}
 use Rattle.interleaving.specs.Sound.{IsSound}
 use Rattle.interleaving.specs.Follows.{lead}
@@ -49,7 +49,7 @@ first_list q =
     })
     ∷ EndOf (0 ∷ 0 ∷ []) ∷ End (0 ∷ 1 ∷ 0 ∷ []) None ∷ EndOf (1 ∷ 0 ∷ []) ∷ []
 
-same_erased : (q : Query) (qs : List Query) → erased (opened [] (q ∷ qs)) ≡ erased (first_list q)
+same_erased : (q : Query) (qs : List Query) → erased (opened_elements [] (q ∷ qs)) ≡ erased (first_list q)
 same_erased q qs =
     ap (λ is. HeightEntry (PlainEntry (record { items = is; named = own_terms q.names; next = query_bound q })) ∷ HeightEntry
     (EndEntry None) ∷ [])
@@ -57,12 +57,12 @@ same_erased q qs =
     ∙ sym (goals_named (height (EndOf (0 ∷ 0 ∷ []) ∷ End (0 ∷ 1 ∷ 0 ∷ []) None ∷ EndOf (1 ∷ 0 ∷ []) ∷ [])) q.goals))
 
 opens_alike : (clauses : List Clause) (qs : List Query) → IsSound (pending_list (opening_root qs))
-    → Alike (scoped clauses) (opened [] qs) (pending_list (opening_root qs))
+    → Alike (scoped clauses) (opened_elements [] qs) (pending_list (opening_root qs))
 opens_alike clauses [] i n w = sym ((no_credit clauses [] []).alike n w)
 opens_alike clauses (q ∷ qs) i n w =
     let one = no_credit clauses [] (Credit 0 [] ∷ first_list q) in
     let two = no_credit clauses [] (first_list q) in
-    names_are_free clauses (opened [] (q ∷ qs)) (first_list q) (opened-sound [] (q ∷ qs)) (two.sound (one.sound i)) (same_erased q qs) n
+    names_are_free clauses (opened_elements [] (q ∷ qs)) (first_list q) (opened-sound [] (q ∷ qs)) (two.sound (one.sound i)) (same_erased q qs) n
     w ∙ (sym (two.alike n w) ∙ sym (one.alike n w))
 
 first_queries : (qs : List Query) → remaining_queries qs ≡ queries_after qs

@@ -6,7 +6,7 @@ use Rattle.au_term.specs.Term.{Term}
 use Rattle.au_model.specs.Terms.Each.{Each}
 use Rattle.run_model.specs.Machine.Entries.{Entry, with_result, collected}
 use Rattle.tree_model.specs.Elements.{Name, Element, Credit, Plain, EndOf, Catch, Findall, End}
-use Rattle.interleaving.specs.Erased.{count}
+use Rattle.interleaving.specs.Erased.{element_count}
 use Rattle.interleaving.specs.Views.{IsInner, IsUnder}
 use Rattle.interleaving.proofs.GivenRecordLemmas.{StandsAt, stands-low}
 
@@ -22,7 +22,7 @@ stands-none inside (End p b ∷ zs) s h u i k = stands-none inside zs s h u.1 i 
 stands-none inside (Findall e v results list p f ∷ zs) s h u i (inl k) = false≢true (sym u.0 ∙ ap inside k.0 ∙ i)
 stands-none inside (Findall e v results list p f ∷ zs) s h u i (inr k) = stands-none inside zs s h u.1 i k.1
 
-pub count-after : (xs ls : List Element) → count ls ≤ count (xs ++ ls)
+pub count-after : (xs ls : List Element) → element_count ls ≤ element_count (xs ++ ls)
 count-after [] ls = omega arith
 count-after (EndOf e ∷ xs) ls = count-after xs ls
 count-after (Credit k rs ∷ xs) ls = omega (arith, count-after xs ls)
@@ -32,7 +32,7 @@ count-after (Findall e u results list p f ∷ xs) ls = omega (arith, count-after
 count-after (End p b ∷ xs) ls = omega (arith, count-after xs ls)
 
 pub stands-high : (inside : Name → Bool) (xs zs : List Element) (s : Name) (h : ℕ) → Each (IsUnder inside) zs → inside s ≡ true
-    → StandsAt (xs ++ zs) s h → count zs ≤ h
+    → StandsAt (xs ++ zs) s h → element_count zs ≤ h
 stands-high inside [] zs s h u i k = absurd (stands-none inside zs s h u i k)
 stands-high inside (EndOf e ∷ xs) zs s h u i k = stands-high inside xs zs s h u i k
 stands-high inside (Credit j rs ∷ xs) zs s h u i k = stands-high inside xs zs s h u i k
@@ -43,7 +43,7 @@ stands-high inside (Findall e v results list p f ∷ xs) zs s h u i (inl k) = om
 stands-high inside (Findall e v results list p f ∷ xs) zs s h u i (inr k) = stands-high inside xs zs s h u i k.1
 
 pub stands-deep : (inside : Name → Bool) (xs zs : List Element) (s : Name) (h : ℕ) → Each (IsInner inside) xs → inside s ≡ false
-    → StandsAt (xs ++ zs) s h → suc h ≤ count zs
+    → StandsAt (xs ++ zs) s h → suc h ≤ element_count zs
 stands-deep inside [] zs s h u i k = stands-low zs s h k
 stands-deep inside (EndOf e ∷ xs) zs s h u i k = stands-deep inside xs zs s h u.1 i k
 stands-deep inside (Credit j rs ∷ xs) zs s h u i k = stands-deep inside xs zs s h u.1 i k

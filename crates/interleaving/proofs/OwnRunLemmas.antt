@@ -16,13 +16,14 @@ use Rattle.interleaving.specs.Machine.{Machine, Takes, Put, Seek, search_for, pl
 use Rattle.tree_model.specs.Elements.{Name, Record, Element, Credit, Plain, EndOf, Catch, Findall, End}
 use Rattle.interleaving.specs.Scopes.{Shared, Sought, Scope, Thrown, reply_place, control_place, goal_act, act, scoped}
 use Rattle.interleaving.specs.Segments.{search_in, Private, private_none, private_goes, private_takes}
-use Rattle.interleaving.specs.Erased.{from, count, height, with_height, with_heights, erased}
+use Rattle.interleaving.specs.Erased.{from, element_count, height, with_height, continuation_heights, erased}
 use Rattle.interleaving.specs.HeightMachine.{HeightElement, HeightEntry, held_entries, held_reply, held_control}
 use Rattle.interleaving.specs.Views.{IsGrown, IsInner}
 use Rattle.interleaving.specs.Laws.{is_inner_record}
 use Rattle.interleaving.specs.Sound.{names, IsEntrySound, IsSound}
-use Rattle.interleaving.specs.OwnRuns.{landed, own_control, own_goal, own_item, own_taken, own_part, own_left, own_more, own_run}
-use Rattle.interleaving.specs.OwnRuns.{StandsFor, IsFloorUnder, IsFloorOf, RunsPrivately, OwnRuns}
+use Rattle.tree_model.specs.PrivateRuns.{own_part}
+use Rattle.interleaving.specs.OwnRuns.{landed, own_control, own_goal, own_item, own_taken, own_left, own_more, own_run}
+use Rattle.interleaving.specs.OwnRuns.{NamesEntries, IsFloorUnder, IsFloorOf, RunsPrivately, OwnRuns}
 use Rattle.interleaving.proofs.RunFrontLemmas.{append-assoc-at, map-none, some-same, none-some}
 use Rattle.interleaving.proofs.JoinedLemmas.{placed-within}
 use Rattle.interleaving.proofs.InsideLemmas.{under_ground}
@@ -47,11 +48,11 @@ module _ (clauses : List Clause) (inside : Name → Bool) (grown : IsGrown insid
   m = scoped clauses
 
   abbrev Own : List Element → List Entry → Type 0
-  Own a es = StandsFor inside a zs es floor
+  Own a es = NamesEntries inside a zs es floor
 
   -- one inference that leaves this stack
   abbrev Took : List Element → List Entry → Type 0
-  Took a st = (b : List Element) × Private (scoped clauses) (is_inner_record inside) 1 [] a b × StandsFor inside b zs
+  Took a st = (b : List Element) × Private (scoped clauses) (is_inner_record inside) 1 [] a b × NamesEntries inside b zs
       (own_part floor st) floor
 
   took : (a b : List Element) (st : List Entry) → Private m (is_inner_record inside) 1 [] a b → Each (IsInner inside) a
@@ -94,27 +95,27 @@ module _ (clauses : List Clause) (inside : Name → Bool) (grown : IsGrown insid
       (inner : Each (IsInner inside) (x ∷ a)) (whole : IsSound (x ∷ (a ++ zs)))
       (s : IsEntrySound p (a ++ zs) (h ∷ names k.items) k.items) where
     abbrev held : Continuation ℕ
-    held = with_heights (height (a ++ zs)) k
+    held = continuation_heights (height (a ++ zs)) k
 
     rest : IsEntrySound p (a ++ zs) (names k.items) k.items
     rest = entry_rest p (a ++ zs) h k.items s
 
     replies : (r : Reply) → erased (placed m (reply_place r p k) (a ++ zs))
-        ≡ held_entries (after_reply r (with_heights (height (a ++ zs)) k) (es ++ floor))
-    replies r = reply-held clauses r p k (a ++ zs) rest o.sound ∙ ap (held_reply r (with_heights (height (a ++ zs)) k)) o.entries
-        ∙ held-reply r (with_heights (height (a ++ zs)) k) (es ++ floor)
+        ≡ held_entries (after_reply r (continuation_heights (height (a ++ zs)) k) (es ++ floor))
+    replies r = reply-held clauses r p k (a ++ zs) rest o.sound ∙ ap (held_reply r (continuation_heights (height (a ++ zs)) k)) o.entries
+        ∙ held-reply r (continuation_heights (height (a ++ zs)) k) (es ++ floor)
 
     controls : (c : ControlForm) → erased (placed m (control_place c p h k) (a ++ zs))
-        ≡ held_entries (after_control c (height (a ++ zs) h) (with_heights (height (a ++ zs)) k) (es ++ floor))
+        ≡ held_entries (after_control c (height (a ++ zs) h) (continuation_heights (height (a ++ zs)) k) (es ++ floor))
     controls c = control-held clauses p h k (a ++ zs) s.carried c
-        ∙ ap (held_control c (height (a ++ zs) h) (with_heights (height (a ++ zs)) k)) o.entries
-        ∙ held-control c (height (a ++ zs) h) (with_heights (height (a ++ zs)) k) (es ++ floor)
+        ∙ ap (held_control c (height (a ++ zs) h) (continuation_heights (height (a ++ zs)) k)) o.entries
+        ∙ held-control c (height (a ++ zs) h) (continuation_heights (height (a ++ zs)) k) (es ++ floor)
 
     -- a ball that lands above the floor
     ball_took : (b : Term) (st : List Entry) → act clauses x ≡ Takes (Seek (Thrown b (first_mark k.items) p))
-        → landed (length floor) (unwound b (first_mark (with_heights (height (a ++ zs)) k).items) (es ++ floor)) ≡ Some st
+        → landed (length floor) (unwound b (first_mark (continuation_heights (height (a ++ zs)) k).items) (es ++ floor)) ≡ Some st
         → Took (x ∷ a) st
-    ball_took b st e f = go (unwound b (first_mark (with_heights (height (a ++ zs)) k).items) (es ++ floor)) refl f
+    ball_took b st e f = go (unwound b (first_mark (continuation_heights (height (a ++ zs)) k).items) (es ++ floor)) refl f
       where
         q : Sought
         q = Thrown b (first_mark k.items) p
@@ -125,10 +126,10 @@ module _ (clauses : List Clause) (inside : Name → Bool) (grown : IsGrown insid
         lands g ds c l (inl r) = seek_took x (Thrown b (first_mark k.items) p) a r.0 (PlainEntry g ∷ ds) e r.1 inner whole c
         lands g ds c l (inr r) = deep (search_for m r.0 zs) (low clauses r.0 zs r.1) (ap erased (sym (r.2 zs)) ∙ c)
           where
-            deep : (ls : List Element) → Low clauses ls (count zs) → erased ls ≡ held_entries (PlainEntry g ∷ ds)
+            deep : (ls : List Element) → Low clauses ls (element_count zs) → erased ls ≡ held_entries (PlainEntry g ∷ ds)
                 → Took (x ∷ a) (PlainEntry g ∷ ds)
             deep ls (inl t) w =
-                let size : suc (count t.2) ≡ suc (length ds) = sym (length-erased (Plain t.0 t.1 ∷ t.2))
+                let size : suc (element_count t.2) ≡ suc (length ds) = sym (length-erased (Plain t.0 t.1 ∷ t.2))
                 ∙ ap (λ z. length (erased z)) (sym t.3) ∙ ap length w ∙ length-held (PlainEntry g ∷ ds) in
                 absurd (omega (arith, size, t.4, l, floor_size clauses inside grown zs floor (under_of inside zs floor fl)))
             deep ls (inr t) w = absurd (ended t.1 (sym (ap erased t.2) ∙ w))
@@ -137,7 +138,7 @@ module _ (clauses : List Clause) (inside : Name → Bool) (grown : IsGrown insid
                     (HeightEntry (PlainEntry g) ∷ held_entries ds) → ⊥
                 ended c v = cc
 
-        go : (st2 : List Entry) → unwound b (first_mark (with_heights (height (a ++ zs)) k).items) (es ++ floor) ≡ st2
+        go : (st2 : List Entry) → unwound b (first_mark (continuation_heights (height (a ++ zs)) k).items) (es ++ floor) ≡ st2
             → landed (length floor) st2 ≡ Some st → Took (x ∷ a) st
         go [] c f = none-some st f
         go (CatchEntry y r g ∷ ds) c f = none-some st f
@@ -152,27 +153,27 @@ module _ (clauses : List Clause) (inside : Name → Bool) (grown : IsGrown insid
                 (split clauses (Thrown b (first_mark k.items) p) a tt))
 
     cut_took : (st : List Entry) → act clauses x ≡ Takes (Seek (Scope h (Plain p k))) → own_control CutToScope (height (a ++ zs) h)
-        (with_heights (height (a ++ zs)) k) (es ++ floor) (length floor) ≡ Some st → Took (x ∷ a) st
+        (continuation_heights (height (a ++ zs)) k) (es ++ floor) (length floor) ≡ Some st → Took (x ∷ a) st
     cut_took st e f = test (nat_lt (height (a ++ zs) h) (length floor)) refl f
       where
-        lands : length floor ≤ height (a ++ zs) h → after_control CutToScope (height (a ++ zs) h) (with_heights (height (a ++ zs)) k)
+        lands : length floor ≤ height (a ++ zs) h → after_control CutToScope (height (a ++ zs) h) (continuation_heights (height (a ++ zs)) k)
             (es ++ floor) ≡ st → Seam a h → Took (x ∷ a) st
         lands l c (inl r) = seek_took x (Scope h (Plain p k)) a (Plain p k ∷ from a h) st e
             (search-in-from clauses (Plain p k) a h r.0 r.1) inner whole (controls CutToScope ∙ ap held_entries c)
         lands l c (inr r) =
             let here = s.carried.present.0 in
-            let deep : suc (height zs h) ≤ count zs = floor-low zs h here.0 fl.first (sym (r zs) ∙ here.1) in
-            let same : height (a ++ zs) h ≡ height zs h = ap count (r zs) in
+            let deep : suc (height zs h) ≤ element_count zs = floor-low zs h here.0 fl.first (sym (r zs) ∙ here.1) in
+            let same : height (a ++ zs) h ≡ height zs h = ap element_count (r zs) in
             absurd (omega (arith, deep, same, l, floor_size clauses inside grown zs floor (under_of inside zs floor fl)))
 
         test : (t : Bool) → nat_lt (height (a ++ zs) h) (length floor) ≡ t
-            → cond t None (Some (after_control CutToScope (height (a ++ zs) h) (with_heights (height (a ++ zs)) k) (es ++ floor)))
+            → cond t None (Some (after_control CutToScope (height (a ++ zs) h) (continuation_heights (height (a ++ zs)) k) (es ++ floor)))
             ≡ Some st → Took (x ∷ a) st
         test true d f = none-some st f
         test false d f = lands (above (height (a ++ zs) h) (length floor) d) (some-same _ st f) (seam a h)
 
     goal_took : (c : Outcome) (st : List Entry) → act clauses x ≡ goal_act clauses c p h k
-        → own_goal c (height (a ++ zs) h) (with_heights (height (a ++ zs)) k) (es ++ floor) (length floor) ≡ Some st → Took (x ∷ a) st
+        → own_goal c (height (a ++ zs) h) (continuation_heights (height (a ++ zs)) k) (es ++ floor) (length floor) ≡ Some st → Took (x ∷ a) st
     goal_took (Replies (Solutions ss)) st e f = put_took x _ a st e inner whole
         (replies (Solutions ss) ∙ ap held_entries (some-same _ st f))
     goal_took (Replies (Ball b)) st e f = ball_took b st e f
@@ -192,7 +193,7 @@ module _ (clauses : List Clause) (inside : Name → Bool) (grown : IsGrown insid
 
   item_took : (items : List (Item Name)) (p : Name) (f : Continuation Name) (a : List Element) (es st : List Entry) → Own a es
       → Each (IsInner inside) (Plain p (with_items items f) ∷ a) → IsSound (Plain p (with_items items f) ∷ (a ++ zs))
-      → own_item clauses (map (with_height (height (a ++ zs))) items) (with_heights (height (a ++ zs)) (with_items items f))
+      → own_item clauses (map (with_height (height (a ++ zs))) items) (continuation_heights (height (a ++ zs)) (with_items items f))
       (es ++ floor) (length floor) ≡ Some st → Took (Plain p (with_items items f) ∷ a) st
   item_took [] p f a es st o h i e = none-some st e
   item_took (CatchMark c ∷ items) p f a es st o h i e = none-some st e
@@ -222,7 +223,7 @@ module _ (clauses : List Clause) (inside : Name → Bool) (grown : IsGrown insid
       (es ++ floor) o.entries
   takes (Plain p f ∷ a) [] st o e = none-some st e
   takes (Plain p f ∷ a) (d ∷ es) st o e =
-      let c : Entry = PlainEntry (with_heights (height (a ++ zs)) f) in
+      let c : Entry = PlainEntry (continuation_heights (height (a ++ zs)) f) in
       let same : d ≡ c = head-is clauses inside grown zs floor (under_of inside zs floor fl) c d (erased (a ++ zs))
       (held_entries (es ++ floor)) o.entries in
       let rest : Own a es = later clauses inside grown zs floor (under_of inside zs floor fl) (Plain p f) a d c es o.sound.1 o refl in
@@ -230,12 +231,12 @@ module _ (clauses : List Clause) (inside : Name → Bool) (grown : IsGrown insid
   takes (Catch s u t r p f ∷ a) [] st o e = none-some st e
   takes (Catch s u t r p f ∷ a) (d ∷ es) st o e =
       let same = head-is clauses inside grown zs floor (under_of inside zs floor fl)
-      (CatchEntry t r (with_heights (height (a ++ zs)) f)) d (erased (a ++ zs)) (held_entries (es ++ floor)) o.entries in
+      (CatchEntry t r (continuation_heights (height (a ++ zs)) f)) d (erased (a ++ zs)) (held_entries (es ++ floor)) o.entries in
       none-some st (sym (ap (λ y. own_taken clauses floor (y ∷ es)) same) ∙ e)
   takes (Findall s u results list p f ∷ a) [] st o e = none-some st e
   takes (Findall s u results list p f ∷ a) (d ∷ es) st o e =
       let same = head-is clauses inside grown zs floor (under_of inside zs floor fl)
-      (FindallEntry results list (with_heights (height (a ++ zs)) f)) d (erased (a ++ zs)) (held_entries (es ++ floor)) o.entries in
+      (FindallEntry results list (continuation_heights (height (a ++ zs)) f)) d (erased (a ++ zs)) (held_entries (es ++ floor)) o.entries in
       none-some st (sym (ap (λ y. own_taken clauses floor (y ∷ es)) same) ∙ e)
   takes (End p b ∷ a) [] st o e = none-some st e
   takes (End p b ∷ a) (d ∷ es) st o e =

@@ -12,12 +12,13 @@ use Rattle.interleaving.specs.Machine.{Machine, Vanishes, Wakes, gives}
 use Rattle.tree_model.specs.Elements.{Name, Record, Element, Credit, Plain, EndOf, Catch, Findall, End}
 use Rattle.interleaving.specs.Scopes.{left_standing, Shared, Sought, give, unmarked, results_first, act, scoped}
 use Rattle.interleaving.specs.Segments.{outer, Private, private_none, private_goes, private_stands, private_wakes}
-use Rattle.interleaving.specs.Erased.{count, height, with_height, with_heights, erased}
+use Rattle.interleaving.specs.Erased.{element_count, height, with_height, continuation_heights, erased}
 use Rattle.interleaving.specs.HeightMachine.{HeightElement, HeightCredit, HeightEntry, held_entries, held_collected}
 use Rattle.interleaving.specs.Views.{IsGrown, IsInner}
 use Rattle.interleaving.specs.Laws.{is_inner_record}
 use Rattle.interleaving.specs.Sound.{names, IsGathered, IsEntrySound, IsSound}
-use Rattle.interleaving.specs.OwnRuns.{own_settles, own_settle, own_settled, StandsFor, IsFloorUnder}
+use Rattle.tree_model.specs.PrivateRuns.{own_settles, own_free_steps, settled_own}
+use Rattle.interleaving.specs.OwnRuns.{NamesEntries, IsFloorUnder}
 use Rattle.interleaving.proofs.RunFrontLemmas.{map-none}
 use Rattle.interleaving.proofs.InsideStepLemmas.{still_goes}
 use Rattle.interleaving.proofs.NamingLemmas.{goals-heights, length-erased, sames, carried_rest}
@@ -36,24 +37,24 @@ module _ (clauses : List Clause) (inside : Name → Bool) (grown : IsGrown insid
   m = scoped clauses
 
   abbrev Own : List Element → List Entry → Type 0
-  Own a es = StandsFor inside a zs es floor
+  Own a es = NamesEntries inside a zs es floor
 
   abbrev pub IsSettledOwn : List Element → List Entry → Type 0
-  IsSettledOwn a es = (b : List Element) × Private (scoped clauses) (is_inner_record inside) 0 [] a b × StandsFor inside b zs es floor
+  IsSettledOwn a es = (b : List Element) × Private (scoped clauses) (is_inner_record inside) 0 [] a b × NamesEntries inside b zs es floor
 
-  pub floor_size : count zs ≡ length floor
+  pub floor_size : element_count zs ≡ length floor
   floor_size = sym (length-erased zs) ∙ ap length fl.entries ∙ length-held floor
 
-  pub own_size : (a : List Element) (es : List Entry) → Own a es → count (a ++ zs) ≡ length es + length floor
+  pub own_size : (a : List Element) (es : List Entry) → Own a es → element_count (a ++ zs) ≡ length es + length floor
   own_size a es o = sym (length-erased (a ++ zs)) ∙ ap length o.entries ∙ length-held (es ++ floor) ∙ length-append es floor
 
   -- a collect mark in front
   collects : (x : Element) (k st : Entry) (s : Name) (t : Term) (a : List Element) (es : List Entry) (j : ℕ) → act clauses x
       ≡ Vanishes ((s, t) ∷ []) → IsGathered (a ++ zs) s → Own (left_standing x ∷ a) (st ∷ es) → Own (x ∷ a) (k ∷ es) → Own a es
       → (Own (map (give (s, t)) a) (collected (height (a ++ zs) s - 1 - length floor) t es)
-      → IsSettledOwn (map (give (s, t)) a) (own_settle floor j (collected (height (a ++ zs) s - 1 - length floor) t es)))
+      → IsSettledOwn (map (give (s, t)) a) (own_free_steps floor j (collected (height (a ++ zs) s - 1 - length floor) t es)))
       → IsSettledOwn (x ∷ a) (cond (nat_lt (height (a ++ zs) s - 1) (length floor)) (st ∷ es)
-      (own_settle floor j (collected (height (a ++ zs) s - 1 - length floor) t es)))
+      (own_free_steps floor j (collected (height (a ++ zs) s - 1 - length floor) t es)))
   collects x k st s t a es j e g stood whole o next = go (inside s) refl
     where
       h : ℕ
@@ -63,11 +64,11 @@ module _ (clauses : List Clause) (inside : Name → Bool) (grown : IsGrown insid
       at = gathered_stands (a ++ zs) s o.sound g
 
       test : (b : Bool) → nat_lt (height (a ++ zs) s - 1) (length floor) ≡ b
-          → IsSettledOwn (x ∷ a) (cond b (st ∷ es) (own_settle floor j (collected (height (a ++ zs) s - 1 - length floor) t es)))
+          → IsSettledOwn (x ∷ a) (cond b (st ∷ es) (own_free_steps floor j (collected (height (a ++ zs) s - 1 - length floor) t es)))
           → IsSettledOwn (x ∷ a) (cond (nat_lt (height (a ++ zs) s - 1) (length floor)) (st ∷ es)
-          (own_settle floor j (collected (height (a ++ zs) s - 1 - length floor) t es)))
+          (own_free_steps floor j (collected (height (a ++ zs) s - 1 - length floor) t es)))
       test b f r = subst (λ c. IsSettledOwn (x ∷ a)
-          (cond c (st ∷ es) (own_settle floor j (collected (height (a ++ zs) s - 1 - length floor) t es)))) (sym f) r
+          (cond c (st ∷ es) (own_free_steps floor j (collected (height (a ++ zs) s - 1 - length floor) t es)))) (sym f) r
 
       not_less : (p q : ℕ) → q ≤ p → nat_lt p q ≡ false
       not_less p q l = grind (arith, nat_tests)
@@ -93,7 +94,7 @@ module _ (clauses : List Clause) (inside : Name → Bool) (grown : IsGrown insid
 
       go : (b : Bool) → inside s ≡ b → IsSettledOwn (x ∷ a)
           (cond (nat_lt (height (a ++ zs) s - 1) (length floor)) (st ∷ es)
-          (own_settle floor j (collected (height (a ++ zs) s - 1 - length floor) t es)))
+          (own_free_steps floor j (collected (height (a ++ zs) s - 1 - length floor) t es)))
       go true i =
           let low : length floor ≤ height (a ++ zs) s - 1 = omega
           (arith, floor_size, stands-high inside a zs s (height (a ++ zs) s - 1) fl.under i at) in
@@ -126,11 +127,11 @@ module _ (clauses : List Clause) (inside : Name → Bool) (grown : IsGrown insid
 
   abbrev Next : List Element → List Entry → ℕ → Type 0
   Next a es j = (s : Name) (t : Term)
-      → StandsFor inside (map (give (s, t)) a) zs (collected (height (a ++ zs) s - 1 - length floor) t es) floor
-      → IsSettledOwn (map (give (s, t)) a) (own_settle floor j (collected (height (a ++ zs) s - 1 - length floor) t es))
+      → NamesEntries inside (map (give (s, t)) a) zs (collected (height (a ++ zs) s - 1 - length floor) t es) floor
+      → IsSettledOwn (map (give (s, t)) a) (own_free_steps floor j (collected (height (a ++ zs) s - 1 - length floor) t es))
 
   abbrev held_cont : List Element → Continuation Name → Continuation ℕ
-  held_cont a f = with_heights (height (a ++ zs)) f
+  held_cont a f = continuation_heights (height (a ++ zs)) f
 
   -- after the catch marks in front
   after_marks : (c : Name) (items us : List (Item Name)) (p : Name) (f : Continuation Name) (a : List Element) (es : List Entry)
@@ -138,7 +139,7 @@ module _ (clauses : List Clause) (inside : Name → Bool) (grown : IsGrown insid
       (PlainEntry (held_cont a (with_items (CatchMark c ∷ items) f)) ∷ es) → Own a es → Next a es j
       → IsSettledOwn (Plain p (with_items (CatchMark c ∷ items) f) ∷ a)
       (own_settles (map (with_height (height (a ++ zs))) us) (held_cont a (with_items (CatchMark c ∷ items) f)) es floor
-      (own_settle floor j))
+      (own_free_steps floor j))
   after_marks c items us p f a es j e whole o next = go us e entry
     where
       x : Element
@@ -171,7 +172,7 @@ module _ (clauses : List Clause) (inside : Name → Bool) (grown : IsGrown insid
       go : (us : List (Item Name)) → without_marks items ≡ us → IsEntrySound p (a ++ zs) (names us) us
           → IsSettledOwn (Plain p (with_items (CatchMark c ∷ items) f) ∷ a)
           (own_settles (map (with_height (height (a ++ zs))) us) (held_cont a (with_items (CatchMark c ∷ items) f)) es floor
-          (own_settle floor j))
+          (own_free_steps floor j))
       go [] k s = woken [] refl k s
       go (GoalItem g h ∷ us) k s = woken (GoalItem g h ∷ us) refl k s
       go (CatchMark h ∷ us) k s = woken (CatchMark h ∷ us) refl k s
@@ -190,7 +191,7 @@ module _ (clauses : List Clause) (inside : Name → Bool) (grown : IsGrown insid
       → Own (Plain p (with_items items f) ∷ a) (PlainEntry (held_cont a (with_items items f)) ∷ es) → Own a es → Next a es j
       → IsSettledOwn (Plain p (with_items items f) ∷ a)
       (own_settles (map (with_height (height (a ++ zs))) (without_marks items)) (held_cont a (with_items items f)) es floor
-      (own_settle floor j))
+      (own_free_steps floor j))
   plain-own [] p f a es j whole o next = stays (Plain p (with_items [] f) ∷ a) _ whole
   plain-own (GoalItem g h ∷ items) p f a es j whole o next = stays (Plain p (with_items (GoalItem g h ∷ items) f) ∷ a) _ whole
   plain-own (RemovalItem n ∷ items) p f a es j whole o next = stays (Plain p (with_items (RemovalItem n ∷ items) f) ∷ a) _ whole
@@ -200,7 +201,7 @@ module _ (clauses : List Clause) (inside : Name → Bool) (grown : IsGrown insid
   plain-own (CatchMark c ∷ items) p f a es j whole o next = after_marks c items (without_marks items) p f a es j refl whole o next
 
   -- the first entry of each
-  pub no_first : {A : Type 0} → (x : Element) (a : List Element) → suc (count (a ++ zs)) ≡ count (x ∷ (a ++ zs)) → Own (x ∷ a) [] → A
+  pub no_first : {A : Type 0} → (x : Element) (a : List Element) → suc (element_count (a ++ zs)) ≡ element_count (x ∷ (a ++ zs)) → Own (x ∷ a) [] → A
   no_first x a s o = absurd (omega (arith, own_size (x ∷ a) [] o, s, floor_size, count-after a zs))
 
   pub head-is : (e d : Entry) (xs ys : List HeightElement) → ◌≡◌ {A = List HeightElement} (HeightEntry e ∷ xs) (HeightEntry d ∷ ys) → d ≡ e
@@ -227,11 +228,11 @@ module _ (clauses : List Clause) (inside : Name → Bool) (grown : IsGrown insid
   }
 
   settles : (n j : ℕ) (a : List Element) (es : List Entry) → length a ≤ n → length es ≤ j → Own a es
-      → IsSettledOwn a (own_settle floor j es)
+      → IsSettledOwn a (own_free_steps floor j es)
   settles n zero a es l c o = stays a es o
   settles n (suc j) [] es l c o = none es (own_size [] es o) o
     where
-      none : (es : List Entry) → count zs ≡ length es + length floor → Own [] es → IsSettledOwn [] (own_settle floor (suc j) es)
+      none : (es : List Entry) → element_count zs ≡ length es + length floor → Own [] es → IsSettledOwn [] (own_free_steps floor (suc j) es)
       none [] s o = stays [] [] o
       none (e ∷ es) s o = absurd (omega (arith, s, floor_size))
   settles zero (suc j) (x ∷ a) es l c o = absurd (omega arith)
@@ -253,8 +254,8 @@ module _ (clauses : List Clause) (inside : Name → Bool) (grown : IsGrown insid
       let next : Next a es j = λ s t g. settles n j (map (give (s, t)) a) (collected (height (a ++ zs) s - 1 - length floor) t es)
       (omega (arith, length-map (give (s, t)) a)) (omega (arith, length-collected (height (a ++ zs) s - 1 - length floor) t es))
       g in
-      subst (λ x. IsSettledOwn (Plain p f ∷ a) (own_settle floor (suc j) (x ∷ es))) (sym same)
-      (subst (λ is. IsSettledOwn (Plain p f ∷ a) (own_settles is (held_cont a f) es floor (own_settle floor j)))
+      subst (λ x. IsSettledOwn (Plain p f ∷ a) (own_free_steps floor (suc j) (x ∷ es))) (sym same)
+      (subst (λ is. IsSettledOwn (Plain p f ∷ a) (own_settles is (held_cont a f) es floor (own_free_steps floor j)))
       (sym (marks-heights (height (a ++ zs)) f.items)) (plain-own f.items p f a es j whole rest next))
   settles (suc n) (suc j) (Catch s u t r p f ∷ a) [] l c o = no_first (Catch s u t r p f) a refl o
   settles (suc n) (suc j) (Catch s u t r p f ∷ a) (e ∷ es) l c o =
@@ -262,7 +263,7 @@ module _ (clauses : List Clause) (inside : Name → Bool) (grown : IsGrown insid
       let same : e ≡ d = head-is d e (erased (a ++ zs)) (held_entries (es ++ floor)) o.entries in
       let rest : Own a es = later (Catch s u t r p f) a e d es o.sound.2 o refl in
       let q = settles n j a es (omega arith) (omega arith) rest in
-      subst (λ x. IsSettledOwn (Catch s u t r p f ∷ a) (own_settle floor (suc j) (x ∷ es))) (sym same) (
+      subst (λ x. IsSettledOwn (Catch s u t r p f ∷ a) (own_free_steps floor (suc j) (x ∷ es))) (sym same) (
         q.0,
         private_goes 0 (Catch s u t r p f) [] [] a q.0 refl
             (subst (λ l. Private m (is_inner_record inside) 0 [] l q.0) (sym (map-none m a)) q.1),
@@ -276,7 +277,7 @@ module _ (clauses : List Clause) (inside : Name → Bool) (grown : IsGrown insid
       let eq : Term = binary (codes "=") list (list_term results) in
       let size : height (a ++ zs) u ≡ length (es ++ floor) = o.sound.1 ∙ sym (length-erased (a ++ zs)) ∙ ap length rest.entries
       ∙ length-held (es ++ floor) in
-      let woken : with_heights (height (a ++ zs)) (results_first results list u f) ≡ before (GoalItem eq (length (es ++ floor)) ∷ [])
+      let woken : continuation_heights (height (a ++ zs)) (results_first results list u f) ≡ before (GoalItem eq (length (es ++ floor)) ∷ [])
       (held_cont a f) = goals-heights (height (a ++ zs)) (height (a ++ zs)) u (length (es ++ floor)) (eq ∷ []) f size
       (sames (height (a ++ zs)) (names f.items)) in
       let entry : IsEntrySound p (a ++ zs) (u ∷ names f.items) (GoalItem eq u ∷ f.items) = record
@@ -285,7 +286,7 @@ module _ (clauses : List Clause) (inside : Name → Bool) (grown : IsGrown insid
       ≡ held_entries (PlainEntry (before (GoalItem eq (length (es ++ floor)) ∷ []) (held_cont a f)) ∷ (es ++ floor)) = ap
       (λ k. HeightEntry (PlainEntry k) ∷ erased (a ++ zs)) woken
       ∙ ap (λ l. HeightEntry (PlainEntry (before (GoalItem eq (length (es ++ floor)) ∷ []) (held_cont a f))) ∷ l) rest.entries in
-      subst (λ x. IsSettledOwn (Findall s u results list p f ∷ a) (own_settle floor (suc j) (x ∷ es))) (sym same)
+      subst (λ x. IsSettledOwn (Findall s u results list p f ∷ a) (own_free_steps floor (suc j) (x ∷ es))) (sym same)
       (wakes (Findall s u results list p f) (Plain p (results_first results list u f)) a (e ∷ es)
       (PlainEntry (before (GoalItem eq (length (es ++ floor)) ∷ []) (held_cont a f)) ∷ es) refl o (entry, o.sound.3) o.inner.0.1
       left)
@@ -293,8 +294,8 @@ module _ (clauses : List Clause) (inside : Name → Bool) (grown : IsGrown insid
   settles (suc n) (suc j) (End p b ∷ a) (e ∷ es) l c o =
       let d : Entry = EndEntry b in
       let same : e ≡ d = head-is d e (erased (a ++ zs)) (held_entries (es ++ floor)) o.entries in
-      subst (λ x. IsSettledOwn (End p b ∷ a) (own_settle floor (suc j) (x ∷ es))) (sym same)
+      subst (λ x. IsSettledOwn (End p b ∷ a) (own_free_steps floor (suc j) (x ∷ es))) (sym same)
       (stays (End p b ∷ a) (d ∷ es) (subst (λ x. Own (End p b ∷ a) (x ∷ es)) same o))
 
-  pub own-settled : (a : List Element) (es : List Entry) → StandsFor inside a zs es floor → IsSettledOwn a (own_settled floor es)
+  pub own-settled : (a : List Element) (es : List Entry) → NamesEntries inside a zs es floor → IsSettledOwn a (settled_own floor es)
   own-settled a es o = settles (length a) (length es) a es (omega arith) (omega arith) o

@@ -2,7 +2,7 @@
 use Rattle.std.proofs.Common.{◌≡◌, ℕ, zero, suc, ◌≤◌, ◌<◌, false, List, [], ◌++◌, map, refl, sym, ap, ◌∙◌, arith}
 use Rattle.au_model.specs.Terms.Each.{Each}
 use Rattle.run_model.specs.Programs.Clauses.{Clause}
-use Rattle.interleaving.specs.Machine.{Machine, gives, free_steps, run, is_over}
+use Rattle.interleaving.specs.Machine.{Machine, gives, free_steps, run, is_finished}
 use Rattle.tree_model.specs.Elements.{Record, Element}
 use Rattle.interleaving.specs.Scopes.{Shared, Sought, scoped}
 use Rattle.interleaving.specs.Quiet.{IsQuiet, inferences, records}
@@ -22,10 +22,10 @@ module _ {W X Q R : Type 0} (m : Machine W X Q R) (g : Ground m) where
       ∙ world_kept k n h.2 h.0 b h.6 (omega arith) w (map (gives m h.1) zs) (z-map m g h.1 zs z)
 
   goes_on : (k n : ℕ) (rs : List R) (a b : List X) → Runs m g k rs a b → n < k → (w : W) (zs : List X) → Each g.Under zs
-      → is_over (run m n w (free_steps m [] (a ++ zs))).1 ≡ false
+      → is_finished (run m n w (free_steps m [] (a ++ zs))).1 ≡ false
   goes_on zero n rs a b h l w zs z = absurd (omega arith)
   goes_on (suc k) zero rs a b h l w zs z = h.4 zs z
-  goes_on (suc k) (suc n) rs a b h l w zs z = ap (λ s. is_over (run m n s.0 s.1).1) (h.5 w zs z)
+  goes_on (suc k) (suc n) rs a b h l w zs z = ap (λ s. is_finished (run m n s.0 s.1).1) (h.5 w zs z)
       ∙ goes_on k n h.2 h.0 b h.6 (omega arith) w (map (gives m h.1) zs) (z-map m g h.1 zs z)
 
 module _ (clauses : List Clause) where

@@ -10,7 +10,7 @@ use Rattle.tree_model.specs.Nodes.{Kind, Hold, Ready, TakenBy, Waiting, Dormant,
 use Rattle.tree_model.specs.Nodes.{Closed, standing}
 use Rattle.tree_model.specs.Levels.{Level}
 use Rattle.tree_model.specs.Floors.{node_of, with_nodes, right_entry, with_heights, floor_of}
-use Rattle.tree_model.specs.Shapes.{further, is_guard, is_alone, fits, holder, guard_kind, guard_hold, further_alternatives}
+use Rattle.tree_model.specs.Shapes.{further, is_guard, is_alone, fits_nodes, holder, guard_kind, guard_hold, further_alternatives}
 use Rattle.tree_model.specs.Shapes.{placed_status}
 use Rattle.tree_model.specs.PendingLists.{way_of}
 use Rattle.tree_model.specs.Ways.{is_query}
@@ -96,7 +96,7 @@ abbrev pub AreAlone : List ℕ → List Entry → Type 0
 AreAlone [] es = Unit {0}
 AreAlone (size ∷ sizes) es = (is_alone (drop (length es - further size) es) ≡ true) × AreAlone sizes (take (length es - further size) es)
 
-pub fits_alone : (low : ℕ) (cuts sizes : List ℕ) (es : List Entry) → fits low cuts sizes es ≡ true → AreAlone sizes es
+pub fits_alone : (low : ℕ) (cuts sizes : List ℕ) (es : List Entry) → fits_nodes low cuts sizes es ≡ true → AreAlone sizes es
 fits_alone low cuts [] es h = tt
 fits_alone low cuts (size ∷ sizes) es h =
     let f = fits_one low size sizes cuts es h in

@@ -22,7 +22,7 @@ use Rattle.tree_model.specs.PrivateRuns.{goal_alone, item_alone, taken_alone}
 use Rattle.tree_model.specs.FrontGates.{reply_taken, goal_at_front, removal_at_front, item_at_front, taken_at_front}
 use Rattle.tree_model.specs.TreeStates.{TreeState}
 use Rattle.tree_model.specs.Legality.{taken_at, gate_of}
-use Rattle.tree_model.specs.Effects.{ball_falls, or_none, gate_pruned, front_taken, stack_of, world_moved, where_some}
+use Rattle.tree_model.specs.Effects.{ball_falls, or_none, gate_pruned, front_taken, spot_stack, world_moved, where_some}
 use Rattle.tree_model.specs.PendingLists.{Way, way_of}
 use Rattle.tree_model.specs.Ways.{in_reach, way_from, AreScoped, under_query, IsAsked, IsOnWay}
 use Rattle.tree_model.specs.SoundTrees.{IsOpen, profile, IsSoundTree}
@@ -154,7 +154,7 @@ at_spot w a t s h e = let o = taken_at_open w a t s e in record
 
 pub prune_sound : (t : TreeState) (w : ℕ) (a : Place) → IsSoundTree t
     → IsSoundTree (where_some (taken_at w a t) t
-    (λ s. gate_pruned s (gate_of t s) (or_none (taken_alone t.job.clauses (stack_of s))) t))
+    (λ s. gate_pruned s (gate_of t s) (or_none (taken_alone t.job.clauses (spot_stack s))) t))
 unfolding gate_of
 prune_sound t w a h = some_sound t (taken_at w a t) _ h
     (λ s e. let k = at_spot w a t s h e in pruned_stack t s t.job.clauses s.entry k k.placed.entry.0)
@@ -229,6 +229,6 @@ stack_front t s clauses (PlainEntry f) w h i =
     (marks_dropped (way_of (levels_of s)) f.items (around_path (levels_of s) IsOpen h.placed.around) i.scoped))
 
 pub answer_sound : (t : TreeState) (w : ℕ) (a : Place) → IsSoundTree t
-    → IsSoundTree (where_some (taken_at w a t) t (λ s. world_moved s (taken_at_front t.job.clauses (stack_of s) t.world) t))
+    → IsSoundTree (where_some (taken_at w a t) t (λ s. world_moved s (taken_at_front t.job.clauses (spot_stack s) t.world) t))
 answer_sound t w a h = some_sound t (taken_at w a t) _ h
     (λ s e. let k = at_spot w a t s h e in stack_front t s t.job.clauses s.entry t.world k k.placed.entry.0)

@@ -6,7 +6,7 @@ use Rattle.run_model.specs.Machine.Items.{Item, GoalItem, CatchMark, CollectMark
 use Rattle.run_model.specs.Machine.Entries.{Entry, PlainEntry, CatchEntry, FindallEntry, EndEntry}
 use Rattle.tree_model.specs.Elements.{Element, Credit, Plain, EndOf, Catch, Findall, End}
 use Rattle.interleaving.specs.HeightMachine.{HeightEntry, held_entries}
-use Rattle.interleaving.specs.Erased.{from, count, height, with_height, erased}
+use Rattle.interleaving.specs.Erased.{from, element_count, height, with_height, erased}
 use Rattle.tree_model.specs.Nodes.{Kind, Hold, Ready, TakenBy, Waiting, Dormant, standing}
 use Rattle.tree_model.specs.Floors.{renamed_item, with_nodes}
 use Rattle.std.specs.Prelude.{nat_le}
@@ -145,7 +145,7 @@ from_olders way n kind i (o ∷ os) xs s h =
     ∙ (from-other way s i n (olders way n kind (suc i) os ++ xs) h ∙ from_olders way n kind (suc i) os xs s h)
 
 pub count_olders : (way : Way) (n : ℕ) (kind : Kind) (i : ℕ) (os : List Entry) (xs : List Element)
-    → count (olders way n kind i os ++ xs) ≡ length os + count xs
+    → element_count (olders way n kind i os ++ xs) ≡ length os + element_count xs
 count_olders way n kind i [] xs = omega arith
 count_olders way n kind i (o ∷ os) xs =
     let here = count-element n i (record { node = n; index = i; kind = kind } ∷ way) o
@@ -162,36 +162,36 @@ other_node m n h = go (n == m) refl
 
 -- the scopes that an older entry names
 pub older_met : (Whole : ℕ → Type 0) (name : ℕ → ℕ) (next f : ℕ) (way : Way) (kind : Kind) (xs : List Element)
-    → ((h : ℕ) → Whole h → 1 ≤ h → h ≤ count xs → IsMet xs way name h) → ((h : ℕ) → 1 ≤ h → h ≤ count xs → suc (name h) ≤ next) →
-    ((h : ℕ) → Whole h → suc (count xs) ≤ h → suc h ≤ count xs + f → ⊥) → (i : ℕ) (os : List Entry) → suc (length os) ≤ f →
-    (h : ℕ) → Whole h → 1 ≤ h → h ≤ length os + count xs
+    → ((h : ℕ) → Whole h → 1 ≤ h → h ≤ element_count xs → IsMet xs way name h) → ((h : ℕ) → 1 ≤ h → h ≤ element_count xs → suc (name h) ≤ next) →
+    ((h : ℕ) → Whole h → suc (element_count xs) ≤ h → suc h ≤ element_count xs + f → ⊥) → (i : ℕ) (os : List Entry) → suc (length os) ≤ f →
+    (h : ℕ) → Whole h → 1 ≤ h → h ≤ length os + element_count xs
     → IsMet (EndOf (i ∷ next ∷ []) ∷ (olders way next kind (suc i) (map (with_nodes name) os) ++ xs))
     (record { node = next; index = i; kind = kind } ∷ way) name h
-older_met Whole name next f way kind xs sees nums none i os l h w a b = go (nat_le h (count xs)) refl
+older_met Whole name next f way kind xs sees nums none i os l h w a b = go (nat_le h (element_count xs)) refl
   where
     step : Step
     step = record { node = next; index = i; kind = kind }
 
-    go : (c : Bool) → nat_le h (count xs) ≡ c
+    go : (c : Bool) → nat_le h (element_count xs) ≡ c
         → IsMet (EndOf (i ∷ next ∷ []) ∷ (olders way next kind (suc i) (map (with_nodes name) os) ++ xs))
         (record { node = next; index = i; kind = kind } ∷ way) name h
-    go false e = let high : suc (count xs) ≤ h = grind arith in absurd (none h w high (omega (arith, l, b)))
+    go false e = let high : suc (element_count xs) ≤ h = grind arith in absurd (none h w high (omega (arith, l, b)))
     go true e =
-        let low : h ≤ count xs = grind arith in
+        let low : h ≤ element_count xs = grind arith in
         let apart : (name h ≡ next → ⊥) = (λ z. absurd (omega (arith, nums h a low, z))) in
         let tail = olders way next kind (suc i) (map (with_nodes name) os) ++ xs in
         ap (height (EndOf (i ∷ next ∷ []) ∷ tail)) (scope-above step way (name h) (other_node (name h) next apart))
-        ∙ (ap count (from-other way (name h) i next tail apart ∙ from_olders way next kind (suc i) (map (with_nodes name) os) xs
+        ∙ (ap element_count (from-other way (name h) i next tail apart ∙ from_olders way next kind (suc i) (map (with_nodes name) os) xs
         (name h) apart) ∙ sees h w a low)
 
 pub older_erased : (Whole : ℕ → Type 0) (name : ℕ → ℕ) (next f : ℕ) (way : Way) (kind : Kind) (xs : List Element)
-    → ((h : ℕ) → Whole h → 1 ≤ h → h ≤ count xs → IsMet xs way name h) → ((h : ℕ) → 1 ≤ h → h ≤ count xs → suc (name h) ≤ next) →
-    ((h : ℕ) → Whole h → suc (count xs) ≤ h → suc h ≤ count xs + f → ⊥) → (i : ℕ) (os : List Entry) → length os ≤ f
-    → AreMeasured Whole (count xs) os →
+    → ((h : ℕ) → Whole h → 1 ≤ h → h ≤ element_count xs → IsMet xs way name h) → ((h : ℕ) → 1 ≤ h → h ≤ element_count xs → suc (name h) ≤ next) →
+    ((h : ℕ) → Whole h → suc (element_count xs) ≤ h → suc h ≤ element_count xs + f → ⊥) → (i : ℕ) (os : List Entry) → length os ≤ f
+    → AreMeasured Whole (element_count xs) os →
     erased (olders way next kind i (map (with_nodes name) os) ++ xs) ≡ held_entries os ++ erased xs
 older_erased Whole name next f way kind xs sees nums none i [] l m = refl
 older_erased Whole name next f way kind xs sees nums none i (o ∷ os) l m =
     let tail = olders way next kind (suc i) (map (with_nodes name) os) ++ xs in
-    entry_back Whole (length os + count xs) next i (record { node = next; index = i; kind = kind } ∷ way) name o
+    entry_back Whole (length os + element_count xs) next i (record { node = next; index = i; kind = kind } ∷ way) name o
     (EndOf (i ∷ next ∷ []) ∷ tail) m.0 (older_met Whole name next f way kind xs sees nums none i os l)
     ∙ ap (λ r. HeightEntry o ∷ r) (older_erased Whole name next f way kind xs sees nums none (suc i) os (omega arith) m.1)

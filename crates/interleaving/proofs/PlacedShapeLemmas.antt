@@ -6,7 +6,7 @@ use Rattle.au_model.specs.Terms.Each.{Each}
 use Rattle.run_model.specs.Machine.Entries.{Entry, PlainEntry, CatchEntry, FindallEntry, EndEntry}
 use Rattle.tree_model.specs.Nodes.{CatchNode, FindallNode, Numbered, alternative, Status, Inner}
 use Rattle.tree_model.specs.Floors.{with_nodes}
-use Rattle.tree_model.specs.Shapes.{further, is_unsplit, is_alone, fits, holder, guard_kind, guard_hold, further_alternatives}
+use Rattle.tree_model.specs.Shapes.{further, is_unsplit, is_alone, fits_nodes, holder, guard_kind, guard_hold, further_alternatives}
 use Rattle.tree_model.specs.Shapes.{placed_status}
 use Rattle.tree_model.specs.PendingLists.{Step, Way}
 use Rattle.tree_model.specs.Ways.{is_on, is_query, under_query, is_below}
@@ -58,7 +58,7 @@ pub record IsPlacing (name : ℕ → ℕ) (cuts : List ℕ) (next : ℕ) (sizes 
   pub awake : IsAwakeTop es
   pub seen : Each (IsSeen (named_in cuts)) es
   pub holds : (p : ℕ) → name (suc (length w + p)) ≡ holder next sizes p
-  pub fit : fits (length w) cuts sizes es ≡ true
+  pub fit : fits_nodes (length w) cuts sizes es ≡ true
 
 pub record IsPlacedSound (a : Way) (next : ℕ) (sizes : List ℕ) (status : Status) : Type 0 where
   pub sound : IsSound a status
@@ -100,9 +100,9 @@ pub record FitsOne (low size : ℕ) (sizes cuts : List ℕ) (es : List Entry) : 
   pub room : suc (further size) ≤ length es
   pub alone : is_alone (drop (length es - further size) es) ≡ true
   pub unsplit : is_unsplit low size cuts ≡ true
-  pub rest : fits (low + further size) cuts sizes (take (length es - further size) es) ≡ true
+  pub rest : fits_nodes (low + further size) cuts sizes (take (length es - further size) es) ≡ true
 
-pub fits_one : (low size : ℕ) (sizes cuts : List ℕ) (es : List Entry) → fits low cuts (size ∷ sizes) es ≡ true
+pub fits_one : (low size : ℕ) (sizes cuts : List ℕ) (es : List Entry) → fits_nodes low cuts (size ∷ sizes) es ≡ true
     → FitsOne low size sizes cuts es
 fits_one low size sizes cuts es h =
     let rest = length es - further size in
@@ -166,7 +166,7 @@ node_sound : (name : ℕ → ℕ) (cuts : List ℕ) (next size : ℕ) (sizes : L
     IsCounted w → Collapses name (named_in cuts) w a → IsPath a → under_query a ≡ true → ((m : ℕ) → next ≤ m → is_on a m ≡ false)
     → AreOver w (inner ++ olds) → IsAwakeTop inner → Each (IsSeen (named_in cuts)) inner → Each (IsSeen (named_in cuts)) olds →
     ((p : ℕ) → name (suc (length w + p)) ≡ holder next (size ∷ sizes) p) → is_alone olds ≡ true → is_unsplit (length w) size cuts ≡ true
-    → fits (length w + further size) cuts sizes inner ≡ true → length olds ≡ further size → 2 ≤ size →
+    → fits_nodes (length w + further size) cuts sizes inner ≡ true → length olds ≡ further size → 2 ≤ size →
     ((v b : Way) → IsPlacing name cuts (suc next) sizes v b inner
     → IsPlacedSound b (suc next) sizes (placed_status (suc next) sizes (map (with_nodes name) inner))) →
     IsPlacedSound a next (size ∷ sizes)
@@ -220,7 +220,7 @@ node_sound name cuts next size sizes w a inner (o ∷ os) c k p u nw ov aw si so
       awake = aw;
       seen = si;
       holds = later;
-      fit = subst (λ n. fits n cuts sizes inner ≡ true) (sym taller) fi;
+      fit = subst (λ n. fits_nodes n cuts sizes inner ≡ true) (sym taller) fi;
     }
 
     go : IsPlacedSound (first ∷ a) (suc next) sizes (placed_status (suc next) sizes (map (with_nodes name) inner))

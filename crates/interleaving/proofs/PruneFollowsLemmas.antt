@@ -9,7 +9,7 @@ use Rattle.tree_model.specs.PrivateRuns.{taken_alone}
 use Rattle.tree_model.specs.Events.{Prune, Claim, Nodes, Empty, Collected, Lost, Suspend, Resume, Answer, Stop}
 use Rattle.tree_model.specs.TreeStates.{TreeState}
 use Rattle.tree_model.specs.Legality.{may_prune, taken_at, gate_of, at_spot}
-use Rattle.tree_model.specs.Effects.{or_none, gate_pruned, stack_of, where_some, after_event}
+use Rattle.tree_model.specs.Effects.{or_none, gate_pruned, spot_stack, where_some, after_event}
 use Rattle.tree_model.specs.PendingLists.{way_of, pending_list}
 use Rattle.tree_model.specs.Ways.{IsOnWay}
 use Rattle.tree_model.specs.SoundTrees.{IsSoundTree}
@@ -55,11 +55,11 @@ prune_follows t (Prune w a) ok i q j r l = go (taken_at w a t) refl (legal_parts
     (going t (legal_parts t (Prune w a) l).0).halted j (lists_are_sound (after_event t (Prune w a)) j r)
   where
     go : (x : Option Spot) → taken_at w a t ≡ x → at_spot x (λ s. may_prune (levels_of s) (gate_of t s)) ≡ true → t.halted ≡ None
-        → IsSoundTree (record (where_some x t (λ s. gate_pruned s (gate_of t s) (or_none (taken_alone t.job.clauses (stack_of s))) t))
+        → IsSoundTree (record (where_some x t (λ s. gate_pruned s (gate_of t s) (or_none (taken_alone t.job.clauses (spot_stack s))) t))
         { history = t.history ++ Prune w a ∷ [] })
         → IsSound (pending_list (where_some x t
-        (λ s. gate_pruned s (gate_of t s) (or_none (taken_alone t.job.clauses (stack_of s))) t)).root)
-        → ListFollows t (record (where_some x t (λ s. gate_pruned s (gate_of t s) (or_none (taken_alone t.job.clauses (stack_of s))) t))
+        (λ s. gate_pruned s (gate_of t s) (or_none (taken_alone t.job.clauses (spot_stack s))) t)).root)
+        → ListFollows t (record (where_some x t (λ s. gate_pruned s (gate_of t s) (or_none (taken_alone t.job.clauses (spot_stack s))) t))
         { history = t.history ++ Prune w a ∷ [] })
     go None e x running j y = clash x
     go (Some s) e x running j y =

@@ -9,7 +9,7 @@ use Rattle.tree_model.specs.Elements.{Element, Credit, EndOf}
 use Rattle.interleaving.specs.Erased.{erased}
 use Rattle.interleaving.specs.Sound.{IsSound}
 use Rattle.interleaving.specs.Views.{IsBlind}
-use Rattle.interleaving.specs.OwnRuns.{StandsFor}
+use Rattle.interleaving.specs.OwnRuns.{NamesEntries}
 use Rattle.tree_model.specs.Levels.{Level}
 use Rattle.tree_model.specs.Floors.{with_heights, floor_of}
 use Rattle.tree_model.specs.PrivateRuns.{private_run}
@@ -44,7 +44,7 @@ module _ (clauses : List Clause) (v : Level) (up : List Level) (next : ℕ) (f :
     (a : IsAround (v ∷ up) IsOpen)
     (h : IsOnWay (way_of (v ∷ up)) (PlainEntry f)) (off : is_on (way_of (v ∷ up)) next ≡ false) (k : ℕ) where
   -- nothing is left of it
-  none_left : (left : List Element) → IsSound (own_plain v up f ∷ below_named (v ∷ up)) → StandsFor (made_at (0 ∷ next ∷ []) next) left
+  none_left : (left : List Element) → IsSound (own_plain v up f ∷ below_named (v ∷ up)) → NamesEntries (made_at (0 ∷ next ∷ []) next) left
       (below_named (v ∷ up)) [] (floor_of (v ∷ up)) → erased (left ++ back_of (v ∷ up)) ≡ erased (back_of (v ∷ up))
   none_left left low s =
       let end = EndOf (length v.left ∷ v.number ∷ []) ∷ [] in

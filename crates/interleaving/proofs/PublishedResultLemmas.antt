@@ -41,7 +41,7 @@ use Rattle.run_model.specs.Machine.Items.{Item, CollectMark}
 use Rattle.interleaving.specs.Machine.{Vanishes}
 use Rattle.interleaving.specs.Scopes.{Does, item_act, act}
 use Rattle.interleaving.specs.HeightMachine.{HeightCredit, HeightEntry}
-use Rattle.interleaving.specs.Erased.{count, height}
+use Rattle.interleaving.specs.Erased.{element_count, height}
 use Rattle.interleaving.specs.Sound.{IsGathered, IsMarkSound}
 use Rattle.tree_model.specs.PendingLists.{findall_on}
 use Rattle.tree_model.specs.Ways.{AreScoped}
@@ -96,7 +96,7 @@ module _ (clauses : List Clause) (v : Level) (up : List Level) (next : ℕ) (f :
       let back = append-assoc behind end (right_of (v ∷ up)) in
       let reads = sound_readable (below_named (v ∷ up)) low.1 in
       let one : height (behind ++ below) s - 1 ≡ height below own - 1 = omega (arith, high, here) in
-      let some : 1 ≤ height (behind ++ below) s = omega (arith, ap count gathered.found) in
+      let some : 1 ≤ height (behind ++ below) s = omega (arith, ap element_count gathered.found) in
       let some_own : 1 ≤ height below own = omega (arith, here) in
       let whole = ap (λ n. HeightCredit 0 ((n, t) ∷ []) ∷ erased (behind ++ below)) one
       ∙ ap (λ l. HeightCredit 0 ((height below own - 1, t) ∷ []) ∷ l) (ends_erased behind below e) in

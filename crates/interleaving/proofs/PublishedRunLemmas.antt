@@ -9,7 +9,7 @@ use Rattle.tree_model.specs.Elements.{Name, Element, Credit, EndOf}
 use Rattle.interleaving.specs.Erased.{erased}
 use Rattle.interleaving.specs.Sound.{IsSound}
 use Rattle.interleaving.specs.Views.{IsBlind}
-use Rattle.interleaving.specs.OwnRuns.{StandsFor}
+use Rattle.interleaving.specs.OwnRuns.{NamesEntries}
 use Rattle.tree_model.specs.Levels.{Level}
 use Rattle.tree_model.specs.Nodes.{Node, Inner}
 use Rattle.tree_model.specs.Floors.{with_heights, floor_of}
@@ -41,7 +41,7 @@ module _ (clauses : List Clause) (v : Level) (up : List Level) (next size : ℕ)
   off = p.new next (omega arith)
 
   -- the same entries over what stands to the right
-  same_back : (left : List Element) → IsSound (own_plain v up f ∷ below_named (v ∷ up)) → StandsFor (made_at (0 ∷ next ∷ []) next) left
+  same_back : (left : List Element) → IsSound (own_plain v up f ∷ below_named (v ∷ up)) → NamesEntries (made_at (0 ∷ next ∷ []) next) left
       (below_named (v ∷ up)) es (floor_of (v ∷ up)) → erased (left ++ back_of (v ∷ up))
       ≡ erased (placed_list (v ∷ up) next (size ∷ sizes) es ++ back_of (v ∷ up))
   same_back left low s =
@@ -58,7 +58,7 @@ module _ (clauses : List Clause) (v : Level) (up : List Level) (next size : ℕ)
       (ap erased before ∙ (s.entries ∙ (sym stand.erases ∙ ap erased (sym after)))) in
       ap erased (sym (append-assoc left end (right_of (v ∷ up)))) ∙ (whole ∙ ap erased (append-assoc c end (right_of (v ∷ up))))
 
-  same_whole : (left : List Element) → IsSound (own_plain v up f ∷ below_named (v ∷ up)) → StandsFor (made_at (0 ∷ next ∷ []) next) left
+  same_whole : (left : List Element) → IsSound (own_plain v up f ∷ below_named (v ∷ up)) → NamesEntries (made_at (0 ∷ next ∷ []) next) left
       (below_named (v ∷ up)) es (floor_of (v ∷ up)) → (spent : ℕ) →
       erased (front_of (v ∷ up) ++ (Credit (spent + k) [] ∷ (placed_list (v ∷ up) next (size ∷ sizes) es ++ back_of (v ∷ up))))
       ≡ erased (front_of (v ∷ up) ++ (Credit (spent + k) [] ∷ (left ++ back_of (v ∷ up))))

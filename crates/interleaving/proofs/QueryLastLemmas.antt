@@ -17,7 +17,7 @@ use Rattle.tree_model.specs.Elements.{Record, Element, Credit, Plain, EndOf, Cat
 use Rattle.interleaving.specs.Machine.{gives, free_steps}
 use Rattle.interleaving.specs.Scopes.{scoped}
 use Rattle.interleaving.specs.Quiet.{IsQuiet, inferences}
-use Rattle.interleaving.specs.Erased.{count, erased}
+use Rattle.interleaving.specs.Erased.{element_count, erased}
 use Rattle.interleaving.specs.Follows.{lead}
 use Rattle.interleaving.proofs.ContextLemmas.{IsAround}
 use Rattle.interleaving.proofs.QuietCreditLemmas.{gives-fixed}
@@ -86,7 +86,7 @@ ends_settle clauses (Catch s u c r p f ∷ xs) h = absurd h
 ends_settle clauses (Findall s u results list p f ∷ xs) h = absurd h
 ends_settle clauses (End p b ∷ xs) h = absurd h
 
-pub ends_erased : (xs : List Element) → OnlyEnds xs → (erased xs ≡ []) × (count xs ≡ 0)
+pub ends_erased : (xs : List Element) → OnlyEnds xs → (erased xs ≡ []) × (element_count xs ≡ 0)
 ends_erased [] h = (refl, refl)
 ends_erased (EndOf s ∷ xs) h = ends_erased xs h
 ends_erased (Credit k qs ∷ xs) h = absurd h

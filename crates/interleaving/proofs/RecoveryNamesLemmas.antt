@@ -13,7 +13,7 @@ use Rattle.tree_model.specs.PendingLists.{Way, way_of, step_of, step_name, scope
 use Rattle.tree_model.specs.Ways.{is_on, way_from, way_above, AreScoped, IsAsked}
 use Rattle.tree_model.specs.Elements.{Name, Element, EndOf}
 use Rattle.interleaving.specs.HeightMachine.{HeightEntry}
-use Rattle.interleaving.specs.Erased.{count, height, with_height, erased}
+use Rattle.interleaving.specs.Erased.{element_count, height, with_height, erased}
 use Rattle.interleaving.proofs.WayLemmas.{cond-true, reach-on, through-on, other_number, same_self}
 use Rattle.interleaving.proofs.RoundtripLemmas.{by_nodes, by_heights, part_from, part_above}
 use Rattle.interleaving.proofs.EntryLemmas.{length-floor, own_height}
@@ -81,21 +81,21 @@ module _ (levels : List Level) (w u : Level) (up : List Level) (next : ℕ) (tai
 
   near_height : (r : ℕ) → is_on (way_of (u ∷ up)) r ≡ true → height low_rest (scope_on near r) ≡ height rest (scope_on (way_of (u ∷ up)) r)
   near_height r k = ap (height low_rest) (near_scope r k)
-      ∙ ap count (from-other (way_of (u ∷ up)) r 1 w.number rest (apart w.number r new k))
+      ∙ ap element_count (from-other (way_of (u ∷ up)) r 1 w.number rest (apart w.number r new k))
 
   far_height : (r : ℕ) → is_on (way_of (u ∷ up)) r ≡ true → height (EndOf (0 ∷ next ∷ []) ∷ low_rest) (scope_on far r)
       ≡ height rest (scope_on (way_of (u ∷ up)) r)
   far_height r k =
       ap (height (EndOf (0 ∷ next ∷ []) ∷ low_rest)) (far_scope r k)
-      ∙ (ap count (from-other (way_of (u ∷ up)) r 0 next low_rest (apart next r fresh k))
-      ∙ ap count (from-other (way_of (u ∷ up)) r 1 w.number rest (apart w.number r new k)))
+      ∙ (ap element_count (from-other (way_of (u ∷ up)) r 0 next low_rest (apart next r fresh k))
+      ∙ ap element_count (from-other (way_of (u ∷ up)) r 1 w.number rest (apart w.number r new k)))
 
   on_first : is_on (way_of (u ∷ up)) u.number ≡ true
   on_first = cond-true (u.number == u.number) true _ (same_self u.number)
 
-  first_height : height rest (scope_on (way_of (u ∷ up)) u.number) ≡ count rest
+  first_height : height rest (scope_on (way_of (u ∷ up)) u.number) ≡ element_count rest
   first_height = ap (height rest) (scope-here (step_of u) (way_of up) u.number (same_self u.number))
-      ∙ ap count (from_own (step_name (step_of u)) tail)
+      ∙ ap element_count (from_own (step_name (step_of u)) tail)
 
   -- the goal of a recovery, at the node above
   goal_node : node_of levels (length (floor_of (u ∷ up))) ≡ u.number
@@ -117,7 +117,7 @@ module _ (levels : List Level) (w u : Level) (up : List Level) (next : ℕ) (tai
       let sf = scope_on far in
       let sn = scope_on near in
       let back : by_nodes node (by_heights (u ∷ up) f.items) ≡ f.items = names_above levels w.number w (u ∷ up) f.items down asked in
-      let goal : h (1 ∷ w.number ∷ []) ≡ k (sf u.number) = ap count (from_own (1 ∷ w.number ∷ []) rest)
+      let goal : h (1 ∷ w.number ∷ []) ≡ k (sf u.number) = ap element_count (from_own (1 ∷ w.number ∷ []) rest)
       ∙ sym (far_height u.number on_first ∙ first_height) in
       let items : map (with_height h) (map (renamed_item sn sn) f.items) ≡ map (with_height k) (map (renamed_item sf sf) f.items) =
       items_high sn sf h k (way_of (u ∷ up)) f.items (λ x z. near_height x z ∙ sym (far_height x z)) asked.scoped in

@@ -18,7 +18,7 @@ use Rattle.au_term.specs.Term.{Term}
 use Rattle.run_model.specs.Machine.Items.{Item, GoalItem, CatchMark, CollectMark, RemovalItem}
 use Rattle.tree_model.specs.Elements.{Catch, Findall, End}
 use Rattle.interleaving.specs.HeightMachine.{HeightElement, HeightEntry}
-use Rattle.interleaving.specs.Erased.{height, with_height, with_heights as named_heights}
+use Rattle.interleaving.specs.Erased.{height, with_height, continuation_heights}
 use Rattle.tree_model.specs.Nodes.{Kind, ChoiceNode, CatchNode, QueryNode}
 use Rattle.tree_model.specs.Floors.{height_of}
 use Rattle.tree_model.specs.Pruning.{is_findall}
@@ -100,7 +100,7 @@ pub record OnePlain (left : List Element) (X : List Element) (g : Continuation �
   pub same : left ≡ before ++ (Plain name after ∷ behind)
   pub first : AreEnds before
   pub last : AreEnds behind
-  pub heights : named_heights (height (behind ++ X)) after ≡ g
+  pub heights : continuation_heights (height (behind ++ X)) after ≡ g
 
 pub one_plain : (left X : List Element) (g : Continuation ℕ) → erased (left ++ X) ≡ HeightEntry (PlainEntry g) ∷ erased X
     → OnePlain left X g
@@ -119,7 +119,7 @@ one_plain (EndOf s ∷ left) X g e =
       heights = o.heights;
     }
 one_plain (Plain p f ∷ left) X g e =
-    let parts = plain_parts (named_heights (height (left ++ X)) f) g (erased (left ++ X)) (erased X) e in
+    let parts = plain_parts (continuation_heights (height (left ++ X)) f) g (erased (left ++ X)) (erased X) e in
     record {
       before = [];
       name = p;

@@ -1,7 +1,7 @@
 -- The free steps and searches in front of other elements.
 use Rattle.std.proofs.Common.{◌≡◌, ◌⊎◌, inl, inr, List, [], ◌∷◌, ◌++◌, map, Some, None, refl, sym, ap, ◌∙◌}
 use Rattle.au_model.specs.Terms.Each.{Each}
-use Rattle.interleaving.specs.Machine.{Machine, Act, Vanishes, Wakes, Takes, Asks, Look, On, Here, Place, Put, Only, Seek, gives, looked}
+use Rattle.interleaving.specs.Machine.{Machine, Act, Vanishes, Wakes, Takes, Asks, Look, On, Here, Replacement, Put, Only, Seek, gives, looked}
 use Rattle.interleaving.specs.Machine.{search_for, placed, freed, free_steps}
 
 pub each-append : {A : Type 0} → (P : A → Type 0) (xs ys : List A) → Each P xs → Each P ys → Each P (xs ++ ys)
@@ -60,7 +60,7 @@ module _ {W X Q R : Type 0} (m : Machine W X Q R) where
 
   -- elements that don't see what is under them, or see none of some elements
   module _ (P : X → Type 0) (K : Q → Type 0) (G : R → Type 0) where
-    abbrev pub PlaceOk : Place X Q → Type 0
+    abbrev pub PlaceOk : Replacement X Q → Type 0
     PlaceOk (Put ys) = Each P ys
     PlaceOk (Only ys) = Unit {0}
     PlaceOk (Seek q) = K q
@@ -119,7 +119,7 @@ module _ {W X Q R : Type 0} (m : Machine W X Q R) where
         × (((zs : List X) → free_steps m qs (xs ++ zs) ≡ free_steps m rs zs) ⊎
         ((x : X) × (new : List X) × P x × Each P new × ((zs : List X) → free_steps m qs (xs ++ zs) ≡ x ∷ (new ++ map (gives m rs) zs))))
 
-    abbrev pub FoundPlace : Place X Q → List X → Type 0
+    abbrev pub FoundPlace : Replacement X Q → List X → Type 0
     FoundPlace p xs =
         ((new : List X) × Each P new × ((zs : List X) → placed m p (xs ++ zs) ≡ new ++ zs)) ⊎
         (((new : List X) × ((zs : List X) → placed m p (xs ++ zs) ≡ new)) ⊎
@@ -189,7 +189,7 @@ module _ {W X Q R : Type 0} (m : Machine W X Q R) where
             ),
           )
 
-      pub placed-found : (p : Place X Q) (xs : List X) → PlaceOk p → Each P xs → FoundPlace p xs
+      pub placed-found : (p : Replacement X Q) (xs : List X) → PlaceOk p → Each P xs → FoundPlace p xs
       placed-found (Put ys) xs ok h = inl (ys ++ xs, each-append P ys xs ok h, λ zs. sym (append-assoc-at ys xs zs))
       placed-found (Only ys) xs ok h = inr (inl (ys, λ zs. refl))
       placed-found (Seek q) xs ok h = elim (found q xs ok h) [ inl f ↦ inl f | inr f ↦ inr (inr f) ]

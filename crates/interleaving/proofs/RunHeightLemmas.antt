@@ -12,16 +12,16 @@ use Rattle.run_model.specs.Goals.Outcomes.{Reply, Solutions, Ball, HaltNumber, O
 use Rattle.run_model.specs.Machine.Items.{Item, GoalItem, CatchMark, CollectMark, RemovalItem, Continuation, with_items, goals_at, without_marks}
 use Rattle.run_model.specs.Machine.Items.{first_mark}
 use Rattle.run_model.specs.Machine.Entries.{Entry, PlainEntry, EndEntry, solution_entries}
-use Rattle.interleaving.specs.Machine.{Machine, is_over, placed, acted, free_steps, step, run, seen}
+use Rattle.interleaving.specs.Machine.{Machine, is_finished, placed, acted, free_steps, step, run, seen}
 use Rattle.tree_model.specs.Elements.{Name, Record, Element, Credit, Plain, EndOf, Catch, Findall, End}
-use Rattle.interleaving.specs.Scopes.{Shared, Sought, first_shared, reply_place, control_place, goal_act, removed, unmarked, opened, act}
+use Rattle.interleaving.specs.Scopes.{Shared, Sought, first_shared, reply_place, control_place, goal_act, removed, unmarked, opened_elements, act}
 use Rattle.interleaving.specs.Scopes.{scoped}
 use Rattle.interleaving.specs.Segments.{IsActive}
 use Rattle.interleaving.specs.HeightMachine.{HeightElement, HeightEntry, HeldState, held_entries, held_reply, held_control, held_goal}
 use Rattle.interleaving.specs.HeightMachine.{held_removed, held_item, held_landing, held_settle, held_step, held_run}
-use Rattle.interleaving.specs.Erased.{count, height, with_height, with_heights, erased}
+use Rattle.interleaving.specs.Erased.{element_count, height, with_height, continuation_heights, erased}
 use Rattle.interleaving.specs.Sound.{names, IsEntrySound, IsSound}
-use Rattle.interleaving.specs.Counted.{counted}
+use Rattle.interleaving.specs.Counted.{counted_steps}
 use Rattle.interleaving.specs.SequentialHeights.{held_after}
 use Rattle.interleaving.specs.Readings.{HeightsRun, NamesAreFree, has_ended, AlikeCounts, opening_list, IsNamedRun}
 use Rattle.interleaving.proofs.NamingLemmas.{length-erased, from_own}
@@ -37,13 +37,13 @@ goals-at h p [] = refl
 goals-at h p (g ∷ gs) = ap (λ l. GoalItem g (h p) ∷ l) (goals-at h p gs)
 
 -- the next query
-pub opened-held : (p : Name) (qs : List Query) → erased (opened p qs) ≡ held_entries (states.opened qs)
+pub opened-held : (p : Name) (qs : List Query) → erased (opened_elements p qs) ≡ held_entries (states.opened qs)
 opened-held p [] = refl
 opened-held p (q ∷ qs) =
     let zs : List Element = EndOf p ∷ End (1 ∷ p) None ∷ [] in
     ap (λ is. HeightEntry (PlainEntry (record { items = is; named = own_terms q.names; next = query_bound q })) ∷ HeightEntry
     (EndEntry None) ∷ []) (goals-at (height zs) p q.goals
-    ∙ ap (λ n. goals_at n q.goals) (ap count (from_own p (End (1 ∷ p) None ∷ []))))
+    ∙ ap (λ n. goals_at n q.goals) (ap element_count (from_own p (End (1 ∷ p) None ∷ []))))
 
 module _ (clauses : List Clause) where
   abbrev m : Machine Shared Element Sought Record
@@ -59,39 +59,39 @@ module _ (clauses : List Clause) where
   leaves v ys t w e i = (w, settle-held clauses ys t.1 e i)
 
   pub reply-held : (r : Reply) (p : Name) (f : Continuation Name) (xs : List Element) → IsEntrySound p xs (names f.items) f.items
-      → IsSound xs → erased (placed m (reply_place r p f) xs) ≡ held_reply r (with_heights (height xs) f) (erased xs)
+      → IsSound xs → erased (placed m (reply_place r p f) xs) ≡ held_reply r (continuation_heights (height xs) f) (erased xs)
   reply-held (Solutions ss) p f xs s i = solutions-held zero p f ss xs s.carried.older
-      ∙ ap (λ n. held_entries (solution_entries n (with_heights (height xs) f) ss) ++ erased xs) (sym (length-erased xs))
+      ∙ ap (λ n. held_entries (solution_entries n (continuation_heights (height xs) f) ss) ++ erased xs) (sym (length-erased xs))
   reply-held (Ball b) p f xs s i = (lands-held clauses b p xs).0 (first_mark f.items) i (mark-guarded xs f.items s.marks)
       ∙ ap (λ k. held_landing b k (erased xs)) (sym (mark-heights xs f.items))
   reply-held (HaltNumber n) p f xs s i = refl
 
   goal-stands : (o : Outcome) (p h : Name) (f : Continuation Name) (x : Element) (xs : List Element) (w : Shared)
       → IsEntrySound p xs (h ∷ names f.items) f.items → IsSound xs
-      → let t = held_goal clauses o (height xs h) (with_heights (height xs) f) (erased xs) w in Pending
+      → let t = held_goal clauses o (height xs h) (continuation_heights (height xs) f) (erased xs) w in Pending
       (acted m (goal_act clauses o p h f) w x xs) (t.0, held_settle t.1)
   goal-stands (Replies (Solutions ss)) p h f x xs w s i =
       let rest = entry_rest p xs h f.items s in
-      leaves w (placed m (reply_place (Solutions ss) p f) xs) (w, held_reply (Solutions ss) (with_heights (height xs) f) (erased xs))
+      leaves w (placed m (reply_place (Solutions ss) p f) xs) (w, held_reply (Solutions ss) (continuation_heights (height xs) f) (erased xs))
       refl (reply-held (Solutions ss) p f xs rest i) (reply-sound clauses (Solutions ss) p f xs rest i)
   goal-stands (Replies (Ball b)) p h f x xs w s i =
       let rest = entry_rest p xs h f.items s in
-      leaves w (placed m (reply_place (Ball b) p f) xs) (w, held_reply (Ball b) (with_heights (height xs) f) (erased xs)) refl
+      leaves w (placed m (reply_place (Ball b) p f) xs) (w, held_reply (Ball b) (continuation_heights (height xs) f) (erased xs)) refl
       (reply-held (Ball b) p f xs rest i) (reply-sound clauses (Ball b) p f xs rest i)
   goal-stands (Replies (HaltNumber n)) p h f x xs w s i = leaves _ [] (record w { halted = Some n }, []) refl refl tt
   goal-stands (Controls form) p h f x xs w s i = leaves w (placed m (control_place form p h f) xs)
-      (w, held_control form (height xs h) (with_heights (height xs) f) (erased xs)) refl (control-held clauses p h f xs s.carried form)
+      (w, held_control form (height xs h) (continuation_heights (height xs) f) (erased xs)) refl (control-held clauses p h f xs s.carried form)
       (control-sound clauses p h f xs s i form)
   goal-stands (AskWorld g) p h f x xs w s i =
       let rest = entry_rest p xs h f.items s in
       let r : World × Reply = world_step clauses g f.next w.world in
       leaves (record w { world = r.0; halted = states.halt_number r.1 }) (placed m (reply_place r.1 p f) xs)
-      (record w { world = r.0; halted = states.halt_number r.1 }, held_reply r.1 (with_heights (height xs) f) (erased xs)) refl
+      (record w { world = r.0; halted = states.halt_number r.1 }, held_reply r.1 (continuation_heights (height xs) f) (erased xs)) refl
       (reply-held r.1 p f xs rest i) (reply-sound clauses r.1 p f xs rest i)
 
   removal-stands : (o : Option Database) (p : Name) (f : Continuation Name) (xs : List Element) (w : Shared)
       → IsEntrySound p xs (names f.items) f.items → IsSound xs → let a = removed o p f w in let t = held_removed o
-      (with_heights (height xs) f) (erased xs) w in Pending (a.0, free_steps m [] (placed m a.1 xs)) (t.0, held_settle t.1)
+      (continuation_heights (height xs) f) (erased xs) w in Pending (a.0, free_steps m [] (placed m a.1 xs)) (t.0, held_settle t.1)
   removal-stands None p f xs w s i = leaves w xs (w, erased xs) refl refl i
   removal-stands (Some db) p f xs w s i = leaves _ (Plain p f ∷ xs)
       (record w { world = record w.world { database = db } }, erased (Plain p f ∷ xs)) refl refl (s, i)
@@ -105,7 +105,7 @@ module _ (clauses : List Clause) where
 
   item-stands : (items : List (Item Name)) (p : Name) (f : Continuation Name) (xs : List Element) (w : Shared)
       → IsEntrySound p xs (names items) items → IsSound xs → IsActive (act clauses (Plain p (with_items items f)))
-      → let t = held_item clauses (map (with_height (height xs)) items) (with_heights (height xs) (with_items items f)) (erased xs) w in
+      → let t = held_item clauses (map (with_height (height xs)) items) (continuation_heights (height xs) (with_items items f)) (erased xs) w in
       Pending (step m w (Plain p (with_items items f) ∷ xs)) (t.0, held_settle t.1)
   item-stands [] p f xs w s i a = leaves _ xs (_, erased xs) refl refl i
   item-stands (GoalItem g h ∷ items) p f xs w s i a =
@@ -127,7 +127,7 @@ module _ (clauses : List Clause) where
   step-stands (Catch s u c r p f ∷ xs) w i a = absurd a
   step-stands (Findall s u results list p f ∷ xs) w i a = absurd a
   step-stands (Plain p f ∷ xs) w i a = item-stands f.items p f xs w i.0 i.1 a
-  step-stands (End p b ∷ xs) w i a = leaves _ (opened p w.queries) (_, held_entries (states.opened w.queries)) refl
+  step-stands (End p b ∷ xs) w i a = leaves _ (opened_elements p w.queries) (_, held_entries (states.opened w.queries)) refl
       (opened-held p w.queries) (opened-sound p w.queries)
 
   -- the run
@@ -141,7 +141,7 @@ module _ (clauses : List Clause) where
       let same : (s.0, t.1) ≡ t = ap (λ v. (v, t.1)) one.0 in
       subst (λ u. Pending (run m n s.0 s.1) (held_run clauses n u)) same (runs-stand n s.0 s.1 t.1 one.1)
 
-  rested-over : (xs : List Element) → IsRested clauses xs → is_over (erased xs) ≡ is_over xs
+  rested-over : (xs : List Element) → IsRested clauses xs → is_finished (erased xs) ≡ is_finished xs
   rested-over [] h = refl
   rested-over (Credit k rs ∷ xs) h = refl
   rested-over (Plain p f ∷ xs) h = refl
@@ -155,20 +155,20 @@ module _ (clauses : List Clause) where
       let s = run m n w (free_steps m [] xs) in
       let t = held_run clauses n (w, held_settle (erased xs)) in
       let a : Pending s t = runs-stand n w (free_steps m [] xs) (held_settle (erased xs)) (settle-held clauses xs (erased xs) refl i) in
-      record { erases = ap (λ v. (v, erased s.1)) a.0 ∙ ap (λ l. (t.0, l)) a.1.0; over = sym (rested-over s.1 a.1.2) ∙ ap is_over a.1.0 }
+      record { erases = ap (λ v. (v, erased s.1)) a.0 ∙ ap (λ l. (t.0, l)) a.1.0; over = sym (rested-over s.1 a.1.2) ∙ ap is_finished a.1.0 }
 
   same-seen : (xs : List Element) → IsSound xs → (n : ℕ) (w : Shared) → seen (run m n w (free_steps m [] xs))
       ≡ seen (held_run clauses n (w, held_settle (erased xs)))
   same-seen xs i n w = let r = heights_run xs i n w in ap (λ o. ((run m n w (free_steps m [] xs)).0, o)) r.over
-      ∙ ap (λ t. (t.0, is_over (held_run clauses n (w, held_settle (erased xs))).1)) r.erases
+      ∙ ap (λ t. (t.0, is_finished (held_run clauses n (w, held_settle (erased xs))).1)) r.erases
 
   pub names_are_free : NamesAreFree clauses
   names_are_free xs ys i j e n w = same-seen xs i n w ∙ ap (λ hs. seen (held_run clauses n (w, held_settle hs))) e
       ∙ sym (same-seen ys j n w)
 
-pub counted-same : (f g : ℕ → Bool) → ((n : ℕ) → f n ≡ g n) → (n : ℕ) → counted f n ≡ counted g n
+pub counted-same : (f g : ℕ → Bool) → ((n : ℕ) → f n ≡ g n) → (n : ℕ) → counted_steps f n ≡ counted_steps g n
 counted-same f g h zero = refl
-counted-same f g h (suc n) = ap (λ k. k + cond (f n) 0 1) (counted-same f g h n) ∙ ap (λ b. counted g n + cond b 0 1) (h n)
+counted-same f g h (suc n) = ap (λ k. k + cond (f n) 0 1) (counted-same f g h n) ∙ ap (λ b. counted_steps g n + cond b 0 1) (h n)
 
 pub alike_counts : (clauses : List Clause) → AlikeCounts clauses
 alike_counts clauses xs ys a n w = counted-same (has_ended clauses w xs) (has_ended clauses w ys) (λ k. ap (λ s. s.1) (a k w)) n
@@ -185,17 +185,17 @@ named_run job n =
     ≡ held_after job k = λ k. ap (λ hs. held_run job.clauses k (first_shared job, held_settle hs)) start in
     let same = heights_run job.clauses (opening_list job) sound in
     let q = seq_held job n in
-    let ended : (k : ℕ) → is_over (held_after job k).1 ≡ has_ended job.clauses (first_shared job) (opening_list job) k = λ k.
-    sym ((same k (first_shared job)).over ∙ ap (λ t. is_over t.1) (state k)) in
+    let ended : (k : ℕ) → is_finished (held_after job k).1 ≡ has_ended job.clauses (first_shared job) (opening_list job) k = λ k.
+    sym ((same k (first_shared job)).over ∙ ap (λ t. is_finished t.1) (state k)) in
     record {
       sound = sound;
       state = ap (λ t. t.0) ((same n (first_shared job)).erases ∙ state n) ∙ q.state;
       entries = ap (λ t. t.1) ((same n (first_shared job)).erases ∙ state n) ∙ q.entries;
-      over = sym (ended n) ∙ ap is_over q.entries ∙ over-held (seq job n).entries;
-      inferences = q.inferences ∙ counted-same (λ k. is_over (held_after job k).1)
+      over = sym (ended n) ∙ ap is_finished q.entries ∙ over-held (seq job n).entries;
+      inferences = q.inferences ∙ counted-same (λ k. is_finished (held_after job k).1)
           (has_ended job.clauses (first_shared job) (opening_list job)) ended n;
     }
   where
-    over-held : (es : List Entry) → is_over (held_entries es) ≡ is_over es
+    over-held : (es : List Entry) → is_finished (held_entries es) ≡ is_finished es
     over-held [] = refl
     over-held (e ∷ es) = refl

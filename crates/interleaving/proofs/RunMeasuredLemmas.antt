@@ -5,7 +5,7 @@ use Rattle.std.specs.Prelude.{◌&&◌, ◌||◌, not}
 use Rattle.std.specs.List.{list_any}
 use Rattle.run_model.specs.Machine.Entries.{Entry, PlainEntry, CatchEntry, FindallEntry, EndEntry}
 use Rattle.tree_model.specs.Nodes.{Kind, CatchNode, FindallNode}
-use Rattle.tree_model.specs.Shapes.{further, is_guard, is_alone, fits, guard_kind}
+use Rattle.tree_model.specs.Shapes.{further, is_guard, is_alone, fits_nodes, guard_kind}
 use Rattle.tree_model.specs.PendingLists.{Way}
 use Rattle.tree_model.specs.Ways.{is_on, same_kind, is_barrier, through, way_from, way_above}
 use Rattle.interleaving.proofs.StackLemmas.{IsCounted, stack_way}
@@ -27,7 +27,7 @@ pub none_inside : (Whole : ℕ → Type 0) (low : ℕ) (sizes : List ℕ) → ((
 none_inside Whole low [] h = tt
 none_inside Whole low (size ∷ sizes) h = ((λ n w. (h n w).0), none_inside Whole (low + further size) sizes (λ n w. (h n w).1))
 
-pub fits_fill : (low : ℕ) (cuts sizes : List ℕ) (es : List Entry) → fits low cuts sizes es ≡ true → Fills sizes es
+pub fits_fill : (low : ℕ) (cuts sizes : List ℕ) (es : List Entry) → fits_nodes low cuts sizes es ≡ true → Fills sizes es
 fits_fill low cuts [] es h = is_one h
   where
     is_one : (length es == 1) ≡ true → length es ≡ 1
@@ -40,7 +40,7 @@ fits_fill low cuts (size ∷ sizes) es h =
 clash : true ≡ false → ⊥
 clash z = cc
 
-pub cut_not_inside : (low : ℕ) (cuts sizes : List ℕ) (es : List Entry) → fits low cuts sizes es ≡ true → (h : ℕ) → named_in cuts h
+pub cut_not_inside : (low : ℕ) (cuts sizes : List ℕ) (es : List Entry) → fits_nodes low cuts sizes es ≡ true → (h : ℕ) → named_in cuts h
     ≡ true → NotInside low sizes h
 cut_not_inside low cuts [] es f h n = tt
 cut_not_inside low cuts (size ∷ sizes) es f h n =
@@ -97,7 +97,7 @@ alone_one es a g = is_one (ap (λ b. not b || (length es == 1)) (sym g) ∙ a)
         is_number z = grind arith
 
 -- the scope of a catch or findall entry falls inside no node
-pub guard_not_inside : (low : ℕ) (cuts sizes : List ℕ) (es : List Entry) → fits low cuts sizes es ≡ true → (h : ℕ) → GuardAt low es h
+pub guard_not_inside : (low : ℕ) (cuts sizes : List ℕ) (es : List Entry) → fits_nodes low cuts sizes es ≡ true → (h : ℕ) → GuardAt low es h
     → NotInside low sizes (suc h)
 guard_not_inside low cuts [] es f h g = tt
 guard_not_inside low cuts (size ∷ sizes) es f h g =

@@ -17,28 +17,8 @@ use Rattle.tree_model.specs.Floors.{node_of, floor_of}
 use Rattle.tree_model.specs.Gates.{landing_scope, ball_gate, control_gate, goal_gate, item_gate, gate_on}
 use Rattle.tree_model.specs.PrivateRuns.{own_settles, own_free_steps, own_part, goal_alone, item_alone, taken_alone, if_no_gate}
 use Rattle.tree_model.specs.PrivateRuns.{own_after, one_more, if_any, private_run}
-use Rattle.interleaving.specs.OwnRuns.{own_settles as their_settles, own_settle, landed, own_control, own_goal, own_item, own_left}
+use Rattle.interleaving.specs.OwnRuns.{landed, own_control, own_goal, own_item, own_left}
 use Rattle.interleaving.specs.OwnRuns.{own_more, own_run}
-
--- the free steps
-settles_same : (items : List (Item ℕ)) (f : Continuation ℕ) (es floor : List Entry) (go other : List Entry → List Entry)
-    → ((ds : List Entry) → go ds ≡ other ds) → own_settles items f es floor go ≡ their_settles items f es floor other
-settles_same [] f es floor go other h = refl
-settles_same (GoalItem t m ∷ items) f es floor go other h = refl
-settles_same (CatchMark m ∷ items) f es floor go other h = refl
-settles_same (RemovalItem n ∷ items) f es floor go other h = refl
-settles_same (CollectMark t m ∷ items) f es floor go other h = ap
-    (λ ds. cond (nat_lt m (length floor)) (PlainEntry (with_items (CollectMark t m ∷ items) f) ∷ es) ds)
-    (h (collected (m - length floor) t es))
-
-settle_same : (floor : List Entry) (k : ℕ) (es : List Entry) → own_free_steps floor k es ≡ own_settle floor k es
-settle_same floor zero es = refl
-settle_same floor (suc k) [] = refl
-settle_same floor (suc k) (CatchEntry c r f ∷ es) = settle_same floor k es
-settle_same floor (suc k) (FindallEntry results l f ∷ es) = refl
-settle_same floor (suc k) (PlainEntry f ∷ es) = settles_same (without_marks f.items) f es floor (own_free_steps floor k)
-    (own_settle floor k) (settle_same floor k)
-settle_same floor (suc k) (EndEntry b ∷ es) = refl
 
 -- the goals
 length-floor : (levels : List Level) → length (floor_of levels) ≡ length levels
@@ -175,7 +155,7 @@ plain_same clauses levels f es (inr c) = collect_rests clauses levels (without_m
 
 left_same : (floor : List Entry) (o : Option (List Entry)) → own_after floor o ≡ own_left floor o
 left_same floor None = refl
-left_same floor (Some es) = ap (λ l. Some l) (settle_same floor (length (own_part floor es)) (own_part floor es))
+left_same floor (Some es) = refl
 
 more_same : (clauses : List Clause) (levels : List Level) (es : List Entry) → IsTop es → one_more clauses levels es
     ≡ own_more clauses (floor_of levels) (Some es)
@@ -217,6 +197,6 @@ run_top clauses levels e (suc k) = any_top clauses levels (private_run clauses l
 pub same_run : (clauses : List Clause) (levels : List Level) (e : Entry) (k : ℕ) → private_run clauses levels e k
     ≡ own_run clauses (floor_of levels) k (e ∷ [])
 unfolding private_run
-same_run clauses levels e zero = ap (λ l. Some l) (settle_same (floor_of levels) 1 (e ∷ []))
+same_run clauses levels e zero = refl
 same_run clauses levels e (suc k) = any_same clauses levels (private_run clauses levels e k) (run_top clauses levels e k)
     ∙ ap (own_more clauses (floor_of levels)) (same_run clauses levels e k)

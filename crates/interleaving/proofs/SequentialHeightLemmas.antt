@@ -19,12 +19,12 @@ use Rattle.run_model.specs.Machine.States.{State, opened, goal_taken, removal_ta
 use Rattle.run_model.specs.Machine.Runs.{seq}
 use Rattle.run_model.proofs.StepLemmas.{step_is, no_step, seq-zero, seq-suc}
 use Rattle.run_model.proofs.RunLemmas.{run_settled, is_stopped}
-use Rattle.interleaving.specs.Machine.{is_over}
+use Rattle.interleaving.specs.Machine.{is_finished}
 use Rattle.interleaving.specs.Scopes.{shared}
 use Rattle.interleaving.specs.HeightMachine.{HeightEntry, HeldState, held_entries, held_recovered, held_landing, held_reply, held_control}
 use Rattle.interleaving.specs.HeightMachine.{held_goal, held_removed, held_item, held_taken, held_collected, held_plain_free_step}
 use Rattle.interleaving.specs.HeightMachine.{held_free_steps_within, held_settle, held_step, held_run}
-use Rattle.interleaving.specs.Counted.{counted}
+use Rattle.interleaving.specs.Counted.{counted_steps}
 use Rattle.interleaving.specs.SequentialHeights.{held_opening, held_after, IsHeldRun}
 
 pub length-held : (es : List Entry) → length (held_entries es) ≡ length es
@@ -157,7 +157,7 @@ is_entry e es h = cc
 
 record Went (job : Job) (s : HeldState) (n : ℕ) : Type 0 where
   pub agrees : Agrees (held_step job.clauses s) (seq job (suc n))
-  pub inferences : (seq job (suc n)).inferences ≡ (seq job n).inferences + cond (is_over s.1) 0 1
+  pub inferences : (seq job (suc n)).inferences ≡ (seq job n).inferences + cond (is_finished s.1) 0 1
 
 went : (job : Job) (n : ℕ) (s : HeldState) → Agrees s (seq job n) → (es : List Entry) → (seq job n).entries ≡ es → Went job s n
 went job n s a [] h =
@@ -168,8 +168,8 @@ went job n s a [] h =
     let none : held_step job.clauses s ≡ (s.0, []) = ap (λ xs. held_step job.clauses (s.0, xs)) over in
     let world : s.0 ≡ shared (seq job (suc n)) = a.state ∙ ap shared (sym stays) in
     let left : [] ≡ held_entries (seq job (suc n)).entries = sym (ap (λ t. held_entries t.entries) stays ∙ ap held_entries h) in
-    let same : st.inferences ≡ st.inferences + cond (is_over s.1) 0 1 = (let e : st.inferences ≡ st.inferences + 0 = omega arith in e)
-    ∙ ap (λ xs. st.inferences + cond (is_over xs) 0 1) (sym over) in
+    let same : st.inferences ≡ st.inferences + cond (is_finished s.1) 0 1 = (let e : st.inferences ≡ st.inferences + 0 = omega arith in e)
+    ∙ ap (λ xs. st.inferences + cond (is_finished xs) 0 1) (sym over) in
     record {
       agrees = subst (λ t. Agrees t (seq job (suc n))) (sym none) (record { state = world; entries = left });
       inferences = ap
@@ -188,7 +188,7 @@ went job n s a (x ∷ es) h =
     let next = entry_taken job.clauses (x ∷ es) st in
     let after : Agrees (held_step job.clauses (shared st, held_entries (x ∷ es))) (with_free_steps next) = record
     { state = one.state; entries = ap held_settle one.entries ∙ held-settle next.entries } in
-    let on : cond (is_over s.1) 0 1 ≡ 1 = ap (λ t. cond (is_over t.1) 0 1) now in
+    let on : cond (is_finished s.1) 0 1 ≡ 1 = ap (λ t. cond (is_finished t.1) 0 1) now in
     record {
       agrees = subst (λ t. Agrees t (seq job (suc n))) (sym moved)
           (subst (Agrees (held_step job.clauses (shared st, held_entries (x ∷ es)))) (sym new) after);
@@ -205,10 +205,10 @@ agrees job zero = subst (Agrees (held_opening job)) (sym (seq-zero job))
 agrees job (suc n) = subst (λ t. Agrees t (seq job (suc n))) (sym (held_run-suc job.clauses n (held_opening job)))
     (went job n (held_after job n) (agrees job n) (seq job n).entries refl).agrees
 
-inferences-counted : (job : Job) (n : ℕ) → (seq job n).inferences ≡ counted (λ k. is_over (held_after job k).1) n
+inferences-counted : (job : Job) (n : ℕ) → (seq job n).inferences ≡ counted_steps (λ k. is_finished (held_after job k).1) n
 inferences-counted job zero = ap (λ t. t.inferences) (seq-zero job)
 inferences-counted job (suc n) = (went job n (held_after job n) (agrees job n) (seq job n).entries refl).inferences
-    ∙ ap (λ k. k + cond (is_over (held_after job n).1) 0 1) (inferences-counted job n)
+    ∙ ap (λ k. k + cond (is_finished (held_after job n).1) 0 1) (inferences-counted job n)
 
 pub seq_held : (job : Job) (n : ℕ) → IsHeldRun job n
 seq_held job n = record { entries = (agrees job n).entries; state = (agrees job n).state; inferences = inferences-counted job n }

@@ -10,7 +10,7 @@ use Rattle.interleaving.specs.Machine.{Machine, Asks, Seek, gives, placed}
 use Rattle.tree_model.specs.Elements.{Name, Record, Element, Credit, Plain, EndOf, Catch, Findall, End}
 use Rattle.interleaving.specs.Scopes.{Shared, Sought, Scope, Does, act, give, scoped}
 use Rattle.interleaving.specs.Segments.{outer, Private, private_none, private_goes, private_stands, private_wakes, private_takes}
-use Rattle.interleaving.specs.Erased.{from, count}
+use Rattle.interleaving.specs.Erased.{from, element_count}
 use Rattle.interleaving.specs.Views.{IsGrown, IsApart, IsInner, IsUnder}
 use Rattle.interleaving.specs.Laws.{is_inner_record, IsSegment}
 use Rattle.interleaving.specs.Sound.{IsGathered, EachFindall, IsSound}
@@ -152,7 +152,7 @@ module _ (clauses : List Clause) where
   all-gathered inside b zs (r ∷ rs) h o g =
       (gathered-moved zs (b ++ zs) r.0 (from-inner inside b zs r.0 h o.0) g.0, all-gathered inside b zs rs h o.1 g.1)
 
-  alike_lists : (inside : Name → Bool) (a b zs : List Element) → 0 < count a → Each (IsInner inside) a → Each (IsInner inside) b
+  alike_lists : (inside : Name → Bool) (a b zs : List Element) → 0 < element_count a → Each (IsInner inside) a → Each (IsInner inside) b
       → IsSound (b ++ zs) → AreAlike inside (a ++ zs) (b ++ zs) zs
   alike_lists inside a b zs some own inner i = record {
     old = λ s h. from-inner inside a zs s own h;
@@ -165,7 +165,7 @@ module _ (clauses : List Clause) where
     sound = i;
   }
     where
-      count-after : (xs ls : List Element) → count (xs ++ ls) ≡ count xs + count ls
+      count-after : (xs ls : List Element) → element_count (xs ++ ls) ≡ element_count xs + element_count ls
       count-after [] ls = omega arith
       count-after (EndOf e ∷ xs) ls = count-after xs ls
       count-after (Credit k rs ∷ xs) ls = omega (arith, count-after xs ls)
@@ -174,7 +174,7 @@ module _ (clauses : List Clause) where
       count-after (Findall e u results list p f ∷ xs) ls = omega (arith, count-after xs ls)
       count-after (End p b ∷ xs) ls = omega (arith, count-after xs ls)
 
-      first_catch : (a : List Element) → Each (IsInner inside) a → 0 < count a
+      first_catch : (a : List Element) → Each (IsInner inside) a → 0 < element_count a
           → (s u : Name) (c r : Term) (p : Name) (f : Continuation Name) (t : List Element) → IsApart inside s → a ++ zs
           ≡ Catch s u c r p f ∷ t → ⊥
       first_catch [] own some s u c r p f t h e = absurd (omega arith)
@@ -182,7 +182,7 @@ module _ (clauses : List Clause) where
           let here : x ≡ Catch s u c r p f = cc in
           false≢true (sym h ∙ (subst (IsInner inside) here own.0).0)
 
-      first_findall : (a : List Element) → Each (IsInner inside) a → 0 < count a → (s u : Name) (results : List Term) (list : Term)
+      first_findall : (a : List Element) → Each (IsInner inside) a → 0 < element_count a → (s u : Name) (results : List Term) (list : Term)
           (p : Name) (f : Continuation Name) (t : List Element) → IsApart inside s → a ++ zs ≡ Findall s u results list p f ∷ t → ⊥
       first_findall [] own some s u results list p f t h e = absurd (omega arith)
       first_findall (x ∷ xs) own some s u results list p f t h e =
@@ -249,7 +249,7 @@ module _ (clauses : List Clause) where
       (PlaceOk m (IsInner inside) (IsSoughtInner clauses inside) (IsAnyRecord clauses inside)) put (act_inner w) in
       sound_exchange inside xs (x ∷ []) (Credit 1 [] ∷ ys) zs s.front s.own (tt, inner) (counts x e) i (tt, left)
     where
-      counts : (x : Element) → act clauses x ≡ Asks g → 0 < count (x ∷ [])
+      counts : (x : Element) → act clauses x ≡ Asks g → 0 < element_count (x ∷ [])
       counts (EndOf s) f = absurd cc
       counts (Credit k rs) f = omega arith
       counts (Plain p k) f = omega arith

@@ -12,8 +12,8 @@ use Rattle.tree_model.specs.PendingLists.{way_of, element_on, list_among, back_o
 use Rattle.tree_model.specs.Ways.{is_on, AreScoped, IsOnWay, IsHeldBy}
 use Rattle.tree_model.specs.SoundTrees.{one_if, IsOpen, Sleeps, IsShut, Profile, profile, profiles, is_shape, are_pair, is_pair}
 use Rattle.tree_model.specs.CaughtTrees.{MarksCaught, EntryCaught}
-use Rattle.interleaving.specs.Erased.{from, count, height}
-use Rattle.interleaving.specs.Sound.{names, IsOlder, IsPresent, EachFindall, IsEntrySound, IsSound}
+use Rattle.interleaving.specs.Erased.{from, element_count, height}
+use Rattle.interleaving.specs.Sound.{names, IsMadeElsewhere, IsPresent, EachFindall, IsEntrySound, IsSound}
 use Rattle.interleaving.proofs.ContextLemmas.{IsLevel, IsAround, put_profiles, level_profiles, count_around}
 use Rattle.interleaving.proofs.WayLemmas.{cond-false, same_self}
 use Rattle.interleaving.proofs.NamingLemmas.{from_own}
@@ -30,11 +30,11 @@ clash h = let no_way : ⊥ = cc in absurd no_way
 -- names of the branch
 of_older : (base levels : List Level) (i n : ℕ) → IsAround levels IsOpen
     → ((r : ℕ) → is_on (way_of levels) r ≡ true → Reads base levels r) → (hs : List Name) → Each (IsOf base levels) hs
-    → Each (IsOlder (0 ∷ i ∷ n ∷ [])) hs
+    → Each (IsMadeElsewhere (0 ∷ i ∷ n ∷ [])) hs
 of_older base levels i n a f [] h = tt
 of_older base levels i n a f (x ∷ hs) h =
     let at = at_level levels h.0.0 a h.0.2 in (
-      subst (IsOlder (0 ∷ i ∷ n ∷ [])) (sym (h.0.1 ∙ ((f h.0.0 h.0.2).scope ∙ at.scope)))
+      subst (IsMadeElsewhere (0 ∷ i ∷ n ∷ [])) (sym (h.0.1 ∙ ((f h.0.0 h.0.2).scope ∙ at.scope)))
           (older_scope i n (length at.level.left) at.level.number),
       of_older base levels i n a f hs h.1,
     )
@@ -70,7 +70,7 @@ entry_sound base levels i n items once d a f g h m =
         chain = c.chain;
       };
       marks = marks_sound base once levels items d a f g s m;
-      findalls = short_back (IsOlder (0 ∷ i ∷ n ∷ [])) (λ x y. older_scope i n x y) base;
+      findalls = short_back (IsMadeElsewhere (0 ∷ i ∷ n ∷ [])) (λ x y. older_scope i n x y) base;
     }
 
 -- what the branch above a level reads
@@ -146,8 +146,8 @@ module _ (v : Level) (up : List Level) where
       (entry_sound base base (length v.left) v.number f.items d d a (reads_itself base) (λ r k. k) i.scoped m, z)
 
   -- dormant
-  own_height : height (back_of base) (length v.left ∷ v.number ∷ []) ≡ count (back_of base)
-  own_height = ap count (from_own (length v.left ∷ v.number ∷ [])
+  own_height : height (back_of base) (length v.left ∷ v.number ∷ []) ≡ element_count (back_of base)
+  own_height = ap element_count (from_own (length v.left ∷ v.number ∷ [])
       (list_among (way_of up) v.number v.kind (suc (length v.left)) v.right ++ back_of up))
 
   above_sound : (items : List (Item ℕ)) → IsDistinct base → IsAround up IsOpen → AreScoped (way_of up) items

@@ -9,7 +9,7 @@ use Rattle.run_model.specs.Goals.Outcomes.{Solutions, Ball, HaltNumber, Outcome,
 use Rattle.run_model.specs.Machine.Items.{Item, GoalItem, CatchMark, CollectMark, RemovalItem, Continuation, with_items, without_marks}
 use Rattle.interleaving.specs.Machine.{Machine, Vanishes, Wakes, Takes, Asks, placed}
 use Rattle.tree_model.specs.Elements.{Name, Record, Element, Credit, Plain, EndOf, Catch, Findall, End}
-use Rattle.interleaving.specs.Scopes.{Shared, Sought, Does, Lands, goal_act, removed, answered, unmarked, item_act, query_ended}
+use Rattle.interleaving.specs.Scopes.{Shared, Sought, Does, ElementReplacement, goal_act, removed, answer_taken, unmarked, item_act, query_end_taken}
 use Rattle.interleaving.specs.Scopes.{results_first, act, left_standing, scoped}
 use Rattle.interleaving.specs.Sound.{names, IsGathered, IsMarkSound, IsEntrySound, IsSound}
 use Rattle.interleaving.proofs.NamingLemmas.{carried_rest}
@@ -20,7 +20,7 @@ module _ (clauses : List Clause) where
   abbrev m : Machine Shared Element Sought Record
   m = scoped clauses
 
-  pub takes-same : (p q : Lands) → ◌≡◌ {A = Does} (Takes p) (Takes q) → p ≡ q
+  pub takes-same : (p q : ElementReplacement) → ◌≡◌ {A = Does} (Takes p) (Takes q) → p ≡ q
   takes-same p q e = cc
 
   goes-same : (p q : List Record) → ◌≡◌ {A = Does} (Vanishes p) (Vanishes q) → p ≡ q
@@ -30,7 +30,7 @@ module _ (clauses : List Clause) where
   wakes-same x y e = cc
 
   -- an inference that stays in the list
-  goal-takes : (o : Outcome) (p h : Name) (f : Continuation Name) (ys : List Element) (q : Lands) → goal_act clauses o p h f ≡ Takes q
+  goal-takes : (o : Outcome) (p h : Name) (f : Continuation Name) (ys : List Element) (q : ElementReplacement) → goal_act clauses o p h f ≡ Takes q
       → IsEntrySound p ys (h ∷ names f.items) f.items → IsSound ys → IsSound (placed m q ys)
   goal-takes (Replies (Solutions ss)) p h f ys q e s i = subst (λ r. IsSound (placed m r ys)) (takes-same _ q e)
       (reply-sound clauses (Solutions ss) p f ys (entry_rest p ys h f.items s) i)
@@ -41,14 +41,14 @@ module _ (clauses : List Clause) where
       (control-sound clauses p h f ys s i form)
   goal-takes (AskWorld g) p h f ys q e s i = absurd cc
 
-  no_takes : (items : List (Item Name)) (p : Name) (f : Continuation Name) (q : Lands) → unmarked items p f ≡ Takes q → ⊥
+  no_takes : (items : List (Item Name)) (p : Name) (f : Continuation Name) (q : ElementReplacement) → unmarked items p f ≡ Takes q → ⊥
   no_takes [] p f q e = absurd cc
   no_takes (GoalItem t s ∷ items) p f q e = absurd cc
   no_takes (CatchMark s ∷ items) p f q e = absurd cc
   no_takes (CollectMark t s ∷ items) p f q e = absurd cc
   no_takes (RemovalItem n ∷ items) p f q e = absurd cc
 
-  item-takes : (items : List (Item Name)) (p : Name) (f : Continuation Name) (ys : List Element) (q : Lands)
+  item-takes : (items : List (Item Name)) (p : Name) (f : Continuation Name) (ys : List Element) (q : ElementReplacement)
       → item_act clauses items p f ≡ Takes q → IsEntrySound p ys (names items) items → IsSound ys → IsSound (placed m q ys)
   item-takes [] p f ys q e s i = absurd cc
   item-takes (GoalItem g h ∷ items) p f ys q e s i = goal-takes (outcome_of clauses g f.next) p h (with_items items f) ys q e
@@ -57,7 +57,7 @@ module _ (clauses : List Clause) where
   item-takes (CatchMark k ∷ items) p f ys q e s i = absurd (no_takes (without_marks items) p f q e)
   item-takes (CollectMark t k ∷ items) p f ys q e s i = absurd cc
 
-  pub takes-sound : (x : Element) (q : Lands) (ys : List Element) → act clauses x ≡ Takes q → IsSound (x ∷ ys) → IsSound (placed m q ys)
+  pub takes-sound : (x : Element) (q : ElementReplacement) (ys : List Element) → act clauses x ≡ Takes q → IsSound (x ∷ ys) → IsSound (placed m q ys)
   takes-sound (Credit zero rs) q ys e i = absurd cc
   takes-sound (Credit (suc k) rs) q ys e i = subst (λ r. IsSound (placed m r ys)) (takes-same _ q e) i
   takes-sound (Plain p f) q ys e i = item-takes f.items p f ys q e i.0 i.1
@@ -148,13 +148,13 @@ module _ (clauses : List Clause) where
   goes-gathered (End p b) ys rs e i = absurd cc
 
   -- what asks the world
-  asks-same : (f g : Shared → Shared × Lands) → ◌≡◌ {A = Does} (Asks f) (Asks g) → f ≡ g
+  asks-same : (f g : Shared → Shared × ElementReplacement) → ◌≡◌ {A = Does} (Asks f) (Asks g) → f ≡ g
   asks-same f g e = cc
 
-  abbrev Continues : (Shared → Shared × Lands) → List Element → Type 0
+  abbrev Continues : (Shared → Shared × ElementReplacement) → List Element → Type 0
   Continues g ys = (w : Shared) → IsSound (placed m (g w).1 ys)
 
-  goal-asks : (o : Outcome) (p h : Name) (f : Continuation Name) (ys : List Element) (g : Shared → Shared × Lands)
+  goal-asks : (o : Outcome) (p h : Name) (f : Continuation Name) (ys : List Element) (g : Shared → Shared × ElementReplacement)
       → goal_act clauses o p h f ≡ Asks g → IsEntrySound p ys (h ∷ names f.items) f.items → IsSound ys → Continues g ys
   goal-asks (Replies (Solutions ss)) p h f ys g e s i = absurd cc
   goal-asks (Replies (Ball b)) p h f ys g e s i = absurd cc
@@ -168,16 +168,16 @@ module _ (clauses : List Clause) where
   removed-leaves None p f ys w s i = i
   removed-leaves (Some db) p f ys w s i = (s, i)
 
-  no_asks : (items : List (Item Name)) (p : Name) (f : Continuation Name) (g : Shared → Shared × Lands) → unmarked items p f ≡ Asks g → ⊥
+  no_asks : (items : List (Item Name)) (p : Name) (f : Continuation Name) (g : Shared → Shared × ElementReplacement) → unmarked items p f ≡ Asks g → ⊥
   no_asks [] p f g e = absurd cc
   no_asks (GoalItem t s ∷ items) p f g e = absurd cc
   no_asks (CatchMark s ∷ items) p f g e = absurd cc
   no_asks (CollectMark t s ∷ items) p f g e = absurd cc
   no_asks (RemovalItem n ∷ items) p f g e = absurd cc
 
-  item-asks : (items : List (Item Name)) (p : Name) (f : Continuation Name) (ys : List Element) (g : Shared → Shared × Lands)
+  item-asks : (items : List (Item Name)) (p : Name) (f : Continuation Name) (ys : List Element) (g : Shared → Shared × ElementReplacement)
       → item_act clauses items p f ≡ Asks g → IsEntrySound p ys (names items) items → IsSound ys → Continues g ys
-  item-asks [] p f ys g e s i = subst (λ g. Continues g ys) (asks-same (answered f) g e) (λ w. i)
+  item-asks [] p f ys g e s i = subst (λ g. Continues g ys) (asks-same (answer_taken f) g e) (λ w. i)
   item-asks (GoalItem t h ∷ items) p f ys g e s i = goal-asks (outcome_of clauses t f.next) p h (with_items items f) ys g e
       (record { carried = s.carried; marks = s.marks.1; findalls = s.findalls }) i
   item-asks (RemovalItem n ∷ items) p f ys g e s i =
@@ -187,7 +187,7 @@ module _ (clauses : List Clause) where
   item-asks (CatchMark k ∷ items) p f ys g e s i = absurd (no_asks (without_marks items) p f g e)
   item-asks (CollectMark t k ∷ items) p f ys g e s i = absurd cc
 
-  pub asks-sound : (x : Element) (g : Shared → Shared × Lands) (ys : List Element) → act clauses x ≡ Asks g → IsSound (x ∷ ys)
+  pub asks-sound : (x : Element) (g : Shared → Shared × ElementReplacement) (ys : List Element) → act clauses x ≡ Asks g → IsSound (x ∷ ys)
       → Continues g ys
   asks-sound (Credit zero rs) g ys e i = absurd cc
   asks-sound (Credit (suc k) rs) g ys e i = absurd cc
@@ -195,7 +195,7 @@ module _ (clauses : List Clause) where
   asks-sound (EndOf s) g ys e i = absurd cc
   asks-sound (Catch s u c r p f) g ys e i = absurd cc
   asks-sound (Findall s u results list p f) g ys e i = absurd cc
-  asks-sound (End p b) g ys e i = subst (λ g. Continues g ys) (asks-same (query_ended b p) g e) (λ w. opened-sound p w.queries)
+  asks-sound (End p b) g ys e i = subst (λ g. Continues g ys) (asks-same (query_end_taken b p) g e) (λ w. opened-sound p w.queries)
 
   -- what is left standing
   pub stands-sound : (x : Element) (ys : List Element) → IsSound (x ∷ ys) → IsSound (left_standing x ∷ ys)

@@ -6,7 +6,7 @@ use Rattle.au_model.specs.Terms.Each.{Each}
 use Rattle.tree_model.specs.Nodes.{Kind, Node, Numbered, Alternatives, none, alternative, Status, Pending, Inner, Closed}
 use Rattle.tree_model.specs.Levels.{Level, Place, same_place, Spot, place_of_spot, pending_in, pending_among, pending_below, pending_of}
 use Rattle.tree_model.specs.SoundTrees.{one_if, count_in, count_among, count_below, IsSoundTree}
-use Rattle.tree_model.specs.TreeStates.{TreeState, leftmost, first_spot, pending}
+use Rattle.tree_model.specs.TreeStates.{TreeState, leftmost, first_spot, pending_spots}
 use Rattle.tree_model.specs.Legality.{is_spot_at, is_taken_by, taken_at}
 use Rattle.interleaving.proofs.AppendLemmas.{found, each-append, each-more}
 use Rattle.interleaving.proofs.OpenSpotLemmas.{both_right}
@@ -130,9 +130,9 @@ same_numbers a b h = go (a.node == b.node) refl (a.index == b.index) refl h
 -- an alternative that is out, at the place of the leftmost pending one, is that one
 pub taken_first : (t : TreeState) (w : ℕ) (a : Place) (s : Spot) → IsSoundTree t → taken_at w a t ≡ Some s → is_spot_at a (leftmost t)
     ≡ true → leftmost t ≡ Some s
-taken_first t w a s h f l = go (pending t) refl f l
+taken_first t w a s h f l = go (pending_spots t) refl f l
   where
-    go : (spots : List Spot) → pending t ≡ spots → find (λ r. is_taken_by w r.hold && same_place a (place_of_spot r)) spots ≡ Some s
+    go : (spots : List Spot) → pending_spots t ≡ spots → find (λ r. is_taken_by w r.hold && same_place a (place_of_spot r)) spots ≡ Some s
         → is_spot_at a (first_spot spots) ≡ true → first_spot spots ≡ Some s
     go [] p f l = clash l
     go (r ∷ ss) p f l = pick (is_taken_by w r.hold && same_place a (place_of_spot r)) f

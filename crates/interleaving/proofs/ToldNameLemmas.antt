@@ -2,7 +2,7 @@
 use Rattle.std.proofs.Common.{◌≡◌, ◌⊎◌, inl, inr, ℕ, suc, ◌==◌, true, false, List, [], ◌∷◌, ◌++◌, length, refl, sym, ap, ◌∙◌, subst}
 use Rattle.std.proofs.Common.{arith}
 use Rattle.tree_model.specs.Elements.{Name, Element, EndOf}
-use Rattle.interleaving.specs.Erased.{from, count, height}
+use Rattle.interleaving.specs.Erased.{from, element_count, height}
 use Rattle.interleaving.specs.Sound.{IsPresent}
 use Rattle.interleaving.specs.FloorLaws.{Tells}
 use Rattle.tree_model.specs.Levels.{Level}
@@ -99,17 +99,17 @@ present_form (v ∷ up) p a s h = go (decide s (step_name (step_of v))) (decide 
 
 -- the highest end of the floor
 top_name : (levels : List Level) (s : Name) → IsPresent (below_named levels) s → height (below_named levels) s ≡ length levels
-    → height (back_of levels) s ≡ count (back_of levels)
+    → height (back_of levels) s ≡ element_count (back_of levels)
 top_name [] s p h = absurd (nothing_there s p.0 p.1)
 top_name (v ∷ up) s p h = go (decide s (step_name (step_of v)))
   where
-    go : (s ≡ step_name (step_of v)) ⊎ (s ≡ step_name (step_of v) → ⊥) → height (back_of (v ∷ up)) s ≡ count (back_of (v ∷ up))
-    go (inl e) = ap (height (back_of (v ∷ up))) e ∙ ap count (from_own (step_name (step_of v)) (right_of (v ∷ up)))
+    go : (s ≡ step_name (step_of v)) ⊎ (s ≡ step_name (step_of v) → ⊥) → height (back_of (v ∷ up)) s ≡ element_count (back_of (v ∷ up))
+    go (inl e) = ap (height (back_of (v ∷ up))) e ∙ ap element_count (from_own (step_name (step_of v)) (right_of (v ∷ up)))
     go (inr n) =
         let k = past s (step_name (step_of v)) (floor_named (v ∷ up)) n p in
         let low = floor-low (floor_named (v ∷ up)) s k.0 (first_low (v ∷ up)) k.1 in
         let size = count-right v.number (suc (length v.left)) (way_of up) v.right (below_named up) in
-        absurd (omega (arith, low, size, count-below up, ap count (from_end (step_name (step_of v)) s (floor_named (v ∷ up)) n), h))
+        absurd (omega (arith, low, size, count-below up, ap element_count (from_end (step_name (step_of v)) s (floor_named (v ∷ up)) n), h))
 
 -- at one level
 module _ (next : ℕ) (v : Level) (up : List Level) (f : IsFree next (v ∷ up)) (a : IsAround (v ∷ up) IsOpen)
@@ -125,13 +125,13 @@ module _ (next : ℕ) (v : Level) (up : List Level) (f : IsFree next (v ∷ up))
   in_back s p =
       let n = present_form up IsOpen a.1 s p in
       ap (height (right_of (v ∷ up))) n.same
-      ∙ (ap count (skip_right next v up f a.0.new n.index n.node n.on) ∙ ap (height (back_of up)) (sym n.same))
+      ∙ (ap element_count (skip_right next v up f a.0.new n.index n.node n.on) ∙ ap (height (back_of up)) (sym n.same))
 
   moved : (s : Name) → (s ≡ suc (length v.left) ∷ v.number ∷ [] → ⊥) → IsPresent (floor_named (v ∷ up)) s → IsPresent (below_named up) s
   moved s n p = (p.0, sym (right_past v up s n (below_named up) asleep) ∙ p.1)
 
   same_low : (s : Name) → (s ≡ suc (length v.left) ∷ v.number ∷ [] → ⊥) → height (floor_named (v ∷ up)) s ≡ height (below_named up) s
-  same_low s n = ap count (right_past v up s n (below_named up) asleep)
+  same_low s n = ap element_count (right_past v up s n (below_named up) asleep)
 
   other_present : (s t : Name) → (s ≡ suc (length v.left) ∷ v.number ∷ [] → ⊥) → (t ≡ suc (length v.left) ∷ v.number ∷ [] → ⊥)
       → IsPresent (floor_named (v ∷ up)) s → IsPresent (floor_named (v ∷ up)) t → height (floor_named (v ∷ up)) s
@@ -153,8 +153,8 @@ module _ (next : ℕ) (v : Level) (up : List Level) (f : IsFree next (v ∷ up))
       go (inl s) =
           let qs = moved t n q in
           let top : height (below_named up) t ≡ length up = sym (same_low t n)
-          ∙ (sym e ∙ (ap count (right_own v up (below_named up) s) ∙ count-below up)) in
-          ap count (back_own v up s) ∙ (sym (top_name up t qs top) ∙ sym (in_back t qs))
+          ∙ (sym e ∙ (ap element_count (right_own v up (below_named up) s) ∙ count-below up)) in
+          ap element_count (back_own v up s) ∙ (sym (top_name up t qs top) ∙ sym (in_back t qs))
       go (inr s) =
           let there : IsPresent (below_named up) (suc (length v.left) ∷ v.number ∷ []) =
           (p.0, sym (right_awake v up (suc (length v.left) ∷ v.number ∷ []) (below_named up) s) ∙ p.1) in
@@ -190,8 +190,8 @@ module _ (next : ℕ) (v : Level) (up : List Level) (f : IsFree next (v ∷ up))
       high r n k h =
           let j = past r (step_name (step_of v)) (floor_named (v ∷ up)) n k in
           let low = floor-low (floor_named (v ∷ up)) r j.0 (first_low (v ∷ up)) j.1 in
-          let size = ap count (from_own (step_name (step_of v)) (floor_named (v ∷ up))) in
-          absurd (omega (arith, low, size, h, ap count (from_end (step_name (step_of v)) r (floor_named (v ∷ up)) n)))
+          let size = ap element_count (from_own (step_name (step_of v)) (floor_named (v ∷ up))) in
+          absurd (omega (arith, low, size, h, ap element_count (from_end (step_name (step_of v)) r (floor_named (v ∷ up)) n)))
 
       go : (s ≡ step_name (step_of v)) ⊎ (s ≡ step_name (step_of v) → ⊥) → (t ≡ step_name (step_of v)) ⊎ (t ≡ step_name (step_of v) → ⊥)
           → height (back_of (v ∷ up)) s ≡ height (back_of (v ∷ up)) t
@@ -201,10 +201,10 @@ module _ (next : ℕ) (v : Level) (up : List Level) (f : IsFree next (v ∷ up))
       go (inr m) (inr n) =
           let j = past s (step_name (step_of v)) (floor_named (v ∷ up)) m p in
           let k = past t (step_name (step_of v)) (floor_named (v ∷ up)) n q in
-          let low = ap count (from_end (step_name (step_of v)) s (floor_named (v ∷ up)) m) in
-          let high = ap count (from_end (step_name (step_of v)) t (floor_named (v ∷ up)) n) in
-          ap count (from_end (step_name (step_of v)) s (right_of (v ∷ up)) m)
-          ∙ (tells_floor s t j k (sym low ∙ (e ∙ high)) ∙ sym (ap count (from_end (step_name (step_of v)) t (right_of (v ∷ up)) n)))
+          let low = ap element_count (from_end (step_name (step_of v)) s (floor_named (v ∷ up)) m) in
+          let high = ap element_count (from_end (step_name (step_of v)) t (floor_named (v ∷ up)) n) in
+          ap element_count (from_end (step_name (step_of v)) s (right_of (v ∷ up)) m)
+          ∙ (tells_floor s t j k (sym low ∙ (e ∙ high)) ∙ sym (ap element_count (from_end (step_name (step_of v)) t (right_of (v ∷ up)) n)))
 
 pub tells_below : (next : ℕ) (levels : List Level) → IsFree next levels → IsAround levels IsOpen
     → Tells (below_named levels) (back_of levels)

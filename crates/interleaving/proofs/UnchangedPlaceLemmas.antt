@@ -10,7 +10,7 @@ use Rattle.tree_model.specs.Gates.{scope_of}
 use Rattle.tree_model.specs.Orders.{first_open, is_cleared}
 use Rattle.tree_model.specs.Pruning.{Task, tasks_below}
 use Rattle.tree_model.specs.Events.{Event, Claim, Nodes, Empty, Collected, Lost, Suspend, Resume, Prune, Answer, Stop}
-use Rattle.tree_model.specs.TreeStates.{TreeState, pending, first_spot, leftmost, live, end_by, ended, opening_tree}
+use Rattle.tree_model.specs.TreeStates.{TreeState, pending_spots, first_spot, leftmost, live, end_by, ended, opening_tree}
 use Rattle.tree_model.specs.Legality.{is_ready, may_resume, is_spot_at, if_room, claimable, resumable, taken_at, gate_of, run_of}
 use Rattle.tree_model.specs.Legality.{is_world_gate, at_spot, is_allowed, is_legal}
 use Rattle.tree_model.specs.Effects.{ball_falls, cut_at, gate_pruned, run_placed, where_some, after_allowed, after_event}
@@ -133,11 +133,11 @@ first_found : (test : Spot → Bool) (spots : List Spot) (s : Spot) (ss : List S
     ≡ Some s
 first_found test spots s ss e h = ap (find test) e ∙ cond-true (test s) (Some s) (find test ss) h
 
-may_go : (t : TreeState) (s : Spot) (ss : List Spot) (hold : Hold) → s.hold ≡ hold → pending t ≡ s ∷ ss
+may_go : (t : TreeState) (s : Spot) (ss : List Spot) (hold : Hold) → s.hold ≡ hold → pending_spots t ≡ s ∷ ss
     → plug (levels_of s) (Pending s.hold s.entry) ≡ t.root → first_open (levels_of s) ≡ None → profile (Pending s.hold s.entry) ≡ IsOpen
     → tasks_out t ≡ [] → claimable t ≢ None ⊎ resumable t ≢ None
 may_go t s ss Ready e p i c o k =
-    let ready : find (λ r. is_ready r.hold) (pending t) ≡ Some s = first_found (λ r. is_ready r.hold) (pending t) s ss p (ap is_ready e) in
+    let ready : find (λ r. is_ready r.hold) (pending_spots t) ≡ Some s = first_found (λ r. is_ready r.hold) (pending_spots t) s ss p (ap is_ready e) in
     let left : leftmost t ≡ Some s = ap first_spot p in
     let here : is_spot_at (place_of_spot s) (leftmost t) ≡ true = ap (is_spot_at (place_of_spot s)) left ∙ place_self (place_of_spot s) in
     let room : if_room t (Some s) ≡ Some s = cond-true _ (Some s) None (ap (λ b. b || nat_lt (live t) t.window) here) in
@@ -146,7 +146,7 @@ may_go t s ss Ready e p i c o k =
 may_go t s ss (Waiting g) e p i c o k =
     let clear : is_cleared (scope_of g) (levels_of s) ≡ true = ap is_none (cleared_below (scope_of g) (levels_of s) c) in
     let goes : may_resume s s.hold ≡ true = ap (may_resume s) e ∙ clear in
-    let found : resumable t ≡ Some s = first_found (λ r. may_resume r r.hold) (pending t) s ss p goes in
+    let found : resumable t ≡ Some s = first_found (λ r. may_resume r r.hold) (pending_spots t) s ss p goes in
     inr (λ none. some_none s (sym found ∙ none))
 may_go t s ss (TakenBy w) e p i c o k = absurd
     (tasks_plug (levels_of s) (Pending s.hold s.entry) (λ n j h. taken n j h) 0 0
@@ -167,20 +167,20 @@ may_go t s ss Dormant e p i c o k = absurd (clash (sym (ap (λ hold. profile (Pe
     clash z = cc
 
 goes_on : (t : TreeState) → IsSoundTree t → ended t ≡ None → tasks_out t ≡ [] → claimable t ≢ None ⊎ resumable t ≢ None
-goes_on t h e k = go (pending t) refl e
+goes_on t h e k = go (pending_spots t) refl e
   where
     no_end : (o : Option ℕ) → end_by o None t.budget ≡ None → ⊥
     no_end None z = cc
     no_end (Some n) z = cc
 
-    go : (spots : List Spot) → pending t ≡ spots → end_by t.halted (first_spot (pending t)) t.budget ≡ None
+    go : (spots : List Spot) → pending_spots t ≡ spots → end_by t.halted (first_spot (pending_spots t)) t.budget ≡ None
         → claimable t ≢ None ⊎ resumable t ≢ None
     go [] p z = absurd (no_end t.halted (sym (ap (λ spots. end_by t.halted (first_spot spots) t.budget) p) ∙ z))
     go (s ∷ ss) p z =
         let f = leftmost_front t.root h.sound s ss p in
         may_go t f.first f.others f.first.hold refl f.joined (first_in f.first f.others f.joined) f.clear f.opened k
       where
-        first_in : (s : Spot) (ss : List Spot) → pending t ≡ s ∷ ss → IsIn t.root s
+        first_in : (s : Spot) (ss : List Spot) → pending_spots t ≡ s ∷ ss → IsIn t.root s
         first_in s ss q = (subst (Each (IsIn t.root)) q (all_in t.root)).0
 
 pub never_stuck : NeverStuck

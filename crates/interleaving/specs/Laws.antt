@@ -4,11 +4,11 @@ use Rattle.std.specs.Option.{option_map}
 use Rattle.au_model.specs.Terms.Each.{Each}
 use Rattle.run_model.specs.Programs.Clauses.{Clause}
 use Rattle.run_model.specs.Machine.Items.{Continuation}
-use Rattle.interleaving.specs.Machine.{Vanishes, Wakes, Asks, Takes, Put, Seek, gives, placed, free_steps, run, is_over, seen, Alike}
+use Rattle.interleaving.specs.Machine.{Vanishes, Wakes, Asks, Takes, Put, Seek, gives, placed, free_steps, run, is_finished, seen, Alike}
 use Rattle.tree_model.specs.Elements.{Name, Record, Element, Credit, Plain, EndOf}
-use Rattle.interleaving.specs.Scopes.{Shared, Scope, Lands, act, scoped}
+use Rattle.interleaving.specs.Scopes.{Shared, Scope, ElementReplacement, act, scoped}
 use Rattle.interleaving.specs.Segments.{all_inner, outer, run_alone, search_in, placed_in, Private}
-use Rattle.interleaving.specs.Erased.{count}
+use Rattle.interleaving.specs.Erased.{element_count}
 use Rattle.interleaving.specs.Sound.{IsSound}
 use Rattle.interleaving.specs.Views.{IsGrown, IsBlind, IsInner, IsUnder}
 use Rattle.interleaving.specs.Quiet.{IsQuiet, inferences, records, IsFixed, IsStill}
@@ -32,7 +32,7 @@ pub record IsSegment (inside : Name → Bool) (pre a zs : List Element) : Type 0
   pub front : Each (IsBlind inside) pre
   pub own : Each (IsInner inside) a
   pub under : Each (IsUnder inside) zs
-  pub some : 0 < count a
+  pub some : 0 < element_count a
 
 -- a list may become another: they run alike, and names stay sound
 pub record MayBecome (clauses : List Clause) (xs ys : List Element) : Type 0 where
@@ -68,7 +68,7 @@ QuietEarly clauses =
 -- an inference after credits alone that stays in the segment: a cut, or a ball that is caught there
 abbrev pub TakenEarly : List Clause → Type 0
 TakenEarly clauses =
-    (inside : Name → Bool) (xs : List Element) (x : Element) (p : Lands) (pre mid b zs : List Element) → IsQuiet xs → act clauses x
+    (inside : Name → Bool) (xs : List Element) (x : Element) (p : ElementReplacement) (pre mid b zs : List Element) → IsQuiet xs → act clauses x
     ≡ Takes p
     → placed_in (scoped clauses) p (map (gives (scoped clauses) (records xs)) mid) ≡ Some b → IsSegment inside pre (xs ++ (x ∷ mid)) zs
     → MayBecome clauses (pre ++ ((xs ++ (x ∷ mid)) ++ zs))
@@ -116,7 +116,7 @@ NoCredit clauses = (pre zs : List Element) → MayBecome clauses (pre ++ (Credit
 -- the new list in the new world, are in the same states
 abbrev pub FrontGate : List Clause → Type 0
 FrontGate clauses =
-    (xs : List Element) (x : Element) (g : Shared → Shared × Lands) (zs : List Element) (w : Shared) (n : ℕ) → IsQuiet xs
+    (xs : List Element) (x : Element) (g : Shared → Shared × ElementReplacement) (zs : List Element) (w : Shared) (n : ℕ) → IsQuiet xs
     → act clauses x ≡ Asks g
     → let m = scoped clauses in
     let k = inferences xs in
@@ -126,7 +126,7 @@ FrontGate clauses =
 -- the same where the credits stay where they are
 abbrev pub FrontGateInPlace : List Clause → Type 0
 FrontGateInPlace clauses =
-    (xs : List Element) (x : Element) (g : Shared → Shared × Lands) (ys zs : List Element) (w : Shared) (n : ℕ) → IsQuiet xs
+    (xs : List Element) (x : Element) (g : Shared → Shared × ElementReplacement) (ys zs : List Element) (w : Shared) (n : ℕ) → IsQuiet xs
     → act clauses x ≡ Asks g → (g w).1 ≡ Put ys → Each IsFixed ys
     → let m = scoped clauses in
     let k = inferences xs in
@@ -146,7 +146,7 @@ CutInPlace clauses =
 -- catches ends the query
 abbrev pub TakenInFront : List Clause → Type 0
 TakenInFront clauses =
-    (xs : List Element) (x : Element) (p : Lands) (pre mid : List Element) → Each IsStill pre → IsQuiet xs → act clauses x ≡ Takes p
+    (xs : List Element) (x : Element) (p : ElementReplacement) (pre mid : List Element) → Each IsStill pre → IsQuiet xs → act clauses x ≡ Takes p
     → MayBecome clauses (pre ++ (xs ++ (x ∷ mid)))
     (pre ++ (Credit (inferences xs + 1) [] ∷ placed (scoped clauses) p (map (gives (scoped clauses) (records xs)) mid)))
 
@@ -168,7 +168,7 @@ pub record CreditsPass (clauses : List Clause) (xs zs : List Element) (w : Share
   pub passed : run (scoped clauses) (inferences xs) w (free_steps (scoped clauses) [] (xs ++ zs))
       ≡ (w, free_steps (scoped clauses) [] (map (gives (scoped clauses) (records xs)) zs))
   pub world : (n : ℕ) → n ≤ inferences xs → (run (scoped clauses) n w (free_steps (scoped clauses) [] (xs ++ zs))).0 ≡ w
-  pub going : (n : ℕ) → n < inferences xs → is_over (run (scoped clauses) n w (free_steps (scoped clauses) [] (xs ++ zs))).1 ≡ false
+  pub going : (n : ℕ) → n < inferences xs → is_finished (run (scoped clauses) n w (free_steps (scoped clauses) [] (xs ++ zs))).1 ≡ false
 
 -- credits alone end with their last inference
 abbrev pub CreditsEnd : List Clause → Type 0

@@ -7,10 +7,10 @@ pub data Look (X Q : Type 0) : Type 0 where
   Here : List X → Look X Q
 
 -- what takes an element's place: elements; elements in place of the whole list; what a cut or a ball leaves
-pub data Place (X Q : Type 0) : Type 0 where
-  Put : List X → Place X Q
-  Only : List X → Place X Q
-  Seek : Q → Place X Q
+pub data Replacement (X Q : Type 0) : Type 0 where
+  Put : List X → Replacement X Q
+  Only : List X → Replacement X Q
+  Seek : Q → Replacement X Q
 
 -- what an element does when it comes to the front
 pub data Act (W X Q R : Type 0) : Type 0 where
@@ -19,9 +19,9 @@ pub data Act (W X Q R : Type 0) : Type 0 where
   -- free: it becomes an element to be taken
   Wakes : X → Act W X Q R
   -- one inference
-  Takes : Place X Q → Act W X Q R
+  Takes : Replacement X Q → Act W X Q R
   -- one inference on the world
-  Asks : (W → W × Place X Q) → Act W X Q R
+  Asks : (W → W × Replacement X Q) → Act W X Q R
 
 pub record Machine (W X Q R : Type 0) : Type 0 where
   pub act : X → Act W X Q R
@@ -32,9 +32,9 @@ pub record Machine (W X Q R : Type 0) : Type 0 where
   -- what is left of an element that is to go and is left standing
   pub stands : X → X
 
-abbrev pub is_over : {A : Type 0} → List A → Bool
-is_over [] = true
-is_over (x ∷ xs) = false
+abbrev pub is_finished : {A : Type 0} → List A → Bool
+is_finished [] = true
+is_finished (x ∷ xs) = false
 
 module _ {W X Q R : Type 0} (m : Machine W X Q R) where
   abbrev pub gives : List R → X → X
@@ -49,7 +49,7 @@ module _ {W X Q R : Type 0} (m : Machine W X Q R) where
   search_for q [] = m.lost q
   search_for q (x ∷ xs) = looked (m.look q x) (λ p. search_for p xs) xs
 
-  abbrev pub placed : Place X Q → List X → List X
+  abbrev pub placed : Replacement X Q → List X → List X
   placed (Put ys) xs = ys ++ xs
   placed (Only ys) xs = ys
   placed (Seek q) xs = search_for q xs
@@ -82,7 +82,7 @@ module _ {W X Q R : Type 0} (m : Machine W X Q R) where
 
 -- what is seen of a state: the world, and whether the run has ended
 abbrev pub seen : {W X : Type 0} → W × List X → W × Bool
-seen s = (s.0, is_over s.1)
+seen s = (s.0, is_finished s.1)
 
 -- two lists run alike
 abbrev pub Alike : {W X Q R : Type 0} → Machine W X Q R → List X → List X → Type 0

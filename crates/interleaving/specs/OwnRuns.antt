@@ -11,6 +11,7 @@ use Rattle.run_model.specs.Machine.Entries.{Entry, PlainEntry, CatchEntry, Finda
 use Rattle.run_model.specs.Machine.Balls.{unwound}
 use Rattle.run_model.specs.Machine.Heights.{after_reply, after_control}
 use Rattle.run_model.specs.Machine.FreeSteps.{findall_ends}
+use Rattle.tree_model.specs.PrivateRuns.{settled_own, own_part}
 use Rattle.tree_model.specs.Elements.{Name, Element, Credit, Plain, EndOf, Catch, Findall, End}
 use Rattle.interleaving.specs.Scopes.{scoped}
 use Rattle.interleaving.specs.Segments.{Private}
@@ -19,23 +20,6 @@ use Rattle.interleaving.specs.Laws.{is_inner_record}
 use Rattle.interleaving.specs.HeightMachine.{held_entries}
 use Rattle.interleaving.specs.Erased.{erased}
 use Rattle.interleaving.specs.Sound.{IsSound}
-
--- a collect mark whose findall entry is one of the floor is left standing
-abbrev pub own_settles : List (Item ℕ) → Continuation ℕ → List Entry → List Entry → (List Entry → List Entry) → List Entry
-own_settles (CollectMark t h ∷ items) f es floor go = cond (nat_lt h (length floor))
-    (PlainEntry (with_items (CollectMark t h ∷ items) f) ∷ es) (go (collected (h - length floor) t es))
-own_settles items f es floor go = PlainEntry (with_items items f) ∷ es
-
-abbrev pub own_settle : List Entry → ℕ → List Entry → List Entry
-own_settle floor zero es = es
-own_settle floor (suc k) [] = []
-own_settle floor (suc k) (CatchEntry c r f ∷ es) = own_settle floor k es
-own_settle floor (suc k) (FindallEntry results l f ∷ es) = findall_ends results l f (es ++ floor) ∷ es
-own_settle floor (suc k) (PlainEntry f ∷ es) = own_settles (without_marks f.items) f es floor (own_settle floor k)
-own_settle floor (suc k) (EndEntry b ∷ es) = EndEntry b ∷ es
-
-abbrev pub own_settled : List Entry → List Entry → List Entry
-own_settled floor es = own_settle floor (length es) es
 
 -- a ball that lands among the own entries
 abbrev pub landed : ℕ → List Entry → Option (List Entry)
@@ -73,12 +57,9 @@ own_taken clauses floor (CatchEntry c r f ∷ es) = None
 own_taken clauses floor (FindallEntry results l f ∷ es) = None
 own_taken clauses floor (EndEntry b ∷ es) = None
 
-abbrev pub own_part : List Entry → List Entry → List Entry
-own_part floor st = take (length st - length floor) st
-
 abbrev pub own_left : List Entry → Option (List Entry) → Option (List Entry)
 own_left floor None = None
-own_left floor (Some st) = Some (own_settled floor (own_part floor st))
+own_left floor (Some st) = Some (settled_own floor (own_part floor st))
 
 abbrev pub own_more : List Clause → List Entry → Option (List Entry) → Option (List Entry)
 own_more clauses floor None = None
@@ -86,7 +67,7 @@ own_more clauses floor (Some es) = own_left floor (own_taken clauses floor es)
 
 -- so many inferences, and the free steps after them
 abbrev pub own_run : List Clause → List Entry → ℕ → List Entry → Option (List Entry)
-own_run clauses floor zero es = Some (own_settled floor es)
+own_run clauses floor zero es = Some (settled_own floor es)
 own_run clauses floor (suc k) es = own_more clauses floor (own_run clauses floor k es)
 
 -- no end of a scope comes first
@@ -100,7 +81,7 @@ IsFloor (Findall s u results list p f ∷ zs) = Unit {0}
 IsFloor (End p b ∷ zs) = Unit {0}
 
 -- own entries by names, over a floor by names
-pub record StandsFor (inside : Name → Bool) (a zs : List Element) (es floor : List Entry) : Type 0 where
+pub record NamesEntries (inside : Name → Bool) (a zs : List Element) (es floor : List Entry) : Type 0 where
   pub sound : IsSound (a ++ zs)
   pub inner : Each (IsInner inside) a
   pub entries : erased (a ++ zs) ≡ held_entries (es ++ floor)
@@ -118,10 +99,10 @@ pub record IsFloorOf (inside : Name → Bool) (zs : List Element) (floor : List 
 pub record RunsPrivately (clauses : List Clause) (inside : Name → Bool) (k : ℕ) (a zs : List Element) (es floor : List Entry) : Type 0 where
   pub left : List Element
   pub private : Private (scoped clauses) (is_inner_record inside) k [] a left
-  pub stands : StandsFor inside left zs es floor
+  pub stands : NamesEntries inside left zs es floor
 
 abbrev pub OwnRuns : List Clause → Type 0
 OwnRuns clauses =
     (inside : Name → Bool) (floor : List Entry) (zs : List Element) → IsGrown inside → IsFloorOf inside zs floor
-    → (k : ℕ) (es after : List Entry) (a : List Element) → StandsFor inside a zs es floor → own_run clauses floor k es ≡ Some after
+    → (k : ℕ) (es after : List Entry) (a : List Element) → NamesEntries inside a zs es floor → own_run clauses floor k es ≡ Some after
     → RunsPrivately clauses inside k a zs after floor

@@ -1,7 +1,7 @@
 -- What a segment of the list does by itself.
 use Rattle.std.specs.Prelude.{ℕ, zero, suc, Bool, true, ◌&&◌, cond, List, [], ◌∷◌, ◌++◌, map, ◌≡◌, Option, Some, None}
 use Rattle.std.specs.Option.{option_map}
-use Rattle.interleaving.specs.Machine.{Machine, Act, Vanishes, Wakes, Takes, Asks, Look, On, Here, Place, Put, Only, Seek, gives}
+use Rattle.interleaving.specs.Machine.{Machine, Act, Vanishes, Wakes, Takes, Asks, Look, On, Here, Replacement, Put, Only, Seek, gives}
 
 -- an element that stays where it is until its inference is taken
 abbrev pub IsActive : {W X Q R : Type 0} → Act W X Q R → Type 0
@@ -29,7 +29,7 @@ module _ {W X Q R : Type 0} (m : Machine W X Q R) where
   search_in q [] = None
   search_in q (x ∷ xs) = found_in (m.look q x) (λ p. search_in p xs) xs
 
-  abbrev pub placed_in : Place X Q → List X → Option (List X)
+  abbrev pub placed_in : Replacement X Q → List X → Option (List X)
   placed_in (Put ys) xs = Some (ys ++ xs)
   placed_in (Only ys) xs = None
   placed_in (Seek q) xs = search_in q xs
@@ -78,5 +78,5 @@ module _ {W X Q R : Type 0} (m : Machine W X Q R) where
         → Private inner k rs (m.stands x ∷ xs) b → Private inner k rs (x ∷ xs) b
     private_wakes : (k : ℕ) (x y : X) (rs : List R) (xs b : List X) → m.act x ≡ Wakes y → Private inner k rs (y ∷ xs) b
         → Private inner k rs (x ∷ xs) b
-    private_takes : (k : ℕ) (x : X) (p : Place X Q) (rs : List R) (xs s b : List X) → m.act x ≡ Takes p → placed_in p xs ≡ Some s
+    private_takes : (k : ℕ) (x : X) (p : Replacement X Q) (rs : List R) (xs s b : List X) → m.act x ≡ Takes p → placed_in p xs ≡ Some s
         → Private inner k rs s b → Private inner (suc k) rs (x ∷ xs) b

@@ -3,10 +3,10 @@ use Rattle.std.specs.Prelude.{ℕ, ◌≡◌}
 use Rattle.run_model.specs.Programs.Jobs.{Job}
 use Rattle.run_model.specs.Machine.States.{opened}
 use Rattle.run_model.specs.Machine.Runs.{seq}
-use Rattle.interleaving.specs.Machine.{is_over}
+use Rattle.interleaving.specs.Machine.{is_finished}
 use Rattle.interleaving.specs.Scopes.{shared, first_shared}
 use Rattle.interleaving.specs.HeightMachine.{HeldState, held_entries, held_settle, held_run}
-use Rattle.interleaving.specs.Counted.{counted}
+use Rattle.interleaving.specs.Counted.{counted_steps}
 
 abbrev pub held_opening : Job → HeldState
 held_opening job = (first_shared job, held_settle (held_entries (opened job.queries)))
@@ -18,4 +18,4 @@ held_after job n = held_run job.clauses n (held_opening job)
 pub record IsHeldRun (job : Job) (n : ℕ) : Type 0 where
   pub entries : (held_after job n).1 ≡ held_entries (seq job n).entries
   pub state : (held_after job n).0 ≡ shared (seq job n)
-  pub inferences : (seq job n).inferences ≡ counted (λ k. is_over (held_after job k).1) n
+  pub inferences : (seq job n).inferences ≡ counted_steps (λ k. is_finished (held_after job k).1) n

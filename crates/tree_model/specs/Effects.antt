@@ -88,8 +88,8 @@ front_taken s (Halts k) t = record t { root = plug (spending 1 (levels_of s)) (P
 front_taken s QueryEnds t = query_opens s t.queries t
 
 -- what is in for an alternative in the sequential machine
-abbrev pub stack_of : Spot → List Entry
-stack_of s = with_heights (levels_of s) s.entry ∷ floor_of (levels_of s)
+abbrev pub spot_stack : Spot → List Entry
+spot_stack s = with_heights (levels_of s) s.entry ∷ floor_of (levels_of s)
 
 abbrev pub world_moved : Spot → World × Taken → TreeState → TreeState
 world_moved s r t = front_taken s r.1 (record t { world = r.0 })
@@ -133,9 +133,9 @@ after_allowed t (Lost w a) = record t { lost = without_task w a t.lost }
 after_allowed t (Suspend w a frozen) = where_some (taken_at w a t) t
     (λ s. with_status s (Pending (gate_or_frozen frozen (gate_of t s)) s.entry) t)
 after_allowed t (Prune w a) = where_some (taken_at w a t) t
-    (λ s. gate_pruned s (gate_of t s) (or_none (taken_alone t.job.clauses (stack_of s))) t)
+    (λ s. gate_pruned s (gate_of t s) (or_none (taken_alone t.job.clauses (spot_stack s))) t)
 after_allowed t (Answer w a frozen) = where_some (taken_at w a t) t
-    (λ s. world_moved s (taken_at_front t.job.clauses (stack_of s) t.world) t)
+    (λ s. world_moved s (taken_at_front t.job.clauses (spot_stack s) t.world) t)
 after_allowed t (Stop w) = record t { stopped = true }
 
 -- each event is noted

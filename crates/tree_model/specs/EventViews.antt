@@ -29,5 +29,5 @@ abbrev pub own_noted : ℕ → List Noted → List Noted
 own_noted worker log = filter (λ e. worker_of (event_view e) == worker) log
 
 -- a history, with at most one event of this worker added
-abbrev pub IsNext : ℕ → List Noted → List Noted → Type 0
-IsNext worker before after = (after ≡ before) ⊎ ((e : Noted) × (worker_of (event_view e) ≡ worker) × (after ≡ before ++ e ∷ []))
+abbrev pub IsGrownHistory : ℕ → List Noted → List Noted → Type 0
+IsGrownHistory worker before after = (after ≡ before) ⊎ ((e : Noted) × (worker_of (event_view e) ≡ worker) × (after ≡ before ++ e ∷ []))
