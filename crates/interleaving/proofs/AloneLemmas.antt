@@ -8,10 +8,11 @@ use Rattle.interleaving.specs.Machine.{free_steps}
 use Rattle.interleaving.specs.Segments.{IsActive, outer, found_in, search_in, placed_in, freed_alone, free_steps_alone, go_on}
 use Rattle.interleaving.specs.Segments.{taken_alone, front_alone, run_alone, Private, private_none, private_goes, private_stands}
 use Rattle.interleaving.specs.Segments.{private_wakes, private_takes}
-use Rattle.interleaving.proofs.RunFrontLemmas.{each-append, append-assoc-at, maps-append, map-seam, map-none, append-none, some-same}
+use Rattle.interleaving.proofs.RunFrontLemmas.{each-append, maps-append, map-seam, map-none, some-same}
 use Rattle.interleaving.proofs.RunFrontLemmas.{none-some, settle-map, PlaceOk, ActOk, LookOk, Closed, map-ok}
 use Rattle.interleaving.proofs.EarlyLemmas.{Ground, Runs}
 use Rattle.interleaving.proofs.JoinedLemmas.{runs-then, runs_step, resting, placed-within}
+use Rattle.interleaving.proofs.AppendLemmas.{append-assoc, append-nil}
 
 pub outer-append : {R : Type 0} → (inner : R → Bool) (rs qs : List R) → outer inner (rs ++ qs) ≡ outer inner rs ++ outer inner qs
 outer-append inner [] qs = refl
@@ -35,15 +36,15 @@ module _ {W X Q R : Type 0} (m : Machine W X Q R) (inner : R → Bool) where
     stays : (rs : List R) (xs ys : List X)
         → ((k : ℕ) (qs : List R) (b : List X) → Private m inner k qs ys b → Private m inner k qs (map (gives m rs) xs) b)
         → Rest rs xs (outer inner rs, ys)
-    stays rs xs ys h = record { out = []; joined = sym (append-none (outer inner rs)); private = h }
+    stays rs xs ys h = record { out = []; joined = sym (append-nil (outer inner rs)); private = h }
 
     goes : (rs new : List R) (x : X) (xs : List X) (s : List R × List X) → m.act (gives m rs x) ≡ Vanishes new → Rest (rs ++ new) xs s
         → Rest rs (x ∷ xs) s
     goes rs new x xs s e n = record {
       out = outer inner new ++ n.out;
-      joined = n.joined ∙ ap (λ l. l ++ n.out) (outer-append inner rs new) ∙ append-assoc-at (outer inner rs) (outer inner new) n.out;
+      joined = n.joined ∙ ap (λ l. l ++ n.out) (outer-append inner rs new) ∙ append-assoc (outer inner rs) (outer inner new) n.out;
       private = λ k qs b h.
-          subst (λ l. Private m inner k l (gives m rs x ∷ map (gives m rs) xs) b) (sym (append-assoc-at (outer inner new) n.out qs))
+          subst (λ l. Private m inner k l (gives m rs x ∷ map (gives m rs) xs) b) (sym (append-assoc (outer inner new) n.out qs))
           (private_goes k (gives m rs x) new (n.out ++ qs) (map (gives m rs) xs) b e
           (subst (λ l. Private m inner k (n.out ++ qs) l b) (maps-append m rs new xs) (n.private k qs b h)));
     }
@@ -120,7 +121,7 @@ module _ {W X Q R : Type 0} (m : Machine W X Q R) (inner : R → Bool) where
         let s = free_steps_alone m inner passes [] a in
         let both : s ≡ (rs, b) = some-same s (rs, b) e in
         subst (λ t. Private m inner zero t.0 a t.1) both
-        (subst (λ l. Private m inner zero l a s.1) (append-none s.0) (settled zero a s.1 [] (private_none s.1)))
+        (subst (λ l. Private m inner zero l a s.1) (append-nil s.0) (settled zero a s.1 [] (private_none s.1)))
     private_of_alone (suc k) a b rs e =
         let s = free_steps_alone m inner passes [] a in
         let t = front k (private_of_alone k) s.0 rs b s.1 e in

@@ -19,9 +19,7 @@ use Rattle.interleaving.proofs.ClosingListLemmas.{Guards, guards_of}
 use Rattle.interleaving.proofs.ListEndLemmas.{levels_down}
 use Rattle.interleaving.proofs.AnswerOrderLemmas.{answers_before, put_answers, plug_answers, none_ordered, RightsEmpty, rights_empty}
 use Rattle.interleaving.proofs.AnswerOrderLemmas.{SameLeft, same_left, put_order}
-
-clash : {A : Type 0} → false ≡ true → A
-clash h = let no_way : ⊥ = cc in absurd no_way
+use Rattle.interleaving.proofs.TestLemmas.{false_true}
 
 -- credits show the answers, as long as a count keeps them
 mutual

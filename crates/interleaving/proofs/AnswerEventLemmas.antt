@@ -23,15 +23,14 @@ use Rattle.run_model.specs.Programs.Databases.{Database, without_clause}
 use Rattle.tree_model.specs.AnswersTold.{answers_by, answers_at, answers_first, answers_next}
 use Rattle.tree_model.specs.CaughtTrees.{IsCaughtTree}
 use Rattle.interleaving.specs.HistoryInvariants.{AnswerMoves, AnswersMove, OthersMove}
-use Rattle.interleaving.proofs.OpenSpotLemmas.{both_right, placed_at, taken_at_open}
+use Rattle.interleaving.proofs.OpenSpotLemmas.{placed_at, taken_at_open}
 use Rattle.interleaving.proofs.ClockLemmas.{leftmost_known}
 use Rattle.interleaving.proofs.GoingLemmas.{going, legal_parts}
 use Rattle.interleaving.proofs.RunEventLemmas.{asked_at}
 use Rattle.interleaving.proofs.SpotsApartLemmas.{taken_first}
 use Rattle.interleaving.proofs.AnsweredMoveLemmas.{unmarked_names, answered_tree, answered_moves}
-
-clash : {A : Type 0} → false ≡ true → A
-clash h = let no_way : ⊥ = cc in absurd no_way
+use Rattle.interleaving.proofs.TestLemmas.{false_true}
+use Rattle.au_term.proofs.LogicLemmas.{and-right}
 
 -- the tree after an answer
 answered_is : (t : TreeState) (w : ℕ) (a : Place) (s : Spot) (f : Continuation ℕ) → taken_at w a t ≡ Some s → s.entry ≡ PlainEntry f
@@ -229,11 +228,11 @@ answers_move others t w a answers i k j r l = go (taken_at w a t) refl parts.1
 
     go : (o : Option Spot) → taken_at w a t ≡ o → at_spot o (λ s. is_world_gate (gate_of t s) && is_spot_at a (leftmost t)) ≡ true
         → AnswerMoves t (after_event t (Answer w a false)) answers (answers + answers_next t)
-    go None e x = clash x
+    go None e x = false_true x
     go (Some s) e x = pick (bare_or_not s.entry)
       where
         first_is : leftmost t ≡ Some s
-        first_is = taken_first t w a s i e (both_right (is_world_gate (gate_of t s)) _ x)
+        first_is = taken_first t w a s i e (and-right (is_world_gate (gate_of t s)) _ x)
 
         counts : (n : ℕ) → answers_at t s ≡ n → answers + n ≡ answers + answers_next t
         counts n z = ap (λ m. answers + m) (sym z ∙ ap (answers_first t) (sym first_is))

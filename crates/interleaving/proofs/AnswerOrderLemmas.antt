@@ -5,9 +5,7 @@ use Rattle.tree_model.specs.Levels.{Level, put_left, level_node, plug}
 use Rattle.tree_model.specs.Orders.{is_closed}
 use Rattle.tree_model.specs.GivenAnswers.{answers_in, answers_among, AreInOrder, AmongInOrder}
 use Rattle.interleaving.proofs.ClockLemmas.{AreShut, AreClear}
-
-clash : {A : Type 0} → false ≡ true → A
-clash h = let no_way : ⊥ = cc in absurd no_way
+use Rattle.interleaving.proofs.TestLemmas.{false_true}
 
 -- the answers round a place
 abbrev pub answers_before : List (ℕ × Status) → ℕ
@@ -66,7 +64,7 @@ RightsEmpty [] = Unit {0}
 RightsEmpty (v ∷ up) = (answers_among v.right ≡ 0) × RightsEmpty up
 
 open_right : (status : Status) (n : ℕ) → is_closed status ≡ false → (is_closed status ≡ true) ⊎ (n ≡ 0) → n ≡ 0
-open_right status n o (inl h) = clash (sym o ∙ h)
+open_right status n o (inl h) = false_true (sym o ∙ h)
 open_right status n o (inr h) = h
 
 pub rights_empty : (levels : List Level) (status : Status) → is_closed status ≡ false → AreInOrder (plug levels status) → RightsEmpty levels
@@ -103,8 +101,8 @@ left_kept (x ∷ left) old new m k h =
       where
         shut_rest : (status : Status) → AreShut ((x.0, status) ∷ left) → AreShut left
         shut_rest (Closed c) z = z.1
-        shut_rest (Pending hold e) z = clash z.0
-        shut_rest (Inner node) z = clash z.0
+        shut_rest (Pending hold e) z = false_true z.0
+        shut_rest (Inner node) z = false_true z.0
 
     beside : NoMore (answers_among new) (answers_among old) (AreShut (x ∷ left)) → (is_closed x.1 ≡ true) ⊎ (answers_among old ≡ 0)
         → (is_closed x.1 ≡ true) ⊎ (answers_among new ≡ 0)

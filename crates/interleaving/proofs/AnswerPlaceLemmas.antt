@@ -27,9 +27,7 @@ use Rattle.interleaving.proofs.EntryLemmas.{length-floor}
 use Rattle.interleaving.proofs.AnswerOrderLemmas.{plug_answers, none_ordered, RightsEmpty, rights_empty, SameLeft, same_left, put_order}
 use Rattle.interleaving.proofs.AnswerOrderLemmas.{round_same}
 use Rattle.interleaving.proofs.AnswerClosingLemmas.{IsOrdered, closes_order, lands_order, spent_left, pruned_left}
-
-clash : {A : Type 0} → false ≡ true → A
-clash h = let no_way : ⊥ = cc in absurd no_way
+use Rattle.interleaving.proofs.TestLemmas.{false_true}
 
 -- entries that are give no answers
 pub standing_none : (hold : Hold) (es : List Entry) → answers_among (standing hold es) ≡ 0

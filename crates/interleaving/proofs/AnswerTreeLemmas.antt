@@ -33,7 +33,7 @@ use Rattle.tree_model.specs.AnswersTold.{answers_by, answers_at, answers_first, 
 use Rattle.interleaving.proofs.ContextLemmas.{IsAround}
 use Rattle.interleaving.proofs.RoundtripLemmas.{by_heights}
 use Rattle.interleaving.proofs.GrowingLemmas.{around_path}
-use Rattle.interleaving.proofs.OpenSpotLemmas.{both_right, IsOpenSpot, claimable_open, resumable_open, placed_at, taken_at_open}
+use Rattle.interleaving.proofs.OpenSpotLemmas.{IsOpenSpot, claimable_open, resumable_open, placed_at, taken_at_open}
 use Rattle.interleaving.proofs.PlacedEntryLemmas.{IsAt, at_spot as known_at, marks_dropped, marks_heights, rest_asked}
 use Rattle.interleaving.proofs.GoingLemmas.{going, legal_parts}
 use Rattle.interleaving.proofs.SpotsApartLemmas.{taken_first}
@@ -48,9 +48,8 @@ use Rattle.interleaving.proofs.AnswerOrderLemmas.{same_left, rights_empty}
 use Rattle.interleaving.proofs.AnswerClosingLemmas.{IsOrdered, spent_left}
 use Rattle.interleaving.proofs.AnswerPlaceLemmas.{placed_none, put_kept, closed_kept, answer_kept, left_kept, cut_kept, fallen_kept}
 use Rattle.interleaving.proofs.AnswerPlaceLemmas.{halt_kept, queries_kept}
-
-clash : {A : Type 0} → false ≡ true → A
-clash h = let no_way : ⊥ = cc in absurd no_way
+use Rattle.interleaving.proofs.TestLemmas.{false_true}
+use Rattle.au_term.proofs.LogicLemmas.{and-right}
 
 none_more : (status : Status) (n : ℕ) → IsOrdered status n → IsOrdered status (n + 0)
 none_more status n h = let z = h.1 in (h.0, omega (arith, z))
@@ -155,9 +154,9 @@ module _ (t : TreeState) (i : IsSoundTree t) (q : IsCaughtTree t) (order : AreIn
       → IsOrdered (gate_pruned s (gate_on t.job.clauses (levels_of s) (with_heights (levels_of s) e ∷ floor_of (levels_of s)))
       (or_none (taken_alone t.job.clauses (with_heights (levels_of s) e ∷ floor_of (levels_of s)))) t).root
       (answers_in (plug (levels_of s) (Pending s.hold s.entry)))
-  prune_kept s o at running (EndEntry b) entry h m l = clash l
-  prune_kept s o at running (CatchEntry c r f) entry h m l = clash l
-  prune_kept s o at running (FindallEntry results list f) entry h m l = clash l
+  prune_kept s o at running (EndEntry b) entry h m l = false_true l
+  prune_kept s o at running (CatchEntry c r f) entry h m l = false_true l
+  prune_kept s o at running (FindallEntry results list f) entry h m l = false_true l
   prune_kept s o at running (PlainEntry f) entry h m l =
       let around = (placed_at t s i o).around in
       plain_moves t i q running s o f entry (λ x. IsOrdered x.root (answers_in (plug (levels_of s) (Pending s.hold s.entry))))
@@ -192,18 +191,18 @@ module _ (t : TreeState) (i : IsSoundTree t) (q : IsCaughtTree t) (order : AreIn
       (λ s o e. let at = known_at w a t s i e in let running = (going t parts.0).halted in prune_kept s o at running s.entry refl
       at.placed.entry.0 (caught_down (levels_of s) (Pending s.hold s.entry) (root_at t s q running o).caught)
       (subst (λ x. at_spot x (λ s. may_prune (levels_of s) (gate_of t s)) ≡ true) e parts.1))
-  answers_kept (Answer w a true) l = clash (legal_parts t (Answer w a true) l).1
+  answers_kept (Answer w a true) l = false_true (legal_parts t (Answer w a true) l).1
   answers_kept (Answer w a false) l = go (taken_at w a t) refl (legal_parts t (Answer w a false) l).1
       (going t (legal_parts t (Answer w a false) l).0).halted
     where
       go : (x : Option Spot) → taken_at w a t ≡ x → at_spot x (λ s. is_world_gate (gate_of t s) && is_spot_at a (leftmost t)) ≡ true
           → t.halted ≡ None → IsOrdered (where_some x t (λ s. world_moved s (taken_at_front t.job.clauses (spot_stack s) t.world) t)).root
           (answers_in t.root + answers_first t (leftmost t))
-      go None e x running = clash x
+      go None e x running = false_true x
       go (Some s) e x running =
           let at = known_at w a t s i e in
           let o = taken_at_open w a t s e in
-          let first = taken_first t w a s i e (both_right (is_world_gate (gate_of t s)) _ x) in
+          let first = taken_first t w a s i e (and-right (is_world_gate (gate_of t s)) _ x) in
           let known = leftmost_known t i s first in
           let root = root_at t s q running o in
           let moved = stack_moved s (placed_at t s i o).around known.clear root (order_at s o) (few_at s o)

@@ -21,7 +21,8 @@ use Rattle.interleaving.specs.Scopes.{Shared, Sought, Scope, Thrown, Caught, Doe
 use Rattle.interleaving.specs.Scopes.{named_test_items, control_place, goal_act, removed, unmarked, item_act, act, recovery_look, look, findall_with_result}
 use Rattle.interleaving.specs.Scopes.{give, scoped}
 use Rattle.interleaving.specs.Views.{IsApart, IsBeside, IsItemApart, IsRecordApart, IsBlind, IsInner}
-use Rattle.interleaving.proofs.RunFrontLemmas.{each-append, append-assoc-at, PlaceOk, ActOk, LookOk, Closed, Unseen}
+use Rattle.interleaving.proofs.RunFrontLemmas.{each-append, PlaceOk, ActOk, LookOk, Closed, Unseen}
+use Rattle.interleaving.proofs.AppendLemmas.{append-assoc}
 
 both_true : (a b : Bool) → (a && b) ≡ true → a ≡ true × b ≡ true
 both_true true b e = (refl, e)
@@ -69,7 +70,7 @@ module _ (clauses : List Clause) (inside : Name → Bool) where
   LookBlind a = LookOk (scoped clauses) (IsBlind inside) IsSoughtApart (IsRecordApart inside) a
 
   beside_child : (s : Name) (i : ℕ) → IsBeside inside s → IsBeside inside (i ∷ s)
-  beside_child s i h = λ more. ap inside (sym (append-assoc-at more (i ∷ []) s)) ∙ h (more ++ i ∷ [])
+  beside_child s i h = λ more. ap inside (sym (append-assoc more (i ∷ []) s)) ∙ h (more ++ i ∷ [])
 
   mark-apart : (items : S) → Items items → IsMarkApart (first_mark items)
   mark-apart [] h = tt

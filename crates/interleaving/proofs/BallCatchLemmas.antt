@@ -18,7 +18,7 @@ use Rattle.interleaving.specs.Machine.{Machine, Look, On, Here, gives, looked, s
 use Rattle.interleaving.specs.Scopes.{Shared, Sought, Scope, Thrown, Caught, look, recovery_look, scoped}
 use Rattle.interleaving.specs.Segments.{found_in, search_in}
 use Rattle.interleaving.proofs.ContextLemmas.{IsAround}
-use Rattle.interleaving.proofs.WayLemmas.{cond-true, cond-false, same_self}
+use Rattle.interleaving.proofs.WayLemmas.{cond-true, cond-false}
 use Rattle.interleaving.proofs.ListScopeLemmas.{IsDistinct, distinct-up, sleeps_on}
 use Rattle.interleaving.proofs.ListMarkLemmas.{catch_sleeps}
 use Rattle.interleaving.proofs.ClosingListLemmas.{Guards}
@@ -29,6 +29,7 @@ use Rattle.interleaving.proofs.FallLemmas.{Fall, Nobody, Catches, caught_or, rig
 use Rattle.interleaving.proofs.FallLemmas.{sleeper_marks, sleeper_guards}
 use Rattle.interleaving.proofs.BallSearchLemmas.{mark_name, second_step, catch_element, named_recovery, next_in, thrown_pass, to_catch}
 use Rattle.interleaving.proofs.BallSearchLemmas.{end_pass, right_passes, mark_up, mark_apart, to_side, Finds, passes_level, off_catcher}
+use Rattle.interleaving.proofs.TestLemmas.{number_same}
 
 module _ (clauses : List Clause) where
   abbrev m : Machine Shared Element Sought Record
@@ -64,7 +65,7 @@ module _ (clauses : List Clause) where
           (map (gives m rs) (lower_back v.number (v ∷ rest) ++ to_side clauses v rest x2 t g zs)))
           itself
           ∙ (ap (λ l. search_in m (Thrown ball (Some (0 ∷ v.number ∷ [])) o) (map (gives m rs) (l ++ to_side clauses v rest x2 t g zs)))
-          (cond-true (v.number == v.number) [] _ (same_self v.number))
+          (cond-true (v.number == v.number) [] _ (number_same v.number))
           ∙ (to_catch clauses ball x2 t o rs v rest g zs
           ∙ ap (λ c. found_in m (recovery_look c ball t (1 ∷ v.number ∷ []) (0 ∷ 1 ∷ v.number ∷ [])
           (named_continuation (second_step v ∷ way_of rest) g)

@@ -30,11 +30,10 @@ use Rattle.interleaving.specs.Laws.{is_inner_record, IsSegment}
 use Rattle.interleaving.specs.Erased.{element_count, erased}
 use Rattle.interleaving.specs.Follows.{lead}
 use Rattle.interleaving.proofs.ContextLemmas.{IsAround, count_around}
-use Rattle.interleaving.proofs.WayLemmas.{same_self, cond-false}
+use Rattle.interleaving.proofs.WayLemmas.{cond-false}
 use Rattle.interleaving.proofs.RoundtripLemmas.{by_heights}
 use Rattle.interleaving.proofs.ClosingSoundLemmas.{IsFree}
-use Rattle.interleaving.proofs.AppendLemmas.{append-assoc, each-append}
-use Rattle.interleaving.proofs.RunFrontLemmas.{append-none}
+use Rattle.interleaving.proofs.AppendLemmas.{append-assoc, each-append, append-nil}
 use Rattle.interleaving.proofs.QuietCreditLemmas.{gives-fixed}
 use Rattle.interleaving.proofs.ContextLemmas.{count_left}
 use Rattle.tree_model.specs.SoundTrees.{count_among}
@@ -64,9 +63,7 @@ use Rattle.interleaving.proofs.BallSearchLemmas.{second_step, catch_element, nam
 use Rattle.interleaving.proofs.BallCatchLemmas.{finds}
 use Rattle.interleaving.proofs.RecoveryNamesLemmas.{recovery_same}
 use Rattle.interleaving.proofs.GatePrivateLemmas.{gate_private}
-
-clash : {A : Type 0} → false ≡ true → A
-clash h = let no_way : ⊥ = cc in absurd no_way
+use Rattle.interleaving.proofs.TestLemmas.{false_true, number_same}
 
 pub some_count : (xs ys : List Element) → 0 < element_count ys → 0 < element_count (xs ++ ys)
 some_count [] ys h = h
@@ -86,7 +83,7 @@ pub recovery_heights : (levels : List Level) (w : Level) (up : List Level) (next
     → erased (named_recovery ball w up r f o ∷ (EndOf (1 ∷ w.number ∷ []) ∷ back_of up))
     ≡ erased (element_on (record { node = next; index = 0; kind = ChoiceNode } ∷ second_step w ∷ way_of up)
     (with_nodes (node_of levels) (PlainEntry g)) ∷ (EndOf (0 ∷ next ∷ []) ∷ (EndOf (1 ∷ w.number ∷ []) ∷ back_of up)))
-recovery_heights levels w [] next ball r f g o down new fresh asked is named next_is = clash asked.asked
+recovery_heights levels w [] next ball r f g o down new fresh asked is named next_is = false_true asked.asked
 recovery_heights levels w (u ∷ up) next ball r f g o down new fresh asked is named next_is = recovery_same levels w u up next
     (right_of (u ∷ up)) down new fresh ball r f g o asked is named next_is
 
@@ -127,7 +124,7 @@ module _ (clauses : List Clause) (next : ℕ) (v : Level) (above : List Level) (
           let most = d w.number in
           let here : count_around w.number (levels_down levels w.number) ≡ count_around w.number (w ∷ up) = ap (count_around w.number)
           c.down in
-          let one : one_if (w.number == w.number) ≡ 1 = ap one_if (same_self w.number) in
+          let one : one_if (w.number == w.number) ≡ 1 = ap one_if (number_same w.number) in
           zero_free up w.number (omega (arith, all, most, here, one))
 
       pub free_next : is_free_of up next ≡ true
@@ -147,7 +144,7 @@ module _ (clauses : List Clause) (next : ℕ) (v : Level) (above : List Level) (
               ≡ count_lower v.number w.number above +
               (one_if (v.number == v.number) + (count_left v.number v.left + count_among v.number v.right)) = cond-false
               (v.number == w.number) 0 _ e in
-              let one : one_if (v.number == v.number) ≡ 1 = ap one_if (same_self v.number) in
+              let one : one_if (v.number == v.number) ≡ 1 = ap one_if (number_same v.number) in
               free_lower v.number (omega (arith, less, one))
 
       -- the parts of the list
@@ -270,7 +267,7 @@ module _ (clauses : List Clause) (next : ℕ) (v : Level) (above : List Level) (
       rows_are clear =
           let joined : records credits ≡ records (lower_front w.number levels) ++ [] = records-append (lower_front w.number levels)
           (Credit v.spent [] ∷ []) in
-          append-none (outer (is_inner_record inside) (records credits))
+          append-nil (outer (is_inner_record inside) (records credits))
           ∙ (ap (outer (is_inner_record inside)) joined
           ∙ (landed_rows inside w.number levels (credit_of 1) clear sides (subst FirstShut (sym c.down) c.sleeper.left)
           (subst NoSideTop (sym c.down) no_side_top) (ap (λ l. inside (findall_on (way_of l))) c.down ∙ findall_above) free_lower

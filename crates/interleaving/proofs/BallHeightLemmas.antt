@@ -19,6 +19,7 @@ use Rattle.interleaving.specs.HeightMachine.{HeightElement, HeightEntry, held_re
 use Rattle.interleaving.specs.Erased.{from, element_count, height, with_height, continuation_heights, erased}
 use Rattle.interleaving.specs.Sound.{names, IsGuarded, IsMarkSound, IsRightUnder, IsSound}
 use Rattle.interleaving.proofs.NamingLemmas.{same-itself, resolved-heights, goals-heights, length-erased, height-le, sames}
+use Rattle.interleaving.proofs.TestLemmas.{not_equal}
 
 abbrev pub IsMarkGuarded : List Element → Option Name → Type 0
 IsMarkGuarded xs None = Unit {0}
@@ -42,13 +43,6 @@ mark-guarded xs (GoalItem g k ∷ items) h = mark-guarded xs items h.1
 mark-guarded xs (CatchMark k ∷ items) h = h.0
 mark-guarded xs (CollectMark t k ∷ items) h = mark-guarded xs items h.1
 mark-guarded xs (RemovalItem k ∷ items) h = mark-guarded xs items h.1
-
-pub differ : (a b : ℕ) → suc a ≤ b → (a == b) ≡ false
-differ a b h = go (a == b) refl
-  where
-    go : (t : Bool) → (a == b) ≡ t → t ≡ false
-    go true e = let same_number = eqb-true a b e in absurd (omega (arith, h, same_number))
-    go false e = refl
 
 guarded-low : (xs : List Element) (s : Name) → IsGuarded xs s → suc (height xs s - 1) ≤ element_count xs
 guarded-low xs s h = let e : height xs s ≡ suc (element_count h.under) = ap element_count h.found in omega (arith, e, height-le xs s)
@@ -101,7 +95,7 @@ module _ (clauses : List Clause) (b : Term) (o : Name) where
       ≡ held_landing b (mark_height xs mark) (HeightEntry (CatchEntry c r (continuation_heights (height xs) f)) ∷ erased xs)
   lands-catch e u c r p f xs h None i m = h.0 None i tt
   lands-catch e u c r p f xs h (Some s) i m =
-      let far : (height xs s - 1 == length (erased xs)) ≡ false = differ (height xs s - 1) (length (erased xs))
+      let far : (height xs s - 1 == length (erased xs)) ≡ false = not_equal (height xs s - 1) (length (erased xs))
       (omega (arith, length-erased xs, guarded-low xs s m)) in
       h.0 (Some s) i m ∙ sym (lands-by c c r (continuation_heights (height xs) f) (erased xs) (height xs s - 1) far)
 

@@ -16,11 +16,12 @@ use Rattle.tree_model.specs.PendingLists.{Step, Way, way_of}
 use Rattle.tree_model.specs.Ways.{is_on, in_reach, way_from, AreScoped, is_query, under_query, IsAsked}
 use Rattle.tree_model.specs.SoundTrees.{IsOpen}
 use Rattle.interleaving.proofs.ContextLemmas.{IsLevel, IsAround}
-use Rattle.interleaving.proofs.WayLemmas.{cond-true, cond-false, cond-same, other_number, same_self}
-use Rattle.interleaving.proofs.RoundtripLemmas.{by_nodes, by_heights, at_heights, height_low, not_same}
+use Rattle.interleaving.proofs.WayLemmas.{cond-true, cond-false, cond-same, other_number}
+use Rattle.interleaving.proofs.RoundtripLemmas.{by_nodes, by_heights, at_heights, height_low}
 use Rattle.interleaving.proofs.ClosingSoundLemmas.{IsSoundGrown, IsFree, free-above, woken_sound}
 use Rattle.interleaving.proofs.MarkLemmas.{under_rest}
 use Rattle.interleaving.proofs.EntryLemmas.{resolved_scoped, own_height}
+use Rattle.interleaving.proofs.TestLemmas.{not_equal, number_same}
 
 -- a naming of heights that is the floor's as far as the floor goes
 abbrev pub NamesFloor : (ℕ → ℕ) → List Level → Type 0
@@ -28,7 +29,7 @@ NamesFloor node levels = (h : ℕ) → h ≤ length levels → node h ≡ node_o
 
 pub names-above : (node : ℕ → ℕ) (v : Level) (up : List Level) → NamesFloor node (v ∷ up) → NamesFloor node up
 names-above node v up a h l = a h (omega arith) ∙ cond-false (h == suc (length up)) v.number (node_of up h)
-    (not_same h (suc (length up)) (omega arith))
+    (not_equal h (suc (length up)) (omega arith))
 
 pub node_on : (levels : List Level) (h : ℕ) → 1 ≤ h → h ≤ length levels → is_on (way_of levels) (node_of levels h) ≡ true
 node_on [] h l k = let no_way : ⊥ = omega arith in absurd no_way
@@ -36,7 +37,7 @@ node_on (v ∷ up) h l k = go (h == suc (length up)) refl (node_on up h l)
   where
     go : (b : Bool) → (h == suc (length up)) ≡ b → (h ≤ length up → is_on (way_of up) (node_of up h) ≡ true)
         → is_on (way_of (v ∷ up)) (cond b v.number (node_of up h)) ≡ true
-    go true e f = cond-true (v.number == v.number) true _ (same_self v.number)
+    go true e f = cond-true (v.number == v.number) true _ (number_same v.number)
     go false e f = let low : h ≤ length up = grind arith in cond-same (v.number == node_of up h) true _ (f low)
 
 -- what a ball leaves of a stack
@@ -110,7 +111,7 @@ query_on (v ∷ up) h = go v.kind (query_on up) h
     go : (k : Kind) → (under_query (way_of up) ≡ true → is_on (way_of up) (query_node up) ≡ true)
         → cond (is_query k) (length v.left == 0) (under_query (way_of up)) ≡ true
         → is_on (way_of (v ∷ up)) (query_kind k v.number (query_node up)) ≡ true
-    go QueryNode f k = cond-true (v.number == v.number) true _ (same_self v.number)
+    go QueryNode f k = cond-true (v.number == v.number) true _ (number_same v.number)
     go ChoiceNode f k = cond-same (v.number == query_node up) true _ (f k)
     go CatchNode f k = cond-same (v.number == query_node up) true _ (f k)
     go FindallNode f k = cond-same (v.number == query_node up) true _ (f k)
@@ -156,7 +157,7 @@ ends_sound node q next (v ∷ up) c b h = go (is_query v.kind) refl (λ n d. end
         let same : q ≡ v.number = h.query ∙ is_query_kind v.kind v.number (query_node up) e in
         let first : (length v.left == 0) ≡ true = sym (cond-true (is_query v.kind) (length v.left == 0) (under_query (way_of up)) e)
         ∙ h.asked in
-        stops_here next q v up c (EndEntry b) (ap (λ m. v.number == m) same ∙ same_self v.number)
+        stops_here next q v up c (EndEntry b) (ap (λ m. v.number == m) same ∙ number_same v.number)
         (ends_here next v.number v.kind v.left v.spent v.right up (left_after v c) b first h.around.0 h.around.1 h.free)
     go false e f =
         let above = falls-above node q next v up e h in
@@ -228,7 +229,7 @@ recovery_on node next n kind (u ∷ up) h e goal s items a k d o p i =
     let way : Way = way_of (u ∷ up) in
     let low : Step = record { node = n; index = 1; kind = kind } in
     let first : Step = record { node = next; index = 0; kind = ChoiceNode } in
-    let self : (u.number == node h) ≡ true = ap (λ m. u.number == m) named ∙ same_self u.number in
+    let self : (u.number == node h) ≡ true = ap (λ m. u.number == m) named ∙ number_same u.number in
     let on_up : is_on way (node h) ≡ true = cond-true (u.number == node h) true _ self in
     let other_n : (n == node h) ≡ false = other_number way n (node h) o on_up (n == node h) refl in
     let other_next : (next == node h) ≡ false = other_number way next (node h) p on_up (next == node h) refl in

@@ -10,7 +10,6 @@ use Rattle.tree_model.specs.Orders.{credits_left, levels_below, first_open, is_c
 use Rattle.tree_model.specs.Closing.{Grown, wakes}
 use Rattle.tree_model.specs.Pruning.{is_findall, kept_records, left_after, lands}
 use Rattle.tree_model.specs.CaughtTrees.{catch_right, is_side, AreCaught}
-use Rattle.interleaving.proofs.WayLemmas.{unlike, same_self}
 use Rattle.interleaving.proofs.ClearedLemmas.{no_place}
 use Rattle.interleaving.proofs.ClockLemmas.{AreShut, AreClear, clear_all}
 use Rattle.interleaving.proofs.ListEndLemmas.{levels_down}
@@ -18,17 +17,8 @@ use Rattle.interleaving.proofs.ListScopeLemmas.{sleeps_on}
 use Rattle.interleaving.proofs.ListsSoundLemmas.{under_of}
 use Rattle.interleaving.proofs.CaughtContextLemmas.{RootCaught, caught_after, node_caught}
 use Rattle.interleaving.proofs.CaughtClosingLemmas.{RecordsUnder}
-
-clash : {A : Type 0} → false ≡ true → A
-clash h = let no_way : ⊥ = cc in absurd no_way
-
--- a test on numbers, turned
-pub turned : (m n : ℕ) → (m == n) ≡ (n == m)
-turned m n = go (m == n) refl
-  where
-    go : (b : Bool) → (m == n) ≡ b → b ≡ (n == m)
-    go true e = let same : m ≡ n = grind arith in sym (same_self n) ∙ ap (λ k. n == k) (sym same)
-    go false e = sym (unlike m n e)
+use Rattle.interleaving.proofs.TestLemmas.{false_true, number_turned, number_same}
+use Rattle.au_term.proofs.LogicLemmas.{numbers_turned}
 
 -- what is left of the levels below a node
 abbrev pub landed : ℕ → List Level → Credit → Credit
@@ -65,15 +55,15 @@ lands_at next s (v ∷ up) status c e = let h = go (v.number == s)
 credits_none : (sleeps : ℕ → Bool) (n : ℕ) (kind : Kind) (left : List (ℕ × Status)) (others : Alternatives)
     → AreCaught sleeps false n kind 0 (put_left left others) → AreShut left → (credits_left left).records ≡ []
 credits_none sleeps n kind [] others h k = refl
-credits_none sleeps n kind ((sp, Pending hold e) ∷ left) others h k = clash k.0
-credits_none sleeps n kind ((sp, Inner node) ∷ left) others h k = clash k.0
+credits_none sleeps n kind ((sp, Pending hold e) ∷ left) others h k = false_true k.0
+credits_none sleeps n kind ((sp, Inner node) ∷ left) others h k = false_true k.0
 credits_none sleeps n kind ((sp, Closed c) ∷ left) others h k =
     ap (λ l. l ++ c.records) (credits_none sleeps n kind left (alternative sp (Closed c) others) h k.1)
     ∙ mine (caught_after sleeps false n kind left (alternative sp (Closed c) others) h).0
   where
     mine : ((c.records ≡ []) ⊎ ((is_side kind (length left) ≡ false) × (false ≡ true))) → c.records ≡ []
     mine (inl e) = e
-    mine (inr e) = clash e.1
+    mine (inr e) = false_true e.1
 
 kept_none : (v : Level) (c : Credit) → c.records ≡ [] → (kept_records v c).records ≡ []
 kept_none v c h = go v.left (is_findall v.kind)
@@ -90,7 +80,7 @@ kept_side v c h = go v.left refl (is_findall v.kind) refl
     go : (left : List (ℕ × Status)) → v.left ≡ left → (b : Bool) → is_findall v.kind ≡ b
         → (elim left as (λ l. Credit) [ [] ↦ cond b (without_records c) c | a ∷ rest ↦ c ]).records ≡ []
     go [] q true e = refl
-    go [] q false e = clash (sym (ap (λ b. b && (length v.left == 0)) e) ∙ h)
+    go [] q false e = false_true (sym (ap (λ b. b && (length v.left == 0)) e) ∙ h)
     go (a ∷ rest) q b e = let no_way : ⊥ = not_first (length rest)
         (sym (ap (λ l. length l == 0) q) ∙ second (is_findall v.kind) (length v.left == 0) h) in absurd no_way
       where
@@ -99,7 +89,7 @@ kept_side v c h = go v.left refl (is_findall v.kind) refl
 
         second : (x y : Bool) → (x && y) ≡ true → y ≡ true
         second true y z = z
-        second false y z = clash z
+        second false y z = false_true z
 
 left_under : (v : Level) (up : List Level) (status : Status) (c : Credit) → AreShut v.left → RootCaught (plug (v ∷ up) status)
     → RecordsUnder (v ∷ up) c → RecordsUnder up (left_after v c)
@@ -120,7 +110,7 @@ left_under v up status c k h r = go (under_of up) refl (is_side v.kind (length v
         (all (credits_none (sleeps_on up) v.number v.kind v.left (alternative v.spent status v.right)
         (subst (λ b. AreCaught (sleeps_on up) b v.number v.kind 0 (put_left v.left (alternative v.spent status v.right))) e n) k)
         (kept_none v c z))
-    go false e false q n (inr z) = clash (sym (ap (λ b. b || under_of up) q ∙ e) ∙ z)
+    go false e false q n (inr z) = false_true (sym (ap (λ b. b || under_of up) q ∙ e) ∙ z)
 
 -- cleared below a node
 pub clear_below : (s : ℕ) (levels : List Level) → is_cleared (Some s) levels ≡ true → AreClear (levels_below (Some s) levels)
@@ -128,7 +118,7 @@ clear_below s levels h = clear_all (levels_below (Some s) levels) (no_place (fir
 
 pub clear_step : (s : ℕ) (v : Level) (up : List Level) → (v.number == s) ≡ false → AreClear (levels_below (Some s) (v ∷ up))
     → AreShut v.left × AreClear (levels_below (Some s) up)
-clear_step s v up e h = subst (λ b. AreClear (cond b [] (v ∷ levels_below (Some s) up))) (turned s v.number ∙ e) h
+clear_step s v up e h = subst (λ b. AreClear (cond b [] (v ∷ levels_below (Some s) up))) (number_turned s v.number ∙ e) h
 
 abbrev pub FirstShut : List Level → Type 0
 FirstShut [] = Unit {0}

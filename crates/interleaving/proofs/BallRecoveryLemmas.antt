@@ -34,8 +34,7 @@ use Rattle.interleaving.proofs.ContextLemmas.{IsAround}
 use Rattle.interleaving.proofs.WayLemmas.{off_way}
 use Rattle.interleaving.proofs.RoundtripLemmas.{by_heights}
 use Rattle.interleaving.proofs.ClosingSoundLemmas.{IsFree}
-use Rattle.interleaving.proofs.AppendLemmas.{append-assoc, each-append}
-use Rattle.interleaving.proofs.RunFrontLemmas.{append-none}
+use Rattle.interleaving.proofs.AppendLemmas.{append-assoc, each-append, append-nil}
 use Rattle.interleaving.proofs.QuietCreditLemmas.{map-fixed, quiet-private}
 use Rattle.interleaving.proofs.SoundEarlyLemmas.{sound-after, sound_exchange, private-sound, all-gathered}
 use Rattle.interleaving.proofs.SoundStepLemmas.{AllGathered}
@@ -190,7 +189,7 @@ module _ (clauses : List Clause) (next : ℕ) (v : Level) (above : List Level) (
           let same : records ones ≡ records credits = records-append low (Credit (v.spent + 1) [] ∷ [])
           ∙ sym (records-append low (Credit v.spent [] ∷ [])) in
           let out : outer (is_inner_record inside) (records ones) ≡ rows = ap (outer (is_inner_record inside)) same
-          ∙ sym (append-none (outer (is_inner_record inside) (records credits))) in
+          ∙ sym (append-nil (outer (is_inner_record inside) (records credits))) in
           let counted : inferences ones ≡ inferences low + (v.spent + 1 + 0) = inferences-append low (Credit (v.spent + 1) [] ∷ []) in
           let counted_old : inferences credits ≡ inferences low + (v.spent + 0) = inferences-append low (Credit v.spent [] ∷ []) in
           let number : inferences ones ≡ inferences credits + 1 = omega (arith, counted, counted_old) in
@@ -236,7 +235,7 @@ module _ (clauses : List Clause) (next : ℕ) (v : Level) (above : List Level) (
           let all = all-gathered clauses inside first back (outer inner (records credits)) first_inner (outer_apart (records credits))
           gathered in
           let whole : AllGathered clauses (first ++ back) rows = subst (AllGathered clauses (first ++ back))
-          (sym (append-none (outer inner (records credits)))) all in
+          (sym (append-nil (outer inner (records credits)))) all in
           sound_exchange clauses inside front (credits ++ (Plain p named ∷ mid))
           (Credit (min greatest (inferences credits + 1)) rows ∷ first) back
           (front_blind clauses next v above p named a d free sides w up r f o ball c) s.own (tt, first_inner) s.some old (whole, j)

@@ -21,7 +21,7 @@ use Rattle.interleaving.specs.Machine.{Machine, On, Here, gives}
 use Rattle.interleaving.specs.Scopes.{Shared, Sought, Scope, Thrown, Caught, look, give, findall_with_result, recovery_look, scoped}
 use Rattle.interleaving.specs.Segments.{found_in, search_in}
 use Rattle.interleaving.proofs.ContextLemmas.{IsAround, count_left, count_around}
-use Rattle.interleaving.proofs.WayLemmas.{cond-false, other_number, unlike}
+use Rattle.interleaving.proofs.WayLemmas.{cond-false, other_number}
 use Rattle.interleaving.proofs.AppendLemmas.{append-assoc}
 use Rattle.interleaving.proofs.NamingLemmas.{same-itself}
 use Rattle.interleaving.proofs.ListEndLemmas.{on-counts, ends_in, no_end_among, other_node, scope_at}
@@ -29,9 +29,8 @@ use Rattle.interleaving.proofs.ListScopeLemmas.{IsDistinct}
 use Rattle.interleaving.proofs.CaughtContextLemmas.{RootCaught}
 use Rattle.interleaving.proofs.LowerListLemmas.{lower_back}
 use Rattle.interleaving.proofs.FallLemmas.{Catches, fall, MarkSleeps, sleeps_way, IsTaken, fall_taken}
-
-clash : {A : Type 0} → false ≡ true → A
-clash h = let no_way : ⊥ = cc in absurd no_way
+use Rattle.interleaving.proofs.TestLemmas.{false_true}
+use Rattle.au_term.proofs.LogicLemmas.{numbers_turned}
 
 -- a mark by name
 abbrev pub mark_name : Way → Option ℕ → Option Name
@@ -99,7 +98,7 @@ module _ (clauses : List Clause) where
   -- a ball passes what is not the end that it looks for
   first_false : (a b : Bool) → (a || b) ≡ false → (a ≡ false) × (b ≡ false)
   first_false false b e = (refl, e)
-  first_false true b e = clash (sym e)
+  first_false true b e = false_true (sym e)
 
   pub thrown_pass : (b : Term) (h o : Name) (rs : List Record) (xs ys : List Element) → ends_in h xs ≡ false
       → search_in m (Thrown b (Some h) o) (map (gives m rs) (xs ++ ys)) ≡ search_in m (Thrown b (Some h) o) (map (gives m rs) ys)
@@ -178,7 +177,7 @@ module _ (clauses : List Clause) where
   above_apart v up s i new on =
       let z = scope_at s (way_of up) on in
       ap (λ x. same x (i ∷ v.number ∷ [])) z.1
-      ∙ other_node z.0 s i v.number (unlike v.number s (other_number (way_of up) v.number s new on (v.number == s) refl))
+      ∙ other_node z.0 s i v.number (numbers_turned v.number s (other_number (way_of up) v.number s new on (v.number == s) refl))
 
   pub right_passes : (v : Level) (up : List Level) (s : ℕ) → IsDistinct (v ∷ up) → is_on (way_of up) v.number ≡ false → is_on (way_of up) s
       ≡ true → ends_in (scope_on (way_of up) s) (list_right (way_of up) v) ≡ false
@@ -190,8 +189,8 @@ module _ (clauses : List Clause) where
       let none_right : count_among s v.right ≡ 0 = omega (arith, many, some) in
       ap (λ x. ends_in x (list_right (way_of up) v)) z.1
       ∙ either (same (z.0 ∷ s ∷ []) (length v.left ∷ v.number ∷ [])) _
-      (other_node z.0 s (length v.left) v.number (unlike v.number s off))
-      (no_end_among z.0 s (way_of up) v.number v.kind (suc (length v.left)) v.right (unlike v.number s off) none_right)
+      (other_node z.0 s (length v.left) v.number (numbers_turned v.number s off))
+      (no_end_among z.0 s (way_of up) v.number v.kind (suc (length v.left)) v.right (numbers_turned v.number s off) none_right)
     where
       either : (a b : Bool) → a ≡ false → b ≡ false → (a || b) ≡ false
       either false b e f = f

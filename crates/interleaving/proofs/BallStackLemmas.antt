@@ -18,7 +18,7 @@ use Rattle.tree_model.specs.PendingLists.{way_of}
 use Rattle.tree_model.specs.Ways.{is_on, is_query, IsAsked}
 use Rattle.tree_model.specs.SoundTrees.{one_if, count_among, Profile, IsOpen, Sleeps, profile, profiles, is_shape}
 use Rattle.interleaving.proofs.ContextLemmas.{put_profiles, count_around}
-use Rattle.interleaving.proofs.WayLemmas.{cond-true, cond-false, one_if-zero, off_way, other_number, same_self}
+use Rattle.interleaving.proofs.WayLemmas.{cond-true, cond-false, one_if-zero, off_way, other_number}
 use Rattle.interleaving.proofs.ShapeLemmas.{catch_kind}
 use Rattle.interleaving.proofs.RoundtripLemmas.{by_nodes, by_heights}
 use Rattle.interleaving.proofs.ClosingSoundLemmas.{IsSoundGrown, woken_sound}
@@ -28,6 +28,7 @@ use Rattle.au_model.specs.Terms.Unifier.{unifier}
 use Rattle.interleaving.proofs.EntryLemmas.{own_height, length-floor}
 use Rattle.interleaving.proofs.BallLemmas.{NamesFloor, names-above, node_on, IsLow, landing_low, fallen, IsFalling, falls-above}
 use Rattle.interleaving.proofs.BallLemmas.{stops_here, ends_sound, passes, recovery_on}
+use Rattle.interleaving.proofs.TestLemmas.{number_same}
 
 -- where nothing can take a ball
 pub nothing_takes : (ball : Term) (es : List Entry) → unwound ball None es ≡ EndEntry (Some (copied ball 0)) ∷ []
@@ -138,7 +139,7 @@ caught_here node q next n kind [] spent s x r f others up c o ball h l g i =
     recovery_on node next n kind up (length (floor_of up)) (length-floor up) (call_of r) o f.items (names-above node v up h.names)
     (catch_kind kind (profiles others) h.around.0.shape) (one_if-zero (n == next) not_here) h.around.0.new
     (off_way next up not_above) asked in
-    stops_here next (node (suc (length (floor_of up)))) v up c _ (ap (λ m. n == m) scope ∙ same_self n)
+    stops_here next (node (suc (length (floor_of up)))) v up c _ (ap (λ m. n == m) scope ∙ number_same n)
     (woken_sound next n kind spent (alternative s (Pending Dormant (CatchEntry x r f)) others) up (left_after v c) _ h.around.0
     h.around.1 h.free
     (subst (λ items. IsAsked (record { node = next; index = 0; kind = ChoiceNode } ∷ record { node = n; index = 1; kind = kind }

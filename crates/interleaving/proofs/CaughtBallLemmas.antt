@@ -33,9 +33,7 @@ use Rattle.interleaving.proofs.CaughtClosingLemmas.{RecordsAt, wake_caught, mark
 use Rattle.interleaving.proofs.FallLemmas.{IsCatcher}
 use Rattle.interleaving.proofs.BallLevelLemmas.{landed, wakes_in, lands_at, landed_under, FirstShut, under_top}
 use Rattle.interleaving.proofs.BallPlaceLemmas.{names_above, scope_down, QueryAt}
-
-clash : {A : Type 0} → false ≡ true → A
-clash h = let no_way : ⊥ = cc in absurd no_way
+use Rattle.interleaving.proofs.TestLemmas.{false_true}
 
 -- bindings change no mark
 pub marks_resolved : (sleeps : ℕ → Bool) (node : ℕ → ℕ) (o : Substitution) (items : List (Item ℕ))
@@ -63,9 +61,9 @@ query_no_side w q = go w.kind q
   where
     go : (k : Kind) → is_query k ≡ true → (is_findall k && (length w.left == 0)) ≡ false
     go QueryNode e = refl
-    go ChoiceNode e = clash e
-    go CatchNode e = clash e
-    go FindallNode e = clash e
+    go ChoiceNode e = false_true e
+    go CatchNode e = false_true e
+    go FindallNode e = false_true e
 
 records_at : (w : Level) (up : List Level) (s : ℕ) (levels : List Level) (status : Status) → is_side w.kind (length w.left) ≡ false
     → levels_down levels s ≡ w ∷ up → ((landed s levels (credit_of 1)).records ≡ []) ⊎ (under_top (levels_down levels s) ≡ true)

@@ -24,9 +24,7 @@ use Rattle.interleaving.proofs.FoldLemmas.{CaughtAt}
 use Rattle.interleaving.proofs.ListsSoundLemmas.{under_of}
 use Rattle.interleaving.proofs.CaughtContextLemmas.{caught_plug, caught_level, caught_after, caught_down, Rests, AllRest, rests_plug}
 use Rattle.interleaving.proofs.CaughtContextLemmas.{rests_level, unspent_nodes, unspent_level, IsCaughtRoot}
-
-clash : {A : Type 0} → false ≡ true → A
-clash h = let no_way : ⊥ = cc in absurd no_way
+use Rattle.interleaving.proofs.TestLemmas.{false_true}
 
 -- records are below the goal side of a findall alone
 abbrev pub RecordsUnder : List Level → Credit → Type 0
@@ -63,7 +61,7 @@ shut v up c off h r = root_put (v ∷ up) (Closed no_credit) (Closed c) (λ s o.
 -- outside all goal sides there are no records
 none_of : (side : Bool) (c : Credit) → ((c.records ≡ []) ⊎ ((side ≡ false) × (false ≡ true))) → c.records ≡ []
 none_of side c (inl e) = e
-none_of side c (inr e) = clash e.1
+none_of side c (inr e) = false_true e.1
 
 both_none : (a b : Credit) → a.records ≡ [] → b.records ≡ [] → (added a b).records ≡ []
 both_none a b x y = ap (λ l. l ++ b.records) x ∙ y
@@ -154,7 +152,7 @@ folds_caught next v (u ∷ up) c (Some total) q off f h r =
         (total_none (sleeps_on (u ∷ up)) v c total
         (subst (λ b. AreCaught (sleeps_on (u ∷ up)) b v.number v.kind 0
         (put_left v.left (alternative v.spent (Closed no_credit) v.right))) e k) z q)
-    records false e k (inr z) = clash (sym (ap (λ b. b || under_of (u ∷ up)) off ∙ e) ∙ z)
+    records false e k (inr z) = false_true (sym (ap (λ b. b || under_of (u ∷ up)) off ∙ e) ∙ z)
 
 -- something sleeps after a first alternative, and wakes
 pub wake_caught : (next : ℕ) (v : Level) (up : List Level) (old : Status) (c : Credit) (s : ℕ) (e woken : Entry) → v.right
@@ -232,7 +230,7 @@ sleeper_on v up p s e h q = (subst (AreSound (way_of up) v.number v.kind (suc (l
 pub closes_caught : (next : ℕ) (levels : List Level) (c : Credit) → IsAround levels IsOpen → IsFree next levels
     → IsCaughtRoot (plug levels (Closed no_credit)) → RecordsUnder levels c → IsCaughtRoot (closes next levels c).root
 closes_caught next [] c a free h (inl e) = record { caught = inl e; last = tt; unspent = tt }
-closes_caught next [] c a free h (inr e) = clash e
+closes_caught next [] c a free h (inr e) = false_true e
 closes_caught next (v ∷ up) c a free h r = pick (guarded v) refl (λ d k z. closes_caught next up d a.1 (free-above next v up free) k z)
   where
     pick : (o : Option Entry) → guarded v ≡ o

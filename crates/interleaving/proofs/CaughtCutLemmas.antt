@@ -21,9 +21,7 @@ use Rattle.interleaving.proofs.FoldLemmas.{CaughtAt}
 use Rattle.interleaving.proofs.CaughtContextLemmas.{SameRight, Rests, AllRest, put_rests, unspent_put, IsCaughtRoot}
 use Rattle.interleaving.proofs.CaughtClosingLemmas.{root_put}
 use Rattle.interleaving.proofs.BallLevelLemmas.{clear_step}
-
-clash : {A : Type 0} → false ≡ true → A
-clash h = let no_way : ⊥ = cc in absurd no_way
+use Rattle.interleaving.proofs.TestLemmas.{false_true}
 
 -- marks of a way along which the same recoveries sleep
 pub marks_agree : (old new : ℕ → Bool) (way : Way) (items : List (Item ℕ)) → ((r : ℕ) → is_on way r ≡ true → new r ≡ old r)
@@ -44,8 +42,8 @@ shut_put : (old new : ℕ → Bool) (under : Bool) (n : ℕ) (kind : Kind) (left
     → AreShut left → (AreCaught old under n kind (length left) others → AreCaught new under n kind (length left) more)
     → AreCaught old under n kind 0 (put_left left others) → AreCaught new under n kind 0 (put_left left more)
 shut_put old new under n kind [] others more k f = f
-shut_put old new under n kind ((sp, Pending hold e) ∷ left) others more k f = clash k.0
-shut_put old new under n kind ((sp, Inner node) ∷ left) others more k f = clash k.0
+shut_put old new under n kind ((sp, Pending hold e) ∷ left) others more k f = false_true k.0
+shut_put old new under n kind ((sp, Inner node) ∷ left) others more k f = false_true k.0
 shut_put old new under n kind ((sp, Closed c) ∷ left) others more k f = shut_put old new under n kind left
     (alternative sp (Closed c) others) (alternative sp (Closed c) more) k.1 (λ h. (h.0, f h.1))
 
@@ -122,7 +120,7 @@ cut_root s v [] old new on a k c e r u h = go (v.number == s) refl on
     go : (b : Bool) → (v.number == s) ≡ b → cond b true false ≡ true
         → IsCaughtRoot (plug (cond b (v ∷ []) (record v { right = emptied v.right } ∷ [])) new)
     go true q o = root_put (v ∷ []) old new e (c (sleeps_on (v ∷ [])) (λ m z. refl)) r u h
-    go false q o = clash o
+    go false q o = false_true o
 cut_root s v (w ∷ up) old new on a k c e r u h = go (v.number == s) refl on
     (λ o l d. cut_root s w up (Inner (level_node v old)) (below v new) o a.1 l d (λ sp others. refl) rests
     (λ sp. unspent_put v.left (alternative v.spent old v.right) (alternative v.spent new (emptied v.right))

@@ -6,9 +6,7 @@ use Rattle.interleaving.proofs.GoingLemmas.{legal_parts}
 use Rattle.interleaving.proofs.CaughtHoldLemmas.{claim_caught, resume_caught, suspend_caught, lost_caught, stop_caught}
 use Rattle.interleaving.proofs.CaughtTakenLemmas.{prune_caught, answer_caught, empty_caught, collected_caught}
 use Rattle.interleaving.proofs.CaughtPublishLemmas.{publish_caught}
-
-clash : {A : Type 0} → false ≡ true → A
-clash h = let no_way : ⊥ = cc in absurd no_way
+use Rattle.interleaving.proofs.TestLemmas.{false_true}
 
 pub caught_kept : KeepsCaught IsAny
 caught_kept t (Claim w a) o i q l = claim_caught t q w a
@@ -21,4 +19,4 @@ caught_kept t (Empty w a k) o i q l = empty_caught t i q w a k l
 caught_kept t (Collected w a k) o i q l = collected_caught t i q w a k l
 caught_kept t (Prune w a) o i q l = prune_caught t i q w a l
 caught_kept t (Answer w a false) o i q l = answer_caught t i q w a l
-caught_kept t (Answer w a true) o i q l = clash (legal_parts t (Answer w a true) l).1
+caught_kept t (Answer w a true) o i q l = false_true (legal_parts t (Answer w a true) l).1

@@ -38,9 +38,7 @@ use Rattle.interleaving.proofs.CaughtHoldLemmas.{open_right}
 use Rattle.interleaving.proofs.CaughtEventLemmas.{as_tree, marks_opened, marks_without, solutions_caught}
 use Rattle.interleaving.proofs.CaughtPruneLemmas.{closed_kept, left_kept, marks_left, thrown_kept}
 use Rattle.tree_model.specs.SoundTrees.{profile}
-
-pub clash : {A : Type 0} → false ≡ true → A
-clash h = let no_way : ⊥ = cc in absurd no_way
+use Rattle.interleaving.proofs.TestLemmas.{false_true}
 
 -- a part of a clear branch
 pub clear_part : (scope : Option ℕ) (levels : List Level) → AreClear levels → AreClear (levels_below scope levels)

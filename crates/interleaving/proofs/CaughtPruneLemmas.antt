@@ -44,8 +44,9 @@ use Rattle.interleaving.proofs.FallLemmas.{first_sleeps}
 use Rattle.interleaving.proofs.BallPlaceLemmas.{scope_down, query_at}
 use Rattle.interleaving.proofs.CaughtBallLemmas.{recovery_caught, lost_caught}
 use Rattle.interleaving.proofs.CaughtCutLemmas.{marks_agree, cut_root}
-use Rattle.interleaving.proofs.CaughtEventLemmas.{clash, as_tree, clear_spent, marks_without, NewCaught, OverCaught, each_named}
+use Rattle.interleaving.proofs.CaughtEventLemmas.{as_tree, clear_spent, marks_without, NewCaught, OverCaught, each_named}
 use Rattle.interleaving.proofs.CaughtEventLemmas.{standing_caught, standing_no_query, standing_no_node, standing_last, standing_unspent}
+use Rattle.interleaving.proofs.TestLemmas.{false_true}
 
 -- round an open place
 module _ (t : TreeState) (s : Spot) (h : IsAt t s) (old : Status)
@@ -75,7 +76,7 @@ module _ (t : TreeState) (s : Spot) (h : IsAt t s) (old : Status)
         no_query = λ z. (refl, standing_no_query (sleeps_on (levels_of s)) t.next ds c);
         no_node = λ z.
             (refl, standing_no_node ds);
-        closed = λ z. clash (sym closed_not ∙ z);
+        closed = λ z. false_true (sym closed_not ∙ z);
         last = λ z. standing_last (sleeps_on (levels_of s))
             t.next ds c;
       }) (standing_unspent ds)
@@ -181,7 +182,7 @@ module _ (t : TreeState) (s : Spot) (h : IsAt t s) (old : Status)
       go : (b : Bool) → may_prune (levels_of s) (cond b (Some (CutGate (node_of (levels_of s) (height_of (levels_of s) n)))) None)
           ≡ true → IsCaughtTree (gate_pruned s (cond b (Some (CutGate (node_of (levels_of s) (height_of (levels_of s) n)))) None)
           (PlainEntry (with_items (by_heights (levels_of s) items) g) ∷ es) t)
-      go false z = clash z
+      go false z = false_true z
       go true z = subst (λ k. IsCaughtTree (cut_at s k (PlainEntry (with_items (by_heights (levels_of s) items) g) ∷ es) t)) (sym back)
           (cut_kept n g items es r i j m (subst (λ k. is_cleared (Some k) (levels_of s) ≡ true) back z))
 
@@ -193,26 +194,26 @@ module _ (t : TreeState) (s : Spot) (h : IsAt t s) (old : Status)
       → IsCaughtTree (gate_pruned s (goal_gate (levels_of s) o (height_of (levels_of s) n)
       (with_items (by_heights (levels_of s) items) g) (floor_of (levels_of s)))
       (goal_alone o (height_of (levels_of s) n) (with_items (by_heights (levels_of s) items) g) (floor_of (levels_of s))) t)
-  goal_pruned (AskWorld goal) n g items q r i j m l = clash l
-  goal_pruned (Replies (Solutions ss)) n g items q r i j m l = clash l
-  goal_pruned (Replies (HaltNumber k)) n g items q r i j m l = clash l
+  goal_pruned (AskWorld goal) n g items q r i j m l = false_true l
+  goal_pruned (Replies (Solutions ss)) n g items q r i j m l = false_true l
+  goal_pruned (Replies (HaltNumber k)) n g items q r i j m l = false_true l
   goal_pruned (Replies (Ball b)) n g items q r i j m l = ball_pruned _ q (thrown_kept b items j m) l
   goal_pruned (Controls CutToScope) n g items q r i j m l = cut_pruned n g items _ q r i j.scoped m l
-  goal_pruned (Controls (GoesOnWith gs)) n g items q r i j m l = clash l
-  goal_pruned (Controls (EitherOf gs others)) n g items q r i j m l = clash l
-  goal_pruned (Controls (TestOf gs thens others)) n g items q r i j m l = clash l
-  goal_pruned (Controls (CatchOf goal catcher recovery)) n g items q r i j m l = clash l
-  goal_pruned (Controls (FindallOf template goal list)) n g items q r i j m l = clash l
+  goal_pruned (Controls (GoesOnWith gs)) n g items q r i j m l = false_true l
+  goal_pruned (Controls (EitherOf gs others)) n g items q r i j m l = false_true l
+  goal_pruned (Controls (TestOf gs thens others)) n g items q r i j m l = false_true l
+  goal_pruned (Controls (CatchOf goal catcher recovery)) n g items q r i j m l = false_true l
+  goal_pruned (Controls (FindallOf template goal list)) n g items q r i j m l = false_true l
 
   items_pruned : (clauses : List Clause) (g : Continuation ℕ) (items : List (Item ℕ)) → IsCaughtTree t
       → under_query (way_of (levels_of s)) ≡ true → AreScoped (way_of (levels_of s)) items → MarksCaught (sleeps_on (levels_of s)) items
       → may_prune (levels_of s) (item_gate clauses (levels_of s) (by_heights (levels_of s) items) g (floor_of (levels_of s))) ≡ true
       → IsCaughtTree (gate_pruned s (item_gate clauses (levels_of s) (by_heights (levels_of s) items) g (floor_of (levels_of s)))
       (or_none (item_alone clauses (by_heights (levels_of s) items) g (floor_of (levels_of s)))) t)
-  items_pruned clauses g [] q u i m l = clash l
-  items_pruned clauses g (CatchMark n ∷ items) q u i m l = clash l
-  items_pruned clauses g (CollectMark x n ∷ items) q u i m l = clash l
-  items_pruned clauses g (RemovalItem n ∷ items) q u i m l = clash l
+  items_pruned clauses g [] q u i m l = false_true l
+  items_pruned clauses g (CatchMark n ∷ items) q u i m l = false_true l
+  items_pruned clauses g (CollectMark x n ∷ items) q u i m l = false_true l
+  items_pruned clauses g (RemovalItem n ∷ items) q u i m l = false_true l
   items_pruned clauses g (GoalItem x n ∷ items) q u i m l = goal_pruned (outcome_of clauses x g.next) n g items q i.0 i.1
       (rest_asked (levels_of s) n items (around_path (levels_of s) IsOpen h.placed.around) u i.0 i.1) m l
 
@@ -221,9 +222,9 @@ module _ (t : TreeState) (s : Spot) (h : IsAt t s) (old : Status)
       → may_prune (levels_of s) (gate_on clauses (levels_of s) (with_heights (levels_of s) e ∷ floor_of (levels_of s))) ≡ true
       → IsCaughtTree (gate_pruned s (gate_on clauses (levels_of s) (with_heights (levels_of s) e ∷ floor_of (levels_of s)))
       (or_none (taken_alone clauses (with_heights (levels_of s) e ∷ floor_of (levels_of s)))) t)
-  stack_pruned clauses (EndEntry b) q i m l = clash l
-  stack_pruned clauses (CatchEntry c r f) q i m l = clash l
-  stack_pruned clauses (FindallEntry results list f) q i m l = clash l
+  stack_pruned clauses (EndEntry b) q i m l = false_true l
+  stack_pruned clauses (CatchEntry c r f) q i m l = false_true l
+  stack_pruned clauses (FindallEntry results list f) q i m l = false_true l
   stack_pruned clauses (PlainEntry f) q i m l =
       let g : Continuation ℕ = record { items = by_heights (levels_of s) f.items; named = f.named; next = f.next } in
       go g (by_heights (levels_of s) (without_marks f.items)) (without_marks (by_heights (levels_of s) f.items))

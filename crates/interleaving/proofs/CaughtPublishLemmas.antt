@@ -30,7 +30,7 @@ use Rattle.interleaving.proofs.StackLemmas.{AreOver}
 use Rattle.interleaving.proofs.RunSoundLemmas.{height_way, length-heights, run_sound}
 use Rattle.interleaving.proofs.LegalLemmas.{awake_entry, end_rests, placed_floor, placed_above, one_size}
 use Rattle.interleaving.proofs.PlacedEntryLemmas.{IsAt, at_spot as known_at}
-use Rattle.interleaving.proofs.OpenSpotLemmas.{both_left, both_right, taken_at_open}
+use Rattle.interleaving.proofs.OpenSpotLemmas.{taken_at_open}
 use Rattle.interleaving.proofs.GoingLemmas.{going, legal_parts}
 use Rattle.interleaving.proofs.CaughtHoldLemmas.{open_right}
 use Rattle.interleaving.proofs.ListsSoundLemmas.{lists_are_sound, under_of}
@@ -49,9 +49,8 @@ use Rattle.interleaving.proofs.CaughtPruneLemmas.{put_node}
 use Rattle.interleaving.proofs.CaughtTakenLemmas.{root_at, same_caught}
 use Rattle.interleaving.proofs.MarkedLemmas.{AreMarked, all_over, named_marked, catch_low}
 use Rattle.interleaving.proofs.PlacedCaughtLemmas.{floor_sleeps, AreAlone, fits_alone, IsPlacedOver, IsPlacedCaught, placed_caught}
-
-clash : {A : Type 0} → false ≡ true → A
-clash h = let no_way : ⊥ = cc in absurd no_way
+use Rattle.interleaving.proofs.TestLemmas.{false_true}
+use Rattle.au_term.proofs.LogicLemmas.{and-right, and-left}
 
 -- the marks of a private run
 run_marked : (clauses : List Clause) (v : Level) (up : List Level) (next k : ℕ) (es : List Entry) (f : Continuation ℕ)
@@ -74,7 +73,7 @@ over_no_end w (EndEntry b ∷ es) h = absurd h.0
 -- the shape of a run
 shape_fills : (low : ℕ) (sizes : List ℕ) (es : List Entry) → is_nonempty es ≡ true → fits_shape low sizes es ≡ true
     → Fills sizes es × AreAlone sizes es
-shape_fills low sizes [] n f = clash n
+shape_fills low sizes [] n f = false_true n
 shape_fills low sizes (e ∷ []) n f = subst (λ sz. Fills sz (e ∷ []) × AreAlone sz (e ∷ [])) (sym (one_size sizes f))
     ((omega arith, omega arith, refl), (refl, tt))
 shape_fills low sizes (e ∷ d ∷ es) n f =
@@ -101,7 +100,7 @@ run_placed_over levels next sizes es a free marked no_ends fills alone = record 
     below h x y = go (nat_le next (node_of levels h)) refl
       where
         go : (c : Bool) → nat_le next (node_of levels h) ≡ c → suc (placed_scope next sizes levels h) ≤ next
-        go true e = let high : next ≤ node_of levels h = grind arith in clash
+        go true e = let high : next ≤ node_of levels h = grind arith in false_true
             (sym (off_way (node_of levels h) levels (free.fresh (node_of levels h) high)) ∙ node_on levels h x y)
         go false e = let l : suc (node_of levels h) ≤ next = grind arith in omega (arith, l, placed_floor next sizes levels h y)
 
@@ -135,7 +134,7 @@ module _ (t : TreeState) (s : Spot) (h : IsAt t s) (root : IsCaughtRoot (plug (l
   run_kept k sizes e q a i z inside c None run fit = c
   run_kept k sizes (CatchEntry x r f) q a i z inside c (Some es) run fit = absurd a
   run_kept k sizes (FindallEntry results l f) q a i z inside c (Some es) run fit = absurd a
-  run_kept zero sizes (EndEntry b) q a i z inside c (Some es) run fit = clash fit
+  run_kept zero sizes (EndEntry b) q a i z inside c (Some es) run fit = false_true fit
   run_kept (suc k) sizes (EndEntry b) q a i z inside c (Some es) run fit = absurd (none_some (sym (end_rests t s b k) ∙ run))
     where
       none_some : None ≡ Some es → ⊥
@@ -144,9 +143,9 @@ module _ (t : TreeState) (s : Spot) (h : IsAt t s) (root : IsCaughtRoot (plug (l
       let v = s.level in
       let up = s.above in
       let levels = levels_of s in
-      let fits = both_right (nat_le 1 k) _ fit in
-      let some = both_left (is_nonempty es) _ fits in
-      let shape = both_right (is_nonempty es) _ fits in
+      let fits = and-right (nat_le 1 k) _ fit in
+      let some = and-left (is_nonempty es) _ fits in
+      let shape = and-right (is_nonempty es) _ fits in
       let whole : plug levels (Pending s.hold (PlainEntry f)) ≡ t.root = ap (λ x. plug levels (Pending s.hold x)) (sym q) ∙ inside in
       let before : IsSound (list_before v up v.spent f) = subst IsSound
       (before_list v up s.hold f (subst (λ x. profile (Pending s.hold x) ≡ IsOpen) q h.opened))
@@ -168,7 +167,7 @@ publish_caught t w a k sizes i q l = go (taken_at w a t) refl (legal_parts t (No
     go : (o : Option Spot) → taken_at w a t ≡ o → at_spot o (λ s. nat_le 1 k && run_fits (length (levels_of s)) sizes (run_of t s k))
         ≡ true → t.halted ≡ None → IsCaughtTree
         (record (where_some o t (λ s. run_placed s k sizes (run_of t s k) t)) { history = t.history ++ Nodes w a k sizes ∷ [] })
-    go None e x running = clash x
+    go None e x running = false_true x
     go (Some s) e x running =
         let at = known_at w a t s i e in
         let o = taken_at_open w a t s e in

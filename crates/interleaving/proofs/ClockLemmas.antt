@@ -23,6 +23,7 @@ use Rattle.interleaving.proofs.PluggedLemmas.{IsIn, all_in}
 use Rattle.interleaving.proofs.ContextLemmas.{taken_out}
 use Rattle.interleaving.proofs.FrontLemmas.{leftmost_front}
 use Rattle.interleaving.proofs.LeadLemmas.{lead-quiet}
+use Rattle.interleaving.proofs.LegalLemmas.{awake_entry}
 
 pub quiet-append : (xs ys : List Element) → IsQuiet xs → IsQuiet ys → IsQuiet (xs ++ ys)
 quiet-append [] ys q r = r
@@ -115,12 +116,6 @@ one_credit (TakenBy w) e n o = refl
 one_credit (Waiting g) e n o = refl
 one_credit Dormant e n o = let no_way : ⊥ = cc in absurd no_way
 
-pub held_awake : (h : Hold) (e : Entry) → profile (Pending h e) ≡ IsOpen → IsHeldBy h e → IsAwake e
-held_awake Ready e o i = i
-held_awake (TakenBy w) e o i = i
-held_awake (Waiting g) e o i = i
-held_awake Dormant e o i = let no_way : ⊥ = cc in absurd no_way
-
 -- an entry that is awake is to be taken
 pub awake_stops : (way : Way) (e : Entry) (xs : List Element) → IsAwake e → lead (element_on way e ∷ xs) ≡ 0
 awake_stops [] (PlainEntry f) xs a = refl
@@ -165,7 +160,7 @@ first_known t h s ss p =
         let inside : IsIn t.root s = (subst (Each (IsIn t.root)) q (all_in t.root)).0 in
         let clear = clear_all (levels_of s) c in
         let parts = taken_out (levels_of s) (Pending s.hold s.entry) (subst (IsSound []) (sym inside) h.sound) in
-        let awake = held_awake s.hold s.entry o parts.1.1 in
+        let awake = awake_entry s.hold s.entry o parts.1.1 in
         let list = list_round t.root s inside o in
         let here : lead (CreditElement (spent_at (levels_of s)) []
         ∷ (element_on (way_of (levels_of s)) s.entry ∷ back_of (levels_of s)))
@@ -189,7 +184,7 @@ leftmost_known t h s l = go (pending_spots t) refl l
     go (r ∷ ss) p e = let same : r ≡ s = cc in subst (IsFirst t) same (first_known t h r ss p)
 
 -- where nothing is pending the list is quiet
-no_parts : {A : Type 0} → (xs ys : List A) → xs ++ ys ≡ [] → (xs ≡ []) × (ys ≡ [])
+pub no_parts : {A : Type 0} → (xs ys : List A) → xs ++ ys ≡ [] → (xs ≡ []) × (ys ≡ [])
 no_parts [] ys e = (refl, e)
 no_parts (x ∷ xs) ys e = let no_way : ⊥ = cc in absurd no_way
 

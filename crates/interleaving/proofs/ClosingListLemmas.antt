@@ -25,9 +25,7 @@ use Rattle.interleaving.specs.Sound.{IsSound}
 use Rattle.interleaving.specs.Follows.{Follows}
 use Rattle.interleaving.proofs.ListRoundLemmas.{around}
 use Rattle.interleaving.proofs.ContextLemmas.{IsLevel, IsAround, put_profiles, count_around, count_left}
-use Rattle.interleaving.proofs.WayLemmas.{same_self}
 use Rattle.interleaving.proofs.AppendLemmas.{append-assoc, each-append}
-use Rattle.interleaving.proofs.OpenSpotLemmas.{both_left, both_right}
 use Rattle.interleaving.proofs.RootLemmas.{are_told}
 use Rattle.interleaving.proofs.ListChangeLemmas.{quiet_early}
 use Rattle.interleaving.proofs.LeadLemmas.{lead-grows, follows_then, follows_itself}
@@ -38,9 +36,9 @@ use Rattle.interleaving.proofs.ListMarkLemmas.{no_left, findall_sleeps}
 use Rattle.interleaving.proofs.BlindLemmas.{of_node, front_blind, back_under, records_apart, off_levels}
 use Rattle.interleaving.proofs.FoldLemmas.{Passes, passes_becoming, LeftSides, SidesKept, closed_records}
 use Rattle.interleaving.proofs.FoldingLemmas.{fold_passes}
-
-clash : {A : Type 0} → false ≡ true → A
-clash h = let no_way : ⊥ = cc in absurd no_way
+use Rattle.interleaving.proofs.TestLemmas.{false_true, number_same}
+use Rattle.au_term.proofs.LogicLemmas.{and-right, and-left}
+use Rattle.interleaving.proofs.ListsSoundLemmas.{findall-kind}
 
 -- what sleeps after a first alternative is the one further
 pub record Guards (v : Level) (e : Entry) : Type 0 where
@@ -64,10 +62,10 @@ guards_of v up e i g = at_left v.left refl g
     at_right (alternative sp (Pending Dormant x) (alternative sq st others)) q l s d = absurd (too_many v.kind s)
       where
         too_many : (k : Kind) → is_shape k (IsOpen ∷ Sleeps (guards x) ∷ profile st ∷ profiles others) ≡ true → ⊥
-        too_many ChoiceNode z = clash z
-        too_many CatchNode z = clash z
-        too_many FindallNode z = clash z
-        too_many QueryNode z = clash z
+        too_many ChoiceNode z = false_true z
+        too_many CatchNode z = false_true z
+        too_many FindallNode z = false_true z
+        too_many QueryNode z = false_true z
 
     at_left : (left : List (ℕ × Status)) → v.left ≡ left
         → elim left as (λ l. Option Entry) [ [] ↦ dormant_right v.right | a ∷ rest ↦ None ] ≡ Some e → Guards v e
@@ -83,12 +81,6 @@ NotFindall (Some (CatchEntry c r f)) = Unit {0}
 NotFindall (Some (EndEntry b)) = Unit {0}
 NotFindall (Some (FindallEntry results l f)) = ⊥
 
-findall-kind : (k : Kind) → is_findall k ≡ true → k ≡ FindallNode
-findall-kind FindallNode h = refl
-findall-kind ChoiceNode h = clash h
-findall-kind CatchNode h = clash h
-findall-kind QueryNode h = clash h
-
 pub no_side : (v : Level) (up : List Level) → IsLevel up v IsOpen → (o : Option Entry) → guarded v ≡ o → NotFindall o
     → is_side v.kind (length v.left) ≡ false
 no_side v up i o g f = go (is_side v.kind (length v.left)) refl
@@ -96,8 +88,8 @@ no_side v up i o g f = go (is_side v.kind (length v.left)) refl
     go : (b : Bool) → is_side v.kind (length v.left) ≡ b → b ≡ false
     go false s = refl
     go true s =
-        let left : v.left ≡ [] = no_left v.left (both_right (is_findall v.kind) _ s) in
-        let entry = findall_sleeps v up i left (findall-kind v.kind (both_left (is_findall v.kind) _ s)) in
+        let left : v.left ≡ [] = no_left v.left (and-right (is_findall v.kind) _ s) in
+        let entry = findall_sleeps v up i left (findall-kind v.kind (and-left (is_findall v.kind) _ s)) in
         let found : guarded v ≡ Some (FindallEntry entry.0 entry.1 entry.2) = subst
         (λ l. Shows l v.right (FindallEntry entry.0 entry.1 entry.2)) (sym left)
         (subst (λ r. dormant_right r ≡ Some (FindallEntry entry.0 entry.1 entry.2)) (sym entry.3.right) refl) in
@@ -109,13 +101,13 @@ no_side v up i o g f = go (is_side v.kind (length v.left)) refl
 pub none_above : (v : Level) (up : List Level) → IsDistinct (v ∷ up) → count_around v.number up ≡ 0
 none_above v up d =
     let once = d v.number in
-    let here : one_if (v.number == v.number) ≡ 1 = ap one_if (same_self v.number) in
+    let here : one_if (v.number == v.number) ≡ 1 = ap one_if (number_same v.number) in
     omega (arith, once, here)
 
 pub none_left : (v : Level) (up : List Level) → IsDistinct (v ∷ up) → count_left v.number v.left ≡ 0
 none_left v up d =
     let once = d v.number in
-    let here : one_if (v.number == v.number) ≡ 1 = ap one_if (same_self v.number) in
+    let here : one_if (v.number == v.number) ≡ 1 = ap one_if (number_same v.number) in
     omega (arith, once, here)
 
 -- the closed place
@@ -157,7 +149,7 @@ gone_passes clauses v up c k r f g off z a =
       grown = are_told.root (λ m. m == n);
       front = each-append (IsBlind (of_node n)) (front_of (v ∷ up)) _ blind_left
           (blind_mine, (tt, tt));
-      own = ((same_self n, same_self n), tt);
+      own = ((number_same n, number_same n), tt);
       under = (tt, back_under n up z a);
       some = omega arith;
     } in

@@ -5,8 +5,10 @@ use Rattle.run_model.specs.Machine.Items.{Item, GoalItem, CatchMark, CollectMark
 use Rattle.tree_model.specs.Nodes.{Kind, ChoiceNode, CatchNode, FindallNode}
 use Rattle.tree_model.specs.PendingLists.{Step, Way}
 use Rattle.tree_model.specs.Ways.{same_kind, stops_cuts, is_barrier, in_reach, through, way_from, way_above, AreScoped}
-use Rattle.interleaving.proofs.WayLemmas.{cond-true, cond-false, reach-on, through-on, other_number, same_self}
+use Rattle.interleaving.proofs.WayLemmas.{cond-true, cond-false, reach-on, through-on, other_number}
 use Rattle.interleaving.proofs.RoundtripLemmas.{by_nodes, IsPath}
+use Rattle.au_term.proofs.LogicLemmas.{and-false}
+use Rattle.interleaving.proofs.TestLemmas.{number_same}
 
 -- a way and what it becomes: each step has its own, but for hidden ones, whose nodes no goal names
 pub data Collapses (name : ℕ → ℕ) (seen : ℕ → Bool) : Way → Way → Type 0 where
@@ -34,12 +36,8 @@ path-above (a ∷ way) s p = go (a.node == s) (path-above way s p.1)
 barrier_same : (a b : Step) → a.index ≡ b.index → a.kind ≡ b.kind → is_barrier a ≡ is_barrier b
 barrier_same a b i k = ap (λ n. (n == 0) && stops_cuts a.kind) i ∙ ap (λ j. (b.index == 0) && stops_cuts j) k
 
-and-last : (b : Bool) → (b && false) ≡ false
-and-last true = refl
-and-last false = refl
-
 choice_open : (a : Step) → a.kind ≡ ChoiceNode → is_barrier a ≡ false
-choice_open a k = ap (λ j. (a.index == 0) && stops_cuts j) k ∙ and-last (a.index == 0)
+choice_open a k = ap (λ j. (a.index == 0) && stops_cuts j) k ∙ and-false (a.index == 0)
 
 -- a scope in reach stays in reach
 pub record Reaches (name : ℕ → ℕ) (seen : ℕ → Bool) (u w : Way) (s : ℕ) : Type 0 where
@@ -56,7 +54,7 @@ reach_kept name seen u w s (kept a b u₁ w₁ n i k c) p v h = go (a.node == s)
         → cond x true (cond y false (in_reach u₁ s)) ≡ true → Reaches name seen (a ∷ u₁) (b ∷ w₁) s
     go true e y f r j =
         let same : a.node ≡ s = grind arith in
-        let here : (b.node == name s) ≡ true = ap (λ m. m == name s) (sym n ∙ ap name same) ∙ same_self (name s) in
+        let here : (b.node == name s) ≡ true = ap (λ m. m == name s) (sym n ∙ ap name same) ∙ number_same (name s) in
         record {
           reach = cond-true (b.node == name s) true _ here;
           rest = subst (λ x. Collapses name seen x (way_from (b ∷ w₁) (name s)))
@@ -109,7 +107,7 @@ through_kept kind q name seen u w s (kept a b u₁ w₁ n i k c) p h = go (a.nod
         (cond y false (through kind u₁ s)) ≡ true → GoesThrough kind name seen (a ∷ u₁) (b ∷ w₁) s
     go true e y f r j =
         let same : a.node ≡ s = grind arith in
-        let here : (b.node == name s) ≡ true = ap (λ m. m == name s) (sym n ∙ ap name same) ∙ same_self (name s) in
+        let here : (b.node == name s) ≡ true = ap (λ m. m == name s) (sym n ∙ ap name same) ∙ number_same (name s) in
         let side : ((b.index == 0) && same_kind b.kind kind) ≡ true = ap (λ m. (m == 0) && same_kind b.kind kind) (sym i)
         ∙ (ap (λ m. (a.index == 0) && same_kind m kind) (sym k) ∙ j) in
         record {

@@ -11,13 +11,14 @@ use Rattle.interleaving.specs.Segments.{Private}
 use Rattle.interleaving.specs.Views.{IsItemApart, IsRecordApart, IsBlind}
 use Rattle.interleaving.specs.Quiet.{IsQuiet, inferences, records}
 use Rattle.interleaving.specs.Laws.{OneCredit, EnoughCredit}
-use Rattle.interleaving.proofs.RunFrontLemmas.{append-none, map-none}
+use Rattle.interleaving.proofs.RunFrontLemmas.{map-none}
 use Rattle.interleaving.proofs.EarlyLemmas.{Ground, Runs, Early, early, both_early}
 use Rattle.interleaving.proofs.AloneLemmas.{private_runs}
 use Rattle.interleaving.proofs.ApartLemmas.{IsSoughtApart, blind_closed, inner_unseen}
 use Rattle.interleaving.proofs.InsideStepLemmas.{any_ground, woken_active}
 use Rattle.interleaving.proofs.QuietCreditLemmas.{outer-all, quiet-private}
 use Rattle.interleaving.proofs.EnoughLemmas.{enough, as_many}
+use Rattle.interleaving.proofs.AppendLemmas.{append-nil}
 
 abbrev pub none_inner : Record → Bool
 none_inner r = false
@@ -41,7 +42,7 @@ module _ (clauses : List Clause) where
       (quiet-private clauses none_inner xs c h))
 
   pub quiet_alone : (xs : List Element) → IsQuiet xs → Runs m (any_ground clauses) (inferences xs) (records xs) xs []
-  quiet_alone xs h = subst (λ l. Runs m (any_ground clauses) (inferences xs) (records xs) l []) (append-none xs) (quiet_any xs [] h)
+  quiet_alone xs h = subst (λ l. Runs m (any_ground clauses) (inferences xs) (records xs) l []) (append-nil xs) (quiet_any xs [] h)
 
   pub one_credit : OneCredit clauses
   one_credit inside pre xs zs h i f =
@@ -76,7 +77,7 @@ module _ (clauses : List Clause) where
       let sum : j + (k + 0) ≡ j + k = omega arith in
       let whole = one_credit (λ s. false) pre (Credit j rs ∷ Credit k qs ∷ []) zs tt (tt, (tt, tt)) (blind_none pre) n w in
       whole ∙ ap (λ i. seen (run m n w (free_steps m [] (pre ++ (Credit i (rs ++ (qs ++ [])) ∷ zs))))) sum
-      ∙ ap (λ l. seen (run m n w (free_steps m [] (pre ++ (Credit (j + k) (rs ++ l) ∷ zs))))) (append-none qs)
+      ∙ ap (λ l. seen (run m n w (free_steps m [] (pre ++ (Credit (j + k) (rs ++ l) ∷ zs))))) (append-nil qs)
 
   pub none_alike : (pre zs : List Element) → Alike m (pre ++ (Credit 0 [] ∷ zs)) (pre ++ zs)
   none_alike pre zs =

@@ -24,8 +24,7 @@ use Rattle.interleaving.specs.Views.{IsInner}
 use Rattle.interleaving.specs.Laws.{is_inner_record, IsSegment, MayBecome}
 use Rattle.interleaving.proofs.RoundtripLemmas.{by_heights}
 use Rattle.interleaving.proofs.OpenSpotLemmas.{IsOpenSpot}
-use Rattle.interleaving.proofs.AppendLemmas.{append-assoc, each-append}
-use Rattle.interleaving.proofs.RunFrontLemmas.{append-none}
+use Rattle.interleaving.proofs.AppendLemmas.{append-assoc, each-append, append-nil}
 use Rattle.interleaving.proofs.ListChangeLemmas.{becomes as private_becomes}
 use Rattle.interleaving.proofs.ClockLemmas.{AreClear, quiet-append}
 use Rattle.interleaving.proofs.ListEndLemmas.{ends_in}
@@ -221,7 +220,7 @@ module _ (t : TreeState) (i : IsSoundTree t) (k : IsCaughtTree t) (running : t.h
       ++ (cut t i k running s o f entry n reach below items part all g same_named same_next clear).under))
       (front ++ (Credit number l ∷ (x
       ∷ (EndOf h ∷ (given ++ (cut t i k running s o f entry n reach below items part all g same_named same_next clear).under))))))
-      (append-none rows)
+      (append-nil rows)
       (private_becomes clauses (cut t i k running s o f entry n reach below items part all g same_named same_next clear).inside number
       (rows ++ []) front (xs ++ (Plain own named ∷ mid)) (x ∷ (EndOf h ∷ given))
       (cut t i k running s o f entry n reach below items part all g same_named same_next clear).under

@@ -12,13 +12,14 @@ use Rattle.interleaving.specs.Segments.{all_inner, outer, placed_in, freed_alone
 use Rattle.interleaving.specs.Segments.{run_alone, Private}
 use Rattle.interleaving.specs.Views.{IsGrown, IsRecordApart, IsBlind, IsInner, IsUnder}
 use Rattle.interleaving.specs.Laws.{is_inner_record, alone, run_off, IsSegment, SameAlone}
-use Rattle.interleaving.proofs.RunFrontLemmas.{append-none, some-same, none-some}
+use Rattle.interleaving.proofs.RunFrontLemmas.{some-same, none-some}
 use Rattle.interleaving.proofs.EarlyLemmas.{Ground, Early, early}
 use Rattle.interleaving.proofs.AloneLemmas.{private_of_alone, private_runs, private-ok}
 use Rattle.interleaving.proofs.ApartLemmas.{IsSoughtApart, blind_closed, inner_unseen, inner-keeps}
 use Rattle.interleaving.proofs.InsideLemmas.{IsSoughtInner, IsAnyRecord, inner_closed, under_ground, kept_inside}
 use Rattle.interleaving.proofs.InsideStepLemmas.{woken_active, still_goes, inner_stands}
 use Rattle.interleaving.proofs.QuietCreditLemmas.{private-outer}
+use Rattle.interleaving.proofs.AppendLemmas.{append-nil}
 
 module _ (clauses : List Clause) where
   abbrev m : Machine Shared Element Sought Record
@@ -142,7 +143,7 @@ module _ (clauses : List Clause) where
       taken (Some t) next h =
           let whole = some-same (ahead first t) (rs, b) h in
           let none : t.0 ≡ [] = next t refl in
-          sym (ap (λ s. s.0) whole) ∙ ap (λ l. first ++ l) none ∙ append-none first ∙ settles-none inner [] a refl
+          sym (ap (λ s. s.0) whole) ∙ ap (λ l. first ++ l) none ∙ append-nil first ∙ settles-none inner [] a refl
 
       place : (o : Option (List Element))
           → option_map (ahead first) (go_on m inner (all_inner inner) o (run_alone m inner (all_inner inner) k)) ≡ Some (rs, b) → Later

@@ -3,8 +3,9 @@ use Rattle.std.proofs.Common.{◌≡◌, inl, inr, ℕ, zero, suc, false, List, 
 use Rattle.au_model.specs.Terms.Each.{Each}
 use Rattle.interleaving.specs.Machine.{Machine, Act, Vanishes, Wakes, Takes, Asks, On, Replacement, Put, gives, looked, search_for, placed}
 use Rattle.interleaving.specs.Machine.{freed, free_steps, acted, step, run, is_finished, seen, Alike}
-use Rattle.interleaving.proofs.RunFrontLemmas.{append-assoc-at, maps-append, map-seam, map-none, settle-map, PlaceOk, ActOk, Closed}
+use Rattle.interleaving.proofs.RunFrontLemmas.{maps-append, map-seam, map-none, settle-map, PlaceOk, ActOk, Closed}
 use Rattle.interleaving.proofs.RunFrontLemmas.{Unseen, gives-unseen, map-unseen, search-unseen, Freed, freed-found, placed-found}
+use Rattle.interleaving.proofs.AppendLemmas.{append-assoc}
 
 module _ {W X Q R : Type 0} (m : Machine W X Q R) where
   -- what may be under a segment, and credits: inferences that change nothing, and records
@@ -58,7 +59,7 @@ module _ {W X Q R : Type 0} (m : Machine W X Q R) where
         ap (λ t. (w, t)) (h.4 (map (gives m before) zs) (z-map before zs z))
         ∙ sym (ap (λ l. seen (w, l)) (next_front k (before ++ rs) (b ++ zs)))
     front (suc k) (suc n) w before rs a b zs h z e =
-        let same : before ++ rs ≡ (before ++ h.1) ++ h.2 = ap (λ l. before ++ l) h.3 ∙ sym (append-assoc-at before h.1 h.2) in
+        let same : before ++ rs ≡ (before ++ h.1) ++ h.2 = ap (λ l. before ++ l) h.3 ∙ sym (append-assoc before h.1 h.2) in
         let left = h.5 w (map (gives m before) zs) (z-map before zs z) in
         let right = ap (λ l. step m w l) (next_front k (before ++ rs) (b ++ zs)) ∙ next_step k (before ++ rs) w (b ++ zs) in
         ap (λ s. seen (run m n s.0 s.1)) left ∙ ap (λ l. seen (run m n w (free_steps m [] (h.0 ++ l))))

@@ -26,6 +26,7 @@ use Rattle.interleaving.proofs.QuietCreditLemmas.{gives-fixed}
 use Rattle.interleaving.proofs.PassingLemmas.{credits_pass}
 use Rattle.interleaving.proofs.LeadLemmas.{IsParted, parted, goes_on}
 use Rattle.interleaving.proofs.ClockLemmas.{IsFirst, none_left}
+use Rattle.interleaving.proofs.TestLemmas.{false_true}
 
 -- whether the end of a query is in a list
 abbrev pub has_end : List Element → Bool
@@ -128,9 +129,6 @@ pub record HasQueryEnd (v : Level) : Type 0 where
   pub left : v.left ≡ []
   pub right : v.right ≡ alternative spent (Pending Dormant (EndEntry ball)) none
 
-clash : {A : Type 0} → false ≡ true → A
-clash h = let no_way : ⊥ = cc in absurd no_way
-
 query_pair : (v : Level) (up : List Level) → v.kind ≡ QueryNode → (length v.left == 0) ≡ true → IsLevel up v IsOpen → HasQueryEnd v
 query_pair v up k z i = left_end v.left refl z
   where
@@ -138,30 +136,30 @@ query_pair v up k z i = left_end v.left refl z
     shape = subst (λ kind. is_shape kind (level_profiles v IsOpen) ≡ true) k i.shape
 
     right_end : (r : Alternatives) → v.right ≡ r → v.left ≡ [] → are_pair QueryNode (IsOpen ∷ profiles r) ≡ true → HasQueryEnd v
-    right_end none e l h = clash h
-    right_end (alternative sp status (alternative sq other others)) e l h = clash h
-    right_end (alternative sp (Closed c) none) e l h = clash h
-    right_end (alternative sp (Inner node) none) e l h = clash h
-    right_end (alternative sp (Pending Ready x) none) e l h = clash h
-    right_end (alternative sp (Pending (TakenBy w) x) none) e l h = clash h
-    right_end (alternative sp (Pending (Waiting g) x) none) e l h = clash h
-    right_end (alternative sp (Pending Dormant (PlainEntry f)) none) e l h = clash h
-    right_end (alternative sp (Pending Dormant (CatchEntry c r f)) none) e l h = clash h
-    right_end (alternative sp (Pending Dormant (FindallEntry results list f)) none) e l h = clash h
+    right_end none e l h = false_true h
+    right_end (alternative sp status (alternative sq other others)) e l h = false_true h
+    right_end (alternative sp (Closed c) none) e l h = false_true h
+    right_end (alternative sp (Inner node) none) e l h = false_true h
+    right_end (alternative sp (Pending Ready x) none) e l h = false_true h
+    right_end (alternative sp (Pending (TakenBy w) x) none) e l h = false_true h
+    right_end (alternative sp (Pending (Waiting g) x) none) e l h = false_true h
+    right_end (alternative sp (Pending Dormant (PlainEntry f)) none) e l h = false_true h
+    right_end (alternative sp (Pending Dormant (CatchEntry c r f)) none) e l h = false_true h
+    right_end (alternative sp (Pending Dormant (FindallEntry results list f)) none) e l h = false_true h
     right_end (alternative sp (Pending Dormant (EndEntry b)) none) e l h = record { spent = sp; ball = b; left = l; right = e }
 
     left_end : (left : List (ℕ × Status)) → v.left ≡ left → (length v.left == 0) ≡ true → HasQueryEnd v
     left_end [] e z = right_end v.right refl e (subst (λ l. are_pair QueryNode (put_profiles l (IsOpen ∷ profiles v.right)) ≡ true) e shape)
-    left_end (a ∷ left) e z = clash (more (length left) (ap (λ l. length l == 0) (sym e) ∙ z))
+    left_end (a ∷ left) e z = false_true (more (length left) (ap (λ l. length l == 0) (sym e) ∙ z))
       where
         more : (n : ℕ) → (suc n == 0) ≡ true → false ≡ true
         more n h = let no_way : ⊥ = grind arith in absurd no_way
 
 is-query : (k : Kind) → is_query k ≡ true → k ≡ QueryNode
 is-query QueryNode h = refl
-is-query ChoiceNode h = clash h
-is-query CatchNode h = clash h
-is-query FindallNode h = clash h
+is-query ChoiceNode h = false_true h
+is-query CatchNode h = false_true h
+is-query FindallNode h = false_true h
 
 -- a level is a query's goal side, or the query is above it
 pub query_here : (v : Level) (up : List Level) → IsLevel up v IsOpen → under_query (way_of (v ∷ up)) ≡ true
@@ -177,7 +175,7 @@ right_has_end : (way : Way) (v : Level) → HasQueryEnd v → has_end (list_righ
 right_has_end way v h = subst (λ r. has_end (list_among way v.number v.kind (suc (length v.left)) r) ≡ true) (sym h.right) refl
 
 pub back_end : (levels : List Level) → IsAround levels IsOpen → under_query (way_of levels) ≡ true → has_end (back_of levels) ≡ true
-back_end [] h u = clash u
+back_end [] h u = false_true u
 back_end (v ∷ up) h u = pick (query_here v up h.0 u) (λ q. back_end up h.1 q)
   where
     pick : (is_query v.kind ≡ true × HasQueryEnd v) ⊎ ((is_query v.kind ≡ false) × (under_query (way_of up) ≡ true))
@@ -202,9 +200,9 @@ entry_end [] (EndEntry b) h i = refl
 entry_end (v ∷ up) (EndEntry b) h i = refl
 entry_end levels (PlainEntry f) h i = end_after (element_on (way_of levels) (PlainEntry f) ∷ []) (back_of levels)
     (back_end levels h i.asked)
-entry_end [] (CatchEntry c r f) h i = clash i.asked
+entry_end [] (CatchEntry c r f) h i = false_true i.asked
 entry_end (v ∷ up) (CatchEntry c r f) h i = end_after (list_right (way_of up) v) (back_of up) (back_end up h.1 i.asked)
-entry_end [] (FindallEntry results l f) h i = clash i.asked
+entry_end [] (FindallEntry results l f) h i = false_true i.asked
 entry_end (v ∷ up) (FindallEntry results l f) h i = end_after (list_right (way_of up) v) (back_of up) (back_end up h.1 i.asked)
 
 pub first_end : (t : TreeState) (s : Spot) → IsSoundTree t → IsFirst t s → has_end (pending_list t.root) ≡ true

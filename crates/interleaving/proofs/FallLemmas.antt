@@ -19,8 +19,8 @@ use Rattle.tree_model.specs.Ways.{is_on}
 use Rattle.tree_model.specs.SoundTrees.{IsOpen, profiles, guards, is_shape}
 use Rattle.tree_model.specs.CaughtTrees.{catch_right, with_catch, MarksCaught, AreCaught}
 use Rattle.interleaving.proofs.ContextLemmas.{put_profiles, IsLevel, IsAround}
-use Rattle.interleaving.proofs.WayLemmas.{cond-true, cond-false, same_self, other_number}
-use Rattle.interleaving.proofs.RoundtripLemmas.{by_heights, height_low, height_positive, not_same}
+use Rattle.interleaving.proofs.WayLemmas.{cond-true, cond-false, other_number}
+use Rattle.interleaving.proofs.RoundtripLemmas.{by_heights, height_low, height_positive}
 use Rattle.interleaving.proofs.EntryLemmas.{length-floor}
 use Rattle.interleaving.proofs.BallStackLemmas.{nothing_takes, sleeps_first}
 use Rattle.tree_model.specs.Closing.{dormant_right}
@@ -30,9 +30,7 @@ use Rattle.interleaving.proofs.ListScopeLemmas.{sleeps_on}
 use Rattle.interleaving.proofs.ListsSoundLemmas.{under_of}
 use Rattle.interleaving.proofs.ListMarkLemmas.{no_left, SleepsRight, catch_sleeps}
 use Rattle.interleaving.proofs.CaughtContextLemmas.{RootCaught, level_caught}
-
-clash : {A : Type 0} → false ≡ true → A
-clash h = let no_way : ⊥ = cc in absurd no_way
+use Rattle.interleaving.proofs.TestLemmas.{false_true, not_equal, number_same}
 
 -- the level of the catch that takes the ball, those above it, the recovery, what follows the catch, and the unifier
 pub data Fall : Type 0 where
@@ -107,7 +105,7 @@ marks_off sleeps n [] h = tt
 marks_off sleeps n (CatchMark s ∷ items) h = (off (n == s) h.0, marks_off sleeps n items h.1)
   where
     off : (b : Bool) → cond b false (sleeps s) ≡ true → sleeps s ≡ true
-    off true k = clash k
+    off true k = false_true k
     off false k = k
 marks_off sleeps n (GoalItem t s ∷ items) h = marks_off sleeps n items h
 marks_off sleeps n (CollectMark t s ∷ items) h = marks_off sleeps n items h
@@ -115,7 +113,7 @@ marks_off sleeps n (RemovalItem m ∷ items) h = marks_off sleeps n items h
 
 -- a recovery that sleeps is on the branch
 pub sleeps_way : (levels : List Level) (s : ℕ) → sleeps_on levels s ≡ true → is_on (way_of levels) s ≡ true
-sleeps_way [] s h = clash h
+sleeps_way [] s h = false_true h
 sleeps_way (v ∷ up) s h = go (v.number == s) (sleeps_way up s) h
   where
     go : (b : Bool) → (sleeps_on up s ≡ true → is_on (way_of up) s ≡ true) → cond b (catch_right v.right) (sleeps_on up s) ≡ true
@@ -148,7 +146,7 @@ abbrev Lands : Term → List Level → Option ℕ → Type 0
 Lands ball levels mark = unwound ball (mark_height levels mark) (floor_of levels) ≡ fall_entries ball (fall ball levels mark)
 
 low_minus : (n k : ℕ) → 1 ≤ k → k ≤ n → (k - 1 == n) ≡ false
-low_minus n k a b = not_same (k - 1) n (omega (arith, a, b))
+low_minus n k a b = not_equal (k - 1) n (omega (arith, a, b))
 
 height_some : (levels : List Level) (s : ℕ) → is_on (way_of levels) s ≡ true → 1 ≤ height_of levels s
 height_some levels s h = let z = height_positive levels s h in omega (arith, z)
@@ -165,7 +163,7 @@ falls_here ball v up x r f s q further = subst Stays (sym q) (marked ∙ at_catc
 
     own : (suc (length up) - 1 == length (floor_of up)) ≡ true
     own = ap (λ n. n == length (floor_of up)) (let z : suc (length up) - 1 ≡ length up = omega arith in z)
-        ∙ (ap (λ n. length up == n) (length-floor up) ∙ same_self (length up))
+        ∙ (ap (λ n. length up == n) (length-floor up) ∙ number_same (length up))
 
     g : Continuation ℕ
     g = by_heights_of up f
@@ -193,7 +191,7 @@ sleeper_marks v up status x r f s h q = marks_off (sleeps_on up) v.number f.item
 pub landing_falls : (ball : Term) (levels : List Level) (status : Status) (mark : Option ℕ) → IsAround levels IsOpen
     → RootCaught (plug levels status) → MarkSleeps levels mark → Lands ball levels mark
 landing_falls ball [] status None a h m = refl
-landing_falls ball [] status (Some s) a h m = clash m
+landing_falls ball [] status (Some s) a h m = false_true m
 landing_falls ball (v ∷ up) status None a h m = nothing_takes ball (floor_of (v ∷ up))
 landing_falls ball (v ∷ up) status (Some s) a h m = go (v.number == s) refl m
     (λ k l. landing_falls ball up (Inner (level_node v status)) k a.1 h l)
@@ -266,7 +264,7 @@ fall_taken ball (v ∷ up) status (Some s) a h m = go (v.number == s) refl m
           unifies = z;
           sleeper = q;
           down = cond-true (v.number == v.number) (v ∷ up) (levels_down up v.number)
-              (same_self v.number);
-          on = cond-true (v.number == v.number) true (is_on (way_of up) v.number) (same_self v.number);
+              (number_same v.number);
+          on = cond-true (v.number == v.number) true (is_on (way_of up) v.number) (number_same v.number);
         }
         at_catch x r f q None z t = t

@@ -19,7 +19,8 @@ use Rattle.interleaving.specs.Scopes.{left_standing, Shared, Sought, Scope, Thro
 use Rattle.interleaving.specs.Scopes.{reply_place, named_test_items, control_place, goal_act, removed, unmarked, item_act, act, recovery_look, look}
 use Rattle.interleaving.specs.Scopes.{findall_with_result, give, scoped}
 use Rattle.interleaving.specs.Views.{IsApart, IsBeside}
-use Rattle.interleaving.proofs.RunFrontLemmas.{each-append, append-assoc-at, PlaceOk, ActOk, LookOk, Closed}
+use Rattle.interleaving.proofs.RunFrontLemmas.{each-append, PlaceOk, ActOk, LookOk, Closed}
+use Rattle.interleaving.proofs.AppendLemmas.{append-assoc}
 
 module _ (inside : Name → Bool) where
   abbrev pub IsItemFar : Item Name → Type 0
@@ -72,7 +73,7 @@ module _ (clauses : List Clause) (inside : Name → Bool) where
   LookBlind a = LookOk (scoped clauses) (IsFar inside) IsSoughtFar IsAnyRecord a
 
   beside_child : (s : Name) (i : ℕ) → IsBeside inside s → IsBeside inside (i ∷ s)
-  beside_child s i h = λ more. ap inside (sym (append-assoc-at more (i ∷ []) s)) ∙ h (more ++ i ∷ [])
+  beside_child s i h = λ more. ap inside (sym (append-assoc more (i ∷ []) s)) ∙ h (more ++ i ∷ [])
 
   goals-apart : (h : Name) (gs : List Term) (items : S) → Apart h → Items items → Items (goals_at h gs ++ items)
   goals-apart h [] items k i = i

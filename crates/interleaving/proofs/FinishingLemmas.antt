@@ -15,14 +15,9 @@ use Rattle.interleaving.specs.Scopes.{Shared, scoped}
 use Rattle.interleaving.specs.Quiet.{IsQuiet, inferences}
 use Rattle.interleaving.specs.Counted.{counted_steps}
 use Rattle.interleaving.specs.Follows.{lead}
-use Rattle.interleaving.proofs.ClockLemmas.{no_root}
+use Rattle.interleaving.proofs.ClockLemmas.{no_root, no_parts}
 use Rattle.interleaving.proofs.LeadLemmas.{lead-quiet}
 use Rattle.interleaving.proofs.PassingLemmas.{credits_end}
-
--- below the first node something is pending
-no_parts : {A : Type 0} → (xs ys : List A) → xs ++ ys ≡ [] → (xs ≡ []) × (ys ≡ [])
-no_parts [] ys e = (refl, e)
-no_parts (x ∷ xs) ys e = let no_way : ⊥ = cc in absurd no_way
 
 open_pending : (way : Way) (up : List Level) (n : ℕ) (kind : Kind) (i : ℕ) (left : List (ℕ × Status)) (others : Alternatives)
     → some_open (profiles others) ≡ true → (way ≡ [] → ⊥) → AreSound way n kind i others → pending_among up n kind left others ≡ [] → ⊥

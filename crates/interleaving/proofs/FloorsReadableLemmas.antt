@@ -16,15 +16,7 @@ use Rattle.interleaving.specs.FloorLaws.{Tells}
 use Rattle.interleaving.proofs.NamingLemmas.{length-erased}
 use Rattle.interleaving.proofs.SeamLemmas.{Seam, seam}
 use Rattle.interleaving.proofs.OwnInferenceLemmas.{floor-low}
-
-count-append : (xs ls : List Element) → element_count (xs ++ ls) ≡ element_count xs + element_count ls
-count-append [] ls = omega arith
-count-append (EndOf e ∷ xs) ls = count-append xs ls
-count-append (Credit k rs ∷ xs) ls = omega (arith, count-append xs ls)
-count-append (Plain p f ∷ xs) ls = omega (arith, count-append xs ls)
-count-append (Catch e u c r p f ∷ xs) ls = omega (arith, count-append xs ls)
-count-append (Findall e u results list p f ∷ xs) ls = omega (arith, count-append xs ls)
-count-append (End p b ∷ xs) ls = omega (arith, count-append xs ls)
+use Rattle.interleaving.proofs.FloorLemmas.{count-append}
 
 abbrev cont_of : List NamedTerm → ℕ → List (Item ℕ) → Continuation ℕ
 cont_of named next items = record { items = items; named = named; next = next }

@@ -7,7 +7,6 @@ use Rattle.au_model.specs.Terms.Each.{Each}
 use Rattle.run_model.specs.Machine.Items.{Item, GoalItem, CatchMark, CollectMark, RemovalItem}
 use Rattle.interleaving.specs.Machine.{free_steps, run, seen}
 use Rattle.interleaving.specs.Scopes.{Shared, scoped}
-use Rattle.interleaving.proofs.RunFrontLemmas.{append-none}
 use Rattle.run_model.specs.Programs.Clauses.{Clause}
 use Rattle.tree_model.specs.Credits.{Credit as TreeCredit, greatest, added, no_credit}
 use Rattle.tree_model.specs.Nodes.{Kind, Alternatives, none, alternative, Status, Pending, Inner, Closed}
@@ -24,7 +23,7 @@ use Rattle.interleaving.specs.Views.{IsBlind, IsRecordApart, IsItemApart}
 use Rattle.interleaving.specs.Sound.{IsSound}
 use Rattle.interleaving.specs.Follows.{lead, Follows}
 use Rattle.interleaving.proofs.ListRoundLemmas.{around}
-use Rattle.interleaving.proofs.AppendLemmas.{append-assoc}
+use Rattle.interleaving.proofs.AppendLemmas.{append-assoc, append-nil}
 use Rattle.interleaving.proofs.CreditLawLemmas.{as_many_credit}
 use Rattle.interleaving.proofs.SoundEarlyLemmas.{sound_exchange, sound-after}
 use Rattle.interleaving.proofs.LeadLemmas.{lead-bounded, follows_then, follows_becoming, follows_itself}
@@ -32,6 +31,7 @@ use Rattle.interleaving.proofs.ClockLemmas.{quiet-append, inferences-append}
 use Rattle.interleaving.proofs.EndLemmas.{has_end, settles_before}
 use Rattle.interleaving.proofs.ListScopeLemmas.{sleeps_on}
 use Rattle.interleaving.proofs.ListsSoundLemmas.{under_of}
+use Rattle.interleaving.proofs.RunFrontLemmas.{some-same}
 
 -- a list follows another, and keeps names sound
 pub record Passes (clauses : List Clause) (xs ys : List Element) : Type 0 where
@@ -186,12 +186,9 @@ totals-append way xs ys a b h k =
           ∙ (ap (λ l. named_by way a.records ++ l) k.rows ∙ sym (named-append way a.records b.records)));
     }
 
-some-of : {A : Type 0} → (a b : A) → Some a ≡ Some b → a ≡ b
-some-of a b e = cc
-
 left_totals : (way : Way) (n : ℕ) (kind : Kind) (left : List (ℕ × Status)) (d : TreeCredit) → LeftSides kind left → all_left left
     ≡ Some d → Totals way (list_left way n kind left) d
-left_totals way n kind [] d h e = subst (Totals way []) (some-of no_credit d e) (record { quiet = tt; sum = omega arith; rows = refl })
+left_totals way n kind [] d h e = subst (Totals way []) (some-same no_credit d e) (record { quiet = tt; sum = omega arith; rows = refl })
 left_totals way n kind ((spent, Pending hold x) ∷ left) d h e = absurd (nothing (all_left left) e)
   where
     nothing : (o : Option TreeCredit) → and_then o None ≡ Some d → ⊥
@@ -208,16 +205,16 @@ left_totals way n kind ((spent, Closed c) ∷ left) d h e = go (all_left left) r
         → ((b : TreeCredit) → all_left left ≡ Some b → Totals way (list_left way n kind left) b)
         → Totals way (list_left way n kind ((spent, Closed c) ∷ left)) d
     go None q e f = let no_way : ⊥ = cc in absurd no_way
-    go (Some b) q e f = subst (Totals way (list_left way n kind ((spent, Closed c) ∷ left))) (some-of (added b c) d e)
+    go (Some b) q e f = subst (Totals way (list_left way n kind ((spent, Closed c) ∷ left))) (some-same (added b c) d e)
         (totals-append way (list_left way n kind left) _ b c (f b q)
-        (record { quiet = tt; sum = bound c; rows = append-none _ ∙ closed_records way n (length left) kind c.records h.0 }))
+        (record { quiet = tt; sum = bound c; rows = append-nil _ ∙ closed_records way n (length left) kind c.records h.0 }))
       where
         bound : (c : TreeCredit) → min greatest c.inferences ≡ min greatest (c.inferences + 0)
         bound c = omega arith
 
 right_totals : (way : Way) (n : ℕ) (kind : Kind) (i : ℕ) (others : Alternatives) (d : TreeCredit) → all_right others ≡ Some d
     → Totals way (EndOf (i ∷ n ∷ []) ∷ list_among way n kind (suc i) others) d
-right_totals way n kind i none d e = subst (Totals way (EndOf (i ∷ n ∷ []) ∷ [])) (some-of no_credit d e)
+right_totals way n kind i none d e = subst (Totals way (EndOf (i ∷ n ∷ []) ∷ [])) (some-same no_credit d e)
     (record { quiet = tt; sum = omega arith; rows = refl })
 right_totals way n kind i (alternative spent (Pending hold x) others) d e = let no_way : ⊥ = cc in absurd no_way
 right_totals way n kind i (alternative spent (Inner node) others) d e = let no_way : ⊥ = cc in absurd no_way
@@ -233,7 +230,7 @@ right_totals way n kind i (alternative spent (Closed c) others) d e = go (all_ri
         no_side false false e h = cc
 
     one : Totals way (EndOf (i ∷ n ∷ []) ∷ (balance_on (record { node = n; index = suc i; kind = kind } ∷ way) c ∷ [])) c
-    one = record { quiet = tt; sum = omega arith; rows = append-none _ ∙ closed_records way n (suc i) kind c.records later }
+    one = record { quiet = tt; sum = omega arith; rows = append-nil _ ∙ closed_records way n (suc i) kind c.records later }
 
     go : (o : Option TreeCredit) → all_right others ≡ o → and_then (Some c) o ≡ Some d
         → ((b : TreeCredit) → all_right others ≡ Some b
@@ -241,7 +238,7 @@ right_totals way n kind i (alternative spent (Closed c) others) d e = go (all_ri
         → Totals way (EndOf (i ∷ n ∷ []) ∷ list_among way n kind (suc i) (alternative spent (Closed c) others)) d
     go None q e f = let no_way : ⊥ = cc in absurd no_way
     go (Some b) q e f = subst (Totals way (EndOf (i ∷ n ∷ []) ∷ list_among way n kind (suc i) (alternative spent (Closed c) others)))
-        (some-of (added c b) d e) (totals-append way
+        (some-same (added c b) d e) (totals-append way
         (EndOf (i ∷ n ∷ []) ∷ (balance_on (record { node = n; index = suc i; kind = kind } ∷ way) c ∷ [])) _ c b one (f b q))
 
 -- the whole node
@@ -267,7 +264,7 @@ node_totals up v c total sides off e = go (all_left v.left) refl (all_right v.ri
         let mine : Totals way (balance_on (way_of (v ∷ up)) c ∷ []) c = record {
           quiet = tt;
           sum = bound c;
-          rows = append-none _ ∙ closed_records way v.number (length v.left) v.kind c.records
+          rows = append-nil _ ∙ closed_records way v.number (length v.left) v.kind c.records
               (λ s. absurd (clash_at s));
         } in
         let right = right_totals way v.number v.kind (length v.left) v.right b q in
@@ -275,7 +272,7 @@ node_totals up v c total sides off e = go (all_left v.left) refl (all_right v.ri
         (added a c) b (totals-append way (list_left way v.number v.kind v.left) (balance_on (way_of (v ∷ up)) c ∷ []) a c left mine)
         right in
         subst (λ d. Totals way (list_left way v.number v.kind v.left ++ (balance_on (way_of (v ∷ up)) c ∷ list_right way v)) d)
-        (some-of (added (added a c) b) total e)
+        (some-same (added (added a c) b) total e)
         (subst (λ l. Totals way l (added (added a c) b))
         (append-assoc (list_left way v.number v.kind v.left) (balance_on (way_of (v ∷ up)) c ∷ []) (list_right way v)) both)
       where

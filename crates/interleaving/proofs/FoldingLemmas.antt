@@ -19,7 +19,6 @@ use Rattle.interleaving.specs.Quiet.{inferences, records}
 use Rattle.interleaving.specs.Views.{IsInner, IsRecordApart}
 use Rattle.interleaving.specs.Follows.{lead}
 use Rattle.interleaving.proofs.ContextLemmas.{IsAround, count_around}
-use Rattle.interleaving.proofs.WayLemmas.{same_self}
 use Rattle.interleaving.proofs.AppendLemmas.{each-append}
 use Rattle.interleaving.proofs.RootLemmas.{are_told}
 use Rattle.interleaving.proofs.ListChangeLemmas.{quiet_early}
@@ -28,6 +27,7 @@ use Rattle.interleaving.proofs.EndLemmas.{has_end}
 use Rattle.interleaving.proofs.BlindLemmas.{of_node, front_blind, back_under, records_apart, off_levels}
 use Rattle.interleaving.proofs.FoldLemmas.{Passes, passes_becoming, passes_then, credit_counted, LeftSides, node_list, node_totals}
 use Rattle.interleaving.proofs.FoldLemmas.{closed_round}
+use Rattle.interleaving.proofs.TestLemmas.{number_same}
 
 inner-append : (n : ℕ) (xs ys : List Element) → Each (IsInner (of_node n)) xs → Each (IsInner (of_node n)) ys
     → Each (IsInner (of_node n)) (xs ++ ys)
@@ -52,7 +52,7 @@ left_inner way n kind ((spent, Closed c) ∷ left) d e = go (all_left left) refl
         → ((b : TreeCredit) → all_left left ≡ Some b → Each (IsInner (of_node n)) (list_left way n kind left))
         → Each (IsInner (of_node n)) (list_left way n kind ((spent, Closed c) ∷ left))
     go None q e f = let no_way : ⊥ = cc in absurd no_way
-    go (Some b) q e f = inner-append n (list_left way n kind left) _ (f b q) (tt, (same_self n, tt))
+    go (Some b) q e f = inner-append n (list_left way n kind left) _ (f b q) (tt, (number_same n, tt))
 
 right_inner : (way : Way) (n : ℕ) (kind : Kind) (i : ℕ) (others : Alternatives) (d : TreeCredit) → all_right others ≡ Some d
     → Each (IsInner (of_node n)) (list_among way n kind i others)
@@ -66,7 +66,7 @@ right_inner way n kind i (alternative spent (Closed c) others) d e = go (all_rig
         → ((b : TreeCredit) → all_right others ≡ Some b → Each (IsInner (of_node n)) (list_among way n kind (suc i) others))
         → Each (IsInner (of_node n)) (list_among way n kind i (alternative spent (Closed c) others))
     go None q e f = let no_way : ⊥ = cc in absurd no_way
-    go (Some b) q e f = (tt, (same_self n, f b q))
+    go (Some b) q e f = (tt, (number_same n, f b q))
 
 outer_apart : (n : ℕ) (rs : List Record) → Each (IsRecordApart (of_node n)) rs → outer (is_inner_record (of_node n)) rs ≡ rs
 outer_apart n [] h = refl
@@ -124,4 +124,4 @@ fold_passes clauses v up c total sides off e none_above a end =
     inner_parts (Some x) p None q e = let no_way : ⊥ = cc in absurd no_way
     inner_parts (Some x) p (Some y) q e = inner-append v.number (list_left (way_of up) v.number v.kind v.left) _
         (left_inner (way_of up) v.number v.kind v.left x p)
-        (tt, (same_self v.number, right_inner (way_of up) v.number v.kind (suc (length v.left)) v.right y q))
+        (tt, (number_same v.number, right_inner (way_of up) v.number v.kind (suc (length v.left)) v.right y q))

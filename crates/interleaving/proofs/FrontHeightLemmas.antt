@@ -20,12 +20,13 @@ use Rattle.interleaving.specs.HeightMachine.{HeightEntry}
 use Rattle.interleaving.specs.Erased.{from, element_count, height, with_height, erased}
 use Rattle.interleaving.proofs.ContextLemmas.{count_around}
 use Rattle.interleaving.proofs.ClosingSoundLemmas.{IsFree, free-above}
-use Rattle.interleaving.proofs.WayLemmas.{reach-on, through-on, same_self}
+use Rattle.interleaving.proofs.WayLemmas.{reach-on, through-on}
 use Rattle.interleaving.proofs.RoundtripLemmas.{by_heights, height_positive, node_height, part_from, part_above}
 use Rattle.interleaving.proofs.EntryLemmas.{own_height}
-use Rattle.interleaving.proofs.NamingLemmas.{from_end, from_own}
+use Rattle.interleaving.proofs.NamingLemmas.{from_end, from_own, heights-resolved}
 use Rattle.interleaving.proofs.NamedFloorLemmas.{scope-above, scope-here, from-other}
 use Rattle.interleaving.proofs.PlacedNameLemmas.{olders, from_olders, other_node}
+use Rattle.interleaving.proofs.TestLemmas.{number_same}
 
 -- a new number is named by no height
 node_free : (next : ℕ) (levels : List Level) → IsFree next levels → 1 ≤ next → (h : ℕ) → node_of levels h ≡ next → ⊥
@@ -36,24 +37,15 @@ node_free next (v ∷ up) f l h e = go (h == suc (length up)) (node_free next up
     go false k z = k z
     go true k z =
         let none_there : count_around next (v ∷ up) ≡ 0 = f.fresh next (omega arith) in
-        let here : one_if (v.number == next) ≡ 1 = ap one_if (ap (λ n. n == next) z ∙ same_self next) in
+        let here : one_if (v.number == next) ≡ 1 = ap one_if (ap (λ n. n == next) z ∙ number_same next) in
         omega (arith, none_there, here)
 
 next_some : (next : ℕ) (v : Level) (up : List Level) → IsFree next (v ∷ up) → 1 ≤ next
 next_some zero v up f =
     let none_there : count_around v.number (v ∷ up) ≡ 0 = f.fresh v.number (omega arith) in
-    let here : one_if (v.number == v.number) ≡ 1 = ap one_if (same_self v.number) in
+    let here : one_if (v.number == v.number) ≡ 1 = ap one_if (number_same v.number) in
     let no_way : ⊥ = omega (arith, none_there, here) in absurd no_way
 next_some (suc n) v up f = omega arith
-
--- bindings change no scope
-pub resolved_heights : (h : Name → ℕ) (o : Substitution) (items : List (Item Name)) → map (with_height h) (map (resolve_item o) items)
-    ≡ map (resolve_item o) (map (with_height h) items)
-resolved_heights h o [] = refl
-resolved_heights h o (GoalItem t s ∷ items) = ap (λ l. resolve_item o (GoalItem t (h s)) ∷ l) (resolved_heights h o items)
-resolved_heights h o (CatchMark s ∷ items) = ap (λ l. CatchMark (h s - 1) ∷ l) (resolved_heights h o items)
-resolved_heights h o (CollectMark t s ∷ items) = ap (λ l. resolve_item o (CollectMark t (h s - 1)) ∷ l) (resolved_heights h o items)
-resolved_heights h o (RemovalItem n ∷ items) = ap (λ l. RemovalItem n ∷ l) (resolved_heights h o items)
 
 pub resolved_names : (f g : ℕ → ℕ) (o : Substitution) (items : List (Item ℕ)) → map (renamed_item f g) (map (resolve_item o) items)
     ≡ map (resolve_item o) (map (renamed_item f g) items)
@@ -162,7 +154,7 @@ module _ (v : Level) (up : List Level) (next : ℕ) (free : IsFree next (v ∷ u
   pub top_height : tall (suc (length up)) ≡ element_count rest
   top_height = ap (λ n. height rest (scope_on way n)) (own_height v up)
       ∙ (ap (height rest) (scope-here (record { node = v.number; index = length v.left; kind = v.kind }) (way_of up) v.number
-      (same_self v.number)) ∙ ap element_count (from_own (length v.left ∷ v.number ∷ []) tail))
+      (number_same v.number)) ∙ ap element_count (from_own (length v.left ∷ v.number ∷ []) tail))
 
   over_own : (n : ℕ) → height (EndOf own ∷ rest) (scope_on way n) ≡ height rest (scope_on way n)
   over_own n = ap element_count (from_end own (scope_on way n) rest (scope_short way n 0 (length v.left) v.number))
@@ -201,7 +193,7 @@ module _ (v : Level) (up : List Level) (next : ℕ) (free : IsFree next (v ∷ u
         let goals = goals_heights h tall tall_mark own (suc (length up)) (e ∙ sym top_height) gs
         (map (renamed_item (scope_on way) (scope_on way)) items) (by_heights (v ∷ up) items)
         (names_items h f way items (λ r z. z) scoped) in
-        resolved_heights h o (goals_at own gs ++ map (renamed_item (scope_on way) (scope_on way)) items)
+        heights-resolved h o (goals_at own gs ++ map (renamed_item (scope_on way) (scope_on way)) items)
         ∙ (ap (map (resolve_item o)) goals
         ∙ (sym (resolved_names tall tall_mark o (goals_at (suc (length up)) gs ++ by_heights (v ∷ up) items))
         ∙ sym (tree_items (height (EndOf (k ∷ next ∷ []) ∷ (olders way next ChoiceNode (suc k) es ++ rest))) k (over_olders k es)

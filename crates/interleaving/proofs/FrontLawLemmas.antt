@@ -11,13 +11,14 @@ use Rattle.interleaving.specs.Segments.{IsActive, outer, found_in, search_in, Pr
 use Rattle.interleaving.specs.Views.{IsInner}
 use Rattle.interleaving.specs.Quiet.{IsQuiet, inferences, records, IsFixed, IsStill}
 use Rattle.interleaving.specs.Laws.{is_inner_record, FrontGate, FrontGateInPlace, CutInPlace}
-use Rattle.interleaving.proofs.RunFrontLemmas.{each-append, append-none, map-none, map-seam, some-same, none-some, ActOk, Closed, Unseen}
+use Rattle.interleaving.proofs.RunFrontLemmas.{each-append, map-none, map-seam, some-same, none-some, ActOk, Closed, Unseen}
 use Rattle.interleaving.proofs.EarlyLemmas.{Runs, early}
 use Rattle.interleaving.proofs.JoinedLemmas.{runs-then, runs_step, reached, resting, credit_runs, plus}
 use Rattle.interleaving.proofs.InsideStepLemmas.{any_ground, no_ground}
 use Rattle.interleaving.proofs.QuietCreditLemmas.{quiet-private, map-fixed, gives-fixed, private-then}
 use Rattle.interleaving.proofs.EarlyLawLemmas.{standing, private_early}
 use Rattle.interleaving.proofs.CreditLawLemmas.{any-all, quiet_any, quiet_alone, further}
+use Rattle.interleaving.proofs.AppendLemmas.{append-nil}
 
 module _ (clauses : List Clause) where
   abbrev m : Machine Shared Element Sought Record
@@ -269,12 +270,12 @@ module _ (clauses : List Clause) where
       let whole = early m (no_ground clauses) IsStill NoSearch NoRecord still_closed (k + 1) [] (xs ++ (x ∷ mid)) left
       (record { runs = both; own = map-none m left; old = all-unseen (xs ++ (x ∷ mid)); new = all-unseen left }) pre [] still tt n
       w in
-      ap (λ l. seen (run m n w (free_steps m [] (pre ++ l)))) (sym (append-none (xs ++ (x ∷ mid)))) ∙ whole
-      ∙ ap (λ l. seen (run m n w (free_steps m [] (pre ++ (Credit (k + 1) [] ∷ l))))) (append-none left)
+      ap (λ l. seen (run m n w (free_steps m [] (pre ++ l)))) (sym (append-nil (xs ++ (x ∷ mid)))) ∙ whole
+      ∙ ap (λ l. seen (run m n w (free_steps m [] (pre ++ (Credit (k + 1) [] ∷ l))))) (append-nil left)
     where
       alone : (rest left : List Element) (p : ElementReplacement) → placed m p rest ≡ left → (zs : List Element) → Each (λ z. ⊥) zs
           → placed m p (rest ++ zs) ≡ left ++ zs
-      alone rest left p h [] z = ap (placed m p) (append-none rest) ∙ h ∙ sym (append-none left)
+      alone rest left p h [] z = ap (placed m p) (append-nil rest) ∙ h ∙ sym (append-nil left)
       alone rest left p h (y ∷ ys) z = absurd z.0
 
   pub given_alike : (xs pre zs : List Element) → Each IsStill pre → IsQuiet xs
@@ -285,5 +286,5 @@ module _ (clauses : List Clause) where
       let first : Runs m (no_ground clauses) k [] (xs ++ zs) rest = runs_only k (records xs) (xs ++ zs) rest (quiet_any clauses xs zs q) in
       let whole = early m (no_ground clauses) IsStill NoSearch NoRecord still_closed k [] (xs ++ zs) rest
       (record { runs = first; own = map-none m rest; old = all-unseen (xs ++ zs); new = all-unseen rest }) pre [] still tt n w in
-      ap (λ l. seen (run m n w (free_steps m [] (pre ++ l)))) (sym (append-none (xs ++ zs))) ∙ whole
-      ∙ ap (λ l. seen (run m n w (free_steps m [] (pre ++ (Credit k [] ∷ l))))) (append-none rest)
+      ap (λ l. seen (run m n w (free_steps m [] (pre ++ l)))) (sym (append-nil (xs ++ zs))) ∙ whole
+      ∙ ap (λ l. seen (run m n w (free_steps m [] (pre ++ (Credit k [] ∷ l))))) (append-nil rest)

@@ -16,8 +16,7 @@ use Rattle.interleaving.specs.Quiet.{IsQuiet, inferences, records}
 use Rattle.interleaving.specs.Sound.{names, IsEntrySound, IsSound}
 use Rattle.interleaving.specs.Follows.{lead}
 use Rattle.interleaving.specs.HistoryInvariants.{shared_of, AnswerMoves}
-use Rattle.interleaving.proofs.AppendLemmas.{append-assoc}
-use Rattle.interleaving.proofs.RunFrontLemmas.{append-none}
+use Rattle.interleaving.proofs.AppendLemmas.{append-assoc, append-nil}
 use Rattle.interleaving.proofs.QuietCreditLemmas.{gives-fixed}
 use Rattle.interleaving.proofs.CreditLawLemmas.{further}
 use Rattle.interleaving.proofs.PassingLemmas.{credits_pass}
@@ -63,7 +62,7 @@ module _ (clauses : List Clause) where
       let count : inferences xs ≡ inferences front =
       (let z : inferences xs ≡ inferences front + (sp + 0) = inferences-append front (Credit sp [] ∷ []) in omega
       (arith, z, unspent)) in
-      let rows : records xs ≡ records front = records-append front (Credit sp [] ∷ []) ∙ append-none (records front) in
+      let rows : records xs ≡ records front = records-append front (Credit sp [] ∷ []) ∙ append-nil (records front) in
       let rest = map (gives m (records xs)) zs in
       let one : run m (inferences xs + suc n) w (free_steps m [] (xs ++ (Plain p f ∷ zs)))
       ≡ run m (inferences xs + suc n) w (free_steps m [] (xs ++ (bare clauses p f ∷ zs))) = passed_at clauses xs zs (Plain p f) w
@@ -87,7 +86,7 @@ module _ (clauses : List Clause) where
       let count : inferences xs ≡ inferences front =
       (let z : inferences xs ≡ inferences front + (sp + 0) = inferences-append front (Credit sp [] ∷ []) in omega
       (arith, z, unspent)) in
-      let rows : records xs ≡ records front = records-append front (Credit sp [] ∷ []) ∙ append-none (records front) in
+      let rows : records xs ≡ records front = records-append front (Credit sp [] ∷ []) ∙ append-nil (records front) in
       ap (λ l. run m (inferences front + suc n) w (free_steps m [] l)) (sym (append-assoc front (Credit sp [] ∷ []) (x ∷ zs)))
       ∙ (ap (λ k. run m (k + suc n) w (free_steps m [] (xs ++ (x ∷ zs)))) (sym count)
       ∙ (gate_taken clauses xs x g zs w n quiet h
@@ -102,7 +101,7 @@ module _ (clauses : List Clause) where
       let quiet = quiet-append front (Credit k [] ∷ []) q tt in
       let count : inferences ys + n ≡ inferences front + suc n =
       (let z : inferences ys ≡ inferences front + (k + 0) = inferences-append front (Credit k [] ∷ []) in omega (arith, z, one)) in
-      let rows : records ys ≡ records front = records-append front (Credit k [] ∷ []) ∙ append-none (records front) in
+      let rows : records ys ≡ records front = records-append front (Credit k [] ∷ []) ∙ append-nil (records front) in
       ap (λ l. run m (inferences front + suc n) v (free_steps m [] l)) (sym (append-assoc front (Credit k [] ∷ []) ws))
       ∙ (ap (λ j. run m j v (free_steps m [] (ys ++ ws))) (sym count)
       ∙ (further clauses (inferences ys) n v (free_steps m [] (ys ++ ws))

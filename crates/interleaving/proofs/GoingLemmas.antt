@@ -12,8 +12,8 @@ use Rattle.tree_model.specs.PendingLists.{pending_list}
 use Rattle.tree_model.specs.SoundTrees.{IsSoundTree}
 use Rattle.interleaving.specs.Follows.{lead}
 use Rattle.interleaving.specs.HistoryInvariants.{shared_of, left_by, tree_list}
-use Rattle.interleaving.proofs.OpenSpotLemmas.{both_left, both_right}
 use Rattle.interleaving.proofs.ClockLemmas.{leftmost_known}
+use Rattle.au_term.proofs.LogicLemmas.{and-right, and-left}
 
 -- a tree that has not ended
 pub record IsGoing (t : TreeState) : Type 0 where
@@ -42,8 +42,8 @@ is-none (Some a) h = let no_way : ⊥ = cc in absurd no_way
 pub legal_parts : (t : TreeState) (e : Event) → is_legal t e ≡ true → (ended t ≡ None) × (is_allowed t e ≡ true)
 unfolding is_legal
 legal_parts t e l =
-    let rest = both_right (not t.stopped) _ l in
-    (is-none (ended t) (both_left (is_none (ended t)) _ rest), both_right (is_none (ended t)) _ rest)
+    let rest = and-right (not t.stopped) _ l in
+    (is-none (ended t) (and-left (is_none (ended t)) _ rest), and-right (is_none (ended t)) _ rest)
 
 -- the list of a tree that was not halted
 pub not_halted : (t : TreeState) → t.halted ≡ None → tree_list t ≡ pending_list t.root

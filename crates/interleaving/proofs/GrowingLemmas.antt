@@ -19,6 +19,7 @@ use Rattle.interleaving.proofs.WayLemmas.{off_way, below_new}
 use Rattle.interleaving.proofs.ShapeLemmas.{none_sleeps-put}
 use Rattle.interleaving.proofs.RoundtripLemmas.{IsPath}
 use Rattle.interleaving.proofs.ClosingSoundLemmas.{IsSoundGrown, IsFree, one_if-same}
+use Rattle.au_term.proofs.LogicLemmas.{and-false}
 
 -- a status put into a place
 pub plug_sound : (next : ℕ) (levels : List Level) (status : Status) → profile status ≡ IsOpen → IsAround levels (profile status)
@@ -39,10 +40,6 @@ IsReadyOn way (EndEntry b) = Unit {0}
 IsReadyOn way (CatchEntry c r f) = ⊥
 IsReadyOn way (FindallEntry results l f) = ⊥
 
-and-false : (b : Bool) → (b && false) ≡ false
-and-false true = refl
-and-false false = refl
-
 pub ready_below : (way : Way) (n i : ℕ) (e : Entry) → is_on way n ≡ false → IsReadyOn way e
     → IsOnWay (record { node = n; index = i; kind = ChoiceNode } ∷ way) e
 ready_below way n i (PlainEntry f) o h = record {
@@ -60,12 +57,12 @@ ready_awake way (EndEntry b) h = tt
 ready_awake way (CatchEntry c r f) h = h
 ready_awake way (FindallEntry results l f) h = h
 
-standing_sound : (way : Way) (n i : ℕ) (es : List Entry) → is_on way n ≡ false → Each (IsReadyOn way) es
+pub standing_sound : (way : Way) (n i : ℕ) (es : List Entry) → is_on way n ≡ false → Each (IsReadyOn way) es
     → AreSound way n ChoiceNode i (standing Ready es)
 standing_sound way n i [] o h = tt
 standing_sound way n i (e ∷ es) o h = ((ready_below way n i e o h.0, ready_awake way e h.0), standing_sound way n (suc i) es o h.1)
 
-standing_shape : (es : List Entry) → none_sleeps (profiles (standing Ready es)) ≡ true
+pub standing_shape : (es : List Entry) → none_sleeps (profiles (standing Ready es)) ≡ true
 standing_shape [] = refl
 standing_shape (e ∷ es) = standing_shape es
 

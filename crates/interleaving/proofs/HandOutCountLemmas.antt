@@ -9,6 +9,7 @@ use Rattle.tree_model.specs.Levels.{Level, put_left, level_node, plug, Place, sa
 use Rattle.tree_model.specs.Closing.{Grown, with_right, folds, wakes}
 use Rattle.tree_model.specs.HandOuts.{Handed, Never, Out, Away}
 use Rattle.tree_model.specs.SoundTrees.{one_if}
+use Rattle.interleaving.proofs.WayLemmas.{one_if-zero}
 
 -- how an alternative that is held so has been handed out
 abbrev pub handed : Hold → Handed
@@ -120,10 +121,6 @@ stand_plug a (v ∷ up) status =
 abbrev pub Elsewhere : (Place → Option Handed) → (Place → Option Handed) → Place → Type 0
 Elsewhere G F b = (a : Place) → same_place b a ≡ false → F a ≡ G a
 
-apart : (b : Bool) → one_if b ≡ 0 → b ≡ false
-apart false h = refl
-apart true h = let no_way : ⊥ = cc in absurd no_way
-
 mutual
   kept_node : (G F : Place → Option Handed) (b : Place) → Elsewhere G F b → (node : Node) → stand_in b node ≡ 0 → AgreesNode G node
       → AgreesNode F node
@@ -137,7 +134,7 @@ mutual
 
   kept_status : (G F : Place → Option Handed) (b : Place) → Elsewhere G F b → (n i : ℕ) (status : Status) → stand b n i status ≡ 0
       → Agrees G n i status → Agrees F n i status
-  kept_status G F b e n i (Pending hold entry) z h = e (at n i) (apart (same_place b (at n i)) z) ∙ h
+  kept_status G F b e n i (Pending hold entry) z h = e (at n i) (one_if-zero (same_place b (at n i)) z) ∙ h
   kept_status G F b e n i (Inner node) z h = kept_node G F b e node z h
   kept_status G F b e n i (Closed credit) z h = tt
 

@@ -12,9 +12,9 @@ use Rattle.tree_model.specs.Closing.{Grown, guarded, with_right, all_closed, wak
 use Rattle.tree_model.specs.Pruning.{Task, task_at, tasks_in, tasks_among, tasks_below, emptied, pruned, tasks_pruned, left_after, lands}
 use Rattle.tree_model.specs.HandOuts.{Handed, Out}
 use Rattle.tree_model.specs.SoundTrees.{one_if, count_in, count_among, count_below}
-use Rattle.interleaving.proofs.WayLemmas.{same_self}
 use Rattle.interleaving.proofs.HandOutCountLemmas.{handed, at, AgreesNode, AgreesAll, Agrees, stand_in, stand_all, stand, AgreesAround}
 use Rattle.interleaving.proofs.HandOutCountLemmas.{stand_around, NewIn, IsAgreed, folds_agreed, wakes_agreed}
+use Rattle.interleaving.proofs.TestLemmas.{number_same}
 
 side_agreed : (G : Place → Option Handed) (next : ℕ) (v : Level) (up : List Level) (c : Credit) (o : Option Entry) (go : Credit → Grown)
     (most : Place → ℕ) → NewIn G next → AgreesAround G (v ∷ up) → ((a : Place) → stand_around a (v ∷ up) ≤ most a)
@@ -180,7 +180,7 @@ matches a n i true e =
     let index : (a.index == i) ≡ true = second (a.node == n) (a.index == i) e in
     let same : a.node ≡ n = number a.node n node in
     let here : a.index ≡ i = number a.index i index in
-    let hit : (n == a.node) ≡ true = ap (λ m. n == m) same ∙ same_self n in
+    let hit : (n == a.node) ≡ true = ap (λ m. n == m) same ∙ number_same n in
     (omega (arith, ap one_if hit), λ l. absurd (low here l), λ z. here)
   where
     first : (x y : Bool) → (x && y) ≡ true → x ≡ true

@@ -17,7 +17,6 @@ use Rattle.interleaving.specs.Follows.{lead, Follows}
 use Rattle.interleaving.specs.HistoryInvariants.{shared_of, tree_list, IsSeenFrom, IsInStep, ListFollows, AnswerMoves, IsOwn, EventFollows}
 use Rattle.interleaving.specs.HistoryInvariants.{AnswersMove, KeepsCaught, IsAny}
 use Rattle.tree_model.specs.CaughtTrees.{IsCaughtTree}
-use Rattle.interleaving.proofs.OpenSpotLemmas.{both_left, both_right}
 use Rattle.interleaving.proofs.LegalLemmas.{event_sound}
 use Rattle.interleaving.proofs.FieldLemmas.{event_job, event_budget}
 use Rattle.interleaving.proofs.LeadLemmas.{goes_on}
@@ -28,6 +27,7 @@ use Rattle.tree_model.specs.AnswersTold.{answers_next, answers_told}
 use Rattle.interleaving.proofs.AnswerClosingLemmas.{IsOrdered}
 use Rattle.interleaving.proofs.AnswerTreeLemmas.{answers_kept}
 use Rattle.interleaving.proofs.AnswerEventLemmas.{next_few}
+use Rattle.au_term.proofs.LogicLemmas.{and-right, and-left}
 
 module _ (job : Job) (budget : ℕ) (below : budget ≤ greatest) where
   -- an event that changes the list alone
@@ -178,7 +178,7 @@ module _ (job : Job) (budget : ℕ) (below : budget ≤ greatest) where
 
     steps : (t : TreeState) (es : List Event) → IsInStep job budget t → are_legal t es ≡ true → IsInStep job budget (after_events t es)
     steps t [] h l = h
-    steps t (e ∷ es) h l = steps (after_event t e) es (step t e h (both_left (is_legal t e) _ l)) (both_right (is_legal t e) _ l)
+    steps t (e ∷ es) h l = steps (after_event t e) es (step t e h (and-left (is_legal t e) _ l)) (and-right (is_legal t e) _ l)
 
     pub standing : (window : ℕ) (es : List Event) → IsLegalHistory job budget window es
         → IsInStep job budget (tree_after job budget window es)

@@ -4,9 +4,10 @@ use Rattle.au_model.specs.Terms.Each.{Each}
 use Rattle.interleaving.specs.Machine.{Machine, Act, Vanishes, Wakes, Takes, Asks, Look, On, Here, Replacement, Put, Only, Seek, gives, looked}
 use Rattle.interleaving.specs.Machine.{search_for, placed, freed, free_steps, acted, step, run, is_finished}
 use Rattle.interleaving.specs.Segments.{IsActive, found_in, search_in, placed_in}
-use Rattle.interleaving.proofs.RunFrontLemmas.{each-append, append-assoc-at, some-same, none-some, maps-append, map-seam, map-none}
+use Rattle.interleaving.proofs.RunFrontLemmas.{each-append, some-same, none-some, maps-append, map-seam, map-none}
 use Rattle.interleaving.proofs.RunFrontLemmas.{settle-map}
 use Rattle.interleaving.proofs.EarlyLemmas.{Ground, Runs, z-map, last, next_front, next_step}
+use Rattle.interleaving.proofs.AppendLemmas.{append-assoc}
 
 module _ {W X Q R : Type 0} (m : Machine W X Q R) (g : Ground m) where
   -- how runs of segments are put together
@@ -20,9 +21,9 @@ module _ {W X Q R : Type 0} (m : Machine W X Q R) (g : Ground m) where
   pub settle-seam : (a c zs : List X) (qs : List R) (b : List X)
       → ((zs : List X) → Each g.Under zs → free_steps m [] (a ++ zs) ≡ free_steps m [] (b ++ map (gives m qs) zs)) → Each g.Under c
       → Each g.Under zs → free_steps m [] ((a ++ c) ++ zs) ≡ free_steps m [] ((b ++ map (gives m qs) c) ++ map (gives m qs) zs)
-  settle-seam a c zs qs b h y z = ap (free_steps m []) (append-assoc-at a c zs) ∙ h (c ++ zs) (all-z c zs y z)
+  settle-seam a c zs qs b h y z = ap (free_steps m []) (append-assoc a c zs) ∙ h (c ++ zs) (all-z c zs y z)
       ∙ ap (λ l. free_steps m [] (b ++ l)) (map-seam m qs c zs)
-      ∙ ap (free_steps m []) (sym (append-assoc-at b (map (gives m qs) c) (map (gives m qs) zs)))
+      ∙ ap (free_steps m []) (sym (append-assoc b (map (gives m qs) c) (map (gives m qs) zs)))
 
   pub runs-frame : (k : ℕ) (rs : List R) (a b c : List X) → Runs m g k rs a b → Each g.Under c
       → Runs m g k rs (a ++ c) (b ++ map (gives m rs) c)
@@ -32,11 +33,11 @@ module _ {W X Q R : Type 0} (m : Machine W X Q R) (g : Ground m) where
     h.1,
     h.2,
     h.3,
-    (λ zs z. ap (λ l. is_finished (free_steps m [] l)) (append-assoc-at a c zs)
+    (λ zs z. ap (λ l. is_finished (free_steps m [] l)) (append-assoc a c zs)
         ∙ h.4 (c ++ zs) (all-z c zs y z)),
-    (λ w zs z. ap (λ l. step m w (free_steps m [] l)) (append-assoc-at a c zs)
+    (λ w zs z. ap (λ l. step m w (free_steps m [] l)) (append-assoc a c zs)
         ∙ h.5 w (c ++ zs) (all-z c zs y z) ∙ ap (λ l. (w, free_steps m [] (h.0 ++ l))) (map-seam m h.1 c zs)
-        ∙ ap (λ l. (w, free_steps m [] l)) (sym (append-assoc-at h.0 (map (gives m h.1) c) (map (gives m h.1) zs)))),
+        ∙ ap (λ l. (w, free_steps m [] l)) (sym (append-assoc h.0 (map (gives m h.1) c) (map (gives m h.1) zs)))),
     subst
         (λ l. Runs m g k h.2 (h.0 ++ map (gives m h.1) c) (b ++ l)) (sym (ap (λ l. map (gives m l) c) h.3 ∙ maps-append m h.1 h.2 c))
         (runs-frame k h.2 h.0 b (map (gives m h.1) c) h.6 (z-map m g h.1 c y)),
@@ -50,14 +51,14 @@ module _ {W X Q R : Type 0} (m : Machine W X Q R) (g : Ground m) where
     rs ++ l.1,
     l.2,
     ap (λ y. rs ++ y) l.3
-        ∙ sym (append-assoc-at rs l.1 l.2),
+        ∙ sym (append-assoc rs l.1 l.2),
     (λ zs z. ap is_finished (h zs z) ∙ l.4 (map (gives m rs) zs) (z-map m g rs zs z)),
     (λ w zs z. ap (step m w) (h zs z) ∙ l.5 w (map (gives m rs) zs) (z-map m g rs zs z)
         ∙ ap (λ y. (w, free_steps m [] (l.0 ++ y))) (sym (maps-append m rs l.1 zs))),
     l.6,
   )
   runs-then (suc k) j rs qs a s b h l =
-      (h.0, h.1, h.2 ++ qs, ap (λ y. y ++ qs) h.3 ∙ append-assoc-at h.1 h.2 qs, h.4, h.5, runs-then k j h.2 qs h.0 s b h.6 l)
+      (h.0, h.1, h.2 ++ qs, ap (λ y. y ++ qs) h.3 ∙ append-assoc h.1 h.2 qs, h.4, h.5, runs-then k j h.2 qs h.0 s b h.6 l)
 
   -- where a segment gets by itself
   pub reached : (k : ℕ) (rs : List R) (a b : List X) → Runs m g k rs a b → (w : W) (zs : List X) → Each g.Under zs
@@ -125,9 +126,9 @@ module _ {W X Q R : Type 0} (m : Machine W X Q R) (g : Ground m) where
           → ((p : Q) → search_in m p xs ≡ Some b → search_for m p (xs ++ zs) ≡ b ++ zs) → looked m t (λ p. search_for m p (xs ++ zs))
           (xs ++ zs) ≡ b ++ zs
       go (On p) e next = next p e
-      go (Here ys) e next = sym (append-assoc-at ys xs zs) ∙ ap (λ l. l ++ zs) (some-same (ys ++ xs) b e)
+      go (Here ys) e next = sym (append-assoc ys xs zs) ∙ ap (λ l. l ++ zs) (some-same (ys ++ xs) b e)
 
   pub placed-within : (p : Replacement X Q) (xs b zs : List X) → placed_in m p xs ≡ Some b → placed m p (xs ++ zs) ≡ b ++ zs
-  placed-within (Put ys) xs b zs e = sym (append-assoc-at ys xs zs) ∙ ap (λ l. l ++ zs) (some-same (ys ++ xs) b e)
+  placed-within (Put ys) xs b zs e = sym (append-assoc ys xs zs) ∙ ap (λ l. l ++ zs) (some-same (ys ++ xs) b e)
   placed-within (Only ys) xs b zs e = none-some b e
   placed-within (Seek q) xs b zs e = search-within q xs b zs e

@@ -25,16 +25,16 @@ use Rattle.interleaving.proofs.ContextLemmas.{IsAround, count_around}
 use Rattle.interleaving.proofs.ClosingSoundLemmas.{IsFree}
 use Rattle.interleaving.proofs.GrowingLemmas.{around_path}
 use Rattle.interleaving.proofs.NamedFloorLemmas.{below_named, floor_named, low_height, entry_low, below_erased, first_low}
-use Rattle.interleaving.proofs.BaredLemmas.{made_at, made_grown, either_true, new_number}
+use Rattle.interleaving.proofs.BaredLemmas.{made_at, made_grown, new_number}
 use Rattle.interleaving.proofs.PublishedBareLemmas.{own_entry, right_of, own_plain, list_before}
 use Rattle.interleaving.proofs.BesideLemmas.{OutNode}
 use Rattle.interleaving.proofs.SideLemmas.{out_other, is_old, front_blind, blind_front, blind_back, under_low}
-use Rattle.interleaving.proofs.SkippedLemmas.{clash}
 use Rattle.interleaving.proofs.LowEntryLemmas.{carried_low}
 use Rattle.interleaving.proofs.LowListLemmas.{findalls_low}
 use Rattle.interleaving.proofs.BrancheLemmas.{below_from, pair_older}
 use Rattle.interleaving.proofs.RenamedLemmas.{lead_items, Other, lead_sound, lead_erased}
 use Rattle.interleaving.proofs.LeadNameLemmas.{others_new, blind_findalls}
+use Rattle.interleaving.proofs.TestLemmas.{true_false, right_true}
 
 -- the run's own names
 abbrev pub own_end : ℕ → Name
@@ -56,10 +56,10 @@ abbrev pub run_inside : ℕ → Name → Bool
 run_inside next = made_at (0 ∷ next ∷ []) next
 
 pub new_entry : (top : Name) (next : ℕ) → made_at top next (0 ∷ 0 ∷ next ∷ []) ≡ true
-new_entry top next = either_true _ _ (new_number next next (omega arith))
+new_entry top next = right_true _ _ (new_number next next (omega arith))
 
 pub new_end : (top : Name) (next : ℕ) → made_at top next (0 ∷ next ∷ []) ≡ true
-new_end top next = either_true _ _ (new_number next next (omega arith))
+new_end top next = right_true _ _ (new_number next next (omega arith))
 
 module _ (v : Level) (up : List Level) (next : ℕ) (f : Continuation ℕ) (free : IsFree next (v ∷ up)) (a : IsAround (v ∷ up) IsOpen)
     (h : IsOnWay (way_of (v ∷ up)) (PlainEntry f)) (off : is_on (way_of (v ∷ up)) next ≡ false) where
@@ -116,7 +116,7 @@ module _ (v : Level) (up : List Level) (next : ℕ) (f : Continuation ℕ) (free
       omega (arith, floor-low (floor_named (v ∷ up)) s t (first_low (v ∷ up)) (sym past ∙ k), ap element_count past)
     where
       apart : s ≡ length v.left ∷ v.number ∷ [] → ⊥
-      apart z = clash (sym (same-itself (length v.left ∷ v.number ∷ [])) ∙ (ap (same (length v.left ∷ v.number ∷ [])) (sym z) ∙ e))
+      apart z = true_false (sym (same-itself (length v.left ∷ v.number ∷ [])) ∙ (ap (same (length v.left ∷ v.number ∷ [])) (sym z) ∙ e))
 
   pub run_stands : IsSound (own_plain v up f ∷ below_named (v ∷ up))
       → NamesEntries (made_at (0 ∷ next ∷ []) next) (lead_segment v up next f) (below_named (v ∷ up))

@@ -22,7 +22,6 @@ use Rattle.tree_model.specs.SoundTrees.{one_if, count_below, Profile, IsOpen, pr
 use Rattle.au_term.specs.Term.{Term}
 use Rattle.interleaving.proofs.ContextLemmas.{IsAround, count_around}
 use Rattle.interleaving.proofs.WayLemmas.{cond-true, cond-false, off_way}
-use Rattle.interleaving.proofs.RoundtripLemmas.{not_same}
 use Rattle.interleaving.proofs.ClosingSoundLemmas.{IsSoundGrown, IsFree}
 use Rattle.interleaving.proofs.GrowingLemmas.{plug_sound, IsReadyOn, new_node_sound, spending_around, spending_free, around_path}
 use Rattle.interleaving.proofs.BallLemmas.{NamesFloor}
@@ -33,6 +32,8 @@ use Rattle.interleaving.proofs.PlacedShapeLemmas.{IsPlacing, placed_in}
 use Rattle.interleaving.proofs.OpenSpotLemmas.{claim_sound, resume_sound}
 use Rattle.interleaving.proofs.SoundClosingLemmas.{grown_tree, emptied_sound, suspend_sound, opened_sound}
 use Rattle.interleaving.proofs.PlacedEntryLemmas.{IsAt, at_spot as known_at, prune_sound, answer_sound}
+use Rattle.au_term.proofs.LogicLemmas.{and-right}
+use Rattle.interleaving.proofs.TestLemmas.{not_equal}
 
 pub awake_entry : (h : Hold) (e : Entry) → profile (Pending h e) ≡ IsOpen → IsHeldBy h e → IsAwake e
 awake_entry Ready e o i = i
@@ -215,14 +216,10 @@ allowed_sound t (Prune w a) h l = prune_sound t w a h
 allowed_sound t (Answer w a frozen) h l = answer_sound t w a h
 allowed_sound t (Stop w) h l = record { distinct = h.distinct; fresh = h.fresh; sound = h.sound }
 
-and-last-true : (a b : Bool) → (a && b) ≡ true → b ≡ true
-and-last-true true b h = h
-and-last-true false b h = let no_way : ⊥ = cc in absurd no_way
-
 pub event_sound : (t : TreeState) (e : Event) → IsSoundTree t → is_legal t e ≡ true → IsSoundTree (after_event t e)
 unfolding is_legal after_event
 event_sound t e h l =
-    let k = allowed_sound t e h (and-last-true (is_none (ended t)) (is_allowed t e) (and-last-true (not t.stopped) _ l)) in
+    let k = allowed_sound t e h (and-right (is_none (ended t)) (is_allowed t e) (and-right (not t.stopped) _ l)) in
     record { distinct = k.distinct; fresh = k.fresh; sound = k.sound }
 
 events_sound : (t : TreeState) (es : List Event) → IsSoundTree t → are_legal t es ≡ true → IsSoundTree (after_events t es)
@@ -250,7 +247,7 @@ opening_sound job budget window = go job.queries
         at_most false = omega arith
 
     later : (m : ℕ) → 1 ≤ m → one_if (0 == m) + (0 + (0 + 0)) ≡ 0
-    later m l = let z : one_if (0 == m) ≡ 0 = ap one_if (not_same 0 m l) in omega (arith, z)
+    later m l = let z : one_if (0 == m) ≡ 0 = ap one_if (not_equal 0 m l) in omega (arith, z)
 
     go : (qs : List Query) → IsSoundTree
         (record (opening_tree job budget window) { root = opening_root qs; next = nodes_below (opening_root qs) })

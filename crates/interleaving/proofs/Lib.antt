@@ -184,3 +184,4 @@ mod OncePlaceLemmas
 mod NumberedPlaceLemmas
 mod NumberedRunLemmas
 mod NumberedEventLemmas
+mod TestLemmas

@@ -12,7 +12,6 @@ use Rattle.interleaving.specs.Sound.{IsSound}
 use Rattle.interleaving.specs.Laws.{is_inner_record, PrivateEarly, Expansion, DoneEarly, QuietEarly, TakenEarly, WokenEarly}
 use Rattle.interleaving.specs.Laws.{CollectedEarly, CreditsAdd, NoCredit, TakenInFront, RecordsGiven}
 use Rattle.interleaving.specs.Readings.{NamedAnew}
-use Rattle.interleaving.proofs.RunFrontLemmas.{append-none}
 use Rattle.interleaving.proofs.EarlyLemmas.{early}
 use Rattle.interleaving.proofs.JoinedLemmas.{runs_gone}
 use Rattle.interleaving.proofs.AloneLemmas.{private_of_alone}
@@ -26,6 +25,7 @@ use Rattle.interleaving.proofs.GivenHeightLemmas.{sound-gives}
 use Rattle.interleaving.proofs.SoundStepLemmas.{takes-sound, goes-gathered}
 use Rattle.interleaving.proofs.SoundEarlyLemmas.{sound-after, sound_exchange, sound_private, sound_none, sound_sum}
 use Rattle.interleaving.proofs.RunHeightLemmas.{names_are_free}
+use Rattle.interleaving.proofs.AppendLemmas.{append-nil}
 
 module _ (clauses : List Clause) where
   abbrev m : Machine Shared Element Sought Record
@@ -50,7 +50,7 @@ module _ (clauses : List Clause) where
   quiet_early inside pre xs zs q s =
       let inner = is_inner_record inside in
       becomes inside (inferences xs) (outer inner (records xs)) pre xs [] zs s
-      (subst (λ l. Private m inner (inferences xs) (outer inner (records xs)) l []) (append-none xs)
+      (subst (λ l. Private m inner (inferences xs) (outer inner (records xs)) l []) (append-nil xs)
       (quiet-private clauses inner xs [] q))
 
   -- a step after credits
@@ -59,7 +59,7 @@ module _ (clauses : List Clause) where
       → Private m (is_inner_record inside) (inferences xs + k) (outer (is_inner_record inside) (records xs)) (xs ++ mid) b
   behind inside xs mid b k q r =
       let inner = is_inner_record inside in
-      subst (λ l. Private m inner (inferences xs + k) l (xs ++ mid) b) (append-none (outer inner (records xs)))
+      subst (λ l. Private m inner (inferences xs + k) l (xs ++ mid) b) (append-nil (outer inner (records xs)))
       (private-then m inner k (inferences xs) (outer inner (records xs)) [] (xs ++ mid) (map (gives m (records xs)) mid) b
       (quiet-private clauses inner xs mid q) r)
 

@@ -17,12 +17,10 @@ use Rattle.interleaving.specs.Erased.{from}
 use Rattle.interleaving.specs.Sound.{IsGuarded, IsGathered, IsMarkSound}
 use Rattle.interleaving.proofs.ContextLemmas.{IsLevel, IsAround, put_profiles, level_profiles}
 use Rattle.interleaving.proofs.WayLemmas.{cond-true, cond-false}
-use Rattle.interleaving.proofs.OpenSpotLemmas.{both_left, both_right}
 use Rattle.interleaving.proofs.ListEndLemmas.{levels_down, from_back}
 use Rattle.interleaving.proofs.ListScopeLemmas.{IsDistinct, sleeps_on, side_at, Scoped, distinct-down, on-down, Reads, reads_then, named}
-
-clash : {A : Type 0} → false ≡ true → A
-clash h = let no_way : ⊥ = cc in absurd no_way
+use Rattle.interleaving.proofs.TestLemmas.{false_true}
+use Rattle.au_term.proofs.LogicLemmas.{and-right, and-left}
 
 -- the level of a number
 pub record AtLevel (levels : List Level) (s : ℕ) : Type 0 where
@@ -35,7 +33,7 @@ pub record AtLevel (levels : List Level) (s : ℕ) : Type 0 where
   pub sleeps : sleeps_on levels s ≡ catch_right level.right
 
 pub at_level : (levels : List Level) (s : ℕ) → IsAround levels IsOpen → is_on (way_of levels) s ≡ true → AtLevel levels s
-at_level [] s h o = clash o
+at_level [] s h o = false_true o
 at_level (v ∷ up) s h o = go (v.number == s) refl (at_level up s h.1) o
   where
     go : (b : Bool) → (v.number == s) ≡ b → (is_on (way_of up) s ≡ true → AtLevel up s) → cond b true (is_on (way_of up) s) ≡ true
@@ -65,7 +63,7 @@ at_level (v ∷ up) s h o = go (v.number == s) refl (at_level up s h.1) o
 -- through the goal side of its node
 pub through_at : (kind : Kind) (levels : List Level) (s : ℕ) (u : Level) (ups : List Level) → levels_down levels s ≡ u ∷ ups
     → side_at kind levels s ≡ true → ((length u.left == 0) && same_kind u.kind kind) ≡ true
-through_at kind [] s u ups e t = clash t
+through_at kind [] s u ups e t = false_true t
 through_at kind (v ∷ up) s u ups e t = go (v.number == s) (through_at kind up s u ups) e t
   where
     go : (b : Bool) → (levels_down up s ≡ u ∷ ups → side_at kind up s ≡ true → ((length u.left == 0) && same_kind u.kind kind) ≡ true)
@@ -82,7 +80,7 @@ through_side kind (v ∷ up) s t = go (v.number == s) (is_barrier (step_of v)) (
         → cond b ((length v.left == 0) && same_kind v.kind kind) (cond c false (through kind (way_of up) s)) ≡ true
         → cond b ((length v.left == 0) && same_kind v.kind kind) (side_at kind up s) ≡ true
     go true c f t = t
-    go false true f t = clash t
+    go false true f t = false_true t
     go false false f t = f t
 
 pub no_left : (left : List (ℕ × Status)) → (length left == 0) ≡ true → left ≡ []
@@ -104,16 +102,16 @@ catch_sleeps v h = go v.right refl h
   where
     go : (a : Alternatives) → v.right ≡ a → catch_right a ≡ true → (c : Term) × (r : Term) × (f : Continuation ℕ) × SleepsRight v
         (CatchEntry c r f)
-    go none e k = clash k
-    go (alternative sp (Inner node) others) e k = clash k
-    go (alternative sp (Closed c) others) e k = clash k
-    go (alternative sp (Pending Ready x) others) e k = clash k
-    go (alternative sp (Pending (TakenBy w) x) others) e k = clash k
-    go (alternative sp (Pending (Waiting g) x) others) e k = clash k
+    go none e k = false_true k
+    go (alternative sp (Inner node) others) e k = false_true k
+    go (alternative sp (Closed c) others) e k = false_true k
+    go (alternative sp (Pending Ready x) others) e k = false_true k
+    go (alternative sp (Pending (TakenBy w) x) others) e k = false_true k
+    go (alternative sp (Pending (Waiting g) x) others) e k = false_true k
     go (alternative sp (Pending Dormant (CatchEntry c r f)) others) e k = (c, r, f, record { spent = sp; others = others; right = e })
-    go (alternative sp (Pending Dormant (PlainEntry f)) others) e k = clash k
-    go (alternative sp (Pending Dormant (FindallEntry results l f)) others) e k = clash k
-    go (alternative sp (Pending Dormant (EndEntry b)) others) e k = clash k
+    go (alternative sp (Pending Dormant (PlainEntry f)) others) e k = false_true k
+    go (alternative sp (Pending Dormant (FindallEntry results l f)) others) e k = false_true k
+    go (alternative sp (Pending Dormant (EndEntry b)) others) e k = false_true k
 
 pub findall_sleeps : (v : Level) (up : List Level) → IsLevel up v IsOpen → v.left ≡ [] → v.kind ≡ FindallNode
     → (rs : List Term) × (l : Term) × (f : Continuation ℕ) × SleepsRight v (FindallEntry rs l f)
@@ -123,17 +121,17 @@ findall_sleeps v up i e k = go v.right refl
   where
     go : (a : Alternatives) → v.right ≡ a → are_pair FindallNode (IsOpen ∷ profiles a) ≡ true
         → (rs : List Term) × (l : Term) × (f : Continuation ℕ) × SleepsRight v (FindallEntry rs l f)
-    go none e k = clash k
-    go (alternative sp status (alternative sq other others)) e k = clash k
-    go (alternative sp (Inner node) none) e k = clash k
-    go (alternative sp (Closed c) none) e k = clash k
-    go (alternative sp (Pending Ready x) none) e k = clash k
-    go (alternative sp (Pending (TakenBy w) x) none) e k = clash k
-    go (alternative sp (Pending (Waiting g) x) none) e k = clash k
+    go none e k = false_true k
+    go (alternative sp status (alternative sq other others)) e k = false_true k
+    go (alternative sp (Inner node) none) e k = false_true k
+    go (alternative sp (Closed c) none) e k = false_true k
+    go (alternative sp (Pending Ready x) none) e k = false_true k
+    go (alternative sp (Pending (TakenBy w) x) none) e k = false_true k
+    go (alternative sp (Pending (Waiting g) x) none) e k = false_true k
     go (alternative sp (Pending Dormant (FindallEntry rs l f)) none) e k = (rs, l, f, record { spent = sp; others = none; right = e })
-    go (alternative sp (Pending Dormant (PlainEntry f)) none) e k = clash k
-    go (alternative sp (Pending Dormant (CatchEntry c r f)) none) e k = clash k
-    go (alternative sp (Pending Dormant (EndEntry b)) none) e k = clash k
+    go (alternative sp (Pending Dormant (PlainEntry f)) none) e k = false_true k
+    go (alternative sp (Pending Dormant (CatchEntry c r f)) none) e k = false_true k
+    go (alternative sp (Pending Dormant (EndEntry b)) none) e k = false_true k
 
 -- what is after the end of a goal side's scope
 pub after_side : (v : Level) (up : List Level) (e : Entry) → v.left ≡ [] → (h : SleepsRight v e) → back_of (v ∷ up)
@@ -150,7 +148,7 @@ pub guarded_at : (base levels : List Level) (s : ℕ) → from (back_of base) (s
 guarded_at base levels s found same a t z =
     let v = a.level in
     let side = through_at CatchNode levels s v a.above a.down t in
-    let left : v.left ≡ [] = no_left v.left (both_left (length v.left == 0) _ side) in
+    let left : v.left ≡ [] = no_left v.left (and-left (length v.left == 0) _ side) in
     let entry = catch_sleeps v (sym a.sleeps ∙ z) in
     let scope : scope_on (way_of base) s ≡ 0 ∷ v.number ∷ [] = same ∙ (a.scope ∙ ap (λ l. length l ∷ v.number ∷ []) left) in
     let all = found ∙ (ap back_of a.down ∙ after_side v a.above (CatchEntry entry.0 entry.1 entry.2) left entry.3) in
@@ -170,9 +168,9 @@ guarded_at base levels s found same a t z =
 
 same-findall : (k : Kind) → same_kind k FindallNode ≡ true → k ≡ FindallNode
 same-findall FindallNode h = refl
-same-findall ChoiceNode h = clash h
-same-findall CatchNode h = clash h
-same-findall QueryNode h = clash h
+same-findall ChoiceNode h = false_true h
+same-findall CatchNode h = false_true h
+same-findall QueryNode h = false_true h
 
 pub gathered_side : (base : List Level) (h : Name) (v : Level) (up : List Level) → from (back_of base) h ≡ back_of (v ∷ up) → h
     ≡ length v.left ∷ v.number ∷ [] → IsLevel up v IsOpen → v.left ≡ [] → v.kind ≡ FindallNode → IsGathered (back_of base) h
@@ -200,7 +198,7 @@ gathered_at base levels s found same a t =
     let v = a.level in
     let side = through_at FindallNode levels s v a.above a.down t in
     gathered_side base (scope_on (way_of base) s) v a.above (found ∙ ap back_of a.down) (same ∙ a.scope) a.keeps
-    (no_left v.left (both_left (length v.left == 0) _ side)) (same-findall v.kind (both_right (length v.left == 0) _ side))
+    (no_left v.left (and-left (length v.left == 0) _ side)) (same-findall v.kind (and-right (length v.left == 0) _ side))
 
 -- the marks of items
 pub around-down : (levels : List Level) (s : ℕ) → IsAround levels IsOpen → IsAround (levels_down levels s) IsOpen

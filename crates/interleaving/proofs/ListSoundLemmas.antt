@@ -12,14 +12,12 @@ use Rattle.tree_model.specs.Ways.{is_on, way_above, AreScoped}
 use Rattle.tree_model.specs.SoundTrees.{count_in, count_among, count_below, one_if}
 use Rattle.interleaving.specs.Sound.{IsMadeElsewhere, EachFindall}
 use Rattle.interleaving.proofs.ContextLemmas.{count_around}
-use Rattle.interleaving.proofs.WayLemmas.{cond-false, reach-on, through-on, one_if-zero, same_self}
+use Rattle.interleaving.proofs.WayLemmas.{cond-false, reach-on, through-on, one_if-zero}
 use Rattle.interleaving.proofs.CarriedLemmas.{findalls-append}
 use Rattle.interleaving.proofs.ListEndLemmas.{levels_down}
 use Rattle.interleaving.proofs.ListScopeLemmas.{IsDistinct, Scoped, way_down, distinct-up, distinct-down, apart_above}
 use Rattle.interleaving.proofs.ListMarkLemmas.{through_side}
-
-clash : {A : Type 0} → false ≡ true → A
-clash h = let no_way : ⊥ = cc in absurd no_way
+use Rattle.interleaving.proofs.TestLemmas.{false_true, number_same}
 
 -- from scopes in reach to scopes on the branch
 abbrev levels_over : List Level → ℕ → List Level
@@ -155,7 +153,7 @@ module _ (n : ℕ) where
   IsOther e = e ≡ 0 ∷ n ∷ [] → ⊥
 
   not_named : (a m : ℕ) → (m == n) ≡ false → IsOther (a ∷ m ∷ [])
-  not_named a m e h = let same : m ≡ n = cc in let yes : (m == n) ≡ true = subst (λ k. (m == k) ≡ true) same (same_self m) in clash
+  not_named a m e h = let same : m ≡ n = cc in let yes : (m == n) ≡ true = subst (λ k. (m == k) ≡ true) same (number_same m) in false_true
       (sym e ∙ yes)
 
   other_element : (a : Step) (way : Way) (e : Entry) → (a.node == n) ≡ false → EachFindall IsOther (element_on (a ∷ way) e ∷ [])

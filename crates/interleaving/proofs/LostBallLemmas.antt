@@ -50,9 +50,7 @@ use Rattle.interleaving.proofs.LowerListLemmas.{lower_front, front_split, landed
 use Rattle.interleaving.proofs.QueryLastLemmas.{RightsNone, rights_none, OnlyEnds, back_ends, ends_given, ends_erased, query_clear}
 use Rattle.interleaving.proofs.GatePrivateLemmas.{wakes_bare}
 use Rattle.interleaving.proofs.FrontStepLemmas.{bare_sound}
-
-clash : {A : Type 0} → false ≡ true → A
-clash h = let no_way : ⊥ = cc in absurd no_way
+use Rattle.interleaving.proofs.TestLemmas.{false_true}
 
 -- clear below a node and above it
 clear_join : (s : ℕ) (levels : List Level) → AreClear (levels_below (Some s) levels) → AreClear (levels_down levels s) → AreClear levels
@@ -132,13 +130,13 @@ module _ (clauses : List Clause) (next : ℕ) (v : Level) (above : List Level) (
       (l.below, subst (λ d. IsLastQuery (plug d l.below)) q.down (subst IsLastQuery l.inside last))
 
   up_clear : AreClear q.above
-  up_clear = let l = above_last None in query_clear q.above (Inner (level_node q.level l.0)) (λ z. clash (sym z.0 ∙ q.query)) l.1
+  up_clear = let l = above_last None in query_clear q.above (Inner (level_node q.level l.0)) (λ z. false_true (sym z.0 ∙ q.query)) l.1
 
   pub all_clear : AreClear (v ∷ above)
   all_clear = clear_join s levels below (subst AreClear (sym q.down) (subst AreShut (sym q.end.left) tt, up_clear))
 
   rights : RightsNone q.above
-  rights = let l = above_last None in rights_none q.above (Inner (level_node q.level l.0)) (λ z. clash (sym z.0 ∙ q.query)) l.1
+  rights = let l = above_last None in rights_none q.above (Inner (level_node q.level l.0)) (λ z. false_true (sym z.0 ∙ q.query)) l.1
 
   abbrev near : Way
   near = record { node = next; index = 0; kind = ChoiceNode } ∷ record { node = q.level.number; index = 1; kind = q.level.kind }

@@ -15,9 +15,9 @@ use Rattle.interleaving.proofs.RoundtripLemmas.{IsPath, IsPart, part_from, part_
 use Rattle.interleaving.proofs.CollapseLemmas.{path-from, path-above}
 use Rattle.interleaving.proofs.NamedFloorLemmas.{below_named, floor_named}
 use Rattle.interleaving.proofs.PublishedBareLemmas.{right_of}
-use Rattle.interleaving.proofs.SkippedLemmas.{clash}
 use Rattle.interleaving.proofs.BrancheLemmas.{upto, scope_pair, below_after, from_from, above_from, above_in_from, pair_older}
 use Rattle.interleaving.proofs.LowSoundLemmas.{IsCatchOf, IsFindallOf, caught, gathered, guards_low}
+use Rattle.interleaving.proofs.TestLemmas.{true_false}
 
 tail_of : (x y : Element) (xs ys : List Element) → x ∷ xs ≡ y ∷ ys → xs ≡ ys
 tail_of x y xs ys e = cc
@@ -25,7 +25,7 @@ tail_of x y xs ys e = cc
 end_of : (s t : Name) (xs ys : List Element) → EndOf s ∷ xs ≡ EndOf t ∷ ys → s ≡ t
 end_of s t xs ys e = cc
 
-nothing : (t : Name) (ys : List Element) → [] ≡ EndOf t ∷ ys → ⊥
+pub nothing : (t : Name) (ys : List Element) → [] ≡ EndOf t ∷ ys → ⊥
 nothing t ys e = cc
 
 catch_found : (X : List Element) (t : Name) (rest : List Element) (head : Element) → IsCatchOf t head → from X t ≡ EndOf t ∷ head ∷ rest
@@ -95,7 +95,7 @@ gather_low (u ∷ w) t X Y x y g =
 -- a level's own end comes first
 upto_first : (levels : List Level) (s : ℕ) → is_on (way_of levels) s ≡ true → (rest : List Element) × below_named (upto levels s)
     ≡ EndOf (scope_on (way_of levels) s) ∷ rest
-upto_first [] s h = absurd (clash (sym h))
+upto_first [] s h = absurd (true_false (sym h))
 upto_first (v ∷ up) s h = go (v.number == s) (upto_first up s) h
   where
     go : (b : Bool) → (is_on (way_of up) s ≡ true → (rest : List Element) × below_named (upto up s)

@@ -14,7 +14,7 @@ use Rattle.tree_model.specs.Floors.{renamed_item}
 use Rattle.tree_model.specs.PendingLists.{Step, Way, way_of, scope_on, named_continuation, element_at, list_among, back_of}
 use Rattle.tree_model.specs.Ways.{is_on, AreScoped, IsOnWay}
 use Rattle.tree_model.specs.SoundTrees.{guards, IsOpen, Sleeps, profiles, is_shape, AreSound}
-use Rattle.interleaving.proofs.WayLemmas.{cond-true, cond-same, other_number, same_self}
+use Rattle.interleaving.proofs.WayLemmas.{cond-true, cond-same, other_number}
 use Rattle.interleaving.proofs.RoundtripLemmas.{IsPath}
 use Rattle.interleaving.proofs.NamingLemmas.{from_own}
 use Rattle.interleaving.proofs.CarriedLemmas.{findalls-append, from_first}
@@ -26,9 +26,10 @@ use Rattle.interleaving.proofs.ShapeLemmas.{plain_awake}
 use Rattle.interleaving.proofs.BallStackLemmas.{sleeps_first}
 use Rattle.interleaving.proofs.NamedFloorLemmas.{right_named, below_named, from-beside, scope-above}
 use Rattle.interleaving.proofs.PublishedBareLemmas.{own_plain}
-use Rattle.interleaving.proofs.SkippedLemmas.{clash, last_number, Asleep, Awake, sleeping}
+use Rattle.interleaving.proofs.SkippedLemmas.{last_number, Asleep, Awake, sleeping}
 use Rattle.interleaving.proofs.BrancheLemmas.{upto, below_from, back_from, pair_older}
 use Rattle.interleaving.proofs.LowEntryLemmas.{carried_low, marks_low}
+use Rattle.interleaving.proofs.TestLemmas.{true_false, number_same}
 
 -- the findall entries of the floor
 findalls_element : (P : Name → Type 0) (n i : ℕ) (way : Way) (e : Entry) → P (0 ∷ n ∷ [])
@@ -54,7 +55,7 @@ findalls_low P [] h = tt
 findalls_low P (v ∷ up) h =
     findalls-append P (right_named v.number (suc (length v.left)) (way_of up) v.right) (below_named up)
     (findalls_right P v.number (suc (length v.left)) (way_of up) v.right
-    (h v.number (cond-true (v.number == v.number) true _ (same_self v.number))))
+    (h v.number (cond-true (v.number == v.number) true _ (number_same v.number))))
     (findalls_low P up (λ m k. h m (cond-same (v.number == m) true (is_on (way_of up) m) k)))
 
 module _ (next : ℕ) (up : List Level) (f : IsFree next up) (a : IsAround up IsOpen) (n i : ℕ) (kind : Kind)
@@ -112,7 +113,7 @@ module _ (next : ℕ) (up : List Level) (f : IsFree next up) (a : IsAround up Is
     guard_sound g h.scoped s.0.marks,
     under,
     findalls_low (λ e. e ≡ 0 ∷ n ∷ [] → ⊥) up
-        (λ m o z. clash (sym o ∙ (ap (is_on (way_of up)) (last_number 0 m 0 n z) ∙ off))),
+        (λ m o z. true_false (sym o ∙ (ap (is_on (way_of up)) (last_number 0 m 0 n z) ∙ off))),
     low,
   )
 

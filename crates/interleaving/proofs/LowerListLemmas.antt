@@ -18,15 +18,11 @@ use Rattle.interleaving.specs.Quiet.{IsQuiet, inferences}
 use Rattle.interleaving.specs.Roots.{rooted}
 use Rattle.interleaving.specs.Views.{IsInner}
 use Rattle.interleaving.proofs.ContextLemmas.{count_left, count_around}
-use Rattle.interleaving.proofs.WayLemmas.{same_self}
-use Rattle.interleaving.proofs.AppendLemmas.{append-assoc, each-append}
-use Rattle.interleaving.proofs.RunFrontLemmas.{append-none}
+use Rattle.interleaving.proofs.AppendLemmas.{append-assoc, each-append, append-nil}
 use Rattle.interleaving.proofs.ClockLemmas.{AreShut, AreClear, quiet-append, inferences-append, left_quiet, left_counts}
 use Rattle.interleaving.proofs.ListEndLemmas.{levels_down}
 use Rattle.interleaving.proofs.BallLevelLemmas.{landed, clear_step, FirstShut}
-
-clash : {A : Type 0} → false ≡ true → A
-clash h = let no_way : ⊥ = cc in absurd no_way
+use Rattle.interleaving.proofs.TestLemmas.{false_true, number_same}
 
 abbrev pub lower_front : ℕ → List Level → List Element
 lower_front s [] = []
@@ -42,7 +38,7 @@ front_split s (v ∷ up) = go (v.number == s) (front_split s up)
   where
     go : (b : Bool) → front_of up ≡ front_of (levels_down up s) ++ lower_front s up → front_of (v ∷ up)
         ≡ front_of (cond b (v ∷ up) (levels_down up s)) ++ cond b [] (lower_front s up ++ level_front up v)
-    go true h = sym (append-none (front_of (v ∷ up)))
+    go true h = sym (append-nil (front_of (v ∷ up)))
     go false h = ap (λ l. l ++ level_front up v) h ∙ append-assoc (front_of (levels_down up s)) (lower_front s up) (level_front up v)
 
 pub back_split : (s : ℕ) (levels : List Level) → back_of levels ≡ lower_back s levels ++ back_of (levels_down levels s)
@@ -162,7 +158,7 @@ module _ (inside : Name → Bool) (ok : ℕ → Bool) (named : (s : Name) → ro
   mutual
     node_inner : (way : Way) (node : Node) → ((m : ℕ) → 1 ≤ count_in m node → ok m ≡ true) → Each (IsInner inside) (list_in way node)
     node_inner way (Numbered n kind alternatives) h = among_inner way n kind 0 alternatives
-        (h n (let z : one_if (n == n) ≡ 1 = ap one_if (same_self n) in omega (arith, z))) (λ m l. h m (omega (arith, l)))
+        (h n (let z : one_if (n == n) ≡ 1 = ap one_if (number_same n) in omega (arith, z))) (λ m l. h m (omega (arith, l)))
 
     pub among_inner : (way : Way) (n : ℕ) (kind : Kind) (i : ℕ) (others : Alternatives) → ok n ≡ true
         → ((m : ℕ) → 1 ≤ count_among m others → ok m ≡ true) → Each (IsInner inside) (list_among way n kind i others)
@@ -205,7 +201,7 @@ module _ (inside : Name → Bool) (ok : ℕ → Bool) (named : (s : Name) → ro
       go false f more =
           let rest = more (λ m l. f m (omega (arith, l))) in
           let own : ok v.number ≡ true = f v.number
-          (let z : one_if (v.number == v.number) ≡ 1 = ap one_if (same_self v.number) in omega (arith, z)) in (
+          (let z : one_if (v.number == v.number) ≡ 1 = ap one_if (number_same v.number) in omega (arith, z)) in (
             each-append (IsInner inside) (lower_front s up) (level_front up v) rest.0
                 (tt, left_inner (way_of up) v.number v.kind v.left own (λ m l. f m (omega (arith, l)))),
             each-append (IsInner inside) (list_right (way_of up) v) (lower_back s up) (

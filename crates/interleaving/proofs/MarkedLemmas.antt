@@ -12,10 +12,9 @@ use Rattle.tree_model.specs.Elements.{Name, same, Element, Credit, Plain, EndOf,
 use Rattle.interleaving.specs.HeightMachine.{HeightElement, HeightEntry, held_entries}
 use Rattle.interleaving.specs.Erased.{from, element_count, height, with_height, continuation_heights, erased}
 use Rattle.interleaving.specs.Sound.{IsMarkSound, IsSound}
-use Rattle.interleaving.proofs.WayLemmas.{cond-true, cond-false, same_self}
-
-clash : {A : Type 0} → false ≡ true → A
-clash h = let no_way : ⊥ = cc in absurd no_way
+use Rattle.interleaving.proofs.WayLemmas.{cond-true, cond-false}
+use Rattle.interleaving.proofs.TestLemmas.{false_true, number_same}
+use Rattle.au_term.proofs.LogicLemmas.{neither}
 
 abbrev pub is_catch_entry : Entry → Bool
 is_catch_entry (CatchEntry c r f) = true
@@ -116,7 +115,7 @@ found_catch (EndOf n ∷ xs) es s t e g = go (same s n) g.5 (λ z. found_catch x
         let k = held_cons _ d (erased t) ds h in
         let many : element_count t ≡ length ds = held_length t ds k.1 in
         cond-true (length ds == element_count t) (is_catch_entry d) (catch_at (element_count t) ds)
-        (ap (λ n. length ds == n) many ∙ same_self (length ds)) ∙ ap is_catch_entry (sym k.0)
+        (ap (λ n. length ds == n) many ∙ number_same (length ds)) ∙ ap is_catch_entry (sym k.0)
 
     go : (b : Bool) → cond b (EndOf n ∷ xs) (from xs s) ≡ EndOf s ∷ Catch s g.0 g.1 g.2 g.3 g.4 ∷ t
         → (from xs s ≡ EndOf s ∷ Catch s g.0 g.1 g.2 g.3 g.4 ∷ t → catch_at (element_count t) es ≡ true) → catch_at (element_count t) es ≡ true
@@ -175,7 +174,7 @@ named_marked (End p b ∷ xs) (d ∷ es) i e = let k = held_cons (EndEntry b) d 
 
 -- where a Catch entry may be
 pub catch_low : (h : ℕ) (es : List Entry) → catch_at h es ≡ true → suc h ≤ length es
-catch_low h [] k = clash k
+catch_low h [] k = false_true k
 catch_low h (e ∷ es) k = go (length es == h) refl k (catch_low h es)
   where
     go : (b : Bool) → (length es == h) ≡ b → cond b (is_catch_entry e) (catch_at h es) ≡ true
@@ -184,15 +183,10 @@ catch_low h (e ∷ es) k = go (length es == h) refl k (catch_low h es)
     go false q z f = let l = f z in omega (arith, l)
 
 guard_none : (e : Entry) → is_guard e ≡ false → is_catch_entry e ≡ false
-guard_none (CatchEntry c r f) h = clash (sym h)
+guard_none (CatchEntry c r f) h = false_true (sym h)
 guard_none (PlainEntry f) h = refl
 guard_none (FindallEntry results l f) h = refl
 guard_none (EndEntry b) h = refl
-
-neither : (a b : Bool) → (a || b) ≡ false → (a ≡ false) × (b ≡ false)
-neither false false h = (refl, refl)
-neither false true h = clash (sym h)
-neither true b h = clash (sym h)
 
 pub no_guard_catch : (h : ℕ) (olds es : List Entry) → list_any is_guard olds ≡ false → catch_at h (olds ++ es) ≡ true → catch_at h es ≡ true
 no_guard_catch h [] es n k = k
@@ -201,5 +195,5 @@ no_guard_catch h (o ∷ olds) es n k = go (length (olds ++ es) == h) k
   where
     go : (b : Bool) → cond b (is_catch_entry o) (catch_at h (olds ++ es)) ≡ true
         → (catch_at h (olds ++ es) ≡ true → catch_at h es ≡ true) → catch_at h es ≡ true
-    go true z f = clash (sym (guard_none o (neither (is_guard o) (list_any is_guard olds) n).0) ∙ z)
+    go true z f = false_true (sym (guard_none o (neither (is_guard o) (list_any is_guard olds) n).0) ∙ z)
     go false z f = f z

@@ -12,10 +12,11 @@ use Rattle.tree_model.specs.Levels.{Level}
 use Rattle.tree_model.specs.Nodes.{Hold, Ready, TakenBy, Waiting, Dormant, Alternatives, none, alternative, Pending, Inner, Closed}
 use Rattle.tree_model.specs.Floors.{renamed_item, renamed_entry, height_of, with_heights, right_entry, floor_of}
 use Rattle.tree_model.specs.PendingLists.{Step, Way, way_of, step_of, step_name, scope_on, element_at}
-use Rattle.interleaving.proofs.WayLemmas.{cond-true, cond-false, same_self}
+use Rattle.interleaving.proofs.WayLemmas.{cond-true, cond-false}
 use Rattle.interleaving.proofs.NamingLemmas.{from_end, from_own}
 use Rattle.tree_model.specs.Ways.{is_on}
 use Rattle.interleaving.proofs.RoundtripLemmas.{IsPath}
+use Rattle.interleaving.proofs.TestLemmas.{number_same}
 
 -- what sleeps to the right of an alternative, and its end; in its place, where nothing sleeps, an end of a query that
 -- takes no ball
@@ -128,7 +129,7 @@ low_height (v ∷ up) s = go (v.number == s) refl (low_height up s)
     go false k f = ap element_count (from-level v up s (λ e. clash (sym k ∙ other e))) ∙ f
       where
         other : s ≡ v.number → (v.number == s) ≡ true
-        other e = ap (λ m. v.number == m) e ∙ same_self v.number
+        other e = ap (λ m. v.number == m) e ∙ number_same v.number
 
         clash : false ≡ true → ⊥
         clash z = cc
@@ -173,7 +174,7 @@ scope_never (a ∷ way) s i n h e = go (a.node == s) (a.node == n) refl (scope_n
     go : (b c : Bool) → (a.node == n) ≡ c → (is_on way n ≡ false → scope_on way s ≡ i ∷ n ∷ [] → ⊥) → cond c true (is_on way n) ≡ false
         → cond b (step_name a) (scope_on way s) ≡ i ∷ n ∷ [] → ⊥
     go b true k f o z = clash o
-    go true false k f o z = clash (sym (same_self n) ∙ ap (λ m. m == n) (sym (same_last a.index a.node z)) ∙ k)
+    go true false k f o z = clash (sym (number_same n) ∙ ap (λ m. m == n) (sym (same_last a.index a.node z)) ∙ k)
     go false false k f o z = f o z
 
 -- past the end of a sleeper, whose node isn't on the way above

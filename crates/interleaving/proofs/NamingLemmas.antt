@@ -12,8 +12,9 @@ use Rattle.tree_model.specs.Elements.{Name, same, Element, Credit, Plain, EndOf,
 use Rattle.interleaving.specs.HeightMachine.{HeightElement, HeightCredit, HeightEntry, held_lowest}
 use Rattle.interleaving.specs.Erased.{from, element_count, height, with_height, continuation_heights, record_height, erased}
 use Rattle.interleaving.specs.Sound.{names, IsMadeElsewhere, IsPresent, IsChain, AreCarried}
-use Rattle.interleaving.proofs.RunFrontLemmas.{append-assoc-at}
 use Rattle.interleaving.proofs.ApartLemmas.{same-true}
+use Rattle.au_term.proofs.LogicLemmas.{and-both}
+use Rattle.interleaving.proofs.AppendLemmas.{append-assoc}
 
 pub not-same : (s e : Name) → (s ≡ e → ⊥) → same s e ≡ false
 not-same s e h = go (same s e) refl
@@ -22,13 +23,9 @@ not-same s e h = go (same s e) refl
     go true f = absurd (h (same-true s e f))
     go false f = refl
 
-both : (b c : Bool) → b ≡ true → c ≡ true → (b && c) ≡ true
-both true c e f = f
-both false c e f = e
-
 pub same-itself : (s : Name) → same s s ≡ true
 same-itself [] = refl
-same-itself (a ∷ more) = both (a == a) (same more more) (eq-eqb a a refl) (same-itself more)
+same-itself (a ∷ more) = and-both (a == a) (same more more) (eq-eqb a a refl) (same-itself more)
 
 -- items
 pub heights-same : (f g : Name → ℕ) (items : List (Item Name)) → Each (λ s. f s ≡ g s) (names items) → map (with_height f) items
@@ -153,7 +150,7 @@ from-made p s (Findall c u results list q f ∷ ys) xs h n = from-made p s ys xs
 from-made p s (End q b ∷ ys) xs h n = from-made p s ys xs h.1 n
 
 pub not_child : (p s : Name) (i : ℕ) → IsMadeElsewhere p s → IsMadeElsewhere (i ∷ p) s
-not_child p s i n = λ more e. n (more ++ i ∷ []) (e ∙ sym (append-assoc-at more (i ∷ []) p))
+not_child p s i n = λ more e. n (more ++ i ∷ []) (e ∙ sym (append-assoc more (i ∷ []) p))
 
 pub all-not_child : (p : Name) (i : ℕ) (hs : List Name) → Each (IsMadeElsewhere p) hs → Each (IsMadeElsewhere (i ∷ p)) hs
 all-not_child p i [] h = tt

@@ -28,11 +28,12 @@ use Rattle.interleaving.proofs.PluggedLemmas.{IsIn, all_in}
 use Rattle.interleaving.proofs.BallLemmas.{IsLow, landing_low}
 use Rattle.interleaving.proofs.PlacedSoundLemmas.{two_not_one}
 use Rattle.interleaving.proofs.HandOutCountLemmas.{handed}
-use Rattle.interleaving.proofs.UnchangedPlaceLemmas.{and_first, and_second, same_place-is}
+use Rattle.interleaving.proofs.UnchangedPlaceLemmas.{same_place-is}
 use Rattle.interleaving.proofs.OpenSpotLemmas.{if_room-some}
 use Rattle.interleaving.proofs.OnceLemmas.{IsGoing, IsKept, moved_at, here, all_defined, IsThere, there, IsMoved, moved_going}
 use Rattle.interleaving.proofs.OncePlaceLemmas.{held_going}
 use Rattle.interleaving.proofs.OnceChangeLemmas.{closed_moved, left_moved, cut_moved, fall_moved, opens_moved, placed_moved}
+use Rattle.au_term.proofs.LogicLemmas.{and-right, and-left}
 
 -- a tree after a closing event, unless it was halted
 pub record Moves (F : Place → Option Handed) (t new : TreeState) (s : Spot) : Type 0 where
@@ -56,9 +57,9 @@ taken_here w a t s e =
     let f = found (IsIn t.root) (λ r. is_taken_by w r.hold && same_place a (place_of_spot r)) (pending_spots t) s (all_in t.root) e in
     record {
       inside = f.holds;
-      held = and_first (is_taken_by w s.hold) _ f.passes;
+      held = and-left (is_taken_by w s.hold) _ f.passes;
       here_is = same_place-is a (place_of_spot s)
-          (and_second (is_taken_by w s.hold) _ f.passes);
+          (and-right (is_taken_by w s.hold) _ f.passes);
     }
 
 pub closing : (G : Place → Option Handed) (t : TreeState) (w : ℕ) (a : Place) (test : Spot → Bool) (new : Spot → TreeState) → IsKept G t
@@ -180,22 +181,22 @@ answer_moves G t s w d g th v QueryEnds h n = record { gone = []; moved = opens_
 pub nodes_move : (G : Place → Option Handed) (t : TreeState) (s : Spot) (w k : ℕ) (sizes : List ℕ) (d : (a : Place) → G a ≢ None)
     → IsGoing G t → IsThere G t s → (o : Option (List Entry)) → (nat_le 1 k && run_fits (length (levels_of s)) sizes o) ≡ true
     → Moves (moved_at G (place_of_spot s) (given_back Over w)) t (run_placed s k sizes o t) s
-nodes_move G t s w k sizes d g th None h = let no_way : ⊥ = clash (and_second (nat_le 1 k) false h) in absurd no_way
+nodes_move G t s w k sizes d g th None h = let no_way : ⊥ = clash (and-right (nat_le 1 k) false h) in absurd no_way
   where
     clash : false ≡ true → ⊥
     clash z = cc
 nodes_move G t s w k (size ∷ sizes) d g th (Some es) h = record
     { gone = []; moved = placed_moved G t s (given_back Over w) d g th k size sizes es }
-nodes_move G t s w k [] d g th (Some []) h = let no_way : ⊥ = clash (and_second (nat_le 1 k) false h) in absurd no_way
+nodes_move G t s w k [] d g th (Some []) h = let no_way : ⊥ = clash (and-right (nat_le 1 k) false h) in absurd no_way
   where
     clash : false ≡ true → ⊥
     clash z = cc
-nodes_move G t s w k [] d g th (Some (e ∷ [])) h = let no_way : ⊥ = clash (and_second (nat_le 1 k) false h) in absurd no_way
+nodes_move G t s w k [] d g th (Some (e ∷ [])) h = let no_way : ⊥ = clash (and-right (nat_le 1 k) false h) in absurd no_way
   where
     clash : false ≡ true → ⊥
     clash z = cc
 nodes_move G t s w k [] d g th (Some (e ∷ x ∷ es)) h = let no_way : ⊥ = clash
-    (sym (two_not_one e x es) ∙ and_second (nat_le 1 k) _ h) in absurd no_way
+    (sym (two_not_one e x es) ∙ and-right (nat_le 1 k) _ h) in absurd no_way
   where
     clash : false ≡ true → ⊥
     clash z = cc

@@ -21,16 +21,18 @@ use Rattle.tree_model.specs.HandOuts.{Handed, Never, Out, Away, Over, resumed, g
 use Rattle.tree_model.specs.Promises.{Once}
 use Rattle.tree_model.specs.SoundTrees.{one_if, IsSoundTree}
 use Rattle.interleaving.proofs.AppendLemmas.{found}
-use Rattle.interleaving.proofs.WayLemmas.{cond-true, cond-false, same_self}
+use Rattle.interleaving.proofs.WayLemmas.{cond-true, cond-false}
 use Rattle.interleaving.proofs.PluggedLemmas.{IsIn, all_in}
 use Rattle.interleaving.proofs.HandOutCountLemmas.{handed, at, kept_root}
 use Rattle.interleaving.proofs.HandOutPlaceLemmas.{tasks_at, IsOut}
 use Rattle.interleaving.proofs.LegalLemmas.{allowed_sound, event_sound, opening_sound}
-use Rattle.interleaving.proofs.UnchangedPlaceLemmas.{and_first, and_second, same_place-is, place_self}
+use Rattle.interleaving.proofs.UnchangedPlaceLemmas.{same_place-is, place_self}
 use Rattle.interleaving.proofs.OnceLemmas.{IsKept, after_one, moved_at, elsewhere, here, all_defined, lost_elsewhere}
 use Rattle.interleaving.proofs.OnceChangeLemmas.{closed_moved}
 use Rattle.interleaving.proofs.OnceEventLemmas.{taken_out, taken_here, closing, stack_some, prune_moves, front_whole, answer_moves}
 use Rattle.interleaving.proofs.OnceEventLemmas.{nodes_move, waiting_away, spot_is, holding, claim_kept}
+use Rattle.au_term.proofs.LogicLemmas.{and-right, and-left}
+use Rattle.interleaving.proofs.TestLemmas.{number_same}
 
 resume_kept : (G : Place → Option Handed) (t : TreeState) (w : ℕ) (a : Place) → IsKept G t → t.halted ≡ None → IsSoundTree t
     → (o : Option Spot) → resumable t ≡ o → is_spot_at a o ≡ true
@@ -57,7 +59,7 @@ suspend_kept G t w a frozen test k z st (Some s) e h =
 
 -- a task that was pruned comes back
 is_its : (w : ℕ) (a : Place) (task : Task) → is_task w a task ≡ true → (task.at ≡ a) × (task.worker ≡ w)
-is_its w a task h = (same_place-is task.at a (and_second (task.worker == w) _ h), number task.worker w (and_first (task.worker == w) _ h))
+is_its w a task h = (same_place-is task.at a (and-right (task.worker == w) _ h), number task.worker w (and-left (task.worker == w) _ h))
   where
     number : (m n : ℕ) → (m == n) ≡ true → m ≡ n
     number m n e = grind arith
@@ -101,7 +103,7 @@ lost_kept : (G : Place → Option Handed) (t : TreeState) (w : ℕ) (a : Place) 
 lost_kept G t w a k z h =
     let g = k.going z in
     let r = comes_back G w a t.lost g.lost h in
-    let q : given_back Over w (Out w) ≡ Some Over = cond-true (w == w) (Some Over) None (same_self w) in
+    let q : given_back Over w (Out w) ≡ Some Over = cond-true (w == w) (Some Over) None (number_same w) in
     let now : moved_at G a (given_back Over w) a ≡ Some Over = here G a (given_back Over w) (Out w) Over r.mine q in
     let e = elsewhere G a (given_back Over w) k.defined in
     let one = g.once a in
@@ -173,9 +175,9 @@ event_kept : (G : Place → Option Handed) (t : TreeState) (e : Event) → IsKep
     → IsKept (after_one G e) (after_event t e)
 unfolding is_legal after_event
 event_kept G t e k st h =
-    let rest = and_second (not t.stopped) _ h in
-    let open_tree : is_none (ended t) ≡ true = and_first (is_none (ended t)) _ rest in
-    let r = allowed_kept G t e k (no_halt t.halted open_tree) st (and_second (is_none (ended t)) _ rest) in
+    let rest = and-right (not t.stopped) _ h in
+    let open_tree : is_none (ended t) ≡ true = and-left (is_none (ended t)) _ rest in
+    let r = allowed_kept G t e k (no_halt t.halted open_tree) st (and-right (is_none (ended t)) _ rest) in
     record {
       defined = r.defined;
       going = λ y. let g = r.going y in record
@@ -193,7 +195,7 @@ events_kept t [] G k st h a = same (G a) (k.defined a)
     same : (o : Option Handed) → o ≢ None → and_so_on o (λ x. Some x) ≢ None
     same None d = d
     same (Some x) d = d
-events_kept t (e ∷ es) G k st h a = go (and_first (is_legal t e) _ h) (events_kept (after_event t e) es (after_one G e)) (joined (G a))
+events_kept t (e ∷ es) G k st h a = go (and-left (is_legal t e) _ h) (events_kept (after_event t e) es (after_one G e)) (joined (G a))
   where
     joined : (o : Option Handed) → and_so_on o (handed_after a (e ∷ es)) ≡ and_so_on (and_so_on o (handed_by a e)) (handed_after a es)
     joined None = refl
@@ -203,7 +205,7 @@ events_kept t (e ∷ es) G k st h a = go (and_first (is_legal t e) _ h) (events_
         → are_legal (after_event t e) es ≡ true → (b : Place) → and_so_on (after_one G e b) (handed_after b es) ≢ None) →
         and_so_on (G a) (handed_after a (e ∷ es)) ≡ and_so_on (after_one G e a) (handed_after a es)
         → and_so_on (G a) (handed_after a (e ∷ es)) ≢ None
-    go l f j n = f (event_kept G t e k st l) (event_sound t e st l) (and_second (is_legal t e) _ h) a (sym j ∙ n)
+    go l f j n = f (event_kept G t e k st l) (event_sound t e st l) (and-right (is_legal t e) _ h) a (sym j ∙ n)
 
 opening_kept : (job : Job) (budget window : ℕ) → IsKept (λ a. Some Never) (opening_tree job budget window)
 opening_kept job budget window = go job.queries

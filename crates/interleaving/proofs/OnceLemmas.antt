@@ -12,13 +12,14 @@ use Rattle.tree_model.specs.TreeStates.{TreeState}
 use Rattle.tree_model.specs.HandOuts.{Handed, Never, if_here, handed_by, and_so_on}
 use Rattle.tree_model.specs.Ways.{IsOnWay}
 use Rattle.tree_model.specs.SoundTrees.{one_if, count_among, count_below, IsSound, IsSoundTree}
-use Rattle.interleaving.proofs.WayLemmas.{cond-true, cond-false, same_self}
+use Rattle.interleaving.proofs.WayLemmas.{cond-true, cond-false}
 use Rattle.interleaving.proofs.PluggedLemmas.{IsIn}
 use Rattle.interleaving.proofs.ContextLemmas.{count_left, count_around, count_plug}
 use Rattle.interleaving.proofs.HandOutCountLemmas.{handed, Agrees, AgreesAround, stand, stand_around}
 use Rattle.interleaving.proofs.HandOutCountLemmas.{stand_plug, agrees_out, Elsewhere, NewIn, IsAgreed}
 use Rattle.interleaving.proofs.HandOutPlaceLemmas.{tasks_at, tasks_append, IsOut, each-append, stands_root}
 use Rattle.interleaving.proofs.UnchangedPlaceLemmas.{same_place-is, place_self}
+use Rattle.interleaving.proofs.TestLemmas.{number_same}
 
 -- a tree that has not been halted, and how its alternatives have been handed out
 pub record IsGoing (G : Place → Option Handed) (t : TreeState) : Type 0 where
@@ -109,7 +110,7 @@ there G t s g k i =
     ≡ (count_around v.number s.above +
     (one_if (v.number == v.number) + (count_left v.number v.left + count_among v.number v.right))) + 0 = ap (count_below v.number)
     (sym i) ∙ count_plug v.number (levels_of s) (Pending s.hold s.entry) in
-    let self : one_if (v.number == v.number) ≡ 1 = ap one_if (same_self v.number) in
+    let self : one_if (v.number == v.number) ≡ 1 = ap one_if (number_same v.number) in
     record {
       inside = i;
       around = out.0;

@@ -13,6 +13,7 @@ use Rattle.tree_model.specs.SoundTrees.{count_below, IsOpen, profile, IsSound, I
 use Rattle.interleaving.proofs.AppendLemmas.{found}
 use Rattle.interleaving.proofs.PluggedLemmas.{IsIn, all_in}
 use Rattle.interleaving.proofs.ContextLemmas.{IsAround, taken_out, live_at, live_open, put_in, count_around, count_plug}
+use Rattle.au_term.proofs.LogicLemmas.{and-right, and-left}
 
 -- an alternative of the tree that is open
 pub record IsOpenSpot (root : Status) (s : Spot) : Type 0 where
@@ -37,14 +38,6 @@ waiting_open s Ready e k = let no_way : ⊥ = cc in absurd no_way
 waiting_open s (TakenBy w) e k = let no_way : ⊥ = cc in absurd no_way
 waiting_open s Dormant e k = let no_way : ⊥ = cc in absurd no_way
 
-pub both_left : (a b : Bool) → (a && b) ≡ true → a ≡ true
-both_left true b h = refl
-both_left false b h = let no_way : ⊥ = cc in absurd no_way
-
-pub both_right : (a b : Bool) → (a && b) ≡ true → b ≡ true
-both_right true b h = h
-both_right false b h = let no_way : ⊥ = cc in absurd no_way
-
 -- what may be handed out, and what is out
 pub if_room-some : (t : TreeState) (o : Option Spot) (s : Spot) → if_room t o ≡ Some s → o ≡ Some s
 if_room-some t None s h = h
@@ -68,7 +61,7 @@ resumable_open t s h =
 pub taken_at_open : (w : ℕ) (a : Place) (t : TreeState) (s : Spot) → taken_at w a t ≡ Some s → IsOpenSpot t.root s
 taken_at_open w a t s h =
     let f = found (IsIn t.root) (λ r. is_taken_by w r.hold && same_place a (place_of_spot r)) (pending_spots t) s (all_in t.root) h in
-    record { inside = f.holds; opened = taken_open w s.hold s.entry (both_left (is_taken_by w s.hold) _ f.passes) }
+    record { inside = f.holds; opened = taken_open w s.hold s.entry (and-left (is_taken_by w s.hold) _ f.passes) }
 
 -- round an open place, and the entry there
 pub record IsPlaced (s : Spot) : Type 0 where

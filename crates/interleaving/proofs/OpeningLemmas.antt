@@ -19,12 +19,13 @@ use Rattle.interleaving.specs.Sound.{IsSound}
 use Rattle.interleaving.specs.Follows.{lead}
 use Rattle.interleaving.specs.HistoryInvariants.{IsInStep}
 use Rattle.interleaving.proofs.PreservedLemmas.{opened-sound}
-use Rattle.interleaving.proofs.RunHeightLemmas.{names_are_free}
+use Rattle.interleaving.proofs.RunHeightLemmas.{names_are_free, goals-at}
 use Rattle.interleaving.proofs.ListChangeLemmas.{no_credit}
 use Rattle.interleaving.proofs.LegalLemmas.{opening_sound}
 use Rattle.interleaving.proofs.ListsSoundLemmas.{lists_are_sound}
 use Rattle.tree_model.specs.GivenAnswers.{answers_in, AreInOrder}
 use Rattle.tree_model.specs.CaughtTrees.{MarksCaught, IsCaught, IsLastQuery, IsUnspent, IsCaughtTree}
+use Rattle.interleaving.proofs.CaughtEventLemmas.{marks_opened}
 
 abbrev top : Way
 top = record { node = 0; index = 0; kind = QueryNode } ∷ []
@@ -33,10 +34,6 @@ goals_named : (f : Name → ℕ) (gs : List Term) → map (with_height f) (map (
     ≡ goals_at (f (0 ∷ 0 ∷ [])) gs
 goals_named f [] = refl
 goals_named f (g ∷ gs) = ap (λ l. GoalItem g (f (0 ∷ 0 ∷ [])) ∷ l) (goals_named f gs)
-
-goals_plain : (f : Name → ℕ) (h : Name) (gs : List Term) → map (with_height f) (goals_at h gs) ≡ goals_at (f h) gs
-goals_plain f h [] = refl
-goals_plain f h (g ∷ gs) = ap (λ l. GoalItem g (f h) ∷ l) (goals_plain f h gs)
 
 -- the list of a query's opening, without its empty credits
 abbrev first_list : Query → List Element
@@ -53,7 +50,7 @@ same_erased : (q : Query) (qs : List Query) → erased (opened_elements [] (q �
 same_erased q qs =
     ap (λ is. HeightEntry (PlainEntry (record { items = is; named = own_terms q.names; next = query_bound q })) ∷ HeightEntry
     (EndEntry None) ∷ [])
-    (goals_plain (height (EndOf [] ∷ End (1 ∷ []) None ∷ [])) [] q.goals
+    (goals-at (height (EndOf [] ∷ End (1 ∷ []) None ∷ [])) [] q.goals
     ∙ sym (goals_named (height (EndOf (0 ∷ 0 ∷ []) ∷ End (0 ∷ 1 ∷ 0 ∷ []) None ∷ EndOf (1 ∷ 0 ∷ []) ∷ [])) q.goals))
 
 opens_alike : (clauses : List Clause) (qs : List Query) → IsSound (pending_list (opening_root qs))
@@ -69,13 +66,9 @@ first_queries : (qs : List Query) → remaining_queries qs ≡ queries_after qs
 first_queries [] = refl
 first_queries (q ∷ qs) = refl
 
-goals_caught : (sleeps : ℕ → Bool) (n : ℕ) (gs : List Term) → MarksCaught sleeps (goals_at n gs)
-goals_caught sleeps n [] = tt
-goals_caught sleeps n (g ∷ gs) = goals_caught sleeps n gs
-
 root_caught : (qs : List Query) → IsCaught (λ m. false) false false (opening_root qs)
 root_caught [] = inl refl
-root_caught (q ∷ qs) = (goals_caught _ 0 q.goals, (tt, tt))
+root_caught (q ∷ qs) = (marks_opened _ 0 q.goals, (tt, tt))
 
 root_last : (qs : List Query) → IsLastQuery (opening_root qs)
 root_last [] = tt

@@ -24,7 +24,7 @@ use Rattle.interleaving.specs.Sound.{names, IsEntrySound, IsSound}
 use Rattle.tree_model.specs.PrivateRuns.{own_part}
 use Rattle.interleaving.specs.OwnRuns.{landed, own_control, own_goal, own_item, own_taken, own_left, own_more, own_run}
 use Rattle.interleaving.specs.OwnRuns.{NamesEntries, IsFloorUnder, IsFloorOf, RunsPrivately, OwnRuns}
-use Rattle.interleaving.proofs.RunFrontLemmas.{append-assoc-at, map-none, some-same, none-some}
+use Rattle.interleaving.proofs.RunFrontLemmas.{map-none, some-same, none-some}
 use Rattle.interleaving.proofs.JoinedLemmas.{placed-within}
 use Rattle.interleaving.proofs.InsideLemmas.{under_ground}
 use Rattle.interleaving.proofs.EarlyLawLemmas.{private_inner}
@@ -38,6 +38,7 @@ use Rattle.interleaving.proofs.SeamLemmas.{Seam, seam}
 use Rattle.interleaving.proofs.SoundEarlyLemmas.{private-sound}
 use Rattle.interleaving.proofs.OwnRunStepLemmas.{floor_size, own_size, no_credit, head-is, later, own-settled}
 use Rattle.interleaving.proofs.OwnInferenceLemmas.{part-joined, over-floor, floor-low, search-in-from, Split, split, Low, low}
+use Rattle.interleaving.proofs.AppendLemmas.{append-assoc}
 
 under_of : (inside : Name → Bool) (zs : List Element) (floor : List Entry) → IsFloorOf inside zs floor → IsFloorUnder inside zs floor
 under_of inside zs floor fl = record { under = fl.under; entries = fl.entries }
@@ -76,7 +77,7 @@ module _ (clauses : List Clause) (inside : Name → Bool) (grown : IsGrown insid
       → IsSound (x ∷ (a ++ zs)) → erased (ys ++ (a ++ zs)) ≡ held_entries st → Took (x ∷ a) st
   put_took x ys a st e h i k = took (x ∷ a) (ys ++ a) st
       (private_takes 0 x (Put ys) [] a (ys ++ a) (ys ++ a) e refl (private_none (ys ++ a))) h i
-      (ap erased (append-assoc-at ys a zs) ∙ k)
+      (ap erased (append-assoc ys a zs) ∙ k)
 
   -- an inference that searches among the own elements
   seek_took : (x : Element) (q : Sought) (a s : List Element) (st : List Entry) → act clauses x ≡ Takes (Seek q) → search_in m q a

@@ -7,11 +7,11 @@ use Rattle.tree_model.specs.Elements.{Record, Element}
 use Rattle.interleaving.specs.Scopes.{Shared, Sought, scoped}
 use Rattle.interleaving.specs.Quiet.{IsQuiet, inferences, records}
 use Rattle.interleaving.specs.Laws.{CreditsPass, CreditsEnd}
-use Rattle.interleaving.proofs.RunFrontLemmas.{append-none}
 use Rattle.interleaving.proofs.EarlyLemmas.{Ground, Runs, z-map}
 use Rattle.interleaving.proofs.JoinedLemmas.{reached}
 use Rattle.interleaving.proofs.InsideStepLemmas.{any_ground}
 use Rattle.interleaving.proofs.CreditLawLemmas.{any-all, quiet_alone, further}
+use Rattle.interleaving.proofs.AppendLemmas.{append-nil}
 
 module _ {W X Q R : Type 0} (m : Machine W X Q R) (g : Ground m) where
   world_kept : (k n : ℕ) (rs : List R) (a b : List X) → Runs m g k rs a b → n ≤ k → (w : W) (zs : List X) → Each g.Under zs
@@ -48,5 +48,5 @@ module _ (clauses : List Clause) where
   pub credits_end : CreditsEnd clauses
   credits_end xs w n q =
       let all : run m (inferences xs) w (free_steps m [] xs) ≡ (w, []) = ap (λ l. run m (inferences xs) w (free_steps m [] l))
-      (sym (append-none xs)) ∙ (credits_pass xs [] w q).passed in
+      (sym (append-nil xs)) ∙ (credits_pass xs [] w q).passed in
       further clauses (inferences xs) n w (free_steps m [] xs) ∙ ap (λ s. run m n s.0 s.1) all ∙ ended n w

@@ -19,13 +19,10 @@ use Rattle.interleaving.specs.Scopes as scopes
 use Rattle.interleaving.specs.HeightMachine.{HeightElement, HeightEntry, held_entries, held_control}
 use Rattle.interleaving.specs.Erased.{from, element_count, height, with_height, continuation_heights, erased}
 use Rattle.interleaving.specs.Sound.{names, IsMadeElsewhere, AreCarried}
-use Rattle.interleaving.proofs.RunFrontLemmas.{append-assoc-at}
 use Rattle.interleaving.proofs.NamingLemmas.{heights-same, resolved-heights, same-heights, body-heights, goals-heights, length-erased}
 use Rattle.interleaving.proofs.NamingLemmas.{lowest-from, IsMadeBy, from_end, from_own, heights-made, heights-cut, longer, sames}
-
-pub entries-append : (es ds : List Entry) → held_entries (es ++ ds) ≡ held_entries es ++ held_entries ds
-entries-append [] ds = refl
-entries-append (e ∷ es) ds = ap (λ xs. HeightEntry e ∷ xs) (entries-append es ds)
+use Rattle.interleaving.proofs.AppendLemmas.{append-assoc}
+use Rattle.interleaving.proofs.SequentialHeightLemmas.{held-append}
 
 pub ends_made : (p : Name) → Each (IsMadeBy p) (EndOf p ∷ [])
 ends_made p = (([], refl), tt)
@@ -60,7 +57,7 @@ pub from-solutions : (n : ℕ) (p : Name) (f : Continuation Name) (ss : List Sol
 from-solutions n p f [] xs = from_own p xs
 from-solutions n p f (s ∷ ss) xs =
     let one : Continuation Name = with_next (f.next + s.variables) (before (goals_at p s.goals) f) in
-    ap (λ l. from l p) (append-assoc-at (scopes.unified_element (unifier s.equations) (n ∷ p) one) (scopes.solution_elements (suc n) p f ss) xs)
+    ap (λ l. from l p) (append-assoc (scopes.unified_element (unifier s.equations) (n ∷ p) one) (scopes.solution_elements (suc n) p f ss) xs)
     ∙ from-unified (unifier s.equations) (n ∷ p) one (scopes.solution_elements (suc n) p f ss ++ xs) p
     ∙ from-solutions (suc n) p f ss xs
 
@@ -83,7 +80,7 @@ solutions-held n p f (s ∷ ss) xs h =
     let one : continuation_heights (height (rest ++ xs)) g ≡ before (goals_at (element_count xs) s.goals) (continuation_heights (height xs) f) = goals-heights
     (height (rest ++ xs)) (height xs) p (element_count xs) s.goals f (ap element_count (from-solutions (suc n) p f ss xs))
     (heights-made p rest xs (names f.items) (solutions-made (suc n) p f ss) h) in
-    ap erased (append-assoc-at (scopes.unified_element (unifier s.equations) (n ∷ p) (with_next next g)) rest xs)
+    ap erased (append-assoc (scopes.unified_element (unifier s.equations) (n ∷ p) (with_next next g)) rest xs)
     ∙ unified-held (unifier s.equations) (n ∷ p) (with_next next g)
     (with_next next (before (goals_at (element_count xs) s.goals) (continuation_heights (height xs) f))) (rest ++ xs)
     (solution_entries (element_count xs) (continuation_heights (height xs) f) ss) (erased xs) (ap (with_next next) one)

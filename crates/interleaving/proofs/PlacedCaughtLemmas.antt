@@ -16,8 +16,8 @@ use Rattle.tree_model.specs.PendingLists.{way_of}
 use Rattle.tree_model.specs.Ways.{is_query}
 use Rattle.tree_model.specs.CaughtTrees.{catch_right, with_catch, MarksCaught, EntryCaught, is_side, IsCaught, AreCaught, IsNoEnd}
 use Rattle.tree_model.specs.CaughtTrees.{HasNoQuery, HaveNoQuery, IsUnspent, AreUnspent}
-use Rattle.interleaving.proofs.WayLemmas.{cond-true, cond-false, same_self, other_number}
-use Rattle.interleaving.proofs.RoundtripLemmas.{by_nodes, IsPath, not_same}
+use Rattle.interleaving.proofs.WayLemmas.{cond-true, cond-false, other_number}
+use Rattle.interleaving.proofs.RoundtripLemmas.{by_nodes, IsPath}
 use Rattle.interleaving.proofs.EntryLemmas.{length-floor, own_height}
 use Rattle.interleaving.proofs.BallLemmas.{node_on}
 use Rattle.interleaving.proofs.PlacedSoundLemmas.{take-drop, drop-length}
@@ -25,27 +25,25 @@ use Rattle.interleaving.proofs.PlacedShapeLemmas.{holder_first, holder_later, ma
 use Rattle.interleaving.proofs.PlacedErasedLemmas.{Fills}
 use Rattle.interleaving.proofs.ListScopeLemmas.{sleeps_on}
 use Rattle.interleaving.proofs.MarkedLemmas.{is_catch_entry, catch_at, MarksAt, EntryMarked, AreMarked, catch_low, no_guard_catch}
-
-clash : {A : Type 0} → false ≡ true → A
-clash h = let no_way : ⊥ = cc in absurd no_way
+use Rattle.interleaving.proofs.TestLemmas.{false_true, not_equal, number_same}
 
 -- what sleeps on a floor
 entry_sleeps : (up : List Level) (right : Alternatives) → is_catch_entry (with_heights up (right_entry right)) ≡ true
     → catch_right right ≡ true
-entry_sleeps up none h = clash h
-entry_sleeps up (alternative sp (Inner node) others) h = clash h
-entry_sleeps up (alternative sp (Closed c) others) h = clash h
-entry_sleeps up (alternative sp (Pending Ready e) others) h = clash h
-entry_sleeps up (alternative sp (Pending (TakenBy w) e) others) h = clash h
-entry_sleeps up (alternative sp (Pending (Waiting g) e) others) h = clash h
+entry_sleeps up none h = false_true h
+entry_sleeps up (alternative sp (Inner node) others) h = false_true h
+entry_sleeps up (alternative sp (Closed c) others) h = false_true h
+entry_sleeps up (alternative sp (Pending Ready e) others) h = false_true h
+entry_sleeps up (alternative sp (Pending (TakenBy w) e) others) h = false_true h
+entry_sleeps up (alternative sp (Pending (Waiting g) e) others) h = false_true h
 entry_sleeps up (alternative sp (Pending Dormant (CatchEntry c r f)) others) h = refl
-entry_sleeps up (alternative sp (Pending Dormant (PlainEntry f)) others) h = clash h
-entry_sleeps up (alternative sp (Pending Dormant (FindallEntry results l f)) others) h = clash h
-entry_sleeps up (alternative sp (Pending Dormant (EndEntry b)) others) h = clash h
+entry_sleeps up (alternative sp (Pending Dormant (PlainEntry f)) others) h = false_true h
+entry_sleeps up (alternative sp (Pending Dormant (FindallEntry results l f)) others) h = false_true h
+entry_sleeps up (alternative sp (Pending Dormant (EndEntry b)) others) h = false_true h
 
 pub floor_sleeps : (levels : List Level) → IsPath (way_of levels) → (h : ℕ) → catch_at h (floor_of levels) ≡ true
     → sleeps_on levels (node_of levels (suc h)) ≡ true
-floor_sleeps [] p h k = clash k
+floor_sleeps [] p h k = false_true k
 floor_sleeps (v ∷ up) p h k = go (length (floor_of up) == h) refl k (floor_sleeps up p.1 h)
   where
     go : (b : Bool) → (length (floor_of up) == h) ≡ b → cond b (is_catch_entry (with_heights up (right_entry v.right)))
@@ -54,12 +52,12 @@ floor_sleeps (v ∷ up) p h k = go (length (floor_of up) == h) refl k (floor_sle
     go true e z f =
         let top : length (floor_of up) ≡ h = grind arith in
         let own : node_of (v ∷ up) (suc h) ≡ v.number = ap (λ n. node_of (v ∷ up) (suc n)) (sym top ∙ length-floor up) ∙ own_height v up in
-        cond-true (v.number == node_of (v ∷ up) (suc h)) (catch_right v.right) _ (ap (λ n. v.number == n) own ∙ same_self v.number)
+        cond-true (v.number == node_of (v ∷ up) (suc h)) (catch_right v.right) _ (ap (λ n. v.number == n) own ∙ number_same v.number)
         ∙ entry_sleeps up v.right z
     go false e z f =
         let low : suc h ≤ length up = let l = catch_low h (floor_of up) z in omega (arith, l, length-floor up) in
         let node : node_of (v ∷ up) (suc h) ≡ node_of up (suc h) = cond-false (suc h == suc (length up)) v.number (node_of up (suc h))
-        (not_same (suc h) (suc (length up)) (omega (arith, low))) in
+        (not_equal (suc h) (suc (length up)) (omega (arith, low))) in
         let on = node_on up (suc h) (omega arith) low in
         let off : (v.number == node_of up (suc h)) ≡ false = other_number (way_of up) v.number (node_of up (suc h)) p.0 on
         (v.number == node_of up (suc h)) refl in
@@ -184,9 +182,9 @@ module _ (name : ℕ → ℕ) (next : ℕ) (sleeps : ℕ → Bool) (low : List E
 
               wakes : (e : Entry) → is_catch_entry e ≡ true → catch_right (further_alternatives (map (with_nodes name) (e ∷ []))) ≡ true
               wakes (CatchEntry c r f) x = refl
-              wakes (PlainEntry f) x = clash x
-              wakes (FindallEntry results list f) x = clash x
-              wakes (EndEntry b) x = clash x
+              wakes (PlainEntry f) x = false_true x
+              wakes (FindallEntry results list f) x = false_true x
+              wakes (EndEntry b) x = false_true x
 
               go : (b : Bool) → (length low == h) ≡ b → cond b (is_catch_entry o) (catch_at h low) ≡ true
                   → with_catch next (catch_right (further_alternatives (map (with_nodes name) (o ∷ [])))) sleeps (name (suc h)) ≡ true
@@ -194,7 +192,7 @@ module _ (name : ℕ → ℕ) (next : ℕ) (sleeps : ℕ → Bool) (low : List E
               go true y x =
                   let top : h ≡ length low = (let t : length low ≡ h = grind arith in sym t) in
                   cond-true (next == name (suc h)) (catch_right (further_alternatives (map (with_nodes name) (o ∷ []))))
-                  (sleeps (name (suc h))) (ap (λ n. next == n) (own top) ∙ same_self next) ∙ wakes o x
+                  (sleeps (name (suc h))) (ap (λ n. next == n) (own top) ∙ number_same next) ∙ wakes o x
 
 guard_tails : (low olds : List Entry) → list_any is_guard olds ≡ false → TailsPlain low olds
 guard_tails low [] h = tt
@@ -202,7 +200,7 @@ guard_tails low (o ∷ os) h = ((λ k z. no_guard_catch k os low (rest (is_guard
   where
     rest : (b : Bool) → (b || list_any is_guard os) ≡ false → list_any is_guard os ≡ false
     rest false k = k
-    rest true k = clash (sym k)
+    rest true k = false_true (sym k)
 
 alone_tails : (low olds : List Entry) → is_alone olds ≡ true → TailsPlain low olds
 alone_tails low olds h = pick (list_any is_guard olds) refl

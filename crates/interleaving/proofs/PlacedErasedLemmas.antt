@@ -10,14 +10,15 @@ use Rattle.tree_model.specs.Nodes.{Kind, Status, standing}
 use Rattle.tree_model.specs.Floors.{with_nodes}
 use Rattle.tree_model.specs.Shapes.{further, holder, guard_kind, guard_hold, placed_status}
 use Rattle.tree_model.specs.PendingLists.{Step, Way, scope_on, list_among, list_below}
-use Rattle.interleaving.proofs.WayLemmas.{same_self}
 use Rattle.interleaving.proofs.AppendLemmas.{append-assoc}
 use Rattle.interleaving.proofs.NamingLemmas.{from_own}
-use Rattle.interleaving.proofs.PlacedSoundLemmas.{take-drop, drop-length}
+use Rattle.interleaving.proofs.PlacedSoundLemmas.{take-drop, drop-length, map-length}
 use Rattle.interleaving.proofs.PlacedShapeLemmas.{holder_first, holder_later, made, made_equal}
 use Rattle.interleaving.proofs.NamedFloorLemmas.{from-other, scope-here, scope-above}
 use Rattle.interleaving.proofs.PlacedNameLemmas.{bare, bare-append, bare-element, olders, bare_olders, IsMet, AreMeasured, measured_split}
 use Rattle.interleaving.proofs.PlacedNameLemmas.{entry_back, from_olders, count_olders, other_node, older_erased}
+use Rattle.interleaving.proofs.TestLemmas.{number_same}
+use Rattle.interleaving.proofs.SequentialHeightLemmas.{held-append}
 
 -- no whole height falls inside a node
 abbrev pub NoneInside : (ℕ → Type 0) → ℕ → List ℕ → Type 0
@@ -50,14 +51,6 @@ bare_made way next first new =
     (EndOf (0 ∷ next ∷ []) ∷ list_among way next (guard_kind new) 1 (standing (guard_hold (guard_kind new)) new))
     ∙ ap (λ l. bare (list_below (record { node = next; index = 0; kind = guard_kind new } ∷ way) 0 first)
     ++ (EndOf (0 ∷ next ∷ []) ∷ l)) (bare_olders way next (guard_kind new) 1 (guard_hold (guard_kind new)) new)
-
-pub held-append : (xs ys : List Entry) → held_entries (xs ++ ys) ≡ held_entries xs ++ held_entries ys
-held-append [] ys = refl
-held-append (x ∷ xs) ys = ap (λ l. HeightEntry x ∷ l) (held-append xs ys)
-
-length-map : (g : Entry → Entry) (es : List Entry) → length (map g es) ≡ length es
-length-map g [] = refl
-length-map g (e ∷ es) = ap suc (length-map g es)
 
 module _ (Whole : ℕ → Type 0) (name : ℕ → ℕ) where
   -- the element list right of a node's first alternative, over what lies below
@@ -95,7 +88,7 @@ module _ (Whole : ℕ → Type 0) (name : ℕ → ℕ) where
       both = measured_split Whole (element_count xs) inner olds ms
 
       tall : element_count ys ≡ element_count xs + further size
-      tall = omega (arith, count_olders way next kind 1 (map (with_nodes name) olds) xs, length-map (with_nodes name) olds, many)
+      tall = omega (arith, count_olders way next kind 1 (map (with_nodes name) olds) xs, map-length (with_nodes name) olds, many)
 
       tall_olds : element_count ys ≡ length olds + element_count xs
       tall_olds = omega (arith, tall, many)
@@ -115,7 +108,7 @@ module _ (Whole : ℕ → Type 0) (name : ℕ → ℕ) where
           let here : name h ≡ next = ap name place
           ∙ (holds (further size - 1) ∙ holder_first next size sizes (further size - 1) (omega (arith, a, e))) in
           ap (λ m. height ys (scope_on (first ∷ way) m)) here
-          ∙ (ap (height ys) (scope-here first way next (same_self next))
+          ∙ (ap (height ys) (scope-here first way next (number_same next))
           ∙ (ap element_count (from_own (0 ∷ next ∷ []) (right ++ xs)) ∙ (tall ∙ sym e)))
 
       see : (h : ℕ) → Whole h → 1 ≤ h → h ≤ element_count ys → (c : Bool) → nat_le h (element_count xs) ≡ c → IsMet ys (first ∷ way) name h

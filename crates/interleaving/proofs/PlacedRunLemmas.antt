@@ -13,7 +13,7 @@ use Rattle.tree_model.specs.Shapes.{cuts_of, fits_shape, placed_scope, placed}
 use Rattle.tree_model.specs.PendingLists.{way_of, step_of, scope_on, list_below}
 use Rattle.tree_model.specs.Ways.{is_on}
 use Rattle.tree_model.specs.Legality.{is_nonempty}
-use Rattle.interleaving.proofs.WayLemmas.{cond-true, cond-false, other_number, same_self}
+use Rattle.interleaving.proofs.WayLemmas.{cond-true, cond-false, other_number}
 use Rattle.interleaving.proofs.RoundtripLemmas.{IsPath}
 use Rattle.interleaving.proofs.BallLemmas.{node_on}
 use Rattle.interleaving.proofs.RunSoundLemmas.{height_way, length-heights, floor_way, IsRun}
@@ -21,12 +21,14 @@ use Rattle.interleaving.proofs.LegalLemmas.{placed_floor, placed_above, one_size
 use Rattle.interleaving.proofs.PlacedSoundLemmas.{named_in, IsSeen, all_seen}
 use Rattle.interleaving.proofs.NamedFloorLemmas.{below_named, count-below, low_height, below_erased}
 use Rattle.interleaving.proofs.PlacedNameLemmas.{bare, IsMet, AreMeasured}
-use Rattle.interleaving.proofs.PlacedErasedLemmas.{NoneInside, Fills, IsNaming, held-append, placed_erased}
+use Rattle.interleaving.proofs.PlacedErasedLemmas.{NoneInside, Fills, IsNaming, placed_erased}
 use Rattle.interleaving.proofs.PlacedReadableLemmas.{placed_read}
 use Rattle.interleaving.proofs.RunMeasuredLemmas.{NotInside, not_inside_low, none_inside, fits_fill, cut_not_inside, GuardAt}
 use Rattle.interleaving.proofs.RunMeasuredLemmas.{guard_not_inside}
 use Rattle.interleaving.proofs.RunNameLemmas.{are_measured}
 use Rattle.interleaving.proofs.ReadableLemmas.{IsReadable}
+use Rattle.interleaving.proofs.TestLemmas.{true_false, number_same}
+use Rattle.interleaving.proofs.SequentialHeightLemmas.{held-append}
 
 -- a height of the floor, its node, and the node's height
 pub height_node : (levels : List Level) → IsPath (way_of levels) → (h : ℕ) → 1 ≤ h → h ≤ length levels
@@ -37,7 +39,7 @@ height_node (v ∷ up) p h a b = go (h == suc (length up)) refl (height_node up 
     go : (c : Bool) → (h == suc (length up)) ≡ c → (h ≤ length up → height_of up (node_of up h) ≡ h)
         → height_of (v ∷ up) (cond c v.number (node_of up h)) ≡ h
     go true e f = let top : h ≡ suc (length up) = grind arith in cond-true (v.number == v.number) (suc (length up))
-        (height_of up v.number) (same_self v.number) ∙ sym top
+        (height_of up v.number) (number_same v.number) ∙ sym top
     go false e f =
         let low : h ≤ length up = grind arith in
         let off : (v.number == node_of up h) ≡ false = other_number (way_of up) v.number (node_of up h) p.0 (node_on up h a low)
@@ -55,9 +57,6 @@ pub record IsPublished (levels : List Level) (next : ℕ) (sizes : List ℕ) (es
   pub run : IsRun levels es
   pub some : is_nonempty es ≡ true
   pub fit : fits_shape (length levels) sizes es ≡ true
-
-clash : true ≡ false → ⊥
-clash z = cc
 
 naming_by : (Whole : ℕ → Type 0) (seen : ℕ → Bool) (levels : List Level) (next : ℕ) (sizes : List ℕ) (es : List Entry)
     → IsPublished levels next sizes es →
@@ -86,7 +85,7 @@ naming_by Whole seen levels next sizes es p cuts low guards v none fills =
       where
         go : (c : Bool) → nat_le next (node_of levels h) ≡ c → suc (placed_scope next sizes levels h) ≤ next
         go true e = let high : next ≤ node_of levels h = grind arith in absurd
-            (clash (sym (node_on levels h a b) ∙ p.new (node_of levels h) high))
+            (true_false (sym (node_on levels h a b) ∙ p.new (node_of levels h) high))
         go false e = let l : suc (node_of levels h) ≤ next = grind arith in omega (arith, l, placed_floor next sizes levels h b)
 
 -- one entry
@@ -126,7 +125,7 @@ by_naming Whole v up next sizes es p n = record {
 
 pub stand_placed : (v : Level) (up : List Level) (next : ℕ) (sizes : List ℕ) (es : List Entry) → IsPublished (v ∷ up) next sizes es
     → StandPlaced (v ∷ up) next sizes es
-stand_placed v up next sizes [] p = absurd (clash (sym p.some))
+stand_placed v up next sizes [] p = absurd (true_false (sym p.some))
 stand_placed v up next sizes (e ∷ []) p =
     let one = one_size sizes p.fit in
     subst (λ sz. StandPlaced (v ∷ up) next sz (e ∷ [])) (sym one)

@@ -13,13 +13,15 @@ use Rattle.tree_model.specs.Ways.{is_on, is_query, under_query, is_below}
 use Rattle.tree_model.specs.SoundTrees.{one_if, count_among, count_below, Profile, IsOpen, profile, profiles, some_open, is_live}
 use Rattle.tree_model.specs.SoundTrees.{is_shape, IsSound}
 use Rattle.interleaving.proofs.WayLemmas.{cond-true, cond-false}
-use Rattle.interleaving.proofs.RoundtripLemmas.{not_same, IsPath}
+use Rattle.interleaving.proofs.RoundtripLemmas.{IsPath}
 use Rattle.interleaving.proofs.CollapseLemmas.{Collapses, kept}
 use Rattle.interleaving.proofs.StackLemmas.{IsCounted, entry_step, stack_way, length-stack, counted_stack, AreOver}
 use Rattle.interleaving.proofs.RunSoundLemmas.{IsAwakeTop}
 use Rattle.interleaving.proofs.PlacedSoundLemmas.{named_in, IsSeen, inside_hidden, placed_asked, over_split, take-drop, map-take}
 use Rattle.interleaving.proofs.PlacedSoundLemmas.{map-drop, map-length, drop-length, take_awake, each-take, each-drop, two_not_one}
 use Rattle.interleaving.proofs.PlacedSoundLemmas.{several_awake, first_awake, standing_none, IsOlder, plain_older}
+use Rattle.au_term.proofs.LogicLemmas.{and-right, and-left}
+use Rattle.interleaving.proofs.TestLemmas.{not_equal}
 
 older : (name : ℕ → ℕ) (seen : ℕ → Bool) (w a : Way) (next : ℕ) (o : Entry) (os : List Entry) → is_alone (o ∷ os) ≡ true →
     Collapses name seen w a → IsPath a → under_query a ≡ true → is_on a next ≡ false → Each (IsSeen seen) (o ∷ os) → AreOver w (o ∷ os)
@@ -86,14 +88,6 @@ last_placed name cuts next w a (EndEntry b) h = record
 last_placed name cuts next w a (CatchEntry c r f) h = absurd h.awake
 last_placed name cuts next w a (FindallEntry results l f) h = absurd h.awake
 
-both_l : (a b : Bool) → (a && b) ≡ true → a ≡ true
-both_l true b h = refl
-both_l false b h = let no_way : ⊥ = cc in absurd no_way
-
-both_r : (a b : Bool) → (a && b) ≡ true → b ≡ true
-both_r true b h = h
-both_r false b h = let no_way : ⊥ = cc in absurd no_way
-
 -- the parts of a fitting size
 pub record FitsOne (low size : ℕ) (sizes cuts : List ℕ) (es : List Entry) : Type 0 where
   pub two : 2 ≤ size
@@ -106,15 +100,15 @@ pub fits_one : (low size : ℕ) (sizes cuts : List ℕ) (es : List Entry) → fi
     → FitsOne low size sizes cuts es
 fits_one low size sizes cuts es h =
     let rest = length es - further size in
-    let h1 = both_r (nat_le 2 size) _ h in
-    let h2 = both_r (nat_lt (further size) (length es)) _ h1 in
-    let h3 = both_r (is_alone (drop rest es)) _ h2 in
+    let h1 = and-right (nat_le 2 size) _ h in
+    let h2 = and-right (nat_lt (further size) (length es)) _ h1 in
+    let h3 = and-right (is_alone (drop rest es)) _ h2 in
     record {
-      two = le_two (both_l (nat_le 2 size) _ h);
-      room = lt_room (both_l (nat_lt (further size) (length es)) _ h1);
-      alone = both_l (is_alone (drop rest es)) _ h2;
-      unsplit = both_l (is_unsplit low size cuts) _ h3;
-      rest = both_r (is_unsplit low size cuts) _ h3;
+      two = le_two (and-left (nat_le 2 size) _ h);
+      room = lt_room (and-left (nat_lt (further size) (length es)) _ h1);
+      alone = and-left (is_alone (drop rest es)) _ h2;
+      unsplit = and-left (is_unsplit low size cuts) _ h3;
+      rest = and-right (is_unsplit low size cuts) _ h3;
     }
   where
     le_two : nat_le 2 size ≡ true → 2 ≤ size
@@ -215,7 +209,7 @@ node_sound name cuts next size sizes w a inner (o ∷ os) c k p u nw ov aw si so
       collapse = old.collapse;
       path = (off, p);
       asked = cond-false (is_query (guard_kind new)) true (under_query a) old.no_query ∙ u;
-      new = λ m x. cond-false (next == m) true (is_on a m) (not_same next m x) ∙ nw m (omega arith);
+      new = λ m x. cond-false (next == m) true (is_on a m) (not_equal next m x) ∙ nw m (omega arith);
       over = split.0;
       awake = aw;
       seen = si;
@@ -243,7 +237,7 @@ node_sound name cuts next size sizes w a inner (o ∷ os) c k p u nw ov aw si so
       );
       high = λ m x. omega (
         arith,
-        one_other m (not_same next m (omega arith)),
+        one_other m (not_equal next m (omega arith)),
         r.high m (omega arith),
         standing_none m
             (guard_hold (guard_kind new)) new,

@@ -19,11 +19,11 @@ use Rattle.interleaving.specs.Scopes.{Sought, Scope, Thrown, Caught, unified_ele
 use Rattle.interleaving.specs.Scopes.{named_test_items, opened_elements, recovery_look, look, scoped}
 use Rattle.interleaving.specs.Erased.{from, element_count}
 use Rattle.interleaving.specs.Sound.{names, IsMadeElsewhere, AreCarried, IsGuarded, IsGathered, IsMarkSound, EachFindall, IsEntrySound, IsSound}
-use Rattle.interleaving.proofs.RunFrontLemmas.{append-assoc-at, append-none}
 use Rattle.interleaving.proofs.NamingLemmas.{IsMadeBy, from_end, from_own, longer, not_longer}
 use Rattle.interleaving.proofs.CarriedLemmas.{findalls-map, sound-from, entry_child, entry_rest, entry_cut, entry_goals, front_of}
 use Rattle.interleaving.proofs.CarriedLemmas.{front_child, older-goals, own_front, here_front, from_first, other_child, entry_resolved}
 use Rattle.interleaving.proofs.PlaceHeightLemmas.{ends_made, solutions-made, from-solutions, search-from}
+use Rattle.interleaving.proofs.AppendLemmas.{append-assoc, append-nil}
 
 -- solutions
 pub unified-findalls : (P : Name → Type 0) (o : Option Substitution) (q : Name) (f : Continuation Name) (zs : List Element)
@@ -54,7 +54,7 @@ solutions-sound n p f (t ∷ ss) xs s k =
     (solutions-findalls (IsMadeElsewhere (n ∷ p)) (suc n) p f ss) s.carried.older s in
     let body = entry_goals (n ∷ p) (rest ++ xs) p t.goals f.items
     (own_front p n rest xs f.items made (from-solutions (suc n) p f ss xs) s.carried.older) child in
-    subst IsSound (sym (append-assoc-at (unified_element (unifier t.equations) (n ∷ p) one) rest xs))
+    subst IsSound (sym (append-assoc (unified_element (unifier t.equations) (n ∷ p) one) rest xs))
     (unified-sound (unifier t.equations) (n ∷ p) one (rest ++ xs) body (solutions-sound (suc n) p f ss xs s k))
 
 -- control constructs
@@ -129,7 +129,7 @@ module _ (clauses : List Clause) (p h : Name) (f : Continuation Name) (xs : List
       let whole = entry_goals (0 ∷ p) zs (2 ∷ p) gs (GoalItem cut p ∷ after)
       (here_front (0 ∷ p) (2 ∷ p) (other ∷ EndOf p ∷ xs) (GoalItem cut p ∷ after) (other_child p)) committed in
       let joined : goals_at (2 ∷ p) gs ++ (GoalItem cut p ∷ after) ≡ named_test_items (2 ∷ p) p h gs thens ++ f.items = sym
-      (append-assoc-at (goals_at (2 ∷ p) gs) (GoalItem cut p ∷ goals_at h thens) f.items) in
+      (append-assoc (goals_at (2 ∷ p) gs) (GoalItem cut p ∷ goals_at h thens) f.items) in
       (subst (λ l. IsEntrySound (0 ∷ p) zs (names l) l) joined whole, (carrying 1 others (EndOf p ∷ []) (ends_made p) tt, k))
 
   pub control-sound : (o : ControlForm) → IsSound (placed (scoped clauses) (control_place o p h f) xs)
@@ -251,4 +251,4 @@ opened-sound p (q ∷ qs) =
     let none : IsEntrySound (0 ∷ p) zs [] [] = record
     { carried = record { older = tt; present = tt; chain = tt }; marks = tt; findalls = tt } in
     let whole = entry_goals (0 ∷ p) zs p q.goals [] (here_front (0 ∷ p) p (End (1 ∷ p) None ∷ []) [] (not_longer p 0)) none in
-    (subst (λ l. IsEntrySound (0 ∷ p) zs (names l) l) (append-none (goals_at p q.goals)) whole, tt)
+    (subst (λ l. IsEntrySound (0 ∷ p) zs (names l) l) (append-nil (goals_at p q.goals)) whole, tt)

@@ -21,13 +21,14 @@ use Rattle.tree_model.specs.Gates.{landing_scope, lands_above, control_gate, rep
 use Rattle.tree_model.specs.PendingLists.{Way}
 use Rattle.tree_model.specs.Ways.{is_barrier, in_reach, through, way_from, way_above, AreScoped, under_query, IsAsked}
 use Rattle.interleaving.proofs.AppendLemmas.{append-assoc}
-use Rattle.interleaving.proofs.WayLemmas.{cond-true, same_self}
+use Rattle.interleaving.proofs.WayLemmas.{cond-true}
 use Rattle.interleaving.proofs.RoundtripLemmas.{weaken_from}
 use Rattle.interleaving.proofs.BallLemmas.{IsLow, landing_low}
 use Rattle.interleaving.proofs.CollapseLemmas.{as_scopes}
 use Rattle.interleaving.proofs.StackLemmas.{IsCounted, counted_path, stack_way, length-stack, counted_stack, AreOver, drop_over}
 use Rattle.interleaving.proofs.StackLemmas.{resolved_scopes, top_reach, top_from, top_goals, scope_goals, over_plain, solutions_over}
 use Rattle.interleaving.proofs.StackLemmas.{drop-append, from_stack, stack_asked}
+use Rattle.interleaving.proofs.TestLemmas.{number_same}
 
 le_by : (a b : ℕ) → nat_le a b ≡ true → a ≤ b
 le_by a b h = grind arith
@@ -173,7 +174,7 @@ form_own w floor es (CatchOf goal catcher recovery) h f k g levels l q =
     let cv : IsCounted V = counted_stack (CatchEntry catcher recovery f ∷ es) w k.counted in
     let r = rest_of w es h f.items k.counted g in
     let same : suc (length es + length w) ≡ suc n = ap suc (sym (length-stack es w) ∙ sym (stack_length w floor es k)) in
-    let self : (suc (length es + length w) == suc n) ≡ true = ap (λ m. m == suc n) same ∙ same_self (suc n) in
+    let self : (suc (length es + length w) == suc n) ≡ true = ap (λ m. m == suc n) same ∙ number_same (suc n) in
     let side : through CatchNode V (suc n) ≡ true = cond-true (suc (length es + length w) == suc n) true _ self in
     let above : way_above V (suc n) ≡ W = cond-true (suc (length es + length w) == suc n) W (way_above W (suc n)) self in
     let lengths : suc n ≡ length V = ap suc (stack_length w floor es k) in
@@ -197,7 +198,7 @@ form_own w floor es (FindallOf template goal list) h f k g levels l q =
     let cv : IsCounted V = counted_stack (FindallEntry [] list f ∷ es) w k.counted in
     let r = rest_of w es h f.items k.counted g in
     let same : suc (length es + length w) ≡ suc n = ap suc (sym (length-stack es w) ∙ sym (stack_length w floor es k)) in
-    let self : (suc (length es + length w) == suc n) ≡ true = ap (λ m. m == suc n) same ∙ same_self (suc n) in
+    let self : (suc (length es + length w) == suc n) ≡ true = ap (λ m. m == suc n) same ∙ number_same (suc n) in
     let side : through FindallNode V (suc n) ≡ true = cond-true (suc (length es + length w) == suc n) true _ self in
     let above : way_above V (suc n) ≡ W = cond-true (suc (length es + length w) == suc n) W (way_above W (suc n)) self in
     let lengths : suc n ≡ length V = ap suc (stack_length w floor es k) in

@@ -40,9 +40,7 @@ use Rattle.interleaving.proofs.FallLemmas.{Fall, fall, fall_entries, MarkSleeps,
 use Rattle.interleaving.proofs.FallLemmas.{first_sleeps}
 use Rattle.interleaving.proofs.BallSearchLemmas.{mark_name, first_name}
 use Rattle.interleaving.proofs.PrunedBallLemmas.{placed_here, root_here}
-
-clash : {A : Type 0} → false ≡ true → A
-clash h = let no_way : ⊥ = cc in absurd no_way
+use Rattle.interleaving.proofs.TestLemmas.{false_true}
 
 module _ (t : TreeState) (i : IsSoundTree t) (k : IsCaughtTree t) (running : t.halted ≡ None) (s : Spot) (o : IsOpenSpot t.root s)
     (f : Continuation ℕ) (entry : s.entry ≡ PlainEntry f) (Moves : TreeState → Type 0)
@@ -119,7 +117,7 @@ module _ (t : TreeState) (i : IsSoundTree t) (k : IsCaughtTree t) (running : t.h
           where
             go : (b : Bool) → may_prune levels (cond b None (Some (BallGate (landing_scope levels es)))) ≡ true
                 → Moves (gate_pruned s (cond b None (Some (BallGate (landing_scope levels es)))) es t)
-            go true z = clash z
+            go true z = false_true z
             go false z = f z
 
     cut : outcome_of t.job.clauses goal f.next ≡ Controls CutToScope → (es : List Entry)
@@ -147,7 +145,7 @@ module _ (t : TreeState) (i : IsSoundTree t) (k : IsCaughtTree t) (running : t.h
         go : (b : Bool) → nat_lt (height_of levels n) (length levels) ≡ b
             → may_prune levels (cond b (Some (CutGate (node_of levels (height_of levels n)))) None) ≡ true
             → Moves (gate_pruned s (cond b (Some (CutGate (node_of levels (height_of levels n)))) None) (PlainEntry high ∷ es) t)
-        go false e z = clash z
+        go false e z = false_true z
         go true e z = subst (λ m. Moves (cut_at s m (PlainEntry high ∷ es) t)) (sym back)
             (cuts n reach (below e) items part asked.scoped g same_named same_next
             (clear_below n levels (subst (λ m. is_cleared (Some m) levels ≡ true) back z)) es takes)
@@ -158,26 +156,26 @@ module _ (t : TreeState) (i : IsSoundTree t) (k : IsCaughtTree t) (running : t.h
         → Moves (gate_pruned s (goal_gate (levels_of s) x (height_of (levels_of s) n) (with_items (by_heights (levels_of s) items) g)
         (floor_of (levels_of s))) (goal_alone x (height_of (levels_of s) n) (with_items (by_heights (levels_of s) items) g)
         (floor_of (levels_of s))) t)
-    goal_moves (AskWorld ask) z l = clash l
-    goal_moves (Replies (Solutions ss)) z l = clash l
-    goal_moves (Replies (HaltNumber j)) z l = clash l
+    goal_moves (AskWorld ask) z l = false_true l
+    goal_moves (Replies (Solutions ss)) z l = false_true l
+    goal_moves (Replies (HaltNumber j)) z l = false_true l
     goal_moves (Replies (Ball b)) z l = thrown b z _ refl l
     goal_moves (Controls CutToScope) z l = cut z _ l
-    goal_moves (Controls (GoesOnWith gs)) z l = clash l
-    goal_moves (Controls (EitherOf gs others)) z l = clash l
-    goal_moves (Controls (TestOf gs thens others)) z l = clash l
-    goal_moves (Controls (CatchOf goal catcher recovery)) z l = clash l
-    goal_moves (Controls (FindallOf template goal list)) z l = clash l
+    goal_moves (Controls (GoesOnWith gs)) z l = false_true l
+    goal_moves (Controls (EitherOf gs others)) z l = false_true l
+    goal_moves (Controls (TestOf gs thens others)) z l = false_true l
+    goal_moves (Controls (CatchOf goal catcher recovery)) z l = false_true l
+    goal_moves (Controls (FindallOf template goal list)) z l = false_true l
 
   items_move : (g : Continuation ℕ) → g.named ≡ f.named → g.next ≡ f.next → (items : List (Item ℕ)) → without_marks f.items ≡ items
       → under_query (way_of (levels_of s)) ≡ true → AreScoped (way_of (levels_of s)) items → MarksCaught (sleeps_on (levels_of s)) items
       → may_prune (levels_of s) (item_gate t.job.clauses (levels_of s) (by_heights (levels_of s) items) g (floor_of (levels_of s))) ≡ true
       → Moves (gate_pruned s (item_gate t.job.clauses (levels_of s) (by_heights (levels_of s) items) g (floor_of (levels_of s)))
       (or_none (item_alone t.job.clauses (by_heights (levels_of s) items) g (floor_of (levels_of s)))) t)
-  items_move g gn gx [] q u i m l = clash l
-  items_move g gn gx (CatchMark n ∷ items) q u i m l = clash l
-  items_move g gn gx (CollectMark x n ∷ items) q u i m l = clash l
-  items_move g gn gx (RemovalItem n ∷ items) q u i m l = clash l
+  items_move g gn gx [] q u i m l = false_true l
+  items_move g gn gx (CatchMark n ∷ items) q u i m l = false_true l
+  items_move g gn gx (CollectMark x n ∷ items) q u i m l = false_true l
+  items_move g gn gx (RemovalItem n ∷ items) q u i m l = false_true l
   items_move g gn gx (GoalItem x n ∷ items) q u j m l =
       goal_moves x n items q j.0 j.1 (rest_asked levels n items
       (around_path levels IsOpen (placed_here t i k running s o f entry).around) u j.0 j.1) m g gn gx

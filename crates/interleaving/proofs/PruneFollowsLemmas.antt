@@ -26,9 +26,7 @@ use Rattle.interleaving.proofs.CaughtContextLemmas.{caught_down}
 use Rattle.interleaving.proofs.PrunedBallLemmas.{PruneMoves, falls_so}
 use Rattle.interleaving.proofs.CutHeightLemmas.{cut_moves}
 use Rattle.interleaving.proofs.PruneCasesLemmas.{plain_moves}
-
-clash : {A : Type 0} → false ≡ true → A
-clash h = let no_way : ⊥ = cc in absurd no_way
+use Rattle.interleaving.proofs.TestLemmas.{false_true}
 
 -- at any alternative that is out
 module _ (t : TreeState) (i : IsSoundTree t) (k : IsCaughtTree t) (running : t.halted ≡ None) (s : Spot) (o : IsOpenSpot t.root s) where
@@ -41,9 +39,9 @@ module _ (t : TreeState) (i : IsSoundTree t) (k : IsCaughtTree t) (running : t.h
       (or_none (taken_alone t.job.clauses (with_heights (levels_of s) e ∷ floor_of (levels_of s)))) t)
 
   pub entry_moves : (e : Entry) → s.entry ≡ e → IsOnWay (way_of (levels_of s)) e → EntryCaught (sleeps_on (levels_of s)) e → Pruned e
-  entry_moves (EndEntry b) e h m l = clash l
-  entry_moves (CatchEntry c r f) e h m l = clash l
-  entry_moves (FindallEntry results list f) e h m l = clash l
+  entry_moves (EndEntry b) e h m l = false_true l
+  entry_moves (CatchEntry c r f) e h m l = false_true l
+  entry_moves (FindallEntry results list f) e h m l = false_true l
   entry_moves (PlainEntry f) e h m l = plain_moves t i k running s o f e (λ x. IsSound (pending_list x.root) → PruneMoves t x)
       (falls_so t i k running s o f e)
       (λ n reach below items part all g gn gx clear es takes. cut_moves t i k running s o f e n reach below items part all g gn gx clear
@@ -61,7 +59,7 @@ prune_follows t (Prune w a) ok i q j r l = go (taken_at w a t) refl (legal_parts
         (λ s. gate_pruned s (gate_of t s) (or_none (taken_alone t.job.clauses (spot_stack s))) t)).root)
         → ListFollows t (record (where_some x t (λ s. gate_pruned s (gate_of t s) (or_none (taken_alone t.job.clauses (spot_stack s))) t))
         { history = t.history ++ Prune w a ∷ [] })
-    go None e x running j y = clash x
+    go None e x running j y = false_true x
     go (Some s) e x running j y =
         let at = known_at w a t s i e in
         let o = taken_at_open w a t s e in

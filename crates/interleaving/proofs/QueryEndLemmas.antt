@@ -30,7 +30,7 @@ use Rattle.interleaving.specs.Follows.{lead}
 use Rattle.interleaving.specs.HistoryInvariants.{shared_of, AnswerMoves}
 use Rattle.interleaving.proofs.ListRoundLemmas.{around}
 use Rattle.interleaving.proofs.ContextLemmas.{count_around}
-use Rattle.interleaving.proofs.WayLemmas.{cond-true, same_self}
+use Rattle.interleaving.proofs.WayLemmas.{cond-true}
 use Rattle.interleaving.proofs.OpenSpotLemmas.{IsOpenSpot, placed_at, count_at}
 use Rattle.interleaving.proofs.SoundClosingLemmas.{free_at}
 use Rattle.interleaving.proofs.NamingLemmas.{from_own}
@@ -54,6 +54,7 @@ use Rattle.interleaving.proofs.FrontEntriesLemmas.{map-parts}
 use Rattle.interleaving.proofs.QueryLastLemmas.{RightsNone, rights_none, OnlyEnds, back_ends, ends_lead, ends_given, ends_settle}
 use Rattle.interleaving.proofs.QueryLastLemmas.{ends_erased, ends_quiet, closes_lead}
 use Rattle.interleaving.proofs.FrontStepLemmas.{front_asked, gate_moves}
+use Rattle.interleaving.proofs.TestLemmas.{number_same}
 
 -- goals in a scope, by heights
 goals_high : (h g : Name → ℕ) (p q : Name) → h p ≡ g q → (gs : List Term) → map (with_height h) (goals_at p gs)
@@ -72,7 +73,7 @@ opened_same : (p : Name) (q : Query) (qs : List Query) (way : Way) (next : ℕ) 
 opened_same p q qs way next back ends =
     let none = ends_erased back ends in
     let step : Step = record { node = next; index = 0; kind = QueryNode } in
-    let here : scope_on (step ∷ way) next ≡ 0 ∷ next ∷ [] = cond-true (next == next) _ (scope_on way next) (same_self next) in
+    let here : scope_on (step ∷ way) next ≡ 0 ∷ next ∷ [] = cond-true (next == next) _ (scope_on way next) (number_same next) in
     let tail = End (0 ∷ 1 ∷ next ∷ []) None ∷ (EndOf (1 ∷ next ∷ []) ∷ back) in
     let zs = EndOf (0 ∷ next ∷ []) ∷ tail in
     let ys = EndOf p ∷ (End (1 ∷ p) None ∷ []) in

@@ -26,9 +26,7 @@ use Rattle.interleaving.proofs.LeadLemmas.{lead-quiet, lead-grows, lead-bounded}
 use Rattle.interleaving.proofs.FoldLemmas.{SidesKept, LeftSides, node_totals, node_list, closed_round}
 use Rattle.interleaving.proofs.ClosingListLemmas.{closed_list, no_side}
 use Rattle.interleaving.proofs.CaughtContextLemmas.{last_put, last_at}
-
-clash : {A : Type 0} → false ≡ true → A
-clash h = let no_way : ⊥ = cc in absurd no_way
+use Rattle.interleaving.proofs.TestLemmas.{false_true}
 
 -- nothing is to the right
 abbrev pub RightsNone : List Level → Type 0

@@ -7,15 +7,16 @@ use Rattle.tree_model.specs.Elements.{Record, Element, Credit, Plain, EndOf, Cat
 use Rattle.interleaving.specs.Scopes.{give, scoped}
 use Rattle.interleaving.specs.Segments.{outer, Private, private_none, private_goes, private_stands, private_wakes, private_takes}
 use Rattle.interleaving.specs.Quiet.{IsQuiet, inferences, records, IsFixed}
-use Rattle.interleaving.proofs.RunFrontLemmas.{each-append, append-assoc-at, maps-append, map-seam, map-none}
+use Rattle.interleaving.proofs.RunFrontLemmas.{each-append, maps-append, map-seam, map-none}
 use Rattle.interleaving.proofs.AloneLemmas.{outer-append}
+use Rattle.interleaving.proofs.AppendLemmas.{append-assoc}
 
 -- one private run after another
 pub private-then : {W X Q R : Type 0} → (m : Machine W X Q R) (inner : R → Bool) (j k : ℕ) (rs qs : List R) (a s b : List X)
     → Private m inner k rs a s → Private m inner j qs s b → Private m inner (k + j) (rs ++ qs) a b
 private-then m inner j k rs qs a s b (private_none t) h = let same : j ≡ 0 + j = omega arith in subst (λ n. Private m inner n qs s b) same h
 private-then m inner j k rs qs a s b (private_goes i x new os xs t e r) h =
-    subst (λ l. Private m inner (i + j) l (x ∷ xs) b) (sym (append-assoc-at (outer inner new) os qs))
+    subst (λ l. Private m inner (i + j) l (x ∷ xs) b) (sym (append-assoc (outer inner new) os qs))
     (private_goes (i + j) x new (os ++ qs) xs b e (private-then m inner j i os qs (map (gives m new) xs) s b r h))
 private-then m inner j k rs qs a s b (private_stands i x new os xs t e f r) h = private_stands (i + j) x new (os ++ qs) xs b e f
     (private-then m inner j i os qs (m.stands x ∷ xs) s b r h)

@@ -6,10 +6,7 @@ use Rattle.tree_model.specs.Elements.{Name, same}
 use Rattle.interleaving.specs.Views.{IsGrown}
 use Rattle.interleaving.specs.Roots.{extends, rooted, AreTold}
 use Rattle.interleaving.proofs.ApartLemmas.{same-true}
-
-either_true : (a b : Bool) → b ≡ true → (a || b) ≡ true
-either_true true b e = refl
-either_true false b e = e
+use Rattle.interleaving.proofs.TestLemmas.{right_true}
 
 either_false : (a b : Bool) → a ≡ false → (a || b) ≡ b
 either_false true b e = absurd (false≢true (sym e))
@@ -20,7 +17,7 @@ right_false true b e = refl
 right_false false b e = e
 
 grown : (top : Name) → IsGrown (extends top)
-grown top i s h = either_true (same top (i ∷ s)) (extends top s) h
+grown top i s h = right_true (same top (i ∷ s)) (extends top s) h
 
 rooted-grown : (ok : ℕ → Bool) → IsGrown (rooted ok)
 rooted-grown ok i [] h = absurd (false≢true h)

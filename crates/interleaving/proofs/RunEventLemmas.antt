@@ -34,9 +34,7 @@ use Rattle.interleaving.proofs.WakeLemmas.{end_wakes}
 use Rattle.interleaving.proofs.FindallWakeLemmas.{findall_wakes}
 use Rattle.interleaving.proofs.GoingLemmas.{going, legal_parts}
 use Rattle.interleaving.proofs.QuietEventLemmas.{list_follows}
-
-clash : {A : Type 0} → false ≡ true → A
-clash h = let no_way : ⊥ = cc in absurd no_way
+use Rattle.interleaving.proofs.TestLemmas.{false_true}
 
 -- an open place of a tree, and the tree where it closes
 pub closing_follows : (t : TreeState) (s : Spot) (c : Credit) → IsSoundTree t → IsCaughtTree t → IsOpenSpot t.root s
@@ -100,7 +98,7 @@ module _ (t : TreeState) (i : IsSoundTree t) (k : IsCaughtTree t) where
           → IsSoundTree (noted (where_some o t (λ s. closed_with s (credit_of n) t)) (Empty w a n))
           → IsCaughtTree (noted (where_some o t (λ s. closed_with s (credit_of n) t)) (Empty w a n))
           → ListFollows t (noted (where_some o t (λ s. closed_with s (credit_of n) t)) (Empty w a n))
-      go None e x running j q = clash x
+      go None e x running j q = false_true x
       go (Some s) e x running j q =
           let o = taken_at_open w a t s e in
           let no_end : (b : Option Term) → s.entry ≡ EndEntry b → ⊥ = λ b z. stays_on b (end_stays t s b n z) x in
@@ -109,8 +107,8 @@ module _ (t : TreeState) (i : IsSoundTree t) (k : IsCaughtTree t) where
         where
           stays_on : (b : Option Term) → (run_of t s n ≡ None) ⊎ (run_of t s n ≡ Some (EndEntry b ∷ [])) → run_is_empty (run_of t s n)
               ≡ true → ⊥
-          stays_on b (inl z) h = clash (sym (ap run_is_empty z) ∙ h)
-          stays_on b (inr z) h = clash (sym (ap run_is_empty z) ∙ h)
+          stays_on b (inl z) h = false_true (sym (ap run_is_empty z) ∙ h)
+          stays_on b (inr z) h = false_true (sym (ap run_is_empty z) ∙ h)
 
   pub collected_follows : CollectedReaches → (w : ℕ) (a : Place) (n : ℕ) → IsSoundTree (after_event t (Collected w a n))
       → IsCaughtTree (after_event t (Collected w a n)) → is_legal t (Collected w a n) ≡ true
@@ -126,7 +124,7 @@ module _ (t : TreeState) (i : IsSoundTree t) (k : IsCaughtTree t) where
           (λ s. closed_with s (record { inferences = n; answers = 0; records = results_of (run_of t s n) }) t)) (Collected w a n))
           → ListFollows t (noted (where_some o t
           (λ s. closed_with s (record { inferences = n; answers = 0; records = results_of (run_of t s n) }) t)) (Collected w a n))
-      go None e x running j q = clash x
+      go None e x running j q = false_true x
       go (Some s) e x running j q =
           let o = taken_at_open w a t s e in
           let no_end : (b : Option Term) → s.entry ≡ EndEntry b → ⊥ = λ b z. stays_on b (end_stays t s b n z) x in
@@ -135,5 +133,5 @@ module _ (t : TreeState) (i : IsSoundTree t) (k : IsCaughtTree t) where
         where
           stays_on : (b : Option Term) → (run_of t s n ≡ None) ⊎ (run_of t s n ≡ Some (EndEntry b ∷ []))
               → run_gives_result (run_of t s n) ≡ true → ⊥
-          stays_on b (inl z) h = clash (sym (ap run_gives_result z) ∙ h)
-          stays_on b (inr z) h = clash (sym (ap run_gives_result z) ∙ h)
+          stays_on b (inl z) h = false_true (sym (ap run_gives_result z) ∙ h)
+          stays_on b (inr z) h = false_true (sym (ap run_gives_result z) ∙ h)

@@ -3,18 +3,11 @@ use Rattle.std.proofs.Common.{◌≡◌, ◌⊎◌, inl, inr, List, [], ◌∷�
 use Rattle.au_model.specs.Terms.Each.{Each}
 use Rattle.interleaving.specs.Machine.{Machine, Act, Vanishes, Wakes, Takes, Asks, Look, On, Here, Replacement, Put, Only, Seek, gives, looked}
 use Rattle.interleaving.specs.Machine.{search_for, placed, freed, free_steps}
+use Rattle.interleaving.proofs.AppendLemmas.{append-assoc, append-nil}
 
 pub each-append : {A : Type 0} → (P : A → Type 0) (xs ys : List A) → Each P xs → Each P ys → Each P (xs ++ ys)
 each-append P [] ys h k = k
 each-append P (x ∷ xs) ys h k = (h.0, each-append P xs ys h.1 k)
-
-pub append-assoc-at : {A : Type 0} → (xs ys zs : List A) → (xs ++ ys) ++ zs ≡ xs ++ (ys ++ zs)
-append-assoc-at [] ys zs = refl
-append-assoc-at (x ∷ xs) ys zs = ap (λ l. x ∷ l) (append-assoc-at xs ys zs)
-
-pub append-none : {A : Type 0} → (xs : List A) → xs ++ [] ≡ xs
-append-none [] = refl
-append-none (x ∷ xs) = ap (λ l. x ∷ l) (append-none xs)
 
 pub some-same : {A : Type 0} → (x y : A) → Some x ≡ Some y → x ≡ y
 some-same x y e = cc
@@ -53,10 +46,10 @@ module _ {W X Q R : Type 0} (m : Machine W X Q R) where
       ap (λ y. freed m (m.act y) y (λ new. free_steps m ((rs ++ qs) ++ new) xs) (map (gives m (rs ++ qs)) xs)) (gives-append rs qs x)
       ∙ freed-same (m.act (gives m qs (gives m rs x))) (gives m qs (gives m rs x)) (λ new. free_steps m ((rs ++ qs) ++ new) xs)
       (λ new. free_steps m (qs ++ new) (map (gives m rs) xs)) (map (gives m (rs ++ qs)) xs) (map (gives m qs) (map (gives m rs) xs))
-      (λ new. ap (λ zs. free_steps m zs xs) (append-assoc-at rs qs new) ∙ settle-given rs (qs ++ new) xs) (maps-append rs qs xs)
+      (λ new. ap (λ zs. free_steps m zs xs) (append-assoc rs qs new) ∙ settle-given rs (qs ++ new) xs) (maps-append rs qs xs)
 
   pub settle-map : (rs : List R) (xs : List X) → free_steps m rs xs ≡ free_steps m [] (map (gives m rs) xs)
-  settle-map rs xs = ap (λ zs. free_steps m zs xs) (sym (append-none rs)) ∙ settle-given rs [] xs
+  settle-map rs xs = ap (λ zs. free_steps m zs xs) (sym (append-nil rs)) ∙ settle-given rs [] xs
 
   -- elements that don't see what is under them, or see none of some elements
   module _ (P : X → Type 0) (K : Q → Type 0) (G : R → Type 0) where
@@ -135,7 +128,7 @@ module _ {W X Q R : Type 0} (m : Machine W X Q R) where
             ys ++ xs,
             each-append P ys xs ok k.1,
             λ zs.
-                ap (λ l. looked m l (λ p. search_for m p (xs ++ zs)) (xs ++ zs)) e ∙ sym (append-assoc-at ys xs zs),
+                ap (λ l. looked m l (λ p. search_for m p (xs ++ zs)) (xs ++ zs)) e ∙ sym (append-assoc ys xs zs),
           )
           go (On p) e ok next = elim (next p ok) [
             | inl f ↦ inl (f.0, f.1, λ zs. ap (λ l. looked m l (λ p. search_for m p (xs ++ zs)) (xs ++ zs)) e ∙ f.2 zs)
@@ -190,6 +183,6 @@ module _ {W X Q R : Type 0} (m : Machine W X Q R) where
           )
 
       pub placed-found : (p : Replacement X Q) (xs : List X) → PlaceOk p → Each P xs → FoundPlace p xs
-      placed-found (Put ys) xs ok h = inl (ys ++ xs, each-append P ys xs ok h, λ zs. sym (append-assoc-at ys xs zs))
+      placed-found (Put ys) xs ok h = inl (ys ++ xs, each-append P ys xs ok h, λ zs. sym (append-assoc ys xs zs))
       placed-found (Only ys) xs ok h = inr (inl (ys, λ zs. refl))
       placed-found (Seek q) xs ok h = elim (found q xs ok h) [ inl f ↦ inl f | inr f ↦ inr (inr f) ]

@@ -32,7 +32,7 @@ use Rattle.interleaving.proofs.PreservedLemmas.{control-sound, reply-sound, open
 use Rattle.interleaving.proofs.FreeStepHeightLemmas.{IsRested, IsFine, settle-held}
 use Rattle.interleaving.proofs.SequentialHeightLemmas.{seq_held}
 
-goals-at : (h : Name → ℕ) (p : Name) (gs : List Term) → map (with_height h) (goals_at p gs) ≡ goals_at (h p) gs
+pub goals-at : (h : Name → ℕ) (p : Name) (gs : List Term) → map (with_height h) (goals_at p gs) ≡ goals_at (h p) gs
 goals-at h p [] = refl
 goals-at h p (g ∷ gs) = ap (λ l. GoalItem g (h p) ∷ l) (goals-at h p gs)
 

@@ -13,14 +13,16 @@ use Rattle.tree_model.specs.PrivateRuns.{taken_alone, private_run}
 use Rattle.tree_model.specs.Gates.{gate_on}
 use Rattle.tree_model.specs.PendingLists.{Step, Way, way_of, step_of}
 use Rattle.tree_model.specs.Ways.{is_on, way_from, way_above, AreScoped, is_query, under_query, IsOnWay, IsAwake}
-use Rattle.interleaving.proofs.WayLemmas.{cond-true, cond-false, through-on, other_number, same_self}
+use Rattle.interleaving.proofs.WayLemmas.{cond-true, cond-false, through-on, other_number}
 use Rattle.interleaving.proofs.RoundtripLemmas.{by_heights, height_positive, IsPart, part_from, part_above, IsPath}
 use Rattle.interleaving.proofs.EntryLemmas.{length-floor, own_height}
 use Rattle.interleaving.proofs.BallLemmas.{NamesFloor, names-above}
 use Rattle.interleaving.proofs.CollapseLemmas.{Collapses, nothing, kept, path-from, path-above, reach_kept, through_kept, as_scopes}
 use Rattle.interleaving.proofs.StackLemmas.{IsCounted, counted_path, IsOver, AreOver}
 use Rattle.interleaving.proofs.PrivateSoundLemmas.{IsFloor}
-use Rattle.interleaving.proofs.PrivateStepSoundLemmas.{settle_over, one_more_over, length-collected}
+use Rattle.interleaving.proofs.PrivateStepSoundLemmas.{settle_over, one_more_over}
+use Rattle.interleaving.proofs.TestLemmas.{number_same}
+use Rattle.run_model.proofs.FreeStepLemmas.{length-collected}
 
 -- a floor's way, by heights
 abbrev pub height_step : Level → ℕ → Step
@@ -53,7 +55,7 @@ nodes_to_heights : (name : ℕ → ℕ) (seen : ℕ → Bool) (levels : List Lev
     → ((s : ℕ) → is_on (way_of levels) s ≡ true → name s ≡ height_of levels s) → Collapses name seen (way_of levels) (height_way levels)
 nodes_to_heights name seen [] p a = nothing
 nodes_to_heights name seen (v ∷ up) p a =
-    let self = same_self v.number in
+    let self = number_same v.number in
     let here : name v.number ≡ suc (length up) = a v.number (cond-true (v.number == v.number) true _ self)
     ∙ cond-true (v.number == v.number) (suc (length up)) (height_of up v.number) self in
     kept (step_of v) (height_step v (length up)) (way_of up) (height_way up) here refl refl (nodes_to_heights name seen up p.1 (λ s o.

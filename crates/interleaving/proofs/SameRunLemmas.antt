@@ -19,11 +19,8 @@ use Rattle.tree_model.specs.PrivateRuns.{own_settles, own_free_steps, own_part, 
 use Rattle.tree_model.specs.PrivateRuns.{own_after, one_more, if_any, private_run}
 use Rattle.interleaving.specs.OwnRuns.{landed, own_control, own_goal, own_item, own_left}
 use Rattle.interleaving.specs.OwnRuns.{own_more, own_run}
-
--- the goals
-length-floor : (levels : List Level) → length (floor_of levels) ≡ length levels
-length-floor [] = refl
-length-floor (v ∷ up) = ap suc (length-floor up)
+use Rattle.run_model.proofs.FreeStepLemmas.{length-collected}
+use Rattle.interleaving.proofs.EntryLemmas.{length-floor}
 
 landed_same : (levels : List Level) (es : List Entry) → if_no_gate (ball_gate levels es) (Some es) ≡ landed (length levels) es
 landed_same levels [] = refl
@@ -88,15 +85,6 @@ marks_twice (CatchMark m ∷ items) = marks_twice items
 marks_twice (GoalItem t m ∷ items) = refl
 marks_twice (CollectMark t m ∷ items) = refl
 marks_twice (RemovalItem n ∷ items) = refl
-
-length-collected : (h : ℕ) (t : Term) (es : List Entry) → length (collected h t es) ≡ length es
-length-collected h t [] = refl
-length-collected h t (e ∷ es) = go (length es == h) (length-collected h t es)
-  where
-    go : (b : Bool) → length (collected h t es) ≡ length es → length (cond b (with_result t e ∷ es) (e ∷ collected h t es))
-        ≡ suc (length es)
-    go true k = refl
-    go false k = ap suc k
 
 settles_top : (floor es : List Entry) (items : List (Item ℕ)) (f : Continuation ℕ) (go : List Entry → List Entry)
     → without_marks f.items ≡ items → ((ds : List Entry) → length ds ≡ length es → IsTop (go ds))

@@ -15,7 +15,7 @@ use Rattle.tree_model.specs.CaughtTrees.{MarksCaught, EntryCaught}
 use Rattle.interleaving.specs.Erased.{from, element_count, height}
 use Rattle.interleaving.specs.Sound.{names, IsMadeElsewhere, IsPresent, EachFindall, IsEntrySound, IsSound}
 use Rattle.interleaving.proofs.ContextLemmas.{IsLevel, IsAround, put_profiles, level_profiles, count_around}
-use Rattle.interleaving.proofs.WayLemmas.{cond-false, same_self}
+use Rattle.interleaving.proofs.WayLemmas.{cond-false}
 use Rattle.interleaving.proofs.NamingLemmas.{from_own}
 use Rattle.interleaving.proofs.GrowingLemmas.{none_sleeps-of, no_three}
 use Rattle.interleaving.proofs.ListEndLemmas.{from_back}
@@ -23,9 +23,7 @@ use Rattle.interleaving.proofs.ListScopeLemmas.{IsDistinct, sleeps_on, distinct-
 use Rattle.interleaving.proofs.ListScopeLemmas.{chained}
 use Rattle.interleaving.proofs.ListMarkLemmas.{at_level, marks_sound}
 use Rattle.interleaving.proofs.ListSoundLemmas.{scoped_by, older_scope, short_back, other_back}
-
-clash : {A : Type 0} → false ≡ true → A
-clash h = let no_way : ⊥ = cc in absurd no_way
+use Rattle.interleaving.proofs.TestLemmas.{false_true, number_same}
 
 -- names of the branch
 of_older : (base levels : List Level) (i n : ℕ) → IsAround levels IsOpen
@@ -123,13 +121,13 @@ last_sleeps v up k h = pick v.kind h.shape
     right_none : (left : List (ℕ × Status)) (r : Alternatives) (j : Kind) → are_pair j (put_profiles left (Sleeps k ∷ profiles r))
         ≡ true → r ≡ none
     right_none left none j z = refl
-    right_none [] (alternative sp st none) j z = clash z
-    right_none [] (alternative sp st (alternative sq other others)) j z = clash z
+    right_none [] (alternative sp st none) j z = false_true z
+    right_none [] (alternative sp st (alternative sq other others)) j z = false_true z
     right_none (a ∷ left) (alternative sp st others) j z = absurd
         (no_three j left (profile a.1) (Sleeps k) (profile st) (profiles others) z)
 
     pick : (j : Kind) → is_shape j (level_profiles v (Sleeps k)) ≡ true → v.right ≡ none
-    pick ChoiceNode z = clash (none_sleeps-of v.left (Sleeps k ∷ profiles v.right) z)
+    pick ChoiceNode z = false_true (none_sleeps-of v.left (Sleeps k ∷ profiles v.right) z)
     pick CatchNode z = right_none v.left v.right CatchNode z
     pick FindallNode z = right_none v.left v.right FindallNode z
     pick QueryNode z = right_none v.left v.right QueryNode z
@@ -163,7 +161,7 @@ module _ (v : Level) (up : List Level) where
   element_sound Dormant (FindallEntry results l f) d a i o m z =
       let last : v.right ≡ none = last_sleeps v up FindallNode a.0 in
       let once = d v.number in
-      let here : one_if (v.number == v.number) ≡ 1 = ap one_if (same_self v.number) in
+      let here : one_if (v.number == v.number) ≡ 1 = ap one_if (number_same v.number) in
       let above : count_around v.number up ≡ 0 = omega (arith, once, here) in
       let shown : EachFindall (λ e. e ≡ 0 ∷ v.number ∷ [] → ⊥) (back_of base) = subst
       (λ r. EachFindall (λ e. e ≡ 0 ∷ v.number ∷ [] → ⊥)
@@ -179,23 +177,23 @@ module _ (v : Level) (up : List Level) where
     where
       left_pair : (left : List (ℕ × Status)) (j : Kind) (ps : List Profile) → (same : Bool)
           → are_pair j (put_profiles left (Sleeps ChoiceNode ∷ ps)) ≡ true → (j ≡ ChoiceNode → ⊥) → ⊥
-      left_pair [] j [] same h n = clash h
-      left_pair [] j (p ∷ []) same h n = clash h
-      left_pair [] j (p ∷ q ∷ ps) same h n = clash h
+      left_pair [] j [] same h n = false_true h
+      left_pair [] j (p ∷ []) same h n = false_true h
+      left_pair [] j (p ∷ q ∷ ps) same h n = false_true h
       left_pair (x ∷ []) j (p ∷ ps) same h n = no_three j [] (profile x.1) (Sleeps ChoiceNode) p ps h
       left_pair (x ∷ y ∷ left) j ps same h n = no_three j left (profile y.1) (profile x.1) (Sleeps ChoiceNode) ps h
       left_pair (x ∷ []) j [] same h n = first (profile x.1) j h n
         where
           first : (p : Profile) (j : Kind) → is_pair j p (Sleeps ChoiceNode) ≡ true → (j ≡ ChoiceNode → ⊥) → ⊥
           first IsOpen ChoiceNode z n = n refl
-          first IsOpen CatchNode z n = clash z
-          first IsOpen FindallNode z n = clash z
-          first IsOpen QueryNode z n = clash z
-          first IsShut j z n = clash z
-          first (Sleeps k) j z n = clash z
+          first IsOpen CatchNode z n = false_true z
+          first IsOpen FindallNode z n = false_true z
+          first IsOpen QueryNode z n = false_true z
+          first IsShut j z n = false_true z
+          first (Sleeps k) j z n = false_true z
 
       no_plain : (j : Kind) → is_shape j (level_profiles v (Sleeps ChoiceNode)) ≡ true → ⊥
-      no_plain ChoiceNode h = clash (none_sleeps-of v.left (Sleeps ChoiceNode ∷ profiles v.right) h)
+      no_plain ChoiceNode h = false_true (none_sleeps-of v.left (Sleeps ChoiceNode ∷ profiles v.right) h)
       no_plain CatchNode h = left_pair v.left CatchNode (profiles v.right) true h (λ e. let no_way : ⊥ = cc in no_way)
       no_plain FindallNode h = left_pair v.left FindallNode (profiles v.right) true h (λ e. let no_way : ⊥ = cc in no_way)
       no_plain QueryNode h = left_pair v.left QueryNode (profiles v.right) true h (λ e. let no_way : ⊥ = cc in no_way)

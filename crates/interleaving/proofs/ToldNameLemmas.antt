@@ -9,7 +9,7 @@ use Rattle.tree_model.specs.Levels.{Level}
 use Rattle.tree_model.specs.PendingLists.{way_of, step_of, step_name, list_among, back_of}
 use Rattle.tree_model.specs.Ways.{is_on}
 use Rattle.tree_model.specs.SoundTrees.{Profile, IsOpen}
-use Rattle.interleaving.proofs.WayLemmas.{cond-true, cond-same, same_self}
+use Rattle.interleaving.proofs.WayLemmas.{cond-true, cond-same}
 use Rattle.interleaving.proofs.NamingLemmas.{from_end, from_own}
 use Rattle.interleaving.proofs.ContextLemmas.{IsAround}
 use Rattle.interleaving.proofs.ClosingSoundLemmas.{IsFree, free-above}
@@ -17,6 +17,8 @@ use Rattle.interleaving.proofs.OwnInferenceLemmas.{floor-low}
 use Rattle.interleaving.proofs.NamedFloorLemmas.{from-element, right_named, below_named, floor_named, count-below, count-right, first_low}
 use Rattle.interleaving.proofs.PublishedBareLemmas.{right_of}
 use Rattle.interleaving.proofs.SkippedLemmas.{last_number, skip_right, Asleep, Awake, sleeping, decide}
+use Rattle.interleaving.proofs.TestLemmas.{number_same}
+use Rattle.interleaving.proofs.LowEntryLemmas.{nothing}
 
 -- what the floor's ends are
 pub record IsStepName (levels : List Level) (s : Name) : Type 0 where
@@ -35,10 +37,7 @@ wider v up s h = record {
 }
 
 own_step : (v : Level) (up : List Level) (k : ℕ) (s : Name) → s ≡ k ∷ v.number ∷ [] → IsStepName (v ∷ up) s
-own_step v up k s e = record { index = k; node = v.number; same = e; on = cond-true (v.number == v.number) true _ (same_self v.number) }
-
-nothing_there : (s : Name) (t : List Element) → [] ≡ EndOf s ∷ t → ⊥
-nothing_there s t e = cc
+own_step v up k s e = record { index = k; node = v.number; same = e; on = cond-true (v.number == v.number) true _ (number_same v.number) }
 
 -- an end past the first
 past : (s e : Name) (xs : List Element) → (s ≡ e → ⊥) → IsPresent (EndOf e ∷ xs) s → IsPresent xs s
@@ -82,7 +81,7 @@ module _ (v : Level) (up : List Level) where
 
 pub present_form : (levels : List Level) (p : Profile) → IsAround levels IsOpen → (s : Name) → IsPresent (below_named levels) s
     → IsStepName levels s
-present_form [] p a s h = absurd (nothing_there s h.0 h.1)
+present_form [] p a s h = absurd (nothing s h.0 h.1)
 present_form (v ∷ up) p a s h = go (decide s (step_name (step_of v))) (decide s (suc (length v.left) ∷ v.number ∷ []))
     (λ k. present_form up p a.1 s k)
   where
@@ -100,7 +99,7 @@ present_form (v ∷ up) p a s h = go (decide s (step_name (step_of v))) (decide 
 -- the highest end of the floor
 top_name : (levels : List Level) (s : Name) → IsPresent (below_named levels) s → height (below_named levels) s ≡ length levels
     → height (back_of levels) s ≡ element_count (back_of levels)
-top_name [] s p h = absurd (nothing_there s p.0 p.1)
+top_name [] s p h = absurd (nothing s p.0 p.1)
 top_name (v ∷ up) s p h = go (decide s (step_name (step_of v)))
   where
     go : (s ≡ step_name (step_of v)) ⊎ (s ≡ step_name (step_of v) → ⊥) → height (back_of (v ∷ up)) s ≡ element_count (back_of (v ∷ up))

@@ -17,27 +17,21 @@ use Rattle.tree_model.specs.Effects.{ball_falls, cut_at, gate_pruned, run_placed
 use Rattle.tree_model.specs.Histories.{after_events, are_legal, tree_after}
 use Rattle.tree_model.specs.Promises.{IsFrontAnswer, NoPrunedEffect, tasks_out, NeverStuck}
 use Rattle.tree_model.specs.SoundTrees.{IsOpen, profile, IsSoundTree}
-use Rattle.interleaving.proofs.WayLemmas.{same_self, cond-true}
+use Rattle.interleaving.proofs.WayLemmas.{cond-true}
 use Rattle.interleaving.proofs.PluggedLemmas.{IsIn, all_in}
 use Rattle.interleaving.proofs.FrontLemmas.{leftmost_front, cleared_below, tasks_plug}
 use Rattle.interleaving.proofs.LegalLemmas.{legal_sound}
+use Rattle.au_term.proofs.LogicLemmas.{and-right, and-left}
+use Rattle.interleaving.proofs.TestLemmas.{number_same}
 
 -- a history with one event more
 after-last : (t : TreeState) (es : List Event) (e : Event) → after_events t (es ++ e ∷ []) ≡ after_event (after_events t es) e
 after-last t [] e = refl
 after-last t (d ∷ es) e = after-last (after_event t d) es e
 
-pub and_first : (a b : Bool) → (a && b) ≡ true → a ≡ true
-and_first true b h = refl
-and_first false b h = let no_way : ⊥ = cc in absurd no_way
-
-pub and_second : (a b : Bool) → (a && b) ≡ true → b ≡ true
-and_second true b h = h
-and_second false b h = let no_way : ⊥ = cc in absurd no_way
-
 legal-last : (t : TreeState) (es : List Event) (e : Event) → are_legal t (es ++ e ∷ []) ≡ true → is_legal (after_events t es) e ≡ true
-legal-last t [] e h = and_first (is_legal t e) true h
-legal-last t (d ∷ es) e h = legal-last (after_event t d) es e (and_second (is_legal t d) _ h)
+legal-last t [] e h = and-left (is_legal t e) true h
+legal-last t (d ∷ es) e h = legal-last (after_event t d) es e (and-right (is_legal t d) _ h)
 
 -- what leaves the world as it is
 some_world : (t : TreeState) (o : Option Spot) (new : Spot → TreeState) → ((s : Spot) → (new s).world ≡ t.world)
@@ -66,8 +60,8 @@ pruned_world t s None es = refl
 
 pub same_place-is : (a b : Place) → same_place a b ≡ true → a ≡ b
 same_place-is a b h =
-    let n : a.node ≡ b.node = number (a.node) (b.node) (and_first (a.node == b.node) _ h) in
-    let i : a.index ≡ b.index = number (a.index) (b.index) (and_second (a.node == b.node) _ h) in
+    let n : a.node ≡ b.node = number (a.node) (b.node) (and-left (a.node == b.node) _ h) in
+    let i : a.index ≡ b.index = number (a.index) (b.index) (and-right (a.node == b.node) _ h) in
     ap (λ m. record { node = m; index = a.index }) n ∙ ap (λ m. record { node = b.node; index = m }) i
   where
     number : (m n : ℕ) → (m == n) ≡ true → m ≡ n
@@ -89,7 +83,7 @@ front_answer t w a h = go (leftmost t) refl h
 answer_front : (t : TreeState) (a : Place) (o : Option Spot) → at_spot o (λ s. is_world_gate (gate_of t s) && is_spot_at a (leftmost t))
     ≡ true → is_spot_at a (leftmost t) ≡ true
 answer_front t a None h = let no_way : ⊥ = cc in absurd no_way
-answer_front t a (Some s) h = and_second (is_world_gate (gate_of t s)) _ h
+answer_front t a (Some s) h = and-right (is_world_gate (gate_of t s)) _ h
 
 event_world : (t : TreeState) (e : Event) → is_allowed t e ≡ true → (after_allowed t e).world ≡ t.world ⊎ IsFrontAnswer t e
 event_world t (Claim w a) h = inl (some_world t (claimable t) _ (λ s. refl))
@@ -106,7 +100,7 @@ event_world t (Stop w) h = inl refl
 
 legal_world : (t : TreeState) (e : Event) → is_legal t e ≡ true → (after_event t e).world ≡ t.world ⊎ IsFrontAnswer t e
 unfolding is_legal after_event
-legal_world t e h = event_world t e (and_second (is_none (ended t)) _ (and_second (not t.stopped) _ h))
+legal_world t e h = event_world t e (and-right (is_none (ended t)) _ (and-right (not t.stopped) _ h))
 
 pub no_pruned_effect : NoPrunedEffect
 no_pruned_effect job budget window es e h =
@@ -127,7 +121,7 @@ some_none : (s : Spot) → Some s ≡ None → ⊥
 some_none s h = cc
 
 pub place_self : (a : Place) → same_place a a ≡ true
-place_self a = ap (λ b. b && (a.index == a.index)) (same_self a.node) ∙ same_self a.index
+place_self a = ap (λ b. b && (a.index == a.index)) (number_same a.node) ∙ number_same a.index
 
 first_found : (test : Spot → Bool) (spots : List Spot) (s : Spot) (ss : List Spot) → spots ≡ s ∷ ss → test s ≡ true → find test spots
     ≡ Some s

@@ -21,9 +21,8 @@ use Rattle.interleaving.specs.Views.{IsBlind, IsUnder, IsItemApart, IsRecordApar
 use Rattle.interleaving.specs.Segments.{outer}
 use Rattle.interleaving.specs.Laws.{is_inner_record}
 use Rattle.interleaving.proofs.ContextLemmas.{IsAround, count_left, count_around}
-use Rattle.interleaving.proofs.WayLemmas.{cond-true, same_self}
-use Rattle.interleaving.proofs.AppendLemmas.{append-assoc}
-use Rattle.interleaving.proofs.RunFrontLemmas.{append-none}
+use Rattle.interleaving.proofs.WayLemmas.{cond-true}
+use Rattle.interleaving.proofs.AppendLemmas.{append-assoc, append-nil}
 use Rattle.interleaving.proofs.AloneLemmas.{outer-append}
 use Rattle.interleaving.proofs.BlindLemmas.{of_node, front_blind, back_blind}
 use Rattle.interleaving.proofs.ClockLemmas.{AreShut, AreClear}
@@ -31,9 +30,7 @@ use Rattle.interleaving.proofs.FoldLemmas.{LeftSides, SidesKept, side_name, name
 use Rattle.interleaving.proofs.ListEndLemmas.{levels_down}
 use Rattle.interleaving.proofs.BallLevelLemmas.{landed, clear_step, FirstShut}
 use Rattle.interleaving.proofs.LowerListLemmas.{lower_front, count_lower}
-
-clash : {A : Type 0} → false ≡ true → A
-clash h = let no_way : ⊥ = cc in absurd no_way
+use Rattle.interleaving.proofs.TestLemmas.{false_true, number_same}
 
 -- names of nodes among some, from those of each
 module _ (ok : ℕ → Bool) where
@@ -43,7 +40,7 @@ module _ (ok : ℕ → Bool) where
     where
       go : (b : Bool) → ok i ≡ b → b ≡ false
       go false e = refl
-      go true e = clash (sym (f i e) ∙ same_self i)
+      go true e = false_true (sym (f i e) ∙ number_same i)
   apart_all (i ∷ j ∷ s) f = apart_all (j ∷ s) f
 
   items_all : (is : List (Item Name)) → ((m : ℕ) → ok m ≡ true → Each (IsItemApart (of_node m)) is) → Each (IsItemApart (rooted ok)) is
@@ -129,7 +126,7 @@ upper_findall up = named up (λ m. refl)
         go (v ∷ rest) k = pick (is_findall v.kind) (length v.left == 0) (go rest (λ m l. k m (omega (arith, l))))
           where
             mine : 1 ≤ count_around v.number up
-            mine = k v.number (let z : one_if (v.number == v.number) ≡ 1 = ap one_if (same_self v.number) in omega (arith, z))
+            mine = k v.number (let z : one_if (v.number == v.number) ≡ 1 = ap one_if (number_same v.number) in omega (arith, z))
 
             pick : (b c : Bool) → rooted (is_free_of up) (findall_on (way_of rest)) ≡ false
                 → rooted (is_free_of up) (cond b (cond c (0 ∷ v.number ∷ []) (findall_on (way_of rest))) (findall_on (way_of rest)))
@@ -142,13 +139,13 @@ upper_findall up = named up (λ m. refl)
 left_rows : (way : Way) (n : ℕ) (kind : Kind) (left : List (ℕ × Status)) → LeftSides kind left → AreShut left
     → records (list_left way n kind left) ≡ named_by way (credits_left left).records
 left_rows way n kind [] s k = refl
-left_rows way n kind ((sp, Pending hold e) ∷ left) s k = clash k.0
-left_rows way n kind ((sp, Inner node) ∷ left) s k = clash k.0
+left_rows way n kind ((sp, Pending hold e) ∷ left) s k = false_true k.0
+left_rows way n kind ((sp, Inner node) ∷ left) s k = false_true k.0
 left_rows way n kind ((sp, Closed c) ∷ left) s k =
     records-append (list_left way n kind left) _
     ∙ (ap (λ l. l ++ (named_by (record { node = n; index = length left; kind = kind } ∷ way) c.records ++ []))
     (left_rows way n kind left s.1 k.1)
-    ∙ (ap (λ l. named_by way (credits_left left).records ++ l) (append-none _ ∙ closed_records way n (length left) kind c.records s.0)
+    ∙ (ap (λ l. named_by way (credits_left left).records ++ l) (append-nil _ ∙ closed_records way n (length left) kind c.records s.0)
     ∙ sym (named-append way (credits_left left).records c.records)))
 
 -- records of one name
@@ -178,7 +175,7 @@ kept_same v c h = go v.left refl (is_findall v.kind) refl
         → (elim left as (λ l. TreeCredit) [ [] ↦ cond b (without_records c) c | a ∷ rest ↦ c ]).records ≡ c.records
     go [] q false e = refl
     go (a ∷ rest) q b e = refl
-    go [] q true e = clash (sym h ∙ (ap (λ b. b && (length v.left == 0)) e ∙ ap (λ l. true && (length l == 0)) q))
+    go [] q true e = false_true (sym h ∙ (ap (λ b. b && (length v.left == 0)) e ∙ ap (λ l. true && (length l == 0)) q))
 
 kept_gone : (v : Level) (c : TreeCredit) → is_side v.kind (length v.left) ≡ true
     → ((kept_records v c).records ≡ []) × (is_findall v.kind ≡ true) × ((length v.left == 0) ≡ true)
@@ -186,7 +183,7 @@ kept_gone v c h = go v.left refl (is_findall v.kind) refl
   where
     second : (x y : Bool) → (x && y) ≡ true → y ≡ true
     second true y z = z
-    second false y z = clash z
+    second false y z = false_true z
 
     not_first : (n : ℕ) → (suc n == 0) ≡ true → ⊥
     not_first n z = grind arith
@@ -195,7 +192,7 @@ kept_gone v c h = go v.left refl (is_findall v.kind) refl
         → ((elim left as (λ l. TreeCredit) [ [] ↦ cond b (without_records c) c | a ∷ rest ↦ c ]).records ≡ [])
         × (is_findall v.kind ≡ true) × ((length v.left == 0) ≡ true)
     go [] q true e = (refl, e, ap (λ l. length l == 0) q)
-    go [] q false e = clash (sym (ap (λ b. b && (length v.left == 0)) e) ∙ h)
+    go [] q false e = false_true (sym (ap (λ b. b && (length v.left == 0)) e) ∙ h)
     go (a ∷ rest) q b e = absurd (not_first (length rest)
         (sym (ap (λ l. length l == 0) q) ∙ second (is_findall v.kind) (length v.left == 0) h))
 
@@ -239,7 +236,7 @@ module _ (inside : Name → Bool) where
           let joined : records (lower_front s up ++ level_front up v) ≡ lower ++ left = records-append (lower_front s up)
           (level_front up v) ∙ ap (λ l. lower ++ l) rows in
           let own : inside (0 ∷ v.number ∷ [])
-          ≡ true = j v.number (let q : one_if (v.number == v.number) ≡ 1 = ap one_if (same_self v.number) in omega (arith, q)) in
+          ≡ true = j v.number (let q : one_if (v.number == v.number) ≡ 1 = ap one_if (number_same v.number) in omega (arith, q)) in
           let all : (left_after v c).records ≡ (credits_left v.left).records ++ (kept_records v c).records = refl in
           let split : lower ++ named_by (way_of up) (left_after v c).records
           ≡ lower ++ (left ++ named_by (way_of up) (kept_records v c).records) = ap (λ l. lower ++ l)

@@ -8,6 +8,8 @@ use Rattle.tree_model.specs.PendingLists.{Step, Way, way_of}
 use Rattle.tree_model.specs.Ways.{is_on, same_kind, is_barrier, in_reach, through, way_from, way_above, AreScoped}
 use Rattle.tree_model.specs.SoundTrees.{one_if}
 use Rattle.interleaving.proofs.ContextLemmas.{count_around}
+use Rattle.au_term.proofs.LogicLemmas.{numbers_turned}
+use Rattle.interleaving.proofs.TestLemmas.{number_same}
 
 -- a test on a Bool whose value is known
 pub cond-true : {A : Type 0} → (b : Bool) (x y : A) → b ≡ true → cond b x y ≡ x
@@ -79,20 +81,6 @@ below_new a way (CollectMark t s ∷ items) n b h =
     let rest : way_above (a ∷ way) s ≡ way_above way s = cond-false (a.node == s) way (way_above way s) new in
     (reach, subst (λ w. AreScoped w items) (sym rest) h.1)
 below_new a way (RemovalItem number ∷ items) n b h = below_new a way items n b h
-
-pub same_self : (n : ℕ) → (n == n) ≡ true
-same_self n = go (n == n) refl
-  where
-    go : (b : Bool) → (n == n) ≡ b → b ≡ true
-    go true e = refl
-    go false e = let no_way : ⊥ = grind arith in absurd no_way
-
-pub unlike : (m n : ℕ) → (m == n) ≡ false → (n == m) ≡ false
-unlike m n h = go (n == m) refl
-  where
-    go : (b : Bool) → (n == m) ≡ b → b ≡ false
-    go false e = refl
-    go true e = let same : n ≡ m = grind arith in let no_way : ⊥ = cc (same_self m) in absurd no_way
 
 pub cond-same : {A : Type 0} → (b : Bool) (x y : A) → y ≡ x → cond b x y ≡ x
 cond-same true x y h = refl

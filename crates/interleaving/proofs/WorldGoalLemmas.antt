@@ -30,7 +30,7 @@ use Rattle.interleaving.specs.Quiet.{records}
 use Rattle.interleaving.specs.Erased.{erased}
 use Rattle.interleaving.specs.HistoryInvariants.{shared_of, AnswerMoves}
 use Rattle.interleaving.proofs.RoundtripLemmas.{by_heights}
-use Rattle.interleaving.proofs.StackLemmas.{ArePlain}
+use Rattle.interleaving.proofs.StackLemmas.{ArePlain, unified_plain, solutions_plain}
 use Rattle.interleaving.proofs.EntryLemmas.{length-floor}
 use Rattle.interleaving.proofs.OpenSpotLemmas.{IsOpenSpot}
 use Rattle.interleaving.proofs.SoundClosingLemmas.{free_at}
@@ -42,16 +42,6 @@ use Rattle.interleaving.proofs.PublishedBareLemmas.{right_of}
 use Rattle.interleaving.proofs.FrontCloseLemmas.{bare}
 use Rattle.interleaving.proofs.FrontHeightLemmas.{height_rest, one_same, solved_same}
 use Rattle.interleaving.proofs.FrontEntriesLemmas.{left_tree, IsLeft, entries_move, none_moves}
-
--- solutions leave plain entries
-unified_plain : (o : Option Substitution) (f : Continuation ℕ) (es : List Entry) → ArePlain es → ArePlain (unified o f ++ es)
-unified_plain None f es h = h
-unified_plain (Some s) f es h = h
-
-solved_plain : (h : ℕ) (f : Continuation ℕ) (ss : List Solution) → ArePlain (solution_entries h f ss)
-solved_plain h f [] = tt
-solved_plain h f (s ∷ ss) = unified_plain (unifier s.equations) (with_next (f.next + s.variables) (before (goals_at h s.goals) f))
-    (solution_entries h f ss) (solved_plain h f ss)
 
 -- where no solution unifies, only the end of a scope is left
 none_solved : (clauses : List Clause) (j h : ℕ) (p : Name) (fn : Continuation Name) (fh : Continuation ℕ) → fn.next ≡ fh.next
@@ -182,7 +172,7 @@ module _ (t : TreeState) (w : ℕ) (a : Place) (s : Spot) (f : Continuation ℕ)
             let nr : Continuation Name = record { items = map (renamed_item sc sc) items; named = f.named; next = f.next } in
             entries_move t s f after (Answer w a false) answers i k running first entry asked
             (λ v. world_replied (world_step t.job.clauses ask f.next v.world) own nr v) x es (solution_elements 0 own nr ss)
-            (subst ArePlain eq (solved_plain _ _ ss)) (is_left (x ∷ es) asks)
+            (subst ArePlain eq (solutions_plain _ _ ss)) (is_left (x ∷ es) asks)
             (subst (λ l. erased (solution_elements 0 own nr ss ++ given)
             ≡ erased (olders way t.next ChoiceNode 0 (map (with_nodes (node_of (levels_of s))) l) ++ given)) eq
             (subst (λ l. erased (solution_elements 0 own nr ss ++ l)
