@@ -3,7 +3,8 @@ use Rattle.std.proofs.Common.{◌≡◌, ℕ, zero, suc, Bool, true, false, cond
 use Rattle.std.proofs.Common.{◌∙◌, subst}
 use Rattle.std.specs.Option.{option_map}
 use Rattle.au_model.specs.Terms.Each.{Each}
-use Rattle.interleaving.specs.Machine.{Machine, Act, Vanishes, Wakes, Takes, Asks, Look, On, Here, Replacement, Put, Only, Seek, gives, freed}
+use Rattle.interleaving.specs.Machine.{Machine, Act, Vanishes, Wakes, Takes, Asks, Look, On, Here, Replacement, Put, Only, Seek, gives}
+use Rattle.interleaving.specs.Machine.{freed}
 use Rattle.interleaving.specs.Machine.{free_steps}
 use Rattle.interleaving.specs.Segments.{IsActive, outer, found_in, search_in, placed_in, freed_alone, free_steps_alone, go_on}
 use Rattle.interleaving.specs.Segments.{taken_alone, front_alone, run_alone, Private, private_none, private_goes, private_stands}

@@ -9,7 +9,8 @@ use Rattle.au_model.specs.Terms.Substitutions.{Substitution}
 use Rattle.au_model.specs.Terms.Unifier.{unifier}
 use Rattle.au_model.specs.Terms.Copies.{copied, copy_takes}
 use Rattle.run_model.specs.Programs.Clauses.{Clause}
-use Rattle.run_model.specs.Machine.Items.{Item, GoalItem, CatchMark, CollectMark, RemovalItem, Continuation, resolve_continuation, with_next}
+use Rattle.run_model.specs.Machine.Items.{Item, GoalItem, CatchMark, CollectMark, RemovalItem, Continuation, resolve_continuation}
+use Rattle.run_model.specs.Machine.Items.{with_next}
 use Rattle.run_model.specs.Machine.Items.{before, first_mark}
 use Rattle.run_model.specs.Machine.Entries.{PlainEntry, CatchEntry}
 use Rattle.interleaving.specs.Machine.{On, looked, search_for}

@@ -8,7 +8,8 @@ use Rattle.au_model.specs.Terms.Substitutions.{Substitution}
 use Rattle.au_model.specs.Terms.Unifier.{unifier}
 use Rattle.au_model.specs.Terms.Copies.{copied, copy_takes}
 use Rattle.run_model.specs.Programs.Bodies.{call_of}
-use Rattle.run_model.specs.Machine.Items.{Item, GoalItem, CatchMark, CollectMark, RemovalItem, Continuation, first_mark, resolve_continuation}
+use Rattle.run_model.specs.Machine.Items.{Item, GoalItem, CatchMark, CollectMark, RemovalItem, Continuation, first_mark}
+use Rattle.run_model.specs.Machine.Items.{resolve_continuation}
 use Rattle.run_model.specs.Machine.Items.{before, with_next}
 use Rattle.tree_model.specs.Nodes.{Status, Inner}
 use Rattle.tree_model.specs.Levels.{Level, level_node, plug}

@@ -7,7 +7,8 @@ use Rattle.au_model.specs.Terms.Substitutions.{Substitution}
 use Rattle.run_model.specs.Machine.Items.{Item, GoalItem, CatchMark, CollectMark, RemovalItem, resolve_item, goals_at, without_marks}
 use Rattle.tree_model.specs.Elements.{Name, same, Element, Credit, Plain, EndOf, Catch, Findall, End}
 use Rattle.interleaving.specs.Erased.{from}
-use Rattle.interleaving.specs.Sound.{names, IsMadeElsewhere, IsPresent, AreCarried, IsGuarded, IsGathered, IsMarkSound, EachFindall, IsEntrySound}
+use Rattle.interleaving.specs.Sound.{names, IsMadeElsewhere, IsPresent, AreCarried, IsGuarded, IsGathered, IsMarkSound, EachFindall}
+use Rattle.interleaving.specs.Sound.{IsEntrySound}
 use Rattle.interleaving.specs.Sound.{IsSound}
 use Rattle.interleaving.proofs.NamingLemmas.{names-resolved, IsMadeBy, from_end, from_own, from-made, not_child, all-later, carried_child}
 use Rattle.interleaving.proofs.NamingLemmas.{carried_cut, carried_rest, not_longer}

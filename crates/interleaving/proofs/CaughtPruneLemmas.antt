@@ -7,9 +7,11 @@ use Rattle.au_model.specs.Terms.Each.{Each}
 use Rattle.run_model.specs.Programs.Clauses.{Clause}
 use Rattle.run_model.specs.Goals.GoalOutcomes.{outcome_of}
 use Rattle.run_model.specs.Machine.Balls.{unwound}
-use Rattle.run_model.specs.Goals.Outcomes.{Solutions, Ball, HaltNumber, GoesOnWith, EitherOf, TestOf, CutToScope, CatchOf, FindallOf, Outcome}
+use Rattle.run_model.specs.Goals.Outcomes.{Solutions, Ball, HaltNumber, GoesOnWith, EitherOf, TestOf, CutToScope, CatchOf, FindallOf}
+use Rattle.run_model.specs.Goals.Outcomes.{Outcome}
 use Rattle.run_model.specs.Goals.Outcomes.{Replies, Controls, AskWorld}
-use Rattle.run_model.specs.Machine.Items.{Item, GoalItem, CatchMark, CollectMark, RemovalItem, Continuation, first_mark, with_items, without_marks}
+use Rattle.run_model.specs.Machine.Items.{Item, GoalItem, CatchMark, CollectMark, RemovalItem, Continuation, first_mark, with_items}
+use Rattle.run_model.specs.Machine.Items.{without_marks}
 use Rattle.run_model.specs.Machine.Entries.{Entry, PlainEntry, CatchEntry, FindallEntry, EndEntry}
 use Rattle.tree_model.specs.Credits.{Credit, no_credit, credit_of}
 use Rattle.tree_model.specs.Nodes.{CutGate, BallGate, ChoiceNode, Ready, Node, Numbered, Alternatives, alternative, Status, Inner, Closed}

@@ -5,7 +5,8 @@ use Rattle.au_model.specs.Terms.Each.{Each}
 use Rattle.tree_model.specs.Nodes.{Kind, Status, Pending, Inner, Closed}
 use Rattle.tree_model.specs.Levels.{Level, Place}
 use Rattle.tree_model.specs.Orders.{is_node, levels_below, is_closed, first_open_left, first_open, is_cleared}
-use Rattle.tree_model.specs.PendingLists.{Way, way_of, list_below, list_left, level_front, front_of, levels_from, front_below, IsCreditOrEnd}
+use Rattle.tree_model.specs.PendingLists.{Way, way_of, list_below, list_left, level_front, front_of, levels_from, front_below}
+use Rattle.tree_model.specs.PendingLists.{IsCreditOrEnd}
 use Rattle.tree_model.specs.PendingLists.{FrontIsQuiet}
 use Rattle.interleaving.proofs.AppendLemmas.{each-append, append-assoc, append-nil}
 

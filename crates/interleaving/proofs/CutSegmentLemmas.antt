@@ -23,7 +23,8 @@ use Rattle.interleaving.proofs.BaredLemmas.{made_at, made_grown}
 use Rattle.interleaving.proofs.SideLemmas.{at_least, out_other, out_index, is_old, front_blind as made_front_blind}
 use Rattle.interleaving.proofs.LowerListLemmas.{among_inner}
 use Rattle.interleaving.proofs.UpperBlindLemmas.{is_free_of, free_zero, zero_free, upper_front, upper_back, blind_is_under}
-use Rattle.interleaving.proofs.TestLemmas.{false_true, none_true, number_same, left_true, right_true}
+use Rattle.interleaving.proofs.TestLemmas.{false_true, none_true, number_same}
+use Rattle.au_model.proofs.ApplyLemmas.{or_left, or_right}
 
 -- the parts of the list round the segment
 pub record CutPart (w : Level) (up : List Level) : Type 0 where
@@ -165,10 +166,10 @@ module _ (next : ℕ) (w : Level) (up : List Level) (a : IsAround (w ∷ up) IsO
     under = list_among (way_of up) w.number w.kind (suc (length w.left)) w.right ++ back_of up;
     grown = grown;
     front = both_blind made low (front_of (w ∷ up)) (made_front_blind next w up free a) (upper_front (w ∷ up) a);
-    named = λ s h. right_true (made s) (low s) h;
+    named = λ s h. or_right (made s) (low s) h;
     free = λ m c. zero_free (w ∷ up) m c;
-    scope = left_true (made (length w.left ∷ w.number ∷ [])) _
-        (left_true (extends (length w.left ∷ w.number ∷ []) (length w.left ∷ w.number ∷ [])) _ itself);
+    scope = or_left (made (length w.left ∷ w.number ∷ [])) _
+        (or_left (extends (length w.left ∷ w.number ∷ []) (length w.left ∷ w.number ∷ [])) _ itself);
     parted = refl;
     inner = tt;
     beyond = (under_back (λ s. made s || low s) (w ∷ up) out).1;
@@ -181,16 +182,16 @@ module _ (next : ℕ) (w : Level) (up : List Level) (a : IsAround (w ∷ up) IsO
       low = rooted (is_free_of (w ∷ up))
 
       itself : extends (length w.left ∷ w.number ∷ []) (length w.left ∷ w.number ∷ []) ≡ true
-      itself = left_true _ _ (same-itself (length w.left ∷ w.number ∷ []))
+      itself = or_left _ _ (same-itself (length w.left ∷ w.number ∷ []))
 
       grown : IsGrown (λ s. made_at (length w.left ∷ w.number ∷ []) next s || rooted (is_free_of (w ∷ up)) s)
       grown i s h = go (made_at (length w.left ∷ w.number ∷ []) next s) refl h
         where
           go : (b : Bool) → made_at (length w.left ∷ w.number ∷ []) next s ≡ b → (b || rooted (is_free_of (w ∷ up)) s) ≡ true
               → (made_at (length w.left ∷ w.number ∷ []) next (i ∷ s) || rooted (is_free_of (w ∷ up)) (i ∷ s)) ≡ true
-          go true e k = left_true (made_at (length w.left ∷ w.number ∷ []) next (i ∷ s)) _
+          go true e k = or_left (made_at (length w.left ∷ w.number ∷ []) next (i ∷ s)) _
               (made_grown (length w.left ∷ w.number ∷ []) next i s e)
-          go false e k = right_true (made_at (length w.left ∷ w.number ∷ []) next (i ∷ s)) _ (are_told.root (is_free_of (w ∷ up)) i s k)
+          go false e k = or_right (made_at (length w.left ∷ w.number ∷ []) next (i ∷ s)) _ (are_told.root (is_free_of (w ∷ up)) i s k)
 
       kept : (m : ℕ) → 1 ≤ count_around m (w ∷ up) → is_free_of (w ∷ up) m ≡ false
       kept m l = go (is_free_of (w ∷ up) m) refl

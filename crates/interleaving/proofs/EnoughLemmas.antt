@@ -1,9 +1,11 @@
 -- Credits of more inferences than are looked at are the same.
 use Rattle.std.proofs.Common.{◌≡◌, inl, inr, ℕ, zero, suc, ◌≤◌, false, List, [], ◌∷◌, ◌++◌, map, refl, sym, ap, ◌∙◌, arith}
 use Rattle.au_model.specs.Terms.Each.{Each}
-use Rattle.interleaving.specs.Machine.{Machine, Act, Vanishes, Wakes, Takes, Asks, Replacement, gives, looked, search_for, placed, free_steps}
+use Rattle.interleaving.specs.Machine.{Machine, Act, Vanishes, Wakes, Takes, Asks, Replacement, gives, looked, search_for, placed}
+use Rattle.interleaving.specs.Machine.{free_steps}
 use Rattle.interleaving.specs.Machine.{acted, step, run, is_finished, seen}
-use Rattle.interleaving.proofs.RunFrontLemmas.{settle-map, settle-given, PlaceOk, ActOk, Closed, gives-unseen, Freed, freed-found, placed-found}
+use Rattle.interleaving.proofs.RunFrontLemmas.{settle-map, settle-given, PlaceOk, ActOk, Closed, gives-unseen, Freed, freed-found}
+use Rattle.interleaving.proofs.RunFrontLemmas.{placed-found}
 use Rattle.interleaving.proofs.EarlyLemmas.{Ground, last, next_front, next_step, credit-unseen}
 
 module _ {W X Q R : Type 0} (m : Machine W X Q R) (g : Ground m) (P : X → Type 0) (K : Q → Type 0) (G : R → Type 0) (c : Closed m P K G)

@@ -6,7 +6,8 @@ use Rattle.au_model.specs.Terms.Substitutions.{Substitution}
 use Rattle.au_model.specs.Terms.Unifier.{unifier}
 use Rattle.au_model.specs.Terms.Copies.{copied, copy_takes}
 use Rattle.run_model.specs.Programs.Bodies.{call_of}
-use Rattle.run_model.specs.Machine.Items.{Item, GoalItem, CatchMark, CollectMark, RemovalItem, Continuation, first_mark, resolve_continuation}
+use Rattle.run_model.specs.Machine.Items.{Item, GoalItem, CatchMark, CollectMark, RemovalItem, Continuation, first_mark}
+use Rattle.run_model.specs.Machine.Items.{resolve_continuation}
 use Rattle.run_model.specs.Machine.Items.{before, with_next}
 use Rattle.run_model.specs.Machine.Entries.{Entry, PlainEntry, CatchEntry, FindallEntry, EndEntry}
 use Rattle.run_model.specs.Machine.Balls.{recovered, unwound}

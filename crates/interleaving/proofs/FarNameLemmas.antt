@@ -9,14 +9,18 @@ use Rattle.run_model.specs.Programs.Clauses.{Clause}
 use Rattle.run_model.specs.Programs.Databases.{Database, without_clause}
 use Rattle.run_model.specs.Goals.Worlds.{world_step}
 use Rattle.run_model.specs.Goals.GoalOutcomes.{outcome_of}
-use Rattle.run_model.specs.Goals.Outcomes.{Solution, Reply, Solutions, Ball, HaltNumber, ControlForm, GoesOnWith, EitherOf, TestOf, CutToScope}
+use Rattle.run_model.specs.Goals.Outcomes.{Solution, Reply, Solutions, Ball, HaltNumber, ControlForm, GoesOnWith, EitherOf, TestOf}
+use Rattle.run_model.specs.Goals.Outcomes.{CutToScope}
 use Rattle.run_model.specs.Goals.Outcomes.{CatchOf, FindallOf, Outcome, Replies, Controls, AskWorld}
-use Rattle.run_model.specs.Machine.Items.{Item, GoalItem, CatchMark, CollectMark, RemovalItem, Continuation, resolve_item, goals_at, with_items}
+use Rattle.run_model.specs.Machine.Items.{Item, GoalItem, CatchMark, CollectMark, RemovalItem, Continuation, resolve_item, goals_at}
+use Rattle.run_model.specs.Machine.Items.{with_items}
 use Rattle.run_model.specs.Machine.Items.{with_next, before, without_marks, first_mark}
 use Rattle.interleaving.specs.Machine.{Look, On, Here}
 use Rattle.tree_model.specs.Elements.{Name, same, Record, Element, Credit, Plain, EndOf, Catch, Findall, End}
-use Rattle.interleaving.specs.Scopes.{left_standing, Shared, Sought, Scope, Thrown, Caught, Does, ElementReplacement, unified_element, solution_elements}
-use Rattle.interleaving.specs.Scopes.{reply_place, named_test_items, control_place, goal_act, removed, unmarked, item_act, act, recovery_look, look}
+use Rattle.interleaving.specs.Scopes.{left_standing, Shared, Sought, Scope, Thrown, Caught, Does, ElementReplacement, unified_element}
+use Rattle.interleaving.specs.Scopes.{solution_elements}
+use Rattle.interleaving.specs.Scopes.{reply_place, named_test_items, control_place, goal_act, removed, unmarked, item_act, act}
+use Rattle.interleaving.specs.Scopes.{recovery_look, look}
 use Rattle.interleaving.specs.Scopes.{findall_with_result, give, scoped}
 use Rattle.interleaving.specs.Views.{IsApart, IsBeside}
 use Rattle.interleaving.proofs.RunFrontLemmas.{each-append, PlaceOk, ActOk, LookOk, Closed}

@@ -5,7 +5,8 @@ use Rattle.au_term.specs.Term.{Term}
 use Rattle.au_model.specs.Terms.Substitutions.{Substitution}
 use Rattle.au_model.specs.Terms.Unifier.{unifier}
 use Rattle.run_model.specs.Goals.Outcomes.{Solution}
-use Rattle.run_model.specs.Machine.Items.{Item, GoalItem, CatchMark, CollectMark, RemovalItem, Continuation, goals_at, resolve_item, resolve_named}
+use Rattle.run_model.specs.Machine.Items.{Item, GoalItem, CatchMark, CollectMark, RemovalItem, Continuation, goals_at, resolve_item}
+use Rattle.run_model.specs.Machine.Items.{resolve_named}
 use Rattle.run_model.specs.Machine.Items.{before, with_next}
 use Rattle.run_model.specs.Machine.Entries.{Entry, PlainEntry, unified, solution_entries}
 use Rattle.tree_model.specs.Nodes.{ChoiceNode, CatchNode, FindallNode}

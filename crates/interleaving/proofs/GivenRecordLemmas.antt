@@ -8,7 +8,8 @@ use Rattle.run_model.specs.Machine.Items.{Item, GoalItem, CatchMark, CollectMark
 use Rattle.tree_model.specs.Elements.{Name, same, Record, Element, Credit, Plain, EndOf, Catch, Findall, End}
 use Rattle.interleaving.specs.Scopes.{findall_with_result, give}
 use Rattle.interleaving.specs.Erased.{from, element_count, height}
-use Rattle.interleaving.specs.Sound.{names, IsMadeElsewhere, IsPresent, IsChain, IsGuarded, IsGathered, IsMarkSound, EachFindall, IsEntrySound}
+use Rattle.interleaving.specs.Sound.{names, IsMadeElsewhere, IsPresent, IsChain, IsGuarded, IsGathered, IsMarkSound, EachFindall}
+use Rattle.interleaving.specs.Sound.{IsEntrySound}
 use Rattle.interleaving.specs.Sound.{IsRightUnder, IsSound}
 use Rattle.interleaving.proofs.CarriedLemmas.{findalls-from}
 

@@ -1,7 +1,8 @@
 -- Runs of segments, put together, and private runs.
 use Rattle.std.proofs.Common.{◌≡◌, ℕ, zero, suc, List, [], ◌∷◌, ◌++◌, map, Some, refl, sym, ap, ◌∙◌, subst}
 use Rattle.au_model.specs.Terms.Each.{Each}
-use Rattle.interleaving.specs.Machine.{Machine, Act, Vanishes, Wakes, Takes, Asks, Look, On, Here, Replacement, Put, Only, Seek, gives, looked}
+use Rattle.interleaving.specs.Machine.{Machine, Act, Vanishes, Wakes, Takes, Asks, Look, On, Here, Replacement, Put, Only, Seek, gives}
+use Rattle.interleaving.specs.Machine.{looked}
 use Rattle.interleaving.specs.Machine.{search_for, placed, freed, free_steps, acted, step, run, is_finished}
 use Rattle.interleaving.specs.Segments.{IsActive, found_in, search_in, placed_in}
 use Rattle.interleaving.proofs.RunFrontLemmas.{each-append, some-same, none-some, maps-append, map-seam, map-none}

@@ -34,7 +34,8 @@ use Rattle.interleaving.proofs.LowListLemmas.{findalls_low}
 use Rattle.interleaving.proofs.BrancheLemmas.{below_from, pair_older}
 use Rattle.interleaving.proofs.RenamedLemmas.{lead_items, Other, lead_sound, lead_erased}
 use Rattle.interleaving.proofs.LeadNameLemmas.{others_new, blind_findalls}
-use Rattle.interleaving.proofs.TestLemmas.{true_false, right_true}
+use Rattle.interleaving.proofs.TestLemmas.{true_false}
+use Rattle.au_model.proofs.ApplyLemmas.{or_right}
 
 -- the run's own names
 abbrev pub own_end : ℕ → Name
@@ -56,10 +57,10 @@ abbrev pub run_inside : ℕ → Name → Bool
 run_inside next = made_at (0 ∷ next ∷ []) next
 
 pub new_entry : (top : Name) (next : ℕ) → made_at top next (0 ∷ 0 ∷ next ∷ []) ≡ true
-new_entry top next = right_true _ _ (new_number next next (omega arith))
+new_entry top next = or_right _ _ (new_number next next (omega arith))
 
 pub new_end : (top : Name) (next : ℕ) → made_at top next (0 ∷ next ∷ []) ≡ true
-new_end top next = right_true _ _ (new_number next next (omega arith))
+new_end top next = or_right _ _ (new_number next next (omega arith))
 
 module _ (v : Level) (up : List Level) (next : ℕ) (f : Continuation ℕ) (free : IsFree next (v ∷ up)) (a : IsAround (v ∷ up) IsOpen)
     (h : IsOnWay (way_of (v ∷ up)) (PlainEntry f)) (off : is_on (way_of (v ∷ up)) next ≡ false) where

@@ -6,7 +6,8 @@ use Rattle.run_model.specs.Machine.Entries.{Entry}
 use Rattle.run_model.specs.Laws.Numbering.{IsEntryNumbered, AreEntriesNumbered}
 use Rattle.run_model.proofs.NumberingLemmas.{query-numbered}
 use Rattle.tree_model.specs.Credits.{Credit, credit_of}
-use Rattle.tree_model.specs.Nodes.{Gate, CutGate, BallGate, WorldGate, FrozenGate, Hold, TakenBy, Ready, ChoiceNode, Numbered, Pending, Inner}
+use Rattle.tree_model.specs.Nodes.{Gate, CutGate, BallGate, WorldGate, FrozenGate, Hold, TakenBy, Ready, ChoiceNode, Numbered, Pending}
+use Rattle.tree_model.specs.Nodes.{Inner}
 use Rattle.tree_model.specs.Nodes.{standing, single}
 use Rattle.tree_model.specs.Levels.{Place, plug, Spot, levels_of}
 use Rattle.tree_model.specs.Floors.{node_of, with_nodes}
@@ -18,7 +19,8 @@ use Rattle.tree_model.specs.Events.{Event, Claim, Nodes, Empty, Collected, Lost,
 use Rattle.tree_model.specs.TreeStates.{TreeState, opened_node, opening_root, opening_tree}
 use Rattle.tree_model.specs.Legality.{claimable, resumable, taken_at, gate_of, run_of}
 use Rattle.tree_model.specs.Effects.{with_status, closed_with, left_at, ball_falls, cut_at, or_none, gate_pruned, query_opens, front_taken}
-use Rattle.tree_model.specs.Effects.{spot_stack, world_moved, run_placed, results_of, where_some, gate_or_frozen, after_allowed, after_event}
+use Rattle.tree_model.specs.Effects.{spot_stack, world_moved, run_placed, results_of, where_some, gate_or_frozen, after_allowed}
+use Rattle.tree_model.specs.Effects.{after_event}
 use Rattle.tree_model.specs.Effects.{spending}
 use Rattle.tree_model.specs.Histories.{after_events, tree_after}
 use Rattle.tree_model.specs.NumberedTrees.{IsNumberedStatus, AreNumbered, IsNumberedTree}

@@ -5,7 +5,8 @@ use Rattle.run_model.specs.Machine.Entries.{Entry, PlainEntry, CatchEntry, Finda
 use Rattle.run_model.specs.Laws.Numbering.{IsEntryNumbered}
 use Rattle.run_model.proofs.NumberingLemmas.{findall-numbered, result-numbered}
 use Rattle.tree_model.specs.Credits.{Credit, no_credit, without_records}
-use Rattle.tree_model.specs.Nodes.{Ready, TakenBy, Waiting, Dormant, Alternatives, none, alternative, Status, Pending, Inner, Closed, single}
+use Rattle.tree_model.specs.Nodes.{Ready, TakenBy, Waiting, Dormant, Alternatives, none, alternative, Status, Pending, Inner, Closed}
+use Rattle.tree_model.specs.Nodes.{single}
 use Rattle.tree_model.specs.Levels.{Level, put_left, level_node, plug}
 use Rattle.tree_model.specs.Closing.{Grown, dormant_right, guarded, with_right, with_results, findall_goes_on, all_closed, folds, wakes}
 use Rattle.tree_model.specs.Closing.{goal_side_closes, closes}

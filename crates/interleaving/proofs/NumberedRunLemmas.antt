@@ -8,7 +8,8 @@ use Rattle.run_model.specs.Programs.Databases.{Database, without_clause}
 use Rattle.run_model.specs.Goals.Worlds.{World, world_step}
 use Rattle.run_model.specs.Goals.Outcomes.{Reply, Solutions, Ball, HaltNumber, Outcome, Replies, Controls, AskWorld}
 use Rattle.run_model.specs.Goals.GoalOutcomes.{outcome_of}
-use Rattle.run_model.specs.Machine.Items.{Item, GoalItem, CatchMark, CollectMark, RemovalItem, Continuation, with_items, without_marks, first_mark}
+use Rattle.run_model.specs.Machine.Items.{Item, GoalItem, CatchMark, CollectMark, RemovalItem, Continuation, with_items, without_marks}
+use Rattle.run_model.specs.Machine.Items.{first_mark}
 use Rattle.run_model.specs.Machine.Entries.{Entry, PlainEntry, CatchEntry, FindallEntry, EndEntry, collected}
 use Rattle.run_model.specs.Laws.Numbering.{AreItemTermsBelow, IsNamedBelow, IsContinuationNumbered, IsEntryNumbered, AreEntriesNumbered}
 use Rattle.run_model.proofs.BuiltinRowBoundLemmas.{IsReplyBelow, IsOutcomeBelow}
@@ -20,7 +21,8 @@ use Rattle.tree_model.specs.Nodes.{standing}
 use Rattle.tree_model.specs.Levels.{Level}
 use Rattle.tree_model.specs.Floors.{renamed_item, renamed_continuation, renamed_entry, with_nodes, right_entry, floor_of}
 use Rattle.tree_model.specs.Gates.{gate_on}
-use Rattle.tree_model.specs.PrivateRuns.{own_settles, own_free_steps, settled_own, own_part, goal_alone, item_alone, taken_alone, if_no_gate}
+use Rattle.tree_model.specs.PrivateRuns.{own_settles, own_free_steps, settled_own, own_part, goal_alone, item_alone, taken_alone}
+use Rattle.tree_model.specs.PrivateRuns.{if_no_gate}
 use Rattle.tree_model.specs.PrivateRuns.{own_after, one_more, if_any, private_run}
 use Rattle.tree_model.specs.Shapes.{further, guard_hold, guard_kind, further_alternatives, placed_scope, placed_status, placed}
 use Rattle.tree_model.specs.FrontGates.{Taken, Continues, Answered, Raises, Halts, QueryEnds, reply_taken, goal_at_front, removal_at_front}

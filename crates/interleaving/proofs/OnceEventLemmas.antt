@@ -8,7 +8,8 @@ use Rattle.run_model.specs.Goals.Outcomes.{Outcome, Replies, Controls, AskWorld}
 use Rattle.run_model.specs.Goals.GoalOutcomes.{outcome_of}
 use Rattle.run_model.specs.Goals.Worlds.{World, world_step}
 use Rattle.run_model.specs.Machine.Balls.{unwound}
-use Rattle.run_model.specs.Machine.Items.{Item, GoalItem, CatchMark, CollectMark, RemovalItem, Continuation, with_items, without_marks, first_mark}
+use Rattle.run_model.specs.Machine.Items.{Item, GoalItem, CatchMark, CollectMark, RemovalItem, Continuation, with_items, without_marks}
+use Rattle.run_model.specs.Machine.Items.{first_mark}
 use Rattle.run_model.specs.Machine.Entries.{Entry, PlainEntry, CatchEntry, FindallEntry, EndEntry}
 use Rattle.tree_model.specs.Nodes.{Gate, CutGate, BallGate, WorldGate, FrozenGate, Hold, Ready, TakenBy, Waiting, Dormant, Pending}
 use Rattle.tree_model.specs.Levels.{Level, Place, same_place, Spot, levels_of, place_of_spot}

@@ -19,7 +19,8 @@ use Rattle.interleaving.proofs.CollapseLemmas.{Collapses, kept, hidden, AreSeen,
 use Rattle.interleaving.proofs.StackLemmas.{entry_step, stack_way, length-stack, IsOver, AreOver}
 use Rattle.interleaving.proofs.RunSoundLemmas.{IsAwakeTop}
 use Rattle.au_term.proofs.LogicLemmas.{not-true}
-use Rattle.interleaving.proofs.TestLemmas.{number_same, left_true, right_true}
+use Rattle.interleaving.proofs.TestLemmas.{number_same}
+use Rattle.au_model.proofs.ApplyLemmas.{or_left, or_right}
 
 -- the heights that goals name
 abbrev pub named_in : List ℕ → ℕ → Bool
@@ -38,7 +39,7 @@ AreIn part cuts = (h : ℕ) → named_in part h ≡ true → named_in cuts h ≡
 items_seen : (cuts : List ℕ) (items : List (Item ℕ)) → AreIn (cuts_of_items items) cuts → AreSeen (named_in cuts) items
 items_seen cuts [] i = tt
 items_seen cuts (GoalItem t h ∷ items) i =
-    (i h (left_true (h == h) _ (number_same h)), items_seen cuts items (λ k j. i k (right_true (h == k) _ j)))
+    (i h (or_left (h == h) _ (number_same h)), items_seen cuts items (λ k j. i k (or_right (h == k) _ j)))
 items_seen cuts (CatchMark h ∷ items) i = items_seen cuts items i
 items_seen cuts (CollectMark t h ∷ items) i = items_seen cuts items i
 items_seen cuts (RemovalItem n ∷ items) i = items_seen cuts items i
@@ -60,7 +61,7 @@ in_front (x ∷ xs) ys h k = go (x == h) (in_front xs ys h) k
 
 behind : (xs ys : List ℕ) (h : ℕ) → named_in ys h ≡ true → named_in (xs ++ ys) h ≡ true
 behind [] ys h k = k
-behind (x ∷ xs) ys h k = right_true (x == h) (named_in (xs ++ ys) h) (behind xs ys h k)
+behind (x ∷ xs) ys h k = or_right (x == h) (named_in (xs ++ ys) h) (behind xs ys h k)
 
 all_seen_in : (cuts : List ℕ) (es : List Entry) → AreIn (cuts_of es) cuts → Each (IsSeen (named_in cuts)) es
 all_seen_in cuts [] i = tt
@@ -90,8 +91,8 @@ inside_hidden low size cuts u h a b = go (named_in cuts h) refl
             let same : c ≡ h = grind arith in
             let lower : nat_lt low c ≡ true = grind arith in
             let upper : nat_lt c (low + further size) ≡ true = grind arith in
-            left_true _ _ (ap (λ x. x && nat_lt c (low + further size)) lower ∙ upper)
-        pick false e f j = right_true (nat_lt low c && nat_lt c (low + further size)) _ (f j)
+            or_left _ _ (ap (λ x. x && nat_lt c (low + further size)) lower ∙ upper)
+        pick false e f j = or_right (nat_lt low c && nat_lt c (low + further size)) _ (f j)
 
     go : (z : Bool) → named_in cuts h ≡ z → z ≡ false
     go false e = refl

@@ -10,15 +10,18 @@ use Rattle.au_model.specs.Terms.Unifier.{unifier}
 use Rattle.au_model.specs.Terms.Copies.{copied, copy_takes}
 use Rattle.run_model.specs.Programs.Clauses.{Clause}
 use Rattle.run_model.specs.Programs.Jobs.{Query}
-use Rattle.run_model.specs.Goals.Outcomes.{Solution, Reply, Solutions, Ball, HaltNumber, ControlForm, GoesOnWith, EitherOf, TestOf, CutToScope}
+use Rattle.run_model.specs.Goals.Outcomes.{Solution, Reply, Solutions, Ball, HaltNumber, ControlForm, GoesOnWith, EitherOf, TestOf}
+use Rattle.run_model.specs.Goals.Outcomes.{CutToScope}
 use Rattle.run_model.specs.Goals.Outcomes.{CatchOf, FindallOf}
 use Rattle.run_model.specs.Machine.Items.{Item, GoalItem, CatchMark, CollectMark, Continuation, goals_at, with_next, before, first_mark}
 use Rattle.interleaving.specs.Machine.{Look, On, Here, looked, search_for, placed}
 use Rattle.tree_model.specs.Elements.{Name, same, Element, Credit, Plain, EndOf, Catch, Findall, End}
-use Rattle.interleaving.specs.Scopes.{Sought, Scope, Thrown, Caught, unified_element, solution_elements, reply_place, control_place, goals_first}
+use Rattle.interleaving.specs.Scopes.{Sought, Scope, Thrown, Caught, unified_element, solution_elements, reply_place, control_place}
+use Rattle.interleaving.specs.Scopes.{goals_first}
 use Rattle.interleaving.specs.Scopes.{named_test_items, opened_elements, recovery_look, look, scoped}
 use Rattle.interleaving.specs.Erased.{from, element_count}
-use Rattle.interleaving.specs.Sound.{names, IsMadeElsewhere, AreCarried, IsGuarded, IsGathered, IsMarkSound, EachFindall, IsEntrySound, IsSound}
+use Rattle.interleaving.specs.Sound.{names, IsMadeElsewhere, AreCarried, IsGuarded, IsGathered, IsMarkSound, EachFindall, IsEntrySound}
+use Rattle.interleaving.specs.Sound.{IsSound}
 use Rattle.interleaving.proofs.NamingLemmas.{IsMadeBy, from_end, from_own, longer, not_longer}
 use Rattle.interleaving.proofs.CarriedLemmas.{findalls-map, sound-from, entry_child, entry_rest, entry_cut, entry_goals, front_of}
 use Rattle.interleaving.proofs.CarriedLemmas.{front_child, older-goals, own_front, here_front, from_first, other_child, entry_resolved}

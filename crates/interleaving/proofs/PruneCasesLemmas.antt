@@ -5,9 +5,11 @@ use Rattle.std.specs.Prelude.{nat_lt}
 use Rattle.au_term.specs.Term.{Term}
 use Rattle.run_model.specs.Goals.GoalOutcomes.{outcome_of}
 use Rattle.run_model.specs.Machine.Balls.{unwound}
-use Rattle.run_model.specs.Goals.Outcomes.{Solutions, Ball, HaltNumber, GoesOnWith, EitherOf, TestOf, CutToScope, CatchOf, FindallOf, Outcome}
+use Rattle.run_model.specs.Goals.Outcomes.{Solutions, Ball, HaltNumber, GoesOnWith, EitherOf, TestOf, CutToScope, CatchOf, FindallOf}
+use Rattle.run_model.specs.Goals.Outcomes.{Outcome}
 use Rattle.run_model.specs.Goals.Outcomes.{Replies, Controls, AskWorld}
-use Rattle.run_model.specs.Machine.Items.{Item, GoalItem, CatchMark, CollectMark, RemovalItem, Continuation, first_mark, with_items, without_marks}
+use Rattle.run_model.specs.Machine.Items.{Item, GoalItem, CatchMark, CollectMark, RemovalItem, Continuation, first_mark, with_items}
+use Rattle.run_model.specs.Machine.Items.{without_marks}
 use Rattle.run_model.specs.Machine.Entries.{Entry, PlainEntry}
 use Rattle.tree_model.specs.Nodes.{CutGate, BallGate, Pending}
 use Rattle.tree_model.specs.Levels.{Level, Spot, levels_of}

@@ -6,7 +6,7 @@ use Rattle.tree_model.specs.Elements.{Name, same}
 use Rattle.interleaving.specs.Views.{IsGrown}
 use Rattle.interleaving.specs.Roots.{extends, rooted, AreTold}
 use Rattle.interleaving.proofs.ApartLemmas.{same-true}
-use Rattle.interleaving.proofs.TestLemmas.{right_true}
+use Rattle.au_model.proofs.ApplyLemmas.{or_right}
 
 either_false : (a b : Bool) → a ≡ false → (a || b) ≡ b
 either_false true b e = absurd (false≢true (sym e))
@@ -17,7 +17,7 @@ right_false true b e = refl
 right_false false b e = e
 
 grown : (top : Name) → IsGrown (extends top)
-grown top i s h = right_true (same top (i ∷ s)) (extends top s) h
+grown top i s h = or_right (same top (i ∷ s)) (extends top s) h
 
 rooted-grown : (ok : ℕ → Bool) → IsGrown (rooted ok)
 rooted-grown ok i [] h = absurd (false≢true h)

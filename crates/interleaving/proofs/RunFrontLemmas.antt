@@ -1,7 +1,8 @@
 -- The free steps and searches in front of other elements.
 use Rattle.std.proofs.Common.{◌≡◌, ◌⊎◌, inl, inr, List, [], ◌∷◌, ◌++◌, map, Some, None, refl, sym, ap, ◌∙◌}
 use Rattle.au_model.specs.Terms.Each.{Each}
-use Rattle.interleaving.specs.Machine.{Machine, Act, Vanishes, Wakes, Takes, Asks, Look, On, Here, Replacement, Put, Only, Seek, gives, looked}
+use Rattle.interleaving.specs.Machine.{Machine, Act, Vanishes, Wakes, Takes, Asks, Look, On, Here, Replacement, Put, Only, Seek, gives}
+use Rattle.interleaving.specs.Machine.{looked}
 use Rattle.interleaving.specs.Machine.{search_for, placed, freed, free_steps}
 use Rattle.interleaving.proofs.AppendLemmas.{append-assoc, append-nil}
 

@@ -9,12 +9,14 @@ use Rattle.run_model.specs.Machine.States as states
 use Rattle.run_model.specs.Machine.Runs.{seq}
 use Rattle.run_model.specs.Goals.GoalOutcomes.{outcome_of}
 use Rattle.run_model.specs.Goals.Outcomes.{Reply, Solutions, Ball, HaltNumber, Outcome, Replies, Controls, AskWorld}
-use Rattle.run_model.specs.Machine.Items.{Item, GoalItem, CatchMark, CollectMark, RemovalItem, Continuation, with_items, goals_at, without_marks}
+use Rattle.run_model.specs.Machine.Items.{Item, GoalItem, CatchMark, CollectMark, RemovalItem, Continuation, with_items, goals_at}
+use Rattle.run_model.specs.Machine.Items.{without_marks}
 use Rattle.run_model.specs.Machine.Items.{first_mark}
 use Rattle.run_model.specs.Machine.Entries.{Entry, PlainEntry, EndEntry, solution_entries}
 use Rattle.interleaving.specs.Machine.{Machine, is_finished, placed, acted, free_steps, step, run, seen}
 use Rattle.tree_model.specs.Elements.{Name, Record, Element, Credit, Plain, EndOf, Catch, Findall, End}
-use Rattle.interleaving.specs.Scopes.{Shared, Sought, first_shared, reply_place, control_place, goal_act, removed, unmarked, opened_elements, act}
+use Rattle.interleaving.specs.Scopes.{Shared, Sought, first_shared, reply_place, control_place, goal_act, removed, unmarked}
+use Rattle.interleaving.specs.Scopes.{opened_elements, act}
 use Rattle.interleaving.specs.Scopes.{scoped}
 use Rattle.interleaving.specs.Segments.{IsActive}
 use Rattle.interleaving.specs.HeightMachine.{HeightElement, HeightEntry, HeldState, held_entries, held_reply, held_control, held_goal}

@@ -9,7 +9,8 @@ use Rattle.run_model.specs.Machine.Items.{Item, GoalItem, CatchMark, CollectMark
 use Rattle.tree_model.specs.Elements.{Name, same, Record, Element, Credit, Plain, EndOf, Catch, Findall, End}
 use Rattle.interleaving.specs.Erased.{from, element_count, height}
 use Rattle.interleaving.specs.Views.{IsApart, IsBeside, IsItemApart, IsRecordApart, IsBlind}
-use Rattle.interleaving.specs.Sound.{names, IsMadeElsewhere, IsPresent, IsChain, IsGuarded, IsGathered, IsMarkSound, EachFindall, IsEntrySound}
+use Rattle.interleaving.specs.Sound.{names, IsMadeElsewhere, IsPresent, IsChain, IsGuarded, IsGathered, IsMarkSound, EachFindall}
+use Rattle.interleaving.specs.Sound.{IsEntrySound}
 use Rattle.interleaving.specs.Sound.{IsRightUnder, IsSound}
 use Rattle.interleaving.proofs.NamingLemmas.{height-le}
 use Rattle.interleaving.proofs.ApartLemmas.{same-true}

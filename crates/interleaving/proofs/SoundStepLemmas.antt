@@ -9,7 +9,8 @@ use Rattle.run_model.specs.Goals.Outcomes.{Solutions, Ball, HaltNumber, Outcome,
 use Rattle.run_model.specs.Machine.Items.{Item, GoalItem, CatchMark, CollectMark, RemovalItem, Continuation, with_items, without_marks}
 use Rattle.interleaving.specs.Machine.{Machine, Vanishes, Wakes, Takes, Asks, placed}
 use Rattle.tree_model.specs.Elements.{Name, Record, Element, Credit, Plain, EndOf, Catch, Findall, End}
-use Rattle.interleaving.specs.Scopes.{Shared, Sought, Does, ElementReplacement, goal_act, removed, answer_taken, unmarked, item_act, query_end_taken}
+use Rattle.interleaving.specs.Scopes.{Shared, Sought, Does, ElementReplacement, goal_act, removed, answer_taken, unmarked, item_act}
+use Rattle.interleaving.specs.Scopes.{query_end_taken}
 use Rattle.interleaving.specs.Scopes.{results_first, act, left_standing, scoped}
 use Rattle.interleaving.specs.Sound.{names, IsGathered, IsMarkSound, IsEntrySound, IsSound}
 use Rattle.interleaving.proofs.NamingLemmas.{carried_rest}

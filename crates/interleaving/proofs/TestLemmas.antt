@@ -1,20 +1,13 @@
 -- Tests of numbers, and tests joined by `or`; what contradicts itself.
 use Rattle.std.proofs.Common.{◌≡◌, ℕ, ◌<◌, Bool, true, false, ◌||◌, ◌==◌, refl, arith}
 use Rattle.std.proofs.lemmas.Bool.Decides.{nat_tests}
+use Rattle.au_model.proofs.ApplyLemmas.{or_left, or_right}
 
 pub false_true : {A : Type 0} → false ≡ true → A
 false_true h = let no_way : ⊥ = cc in absurd no_way
 
 pub true_false : true ≡ false → ⊥
 true_false h = cc
-
-pub left_true : (a b : Bool) → a ≡ true → (a || b) ≡ true
-left_true true b h = refl
-left_true false b h = false_true h
-
-pub right_true : (a b : Bool) → b ≡ true → (a || b) ≡ true
-right_true true b h = refl
-right_true false b h = h
 
 pub none_true : (a b : Bool) → a ≡ false → b ≡ false → (a || b) ≡ false
 none_true false b h k = k

@@ -25,7 +25,8 @@ use Rattle.tree_model.specs.SoundTrees.{IsSoundTree}
 use Rattle.tree_model.specs.CaughtTrees.{IsCaughtTree}
 use Rattle.tree_model.specs.Elements.{Name, Element, Plain, EndOf}
 use Rattle.interleaving.specs.Machine.{Asks, gives, free_steps, run}
-use Rattle.interleaving.specs.Scopes.{Shared, ElementReplacement, act, item_act, goal_act, world_replied, removed, unified_element, solution_elements, scoped}
+use Rattle.interleaving.specs.Scopes.{Shared, ElementReplacement, act, item_act, goal_act, world_replied, removed, unified_element}
+use Rattle.interleaving.specs.Scopes.{solution_elements, scoped}
 use Rattle.interleaving.specs.Quiet.{records}
 use Rattle.interleaving.specs.Erased.{erased}
 use Rattle.interleaving.specs.HistoryInvariants.{shared_of, AnswerMoves}

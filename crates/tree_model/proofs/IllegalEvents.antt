@@ -133,12 +133,13 @@ scope_is_split : shown_legal condition_job 10 10000 (Claim 0 (at_place 0 0) ∷ 
 unfolding shown_legal
 scope_is_split = refl
 
--- ?- catch((true ; true), e, true).
+-- p(1). p(2). ?- catch(p(X), e, true).
 abbrev catch_job : Job
 catch_job =
-    job [] (query (Compound (codes "catch")
-    (more (Compound (codes ";") (more (AtomTerm (codes "true")) (more (AtomTerm (codes "true")) end)))
-    (more (AtomTerm (codes "e")) (more (AtomTerm (codes "true")) end)))) [] ∷ [])
+    job (clause (Compound (codes "p") (more (IntTerm (pos 1)) end)) (AtomTerm (codes "true")) ∷
+    clause (Compound (codes "p") (more (IntTerm (pos 2)) end)) (AtomTerm (codes "true")) ∷ [])
+    (query (Compound (codes "catch") (more (Compound (codes "p") (more (VarTerm 0) end))
+    (more (AtomTerm (codes "e")) (more (AtomTerm (codes "true")) end)))) (named (codes "X") 0 ∷ []) ∷ [])
 
 -- A recovery is the one further alternative of its node.
 recovery_is_not_alone : shown_legal catch_job 10 10000 (Claim 0 (at_place 0 0) ∷ []) ([] ∷

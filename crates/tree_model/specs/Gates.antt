@@ -1,9 +1,11 @@
 -- What a worker may not do by itself.
 use Rattle.std.specs.Prelude.{ℕ, suc, Bool, false, nat_le, cond, List, [], ◌∷◌, Option, Some, None, length, nat_lt}
 use Rattle.run_model.specs.Programs.Clauses.{Clause}
-use Rattle.run_model.specs.Goals.Outcomes.{Reply, Solutions, Ball, HaltNumber, ControlForm, GoesOnWith, EitherOf, TestOf, CutToScope, CatchOf}
+use Rattle.run_model.specs.Goals.Outcomes.{Reply, Solutions, Ball, HaltNumber, ControlForm, GoesOnWith, EitherOf, TestOf, CutToScope}
+use Rattle.run_model.specs.Goals.Outcomes.{CatchOf}
 use Rattle.run_model.specs.Goals.Outcomes.{FindallOf, Outcome, Replies, Controls, AskWorld}
-use Rattle.run_model.specs.Machine.Items.{Item, GoalItem, CatchMark, CollectMark, RemovalItem, Continuation, with_items, without_marks, first_mark}
+use Rattle.run_model.specs.Machine.Items.{Item, GoalItem, CatchMark, CollectMark, RemovalItem, Continuation, with_items, without_marks}
+use Rattle.run_model.specs.Machine.Items.{first_mark}
 use Rattle.run_model.specs.Machine.Entries.{Entry, PlainEntry, CatchEntry, FindallEntry, EndEntry}
 use Rattle.run_model.specs.Machine.Balls.{unwound}
 use Rattle.run_model.specs.Goals.GoalOutcomes.{outcome_of}

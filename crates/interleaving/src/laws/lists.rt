@@ -6,7 +6,9 @@ ghost use Rattle.interleaving.specs.Scopes.{Shared, scoped};
 ghost use Rattle.interleaving.specs.Segments.{Private};
 ghost use Rattle.interleaving.specs.Quiet.{IsQuiet};
 ghost use Rattle.interleaving.specs.Roots.{AreTold};
-ghost use Rattle.interleaving.specs.Laws.{is_inner_record, alone, Expansion, PrivateEarly, DoneEarly, SameAlone, QuietEarly, TakenEarly, WokenEarly, CollectedEarly, OneCredit, CreditsAdd, NoCredit, EnoughCredit, CreditsPass, CreditsEnd, FrontGate, FrontGateInPlace, CutInPlace, TakenInFront, RecordsGiven};
+ghost use Rattle.interleaving.specs.Laws.{is_inner_record, alone, Expansion, PrivateEarly, DoneEarly, SameAlone, QuietEarly, TakenEarly};
+ghost use Rattle.interleaving.specs.Laws.{WokenEarly, CollectedEarly, OneCredit, CreditsAdd, NoCredit, EnoughCredit, CreditsPass};
+ghost use Rattle.interleaving.specs.Laws.{CreditsEnd, FrontGate, FrontGateInPlace, CutInPlace, TakenInFront, RecordsGiven};
 
 /// The names that extend one, and the names with some last numbers, belong together, and are told from others by their
 /// length or by their last number.
