@@ -17,7 +17,7 @@ use Rattle.tree_model.specs.Ways.{under_query}
 use Rattle.tree_model.specs.SoundTrees.{IsSoundTree}
 use Rattle.tree_model.specs.CaughtTrees.{IsCaught, IsUnspent, IsCaughtTree}
 use Rattle.tree_model.specs.Elements.{Name, Credit, Plain}
-use Rattle.interleaving.specs.Machine.{Asks, free_steps, run, seen}
+use Rattle.interleaving.specs.Machine.{AsksWorld, free_steps, run, seen}
 use Rattle.interleaving.specs.Scopes.{act, item_act, answer_taken, scoped}
 use Rattle.interleaving.specs.Quiet.{inferences}
 use Rattle.interleaving.specs.Sound.{IsSound}
@@ -90,7 +90,7 @@ answered_moves t s f e answers i k running first entry bare asked j r =
     let gone = unmarked_names (scopes s) (scopes s) f.items bare in
     let g = answer_taken (with_items (without_marks named.items) named) in
     let asks : act clauses (Plain p (with_items (without_marks named.items) named))
-    ≡ Asks g = ap (λ is. item_act clauses is p (with_items (without_marks named.items) named)) gone in
+    ≡ AsksWorld g = ap (λ is. item_act clauses is p (with_items (without_marks named.items) named)) gone in
     let quiet = front_quiet levels first.clear in
     record {
       seen = λ n a b.

@@ -268,16 +268,16 @@ module _ (clauses : List Clause) (inside : Name → Bool) where
   passes (Caught b m o) (Findall s u results list p f) i k = refl
   passes (Caught b m o) (End p e) i k = refl
 
-  pub inner-keeps : (r : Record) (x : Element) → IsInner inside x → IsRecordApart inside r → give r x ≡ x
-  inner-keeps r (Findall s u results list p f) i k = ap
+  pub inner-preserves : (r : Record) (x : Element) → IsInner inside x → IsRecordApart inside r → give r x ≡ x
+  inner-preserves r (Findall s u results list p f) i k = ap
       (λ t. cond t (findall_with_result r.1 s u results list p f) (Findall s u results list p f)) (not_same r.0 s k i.0)
-  inner-keeps r (Credit j rs) i k = refl
-  inner-keeps r (Plain p f) i k = refl
-  inner-keeps r (EndOf s) i k = refl
-  inner-keeps r (Catch s u c q p f) i k = refl
-  inner-keeps r (End p o) i k = refl
+  inner-preserves r (Credit j rs) i k = refl
+  inner-preserves r (Plain p f) i k = refl
+  inner-preserves r (EndOf s) i k = refl
+  inner-preserves r (Catch s u c q p f) i k = refl
+  inner-preserves r (End p o) i k = refl
 
   pub inner_unseen : (xs : List Element) → Each (IsInner inside) xs
       → Each (Unseen (scoped clauses) (IsBlind inside) IsSoughtApart (IsRecordApart inside)) xs
   inner_unseen [] h = tt
-  inner_unseen (x ∷ xs) h = (record { passed = λ q k. passes q x h.0 k; kept = λ r k. inner-keeps r x h.0 k }, inner_unseen xs h.1)
+  inner_unseen (x ∷ xs) h = (record { passed = λ q k. passes q x h.0 k; kept = λ r k. inner-preserves r x h.0 k }, inner_unseen xs h.1)

@@ -19,14 +19,14 @@ use Rattle.interleaving.specs.Scopes.{Shared, Sought, Scope, Thrown, Caught, loo
 use Rattle.interleaving.specs.Segments.{found_in, search_in}
 use Rattle.interleaving.proofs.ContextLemmas.{IsAround}
 use Rattle.interleaving.proofs.WayLemmas.{cond-true, cond-false}
-use Rattle.interleaving.proofs.ListScopeLemmas.{IsDistinct, distinct-up, sleeps_on}
-use Rattle.interleaving.proofs.ListMarkLemmas.{catch_sleeps}
+use Rattle.interleaving.proofs.ListScopeLemmas.{IsDistinct, distinct-up, dormant_on}
+use Rattle.interleaving.proofs.ListMarkLemmas.{catch_dormant}
 use Rattle.interleaving.proofs.ClosingListLemmas.{Guards}
 use Rattle.interleaving.proofs.WakeLemmas.{second_right}
 use Rattle.interleaving.proofs.CaughtContextLemmas.{RootCaught}
 use Rattle.interleaving.proofs.LowerListLemmas.{lower_back}
-use Rattle.interleaving.proofs.FallLemmas.{Fall, Nobody, Catches, caught_or, right_falls, fall, MarkSleeps, first_sleeps, sleeps_way}
-use Rattle.interleaving.proofs.FallLemmas.{sleeper_marks, sleeper_guards}
+use Rattle.interleaving.proofs.FallLemmas.{Fall, Nobody, Catches, caught_or, right_falls, fall, MarkIsDormant, first_dormant, dormant_way}
+use Rattle.interleaving.proofs.FallLemmas.{dormant_marks, dormant_guards}
 use Rattle.interleaving.proofs.BallSearchLemmas.{mark_name, second_step, catch_element, named_recovery, next_in, thrown_pass, to_catch}
 use Rattle.interleaving.proofs.BallSearchLemmas.{end_pass, right_passes, mark_up, mark_apart, to_side, Finds, passes_level, off_catcher}
 use Rattle.interleaving.proofs.TestLemmas.{number_same}
@@ -39,7 +39,7 @@ module _ (clauses : List Clause) where
   at_catch : (ball : Term) (o : Name) (rs : List Record) (v : Level) (rest : List Level) (status : Status) (s : ℕ) (y t : Term)
       (g : Continuation ℕ) → IsAround (v ∷ rest) IsOpen → IsDistinct (v ∷ rest) → RootCaught (plug (v ∷ rest) status)
       → Guards v (CatchEntry y t g) → (v.number == s) ≡ true
-      → ((k : Option ℕ) → MarkSleeps rest k → Finds clauses ball o rs rest k) → (b : Option Substitution)
+      → ((k : Option ℕ) → MarkIsDormant rest k → Finds clauses ball o rs rest k) → (b : Option Substitution)
       → unifier ((y, copied ball g.next) ∷ []) ≡ b
       → (w : Level) (up : List Level) (r : Term) (f : Continuation ℕ) (u : Substitution)
       → caught_or b v rest t g (fall ball rest (first_mark g.items)) ≡ Catches w up r f u → (x : Term)
@@ -73,7 +73,7 @@ module _ (clauses : List Clause) where
           (map (gives m rs) zs)) un2))
   at_catch ball o rs v rest status s y t g a d h q e more None n w up r f u k x un zs =
       let mark = first_mark g.items in
-      let sleeps = first_sleeps rest g.items (sleeper_marks v rest status y t g q.spent h q.right) in
+      let sleeps = first_dormant rest g.items (dormant_marks v rest status y t g q.spent h q.right) in
       let off = off_catcher clauses ball v rest status mark a h sleeps w up r f u k in
       let tail = lower_back w.number rest ++ to_side clauses w up x r f zs in
       let itself : scope_on (way_of (v ∷ rest)) s ≡ 0 ∷ v.number ∷ [] = cond-true (v.number == s) _ (scope_on (way_of rest) s) e
@@ -98,26 +98,26 @@ module _ (clauses : List Clause) where
       ∙ more mark sleeps w up r f u k x un zs)))))
 
   pub finds : (ball : Term) (o : Name) (rs : List Record) (levels : List Level) (status : Status) (mark : Option ℕ)
-      → IsAround levels IsOpen → IsDistinct levels → RootCaught (plug levels status) → MarkSleeps levels mark
+      → IsAround levels IsOpen → IsDistinct levels → RootCaught (plug levels status) → MarkIsDormant levels mark
       → Finds clauses ball o rs levels mark
   finds ball o rs [] status mark a d h k w up r f u e x un zs = let no_way : ⊥ = cc in absurd no_way
   finds ball o rs (v ∷ rest) status None a d h k w up r f u e x un zs = let no_way : ⊥ = cc in absurd no_way
   finds ball o rs (v ∷ rest) status (Some s) a d h k w up r f u e x un zs = go (v.number == s) refl k e
       (λ j l. finds ball o rs rest (Inner (level_node v status)) j a.1 (distinct-up v rest d) h l)
     where
-      go : (b : Bool) → (v.number == s) ≡ b → cond b (catch_right v.right) (sleeps_on rest s) ≡ true
+      go : (b : Bool) → (v.number == s) ≡ b → cond b (catch_right v.right) (dormant_on rest s) ≡ true
           → cond b (right_falls ball v rest v.right (fall ball rest)) (fall ball rest (Some s)) ≡ Catches w up r f u
-          → ((j : Option ℕ) → MarkSleeps rest j → Finds clauses ball o rs rest j)
+          → ((j : Option ℕ) → MarkIsDormant rest j → Finds clauses ball o rs rest j)
           → search_in m (Thrown ball (mark_name (way_of (v ∷ rest)) (Some s)) o)
           (map (gives m rs) (lower_back w.number (v ∷ rest) ++ to_side clauses w up x r f zs))
           ≡ Some (named_recovery ball w up r f u ∷ map (gives m rs) zs)
       go false q l z more =
-          passes_level clauses ball o rs v rest s d a.0.new (sleeps_way rest s l) q w
+          passes_level clauses ball o rs v rest s d a.0.new (dormant_way rest s l) q w
           (off_catcher clauses ball v rest status (Some s) a h l w up r f u z) (to_side clauses w up x r f zs)
           ∙ more (Some s) l w up r f u z x un zs
       go true q l z more =
-          let c = catch_sleeps v l in
-          let g = sleeper_guards v rest (CatchEntry c.0 c.1 c.2) a.0 c.3 in
+          let c = catch_dormant v l in
+          let g = dormant_guards v rest (CatchEntry c.0 c.1 c.2) a.0 c.3 in
           at_catch ball o rs v rest status s c.0 c.1 c.2 a d h g q more (unifier ((c.0, copied ball c.2.next) ∷ [])) refl w up r f u
           (subst (λ right. right_falls ball v rest right (fall ball rest) ≡ Catches w up r f u) g.right z) x un zs
 
@@ -208,7 +208,7 @@ module _ (clauses : List Clause) where
       goes_on (End n a) = refl
 
   pub loses : (ball : Term) (o : Name) (rs : List Record) (levels : List Level) (status : Status) (mark : Option ℕ)
-      → IsAround levels IsOpen → IsDistinct levels → RootCaught (plug levels status) → MarkSleeps levels mark → fall ball levels mark
+      → IsAround levels IsOpen → IsDistinct levels → RootCaught (plug levels status) → MarkIsDormant levels mark → fall ball levels mark
       ≡ Nobody
       → search_in m (Thrown ball (mark_name (way_of levels) mark) o) (map (gives m rs) (back_of levels)) ≡ None
   loses ball o rs [] status mark a d h k e = refl
@@ -218,13 +218,13 @@ module _ (clauses : List Clause) where
     where
       catches : (y t : Term) (g : Continuation ℕ) → Guards v (CatchEntry y t g) → (v.number == s) ≡ true → (b : Option Substitution)
           → unifier ((y, copied ball g.next) ∷ []) ≡ b → caught_or b v rest t g (fall ball rest (first_mark g.items)) ≡ Nobody
-          → ((j : Option ℕ) → MarkSleeps rest j → fall ball rest j ≡ Nobody → search_in m (Thrown ball (mark_name (way_of rest) j) o)
+          → ((j : Option ℕ) → MarkIsDormant rest j → fall ball rest j ≡ Nobody → search_in m (Thrown ball (mark_name (way_of rest) j) o)
           (map (gives m rs) (back_of rest)) ≡ None)
           → search_in m (Thrown ball (mark_name (way_of (v ∷ rest)) (Some s)) o) (map (gives m rs) (back_of (v ∷ rest))) ≡ None
       catches y t g q i (Some z) n c more = let no_way : ⊥ = cc in absurd no_way
       catches y t g q i None n c more =
           let mark = first_mark g.items in
-          let sleeps = first_sleeps rest g.items (sleeper_marks v rest status y t g q.spent h q.right) in
+          let sleeps = first_dormant rest g.items (dormant_marks v rest status y t g q.spent h q.right) in
           let itself : scope_on (way_of (v ∷ rest)) s ≡ 0 ∷ v.number ∷ [] = cond-true (v.number == s) _ (scope_on (way_of rest) s) i
           ∙ ap (λ l. length l ∷ v.number ∷ []) q.left in
           let list : back_of (v ∷ rest) ≡ EndOf (0 ∷ v.number ∷ [])
@@ -243,18 +243,18 @@ module _ (clauses : List Clause) where
           (mark_apart clauses v rest mark a.0.new sleeps)
           ∙ more mark sleeps c)))))
 
-      go : (b : Bool) → (v.number == s) ≡ b → cond b (catch_right v.right) (sleeps_on rest s) ≡ true
+      go : (b : Bool) → (v.number == s) ≡ b → cond b (catch_right v.right) (dormant_on rest s) ≡ true
           → cond b (right_falls ball v rest v.right (fall ball rest)) (fall ball rest (Some s)) ≡ Nobody
-          → ((j : Option ℕ) → MarkSleeps rest j → fall ball rest j ≡ Nobody → search_in m (Thrown ball (mark_name (way_of rest) j) o)
+          → ((j : Option ℕ) → MarkIsDormant rest j → fall ball rest j ≡ Nobody → search_in m (Thrown ball (mark_name (way_of rest) j) o)
           (map (gives m rs) (back_of rest)) ≡ None)
           → search_in m (Thrown ball (mark_name (way_of (v ∷ rest)) (Some s)) o) (map (gives m rs) (back_of (v ∷ rest))) ≡ None
       go false q l z more =
           ap (λ n. search_in m (Thrown ball (Some n) o) (map (gives m rs) (back_of (v ∷ rest))))
           (cond-false (v.number == s) _ (scope_on (way_of rest) s) q)
           ∙ (thrown_pass clauses ball (scope_on (way_of rest) s) o rs (list_right (way_of rest) v) (back_of rest)
-          (right_passes clauses v rest s d a.0.new (sleeps_way rest s l)) ∙ more (Some s) l z)
+          (right_passes clauses v rest s d a.0.new (dormant_way rest s l)) ∙ more (Some s) l z)
       go true q l z more =
-          let c = catch_sleeps v l in
-          let g = sleeper_guards v rest (CatchEntry c.0 c.1 c.2) a.0 c.3 in
+          let c = catch_dormant v l in
+          let g = dormant_guards v rest (CatchEntry c.0 c.1 c.2) a.0 c.3 in
           catches c.0 c.1 c.2 g q (unifier ((c.0, copied ball c.2.next) ∷ [])) refl
           (subst (λ right. right_falls ball v rest right (fall ball rest) ≡ Nobody) g.right z) more

@@ -20,7 +20,7 @@ use Rattle.tree_model.specs.PendingLists.{way_of, findall_on, element_on, list_l
 use Rattle.tree_model.specs.Ways.{is_on, IsAsked}
 use Rattle.tree_model.specs.SoundTrees.{one_if, IsOpen}
 use Rattle.tree_model.specs.Elements.{Name, Record, Element, Credit, Plain, Catch, Findall, End, EndOf}
-use Rattle.interleaving.specs.Machine.{Machine, Takes, Seek, gives}
+use Rattle.interleaving.specs.Machine.{Machine, Infers, Seek, gives}
 use Rattle.interleaving.specs.Scopes.{Shared, Sought, Thrown, act, scoped}
 use Rattle.interleaving.specs.Segments.{outer}
 use Rattle.interleaving.specs.Quiet.{inferences, records}
@@ -42,7 +42,7 @@ use Rattle.interleaving.proofs.ClockLemmas.{AreClear, quiet-append, inferences-a
 use Rattle.interleaving.proofs.ListChangeLemmas.{becomes as private_becomes}
 use Rattle.interleaving.proofs.LeadLemmas.{lead-quiet, lead-grows}
 use Rattle.interleaving.proofs.EndLemmas.{has_end, end_after, back_end}
-use Rattle.interleaving.proofs.FoldLemmas.{Passes, side_name, passes_then, passes_becoming, credit_counted, SidesKept, named_by}
+use Rattle.interleaving.proofs.FoldLemmas.{Passes, side_name, passes_then, passes_becoming, credit_counted, HaveNoSideRecords, named_by}
 use Rattle.interleaving.proofs.FoldLemmas.{records-append}
 use Rattle.interleaving.proofs.WakeLemmas.{second_right}
 use Rattle.interleaving.proofs.ListEndLemmas.{levels_down}
@@ -52,13 +52,14 @@ use Rattle.interleaving.proofs.PublishedBareLemmas.{right_of}
 use Rattle.interleaving.proofs.FrontCloseLemmas.{bare}
 use Rattle.interleaving.proofs.CaughtContextLemmas.{IsCaughtRoot}
 use Rattle.interleaving.proofs.CaughtBallLemmas.{catch_no_side}
-use Rattle.interleaving.proofs.CaughtClosingLemmas.{sleeper_on}
-use Rattle.interleaving.proofs.BallLevelLemmas.{landed, FirstShut}
-use Rattle.interleaving.proofs.FallLemmas.{Catches, fall, MarkSleeps, IsCatcher}
-use Rattle.interleaving.proofs.LowerListLemmas.{lower_front, lower_back, front_split, back_split, lower_quiet, landed_counts, landed_low}
+use Rattle.interleaving.proofs.CaughtClosingLemmas.{dormant_there}
+use Rattle.interleaving.proofs.BallLevelLemmas.{ball_credit, FirstShut}
+use Rattle.interleaving.proofs.FallLemmas.{Catches, fall, MarkIsDormant, IsCatcher}
+use Rattle.interleaving.proofs.LowerListLemmas.{lower_front, lower_back, front_split, back_split, lower_quiet, ball_credit_counts}
+use Rattle.interleaving.proofs.LowerListLemmas.{ball_credit_low}
 use Rattle.interleaving.proofs.LowerListLemmas.{count_lower, count_split, lower_inner}
 use Rattle.interleaving.proofs.UpperBlindLemmas.{NoSideTop, blind_is_under, is_free_of, zero_free, upper_front, upper_back, upper_findall}
-use Rattle.interleaving.proofs.UpperBlindLemmas.{landed_rows}
+use Rattle.interleaving.proofs.UpperBlindLemmas.{ball_credit_rows}
 use Rattle.interleaving.proofs.BallSearchLemmas.{second_step, catch_element, named_recovery, mark_name}
 use Rattle.interleaving.proofs.BallCatchLemmas.{finds}
 use Rattle.interleaving.proofs.RecoveryNamesLemmas.{recovery_same}
@@ -94,7 +95,7 @@ rows_apart inside name h (t ∷ ts) = (h, rows_apart inside name h ts)
 
 -- an entry of a branch, with nothing spent, and what is round it in the list
 module _ (clauses : List Clause) (next : ℕ) (v : Level) (above : List Level) (p : Name) (named : Continuation Name)
-    (a : IsAround (v ∷ above) IsOpen) (d : IsDistinct (v ∷ above)) (free : IsFree next (v ∷ above)) (sides : SidesKept (v ∷ above))
+    (a : IsAround (v ∷ above) IsOpen) (d : IsDistinct (v ∷ above)) (free : IsFree next (v ∷ above)) (sides : HaveNoSideRecords (v ∷ above))
   where
     abbrev levels : List Level
     levels = v ∷ above
@@ -215,13 +216,13 @@ module _ (clauses : List Clause) (next : ℕ) (v : Level) (above : List Level) (
 
       -- the end of the query is behind
       pub behind_end : has_end (first ++ back) ≡ true
-      behind_end = end_after first back (back_end up top.1 (sleeper_on w up IsOpen c.sleeper.spent (CatchEntry c.catcher r f) top.0
+      behind_end = end_after first back (back_end up top.1 (dormant_there w up IsOpen c.sleeper.spent (CatchEntry c.catcher r f) top.0
           c.sleeper.right).asked)
 
       -- the ball, taken at once
-      pub ball_taken : (status : Status) (mark : Option ℕ) → IsCaughtRoot (plug (v ∷ above) status) → MarkSleeps (v ∷ above) mark
+      pub ball_taken : (status : Status) (mark : Option ℕ) → IsCaughtRoot (plug (v ∷ above) status) → MarkIsDormant (v ∷ above) mark
           → fall ball (v ∷ above) mark ≡ Catches w up r f o → AreClear (levels_below (Some w.number) (v ∷ above)) → inside p ≡ true
-          → act clauses (bare clauses p named) ≡ Takes (Seek (Thrown ball (mark_name (way_of (v ∷ above)) mark) p))
+          → act clauses (bare clauses p named) ≡ Infers (Seek (Thrown ball (mark_name (way_of (v ∷ above)) mark) p))
           → Passes clauses (front_of (v ∷ above) ++ (Credit v.spent [] ∷ (Plain p named ∷ back_of (v ∷ above))))
           (front ++ (Credit (min greatest (inferences credits + 1)) rows ∷ (first ++ back)))
       ball_taken status mark root sleeps falls clear own takes =
@@ -247,10 +248,10 @@ module _ (clauses : List Clause) (next : ℕ) (v : Level) (above : List Level) (
 
       -- what a ball has left is the credit of its goal side
       pub credit_is : AreClear (levels_below (Some w.number) (v ∷ above)) → v.spent ≡ 0 → min greatest (inferences credits + 1)
-          ≡ (landed w.number (v ∷ above) (credit_of 1)).inferences
+          ≡ (ball_credit w.number (v ∷ above) (credit_of 1)).inferences
       credit_is clear unspent =
-          let counts = landed_counts w.number levels (credit_of 1) clear (subst FirstShut (sym c.down) c.sleeper.left) in
-          let low = landed_low w.number v above (credit_of 1) in
+          let counts = ball_credit_counts w.number levels (credit_of 1) clear (subst FirstShut (sym c.down) c.sleeper.left) in
+          let low = ball_credit_low w.number v above (credit_of 1) in
           let joined : inferences credits ≡ inferences (lower_front w.number levels) + (v.spent + 0) = inferences-append
           (lower_front w.number levels) (Credit v.spent [] ∷ []) in
           let here : spent_at levels + (credit_of 1).inferences ≡ v.spent + 1 = refl in
@@ -263,12 +264,12 @@ module _ (clauses : List Clause) (next : ℕ) (v : Level) (above : List Level) (
       findall_above = ap inside (side_name (way_of up) w.number (length w.left) w.kind no_side_top) ∙ upper_findall up
 
       pub rows_are : AreClear (levels_below (Some w.number) (v ∷ above)) → rows
-          ≡ named_by (way_of (w ∷ up)) (landed w.number (v ∷ above) (credit_of 1)).records
+          ≡ named_by (way_of (w ∷ up)) (ball_credit w.number (v ∷ above) (credit_of 1)).records
       rows_are clear =
           let joined : records credits ≡ records (lower_front w.number levels) ++ [] = records-append (lower_front w.number levels)
           (Credit v.spent [] ∷ []) in
           append-nil (outer (is_inner_record inside) (records credits))
           ∙ (ap (outer (is_inner_record inside)) joined
-          ∙ (landed_rows inside w.number levels (credit_of 1) clear sides (subst FirstShut (sym c.down) c.sleeper.left)
+          ∙ (ball_credit_rows inside w.number levels (credit_of 1) clear sides (subst FirstShut (sym c.down) c.sleeper.left)
           (subst NoSideTop (sym c.down) no_side_top) (ap (λ l. inside (findall_on (way_of l))) c.down ∙ findall_above) free_lower
-          ∙ ap (λ l. named_by (way_of l) (landed w.number levels (credit_of 1)).records) c.down))
+          ∙ ap (λ l. named_by (way_of l) (ball_credit w.number levels (credit_of 1)).records) c.down))

@@ -11,7 +11,7 @@ use Rattle.tree_model.specs.Nodes.{Kind, ChoiceNode, CatchNode, FindallNode, Que
 use Rattle.tree_model.specs.Levels.{Level}
 use Rattle.tree_model.specs.Floors.{height_of, node_of, with_nodes, query_kind, query_node}
 use Rattle.tree_model.specs.Closing.{Grown, wakes}
-use Rattle.tree_model.specs.Pruning.{left_after, lands}
+use Rattle.tree_model.specs.Pruning.{left_after, ball_closes}
 use Rattle.tree_model.specs.PendingLists.{Step, Way, way_of}
 use Rattle.tree_model.specs.Ways.{is_on, in_reach, way_from, AreScoped, is_query, under_query, IsAsked}
 use Rattle.tree_model.specs.SoundTrees.{IsOpen}
@@ -60,13 +60,13 @@ recovered_low : (o : Option Substitution) (ball r : Term) (f : Continuation ℕ)
 recovered_low None ball r f es further h = low-more (length es) further h
 recovered_low (Some s) ball r f es further h = omega arith
 
-pub landing_low : (ball : Term) (mark : Option ℕ) (es : List Entry) → IsLow (length es) (unwound ball mark es)
-landing_low ball mark [] = tt
-landing_low ball mark (CatchEntry c r f ∷ es) = recovered_low (taken_by mark (length es) ball c f) ball r f es
-    (unwound ball (next_mark mark (length es) f) es) (landing_low ball (next_mark mark (length es) f) es)
-landing_low ball mark (PlainEntry f ∷ es) = low-more (length es) _ (landing_low ball mark es)
-landing_low ball mark (FindallEntry results l f ∷ es) = low-more (length es) _ (landing_low ball mark es)
-landing_low ball mark (EndEntry b ∷ es) = low-more (length es) _ (landing_low ball mark es)
+pub ball_scope_low : (ball : Term) (mark : Option ℕ) (es : List Entry) → IsLow (length es) (unwound ball mark es)
+ball_scope_low ball mark [] = tt
+ball_scope_low ball mark (CatchEntry c r f ∷ es) = recovered_low (taken_by mark (length es) ball c f) ball r f es
+    (unwound ball (next_mark mark (length es) f) es) (ball_scope_low ball (next_mark mark (length es) f) es)
+ball_scope_low ball mark (PlainEntry f ∷ es) = low-more (length es) _ (ball_scope_low ball mark es)
+ball_scope_low ball mark (FindallEntry results l f ∷ es) = low-more (length es) _ (ball_scope_low ball mark es)
+ball_scope_low ball mark (EndEntry b ∷ es) = low-more (length es) _ (ball_scope_low ball mark es)
 
 -- the tree after a ball has left this of a stack
 abbrev pub fall_scope : (ℕ → ℕ) → ℕ → List Entry → ℕ
@@ -78,7 +78,7 @@ fall_scope node q [] = q
 
 abbrev pub fallen : (ℕ → ℕ) → ℕ → ℕ → List Level → Credit → List Entry → Grown
 fallen node q next levels c [] = record { root = Closed c; next = next }
-fallen node q next levels c (e ∷ es) = lands next (fall_scope node q (e ∷ es)) levels c (with_nodes node e)
+fallen node q next levels c (e ∷ es) = ball_closes next (fall_scope node q (e ∷ es)) levels c (with_nodes node e)
 
 -- the levels above a node that a ball falls along
 pub record IsFalling (node : ℕ → ℕ) (q next : ℕ) (levels : List Level) : Type 0 where
@@ -127,18 +127,18 @@ ends_here next n kind (a ∷ left) spent right up c b e h k f = let no_way : ⊥
 
 -- a ball goes on above a level
 goes_up : (next scope : ℕ) (v : Level) (up : List Level) (c : Credit) (e : Entry) → (v.number == scope) ≡ false
-    → IsSoundGrown (lands next scope up (left_after v c) e) → IsSoundGrown (lands next scope (v ∷ up) c e)
+    → IsSoundGrown (ball_closes next scope up (left_after v c) e) → IsSoundGrown (ball_closes next scope (v ∷ up) c e)
 goes_up next scope v up c e h k = subst IsSoundGrown
-    (sym (cond-false (v.number == scope) (wakes next v up (left_after v c) e) (lands next scope up (left_after v c) e) h)) k
+    (sym (cond-false (v.number == scope) (wakes next v up (left_after v c) e) (ball_closes next scope up (left_after v c) e) h)) k
 
 pub stops_here : (next scope : ℕ) (v : Level) (up : List Level) (c : Credit) (e : Entry) → (v.number == scope) ≡ true
-    → IsSoundGrown (wakes next v up (left_after v c) e) → IsSoundGrown (lands next scope (v ∷ up) c e)
+    → IsSoundGrown (wakes next v up (left_after v c) e) → IsSoundGrown (ball_closes next scope (v ∷ up) c e)
 stops_here next scope v up c e h k = subst IsSoundGrown
-    (sym (cond-true (v.number == scope) (wakes next v up (left_after v c) e) (lands next scope up (left_after v c) e) h)) k
+    (sym (cond-true (v.number == scope) (wakes next v up (left_after v c) e) (ball_closes next scope up (left_after v c) e) h)) k
 
 -- a ball that nothing takes
 pub ends_sound : (node : ℕ → ℕ) (q next : ℕ) (levels : List Level) (c : Credit) (b : Option Term) → IsFalling node q next levels
-    → IsSoundGrown (lands next q levels c (EndEntry b))
+    → IsSoundGrown (ball_closes next q levels c (EndEntry b))
 ends_sound node q next [] c b h = let no_way : ⊥ = no_end h.asked in absurd no_way
   where
     no_end : false ≡ true → ⊥
@@ -151,8 +151,8 @@ ends_sound node q next (v ∷ up) c b h = go (is_query v.kind) refl (λ n d. end
     is_query_kind CatchNode n m e = let no_way : ⊥ = cc in absurd no_way
     is_query_kind FindallNode n m e = let no_way : ⊥ = cc in absurd no_way
 
-    go : (b' : Bool) → is_query v.kind ≡ b' → (is_query v.kind ≡ false → (d : Credit) → IsSoundGrown (lands next q up d (EndEntry b)))
-        → IsSoundGrown (lands next q (v ∷ up) c (EndEntry b))
+    go : (b' : Bool) → is_query v.kind ≡ b' → (is_query v.kind ≡ false → (d : Credit) → IsSoundGrown (ball_closes next q up d (EndEntry b)))
+        → IsSoundGrown (ball_closes next q (v ∷ up) c (EndEntry b))
     go true e f =
         let same : q ≡ v.number = h.query ∙ is_query_kind v.kind v.number (query_node up) e in
         let first : (length v.left == 0) ≡ true = sym (cond-true (is_query v.kind) (length v.left == 0) (under_query (way_of up)) e)

@@ -45,11 +45,11 @@ use Rattle.interleaving.proofs.ListChangeLemmas.{becomes as private_becomes, no_
 use Rattle.interleaving.proofs.RunHeightLemmas.{names_are_free}
 use Rattle.interleaving.proofs.FrontSameLemmas.{front_is_same}
 use Rattle.interleaving.proofs.LeadLemmas.{lead-quiet, lead-grows}
-use Rattle.interleaving.proofs.FoldLemmas.{Passes, passes_then, passes_becoming, credit_counted, SidesKept, records-append}
+use Rattle.interleaving.proofs.FoldLemmas.{Passes, passes_then, passes_becoming, credit_counted, HaveNoSideRecords, records-append}
 use Rattle.interleaving.proofs.WakeLemmas.{after_wake}
 use Rattle.interleaving.proofs.ListScopeLemmas.{IsDistinct}
-use Rattle.interleaving.proofs.CaughtClosingLemmas.{sleeper_on}
-use Rattle.interleaving.proofs.BallLevelLemmas.{landed}
+use Rattle.interleaving.proofs.CaughtClosingLemmas.{dormant_there}
+use Rattle.interleaving.proofs.BallLevelLemmas.{ball_credit}
 use Rattle.interleaving.proofs.FallLemmas.{IsCatcher}
 use Rattle.interleaving.proofs.LowerListLemmas.{lower_front, lower_back, front_split, lower_quiet}
 use Rattle.interleaving.proofs.UpperBlindLemmas.{is_free_of, free_zero}
@@ -59,7 +59,7 @@ use Rattle.interleaving.proofs.BallFollowsLemmas.{front_blind, back_under, lower
 use Rattle.interleaving.proofs.BallFollowsLemmas.{behind_end}
 
 module _ (clauses : List Clause) (next : ℕ) (v : Level) (above : List Level) (p : Name) (named : Continuation Name)
-    (a : IsAround (v ∷ above) IsOpen) (d : IsDistinct (v ∷ above)) (free : IsFree next (v ∷ above)) (sides : SidesKept (v ∷ above))
+    (a : IsAround (v ∷ above) IsOpen) (d : IsDistinct (v ∷ above)) (free : IsFree next (v ∷ above)) (sides : HaveNoSideRecords (v ∷ above))
   where
     abbrev levels : List Level
     levels = v ∷ above
@@ -92,7 +92,7 @@ module _ (clauses : List Clause) (next : ℕ) (v : Level) (above : List Level) (
       first = named_recovery ball w up r f o ∷ (EndOf (1 ∷ w.number ∷ []) ∷ [])
 
       asked : IsAsked (way_of up) f.items
-      asked = sleeper_on w up IsOpen c.sleeper.spent (CatchEntry c.catcher r f)
+      asked = dormant_there w up IsOpen c.sleeper.spent (CatchEntry c.catcher r f)
           (top clauses next v above p named a d free sides w up r f o ball c).0 c.sleeper.right
 
       -- the tree's list
@@ -101,14 +101,14 @@ module _ (clauses : List Clause) (next : ℕ) (v : Level) (above : List Level) (
           ≡ map (resolve_named o) f.named → g.next ≡ f.next + copy_takes ball → AreClear (levels_below (Some w.number) (v ∷ above))
           → v.spent ≡ 0
           → IsSound (front ++ (Credit (min greatest (inferences credits + 1)) rows ∷ (first ++ back)))
-          → IsSound (pending_list (wakes next w up (landed w.number (v ∷ above) (credit_of 1))
+          → IsSound (pending_list (wakes next w up (ball_credit w.number (v ∷ above) (credit_of 1))
           (with_nodes (node_of (v ∷ above)) (PlainEntry g))).root)
           → Follows clauses (front ++ (Credit (min greatest (inferences credits + 1)) rows ∷ (first ++ back)))
-          (pending_list (wakes next w up (landed w.number (v ∷ above) (credit_of 1))
+          (pending_list (wakes next w up (ball_credit w.number (v ∷ above) (credit_of 1))
           (with_nodes (node_of (v ∷ above)) (PlainEntry g))).root)
       ball_wakes g is named_is next_is clear unspent i j =
           let e = with_nodes (node_of levels) (PlainEntry g) in
-          let cr = landed w.number levels (credit_of 1) in
+          let cr = ball_credit w.number levels (credit_of 1) in
           let far : Way = record { node = next; index = 0; kind = ChoiceNode } ∷ second_step w ∷ way_of up in
           let y = element_on far e in
           let second = EndOf (0 ∷ w.number ∷ []) ∷ (y ∷ (EndOf (0 ∷ next ∷ []) ∷ (EndOf (1 ∷ w.number ∷ []) ∷ []))) in

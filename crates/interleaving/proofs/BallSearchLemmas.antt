@@ -29,7 +29,7 @@ use Rattle.interleaving.proofs.ListEndLemmas.{on-counts, ends_in, no_end_among, 
 use Rattle.interleaving.proofs.ListScopeLemmas.{IsDistinct}
 use Rattle.interleaving.proofs.CaughtContextLemmas.{RootCaught}
 use Rattle.interleaving.proofs.LowerListLemmas.{lower_back}
-use Rattle.interleaving.proofs.FallLemmas.{Catches, fall, MarkSleeps, sleeps_way, IsTaken, fall_taken}
+use Rattle.interleaving.proofs.FallLemmas.{Catches, fall, MarkIsDormant, dormant_way, IsTaken, fall_taken}
 use Rattle.interleaving.proofs.TestLemmas.{false_true}
 use Rattle.au_term.proofs.LogicLemmas.{numbers_turned}
 
@@ -198,18 +198,18 @@ module _ (clauses : List Clause) where
       either true b e f = e
 
   -- a mark of what is above
-  pub mark_up : (v : Level) (up : List Level) (k : Option ℕ) → is_on (way_of up) v.number ≡ false → MarkSleeps up k
+  pub mark_up : (v : Level) (up : List Level) (k : Option ℕ) → is_on (way_of up) v.number ≡ false → MarkIsDormant up k
       → mark_name (second_step v ∷ way_of up) k ≡ mark_name (way_of up) k
   mark_up v up None new h = refl
   mark_up v up (Some s) new h = ap (λ (n : Name). Some n)
       (cond-false (v.number == s) _ (scope_on (way_of up) s)
-      (other_number (way_of up) v.number s new (sleeps_way up s h) (v.number == s) refl))
+      (other_number (way_of up) v.number s new (dormant_way up s h) (v.number == s) refl))
 
-  pub mark_apart : (v : Level) (up : List Level) (k : Option ℕ) → is_on (way_of up) v.number ≡ false → MarkSleeps up k → (h : Name)
+  pub mark_apart : (v : Level) (up : List Level) (k : Option ℕ) → is_on (way_of up) v.number ≡ false → MarkIsDormant up k → (h : Name)
       → mark_name (way_of up) k ≡ Some h → same h (1 ∷ v.number ∷ []) ≡ false
   mark_apart v up None new m h e = let no_way : ⊥ = cc in absurd no_way
   mark_apart v up (Some s) new m h e = ap (λ x. same x (1 ∷ v.number ∷ [])) (sym (some_same e))
-      ∙ above_apart v up s 1 new (sleeps_way up s m)
+      ∙ above_apart v up s 1 new (dormant_way up s m)
     where
       some_same : {a b : Name} → Some a ≡ Some b → a ≡ b
       some_same z = cc
@@ -243,7 +243,7 @@ module _ (clauses : List Clause) where
       (right_passes v rest s d new on)))
 
   pub off_catcher : (ball : Term) (v : Level) (rest : List Level) (status : Status) (k : Option ℕ) → IsAround (v ∷ rest) IsOpen
-      → RootCaught (plug (v ∷ rest) status) → MarkSleeps rest k → (w : Level) (up : List Level) (r : Term) (f : Continuation ℕ)
+      → RootCaught (plug (v ∷ rest) status) → MarkIsDormant rest k → (w : Level) (up : List Level) (r : Term) (f : Continuation ℕ)
       (u : Substitution) → fall ball rest k ≡ Catches w up r f u → (v.number == w.number) ≡ false
   off_catcher ball v rest status k a h m w up r f u e =
       let c = subst (IsTaken ball rest) e (fall_taken ball rest (Inner (level_node v status)) k a.1 h m) in

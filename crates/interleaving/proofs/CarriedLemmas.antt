@@ -96,7 +96,8 @@ pub entry_child : (p : Name) (i : ℕ) (ys xs : List Element) (hs : List Name) (
 entry_child p i ys xs hs items m b n s = record {
   carried = carried_child p i ys xs hs m s.carried;
   marks = marks-moved xs (ys ++ xs) items (froms-made p ys xs (names items) m n) s.marks;
-  findalls = findalls-append (IsMadeElsewhere (i ∷ p)) ys xs b (findalls-map (IsMadeElsewhere p) (IsMadeElsewhere (i ∷ p)) (λ e. not_child p e i) xs s.findalls);
+  findalls = findalls-append (IsMadeElsewhere (i ∷ p)) ys xs b
+      (findalls-map (IsMadeElsewhere p) (IsMadeElsewhere (i ∷ p)) (λ e. not_child p e i) xs s.findalls);
 }
 
 -- without the goal in front

@@ -20,7 +20,7 @@ use Rattle.interleaving.proofs.ClockLemmas.{leftmost_known}
 use Rattle.interleaving.proofs.CaughtHoldLemmas.{open_right}
 use Rattle.interleaving.proofs.CollectedRunLemmas.{result_under}
 use Rattle.interleaving.proofs.CaughtContextLemmas.{caught_down}
-use Rattle.interleaving.proofs.CaughtPruneLemmas.{closed_kept, stack_pruned}
+use Rattle.interleaving.proofs.CaughtPruneLemmas.{closed_preserved, stack_pruned}
 use Rattle.tree_model.specs.Events.{Event, Empty, Collected, Prune, Answer}
 use Rattle.tree_model.specs.Levels.{Place}
 use Rattle.tree_model.specs.TreeStates.{leftmost}
@@ -29,7 +29,7 @@ use Rattle.tree_model.specs.Legality.{run_gives_result}
 use Rattle.tree_model.specs.Effects.{spot_stack, where_some, after_event, results_of}
 use Rattle.tree_model.specs.SoundTrees.{IsSoundTree}
 use Rattle.std.specs.Prelude.{◌&&◌}
-use Rattle.interleaving.proofs.CaughtFrontLemmas.{stack_kept}
+use Rattle.interleaving.proofs.CaughtFrontLemmas.{stack_preserved}
 use Rattle.interleaving.proofs.TestLemmas.{false_true}
 use Rattle.au_term.proofs.LogicLemmas.{and-right}
 
@@ -80,7 +80,7 @@ module _ (t : TreeState) (i : IsSoundTree t) (q : IsCaughtTree t) where
           let root = root_at t s q running o in
           let known = leftmost_known t i s (taken_first t w a s i e (and-right (is_world_gate (gate_of t s)) _ x)) in
           same_caught (world_moved s (taken_at_front t.job.clauses (spot_stack s) t.world) t) _ refl refl
-          (stack_kept s o.opened known.clear root t
+          (stack_preserved s o.opened known.clear root t
           (λ v. record {
             sound = record { distinct = i.distinct; fresh = i.fresh; sound = i.sound };
             opened = at.opened;
@@ -93,7 +93,7 @@ module _ (t : TreeState) (i : IsSoundTree t) (q : IsCaughtTree t) where
   closing_caught : (e : Event) (s : Spot) (c : Credit) → IsAt t s → IsOpenSpot t.root s → t.halted ≡ None → RecordsUnder (levels_of s) c
       → IsCaughtTree (record (closed_with s c t) { history = t.history ++ e ∷ [] })
   closing_caught e s c at o running r = same_caught (closed_with s c t) _ refl refl
-      (closed_kept t s at (Pending s.hold s.entry) (λ sp others. open_right s.hold s.entry o.opened sp others) refl
+      (closed_preserved t s at (Pending s.hold s.entry) (λ sp others. open_right s.hold s.entry o.opened sp others) refl
       (root_at t s q running o) c r)
 
   pub empty_caught : (w : ℕ) (a : Place) (n : ℕ) → is_legal t (Empty w a n) ≡ true → IsCaughtTree (after_event t (Empty w a n))

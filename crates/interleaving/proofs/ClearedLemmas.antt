@@ -70,7 +70,8 @@ pub no_place : (o : Option Place) → is_none o ≡ true → o ≡ None
 no_place None h = refl
 no_place (Some p) h = let no_way : ⊥ = cc in absurd no_way
 
-pub cleared_is_quiet : (scope : Option ℕ) (levels : List Level) → is_cleared scope levels ≡ true → Each IsCreditOrEnd (front_below scope levels)
+pub cleared_is_quiet : (scope : Option ℕ) (levels : List Level) → is_cleared scope levels ≡ true
+    → Each IsCreditOrEnd (front_below scope levels)
 cleared_is_quiet scope levels h = quiet_front scope levels (no_place (first_open (levels_below scope levels)) h)
 
 pub front_is_quiet : (scope : Option ℕ) (levels : List Level) → is_cleared scope levels ≡ true → FrontIsQuiet scope levels

@@ -17,7 +17,7 @@ use Rattle.tree_model.specs.Closing.{goal_side_closes, closes}
 use Rattle.tree_model.specs.Elements.{Record, Credit, EndOf}
 use Rattle.tree_model.specs.PendingLists.{way_of, findall_on, balance_on, element_on, list_among, list_left, list_right, pending_list}
 use Rattle.tree_model.specs.PendingLists.{front_of, back_of}
-use Rattle.tree_model.specs.SoundTrees.{one_if, IsOpen, Sleeps, profile, profiles, is_shape, guards}
+use Rattle.tree_model.specs.SoundTrees.{one_if, IsOpen, IsDormant, profile, profiles, is_shape, guards}
 use Rattle.tree_model.specs.CaughtTrees.{is_side}
 use Rattle.tree_model.specs.Ways.{under_query, is_query}
 use Rattle.interleaving.specs.Laws.{IsSegment}
@@ -33,9 +33,9 @@ use Rattle.interleaving.proofs.LeadLemmas.{lead-grows, follows_then, follows_its
 use Rattle.interleaving.proofs.EndLemmas.{HasQueryEnd, query_here, back_end}
 use Rattle.interleaving.proofs.ClosingEndLemmas.{guards_end}
 use Rattle.interleaving.proofs.ListScopeLemmas.{IsDistinct, distinct-up}
-use Rattle.interleaving.proofs.ListMarkLemmas.{no_left, findall_sleeps}
+use Rattle.interleaving.proofs.ListMarkLemmas.{no_left, findall_dormant}
 use Rattle.interleaving.proofs.BlindLemmas.{of_node, front_blind, back_under, records_apart, off_levels}
-use Rattle.interleaving.proofs.FoldLemmas.{Passes, passes_becoming, LeftSides, SidesKept, closed_records}
+use Rattle.interleaving.proofs.FoldLemmas.{Passes, passes_becoming, LeftSides, HaveNoSideRecords, closed_records}
 use Rattle.interleaving.proofs.FoldingLemmas.{fold_passes}
 use Rattle.interleaving.proofs.TestLemmas.{false_true, number_same}
 use Rattle.au_term.proofs.LogicLemmas.{and-right, and-left}
@@ -62,7 +62,7 @@ guards_of v up e i g = at_left v.left refl g
         ≡ e = cc in record { left = l; spent = sp; right = q ∙ ap (λ y. alternative sp (Pending Dormant y) none) same }
     at_right (alternative sp (Pending Dormant x) (alternative sq st others)) q l s d = absurd (too_many v.kind s)
       where
-        too_many : (k : Kind) → is_shape k (IsOpen ∷ Sleeps (guards x) ∷ profile st ∷ profiles others) ≡ true → ⊥
+        too_many : (k : Kind) → is_shape k (IsOpen ∷ IsDormant (guards x) ∷ profile st ∷ profiles others) ≡ true → ⊥
         too_many ChoiceNode z = false_true z
         too_many CatchNode z = false_true z
         too_many FindallNode z = false_true z
@@ -90,7 +90,7 @@ no_side v up i o g f = go (is_side v.kind (length v.left)) refl
     go false s = refl
     go true s =
         let left : v.left ≡ [] = no_left v.left (and-right (is_findall v.kind) _ s) in
-        let entry = findall_sleeps v up i left (findall-kind v.kind (and-left (is_findall v.kind) _ s)) in
+        let entry = findall_dormant v up i left (findall-kind v.kind (and-left (is_findall v.kind) _ s)) in
         let found : guarded v ≡ Some (FindallEntry entry.0 entry.1 entry.2) = subst
         (λ l. Shows l v.right (FindallEntry entry.0 entry.1 entry.2)) (sym left)
         (subst (λ r. dormant_right r ≡ Some (FindallEntry entry.0 entry.1 entry.2)) (sym entry.3.right) refl) in
@@ -204,7 +204,7 @@ module _ (clauses : List Clause) (end_wakes : EndWakes clauses) (findall_wakes :
       (go d (p2.sound i) j)
 
   pub closes_follow : (next : ℕ) (levels : List Level) (c : TreeCredit) → IsAround levels IsOpen → IsDistinct levels
-      → count_around next levels ≡ 0 → SidesKept levels → under_query (way_of levels) ≡ true → Ends next levels c
+      → count_around next levels ≡ 0 → HaveNoSideRecords levels → under_query (way_of levels) ≡ true → Ends next levels c
   closes_follow next [] c a d fresh s asked i j = follows_itself clauses _
   closes_follow next (v ∷ up) c a d fresh s asked i j = pick (guarded v) refl
       (λ u x. closes_follow next up x a.1 (distinct-up v up d) (omega (arith, fresh)) s.1 u) j

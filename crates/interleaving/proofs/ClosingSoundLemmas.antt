@@ -12,7 +12,7 @@ use Rattle.tree_model.specs.Closing.{Grown, guarded, with_right, with_results, f
 use Rattle.tree_model.specs.Closing.{all_left, all_closed, folds, wakes, goal_side_closes, closes}
 use Rattle.tree_model.specs.PendingLists.{Step, Way, way_of}
 use Rattle.tree_model.specs.Ways.{is_on, in_reach, way_from, AreScoped, is_query, under_query, IsAsked, IsOnWay, IsAwake}
-use Rattle.tree_model.specs.SoundTrees.{one_if, count_among, count_below, Profile, IsOpen, Sleeps, IsShut, profile, profiles, some_open}
+use Rattle.tree_model.specs.SoundTrees.{one_if, count_among, count_below, Profile, IsOpen, IsDormant, IsShut, profile, profiles, some_open}
 use Rattle.tree_model.specs.SoundTrees.{IsSound}
 use Rattle.interleaving.proofs.ContextLemmas.{put_profiles, level_profiles, IsLevel, IsAround, live_at, put_open, put_in, count_around}
 use Rattle.interleaving.proofs.ContextLemmas.{count_plug}
@@ -70,7 +70,7 @@ open_status (Pending Dormant e) h ps = refl
 open_after : (p : Profile) (ps : List Profile) → some_open ps ≡ true → some_open (p ∷ ps) ≡ true
 open_after IsOpen ps h = refl
 open_after IsShut ps h = h
-open_after (Sleeps k) ps h = refl
+open_after (IsDormant k) ps h = refl
 
 open_right : (others : Alternatives) → all_right others ≡ None → some_open (profiles others) ≡ true
 open_right none h = let no_way : ⊥ = cc in absurd no_way

@@ -214,7 +214,8 @@ module _ (next : ℕ) (w : Level) (up : List Level) (a : IsAround (w ∷ up) IsO
               (out_index (length w.left) w.number next 0 some (subst (λ n. suc n ≤ next) (sym same) old))) []
           by_number false e = out_more (length w.left) w.number next 0 m
               (out_other (length w.left) w.number next m
-              (λ z. let no_way : false ≡ true = sym e ∙ (ap (λ n. w.number == n) (sym z) ∙ number_same w.number) in false_true no_way) old 0)
+              (λ z. let no_way : false ≡ true = sym e ∙ (ap (λ n. w.number == n) (sym z)
+              ∙ number_same w.number) in false_true no_way) old 0)
               []
 
   pub cut_part : CutPart w up

@@ -1,7 +1,8 @@
 -- Work that a segment does by itself may be done early.
 use Rattle.std.proofs.Common.{◌≡◌, inl, inr, ℕ, zero, suc, false, List, [], ◌∷◌, ◌++◌, map, refl, sym, ap, ◌∙◌, subst}
 use Rattle.au_model.specs.Terms.Each.{Each}
-use Rattle.interleaving.specs.Machine.{Machine, Act, Vanishes, Wakes, Takes, Asks, On, Replacement, Put, gives, looked, search_for, placed}
+use Rattle.interleaving.specs.Machine.{Machine, Act, Drops, Becomes, Infers, AsksWorld, On, Replacement, Put, gives, looked, search_for}
+use Rattle.interleaving.specs.Machine.{placed}
 use Rattle.interleaving.specs.Machine.{freed, free_steps, acted, step, run, is_finished, seen, Alike}
 use Rattle.interleaving.proofs.RunFrontLemmas.{maps-append, map-seam, map-none, settle-map, PlaceOk, ActOk, Closed}
 use Rattle.interleaving.proofs.RunFrontLemmas.{Unseen, gives-unseen, map-unseen, search-unseen, Freed, freed-found, placed-found}
@@ -13,8 +14,8 @@ module _ {W X Q R : Type 0} (m : Machine W X Q R) where
     pub Under : X → Type 0
     pub given : (r : R) (x : X) → Under x → Under (m.give r x)
     pub credit : ℕ → List R → X
-    pub spent : (rs : List R) → m.act (credit zero rs) ≡ Vanishes rs
-    pub spends : (k : ℕ) (rs : List R) → m.act (credit (suc k) rs) ≡ Takes (Put (credit k rs ∷ []))
+    pub spent : (rs : List R) → m.act (credit zero rs) ≡ Drops rs
+    pub spends : (k : ℕ) (rs : List R) → m.act (credit (suc k) rs) ≡ Infers (Put (credit k rs ∷ []))
     pub fixed : (r : R) (k : ℕ) (rs : List R) → m.give r (credit k rs) ≡ credit k rs
     pub passed : (q : Q) (k : ℕ) (rs : List R) → m.look q (credit k rs) ≡ On q
 
@@ -113,10 +114,10 @@ module _ {W X Q R : Type 0} (m : Machine W X Q R) where
           acting : (w : W) (t : Act W X Q R) (x : X) (new zs : List X) → ActOk m P K G t → Each P new → Each g.Under zs
               → seen (run m n (acted m t w x (new ++ (a ++ zs))).0 (acted m t w x (new ++ (a ++ zs))).1)
               ≡ seen (run m n (acted m t w x (new ++ later zs)).0 (acted m t w x (new ++ later zs)).1)
-          acting w (Vanishes r) x new zs ok h z = next w new zs h z
-          acting w (Wakes y) x new zs ok h z = next w (y ∷ new) zs (ok, h) z
-          acting w (Takes p) x new zs ok h z = placing w p new zs ok h z
-          acting w (Asks g) x new zs ok h z = placing (g w).0 (g w).1 new zs (ok w) h z
+          acting w (Drops r) x new zs ok h z = next w new zs h z
+          acting w (Becomes y) x new zs ok h z = next w (y ∷ new) zs (ok, h) z
+          acting w (Infers p) x new zs ok h z = placing w p new zs ok h z
+          acting w (AsksWorld g) x new zs ok h z = placing (g w).0 (g w).1 new zs (ok w) h z
 
         agree : (n : ℕ) → ((w : W) (x : X) (new zs : List X) → P x → Each P new → Each g.Under zs
             → Same n w (x ∷ (new ++ (a ++ zs))) (x ∷ (new ++ later zs))) → (w : W) (pre zs : List X) → Each P pre → Each g.Under zs

@@ -14,7 +14,7 @@ use Rattle.tree_model.specs.PendingLists.{Way, way_of, element_on, list_among, l
 use Rattle.tree_model.specs.PendingLists.{back_of}
 use Rattle.tree_model.specs.Ways.{under_query, is_query, IsOnWay}
 use Rattle.tree_model.specs.SoundTrees.{IsOpen, profiles, is_shape, are_pair, IsSound, IsSoundTree}
-use Rattle.interleaving.specs.Machine.{Act, Vanishes, Wakes, Takes, Asks, gives, freed, free_steps, is_finished}
+use Rattle.interleaving.specs.Machine.{Act, Drops, Becomes, Infers, AsksWorld, gives, freed, free_steps, is_finished}
 use Rattle.interleaving.specs.Scopes.{Shared, Sought, scoped}
 use Rattle.interleaving.specs.Quiet.{IsQuiet, inferences, records}
 use Rattle.interleaving.specs.Readings.{has_ended}
@@ -77,10 +77,10 @@ end_past_quiet (Findall s u results list p f ∷ xs) ys q h = absurd q
 -- the free steps never pass the end of a query
 freed_stays : (clauses : List Clause) (a : Act Shared Element Sought Record) (y : Element) (go : List Record → List Element)
     (ys : List Element) → ((new : List Record) → is_finished (go new) ≡ false) → is_finished (freed (scoped clauses) a y go ys) ≡ false
-freed_stays clauses (Vanishes new) y go ys h = h new
-freed_stays clauses (Wakes z) y go ys h = refl
-freed_stays clauses (Takes p) y go ys h = refl
-freed_stays clauses (Asks g) y go ys h = refl
+freed_stays clauses (Drops new) y go ys h = h new
+freed_stays clauses (Becomes z) y go ys h = refl
+freed_stays clauses (Infers p) y go ys h = refl
+freed_stays clauses (AsksWorld g) y go ys h = refl
 
 pub settles_before : (clauses : List Clause) (rs : List Record) (xs : List Element) → has_end xs ≡ true
     → is_finished (free_steps (scoped clauses) rs xs) ≡ false

@@ -1,7 +1,7 @@
 -- Credits of more inferences than are looked at are the same.
 use Rattle.std.proofs.Common.{◌≡◌, inl, inr, ℕ, zero, suc, ◌≤◌, false, List, [], ◌∷◌, ◌++◌, map, refl, sym, ap, ◌∙◌, arith}
 use Rattle.au_model.specs.Terms.Each.{Each}
-use Rattle.interleaving.specs.Machine.{Machine, Act, Vanishes, Wakes, Takes, Asks, Replacement, gives, looked, search_for, placed}
+use Rattle.interleaving.specs.Machine.{Machine, Act, Drops, Becomes, Infers, AsksWorld, Replacement, gives, looked, search_for, placed}
 use Rattle.interleaving.specs.Machine.{free_steps}
 use Rattle.interleaving.specs.Machine.{acted, step, run, is_finished, seen}
 use Rattle.interleaving.proofs.RunFrontLemmas.{settle-map, settle-given, PlaceOk, ActOk, Closed, gives-unseen, Freed, freed-found}
@@ -46,10 +46,10 @@ module _ {W X Q R : Type 0} (m : Machine W X Q R) (g : Ground m) (P : X → Type
         acting_big : (w : W) (t : Act W X Q R) (x : X) (new zs : List X) → ActOk m P K G t → Each P new
             → seen (run m n (acted m t w x (new ++ (g.credit j os ∷ zs))).0 (acted m t w x (new ++ (g.credit j os ∷ zs))).1)
             ≡ seen (run m n (acted m t w x (new ++ (g.credit k rs ∷ zs))).0 (acted m t w x (new ++ (g.credit k rs ∷ zs))).1)
-        acting_big w (Vanishes r) x new zs ok h = next w new zs [] h
-        acting_big w (Wakes y) x new zs ok h = next w (y ∷ new) zs [] (ok, h)
-        acting_big w (Takes p) x new zs ok h = placing_big w p new zs ok h
-        acting_big w (Asks g) x new zs ok h = placing_big (g w).0 (g w).1 new zs (ok w) h
+        acting_big w (Drops r) x new zs ok h = next w new zs [] h
+        acting_big w (Becomes y) x new zs ok h = next w (y ∷ new) zs [] (ok, h)
+        acting_big w (Infers p) x new zs ok h = placing_big w p new zs ok h
+        acting_big w (AsksWorld g) x new zs ok h = placing_big (g w).0 (g w).1 new zs (ok w) h
 
       agree_big : (n : ℕ) → suc n ≤ j → suc n ≤ k
           → ((w : W) (x : X) (new zs : List X) → P x → Each P new → Agrees n w (x ∷ (new ++ (g.credit j os ∷ zs)))

@@ -23,13 +23,13 @@ use Rattle.interleaving.proofs.ContextLemmas.{put_profiles, IsLevel, IsAround}
 use Rattle.interleaving.proofs.WayLemmas.{cond-true, cond-false, other_number}
 use Rattle.interleaving.proofs.RoundtripLemmas.{by_heights, height_low, height_positive}
 use Rattle.interleaving.proofs.EntryLemmas.{length-floor}
-use Rattle.interleaving.proofs.BallStackLemmas.{nothing_takes, sleeps_first}
+use Rattle.interleaving.proofs.BallStackLemmas.{nothing_infers, dormant_first}
 use Rattle.tree_model.specs.Closing.{dormant_right}
 use Rattle.interleaving.proofs.ClosingListLemmas.{Guards, guards_of}
 use Rattle.interleaving.proofs.ListEndLemmas.{levels_down}
-use Rattle.interleaving.proofs.ListScopeLemmas.{sleeps_on}
+use Rattle.interleaving.proofs.ListScopeLemmas.{dormant_on}
 use Rattle.interleaving.proofs.ListsSoundLemmas.{under_of}
-use Rattle.interleaving.proofs.ListMarkLemmas.{no_left, SleepsRight, catch_sleeps}
+use Rattle.interleaving.proofs.ListMarkLemmas.{no_left, DormantRight, catch_dormant}
 use Rattle.interleaving.proofs.CaughtContextLemmas.{RootCaught, level_caught}
 use Rattle.interleaving.proofs.TestLemmas.{false_true, not_equal, number_same}
 
@@ -42,18 +42,18 @@ abbrev pub caught_or : Option Substitution → Level → List Level → Term →
 caught_or (Some o) v up r f further = Catches v up r f o
 caught_or None v up r f further = further
 
-abbrev pub sleeper_falls : Term → Level → List Level → Hold → Entry → (Option ℕ → Fall) → Fall
-sleeper_falls ball v up Dormant (CatchEntry x r f) go = caught_or (unifier ((x, copied ball f.next) ∷ [])) v up r f
+abbrev pub dormant_falls : Term → Level → List Level → Hold → Entry → (Option ℕ → Fall) → Fall
+dormant_falls ball v up Dormant (CatchEntry x r f) go = caught_or (unifier ((x, copied ball f.next) ∷ [])) v up r f
     (go (first_mark f.items))
-sleeper_falls ball v up Dormant (PlainEntry f) go = Nobody
-sleeper_falls ball v up Dormant (FindallEntry results l f) go = Nobody
-sleeper_falls ball v up Dormant (EndEntry b) go = Nobody
-sleeper_falls ball v up Ready e go = Nobody
-sleeper_falls ball v up (TakenBy w) e go = Nobody
-sleeper_falls ball v up (Waiting g) e go = Nobody
+dormant_falls ball v up Dormant (PlainEntry f) go = Nobody
+dormant_falls ball v up Dormant (FindallEntry results l f) go = Nobody
+dormant_falls ball v up Dormant (EndEntry b) go = Nobody
+dormant_falls ball v up Ready e go = Nobody
+dormant_falls ball v up (TakenBy w) e go = Nobody
+dormant_falls ball v up (Waiting g) e go = Nobody
 
 abbrev pub right_falls : Term → Level → List Level → Alternatives → (Option ℕ → Fall) → Fall
-right_falls ball v up (alternative spent (Pending hold e) others) go = sleeper_falls ball v up hold e go
+right_falls ball v up (alternative spent (Pending hold e) others) go = dormant_falls ball v up hold e go
 right_falls ball v up (alternative spent (Inner node) others) go = Nobody
 right_falls ball v up (alternative spent (Closed c) others) go = Nobody
 right_falls ball v up none go = Nobody
@@ -75,9 +75,9 @@ fall_entries ball (Catches v up r f o) = PlainEntry
     (before (GoalItem (call_of r) (length (floor_of up)) ∷ []) (by_heights_of up f)))) ∷ floor_of up
 
 -- a mark of a branch, whose recovery sleeps
-abbrev pub MarkSleeps : List Level → Option ℕ → Type 0
-MarkSleeps levels None = Unit {0}
-MarkSleeps levels (Some s) = sleeps_on levels s ≡ true
+abbrev pub MarkIsDormant : List Level → Option ℕ → Type 0
+MarkIsDormant levels None = Unit {0}
+MarkIsDormant levels (Some s) = dormant_on levels s ≡ true
 
 abbrev pub mark_height : List Level → Option ℕ → Option ℕ
 mark_height levels None = None
@@ -91,13 +91,13 @@ first_height levels (GoalItem t s ∷ items) = first_height levels items
 first_height levels (CollectMark t s ∷ items) = first_height levels items
 first_height levels (RemovalItem n ∷ items) = first_height levels items
 
-pub first_sleeps : (levels : List Level) (items : List (Item ℕ)) → MarksCaught (sleeps_on levels) items
-    → MarkSleeps levels (first_mark items)
-first_sleeps levels [] h = tt
-first_sleeps levels (CatchMark s ∷ items) h = h.0
-first_sleeps levels (GoalItem t s ∷ items) h = first_sleeps levels items h
-first_sleeps levels (CollectMark t s ∷ items) h = first_sleeps levels items h
-first_sleeps levels (RemovalItem n ∷ items) h = first_sleeps levels items h
+pub first_dormant : (levels : List Level) (items : List (Item ℕ)) → MarksCaught (dormant_on levels) items
+    → MarkIsDormant levels (first_mark items)
+first_dormant levels [] h = tt
+first_dormant levels (CatchMark s ∷ items) h = h.0
+first_dormant levels (GoalItem t s ∷ items) h = first_dormant levels items h
+first_dormant levels (CollectMark t s ∷ items) h = first_dormant levels items h
+first_dormant levels (RemovalItem n ∷ items) h = first_dormant levels items h
 
 -- marks that name no such node
 pub marks_off : (sleeps : ℕ → Bool) (n : ℕ) (items : List (Item ℕ)) → MarksCaught (with_catch n false sleeps) items
@@ -113,19 +113,19 @@ marks_off sleeps n (CollectMark t s ∷ items) h = marks_off sleeps n items h
 marks_off sleeps n (RemovalItem m ∷ items) h = marks_off sleeps n items h
 
 -- a recovery that sleeps is on the branch
-pub sleeps_way : (levels : List Level) (s : ℕ) → sleeps_on levels s ≡ true → is_on (way_of levels) s ≡ true
-sleeps_way [] s h = false_true h
-sleeps_way (v ∷ up) s h = go (v.number == s) (sleeps_way up s) h
+pub dormant_way : (levels : List Level) (s : ℕ) → dormant_on levels s ≡ true → is_on (way_of levels) s ≡ true
+dormant_way [] s h = false_true h
+dormant_way (v ∷ up) s h = go (v.number == s) (dormant_way up s) h
   where
-    go : (b : Bool) → (sleeps_on up s ≡ true → is_on (way_of up) s ≡ true) → cond b (catch_right v.right) (sleeps_on up s) ≡ true
+    go : (b : Bool) → (dormant_on up s ≡ true → is_on (way_of up) s ≡ true) → cond b (catch_right v.right) (dormant_on up s) ≡ true
         → cond b true (is_on (way_of up) s) ≡ true
     go true f k = refl
     go false f k = f k
 
 -- what sleeps is guarded by a first alternative, and nothing else is after
-pub sleeper_guards : (v : Level) (up : List Level) (e : Entry) → IsLevel up v IsOpen → SleepsRight v e → Guards v e
-sleeper_guards v up e i q =
-    let first : length v.left ≡ 0 = sleeps_first v.kind v.left (guards e) (profiles q.others)
+pub dormant_guards : (v : Level) (up : List Level) (e : Entry) → IsLevel up v IsOpen → DormantRight v e → Guards v e
+dormant_guards v up e i q =
+    let first : length v.left ≡ 0 = dormant_first v.kind v.left (guards e) (profiles q.others)
     (subst (λ r. is_shape v.kind (put_profiles v.left (IsOpen ∷ profiles r)) ≡ true) q.right i.shape) in
     let left : v.left ≡ [] = no_left v.left (ap (λ n. n == 0) first) in
     guards_of v up e i (subst (λ l. Shows l v.right) (sym left) (subst (λ r. dormant_right r ≡ Some e) (sym q.right) refl))
@@ -182,34 +182,34 @@ falls_here ball v up x r f s q further = subst Stays (sym q) (marked ∙ at_catc
     at_catch None = ap (λ k. unwound ball k (floor_of up)) (first_height up f.items) ∙ further
 
 -- what a sleeping recovery has marked
-pub sleeper_marks : (v : Level) (up : List Level) (status : Status) (x r : Term) (f : Continuation ℕ) (s : ℕ)
+pub dormant_marks : (v : Level) (up : List Level) (status : Status) (x r : Term) (f : Continuation ℕ) (s : ℕ)
     → RootCaught (plug (v ∷ up) status) → v.right ≡ alternative s (Pending Dormant (CatchEntry x r f)) none
-    → MarksCaught (sleeps_on up) f.items
-sleeper_marks v up status x r f s h q = marks_off (sleeps_on up) v.number f.items
-    (subst (λ a. AreCaught (sleeps_on up) (under_of up) v.number v.kind (suc (length v.left)) a) q (level_caught up v status h).1).0
+    → MarksCaught (dormant_on up) f.items
+dormant_marks v up status x r f s h q = marks_off (dormant_on up) v.number f.items
+    (subst (λ a. AreCaught (dormant_on up) (under_of up) v.number v.kind (suc (length v.left)) a) q (level_caught up v status h).1).0
 
 -- the entries of the floor, and the levels
-pub landing_falls : (ball : Term) (levels : List Level) (status : Status) (mark : Option ℕ) → IsAround levels IsOpen
-    → RootCaught (plug levels status) → MarkSleeps levels mark → Lands ball levels mark
-landing_falls ball [] status None a h m = refl
-landing_falls ball [] status (Some s) a h m = false_true m
-landing_falls ball (v ∷ up) status None a h m = nothing_takes ball (floor_of (v ∷ up))
-landing_falls ball (v ∷ up) status (Some s) a h m = go (v.number == s) refl m
-    (λ k l. landing_falls ball up (Inner (level_node v status)) k a.1 h l)
+pub ball_scope_falls : (ball : Term) (levels : List Level) (status : Status) (mark : Option ℕ) → IsAround levels IsOpen
+    → RootCaught (plug levels status) → MarkIsDormant levels mark → Lands ball levels mark
+ball_scope_falls ball [] status None a h m = refl
+ball_scope_falls ball [] status (Some s) a h m = false_true m
+ball_scope_falls ball (v ∷ up) status None a h m = nothing_infers ball (floor_of (v ∷ up))
+ball_scope_falls ball (v ∷ up) status (Some s) a h m = go (v.number == s) refl m
+    (λ k l. ball_scope_falls ball up (Inner (level_node v status)) k a.1 h l)
   where
     Goal : Bool → Type 0
     Goal b = unwound ball (Some (cond b (suc (length up)) (height_of up s) - 1)) (floor_of (v ∷ up))
         ≡ fall_entries ball (cond b (right_falls ball v up v.right (fall ball up)) (fall ball up (Some s)))
 
-    go : (b : Bool) → (v.number == s) ≡ b → cond b (catch_right v.right) (sleeps_on up s) ≡ true
-        → ((k : Option ℕ) → MarkSleeps up k → Lands ball up k) → Goal b
+    go : (b : Bool) → (v.number == s) ≡ b → cond b (catch_right v.right) (dormant_on up s) ≡ true
+        → ((k : Option ℕ) → MarkIsDormant up k → Lands ball up k) → Goal b
     go true e k more =
-        let c = catch_sleeps v k in
-        let q = sleeper_guards v up (CatchEntry c.0 c.1 c.2) a.0 c.3 in
+        let c = catch_dormant v k in
+        let q = dormant_guards v up (CatchEntry c.0 c.1 c.2) a.0 c.3 in
         falls_here ball v up c.0 c.1 c.2 q.spent q.right
-        (more (first_mark c.2.items) (first_sleeps up c.2.items (sleeper_marks v up status c.0 c.1 c.2 q.spent h q.right)))
+        (more (first_mark c.2.items) (first_dormant up c.2.items (dormant_marks v up status c.0 c.1 c.2 q.spent h q.right)))
     go false e k more =
-        let on = sleeps_way up s k in
+        let on = dormant_way up s k in
         let low : height_of up s ≤ length (floor_of up) = subst (λ n. height_of up s ≤ n) (sym (length-floor up)) (height_low up s) in
         passed ball (height_of up s - 1) up (with_heights up (right_entry v.right))
         (low_minus (length (floor_of up)) (height_of up s) (height_some up s on) low) ∙ more (Some s) k
@@ -240,22 +240,22 @@ taken_above ball v up (Catches w above r f o) a h =
     }
 
 pub fall_taken : (ball : Term) (levels : List Level) (status : Status) (mark : Option ℕ) → IsAround levels IsOpen
-    → RootCaught (plug levels status) → MarkSleeps levels mark → IsTaken ball levels (fall ball levels mark)
+    → RootCaught (plug levels status) → MarkIsDormant levels mark → IsTaken ball levels (fall ball levels mark)
 fall_taken ball [] status mark a h m = tt
 fall_taken ball (v ∷ up) status None a h m = tt
 fall_taken ball (v ∷ up) status (Some s) a h m = go (v.number == s) refl m
     (λ k l. taken_above ball v up (fall ball up k) a.0 (fall_taken ball up (Inner (level_node v status)) k a.1 h l))
   where
-    go : (b : Bool) → (v.number == s) ≡ b → cond b (catch_right v.right) (sleeps_on up s) ≡ true
-        → ((k : Option ℕ) → MarkSleeps up k → IsTaken ball (v ∷ up) (fall ball up k))
+    go : (b : Bool) → (v.number == s) ≡ b → cond b (catch_right v.right) (dormant_on up s) ≡ true
+        → ((k : Option ℕ) → MarkIsDormant up k → IsTaken ball (v ∷ up) (fall ball up k))
         → IsTaken ball (v ∷ up) (cond b (right_falls ball v up v.right (fall ball up)) (fall ball up (Some s)))
     go false e k more = more (Some s) k
     go true e k more =
-        let c = catch_sleeps v k in
-        let q = sleeper_guards v up (CatchEntry c.0 c.1 c.2) a.0 c.3 in
+        let c = catch_dormant v k in
+        let q = dormant_guards v up (CatchEntry c.0 c.1 c.2) a.0 c.3 in
         subst (λ right. IsTaken ball (v ∷ up) (right_falls ball v up right (fall ball up))) (sym q.right)
         (at_catch c.0 c.1 c.2 q (unifier ((c.0, copied ball c.2.next) ∷ [])) refl
-        (more (first_mark c.2.items) (first_sleeps up c.2.items (sleeper_marks v up status c.0 c.1 c.2 q.spent h q.right))))
+        (more (first_mark c.2.items) (first_dormant up c.2.items (dormant_marks v up status c.0 c.1 c.2 q.spent h q.right))))
       where
         at_catch : (x r : Term) (f : Continuation ℕ) → Guards v (CatchEntry x r f) → (o : Option Substitution)
             → unifier ((x, copied ball f.next) ∷ []) ≡ o → IsTaken ball (v ∷ up) (fall ball up (first_mark f.items))

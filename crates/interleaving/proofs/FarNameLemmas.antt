@@ -17,7 +17,7 @@ use Rattle.run_model.specs.Machine.Items.{with_items}
 use Rattle.run_model.specs.Machine.Items.{with_next, before, without_marks, first_mark}
 use Rattle.interleaving.specs.Machine.{Look, On, Here}
 use Rattle.tree_model.specs.Elements.{Name, same, Record, Element, Credit, Plain, EndOf, Catch, Findall, End}
-use Rattle.interleaving.specs.Scopes.{left_standing, Shared, Sought, Scope, Thrown, Caught, Does, ElementReplacement, unified_element}
+use Rattle.interleaving.specs.Scopes.{without_catch_marks, Shared, Sought, Scope, Thrown, Caught, Does, ElementReplacement, unified_element}
 use Rattle.interleaving.specs.Scopes.{solution_elements}
 use Rattle.interleaving.specs.Scopes.{reply_place, named_test_items, control_place, goal_act, removed, unmarked, item_act, act}
 use Rattle.interleaving.specs.Scopes.{recovery_look, look}
@@ -224,7 +224,7 @@ module _ (clauses : List Clause) (inside : Name → Bool) where
   pub far_closed : Closed (scoped clauses) (IsFar inside) IsSoughtFar IsAnyRecord
   far_closed = record { acts = act-blind; looks = look-blind; given = give-blind }
 
-  pub far_stands : (x : Element) → IsFar inside x → IsFar inside (left_standing x)
+  pub far_stands : (x : Element) → IsFar inside x → IsFar inside (without_catch_marks x)
   far_stands (Plain p f) h = (h.0, marks-apart f.items h.1)
   far_stands (Credit j rs) h = h
   far_stands (EndOf s) h = h

@@ -19,11 +19,11 @@ use Rattle.tree_model.specs.Elements.{Name, same, Record, Element, Credit, Plain
 use Rattle.tree_model.specs.PendingLists.{Way, way_of, scope_on, findall_on, balance_on, element_on, named_continuation, list_left}
 use Rattle.tree_model.specs.PendingLists.{pending_list, front_of, back_of}
 use Rattle.tree_model.specs.Ways.{is_on, IsAsked}
-use Rattle.tree_model.specs.SoundTrees.{IsOpen, Sleeps, profiles, is_shape, AreSound}
+use Rattle.tree_model.specs.SoundTrees.{IsOpen, IsDormant, profiles, is_shape, AreSound}
 use Rattle.interleaving.specs.Views.{IsBlind}
 use Rattle.interleaving.specs.Sound.{IsSound}
 use Rattle.interleaving.specs.Erased.{erased}
-use Rattle.interleaving.specs.Machine.{gives, Wakes}
+use Rattle.interleaving.specs.Machine.{gives, Becomes}
 use Rattle.interleaving.specs.Scopes.{scoped, act, give, results_first}
 use Rattle.interleaving.specs.Segments.{outer}
 use Rattle.interleaving.specs.Laws.{is_inner_record, IsSegment}
@@ -79,7 +79,7 @@ findall_node v up rs l f i g = go v.kind refl
     (subst (λ r. is_shape v.kind (IsOpen ∷ profiles r) ≡ true) g.right
     (subst (λ left. is_shape v.kind (put_profiles left (IsOpen ∷ profiles v.right)) ≡ true) g.left i.shape))
   where
-    go : (k : Kind) → v.kind ≡ k → is_shape k (IsOpen ∷ Sleeps FindallNode ∷ []) ≡ true → k ≡ FindallNode
+    go : (k : Kind) → v.kind ≡ k → is_shape k (IsOpen ∷ IsDormant FindallNode ∷ []) ≡ true → k ≡ FindallNode
     go FindallNode e h = refl
     go ChoiceNode e h = false_true h
     go CatchNode e h = false_true h
@@ -137,7 +137,7 @@ findall_wakes clauses next v up c rs l f g a d fresh i j =
       some = omega arith;
     } in
     let rows : records xs ≡ map (λ (t : Term). ((0 ∷ n ∷ []), t)) c.records = append-nil _ in
-    let wakes_at : act clauses (gives (scoped clauses) (records xs) x) ≡ Wakes y = ap (λ qs. act clauses (gives (scoped clauses) qs x))
+    let wakes_at : act clauses (gives (scoped clauses) (records xs) x) ≡ Becomes y = ap (λ qs. act clauses (gives (scoped clauses) qs x))
     rows ∙ ap (act clauses) h.by_list in
     let becomes = woken_early clauses (of_node n) xs x y front zs tt wakes_at segment in
     let gone : outer (is_inner_record (of_node n)) (records xs) ≡ [] = ap (outer (is_inner_record (of_node n))) rows

@@ -36,7 +36,8 @@ module _ (floor zs : List Element) (first : IsFloor floor) (tells : Tells floor 
     where
       go : Seam b s → Seam c t → height (b ++ zs) s ≡ height (c ++ zs) t
       go (inl k) (inl j) =
-          let same : element_count (k.0 ++ floor) ≡ element_count (j.0 ++ floor) = sym (ap element_count (k.2 floor)) ∙ e ∙ ap element_count (j.2 floor) in
+          let same : element_count (k.0 ++ floor) ≡ element_count (j.0 ++ floor) = sym (ap element_count (k.2 floor)) ∙ e
+          ∙ ap element_count (j.2 floor) in
           let sizes : element_count (k.0 ++ zs) ≡ element_count (j.0 ++ zs) = omega
           (arith, same, count-append k.0 floor, count-append j.0 floor, count-append k.0 zs, count-append j.0 zs) in
           ap element_count (k.2 zs) ∙ sizes ∙ sym (ap element_count (j.2 zs))
@@ -110,7 +111,8 @@ module _ (floor zs : List Element) (first : IsFloor floor) (tells : Tells floor 
   items-told b c (CatchMark s ∷ is) (CatchMark r ∷ js) p q g h e =
       let parts = catch_eq (height (b ++ floor) s - 1) (height (c ++ floor) r - 1) (map (with_height (height (b ++ floor))) is)
       (map (with_height (height (c ++ floor))) js) e in
-      let same = less_one (height (b ++ floor) s) (height (c ++ floor) r) (element_count g.0.under) (element_count h.0.under) (catch_size b s g.0)
+      let same = less_one (height (b ++ floor) s) (height (c ++ floor) r) (element_count g.0.under) (element_count h.0.under)
+      (catch_size b s g.0)
       (catch_size c r h.0) parts.0 in
       let here = told b c s r p.0 q.0 same in
       let rest = items-told b c is js p.1 q.1 g.1 h.1 parts.1 in
@@ -118,7 +120,8 @@ module _ (floor zs : List Element) (first : IsFloor floor) (tells : Tells floor 
   items-told b c (CollectMark t s ∷ is) (CollectMark u r ∷ js) p q g h e =
       let parts = collect_eq t u (height (b ++ floor) s - 1) (height (c ++ floor) r - 1) (map (with_height (height (b ++ floor))) is)
       (map (with_height (height (c ++ floor))) js) e in
-      let same = less_one (height (b ++ floor) s) (height (c ++ floor) r) (element_count g.0.under) (element_count h.0.under) (collect_size b s g.0)
+      let same = less_one (height (b ++ floor) s) (height (c ++ floor) r) (element_count g.0.under) (element_count h.0.under)
+      (collect_size b s g.0)
       (collect_size c r h.0) parts.1 in
       let here = told b c s r p.0 q.0 same in
       let rest = items-told b c is js p.1 q.1 g.1 h.1 parts.2 in
@@ -133,7 +136,8 @@ module _ (floor zs : List Element) (first : IsFloor floor) (tells : Tells floor 
   cont-told : (b c : List Element) (f g : Continuation Name) → Each (IsPresent (b ++ floor)) (names f.items)
       → Each (IsPresent (c ++ floor)) (names g.items) → Each (IsMarkSound (b ++ floor)) f.items
       → Each (IsMarkSound (c ++ floor)) g.items
-      → continuation_heights (height (b ++ floor)) f ≡ continuation_heights (height (c ++ floor)) g → continuation_heights (height (b ++ zs)) f
+      → continuation_heights (height (b ++ floor)) f ≡ continuation_heights (height (c ++ floor)) g
+      → continuation_heights (height (b ++ zs)) f
       ≡ continuation_heights (height (c ++ zs)) g
   cont-told b c f g p q k h e =
       let items = items-told b c f.items g.items p q k h (ap (λ x. x.items) e) in
@@ -242,7 +246,8 @@ module _ (floor zs : List Element) (first : IsFloor floor) (tells : Tells floor 
       ap (λ x. HeightCredit x (map (record_height (b ++ zs)) rs) ∷ erased (b ++ zs)) parts.0
       ∙ ap (λ x. HeightCredit n2 x ∷ erased (b ++ zs)) here ∙ ap (λ x. HeightCredit n2 (map (record_height (c ++ zs)) qs) ∷ x) rest
   lists-told (suc n) (Plain p f ∷ b) (Plain q g ∷ c) l i j e =
-      let parts = plain_eq (continuation_heights (height (b ++ floor)) f) (continuation_heights (height (c ++ floor)) g) (erased (b ++ floor))
+      let parts = plain_eq (continuation_heights (height (b ++ floor)) f) (continuation_heights (height (c ++ floor)) g)
+      (erased (b ++ floor))
       (erased (c ++ floor)) e in
       let here = cont-told b c f g i.0.carried.present j.0.carried.present i.0.marks j.0.marks parts.0 in
       let rest = lists-told n b c (omega arith) i.1 j.1 parts.1 in
@@ -258,7 +263,8 @@ module _ (floor zs : List Element) (first : IsFloor floor) (tells : Tells floor 
       ∙ ap (λ x. HeightEntry (CatchEntry d w x) ∷ erased (b ++ zs)) here
       ∙ ap (λ x. HeightEntry (CatchEntry d w (continuation_heights (height (c ++ zs)) g)) ∷ x) rest
   lists-told (suc n) (Findall s u a r p f ∷ b) (Findall t v d w q g ∷ c) l i j e =
-      let parts = findall_eq a d r w (continuation_heights (height (b ++ floor)) f) (continuation_heights (height (c ++ floor)) g) (erased (b ++ floor))
+      let parts = findall_eq a d r w (continuation_heights (height (b ++ floor)) f) (continuation_heights (height (c ++ floor)) g)
+      (erased (b ++ floor))
       (erased (c ++ floor)) e in
       let here = cont-told b c f g i.0.carried.present.1 j.0.carried.present.1 i.0.marks j.0.marks parts.2 in
       let rest = lists-told n b c (omega arith) i.3 j.3 parts.3 in

@@ -29,7 +29,8 @@ module _ (floor zs : List Element) (first : IsFloor floor) (tells : Tells floor 
     where
       go : Seam b s → Seam c t → height (b ++ zs) s ≡ height (c ++ zs) t
       go (inl k) (inl j) =
-          let same : element_count (k.0 ++ floor) ≡ element_count (j.0 ++ floor) = sym (ap element_count (k.2 floor)) ∙ e ∙ ap element_count (j.2 floor) in
+          let same : element_count (k.0 ++ floor) ≡ element_count (j.0 ++ floor) = sym (ap element_count (k.2 floor)) ∙ e
+          ∙ ap element_count (j.2 floor) in
           let sizes : element_count (k.0 ++ zs) ≡ element_count (j.0 ++ zs) = omega
           (arith, same, count-append k.0 floor, count-append j.0 floor, count-append k.0 zs, count-append j.0 zs) in
           ap element_count (k.2 zs) ∙ sizes ∙ sym (ap element_count (j.2 zs))
@@ -117,7 +118,8 @@ module _ (floor zs : List Element) (first : IsFloor floor) (tells : Tells floor 
 
   cont-told : (b c : List Element) (f g : Continuation Name) → Each (IsPresent (b ++ floor)) (names f.items)
       → Each (IsPresent (c ++ floor)) (names g.items) → Each (IsMarkHigh (b ++ floor)) f.items → Each (IsMarkHigh (c ++ floor)) g.items
-      → continuation_heights (height (b ++ floor)) f ≡ continuation_heights (height (c ++ floor)) g → continuation_heights (height (b ++ zs)) f
+      → continuation_heights (height (b ++ floor)) f ≡ continuation_heights (height (c ++ floor)) g
+      → continuation_heights (height (b ++ zs)) f
       ≡ continuation_heights (height (c ++ zs)) g
   cont-told b c f g p q k h e =
       let items = items-told b c f.items g.items p q k h (ap (λ x. x.items) e) in
@@ -225,7 +227,8 @@ module _ (floor zs : List Element) (first : IsFloor floor) (tells : Tells floor 
       ap (λ x. HeightCredit x (map (record_height (b ++ zs)) rs) ∷ erased (b ++ zs)) parts.0
       ∙ ap (λ x. HeightCredit n2 x ∷ erased (b ++ zs)) here ∙ ap (λ x. HeightCredit n2 (map (record_height (c ++ zs)) qs) ∷ x) rest
   lists-told (suc n) (Plain p f ∷ b) (Plain q g ∷ c) l i j e =
-      let parts = plain_eq (continuation_heights (height (b ++ floor)) f) (continuation_heights (height (c ++ floor)) g) (erased (b ++ floor))
+      let parts = plain_eq (continuation_heights (height (b ++ floor)) f) (continuation_heights (height (c ++ floor)) g)
+      (erased (b ++ floor))
       (erased (c ++ floor)) e in
       let here = cont-told b c f g i.0.0 j.0.0 i.0.1 j.0.1 parts.0 in
       let rest = lists-told n b c (omega arith) i.1 j.1 parts.1 in
@@ -241,7 +244,8 @@ module _ (floor zs : List Element) (first : IsFloor floor) (tells : Tells floor 
       ∙ ap (λ x. HeightEntry (CatchEntry d w x) ∷ erased (b ++ zs)) here
       ∙ ap (λ x. HeightEntry (CatchEntry d w (continuation_heights (height (c ++ zs)) g)) ∷ x) rest
   lists-told (suc n) (Findall s u a r p f ∷ b) (Findall t v d w q g ∷ c) l i j e =
-      let parts = findall_eq a d r w (continuation_heights (height (b ++ floor)) f) (continuation_heights (height (c ++ floor)) g) (erased (b ++ floor))
+      let parts = findall_eq a d r w (continuation_heights (height (b ++ floor)) f) (continuation_heights (height (c ++ floor)) g)
+      (erased (b ++ floor))
       (erased (c ++ floor)) e in
       let here = cont-told b c f g i.0.0 j.0.0 i.0.1 j.0.1 parts.2 in
       let rest = lists-told n b c (omega arith) i.1 j.1 parts.3 in

@@ -29,7 +29,7 @@ use Rattle.interleaving.proofs.SoundEarlyLemmas.{sound_exchange, sound-after}
 use Rattle.interleaving.proofs.LeadLemmas.{lead-bounded, follows_then, follows_becoming, follows_itself}
 use Rattle.interleaving.proofs.ClockLemmas.{quiet-append, inferences-append}
 use Rattle.interleaving.proofs.EndLemmas.{has_end, settles_before}
-use Rattle.interleaving.proofs.ListScopeLemmas.{sleeps_on}
+use Rattle.interleaving.proofs.ListScopeLemmas.{dormant_on}
 use Rattle.interleaving.proofs.ListsSoundLemmas.{under_of}
 use Rattle.interleaving.proofs.RunFrontLemmas.{some-same}
 
@@ -98,13 +98,13 @@ LeftSides kind ((spent, Closed c) ∷ left) = (is_side kind (length left) ≡ tr
 LeftSides kind ((spent, Pending hold e) ∷ left) = LeftSides kind left
 LeftSides kind ((spent, Inner node) ∷ left) = LeftSides kind left
 
-abbrev pub SidesKept : List Level → Type 0
-SidesKept [] = Unit {0}
-SidesKept (v ∷ up) = LeftSides v.kind v.left × SidesKept up
+abbrev pub HaveNoSideRecords : List Level → Type 0
+HaveNoSideRecords [] = Unit {0}
+HaveNoSideRecords (v ∷ up) = LeftSides v.kind v.left × HaveNoSideRecords up
 
 abbrev pub CaughtAt : List Level → Status → Type 0
 CaughtAt [] status = IsCaught (λ m. false) false false status
-CaughtAt (v ∷ up) status = IsCaught (sleeps_on (v ∷ up)) (is_side v.kind (length v.left)) (under_of up) status
+CaughtAt (v ∷ up) status = IsCaught (dormant_on (v ∷ up)) (is_side v.kind (length v.left)) (under_of up) status
 
 sides_split : (sleeps : ℕ → Bool) (under : Bool) (n : ℕ) (kind : Kind) (left : List (ℕ × Status)) (others : Alternatives)
     → AreCaught sleeps under n kind 0 (put_left left others) → LeftSides kind left × AreCaught sleeps under n kind (length left) others
@@ -123,14 +123,14 @@ sides_split sleeps under n kind ((spent, Inner node) ∷ left) others h = let k 
     (alternative spent (Inner node) others) h in (k.0, k.1.1)
 
 pub caught_out : (levels : List Level) (status : Status) → IsCaught (λ m. false) false false (plug levels status)
-    → SidesKept levels × CaughtAt levels status
+    → HaveNoSideRecords levels × CaughtAt levels status
 caught_out [] status h = (tt, h)
 caught_out (v ∷ []) status h =
     let p = sides_split (λ m. false) false v.number v.kind v.left (alternative v.spent status v.right) h in
     ((p.0, tt), p.1.0)
 caught_out (v ∷ u ∷ up) status h =
     let k = caught_out (u ∷ up) (Inner (level_node v status)) h in
-    let p = sides_split (sleeps_on (u ∷ up)) (under_of (u ∷ up)) v.number v.kind v.left (alternative v.spent status v.right) k.1 in
+    let p = sides_split (dormant_on (u ∷ up)) (under_of (u ∷ up)) v.number v.kind v.left (alternative v.spent status v.right) k.1 in
     ((p.0, k.0), p.1.0)
 
 -- what closed alternatives come to

@@ -23,7 +23,7 @@ use Rattle.tree_model.specs.Ways.{under_query}
 use Rattle.tree_model.specs.SoundTrees.{IsSoundTree}
 use Rattle.tree_model.specs.CaughtTrees.{MarksCaught, IsCaughtTree}
 use Rattle.tree_model.specs.Elements.{Name, Record, Element, Credit, Plain, EndOf, End}
-use Rattle.interleaving.specs.Machine.{Machine, Asks, Seek, gives, placed, search_for, free_steps, run, seen}
+use Rattle.interleaving.specs.Machine.{Machine, AsksWorld, Seek, gives, placed, search_for, free_steps, run, seen}
 use Rattle.interleaving.specs.Scopes.{Shared, Sought, Thrown, ElementReplacement, act, item_act, goal_act, world_replied, scoped}
 use Rattle.interleaving.specs.Quiet.{inferences, records}
 use Rattle.interleaving.specs.Sound.{IsSound}
@@ -41,20 +41,20 @@ use Rattle.interleaving.proofs.LeadLemmas.{lead-quiet, follows_then, follows_fro
 use Rattle.interleaving.proofs.ClockLemmas.{IsFirst, quiet-append, inferences-append, front_quiet}
 use Rattle.interleaving.proofs.EndLemmas.{end_pending}
 use Rattle.interleaving.proofs.HaltMoveLemmas.{dropped_names}
-use Rattle.interleaving.proofs.ListScopeLemmas.{sleeps_on}
+use Rattle.interleaving.proofs.ListScopeLemmas.{dormant_on}
 use Rattle.interleaving.proofs.ListsSoundLemmas.{lists_are_sound}
 use Rattle.interleaving.proofs.WakeLemmas.{second_right}
 use Rattle.interleaving.proofs.FrontCloseLemmas.{bare}
 use Rattle.interleaving.proofs.CaughtFrontLemmas.{clear_part}
-use Rattle.interleaving.proofs.FallLemmas.{Fall, Nobody, Catches, fall, fall_entries, MarkSleeps, IsTaken, IsCatcher, landing_falls}
-use Rattle.interleaving.proofs.FallLemmas.{fall_taken, first_height, first_sleeps}
+use Rattle.interleaving.proofs.FallLemmas.{Fall, Nobody, Catches, fall, fall_entries, MarkIsDormant, IsTaken, IsCatcher, ball_scope_falls}
+use Rattle.interleaving.proofs.FallLemmas.{fall_taken, first_height, first_dormant}
 use Rattle.interleaving.proofs.BallPlaceLemmas.{query_at}
 use Rattle.interleaving.proofs.LowerListLemmas.{lower_back, back_split}
 use Rattle.interleaving.proofs.BallSearchLemmas.{mark_name, first_name, named_recovery, catch_element}
 use Rattle.interleaving.proofs.BallCatchLemmas.{finds, search_found, none_lost, loses}
 use Rattle.interleaving.proofs.BallFollowsLemmas.{free_top}
 use Rattle.interleaving.proofs.BallRecoveryLemmas.{ball_wakes, front_passes, front_sound}
-use Rattle.interleaving.proofs.LostBallLemmas.{lost_end, lost_lands}
+use Rattle.interleaving.proofs.LostBallLemmas.{lost_end, lost_ball_closes}
 use Rattle.interleaving.proofs.PrunedBallLemmas.{placed_here, free_here, distinct_here, root_here, unspent_here, sides_here, list_here}
 use Rattle.interleaving.proofs.PrunedBallLemmas.{sound_here, root_is, recovery, caught_ends}
 use Rattle.interleaving.proofs.FrontStepLemmas.{bare_sound, front_taken, gate_moves}
@@ -89,8 +89,9 @@ module _ (t : TreeState) (w : ℕ) (a : Place) (s : Spot) (f : Continuation ℕ)
   fallen after ball x = record (ball_falls s (fall_entries ball x) (record t { world = after }))
       { history = t.history ++ Answer w a false ∷ [] }
 
-  module _ (g : Shared → Shared × ElementReplacement) (after : World) (ball : Term) (mark : Option ℕ) (sleeps : MarkSleeps (levels_of s) mark)
-      (asks : act t.job.clauses (bare t.job.clauses own named) ≡ Asks g)
+  module _ (g : Shared → Shared × ElementReplacement) (after : World) (ball : Term) (mark : Option ℕ)
+      (sleeps : MarkIsDormant (levels_of s) mark)
+      (asks : act t.job.clauses (bare t.job.clauses own named) ≡ AsksWorld g)
       (place : (v : Shared) → v ≡ shared_of answers t → (g v).1 ≡ Seek (Thrown ball (mark_name (way_of (levels_of s)) mark) own)) where
     abbrev sought : Sought
     sought = Thrown ball (mark_name (way_of levels) mark) own
@@ -200,7 +201,7 @@ module _ (t : TreeState) (w : ℕ) (a : Place) (s : Spot) (f : Continuation ℕ)
         (λ l. Follows clauses (xs ++ (ball_end ∷ [])) (Credit (inferences xs) [] ∷ l)) fixed
         (follows_becoming clauses (xs ++ (ball_end ∷ [])) (Credit (inferences xs) [] ∷ map (gives m (records xs)) (ball_end ∷ []))
         rows (omega (arith, long))) in
-        let two = lost_lands clauses t.next v s.above status p.around root.last q below own (Some (copied ball 0)) (inferences xs)
+        let two = lost_ball_closes clauses t.next v s.above status p.around root.last q below own (Some (copied ball 0)) (inferences xs)
         unspent (omega (arith, total, unspent)) in
         let joined : xs ++ (ball_end ∷ []) ≡ front ++ (Credit (v.spent + 1) [] ∷ (ball_end ∷ [])) = append-assoc front
         (Credit (v.spent + 1) [] ∷ []) (ball_end ∷ []) in
@@ -229,18 +230,18 @@ module _ (t : TreeState) (w : ℕ) (a : Place) (s : Spot) (f : Continuation ℕ)
 
   -- a goal of the world that throws
   pub ball_moves : (goal ask : Term) (scope : ℕ) (items : List (Item ℕ)) (after : World) (ball : Term) → without_marks f.items
-      ≡ GoalItem goal scope ∷ items → MarksCaught (sleeps_on (levels_of s)) items → outcome_of t.job.clauses goal f.next ≡ AskWorld ask
+      ≡ GoalItem goal scope ∷ items → MarksCaught (dormant_on (levels_of s)) items → outcome_of t.job.clauses goal f.next ≡ AskWorld ask
       → world_step t.job.clauses ask f.next t.world ≡ (after, Ball ball) → IsSoundTree (after_event t (Answer w a false))
       → IsCaughtTree (after_event t (Answer w a false)) → AnswerMoves t (after_event t (Answer w a false)) answers answers
   ball_moves goal ask scope items after ball q marks outcome step j r =
       let clauses = t.job.clauses in
       let mark = first_mark items in
-      let sleeps = first_sleeps levels items marks in
+      let sleeps = first_dormant levels items marks in
       let p = placed_here t i k running s o f entry in
       let root = root_here t i k running s o f entry in
       let status = Pending s.hold s.entry in
       let lands_so : unwound ball (first_mark (by_heights levels items)) (floor_of levels) ≡ fall_entries ball (fall ball levels mark) =
-      ap (λ n. unwound ball n (floor_of levels)) (first_height levels items) ∙ landing_falls ball levels status mark p.around
+      ap (λ n. unwound ball n (floor_of levels)) (first_height levels items) ∙ ball_scope_falls ball levels status mark p.around
       root.caught sleeps in
       let high = fh t w a s f e entry in
       let tree : after_event t (Answer w a false) ≡ fallen after ball (fall ball levels mark) =
@@ -256,7 +257,7 @@ module _ (t : TreeState) (w : ℕ) (a : Place) (s : Spot) (f : Continuation ℕ)
       let ws : without_marks named.items ≡ GoalItem goal (sc scope) ∷ map (renamed_item sc sc) items = dropped_names sc sc f.items
       ∙ ap (map (renamed_item sc sc)) q in
       let asks : act clauses (bare clauses own named)
-      ≡ Asks g = ap (λ is. item_act clauses is own (with_items (without_marks named.items) named)) ws
+      ≡ AsksWorld g = ap (λ is. item_act clauses is own (with_items (without_marks named.items) named)) ws
       ∙ ap (λ x. goal_act clauses x own (sc scope) nr) outcome in
       let place : (g (shared_of answers t)).1 ≡ Seek (Thrown ball (mark_name (way_of levels) mark) own) = ap
       (λ x. (world_replied x own nr (shared_of answers t)).1) step

@@ -27,7 +27,8 @@ module _ (inside : Name → Bool) (ys ws zs : List Element) (old : (s : Name) �
   height-same xs s a = go (seam xs s)
     where
       go : Seam xs s → height (xs ++ ys) s ≡ height (xs ++ ws) s
-      go (inl k) = ap element_count (k.2 ys) ∙ omega (arith, count-same, count-append k.0 ys, count-append k.0 ws) ∙ sym (ap element_count (k.2 ws))
+      go (inl k) = ap element_count (k.2 ys) ∙ omega (arith, count-same, count-append k.0 ys, count-append k.0 ws)
+          ∙ sym (ap element_count (k.2 ws))
       go (inr k) = ap element_count (k ys ∙ old s a ∙ sym (new s a)) ∙ sym (ap element_count (k ws))
 
   all-same : (xs : List Element) (items : List (Item Name)) → Each (IsItemApart inside) items

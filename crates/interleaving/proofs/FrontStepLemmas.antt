@@ -9,7 +9,7 @@ use Rattle.tree_model.specs.PendingLists.{pending_list, front_of, back_of}
 use Rattle.tree_model.specs.SoundTrees.{IsSoundTree}
 use Rattle.tree_model.specs.CaughtTrees.{IsUnspent, IsCaughtTree}
 use Rattle.tree_model.specs.Elements.{Name, Element, Credit, Plain}
-use Rattle.interleaving.specs.Machine.{Machine, Asks, gives, placed, free_steps, run, seen}
+use Rattle.interleaving.specs.Machine.{Machine, AsksWorld, gives, placed, free_steps, run, seen}
 use Rattle.interleaving.specs.Scopes.{Shared, Sought, ElementReplacement, act, scoped}
 use Rattle.tree_model.specs.Elements.{Record}
 use Rattle.interleaving.specs.Quiet.{IsQuiet, inferences, records}
@@ -52,8 +52,9 @@ module _ (clauses : List Clause) where
   m = scoped clauses
 
   -- the gate of the first entry
-  pub front_taken : (front zs : List Element) (sp : ℕ) (p : Name) (f : Continuation Name) (g : Shared → Shared × ElementReplacement) (w : Shared)
-      (n : ℕ) → IsQuiet front → sp ≡ 0 → act clauses (bare clauses p f) ≡ Asks g
+  pub front_taken : (front zs : List Element) (sp : ℕ) (p : Name) (f : Continuation Name) (g : Shared → Shared × ElementReplacement)
+      (w : Shared)
+      (n : ℕ) → IsQuiet front → sp ≡ 0 → act clauses (bare clauses p f) ≡ AsksWorld g
       → run m (inferences front + suc n) w (free_steps m [] (front ++ (Credit sp [] ∷ (Plain p f ∷ zs))))
       ≡ run m n (g w).0 (free_steps m [] (placed m (g w).1 (map (gives m (records front)) zs)))
   front_taken front zs sp p f g w n q unspent h =
@@ -76,8 +77,9 @@ module _ (clauses : List Clause) where
       ∙ (one ∙ (two ∙ ap (λ rs. run m n (g w).0 (free_steps m [] (placed m (g w).1 (map (gives m rs) zs)))) rows)))
 
   -- an end of a query at the front
-  pub front_asked : (front zs : List Element) (sp : ℕ) (x : Element) (g : Shared → Shared × ElementReplacement) (w : Shared) (n : ℕ) → IsQuiet front
-      → sp ≡ 0 → act clauses x ≡ Asks g
+  pub front_asked : (front zs : List Element) (sp : ℕ) (x : Element) (g : Shared → Shared × ElementReplacement) (w : Shared) (n : ℕ)
+      → IsQuiet front
+      → sp ≡ 0 → act clauses x ≡ AsksWorld g
       → run m (inferences front + suc n) w (free_steps m [] (front ++ (Credit sp [] ∷ (x ∷ zs))))
       ≡ run m n (g w).0 (free_steps m [] (placed m (g w).1 (map (gives m (records front)) zs)))
   front_asked front zs sp x g w n q unspent h =

@@ -28,7 +28,8 @@ module _ (r : Record) where
   count-given (Findall s u results list p f ∷ xs) = go (same r.0 s) (count-given xs)
     where
       go : (t : Bool) → element_count (given xs) ≡ element_count xs
-          → element_count (cond t (findall_with_result r.1 s u results list p f) (Findall s u results list p f) ∷ given xs) ≡ suc (element_count xs)
+          → element_count (cond t (findall_with_result r.1 s u results list p f) (Findall s u results list p f) ∷ given xs)
+          ≡ suc (element_count xs)
       go true e = ap suc e
       go false e = ap suc e
 
@@ -167,37 +168,37 @@ module _ (r : Record) where
       go false a b c d = (a, b, c, d)
 
 -- one Findall entry of this scope alone is in the list, at this height
-abbrev pub StandsAt : List Element → Name → ℕ → Type 0
-StandsAt [] s h = ⊥
-StandsAt (EndOf e ∷ xs) s h = StandsAt xs s h
-StandsAt (Credit k rs ∷ xs) s h = StandsAt xs s h
-StandsAt (Plain p f ∷ xs) s h = StandsAt xs s h
-StandsAt (Catch e u c t p f ∷ xs) s h = StandsAt xs s h
-StandsAt (End p b ∷ xs) s h = StandsAt xs s h
-StandsAt (Findall e u results list p f ∷ xs) s h = ((e ≡ s) × (h ≡ element_count xs) × EachFindall (λ o. o ≡ s → ⊥) xs) ⊎
-    ((e ≡ s → ⊥) × StandsAt xs s h)
+abbrev pub IsFindallAt : List Element → Name → ℕ → Type 0
+IsFindallAt [] s h = ⊥
+IsFindallAt (EndOf e ∷ xs) s h = IsFindallAt xs s h
+IsFindallAt (Credit k rs ∷ xs) s h = IsFindallAt xs s h
+IsFindallAt (Plain p f ∷ xs) s h = IsFindallAt xs s h
+IsFindallAt (Catch e u c t p f ∷ xs) s h = IsFindallAt xs s h
+IsFindallAt (End p b ∷ xs) s h = IsFindallAt xs s h
+IsFindallAt (Findall e u results list p f ∷ xs) s h = ((e ≡ s) × (h ≡ element_count xs) × EachFindall (λ o. o ≡ s → ⊥) xs) ⊎
+    ((e ≡ s → ⊥) × IsFindallAt xs s h)
 
-pub stands-low : (xs : List Element) (s : Name) (h : ℕ) → StandsAt xs s h → suc h ≤ element_count xs
-stands-low [] s h k = absurd k
-stands-low (EndOf e ∷ xs) s h k = stands-low xs s h k
-stands-low (Credit j rs ∷ xs) s h k = omega (arith, stands-low xs s h k)
-stands-low (Plain p f ∷ xs) s h k = omega (arith, stands-low xs s h k)
-stands-low (Catch e u c t p f ∷ xs) s h k = omega (arith, stands-low xs s h k)
-stands-low (End p b ∷ xs) s h k = omega (arith, stands-low xs s h k)
-stands-low (Findall e u results list p f ∷ xs) s h (inl k) = omega (arith, k.1)
-stands-low (Findall e u results list p f ∷ xs) s h (inr k) = omega (arith, stands-low xs s h k.1)
+pub findall_at-low : (xs : List Element) (s : Name) (h : ℕ) → IsFindallAt xs s h → suc h ≤ element_count xs
+findall_at-low [] s h k = absurd k
+findall_at-low (EndOf e ∷ xs) s h k = findall_at-low xs s h k
+findall_at-low (Credit j rs ∷ xs) s h k = omega (arith, findall_at-low xs s h k)
+findall_at-low (Plain p f ∷ xs) s h k = omega (arith, findall_at-low xs s h k)
+findall_at-low (Catch e u c t p f ∷ xs) s h k = omega (arith, findall_at-low xs s h k)
+findall_at-low (End p b ∷ xs) s h k = omega (arith, findall_at-low xs s h k)
+findall_at-low (Findall e u results list p f ∷ xs) s h (inl k) = omega (arith, k.1)
+findall_at-low (Findall e u results list p f ∷ xs) s h (inr k) = omega (arith, findall_at-low xs s h k.1)
 
 -- a gathered scope's Findall entry is so in a sound list
 stands : (xs : List Element) (s u : Name) (results : List Term) (list : Term) (p : Name) (f : Continuation Name) (t : List Element)
-    → IsSound xs → from xs s ≡ EndOf s ∷ Findall s u results list p f ∷ t → StandsAt xs s (element_count t)
+    → IsSound xs → from xs s ≡ EndOf s ∷ Findall s u results list p f ∷ t → IsFindallAt xs s (element_count t)
 stands [] s u results list p f t i e = absurd cc
 stands (EndOf o ∷ xs) s u results list p f t i e = go (same s o) e (λ k. stands xs s u results list p f t i k)
   where
-    top : (zs : List Element) → zs ≡ Findall s u results list p f ∷ t → IsSound zs → StandsAt zs s (element_count t)
-    top zs k j = subst (λ l. StandsAt l s (element_count t)) (sym k) (inl (refl, refl, (subst IsSound k j).2))
+    top : (zs : List Element) → zs ≡ Findall s u results list p f ∷ t → IsSound zs → IsFindallAt zs s (element_count t)
+    top zs k j = subst (λ l. IsFindallAt l s (element_count t)) (sym k) (inl (refl, refl, (subst IsSound k j).2))
 
     go : (b : Bool) → cond b (EndOf o ∷ xs) (from xs s) ≡ EndOf s ∷ Findall s u results list p f ∷ t
-        → (from xs s ≡ EndOf s ∷ Findall s u results list p f ∷ t → StandsAt xs s (element_count t)) → StandsAt xs s (element_count t)
+        → (from xs s ≡ EndOf s ∷ Findall s u results list p f ∷ t → IsFindallAt xs s (element_count t)) → IsFindallAt xs s (element_count t)
     go true k next = let tail : xs ≡ Findall s u results list p f ∷ t = cc in top xs tail i
     go false k next = next k
 stands (Credit k rs ∷ xs) s u results list p f t i e = stands xs s u results list p f t i.1 e
@@ -209,8 +210,8 @@ stands (Findall o v rs l a g ∷ xs) s u results list p f t i e =
     (findalls-from (λ q. q ≡ o → ⊥) xs s i.2) in
     inr ((λ k. inside.0 (sym k)), stands xs s u results list p f t i.3 e)
 
-pub gathered_stands : (xs : List Element) (s : Name) → IsSound xs → IsGathered xs s → StandsAt xs s (height xs s - 1)
-gathered_stands xs s i m =
+pub gathered_findall_at : (xs : List Element) (s : Name) → IsSound xs → IsGathered xs s → IsFindallAt xs s (height xs s - 1)
+gathered_findall_at xs s i m =
     let n : height xs s ≡ suc (element_count m.under) = ap element_count m.found in
     let same_height : element_count m.under ≡ height xs s - 1 = omega (arith, n) in
-    subst (StandsAt xs s) same_height (stands xs s m.scope m.results m.list m.name m.after m.under i m.found)
+    subst (IsFindallAt xs s) same_height (stands xs s m.scope m.results m.list m.name m.after m.under i m.found)

@@ -20,7 +20,7 @@ use Rattle.tree_model.specs.PendingLists.{way_of, scope_on, named_continuation, 
 use Rattle.tree_model.specs.SoundTrees.{IsSoundTree}
 use Rattle.tree_model.specs.CaughtTrees.{IsUnspent, IsCaughtTree}
 use Rattle.tree_model.specs.Elements.{Name, Element, Credit, Plain, EndOf, Catch, Findall, End}
-use Rattle.interleaving.specs.Machine.{Asks, Only, gives, free_steps, run, seen, placed}
+use Rattle.interleaving.specs.Machine.{AsksWorld, Only, gives, free_steps, run, seen, placed}
 use Rattle.interleaving.specs.Scopes.{Shared, ElementReplacement, act, item_act, goal_act, world_replied, scoped}
 use Rattle.interleaving.specs.Quiet.{IsQuiet, inferences, records}
 use Rattle.interleaving.specs.Follows.{lead}
@@ -52,7 +52,7 @@ halts_tree clauses (Controls form) f es w after k h = absurd h
 record HaltsNamed (clauses : List Clause) (o : Outcome) (p h : Name) (f : Continuation Name) (w : Shared) (after : World) (k : ℕ) : Type
     0 where
   pub gate : Shared → Shared × ElementReplacement
-  pub asks : goal_act clauses o p h f ≡ Asks gate
+  pub asks : goal_act clauses o p h f ≡ AsksWorld gate
   pub place : (gate w).1 ≡ Only []
   pub world : (gate w).0 ≡ record w { world = after; halted = Some k }
 
@@ -76,8 +76,9 @@ halts_named clauses (AskWorld goal) p h f w after k z = record {
 halts_named clauses (Controls form) p h f w after k z = absurd z
 
 -- a gate that leaves nothing at all
-front_only : (clauses : List Clause) (front zs : List Element) (sp : ℕ) (p : Name) (f : Continuation Name) (g : Shared → Shared × ElementReplacement)
-    (w : Shared) (n : ℕ) → IsQuiet front → sp ≡ 0 → act clauses (bare clauses p f) ≡ Asks g → (g w).1 ≡ Only []
+front_only : (clauses : List Clause) (front zs : List Element) (sp : ℕ) (p : Name) (f : Continuation Name)
+    (g : Shared → Shared × ElementReplacement)
+    (w : Shared) (n : ℕ) → IsQuiet front → sp ≡ 0 → act clauses (bare clauses p f) ≡ AsksWorld g → (g w).1 ≡ Only []
     → run (scoped clauses) (inferences front + suc n) w (free_steps (scoped clauses) [] (front ++ (Credit sp [] ∷ (Plain p f ∷ zs))))
     ≡ ((g w).0, [])
 front_only clauses front zs sp p f g w n q unspent h e =
@@ -151,7 +152,7 @@ halted_moves t s f goal scope items after k e answers i q running first entry ba
     let h = halts_named clauses (outcome_of clauses goal f.next) p (scope_on way scope)
     (with_items rest (with_items (without_marks named.items) named)) w after k halts in
     let asks : act clauses (Plain p (with_items (without_marks named.items) named))
-    ≡ Asks h.gate = ap (λ is. item_act clauses is p (with_items (without_marks named.items) named)) ws ∙ h.asks in
+    ≡ AsksWorld h.gate = ap (λ is. item_act clauses is p (with_items (without_marks named.items) named)) ws ∙ h.asks in
     let nothing : tree_list new ≡ [] = refl in
     -- the list of the halted tree
     let halted_list : pending_list new.root ≡ front ++ (Credit (s.level.spent + 1) [] ∷ (element_on way s.entry ∷ back)) = list_round

@@ -15,17 +15,17 @@ use Rattle.interleaving.specs.Scopes.{first_shared, scoped}
 use Rattle.interleaving.specs.Readings.{opening_list, has_ended}
 use Rattle.interleaving.specs.Follows.{lead, Follows}
 use Rattle.interleaving.specs.HistoryInvariants.{shared_of, tree_list, IsSeenFrom, IsInStep, ListFollows, AnswerMoves, IsOwn, EventFollows}
-use Rattle.interleaving.specs.HistoryInvariants.{AnswersMove, KeepsCaught, IsAny}
+use Rattle.interleaving.specs.HistoryInvariants.{AnswersMove, PreservesCaught, IsAny}
 use Rattle.tree_model.specs.CaughtTrees.{IsCaughtTree}
 use Rattle.interleaving.proofs.LegalLemmas.{event_sound}
 use Rattle.interleaving.proofs.FieldLemmas.{event_job, event_budget}
 use Rattle.interleaving.proofs.LeadLemmas.{goes_on}
-use Rattle.interleaving.proofs.OpeningLemmas.{opening_stands}
+use Rattle.interleaving.proofs.OpeningLemmas.{opening_in_step}
 use Rattle.interleaving.proofs.GoingLemmas.{IsGoing, going, legal_parts, not_halted, same_shared, true_clock}
 use Rattle.tree_model.specs.GivenAnswers.{answers_in}
 use Rattle.tree_model.specs.AnswersTold.{answers_next, answers_told}
 use Rattle.interleaving.proofs.AnswerClosingLemmas.{IsOrdered}
-use Rattle.interleaving.proofs.AnswerTreeLemmas.{answers_kept}
+use Rattle.interleaving.proofs.AnswerTreeLemmas.{answers_preserved}
 use Rattle.interleaving.proofs.AnswerEventLemmas.{next_few}
 use Rattle.au_term.proofs.LogicLemmas.{and-right, and-left}
 
@@ -127,7 +127,7 @@ module _ (job : Job) (budget : ℕ) (below : budget ≤ greatest) where
           at_most false z = let low : n < lead (pending_list t.root) = grind arith in old n from_on (omega (arith, l))
               ∙ goes_on job.clauses (pending_list t.root) n (shared_of h.answers t) low
 
-  module _ (own : EventFollows IsOwn) (answers : AnswersMove) (kept : KeepsCaught IsAny) where
+  module _ (own : EventFollows IsOwn) (answers : AnswersMove) (kept : PreservesCaught IsAny) where
     step : (t : TreeState) (e : Event) → IsInStep job budget t → is_legal t e ≡ true → IsInStep job budget (after_event t e)
     step t e h l = pick e l
       where
@@ -154,7 +154,7 @@ module _ (job : Job) (budget : ℕ) (below : budget ≤ greatest) where
         simply : (e : Event) → IsOwn e → is_legal t e ≡ true → IsInStep job budget (after_event t e)
         simply e o l = own_step t (after_event t e) (event_job t e) (event_budget t e) (new e l) (kept t e tt h.sound h.caught l) h
             (going t (legal_parts t e l).0) (own t e o h.sound h.caught (new e l) (kept t e tt h.sound h.caught l) l)
-            (none_told e o (answers_kept t h.sound h.caught h.ordered (few (going t (legal_parts t e l).0)) e l))
+            (none_told e o (answers_preserved t h.sound h.caught h.ordered (few (going t (legal_parts t e l).0)) e l))
 
         pick : (e : Event) → is_legal t e ≡ true → IsInStep job budget (after_event t e)
         pick (Claim w a) l = simply (Claim w a) tt l
@@ -174,12 +174,12 @@ module _ (job : Job) (budget : ℕ) (below : budget ≤ greatest) where
             (event_budget t (Answer w a false)) (new (Answer w a false) l) (kept t (Answer w a false) tt h.sound h.caught l) h
             (going t (legal_parts t (Answer w a false) l).0) (answers_next t) (next_few t)
             (answers t w a h.answers h.sound h.caught (new (Answer w a false) l) (kept t (Answer w a false) tt h.sound h.caught l) l)
-            (answers_kept t h.sound h.caught h.ordered (few (going t (legal_parts t (Answer w a false) l).0)) (Answer w a false) l)
+            (answers_preserved t h.sound h.caught h.ordered (few (going t (legal_parts t (Answer w a false) l).0)) (Answer w a false) l)
 
     steps : (t : TreeState) (es : List Event) → IsInStep job budget t → are_legal t es ≡ true → IsInStep job budget (after_events t es)
     steps t [] h l = h
     steps t (e ∷ es) h l = steps (after_event t e) es (step t e h (and-left (is_legal t e) _ l)) (and-right (is_legal t e) _ l)
 
-    pub standing : (window : ℕ) (es : List Event) → IsLegalHistory job budget window es
+    pub history_in_step : (window : ℕ) (es : List Event) → IsLegalHistory job budget window es
         → IsInStep job budget (tree_after job budget window es)
-    standing window es l = steps (opening_tree job budget window) es (opening_stands job budget window) l
+    history_in_step window es l = steps (opening_tree job budget window) es (opening_in_step job budget window) l

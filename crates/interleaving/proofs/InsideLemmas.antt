@@ -181,18 +181,18 @@ module _ (clauses : List Clause) (inside : Name → Bool) where
   under_given r (Catch s u c q p f) b = b
   under_given r (End p o) b = b
 
-  pub kept_inside : (r : Record) → inside r.0 ≡ true → (z : Element) → IsUnder inside z → give r z ≡ z
-  kept_inside r i (Findall s u results list p f) b = go (same r.0 s) refl
+  pub preserved_inside : (r : Record) → inside r.0 ≡ true → (z : Element) → IsUnder inside z → give r z ≡ z
+  preserved_inside r i (Findall s u results list p f) b = go (same r.0 s) refl
     where
       go : (t : Bool) → same r.0 s ≡ t → cond t (findall_with_result r.1 s u results list p f) (Findall s u results list p f)
           ≡ Findall s u results list p f
       go true e = absurd (false≢true (sym b ∙ ap inside (sym (same-true r.0 s e)) ∙ i))
       go false e = refl
-  kept_inside r i (Credit j rs) b = refl
-  kept_inside r i (Plain p f) b = refl
-  kept_inside r i (EndOf s) b = refl
-  kept_inside r i (Catch s u c q p f) b = refl
-  kept_inside r i (End p o) b = refl
+  preserved_inside r i (Credit j rs) b = refl
+  preserved_inside r i (Plain p f) b = refl
+  preserved_inside r i (EndOf s) b = refl
+  preserved_inside r i (Catch s u c q p f) b = refl
+  preserved_inside r i (End p o) b = refl
 
   pub passed_credit : (q : Sought) (k : ℕ) (rs : List Record) → look q (Credit k rs) ≡ On q
   passed_credit (Scope h x) k rs = refl

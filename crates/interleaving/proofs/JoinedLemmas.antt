@@ -1,7 +1,7 @@
 -- Runs of segments, put together, and private runs.
 use Rattle.std.proofs.Common.{◌≡◌, ℕ, zero, suc, List, [], ◌∷◌, ◌++◌, map, Some, refl, sym, ap, ◌∙◌, subst}
 use Rattle.au_model.specs.Terms.Each.{Each}
-use Rattle.interleaving.specs.Machine.{Machine, Act, Vanishes, Wakes, Takes, Asks, Look, On, Here, Replacement, Put, Only, Seek, gives}
+use Rattle.interleaving.specs.Machine.{Machine, Act, Drops, Becomes, Infers, AsksWorld, Look, On, Here, Replacement, Put, Only, Seek, gives}
 use Rattle.interleaving.specs.Machine.{looked}
 use Rattle.interleaving.specs.Machine.{search_for, placed, freed, free_steps, acted, step, run, is_finished}
 use Rattle.interleaving.specs.Segments.{IsActive, found_in, search_in, placed_in}
@@ -84,30 +84,30 @@ module _ {W X Q R : Type 0} (m : Machine W X Q R) (g : Ground m) where
   )
 
   -- an element that goes, and one that wakes
-  pub runs_gone : (x : X) (qs : List R) → m.act x ≡ Vanishes qs → Runs m g zero qs (x ∷ []) []
+  pub runs_gone : (x : X) (qs : List R) → m.act x ≡ Drops qs → Runs m g zero qs (x ∷ []) []
   runs_gone x qs e = λ zs z. ap (λ a. freed m a x (λ new. free_steps m new zs) (map (gives m []) zs)) e ∙ settle-map m qs zs
 
   pub resting : (x : X) → IsActive (m.act x) → (zs : List X) → free_steps m [] (x ∷ zs) ≡ x ∷ zs
   resting x h zs = go (m.act x) refl h ∙ ap (λ l. x ∷ l) (map-none m zs)
     where
       go : (a : Act W X Q R) → m.act x ≡ a → IsActive a → free_steps m [] (x ∷ zs) ≡ x ∷ map (gives m []) zs
-      go (Vanishes rs) e h = absurd h
-      go (Wakes y) e h = absurd h
-      go (Takes p) e h = ap (λ a. freed m a x (λ new. free_steps m new zs) (map (gives m []) zs)) e
-      go (Asks p) e h = ap (λ a. freed m a x (λ new. free_steps m new zs) (map (gives m []) zs)) e
+      go (Drops rs) e h = absurd h
+      go (Becomes y) e h = absurd h
+      go (Infers p) e h = ap (λ a. freed m a x (λ new. free_steps m new zs) (map (gives m []) zs)) e
+      go (AsksWorld p) e h = ap (λ a. freed m a x (λ new. free_steps m new zs) (map (gives m []) zs)) e
 
-  pub takes_active : (x : X) (p : Replacement X Q) → m.act x ≡ Takes p → IsActive (m.act x)
-  takes_active x p e = subst IsActive (sym e) tt
+  pub infers_active : (x : X) (p : Replacement X Q) → m.act x ≡ Infers p → IsActive (m.act x)
+  infers_active x p e = subst IsActive (sym e) tt
 
-  pub runs_woken : (x y : X) → m.act x ≡ Wakes y → IsActive (m.act y) → Runs m g zero [] (x ∷ []) (y ∷ [])
+  pub runs_woken : (x y : X) → m.act x ≡ Becomes y → IsActive (m.act y) → Runs m g zero [] (x ∷ []) (y ∷ [])
   runs_woken x y e f = λ zs z. ap (λ a. freed m a x (λ new. free_steps m new zs) (map (gives m []) zs)) e
       ∙ sym (resting y f (map (gives m []) zs))
 
   -- one inference that stays within a segment
-  pub runs_step : (x : X) (mid b : List X) (p : Replacement X Q) → m.act x ≡ Takes p
+  pub runs_step : (x : X) (mid b : List X) (p : Replacement X Q) → m.act x ≡ Infers p
       → ((zs : List X) → Each g.Under zs → placed m p (mid ++ zs) ≡ b ++ zs) → Runs m g (suc zero) [] (x ∷ mid) b
   runs_step x mid b p e h =
-      let up = resting x (takes_active x p e) in (
+      let up = resting x (infers_active x p e) in (
         b,
         [],
         [],

@@ -31,7 +31,7 @@ use Rattle.interleaving.proofs.BesideLemmas.{OutNode}
 use Rattle.interleaving.proofs.SideLemmas.{out_other, is_old, front_blind, blind_front, blind_back, under_low}
 use Rattle.interleaving.proofs.LowEntryLemmas.{carried_low}
 use Rattle.interleaving.proofs.LowListLemmas.{findalls_low}
-use Rattle.interleaving.proofs.BrancheLemmas.{below_from, pair_older}
+use Rattle.interleaving.proofs.BranchLemmas.{below_from, pair_older}
 use Rattle.interleaving.proofs.RenamedLemmas.{lead_items, Other, lead_sound, lead_erased}
 use Rattle.interleaving.proofs.LeadNameLemmas.{others_new, blind_findalls}
 use Rattle.interleaving.proofs.TestLemmas.{true_false}

@@ -16,7 +16,7 @@ mod BallSearchLemmas
 mod BaredLemmas
 mod BesideLemmas
 mod BlindLemmas
-mod BrancheLemmas
+mod BranchLemmas
 mod CarriedLemmas
 mod CaughtBallLemmas
 mod CaughtClosingLemmas

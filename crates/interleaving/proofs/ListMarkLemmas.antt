@@ -18,7 +18,7 @@ use Rattle.interleaving.specs.Sound.{IsGuarded, IsGathered, IsMarkSound}
 use Rattle.interleaving.proofs.ContextLemmas.{IsLevel, IsAround, put_profiles, level_profiles}
 use Rattle.interleaving.proofs.WayLemmas.{cond-true, cond-false}
 use Rattle.interleaving.proofs.ListEndLemmas.{levels_down, from_back}
-use Rattle.interleaving.proofs.ListScopeLemmas.{IsDistinct, sleeps_on, side_at, Scoped, distinct-down, on-down, Reads, reads_then, named}
+use Rattle.interleaving.proofs.ListScopeLemmas.{IsDistinct, dormant_on, side_at, Scoped, distinct-down, on-down, Reads, reads_then, named}
 use Rattle.interleaving.proofs.TestLemmas.{false_true}
 use Rattle.au_term.proofs.LogicLemmas.{and-right, and-left}
 
@@ -30,7 +30,7 @@ pub record AtLevel (levels : List Level) (s : ℕ) : Type 0 where
   pub number : level.number ≡ s
   pub scope : scope_on (way_of levels) s ≡ length level.left ∷ level.number ∷ []
   pub keeps : IsLevel above level IsOpen
-  pub sleeps : sleeps_on levels s ≡ catch_right level.right
+  pub sleeps : dormant_on levels s ≡ catch_right level.right
 
 pub at_level : (levels : List Level) (s : ℕ) → IsAround levels IsOpen → is_on (way_of levels) s ≡ true → AtLevel levels s
 at_level [] s h o = false_true o
@@ -91,16 +91,16 @@ no_left (a ∷ left) h = let no_way : ⊥ = more (length left) h in absurd no_wa
     more n k = grind arith
 
 -- a recovery that sleeps
-pub record SleepsRight (v : Level) (e : Entry) : Type 0 where
+pub record DormantRight (v : Level) (e : Entry) : Type 0 where
   pub spent : ℕ
   pub others : Alternatives
   pub right : v.right ≡ alternative spent (Pending Dormant e) others
 
-pub catch_sleeps : (v : Level) → catch_right v.right ≡ true → (c : Term) × (r : Term) × (f : Continuation ℕ) × SleepsRight v
+pub catch_dormant : (v : Level) → catch_right v.right ≡ true → (c : Term) × (r : Term) × (f : Continuation ℕ) × DormantRight v
     (CatchEntry c r f)
-catch_sleeps v h = go v.right refl h
+catch_dormant v h = go v.right refl h
   where
-    go : (a : Alternatives) → v.right ≡ a → catch_right a ≡ true → (c : Term) × (r : Term) × (f : Continuation ℕ) × SleepsRight v
+    go : (a : Alternatives) → v.right ≡ a → catch_right a ≡ true → (c : Term) × (r : Term) × (f : Continuation ℕ) × DormantRight v
         (CatchEntry c r f)
     go none e k = false_true k
     go (alternative sp (Inner node) others) e k = false_true k
@@ -113,14 +113,14 @@ catch_sleeps v h = go v.right refl h
     go (alternative sp (Pending Dormant (FindallEntry results l f)) others) e k = false_true k
     go (alternative sp (Pending Dormant (EndEntry b)) others) e k = false_true k
 
-pub findall_sleeps : (v : Level) (up : List Level) → IsLevel up v IsOpen → v.left ≡ [] → v.kind ≡ FindallNode
-    → (rs : List Term) × (l : Term) × (f : Continuation ℕ) × SleepsRight v (FindallEntry rs l f)
-findall_sleeps v up i e k = go v.right refl
+pub findall_dormant : (v : Level) (up : List Level) → IsLevel up v IsOpen → v.left ≡ [] → v.kind ≡ FindallNode
+    → (rs : List Term) × (l : Term) × (f : Continuation ℕ) × DormantRight v (FindallEntry rs l f)
+findall_dormant v up i e k = go v.right refl
     (subst (λ l. are_pair FindallNode (put_profiles l (IsOpen ∷ profiles v.right)) ≡ true) e
     (subst (λ kind. is_shape kind (level_profiles v IsOpen) ≡ true) k i.shape))
   where
     go : (a : Alternatives) → v.right ≡ a → are_pair FindallNode (IsOpen ∷ profiles a) ≡ true
-        → (rs : List Term) × (l : Term) × (f : Continuation ℕ) × SleepsRight v (FindallEntry rs l f)
+        → (rs : List Term) × (l : Term) × (f : Continuation ℕ) × DormantRight v (FindallEntry rs l f)
     go none e k = false_true k
     go (alternative sp status (alternative sq other others)) e k = false_true k
     go (alternative sp (Inner node) none) e k = false_true k
@@ -134,7 +134,7 @@ findall_sleeps v up i e k = go v.right refl
     go (alternative sp (Pending Dormant (EndEntry b)) none) e k = false_true k
 
 -- what is after the end of a goal side's scope
-pub after_side : (v : Level) (up : List Level) (e : Entry) → v.left ≡ [] → (h : SleepsRight v e) → back_of (v ∷ up)
+pub after_side : (v : Level) (up : List Level) (e : Entry) → v.left ≡ [] → (h : DormantRight v e) → back_of (v ∷ up)
     ≡ EndOf (0 ∷ v.number ∷ []) ∷ (element_at v.number 1 (record { node = v.number; index = 1; kind = v.kind } ∷ way_of up) e
     ∷ (EndOf (1 ∷ v.number ∷ []) ∷ (list_among (way_of up) v.number v.kind 2 h.others ++ back_of up)))
 after_side v up e l h =
@@ -143,13 +143,13 @@ after_side v up e l h =
 
 -- a mark of a part of the branch
 pub guarded_at : (base levels : List Level) (s : ℕ) → from (back_of base) (scope_on (way_of base) s) ≡ back_of (levels_down levels s)
-    → scope_on (way_of base) s ≡ scope_on (way_of levels) s → AtLevel levels s → side_at CatchNode levels s ≡ true → sleeps_on levels s
+    → scope_on (way_of base) s ≡ scope_on (way_of levels) s → AtLevel levels s → side_at CatchNode levels s ≡ true → dormant_on levels s
     ≡ true → IsGuarded (back_of base) (scope_on (way_of base) s)
 guarded_at base levels s found same a t z =
     let v = a.level in
     let side = through_at CatchNode levels s v a.above a.down t in
     let left : v.left ≡ [] = no_left v.left (and-left (length v.left == 0) _ side) in
-    let entry = catch_sleeps v (sym a.sleeps ∙ z) in
+    let entry = catch_dormant v (sym a.sleeps ∙ z) in
     let scope : scope_on (way_of base) s ≡ 0 ∷ v.number ∷ [] = same ∙ (a.scope ∙ ap (λ l. length l ∷ v.number ∷ []) left) in
     let all = found ∙ (ap back_of a.down ∙ after_side v a.above (CatchEntry entry.0 entry.1 entry.2) left entry.3) in
     record {
@@ -175,7 +175,7 @@ same-findall QueryNode h = false_true h
 pub gathered_side : (base : List Level) (h : Name) (v : Level) (up : List Level) → from (back_of base) h ≡ back_of (v ∷ up) → h
     ≡ length v.left ∷ v.number ∷ [] → IsLevel up v IsOpen → v.left ≡ [] → v.kind ≡ FindallNode → IsGathered (back_of base) h
 gathered_side base h v up found same keeps left kind =
-    let entry = findall_sleeps v up keeps left kind in
+    let entry = findall_dormant v up keeps left kind in
     let scope : h ≡ 0 ∷ v.number ∷ [] = same ∙ ap (λ l. length l ∷ v.number ∷ []) left in
     let all = found ∙ after_side v up (FindallEntry entry.0 entry.1 entry.2) left entry.3 in
     record {
@@ -213,7 +213,7 @@ module _ (base : List Level) (once : IsDistinct base) where
   pub marks_sound : (levels : List Level) (items : List (Item ℕ)) → IsDistinct levels → IsAround levels IsOpen
       → ((r : ℕ) → is_on (way_of levels) r ≡ true → Reads base levels r)
       → ((r : ℕ) → is_on (way_of levels) r ≡ true → is_on (way_of base) r ≡ true) → Scoped levels items
-      → MarksCaught (sleeps_on base) items → Each (IsMarkSound (back_of base)) (named base items)
+      → MarksCaught (dormant_on base) items → Each (IsMarkSound (back_of base)) (named base items)
   marks_sound levels [] d a f g h m = tt
   marks_sound levels (RemovalItem number ∷ items) d a f g h m = (tt, marks_sound levels items d a f g h m)
   marks_sound levels (GoalItem t s ∷ items) d a f g h m = (

@@ -23,7 +23,7 @@ use Rattle.interleaving.proofs.WayLemmas.{cond-true, cond-false}
 use Rattle.interleaving.proofs.AppendLemmas.{append-assoc, append-nil}
 use Rattle.interleaving.proofs.ClockLemmas.{no_root}
 use Rattle.interleaving.proofs.ListEndLemmas.{levels_down, from_back}
-use Rattle.interleaving.proofs.ListScopeLemmas.{IsDistinct, sleeps_on, apart_above}
+use Rattle.interleaving.proofs.ListScopeLemmas.{IsDistinct, dormant_on, apart_above}
 use Rattle.interleaving.proofs.ListMarkLemmas.{AtLevel, no_left, gathered_side}
 use Rattle.interleaving.proofs.SoundListLemmas.{element_sound}
 use Rattle.interleaving.proofs.TestLemmas.{false_true, number_same}
@@ -163,12 +163,12 @@ good_distinct : (levels : List Level) (status : Status) → IsGood (plug levels 
 good_distinct levels status g m = let z = g.distinct m in let c = count_plug m levels status in omega (arith, z, c)
 
 mutual
-  node_ok : (up : List Level) (node : Node) → IsGood (plug up (Inner node)) → IsCaughtNode (sleeps_on up) (under_of up) node
+  node_ok : (up : List Level) (node : Node) → IsGood (plug up (Inner node)) → IsCaughtNode (dormant_on up) (under_of up) node
       → IsSound (back_of up) → IsSound (list_in (way_of up) node ++ back_of up)
   node_ok up (Numbered n kind alternatives) g c z = among_ok up n kind [] alternatives g c z
 
   among_ok : (up : List Level) (n : ℕ) (kind : Kind) (left : List (ℕ × Status)) (others : Alternatives)
-      → IsGood (plug up (Inner (Numbered n kind (put_left left others)))) → AreCaught (sleeps_on up) (under_of up) n kind (length left)
+      → IsGood (plug up (Inner (Numbered n kind (put_left left others)))) → AreCaught (dormant_on up) (under_of up) n kind (length left)
       others → IsSound (back_of up) → IsSound (list_among (way_of up) n kind (length left) others ++ back_of up)
   among_ok up n kind left none g c z = z
   among_ok up n kind left (alternative spent status others) g c z =
@@ -180,7 +180,7 @@ mutual
       subst IsSound (sym whole) (below_ok v up status g c.0 rest)
 
   below_ok : (v : Level) (up : List Level) (status : Status) → IsGood (plug (v ∷ up) status)
-      → IsCaught (sleeps_on (v ∷ up)) (is_side v.kind (length v.left)) (under_of up) status → IsSound (back_of (v ∷ up))
+      → IsCaught (dormant_on (v ∷ up)) (is_side v.kind (length v.left)) (under_of up) status → IsSound (back_of (v ∷ up))
       → IsSound (list_below (way_of (v ∷ up)) v.spent status ++ back_of (v ∷ up))
   below_ok v up (Inner node) g c z = (tt, node_ok (v ∷ up) node g c z)
   below_ok v up (Closed c) g k z =

@@ -15,7 +15,7 @@ use Rattle.interleaving.proofs.RoundtripLemmas.{IsPath, IsPart, part_from, part_
 use Rattle.interleaving.proofs.CollapseLemmas.{path-from, path-above}
 use Rattle.interleaving.proofs.NamedFloorLemmas.{below_named, floor_named}
 use Rattle.interleaving.proofs.PublishedBareLemmas.{right_of}
-use Rattle.interleaving.proofs.BrancheLemmas.{upto, scope_pair, below_after, from_from, above_from, above_in_from, pair_older}
+use Rattle.interleaving.proofs.BranchLemmas.{upto, scope_pair, below_after, from_from, above_from, above_in_from, pair_older}
 use Rattle.interleaving.proofs.LowSoundLemmas.{IsCatchOf, IsFindallOf, caught, gathered, guards_low}
 use Rattle.interleaving.proofs.TestLemmas.{true_false}
 

@@ -13,7 +13,7 @@ use Rattle.tree_model.specs.Levels.{Level}
 use Rattle.tree_model.specs.Floors.{renamed_item}
 use Rattle.tree_model.specs.PendingLists.{Step, Way, way_of, scope_on, named_continuation, element_at, list_among, back_of}
 use Rattle.tree_model.specs.Ways.{is_on, AreScoped, IsOnWay}
-use Rattle.tree_model.specs.SoundTrees.{guards, IsOpen, Sleeps, profiles, is_shape, AreSound}
+use Rattle.tree_model.specs.SoundTrees.{guards, IsOpen, IsDormant, profiles, is_shape, AreSound}
 use Rattle.interleaving.proofs.WayLemmas.{cond-true, cond-same, other_number}
 use Rattle.interleaving.proofs.RoundtripLemmas.{IsPath}
 use Rattle.interleaving.proofs.NamingLemmas.{from_own}
@@ -23,11 +23,11 @@ use Rattle.interleaving.proofs.ContextLemmas.{put_profiles, IsAround}
 use Rattle.interleaving.proofs.ClosingSoundLemmas.{IsFree, free-above}
 use Rattle.interleaving.proofs.GrowingLemmas.{around_path}
 use Rattle.interleaving.proofs.ShapeLemmas.{plain_awake}
-use Rattle.interleaving.proofs.BallStackLemmas.{sleeps_first}
+use Rattle.interleaving.proofs.BallStackLemmas.{dormant_first}
 use Rattle.interleaving.proofs.NamedFloorLemmas.{right_named, below_named, from-beside, scope-above}
 use Rattle.interleaving.proofs.PublishedBareLemmas.{own_plain}
 use Rattle.interleaving.proofs.SkippedLemmas.{last_number, Asleep, Awake, sleeping}
-use Rattle.interleaving.proofs.BrancheLemmas.{upto, below_from, back_from, pair_older}
+use Rattle.interleaving.proofs.BranchLemmas.{upto, below_from, back_from, pair_older}
 use Rattle.interleaving.proofs.LowEntryLemmas.{carried_low, marks_low}
 use Rattle.interleaving.proofs.TestLemmas.{true_false, number_same}
 
@@ -103,13 +103,13 @@ module _ (next : ℕ) (up : List Level) (f : IsFree next up) (a : IsAround up Is
   under : IsRightUnder (EndOf (i ∷ n ∷ []) ∷ below_named up) (i ∷ n ∷ [])
   under = ap element_count (from_own (i ∷ n ∷ []) (below_named up))
 
-  pub sleeper_sound : (e : Entry) → (guards e ≡ ChoiceNode → ⊥) → IsOnWay (record { node = n; index = i; kind = kind } ∷ way_of up) e
+  pub dormant_sound : (e : Entry) → (guards e ≡ ChoiceNode → ⊥) → IsOnWay (record { node = n; index = i; kind = kind } ∷ way_of up) e
       → IsSound (element_at n i (record { node = n; index = i; kind = kind } ∷ way_of up) e ∷ EndOf (i ∷ n ∷ []) ∷ back_of up) →
       IsSound (element_at n i (way_of up) e ∷ EndOf (i ∷ n ∷ []) ∷ below_named up)
-  sleeper_sound (PlainEntry g) k h s = absurd (k refl)
-  sleeper_sound (EndEntry b) k h s = low
-  sleeper_sound (CatchEntry c r g) k h s = (guard_sound g h.scoped s.0.marks, under, low)
-  sleeper_sound (FindallEntry results l g) k h s = (
+  dormant_sound (PlainEntry g) k h s = absurd (k refl)
+  dormant_sound (EndEntry b) k h s = low
+  dormant_sound (CatchEntry c r g) k h s = (guard_sound g h.scoped s.0.marks, under, low)
+  dormant_sound (FindallEntry results l g) k h s = (
     guard_sound g h.scoped s.0.marks,
     under,
     findalls_low (λ e. e ≡ 0 ∷ n ∷ [] → ⊥) up
@@ -118,10 +118,10 @@ module _ (next : ℕ) (up : List Level) (f : IsFree next up) (a : IsAround up Is
   )
 
 -- no plain entry sleeps
-not_plain : (kind : Kind) (left : List (ℕ × Status)) (e : Entry) → is_shape kind (put_profiles left (IsOpen ∷ Sleeps (guards e) ∷ []))
+not_plain : (kind : Kind) (left : List (ℕ × Status)) (e : Entry) → is_shape kind (put_profiles left (IsOpen ∷ IsDormant (guards e) ∷ []))
     ≡ true → guards e ≡ ChoiceNode → ⊥
-not_plain kind [] e h k = plain_awake kind [] (ap (λ j. is_shape kind (IsOpen ∷ Sleeps j ∷ [])) (sym k) ∙ h)
-not_plain kind (a ∷ left) e h k = absurd (omega (arith, sleeps_first kind (a ∷ left) (guards e) [] h))
+not_plain kind [] e h k = plain_awake kind [] (ap (λ j. is_shape kind (IsOpen ∷ IsDormant j ∷ [])) (sym k) ∙ h)
+not_plain kind (a ∷ left) e h k = absurd (omega (arith, dormant_first kind (a ∷ left) (guards e) [] h))
 
 pub low_list : (next : ℕ) (levels : List Level) → IsFree next levels → IsAround levels IsOpen → IsSound (back_of levels)
     → IsSound (below_named levels)
@@ -138,7 +138,7 @@ low_list next (v ∷ up) f a s = go (sleeping v.number (suc (length v.left)) (wa
         let right = subst (λ r. AreSound (way_of up) v.number v.kind (suc (length v.left)) r) z.same a.0.right in
         let whole = subst (λ r. IsSound (list_among (way_of up) v.number v.kind (suc (length v.left)) r ++ back_of up)) z.same s in
         subst (λ r. IsSound (right_named v.number (suc (length v.left)) (way_of up) r ++ below_named up)) (sym z.same)
-        (sleeper_sound next up (free-above next v up f) a.1 v.number (suc (length v.left)) v.kind a.0.new low z.entry
+        (dormant_sound next up (free-above next v up f) a.1 v.number (suc (length v.left)) v.kind a.0.new low z.entry
         (not_plain v.kind v.left z.entry shape) right.0.0 whole)
 
 -- an alternative's entry

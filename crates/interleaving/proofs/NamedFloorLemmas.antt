@@ -5,7 +5,7 @@ use Rattle.std.proofs.Common.{arith}
 use Rattle.run_model.specs.Machine.Items.{Item, GoalItem, CatchMark, CollectMark, RemovalItem, Continuation}
 use Rattle.run_model.specs.Machine.Entries.{Entry, PlainEntry, CatchEntry, FindallEntry, EndEntry}
 use Rattle.tree_model.specs.Elements.{Name, Element, EndOf, End}
-use Rattle.interleaving.specs.HeightMachine.{HeightEntry, held_entries}
+use Rattle.interleaving.specs.HeightMachine.{HeightEntry, height_entries}
 use Rattle.interleaving.specs.Erased.{from, element_count, height, with_height, erased}
 use Rattle.interleaving.specs.OwnRuns.{IsFloor}
 use Rattle.tree_model.specs.Levels.{Level}
@@ -20,15 +20,15 @@ use Rattle.interleaving.proofs.TestLemmas.{number_same}
 
 -- what sleeps to the right of an alternative, and its end; in its place, where nothing sleeps, an end of a query that
 -- takes no ball
-abbrev pub held_named : ℕ → ℕ → Way → Hold → Entry → List Element
-held_named n i way Dormant e = element_at n i way e ∷ EndOf (i ∷ n ∷ []) ∷ []
-held_named n i way Ready e = End [] None ∷ []
-held_named n i way (TakenBy w) e = End [] None ∷ []
-held_named n i way (Waiting g) e = End [] None ∷ []
+abbrev pub hold_named : ℕ → ℕ → Way → Hold → Entry → List Element
+hold_named n i way Dormant e = element_at n i way e ∷ EndOf (i ∷ n ∷ []) ∷ []
+hold_named n i way Ready e = End [] None ∷ []
+hold_named n i way (TakenBy w) e = End [] None ∷ []
+hold_named n i way (Waiting g) e = End [] None ∷ []
 
 abbrev pub right_named : ℕ → ℕ → Way → Alternatives → List Element
 right_named n i way none = End [] None ∷ []
-right_named n i way (alternative spent (Pending hold e) others) = held_named n i way hold e
+right_named n i way (alternative spent (Pending hold e) others) = hold_named n i way hold e
 right_named n i way (alternative spent (Inner node) others) = End [] None ∷ []
 right_named n i way (alternative spent (Closed c) others) = End [] None ∷ []
 
@@ -45,7 +45,8 @@ floor_named [] = []
 floor_named (v ∷ up) = right_named v.number (suc (length v.left)) (way_of up) v.right ++ below_named up
 
 -- an element's count, and what it ends: nothing
-pub count-element : (n i : ℕ) (way : Way) (e : Entry) (xs : List Element) → element_count (element_at n i way e ∷ xs) ≡ suc (element_count xs)
+pub count-element : (n i : ℕ) (way : Way) (e : Entry) (xs : List Element) → element_count (element_at n i way e ∷ xs)
+    ≡ suc (element_count xs)
 count-element n i way (PlainEntry f) xs = refl
 count-element n i way (CatchEntry c r f) xs = refl
 count-element n i way (FindallEntry results l f) xs = refl
@@ -196,7 +197,7 @@ right_erased n i levels (alternative spent (Pending Dormant e) others) p =
     entry_low n i (way_of levels) e (EndOf (i ∷ n ∷ []) ∷ below_named levels) (height_of levels)
     (λ s. ap element_count (from-beside (way_of levels) s i n (below_named levels) p) ∙ low_height levels s)
 
-pub below_erased : (levels : List Level) → IsPath (way_of levels) → erased (below_named levels) ≡ held_entries (floor_of levels)
+pub below_erased : (levels : List Level) → IsPath (way_of levels) → erased (below_named levels) ≡ height_entries (floor_of levels)
 below_erased [] p = refl
 below_erased (v ∷ up) p = right_erased v.number (suc (length v.left)) up v.right p.0
     ∙ ap (λ l. HeightEntry (with_heights up (right_entry v.right)) ∷ l) (below_erased up p.1)

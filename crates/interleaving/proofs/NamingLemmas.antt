@@ -9,7 +9,7 @@ use Rattle.run_model.specs.Machine.Items.{Item, GoalItem, CatchMark, CollectMark
 use Rattle.run_model.specs.Machine.Items.{resolve_continuation, goals_at, before}
 use Rattle.run_model.specs.Machine.Entries.{PlainEntry, CatchEntry, FindallEntry, EndEntry}
 use Rattle.tree_model.specs.Elements.{Name, same, Element, Credit, Plain, EndOf, Catch, Findall, End}
-use Rattle.interleaving.specs.HeightMachine.{HeightElement, HeightCredit, HeightEntry, held_lowest}
+use Rattle.interleaving.specs.HeightMachine.{HeightElement, HeightCredit, HeightEntry, height_lowest}
 use Rattle.interleaving.specs.Erased.{from, element_count, height, with_height, continuation_heights, record_height, erased}
 use Rattle.interleaving.specs.Sound.{names, IsMadeElsewhere, IsPresent, IsChain, AreCarried}
 use Rattle.interleaving.proofs.ApartLemmas.{same-true}
@@ -61,7 +61,8 @@ pub resolved-heights : (f : Name → ℕ) (s : Substitution) (k : Continuation N
     ≡ resolve_continuation s (continuation_heights f k)
 resolved-heights f s k = ap (λ l. record { items = l; named = map (resolve_named s) k.named; next = k.next }) (heights-resolved f s k.items)
 
-pub same-heights : (f g : Name → ℕ) (k : Continuation Name) → Each (λ s. f s ≡ g s) (names k.items) → continuation_heights f k ≡ continuation_heights g k
+pub same-heights : (f g : Name → ℕ) (k : Continuation Name) → Each (λ s. f s ≡ g s) (names k.items) → continuation_heights f k
+    ≡ continuation_heights g k
 same-heights f g k h = ap (λ l. record { items = l; named = k.named; next = k.next }) (heights-same f g k.items h)
 
 -- the heights of a body's goals and of what follows
@@ -71,7 +72,8 @@ body-heights f g h n gs items e k = heights-goals f h gs items ∙ ap (λ m. goa
     ∙ ap (λ r. goals_at n gs ++ r) (heights-same f g items k)
 
 pub goals-heights : (f g : Name → ℕ) (h : Name) (n : ℕ) (gs : List Term) (k : Continuation Name) → f h ≡ n
-    → Each (λ s. f s ≡ g s) (names k.items) → continuation_heights f (before (goals_at h gs) k) ≡ before (goals_at n gs) (continuation_heights g k)
+    → Each (λ s. f s ≡ g s) (names k.items) → continuation_heights f (before (goals_at h gs) k)
+    ≡ before (goals_at n gs) (continuation_heights g k)
 goals-heights f g h n gs k e a = ap (λ l. record { items = l; named = k.named; next = k.next }) (body-heights f g h n gs k.items e a)
 
 -- lists
@@ -97,29 +99,31 @@ height-le (Catch c u t r p f ∷ xs) s = omega (arith, height-le xs s)
 height-le (Findall c u results list p f ∷ xs) s = omega (arith, height-le xs s)
 height-le (End p b ∷ xs) s = omega (arith, height-le xs s)
 
-one_more : (x : HeightElement) (xs : List HeightElement) (h : ℕ) → h ≤ length xs → held_lowest h (x ∷ xs) ≡ held_lowest h xs
+one_more : (x : HeightElement) (xs : List HeightElement) (h : ℕ) → h ≤ length xs → height_lowest h (x ∷ xs) ≡ height_lowest h xs
 one_more x xs h k = let e : suc (length xs) - h ≡ suc (length xs - h) = omega (arith, k) in ap (λ n. drop n (x ∷ xs)) e
 
 low : (xs : List Element) (s : Name) → height xs s ≤ length (erased xs)
 low xs s = omega (arith, height-le xs s, length-erased xs)
 
 -- the lowest entries are those from the end of the scope on
-pub lowest-from : (xs : List Element) (s : Name) → held_lowest (height xs s) (erased xs) ≡ erased (from xs s)
+pub lowest-from : (xs : List Element) (s : Name) → height_lowest (height xs s) (erased xs) ≡ erased (from xs s)
 lowest-from [] s = refl
 lowest-from (EndOf e ∷ xs) s = go (same s e) (lowest-from xs s)
   where
-    all : held_lowest (element_count xs) (erased xs) ≡ erased xs
+    all : height_lowest (element_count xs) (erased xs) ≡ erased xs
     all = let e : length (erased xs) - element_count xs ≡ 0 = omega (arith, length-erased xs) in ap (λ n. drop n (erased xs)) e
 
-    go : (b : Bool) → held_lowest (height xs s) (erased xs) ≡ erased (from xs s)
-        → held_lowest (element_count (cond b (EndOf e ∷ xs) (from xs s))) (erased xs) ≡ erased (cond b (EndOf e ∷ xs) (from xs s))
+    go : (b : Bool) → height_lowest (height xs s) (erased xs) ≡ erased (from xs s)
+        → height_lowest (element_count (cond b (EndOf e ∷ xs) (from xs s))) (erased xs) ≡ erased (cond b (EndOf e ∷ xs) (from xs s))
     go true h = all
     go false h = h
 lowest-from (Credit k rs ∷ xs) s = one_more (HeightCredit k (map (record_height xs) rs)) (erased xs) (height xs s) (low xs s)
     ∙ lowest-from xs s
-lowest-from (Plain p f ∷ xs) s = one_more (HeightEntry (PlainEntry (continuation_heights (height xs) f))) (erased xs) (height xs s) (low xs s)
+lowest-from (Plain p f ∷ xs) s = one_more (HeightEntry (PlainEntry (continuation_heights (height xs) f))) (erased xs) (height xs s)
+    (low xs s)
     ∙ lowest-from xs s
-lowest-from (Catch c u t r p f ∷ xs) s = one_more (HeightEntry (CatchEntry t r (continuation_heights (height xs) f))) (erased xs) (height xs s)
+lowest-from (Catch c u t r p f ∷ xs) s = one_more (HeightEntry (CatchEntry t r (continuation_heights (height xs) f))) (erased xs)
+    (height xs s)
     (low xs s) ∙ lowest-from xs s
 lowest-from (Findall c u results list p f ∷ xs) s = one_more (HeightEntry (FindallEntry results list (continuation_heights (height xs) f)))
     (erased xs) (height xs s) (low xs s) ∙ lowest-from xs s
@@ -156,12 +160,14 @@ pub all-not_child : (p : Name) (i : ℕ) (hs : List Name) → Each (IsMadeElsewh
 all-not_child p i [] h = tt
 all-not_child p i (s ∷ hs) h = (not_child p s i h.0, all-not_child p i hs h.1)
 
-all-present : (p : Name) (ys xs : List Element) (hs : List Name) → Each (IsMadeBy p) ys → Each (IsMadeElsewhere p) hs → Each (IsPresent xs) hs
+all-present : (p : Name) (ys xs : List Element) (hs : List Name) → Each (IsMadeBy p) ys → Each (IsMadeElsewhere p) hs
+    → Each (IsPresent xs) hs
     → Each (IsPresent (ys ++ xs)) hs
 all-present p ys xs [] m n h = tt
 all-present p ys xs (s ∷ hs) m n h = ((h.0.0, from-made p s ys xs m n.0 ∙ h.0.1), all-present p ys xs hs m n.1 h.1)
 
-pub all-later : (p : Name) (ys xs : List Element) (k : Name) (hs : List Name) → Each (IsMadeBy p) ys → IsMadeElsewhere p k → Each (IsMadeElsewhere p) hs
+pub all-later : (p : Name) (ys xs : List Element) (k : Name) (hs : List Name) → Each (IsMadeBy p) ys → IsMadeElsewhere p k
+    → Each (IsMadeElsewhere p) hs
     → Each (λ s. from (from xs k) s ≡ from xs s) hs → Each (λ s. from (from (ys ++ xs) k) s ≡ from (ys ++ xs) s) hs
 all-later p ys xs k [] m nk n h = tt
 all-later p ys xs k (s ∷ hs) m nk n h =

@@ -8,10 +8,10 @@ use Rattle.run_model.proofs.NumberingLemmas.{query-numbered}
 use Rattle.tree_model.specs.Credits.{Credit, credit_of}
 use Rattle.tree_model.specs.Nodes.{Gate, CutGate, BallGate, WorldGate, FrozenGate, Hold, TakenBy, Ready, ChoiceNode, Numbered, Pending}
 use Rattle.tree_model.specs.Nodes.{Inner}
-use Rattle.tree_model.specs.Nodes.{standing, single}
+use Rattle.tree_model.specs.Nodes.{alternatives_of, single}
 use Rattle.tree_model.specs.Levels.{Place, plug, Spot, levels_of}
 use Rattle.tree_model.specs.Floors.{node_of, with_nodes}
-use Rattle.tree_model.specs.Gates.{landing_scope}
+use Rattle.tree_model.specs.Gates.{ball_scope}
 use Rattle.tree_model.specs.PrivateRuns.{taken_alone}
 use Rattle.tree_model.specs.Pruning.{pruned, tasks_pruned}
 use Rattle.tree_model.specs.FrontGates.{Taken, Continues, Answered, Raises, Halts, QueryEnds, taken_at_front}
@@ -26,9 +26,9 @@ use Rattle.tree_model.specs.Histories.{after_events, tree_after}
 use Rattle.tree_model.specs.NumberedTrees.{IsNumberedStatus, AreNumbered, IsNumberedTree}
 use Rattle.interleaving.proofs.OpenSpotLemmas.{IsOpenSpot, claimable_open, resumable_open, taken_at_open}
 use Rattle.interleaving.proofs.NumberedPlaceLemmas.{AreLevelsNumbered, numbered_out, numbered_in, spending_numbered, closes_numbered}
-use Rattle.interleaving.proofs.NumberedPlaceLemmas.{lands_numbered, pruned_numbered}
+use Rattle.interleaving.proofs.NumberedPlaceLemmas.{ball_closes_numbered, pruned_numbered}
 use Rattle.interleaving.proofs.NumberedRunLemmas.{IsTakenNumbered, renamed_numbered, floor_numbered, alone_numbered, private_numbered}
-use Rattle.interleaving.proofs.NumberedRunLemmas.{standing_numbered, nodes_numbered, placed_numbered, front_numbered}
+use Rattle.interleaving.proofs.NumberedRunLemmas.{alternatives_numbered, nodes_numbered, placed_numbered, front_numbered}
 
 -- a query's node
 opened_numbered : (n : ℕ) (q : Query) → IsNumberedStatus (Inner (opened_node n q))
@@ -45,11 +45,11 @@ module _ (s : Spot) (v : AreLevelsNumbered (levels_of s)) where
   left_numbered : (es : List Entry) (t : TreeState) → AreEntriesNumbered es → IsNumberedTree (left_at s es t)
   left_numbered [] t h = closed_numbered (credit_of 1) t
   left_numbered (e ∷ es) t h = numbered_in (spending 1 (levels_of s)) _ (spending_numbered 1 (levels_of s) v)
-      (standing_numbered Ready (map (with_nodes (node_of (levels_of s))) (e ∷ es)) (nodes_numbered (node_of (levels_of s)) (e ∷ es) h))
+      (alternatives_numbered Ready (map (with_nodes (node_of (levels_of s))) (e ∷ es)) (nodes_numbered (node_of (levels_of s)) (e ∷ es) h))
 
   falls_numbered : (es : List Entry) (t : TreeState) → IsNumberedTree t → AreEntriesNumbered es → IsNumberedTree (ball_falls s es t)
   falls_numbered [] t r h = r
-  falls_numbered (e ∷ es) t r h = lands_numbered t.next (landing_scope (levels_of s) (e ∷ es)) (levels_of s) (credit_of 1)
+  falls_numbered (e ∷ es) t r h = ball_closes_numbered t.next (ball_scope (levels_of s) (e ∷ es)) (levels_of s) (credit_of 1)
       (with_nodes (node_of (levels_of s)) e) v (renamed_numbered _ _ e h.0)
 
   cut_numbered : (scope : ℕ) (es : List Entry) (t : TreeState) → IsNumberedTree t → AreEntriesNumbered es
@@ -99,9 +99,9 @@ module _ (t : TreeState) (h : IsNumberedTree t) where
   somewhere (Some s) new f g = let p = at_place s (f s refl) in g s p.0 p.1
 
   -- held by another, or by nobody
-  held_numbered : (hold : Spot → Hold) (s : Spot) → AreLevelsNumbered (levels_of s) → IsEntryNumbered s.entry
+  hold_numbered : (hold : Spot → Hold) (s : Spot) → AreLevelsNumbered (levels_of s) → IsEntryNumbered s.entry
       → IsNumberedTree (with_status s (Pending (hold s) s.entry) t)
-  held_numbered hold s v k = numbered_in (levels_of s) (Pending (hold s) s.entry) v k
+  hold_numbered hold s v k = numbered_in (levels_of s) (Pending (hold s) s.entry) v k
 
   pruned_at : (s : Spot) → AreLevelsNumbered (levels_of s) → IsEntryNumbered s.entry
       → IsNumberedTree (gate_pruned s (gate_of t s) (or_none (taken_alone t.job.clauses (spot_stack s))) t)
@@ -121,9 +121,9 @@ module _ (t : TreeState) (h : IsNumberedTree t) where
 
   allowed_numbered : (e : Event) → IsNumberedTree (after_allowed t e)
   allowed_numbered (Claim w a) = somewhere (claimable t) (λ s. with_status s (Pending (TakenBy w) s.entry) t) (claimable_open t)
-      (held_numbered (λ s. TakenBy w))
+      (hold_numbered (λ s. TakenBy w))
   allowed_numbered (Resume w a) = somewhere (resumable t) (λ s. with_status s (Pending (TakenBy w) s.entry) t) (resumable_open t)
-      (held_numbered (λ s. TakenBy w))
+      (hold_numbered (λ s. TakenBy w))
   allowed_numbered (Nodes w a k sizes) = somewhere (taken_at w a t) (λ s. run_placed s k sizes (run_of t s k) t) (taken_at_open w a t)
       (placed_at_spot k sizes)
   allowed_numbered (Empty w a k) = somewhere (taken_at w a t) (λ s. closed_with s (credit_of k) t) (taken_at_open w a t)
@@ -134,7 +134,7 @@ module _ (t : TreeState) (h : IsNumberedTree t) where
   allowed_numbered (Lost w a) = h
   allowed_numbered (Suspend w a frozen) = somewhere (taken_at w a t)
       (λ s. with_status s (Pending (gate_or_frozen frozen (gate_of t s)) s.entry) t) (taken_at_open w a t)
-      (held_numbered (λ s. gate_or_frozen frozen (gate_of t s)))
+      (hold_numbered (λ s. gate_or_frozen frozen (gate_of t s)))
   allowed_numbered (Prune w a) = somewhere (taken_at w a t)
       (λ s. gate_pruned s (gate_of t s) (or_none (taken_alone t.job.clauses (spot_stack s))) t) (taken_at_open w a t) pruned_at
   allowed_numbered (Answer w a frozen) = somewhere (taken_at w a t)

@@ -10,7 +10,7 @@ use Rattle.tree_model.specs.Nodes.{single}
 use Rattle.tree_model.specs.Levels.{Level, put_left, level_node, plug}
 use Rattle.tree_model.specs.Closing.{Grown, dormant_right, guarded, with_right, with_results, findall_goes_on, all_closed, folds, wakes}
 use Rattle.tree_model.specs.Closing.{goal_side_closes, closes}
-use Rattle.tree_model.specs.Pruning.{emptied, pruned, left_after, lands}
+use Rattle.tree_model.specs.Pruning.{emptied, pruned, left_after, ball_closes}
 use Rattle.tree_model.specs.Effects.{spending}
 use Rattle.tree_model.specs.NumberedTrees.{IsNumberedStatus, AreNumbered}
 
@@ -107,13 +107,13 @@ closes_numbered next (v ∷ up) c h = pick (guarded v) refl (λ d. closes_number
         (goes_on_numbered v.number _ (results_numbered c.records (FindallEntry results l x) sleeper))
 
 -- where a ball lands
-pub lands_numbered : (next scope : ℕ) (levels : List Level) (c : Credit) (e : Entry) → AreLevelsNumbered levels → IsEntryNumbered e
-    → IsNumberedStatus (lands next scope levels c e).root
-lands_numbered next scope [] c e h k = tt
-lands_numbered next scope (v ∷ up) c e h k = go (v.number == scope) (lands_numbered next scope up (left_after v c) e h.2 k)
+pub ball_closes_numbered : (next scope : ℕ) (levels : List Level) (c : Credit) (e : Entry) → AreLevelsNumbered levels → IsEntryNumbered e
+    → IsNumberedStatus (ball_closes next scope levels c e).root
+ball_closes_numbered next scope [] c e h k = tt
+ball_closes_numbered next scope (v ∷ up) c e h k = go (v.number == scope) (ball_closes_numbered next scope up (left_after v c) e h.2 k)
   where
-    go : (b : Bool) → IsNumberedStatus (lands next scope up (left_after v c) e).root
-        → IsNumberedStatus (cond b (wakes next v up (left_after v c) e) (lands next scope up (left_after v c) e)).root
+    go : (b : Bool) → IsNumberedStatus (ball_closes next scope up (left_after v c) e).root
+        → IsNumberedStatus (cond b (wakes next v up (left_after v c) e) (ball_closes next scope up (left_after v c) e)).root
     go true f = wakes_numbered next v up (left_after v c) e h k
     go false f = f
 

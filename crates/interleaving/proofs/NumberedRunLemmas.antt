@@ -17,7 +17,7 @@ use Rattle.run_model.proofs.OutcomeBoundLemmas.{outcome-below, world-below}
 use Rattle.run_model.proofs.NumberingLemmas.{solutions-numbered, landing-numbered, reply-numbered, form-numbered, findall-numbered}
 use Rattle.run_model.proofs.NumberingLemmas.{collected-numbered, marks-numbered}
 use Rattle.tree_model.specs.Nodes.{Gate, Hold, Ready, TakenBy, Waiting, Dormant, Alternatives, none, alternative, Pending, Inner, Closed}
-use Rattle.tree_model.specs.Nodes.{standing}
+use Rattle.tree_model.specs.Nodes.{alternatives_of}
 use Rattle.tree_model.specs.Levels.{Level}
 use Rattle.tree_model.specs.Floors.{renamed_item, renamed_continuation, renamed_entry, with_nodes, right_entry, floor_of}
 use Rattle.tree_model.specs.Gates.{gate_on}
@@ -146,9 +146,9 @@ private_numbered clauses levels e (suc k) v h = more_numbered clauses levels (pr
     (private_numbered clauses levels e k v h)
 
 -- its entries as nodes
-pub standing_numbered : (hold : Hold) (es : List Entry) → AreEntriesNumbered es → AreNumbered (standing hold es)
-standing_numbered hold [] h = tt
-standing_numbered hold (e ∷ es) h = (h.0, standing_numbered hold es h.1)
+pub alternatives_numbered : (hold : Hold) (es : List Entry) → AreEntriesNumbered es → AreNumbered (alternatives_of hold es)
+alternatives_numbered hold [] h = tt
+alternatives_numbered hold (e ∷ es) h = (h.0, alternatives_numbered hold es h.1)
 
 placed_status_numbered : (next : ℕ) (sizes : List ℕ) (es : List Entry) → AreEntriesNumbered es
     → IsNumberedStatus (placed_status next sizes es)
@@ -157,7 +157,7 @@ placed_status_numbered next [] (e ∷ es) h = h.0
 placed_status_numbered next (size ∷ sizes) es h =
     let rest = length es - further size in (
       placed_status_numbered (suc next) sizes (take rest es) (each-take rest es h),
-      standing_numbered (guard_hold (guard_kind (drop rest es))) (drop rest es) (each-drop IsEntryNumbered rest es h),
+      alternatives_numbered (guard_hold (guard_kind (drop rest es))) (drop rest es) (each-drop IsEntryNumbered rest es h),
     )
 
 pub nodes_numbered : (node : ℕ → ℕ) (es : List Entry) → AreEntriesNumbered es → AreEntriesNumbered (map (with_nodes node) es)

@@ -96,9 +96,9 @@ awake_by Dormant (TakenBy w) e o q i = let no_way : ⊥ = cc in absurd no_way
 awake_by Dormant (Waiting g) e o q i = let no_way : ⊥ = cc in absurd no_way
 
 -- another worker or none has the entry
-pub held_sound : (t : TreeState) (s : Spot) (h : Hold) → profile (Pending h s.entry) ≡ IsOpen → IsSoundTree t → IsOpenSpot t.root s
+pub hold_sound : (t : TreeState) (s : Spot) (h : Hold) → profile (Pending h s.entry) ≡ IsOpen → IsSoundTree t → IsOpenSpot t.root s
     → IsSoundTree (with_status s (Pending h s.entry) t)
-held_sound t s h open_new k o =
+hold_sound t s h open_new k o =
     let p = placed_at t s k o in
     let same : (n : ℕ) → count_below n (plug (levels_of s) (Pending h s.entry)) ≡ count_below n t.root = λ n. count_plug n (levels_of s)
     (Pending h s.entry) ∙ (let z : count_around n (levels_of s) + 0 ≡ count_around n (levels_of s) = omega arith in z)
@@ -118,8 +118,8 @@ some_sound t (Some s) new k f = f s refl
 
 pub claim_sound : (t : TreeState) (w : ℕ) → IsSoundTree t
     → IsSoundTree (where_some (claimable t) t (λ s. with_status s (Pending (TakenBy w) s.entry) t))
-claim_sound t w k = some_sound t (claimable t) _ k (λ s e. held_sound t s (TakenBy w) refl k (claimable_open t s e))
+claim_sound t w k = some_sound t (claimable t) _ k (λ s e. hold_sound t s (TakenBy w) refl k (claimable_open t s e))
 
 pub resume_sound : (t : TreeState) (w : ℕ) → IsSoundTree t
     → IsSoundTree (where_some (resumable t) t (λ s. with_status s (Pending (TakenBy w) s.entry) t))
-resume_sound t w k = some_sound t (resumable t) _ k (λ s e. held_sound t s (TakenBy w) refl k (resumable_open t s e))
+resume_sound t w k = some_sound t (resumable t) _ k (λ s e. hold_sound t s (TakenBy w) refl k (resumable_open t s e))

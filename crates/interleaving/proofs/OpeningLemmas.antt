@@ -59,7 +59,8 @@ opens_alike clauses [] i n w = sym ((no_credit clauses [] []).alike n w)
 opens_alike clauses (q ∷ qs) i n w =
     let one = no_credit clauses [] (Credit 0 [] ∷ first_list q) in
     let two = no_credit clauses [] (first_list q) in
-    names_are_free clauses (opened_elements [] (q ∷ qs)) (first_list q) (opened-sound [] (q ∷ qs)) (two.sound (one.sound i)) (same_erased q qs) n
+    names_are_free clauses (opened_elements [] (q ∷ qs)) (first_list q) (opened-sound [] (q ∷ qs)) (two.sound (one.sound i))
+    (same_erased q qs) n
     w ∙ (sym (two.alike n w) ∙ sym (one.alike n w))
 
 first_queries : (qs : List Query) → remaining_queries qs ≡ queries_after qs
@@ -90,8 +91,8 @@ root_ordered : (qs : List Query) → AreInOrder (opening_root qs)
 root_ordered [] = tt
 root_ordered (q ∷ qs) = (tt, inr refl, (tt, inr refl, tt))
 
-pub opening_stands : (job : Job) (budget window : ℕ) → IsInStep job budget (opening_tree job budget window)
-opening_stands job budget window = record {
+pub opening_in_step : (job : Job) (budget window : ℕ) → IsInStep job budget (opening_tree job budget window)
+opening_in_step job budget window = record {
   same_job = refl;
   same_budget = refl;
   sound = opening_sound job budget window;

@@ -13,20 +13,20 @@ use Rattle.tree_model.specs.Elements.{Name, same, Record, Element, Credit, Plain
 use Rattle.interleaving.specs.Scopes.{Shared, Sought, Scope, Thrown, Caught, recovery_look, look, scoped}
 use Rattle.interleaving.specs.Segments.{found_in, search_in}
 use Rattle.interleaving.specs.Erased.{from, element_count, height, continuation_heights, record_height, erased}
-use Rattle.interleaving.specs.HeightMachine.{HeightElement, HeightCredit, HeightEntry, held_entries}
+use Rattle.interleaving.specs.HeightMachine.{HeightElement, HeightCredit, HeightEntry, height_entries}
 use Rattle.interleaving.specs.OwnRuns.{IsFloor}
 use Rattle.interleaving.proofs.NamingLemmas.{height-le}
 use Rattle.interleaving.proofs.PreservedLemmas.{IsBall}
-use Rattle.interleaving.proofs.SequentialHeightLemmas.{length-held}
+use Rattle.interleaving.proofs.SequentialHeightLemmas.{length-height}
 
 -- lists of entries as such
-injected : (xs ys : List Entry) → held_entries xs ≡ held_entries ys → xs ≡ ys
+injected : (xs ys : List Entry) → height_entries xs ≡ height_entries ys → xs ≡ ys
 injected [] [] e = refl
 injected [] (y ∷ ys) e = absurd cc
 injected (x ∷ xs) [] e = absurd cc
-injected (x ∷ xs) (y ∷ ys) e = let tail : held_entries xs ≡ held_entries ys = cc in let rest = injected xs ys tail in cc
+injected (x ∷ xs) (y ∷ ys) e = let tail : height_entries xs ≡ height_entries ys = cc in let rest = injected xs ys tail in cc
 
-pub part-joined : (st floor : List Entry) (xs : List HeightElement) → held_entries st ≡ xs ++ held_entries floor
+pub part-joined : (st floor : List Entry) (xs : List HeightElement) → height_entries st ≡ xs ++ height_entries floor
     → take (length st - length floor) st ++ floor ≡ st
 part-joined st floor [] e =
     let same : st ≡ floor = injected st floor e in
@@ -34,9 +34,9 @@ part-joined st floor [] e =
     ap (λ n. take n st ++ floor) none ∙ sym same
 part-joined [] floor (x ∷ xs) e = absurd cc
 part-joined (d ∷ st) floor (x ∷ xs) e =
-    let tail : held_entries st ≡ xs ++ held_entries floor = cc in
-    let size : length st ≡ length xs + length floor = sym (length-held st) ∙ ap length tail ∙ length-append xs (held_entries floor)
-    ∙ ap (λ n. length xs + n) (length-held floor) in
+    let tail : height_entries st ≡ xs ++ height_entries floor = cc in
+    let size : length st ≡ length xs + length floor = sym (length-height st) ∙ ap length tail ∙ length-append xs (height_entries floor)
+    ∙ ap (λ n. length xs + n) (length-height floor) in
     let one : suc (length st) - length floor ≡ suc (length st - length floor) = omega (arith, size) in
     ap (λ n. take n (d ∷ st) ++ floor) one ∙ ap (λ l. d ∷ l) (part-joined st floor xs tail)
 
@@ -53,7 +53,8 @@ over-floor (Findall s u results list p f ∷ b) zs = let r = over-floor b zs in
 over-floor (End p t ∷ b) zs = let r = over-floor b zs in (_ ∷ r.0, ap (λ l. HeightEntry (EndEntry t) ∷ l) r.1)
 
 -- a scope of the floor is lower than the floor
-pub floor-low : (zs : List Element) (s : Name) (t : List Element) → IsFloor zs → from zs s ≡ EndOf s ∷ t → suc (height zs s) ≤ element_count zs
+pub floor-low : (zs : List Element) (s : Name) (t : List Element) → IsFloor zs → from zs s ≡ EndOf s ∷ t
+    → suc (height zs s) ≤ element_count zs
 floor-low [] s t f e = absurd cc
 floor-low (EndOf o ∷ zs) s t f e = absurd f
 floor-low (Credit k rs ∷ zs) s t f e = omega (arith, height-le zs s)
@@ -150,28 +151,36 @@ module _ (clauses : List Clause) where
   low (Thrown b mark o) [] i = inr (o, Some (copied b 0), refl)
   low (Caught b h o) [] i = inr (o, Some (copied b 0), refl)
   low (Thrown b None o) (EndOf e ∷ zs) i = low (Thrown b None o) zs tt
-  low (Thrown b None o) (Credit k rs ∷ zs) i = lower _ (element_count zs) (suc (element_count zs)) (omega arith) (low (Thrown b None o) zs tt)
+  low (Thrown b None o) (Credit k rs ∷ zs) i = lower _ (element_count zs) (suc (element_count zs)) (omega arith)
+      (low (Thrown b None o) zs tt)
   low (Thrown b None o) (Plain p f ∷ zs) i = lower _ (element_count zs) (suc (element_count zs)) (omega arith) (low (Thrown b None o) zs tt)
-  low (Thrown b None o) (Catch s u c r p f ∷ zs) i = lower _ (element_count zs) (suc (element_count zs)) (omega arith) (low (Thrown b None o) zs tt)
+  low (Thrown b None o) (Catch s u c r p f ∷ zs) i = lower _ (element_count zs) (suc (element_count zs)) (omega arith)
+      (low (Thrown b None o) zs tt)
   low (Thrown b None o) (Findall s u results list p f ∷ zs) i = lower _ (element_count zs) (suc (element_count zs)) (omega arith)
       (low (Thrown b None o) zs tt)
   low (Thrown b None o) (End p e ∷ zs) i = lower _ (element_count zs) (suc (element_count zs)) (omega arith) (low (Thrown b None o) zs tt)
   low (Thrown b (Some h) o) (EndOf e ∷ zs) i = go (same h e) (low (Caught b h o) zs tt) (low (Thrown b (Some h) o) zs tt)
     where
-      go : (t : Bool) → Low (search_for m (Caught b h o) zs) (element_count zs) → Low (search_for m (Thrown b (Some h) o) zs) (element_count zs)
+      go : (t : Bool) → Low (search_for m (Caught b h o) zs) (element_count zs)
+          → Low (search_for m (Thrown b (Some h) o) zs) (element_count zs)
           → Low (looked m (cond t (On (Caught b h o)) (On (Thrown b (Some h) o))) (λ p. search_for m p zs) zs) (element_count zs)
       go true x y = x
       go false x y = y
-  low (Thrown b (Some h) o) (Credit k rs ∷ zs) i = lower _ (element_count zs) (suc (element_count zs)) (omega arith) (low (Thrown b (Some h) o) zs tt)
-  low (Thrown b (Some h) o) (Plain p f ∷ zs) i = lower _ (element_count zs) (suc (element_count zs)) (omega arith) (low (Thrown b (Some h) o) zs tt)
-  low (Thrown b (Some h) o) (Catch s u c r p f ∷ zs) i = lower _ (element_count zs) (suc (element_count zs)) (omega arith) (low (Thrown b (Some h) o) zs tt)
+  low (Thrown b (Some h) o) (Credit k rs ∷ zs) i = lower _ (element_count zs) (suc (element_count zs)) (omega arith)
+      (low (Thrown b (Some h) o) zs tt)
+  low (Thrown b (Some h) o) (Plain p f ∷ zs) i = lower _ (element_count zs) (suc (element_count zs)) (omega arith)
+      (low (Thrown b (Some h) o) zs tt)
+  low (Thrown b (Some h) o) (Catch s u c r p f ∷ zs) i = lower _ (element_count zs) (suc (element_count zs)) (omega arith)
+      (low (Thrown b (Some h) o) zs tt)
   low (Thrown b (Some h) o) (Findall s u results list p f ∷ zs) i = lower _ (element_count zs) (suc (element_count zs)) (omega arith)
       (low (Thrown b (Some h) o) zs tt)
-  low (Thrown b (Some h) o) (End p e ∷ zs) i = lower _ (element_count zs) (suc (element_count zs)) (omega arith) (low (Thrown b (Some h) o) zs tt)
+  low (Thrown b (Some h) o) (End p e ∷ zs) i = lower _ (element_count zs) (suc (element_count zs)) (omega arith)
+      (low (Thrown b (Some h) o) zs tt)
   low (Caught b h o) (EndOf e ∷ zs) i = low (Caught b h o) zs tt
   low (Caught b h o) (Credit k rs ∷ zs) i = lower _ (element_count zs) (suc (element_count zs)) (omega arith) (low (Caught b h o) zs tt)
   low (Caught b h o) (Plain p f ∷ zs) i = lower _ (element_count zs) (suc (element_count zs)) (omega arith) (low (Caught b h o) zs tt)
-  low (Caught b h o) (Findall s u results list p f ∷ zs) i = lower _ (element_count zs) (suc (element_count zs)) (omega arith) (low (Caught b h o) zs tt)
+  low (Caught b h o) (Findall s u results list p f ∷ zs) i = lower _ (element_count zs) (suc (element_count zs)) (omega arith)
+      (low (Caught b h o) zs tt)
   low (Caught b h o) (End p e ∷ zs) i = lower _ (element_count zs) (suc (element_count zs)) (omega arith) (low (Caught b h o) zs tt)
   low (Caught b h o) (Catch s u c r p f ∷ zs) i =
       let next : Sought = Thrown b (first_mark f.items) o in

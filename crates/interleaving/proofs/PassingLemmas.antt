@@ -14,12 +14,12 @@ use Rattle.interleaving.proofs.CreditLawLemmas.{any-all, quiet_alone, further}
 use Rattle.interleaving.proofs.AppendLemmas.{append-nil}
 
 module _ {W X Q R : Type 0} (m : Machine W X Q R) (g : Ground m) where
-  world_kept : (k n : ℕ) (rs : List R) (a b : List X) → Runs m g k rs a b → n ≤ k → (w : W) (zs : List X) → Each g.Under zs
+  world_preserved : (k n : ℕ) (rs : List R) (a b : List X) → Runs m g k rs a b → n ≤ k → (w : W) (zs : List X) → Each g.Under zs
       → (run m n w (free_steps m [] (a ++ zs))).0 ≡ w
-  world_kept k zero rs a b h l w zs z = refl
-  world_kept zero (suc n) rs a b h l w zs z = absurd (omega arith)
-  world_kept (suc k) (suc n) rs a b h l w zs z = ap (λ s. (run m n s.0 s.1).0) (h.5 w zs z)
-      ∙ world_kept k n h.2 h.0 b h.6 (omega arith) w (map (gives m h.1) zs) (z-map m g h.1 zs z)
+  world_preserved k zero rs a b h l w zs z = refl
+  world_preserved zero (suc n) rs a b h l w zs z = absurd (omega arith)
+  world_preserved (suc k) (suc n) rs a b h l w zs z = ap (λ s. (run m n s.0 s.1).0) (h.5 w zs z)
+      ∙ world_preserved k n h.2 h.0 b h.6 (omega arith) w (map (gives m h.1) zs) (z-map m g h.1 zs z)
 
   goes_on : (k n : ℕ) (rs : List R) (a b : List X) → Runs m g k rs a b → n < k → (w : W) (zs : List X) → Each g.Under zs
       → is_finished (run m n w (free_steps m [] (a ++ zs))).1 ≡ false
@@ -37,7 +37,7 @@ module _ (clauses : List Clause) where
       let r = quiet_alone clauses xs q in
       record {
         passed = reached m (any_ground clauses) (inferences xs) (records xs) xs [] r w zs (any-all zs);
-        world = λ n l. world_kept m (any_ground clauses) (inferences xs) n (records xs) xs [] r l w zs (any-all zs);
+        world = λ n l. world_preserved m (any_ground clauses) (inferences xs) n (records xs) xs [] r l w zs (any-all zs);
         going = λ n l. goes_on m (any_ground clauses) (inferences xs) n (records xs) xs [] r l w zs (any-all zs);
       }
 

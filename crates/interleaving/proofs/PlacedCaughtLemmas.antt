@@ -7,7 +7,7 @@ use Rattle.au_model.specs.Terms.Each.{Each}
 use Rattle.run_model.specs.Machine.Items.{Item, GoalItem, CatchMark, CollectMark, RemovalItem}
 use Rattle.run_model.specs.Machine.Entries.{Entry, PlainEntry, CatchEntry, FindallEntry, EndEntry}
 use Rattle.tree_model.specs.Nodes.{Kind, Hold, Ready, TakenBy, Waiting, Dormant, Alternatives, none, alternative, Status, Pending, Inner}
-use Rattle.tree_model.specs.Nodes.{Closed, standing}
+use Rattle.tree_model.specs.Nodes.{Closed, alternatives_of}
 use Rattle.tree_model.specs.Levels.{Level}
 use Rattle.tree_model.specs.Floors.{node_of, with_nodes, right_entry, with_heights, floor_of}
 use Rattle.tree_model.specs.Shapes.{further, is_guard, is_alone, fits_nodes, holder, guard_kind, guard_hold, further_alternatives}
@@ -23,37 +23,37 @@ use Rattle.interleaving.proofs.BallLemmas.{node_on}
 use Rattle.interleaving.proofs.PlacedSoundLemmas.{take-drop, drop-length}
 use Rattle.interleaving.proofs.PlacedShapeLemmas.{holder_first, holder_later, made, made_equal, fits_one}
 use Rattle.interleaving.proofs.PlacedErasedLemmas.{Fills}
-use Rattle.interleaving.proofs.ListScopeLemmas.{sleeps_on}
+use Rattle.interleaving.proofs.ListScopeLemmas.{dormant_on}
 use Rattle.interleaving.proofs.MarkedLemmas.{is_catch_entry, catch_at, MarksAt, EntryMarked, AreMarked, catch_low, no_guard_catch}
 use Rattle.interleaving.proofs.TestLemmas.{false_true, not_equal, number_same}
 
 -- what sleeps on a floor
-entry_sleeps : (up : List Level) (right : Alternatives) → is_catch_entry (with_heights up (right_entry right)) ≡ true
+entry_dormant : (up : List Level) (right : Alternatives) → is_catch_entry (with_heights up (right_entry right)) ≡ true
     → catch_right right ≡ true
-entry_sleeps up none h = false_true h
-entry_sleeps up (alternative sp (Inner node) others) h = false_true h
-entry_sleeps up (alternative sp (Closed c) others) h = false_true h
-entry_sleeps up (alternative sp (Pending Ready e) others) h = false_true h
-entry_sleeps up (alternative sp (Pending (TakenBy w) e) others) h = false_true h
-entry_sleeps up (alternative sp (Pending (Waiting g) e) others) h = false_true h
-entry_sleeps up (alternative sp (Pending Dormant (CatchEntry c r f)) others) h = refl
-entry_sleeps up (alternative sp (Pending Dormant (PlainEntry f)) others) h = false_true h
-entry_sleeps up (alternative sp (Pending Dormant (FindallEntry results l f)) others) h = false_true h
-entry_sleeps up (alternative sp (Pending Dormant (EndEntry b)) others) h = false_true h
+entry_dormant up none h = false_true h
+entry_dormant up (alternative sp (Inner node) others) h = false_true h
+entry_dormant up (alternative sp (Closed c) others) h = false_true h
+entry_dormant up (alternative sp (Pending Ready e) others) h = false_true h
+entry_dormant up (alternative sp (Pending (TakenBy w) e) others) h = false_true h
+entry_dormant up (alternative sp (Pending (Waiting g) e) others) h = false_true h
+entry_dormant up (alternative sp (Pending Dormant (CatchEntry c r f)) others) h = refl
+entry_dormant up (alternative sp (Pending Dormant (PlainEntry f)) others) h = false_true h
+entry_dormant up (alternative sp (Pending Dormant (FindallEntry results l f)) others) h = false_true h
+entry_dormant up (alternative sp (Pending Dormant (EndEntry b)) others) h = false_true h
 
-pub floor_sleeps : (levels : List Level) → IsPath (way_of levels) → (h : ℕ) → catch_at h (floor_of levels) ≡ true
-    → sleeps_on levels (node_of levels (suc h)) ≡ true
-floor_sleeps [] p h k = false_true k
-floor_sleeps (v ∷ up) p h k = go (length (floor_of up) == h) refl k (floor_sleeps up p.1 h)
+pub floor_dormant : (levels : List Level) → IsPath (way_of levels) → (h : ℕ) → catch_at h (floor_of levels) ≡ true
+    → dormant_on levels (node_of levels (suc h)) ≡ true
+floor_dormant [] p h k = false_true k
+floor_dormant (v ∷ up) p h k = go (length (floor_of up) == h) refl k (floor_dormant up p.1 h)
   where
     go : (b : Bool) → (length (floor_of up) == h) ≡ b → cond b (is_catch_entry (with_heights up (right_entry v.right)))
-        (catch_at h (floor_of up)) ≡ true → (catch_at h (floor_of up) ≡ true → sleeps_on up (node_of up (suc h)) ≡ true)
-        → sleeps_on (v ∷ up) (node_of (v ∷ up) (suc h)) ≡ true
+        (catch_at h (floor_of up)) ≡ true → (catch_at h (floor_of up) ≡ true → dormant_on up (node_of up (suc h)) ≡ true)
+        → dormant_on (v ∷ up) (node_of (v ∷ up) (suc h)) ≡ true
     go true e z f =
         let top : length (floor_of up) ≡ h = grind arith in
         let own : node_of (v ∷ up) (suc h) ≡ v.number = ap (λ n. node_of (v ∷ up) (suc n)) (sym top ∙ length-floor up) ∙ own_height v up in
         cond-true (v.number == node_of (v ∷ up) (suc h)) (catch_right v.right) _ (ap (λ n. v.number == n) own ∙ number_same v.number)
-        ∙ entry_sleeps up v.right z
+        ∙ entry_dormant up v.right z
     go false e z f =
         let low : suc h ≤ length up = let l = catch_low h (floor_of up) z in omega (arith, l, length-floor up) in
         let node : node_of (v ∷ up) (suc h) ≡ node_of up (suc h) = cond-false (suc h == suc (length up)) v.number (node_of up (suc h))
@@ -61,8 +61,8 @@ floor_sleeps (v ∷ up) p h k = go (length (floor_of up) == h) refl k (floor_sle
         let on = node_on up (suc h) (omega arith) low in
         let off : (v.number == node_of up (suc h)) ≡ false = other_number (way_of up) v.number (node_of up (suc h)) p.0 on
         (v.number == node_of up (suc h)) refl in
-        ap (sleeps_on (v ∷ up)) node ∙ (cond-false (v.number == node_of up (suc h)) (catch_right v.right)
-        (sleeps_on up (node_of up (suc h))) off ∙ f z)
+        ap (dormant_on (v ∷ up)) node ∙ (cond-false (v.number == node_of up (suc h)) (catch_right v.right)
+        (dormant_on up (node_of up (suc h))) off ∙ f z)
 
 -- an entry by the nodes that it names
 abbrev Sleeping : (ℕ → ℕ) → (ℕ → Bool) → List Entry → Type 0
@@ -148,21 +148,21 @@ module _ (name : ℕ → ℕ) (next : ℕ) (sleeps : ℕ → Bool) (low : List E
       apart true e l = let same : next ≡ name (suc h) = grind arith in let no_way : ⊥ = omega (arith, same, l) in absurd no_way
 
   olds_caught : (under : Bool) (kind : Kind) (hold : Hold) (i : ℕ) (olds : List Entry) → TailsPlain low olds → AreMarked low olds
-      → AreCaught sleeps under next kind i (standing hold (map (with_nodes name) olds))
+      → AreCaught sleeps under next kind i (alternatives_of hold (map (with_nodes name) olds))
   olds_caught under kind hold i [] t m = tt
   olds_caught under kind hold i (o ∷ os) t m =
-      let b = catch_right (standing hold (map (with_nodes name) os)) in (
+      let b = catch_right (alternatives_of hold (map (with_nodes name) os)) in (
         entry_caught name (with_catch next b sleeps) (os ++ low) o (λ h k. lower b h (t.0 h k)) m.0,
         olds_caught under kind hold (suc i)
             os t.1 m.1,
       )
 
   -- what is over them
-  inner_sleeps : (size : ℕ) (sizes : List ℕ) (olds : List Entry)
+  inner_dormant : (size : ℕ) (sizes : List ℕ) (olds : List Entry)
       → ((p : ℕ) → name (suc (length low + p)) ≡ holder next (size ∷ sizes) p) → length olds ≡ further size → is_alone olds ≡ true
       → (h : ℕ) → catch_at h (olds ++ low) ≡ true → with_catch next (catch_right (further_alternatives (map (with_nodes name) olds)))
       sleeps (name (suc h)) ≡ true
-  inner_sleeps size sizes olds holds many alone h k = pick (list_any is_guard olds) refl
+  inner_dormant size sizes olds holds many alone h k = pick (list_any is_guard olds) refl
     where
       pick : (b : Bool) → list_any is_guard olds ≡ b → with_catch next (catch_right (further_alternatives (map (with_nodes name) olds)))
           sleeps (name (suc h)) ≡ true
@@ -215,11 +215,11 @@ alone_tails low olds h = pick (list_any is_guard olds) refl
     pick true e = single olds (sym (ap (λ b. not b || (length olds == 1)) e) ∙ h)
 
 olds_no_query : (name : ℕ → ℕ) (hold : Hold) (olds : List Entry) → Each IsNoEnd olds
-    → HaveNoQuery (standing hold (map (with_nodes name) olds))
+    → HaveNoQuery (alternatives_of hold (map (with_nodes name) olds))
 olds_no_query name hold [] h = tt
 olds_no_query name hold (o ∷ os) h = (named_no_end name o h.0, olds_no_query name hold os h.1)
 
-olds_unspent : (hold : Hold) (olds : List Entry) → AreUnspent (standing hold olds)
+olds_unspent : (hold : Hold) (olds : List Entry) → AreUnspent (alternatives_of hold olds)
 olds_unspent hold [] = tt
 olds_unspent hold (o ∷ os) = (refl, olds_unspent hold os)
 
@@ -248,7 +248,7 @@ made_caught name next size sizes sleeps low inner olds h many alone rest fills i
       holds = λ p. ap (λ m. name (suc m))
           (let z : length (olds ++ low) + p ≡ length low + (further size + p) = omega (arith, tall) in z)
           ∙ (h.holds (further size + p) ∙ holder_later next size sizes p);
-      sleeping = inner_sleeps name next sleeps low h.nums h.sleeping size sizes olds h.holds many alone;
+      sleeping = inner_dormant name next sleeps low h.nums h.sleeping size sizes olds h.holds many alone;
       marked = marks.0;
       no_ends = ends.0;
       alone = rest;

@@ -18,7 +18,7 @@ use Rattle.tree_model.specs.Credits.{credit_of}
 use Rattle.tree_model.specs.Nodes.{CutGate, BallGate, Pending}
 use Rattle.tree_model.specs.Levels.{Level, Place, Spot, levels_of}
 use Rattle.tree_model.specs.Floors.{height_of, node_of, with_heights, floor_of, query_node}
-use Rattle.tree_model.specs.Gates.{landing_scope, lands_above, ball_gate, control_gate, goal_gate, item_gate, gate_on}
+use Rattle.tree_model.specs.Gates.{ball_scope, is_caught_above, ball_gate, control_gate, goal_gate, item_gate, gate_on}
 use Rattle.tree_model.specs.PrivateRuns.{goal_alone, item_alone, taken_alone}
 use Rattle.tree_model.specs.FrontGates.{reply_taken, goal_at_front, removal_at_front, item_at_front, taken_at_front}
 use Rattle.tree_model.specs.TreeStates.{TreeState}
@@ -88,9 +88,9 @@ rest_asked levels n items p q r h = record { asked = q; scoped = weaken_from (wa
 -- prunes
 pruned_ball : (t : TreeState) (s : Spot) (es : List Entry) → IsAt t s → IsSoundTree (ball_falls s es t)
     → IsSoundTree (gate_pruned s (ball_gate (levels_of s) es) es t)
-pruned_ball t s es h k = go (lands_above (levels_of s) es)
+pruned_ball t s es h k = go (is_caught_above (levels_of s) es)
   where
-    go : (b : Bool) → IsSoundTree (gate_pruned s (cond b None (Some (BallGate (landing_scope (levels_of s) es)))) es t)
+    go : (b : Bool) → IsSoundTree (gate_pruned s (cond b None (Some (BallGate (ball_scope (levels_of s) es)))) es t)
     go true = h.sound
     go false = k
 

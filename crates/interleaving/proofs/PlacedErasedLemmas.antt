@@ -4,9 +4,9 @@ use Rattle.std.proofs.Common.{◌∙◌, subst, arith}
 use Rattle.std.specs.Prelude.{nat_le}
 use Rattle.run_model.specs.Machine.Entries.{Entry}
 use Rattle.tree_model.specs.Elements.{Element, EndOf}
-use Rattle.interleaving.specs.HeightMachine.{HeightEntry, held_entries}
+use Rattle.interleaving.specs.HeightMachine.{HeightEntry, height_entries}
 use Rattle.interleaving.specs.Erased.{element_count, height, erased}
-use Rattle.tree_model.specs.Nodes.{Kind, Status, standing}
+use Rattle.tree_model.specs.Nodes.{Kind, Status, alternatives_of}
 use Rattle.tree_model.specs.Floors.{with_nodes}
 use Rattle.tree_model.specs.Shapes.{further, holder, guard_kind, guard_hold, placed_status}
 use Rattle.tree_model.specs.PendingLists.{Step, Way, scope_on, list_among, list_below}
@@ -18,7 +18,7 @@ use Rattle.interleaving.proofs.NamedFloorLemmas.{from-other, scope-here, scope-a
 use Rattle.interleaving.proofs.PlacedNameLemmas.{bare, bare-append, bare-element, olders, bare_olders, IsMet, AreMeasured, measured_split}
 use Rattle.interleaving.proofs.PlacedNameLemmas.{entry_back, from_olders, count_olders, other_node, older_erased}
 use Rattle.interleaving.proofs.TestLemmas.{number_same}
-use Rattle.interleaving.proofs.SequentialHeightLemmas.{held-append}
+use Rattle.interleaving.proofs.SequentialHeightLemmas.{height-append}
 
 -- no whole height falls inside a node
 abbrev pub NoneInside : (ℕ → Type 0) → ℕ → List ℕ → Type 0
@@ -48,14 +48,15 @@ pub bare_made : (way : Way) (next : ℕ) (first : Status) (new : List Entry) →
     ++ (EndOf (0 ∷ next ∷ []) ∷ olders way next (guard_kind new) 1 new)
 bare_made way next first new =
     bare-append (list_below (record { node = next; index = 0; kind = guard_kind new } ∷ way) 0 first)
-    (EndOf (0 ∷ next ∷ []) ∷ list_among way next (guard_kind new) 1 (standing (guard_hold (guard_kind new)) new))
+    (EndOf (0 ∷ next ∷ []) ∷ list_among way next (guard_kind new) 1 (alternatives_of (guard_hold (guard_kind new)) new))
     ∙ ap (λ l. bare (list_below (record { node = next; index = 0; kind = guard_kind new } ∷ way) 0 first)
     ++ (EndOf (0 ∷ next ∷ []) ∷ l)) (bare_olders way next (guard_kind new) 1 (guard_hold (guard_kind new)) new)
 
 module _ (Whole : ℕ → Type 0) (name : ℕ → ℕ) where
   -- the element list right of a node's first alternative, over what lies below
   pub inner_naming : (next size : ℕ) (sizes : List ℕ) (way : Way) (xs : List Element) (inner olds : List Entry) →
-      ((h : ℕ) → Whole h → 1 ≤ h → h ≤ element_count xs → IsMet xs way name h) → ((h : ℕ) → 1 ≤ h → h ≤ element_count xs → suc (name h) ≤ next)
+      ((h : ℕ) → Whole h → 1 ≤ h → h ≤ element_count xs → IsMet xs way name h)
+      → ((h : ℕ) → 1 ≤ h → h ≤ element_count xs → suc (name h) ≤ next)
       → ((p : ℕ) → name (suc (element_count xs + p)) ≡ holder next (size ∷ sizes) p) →
       NoneInside Whole (element_count xs) (size ∷ sizes) → AreMeasured Whole (element_count xs) (inner ++ olds) → length olds ≡ further size
       → Fills sizes inner →
@@ -98,7 +99,8 @@ module _ (Whole : ℕ → Type 0) (name : ℕ → ℕ) where
       lower h w a low =
           let apart : (name h ≡ next → ⊥) = (λ z. absurd (omega (arith, nums h a low, z))) in
           ap (height ys) (scope-above first way (name h) (other_node (name h) next apart))
-          ∙ (ap element_count (from-other way (name h) 0 next (right ++ xs) apart ∙ from_olders way next kind 1 (map (with_nodes name) olds) xs
+          ∙ (ap element_count (from-other way (name h) 0 next (right ++ xs) apart
+          ∙ from_olders way next kind 1 (map (with_nodes name) olds) xs
           (name h) apart) ∙ sees h w a low)
 
       -- the scope of the node itself
@@ -118,7 +120,9 @@ module _ (Whole : ℕ → Type 0) (name : ℕ → ℕ) where
           at_top (nat_le (suc h) (element_count xs + further size)) refl
         where
           at_top : (c : Bool) → nat_le (suc h) (element_count xs + further size) ≡ c → IsMet ys (first ∷ way) name h
-          at_top true k = let high : suc (element_count xs) ≤ h = grind arith in let under : suc h ≤ element_count xs + further size = grind arith in
+          at_top true k =
+              let high : suc (element_count xs) ≤ h = grind arith in
+              let under : suc h ≤ element_count xs + further size = grind arith in
               absurd (splits.0 h w high under)
           at_top false k =
               let high : suc (element_count xs) ≤ h = grind arith in
@@ -131,20 +135,22 @@ module _ (Whole : ℕ → Type 0) (name : ℕ → ℕ) where
           let high : suc (element_count xs) ≤ h = grind arith in
           let place : h ≡ suc (element_count xs + (h - suc (element_count xs))) = omega (arith, high) in
           let here : name h ≡ next = ap name place
-          ∙ (holds (h - suc (element_count xs)) ∙ holder_first next size sizes (h - suc (element_count xs)) (omega (arith, high, b, tall))) in
+          ∙ (holds (h - suc (element_count xs)) ∙ holder_first next size sizes (h - suc (element_count xs))
+          (omega (arith, high, b, tall))) in
           omega (arith, here)
 
   -- one node over what is inside it
   node_erased : (next size : ℕ) (sizes : List ℕ) (way : Way) (xs : List Element) (inner olds : List Entry) →
-      ((h : ℕ) → Whole h → 1 ≤ h → h ≤ element_count xs → IsMet xs way name h) → ((h : ℕ) → 1 ≤ h → h ≤ element_count xs → suc (name h) ≤ next)
+      ((h : ℕ) → Whole h → 1 ≤ h → h ≤ element_count xs → IsMet xs way name h)
+      → ((h : ℕ) → 1 ≤ h → h ≤ element_count xs → suc (name h) ≤ next)
       → ((p : ℕ) → name (suc (element_count xs + p)) ≡ holder next (size ∷ sizes) p) →
       NoneInside Whole (element_count xs) (size ∷ sizes) → AreMeasured Whole (element_count xs) (inner ++ olds) → length olds ≡ further size
       → Fills sizes inner →
       ((a : Step) (w : Way) (ys : List Element) → IsNaming Whole name (suc next) sizes (a ∷ w) ys inner
       → erased (bare (list_below (a ∷ w) 0 (placed_status (suc next) sizes (map (with_nodes name) inner))) ++ ys)
-      ≡ held_entries inner ++ erased ys) →
+      ≡ height_entries inner ++ erased ys) →
       erased (bare (list_below way 0 (made next (placed_status (suc next) sizes (map (with_nodes name) inner))
-      (map (with_nodes name) olds))) ++ xs) ≡ held_entries (inner ++ olds) ++ erased xs
+      (map (with_nodes name) olds))) ++ xs) ≡ height_entries (inner ++ olds) ++ erased xs
   node_erased next size sizes way xs inner olds sees nums holds splits ms many fills ih =
       let first : Step = record { node = next; index = 0; kind = guard_kind (map (with_nodes name) olds) } in
       let right = olders way next (guard_kind (map (with_nodes name) olds)) 1 (map (with_nodes name) olds) in
@@ -155,15 +161,15 @@ module _ (Whole : ℕ → Type 0) (name : ℕ → ℕ) where
       (EndOf (0 ∷ next ∷ []) ∷ right) xs)
       ∙ (ih first way (EndOf (0 ∷ next ∷ []) ∷ (right ++ xs))
       (inner_naming next size sizes way xs inner olds sees nums holds splits ms many fills)
-      ∙ (ap (λ l. held_entries inner ++ l)
+      ∙ (ap (λ l. height_entries inner ++ l)
       (older_erased Whole name next (further size) way (guard_kind (map (with_nodes name) olds)) xs sees nums splits.0 1 olds
       (omega (arith, many)) both.1)
-      ∙ (sym (append-assoc (held_entries inner) (held_entries olds) (erased xs))
-      ∙ ap (λ l. l ++ erased xs) (sym (held-append inner olds))))))
+      ∙ (sym (append-assoc (height_entries inner) (height_entries olds) (erased xs))
+      ∙ ap (λ l. l ++ erased xs) (sym (height-append inner olds))))))
 
   pub placed_erased : (next : ℕ) (sizes : List ℕ) (a : Step) (w : Way) (xs : List Element) (es : List Entry)
       → IsNaming Whole name next sizes (a ∷ w) xs es →
-      erased (bare (list_below (a ∷ w) 0 (placed_status next sizes (map (with_nodes name) es))) ++ xs) ≡ held_entries es ++ erased xs
+      erased (bare (list_below (a ∷ w) 0 (placed_status next sizes (map (with_nodes name) es))) ++ xs) ≡ height_entries es ++ erased xs
   placed_erased next [] a w xs [] h = let no_way : ⊥ = omega (arith, h.fills) in absurd no_way
   placed_erased next [] a w xs (e ∷ d ∷ es) h = let no_way : ⊥ = omega (arith, h.fills) in absurd no_way
   placed_erased next [] a w xs (e ∷ []) h =
@@ -178,4 +184,4 @@ module _ (Whole : ℕ → Type 0) (name : ℕ → ℕ) where
       ap (λ s. erased (bare (list_below (a ∷ w) 0 s) ++ xs)) (made_equal (with_nodes name) next size sizes es)
       ∙ (node_erased next size sizes (a ∷ w) xs (take rest es) (drop rest es) h.sees h.nums h.holds h.splits joined olds f.2
       (λ b v ys k. placed_erased (suc next) sizes b v ys (take rest es) k)
-      ∙ ap (λ l. held_entries l ++ erased xs) (sym (take-drop rest es)))
+      ∙ ap (λ l. height_entries l ++ erased xs) (sym (take-drop rest es)))

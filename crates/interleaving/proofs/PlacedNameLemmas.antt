@@ -5,9 +5,9 @@ use Rattle.std.proofs.Common.{◌∙◌, subst, arith}
 use Rattle.run_model.specs.Machine.Items.{Item, GoalItem, CatchMark, CollectMark, RemovalItem, Continuation}
 use Rattle.run_model.specs.Machine.Entries.{Entry, PlainEntry, CatchEntry, FindallEntry, EndEntry}
 use Rattle.tree_model.specs.Elements.{Element, Credit, Plain, EndOf, Catch, Findall, End}
-use Rattle.interleaving.specs.HeightMachine.{HeightEntry, held_entries}
+use Rattle.interleaving.specs.HeightMachine.{HeightEntry, height_entries}
 use Rattle.interleaving.specs.Erased.{from, element_count, height, with_height, erased}
-use Rattle.tree_model.specs.Nodes.{Kind, Hold, Ready, TakenBy, Waiting, Dormant, standing}
+use Rattle.tree_model.specs.Nodes.{Kind, Hold, Ready, TakenBy, Waiting, Dormant, alternatives_of}
 use Rattle.tree_model.specs.Floors.{renamed_item, with_nodes}
 use Rattle.std.specs.Prelude.{nat_le}
 use Rattle.tree_model.specs.PendingLists.{Step, Way, scope_on, element_at, own_credit, list_among}
@@ -49,10 +49,10 @@ olders way n kind i (o ∷ os) = element_at n i (record { node = n; index = i; k
     kind (suc i) os
 
 pub bare_olders : (way : Way) (n : ℕ) (kind : Kind) (i : ℕ) (hold : Hold) (os : List Entry)
-    → bare (list_among way n kind i (standing hold os)) ≡ olders way n kind i os
+    → bare (list_among way n kind i (alternatives_of hold os)) ≡ olders way n kind i os
 bare_olders way n kind i hold [] = refl
 bare_olders way n kind i hold (o ∷ os) =
-    let rest = EndOf (i ∷ n ∷ []) ∷ list_among way n kind (suc i) (standing hold os) in
+    let rest = EndOf (i ∷ n ∷ []) ∷ list_among way n kind (suc i) (alternatives_of hold os) in
     no_credit hold (element_at n i (record { node = n; index = i; kind = kind } ∷ way) o) rest
     ∙ (bare-element n i (record { node = n; index = i; kind = kind } ∷ way) o rest
     ∙ ap (λ l. element_at n i (record { node = n; index = i; kind = kind } ∷ way) o ∷ EndOf (i ∷ n ∷ []) ∷ l)
@@ -162,7 +162,8 @@ other_node m n h = go (n == m) refl
 
 -- the scopes that an older entry names
 pub older_met : (Whole : ℕ → Type 0) (name : ℕ → ℕ) (next f : ℕ) (way : Way) (kind : Kind) (xs : List Element)
-    → ((h : ℕ) → Whole h → 1 ≤ h → h ≤ element_count xs → IsMet xs way name h) → ((h : ℕ) → 1 ≤ h → h ≤ element_count xs → suc (name h) ≤ next) →
+    → ((h : ℕ) → Whole h → 1 ≤ h → h ≤ element_count xs → IsMet xs way name h)
+    → ((h : ℕ) → 1 ≤ h → h ≤ element_count xs → suc (name h) ≤ next) →
     ((h : ℕ) → Whole h → suc (element_count xs) ≤ h → suc h ≤ element_count xs + f → ⊥) → (i : ℕ) (os : List Entry) → suc (length os) ≤ f →
     (h : ℕ) → Whole h → 1 ≤ h → h ≤ length os + element_count xs
     → IsMet (EndOf (i ∷ next ∷ []) ∷ (olders way next kind (suc i) (map (with_nodes name) os) ++ xs))
@@ -185,10 +186,11 @@ older_met Whole name next f way kind xs sees nums none i os l h w a b = go (nat_
         (name h) apart) ∙ sees h w a low)
 
 pub older_erased : (Whole : ℕ → Type 0) (name : ℕ → ℕ) (next f : ℕ) (way : Way) (kind : Kind) (xs : List Element)
-    → ((h : ℕ) → Whole h → 1 ≤ h → h ≤ element_count xs → IsMet xs way name h) → ((h : ℕ) → 1 ≤ h → h ≤ element_count xs → suc (name h) ≤ next) →
+    → ((h : ℕ) → Whole h → 1 ≤ h → h ≤ element_count xs → IsMet xs way name h)
+    → ((h : ℕ) → 1 ≤ h → h ≤ element_count xs → suc (name h) ≤ next) →
     ((h : ℕ) → Whole h → suc (element_count xs) ≤ h → suc h ≤ element_count xs + f → ⊥) → (i : ℕ) (os : List Entry) → length os ≤ f
     → AreMeasured Whole (element_count xs) os →
-    erased (olders way next kind i (map (with_nodes name) os) ++ xs) ≡ held_entries os ++ erased xs
+    erased (olders way next kind i (map (with_nodes name) os) ++ xs) ≡ height_entries os ++ erased xs
 older_erased Whole name next f way kind xs sees nums none i [] l m = refl
 older_erased Whole name next f way kind xs sees nums none i (o ∷ os) l m =
     let tail = olders way next kind (suc i) (map (with_nodes name) os) ++ xs in

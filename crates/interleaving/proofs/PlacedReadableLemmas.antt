@@ -43,7 +43,8 @@ entry_read Whole q n i way name (FindallEntry results l f) xs m g r = (items_rea
 entry_read Whole q n i way name (EndEntry b) xs m g r = r
 
 older_read : (Whole : ℕ → Type 0) (name : ℕ → ℕ) (next f : ℕ) (way : Way) (kind : Kind) (xs : List Element)
-    → ((h : ℕ) → Whole h → 1 ≤ h → h ≤ element_count xs → IsMet xs way name h) → ((h : ℕ) → 1 ≤ h → h ≤ element_count xs → suc (name h) ≤ next) →
+    → ((h : ℕ) → Whole h → 1 ≤ h → h ≤ element_count xs → IsMet xs way name h)
+    → ((h : ℕ) → 1 ≤ h → h ≤ element_count xs → suc (name h) ≤ next) →
     ((h : ℕ) → Whole h → suc (element_count xs) ≤ h → suc h ≤ element_count xs + f → ⊥) → (i : ℕ) (os : List Entry) → length os ≤ f
     → AreMeasured Whole (element_count xs) os → IsReadable xs → IsReadable (olders way next kind i (map (with_nodes name) os) ++ xs)
 older_read Whole name next f way kind xs sees nums none i [] l m r = r

@@ -19,7 +19,7 @@ use Rattle.interleaving.proofs.StackLemmas.{IsCounted, entry_step, stack_way, le
 use Rattle.interleaving.proofs.RunSoundLemmas.{IsAwakeTop}
 use Rattle.interleaving.proofs.PlacedSoundLemmas.{named_in, IsSeen, inside_hidden, placed_asked, over_split, take-drop, map-take}
 use Rattle.interleaving.proofs.PlacedSoundLemmas.{map-drop, map-length, drop-length, take_awake, each-take, each-drop, two_not_one}
-use Rattle.interleaving.proofs.PlacedSoundLemmas.{several_awake, first_awake, standing_none, IsOlder, plain_older}
+use Rattle.interleaving.proofs.PlacedSoundLemmas.{several_awake, first_awake, alternatives_none, IsOlder, plain_older}
 use Rattle.au_term.proofs.LogicLemmas.{and-right, and-left}
 use Rattle.interleaving.proofs.TestLemmas.{not_equal}
 
@@ -232,14 +232,14 @@ node_sound name cuts next size sizes w a inner (o ∷ os) c k p u nw ov aw si so
         arith,
         one_other m (other_way m next x),
         r.low m (omega arith),
-        standing_none m (guard_hold (guard_kind new))
+        alternatives_none m (guard_hold (guard_kind new))
             new,
       );
       high = λ m x. omega (
         arith,
         one_other m (not_equal next m (omega arith)),
         r.high m (omega arith),
-        standing_none m
+        alternatives_none m
             (guard_hold (guard_kind new)) new,
       );
     }
@@ -257,9 +257,9 @@ node_sound name cuts next size sizes w a inner (o ∷ os) c k p u nw ov aw si so
         few_at m true e =
             let same : next ≡ m = grind arith in
             let one : one_if (next == m) ≡ 1 = ap one_if e in
-            omega (arith, one, r.low m (omega (arith, same)), standing_none m (guard_hold (guard_kind new)) new)
+            omega (arith, one, r.low m (omega (arith, same)), alternatives_none m (guard_hold (guard_kind new)) new)
         few_at m false e = let zero_new : one_if (next == m)
-            ≡ 0 = ap one_if e in omega (arith, zero_new, r.few m, standing_none m (guard_hold (guard_kind new)) new)
+            ≡ 0 = ap one_if e in omega (arith, zero_new, r.few m, alternatives_none m (guard_hold (guard_kind new)) new)
 
 pub placed_in : (name : ℕ → ℕ) (cuts : List ℕ) (next : ℕ) (sizes : List ℕ) (w a : Way) (es : List Entry)
     → IsPlacing name cuts next sizes w a es → IsPlacedSound a next sizes (placed_status next sizes (map (with_nodes name) es))

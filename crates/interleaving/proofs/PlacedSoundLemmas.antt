@@ -6,16 +6,16 @@ use Rattle.std.specs.List.{list_any}
 use Rattle.au_model.specs.Terms.Each.{Each}
 use Rattle.run_model.specs.Machine.Items.{Item, GoalItem, CatchMark, CollectMark, RemovalItem}
 use Rattle.run_model.specs.Machine.Entries.{Entry, PlainEntry, CatchEntry, FindallEntry, EndEntry}
-use Rattle.tree_model.specs.Nodes.{ChoiceNode, Hold, Ready, standing}
+use Rattle.tree_model.specs.Nodes.{ChoiceNode, Hold, Ready, alternatives_of}
 use Rattle.tree_model.specs.Floors.{with_nodes}
 use Rattle.tree_model.specs.Shapes.{further, is_guard, cuts_of_items, cuts_of_entry, cuts_of, is_unsplit, is_alone, guard_kind}
 use Rattle.tree_model.specs.Shapes.{guard_hold, further_alternatives}
 use Rattle.tree_model.specs.PendingLists.{Way}
 use Rattle.tree_model.specs.Ways.{is_on, is_query, under_query, IsAsked, IsAwake}
-use Rattle.tree_model.specs.SoundTrees.{count_among, IsOpen, profiles, none_sleeps, is_shape, AreSound}
+use Rattle.tree_model.specs.SoundTrees.{count_among, IsOpen, profiles, none_dormant, is_shape, AreSound}
 use Rattle.interleaving.proofs.RoundtripLemmas.{by_nodes, IsPath}
-use Rattle.interleaving.proofs.GrowingLemmas.{IsReadyOn, ready_below, ready_awake, standing_sound, standing_shape}
-use Rattle.interleaving.proofs.CollapseLemmas.{Collapses, kept, hidden, AreSeen, as_scopes, items_kept}
+use Rattle.interleaving.proofs.GrowingLemmas.{IsReadyOn, ready_below, ready_awake, alternatives_sound, alternatives_shape}
+use Rattle.interleaving.proofs.CollapseLemmas.{Collapses, kept, hidden, AreSeen, as_scopes, items_preserved}
 use Rattle.interleaving.proofs.StackLemmas.{entry_step, stack_way, length-stack, IsOver, AreOver}
 use Rattle.interleaving.proofs.RunSoundLemmas.{IsAwakeTop}
 use Rattle.au_term.proofs.LogicLemmas.{not-true}
@@ -117,7 +117,7 @@ hidden_steps name seen w a (FindallEntry results l f ∷ os) k v c = absurd k.0
 -- an entry under its new names
 pub placed_asked : (name : ℕ → ℕ) (seen : ℕ → Bool) (w a : Way) (items : List (Item ℕ)) → Collapses name seen w a → IsPath a → under_query a
     ≡ true → AreSeen seen items → IsAsked w (as_scopes items) → IsAsked a (by_nodes name items)
-placed_asked name seen w a items c p u v h = record { asked = u; scoped = items_kept name seen w a items c p v h.scoped }
+placed_asked name seen w a items c p u v h = record { asked = u; scoped = items_preserved name seen w a items c p v h.scoped }
 
 pub placed_ready : (name : ℕ → ℕ) (seen : ℕ → Bool) (w a : Way) (e : Entry) → Collapses name seen w a → IsPath a → under_query a ≡ true
     → IsSeen seen e → IsAwake e → IsOver w e → IsReadyOn a (with_nodes name e)
@@ -219,9 +219,9 @@ first_awake x [] k h = (k, tt)
 first_awake x (y ∷ os) k h = several_awake x y os h
 
 -- alternatives that hold nothing below them
-pub standing_none : (m : ℕ) (hold : Hold) (es : List Entry) → count_among m (standing hold es) ≡ 0
-standing_none m hold [] = refl
-standing_none m hold (e ∷ es) = let h = standing_none m hold es in omega (arith, h)
+pub alternatives_none : (m : ℕ) (hold : Hold) (es : List Entry) → count_among m (alternatives_of hold es) ≡ 0
+alternatives_none m hold [] = refl
+alternatives_none m hold (e ∷ es) = let h = alternatives_none m hold es in omega (arith, h)
 
 -- the older entries of a new node
 pub record IsOlder (name : ℕ → ℕ) (seen : ℕ → Bool) (w a : Way) (next : ℕ) (olds new : List Entry) : Type 0 where
@@ -243,7 +243,9 @@ plain_older name seen w a next o os j z k c p u off v h n hid =
     record {
       collapse = kept (entry_step o (length os + length w)) (record { node = next; index = 0; kind = guard_kind new }) (stack_way os w)
           a n refl (j ∙ sym z) low;
-      right = subst (λ kind. AreSound a next kind 1 (standing (guard_hold kind) new)) (sym z) (standing_sound a next 1 new off ready);
-      shape = subst (λ kind. is_shape kind (IsOpen ∷ profiles (standing (guard_hold kind) new)) ≡ true) (sym z) (standing_shape new);
+      right = subst (λ kind. AreSound a next kind 1 (alternatives_of (guard_hold kind) new)) (sym z)
+          (alternatives_sound a next 1 new off ready);
+      shape = subst (λ kind. is_shape kind (IsOpen ∷ profiles (alternatives_of (guard_hold kind) new)) ≡ true) (sym z)
+          (alternatives_shape new);
       no_query = ap is_query z;
     }

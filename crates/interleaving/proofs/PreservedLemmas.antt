@@ -172,8 +172,10 @@ module _ (clauses : List Clause) (p h : Name) (f : Continuation Name) (xs : List
             (x ∷ EndOf p ∷ xs);
       } in
       let lone : EachFindall (λ e. e ≡ 2 ∷ p → ⊥) xs = findalls-map (IsMadeElsewhere p) (λ e. e ≡ 2 ∷ p → ⊥) (λ e n q. n (2 ∷ []) q) xs
-      s.findalls in
-      (side x g (CollectMark t (2 ∷ p)) tt (other_child p, tt) guard refl (other_child p, tt), (under 1, ap element_count (from_own p xs), lone, k))
+      s.findalls in (
+        side x g (CollectMark t (2 ∷ p)) tt (other_child p, tt) guard refl (other_child p, tt),
+        (under 1, ap element_count (from_own p xs), lone, k),
+      )
 
 -- balls
 abbrev pub IsBall : Sought → Type 0

@@ -20,7 +20,7 @@ use Rattle.interleaving.proofs.OpenSpotLemmas.{IsOpenSpot, taken_at_open}
 use Rattle.interleaving.proofs.PlacedEntryLemmas.{at_spot as known_at}
 use Rattle.interleaving.proofs.GoingLemmas.{going, legal_parts}
 use Rattle.interleaving.proofs.ClockLemmas.{none_left}
-use Rattle.interleaving.proofs.ListScopeLemmas.{sleeps_on}
+use Rattle.interleaving.proofs.ListScopeLemmas.{dormant_on}
 use Rattle.interleaving.proofs.ListsSoundLemmas.{lists_are_sound}
 use Rattle.interleaving.proofs.CaughtContextLemmas.{caught_down}
 use Rattle.interleaving.proofs.PrunedBallLemmas.{PruneMoves, falls_so}
@@ -38,7 +38,7 @@ module _ (t : TreeState) (i : IsSoundTree t) (k : IsCaughtTree t) (running : t.h
       → PruneMoves t (gate_pruned s (gate_on t.job.clauses (levels_of s) (with_heights (levels_of s) e ∷ floor_of (levels_of s)))
       (or_none (taken_alone t.job.clauses (with_heights (levels_of s) e ∷ floor_of (levels_of s)))) t)
 
-  pub entry_moves : (e : Entry) → s.entry ≡ e → IsOnWay (way_of (levels_of s)) e → EntryCaught (sleeps_on (levels_of s)) e → Pruned e
+  pub entry_moves : (e : Entry) → s.entry ≡ e → IsOnWay (way_of (levels_of s)) e → EntryCaught (dormant_on (levels_of s)) e → Pruned e
   entry_moves (EndEntry b) e h m l = false_true l
   entry_moves (CatchEntry c r f) e h m l = false_true l
   entry_moves (FindallEntry results list f) e h m l = false_true l

@@ -38,7 +38,7 @@ use Rattle.interleaving.proofs.PublishedBareLemmas.{own_entry}
 use Rattle.interleaving.proofs.PublishedStepLemmas.{by_names, lead_becomes}
 use Rattle.au_term.specs.Term.{Term}
 use Rattle.run_model.specs.Machine.Items.{Item, CollectMark}
-use Rattle.interleaving.specs.Machine.{Vanishes}
+use Rattle.interleaving.specs.Machine.{Drops}
 use Rattle.interleaving.specs.Scopes.{Does, item_act, act}
 use Rattle.interleaving.specs.HeightMachine.{HeightCredit, HeightEntry}
 use Rattle.interleaving.specs.Erased.{element_count, height}
@@ -122,7 +122,7 @@ module _ (clauses : List Clause) (v : Level) (up : List Level) (next : ℕ) (f :
       (r.stands.entries ∙ ap (λ l. HeightEntry (PlainEntry g) ∷ l) (sym (below_erased (v ∷ up) (around_path (v ∷ up) IsOpen a)))) in
       let m = mark_first o.after.items (height (o.behind ++ below)) t hh gs (ap (λ x. x.items) o.heights ∙ first) in
       let s = m.0 in
-      let goes : ◌≡◌ {A = Does} (act clauses (Plain o.name o.after)) (Vanishes ((m.0, t) ∷ [])) = ap
+      let goes : ◌≡◌ {A = Does} (act clauses (Plain o.name o.after)) (Drops ((m.0, t) ∷ [])) = ap
       (λ is. item_act clauses is o.name o.after) m.2 in
       let sound_left = subst (λ l. IsSound (l ++ below)) o.same r.stands.sound in
       let entry = sound-after o.before (Plain o.name o.after ∷ (o.behind ++ below))

@@ -27,7 +27,7 @@ use Rattle.interleaving.proofs.NamedFloorLemmas.{below_named}
 use Rattle.interleaving.proofs.BaredLemmas.{may_then, made_at, made_grown}
 use Rattle.interleaving.proofs.PublishedBareLemmas.{own_plain}
 use Rattle.interleaving.proofs.NamingLemmas.{not-same}
-use Rattle.interleaving.proofs.BrancheLemmas.{pair_older}
+use Rattle.interleaving.proofs.BranchLemmas.{pair_older}
 use Rattle.interleaving.proofs.TestLemmas.{true_false}
 use Rattle.interleaving.proofs.LeadNameLemmas.{lead_far}
 use Rattle.interleaving.proofs.LeadRunLemmas.{lead_segment, new_entry, new_end, run_front, run_back, run_floor, deepest, run_stands}

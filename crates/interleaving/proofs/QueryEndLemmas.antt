@@ -114,7 +114,11 @@ module _ (t : TreeState) (w : ℕ) (a : Place) (s : Spot) (b : Option Term) (e :
     own = 0 ∷ length s.level.left ∷ s.level.number ∷ []
 
     abbrev world_after : Shared
-    world_after = record (shared_of answers t) { world = writes (end_line t.world.operators b) t.world; queries = remaining_queries t.queries }
+    world_after = record (shared_of answers t) {
+      world = writes
+          (end_line t.world.operators b) t.world;
+      queries = remaining_queries t.queries;
+    }
 
     open_spot : IsOpenSpot t.root s
     open_spot = record { inside = first.inside; opened = first.opened }
@@ -171,7 +175,8 @@ module _ (t : TreeState) (w : ℕ) (a : Place) (s : Spot) (b : Option Term) (e :
           left = [];
           taken = λ n. taken n ∙ (ap (λ qs.
               run m n (record (shared_of answers t)
-              { world = writes (end_line t.world.operators b) t.world; queries = remaining_queries qs }) (free_steps m [] (opened_elements own qs)))
+              { world = writes (end_line t.world.operators b) t.world; queries = remaining_queries qs })
+              (free_steps m [] (opened_elements own qs)))
               none ∙ ap (λ qs. run m n (record (shared_of answers t)
               { world = writes (end_line t.world.operators b) t.world; queries = qs }) []) (sym none));
           credit = 1;
@@ -179,7 +184,8 @@ module _ (t : TreeState) (w : ℕ) (a : Place) (s : Spot) (b : Option Term) (e :
           rest = back;
           follows = record {
             alike = λ n w x y. ap seen (credits_over clauses (front ++ (Credit 1 [] ∷ back)) n w
-                (quiet-append front (Credit 1 [] ∷ back) quiet (ends_quiet back ends)) (omega (arith, x, whole, element_count, zero_back, none_spent))
+                (quiet-append front (Credit 1 [] ∷ back) quiet (ends_quiet back ends))
+                (omega (arith, x, whole, element_count, zero_back, none_spent))
                 ∙ sym (credits_over clauses (pending_list new.root) n w settled.quiet
                 (omega (arith, x, less, whole, element_count, zero_back, none_spent, is_base))));
             lead = λ x b l. settled.enough x b (omega (arith, is_base, l));
@@ -210,7 +216,8 @@ module _ (t : TreeState) (w : ℕ) (a : Place) (s : Spot) (b : Option Term) (e :
         let sound : IsSound (inner ++ back) =
         (sound-after front (Credit (s.level.spent + 1) [] ∷ (inner ++ back)) (subst IsSound list (lists_are_sound new j r))).1 in
         let bares = bare_becomes clauses [] inner back in
-        let free = names_are_free clauses (opened_elements own (q ∷ qs)) (bare inner ++ back) (opened-sound own (q ∷ qs)) (bares.sound sound)
+        let free = names_are_free clauses (opened_elements own (q ∷ qs)) (bare inner ++ back) (opened-sound own (q ∷ qs))
+        (bares.sound sound)
         (opened_same own q qs (way_of levels) t.next back ends) in
         let still : has_end (pending_list new.root) ≡ true = ap has_end list
         ∙ end_after front (Credit (s.level.spent + 1) [] ∷ (inner ++ back)) refl in
@@ -220,7 +227,8 @@ module _ (t : TreeState) (w : ℕ) (a : Place) (s : Spot) (b : Option Term) (e :
           left = opened_elements own (q ∷ qs);
           taken = λ n. taken n ∙ ap (λ x.
               run m n (record (shared_of answers t)
-              { world = writes (end_line t.world.operators b) t.world; queries = remaining_queries x }) (free_steps m [] (opened_elements own x)))
+              { world = writes (end_line t.world.operators b) t.world; queries = remaining_queries x })
+              (free_steps m [] (opened_elements own x)))
               some;
           credit = s.level.spent + 1;
           one = refl;

@@ -23,7 +23,7 @@ use Rattle.interleaving.proofs.ContextLemmas.{IsAround}
 use Rattle.interleaving.proofs.QuietCreditLemmas.{gives-fixed}
 use Rattle.interleaving.proofs.ClockLemmas.{AreShut, AreClear, quiet-append, front_quiet}
 use Rattle.interleaving.proofs.LeadLemmas.{lead-quiet, lead-grows, lead-bounded}
-use Rattle.interleaving.proofs.FoldLemmas.{SidesKept, LeftSides, node_totals, node_list, closed_round}
+use Rattle.interleaving.proofs.FoldLemmas.{HaveNoSideRecords, LeftSides, node_totals, node_list, closed_round}
 use Rattle.interleaving.proofs.ClosingListLemmas.{closed_list, no_side}
 use Rattle.interleaving.proofs.CaughtContextLemmas.{last_put, last_at}
 use Rattle.interleaving.proofs.TestLemmas.{false_true}
@@ -163,7 +163,8 @@ ends_quiet (Findall s u results list p f ∷ xs) h = absurd h
 ends_quiet (End p b ∷ xs) h = absurd h
 
 -- a closed place with nothing to its right
-closed_quiet : (levels : List Level) (c : TreeCredit) → AreClear levels → RightsNone levels → IsQuiet (pending_list (plug levels (Closed c)))
+closed_quiet : (levels : List Level) (c : TreeCredit) → AreClear levels → RightsNone levels
+    → IsQuiet (pending_list (plug levels (Closed c)))
 closed_quiet levels c clear n = subst IsQuiet (sym (closed_list levels c))
     (quiet-append (front_of levels) (balance_on (way_of levels) c ∷ back_of levels) (front_quiet levels clear)
     (ends_quiet (back_of levels) (back_ends levels n)))
@@ -199,7 +200,7 @@ fold_lead v u up c total sides off e clear n =
     list_inner up v c = list_left (way_of up) v.number v.kind v.left ++ (balance_on (way_of (v ∷ up)) c ∷ list_right (way_of up) v)
 
 pub closes_lead : (next : ℕ) (levels : List Level) (c : TreeCredit) → IsAround levels IsOpen → AreClear levels → RightsNone levels
-    → SidesKept levels → CountsLess (pending_list (plug levels (Closed c))) (pending_list (closes next levels c).root)
+    → HaveNoSideRecords levels → CountsLess (pending_list (plug levels (Closed c))) (pending_list (closes next levels c).root)
 closes_lead next [] c a clear n s = counts_itself (pending_list (Closed c)) tt
 closes_lead next (v ∷ up) c a clear n s =
     let g = none_guarded v n.0 in

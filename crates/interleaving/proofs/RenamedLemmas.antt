@@ -118,7 +118,8 @@ module _ (own new p q : Name) (rest : List Element) (older_new : IsMadeElsewhere
           (cond b (GoalItem t new ∷ lead_items own new items) (GoalItem t g ∷ items))
           ≡ map (with_height (height (EndOf own ∷ rest))) (GoalItem t g ∷ items)
       go true e r =
-          let one : height (EndOf new ∷ EndOf own ∷ rest) new ≡ height (EndOf own ∷ rest) g = ap element_count (from_own new (EndOf own ∷ rest))
+          let one : height (EndOf new ∷ EndOf own ∷ rest) new
+          ≡ height (EndOf own ∷ rest) g = ap element_count (from_own new (EndOf own ∷ rest))
           ∙ sym (ap (height (EndOf own ∷ rest)) (same-true g own e) ∙ ap element_count (from_own own rest)) in
           ap (λ n. GoalItem t n ∷ map (with_height (height (EndOf new ∷ EndOf own ∷ rest))) (lead_items own new items)) one
           ∙ ap (λ l. GoalItem t (height (EndOf own ∷ rest) g) ∷ l) r

@@ -1,7 +1,7 @@
 -- The free steps and searches in front of other elements.
 use Rattle.std.proofs.Common.{◌≡◌, ◌⊎◌, inl, inr, List, [], ◌∷◌, ◌++◌, map, Some, None, refl, sym, ap, ◌∙◌}
 use Rattle.au_model.specs.Terms.Each.{Each}
-use Rattle.interleaving.specs.Machine.{Machine, Act, Vanishes, Wakes, Takes, Asks, Look, On, Here, Replacement, Put, Only, Seek, gives}
+use Rattle.interleaving.specs.Machine.{Machine, Act, Drops, Becomes, Infers, AsksWorld, Look, On, Here, Replacement, Put, Only, Seek, gives}
 use Rattle.interleaving.specs.Machine.{looked}
 use Rattle.interleaving.specs.Machine.{search_for, placed, freed, free_steps}
 use Rattle.interleaving.proofs.AppendLemmas.{append-assoc, append-nil}
@@ -35,10 +35,10 @@ module _ {W X Q R : Type 0} (m : Machine W X Q R) where
 
   pub freed-same : (a : Act W X Q R) (y : X) (f g : List R → List X) (xs ys : List X) → ((new : List R) → f new ≡ g new) → xs ≡ ys
       → freed m a y f xs ≡ freed m a y g ys
-  freed-same (Vanishes rs) y f g xs ys h e = h rs
-  freed-same (Wakes z) y f g xs ys h e = ap (λ zs. z ∷ zs) e
-  freed-same (Takes p) y f g xs ys h e = ap (λ zs. y ∷ zs) e
-  freed-same (Asks p) y f g xs ys h e = ap (λ zs. y ∷ zs) e
+  freed-same (Drops rs) y f g xs ys h e = h rs
+  freed-same (Becomes z) y f g xs ys h e = ap (λ zs. z ∷ zs) e
+  freed-same (Infers p) y f g xs ys h e = ap (λ zs. y ∷ zs) e
+  freed-same (AsksWorld p) y f g xs ys h e = ap (λ zs. y ∷ zs) e
 
   -- records that are under way, and records that were given
   pub settle-given : (rs qs : List R) (xs : List X) → free_steps m (rs ++ qs) xs ≡ free_steps m qs (map (gives m rs) xs)
@@ -60,10 +60,10 @@ module _ {W X Q R : Type 0} (m : Machine W X Q R) where
     PlaceOk (Seek q) = K q
 
     abbrev pub ActOk : Act W X Q R → Type 0
-    ActOk (Vanishes rs) = Each G rs
-    ActOk (Wakes y) = P y
-    ActOk (Takes p) = PlaceOk p
-    ActOk (Asks g) = (w : W) → PlaceOk (g w).1
+    ActOk (Drops rs) = Each G rs
+    ActOk (Becomes y) = P y
+    ActOk (Infers p) = PlaceOk p
+    ActOk (AsksWorld g) = (w : W) → PlaceOk (g w).1
 
     abbrev pub LookOk : Look X Q → Type 0
     LookOk (On q) = K q
@@ -153,12 +153,12 @@ module _ {W X Q R : Type 0} (m : Machine W X Q R) where
 
           go : (a : Act W X Q R) → m.act (gives m qs x) ≡ a → ActOk a → ((new : List R) → Each G new → Freed (qs ++ new) xs)
               → Freed qs (x ∷ xs)
-          go (Vanishes new) e ok next = elim (next new ok).2 [
-            | inl f ↦ ((next new ok).0, (next new ok).1, inl (λ zs. at zs (Vanishes new) e ∙ f zs))
-            | inr f ↦ ((next new ok).0, (next new ok).1, inr (f.0, f.1, f.2, f.3, λ zs. at zs (Vanishes new) e ∙ f.4 zs))
+          go (Drops new) e ok next = elim (next new ok).2 [
+            | inl f ↦ ((next new ok).0, (next new ok).1, inl (λ zs. at zs (Drops new) e ∙ f zs))
+            | inr f ↦ ((next new ok).0, (next new ok).1, inr (f.0, f.1, f.2, f.3, λ zs. at zs (Drops new) e ∙ f.4 zs))
           ]
-          go (Wakes y) e ok next = (qs, h, inr (y, map (gives m qs) xs, ok, map-ok c qs xs h k.1, λ zs. at zs (Wakes y) e ∙ stays y zs))
-          go (Takes p) e ok next = (
+          go (Becomes y) e ok next = (qs, h, inr (y, map (gives m qs) xs, ok, map-ok c qs xs h k.1, λ zs. at zs (Becomes y) e ∙ stays y zs))
+          go (Infers p) e ok next = (
             qs,
             h,
             inr (
@@ -166,11 +166,11 @@ module _ {W X Q R : Type 0} (m : Machine W X Q R) where
               map (gives m qs) xs,
               here,
               map-ok c qs xs h k.1,
-              λ zs. at zs (Takes p) e
+              λ zs. at zs (Infers p) e
                   ∙ stays (gives m qs x) zs,
             ),
           )
-          go (Asks g) e ok next = (
+          go (AsksWorld g) e ok next = (
             qs,
             h,
             inr (
@@ -178,7 +178,7 @@ module _ {W X Q R : Type 0} (m : Machine W X Q R) where
               map (gives m qs) xs,
               here,
               map-ok c qs xs h k.1,
-              λ zs. at zs (Asks g) e
+              λ zs. at zs (AsksWorld g) e
                   ∙ stays (gives m qs x) zs,
             ),
           )

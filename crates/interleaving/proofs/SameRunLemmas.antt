@@ -15,22 +15,22 @@ use Rattle.run_model.specs.Machine.Balls.{unwound}
 use Rattle.tree_model.specs.Nodes.{CutGate, BallGate}
 use Rattle.tree_model.specs.Levels.{Level}
 use Rattle.tree_model.specs.Floors.{node_of, floor_of}
-use Rattle.tree_model.specs.Gates.{landing_scope, ball_gate, control_gate, goal_gate, item_gate, gate_on}
+use Rattle.tree_model.specs.Gates.{ball_scope, ball_gate, control_gate, goal_gate, item_gate, gate_on}
 use Rattle.tree_model.specs.PrivateRuns.{own_settles, own_free_steps, own_part, goal_alone, item_alone, taken_alone, if_no_gate}
 use Rattle.tree_model.specs.PrivateRuns.{own_after, one_more, if_any, private_run}
-use Rattle.interleaving.specs.OwnRuns.{landed, own_control, own_goal, own_item, own_left}
+use Rattle.interleaving.specs.OwnRuns.{caught_own, own_control, own_goal, own_item, own_left}
 use Rattle.interleaving.specs.OwnRuns.{own_more, own_run}
 use Rattle.run_model.proofs.FreeStepLemmas.{length-collected}
 use Rattle.interleaving.proofs.EntryLemmas.{length-floor}
 
-landed_same : (levels : List Level) (es : List Entry) → if_no_gate (ball_gate levels es) (Some es) ≡ landed (length levels) es
-landed_same levels [] = refl
-landed_same levels (EndEntry b ∷ es) = refl
-landed_same levels (CatchEntry c r f ∷ es) = refl
-landed_same levels (FindallEntry results l f ∷ es) = refl
-landed_same levels (PlainEntry f ∷ es) = go (nat_le (length levels) (length es))
+caught_own_same : (levels : List Level) (es : List Entry) → if_no_gate (ball_gate levels es) (Some es) ≡ caught_own (length levels) es
+caught_own_same levels [] = refl
+caught_own_same levels (EndEntry b ∷ es) = refl
+caught_own_same levels (CatchEntry c r f ∷ es) = refl
+caught_own_same levels (FindallEntry results l f ∷ es) = refl
+caught_own_same levels (PlainEntry f ∷ es) = go (nat_le (length levels) (length es))
   where
-    go : (b : Bool) → if_no_gate (cond b None (Some (BallGate (landing_scope levels (PlainEntry f ∷ es))))) (Some (PlainEntry f ∷ es))
+    go : (b : Bool) → if_no_gate (cond b None (Some (BallGate (ball_scope levels (PlainEntry f ∷ es))))) (Some (PlainEntry f ∷ es))
         ≡ cond b (Some (PlainEntry f ∷ es)) None
     go true = refl
     go false = refl
@@ -52,7 +52,7 @@ control_same levels CutToScope h f es = go (nat_lt h (length levels))
 goal_same : (levels : List Level) (o : Outcome) (h : ℕ) (f : Continuation ℕ) (es : List Entry)
     → if_no_gate (goal_gate levels o h f es) (Some (goal_alone o h f es)) ≡ own_goal o h f es (length levels)
 goal_same levels (Replies (Solutions ss)) h f es = refl
-goal_same levels (Replies (Ball b)) h f es = landed_same levels (unwound b (first_mark f.items) es)
+goal_same levels (Replies (Ball b)) h f es = caught_own_same levels (unwound b (first_mark f.items) es)
 goal_same levels (Replies (HaltNumber k)) h f es = refl
 goal_same levels (Controls form) h f es = control_same levels form h f es
 goal_same levels (AskWorld goal) h f es = refl

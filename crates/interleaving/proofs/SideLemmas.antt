@@ -85,7 +85,8 @@ module _ (i n next : ℕ) where
       let here = h v.number (at_least v up) in (
         tt,
         each-append (IsBlind (made_at (i ∷ n ∷ []) next)) _ (back_of up)
-            (blind_among i n next (way_of up) v.number v.kind (suc (length v.left)) v.right (way_out up (λ r l. h r (omega (arith, l)))) here
+            (blind_among i n next (way_of up) v.number v.kind (suc (length v.left)) v.right
+            (way_out up (λ r l. h r (omega (arith, l)))) here
             a.0.right (λ r l. h r (omega (arith, l))))
             (blind_back up IsOpen a.1 (λ r l. h r (omega (arith, l)))),
       )

@@ -9,7 +9,7 @@ use Rattle.tree_model.specs.Nodes.{Alternatives, none, alternative, Status, Pend
 use Rattle.tree_model.specs.Levels.{Level}
 use Rattle.tree_model.specs.PendingLists.{Step, Way, way_of, list_in, list_among, list_below, back_of}
 use Rattle.tree_model.specs.Ways.{is_on}
-use Rattle.tree_model.specs.SoundTrees.{count_in, count_among, count_below, guards, IsOpen, Sleeps, profile, profiles, is_shape}
+use Rattle.tree_model.specs.SoundTrees.{count_in, count_among, count_below, guards, IsOpen, IsDormant, profile, profiles, is_shape}
 use Rattle.interleaving.proofs.WayLemmas.{off_way, one_if-zero}
 use Rattle.interleaving.proofs.AppendLemmas.{append-assoc}
 use Rattle.interleaving.proofs.NamingLemmas.{from_end}
@@ -17,7 +17,7 @@ use Rattle.interleaving.proofs.ApartLemmas.{same-true}
 use Rattle.interleaving.proofs.NamingLemmas.{same-itself}
 use Rattle.interleaving.proofs.ContextLemmas.{put_profiles, count_around}
 use Rattle.interleaving.proofs.ClosingSoundLemmas.{IsFree}
-use Rattle.interleaving.proofs.GrowingLemmas.{none_sleeps-of, no_three}
+use Rattle.interleaving.proofs.GrowingLemmas.{none_dormant-of, no_three}
 use Rattle.interleaving.proofs.NamedFloorLemmas.{from-element, right_named}
 use Rattle.interleaving.proofs.PublishedBareLemmas.{right_of}
 use Rattle.interleaving.proofs.TestLemmas.{true_false, number_same}
@@ -81,17 +81,17 @@ skip_right next v up f p k r h = skip_among (way_of up) v.number v.kind (suc (le
     (not_own v up r p h) (not_beside next v up f r h)
 
 -- what sleeps is the last alternative
-pub last_sleeps : (kind : Kind) (left : List (ℕ × Status)) (k : Kind) (others : Alternatives)
-    → is_shape kind (put_profiles left (IsOpen ∷ Sleeps k ∷ profiles others)) ≡ true → others ≡ none
-last_sleeps kind left k none h = refl
-last_sleeps ChoiceNode left k (alternative spent status others) h = absurd
-    (true_false (sym (none_sleeps-of left (IsOpen ∷ Sleeps k ∷ profile status ∷ profiles others) h)))
-last_sleeps CatchNode left k (alternative spent status others) h = absurd
-    (no_three CatchNode left IsOpen (Sleeps k) (profile status) (profiles others) h)
-last_sleeps FindallNode left k (alternative spent status others) h = absurd
-    (no_three FindallNode left IsOpen (Sleeps k) (profile status) (profiles others) h)
-last_sleeps QueryNode left k (alternative spent status others) h = absurd
-    (no_three QueryNode left IsOpen (Sleeps k) (profile status) (profiles others) h)
+pub last_dormant : (kind : Kind) (left : List (ℕ × Status)) (k : Kind) (others : Alternatives)
+    → is_shape kind (put_profiles left (IsOpen ∷ IsDormant k ∷ profiles others)) ≡ true → others ≡ none
+last_dormant kind left k none h = refl
+last_dormant ChoiceNode left k (alternative spent status others) h = absurd
+    (true_false (sym (none_dormant-of left (IsOpen ∷ IsDormant k ∷ profile status ∷ profiles others) h)))
+last_dormant CatchNode left k (alternative spent status others) h = absurd
+    (no_three CatchNode left IsOpen (IsDormant k) (profile status) (profiles others) h)
+last_dormant FindallNode left k (alternative spent status others) h = absurd
+    (no_three FindallNode left IsOpen (IsDormant k) (profile status) (profiles others) h)
+last_dormant QueryNode left k (alternative spent status others) h = absurd
+    (no_three QueryNode left IsOpen (IsDormant k) (profile status) (profiles others) h)
 
 -- either one entry sleeps to the right, or none does
 pub record Asleep (right : Alternatives) : Type 0 where
@@ -115,7 +115,7 @@ sleeping n i way kind left (alternative spent (Pending Dormant e) others) h = in
       spent = spent;
       entry = e;
       same = ap (λ o. alternative spent (Pending Dormant e) o)
-          (last_sleeps kind left (guards e) others h);
+          (last_dormant kind left (guards e) others h);
     })
 
 -- names are the same or not

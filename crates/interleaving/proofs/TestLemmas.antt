@@ -1,7 +1,6 @@
 -- Tests of numbers, and tests joined by `or`; what contradicts itself.
-use Rattle.std.proofs.Common.{◌≡◌, ℕ, ◌<◌, Bool, true, false, ◌||◌, ◌==◌, refl, arith}
+use Rattle.std.proofs.Common.{◌≡◌, ℕ, ◌<◌, ◌≤◌, Bool, true, false, ◌||◌, ◌==◌, nat_lt, arith}
 use Rattle.std.proofs.lemmas.Bool.Decides.{nat_tests}
-use Rattle.au_model.proofs.ApplyLemmas.{or_left, or_right}
 
 pub false_true : {A : Type 0} → false ≡ true → A
 false_true h = let no_way : ⊥ = cc in absurd no_way
@@ -21,3 +20,9 @@ number_turned m n = grind (arith, nat_tests)
 
 pub not_equal : (m n : ℕ) → m < n → (m == n) ≡ false
 not_equal m n h = grind (arith, nat_tests)
+
+pub not_less : (p q : ℕ) → q ≤ p → nat_lt p q ≡ false
+not_less p q l = grind (arith, nat_tests)
+
+pub less : (p q : ℕ) → p < q → nat_lt p q ≡ true
+less p q l = grind (arith, nat_tests)

@@ -45,8 +45,8 @@ past s e xs h p = (p.0, sym (from_end e s xs h) ∙ p.1)
 
 -- an end among what sleeps at a level and the floor above
 module _ (v : Level) (up : List Level) where
-  abbrev sleeper_end : Name
-  sleeper_end = suc (length v.left) ∷ v.number ∷ []
+  abbrev dormant_end : Name
+  dormant_end = suc (length v.left) ∷ v.number ∷ []
 
   right_past : (s : Name) → (s ≡ suc (length v.left) ∷ v.number ∷ [] → ⊥) → (xs : List Element)
       → Asleep v.right ⊎ Awake v.number (suc (length v.left)) (way_of up) v.right

@@ -131,7 +131,8 @@ may_go : (t : TreeState) (s : Spot) (ss : List Spot) (hold : Hold) → s.hold �
     → plug (levels_of s) (Pending s.hold s.entry) ≡ t.root → first_open (levels_of s) ≡ None → profile (Pending s.hold s.entry) ≡ IsOpen
     → tasks_out t ≡ [] → claimable t ≢ None ⊎ resumable t ≢ None
 may_go t s ss Ready e p i c o k =
-    let ready : find (λ r. is_ready r.hold) (pending_spots t) ≡ Some s = first_found (λ r. is_ready r.hold) (pending_spots t) s ss p (ap is_ready e) in
+    let ready : find (λ r. is_ready r.hold) (pending_spots t)
+    ≡ Some s = first_found (λ r. is_ready r.hold) (pending_spots t) s ss p (ap is_ready e) in
     let left : leftmost t ≡ Some s = ap first_spot p in
     let here : is_spot_at (place_of_spot s) (leftmost t) ≡ true = ap (is_spot_at (place_of_spot s)) left ∙ place_self (place_of_spot s) in
     let room : if_room t (Some s) ≡ Some s = cond-true _ (Some s) None (ap (λ b. b || nat_lt (live t) t.window) here) in

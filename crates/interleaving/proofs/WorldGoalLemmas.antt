@@ -24,7 +24,7 @@ use Rattle.tree_model.specs.Ways.{under_query, AreScoped}
 use Rattle.tree_model.specs.SoundTrees.{IsSoundTree}
 use Rattle.tree_model.specs.CaughtTrees.{IsCaughtTree}
 use Rattle.tree_model.specs.Elements.{Name, Element, Plain, EndOf}
-use Rattle.interleaving.specs.Machine.{Asks, gives, free_steps, run}
+use Rattle.interleaving.specs.Machine.{AsksWorld, gives, free_steps, run}
 use Rattle.interleaving.specs.Scopes.{Shared, ElementReplacement, act, item_act, goal_act, world_replied, removed, unified_element}
 use Rattle.interleaving.specs.Scopes.{solution_elements, scoped}
 use Rattle.interleaving.specs.Quiet.{records}
@@ -52,7 +52,8 @@ none_solved clauses j h p fn fh e (s ∷ ss) q = go (unifier s.equations) q (λ 
   where
     go : (o : Option Substitution) → unified o (with_next (fh.next + s.variables) (before (goals_at h s.goals) fh))
         ++ solution_entries h fh ss ≡ [] → (solution_entries h fh ss ≡ [] → solution_elements (suc j) p fn ss ≡ EndOf p ∷ [])
-        → unified_element o (j ∷ p) (with_next (fn.next + s.variables) (before (goals_at p s.goals) fn)) ++ solution_elements (suc j) p fn ss
+        → unified_element o (j ∷ p) (with_next (fn.next + s.variables) (before (goals_at p s.goals) fn))
+        ++ solution_elements (suc j) p fn ss
         ≡ EndOf p ∷ []
     go None z f = f z
     go (Some o) z f = let no_way : ⊥ = cc in absurd no_way
@@ -129,12 +130,12 @@ module _ (t : TreeState) (w : ℕ) (a : Place) (s : Spot) (f : Continuation ℕ)
         let ws : without_marks named.items ≡ GoalItem goal (sc scope) ∷ map (renamed_item sc sc) items = dropped_names sc sc f.items
         ∙ ap (map (renamed_item sc sc)) q in
         let asks : act clauses (bare clauses own named)
-        ≡ Asks g = ap (λ is. item_act clauses is own (with_items (without_marks named.items) named)) ws
+        ≡ AsksWorld g = ap (λ is. item_act clauses is own (with_items (without_marks named.items) named)) ws
         ∙ ap (λ o. goal_act clauses o own (sc scope) nr) outcome in
         subst (λ new. AnswerMoves t new answers answers) (sym tree) (go es refl (subst IsSoundTree tree j) (subst IsCaughtTree tree r) asks)
       where
         is_left : (es : List Entry) → act t.job.clauses (bare t.job.clauses own (named_continuation way f))
-            ≡ Asks (λ v. world_replied (world_step t.job.clauses ask f.next v.world) own
+            ≡ AsksWorld (λ v. world_replied (world_step t.job.clauses ask f.next v.world) own
             (record { items = map (renamed_item sc sc) items; named = f.named; next = f.next }) v)
             → IsLeft t s f after (Answer w a false) answers i k running first entry asked
             (λ v. world_replied (world_step t.job.clauses ask f.next v.world) own
@@ -159,7 +160,7 @@ module _ (t : TreeState) (w : ℕ) (a : Place) (s : Spot) (f : Continuation ℕ)
             (height_rest s.level s.above t.next (free_at t s i open_spot) [] f items looks) ss ≡ es
             → IsSoundTree (left_tree t s es after (Answer w a false)) → IsCaughtTree (left_tree t s es after (Answer w a false))
             → act t.job.clauses (bare t.job.clauses own (named_continuation way f))
-            ≡ Asks (λ v. world_replied (world_step t.job.clauses ask f.next v.world) own
+            ≡ AsksWorld (λ v. world_replied (world_step t.job.clauses ask f.next v.world) own
             (record { items = map (renamed_item sc sc) items; named = f.named; next = f.next }) v)
             → AnswerMoves t (left_tree t s es after (Answer w a false)) answers answers
         go [] eq j r asks =
@@ -194,7 +195,7 @@ module _ (t : TreeState) (w : ℕ) (a : Place) (s : Spot) (f : Continuation ℕ)
         let ws : without_marks named.items ≡ RemovalItem number ∷ map (renamed_item sc sc) items = dropped_names sc sc f.items
         ∙ ap (map (renamed_item sc sc)) q in
         let asks : act t.job.clauses (bare t.job.clauses own named)
-        ≡ Asks (λ v. removed (without_clause number v.world.database) own
+        ≡ AsksWorld (λ v. removed (without_clause number v.world.database) own
         (record { items = map (renamed_item sc sc) items; named = f.named; next = f.next }) v) = ap
         (λ is. item_act t.job.clauses is own (with_items (without_marks named.items) named)) ws in
         go (without_clause number t.world.database) refl asks
@@ -208,7 +209,7 @@ module _ (t : TreeState) (w : ℕ) (a : Place) (s : Spot) (f : Continuation ℕ)
 
         go : (o : Option Database) → without_clause number t.world.database ≡ o
             → act t.job.clauses (bare t.job.clauses own (named_continuation way f))
-            ≡ Asks (λ v. removed (without_clause number v.world.database) own
+            ≡ AsksWorld (λ v. removed (without_clause number v.world.database) own
             (record { items = map (renamed_item sc sc) items; named = f.named; next = f.next }) v)
             → AnswerMoves t (after_event t (Answer w a false)) answers answers
         go None z asks =

@@ -104,8 +104,9 @@ AnswersMove = (t : TreeState) (w : ℕ) (a : Place) (answers : ℕ) → IsSoundT
     → IsSoundTree (after_event t (Answer w a false)) → IsCaughtTree (after_event t (Answer w a false)) → is_legal t (Answer w a false)
     ≡ true → AnswerMoves t (after_event t (Answer w a false)) answers (answers + answers_next t)
 
-abbrev pub KeepsCaught : (Event → Type 0) → Type 0
-KeepsCaught ok = (t : TreeState) (e : Event) → ok e → IsSoundTree t → IsCaughtTree t → is_legal t e ≡ true → IsCaughtTree (after_event t e)
+abbrev pub PreservesCaught : (Event → Type 0) → Type 0
+PreservesCaught ok = (t : TreeState) (e : Event) → ok e → IsSoundTree t → IsCaughtTree t → is_legal t e ≡ true
+    → IsCaughtTree (after_event t e)
 
 -- any event
 abbrev pub IsAny : Event → Type 0

@@ -4,7 +4,8 @@ use Rattle.std.specs.Option.{option_map}
 use Rattle.au_model.specs.Terms.Each.{Each}
 use Rattle.run_model.specs.Programs.Clauses.{Clause}
 use Rattle.run_model.specs.Machine.Items.{Continuation}
-use Rattle.interleaving.specs.Machine.{Vanishes, Wakes, Asks, Takes, Put, Seek, gives, placed, free_steps, run, is_finished, seen, Alike}
+use Rattle.interleaving.specs.Machine.{Drops, Becomes, AsksWorld, Infers, Put, Seek, gives, placed, free_steps, run, is_finished, seen}
+use Rattle.interleaving.specs.Machine.{Alike}
 use Rattle.tree_model.specs.Elements.{Name, Record, Element, Credit, Plain, EndOf}
 use Rattle.interleaving.specs.Scopes.{Shared, Scope, ElementReplacement, act, scoped}
 use Rattle.interleaving.specs.Segments.{all_inner, outer, run_alone, search_in, placed_in, Private}
@@ -25,6 +26,11 @@ alone clauses inside k a = option_map (λ s. s.1)
 -- the same, where records may leave the segment: these records, and what is left
 abbrev pub run_off : List Clause → (Name → Bool) → ℕ → List Element → Option (List Record × List Element)
 run_off clauses inside k a = run_alone (scoped clauses) (is_inner_record inside) (λ new. true) k a
+
+-- that is a private run
+abbrev pub AloneIsPrivate : List Clause → Type 0
+AloneIsPrivate clauses = (inside : Name → Bool) (k : ℕ) (a b : List Element) → alone clauses inside k a ≡ Some b
+    → Private (scoped clauses) (is_inner_record inside) k [] a b
 
 -- a segment, an entry or a credit in it, between what sees none of it and what has no Findall entry of it
 pub record IsSegment (inside : Name → Bool) (pre a zs : List Element) : Type 0 where
@@ -68,8 +74,9 @@ QuietEarly clauses =
 -- an inference after credits alone that stays in the segment: a cut, or a ball that is caught there
 abbrev pub TakenEarly : List Clause → Type 0
 TakenEarly clauses =
-    (inside : Name → Bool) (xs : List Element) (x : Element) (p : ElementReplacement) (pre mid b zs : List Element) → IsQuiet xs → act clauses x
-    ≡ Takes p
+    (inside : Name → Bool) (xs : List Element) (x : Element) (p : ElementReplacement) (pre mid b zs : List Element) → IsQuiet xs
+    → act clauses x
+    ≡ Infers p
     → placed_in (scoped clauses) p (map (gives (scoped clauses) (records xs)) mid) ≡ Some b → IsSegment inside pre (xs ++ (x ∷ mid)) zs
     → MayBecome clauses (pre ++ ((xs ++ (x ∷ mid)) ++ zs))
     (pre ++ (Credit (inferences xs + 1) (outer (is_inner_record inside) (records xs)) ∷ (b ++ zs)))
@@ -78,7 +85,7 @@ TakenEarly clauses =
 abbrev pub WokenEarly : List Clause → Type 0
 WokenEarly clauses =
     (inside : Name → Bool) (xs : List Element) (x y : Element) (pre zs : List Element) → IsQuiet xs
-    → act clauses (gives (scoped clauses) (records xs) x) ≡ Wakes y
+    → act clauses (gives (scoped clauses) (records xs) x) ≡ Becomes y
     → IsSegment inside pre (xs ++ (x ∷ [])) zs
     → MayBecome clauses (pre ++ ((xs ++ (x ∷ [])) ++ zs))
     (pre ++ (Credit (inferences xs) (outer (is_inner_record inside) (records xs)) ∷ (y ∷ zs)))
@@ -87,7 +94,7 @@ WokenEarly clauses =
 abbrev pub CollectedEarly : List Clause → Type 0
 CollectedEarly clauses =
     (inside : Name → Bool) (p : Name) (f : Continuation Name) (rs : List Record) (pre zs : List Element) → act clauses (Plain p f)
-    ≡ Vanishes rs → Each (IsBlind inside) pre → inside p ≡ true
+    ≡ Drops rs → Each (IsBlind inside) pre → inside p ≡ true
     → MayBecome clauses (pre ++ (Plain p f ∷ zs)) (pre ++ (Credit 0 rs ∷ zs))
 
 -- two segments that come to the same by themselves
@@ -117,7 +124,7 @@ NoCredit clauses = (pre zs : List Element) → MayBecome clauses (pre ++ (Credit
 abbrev pub FrontGate : List Clause → Type 0
 FrontGate clauses =
     (xs : List Element) (x : Element) (g : Shared → Shared × ElementReplacement) (zs : List Element) (w : Shared) (n : ℕ) → IsQuiet xs
-    → act clauses x ≡ Asks g
+    → act clauses x ≡ AsksWorld g
     → let m = scoped clauses in
     let k = inferences xs in
     run m (k + suc n) w (free_steps m [] (xs ++ (x ∷ zs)))
@@ -127,7 +134,7 @@ FrontGate clauses =
 abbrev pub FrontGateInPlace : List Clause → Type 0
 FrontGateInPlace clauses =
     (xs : List Element) (x : Element) (g : Shared → Shared × ElementReplacement) (ys zs : List Element) (w : Shared) (n : ℕ) → IsQuiet xs
-    → act clauses x ≡ Asks g → (g w).1 ≡ Put ys → Each IsFixed ys
+    → act clauses x ≡ AsksWorld g → (g w).1 ≡ Put ys → Each IsFixed ys
     → let m = scoped clauses in
     let k = inferences xs in
     run m (k + suc n) w (free_steps m [] (xs ++ (x ∷ zs))) ≡ run m (k + suc n) (g w).0 (free_steps m [] (xs ++ (Credit 1 [] ∷ (ys ++ zs))))
@@ -136,7 +143,7 @@ FrontGateInPlace clauses =
 abbrev pub CutInPlace : List Clause → Type 0
 CutInPlace clauses =
     (inside : Name → Bool) (xs : List Element) (p : Name) (f after : Continuation Name) (h : Name) (pre mid zs : List Element)
-    → IsQuiet xs → act clauses (Plain p f) ≡ Takes (Seek (Scope h (Plain p after)))
+    → IsQuiet xs → act clauses (Plain p f) ≡ Infers (Seek (Scope h (Plain p after)))
     → search_in (scoped clauses) (Scope h (Plain p after)) mid ≡ Some (Plain p after ∷ EndOf h ∷ [])
     → IsSegment inside pre (xs ++ (Plain p f ∷ mid)) zs
     → Alike (scoped clauses) (pre ++ ((xs ++ (Plain p f ∷ mid)) ++ zs))
@@ -146,7 +153,8 @@ CutInPlace clauses =
 -- catches ends the query
 abbrev pub TakenInFront : List Clause → Type 0
 TakenInFront clauses =
-    (xs : List Element) (x : Element) (p : ElementReplacement) (pre mid : List Element) → Each IsStill pre → IsQuiet xs → act clauses x ≡ Takes p
+    (xs : List Element) (x : Element) (p : ElementReplacement) (pre mid : List Element) → Each IsStill pre → IsQuiet xs → act clauses x
+    ≡ Infers p
     → MayBecome clauses (pre ++ (xs ++ (x ∷ mid)))
     (pre ++ (Credit (inferences xs + 1) [] ∷ placed (scoped clauses) p (map (gives (scoped clauses) (records xs)) mid)))
 

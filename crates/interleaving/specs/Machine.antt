@@ -15,13 +15,13 @@ pub data Replacement (X Q : Type 0) : Type 0 where
 -- what an element does when it comes to the front
 pub data Act (W X Q R : Type 0) : Type 0 where
   -- free: it goes, and its records go to what lies under it
-  Vanishes : List R → Act W X Q R
+  Drops : List R → Act W X Q R
   -- free: it becomes an element to be taken
-  Wakes : X → Act W X Q R
+  Becomes : X → Act W X Q R
   -- one inference
-  Takes : Replacement X Q → Act W X Q R
+  Infers : Replacement X Q → Act W X Q R
   -- one inference on the world
-  Asks : (W → W × Replacement X Q) → Act W X Q R
+  AsksWorld : (W → W × Replacement X Q) → Act W X Q R
 
 pub record Machine (W X Q R : Type 0) : Type 0 where
   pub act : X → Act W X Q R
@@ -55,10 +55,10 @@ module _ {W X Q R : Type 0} (m : Machine W X Q R) where
   placed (Seek q) xs = search_for q xs
 
   abbrev pub freed : Act W X Q R → X → (List R → List X) → List X → List X
-  freed (Vanishes rs) x go xs = go rs
-  freed (Wakes y) x go xs = y ∷ xs
-  freed (Takes p) x go xs = x ∷ xs
-  freed (Asks g) x go xs = x ∷ xs
+  freed (Drops rs) x go xs = go rs
+  freed (Becomes y) x go xs = y ∷ xs
+  freed (Infers p) x go xs = x ∷ xs
+  freed (AsksWorld g) x go xs = x ∷ xs
 
   -- the free steps, with records under way
   abbrev pub free_steps : List R → List X → List X
@@ -66,10 +66,10 @@ module _ {W X Q R : Type 0} (m : Machine W X Q R) where
   free_steps rs (x ∷ xs) = freed (m.act (gives rs x)) (gives rs x) (λ new. free_steps (rs ++ new) xs) (map (gives rs) xs)
 
   abbrev pub acted : Act W X Q R → W → X → List X → W × List X
-  acted (Vanishes rs) w x xs = (w, free_steps [] xs)
-  acted (Wakes y) w x xs = (w, free_steps [] (y ∷ xs))
-  acted (Takes p) w x xs = (w, free_steps [] (placed p xs))
-  acted (Asks g) w x xs = ((g w).0, free_steps [] (placed (g w).1 xs))
+  acted (Drops rs) w x xs = (w, free_steps [] xs)
+  acted (Becomes y) w x xs = (w, free_steps [] (y ∷ xs))
+  acted (Infers p) w x xs = (w, free_steps [] (placed p xs))
+  acted (AsksWorld g) w x xs = ((g w).0, free_steps [] (placed (g w).1 xs))
 
   -- one inference and the free steps after it
   abbrev pub step : W → List X → W × List X

@@ -18,14 +18,14 @@ use Rattle.interleaving.specs.Scopes.{scoped}
 use Rattle.interleaving.specs.Segments.{Private}
 use Rattle.interleaving.specs.Views.{IsGrown, IsInner, IsUnder}
 use Rattle.interleaving.specs.Laws.{is_inner_record}
-use Rattle.interleaving.specs.HeightMachine.{held_entries}
+use Rattle.interleaving.specs.HeightMachine.{height_entries}
 use Rattle.interleaving.specs.Erased.{erased}
 use Rattle.interleaving.specs.Sound.{IsSound}
 
 -- a ball that lands among the own entries
-abbrev pub landed : ℕ → List Entry → Option (List Entry)
-landed low (PlainEntry f ∷ es) = cond (nat_le low (length es)) (Some (PlainEntry f ∷ es)) None
-landed low es = None
+abbrev pub caught_own : ℕ → List Entry → Option (List Entry)
+caught_own low (PlainEntry f ∷ es) = cond (nat_le low (length es)) (Some (PlainEntry f ∷ es)) None
+caught_own low es = None
 
 -- a cut to an own entry
 abbrev pub own_control : ControlForm → ℕ → Continuation ℕ → List Entry → ℕ → Option (List Entry)
@@ -39,7 +39,7 @@ own_control (FindallOf t g l) h f es low = Some (after_control (FindallOf t g l)
 -- the stack that a goal leaves; none where it is a gate
 abbrev pub own_goal : Outcome → ℕ → Continuation ℕ → List Entry → ℕ → Option (List Entry)
 own_goal (Replies (Solutions ss)) h f es low = Some (after_reply (Solutions ss) f es)
-own_goal (Replies (Ball b)) h f es low = landed low (unwound b (first_mark f.items) es)
+own_goal (Replies (Ball b)) h f es low = caught_own low (unwound b (first_mark f.items) es)
 own_goal (Replies (HaltNumber k)) h f es low = None
 own_goal (Controls form) h f es low = own_control form h f es low
 own_goal (AskWorld g) h f es low = None
@@ -85,16 +85,16 @@ IsFloor (End p b ∷ zs) = Unit {0}
 pub record NamesEntries (inside : Name → Bool) (a zs : List Element) (es floor : List Entry) : Type 0 where
   pub sound : IsSound (a ++ zs)
   pub inner : Each (IsInner inside) a
-  pub entries : erased (a ++ zs) ≡ held_entries (es ++ floor)
+  pub entries : erased (a ++ zs) ≡ height_entries (es ++ floor)
 
 pub record IsFloorUnder (inside : Name → Bool) (zs : List Element) (floor : List Entry) : Type 0 where
   pub under : Each (IsUnder inside) zs
-  pub entries : erased zs ≡ held_entries floor
+  pub entries : erased zs ≡ height_entries floor
 
 pub record IsFloorOf (inside : Name → Bool) (zs : List Element) (floor : List Entry) : Type 0 where
   pub under : Each (IsUnder inside) zs
   pub first : IsFloor zs
-  pub entries : erased zs ≡ held_entries floor
+  pub entries : erased zs ≡ height_entries floor
 
 -- a private run with heights is one by names
 pub record RunsPrivately (clauses : List Clause) (inside : Name → Bool) (k : ℕ) (a zs : List Element) (es floor : List Entry) : Type 0 where

@@ -5,10 +5,10 @@ use Rattle.run_model.specs.Machine.Items.{Continuation}
 use Rattle.run_model.specs.Programs.Clauses.{Clause}
 use Rattle.run_model.specs.Programs.Jobs.{Job}
 use Rattle.run_model.specs.Machine.Runs.{seq}
-use Rattle.interleaving.specs.Machine.{Takes, Asks, Put, Seek, gives, placed, is_finished, free_steps, run, Alike}
+use Rattle.interleaving.specs.Machine.{Infers, AsksWorld, Put, Seek, gives, placed, is_finished, free_steps, run, Alike}
 use Rattle.tree_model.specs.Elements.{Name, Element, Credit, Plain, EndOf}
 use Rattle.interleaving.specs.Scopes.{Shared, Scope, ElementReplacement, act, shared, first_shared, opened_elements, scoped}
-use Rattle.interleaving.specs.HeightMachine.{held_entries, held_settle, held_run}
+use Rattle.interleaving.specs.HeightMachine.{height_entries, height_settle, height_run}
 use Rattle.interleaving.specs.Erased.{element_count, erased}
 use Rattle.interleaving.specs.Sound.{IsSound}
 use Rattle.interleaving.specs.Segments.{search_in}
@@ -21,9 +21,9 @@ use Rattle.interleaving.specs.Counted.{counted_steps}
 -- have ended
 pub record SameRun (clauses : List Clause) (xs : List Element) (n : ℕ) (w : Shared) : Type 0 where
   pub erases : (let s = run (scoped clauses) n w (free_steps (scoped clauses) [] xs) in (s.0, erased s.1))
-      ≡ held_run clauses n (w, held_settle (erased xs))
+      ≡ height_run clauses n (w, height_settle (erased xs))
   pub over : is_finished (run (scoped clauses) n w (free_steps (scoped clauses) [] xs)).1
-      ≡ is_finished (held_run clauses n (w, held_settle (erased xs))).1
+      ≡ is_finished (height_run clauses n (w, height_settle (erased xs))).1
 
 abbrev pub HeightsRun : List Clause → Type 0
 HeightsRun clauses = (xs : List Element) → IsSound xs → (n : ℕ) (w : Shared) → SameRun clauses xs n w
@@ -50,7 +50,7 @@ pub record IsNamedRun (job : Job) (n : ℕ) : Type 0 where
   pub sound : IsSound (opening_list job)
   pub state : (run (scoped job.clauses) n (first_shared job) (free_steps (scoped job.clauses) [] (opening_list job))).0 ≡ shared (seq job n)
   pub entries : erased (run (scoped job.clauses) n (first_shared job) (free_steps (scoped job.clauses) [] (opening_list job))).1
-      ≡ held_entries (seq job n).entries
+      ≡ height_entries (seq job n).entries
   pub over : has_ended job.clauses (first_shared job) (opening_list job) n ≡ is_finished (seq job n).entries
   pub inferences : (seq job n).inferences ≡ counted_steps (has_ended job.clauses (first_shared job) (opening_list job)) n
 
@@ -65,21 +65,22 @@ SoundExchange =
 abbrev pub SoundCut : List Clause → Type 0
 SoundCut clauses =
     (inside : Name → Bool) (p : Name) (f after : Continuation Name) (h : Name) (pre mid zs : List Element)
-    → IsSegment inside pre (Plain p f ∷ mid) zs → act clauses (Plain p f) ≡ Takes (Seek (Scope h (Plain p after)))
+    → IsSegment inside pre (Plain p f ∷ mid) zs → act clauses (Plain p f) ≡ Infers (Seek (Scope h (Plain p after)))
     → search_in (scoped clauses) (Scope h (Plain p after)) mid ≡ Some (Plain p after ∷ EndOf h ∷ [])
     → IsSound (pre ++ ((Plain p f ∷ mid) ++ zs)) → IsSound (pre ++ ((Credit 1 [] ∷ Plain p after ∷ EndOf h ∷ []) ++ zs))
 
 -- so does a gate after credits alone
 abbrev pub SoundGate : List Clause → Type 0
 SoundGate clauses =
-    (xs : List Element) (x : Element) (g : Shared → Shared × ElementReplacement) (zs : List Element) (w : Shared) → act clauses x ≡ Asks g
+    (xs : List Element) (x : Element) (g : Shared → Shared × ElementReplacement) (zs : List Element) (w : Shared) → act clauses x
+    ≡ AsksWorld g
     → IsSound (xs ++ (x ∷ zs))
     → IsSound (Credit (inferences xs + 1) [] ∷ placed (scoped clauses) (g w).1 (map (gives (scoped clauses) (records xs)) zs))
 
 abbrev pub SoundGateInPlace : List Clause → Type 0
 SoundGateInPlace clauses =
     (inside : Name → Bool) (xs : List Element) (x : Element) (g : Shared → Shared × ElementReplacement) (ys zs : List Element) (w : Shared)
-    → IsSegment inside xs (x ∷ []) zs → act clauses x ≡ Asks g → (g w).1 ≡ Put ys
+    → IsSegment inside xs (x ∷ []) zs → act clauses x ≡ AsksWorld g → (g w).1 ≡ Put ys
     → IsSound (xs ++ (x ∷ zs)) → IsSound (xs ++ (Credit 1 [] ∷ (ys ++ zs)))
 
 -- what a list may become may be named anew

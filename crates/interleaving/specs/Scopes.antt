@@ -19,7 +19,7 @@ use Rattle.run_model.specs.Machine.Items.{with_items, with_next, before, without
 use Rattle.run_model.specs.Programs.Jobs.{Query, Job, own_terms, query_bound}
 use Rattle.run_model.specs.Goals.Worlds.{first_world}
 use Rattle.run_model.specs.Machine.States.{State, writes, halt_number, remaining_queries}
-use Rattle.interleaving.specs.Machine.{Machine, Act, Vanishes, Wakes, Takes, Asks, Look, On, Here, Replacement, Put, Only, Seek}
+use Rattle.interleaving.specs.Machine.{Machine, Act, Drops, Becomes, Infers, AsksWorld, Look, On, Here, Replacement, Put, Only, Seek}
 use Rattle.tree_model.specs.Elements.{Name, same, Record, Element, Credit, Plain, EndOf, Catch, Findall, End}
 
 -- what all goals of a run share: the world, the queries left, the answers so far, and by which number the run was halted
@@ -86,14 +86,14 @@ control_place (FindallOf template goal list) p h f =
 
 -- a halt changes what is shared; so does whatever asks the world
 abbrev pub reply_act : Reply → Name → Continuation Name → Does
-reply_act (Solutions ss) p f = Takes (reply_place (Solutions ss) p f)
-reply_act (Ball b) p f = Takes (reply_place (Ball b) p f)
-reply_act (HaltNumber k) p f = Asks (λ w. world_replied (w.world, HaltNumber k) p f w)
+reply_act (Solutions ss) p f = Infers (reply_place (Solutions ss) p f)
+reply_act (Ball b) p f = Infers (reply_place (Ball b) p f)
+reply_act (HaltNumber k) p f = AsksWorld (λ w. world_replied (w.world, HaltNumber k) p f w)
 
 abbrev pub goal_act : List Clause → Outcome → Name → Name → Continuation Name → Does
 goal_act clauses (Replies r) p h f = reply_act r p f
-goal_act clauses (Controls form) p h f = Takes (control_place form p h f)
-goal_act clauses (AskWorld goal) p h f = Asks (λ w. world_replied (world_step clauses goal f.next w.world) p f w)
+goal_act clauses (Controls form) p h f = Infers (control_place form p h f)
+goal_act clauses (AskWorld goal) p h f = AsksWorld (λ w. world_replied (world_step clauses goal f.next w.world) p f w)
 
 abbrev pub removed : Option Database → Name → Continuation Name → Shared → Shared × ElementReplacement
 removed (Some db) p f w = (record w { world = record w.world { database = db } }, Put (Plain p f ∷ []))
@@ -104,21 +104,22 @@ answer_taken f w = (record w { world = writes (answer_line w.world.operators f.n
 
 -- the items after the catch marks in front
 abbrev pub unmarked : List (Item Name) → Name → Continuation Name → Does
-unmarked (CollectMark t s ∷ items) p f = Vanishes ((s, t) ∷ [])
-unmarked items p f = Wakes (Plain p (with_items items f))
+unmarked (CollectMark t s ∷ items) p f = Drops ((s, t) ∷ [])
+unmarked items p f = Becomes (Plain p (with_items items f))
 
 abbrev pub item_act : List Clause → List (Item Name) → Name → Continuation Name → Does
-item_act clauses [] p f = Asks (answer_taken f)
+item_act clauses [] p f = AsksWorld (answer_taken f)
 item_act clauses (GoalItem g h ∷ items) p f = goal_act clauses (outcome_of clauses g f.next) p h (with_items items f)
-item_act clauses (RemovalItem number ∷ items) p f = Asks (λ w. removed (without_clause number w.world.database) p (with_items items f) w)
+item_act clauses (RemovalItem number ∷ items) p f = AsksWorld
+    (λ w. removed (without_clause number w.world.database) p (with_items items f) w)
 item_act clauses (CatchMark s ∷ items) p f = unmarked (without_marks items) p f
-item_act clauses (CollectMark t s ∷ items) p f = Vanishes ((s, t) ∷ [])
+item_act clauses (CollectMark t s ∷ items) p f = Drops ((s, t) ∷ [])
 
 -- the next query's goals on its end, a cut in them keeping the end alone
 abbrev pub opened_elements : Name → List Query → List Element
 opened_elements p [] = []
-opened_elements p (q ∷ qs) = Plain (0 ∷ p) (record { items = goals_at p q.goals; named = own_terms q.names; next = query_bound q }) ∷ EndOf p
-    ∷ End (1 ∷ p) None ∷ []
+opened_elements p (q ∷ qs) =
+    Plain (0 ∷ p) (record { items = goals_at p q.goals; named = own_terms q.names; next = query_bound q }) ∷ EndOf p ∷ End (1 ∷ p) None ∷ []
 
 abbrev pub query_end_taken : Option Term → Name → Shared → Shared × ElementReplacement
 query_end_taken ball p w = (
@@ -132,13 +133,13 @@ abbrev pub results_first : List Term → Term → Name → Continuation Name →
 results_first results list u f = before (GoalItem (binary (codes "=") list (list_term results)) u ∷ []) f
 
 abbrev pub act : List Clause → Element → Does
-act clauses (Credit zero rs) = Vanishes rs
-act clauses (Credit (suc k) rs) = Takes (Put (Credit k rs ∷ []))
+act clauses (Credit zero rs) = Drops rs
+act clauses (Credit (suc k) rs) = Infers (Put (Credit k rs ∷ []))
 act clauses (Plain p f) = item_act clauses f.items p f
-act clauses (EndOf s) = Vanishes []
-act clauses (Catch s u c r p f) = Vanishes []
-act clauses (Findall s u results list p f) = Wakes (Plain p (results_first results list u f))
-act clauses (End p ball) = Asks (query_end_taken ball p)
+act clauses (EndOf s) = Drops []
+act clauses (Catch s u c r p f) = Drops []
+act clauses (Findall s u results list p f) = Becomes (Plain p (results_first results list u f))
+act clauses (End p ball) = AsksWorld (query_end_taken ball p)
 
 -- the recovery goes on before what follows the catch, or the ball goes further
 abbrev pub recovery_look : Option Substitution → Term → Term → Name → Name → Continuation Name → Sought → Look Element Sought
@@ -168,12 +169,12 @@ give r (Findall s u results list p f) = cond (same r.0 s) (findall_with_result r
 give r x = x
 
 -- an entry that is left standing loses the catch marks in front
-abbrev pub left_standing : Element → Element
-left_standing (Plain p f) = Plain p (with_items (without_marks f.items) f)
-left_standing x = x
+abbrev pub without_catch_marks : Element → Element
+without_catch_marks (Plain p f) = Plain p (with_items (without_marks f.items) f)
+without_catch_marks x = x
 
 abbrev pub scoped : List Clause → Machine Shared Element Sought Record
-scoped clauses = record { act = act clauses; look = look; lost = lost; give = give; stands = left_standing }
+scoped clauses = record { act = act clauses; look = look; lost = lost; give = give; stands = without_catch_marks }
 
 abbrev pub shared : State → Shared
 shared st = record { world = st.world; queries = st.queries; answers = st.answers; halted = st.halted }

@@ -102,7 +102,8 @@ answers_job =
 
 -- The second answer is not given while the first one is pending, and no branch is frozen that is short of the budget.
 answer_is_not_first : shown_legal answers_job 10 10000 both_out ([] ∷ [] ∷ [] ∷ [] ∷
-    (Answer 1 (at_place 1 1) false ∷ Suspend 1 (at_place 1 1) true ∷ Answer 0 (at_place 1 0) true ∷ Answer 0 (at_place 1 0) false ∷ []) ∷ [])
+    (Answer 1 (at_place 1 1) false ∷ Suspend 1 (at_place 1 1) true ∷ Answer 0 (at_place 1 0) true ∷ Answer 0 (at_place 1 0) false ∷
+    []) ∷ [])
     ≡ false ∷ false ∷ false ∷ true ∷ []
 unfolding shown_legal
 answer_is_not_first = refl

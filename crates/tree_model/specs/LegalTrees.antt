@@ -23,6 +23,11 @@ pub record IsLegalTree (t : TreeState) : Type 0 where
   pub ordered : AreInOrder t.root
   pub numbered : IsNumberedTree t
 
+-- of every budget
+abbrev pub HistoriesAreSound : Type 0
+HistoriesAreSound = (job : Job) (budget window : ℕ) (es : List Event) → IsLegalHistory job budget window es
+    → IsSoundTree (tree_after job budget window es)
+
 -- as long as its answers can be counted
 abbrev pub EventsKeepTrees : Type 0
 EventsKeepTrees =
