@@ -21,7 +21,7 @@ use Rattle.tree_model.specs.GivenAnswers.{answers_in, answers_among, AreInOrder}
 use Rattle.interleaving.proofs.ContextLemmas.{IsAround}
 use Rattle.interleaving.proofs.ListEndLemmas.{levels_down}
 use Rattle.interleaving.proofs.ClockLemmas.{AreClear}
-use Rattle.interleaving.proofs.FallLemmas.{Fall, Nobody, Catches, fall_entries, IsTaken}
+use Rattle.interleaving.proofs.FallLemmas.{Catching, Uncaught, CaughtBy, catching_entries, IsTaken}
 use Rattle.interleaving.proofs.BallPlaceLemmas.{query_at, scope_down}
 use Rattle.interleaving.proofs.EntryLemmas.{length-floor}
 use Rattle.interleaving.proofs.AnswerOrderLemmas.{plug_answers, none_ordered, RightsEmpty, rights_empty, SameLeft, same_left, put_order}
@@ -95,14 +95,14 @@ module _ (t : TreeState) (s : Spot) (around : IsAround (levels_of s) IsOpen)
   cut_preserved n e es = put_preserved (pruned n (spending 1 (levels_of s))) (Inner (single t.next (with_nodes (node_of (levels_of s)) e)))
       (pruned_left n 1 (levels_of s) rights) refl
 
-  pub fallen_preserved : (ball : Term) (x : Fall) → IsTaken ball (levels_of s) x → under_query (way_of (levels_of s)) ≡ true
-      → IsOrdered (ball_falls s (fall_entries ball x) t).root (answers_in (plug (levels_of s) (Pending s.hold s.entry)))
-  fallen_preserved ball Nobody k u =
+  pub fallen_preserved : (ball : Term) (x : Catching) → IsTaken ball (levels_of s) x → under_query (way_of (levels_of s)) ≡ true
+      → IsOrdered (ball_falls s (catching_entries ball x) t).root (answers_in (plug (levels_of s) (Pending s.hold s.entry)))
+  fallen_preserved ball Uncaught k u =
       let q = query_at (levels_of s) around u in
       ball_closes_order t.next (query_node (levels_of s)) (levels_of s) old (credit_of 1) (EndEntry (Some (copied ball 0))) q.level q.above
       (EndEntry q.end.ball) q.down (record { spent = q.end.spent; left = q.end.left; right = q.end.right }) refl order refl
       (omega (arith, few))
-  fallen_preserved ball (Catches w up r f o) k u =
+  fallen_preserved ball (CaughtBy w up r f o) k u =
       let scope : node_of (levels_of s) (suc (length (floor_of up))) ≡ w.number = ap (λ n. node_of (levels_of s) (suc n))
       (length-floor up) ∙ scope_down (levels_of s) w.number w up k.down k.on in
       ball_closes_order t.next (node_of (levels_of s) (suc (length (floor_of up)))) (levels_of s) old (credit_of 1) _ w up

@@ -43,7 +43,7 @@ use Rattle.interleaving.proofs.ListScopeLemmas.{dormant_on}
 use Rattle.interleaving.proofs.CaughtContextLemmas.{IsCaughtRoot, caught_down}
 use Rattle.interleaving.proofs.CaughtEventLemmas.{marks_without}
 use Rattle.interleaving.proofs.CaughtTakenLemmas.{root_at}
-use Rattle.interleaving.proofs.FallLemmas.{fall, fall_entries, ball_scope_falls, fall_taken, first_height, first_dormant}
+use Rattle.interleaving.proofs.FallLemmas.{catching, catching_entries, ball_scope_falls, catching_taken, first_height, first_dormant}
 use Rattle.interleaving.proofs.PruneCasesLemmas.{plain_moves}
 use Rattle.interleaving.proofs.AnswerOrderLemmas.{same_left, rights_empty}
 use Rattle.interleaving.proofs.AnswerClosingLemmas.{IsOrdered, spent_left}
@@ -75,11 +75,11 @@ module _ (s : Spot) (around : IsAround (levels_of s) IsOpen) (clear : AreClear (
       let sleeps = first_dormant levels items m in
       let status = Pending s.hold s.entry in
       let same : unwound b (first_mark (by_heights levels items)) (floor_of levels)
-      ≡ fall_entries b (fall b levels mark) = ap (λ k. unwound b k (floor_of levels)) (first_height levels items)
+      ≡ catching_entries b (catching b levels mark) = ap (λ k. unwound b k (floor_of levels)) (first_height levels items)
       ∙ ball_scope_falls b levels status mark around root.caught sleeps in
       subst (λ es. Moved t (Raises es)) (sym same)
-      (none_more _ _ (fallen_preserved t s around order few b (fall b levels mark)
-      (fall_taken b levels status mark around root.caught sleeps) i.asked))
+      (none_more _ _ (fallen_preserved t s around order few b (catching b levels mark)
+      (catching_taken b levels status mark around root.caught sleeps) i.asked))
 
   goal_moved : (t : TreeState) (clauses : List Clause) (out : Outcome) (g : Continuation ℕ) (items : List (Item ℕ)) (w : World)
       → IsAsked (way_of (levels_of s)) items → MarksCaught (dormant_on (levels_of s)) items

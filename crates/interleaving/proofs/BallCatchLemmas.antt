@@ -25,7 +25,8 @@ use Rattle.interleaving.proofs.ClosingListLemmas.{Guards}
 use Rattle.interleaving.proofs.WakeLemmas.{second_right}
 use Rattle.interleaving.proofs.CaughtContextLemmas.{RootCaught}
 use Rattle.interleaving.proofs.LowerListLemmas.{lower_back}
-use Rattle.interleaving.proofs.FallLemmas.{Fall, Nobody, Catches, caught_or, right_falls, fall, MarkIsDormant, first_dormant, dormant_way}
+use Rattle.interleaving.proofs.FallLemmas.{Catching, Uncaught, CaughtBy, caught_or, right_falls, catching, MarkIsDormant, first_dormant}
+use Rattle.interleaving.proofs.FallLemmas.{dormant_way}
 use Rattle.interleaving.proofs.FallLemmas.{dormant_marks, dormant_guards}
 use Rattle.interleaving.proofs.BallSearchLemmas.{mark_name, second_step, catch_element, named_recovery, next_in, thrown_pass, to_catch}
 use Rattle.interleaving.proofs.BallSearchLemmas.{end_pass, right_passes, mark_up, mark_apart, to_side, Finds, passes_level, off_catcher}
@@ -42,7 +43,7 @@ module _ (clauses : List Clause) where
       → ((k : Option ℕ) → MarkIsDormant rest k → Finds clauses ball o rs rest k) → (b : Option Substitution)
       → unifier ((y, copied ball g.next) ∷ []) ≡ b
       → (w : Level) (up : List Level) (r : Term) (f : Continuation ℕ) (u : Substitution)
-      → caught_or b v rest t g (fall ball rest (first_mark g.items)) ≡ Catches w up r f u → (x : Term)
+      → caught_or b v rest t g (catching ball rest (first_mark g.items)) ≡ CaughtBy w up r f u → (x : Term)
       → unifier ((x, copied ball f.next) ∷ []) ≡ Some u → (zs : List Element)
       → search_in m (Thrown ball (mark_name (way_of (v ∷ rest)) (Some s)) o)
       (map (gives m rs) (lower_back w.number (v ∷ rest) ++ to_side clauses w up x r f zs))
@@ -52,14 +53,14 @@ module _ (clauses : List Clause) where
       itself : scope_on (way_of (v ∷ rest)) s ≡ 0 ∷ v.number ∷ []
       itself = cond-true (v.number == s) _ (scope_on (way_of rest) s) e ∙ ap (λ l. length l ∷ v.number ∷ []) q.left
 
-      Found : Fall → Type 0
-      Found Nobody = Unit {0}
-      Found (Catches w2 up2 r2 f2 u2) = (x2 : Term) → unifier ((x2, copied ball f2.next) ∷ []) ≡ Some u2
+      Found : Catching → Type 0
+      Found Uncaught = Unit {0}
+      Found (CaughtBy w2 up2 r2 f2 u2) = (x2 : Term) → unifier ((x2, copied ball f2.next) ∷ []) ≡ Some u2
           → search_in m (Thrown ball (mark_name (way_of (v ∷ rest)) (Some s)) o)
           (map (gives m rs) (lower_back w2.number (v ∷ rest) ++ to_side clauses w2 up2 x2 r2 f2 zs))
           ≡ Some (named_recovery ball w2 up2 r2 f2 u2 ∷ map (gives m rs) zs)
 
-      here : Found (Catches v rest t g z)
+      here : Found (CaughtBy v rest t g z)
       here x2 un2 =
           ap (λ n. search_in m (Thrown ball (Some n) o)
           (map (gives m rs) (lower_back v.number (v ∷ rest) ++ to_side clauses v rest x2 t g zs)))
@@ -106,7 +107,7 @@ module _ (clauses : List Clause) where
       (λ j l. finds ball o rs rest (Inner (level_node v status)) j a.1 (distinct-up v rest d) h l)
     where
       go : (b : Bool) → (v.number == s) ≡ b → cond b (catch_right v.right) (dormant_on rest s) ≡ true
-          → cond b (right_falls ball v rest v.right (fall ball rest)) (fall ball rest (Some s)) ≡ Catches w up r f u
+          → cond b (right_falls ball v rest v.right (catching ball rest)) (catching ball rest (Some s)) ≡ CaughtBy w up r f u
           → ((j : Option ℕ) → MarkIsDormant rest j → Finds clauses ball o rs rest j)
           → search_in m (Thrown ball (mark_name (way_of (v ∷ rest)) (Some s)) o)
           (map (gives m rs) (lower_back w.number (v ∷ rest) ++ to_side clauses w up x r f zs))
@@ -119,7 +120,7 @@ module _ (clauses : List Clause) where
           let c = catch_dormant v l in
           let g = dormant_guards v rest (CatchEntry c.0 c.1 c.2) a.0 c.3 in
           at_catch ball o rs v rest status s c.0 c.1 c.2 a d h g q more (unifier ((c.0, copied ball c.2.next) ∷ [])) refl w up r f u
-          (subst (λ right. right_falls ball v rest right (fall ball rest) ≡ Catches w up r f u) g.right z) x un zs
+          (subst (λ right. right_falls ball v rest right (catching ball rest) ≡ CaughtBy w up r f u) g.right z) x un zs
 
   -- what is found within a list is what is found
   pub search_found : (q : Sought) (xs ys : List Element) → search_in m q xs ≡ Some ys → search_for m q xs ≡ ys
@@ -208,8 +209,8 @@ module _ (clauses : List Clause) where
       goes_on (End n a) = refl
 
   pub loses : (ball : Term) (o : Name) (rs : List Record) (levels : List Level) (status : Status) (mark : Option ℕ)
-      → IsAround levels IsOpen → IsDistinct levels → RootCaught (plug levels status) → MarkIsDormant levels mark → fall ball levels mark
-      ≡ Nobody
+      → IsAround levels IsOpen → IsDistinct levels → RootCaught (plug levels status) → MarkIsDormant levels mark → catching ball levels mark
+      ≡ Uncaught
       → search_in m (Thrown ball (mark_name (way_of levels) mark) o) (map (gives m rs) (back_of levels)) ≡ None
   loses ball o rs [] status mark a d h k e = refl
   loses ball o rs (v ∷ rest) status None a d h k e = unmarked_loses ball o rs (back_of (v ∷ rest))
@@ -217,8 +218,9 @@ module _ (clauses : List Clause) where
       (λ j l. loses ball o rs rest (Inner (level_node v status)) j a.1 (distinct-up v rest d) h l)
     where
       catches : (y t : Term) (g : Continuation ℕ) → Guards v (CatchEntry y t g) → (v.number == s) ≡ true → (b : Option Substitution)
-          → unifier ((y, copied ball g.next) ∷ []) ≡ b → caught_or b v rest t g (fall ball rest (first_mark g.items)) ≡ Nobody
-          → ((j : Option ℕ) → MarkIsDormant rest j → fall ball rest j ≡ Nobody → search_in m (Thrown ball (mark_name (way_of rest) j) o)
+          → unifier ((y, copied ball g.next) ∷ []) ≡ b → caught_or b v rest t g (catching ball rest (first_mark g.items)) ≡ Uncaught
+          → ((j : Option ℕ) → MarkIsDormant rest j → catching ball rest j ≡ Uncaught
+              → search_in m (Thrown ball (mark_name (way_of rest) j) o)
           (map (gives m rs) (back_of rest)) ≡ None)
           → search_in m (Thrown ball (mark_name (way_of (v ∷ rest)) (Some s)) o) (map (gives m rs) (back_of (v ∷ rest))) ≡ None
       catches y t g q i (Some z) n c more = let no_way : ⊥ = cc in absurd no_way
@@ -244,8 +246,9 @@ module _ (clauses : List Clause) where
           ∙ more mark sleeps c)))))
 
       go : (b : Bool) → (v.number == s) ≡ b → cond b (catch_right v.right) (dormant_on rest s) ≡ true
-          → cond b (right_falls ball v rest v.right (fall ball rest)) (fall ball rest (Some s)) ≡ Nobody
-          → ((j : Option ℕ) → MarkIsDormant rest j → fall ball rest j ≡ Nobody → search_in m (Thrown ball (mark_name (way_of rest) j) o)
+          → cond b (right_falls ball v rest v.right (catching ball rest)) (catching ball rest (Some s)) ≡ Uncaught
+          → ((j : Option ℕ) → MarkIsDormant rest j → catching ball rest j ≡ Uncaught
+              → search_in m (Thrown ball (mark_name (way_of rest) j) o)
           (map (gives m rs) (back_of rest)) ≡ None)
           → search_in m (Thrown ball (mark_name (way_of (v ∷ rest)) (Some s)) o) (map (gives m rs) (back_of (v ∷ rest))) ≡ None
       go false q l z more =
@@ -257,4 +260,4 @@ module _ (clauses : List Clause) where
           let c = catch_dormant v l in
           let g = dormant_guards v rest (CatchEntry c.0 c.1 c.2) a.0 c.3 in
           catches c.0 c.1 c.2 g q (unifier ((c.0, copied ball c.2.next) ∷ [])) refl
-          (subst (λ right. right_falls ball v rest right (fall ball rest) ≡ Nobody) g.right z) more
+          (subst (λ right. right_falls ball v rest right (catching ball rest) ≡ Uncaught) g.right z) more

@@ -37,7 +37,7 @@ use Rattle.interleaving.proofs.AppendLemmas.{append-assoc, each-append, append-n
 use Rattle.interleaving.proofs.QuietCreditLemmas.{gives-fixed}
 use Rattle.interleaving.proofs.ContextLemmas.{count_left}
 use Rattle.tree_model.specs.SoundTrees.{count_among}
-use Rattle.interleaving.proofs.RootLemmas.{are_told}
+use Rattle.interleaving.proofs.RootLemmas.{are_distinguished}
 use Rattle.interleaving.proofs.ClockLemmas.{AreClear, quiet-append, inferences-append}
 use Rattle.interleaving.proofs.ListChangeLemmas.{becomes as private_becomes}
 use Rattle.interleaving.proofs.LeadLemmas.{lead-quiet, lead-grows}
@@ -54,7 +54,7 @@ use Rattle.interleaving.proofs.CaughtContextLemmas.{IsCaughtRoot}
 use Rattle.interleaving.proofs.CaughtBallLemmas.{catch_no_side}
 use Rattle.interleaving.proofs.CaughtClosingLemmas.{dormant_there}
 use Rattle.interleaving.proofs.BallLevelLemmas.{ball_credit, FirstShut}
-use Rattle.interleaving.proofs.FallLemmas.{Catches, fall, MarkIsDormant, IsCatcher}
+use Rattle.interleaving.proofs.FallLemmas.{CaughtBy, catching, MarkIsDormant, IsCatcher}
 use Rattle.interleaving.proofs.LowerListLemmas.{lower_front, lower_back, front_split, back_split, lower_quiet, ball_credit_counts}
 use Rattle.interleaving.proofs.LowerListLemmas.{ball_credit_low}
 use Rattle.interleaving.proofs.LowerListLemmas.{count_lower, count_split, lower_inner}
@@ -195,7 +195,7 @@ module _ (clauses : List Clause) (next : ℕ) (v : Level) (above : List Level) (
 
       pub segment : inside p ≡ true → IsSegment inside front (credits ++ (Plain p named ∷ mid)) back
       segment own = record {
-        grown = are_told.root (is_free_of up);
+        grown = are_distinguished.root (is_free_of up);
         front = front_blind;
         own = each-append (IsInner inside) credits (Plain p named ∷ mid)
             (each-append (IsInner inside) (lower_front w.number levels) (Credit v.spent [] ∷ []) lower.0 (tt, tt)) (
@@ -221,7 +221,7 @@ module _ (clauses : List Clause) (next : ℕ) (v : Level) (above : List Level) (
 
       -- the ball, taken at once
       pub ball_taken : (status : Status) (mark : Option ℕ) → IsCaughtRoot (plug (v ∷ above) status) → MarkIsDormant (v ∷ above) mark
-          → fall ball (v ∷ above) mark ≡ Catches w up r f o → AreClear (levels_below (Some w.number) (v ∷ above)) → inside p ≡ true
+          → catching ball (v ∷ above) mark ≡ CaughtBy w up r f o → AreClear (levels_below (Some w.number) (v ∷ above)) → inside p ≡ true
           → act clauses (bare clauses p named) ≡ Infers (Seek (Thrown ball (mark_name (way_of (v ∷ above)) mark) p))
           → Passes clauses (front_of (v ∷ above) ++ (Credit v.spent [] ∷ (Plain p named ∷ back_of (v ∷ above))))
           (front ++ (Credit (min greatest (inferences credits + 1)) rows ∷ (first ++ back)))

@@ -69,16 +69,16 @@ ball_scope_low ball mark (FindallEntry results l f ∷ es) = low-more (length es
 ball_scope_low ball mark (EndEntry b ∷ es) = low-more (length es) _ (ball_scope_low ball mark es)
 
 -- the tree after a ball has left this of a stack
-abbrev pub fall_scope : (ℕ → ℕ) → ℕ → List Entry → ℕ
-fall_scope node q (PlainEntry f ∷ es) = node (suc (length es))
-fall_scope node q (EndEntry b ∷ es) = q
-fall_scope node q (CatchEntry c r f ∷ es) = q
-fall_scope node q (FindallEntry results l f ∷ es) = q
-fall_scope node q [] = q
+abbrev pub catching_scope : (ℕ → ℕ) → ℕ → List Entry → ℕ
+catching_scope node q (PlainEntry f ∷ es) = node (suc (length es))
+catching_scope node q (EndEntry b ∷ es) = q
+catching_scope node q (CatchEntry c r f ∷ es) = q
+catching_scope node q (FindallEntry results l f ∷ es) = q
+catching_scope node q [] = q
 
 abbrev pub fallen : (ℕ → ℕ) → ℕ → ℕ → List Level → Credit → List Entry → Grown
 fallen node q next levels c [] = record { root = Closed c; next = next }
-fallen node q next levels c (e ∷ es) = ball_closes next (fall_scope node q (e ∷ es)) levels c (with_nodes node e)
+fallen node q next levels c (e ∷ es) = ball_closes next (catching_scope node q (e ∷ es)) levels c (with_nodes node e)
 
 -- the levels above a node that a ball falls along
 pub record IsFalling (node : ℕ → ℕ) (q next : ℕ) (levels : List Level) : Type 0 where

@@ -39,7 +39,7 @@ use Rattle.interleaving.proofs.QuietCreditLemmas.{map-fixed, quiet-private}
 use Rattle.interleaving.proofs.SoundEarlyLemmas.{sound-after, sound_exchange, private-sound, all-gathered}
 use Rattle.interleaving.proofs.SoundStepLemmas.{AllGathered}
 use Rattle.interleaving.specs.Segments.{Private}
-use Rattle.interleaving.proofs.RootLemmas.{are_told}
+use Rattle.interleaving.proofs.RootLemmas.{are_distinguished}
 use Rattle.interleaving.proofs.ClockLemmas.{AreClear, quiet-append, inferences-append}
 use Rattle.interleaving.proofs.ListChangeLemmas.{becomes as private_becomes, no_credit}
 use Rattle.interleaving.proofs.RunHeightLemmas.{names_are_free}
@@ -194,7 +194,7 @@ module _ (clauses : List Clause) (next : ℕ) (v : Level) (above : List Level) (
           let counted_old : inferences credits ≡ inferences low + (v.spent + 0) = inferences-append low (Credit v.spent [] ∷ []) in
           let number : inferences ones ≡ inferences credits + 1 = omega (arith, counted, counted_old) in
           let part : IsSegment inside front (ones ++ first) back = record {
-            grown = are_told.root (is_free_of up);
+            grown = are_distinguished.root (is_free_of up);
             front = (front_blind clauses next v above p named a d free sides w up r f o ball c);
             own = each-append (IsInner inside) ones first
                 (each-append (IsInner inside) low (Credit (v.spent + 1) [] ∷ [])

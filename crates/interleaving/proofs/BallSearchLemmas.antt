@@ -29,7 +29,7 @@ use Rattle.interleaving.proofs.ListEndLemmas.{on-counts, ends_in, no_end_among, 
 use Rattle.interleaving.proofs.ListScopeLemmas.{IsDistinct}
 use Rattle.interleaving.proofs.CaughtContextLemmas.{RootCaught}
 use Rattle.interleaving.proofs.LowerListLemmas.{lower_back}
-use Rattle.interleaving.proofs.FallLemmas.{Catches, fall, MarkIsDormant, dormant_way, IsTaken, fall_taken}
+use Rattle.interleaving.proofs.FallLemmas.{CaughtBy, catching, MarkIsDormant, dormant_way, IsTaken, catching_taken}
 use Rattle.interleaving.proofs.TestLemmas.{false_true}
 use Rattle.au_term.proofs.LogicLemmas.{numbers_turned}
 
@@ -220,7 +220,7 @@ module _ (clauses : List Clause) where
 
   abbrev pub Finds : Term → Name → List Record → List Level → Option ℕ → Type 0
   Finds ball o rs levels mark =
-      (w : Level) (up : List Level) (r : Term) (f : Continuation ℕ) (u : Substitution) → fall ball levels mark ≡ Catches w up r f u
+      (w : Level) (up : List Level) (r : Term) (f : Continuation ℕ) (u : Substitution) → catching ball levels mark ≡ CaughtBy w up r f u
       → (x : Term) → unifier ((x, copied ball f.next) ∷ []) ≡ Some u → (zs : List Element)
       → search_in m (Thrown ball (mark_name (way_of levels) mark) o)
       (map (gives m rs) (lower_back w.number levels ++ to_side w up x r f zs))
@@ -244,7 +244,7 @@ module _ (clauses : List Clause) where
 
   pub off_catcher : (ball : Term) (v : Level) (rest : List Level) (status : Status) (k : Option ℕ) → IsAround (v ∷ rest) IsOpen
       → RootCaught (plug (v ∷ rest) status) → MarkIsDormant rest k → (w : Level) (up : List Level) (r : Term) (f : Continuation ℕ)
-      (u : Substitution) → fall ball rest k ≡ Catches w up r f u → (v.number == w.number) ≡ false
+      (u : Substitution) → catching ball rest k ≡ CaughtBy w up r f u → (v.number == w.number) ≡ false
   off_catcher ball v rest status k a h m w up r f u e =
-      let c = subst (IsTaken ball rest) e (fall_taken ball rest (Inner (level_node v status)) k a.1 h m) in
+      let c = subst (IsTaken ball rest) e (catching_taken ball rest (Inner (level_node v status)) k a.1 h m) in
       other_number (way_of rest) v.number w.number a.0.new c.on (v.number == w.number) refl

@@ -17,7 +17,7 @@ use Rattle.tree_model.specs.Shapes.{further, guard_kind, placed_status}
 use Rattle.tree_model.specs.PendingLists.{Step, Way, element_at, list_below}
 use Rattle.interleaving.proofs.AppendLemmas.{append-assoc, each-append}
 use Rattle.interleaving.proofs.ListChangeLemmas.{no_credit}
-use Rattle.interleaving.proofs.RootLemmas.{are_told}
+use Rattle.interleaving.proofs.RootLemmas.{are_distinguished}
 use Rattle.interleaving.proofs.PlacedNameLemmas.{bare, bare-element, olders}
 use Rattle.interleaving.proofs.PlacedErasedLemmas.{bare_made}
 use Rattle.interleaving.proofs.PlacedShapeLemmas.{made_equal}
@@ -74,8 +74,8 @@ pub made_grown : (top : Name) (next : ℕ) → IsGrown (made_at top next)
 made_grown top next i s h = go (extends top s) refl h
   where
     go : (b : Bool) → extends top s ≡ b → (b || rooted (nat_le next) s) ≡ true → made_at top next (i ∷ s) ≡ true
-    go true e k = or_left (extends top (i ∷ s)) _ (are_told.extend top i s e)
-    go false e k = or_right (extends top (i ∷ s)) _ (are_told.root (nat_le next) i s k)
+    go true e k = or_left (extends top (i ∷ s)) _ (are_distinguished.extend top i s e)
+    go false e k = or_right (extends top (i ∷ s)) _ (are_distinguished.root (nat_le next) i s k)
 
 pub new_number : (next n : ℕ) → next ≤ n → nat_le next n ≡ true
 new_number next n h = grind arith

@@ -21,7 +21,7 @@ use Rattle.interleaving.proofs.WayLemmas.{cond-same, reach-on, through-on}
 use Rattle.interleaving.proofs.RoundtripLemmas.{part_from, part_above, IsPart}
 use Rattle.interleaving.proofs.ContextLemmas.{LeftSound, count_left}
 use Rattle.interleaving.proofs.AppendLemmas.{each-append, append-assoc}
-use Rattle.interleaving.proofs.RootLemmas.{are_told}
+use Rattle.interleaving.proofs.RootLemmas.{are_distinguished}
 use Rattle.interleaving.proofs.BaredLemmas.{made_at}
 use Rattle.interleaving.proofs.TestLemmas.{number_same}
 
@@ -35,8 +35,8 @@ module _ (i n next : ℕ) where
 
   pub out_more : (j m : ℕ) → Out j m → (more : List ℕ) → made_at (i ∷ n ∷ []) next (more ++ j ∷ m ∷ []) ≡ false
   out_more j m o more =
-      ap (λ b. b || rooted (nat_le next) (more ++ j ∷ m ∷ [])) (are_told.by_length (i ∷ n ∷ []) (j ∷ m ∷ []) more refl ∙ o.0)
-      ∙ (are_told.by_root (nat_le next) j (m ∷ []) more ∙ o.1)
+      ap (λ b. b || rooted (nat_le next) (more ++ j ∷ m ∷ [])) (are_distinguished.by_length (i ∷ n ∷ []) (j ∷ m ∷ []) more refl ∙ o.0)
+      ∙ (are_distinguished.by_root (nat_le next) j (m ∷ []) more ∙ o.1)
 
   pub out_entry : (j m : ℕ) → Out j m → IsBeside (made_at (i ∷ n ∷ []) next) (0 ∷ j ∷ m ∷ [])
   out_entry j m o more = ap (made_at (i ∷ n ∷ []) next) (sym (append-assoc more (0 ∷ []) (j ∷ m ∷ []))) ∙ out_more j m o (more ++ 0 ∷ [])

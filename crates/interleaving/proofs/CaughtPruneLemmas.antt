@@ -41,7 +41,8 @@ use Rattle.interleaving.proofs.ClockLemmas.{AreClear}
 use Rattle.interleaving.proofs.CaughtContextLemmas.{caught_level, Rests, first_rests, rests_level, unspent_level, IsCaughtRoot}
 use Rattle.interleaving.proofs.CaughtClosingLemmas.{RecordsUnder, closed_rests, root_put, closes_caught, marks_other, off_numbers}
 use Rattle.interleaving.proofs.BallLevelLemmas.{clear_below}
-use Rattle.interleaving.proofs.FallLemmas.{Fall, Nobody, Catches, fall, fall_entries, IsTaken, ball_scope_falls, fall_taken, first_height}
+use Rattle.interleaving.proofs.FallLemmas.{Catching, Uncaught, CaughtBy, catching, catching_entries, IsTaken, ball_scope_falls}
+use Rattle.interleaving.proofs.FallLemmas.{catching_taken, first_height}
 use Rattle.interleaving.proofs.FallLemmas.{first_dormant}
 use Rattle.interleaving.proofs.BallPlaceLemmas.{scope_down, query_at}
 use Rattle.interleaving.proofs.CaughtBallLemmas.{recovery_caught, lost_caught}
@@ -114,11 +115,11 @@ module _ (t : TreeState) (s : Spot) (h : IsAt t s) (old : Status)
   abbrev Thrown : List Entry → Type 0
   Thrown es = AreClear (levels_below (Some (ball_scope (levels_of s) es)) (levels_of s)) → IsCaughtTree (ball_falls s es t)
 
-  fallen_preserved : (ball : Term) (x : Fall) → under_query (way_of (levels_of s)) ≡ true → IsTaken ball (levels_of s) x
-      → Thrown (fall_entries ball x)
-  fallen_preserved ball Nobody u k c = as_tree _
+  fallen_preserved : (ball : Term) (x : Catching) → under_query (way_of (levels_of s)) ≡ true → IsTaken ball (levels_of s) x
+      → Thrown (catching_entries ball x)
+  fallen_preserved ball Uncaught u k c = as_tree _
       (lost_caught t.next (levels_of s) old _ h.placed.around h.free first c (query_at (levels_of s) h.placed.around u) root)
-  fallen_preserved ball (Catches w up r f o) u k c =
+  fallen_preserved ball (CaughtBy w up r f o) u k c =
       let scope : node_of (levels_of s) (suc (length (floor_of up))) ≡ w.number = ap (λ n. node_of (levels_of s) (suc n))
       (length-floor up) ∙ scope_down (levels_of s) w.number w up k.down k.on in
       as_tree _ (recovery_caught t.next (levels_of s) old w up r f o ball _ refl h.placed.around h.free first
@@ -133,8 +134,8 @@ module _ (t : TreeState) (s : Spot) (h : IsAt t s) (old : Status)
       let mark = first_mark items in
       let same = ap (λ k. unwound ball k (floor_of levels)) (first_height levels items)
       ∙ ball_scope_falls ball levels old mark h.placed.around root.caught sleeps in
-      subst Thrown (sym same) (fallen_preserved ball (fall ball levels mark) i.asked
-      (fall_taken ball levels old mark h.placed.around root.caught sleeps))
+      subst Thrown (sym same) (fallen_preserved ball (catching ball levels mark) i.asked
+      (catching_taken ball levels old mark h.placed.around root.caught sleeps))
 
   -- prunes
   ball_pruned : (es : List Entry) → IsCaughtTree t → Thrown es → may_prune (levels_of s) (ball_gate (levels_of s) es) ≡ true

@@ -41,7 +41,7 @@ use Rattle.interleaving.proofs.LeadRunLemmas.{old_sound}
 use Rattle.interleaving.proofs.PublishedBareLemmas.{list_before}
 use Rattle.interleaving.proofs.PublishedStepLemmas.{by_names}
 use Rattle.interleaving.proofs.PublishEventLemmas.{before_list, HasNode, first_node}
-use Rattle.interleaving.proofs.PlacedErasedLemmas.{Fills}
+use Rattle.interleaving.proofs.PlacedErasedLemmas.{HaveSizes}
 use Rattle.interleaving.proofs.RunMeasuredLemmas.{fits_fill}
 use Rattle.interleaving.proofs.CaughtContextLemmas.{none_last, no_nodes, IsCaughtRoot}
 use Rattle.interleaving.proofs.CaughtEventLemmas.{as_tree}
@@ -71,17 +71,17 @@ over_no_end w (FindallEntry results l f ∷ es) h = (tt, over_no_end w es h.1)
 over_no_end w (EndEntry b ∷ es) h = absurd h.0
 
 -- the shape of a run
-shape_fills : (low : ℕ) (sizes : List ℕ) (es : List Entry) → is_nonempty es ≡ true → fits_shape low sizes es ≡ true
-    → Fills sizes es × AreAlone sizes es
-shape_fills low sizes [] n f = false_true n
-shape_fills low sizes (e ∷ []) n f = subst (λ sz. Fills sz (e ∷ []) × AreAlone sz (e ∷ [])) (sym (one_size sizes f))
+shape_sizes : (low : ℕ) (sizes : List ℕ) (es : List Entry) → is_nonempty es ≡ true → fits_shape low sizes es ≡ true
+    → HaveSizes sizes es × AreAlone sizes es
+shape_sizes low sizes [] n f = false_true n
+shape_sizes low sizes (e ∷ []) n f = subst (λ sz. HaveSizes sz (e ∷ []) × AreAlone sz (e ∷ [])) (sym (one_size sizes f))
     ((omega arith, omega arith, refl), (refl, tt))
-shape_fills low sizes (e ∷ d ∷ es) n f =
+shape_sizes low sizes (e ∷ d ∷ es) n f =
     (fits_fill low (cuts_of (e ∷ d ∷ es)) sizes (e ∷ d ∷ es) f, fits_alone low (cuts_of (e ∷ d ∷ es)) sizes (e ∷ d ∷ es) f)
 
 -- where the nodes of a run are placed
 run_placed_over : (levels : List Level) (next : ℕ) (sizes : List ℕ) (es : List Entry) → IsAround levels IsOpen → IsFree next levels
-    → AreMarked (floor_of levels) es → Each IsNoEnd es → Fills sizes es → AreAlone sizes es
+    → AreMarked (floor_of levels) es → Each IsNoEnd es → HaveSizes sizes es → AreAlone sizes es
     → IsPlacedOver (placed_scope next sizes levels) next sizes (dormant_on levels) (floor_of levels) es
 run_placed_over levels next sizes es a free marked no_ends fills alone = record {
   nums = λ h x y. below h x (omega (arith, y, length-floor levels));
@@ -152,7 +152,7 @@ module _ (t : TreeState) (s : Spot) (h : IsAt t s) (root : IsCaughtRoot (plug (l
       (subst (λ r. IsSound (pending_list r)) (sym whole) z) in
       let marked = run_marked t.job.clauses v up t.next k es f h.free h.placed.around i before run in
       let over = (run_sound t.job.clauses levels (PlainEntry f) k es (around_path levels IsOpen h.placed.around) tt i run).over in
-      let both = shape_fills (length levels) sizes es some shape in
+      let both = shape_sizes (length levels) sizes es some shape in
       placed_preserved k sizes es (first_node t.next sizes levels es shape some)
       (placed_caught (placed_scope t.next sizes levels) t.next sizes (dormant_on levels) (floor_of levels) es
       (run_placed_over levels t.next sizes es h.placed.around h.free marked (over_no_end (height_way levels) es over) both.0

@@ -27,7 +27,7 @@ use Rattle.interleaving.specs.Follows.{Follows}
 use Rattle.interleaving.proofs.ListRoundLemmas.{around}
 use Rattle.interleaving.proofs.ContextLemmas.{IsLevel, IsAround, put_profiles, count_around, count_left}
 use Rattle.interleaving.proofs.AppendLemmas.{append-assoc, each-append}
-use Rattle.interleaving.proofs.RootLemmas.{are_told}
+use Rattle.interleaving.proofs.RootLemmas.{are_distinguished}
 use Rattle.interleaving.proofs.ListChangeLemmas.{quiet_early}
 use Rattle.interleaving.proofs.LeadLemmas.{lead-grows, follows_then, follows_itself}
 use Rattle.interleaving.proofs.EndLemmas.{HasQueryEnd, query_here, back_end}
@@ -147,7 +147,7 @@ gone_passes clauses v up c k r f g off z a =
     (sym (closed_records way n (length v.left) v.kind c.records (λ s. absurd (side_clash s))))
     (records_apart n way c.records (off_levels n up z)) in
     let segment : IsSegment (of_node n) pre (x ∷ []) zs = record {
-      grown = are_told.root (λ m. m == n);
+      grown = are_distinguished.root (λ m. m == n);
       front = each-append (IsBlind (of_node n)) (front_of (v ∷ up)) _ blind_left
           (blind_mine, (tt, tt));
       own = ((number_same n, number_same n), tt);

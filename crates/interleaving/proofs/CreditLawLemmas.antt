@@ -15,7 +15,7 @@ use Rattle.interleaving.proofs.RunFrontLemmas.{map-none}
 use Rattle.interleaving.proofs.EarlyLemmas.{Ground, Runs, Early, early, both_early}
 use Rattle.interleaving.proofs.AloneLemmas.{private_runs}
 use Rattle.interleaving.proofs.ApartLemmas.{IsSoughtApart, blind_closed, inner_unseen}
-use Rattle.interleaving.proofs.InsideStepLemmas.{any_ground, woken_active}
+use Rattle.interleaving.proofs.InsideStepLemmas.{any_ground, become_active}
 use Rattle.interleaving.proofs.QuietCreditLemmas.{outer-all, quiet-private}
 use Rattle.interleaving.proofs.EnoughLemmas.{enough, as_many}
 use Rattle.interleaving.proofs.AppendLemmas.{append-nil}
@@ -33,7 +33,7 @@ module _ (clauses : List Clause) where
 
   -- what records do under no premise
   pub runs_any : (k : ℕ) (rs : List Record) (a b : List Element) → Private m none_inner k rs a b → Runs m (any_ground clauses) k rs a b
-  runs_any k rs a b r = private_runs m none_inner (any_ground clauses) (λ o e. absurd (false≢true e)) (woken_active clauses) k rs a b r
+  runs_any k rs a b r = private_runs m none_inner (any_ground clauses) (λ o e. absurd (false≢true e)) (become_active clauses) k rs a b r
 
   pub quiet_any : (xs c : List Element) → IsQuiet xs → Runs m (any_ground clauses) (inferences xs) (records xs) (xs ++ c)
       (map (gives m (records xs)) c)

@@ -15,7 +15,7 @@ use Rattle.interleaving.specs.Roots.{extends, rooted}
 use Rattle.interleaving.specs.Views.{IsGrown, IsItemApart, IsRecordApart, IsBlind, IsInner, IsUnder}
 use Rattle.interleaving.proofs.ContextLemmas.{IsAround, count_around}
 use Rattle.interleaving.proofs.AppendLemmas.{each-append}
-use Rattle.interleaving.proofs.RootLemmas.{are_told}
+use Rattle.interleaving.proofs.RootLemmas.{are_distinguished}
 use Rattle.interleaving.proofs.NamingLemmas.{same-itself}
 use Rattle.interleaving.proofs.BesideLemmas.{Out, out_more}
 use Rattle.interleaving.proofs.ClosingSoundLemmas.{IsFree}
@@ -135,7 +135,7 @@ module _ (next : ℕ) (w : Level) (up : List Level) (a : IsAround (w ∷ up) IsO
     ok = is_free_of up;
     right = right;
     under = back_of up;
-    grown = are_told.root (is_free_of up);
+    grown = are_distinguished.root (is_free_of up);
     front = each-append (IsBlind inside) (front_of up) _ (upper_front up a.1)
         (tt, subst (λ l. Each (IsBlind inside) (list_left (way_of up) w.number w.kind l)) (sym empty) tt);
     named = λ s h. h;
@@ -191,7 +191,8 @@ module _ (next : ℕ) (w : Level) (up : List Level) (a : IsAround (w ∷ up) IsO
               → (made_at (length w.left ∷ w.number ∷ []) next (i ∷ s) || rooted (is_free_of (w ∷ up)) (i ∷ s)) ≡ true
           go true e k = or_left (made_at (length w.left ∷ w.number ∷ []) next (i ∷ s)) _
               (made_grown (length w.left ∷ w.number ∷ []) next i s e)
-          go false e k = or_right (made_at (length w.left ∷ w.number ∷ []) next (i ∷ s)) _ (are_told.root (is_free_of (w ∷ up)) i s k)
+          go false e k = or_right (made_at (length w.left ∷ w.number ∷ []) next (i ∷ s)) _
+              (are_distinguished.root (is_free_of (w ∷ up)) i s k)
 
       kept : (m : ℕ) → 1 ≤ count_around m (w ∷ up) → is_free_of (w ∷ up) m ≡ false
       kept m l = go (is_free_of (w ∷ up) m) refl

@@ -17,7 +17,7 @@ use Rattle.interleaving.proofs.EarlyLemmas.{Ground, Early, early}
 use Rattle.interleaving.proofs.AloneLemmas.{private_of_alone, private_runs, private-ok}
 use Rattle.interleaving.proofs.ApartLemmas.{IsSoughtApart, blind_closed, inner_unseen, inner-preserves}
 use Rattle.interleaving.proofs.InsideLemmas.{IsSoughtInner, IsAnyRecord, inner_closed, under_ground, preserved_inside}
-use Rattle.interleaving.proofs.InsideStepLemmas.{woken_active, still_goes, inner_stands}
+use Rattle.interleaving.proofs.InsideStepLemmas.{become_active, still_drops, inner_stands}
 use Rattle.interleaving.proofs.QuietCreditLemmas.{private-outer}
 use Rattle.interleaving.proofs.AppendLemmas.{append-nil}
 
@@ -61,7 +61,7 @@ module _ (clauses : List Clause) where
       let inner = private_inner inside k rs a b s.grown s.own r in
       let e : Early m g (IsBlind inside) (IsSoughtApart clauses inside) (IsRecordApart inside) (blind_closed clauses inside) k rs a b =
       record {
-        runs = private_runs m (is_inner_record inside) g (λ o. preserved_inside clauses inside o) (woken_active clauses) k rs a b r;
+        runs = private_runs m (is_inner_record inside) g (λ o. preserved_inside clauses inside o) (become_active clauses) k rs a b r;
         own = map-apart inside rs b (private-outer m (is_inner_record inside) k rs a b r) inner;
         old = inner_unseen clauses inside a s.own;
         new = inner_unseen clauses inside b inner;
@@ -72,7 +72,7 @@ module _ (clauses : List Clause) where
   pub done_alike : (inside : Name → Bool) (k : ℕ) (rs : List Record) (pre a b zs : List Element) → Pending inside pre a zs
       → run_off clauses inside k a ≡ Some (rs, b) → Alike m (pre ++ (a ++ zs)) (pre ++ (Credit k rs ∷ (b ++ zs)))
   done_alike inside k rs pre a b zs s e = private_early inside k rs pre a b zs s
-      (private_of_alone m (is_inner_record inside) (λ new. true) (still_goes clauses) k a b rs e)
+      (private_of_alone m (is_inner_record inside) (λ new. true) (still_drops clauses) k a b rs e)
 
   pub same_alone : SameAlone clauses
   same_alone inside k rs pre a c b zs s i e f n w =
@@ -178,4 +178,4 @@ module _ (clauses : List Clause) where
           let none : t.0 ≡ [] = none-leave inner k a t.1 t.0 f in
           subst (λ l. Private m inner k l a b) none
           (subst (Private m inner k t.0 a) (some-same t.1 b h)
-          (private_of_alone m inner (all_inner inner) (still_goes clauses) k a t.1 t.0 f))
+          (private_of_alone m inner (all_inner inner) (still_drops clauses) k a t.1 t.0 f))

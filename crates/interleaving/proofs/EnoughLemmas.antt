@@ -29,10 +29,10 @@ module _ {W X Q R : Type 0} (m : Machine W X Q R) (g : Ground m) (P : X → Type
 
       module _ (n : ℕ) (next : (w : W) (pre zs ys : List X) → Each P pre → Agrees n w (free_steps m [] (pre ++ (g.credit j os ∷ zs)))
           (free_steps m [] (pre ++ (g.credit k rs ∷ zs)))) where
-        placing_big : (w : W) (p : Replacement X Q) (new zs : List X) → PlaceOk m P K G p → Each P new
+        placing_before : (w : W) (p : Replacement X Q) (new zs : List X) → PlaceOk m P K G p → Each P new
             → Agrees n w (free_steps m [] (placed m p (new ++ (g.credit j os ∷ zs))))
             (free_steps m [] (placed m p (new ++ (g.credit k rs ∷ zs))))
-        placing_big w p new zs ok h = elim (placed-found m P K G c p new ok h) [
+        placing_before w p new zs ok h = elim (placed-found m P K G c p new ok h) [
           | inl f ↦ ap (λ l. seen (run m n w (free_steps m [] l))) (f.2 (g.credit j os ∷ zs)) ∙ next w f.0 zs [] f.1
               ∙ sym (ap (λ l. seen (run m n w (free_steps m [] l))) (f.2 (g.credit k rs ∷ zs)))
           | inr (inl f) ↦ ap (λ l. seen (run m n w (free_steps m [] l))) (f.1 (g.credit j os ∷ zs))
@@ -43,19 +43,19 @@ module _ {W X Q R : Type 0} (m : Machine W X Q R) (g : Ground m) (P : X → Type
               ∙ sym (ap (λ o. looked m o (λ q. search_for m q zs) zs) (g.passed f.0 k rs)) ∙ sym (f.2 (g.credit k rs ∷ zs)))
         ]
 
-        acting_big : (w : W) (t : Act W X Q R) (x : X) (new zs : List X) → ActOk m P K G t → Each P new
+        acting_before : (w : W) (t : Act W X Q R) (x : X) (new zs : List X) → ActOk m P K G t → Each P new
             → seen (run m n (acted m t w x (new ++ (g.credit j os ∷ zs))).0 (acted m t w x (new ++ (g.credit j os ∷ zs))).1)
             ≡ seen (run m n (acted m t w x (new ++ (g.credit k rs ∷ zs))).0 (acted m t w x (new ++ (g.credit k rs ∷ zs))).1)
-        acting_big w (Drops r) x new zs ok h = next w new zs [] h
-        acting_big w (Becomes y) x new zs ok h = next w (y ∷ new) zs [] (ok, h)
-        acting_big w (Infers p) x new zs ok h = placing_big w p new zs ok h
-        acting_big w (AsksWorld g) x new zs ok h = placing_big (g w).0 (g w).1 new zs (ok w) h
+        acting_before w (Drops r) x new zs ok h = next w new zs [] h
+        acting_before w (Becomes y) x new zs ok h = next w (y ∷ new) zs [] (ok, h)
+        acting_before w (Infers p) x new zs ok h = placing_before w p new zs ok h
+        acting_before w (AsksWorld g) x new zs ok h = placing_before (g w).0 (g w).1 new zs (ok w) h
 
-      agree_big : (n : ℕ) → suc n ≤ j → suc n ≤ k
+      agree_before : (n : ℕ) → suc n ≤ j → suc n ≤ k
           → ((w : W) (x : X) (new zs : List X) → P x → Each P new → Agrees n w (x ∷ (new ++ (g.credit j os ∷ zs)))
           (x ∷ (new ++ (g.credit k rs ∷ zs)))) → (w : W) (pre zs ys : List X) → Each P pre
           → Agrees n w (free_steps m [] (pre ++ (g.credit j os ∷ zs))) (free_steps m [] (pre ++ (g.credit k rs ∷ zs)))
-      agree_big n hj hk on w pre zs ys h = go (freed-found m P K G c [] pre tt h)
+      agree_before n hj hk on w pre zs ys h = go (freed-found m P K G c [] pre tt h)
         where
           go : Freed m P K G [] pre → Agrees n w (free_steps m [] (pre ++ (g.credit j os ∷ zs)))
               (free_steps m [] (pre ++ (g.credit k rs ∷ zs)))
@@ -71,16 +71,16 @@ module _ {W X Q R : Type 0} (m : Machine W X Q R) (g : Ground m) (P : X → Type
               ∙ sym (ap (λ l. seen (run m n w l))
               (f.4 (g.credit k rs ∷ zs) ∙ ap (λ l. f.0 ∷ (f.1 ++ l)) (given_credit qs k rs zs ok)))
 
-      stepping_big : (n : ℕ) → suc n ≤ j → suc n ≤ k → (w : W) (x : X) (new zs : List X) → P x → Each P new
+      stepping_before : (n : ℕ) → suc n ≤ j → suc n ≤ k → (w : W) (x : X) (new zs : List X) → P x → Each P new
           → Agrees n w (x ∷ (new ++ (g.credit j os ∷ zs))) (x ∷ (new ++ (g.credit k rs ∷ zs)))
-      stepping_big zero hj hk w x new zs q h = refl
-      stepping_big (suc n) hj hk w x new zs q h = acting_big n
-          (agree_big n (omega arith) (omega arith) (stepping_big n (omega arith) (omega arith))) w (m.act x) x new zs (c.acts x q) h
+      stepping_before zero hj hk w x new zs q h = refl
+      stepping_before (suc n) hj hk w x new zs q h = acting_before n
+          (agree_before n (omega arith) (omega arith) (stepping_before n (omega arith) (omega arith))) w (m.act x) x new zs (c.acts x q) h
 
       pub enough : (n : ℕ) → suc n ≤ j → suc n ≤ k → (w : W) (pre zs : List X) → Each P pre
           → seen (run m n w (free_steps m [] (pre ++ (g.credit j os ∷ zs))))
           ≡ seen (run m n w (free_steps m [] (pre ++ (g.credit k rs ∷ zs))))
-      enough n hj hk w pre zs h = agree_big n hj hk (stepping_big n hj hk) w pre zs [] h
+      enough n hj hk w pre zs h = agree_before n hj hk (stepping_before n hj hk) w pre zs [] h
 
       -- as many inferences as a credit has, where what is under it does not go
       whole_credit : (n : ℕ) (w : W) (i : ℕ) (us : List R) (zs : List X) → n ≤ i → is_finished (free_steps m us zs) ≡ false
@@ -95,7 +95,7 @@ module _ {W X Q R : Type 0} (m : Machine W X Q R) (g : Ground m) (P : X → Type
       after_step : (n : ℕ) → n ≤ j → n ≤ k → (w : W) (x : X) (new zs : List X) → P x → Each P new
           → Agrees n w (x ∷ (new ++ (g.credit j os ∷ zs))) (x ∷ (new ++ (g.credit k rs ∷ zs)))
       after_step zero hj hk w x new zs q h = refl
-      after_step (suc n) hj hk w x new zs q h = acting_big n (agree_big n hj hk (stepping_big n hj hk)) w (m.act x) x new zs
+      after_step (suc n) hj hk w x new zs q h = acting_before n (agree_before n hj hk (stepping_before n hj hk)) w (m.act x) x new zs
           (c.acts x q) h
 
       pub as_many : (n : ℕ) → n ≤ j → n ≤ k → (w : W) (pre zs : List X) → Each P pre

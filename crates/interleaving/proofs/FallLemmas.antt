@@ -34,43 +34,43 @@ use Rattle.interleaving.proofs.CaughtContextLemmas.{RootCaught, level_caught}
 use Rattle.interleaving.proofs.TestLemmas.{false_true, not_equal, number_same}
 
 -- the level of the catch that takes the ball, those above it, the recovery, what follows the catch, and the unifier
-pub data Fall : Type 0 where
-  Nobody : Fall
-  Catches : Level → List Level → Term → Continuation ℕ → Substitution → Fall
+pub data Catching : Type 0 where
+  Uncaught : Catching
+  CaughtBy : Level → List Level → Term → Continuation ℕ → Substitution → Catching
 
-abbrev pub caught_or : Option Substitution → Level → List Level → Term → Continuation ℕ → Fall → Fall
-caught_or (Some o) v up r f further = Catches v up r f o
+abbrev pub caught_or : Option Substitution → Level → List Level → Term → Continuation ℕ → Catching → Catching
+caught_or (Some o) v up r f further = CaughtBy v up r f o
 caught_or None v up r f further = further
 
-abbrev pub dormant_falls : Term → Level → List Level → Hold → Entry → (Option ℕ → Fall) → Fall
+abbrev pub dormant_falls : Term → Level → List Level → Hold → Entry → (Option ℕ → Catching) → Catching
 dormant_falls ball v up Dormant (CatchEntry x r f) go = caught_or (unifier ((x, copied ball f.next) ∷ [])) v up r f
     (go (first_mark f.items))
-dormant_falls ball v up Dormant (PlainEntry f) go = Nobody
-dormant_falls ball v up Dormant (FindallEntry results l f) go = Nobody
-dormant_falls ball v up Dormant (EndEntry b) go = Nobody
-dormant_falls ball v up Ready e go = Nobody
-dormant_falls ball v up (TakenBy w) e go = Nobody
-dormant_falls ball v up (Waiting g) e go = Nobody
+dormant_falls ball v up Dormant (PlainEntry f) go = Uncaught
+dormant_falls ball v up Dormant (FindallEntry results l f) go = Uncaught
+dormant_falls ball v up Dormant (EndEntry b) go = Uncaught
+dormant_falls ball v up Ready e go = Uncaught
+dormant_falls ball v up (TakenBy w) e go = Uncaught
+dormant_falls ball v up (Waiting g) e go = Uncaught
 
-abbrev pub right_falls : Term → Level → List Level → Alternatives → (Option ℕ → Fall) → Fall
+abbrev pub right_falls : Term → Level → List Level → Alternatives → (Option ℕ → Catching) → Catching
 right_falls ball v up (alternative spent (Pending hold e) others) go = dormant_falls ball v up hold e go
-right_falls ball v up (alternative spent (Inner node) others) go = Nobody
-right_falls ball v up (alternative spent (Closed c) others) go = Nobody
-right_falls ball v up none go = Nobody
+right_falls ball v up (alternative spent (Inner node) others) go = Uncaught
+right_falls ball v up (alternative spent (Closed c) others) go = Uncaught
+right_falls ball v up none go = Uncaught
 
-abbrev pub fall : Term → List Level → Option ℕ → Fall
-fall ball [] mark = Nobody
-fall ball (v ∷ up) None = Nobody
-fall ball (v ∷ up) (Some s) = cond (v.number == s) (right_falls ball v up v.right (fall ball up)) (fall ball up (Some s))
+abbrev pub catching : Term → List Level → Option ℕ → Catching
+catching ball [] mark = Uncaught
+catching ball (v ∷ up) None = Uncaught
+catching ball (v ∷ up) (Some s) = cond (v.number == s) (right_falls ball v up v.right (catching ball up)) (catching ball up (Some s))
 
 -- what follows a catch, by heights
 abbrev pub by_heights_of : List Level → Continuation ℕ → Continuation ℕ
 by_heights_of up f = record { items = by_heights up f.items; named = f.named; next = f.next }
 
 -- what a ball leaves of the floor
-abbrev pub fall_entries : Term → Fall → List Entry
-fall_entries ball Nobody = EndEntry (Some (copied ball 0)) ∷ []
-fall_entries ball (Catches v up r f o) = PlainEntry
+abbrev pub catching_entries : Term → Catching → List Entry
+catching_entries ball Uncaught = EndEntry (Some (copied ball 0)) ∷ []
+catching_entries ball (CaughtBy v up r f o) = PlainEntry
     (resolve_continuation o (with_next (f.next + copy_takes ball)
     (before (GoalItem (call_of r) (length (floor_of up)) ∷ []) (by_heights_of up f)))) ∷ floor_of up
 
@@ -144,7 +144,7 @@ passed ball m up (CatchEntry c r f) h =
     (unwound ball (cond b (first_mark f.items) (Some m)) (floor_of up))) h
 
 abbrev Lands : Term → List Level → Option ℕ → Type 0
-Lands ball levels mark = unwound ball (mark_height levels mark) (floor_of levels) ≡ fall_entries ball (fall ball levels mark)
+Lands ball levels mark = unwound ball (mark_height levels mark) (floor_of levels) ≡ catching_entries ball (catching ball levels mark)
 
 low_minus : (n k : ℕ) → 1 ≤ k → k ≤ n → (k - 1 == n) ≡ false
 low_minus n k a b = not_equal (k - 1) n (omega (arith, a, b))
@@ -155,12 +155,13 @@ height_some levels s h = let z = height_positive levels s h in omega (arith, z)
 -- at a catch
 falls_here : (ball : Term) (v : Level) (up : List Level) (x r : Term) (f : Continuation ℕ) (s : ℕ) → v.right
     ≡ alternative s (Pending Dormant (CatchEntry x r f)) none → Lands ball up (first_mark f.items)
-    → unwound ball (Some (suc (length up) - 1)) (floor_of (v ∷ up)) ≡ fall_entries ball (right_falls ball v up v.right (fall ball up))
+    → unwound ball (Some (suc (length up) - 1)) (floor_of (v ∷ up))
+        ≡ catching_entries ball (right_falls ball v up v.right (catching ball up))
 falls_here ball v up x r f s q further = subst Stays (sym q) (marked ∙ at_catch (unifier ((x, copied ball f.next) ∷ [])))
   where
     Stays : Alternatives → Type 0
     Stays right = unwound ball (Some (suc (length up) - 1)) (with_heights up (right_entry right) ∷ floor_of up)
-        ≡ fall_entries ball (right_falls ball v up right (fall ball up))
+        ≡ catching_entries ball (right_falls ball v up right (catching ball up))
 
     own : (suc (length up) - 1 == length (floor_of up)) ≡ true
     own = ap (λ n. n == length (floor_of up)) (let z : suc (length up) - 1 ≡ length up = omega arith in z)
@@ -177,7 +178,7 @@ falls_here ball v up x r f s q further = subst Stays (sym q) (marked ∙ at_catc
 
     at_catch : (o : Option Substitution) → recovered o ball r (by_heights_of up f) (floor_of up)
         (unwound ball (first_mark (by_heights up f.items)) (floor_of up))
-        ≡ fall_entries ball (caught_or o v up r f (fall ball up (first_mark f.items)))
+        ≡ catching_entries ball (caught_or o v up r f (catching ball up (first_mark f.items)))
     at_catch (Some o) = refl
     at_catch None = ap (λ k. unwound ball k (floor_of up)) (first_height up f.items) ∙ further
 
@@ -199,7 +200,7 @@ ball_scope_falls ball (v ∷ up) status (Some s) a h m = go (v.number == s) refl
   where
     Goal : Bool → Type 0
     Goal b = unwound ball (Some (cond b (suc (length up)) (height_of up s) - 1)) (floor_of (v ∷ up))
-        ≡ fall_entries ball (cond b (right_falls ball v up v.right (fall ball up)) (fall ball up (Some s)))
+        ≡ catching_entries ball (cond b (right_falls ball v up v.right (catching ball up)) (catching ball up (Some s)))
 
     go : (b : Bool) → (v.number == s) ≡ b → cond b (catch_right v.right) (dormant_on up s) ≡ true
         → ((k : Option ℕ) → MarkIsDormant up k → Lands ball up k) → Goal b
@@ -223,13 +224,13 @@ pub record IsCatcher (ball : Term) (levels : List Level) (v : Level) (up : List 
   pub down : levels_down levels v.number ≡ v ∷ up
   pub on : is_on (way_of levels) v.number ≡ true
 
-abbrev pub IsTaken : Term → List Level → Fall → Type 0
-IsTaken ball levels Nobody = Unit {0}
-IsTaken ball levels (Catches v up r f o) = IsCatcher ball levels v up r f o
+abbrev pub IsTaken : Term → List Level → Catching → Type 0
+IsTaken ball levels Uncaught = Unit {0}
+IsTaken ball levels (CaughtBy v up r f o) = IsCatcher ball levels v up r f o
 
-taken_above : (ball : Term) (v : Level) (up : List Level) (x : Fall) → IsLevel up v IsOpen → IsTaken ball up x → IsTaken ball (v ∷ up) x
-taken_above ball v up Nobody a h = tt
-taken_above ball v up (Catches w above r f o) a h =
+taken_above : (ball : Term) (v : Level) (up : List Level) (x : Catching) → IsLevel up v IsOpen → IsTaken ball up x → IsTaken ball (v ∷ up) x
+taken_above ball v up Uncaught a h = tt
+taken_above ball v up (CaughtBy w above r f o) a h =
     let off : (v.number == w.number) ≡ false = other_number (way_of up) v.number w.number a.new h.on (v.number == w.number) refl in
     record {
       catcher = h.catcher;
@@ -239,27 +240,27 @@ taken_above ball v up (Catches w above r f o) a h =
       on = cond-false (v.number == w.number) true (is_on (way_of up) w.number) off ∙ h.on;
     }
 
-pub fall_taken : (ball : Term) (levels : List Level) (status : Status) (mark : Option ℕ) → IsAround levels IsOpen
-    → RootCaught (plug levels status) → MarkIsDormant levels mark → IsTaken ball levels (fall ball levels mark)
-fall_taken ball [] status mark a h m = tt
-fall_taken ball (v ∷ up) status None a h m = tt
-fall_taken ball (v ∷ up) status (Some s) a h m = go (v.number == s) refl m
-    (λ k l. taken_above ball v up (fall ball up k) a.0 (fall_taken ball up (Inner (level_node v status)) k a.1 h l))
+pub catching_taken : (ball : Term) (levels : List Level) (status : Status) (mark : Option ℕ) → IsAround levels IsOpen
+    → RootCaught (plug levels status) → MarkIsDormant levels mark → IsTaken ball levels (catching ball levels mark)
+catching_taken ball [] status mark a h m = tt
+catching_taken ball (v ∷ up) status None a h m = tt
+catching_taken ball (v ∷ up) status (Some s) a h m = go (v.number == s) refl m
+    (λ k l. taken_above ball v up (catching ball up k) a.0 (catching_taken ball up (Inner (level_node v status)) k a.1 h l))
   where
     go : (b : Bool) → (v.number == s) ≡ b → cond b (catch_right v.right) (dormant_on up s) ≡ true
-        → ((k : Option ℕ) → MarkIsDormant up k → IsTaken ball (v ∷ up) (fall ball up k))
-        → IsTaken ball (v ∷ up) (cond b (right_falls ball v up v.right (fall ball up)) (fall ball up (Some s)))
+        → ((k : Option ℕ) → MarkIsDormant up k → IsTaken ball (v ∷ up) (catching ball up k))
+        → IsTaken ball (v ∷ up) (cond b (right_falls ball v up v.right (catching ball up)) (catching ball up (Some s)))
     go false e k more = more (Some s) k
     go true e k more =
         let c = catch_dormant v k in
         let q = dormant_guards v up (CatchEntry c.0 c.1 c.2) a.0 c.3 in
-        subst (λ right. IsTaken ball (v ∷ up) (right_falls ball v up right (fall ball up))) (sym q.right)
+        subst (λ right. IsTaken ball (v ∷ up) (right_falls ball v up right (catching ball up))) (sym q.right)
         (at_catch c.0 c.1 c.2 q (unifier ((c.0, copied ball c.2.next) ∷ [])) refl
         (more (first_mark c.2.items) (first_dormant up c.2.items (dormant_marks v up status c.0 c.1 c.2 q.spent h q.right))))
       where
         at_catch : (x r : Term) (f : Continuation ℕ) → Guards v (CatchEntry x r f) → (o : Option Substitution)
-            → unifier ((x, copied ball f.next) ∷ []) ≡ o → IsTaken ball (v ∷ up) (fall ball up (first_mark f.items))
-            → IsTaken ball (v ∷ up) (caught_or o v up r f (fall ball up (first_mark f.items)))
+            → unifier ((x, copied ball f.next) ∷ []) ≡ o → IsTaken ball (v ∷ up) (catching ball up (first_mark f.items))
+            → IsTaken ball (v ∷ up) (caught_or o v up r f (catching ball up (first_mark f.items)))
         at_catch x r f q (Some o) z t = record {
           catcher = x;
           unifies = z;

@@ -32,7 +32,7 @@ use Rattle.interleaving.specs.Follows.{lead, Follows}
 use Rattle.interleaving.proofs.ContextLemmas.{IsLevel, put_profiles, count_around}
 use Rattle.interleaving.proofs.WayLemmas.{cond-true, cond-false, other_number}
 use Rattle.interleaving.proofs.AppendLemmas.{append-assoc, each-append, append-nil}
-use Rattle.interleaving.proofs.RootLemmas.{are_told}
+use Rattle.interleaving.proofs.RootLemmas.{are_distinguished}
 use Rattle.interleaving.proofs.RunHeightLemmas.{names_are_free}
 use Rattle.interleaving.proofs.ListChangeLemmas.{no_credit, woken_early}
 use Rattle.interleaving.proofs.LeadLemmas.{lead-grows, follows_then, follows_becoming}
@@ -129,7 +129,7 @@ findall_wakes clauses next v up c rs l f g a d fresh i j =
     let blind : Each (IsBlind (of_node n)) front = each-append (IsBlind (of_node n)) (front_of up) _ (front_blind n up empty a.1)
     (tt, subst (λ x. Each (IsBlind (of_node n)) (list_left way n v.kind x)) (sym g.left) tt) in
     let segment : IsSegment (of_node n) front (xs ++ (x ∷ [])) zs = record {
-      grown = are_told.root (λ m. m == n);
+      grown = are_distinguished.root (λ m. m == n);
       front = blind;
       own = (tt, (number_same n, ((number_same n, number_same n), tt)));
       under =

@@ -11,7 +11,7 @@ use Rattle.interleaving.specs.HeightMachine.{HeightElement, HeightCredit, Height
 use Rattle.interleaving.specs.Erased.{element_count, height, with_height, continuation_heights, record_height, erased}
 use Rattle.interleaving.specs.Sound.{names, IsPresent, IsGuarded, IsGathered, IsMarkSound, IsSound}
 use Rattle.interleaving.specs.OwnRuns.{IsFloor}
-use Rattle.interleaving.specs.FloorLaws.{Tells}
+use Rattle.interleaving.specs.FloorLaws.{RespectsHeights}
 use Rattle.interleaving.proofs.NamingLemmas.{length-erased}
 use Rattle.interleaving.proofs.SeamLemmas.{Seam, seam}
 use Rattle.interleaving.proofs.OwnInferenceLemmas.{floor-low}
@@ -28,7 +28,7 @@ count-append (End p b ∷ xs) ls = omega (arith, count-append xs ls)
 abbrev cont_of : List NamedTerm → ℕ → List (Item ℕ) → Continuation ℕ
 cont_of named next items = record { items = items; named = named; next = next }
 
-module _ (floor zs : List Element) (first : IsFloor floor) (tells : Tells floor zs) where
+module _ (floor zs : List Element) (first : IsFloor floor) (tells : RespectsHeights floor zs) where
   -- one scope
   told : (b c : List Element) (s t : Name) → IsPresent (b ++ floor) s → IsPresent (c ++ floor) t → height (b ++ floor) s
       ≡ height (c ++ floor) t → height (b ++ zs) s ≡ height (c ++ zs) t

@@ -12,7 +12,7 @@ use Rattle.interleaving.specs.Erased.{element_count, height, with_height, contin
 use Rattle.interleaving.specs.Sound.{names, IsPresent}
 use Rattle.interleaving.proofs.ReadableLemmas.{IsMarkHigh, IsRecordRead, IsReadable}
 use Rattle.interleaving.specs.OwnRuns.{IsFloor}
-use Rattle.interleaving.specs.FloorLaws.{Tells}
+use Rattle.interleaving.specs.FloorLaws.{RespectsHeights}
 use Rattle.interleaving.proofs.NamingLemmas.{length-erased}
 use Rattle.interleaving.proofs.SeamLemmas.{Seam, seam}
 use Rattle.interleaving.proofs.OwnInferenceLemmas.{floor-low}
@@ -21,7 +21,7 @@ use Rattle.interleaving.proofs.FloorLemmas.{count-append}
 abbrev cont_of : List NamedTerm → ℕ → List (Item ℕ) → Continuation ℕ
 cont_of named next items = record { items = items; named = named; next = next }
 
-module _ (floor zs : List Element) (first : IsFloor floor) (tells : Tells floor zs) where
+module _ (floor zs : List Element) (first : IsFloor floor) (tells : RespectsHeights floor zs) where
   -- one scope
   told : (b c : List Element) (s t : Name) → IsPresent (b ++ floor) s → IsPresent (c ++ floor) t → height (b ++ floor) s
       ≡ height (c ++ floor) t → height (b ++ zs) s ≡ height (c ++ zs) t
@@ -258,6 +258,7 @@ module _ (floor zs : List Element) (first : IsFloor floor) (tells : Tells floor 
       ap (λ x. HeightEntry (EndEntry x) ∷ erased (b ++ zs)) parts.0
       ∙ ap (λ x. HeightEntry (EndEntry d) ∷ x) (lists-told n b c (omega arith) i j parts.1)
 
-pub readable_enough : (floor zs b c : List Element) → IsFloor floor → Tells floor zs → IsReadable (b ++ floor) → IsReadable (c ++ floor)
+pub readable_enough : (floor zs b c : List Element) → IsFloor floor → RespectsHeights floor zs → IsReadable (b ++ floor)
+    → IsReadable (c ++ floor)
     → erased (b ++ floor) ≡ erased (c ++ floor) → erased (b ++ zs) ≡ erased (c ++ zs)
 readable_enough floor zs b c first tells i j e = lists-told floor zs first tells (length b + length c) b c (omega arith) i j e

@@ -21,7 +21,7 @@ use Rattle.interleaving.specs.Views.{IsInner, IsRecordApart}
 use Rattle.interleaving.specs.Follows.{lead}
 use Rattle.interleaving.proofs.ContextLemmas.{IsAround, count_around}
 use Rattle.interleaving.proofs.AppendLemmas.{each-append}
-use Rattle.interleaving.proofs.RootLemmas.{are_told}
+use Rattle.interleaving.proofs.RootLemmas.{are_distinguished}
 use Rattle.interleaving.proofs.ListChangeLemmas.{quiet_early}
 use Rattle.interleaving.proofs.LeadLemmas.{lead-quiet, lead-grows}
 use Rattle.interleaving.proofs.EndLemmas.{has_end}
@@ -89,7 +89,7 @@ fold_passes clauses v up c total sides off e none_above a end =
     ≡ spent_at up + inferences (list_left (way_of up) v.number v.kind v.left
     ++ (balance_on (way_of (v ∷ up)) c ∷ list_right (way_of up) v)) = refl in
     let segment : IsSegment (of_node n) (front_of up) xs (back_of up) = record {
-      grown = are_told.root (λ m. m == n);
+      grown = are_distinguished.root (λ m. m == n);
       front = front_blind n up none_above a;
       own =
           (tt, inner_parts (all_left v.left) refl (all_right v.right) refl e);

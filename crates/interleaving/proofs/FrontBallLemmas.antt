@@ -46,8 +46,9 @@ use Rattle.interleaving.proofs.ListsSoundLemmas.{lists_are_sound}
 use Rattle.interleaving.proofs.WakeLemmas.{second_right}
 use Rattle.interleaving.proofs.FrontCloseLemmas.{bare}
 use Rattle.interleaving.proofs.CaughtFrontLemmas.{clear_part}
-use Rattle.interleaving.proofs.FallLemmas.{Fall, Nobody, Catches, fall, fall_entries, MarkIsDormant, IsTaken, IsCatcher, ball_scope_falls}
-use Rattle.interleaving.proofs.FallLemmas.{fall_taken, first_height, first_dormant}
+use Rattle.interleaving.proofs.FallLemmas.{Catching, Uncaught, CaughtBy, catching, catching_entries, MarkIsDormant, IsTaken, IsCatcher}
+use Rattle.interleaving.proofs.FallLemmas.{ball_scope_falls}
+use Rattle.interleaving.proofs.FallLemmas.{catching_taken, first_height, first_dormant}
 use Rattle.interleaving.proofs.BallPlaceLemmas.{query_at}
 use Rattle.interleaving.proofs.LowerListLemmas.{lower_back, back_split}
 use Rattle.interleaving.proofs.BallSearchLemmas.{mark_name, first_name, named_recovery, catch_element}
@@ -85,8 +86,8 @@ module _ (t : TreeState) (w : ℕ) (a : Place) (s : Spot) (f : Continuation ℕ)
   o = record { inside = first.inside; opened = first.opened }
 
   -- the tree after a ball
-  abbrev fallen : World → Term → Fall → TreeState
-  fallen after ball x = record (ball_falls s (fall_entries ball x) (record t { world = after }))
+  abbrev fallen : World → Term → Catching → TreeState
+  fallen after ball x = record (ball_falls s (catching_entries ball x) (record t { world = after }))
       { history = t.history ++ Answer w a false ∷ [] }
 
   module _ (g : Shared → Shared × ElementReplacement) (after : World) (ball : Term) (mark : Option ℕ)
@@ -112,13 +113,13 @@ module _ (t : TreeState) (w : ℕ) (a : Place) (s : Spot) (f : Continuation ℕ)
         (ap (λ p. placed m p (given (back_of levels))) (place (shared_of answers t) refl) ∙ found))
 
     caught_moves : (c : Level) (up : List Level) (r : Term) (h : Continuation ℕ) (u : Substitution)
-        → IsCatcher ball (levels_of s) c up r h u → fall ball (levels_of s) mark ≡ Catches c up r h u → (g (shared_of answers t)).0
-        ≡ shared_of answers (fallen after ball (Catches c up r h u))
-        → IsSoundTree (fallen after ball (Catches c up r h u)) → IsCaughtTree (fallen after ball (Catches c up r h u))
-        → AnswerMoves t (fallen after ball (Catches c up r h u)) answers answers
+        → IsCatcher ball (levels_of s) c up r h u → catching ball (levels_of s) mark ≡ CaughtBy c up r h u → (g (shared_of answers t)).0
+        ≡ shared_of answers (fallen after ball (CaughtBy c up r h u))
+        → IsSoundTree (fallen after ball (CaughtBy c up r h u)) → IsCaughtTree (fallen after ball (CaughtBy c up r h u))
+        → AnswerMoves t (fallen after ball (CaughtBy c up r h u)) answers answers
     caught_moves c up r h u q falls world j b =
         let clauses = t.job.clauses in
-        let new = fallen after ball (Catches c up r h u) in
+        let new = fallen after ball (CaughtBy c up r h u) in
         let p = placed_here t i k running s o f entry in
         let d = distinct_here t i k running s o f entry in
         let free = free_here t i k running s o f entry in
@@ -172,12 +173,12 @@ module _ (t : TreeState) (w : ℕ) (a : Place) (s : Spot) (f : Continuation ℕ)
           running = running;
         }) (λ l. absurd (end_pending new j (caught_ends t i k running s o f entry ball mark sleeps c up r h u q) l))
 
-    lost_moves : fall ball (levels_of s) mark ≡ Nobody → (g (shared_of answers t)).0 ≡ shared_of answers (fallen after ball Nobody)
-        → IsSoundTree (fallen after ball Nobody) → IsCaughtTree (fallen after ball Nobody)
-        → AnswerMoves t (fallen after ball Nobody) answers answers
+    lost_moves : catching ball (levels_of s) mark ≡ Uncaught → (g (shared_of answers t)).0 ≡ shared_of answers (fallen after ball Uncaught)
+        → IsSoundTree (fallen after ball Uncaught) → IsCaughtTree (fallen after ball Uncaught)
+        → AnswerMoves t (fallen after ball Uncaught) answers answers
     lost_moves falls world j b =
         let clauses = t.job.clauses in
-        let new = fallen after ball Nobody in
+        let new = fallen after ball Uncaught in
         let p = placed_here t i k running s o f entry in
         let d = distinct_here t i k running s o f entry in
         let root = root_here t i k running s o f entry in
@@ -220,12 +221,12 @@ module _ (t : TreeState) (w : ℕ) (a : Place) (s : Spot) (f : Continuation ℕ)
           running = running;
         }) (λ l. absurd (end_pending new j (lost_end clauses t.next v s.above status p.around root.last q below (Some (copied ball 0))) l))
 
-    pub falls_move : (x : Fall) → fall ball (levels_of s) mark ≡ x → IsTaken ball (levels_of s) x → (g (shared_of answers t)).0
+    pub falls_move : (x : Catching) → catching ball (levels_of s) mark ≡ x → IsTaken ball (levels_of s) x → (g (shared_of answers t)).0
         ≡ record (shared_of answers t) { world = after; halted = None } → IsSoundTree (fallen after ball x)
         → IsCaughtTree (fallen after ball x) → AnswerMoves t (fallen after ball x) answers answers
-    falls_move Nobody falls q world j b = lost_moves falls
+    falls_move Uncaught falls q world j b = lost_moves falls
         (world ∙ ap (λ h. record { world = after; queries = t.queries; answers = answers; halted = h }) (sym running)) j b
-    falls_move (Catches c up r h u) falls q world j b = caught_moves c up r h u q falls
+    falls_move (CaughtBy c up r h u) falls q world j b = caught_moves c up r h u q falls
         (world ∙ ap (λ h. record { world = after; queries = t.queries; answers = answers; halted = h }) (sym running)) j b
 
   -- a goal of the world that throws
@@ -240,11 +241,12 @@ module _ (t : TreeState) (w : ℕ) (a : Place) (s : Spot) (f : Continuation ℕ)
       let p = placed_here t i k running s o f entry in
       let root = root_here t i k running s o f entry in
       let status = Pending s.hold s.entry in
-      let lands_so : unwound ball (first_mark (by_heights levels items)) (floor_of levels) ≡ fall_entries ball (fall ball levels mark) =
+      let lands_so : unwound ball (first_mark (by_heights levels items)) (floor_of levels)
+          ≡ catching_entries ball (catching ball levels mark) =
       ap (λ n. unwound ball n (floor_of levels)) (first_height levels items) ∙ ball_scope_falls ball levels status mark p.around
       root.caught sleeps in
       let high = fh t w a s f e entry in
-      let tree : after_event t (Answer w a false) ≡ fallen after ball (fall ball levels mark) =
+      let tree : after_event t (Answer w a false) ≡ fallen after ball (catching ball levels mark) =
       moved_is t w a s f e entry (GoalItem goal scope ∷ items) q
       ∙ (ap (λ x. record (world_moved s
       (goal_at_front clauses x (with_items (by_heights levels items) high) (floor_of levels) t.world) t)
@@ -265,5 +267,5 @@ module _ (t : TreeState) (w : ℕ) (a : Place) (s : Spot) (f : Continuation ℕ)
       let world : (g (shared_of answers t)).0 ≡ record (shared_of answers t) { world = after; halted = None } = ap
       (λ x. (world_replied x own nr (shared_of answers t)).0) step in
       subst (λ new. AnswerMoves t new answers answers) (sym tree)
-      (falls_move g after ball mark sleeps asks (λ x y. ap (λ z. (g z).1) y ∙ place) (fall ball levels mark) refl
-      (fall_taken ball levels status mark p.around root.caught sleeps) world (subst IsSoundTree tree j) (subst IsCaughtTree tree r))
+      (falls_move g after ball mark sleeps asks (λ x y. ap (λ z. (g z).1) y ∙ place) (catching ball levels mark) refl
+      (catching_taken ball levels status mark p.around root.caught sleeps) world (subst IsSoundTree tree j) (subst IsCaughtTree tree r))

@@ -90,15 +90,15 @@ module _ (v : Level) (up : List Level) (next : ℕ) (free : IsFree next (v ∷ u
   abbrev tall : ℕ → ℕ
   tall h = height (EndOf (length v.left ∷ v.number ∷ []) ∷ tail) (scope_on (way_of (v ∷ up)) (node_of (v ∷ up) h))
 
-  abbrev tall_mark : ℕ → ℕ
-  tall_mark h = height (EndOf (length v.left ∷ v.number ∷ []) ∷ tail) (scope_on (way_of (v ∷ up)) (node_of (v ∷ up) (suc h))) - 1
+  abbrev height_mark : ℕ → ℕ
+  height_mark h = height (EndOf (length v.left ∷ v.number ∷ []) ∷ tail) (scope_on (way_of (v ∷ up)) (node_of (v ∷ up) (suc h))) - 1
 
   abbrev below : ℕ → Way
   below k = record { node = next; index = k; kind = ChoiceNode } ∷ way_of (v ∷ up)
 
   tree_items : (h : Name → ℕ) (k : ℕ) → ((n : ℕ) → h (scope_on (below k) (node n)) ≡ tall n) → (items : List (Item ℕ))
       → map (with_height h) (map (renamed_item (scope_on (below k)) (scope_on (below k)))
-      (map (renamed_item node (λ n. node (suc n))) items)) ≡ map (renamed_item tall tall_mark) items
+      (map (renamed_item node (λ n. node (suc n))) items)) ≡ map (renamed_item tall height_mark) items
   tree_items h k f [] = refl
   tree_items h k f (GoalItem t s ∷ items) = ap
       (λ n. GoalItem t n ∷ map (with_height h)
@@ -107,23 +107,23 @@ module _ (v : Level) (up : List Level) (next : ℕ) (free : IsFree next (v ∷ u
   tree_items h k f (CatchMark s ∷ items) = ap
       (λ n. CatchMark (n - 1) ∷ map (with_height h)
       (map (renamed_item (scope_on (below k)) (scope_on (below k))) (map (renamed_item node (λ n. node (suc n))) items))) (f (suc s))
-      ∙ ap (λ l. CatchMark (tall_mark s) ∷ l) (tree_items h k f items)
+      ∙ ap (λ l. CatchMark (height_mark s) ∷ l) (tree_items h k f items)
   tree_items h k f (CollectMark t s ∷ items) = ap
       (λ n. CollectMark t (n - 1) ∷ map (with_height h)
       (map (renamed_item (scope_on (below k)) (scope_on (below k))) (map (renamed_item node (λ n. node (suc n))) items))) (f (suc s))
-      ∙ ap (λ l. CollectMark t (tall_mark s) ∷ l) (tree_items h k f items)
+      ∙ ap (λ l. CollectMark t (height_mark s) ∷ l) (tree_items h k f items)
   tree_items h k f (RemovalItem n ∷ items) = ap (λ l. RemovalItem n ∷ l) (tree_items h k f items)
 
   here : (s : ℕ) → is_on way s ≡ true → tall (height_of (v ∷ up) s) ≡ height rest (scope_on way s)
   here s o = ap (λ n. height rest (scope_on way n)) (node_height (v ∷ up) s o)
 
-  mark_here : (s : ℕ) → is_on way s ≡ true → tall_mark (height_of (v ∷ up) s - 1) ≡ height rest (scope_on way s) - 1
+  mark_here : (s : ℕ) → is_on way s ≡ true → height_mark (height_of (v ∷ up) s - 1) ≡ height rest (scope_on way s) - 1
   mark_here s o = ap (λ n. height rest (scope_on way (node n)) - 1) (height_positive (v ∷ up) s o) ∙ ap (λ n. n - 1) (here s o)
 
   names_items : (h : Name → ℕ) → ((r : ℕ) → h (scope_on way r) ≡ height rest (scope_on way r)) → (part : Way) (items : List (Item ℕ))
       → ((r : ℕ) → is_on part r ≡ true → is_on way r ≡ true) → AreScoped part items
       → map (with_height h) (map (renamed_item (scope_on way) (scope_on way)) items)
-      ≡ map (renamed_item tall tall_mark) (by_heights (v ∷ up) items)
+      ≡ map (renamed_item tall height_mark) (by_heights (v ∷ up) items)
   names_items h f part [] o i = refl
   names_items h f part (GoalItem t s ∷ items) o i =
       ap (λ n. GoalItem t n ∷ map (with_height h) (map (renamed_item (scope_on way) (scope_on way)) items))
@@ -133,12 +133,12 @@ module _ (v : Level) (up : List Level) (next : ℕ) (free : IsFree next (v ∷ u
   names_items h f part (CatchMark s ∷ items) o i =
       ap (λ n. CatchMark n ∷ map (with_height h) (map (renamed_item (scope_on way) (scope_on way)) items))
       (ap (λ n. n - 1) (f s) ∙ sym (mark_here s (o s (through-on CatchNode part s i.0))))
-      ∙ ap (λ l. CatchMark (tall_mark (height_of (v ∷ up) s - 1)) ∷ l)
+      ∙ ap (λ l. CatchMark (height_mark (height_of (v ∷ up) s - 1)) ∷ l)
       (names_items h f (way_above part s) items (λ r k. o r (part_above part s r k)) i.1)
   names_items h f part (CollectMark t s ∷ items) o i =
       ap (λ n. CollectMark t n ∷ map (with_height h) (map (renamed_item (scope_on way) (scope_on way)) items))
       (ap (λ n. n - 1) (f s) ∙ sym (mark_here s (o s (through-on FindallNode part s i.0))))
-      ∙ ap (λ l. CollectMark t (tall_mark (height_of (v ∷ up) s - 1)) ∷ l)
+      ∙ ap (λ l. CollectMark t (height_mark (height_of (v ∷ up) s - 1)) ∷ l)
       (names_items h f (way_above part s) items (λ r k. o r (part_above part s r k)) i.1)
   names_items h f part (RemovalItem n ∷ items) o i = ap (λ l. RemovalItem n ∷ l) (names_items h f part items o i)
 
@@ -191,12 +191,12 @@ module _ (v : Level) (up : List Level) (next : ℕ) (free : IsFree next (v ∷ u
         (map (renamed_item node (λ n. node (suc n)))
         (map (resolve_item o) (goals_at (suc (length up)) gs ++ by_heights (v ∷ up) items))))
     solved_items h k es o gs f e =
-        let goals = goals_heights h tall tall_mark own (suc (length up)) (e ∙ sym top_height) gs
+        let goals = goals_heights h tall height_mark own (suc (length up)) (e ∙ sym top_height) gs
         (map (renamed_item (scope_on way) (scope_on way)) items) (by_heights (v ∷ up) items)
         (names_items h f way items (λ r z. z) scoped) in
         heights-resolved h o (goals_at own gs ++ map (renamed_item (scope_on way) (scope_on way)) items)
         ∙ (ap (map (resolve_item o)) goals
-        ∙ (sym (resolved_names tall tall_mark o (goals_at (suc (length up)) gs ++ by_heights (v ∷ up) items))
+        ∙ (sym (resolved_names tall height_mark o (goals_at (suc (length up)) gs ++ by_heights (v ∷ up) items))
         ∙ sym (tree_items (height (EndOf (k ∷ next ∷ []) ∷ (olders way next ChoiceNode (suc k) es ++ rest))) k (over_olders k es)
         (map (resolve_item o) (goals_at (suc (length up)) gs ++ by_heights (v ∷ up) items)))))
 

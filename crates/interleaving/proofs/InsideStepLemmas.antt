@@ -47,49 +47,49 @@ goal-active clauses (Replies (HaltNumber n)) p h f = tt
 goal-active clauses (Controls form) p h f = tt
 goal-active clauses (AskWorld g) p h f = tt
 
-wakes-same : (x y : Element) → ◌≡◌ {A = Does} (Becomes x) (Becomes y) → x ≡ y
-wakes-same x y e = cc
+becomes-same : (x y : Element) → ◌≡◌ {A = Does} (Becomes x) (Becomes y) → x ≡ y
+becomes-same x y e = cc
 
 active-at : (clauses : List Clause) (x y : Element) → IsActive (act clauses x) → ◌≡◌ {A = Does} (Becomes x) (Becomes y)
     → IsActive (act clauses y)
-active-at clauses x y h e = subst (λ z. IsActive (act clauses z)) (wakes-same x y e) h
+active-at clauses x y h e = subst (λ z. IsActive (act clauses z)) (becomes-same x y e) h
 
-goal-woken : (clauses : List Clause) (o : Outcome) (p h : Name) (f : Continuation Name) (y : Element) → goal_act clauses o p h f
+goal-become : (clauses : List Clause) (o : Outcome) (p h : Name) (f : Continuation Name) (y : Element) → goal_act clauses o p h f
     ≡ Becomes y → ⊥
-goal-woken clauses (Replies (Solutions ss)) p h f y e = absurd cc
-goal-woken clauses (Replies (Ball t)) p h f y e = absurd cc
-goal-woken clauses (Replies (HaltNumber n)) p h f y e = absurd cc
-goal-woken clauses (Controls form) p h f y e = absurd cc
-goal-woken clauses (AskWorld g) p h f y e = absurd cc
+goal-become clauses (Replies (Solutions ss)) p h f y e = absurd cc
+goal-become clauses (Replies (Ball t)) p h f y e = absurd cc
+goal-become clauses (Replies (HaltNumber n)) p h f y e = absurd cc
+goal-become clauses (Controls form) p h f y e = absurd cc
+goal-become clauses (AskWorld g) p h f y e = absurd cc
 
-unmarked-woken : (clauses : List Clause) (items : List (Item Name)) (p : Name) (f : Continuation Name) (y : Element)
+unmarked-become : (clauses : List Clause) (items : List (Item Name)) (p : Name) (f : Continuation Name) (y : Element)
     → unmarked (without_marks items) p f ≡ Becomes y → IsActive (act clauses y)
-unmarked-woken clauses [] p f y e = active-at clauses (Plain p (with_items [] f)) y tt e
-unmarked-woken clauses (GoalItem g h ∷ items) p f y e = active-at clauses (Plain p (with_items (GoalItem g h ∷ items) f)) y
+unmarked-become clauses [] p f y e = active-at clauses (Plain p (with_items [] f)) y tt e
+unmarked-become clauses (GoalItem g h ∷ items) p f y e = active-at clauses (Plain p (with_items (GoalItem g h ∷ items) f)) y
     (goal-active clauses (outcome_of clauses g f.next) p h (with_items items f)) e
-unmarked-woken clauses (RemovalItem n ∷ items) p f y e = active-at clauses (Plain p (with_items (RemovalItem n ∷ items) f)) y tt e
-unmarked-woken clauses (CatchMark s ∷ items) p f y e = unmarked-woken clauses items p f y e
-unmarked-woken clauses (CollectMark t s ∷ items) p f y e = absurd cc
+unmarked-become clauses (RemovalItem n ∷ items) p f y e = active-at clauses (Plain p (with_items (RemovalItem n ∷ items) f)) y tt e
+unmarked-become clauses (CatchMark s ∷ items) p f y e = unmarked-become clauses items p f y e
+unmarked-become clauses (CollectMark t s ∷ items) p f y e = absurd cc
 
-item-woken : (clauses : List Clause) (items : List (Item Name)) (p : Name) (f : Continuation Name) (y : Element)
+item-become : (clauses : List Clause) (items : List (Item Name)) (p : Name) (f : Continuation Name) (y : Element)
     → item_act clauses items p f ≡ Becomes y → IsActive (act clauses y)
-item-woken clauses [] p f y e = absurd cc
-item-woken clauses (GoalItem g h ∷ items) p f y e = absurd (goal-woken clauses (outcome_of clauses g f.next) p h (with_items items f) y e)
-item-woken clauses (RemovalItem n ∷ items) p f y e = absurd cc
-item-woken clauses (CatchMark s ∷ items) p f y e = unmarked-woken clauses items p f y e
-item-woken clauses (CollectMark t s ∷ items) p f y e = absurd cc
+item-become clauses [] p f y e = absurd cc
+item-become clauses (GoalItem g h ∷ items) p f y e = absurd (goal-become clauses (outcome_of clauses g f.next) p h (with_items items f) y e)
+item-become clauses (RemovalItem n ∷ items) p f y e = absurd cc
+item-become clauses (CatchMark s ∷ items) p f y e = unmarked-become clauses items p f y e
+item-become clauses (CollectMark t s ∷ items) p f y e = absurd cc
 
-pub woken_active : (clauses : List Clause) (x y : Element) → act clauses x ≡ Becomes y → IsActive (act clauses y)
-woken_active clauses (Credit zero rs) y e = absurd cc
-woken_active clauses (Credit (suc k) rs) y e = absurd cc
-woken_active clauses (EndOf s) y e = absurd cc
-woken_active clauses (Catch s u c r p f) y e = absurd cc
-woken_active clauses (End p b) y e = absurd cc
-woken_active clauses (Findall s u results list p f) y e =
+pub become_active : (clauses : List Clause) (x y : Element) → act clauses x ≡ Becomes y → IsActive (act clauses y)
+become_active clauses (Credit zero rs) y e = absurd cc
+become_active clauses (Credit (suc k) rs) y e = absurd cc
+become_active clauses (EndOf s) y e = absurd cc
+become_active clauses (Catch s u c r p f) y e = absurd cc
+become_active clauses (End p b) y e = absurd cc
+become_active clauses (Findall s u results list p f) y e =
     let g : Continuation Name = results_first results list u f in
     active-at clauses (Plain p g) y
     (goal-active clauses (outcome_of clauses (binary (codes "=") list (list_term results)) f.next) p u (with_items f.items g)) e
-woken_active clauses (Plain p f) y e = item-woken clauses f.items p f y e
+become_active clauses (Plain p f) y e = item-become clauses f.items p f y e
 
 -- what is left standing still goes
 unmarked-stands : (clauses : List Clause) (items : List (Item Name)) (p : Name) (f g : Continuation Name) (new : List Record)
@@ -119,14 +119,14 @@ item-erases clauses (CatchMark s ∷ items) p f new e = unmarked-stands clauses 
     (with_items (without_marks items) f) new e
 item-erases clauses (CollectMark t s ∷ items) p f new e = e
 
-pub still_goes : (clauses : List Clause) (x : Element) (new : List Record) → act clauses x ≡ Drops new
+pub still_drops : (clauses : List Clause) (x : Element) (new : List Record) → act clauses x ≡ Drops new
     → act clauses (without_catch_marks x) ≡ Drops new
-still_goes clauses (Plain p f) new e = item-erases clauses f.items p f new e
-still_goes clauses (Credit k rs) new e = e
-still_goes clauses (EndOf s) new e = e
-still_goes clauses (Catch s u c r p f) new e = e
-still_goes clauses (Findall s u results list p f) new e = e
-still_goes clauses (End p b) new e = e
+still_drops clauses (Plain p f) new e = item-erases clauses f.items p f new e
+still_drops clauses (Credit k rs) new e = e
+still_drops clauses (EndOf s) new e = e
+still_drops clauses (Catch s u c r p f) new e = e
+still_drops clauses (Findall s u results list p f) new e = e
+still_drops clauses (End p b) new e = e
 
 pub inner_stands : (inside : Name → Bool) (x : Element) → IsInner inside x → IsInner inside (without_catch_marks x)
 inner_stands inside (Plain p f) h = h

@@ -16,13 +16,13 @@ use Rattle.interleaving.proofs.EarlyLemmas.{early}
 use Rattle.interleaving.proofs.JoinedLemmas.{runs_gone}
 use Rattle.interleaving.proofs.AloneLemmas.{private_of_alone}
 use Rattle.interleaving.proofs.ApartLemmas.{IsSoughtApart, blind_closed, inner_unseen}
-use Rattle.interleaving.proofs.InsideStepLemmas.{any_ground, still_goes}
+use Rattle.interleaving.proofs.InsideStepLemmas.{any_ground, still_drops}
 use Rattle.interleaving.proofs.QuietCreditLemmas.{quiet-private, private-then, gives-fixed}
 use Rattle.interleaving.proofs.EarlyLawLemmas.{segment_pending, private_early, private_alone}
 use Rattle.interleaving.proofs.CreditLawLemmas.{any-all, credits_alike, none_alike}
 use Rattle.interleaving.proofs.FrontLawLemmas.{infers-fixed, front_alike, given_alike}
 use Rattle.interleaving.proofs.GivenHeightLemmas.{sound-gives}
-use Rattle.interleaving.proofs.SoundStepLemmas.{infers-sound, goes-gathered}
+use Rattle.interleaving.proofs.SoundStepLemmas.{infers-sound, drops-gathered}
 use Rattle.interleaving.proofs.SoundEarlyLemmas.{sound-after, sound_exchange, sound_private, sound_none, sound_sum}
 use Rattle.interleaving.proofs.RunHeightLemmas.{names_are_free}
 use Rattle.interleaving.proofs.AppendLemmas.{append-nil}
@@ -44,7 +44,7 @@ module _ (clauses : List Clause) where
 
   pub done_early : DoneEarly clauses
   done_early inside k rs pre a b zs s e = becomes inside k rs pre a b zs s
-      (private_of_alone m (is_inner_record inside) (λ new. true) (still_goes clauses) k a b rs e)
+      (private_of_alone m (is_inner_record inside) (λ new. true) (still_drops clauses) k a b rs e)
 
   pub quiet_early : QuietEarly clauses
   quiet_early inside pre xs zs q s =
@@ -95,7 +95,7 @@ module _ (clauses : List Clause) where
     sound = λ i.
         let here = sound-after pre (Plain p f ∷ zs) i in
         sound_exchange clauses inside pre (Plain p f ∷ []) (Credit 0 rs ∷ []) zs front (own, tt) (tt, tt) (omega arith) i
-        (goes-gathered clauses (Plain p f) zs rs e here, here.1);
+        (drops-gathered clauses (Plain p f) zs rs e here, here.1);
   }
 
   pub credits_add : CreditsAdd clauses

@@ -155,20 +155,21 @@ credit_sound v up c d a (inr e) = all c.records
     all (t ∷ ts) = (one, all ts)
 
 -- a tree round a place
-pub record IsGood (root : Status) : Type 0 where
+pub record IsDistinctTree (root : Status) : Type 0 where
   pub sound : IsSoundStatus [] root
   pub distinct : (m : ℕ) → count_below m root ≤ 1
 
-good_distinct : (levels : List Level) (status : Status) → IsGood (plug levels status) → IsDistinct levels
-good_distinct levels status g m = let z = g.distinct m in let c = count_plug m levels status in omega (arith, z, c)
+tree_distinct : (levels : List Level) (status : Status) → IsDistinctTree (plug levels status) → IsDistinct levels
+tree_distinct levels status g m = let z = g.distinct m in let c = count_plug m levels status in omega (arith, z, c)
 
 mutual
-  node_ok : (up : List Level) (node : Node) → IsGood (plug up (Inner node)) → IsCaughtNode (dormant_on up) (under_of up) node
+  node_ok : (up : List Level) (node : Node) → IsDistinctTree (plug up (Inner node)) → IsCaughtNode (dormant_on up) (under_of up) node
       → IsSound (back_of up) → IsSound (list_in (way_of up) node ++ back_of up)
   node_ok up (Numbered n kind alternatives) g c z = among_ok up n kind [] alternatives g c z
 
   among_ok : (up : List Level) (n : ℕ) (kind : Kind) (left : List (ℕ × Status)) (others : Alternatives)
-      → IsGood (plug up (Inner (Numbered n kind (put_left left others)))) → AreCaught (dormant_on up) (under_of up) n kind (length left)
+      → IsDistinctTree (plug up (Inner (Numbered n kind (put_left left others))))
+          → AreCaught (dormant_on up) (under_of up) n kind (length left)
       others → IsSound (back_of up) → IsSound (list_among (way_of up) n kind (length left) others ++ back_of up)
   among_ok up n kind left none g c z = z
   among_ok up n kind left (alternative spent status others) g c z =
@@ -179,22 +180,22 @@ mutual
       (list_right (way_of up) v) (back_of up) in
       subst IsSound (sym whole) (below_ok v up status g c.0 rest)
 
-  below_ok : (v : Level) (up : List Level) (status : Status) → IsGood (plug (v ∷ up) status)
+  below_ok : (v : Level) (up : List Level) (status : Status) → IsDistinctTree (plug (v ∷ up) status)
       → IsCaught (dormant_on (v ∷ up)) (is_side v.kind (length v.left)) (under_of up) status → IsSound (back_of (v ∷ up))
       → IsSound (list_below (way_of (v ∷ up)) v.spent status ++ back_of (v ∷ up))
   below_ok v up (Inner node) g c z = (tt, node_ok (v ∷ up) node g c z)
   below_ok v up (Closed c) g k z =
-      (credit_sound v up c (good_distinct (v ∷ up) (Closed c) g) (taken_out (v ∷ up) (Closed c) g.sound).0.1 k, z)
+      (credit_sound v up c (tree_distinct (v ∷ up) (Closed c) g) (taken_out (v ∷ up) (Closed c) g.sound).0.1 k, z)
   below_ok v up (Pending Dormant e) g c z = let p = taken_out (v ∷ up) (Pending Dormant e) g.sound in element_sound v up Dormant e
-      (good_distinct (v ∷ up) (Pending Dormant e) g) p.0 p.1.0 p.1.1 c z
+      (tree_distinct (v ∷ up) (Pending Dormant e) g) p.0 p.1.0 p.1.1 c z
   below_ok v up (Pending Ready e) g c z = let p = taken_out (v ∷ up) (Pending Ready e) g.sound in
-      (tt, element_sound v up Ready e (good_distinct (v ∷ up) (Pending Ready e) g) p.0 p.1.0 p.1.1 c z)
+      (tt, element_sound v up Ready e (tree_distinct (v ∷ up) (Pending Ready e) g) p.0 p.1.0 p.1.1 c z)
   below_ok v up (Pending (TakenBy w) e) g c z = let p = taken_out (v ∷ up) (Pending (TakenBy w) e) g.sound in
-      (tt, element_sound v up (TakenBy w) e (good_distinct (v ∷ up) (Pending (TakenBy w) e) g) p.0 p.1.0 p.1.1 c z)
+      (tt, element_sound v up (TakenBy w) e (tree_distinct (v ∷ up) (Pending (TakenBy w) e) g) p.0 p.1.0 p.1.1 c z)
   below_ok v up (Pending (Waiting x) e) g c z = let p = taken_out (v ∷ up) (Pending (Waiting x) e) g.sound in
-      (tt, element_sound v up (Waiting x) e (good_distinct (v ∷ up) (Pending (Waiting x) e) g) p.0 p.1.0 p.1.1 c z)
+      (tt, element_sound v up (Waiting x) e (tree_distinct (v ∷ up) (Pending (Waiting x) e) g) p.0 p.1.0 p.1.1 c z)
 
-root_ok : (root : Status) → IsGood root → IsCaught (λ m. false) false false root → IsSound (pending_list root)
+root_ok : (root : Status) → IsDistinctTree root → IsCaught (λ m. false) false false root → IsSound (pending_list root)
 root_ok (Closed c) g (inl e) = (subst (λ ts. Each (λ (r : Record). IsGathered [] r.0) (map (λ t. (findall_on [], t)) ts)) (sym e) tt, tt)
 root_ok (Closed c) g (inr e) = false_true e.1
 root_ok (Pending hold e) g c = absurd (no_root e g.sound.0)

@@ -21,7 +21,7 @@ use Rattle.interleaving.specs.Sound.{names, IsGathered, IsEntrySound, IsSound}
 use Rattle.tree_model.specs.PrivateRuns.{own_settles, own_free_steps, settled_own}
 use Rattle.interleaving.specs.OwnRuns.{NamesEntries, IsFloorUnder}
 use Rattle.interleaving.proofs.RunFrontLemmas.{map-none}
-use Rattle.interleaving.proofs.InsideStepLemmas.{still_goes}
+use Rattle.interleaving.proofs.InsideStepLemmas.{still_drops}
 use Rattle.interleaving.proofs.NamingLemmas.{goals-heights, length-erased, sames, carried_rest}
 use Rattle.run_model.proofs.FreeStepLemmas.{length-collected}
 use Rattle.interleaving.proofs.CarriedLemmas.{entry_unmarked}
@@ -107,7 +107,7 @@ module _ (clauses : List Clause) (inside : Name → Bool) (grown : IsGrown insid
           (arith, floor_size, findall_at-deep inside a zs s (height (a ++ zs) s - 1) o.inner i at) in
           test true (less (height (a ++ zs) s - 1) (length floor) deep) (
             without_catch_marks x ∷ a,
-            private_remains 0 x ((s, t) ∷ []) [] a (without_catch_marks x ∷ a) e (still_goes clauses x ((s, t) ∷ []) e)
+            private_remains 0 x ((s, t) ∷ []) [] a (without_catch_marks x ∷ a) e (still_drops clauses x ((s, t) ∷ []) e)
                 (private_none (without_catch_marks x ∷ a)),
             stood,
           )

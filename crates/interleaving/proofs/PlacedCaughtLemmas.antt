@@ -22,7 +22,7 @@ use Rattle.interleaving.proofs.EntryLemmas.{length-floor, own_height}
 use Rattle.interleaving.proofs.BallLemmas.{node_on}
 use Rattle.interleaving.proofs.PlacedSoundLemmas.{take-drop, drop-length}
 use Rattle.interleaving.proofs.PlacedShapeLemmas.{holder_first, holder_later, made, made_equal, fits_one}
-use Rattle.interleaving.proofs.PlacedErasedLemmas.{Fills}
+use Rattle.interleaving.proofs.PlacedErasedLemmas.{HaveSizes}
 use Rattle.interleaving.proofs.ListScopeLemmas.{dormant_on}
 use Rattle.interleaving.proofs.MarkedLemmas.{is_catch_entry, catch_at, MarksAt, EntryMarked, AreMarked, catch_low, no_guard_catch}
 use Rattle.interleaving.proofs.TestLemmas.{false_true, not_equal, number_same}
@@ -108,7 +108,7 @@ pub record IsPlacedOver (name : ℕ → ℕ) (next : ℕ) (sizes : List ℕ) (sl
   pub marked : AreMarked low es
   pub no_ends : Each IsNoEnd es
   pub alone : AreAlone sizes es
-  pub fills : Fills sizes es
+  pub fills : HaveSizes sizes es
 
 pub record IsPlacedCaught (sleeps : ℕ → Bool) (status : Status) : Type 0 where
   pub caught : (side under : Bool) → IsCaught sleeps side under status
@@ -147,13 +147,13 @@ module _ (name : ℕ → ℕ) (next : ℕ) (sleeps : ℕ → Bool) (low : List E
       apart false e l = refl
       apart true e l = let same : next ≡ name (suc h) = grind arith in let no_way : ⊥ = omega (arith, same, l) in absurd no_way
 
-  olds_caught : (under : Bool) (kind : Kind) (hold : Hold) (i : ℕ) (olds : List Entry) → TailsPlain low olds → AreMarked low olds
+  further_caught : (under : Bool) (kind : Kind) (hold : Hold) (i : ℕ) (olds : List Entry) → TailsPlain low olds → AreMarked low olds
       → AreCaught sleeps under next kind i (alternatives_of hold (map (with_nodes name) olds))
-  olds_caught under kind hold i [] t m = tt
-  olds_caught under kind hold i (o ∷ os) t m =
+  further_caught under kind hold i [] t m = tt
+  further_caught under kind hold i (o ∷ os) t m =
       let b = catch_right (alternatives_of hold (map (with_nodes name) os)) in (
         entry_caught name (with_catch next b sleeps) (os ++ low) o (λ h k. lower b h (t.0 h k)) m.0,
-        olds_caught under kind hold (suc i)
+        further_caught under kind hold (suc i)
             os t.1 m.1,
       )
 
@@ -214,14 +214,14 @@ alone_tails low olds h = pick (list_any is_guard olds) refl
     pick false e = guard_tails low olds e
     pick true e = single olds (sym (ap (λ b. not b || (length olds == 1)) e) ∙ h)
 
-olds_no_query : (name : ℕ → ℕ) (hold : Hold) (olds : List Entry) → Each IsNoEnd olds
+further_no_query : (name : ℕ → ℕ) (hold : Hold) (olds : List Entry) → Each IsNoEnd olds
     → HaveNoQuery (alternatives_of hold (map (with_nodes name) olds))
-olds_no_query name hold [] h = tt
-olds_no_query name hold (o ∷ os) h = (named_no_end name o h.0, olds_no_query name hold os h.1)
+further_no_query name hold [] h = tt
+further_no_query name hold (o ∷ os) h = (named_no_end name o h.0, further_no_query name hold os h.1)
 
-olds_unspent : (hold : Hold) (olds : List Entry) → AreUnspent (alternatives_of hold olds)
-olds_unspent hold [] = tt
-olds_unspent hold (o ∷ os) = (refl, olds_unspent hold os)
+further_unspent : (hold : Hold) (olds : List Entry) → AreUnspent (alternatives_of hold olds)
+further_unspent hold [] = tt
+further_unspent hold (o ∷ os) = (refl, further_unspent hold os)
 
 kind_no_query : (olds : List Entry) → is_query (guard_kind olds) ≡ false
 kind_no_query [] = refl
@@ -233,7 +233,7 @@ kind_no_query (EndEntry b ∷ es) = refl
 -- one node over what is inside it
 made_caught : (name : ℕ → ℕ) (next size : ℕ) (sizes : List ℕ) (sleeps : ℕ → Bool) (low inner olds : List Entry)
     → IsPlacedOver name next (size ∷ sizes) sleeps low (inner ++ olds) → length olds ≡ further size → is_alone olds ≡ true
-    → AreAlone sizes inner → Fills sizes inner
+    → AreAlone sizes inner → HaveSizes sizes inner
     → ((s : ℕ → Bool) → IsPlacedOver name (suc next) sizes s (olds ++ low) inner
     → IsPlacedCaught s (placed_status (suc next) sizes (map (with_nodes name) inner)))
     → IsPlacedCaught sleeps (made next (placed_status (suc next) sizes (map (with_nodes name) inner)) (map (with_nodes name) olds))
@@ -257,15 +257,15 @@ made_caught name next size sizes sleeps low inner olds h many alone rest fills i
     record {
       caught = λ side under. (
         k.caught (is_side (guard_kind new) 0) (side || under),
-        olds_caught name next sleeps low h.nums h.sleeping
+        further_caught name next sleeps low h.nums h.sleeping
             (side || under) (guard_kind new) (guard_hold (guard_kind new)) 1 olds (alone_tails low olds alone) marks.1,
       );
-      no_query = (kind_no_query new, (k.no_query, olds_no_query name (guard_hold (guard_kind new)) olds ends.1));
-      unspent = (k.unspent, olds_unspent (guard_hold (guard_kind new)) new);
+      no_query = (kind_no_query new, (k.no_query, further_no_query name (guard_hold (guard_kind new)) olds ends.1));
+      unspent = (k.unspent, further_unspent (guard_hold (guard_kind new)) new);
     }
   where
-    tall_is : length (olds ++ low) ≡ length low + further size
-    tall_is = omega (arith, length-append olds low, many)
+    height_is : length (olds ++ low) ≡ length low + further size
+    height_is = omega (arith, length-append olds low, many)
 
     num : (n : ℕ) → 1 ≤ n → n ≤ length (olds ++ low) → (c : Bool) → nat_le n (length low) ≡ c → suc (name n) ≤ suc next
     num n a b true e = let l : n ≤ length low = grind arith in omega (arith, h.nums n a l)
@@ -274,7 +274,7 @@ made_caught name next size sizes sleeps low inner olds h many alone rest fills i
         let place : n ≡ suc (length low + (n - suc (length low))) = omega (arith, high) in
         let here : name n ≡ next = ap name place
         ∙ (h.holds (n - suc (length low)) ∙ holder_first next size sizes (n - suc (length low))
-        (omega (arith, high, b, tall_is))) in
+        (omega (arith, high, b, height_is))) in
         omega (arith, here)
 
 pub placed_caught : (name : ℕ → ℕ) (next : ℕ) (sizes : List ℕ) (sleeps : ℕ → Bool) (low es : List Entry)

@@ -15,7 +15,8 @@ use Rattle.interleaving.proofs.NamingLemmas.{from_own}
 use Rattle.interleaving.proofs.PlacedSoundLemmas.{take-drop, drop-length, map-length}
 use Rattle.interleaving.proofs.PlacedShapeLemmas.{holder_first, holder_later, made, made_equal}
 use Rattle.interleaving.proofs.NamedFloorLemmas.{from-other, scope-here, scope-above}
-use Rattle.interleaving.proofs.PlacedNameLemmas.{bare, bare-append, bare-element, olders, bare_olders, IsMet, AreMeasured, measured_split}
+use Rattle.interleaving.proofs.PlacedNameLemmas.{bare, bare-append, bare-element, olders, bare_olders, HasItsHeight, AreMeasured}
+use Rattle.interleaving.proofs.PlacedNameLemmas.{measured_split}
 use Rattle.interleaving.proofs.PlacedNameLemmas.{entry_back, from_olders, count_olders, other_node, older_erased}
 use Rattle.interleaving.proofs.TestLemmas.{number_same}
 use Rattle.interleaving.proofs.SequentialHeightLemmas.{height-append}
@@ -27,19 +28,19 @@ NoneInside Whole low (size ∷ sizes) = ((h : ℕ) → Whole h → suc low ≤ h
     (low + further size) sizes
 
 -- the nodes have entries enough, and the last has one
-abbrev pub Fills : List ℕ → List Entry → Type 0
-Fills [] es = length es ≡ 1
-Fills (size ∷ sizes) es = (suc (further size) ≤ length es) × (1 ≤ size) × Fills sizes (take (length es - further size) es)
+abbrev pub HaveSizes : List ℕ → List Entry → Type 0
+HaveSizes [] es = length es ≡ 1
+HaveSizes (size ∷ sizes) es = (suc (further size) ≤ length es) × (1 ≤ size) × HaveSizes sizes (take (length es - further size) es)
 
 -- what is known where nodes are placed over a list
 pub record IsNaming (Whole : ℕ → Type 0) (name : ℕ → ℕ) (next : ℕ) (sizes : List ℕ) (way : Way) (xs : List Element) (es : List Entry) :
     Type 0 where
-  pub sees : (h : ℕ) → Whole h → 1 ≤ h → h ≤ element_count xs → IsMet xs way name h
+  pub sees : (h : ℕ) → Whole h → 1 ≤ h → h ≤ element_count xs → HasItsHeight xs way name h
   pub nums : (h : ℕ) → 1 ≤ h → h ≤ element_count xs → suc (name h) ≤ next
   pub holds : (p : ℕ) → name (suc (element_count xs + p)) ≡ holder next sizes p
   pub splits : NoneInside Whole (element_count xs) sizes
   pub measured : AreMeasured Whole (element_count xs) es
-  pub fills : Fills sizes es
+  pub fills : HaveSizes sizes es
 
 -- the list of a node
 pub bare_made : (way : Way) (next : ℕ) (first : Status) (new : List Entry) →
@@ -55,11 +56,11 @@ bare_made way next first new =
 module _ (Whole : ℕ → Type 0) (name : ℕ → ℕ) where
   -- the element list right of a node's first alternative, over what lies below
   pub inner_naming : (next size : ℕ) (sizes : List ℕ) (way : Way) (xs : List Element) (inner olds : List Entry) →
-      ((h : ℕ) → Whole h → 1 ≤ h → h ≤ element_count xs → IsMet xs way name h)
+      ((h : ℕ) → Whole h → 1 ≤ h → h ≤ element_count xs → HasItsHeight xs way name h)
       → ((h : ℕ) → 1 ≤ h → h ≤ element_count xs → suc (name h) ≤ next)
       → ((p : ℕ) → name (suc (element_count xs + p)) ≡ holder next (size ∷ sizes) p) →
       NoneInside Whole (element_count xs) (size ∷ sizes) → AreMeasured Whole (element_count xs) (inner ++ olds) → length olds ≡ further size
-      → Fills sizes inner →
+      → HaveSizes sizes inner →
       IsNaming Whole name (suc next) sizes (record { node = next; index = 0; kind = guard_kind (map (with_nodes name) olds) } ∷ way)
       (EndOf (0 ∷ next ∷ []) ∷ (olders way next (guard_kind (map (with_nodes name) olds)) 1 (map (with_nodes name) olds) ++ xs))
       inner
@@ -69,7 +70,7 @@ module _ (Whole : ℕ → Type 0) (name : ℕ → ℕ) where
     holds = λ p. ap (λ m. name (suc m)) (let z : element_count ys + p ≡ element_count xs + (further size + p) = omega (arith, tall) in z)
         ∙ (holds (further size + p) ∙ holder_later next size sizes p);
     splits = subst (λ n. NoneInside Whole n sizes) (sym tall) splits.1;
-    measured = subst (λ n. AreMeasured Whole n inner) (sym tall_olds) both.0;
+    measured = subst (λ n. AreMeasured Whole n inner) (sym size_olds) both.0;
     fills = fills;
   }
     where
@@ -91,11 +92,11 @@ module _ (Whole : ℕ → Type 0) (name : ℕ → ℕ) where
       tall : element_count ys ≡ element_count xs + further size
       tall = omega (arith, count_olders way next kind 1 (map (with_nodes name) olds) xs, map-length (with_nodes name) olds, many)
 
-      tall_olds : element_count ys ≡ length olds + element_count xs
-      tall_olds = omega (arith, tall, many)
+      size_olds : element_count ys ≡ length olds + element_count xs
+      size_olds = omega (arith, tall, many)
 
       -- a scope of what lies below
-      lower : (h : ℕ) → Whole h → 1 ≤ h → h ≤ element_count xs → IsMet ys (first ∷ way) name h
+      lower : (h : ℕ) → Whole h → 1 ≤ h → h ≤ element_count xs → HasItsHeight ys (first ∷ way) name h
       lower h w a low =
           let apart : (name h ≡ next → ⊥) = (λ z. absurd (omega (arith, nums h a low, z))) in
           ap (height ys) (scope-above first way (name h) (other_node (name h) next apart))
@@ -104,7 +105,7 @@ module _ (Whole : ℕ → Type 0) (name : ℕ → ℕ) where
           (name h) apart) ∙ sees h w a low)
 
       -- the scope of the node itself
-      own : (h : ℕ) → suc (element_count xs) ≤ h → h ≡ element_count xs + further size → IsMet ys (first ∷ way) name h
+      own : (h : ℕ) → suc (element_count xs) ≤ h → h ≡ element_count xs + further size → HasItsHeight ys (first ∷ way) name h
       own h a e =
           let place : h ≡ suc (element_count xs + (further size - 1)) = omega (arith, a, e) in
           let here : name h ≡ next = ap name place
@@ -113,13 +114,14 @@ module _ (Whole : ℕ → Type 0) (name : ℕ → ℕ) where
           ∙ (ap (height ys) (scope-here first way next (number_same next))
           ∙ (ap element_count (from_own (0 ∷ next ∷ []) (right ++ xs)) ∙ (tall ∙ sym e)))
 
-      see : (h : ℕ) → Whole h → 1 ≤ h → h ≤ element_count ys → (c : Bool) → nat_le h (element_count xs) ≡ c → IsMet ys (first ∷ way) name h
+      see : (h : ℕ) → Whole h → 1 ≤ h → h ≤ element_count ys → (c : Bool) → nat_le h (element_count xs) ≡ c
+          → HasItsHeight ys (first ∷ way) name h
       see h w a b true e = lower h w a (let z : h ≤ element_count xs = grind arith in z)
       see h w a b false e =
           let high : suc (element_count xs) ≤ h = grind arith in
           at_top (nat_le (suc h) (element_count xs + further size)) refl
         where
-          at_top : (c : Bool) → nat_le (suc h) (element_count xs + further size) ≡ c → IsMet ys (first ∷ way) name h
+          at_top : (c : Bool) → nat_le (suc h) (element_count xs + further size) ≡ c → HasItsHeight ys (first ∷ way) name h
           at_top true k =
               let high : suc (element_count xs) ≤ h = grind arith in
               let under : suc h ≤ element_count xs + further size = grind arith in
@@ -141,11 +143,11 @@ module _ (Whole : ℕ → Type 0) (name : ℕ → ℕ) where
 
   -- one node over what is inside it
   node_erased : (next size : ℕ) (sizes : List ℕ) (way : Way) (xs : List Element) (inner olds : List Entry) →
-      ((h : ℕ) → Whole h → 1 ≤ h → h ≤ element_count xs → IsMet xs way name h)
+      ((h : ℕ) → Whole h → 1 ≤ h → h ≤ element_count xs → HasItsHeight xs way name h)
       → ((h : ℕ) → 1 ≤ h → h ≤ element_count xs → suc (name h) ≤ next)
       → ((p : ℕ) → name (suc (element_count xs + p)) ≡ holder next (size ∷ sizes) p) →
       NoneInside Whole (element_count xs) (size ∷ sizes) → AreMeasured Whole (element_count xs) (inner ++ olds) → length olds ≡ further size
-      → Fills sizes inner →
+      → HaveSizes sizes inner →
       ((a : Step) (w : Way) (ys : List Element) → IsNaming Whole name (suc next) sizes (a ∷ w) ys inner
       → erased (bare (list_below (a ∷ w) 0 (placed_status (suc next) sizes (map (with_nodes name) inner))) ++ ys)
       ≡ height_entries inner ++ erased ys) →

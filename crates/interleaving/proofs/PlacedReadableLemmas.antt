@@ -11,13 +11,13 @@ use Rattle.tree_model.specs.PendingLists.{Step, Way, scope_on, element_at, list_
 use Rattle.interleaving.proofs.AppendLemmas.{append-assoc}
 use Rattle.interleaving.proofs.PlacedSoundLemmas.{take-drop, drop-length}
 use Rattle.interleaving.proofs.PlacedShapeLemmas.{made_equal}
-use Rattle.interleaving.proofs.PlacedNameLemmas.{bare, bare-element, olders, IsMet, ItemsMeasured, EntryMeasured, AreMeasured}
-use Rattle.interleaving.proofs.PlacedNameLemmas.{measured_split, older_met}
+use Rattle.interleaving.proofs.PlacedNameLemmas.{bare, bare-element, olders, HasItsHeight, ItemsMeasured, EntryMeasured, AreMeasured}
+use Rattle.interleaving.proofs.PlacedNameLemmas.{measured_split, older_height}
 use Rattle.interleaving.proofs.PlacedErasedLemmas.{IsNaming, bare_made, inner_naming}
 use Rattle.interleaving.proofs.ReadableLemmas.{AreReadable, IsReadable, high_present}
 
 items_read : (Whole : ℕ → Type 0) (q : ℕ) (xs : List Element) (way : Way) (name : ℕ → ℕ) (items : List (Item ℕ))
-    → ItemsMeasured Whole q items → ((h : ℕ) → Whole h → 1 ≤ h → h ≤ q → IsMet xs way name h) →
+    → ItemsMeasured Whole q items → ((h : ℕ) → Whole h → 1 ≤ h → h ≤ q → HasItsHeight xs way name h) →
     AreReadable xs (map (renamed_item (scope_on way) (scope_on way)) (map (renamed_item name (λ h. name (suc h))) items))
 items_read Whole q xs way name [] m g = (tt, tt)
 items_read Whole q xs way name (GoalItem t h ∷ items) m g =
@@ -35,7 +35,7 @@ items_read Whole q xs way name (CollectMark t h ∷ items) m g =
 items_read Whole q xs way name (RemovalItem n ∷ items) m g = let rest = items_read Whole q xs way name items m g in (rest.0, (tt, rest.1))
 
 pub entry_read : (Whole : ℕ → Type 0) (q : ℕ) (n i : ℕ) (way : Way) (name : ℕ → ℕ) (e : Entry) (xs : List Element)
-    → EntryMeasured Whole q e → ((h : ℕ) → Whole h → 1 ≤ h → h ≤ q → IsMet xs way name h) →
+    → EntryMeasured Whole q e → ((h : ℕ) → Whole h → 1 ≤ h → h ≤ q → HasItsHeight xs way name h) →
     IsReadable xs → IsReadable (element_at n i way (with_nodes name e) ∷ xs)
 entry_read Whole q n i way name (PlainEntry f) xs m g r = (items_read Whole q xs way name f.items m g, r)
 entry_read Whole q n i way name (CatchEntry c x f) xs m g r = (items_read Whole q xs way name f.items m g, r)
@@ -43,7 +43,7 @@ entry_read Whole q n i way name (FindallEntry results l f) xs m g r = (items_rea
 entry_read Whole q n i way name (EndEntry b) xs m g r = r
 
 older_read : (Whole : ℕ → Type 0) (name : ℕ → ℕ) (next f : ℕ) (way : Way) (kind : Kind) (xs : List Element)
-    → ((h : ℕ) → Whole h → 1 ≤ h → h ≤ element_count xs → IsMet xs way name h)
+    → ((h : ℕ) → Whole h → 1 ≤ h → h ≤ element_count xs → HasItsHeight xs way name h)
     → ((h : ℕ) → 1 ≤ h → h ≤ element_count xs → suc (name h) ≤ next) →
     ((h : ℕ) → Whole h → suc (element_count xs) ≤ h → suc h ≤ element_count xs + f → ⊥) → (i : ℕ) (os : List Entry) → length os ≤ f
     → AreMeasured Whole (element_count xs) os → IsReadable xs → IsReadable (olders way next kind i (map (with_nodes name) os) ++ xs)
@@ -51,7 +51,7 @@ older_read Whole name next f way kind xs sees nums none i [] l m r = r
 older_read Whole name next f way kind xs sees nums none i (o ∷ os) l m r =
     let tail = olders way next kind (suc i) (map (with_nodes name) os) ++ xs in
     entry_read Whole (length os + element_count xs) next i (record { node = next; index = i; kind = kind } ∷ way) name o
-    (EndOf (i ∷ next ∷ []) ∷ tail) m.0 (older_met Whole name next f way kind xs sees nums none i os l)
+    (EndOf (i ∷ next ∷ []) ∷ tail) m.0 (older_height Whole name next f way kind xs sees nums none i os l)
     (older_read Whole name next f way kind xs sees nums none (suc i) os (omega arith) m.1 r)
 
 module _ (Whole : ℕ → Type 0) (name : ℕ → ℕ) where

@@ -20,8 +20,8 @@ use Rattle.interleaving.proofs.RunSoundLemmas.{height_way, length-heights, floor
 use Rattle.interleaving.proofs.LegalLemmas.{placed_floor, placed_above, one_size, any_seen}
 use Rattle.interleaving.proofs.PlacedSoundLemmas.{named_in, IsSeen, all_seen}
 use Rattle.interleaving.proofs.NamedFloorLemmas.{below_named, count-below, low_height, below_erased}
-use Rattle.interleaving.proofs.PlacedNameLemmas.{bare, IsMet, AreMeasured}
-use Rattle.interleaving.proofs.PlacedErasedLemmas.{NoneInside, Fills, IsNaming, placed_erased}
+use Rattle.interleaving.proofs.PlacedNameLemmas.{bare, HasItsHeight, AreMeasured}
+use Rattle.interleaving.proofs.PlacedErasedLemmas.{NoneInside, HaveSizes, IsNaming, placed_erased}
 use Rattle.interleaving.proofs.PlacedReadableLemmas.{placed_read}
 use Rattle.interleaving.proofs.RunMeasuredLemmas.{NotInside, not_inside_low, none_inside, fits_fill, cut_not_inside, GuardAt}
 use Rattle.interleaving.proofs.RunMeasuredLemmas.{guard_not_inside}
@@ -62,7 +62,7 @@ naming_by : (Whole : ℕ → Type 0) (seen : ℕ → Bool) (levels : List Level)
     → IsPublished levels next sizes es →
     ((h : ℕ) → seen h ≡ true → Whole h) → ((h : ℕ) → suc h ≤ length (height_way levels) → Whole (suc h))
     → ((h : ℕ) → GuardAt (length (height_way levels)) es h → Whole (suc h)) → Each (IsSeen seen) es →
-    NoneInside Whole (length levels) sizes → Fills sizes es → IsNaming Whole (placed_scope next sizes levels) next sizes (way_of levels)
+    NoneInside Whole (length levels) sizes → HaveSizes sizes es → IsNaming Whole (placed_scope next sizes levels) next sizes (way_of levels)
     (below_named levels) es
 naming_by Whole seen levels next sizes es p cuts low guards v none fills =
     record {
@@ -76,7 +76,7 @@ naming_by Whole seen levels next sizes es p cuts low guards v none fills =
       fills = fills;
     }
   where
-    met : (h : ℕ) → 1 ≤ h → h ≤ length levels → IsMet (below_named levels) (way_of levels) (placed_scope next sizes levels) h
+    met : (h : ℕ) → 1 ≤ h → h ≤ length levels → HasItsHeight (below_named levels) (way_of levels) (placed_scope next sizes levels) h
     met h a b = ap (λ m. height (below_named levels) (scope_on (way_of levels) m)) (placed_floor next sizes levels h b)
         ∙ (low_height levels (node_of levels h) ∙ height_node levels p.path h a b)
 

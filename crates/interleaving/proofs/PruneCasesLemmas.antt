@@ -38,7 +38,8 @@ use Rattle.interleaving.proofs.ListScopeLemmas.{dormant_on}
 use Rattle.interleaving.proofs.FrontCloseLemmas.{bare}
 use Rattle.interleaving.proofs.CaughtEventLemmas.{marks_without}
 use Rattle.interleaving.proofs.BallLevelLemmas.{clear_below}
-use Rattle.interleaving.proofs.FallLemmas.{Fall, fall, fall_entries, MarkIsDormant, IsTaken, ball_scope_falls, fall_taken, first_height}
+use Rattle.interleaving.proofs.FallLemmas.{Catching, catching, catching_entries, MarkIsDormant, IsTaken, ball_scope_falls, catching_taken}
+use Rattle.interleaving.proofs.FallLemmas.{first_height}
 use Rattle.interleaving.proofs.FallLemmas.{first_dormant}
 use Rattle.interleaving.proofs.BallSearchLemmas.{mark_name, first_name}
 use Rattle.interleaving.proofs.PrunedBallLemmas.{placed_here, root_here}
@@ -46,13 +47,13 @@ use Rattle.interleaving.proofs.TestLemmas.{false_true}
 
 module _ (t : TreeState) (i : IsSoundTree t) (k : IsCaughtTree t) (running : t.halted ≡ None) (s : Spot) (o : IsOpenSpot t.root s)
     (f : Continuation ℕ) (entry : s.entry ≡ PlainEntry f) (Moves : TreeState → Type 0)
-    (falls : (ball : Term) (mark : Option ℕ) → MarkIsDormant (levels_of s) mark → under_query (way_of (levels_of s)) ≡ true → (x : Fall)
-    → fall ball (levels_of s) mark ≡ x → IsTaken ball (levels_of s) x
-    → AreClear (levels_below (Some (ball_scope (levels_of s) (fall_entries ball x))) (levels_of s))
+    (falls : (ball : Term) (mark : Option ℕ) → MarkIsDormant (levels_of s) mark → under_query (way_of (levels_of s)) ≡ true → (x : Catching)
+    → catching ball (levels_of s) mark ≡ x → IsTaken ball (levels_of s) x
+    → AreClear (levels_below (Some (ball_scope (levels_of s) (catching_entries ball x))) (levels_of s))
     → act t.job.clauses (bare t.job.clauses (0 ∷ length s.level.left ∷ s.level.number ∷ [])
     (named_continuation (way_of (levels_of s)) f))
     ≡ Infers (Seek (Thrown ball (mark_name (way_of (levels_of s)) mark) (0 ∷ length s.level.left ∷ s.level.number ∷ [])))
-    → Moves (ball_falls s (fall_entries ball x) t))
+    → Moves (ball_falls s (catching_entries ball x) t))
     (cuts : (n : ℕ) → in_reach (way_of (levels_of s)) n ≡ true → (s.level.number == n) ≡ false → (items : List (Item ℕ))
     → AreScoped (way_from (way_of (levels_of s)) n) items → AreScoped (way_of (levels_of s)) items → (g : Continuation ℕ) → g.named
     ≡ f.named → g.next ≡ f.next → AreClear (levels_below (Some n) (levels_of s)) → (es : List Entry)
@@ -102,16 +103,16 @@ module _ (t : TreeState) (i : IsSoundTree t) (k : IsCaughtTree t) (running : t.h
         let status = Pending s.hold s.entry in
         let mark = first_mark items in
         let sleeps = first_dormant levels items marks in
-        let x = fall ball levels mark in
-        let same : fall_entries ball x ≡ es = sym (ap (λ m. unwound ball m (floor_of levels)) (first_height levels items)
+        let x = catching ball levels mark in
+        let same : catching_entries ball x ≡ es = sym (ap (λ m. unwound ball m (floor_of levels)) (first_height levels items)
         ∙ ball_scope_falls ball levels status mark p.around root.caught sleeps) ∙ lands in
         let takes : act t.job.clauses (bare t.job.clauses own named) ≡ Infers (Seek (Thrown ball (mark_name (way_of levels) mark) own)) =
         acts ∙ (ap (λ x. goal_act t.job.clauses x own (sc n) rest) outcome
         ∙ ap (λ m. Infers (Seek (Thrown ball m own))) (first_name (way_of levels) items)) in
         subst (λ es. may_prune levels (ball_gate levels es) ≡ true → Moves (gate_pruned s (ball_gate levels es) es t)) same
-        (by_gate (fall_entries ball x) (λ z. falls ball mark sleeps asked.asked x refl
-        (fall_taken ball levels status mark p.around root.caught sleeps)
-        (clear_below (ball_scope levels (fall_entries ball x)) levels z) takes)) l
+        (by_gate (catching_entries ball x) (λ z. falls ball mark sleeps asked.asked x refl
+        (catching_taken ball levels status mark p.around root.caught sleeps)
+        (clear_below (ball_scope levels (catching_entries ball x)) levels z) takes)) l
       where
         by_gate : (es : List Entry) → (is_cleared (Some (ball_scope levels es)) levels ≡ true → Moves (ball_falls s es t))
             → may_prune levels (ball_gate levels es) ≡ true → Moves (gate_pruned s (ball_gate levels es) es t)

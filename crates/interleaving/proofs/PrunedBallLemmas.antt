@@ -49,7 +49,8 @@ use Rattle.interleaving.proofs.FrontSoundLemmas.{front_short, own_inside}
 use Rattle.interleaving.proofs.CaughtContextLemmas.{IsCaughtRoot}
 use Rattle.interleaving.proofs.CaughtClosingLemmas.{dormant_there}
 use Rattle.interleaving.proofs.BallLevelLemmas.{ball_credit, wakes_in, ball_closes_at}
-use Rattle.interleaving.proofs.FallLemmas.{Fall, Nobody, Catches, fall, fall_entries, by_heights_of, MarkIsDormant, IsTaken, IsCatcher}
+use Rattle.interleaving.proofs.FallLemmas.{Catching, Uncaught, CaughtBy, catching, catching_entries, by_heights_of, MarkIsDormant, IsTaken}
+use Rattle.interleaving.proofs.FallLemmas.{IsCatcher}
 use Rattle.interleaving.proofs.BallPlaceLemmas.{scope_down, query_at}
 use Rattle.interleaving.proofs.BallSearchLemmas.{mark_name}
 use Rattle.interleaving.proofs.BallCatchLemmas.{none_lost, loses}
@@ -131,7 +132,7 @@ module _ (t : TreeState) (i : IsSoundTree t) (k : IsCaughtTree t) (running : t.h
     woken up r g u = with_nodes (node_of levels) (PlainEntry (recovery up r g u))
 
     pub root_is : (w : Level) (up : List Level) (r : Term) (g : Continuation ℕ) (u : Substitution) → IsCatcher ball (levels_of s) w up r g u
-        → (ball_falls s (fall_entries ball (Catches w up r g u)) t).root
+        → (ball_falls s (catching_entries ball (CaughtBy w up r g u)) t).root
         ≡ (wakes t.next w up (ball_credit w.number (levels_of s) (credit_of 1)) (woken up r g u)).root
     root_is w up r g u c =
         let e = woken up r g u in
@@ -141,7 +142,7 @@ module _ (t : TreeState) (i : IsSoundTree t) (k : IsCaughtTree t) (running : t.h
 
     pub caught_ends : (w : Level) (up : List Level) (r : Term) (g : Continuation ℕ) (u : Substitution)
         → IsCatcher ball (levels_of s) w up r g u
-        → has_end (pending_list (ball_falls s (fall_entries ball (Catches w up r g u)) t).root) ≡ true
+        → has_end (pending_list (ball_falls s (catching_entries ball (CaughtBy w up r g u)) t).root) ≡ true
     caught_ends w up r g u c =
         let top : IsAround (w ∷ up) IsOpen = subst (λ l. IsAround l IsOpen) c.down (around-down levels w.number placed_here.around) in
         let asked = (dormant_there w up IsOpen c.sleeper.spent (CatchEntry c.catcher r g) top.0 c.sleeper.right).asked in
@@ -150,10 +151,10 @@ module _ (t : TreeState) (i : IsSoundTree t) (k : IsCaughtTree t) (running : t.h
         (end_after (list_right (way_of up) x) (back_of up) (back_end up top.1 asked))
 
     caught_follows : (w : Level) (up : List Level) (r : Term) (g : Continuation ℕ) (u : Substitution)
-        → IsCatcher ball (levels_of s) w up r g u → fall ball (levels_of s) mark ≡ Catches w up r g u
+        → IsCatcher ball (levels_of s) w up r g u → catching ball (levels_of s) mark ≡ CaughtBy w up r g u
         → AreClear (levels_below (Some w.number) (levels_of s)) → Throws
-        → IsSound (pending_list (ball_falls s (fall_entries ball (Catches w up r g u)) t).root)
-        → Follows t.job.clauses (pending_list t.root) (pending_list (ball_falls s (fall_entries ball (Catches w up r g u)) t).root)
+        → IsSound (pending_list (ball_falls s (catching_entries ball (CaughtBy w up r g u)) t).root)
+        → Follows t.job.clauses (pending_list t.root) (pending_list (ball_falls s (catching_entries ball (CaughtBy w up r g u)) t).root)
     caught_follows w up r g u c falls clear throws j =
         let clauses = t.job.clauses in
         let v = s.level in
@@ -169,9 +170,9 @@ module _ (t : TreeState) (i : IsSoundTree t) (k : IsCaughtTree t) (running : t.h
         subst (λ x. Follows clauses (pending_list t.root) (pending_list x)) (sym same)
         (follows_then clauses _ _ _ (follows_same clauses _ _ list_here) (follows_then clauses _ _ _ one.follows two))
 
-    lost_follows : under_query (way_of (levels_of s)) ≡ true → fall ball (levels_of s) mark ≡ Nobody
-        → AreClear (levels_below (Some (ball_scope (levels_of s) (fall_entries ball Nobody))) (levels_of s)) → Throws
-        → PruneMoves t (ball_falls s (fall_entries ball Nobody) t)
+    lost_follows : under_query (way_of (levels_of s)) ≡ true → catching ball (levels_of s) mark ≡ Uncaught
+        → AreClear (levels_below (Some (ball_scope (levels_of s) (catching_entries ball Uncaught))) (levels_of s)) → Throws
+        → PruneMoves t (ball_falls s (catching_entries ball Uncaught) t)
     lost_follows asked falls below throws =
         let clauses = t.job.clauses in
         let v = s.level in
@@ -212,22 +213,22 @@ module _ (t : TreeState) (i : IsSoundTree t) (k : IsCaughtTree t) (running : t.h
           halted = refl;
           follows = follows_then clauses _ _ _ (follows_same clauses _ _ list)
               (follows_then clauses _ _ _ first (follows_then clauses _ _ _ taken lands_so));
-          going = λ z. quiet_no_end (pending_list (ball_falls s (fall_entries ball Nobody) t).root) z
+          going = λ z. quiet_no_end (pending_list (ball_falls s (catching_entries ball Uncaught) t).root) z
               (lost_end clauses t.next v s.above status a root_here.last q below b);
         }
 
-    pub falls_so : under_query (way_of (levels_of s)) ≡ true → (x : Fall) → fall ball (levels_of s) mark ≡ x
+    pub falls_so : under_query (way_of (levels_of s)) ≡ true → (x : Catching) → catching ball (levels_of s) mark ≡ x
         → IsTaken ball (levels_of s) x → AreClear
-        (levels_below (Some (ball_scope (levels_of s) (fall_entries ball x))) (levels_of s)) → Throws
-        → IsSound (pending_list (ball_falls s (fall_entries ball x) t).root) → PruneMoves t (ball_falls s (fall_entries ball x) t)
-    falls_so asked Nobody falls c below throws j = lost_follows asked falls below throws
-    falls_so asked (Catches w up r g u) falls c below throws j =
+        (levels_below (Some (ball_scope (levels_of s) (catching_entries ball x))) (levels_of s)) → Throws
+        → IsSound (pending_list (ball_falls s (catching_entries ball x) t).root) → PruneMoves t (ball_falls s (catching_entries ball x) t)
+    falls_so asked Uncaught falls c below throws j = lost_follows asked falls below throws
+    falls_so asked (CaughtBy w up r g u) falls c below throws j =
         record {
           world = refl;
           queries = refl;
           halted = refl;
           follows = caught_follows w up r g u c falls
               (subst (λ n. AreClear (levels_below (Some n) levels)) (scope_is w up r g u c) below) throws j;
-          going = λ z. quiet_no_end (pending_list (ball_falls s (fall_entries ball (Catches w up r g u)) t).root) z
+          going = λ z. quiet_no_end (pending_list (ball_falls s (catching_entries ball (CaughtBy w up r g u)) t).root) z
               (caught_ends w up r g u c);
         }

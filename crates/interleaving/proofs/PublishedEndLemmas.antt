@@ -27,7 +27,7 @@ use Rattle.interleaving.proofs.SideLemmas.{front_blind}
 use Rattle.interleaving.proofs.NamedFloorLemmas.{below_named, floor_named, first_low}
 use Rattle.interleaving.proofs.BaredLemmas.{may_stay, made_at}
 use Rattle.interleaving.proofs.PublishedBareLemmas.{right_of, own_plain, list_before}
-use Rattle.interleaving.proofs.ToldNameLemmas.{tells_floor, tells_below}
+use Rattle.interleaving.proofs.ToldNameLemmas.{respects_floor, respects_below}
 use Rattle.interleaving.proofs.LowListLemmas.{low_entry}
 use Rattle.interleaving.proofs.LeadRunLemmas.{lead_segment, run_front, lead_list_sound, lead_list_same, old_sound}
 use Rattle.interleaving.proofs.SoundEarlyLemmas.{sound_exchange}
@@ -51,7 +51,7 @@ module _ (clauses : List Clause) (v : Level) (up : List Level) (next : ℕ) (f :
       let before = append-assoc left end (floor_named (v ∷ up)) in
       ap erased (sym (append-assoc left end (right_of (v ∷ up))))
       ∙ readable_enough (floor_named (v ∷ up)) (right_of (v ∷ up)) (left ++ end) end (first_low (v ∷ up))
-      (tells_floor next v up free a (tells_below next up (free-above next v up free) a.1))
+      (respects_floor next v up free a (respects_below next up (free-above next v up free) a.1))
       (subst IsReadable (sym before) (sound_readable (left ++ below_named (v ∷ up)) s.sound))
       (sound_readable (below_named (v ∷ up)) low.1)
       (ap erased before ∙ (s.entries ∙ sym (below_erased (v ∷ up) (around_path (v ∷ up) IsOpen a))))

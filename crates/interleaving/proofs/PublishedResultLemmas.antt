@@ -28,7 +28,7 @@ use Rattle.interleaving.proofs.SideLemmas.{front_blind}
 use Rattle.interleaving.proofs.NamedFloorLemmas.{below_named, floor_named, first_low}
 use Rattle.interleaving.proofs.BaredLemmas.{may_then, may_stay, made_at}
 use Rattle.interleaving.proofs.PublishedBareLemmas.{right_of, own_plain, list_before}
-use Rattle.interleaving.proofs.ToldNameLemmas.{tells_floor, tells_below}
+use Rattle.interleaving.proofs.ToldNameLemmas.{respects_floor, respects_below}
 use Rattle.interleaving.proofs.LowListLemmas.{low_entry}
 use Rattle.interleaving.proofs.LeadRunLemmas.{lead_segment, run_front, lead_list_sound, lead_list_same, old_sound}
 use Rattle.interleaving.proofs.SoundEarlyLemmas.{sound_exchange}
@@ -103,7 +103,7 @@ module _ (clauses : List Clause) (v : Level) (up : List Level) (next : ℕ) (f :
       ap (λ l. erased (Credit 0 ((s, t) ∷ []) ∷ l)) (sym back)
       ∙ readable_enough (floor_named (v ∷ up)) (right_of (v ∷ up)) (Credit 0 ((s, t) ∷ []) ∷ (behind ++ end))
       (Credit 0 ((own, t) ∷ []) ∷ end) (first_low (v ∷ up))
-      (tells_floor next v up free a (tells_below next up (free-above next v up free) a.1))
+      (respects_floor next v up free a (respects_below next up (free-above next v up free) a.1))
       (subst (λ l. IsReadable (Credit 0 ((s, t) ∷ []) ∷ l)) (sym floor) ((((_, gathered.found), some), tt), ends_read behind below e reads))
       (((high_present below own some_own, some_own), tt), reads)
       (ap (λ l. erased (Credit 0 ((s, t) ∷ []) ∷ l)) floor ∙ whole)

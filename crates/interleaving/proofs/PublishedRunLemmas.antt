@@ -29,7 +29,7 @@ use Rattle.interleaving.proofs.NamedFloorLemmas.{below_named, floor_named, first
 use Rattle.interleaving.proofs.PlacedRunLemmas.{placed_list, IsPublished, occurrences_placed}
 use Rattle.interleaving.proofs.BaredLemmas.{may_stay, made_at, inner_new}
 use Rattle.interleaving.proofs.PublishedBareLemmas.{right_of, own_plain, list_before, list_after, bared}
-use Rattle.interleaving.proofs.ToldNameLemmas.{tells_floor, tells_below}
+use Rattle.interleaving.proofs.ToldNameLemmas.{respects_floor, respects_below}
 use Rattle.interleaving.proofs.LowListLemmas.{low_entry}
 use Rattle.interleaving.proofs.LeadRunLemmas.{lead_segment, run_front, lead_list_sound, lead_list_same, old_sound}
 use Rattle.interleaving.proofs.PublishedStepLemmas.{by_names, lead_becomes}
@@ -52,7 +52,7 @@ module _ (clauses : List Clause) (v : Level) (up : List Level) (next size : ℕ)
       let before = append-assoc left end (floor_named (v ∷ up)) in
       let after = append-assoc c end (floor_named (v ∷ up)) in
       let whole = readable_enough (floor_named (v ∷ up)) (right_of (v ∷ up)) (left ++ end) (c ++ end) (first_low (v ∷ up))
-      (tells_floor next v up free a (tells_below next up (free-above next v up free) a.1))
+      (respects_floor next v up free a (respects_below next up (free-above next v up free) a.1))
       (subst IsReadable (sym before) (sound_readable (left ++ below_named (v ∷ up)) s.sound))
       (subst IsReadable (sym after) (occurrences.reads (sound_readable (below_named (v ∷ up)) low.1)))
       (ap erased before ∙ (s.entries ∙ (sym occurrences.erases ∙ ap erased (sym after)))) in

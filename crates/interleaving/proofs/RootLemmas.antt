@@ -4,7 +4,7 @@ use Rattle.std.proofs.Common.{arith}
 use Rattle.std.proofs.lemmas.Bool.{false≢true}
 use Rattle.tree_model.specs.Elements.{Name, same}
 use Rattle.interleaving.specs.Views.{IsGrown}
-use Rattle.interleaving.specs.Roots.{extends, rooted, AreTold}
+use Rattle.interleaving.specs.Roots.{extends, rooted, AreDistinguished}
 use Rattle.interleaving.proofs.ApartLemmas.{same-true}
 use Rattle.au_model.proofs.ApplyLemmas.{or_right}
 
@@ -51,5 +51,5 @@ by_root ok i p [] = refl
 by_root ok i p (j ∷ []) = refl
 by_root ok i p (j ∷ k ∷ more) = by_root ok i p (k ∷ more)
 
-pub are_told : AreTold
-are_told = record { extend = grown; root = rooted-grown; by_length = by_length; by_root = by_root }
+pub are_distinguished : AreDistinguished
+are_distinguished = record { extend = grown; root = rooted-grown; by_length = by_length; by_root = by_root }

@@ -32,7 +32,7 @@ use Rattle.interleaving.proofs.PlaceHeightLemmas.{solutions-height, control-heig
 use Rattle.interleaving.proofs.BallHeightLemmas.{unwound-height, mark-heights, mark-guarded}
 use Rattle.interleaving.proofs.CarriedLemmas.{entry_rest}
 use Rattle.interleaving.proofs.PreservedLemmas.{control-sound, reply-sound, opened-sound}
-use Rattle.interleaving.proofs.FreeStepHeightLemmas.{IsRested, IsFine, settle-height}
+use Rattle.interleaving.proofs.FreeStepHeightLemmas.{IsRested, IsFreed, settle-height}
 use Rattle.interleaving.proofs.SequentialHeightLemmas.{seq_height}
 
 pub goals-at : (h : Name → ℕ) (p : Name) (gs : List Term) → map (with_height h) (goals_at p gs) ≡ goals_at (h p) gs
@@ -54,7 +54,7 @@ module _ (clauses : List Clause) where
 
   -- a state by names that stands for one by heights
   abbrev pub Pending : Shared × List Element → HeightState → Type 0
-  Pending s t = (s.0 ≡ t.0) × IsFine clauses s.1 t.1
+  Pending s t = (s.0 ≡ t.0) × IsFreed clauses s.1 t.1
 
   -- an inference that leaves these, before the free steps
   leaves : (v : Shared) (ys : List Element) (t : HeightState) → v ≡ t.0 → erased ys ≡ t.1 → IsSound ys
@@ -137,7 +137,7 @@ module _ (clauses : List Clause) where
       (opened-height p w.queries) (opened-sound p w.queries)
 
   -- the run
-  pub runs-erase : (n : ℕ) (w : Shared) (xs : List Element) (hs : List HeightElement) → IsFine clauses xs hs
+  pub runs-erase : (n : ℕ) (w : Shared) (xs : List Element) (hs : List HeightElement) → IsFreed clauses xs hs
       → Pending (run m n w xs) (height_run clauses n (w, hs))
   runs-erase zero w xs hs f = (refl, f)
   runs-erase (suc n) w xs hs f =

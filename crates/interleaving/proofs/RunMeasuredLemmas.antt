@@ -11,7 +11,7 @@ use Rattle.tree_model.specs.Ways.{is_on, same_kind, is_barrier, through, way_fro
 use Rattle.interleaving.proofs.StackLemmas.{IsCounted, stack_way}
 use Rattle.interleaving.proofs.PlacedSoundLemmas.{named_in, inside_hidden, take-drop, drop-length}
 use Rattle.interleaving.proofs.PlacedShapeLemmas.{FitsOne, fits_one}
-use Rattle.interleaving.proofs.PlacedErasedLemmas.{NoneInside, Fills}
+use Rattle.interleaving.proofs.PlacedErasedLemmas.{NoneInside, HaveSizes}
 use Rattle.interleaving.proofs.TestLemmas.{true_false}
 
 -- a height that falls inside none of the nodes
@@ -28,7 +28,7 @@ pub none_inside : (Whole : ℕ → Type 0) (low : ℕ) (sizes : List ℕ) → ((
 none_inside Whole low [] h = tt
 none_inside Whole low (size ∷ sizes) h = ((λ n w. (h n w).0), none_inside Whole (low + further size) sizes (λ n w. (h n w).1))
 
-pub fits_fill : (low : ℕ) (cuts sizes : List ℕ) (es : List Entry) → fits_nodes low cuts sizes es ≡ true → Fills sizes es
+pub fits_fill : (low : ℕ) (cuts sizes : List ℕ) (es : List Entry) → fits_nodes low cuts sizes es ≡ true → HaveSizes sizes es
 fits_fill low cuts [] es h = is_one h
   where
     is_one : (length es == 1) ≡ true → length es ≡ 1

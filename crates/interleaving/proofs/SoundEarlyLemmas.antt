@@ -30,7 +30,7 @@ use Rattle.interleaving.proofs.QuietCreditLemmas.{private-outer, gives-fixed}
 use Rattle.interleaving.proofs.CreditLawLemmas.{blind_none}
 use Rattle.interleaving.proofs.FrontLawLemmas.{asks-fixed, end_inside}
 use Rattle.interleaving.proofs.EarlyLawLemmas.{private_inner}
-use Rattle.interleaving.proofs.SoundStepLemmas.{infers-sound, wakes-sound, goes-gathered, asks-sound, stands-sound, AllGathered}
+use Rattle.interleaving.proofs.SoundStepLemmas.{infers-sound, becomes-sound, drops-gathered, asks-sound, stands-sound, AllGathered}
 use Rattle.interleaving.proofs.SeamLemmas.{AreAlike, front-sound}
 
 -- ends of scopes inside are passed by a scope that is not
@@ -116,13 +116,13 @@ module _ (clauses : List Clause) where
         let next = private-sound j os (map (gives m new) xs) b r given.1 given.0 in (
           next.0,
           each-append (λ o. IsGathered zs o.0) (outer (is_inner_record inside) new) os
-              (gathered-under xs new h.1 (goes-gathered clauses x (xs ++ zs) new e i)) next.1,
+              (gathered-under xs new h.1 (drops-gathered clauses x (xs ++ zs) new e i)) next.1,
         )
     private-sound k rs a b (private_remains j x new os xs t e f r) h i = private-sound j os (m.stands x ∷ xs) b r
         (inner_stands inside x h.0, h.1) (stands-sound clauses x (xs ++ zs) i)
     private-sound k rs a b (private_changes j x y os xs t e r) h i =
         private-sound j os (y ∷ xs) b r (subst InnerAct e ((inner_closed clauses inside grown).acts x h.0), h.1)
-        (wakes-sound clauses x y (xs ++ zs) e i)
+        (becomes-sound clauses x y (xs ++ zs) e i)
     private-sound k rs a b (private_infers j x p os xs t u e f r) h i =
         private-sound j os t b r (private_inner clauses inside 1 [] (x ∷ xs) t grown h
         (private_infers 0 x p [] xs t t e f (private_none t)))

@@ -24,11 +24,11 @@ module _ (clauses : List Clause) where
   pub infers-same : (p q : ElementReplacement) → ◌≡◌ {A = Does} (Infers p) (Infers q) → p ≡ q
   infers-same p q e = cc
 
-  goes-same : (p q : List Record) → ◌≡◌ {A = Does} (Drops p) (Drops q) → p ≡ q
-  goes-same p q e = cc
+  drops-same : (p q : List Record) → ◌≡◌ {A = Does} (Drops p) (Drops q) → p ≡ q
+  drops-same p q e = cc
 
-  wakes-same : (x y : Element) → ◌≡◌ {A = Does} (Becomes x) (Becomes y) → x ≡ y
-  wakes-same x y e = cc
+  becomes-same : (x y : Element) → ◌≡◌ {A = Does} (Becomes x) (Becomes y) → x ≡ y
+  becomes-same x y e = cc
 
   -- an inference that stays in the list
   goal-infers : (o : Outcome) (p h : Name) (f : Continuation Name) (ys : List Element) (q : ElementReplacement)
@@ -70,60 +70,60 @@ module _ (clauses : List Clause) where
   infers-sound (End p b) q ys e i = absurd cc
 
   -- what wakes
-  goal-wakes : (o : Outcome) (p h : Name) (f : Continuation Name) (y : Element) → goal_act clauses o p h f ≡ Becomes y → ⊥
-  goal-wakes (Replies (Solutions ss)) p h f y e = absurd cc
-  goal-wakes (Replies (Ball b)) p h f y e = absurd cc
-  goal-wakes (Replies (HaltNumber n)) p h f y e = absurd cc
-  goal-wakes (Controls form) p h f y e = absurd cc
-  goal-wakes (AskWorld g) p h f y e = absurd cc
+  goal-becomes : (o : Outcome) (p h : Name) (f : Continuation Name) (y : Element) → goal_act clauses o p h f ≡ Becomes y → ⊥
+  goal-becomes (Replies (Solutions ss)) p h f y e = absurd cc
+  goal-becomes (Replies (Ball b)) p h f y e = absurd cc
+  goal-becomes (Replies (HaltNumber n)) p h f y e = absurd cc
+  goal-becomes (Controls form) p h f y e = absurd cc
+  goal-becomes (AskWorld g) p h f y e = absurd cc
 
-  unmarked-wakes : (items : List (Item Name)) (p : Name) (f : Continuation Name) (ys : List Element) (y : Element) → unmarked items p f
+  unmarked-becomes : (items : List (Item Name)) (p : Name) (f : Continuation Name) (ys : List Element) (y : Element) → unmarked items p f
       ≡ Becomes y → IsEntrySound p ys (names items) items → IsSound ys → IsSound (y ∷ ys)
-  unmarked-wakes [] p f ys y e s i = subst (λ z. IsSound (z ∷ ys)) (wakes-same _ y e) (s, i)
-  unmarked-wakes (GoalItem t k ∷ items) p f ys y e s i = subst (λ z. IsSound (z ∷ ys)) (wakes-same _ y e) (s, i)
-  unmarked-wakes (CatchMark k ∷ items) p f ys y e s i = subst (λ z. IsSound (z ∷ ys)) (wakes-same _ y e) (s, i)
-  unmarked-wakes (CollectMark t k ∷ items) p f ys y e s i = absurd cc
-  unmarked-wakes (RemovalItem n ∷ items) p f ys y e s i = subst (λ z. IsSound (z ∷ ys)) (wakes-same _ y e) (s, i)
+  unmarked-becomes [] p f ys y e s i = subst (λ z. IsSound (z ∷ ys)) (becomes-same _ y e) (s, i)
+  unmarked-becomes (GoalItem t k ∷ items) p f ys y e s i = subst (λ z. IsSound (z ∷ ys)) (becomes-same _ y e) (s, i)
+  unmarked-becomes (CatchMark k ∷ items) p f ys y e s i = subst (λ z. IsSound (z ∷ ys)) (becomes-same _ y e) (s, i)
+  unmarked-becomes (CollectMark t k ∷ items) p f ys y e s i = absurd cc
+  unmarked-becomes (RemovalItem n ∷ items) p f ys y e s i = subst (λ z. IsSound (z ∷ ys)) (becomes-same _ y e) (s, i)
 
-  item-wakes : (items : List (Item Name)) (p : Name) (f : Continuation Name) (ys : List Element) (y : Element)
+  item-becomes : (items : List (Item Name)) (p : Name) (f : Continuation Name) (ys : List Element) (y : Element)
       → item_act clauses items p f ≡ Becomes y → IsEntrySound p ys (names items) items → IsSound ys → IsSound (y ∷ ys)
-  item-wakes [] p f ys y e s i = absurd cc
-  item-wakes (GoalItem g h ∷ items) p f ys y e s i = absurd (goal-wakes (outcome_of clauses g f.next) p h (with_items items f) y e)
-  item-wakes (RemovalItem n ∷ items) p f ys y e s i = absurd cc
-  item-wakes (CatchMark k ∷ items) p f ys y e s i = unmarked-wakes (without_marks items) p f ys y e
+  item-becomes [] p f ys y e s i = absurd cc
+  item-becomes (GoalItem g h ∷ items) p f ys y e s i = absurd (goal-becomes (outcome_of clauses g f.next) p h (with_items items f) y e)
+  item-becomes (RemovalItem n ∷ items) p f ys y e s i = absurd cc
+  item-becomes (CatchMark k ∷ items) p f ys y e s i = unmarked-becomes (without_marks items) p f ys y e
       (entry_unmarked p ys items (record
       { carried = carried_rest p ys k (names items) s.carried; marks = s.marks.1; findalls = s.findalls })) i
-  item-wakes (CollectMark t k ∷ items) p f ys y e s i = absurd cc
+  item-becomes (CollectMark t k ∷ items) p f ys y e s i = absurd cc
 
-  pub wakes-sound : (x y : Element) (ys : List Element) → act clauses x ≡ Becomes y → IsSound (x ∷ ys) → IsSound (y ∷ ys)
-  wakes-sound (Credit zero rs) y ys e i = absurd cc
-  wakes-sound (Credit (suc k) rs) y ys e i = absurd cc
-  wakes-sound (Plain p f) y ys e i = item-wakes f.items p f ys y e i.0 i.1
-  wakes-sound (EndOf s) y ys e i = absurd cc
-  wakes-sound (Catch s u c r p f) y ys e i = absurd cc
-  wakes-sound (Findall s u results list p f) y ys e i =
-      subst (λ z. IsSound (z ∷ ys)) (wakes-same (Plain p (results_first results list u f)) y e)
+  pub becomes-sound : (x y : Element) (ys : List Element) → act clauses x ≡ Becomes y → IsSound (x ∷ ys) → IsSound (y ∷ ys)
+  becomes-sound (Credit zero rs) y ys e i = absurd cc
+  becomes-sound (Credit (suc k) rs) y ys e i = absurd cc
+  becomes-sound (Plain p f) y ys e i = item-becomes f.items p f ys y e i.0 i.1
+  becomes-sound (EndOf s) y ys e i = absurd cc
+  becomes-sound (Catch s u c r p f) y ys e i = absurd cc
+  becomes-sound (Findall s u results list p f) y ys e i =
+      subst (λ z. IsSound (z ∷ ys)) (becomes-same (Plain p (results_first results list u f)) y e)
       (record { carried = i.0.carried; marks = (tt, i.0.marks); findalls = i.0.findalls }, i.3)
-  wakes-sound (End p b) y ys e i = absurd cc
+  becomes-sound (End p b) y ys e i = absurd cc
 
   -- records that go down have their findall entries below
   abbrev pub AllGathered : List Element → List Record → Type 0
   AllGathered ys rs = Each (λ o. IsGathered ys o.0) rs
 
-  goal-goes : (o : Outcome) (p h : Name) (f : Continuation Name) (rs : List Record) → goal_act clauses o p h f ≡ Drops rs → ⊥
-  goal-goes (Replies (Solutions ss)) p h f y e = absurd cc
-  goal-goes (Replies (Ball b)) p h f y e = absurd cc
-  goal-goes (Replies (HaltNumber n)) p h f y e = absurd cc
-  goal-goes (Controls form) p h f y e = absurd cc
-  goal-goes (AskWorld g) p h f y e = absurd cc
+  goal-drops : (o : Outcome) (p h : Name) (f : Continuation Name) (rs : List Record) → goal_act clauses o p h f ≡ Drops rs → ⊥
+  goal-drops (Replies (Solutions ss)) p h f y e = absurd cc
+  goal-drops (Replies (Ball b)) p h f y e = absurd cc
+  goal-drops (Replies (HaltNumber n)) p h f y e = absurd cc
+  goal-drops (Controls form) p h f y e = absurd cc
+  goal-drops (AskWorld g) p h f y e = absurd cc
 
-  unmarked-goes : (items : List (Item Name)) (p : Name) (f : Continuation Name) (ys : List Element) (rs : List Record)
+  unmarked-drops : (items : List (Item Name)) (p : Name) (f : Continuation Name) (ys : List Element) (rs : List Record)
       → unmarked items p f ≡ Drops rs → Each (IsMarkSound ys) items → AllGathered ys rs
-  unmarked-goes [] p f ys rs e s = absurd cc
-  unmarked-goes (GoalItem t k ∷ items) p f ys rs e s = absurd cc
-  unmarked-goes (CatchMark k ∷ items) p f ys rs e s = absurd cc
-  unmarked-goes (CollectMark t k ∷ items) p f ys rs e s = subst (AllGathered ys) (goes-same ((k, t) ∷ []) rs e) (s.0, tt)
-  unmarked-goes (RemovalItem n ∷ items) p f ys rs e s = absurd cc
+  unmarked-drops [] p f ys rs e s = absurd cc
+  unmarked-drops (GoalItem t k ∷ items) p f ys rs e s = absurd cc
+  unmarked-drops (CatchMark k ∷ items) p f ys rs e s = absurd cc
+  unmarked-drops (CollectMark t k ∷ items) p f ys rs e s = subst (AllGathered ys) (drops-same ((k, t) ∷ []) rs e) (s.0, tt)
+  unmarked-drops (RemovalItem n ∷ items) p f ys rs e s = absurd cc
 
   marks-after : (ys : List Element) (items : List (Item Name)) → Each (IsMarkSound ys) items → Each (IsMarkSound ys) (without_marks items)
   marks-after ys [] h = tt
@@ -132,23 +132,23 @@ module _ (clauses : List Clause) where
   marks-after ys (CollectMark t k ∷ items) h = h
   marks-after ys (RemovalItem n ∷ items) h = h
 
-  item-goes : (items : List (Item Name)) (p : Name) (f : Continuation Name) (ys : List Element) (rs : List Record)
+  item-drops : (items : List (Item Name)) (p : Name) (f : Continuation Name) (ys : List Element) (rs : List Record)
       → item_act clauses items p f ≡ Drops rs → Each (IsMarkSound ys) items → AllGathered ys rs
-  item-goes [] p f ys rs e s = absurd cc
-  item-goes (GoalItem g h ∷ items) p f ys rs e s = absurd (goal-goes (outcome_of clauses g f.next) p h (with_items items f) rs e)
-  item-goes (RemovalItem n ∷ items) p f ys rs e s = absurd cc
-  item-goes (CatchMark k ∷ items) p f ys rs e s = unmarked-goes (without_marks items) p f ys rs e (marks-after ys items s.1)
-  item-goes (CollectMark t k ∷ items) p f ys rs e s = subst (AllGathered ys) (goes-same ((k, t) ∷ []) rs e) (s.0, tt)
+  item-drops [] p f ys rs e s = absurd cc
+  item-drops (GoalItem g h ∷ items) p f ys rs e s = absurd (goal-drops (outcome_of clauses g f.next) p h (with_items items f) rs e)
+  item-drops (RemovalItem n ∷ items) p f ys rs e s = absurd cc
+  item-drops (CatchMark k ∷ items) p f ys rs e s = unmarked-drops (without_marks items) p f ys rs e (marks-after ys items s.1)
+  item-drops (CollectMark t k ∷ items) p f ys rs e s = subst (AllGathered ys) (drops-same ((k, t) ∷ []) rs e) (s.0, tt)
 
-  pub goes-gathered : (x : Element) (ys : List Element) (rs : List Record) → act clauses x ≡ Drops rs → IsSound (x ∷ ys)
+  pub drops-gathered : (x : Element) (ys : List Element) (rs : List Record) → act clauses x ≡ Drops rs → IsSound (x ∷ ys)
       → AllGathered ys rs
-  goes-gathered (Credit zero os) ys rs e i = subst (AllGathered ys) (goes-same os rs e) i.0
-  goes-gathered (Credit (suc k) os) ys rs e i = absurd cc
-  goes-gathered (Plain p f) ys rs e i = item-goes f.items p f ys rs e i.0.marks
-  goes-gathered (EndOf s) ys rs e i = subst (AllGathered ys) (goes-same [] rs e) tt
-  goes-gathered (Catch s u c r p f) ys rs e i = subst (AllGathered ys) (goes-same [] rs e) tt
-  goes-gathered (Findall s u results list p f) ys rs e i = absurd cc
-  goes-gathered (End p b) ys rs e i = absurd cc
+  drops-gathered (Credit zero os) ys rs e i = subst (AllGathered ys) (drops-same os rs e) i.0
+  drops-gathered (Credit (suc k) os) ys rs e i = absurd cc
+  drops-gathered (Plain p f) ys rs e i = item-drops f.items p f ys rs e i.0.marks
+  drops-gathered (EndOf s) ys rs e i = subst (AllGathered ys) (drops-same [] rs e) tt
+  drops-gathered (Catch s u c r p f) ys rs e i = subst (AllGathered ys) (drops-same [] rs e) tt
+  drops-gathered (Findall s u results list p f) ys rs e i = absurd cc
+  drops-gathered (End p b) ys rs e i = absurd cc
 
   -- what asks the world
   asks-same : (f g : Shared → Shared × ElementReplacement) → ◌≡◌ {A = Does} (AsksWorld f) (AsksWorld g) → f ≡ g

@@ -4,7 +4,7 @@ use Rattle.std.proofs.Common.{arith}
 use Rattle.tree_model.specs.Elements.{Name, Element, EndOf}
 use Rattle.interleaving.specs.Erased.{from, element_count, height}
 use Rattle.interleaving.specs.Sound.{IsPresent}
-use Rattle.interleaving.specs.FloorLaws.{Tells}
+use Rattle.interleaving.specs.FloorLaws.{RespectsHeights}
 use Rattle.tree_model.specs.Levels.{Level}
 use Rattle.tree_model.specs.PendingLists.{way_of, step_of, step_name, list_among, back_of}
 use Rattle.tree_model.specs.Ways.{is_on}
@@ -112,7 +112,7 @@ top_name (v ∷ up) s p h = go (decide s (step_name (step_of v)))
 
 -- at one level
 module _ (next : ℕ) (v : Level) (up : List Level) (f : IsFree next (v ∷ up)) (a : IsAround (v ∷ up) IsOpen)
-    (above : Tells (below_named up) (back_of up)) where
+    (above : RespectsHeights (below_named up) (back_of up)) where
   abbrev z : Name
   z = suc (length v.left) ∷ v.number ∷ []
 
@@ -164,8 +164,8 @@ module _ (next : ℕ) (v : Level) (up : List Level) (f : IsFree next (v ∷ up))
           clash : true ≡ false → ⊥
           clash k = cc
 
-  pub tells_floor : Tells (floor_named (v ∷ up)) (right_of (v ∷ up))
-  tells_floor s t p q e = go (decide s (suc (length v.left) ∷ v.number ∷ [])) (decide t (suc (length v.left) ∷ v.number ∷ []))
+  pub respects_floor : RespectsHeights (floor_named (v ∷ up)) (right_of (v ∷ up))
+  respects_floor s t p q e = go (decide s (suc (length v.left) ∷ v.number ∷ [])) (decide t (suc (length v.left) ∷ v.number ∷ []))
     where
       go : (s ≡ suc (length v.left) ∷ v.number ∷ []) ⊎ (s ≡ suc (length v.left) ∷ v.number ∷ [] → ⊥)
           → (t ≡ suc (length v.left) ∷ v.number ∷ []) ⊎ (t ≡ suc (length v.left) ∷ v.number ∷ [] → ⊥) → height (right_of (v ∷ up)) s
@@ -178,8 +178,8 @@ module _ (next : ℕ) (v : Level) (up : List Level) (f : IsFree next (v ∷ up))
       go (inr m) (inr n) = other_present s t m n p q e
 
   -- the end of the level's own alternative is higher than all others
-  tells_level : Tells (below_named (v ∷ up)) (back_of (v ∷ up))
-  tells_level s t p q e = go (decide s (step_name (step_of v))) (decide t (step_name (step_of v)))
+  respects_level : RespectsHeights (below_named (v ∷ up)) (back_of (v ∷ up))
+  respects_level s t p q e = go (decide s (step_name (step_of v))) (decide t (step_name (step_of v)))
     where
       own : Name
       own = length v.left ∷ v.number ∷ []
@@ -203,9 +203,10 @@ module _ (next : ℕ) (v : Level) (up : List Level) (f : IsFree next (v ∷ up))
           let low = ap element_count (from_end (step_name (step_of v)) s (floor_named (v ∷ up)) m) in
           let high = ap element_count (from_end (step_name (step_of v)) t (floor_named (v ∷ up)) n) in
           ap element_count (from_end (step_name (step_of v)) s (right_of (v ∷ up)) m)
-          ∙ (tells_floor s t j k (sym low ∙ (e ∙ high)) ∙ sym (ap element_count (from_end (step_name (step_of v)) t (right_of (v ∷ up)) n)))
+          ∙ (respects_floor s t j k (sym low ∙ (e ∙ high)) ∙ sym
+              (ap element_count (from_end (step_name (step_of v)) t (right_of (v ∷ up)) n)))
 
-pub tells_below : (next : ℕ) (levels : List Level) → IsFree next levels → IsAround levels IsOpen
-    → Tells (below_named levels) (back_of levels)
-tells_below next [] f a = λ s t p q e. refl
-tells_below next (v ∷ up) f a = tells_level next v up f a (tells_below next up (free-above next v up f) a.1)
+pub respects_below : (next : ℕ) (levels : List Level) → IsFree next levels → IsAround levels IsOpen
+    → RespectsHeights (below_named levels) (back_of levels)
+respects_below next [] f a = λ s t p q e. refl
+respects_below next (v ∷ up) f a = respects_level next v up f a (respects_below next up (free-above next v up f) a.1)

@@ -22,7 +22,8 @@ stack_after QueryEnds queries es = opened queries
 -- where a private inference is taken, it is the machine's, and changes no world
 abbrev pub PrivateIsStep : Type 0
 PrivateIsStep =
-    (clauses : List Clause) (levels : List Level) (st : State) (f : Continuation ℕ) (es : List Entry) → without_marks f.items ≡ f.items → gate_on clauses levels (PlainEntry f ∷ es) ≡ None → (left : List Entry)
+    (clauses : List Clause) (levels : List Level) (st : State) (f : Continuation ℕ) (es : List Entry) → without_marks f.items ≡ f.items
+        → gate_on clauses levels (PlainEntry f ∷ es) ≡ None → (left : List Entry)
     → taken_alone clauses (PlainEntry f ∷ es) ≡ Some left →
     ((step clauses (record st { entries = PlainEntry f ∷ es })).entries ≡ left)
     × ((step clauses (record st { entries = PlainEntry f ∷ es })).world ≡ st.world)
@@ -30,7 +31,8 @@ PrivateIsStep =
 -- what is taken at the front is the machine's inference
 abbrev pub FrontIsStep : Type 0
 FrontIsStep =
-    (clauses : List Clause) (levels : List Level) (st : State) (f : Continuation ℕ) (es : List Entry) → without_marks f.items ≡ f.items → gate_on clauses levels (PlainEntry f ∷ es) ≡ Some WorldGate →
+    (clauses : List Clause) (levels : List Level) (st : State) (f : Continuation ℕ) (es : List Entry) → without_marks f.items ≡ f.items
+        → gate_on clauses levels (PlainEntry f ∷ es) ≡ Some WorldGate →
     ((step clauses (record st { entries = PlainEntry f ∷ es })).entries
     ≡ stack_after (taken_at_front clauses (PlainEntry f ∷ es) st.world).1 st.queries es)
     × ((step clauses (record st { entries = PlainEntry f ∷ es })).world ≡ (taken_at_front clauses (PlainEntry f ∷ es) st.world).0)

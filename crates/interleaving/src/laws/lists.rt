@@ -5,7 +5,7 @@ ghost use Rattle.tree_model.specs.Elements.{Name, Element};
 ghost use Rattle.interleaving.specs.Scopes.{Shared, scoped};
 ghost use Rattle.interleaving.specs.Segments.{Private};
 ghost use Rattle.interleaving.specs.Quiet.{IsQuiet};
-ghost use Rattle.interleaving.specs.Roots.{AreTold};
+ghost use Rattle.interleaving.specs.Roots.{AreDistinguished};
 ghost use Rattle.interleaving.specs.Laws.{AloneIsPrivate, Expansion, PrivateEarly, DoneEarly, SameAlone, QuietEarly, TakenEarly};
 ghost use Rattle.interleaving.specs.Laws.{WokenEarly, CollectedEarly, OneCredit, CreditsAdd, NoCredit, EnoughCredit, CreditsPass};
 ghost use Rattle.interleaving.specs.Laws.{CreditsEnd, FrontGate, FrontGateInPlace, CutInPlace, TakenInFront, RecordsGiven};
@@ -13,7 +13,7 @@ ghost use Rattle.interleaving.specs.Laws.{CreditsEnd, FrontGate, FrontGateInPlac
 /// The names that extend one, and the names with some last numbers, belong together, and are told from others by their
 /// length or by their last number.
 pub fn names_are_told_apart()
-    ensures { AreTold }
+    ensures { AreDistinguished }
 {}
 
 /// What a segment does privately, as a function, is a private run.
