@@ -19,7 +19,6 @@ use Rattle.interleaving.proofs.ClosingListLemmas.{Guards, guards_of}
 use Rattle.interleaving.proofs.ListEndLemmas.{levels_down}
 use Rattle.interleaving.proofs.AnswerOrderLemmas.{answers_before, put_answers, plug_answers, none_ordered, RightsEmpty, rights_empty}
 use Rattle.interleaving.proofs.AnswerOrderLemmas.{SameLeft, same_left, put_order}
-use Rattle.interleaving.proofs.TestLemmas.{false_true}
 
 -- credits show the answers, as long as a count keeps them
 mutual

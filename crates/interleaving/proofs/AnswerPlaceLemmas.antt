@@ -1,5 +1,5 @@
 -- Each event keeps the answers and their order, but one that gives an answer, which adds it.
-use Rattle.std.proofs.Common.{◌≡◌, inl, inr, ℕ, suc, ◌+◌, ◌-◌, ◌<◌, true, false, List, [], ◌∷◌, map, length, Some, refl, ap, ◌∙◌, arith}
+use Rattle.std.proofs.Common.{◌≡◌, inl, inr, ℕ, suc, ◌+◌, ◌-◌, ◌<◌, true, List, [], ◌∷◌, map, length, Some, refl, ap, ◌∙◌, arith}
 use Rattle.std.specs.Prelude.{drop, take}
 use Rattle.au_term.specs.Term.{Term}
 use Rattle.run_model.specs.Programs.Jobs.{Query}
@@ -27,7 +27,6 @@ use Rattle.interleaving.proofs.EntryLemmas.{length-floor}
 use Rattle.interleaving.proofs.AnswerOrderLemmas.{plug_answers, none_ordered, RightsEmpty, rights_empty, SameLeft, same_left, put_order}
 use Rattle.interleaving.proofs.AnswerOrderLemmas.{round_same}
 use Rattle.interleaving.proofs.AnswerClosingLemmas.{IsOrdered, closes_order, ball_closes_order, spent_left, pruned_left}
-use Rattle.interleaving.proofs.TestLemmas.{false_true}
 
 -- entries that are give no answers
 pub alternatives_none : (hold : Hold) (es : List Entry) → answers_among (alternatives_of hold es) ≡ 0

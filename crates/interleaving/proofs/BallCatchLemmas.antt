@@ -220,7 +220,7 @@ module _ (clauses : List Clause) where
       catches : (y t : Term) (g : Continuation ℕ) → Guards v (CatchEntry y t g) → (v.number == s) ≡ true → (b : Option Substitution)
           → unifier ((y, copied ball g.next) ∷ []) ≡ b → caught_or b v rest t g (catching ball rest (first_mark g.items)) ≡ Uncaught
           → ((j : Option ℕ) → MarkIsDormant rest j → catching ball rest j ≡ Uncaught
-              → search_in m (Thrown ball (mark_name (way_of rest) j) o)
+          → search_in m (Thrown ball (mark_name (way_of rest) j) o)
           (map (gives m rs) (back_of rest)) ≡ None)
           → search_in m (Thrown ball (mark_name (way_of (v ∷ rest)) (Some s)) o) (map (gives m rs) (back_of (v ∷ rest))) ≡ None
       catches y t g q i (Some z) n c more = let no_way : ⊥ = cc in absurd no_way
@@ -248,7 +248,7 @@ module _ (clauses : List Clause) where
       go : (b : Bool) → (v.number == s) ≡ b → cond b (catch_right v.right) (dormant_on rest s) ≡ true
           → cond b (right_falls ball v rest v.right (catching ball rest)) (catching ball rest (Some s)) ≡ Uncaught
           → ((j : Option ℕ) → MarkIsDormant rest j → catching ball rest j ≡ Uncaught
-              → search_in m (Thrown ball (mark_name (way_of rest) j) o)
+          → search_in m (Thrown ball (mark_name (way_of rest) j) o)
           (map (gives m rs) (back_of rest)) ≡ None)
           → search_in m (Thrown ball (mark_name (way_of (v ∷ rest)) (Some s)) o) (map (gives m rs) (back_of (v ∷ rest))) ≡ None
       go false q l z more =

@@ -21,7 +21,6 @@ use Rattle.interleaving.proofs.AppendLemmas.{each-append}
 use Rattle.interleaving.proofs.ClockLemmas.{AreClear}
 use Rattle.interleaving.proofs.CaughtContextLemmas.{IsCaughtRoot}
 use Rattle.interleaving.proofs.CaughtBallLemmas.{marks_resolved}
-use Rattle.interleaving.proofs.TestLemmas.{false_true}
 
 pub as_tree : (t : TreeState) → IsCaughtRoot t.root → IsCaughtTree t
 as_tree t h = record { caught = h.caught; last = h.last; unspent = λ z. h.unspent }

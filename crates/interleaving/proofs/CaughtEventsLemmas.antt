@@ -1,5 +1,5 @@
 -- Each event keeps the marks, records and queries of a tree.
-use Rattle.std.proofs.Common.{◌≡◌, false, true}
+use Rattle.std.proofs.Common.{false, true}
 use Rattle.tree_model.specs.Events.{Claim, Nodes, Empty, Collected, Lost, Suspend, Resume, Prune, Answer, Stop}
 use Rattle.interleaving.specs.HistoryInvariants.{PreservesCaught, IsAny}
 use Rattle.interleaving.proofs.GoingLemmas.{legal_parts}

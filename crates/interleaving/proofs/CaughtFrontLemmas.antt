@@ -39,7 +39,6 @@ use Rattle.interleaving.proofs.CaughtHoldLemmas.{open_right}
 use Rattle.interleaving.proofs.CaughtEventLemmas.{as_tree, marks_opened, marks_without, solutions_caught}
 use Rattle.interleaving.proofs.CaughtPruneLemmas.{closed_preserved, left_preserved, marks_left, thrown_preserved}
 use Rattle.tree_model.specs.SoundTrees.{profile}
-use Rattle.interleaving.proofs.TestLemmas.{false_true}
 
 -- a part of a clear branch
 pub clear_part : (scope : Option ℕ) (levels : List Level) → AreClear levels → AreClear (levels_below scope levels)

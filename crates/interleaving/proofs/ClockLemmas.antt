@@ -14,7 +14,7 @@ use Rattle.tree_model.specs.TreeStates.{TreeState, leftmost, first_spot, pending
 use Rattle.tree_model.specs.Elements.{Element, Credit as CreditElement, EndOf, Plain, Catch, Findall, End}
 use Rattle.tree_model.specs.PendingLists.{Way, way_of, element_on, own_credit, list_in, list_among, list_below, pending_list, list_left}
 use Rattle.tree_model.specs.PendingLists.{spent_at, front_of, back_of}
-use Rattle.tree_model.specs.Ways.{IsOnWay, IsAwake, IsHeldBy}
+use Rattle.tree_model.specs.Ways.{IsOnWay, IsAwake}
 use Rattle.tree_model.specs.SoundTrees.{IsOpen, profile, IsSound, IsSoundTree}
 use Rattle.interleaving.specs.Quiet.{IsQuiet, inferences}
 use Rattle.interleaving.specs.Follows.{lead}

@@ -1,14 +1,10 @@
 -- A private run that leaves nothing takes its place in the list to a credit.
-use Rattle.std.proofs.Common.{◌≡◌, ℕ, ◌+◌, ◌≤◌, ◌⊎◌, inl, inr, true, false, List, [], ◌∷◌, ◌++◌, Option, Some, None, refl, sym, ap, ◌∙◌}
+use Rattle.std.proofs.Common.{◌≡◌, ◌+◌, ◌≤◌, ◌⊎◌, inl, inr, true, false, List, [], ◌∷◌, ◌++◌, Option, Some, None, refl, sym, ap, ◌∙◌}
 use Rattle.std.proofs.Common.{subst, arith}
-use Rattle.run_model.specs.Machine.Items.{Continuation}
 use Rattle.run_model.specs.Machine.Entries.{Entry, PlainEntry, CatchEntry, FindallEntry, EndEntry}
 use Rattle.tree_model.specs.Credits.{credit_of}
 use Rattle.tree_model.specs.Nodes.{Pending, Closed}
-use Rattle.tree_model.specs.Levels.{plug, Spot, levels_of}
-use Rattle.tree_model.specs.Floors.{with_heights}
-use Rattle.tree_model.specs.PrivateRuns.{private_run}
-use Rattle.tree_model.specs.TreeStates.{TreeState}
+use Rattle.tree_model.specs.Levels.{plug, levels_of}
 use Rattle.tree_model.specs.Legality.{run_of, run_is_empty}
 use Rattle.tree_model.specs.PendingLists.{way_of, element_on, pending_list, front_of, back_of}
 use Rattle.tree_model.specs.Ways.{is_on, IsOnWay, IsAwake}

@@ -156,7 +156,7 @@ height_some levels s h = let z = height_positive levels s h in omega (arith, z)
 falls_here : (ball : Term) (v : Level) (up : List Level) (x r : Term) (f : Continuation ℕ) (s : ℕ) → v.right
     ≡ alternative s (Pending Dormant (CatchEntry x r f)) none → Lands ball up (first_mark f.items)
     → unwound ball (Some (suc (length up) - 1)) (floor_of (v ∷ up))
-        ≡ catching_entries ball (right_falls ball v up v.right (catching ball up))
+    ≡ catching_entries ball (right_falls ball v up v.right (catching ball up))
 falls_here ball v up x r f s q further = subst Stays (sym q) (marked ∙ at_catch (unifier ((x, copied ball f.next) ∷ [])))
   where
     Stays : Alternatives → Type 0

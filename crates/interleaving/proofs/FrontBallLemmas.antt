@@ -242,7 +242,7 @@ module _ (t : TreeState) (w : ℕ) (a : Place) (s : Spot) (f : Continuation ℕ)
       let root = root_here t i k running s o f entry in
       let status = Pending s.hold s.entry in
       let lands_so : unwound ball (first_mark (by_heights levels items)) (floor_of levels)
-          ≡ catching_entries ball (catching ball levels mark) =
+      ≡ catching_entries ball (catching ball levels mark) =
       ap (λ n. unwound ball n (floor_of levels)) (first_height levels items) ∙ ball_scope_falls ball levels status mark p.around
       root.caught sleeps in
       let high = fh t w a s f e entry in

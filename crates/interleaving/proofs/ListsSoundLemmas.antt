@@ -169,7 +169,7 @@ mutual
 
   among_ok : (up : List Level) (n : ℕ) (kind : Kind) (left : List (ℕ × Status)) (others : Alternatives)
       → IsDistinctTree (plug up (Inner (Numbered n kind (put_left left others))))
-          → AreCaught (dormant_on up) (under_of up) n kind (length left)
+      → AreCaught (dormant_on up) (under_of up) n kind (length left)
       others → IsSound (back_of up) → IsSound (list_among (way_of up) n kind (length left) others ++ back_of up)
   among_ok up n kind left none g c z = z
   among_ok up n kind left (alternative spent status others) g c z =

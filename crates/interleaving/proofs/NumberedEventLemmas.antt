@@ -6,14 +6,13 @@ use Rattle.run_model.specs.Machine.Entries.{Entry}
 use Rattle.run_model.specs.Laws.Numbering.{IsEntryNumbered, AreEntriesNumbered}
 use Rattle.run_model.proofs.NumberingLemmas.{query-numbered}
 use Rattle.tree_model.specs.Credits.{Credit, credit_of}
-use Rattle.tree_model.specs.Nodes.{Gate, CutGate, BallGate, WorldGate, FrozenGate, Hold, TakenBy, Ready, ChoiceNode, Numbered, Pending}
+use Rattle.tree_model.specs.Nodes.{Gate, CutGate, BallGate, WorldGate, FrozenGate, Hold, TakenBy, Ready, Pending}
 use Rattle.tree_model.specs.Nodes.{Inner}
-use Rattle.tree_model.specs.Nodes.{alternatives_of, single}
-use Rattle.tree_model.specs.Levels.{Place, plug, Spot, levels_of}
+use Rattle.tree_model.specs.Levels.{Spot, levels_of}
 use Rattle.tree_model.specs.Floors.{node_of, with_nodes}
 use Rattle.tree_model.specs.Gates.{ball_scope}
 use Rattle.tree_model.specs.PrivateRuns.{taken_alone}
-use Rattle.tree_model.specs.Pruning.{pruned, tasks_pruned}
+use Rattle.tree_model.specs.Pruning.{pruned}
 use Rattle.tree_model.specs.FrontGates.{Taken, Continues, Answered, Raises, Halts, QueryEnds, taken_at_front}
 use Rattle.tree_model.specs.Events.{Event, Claim, Nodes, Empty, Collected, Lost, Suspend, Resume, Prune, Answer, Stop}
 use Rattle.tree_model.specs.TreeStates.{TreeState, opened_node, opening_root, opening_tree}
@@ -23,7 +22,7 @@ use Rattle.tree_model.specs.Effects.{spot_stack, world_moved, run_placed, result
 use Rattle.tree_model.specs.Effects.{after_event}
 use Rattle.tree_model.specs.Effects.{spending}
 use Rattle.tree_model.specs.Histories.{after_events, tree_after}
-use Rattle.tree_model.specs.NumberedTrees.{IsNumberedStatus, AreNumbered, IsNumberedTree}
+use Rattle.tree_model.specs.NumberedTrees.{IsNumberedStatus, IsNumberedTree}
 use Rattle.interleaving.proofs.OpenSpotLemmas.{IsOpenSpot, claimable_open, resumable_open, taken_at_open}
 use Rattle.interleaving.proofs.NumberedPlaceLemmas.{AreLevelsNumbered, numbered_out, numbered_in, spending_numbered, closes_numbered}
 use Rattle.interleaving.proofs.NumberedPlaceLemmas.{ball_closes_numbered, pruned_numbered}

@@ -21,10 +21,10 @@ use Rattle.tree_model.specs.Nodes.{alternatives_of}
 use Rattle.tree_model.specs.Levels.{Level}
 use Rattle.tree_model.specs.Floors.{renamed_item, renamed_continuation, renamed_entry, with_nodes, right_entry, floor_of}
 use Rattle.tree_model.specs.Gates.{gate_on}
-use Rattle.tree_model.specs.PrivateRuns.{own_settles, own_free_steps, settled_own, own_part, goal_alone, item_alone, taken_alone}
+use Rattle.tree_model.specs.PrivateRuns.{own_settles, own_free_steps, own_part, goal_alone, item_alone, taken_alone}
 use Rattle.tree_model.specs.PrivateRuns.{if_no_gate}
 use Rattle.tree_model.specs.PrivateRuns.{own_after, one_more, if_any, private_run}
-use Rattle.tree_model.specs.Shapes.{further, guard_hold, guard_kind, further_alternatives, placed_scope, placed_status, placed}
+use Rattle.tree_model.specs.Shapes.{further, guard_hold, guard_kind, placed_scope, placed_status, placed}
 use Rattle.tree_model.specs.FrontGates.{Taken, Continues, Answered, Raises, Halts, QueryEnds, reply_taken, goal_at_front, removal_at_front}
 use Rattle.tree_model.specs.FrontGates.{item_at_front, taken_at_front}
 use Rattle.tree_model.specs.NumberedTrees.{IsNumberedStatus, AreNumbered}

@@ -13,7 +13,7 @@ use Rattle.tree_model.specs.SoundTrees.{count_below, IsOpen, profile, IsSound, I
 use Rattle.interleaving.proofs.AppendLemmas.{found}
 use Rattle.interleaving.proofs.PluggedLemmas.{IsIn, all_in}
 use Rattle.interleaving.proofs.ContextLemmas.{IsAround, taken_out, live_at, live_open, put_in, count_around, count_plug}
-use Rattle.au_term.proofs.LogicLemmas.{and-right, and-left}
+use Rattle.au_term.proofs.LogicLemmas.{and-left}
 
 -- an alternative of the tree that is open
 pub record IsOpenSpot (root : Status) (s : Spot) : Type 0 where

@@ -1,5 +1,5 @@
 -- The opening tree's list runs as the sequential run by names.
-use Rattle.std.proofs.Common.{inr, ◌≡◌, ℕ, ◌≤◌, inl, Bool, false, List, [], ◌∷◌, map, None, refl, sym, ap, ◌∙◌, arith}
+use Rattle.std.proofs.Common.{inr, ◌≡◌, ℕ, ◌≤◌, inl, false, List, [], ◌∷◌, map, None, refl, sym, ap, ◌∙◌, arith}
 use Rattle.au_term.specs.Term.{Term}
 use Rattle.run_model.specs.Programs.Clauses.{Clause}
 use Rattle.run_model.specs.Machine.Items.{GoalItem, goals_at}
@@ -24,7 +24,7 @@ use Rattle.interleaving.proofs.ListChangeLemmas.{no_credit}
 use Rattle.interleaving.proofs.LegalLemmas.{opening_sound}
 use Rattle.interleaving.proofs.ListsSoundLemmas.{lists_are_sound}
 use Rattle.tree_model.specs.GivenAnswers.{answers_in, AreInOrder}
-use Rattle.tree_model.specs.CaughtTrees.{MarksCaught, IsCaught, IsLastQuery, IsUnspent, IsCaughtTree}
+use Rattle.tree_model.specs.CaughtTrees.{IsCaught, IsLastQuery, IsUnspent, IsCaughtTree}
 use Rattle.interleaving.proofs.CaughtEventLemmas.{marks_opened}
 
 abbrev top : Way

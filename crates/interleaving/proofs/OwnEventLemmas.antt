@@ -1,5 +1,5 @@
 -- Events that are no answers, from what runs and prunes do to the list.
-use Rattle.std.proofs.Common.{◌≡◌, ℕ, zero, suc, true, false, List, [], ◌∷◌, ◌++◌, Option, Some, None, refl, sym, ap, ◌∙◌}
+use Rattle.std.proofs.Common.{◌≡◌, ℕ, zero, suc, true, List, [], ◌∷◌, ◌++◌, Option, Some, None, refl, sym, ap, ◌∙◌}
 use Rattle.std.specs.Prelude.{◌&&◌, nat_le, length}
 use Rattle.au_term.specs.Term.{Term}
 use Rattle.run_model.specs.Machine.Entries.{Entry, EndEntry}

@@ -23,7 +23,6 @@ use Rattle.interleaving.specs.Sound.{names, IsMadeElsewhere, AreCarried}
 use Rattle.interleaving.proofs.NamingLemmas.{heights-same, resolved-heights, same-heights, body-heights, goals-heights, length-erased}
 use Rattle.interleaving.proofs.NamingLemmas.{lowest-from, IsMadeBy, from_end, from_own, heights-made, heights-cut, longer, sames}
 use Rattle.interleaving.proofs.AppendLemmas.{append-assoc}
-use Rattle.interleaving.proofs.SequentialHeightLemmas.{height-append}
 
 pub ends_made : (p : Name) → Each (IsMadeBy p) (EndOf p ∷ [])
 ends_made p = (([], refl), tt)

@@ -4,7 +4,7 @@ use Rattle.std.proofs.Common.{◌∙◌, subst, arith}
 use Rattle.std.specs.Prelude.{nat_le}
 use Rattle.run_model.specs.Machine.Entries.{Entry}
 use Rattle.tree_model.specs.Elements.{Element, EndOf}
-use Rattle.interleaving.specs.HeightMachine.{HeightEntry, height_entries}
+use Rattle.interleaving.specs.HeightMachine.{height_entries}
 use Rattle.interleaving.specs.Erased.{element_count, height, erased}
 use Rattle.tree_model.specs.Nodes.{Kind, Status, alternatives_of}
 use Rattle.tree_model.specs.Floors.{with_nodes}

@@ -6,15 +6,15 @@ use Rattle.std.specs.List.{list_any}
 use Rattle.au_model.specs.Terms.Each.{Each}
 use Rattle.run_model.specs.Machine.Items.{Item, GoalItem, CatchMark, CollectMark, RemovalItem}
 use Rattle.run_model.specs.Machine.Entries.{Entry, PlainEntry, CatchEntry, FindallEntry, EndEntry}
-use Rattle.tree_model.specs.Nodes.{ChoiceNode, Hold, Ready, alternatives_of}
+use Rattle.tree_model.specs.Nodes.{ChoiceNode, Hold, alternatives_of}
 use Rattle.tree_model.specs.Floors.{with_nodes}
 use Rattle.tree_model.specs.Shapes.{further, is_guard, cuts_of_items, cuts_of_entry, cuts_of, is_unsplit, is_alone, guard_kind}
 use Rattle.tree_model.specs.Shapes.{guard_hold, further_alternatives}
 use Rattle.tree_model.specs.PendingLists.{Way}
 use Rattle.tree_model.specs.Ways.{is_on, is_query, under_query, IsAsked, IsAwake}
-use Rattle.tree_model.specs.SoundTrees.{count_among, IsOpen, profiles, none_dormant, is_shape, AreSound}
+use Rattle.tree_model.specs.SoundTrees.{count_among, IsOpen, profiles, is_shape, AreSound}
 use Rattle.interleaving.proofs.RoundtripLemmas.{by_nodes, IsPath}
-use Rattle.interleaving.proofs.GrowingLemmas.{IsReadyOn, ready_below, ready_awake, alternatives_sound, alternatives_shape}
+use Rattle.interleaving.proofs.GrowingLemmas.{IsReadyOn, alternatives_sound, alternatives_shape}
 use Rattle.interleaving.proofs.CollapseLemmas.{Collapses, kept, hidden, AreSeen, as_scopes, items_preserved}
 use Rattle.interleaving.proofs.StackLemmas.{entry_step, stack_way, length-stack, IsOver, AreOver}
 use Rattle.interleaving.proofs.RunSoundLemmas.{IsAwakeTop}

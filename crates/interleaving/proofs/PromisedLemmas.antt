@@ -19,7 +19,7 @@ use Rattle.tree_model.specs.Elements.{Element}
 use Rattle.interleaving.specs.Machine.{free_steps, run, seen, is_finished}
 use Rattle.interleaving.specs.Scopes.{Shared, first_shared, scoped}
 use Rattle.interleaving.specs.Counted.{counted_steps}
-use Rattle.interleaving.specs.Quiet.{IsQuiet, inferences}
+use Rattle.interleaving.specs.Quiet.{IsQuiet}
 use Rattle.interleaving.specs.Readings.{opening_list, has_ended}
 use Rattle.interleaving.specs.Follows.{lead}
 use Rattle.interleaving.specs.HistoryInvariants.{shared_of, left_by, tree_list, IsInStep}

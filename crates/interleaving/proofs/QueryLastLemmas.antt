@@ -26,7 +26,6 @@ use Rattle.interleaving.proofs.LeadLemmas.{lead-quiet, lead-grows, lead-bounded}
 use Rattle.interleaving.proofs.FoldLemmas.{HaveNoSideRecords, LeftSides, node_totals, node_list, closed_round}
 use Rattle.interleaving.proofs.ClosingListLemmas.{closed_list, no_side}
 use Rattle.interleaving.proofs.CaughtContextLemmas.{last_put, last_at}
-use Rattle.interleaving.proofs.TestLemmas.{false_true}
 
 -- nothing is to the right
 abbrev pub RightsNone : List Level → Type 0

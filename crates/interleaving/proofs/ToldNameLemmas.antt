@@ -204,7 +204,7 @@ module _ (next : ℕ) (v : Level) (up : List Level) (f : IsFree next (v ∷ up))
           let high = ap element_count (from_end (step_name (step_of v)) t (floor_named (v ∷ up)) n) in
           ap element_count (from_end (step_name (step_of v)) s (right_of (v ∷ up)) m)
           ∙ (respects_floor s t j k (sym low ∙ (e ∙ high)) ∙ sym
-              (ap element_count (from_end (step_name (step_of v)) t (right_of (v ∷ up)) n)))
+          (ap element_count (from_end (step_name (step_of v)) t (right_of (v ∷ up)) n)))
 
 pub respects_below : (next : ℕ) (levels : List Level) → IsFree next levels → IsAround levels IsOpen
     → RespectsHeights (below_named levels) (back_of levels)

@@ -31,7 +31,7 @@ use Rattle.interleaving.specs.Quiet.{records}
 use Rattle.interleaving.specs.Erased.{erased}
 use Rattle.interleaving.specs.HistoryInvariants.{shared_of, AnswerMoves}
 use Rattle.interleaving.proofs.RoundtripLemmas.{by_heights}
-use Rattle.interleaving.proofs.StackLemmas.{ArePlain, unified_plain, solutions_plain}
+use Rattle.interleaving.proofs.StackLemmas.{ArePlain, solutions_plain}
 use Rattle.interleaving.proofs.EntryLemmas.{length-floor}
 use Rattle.interleaving.proofs.OpenSpotLemmas.{IsOpenSpot}
 use Rattle.interleaving.proofs.SoundClosingLemmas.{free_at}

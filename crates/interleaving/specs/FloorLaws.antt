@@ -16,7 +16,7 @@ RespectsHeights floor zs = (s t : Name) → IsPresent floor s → IsPresent floo
 abbrev pub FloorIsEnough : Type 0
 FloorIsEnough =
     (floor zs b c : List Element) → IsFloor floor → RespectsHeights floor zs → IsSound (b ++ floor) → IsSound (c ++ floor)
-        → erased (b ++ floor)
+    → erased (b ++ floor)
     ≡ erased (c ++ floor)
     → erased (b ++ zs) ≡ erased (c ++ zs)
 

@@ -1,17 +1,16 @@
 -- What an entry does by itself, with heights: the steps of the sequential machine on its own entries, over a floor of
 -- entries that stay as they are.
-use Rattle.std.specs.Prelude.{ℕ, zero, suc, ◌-◌, Bool, cond, List, [], ◌∷◌, ◌++◌, length, take, nat_lt, nat_le, Option, Some, None, ◌≡◌}
+use Rattle.std.specs.Prelude.{ℕ, zero, suc, Bool, cond, List, [], ◌∷◌, ◌++◌, length, nat_lt, nat_le, Option, Some, None, ◌≡◌}
 use Rattle.au_model.specs.Terms.Each.{Each}
 use Rattle.run_model.specs.Programs.Clauses.{Clause}
 use Rattle.run_model.specs.Goals.Outcomes.{Solutions, Ball, HaltNumber, ControlForm, GoesOnWith, EitherOf, TestOf, CutToScope, CatchOf}
 use Rattle.run_model.specs.Goals.Outcomes.{FindallOf, Outcome, Replies, Controls, AskWorld}
 use Rattle.run_model.specs.Goals.GoalOutcomes.{outcome_of}
-use Rattle.run_model.specs.Machine.Items.{Item, GoalItem, CatchMark, CollectMark, RemovalItem, Continuation, with_items, without_marks}
+use Rattle.run_model.specs.Machine.Items.{Item, GoalItem, CatchMark, CollectMark, RemovalItem, Continuation, with_items}
 use Rattle.run_model.specs.Machine.Items.{first_mark}
-use Rattle.run_model.specs.Machine.Entries.{Entry, PlainEntry, CatchEntry, FindallEntry, EndEntry, collected}
+use Rattle.run_model.specs.Machine.Entries.{Entry, PlainEntry, CatchEntry, FindallEntry, EndEntry}
 use Rattle.run_model.specs.Machine.Balls.{unwound}
 use Rattle.run_model.specs.Machine.Heights.{after_reply, after_control}
-use Rattle.run_model.specs.Machine.FreeSteps.{findall_ends}
 use Rattle.tree_model.specs.PrivateRuns.{settled_own, own_part}
 use Rattle.tree_model.specs.Elements.{Name, Element, Credit, Plain, EndOf, Catch, Findall, End}
 use Rattle.interleaving.specs.Scopes.{scoped}

@@ -23,7 +23,7 @@ stack_after QueryEnds queries es = opened queries
 abbrev pub PrivateIsStep : Type 0
 PrivateIsStep =
     (clauses : List Clause) (levels : List Level) (st : State) (f : Continuation ℕ) (es : List Entry) → without_marks f.items ≡ f.items
-        → gate_on clauses levels (PlainEntry f ∷ es) ≡ None → (left : List Entry)
+    → gate_on clauses levels (PlainEntry f ∷ es) ≡ None → (left : List Entry)
     → taken_alone clauses (PlainEntry f ∷ es) ≡ Some left →
     ((step clauses (record st { entries = PlainEntry f ∷ es })).entries ≡ left)
     × ((step clauses (record st { entries = PlainEntry f ∷ es })).world ≡ st.world)
@@ -32,7 +32,7 @@ PrivateIsStep =
 abbrev pub FrontIsStep : Type 0
 FrontIsStep =
     (clauses : List Clause) (levels : List Level) (st : State) (f : Continuation ℕ) (es : List Entry) → without_marks f.items ≡ f.items
-        → gate_on clauses levels (PlainEntry f ∷ es) ≡ Some WorldGate →
+    → gate_on clauses levels (PlainEntry f ∷ es) ≡ Some WorldGate →
     ((step clauses (record st { entries = PlainEntry f ∷ es })).entries
     ≡ stack_after (taken_at_front clauses (PlainEntry f ∷ es) st.world).1 st.queries es)
     × ((step clauses (record st { entries = PlainEntry f ∷ es })).world ≡ (taken_at_front clauses (PlainEntry f ∷ es) st.world).0)
