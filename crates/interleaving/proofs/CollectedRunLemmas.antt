@@ -43,8 +43,9 @@ use Rattle.interleaving.proofs.ListEndLemmas.{from_back}
 use Rattle.interleaving.proofs.ListScopeLemmas.{IsDistinct}
 use Rattle.interleaving.proofs.ListMarkLemmas.{gathered_side}
 use Rattle.interleaving.proofs.ListsSoundLemmas.{under_of, side_level}
-use Rattle.interleaving.proofs.FoldLemmas.{side_name, nothing_blind}
+use Rattle.interleaving.proofs.FoldLemmas.{side_name}
 use Rattle.interleaving.proofs.TestLemmas.{false_true}
+use Rattle.interleaving.proofs.CreditLawLemmas.{blind_none}
 
 -- where a findall's goal side is named, one is on the branch
 none_named : (levels : List Level) → under_of levels ≡ false → findall_on (way_of levels) ≡ []
@@ -147,7 +148,7 @@ collected_reaches t s k i q z place running x = go s.entry refl p.entry.0 (awake
         free p.around h off k v.spent (subst IsSound before z) in
         let mine : IsSound (front_of levels ++ (Credit (v.spent + k) ((findall_on (way_of levels), r.term) ∷ []) ∷ back_of levels)) =
         sound_exchange t.job.clauses (λ s. false) (front_of levels) (Credit (v.spent + k) [] ∷ [])
-        (Credit (v.spent + k) ((findall_on (way_of levels), r.term) ∷ []) ∷ []) (back_of levels) (nothing_blind (front_of levels))
+        (Credit (v.spent + k) ((findall_on (way_of levels), r.term) ∷ []) ∷ []) (back_of levels) (blind_none t.job.clauses (front_of levels))
         (tt, tt) (tt, tt) (omega arith) emptied ((gathered, tt), (sound-after (front_of levels) _ emptied).1) in
         let same : v.spent + k ≡ k = omega (arith, unspent) in
         let new : pending_list (plug levels (Closed (record { inferences = k; answers = 0; records = r.term ∷ [] })))

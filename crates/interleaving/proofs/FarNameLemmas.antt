@@ -1,5 +1,5 @@
 -- What names nothing inside but by marks goes on so.
-use Rattle.std.proofs.Common.{ℕ, zero, suc, ◌+◌, Bool, true, false, cond, List, [], ◌∷◌, ◌++◌, map, Option, Some, None, sym, ap, ◌∙◌}
+use Rattle.std.proofs.Common.{ℕ, zero, suc, ◌+◌, Bool, true, false, cond, List, [], ◌∷◌, ◌++◌, map, Option, Some, None, refl, sym, ap, ◌∙◌}
 use Rattle.au_term.specs.Term.{Term}
 use Rattle.au_model.specs.Terms.Each.{Each}
 use Rattle.au_model.specs.Terms.Substitutions.{Substitution}
@@ -231,3 +231,23 @@ module _ (clauses : List Clause) (inside : Name → Bool) where
   far_stands (Catch s u c q p f) h = h
   far_stands (Findall s u results list p f) h = h
   far_stands (End p o) h = h
+
+-- nothing is inside nothing
+pub nothing_far : (xs : List Element) → Each (IsFar (λ s. false)) xs
+nothing_far [] = tt
+nothing_far (x ∷ xs) = (one x, nothing_far xs)
+  where
+    items : (is : List (Item Name)) → Each (IsItemFar (λ s. false)) is
+    items [] = tt
+    items (GoalItem t s ∷ is) = (refl, items is)
+    items (CatchMark s ∷ is) = (tt, items is)
+    items (CollectMark t s ∷ is) = (tt, items is)
+    items (RemovalItem n ∷ is) = (tt, items is)
+
+    one : (x : Element) → IsFar (λ s. false) x
+    one (Credit k rs) = tt
+    one (Plain p f) = (λ more. refl, items f.items)
+    one (EndOf s) = tt
+    one (Catch s u c r p f) = (refl, λ more. refl, items f.items)
+    one (Findall s u results list p f) = (refl, λ more. refl, items f.items)
+    one (End p b) = tt

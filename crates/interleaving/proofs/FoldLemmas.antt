@@ -3,8 +3,6 @@ use Rattle.std.proofs.Common.{◌≡◌, ℕ, suc, ◌+◌, ◌≤◌, ◌<◌, 
 use Rattle.std.proofs.Common.{Option, Some, None, refl, sym, ap, ◌∙◌, subst, arith}
 use Rattle.std.specs.Prelude.{min, nat_le, ◌&&◌}
 use Rattle.au_term.specs.Term.{Term}
-use Rattle.au_model.specs.Terms.Each.{Each}
-use Rattle.run_model.specs.Machine.Items.{Item, GoalItem, CatchMark, CollectMark, RemovalItem}
 use Rattle.interleaving.specs.Machine.{free_steps, run, seen}
 use Rattle.interleaving.specs.Scopes.{Shared, scoped}
 use Rattle.run_model.specs.Programs.Clauses.{Clause}
@@ -19,12 +17,11 @@ use Rattle.tree_model.specs.PendingLists.{front_of, back_of}
 use Rattle.tree_model.specs.CaughtTrees.{is_side, IsCaught, AreCaught}
 use Rattle.interleaving.specs.Laws.{MayBecome}
 use Rattle.interleaving.specs.Quiet.{IsQuiet, inferences, records}
-use Rattle.interleaving.specs.Views.{IsBlind, IsRecordApart, IsItemApart}
 use Rattle.interleaving.specs.Sound.{IsSound}
 use Rattle.interleaving.specs.Follows.{lead, Follows}
 use Rattle.interleaving.proofs.ListRoundLemmas.{around}
 use Rattle.interleaving.proofs.AppendLemmas.{append-assoc, append-nil}
-use Rattle.interleaving.proofs.CreditLawLemmas.{as_many_credit}
+use Rattle.interleaving.proofs.CreditLawLemmas.{as_many_credit, blind_none}
 use Rattle.interleaving.proofs.SoundEarlyLemmas.{sound_exchange, sound-after}
 use Rattle.interleaving.proofs.LeadLemmas.{lead-bounded, follows_then, follows_becoming, follows_itself}
 use Rattle.interleaving.proofs.ClockLemmas.{quiet-append, inferences-append}
@@ -47,30 +44,6 @@ passes_then clauses xs ys zs h k = record { follows = follows_then clauses xs ys
 pub passes_becoming : (clauses : List Clause) (xs ys : List Element) → MayBecome clauses xs ys → lead xs ≤ lead ys → Passes clauses xs ys
 passes_becoming clauses xs ys h l = record { follows = follows_becoming clauses xs ys h l; sound = h.sound }
 
--- nothing is inside nothing
-pub nothing_blind : (xs : List Element) → Each (IsBlind (λ s. false)) xs
-nothing_blind [] = tt
-nothing_blind (x ∷ xs) = (one x, nothing_blind xs)
-  where
-    items : (is : List (Item Name)) → Each (IsItemApart (λ s. false)) is
-    items [] = tt
-    items (GoalItem t s ∷ is) = (refl, items is)
-    items (CatchMark s ∷ is) = (refl, items is)
-    items (CollectMark t s ∷ is) = (refl, items is)
-    items (RemovalItem k ∷ is) = (tt, items is)
-
-    rows : (rs : List Record) → Each (IsRecordApart (λ s. false)) rs
-    rows [] = tt
-    rows (r ∷ rs) = (refl, rows rs)
-
-    one : (x : Element) → IsBlind (λ s. false) x
-    one (Credit k rs) = rows rs
-    one (Plain p f) = (λ more. refl, items f.items)
-    one (EndOf s) = tt
-    one (Catch s u c r p f) = (refl, refl, λ more. refl, items f.items)
-    one (Findall s u results list p f) = (refl, refl, λ more. refl, items f.items)
-    one (End p b) = λ more. refl
-
 -- before the end of a query a credit is kept at the greatest count
 pub credit_counted : (clauses : List Clause) (pre zs : List Element) (k : ℕ) (rs : List Record) → has_end zs ≡ true
     → Passes clauses (pre ++ (Credit k rs ∷ zs)) (pre ++ (Credit (min greatest k) rs ∷ zs))
@@ -80,7 +53,7 @@ credit_counted clauses pre zs k rs end = record {
     lead = λ m b l. lead-bounded m pre (Credit k rs ∷ zs) (Credit (min greatest k) rs ∷ zs) (λ j a c. omega (arith, a, b, c)) l;
   };
   sound = λ i. let here = sound-after pre (Credit k rs ∷ zs) i in sound_exchange clauses (λ s. false) pre (Credit k rs ∷ [])
-      (Credit (min greatest k) rs ∷ []) zs (nothing_blind pre) (tt, tt) (tt, tt) (omega arith) i here;
+      (Credit (min greatest k) rs ∷ []) zs (blind_none clauses pre) (tt, tt) (tt, tt) (omega arith) i here;
 }
   where
     go : (n : ℕ) (w : Shared) → n ≤ greatest → (b : Bool) → nat_le k greatest ≡ b

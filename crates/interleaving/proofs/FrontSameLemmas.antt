@@ -1,5 +1,5 @@
 -- Two segments that are the same entries over a floor are so after any front that names nothing of theirs.
-use Rattle.std.proofs.Common.{◌≡◌, inl, inr, ◌-◌, ◌+◌, Bool, List, [], ◌∷◌, ◌++◌, map, length, refl, sym, ap, ◌∙◌, arith}
+use Rattle.std.proofs.Common.{◌≡◌, inl, inr, ◌-◌, Bool, List, [], ◌∷◌, ◌++◌, map, length, refl, sym, ap, ◌∙◌, arith}
 use Rattle.au_model.specs.Terms.Each.{Each}
 use Rattle.run_model.specs.Machine.Items.{Item, GoalItem, CatchMark, CollectMark, RemovalItem, Continuation}
 use Rattle.run_model.specs.Machine.Entries.{PlainEntry, CatchEntry, FindallEntry, EndEntry}
@@ -12,10 +12,12 @@ use Rattle.interleaving.specs.FloorLaws.{FloorIsEnough, FrontIsSame}
 use Rattle.interleaving.proofs.NamingLemmas.{length-erased, same-heights}
 use Rattle.interleaving.proofs.SeamLemmas.{Seam, seam}
 use Rattle.interleaving.proofs.SoundEarlyLemmas.{from-inner}
-use Rattle.interleaving.proofs.FloorLemmas.{count-append, lists-told}
+use Rattle.interleaving.proofs.ReadableLemmas.{sound_readable}
+use Rattle.interleaving.proofs.FloorLemmas.{count-append, readable_enough}
 
 pub floor_is_enough : FloorIsEnough
-floor_is_enough floor zs b c first tells i j e = lists-told floor zs first tells (length b + length c) b c (omega arith) i j e
+floor_is_enough floor zs b c first tells i j e = readable_enough floor zs b c first tells (sound_readable (b ++ floor) i)
+    (sound_readable (c ++ floor) j) e
 
 -- anything in front
 module _ (inside : Name → Bool) (ys ws zs : List Element) (old : (s : Name) → IsApart inside s → from ys s ≡ from zs s)

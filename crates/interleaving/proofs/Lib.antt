@@ -50,7 +50,6 @@ mod FieldLemmas
 mod FindallWakeLemmas
 mod FinishingLemmas
 mod FloorLemmas
-mod FloorsReadableLemmas
 mod FoldLemmas
 mod FoldingLemmas
 mod FreeStepHeightLemmas
@@ -102,7 +101,6 @@ mod OwnEventLemmas
 mod OwnFreeStepLemmas
 mod OwnInferenceLemmas
 mod OwnRunLemmas
-mod OwnRunsOverLemmas
 mod PassingLemmas
 mod PlaceHeightLemmas
 mod PlacedCaughtLemmas

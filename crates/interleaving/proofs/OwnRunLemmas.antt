@@ -1,4 +1,4 @@
--- A private run with heights over a floor is a private run by names.
+-- A private run with heights over a floor is one by names, where its goals name no end with which the floor begins.
 use Rattle.std.proofs.Common.{◌≡◌, inl, inr, ℕ, zero, suc, ◌-◌, ◌+◌, ◌≤◌, Bool, true, false, cond, List, [], ◌∷◌, ◌++◌, map, length, take}
 use Rattle.std.proofs.Common.{nat_lt, nat_le, Option, Some, None, refl, sym, ap, ◌∙◌, subst, arith}
 use Rattle.std.proofs.lemmas.Bool.Decides.{nat_tests}
@@ -24,11 +24,13 @@ use Rattle.interleaving.specs.Laws.{is_inner_record}
 use Rattle.interleaving.specs.Sound.{names, IsEntrySound, IsSound}
 use Rattle.tree_model.specs.PrivateRuns.{own_part}
 use Rattle.interleaving.specs.OwnRuns.{caught_own, own_control, own_goal, own_item, own_taken, own_left, own_more, own_run}
-use Rattle.interleaving.specs.OwnRuns.{NamesEntries, IsFloorUnder, IsFloorOf, RunsPrivately, OwnRuns}
+use Rattle.interleaving.specs.OwnRuns.{NamesEntries, IsFloorUnder, RunsPrivately, OwnRuns}
 use Rattle.interleaving.proofs.RunFrontLemmas.{map-none, some-same, none-some}
 use Rattle.interleaving.proofs.JoinedLemmas.{placed-within}
 use Rattle.interleaving.proofs.InsideLemmas.{under_ground}
 use Rattle.interleaving.proofs.EarlyLawLemmas.{private_inner}
+use Rattle.interleaving.proofs.AloneLemmas.{private-ok}
+use Rattle.interleaving.proofs.FarNameLemmas.{IsItemFar, IsFar, IsAnyRecord, IsSoughtFar, far_closed, far_stands, nothing_far}
 use Rattle.interleaving.proofs.QuietCreditLemmas.{private-then}
 use Rattle.interleaving.proofs.NamingLemmas.{length-erased}
 use Rattle.interleaving.proofs.PlaceHeightLemmas.{control-height}
@@ -41,11 +43,9 @@ use Rattle.interleaving.proofs.OwnRunStepLemmas.{floor_size, own_size, no_credit
 use Rattle.interleaving.proofs.OwnInferenceLemmas.{part-joined, over-floor, floor-low, search-in-from, Split, split, Low, low}
 use Rattle.interleaving.proofs.AppendLemmas.{append-assoc}
 
-under_of : (inside : Name → Bool) (zs : List Element) (floor : List Entry) → IsFloorOf inside zs floor → IsFloorUnder inside zs floor
-under_of inside zs floor fl = record { under = fl.under; entries = fl.entries }
-
 module _ (clauses : List Clause) (inside : Name → Bool) (grown : IsGrown inside) (zs : List Element) (floor : List Entry)
-    (fl : IsFloorOf inside zs floor) where
+    (fl : IsFloorUnder inside zs floor) (own : Name → Bool) (deepest : (s : Name) → own s ≡ false → (t : List Element) → from zs s
+    ≡ EndOf s ∷ t → suc (height zs s) ≤ element_count zs) where
   abbrev m : Machine Shared Element Sought Record
   m = scoped clauses
 
@@ -95,7 +95,7 @@ module _ (clauses : List Clause) (inside : Name → Bool) (grown : IsGrown insid
 
   module _ (x : Element) (p h : Name) (k : Continuation Name) (a : List Element) (es : List Entry) (o : Own a es)
       (inner : Each (IsInner inside) (x ∷ a)) (whole : IsSound (x ∷ (a ++ zs)))
-      (s : IsEntrySound p (a ++ zs) (h ∷ names k.items) k.items) where
+      (s : IsEntrySound p (a ++ zs) (h ∷ names k.items) k.items) (far : own h ≡ false) where
     abbrev held : Continuation ℕ
     held = continuation_heights (height (a ++ zs)) k
 
@@ -134,7 +134,7 @@ module _ (clauses : List Clause) (inside : Name → Bool) (grown : IsGrown insid
             deep ls (inl t) w =
                 let size : suc (element_count t.2) ≡ suc (length ds) = sym (length-erased (Plain t.0 t.1 ∷ t.2))
                 ∙ ap (λ z. length (erased z)) (sym t.3) ∙ ap length w ∙ length-height (PlainEntry g ∷ ds) in
-                absurd (omega (arith, size, t.4, l, floor_size clauses inside grown zs floor (under_of inside zs floor fl)))
+                absurd (omega (arith, size, t.4, l, floor_size clauses inside grown zs floor fl))
             deep ls (inr t) w = absurd (ended t.1 (sym (ap erased t.2) ∙ w))
               where
                 ended : (c : Option Term) → ◌≡◌ {A = List HeightElement} (HeightEntry (EndEntry c) ∷ [])
@@ -167,9 +167,9 @@ module _ (clauses : List Clause) (inside : Name → Bool) (grown : IsGrown insid
             (search-in-from clauses (Plain p k) a h r.0 r.1) inner whole (controls CutToScope ∙ ap height_entries c)
         lands l c (inr r) =
             let here = s.carried.present.0 in
-            let deep : suc (height zs h) ≤ element_count zs = floor-low zs h here.0 fl.first (sym (r zs) ∙ here.1) in
+            let deep : suc (height zs h) ≤ element_count zs = deepest h far here.0 (sym (r zs) ∙ here.1) in
             let same : height (a ++ zs) h ≡ height zs h = ap element_count (r zs) in
-            absurd (omega (arith, deep, same, l, floor_size clauses inside grown zs floor (under_of inside zs floor fl)))
+            absurd (omega (arith, deep, same, l, floor_size clauses inside grown zs floor fl))
 
         test : (t : Bool) → nat_lt (height (a ++ zs) h) (length floor) ≡ t
             → cond t None (Some (after_control CutToScope (height (a ++ zs) h) (continuation_heights (height (a ++ zs)) k) (es ++ floor)))
@@ -197,68 +197,61 @@ module _ (clauses : List Clause) (inside : Name → Bool) (grown : IsGrown insid
     goal_inferred (Controls (FindallOf t g l)) st e f = put_inferred x _ a st e inner whole
         (controls (FindallOf t g l) ∙ ap height_entries (some-same _ st f))
 
-  item_inferred : (items : List (Item Name)) (p : Name) (f : Continuation Name) (a : List Element) (es st : List Entry) → Own a es
-      → Each (IsInner inside) (Plain p (with_items items f) ∷ a) → IsSound (Plain p (with_items items f) ∷ (a ++ zs))
+  item_inferred : (items : List (Item Name)) (p : Name) (f : Continuation Name) (a : List Element) (es st : List Entry)
+      → Each (IsItemFar own) items → Own a es → Each (IsInner inside) (Plain p (with_items items f) ∷ a)
+      → IsSound (Plain p (with_items items f) ∷ (a ++ zs))
       → own_item clauses (map (with_height (height (a ++ zs))) items) (continuation_heights (height (a ++ zs)) (with_items items f))
       (es ++ floor) (length floor) ≡ Some st → Inferred (Plain p (with_items items f) ∷ a) st
-  item_inferred [] p f a es st o h i e = none-some st e
-  item_inferred (CatchMark c ∷ items) p f a es st o h i e = none-some st e
-  item_inferred (CollectMark t c ∷ items) p f a es st o h i e = none-some st e
-  item_inferred (RemovalItem n ∷ items) p f a es st o h i e = none-some st e
-  item_inferred (GoalItem g c ∷ items) p f a es st o h i e =
+  item_inferred [] p f a es st far o h i e = none-some st e
+  item_inferred (CatchMark c ∷ items) p f a es st far o h i e = none-some st e
+  item_inferred (CollectMark t c ∷ items) p f a es st far o h i e = none-some st e
+  item_inferred (RemovalItem n ∷ items) p f a es st far o h i e = none-some st e
+  item_inferred (GoalItem g c ∷ items) p f a es st far o h i e =
       goal_inferred (Plain p (with_items (GoalItem g c ∷ items) f)) p c (with_items items f) a es o h i
-      (record { carried = i.0.carried; marks = i.0.marks.1; findalls = i.0.findalls }) (outcome_of clauses g f.next) st refl e
+      (record { carried = i.0.carried; marks = i.0.marks.1; findalls = i.0.findalls }) far.0 (outcome_of clauses g f.next) st refl e
 
-  takes : (a : List Element) (es st : List Entry) → Own a es → own_taken clauses floor es ≡ Some st → Inferred a st
-  takes [] [] st o e = none-some st e
-  takes [] (d ∷ es) st o e = absurd
-      (omega (
-        arith,
-        own_size clauses inside grown zs floor (under_of inside zs floor fl) [] (d ∷ es) o,
-        floor_size clauses inside grown
-            zs floor (under_of inside zs floor fl),
-      ))
-  takes (EndOf s ∷ a) es st o e =
-      let r = takes a es st (record { sound = o.sound; inner = o.inner.1; entries = o.entries }) e in (
+  takes : (a : List Element) (es st : List Entry) → Each (IsFar own) a → Own a es → own_taken clauses floor es ≡ Some st → Inferred a st
+  takes [] [] st far o e = none-some st e
+  takes [] (d ∷ es) st far o e = absurd
+      (omega (arith, own_size clauses inside grown zs floor fl [] (d ∷ es) o, floor_size clauses inside grown zs floor fl))
+  takes (EndOf s ∷ a) es st far o e =
+      let r = takes a es st far.1 (record { sound = o.sound; inner = o.inner.1; entries = o.entries }) e in (
         r.0,
         private_drops 1 (EndOf s) [] [] a r.0 refl
             (subst (λ l. Private m (is_inner_record inside) 1 [] l r.0) (sym (map-none m a)) r.1),
         r.2,
       )
-  takes (Credit k rs ∷ a) es st o e = no_credit clauses inside grown zs floor (under_of inside zs floor fl) k _ (erased (a ++ zs))
-      (es ++ floor) o.entries
-  takes (Plain p f ∷ a) [] st o e = none-some st e
-  takes (Plain p f ∷ a) (d ∷ es) st o e =
+  takes (Credit k rs ∷ a) es st far o e = no_credit clauses inside grown zs floor fl k _ (erased (a ++ zs)) (es ++ floor) o.entries
+  takes (Plain p f ∷ a) [] st far o e = none-some st e
+  takes (Plain p f ∷ a) (d ∷ es) st far o e =
       let c : Entry = PlainEntry (continuation_heights (height (a ++ zs)) f) in
-      let same : d ≡ c = head-is clauses inside grown zs floor (under_of inside zs floor fl) c d (erased (a ++ zs))
-      (height_entries (es ++ floor)) o.entries in
-      let rest : Own a es = later clauses inside grown zs floor (under_of inside zs floor fl) (Plain p f) a d c es o.sound.1 o refl in
-      item_inferred f.items p f a es st rest o.inner o.sound (sym (ap (λ y. own_taken clauses floor (y ∷ es)) same) ∙ e)
-  takes (Catch s u t r p f ∷ a) [] st o e = none-some st e
-  takes (Catch s u t r p f ∷ a) (d ∷ es) st o e =
-      let same = head-is clauses inside grown zs floor (under_of inside zs floor fl)
-      (CatchEntry t r (continuation_heights (height (a ++ zs)) f)) d (erased (a ++ zs)) (height_entries (es ++ floor)) o.entries in
-      none-some st (sym (ap (λ y. own_taken clauses floor (y ∷ es)) same) ∙ e)
-  takes (Findall s u results list p f ∷ a) [] st o e = none-some st e
-  takes (Findall s u results list p f ∷ a) (d ∷ es) st o e =
-      let same = head-is clauses inside grown zs floor (under_of inside zs floor fl)
-      (FindallEntry results list (continuation_heights (height (a ++ zs)) f)) d (erased (a ++ zs))
+      let same : d ≡ c = head-is clauses inside grown zs floor fl c d (erased (a ++ zs)) (height_entries (es ++ floor)) o.entries in
+      let rest : Own a es = later clauses inside grown zs floor fl (Plain p f) a d c es o.sound.1 o refl in
+      item_inferred f.items p f a es st far.0.1 rest o.inner o.sound (sym (ap (λ y. own_taken clauses floor (y ∷ es)) same) ∙ e)
+  takes (Catch s u t r p f ∷ a) [] st far o e = none-some st e
+  takes (Catch s u t r p f ∷ a) (d ∷ es) st far o e =
+      let same = head-is clauses inside grown zs floor fl (CatchEntry t r (continuation_heights (height (a ++ zs)) f)) d (erased (a ++ zs))
       (height_entries (es ++ floor)) o.entries in
       none-some st (sym (ap (λ y. own_taken clauses floor (y ∷ es)) same) ∙ e)
-  takes (End p b ∷ a) [] st o e = none-some st e
-  takes (End p b ∷ a) (d ∷ es) st o e =
-      let same = head-is clauses inside grown zs floor (under_of inside zs floor fl) (EndEntry b) d (erased (a ++ zs))
-      (height_entries (es ++ floor)) o.entries in
+  takes (Findall s u results list p f ∷ a) [] st far o e = none-some st e
+  takes (Findall s u results list p f ∷ a) (d ∷ es) st far o e =
+      let same = head-is clauses inside grown zs floor fl (FindallEntry results list (continuation_heights (height (a ++ zs)) f)) d
+      (erased (a ++ zs)) (height_entries (es ++ floor)) o.entries in
+      none-some st (sym (ap (λ y. own_taken clauses floor (y ∷ es)) same) ∙ e)
+  takes (End p b ∷ a) [] st far o e = none-some st e
+  takes (End p b ∷ a) (d ∷ es) st far o e =
+      let same = head-is clauses inside grown zs floor fl (EndEntry b) d (erased (a ++ zs)) (height_entries (es ++ floor)) o.entries in
       none-some st (sym (ap (λ y. own_taken clauses floor (y ∷ es)) same) ∙ e)
 
   -- the run
-  one_more : (k : ℕ) (a b : List Element) (es after : List Entry) → Private m (is_inner_record inside) k [] a b → Own b es
-      → (o : Option (List Entry)) → own_taken clauses floor es ≡ o → own_left floor o ≡ Some after
+  one_more : (k : ℕ) (a b : List Element) (es after : List Entry) → Each (IsFar own) a → Private m (is_inner_record inside) k [] a b
+      → Own b es → (o : Option (List Entry)) → own_taken clauses floor es ≡ o → own_left floor o ≡ Some after
       → RunsPrivately clauses inside (suc k) a zs after floor
-  one_more k a b es after r o None t e = none-some after e
-  one_more k a b es after r o (Some st) t e =
-      let next = takes b es st o t in
-      let rest = own-settled clauses inside grown zs floor (under_of inside zs floor fl) next.0 (own_part floor st) next.2 in
+  one_more k a b es after far r o None t e = none-some after e
+  one_more k a b es after far r o (Some st) t e =
+      let next = takes b es st (private-ok m (is_inner_record inside) (IsFar own) (IsSoughtFar clauses own) IsAnyRecord
+      (far_closed clauses own) (far_stands clauses own) k [] a b r far) o t in
+      let rest = own-settled clauses inside grown zs floor fl next.0 (own_part floor st) next.2 in
       let one : k + 1 ≡ suc k = omega arith in
       let none : (k + 1) + 0 ≡ suc k = omega arith in
       let two = private-then m (is_inner_record inside) 0 (k + 1) [] [] a next.0 rest.0
@@ -266,22 +259,25 @@ module _ (clauses : List Clause) (inside : Name → Bool) (grown : IsGrown insid
       record {
         left = rest.0;
         private = subst (λ n. Private m (is_inner_record inside) n [] a rest.0) none two;
-        stands = subst
-            (λ l. Own rest.0 l) (some-same _ after e) rest.2;
+        stands = subst (λ l. Own rest.0 l)
+            (some-same _ after e) rest.2;
       }
 
-  pub runs_privately : (k : ℕ) (es after : List Entry) (a : List Element) → Own a es → own_run clauses floor k es ≡ Some after
-      → RunsPrivately clauses inside k a zs after floor
-  runs_privately zero es after a o e =
-      let r = own-settled clauses inside grown zs floor (under_of inside zs floor fl) a es o in
+  pub runs_privately : (k : ℕ) (es after : List Entry) (a : List Element) → Each (IsFar own) a → Own a es → own_run clauses floor k es
+      ≡ Some after → RunsPrivately clauses inside k a zs after floor
+  runs_privately zero es after a far o e =
+      let r = own-settled clauses inside grown zs floor fl a es o in
       record { left = r.0; private = r.1; stands = subst (λ l. Own r.0 l) (some-same _ after e) r.2 }
-  runs_privately (suc k) es after a o e = go (own_run clauses floor k es) e (λ ds f. runs_privately k es ds a o f)
+  runs_privately (suc k) es after a far o e = go (own_run clauses floor k es) e (λ ds f. runs_privately k es ds a far o f)
     where
       go : (d : Option (List Entry)) → own_more clauses floor d ≡ Some after
           → ((ds : List Entry) → d ≡ Some ds → RunsPrivately clauses inside k a zs ds floor)
           → RunsPrivately clauses inside (suc k) a zs after floor
       go None e next = none-some after e
-      go (Some ds) e next = let r = next ds refl in one_more k a r.left ds after r.private r.stands (own_taken clauses floor ds) refl e
+      go (Some ds) e next = let r = next ds refl in one_more k a r.left ds after far r.private r.stands (own_taken clauses floor ds) refl e
 
+-- over a floor that begins with an entry
 pub own_runs : (clauses : List Clause) → OwnRuns clauses
-own_runs clauses inside floor zs grown fl k es after a o e = runs_privately clauses inside grown zs floor fl k es after a o e
+own_runs clauses inside floor zs grown fl k es after a o e =
+    runs_privately clauses inside grown zs floor (record { under = fl.under; entries = fl.entries }) (λ s. false)
+    (λ s f t q. floor-low zs s t fl.first q) k es after a (nothing_far a) o e

@@ -20,7 +20,7 @@ use Rattle.tree_model.specs.SoundTrees.{IsOpen}
 use Rattle.interleaving.proofs.AppendLemmas.{append-assoc, each-append}
 use Rattle.interleaving.proofs.ListChangeLemmas.{credits_add, named_anew}
 use Rattle.interleaving.proofs.FrontSameLemmas.{front_is_same}
-use Rattle.interleaving.proofs.FloorsReadableLemmas.{readable_enough}
+use Rattle.interleaving.proofs.FloorLemmas.{readable_enough}
 use Rattle.interleaving.proofs.ReadableLemmas.{IsReadable, sound_readable, high_present}
 use Rattle.interleaving.proofs.ContextLemmas.{IsAround}
 use Rattle.interleaving.proofs.ClosingSoundLemmas.{IsFree, free-above}

@@ -19,7 +19,7 @@ use Rattle.tree_model.specs.SoundTrees.{IsOpen}
 use Rattle.interleaving.proofs.AppendLemmas.{append-assoc, each-append}
 use Rattle.interleaving.proofs.ListChangeLemmas.{becomes, credits_add}
 use Rattle.interleaving.proofs.SameRunLemmas.{same_run}
-use Rattle.interleaving.proofs.OwnRunsOverLemmas.{runs_privately}
+use Rattle.interleaving.proofs.OwnRunLemmas.{runs_privately}
 use Rattle.interleaving.proofs.ContextLemmas.{IsAround}
 use Rattle.interleaving.proofs.ClosingSoundLemmas.{IsFree}
 use Rattle.interleaving.proofs.SideLemmas.{under_of_blind}
