@@ -148,7 +148,8 @@ collected_reaches t s k i q z place running x = go s.entry refl p.entry.0 (awake
         free p.around h off k v.spent (subst IsSound before z) in
         let mine : IsSound (front_of levels ++ (Credit (v.spent + k) ((findall_on (way_of levels), r.term) ∷ []) ∷ back_of levels)) =
         sound_exchange t.job.clauses (λ s. false) (front_of levels) (Credit (v.spent + k) [] ∷ [])
-        (Credit (v.spent + k) ((findall_on (way_of levels), r.term) ∷ []) ∷ []) (back_of levels) (blind_none t.job.clauses (front_of levels))
+        (Credit (v.spent + k) ((findall_on (way_of levels), r.term) ∷ []) ∷ []) (back_of levels)
+        (blind_none t.job.clauses (front_of levels))
         (tt, tt) (tt, tt) (omega arith) emptied ((gathered, tt), (sound-after (front_of levels) _ emptied).1) in
         let same : v.spent + k ≡ k = omega (arith, unspent) in
         let new : pending_list (plug levels (Closed (record { inferences = k; answers = 0; records = r.term ∷ [] })))

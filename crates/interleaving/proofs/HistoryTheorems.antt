@@ -1,7 +1,7 @@
 -- Prefix and End of every legal history.
 use Rattle.std.proofs.Common.{◌≡◌, ℕ, ◌≤◌, List, ap, ◌∙◌}
 use Rattle.run_model.specs.Programs.Jobs.{Job}
-use Rattle.run_model.specs.Laws.RunLaws.{TextGrows}
+use Rattle.run_model.proofs.RunLemmas.{text_grows}
 use Rattle.run_model.specs.Machine.Runs.{answers_of, inferences_of}
 use Rattle.tree_model.specs.TreeStates.{counts}
 use Rattle.tree_model.specs.Credits.{greatest}
@@ -30,9 +30,9 @@ pub in_step : (job : Job) (budget : ℕ) (below : budget ≤ greatest) (window :
     → IsLegalHistory job budget window es → IsInStep job budget (tree_after job budget window es)
 in_step job budget below window es l = history_in_step job budget below own (answers_move others_move) caught_preserved window es l
 
-pub prefix : ((job : Job) → TextGrows job) → Prefix
-prefix grows job budget window es below l = keeps_prefix job budget below (tree_after job budget window es)
-    (history_in_step job budget below own (answers_move others_move) caught_preserved window es l) (grows job)
+pub prefix : Prefix
+prefix job budget window es below l = keeps_prefix job budget below (tree_after job budget window es)
+    (history_in_step job budget below own (answers_move others_move) caught_preserved window es l) (text_grows job)
 
 pub end : End
 end job budget window es below l =

@@ -6,15 +6,11 @@ ghost use Rattle.tree_model.specs.SoundTrees.{IsSoundTree};
 ghost use Rattle.tree_model.specs.CaughtTrees.{IsCaughtTree};
 ghost use Rattle.tree_model.specs.TreeStates.{TreeState};
 
-use run_model::laws::runs::text_grows;
-
 /// What a legal history has written is a front of the sequential text, and its world is the sequential one at its clock;
 /// this holds of every budget of 64 bits.
 pub fn histories_keep_prefixes()
     ensures { Prefix }
-{
-    text_grows();
-}
+{}
 
 /// A legal history that has ended has the sequential text, ending and counts.
 pub fn histories_end_right()
