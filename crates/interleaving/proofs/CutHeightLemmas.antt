@@ -271,10 +271,10 @@ module _ (t : TreeState) (i : IsSoundTree t) (k : IsCaughtTree t) (running : t.h
       ∙ lead-quiet xs (Plain own named
       ∷ (mid ++ (cut t i k running s o f entry n reach below items part all g same_named same_next clear).under)) quiet in
       let lead_new : lead (ones ++ (placed ++ last)) ≡ inferences ones + 0 = lead-quiet ones (placed ++ last) quiet_ones in
-      let element_count = (number_is t i k running s o f entry n reach below items part all g same_named same_next clear) in
+      let count = (number_is t i k running s o f entry n reach below items part all g same_named same_next clear) in
       let more = lead-grows front ((xs ++ (Plain own named ∷ mid))
       ++ (cut t i k running s o f entry n reach below items part all g same_named same_next clear).under) (ones ++ (placed ++ last))
-      (omega (arith, lead_old, lead_new, element_count)) in
+      (omega (arith, lead_old, lead_new, count)) in
       let all_leads : lead (pending_list t.root) ≤ lead (pending_list (cut_at s n (cut_entry ∷ es) t).root) =
       (let x = ap lead old in let y = ap lead (new ∙ append-assoc front ones (placed ++ last)) in omega (arith, x, y, more)) in
       record {

@@ -110,26 +110,26 @@ many_naming levels next sizes e d es p =
     (none_inside (NotInside (length levels) sizes) (length levels) sizes (λ h w. w))
     (fits_fill (length levels) cuts sizes all p.fit)
 
-pub record OccurrencesPlaced (levels : List Level) (next : ℕ) (sizes : List ℕ) (es : List Entry) : Type 0 where
+pub record PlacedIsErased (levels : List Level) (next : ℕ) (sizes : List ℕ) (es : List Entry) : Type 0 where
   pub erases : erased (placed_list levels next sizes es ++ below_named levels) ≡ height_entries (es ++ floor_of levels)
   pub reads : IsReadable (below_named levels) → IsReadable (placed_list levels next sizes es ++ below_named levels)
 
 by_naming : (Whole : ℕ → Type 0) (v : Level) (up : List Level) (next : ℕ) (sizes : List ℕ) (es : List Entry) → IsPath (way_of (v ∷ up)) →
     IsNaming Whole (placed_scope next sizes (v ∷ up)) next sizes (way_of (v ∷ up)) (below_named (v ∷ up)) es
-    → OccurrencesPlaced (v ∷ up) next sizes es
+    → PlacedIsErased (v ∷ up) next sizes es
 by_naming Whole v up next sizes es p n = record {
   erases = placed_erased Whole (placed_scope next sizes (v ∷ up)) next sizes (step_of v) (way_of up) (below_named (v ∷ up)) es n
       ∙ (ap (λ l. height_entries es ++ l) (below_erased (v ∷ up) p) ∙ sym (height-append es (floor_of (v ∷ up))));
   reads = placed_read Whole (placed_scope next sizes (v ∷ up)) next sizes (step_of v) (way_of up) (below_named (v ∷ up)) es n;
 }
 
-pub occurrences_placed : (v : Level) (up : List Level) (next : ℕ) (sizes : List ℕ) (es : List Entry) → IsPublished (v ∷ up) next sizes es
-    → OccurrencesPlaced (v ∷ up) next sizes es
-occurrences_placed v up next sizes [] p = absurd (true_false (sym p.some))
-occurrences_placed v up next sizes (e ∷ []) p =
+pub placed_is_erased : (v : Level) (up : List Level) (next : ℕ) (sizes : List ℕ) (es : List Entry) → IsPublished (v ∷ up) next sizes es
+    → PlacedIsErased (v ∷ up) next sizes es
+placed_is_erased v up next sizes [] p = absurd (true_false (sym p.some))
+placed_is_erased v up next sizes (e ∷ []) p =
     let one = one_size sizes p.fit in
-    subst (λ sz. OccurrencesPlaced (v ∷ up) next sz (e ∷ [])) (sym one)
+    subst (λ sz. PlacedIsErased (v ∷ up) next sz (e ∷ [])) (sym one)
     (by_naming (λ h. Unit {0}) v up next (1 ∷ []) (e ∷ []) p.path
     (single_naming (v ∷ up) next e (subst (λ sz. IsPublished (v ∷ up) next sz (e ∷ [])) one p)))
-occurrences_placed v up next sizes (e ∷ d ∷ es) p = by_naming (NotInside (length (v ∷ up)) sizes) v up next sizes (e ∷ d ∷ es) p.path
+placed_is_erased v up next sizes (e ∷ d ∷ es) p = by_naming (NotInside (length (v ∷ up)) sizes) v up next sizes (e ∷ d ∷ es) p.path
     (many_naming (v ∷ up) next sizes e d es p)

@@ -26,7 +26,7 @@ use Rattle.interleaving.proofs.ReadableLemmas.{IsReadable, sound_readable}
 use Rattle.interleaving.proofs.ContextLemmas.{IsAround}
 use Rattle.interleaving.proofs.ClosingSoundLemmas.{IsFree, free-above}
 use Rattle.interleaving.proofs.NamedFloorLemmas.{below_named, floor_named, first_low}
-use Rattle.interleaving.proofs.PlacedRunLemmas.{placed_list, IsPublished, occurrences_placed}
+use Rattle.interleaving.proofs.PlacedRunLemmas.{placed_list, IsPublished, placed_is_erased}
 use Rattle.interleaving.proofs.BaredLemmas.{may_stay, made_at, inner_new}
 use Rattle.interleaving.proofs.PublishedBareLemmas.{right_of, own_plain, list_before, list_after, bared}
 use Rattle.interleaving.proofs.ToldNameLemmas.{respects_floor, respects_below}
@@ -48,14 +48,14 @@ module _ (clauses : List Clause) (v : Level) (up : List Level) (next size : ℕ)
       let c = placed_list (v ∷ up) next (size ∷ sizes) es in
       let own : Name = length v.left ∷ v.number ∷ [] in
       let end = EndOf (length v.left ∷ v.number ∷ []) ∷ [] in
-      let occurrences = occurrences_placed v up next (size ∷ sizes) es p in
+      let list_is = placed_is_erased v up next (size ∷ sizes) es p in
       let before = append-assoc left end (floor_named (v ∷ up)) in
       let after = append-assoc c end (floor_named (v ∷ up)) in
       let whole = readable_enough (floor_named (v ∷ up)) (right_of (v ∷ up)) (left ++ end) (c ++ end) (first_low (v ∷ up))
       (respects_floor next v up free a (respects_below next up (free-above next v up free) a.1))
       (subst IsReadable (sym before) (sound_readable (left ++ below_named (v ∷ up)) s.sound))
-      (subst IsReadable (sym after) (occurrences.reads (sound_readable (below_named (v ∷ up)) low.1)))
-      (ap erased before ∙ (s.entries ∙ (sym occurrences.erases ∙ ap erased (sym after)))) in
+      (subst IsReadable (sym after) (list_is.reads (sound_readable (below_named (v ∷ up)) low.1)))
+      (ap erased before ∙ (s.entries ∙ (sym list_is.erases ∙ ap erased (sym after)))) in
       ap erased (sym (append-assoc left end (right_of (v ∷ up)))) ∙ (whole ∙ ap erased (append-assoc c end (right_of (v ∷ up))))
 
   same_whole : (left : List Element) → IsSound (own_plain v up f ∷ below_named (v ∷ up)) → NamesEntries (made_at (0 ∷ next ∷ []) next) left

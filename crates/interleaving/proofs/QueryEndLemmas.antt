@@ -165,7 +165,7 @@ module _ (t : TreeState) (w : ℕ) (a : Place) (s : Spot) (b : Option Term) (e :
         let quiet = front_quiet levels first.clear in
         let whole : lead (front ++ (Credit 1 [] ∷ back)) ≡ inferences front + (1 + lead back) = lead-quiet front (Credit 1 [] ∷ back)
         quiet in
-        let element_count : lead (pending_list t.root) ≡ inferences front + s.level.spent = first.leads in
+        let count : lead (pending_list t.root) ≡ inferences front + s.level.spent = first.leads in
         let zero_back : lead back ≡ 0 = ends_lead back ends in
         let none_spent = unspent in
         let is_base = ap lead base in
@@ -185,15 +185,15 @@ module _ (t : TreeState) (w : ℕ) (a : Place) (s : Spot) (b : Option Term) (e :
           follows = record {
             alike = λ n w x y. ap seen (credits_over clauses (front ++ (Credit 1 [] ∷ back)) n w
                 (quiet-append front (Credit 1 [] ∷ back) quiet (ends_quiet back ends))
-                (omega (arith, x, whole, element_count, zero_back, none_spent))
+                (omega (arith, x, whole, count, zero_back, none_spent))
                 ∙ sym (credits_over clauses (pending_list new.root) n w settled.quiet
-                (omega (arith, x, less, whole, element_count, zero_back, none_spent, is_base))));
+                (omega (arith, x, less, whole, count, zero_back, none_spent, is_base))));
             lead = λ x b l. settled.enough x b (omega (arith, is_base, l));
           };
           alike = λ n. ap (λ l. seen (run m n (shared_of answers new) l))
               (sym (ap (free_steps m []) (ends_given clauses (records front) back ends) ∙ ends_settle clauses back ends));
           running = running;
-        }) (λ l. omega (arith, less, whole, element_count, zero_back, is_base))
+        }) (λ l. omega (arith, less, whole, count, zero_back, is_base))
 
     -- the next query
     next_moves : (q : Query) (qs : List Query) → t.queries ≡ q ∷ qs → IsSoundTree (ended_tree (q ∷ qs))
