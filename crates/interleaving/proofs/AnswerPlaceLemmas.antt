@@ -6,7 +6,7 @@ use Rattle.run_model.specs.Programs.Jobs.{Query}
 use Rattle.au_model.specs.Terms.Copies.{copied}
 use Rattle.run_model.specs.Machine.Entries.{Entry, CatchEntry, EndEntry}
 use Rattle.tree_model.specs.Credits.{Credit, greatest, credit_of}
-use Rattle.tree_model.specs.Nodes.{ChoiceNode, Hold, Ready, Numbered, Status, Pending, Inner, Closed, single, alternatives_of}
+use Rattle.tree_model.specs.Nodes.{ChoiceNode, Hold, Ready, Numbered, Status, Pending, Inner, Closed, single, entry_alternatives}
 use Rattle.tree_model.specs.Levels.{Level, plug, Spot, levels_of}
 use Rattle.tree_model.specs.Floors.{floor_of, node_of, with_nodes, query_node}
 use Rattle.tree_model.specs.Pruning.{pruned}
@@ -29,7 +29,7 @@ use Rattle.interleaving.proofs.AnswerOrderLemmas.{round_same}
 use Rattle.interleaving.proofs.AnswerClosingLemmas.{IsOrdered, closes_order, ball_closes_order, spent_left, pruned_left}
 
 -- entries that are give no answers
-pub alternatives_none : (hold : Hold) (es : List Entry) → answers_among (alternatives_of hold es) ≡ 0
+pub alternatives_none : (hold : Hold) (es : List Entry) → answers_among (entry_alternatives hold es) ≡ 0
 alternatives_none hold [] = refl
 alternatives_none hold (e ∷ es) = let h = alternatives_none hold es in omega (arith, h)
 
@@ -86,7 +86,7 @@ module _ (t : TreeState) (s : Spot) (around : IsAround (levels_of s) IsOpen)
   pub left_preserved : (es : List Entry) → IsOrdered (left_at s es t).root (answers_in (plug (levels_of s) (Pending s.hold s.entry)))
   left_preserved [] = closed_preserved (credit_of 1) refl
   left_preserved (e ∷ es) = put_preserved (spending 1 (levels_of s))
-      (Inner (Numbered t.next ChoiceNode (alternatives_of Ready (map (with_nodes (node_of (levels_of s))) (e ∷ es)))))
+      (Inner (Numbered t.next ChoiceNode (entry_alternatives Ready (map (with_nodes (node_of (levels_of s))) (e ∷ es)))))
       (spent_left 1 (levels_of s) rights) (alternatives_none Ready (map (with_nodes (node_of (levels_of s))) (e ∷ es)))
 
   pub cut_preserved : (n : ℕ) (e : Entry) (es : List Entry)

@@ -9,7 +9,7 @@ use Rattle.run_model.specs.Goals.Outcomes.{Solution}
 use Rattle.run_model.specs.Machine.Items.{Item, GoalItem, CatchMark, CollectMark, RemovalItem, Continuation, goals_at, before, with_next}
 use Rattle.run_model.specs.Machine.Items.{without_marks}
 use Rattle.run_model.specs.Machine.Entries.{Entry, unified, solution_entry, solution_entries}
-use Rattle.tree_model.specs.Nodes.{ChoiceNode, Ready, alternatives_of}
+use Rattle.tree_model.specs.Nodes.{ChoiceNode, Ready, entry_alternatives}
 use Rattle.tree_model.specs.Levels.{Level}
 use Rattle.tree_model.specs.Floors.{with_nodes}
 use Rattle.tree_model.specs.Orders.{levels_below}
@@ -78,12 +78,12 @@ solutions_caught sleeps next node n f (s ∷ ss) h =
     (marks_goals (with_catch next false sleeps) node n s.goals f.items h))
     (solutions_caught sleeps next node n f ss h)
 
-alternatives_right : (ds : List Entry) → catch_right (alternatives_of Ready ds) ≡ false
+alternatives_right : (ds : List Entry) → catch_right (entry_alternatives Ready ds) ≡ false
 alternatives_right [] = refl
 alternatives_right (d ∷ ds) = refl
 
 pub alternatives_caught : (sleeps : ℕ → Bool) (under : Bool) (n i : ℕ) (ds : List Entry) → Each (NewCaught sleeps n) ds
-    → AreCaught sleeps under n ChoiceNode i (alternatives_of Ready ds)
+    → AreCaught sleeps under n ChoiceNode i (entry_alternatives Ready ds)
 alternatives_caught sleeps under n i [] h = tt
 alternatives_caught sleeps under n i (d ∷ ds) h = (
   subst (λ b. EntryCaught (with_catch n b sleeps) d) (sym (alternatives_right ds)) h.0.0,
@@ -92,19 +92,19 @@ alternatives_caught sleeps under n i (d ∷ ds) h = (
 )
 
 pub alternatives_no_query : (sleeps : ℕ → Bool) (n : ℕ) (ds : List Entry) → Each (NewCaught sleeps n) ds
-    → HaveNoQuery (alternatives_of Ready ds)
+    → HaveNoQuery (entry_alternatives Ready ds)
 alternatives_no_query sleeps n [] h = tt
 alternatives_no_query sleeps n (d ∷ ds) h = (h.0.1, alternatives_no_query sleeps n ds h.1)
 
-pub alternatives_no_node : (ds : List Entry) → AreNoQueryNodes (alternatives_of Ready ds)
+pub alternatives_no_node : (ds : List Entry) → AreNoQueryNodes (entry_alternatives Ready ds)
 alternatives_no_node [] = tt
 alternatives_no_node (d ∷ ds) = (tt, alternatives_no_node ds)
 
-pub alternatives_last : (sleeps : ℕ → Bool) (n : ℕ) (ds : List Entry) → Each (NewCaught sleeps n) ds → AreLast (alternatives_of Ready ds)
+pub alternatives_last : (sleeps : ℕ → Bool) (n : ℕ) (ds : List Entry) → Each (NewCaught sleeps n) ds → AreLast (entry_alternatives Ready ds)
 alternatives_last sleeps n [] h = tt
 alternatives_last sleeps n (d ∷ []) h = tt
 alternatives_last sleeps n (d ∷ c ∷ ds) h = (h.0.1, inr (alternatives_no_node (c ∷ ds)), alternatives_last sleeps n (c ∷ ds) h.1)
 
-pub alternatives_unspent : (ds : List Entry) → AreUnspent (alternatives_of Ready ds)
+pub alternatives_unspent : (ds : List Entry) → AreUnspent (entry_alternatives Ready ds)
 alternatives_unspent [] = tt
 alternatives_unspent (d ∷ ds) = (refl, alternatives_unspent ds)

@@ -15,7 +15,7 @@ use Rattle.run_model.specs.Machine.Items.{without_marks}
 use Rattle.run_model.specs.Machine.Entries.{Entry, PlainEntry, CatchEntry, FindallEntry, EndEntry}
 use Rattle.tree_model.specs.Credits.{Credit, no_credit, credit_of}
 use Rattle.tree_model.specs.Nodes.{CutGate, BallGate, ChoiceNode, Ready, Node, Numbered, Alternatives, alternative, Status, Inner, Closed}
-use Rattle.tree_model.specs.Nodes.{single, alternatives_of}
+use Rattle.tree_model.specs.Nodes.{single, entry_alternatives}
 use Rattle.tree_model.specs.Levels.{Level, plug, Spot, levels_of}
 use Rattle.tree_model.specs.Floors.{height_of, floor_of, node_of, with_heights, with_nodes}
 use Rattle.tree_model.specs.Gates.{ball_scope, is_caught_above, ball_gate, control_gate, goal_gate, item_gate, gate_on}
@@ -72,9 +72,9 @@ module _ (t : TreeState) (s : Spot) (h : IsAt t s) (old : Status)
       }
 
   pub put_entries : (k : ℕ) (ds : List Entry) → Each (NewCaught (dormant_on (levels_of s)) t.next) ds
-      → IsCaughtRoot (plug (spending k (levels_of s)) (Inner (Numbered t.next ChoiceNode (alternatives_of Ready ds))))
+      → IsCaughtRoot (plug (spending k (levels_of s)) (Inner (Numbered t.next ChoiceNode (entry_alternatives Ready ds))))
   put_entries k ds c =
-      put_node k (Numbered t.next ChoiceNode (alternatives_of Ready ds))
+      put_node k (Numbered t.next ChoiceNode (entry_alternatives Ready ds))
       (λ z. alternatives_caught (dormant_on (levels_of s)) (under_of (levels_of s)) t.next 0 ds c)
       (record {
         no_query = λ z. (refl, alternatives_no_query (dormant_on (levels_of s)) t.next ds c);

@@ -7,7 +7,7 @@ use Rattle.run_model.specs.Goals.Worlds.{World}
 use Rattle.run_model.specs.Machine.Items.{Continuation}
 use Rattle.run_model.specs.Machine.Entries.{Entry, PlainEntry, CatchEntry, FindallEntry, EndEntry}
 use Rattle.tree_model.specs.Credits.{credit_of}
-use Rattle.tree_model.specs.Nodes.{ChoiceNode, Ready, Numbered, Pending, Inner, Closed, alternatives_of}
+use Rattle.tree_model.specs.Nodes.{ChoiceNode, Ready, Numbered, Pending, Inner, Closed, entry_alternatives}
 use Rattle.tree_model.specs.Levels.{plug, Spot, levels_of}
 use Rattle.tree_model.specs.Floors.{node_of, with_nodes}
 use Rattle.tree_model.specs.Events.{Event}
@@ -53,7 +53,7 @@ use Rattle.interleaving.proofs.FrontStepLemmas.{bare_sound, front_taken, gate_mo
 
 -- records change no entry that is ready
 among_fixed : (way : Way) (n : ℕ) (i : ℕ) (node : ℕ → ℕ) (es : List Entry) → ArePlain es
-    → Each IsFixed (list_among way n ChoiceNode i (alternatives_of Ready (map (with_nodes node) es)))
+    → Each IsFixed (list_among way n ChoiceNode i (entry_alternatives Ready (map (with_nodes node) es)))
 among_fixed way n i node [] h = tt
 among_fixed way n i node (PlainEntry f ∷ es) h = (tt, (tt, (tt, among_fixed way n (suc i) node es h)))
 among_fixed way n i node (CatchEntry c r f ∷ es) h = absurd h
@@ -135,9 +135,9 @@ module _ (t : TreeState) (s : Spot) (f : Continuation ℕ) (after : World) (e : 
       let levels = levels_of s in
       let clauses = t.job.clauses in
       let rs = records (front_of levels) in
-      let inner = list_among way t.next ChoiceNode 0 (alternatives_of Ready (map (with_nodes (node_of levels)) (x ∷ es))) in
+      let inner = list_among way t.next ChoiceNode 0 (entry_alternatives Ready (map (with_nodes (node_of levels)) (x ∷ es))) in
       let list : pending_list new.root ≡ front_of levels ++ (Credit (s.level.spent + 1) [] ∷ (inner ++ back_of levels)) = around
-      (spending 1 levels) (Inner (Numbered t.next ChoiceNode (alternatives_of Ready (map (with_nodes (node_of levels)) (x ∷ es))))) in
+      (spending 1 levels) (Inner (Numbered t.next ChoiceNode (entry_alternatives Ready (map (with_nodes (node_of levels)) (x ∷ es))))) in
       let fixed : map (gives (scoped clauses) rs) (inner ++ back_of levels) ≡ inner ++ given = map-parts clauses rs inner
       (back_of levels) ∙ ap (λ l. l ++ given)
       (map-fixed clauses rs inner (among_fixed way t.next 0 (node_of levels) (x ∷ es) plain)) in
@@ -152,7 +152,7 @@ module _ (t : TreeState) (s : Spot) (f : Continuation ℕ) (after : World) (e : 
       (same ∙ ap (λ l. erased (l ++ given)) (sym names)) in
       let p = placed_at t s i open_spot in
       let still = round_end (spending 1 levels)
-      (Inner (Numbered t.next ChoiceNode (alternatives_of Ready (map (with_nodes (node_of levels)) (x ∷ es)))))
+      (Inner (Numbered t.next ChoiceNode (entry_alternatives Ready (map (with_nodes (node_of levels)) (x ∷ es)))))
       (back_end levels p.around asked) in
       gate_moves t new s answers i k running first (record {
         element = Plain own (named_continuation way f);

@@ -5,7 +5,7 @@ use Rattle.std.specs.Prelude.{◌&&◌}
 use Rattle.au_model.specs.Terms.Each.{Each}
 use Rattle.run_model.specs.Machine.Entries.{Entry, PlainEntry, CatchEntry, FindallEntry, EndEntry}
 use Rattle.tree_model.specs.Nodes.{Kind, ChoiceNode, CatchNode, FindallNode, QueryNode, Ready, Numbered, Alternatives, none, alternative}
-use Rattle.tree_model.specs.Nodes.{Status, Inner, alternatives_of}
+use Rattle.tree_model.specs.Nodes.{Status, Inner, entry_alternatives}
 use Rattle.tree_model.specs.Levels.{Level, plug}
 use Rattle.tree_model.specs.Pruning.{emptied, pruned}
 use Rattle.tree_model.specs.Effects.{spending}
@@ -58,44 +58,44 @@ ready_awake way (CatchEntry c r f) h = h
 ready_awake way (FindallEntry results l f) h = h
 
 pub alternatives_sound : (way : Way) (n i : ℕ) (es : List Entry) → is_on way n ≡ false → Each (IsReadyOn way) es
-    → AreSound way n ChoiceNode i (alternatives_of Ready es)
+    → AreSound way n ChoiceNode i (entry_alternatives Ready es)
 alternatives_sound way n i [] o h = tt
 alternatives_sound way n i (e ∷ es) o h = ((ready_below way n i e o h.0, ready_awake way e h.0), alternatives_sound way n (suc i) es o h.1)
 
-pub alternatives_shape : (es : List Entry) → none_dormant (profiles (alternatives_of Ready es)) ≡ true
+pub alternatives_shape : (es : List Entry) → none_dormant (profiles (entry_alternatives Ready es)) ≡ true
 alternatives_shape [] = refl
 alternatives_shape (e ∷ es) = alternatives_shape es
 
-alternatives_count : (m : ℕ) (es : List Entry) → count_among m (alternatives_of Ready es) ≡ 0
+alternatives_count : (m : ℕ) (es : List Entry) → count_among m (entry_alternatives Ready es) ≡ 0
 alternatives_count m [] = refl
 alternatives_count m (e ∷ es) = let h = alternatives_count m es in omega (arith, h)
 
 -- a node of ready entries below a place
 pub new_node_sound : (next : ℕ) (levels : List Level) (e : Entry) (ds : List Entry) → let es : List Entry = e ∷ ds in IsAround levels
     IsOpen → IsFree next levels → Each (IsReadyOn (way_of levels)) es →
-    IsSoundGrown (record { root = plug levels (Inner (Numbered next ChoiceNode (alternatives_of Ready es))); next = suc next })
+    IsSoundGrown (record { root = plug levels (Inner (Numbered next ChoiceNode (entry_alternatives Ready es))); next = suc next })
 new_node_sound next levels e ds h f k =
     let es : List Entry = e ∷ ds in
     let off : is_on (way_of levels) next ≡ false = off_way next levels (f.fresh next (omega arith)) in
-    plug_sound (suc next) levels (Inner (Numbered next ChoiceNode (alternatives_of Ready es))) refl h
+    plug_sound (suc next) levels (Inner (Numbered next ChoiceNode (entry_alternatives Ready es))) refl h
     (off, alternatives_shape es, live_first (way_of levels), alternatives_sound (way_of levels) next 0 es off k)
     (λ m. few m (next == m) refl) (λ m l. zero_at m l)
   where
     es : List Entry
     es = e ∷ ds
 
-    live_first : (way : Way) → is_live way (IsOpen ∷ profiles (alternatives_of Ready ds)) ≡ true
+    live_first : (way : Way) → is_live way (IsOpen ∷ profiles (entry_alternatives Ready ds)) ≡ true
     live_first [] = refl
     live_first (a ∷ way) = refl
 
-    few : (m : ℕ) (b : Bool) → (next == m) ≡ b → count_around m levels + (one_if (next == m) + count_among m (alternatives_of Ready es)) ≤ 1
+    few : (m : ℕ) (b : Bool) → (next == m) ≡ b → count_around m levels + (one_if (next == m) + count_among m (entry_alternatives Ready es)) ≤ 1
     few m true q =
         let same : next ≡ m = grind arith in
         let one : one_if (next == m) ≡ 1 = ap one_if q in
         omega (arith, one, alternatives_count m es, f.fresh m (omega (arith, same)))
     few m false q = let zero_new : one_if (next == m) ≡ 0 = ap one_if q in omega (arith, zero_new, alternatives_count m es, f.distinct m)
 
-    zero_at : (m : ℕ) → suc next ≤ m → count_around m levels + (one_if (next == m) + count_among m (alternatives_of Ready es)) ≡ 0
+    zero_at : (m : ℕ) → suc next ≤ m → count_around m levels + (one_if (next == m) + count_among m (entry_alternatives Ready es)) ≡ 0
     zero_at m l = omega (arith, one_if-same next m l, alternatives_count m es, f.fresh m (omega arith))
 
 -- what was spent is none of it

@@ -5,7 +5,7 @@ use Rattle.std.specs.Prelude.{◌&&◌, not, nat_le, is_none}
 use Rattle.run_model.specs.Machine.Items.{Item, GoalItem, CatchMark, CollectMark, RemovalItem}
 use Rattle.run_model.specs.Machine.Entries.{Entry, PlainEntry, CatchEntry, FindallEntry, EndEntry}
 use Rattle.run_model.specs.Programs.Jobs.{Query, Job}
-use Rattle.tree_model.specs.Nodes.{Hold, Ready, TakenBy, Waiting, Dormant, ChoiceNode, Numbered, Status, Pending, Inner, alternatives_of}
+use Rattle.tree_model.specs.Nodes.{Hold, Ready, TakenBy, Waiting, Dormant, ChoiceNode, Numbered, Status, Pending, Inner, entry_alternatives}
 use Rattle.tree_model.specs.Nodes.{nodes_below}
 use Rattle.tree_model.specs.Levels.{Level, plug, Place, Spot, levels_of}
 use Rattle.tree_model.specs.Floors.{node_of, with_nodes, with_heights}
@@ -99,7 +99,7 @@ single_placed t s k e h u r =
     (heights_to_nodes name (λ n. true) levels (placed_floor t.next (1 ∷ []) levels)) path u (any_seen e) r.awake r.over.0 in
     let g : IsSoundGrown (record {
       root = plug (spending k levels)
-          (Inner (Numbered t.next ChoiceNode (alternatives_of Ready (with_nodes name e ∷ []))));
+          (Inner (Numbered t.next ChoiceNode (entry_alternatives Ready (with_nodes name e ∷ []))));
       next = suc t.next;
     }) =
     new_node_sound t.next (spending k levels) (with_nodes name e) [] (spending_around k levels h.placed.around)
@@ -107,7 +107,7 @@ single_placed t s k e h u r =
     let one : suc t.next ≡ t.next + 1 = omega arith in
     grown_tree (run_placed s k (1 ∷ []) (Some (e ∷ [])) t)
     (subst (λ n. IsSoundGrown (record
-    { root = plug (spending k levels) (Inner (Numbered t.next ChoiceNode (alternatives_of Ready (with_nodes name e ∷ [])))); next = n }))
+    { root = plug (spending k levels) (Inner (Numbered t.next ChoiceNode (entry_alternatives Ready (with_nodes name e ∷ [])))); next = n }))
     one g)
 
 many_placed : (t : TreeState) (s : Spot) (k : ℕ) (sizes : List ℕ) (e d : Entry) (es : List Entry) → IsAt t s

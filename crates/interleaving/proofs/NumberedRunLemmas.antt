@@ -17,7 +17,7 @@ use Rattle.run_model.proofs.OutcomeBoundLemmas.{outcome-below, world-below}
 use Rattle.run_model.proofs.NumberingLemmas.{solutions-numbered, landing-numbered, reply-numbered, form-numbered, findall-numbered}
 use Rattle.run_model.proofs.NumberingLemmas.{collected-numbered, marks-numbered}
 use Rattle.tree_model.specs.Nodes.{Gate, Hold, Ready, TakenBy, Waiting, Dormant, Alternatives, none, alternative, Pending, Inner, Closed}
-use Rattle.tree_model.specs.Nodes.{alternatives_of}
+use Rattle.tree_model.specs.Nodes.{entry_alternatives}
 use Rattle.tree_model.specs.Levels.{Level}
 use Rattle.tree_model.specs.Floors.{renamed_item, renamed_continuation, renamed_entry, with_nodes, right_entry, floor_of}
 use Rattle.tree_model.specs.Gates.{gate_on}
@@ -146,7 +146,7 @@ private_numbered clauses levels e (suc k) v h = more_numbered clauses levels (pr
     (private_numbered clauses levels e k v h)
 
 -- its entries as nodes
-pub alternatives_numbered : (hold : Hold) (es : List Entry) → AreEntriesNumbered es → AreNumbered (alternatives_of hold es)
+pub alternatives_numbered : (hold : Hold) (es : List Entry) → AreEntriesNumbered es → AreNumbered (entry_alternatives hold es)
 alternatives_numbered hold [] h = tt
 alternatives_numbered hold (e ∷ es) h = (h.0, alternatives_numbered hold es h.1)
 

@@ -5,7 +5,7 @@ use Rattle.run_model.specs.Machine.Entries.{Entry}
 use Rattle.run_model.specs.Programs.Jobs.{Query}
 use Rattle.run_model.specs.Goals.Worlds.{World}
 use Rattle.tree_model.specs.Credits.{Credit, credit_of}
-use Rattle.tree_model.specs.Nodes.{ChoiceNode, Ready, Numbered, Status, Inner, single, alternatives_of}
+use Rattle.tree_model.specs.Nodes.{ChoiceNode, Ready, Numbered, Status, Inner, single, entry_alternatives}
 use Rattle.tree_model.specs.Levels.{Level, plug, Place, Spot, levels_of, place_of_spot}
 use Rattle.tree_model.specs.Gates.{ball_scope}
 use Rattle.tree_model.specs.Pruning.{Task, pruned, tasks_pruned}
@@ -72,7 +72,7 @@ module _ (G : Place → Option Handed) (t : TreeState) (s : Spot) (tr : Handed �
   left_moved [] w = closed_moved (credit_of 1) w
   left_moved (e ∷ es) w =
       below_moved (left_at s (e ∷ es) (record t { world = w })) (spending 1 (levels_of s))
-      (Inner (Numbered t.next ChoiceNode (alternatives_of Ready (map (with_nodes (node_of (levels_of s))) (e ∷ es))))) [] refl
+      (Inner (Numbered t.next ChoiceNode (entry_alternatives Ready (map (with_nodes (node_of (levels_of s))) (e ∷ es))))) [] refl
       (append-none t.lost) (omega arith) round
       (new_agrees (moved_at G (place_of_spot s) tr) t.next fresh Ready refl t.next 0 (map (with_nodes (node_of (levels_of s))) (e ∷ es))
       (omega arith)) tt (λ a. omega arith)

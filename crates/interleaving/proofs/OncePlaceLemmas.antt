@@ -3,7 +3,7 @@ use Rattle.std.proofs.Common.{◌≡◌, ◌≢◌, ℕ, suc, ◌-◌, ◌≤◌
 use Rattle.std.proofs.Common.{Option, Some, None, refl, sym, ap, ◌∙◌, arith}
 use Rattle.run_model.specs.Machine.Entries.{Entry, PlainEntry, CatchEntry, FindallEntry, EndEntry}
 use Rattle.tree_model.specs.Credits.{Credit, no_credit}
-use Rattle.tree_model.specs.Nodes.{Kind, ChoiceNode, CatchNode, FindallNode, QueryNode, Hold, Pending, Closed, alternatives_of}
+use Rattle.tree_model.specs.Nodes.{Kind, ChoiceNode, CatchNode, FindallNode, QueryNode, Hold, Pending, Closed, entry_alternatives}
 use Rattle.tree_model.specs.Levels.{Level, plug, Place, same_place, Spot, levels_of, place_of_spot}
 use Rattle.tree_model.specs.Closing.{Grown, guarded, with_right, all_closed, folds, wakes, goal_side_closes, closes}
 use Rattle.tree_model.specs.Pruning.{Task, left_after, ball_closes}
@@ -85,12 +85,12 @@ append-none (x ∷ xs) = ap (λ l. x ∷ l) (append-none xs)
 
 -- entries that are new
 pub new_agrees : (F : Place → Option Handed) (next : ℕ) → NewIn F next → (hold : Hold) → handed hold ≡ Never → (n i : ℕ) (es : List Entry)
-    → next ≤ n → AgreesAll F n i (alternatives_of hold es)
+    → next ≤ n → AgreesAll F n i (entry_alternatives hold es)
 new_agrees F next w hold q n i [] l = tt
 new_agrees F next w hold q n i (e ∷ es) l = (w (at n i) l ∙ ap (λ h. Some h) (sym q), new_agrees F next w hold q n (suc i) es l)
 
 pub new_occurs : (a : Place) (hold : Hold) (n i : ℕ) (es : List Entry) → suc a.node ≤ n
-    → occurrences_all a n i (alternatives_of hold es) ≡ 0
+    → occurrences_all a n i (entry_alternatives hold es) ≡ 0
 new_occurs a hold n i [] l = refl
 new_occurs a hold n i (e ∷ es) l = omega (arith, one_place a n i l, new_occurs a hold n (suc i) es l)
 

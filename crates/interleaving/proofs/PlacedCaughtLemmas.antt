@@ -7,7 +7,7 @@ use Rattle.au_model.specs.Terms.Each.{Each}
 use Rattle.run_model.specs.Machine.Items.{Item, GoalItem, CatchMark, CollectMark, RemovalItem}
 use Rattle.run_model.specs.Machine.Entries.{Entry, PlainEntry, CatchEntry, FindallEntry, EndEntry}
 use Rattle.tree_model.specs.Nodes.{Kind, Hold, Ready, TakenBy, Waiting, Dormant, Alternatives, none, alternative, Status, Pending, Inner}
-use Rattle.tree_model.specs.Nodes.{Closed, alternatives_of}
+use Rattle.tree_model.specs.Nodes.{Closed, entry_alternatives}
 use Rattle.tree_model.specs.Levels.{Level}
 use Rattle.tree_model.specs.Floors.{node_of, with_nodes, right_entry, with_heights, floor_of}
 use Rattle.tree_model.specs.Shapes.{further, is_guard, is_alone, fits_nodes, holder, guard_kind, guard_hold, further_alternatives}
@@ -148,10 +148,10 @@ module _ (name : ℕ → ℕ) (next : ℕ) (sleeps : ℕ → Bool) (low : List E
       apart true e l = let same : next ≡ name (suc h) = grind arith in let no_way : ⊥ = omega (arith, same, l) in absurd no_way
 
   further_caught : (under : Bool) (kind : Kind) (hold : Hold) (i : ℕ) (olds : List Entry) → TailsPlain low olds → AreMarked low olds
-      → AreCaught sleeps under next kind i (alternatives_of hold (map (with_nodes name) olds))
+      → AreCaught sleeps under next kind i (entry_alternatives hold (map (with_nodes name) olds))
   further_caught under kind hold i [] t m = tt
   further_caught under kind hold i (o ∷ os) t m =
-      let b = catch_right (alternatives_of hold (map (with_nodes name) os)) in (
+      let b = catch_right (entry_alternatives hold (map (with_nodes name) os)) in (
         entry_caught name (with_catch next b sleeps) (os ++ low) o (λ h k. lower b h (t.0 h k)) m.0,
         further_caught under kind hold (suc i)
             os t.1 m.1,
@@ -215,11 +215,11 @@ alone_tails low olds h = pick (list_any is_guard olds) refl
     pick true e = single olds (sym (ap (λ b. not b || (length olds == 1)) e) ∙ h)
 
 further_no_query : (name : ℕ → ℕ) (hold : Hold) (olds : List Entry) → Each IsNoEnd olds
-    → HaveNoQuery (alternatives_of hold (map (with_nodes name) olds))
+    → HaveNoQuery (entry_alternatives hold (map (with_nodes name) olds))
 further_no_query name hold [] h = tt
 further_no_query name hold (o ∷ os) h = (named_no_end name o h.0, further_no_query name hold os h.1)
 
-further_unspent : (hold : Hold) (olds : List Entry) → AreUnspent (alternatives_of hold olds)
+further_unspent : (hold : Hold) (olds : List Entry) → AreUnspent (entry_alternatives hold olds)
 further_unspent hold [] = tt
 further_unspent hold (o ∷ os) = (refl, further_unspent hold os)
 

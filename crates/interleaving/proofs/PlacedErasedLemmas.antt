@@ -6,7 +6,7 @@ use Rattle.run_model.specs.Machine.Entries.{Entry}
 use Rattle.tree_model.specs.Elements.{Element, EndOf}
 use Rattle.interleaving.specs.HeightMachine.{height_entries}
 use Rattle.interleaving.specs.Erased.{element_count, height, erased}
-use Rattle.tree_model.specs.Nodes.{Kind, Status, alternatives_of}
+use Rattle.tree_model.specs.Nodes.{Kind, Status, entry_alternatives}
 use Rattle.tree_model.specs.Floors.{with_nodes}
 use Rattle.tree_model.specs.Shapes.{further, holder, guard_kind, guard_hold, placed_status}
 use Rattle.tree_model.specs.PendingLists.{Step, Way, scope_on, list_among, list_below}
@@ -49,7 +49,7 @@ pub bare_made : (way : Way) (next : ℕ) (first : Status) (new : List Entry) →
     ++ (EndOf (0 ∷ next ∷ []) ∷ olders way next (guard_kind new) 1 new)
 bare_made way next first new =
     bare-append (list_below (record { node = next; index = 0; kind = guard_kind new } ∷ way) 0 first)
-    (EndOf (0 ∷ next ∷ []) ∷ list_among way next (guard_kind new) 1 (alternatives_of (guard_hold (guard_kind new)) new))
+    (EndOf (0 ∷ next ∷ []) ∷ list_among way next (guard_kind new) 1 (entry_alternatives (guard_hold (guard_kind new)) new))
     ∙ ap (λ l. bare (list_below (record { node = next; index = 0; kind = guard_kind new } ∷ way) 0 first)
     ++ (EndOf (0 ∷ next ∷ []) ∷ l)) (bare_olders way next (guard_kind new) 1 (guard_hold (guard_kind new)) new)
 

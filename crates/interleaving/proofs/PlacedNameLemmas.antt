@@ -7,7 +7,7 @@ use Rattle.run_model.specs.Machine.Entries.{Entry, PlainEntry, CatchEntry, Finda
 use Rattle.tree_model.specs.Elements.{Element, Credit, Plain, EndOf, Catch, Findall, End}
 use Rattle.interleaving.specs.HeightMachine.{HeightEntry, height_entries}
 use Rattle.interleaving.specs.Erased.{from, element_count, height, with_height, erased}
-use Rattle.tree_model.specs.Nodes.{Kind, Hold, Ready, TakenBy, Waiting, Dormant, alternatives_of}
+use Rattle.tree_model.specs.Nodes.{Kind, Hold, Ready, TakenBy, Waiting, Dormant, entry_alternatives}
 use Rattle.tree_model.specs.Floors.{renamed_item, with_nodes}
 use Rattle.std.specs.Prelude.{nat_le}
 use Rattle.tree_model.specs.PendingLists.{Step, Way, scope_on, element_at, own_credit, list_among}
@@ -49,10 +49,10 @@ olders way n kind i (o ∷ os) = element_at n i (record { node = n; index = i; k
     kind (suc i) os
 
 pub bare_olders : (way : Way) (n : ℕ) (kind : Kind) (i : ℕ) (hold : Hold) (os : List Entry)
-    → bare (list_among way n kind i (alternatives_of hold os)) ≡ olders way n kind i os
+    → bare (list_among way n kind i (entry_alternatives hold os)) ≡ olders way n kind i os
 bare_olders way n kind i hold [] = refl
 bare_olders way n kind i hold (o ∷ os) =
-    let rest = EndOf (i ∷ n ∷ []) ∷ list_among way n kind (suc i) (alternatives_of hold os) in
+    let rest = EndOf (i ∷ n ∷ []) ∷ list_among way n kind (suc i) (entry_alternatives hold os) in
     no_credit hold (element_at n i (record { node = n; index = i; kind = kind } ∷ way) o) rest
     ∙ (bare-element n i (record { node = n; index = i; kind = kind } ∷ way) o rest
     ∙ ap (λ l. element_at n i (record { node = n; index = i; kind = kind } ∷ way) o ∷ EndOf (i ∷ n ∷ []) ∷ l)

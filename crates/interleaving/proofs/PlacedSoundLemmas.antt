@@ -6,7 +6,7 @@ use Rattle.std.specs.List.{list_any}
 use Rattle.au_model.specs.Terms.Each.{Each}
 use Rattle.run_model.specs.Machine.Items.{Item, GoalItem, CatchMark, CollectMark, RemovalItem}
 use Rattle.run_model.specs.Machine.Entries.{Entry, PlainEntry, CatchEntry, FindallEntry, EndEntry}
-use Rattle.tree_model.specs.Nodes.{ChoiceNode, Hold, alternatives_of}
+use Rattle.tree_model.specs.Nodes.{ChoiceNode, Hold, entry_alternatives}
 use Rattle.tree_model.specs.Floors.{with_nodes}
 use Rattle.tree_model.specs.Shapes.{further, is_guard, cuts_of_items, cuts_of_entry, cuts_of, is_unsplit, is_alone, guard_kind}
 use Rattle.tree_model.specs.Shapes.{guard_hold, further_alternatives}
@@ -219,7 +219,7 @@ first_awake x [] k h = (k, tt)
 first_awake x (y ∷ os) k h = several_awake x y os h
 
 -- alternatives that hold nothing below them
-pub alternatives_none : (m : ℕ) (hold : Hold) (es : List Entry) → count_among m (alternatives_of hold es) ≡ 0
+pub alternatives_none : (m : ℕ) (hold : Hold) (es : List Entry) → count_among m (entry_alternatives hold es) ≡ 0
 alternatives_none m hold [] = refl
 alternatives_none m hold (e ∷ es) = let h = alternatives_none m hold es in omega (arith, h)
 
@@ -243,9 +243,9 @@ plain_older name seen w a next o os j z k c p u off v h n hid =
     record {
       collapse = kept (entry_step o (length os + length w)) (record { node = next; index = 0; kind = guard_kind new }) (stack_way os w)
           a n refl (j ∙ sym z) low;
-      right = subst (λ kind. AreSound a next kind 1 (alternatives_of (guard_hold kind) new)) (sym z)
+      right = subst (λ kind. AreSound a next kind 1 (entry_alternatives (guard_hold kind) new)) (sym z)
           (alternatives_sound a next 1 new off ready);
-      shape = subst (λ kind. is_shape kind (IsOpen ∷ profiles (alternatives_of (guard_hold kind) new)) ≡ true) (sym z)
+      shape = subst (λ kind. is_shape kind (IsOpen ∷ profiles (entry_alternatives (guard_hold kind) new)) ≡ true) (sym z)
           (alternatives_shape new);
       no_query = ap is_query z;
     }

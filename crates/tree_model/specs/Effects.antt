@@ -7,7 +7,7 @@ use Rattle.run_model.specs.Programs.Jobs.{Query}
 use Rattle.run_model.specs.Goals.Worlds.{World}
 use Rattle.tree_model.specs.Credits.{Credit, credit_of}
 use Rattle.tree_model.specs.Nodes.{Gate, CutGate, BallGate, WorldGate, FrozenGate, ChoiceNode, Hold, Ready, TakenBy, Waiting, Numbered}
-use Rattle.tree_model.specs.Nodes.{Status, Pending, Inner, single, alternatives_of}
+use Rattle.tree_model.specs.Nodes.{Status, Pending, Inner, single, entry_alternatives}
 use Rattle.tree_model.specs.Levels.{Level, plug, Place, Spot, levels_of}
 use Rattle.tree_model.specs.Floors.{floor_of, with_heights, with_nodes, node_of}
 use Rattle.tree_model.specs.Gates.{ball_scope}
@@ -41,7 +41,7 @@ left_at s [] t = closed_with s (credit_of 1) t
 left_at s (e ∷ es) t =
     record t {
       root = plug (spending 1 (levels_of s))
-          (Inner (Numbered t.next ChoiceNode (alternatives_of Ready (map (with_nodes (node_of (levels_of s))) (e ∷ es)))));
+          (Inner (Numbered t.next ChoiceNode (entry_alternatives Ready (map (with_nodes (node_of (levels_of s))) (e ∷ es)))));
       next = suc t.next;
     }
 

@@ -5,7 +5,7 @@ use Rattle.std.specs.List.{list_any}
 use Rattle.run_model.specs.Machine.Items.{Item, GoalItem, CatchMark, CollectMark, RemovalItem}
 use Rattle.run_model.specs.Machine.Entries.{Entry, PlainEntry, CatchEntry, FindallEntry, EndEntry}
 use Rattle.tree_model.specs.Nodes.{Kind, ChoiceNode, CatchNode, FindallNode, Hold, Ready, Dormant, Numbered, Alternatives, alternative}
-use Rattle.tree_model.specs.Nodes.{Status, Pending, Inner, Closed, alternatives_of}
+use Rattle.tree_model.specs.Nodes.{Status, Pending, Inner, Closed, entry_alternatives}
 use Rattle.tree_model.specs.Credits.{no_credit}
 use Rattle.tree_model.specs.Levels.{Level}
 use Rattle.tree_model.specs.Floors.{node_of, with_nodes}
@@ -87,7 +87,7 @@ guard_hold FindallNode = Dormant
 guard_hold k = Ready
 
 abbrev pub further_alternatives : List Entry → Alternatives
-further_alternatives es = alternatives_of (guard_hold (guard_kind es)) es
+further_alternatives es = entry_alternatives (guard_hold (guard_kind es)) es
 
 -- the nodes of entries, the newest first
 abbrev pub placed_status : ℕ → List ℕ → List Entry → Status
