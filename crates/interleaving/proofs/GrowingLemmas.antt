@@ -88,7 +88,8 @@ new_node_sound next levels e ds h f k =
     live_first [] = refl
     live_first (a ∷ way) = refl
 
-    few : (m : ℕ) (b : Bool) → (next == m) ≡ b → count_around m levels + (one_if (next == m) + count_among m (entry_alternatives Ready es)) ≤ 1
+    few : (m : ℕ) (b : Bool) → (next == m) ≡ b → count_around m levels +
+        (one_if (next == m) + count_among m (entry_alternatives Ready es)) ≤ 1
     few m true q =
         let same : next ≡ m = grind arith in
         let one : one_if (next == m) ≡ 1 = ap one_if q in
