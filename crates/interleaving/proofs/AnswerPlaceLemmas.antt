@@ -21,7 +21,7 @@ use Rattle.tree_model.specs.GivenAnswers.{answers_in, answers_among, AreInOrder}
 use Rattle.interleaving.proofs.ContextLemmas.{IsAround}
 use Rattle.interleaving.proofs.ListEndLemmas.{levels_down}
 use Rattle.interleaving.proofs.ClockLemmas.{AreClear}
-use Rattle.interleaving.proofs.FallLemmas.{Catching, Uncaught, CaughtBy, catching_entries, IsTaken}
+use Rattle.interleaving.proofs.CatchingLemmas.{Catching, Uncaught, CaughtBy, catching_entries, IsTaken}
 use Rattle.interleaving.proofs.BallPlaceLemmas.{query_at, scope_down}
 use Rattle.interleaving.proofs.EntryLemmas.{length-floor}
 use Rattle.interleaving.proofs.AnswerOrderLemmas.{plug_answers, none_ordered, RightsEmpty, rights_empty, SameLeft, same_left, put_order}

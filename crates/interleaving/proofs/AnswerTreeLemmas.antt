@@ -43,7 +43,7 @@ use Rattle.interleaving.proofs.ListScopeLemmas.{dormant_on}
 use Rattle.interleaving.proofs.CaughtContextLemmas.{IsCaughtRoot, caught_down}
 use Rattle.interleaving.proofs.CaughtEventLemmas.{marks_without}
 use Rattle.interleaving.proofs.CaughtTakenLemmas.{root_at}
-use Rattle.interleaving.proofs.FallLemmas.{catching, catching_entries, ball_scope_falls, catching_taken, first_height, first_dormant}
+use Rattle.interleaving.proofs.CatchingLemmas.{catching, catching_entries, ball_scope_falls, catching_taken, first_height, first_dormant}
 use Rattle.interleaving.proofs.PruneCasesLemmas.{plain_moves}
 use Rattle.interleaving.proofs.AnswerOrderLemmas.{same_left, rights_empty}
 use Rattle.interleaving.proofs.AnswerClosingLemmas.{IsOrdered, spent_left}

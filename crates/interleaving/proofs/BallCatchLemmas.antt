@@ -25,9 +25,9 @@ use Rattle.interleaving.proofs.ClosingListLemmas.{Guards}
 use Rattle.interleaving.proofs.WakeLemmas.{second_right}
 use Rattle.interleaving.proofs.CaughtContextLemmas.{RootCaught}
 use Rattle.interleaving.proofs.LowerListLemmas.{lower_back}
-use Rattle.interleaving.proofs.FallLemmas.{Catching, Uncaught, CaughtBy, caught_or, right_falls, catching, MarkIsDormant, first_dormant}
-use Rattle.interleaving.proofs.FallLemmas.{dormant_way}
-use Rattle.interleaving.proofs.FallLemmas.{dormant_marks, dormant_guards}
+use Rattle.interleaving.proofs.CatchingLemmas.{Catching, Uncaught, CaughtBy, caught_or, right_falls, catching, MarkIsDormant, first_dormant}
+use Rattle.interleaving.proofs.CatchingLemmas.{dormant_way}
+use Rattle.interleaving.proofs.CatchingLemmas.{dormant_marks, dormant_guards}
 use Rattle.interleaving.proofs.BallSearchLemmas.{mark_name, second_step, catch_element, named_recovery, next_in, thrown_pass, to_catch}
 use Rattle.interleaving.proofs.BallSearchLemmas.{end_pass, right_passes, mark_up, mark_apart, to_side, Finds, passes_level, off_catcher}
 use Rattle.interleaving.proofs.TestLemmas.{number_same}

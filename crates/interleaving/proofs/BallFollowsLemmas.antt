@@ -54,7 +54,7 @@ use Rattle.interleaving.proofs.CaughtContextLemmas.{IsCaughtRoot}
 use Rattle.interleaving.proofs.CaughtBallLemmas.{catch_no_side}
 use Rattle.interleaving.proofs.CaughtClosingLemmas.{dormant_there}
 use Rattle.interleaving.proofs.BallLevelLemmas.{ball_credit, FirstShut}
-use Rattle.interleaving.proofs.FallLemmas.{CaughtBy, catching, MarkIsDormant, IsCatcher}
+use Rattle.interleaving.proofs.CatchingLemmas.{CaughtBy, catching, MarkIsDormant, IsCatcher}
 use Rattle.interleaving.proofs.LowerListLemmas.{lower_front, lower_back, front_split, back_split, lower_quiet, ball_credit_counts}
 use Rattle.interleaving.proofs.LowerListLemmas.{ball_credit_low}
 use Rattle.interleaving.proofs.LowerListLemmas.{count_lower, count_split, lower_inner}

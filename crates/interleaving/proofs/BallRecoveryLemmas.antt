@@ -50,7 +50,7 @@ use Rattle.interleaving.proofs.WakeLemmas.{after_wake}
 use Rattle.interleaving.proofs.ListScopeLemmas.{IsDistinct}
 use Rattle.interleaving.proofs.CaughtClosingLemmas.{dormant_there}
 use Rattle.interleaving.proofs.BallLevelLemmas.{ball_credit}
-use Rattle.interleaving.proofs.FallLemmas.{IsCatcher}
+use Rattle.interleaving.proofs.CatchingLemmas.{IsCatcher}
 use Rattle.interleaving.proofs.LowerListLemmas.{lower_front, lower_back, front_split, lower_quiet}
 use Rattle.interleaving.proofs.UpperBlindLemmas.{is_free_of, free_zero}
 use Rattle.interleaving.proofs.BallSearchLemmas.{second_step, catch_element, named_recovery}

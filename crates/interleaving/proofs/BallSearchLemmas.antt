@@ -29,7 +29,7 @@ use Rattle.interleaving.proofs.ListEndLemmas.{on-counts, ends_in, no_end_among, 
 use Rattle.interleaving.proofs.ListScopeLemmas.{IsDistinct}
 use Rattle.interleaving.proofs.CaughtContextLemmas.{RootCaught}
 use Rattle.interleaving.proofs.LowerListLemmas.{lower_back}
-use Rattle.interleaving.proofs.FallLemmas.{CaughtBy, catching, MarkIsDormant, dormant_way, IsTaken, catching_taken}
+use Rattle.interleaving.proofs.CatchingLemmas.{CaughtBy, catching, MarkIsDormant, dormant_way, IsTaken, catching_taken}
 use Rattle.interleaving.proofs.TestLemmas.{false_true}
 use Rattle.au_term.proofs.LogicLemmas.{numbers_turned}
 

@@ -30,7 +30,7 @@ use Rattle.interleaving.proofs.ListScopeLemmas.{dormant_on}
 use Rattle.interleaving.proofs.ListMarkLemmas.{around-down}
 use Rattle.interleaving.proofs.CaughtContextLemmas.{IsCaughtRoot}
 use Rattle.interleaving.proofs.CaughtClosingLemmas.{RecordsAt, wake_caught, marks_other, off_numbers, dormant_there}
-use Rattle.interleaving.proofs.FallLemmas.{IsCatcher}
+use Rattle.interleaving.proofs.CatchingLemmas.{IsCatcher}
 use Rattle.interleaving.proofs.BallLevelLemmas.{ball_credit, wakes_in, ball_closes_at, ball_credit_under, FirstShut, under_top}
 use Rattle.interleaving.proofs.BallPlaceLemmas.{names_above, scope_down, QueryAt}
 use Rattle.interleaving.proofs.TestLemmas.{false_true}

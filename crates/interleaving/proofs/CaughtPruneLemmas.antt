@@ -41,9 +41,9 @@ use Rattle.interleaving.proofs.ClockLemmas.{AreClear}
 use Rattle.interleaving.proofs.CaughtContextLemmas.{caught_level, Rests, first_rests, rests_level, unspent_level, IsCaughtRoot}
 use Rattle.interleaving.proofs.CaughtClosingLemmas.{RecordsUnder, closed_rests, root_put, closes_caught, marks_other, off_numbers}
 use Rattle.interleaving.proofs.BallLevelLemmas.{clear_below}
-use Rattle.interleaving.proofs.FallLemmas.{Catching, Uncaught, CaughtBy, catching, catching_entries, IsTaken, ball_scope_falls}
-use Rattle.interleaving.proofs.FallLemmas.{catching_taken, first_height}
-use Rattle.interleaving.proofs.FallLemmas.{first_dormant}
+use Rattle.interleaving.proofs.CatchingLemmas.{Catching, Uncaught, CaughtBy, catching, catching_entries, IsTaken, ball_scope_falls}
+use Rattle.interleaving.proofs.CatchingLemmas.{catching_taken, first_height}
+use Rattle.interleaving.proofs.CatchingLemmas.{first_dormant}
 use Rattle.interleaving.proofs.BallPlaceLemmas.{scope_down, query_at}
 use Rattle.interleaving.proofs.CaughtBallLemmas.{recovery_caught, lost_caught}
 use Rattle.interleaving.proofs.CaughtCutLemmas.{marks_agree, cut_root}

@@ -17,7 +17,7 @@ use Rattle.interleaving.proofs.AloneLemmas.{private_runs}
 use Rattle.interleaving.proofs.ApartLemmas.{IsSoughtApart, blind_closed, inner_unseen}
 use Rattle.interleaving.proofs.InsideStepLemmas.{any_ground, become_active}
 use Rattle.interleaving.proofs.QuietCreditLemmas.{outer-all, quiet-private}
-use Rattle.interleaving.proofs.EnoughLemmas.{enough, as_many}
+use Rattle.interleaving.proofs.LongCreditLemmas.{enough, as_many}
 use Rattle.interleaving.proofs.AppendLemmas.{append-nil}
 
 abbrev pub none_inner : Record → Bool

@@ -46,9 +46,9 @@ use Rattle.interleaving.proofs.ListsSoundLemmas.{lists_are_sound}
 use Rattle.interleaving.proofs.WakeLemmas.{second_right}
 use Rattle.interleaving.proofs.FrontCloseLemmas.{bare}
 use Rattle.interleaving.proofs.CaughtFrontLemmas.{clear_part}
-use Rattle.interleaving.proofs.FallLemmas.{Catching, Uncaught, CaughtBy, catching, catching_entries, MarkIsDormant, IsTaken, IsCatcher}
-use Rattle.interleaving.proofs.FallLemmas.{ball_scope_falls}
-use Rattle.interleaving.proofs.FallLemmas.{catching_taken, first_height, first_dormant}
+use Rattle.interleaving.proofs.CatchingLemmas.{Catching, Uncaught, CaughtBy, catching, catching_entries, MarkIsDormant, IsTaken, IsCatcher}
+use Rattle.interleaving.proofs.CatchingLemmas.{ball_scope_falls}
+use Rattle.interleaving.proofs.CatchingLemmas.{catching_taken, first_height, first_dormant}
 use Rattle.interleaving.proofs.BallPlaceLemmas.{query_at}
 use Rattle.interleaving.proofs.LowerListLemmas.{lower_back, back_split}
 use Rattle.interleaving.proofs.BallSearchLemmas.{mark_name, first_name, named_recovery, catch_element}

@@ -42,9 +42,9 @@ mod EarlyLawLemmas
 mod EarlyLemmas
 mod EmptyRunLemmas
 mod EndLemmas
-mod EnoughLemmas
+mod LongCreditLemmas
 mod EntryLemmas
-mod FallLemmas
+mod CatchingLemmas
 mod FarNameLemmas
 mod FieldLemmas
 mod FindallWakeLemmas
@@ -155,7 +155,7 @@ mod SoundStepLemmas
 mod SpotsApartLemmas
 mod StackLemmas
 mod StepsTakenLemmas
-mod ToldNameLemmas
+mod DistinctNameLemmas
 mod UnchangedPlaceLemmas
 mod UpperBlindLemmas
 mod WakeLemmas

@@ -38,9 +38,10 @@ use Rattle.interleaving.proofs.ListScopeLemmas.{dormant_on}
 use Rattle.interleaving.proofs.FrontCloseLemmas.{bare}
 use Rattle.interleaving.proofs.CaughtEventLemmas.{marks_without}
 use Rattle.interleaving.proofs.BallLevelLemmas.{clear_below}
-use Rattle.interleaving.proofs.FallLemmas.{Catching, catching, catching_entries, MarkIsDormant, IsTaken, ball_scope_falls, catching_taken}
-use Rattle.interleaving.proofs.FallLemmas.{first_height}
-use Rattle.interleaving.proofs.FallLemmas.{first_dormant}
+use Rattle.interleaving.proofs.CatchingLemmas.{Catching, catching, catching_entries, MarkIsDormant, IsTaken, ball_scope_falls}
+use Rattle.interleaving.proofs.CatchingLemmas.{catching_taken}
+use Rattle.interleaving.proofs.CatchingLemmas.{first_height}
+use Rattle.interleaving.proofs.CatchingLemmas.{first_dormant}
 use Rattle.interleaving.proofs.BallSearchLemmas.{mark_name, first_name}
 use Rattle.interleaving.proofs.PrunedBallLemmas.{placed_here, root_here}
 use Rattle.interleaving.proofs.TestLemmas.{false_true}

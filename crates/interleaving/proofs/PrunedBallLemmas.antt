@@ -49,8 +49,9 @@ use Rattle.interleaving.proofs.FrontSoundLemmas.{front_short, own_inside}
 use Rattle.interleaving.proofs.CaughtContextLemmas.{IsCaughtRoot}
 use Rattle.interleaving.proofs.CaughtClosingLemmas.{dormant_there}
 use Rattle.interleaving.proofs.BallLevelLemmas.{ball_credit, wakes_in, ball_closes_at}
-use Rattle.interleaving.proofs.FallLemmas.{Catching, Uncaught, CaughtBy, catching, catching_entries, by_heights_of, MarkIsDormant, IsTaken}
-use Rattle.interleaving.proofs.FallLemmas.{IsCatcher}
+use Rattle.interleaving.proofs.CatchingLemmas.{Catching, Uncaught, CaughtBy, catching, catching_entries, by_heights_of, MarkIsDormant}
+use Rattle.interleaving.proofs.CatchingLemmas.{IsTaken}
+use Rattle.interleaving.proofs.CatchingLemmas.{IsCatcher}
 use Rattle.interleaving.proofs.BallPlaceLemmas.{scope_down, query_at}
 use Rattle.interleaving.proofs.BallSearchLemmas.{mark_name}
 use Rattle.interleaving.proofs.BallCatchLemmas.{none_lost, loses}

@@ -28,7 +28,7 @@ use Rattle.interleaving.proofs.SideLemmas.{front_blind}
 use Rattle.interleaving.proofs.NamedFloorLemmas.{below_named, floor_named, first_low}
 use Rattle.interleaving.proofs.BaredLemmas.{may_then, may_stay, made_at}
 use Rattle.interleaving.proofs.PublishedBareLemmas.{right_of, own_plain, list_before}
-use Rattle.interleaving.proofs.ToldNameLemmas.{respects_floor, respects_below}
+use Rattle.interleaving.proofs.DistinctNameLemmas.{respects_floor, respects_below}
 use Rattle.interleaving.proofs.LowListLemmas.{low_entry}
 use Rattle.interleaving.proofs.LeadRunLemmas.{lead_segment, run_front, lead_list_sound, lead_list_same, old_sound}
 use Rattle.interleaving.proofs.SoundEarlyLemmas.{sound_exchange}

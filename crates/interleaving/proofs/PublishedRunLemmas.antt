@@ -29,7 +29,7 @@ use Rattle.interleaving.proofs.NamedFloorLemmas.{below_named, floor_named, first
 use Rattle.interleaving.proofs.PlacedRunLemmas.{placed_list, IsPublished, placed_is_erased}
 use Rattle.interleaving.proofs.BaredLemmas.{may_stay, made_at, inner_new}
 use Rattle.interleaving.proofs.PublishedBareLemmas.{right_of, own_plain, list_before, list_after, bared}
-use Rattle.interleaving.proofs.ToldNameLemmas.{respects_floor, respects_below}
+use Rattle.interleaving.proofs.DistinctNameLemmas.{respects_floor, respects_below}
 use Rattle.interleaving.proofs.LowListLemmas.{low_entry}
 use Rattle.interleaving.proofs.LeadRunLemmas.{lead_segment, run_front, lead_list_sound, lead_list_same, old_sound}
 use Rattle.interleaving.proofs.PublishedStepLemmas.{by_names, lead_becomes}
