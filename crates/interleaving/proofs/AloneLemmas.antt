@@ -3,15 +3,17 @@ use Rattle.std.proofs.Common.{◌≡◌, ℕ, zero, suc, Bool, true, false, cond
 use Rattle.std.proofs.Common.{◌∙◌, subst}
 use Rattle.std.specs.Option.{option_map}
 use Rattle.au_model.specs.Terms.Each.{Each}
-use Rattle.interleaving.specs.Machine.{Machine, Act, Vanishes, Wakes, Takes, Asks, Look, On, Here, Place, Put, Only, Seek, gives, freed}
+use Rattle.interleaving.specs.Machine.{Machine, Act, Drops, Becomes, Infers, AsksWorld, Look, On, Here, Replacement, Put, Only, Seek, gives}
+use Rattle.interleaving.specs.Machine.{freed}
 use Rattle.interleaving.specs.Machine.{free_steps}
 use Rattle.interleaving.specs.Segments.{IsActive, outer, found_in, search_in, placed_in, freed_alone, free_steps_alone, go_on}
-use Rattle.interleaving.specs.Segments.{taken_alone, front_alone, run_alone, Private, private_none, private_goes, private_stands}
-use Rattle.interleaving.specs.Segments.{private_wakes, private_takes}
-use Rattle.interleaving.proofs.RunFrontLemmas.{each-append, append-assoc-at, maps-append, map-seam, map-none, append-none, some-same}
+use Rattle.interleaving.specs.Segments.{taken_alone, front_alone, run_alone, Private, private_none, private_drops, private_remains}
+use Rattle.interleaving.specs.Segments.{private_changes, private_infers}
+use Rattle.interleaving.proofs.RunFrontLemmas.{each-append, maps-append, map-seam, map-none, some-same}
 use Rattle.interleaving.proofs.RunFrontLemmas.{none-some, settle-map, PlaceOk, ActOk, LookOk, Closed, map-ok}
 use Rattle.interleaving.proofs.EarlyLemmas.{Ground, Runs}
 use Rattle.interleaving.proofs.JoinedLemmas.{runs-then, runs_step, resting, placed-within}
+use Rattle.interleaving.proofs.AppendLemmas.{append-assoc, append-nil}
 
 pub outer-append : {R : Type 0} → (inner : R → Bool) (rs qs : List R) → outer inner (rs ++ qs) ≡ outer inner rs ++ outer inner qs
 outer-append inner [] qs = refl
@@ -26,7 +28,7 @@ abbrev ahead : {R X : Type 0} → List R → List R × List X → List R × List
 ahead first t = (first ++ t.0, t.1)
 
 module _ {W X Q R : Type 0} (m : Machine W X Q R) (inner : R → Bool) where
-  module _ (passes : List R → Bool) (standing : (x : X) (new : List R) → m.act x ≡ Vanishes new → m.act (m.stands x) ≡ Vanishes new) where
+  module _ (passes : List R → Bool) (standing : (x : X) (new : List R) → m.act x ≡ Drops new → m.act (m.stands x) ≡ Drops new) where
     record Rest (rs : List R) (xs : List X) (s : List R × List X) : Type 0 where
       pub out : List R
       pub joined : s.0 ≡ outer inner rs ++ out
@@ -35,16 +37,16 @@ module _ {W X Q R : Type 0} (m : Machine W X Q R) (inner : R → Bool) where
     stays : (rs : List R) (xs ys : List X)
         → ((k : ℕ) (qs : List R) (b : List X) → Private m inner k qs ys b → Private m inner k qs (map (gives m rs) xs) b)
         → Rest rs xs (outer inner rs, ys)
-    stays rs xs ys h = record { out = []; joined = sym (append-none (outer inner rs)); private = h }
+    stays rs xs ys h = record { out = []; joined = sym (append-nil (outer inner rs)); private = h }
 
-    goes : (rs new : List R) (x : X) (xs : List X) (s : List R × List X) → m.act (gives m rs x) ≡ Vanishes new → Rest (rs ++ new) xs s
+    goes : (rs new : List R) (x : X) (xs : List X) (s : List R × List X) → m.act (gives m rs x) ≡ Drops new → Rest (rs ++ new) xs s
         → Rest rs (x ∷ xs) s
     goes rs new x xs s e n = record {
       out = outer inner new ++ n.out;
-      joined = n.joined ∙ ap (λ l. l ++ n.out) (outer-append inner rs new) ∙ append-assoc-at (outer inner rs) (outer inner new) n.out;
+      joined = n.joined ∙ ap (λ l. l ++ n.out) (outer-append inner rs new) ∙ append-assoc (outer inner rs) (outer inner new) n.out;
       private = λ k qs b h.
-          subst (λ l. Private m inner k l (gives m rs x ∷ map (gives m rs) xs) b) (sym (append-assoc-at (outer inner new) n.out qs))
-          (private_goes k (gives m rs x) new (n.out ++ qs) (map (gives m rs) xs) b e
+          subst (λ l. Private m inner k l (gives m rs x ∷ map (gives m rs) xs) b) (sym (append-assoc (outer inner new) n.out qs))
+          (private_drops k (gives m rs x) new (n.out ++ qs) (map (gives m rs) xs) b e
           (subst (λ l. Private m inner k (n.out ++ qs) l b) (maps-append m rs new xs) (n.private k qs b h)));
     }
 
@@ -52,23 +54,23 @@ module _ {W X Q R : Type 0} (m : Machine W X Q R) (inner : R → Bool) where
     rest rs [] = stays rs [] [] (λ k qs b h. h)
     rest rs (x ∷ xs) = go (m.act (gives m rs x)) refl (λ new. rest (rs ++ new) xs)
       where
-        pick : (new : List R) → m.act (gives m rs x) ≡ Vanishes new
+        pick : (new : List R) → m.act (gives m rs x) ≡ Drops new
             → Rest (rs ++ new) xs (free_steps_alone m inner passes (rs ++ new) xs) → (t : Bool)
             → Rest rs (x ∷ xs) (cond t (free_steps_alone m inner passes (rs ++ new) xs)
             (outer inner rs, m.stands (gives m rs x) ∷ map (gives m rs) xs))
         pick new e n true = goes rs new x xs (free_steps_alone m inner passes (rs ++ new) xs) e n
         pick new e n false = stays rs (x ∷ xs) (m.stands (gives m rs x) ∷ map (gives m rs) xs)
-            (λ k qs b h. private_stands k (gives m rs x) new qs (map (gives m rs) xs) b e (standing (gives m rs x) new e) h)
+            (λ k qs b h. private_remains k (gives m rs x) new qs (map (gives m rs) xs) b e (standing (gives m rs x) new e) h)
 
         go : (a : Act W X Q R) → m.act (gives m rs x) ≡ a
             → ((new : List R) → Rest (rs ++ new) xs (free_steps_alone m inner passes (rs ++ new) xs))
             → Rest rs (x ∷ xs) (freed_alone m inner passes a (gives m rs x) rs (λ new. free_steps_alone m inner passes (rs ++ new) xs)
             (map (gives m rs) xs))
-        go (Vanishes new) e next = pick new e (next new) (passes new)
-        go (Wakes z) e next = stays rs (x ∷ xs) (z ∷ map (gives m rs) xs)
-            (λ k qs b h. private_wakes k (gives m rs x) z qs (map (gives m rs) xs) b e h)
-        go (Takes p) e next = stays rs (x ∷ xs) (gives m rs x ∷ map (gives m rs) xs) (λ k qs b h. h)
-        go (Asks p) e next = stays rs (x ∷ xs) (gives m rs x ∷ map (gives m rs) xs) (λ k qs b h. h)
+        go (Drops new) e next = pick new e (next new) (passes new)
+        go (Becomes z) e next = stays rs (x ∷ xs) (z ∷ map (gives m rs) xs)
+            (λ k qs b h. private_changes k (gives m rs x) z qs (map (gives m rs) xs) b e h)
+        go (Infers p) e next = stays rs (x ∷ xs) (gives m rs x ∷ map (gives m rs) xs) (λ k qs b h. h)
+        go (AsksWorld p) e next = stays rs (x ∷ xs) (gives m rs x ∷ map (gives m rs) xs) (λ k qs b h. h)
 
     settled : (k : ℕ) (a b : List X) (qs : List R) → Private m inner k qs (free_steps_alone m inner passes [] a).1 b
         → Private m inner k ((free_steps_alone m inner passes [] a).0 ++ qs) a b
@@ -88,7 +90,7 @@ module _ {W X Q R : Type 0} (m : Machine W X Q R) (inner : R → Bool) where
     front k ih first rs b [] e = none-some ((rs, b)) e
     front k ih first rs b (x ∷ xs) e = go (m.act x) refl e
       where
-        taken : (p : Place X Q) (ys : List X) → m.act x ≡ Takes p → placed_in m p xs ≡ Some ys → (o : Option (List R × List X))
+        taken : (p : Replacement X Q) (ys : List X) → m.act x ≡ Infers p → placed_in m p xs ≡ Some ys → (o : Option (List R × List X))
             → run_alone m inner passes k ys ≡ o → option_map (ahead first) o ≡ Some (rs, b) → Taken k (x ∷ xs) first rs b
         taken p ys f h None i e = none-some ((rs, b)) e
         taken p ys f h (Some t) i e =
@@ -98,11 +100,11 @@ module _ {W X Q R : Type 0} (m : Machine W X Q R) (inner : R → Bool) where
             record {
               later = t.0;
               joined = same_rs;
-              private = private_takes k x p t.0 xs ys b f h
+              private = private_infers k x p t.0 xs ys b f h
                   (subst (λ l. Private m inner k t.0 ys l) same_b (ih ys t.1 t.0 i));
             }
 
-        place : (p : Place X Q) → m.act x ≡ Takes p → (o : Option (List X)) → placed_in m p xs ≡ o
+        place : (p : Replacement X Q) → m.act x ≡ Infers p → (o : Option (List X)) → placed_in m p xs ≡ o
             → option_map (ahead first) (go_on m inner passes o (run_alone m inner passes k)) ≡ Some (rs, b)
             → Taken k (x ∷ xs) first rs b
         place p f None h e = none-some ((rs, b)) e
@@ -110,17 +112,17 @@ module _ {W X Q R : Type 0} (m : Machine W X Q R) (inner : R → Bool) where
 
         go : (a : Act W X Q R) → m.act x ≡ a → option_map (ahead first) (taken_alone m inner passes a (run_alone m inner passes k) xs)
             ≡ Some (rs, b) → Taken k (x ∷ xs) first rs b
-        go (Vanishes new) f e = none-some ((rs, b)) e
-        go (Wakes y) f e = none-some ((rs, b)) e
-        go (Asks p) f e = none-some ((rs, b)) e
-        go (Takes p) f e = place p f (placed_in m p xs) refl e
+        go (Drops new) f e = none-some ((rs, b)) e
+        go (Becomes y) f e = none-some ((rs, b)) e
+        go (AsksWorld p) f e = none-some ((rs, b)) e
+        go (Infers p) f e = place p f (placed_in m p xs) refl e
 
     pub private_of_alone : (k : ℕ) (a b : List X) (rs : List R) → run_alone m inner passes k a ≡ Some (rs, b) → Private m inner k rs a b
     private_of_alone zero a b rs e =
         let s = free_steps_alone m inner passes [] a in
         let both : s ≡ (rs, b) = some-same s (rs, b) e in
         subst (λ t. Private m inner zero t.0 a t.1) both
-        (subst (λ l. Private m inner zero l a s.1) (append-none s.0) (settled zero a s.1 [] (private_none s.1)))
+        (subst (λ l. Private m inner zero l a s.1) (append-nil s.0) (settled zero a s.1 [] (private_none s.1)))
     private_of_alone (suc k) a b rs e =
         let s = free_steps_alone m inner passes [] a in
         let t = front k (private_of_alone k) s.0 rs b s.1 e in
@@ -128,7 +130,7 @@ module _ {W X Q R : Type 0} (m : Machine W X Q R) (inner : R → Bool) where
 
   -- over what may be there
   module _ (g : Ground m) (kept : (r : R) → inner r ≡ true → (z : X) → g.Under z → m.give r z ≡ z)
-      (woken : (x y : X) → m.act x ≡ Wakes y → IsActive (m.act y)) where
+      (woken : (x y : X) → m.act x ≡ Becomes y → IsActive (m.act y)) where
     pub gives-outer : (rs : List R) (z : X) → g.Under z → gives m rs z ≡ gives m (outer inner rs) z
     gives-outer [] z h = refl
     gives-outer (r ∷ rs) z h = go (inner r) refl (λ y k. gives-outer rs y k)
@@ -144,24 +146,24 @@ module _ {W X Q R : Type 0} (m : Machine W X Q R) (inner : R → Bool) where
 
     pub private_runs : (k : ℕ) (rs : List R) (a b : List X) → Private m inner k rs a b → Runs m g k rs a b
     private_runs k rs a b (private_none s) = λ zs z. ap (λ l. free_steps m [] (s ++ l)) (sym (map-none m zs))
-    private_runs k rs a b (private_goes j x new qs xs s e r) =
+    private_runs k rs a b (private_drops j x new qs xs s e r) =
         let first : Runs m g zero (outer inner new) (x ∷ xs) (map (gives m new) xs) = λ zs z.
         ap (λ a. freed m a x (λ o. free_steps m o (xs ++ zs)) (map (gives m []) (xs ++ zs))) e ∙ settle-map m new (xs ++ zs)
         ∙ ap (free_steps m []) (map-seam m new xs zs ∙ ap (λ l. map (gives m new) xs ++ l) (map-outer new zs z)) in
         runs-then m g zero j (outer inner new) qs (x ∷ xs) (map (gives m new) xs) s first (private_runs j qs (map (gives m new) xs) s r)
-    private_runs k rs a b (private_stands j x new qs xs s e f r) =
+    private_runs k rs a b (private_remains j x new qs xs s e f r) =
         let same : Runs m g zero [] (x ∷ xs) (m.stands x ∷ xs) = λ zs z.
         ap (λ a. freed m a x (λ o. free_steps m o (xs ++ zs)) (map (gives m []) (xs ++ zs))) e
         ∙ sym (ap (λ a. freed m a (m.stands x) (λ o. free_steps m o (xs ++ zs)) (map (gives m []) (xs ++ zs))) f)
         ∙ ap (λ l. free_steps m [] (m.stands x ∷ (xs ++ l))) (sym (map-none m zs)) in
         runs-then m g zero j [] qs (x ∷ xs) (m.stands x ∷ xs) s same (private_runs j qs (m.stands x ∷ xs) s r)
-    private_runs k rs a b (private_wakes j x y qs xs s e r) =
+    private_runs k rs a b (private_changes j x y qs xs s e r) =
         let up : Runs m g zero [] (x ∷ xs) (y ∷ xs) = λ zs z.
         ap (λ a. freed m a x (λ o. free_steps m o (xs ++ zs)) (map (gives m []) (xs ++ zs))) e
         ∙ ap (λ l. y ∷ l) (map-none m (xs ++ zs) ∙ ap (λ l. xs ++ l) (sym (map-none m zs)))
         ∙ sym (resting m g y (woken x y e) (xs ++ map (gives m []) zs)) in
         runs-then m g zero j [] qs (x ∷ xs) (y ∷ xs) s up (private_runs j qs (y ∷ xs) s r)
-    private_runs k rs a b (private_takes j x p qs xs s t e f r) =
+    private_runs k rs a b (private_infers j x p qs xs s t e f r) =
         runs-then m g (suc zero) j [] qs (x ∷ xs) s t (runs_step m g x xs s p e (λ zs z. placed-within m g p xs s zs f))
         (private_runs j qs s t r)
 
@@ -176,16 +178,16 @@ module _ {W X Q R : Type 0} (m : Machine W X Q R) (inner : R → Bool) where
         go (On p) ok e next = next p ok e
         go (Here ys) ok e next = subst (Each P) (some-same (ys ++ xs) b e) (each-append P ys xs ok h.1)
 
-    placed_in-ok : (p : Place X Q) (xs b : List X) → PlaceOk m P K G p → Each P xs → placed_in m p xs ≡ Some b → Each P b
+    placed_in-ok : (p : Replacement X Q) (xs b : List X) → PlaceOk m P K G p → Each P xs → placed_in m p xs ≡ Some b → Each P b
     placed_in-ok (Put ys) xs b k h e = subst (Each P) (some-same (ys ++ xs) b e) (each-append P ys xs k h)
     placed_in-ok (Only ys) xs b k h e = none-some b e
     placed_in-ok (Seek q) xs b k h e = search_in-ok q xs b k h e
 
     pub private-ok : (k : ℕ) (rs : List R) (a b : List X) → Private m inner k rs a b → Each P a → Each P b
     private-ok k rs a b (private_none s) h = h
-    private-ok k rs a b (private_goes j x new qs xs s e r) h = private-ok j qs (map (gives m new) xs) s r
+    private-ok k rs a b (private_drops j x new qs xs s e r) h = private-ok j qs (map (gives m new) xs) s r
         (map-ok m P K G c new xs (subst (ActOk m P K G) e (c.acts x h.0)) h.1)
-    private-ok k rs a b (private_stands j x new qs xs s e f r) h = private-ok j qs (m.stands x ∷ xs) s r (stood x h.0, h.1)
-    private-ok k rs a b (private_wakes j x y qs xs s e r) h = private-ok j qs (y ∷ xs) s r (subst (ActOk m P K G) e (c.acts x h.0), h.1)
-    private-ok k rs a b (private_takes j x p qs xs s t e f r) h = private-ok j qs s t r
+    private-ok k rs a b (private_remains j x new qs xs s e f r) h = private-ok j qs (m.stands x ∷ xs) s r (stood x h.0, h.1)
+    private-ok k rs a b (private_changes j x y qs xs s e r) h = private-ok j qs (y ∷ xs) s r (subst (ActOk m P K G) e (c.acts x h.0), h.1)
+    private-ok k rs a b (private_infers j x p qs xs s t e f r) h = private-ok j qs s t r
         (placed_in-ok p xs s (subst (ActOk m P K G) e (c.acts x h.0)) h.1 f)

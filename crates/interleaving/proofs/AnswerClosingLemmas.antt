@@ -10,7 +10,7 @@ use Rattle.tree_model.specs.Levels.{Level, put_left, level_node, plug}
 use Rattle.tree_model.specs.Orders.{is_closed, credits_left}
 use Rattle.tree_model.specs.Closing.{guarded, with_right, and_then, closed_credit, all_right, all_left, all_closed, folds, wakes}
 use Rattle.tree_model.specs.Closing.{findall_goes_on, with_results, goal_side_closes, closes}
-use Rattle.tree_model.specs.Pruning.{is_findall, emptied, pruned, kept_records, left_after, lands}
+use Rattle.tree_model.specs.Pruning.{is_findall, emptied, pruned, remaining_records, left_after, ball_closes}
 use Rattle.tree_model.specs.Effects.{spending}
 use Rattle.tree_model.specs.SoundTrees.{IsOpen}
 use Rattle.tree_model.specs.GivenAnswers.{answers_in, answers_among, AreInOrder, AmongInOrder}
@@ -19,9 +19,6 @@ use Rattle.interleaving.proofs.ClosingListLemmas.{Guards, guards_of}
 use Rattle.interleaving.proofs.ListEndLemmas.{levels_down}
 use Rattle.interleaving.proofs.AnswerOrderLemmas.{answers_before, put_answers, plug_answers, none_ordered, RightsEmpty, rights_empty}
 use Rattle.interleaving.proofs.AnswerOrderLemmas.{SameLeft, same_left, put_order}
-
-clash : {A : Type 0} → false ≡ true → A
-clash h = let no_way : ⊥ = cc in absurd no_way
 
 -- credits show the answers, as long as a count keeps them
 mutual
@@ -187,25 +184,25 @@ left_answers_of : (v : Level) (c : Credit) → answers_before v.left + c.answers
     ≡ answers_before v.left + c.answers
 left_answers_of v c l =
     let one = shown_left v.left (omega (arith, l)) in
-    let kept = kept_answers v.left (is_findall v.kind) in
-    let here : (left_after v c).answers ≡ min greatest ((credits_left v.left).answers + min greatest (0 + (kept_records v c).answers))
+    let kept = remaining_answers v.left (is_findall v.kind) in
+    let here : (left_after v c).answers ≡ min greatest ((credits_left v.left).answers + min greatest (0 + (remaining_records v c).answers))
     = refl in
     omega (arith, one, kept, here, l)
   where
-    kept_answers : (left : List (ℕ × Status)) (b : Bool)
+    remaining_answers : (left : List (ℕ × Status)) (b : Bool)
         → (elim left as (λ l. Credit) [ [] ↦ cond b (without_records c) c | x ∷ rest ↦ c ]).answers ≡ c.answers
-    kept_answers [] true = refl
-    kept_answers [] false = refl
-    kept_answers (x ∷ rest) b = refl
+    remaining_answers [] true = refl
+    remaining_answers [] false = refl
+    remaining_answers (x ∷ rest) b = refl
 
 -- a ball lands
-pub lands_order : (next s : ℕ) (levels : List Level) (status : Status) (c : Credit) (e : Entry) (w : Level) (above : List Level)
+pub ball_closes_order : (next s : ℕ) (levels : List Level) (status : Status) (c : Credit) (e : Entry) (w : Level) (above : List Level)
     (x : Entry) → levels_down levels s ≡ w ∷ above → Guards w x → is_closed status ≡ false → AreInOrder (plug levels status) → c.answers
     ≡ answers_in status → answers_in (plug levels status) ≤ greatest
-    → IsOrdered (lands next s levels c e).root (answers_in (plug levels status))
-lands_order next s [] status c e w above x down g o h a l = let no_way : ⊥ = cc in absurd no_way
-lands_order next s (v ∷ up) status c e w above x down g o h a l = go (v.number == s) down
-    (λ k d m. lands_order next s up (Inner (level_node v status)) (left_after v c) e w above x d g refl h k m)
+    → IsOrdered (ball_closes next s levels c e).root (answers_in (plug levels status))
+ball_closes_order next s [] status c e w above x down g o h a l = let no_way : ⊥ = cc in absurd no_way
+ball_closes_order next s (v ∷ up) status c e w above x down g o h a l = go (v.number == s) down
+    (λ k d m. ball_closes_order next s up (Inner (level_node v status)) (left_after v c) e w above x d g refl h k m)
   where
     total : answers_in (plug (v ∷ up) status) ≡ answers_in (plug up (Inner (level_node v status)))
     total = refl
@@ -224,9 +221,9 @@ lands_order next s (v ∷ up) status c e w above x down g o h a l = go (v.number
 
     go : (b : Bool) → cond b (v ∷ up) (levels_down up s) ≡ w ∷ above
         → ((left_after v c).answers ≡ answers_in (Inner (level_node v status)) → levels_down up s ≡ w ∷ above
-        → answers_in (plug up (Inner (level_node v status))) ≤ greatest → IsOrdered (lands next s up (left_after v c) e).root
+        → answers_in (plug up (Inner (level_node v status))) ≤ greatest → IsOrdered (ball_closes next s up (left_after v c) e).root
         (answers_in (plug up (Inner (level_node v status)))))
-        → IsOrdered (cond b (wakes next v up (left_after v c) e) (lands next s up (left_after v c) e)).root
+        → IsOrdered (cond b (wakes next v up (left_after v c) e) (ball_closes next s up (left_after v c) e)).root
         (answers_in (plug (v ∷ up) status))
     go false d f = f parts d l
     go true d f =

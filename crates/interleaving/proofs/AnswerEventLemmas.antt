@@ -17,21 +17,20 @@ use Rattle.tree_model.specs.FrontGates.{reply_taken, goal_at_front, removal_at_f
 use Rattle.tree_model.specs.Events.{Event, Answer}
 use Rattle.tree_model.specs.TreeStates.{TreeState, leftmost, ended}
 use Rattle.tree_model.specs.Legality.{is_spot_at, taken_at, gate_of, is_world_gate, at_spot, is_allowed}
-use Rattle.tree_model.specs.Effects.{stack_of, world_moved, where_some, after_event}
+use Rattle.tree_model.specs.Effects.{spot_stack, world_moved, where_some, after_event}
 use Rattle.tree_model.specs.SoundTrees.{IsSoundTree}
 use Rattle.run_model.specs.Programs.Databases.{Database, without_clause}
 use Rattle.tree_model.specs.AnswersTold.{answers_by, answers_at, answers_first, answers_next}
 use Rattle.tree_model.specs.CaughtTrees.{IsCaughtTree}
 use Rattle.interleaving.specs.HistoryInvariants.{AnswerMoves, AnswersMove, OthersMove}
-use Rattle.interleaving.proofs.OpenSpotLemmas.{both_right, placed_at, taken_at_open}
+use Rattle.interleaving.proofs.OpenSpotLemmas.{placed_at, taken_at_open}
 use Rattle.interleaving.proofs.ClockLemmas.{leftmost_known}
 use Rattle.interleaving.proofs.GoingLemmas.{going, legal_parts}
 use Rattle.interleaving.proofs.RunEventLemmas.{asked_at}
 use Rattle.interleaving.proofs.SpotsApartLemmas.{taken_first}
 use Rattle.interleaving.proofs.AnsweredMoveLemmas.{unmarked_names, answered_tree, answered_moves}
-
-clash : {A : Type 0} → false ≡ true → A
-clash h = let no_way : ⊥ = cc in absurd no_way
+use Rattle.interleaving.proofs.TestLemmas.{false_true}
+use Rattle.au_term.proofs.LogicLemmas.{and-right}
 
 -- the tree after an answer
 answered_is : (t : TreeState) (w : ℕ) (a : Place) (s : Spot) (f : Continuation ℕ) → taken_at w a t ≡ Some s → s.entry ≡ PlainEntry f
@@ -41,7 +40,7 @@ answered_is t w a s f e entry bare =
     let e_event : Event = Answer w a false in
     let heights = height_of (levels_of s) in
     let fh = renamed_continuation heights (λ n. heights n - 1) f in
-    ap (λ o. record (where_some o t (λ r. world_moved r (taken_at_front t.job.clauses (stack_of r) t.world) t))
+    ap (λ o. record (where_some o t (λ r. world_moved r (taken_at_front t.job.clauses (spot_stack r) t.world) t))
     { history = t.history ++ e_event ∷ [] }) e
     ∙ (ap (λ x. record (world_moved s (taken_at_front t.job.clauses (with_heights (levels_of s) x ∷ floor_of (levels_of s)) t.world) t)
     { history = t.history ++ e_event ∷ [] }) entry
@@ -83,7 +82,7 @@ halted_is t w a s f goal scope items k after e entry bare h =
     let marks : ℕ → ℕ = λ n. heights n - 1 in
     let fh = renamed_continuation heights marks f in
     let left = map (renamed_item heights marks) items in
-    ap (λ o. record (where_some o t (λ r. world_moved r (taken_at_front t.job.clauses (stack_of r) t.world) t))
+    ap (λ o. record (where_some o t (λ r. world_moved r (taken_at_front t.job.clauses (spot_stack r) t.world) t))
     { history = t.history ++ e_event ∷ [] }) e
     ∙ (ap (λ x. record (world_moved s (taken_at_front t.job.clauses (with_heights (levels_of s) x ∷ floor_of (levels_of s)) t.world) t)
     { history = t.history ++ e_event ∷ [] }) entry
@@ -229,11 +228,11 @@ answers_move others t w a answers i k j r l = go (taken_at w a t) refl parts.1
 
     go : (o : Option Spot) → taken_at w a t ≡ o → at_spot o (λ s. is_world_gate (gate_of t s) && is_spot_at a (leftmost t)) ≡ true
         → AnswerMoves t (after_event t (Answer w a false)) answers (answers + answers_next t)
-    go None e x = clash x
+    go None e x = false_true x
     go (Some s) e x = pick (bare_or_not s.entry)
       where
         first_is : leftmost t ≡ Some s
-        first_is = taken_first t w a s i e (both_right (is_world_gate (gate_of t s)) _ x)
+        first_is = taken_first t w a s i e (and-right (is_world_gate (gate_of t s)) _ x)
 
         counts : (n : ℕ) → answers_at t s ≡ n → answers + n ≡ answers + answers_next t
         counts n z = ap (λ m. answers + m) (sym z ∙ ap (answers_first t) (sym first_is))

@@ -5,9 +5,7 @@ use Rattle.tree_model.specs.Levels.{Level, put_left, level_node, plug}
 use Rattle.tree_model.specs.Orders.{is_closed}
 use Rattle.tree_model.specs.GivenAnswers.{answers_in, answers_among, AreInOrder, AmongInOrder}
 use Rattle.interleaving.proofs.ClockLemmas.{AreShut, AreClear}
-
-clash : {A : Type 0} → false ≡ true → A
-clash h = let no_way : ⊥ = cc in absurd no_way
+use Rattle.interleaving.proofs.TestLemmas.{false_true}
 
 -- the answers round a place
 abbrev pub answers_before : List (ℕ × Status) → ℕ
@@ -66,7 +64,7 @@ RightsEmpty [] = Unit {0}
 RightsEmpty (v ∷ up) = (answers_among v.right ≡ 0) × RightsEmpty up
 
 open_right : (status : Status) (n : ℕ) → is_closed status ≡ false → (is_closed status ≡ true) ⊎ (n ≡ 0) → n ≡ 0
-open_right status n o (inl h) = clash (sym o ∙ h)
+open_right status n o (inl h) = false_true (sym o ∙ h)
 open_right status n o (inr h) = h
 
 pub rights_empty : (levels : List Level) (status : Status) → is_closed status ≡ false → AreInOrder (plug levels status) → RightsEmpty levels
@@ -89,12 +87,12 @@ same_left (v ∷ up) h = (refl, h.0, same_left up h.1)
 abbrev NoMore : ℕ → ℕ → Type 0 → Type 0
 NoMore new old clear = (new ≤ old) ⊎ clear
 
-left_kept : (left : List (ℕ × Status)) (old new : Alternatives) → NoMore (answers_among new) (answers_among old) (AreShut left)
+left_preserved : (left : List (ℕ × Status)) (old new : Alternatives) → NoMore (answers_among new) (answers_among old) (AreShut left)
     → AmongInOrder new → AmongInOrder (put_left left old) → AmongInOrder (put_left left new)
-left_kept [] old new m k h = k
-left_kept (x ∷ left) old new m k h =
+left_preserved [] old new m k h = k
+left_preserved (x ∷ left) old new m k h =
     let here = after_left left (alternative x.0 x.1 old) h in
-    left_kept left (alternative x.0 x.1 old) (alternative x.0 x.1 new) (more m) (here.0, beside m here.1, k) h
+    left_preserved left (alternative x.0 x.1 old) (alternative x.0 x.1 new) (more m) (here.0, beside m here.1, k) h
   where
     more : NoMore (answers_among new) (answers_among old) (AreShut (x ∷ left)) → NoMore (answers_in x.1 + answers_among new)
         (answers_in x.1 + answers_among old) (AreShut left)
@@ -103,8 +101,8 @@ left_kept (x ∷ left) old new m k h =
       where
         shut_rest : (status : Status) → AreShut ((x.0, status) ∷ left) → AreShut left
         shut_rest (Closed c) z = z.1
-        shut_rest (Pending hold e) z = clash z.0
-        shut_rest (Inner node) z = clash z.0
+        shut_rest (Pending hold e) z = false_true z.0
+        shut_rest (Inner node) z = false_true z.0
 
     beside : NoMore (answers_among new) (answers_among old) (AreShut (x ∷ left)) → (is_closed x.1 ≡ true) ⊎ (answers_among old ≡ 0)
         → (is_closed x.1 ≡ true) ⊎ (answers_among new ≡ 0)
@@ -119,7 +117,8 @@ put_order [] [] old status s r k m h = k
 put_order [] (u ∷ new) old status s r k m h = absurd s
 put_order (v ∷ up) [] old status s r k m h = absurd s
 put_order (v ∷ up) (u ∷ new) old status s r k m h =
-    let among : AmongInOrder (put_left v.left (alternative u.spent status u.right)) = left_kept v.left (alternative v.spent old v.right)
+    let among : AmongInOrder (put_left v.left (alternative u.spent status u.right)) = left_preserved v.left
+    (alternative v.spent old v.right)
     (alternative u.spent status u.right) (at_node m) (k, inr s.1, none_among u.right s.1) (node_order up v old h) in
     let here : AmongInOrder (put_left u.left (alternative u.spent status u.right)) = subst
     (λ l. AmongInOrder (put_left l (alternative u.spent status u.right))) (sym s.0) among in

@@ -17,8 +17,8 @@ use Rattle.tree_model.specs.Ways.{under_query}
 use Rattle.tree_model.specs.SoundTrees.{IsSoundTree}
 use Rattle.tree_model.specs.CaughtTrees.{IsCaught, IsUnspent, IsCaughtTree}
 use Rattle.tree_model.specs.Elements.{Name, Credit, Plain}
-use Rattle.interleaving.specs.Machine.{Asks, free_steps, run, seen}
-use Rattle.interleaving.specs.Scopes.{act, item_act, answered, scoped}
+use Rattle.interleaving.specs.Machine.{AsksWorld, free_steps, run, seen}
+use Rattle.interleaving.specs.Scopes.{act, item_act, answer_taken, scoped}
 use Rattle.interleaving.specs.Quiet.{inferences}
 use Rattle.interleaving.specs.Sound.{IsSound}
 use Rattle.interleaving.specs.Follows.{lead, Follows}
@@ -84,13 +84,13 @@ answered_moves t s f e answers i k running first entry bare asked j r =
     (closed_sound (length s.level.left) s.level.number clauses levels s.level.spent 1 named back first.clear
     (subst IsSound old (lists_are_sound t i k))) in
     let follows : Follows clauses (pending_list (plug levels (Closed one_answer))) (pending_list new.root) = closes_follow clauses
-    (end_wakes clauses) (findall_wakes clauses) t.next levels one_answer placed.around distinct fresh caught.0 sound_base
+    (end_wakes clauses) (findall_wakes clauses) t.next levels one_answer placed.around distinct fresh caught.0 asked sound_base
     (lists_are_sound new j r) in
     let count : lead (pending_list t.root) ≡ inferences front = (let z = first.leads in omega (arith, z, unspent)) in
     let gone = unmarked_names (scopes s) (scopes s) f.items bare in
-    let g = answered (with_items (without_marks named.items) named) in
+    let g = answer_taken (with_items (without_marks named.items) named) in
     let asks : act clauses (Plain p (with_items (without_marks named.items) named))
-    ≡ Asks g = ap (λ is. item_act clauses is p (with_items (without_marks named.items) named)) gone in
+    ≡ AsksWorld g = ap (λ is. item_act clauses is p (with_items (without_marks named.items) named)) gone in
     let quiet = front_quiet levels first.clear in
     record {
       seen = λ n a b.

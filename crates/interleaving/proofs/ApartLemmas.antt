@@ -11,17 +11,22 @@ use Rattle.run_model.specs.Programs.Clauses.{Clause}
 use Rattle.run_model.specs.Programs.Databases.{Database, without_clause}
 use Rattle.run_model.specs.Goals.Worlds.{world_step}
 use Rattle.run_model.specs.Goals.GoalOutcomes.{outcome_of}
-use Rattle.run_model.specs.Goals.Outcomes.{Solution, Reply, Solutions, Ball, HaltNumber, ControlForm, GoesOnWith, EitherOf, TestOf, CutToScope}
+use Rattle.run_model.specs.Goals.Outcomes.{Solution, Reply, Solutions, Ball, HaltNumber, ControlForm, GoesOnWith, EitherOf, TestOf}
+use Rattle.run_model.specs.Goals.Outcomes.{CutToScope}
 use Rattle.run_model.specs.Goals.Outcomes.{CatchOf, FindallOf, Outcome, Replies, Controls, AskWorld}
-use Rattle.run_model.specs.Machine.Items.{Item, GoalItem, CatchMark, CollectMark, RemovalItem, Continuation, resolve_item, goals_at, with_items}
+use Rattle.run_model.specs.Machine.Items.{Item, GoalItem, CatchMark, CollectMark, RemovalItem, Continuation, resolve_item, goals_at}
+use Rattle.run_model.specs.Machine.Items.{with_items}
 use Rattle.run_model.specs.Machine.Items.{with_next, before, without_marks, first_mark}
 use Rattle.interleaving.specs.Machine.{Look, On, Here}
 use Rattle.tree_model.specs.Elements.{Name, same, Record, Element, Credit, Plain, EndOf, Catch, Findall, End}
-use Rattle.interleaving.specs.Scopes.{Shared, Sought, Scope, Thrown, Caught, Does, Lands, unified, solution_entries, reply_place}
-use Rattle.interleaving.specs.Scopes.{test_items, control_place, goal_act, removed, unmarked, item_act, act, recovered, look, with_result}
+use Rattle.interleaving.specs.Scopes.{Shared, Sought, Scope, Thrown, Caught, Does, ElementReplacement, unified_element, solution_elements}
+use Rattle.interleaving.specs.Scopes.{reply_place}
+use Rattle.interleaving.specs.Scopes.{named_test_items, control_place, goal_act, removed, unmarked, item_act, act, recovery_look, look}
+use Rattle.interleaving.specs.Scopes.{findall_with_result}
 use Rattle.interleaving.specs.Scopes.{give, scoped}
 use Rattle.interleaving.specs.Views.{IsApart, IsBeside, IsItemApart, IsRecordApart, IsBlind, IsInner}
-use Rattle.interleaving.proofs.RunFrontLemmas.{each-append, append-assoc-at, PlaceOk, ActOk, LookOk, Closed, Unseen}
+use Rattle.interleaving.proofs.RunFrontLemmas.{each-append, PlaceOk, ActOk, LookOk, Closed, Unseen}
+use Rattle.interleaving.proofs.AppendLemmas.{append-assoc}
 
 both_true : (a b : Bool) → (a && b) ≡ true → a ≡ true × b ≡ true
 both_true true b e = (refl, e)
@@ -59,7 +64,7 @@ module _ (clauses : List Clause) (inside : Name → Bool) where
   IsSoughtApart (Thrown b mark o) = IsMarkApart mark
   IsSoughtApart (Caught b h o) = IsApart inside h
 
-  abbrev PlaceBlind : Lands → Type 0
+  abbrev PlaceBlind : ElementReplacement → Type 0
   PlaceBlind p = PlaceOk (scoped clauses) (IsBlind inside) IsSoughtApart (IsRecordApart inside) p
 
   abbrev ActBlind : Does → Type 0
@@ -69,7 +74,7 @@ module _ (clauses : List Clause) (inside : Name → Bool) where
   LookBlind a = LookOk (scoped clauses) (IsBlind inside) IsSoughtApart (IsRecordApart inside) a
 
   beside_child : (s : Name) (i : ℕ) → IsBeside inside s → IsBeside inside (i ∷ s)
-  beside_child s i h = λ more. ap inside (sym (append-assoc-at more (i ∷ []) s)) ∙ h (more ++ i ∷ [])
+  beside_child s i h = λ more. ap inside (sym (append-assoc more (i ∷ []) s)) ∙ h (more ++ i ∷ [])
 
   mark-apart : (items : S) → Items items → IsMarkApart (first_mark items)
   mark-apart [] h = tt
@@ -90,16 +95,16 @@ module _ (clauses : List Clause) (inside : Name → Bool) where
   resolved-apart s (RemovalItem n ∷ items) h = (tt, resolved-apart s items h.1)
 
   unified-blind : (o : Option Substitution) (p : Name) (f : Continuation Name) → IsBeside inside p → Items f.items
-      → Each Blind (unified o p f)
+      → Each Blind (unified_element o p f)
   unified-blind None p f b i = tt
   unified-blind (Some s) p f b i = ((b, resolved-apart s f.items i), tt)
 
   solutions-blind : (n : ℕ) (p : Name) (f : Continuation Name) (ss : List Solution) → IsBeside inside p → Items f.items
-      → Each Blind (solution_entries n p f ss)
+      → Each Blind (solution_elements n p f ss)
   solutions-blind n p f [] b i = (tt, tt)
   solutions-blind n p f (s ∷ ss) b i =
       let one : Continuation Name = with_next (f.next + s.variables) (before (goals_at p s.goals) f) in
-      each-append Blind (unified (unifier s.equations) (n ∷ p) one) (solution_entries (suc n) p f ss)
+      each-append Blind (unified_element (unifier s.equations) (n ∷ p) one) (solution_elements (suc n) p f ss)
       (unified-blind (unifier s.equations) (n ∷ p) one (beside_child p n b) (goals-apart p s.goals f.items (b []) i))
       (solutions-blind (suc n) p f ss b i)
 
@@ -116,7 +121,7 @@ module _ (clauses : List Clause) (inside : Name → Bool) where
   control-blind (TestOf gs thens others) p h f b k i =
       ((beside_child p 0 b, test-apart gs), (tt, ((beside_child p 1 b, goals-apart h others f.items k i), (tt, tt))))
     where
-      test-apart : (gs : List Term) → Items (test_items (2 ∷ p) p h gs thens ++ f.items)
+      test-apart : (gs : List Term) → Items (named_test_items (2 ∷ p) p h gs thens ++ f.items)
       test-apart [] = (b [], goals-apart h thens f.items k i)
       test-apart (g ∷ gs) = (beside_child p 2 b [], test-apart gs)
   control-blind CutToScope p h f b k i = (k, (b, i))
@@ -177,7 +182,7 @@ module _ (clauses : List Clause) (inside : Name → Bool) where
   either_look false a b h k = k
 
   recovered-blind : (o : Option Substitution) (b r : Term) (u p : Name) (f : Continuation Name) (q : Sought) → Apart u
-      → IsBeside inside p → Items f.items → IsSoughtApart q → LookBlind (recovered o b r u p f q)
+      → IsBeside inside p → Items f.items → IsSoughtApart q → LookBlind (recovery_look o b r u p f q)
   recovered-blind None b r u p f q a h i k = k
   recovered-blind (Some s) b r u p f q a h i k = ((h, (a, resolved-apart s f.items i)), tt)
 
@@ -203,7 +208,7 @@ module _ (clauses : List Clause) (inside : Name → Bool) where
   look-blind (Caught b m o) (Catch s u c r p f) k h =
       let next : Sought = Thrown b (first_mark f.items) o in
       let take : Option Substitution = unifier ((c, copied b f.next) ∷ []) in
-      either_look (same m s) (recovered take b r u p f next) (On (Caught b m o))
+      either_look (same m s) (recovery_look take b r u p f next) (On (Caught b m o))
       (recovered-blind take b r u p f next h.1 h.2 h.3 (mark-apart f.items h.3)) k
   look-blind (Caught b m o) (EndOf s) k h = k
   look-blind (Caught b m o) (Credit j rs) k h = k
@@ -216,7 +221,7 @@ module _ (clauses : List Clause) (inside : Name → Bool) where
   either_blind false x y h k = k
 
   give-blind : (r : Record) (x : Element) → IsRecordApart inside r → Blind x → Blind (give r x)
-  give-blind r (Findall s u results list p f) k b = either_blind (same r.0 s) (with_result r.1 s u results list p f)
+  give-blind r (Findall s u results list p f) k b = either_blind (same r.0 s) (findall_with_result r.1 s u results list p f)
       (Findall s u results list p f) b b
   give-blind r (Credit j rs) k b = b
   give-blind r (Plain p f) k b = b
@@ -255,7 +260,7 @@ module _ (clauses : List Clause) (inside : Name → Bool) where
   passes (Thrown b (Some m) o) (Findall s u results list p f) i k = refl
   passes (Thrown b (Some m) o) (End p e) i k = refl
   passes (Caught b m o) (Catch s u c r p f) i k =
-      ap (λ t. cond t (recovered (unifier ((c, copied b f.next) ∷ [])) b r u p f (Thrown b (first_mark f.items) o)) (On (Caught b m o)))
+      ap (λ t. cond t (recovery_look (unifier ((c, copied b f.next) ∷ [])) b r u p f (Thrown b (first_mark f.items) o)) (On (Caught b m o)))
       (not_same m s k i.0)
   passes (Caught b m o) (EndOf s) i k = refl
   passes (Caught b m o) (Credit j rs) i k = refl
@@ -263,16 +268,16 @@ module _ (clauses : List Clause) (inside : Name → Bool) where
   passes (Caught b m o) (Findall s u results list p f) i k = refl
   passes (Caught b m o) (End p e) i k = refl
 
-  pub inner-keeps : (r : Record) (x : Element) → IsInner inside x → IsRecordApart inside r → give r x ≡ x
-  inner-keeps r (Findall s u results list p f) i k = ap
-      (λ t. cond t (with_result r.1 s u results list p f) (Findall s u results list p f)) (not_same r.0 s k i.0)
-  inner-keeps r (Credit j rs) i k = refl
-  inner-keeps r (Plain p f) i k = refl
-  inner-keeps r (EndOf s) i k = refl
-  inner-keeps r (Catch s u c q p f) i k = refl
-  inner-keeps r (End p o) i k = refl
+  pub inner-preserves : (r : Record) (x : Element) → IsInner inside x → IsRecordApart inside r → give r x ≡ x
+  inner-preserves r (Findall s u results list p f) i k = ap
+      (λ t. cond t (findall_with_result r.1 s u results list p f) (Findall s u results list p f)) (not_same r.0 s k i.0)
+  inner-preserves r (Credit j rs) i k = refl
+  inner-preserves r (Plain p f) i k = refl
+  inner-preserves r (EndOf s) i k = refl
+  inner-preserves r (Catch s u c q p f) i k = refl
+  inner-preserves r (End p o) i k = refl
 
   pub inner_unseen : (xs : List Element) → Each (IsInner inside) xs
       → Each (Unseen (scoped clauses) (IsBlind inside) IsSoughtApart (IsRecordApart inside)) xs
   inner_unseen [] h = tt
-  inner_unseen (x ∷ xs) h = (record { passed = λ q k. passes q x h.0 k; kept = λ r k. inner-keeps r x h.0 k }, inner_unseen xs h.1)
+  inner_unseen (x ∷ xs) h = (record { passed = λ q k. passes q x h.0 k; kept = λ r k. inner-preserves r x h.0 k }, inner_unseen xs h.1)

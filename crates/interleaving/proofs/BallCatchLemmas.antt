@@ -15,20 +15,22 @@ use Rattle.tree_model.specs.SoundTrees.{IsOpen}
 use Rattle.tree_model.specs.CaughtTrees.{catch_right}
 use Rattle.tree_model.specs.Elements.{Name, same, Record, Element, Credit, Plain, EndOf, Catch, Findall, End}
 use Rattle.interleaving.specs.Machine.{Machine, Look, On, Here, gives, looked, search_for}
-use Rattle.interleaving.specs.Scopes.{Shared, Sought, Scope, Thrown, Caught, look, recovered, scoped}
+use Rattle.interleaving.specs.Scopes.{Shared, Sought, Scope, Thrown, Caught, look, recovery_look, scoped}
 use Rattle.interleaving.specs.Segments.{found_in, search_in}
 use Rattle.interleaving.proofs.ContextLemmas.{IsAround}
-use Rattle.interleaving.proofs.WayLemmas.{cond-true, cond-false, same_self}
-use Rattle.interleaving.proofs.ListScopeLemmas.{IsDistinct, distinct-up, sleeps_on}
-use Rattle.interleaving.proofs.ListMarkLemmas.{catch_sleeps}
+use Rattle.interleaving.proofs.WayLemmas.{cond-true, cond-false}
+use Rattle.interleaving.proofs.ListScopeLemmas.{IsDistinct, distinct-up, dormant_on}
+use Rattle.interleaving.proofs.ListMarkLemmas.{catch_dormant}
 use Rattle.interleaving.proofs.ClosingListLemmas.{Guards}
 use Rattle.interleaving.proofs.WakeLemmas.{second_right}
 use Rattle.interleaving.proofs.CaughtContextLemmas.{RootCaught}
 use Rattle.interleaving.proofs.LowerListLemmas.{lower_back}
-use Rattle.interleaving.proofs.FallLemmas.{Fall, Nobody, Catches, caught_or, right_falls, fall, MarkSleeps, first_sleeps, sleeps_way}
-use Rattle.interleaving.proofs.FallLemmas.{sleeper_marks, sleeper_guards}
+use Rattle.interleaving.proofs.CatchingLemmas.{Catching, Uncaught, CaughtBy, caught_or, right_falls, catching, MarkIsDormant, first_dormant}
+use Rattle.interleaving.proofs.CatchingLemmas.{dormant_way}
+use Rattle.interleaving.proofs.CatchingLemmas.{dormant_marks, dormant_guards}
 use Rattle.interleaving.proofs.BallSearchLemmas.{mark_name, second_step, catch_element, named_recovery, next_in, thrown_pass, to_catch}
 use Rattle.interleaving.proofs.BallSearchLemmas.{end_pass, right_passes, mark_up, mark_apart, to_side, Finds, passes_level, off_catcher}
+use Rattle.interleaving.proofs.TestLemmas.{number_same}
 
 module _ (clauses : List Clause) where
   abbrev m : Machine Shared Element Sought Record
@@ -38,10 +40,10 @@ module _ (clauses : List Clause) where
   at_catch : (ball : Term) (o : Name) (rs : List Record) (v : Level) (rest : List Level) (status : Status) (s : ℕ) (y t : Term)
       (g : Continuation ℕ) → IsAround (v ∷ rest) IsOpen → IsDistinct (v ∷ rest) → RootCaught (plug (v ∷ rest) status)
       → Guards v (CatchEntry y t g) → (v.number == s) ≡ true
-      → ((k : Option ℕ) → MarkSleeps rest k → Finds clauses ball o rs rest k) → (b : Option Substitution)
+      → ((k : Option ℕ) → MarkIsDormant rest k → Finds clauses ball o rs rest k) → (b : Option Substitution)
       → unifier ((y, copied ball g.next) ∷ []) ≡ b
       → (w : Level) (up : List Level) (r : Term) (f : Continuation ℕ) (u : Substitution)
-      → caught_or b v rest t g (fall ball rest (first_mark g.items)) ≡ Catches w up r f u → (x : Term)
+      → caught_or b v rest t g (catching ball rest (first_mark g.items)) ≡ CaughtBy w up r f u → (x : Term)
       → unifier ((x, copied ball f.next) ∷ []) ≡ Some u → (zs : List Element)
       → search_in m (Thrown ball (mark_name (way_of (v ∷ rest)) (Some s)) o)
       (map (gives m rs) (lower_back w.number (v ∷ rest) ++ to_side clauses w up x r f zs))
@@ -51,28 +53,28 @@ module _ (clauses : List Clause) where
       itself : scope_on (way_of (v ∷ rest)) s ≡ 0 ∷ v.number ∷ []
       itself = cond-true (v.number == s) _ (scope_on (way_of rest) s) e ∙ ap (λ l. length l ∷ v.number ∷ []) q.left
 
-      Found : Fall → Type 0
-      Found Nobody = Unit {0}
-      Found (Catches w2 up2 r2 f2 u2) = (x2 : Term) → unifier ((x2, copied ball f2.next) ∷ []) ≡ Some u2
+      Found : Catching → Type 0
+      Found Uncaught = Unit {0}
+      Found (CaughtBy w2 up2 r2 f2 u2) = (x2 : Term) → unifier ((x2, copied ball f2.next) ∷ []) ≡ Some u2
           → search_in m (Thrown ball (mark_name (way_of (v ∷ rest)) (Some s)) o)
           (map (gives m rs) (lower_back w2.number (v ∷ rest) ++ to_side clauses w2 up2 x2 r2 f2 zs))
           ≡ Some (named_recovery ball w2 up2 r2 f2 u2 ∷ map (gives m rs) zs)
 
-      here : Found (Catches v rest t g z)
+      here : Found (CaughtBy v rest t g z)
       here x2 un2 =
           ap (λ n. search_in m (Thrown ball (Some n) o)
           (map (gives m rs) (lower_back v.number (v ∷ rest) ++ to_side clauses v rest x2 t g zs)))
           itself
           ∙ (ap (λ l. search_in m (Thrown ball (Some (0 ∷ v.number ∷ [])) o) (map (gives m rs) (l ++ to_side clauses v rest x2 t g zs)))
-          (cond-true (v.number == v.number) [] _ (same_self v.number))
+          (cond-true (v.number == v.number) [] _ (number_same v.number))
           ∙ (to_catch clauses ball x2 t o rs v rest g zs
-          ∙ ap (λ c. found_in m (recovered c ball t (1 ∷ v.number ∷ []) (0 ∷ 1 ∷ v.number ∷ [])
+          ∙ ap (λ c. found_in m (recovery_look c ball t (1 ∷ v.number ∷ []) (0 ∷ 1 ∷ v.number ∷ [])
           (named_continuation (second_step v ∷ way_of rest) g)
           (Thrown ball (mark_name (second_step v ∷ way_of rest) (first_mark g.items)) o)) (λ p. search_in m p (map (gives m rs) zs))
           (map (gives m rs) zs)) un2))
   at_catch ball o rs v rest status s y t g a d h q e more None n w up r f u k x un zs =
       let mark = first_mark g.items in
-      let sleeps = first_sleeps rest g.items (sleeper_marks v rest status y t g q.spent h q.right) in
+      let sleeps = first_dormant rest g.items (dormant_marks v rest status y t g q.spent h q.right) in
       let off = off_catcher clauses ball v rest status mark a h sleeps w up r f u k in
       let tail = lower_back w.number rest ++ to_side clauses w up x r f zs in
       let itself : scope_on (way_of (v ∷ rest)) s ≡ 0 ∷ v.number ∷ [] = cond-true (v.number == s) _ (scope_on (way_of rest) s) e
@@ -87,7 +89,7 @@ module _ (clauses : List Clause) where
       (map (gives m rs) (lower_back w.number (v ∷ rest) ++ to_side clauses w up x r f zs))) itself
       ∙ (ap (λ l. search_in m (Thrown ball (Some (0 ∷ v.number ∷ [])) o) (map (gives m rs) l)) list
       ∙ (to_catch clauses ball y t o rs v rest g (EndOf (1 ∷ v.number ∷ []) ∷ tail)
-      ∙ (ap (λ c. found_in m (recovered c ball t (1 ∷ v.number ∷ []) (0 ∷ 1 ∷ v.number ∷ [])
+      ∙ (ap (λ c. found_in m (recovery_look c ball t (1 ∷ v.number ∷ []) (0 ∷ 1 ∷ v.number ∷ [])
       (named_continuation (second_step v ∷ way_of rest) g) (Thrown ball (mark_name (second_step v ∷ way_of rest) mark) o))
       (λ p. search_in m p (map (gives m rs) (EndOf (1 ∷ v.number ∷ []) ∷ tail)))
       (map (gives m rs) (EndOf (1 ∷ v.number ∷ []) ∷ tail))) n
@@ -97,28 +99,28 @@ module _ (clauses : List Clause) where
       ∙ more mark sleeps w up r f u k x un zs)))))
 
   pub finds : (ball : Term) (o : Name) (rs : List Record) (levels : List Level) (status : Status) (mark : Option ℕ)
-      → IsAround levels IsOpen → IsDistinct levels → RootCaught (plug levels status) → MarkSleeps levels mark
+      → IsAround levels IsOpen → IsDistinct levels → RootCaught (plug levels status) → MarkIsDormant levels mark
       → Finds clauses ball o rs levels mark
   finds ball o rs [] status mark a d h k w up r f u e x un zs = let no_way : ⊥ = cc in absurd no_way
   finds ball o rs (v ∷ rest) status None a d h k w up r f u e x un zs = let no_way : ⊥ = cc in absurd no_way
   finds ball o rs (v ∷ rest) status (Some s) a d h k w up r f u e x un zs = go (v.number == s) refl k e
       (λ j l. finds ball o rs rest (Inner (level_node v status)) j a.1 (distinct-up v rest d) h l)
     where
-      go : (b : Bool) → (v.number == s) ≡ b → cond b (catch_right v.right) (sleeps_on rest s) ≡ true
-          → cond b (right_falls ball v rest v.right (fall ball rest)) (fall ball rest (Some s)) ≡ Catches w up r f u
-          → ((j : Option ℕ) → MarkSleeps rest j → Finds clauses ball o rs rest j)
+      go : (b : Bool) → (v.number == s) ≡ b → cond b (catch_right v.right) (dormant_on rest s) ≡ true
+          → cond b (right_falls ball v rest v.right (catching ball rest)) (catching ball rest (Some s)) ≡ CaughtBy w up r f u
+          → ((j : Option ℕ) → MarkIsDormant rest j → Finds clauses ball o rs rest j)
           → search_in m (Thrown ball (mark_name (way_of (v ∷ rest)) (Some s)) o)
           (map (gives m rs) (lower_back w.number (v ∷ rest) ++ to_side clauses w up x r f zs))
           ≡ Some (named_recovery ball w up r f u ∷ map (gives m rs) zs)
       go false q l z more =
-          passes_level clauses ball o rs v rest s d a.0.new (sleeps_way rest s l) q w
+          passes_level clauses ball o rs v rest s d a.0.new (dormant_way rest s l) q w
           (off_catcher clauses ball v rest status (Some s) a h l w up r f u z) (to_side clauses w up x r f zs)
           ∙ more (Some s) l w up r f u z x un zs
       go true q l z more =
-          let c = catch_sleeps v l in
-          let g = sleeper_guards v rest (CatchEntry c.0 c.1 c.2) a.0 c.3 in
+          let c = catch_dormant v l in
+          let g = dormant_guards v rest (CatchEntry c.0 c.1 c.2) a.0 c.3 in
           at_catch ball o rs v rest status s c.0 c.1 c.2 a d h g q more (unifier ((c.0, copied ball c.2.next) ∷ [])) refl w up r f u
-          (subst (λ right. right_falls ball v rest right (fall ball rest) ≡ Catches w up r f u) g.right z) x un zs
+          (subst (λ right. right_falls ball v rest right (catching ball rest) ≡ CaughtBy w up r f u) g.right z) x un zs
 
   -- what is found within a list is what is found
   pub search_found : (q : Sought) (xs ys : List Element) → search_in m q xs ≡ Some ys → search_for m q xs ≡ ys
@@ -148,7 +150,7 @@ module _ (clauses : List Clause) where
   either_look b o false x y h k = k
 
   recovered_look : (b : Term) (o : Name) (s : Option Substitution) (c r : Term) (u p : Name) (f : Continuation Name) (q : Sought)
-      → IsBallOf b o q → LooksOf b o (recovered s c r u p f q)
+      → IsBallOf b o q → LooksOf b o (recovery_look s c r u p f q)
   recovered_look b o None c r u p f q h = h
   recovered_look b o (Some s) c r u p f q h = tt
 
@@ -170,7 +172,7 @@ module _ (clauses : List Clause) where
   look_of b o (Caught c h p) (Plain n f) k = k
   look_of b o (Caught c h p) (EndOf s) k = k
   look_of b o (Caught c h p) (Catch s u y r n f) k =
-      either_look b o (same h s) (recovered (unifier ((y, copied c f.next) ∷ [])) c r u n f (Thrown c (first_mark f.items) p))
+      either_look b o (same h s) (recovery_look (unifier ((y, copied c f.next) ∷ [])) c r u n f (Thrown c (first_mark f.items) p))
       (On (Caught c h p)) (recovered_look b o (unifier ((y, copied c f.next) ∷ [])) c r u n f (Thrown c (first_mark f.items) p) k) k
   look_of b o (Caught c h p) (Findall s u rs l n f) k = k
   look_of b o (Caught c h p) (End n a) k = k
@@ -207,8 +209,8 @@ module _ (clauses : List Clause) where
       goes_on (End n a) = refl
 
   pub loses : (ball : Term) (o : Name) (rs : List Record) (levels : List Level) (status : Status) (mark : Option ℕ)
-      → IsAround levels IsOpen → IsDistinct levels → RootCaught (plug levels status) → MarkSleeps levels mark → fall ball levels mark
-      ≡ Nobody
+      → IsAround levels IsOpen → IsDistinct levels → RootCaught (plug levels status) → MarkIsDormant levels mark → catching ball levels mark
+      ≡ Uncaught
       → search_in m (Thrown ball (mark_name (way_of levels) mark) o) (map (gives m rs) (back_of levels)) ≡ None
   loses ball o rs [] status mark a d h k e = refl
   loses ball o rs (v ∷ rest) status None a d h k e = unmarked_loses ball o rs (back_of (v ∷ rest))
@@ -216,14 +218,15 @@ module _ (clauses : List Clause) where
       (λ j l. loses ball o rs rest (Inner (level_node v status)) j a.1 (distinct-up v rest d) h l)
     where
       catches : (y t : Term) (g : Continuation ℕ) → Guards v (CatchEntry y t g) → (v.number == s) ≡ true → (b : Option Substitution)
-          → unifier ((y, copied ball g.next) ∷ []) ≡ b → caught_or b v rest t g (fall ball rest (first_mark g.items)) ≡ Nobody
-          → ((j : Option ℕ) → MarkSleeps rest j → fall ball rest j ≡ Nobody → search_in m (Thrown ball (mark_name (way_of rest) j) o)
+          → unifier ((y, copied ball g.next) ∷ []) ≡ b → caught_or b v rest t g (catching ball rest (first_mark g.items)) ≡ Uncaught
+          → ((j : Option ℕ) → MarkIsDormant rest j → catching ball rest j ≡ Uncaught
+          → search_in m (Thrown ball (mark_name (way_of rest) j) o)
           (map (gives m rs) (back_of rest)) ≡ None)
           → search_in m (Thrown ball (mark_name (way_of (v ∷ rest)) (Some s)) o) (map (gives m rs) (back_of (v ∷ rest))) ≡ None
       catches y t g q i (Some z) n c more = let no_way : ⊥ = cc in absurd no_way
       catches y t g q i None n c more =
           let mark = first_mark g.items in
-          let sleeps = first_sleeps rest g.items (sleeper_marks v rest status y t g q.spent h q.right) in
+          let sleeps = first_dormant rest g.items (dormant_marks v rest status y t g q.spent h q.right) in
           let itself : scope_on (way_of (v ∷ rest)) s ≡ 0 ∷ v.number ∷ [] = cond-true (v.number == s) _ (scope_on (way_of rest) s) i
           ∙ ap (λ l. length l ∷ v.number ∷ []) q.left in
           let list : back_of (v ∷ rest) ≡ EndOf (0 ∷ v.number ∷ [])
@@ -232,7 +235,7 @@ module _ (clauses : List Clause) where
           ap (λ j. search_in m (Thrown ball (Some j) o) (map (gives m rs) (back_of (v ∷ rest)))) itself
           ∙ (ap (λ l. search_in m (Thrown ball (Some (0 ∷ v.number ∷ [])) o) (map (gives m rs) l)) list
           ∙ (to_catch clauses ball y t o rs v rest g (EndOf (1 ∷ v.number ∷ []) ∷ back_of rest)
-          ∙ (ap (λ x. found_in m (recovered x ball t (1 ∷ v.number ∷ []) (0 ∷ 1 ∷ v.number ∷ [])
+          ∙ (ap (λ x. found_in m (recovery_look x ball t (1 ∷ v.number ∷ []) (0 ∷ 1 ∷ v.number ∷ [])
           (named_continuation (second_step v ∷ way_of rest) g) (Thrown ball (mark_name (second_step v ∷ way_of rest) mark) o))
           (λ p. search_in m p (map (gives m rs) (EndOf (1 ∷ v.number ∷ []) ∷ back_of rest)))
           (map (gives m rs) (EndOf (1 ∷ v.number ∷ []) ∷ back_of rest))) n
@@ -242,18 +245,19 @@ module _ (clauses : List Clause) where
           (mark_apart clauses v rest mark a.0.new sleeps)
           ∙ more mark sleeps c)))))
 
-      go : (b : Bool) → (v.number == s) ≡ b → cond b (catch_right v.right) (sleeps_on rest s) ≡ true
-          → cond b (right_falls ball v rest v.right (fall ball rest)) (fall ball rest (Some s)) ≡ Nobody
-          → ((j : Option ℕ) → MarkSleeps rest j → fall ball rest j ≡ Nobody → search_in m (Thrown ball (mark_name (way_of rest) j) o)
+      go : (b : Bool) → (v.number == s) ≡ b → cond b (catch_right v.right) (dormant_on rest s) ≡ true
+          → cond b (right_falls ball v rest v.right (catching ball rest)) (catching ball rest (Some s)) ≡ Uncaught
+          → ((j : Option ℕ) → MarkIsDormant rest j → catching ball rest j ≡ Uncaught
+          → search_in m (Thrown ball (mark_name (way_of rest) j) o)
           (map (gives m rs) (back_of rest)) ≡ None)
           → search_in m (Thrown ball (mark_name (way_of (v ∷ rest)) (Some s)) o) (map (gives m rs) (back_of (v ∷ rest))) ≡ None
       go false q l z more =
           ap (λ n. search_in m (Thrown ball (Some n) o) (map (gives m rs) (back_of (v ∷ rest))))
           (cond-false (v.number == s) _ (scope_on (way_of rest) s) q)
           ∙ (thrown_pass clauses ball (scope_on (way_of rest) s) o rs (list_right (way_of rest) v) (back_of rest)
-          (right_passes clauses v rest s d a.0.new (sleeps_way rest s l)) ∙ more (Some s) l z)
+          (right_passes clauses v rest s d a.0.new (dormant_way rest s l)) ∙ more (Some s) l z)
       go true q l z more =
-          let c = catch_sleeps v l in
-          let g = sleeper_guards v rest (CatchEntry c.0 c.1 c.2) a.0 c.3 in
+          let c = catch_dormant v l in
+          let g = dormant_guards v rest (CatchEntry c.0 c.1 c.2) a.0 c.3 in
           catches c.0 c.1 c.2 g q (unifier ((c.0, copied ball c.2.next) ∷ [])) refl
-          (subst (λ right. right_falls ball v rest right (fall ball rest) ≡ Nobody) g.right z) more
+          (subst (λ right. right_falls ball v rest right (catching ball rest) ≡ Uncaught) g.right z) more

@@ -20,29 +20,29 @@ use Rattle.tree_model.specs.PendingLists.{way_of, findall_on, element_on, list_l
 use Rattle.tree_model.specs.Ways.{is_on, IsAsked}
 use Rattle.tree_model.specs.SoundTrees.{one_if, IsOpen}
 use Rattle.tree_model.specs.Elements.{Name, Record, Element, Credit, Plain, Catch, Findall, End, EndOf}
-use Rattle.interleaving.specs.Machine.{Machine, Takes, Seek, gives}
+use Rattle.interleaving.specs.Machine.{Machine, Infers, Seek, gives}
 use Rattle.interleaving.specs.Scopes.{Shared, Sought, Thrown, act, scoped}
 use Rattle.interleaving.specs.Segments.{outer}
 use Rattle.interleaving.specs.Quiet.{inferences, records}
 use Rattle.interleaving.specs.Roots.{rooted}
 use Rattle.interleaving.specs.Views.{IsBlind, IsInner, IsUnder, IsRecordApart}
 use Rattle.interleaving.specs.Laws.{is_inner_record, IsSegment}
-use Rattle.interleaving.specs.Erased.{count, erased}
+use Rattle.interleaving.specs.Erased.{element_count, erased}
 use Rattle.interleaving.specs.Follows.{lead}
 use Rattle.interleaving.proofs.ContextLemmas.{IsAround, count_around}
-use Rattle.interleaving.proofs.WayLemmas.{same_self, cond-false}
+use Rattle.interleaving.proofs.WayLemmas.{cond-false}
 use Rattle.interleaving.proofs.RoundtripLemmas.{by_heights}
 use Rattle.interleaving.proofs.ClosingSoundLemmas.{IsFree}
-use Rattle.interleaving.proofs.AppendLemmas.{append-assoc, each-append}
-use Rattle.interleaving.proofs.RunFrontLemmas.{append-none}
+use Rattle.interleaving.proofs.AppendLemmas.{append-assoc, each-append, append-nil}
 use Rattle.interleaving.proofs.QuietCreditLemmas.{gives-fixed}
 use Rattle.interleaving.proofs.ContextLemmas.{count_left}
 use Rattle.tree_model.specs.SoundTrees.{count_among}
-use Rattle.interleaving.proofs.RootLemmas.{are_told}
+use Rattle.interleaving.proofs.RootLemmas.{are_distinguished}
 use Rattle.interleaving.proofs.ClockLemmas.{AreClear, quiet-append, inferences-append}
 use Rattle.interleaving.proofs.ListChangeLemmas.{becomes as private_becomes}
 use Rattle.interleaving.proofs.LeadLemmas.{lead-quiet, lead-grows}
-use Rattle.interleaving.proofs.FoldLemmas.{Passes, side_name, passes_then, passes_becoming, credit_counted, SidesKept, named_by}
+use Rattle.interleaving.proofs.EndLemmas.{has_end, end_after, back_end}
+use Rattle.interleaving.proofs.FoldLemmas.{Passes, side_name, passes_then, passes_becoming, credit_counted, HaveNoSideRecords, named_by}
 use Rattle.interleaving.proofs.FoldLemmas.{records-append}
 use Rattle.interleaving.proofs.WakeLemmas.{second_right}
 use Rattle.interleaving.proofs.ListEndLemmas.{levels_down}
@@ -52,21 +52,21 @@ use Rattle.interleaving.proofs.PublishedBareLemmas.{right_of}
 use Rattle.interleaving.proofs.FrontCloseLemmas.{bare}
 use Rattle.interleaving.proofs.CaughtContextLemmas.{IsCaughtRoot}
 use Rattle.interleaving.proofs.CaughtBallLemmas.{catch_no_side}
-use Rattle.interleaving.proofs.BallLevelLemmas.{landed, FirstShut}
-use Rattle.interleaving.proofs.FallLemmas.{Catches, fall, MarkSleeps, IsCatcher}
-use Rattle.interleaving.proofs.LowerListLemmas.{lower_front, lower_back, front_split, back_split, lower_quiet, landed_counts, landed_low}
+use Rattle.interleaving.proofs.CaughtClosingLemmas.{dormant_there}
+use Rattle.interleaving.proofs.BallLevelLemmas.{ball_credit, FirstShut}
+use Rattle.interleaving.proofs.CatchingLemmas.{CaughtBy, catching, MarkIsDormant, IsCatcher}
+use Rattle.interleaving.proofs.LowerListLemmas.{lower_front, lower_back, front_split, back_split, lower_quiet, ball_credit_counts}
+use Rattle.interleaving.proofs.LowerListLemmas.{ball_credit_low}
 use Rattle.interleaving.proofs.LowerListLemmas.{count_lower, count_split, lower_inner}
 use Rattle.interleaving.proofs.UpperBlindLemmas.{NoSideTop, blind_is_under, is_free_of, zero_free, upper_front, upper_back, upper_findall}
-use Rattle.interleaving.proofs.UpperBlindLemmas.{landed_rows}
+use Rattle.interleaving.proofs.UpperBlindLemmas.{ball_credit_rows}
 use Rattle.interleaving.proofs.BallSearchLemmas.{second_step, catch_element, named_recovery, mark_name}
 use Rattle.interleaving.proofs.BallCatchLemmas.{finds}
 use Rattle.interleaving.proofs.RecoveryNamesLemmas.{recovery_same}
 use Rattle.interleaving.proofs.GatePrivateLemmas.{gate_private}
+use Rattle.interleaving.proofs.TestLemmas.{false_true, number_same}
 
-clash : {A : Type 0} → false ≡ true → A
-clash h = let no_way : ⊥ = cc in absurd no_way
-
-pub some_count : (xs ys : List Element) → 0 < count ys → 0 < count (xs ++ ys)
+pub some_count : (xs ys : List Element) → 0 < element_count ys → 0 < element_count (xs ++ ys)
 some_count [] ys h = h
 some_count (Credit k rs ∷ xs) ys h = let i = some_count xs ys h in omega (arith, i)
 some_count (Plain p f ∷ xs) ys h = let i = some_count xs ys h in omega (arith, i)
@@ -84,7 +84,7 @@ pub recovery_heights : (levels : List Level) (w : Level) (up : List Level) (next
     → erased (named_recovery ball w up r f o ∷ (EndOf (1 ∷ w.number ∷ []) ∷ back_of up))
     ≡ erased (element_on (record { node = next; index = 0; kind = ChoiceNode } ∷ second_step w ∷ way_of up)
     (with_nodes (node_of levels) (PlainEntry g)) ∷ (EndOf (0 ∷ next ∷ []) ∷ (EndOf (1 ∷ w.number ∷ []) ∷ back_of up)))
-recovery_heights levels w [] next ball r f g o down new fresh asked is named next_is = clash asked.asked
+recovery_heights levels w [] next ball r f g o down new fresh asked is named next_is = false_true asked.asked
 recovery_heights levels w (u ∷ up) next ball r f g o down new fresh asked is named next_is = recovery_same levels w u up next
     (right_of (u ∷ up)) down new fresh ball r f g o asked is named next_is
 
@@ -95,7 +95,7 @@ rows_apart inside name h (t ∷ ts) = (h, rows_apart inside name h ts)
 
 -- an entry of a branch, with nothing spent, and what is round it in the list
 module _ (clauses : List Clause) (next : ℕ) (v : Level) (above : List Level) (p : Name) (named : Continuation Name)
-    (a : IsAround (v ∷ above) IsOpen) (d : IsDistinct (v ∷ above)) (free : IsFree next (v ∷ above)) (sides : SidesKept (v ∷ above))
+    (a : IsAround (v ∷ above) IsOpen) (d : IsDistinct (v ∷ above)) (free : IsFree next (v ∷ above)) (sides : HaveNoSideRecords (v ∷ above))
   where
     abbrev levels : List Level
     levels = v ∷ above
@@ -125,7 +125,7 @@ module _ (clauses : List Clause) (next : ℕ) (v : Level) (above : List Level) (
           let most = d w.number in
           let here : count_around w.number (levels_down levels w.number) ≡ count_around w.number (w ∷ up) = ap (count_around w.number)
           c.down in
-          let one : one_if (w.number == w.number) ≡ 1 = ap one_if (same_self w.number) in
+          let one : one_if (w.number == w.number) ≡ 1 = ap one_if (number_same w.number) in
           zero_free up w.number (omega (arith, all, most, here, one))
 
       pub free_next : is_free_of up next ≡ true
@@ -145,7 +145,7 @@ module _ (clauses : List Clause) (next : ℕ) (v : Level) (above : List Level) (
               ≡ count_lower v.number w.number above +
               (one_if (v.number == v.number) + (count_left v.number v.left + count_among v.number v.right)) = cond-false
               (v.number == w.number) 0 _ e in
-              let one : one_if (v.number == v.number) ≡ 1 = ap one_if (same_self v.number) in
+              let one : one_if (v.number == v.number) ≡ 1 = ap one_if (number_same v.number) in
               free_lower v.number (omega (arith, less, one))
 
       -- the parts of the list
@@ -195,7 +195,7 @@ module _ (clauses : List Clause) (next : ℕ) (v : Level) (above : List Level) (
 
       pub segment : inside p ≡ true → IsSegment inside front (credits ++ (Plain p named ∷ mid)) back
       segment own = record {
-        grown = are_told.root (is_free_of up);
+        grown = are_distinguished.root (is_free_of up);
         front = front_blind;
         own = each-append (IsInner inside) credits (Plain p named ∷ mid)
             (each-append (IsInner inside) (lower_front w.number levels) (Credit v.spent [] ∷ []) lower.0 (tt, tt)) (
@@ -214,10 +214,15 @@ module _ (clauses : List Clause) (next : ℕ) (v : Level) (above : List Level) (
       abbrev first : List Element
       first = named_recovery ball w up r f o ∷ (EndOf (1 ∷ w.number ∷ []) ∷ [])
 
+      -- the end of the query is behind
+      pub behind_end : has_end (first ++ back) ≡ true
+      behind_end = end_after first back (back_end up top.1 (dormant_there w up IsOpen c.sleeper.spent (CatchEntry c.catcher r f) top.0
+          c.sleeper.right).asked)
+
       -- the ball, taken at once
-      pub ball_taken : (status : Status) (mark : Option ℕ) → IsCaughtRoot (plug (v ∷ above) status) → MarkSleeps (v ∷ above) mark
-          → fall ball (v ∷ above) mark ≡ Catches w up r f o → AreClear (levels_below (Some w.number) (v ∷ above)) → inside p ≡ true
-          → act clauses (bare clauses p named) ≡ Takes (Seek (Thrown ball (mark_name (way_of (v ∷ above)) mark) p))
+      pub ball_taken : (status : Status) (mark : Option ℕ) → IsCaughtRoot (plug (v ∷ above) status) → MarkIsDormant (v ∷ above) mark
+          → catching ball (v ∷ above) mark ≡ CaughtBy w up r f o → AreClear (levels_below (Some w.number) (v ∷ above)) → inside p ≡ true
+          → act clauses (bare clauses p named) ≡ Infers (Seek (Thrown ball (mark_name (way_of (v ∷ above)) mark) p))
           → Passes clauses (front_of (v ∷ above) ++ (Credit v.spent [] ∷ (Plain p named ∷ back_of (v ∷ above))))
           (front ++ (Credit (min greatest (inferences credits + 1)) rows ∷ (first ++ back)))
       ball_taken status mark root sleeps falls clear own takes =
@@ -237,16 +242,16 @@ module _ (clauses : List Clause) (next : ℕ) (v : Level) (above : List Level) (
           (front ++ (Credit (inferences credits + 1) rows ∷ (first ++ back))) = passes_becoming clauses _ _ becomes
           (lead-grows front ((credits ++ (Plain p named ∷ mid)) ++ back) (Credit (inferences credits + 1) rows ∷ (first ++ back))
           (omega (arith, total))) in
-          let two = credit_counted clauses front (first ++ back) (inferences credits + 1) rows in
+          let two = credit_counted clauses front (first ++ back) (inferences credits + 1) rows behind_end in
           subst (λ l. Passes clauses l (front ++ (Credit (min greatest (inferences credits + 1)) rows ∷ (first ++ back)))) (sym list_is)
           (passes_then clauses _ _ _ one two)
 
       -- what a ball has left is the credit of its goal side
       pub credit_is : AreClear (levels_below (Some w.number) (v ∷ above)) → v.spent ≡ 0 → min greatest (inferences credits + 1)
-          ≡ (landed w.number (v ∷ above) (credit_of 1)).inferences
+          ≡ (ball_credit w.number (v ∷ above) (credit_of 1)).inferences
       credit_is clear unspent =
-          let counts = landed_counts w.number levels (credit_of 1) clear (subst FirstShut (sym c.down) c.sleeper.left) in
-          let low = landed_low w.number v above (credit_of 1) in
+          let counts = ball_credit_counts w.number levels (credit_of 1) clear (subst FirstShut (sym c.down) c.sleeper.left) in
+          let low = ball_credit_low w.number v above (credit_of 1) in
           let joined : inferences credits ≡ inferences (lower_front w.number levels) + (v.spent + 0) = inferences-append
           (lower_front w.number levels) (Credit v.spent [] ∷ []) in
           let here : spent_at levels + (credit_of 1).inferences ≡ v.spent + 1 = refl in
@@ -259,12 +264,12 @@ module _ (clauses : List Clause) (next : ℕ) (v : Level) (above : List Level) (
       findall_above = ap inside (side_name (way_of up) w.number (length w.left) w.kind no_side_top) ∙ upper_findall up
 
       pub rows_are : AreClear (levels_below (Some w.number) (v ∷ above)) → rows
-          ≡ named_by (way_of (w ∷ up)) (landed w.number (v ∷ above) (credit_of 1)).records
+          ≡ named_by (way_of (w ∷ up)) (ball_credit w.number (v ∷ above) (credit_of 1)).records
       rows_are clear =
           let joined : records credits ≡ records (lower_front w.number levels) ++ [] = records-append (lower_front w.number levels)
           (Credit v.spent [] ∷ []) in
-          append-none (outer (is_inner_record inside) (records credits))
+          append-nil (outer (is_inner_record inside) (records credits))
           ∙ (ap (outer (is_inner_record inside)) joined
-          ∙ (landed_rows inside w.number levels (credit_of 1) clear sides (subst FirstShut (sym c.down) c.sleeper.left)
+          ∙ (ball_credit_rows inside w.number levels (credit_of 1) clear sides (subst FirstShut (sym c.down) c.sleeper.left)
           (subst NoSideTop (sym c.down) no_side_top) (ap (λ l. inside (findall_on (way_of l))) c.down ∙ findall_above) free_lower
-          ∙ ap (λ l. named_by (way_of l) (landed w.number levels (credit_of 1)).records) c.down))
+          ∙ ap (λ l. named_by (way_of l) (ball_credit w.number levels (credit_of 1)).records) c.down))

@@ -1,7 +1,7 @@
 -- A ball lands by heights where it lands by names.
 use Rattle.std.proofs.Common.{◌≡◌, ℕ, suc, ◌-◌, ◌+◌, ◌≤◌, ◌==◌, Bool, true, false, cond, List, [], ◌∷◌, map, length, Option, Some, None}
 use Rattle.std.proofs.Common.{refl, sym, ap, ◌∙◌, subst, arith}
-use Rattle.std.proofs.lemmas.Bool.{eq-eqb, eqb-true}
+use Rattle.std.proofs.lemmas.Bool.{eq-eqb}
 use Rattle.au_term.specs.Term.{Term}
 use Rattle.au_model.specs.Terms.Each.{Each}
 use Rattle.run_model.specs.Programs.Bodies.{call_of}
@@ -9,16 +9,18 @@ use Rattle.au_model.specs.Terms.Substitutions.{Substitution}
 use Rattle.au_model.specs.Terms.Unifier.{unifier}
 use Rattle.au_model.specs.Terms.Copies.{copied, copy_takes}
 use Rattle.run_model.specs.Programs.Clauses.{Clause}
-use Rattle.run_model.specs.Machine.Items.{Item, GoalItem, CatchMark, CollectMark, RemovalItem, Continuation, resolve_continuation, with_next}
+use Rattle.run_model.specs.Machine.Items.{Item, GoalItem, CatchMark, CollectMark, RemovalItem, Continuation, resolve_continuation}
+use Rattle.run_model.specs.Machine.Items.{with_next}
 use Rattle.run_model.specs.Machine.Items.{before, first_mark}
 use Rattle.run_model.specs.Machine.Entries.{PlainEntry, CatchEntry}
 use Rattle.interleaving.specs.Machine.{On, looked, search_for}
 use Rattle.tree_model.specs.Elements.{Name, same, Record, Element, Credit, Plain, EndOf, Catch, Findall, End}
-use Rattle.interleaving.specs.Scopes.{Sought, Thrown, Caught, recovered, scoped}
-use Rattle.interleaving.specs.HeightMachine.{HeightElement, HeightEntry, held_recovered, held_landing}
-use Rattle.interleaving.specs.Erased.{from, count, height, with_height, with_heights, erased}
+use Rattle.interleaving.specs.Scopes.{Sought, Thrown, Caught, recovery_look, scoped}
+use Rattle.interleaving.specs.HeightMachine.{HeightElement, HeightEntry, height_recovered, height_unwound}
+use Rattle.interleaving.specs.Erased.{from, element_count, height, with_height, continuation_heights, erased}
 use Rattle.interleaving.specs.Sound.{names, IsGuarded, IsMarkSound, IsRightUnder, IsSound}
 use Rattle.interleaving.proofs.NamingLemmas.{same-itself, resolved-heights, goals-heights, length-erased, height-le, sames}
+use Rattle.interleaving.proofs.TestLemmas.{not_equal}
 
 abbrev pub IsMarkGuarded : List Element → Option Name → Type 0
 IsMarkGuarded xs None = Unit {0}
@@ -43,28 +45,22 @@ mark-guarded xs (CatchMark k ∷ items) h = h.0
 mark-guarded xs (CollectMark t k ∷ items) h = mark-guarded xs items h.1
 mark-guarded xs (RemovalItem k ∷ items) h = mark-guarded xs items h.1
 
-pub differ : (a b : ℕ) → suc a ≤ b → (a == b) ≡ false
-differ a b h = go (a == b) refl
-  where
-    go : (t : Bool) → (a == b) ≡ t → t ≡ false
-    go true e = let same_number = eqb-true a b e in absurd (omega (arith, h, same_number))
-    go false e = refl
-
-guarded-low : (xs : List Element) (s : Name) → IsGuarded xs s → suc (height xs s - 1) ≤ count xs
-guarded-low xs s h = let e : height xs s ≡ suc (count h.under) = ap count h.found in omega (arith, e, height-le xs s)
+guarded-low : (xs : List Element) (s : Name) → IsGuarded xs s → suc (height xs s - 1) ≤ element_count xs
+guarded-low xs s h = let e : height xs s ≡ suc (element_count h.under) = ap element_count h.found in omega (arith, e, height-le xs s)
 
 module _ (clauses : List Clause) (b : Term) (o : Name) where
   abbrev search : Sought → List Element → List Element
   search q xs = search_for (scoped clauses) q xs
 
-  recover-held : (t : Option Substitution) (r : Term) (u p : Name) (f : Continuation Name) (q : Sought) (xs : List Element)
+  recover-height : (t : Option Substitution) (r : Term) (u p : Name) (f : Continuation Name) (q : Sought) (xs : List Element)
       (further : List HeightElement) → IsRightUnder xs u → erased (search q xs) ≡ further
-      → erased (looked (scoped clauses) (recovered t b r u p f q) (λ a. search_for (scoped clauses) a xs) xs)
-      ≡ held_recovered t b r (with_heights (height xs) f) (erased xs) further
-  recover-held None r u p f q xs further h k = k
-  recover-held (Some s) r u p f q xs further h k =
+      → erased (looked (scoped clauses) (recovery_look t b r u p f q) (λ a. search_for (scoped clauses) a xs) xs)
+      ≡ height_recovered t b r (continuation_heights (height xs) f) (erased xs) further
+  recover-height None r u p f q xs further h k = k
+  recover-height (Some s) r u p f q xs further h k =
       let g : Continuation Name = before (GoalItem (call_of r) u ∷ []) f in
-      let one : with_heights (height xs) g ≡ before (GoalItem (call_of r) (length (erased xs)) ∷ []) (with_heights (height xs) f) =
+      let one : continuation_heights (height xs) g ≡ before (GoalItem (call_of r) (length (erased xs)) ∷ [])
+      (continuation_heights (height xs) f) =
       goals-heights (height xs) (height xs) u (length (erased xs)) (call_of r ∷ []) f (h ∙ sym (length-erased xs))
       (sames (height xs) (names f.items)) in
       ap (λ k. HeightEntry (PlainEntry k) ∷ erased xs) (resolved-heights (height xs) s (with_next (f.next + copy_takes b) g)
@@ -72,18 +68,18 @@ module _ (clauses : List Clause) (b : Term) (o : Name) where
 
   abbrev Lands : List Element → Type 0
   Lands xs = ((mark : Option Name) → IsSound xs → IsMarkGuarded xs mark → erased (search_for (scoped clauses) (Thrown b mark o) xs)
-      ≡ held_landing b (mark_height xs mark) (erased xs))
+      ≡ height_unwound b (mark_height xs mark) (erased xs))
       × ((s u : Name) (c r : Term) (p : Name) (f : Continuation Name) (t : List Element) → IsSound xs → xs ≡ Catch s u c r p f ∷ t
-      → erased (search_for (scoped clauses) (Caught b s o) xs) ≡ held_landing b (Some (count xs - 1)) (erased xs))
+      → erased (search_for (scoped clauses) (Caught b s o) xs) ≡ height_unwound b (Some (element_count xs - 1)) (erased xs))
 
-  lands-end : (e : Name) (xs : List Element) → Lands xs → (mark : Option Name) → IsSound xs → IsMarkGuarded (EndOf e ∷ xs) mark
-      → erased (search (Thrown b mark o) (EndOf e ∷ xs)) ≡ held_landing b (mark_height (EndOf e ∷ xs) mark) (erased xs)
-  lands-end e xs h None i m = h.0 None i tt
-  lands-end e xs h (Some s) i m = go (same s e) m.found
+  unwound-end : (e : Name) (xs : List Element) → Lands xs → (mark : Option Name) → IsSound xs → IsMarkGuarded (EndOf e ∷ xs) mark
+      → erased (search (Thrown b mark o) (EndOf e ∷ xs)) ≡ height_unwound b (mark_height (EndOf e ∷ xs) mark) (erased xs)
+  unwound-end e xs h None i m = h.0 None i tt
+  unwound-end e xs h (Some s) i m = go (same s e) m.found
     where
       go : (t : Bool) → cond t (EndOf e ∷ xs) (from xs s) ≡ EndOf s ∷ Catch s m.scope m.catcher m.recovery m.name m.after ∷ m.under
           → erased (looked (scoped clauses) (cond t (On (Caught b s o)) (On (Thrown b (Some s) o)))
-          (λ q. search_for (scoped clauses) q xs) xs) ≡ held_landing b (Some (count (cond t (EndOf e ∷ xs) (from xs s)) - 1))
+          (λ q. search_for (scoped clauses) q xs) xs) ≡ height_unwound b (Some (element_count (cond t (EndOf e ∷ xs) (from xs s)) - 1))
           (erased xs)
       go true k = let same_tail : xs ≡ Catch s m.scope m.catcher m.recovery m.name m.after ∷ m.under = cc in h.1 s m.scope m.catcher
           m.recovery m.name m.after m.under i same_tail
@@ -91,37 +87,37 @@ module _ (clauses : List Clause) (b : Term) (o : Name) where
           { scope = m.scope; catcher = m.catcher; recovery = m.recovery; name = m.name; after = m.after; under = m.under; found = k })
 
   -- a catch whose mark is another
-  lands-by : (u c r : Term) (f : Continuation ℕ) (xs : List HeightElement) (h : ℕ) → (h == length xs) ≡ false
-      → held_landing b (Some h) (HeightEntry (CatchEntry c r f) ∷ xs) ≡ held_landing b (Some h) xs
-  lands-by u c r f xs h e = ap (λ t. held_recovered (cond t (unifier ((c, copied b f.next) ∷ [])) None) b r f xs
-      (held_landing b (cond t (first_mark f.items) (Some h)) xs)) e
+  unwound-by : (u c r : Term) (f : Continuation ℕ) (xs : List HeightElement) (h : ℕ) → (h == length xs) ≡ false
+      → height_unwound b (Some h) (HeightEntry (CatchEntry c r f) ∷ xs) ≡ height_unwound b (Some h) xs
+  unwound-by u c r f xs h e = ap (λ t. height_recovered (cond t (unifier ((c, copied b f.next) ∷ [])) None) b r f xs
+      (height_unwound b (cond t (first_mark f.items) (Some h)) xs)) e
 
-  lands-catch : (e u : Name) (c r : Term) (p : Name) (f : Continuation Name) (xs : List Element) → Lands xs → (mark : Option Name)
+  unwound-catch : (e u : Name) (c r : Term) (p : Name) (f : Continuation Name) (xs : List Element) → Lands xs → (mark : Option Name)
       → IsSound xs → IsMarkGuarded xs mark → erased (search (Thrown b mark o) xs)
-      ≡ held_landing b (mark_height xs mark) (HeightEntry (CatchEntry c r (with_heights (height xs) f)) ∷ erased xs)
-  lands-catch e u c r p f xs h None i m = h.0 None i tt
-  lands-catch e u c r p f xs h (Some s) i m =
-      let far : (height xs s - 1 == length (erased xs)) ≡ false = differ (height xs s - 1) (length (erased xs))
+      ≡ height_unwound b (mark_height xs mark) (HeightEntry (CatchEntry c r (continuation_heights (height xs) f)) ∷ erased xs)
+  unwound-catch e u c r p f xs h None i m = h.0 None i tt
+  unwound-catch e u c r p f xs h (Some s) i m =
+      let far : (height xs s - 1 == length (erased xs)) ≡ false = not_equal (height xs s - 1) (length (erased xs))
       (omega (arith, length-erased xs, guarded-low xs s m)) in
-      h.0 (Some s) i m ∙ sym (lands-by c c r (with_heights (height xs) f) (erased xs) (height xs s - 1) far)
+      h.0 (Some s) i m ∙ sym (unwound-by c c r (continuation_heights (height xs) f) (erased xs) (height xs s - 1) far)
 
-  lands-there : (e u : Name) (c r : Term) (p : Name) (f : Continuation Name) (xs : List Element) → Lands xs → (s : Name) → s ≡ e
+  unwound-there : (e u : Name) (c r : Term) (p : Name) (f : Continuation Name) (xs : List Element) → Lands xs → (s : Name) → s ≡ e
       → IsSound (Catch e u c r p f ∷ xs) → erased (search (Caught b s o) (Catch e u c r p f ∷ xs))
-      ≡ held_landing b (Some (suc (count xs) - 1)) (HeightEntry (CatchEntry c r (with_heights (height xs) f)) ∷ erased xs)
-  lands-there e u c r p f xs h s is i =
-      let g : Continuation ℕ = with_heights (height xs) f in
+      ≡ height_unwound b (Some (suc (element_count xs) - 1)) (HeightEntry (CatchEntry c r (continuation_heights (height xs) f)) ∷ erased xs)
+  unwound-there e u c r p f xs h s is i =
+      let g : Continuation ℕ = continuation_heights (height xs) f in
       let n : ℕ = length (erased xs) in
-      let near : (suc (count xs) - 1 == n) ≡ true = eq-eqb (suc (count xs) - 1) n (omega (arith, length-erased xs)) in
+      let near : (suc (element_count xs) - 1 == n) ≡ true = eq-eqb (suc (element_count xs) - 1) n (omega (arith, length-erased xs)) in
       let itself : same s e ≡ true = subst (λ o. same s o ≡ true) is (same-itself s) in
       let take : Option Substitution = unifier ((c, copied b f.next) ∷ []) in
       let next : Sought = Thrown b (first_mark f.items) o in
-      let on : erased (search next xs) ≡ held_landing b (first_mark g.items) (erased xs) = h.0 (first_mark f.items) i.2
-      (mark-guarded xs f.items i.0.marks) ∙ ap (λ k. held_landing b k (erased xs)) (sym (mark-heights xs f.items)) in
-      ap (λ t. erased (looked (scoped clauses) (cond t (recovered take b r u p f next) (On (Caught b s o)))
+      let on : erased (search next xs) ≡ height_unwound b (first_mark g.items) (erased xs) = h.0 (first_mark f.items) i.2
+      (mark-guarded xs f.items i.0.marks) ∙ ap (λ k. height_unwound b k (erased xs)) (sym (mark-heights xs f.items)) in
+      ap (λ t. erased (looked (scoped clauses) (cond t (recovery_look take b r u p f next) (On (Caught b s o)))
       (λ q. search_for (scoped clauses) q xs) xs)) itself
-      ∙ recover-held take r u p f next xs (held_landing b (first_mark g.items) (erased xs)) i.1 on
-      ∙ sym (ap (λ t. held_recovered (cond t take None) b r g (erased xs)
-      (held_landing b (cond t (first_mark g.items) (Some (suc (count xs) - 1))) (erased xs))) near)
+      ∙ recover-height take r u p f next xs (height_unwound b (first_mark g.items) (erased xs)) i.1 on
+      ∙ sym (ap (λ t. height_recovered (cond t take None) b r g (erased xs)
+      (height_unwound b (cond t (first_mark g.items) (Some (suc (element_count xs) - 1))) (erased xs))) near)
 
   no_catch : {A : Type 0} → (x : Element) (xs t : List Element) (s u : Name) (c r : Term) (p : Name) (f : Continuation Name)
       → (x ≡ Catch s u c r p f → ⊥) → x ∷ xs ≡ Catch s u c r p f ∷ t → A
@@ -145,73 +141,73 @@ module _ (clauses : List Clause) (b : Term) (o : Name) where
   }
 
   -- what a ball passes
-  lands-credit : (k : ℕ) (rs : List Record) (xs : List Element) → Lands xs → IsSound xs → (mark : Option Name)
+  unwound-credit : (k : ℕ) (rs : List Record) (xs : List Element) → Lands xs → IsSound xs → (mark : Option Name)
       → IsMarkGuarded (Credit k rs ∷ xs) mark → erased (search (Thrown b mark o) (Credit k rs ∷ xs))
-      ≡ held_landing b (mark_height (Credit k rs ∷ xs) mark) (erased (Credit k rs ∷ xs))
-  lands-credit k rs xs h i None m = h.0 None i tt
-  lands-credit k rs xs h i (Some s) m = h.0 (Some s) i (again (Some s) xs (Credit k rs ∷ xs) (λ e. refl) m)
+      ≡ height_unwound b (mark_height (Credit k rs ∷ xs) mark) (erased (Credit k rs ∷ xs))
+  unwound-credit k rs xs h i None m = h.0 None i tt
+  unwound-credit k rs xs h i (Some s) m = h.0 (Some s) i (again (Some s) xs (Credit k rs ∷ xs) (λ e. refl) m)
 
-  lands-plain : (p : Name) (f : Continuation Name) (xs : List Element) → Lands xs → IsSound xs → (mark : Option Name)
+  unwound-plain : (p : Name) (f : Continuation Name) (xs : List Element) → Lands xs → IsSound xs → (mark : Option Name)
       → IsMarkGuarded (Plain p f ∷ xs) mark → erased (search (Thrown b mark o) (Plain p f ∷ xs))
-      ≡ held_landing b (mark_height (Plain p f ∷ xs) mark) (erased (Plain p f ∷ xs))
-  lands-plain p f xs h i None m = h.0 None i tt
-  lands-plain p f xs h i (Some s) m = h.0 (Some s) i (again (Some s) xs (Plain p f ∷ xs) (λ e. refl) m)
+      ≡ height_unwound b (mark_height (Plain p f ∷ xs) mark) (erased (Plain p f ∷ xs))
+  unwound-plain p f xs h i None m = h.0 None i tt
+  unwound-plain p f xs h i (Some s) m = h.0 (Some s) i (again (Some s) xs (Plain p f ∷ xs) (λ e. refl) m)
 
-  lands-findall : (e v : Name) (results : List Term) (list : Term) (p : Name) (f : Continuation Name) (xs : List Element) → Lands xs
+  unwound-findall : (e v : Name) (results : List Term) (list : Term) (p : Name) (f : Continuation Name) (xs : List Element) → Lands xs
       → IsSound xs → (mark : Option Name) → IsMarkGuarded (Findall e v results list p f ∷ xs) mark
       → erased (search (Thrown b mark o) (Findall e v results list p f ∷ xs))
-      ≡ held_landing b (mark_height (Findall e v results list p f ∷ xs) mark) (erased (Findall e v results list p f ∷ xs))
-  lands-findall e v results list p f xs h i None m = h.0 None i tt
-  lands-findall e v results list p f xs h i (Some s) m = h.0 (Some s) i
+      ≡ height_unwound b (mark_height (Findall e v results list p f ∷ xs) mark) (erased (Findall e v results list p f ∷ xs))
+  unwound-findall e v results list p f xs h i None m = h.0 None i tt
+  unwound-findall e v results list p f xs h i (Some s) m = h.0 (Some s) i
       (again (Some s) xs (Findall e v results list p f ∷ xs) (λ e. refl) m)
 
-  lands-over : (p : Name) (ball : Option Term) (xs : List Element) → Lands xs → IsSound xs → (mark : Option Name)
+  unwound-over : (p : Name) (ball : Option Term) (xs : List Element) → Lands xs → IsSound xs → (mark : Option Name)
       → IsMarkGuarded (End p ball ∷ xs) mark → erased (search (Thrown b mark o) (End p ball ∷ xs))
-      ≡ held_landing b (mark_height (End p ball ∷ xs) mark) (erased (End p ball ∷ xs))
-  lands-over p ball xs h i None m = h.0 None i tt
-  lands-over p ball xs h i (Some s) m = h.0 (Some s) i (again (Some s) xs (End p ball ∷ xs) (λ e. refl) m)
+      ≡ height_unwound b (mark_height (End p ball ∷ xs) mark) (erased (End p ball ∷ xs))
+  unwound-over p ball xs h i None m = h.0 None i tt
+  unwound-over p ball xs h i (Some s) m = h.0 (Some s) i (again (Some s) xs (End p ball ∷ xs) (λ e. refl) m)
 
-  lands-at : (e u : Name) (c r : Term) (p : Name) (f : Continuation Name) (xs : List Element) → Lands xs → IsSound xs
+  unwound-at : (e u : Name) (c r : Term) (p : Name) (f : Continuation Name) (xs : List Element) → Lands xs → IsSound xs
       → (mark : Option Name) → IsMarkGuarded (Catch e u c r p f ∷ xs) mark → erased (search (Thrown b mark o) (Catch e u c r p f ∷ xs))
-      ≡ held_landing b (mark_height (Catch e u c r p f ∷ xs) mark) (erased (Catch e u c r p f ∷ xs))
-  lands-at e u c r p f xs h i None m = lands-catch e u c r p f xs h None i tt
-  lands-at e u c r p f xs h i (Some s) m = lands-catch e u c r p f xs h (Some s) i
+      ≡ height_unwound b (mark_height (Catch e u c r p f ∷ xs) mark) (erased (Catch e u c r p f ∷ xs))
+  unwound-at e u c r p f xs h i None m = unwound-catch e u c r p f xs h None i tt
+  unwound-at e u c r p f xs h i (Some s) m = unwound-catch e u c r p f xs h (Some s) i
       (again (Some s) xs (Catch e u c r p f ∷ xs) (λ e. refl) m)
 
-  pub lands-held : (xs : List Element) → Lands xs
-  lands-held [] = ((λ mark i m. nothing mark m), λ s u c r p f t i e. absurd cc)
+  pub unwound-height : (xs : List Element) → Lands xs
+  unwound-height [] = ((λ mark i m. nothing mark m), λ s u c r p f t i e. absurd cc)
     where
       nothing : (mark : Option Name) → IsMarkGuarded [] mark → erased (search (Thrown b mark o) [])
-          ≡ held_landing b (mark_height [] mark) []
+          ≡ height_unwound b (mark_height [] mark) []
       nothing None m = refl
       nothing (Some s) m = refl
-  lands-held (EndOf e ∷ xs) = (
-    (λ mark i m. lands-end e xs (lands-held xs) mark i m),
+  unwound-height (EndOf e ∷ xs) = (
+    (λ mark i m. unwound-end e xs (unwound-height xs) mark i m),
     λ s u c r p f t i k. no_catch (EndOf e) xs t s u c
         r p f (λ q. cc) k,
   )
-  lands-held (Credit j rs ∷ xs) = (
-    (λ mark i m. lands-credit j rs xs (lands-held xs) i.1 mark m),
+  unwound-height (Credit j rs ∷ xs) = (
+    (λ mark i m. unwound-credit j rs xs (unwound-height xs) i.1 mark m),
     λ s u c r p f t i k. no_catch (Credit j rs) xs t s u c r p f
         (λ q. cc) k,
   )
-  lands-held (Catch e u c r p f ∷ xs) = (
-    (λ mark i m. lands-at e u c r p f xs (lands-held xs) i.2 mark m),
-    λ s v d q o g t i k. lands-there e u c r p f xs (lands-held xs)
+  unwound-height (Catch e u c r p f ∷ xs) = (
+    (λ mark i m. unwound-at e u c r p f xs (unwound-height xs) i.2 mark m),
+    λ s v d q o g t i k. unwound-there e u c r p f xs (unwound-height xs)
         s (catch_name e u s v c r d q p o f g xs t k) i,
   )
-  lands-held (Plain p f ∷ xs) = (
-    (λ mark i m. lands-plain p f xs (lands-held xs) i.1 mark m),
+  unwound-height (Plain p f ∷ xs) = (
+    (λ mark i m. unwound-plain p f xs (unwound-height xs) i.1 mark m),
     λ s u c r q g t i k. no_catch (Plain p f)
         xs t s u c r q g (λ q. cc) k,
   )
-  lands-held (Findall e v results list p f ∷ xs) = (
-    (λ mark i m. lands-findall e v results list p f xs (lands-held xs) i.3 mark m),
+  unwound-height (Findall e v results list p f ∷ xs) = (
+    (λ mark i m. unwound-findall e v results list p f xs (unwound-height xs) i.3 mark m),
     λ s u c r q g t i k.
         no_catch (Findall e v results list p f) xs t s u c r q g (λ q. cc) k,
   )
-  lands-held (End p ball ∷ xs) = (
-    (λ mark i m. lands-over p ball xs (lands-held xs) i mark m),
+  unwound-height (End p ball ∷ xs) = (
+    (λ mark i m. unwound-over p ball xs (unwound-height xs) i mark m),
     λ s u c r q g t i k.
         no_catch (End p ball) xs t s u c r q g (λ q. cc) k,
   )

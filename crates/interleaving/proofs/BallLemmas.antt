@@ -11,16 +11,17 @@ use Rattle.tree_model.specs.Nodes.{Kind, ChoiceNode, CatchNode, FindallNode, Que
 use Rattle.tree_model.specs.Levels.{Level}
 use Rattle.tree_model.specs.Floors.{height_of, node_of, with_nodes, query_kind, query_node}
 use Rattle.tree_model.specs.Closing.{Grown, wakes}
-use Rattle.tree_model.specs.Pruning.{left_after, lands}
+use Rattle.tree_model.specs.Pruning.{left_after, ball_closes}
 use Rattle.tree_model.specs.PendingLists.{Step, Way, way_of}
 use Rattle.tree_model.specs.Ways.{is_on, in_reach, way_from, AreScoped, is_query, under_query, IsAsked}
 use Rattle.tree_model.specs.SoundTrees.{IsOpen}
 use Rattle.interleaving.proofs.ContextLemmas.{IsLevel, IsAround}
-use Rattle.interleaving.proofs.WayLemmas.{cond-true, cond-false, cond-same, other_number, same_self}
-use Rattle.interleaving.proofs.RoundtripLemmas.{by_nodes, by_heights, at_heights, height_low, not_same}
+use Rattle.interleaving.proofs.WayLemmas.{cond-true, cond-false, cond-same, other_number}
+use Rattle.interleaving.proofs.RoundtripLemmas.{by_nodes, by_heights, at_heights, height_low}
 use Rattle.interleaving.proofs.ClosingSoundLemmas.{IsSoundGrown, IsFree, free-above, woken_sound}
 use Rattle.interleaving.proofs.MarkLemmas.{under_rest}
 use Rattle.interleaving.proofs.EntryLemmas.{resolved_scoped, own_height}
+use Rattle.interleaving.proofs.TestLemmas.{not_equal, number_same}
 
 -- a naming of heights that is the floor's as far as the floor goes
 abbrev pub NamesFloor : (ℕ → ℕ) → List Level → Type 0
@@ -28,7 +29,7 @@ NamesFloor node levels = (h : ℕ) → h ≤ length levels → node h ≡ node_o
 
 pub names-above : (node : ℕ → ℕ) (v : Level) (up : List Level) → NamesFloor node (v ∷ up) → NamesFloor node up
 names-above node v up a h l = a h (omega arith) ∙ cond-false (h == suc (length up)) v.number (node_of up h)
-    (not_same h (suc (length up)) (omega arith))
+    (not_equal h (suc (length up)) (omega arith))
 
 pub node_on : (levels : List Level) (h : ℕ) → 1 ≤ h → h ≤ length levels → is_on (way_of levels) (node_of levels h) ≡ true
 node_on [] h l k = let no_way : ⊥ = omega arith in absurd no_way
@@ -36,7 +37,7 @@ node_on (v ∷ up) h l k = go (h == suc (length up)) refl (node_on up h l)
   where
     go : (b : Bool) → (h == suc (length up)) ≡ b → (h ≤ length up → is_on (way_of up) (node_of up h) ≡ true)
         → is_on (way_of (v ∷ up)) (cond b v.number (node_of up h)) ≡ true
-    go true e f = cond-true (v.number == v.number) true _ (same_self v.number)
+    go true e f = cond-true (v.number == v.number) true _ (number_same v.number)
     go false e f = let low : h ≤ length up = grind arith in cond-same (v.number == node_of up h) true _ (f low)
 
 -- what a ball leaves of a stack
@@ -59,25 +60,25 @@ recovered_low : (o : Option Substitution) (ball r : Term) (f : Continuation ℕ)
 recovered_low None ball r f es further h = low-more (length es) further h
 recovered_low (Some s) ball r f es further h = omega arith
 
-pub landing_low : (ball : Term) (mark : Option ℕ) (es : List Entry) → IsLow (length es) (unwound ball mark es)
-landing_low ball mark [] = tt
-landing_low ball mark (CatchEntry c r f ∷ es) = recovered_low (taken_by mark (length es) ball c f) ball r f es
-    (unwound ball (next_mark mark (length es) f) es) (landing_low ball (next_mark mark (length es) f) es)
-landing_low ball mark (PlainEntry f ∷ es) = low-more (length es) _ (landing_low ball mark es)
-landing_low ball mark (FindallEntry results l f ∷ es) = low-more (length es) _ (landing_low ball mark es)
-landing_low ball mark (EndEntry b ∷ es) = low-more (length es) _ (landing_low ball mark es)
+pub ball_scope_low : (ball : Term) (mark : Option ℕ) (es : List Entry) → IsLow (length es) (unwound ball mark es)
+ball_scope_low ball mark [] = tt
+ball_scope_low ball mark (CatchEntry c r f ∷ es) = recovered_low (taken_by mark (length es) ball c f) ball r f es
+    (unwound ball (next_mark mark (length es) f) es) (ball_scope_low ball (next_mark mark (length es) f) es)
+ball_scope_low ball mark (PlainEntry f ∷ es) = low-more (length es) _ (ball_scope_low ball mark es)
+ball_scope_low ball mark (FindallEntry results l f ∷ es) = low-more (length es) _ (ball_scope_low ball mark es)
+ball_scope_low ball mark (EndEntry b ∷ es) = low-more (length es) _ (ball_scope_low ball mark es)
 
 -- the tree after a ball has left this of a stack
-abbrev pub fall_scope : (ℕ → ℕ) → ℕ → List Entry → ℕ
-fall_scope node q (PlainEntry f ∷ es) = node (suc (length es))
-fall_scope node q (EndEntry b ∷ es) = q
-fall_scope node q (CatchEntry c r f ∷ es) = q
-fall_scope node q (FindallEntry results l f ∷ es) = q
-fall_scope node q [] = q
+abbrev pub catching_scope : (ℕ → ℕ) → ℕ → List Entry → ℕ
+catching_scope node q (PlainEntry f ∷ es) = node (suc (length es))
+catching_scope node q (EndEntry b ∷ es) = q
+catching_scope node q (CatchEntry c r f ∷ es) = q
+catching_scope node q (FindallEntry results l f ∷ es) = q
+catching_scope node q [] = q
 
 abbrev pub fallen : (ℕ → ℕ) → ℕ → ℕ → List Level → Credit → List Entry → Grown
 fallen node q next levels c [] = record { root = Closed c; next = next }
-fallen node q next levels c (e ∷ es) = lands next (fall_scope node q (e ∷ es)) levels c (with_nodes node e)
+fallen node q next levels c (e ∷ es) = ball_closes next (catching_scope node q (e ∷ es)) levels c (with_nodes node e)
 
 -- the levels above a node that a ball falls along
 pub record IsFalling (node : ℕ → ℕ) (q next : ℕ) (levels : List Level) : Type 0 where
@@ -110,7 +111,7 @@ query_on (v ∷ up) h = go v.kind (query_on up) h
     go : (k : Kind) → (under_query (way_of up) ≡ true → is_on (way_of up) (query_node up) ≡ true)
         → cond (is_query k) (length v.left == 0) (under_query (way_of up)) ≡ true
         → is_on (way_of (v ∷ up)) (query_kind k v.number (query_node up)) ≡ true
-    go QueryNode f k = cond-true (v.number == v.number) true _ (same_self v.number)
+    go QueryNode f k = cond-true (v.number == v.number) true _ (number_same v.number)
     go ChoiceNode f k = cond-same (v.number == query_node up) true _ (f k)
     go CatchNode f k = cond-same (v.number == query_node up) true _ (f k)
     go FindallNode f k = cond-same (v.number == query_node up) true _ (f k)
@@ -126,18 +127,18 @@ ends_here next n kind (a ∷ left) spent right up c b e h k f = let no_way : ⊥
 
 -- a ball goes on above a level
 goes_up : (next scope : ℕ) (v : Level) (up : List Level) (c : Credit) (e : Entry) → (v.number == scope) ≡ false
-    → IsSoundGrown (lands next scope up (left_after v c) e) → IsSoundGrown (lands next scope (v ∷ up) c e)
+    → IsSoundGrown (ball_closes next scope up (left_after v c) e) → IsSoundGrown (ball_closes next scope (v ∷ up) c e)
 goes_up next scope v up c e h k = subst IsSoundGrown
-    (sym (cond-false (v.number == scope) (wakes next v up (left_after v c) e) (lands next scope up (left_after v c) e) h)) k
+    (sym (cond-false (v.number == scope) (wakes next v up (left_after v c) e) (ball_closes next scope up (left_after v c) e) h)) k
 
 pub stops_here : (next scope : ℕ) (v : Level) (up : List Level) (c : Credit) (e : Entry) → (v.number == scope) ≡ true
-    → IsSoundGrown (wakes next v up (left_after v c) e) → IsSoundGrown (lands next scope (v ∷ up) c e)
+    → IsSoundGrown (wakes next v up (left_after v c) e) → IsSoundGrown (ball_closes next scope (v ∷ up) c e)
 stops_here next scope v up c e h k = subst IsSoundGrown
-    (sym (cond-true (v.number == scope) (wakes next v up (left_after v c) e) (lands next scope up (left_after v c) e) h)) k
+    (sym (cond-true (v.number == scope) (wakes next v up (left_after v c) e) (ball_closes next scope up (left_after v c) e) h)) k
 
 -- a ball that nothing takes
 pub ends_sound : (node : ℕ → ℕ) (q next : ℕ) (levels : List Level) (c : Credit) (b : Option Term) → IsFalling node q next levels
-    → IsSoundGrown (lands next q levels c (EndEntry b))
+    → IsSoundGrown (ball_closes next q levels c (EndEntry b))
 ends_sound node q next [] c b h = let no_way : ⊥ = no_end h.asked in absurd no_way
   where
     no_end : false ≡ true → ⊥
@@ -150,13 +151,13 @@ ends_sound node q next (v ∷ up) c b h = go (is_query v.kind) refl (λ n d. end
     is_query_kind CatchNode n m e = let no_way : ⊥ = cc in absurd no_way
     is_query_kind FindallNode n m e = let no_way : ⊥ = cc in absurd no_way
 
-    go : (b' : Bool) → is_query v.kind ≡ b' → (is_query v.kind ≡ false → (d : Credit) → IsSoundGrown (lands next q up d (EndEntry b)))
-        → IsSoundGrown (lands next q (v ∷ up) c (EndEntry b))
+    go : (b' : Bool) → is_query v.kind ≡ b' → (is_query v.kind ≡ false → (d : Credit) → IsSoundGrown (ball_closes next q up d (EndEntry b)))
+        → IsSoundGrown (ball_closes next q (v ∷ up) c (EndEntry b))
     go true e f =
         let same : q ≡ v.number = h.query ∙ is_query_kind v.kind v.number (query_node up) e in
         let first : (length v.left == 0) ≡ true = sym (cond-true (is_query v.kind) (length v.left == 0) (under_query (way_of up)) e)
         ∙ h.asked in
-        stops_here next q v up c (EndEntry b) (ap (λ m. v.number == m) same ∙ same_self v.number)
+        stops_here next q v up c (EndEntry b) (ap (λ m. v.number == m) same ∙ number_same v.number)
         (ends_here next v.number v.kind v.left v.spent v.right up (left_after v c) b first h.around.0 h.around.1 h.free)
     go false e f =
         let above = falls-above node q next v up e h in
@@ -228,7 +229,7 @@ recovery_on node next n kind (u ∷ up) h e goal s items a k d o p i =
     let way : Way = way_of (u ∷ up) in
     let low : Step = record { node = n; index = 1; kind = kind } in
     let first : Step = record { node = next; index = 0; kind = ChoiceNode } in
-    let self : (u.number == node h) ≡ true = ap (λ m. u.number == m) named ∙ same_self u.number in
+    let self : (u.number == node h) ≡ true = ap (λ m. u.number == m) named ∙ number_same u.number in
     let on_up : is_on way (node h) ≡ true = cond-true (u.number == node h) true _ self in
     let other_n : (n == node h) ≡ false = other_number way n (node h) o on_up (n == node h) refl in
     let other_next : (next == node h) ≡ false = other_number way next (node h) p on_up (next == node h) refl in

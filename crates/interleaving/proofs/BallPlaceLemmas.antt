@@ -9,14 +9,12 @@ use Rattle.tree_model.specs.PendingLists.{way_of}
 use Rattle.tree_model.specs.Ways.{is_on, is_query, under_query, IsAsked}
 use Rattle.tree_model.specs.SoundTrees.{IsOpen}
 use Rattle.interleaving.proofs.ContextLemmas.{IsAround}
-use Rattle.interleaving.proofs.WayLemmas.{cond-true, cond-false, same_self, other_number}
-use Rattle.interleaving.proofs.RoundtripLemmas.{by_nodes, by_heights, back_again, not_same, node_height}
+use Rattle.interleaving.proofs.WayLemmas.{cond-true, cond-false, other_number}
+use Rattle.interleaving.proofs.RoundtripLemmas.{by_nodes, by_heights, back_again, node_height}
 use Rattle.interleaving.proofs.BallLemmas.{NamesFloor, names-above, names_same}
 use Rattle.interleaving.proofs.EndLemmas.{HasQueryEnd, query_here}
 use Rattle.interleaving.proofs.ListEndLemmas.{levels_down}
-
-clash : {A : Type 0} → false ≡ true → A
-clash h = let no_way : ⊥ = cc in absurd no_way
+use Rattle.interleaving.proofs.TestLemmas.{false_true, not_equal, number_same}
 
 same_tail : {A : Type 0} → (a b : A) (xs ys : List A) → a ∷ xs ≡ b ∷ ys → xs ≡ ys
 same_tail a b xs ys e = cc
@@ -48,13 +46,13 @@ names_down (v ∷ up) s = go (v.number == s) (names_down up s) (length_down up s
     go : (b : Bool) → NamesFloor (node_of up) (levels_down up s) → length (levels_down up s) ≤ length up
         → NamesFloor (node_of (v ∷ up)) (cond b (v ∷ up) (levels_down up s))
     go true f k h l = refl
-    go false f k h l = cond-false (h == suc (length up)) v.number (node_of up h) (not_same h (suc (length up)) (omega (arith, l, k)))
+    go false f k h l = cond-false (h == suc (length up)) v.number (node_of up h) (not_equal h (suc (length up)) (omega (arith, l, k)))
         ∙ f h l
 
 -- names of what is above a node, found again from below it
 pub names_above : (levels : List Level) (s : ℕ) (w : Level) (up : List Level) (items : List (Item ℕ)) → levels_down levels s ≡ w ∷ up
     → IsAsked (way_of up) items → by_nodes (node_of levels) (by_heights up items) ≡ items
-names_above levels s w [] items e i = clash i.asked
+names_above levels s w [] items e i = false_true i.asked
 names_above levels s w (u ∷ up) items e i =
     let names : NamesFloor (node_of levels) (w ∷ u ∷ up) = subst (NamesFloor (node_of levels)) e (names_down levels s) in
     names_same (node_of levels) u up items (names-above (node_of levels) w (u ∷ up) names) ∙ back_again (u ∷ up) (way_of (u ∷ up)) items
@@ -75,17 +73,17 @@ pub record QueryAt (levels : List Level) : Type 0 where
   pub number : level.number ≡ query_node levels
 
 pub query_at : (levels : List Level) → IsAround levels IsOpen → under_query (way_of levels) ≡ true → QueryAt levels
-query_at [] a u = clash u
+query_at [] a u = false_true u
 query_at (v ∷ up) a u = pick (query_here v up a.0 u) (λ k. query_at up a.1 k)
   where
     mine : (k : Kind) (n m : ℕ) → is_query k ≡ true → query_kind k n m ≡ n
     mine QueryNode n m e = refl
-    mine ChoiceNode n m e = clash e
-    mine CatchNode n m e = clash e
-    mine FindallNode n m e = clash e
+    mine ChoiceNode n m e = false_true e
+    mine CatchNode n m e = false_true e
+    mine FindallNode n m e = false_true e
 
     other : (k : Kind) (n m : ℕ) → is_query k ≡ false → query_kind k n m ≡ m
-    other QueryNode n m e = clash (sym e)
+    other QueryNode n m e = false_true (sym e)
     other ChoiceNode n m e = refl
     other CatchNode n m e = refl
     other FindallNode n m e = refl
@@ -94,7 +92,7 @@ query_at (v ∷ up) a u = pick (query_here v up a.0 u) (λ k. query_at up a.1 k)
         → (under_query (way_of up) ≡ true → QueryAt up) → QueryAt (v ∷ up)
     pick (inl h) f =
         let same : query_node (v ∷ up) ≡ v.number = mine v.kind v.number (query_node up) h.0 in
-        let here : (v.number == query_node (v ∷ up)) ≡ true = ap (λ n. v.number == n) same ∙ same_self v.number in
+        let here : (v.number == query_node (v ∷ up)) ≡ true = ap (λ n. v.number == n) same ∙ number_same v.number in
         record {
           level = v;
           above = up;

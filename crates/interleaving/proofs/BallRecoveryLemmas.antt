@@ -34,32 +34,32 @@ use Rattle.interleaving.proofs.ContextLemmas.{IsAround}
 use Rattle.interleaving.proofs.WayLemmas.{off_way}
 use Rattle.interleaving.proofs.RoundtripLemmas.{by_heights}
 use Rattle.interleaving.proofs.ClosingSoundLemmas.{IsFree}
-use Rattle.interleaving.proofs.AppendLemmas.{append-assoc, each-append}
-use Rattle.interleaving.proofs.RunFrontLemmas.{append-none}
+use Rattle.interleaving.proofs.AppendLemmas.{append-assoc, each-append, append-nil}
 use Rattle.interleaving.proofs.QuietCreditLemmas.{map-fixed, quiet-private}
 use Rattle.interleaving.proofs.SoundEarlyLemmas.{sound-after, sound_exchange, private-sound, all-gathered}
 use Rattle.interleaving.proofs.SoundStepLemmas.{AllGathered}
 use Rattle.interleaving.specs.Segments.{Private}
-use Rattle.interleaving.proofs.RootLemmas.{are_told}
+use Rattle.interleaving.proofs.RootLemmas.{are_distinguished}
 use Rattle.interleaving.proofs.ClockLemmas.{AreClear, quiet-append, inferences-append}
 use Rattle.interleaving.proofs.ListChangeLemmas.{becomes as private_becomes, no_credit}
 use Rattle.interleaving.proofs.RunHeightLemmas.{names_are_free}
 use Rattle.interleaving.proofs.FrontSameLemmas.{front_is_same}
 use Rattle.interleaving.proofs.LeadLemmas.{lead-quiet, lead-grows}
-use Rattle.interleaving.proofs.FoldLemmas.{Passes, passes_then, passes_becoming, credit_counted, SidesKept, records-append}
+use Rattle.interleaving.proofs.FoldLemmas.{Passes, passes_then, passes_becoming, credit_counted, HaveNoSideRecords, records-append}
 use Rattle.interleaving.proofs.WakeLemmas.{after_wake}
 use Rattle.interleaving.proofs.ListScopeLemmas.{IsDistinct}
-use Rattle.interleaving.proofs.CaughtClosingLemmas.{sleeper_on}
-use Rattle.interleaving.proofs.BallLevelLemmas.{landed}
-use Rattle.interleaving.proofs.FallLemmas.{IsCatcher}
+use Rattle.interleaving.proofs.CaughtClosingLemmas.{dormant_there}
+use Rattle.interleaving.proofs.BallLevelLemmas.{ball_credit}
+use Rattle.interleaving.proofs.CatchingLemmas.{IsCatcher}
 use Rattle.interleaving.proofs.LowerListLemmas.{lower_front, lower_back, front_split, lower_quiet}
 use Rattle.interleaving.proofs.UpperBlindLemmas.{is_free_of, free_zero}
 use Rattle.interleaving.proofs.BallSearchLemmas.{second_step, catch_element, named_recovery}
 use Rattle.interleaving.proofs.BallFollowsLemmas.{some_count, recovery_heights, rows_apart, top, free_own, free_next, list_is}
 use Rattle.interleaving.proofs.BallFollowsLemmas.{front_blind, back_under, lower, segment, credit_is, findall_above, rows_are}
+use Rattle.interleaving.proofs.BallFollowsLemmas.{behind_end}
 
 module _ (clauses : List Clause) (next : ℕ) (v : Level) (above : List Level) (p : Name) (named : Continuation Name)
-    (a : IsAround (v ∷ above) IsOpen) (d : IsDistinct (v ∷ above)) (free : IsFree next (v ∷ above)) (sides : SidesKept (v ∷ above))
+    (a : IsAround (v ∷ above) IsOpen) (d : IsDistinct (v ∷ above)) (free : IsFree next (v ∷ above)) (sides : HaveNoSideRecords (v ∷ above))
   where
     abbrev levels : List Level
     levels = v ∷ above
@@ -92,7 +92,7 @@ module _ (clauses : List Clause) (next : ℕ) (v : Level) (above : List Level) (
       first = named_recovery ball w up r f o ∷ (EndOf (1 ∷ w.number ∷ []) ∷ [])
 
       asked : IsAsked (way_of up) f.items
-      asked = sleeper_on w up IsOpen c.sleeper.spent (CatchEntry c.catcher r f)
+      asked = dormant_there w up IsOpen c.sleeper.spent (CatchEntry c.catcher r f)
           (top clauses next v above p named a d free sides w up r f o ball c).0 c.sleeper.right
 
       -- the tree's list
@@ -101,14 +101,14 @@ module _ (clauses : List Clause) (next : ℕ) (v : Level) (above : List Level) (
           ≡ map (resolve_named o) f.named → g.next ≡ f.next + copy_takes ball → AreClear (levels_below (Some w.number) (v ∷ above))
           → v.spent ≡ 0
           → IsSound (front ++ (Credit (min greatest (inferences credits + 1)) rows ∷ (first ++ back)))
-          → IsSound (pending_list (wakes next w up (landed w.number (v ∷ above) (credit_of 1))
+          → IsSound (pending_list (wakes next w up (ball_credit w.number (v ∷ above) (credit_of 1))
           (with_nodes (node_of (v ∷ above)) (PlainEntry g))).root)
           → Follows clauses (front ++ (Credit (min greatest (inferences credits + 1)) rows ∷ (first ++ back)))
-          (pending_list (wakes next w up (landed w.number (v ∷ above) (credit_of 1))
+          (pending_list (wakes next w up (ball_credit w.number (v ∷ above) (credit_of 1))
           (with_nodes (node_of (v ∷ above)) (PlainEntry g))).root)
       ball_wakes g is named_is next_is clear unspent i j =
           let e = with_nodes (node_of levels) (PlainEntry g) in
-          let cr = landed w.number levels (credit_of 1) in
+          let cr = ball_credit w.number levels (credit_of 1) in
           let far : Way = record { node = next; index = 0; kind = ChoiceNode } ∷ second_step w ∷ way_of up in
           let y = element_on far e in
           let second = EndOf (0 ∷ w.number ∷ []) ∷ (y ∷ (EndOf (0 ∷ next ∷ []) ∷ (EndOf (1 ∷ w.number ∷ []) ∷ []))) in
@@ -189,12 +189,12 @@ module _ (clauses : List Clause) (next : ℕ) (v : Level) (above : List Level) (
           let same : records ones ≡ records credits = records-append low (Credit (v.spent + 1) [] ∷ [])
           ∙ sym (records-append low (Credit v.spent [] ∷ [])) in
           let out : outer (is_inner_record inside) (records ones) ≡ rows = ap (outer (is_inner_record inside)) same
-          ∙ sym (append-none (outer (is_inner_record inside) (records credits))) in
+          ∙ sym (append-nil (outer (is_inner_record inside) (records credits))) in
           let counted : inferences ones ≡ inferences low + (v.spent + 1 + 0) = inferences-append low (Credit (v.spent + 1) [] ∷ []) in
           let counted_old : inferences credits ≡ inferences low + (v.spent + 0) = inferences-append low (Credit v.spent [] ∷ []) in
           let number : inferences ones ≡ inferences credits + 1 = omega (arith, counted, counted_old) in
           let part : IsSegment inside front (ones ++ first) back = record {
-            grown = are_told.root (is_free_of up);
+            grown = are_distinguished.root (is_free_of up);
             front = (front_blind clauses next v above p named a d free sides w up r f o ball c);
             own = each-append (IsInner inside) ones first
                 (each-append (IsInner inside) low (Credit (v.spent + 1) [] ∷ [])
@@ -212,7 +212,8 @@ module _ (clauses : List Clause) (next : ℕ) (v : Level) (above : List Level) (
           let one : Passes clauses (front ++ ((ones ++ first) ++ back)) (front ++ (Credit (inferences ones) rows ∷ (first ++ back))) =
           passes_becoming clauses _ _ becomes
           (lead-grows front ((ones ++ first) ++ back) (Credit (inferences ones) rows ∷ (first ++ back)) (omega (arith, total))) in
-          let two = credit_counted clauses front (first ++ back) (inferences ones) rows in
+          let two = credit_counted clauses front (first ++ back) (inferences ones) rows
+          (behind_end clauses next v above p named a d free sides w up r f o ball c) in
           subst (λ k. Passes clauses (front_of levels ++ (Credit (v.spent + 1) [] ∷ (first ++ back)))
           (front ++ (Credit (min greatest k) rows ∷ (first ++ back)))) number
           (subst (λ l. Passes clauses l (front ++ (Credit (min greatest (inferences ones)) rows ∷ (first ++ back)))) (sym list)
@@ -234,7 +235,7 @@ module _ (clauses : List Clause) (next : ℕ) (v : Level) (above : List Level) (
           let all = all-gathered clauses inside first back (outer inner (records credits)) first_inner (outer_apart (records credits))
           gathered in
           let whole : AllGathered clauses (first ++ back) rows = subst (AllGathered clauses (first ++ back))
-          (sym (append-none (outer inner (records credits)))) all in
+          (sym (append-nil (outer inner (records credits)))) all in
           sound_exchange clauses inside front (credits ++ (Plain p named ∷ mid))
           (Credit (min greatest (inferences credits + 1)) rows ∷ first) back
           (front_blind clauses next v above p named a d free sides w up r f o ball c) s.own (tt, first_inner) s.some old (whole, j)

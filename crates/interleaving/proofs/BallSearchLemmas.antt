@@ -8,7 +8,8 @@ use Rattle.au_model.specs.Terms.Substitutions.{Substitution}
 use Rattle.au_model.specs.Terms.Unifier.{unifier}
 use Rattle.au_model.specs.Terms.Copies.{copied, copy_takes}
 use Rattle.run_model.specs.Programs.Bodies.{call_of}
-use Rattle.run_model.specs.Machine.Items.{Item, GoalItem, CatchMark, CollectMark, RemovalItem, Continuation, first_mark, resolve_continuation}
+use Rattle.run_model.specs.Machine.Items.{Item, GoalItem, CatchMark, CollectMark, RemovalItem, Continuation, first_mark}
+use Rattle.run_model.specs.Machine.Items.{resolve_continuation}
 use Rattle.run_model.specs.Machine.Items.{before, with_next}
 use Rattle.tree_model.specs.Nodes.{Status, Inner}
 use Rattle.tree_model.specs.Levels.{Level, level_node, plug}
@@ -18,20 +19,19 @@ use Rattle.tree_model.specs.Ways.{is_on}
 use Rattle.tree_model.specs.SoundTrees.{count_among, one_if, IsOpen}
 use Rattle.tree_model.specs.Elements.{Name, same, Record, Element, Credit, Plain, EndOf, Catch, Findall, End}
 use Rattle.interleaving.specs.Machine.{Machine, On, Here, gives}
-use Rattle.interleaving.specs.Scopes.{Shared, Sought, Scope, Thrown, Caught, look, give, with_result, recovered, scoped}
+use Rattle.interleaving.specs.Scopes.{Shared, Sought, Scope, Thrown, Caught, look, give, findall_with_result, recovery_look, scoped}
 use Rattle.interleaving.specs.Segments.{found_in, search_in}
 use Rattle.interleaving.proofs.ContextLemmas.{IsAround, count_left, count_around}
-use Rattle.interleaving.proofs.WayLemmas.{cond-false, other_number, unlike}
+use Rattle.interleaving.proofs.WayLemmas.{cond-false, other_number}
 use Rattle.interleaving.proofs.AppendLemmas.{append-assoc}
 use Rattle.interleaving.proofs.NamingLemmas.{same-itself}
 use Rattle.interleaving.proofs.ListEndLemmas.{on-counts, ends_in, no_end_among, other_node, scope_at}
 use Rattle.interleaving.proofs.ListScopeLemmas.{IsDistinct}
 use Rattle.interleaving.proofs.CaughtContextLemmas.{RootCaught}
 use Rattle.interleaving.proofs.LowerListLemmas.{lower_back}
-use Rattle.interleaving.proofs.FallLemmas.{Catches, fall, MarkSleeps, sleeps_way, IsTaken, fall_taken}
-
-clash : {A : Type 0} → false ≡ true → A
-clash h = let no_way : ⊥ = cc in absurd no_way
+use Rattle.interleaving.proofs.CatchingLemmas.{CaughtBy, catching, MarkIsDormant, dormant_way, IsTaken, catching_taken}
+use Rattle.interleaving.proofs.TestLemmas.{false_true}
+use Rattle.au_term.proofs.LogicLemmas.{numbers_turned}
 
 -- a mark by name
 abbrev pub mark_name : Way → Option ℕ → Option Name
@@ -81,7 +81,7 @@ module _ (clauses : List Clause) where
   look_give q r (End p b) = refl
   look_give q r (Findall s u rs l p f) = go (same r.0 s) ∙ sym (look_findall q s u rs l p f)
     where
-      go : (t : Bool) → look q (cond t (with_result r.1 s u rs l p f) (Findall s u rs l p f)) ≡ On q
+      go : (t : Bool) → look q (cond t (findall_with_result r.1 s u rs l p f) (Findall s u rs l p f)) ≡ On q
       go true = look_findall q s u _ l p _
       go false = look_findall q s u rs l p f
 
@@ -99,7 +99,7 @@ module _ (clauses : List Clause) where
   -- a ball passes what is not the end that it looks for
   first_false : (a b : Bool) → (a || b) ≡ false → (a ≡ false) × (b ≡ false)
   first_false false b e = (refl, e)
-  first_false true b e = clash (sym e)
+  first_false true b e = false_true (sym e)
 
   pub thrown_pass : (b : Term) (h o : Name) (rs : List Record) (xs ys : List Element) → ends_in h xs ≡ false
       → search_in m (Thrown b (Some h) o) (map (gives m rs) (xs ++ ys)) ≡ search_in m (Thrown b (Some h) o) (map (gives m rs) ys)
@@ -143,7 +143,7 @@ module _ (clauses : List Clause) where
   -- at the end of a goal side, and at its catch
   pub to_catch : (b x r : Term) (o : Name) (rs : List Record) (v : Level) (up : List Level) (f : Continuation ℕ) (zs : List Element)
       → search_in m (Thrown b (Some (0 ∷ v.number ∷ [])) o) (map (gives m rs) (EndOf (0 ∷ v.number ∷ []) ∷ (catch_element v up x r f ∷ zs)))
-      ≡ found_in m (recovered (unifier ((x, copied b f.next) ∷ [])) b r (1 ∷ v.number ∷ []) (0 ∷ 1 ∷ v.number ∷ [])
+      ≡ found_in m (recovery_look (unifier ((x, copied b f.next) ∷ [])) b r (1 ∷ v.number ∷ []) (0 ∷ 1 ∷ v.number ∷ [])
       (named_continuation (second_step v ∷ way_of up) f)
       (Thrown b (mark_name (second_step v ∷ way_of up) (first_mark f.items)) o)) (λ p. search_in m p (map (gives m rs) zs))
       (map (gives m rs) zs)
@@ -156,10 +156,10 @@ module _ (clauses : List Clause) where
       ∙ (ap (λ t. found_in m (cond t (On (Caught b h o)) (On (Thrown b (Some h) o))) (λ p. search_in m p (map (gives m rs) (c ∷ zs)))
       (map (gives m rs) (c ∷ zs))) (same-itself h)
       ∙ (next_in (Caught b h o) rs c zs
-      ∙ (ap (λ t. found_in m (cond t (recovered take b r (1 ∷ v.number ∷ []) (0 ∷ 1 ∷ v.number ∷ []) g
+      ∙ (ap (λ t. found_in m (cond t (recovery_look take b r (1 ∷ v.number ∷ []) (0 ∷ 1 ∷ v.number ∷ []) g
       (Thrown b (first_mark g.items) o)) (On (Caught b h o))) (λ p. search_in m p (map (gives m rs) zs)) (map (gives m rs) zs))
       (same-itself h)
-      ∙ ap (λ k. found_in m (recovered take b r (1 ∷ v.number ∷ []) (0 ∷ 1 ∷ v.number ∷ []) g (Thrown b k o))
+      ∙ ap (λ k. found_in m (recovery_look take b r (1 ∷ v.number ∷ []) (0 ∷ 1 ∷ v.number ∷ []) g (Thrown b k o))
       (λ p. search_in m p (map (gives m rs) zs)) (map (gives m rs) zs)) (first_name (second_step v ∷ way_of up) f.items))))
 
   -- the end of a recovery's alternative
@@ -178,7 +178,7 @@ module _ (clauses : List Clause) where
   above_apart v up s i new on =
       let z = scope_at s (way_of up) on in
       ap (λ x. same x (i ∷ v.number ∷ [])) z.1
-      ∙ other_node z.0 s i v.number (unlike v.number s (other_number (way_of up) v.number s new on (v.number == s) refl))
+      ∙ other_node z.0 s i v.number (numbers_turned v.number s (other_number (way_of up) v.number s new on (v.number == s) refl))
 
   pub right_passes : (v : Level) (up : List Level) (s : ℕ) → IsDistinct (v ∷ up) → is_on (way_of up) v.number ≡ false → is_on (way_of up) s
       ≡ true → ends_in (scope_on (way_of up) s) (list_right (way_of up) v) ≡ false
@@ -190,26 +190,26 @@ module _ (clauses : List Clause) where
       let none_right : count_among s v.right ≡ 0 = omega (arith, many, some) in
       ap (λ x. ends_in x (list_right (way_of up) v)) z.1
       ∙ either (same (z.0 ∷ s ∷ []) (length v.left ∷ v.number ∷ [])) _
-      (other_node z.0 s (length v.left) v.number (unlike v.number s off))
-      (no_end_among z.0 s (way_of up) v.number v.kind (suc (length v.left)) v.right (unlike v.number s off) none_right)
+      (other_node z.0 s (length v.left) v.number (numbers_turned v.number s off))
+      (no_end_among z.0 s (way_of up) v.number v.kind (suc (length v.left)) v.right (numbers_turned v.number s off) none_right)
     where
       either : (a b : Bool) → a ≡ false → b ≡ false → (a || b) ≡ false
       either false b e f = f
       either true b e f = e
 
   -- a mark of what is above
-  pub mark_up : (v : Level) (up : List Level) (k : Option ℕ) → is_on (way_of up) v.number ≡ false → MarkSleeps up k
+  pub mark_up : (v : Level) (up : List Level) (k : Option ℕ) → is_on (way_of up) v.number ≡ false → MarkIsDormant up k
       → mark_name (second_step v ∷ way_of up) k ≡ mark_name (way_of up) k
   mark_up v up None new h = refl
   mark_up v up (Some s) new h = ap (λ (n : Name). Some n)
       (cond-false (v.number == s) _ (scope_on (way_of up) s)
-      (other_number (way_of up) v.number s new (sleeps_way up s h) (v.number == s) refl))
+      (other_number (way_of up) v.number s new (dormant_way up s h) (v.number == s) refl))
 
-  pub mark_apart : (v : Level) (up : List Level) (k : Option ℕ) → is_on (way_of up) v.number ≡ false → MarkSleeps up k → (h : Name)
+  pub mark_apart : (v : Level) (up : List Level) (k : Option ℕ) → is_on (way_of up) v.number ≡ false → MarkIsDormant up k → (h : Name)
       → mark_name (way_of up) k ≡ Some h → same h (1 ∷ v.number ∷ []) ≡ false
   mark_apart v up None new m h e = let no_way : ⊥ = cc in absurd no_way
   mark_apart v up (Some s) new m h e = ap (λ x. same x (1 ∷ v.number ∷ [])) (sym (some_same e))
-      ∙ above_apart v up s 1 new (sleeps_way up s m)
+      ∙ above_apart v up s 1 new (dormant_way up s m)
     where
       some_same : {a b : Name} → Some a ≡ Some b → a ≡ b
       some_same z = cc
@@ -220,7 +220,7 @@ module _ (clauses : List Clause) where
 
   abbrev pub Finds : Term → Name → List Record → List Level → Option ℕ → Type 0
   Finds ball o rs levels mark =
-      (w : Level) (up : List Level) (r : Term) (f : Continuation ℕ) (u : Substitution) → fall ball levels mark ≡ Catches w up r f u
+      (w : Level) (up : List Level) (r : Term) (f : Continuation ℕ) (u : Substitution) → catching ball levels mark ≡ CaughtBy w up r f u
       → (x : Term) → unifier ((x, copied ball f.next) ∷ []) ≡ Some u → (zs : List Element)
       → search_in m (Thrown ball (mark_name (way_of levels) mark) o)
       (map (gives m rs) (lower_back w.number levels ++ to_side w up x r f zs))
@@ -243,8 +243,8 @@ module _ (clauses : List Clause) where
       (right_passes v rest s d new on)))
 
   pub off_catcher : (ball : Term) (v : Level) (rest : List Level) (status : Status) (k : Option ℕ) → IsAround (v ∷ rest) IsOpen
-      → RootCaught (plug (v ∷ rest) status) → MarkSleeps rest k → (w : Level) (up : List Level) (r : Term) (f : Continuation ℕ)
-      (u : Substitution) → fall ball rest k ≡ Catches w up r f u → (v.number == w.number) ≡ false
+      → RootCaught (plug (v ∷ rest) status) → MarkIsDormant rest k → (w : Level) (up : List Level) (r : Term) (f : Continuation ℕ)
+      (u : Substitution) → catching ball rest k ≡ CaughtBy w up r f u → (v.number == w.number) ≡ false
   off_catcher ball v rest status k a h m w up r f u e =
-      let c = subst (IsTaken ball rest) e (fall_taken ball rest (Inner (level_node v status)) k a.1 h m) in
+      let c = subst (IsTaken ball rest) e (catching_taken ball rest (Inner (level_node v status)) k a.1 h m) in
       other_number (way_of rest) v.number w.number a.0.new c.on (v.number == w.number) refl

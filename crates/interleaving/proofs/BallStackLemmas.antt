@@ -16,26 +16,27 @@ use Rattle.tree_model.specs.Floors.{node_of, floor_of}
 use Rattle.tree_model.specs.Pruning.{left_after}
 use Rattle.tree_model.specs.PendingLists.{way_of}
 use Rattle.tree_model.specs.Ways.{is_on, is_query, IsAsked}
-use Rattle.tree_model.specs.SoundTrees.{one_if, count_among, Profile, IsOpen, Sleeps, profile, profiles, is_shape}
+use Rattle.tree_model.specs.SoundTrees.{one_if, count_among, Profile, IsOpen, IsDormant, profile, profiles, is_shape}
 use Rattle.interleaving.proofs.ContextLemmas.{put_profiles, count_around}
-use Rattle.interleaving.proofs.WayLemmas.{cond-true, cond-false, one_if-zero, off_way, other_number, same_self}
+use Rattle.interleaving.proofs.WayLemmas.{cond-true, cond-false, one_if-zero, off_way, other_number}
 use Rattle.interleaving.proofs.ShapeLemmas.{catch_kind}
 use Rattle.interleaving.proofs.RoundtripLemmas.{by_nodes, by_heights}
 use Rattle.interleaving.proofs.ClosingSoundLemmas.{IsSoundGrown, woken_sound}
-use Rattle.interleaving.proofs.GrowingLemmas.{no_three, none_sleeps-of}
+use Rattle.interleaving.proofs.GrowingLemmas.{no_three, none_dormant-of}
 use Rattle.interleaving.proofs.MarkLemmas.{no_query_to, IsMarkOn, first_mark_on}
 use Rattle.au_model.specs.Terms.Unifier.{unifier}
 use Rattle.interleaving.proofs.EntryLemmas.{own_height, length-floor}
-use Rattle.interleaving.proofs.BallLemmas.{NamesFloor, names-above, node_on, IsLow, landing_low, fallen, IsFalling, falls-above}
+use Rattle.interleaving.proofs.BallLemmas.{NamesFloor, names-above, node_on, IsLow, ball_scope_low, fallen, IsFalling, falls-above}
 use Rattle.interleaving.proofs.BallLemmas.{stops_here, ends_sound, passes, recovery_on}
+use Rattle.interleaving.proofs.TestLemmas.{number_same}
 
 -- where nothing can take a ball
-pub nothing_takes : (ball : Term) (es : List Entry) → unwound ball None es ≡ EndEntry (Some (copied ball 0)) ∷ []
-nothing_takes ball [] = refl
-nothing_takes ball (CatchEntry c r f ∷ es) = nothing_takes ball es
-nothing_takes ball (PlainEntry f ∷ es) = nothing_takes ball es
-nothing_takes ball (FindallEntry results l f ∷ es) = nothing_takes ball es
-nothing_takes ball (EndEntry b ∷ es) = nothing_takes ball es
+pub nothing_infers : (ball : Term) (es : List Entry) → unwound ball None es ≡ EndEntry (Some (copied ball 0)) ∷ []
+nothing_infers ball [] = refl
+nothing_infers ball (CatchEntry c r f ∷ es) = nothing_infers ball es
+nothing_infers ball (PlainEntry f ∷ es) = nothing_infers ball es
+nothing_infers ball (FindallEntry results l f ∷ es) = nothing_infers ball es
+nothing_infers ball (EndEntry b ∷ es) = nothing_infers ball es
 
 below_floor : (ball : Term) (m : ℕ) (es : List Entry) → length es ≤ m → unwound ball (Some m) es ≡ EndEntry (Some (copied ball 0)) ∷ []
 below_floor ball m [] h = refl
@@ -81,17 +82,17 @@ mark_named node levels (Some m) a (inl l) = inl l
 mark_named node levels (Some m) a (inr h) = inr (h.0, subst (λ k. no_query_to (way_of levels) k ≡ true) (sym (a (suc m) h.0)) h.1)
 
 -- the first alternative of a node is open where something sleeps after it
-pub sleeps_first : (kind : Kind) (left : List (ℕ × Status)) (k : Kind) (ps : List Profile)
-    → is_shape kind (put_profiles left (IsOpen ∷ Sleeps k ∷ ps)) ≡ true → length left ≡ 0
-sleeps_first kind [] k ps h = refl
-sleeps_first ChoiceNode (a ∷ left) k ps h = let no_way : ⊥ = none_true (none_sleeps-of (a ∷ left) (IsOpen ∷ Sleeps k ∷ ps) h) in absurd
+pub dormant_first : (kind : Kind) (left : List (ℕ × Status)) (k : Kind) (ps : List Profile)
+    → is_shape kind (put_profiles left (IsOpen ∷ IsDormant k ∷ ps)) ≡ true → length left ≡ 0
+dormant_first kind [] k ps h = refl
+dormant_first ChoiceNode (a ∷ left) k ps h = let no_way : ⊥ = none_true (none_dormant-of (a ∷ left) (IsOpen ∷ IsDormant k ∷ ps) h) in absurd
     no_way
   where
     none_true : false ≡ true → ⊥
     none_true e = cc
-sleeps_first CatchNode (a ∷ left) k ps h = absurd (no_three CatchNode left (profile a.1) IsOpen (Sleeps k) ps h)
-sleeps_first FindallNode (a ∷ left) k ps h = absurd (no_three FindallNode left (profile a.1) IsOpen (Sleeps k) ps h)
-sleeps_first QueryNode (a ∷ left) k ps h = absurd (no_three QueryNode left (profile a.1) IsOpen (Sleeps k) ps h)
+dormant_first CatchNode (a ∷ left) k ps h = absurd (no_three CatchNode left (profile a.1) IsOpen (IsDormant k) ps h)
+dormant_first FindallNode (a ∷ left) k ps h = absurd (no_three FindallNode left (profile a.1) IsOpen (IsDormant k) ps h)
+dormant_first QueryNode (a ∷ left) k ps h = absurd (no_three QueryNode left (profile a.1) IsOpen (IsDormant k) ps h)
 
 low_up : (up : List Level) (es : List Entry) → IsLow (length (floor_of up)) es → IsLow (length up) es
 low_up up es h = subst (λ n. IsLow n es) (length-floor up) h
@@ -138,7 +139,7 @@ caught_here node q next n kind [] spent s x r f others up c o ball h l g i =
     recovery_on node next n kind up (length (floor_of up)) (length-floor up) (call_of r) o f.items (names-above node v up h.names)
     (catch_kind kind (profiles others) h.around.0.shape) (one_if-zero (n == next) not_here) h.around.0.new
     (off_way next up not_above) asked in
-    stops_here next (node (suc (length (floor_of up)))) v up c _ (ap (λ m. n == m) scope ∙ same_self n)
+    stops_here next (node (suc (length (floor_of up)))) v up c _ (ap (λ m. n == m) scope ∙ number_same n)
     (woken_sound next n kind spent (alternative s (Pending Dormant (CatchEntry x r f)) others) up (left_after v c) _ h.around.0
     h.around.1 h.free
     (subst (λ items. IsAsked (record { node = next; index = 0; kind = ChoiceNode } ∷ record { node = n; index = 1; kind = kind }
@@ -179,17 +180,17 @@ catch_level node q next n kind left spent s x r f others up c mark ball k h m go
         (fallen node q next (v ∷ up) c (recovered o ball r g (floor_of up)
         (unwound ball (next_mark mark (length (floor_of up)) g) (floor_of up))))
     go None = passes node q next v up c (unwound ball (next_mark mark (length (floor_of up)) g) (floor_of up)) k h
-        (low_up up _ (landing_low ball (next_mark mark (length (floor_of up)) g) (floor_of up)))
+        (low_up up _ (ball_scope_low ball (next_mark mark (length (floor_of up)) g) (floor_of up)))
         (go_on (next_mark mark (length (floor_of up)) g) behind)
     go (Some o) = caught_here node q next n kind left spent s x r f others up c o ball h
-        (sleeps_first kind left CatchNode (profiles others) h.around.0.shape) g refl
+        (dormant_first kind left CatchNode (profiles others) h.around.0.shape) g refl
 
 -- a level at which nothing is caught
 plain_level : (node : ℕ → ℕ) (q next : ℕ) (v : Level) (up : List Level) (c : Credit) (mark : Option ℕ) (ball : Term) → is_query v.kind
     ≡ false → IsFalling node q next (v ∷ up) → IsMarkOn node (v ∷ up) mark → GoesOn node q next ball up →
     IsSoundGrown (fallen node q next (v ∷ up) c (unwound ball mark (floor_of up)))
 plain_level node q next v up c mark ball k h m go_on =
-    passes node q next v up c (unwound ball mark (floor_of up)) k h (low_up up _ (landing_low ball mark (floor_of up)))
+    passes node q next v up c (unwound ball mark (floor_of up)) k h (low_up up _ (ball_scope_low ball mark (floor_of up)))
     (go_on mark (mark_above node v up mark k (names-above node v up h.names) h.around.0.new m))
 
 ball_level : (node : ℕ → ℕ) (q next n : ℕ) (kind : Kind) (left : List (ℕ × Status)) (spent : ℕ) (right : Alternatives) (up : List Level)
@@ -222,7 +223,7 @@ query_level : (node : ℕ → ℕ) (q next : ℕ) (v : Level) (up : List Level) 
     ≡ true → IsFalling node q next (v ∷ up) → IsMarkOn node (v ∷ up) mark
     → IsSoundGrown (fallen node q next (v ∷ up) c (unwound ball mark (floor_of (v ∷ up))))
 query_level node q next v up c None ball k h m = subst (λ es. IsSoundGrown (fallen node q next (v ∷ up) c es))
-    (sym (nothing_takes ball (floor_of (v ∷ up)))) (ends_sound node q next (v ∷ up) c (Some (copied ball 0)) h)
+    (sym (nothing_infers ball (floor_of (v ∷ up)))) (ends_sound node q next (v ∷ up) c (Some (copied ball 0)) h)
 query_level node q next v up c (Some m) ball k h (inl l) = subst (λ es. IsSoundGrown (fallen node q next (v ∷ up) c es))
     (sym (below_floor ball m (floor_of (v ∷ up)) (omega (arith, l, length-floor (v ∷ up)))))
     (ends_sound node q next (v ∷ up) c (Some (copied ball 0)) h)

@@ -17,10 +17,11 @@ use Rattle.tree_model.specs.Shapes.{further, guard_kind, placed_status}
 use Rattle.tree_model.specs.PendingLists.{Step, Way, element_at, list_below}
 use Rattle.interleaving.proofs.AppendLemmas.{append-assoc, each-append}
 use Rattle.interleaving.proofs.ListChangeLemmas.{no_credit}
-use Rattle.interleaving.proofs.RootLemmas.{are_told}
+use Rattle.interleaving.proofs.RootLemmas.{are_distinguished}
 use Rattle.interleaving.proofs.PlacedNameLemmas.{bare, bare-element, olders}
 use Rattle.interleaving.proofs.PlacedErasedLemmas.{bare_made}
 use Rattle.interleaving.proofs.PlacedShapeLemmas.{made_equal}
+use Rattle.au_model.proofs.ApplyLemmas.{or_left, or_right}
 
 pub may_then : (clauses : List Clause) (xs ys zs : List Element) → MayBecome clauses xs ys → MayBecome clauses ys zs
     → MayBecome clauses xs zs
@@ -69,34 +70,26 @@ lead_more (End q b ∷ front) s k p f xs ys = omega arith
 abbrev pub made_at : Name → ℕ → Name → Bool
 made_at top next s = extends top s || rooted (nat_le next) s
 
-pub either_true : (a b : Bool) → b ≡ true → (a || b) ≡ true
-either_true true b h = refl
-either_true false b h = h
-
-pub first_true : (a b : Bool) → a ≡ true → (a || b) ≡ true
-first_true true b h = refl
-first_true false b h = let no_way : ⊥ = cc in absurd no_way
-
 pub made_grown : (top : Name) (next : ℕ) → IsGrown (made_at top next)
 made_grown top next i s h = go (extends top s) refl h
   where
     go : (b : Bool) → extends top s ≡ b → (b || rooted (nat_le next) s) ≡ true → made_at top next (i ∷ s) ≡ true
-    go true e k = first_true (extends top (i ∷ s)) _ (are_told.extend top i s e)
-    go false e k = either_true (extends top (i ∷ s)) _ (are_told.root (nat_le next) i s k)
+    go true e k = or_left (extends top (i ∷ s)) _ (are_distinguished.extend top i s e)
+    go false e k = or_right (extends top (i ∷ s)) _ (are_distinguished.root (nat_le next) i s k)
 
 pub new_number : (next n : ℕ) → next ≤ n → nat_le next n ≡ true
 new_number next n h = grind arith
 
 pub inner_element : (top : Name) (next n i : ℕ) (way : Way) (e : Entry) → next ≤ n → IsInner (made_at top next) (element_at n i way e)
-inner_element top next n i way (PlainEntry f) h = either_true (extends top (0 ∷ i ∷ n ∷ [])) _ (new_number next n h)
+inner_element top next n i way (PlainEntry f) h = or_right (extends top (0 ∷ i ∷ n ∷ [])) _ (new_number next n h)
 inner_element top next n i way (CatchEntry c r f) h =
-    (either_true (extends top (0 ∷ n ∷ [])) _ (new_number next n h), either_true (extends top (0 ∷ i ∷ n ∷ [])) _ (new_number next n h))
+    (or_right (extends top (0 ∷ n ∷ [])) _ (new_number next n h), or_right (extends top (0 ∷ i ∷ n ∷ [])) _ (new_number next n h))
 inner_element top next n i way (FindallEntry results l f) h =
-    (either_true (extends top (0 ∷ n ∷ [])) _ (new_number next n h), either_true (extends top (0 ∷ i ∷ n ∷ [])) _ (new_number next n h))
-inner_element top next n i way (EndEntry b) h = either_true (extends top (0 ∷ i ∷ n ∷ [])) _ (new_number next n h)
+    (or_right (extends top (0 ∷ n ∷ [])) _ (new_number next n h), or_right (extends top (0 ∷ i ∷ n ∷ [])) _ (new_number next n h))
+inner_element top next n i way (EndEntry b) h = or_right (extends top (0 ∷ i ∷ n ∷ [])) _ (new_number next n h)
 
 inner_end : (top : Name) (next n i : ℕ) → next ≤ n → made_at top next (i ∷ n ∷ []) ≡ true
-inner_end top next n i h = either_true (extends top (i ∷ n ∷ [])) _ (new_number next n h)
+inner_end top next n i h = or_right (extends top (i ∷ n ∷ [])) _ (new_number next n h)
 
 inner_olders : (top : Name) (next n : ℕ) (way : Way) (kind : Kind) (i : ℕ) (os : List Entry) → next ≤ n
     → Each (IsInner (made_at top next)) (olders way n kind i os)

@@ -17,12 +17,13 @@ use Rattle.tree_model.specs.PendingLists.{Step, Way, step_name, scope_on, findal
 use Rattle.tree_model.specs.PendingLists.{list_below, list_left}
 use Rattle.tree_model.specs.Ways.{is_on, way_from, way_above, AreScoped, IsOnWay}
 use Rattle.tree_model.specs.SoundTrees.{one_if, count_in, count_among, count_below, IsSoundNode, AreSound, IsSound}
-use Rattle.interleaving.proofs.WayLemmas.{cond-same, reach-on, through-on, same_self}
+use Rattle.interleaving.proofs.WayLemmas.{cond-same, reach-on, through-on}
 use Rattle.interleaving.proofs.RoundtripLemmas.{part_from, part_above, IsPart}
 use Rattle.interleaving.proofs.ContextLemmas.{LeftSound, count_left}
 use Rattle.interleaving.proofs.AppendLemmas.{each-append, append-assoc}
-use Rattle.interleaving.proofs.RootLemmas.{are_told}
+use Rattle.interleaving.proofs.RootLemmas.{are_distinguished}
 use Rattle.interleaving.proofs.BaredLemmas.{made_at}
+use Rattle.interleaving.proofs.TestLemmas.{number_same}
 
 module _ (i n next : ℕ) where
   abbrev pub own : Name
@@ -34,8 +35,8 @@ module _ (i n next : ℕ) where
 
   pub out_more : (j m : ℕ) → Out j m → (more : List ℕ) → made_at (i ∷ n ∷ []) next (more ++ j ∷ m ∷ []) ≡ false
   out_more j m o more =
-      ap (λ b. b || rooted (nat_le next) (more ++ j ∷ m ∷ [])) (are_told.by_length (i ∷ n ∷ []) (j ∷ m ∷ []) more refl ∙ o.0)
-      ∙ (are_told.by_root (nat_le next) j (m ∷ []) more ∙ o.1)
+      ap (λ b. b || rooted (nat_le next) (more ++ j ∷ m ∷ [])) (are_distinguished.by_length (i ∷ n ∷ []) (j ∷ m ∷ []) more refl ∙ o.0)
+      ∙ (are_distinguished.by_root (nat_le next) j (m ∷ []) more ∙ o.1)
 
   pub out_entry : (j m : ℕ) → Out j m → IsBeside (made_at (i ∷ n ∷ []) next) (0 ∷ j ∷ m ∷ [])
   out_entry j m o more = ap (made_at (i ∷ n ∷ []) next) (sym (append-assoc more (0 ∷ []) (j ∷ m ∷ []))) ∙ out_more j m o (more ++ 0 ∷ [])
@@ -120,7 +121,7 @@ module _ (i n next : ℕ) where
   records_out s (t ∷ ts) h = (h, records_out s ts h)
 
   pub own_number : (m : ℕ) (k : ℕ) → 1 ≤ one_if (m == m) + k
-  own_number m k = let one : one_if (m == m) ≡ 1 = ap one_if (same_self m) in omega (arith, one)
+  own_number m k = let one : one_if (m == m) ≡ 1 = ap one_if (number_same m) in omega (arith, one)
 
   mutual
     pub blind_in : (way : Way) (node : Node) → WayOut way → IsSoundNode way node → ((m : ℕ) → 1 ≤ count_in m node → OutNode m)

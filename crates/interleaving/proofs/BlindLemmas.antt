@@ -18,10 +18,11 @@ use Rattle.tree_model.specs.SoundTrees.{AreSound}
 use Rattle.interleaving.specs.Roots.{rooted}
 use Rattle.interleaving.specs.Views.{IsApart, IsBeside, IsItemApart, IsRecordApart, IsBlind, IsUnder}
 use Rattle.interleaving.proofs.ContextLemmas.{LeftSound, IsAround, count_left, count_around}
-use Rattle.interleaving.proofs.WayLemmas.{reach-on, through-on, one_if-zero, other_number, unlike, off_way}
+use Rattle.interleaving.proofs.WayLemmas.{reach-on, through-on, one_if-zero, other_number, off_way}
 use Rattle.interleaving.proofs.AppendLemmas.{each-append}
-use Rattle.interleaving.proofs.RootLemmas.{are_told}
+use Rattle.interleaving.proofs.RootLemmas.{are_distinguished}
 use Rattle.interleaving.proofs.ListEndLemmas.{scope_at}
+use Rattle.au_term.proofs.LogicLemmas.{numbers_turned}
 
 module _ (n : ℕ) where
   -- names of this node
@@ -30,10 +31,10 @@ module _ (n : ℕ) where
 
   -- names of steps, of others
   pub beside : (i m : ℕ) → (m == n) ≡ false → IsBeside of_node (0 ∷ i ∷ m ∷ [])
-  beside i m h more = are_told.by_root (λ k. k == n) 0 (i ∷ m ∷ []) more ∙ h
+  beside i m h more = are_distinguished.by_root (λ k. k == n) 0 (i ∷ m ∷ []) more ∙ h
 
   on_other : (way : Way) (s : ℕ) → is_on way n ≡ false → is_on way s ≡ true → (s == n) ≡ false
-  on_other way s o h = unlike n s (other_number way n s o h (n == s) refl)
+  on_other way s o h = numbers_turned n s (other_number way n s o h (n == s) refl)
 
   pub scope_apart : (way : Way) (s : ℕ) → is_on way n ≡ false → is_on way s ≡ true → IsApart of_node (scope_on way s)
   scope_apart way s o h = let z = scope_at s way h in subst (λ x. of_node x ≡ false) (sym z.1) (on_other way s o h)

@@ -7,7 +7,8 @@ use Rattle.au_model.specs.Terms.Substitutions.{Substitution}
 use Rattle.run_model.specs.Machine.Items.{Item, GoalItem, CatchMark, CollectMark, RemovalItem, resolve_item, goals_at, without_marks}
 use Rattle.tree_model.specs.Elements.{Name, same, Element, Credit, Plain, EndOf, Catch, Findall, End}
 use Rattle.interleaving.specs.Erased.{from}
-use Rattle.interleaving.specs.Sound.{names, IsOlder, IsPresent, AreCarried, IsGuarded, IsGathered, IsMarkSound, EachFindall, IsEntrySound}
+use Rattle.interleaving.specs.Sound.{names, IsMadeElsewhere, IsPresent, AreCarried, IsGuarded, IsGathered, IsMarkSound, EachFindall}
+use Rattle.interleaving.specs.Sound.{IsEntrySound}
 use Rattle.interleaving.specs.Sound.{IsSound}
 use Rattle.interleaving.proofs.NamingLemmas.{names-resolved, IsMadeBy, from_end, from_own, from-made, not_child, all-later, carried_child}
 use Rattle.interleaving.proofs.NamingLemmas.{carried_cut, carried_rest, not_longer}
@@ -83,19 +84,20 @@ marks-moved xs ys (CatchMark s ∷ items) e h = (guard-moved xs ys s e.0 h.0, ma
 marks-moved xs ys (CollectMark t s ∷ items) e h = (gathered-moved xs ys s e.0 h.0, marks-moved xs ys items e.1 h.1)
 marks-moved xs ys (RemovalItem n ∷ items) e h = (tt, marks-moved xs ys items e h.1)
 
-froms-made : (p : Name) (ys xs : List Element) (hs : List Name) → Each (IsMadeBy p) ys → Each (IsOlder p) hs
+froms-made : (p : Name) (ys xs : List Element) (hs : List Name) → Each (IsMadeBy p) ys → Each (IsMadeElsewhere p) hs
     → Each (λ s. from (ys ++ xs) s ≡ from xs s) hs
 froms-made p ys xs [] m n = tt
 froms-made p ys xs (s ∷ hs) m n = (from-made p s ys xs m n.0, froms-made p ys xs hs m n.1)
 
 -- under what the entry's own step puts in front
 pub entry_child : (p : Name) (i : ℕ) (ys xs : List Element) (hs : List Name) (items : List (Item Name)) → Each (IsMadeBy p) ys
-    → EachFindall (IsOlder (i ∷ p)) ys → Each (IsOlder p) (names items) → IsEntrySound p xs hs items
+    → EachFindall (IsMadeElsewhere (i ∷ p)) ys → Each (IsMadeElsewhere p) (names items) → IsEntrySound p xs hs items
     → IsEntrySound (i ∷ p) (ys ++ xs) hs items
 entry_child p i ys xs hs items m b n s = record {
   carried = carried_child p i ys xs hs m s.carried;
   marks = marks-moved xs (ys ++ xs) items (froms-made p ys xs (names items) m n) s.marks;
-  findalls = findalls-append (IsOlder (i ∷ p)) ys xs b (findalls-map (IsOlder p) (IsOlder (i ∷ p)) (λ e. not_child p e i) xs s.findalls);
+  findalls = findalls-append (IsMadeElsewhere (i ∷ p)) ys xs b
+      (findalls-map (IsMadeElsewhere p) (IsMadeElsewhere (i ∷ p)) (λ e. not_child p e i) xs s.findalls);
 }
 
 -- without the goal in front
@@ -110,7 +112,7 @@ entry_cut p xs h items s = record {
   carried = carried_cut p xs h (names items) s.carried;
   marks = marks-moved xs (from xs h) items s.carried.chain.0 s.marks;
   findalls
-      = findalls-from (IsOlder p) xs h s.findalls;
+      = findalls-from (IsMadeElsewhere p) xs h s.findalls;
 }
 
 -- goals of a scope in front
@@ -125,7 +127,7 @@ again zs h e = ap (λ ys. from ys h) e.1 ∙ from_own h e.0 ∙ sym e.1
 
 -- a scope that may be carried in front of these
 pub record IsInFront (q : Name) (zs : List Element) (h : Name) (items : List (Item Name)) : Type 0 where
-  pub older : IsOlder q h
+  pub older : IsMadeElsewhere q h
   pub present : IsPresent zs h
   pub later : Each (λ s. from (from zs h) s ≡ from zs s) (names items)
 
@@ -151,7 +153,7 @@ pub front_of : (p : Name) (xs : List Element) (h : Name) (items : List (Item Nam
 front_of p xs h items s = record { older = s.carried.older.0; present = s.carried.present.0; later = s.carried.chain.0 }
 
 pub front_child : (p : Name) (i : ℕ) (ys xs : List Element) (h : Name) (items : List (Item Name)) → Each (IsMadeBy p) ys
-    → Each (IsOlder p) (names items) → IsInFront p xs h items → IsInFront (i ∷ p) (ys ++ xs) h items
+    → Each (IsMadeElsewhere p) (names items) → IsInFront p xs h items → IsInFront (i ∷ p) (ys ++ xs) h items
 front_child p i ys xs h items m n k = record {
   older = not_child p h i k.older;
   present = (k.present.0, from-made p h ys xs m k.older ∙ k.present.1);
@@ -159,27 +161,27 @@ front_child p i ys xs h items m n k = record {
       (names items) m k.older n k.later;
 }
 
-pub older-goals : (p h : Name) (gs : List Term) (items : List (Item Name)) → IsOlder p h → Each (IsOlder p) (names items)
-    → Each (IsOlder p) (names (goals_at h gs ++ items))
+pub older-goals : (p h : Name) (gs : List Term) (items : List (Item Name)) → IsMadeElsewhere p h → Each (IsMadeElsewhere p) (names items)
+    → Each (IsMadeElsewhere p) (names (goals_at h gs ++ items))
 older-goals p h [] items k n = n
 older-goals p h (g ∷ gs) items k n = (k, older-goals p h gs items k n)
 
 pub later-end : (p : Name) (ys xs : List Element) (hs : List Name) → Each (IsMadeBy p) ys → from (ys ++ xs) p ≡ EndOf p ∷ xs
-    → Each (IsOlder p) hs → Each (λ s. from (from (ys ++ xs) p) s ≡ from (ys ++ xs) s) hs
+    → Each (IsMadeElsewhere p) hs → Each (λ s. from (from (ys ++ xs) p) s ≡ from (ys ++ xs) s) hs
 later-end p ys xs [] m e n = tt
 later-end p ys xs (s ∷ hs) m e n =
     (ap (λ zs. from zs s) e ∙ from_end p s xs (λ q. n.0 [] q) ∙ sym (from-made p s ys xs m n.0), later-end p ys xs hs m e n.1)
 
 -- the entry's own scope, for a child over what ends it
 pub own_front : (p : Name) (i : ℕ) (ys xs : List Element) (items : List (Item Name)) → Each (IsMadeBy p) ys → from (ys ++ xs) p
-    ≡ EndOf p ∷ xs → Each (IsOlder p) (names items) → IsInFront (i ∷ p) (ys ++ xs) p items
+    ≡ EndOf p ∷ xs → Each (IsMadeElsewhere p) (names items) → IsInFront (i ∷ p) (ys ++ xs) p items
 own_front p i ys xs items m e n = record { older = not_longer p i; present = (xs, e); later = later-end p ys xs (names items) m e n }
 
 pub from_first : (e : Name) (xs : List Element) (hs : List Name) → Each (λ s. from (from (EndOf e ∷ xs) e) s ≡ from (EndOf e ∷ xs) s) hs
 from_first e xs [] = tt
 from_first e xs (s ∷ hs) = (ap (λ zs. from zs s) (from_own e xs), from_first e xs hs)
 
-pub other_child : (p : Name) → IsOlder (0 ∷ p) (2 ∷ p)
+pub other_child : (p : Name) → IsMadeElsewhere (0 ∷ p) (2 ∷ p)
 other_child p [] e = two_zero (head e)
   where
     two_zero : ◌≡◌ {A = ℕ} 2 0 → ⊥
@@ -193,7 +195,7 @@ other_child p (i ∷ more) e = absurd (omega (arith, ap length (tail e), length-
     tail f = cc
 
 -- the scope that ends right here
-pub here_front : (q e : Name) (xs : List Element) (items : List (Item Name)) → IsOlder q e → IsInFront q (EndOf e ∷ xs) e items
+pub here_front : (q e : Name) (xs : List Element) (items : List (Item Name)) → IsMadeElsewhere q e → IsInFront q (EndOf e ∷ xs) e items
 here_front q e xs items n = record { older = n; present = (xs, from_own e xs); later = from_first e xs (names items) }
 
 -- with every binding applied

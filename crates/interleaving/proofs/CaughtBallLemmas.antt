@@ -13,7 +13,7 @@ use Rattle.tree_model.specs.Levels.{Level, plug}
 use Rattle.tree_model.specs.Floors.{floor_of, node_of, with_nodes, query_node}
 use Rattle.tree_model.specs.Orders.{levels_below}
 use Rattle.tree_model.specs.Closing.{dormant_right, guarded}
-use Rattle.tree_model.specs.Pruning.{is_findall, lands}
+use Rattle.tree_model.specs.Pruning.{is_findall, ball_closes}
 use Rattle.tree_model.specs.PendingLists.{way_of}
 use Rattle.tree_model.specs.Ways.{is_on, is_query, IsAsked}
 use Rattle.tree_model.specs.SoundTrees.{IsOpen}
@@ -26,16 +26,14 @@ use Rattle.interleaving.proofs.ClosingSoundLemmas.{IsFree}
 use Rattle.interleaving.proofs.ClockLemmas.{AreClear}
 use Rattle.interleaving.proofs.ClosingListLemmas.{Guards, no_side}
 use Rattle.interleaving.proofs.ListEndLemmas.{levels_down}
-use Rattle.interleaving.proofs.ListScopeLemmas.{sleeps_on}
+use Rattle.interleaving.proofs.ListScopeLemmas.{dormant_on}
 use Rattle.interleaving.proofs.ListMarkLemmas.{around-down}
 use Rattle.interleaving.proofs.CaughtContextLemmas.{IsCaughtRoot}
-use Rattle.interleaving.proofs.CaughtClosingLemmas.{RecordsAt, wake_caught, marks_other, off_numbers, sleeper_on}
-use Rattle.interleaving.proofs.FallLemmas.{IsCatcher}
-use Rattle.interleaving.proofs.BallLevelLemmas.{landed, wakes_in, lands_at, landed_under, FirstShut, under_top}
+use Rattle.interleaving.proofs.CaughtClosingLemmas.{RecordsAt, wake_caught, marks_other, off_numbers, dormant_there}
+use Rattle.interleaving.proofs.CatchingLemmas.{IsCatcher}
+use Rattle.interleaving.proofs.BallLevelLemmas.{ball_credit, wakes_in, ball_closes_at, ball_credit_under, FirstShut, under_top}
 use Rattle.interleaving.proofs.BallPlaceLemmas.{names_above, scope_down, QueryAt}
-
-clash : {A : Type 0} → false ≡ true → A
-clash h = let no_way : ⊥ = cc in absurd no_way
+use Rattle.interleaving.proofs.TestLemmas.{false_true}
 
 -- bindings change no mark
 pub marks_resolved : (sleeps : ℕ → Bool) (node : ℕ → ℕ) (o : Substitution) (items : List (Item ℕ))
@@ -63,13 +61,13 @@ query_no_side w q = go w.kind q
   where
     go : (k : Kind) → is_query k ≡ true → (is_findall k && (length w.left == 0)) ≡ false
     go QueryNode e = refl
-    go ChoiceNode e = clash e
-    go CatchNode e = clash e
-    go FindallNode e = clash e
+    go ChoiceNode e = false_true e
+    go CatchNode e = false_true e
+    go FindallNode e = false_true e
 
 records_at : (w : Level) (up : List Level) (s : ℕ) (levels : List Level) (status : Status) → is_side w.kind (length w.left) ≡ false
-    → levels_down levels s ≡ w ∷ up → ((landed s levels (credit_of 1)).records ≡ []) ⊎ (under_top (levels_down levels s) ≡ true)
-    → RecordsAt up w (landed s levels (credit_of 1))
+    → levels_down levels s ≡ w ∷ up → ((ball_credit s levels (credit_of 1)).records ≡ []) ⊎ (under_top (levels_down levels s) ≡ true)
+    → RecordsAt up w (ball_credit s levels (credit_of 1))
 records_at w up s levels status off e (inl z) = inl z
 records_at w up s levels status off e (inr z) = inr (off, sym (ap under_top e) ∙ z)
 
@@ -89,16 +87,17 @@ pub recovery_caught : (next : ℕ) (levels : List Level) (status : Status) (w : 
     → IsAround levels IsOpen → IsFree next levels
     → ((sp : ℕ) (others : Alternatives) → catch_right (alternative sp status others) ≡ false)
     → AreClear (levels_below (Some w.number) levels) → IsCatcher ball levels w up r f o → IsCaughtRoot (plug levels status)
-    → IsCaughtRoot (lands next (node_of levels (suc (length (floor_of up)))) levels (credit_of 1)
+    → IsCaughtRoot (ball_closes next (node_of levels (suc (length (floor_of up)))) levels (credit_of 1)
     (with_nodes (node_of levels) (PlainEntry g))).root
 recovery_caught next levels status w up r f o ball g is a free first clear c h =
     let s = w.number in
     let around : IsAround (w ∷ up) IsOpen = subst (λ l. IsAround l IsOpen) c.down (around-down levels s a) in
     let e = with_nodes (node_of levels) (PlainEntry g) in
-    let l = lands_at next s levels status (credit_of 1) e in
+    let l = ball_closes_at next s levels status (credit_of 1) e in
     let root : IsCaughtRoot (plug (w ∷ up) l.below) = subst (λ d. IsCaughtRoot (plug d l.below)) c.down (subst IsCaughtRoot l.inside h) in
-    let records = landed_under s levels status (credit_of 1) clear (subst FirstShut (sym c.down) c.sleeper.left) h.caught (inl refl) in
-    let asked : IsAsked (way_of up) f.items = sleeper_on w up IsOpen c.sleeper.spent (CatchEntry c.catcher r f) around.0 c.sleeper.right in
+    let records = ball_credit_under s levels status (credit_of 1) clear (subst FirstShut (sym c.down) c.sleeper.left) h.caught (inl refl) in
+    let asked : IsAsked (way_of up) f.items = dormant_there w up IsOpen c.sleeper.spent
+    (CatchEntry c.catcher r f) around.0 c.sleeper.right in
     let scope : node_of levels (suc (length (floor_of up))) ≡ s = ap (λ n. node_of levels (suc n)) (length-floor up)
     ∙ scope_down levels s w up c.down c.on in
     let off_next : is_on (way_of up) next
@@ -106,32 +105,33 @@ recovery_caught next levels status w up r f o ball g is a free first clear c h =
     next up + 0 ≤ count_around next (levels_down levels s) = subst (λ d. count_around next up + 0 ≤ count_around next d)
     (sym c.down) (omega arith) in omega (arith, x, y, z)) in
     let names : by_nodes (node_of levels) (by_heights up f.items) ≡ f.items = names_above levels s w up f.items c.down asked in
-    let marks : MarksCaught (with_catch w.number false (sleeps_on up)) f.items
-    → MarksCaught (with_catch next false (with_catch w.number false (sleeps_on up))) (by_nodes (node_of levels) g.items) = λ k.
-    subst (λ items. MarksCaught (with_catch next false (with_catch w.number false (sleeps_on up)))
+    let marks : MarksCaught (with_catch w.number false (dormant_on up)) f.items
+    → MarksCaught (with_catch next false (with_catch w.number false (dormant_on up))) (by_nodes (node_of levels) g.items) = λ k.
+    subst (λ items. MarksCaught (with_catch next false (with_catch w.number false (dormant_on up)))
     (by_nodes (node_of levels) items)) (sym is)
     (marks_resolved _ (node_of levels) o (GoalItem (call_of r) (length (floor_of up)) ∷ by_heights up f.items)
-    (subst (MarksCaught (with_catch next false (with_catch w.number false (sleeps_on up)))) (sym names)
+    (subst (MarksCaught (with_catch next false (with_catch w.number false (dormant_on up)))) (sym names)
     (marks_other _ next false (way_of up) f.items (off_numbers (way_of up) next off_next) asked.scoped k))) in
-    let woken = wake_caught next w up l.below (landed s levels (credit_of 1)) c.sleeper.spent (CatchEntry c.catcher r f) e
+    let woken = wake_caught next w up l.below (ball_credit s levels (credit_of 1)) c.sleeper.spent (CatchEntry c.catcher r f) e
     c.sleeper.right (l.first first w.spent w.right)
     (records_at w up s levels status (catch_no_side w up around c.catcher r f c.sleeper) c.down records) (λ k. tt) marks root in
-    subst (λ n. IsCaughtRoot (lands next n levels (credit_of 1) e).root) (sym scope)
-    (subst (λ x. IsCaughtRoot x.root) (sym (l.lands ∙ ap (λ d. wakes_in next d (landed s levels (credit_of 1)) e) c.down)) woken)
+    subst (λ n. IsCaughtRoot (ball_closes next n levels (credit_of 1) e).root) (sym scope)
+    (subst (λ x. IsCaughtRoot x.root) (sym (l.ball_closes ∙ ap (λ d. wakes_in next d (ball_credit s levels (credit_of 1)) e) c.down)) woken)
 
 -- a ball that nothing takes
 pub lost_caught : (next : ℕ) (levels : List Level) (status : Status) (b : Option Term) → IsAround levels IsOpen → IsFree next levels
     → ((sp : ℕ) (others : Alternatives) → catch_right (alternative sp status others) ≡ false)
     → AreClear (levels_below (Some (query_node levels)) levels) → QueryAt levels → IsCaughtRoot (plug levels status)
-    → IsCaughtRoot (lands next (query_node levels) levels (credit_of 1) (EndEntry b)).root
+    → IsCaughtRoot (ball_closes next (query_node levels) levels (credit_of 1) (EndEntry b)).root
 lost_caught next levels status b a free first clear q h =
     let s = query_node levels in
     let e = EndEntry b in
-    let l = lands_at next s levels status (credit_of 1) e in
+    let l = ball_closes_at next s levels status (credit_of 1) e in
     let root : IsCaughtRoot (plug (q.level ∷ q.above) l.below) = subst (λ d. IsCaughtRoot (plug d l.below)) q.down
     (subst IsCaughtRoot l.inside h) in
-    let records = landed_under s levels status (credit_of 1) clear (subst FirstShut (sym q.down) q.end.left) h.caught (inl refl) in
-    let woken = wake_caught next q.level q.above l.below (landed s levels (credit_of 1)) q.end.spent (EndEntry q.end.ball) e q.end.right
+    let records = ball_credit_under s levels status (credit_of 1) clear (subst FirstShut (sym q.down) q.end.left) h.caught (inl refl) in
+    let woken = wake_caught next q.level q.above l.below (ball_credit s levels (credit_of 1)) q.end.spent
+    (EndEntry q.end.ball) e q.end.right
     (l.first first q.level.spent q.level.right)
     (records_at q.level q.above s levels status (query_no_side q.level q.query) q.down records) (λ k. k) (λ k. tt) root in
-    subst (λ g. IsCaughtRoot g.root) (sym (l.lands ∙ ap (λ d. wakes_in next d (landed s levels (credit_of 1)) e) q.down)) woken
+    subst (λ g. IsCaughtRoot g.root) (sym (l.ball_closes ∙ ap (λ d. wakes_in next d (ball_credit s levels (credit_of 1)) e) q.down)) woken

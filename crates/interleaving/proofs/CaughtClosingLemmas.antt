@@ -19,14 +19,12 @@ use Rattle.interleaving.proofs.WayLemmas.{cond-false, through-on, other_number, 
 use Rattle.interleaving.proofs.RoundtripLemmas.{part_from, part_above}
 use Rattle.interleaving.proofs.ClosingSoundLemmas.{IsFree, free-above}
 use Rattle.interleaving.proofs.ClosingListLemmas.{guards_of, no_side}
-use Rattle.interleaving.proofs.ListScopeLemmas.{sleeps_on}
+use Rattle.interleaving.proofs.ListScopeLemmas.{dormant_on}
 use Rattle.interleaving.proofs.FoldLemmas.{CaughtAt}
 use Rattle.interleaving.proofs.ListsSoundLemmas.{under_of}
 use Rattle.interleaving.proofs.CaughtContextLemmas.{caught_plug, caught_level, caught_after, caught_down, Rests, AllRest, rests_plug}
 use Rattle.interleaving.proofs.CaughtContextLemmas.{rests_level, unspent_nodes, unspent_level, IsCaughtRoot}
-
-clash : {A : Type 0} → false ≡ true → A
-clash h = let no_way : ⊥ = cc in absurd no_way
+use Rattle.interleaving.proofs.TestLemmas.{false_true}
 
 -- records are below the goal side of a findall alone
 abbrev pub RecordsUnder : List Level → Credit → Type 0
@@ -63,7 +61,7 @@ shut v up c off h r = root_put (v ∷ up) (Closed no_credit) (Closed c) (λ s o.
 -- outside all goal sides there are no records
 none_of : (side : Bool) (c : Credit) → ((c.records ≡ []) ⊎ ((side ≡ false) × (false ≡ true))) → c.records ≡ []
 none_of side c (inl e) = e
-none_of side c (inr e) = clash e.1
+none_of side c (inr e) = false_true e.1
 
 both_none : (a b : Credit) → a.records ≡ [] → b.records ≡ [] → (added a b).records ≡ []
 both_none a b x y = ap (λ l. l ++ b.records) x ∙ y
@@ -146,29 +144,29 @@ folds_caught next v (u ∷ up) c (Some total) q off f h r =
     (closed_rests (Inner (level_node v (Closed no_credit))) no_credit) (λ sp k. tt) h)
     (records (under_of (u ∷ up)) refl (caught_down (u ∷ up) (Inner (level_node v (Closed no_credit))) h.caught) r)
   where
-    records : (b : Bool) → under_of (u ∷ up) ≡ b → AreCaught (sleeps_on (u ∷ up)) (under_of (u ∷ up)) v.number v.kind 0
+    records : (b : Bool) → under_of (u ∷ up) ≡ b → AreCaught (dormant_on (u ∷ up)) (under_of (u ∷ up)) v.number v.kind 0
         (put_left v.left (alternative v.spent (Closed no_credit) v.right)) → RecordsUnder (v ∷ u ∷ up) c
         → RecordsUnder (u ∷ up) (added (credit_of u.spent) total)
     records true e k r = inr e
     records false e k (inl z) = inl
-        (total_none (sleeps_on (u ∷ up)) v c total
-        (subst (λ b. AreCaught (sleeps_on (u ∷ up)) b v.number v.kind 0
+        (total_none (dormant_on (u ∷ up)) v c total
+        (subst (λ b. AreCaught (dormant_on (u ∷ up)) b v.number v.kind 0
         (put_left v.left (alternative v.spent (Closed no_credit) v.right))) e k) z q)
-    records false e k (inr z) = clash (sym (ap (λ b. b || under_of (u ∷ up)) off ∙ e) ∙ z)
+    records false e k (inr z) = false_true (sym (ap (λ b. b || under_of (u ∷ up)) off ∙ e) ∙ z)
 
 -- something sleeps after a first alternative, and wakes
 pub wake_caught : (next : ℕ) (v : Level) (up : List Level) (old : Status) (c : Credit) (s : ℕ) (e woken : Entry) → v.right
     ≡ alternative s (Pending Dormant e) none → catch_right (alternative v.spent old v.right) ≡ false → RecordsAt up v c
     → (IsNoEnd e → IsNoEnd woken)
-    → (EntryCaught (with_catch v.number false (sleeps_on up)) e
-    → EntryCaught (with_catch next false (with_catch v.number false (sleeps_on up))) woken)
+    → (EntryCaught (with_catch v.number false (dormant_on up)) e
+    → EntryCaught (with_catch next false (with_catch v.number false (dormant_on up))) woken)
     → IsCaughtRoot (plug (v ∷ up) old) → IsCaughtRoot (wakes next v up c woken).root
 wake_caught next v up old c s e woken q first r no_end marks h = record {
   caught = caught_level up v old (Closed c) v.spent new first
       (λ k. (
         r,
         (
-          (marks (subst (λ a. AreCaught (sleeps_on up) (under_of up) v.number v.kind (suc (length v.left)) a) q k.1).0, tt),
+          (marks (subst (λ a. AreCaught (dormant_on up) (under_of up) v.number v.kind (suc (length v.left)) a) q k.1).0, tt),
           tt,
         ),
       )) h.caught;
@@ -223,16 +221,16 @@ next_above next v up f = off_way next up (let z = f.fresh next (omega arith) in 
     ≡ 0 = omega (arith, z) in above)
 
 -- what sleeps looks up its way
-pub sleeper_on : (v : Level) (up : List Level) (p : Profile) (s : ℕ) (e : Entry) → IsLevel up v p → v.right
+pub dormant_there : (v : Level) (up : List Level) (p : Profile) (s : ℕ) (e : Entry) → IsLevel up v p → v.right
     ≡ alternative s (Pending Dormant e) none
     → IsOnWay (record { node = v.number; index = suc (length v.left); kind = v.kind } ∷ way_of up) e
-sleeper_on v up p s e h q = (subst (AreSound (way_of up) v.number v.kind (suc (length v.left))) q h.right).0.0
+dormant_there v up p s e h q = (subst (AreSound (way_of up) v.number v.kind (suc (length v.left))) q h.right).0.0
 
 -- an alternative closes
 pub closes_caught : (next : ℕ) (levels : List Level) (c : Credit) → IsAround levels IsOpen → IsFree next levels
     → IsCaughtRoot (plug levels (Closed no_credit)) → RecordsUnder levels c → IsCaughtRoot (closes next levels c).root
 closes_caught next [] c a free h (inl e) = record { caught = inl e; last = tt; unspent = tt }
-closes_caught next [] c a free h (inr e) = clash e
+closes_caught next [] c a free h (inr e) = false_true e
 closes_caught next (v ∷ up) c a free h r = pick (guarded v) refl (λ d k z. closes_caught next up d a.1 (free-above next v up free) k z)
   where
     pick : (o : Option Entry) → guarded v ≡ o
@@ -254,7 +252,7 @@ closes_caught next (v ∷ up) c a free h r = pick (guarded v) refl (λ d k z. cl
         (λ k. goes_no_end v.number c.records results l x)
         (λ k. goes_marks _ v.number c.records results l x
         (marks_other _ next false (way_of up) x.items (off_numbers (way_of up) next (next_above next v up free))
-        (sleeper_on v up IsOpen w.spent (FindallEntry results l x) a.0 w.right).scoped k)) h
+        (dormant_there v up IsOpen w.spent (FindallEntry results l x) a.0 w.right).scoped k)) h
     pick (Some (CatchEntry k y x)) g f =
         let off = no_side v up a.0 (Some (CatchEntry k y x)) g tt in
         folds_caught next (with_right (Closed no_credit) v) up c (all_closed (with_right (Closed no_credit) v) c) refl off f

@@ -5,7 +5,7 @@ use Rattle.tree_model.specs.Levels.{Level, put_left, level_node, plug}
 use Rattle.tree_model.specs.Orders.{is_closed}
 use Rattle.tree_model.specs.CaughtTrees.{catch_right, with_catch, is_side, IsCaught, AreCaught, HasNoQuery, HaveNoQuery, HasNoQueryNode}
 use Rattle.tree_model.specs.CaughtTrees.{AreNoQueryNodes, IsDoneBefore, IsLastQuery, AreLast, IsUnspent, AreUnspent}
-use Rattle.interleaving.proofs.ListScopeLemmas.{sleeps_on}
+use Rattle.interleaving.proofs.ListScopeLemmas.{dormant_on}
 use Rattle.interleaving.proofs.ListsSoundLemmas.{under_of}
 use Rattle.interleaving.proofs.FoldLemmas.{CaughtAt}
 
@@ -44,12 +44,12 @@ caught_plug (v ∷ []) old new e f = caught_put (λ m. false) false v.number v.k
     (alternative v.spent new v.right) (e v.spent v.right) (λ c. (f c.0, c.1))
 caught_plug (v ∷ u ∷ up) old new e f =
     caught_plug (u ∷ up) (Inner (level_node v old)) (Inner (level_node v new)) (λ spent others. refl)
-    (caught_put (sleeps_on (u ∷ up)) (under_of (u ∷ up)) v.number v.kind v.left (alternative v.spent old v.right)
+    (caught_put (dormant_on (u ∷ up)) (under_of (u ∷ up)) v.number v.kind v.left (alternative v.spent old v.right)
     (alternative v.spent new v.right) (e v.spent v.right) (λ c. (f c.0, c.1)))
 
 -- the same for a level whose alternative and all to its right change
 abbrev pub LevelCaught : List Level → Level → Alternatives → Type 0
-LevelCaught up v others = AreCaught (sleeps_on up) (under_of up) v.number v.kind (length v.left) others
+LevelCaught up v others = AreCaught (dormant_on up) (under_of up) v.number v.kind (length v.left) others
 
 abbrev pub with_others : Level → ℕ → Alternatives → Level
 with_others v spent right = record v { spent = spent; right = right }
@@ -62,7 +62,7 @@ caught_level [] v old new spent right e f = caught_put (λ m. false) false v.num
     (alternative spent new right) e f
 caught_level (u ∷ up) v old new spent right e f =
     caught_plug (u ∷ up) (Inner (level_node v old)) (Inner (level_node (with_others v spent right) new)) (λ s others. refl)
-    (caught_put (sleeps_on (u ∷ up)) (under_of (u ∷ up)) v.number v.kind v.left (alternative v.spent old v.right)
+    (caught_put (dormant_on (u ∷ up)) (under_of (u ∷ up)) v.number v.kind v.left (alternative v.spent old v.right)
     (alternative spent new right) e f)
 
 -- what is caught at the alternatives from a place on
@@ -75,17 +75,17 @@ pub caught_down : (levels : List Level) (status : Status) → RootCaught (plug l
 caught_down [] status h = h
 caught_down (v ∷ []) status h = (caught_after (λ m. false) false v.number v.kind v.left (alternative v.spent status v.right) h).0
 caught_down (v ∷ u ∷ up) status h =
-    (caught_after (sleeps_on (u ∷ up)) (under_of (u ∷ up)) v.number v.kind v.left (alternative v.spent status v.right)
+    (caught_after (dormant_on (u ∷ up)) (under_of (u ∷ up)) v.number v.kind v.left (alternative v.spent status v.right)
     (caught_down (u ∷ up) (Inner (level_node v status)) h)).0
 
 pub level_caught : (up : List Level) (v : Level) (status : Status) → RootCaught (plug (v ∷ up) status)
     → LevelCaught up v (alternative v.spent status v.right)
 level_caught [] v status h = caught_after (λ m. false) false v.number v.kind v.left (alternative v.spent status v.right) h
-level_caught (u ∷ up) v status h = caught_after (sleeps_on (u ∷ up)) (under_of (u ∷ up)) v.number v.kind v.left
+level_caught (u ∷ up) v status h = caught_after (dormant_on (u ∷ up)) (under_of (u ∷ up)) v.number v.kind v.left
     (alternative v.spent status v.right) (caught_down (u ∷ up) (Inner (level_node v status)) h)
 
 pub node_caught : (up : List Level) (v : Level) (status : Status) → RootCaught (plug (v ∷ up) status)
-    → AreCaught (sleeps_on up) (under_of up) v.number v.kind 0 (put_left v.left (alternative v.spent status v.right))
+    → AreCaught (dormant_on up) (under_of up) v.number v.kind 0 (put_left v.left (alternative v.spent status v.right))
 node_caught [] v status h = h
 node_caught (u ∷ up) v status h = caught_down (u ∷ up) (Inner (level_node v status)) h
 

@@ -15,15 +15,13 @@ use Rattle.interleaving.proofs.WayLemmas.{cond-false, through-on, other_number}
 use Rattle.interleaving.proofs.RoundtripLemmas.{part_from, part_above}
 use Rattle.interleaving.proofs.ClockLemmas.{AreShut, AreClear}
 use Rattle.interleaving.proofs.ListEndLemmas.{levels_down}
-use Rattle.interleaving.proofs.ListScopeLemmas.{sleeps_on, on-down}
+use Rattle.interleaving.proofs.ListScopeLemmas.{dormant_on, on-down}
 use Rattle.interleaving.proofs.ListsSoundLemmas.{under_of}
 use Rattle.interleaving.proofs.FoldLemmas.{CaughtAt}
 use Rattle.interleaving.proofs.CaughtContextLemmas.{SameRight, Rests, AllRest, put_rests, unspent_put, IsCaughtRoot}
 use Rattle.interleaving.proofs.CaughtClosingLemmas.{root_put}
 use Rattle.interleaving.proofs.BallLevelLemmas.{clear_step}
-
-clash : {A : Type 0} → false ≡ true → A
-clash h = let no_way : ⊥ = cc in absurd no_way
+use Rattle.interleaving.proofs.TestLemmas.{false_true}
 
 -- marks of a way along which the same recoveries sleep
 pub marks_agree : (old new : ℕ → Bool) (way : Way) (items : List (Item ℕ)) → ((r : ℕ) → is_on way r ≡ true → new r ≡ old r)
@@ -44,8 +42,8 @@ shut_put : (old new : ℕ → Bool) (under : Bool) (n : ℕ) (kind : Kind) (left
     → AreShut left → (AreCaught old under n kind (length left) others → AreCaught new under n kind (length left) more)
     → AreCaught old under n kind 0 (put_left left others) → AreCaught new under n kind 0 (put_left left more)
 shut_put old new under n kind [] others more k f = f
-shut_put old new under n kind ((sp, Pending hold e) ∷ left) others more k f = clash k.0
-shut_put old new under n kind ((sp, Inner node) ∷ left) others more k f = clash k.0
+shut_put old new under n kind ((sp, Pending hold e) ∷ left) others more k f = false_true k.0
+shut_put old new under n kind ((sp, Inner node) ∷ left) others more k f = false_true k.0
 shut_put old new under n kind ((sp, Closed c) ∷ left) others more k f = shut_put old new under n kind left
     (alternative sp (Closed c) others) (alternative sp (Closed c) more) k.1 (λ h. (h.0, f h.1))
 
@@ -85,7 +83,7 @@ emptied_rests sp old new others r = record {
 
 -- a place whose marks look no lower than the scope
 abbrev CutsAt : (ℕ → Type 0) → Level → List Level → Status → Status → Type 0
-CutsAt kept v up old new = (sleeps : ℕ → Bool) → ((r : ℕ) → kept r → sleeps r ≡ sleeps_on (v ∷ up) r) → CaughtAt (v ∷ up) old
+CutsAt kept v up old new = (sleeps : ℕ → Bool) → ((r : ℕ) → kept r → sleeps r ≡ dormant_on (v ∷ up) r) → CaughtAt (v ∷ up) old
     → IsCaught sleeps (is_side v.kind (length v.left)) (under_of up) new
 
 abbrev Kept : ℕ → List Level → ℕ → Type 0
@@ -97,7 +95,7 @@ below v new = Inner (level_node (record v { right = emptied v.right }) new)
 one_up : (s : ℕ) (v u : Level) (up : List Level) (old new : Status) → (v.number == s) ≡ false → is_on (way_of (u ∷ up)) v.number ≡ false
     → AreShut v.left → CutsAt (Kept s (v ∷ u ∷ up)) v (u ∷ up) old new → CutsAt (Kept s (u ∷ up)) u up (Inner (level_node v old))
     (below v new)
-one_up s v u up old new e off k c sleeps agree = shut_put (sleeps_on (u ∷ up)) sleeps (under_of (u ∷ up)) v.number v.kind v.left
+one_up s v u up old new e off k c sleeps agree = shut_put (dormant_on (u ∷ up)) sleeps (under_of (u ∷ up)) v.number v.kind v.left
     (alternative v.spent old v.right) (alternative v.spent new (emptied v.right)) k
     (λ h. (
       c (with_catch v.number (catch_right (emptied v.right)) sleeps) agrees h.0,
@@ -105,14 +103,14 @@ one_up s v u up old new e off k c sleeps agree = shut_put (sleeps_on (u ∷ up))
           v.kind (suc (length v.left)) v.right,
     ))
   where
-    agrees : (r : ℕ) → Kept s (v ∷ u ∷ up) r → with_catch v.number (catch_right (emptied v.right)) sleeps r ≡ sleeps_on (v ∷ u ∷ up) r
+    agrees : (r : ℕ) → Kept s (v ∷ u ∷ up) r → with_catch v.number (catch_right (emptied v.right)) sleeps r ≡ dormant_on (v ∷ u ∷ up) r
     agrees r h =
         let kept : is_on (way_of (levels_down (u ∷ up) s)) r
         ≡ true = subst (λ b. is_on (way_of (cond b (v ∷ u ∷ up) (levels_down (u ∷ up) s))) r ≡ true) e h in
         let on = on-down (u ∷ up) s r kept in
         let apart = other_number (way_of (u ∷ up)) v.number r off on (v.number == r) refl in
         cond-false (v.number == r) (catch_right (emptied v.right)) (sleeps r) apart
-        ∙ (agree r kept ∙ sym (cond-false (v.number == r) (catch_right v.right) (sleeps_on (u ∷ up) r) apart))
+        ∙ (agree r kept ∙ sym (cond-false (v.number == r) (catch_right v.right) (dormant_on (u ∷ up) r) apart))
 
 pub cut_root : (s : ℕ) (v : Level) (up : List Level) (old new : Status) → is_on (way_of (v ∷ up)) s ≡ true → IsAround (v ∷ up) IsOpen
     → AreClear (levels_below (Some s) (v ∷ up)) → CutsAt (Kept s (v ∷ up)) v up old new → SameRight old new → Rests old new
@@ -121,8 +119,8 @@ cut_root s v [] old new on a k c e r u h = go (v.number == s) refl on
   where
     go : (b : Bool) → (v.number == s) ≡ b → cond b true false ≡ true
         → IsCaughtRoot (plug (cond b (v ∷ []) (record v { right = emptied v.right } ∷ [])) new)
-    go true q o = root_put (v ∷ []) old new e (c (sleeps_on (v ∷ [])) (λ m z. refl)) r u h
-    go false q o = clash o
+    go true q o = root_put (v ∷ []) old new e (c (dormant_on (v ∷ [])) (λ m z. refl)) r u h
+    go false q o = false_true o
 cut_root s v (w ∷ up) old new on a k c e r u h = go (v.number == s) refl on
     (λ o l d. cut_root s w up (Inner (level_node v old)) (below v new) o a.1 l d (λ sp others. refl) rests
     (λ sp. unspent_put v.left (alternative v.spent old v.right) (alternative v.spent new (emptied v.right))
@@ -138,7 +136,7 @@ cut_root s v (w ∷ up) old new on a k c e r u h = go (v.number == s) refl on
         → CutsAt (Kept s (w ∷ up)) w up (Inner (level_node v old)) (below v new)
         → IsCaughtRoot (plug (pruned s (w ∷ up)) (below v new)))
         → IsCaughtRoot (plug (cond b (v ∷ w ∷ up) (record v { right = emptied v.right } ∷ pruned s (w ∷ up))) new)
-    go true q o more = root_put (v ∷ w ∷ up) old new e (c (sleeps_on (v ∷ w ∷ up)) (λ m z. refl)) r u h
+    go true q o more = root_put (v ∷ w ∷ up) old new e (c (dormant_on (v ∷ w ∷ up)) (λ m z. refl)) r u h
     go false q o more =
         let shut = clear_step s v (w ∷ up) q k in
         more o shut.1 (one_up s v w up old new q a.0.new shut.0 c)

@@ -9,7 +9,7 @@ use Rattle.run_model.specs.Goals.Outcomes.{Solution}
 use Rattle.run_model.specs.Machine.Items.{Item, GoalItem, CatchMark, CollectMark, RemovalItem, Continuation, goals_at, before, with_next}
 use Rattle.run_model.specs.Machine.Items.{without_marks}
 use Rattle.run_model.specs.Machine.Entries.{Entry, unified, solution_entry, solution_entries}
-use Rattle.tree_model.specs.Nodes.{ChoiceNode, Ready, standing}
+use Rattle.tree_model.specs.Nodes.{ChoiceNode, Ready, entry_alternatives}
 use Rattle.tree_model.specs.Levels.{Level}
 use Rattle.tree_model.specs.Floors.{with_nodes}
 use Rattle.tree_model.specs.Orders.{levels_below}
@@ -21,9 +21,6 @@ use Rattle.interleaving.proofs.AppendLemmas.{each-append}
 use Rattle.interleaving.proofs.ClockLemmas.{AreClear}
 use Rattle.interleaving.proofs.CaughtContextLemmas.{IsCaughtRoot}
 use Rattle.interleaving.proofs.CaughtBallLemmas.{marks_resolved}
-
-pub clash : {A : Type 0} → false ≡ true → A
-clash h = let no_way : ⊥ = cc in absurd no_way
 
 pub as_tree : (t : TreeState) → IsCaughtRoot t.root → IsCaughtTree t
 as_tree t h = record { caught = h.caught; last = h.last; unspent = λ z. h.unspent }
@@ -81,29 +78,33 @@ solutions_caught sleeps next node n f (s ∷ ss) h =
     (marks_goals (with_catch next false sleeps) node n s.goals f.items h))
     (solutions_caught sleeps next node n f ss h)
 
-standing_right : (ds : List Entry) → catch_right (standing Ready ds) ≡ false
-standing_right [] = refl
-standing_right (d ∷ ds) = refl
+alternatives_right : (ds : List Entry) → catch_right (entry_alternatives Ready ds) ≡ false
+alternatives_right [] = refl
+alternatives_right (d ∷ ds) = refl
 
-pub standing_caught : (sleeps : ℕ → Bool) (under : Bool) (n i : ℕ) (ds : List Entry) → Each (NewCaught sleeps n) ds
-    → AreCaught sleeps under n ChoiceNode i (standing Ready ds)
-standing_caught sleeps under n i [] h = tt
-standing_caught sleeps under n i (d ∷ ds) h =
-    (subst (λ b. EntryCaught (with_catch n b sleeps) d) (sym (standing_right ds)) h.0.0, standing_caught sleeps under n (suc i) ds h.1)
+pub alternatives_caught : (sleeps : ℕ → Bool) (under : Bool) (n i : ℕ) (ds : List Entry) → Each (NewCaught sleeps n) ds
+    → AreCaught sleeps under n ChoiceNode i (entry_alternatives Ready ds)
+alternatives_caught sleeps under n i [] h = tt
+alternatives_caught sleeps under n i (d ∷ ds) h = (
+  subst (λ b. EntryCaught (with_catch n b sleeps) d) (sym (alternatives_right ds)) h.0.0,
+  alternatives_caught sleeps under n
+      (suc i) ds h.1,
+)
 
-pub standing_no_query : (sleeps : ℕ → Bool) (n : ℕ) (ds : List Entry) → Each (NewCaught sleeps n) ds → HaveNoQuery (standing Ready ds)
-standing_no_query sleeps n [] h = tt
-standing_no_query sleeps n (d ∷ ds) h = (h.0.1, standing_no_query sleeps n ds h.1)
+pub alternatives_no_query : (sleeps : ℕ → Bool) (n : ℕ) (ds : List Entry) → Each (NewCaught sleeps n) ds
+    → HaveNoQuery (entry_alternatives Ready ds)
+alternatives_no_query sleeps n [] h = tt
+alternatives_no_query sleeps n (d ∷ ds) h = (h.0.1, alternatives_no_query sleeps n ds h.1)
 
-pub standing_no_node : (ds : List Entry) → AreNoQueryNodes (standing Ready ds)
-standing_no_node [] = tt
-standing_no_node (d ∷ ds) = (tt, standing_no_node ds)
+pub alternatives_no_node : (ds : List Entry) → AreNoQueryNodes (entry_alternatives Ready ds)
+alternatives_no_node [] = tt
+alternatives_no_node (d ∷ ds) = (tt, alternatives_no_node ds)
 
-pub standing_last : (sleeps : ℕ → Bool) (n : ℕ) (ds : List Entry) → Each (NewCaught sleeps n) ds → AreLast (standing Ready ds)
-standing_last sleeps n [] h = tt
-standing_last sleeps n (d ∷ []) h = tt
-standing_last sleeps n (d ∷ c ∷ ds) h = (h.0.1, inr (standing_no_node (c ∷ ds)), standing_last sleeps n (c ∷ ds) h.1)
+pub alternatives_last : (sleeps : ℕ → Bool) (n : ℕ) (ds : List Entry) → Each (NewCaught sleeps n) ds → AreLast (entry_alternatives Ready ds)
+alternatives_last sleeps n [] h = tt
+alternatives_last sleeps n (d ∷ []) h = tt
+alternatives_last sleeps n (d ∷ c ∷ ds) h = (h.0.1, inr (alternatives_no_node (c ∷ ds)), alternatives_last sleeps n (c ∷ ds) h.1)
 
-pub standing_unspent : (ds : List Entry) → AreUnspent (standing Ready ds)
-standing_unspent [] = tt
-standing_unspent (d ∷ ds) = (refl, standing_unspent ds)
+pub alternatives_unspent : (ds : List Entry) → AreUnspent (entry_alternatives Ready ds)
+alternatives_unspent [] = tt
+alternatives_unspent (d ∷ ds) = (refl, alternatives_unspent ds)

@@ -11,13 +11,14 @@ use Rattle.run_model.specs.Programs.Jobs.{Query}
 use Rattle.run_model.specs.Goals.GoalOutcomes.{outcome_of}
 use Rattle.run_model.specs.Machine.Balls.{unwound}
 use Rattle.run_model.specs.Goals.Outcomes.{Reply, Solutions, Ball, HaltNumber, Outcome, Replies, Controls, AskWorld}
-use Rattle.run_model.specs.Machine.Items.{Item, GoalItem, CatchMark, CollectMark, RemovalItem, Continuation, first_mark, with_items, without_marks}
+use Rattle.run_model.specs.Machine.Items.{Item, GoalItem, CatchMark, CollectMark, RemovalItem, Continuation, first_mark, with_items}
+use Rattle.run_model.specs.Machine.Items.{without_marks}
 use Rattle.run_model.specs.Machine.Entries.{Entry, PlainEntry, CatchEntry, FindallEntry, EndEntry}
 use Rattle.tree_model.specs.Credits.{credit_of}
 use Rattle.tree_model.specs.Nodes.{Alternatives, none, alternative, Status, Pending, Inner}
 use Rattle.tree_model.specs.Levels.{Level, put_left, level_node, plug, Spot, levels_of}
 use Rattle.tree_model.specs.Floors.{floor_of, node_of, with_heights}
-use Rattle.tree_model.specs.Gates.{landing_scope}
+use Rattle.tree_model.specs.Gates.{ball_scope}
 use Rattle.tree_model.specs.Orders.{is_node, is_closed, levels_below}
 use Rattle.tree_model.specs.FrontGates.{Halts, reply_taken, goal_at_front, removal_at_front, item_at_front, taken_at_front}
 use Rattle.tree_model.specs.TreeStates.{TreeState, opened_node}
@@ -30,17 +31,14 @@ use Rattle.tree_model.specs.SoundTrees.{IsOpen}
 use Rattle.interleaving.proofs.RoundtripLemmas.{by_heights}
 use Rattle.interleaving.proofs.GrowingLemmas.{around_path}
 use Rattle.interleaving.proofs.PlacedEntryLemmas.{IsAt, marks_dropped, marks_heights, rest_asked}
-use Rattle.interleaving.proofs.ListScopeLemmas.{sleeps_on}
+use Rattle.interleaving.proofs.ListScopeLemmas.{dormant_on}
 use Rattle.interleaving.proofs.ClockLemmas.{AreShut, AreClear}
 use Rattle.interleaving.proofs.CaughtContextLemmas.{IsSome, last_down, caught_level, first_rests, rests_level, unspent_level}
 use Rattle.interleaving.proofs.CaughtContextLemmas.{IsCaughtRoot}
 use Rattle.interleaving.proofs.CaughtHoldLemmas.{open_right}
 use Rattle.interleaving.proofs.CaughtEventLemmas.{as_tree, marks_opened, marks_without, solutions_caught}
-use Rattle.interleaving.proofs.CaughtPruneLemmas.{closed_kept, left_kept, marks_left, thrown_kept}
+use Rattle.interleaving.proofs.CaughtPruneLemmas.{closed_preserved, left_preserved, marks_left, thrown_preserved}
 use Rattle.tree_model.specs.SoundTrees.{profile}
-
-pub clash : {A : Type 0} → false ≡ true → A
-clash h = let no_way : ⊥ = cc in absurd no_way
 
 -- a part of a clear branch
 pub clear_part : (scope : Option ℕ) (levels : List Level) → AreClear levels → AreClear (levels_below scope levels)
@@ -101,9 +99,9 @@ last_opened v up spent old new k n l h =
     (shut_last v.left v.spent spent old new v.right k.0 n l (last_down up (Inner (level_node v old)) h)) h
 
 -- a halt spends on the entry
-pub halt_kept : (t : TreeState) (s : Spot) (k : ℕ) → profile (Pending s.hold s.entry) ≡ IsOpen
+pub halt_preserved : (t : TreeState) (s : Spot) (k : ℕ) → profile (Pending s.hold s.entry) ≡ IsOpen
     → IsCaughtRoot (plug (levels_of s) (Pending s.hold s.entry)) → IsCaughtTree (front_taken s (Halts k) t)
-halt_kept t s k o root =
+halt_preserved t s k o root =
     let v = s.level in
     let up = s.above in
     let old = Pending s.hold s.entry in
@@ -122,66 +120,70 @@ module _ (s : Spot) (o : profile (Pending s.hold s.entry) ≡ IsOpen) (clear : A
   old = Pending s.hold s.entry
 
   abbrev sleeping : ℕ → Bool
-  sleeping = sleeps_on (levels_of s)
+  sleeping = dormant_on (levels_of s)
 
   first : (sp : ℕ) (others : Alternatives) → catch_right (alternative sp (Pending s.hold s.entry) others) ≡ false
   first sp others = open_right s.hold s.entry o sp others
 
-  reply_kept : (t : TreeState) (h : IsAt t s) (r : Reply) (g : Continuation ℕ) (items : List (Item ℕ))
-      → IsAsked (way_of (levels_of s)) items → MarksCaught (sleeps_on (levels_of s)) items
+  reply_preserved : (t : TreeState) (h : IsAt t s) (r : Reply) (g : Continuation ℕ) (items : List (Item ℕ))
+      → IsAsked (way_of (levels_of s)) items → MarksCaught (dormant_on (levels_of s)) items
       → IsCaughtTree (front_taken s (reply_taken r (with_items (by_heights (levels_of s) items) g) (floor_of (levels_of s))) t)
-  reply_kept t h (Solutions ss) g items i m =
-      left_kept t s h (Pending s.hold s.entry) first refl root _
-      (solutions_caught (sleeps_on (levels_of s)) t.next (node_of (levels_of s)) (length (floor_of (levels_of s)))
+  reply_preserved t h (Solutions ss) g items i m =
+      left_preserved t s h (Pending s.hold s.entry) first refl root _
+      (solutions_caught (dormant_on (levels_of s)) t.next (node_of (levels_of s)) (length (floor_of (levels_of s)))
       (with_items (by_heights (levels_of s) items) g) ss
       (marks_left t s h (Pending s.hold s.entry) first refl root items i.scoped m))
-  reply_kept t h (Ball b) g items i m =
-      thrown_kept t s h (Pending s.hold s.entry) first refl root b items i m
-      (clear_part (Some (landing_scope (levels_of s)
+  reply_preserved t h (Ball b) g items i m =
+      thrown_preserved t s h (Pending s.hold s.entry) first refl root b items i m
+      (clear_part (Some (ball_scope (levels_of s)
       (unwound b (first_mark (by_heights (levels_of s) items)) (floor_of (levels_of s))))) (levels_of s) clear)
-  reply_kept t h (HaltNumber k) g items i m = halt_kept t s k o root
+  reply_preserved t h (HaltNumber k) g items i m = halt_preserved t s k o root
 
-  goal_kept : (t : TreeState) (h : (w : World) → IsAt (record t { world = w }) s) (clauses : List Clause) (out : Outcome)
+  goal_preserved : (t : TreeState) (h : (w : World) → IsAt (record t { world = w }) s) (clauses : List Clause) (out : Outcome)
       (g : Continuation ℕ) (items : List (Item ℕ)) (w : World) → IsAsked (way_of (levels_of s)) items
-      → MarksCaught (sleeps_on (levels_of s)) items
+      → MarksCaught (dormant_on (levels_of s)) items
       → IsCaughtTree (world_moved s (goal_at_front clauses out (with_items (by_heights (levels_of s) items) g) (floor_of (levels_of s))
       w) t)
-  goal_kept t h clauses (AskWorld goal) g items w i m = let r = world_step clauses goal g.next w in reply_kept
+  goal_preserved t h clauses (AskWorld goal) g items w i m = let r = world_step clauses goal g.next w in reply_preserved
       (record t { world = r.0 }) (h r.0) r.1 g items i m
-  goal_kept t h clauses (Replies r) g items w i m = reply_kept (record t { world = w }) (h w) r g items i m
-  goal_kept t h clauses (Controls form) g items w i m = left_kept (record t { world = w }) s (h w) (Pending s.hold s.entry) first refl
+  goal_preserved t h clauses (Replies r) g items w i m = reply_preserved (record t { world = w }) (h w) r g items i m
+  goal_preserved t h clauses (Controls form) g items w i m = left_preserved (record t { world = w }) s (h w)
+      (Pending s.hold s.entry) first refl
       root [] tt
 
-  removal_kept : (t : TreeState) (h : (w : World) → IsAt (record t { world = w }) s) (db : Option Database) (g : Continuation ℕ)
-      (items : List (Item ℕ)) (w : World) → IsAsked (way_of (levels_of s)) items → MarksCaught (sleeps_on (levels_of s)) items
+  removal_preserved : (t : TreeState) (h : (w : World) → IsAt (record t { world = w }) s) (db : Option Database) (g : Continuation ℕ)
+      (items : List (Item ℕ)) (w : World) → IsAsked (way_of (levels_of s)) items → MarksCaught (dormant_on (levels_of s)) items
       → IsCaughtTree (world_moved s (removal_at_front db (with_items (by_heights (levels_of s) items) g) w) t)
-  removal_kept t h None g items w i m = left_kept (record t { world = w }) s (h w) (Pending s.hold s.entry) first refl root [] tt
-  removal_kept t h (Some db) g items w i m =
+  removal_preserved t h None g items w i m = left_preserved (record t { world = w }) s (h w) (Pending s.hold s.entry) first refl root [] tt
+  removal_preserved t h (Some db) g items w i m =
       let new = record w { database = db } in
-      left_kept (record t { world = new }) s (h new) (Pending s.hold s.entry) first refl root
+      left_preserved (record t { world = new }) s (h new) (Pending s.hold s.entry) first refl root
       (PlainEntry (with_items (by_heights (levels_of s) items) g) ∷ [])
       ((marks_left (record t { world = new }) s (h new) (Pending s.hold s.entry) first refl root items i.scoped m, tt), tt)
 
-  items_kept : (t : TreeState) (h : (w : World) → IsAt (record t { world = w }) s) (clauses : List Clause) (g : Continuation ℕ)
+  items_preserved : (t : TreeState) (h : (w : World) → IsAt (record t { world = w }) s) (clauses : List Clause) (g : Continuation ℕ)
       (items : List (Item ℕ)) (w : World) → under_query (way_of (levels_of s)) ≡ true → AreScoped (way_of (levels_of s)) items
-      → MarksCaught (sleeps_on (levels_of s)) items
+      → MarksCaught (dormant_on (levels_of s)) items
       → IsCaughtTree (world_moved s (item_at_front clauses (by_heights (levels_of s) items) g (floor_of (levels_of s)) w) t)
-  items_kept t h clauses g [] w u i m =
+  items_preserved t h clauses g [] w u i m =
       let after : World = writes (answer_line w.operators g.named) w in
-      closed_kept (record t { world = after }) s (h after) (Pending s.hold s.entry) first refl root
+      closed_preserved (record t { world = after }) s (h after) (Pending s.hold s.entry) first refl root
       (record { inferences = 1; answers = 1; records = [] }) (inl refl)
-  items_kept t h clauses g (CatchMark n ∷ items) w u i m = left_kept (record t { world = w }) s (h w) (Pending s.hold s.entry) first
+  items_preserved t h clauses g (CatchMark n ∷ items) w u i m = left_preserved (record t { world = w }) s (h w)
+      (Pending s.hold s.entry) first
       refl root [] tt
-  items_kept t h clauses g (CollectMark x n ∷ items) w u i m = left_kept (record t { world = w }) s (h w) (Pending s.hold s.entry) first
+  items_preserved t h clauses g (CollectMark x n ∷ items) w u i m = left_preserved (record t { world = w }) s (h w)
+      (Pending s.hold s.entry) first
       refl root [] tt
-  items_kept t h clauses g (RemovalItem number ∷ items) w u i m = removal_kept t h (without_clause number w.database) g items w
+  items_preserved t h clauses g (RemovalItem number ∷ items) w u i m = removal_preserved t h (without_clause number w.database) g items w
       (record { asked = u; scoped = i }) m
-  items_kept t h clauses g (GoalItem x n ∷ items) w u i m = goal_kept t h clauses (outcome_of clauses x g.next) g items w
+  items_preserved t h clauses g (GoalItem x n ∷ items) w u i m = goal_preserved t h clauses (outcome_of clauses x g.next) g items w
       (rest_asked (levels_of s) n items (around_path (levels_of s) IsOpen (h w).placed.around) u i.0 i.1) m
 
-  query_kept : (t : TreeState) (h : IsAt t s) (qs : List Query) (b : Option Term) → s.entry ≡ EndEntry b → IsCaughtTree (query_opens s qs t)
-  query_kept t h [] b e = closed_kept t s h (Pending s.hold s.entry) first refl root (credit_of 1) (inl refl)
-  query_kept t h (q ∷ qs) b e =
+  query_preserved : (t : TreeState) (h : IsAt t s) (qs : List Query) (b : Option Term) → s.entry ≡ EndEntry b
+      → IsCaughtTree (query_opens s qs t)
+  query_preserved t h [] b e = closed_preserved t s h (Pending s.hold s.entry) first refl root (credit_of 1) (inl refl)
+  query_preserved t h (q ∷ qs) b e =
       let v = s.level in
       let up = s.above in
       let node = opened_node t.next q in
@@ -194,20 +196,22 @@ module _ (s : Spot) (o : profile (Pending s.hold s.entry) ≡ IsOpen) (clear : A
             root.unspent;
       })
 
-  pub stack_kept : (t : TreeState) (h : (w : World) → IsAt (record t { world = w }) s) (clauses : List Clause) (e : Entry) (w : World)
-      → s.entry ≡ e → IsOnWay (way_of (levels_of s)) e → EntryCaught (sleeps_on (levels_of s)) e
+  pub stack_preserved : (t : TreeState) (h : (w : World) → IsAt (record t { world = w }) s) (clauses : List Clause) (e : Entry) (w : World)
+      → s.entry ≡ e → IsOnWay (way_of (levels_of s)) e → EntryCaught (dormant_on (levels_of s)) e
       → IsCaughtTree (world_moved s (taken_at_front clauses (with_heights (levels_of s) e ∷ floor_of (levels_of s)) w) t)
-  stack_kept t h clauses (EndEntry b) w q i m =
+  stack_preserved t h clauses (EndEntry b) w q i m =
       let after : World = writes (end_line w.operators b) w in
-      query_kept (record t { world = after }) (h after) t.queries b q
-  stack_kept t h clauses (CatchEntry c r f) w q i m = left_kept (record t { world = w }) s (h w) (Pending s.hold s.entry) first refl
+      query_preserved (record t { world = after }) (h after) t.queries b q
+  stack_preserved t h clauses (CatchEntry c r f) w q i m = left_preserved (record t { world = w }) s (h w)
+      (Pending s.hold s.entry) first refl
       root [] tt
-  stack_kept t h clauses (FindallEntry results l f) w q i m = left_kept (record t { world = w }) s (h w) (Pending s.hold s.entry) first
+  stack_preserved t h clauses (FindallEntry results l f) w q i m = left_preserved (record t { world = w }) s (h w)
+      (Pending s.hold s.entry) first
       refl root [] tt
-  stack_kept t h clauses (PlainEntry f) w q i m =
+  stack_preserved t h clauses (PlainEntry f) w q i m =
       let g : Continuation ℕ = record { items = by_heights (levels_of s) f.items; named = f.named; next = f.next } in
       subst (λ items. IsCaughtTree (world_moved s (item_at_front clauses items g (floor_of (levels_of s)) w) t))
       (marks_heights (levels_of s) f.items)
-      (items_kept t h clauses g (without_marks f.items) w i.asked
+      (items_preserved t h clauses g (without_marks f.items) w i.asked
       (marks_dropped (way_of (levels_of s)) f.items (around_path (levels_of s) IsOpen (h w).placed.around) i.scoped)
-      (marks_without (sleeps_on (levels_of s)) f.items m))
+      (marks_without (dormant_on (levels_of s)) f.items m))

@@ -24,11 +24,11 @@ module _ (t : TreeState) (q : IsCaughtTree t) where
   abbrev noted : TreeState → Event → TreeState
   noted x e = record x { history = t.history ++ e ∷ [] }
 
-  held_caught : (e : Event) (o : Option Spot) (k : Spot → Hold) → ((s : Spot) → o ≡ Some s → IsOpenSpot t.root s)
+  hold_caught : (e : Event) (o : Option Spot) (k : Spot → Hold) → ((s : Spot) → o ≡ Some s → IsOpenSpot t.root s)
       → ((s : Spot) → profile (Pending (k s) s.entry) ≡ IsOpen)
       → IsCaughtTree (noted (where_some o t (λ s. with_status s (Pending (k s) s.entry) t)) e)
-  held_caught e None k f p = record { caught = q.caught; last = q.last; unspent = q.unspent }
-  held_caught e (Some s) k f p =
+  hold_caught e None k f p = record { caught = q.caught; last = q.last; unspent = q.unspent }
+  hold_caught e (Some s) k f p =
       let o = f s refl in
       let old = Pending s.hold s.entry in
       let new = Pending (k s) s.entry in
@@ -43,15 +43,15 @@ module _ (t : TreeState) (q : IsCaughtTree t) where
 
   pub claim_caught : (w : ℕ) (a : Place) → IsCaughtTree (after_event t (Claim w a))
   unfolding after_event
-  claim_caught w a = held_caught (Claim w a) (claimable t) (λ s. TakenBy w) (λ s e. claimable_open t s e) (λ s. refl)
+  claim_caught w a = hold_caught (Claim w a) (claimable t) (λ s. TakenBy w) (λ s e. claimable_open t s e) (λ s. refl)
 
   pub resume_caught : (w : ℕ) (a : Place) → IsCaughtTree (after_event t (Resume w a))
   unfolding after_event
-  resume_caught w a = held_caught (Resume w a) (resumable t) (λ s. TakenBy w) (λ s e. resumable_open t s e) (λ s. refl)
+  resume_caught w a = hold_caught (Resume w a) (resumable t) (λ s. TakenBy w) (λ s e. resumable_open t s e) (λ s. refl)
 
   pub suspend_caught : (w : ℕ) (a : Place) (frozen : Bool) → IsCaughtTree (after_event t (Suspend w a frozen))
   unfolding after_event
-  suspend_caught w a frozen = held_caught (Suspend w a frozen) (taken_at w a t) (λ s. gate_or_frozen frozen (gate_of t s))
+  suspend_caught w a frozen = hold_caught (Suspend w a frozen) (taken_at w a t) (λ s. gate_or_frozen frozen (gate_of t s))
       (λ s e. taken_at_open w a t s e) (λ s. waits frozen (gate_of t s) s)
     where
       waits : (b : Bool) (g : Option Gate) (s : Spot) → profile (Pending (gate_or_frozen b g) s.entry) ≡ IsOpen

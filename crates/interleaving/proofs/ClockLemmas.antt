@@ -10,11 +10,11 @@ use Rattle.tree_model.specs.Nodes.{Kind, Hold, Ready, TakenBy, Waiting, Dormant,
 use Rattle.tree_model.specs.Nodes.{Pending, Inner, Closed}
 use Rattle.tree_model.specs.Levels.{Level, Place, Spot, levels_of, pending_in, pending_among, pending_below, pending_of}
 use Rattle.tree_model.specs.Orders.{is_closed, first_open_left, first_open, credits_left, clock_of}
-use Rattle.tree_model.specs.TreeStates.{TreeState, leftmost, first_spot, pending}
+use Rattle.tree_model.specs.TreeStates.{TreeState, leftmost, first_spot, pending_spots}
 use Rattle.tree_model.specs.Elements.{Element, Credit as CreditElement, EndOf, Plain, Catch, Findall, End}
 use Rattle.tree_model.specs.PendingLists.{Way, way_of, element_on, own_credit, list_in, list_among, list_below, pending_list, list_left}
 use Rattle.tree_model.specs.PendingLists.{spent_at, front_of, back_of}
-use Rattle.tree_model.specs.Ways.{IsOnWay, IsAwake, IsHeldBy}
+use Rattle.tree_model.specs.Ways.{IsOnWay, IsAwake}
 use Rattle.tree_model.specs.SoundTrees.{IsOpen, profile, IsSound, IsSoundTree}
 use Rattle.interleaving.specs.Quiet.{IsQuiet, inferences}
 use Rattle.interleaving.specs.Follows.{lead}
@@ -23,6 +23,7 @@ use Rattle.interleaving.proofs.PluggedLemmas.{IsIn, all_in}
 use Rattle.interleaving.proofs.ContextLemmas.{taken_out}
 use Rattle.interleaving.proofs.FrontLemmas.{leftmost_front}
 use Rattle.interleaving.proofs.LeadLemmas.{lead-quiet}
+use Rattle.interleaving.proofs.LegalLemmas.{awake_entry}
 
 pub quiet-append : (xs ys : List Element) → IsQuiet xs → IsQuiet ys → IsQuiet (xs ++ ys)
 quiet-append [] ys q r = r
@@ -115,12 +116,6 @@ one_credit (TakenBy w) e n o = refl
 one_credit (Waiting g) e n o = refl
 one_credit Dormant e n o = let no_way : ⊥ = cc in absurd no_way
 
-pub held_awake : (h : Hold) (e : Entry) → profile (Pending h e) ≡ IsOpen → IsHeldBy h e → IsAwake e
-held_awake Ready e o i = i
-held_awake (TakenBy w) e o i = i
-held_awake (Waiting g) e o i = i
-held_awake Dormant e o i = let no_way : ⊥ = cc in absurd no_way
-
 -- an entry that is awake is to be taken
 pub awake_stops : (way : Way) (e : Entry) (xs : List Element) → IsAwake e → lead (element_on way e ∷ xs) ≡ 0
 awake_stops [] (PlainEntry f) xs a = refl
@@ -150,7 +145,7 @@ list_round root s i o =
     ∙ ap (λ credit. front_of (levels_of s) ++ ((credit ++ element_on (way_of (levels_of s)) s.entry ∷ []) ++ back_of (levels_of s)))
     (one_credit s.hold s.entry (spent_at (levels_of s)) o))
 
-first_known : (t : TreeState) → IsSoundTree t → (s : Spot) (ss : List Spot) → pending t ≡ s ∷ ss → IsFirst t s
+first_known : (t : TreeState) → IsSoundTree t → (s : Spot) (ss : List Spot) → pending_spots t ≡ s ∷ ss → IsFirst t s
 first_known t h s ss p =
     let f = leftmost_front t.root h.sound s ss p in
     let same : f.first ≡ s = heads f.first s f.others ss (sym f.joined ∙ p) in
@@ -159,13 +154,13 @@ first_known t h s ss p =
     heads : (a b : Spot) (as_far bs : List Spot) → a ∷ as_far ≡ b ∷ bs → a ≡ b
     heads a b as_far bs e = cc
 
-    known : (s : Spot) (ss : List Spot) → pending t ≡ s ∷ ss → first_open (levels_of s) ≡ None → profile (Pending s.hold s.entry)
+    known : (s : Spot) (ss : List Spot) → pending_spots t ≡ s ∷ ss → first_open (levels_of s) ≡ None → profile (Pending s.hold s.entry)
         ≡ IsOpen → IsFirst t s
     known s ss q c o =
         let inside : IsIn t.root s = (subst (Each (IsIn t.root)) q (all_in t.root)).0 in
         let clear = clear_all (levels_of s) c in
         let parts = taken_out (levels_of s) (Pending s.hold s.entry) (subst (IsSound []) (sym inside) h.sound) in
-        let awake = held_awake s.hold s.entry o parts.1.1 in
+        let awake = awake_entry s.hold s.entry o parts.1.1 in
         let list = list_round t.root s inside o in
         let here : lead (CreditElement (spent_at (levels_of s)) []
         ∷ (element_on (way_of (levels_of s)) s.entry ∷ back_of (levels_of s)))
@@ -182,14 +177,14 @@ first_known t h s ss p =
         record { inside = inside; clear = clear; opened = o; awake = awake; list = list; leads = leads; clock = clock }
 
 pub leftmost_known : (t : TreeState) → IsSoundTree t → (s : Spot) → leftmost t ≡ Some s → IsFirst t s
-leftmost_known t h s l = go (pending t) refl l
+leftmost_known t h s l = go (pending_spots t) refl l
   where
-    go : (spots : List Spot) → pending t ≡ spots → first_spot spots ≡ Some s → IsFirst t s
+    go : (spots : List Spot) → pending_spots t ≡ spots → first_spot spots ≡ Some s → IsFirst t s
     go [] p e = let no_way : ⊥ = cc in absurd no_way
     go (r ∷ ss) p e = let same : r ≡ s = cc in subst (IsFirst t) same (first_known t h r ss p)
 
 -- where nothing is pending the list is quiet
-no_parts : {A : Type 0} → (xs ys : List A) → xs ++ ys ≡ [] → (xs ≡ []) × (ys ≡ [])
+pub no_parts : {A : Type 0} → (xs ys : List A) → xs ++ ys ≡ [] → (xs ≡ []) × (ys ≡ [])
 no_parts [] ys e = (refl, e)
 no_parts (x ∷ xs) ys e = let no_way : ⊥ = cc in absurd no_way
 
@@ -237,8 +232,8 @@ quiet_root (Inner node) h p = quiet_node [] [] node p
 quiet_root (Pending hold e) h p = absurd (no_root e h.0)
 
 pub none_left : (t : TreeState) → IsSoundTree t → leftmost t ≡ None → IsQuiet (pending_list t.root)
-none_left t h l = go (pending t) refl l
+none_left t h l = go (pending_spots t) refl l
   where
-    go : (spots : List Spot) → pending t ≡ spots → first_spot spots ≡ None → IsQuiet (pending_list t.root)
+    go : (spots : List Spot) → pending_spots t ≡ spots → first_spot spots ≡ None → IsQuiet (pending_list t.root)
     go [] p e = quiet_root t.root h.sound p
     go (r ∷ ss) p e = let no_way : ⊥ = cc in absurd no_way

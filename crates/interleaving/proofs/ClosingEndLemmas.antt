@@ -12,9 +12,7 @@ use Rattle.tree_model.specs.Ways.{under_query, is_query}
 use Rattle.tree_model.specs.SoundTrees.{IsOpen}
 use Rattle.interleaving.proofs.ContextLemmas.{IsAround}
 use Rattle.interleaving.proofs.EndLemmas.{has_end, end_after, end_before, HasQueryEnd, query_here, back_end, round_end}
-
-clash : {A : Type 0} → false ≡ true → A
-clash h = let no_way : ⊥ = cc in absurd no_way
+use Rattle.interleaving.proofs.TestLemmas.{false_true}
 
 abbrev Ends : Grown → Type 0
 Ends g = has_end (pending_list g.root) ≡ true
@@ -26,7 +24,7 @@ folds_end next v [] c (Some d) go h f = round_end (v ∷ []) (Closed c) h
 folds_end next v (u ∷ up) c (Some d) go h f = f _ (λ e. let no_way : ⊥ = cc in no_way)
 
 -- what sleeps after a query's goals is its end
-guards_end : (v : Level) → HasQueryEnd v → (b : Option Term) × guarded v ≡ Some (EndEntry b)
+pub guards_end : (v : Level) → HasQueryEnd v → (b : Option Term) × guarded v ≡ Some (EndEntry b)
 guards_end v h = (
   h.ball,
   subst (λ l. Guards l v.right) (sym h.left)
@@ -42,7 +40,7 @@ end_wakes next v up c b = round_end (with_right (Inner (single next (EndEntry b)
 
 pub closes_end : (next : ℕ) (levels : List Level) (c : Credit) → IsAround levels IsOpen → under_query (way_of levels) ≡ true
     → Ends (closes next levels c)
-closes_end next [] c h u = clash u
+closes_end next [] c h u = false_true u
 closes_end next (v ∷ up) c h u = pick (query_here v up h.0 u) (λ d q. closes_end next up d h.1 q)
   where
     below : has_end (back_of (v ∷ up)) ≡ true

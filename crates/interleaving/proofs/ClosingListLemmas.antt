@@ -1,5 +1,6 @@
 -- A place that closes: nodes fold along its branch, a recovery that slept is gone, and what sleeps else wakes.
-use Rattle.std.proofs.Common.{◌≡◌, ℕ, suc, ◌==◌, Bool, true, false, List, [], ◌∷◌, ◌++◌, map, length, Option, Some, None, refl, sym, ap}
+use Rattle.std.proofs.Common.{◌≡◌, ◌⊎◌, inl, inr, ℕ, suc, ◌==◌, Bool, true, false, List, [], ◌∷◌, ◌++◌, map, length, Option, Some, None}
+use Rattle.std.proofs.Common.{refl, sym, ap}
 use Rattle.std.proofs.Common.{◌∙◌, subst, arith}
 use Rattle.au_term.specs.Term.{Term}
 use Rattle.au_model.specs.Terms.Each.{Each}
@@ -16,28 +17,29 @@ use Rattle.tree_model.specs.Closing.{goal_side_closes, closes}
 use Rattle.tree_model.specs.Elements.{Record, Credit, EndOf}
 use Rattle.tree_model.specs.PendingLists.{way_of, findall_on, balance_on, element_on, list_among, list_left, list_right, pending_list}
 use Rattle.tree_model.specs.PendingLists.{front_of, back_of}
-use Rattle.tree_model.specs.SoundTrees.{one_if, IsOpen, Sleeps, profile, profiles, is_shape, guards}
+use Rattle.tree_model.specs.SoundTrees.{one_if, IsOpen, IsDormant, profile, profiles, is_shape, guards}
 use Rattle.tree_model.specs.CaughtTrees.{is_side}
+use Rattle.tree_model.specs.Ways.{under_query, is_query}
 use Rattle.interleaving.specs.Laws.{IsSegment}
 use Rattle.interleaving.specs.Views.{IsBlind, IsRecordApart}
 use Rattle.interleaving.specs.Sound.{IsSound}
 use Rattle.interleaving.specs.Follows.{Follows}
 use Rattle.interleaving.proofs.ListRoundLemmas.{around}
 use Rattle.interleaving.proofs.ContextLemmas.{IsLevel, IsAround, put_profiles, count_around, count_left}
-use Rattle.interleaving.proofs.WayLemmas.{same_self}
 use Rattle.interleaving.proofs.AppendLemmas.{append-assoc, each-append}
-use Rattle.interleaving.proofs.OpenSpotLemmas.{both_left, both_right}
-use Rattle.interleaving.proofs.RootLemmas.{are_told}
+use Rattle.interleaving.proofs.RootLemmas.{are_distinguished}
 use Rattle.interleaving.proofs.ListChangeLemmas.{quiet_early}
 use Rattle.interleaving.proofs.LeadLemmas.{lead-grows, follows_then, follows_itself}
+use Rattle.interleaving.proofs.EndLemmas.{HasQueryEnd, query_here, back_end}
+use Rattle.interleaving.proofs.ClosingEndLemmas.{guards_end}
 use Rattle.interleaving.proofs.ListScopeLemmas.{IsDistinct, distinct-up}
-use Rattle.interleaving.proofs.ListMarkLemmas.{no_left, findall_sleeps}
+use Rattle.interleaving.proofs.ListMarkLemmas.{no_left, findall_dormant}
 use Rattle.interleaving.proofs.BlindLemmas.{of_node, front_blind, back_under, records_apart, off_levels}
-use Rattle.interleaving.proofs.FoldLemmas.{Passes, passes_becoming, LeftSides, SidesKept, closed_records}
+use Rattle.interleaving.proofs.FoldLemmas.{Passes, passes_becoming, LeftSides, HaveNoSideRecords, closed_records}
 use Rattle.interleaving.proofs.FoldingLemmas.{fold_passes}
-
-clash : {A : Type 0} → false ≡ true → A
-clash h = let no_way : ⊥ = cc in absurd no_way
+use Rattle.interleaving.proofs.TestLemmas.{false_true, number_same}
+use Rattle.au_term.proofs.LogicLemmas.{and-right, and-left}
+use Rattle.interleaving.proofs.ListsSoundLemmas.{findall-kind}
 
 -- what sleeps after a first alternative is the one further
 pub record Guards (v : Level) (e : Entry) : Type 0 where
@@ -60,11 +62,11 @@ guards_of v up e i g = at_left v.left refl g
         ≡ e = cc in record { left = l; spent = sp; right = q ∙ ap (λ y. alternative sp (Pending Dormant y) none) same }
     at_right (alternative sp (Pending Dormant x) (alternative sq st others)) q l s d = absurd (too_many v.kind s)
       where
-        too_many : (k : Kind) → is_shape k (IsOpen ∷ Sleeps (guards x) ∷ profile st ∷ profiles others) ≡ true → ⊥
-        too_many ChoiceNode z = clash z
-        too_many CatchNode z = clash z
-        too_many FindallNode z = clash z
-        too_many QueryNode z = clash z
+        too_many : (k : Kind) → is_shape k (IsOpen ∷ IsDormant (guards x) ∷ profile st ∷ profiles others) ≡ true → ⊥
+        too_many ChoiceNode z = false_true z
+        too_many CatchNode z = false_true z
+        too_many FindallNode z = false_true z
+        too_many QueryNode z = false_true z
 
     at_left : (left : List (ℕ × Status)) → v.left ≡ left
         → elim left as (λ l. Option Entry) [ [] ↦ dormant_right v.right | a ∷ rest ↦ None ] ≡ Some e → Guards v e
@@ -80,12 +82,6 @@ NotFindall (Some (CatchEntry c r f)) = Unit {0}
 NotFindall (Some (EndEntry b)) = Unit {0}
 NotFindall (Some (FindallEntry results l f)) = ⊥
 
-findall-kind : (k : Kind) → is_findall k ≡ true → k ≡ FindallNode
-findall-kind FindallNode h = refl
-findall-kind ChoiceNode h = clash h
-findall-kind CatchNode h = clash h
-findall-kind QueryNode h = clash h
-
 pub no_side : (v : Level) (up : List Level) → IsLevel up v IsOpen → (o : Option Entry) → guarded v ≡ o → NotFindall o
     → is_side v.kind (length v.left) ≡ false
 no_side v up i o g f = go (is_side v.kind (length v.left)) refl
@@ -93,8 +89,8 @@ no_side v up i o g f = go (is_side v.kind (length v.left)) refl
     go : (b : Bool) → is_side v.kind (length v.left) ≡ b → b ≡ false
     go false s = refl
     go true s =
-        let left : v.left ≡ [] = no_left v.left (both_right (is_findall v.kind) _ s) in
-        let entry = findall_sleeps v up i left (findall-kind v.kind (both_left (is_findall v.kind) _ s)) in
+        let left : v.left ≡ [] = no_left v.left (and-right (is_findall v.kind) _ s) in
+        let entry = findall_dormant v up i left (findall-kind v.kind (and-left (is_findall v.kind) _ s)) in
         let found : guarded v ≡ Some (FindallEntry entry.0 entry.1 entry.2) = subst
         (λ l. Shows l v.right (FindallEntry entry.0 entry.1 entry.2)) (sym left)
         (subst (λ r. dormant_right r ≡ Some (FindallEntry entry.0 entry.1 entry.2)) (sym entry.3.right) refl) in
@@ -106,13 +102,13 @@ no_side v up i o g f = go (is_side v.kind (length v.left)) refl
 pub none_above : (v : Level) (up : List Level) → IsDistinct (v ∷ up) → count_around v.number up ≡ 0
 none_above v up d =
     let once = d v.number in
-    let here : one_if (v.number == v.number) ≡ 1 = ap one_if (same_self v.number) in
+    let here : one_if (v.number == v.number) ≡ 1 = ap one_if (number_same v.number) in
     omega (arith, once, here)
 
 pub none_left : (v : Level) (up : List Level) → IsDistinct (v ∷ up) → count_left v.number v.left ≡ 0
 none_left v up d =
     let once = d v.number in
-    let here : one_if (v.number == v.number) ≡ 1 = ap one_if (same_self v.number) in
+    let here : one_if (v.number == v.number) ≡ 1 = ap one_if (number_same v.number) in
     omega (arith, once, here)
 
 -- the closed place
@@ -151,10 +147,10 @@ gone_passes clauses v up c k r f g off z a =
     (sym (closed_records way n (length v.left) v.kind c.records (λ s. absurd (side_clash s))))
     (records_apart n way c.records (off_levels n up z)) in
     let segment : IsSegment (of_node n) pre (x ∷ []) zs = record {
-      grown = are_told.root (λ m. m == n);
+      grown = are_distinguished.root (λ m. m == n);
       front = each-append (IsBlind (of_node n)) (front_of (v ∷ up)) _ blind_left
           (blind_mine, (tt, tt));
-      own = ((same_self n, same_self n), tt);
+      own = ((number_same n, number_same n), tt);
       under = (tt, back_under n up z a);
       some = omega arith;
     } in
@@ -194,38 +190,49 @@ module _ (clauses : List Clause) (end_wakes : EndWakes clauses) (findall_wakes :
   -- a node folds, or stays
   folds_follow : (next : ℕ) (v : Level) (up : List Level) (c : TreeCredit) (o : Option TreeCredit) → all_closed v c ≡ o
       → LeftSides v.kind v.left → is_side v.kind (length v.left) ≡ false → count_around v.number up ≡ 0 → IsAround up IsOpen
-      → ((d : TreeCredit) → Ends next up d) → IsSound (pending_list (plug (v ∷ up) (Closed c)))
+      → under_query (way_of up) ≡ true → ((d : TreeCredit) → Ends next up d) → IsSound (pending_list (plug (v ∷ up) (Closed c)))
       → IsSound (pending_list (folds next v up c o (closes next up)).root)
       → Follows clauses (pending_list (plug (v ∷ up) (Closed c))) (pending_list (folds next v up c o (closes next up)).root)
-  folds_follow next v up c None q s off z a go i j = follows_itself clauses (pending_list (plug (v ∷ up) (Closed c)))
-  folds_follow next v [] c (Some total) q s off z a go i j = follows_itself clauses (pending_list (plug (v ∷ []) (Closed c)))
-  folds_follow next v (u ∷ up) c (Some total) q s off z a go i j =
+  folds_follow next v up c None q s off z a u go i j = follows_itself clauses (pending_list (plug (v ∷ up) (Closed c)))
+  folds_follow next v [] c (Some total) q s off z a u go i j = follows_itself clauses (pending_list (plug (v ∷ []) (Closed c)))
+  folds_follow next v (u ∷ up) c (Some total) q s off z a asked go i j =
       let d = added (credit_of u.spent) total in
-      let p = fold_passes clauses v (u ∷ up) c total s off q z a in
+      let p = fold_passes clauses v (u ∷ up) c total s off q z a (back_end (u ∷ up) a asked) in
       let p2 : Passes clauses (pending_list (plug (v ∷ u ∷ up) (Closed c))) (pending_list (plug (u ∷ up) (Closed d))) = subst
       (Passes clauses (pending_list (plug (v ∷ u ∷ up) (Closed c)))) (sym (closed_list (u ∷ up) d)) p in
       follows_then clauses (pending_list (plug (v ∷ u ∷ up) (Closed c))) (pending_list (plug (u ∷ up) (Closed d))) _ p2.follows
       (go d (p2.sound i) j)
 
   pub closes_follow : (next : ℕ) (levels : List Level) (c : TreeCredit) → IsAround levels IsOpen → IsDistinct levels
-      → count_around next levels ≡ 0 → SidesKept levels → Ends next levels c
-  closes_follow next [] c a d fresh s i j = follows_itself clauses _
-  closes_follow next (v ∷ up) c a d fresh s i j = pick (guarded v) refl
-      (λ x. closes_follow next up x a.1 (distinct-up v up d) (omega (arith, fresh)) s.1) j
+      → count_around next levels ≡ 0 → HaveNoSideRecords levels → under_query (way_of levels) ≡ true → Ends next levels c
+  closes_follow next [] c a d fresh s asked i j = follows_itself clauses _
+  closes_follow next (v ∷ up) c a d fresh s asked i j = pick (guarded v) refl
+      (λ u x. closes_follow next up x a.1 (distinct-up v up d) (omega (arith, fresh)) s.1 u) j
     where
-      pick : (o : Option Entry) → guarded v ≡ o → ((x : TreeCredit) → Ends next up x)
+      -- the query is above a node whose end does not sleep here
+      above : (o : Option Entry) → guarded v ≡ o → ((b : Option Term) → o ≡ Some (EndEntry b) → ⊥) → under_query (way_of up) ≡ true
+      above o g other = go (query_here v up a.0 asked)
+        where
+          go : (is_query v.kind ≡ true × HasQueryEnd v) ⊎ ((is_query v.kind ≡ false) × (under_query (way_of up) ≡ true))
+              → under_query (way_of up) ≡ true
+          go (inl q) = let e = guards_end v q.1 in absurd (other e.0 (sym g ∙ e.1))
+          go (inr q) = q.1
+
+      pick : (o : Option Entry) → guarded v ≡ o → (under_query (way_of up) ≡ true → (x : TreeCredit) → Ends next up x)
           → IsSound (pending_list (goal_side_closes next v up c o (closes next up)).root)
           → Follows clauses (pending_list (plug (v ∷ up) (Closed c)))
           (pending_list (goal_side_closes next v up c o (closes next up)).root)
-      pick None g f j = folds_follow next v up c (all_closed v c) refl s.0 (no_side v up a.0 None g tt) (none_above v up d) a.1 f i j
-      pick (Some (PlainEntry x)) g f j = folds_follow next v up c (all_closed v c) refl s.0
-          (no_side v up a.0 (Some (PlainEntry x)) g tt) (none_above v up d) a.1 f i j
+      pick None g f j = let u = above None g (λ b e. let no_way : ⊥ = cc in no_way) in folds_follow next v up c (all_closed v c) refl s.0
+          (no_side v up a.0 None g tt) (none_above v up d) a.1 u (f u) i j
+      pick (Some (PlainEntry x)) g f j = let u = above (Some (PlainEntry x)) g (λ b e. let no_way : ⊥ = cc in no_way) in folds_follow
+          next v up c (all_closed v c) refl s.0 (no_side v up a.0 (Some (PlainEntry x)) g tt) (none_above v up d) a.1 u (f u) i j
       pick (Some (EndEntry b)) g f j = end_wakes next v up c b (guards_of v up (EndEntry b) a.0 g) a d fresh i j
       pick (Some (FindallEntry results l x)) g f j = findall_wakes next v up c results l x
           (guards_of v up (FindallEntry results l x) a.0 g) a d fresh i j
       pick (Some (CatchEntry k r x)) g f j =
           let off = no_side v up a.0 (Some (CatchEntry k r x)) g tt in
+          let u = above (Some (CatchEntry k r x)) g (λ b e. let no_way : ⊥ = cc in no_way) in
           let gone = with_right (Closed no_credit) v in
           let p = gone_passes clauses v up c k r x (guards_of v up (CatchEntry k r x) a.0 g) off (none_above v up d) a.1 in
           follows_then clauses (pending_list (plug (v ∷ up) (Closed c))) (pending_list (plug (gone ∷ up) (Closed c))) _ p.follows
-          (folds_follow next gone up c (all_closed gone c) refl s.0 off (none_above v up d) a.1 f (p.sound i) j)
+          (folds_follow next gone up c (all_closed gone c) refl s.0 off (none_above v up d) a.1 u (f u) (p.sound i) j)

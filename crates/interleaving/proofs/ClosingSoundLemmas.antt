@@ -12,12 +12,14 @@ use Rattle.tree_model.specs.Closing.{Grown, guarded, with_right, with_results, f
 use Rattle.tree_model.specs.Closing.{all_left, all_closed, folds, wakes, goal_side_closes, closes}
 use Rattle.tree_model.specs.PendingLists.{Step, Way, way_of}
 use Rattle.tree_model.specs.Ways.{is_on, in_reach, way_from, AreScoped, is_query, under_query, IsAsked, IsOnWay, IsAwake}
-use Rattle.tree_model.specs.SoundTrees.{one_if, count_among, count_below, Profile, IsOpen, Sleeps, IsShut, profile, profiles, some_open}
+use Rattle.tree_model.specs.SoundTrees.{one_if, count_among, count_below, Profile, IsOpen, IsDormant, IsShut, profile, profiles, some_open}
 use Rattle.tree_model.specs.SoundTrees.{IsSound}
 use Rattle.interleaving.proofs.ContextLemmas.{put_profiles, level_profiles, IsLevel, IsAround, live_at, put_open, put_in, count_around}
 use Rattle.interleaving.proofs.ContextLemmas.{count_plug}
-use Rattle.interleaving.proofs.WayLemmas.{cond-true, cond-false, cond-same, one_if-zero, off_way, below_new, same_self, unlike}
+use Rattle.interleaving.proofs.WayLemmas.{cond-true, cond-false, cond-same, one_if-zero, off_way, below_new}
 use Rattle.interleaving.proofs.ShapeLemmas.{sleeping, shape_shut, shape_woken, shape_gone, plain_awake, findall_kind}
+use Rattle.au_term.proofs.LogicLemmas.{numbers_turned}
+use Rattle.interleaving.proofs.TestLemmas.{number_same}
 
 -- a root with the next number
 pub record IsSoundGrown (g : Grown) : Type 0 where
@@ -68,7 +70,7 @@ open_status (Pending Dormant e) h ps = refl
 open_after : (p : Profile) (ps : List Profile) → some_open ps ≡ true → some_open (p ∷ ps) ≡ true
 open_after IsOpen ps h = refl
 open_after IsShut ps h = h
-open_after (Sleeps k) ps h = refl
+open_after (IsDormant k) ps h = refl
 
 open_right : (others : Alternatives) → all_right others ≡ None → some_open (profiles others) ≡ true
 open_right none h = let no_way : ⊥ = cc in absurd no_way
@@ -173,11 +175,11 @@ goes_on : (next n : ℕ) (kind : Kind) (way : Way) (ts results : List Term) (l :
     (findall_goes_on n (with_results ts (FindallEntry results l f)))
 goes_on next n kind way [] results l f d o h q =
     let low : Step = record { node = n; index = 1; kind = kind } in
-    let self : (n == n) ≡ true = same_self n in
+    let self : (n == n) ≡ true = number_same n in
     let reach : in_reach (low ∷ way) n ≡ true = cond-true (n == n) true _ self in
     let from : way_from (low ∷ way) n ≡ low ∷ way = cond-true (n == n) (low ∷ way) (way_from way n) self in
     let skip : way_from (record { node = next; index = 0; kind = ChoiceNode } ∷ low ∷ way) n
-    ≡ low ∷ way = cond-false (next == n) _ (way_from (low ∷ way) n) (unlike n next d) ∙ from in
+    ≡ low ∷ way = cond-false (next == n) _ (way_from (low ∷ way) n) (numbers_turned n next d) ∙ from in
     record {
       asked = cond-false (is_query kind) (1 == 0) (under_query way) q ∙ h.asked;
       scoped = (

@@ -5,8 +5,10 @@ use Rattle.run_model.specs.Machine.Items.{Item, GoalItem, CatchMark, CollectMark
 use Rattle.tree_model.specs.Nodes.{Kind, ChoiceNode, CatchNode, FindallNode}
 use Rattle.tree_model.specs.PendingLists.{Step, Way}
 use Rattle.tree_model.specs.Ways.{same_kind, stops_cuts, is_barrier, in_reach, through, way_from, way_above, AreScoped}
-use Rattle.interleaving.proofs.WayLemmas.{cond-true, cond-false, reach-on, through-on, other_number, same_self}
+use Rattle.interleaving.proofs.WayLemmas.{cond-true, cond-false, reach-on, through-on, other_number}
 use Rattle.interleaving.proofs.RoundtripLemmas.{by_nodes, IsPath}
+use Rattle.au_term.proofs.LogicLemmas.{and-false}
+use Rattle.interleaving.proofs.TestLemmas.{number_same}
 
 -- a way and what it becomes: each step has its own, but for hidden ones, whose nodes no goal names
 pub data Collapses (name : ℕ → ℕ) (seen : ℕ → Bool) : Way → Way → Type 0 where
@@ -34,29 +36,25 @@ path-above (a ∷ way) s p = go (a.node == s) (path-above way s p.1)
 barrier_same : (a b : Step) → a.index ≡ b.index → a.kind ≡ b.kind → is_barrier a ≡ is_barrier b
 barrier_same a b i k = ap (λ n. (n == 0) && stops_cuts a.kind) i ∙ ap (λ j. (b.index == 0) && stops_cuts j) k
 
-and-last : (b : Bool) → (b && false) ≡ false
-and-last true = refl
-and-last false = refl
-
 choice_open : (a : Step) → a.kind ≡ ChoiceNode → is_barrier a ≡ false
-choice_open a k = ap (λ j. (a.index == 0) && stops_cuts j) k ∙ and-last (a.index == 0)
+choice_open a k = ap (λ j. (a.index == 0) && stops_cuts j) k ∙ and-false (a.index == 0)
 
 -- a scope in reach stays in reach
 pub record Reaches (name : ℕ → ℕ) (seen : ℕ → Bool) (u w : Way) (s : ℕ) : Type 0 where
   pub reach : in_reach w (name s) ≡ true
   pub rest : Collapses name seen (way_from u s) (way_from w (name s))
 
-pub reach_kept : (name : ℕ → ℕ) (seen : ℕ → Bool) (u w : Way) (s : ℕ) → Collapses name seen u w → IsPath w → seen s ≡ true
+pub reach_preserved : (name : ℕ → ℕ) (seen : ℕ → Bool) (u w : Way) (s : ℕ) → Collapses name seen u w → IsPath w → seen s ≡ true
     → in_reach u s ≡ true → Reaches name seen u w s
-reach_kept name seen u w s nothing p v h = let no_way : ⊥ = cc in absurd no_way
-reach_kept name seen u w s (kept a b u₁ w₁ n i k c) p v h = go (a.node == s) refl (is_barrier a) refl
-    (reach_kept name seen u₁ w₁ s c p.1 v) h
+reach_preserved name seen u w s nothing p v h = let no_way : ⊥ = cc in absurd no_way
+reach_preserved name seen u w s (kept a b u₁ w₁ n i k c) p v h = go (a.node == s) refl (is_barrier a) refl
+    (reach_preserved name seen u₁ w₁ s c p.1 v) h
   where
     go : (x : Bool) → (a.node == s) ≡ x → (y : Bool) → is_barrier a ≡ y → (in_reach u₁ s ≡ true → Reaches name seen u₁ w₁ s)
         → cond x true (cond y false (in_reach u₁ s)) ≡ true → Reaches name seen (a ∷ u₁) (b ∷ w₁) s
     go true e y f r j =
         let same : a.node ≡ s = grind arith in
-        let here : (b.node == name s) ≡ true = ap (λ m. m == name s) (sym n ∙ ap name same) ∙ same_self (name s) in
+        let here : (b.node == name s) ≡ true = ap (λ m. m == name s) (sym n ∙ ap name same) ∙ number_same (name s) in
         record {
           reach = cond-true (b.node == name s) true _ here;
           rest = subst (λ x. Collapses name seen x (way_from (b ∷ w₁) (name s)))
@@ -76,7 +74,7 @@ reach_kept name seen u w s (kept a b u₁ w₁ n i k c) p v h = go (a.node == s)
               (sym (cond-false (b.node == name s) (b ∷ w₁) (way_from w₁ (name s)) off)) g.rest);
         }
     go false e true f r j = let no_way : ⊥ = cc in absurd no_way
-reach_kept name seen u w s (hidden a u₁ w₁ k d c) p v h = go (a.node == s) refl (reach_kept name seen u₁ w s c p v) h
+reach_preserved name seen u w s (hidden a u₁ w₁ k d c) p v h = go (a.node == s) refl (reach_preserved name seen u₁ w s c p v) h
   where
     go : (x : Bool) → (a.node == s) ≡ x → (in_reach u₁ s ≡ true → Reaches name seen u₁ w s)
         → cond x true (cond (is_barrier a) false (in_reach u₁ s)) ≡ true → Reaches name seen (a ∷ u₁) w s
@@ -98,18 +96,18 @@ not_choice : (b : Bool) (k : Kind) → k ≡ ChoiceNode → (kind : Kind) → sa
 not_choice true k e kind h = ap (λ j. same_kind j kind) e ∙ h
 not_choice false k e kind h = refl
 
-pub through_kept : (kind : Kind) → same_kind ChoiceNode kind ≡ false → (name : ℕ → ℕ) (seen : ℕ → Bool) (u w : Way) (s : ℕ)
+pub through_preserved : (kind : Kind) → same_kind ChoiceNode kind ≡ false → (name : ℕ → ℕ) (seen : ℕ → Bool) (u w : Way) (s : ℕ)
     → Collapses name seen u w → IsPath w → through kind u s ≡ true → GoesThrough kind name seen u w s
-through_kept kind q name seen u w s nothing p h = let no_way : ⊥ = cc in absurd no_way
-through_kept kind q name seen u w s (kept a b u₁ w₁ n i k c) p h = go (a.node == s) refl (is_barrier a) refl
-    (through_kept kind q name seen u₁ w₁ s c p.1) h
+through_preserved kind q name seen u w s nothing p h = let no_way : ⊥ = cc in absurd no_way
+through_preserved kind q name seen u w s (kept a b u₁ w₁ n i k c) p h = go (a.node == s) refl (is_barrier a) refl
+    (through_preserved kind q name seen u₁ w₁ s c p.1) h
   where
     go : (x : Bool) → (a.node == s) ≡ x → (y : Bool) → is_barrier a ≡ y
         → (through kind u₁ s ≡ true → GoesThrough kind name seen u₁ w₁ s) → cond x ((a.index == 0) && same_kind a.kind kind)
         (cond y false (through kind u₁ s)) ≡ true → GoesThrough kind name seen (a ∷ u₁) (b ∷ w₁) s
     go true e y f r j =
         let same : a.node ≡ s = grind arith in
-        let here : (b.node == name s) ≡ true = ap (λ m. m == name s) (sym n ∙ ap name same) ∙ same_self (name s) in
+        let here : (b.node == name s) ≡ true = ap (λ m. m == name s) (sym n ∙ ap name same) ∙ number_same (name s) in
         let side : ((b.index == 0) && same_kind b.kind kind) ≡ true = ap (λ m. (m == 0) && same_kind b.kind kind) (sym i)
         ∙ (ap (λ m. (a.index == 0) && same_kind m kind) (sym k) ∙ j) in
         record {
@@ -132,7 +130,8 @@ through_kept kind q name seen u w s (kept a b u₁ w₁ n i k c) p h = go (a.nod
               g.rest);
         }
     go false e true f r j = let no_way : ⊥ = cc in absurd no_way
-through_kept kind q name seen u w s (hidden a u₁ w₁ k d c) p h = go (a.node == s) refl (through_kept kind q name seen u₁ w s c p) h
+through_preserved kind q name seen u w s (hidden a u₁ w₁ k d c) p h = go (a.node == s) refl
+    (through_preserved kind q name seen u₁ w s c p) h
   where
     go : (x : Bool) → (a.node == s) ≡ x → (through kind u₁ s ≡ true → GoesThrough kind name seen u₁ w s)
         → cond x ((a.index == 0) && same_kind a.kind kind) (cond (is_barrier a) false (through kind u₁ s)) ≡ true
@@ -161,16 +160,22 @@ AreSeen seen (RemovalItem number ∷ items) = AreSeen seen items
 abbrev pub as_scopes : List (Item ℕ) → List (Item ℕ)
 as_scopes items = by_nodes (λ h. h) items
 
-pub items_kept : (name : ℕ → ℕ) (seen : ℕ → Bool) (u w : Way) (items : List (Item ℕ)) → Collapses name seen u w → IsPath w
+pub items_preserved : (name : ℕ → ℕ) (seen : ℕ → Bool) (u w : Way) (items : List (Item ℕ)) → Collapses name seen u w → IsPath w
     → AreSeen seen items → AreScoped u (as_scopes items) → AreScoped w (by_nodes name items)
-items_kept name seen u w [] c p v h = tt
-items_kept name seen u w (GoalItem t s ∷ items) c p v h =
-    let r = reach_kept name seen u w s c p v.0 h.0 in
-    (r.reach, items_kept name seen (way_from u s) (way_from w (name s)) items r.rest (path-from w (name s) p) v.1 h.1)
-items_kept name seen u w (CatchMark s ∷ items) c p v h =
-    let r = through_kept CatchNode refl name seen u w (suc s) c p h.0 in
-    (r.reach, items_kept name seen (way_above u (suc s)) (way_above w (name (suc s))) items r.rest (path-above w (name (suc s)) p) v h.1)
-items_kept name seen u w (CollectMark t s ∷ items) c p v h =
-    let r = through_kept FindallNode refl name seen u w (suc s) c p h.0 in
-    (r.reach, items_kept name seen (way_above u (suc s)) (way_above w (name (suc s))) items r.rest (path-above w (name (suc s)) p) v h.1)
-items_kept name seen u w (RemovalItem number ∷ items) c p v h = items_kept name seen u w items c p v h
+items_preserved name seen u w [] c p v h = tt
+items_preserved name seen u w (GoalItem t s ∷ items) c p v h =
+    let r = reach_preserved name seen u w s c p v.0 h.0 in
+    (r.reach, items_preserved name seen (way_from u s) (way_from w (name s)) items r.rest (path-from w (name s) p) v.1 h.1)
+items_preserved name seen u w (CatchMark s ∷ items) c p v h =
+    let r = through_preserved CatchNode refl name seen u w (suc s) c p h.0 in (
+      r.reach,
+      items_preserved name seen (way_above u (suc s)) (way_above w (name (suc s))) items r.rest
+          (path-above w (name (suc s)) p) v h.1,
+    )
+items_preserved name seen u w (CollectMark t s ∷ items) c p v h =
+    let r = through_preserved FindallNode refl name seen u w (suc s) c p h.0 in (
+      r.reach,
+      items_preserved name seen (way_above u (suc s)) (way_above w (name (suc s))) items r.rest
+          (path-above w (name (suc s)) p) v h.1,
+    )
+items_preserved name seen u w (RemovalItem number ∷ items) c p v h = items_preserved name seen u w items c p v h

@@ -43,7 +43,9 @@ use Rattle.interleaving.proofs.ListEndLemmas.{from_back}
 use Rattle.interleaving.proofs.ListScopeLemmas.{IsDistinct}
 use Rattle.interleaving.proofs.ListMarkLemmas.{gathered_side}
 use Rattle.interleaving.proofs.ListsSoundLemmas.{under_of, side_level}
-use Rattle.interleaving.proofs.FoldLemmas.{side_name, nothing_blind}
+use Rattle.interleaving.proofs.FoldLemmas.{side_name}
+use Rattle.interleaving.proofs.TestLemmas.{false_true}
+use Rattle.interleaving.proofs.CreditLawLemmas.{blind_none}
 
 -- where a findall's goal side is named, one is on the branch
 none_named : (levels : List Level) → under_of levels ≡ false → findall_on (way_of levels) ≡ []
@@ -74,9 +76,6 @@ gathered_on levels a name around d e =
     gathered_side levels (findall_on (way_of levels)) side.at.level side.at.above found (scope ∙ side.at.scope) side.at.keeps side.left
     side.kind
 
-clash : {A : Type 0} → false ≡ true → A
-clash h = let no_way : ⊥ = cc in absurd no_way
-
 pub run_is : (t : TreeState) (s : Spot) (k : ℕ) (f : Continuation ℕ) → s.entry ≡ PlainEntry f
     → private_run t.job.clauses (levels_of s) (with_heights (levels_of s) (PlainEntry f)) k ≡ run_of t s k
 unfolding run_of
@@ -92,20 +91,20 @@ pub record IsResult (o : Option (List Entry)) : Type 0 where
   pub first : rest.items ≡ CollectMark term height ∷ items
 
 pub result : (o : Option (List Entry)) → run_gives_result o ≡ true → IsResult o
-result None h = clash h
-result (Some []) h = clash h
-result (Some (CatchEntry y r f ∷ es)) h = clash h
-result (Some (FindallEntry rs y f ∷ es)) h = clash h
-result (Some (EndEntry b ∷ es)) h = clash h
-result (Some (PlainEntry g ∷ x ∷ es)) h = clash h
+result None h = false_true h
+result (Some []) h = false_true h
+result (Some (CatchEntry y r f ∷ es)) h = false_true h
+result (Some (FindallEntry rs y f ∷ es)) h = false_true h
+result (Some (EndEntry b ∷ es)) h = false_true h
+result (Some (PlainEntry g ∷ x ∷ es)) h = false_true h
 result (Some (PlainEntry g ∷ [])) h = by_items g.items refl h
   where
     by_items : (items : List (Item ℕ)) → g.items ≡ items → elim items [ CollectMark u h ∷ rest ↦ true | i ↦ false ] ≡ true
         → IsResult (Some (PlainEntry g ∷ []))
-    by_items [] i l = clash l
-    by_items (GoalItem u h ∷ items) i l = clash l
-    by_items (CatchMark h ∷ items) i l = clash l
-    by_items (RemovalItem n ∷ items) i l = clash l
+    by_items [] i l = false_true l
+    by_items (GoalItem u h ∷ items) i l = false_true l
+    by_items (CatchMark h ∷ items) i l = false_true l
+    by_items (RemovalItem n ∷ items) i l = false_true l
     by_items (CollectMark u h ∷ items) i l = record { rest = g; term = u; height = h; items = items; is = refl; first = i }
 
 pub collected_reaches : CollectedReaches
@@ -125,8 +124,8 @@ collected_reaches t s k i q z place running x = go s.entry refl p.entry.0 (awake
       where
         stays : (run_of t s k ≡ None) ⊎ (run_of t s k ≡ Some (EndEntry b ∷ [])) → Reaches t.job.clauses (pending_list t.root)
             (pending_list (plug (levels_of s) (Closed (record { inferences = k; answers = 0; records = results_of (run_of t s k) }))))
-        stays (inl y) = clash (sym (ap run_gives_result y) ∙ x)
-        stays (inr y) = clash (sym (ap run_gives_result y) ∙ x)
+        stays (inl y) = false_true (sym (ap run_gives_result y) ∙ x)
+        stays (inr y) = false_true (sym (ap run_gives_result y) ∙ x)
     go (PlainEntry f) e h a =
         let v = s.level in
         let up = s.above in
@@ -149,7 +148,8 @@ collected_reaches t s k i q z place running x = go s.entry refl p.entry.0 (awake
         free p.around h off k v.spent (subst IsSound before z) in
         let mine : IsSound (front_of levels ++ (Credit (v.spent + k) ((findall_on (way_of levels), r.term) ∷ []) ∷ back_of levels)) =
         sound_exchange t.job.clauses (λ s. false) (front_of levels) (Credit (v.spent + k) [] ∷ [])
-        (Credit (v.spent + k) ((findall_on (way_of levels), r.term) ∷ []) ∷ []) (back_of levels) (nothing_blind (front_of levels))
+        (Credit (v.spent + k) ((findall_on (way_of levels), r.term) ∷ []) ∷ []) (back_of levels)
+        (blind_none t.job.clauses (front_of levels))
         (tt, tt) (tt, tt) (omega arith) emptied ((gathered, tt), (sound-after (front_of levels) _ emptied).1) in
         let same : v.spent + k ≡ k = omega (arith, unspent) in
         let new : pending_list (plug levels (Closed (record { inferences = k; answers = 0; records = r.term ∷ [] })))
@@ -190,8 +190,8 @@ result_under t s k i o x = go s.entry refl p.entry.0 (awake_entry s.hold s.entry
     go (EndEntry b) e h a = stays (end_stays t s b k e)
       where
         stays : (run_of t s k ≡ None) ⊎ (run_of t s k ≡ Some (EndEntry b ∷ [])) → under_of (levels_of s) ≡ true
-        stays (inl y) = clash (sym (ap run_gives_result y) ∙ x)
-        stays (inr y) = clash (sym (ap run_gives_result y) ∙ x)
+        stays (inl y) = false_true (sym (ap run_gives_result y) ∙ x)
+        stays (inr y) = false_true (sym (ap run_gives_result y) ∙ x)
     go (PlainEntry f) e h a =
         let levels = levels_of s in
         let r = result (run_of t s k) x in

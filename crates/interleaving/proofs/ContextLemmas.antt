@@ -4,7 +4,7 @@ use Rattle.tree_model.specs.Nodes.{Kind, Alternatives, alternative, Status, Inne
 use Rattle.tree_model.specs.Levels.{Level, put_left, level_node, plug}
 use Rattle.tree_model.specs.PendingLists.{Way, way_of}
 use Rattle.tree_model.specs.Ways.{is_on}
-use Rattle.tree_model.specs.SoundTrees.{one_if, count_among, count_below, Profile, IsOpen, Sleeps, IsShut, profile, profiles, is_shape}
+use Rattle.tree_model.specs.SoundTrees.{one_if, count_among, count_below, Profile, IsOpen, IsDormant, IsShut, profile, profiles, is_shape}
 use Rattle.tree_model.specs.SoundTrees.{some_open, is_live, AreSound, IsSound}
 
 -- alternatives to the left, the nearest first
@@ -68,7 +68,7 @@ put_open (a ∷ left) ps h = put_open left (profile a.1 ∷ ps) (open_after (pro
     open_after : (p : Profile) (ps : List Profile) → some_open ps ≡ true → some_open (p ∷ ps) ≡ true
     open_after IsOpen ps h = refl
     open_after IsShut ps h = h
-    open_after (Sleeps k) ps h = refl
+    open_after (IsDormant k) ps h = refl
 
 pub live_open : (levels : List Level) → live_at levels IsOpen ≡ true
 live_open [] = refl

@@ -1,23 +1,24 @@
 -- The laws of credits, and of what is taken after them.
-use Rattle.std.proofs.Common.{◌≡◌, ℕ, zero, suc, ◌+◌, Bool, false, List, [], ◌∷◌, ◌++◌, map, refl, sym, ap, ◌∙◌, subst, arith}
+use Rattle.std.proofs.Common.{◌≡◌, ℕ, zero, suc, ◌+◌, ◌≤◌, Bool, false, List, [], ◌∷◌, ◌++◌, map, refl, sym, ap, ◌∙◌, subst, arith}
 use Rattle.std.proofs.lemmas.Bool.{false≢true}
 use Rattle.au_model.specs.Terms.Each.{Each}
 use Rattle.run_model.specs.Programs.Clauses.{Clause}
 use Rattle.run_model.specs.Machine.Items.{Item, GoalItem, CatchMark, CollectMark, RemovalItem}
-use Rattle.interleaving.specs.Machine.{Machine, gives, free_steps, step, run, seen, Alike}
+use Rattle.interleaving.specs.Machine.{Machine, gives, free_steps, step, run, is_finished, seen, Alike}
 use Rattle.tree_model.specs.Elements.{Name, Record, Element, Credit, Plain, EndOf, Catch, Findall, End}
 use Rattle.interleaving.specs.Scopes.{Shared, Sought, scoped}
 use Rattle.interleaving.specs.Segments.{Private}
 use Rattle.interleaving.specs.Views.{IsItemApart, IsRecordApart, IsBlind}
 use Rattle.interleaving.specs.Quiet.{IsQuiet, inferences, records}
 use Rattle.interleaving.specs.Laws.{OneCredit, EnoughCredit}
-use Rattle.interleaving.proofs.RunFrontLemmas.{append-none, map-none}
+use Rattle.interleaving.proofs.RunFrontLemmas.{map-none}
 use Rattle.interleaving.proofs.EarlyLemmas.{Ground, Runs, Early, early, both_early}
 use Rattle.interleaving.proofs.AloneLemmas.{private_runs}
 use Rattle.interleaving.proofs.ApartLemmas.{IsSoughtApart, blind_closed, inner_unseen}
-use Rattle.interleaving.proofs.InsideStepLemmas.{any_ground, woken_active}
+use Rattle.interleaving.proofs.InsideStepLemmas.{any_ground, become_active}
 use Rattle.interleaving.proofs.QuietCreditLemmas.{outer-all, quiet-private}
-use Rattle.interleaving.proofs.EnoughLemmas.{enough}
+use Rattle.interleaving.proofs.LongCreditLemmas.{enough, as_many}
+use Rattle.interleaving.proofs.AppendLemmas.{append-nil}
 
 abbrev pub none_inner : Record → Bool
 none_inner r = false
@@ -32,7 +33,7 @@ module _ (clauses : List Clause) where
 
   -- what records do under no premise
   pub runs_any : (k : ℕ) (rs : List Record) (a b : List Element) → Private m none_inner k rs a b → Runs m (any_ground clauses) k rs a b
-  runs_any k rs a b r = private_runs m none_inner (any_ground clauses) (λ o e. absurd (false≢true e)) (woken_active clauses) k rs a b r
+  runs_any k rs a b r = private_runs m none_inner (any_ground clauses) (λ o e. absurd (false≢true e)) (become_active clauses) k rs a b r
 
   pub quiet_any : (xs c : List Element) → IsQuiet xs → Runs m (any_ground clauses) (inferences xs) (records xs) (xs ++ c)
       (map (gives m (records xs)) c)
@@ -41,7 +42,7 @@ module _ (clauses : List Clause) where
       (quiet-private clauses none_inner xs c h))
 
   pub quiet_alone : (xs : List Element) → IsQuiet xs → Runs m (any_ground clauses) (inferences xs) (records xs) xs []
-  quiet_alone xs h = subst (λ l. Runs m (any_ground clauses) (inferences xs) (records xs) l []) (append-none xs) (quiet_any xs [] h)
+  quiet_alone xs h = subst (λ l. Runs m (any_ground clauses) (inferences xs) (records xs) l []) (append-nil xs) (quiet_any xs [] h)
 
   pub one_credit : OneCredit clauses
   one_credit inside pre xs zs h i f =
@@ -76,7 +77,7 @@ module _ (clauses : List Clause) where
       let sum : j + (k + 0) ≡ j + k = omega arith in
       let whole = one_credit (λ s. false) pre (Credit j rs ∷ Credit k qs ∷ []) zs tt (tt, (tt, tt)) (blind_none pre) n w in
       whole ∙ ap (λ i. seen (run m n w (free_steps m [] (pre ++ (Credit i (rs ++ (qs ++ [])) ∷ zs))))) sum
-      ∙ ap (λ l. seen (run m n w (free_steps m [] (pre ++ (Credit (j + k) (rs ++ l) ∷ zs))))) (append-none qs)
+      ∙ ap (λ l. seen (run m n w (free_steps m [] (pre ++ (Credit (j + k) (rs ++ l) ∷ zs))))) (append-nil qs)
 
   pub none_alike : (pre zs : List Element) → Alike m (pre ++ (Credit 0 [] ∷ zs)) (pre ++ zs)
   none_alike pre zs =
@@ -98,6 +99,14 @@ module _ (clauses : List Clause) where
   pub enough_credit : EnoughCredit clauses
   enough_credit j k os rs n w pre zs hj hk = enough m (any_ground clauses) (IsBlind (λ s. false)) (IsSoughtApart clauses (λ s. false))
       (IsRecordApart (λ s. false)) (blind_closed clauses (λ s. false)) j k os rs n hj hk w pre zs (blind_none pre)
+
+  -- and credits of as many, where what is under them does not go
+  pub as_many_credit : (j k : ℕ) (os rs : List Record) (n : ℕ) (w : Shared) (pre zs : List Element) → n ≤ j → n ≤ k
+      → ((us : List Record) → is_finished (free_steps m us zs) ≡ false)
+      → seen (run m n w (free_steps m [] (pre ++ (Credit j os ∷ zs)))) ≡ seen (run m n w (free_steps m [] (pre ++ (Credit k rs ∷ zs))))
+  as_many_credit j k os rs n w pre zs hj hk stays = as_many m (any_ground clauses) (IsBlind (λ s. false))
+      (IsSoughtApart clauses (λ s. false)) (IsRecordApart (λ s. false)) (blind_closed clauses (λ s. false)) j k os rs n hj hk w pre zs
+      (blind_none pre) stays
 
   pub further : (k n : ℕ) (w : Shared) (xs : List Element) → run m (k + n) w xs ≡ run m n (run m k w xs).0 (run m k w xs).1
   further zero n w xs = let same : 0 + n ≡ n = omega arith in ap (λ i. run m i w xs) same

@@ -22,7 +22,7 @@ use Rattle.interleaving.specs.Roots.{rooted}
 use Rattle.interleaving.specs.Views.{IsInner, IsRecordApart}
 use Rattle.interleaving.specs.Laws.{is_inner_record}
 use Rattle.interleaving.proofs.ContextLemmas.{IsAround, count_left, count_around}
-use Rattle.interleaving.proofs.WayLemmas.{cond-true, cond-false, same_self, reach-on}
+use Rattle.interleaving.proofs.WayLemmas.{cond-true, cond-false, reach-on}
 use Rattle.interleaving.proofs.RoundtripLemmas.{by_heights}
 use Rattle.interleaving.proofs.OpenSpotLemmas.{IsOpenSpot}
 use Rattle.interleaving.proofs.ClosingSoundLemmas.{IsFree}
@@ -34,9 +34,7 @@ use Rattle.interleaving.proofs.LowerListLemmas.{count_lower, count_split}
 use Rattle.interleaving.proofs.UpperBlindLemmas.{is_free_of, free_zero}
 use Rattle.interleaving.proofs.CutSegmentLemmas.{CutPart, cut_part}
 use Rattle.interleaving.proofs.PrunedBallLemmas.{placed_here, free_here, distinct_here}
-
-clash : {A : Type 0} → false ≡ true → A
-clash h = let no_way : ⊥ = cc in absurd no_way
+use Rattle.interleaving.proofs.TestLemmas.{false_true, number_same}
 
 -- the level of a node of the branch, and the scope that it is
 pub record ScopeAt (levels : List Level) (n : ℕ) : Type 0 where
@@ -47,7 +45,7 @@ pub record ScopeAt (levels : List Level) (n : ℕ) : Type 0 where
   pub scope : scope_on (way_of levels) n ≡ length level.left ∷ n ∷ []
 
 scope_level : (levels : List Level) (n : ℕ) → is_on (way_of levels) n ≡ true → ScopeAt levels n
-scope_level [] n h = clash h
+scope_level [] n h = false_true h
 scope_level (v ∷ up) n h = go (v.number == n) refl h (λ k. scope_level up n k)
   where
     go : (b : Bool) → (v.number == n) ≡ b → cond b true (is_on (way_of up) n) ≡ true → (is_on (way_of up) n ≡ true → ScopeAt up n)
@@ -81,7 +79,7 @@ inner_no_end inside h (EndOf s ∷ xs) e k = go (same h s) refl (inner_no_end in
   where
     go : (b : Bool) → same h s ≡ b → ends_in h xs ≡ false → (b || ends_in h xs) ≡ false
     go false q z = z
-    go true q z = clash (sym e ∙ (ap inside (same-true h s q) ∙ k.0))
+    go true q z = false_true (sym e ∙ (ap inside (same-true h s q) ∙ k.0))
 inner_no_end inside h (Credit j rs ∷ xs) e k = inner_no_end inside h xs e k.1
 inner_no_end inside h (Plain p f ∷ xs) e k = inner_no_end inside h xs e k.1
 inner_no_end inside h (Catch s u c r p f ∷ xs) e k = inner_no_end inside h xs e k.1
@@ -186,7 +184,7 @@ module _ (t : TreeState) (i : IsSoundTree t) (k : IsCaughtTree t) (running : t.h
       ≡ count_lower v.number n s.above +
       (one_if (v.number == v.number) + (count_left v.number v.left + count_among v.number v.right)) = cond-false (v.number == n) 0 _
       below in
-      let one : one_if (v.number == v.number) ≡ 1 = ap one_if (same_self v.number) in
+      let one : one_if (v.number == v.number) ≡ 1 = ap one_if (number_same v.number) in
       omega (arith, less, one)
 
   pub own_inside : cut.inside own ≡ true
@@ -206,7 +204,7 @@ module _ (t : TreeState) (i : IsSoundTree t) (k : IsCaughtTree t) (running : t.h
 
   -- numbers above
   pub here_on : (x : Level) (ys : List Level) → x.number ≡ n → is_on (way_of (x ∷ ys)) n ≡ true
-  here_on x ys e = cond-true (x.number == n) true _ (ap (λ r. x.number == r) (sym e) ∙ same_self x.number)
+  here_on x ys e = cond-true (x.number == n) true _ (ap (λ r. x.number == r) (sym e) ∙ number_same x.number)
 
   pub on_upper : (r : ℕ) → is_on (way_of (w ∷ up)) r ≡ true → 1 ≤ count_around r (w ∷ up)
   on_upper r z = on-counts r (w ∷ up) z

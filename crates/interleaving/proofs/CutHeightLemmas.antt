@@ -15,7 +15,7 @@ use Rattle.tree_model.specs.Ways.{is_on, in_reach, way_from, AreScoped}
 use Rattle.tree_model.specs.SoundTrees.{IsSoundTree}
 use Rattle.tree_model.specs.CaughtTrees.{IsCaughtTree}
 use Rattle.tree_model.specs.Elements.{Name, Record, Element, Credit, Plain, EndOf}
-use Rattle.interleaving.specs.Machine.{Machine, Takes, Seek, gives, free_steps, run, seen}
+use Rattle.interleaving.specs.Machine.{Machine, Infers, Seek, gives, free_steps, run, seen}
 use Rattle.interleaving.specs.Scopes.{Shared, Sought, Scope, act, scoped}
 use Rattle.interleaving.specs.Segments.{outer}
 use Rattle.interleaving.specs.Quiet.{IsQuiet, inferences, records}
@@ -23,7 +23,7 @@ use Rattle.interleaving.specs.Roots.{rooted}
 use Rattle.interleaving.specs.Views.{IsBlind, IsInner}
 use Rattle.interleaving.specs.Laws.{is_inner_record}
 use Rattle.interleaving.specs.HeightMachine.{HeightEntry}
-use Rattle.interleaving.specs.Erased.{count, height, with_height, erased}
+use Rattle.interleaving.specs.Erased.{element_count, height, with_height, erased}
 use Rattle.interleaving.specs.Sound.{IsSound}
 use Rattle.interleaving.specs.Follows.{lead}
 use Rattle.interleaving.proofs.ContextLemmas.{count_around}
@@ -186,7 +186,7 @@ module _ (t : TreeState) (i : IsSoundTree t) (k : IsCaughtTree t) (running : t.h
       ) in
       let apart : rooted (is_free_of (w ∷ up)) (sc r) ≡ false = ap (rooted (is_free_of (w ∷ up))) name.1
       ∙ (upper_apart t i k running s o f entry n reach below items part all g same_named same_next clear) r name.0 some in
-      sym (ap (height new_rest) far ∙ ap count
+      sym (ap (height new_rest) far ∙ ap element_count
       (from-inner (rooted (is_free_of (w ∷ up))) (EndOf (0 ∷ t.next ∷ []) ∷ bare_list cut_away) rest (sc r) inner apart))
 
   entries_same : erased (Plain own after_cut ∷ rest) ≡ erased (short ++ rest)
@@ -231,7 +231,7 @@ module _ (t : TreeState) (i : IsSoundTree t) (k : IsCaughtTree t) (running : t.h
       ∙ ap erased (append-assoc front (Credit number rows ∷ []) (second ++ tail) ∙ ap (λ l. front ++ (Credit number rows ∷ l)) joined))
 
   pub cut_moves : (es : List Entry) → act t.job.clauses (bare t.job.clauses own named)
-      ≡ Takes (Seek (Scope (scope_on (way_of (levels_of s)) n) (Plain own after_cut)))
+      ≡ Infers (Seek (Scope (scope_on (way_of (levels_of s)) n) (Plain own after_cut)))
       → IsSound (pending_list (cut_at s n (cut_entry ∷ es) t).root) → PruneMoves t (cut_at s n (cut_entry ∷ es) t)
   cut_moves es takes j =
       let clauses = t.job.clauses in

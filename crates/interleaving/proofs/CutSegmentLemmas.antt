@@ -13,20 +13,18 @@ use Rattle.tree_model.specs.SoundTrees.{one_if, count_in, count_among, count_bel
 use Rattle.tree_model.specs.Elements.{Name, Record, Element, Credit, Plain, EndOf, Catch, Findall, End}
 use Rattle.interleaving.specs.Roots.{extends, rooted}
 use Rattle.interleaving.specs.Views.{IsGrown, IsItemApart, IsRecordApart, IsBlind, IsInner, IsUnder}
-use Rattle.interleaving.proofs.WayLemmas.{same_self}
 use Rattle.interleaving.proofs.ContextLemmas.{IsAround, count_around}
 use Rattle.interleaving.proofs.AppendLemmas.{each-append}
-use Rattle.interleaving.proofs.RootLemmas.{are_told}
+use Rattle.interleaving.proofs.RootLemmas.{are_distinguished}
 use Rattle.interleaving.proofs.NamingLemmas.{same-itself}
 use Rattle.interleaving.proofs.BesideLemmas.{Out, out_more}
 use Rattle.interleaving.proofs.ClosingSoundLemmas.{IsFree}
-use Rattle.interleaving.proofs.BaredLemmas.{made_at, made_grown, either_true, first_true}
+use Rattle.interleaving.proofs.BaredLemmas.{made_at, made_grown}
 use Rattle.interleaving.proofs.SideLemmas.{at_least, out_other, out_index, is_old, front_blind as made_front_blind}
 use Rattle.interleaving.proofs.LowerListLemmas.{among_inner}
 use Rattle.interleaving.proofs.UpperBlindLemmas.{is_free_of, free_zero, zero_free, upper_front, upper_back, blind_is_under}
-
-clash : {A : Type 0} → false ≡ true → A
-clash h = let no_way : ⊥ = cc in absurd no_way
+use Rattle.interleaving.proofs.TestLemmas.{false_true, none_true, number_same}
+use Rattle.au_model.proofs.ApplyLemmas.{or_left, or_right}
 
 -- the parts of the list round the segment
 pub record CutPart (w : Level) (up : List Level) : Type 0 where
@@ -43,38 +41,33 @@ pub record CutPart (w : Level) (up : List Level) : Type 0 where
   pub inner : Each (IsInner inside) right
   pub beyond : Each (IsUnder inside) under
 
--- two of them at once
-either_false : (a b : Bool) → a ≡ false → b ≡ false → (a || b) ≡ false
-either_false false b h k = k
-either_false true b h k = clash (sym h)
-
 module _ (a b : Name → Bool) where
   both_rows : (rs : List Record) → Each (IsRecordApart a) rs → Each (IsRecordApart b) rs → Each (IsRecordApart (λ s. a s || b s)) rs
   both_rows [] h k = tt
-  both_rows (r ∷ rs) h k = (either_false (a r.0) (b r.0) h.0 k.0, both_rows rs h.1 k.1)
+  both_rows (r ∷ rs) h k = (none_true (a r.0) (b r.0) h.0 k.0, both_rows rs h.1 k.1)
 
   both_items : (items : List (Item Name)) → Each (IsItemApart a) items → Each (IsItemApart b) items
       → Each (IsItemApart (λ s. a s || b s)) items
   both_items [] h k = tt
-  both_items (GoalItem t s ∷ items) h k = (either_false (a s) (b s) h.0 k.0, both_items items h.1 k.1)
-  both_items (CatchMark s ∷ items) h k = (either_false (a s) (b s) h.0 k.0, both_items items h.1 k.1)
-  both_items (CollectMark t s ∷ items) h k = (either_false (a s) (b s) h.0 k.0, both_items items h.1 k.1)
+  both_items (GoalItem t s ∷ items) h k = (none_true (a s) (b s) h.0 k.0, both_items items h.1 k.1)
+  both_items (CatchMark s ∷ items) h k = (none_true (a s) (b s) h.0 k.0, both_items items h.1 k.1)
+  both_items (CollectMark t s ∷ items) h k = (none_true (a s) (b s) h.0 k.0, both_items items h.1 k.1)
   both_items (RemovalItem n ∷ items) h k = (tt, both_items items h.1 k.1)
 
   pub both_blind : (xs : List Element) → Each (IsBlind a) xs → Each (IsBlind b) xs → Each (IsBlind (λ s. a s || b s)) xs
   both_blind [] h k = tt
   both_blind (Credit n rs ∷ xs) h k = (both_rows rs h.0 k.0, both_blind xs h.1 k.1)
   both_blind (Plain p f ∷ xs) h k = (
-    (λ more. either_false (a (more ++ p)) (b (more ++ p)) (h.0.0 more) (k.0.0 more), both_items f.items h.0.1 k.0.1),
+    (λ more. none_true (a (more ++ p)) (b (more ++ p)) (h.0.0 more) (k.0.0 more), both_items f.items h.0.1 k.0.1),
     both_blind xs
         h.1 k.1,
   )
   both_blind (EndOf s ∷ xs) h k = (tt, both_blind xs h.1 k.1)
   both_blind (Catch s u c r p f ∷ xs) h k = (
     (
-      either_false (a s) (b s) h.0.0 k.0.0,
-      either_false (a u) (b u) h.0.1 k.0.1,
-      (λ more. either_false (a (more ++ p)) (b (more ++ p)) (h.0.2 more) (k.0.2 more)),
+      none_true (a s) (b s) h.0.0 k.0.0,
+      none_true (a u) (b u) h.0.1 k.0.1,
+      (λ more. none_true (a (more ++ p)) (b (more ++ p)) (h.0.2 more) (k.0.2 more)),
       both_items f.items h.0.3 k.0.3,
     ),
     both_blind
@@ -82,15 +75,15 @@ module _ (a b : Name → Bool) where
   )
   both_blind (Findall s u results l p f ∷ xs) h k = (
     (
-      either_false (a s) (b s) h.0.0 k.0.0,
-      either_false (a u) (b u) h.0.1 k.0.1,
-      (λ more. either_false (a (more ++ p)) (b (more ++ p)) (h.0.2 more) (k.0.2 more)),
+      none_true (a s) (b s) h.0.0 k.0.0,
+      none_true (a u) (b u) h.0.1 k.0.1,
+      (λ more. none_true (a (more ++ p)) (b (more ++ p)) (h.0.2 more) (k.0.2 more)),
       both_items f.items h.0.3 k.0.3,
     ),
     both_blind
         xs h.1 k.1,
   )
-  both_blind (End p e ∷ xs) h k = ((λ more. either_false (a (more ++ p)) (b (more ++ p)) (h.0 more) (k.0 more)), both_blind xs h.1 k.1)
+  both_blind (End p e ∷ xs) h k = ((λ more. none_true (a (more ++ p)) (b (more ++ p)) (h.0 more) (k.0 more)), both_blind xs h.1 k.1)
 
 -- no findall of the segment is where none of its nodes does
 module _ (inside : Name → Bool) where
@@ -106,7 +99,7 @@ module _ (inside : Name → Bool) where
   mutual
     under_node : (way : Way) (node : Node) → ((m : ℕ) → 1 ≤ count_in m node → OutOf m) → Each (IsUnder inside) (list_in way node)
     under_node way (Numbered n kind alternatives) h = under_among way n kind 0 alternatives
-        (h n (let z : one_if (n == n) ≡ 1 = ap one_if (same_self n) in omega (arith, z))) (λ m l. h m (omega (arith, l)))
+        (h n (let z : one_if (n == n) ≡ 1 = ap one_if (number_same n) in omega (arith, z))) (λ m l. h m (omega (arith, l)))
 
     pub under_among : (way : Way) (n : ℕ) (kind : Kind) (i : ℕ) (others : Alternatives) → OutOf n
         → ((m : ℕ) → 1 ≤ count_among m others → OutOf m) → Each (IsUnder inside) (list_among way n kind i others)
@@ -142,7 +135,7 @@ module _ (next : ℕ) (w : Level) (up : List Level) (a : IsAround (w ∷ up) IsO
     ok = is_free_of up;
     right = right;
     under = back_of up;
-    grown = are_told.root (is_free_of up);
+    grown = are_distinguished.root (is_free_of up);
     front = each-append (IsBlind inside) (front_of up) _ (upper_front up a.1)
         (tt, subst (λ l. Each (IsBlind inside) (list_left (way_of up) w.number w.kind l)) (sym empty) tt);
     named = λ s h. h;
@@ -162,7 +155,7 @@ module _ (next : ℕ) (w : Level) (up : List Level) (a : IsAround (w ∷ up) IsO
 
       own : is_free_of up w.number ≡ true
       own = zero_free up w.number (let most = free.distinct w.number in let one : one_if (w.number == w.number)
-          ≡ 1 = ap one_if (same_self w.number) in omega (arith, most, one))
+          ≡ 1 = ap one_if (number_same w.number) in omega (arith, most, one))
 
   -- below a later one
   later_part : (length w.left ≡ 0 → ⊥) → CutPart w up
@@ -173,10 +166,10 @@ module _ (next : ℕ) (w : Level) (up : List Level) (a : IsAround (w ∷ up) IsO
     under = list_among (way_of up) w.number w.kind (suc (length w.left)) w.right ++ back_of up;
     grown = grown;
     front = both_blind made low (front_of (w ∷ up)) (made_front_blind next w up free a) (upper_front (w ∷ up) a);
-    named = λ s h. either_true (made s) (low s) h;
+    named = λ s h. or_right (made s) (low s) h;
     free = λ m c. zero_free (w ∷ up) m c;
-    scope = first_true (made (length w.left ∷ w.number ∷ [])) _
-        (first_true (extends (length w.left ∷ w.number ∷ []) (length w.left ∷ w.number ∷ [])) _ itself);
+    scope = or_left (made (length w.left ∷ w.number ∷ [])) _
+        (or_left (extends (length w.left ∷ w.number ∷ []) (length w.left ∷ w.number ∷ [])) _ itself);
     parted = refl;
     inner = tt;
     beyond = (under_back (λ s. made s || low s) (w ∷ up) out).1;
@@ -189,16 +182,17 @@ module _ (next : ℕ) (w : Level) (up : List Level) (a : IsAround (w ∷ up) IsO
       low = rooted (is_free_of (w ∷ up))
 
       itself : extends (length w.left ∷ w.number ∷ []) (length w.left ∷ w.number ∷ []) ≡ true
-      itself = first_true _ _ (same-itself (length w.left ∷ w.number ∷ []))
+      itself = or_left _ _ (same-itself (length w.left ∷ w.number ∷ []))
 
       grown : IsGrown (λ s. made_at (length w.left ∷ w.number ∷ []) next s || rooted (is_free_of (w ∷ up)) s)
       grown i s h = go (made_at (length w.left ∷ w.number ∷ []) next s) refl h
         where
           go : (b : Bool) → made_at (length w.left ∷ w.number ∷ []) next s ≡ b → (b || rooted (is_free_of (w ∷ up)) s) ≡ true
               → (made_at (length w.left ∷ w.number ∷ []) next (i ∷ s) || rooted (is_free_of (w ∷ up)) (i ∷ s)) ≡ true
-          go true e k = first_true (made_at (length w.left ∷ w.number ∷ []) next (i ∷ s)) _
+          go true e k = or_left (made_at (length w.left ∷ w.number ∷ []) next (i ∷ s)) _
               (made_grown (length w.left ∷ w.number ∷ []) next i s e)
-          go false e k = either_true (made_at (length w.left ∷ w.number ∷ []) next (i ∷ s)) _ (are_told.root (is_free_of (w ∷ up)) i s k)
+          go false e k = or_right (made_at (length w.left ∷ w.number ∷ []) next (i ∷ s)) _
+              (are_distinguished.root (is_free_of (w ∷ up)) i s k)
 
       kept : (m : ℕ) → 1 ≤ count_around m (w ∷ up) → is_free_of (w ∷ up) m ≡ false
       kept m l = go (is_free_of (w ∷ up) m) refl
@@ -209,7 +203,7 @@ module _ (next : ℕ) (w : Level) (up : List Level) (a : IsAround (w ∷ up) IsO
 
       out : (m : ℕ) → 1 ≤ count_around m (w ∷ up)
           → (made_at (length w.left ∷ w.number ∷ []) next (0 ∷ m ∷ []) || rooted (is_free_of (w ∷ up)) (0 ∷ m ∷ [])) ≡ false
-      out m l = either_false (made_at (length w.left ∷ w.number ∷ []) next (0 ∷ m ∷ [])) (is_free_of (w ∷ up) m)
+      out m l = none_true (made_at (length w.left ∷ w.number ∷ []) next (0 ∷ m ∷ [])) (is_free_of (w ∷ up) m)
           (by_number (w.number == m) refl) (kept m l)
         where
           old : suc m ≤ next
@@ -221,7 +215,8 @@ module _ (next : ℕ) (w : Level) (up : List Level) (a : IsAround (w ∷ up) IsO
               (out_index (length w.left) w.number next 0 some (subst (λ n. suc n ≤ next) (sym same) old))) []
           by_number false e = out_more (length w.left) w.number next 0 m
               (out_other (length w.left) w.number next m
-              (λ z. let no_way : false ≡ true = sym e ∙ (ap (λ n. w.number == n) (sym z) ∙ same_self w.number) in clash no_way) old 0)
+              (λ z. let no_way : false ≡ true = sym e ∙ (ap (λ n. w.number == n) (sym z)
+              ∙ number_same w.number) in false_true no_way) old 0)
               []
 
   pub cut_part : CutPart w up

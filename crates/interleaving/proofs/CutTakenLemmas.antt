@@ -15,7 +15,7 @@ use Rattle.tree_model.specs.Ways.{in_reach, way_from, AreScoped}
 use Rattle.tree_model.specs.SoundTrees.{IsSoundTree}
 use Rattle.tree_model.specs.CaughtTrees.{IsCaughtTree}
 use Rattle.tree_model.specs.Elements.{Name, Record, Element, Credit, Plain, EndOf}
-use Rattle.interleaving.specs.Machine.{Machine, Takes, Seek, gives}
+use Rattle.interleaving.specs.Machine.{Machine, Infers, Seek, gives}
 use Rattle.interleaving.specs.Scopes.{Shared, Sought, Scope, act, scoped}
 use Rattle.interleaving.specs.Segments.{outer}
 use Rattle.interleaving.specs.Quiet.{IsQuiet, inferences, records}
@@ -24,8 +24,7 @@ use Rattle.interleaving.specs.Views.{IsInner}
 use Rattle.interleaving.specs.Laws.{is_inner_record, IsSegment, MayBecome}
 use Rattle.interleaving.proofs.RoundtripLemmas.{by_heights}
 use Rattle.interleaving.proofs.OpenSpotLemmas.{IsOpenSpot}
-use Rattle.interleaving.proofs.AppendLemmas.{append-assoc, each-append}
-use Rattle.interleaving.proofs.RunFrontLemmas.{append-none}
+use Rattle.interleaving.proofs.AppendLemmas.{append-assoc, each-append, append-nil}
 use Rattle.interleaving.proofs.ListChangeLemmas.{becomes as private_becomes}
 use Rattle.interleaving.proofs.ClockLemmas.{AreClear, quiet-append}
 use Rattle.interleaving.proofs.ListEndLemmas.{ends_in}
@@ -192,13 +191,13 @@ module _ (t : TreeState) (i : IsSoundTree t) (k : IsCaughtTree t) (running : t.h
   abbrev number : ℕ
   number = inferences xs + 1
 
-  -- the (cut t i k running s o f entry n reach below items part all g same_named same_next clear), taken (at t i k running s o f entry n reach below items part all g same_named same_next clear) once
+  -- the cut, taken at once
   abbrev old_taken : List Element
   old_taken = front ++ (Credit number rows
       ∷ (Plain own after_cut ∷ (EndOf h
       ∷ (given ++ (cut t i k running s o f entry n reach below items part all g same_named same_next clear).under))))
 
-  pub old_becomes : act t.job.clauses (bare t.job.clauses own named) ≡ Takes (Seek (Scope (sc n) (Plain own after_cut)))
+  pub old_becomes : act t.job.clauses (bare t.job.clauses own named) ≡ Infers (Seek (Scope (sc n) (Plain own after_cut)))
       → MayBecome t.job.clauses (front
       ++ ((xs ++ (Plain own named ∷ mid))
       ++ (cut t i k running s o f entry n reach below items part all g same_named same_next clear).under)) old_taken
@@ -206,8 +205,8 @@ module _ (t : TreeState) (i : IsSoundTree t) (k : IsCaughtTree t) (running : t.h
       let clauses = t.job.clauses in
       let x = Plain own after_cut in
       let quiet = quiet-append low (Credit v.spent [] ∷ []) quiet_low tt in
-      let seeks : act clauses (bare clauses own named) ≡ Takes (Seek (Scope h x)) = takes
-      ∙ ap (λ y. Takes (Seek (Scope y x)))
+      let seeks : act clauses (bare clauses own named) ≡ Infers (Seek (Scope h x)) = takes
+      ∙ ap (λ y. Infers (Seek (Scope y x)))
       (at t i k running s o f entry n reach below items part all g same_named same_next clear).scope in
       let found = scope_pass clauses h x rs (lower_back n levels)
       (EndOf h ∷ (cut t i k running s o f entry n reach below items part all g same_named same_next clear).right) no_end
@@ -221,7 +220,7 @@ module _ (t : TreeState) (i : IsSoundTree t) (k : IsCaughtTree t) (running : t.h
       ++ (cut t i k running s o f entry n reach below items part all g same_named same_next clear).under))
       (front ++ (Credit number l ∷ (x
       ∷ (EndOf h ∷ (given ++ (cut t i k running s o f entry n reach below items part all g same_named same_next clear).under))))))
-      (append-none rows)
+      (append-nil rows)
       (private_becomes clauses (cut t i k running s o f entry n reach below items part all g same_named same_next clear).inside number
       (rows ++ []) front (xs ++ (Plain own named ∷ mid)) (x ∷ (EndOf h ∷ given))
       (cut t i k running s o f entry n reach below items part all g same_named same_next clear).under

@@ -37,10 +37,11 @@ use Rattle.interleaving.proofs.ListEndLemmas.{levels_down}
 use Rattle.interleaving.proofs.PlacedNameLemmas.{bare as bare_list}
 use Rattle.interleaving.proofs.LowerListLemmas.{lower_front, lower_back, count_lower}
 use Rattle.interleaving.proofs.BallFollowsLemmas.{some_count}
-use Rattle.interleaving.proofs.PrunedListLemmas.{pruned_way, pruned_front, lower_pruned, pruned_back, EndsOf, ends_inner, ends_fixed}
+use Rattle.interleaving.proofs.PrunedListLemmas.{pruned_front, lower_pruned, pruned_back, EndsOf, ends_inner, ends_fixed}
 use Rattle.interleaving.proofs.PrunedListLemmas.{lower_ends}
 use Rattle.interleaving.proofs.CutFollowsLemmas.{at, cut, low_ok, next_inside, next_own, scope_inside}
 use Rattle.interleaving.proofs.CutTakenLemmas.{back_is, front_is, lower, quiet_low}
+use Rattle.interleaving.proofs.GrowingLemmas.{pruned_way}
 
 module _ (t : TreeState) (i : IsSoundTree t) (k : IsCaughtTree t) (running : t.halted ≡ None) (s : Spot) (o : IsOpenSpot t.root s)
     (f : Continuation ℕ) (entry : s.entry ≡ PlainEntry f)

@@ -5,20 +5,21 @@ use Rattle.std.proofs.lemmas.Bool.{false≢true}
 use Rattle.std.specs.Option.{option_map}
 use Rattle.au_model.specs.Terms.Each.{Each}
 use Rattle.run_model.specs.Programs.Clauses.{Clause}
-use Rattle.interleaving.specs.Machine.{Machine, Act, Vanishes, Wakes, Takes, Asks, gives, Alike}
+use Rattle.interleaving.specs.Machine.{Machine, Act, Drops, Becomes, Infers, AsksWorld, gives, Alike}
 use Rattle.tree_model.specs.Elements.{Name, Record, Element, Credit}
 use Rattle.interleaving.specs.Scopes.{Shared, Sought, scoped}
 use Rattle.interleaving.specs.Segments.{all_inner, outer, placed_in, freed_alone, free_steps_alone, go_on, taken_alone, front_alone}
 use Rattle.interleaving.specs.Segments.{run_alone, Private}
 use Rattle.interleaving.specs.Views.{IsGrown, IsRecordApart, IsBlind, IsInner, IsUnder}
 use Rattle.interleaving.specs.Laws.{is_inner_record, alone, run_off, IsSegment, SameAlone}
-use Rattle.interleaving.proofs.RunFrontLemmas.{append-none, some-same, none-some}
+use Rattle.interleaving.proofs.RunFrontLemmas.{some-same, none-some}
 use Rattle.interleaving.proofs.EarlyLemmas.{Ground, Early, early}
 use Rattle.interleaving.proofs.AloneLemmas.{private_of_alone, private_runs, private-ok}
-use Rattle.interleaving.proofs.ApartLemmas.{IsSoughtApart, blind_closed, inner_unseen, inner-keeps}
-use Rattle.interleaving.proofs.InsideLemmas.{IsSoughtInner, IsAnyRecord, inner_closed, under_ground, kept_inside}
-use Rattle.interleaving.proofs.InsideStepLemmas.{woken_active, still_goes, inner_stands}
+use Rattle.interleaving.proofs.ApartLemmas.{IsSoughtApart, blind_closed, inner_unseen, inner-preserves}
+use Rattle.interleaving.proofs.InsideLemmas.{IsSoughtInner, IsAnyRecord, inner_closed, under_ground, preserved_inside}
+use Rattle.interleaving.proofs.InsideStepLemmas.{become_active, still_drops, inner_stands}
 use Rattle.interleaving.proofs.QuietCreditLemmas.{private-outer}
+use Rattle.interleaving.proofs.AppendLemmas.{append-nil}
 
 module _ (clauses : List Clause) where
   abbrev m : Machine Shared Element Sought Record
@@ -30,7 +31,7 @@ module _ (clauses : List Clause) where
   gives-apart : (inside : Name → Bool) (rs : List Record) (x : Element) → Each (IsRecordApart inside) rs → IsInner inside x
       → gives m rs x ≡ x
   gives-apart inside [] x h i = refl
-  gives-apart inside (r ∷ rs) x h i = ap (gives m rs) (inner-keeps clauses inside r x i h.0) ∙ gives-apart inside rs x h.1 i
+  gives-apart inside (r ∷ rs) x h i = ap (gives m rs) (inner-preserves clauses inside r x i h.0) ∙ gives-apart inside rs x h.1 i
 
   map-apart : (inside : Name → Bool) (rs : List Record) (xs : List Element) → Each (IsRecordApart inside) rs → Each (IsInner inside) xs
       → map (gives m rs) xs ≡ xs
@@ -49,8 +50,8 @@ module _ (clauses : List Clause) where
     pub own : Each (IsInner inside) a
     pub under : Each (IsUnder inside) zs
 
-  pub standing : (inside : Name → Bool) (pre a zs : List Element) → IsSegment inside pre a zs → Pending inside pre a zs
-  standing inside pre a zs s = record { grown = s.grown; front = s.front; own = s.own; under = s.under }
+  pub segment_pending : (inside : Name → Bool) (pre a zs : List Element) → IsSegment inside pre a zs → Pending inside pre a zs
+  segment_pending inside pre a zs s = record { grown = s.grown; front = s.front; own = s.own; under = s.under }
 
   -- what is done privately may be done early
   pub private_early : (inside : Name → Bool) (k : ℕ) (rs : List Record) (pre a b zs : List Element) → Pending inside pre a zs
@@ -60,7 +61,7 @@ module _ (clauses : List Clause) where
       let inner = private_inner inside k rs a b s.grown s.own r in
       let e : Early m g (IsBlind inside) (IsSoughtApart clauses inside) (IsRecordApart inside) (blind_closed clauses inside) k rs a b =
       record {
-        runs = private_runs m (is_inner_record inside) g (λ o. kept_inside clauses inside o) (woken_active clauses) k rs a b r;
+        runs = private_runs m (is_inner_record inside) g (λ o. preserved_inside clauses inside o) (become_active clauses) k rs a b r;
         own = map-apart inside rs b (private-outer m (is_inner_record inside) k rs a b r) inner;
         old = inner_unseen clauses inside a s.own;
         new = inner_unseen clauses inside b inner;
@@ -71,12 +72,12 @@ module _ (clauses : List Clause) where
   pub done_alike : (inside : Name → Bool) (k : ℕ) (rs : List Record) (pre a b zs : List Element) → Pending inside pre a zs
       → run_off clauses inside k a ≡ Some (rs, b) → Alike m (pre ++ (a ++ zs)) (pre ++ (Credit k rs ∷ (b ++ zs)))
   done_alike inside k rs pre a b zs s e = private_early inside k rs pre a b zs s
-      (private_of_alone m (is_inner_record inside) (λ new. true) (still_goes clauses) k a b rs e)
+      (private_of_alone m (is_inner_record inside) (λ new. true) (still_drops clauses) k a b rs e)
 
   pub same_alone : SameAlone clauses
   same_alone inside k rs pre a c b zs s i e f n w =
-      done_alike inside k rs pre a b zs (standing inside pre a zs s) e n w
-      ∙ sym (done_alike inside k rs pre c b zs (standing inside pre c zs i) f n w)
+      done_alike inside k rs pre a b zs (segment_pending inside pre a zs s) e n w
+      ∙ sym (done_alike inside k rs pre c b zs (segment_pending inside pre c zs i) f n w)
 
   -- where collect marks are left standing no record leaves
   all-append : (inner : Record → Bool) (rs qs : List Record) → all_inner inner rs ≡ true → all_inner inner qs ≡ true
@@ -114,10 +115,10 @@ module _ (clauses : List Clause) where
           → ((new : List Record) → all_inner inner new ≡ true → (free_steps_alone m inner (all_inner inner) (rs ++ new) xs).0 ≡ [])
           → (freed_alone m inner (all_inner inner) a (gives m rs x) rs
           (λ new. free_steps_alone m inner (all_inner inner) (rs ++ new) xs) (map (gives m rs) xs)).0 ≡ []
-      go (Vanishes new) next = pick new (all_inner inner new) refl (next new)
-      go (Wakes y) next = outer-none inner rs h
-      go (Takes p) next = outer-none inner rs h
-      go (Asks p) next = outer-none inner rs h
+      go (Drops new) next = pick new (all_inner inner new) refl (next new)
+      go (Becomes y) next = outer-none inner rs h
+      go (Infers p) next = outer-none inner rs h
+      go (AsksWorld p) next = outer-none inner rs h
 
   abbrev ahead : List Record → List Record × List Element → List Record × List Element
   ahead first t = (first ++ t.0, t.1)
@@ -142,7 +143,7 @@ module _ (clauses : List Clause) where
       taken (Some t) next h =
           let whole = some-same (ahead first t) (rs, b) h in
           let none : t.0 ≡ [] = next t refl in
-          sym (ap (λ s. s.0) whole) ∙ ap (λ l. first ++ l) none ∙ append-none first ∙ settles-none inner [] a refl
+          sym (ap (λ s. s.0) whole) ∙ ap (λ l. first ++ l) none ∙ append-nil first ∙ settles-none inner [] a refl
 
       place : (o : Option (List Element))
           → option_map (ahead first) (go_on m inner (all_inner inner) o (run_alone m inner (all_inner inner) k)) ≡ Some (rs, b) → Later
@@ -153,10 +154,10 @@ module _ (clauses : List Clause) where
       act-of : (o : Act Shared Element Sought Record) (xs : List Element)
           → option_map (ahead first) (taken_alone m inner (all_inner inner) o (run_alone m inner (all_inner inner) k) xs) ≡ Some (rs, b)
           → Later → rs ≡ []
-      act-of (Vanishes new) xs h next = none-some (rs, b) h
-      act-of (Wakes y) xs h next = none-some (rs, b) h
-      act-of (Asks p) xs h next = none-some (rs, b) h
-      act-of (Takes p) xs h next = place (placed_in m p xs) h next
+      act-of (Drops new) xs h next = none-some (rs, b) h
+      act-of (Becomes y) xs h next = none-some (rs, b) h
+      act-of (AsksWorld p) xs h next = none-some (rs, b) h
+      act-of (Infers p) xs h next = place (placed_in m p xs) h next
 
       front : (ys : List Element) → option_map (ahead first)
           (front_alone m inner (all_inner inner) ys (run_alone m inner (all_inner inner) k)) ≡ Some (rs, b) → Later → rs ≡ []
@@ -177,4 +178,4 @@ module _ (clauses : List Clause) where
           let none : t.0 ≡ [] = none-leave inner k a t.1 t.0 f in
           subst (λ l. Private m inner k l a b) none
           (subst (Private m inner k t.0 a) (some-same t.1 b h)
-          (private_of_alone m inner (all_inner inner) (still_goes clauses) k a t.1 t.0 f))
+          (private_of_alone m inner (all_inner inner) (still_drops clauses) k a t.1 t.0 f))

@@ -1,10 +1,12 @@
 -- Work that a segment does by itself may be done early.
 use Rattle.std.proofs.Common.{◌≡◌, inl, inr, ℕ, zero, suc, false, List, [], ◌∷◌, ◌++◌, map, refl, sym, ap, ◌∙◌, subst}
 use Rattle.au_model.specs.Terms.Each.{Each}
-use Rattle.interleaving.specs.Machine.{Machine, Act, Vanishes, Wakes, Takes, Asks, On, Place, Put, gives, looked, search_for, placed}
-use Rattle.interleaving.specs.Machine.{freed, free_steps, acted, step, run, is_over, seen, Alike}
-use Rattle.interleaving.proofs.RunFrontLemmas.{append-assoc-at, maps-append, map-seam, map-none, settle-map, PlaceOk, ActOk, Closed}
+use Rattle.interleaving.specs.Machine.{Machine, Act, Drops, Becomes, Infers, AsksWorld, On, Replacement, Put, gives, looked, search_for}
+use Rattle.interleaving.specs.Machine.{placed}
+use Rattle.interleaving.specs.Machine.{freed, free_steps, acted, step, run, is_finished, seen, Alike}
+use Rattle.interleaving.proofs.RunFrontLemmas.{maps-append, map-seam, map-none, settle-map, PlaceOk, ActOk, Closed}
 use Rattle.interleaving.proofs.RunFrontLemmas.{Unseen, gives-unseen, map-unseen, search-unseen, Freed, freed-found, placed-found}
+use Rattle.interleaving.proofs.AppendLemmas.{append-assoc}
 
 module _ {W X Q R : Type 0} (m : Machine W X Q R) where
   -- what may be under a segment, and credits: inferences that change nothing, and records
@@ -12,8 +14,8 @@ module _ {W X Q R : Type 0} (m : Machine W X Q R) where
     pub Under : X → Type 0
     pub given : (r : R) (x : X) → Under x → Under (m.give r x)
     pub credit : ℕ → List R → X
-    pub spent : (rs : List R) → m.act (credit zero rs) ≡ Vanishes rs
-    pub spends : (k : ℕ) (rs : List R) → m.act (credit (suc k) rs) ≡ Takes (Put (credit k rs ∷ []))
+    pub spent : (rs : List R) → m.act (credit zero rs) ≡ Drops rs
+    pub spends : (k : ℕ) (rs : List R) → m.act (credit (suc k) rs) ≡ Infers (Put (credit k rs ∷ []))
     pub fixed : (r : R) (k : ℕ) (rs : List R) → m.give r (credit k rs) ≡ credit k rs
     pub passed : (q : Q) (k : ℕ) (rs : List R) → m.look q (credit k rs) ≡ On q
 
@@ -31,7 +33,7 @@ module _ {W X Q R : Type 0} (m : Machine W X Q R) where
     abbrev pub Runs : ℕ → List R → List X → List X → Type 0
     Runs zero rs a b = (zs : List X) → Each g.Under zs → free_steps m [] (a ++ zs) ≡ free_steps m [] (b ++ map (gives m rs) zs)
     Runs (suc k) rs a b = (s : List X) × (first : List R) × (rest : List R) × rs
-        ≡ first ++ rest × ((zs : List X) → Each g.Under zs → is_over (free_steps m [] (a ++ zs)) ≡ false)
+        ≡ first ++ rest × ((zs : List X) → Each g.Under zs → is_finished (free_steps m [] (a ++ zs)) ≡ false)
         × ((w : W) (zs : List X) → Each g.Under zs → step m w (free_steps m [] (a ++ zs))
         ≡ (w, free_steps m [] (s ++ map (gives m first) zs))) × Runs k rest s b
 
@@ -58,7 +60,7 @@ module _ {W X Q R : Type 0} (m : Machine W X Q R) where
         ap (λ t. (w, t)) (h.4 (map (gives m before) zs) (z-map before zs z))
         ∙ sym (ap (λ l. seen (w, l)) (next_front k (before ++ rs) (b ++ zs)))
     front (suc k) (suc n) w before rs a b zs h z e =
-        let same : before ++ rs ≡ (before ++ h.1) ++ h.2 = ap (λ l. before ++ l) h.3 ∙ sym (append-assoc-at before h.1 h.2) in
+        let same : before ++ rs ≡ (before ++ h.1) ++ h.2 = ap (λ l. before ++ l) h.3 ∙ sym (append-assoc before h.1 h.2) in
         let left = h.5 w (map (gives m before) zs) (z-map before zs z) in
         let right = ap (λ l. step m w l) (next_front k (before ++ rs) (b ++ zs)) ∙ next_step k (before ++ rs) w (b ++ zs) in
         ap (λ s. seen (run m n s.0 s.1)) left ∙ ap (λ l. seen (run m n w (free_steps m [] (h.0 ++ l))))
@@ -96,7 +98,7 @@ module _ {W X Q R : Type 0} (m : Machine W X Q R) where
 
         module _ (n : ℕ) (next : (w : W) (pre zs : List X) → Each P pre → Each g.Under zs
             → Same n w (free_steps m [] (pre ++ (a ++ zs))) (free_steps m [] (pre ++ later zs))) where
-          placing : (w : W) (p : Place X Q) (new zs : List X) → PlaceOk m P K G p → Each P new → Each g.Under zs
+          placing : (w : W) (p : Replacement X Q) (new zs : List X) → PlaceOk m P K G p → Each P new → Each g.Under zs
               → Same n w (free_steps m [] (placed m p (new ++ (a ++ zs)))) (free_steps m [] (placed m p (new ++ later zs)))
           placing w p new zs ok h z = elim (placed-found m P K G c p new ok h) [
             | inl f ↦ ap (λ l. seen (run m n w (free_steps m [] l))) (f.2 (a ++ zs)) ∙ next w f.0 zs f.1 z
@@ -112,10 +114,10 @@ module _ {W X Q R : Type 0} (m : Machine W X Q R) where
           acting : (w : W) (t : Act W X Q R) (x : X) (new zs : List X) → ActOk m P K G t → Each P new → Each g.Under zs
               → seen (run m n (acted m t w x (new ++ (a ++ zs))).0 (acted m t w x (new ++ (a ++ zs))).1)
               ≡ seen (run m n (acted m t w x (new ++ later zs)).0 (acted m t w x (new ++ later zs)).1)
-          acting w (Vanishes r) x new zs ok h z = next w new zs h z
-          acting w (Wakes y) x new zs ok h z = next w (y ∷ new) zs (ok, h) z
-          acting w (Takes p) x new zs ok h z = placing w p new zs ok h z
-          acting w (Asks g) x new zs ok h z = placing (g w).0 (g w).1 new zs (ok w) h z
+          acting w (Drops r) x new zs ok h z = next w new zs h z
+          acting w (Becomes y) x new zs ok h z = next w (y ∷ new) zs (ok, h) z
+          acting w (Infers p) x new zs ok h z = placing w p new zs ok h z
+          acting w (AsksWorld g) x new zs ok h z = placing (g w).0 (g w).1 new zs (ok w) h z
 
         agree : (n : ℕ) → ((w : W) (x : X) (new zs : List X) → P x → Each P new → Each g.Under zs
             → Same n w (x ∷ (new ++ (a ++ zs))) (x ∷ (new ++ later zs))) → (w : W) (pre zs : List X) → Each P pre → Each g.Under zs

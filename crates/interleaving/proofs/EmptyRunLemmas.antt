@@ -1,14 +1,10 @@
 -- A private run that leaves nothing takes its place in the list to a credit.
-use Rattle.std.proofs.Common.{◌≡◌, ℕ, ◌+◌, ◌≤◌, ◌⊎◌, inl, inr, true, false, List, [], ◌∷◌, ◌++◌, Option, Some, None, refl, sym, ap, ◌∙◌}
+use Rattle.std.proofs.Common.{◌≡◌, ◌+◌, ◌≤◌, ◌⊎◌, inl, inr, true, false, List, [], ◌∷◌, ◌++◌, Option, Some, None, refl, sym, ap, ◌∙◌}
 use Rattle.std.proofs.Common.{subst, arith}
-use Rattle.run_model.specs.Machine.Items.{Continuation}
 use Rattle.run_model.specs.Machine.Entries.{Entry, PlainEntry, CatchEntry, FindallEntry, EndEntry}
 use Rattle.tree_model.specs.Credits.{credit_of}
 use Rattle.tree_model.specs.Nodes.{Pending, Closed}
-use Rattle.tree_model.specs.Levels.{plug, Spot, levels_of}
-use Rattle.tree_model.specs.Floors.{with_heights}
-use Rattle.tree_model.specs.PrivateRuns.{private_run}
-use Rattle.tree_model.specs.TreeStates.{TreeState}
+use Rattle.tree_model.specs.Levels.{plug, levels_of}
 use Rattle.tree_model.specs.Legality.{run_of, run_is_empty}
 use Rattle.tree_model.specs.PendingLists.{way_of, element_on, pending_list, front_of, back_of}
 use Rattle.tree_model.specs.Ways.{is_on, IsOnWay, IsAwake}
@@ -28,19 +24,13 @@ use Rattle.interleaving.proofs.FrontCloseLemmas.{unspent_out}
 use Rattle.interleaving.proofs.RunEventLemmas.{end_stays}
 use Rattle.interleaving.proofs.PublishedBareLemmas.{list_before}
 use Rattle.interleaving.proofs.PublishedEndLemmas.{list_closed, closed_sound, emptied_alike}
-
-clash : {A : Type 0} → false ≡ true → A
-clash h = let no_way : ⊥ = cc in absurd no_way
+use Rattle.interleaving.proofs.TestLemmas.{false_true}
+use Rattle.interleaving.proofs.CollectedRunLemmas.{run_is}
 
 empty_run : (o : Option (List Entry)) → run_is_empty o ≡ true → o ≡ Some []
-empty_run None h = clash h
+empty_run None h = false_true h
 empty_run (Some []) h = refl
-empty_run (Some (e ∷ es)) h = clash h
-
-run_is : (t : TreeState) (s : Spot) (k : ℕ) (f : Continuation ℕ) → s.entry ≡ PlainEntry f
-    → private_run t.job.clauses (levels_of s) (with_heights (levels_of s) (PlainEntry f)) k ≡ run_of t s k
-unfolding run_of
-run_is t s k f e = ap (λ x. private_run t.job.clauses (levels_of s) (with_heights (levels_of s) x) k) (sym e)
+empty_run (Some (e ∷ es)) h = false_true h
 
 pub empty_reaches : EmptyReaches
 empty_reaches t s k i q z place running x = go s.entry refl p.entry.0 (awake_entry s.hold s.entry o.opened p.entry.1)
@@ -59,8 +49,8 @@ empty_reaches t s k i q z place running x = go s.entry refl p.entry.0 (awake_ent
       where
         stays : (run_of t s k ≡ None) ⊎ (run_of t s k ≡ Some (EndEntry b ∷ [])) → Reaches t.job.clauses (pending_list t.root)
             (pending_list (plug (levels_of s) (Closed (credit_of k))))
-        stays (inl y) = clash (sym (ap run_is_empty y) ∙ x)
-        stays (inr y) = clash (sym (ap run_is_empty y) ∙ x)
+        stays (inl y) = false_true (sym (ap run_is_empty y) ∙ x)
+        stays (inr y) = false_true (sym (ap run_is_empty y) ∙ x)
     go (PlainEntry f) e h a =
         let v = s.level in
         let up = s.above in

@@ -14,7 +14,7 @@ use Rattle.tree_model.specs.PendingLists.{Way, way_of, element_on, list_among, l
 use Rattle.tree_model.specs.PendingLists.{back_of}
 use Rattle.tree_model.specs.Ways.{under_query, is_query, IsOnWay}
 use Rattle.tree_model.specs.SoundTrees.{IsOpen, profiles, is_shape, are_pair, IsSound, IsSoundTree}
-use Rattle.interleaving.specs.Machine.{Act, Vanishes, Wakes, Takes, Asks, gives, freed, free_steps, is_over}
+use Rattle.interleaving.specs.Machine.{Act, Drops, Becomes, Infers, AsksWorld, gives, freed, free_steps, is_finished}
 use Rattle.interleaving.specs.Scopes.{Shared, Sought, scoped}
 use Rattle.interleaving.specs.Quiet.{IsQuiet, inferences, records}
 use Rattle.interleaving.specs.Readings.{has_ended}
@@ -26,6 +26,7 @@ use Rattle.interleaving.proofs.QuietCreditLemmas.{gives-fixed}
 use Rattle.interleaving.proofs.PassingLemmas.{credits_pass}
 use Rattle.interleaving.proofs.LeadLemmas.{IsParted, parted, goes_on}
 use Rattle.interleaving.proofs.ClockLemmas.{IsFirst, none_left}
+use Rattle.interleaving.proofs.TestLemmas.{false_true}
 
 -- whether the end of a query is in a list
 abbrev pub has_end : List Element → Bool
@@ -75,17 +76,17 @@ end_past_quiet (Findall s u results list p f ∷ xs) ys q h = absurd q
 
 -- the free steps never pass the end of a query
 freed_stays : (clauses : List Clause) (a : Act Shared Element Sought Record) (y : Element) (go : List Record → List Element)
-    (ys : List Element) → ((new : List Record) → is_over (go new) ≡ false) → is_over (freed (scoped clauses) a y go ys) ≡ false
-freed_stays clauses (Vanishes new) y go ys h = h new
-freed_stays clauses (Wakes z) y go ys h = refl
-freed_stays clauses (Takes p) y go ys h = refl
-freed_stays clauses (Asks g) y go ys h = refl
+    (ys : List Element) → ((new : List Record) → is_finished (go new) ≡ false) → is_finished (freed (scoped clauses) a y go ys) ≡ false
+freed_stays clauses (Drops new) y go ys h = h new
+freed_stays clauses (Becomes z) y go ys h = refl
+freed_stays clauses (Infers p) y go ys h = refl
+freed_stays clauses (AsksWorld g) y go ys h = refl
 
 pub settles_before : (clauses : List Clause) (rs : List Record) (xs : List Element) → has_end xs ≡ true
-    → is_over (free_steps (scoped clauses) rs xs) ≡ false
+    → is_finished (free_steps (scoped clauses) rs xs) ≡ false
 settles_before clauses rs [] h = let no_way : ⊥ = cc in absurd no_way
 settles_before clauses rs (End p b ∷ xs) h = ap
-    (λ y. is_over (freed (scoped clauses) ((scoped clauses).act y) y (λ new. free_steps (scoped clauses) (rs ++ new) xs)
+    (λ y. is_finished (freed (scoped clauses) ((scoped clauses).act y) y (λ new. free_steps (scoped clauses) (rs ++ new) xs)
     (map (gives (scoped clauses) rs) xs))) (gives-fixed clauses rs (End p b) tt)
 settles_before clauses rs (Credit k qs ∷ xs) h = freed_stays clauses _ _ (λ new. free_steps (scoped clauses) (rs ++ new) xs) _
     (λ new. settles_before clauses (rs ++ new) xs h)
@@ -112,8 +113,8 @@ not_over clauses xs n w e l = go (nat_le (lead xs) n) refl
     passed : has_ended clauses w xs (inferences h.front) ≡ false
     passed =
         ap (λ ys. has_ended clauses w ys (inferences h.front)) h.joined
-        ∙ (ap (λ s. is_over s.1) (credits_pass clauses h.front h.rest w h.quiet).passed
-        ∙ (ap is_over (sym (settle-map (scoped clauses) (records h.front) h.rest)) ∙ settles_before clauses (records h.front) h.rest
+        ∙ (ap (λ s. is_finished s.1) (credits_pass clauses h.front h.rest w h.quiet).passed
+        ∙ (ap is_finished (sym (settle-map (scoped clauses) (records h.front) h.rest)) ∙ settles_before clauses (records h.front) h.rest
         rest_end))
 
     go : (b : Bool) → nat_le (lead xs) n ≡ b → has_ended clauses w xs n ≡ false
@@ -128,9 +129,6 @@ pub record HasQueryEnd (v : Level) : Type 0 where
   pub left : v.left ≡ []
   pub right : v.right ≡ alternative spent (Pending Dormant (EndEntry ball)) none
 
-clash : {A : Type 0} → false ≡ true → A
-clash h = let no_way : ⊥ = cc in absurd no_way
-
 query_pair : (v : Level) (up : List Level) → v.kind ≡ QueryNode → (length v.left == 0) ≡ true → IsLevel up v IsOpen → HasQueryEnd v
 query_pair v up k z i = left_end v.left refl z
   where
@@ -138,30 +136,30 @@ query_pair v up k z i = left_end v.left refl z
     shape = subst (λ kind. is_shape kind (level_profiles v IsOpen) ≡ true) k i.shape
 
     right_end : (r : Alternatives) → v.right ≡ r → v.left ≡ [] → are_pair QueryNode (IsOpen ∷ profiles r) ≡ true → HasQueryEnd v
-    right_end none e l h = clash h
-    right_end (alternative sp status (alternative sq other others)) e l h = clash h
-    right_end (alternative sp (Closed c) none) e l h = clash h
-    right_end (alternative sp (Inner node) none) e l h = clash h
-    right_end (alternative sp (Pending Ready x) none) e l h = clash h
-    right_end (alternative sp (Pending (TakenBy w) x) none) e l h = clash h
-    right_end (alternative sp (Pending (Waiting g) x) none) e l h = clash h
-    right_end (alternative sp (Pending Dormant (PlainEntry f)) none) e l h = clash h
-    right_end (alternative sp (Pending Dormant (CatchEntry c r f)) none) e l h = clash h
-    right_end (alternative sp (Pending Dormant (FindallEntry results list f)) none) e l h = clash h
+    right_end none e l h = false_true h
+    right_end (alternative sp status (alternative sq other others)) e l h = false_true h
+    right_end (alternative sp (Closed c) none) e l h = false_true h
+    right_end (alternative sp (Inner node) none) e l h = false_true h
+    right_end (alternative sp (Pending Ready x) none) e l h = false_true h
+    right_end (alternative sp (Pending (TakenBy w) x) none) e l h = false_true h
+    right_end (alternative sp (Pending (Waiting g) x) none) e l h = false_true h
+    right_end (alternative sp (Pending Dormant (PlainEntry f)) none) e l h = false_true h
+    right_end (alternative sp (Pending Dormant (CatchEntry c r f)) none) e l h = false_true h
+    right_end (alternative sp (Pending Dormant (FindallEntry results list f)) none) e l h = false_true h
     right_end (alternative sp (Pending Dormant (EndEntry b)) none) e l h = record { spent = sp; ball = b; left = l; right = e }
 
     left_end : (left : List (ℕ × Status)) → v.left ≡ left → (length v.left == 0) ≡ true → HasQueryEnd v
     left_end [] e z = right_end v.right refl e (subst (λ l. are_pair QueryNode (put_profiles l (IsOpen ∷ profiles v.right)) ≡ true) e shape)
-    left_end (a ∷ left) e z = clash (more (length left) (ap (λ l. length l == 0) (sym e) ∙ z))
+    left_end (a ∷ left) e z = false_true (more (length left) (ap (λ l. length l == 0) (sym e) ∙ z))
       where
         more : (n : ℕ) → (suc n == 0) ≡ true → false ≡ true
         more n h = let no_way : ⊥ = grind arith in absurd no_way
 
 is-query : (k : Kind) → is_query k ≡ true → k ≡ QueryNode
 is-query QueryNode h = refl
-is-query ChoiceNode h = clash h
-is-query CatchNode h = clash h
-is-query FindallNode h = clash h
+is-query ChoiceNode h = false_true h
+is-query CatchNode h = false_true h
+is-query FindallNode h = false_true h
 
 -- a level is a query's goal side, or the query is above it
 pub query_here : (v : Level) (up : List Level) → IsLevel up v IsOpen → under_query (way_of (v ∷ up)) ≡ true
@@ -177,7 +175,7 @@ right_has_end : (way : Way) (v : Level) → HasQueryEnd v → has_end (list_righ
 right_has_end way v h = subst (λ r. has_end (list_among way v.number v.kind (suc (length v.left)) r) ≡ true) (sym h.right) refl
 
 pub back_end : (levels : List Level) → IsAround levels IsOpen → under_query (way_of levels) ≡ true → has_end (back_of levels) ≡ true
-back_end [] h u = clash u
+back_end [] h u = false_true u
 back_end (v ∷ up) h u = pick (query_here v up h.0 u) (λ q. back_end up h.1 q)
   where
     pick : (is_query v.kind ≡ true × HasQueryEnd v) ⊎ ((is_query v.kind ≡ false) × (under_query (way_of up) ≡ true))
@@ -202,9 +200,9 @@ entry_end [] (EndEntry b) h i = refl
 entry_end (v ∷ up) (EndEntry b) h i = refl
 entry_end levels (PlainEntry f) h i = end_after (element_on (way_of levels) (PlainEntry f) ∷ []) (back_of levels)
     (back_end levels h i.asked)
-entry_end [] (CatchEntry c r f) h i = clash i.asked
+entry_end [] (CatchEntry c r f) h i = false_true i.asked
 entry_end (v ∷ up) (CatchEntry c r f) h i = end_after (list_right (way_of up) v) (back_of up) (back_end up h.1 i.asked)
-entry_end [] (FindallEntry results l f) h i = clash i.asked
+entry_end [] (FindallEntry results l f) h i = false_true i.asked
 entry_end (v ∷ up) (FindallEntry results l f) h i = end_after (list_right (way_of up) v) (back_of up) (back_end up h.1 i.asked)
 
 pub first_end : (t : TreeState) (s : Spot) → IsSoundTree t → IsFirst t s → has_end (pending_list t.root) ≡ true

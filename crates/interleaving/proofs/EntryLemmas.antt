@@ -14,9 +14,10 @@ use Rattle.tree_model.specs.Floors.{node_of, with_nodes, floor_of}
 use Rattle.tree_model.specs.PendingLists.{Way, way_of}
 use Rattle.tree_model.specs.Ways.{in_reach, way_from, way_above, AreScoped, under_query}
 use Rattle.interleaving.proofs.AppendLemmas.{each-append}
-use Rattle.interleaving.proofs.WayLemmas.{cond-true, same_self}
+use Rattle.interleaving.proofs.WayLemmas.{cond-true}
 use Rattle.interleaving.proofs.RoundtripLemmas.{by_nodes, IsPath, weaken_above}
 use Rattle.interleaving.proofs.GrowingLemmas.{IsReadyOn}
+use Rattle.interleaving.proofs.TestLemmas.{number_same}
 
 -- catch marks in front are dropped
 pub marks_scoped : (node : ℕ → ℕ) (way : Way) (items : List (Item ℕ)) → IsPath way → AreScoped way (by_nodes node items)
@@ -39,7 +40,7 @@ resolved_scoped node s way (RemovalItem number ∷ items) h = resolved_scoped no
 
 -- the height of the whole floor is the alternative's own node
 pub own_height : (v : Level) (up : List Level) → node_of (v ∷ up) (suc (length up)) ≡ v.number
-own_height v up = cond-true (suc (length up) == suc (length up)) v.number _ (same_self (suc (length up)))
+own_height v up = cond-true (suc (length up) == suc (length up)) v.number _ (number_same (suc (length up)))
 
 pub length-floor : (levels : List Level) → length (floor_of levels) ≡ length levels
 length-floor [] = refl
@@ -52,7 +53,7 @@ pub own_goals_scoped : (v : Level) (up : List Level) (n : ℕ) → n ≡ suc (le
 own_goals_scoped v up n e [] items h = h
 own_goals_scoped v up n e (g ∷ gs) items h =
     let own : node_of (v ∷ up) n ≡ v.number = ap (node_of (v ∷ up)) e ∙ own_height v up in
-    let here : (v.number == node_of (v ∷ up) n) ≡ true = ap (λ m. v.number == m) own ∙ same_self v.number in
+    let here : (v.number == node_of (v ∷ up) n) ≡ true = ap (λ m. v.number == m) own ∙ number_same v.number in
     let reach : in_reach (way_of (v ∷ up)) (node_of (v ∷ up) n) ≡ true = cond-true (v.number == node_of (v ∷ up) n) true _ here in
     let from : way_from (way_of (v ∷ up)) (node_of (v ∷ up) n) ≡ way_of (v ∷ up) = cond-true (v.number == node_of (v ∷ up) n)
     (way_of (v ∷ up)) (way_from (way_of up) (node_of (v ∷ up) n)) here in

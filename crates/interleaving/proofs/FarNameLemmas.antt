@@ -1,5 +1,5 @@
 -- What names nothing inside but by marks goes on so.
-use Rattle.std.proofs.Common.{ℕ, zero, suc, ◌+◌, Bool, true, false, cond, List, [], ◌∷◌, ◌++◌, map, Option, Some, None, sym, ap, ◌∙◌}
+use Rattle.std.proofs.Common.{ℕ, zero, suc, ◌+◌, Bool, true, false, cond, List, [], ◌∷◌, ◌++◌, map, Option, Some, None, refl, sym, ap, ◌∙◌}
 use Rattle.au_term.specs.Term.{Term}
 use Rattle.au_model.specs.Terms.Each.{Each}
 use Rattle.au_model.specs.Terms.Substitutions.{Substitution}
@@ -9,17 +9,22 @@ use Rattle.run_model.specs.Programs.Clauses.{Clause}
 use Rattle.run_model.specs.Programs.Databases.{Database, without_clause}
 use Rattle.run_model.specs.Goals.Worlds.{world_step}
 use Rattle.run_model.specs.Goals.GoalOutcomes.{outcome_of}
-use Rattle.run_model.specs.Goals.Outcomes.{Solution, Reply, Solutions, Ball, HaltNumber, ControlForm, GoesOnWith, EitherOf, TestOf, CutToScope}
+use Rattle.run_model.specs.Goals.Outcomes.{Solution, Reply, Solutions, Ball, HaltNumber, ControlForm, GoesOnWith, EitherOf, TestOf}
+use Rattle.run_model.specs.Goals.Outcomes.{CutToScope}
 use Rattle.run_model.specs.Goals.Outcomes.{CatchOf, FindallOf, Outcome, Replies, Controls, AskWorld}
-use Rattle.run_model.specs.Machine.Items.{Item, GoalItem, CatchMark, CollectMark, RemovalItem, Continuation, resolve_item, goals_at, with_items}
+use Rattle.run_model.specs.Machine.Items.{Item, GoalItem, CatchMark, CollectMark, RemovalItem, Continuation, resolve_item, goals_at}
+use Rattle.run_model.specs.Machine.Items.{with_items}
 use Rattle.run_model.specs.Machine.Items.{with_next, before, without_marks, first_mark}
 use Rattle.interleaving.specs.Machine.{Look, On, Here}
 use Rattle.tree_model.specs.Elements.{Name, same, Record, Element, Credit, Plain, EndOf, Catch, Findall, End}
-use Rattle.interleaving.specs.Scopes.{left_standing, Shared, Sought, Scope, Thrown, Caught, Does, Lands, unified, solution_entries}
-use Rattle.interleaving.specs.Scopes.{reply_place, test_items, control_place, goal_act, removed, unmarked, item_act, act, recovered, look}
-use Rattle.interleaving.specs.Scopes.{with_result, give, scoped}
+use Rattle.interleaving.specs.Scopes.{without_catch_marks, Shared, Sought, Scope, Thrown, Caught, Does, ElementReplacement, unified_element}
+use Rattle.interleaving.specs.Scopes.{solution_elements}
+use Rattle.interleaving.specs.Scopes.{reply_place, named_test_items, control_place, goal_act, removed, unmarked, item_act, act}
+use Rattle.interleaving.specs.Scopes.{recovery_look, look}
+use Rattle.interleaving.specs.Scopes.{findall_with_result, give, scoped}
 use Rattle.interleaving.specs.Views.{IsApart, IsBeside}
-use Rattle.interleaving.proofs.RunFrontLemmas.{each-append, append-assoc-at, PlaceOk, ActOk, LookOk, Closed}
+use Rattle.interleaving.proofs.RunFrontLemmas.{each-append, PlaceOk, ActOk, LookOk, Closed}
+use Rattle.interleaving.proofs.AppendLemmas.{append-assoc}
 
 module _ (inside : Name → Bool) where
   abbrev pub IsItemFar : Item Name → Type 0
@@ -62,7 +67,7 @@ module _ (clauses : List Clause) (inside : Name → Bool) where
   IsSoughtFar (Thrown b mark o) = Unit {0}
   IsSoughtFar (Caught b h o) = Unit {0}
 
-  abbrev PlaceBlind : Lands → Type 0
+  abbrev PlaceBlind : ElementReplacement → Type 0
   PlaceBlind p = PlaceOk (scoped clauses) (IsFar inside) IsSoughtFar IsAnyRecord p
 
   abbrev ActBlind : Does → Type 0
@@ -72,7 +77,7 @@ module _ (clauses : List Clause) (inside : Name → Bool) where
   LookBlind a = LookOk (scoped clauses) (IsFar inside) IsSoughtFar IsAnyRecord a
 
   beside_child : (s : Name) (i : ℕ) → IsBeside inside s → IsBeside inside (i ∷ s)
-  beside_child s i h = λ more. ap inside (sym (append-assoc-at more (i ∷ []) s)) ∙ h (more ++ i ∷ [])
+  beside_child s i h = λ more. ap inside (sym (append-assoc more (i ∷ []) s)) ∙ h (more ++ i ∷ [])
 
   goals-apart : (h : Name) (gs : List Term) (items : S) → Apart h → Items items → Items (goals_at h gs ++ items)
   goals-apart h [] items k i = i
@@ -86,16 +91,16 @@ module _ (clauses : List Clause) (inside : Name → Bool) where
   resolved-apart s (RemovalItem n ∷ items) h = (tt, resolved-apart s items h.1)
 
   unified-blind : (o : Option Substitution) (p : Name) (f : Continuation Name) → IsBeside inside p → Items f.items
-      → Each Blind (unified o p f)
+      → Each Blind (unified_element o p f)
   unified-blind None p f b i = tt
   unified-blind (Some s) p f b i = ((b, resolved-apart s f.items i), tt)
 
   solutions-blind : (n : ℕ) (p : Name) (f : Continuation Name) (ss : List Solution) → IsBeside inside p → Items f.items
-      → Each Blind (solution_entries n p f ss)
+      → Each Blind (solution_elements n p f ss)
   solutions-blind n p f [] b i = (tt, tt)
   solutions-blind n p f (s ∷ ss) b i =
       let one : Continuation Name = with_next (f.next + s.variables) (before (goals_at p s.goals) f) in
-      each-append Blind (unified (unifier s.equations) (n ∷ p) one) (solution_entries (suc n) p f ss)
+      each-append Blind (unified_element (unifier s.equations) (n ∷ p) one) (solution_elements (suc n) p f ss)
       (unified-blind (unifier s.equations) (n ∷ p) one (beside_child p n b) (goals-apart p s.goals f.items (b []) i))
       (solutions-blind (suc n) p f ss b i)
 
@@ -112,7 +117,7 @@ module _ (clauses : List Clause) (inside : Name → Bool) where
   control-blind (TestOf gs thens others) p h f b k i =
       ((beside_child p 0 b, test-apart gs), (tt, ((beside_child p 1 b, goals-apart h others f.items k i), (tt, tt))))
     where
-      test-apart : (gs : List Term) → Items (test_items (2 ∷ p) p h gs thens ++ f.items)
+      test-apart : (gs : List Term) → Items (named_test_items (2 ∷ p) p h gs thens ++ f.items)
       test-apart [] = (b [], goals-apart h thens f.items k i)
       test-apart (g ∷ gs) = (beside_child p 2 b [], test-apart gs)
   control-blind CutToScope p h f b k i = (k, (b, i))
@@ -169,7 +174,7 @@ module _ (clauses : List Clause) (inside : Name → Bool) where
   either_look false a b h k = k
 
   recovered-blind : (o : Option Substitution) (b r : Term) (u p : Name) (f : Continuation Name) (q : Sought) → Apart u
-      → IsBeside inside p → Items f.items → IsSoughtFar q → LookBlind (recovered o b r u p f q)
+      → IsBeside inside p → Items f.items → IsSoughtFar q → LookBlind (recovery_look o b r u p f q)
   recovered-blind None b r u p f q a h i k = k
   recovered-blind (Some s) b r u p f q a h i k = ((h, (a, resolved-apart s f.items i)), tt)
 
@@ -195,7 +200,7 @@ module _ (clauses : List Clause) (inside : Name → Bool) where
   look-blind (Caught b m o) (Catch s u c r p f) k h =
       let next : Sought = Thrown b (first_mark f.items) o in
       let take : Option Substitution = unifier ((c, copied b f.next) ∷ []) in
-      either_look (same m s) (recovered take b r u p f next) (On (Caught b m o)) (recovered-blind take b r u p f next h.0 h.1 h.2 tt) k
+      either_look (same m s) (recovery_look take b r u p f next) (On (Caught b m o)) (recovered-blind take b r u p f next h.0 h.1 h.2 tt) k
   look-blind (Caught b m o) (EndOf s) k h = k
   look-blind (Caught b m o) (Credit j rs) k h = k
   look-blind (Caught b m o) (Plain p f) k h = k
@@ -207,7 +212,7 @@ module _ (clauses : List Clause) (inside : Name → Bool) where
   either_blind false x y h k = k
 
   give-blind : (r : Record) (x : Element) → IsAnyRecord r → Blind x → Blind (give r x)
-  give-blind r (Findall s u results list p f) k b = either_blind (same r.0 s) (with_result r.1 s u results list p f)
+  give-blind r (Findall s u results list p f) k b = either_blind (same r.0 s) (findall_with_result r.1 s u results list p f)
       (Findall s u results list p f) b b
   give-blind r (Credit j rs) k b = b
   give-blind r (Plain p f) k b = b
@@ -219,10 +224,30 @@ module _ (clauses : List Clause) (inside : Name → Bool) where
   pub far_closed : Closed (scoped clauses) (IsFar inside) IsSoughtFar IsAnyRecord
   far_closed = record { acts = act-blind; looks = look-blind; given = give-blind }
 
-  pub far_stands : (x : Element) → IsFar inside x → IsFar inside (left_standing x)
+  pub far_stands : (x : Element) → IsFar inside x → IsFar inside (without_catch_marks x)
   far_stands (Plain p f) h = (h.0, marks-apart f.items h.1)
   far_stands (Credit j rs) h = h
   far_stands (EndOf s) h = h
   far_stands (Catch s u c q p f) h = h
   far_stands (Findall s u results list p f) h = h
   far_stands (End p o) h = h
+
+-- nothing is inside nothing
+pub nothing_far : (xs : List Element) → Each (IsFar (λ s. false)) xs
+nothing_far [] = tt
+nothing_far (x ∷ xs) = (one x, nothing_far xs)
+  where
+    items : (is : List (Item Name)) → Each (IsItemFar (λ s. false)) is
+    items [] = tt
+    items (GoalItem t s ∷ is) = (refl, items is)
+    items (CatchMark s ∷ is) = (tt, items is)
+    items (CollectMark t s ∷ is) = (tt, items is)
+    items (RemovalItem n ∷ is) = (tt, items is)
+
+    one : (x : Element) → IsFar (λ s. false) x
+    one (Credit k rs) = tt
+    one (Plain p f) = (λ more. refl, items f.items)
+    one (EndOf s) = tt
+    one (Catch s u c r p f) = (refl, λ more. refl, items f.items)
+    one (Findall s u results list p f) = (refl, λ more. refl, items f.items)
+    one (End p b) = tt

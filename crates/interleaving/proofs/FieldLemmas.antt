@@ -8,7 +8,7 @@ use Rattle.tree_model.specs.FrontGates.{Taken, Continues, Answered, Raises, Halt
 use Rattle.tree_model.specs.Events.{Event, Claim, Nodes, Empty, Collected, Lost, Suspend, Resume, Prune, Answer, Stop}
 use Rattle.tree_model.specs.TreeStates.{TreeState}
 use Rattle.tree_model.specs.Legality.{claimable, resumable, taken_at, gate_of, run_of}
-use Rattle.tree_model.specs.Effects.{ball_falls, gate_pruned, query_opens, front_taken, run_placed, where_some, or_none, stack_of}
+use Rattle.tree_model.specs.Effects.{ball_falls, gate_pruned, query_opens, front_taken, run_placed, where_some, or_none, spot_stack}
 use Rattle.tree_model.specs.Effects.{after_allowed, after_event}
 use Rattle.tree_model.specs.PrivateRuns.{taken_alone}
 
@@ -55,10 +55,10 @@ allowed_job t (Collected w a k) = some_stays (λ x. x.job) t (taken_at w a t) _ 
 allowed_job t (Lost w a) = refl
 allowed_job t (Suspend w a frozen) = some_stays (λ x. x.job) t (taken_at w a t) _ (λ s. refl)
 allowed_job t (Prune w a) = some_stays (λ x. x.job) t (taken_at w a t) _
-    (λ s. prunes_job t s (gate_of t s) (or_none (taken_alone t.job.clauses (stack_of s))))
+    (λ s. prunes_job t s (gate_of t s) (or_none (taken_alone t.job.clauses (spot_stack s))))
 allowed_job t (Answer w a frozen) = some_stays (λ x. x.job) t (taken_at w a t) _
-    (λ s. front_job (record t { world = (taken_at_front t.job.clauses (stack_of s) t.world).0 }) s
-    (taken_at_front t.job.clauses (stack_of s) t.world).1)
+    (λ s. front_job (record t { world = (taken_at_front t.job.clauses (spot_stack s) t.world).0 }) s
+    (taken_at_front t.job.clauses (spot_stack s) t.world).1)
 allowed_job t (Stop w) = refl
 
 pub event_job : (t : TreeState) (e : Event) → (after_event t e).job ≡ t.job
@@ -103,10 +103,10 @@ allowed_budget t (Collected w a k) = some_stays (λ x. x.budget) t (taken_at w a
 allowed_budget t (Lost w a) = refl
 allowed_budget t (Suspend w a frozen) = some_stays (λ x. x.budget) t (taken_at w a t) _ (λ s. refl)
 allowed_budget t (Prune w a) = some_stays (λ x. x.budget) t (taken_at w a t) _
-    (λ s. prunes_budget t s (gate_of t s) (or_none (taken_alone t.job.clauses (stack_of s))))
+    (λ s. prunes_budget t s (gate_of t s) (or_none (taken_alone t.job.clauses (spot_stack s))))
 allowed_budget t (Answer w a frozen) = some_stays (λ x. x.budget) t (taken_at w a t) _
-    (λ s. front_budget (record t { world = (taken_at_front t.job.clauses (stack_of s) t.world).0 }) s
-    (taken_at_front t.job.clauses (stack_of s) t.world).1)
+    (λ s. front_budget (record t { world = (taken_at_front t.job.clauses (spot_stack s) t.world).0 }) s
+    (taken_at_front t.job.clauses (spot_stack s) t.world).1)
 allowed_budget t (Stop w) = refl
 
 pub event_budget : (t : TreeState) (e : Event) → (after_event t e).budget ≡ t.budget

@@ -19,21 +19,20 @@ use Rattle.tree_model.specs.Elements.{Name, same, Record, Element, Credit, Plain
 use Rattle.tree_model.specs.PendingLists.{Way, way_of, scope_on, findall_on, balance_on, element_on, named_continuation, list_left}
 use Rattle.tree_model.specs.PendingLists.{pending_list, front_of, back_of}
 use Rattle.tree_model.specs.Ways.{is_on, IsAsked}
-use Rattle.tree_model.specs.SoundTrees.{IsOpen, Sleeps, profiles, is_shape, AreSound}
+use Rattle.tree_model.specs.SoundTrees.{IsOpen, IsDormant, profiles, is_shape, AreSound}
 use Rattle.interleaving.specs.Views.{IsBlind}
 use Rattle.interleaving.specs.Sound.{IsSound}
 use Rattle.interleaving.specs.Erased.{erased}
-use Rattle.interleaving.specs.Machine.{gives, Wakes}
+use Rattle.interleaving.specs.Machine.{gives, Becomes}
 use Rattle.interleaving.specs.Scopes.{scoped, act, give, results_first}
 use Rattle.interleaving.specs.Segments.{outer}
 use Rattle.interleaving.specs.Laws.{is_inner_record, IsSegment}
 use Rattle.interleaving.specs.Quiet.{inferences, records}
 use Rattle.interleaving.specs.Follows.{lead, Follows}
 use Rattle.interleaving.proofs.ContextLemmas.{IsLevel, put_profiles, count_around}
-use Rattle.interleaving.proofs.WayLemmas.{same_self, cond-true, cond-false, unlike, other_number}
-use Rattle.interleaving.proofs.AppendLemmas.{append-assoc, each-append}
-use Rattle.interleaving.proofs.RunFrontLemmas.{append-none}
-use Rattle.interleaving.proofs.RootLemmas.{are_told}
+use Rattle.interleaving.proofs.WayLemmas.{cond-true, cond-false, other_number}
+use Rattle.interleaving.proofs.AppendLemmas.{append-assoc, each-append, append-nil}
+use Rattle.interleaving.proofs.RootLemmas.{are_distinguished}
 use Rattle.interleaving.proofs.RunHeightLemmas.{names_are_free}
 use Rattle.interleaving.proofs.ListChangeLemmas.{no_credit, woken_early}
 use Rattle.interleaving.proofs.LeadLemmas.{lead-grows, follows_then, follows_becoming}
@@ -41,9 +40,8 @@ use Rattle.interleaving.proofs.BlindLemmas.{of_node, beside, front_blind, back_u
 use Rattle.interleaving.proofs.RenameLemmas.{same_front, end_put, items_same}
 use Rattle.interleaving.proofs.ClosingListLemmas.{Guards, none_above, FindallWakes}
 use Rattle.interleaving.proofs.WakeLemmas.{before_wake, after_wake, not_next}
-
-clash : {A : Type 0} → false ≡ true → A
-clash h = let no_way : ⊥ = cc in absurd no_way
+use Rattle.interleaving.proofs.TestLemmas.{false_true, number_same}
+use Rattle.au_term.proofs.LogicLemmas.{numbers_turned}
 
 -- the entry with the results of its goal side, by heights and by names
 pub record Gathered (clauses : List Clause) (n : ℕ) (way : Way) (ts rs : List Term) (l : Term) (f : Continuation ℕ) : Type 0 where
@@ -59,7 +57,7 @@ pub gathered : (clauses : List Clause) (n : ℕ) (way : Way) (ts rs : List Term)
 gathered clauses n way [] rs l f = record { results = rs; next = f.next; by_tree = refl; by_list = refl }
 gathered clauses n way (t ∷ ts) rs l f =
     let h = gathered clauses n way ts (rs ++ copied t f.next ∷ []) l (with_next (f.next + copy_takes t) f) in
-    let itself : (same_name n) ≡ true = ap (λ b. true && (b && true)) (same_self n) in
+    let itself : (same_name n) ≡ true = ap (λ b. true && (b && true)) (number_same n) in
     let one : give ((0 ∷ n ∷ []), t) (Findall (0 ∷ n ∷ []) (1 ∷ n ∷ []) rs l (0 ∷ 1 ∷ n ∷ []) (named_continuation way f))
     ≡ Findall (0 ∷ n ∷ []) (1 ∷ n ∷ []) (rs ++ copied t f.next ∷ []) l (0 ∷ 1 ∷ n ∷ [])
     (with_next (f.next + copy_takes t) (named_continuation way f)) = cond-true (same_name n) _ _ itself in
@@ -81,15 +79,15 @@ findall_node v up rs l f i g = go v.kind refl
     (subst (λ r. is_shape v.kind (IsOpen ∷ profiles r) ≡ true) g.right
     (subst (λ left. is_shape v.kind (put_profiles left (IsOpen ∷ profiles v.right)) ≡ true) g.left i.shape))
   where
-    go : (k : Kind) → v.kind ≡ k → is_shape k (IsOpen ∷ Sleeps FindallNode ∷ []) ≡ true → k ≡ FindallNode
+    go : (k : Kind) → v.kind ≡ k → is_shape k (IsOpen ∷ IsDormant FindallNode ∷ []) ≡ true → k ≡ FindallNode
     go FindallNode e h = refl
-    go ChoiceNode e h = clash h
-    go CatchNode e h = clash h
-    go QueryNode e h = clash h
+    go ChoiceNode e h = false_true h
+    go CatchNode e h = false_true h
+    go QueryNode e h = false_true h
 
 all_inner : (n : ℕ) (ts : List Term) → outer (is_inner_record (of_node n)) (map (λ (t : Term). ((0 ∷ n ∷ []), t)) ts) ≡ []
 all_inner n [] = refl
-all_inner n (t ∷ ts) = cond-true (n == n) _ _ (same_self n) ∙ all_inner n ts
+all_inner n (t ∷ ts) = cond-true (n == n) _ _ (number_same n) ∙ all_inner n ts
 
 -- the names in an entry that wakes below a new node
 named_below : (next n : ℕ) (kind : Kind) (way : Way) (f : Continuation ℕ) → (n == next) ≡ false → is_on way next ≡ false
@@ -100,8 +98,8 @@ named_below : (next n : ℕ) (kind : Kind) (way : Way) (f : Continuation ℕ) �
 named_below next n kind way f e o i t =
     let far : Way = record { node = next; index = 0; kind = ChoiceNode } ∷ record { node = n; index = 1; kind = kind } ∷ way in
     let near : Way = record { node = n; index = 1; kind = kind } ∷ way in
-    let here : scope_on far n ≡ 1 ∷ n ∷ [] = cond-false (next == n) _ _ (unlike n next e)
-    ∙ cond-true (n == n) _ (scope_on way n) (same_self n) in
+    let here : scope_on far n ≡ 1 ∷ n ∷ [] = cond-false (next == n) _ _ (numbers_turned n next e)
+    ∙ cond-true (n == n) _ (scope_on way n) (number_same n) in
     let rest : map (renamed_item (scope_on far) (scope_on far)) f.items ≡ map (renamed_item (scope_on near) (scope_on near)) f.items =
     items_same n far near way f.items (λ s k. cond-false (next == s) _ _ (other_number way next s o k (next == s) refl)) i.scoped in
     ap (λ is. record { items = is; named = f.named; next = f.next })
@@ -131,15 +129,15 @@ findall_wakes clauses next v up c rs l f g a d fresh i j =
     let blind : Each (IsBlind (of_node n)) front = each-append (IsBlind (of_node n)) (front_of up) _ (front_blind n up empty a.1)
     (tt, subst (λ x. Each (IsBlind (of_node n)) (list_left way n v.kind x)) (sym g.left) tt) in
     let segment : IsSegment (of_node n) front (xs ++ (x ∷ [])) zs = record {
-      grown = are_told.root (λ m. m == n);
+      grown = are_distinguished.root (λ m. m == n);
       front = blind;
-      own = (tt, (same_self n, ((same_self n, same_self n), tt)));
+      own = (tt, (number_same n, ((number_same n, number_same n), tt)));
       under =
           (tt, back_under n up empty a.1);
       some = omega arith;
     } in
-    let rows : records xs ≡ map (λ (t : Term). ((0 ∷ n ∷ []), t)) c.records = append-none _ in
-    let wakes_at : act clauses (gives (scoped clauses) (records xs) x) ≡ Wakes y = ap (λ qs. act clauses (gives (scoped clauses) qs x))
+    let rows : records xs ≡ map (λ (t : Term). ((0 ∷ n ∷ []), t)) c.records = append-nil _ in
+    let wakes_at : act clauses (gives (scoped clauses) (records xs) x) ≡ Becomes y = ap (λ qs. act clauses (gives (scoped clauses) qs x))
     rows ∙ ap (act clauses) h.by_list in
     let becomes = woken_early clauses (of_node n) xs x y front zs tt wakes_at segment in
     let gone : outer (is_inner_record (of_node n)) (records xs) ≡ [] = ap (outer (is_inner_record (of_node n))) rows
@@ -174,7 +172,7 @@ findall_wakes clauses next v up c rs l f g a d fresh i j =
     let blind_n : Each (IsBlind (of_node n)) (front ++ (Credit c.inferences [] ∷ [])) = each-append (IsBlind (of_node n)) front _ blind
     (tt, tt) in
     let put_n : erased ((front ++ (Credit c.inferences [] ∷ [])) ++ (y ∷ zs))
-    ≡ erased (pre ++ (y ∷ zs)) = end_put n 0 (front ++ (Credit c.inferences [] ∷ [])) (y ∷ zs) (same_self n) blind_n
+    ≡ erased (pre ++ (y ∷ zs)) = end_put n 0 (front ++ (Credit c.inferences [] ∷ [])) (y ∷ zs) (number_same n) blind_n
     ∙ ap erased (append-assoc front (Credit c.inferences [] ∷ []) (EndOf (0 ∷ n ∷ []) ∷ (y ∷ zs))
     ∙ sym (append-assoc front (Credit c.inferences [] ∷ EndOf (0 ∷ n ∷ []) ∷ []) (y ∷ zs))) in
     let blind_y : IsBlind (of_node next) y = (
@@ -189,7 +187,7 @@ findall_wakes clauses next v up c rs l f g a d fresh i j =
     (each-append (IsBlind (of_node next)) front _ (front_blind next (v ∷ up) fresh a) (tt, (tt, tt))) (blind_y, tt) in
     let put_next : erased (pre ++ (y ∷ zs)) ≡ erased (pre ++ (y ∷ (EndOf (0 ∷ next ∷ []) ∷ zs))) = ap erased
     (sym (append-assoc pre (y ∷ []) zs))
-    ∙ (end_put next 0 (pre ++ (y ∷ [])) zs (same_self next) blind_next
+    ∙ (end_put next 0 (pre ++ (y ∷ [])) zs (number_same next) blind_next
     ∙ ap erased (append-assoc pre (y ∷ []) (EndOf (0 ∷ next ∷ []) ∷ zs))) in
     let named = (same_front pre (y ∷ (EndOf (0 ∷ next ∷ []) ∷ zs))
     (Plain (0 ∷ 0 ∷ next ∷ []) (results_first h.results l (1 ∷ n ∷ []) (with_next h.next (named_continuation near f)))

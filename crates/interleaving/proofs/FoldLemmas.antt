@@ -3,11 +3,8 @@ use Rattle.std.proofs.Common.{◌≡◌, ℕ, suc, ◌+◌, ◌≤◌, ◌<◌, 
 use Rattle.std.proofs.Common.{Option, Some, None, refl, sym, ap, ◌∙◌, subst, arith}
 use Rattle.std.specs.Prelude.{min, nat_le, ◌&&◌}
 use Rattle.au_term.specs.Term.{Term}
-use Rattle.au_model.specs.Terms.Each.{Each}
-use Rattle.run_model.specs.Machine.Items.{Item, GoalItem, CatchMark, CollectMark, RemovalItem}
 use Rattle.interleaving.specs.Machine.{free_steps, run, seen}
 use Rattle.interleaving.specs.Scopes.{Shared, scoped}
-use Rattle.interleaving.proofs.RunFrontLemmas.{append-none}
 use Rattle.run_model.specs.Programs.Clauses.{Clause}
 use Rattle.tree_model.specs.Credits.{Credit as TreeCredit, greatest, added, no_credit}
 use Rattle.tree_model.specs.Nodes.{Kind, Alternatives, none, alternative, Status, Pending, Inner, Closed}
@@ -20,17 +17,18 @@ use Rattle.tree_model.specs.PendingLists.{front_of, back_of}
 use Rattle.tree_model.specs.CaughtTrees.{is_side, IsCaught, AreCaught}
 use Rattle.interleaving.specs.Laws.{MayBecome}
 use Rattle.interleaving.specs.Quiet.{IsQuiet, inferences, records}
-use Rattle.interleaving.specs.Views.{IsBlind, IsRecordApart, IsItemApart}
 use Rattle.interleaving.specs.Sound.{IsSound}
 use Rattle.interleaving.specs.Follows.{lead, Follows}
 use Rattle.interleaving.proofs.ListRoundLemmas.{around}
-use Rattle.interleaving.proofs.AppendLemmas.{append-assoc}
-use Rattle.interleaving.proofs.CreditLawLemmas.{enough_credit}
+use Rattle.interleaving.proofs.AppendLemmas.{append-assoc, append-nil}
+use Rattle.interleaving.proofs.CreditLawLemmas.{as_many_credit, blind_none}
 use Rattle.interleaving.proofs.SoundEarlyLemmas.{sound_exchange, sound-after}
 use Rattle.interleaving.proofs.LeadLemmas.{lead-bounded, follows_then, follows_becoming, follows_itself}
 use Rattle.interleaving.proofs.ClockLemmas.{quiet-append, inferences-append}
-use Rattle.interleaving.proofs.ListScopeLemmas.{sleeps_on}
+use Rattle.interleaving.proofs.EndLemmas.{has_end, settles_before}
+use Rattle.interleaving.proofs.ListScopeLemmas.{dormant_on}
 use Rattle.interleaving.proofs.ListsSoundLemmas.{under_of}
+use Rattle.interleaving.proofs.RunFrontLemmas.{some-same}
 
 -- a list follows another, and keeps names sound
 pub record Passes (clauses : List Clause) (xs ys : List Element) : Type 0 where
@@ -46,49 +44,25 @@ passes_then clauses xs ys zs h k = record { follows = follows_then clauses xs ys
 pub passes_becoming : (clauses : List Clause) (xs ys : List Element) → MayBecome clauses xs ys → lead xs ≤ lead ys → Passes clauses xs ys
 passes_becoming clauses xs ys h l = record { follows = follows_becoming clauses xs ys h l; sound = h.sound }
 
--- nothing is inside nothing
-pub nothing_blind : (xs : List Element) → Each (IsBlind (λ s. false)) xs
-nothing_blind [] = tt
-nothing_blind (x ∷ xs) = (one x, nothing_blind xs)
-  where
-    items : (is : List (Item Name)) → Each (IsItemApart (λ s. false)) is
-    items [] = tt
-    items (GoalItem t s ∷ is) = (refl, items is)
-    items (CatchMark s ∷ is) = (refl, items is)
-    items (CollectMark t s ∷ is) = (refl, items is)
-    items (RemovalItem k ∷ is) = (tt, items is)
-
-    rows : (rs : List Record) → Each (IsRecordApart (λ s. false)) rs
-    rows [] = tt
-    rows (r ∷ rs) = (refl, rows rs)
-
-    one : (x : Element) → IsBlind (λ s. false) x
-    one (Credit k rs) = rows rs
-    one (Plain p f) = (λ more. refl, items f.items)
-    one (EndOf s) = tt
-    one (Catch s u c r p f) = (refl, refl, λ more. refl, items f.items)
-    one (Findall s u results list p f) = (refl, refl, λ more. refl, items f.items)
-    one (End p b) = λ more. refl
-
--- a credit is kept at the greatest count
-pub credit_counted : (clauses : List Clause) (pre zs : List Element) (k : ℕ) (rs : List Record)
+-- before the end of a query a credit is kept at the greatest count
+pub credit_counted : (clauses : List Clause) (pre zs : List Element) (k : ℕ) (rs : List Record) → has_end zs ≡ true
     → Passes clauses (pre ++ (Credit k rs ∷ zs)) (pre ++ (Credit (min greatest k) rs ∷ zs))
-credit_counted clauses pre zs k rs = record {
+credit_counted clauses pre zs k rs end = record {
   follows = record {
     alike = λ n w l. go n w l (nat_le k greatest) refl;
     lead = λ m b l. lead-bounded m pre (Credit k rs ∷ zs) (Credit (min greatest k) rs ∷ zs) (λ j a c. omega (arith, a, b, c)) l;
   };
   sound = λ i. let here = sound-after pre (Credit k rs ∷ zs) i in sound_exchange clauses (λ s. false) pre (Credit k rs ∷ [])
-      (Credit (min greatest k) rs ∷ []) zs (nothing_blind pre) (tt, tt) (tt, tt) (omega arith) i here;
+      (Credit (min greatest k) rs ∷ []) zs (blind_none clauses pre) (tt, tt) (tt, tt) (omega arith) i here;
 }
   where
-    go : (n : ℕ) (w : Shared) → n < greatest → (b : Bool) → nat_le k greatest ≡ b
+    go : (n : ℕ) (w : Shared) → n ≤ greatest → (b : Bool) → nat_le k greatest ≡ b
         → seen (run (scoped clauses) n w (free_steps (scoped clauses) [] (pre ++ (Credit k rs ∷ zs))))
         ≡ seen (run (scoped clauses) n w (free_steps (scoped clauses) [] (pre ++ (Credit (min greatest k) rs ∷ zs))))
     go n w l true e = let same : k ≡ min greatest k = let low : k ≤ greatest = grind arith in omega (arith, low) in ap
         (λ j. seen (run (scoped clauses) n w (free_steps (scoped clauses) [] (pre ++ (Credit j rs ∷ zs))))) same
-    go n w l false e = let high : greatest < k = grind arith in enough_credit clauses k (min greatest k) rs rs n w pre zs
-        (omega (arith, l, high)) (omega (arith, l, high))
+    go n w l false e = let high : greatest < k = grind arith in as_many_credit clauses k (min greatest k) rs rs n w pre zs
+        (omega (arith, l, high)) (omega (arith, l, high)) (λ us. settles_before clauses us zs end)
 
 -- records that no goal side of the node has
 abbrev pub LeftSides : Kind → List (ℕ × Status) → Type 0
@@ -97,13 +71,13 @@ LeftSides kind ((spent, Closed c) ∷ left) = (is_side kind (length left) ≡ tr
 LeftSides kind ((spent, Pending hold e) ∷ left) = LeftSides kind left
 LeftSides kind ((spent, Inner node) ∷ left) = LeftSides kind left
 
-abbrev pub SidesKept : List Level → Type 0
-SidesKept [] = Unit {0}
-SidesKept (v ∷ up) = LeftSides v.kind v.left × SidesKept up
+abbrev pub HaveNoSideRecords : List Level → Type 0
+HaveNoSideRecords [] = Unit {0}
+HaveNoSideRecords (v ∷ up) = LeftSides v.kind v.left × HaveNoSideRecords up
 
 abbrev pub CaughtAt : List Level → Status → Type 0
 CaughtAt [] status = IsCaught (λ m. false) false false status
-CaughtAt (v ∷ up) status = IsCaught (sleeps_on (v ∷ up)) (is_side v.kind (length v.left)) (under_of up) status
+CaughtAt (v ∷ up) status = IsCaught (dormant_on (v ∷ up)) (is_side v.kind (length v.left)) (under_of up) status
 
 sides_split : (sleeps : ℕ → Bool) (under : Bool) (n : ℕ) (kind : Kind) (left : List (ℕ × Status)) (others : Alternatives)
     → AreCaught sleeps under n kind 0 (put_left left others) → LeftSides kind left × AreCaught sleeps under n kind (length left) others
@@ -122,14 +96,14 @@ sides_split sleeps under n kind ((spent, Inner node) ∷ left) others h = let k 
     (alternative spent (Inner node) others) h in (k.0, k.1.1)
 
 pub caught_out : (levels : List Level) (status : Status) → IsCaught (λ m. false) false false (plug levels status)
-    → SidesKept levels × CaughtAt levels status
+    → HaveNoSideRecords levels × CaughtAt levels status
 caught_out [] status h = (tt, h)
 caught_out (v ∷ []) status h =
     let p = sides_split (λ m. false) false v.number v.kind v.left (alternative v.spent status v.right) h in
     ((p.0, tt), p.1.0)
 caught_out (v ∷ u ∷ up) status h =
     let k = caught_out (u ∷ up) (Inner (level_node v status)) h in
-    let p = sides_split (sleeps_on (u ∷ up)) (under_of (u ∷ up)) v.number v.kind v.left (alternative v.spent status v.right) k.1 in
+    let p = sides_split (dormant_on (u ∷ up)) (under_of (u ∷ up)) v.number v.kind v.left (alternative v.spent status v.right) k.1 in
     ((p.0, k.0), p.1.0)
 
 -- what closed alternatives come to
@@ -185,12 +159,9 @@ totals-append way xs ys a b h k =
           ∙ (ap (λ l. named_by way a.records ++ l) k.rows ∙ sym (named-append way a.records b.records)));
     }
 
-some-of : {A : Type 0} → (a b : A) → Some a ≡ Some b → a ≡ b
-some-of a b e = cc
-
 left_totals : (way : Way) (n : ℕ) (kind : Kind) (left : List (ℕ × Status)) (d : TreeCredit) → LeftSides kind left → all_left left
     ≡ Some d → Totals way (list_left way n kind left) d
-left_totals way n kind [] d h e = subst (Totals way []) (some-of no_credit d e) (record { quiet = tt; sum = omega arith; rows = refl })
+left_totals way n kind [] d h e = subst (Totals way []) (some-same no_credit d e) (record { quiet = tt; sum = omega arith; rows = refl })
 left_totals way n kind ((spent, Pending hold x) ∷ left) d h e = absurd (nothing (all_left left) e)
   where
     nothing : (o : Option TreeCredit) → and_then o None ≡ Some d → ⊥
@@ -207,16 +178,16 @@ left_totals way n kind ((spent, Closed c) ∷ left) d h e = go (all_left left) r
         → ((b : TreeCredit) → all_left left ≡ Some b → Totals way (list_left way n kind left) b)
         → Totals way (list_left way n kind ((spent, Closed c) ∷ left)) d
     go None q e f = let no_way : ⊥ = cc in absurd no_way
-    go (Some b) q e f = subst (Totals way (list_left way n kind ((spent, Closed c) ∷ left))) (some-of (added b c) d e)
+    go (Some b) q e f = subst (Totals way (list_left way n kind ((spent, Closed c) ∷ left))) (some-same (added b c) d e)
         (totals-append way (list_left way n kind left) _ b c (f b q)
-        (record { quiet = tt; sum = bound c; rows = append-none _ ∙ closed_records way n (length left) kind c.records h.0 }))
+        (record { quiet = tt; sum = bound c; rows = append-nil _ ∙ closed_records way n (length left) kind c.records h.0 }))
       where
         bound : (c : TreeCredit) → min greatest c.inferences ≡ min greatest (c.inferences + 0)
         bound c = omega arith
 
 right_totals : (way : Way) (n : ℕ) (kind : Kind) (i : ℕ) (others : Alternatives) (d : TreeCredit) → all_right others ≡ Some d
     → Totals way (EndOf (i ∷ n ∷ []) ∷ list_among way n kind (suc i) others) d
-right_totals way n kind i none d e = subst (Totals way (EndOf (i ∷ n ∷ []) ∷ [])) (some-of no_credit d e)
+right_totals way n kind i none d e = subst (Totals way (EndOf (i ∷ n ∷ []) ∷ [])) (some-same no_credit d e)
     (record { quiet = tt; sum = omega arith; rows = refl })
 right_totals way n kind i (alternative spent (Pending hold x) others) d e = let no_way : ⊥ = cc in absurd no_way
 right_totals way n kind i (alternative spent (Inner node) others) d e = let no_way : ⊥ = cc in absurd no_way
@@ -232,7 +203,7 @@ right_totals way n kind i (alternative spent (Closed c) others) d e = go (all_ri
         no_side false false e h = cc
 
     one : Totals way (EndOf (i ∷ n ∷ []) ∷ (balance_on (record { node = n; index = suc i; kind = kind } ∷ way) c ∷ [])) c
-    one = record { quiet = tt; sum = omega arith; rows = append-none _ ∙ closed_records way n (suc i) kind c.records later }
+    one = record { quiet = tt; sum = omega arith; rows = append-nil _ ∙ closed_records way n (suc i) kind c.records later }
 
     go : (o : Option TreeCredit) → all_right others ≡ o → and_then (Some c) o ≡ Some d
         → ((b : TreeCredit) → all_right others ≡ Some b
@@ -240,7 +211,7 @@ right_totals way n kind i (alternative spent (Closed c) others) d e = go (all_ri
         → Totals way (EndOf (i ∷ n ∷ []) ∷ list_among way n kind (suc i) (alternative spent (Closed c) others)) d
     go None q e f = let no_way : ⊥ = cc in absurd no_way
     go (Some b) q e f = subst (Totals way (EndOf (i ∷ n ∷ []) ∷ list_among way n kind (suc i) (alternative spent (Closed c) others)))
-        (some-of (added c b) d e) (totals-append way
+        (some-same (added c b) d e) (totals-append way
         (EndOf (i ∷ n ∷ []) ∷ (balance_on (record { node = n; index = suc i; kind = kind } ∷ way) c ∷ [])) _ c b one (f b q))
 
 -- the whole node
@@ -266,7 +237,7 @@ node_totals up v c total sides off e = go (all_left v.left) refl (all_right v.ri
         let mine : Totals way (balance_on (way_of (v ∷ up)) c ∷ []) c = record {
           quiet = tt;
           sum = bound c;
-          rows = append-none _ ∙ closed_records way v.number (length v.left) v.kind c.records
+          rows = append-nil _ ∙ closed_records way v.number (length v.left) v.kind c.records
               (λ s. absurd (clash_at s));
         } in
         let right = right_totals way v.number v.kind (length v.left) v.right b q in
@@ -274,7 +245,7 @@ node_totals up v c total sides off e = go (all_left v.left) refl (all_right v.ri
         (added a c) b (totals-append way (list_left way v.number v.kind v.left) (balance_on (way_of (v ∷ up)) c ∷ []) a c left mine)
         right in
         subst (λ d. Totals way (list_left way v.number v.kind v.left ++ (balance_on (way_of (v ∷ up)) c ∷ list_right way v)) d)
-        (some-of (added (added a c) b) total e)
+        (some-same (added (added a c) b) total e)
         (subst (λ l. Totals way l (added (added a c) b))
         (append-assoc (list_left way v.number v.kind v.left) (balance_on (way_of (v ∷ up)) c ∷ []) (list_right way v)) both)
       where

@@ -1,5 +1,6 @@
 -- A node all of whose alternatives have closed folds into the alternative above.
-use Rattle.std.proofs.Common.{◌≡◌, ℕ, suc, ◌+◌, ◌==◌, false, cond, List, [], ◌∷◌, ◌++◌, map, length, Option, Some, None, refl, sym, ap}
+use Rattle.std.proofs.Common.{◌≡◌, ℕ, suc, ◌+◌, ◌==◌, true, false, cond, List, [], ◌∷◌, ◌++◌, map, length, Option, Some, None, refl, sym}
+use Rattle.std.proofs.Common.{ap}
 use Rattle.std.proofs.Common.{◌∙◌, subst, arith}
 use Rattle.std.specs.Prelude.{min}
 use Rattle.au_model.specs.Terms.Each.{Each}
@@ -19,14 +20,15 @@ use Rattle.interleaving.specs.Quiet.{inferences, records}
 use Rattle.interleaving.specs.Views.{IsInner, IsRecordApart}
 use Rattle.interleaving.specs.Follows.{lead}
 use Rattle.interleaving.proofs.ContextLemmas.{IsAround, count_around}
-use Rattle.interleaving.proofs.WayLemmas.{same_self}
 use Rattle.interleaving.proofs.AppendLemmas.{each-append}
-use Rattle.interleaving.proofs.RootLemmas.{are_told}
+use Rattle.interleaving.proofs.RootLemmas.{are_distinguished}
 use Rattle.interleaving.proofs.ListChangeLemmas.{quiet_early}
 use Rattle.interleaving.proofs.LeadLemmas.{lead-quiet, lead-grows}
+use Rattle.interleaving.proofs.EndLemmas.{has_end}
 use Rattle.interleaving.proofs.BlindLemmas.{of_node, front_blind, back_under, records_apart, off_levels}
 use Rattle.interleaving.proofs.FoldLemmas.{Passes, passes_becoming, passes_then, credit_counted, LeftSides, node_list, node_totals}
 use Rattle.interleaving.proofs.FoldLemmas.{closed_round}
+use Rattle.interleaving.proofs.TestLemmas.{number_same}
 
 inner-append : (n : ℕ) (xs ys : List Element) → Each (IsInner (of_node n)) xs → Each (IsInner (of_node n)) ys
     → Each (IsInner (of_node n)) (xs ++ ys)
@@ -51,7 +53,7 @@ left_inner way n kind ((spent, Closed c) ∷ left) d e = go (all_left left) refl
         → ((b : TreeCredit) → all_left left ≡ Some b → Each (IsInner (of_node n)) (list_left way n kind left))
         → Each (IsInner (of_node n)) (list_left way n kind ((spent, Closed c) ∷ left))
     go None q e f = let no_way : ⊥ = cc in absurd no_way
-    go (Some b) q e f = inner-append n (list_left way n kind left) _ (f b q) (tt, (same_self n, tt))
+    go (Some b) q e f = inner-append n (list_left way n kind left) _ (f b q) (tt, (number_same n, tt))
 
 right_inner : (way : Way) (n : ℕ) (kind : Kind) (i : ℕ) (others : Alternatives) (d : TreeCredit) → all_right others ≡ Some d
     → Each (IsInner (of_node n)) (list_among way n kind i others)
@@ -65,7 +67,7 @@ right_inner way n kind i (alternative spent (Closed c) others) d e = go (all_rig
         → ((b : TreeCredit) → all_right others ≡ Some b → Each (IsInner (of_node n)) (list_among way n kind (suc i) others))
         → Each (IsInner (of_node n)) (list_among way n kind i (alternative spent (Closed c) others))
     go None q e f = let no_way : ⊥ = cc in absurd no_way
-    go (Some b) q e f = (tt, (same_self n, f b q))
+    go (Some b) q e f = (tt, (number_same n, f b q))
 
 outer_apart : (n : ℕ) (rs : List Record) → Each (IsRecordApart (of_node n)) rs → outer (is_inner_record (of_node n)) rs ≡ rs
 outer_apart n [] h = refl
@@ -75,10 +77,10 @@ outer_apart n (r ∷ rs) h = ap (λ b. cond b (outer (is_inner_record (of_node n
 -- a node all of whose alternatives have closed folds
 pub fold_passes : (clauses : List Clause) (v : Level) (up : List Level) (c total : TreeCredit) → LeftSides v.kind v.left
     → is_side v.kind (length v.left) ≡ false → all_closed v c ≡ Some total → count_around v.number up ≡ 0 → IsAround up IsOpen
-    → Passes clauses (pending_list (plug (v ∷ up) (Closed c)))
+    → has_end (back_of up) ≡ true → Passes clauses (pending_list (plug (v ∷ up) (Closed c)))
     (front_of up ++ (Credit (min greatest (spent_at up + total.inferences)) (map (λ t. (findall_on (way_of up), t)) total.records)
     ∷ back_of up))
-fold_passes clauses v up c total sides off e none_above a =
+fold_passes clauses v up c total sides off e none_above a end =
     let n = v.number in
     let t = node_totals up v c total sides off e in
     let xs = node_list up v c in
@@ -87,7 +89,7 @@ fold_passes clauses v up c total sides off e none_above a =
     ≡ spent_at up + inferences (list_left (way_of up) v.number v.kind v.left
     ++ (balance_on (way_of (v ∷ up)) c ∷ list_right (way_of up) v)) = refl in
     let segment : IsSegment (of_node n) (front_of up) xs (back_of up) = record {
-      grown = are_told.root (λ m. m == n);
+      grown = are_distinguished.root (λ m. m == n);
       front = front_blind n up none_above a;
       own =
           (tt, inner_parts (all_left v.left) refl (all_right v.right) refl e);
@@ -104,7 +106,8 @@ fold_passes clauses v up c total sides off e none_above a =
     (front_of up ++ (Credit (inferences xs) (outer (is_inner_record (of_node n)) (records xs)) ∷ back_of up)) becomes
     (lead-grows (front_of up) (xs ++ back_of up)
     (Credit (inferences xs) (outer (is_inner_record (of_node n)) (records xs)) ∷ back_of up) (omega (arith, quiet_lead))) in
-    let two = credit_counted clauses (front_of up) (back_of up) (inferences xs) (outer (is_inner_record (of_node n)) (records xs)) in
+    let two = credit_counted clauses (front_of up) (back_of up) (inferences xs) (outer (is_inner_record (of_node n)) (records xs))
+    end in
     let last : front_of up ++ (Credit (min greatest (inferences xs)) (outer (is_inner_record (of_node n)) (records xs)) ∷ back_of up)
     ≡ front_of up ++ (Credit (min greatest (spent_at up + total.inferences)) (map (λ t. (findall_on (way_of up), t)) total.records)
     ∷ back_of up) = ap (λ k. front_of up ++ (Credit k (outer (is_inner_record (of_node n)) (records xs)) ∷ back_of up)) counts
@@ -122,4 +125,4 @@ fold_passes clauses v up c total sides off e none_above a =
     inner_parts (Some x) p None q e = let no_way : ⊥ = cc in absurd no_way
     inner_parts (Some x) p (Some y) q e = inner-append v.number (list_left (way_of up) v.number v.kind v.left) _
         (left_inner (way_of up) v.number v.kind v.left x p)
-        (tt, (same_self v.number, right_inner (way_of up) v.number v.kind (suc (length v.left)) v.right y q))
+        (tt, (number_same v.number, right_inner (way_of up) v.number v.kind (suc (length v.left)) v.right y q))

@@ -6,15 +6,16 @@ use Rattle.au_model.specs.Terms.Each.{Each}
 use Rattle.au_model.specs.Terms.Forms.{binary, list_term}
 use Rattle.run_model.specs.Programs.Clauses.{Clause}
 use Rattle.run_model.specs.Goals.GoalOutcomes.{outcome_of}
-use Rattle.run_model.specs.Machine.Items.{Item, GoalItem, CatchMark, CollectMark, RemovalItem, Continuation, with_items, before, without_marks}
+use Rattle.run_model.specs.Machine.Items.{Item, GoalItem, CatchMark, CollectMark, RemovalItem, Continuation, with_items, before}
+use Rattle.run_model.specs.Machine.Items.{without_marks}
 use Rattle.run_model.specs.Machine.Entries.{PlainEntry}
-use Rattle.interleaving.specs.Machine.{Machine, Vanishes, Wakes, Takes, Asks, gives, freed, free_steps}
+use Rattle.interleaving.specs.Machine.{Machine, Drops, Becomes, Infers, AsksWorld, gives, freed, free_steps}
 use Rattle.tree_model.specs.Elements.{Name, Record, Element, Credit, Plain, EndOf, Catch, Findall, End}
 use Rattle.interleaving.specs.Scopes.{Shared, Sought, Does, unmarked, results_first, act, scoped}
 use Rattle.interleaving.specs.Segments.{IsActive}
-use Rattle.interleaving.specs.HeightMachine.{HeightElement, HeightEntry, held_collected_all, held_findall_ends, held_plain_free_step}
-use Rattle.interleaving.specs.HeightMachine.{held_free_steps_within, held_settle}
-use Rattle.interleaving.specs.Erased.{count, height, with_height, with_heights, record_height, erased}
+use Rattle.interleaving.specs.HeightMachine.{HeightElement, HeightEntry, height_collected_all, height_findall_ends, height_plain_free_step}
+use Rattle.interleaving.specs.HeightMachine.{height_free_steps_within, height_settle}
+use Rattle.interleaving.specs.Erased.{element_count, height, with_height, continuation_heights, record_height, erased}
 use Rattle.interleaving.specs.Sound.{names, IsGathered, IsEntrySound, IsSound}
 use Rattle.interleaving.proofs.RunFrontLemmas.{map-none, settle-map}
 use Rattle.interleaving.proofs.NamingLemmas.{goals-heights, length-erased, sames, carried_rest}
@@ -43,14 +44,14 @@ module _ (clauses : List Clause) where
   IsRested (x ∷ xs) = IsActive (act clauses x)
 
   -- what the free steps lead to
-  abbrev pub IsFine : List Element → List HeightElement → Type 0
-  IsFine zs hs = (erased zs ≡ hs) × IsSound zs × IsRested zs
+  abbrev pub IsFreed : List Element → List HeightElement → Type 0
+  IsFreed zs hs = (erased zs ≡ hs) × IsSound zs × IsRested zs
 
   freed-active : (a : Does) (x : Element) (go : List Record → List Element) (xs : List Element) → IsActive a → freed m a x go xs ≡ x ∷ xs
-  freed-active (Vanishes rs) x go xs h = absurd h
-  freed-active (Wakes y) x go xs h = absurd h
-  freed-active (Takes p) x go xs h = refl
-  freed-active (Asks g) x go xs h = refl
+  freed-active (Drops rs) x go xs h = absurd h
+  freed-active (Becomes y) x go xs h = absurd h
+  freed-active (Infers p) x go xs h = refl
+  freed-active (AsksWorld g) x go xs h = refl
 
   -- a plain entry with these items after its catch marks
   abbrev plain_free : List (Item Name) → Name → Continuation Name → List Element → List Element
@@ -77,38 +78,39 @@ module _ (clauses : List Clause) where
   item-free (RemovalItem n ∷ items) p f xs = refl
 
   stays : (x : Element) (xs : List Element) (hs : List HeightElement) → erased (x ∷ xs) ≡ hs → IsSound (x ∷ xs)
-      → IsActive (act clauses x) → IsFine (x ∷ map (gives m []) xs) hs
-  stays x xs hs e i a = subst (λ l. IsFine (x ∷ l) hs) (sym (map-none m xs)) (e, i, a)
+      → IsActive (act clauses x) → IsFreed (x ∷ map (gives m []) xs) hs
+  stays x xs hs e i a = subst (λ l. IsFreed (x ∷ l) hs) (sym (map-none m xs)) (e, i, a)
 
   -- the free steps of what lies under
   abbrev Later : List Element → ℕ → Type 0
   Later xs j = (rs : List Record) → Each (λ o. IsGathered xs o.0) rs
-      → IsFine (free_steps m rs xs) (held_free_steps_within j (held_collected_all (map (record_height xs) rs) (erased xs)))
+      → IsFreed (free_steps m rs xs) (height_free_steps_within j (height_collected_all (map (record_height xs) rs) (erased xs)))
 
-  plain-fine : (items : List (Item Name)) (p : Name) (f : Continuation Name) (xs : List Element) (j : ℕ) → Later xs j → IsSound xs
-      → IsEntrySound p xs (names items) items → IsFine (plain_free (without_marks items) p f xs)
-      (held_plain_free_step (map (with_height (height xs)) (without_marks items)) (with_heights (height xs) f) (erased xs)
-      (held_free_steps_within j))
-  plain-fine [] p f xs j next i s = stays (Plain p (with_items [] f)) xs _ refl (s, i) tt
-  plain-fine (GoalItem g h ∷ items) p f xs j next i s = stays (Plain p (with_items (GoalItem g h ∷ items) f)) xs _ refl (s, i)
+  plain-freed : (items : List (Item Name)) (p : Name) (f : Continuation Name) (xs : List Element) (j : ℕ) → Later xs j → IsSound xs
+      → IsEntrySound p xs (names items) items → IsFreed (plain_free (without_marks items) p f xs)
+      (height_plain_free_step (map (with_height (height xs)) (without_marks items)) (continuation_heights (height xs) f) (erased xs)
+      (height_free_steps_within j))
+  plain-freed [] p f xs j next i s = stays (Plain p (with_items [] f)) xs _ refl (s, i) tt
+  plain-freed (GoalItem g h ∷ items) p f xs j next i s = stays (Plain p (with_items (GoalItem g h ∷ items) f)) xs _ refl (s, i)
       (goal-active clauses (outcome_of clauses g f.next) p h (with_items items f))
-  plain-fine (CatchMark k ∷ items) p f xs j next i s = plain-fine items p f xs j next i
+  plain-freed (CatchMark k ∷ items) p f xs j next i s = plain-freed items p f xs j next i
       (record { carried = carried_rest p xs k (names items) s.carried; marks = s.marks.1; findalls = s.findalls })
-  plain-fine (CollectMark t k ∷ items) p f xs j next i s = next ((k, t) ∷ []) (s.marks.0, tt)
-  plain-fine (RemovalItem n ∷ items) p f xs j next i s = stays (Plain p (with_items (RemovalItem n ∷ items) f)) xs _ refl (s, i) tt
+  plain-freed (CollectMark t k ∷ items) p f xs j next i s = next ((k, t) ∷ []) (s.marks.0, tt)
+  plain-freed (RemovalItem n ∷ items) p f xs j next i s = stays (Plain p (with_items (RemovalItem n ∷ items) f)) xs _ refl (s, i) tt
 
   later : (xs : List Element) (j : ℕ)
-      → ((ys : List Element) → length ys ≤ length xs → IsSound ys → count ys ≤ j
-      → IsFine (free_steps m [] ys) (held_free_steps_within j (erased ys))) → IsSound xs → count xs ≤ j → Later xs j
+      → ((ys : List Element) → length ys ≤ length xs → IsSound ys → element_count ys ≤ j
+      → IsFreed (free_steps m [] ys) (height_free_steps_within j (erased ys))) → IsSound xs → element_count xs ≤ j → Later xs j
   later xs j ih i c rs g =
       let ys : List Element = map (gives m rs) xs in
-      let fine : IsFine (free_steps m [] ys) (held_free_steps_within j (erased ys)) = ih ys (omega (arith, length-map (gives m rs) xs))
+      let fine : IsFreed (free_steps m [] ys) (height_free_steps_within j (erased ys)) = ih ys (omega (arith, length-map (gives m rs) xs))
       (sound-gives clauses rs xs i) (omega (arith, count-gives clauses rs xs)) in
-      subst (λ l. IsFine l (held_free_steps_within j (held_collected_all (map (record_height xs) rs) (erased xs)))) (sym (settle-map m rs xs))
-      (subst (λ hs. IsFine (free_steps m [] ys) (held_free_steps_within j hs)) (gathered-gives clauses rs xs i g) fine)
+      subst (λ l. IsFreed l (height_free_steps_within j (height_collected_all (map (record_height xs) rs) (erased xs))))
+      (sym (settle-map m rs xs))
+      (subst (λ hs. IsFreed (free_steps m [] ys) (height_free_steps_within j hs)) (gathered-gives clauses rs xs i g) fine)
 
-  settles : (n : ℕ) (xs : List Element) → length xs ≤ n → IsSound xs → (j : ℕ) → count xs ≤ j
-      → IsFine (free_steps m [] xs) (held_free_steps_within j (erased xs))
+  settles : (n : ℕ) (xs : List Element) → length xs ≤ n → IsSound xs → (j : ℕ) → element_count xs ≤ j
+      → IsFreed (free_steps m [] xs) (height_free_steps_within j (erased xs))
   settles n [] h i zero c = (refl, tt, tt)
   settles n [] h i (suc j) c = (refl, tt, tt)
   settles zero (x ∷ xs) h i j c = absurd (omega arith)
@@ -118,34 +120,36 @@ module _ (clauses : List Clause) where
   settles (suc n) (Credit (suc k) rs ∷ xs) h i (suc j) c = stays (Credit (suc k) rs) xs _ refl i tt
   settles (suc n) (Plain p f ∷ xs) h i zero c = absurd (omega arith)
   settles (suc n) (Plain p f ∷ xs) h i (suc j) c =
-      let go : IsFine (plain_free (without_marks f.items) p f xs)
-      (held_plain_free_step (map (with_height (height xs)) (without_marks f.items)) (with_heights (height xs) f) (erased xs)
-      (held_free_steps_within j)) = plain-fine f.items p f xs j
+      let go : IsFreed (plain_free (without_marks f.items) p f xs)
+      (height_plain_free_step (map (with_height (height xs)) (without_marks f.items)) (continuation_heights (height xs) f) (erased xs)
+      (height_free_steps_within j)) = plain-freed f.items p f xs j
       (later xs j (λ ys l s d. settles n ys (omega arith) s j d) i.1 (omega arith)) i.1 i.0 in
-      subst (λ l. IsFine l (held_free_steps_within (suc j) (erased (Plain p f ∷ xs)))) (sym (item-free f.items p f xs))
-      (subst (λ is. IsFine (plain_free (without_marks f.items) p f xs)
-      (held_plain_free_step is (with_heights (height xs) f) (erased xs) (held_free_steps_within j))) (sym (marks-heights (height xs) f.items))
+      subst (λ l. IsFreed l (height_free_steps_within (suc j) (erased (Plain p f ∷ xs)))) (sym (item-free f.items p f xs))
+      (subst (λ is. IsFreed (plain_free (without_marks f.items) p f xs)
+      (height_plain_free_step is (continuation_heights (height xs) f) (erased xs) (height_free_steps_within j)))
+      (sym (marks-heights (height xs) f.items))
       go)
   settles (suc n) (Catch s u t r p f ∷ xs) h i zero c = absurd (omega arith)
   settles (suc n) (Catch s u t r p f ∷ xs) h i (suc j) c = settles n xs (omega arith) i.2 j (omega arith)
   settles (suc n) (Findall s u results list p f ∷ xs) h i zero c = absurd (omega arith)
   settles (suc n) (Findall s u results list p f ∷ xs) h i (suc j) c =
       let eq : Term = binary (codes "=") list (list_term results) in
-      let woken : with_heights (height xs) (results_first results list u f) ≡ before (GoalItem eq (length (erased xs)) ∷ [])
-      (with_heights (height xs) f) = goals-heights (height xs) (height xs) u (length (erased xs)) (eq ∷ []) f
+      let woken : continuation_heights (height xs) (results_first results list u f) ≡ before (GoalItem eq (length (erased xs)) ∷ [])
+      (continuation_heights (height xs) f) = goals-heights (height xs) (height xs) u (length (erased xs)) (eq ∷ []) f
       (i.1 ∙ sym (length-erased xs)) (sames (height xs) (names f.items)) in
       let entry : IsEntrySound p xs (u ∷ names f.items) (GoalItem eq u ∷ f.items) = record
       { carried = i.0.carried; marks = (tt, i.0.marks); findalls = i.0.findalls } in
       stays (Plain p (results_first results list u f)) xs
-      (HeightEntry (held_findall_ends results list (with_heights (height xs) f) (erased xs)) ∷ erased xs)
+      (HeightEntry (height_findall_ends results list (continuation_heights (height xs) f) (erased xs)) ∷ erased xs)
       (ap (λ k. HeightEntry (PlainEntry k) ∷ erased xs) woken) (entry, i.3)
       (goal-active clauses (outcome_of clauses eq f.next) p u f)
   settles (suc n) (End p b ∷ xs) h i zero c = absurd (omega arith)
   settles (suc n) (End p b ∷ xs) h i (suc j) c = stays (End p b) xs _ refl i tt
 
   -- the free steps of a sound list by names and by heights
-  pub settle-held : (xs : List Element) (hs : List HeightElement) → erased xs ≡ hs → IsSound xs
-      → IsFine (free_steps m [] xs) (held_settle hs)
-  settle-held xs hs e i =
-      let size : count xs ≤ length hs = omega (arith, length-erased xs, ap length e) in
-      subst (λ l. IsFine (free_steps m [] xs) (held_free_steps_within (length hs) l)) e (settles (length xs) xs (omega arith) i (length hs) size)
+  pub settle-height : (xs : List Element) (hs : List HeightElement) → erased xs ≡ hs → IsSound xs
+      → IsFreed (free_steps m [] xs) (height_settle hs)
+  settle-height xs hs e i =
+      let size : element_count xs ≤ length hs = omega (arith, length-erased xs, ap length e) in
+      subst (λ l. IsFreed (free_steps m [] xs) (height_free_steps_within (length hs) l)) e
+      (settles (length xs) xs (omega arith) i (length hs) size)

@@ -23,8 +23,8 @@ use Rattle.tree_model.specs.Ways.{under_query}
 use Rattle.tree_model.specs.SoundTrees.{IsSoundTree}
 use Rattle.tree_model.specs.CaughtTrees.{MarksCaught, IsCaughtTree}
 use Rattle.tree_model.specs.Elements.{Name, Record, Element, Credit, Plain, EndOf, End}
-use Rattle.interleaving.specs.Machine.{Machine, Asks, Seek, gives, placed, search_for, free_steps, run, seen}
-use Rattle.interleaving.specs.Scopes.{Shared, Sought, Thrown, Lands, act, item_act, goal_act, replied, scoped}
+use Rattle.interleaving.specs.Machine.{Machine, AsksWorld, Seek, gives, placed, search_for, free_steps, run, seen}
+use Rattle.interleaving.specs.Scopes.{Shared, Sought, Thrown, ElementReplacement, act, item_act, goal_act, world_replied, scoped}
 use Rattle.interleaving.specs.Quiet.{inferences, records}
 use Rattle.interleaving.specs.Sound.{IsSound}
 use Rattle.interleaving.specs.Follows.{lead, Follows}
@@ -37,24 +37,25 @@ use Rattle.interleaving.proofs.QuietCreditLemmas.{gives-fixed}
 use Rattle.interleaving.proofs.ListChangeLemmas.{records_given}
 use Rattle.interleaving.proofs.SoundEarlyLemmas.{sound-after}
 use Rattle.interleaving.proofs.SoundStepLemmas.{asks-sound}
-use Rattle.interleaving.proofs.LeadLemmas.{lead-quiet, follows_then, follows_becoming}
+use Rattle.interleaving.proofs.LeadLemmas.{lead-quiet, follows_then, follows_from, follows_becoming}
 use Rattle.interleaving.proofs.ClockLemmas.{IsFirst, quiet-append, inferences-append, front_quiet}
 use Rattle.interleaving.proofs.EndLemmas.{end_pending}
 use Rattle.interleaving.proofs.HaltMoveLemmas.{dropped_names}
-use Rattle.interleaving.proofs.ListScopeLemmas.{sleeps_on}
+use Rattle.interleaving.proofs.ListScopeLemmas.{dormant_on}
 use Rattle.interleaving.proofs.ListsSoundLemmas.{lists_are_sound}
 use Rattle.interleaving.proofs.WakeLemmas.{second_right}
 use Rattle.interleaving.proofs.FrontCloseLemmas.{bare}
 use Rattle.interleaving.proofs.CaughtFrontLemmas.{clear_part}
-use Rattle.interleaving.proofs.FallLemmas.{Fall, Nobody, Catches, fall, fall_entries, MarkSleeps, IsTaken, IsCatcher, landing_falls}
-use Rattle.interleaving.proofs.FallLemmas.{fall_taken, first_height, first_sleeps}
+use Rattle.interleaving.proofs.CatchingLemmas.{Catching, Uncaught, CaughtBy, catching, catching_entries, MarkIsDormant, IsTaken, IsCatcher}
+use Rattle.interleaving.proofs.CatchingLemmas.{ball_scope_falls}
+use Rattle.interleaving.proofs.CatchingLemmas.{catching_taken, first_height, first_dormant}
 use Rattle.interleaving.proofs.BallPlaceLemmas.{query_at}
 use Rattle.interleaving.proofs.LowerListLemmas.{lower_back, back_split}
 use Rattle.interleaving.proofs.BallSearchLemmas.{mark_name, first_name, named_recovery, catch_element}
 use Rattle.interleaving.proofs.BallCatchLemmas.{finds, search_found, none_lost, loses}
 use Rattle.interleaving.proofs.BallFollowsLemmas.{free_top}
 use Rattle.interleaving.proofs.BallRecoveryLemmas.{ball_wakes, front_passes, front_sound}
-use Rattle.interleaving.proofs.LostBallLemmas.{lost_end, lost_lands}
+use Rattle.interleaving.proofs.LostBallLemmas.{lost_end, lost_ball_closes}
 use Rattle.interleaving.proofs.PrunedBallLemmas.{placed_here, free_here, distinct_here, root_here, unspent_here, sides_here, list_here}
 use Rattle.interleaving.proofs.PrunedBallLemmas.{sound_here, root_is, recovery, caught_ends}
 use Rattle.interleaving.proofs.FrontStepLemmas.{bare_sound, front_taken, gate_moves}
@@ -85,12 +86,13 @@ module _ (t : TreeState) (w : ℕ) (a : Place) (s : Spot) (f : Continuation ℕ)
   o = record { inside = first.inside; opened = first.opened }
 
   -- the tree after a ball
-  abbrev fallen : World → Term → Fall → TreeState
-  fallen after ball x = record (ball_falls s (fall_entries ball x) (record t { world = after }))
+  abbrev fallen : World → Term → Catching → TreeState
+  fallen after ball x = record (ball_falls s (catching_entries ball x) (record t { world = after }))
       { history = t.history ++ Answer w a false ∷ [] }
 
-  module _ (g : Shared → Shared × Lands) (after : World) (ball : Term) (mark : Option ℕ) (sleeps : MarkSleeps (levels_of s) mark)
-      (asks : act t.job.clauses (bare t.job.clauses own named) ≡ Asks g)
+  module _ (g : Shared → Shared × ElementReplacement) (after : World) (ball : Term) (mark : Option ℕ)
+      (sleeps : MarkIsDormant (levels_of s) mark)
+      (asks : act t.job.clauses (bare t.job.clauses own named) ≡ AsksWorld g)
       (place : (v : Shared) → v ≡ shared_of answers t → (g v).1 ≡ Seek (Thrown ball (mark_name (way_of (levels_of s)) mark) own)) where
     abbrev sought : Sought
     sought = Thrown ball (mark_name (way_of levels) mark) own
@@ -111,13 +113,13 @@ module _ (t : TreeState) (w : ℕ) (a : Place) (s : Spot) (f : Continuation ℕ)
         (ap (λ p. placed m p (given (back_of levels))) (place (shared_of answers t) refl) ∙ found))
 
     caught_moves : (c : Level) (up : List Level) (r : Term) (h : Continuation ℕ) (u : Substitution)
-        → IsCatcher ball (levels_of s) c up r h u → fall ball (levels_of s) mark ≡ Catches c up r h u → (g (shared_of answers t)).0
-        ≡ shared_of answers (fallen after ball (Catches c up r h u))
-        → IsSoundTree (fallen after ball (Catches c up r h u)) → IsCaughtTree (fallen after ball (Catches c up r h u))
-        → AnswerMoves t (fallen after ball (Catches c up r h u)) answers answers
+        → IsCatcher ball (levels_of s) c up r h u → catching ball (levels_of s) mark ≡ CaughtBy c up r h u → (g (shared_of answers t)).0
+        ≡ shared_of answers (fallen after ball (CaughtBy c up r h u))
+        → IsSoundTree (fallen after ball (CaughtBy c up r h u)) → IsCaughtTree (fallen after ball (CaughtBy c up r h u))
+        → AnswerMoves t (fallen after ball (CaughtBy c up r h u)) answers answers
     caught_moves c up r h u q falls world j b =
         let clauses = t.job.clauses in
-        let new = fallen after ball (Catches c up r h u) in
+        let new = fallen after ball (CaughtBy c up r h u) in
         let p = placed_here t i k running s o f entry in
         let d = distinct_here t i k running s o f entry in
         let free = free_here t i k running s o f entry in
@@ -165,18 +167,18 @@ module _ (t : TreeState) (w : ℕ) (a : Place) (s : Spot) (f : Continuation ℕ)
           credit = v.spent + 1;
           one = refl;
           rest = rest;
-          follows = subst (λ x. Follows clauses (front_of levels ++ (Credit (v.spent + 1) [] ∷ rest)) (pending_list x)) (sym same)
-              (follows_then clauses _ _ _ one.follows two);
+          follows = follows_from _ clauses _ _ (subst (λ x. Follows clauses (front_of levels ++ (Credit (v.spent + 1) [] ∷ rest))
+              (pending_list x)) (sym same) (follows_then clauses _ _ _ one.follows two));
           alike = λ n. ap (λ l. seen (run m n (shared_of answers new) (free_steps m [] l))) (sym fixed);
           running = running;
         }) (λ l. absurd (end_pending new j (caught_ends t i k running s o f entry ball mark sleeps c up r h u q) l))
 
-    lost_moves : fall ball (levels_of s) mark ≡ Nobody → (g (shared_of answers t)).0 ≡ shared_of answers (fallen after ball Nobody)
-        → IsSoundTree (fallen after ball Nobody) → IsCaughtTree (fallen after ball Nobody)
-        → AnswerMoves t (fallen after ball Nobody) answers answers
+    lost_moves : catching ball (levels_of s) mark ≡ Uncaught → (g (shared_of answers t)).0 ≡ shared_of answers (fallen after ball Uncaught)
+        → IsSoundTree (fallen after ball Uncaught) → IsCaughtTree (fallen after ball Uncaught)
+        → AnswerMoves t (fallen after ball Uncaught) answers answers
     lost_moves falls world j b =
         let clauses = t.job.clauses in
-        let new = fallen after ball Nobody in
+        let new = fallen after ball Uncaught in
         let p = placed_here t i k running s o f entry in
         let d = distinct_here t i k running s o f entry in
         let root = root_here t i k running s o f entry in
@@ -200,7 +202,7 @@ module _ (t : TreeState) (w : ℕ) (a : Place) (s : Spot) (f : Continuation ℕ)
         (λ l. Follows clauses (xs ++ (ball_end ∷ [])) (Credit (inferences xs) [] ∷ l)) fixed
         (follows_becoming clauses (xs ++ (ball_end ∷ [])) (Credit (inferences xs) [] ∷ map (gives m (records xs)) (ball_end ∷ []))
         rows (omega (arith, long))) in
-        let two = lost_lands clauses t.next v s.above status p.around root.last q below own (Some (copied ball 0)) (inferences xs)
+        let two = lost_ball_closes clauses t.next v s.above status p.around root.last q below own (Some (copied ball 0)) (inferences xs)
         unspent (omega (arith, total, unspent)) in
         let joined : xs ++ (ball_end ∷ []) ≡ front ++ (Credit (v.spent + 1) [] ∷ (ball_end ∷ [])) = append-assoc front
         (Credit (v.spent + 1) [] ∷ []) (ball_end ∷ []) in
@@ -212,37 +214,39 @@ module _ (t : TreeState) (w : ℕ) (a : Place) (s : Spot) (f : Continuation ℕ)
           credit = v.spent + 1;
           one = refl;
           rest = ball_end ∷ [];
-          follows = subst (λ l. Follows clauses l (pending_list new.root)) joined (follows_then clauses _ _ _ one two);
+          follows = follows_from _ clauses _ _ (subst (λ l. Follows clauses l (pending_list new.root)) joined
+              (follows_then clauses _ _ _ one two));
           alike = λ n. ap (λ l. seen (run m n (shared_of answers new) (free_steps m [] l)))
               (sym (ap (λ x. x ∷ []) (gives-fixed clauses rs ball_end tt)));
           running = running;
         }) (λ l. absurd (end_pending new j (lost_end clauses t.next v s.above status p.around root.last q below (Some (copied ball 0))) l))
 
-    pub falls_move : (x : Fall) → fall ball (levels_of s) mark ≡ x → IsTaken ball (levels_of s) x → (g (shared_of answers t)).0
+    pub falls_move : (x : Catching) → catching ball (levels_of s) mark ≡ x → IsTaken ball (levels_of s) x → (g (shared_of answers t)).0
         ≡ record (shared_of answers t) { world = after; halted = None } → IsSoundTree (fallen after ball x)
         → IsCaughtTree (fallen after ball x) → AnswerMoves t (fallen after ball x) answers answers
-    falls_move Nobody falls q world j b = lost_moves falls
+    falls_move Uncaught falls q world j b = lost_moves falls
         (world ∙ ap (λ h. record { world = after; queries = t.queries; answers = answers; halted = h }) (sym running)) j b
-    falls_move (Catches c up r h u) falls q world j b = caught_moves c up r h u q falls
+    falls_move (CaughtBy c up r h u) falls q world j b = caught_moves c up r h u q falls
         (world ∙ ap (λ h. record { world = after; queries = t.queries; answers = answers; halted = h }) (sym running)) j b
 
   -- a goal of the world that throws
   pub ball_moves : (goal ask : Term) (scope : ℕ) (items : List (Item ℕ)) (after : World) (ball : Term) → without_marks f.items
-      ≡ GoalItem goal scope ∷ items → MarksCaught (sleeps_on (levels_of s)) items → outcome_of t.job.clauses goal f.next ≡ AskWorld ask
+      ≡ GoalItem goal scope ∷ items → MarksCaught (dormant_on (levels_of s)) items → outcome_of t.job.clauses goal f.next ≡ AskWorld ask
       → world_step t.job.clauses ask f.next t.world ≡ (after, Ball ball) → IsSoundTree (after_event t (Answer w a false))
       → IsCaughtTree (after_event t (Answer w a false)) → AnswerMoves t (after_event t (Answer w a false)) answers answers
   ball_moves goal ask scope items after ball q marks outcome step j r =
       let clauses = t.job.clauses in
       let mark = first_mark items in
-      let sleeps = first_sleeps levels items marks in
+      let sleeps = first_dormant levels items marks in
       let p = placed_here t i k running s o f entry in
       let root = root_here t i k running s o f entry in
       let status = Pending s.hold s.entry in
-      let lands_so : unwound ball (first_mark (by_heights levels items)) (floor_of levels) ≡ fall_entries ball (fall ball levels mark) =
-      ap (λ n. unwound ball n (floor_of levels)) (first_height levels items) ∙ landing_falls ball levels status mark p.around
+      let lands_so : unwound ball (first_mark (by_heights levels items)) (floor_of levels)
+      ≡ catching_entries ball (catching ball levels mark) =
+      ap (λ n. unwound ball n (floor_of levels)) (first_height levels items) ∙ ball_scope_falls ball levels status mark p.around
       root.caught sleeps in
       let high = fh t w a s f e entry in
-      let tree : after_event t (Answer w a false) ≡ fallen after ball (fall ball levels mark) =
+      let tree : after_event t (Answer w a false) ≡ fallen after ball (catching ball levels mark) =
       moved_is t w a s f e entry (GoalItem goal scope ∷ items) q
       ∙ (ap (λ x. record (world_moved s
       (goal_at_front clauses x (with_items (by_heights levels items) high) (floor_of levels) t.world) t)
@@ -251,17 +255,17 @@ module _ (t : TreeState) (w : ℕ) (a : Place) (s : Spot) (f : Continuation ℕ)
       { history = t.history ++ Answer w a false ∷ [] }) step
       ∙ ap (λ es. record (ball_falls s es (record t { world = after })) { history = t.history ++ Answer w a false ∷ [] }) lands_so)) in
       let nr : Continuation Name = record { items = map (renamed_item sc sc) items; named = f.named; next = f.next } in
-      let g : Shared → Shared × Lands = λ v. replied (world_step clauses ask f.next v.world) own nr v in
+      let g : Shared → Shared × ElementReplacement = λ v. world_replied (world_step clauses ask f.next v.world) own nr v in
       let ws : without_marks named.items ≡ GoalItem goal (sc scope) ∷ map (renamed_item sc sc) items = dropped_names sc sc f.items
       ∙ ap (map (renamed_item sc sc)) q in
       let asks : act clauses (bare clauses own named)
-      ≡ Asks g = ap (λ is. item_act clauses is own (with_items (without_marks named.items) named)) ws
+      ≡ AsksWorld g = ap (λ is. item_act clauses is own (with_items (without_marks named.items) named)) ws
       ∙ ap (λ x. goal_act clauses x own (sc scope) nr) outcome in
       let place : (g (shared_of answers t)).1 ≡ Seek (Thrown ball (mark_name (way_of levels) mark) own) = ap
-      (λ x. (replied x own nr (shared_of answers t)).1) step
+      (λ x. (world_replied x own nr (shared_of answers t)).1) step
       ∙ ap (λ n. Seek (Thrown ball n own)) (first_name (way_of levels) items) in
       let world : (g (shared_of answers t)).0 ≡ record (shared_of answers t) { world = after; halted = None } = ap
-      (λ x. (replied x own nr (shared_of answers t)).0) step in
+      (λ x. (world_replied x own nr (shared_of answers t)).0) step in
       subst (λ new. AnswerMoves t new answers answers) (sym tree)
-      (falls_move g after ball mark sleeps asks (λ x y. ap (λ z. (g z).1) y ∙ place) (fall ball levels mark) refl
-      (fall_taken ball levels status mark p.around root.caught sleeps) world (subst IsSoundTree tree j) (subst IsCaughtTree tree r))
+      (falls_move g after ball mark sleeps asks (λ x y. ap (λ z. (g z).1) y ∙ place) (catching ball levels mark) refl
+      (catching_taken ball levels status mark p.around root.caught sleeps) world (subst IsSoundTree tree j) (subst IsCaughtTree tree r))

@@ -6,8 +6,8 @@ use Rattle.tree_model.specs.Nodes.{Alternatives, alternative, Status, Inner}
 use Rattle.tree_model.specs.Levels.{Level, put_left, level_node, plug}
 use Rattle.tree_model.specs.CaughtTrees.{IsUnspent, AreUnspent}
 use Rattle.tree_model.specs.Elements.{Name, Record, Element, Credit, Plain}
-use Rattle.interleaving.specs.Machine.{Machine, Asks, Vanishes, Put, gives, freed, placed, free_steps, run, seen}
-use Rattle.interleaving.specs.Scopes.{Shared, Sought, Lands, Does, act, unmarked, scoped}
+use Rattle.interleaving.specs.Machine.{Machine, AsksWorld, Drops, Put, gives, freed, placed, free_steps, run, seen}
+use Rattle.interleaving.specs.Scopes.{Shared, Sought, ElementReplacement, Does, act, unmarked, scoped}
 use Rattle.interleaving.specs.Quiet.{IsQuiet, inferences, records}
 use Rattle.interleaving.proofs.QuietCreditLemmas.{gives-fixed}
 use Rattle.interleaving.proofs.CreditLawLemmas.{further}
@@ -26,8 +26,8 @@ module _ (clauses : List Clause) where
   abbrev pub bare : Name → Continuation Name → Element
   bare p f = Plain p (with_items (without_marks f.items) f)
 
-  marked : (items : List (Item Name)) (p : Name) (f : Continuation Name) (g : Shared → Shared × Lands) (x : Element)
-      (go : List Record → List Element) (zs : List Element) → act clauses (Plain p (with_items items f)) ≡ Asks g
+  marked : (items : List (Item Name)) (p : Name) (f : Continuation Name) (g : Shared → Shared × ElementReplacement) (x : Element)
+      (go : List Record → List Element) (zs : List Element) → act clauses (Plain p (with_items items f)) ≡ AsksWorld g
       → freed m (unmarked items p f) x go zs ≡ Plain p (with_items items f) ∷ zs
   marked [] p f g x go zs h = refl
   marked (GoalItem t s ∷ items) p f g x go zs h = refl
@@ -35,15 +35,16 @@ module _ (clauses : List Clause) where
   marked (RemovalItem k ∷ items) p f g x go zs h = refl
   marked (CollectMark t s ∷ items) p f g x go zs h = absurd (no_way h)
     where
-      no_way : ◌≡◌ {A = Does} (Vanishes ((s, t) ∷ [])) (Asks g) → ⊥
+      no_way : ◌≡◌ {A = Does} (Drops ((s, t) ∷ [])) (AsksWorld g) → ⊥
       no_way h = cc
 
-  stands_up : (x : Element) (g : Shared → Shared × Lands) (zs : List Element) → act clauses x ≡ Asks g → free_steps m [] (x ∷ zs)
+  stands_up : (x : Element) (g : Shared → Shared × ElementReplacement) (zs : List Element) → act clauses x ≡ AsksWorld g
+      → free_steps m [] (x ∷ zs)
       ≡ x ∷ map (gives m []) zs
   stands_up x g zs h = ap (λ a. freed m a x (λ new. free_steps m new zs) (map (gives m []) zs)) h
 
-  pub unmark : (items : List (Item Name)) (p : Name) (f : Continuation Name) (g : Shared → Shared × Lands) (zs : List Element)
-      → act clauses (Plain p (with_items (without_marks items) f)) ≡ Asks g → free_steps m [] (Plain p (with_items items f) ∷ zs)
+  pub unmark : (items : List (Item Name)) (p : Name) (f : Continuation Name) (g : Shared → Shared × ElementReplacement) (zs : List Element)
+      → act clauses (Plain p (with_items (without_marks items) f)) ≡ AsksWorld g → free_steps m [] (Plain p (with_items items f) ∷ zs)
       ≡ free_steps m [] (Plain p (with_items (without_marks items) f) ∷ zs)
   unmark [] p f g zs h = refl
   unmark (GoalItem t s ∷ items) p f g zs h = refl
@@ -61,8 +62,9 @@ module _ (clauses : List Clause) where
       ∙ ap (λ y. run m n w (free_steps m [] (y ∷ map (gives m (records xs)) zs))) e)
 
   -- the front of the list after the gate
-  pub front_closes : (front zs : List Element) (sp : ℕ) (p : Name) (f : Continuation Name) (g : Shared → Shared × Lands) (w : Shared)
-      (n : ℕ) → IsQuiet front → sp ≡ 0 → act clauses (bare p f) ≡ Asks g → (g w).1 ≡ Put []
+  pub front_closes : (front zs : List Element) (sp : ℕ) (p : Name) (f : Continuation Name) (g : Shared → Shared × ElementReplacement)
+      (w : Shared)
+      (n : ℕ) → IsQuiet front → sp ≡ 0 → act clauses (bare p f) ≡ AsksWorld g → (g w).1 ≡ Put []
       → seen (run m (inferences front + suc n) w (free_steps m [] (front ++ (Credit sp [] ∷ (Plain p f ∷ zs)))))
       ≡ seen (run m (inferences front + suc n) (g w).0 (free_steps m [] (front ++ (Credit 1 [] ∷ zs))))
   front_closes front zs sp p f g w n q unspent h e =

@@ -7,7 +7,7 @@ use Rattle.run_model.specs.Goals.Worlds.{World}
 use Rattle.run_model.specs.Machine.Items.{Continuation}
 use Rattle.run_model.specs.Machine.Entries.{Entry, PlainEntry, CatchEntry, FindallEntry, EndEntry}
 use Rattle.tree_model.specs.Credits.{credit_of}
-use Rattle.tree_model.specs.Nodes.{ChoiceNode, Ready, Numbered, Pending, Inner, Closed, standing}
+use Rattle.tree_model.specs.Nodes.{ChoiceNode, Ready, Numbered, Pending, Inner, Closed, entry_alternatives}
 use Rattle.tree_model.specs.Levels.{plug, Spot, levels_of}
 use Rattle.tree_model.specs.Floors.{node_of, with_nodes}
 use Rattle.tree_model.specs.Events.{Event}
@@ -18,8 +18,8 @@ use Rattle.tree_model.specs.Ways.{under_query}
 use Rattle.tree_model.specs.SoundTrees.{IsSoundTree}
 use Rattle.tree_model.specs.CaughtTrees.{IsCaught, IsUnspent, IsCaughtTree}
 use Rattle.tree_model.specs.Elements.{Name, Record, Element, Credit, Plain}
-use Rattle.interleaving.specs.Machine.{Machine, Asks, Put, gives, placed, free_steps, run, seen}
-use Rattle.interleaving.specs.Scopes.{Shared, Sought, Lands, act, scoped}
+use Rattle.interleaving.specs.Machine.{Machine, AsksWorld, Put, gives, placed, free_steps, run, seen}
+use Rattle.interleaving.specs.Scopes.{Shared, Sought, ElementReplacement, act, scoped}
 use Rattle.interleaving.specs.Quiet.{IsFixed, inferences, records}
 use Rattle.interleaving.specs.Erased.{erased}
 use Rattle.interleaving.specs.Sound.{IsSound}
@@ -35,7 +35,7 @@ use Rattle.interleaving.proofs.GivenHeightLemmas.{sound-gives}
 use Rattle.interleaving.proofs.SoundStepLemmas.{asks-sound}
 use Rattle.interleaving.proofs.SoundEarlyLemmas.{sound-after}
 use Rattle.interleaving.proofs.RunHeightLemmas.{names_are_free}
-use Rattle.interleaving.proofs.LeadLemmas.{follows_same}
+use Rattle.interleaving.proofs.LeadLemmas.{follows_same, follows_from}
 use Rattle.interleaving.proofs.ClockLemmas.{IsFirst, front_quiet}
 use Rattle.interleaving.proofs.EndLemmas.{end_pending, back_end, round_end}
 use Rattle.interleaving.proofs.ClosingEndLemmas.{closes_end}
@@ -53,7 +53,7 @@ use Rattle.interleaving.proofs.FrontStepLemmas.{bare_sound, front_taken, gate_mo
 
 -- records change no entry that is ready
 among_fixed : (way : Way) (n : ℕ) (i : ℕ) (node : ℕ → ℕ) (es : List Entry) → ArePlain es
-    → Each IsFixed (list_among way n ChoiceNode i (standing Ready (map (with_nodes node) es)))
+    → Each IsFixed (list_among way n ChoiceNode i (entry_alternatives Ready (map (with_nodes node) es)))
 among_fixed way n i node [] h = tt
 among_fixed way n i node (PlainEntry f ∷ es) h = (tt, (tt, (tt, among_fixed way n (suc i) node es h)))
 among_fixed way n i node (CatchEntry c r f ∷ es) h = absurd h
@@ -72,7 +72,7 @@ left_tree t s es after e = record (left_at s es (record t { world = after })) { 
 module _ (t : TreeState) (s : Spot) (f : Continuation ℕ) (after : World) (e : Event) (answers : ℕ) (i : IsSoundTree t)
     (k : IsCaughtTree t) (running : t.halted ≡ None) (first : IsFirst t s) (entry : s.entry ≡ PlainEntry f)
     (asked : under_query (way_of (levels_of s)) ≡ true)
-    (g : Shared → Shared × Lands) where
+    (g : Shared → Shared × ElementReplacement) where
   abbrev way : Way
   way = way_of (levels_of s)
 
@@ -87,7 +87,7 @@ module _ (t : TreeState) (s : Spot) (f : Continuation ℕ) (after : World) (e : 
 
   -- what is known of the gate
   pub record IsLeft (new : TreeState) (ys : List Element) : Type 0 where
-    pub asks : act t.job.clauses (bare t.job.clauses own (named_continuation way f)) ≡ Asks g
+    pub asks : act t.job.clauses (bare t.job.clauses own (named_continuation way f)) ≡ AsksWorld g
     pub place : (g (shared_of answers t)).1 ≡ Put ys
     pub world : (g (shared_of answers t)).0 ≡ shared_of answers new
 
@@ -135,9 +135,9 @@ module _ (t : TreeState) (s : Spot) (f : Continuation ℕ) (after : World) (e : 
       let levels = levels_of s in
       let clauses = t.job.clauses in
       let rs = records (front_of levels) in
-      let inner = list_among way t.next ChoiceNode 0 (standing Ready (map (with_nodes (node_of levels)) (x ∷ es))) in
+      let inner = list_among way t.next ChoiceNode 0 (entry_alternatives Ready (map (with_nodes (node_of levels)) (x ∷ es))) in
       let list : pending_list new.root ≡ front_of levels ++ (Credit (s.level.spent + 1) [] ∷ (inner ++ back_of levels)) = around
-      (spending 1 levels) (Inner (Numbered t.next ChoiceNode (standing Ready (map (with_nodes (node_of levels)) (x ∷ es))))) in
+      (spending 1 levels) (Inner (Numbered t.next ChoiceNode (entry_alternatives Ready (map (with_nodes (node_of levels)) (x ∷ es))))) in
       let fixed : map (gives (scoped clauses) rs) (inner ++ back_of levels) ≡ inner ++ given = map-parts clauses rs inner
       (back_of levels) ∙ ap (λ l. l ++ given)
       (map-fixed clauses rs inner (among_fixed way t.next 0 (node_of levels) (x ∷ es) plain)) in
@@ -152,7 +152,7 @@ module _ (t : TreeState) (s : Spot) (f : Continuation ℕ) (after : World) (e : 
       (same ∙ ap (λ l. erased (l ++ given)) (sym names)) in
       let p = placed_at t s i open_spot in
       let still = round_end (spending 1 levels)
-      (Inner (Numbered t.next ChoiceNode (standing Ready (map (with_nodes (node_of levels)) (x ∷ es)))))
+      (Inner (Numbered t.next ChoiceNode (entry_alternatives Ready (map (with_nodes (node_of levels)) (x ∷ es)))))
       (back_end levels p.around asked) in
       gate_moves t new s answers i k running first (record {
         element = Plain own (named_continuation way f);
@@ -162,7 +162,7 @@ module _ (t : TreeState) (s : Spot) (f : Continuation ℕ) (after : World) (e : 
         credit = s.level.spent + 1;
         one = refl;
         rest = inner ++ back_of levels;
-        follows = follows_same clauses _ _ (sym list);
+        follows = follows_from _ clauses _ _ (follows_same clauses _ _ (sym list));
         alike = λ n. free n (shared_of answers new)
             ∙ (sym (bares.alike n (shared_of answers new)) ∙ ap (λ l. seen (run m n (shared_of answers new) (free_steps m [] l)))
             (sym fixed));
@@ -192,7 +192,7 @@ module _ (t : TreeState) (s : Spot) (f : Continuation ℕ) (after : World) (e : 
       (closed_sound (length s.level.left) s.level.number clauses levels s.level.spent 1 (named_continuation way f) back first.clear
       (subst IsSound old_list (lists_are_sound t i k))) in
       let follows : Follows clauses (pending_list (plug levels (Closed one))) (pending_list new.root) = closes_follow clauses
-      (end_wakes clauses) (findall_wakes clauses) t.next levels one p.around distinct fresh caught.0 sound_base
+      (end_wakes clauses) (findall_wakes clauses) t.next levels one p.around distinct fresh caught.0 asked sound_base
       (lists_are_sound new j r) in
       gate_moves t new s answers i k running first (record {
         element = Plain own (named_continuation way f);
@@ -202,7 +202,7 @@ module _ (t : TreeState) (s : Spot) (f : Continuation ℕ) (after : World) (e : 
         credit = 1;
         one = (let u = unspent in omega (arith, u));
         rest = back;
-        follows = subst (λ l. Follows clauses l (pending_list new.root)) base follows;
+        follows = follows_from _ clauses _ _ (subst (λ l. Follows clauses l (pending_list new.root)) base follows);
         alike = λ n. ap seen (same (shared_of answers new) n);
         running = running;
       }) (λ l. absurd (end_pending new j (closes_end t.next levels one p.around asked) l))

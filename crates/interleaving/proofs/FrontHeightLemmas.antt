@@ -5,9 +5,10 @@ use Rattle.au_term.specs.Term.{Term}
 use Rattle.au_model.specs.Terms.Substitutions.{Substitution}
 use Rattle.au_model.specs.Terms.Unifier.{unifier}
 use Rattle.run_model.specs.Goals.Outcomes.{Solution}
-use Rattle.run_model.specs.Machine.Items.{Item, GoalItem, CatchMark, CollectMark, RemovalItem, Continuation, goals_at, resolve_item, resolve_named}
+use Rattle.run_model.specs.Machine.Items.{Item, GoalItem, CatchMark, CollectMark, RemovalItem, Continuation, goals_at, resolve_item}
+use Rattle.run_model.specs.Machine.Items.{resolve_named}
 use Rattle.run_model.specs.Machine.Items.{before, with_next}
-use Rattle.run_model.specs.Machine.Entries.{Entry, PlainEntry, unified as unified_entries, solution_entries as solved_entries}
+use Rattle.run_model.specs.Machine.Entries.{Entry, PlainEntry, unified, solution_entries}
 use Rattle.tree_model.specs.Nodes.{ChoiceNode, CatchNode, FindallNode}
 use Rattle.tree_model.specs.Levels.{Level}
 use Rattle.tree_model.specs.Floors.{renamed_item, height_of, node_of, with_nodes}
@@ -15,17 +16,18 @@ use Rattle.tree_model.specs.PendingLists.{Way, way_of, scope_on}
 use Rattle.tree_model.specs.Ways.{is_on, way_from, way_above, AreScoped}
 use Rattle.tree_model.specs.SoundTrees.{one_if}
 use Rattle.tree_model.specs.Elements.{Name, Element, Plain, EndOf}
-use Rattle.interleaving.specs.Scopes.{unified, solution_entries}
+use Rattle.interleaving.specs.Scopes.{unified_element, solution_elements}
 use Rattle.interleaving.specs.HeightMachine.{HeightEntry}
-use Rattle.interleaving.specs.Erased.{from, count, height, with_height, erased}
+use Rattle.interleaving.specs.Erased.{from, element_count, height, with_height, erased}
 use Rattle.interleaving.proofs.ContextLemmas.{count_around}
 use Rattle.interleaving.proofs.ClosingSoundLemmas.{IsFree, free-above}
-use Rattle.interleaving.proofs.WayLemmas.{reach-on, through-on, same_self}
+use Rattle.interleaving.proofs.WayLemmas.{reach-on, through-on}
 use Rattle.interleaving.proofs.RoundtripLemmas.{by_heights, height_positive, node_height, part_from, part_above}
 use Rattle.interleaving.proofs.EntryLemmas.{own_height}
-use Rattle.interleaving.proofs.NamingLemmas.{from_end, from_own}
+use Rattle.interleaving.proofs.NamingLemmas.{from_end, from_own, heights-resolved}
 use Rattle.interleaving.proofs.NamedFloorLemmas.{scope-above, scope-here, from-other}
 use Rattle.interleaving.proofs.PlacedNameLemmas.{olders, from_olders, other_node}
+use Rattle.interleaving.proofs.TestLemmas.{number_same}
 
 -- a new number is named by no height
 node_free : (next : ℕ) (levels : List Level) → IsFree next levels → 1 ≤ next → (h : ℕ) → node_of levels h ≡ next → ⊥
@@ -36,24 +38,15 @@ node_free next (v ∷ up) f l h e = go (h == suc (length up)) (node_free next up
     go false k z = k z
     go true k z =
         let none_there : count_around next (v ∷ up) ≡ 0 = f.fresh next (omega arith) in
-        let here : one_if (v.number == next) ≡ 1 = ap one_if (ap (λ n. n == next) z ∙ same_self next) in
+        let here : one_if (v.number == next) ≡ 1 = ap one_if (ap (λ n. n == next) z ∙ number_same next) in
         omega (arith, none_there, here)
 
 next_some : (next : ℕ) (v : Level) (up : List Level) → IsFree next (v ∷ up) → 1 ≤ next
 next_some zero v up f =
     let none_there : count_around v.number (v ∷ up) ≡ 0 = f.fresh v.number (omega arith) in
-    let here : one_if (v.number == v.number) ≡ 1 = ap one_if (same_self v.number) in
+    let here : one_if (v.number == v.number) ≡ 1 = ap one_if (number_same v.number) in
     let no_way : ⊥ = omega (arith, none_there, here) in absurd no_way
 next_some (suc n) v up f = omega arith
-
--- bindings change no scope
-pub resolved_heights : (h : Name → ℕ) (o : Substitution) (items : List (Item Name)) → map (with_height h) (map (resolve_item o) items)
-    ≡ map (resolve_item o) (map (with_height h) items)
-resolved_heights h o [] = refl
-resolved_heights h o (GoalItem t s ∷ items) = ap (λ l. resolve_item o (GoalItem t (h s)) ∷ l) (resolved_heights h o items)
-resolved_heights h o (CatchMark s ∷ items) = ap (λ l. CatchMark (h s - 1) ∷ l) (resolved_heights h o items)
-resolved_heights h o (CollectMark t s ∷ items) = ap (λ l. resolve_item o (CollectMark t (h s - 1)) ∷ l) (resolved_heights h o items)
-resolved_heights h o (RemovalItem n ∷ items) = ap (λ l. RemovalItem n ∷ l) (resolved_heights h o items)
 
 pub resolved_names : (f g : ℕ → ℕ) (o : Substitution) (items : List (Item ℕ)) → map (renamed_item f g) (map (resolve_item o) items)
     ≡ map (resolve_item o) (map (renamed_item f g) items)
@@ -97,15 +90,15 @@ module _ (v : Level) (up : List Level) (next : ℕ) (free : IsFree next (v ∷ u
   abbrev tall : ℕ → ℕ
   tall h = height (EndOf (length v.left ∷ v.number ∷ []) ∷ tail) (scope_on (way_of (v ∷ up)) (node_of (v ∷ up) h))
 
-  abbrev tall_mark : ℕ → ℕ
-  tall_mark h = height (EndOf (length v.left ∷ v.number ∷ []) ∷ tail) (scope_on (way_of (v ∷ up)) (node_of (v ∷ up) (suc h))) - 1
+  abbrev height_mark : ℕ → ℕ
+  height_mark h = height (EndOf (length v.left ∷ v.number ∷ []) ∷ tail) (scope_on (way_of (v ∷ up)) (node_of (v ∷ up) (suc h))) - 1
 
   abbrev below : ℕ → Way
   below k = record { node = next; index = k; kind = ChoiceNode } ∷ way_of (v ∷ up)
 
   tree_items : (h : Name → ℕ) (k : ℕ) → ((n : ℕ) → h (scope_on (below k) (node n)) ≡ tall n) → (items : List (Item ℕ))
       → map (with_height h) (map (renamed_item (scope_on (below k)) (scope_on (below k)))
-      (map (renamed_item node (λ n. node (suc n))) items)) ≡ map (renamed_item tall tall_mark) items
+      (map (renamed_item node (λ n. node (suc n))) items)) ≡ map (renamed_item tall height_mark) items
   tree_items h k f [] = refl
   tree_items h k f (GoalItem t s ∷ items) = ap
       (λ n. GoalItem t n ∷ map (with_height h)
@@ -114,23 +107,23 @@ module _ (v : Level) (up : List Level) (next : ℕ) (free : IsFree next (v ∷ u
   tree_items h k f (CatchMark s ∷ items) = ap
       (λ n. CatchMark (n - 1) ∷ map (with_height h)
       (map (renamed_item (scope_on (below k)) (scope_on (below k))) (map (renamed_item node (λ n. node (suc n))) items))) (f (suc s))
-      ∙ ap (λ l. CatchMark (tall_mark s) ∷ l) (tree_items h k f items)
+      ∙ ap (λ l. CatchMark (height_mark s) ∷ l) (tree_items h k f items)
   tree_items h k f (CollectMark t s ∷ items) = ap
       (λ n. CollectMark t (n - 1) ∷ map (with_height h)
       (map (renamed_item (scope_on (below k)) (scope_on (below k))) (map (renamed_item node (λ n. node (suc n))) items))) (f (suc s))
-      ∙ ap (λ l. CollectMark t (tall_mark s) ∷ l) (tree_items h k f items)
+      ∙ ap (λ l. CollectMark t (height_mark s) ∷ l) (tree_items h k f items)
   tree_items h k f (RemovalItem n ∷ items) = ap (λ l. RemovalItem n ∷ l) (tree_items h k f items)
 
   here : (s : ℕ) → is_on way s ≡ true → tall (height_of (v ∷ up) s) ≡ height rest (scope_on way s)
   here s o = ap (λ n. height rest (scope_on way n)) (node_height (v ∷ up) s o)
 
-  mark_here : (s : ℕ) → is_on way s ≡ true → tall_mark (height_of (v ∷ up) s - 1) ≡ height rest (scope_on way s) - 1
+  mark_here : (s : ℕ) → is_on way s ≡ true → height_mark (height_of (v ∷ up) s - 1) ≡ height rest (scope_on way s) - 1
   mark_here s o = ap (λ n. height rest (scope_on way (node n)) - 1) (height_positive (v ∷ up) s o) ∙ ap (λ n. n - 1) (here s o)
 
   names_items : (h : Name → ℕ) → ((r : ℕ) → h (scope_on way r) ≡ height rest (scope_on way r)) → (part : Way) (items : List (Item ℕ))
       → ((r : ℕ) → is_on part r ≡ true → is_on way r ≡ true) → AreScoped part items
       → map (with_height h) (map (renamed_item (scope_on way) (scope_on way)) items)
-      ≡ map (renamed_item tall tall_mark) (by_heights (v ∷ up) items)
+      ≡ map (renamed_item tall height_mark) (by_heights (v ∷ up) items)
   names_items h f part [] o i = refl
   names_items h f part (GoalItem t s ∷ items) o i =
       ap (λ n. GoalItem t n ∷ map (with_height h) (map (renamed_item (scope_on way) (scope_on way)) items))
@@ -140,12 +133,12 @@ module _ (v : Level) (up : List Level) (next : ℕ) (free : IsFree next (v ∷ u
   names_items h f part (CatchMark s ∷ items) o i =
       ap (λ n. CatchMark n ∷ map (with_height h) (map (renamed_item (scope_on way) (scope_on way)) items))
       (ap (λ n. n - 1) (f s) ∙ sym (mark_here s (o s (through-on CatchNode part s i.0))))
-      ∙ ap (λ l. CatchMark (tall_mark (height_of (v ∷ up) s - 1)) ∷ l)
+      ∙ ap (λ l. CatchMark (height_mark (height_of (v ∷ up) s - 1)) ∷ l)
       (names_items h f (way_above part s) items (λ r k. o r (part_above part s r k)) i.1)
   names_items h f part (CollectMark t s ∷ items) o i =
       ap (λ n. CollectMark t n ∷ map (with_height h) (map (renamed_item (scope_on way) (scope_on way)) items))
       (ap (λ n. n - 1) (f s) ∙ sym (mark_here s (o s (through-on FindallNode part s i.0))))
-      ∙ ap (λ l. CollectMark t (tall_mark (height_of (v ∷ up) s - 1)) ∷ l)
+      ∙ ap (λ l. CollectMark t (height_mark (height_of (v ∷ up) s - 1)) ∷ l)
       (names_items h f (way_above part s) items (λ r k. o r (part_above part s r k)) i.1)
   names_items h f part (RemovalItem n ∷ items) o i = ap (λ l. RemovalItem n ∷ l) (names_items h f part items o i)
 
@@ -156,19 +149,19 @@ module _ (v : Level) (up : List Level) (next : ℕ) (free : IsFree next (v ∷ u
       let apart : node n ≡ next → ⊥ = node_free next (v ∷ up) free (next_some next v up free) n in
       ap (height (EndOf (k ∷ next ∷ []) ∷ (olders way next ChoiceNode (suc k) es ++ rest)))
       (scope-above (record { node = next; index = k; kind = ChoiceNode }) way (node n) (other_node (node n) next apart))
-      ∙ ap count (from-other way (node n) k next (olders way next ChoiceNode (suc k) es ++ rest) apart
+      ∙ ap element_count (from-other way (node n) k next (olders way next ChoiceNode (suc k) es ++ rest) apart
       ∙ from_olders way next ChoiceNode (suc k) es rest (node n) apart)
 
-  pub top_height : tall (suc (length up)) ≡ count rest
+  pub top_height : tall (suc (length up)) ≡ element_count rest
   top_height = ap (λ n. height rest (scope_on way n)) (own_height v up)
       ∙ (ap (height rest) (scope-here (record { node = v.number; index = length v.left; kind = v.kind }) (way_of up) v.number
-      (same_self v.number)) ∙ ap count (from_own (length v.left ∷ v.number ∷ []) tail))
+      (number_same v.number)) ∙ ap element_count (from_own (length v.left ∷ v.number ∷ []) tail))
 
   over_own : (n : ℕ) → height (EndOf own ∷ rest) (scope_on way n) ≡ height rest (scope_on way n)
-  over_own n = ap count (from_end own (scope_on way n) rest (scope_short way n 0 (length v.left) v.number))
+  over_own n = ap element_count (from_end own (scope_on way n) rest (scope_short way n 0 (length v.left) v.number))
 
-  own_count : height (EndOf own ∷ rest) own ≡ count rest
-  own_count = ap count (from_own own rest)
+  own_count : height (EndOf own ∷ rest) own ≡ element_count rest
+  own_count = ap element_count (from_own own rest)
 
   module _ (f : Continuation ℕ) (items : List (Item ℕ)) (scoped : AreScoped (way_of (v ∷ up)) items) where
     -- by names, and by heights
@@ -191,55 +184,55 @@ module _ (v : Level) (up : List Level) (next : ℕ) (free : IsFree next (v ∷ u
         ∙ sym (tree_items (height (EndOf (0 ∷ next ∷ []) ∷ rest)) 0 (λ n. over_olders 0 [] n) (by_heights (v ∷ up) items)))
 
     solved_items : (h : Name → ℕ) (k : ℕ) (es : List Entry) (o : Substitution) (gs : List Term)
-        → ((r : ℕ) → h (scope_on way r) ≡ height rest (scope_on way r)) → h own ≡ count rest
+        → ((r : ℕ) → h (scope_on way r) ≡ height rest (scope_on way r)) → h own ≡ element_count rest
         → map (with_height h) (map (resolve_item o) (goals_at own gs ++ map (renamed_item (scope_on way) (scope_on way)) items))
         ≡ map (with_height (height (EndOf (k ∷ next ∷ []) ∷ (olders way next ChoiceNode (suc k) es ++ rest))))
         (map (renamed_item (scope_on (below k)) (scope_on (below k)))
         (map (renamed_item node (λ n. node (suc n)))
         (map (resolve_item o) (goals_at (suc (length up)) gs ++ by_heights (v ∷ up) items))))
     solved_items h k es o gs f e =
-        let goals = goals_heights h tall tall_mark own (suc (length up)) (e ∙ sym top_height) gs
+        let goals = goals_heights h tall height_mark own (suc (length up)) (e ∙ sym top_height) gs
         (map (renamed_item (scope_on way) (scope_on way)) items) (by_heights (v ∷ up) items)
         (names_items h f way items (λ r z. z) scoped) in
-        resolved_heights h o (goals_at own gs ++ map (renamed_item (scope_on way) (scope_on way)) items)
+        heights-resolved h o (goals_at own gs ++ map (renamed_item (scope_on way) (scope_on way)) items)
         ∙ (ap (map (resolve_item o)) goals
-        ∙ (sym (resolved_names tall tall_mark o (goals_at (suc (length up)) gs ++ by_heights (v ∷ up) items))
+        ∙ (sym (resolved_names tall height_mark o (goals_at (suc (length up)) gs ++ by_heights (v ∷ up) items))
         ∙ sym (tree_items (height (EndOf (k ∷ next ∷ []) ∷ (olders way next ChoiceNode (suc k) es ++ rest))) k (over_olders k es)
         (map (resolve_item o) (goals_at (suc (length up)) gs ++ by_heights (v ∷ up) items)))))
 
-    from_solved : (j : ℕ) (ss : List Solution) (s : Name) → from (solution_entries j own named_rest ss ++ rest) s
+    from_solved : (j : ℕ) (ss : List Solution) (s : Name) → from (solution_elements j own named_rest ss ++ rest) s
         ≡ from (EndOf own ∷ rest) s
     from_solved j [] s = refl
     from_solved j (x ∷ ss) s = go (unifier x.equations) (from_solved (suc j) ss s)
       where
-        go : (o : Option Substitution) → from (solution_entries (suc j) own named_rest ss ++ rest) s ≡ from (EndOf own ∷ rest) s
-            → from ((unified o (j ∷ own) (with_next (f.next + x.variables) (before (goals_at own x.goals) named_rest))
-            ++ solution_entries (suc j) own named_rest ss) ++ rest) s ≡ from (EndOf own ∷ rest) s
+        go : (o : Option Substitution) → from (solution_elements (suc j) own named_rest ss ++ rest) s ≡ from (EndOf own ∷ rest) s
+            → from ((unified_element o (j ∷ own) (with_next (f.next + x.variables) (before (goals_at own x.goals) named_rest))
+            ++ solution_elements (suc j) own named_rest ss) ++ rest) s ≡ from (EndOf own ∷ rest) s
         go None k = k
         go (Some o) k = k
 
     -- all solutions
-    pub solved_same : (j k h : ℕ) → h ≡ suc (length up) → (ss : List Solution) → erased (solution_entries j own named_rest ss ++ rest)
-        ≡ erased (olders way next ChoiceNode k (map (with_nodes node) (solved_entries h height_rest ss)) ++ rest)
+    pub solved_same : (j k h : ℕ) → h ≡ suc (length up) → (ss : List Solution) → erased (solution_elements j own named_rest ss ++ rest)
+        ≡ erased (olders way next ChoiceNode k (map (with_nodes node) (solution_entries h height_rest ss)) ++ rest)
     solved_same j k h e [] = refl
     solved_same j k h e (x ∷ ss) = go (unifier x.equations) (λ n. solved_same (suc j) n h e ss) (λ n. from_solved (suc j) ss n)
       where
-        go : (o : Option Substitution) → ((n : ℕ) → erased (solution_entries (suc j) own named_rest ss ++ rest)
-            ≡ erased (olders way next ChoiceNode n (map (with_nodes node) (solved_entries h height_rest ss)) ++ rest))
-            → ((n : Name) → from (solution_entries (suc j) own named_rest ss ++ rest) n ≡ from (EndOf own ∷ rest) n)
-            → erased ((unified o (j ∷ own) (with_next (f.next + x.variables) (before (goals_at own x.goals) named_rest))
-            ++ solution_entries (suc j) own named_rest ss) ++ rest)
+        go : (o : Option Substitution) → ((n : ℕ) → erased (solution_elements (suc j) own named_rest ss ++ rest)
+            ≡ erased (olders way next ChoiceNode n (map (with_nodes node) (solution_entries h height_rest ss)) ++ rest))
+            → ((n : Name) → from (solution_elements (suc j) own named_rest ss ++ rest) n ≡ from (EndOf own ∷ rest) n)
+            → erased ((unified_element o (j ∷ own) (with_next (f.next + x.variables) (before (goals_at own x.goals) named_rest))
+            ++ solution_elements (suc j) own named_rest ss) ++ rest)
             ≡ erased (olders way next ChoiceNode k
-            (map (with_nodes node) (unified_entries o (with_next (f.next + x.variables) (before (goals_at h x.goals) height_rest))
-            ++ solved_entries h height_rest ss)) ++ rest)
+            (map (with_nodes node) (unified o (with_next (f.next + x.variables) (before (goals_at h x.goals) height_rest))
+            ++ solution_entries h height_rest ss)) ++ rest)
         go None more far = more k
         go (Some o) more far =
-            let es = map (with_nodes node) (solved_entries h height_rest ss) in
-            let hs = height (solution_entries (suc j) own named_rest ss ++ rest) in
-            let same = solved_items hs k es o x.goals (λ r. ap count (far (scope_on way r)) ∙ over_own r)
-            (ap count (far own) ∙ own_count) in
+            let es = map (with_nodes node) (solution_entries h height_rest ss) in
+            let hs = height (solution_elements (suc j) own named_rest ss ++ rest) in
+            let same = solved_items hs k es o x.goals (λ r. ap element_count (far (scope_on way r)) ∙ over_own r)
+            (ap element_count (far own) ∙ own_count) in
             ap (λ l. HeightEntry (PlainEntry (record { items = l; named = map (resolve_named o) f.named; next = f.next + x.variables }))
-            ∷ erased (solution_entries (suc j) own named_rest ss ++ rest)) same
+            ∷ erased (solution_elements (suc j) own named_rest ss ++ rest)) same
             ∙ (ap (λ n. HeightEntry (PlainEntry
             (record {
               items = map (with_height (height (EndOf (k ∷ next ∷ []) ∷ (olders way next ChoiceNode (suc k) es ++ rest))))
@@ -248,7 +241,7 @@ module _ (v : Level) (up : List Level) (next : ℕ) (free : IsFree next (v ∷ u
               named = map (resolve_named o) f.named;
               next = f.next + x.variables;
             })) ∷ erased
-            (solution_entries (suc j) own named_rest ss ++ rest)) (sym e)
+            (solution_elements (suc j) own named_rest ss ++ rest)) (sym e)
             ∙ ap (λ l. HeightEntry (PlainEntry
             (record {
               items = map (with_height (height (EndOf (k ∷ next ∷ []) ∷ (olders way next ChoiceNode (suc k) es ++ rest))))

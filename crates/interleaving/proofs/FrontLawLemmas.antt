@@ -3,27 +3,29 @@ use Rattle.std.proofs.Common.{◌≡◌, ℕ, zero, suc, ◌+◌, Bool, true, fa
 use Rattle.std.proofs.Common.{arith}
 use Rattle.au_model.specs.Terms.Each.{Each}
 use Rattle.run_model.specs.Programs.Clauses.{Clause}
-use Rattle.interleaving.specs.Machine.{Machine, Takes, Asks, On, Here, Put, Seek, gives, acted, placed, free_steps, step, run, is_over}
+use Rattle.interleaving.specs.Machine.{Machine, Infers, AsksWorld, On, Here, Put, Seek, gives, acted, placed, free_steps, step, run}
+use Rattle.interleaving.specs.Machine.{is_finished}
 use Rattle.interleaving.specs.Machine.{seen, Alike}
 use Rattle.tree_model.specs.Elements.{Name, same, Record, Element, Credit, Plain, EndOf, Catch, Findall, End}
-use Rattle.interleaving.specs.Scopes.{Shared, Sought, Scope, Lands, act, look, with_result, give, scoped}
-use Rattle.interleaving.specs.Segments.{IsActive, outer, found_in, search_in, Private, private_none, private_goes, private_takes}
+use Rattle.interleaving.specs.Scopes.{Shared, Sought, Scope, ElementReplacement, act, look, findall_with_result, give, scoped}
+use Rattle.interleaving.specs.Segments.{IsActive, outer, found_in, search_in, Private, private_none, private_drops, private_infers}
 use Rattle.interleaving.specs.Views.{IsInner}
 use Rattle.interleaving.specs.Quiet.{IsQuiet, inferences, records, IsFixed, IsStill}
 use Rattle.interleaving.specs.Laws.{is_inner_record, FrontGate, FrontGateInPlace, CutInPlace}
-use Rattle.interleaving.proofs.RunFrontLemmas.{each-append, append-none, map-none, map-seam, some-same, none-some, ActOk, Closed, Unseen}
+use Rattle.interleaving.proofs.RunFrontLemmas.{each-append, map-none, map-seam, some-same, none-some, ActOk, Closed, Unseen}
 use Rattle.interleaving.proofs.EarlyLemmas.{Runs, early}
 use Rattle.interleaving.proofs.JoinedLemmas.{runs-then, runs_step, reached, resting, credit_runs, plus}
 use Rattle.interleaving.proofs.InsideStepLemmas.{any_ground, no_ground}
 use Rattle.interleaving.proofs.QuietCreditLemmas.{quiet-private, map-fixed, gives-fixed, private-then}
-use Rattle.interleaving.proofs.EarlyLawLemmas.{standing, private_early}
+use Rattle.interleaving.proofs.EarlyLawLemmas.{segment_pending, private_early}
 use Rattle.interleaving.proofs.CreditLawLemmas.{any-all, quiet_any, quiet_alone, further}
+use Rattle.interleaving.proofs.AppendLemmas.{append-nil}
 
 module _ (clauses : List Clause) where
   abbrev m : Machine Shared Element Sought Record
   m = scoped clauses
 
-  pub asks-fixed : (x : Element) (g : Shared → Shared × Lands) → act clauses x ≡ Asks g → IsFixed x
+  pub asks-fixed : (x : Element) (g : Shared → Shared × ElementReplacement) → act clauses x ≡ AsksWorld g → IsFixed x
   asks-fixed (Credit k rs) g e = tt
   asks-fixed (Plain p f) g e = tt
   asks-fixed (EndOf s) g e = tt
@@ -31,13 +33,13 @@ module _ (clauses : List Clause) where
   asks-fixed (End p b) g e = tt
   asks-fixed (Findall s u results list p f) g e = absurd cc
 
-  pub takes-fixed : (x : Element) (p : Lands) → act clauses x ≡ Takes p → IsFixed x
-  takes-fixed (Credit k rs) g e = tt
-  takes-fixed (Plain p f) g e = tt
-  takes-fixed (EndOf s) g e = tt
-  takes-fixed (Catch s u c r p f) g e = tt
-  takes-fixed (End p b) g e = tt
-  takes-fixed (Findall s u results list p f) g e = absurd cc
+  pub infers-fixed : (x : Element) (p : ElementReplacement) → act clauses x ≡ Infers p → IsFixed x
+  infers-fixed (Credit k rs) g e = tt
+  infers-fixed (Plain p f) g e = tt
+  infers-fixed (EndOf s) g e = tt
+  infers-fixed (Catch s u c r p f) g e = tt
+  infers-fixed (End p b) g e = tt
+  infers-fixed (Findall s u results list p f) g e = absurd cc
 
   -- the state where the credits are used up
   at_gate : (xs : List Element) (x : Element) (zs : List Element) (w : Shared) → IsQuiet xs → IsFixed x → IsActive (act clauses x)
@@ -49,8 +51,9 @@ module _ (clauses : List Clause) where
       ∙ ap (λ y. (w, free_steps m [] (y ∷ rest))) (gives-fixed clauses rs x f)
       ∙ ap (λ l. (w, l)) (resting m (any_ground clauses) x a rest)
 
-  pub gate_taken : (xs : List Element) (x : Element) (g : Shared → Shared × Lands) (zs : List Element) (w : Shared) (n : ℕ) → IsQuiet xs
-      → act clauses x ≡ Asks g → run m (inferences xs + suc n) w (free_steps m [] (xs ++ (x ∷ zs)))
+  pub gate_taken : (xs : List Element) (x : Element) (g : Shared → Shared × ElementReplacement) (zs : List Element) (w : Shared)
+      (n : ℕ) → IsQuiet xs
+      → act clauses x ≡ AsksWorld g → run m (inferences xs + suc n) w (free_steps m [] (xs ++ (x ∷ zs)))
       ≡ run m n (g w).0 (free_steps m [] (placed m (g w).1 (map (gives m (records xs)) zs)))
   gate_taken xs x g zs w n h e =
       let rest = map (gives m (records xs)) zs in
@@ -98,7 +101,8 @@ module _ (clauses : List Clause) where
   scope_given h y r (End p b) = refl
   scope_given h y r (Findall s u results list p f) = go (same r.0 s)
     where
-      go : (t : Bool) → look (Scope h y) (cond t (with_result r.1 s u results list p f) (Findall s u results list p f)) ≡ On (Scope h y)
+      go : (t : Bool) → look (Scope h y) (cond t (findall_with_result r.1 s u results list p f) (Findall s u results list p f))
+          ≡ On (Scope h y)
       go true = refl
       go false = refl
 
@@ -179,14 +183,14 @@ module _ (clauses : List Clause) where
       let first = quiet-private clauses inner xs (Plain p f ∷ mid) q in
       let first_at : map (gives m rs) (Plain p f ∷ mid) ≡ Plain p f ∷ map (gives m rs) mid = ap (λ x. x ∷ map (gives m rs) mid)
       (gives-fixed clauses rs (Plain p f) tt) in
-      let step_one : Private m inner 1 [] (Plain p f ∷ map (gives m rs) mid) b = private_takes 0 (Plain p f) (Seek (Scope h y)) []
+      let step_one : Private m inner 1 [] (Plain p f ∷ map (gives m rs) mid) b = private_infers 0 (Plain p f) (Seek (Scope h y)) []
       (map (gives m rs) mid) b b e (cut_given h y rs mid found) (private_none b) in
       let old = private-then m inner 1 k (outer inner rs) [] (xs ++ (Plain p f ∷ mid)) (Plain p f ∷ map (gives m rs) mid) b
       (subst (Private m inner k (outer inner rs) (xs ++ (Plain p f ∷ mid))) first_at first) step_one in
       let second = quiet-private clauses inner xs (Credit 1 [] ∷ b) q in
       let second_at : map (gives m rs) (Credit 1 [] ∷ b) ≡ Credit 1 [] ∷ b = map-fixed clauses rs (Credit 1 [] ∷ b) (tt, (tt, (tt, tt))) in
-      let spent : Private m inner 1 [] (Credit 1 [] ∷ b) b = private_takes 0 (Credit 1 []) (Put (Credit 0 [] ∷ [])) [] b
-      (Credit 0 [] ∷ b) b refl refl (private_goes 0 (Credit 0 []) [] [] b b refl
+      let spent : Private m inner 1 [] (Credit 1 [] ∷ b) b = private_infers 0 (Credit 1 []) (Put (Credit 0 [] ∷ [])) [] b
+      (Credit 0 [] ∷ b) b refl refl (private_drops 0 (Credit 0 []) [] [] b b refl
       (subst (λ l. Private m inner 0 [] l b) (sym (map-none m b)) (private_none b))) in
       let new = private-then m inner 1 k (outer inner rs) [] (xs ++ (Credit 1 [] ∷ b)) (Credit 1 [] ∷ b) b
       (subst (Private m inner k (outer inner rs) (xs ++ (Credit 1 [] ∷ b))) second_at second) spent in
@@ -194,7 +198,7 @@ module _ (clauses : List Clause) where
       let own_x = each-last (IsInner inside) xs (Plain p f ∷ mid) s.own in
       let own_end : inside h ≡ true = end_inside inside h y mid found own_x.1 in
       private_early clauses inside (k + 1) (outer inner rs ++ []) pre (xs ++ (Plain p f ∷ mid)) b zs
-      (standing clauses inside pre (xs ++ (Plain p f ∷ mid)) zs s) old n w
+      (segment_pending clauses inside pre (xs ++ (Plain p f ∷ mid)) zs s) old n w
       ∙ sym (private_early clauses inside (k + 1) (outer inner rs ++ []) pre (xs ++ (Credit 1 [] ∷ b)) b zs
       (record {
         grown = s.grown;
@@ -237,7 +241,7 @@ module _ (clauses : List Clause) where
       go (x ∷ xs) z = absurd z.0
   runs_only (suc k) rs a b h = (h.0, [], [], refl, over, steps, runs_only k h.2 h.0 b h.6)
     where
-      over : (zs : List Element) → Each (λ x. ⊥) zs → is_over (free_steps m [] (a ++ zs)) ≡ false
+      over : (zs : List Element) → Each (λ x. ⊥) zs → is_finished (free_steps m [] (a ++ zs)) ≡ false
       over [] z = h.4 [] tt
       over (x ∷ xs) z = absurd z.0
 
@@ -250,15 +254,15 @@ module _ (clauses : List Clause) where
   plus-is zero j = omega arith
   plus-is (suc k) j = (let e : suc (k + j) ≡ suc k + j = omega arith in ap suc (plus-is k j) ∙ e)
 
-  pub front_alike : (xs : List Element) (x : Element) (p : Lands) (pre mid : List Element) → Each IsStill pre → IsQuiet xs
-      → act clauses x ≡ Takes p → Alike m (pre ++ (xs ++ (x ∷ mid)))
+  pub front_alike : (xs : List Element) (x : Element) (p : ElementReplacement) (pre mid : List Element) → Each IsStill pre → IsQuiet xs
+      → act clauses x ≡ Infers p → Alike m (pre ++ (xs ++ (x ∷ mid)))
       (pre ++ (Credit (inferences xs + 1) [] ∷ placed m p (map (gives m (records xs)) mid)))
   front_alike xs x p pre mid still q e n w =
       let k = inferences xs in
       let rs = records xs in
       let rest = map (gives m rs) mid in
       let left = placed m p rest in
-      let fixed : map (gives m rs) (x ∷ mid) ≡ x ∷ rest = ap (λ y. y ∷ rest) (gives-fixed clauses rs x (takes-fixed x p e)) in
+      let fixed : map (gives m rs) (x ∷ mid) ≡ x ∷ rest = ap (λ y. y ∷ rest) (gives-fixed clauses rs x (infers-fixed x p e)) in
       let first : Runs m (no_ground clauses) k [] (xs ++ (x ∷ mid)) (x ∷ rest) = runs_only k rs (xs ++ (x ∷ mid)) (x ∷ rest)
       (subst (Runs m (any_ground clauses) k rs (xs ++ (x ∷ mid))) fixed (quiet_any clauses xs (x ∷ mid) q)) in
       let second : Runs m (no_ground clauses) 1 [] (x ∷ rest) left = runs_step m (no_ground clauses) x rest left p e
@@ -269,12 +273,12 @@ module _ (clauses : List Clause) where
       let whole = early m (no_ground clauses) IsStill NoSearch NoRecord still_closed (k + 1) [] (xs ++ (x ∷ mid)) left
       (record { runs = both; own = map-none m left; old = all-unseen (xs ++ (x ∷ mid)); new = all-unseen left }) pre [] still tt n
       w in
-      ap (λ l. seen (run m n w (free_steps m [] (pre ++ l)))) (sym (append-none (xs ++ (x ∷ mid)))) ∙ whole
-      ∙ ap (λ l. seen (run m n w (free_steps m [] (pre ++ (Credit (k + 1) [] ∷ l))))) (append-none left)
+      ap (λ l. seen (run m n w (free_steps m [] (pre ++ l)))) (sym (append-nil (xs ++ (x ∷ mid)))) ∙ whole
+      ∙ ap (λ l. seen (run m n w (free_steps m [] (pre ++ (Credit (k + 1) [] ∷ l))))) (append-nil left)
     where
-      alone : (rest left : List Element) (p : Lands) → placed m p rest ≡ left → (zs : List Element) → Each (λ z. ⊥) zs
+      alone : (rest left : List Element) (p : ElementReplacement) → placed m p rest ≡ left → (zs : List Element) → Each (λ z. ⊥) zs
           → placed m p (rest ++ zs) ≡ left ++ zs
-      alone rest left p h [] z = ap (placed m p) (append-none rest) ∙ h ∙ sym (append-none left)
+      alone rest left p h [] z = ap (placed m p) (append-nil rest) ∙ h ∙ sym (append-nil left)
       alone rest left p h (y ∷ ys) z = absurd z.0
 
   pub given_alike : (xs pre zs : List Element) → Each IsStill pre → IsQuiet xs
@@ -285,5 +289,5 @@ module _ (clauses : List Clause) where
       let first : Runs m (no_ground clauses) k [] (xs ++ zs) rest = runs_only k (records xs) (xs ++ zs) rest (quiet_any clauses xs zs q) in
       let whole = early m (no_ground clauses) IsStill NoSearch NoRecord still_closed k [] (xs ++ zs) rest
       (record { runs = first; own = map-none m rest; old = all-unseen (xs ++ zs); new = all-unseen rest }) pre [] still tt n w in
-      ap (λ l. seen (run m n w (free_steps m [] (pre ++ l)))) (sym (append-none (xs ++ zs))) ∙ whole
-      ∙ ap (λ l. seen (run m n w (free_steps m [] (pre ++ (Credit k [] ∷ l))))) (append-none rest)
+      ap (λ l. seen (run m n w (free_steps m [] (pre ++ l)))) (sym (append-nil (xs ++ zs))) ∙ whole
+      ∙ ap (λ l. seen (run m n w (free_steps m [] (pre ++ (Credit k [] ∷ l))))) (append-nil rest)

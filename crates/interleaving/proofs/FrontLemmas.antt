@@ -8,10 +8,10 @@ use Rattle.tree_model.specs.Levels.{Level, put_left, level_node, plug, Place, Sp
 use Rattle.tree_model.specs.Orders.{is_node, levels_below, is_closed, first_open_left, first_open}
 use Rattle.tree_model.specs.Pruning.{Task, tasks_among, tasks_below}
 use Rattle.tree_model.specs.PendingLists.{Step, Way}
-use Rattle.tree_model.specs.SoundTrees.{Profile, IsOpen, Sleeps, IsShut, guards, profile, profiles, is_pair, are_pair, is_shape}
+use Rattle.tree_model.specs.SoundTrees.{Profile, IsOpen, IsDormant, IsShut, guards, profile, profiles, is_pair, are_pair, is_shape}
 use Rattle.tree_model.specs.SoundTrees.{some_open, IsSoundNode, AreSound, IsSound}
 use Rattle.interleaving.proofs.ContextLemmas.{put_profiles}
-use Rattle.interleaving.proofs.GrowingLemmas.{none_sleeps-of, no_three}
+use Rattle.interleaving.proofs.GrowingLemmas.{none_dormant-of, no_three}
 
 -- a list of pending alternatives and its first
 pub record IsFront (up : List Level) (spots : List Spot) : Type 0 where
@@ -51,23 +51,23 @@ closed_shut (Pending hold e) h = let no_way : ⊥ = cc in absurd no_way
 
 -- nothing sleeps after what has closed
 asleep : (kind : Kind) (left : List (ℕ × Status)) (k : Kind) (ps : List Profile) → AreShut left
-    → is_shape kind (put_profiles left (Sleeps k ∷ ps)) ≡ true → ⊥
+    → is_shape kind (put_profiles left (IsDormant k ∷ ps)) ≡ true → ⊥
 asleep kind left k ps a h = pick kind h
   where
     clash : false ≡ true → ⊥
     clash z = cc
 
-    pair : (j : Kind) (left : List (ℕ × Status)) (ps : List Profile) → AreShut left → are_pair j (put_profiles left (Sleeps k ∷ ps))
+    pair : (j : Kind) (left : List (ℕ × Status)) (ps : List Profile) → AreShut left → are_pair j (put_profiles left (IsDormant k ∷ ps))
         ≡ true → ⊥
     pair j [] [] a h = clash h
     pair j [] (p ∷ []) a h = clash h
     pair j [] (p ∷ q ∷ ps) a h = clash h
-    pair j (x ∷ []) [] a h = clash (subst (λ p. is_pair j p (Sleeps k) ≡ true) (closed_shut x.1 a.0) h)
-    pair j (x ∷ []) (p ∷ ps) a h = no_three j [] (profile x.1) (Sleeps k) p ps h
-    pair j (x ∷ y ∷ left) ps a h = no_three j left (profile y.1) (profile x.1) (Sleeps k) ps h
+    pair j (x ∷ []) [] a h = clash (subst (λ p. is_pair j p (IsDormant k) ≡ true) (closed_shut x.1 a.0) h)
+    pair j (x ∷ []) (p ∷ ps) a h = no_three j [] (profile x.1) (IsDormant k) p ps h
+    pair j (x ∷ y ∷ left) ps a h = no_three j left (profile y.1) (profile x.1) (IsDormant k) ps h
 
-    pick : (j : Kind) → is_shape j (put_profiles left (Sleeps k ∷ ps)) ≡ true → ⊥
-    pick ChoiceNode h = clash (none_sleeps-of left (Sleeps k ∷ ps) h)
+    pick : (j : Kind) → is_shape j (put_profiles left (IsDormant k ∷ ps)) ≡ true → ⊥
+    pick ChoiceNode h = clash (none_dormant-of left (IsDormant k ∷ ps) h)
     pick CatchNode h = pair CatchNode left ps a h
     pick FindallNode h = pair FindallNode left ps a h
     pick QueryNode h = pair QueryNode left ps a h

@@ -9,22 +9,21 @@ use Rattle.tree_model.specs.PendingLists.{pending_list, front_of, back_of}
 use Rattle.tree_model.specs.SoundTrees.{IsSoundTree}
 use Rattle.tree_model.specs.CaughtTrees.{IsUnspent, IsCaughtTree}
 use Rattle.tree_model.specs.Elements.{Name, Element, Credit, Plain}
-use Rattle.interleaving.specs.Machine.{Machine, Asks, gives, placed, free_steps, run, seen}
-use Rattle.interleaving.specs.Scopes.{Shared, Sought, Lands, act, scoped}
+use Rattle.interleaving.specs.Machine.{Machine, AsksWorld, gives, placed, free_steps, run, seen}
+use Rattle.interleaving.specs.Scopes.{Shared, Sought, ElementReplacement, act, scoped}
 use Rattle.tree_model.specs.Elements.{Record}
 use Rattle.interleaving.specs.Quiet.{IsQuiet, inferences, records}
 use Rattle.interleaving.specs.Sound.{names, IsEntrySound, IsSound}
-use Rattle.interleaving.specs.Follows.{lead, Follows}
+use Rattle.interleaving.specs.Follows.{lead}
 use Rattle.interleaving.specs.HistoryInvariants.{shared_of, AnswerMoves}
-use Rattle.interleaving.proofs.AppendLemmas.{append-assoc}
-use Rattle.interleaving.proofs.RunFrontLemmas.{append-none}
+use Rattle.interleaving.proofs.AppendLemmas.{append-assoc, append-nil}
 use Rattle.interleaving.proofs.QuietCreditLemmas.{gives-fixed}
 use Rattle.interleaving.proofs.CreditLawLemmas.{further}
 use Rattle.interleaving.proofs.PassingLemmas.{credits_pass}
 use Rattle.interleaving.proofs.FrontLawLemmas.{gate_taken}
 use Rattle.interleaving.proofs.FrontCloseLemmas.{bare, unmark, passed_at, unspent_out}
 use Rattle.interleaving.proofs.FoldLemmas.{records-append}
-use Rattle.interleaving.proofs.LeadLemmas.{lead-quiet}
+use Rattle.interleaving.proofs.LeadLemmas.{lead-quiet, FollowsFrom}
 use Rattle.interleaving.proofs.ClockLemmas.{IsFirst, quiet-append, inferences-append, front_quiet}
 use Rattle.interleaving.proofs.EndLemmas.{not_over, first_end}
 use Rattle.interleaving.proofs.GoingLemmas.{not_halted}
@@ -53,8 +52,9 @@ module _ (clauses : List Clause) where
   m = scoped clauses
 
   -- the gate of the first entry
-  pub front_taken : (front zs : List Element) (sp : ℕ) (p : Name) (f : Continuation Name) (g : Shared → Shared × Lands) (w : Shared)
-      (n : ℕ) → IsQuiet front → sp ≡ 0 → act clauses (bare clauses p f) ≡ Asks g
+  pub front_taken : (front zs : List Element) (sp : ℕ) (p : Name) (f : Continuation Name) (g : Shared → Shared × ElementReplacement)
+      (w : Shared)
+      (n : ℕ) → IsQuiet front → sp ≡ 0 → act clauses (bare clauses p f) ≡ AsksWorld g
       → run m (inferences front + suc n) w (free_steps m [] (front ++ (Credit sp [] ∷ (Plain p f ∷ zs))))
       ≡ run m n (g w).0 (free_steps m [] (placed m (g w).1 (map (gives m (records front)) zs)))
   front_taken front zs sp p f g w n q unspent h =
@@ -63,7 +63,7 @@ module _ (clauses : List Clause) where
       let count : inferences xs ≡ inferences front =
       (let z : inferences xs ≡ inferences front + (sp + 0) = inferences-append front (Credit sp [] ∷ []) in omega
       (arith, z, unspent)) in
-      let rows : records xs ≡ records front = records-append front (Credit sp [] ∷ []) ∙ append-none (records front) in
+      let rows : records xs ≡ records front = records-append front (Credit sp [] ∷ []) ∙ append-nil (records front) in
       let rest = map (gives m (records xs)) zs in
       let one : run m (inferences xs + suc n) w (free_steps m [] (xs ++ (Plain p f ∷ zs)))
       ≡ run m (inferences xs + suc n) w (free_steps m [] (xs ++ (bare clauses p f ∷ zs))) = passed_at clauses xs zs (Plain p f) w
@@ -77,8 +77,9 @@ module _ (clauses : List Clause) where
       ∙ (one ∙ (two ∙ ap (λ rs. run m n (g w).0 (free_steps m [] (placed m (g w).1 (map (gives m rs) zs)))) rows)))
 
   -- an end of a query at the front
-  pub front_asked : (front zs : List Element) (sp : ℕ) (x : Element) (g : Shared → Shared × Lands) (w : Shared) (n : ℕ) → IsQuiet front
-      → sp ≡ 0 → act clauses x ≡ Asks g
+  pub front_asked : (front zs : List Element) (sp : ℕ) (x : Element) (g : Shared → Shared × ElementReplacement) (w : Shared) (n : ℕ)
+      → IsQuiet front
+      → sp ≡ 0 → act clauses x ≡ AsksWorld g
       → run m (inferences front + suc n) w (free_steps m [] (front ++ (Credit sp [] ∷ (x ∷ zs))))
       ≡ run m n (g w).0 (free_steps m [] (placed m (g w).1 (map (gives m (records front)) zs)))
   front_asked front zs sp x g w n q unspent h =
@@ -87,7 +88,7 @@ module _ (clauses : List Clause) where
       let count : inferences xs ≡ inferences front =
       (let z : inferences xs ≡ inferences front + (sp + 0) = inferences-append front (Credit sp [] ∷ []) in omega
       (arith, z, unspent)) in
-      let rows : records xs ≡ records front = records-append front (Credit sp [] ∷ []) ∙ append-none (records front) in
+      let rows : records xs ≡ records front = records-append front (Credit sp [] ∷ []) ∙ append-nil (records front) in
       ap (λ l. run m (inferences front + suc n) w (free_steps m [] l)) (sym (append-assoc front (Credit sp [] ∷ []) (x ∷ zs)))
       ∙ (ap (λ k. run m (k + suc n) w (free_steps m [] (xs ++ (x ∷ zs)))) (sym count)
       ∙ (gate_taken clauses xs x g zs w n quiet h
@@ -102,7 +103,7 @@ module _ (clauses : List Clause) where
       let quiet = quiet-append front (Credit k [] ∷ []) q tt in
       let count : inferences ys + n ≡ inferences front + suc n =
       (let z : inferences ys ≡ inferences front + (k + 0) = inferences-append front (Credit k [] ∷ []) in omega (arith, z, one)) in
-      let rows : records ys ≡ records front = records-append front (Credit k [] ∷ []) ∙ append-none (records front) in
+      let rows : records ys ≡ records front = records-append front (Credit k [] ∷ []) ∙ append-nil (records front) in
       ap (λ l. run m (inferences front + suc n) v (free_steps m [] l)) (sym (append-assoc front (Credit k [] ∷ []) ws))
       ∙ (ap (λ j. run m j v (free_steps m [] (ys ++ ws))) (sym count)
       ∙ (further clauses (inferences ys) n v (free_steps m [] (ys ++ ws))
@@ -122,7 +123,8 @@ pub record IsGateTaken (t new : TreeState) (s : Spot) (answers : ℕ) : Type 0 w
   pub credit : ℕ
   pub one : credit ≡ s.level.spent + 1
   pub rest : List Element
-  pub follows : Follows t.job.clauses (front_of (levels_of s) ++ (Credit credit [] ∷ rest)) (pending_list new.root)
+  pub follows : FollowsFrom (suc (lead (pending_list t.root))) t.job.clauses (front_of (levels_of s) ++ (Credit credit [] ∷ rest))
+      (pending_list new.root)
   pub alike : (n : ℕ) → seen (run (scoped t.job.clauses) n (shared_of answers new) (free_steps (scoped t.job.clauses) [] left))
       ≡ seen (run (scoped t.job.clauses) n (shared_of answers new)
       (free_steps (scoped t.job.clauses) [] (map (gives (scoped t.job.clauses) (records (front_of (levels_of s)))) rest)))
@@ -162,7 +164,7 @@ gate_moves t new s answers i k running first g finished =
           seen old ∙ (g.alike d ∙ ap seen (sym later)) in
           subst (λ x. seen (run (scoped clauses) x (shared_of answers t) (free_steps (scoped clauses) [] (pending_list t.root)))
           ≡ seen (run (scoped clauses) x (shared_of answers new) (free_steps (scoped clauses) [] mid))) n_is both
-          ∙ (g.follows.alike n (shared_of answers new) b
+          ∙ (g.follows.alike n (shared_of answers new) a b
           ∙ ap (λ l. seen (run (scoped clauses) n (shared_of answers new) (free_steps (scoped clauses) [] l)))
           (sym (not_halted new g.running)));
       ahead = λ z m b l. g.follows.lead m b (omega (arith, l, total, count, credit));

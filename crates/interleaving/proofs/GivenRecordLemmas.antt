@@ -6,9 +6,10 @@ use Rattle.au_model.specs.Terms.Each.{Each}
 use Rattle.au_model.specs.Terms.Copies.{copy_takes}
 use Rattle.run_model.specs.Machine.Items.{Item, GoalItem, CatchMark, CollectMark, RemovalItem, Continuation, with_next}
 use Rattle.tree_model.specs.Elements.{Name, same, Record, Element, Credit, Plain, EndOf, Catch, Findall, End}
-use Rattle.interleaving.specs.Scopes.{with_result, give}
-use Rattle.interleaving.specs.Erased.{from, count, height}
-use Rattle.interleaving.specs.Sound.{names, IsOlder, IsPresent, IsChain, IsGuarded, IsGathered, IsMarkSound, EachFindall, IsEntrySound}
+use Rattle.interleaving.specs.Scopes.{findall_with_result, give}
+use Rattle.interleaving.specs.Erased.{from, element_count, height}
+use Rattle.interleaving.specs.Sound.{names, IsMadeElsewhere, IsPresent, IsChain, IsGuarded, IsGathered, IsMarkSound, EachFindall}
+use Rattle.interleaving.specs.Sound.{IsEntrySound}
 use Rattle.interleaving.specs.Sound.{IsRightUnder, IsSound}
 use Rattle.interleaving.proofs.CarriedLemmas.{findalls-from}
 
@@ -17,7 +18,7 @@ module _ (r : Record) where
   given xs = map (give r) xs
 
   -- a record changes nothing but results
-  pub count-given : (xs : List Element) → count (given xs) ≡ count xs
+  pub count-given : (xs : List Element) → element_count (given xs) ≡ element_count xs
   count-given [] = refl
   count-given (EndOf e ∷ xs) = count-given xs
   count-given (Credit k rs ∷ xs) = ap suc (count-given xs)
@@ -26,8 +27,9 @@ module _ (r : Record) where
   count-given (End p b ∷ xs) = ap suc (count-given xs)
   count-given (Findall s u results list p f ∷ xs) = go (same r.0 s) (count-given xs)
     where
-      go : (t : Bool) → count (given xs) ≡ count xs
-          → count (cond t (with_result r.1 s u results list p f) (Findall s u results list p f) ∷ given xs) ≡ suc (count xs)
+      go : (t : Bool) → element_count (given xs) ≡ element_count xs
+          → element_count (cond t (findall_with_result r.1 s u results list p f) (Findall s u results list p f) ∷ given xs)
+          ≡ suc (element_count xs)
       go true e = ap suc e
       go false e = ap suc e
 
@@ -46,12 +48,12 @@ module _ (r : Record) where
   from-given (Findall e u results list p f ∷ xs) s = go (same r.0 e) (from-given xs s)
     where
       go : (t : Bool) → from (given xs) s ≡ given (from xs s)
-          → from (cond t (with_result r.1 e u results list p f) (Findall e u results list p f) ∷ given xs) s ≡ given (from xs s)
+          → from (cond t (findall_with_result r.1 e u results list p f) (Findall e u results list p f) ∷ given xs) s ≡ given (from xs s)
       go true k = k
       go false k = k
 
   pub height-given : (xs : List Element) (s : Name) → height (given xs) s ≡ height xs s
-  height-given xs s = ap count (from-given xs s) ∙ count-given (from xs s)
+  height-given xs s = ap element_count (from-given xs s) ∙ count-given (from xs s)
 
   pub findalls-given : (P : Name → Type 0) (xs : List Element) → EachFindall P xs → EachFindall P (given xs)
   findalls-given P [] h = tt
@@ -63,7 +65,7 @@ module _ (r : Record) where
   findalls-given P (Findall s u results list p f ∷ xs) h = go (same r.0 s) (findalls-given P xs h.1)
     where
       go : (t : Bool) → EachFindall P (given xs)
-          → EachFindall P (cond t (with_result r.1 s u results list p f) (Findall s u results list p f) ∷ given xs)
+          → EachFindall P (cond t (findall_with_result r.1 s u results list p f) (Findall s u results list p f) ∷ given xs)
       go true k = (h.0, k)
       go false k = (h.0, k)
 
@@ -88,7 +90,7 @@ module _ (r : Record) where
   gathered-given : (xs : List Element) (s : Name) → IsGathered xs s → IsGathered (given xs) s
   gathered-given xs s m = go (same r.0 s) (from-given xs s ∙ ap given m.found)
     where
-      go : (t : Bool) → from (given xs) s ≡ EndOf s ∷ cond t (with_result r.1 s m.scope m.results m.list m.name m.after)
+      go : (t : Bool) → from (given xs) s ≡ EndOf s ∷ cond t (findall_with_result r.1 s m.scope m.results m.list m.name m.after)
           (Findall s m.scope m.results m.list m.name m.after) ∷ given m.under → IsGathered (given xs) s
       go true e = record {
         scope = m.scope;
@@ -139,7 +141,7 @@ module _ (r : Record) where
           s.carried.chain;
     };
     marks = marks-given xs items s.marks;
-    findalls = findalls-given (IsOlder p) xs s.findalls;
+    findalls = findalls-given (IsMadeElsewhere p) xs s.findalls;
   }
 
   records-given : (xs : List Element) (rs : List Record) → Each (λ o. IsGathered xs o.0) rs → Each (λ o. IsGathered (given xs) o.0) rs
@@ -161,42 +163,42 @@ module _ (r : Record) where
     where
       go : (t : Bool) → IsEntrySound p (given xs) (u ∷ names f.items) f.items → IsRightUnder (given xs) u
           → EachFindall (λ e. e ≡ s → ⊥) (given xs) → IsSound (given xs)
-          → IsSound (cond t (with_result r.1 s u results list p f) (Findall s u results list p f) ∷ given xs)
+          → IsSound (cond t (findall_with_result r.1 s u results list p f) (Findall s u results list p f) ∷ given xs)
       go true a b c d = (a, b, c, d)
       go false a b c d = (a, b, c, d)
 
 -- one Findall entry of this scope alone is in the list, at this height
-abbrev pub StandsAt : List Element → Name → ℕ → Type 0
-StandsAt [] s h = ⊥
-StandsAt (EndOf e ∷ xs) s h = StandsAt xs s h
-StandsAt (Credit k rs ∷ xs) s h = StandsAt xs s h
-StandsAt (Plain p f ∷ xs) s h = StandsAt xs s h
-StandsAt (Catch e u c t p f ∷ xs) s h = StandsAt xs s h
-StandsAt (End p b ∷ xs) s h = StandsAt xs s h
-StandsAt (Findall e u results list p f ∷ xs) s h = ((e ≡ s) × (h ≡ count xs) × EachFindall (λ o. o ≡ s → ⊥) xs) ⊎
-    ((e ≡ s → ⊥) × StandsAt xs s h)
+abbrev pub IsFindallAt : List Element → Name → ℕ → Type 0
+IsFindallAt [] s h = ⊥
+IsFindallAt (EndOf e ∷ xs) s h = IsFindallAt xs s h
+IsFindallAt (Credit k rs ∷ xs) s h = IsFindallAt xs s h
+IsFindallAt (Plain p f ∷ xs) s h = IsFindallAt xs s h
+IsFindallAt (Catch e u c t p f ∷ xs) s h = IsFindallAt xs s h
+IsFindallAt (End p b ∷ xs) s h = IsFindallAt xs s h
+IsFindallAt (Findall e u results list p f ∷ xs) s h = ((e ≡ s) × (h ≡ element_count xs) × EachFindall (λ o. o ≡ s → ⊥) xs) ⊎
+    ((e ≡ s → ⊥) × IsFindallAt xs s h)
 
-pub stands-low : (xs : List Element) (s : Name) (h : ℕ) → StandsAt xs s h → suc h ≤ count xs
-stands-low [] s h k = absurd k
-stands-low (EndOf e ∷ xs) s h k = stands-low xs s h k
-stands-low (Credit j rs ∷ xs) s h k = omega (arith, stands-low xs s h k)
-stands-low (Plain p f ∷ xs) s h k = omega (arith, stands-low xs s h k)
-stands-low (Catch e u c t p f ∷ xs) s h k = omega (arith, stands-low xs s h k)
-stands-low (End p b ∷ xs) s h k = omega (arith, stands-low xs s h k)
-stands-low (Findall e u results list p f ∷ xs) s h (inl k) = omega (arith, k.1)
-stands-low (Findall e u results list p f ∷ xs) s h (inr k) = omega (arith, stands-low xs s h k.1)
+pub findall_at-low : (xs : List Element) (s : Name) (h : ℕ) → IsFindallAt xs s h → suc h ≤ element_count xs
+findall_at-low [] s h k = absurd k
+findall_at-low (EndOf e ∷ xs) s h k = findall_at-low xs s h k
+findall_at-low (Credit j rs ∷ xs) s h k = omega (arith, findall_at-low xs s h k)
+findall_at-low (Plain p f ∷ xs) s h k = omega (arith, findall_at-low xs s h k)
+findall_at-low (Catch e u c t p f ∷ xs) s h k = omega (arith, findall_at-low xs s h k)
+findall_at-low (End p b ∷ xs) s h k = omega (arith, findall_at-low xs s h k)
+findall_at-low (Findall e u results list p f ∷ xs) s h (inl k) = omega (arith, k.1)
+findall_at-low (Findall e u results list p f ∷ xs) s h (inr k) = omega (arith, findall_at-low xs s h k.1)
 
 -- a gathered scope's Findall entry is so in a sound list
 stands : (xs : List Element) (s u : Name) (results : List Term) (list : Term) (p : Name) (f : Continuation Name) (t : List Element)
-    → IsSound xs → from xs s ≡ EndOf s ∷ Findall s u results list p f ∷ t → StandsAt xs s (count t)
+    → IsSound xs → from xs s ≡ EndOf s ∷ Findall s u results list p f ∷ t → IsFindallAt xs s (element_count t)
 stands [] s u results list p f t i e = absurd cc
 stands (EndOf o ∷ xs) s u results list p f t i e = go (same s o) e (λ k. stands xs s u results list p f t i k)
   where
-    top : (zs : List Element) → zs ≡ Findall s u results list p f ∷ t → IsSound zs → StandsAt zs s (count t)
-    top zs k j = subst (λ l. StandsAt l s (count t)) (sym k) (inl (refl, refl, (subst IsSound k j).2))
+    top : (zs : List Element) → zs ≡ Findall s u results list p f ∷ t → IsSound zs → IsFindallAt zs s (element_count t)
+    top zs k j = subst (λ l. IsFindallAt l s (element_count t)) (sym k) (inl (refl, refl, (subst IsSound k j).2))
 
     go : (b : Bool) → cond b (EndOf o ∷ xs) (from xs s) ≡ EndOf s ∷ Findall s u results list p f ∷ t
-        → (from xs s ≡ EndOf s ∷ Findall s u results list p f ∷ t → StandsAt xs s (count t)) → StandsAt xs s (count t)
+        → (from xs s ≡ EndOf s ∷ Findall s u results list p f ∷ t → IsFindallAt xs s (element_count t)) → IsFindallAt xs s (element_count t)
     go true k next = let tail : xs ≡ Findall s u results list p f ∷ t = cc in top xs tail i
     go false k next = next k
 stands (Credit k rs ∷ xs) s u results list p f t i e = stands xs s u results list p f t i.1 e
@@ -208,8 +210,8 @@ stands (Findall o v rs l a g ∷ xs) s u results list p f t i e =
     (findalls-from (λ q. q ≡ o → ⊥) xs s i.2) in
     inr ((λ k. inside.0 (sym k)), stands xs s u results list p f t i.3 e)
 
-pub gathered_stands : (xs : List Element) (s : Name) → IsSound xs → IsGathered xs s → StandsAt xs s (height xs s - 1)
-gathered_stands xs s i m =
-    let n : height xs s ≡ suc (count m.under) = ap count m.found in
-    let same_height : count m.under ≡ height xs s - 1 = omega (arith, n) in
-    subst (StandsAt xs s) same_height (stands xs s m.scope m.results m.list m.name m.after m.under i m.found)
+pub gathered_findall_at : (xs : List Element) (s : Name) → IsSound xs → IsGathered xs s → IsFindallAt xs s (height xs s - 1)
+gathered_findall_at xs s i m =
+    let n : height xs s ≡ suc (element_count m.under) = ap element_count m.found in
+    let same_height : element_count m.under ≡ height xs s - 1 = omega (arith, n) in
+    subst (IsFindallAt xs s) same_height (stands xs s m.scope m.results m.list m.name m.after m.under i m.found)

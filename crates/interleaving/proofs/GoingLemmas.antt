@@ -1,5 +1,5 @@
 -- A tree that has not ended, and what is legal there.
-use Rattle.std.proofs.Common.{◌≡◌, ℕ, ◌<◌, Bool, true, false, cond, Option, Some, None, refl, ap, subst, arith}
+use Rattle.std.proofs.Common.{◌≡◌, ℕ, ◌≤◌, ◌<◌, Bool, true, false, cond, Option, Some, None, refl, ap, subst, arith}
 use Rattle.std.specs.Prelude.{min, nat_le, not, is_none}
 use Rattle.run_model.specs.declared.ending.RunEnding.TheVariants.{Budget}
 use Rattle.tree_model.specs.Credits.{greatest}
@@ -11,9 +11,9 @@ use Rattle.tree_model.specs.Legality.{is_allowed, is_legal}
 use Rattle.tree_model.specs.PendingLists.{pending_list}
 use Rattle.tree_model.specs.SoundTrees.{IsSoundTree}
 use Rattle.interleaving.specs.Follows.{lead}
-use Rattle.interleaving.specs.HistoryInvariants.{shared_of, left_by, list_of}
-use Rattle.interleaving.proofs.OpenSpotLemmas.{both_left, both_right}
+use Rattle.interleaving.specs.HistoryInvariants.{shared_of, left_by, tree_list}
 use Rattle.interleaving.proofs.ClockLemmas.{leftmost_known}
+use Rattle.au_term.proofs.LogicLemmas.{and-right, and-left}
 
 -- a tree that has not ended
 pub record IsGoing (t : TreeState) : Type 0 where
@@ -42,11 +42,11 @@ is-none (Some a) h = let no_way : ⊥ = cc in absurd no_way
 pub legal_parts : (t : TreeState) (e : Event) → is_legal t e ≡ true → (ended t ≡ None) × (is_allowed t e ≡ true)
 unfolding is_legal
 legal_parts t e l =
-    let rest = both_right (not t.stopped) _ l in
-    (is-none (ended t) (both_left (is_none (ended t)) _ rest), both_right (is_none (ended t)) _ rest)
+    let rest = and-right (not t.stopped) _ l in
+    (is-none (ended t) (and-left (is_none (ended t)) _ rest), and-right (is_none (ended t)) _ rest)
 
 -- the list of a tree that was not halted
-pub not_halted : (t : TreeState) → t.halted ≡ None → list_of t ≡ pending_list t.root
+pub not_halted : (t : TreeState) → t.halted ≡ None → tree_list t ≡ pending_list t.root
 not_halted t h = ap (λ o. left_by o (pending_list t.root)) h
 
 pub same_shared : (answers : ℕ) (t new : TreeState) → new.world ≡ t.world → new.queries ≡ t.queries → new.halted ≡ t.halted
@@ -54,7 +54,7 @@ pub same_shared : (answers : ℕ) (t new : TreeState) → new.world ≡ t.world 
 same_shared answers t new a b c = cc
 
 -- in front of the leftmost clock the count is what it seems
-pub true_clock : (t : TreeState) (budget : ℕ) → budget < greatest → t.budget ≡ budget → (h : IsSoundTree t) → (g : IsGoing t)
+pub true_clock : (t : TreeState) (budget : ℕ) → budget ≤ greatest → t.budget ≡ budget → (h : IsSoundTree t) → (g : IsGoing t)
     → (lead (pending_list t.root) < budget) × (clock_of (levels_of g.spot) ≡ lead (pending_list t.root))
 true_clock t budget b e h g =
     let k = leftmost_known t h g.spot g.first in

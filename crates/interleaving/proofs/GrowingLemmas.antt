@@ -5,20 +5,21 @@ use Rattle.std.specs.Prelude.{◌&&◌}
 use Rattle.au_model.specs.Terms.Each.{Each}
 use Rattle.run_model.specs.Machine.Entries.{Entry, PlainEntry, CatchEntry, FindallEntry, EndEntry}
 use Rattle.tree_model.specs.Nodes.{Kind, ChoiceNode, CatchNode, FindallNode, QueryNode, Ready, Numbered, Alternatives, none, alternative}
-use Rattle.tree_model.specs.Nodes.{Status, Inner, standing}
+use Rattle.tree_model.specs.Nodes.{Status, Inner, entry_alternatives}
 use Rattle.tree_model.specs.Levels.{Level, plug}
 use Rattle.tree_model.specs.Pruning.{emptied, pruned}
 use Rattle.tree_model.specs.Effects.{spending}
 use Rattle.tree_model.specs.PendingLists.{Way, way_of, step_of}
 use Rattle.tree_model.specs.Ways.{is_on, same_kind, stops_cuts, is_barrier, in_reach, IsAsked, IsOnWay, IsAwake}
-use Rattle.tree_model.specs.SoundTrees.{one_if, count_among, count_below, Profile, IsOpen, Sleeps, IsShut, profile, profiles, is_live}
-use Rattle.tree_model.specs.SoundTrees.{none_sleeps, are_pair, is_shape, AreSound, IsSound}
+use Rattle.tree_model.specs.SoundTrees.{one_if, count_among, count_below, Profile, IsOpen, IsDormant, IsShut, profile, profiles, is_live}
+use Rattle.tree_model.specs.SoundTrees.{none_dormant, are_pair, is_shape, AreSound, IsSound}
 use Rattle.interleaving.proofs.ContextLemmas.{LeftSound, put_profiles, IsAround, live_at, live_open, put_in, count_left, count_around}
 use Rattle.interleaving.proofs.ContextLemmas.{count_plug}
 use Rattle.interleaving.proofs.WayLemmas.{off_way, below_new}
-use Rattle.interleaving.proofs.ShapeLemmas.{none_sleeps-put}
+use Rattle.interleaving.proofs.ShapeLemmas.{none_dormant-put}
 use Rattle.interleaving.proofs.RoundtripLemmas.{IsPath}
 use Rattle.interleaving.proofs.ClosingSoundLemmas.{IsSoundGrown, IsFree, one_if-same}
+use Rattle.au_term.proofs.LogicLemmas.{and-false}
 
 -- a status put into a place
 pub plug_sound : (next : ℕ) (levels : List Level) (status : Status) → profile status ≡ IsOpen → IsAround levels (profile status)
@@ -39,10 +40,6 @@ IsReadyOn way (EndEntry b) = Unit {0}
 IsReadyOn way (CatchEntry c r f) = ⊥
 IsReadyOn way (FindallEntry results l f) = ⊥
 
-and-false : (b : Bool) → (b && false) ≡ false
-and-false true = refl
-and-false false = refl
-
 pub ready_below : (way : Way) (n i : ℕ) (e : Entry) → is_on way n ≡ false → IsReadyOn way e
     → IsOnWay (record { node = n; index = i; kind = ChoiceNode } ∷ way) e
 ready_below way n i (PlainEntry f) o h = record {
@@ -60,46 +57,47 @@ ready_awake way (EndEntry b) h = tt
 ready_awake way (CatchEntry c r f) h = h
 ready_awake way (FindallEntry results l f) h = h
 
-standing_sound : (way : Way) (n i : ℕ) (es : List Entry) → is_on way n ≡ false → Each (IsReadyOn way) es
-    → AreSound way n ChoiceNode i (standing Ready es)
-standing_sound way n i [] o h = tt
-standing_sound way n i (e ∷ es) o h = ((ready_below way n i e o h.0, ready_awake way e h.0), standing_sound way n (suc i) es o h.1)
+pub alternatives_sound : (way : Way) (n i : ℕ) (es : List Entry) → is_on way n ≡ false → Each (IsReadyOn way) es
+    → AreSound way n ChoiceNode i (entry_alternatives Ready es)
+alternatives_sound way n i [] o h = tt
+alternatives_sound way n i (e ∷ es) o h = ((ready_below way n i e o h.0, ready_awake way e h.0), alternatives_sound way n (suc i) es o h.1)
 
-standing_shape : (es : List Entry) → none_sleeps (profiles (standing Ready es)) ≡ true
-standing_shape [] = refl
-standing_shape (e ∷ es) = standing_shape es
+pub alternatives_shape : (es : List Entry) → none_dormant (profiles (entry_alternatives Ready es)) ≡ true
+alternatives_shape [] = refl
+alternatives_shape (e ∷ es) = alternatives_shape es
 
-standing_count : (m : ℕ) (es : List Entry) → count_among m (standing Ready es) ≡ 0
-standing_count m [] = refl
-standing_count m (e ∷ es) = let h = standing_count m es in omega (arith, h)
+alternatives_count : (m : ℕ) (es : List Entry) → count_among m (entry_alternatives Ready es) ≡ 0
+alternatives_count m [] = refl
+alternatives_count m (e ∷ es) = let h = alternatives_count m es in omega (arith, h)
 
 -- a node of ready entries below a place
 pub new_node_sound : (next : ℕ) (levels : List Level) (e : Entry) (ds : List Entry) → let es : List Entry = e ∷ ds in IsAround levels
     IsOpen → IsFree next levels → Each (IsReadyOn (way_of levels)) es →
-    IsSoundGrown (record { root = plug levels (Inner (Numbered next ChoiceNode (standing Ready es))); next = suc next })
+    IsSoundGrown (record { root = plug levels (Inner (Numbered next ChoiceNode (entry_alternatives Ready es))); next = suc next })
 new_node_sound next levels e ds h f k =
     let es : List Entry = e ∷ ds in
     let off : is_on (way_of levels) next ≡ false = off_way next levels (f.fresh next (omega arith)) in
-    plug_sound (suc next) levels (Inner (Numbered next ChoiceNode (standing Ready es))) refl h
-    (off, standing_shape es, live_first (way_of levels), standing_sound (way_of levels) next 0 es off k)
+    plug_sound (suc next) levels (Inner (Numbered next ChoiceNode (entry_alternatives Ready es))) refl h
+    (off, alternatives_shape es, live_first (way_of levels), alternatives_sound (way_of levels) next 0 es off k)
     (λ m. few m (next == m) refl) (λ m l. zero_at m l)
   where
     es : List Entry
     es = e ∷ ds
 
-    live_first : (way : Way) → is_live way (IsOpen ∷ profiles (standing Ready ds)) ≡ true
+    live_first : (way : Way) → is_live way (IsOpen ∷ profiles (entry_alternatives Ready ds)) ≡ true
     live_first [] = refl
     live_first (a ∷ way) = refl
 
-    few : (m : ℕ) (b : Bool) → (next == m) ≡ b → count_around m levels + (one_if (next == m) + count_among m (standing Ready es)) ≤ 1
+    few : (m : ℕ) (b : Bool) → (next == m) ≡ b → count_around m levels +
+        (one_if (next == m) + count_among m (entry_alternatives Ready es)) ≤ 1
     few m true q =
         let same : next ≡ m = grind arith in
         let one : one_if (next == m) ≡ 1 = ap one_if q in
-        omega (arith, one, standing_count m es, f.fresh m (omega (arith, same)))
-    few m false q = let zero_new : one_if (next == m) ≡ 0 = ap one_if q in omega (arith, zero_new, standing_count m es, f.distinct m)
+        omega (arith, one, alternatives_count m es, f.fresh m (omega (arith, same)))
+    few m false q = let zero_new : one_if (next == m) ≡ 0 = ap one_if q in omega (arith, zero_new, alternatives_count m es, f.distinct m)
 
-    zero_at : (m : ℕ) → suc next ≤ m → count_around m levels + (one_if (next == m) + count_among m (standing Ready es)) ≡ 0
-    zero_at m l = omega (arith, one_if-same next m l, standing_count m es, f.fresh m (omega arith))
+    zero_at : (m : ℕ) → suc next ≤ m → count_around m levels + (one_if (next == m) + count_among m (entry_alternatives Ready es)) ≡ 0
+    zero_at m l = omega (arith, one_if-same next m l, alternatives_count m es, f.fresh m (omega arith))
 
 -- what was spent is none of it
 pub spending_around : (k : ℕ) (levels : List Level) → IsAround levels IsOpen → IsAround (spending k levels) IsOpen
@@ -128,18 +126,18 @@ emptied_count : (m : ℕ) (others : Alternatives) → count_among m (emptied oth
 emptied_count m none = refl
 emptied_count m (alternative spent status others) = let h = emptied_count m others in omega (arith, h)
 
-emptied_sleeps : (others : Alternatives) → none_sleeps (profiles (emptied others)) ≡ true
-emptied_sleeps none = refl
-emptied_sleeps (alternative spent status others) = emptied_sleeps others
+emptied_dormant : (others : Alternatives) → none_dormant (profiles (emptied others)) ≡ true
+emptied_dormant none = refl
+emptied_dormant (alternative spent status others) = emptied_dormant others
 
-pub none_sleeps-of : (left : List (ℕ × Status)) (ps : List Profile) → none_sleeps (put_profiles left ps) ≡ true → none_sleeps ps ≡ true
-none_sleeps-of [] ps h = h
-none_sleeps-of (a ∷ left) ps h = go (profile a.1) (none_sleeps-of left (profile a.1 ∷ ps) h)
+pub none_dormant-of : (left : List (ℕ × Status)) (ps : List Profile) → none_dormant (put_profiles left ps) ≡ true → none_dormant ps ≡ true
+none_dormant-of [] ps h = h
+none_dormant-of (a ∷ left) ps h = go (profile a.1) (none_dormant-of left (profile a.1 ∷ ps) h)
   where
-    go : (p : Profile) → none_sleeps (p ∷ ps) ≡ true → none_sleeps ps ≡ true
+    go : (p : Profile) → none_dormant (p ∷ ps) ≡ true → none_dormant ps ≡ true
     go IsOpen k = k
     go IsShut k = k
-    go (Sleeps j) k = let no_way : ⊥ = cc in absurd no_way
+    go (IsDormant j) k = let no_way : ⊥ = cc in absurd no_way
 
 pub no_three : (k : Kind) (left : List (ℕ × Status)) (x y z : Profile) (ps : List Profile)
     → are_pair k (put_profiles left (x ∷ y ∷ z ∷ ps)) ≡ true → ⊥
@@ -173,8 +171,8 @@ shape_emptied : (kind : Kind) (left : List (ℕ × Status)) (right : Alternative
     → is_shape kind (put_profiles left (IsOpen ∷ profiles right)) ≡ true
     → is_shape kind (put_profiles left (IsOpen ∷ profiles (emptied right))) ≡ true
 shape_emptied ChoiceNode left right b h =
-    none_sleeps-put left (IsOpen ∷ profiles (emptied right)) (IsOpen ∷ profiles right)
-    (emptied_sleeps right ∙ sym (none_sleeps-of left (IsOpen ∷ profiles right) h)) ∙ h
+    none_dormant-put left (IsOpen ∷ profiles (emptied right)) (IsOpen ∷ profiles right)
+    (emptied_dormant right ∙ sym (none_dormant-of left (IsOpen ∷ profiles right) h)) ∙ h
 shape_emptied CatchNode left right b h = pair_emptied CatchNode left right (and-false (length left == 0)) h
 shape_emptied FindallNode left right b h = pair_emptied FindallNode left right b h
 shape_emptied QueryNode left right b h = pair_emptied QueryNode left right b h

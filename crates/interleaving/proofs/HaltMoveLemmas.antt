@@ -20,11 +20,11 @@ use Rattle.tree_model.specs.PendingLists.{way_of, scope_on, named_continuation, 
 use Rattle.tree_model.specs.SoundTrees.{IsSoundTree}
 use Rattle.tree_model.specs.CaughtTrees.{IsUnspent, IsCaughtTree}
 use Rattle.tree_model.specs.Elements.{Name, Element, Credit, Plain, EndOf, Catch, Findall, End}
-use Rattle.interleaving.specs.Machine.{Asks, Only, gives, free_steps, run, seen, placed}
-use Rattle.interleaving.specs.Scopes.{Shared, Lands, act, item_act, goal_act, replied, scoped}
+use Rattle.interleaving.specs.Machine.{AsksWorld, Only, gives, free_steps, run, seen, placed}
+use Rattle.interleaving.specs.Scopes.{Shared, ElementReplacement, act, item_act, goal_act, world_replied, scoped}
 use Rattle.interleaving.specs.Quiet.{IsQuiet, inferences, records}
 use Rattle.interleaving.specs.Follows.{lead}
-use Rattle.interleaving.specs.HistoryInvariants.{shared_of, list_of, AnswerMoves}
+use Rattle.interleaving.specs.HistoryInvariants.{shared_of, tree_list, AnswerMoves}
 use Rattle.interleaving.proofs.AppendLemmas.{append-assoc}
 use Rattle.interleaving.proofs.QuietCreditLemmas.{gives-fixed}
 use Rattle.interleaving.proofs.PassingLemmas.{credits_end}
@@ -51,8 +51,8 @@ halts_tree clauses (Controls form) f es w after k h = absurd h
 
 record HaltsNamed (clauses : List Clause) (o : Outcome) (p h : Name) (f : Continuation Name) (w : Shared) (after : World) (k : ℕ) : Type
     0 where
-  pub gate : Shared → Shared × Lands
-  pub asks : goal_act clauses o p h f ≡ Asks gate
+  pub gate : Shared → Shared × ElementReplacement
+  pub asks : goal_act clauses o p h f ≡ AsksWorld gate
   pub place : (gate w).1 ≡ Only []
   pub world : (gate w).0 ≡ record w { world = after; halted = Some k }
 
@@ -60,24 +60,25 @@ halts_named : (clauses : List Clause) (o : Outcome) (p h : Name) (f : Continuati
     → HaltsBy clauses o f.next w.world k after → HaltsNamed clauses o p h f w after k
 halts_named clauses (Replies r) p h f w after k z = subst (λ q. HaltsNamed clauses (Replies q) p h f w after k) (sym z.0)
     (record {
-      gate = λ v. replied (v.world, HaltNumber k) p f v;
+      gate = λ v. world_replied (v.world, HaltNumber k) p f v;
       asks = refl;
       place = refl;
       world = ap
           (λ x. record w { world = x; halted = Some k }) z.1;
     })
 halts_named clauses (AskWorld goal) p h f w after k z = record {
-  gate = λ v. replied (world_step clauses goal f.next v.world) p f v;
+  gate = λ v. world_replied (world_step clauses goal f.next v.world) p f v;
   asks = refl;
-  place = ap (λ r. (replied r p f w).1) z;
+  place = ap (λ r. (world_replied r p f w).1) z;
   world =
-      ap (λ r. (replied r p f w).0) z;
+      ap (λ r. (world_replied r p f w).0) z;
 }
 halts_named clauses (Controls form) p h f w after k z = absurd z
 
 -- a gate that leaves nothing at all
-front_only : (clauses : List Clause) (front zs : List Element) (sp : ℕ) (p : Name) (f : Continuation Name) (g : Shared → Shared × Lands)
-    (w : Shared) (n : ℕ) → IsQuiet front → sp ≡ 0 → act clauses (bare clauses p f) ≡ Asks g → (g w).1 ≡ Only []
+front_only : (clauses : List Clause) (front zs : List Element) (sp : ℕ) (p : Name) (f : Continuation Name)
+    (g : Shared → Shared × ElementReplacement)
+    (w : Shared) (n : ℕ) → IsQuiet front → sp ≡ 0 → act clauses (bare clauses p f) ≡ AsksWorld g → (g w).1 ≡ Only []
     → run (scoped clauses) (inferences front + suc n) w (free_steps (scoped clauses) [] (front ++ (Credit sp [] ∷ (Plain p f ∷ zs))))
     ≡ ((g w).0, [])
 front_only clauses front zs sp p f g w n q unspent h e =
@@ -151,8 +152,8 @@ halted_moves t s f goal scope items after k e answers i q running first entry ba
     let h = halts_named clauses (outcome_of clauses goal f.next) p (scope_on way scope)
     (with_items rest (with_items (without_marks named.items) named)) w after k halts in
     let asks : act clauses (Plain p (with_items (without_marks named.items) named))
-    ≡ Asks h.gate = ap (λ is. item_act clauses is p (with_items (without_marks named.items) named)) ws ∙ h.asks in
-    let nothing : list_of new ≡ [] = refl in
+    ≡ AsksWorld h.gate = ap (λ is. item_act clauses is p (with_items (without_marks named.items) named)) ws ∙ h.asks in
+    let nothing : tree_list new ≡ [] = refl in
     -- the list of the halted tree
     let halted_list : pending_list new.root ≡ front ++ (Credit (s.level.spent + 1) [] ∷ (element_on way s.entry ∷ back)) = list_round
     new.root (record { level = record s.level { spent = s.level.spent + 1 }; above = s.above; hold = s.hold; entry = s.entry }) refl

@@ -9,15 +9,17 @@ use Rattle.tree_model.specs.Nodes.{Hold, Ready, TakenBy, Waiting, Dormant, Node,
 use Rattle.tree_model.specs.Nodes.{Pending, Inner, Closed}
 use Rattle.tree_model.specs.Levels.{Level, Place, same_place}
 use Rattle.tree_model.specs.Closing.{Grown, guarded, with_right, all_closed, wakes, goal_side_closes, closes}
-use Rattle.tree_model.specs.Pruning.{Task, task_at, tasks_in, tasks_among, tasks_below, emptied, pruned, tasks_pruned, left_after, lands}
+use Rattle.tree_model.specs.Pruning.{Task, task_at, tasks_in, tasks_among, tasks_below, emptied, pruned, tasks_pruned, left_after}
+use Rattle.tree_model.specs.Pruning.{ball_closes}
 use Rattle.tree_model.specs.HandOuts.{Handed, Out}
 use Rattle.tree_model.specs.SoundTrees.{one_if, count_in, count_among, count_below}
-use Rattle.interleaving.proofs.WayLemmas.{same_self}
-use Rattle.interleaving.proofs.HandOutCountLemmas.{handed, at, AgreesNode, AgreesAll, Agrees, stand_in, stand_all, stand, AgreesAround}
-use Rattle.interleaving.proofs.HandOutCountLemmas.{stand_around, NewIn, IsAgreed, folds_agreed, wakes_agreed}
+use Rattle.interleaving.proofs.HandOutCountLemmas.{handed, at, AgreesNode, AgreesAll, Agrees, occurrences_in, occurrences_all, occurrences}
+use Rattle.interleaving.proofs.HandOutCountLemmas.{AgreesAround}
+use Rattle.interleaving.proofs.HandOutCountLemmas.{occurrences_around, NewIn, IsAgreed, folds_agreed, wakes_agreed}
+use Rattle.interleaving.proofs.TestLemmas.{number_same}
 
 side_agreed : (G : Place → Option Handed) (next : ℕ) (v : Level) (up : List Level) (c : Credit) (o : Option Entry) (go : Credit → Grown)
-    (most : Place → ℕ) → NewIn G next → AgreesAround G (v ∷ up) → ((a : Place) → stand_around a (v ∷ up) ≤ most a)
+    (most : Place → ℕ) → NewIn G next → AgreesAround G (v ∷ up) → ((a : Place) → occurrences_around a (v ∷ up) ≤ most a)
     → ((k : Credit) → IsAgreed G next (λ a. 0) most (go k).root)
     → IsAgreed G next (λ a. 0) most (goal_side_closes next v up c o go).root
 side_agreed G next v up c None go most n h l f = folds_agreed G next v up c (all_closed v c) go most h l f
@@ -31,12 +33,13 @@ side_agreed G next v up c (Some (EndEntry b)) go most n h l f = wakes_agreed G n
     (λ a. omega (arith, l a))
 
 pub closes_agreed : (G : Place → Option Handed) (next : ℕ) (levels : List Level) (c : Credit) (most : Place → ℕ) → NewIn G next
-    → AgreesAround G levels → ((a : Place) → stand_around a levels ≤ most a) → IsAgreed G next (λ a. 0) most (closes next levels c).root
+    → AgreesAround G levels → ((a : Place) → occurrences_around a levels ≤ most a)
+    → IsAgreed G next (λ a. 0) most (closes next levels c).root
 closes_agreed G next [] c most n h l = record { agrees = tt; few = λ a k. omega arith }
 closes_agreed G next (v ∷ up) c most n h l = side_agreed G next v up c (guarded v) (closes next up) most n h l
     (λ k. closes_agreed G next up k most n h.2 (λ a. omega (arith, l a, level_less a v up)))
   where
-    level_less : (a : Place) (v : Level) (up : List Level) → stand_around a up ≤ stand_around a (v ∷ up)
+    level_less : (a : Place) (v : Level) (up : List Level) → occurrences_around a up ≤ occurrences_around a (v ∷ up)
     level_less a v up = omega arith
 
 -- the tasks that are out
@@ -55,10 +58,10 @@ hold_tasks a (Waiting g) n i = omega arith
 hold_tasks a (TakenBy w) n i = omega arith
 
 mutual
-  tasks_node : (a : Place) (node : Node) → tasks_at a (tasks_in node) ≤ stand_in a node
+  tasks_node : (a : Place) (node : Node) → tasks_at a (tasks_in node) ≤ occurrences_in a node
   tasks_node a (Numbered n kind alternatives) = tasks_all a n 0 alternatives
 
-  tasks_all : (a : Place) (n i : ℕ) (others : Alternatives) → tasks_at a (tasks_among n i others) ≤ stand_all a n i others
+  tasks_all : (a : Place) (n i : ℕ) (others : Alternatives) → tasks_at a (tasks_among n i others) ≤ occurrences_all a n i others
   tasks_all a n i none = omega arith
   tasks_all a n i (alternative spent status others) = omega (
     arith,
@@ -68,7 +71,7 @@ mutual
         others,
   )
 
-  tasks_status : (a : Place) (n i : ℕ) (status : Status) → tasks_at a (tasks_below n i status) ≤ stand a n i status
+  tasks_status : (a : Place) (n i : ℕ) (status : Status) → tasks_at a (tasks_below n i status) ≤ occurrences a n i status
   tasks_status a n i (Pending hold entry) = hold_tasks a hold n i
   tasks_status a n i (Inner node) = tasks_node a node
   tasks_status a n i (Closed credit) = omega arith
@@ -116,9 +119,9 @@ emptied_agrees : (G : Place → Option Handed) (n i : ℕ) (others : Alternative
 emptied_agrees G n i none = tt
 emptied_agrees G n i (alternative spent status others) = (tt, emptied_agrees G n (suc i) others)
 
-emptied_stands : (a : Place) (n i : ℕ) (others : Alternatives) → stand_all a n i (emptied others) ≡ 0
-emptied_stands a n i none = refl
-emptied_stands a n i (alternative spent status others) = let h = emptied_stands a n (suc i) others in omega (arith, h)
+emptied_occurs : (a : Place) (n i : ℕ) (others : Alternatives) → occurrences_all a n i (emptied others) ≡ 0
+emptied_occurs a n i none = refl
+emptied_occurs a n i (alternative spent status others) = let h = emptied_occurs a n (suc i) others in omega (arith, h)
 
 pub pruned_agrees : (G : Place → Option Handed) (scope : ℕ) (levels : List Level) → AgreesAround G levels
     → AgreesAround G (pruned scope levels)
@@ -130,38 +133,38 @@ pruned_agrees G scope (v ∷ up) h = go (v.number == scope) (pruned_agrees G sco
     go true k = h
     go false k = (h.0, emptied_agrees G v.number (suc (length v.left)) v.right, k)
 
-pub pruned_stands : (a : Place) (scope : ℕ) (levels : List Level) → stand_around a (pruned scope levels) + tasks_at a
-    (tasks_pruned scope levels) ≤ stand_around a levels
-pruned_stands a scope [] = omega arith
-pruned_stands a scope (v ∷ up) = go (v.number == scope) (pruned_stands a scope up)
+pub pruned_occurs : (a : Place) (scope : ℕ) (levels : List Level) → occurrences_around a (pruned scope levels) + tasks_at a
+    (tasks_pruned scope levels) ≤ occurrences_around a levels
+pruned_occurs a scope [] = omega arith
+pruned_occurs a scope (v ∷ up) = go (v.number == scope) (pruned_occurs a scope up)
   where
-    go : (b : Bool) → stand_around a (pruned scope up) + tasks_at a (tasks_pruned scope up) ≤ stand_around a up →
-        stand_around a (cond b (v ∷ up) (record v { right = emptied v.right } ∷ pruned scope up)) + tasks_at a
-        (cond b [] (tasks_among v.number (suc (length v.left)) v.right ++ tasks_pruned scope up)) ≤ stand_around a (v ∷ up)
+    go : (b : Bool) → occurrences_around a (pruned scope up) + tasks_at a (tasks_pruned scope up) ≤ occurrences_around a up →
+        occurrences_around a (cond b (v ∷ up) (record v { right = emptied v.right } ∷ pruned scope up)) + tasks_at a
+        (cond b [] (tasks_among v.number (suc (length v.left)) v.right ++ tasks_pruned scope up)) ≤ occurrences_around a (v ∷ up)
     go true h = omega arith
     go false h = omega (
       arith,
       h,
-      emptied_stands a v.number (suc (length v.left)) v.right,
+      emptied_occurs a v.number (suc (length v.left)) v.right,
       tasks_append a
           (tasks_among v.number (suc (length v.left)) v.right) (tasks_pruned scope up),
       tasks_all a v.number (suc (length v.left))
           v.right,
     )
 
-pub lands_agreed : (G : Place → Option Handed) (next scope : ℕ) (levels : List Level) (c : Credit) (e : Entry) (gone most : Place → ℕ)
-    → NewIn G next → AgreesAround G levels → ((a : Place) → stand_around a levels + gone a ≤ most a)
-    → IsAgreed G next (λ a. tasks_at a (tasks_pruned scope levels) + gone a) most (lands next scope levels c e).root
-lands_agreed G next scope [] c e gone most n h l = record { agrees = tt; few = λ a k. omega (arith, l a) }
-lands_agreed G next scope (v ∷ up) c e gone most n h l = go (v.number == scope)
-    (λ d. lands_agreed G next scope up d e (λ a. tasks_at a (tasks_among v.number (suc (length v.left)) v.right) + gone a) most n h.2
+pub ball_closes_agreed : (G : Place → Option Handed) (next scope : ℕ) (levels : List Level) (c : Credit) (e : Entry) (gone most : Place → ℕ)
+    → NewIn G next → AgreesAround G levels → ((a : Place) → occurrences_around a levels + gone a ≤ most a)
+    → IsAgreed G next (λ a. tasks_at a (tasks_pruned scope levels) + gone a) most (ball_closes next scope levels c e).root
+ball_closes_agreed G next scope [] c e gone most n h l = record { agrees = tt; few = λ a k. omega (arith, l a) }
+ball_closes_agreed G next scope (v ∷ up) c e gone most n h l = go (v.number == scope)
+    (λ d. ball_closes_agreed G next scope up d e (λ a. tasks_at a (tasks_among v.number (suc (length v.left)) v.right) + gone a) most n h.2
     (λ a. omega (arith, l a, tasks_all a v.number (suc (length v.left)) v.right)))
   where
     go : (b : Bool) → ((d : Credit)
         → IsAgreed G next (λ a. tasks_at a (tasks_pruned scope up) +
-        (tasks_at a (tasks_among v.number (suc (length v.left)) v.right) + gone a)) most (lands next scope up d e).root) →
+        (tasks_at a (tasks_among v.number (suc (length v.left)) v.right) + gone a)) most (ball_closes next scope up d e).root) →
         IsAgreed G next (λ a. tasks_at a (cond b [] (tasks_among v.number (suc (length v.left)) v.right ++ tasks_pruned scope up)) +
-        gone a) most (cond b (wakes next v up (left_after v c) e) (lands next scope up (left_after v c) e)).root
+        gone a) most (cond b (wakes next v up (left_after v c) e) (ball_closes next scope up (left_after v c) e)).root
     go true f = wakes_agreed G next v up (left_after v c) e n h.0 h.2 (λ a. 0 + gone a) most (λ a. omega (arith, l a))
     go false f =
         let k = f (left_after v c) in
@@ -180,7 +183,7 @@ matches a n i true e =
     let index : (a.index == i) ≡ true = second (a.node == n) (a.index == i) e in
     let same : a.node ≡ n = number a.node n node in
     let here : a.index ≡ i = number a.index i index in
-    let hit : (n == a.node) ≡ true = ap (λ m. n == m) same ∙ same_self n in
+    let hit : (n == a.node) ≡ true = ap (λ m. n == m) same ∙ number_same n in
     (omega (arith, ap one_if hit), λ l. absurd (low here l), λ z. here)
   where
     first : (x y : Bool) → (x && y) ≡ true → x ≡ true
@@ -197,35 +200,38 @@ matches a n i true e =
     low : a.index ≡ i → suc a.index ≤ i → ⊥
     low z l = omega (arith, z)
 
-stand_here : (a : Place) (n i : ℕ) (others : Alternatives) (b : Bool) → same_place a (at n i) ≡ b
+occurrences_here : (a : Place) (n i : ℕ) (others : Alternatives) (b : Bool) → same_place a (at n i) ≡ b
     → one_if (same_place a (at n i)) ≤ one_if (n == a.node) → (same_place a (at n i) ≡ true → a.index ≡ i) →
-    stand_all a n (suc i) others ≤ one_if (n == a.node) + count_among a.node others
-    → (suc a.index ≤ suc i → stand_all a n (suc i) others ≤ count_among a.node others)
-    → one_if (same_place a (at n i)) + stand_all a n (suc i) others ≤ one_if (n == a.node) + (0 + count_among a.node others)
-stand_here a n i others false e f g h k = let z : one_if (same_place a (at n i)) ≡ 0 = ap one_if e in omega (arith, z, h)
-stand_here a n i others true e f g h k = let same : a.index ≡ i = g e in let j = k (omega (arith, same)) in omega (arith, f, j)
+    occurrences_all a n (suc i) others ≤ one_if (n == a.node) + count_among a.node others
+    → (suc a.index ≤ suc i → occurrences_all a n (suc i) others ≤ count_among a.node others)
+    → one_if (same_place a (at n i)) + occurrences_all a n (suc i) others ≤ one_if (n == a.node) + (0 + count_among a.node others)
+occurrences_here a n i others false e f g h k = let z : one_if (same_place a (at n i)) ≡ 0 = ap one_if e in omega (arith, z, h)
+occurrences_here a n i others true e f g h k = let same : a.index ≡ i = g e in let j = k (omega (arith, same)) in omega (arith, f, j)
 
 mutual
-  stands_in : (a : Place) (node : Node) → stand_in a node ≤ count_in a.node node
-  stands_in a (Numbered n kind alternatives) = (stands_all a n 0 alternatives).0
+  occurs_in : (a : Place) (node : Node) → occurrences_in a node ≤ count_in a.node node
+  occurs_in a (Numbered n kind alternatives) = (occurs_all a n 0 alternatives).0
 
-  stands_all : (a : Place) (n i : ℕ) (others : Alternatives)
-      → (stand_all a n i others ≤ one_if (n == a.node) + count_among a.node others)
-      × (suc a.index ≤ i → stand_all a n i others ≤ count_among a.node others)
-  stands_all a n i none = (omega arith, λ l. omega arith)
-  stands_all a n i (alternative spent (Closed c) others) = let k = stands_all a n (suc i) others in
+  occurs_all : (a : Place) (n i : ℕ) (others : Alternatives)
+      → (occurrences_all a n i others ≤ one_if (n == a.node) + count_among a.node others)
+      × (suc a.index ≤ i → occurrences_all a n i others ≤ count_among a.node others)
+  occurs_all a n i none = (omega arith, λ l. omega arith)
+  occurs_all a n i (alternative spent (Closed c) others) = let k = occurs_all a n (suc i) others in
       (omega (arith, k.0), λ l. let j = k.1 (omega arith) in omega (arith, j))
-  stands_all a n i (alternative spent (Inner node) others) =
-      let k = stands_all a n (suc i) others in
-      let m = stands_in a node in
+  occurs_all a n i (alternative spent (Inner node) others) =
+      let k = occurs_all a n (suc i) others in
+      let m = occurs_in a node in
       (omega (arith, k.0, m), λ l. let j = k.1 (omega arith) in omega (arith, j, m))
-  stands_all a n i (alternative spent (Pending hold e) others) =
-      let k = stands_all a n (suc i) others in
-      let m = matches a n i (same_place a (at n i)) refl in
-      (stand_here a n i others (same_place a (at n i)) refl m.0 m.2 k.0 k.1, λ l. let j = k.1 (omega arith) in omega (arith, j, m.1 l))
+  occurs_all a n i (alternative spent (Pending hold e) others) =
+      let k = occurs_all a n (suc i) others in
+      let m = matches a n i (same_place a (at n i)) refl in (
+        occurrences_here a n i others (same_place a (at n i)) refl m.0 m.2 k.0 k.1,
+        λ l. let j = k.1 (omega arith) in omega
+            (arith, j, m.1 l),
+      )
 
-pub stands_root : (a : Place) (root : Status) (n i : ℕ) → ((hold : Hold) (e : Entry) → root ≡ Pending hold e → ⊥)
-    → stand a n i root ≤ count_below a.node root
-stands_root a (Closed c) n i f = omega arith
-stands_root a (Inner node) n i f = stands_in a node
-stands_root a (Pending hold e) n i f = absurd (f hold e refl)
+pub occurs_root : (a : Place) (root : Status) (n i : ℕ) → ((hold : Hold) (e : Entry) → root ≡ Pending hold e → ⊥)
+    → occurrences a n i root ≤ count_below a.node root
+occurs_root a (Closed c) n i f = omega arith
+occurs_root a (Inner node) n i f = occurs_in a node
+occurs_root a (Pending hold e) n i f = absurd (f hold e refl)

@@ -10,26 +10,26 @@ use Rattle.tree_model.specs.Effects.{after_event}
 use Rattle.tree_model.specs.Histories.{after_events, are_legal, tree_after, IsLegalHistory}
 use Rattle.tree_model.specs.PendingLists.{pending_list}
 use Rattle.tree_model.specs.SoundTrees.{IsSoundTree}
-use Rattle.interleaving.specs.Machine.{free_steps, run, seen, is_over}
+use Rattle.interleaving.specs.Machine.{free_steps, run, seen, is_finished}
 use Rattle.interleaving.specs.Scopes.{first_shared, scoped}
 use Rattle.interleaving.specs.Readings.{opening_list, has_ended}
 use Rattle.interleaving.specs.Follows.{lead, Follows}
-use Rattle.interleaving.specs.HistoryInvariants.{shared_of, list_of, IsSeenFrom, IsInStep, ListFollows, AnswerMoves, IsOwn, EventFollows}
-use Rattle.interleaving.specs.HistoryInvariants.{AnswersMove, KeepsCaught, IsAny}
+use Rattle.interleaving.specs.HistoryInvariants.{shared_of, tree_list, IsSeenFrom, IsInStep, ListFollows, AnswerMoves, IsOwn, EventFollows}
+use Rattle.interleaving.specs.HistoryInvariants.{AnswersMove, PreservesCaught, IsAny}
 use Rattle.tree_model.specs.CaughtTrees.{IsCaughtTree}
-use Rattle.interleaving.proofs.OpenSpotLemmas.{both_left, both_right}
 use Rattle.interleaving.proofs.LegalLemmas.{event_sound}
 use Rattle.interleaving.proofs.FieldLemmas.{event_job, event_budget}
 use Rattle.interleaving.proofs.LeadLemmas.{goes_on}
-use Rattle.interleaving.proofs.OpeningLemmas.{opening_stands}
+use Rattle.interleaving.proofs.OpeningLemmas.{opening_in_step}
 use Rattle.interleaving.proofs.GoingLemmas.{IsGoing, going, legal_parts, not_halted, same_shared, true_clock}
 use Rattle.tree_model.specs.GivenAnswers.{answers_in}
 use Rattle.tree_model.specs.AnswersTold.{answers_next, answers_told}
 use Rattle.interleaving.proofs.AnswerClosingLemmas.{IsOrdered}
-use Rattle.interleaving.proofs.AnswerTreeLemmas.{answers_kept}
+use Rattle.interleaving.proofs.AnswerTreeLemmas.{answers_preserved}
 use Rattle.interleaving.proofs.AnswerEventLemmas.{next_few}
+use Rattle.au_term.proofs.LogicLemmas.{and-right, and-left}
 
-module _ (job : Job) (budget : ℕ) (below : budget < greatest) where
+module _ (job : Job) (budget : ℕ) (below : budget ≤ greatest) where
   -- an event that changes the list alone
   own_step : (t new : TreeState) → new.job ≡ t.job → new.budget ≡ t.budget → IsSoundTree new → IsCaughtTree new
       → (h : IsInStep job budget t) → IsGoing t → ListFollows t new → IsOrdered new.root (answers_in t.root + 0)
@@ -38,13 +38,13 @@ module _ (job : Job) (budget : ℕ) (below : budget < greatest) where
       let none : new.halted ≡ None = f.halted ∙ g.halted in
       let follows : Follows job.clauses (pending_list t.root) (pending_list new.root) = subst
       (λ x. Follows x.clauses (pending_list t.root) (pending_list new.root)) h.same_job f.follows in
-      let start : (n : ℕ) → seen (run (scoped job.clauses) n (shared_of h.answers t) (free_steps (scoped job.clauses) [] (list_of t)))
+      let start : (n : ℕ) → seen (run (scoped job.clauses) n (shared_of h.answers t) (free_steps (scoped job.clauses) [] (tree_list t)))
       ≡ seen (run (scoped job.clauses) n (shared_of h.answers t) (free_steps (scoped job.clauses) [] (pending_list t.root))) = λ n.
       ap (λ l. seen (run (scoped job.clauses) n (shared_of h.answers t) (free_steps (scoped job.clauses) [] l)))
       (not_halted t g.halted) in
       let stop : (n : ℕ) → seen (run (scoped job.clauses) n (shared_of h.answers t)
       (free_steps (scoped job.clauses) [] (pending_list new.root)))
-      ≡ seen (run (scoped job.clauses) n (shared_of h.answers new) (free_steps (scoped job.clauses) [] (list_of new))) = λ n.
+      ≡ seen (run (scoped job.clauses) n (shared_of h.answers new) (free_steps (scoped job.clauses) [] (tree_list new))) = λ n.
       ap (λ w. seen (run (scoped job.clauses) n w (free_steps (scoped job.clauses) [] (pending_list new.root))))
       (same_shared h.answers t new f.world f.queries f.halted)
       ∙ ap (λ l. seen (run (scoped job.clauses) n (shared_of h.answers new) (free_steps (scoped job.clauses) [] l)))
@@ -77,14 +77,14 @@ module _ (job : Job) (budget : ℕ) (below : budget < greatest) where
       let clock = true_clock t budget below h.same_budget h.sound g in
       let small : c < budget = clock.0 in
       let ahead : h.from ≤ c = h.ahead g.halted in
-      let start : (n : ℕ) → seen (run (scoped job.clauses) n (shared_of h.answers t) (free_steps (scoped job.clauses) [] (list_of t)))
+      let start : (n : ℕ) → seen (run (scoped job.clauses) n (shared_of h.answers t) (free_steps (scoped job.clauses) [] (tree_list t)))
       ≡ seen (run (scoped job.clauses) n (shared_of h.answers t) (free_steps (scoped job.clauses) [] (pending_list t.root))) = λ n.
       ap (λ l. seen (run (scoped job.clauses) n (shared_of h.answers t) (free_steps (scoped job.clauses) [] l)))
       (not_halted t g.halted) in
       let moves : IsSeenFrom job.clauses (suc c) (shared_of h.answers t) (pending_list t.root) (shared_of (h.answers + more) new)
-      (list_of new) = subst (λ x. IsSeenFrom x.clauses (suc c) (shared_of h.answers t) (pending_list t.root)
-      (shared_of (h.answers + more) new) (list_of new)) h.same_job f.seen in
-      let last : is_over (run (scoped job.clauses) c (shared_of h.answers t)
+      (tree_list new) = subst (λ x. IsSeenFrom x.clauses (suc c) (shared_of h.answers t) (pending_list t.root)
+      (shared_of (h.answers + more) new) (tree_list new)) h.same_job f.seen in
+      let last : is_finished (run (scoped job.clauses) c (shared_of h.answers t)
       (free_steps (scoped job.clauses) [] (pending_list t.root))).1
       ≡ false = subst (λ x. has_ended x.clauses (shared_of h.answers t) (pending_list t.root) c ≡ false) h.same_job f.going in
       let old : (n : ℕ) → h.from ≤ n → n ≤ c → has_ended job.clauses (first_shared job) (opening_list job) n
@@ -127,7 +127,7 @@ module _ (job : Job) (budget : ℕ) (below : budget < greatest) where
           at_most false z = let low : n < lead (pending_list t.root) = grind arith in old n from_on (omega (arith, l))
               ∙ goes_on job.clauses (pending_list t.root) n (shared_of h.answers t) low
 
-  module _ (own : EventFollows IsOwn) (answers : AnswersMove) (kept : KeepsCaught IsAny) where
+  module _ (own : EventFollows IsOwn) (answers : AnswersMove) (kept : PreservesCaught IsAny) where
     step : (t : TreeState) (e : Event) → IsInStep job budget t → is_legal t e ≡ true → IsInStep job budget (after_event t e)
     step t e h l = pick e l
       where
@@ -154,7 +154,7 @@ module _ (job : Job) (budget : ℕ) (below : budget < greatest) where
         simply : (e : Event) → IsOwn e → is_legal t e ≡ true → IsInStep job budget (after_event t e)
         simply e o l = own_step t (after_event t e) (event_job t e) (event_budget t e) (new e l) (kept t e tt h.sound h.caught l) h
             (going t (legal_parts t e l).0) (own t e o h.sound h.caught (new e l) (kept t e tt h.sound h.caught l) l)
-            (none_told e o (answers_kept t h.sound h.caught h.ordered (few (going t (legal_parts t e l).0)) e l))
+            (none_told e o (answers_preserved t h.sound h.caught h.ordered (few (going t (legal_parts t e l).0)) e l))
 
         pick : (e : Event) → is_legal t e ≡ true → IsInStep job budget (after_event t e)
         pick (Claim w a) l = simply (Claim w a) tt l
@@ -174,12 +174,12 @@ module _ (job : Job) (budget : ℕ) (below : budget < greatest) where
             (event_budget t (Answer w a false)) (new (Answer w a false) l) (kept t (Answer w a false) tt h.sound h.caught l) h
             (going t (legal_parts t (Answer w a false) l).0) (answers_next t) (next_few t)
             (answers t w a h.answers h.sound h.caught (new (Answer w a false) l) (kept t (Answer w a false) tt h.sound h.caught l) l)
-            (answers_kept t h.sound h.caught h.ordered (few (going t (legal_parts t (Answer w a false) l).0)) (Answer w a false) l)
+            (answers_preserved t h.sound h.caught h.ordered (few (going t (legal_parts t (Answer w a false) l).0)) (Answer w a false) l)
 
     steps : (t : TreeState) (es : List Event) → IsInStep job budget t → are_legal t es ≡ true → IsInStep job budget (after_events t es)
     steps t [] h l = h
-    steps t (e ∷ es) h l = steps (after_event t e) es (step t e h (both_left (is_legal t e) _ l)) (both_right (is_legal t e) _ l)
+    steps t (e ∷ es) h l = steps (after_event t e) es (step t e h (and-left (is_legal t e) _ l)) (and-right (is_legal t e) _ l)
 
-    pub standing : (window : ℕ) (es : List Event) → IsLegalHistory job budget window es
+    pub history_in_step : (window : ℕ) (es : List Event) → IsLegalHistory job budget window es
         → IsInStep job budget (tree_after job budget window es)
-    standing window es l = steps (opening_tree job budget window) es (opening_stands job budget window) l
+    history_in_step window es l = steps (opening_tree job budget window) es (opening_in_step job budget window) l

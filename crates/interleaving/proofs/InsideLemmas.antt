@@ -10,14 +10,18 @@ use Rattle.run_model.specs.Programs.Clauses.{Clause}
 use Rattle.run_model.specs.Programs.Databases.{Database, without_clause}
 use Rattle.run_model.specs.Goals.Worlds.{world_step}
 use Rattle.run_model.specs.Goals.GoalOutcomes.{outcome_of}
-use Rattle.run_model.specs.Goals.Outcomes.{Solution, Reply, Solutions, Ball, HaltNumber, ControlForm, GoesOnWith, EitherOf, TestOf, CutToScope}
+use Rattle.run_model.specs.Goals.Outcomes.{Solution, Reply, Solutions, Ball, HaltNumber, ControlForm, GoesOnWith, EitherOf, TestOf}
+use Rattle.run_model.specs.Goals.Outcomes.{CutToScope}
 use Rattle.run_model.specs.Goals.Outcomes.{CatchOf, FindallOf, Outcome, Replies, Controls, AskWorld}
-use Rattle.run_model.specs.Machine.Items.{Item, GoalItem, CatchMark, CollectMark, RemovalItem, Continuation, goals_at, with_items, with_next}
+use Rattle.run_model.specs.Machine.Items.{Item, GoalItem, CatchMark, CollectMark, RemovalItem, Continuation, goals_at, with_items}
+use Rattle.run_model.specs.Machine.Items.{with_next}
 use Rattle.run_model.specs.Machine.Items.{before, without_marks, first_mark}
 use Rattle.interleaving.specs.Machine.{Look, On, Here}
 use Rattle.tree_model.specs.Elements.{Name, same, Record, Element, Credit, Plain, EndOf, Catch, Findall, End}
-use Rattle.interleaving.specs.Scopes.{Shared, Sought, Scope, Thrown, Caught, Does, Lands, unified, solution_entries, reply_place}
-use Rattle.interleaving.specs.Scopes.{control_place, goal_act, removed, unmarked, item_act, act, recovered, look, with_result, give}
+use Rattle.interleaving.specs.Scopes.{Shared, Sought, Scope, Thrown, Caught, Does, ElementReplacement, unified_element, solution_elements}
+use Rattle.interleaving.specs.Scopes.{reply_place}
+use Rattle.interleaving.specs.Scopes.{control_place, goal_act, removed, unmarked, item_act, act, recovery_look, look, findall_with_result}
+use Rattle.interleaving.specs.Scopes.{give}
 use Rattle.interleaving.specs.Scopes.{scoped}
 use Rattle.interleaving.specs.Views.{IsInner, IsUnder, IsGrown}
 use Rattle.interleaving.proofs.RunFrontLemmas.{each-append, PlaceOk, ActOk, LookOk, Closed}
@@ -40,7 +44,7 @@ module _ (clauses : List Clause) (inside : Name → Bool) where
   abbrev Inner : Element → Type 0
   Inner x = IsInner inside x
 
-  abbrev PlaceInner : Lands → Type 0
+  abbrev PlaceInner : ElementReplacement → Type 0
   PlaceInner p = PlaceOk (scoped clauses) (IsInner inside) IsSoughtInner IsAnyRecord p
 
   abbrev ActInner : Does → Type 0
@@ -50,16 +54,16 @@ module _ (clauses : List Clause) (inside : Name → Bool) where
   LookInner a = LookOk (scoped clauses) (IsInner inside) IsSoughtInner IsAnyRecord a
 
   module _ (child : IsGrown inside) where
-    unified-inner : (o : Option Substitution) (p : Name) (f : Continuation Name) → inside p ≡ true → Each Inner (unified o p f)
+    unified-inner : (o : Option Substitution) (p : Name) (f : Continuation Name) → inside p ≡ true → Each Inner (unified_element o p f)
     unified-inner None p f b = tt
     unified-inner (Some s) p f b = (b, tt)
 
     solutions-inner : (n : ℕ) (p : Name) (f : Continuation Name) (ss : List Solution) → inside p ≡ true
-        → Each Inner (solution_entries n p f ss)
+        → Each Inner (solution_elements n p f ss)
     solutions-inner n p f [] b = (b, tt)
     solutions-inner n p f (s ∷ ss) b =
         let one : Continuation Name = with_next (f.next + s.variables) (before (goals_at p s.goals) f) in
-        each-append Inner (unified (unifier s.equations) (n ∷ p) one) (solution_entries (suc n) p f ss)
+        each-append Inner (unified_element (unifier s.equations) (n ∷ p) one) (solution_elements (suc n) p f ss)
         (unified-inner (unifier s.equations) (n ∷ p) one (child n p b)) (solutions-inner (suc n) p f ss b)
 
     reply-inner : (r : Reply) (p : Name) (f : Continuation Name) → inside p ≡ true → PlaceInner (reply_place r p f)
@@ -114,7 +118,7 @@ module _ (clauses : List Clause) (inside : Name → Bool) where
     inner_look false a b h k = k
 
     recovered-inner : (o : Option Substitution) (b r : Term) (u p : Name) (f : Continuation Name) (q : Sought) → inside p ≡ true
-        → IsSoughtInner q → LookInner (recovered o b r u p f q)
+        → IsSoughtInner q → LookInner (recovery_look o b r u p f q)
     recovered-inner None b r u p f q h k = k
     recovered-inner (Some s) b r u p f q h k = (h, tt)
 
@@ -140,7 +144,7 @@ module _ (clauses : List Clause) (inside : Name → Bool) where
     look-inner (Caught b m o) (Catch s u c r p f) k h =
         let next : Sought = Thrown b (first_mark f.items) o in
         let take : Option Substitution = unifier ((c, copied b f.next) ∷ []) in
-        inner_look (same m s) (recovered take b r u p f next) (On (Caught b m o)) (recovered-inner take b r u p f next h.1 tt) tt
+        inner_look (same m s) (recovery_look take b r u p f next) (On (Caught b m o)) (recovered-inner take b r u p f next h.1 tt) tt
     look-inner (Caught b m o) (EndOf s) k h = k
     look-inner (Caught b m o) (Credit j rs) k h = k
     look-inner (Caught b m o) (Plain p f) k h = k
@@ -152,7 +156,7 @@ module _ (clauses : List Clause) (inside : Name → Bool) where
     either_inner false x y h k = k
 
     give-inner : (r : Record) (x : Element) → IsAnyRecord r → Inner x → Inner (give r x)
-    give-inner r (Findall s u results list p f) k b = either_inner (same r.0 s) (with_result r.1 s u results list p f)
+    give-inner r (Findall s u results list p f) k b = either_inner (same r.0 s) (findall_with_result r.1 s u results list p f)
         (Findall s u results list p f) b b
     give-inner r (Credit j rs) k b = b
     give-inner r (Plain p f) k b = b
@@ -169,7 +173,7 @@ module _ (clauses : List Clause) (inside : Name → Bool) where
   either_under false x y h k = k
 
   pub under_given : (r : Record) (x : Element) → IsUnder inside x → IsUnder inside (give r x)
-  under_given r (Findall s u results list p f) b = either_under (same r.0 s) (with_result r.1 s u results list p f)
+  under_given r (Findall s u results list p f) b = either_under (same r.0 s) (findall_with_result r.1 s u results list p f)
       (Findall s u results list p f) b b
   under_given r (Credit j rs) b = b
   under_given r (Plain p f) b = b
@@ -177,18 +181,18 @@ module _ (clauses : List Clause) (inside : Name → Bool) where
   under_given r (Catch s u c q p f) b = b
   under_given r (End p o) b = b
 
-  pub kept_inside : (r : Record) → inside r.0 ≡ true → (z : Element) → IsUnder inside z → give r z ≡ z
-  kept_inside r i (Findall s u results list p f) b = go (same r.0 s) refl
+  pub preserved_inside : (r : Record) → inside r.0 ≡ true → (z : Element) → IsUnder inside z → give r z ≡ z
+  preserved_inside r i (Findall s u results list p f) b = go (same r.0 s) refl
     where
-      go : (t : Bool) → same r.0 s ≡ t → cond t (with_result r.1 s u results list p f) (Findall s u results list p f)
+      go : (t : Bool) → same r.0 s ≡ t → cond t (findall_with_result r.1 s u results list p f) (Findall s u results list p f)
           ≡ Findall s u results list p f
       go true e = absurd (false≢true (sym b ∙ ap inside (sym (same-true r.0 s e)) ∙ i))
       go false e = refl
-  kept_inside r i (Credit j rs) b = refl
-  kept_inside r i (Plain p f) b = refl
-  kept_inside r i (EndOf s) b = refl
-  kept_inside r i (Catch s u c q p f) b = refl
-  kept_inside r i (End p o) b = refl
+  preserved_inside r i (Credit j rs) b = refl
+  preserved_inside r i (Plain p f) b = refl
+  preserved_inside r i (EndOf s) b = refl
+  preserved_inside r i (Catch s u c q p f) b = refl
+  preserved_inside r i (End p o) b = refl
 
   pub passed_credit : (q : Sought) (k : ℕ) (rs : List Record) → look q (Credit k rs) ≡ On q
   passed_credit (Scope h x) k rs = refl

@@ -2,7 +2,8 @@
 use Rattle.std.proofs.Common.{◌≡◌, ℕ, ◌+◌, ◌-◌, ◌≤◌, ◌<◌, false, List, [], ◌∷◌, ◌++◌, refl, ap, ◌∙◌, subst, arith}
 use Rattle.run_model.specs.Programs.Clauses.{Clause}
 use Rattle.tree_model.specs.Elements.{Element, Credit, Plain, EndOf, Catch, Findall, End}
-use Rattle.interleaving.specs.Machine.{free_steps, run, is_over}
+use Rattle.tree_model.specs.Credits.{greatest}
+use Rattle.interleaving.specs.Machine.{free_steps, run, is_finished, seen}
 use Rattle.interleaving.specs.Scopes.{Shared, scoped}
 use Rattle.interleaving.specs.Quiet.{IsQuiet, inferences}
 use Rattle.interleaving.specs.Laws.{MayBecome}
@@ -88,11 +89,11 @@ world_stays clauses xs n w l =
 
 -- and before the last of them the run is not over
 pub goes_on : (clauses : List Clause) (xs : List Element) (n : ℕ) (w : Shared) → n < lead xs
-    → is_over (run (scoped clauses) n w (free_steps (scoped clauses) [] xs)).1 ≡ false
+    → is_finished (run (scoped clauses) n w (free_steps (scoped clauses) [] xs)).1 ≡ false
 goes_on clauses xs n w l =
     let h = parted xs in
     let far : n < inferences h.front = subst (λ k. n < k) h.counted l in
-    ap (λ ys. is_over (run (scoped clauses) n w (free_steps (scoped clauses) [] ys)).1) h.joined
+    ap (λ ys. is_finished (run (scoped clauses) n w (free_steps (scoped clauses) [] ys)).1) h.joined
     ∙ (credits_pass clauses h.front h.rest w h.quiet).going n far
 
 -- lists that follow one another
@@ -107,3 +108,12 @@ follows_same clauses xs ys e = subst (Follows clauses xs) e (follows_itself clau
 
 pub follows_becoming : (clauses : List Clause) (xs ys : List Element) → MayBecome clauses xs ys → lead xs ≤ lead ys → Follows clauses xs ys
 follows_becoming clauses xs ys h l = record { alike = λ n w b. h.alike n w; lead = λ m b k. omega (arith, l, k) }
+
+-- from an inference on
+pub record FollowsFrom (from : ℕ) (clauses : List Clause) (xs ys : List Element) : Type 0 where
+  pub alike : (n : ℕ) (w : Shared) → from ≤ n → n ≤ greatest → seen (run (scoped clauses) n w (free_steps (scoped clauses) [] xs))
+      ≡ seen (run (scoped clauses) n w (free_steps (scoped clauses) [] ys))
+  pub lead : (m : ℕ) → m ≤ greatest → m ≤ lead xs → m ≤ lead ys
+
+pub follows_from : (from : ℕ) (clauses : List Clause) (xs ys : List Element) → Follows clauses xs ys → FollowsFrom from clauses xs ys
+follows_from from clauses xs ys h = record { alike = λ n w a b. h.alike n w b; lead = h.lead }

@@ -4,18 +4,18 @@ use Rattle.std.specs.Prelude.{◌&&◌}
 use Rattle.au_model.specs.Terms.Each.{Each}
 use Rattle.run_model.specs.Machine.Items.{Item, GoalItem, CatchMark, CollectMark, RemovalItem}
 use Rattle.tree_model.specs.Elements.{Name, same, Element, Credit, Plain, EndOf, Catch, Findall, End}
-use Rattle.interleaving.specs.Sound.{names, IsOlder, EachFindall}
+use Rattle.interleaving.specs.Sound.{names, IsMadeElsewhere, EachFindall}
 use Rattle.interleaving.specs.Views.{IsGrown, IsBlind}
 use Rattle.tree_model.specs.Floors.{renamed_item}
 use Rattle.tree_model.specs.PendingLists.{Step, Way, step_name, scope_on}
 use Rattle.tree_model.specs.Ways.{is_on, way_from, way_above, AreScoped}
-use Rattle.interleaving.proofs.WayLemmas.{cond-true, reach-on, same_self}
+use Rattle.interleaving.proofs.WayLemmas.{cond-true, reach-on}
 use Rattle.interleaving.proofs.RoundtripLemmas.{part_from, part_above}
 use Rattle.interleaving.proofs.NamingLemmas.{not-same}
 use Rattle.interleaving.proofs.NamedFloorLemmas.{scope_other, scope_never}
-use Rattle.interleaving.proofs.SkippedLemmas.{clash}
 use Rattle.interleaving.proofs.FarNameLemmas.{IsItemFar}
 use Rattle.interleaving.proofs.RenamedLemmas.{lead_items, Other}
+use Rattle.interleaving.proofs.TestLemmas.{true_false, number_same}
 
 -- a new name is none of a way
 pub others_new : (way : Way) (i n : ℕ) → is_on way n ≡ false → (items : List (Item ℕ))
@@ -32,14 +32,14 @@ made_more inside g q h [] = h
 made_more inside g q h (i ∷ more) = g i (more ++ q) (made_more inside g q h more)
 
 pub blind_findalls : (inside : Name → Bool) → IsGrown inside → (q : Name) → inside q ≡ true → (xs : List Element)
-    → Each (IsBlind inside) xs → EachFindall (IsOlder q) xs
+    → Each (IsBlind inside) xs → EachFindall (IsMadeElsewhere q) xs
 blind_findalls inside g q h [] b = tt
 blind_findalls inside g q h (Credit k rs ∷ xs) b = blind_findalls inside g q h xs b.1
 blind_findalls inside g q h (Plain p f ∷ xs) b = blind_findalls inside g q h xs b.1
 blind_findalls inside g q h (EndOf s ∷ xs) b = blind_findalls inside g q h xs b.1
 blind_findalls inside g q h (Catch s u c r p f ∷ xs) b = blind_findalls inside g q h xs b.1
 blind_findalls inside g q h (Findall s u results l p f ∷ xs) b =
-    ((λ more e. clash (sym (made_more inside g q h more) ∙ (ap inside (sym e) ∙ b.0.0))), blind_findalls inside g q h xs b.1)
+    ((λ more e. true_false (sym (made_more inside g q h more) ∙ (ap inside (sym e) ∙ b.0.0))), blind_findalls inside g q h xs b.1)
 blind_findalls inside g q h (End p o ∷ xs) b = blind_findalls inside g q h xs b.1
 
 module _ (a : Step) (w : Way) (off : is_on w a.node ≡ false) (new : Name) (fresh : same (step_name a) new ≡ false) where
@@ -60,16 +60,16 @@ module _ (a : Step) (w : Way) (off : is_on w a.node ≡ false) (new : Name) (fre
   still_far part (RemovalItem m ∷ items) k h = (tt, still_far part items k h)
 
   on_above : (r : ℕ) → is_on w r ≡ true → r ≡ a.node → ⊥
-  on_above r o e = clash (sym o ∙ (ap (is_on w) e ∙ off))
+  on_above r o e = true_false (sym o ∙ (ap (is_on w) e ∙ off))
 
   not_here : (s : ℕ) → (a.node == s) ≡ false → s ≡ a.node → ⊥
-  not_here s h e = clash (sym (same_self a.node) ∙ (ap (λ m. a.node == m) (sym e) ∙ h))
+  not_here s h e = true_false (sym (number_same a.node) ∙ (ap (λ m. a.node == m) (sym e) ∙ h))
 
   own_goal : (s : ℕ) → (a.node == s) ≡ true → same (scope_on (a ∷ w) s) (step_name a) ≡ true
   own_goal s h = ap (λ n. same n (step_name a)) (cond-true (a.node == s) (step_name a) (scope_on w s) h) ∙ same-here
     where
       same-here : same (step_name a) (step_name a) ≡ true
-      same-here = ap (λ b. b && ((a.node == a.node) && true)) (same_self a.index) ∙ ap (λ b. b && true) (same_self a.node)
+      same-here = ap (λ b. b && ((a.node == a.node) && true)) (number_same a.index) ∙ ap (λ b. b && true) (number_same a.node)
 
   other_goal : (s : ℕ) → (a.node == s) ≡ false → same (scope_on (a ∷ w) s) (step_name a) ≡ false
   other_goal s h = not-same (scope_on (a ∷ w) s) (step_name a) (scope_other (a ∷ w) s a.index a.node (not_here s h))

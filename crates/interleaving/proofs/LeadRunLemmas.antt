@@ -7,10 +7,10 @@ use Rattle.run_model.specs.Machine.Items.{Continuation, with_items}
 use Rattle.run_model.specs.Machine.Entries.{PlainEntry}
 use Rattle.tree_model.specs.Elements.{Name, same, Element, Credit, Plain, EndOf}
 use Rattle.interleaving.specs.HeightMachine.{HeightEntry}
-use Rattle.interleaving.specs.Erased.{from, count, height, erased}
-use Rattle.interleaving.specs.Sound.{names, IsOlder, IsSound}
+use Rattle.interleaving.specs.Erased.{from, element_count, height, erased}
+use Rattle.interleaving.specs.Sound.{names, IsMadeElsewhere, IsSound}
 use Rattle.interleaving.specs.Views.{IsBlind}
-use Rattle.interleaving.specs.OwnRuns.{StandsFor, IsFloorUnder}
+use Rattle.interleaving.specs.OwnRuns.{NamesEntries, IsFloorUnder}
 use Rattle.tree_model.specs.Levels.{Level}
 use Rattle.tree_model.specs.Floors.{with_heights, height_of, floor_of}
 use Rattle.tree_model.specs.PendingLists.{way_of, named_continuation, front_of, back_of}
@@ -25,16 +25,17 @@ use Rattle.interleaving.proofs.ContextLemmas.{IsAround, count_around}
 use Rattle.interleaving.proofs.ClosingSoundLemmas.{IsFree}
 use Rattle.interleaving.proofs.GrowingLemmas.{around_path}
 use Rattle.interleaving.proofs.NamedFloorLemmas.{below_named, floor_named, low_height, entry_low, below_erased, first_low}
-use Rattle.interleaving.proofs.BaredLemmas.{made_at, made_grown, either_true, new_number}
+use Rattle.interleaving.proofs.BaredLemmas.{made_at, made_grown, new_number}
 use Rattle.interleaving.proofs.PublishedBareLemmas.{own_entry, right_of, own_plain, list_before}
 use Rattle.interleaving.proofs.BesideLemmas.{OutNode}
 use Rattle.interleaving.proofs.SideLemmas.{out_other, is_old, front_blind, blind_front, blind_back, under_low}
-use Rattle.interleaving.proofs.SkippedLemmas.{clash}
 use Rattle.interleaving.proofs.LowEntryLemmas.{carried_low}
 use Rattle.interleaving.proofs.LowListLemmas.{findalls_low}
-use Rattle.interleaving.proofs.BrancheLemmas.{below_from, pair_older}
+use Rattle.interleaving.proofs.BranchLemmas.{below_from, pair_older}
 use Rattle.interleaving.proofs.RenamedLemmas.{lead_items, Other, lead_sound, lead_erased}
 use Rattle.interleaving.proofs.LeadNameLemmas.{others_new, blind_findalls}
+use Rattle.interleaving.proofs.TestLemmas.{true_false}
+use Rattle.au_model.proofs.ApplyLemmas.{or_right}
 
 -- the run's own names
 abbrev pub own_end : ℕ → Name
@@ -56,10 +57,10 @@ abbrev pub run_inside : ℕ → Name → Bool
 run_inside next = made_at (0 ∷ next ∷ []) next
 
 pub new_entry : (top : Name) (next : ℕ) → made_at top next (0 ∷ 0 ∷ next ∷ []) ≡ true
-new_entry top next = either_true _ _ (new_number next next (omega arith))
+new_entry top next = or_right _ _ (new_number next next (omega arith))
 
 pub new_end : (top : Name) (next : ℕ) → made_at top next (0 ∷ next ∷ []) ≡ true
-new_end top next = either_true _ _ (new_number next next (omega arith))
+new_end top next = or_right _ _ (new_number next next (omega arith))
 
 module _ (v : Level) (up : List Level) (next : ℕ) (f : Continuation ℕ) (free : IsFree next (v ∷ up)) (a : IsAround (v ∷ up) IsOpen)
     (h : IsOnWay (way_of (v ∷ up)) (PlainEntry f)) (off : is_on (way_of (v ∷ up)) next ≡ false) where
@@ -73,7 +74,7 @@ module _ (v : Level) (up : List Level) (next : ℕ) (f : Continuation ℕ) (free
   pub run_back : Each (IsBlind (made_at (0 ∷ next ∷ []) next)) (back_of (v ∷ up))
   run_back = blind_back 0 next next (v ∷ up) IsOpen a out_all
 
-  older_names : (p : Name) → length p ≡ 3 → Each (IsOlder p) (names (named_continuation (way_of (v ∷ up)) f).items)
+  older_names : (p : Name) → length p ≡ 3 → Each (IsMadeElsewhere p) (names (named_continuation (way_of (v ∷ up)) f).items)
   older_names p l = (carried_low (v ∷ up) (around_path (v ∷ up) IsOpen a) (below_named (v ∷ up)) (λ r o. below_from (v ∷ up) r) p l
       f.items h.scoped).older
 
@@ -86,7 +87,7 @@ module _ (v : Level) (up : List Level) (next : ℕ) (f : Continuation ℕ) (free
     lead_sound (length v.left ∷ v.number ∷ []) (0 ∷ next ∷ []) (0 ∷ length v.left ∷ v.number ∷ []) (0 ∷ 0 ∷ next ∷ [])
         (floor_named (v ∷ up)) (pair_older (0 ∷ 0 ∷ next ∷ []) refl 0 next) (named_continuation (way_of (v ∷ up)) f).items others
         (older_names (0 ∷ 0 ∷ next ∷ []) refl)
-        (findalls_low (IsOlder (0 ∷ 0 ∷ next ∷ [])) (v ∷ up) (λ m k. pair_older (0 ∷ 0 ∷ next ∷ []) refl 0 m)) s.0,
+        (findalls_low (IsMadeElsewhere (0 ∷ 0 ∷ next ∷ [])) (v ∷ up) (λ m k. pair_older (0 ∷ 0 ∷ next ∷ []) refl 0 m)) s.0,
     s.1,
   )
 
@@ -110,16 +111,16 @@ module _ (v : Level) (up : List Level) (next : ℕ) (f : Continuation ℕ) (free
   run_floor = record { under = under_low 0 next next (v ∷ up) out_all; entries = below_erased (v ∷ up) (around_path (v ∷ up) IsOpen a) }
 
   pub deepest : (s : Name) → same (length v.left ∷ v.number ∷ []) s ≡ false → (t : List Element) → from (below_named (v ∷ up)) s
-      ≡ EndOf s ∷ t → suc (height (below_named (v ∷ up)) s) ≤ count (below_named (v ∷ up))
+      ≡ EndOf s ∷ t → suc (height (below_named (v ∷ up)) s) ≤ element_count (below_named (v ∷ up))
   deepest s e t k =
       let past = from_end (length v.left ∷ v.number ∷ []) s (floor_named (v ∷ up)) apart in
-      omega (arith, floor-low (floor_named (v ∷ up)) s t (first_low (v ∷ up)) (sym past ∙ k), ap count past)
+      omega (arith, floor-low (floor_named (v ∷ up)) s t (first_low (v ∷ up)) (sym past ∙ k), ap element_count past)
     where
       apart : s ≡ length v.left ∷ v.number ∷ [] → ⊥
-      apart z = clash (sym (same-itself (length v.left ∷ v.number ∷ [])) ∙ (ap (same (length v.left ∷ v.number ∷ [])) (sym z) ∙ e))
+      apart z = true_false (sym (same-itself (length v.left ∷ v.number ∷ [])) ∙ (ap (same (length v.left ∷ v.number ∷ [])) (sym z) ∙ e))
 
   pub run_stands : IsSound (own_plain v up f ∷ below_named (v ∷ up))
-      → StandsFor (made_at (0 ∷ next ∷ []) next) (lead_segment v up next f) (below_named (v ∷ up))
+      → NamesEntries (made_at (0 ∷ next ∷ []) next) (lead_segment v up next f) (below_named (v ∷ up))
       (with_heights (v ∷ up) (PlainEntry f) ∷ []) (floor_of (v ∷ up))
   run_stands s = record {
     sound = low_sound s;

@@ -5,7 +5,7 @@ use Rattle.std.specs.Prelude.{◌&&◌, not, nat_le, is_none}
 use Rattle.run_model.specs.Machine.Items.{Item, GoalItem, CatchMark, CollectMark, RemovalItem}
 use Rattle.run_model.specs.Machine.Entries.{Entry, PlainEntry, CatchEntry, FindallEntry, EndEntry}
 use Rattle.run_model.specs.Programs.Jobs.{Query, Job}
-use Rattle.tree_model.specs.Nodes.{Hold, Ready, TakenBy, Waiting, Dormant, ChoiceNode, Numbered, Status, Pending, Inner, standing}
+use Rattle.tree_model.specs.Nodes.{Hold, Ready, TakenBy, Waiting, Dormant, ChoiceNode, Numbered, Status, Pending, Inner, entry_alternatives}
 use Rattle.tree_model.specs.Nodes.{nodes_below}
 use Rattle.tree_model.specs.Levels.{Level, plug, Place, Spot, levels_of}
 use Rattle.tree_model.specs.Floors.{node_of, with_nodes, with_heights}
@@ -22,7 +22,6 @@ use Rattle.tree_model.specs.SoundTrees.{one_if, count_below, Profile, IsOpen, pr
 use Rattle.au_term.specs.Term.{Term}
 use Rattle.interleaving.proofs.ContextLemmas.{IsAround, count_around}
 use Rattle.interleaving.proofs.WayLemmas.{cond-true, cond-false, off_way}
-use Rattle.interleaving.proofs.RoundtripLemmas.{not_same}
 use Rattle.interleaving.proofs.ClosingSoundLemmas.{IsSoundGrown, IsFree}
 use Rattle.interleaving.proofs.GrowingLemmas.{plug_sound, IsReadyOn, new_node_sound, spending_around, spending_free, around_path}
 use Rattle.interleaving.proofs.BallLemmas.{NamesFloor}
@@ -33,6 +32,8 @@ use Rattle.interleaving.proofs.PlacedShapeLemmas.{IsPlacing, placed_in}
 use Rattle.interleaving.proofs.OpenSpotLemmas.{claim_sound, resume_sound}
 use Rattle.interleaving.proofs.SoundClosingLemmas.{grown_tree, emptied_sound, suspend_sound, opened_sound}
 use Rattle.interleaving.proofs.PlacedEntryLemmas.{IsAt, at_spot as known_at, prune_sound, answer_sound}
+use Rattle.au_term.proofs.LogicLemmas.{and-right}
+use Rattle.interleaving.proofs.TestLemmas.{not_equal}
 
 pub awake_entry : (h : Hold) (e : Entry) → profile (Pending h e) ≡ IsOpen → IsHeldBy h e → IsAwake e
 awake_entry Ready e o i = i
@@ -98,7 +99,7 @@ single_placed t s k e h u r =
     (heights_to_nodes name (λ n. true) levels (placed_floor t.next (1 ∷ []) levels)) path u (any_seen e) r.awake r.over.0 in
     let g : IsSoundGrown (record {
       root = plug (spending k levels)
-          (Inner (Numbered t.next ChoiceNode (standing Ready (with_nodes name e ∷ []))));
+          (Inner (Numbered t.next ChoiceNode (entry_alternatives Ready (with_nodes name e ∷ []))));
       next = suc t.next;
     }) =
     new_node_sound t.next (spending k levels) (with_nodes name e) [] (spending_around k levels h.placed.around)
@@ -106,7 +107,7 @@ single_placed t s k e h u r =
     let one : suc t.next ≡ t.next + 1 = omega arith in
     grown_tree (run_placed s k (1 ∷ []) (Some (e ∷ [])) t)
     (subst (λ n. IsSoundGrown (record
-    { root = plug (spending k levels) (Inner (Numbered t.next ChoiceNode (standing Ready (with_nodes name e ∷ [])))); next = n }))
+    { root = plug (spending k levels) (Inner (Numbered t.next ChoiceNode (entry_alternatives Ready (with_nodes name e ∷ [])))); next = n }))
     one g)
 
 many_placed : (t : TreeState) (s : Spot) (k : ℕ) (sizes : List ℕ) (e d : Entry) (es : List Entry) → IsAt t s
@@ -215,14 +216,10 @@ allowed_sound t (Prune w a) h l = prune_sound t w a h
 allowed_sound t (Answer w a frozen) h l = answer_sound t w a h
 allowed_sound t (Stop w) h l = record { distinct = h.distinct; fresh = h.fresh; sound = h.sound }
 
-and-last-true : (a b : Bool) → (a && b) ≡ true → b ≡ true
-and-last-true true b h = h
-and-last-true false b h = let no_way : ⊥ = cc in absurd no_way
-
 pub event_sound : (t : TreeState) (e : Event) → IsSoundTree t → is_legal t e ≡ true → IsSoundTree (after_event t e)
 unfolding is_legal after_event
 event_sound t e h l =
-    let k = allowed_sound t e h (and-last-true (is_none (ended t)) (is_allowed t e) (and-last-true (not t.stopped) _ l)) in
+    let k = allowed_sound t e h (and-right (is_none (ended t)) (is_allowed t e) (and-right (not t.stopped) _ l)) in
     record { distinct = k.distinct; fresh = k.fresh; sound = k.sound }
 
 events_sound : (t : TreeState) (es : List Event) → IsSoundTree t → are_legal t es ≡ true → IsSoundTree (after_events t es)
@@ -250,7 +247,7 @@ opening_sound job budget window = go job.queries
         at_most false = omega arith
 
     later : (m : ℕ) → 1 ≤ m → one_if (0 == m) + (0 + (0 + 0)) ≡ 0
-    later m l = let z : one_if (0 == m) ≡ 0 = ap one_if (not_same 0 m l) in omega (arith, z)
+    later m l = let z : one_if (0 == m) ≡ 0 = ap one_if (not_equal 0 m l) in omega (arith, z)
 
     go : (qs : List Query) → IsSoundTree
         (record (opening_tree job budget window) { root = opening_root qs; next = nodes_below (opening_root qs) })

@@ -16,7 +16,7 @@ mod BallSearchLemmas
 mod BaredLemmas
 mod BesideLemmas
 mod BlindLemmas
-mod BrancheLemmas
+mod BranchLemmas
 mod CarriedLemmas
 mod CaughtBallLemmas
 mod CaughtClosingLemmas
@@ -42,15 +42,14 @@ mod EarlyLawLemmas
 mod EarlyLemmas
 mod EmptyRunLemmas
 mod EndLemmas
-mod EnoughLemmas
+mod LongCreditLemmas
 mod EntryLemmas
-mod FallLemmas
+mod CatchingLemmas
 mod FarNameLemmas
 mod FieldLemmas
 mod FindallWakeLemmas
 mod FinishingLemmas
 mod FloorLemmas
-mod FloorsReadableLemmas
 mod FoldLemmas
 mod FoldingLemmas
 mod FreeStepHeightLemmas
@@ -102,7 +101,6 @@ mod OwnEventLemmas
 mod OwnFreeStepLemmas
 mod OwnInferenceLemmas
 mod OwnRunLemmas
-mod OwnRunsOverLemmas
 mod PassingLemmas
 mod PlaceHeightLemmas
 mod PlacedCaughtLemmas
@@ -157,7 +155,7 @@ mod SoundStepLemmas
 mod SpotsApartLemmas
 mod StackLemmas
 mod StepsTakenLemmas
-mod ToldNameLemmas
+mod DistinctNameLemmas
 mod UnchangedPlaceLemmas
 mod UpperBlindLemmas
 mod WakeLemmas
@@ -181,3 +179,7 @@ mod CutTakenLemmas
 mod CutTreeLemmas
 mod CutHeightLemmas
 mod OncePlaceLemmas
+mod NumberedPlaceLemmas
+mod NumberedRunLemmas
+mod NumberedEventLemmas
+mod TestLemmas

@@ -5,27 +5,27 @@ use Rattle.run_model.specs.Programs.Clauses.{Clause}
 use Rattle.interleaving.specs.Machine.{Machine, gives, placed}
 use Rattle.tree_model.specs.Elements.{Name, Record, Element, Credit, Plain, EndOf, Catch, Findall, End}
 use Rattle.interleaving.specs.Scopes.{Shared, Sought, scoped}
-use Rattle.interleaving.specs.Segments.{outer, Private, private_none, private_wakes, private_takes}
+use Rattle.interleaving.specs.Segments.{outer, Private, private_none, private_changes, private_infers}
 use Rattle.interleaving.specs.Views.{IsBlind}
 use Rattle.interleaving.specs.Quiet.{IsQuiet, inferences, records, IsStill}
 use Rattle.interleaving.specs.Sound.{IsSound}
 use Rattle.interleaving.specs.Laws.{is_inner_record, PrivateEarly, Expansion, DoneEarly, QuietEarly, TakenEarly, WokenEarly}
 use Rattle.interleaving.specs.Laws.{CollectedEarly, CreditsAdd, NoCredit, TakenInFront, RecordsGiven}
 use Rattle.interleaving.specs.Readings.{NamedAnew}
-use Rattle.interleaving.proofs.RunFrontLemmas.{append-none}
 use Rattle.interleaving.proofs.EarlyLemmas.{early}
 use Rattle.interleaving.proofs.JoinedLemmas.{runs_gone}
 use Rattle.interleaving.proofs.AloneLemmas.{private_of_alone}
 use Rattle.interleaving.proofs.ApartLemmas.{IsSoughtApart, blind_closed, inner_unseen}
-use Rattle.interleaving.proofs.InsideStepLemmas.{any_ground, still_goes}
+use Rattle.interleaving.proofs.InsideStepLemmas.{any_ground, still_drops}
 use Rattle.interleaving.proofs.QuietCreditLemmas.{quiet-private, private-then, gives-fixed}
-use Rattle.interleaving.proofs.EarlyLawLemmas.{standing, private_early, private_alone}
+use Rattle.interleaving.proofs.EarlyLawLemmas.{segment_pending, private_early, private_alone}
 use Rattle.interleaving.proofs.CreditLawLemmas.{any-all, credits_alike, none_alike}
-use Rattle.interleaving.proofs.FrontLawLemmas.{takes-fixed, front_alike, given_alike}
+use Rattle.interleaving.proofs.FrontLawLemmas.{infers-fixed, front_alike, given_alike}
 use Rattle.interleaving.proofs.GivenHeightLemmas.{sound-gives}
-use Rattle.interleaving.proofs.SoundStepLemmas.{takes-sound, goes-gathered}
+use Rattle.interleaving.proofs.SoundStepLemmas.{infers-sound, drops-gathered}
 use Rattle.interleaving.proofs.SoundEarlyLemmas.{sound-after, sound_exchange, sound_private, sound_none, sound_sum}
 use Rattle.interleaving.proofs.RunHeightLemmas.{names_are_free}
+use Rattle.interleaving.proofs.AppendLemmas.{append-nil}
 
 module _ (clauses : List Clause) where
   abbrev m : Machine Shared Element Sought Record
@@ -34,7 +34,7 @@ module _ (clauses : List Clause) where
   -- a private run
   pub becomes : PrivateEarly clauses
   becomes inside k rs pre a b zs s r = record {
-    alike = private_early clauses inside k rs pre a b zs (standing clauses inside pre a zs s) r;
+    alike = private_early clauses inside k rs pre a b zs (segment_pending clauses inside pre a zs s) r;
     sound = sound_private clauses
         inside k rs pre a b zs s r;
   }
@@ -44,13 +44,13 @@ module _ (clauses : List Clause) where
 
   pub done_early : DoneEarly clauses
   done_early inside k rs pre a b zs s e = becomes inside k rs pre a b zs s
-      (private_of_alone m (is_inner_record inside) (λ new. true) (still_goes clauses) k a b rs e)
+      (private_of_alone m (is_inner_record inside) (λ new. true) (still_drops clauses) k a b rs e)
 
   pub quiet_early : QuietEarly clauses
   quiet_early inside pre xs zs q s =
       let inner = is_inner_record inside in
       becomes inside (inferences xs) (outer inner (records xs)) pre xs [] zs s
-      (subst (λ l. Private m inner (inferences xs) (outer inner (records xs)) l []) (append-none xs)
+      (subst (λ l. Private m inner (inferences xs) (outer inner (records xs)) l []) (append-nil xs)
       (quiet-private clauses inner xs [] q))
 
   -- a step after credits
@@ -59,7 +59,7 @@ module _ (clauses : List Clause) where
       → Private m (is_inner_record inside) (inferences xs + k) (outer (is_inner_record inside) (records xs)) (xs ++ mid) b
   behind inside xs mid b k q r =
       let inner = is_inner_record inside in
-      subst (λ l. Private m inner (inferences xs + k) l (xs ++ mid) b) (append-none (outer inner (records xs)))
+      subst (λ l. Private m inner (inferences xs + k) l (xs ++ mid) b) (append-nil (outer inner (records xs)))
       (private-then m inner k (inferences xs) (outer inner (records xs)) [] (xs ++ mid) (map (gives m (records xs)) mid) b
       (quiet-private clauses inner xs mid q) r)
 
@@ -67,8 +67,8 @@ module _ (clauses : List Clause) where
   taken_early inside xs x p pre mid b zs q e placed s =
       let inner = is_inner_record inside in
       let rest = map (gives m (records xs)) mid in
-      let fixed : gives m (records xs) x ≡ x = gives-fixed clauses (records xs) x (takes-fixed clauses x p e) in
-      let one : Private m inner 1 [] (x ∷ rest) b = private_takes 0 x p [] rest b b e placed (private_none b) in
+      let fixed : gives m (records xs) x ≡ x = gives-fixed clauses (records xs) x (infers-fixed clauses x p e) in
+      let one : Private m inner 1 [] (x ∷ rest) b = private_infers 0 x p [] rest b b e placed (private_none b) in
       becomes inside (inferences xs + 1) (outer inner (records xs)) pre (xs ++ (x ∷ mid)) b zs s
       (behind inside xs (x ∷ mid) b 1 q (subst (λ y. Private m inner 1 [] (y ∷ rest) b) (sym fixed) one))
 
@@ -76,7 +76,7 @@ module _ (clauses : List Clause) where
   woken_early inside xs x y pre zs q e s =
       let inner = is_inner_record inside in
       let same : inferences xs + 0 ≡ inferences xs = omega arith in
-      let one : Private m inner 0 [] (gives m (records xs) x ∷ []) (y ∷ []) = private_wakes 0 (gives m (records xs) x) y [] [] (y ∷ [])
+      let one : Private m inner 0 [] (gives m (records xs) x ∷ []) (y ∷ []) = private_changes 0 (gives m (records xs) x) y [] [] (y ∷ [])
       e (private_none (y ∷ [])) in
       becomes inside (inferences xs) (outer inner (records xs)) pre (xs ++ (x ∷ [])) (y ∷ []) zs s
       (subst (λ n. Private m inner n (outer inner (records xs)) (xs ++ (x ∷ [])) (y ∷ [])) same
@@ -95,7 +95,7 @@ module _ (clauses : List Clause) where
     sound = λ i.
         let here = sound-after pre (Plain p f ∷ zs) i in
         sound_exchange clauses inside pre (Plain p f ∷ []) (Credit 0 rs ∷ []) zs front (own, tt) (tt, tt) (omega arith) i
-        (goes-gathered clauses (Plain p f) zs rs e here, here.1);
+        (drops-gathered clauses (Plain p f) zs rs e here, here.1);
   }
 
   pub credits_add : CreditsAdd clauses
@@ -119,12 +119,12 @@ module _ (clauses : List Clause) where
   taken_in_front xs x p pre mid still q e = record {
     alike = front_alike clauses xs x p pre mid still q e;
     sound = still-sound pre (xs ++ (x ∷ mid)) (Credit (inferences xs + 1) [] ∷ placed m p (map (gives m (records xs)) mid)) still
-        (λ i. (tt, takes-sound clauses x p (map (gives m (records xs)) mid) e (given i)));
+        (λ i. (tt, infers-sound clauses x p (map (gives m (records xs)) mid) e (given i)));
   }
     where
       given : IsSound (xs ++ (x ∷ mid)) → IsSound (x ∷ map (gives m (records xs)) mid)
       given i = subst (λ y. IsSound (y ∷ map (gives m (records xs)) mid))
-          (gives-fixed clauses (records xs) x (takes-fixed clauses x p e))
+          (gives-fixed clauses (records xs) x (infers-fixed clauses x p e))
           (sound-gives clauses (records xs) (x ∷ mid) (sound-after xs (x ∷ mid) i))
 
   pub records_given : RecordsGiven clauses

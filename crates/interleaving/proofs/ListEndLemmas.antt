@@ -14,7 +14,9 @@ use Rattle.tree_model.specs.SoundTrees.{one_if, count_in, count_among, count_bel
 use Rattle.interleaving.specs.Erased.{from}
 use Rattle.interleaving.proofs.ContextLemmas.{count_around}
 use Rattle.interleaving.proofs.NamingLemmas.{from_own}
-use Rattle.interleaving.proofs.WayLemmas.{one_if-zero, unlike}
+use Rattle.interleaving.proofs.WayLemmas.{one_if-zero}
+use Rattle.au_term.proofs.LogicLemmas.{numbers_turned, or-left, or-right}
+use Rattle.interleaving.proofs.TestLemmas.{none_true, not_equal}
 
 abbrev pub ends_in : Name → List Element → Bool
 ends_in h [] = false
@@ -25,22 +27,10 @@ ends_in h (Catch s u c r p f ∷ xs) = ends_in h xs
 ends_in h (Findall s u results list p f ∷ xs) = ends_in h xs
 ends_in h (End p b ∷ xs) = ends_in h xs
 
-neither : (a b : Bool) → a ≡ false → b ≡ false → (a || b) ≡ false
-neither false b e f = f
-neither true b e f = e
-
-first_false : (a b : Bool) → (a || b) ≡ false → a ≡ false
-first_false false b e = refl
-first_false true b e = e
-
-second_false : (a b : Bool) → (a || b) ≡ false → b ≡ false
-second_false false b e = e
-second_false true b e = let no_way : ⊥ = cc in absurd no_way
-
 pub ends-append : (h : Name) (xs ys : List Element) → ends_in h xs ≡ false → ends_in h ys ≡ false → ends_in h (xs ++ ys) ≡ false
 ends-append h [] ys e f = f
-ends-append h (EndOf s ∷ xs) ys e f = neither (same h s) (ends_in h (xs ++ ys)) (first_false (same h s) (ends_in h xs) e)
-    (ends-append h xs ys (second_false (same h s) (ends_in h xs) e) f)
+ends-append h (EndOf s ∷ xs) ys e f = none_true (same h s) (ends_in h (xs ++ ys)) (or-left (same h s) (ends_in h xs) e)
+    (ends-append h xs ys (or-right (same h s) (ends_in h xs) e) f)
 ends-append h (Credit k rs ∷ xs) ys e f = ends-append h xs ys e f
 ends-append h (Plain p g ∷ xs) ys e f = ends-append h xs ys e f
 ends-append h (Catch s u c r p g ∷ xs) ys e f = ends-append h xs ys e f
@@ -49,8 +39,8 @@ ends-append h (End p b ∷ xs) ys e f = ends-append h xs ys e f
 
 pub from-skip : (h : Name) (xs ys : List Element) → ends_in h xs ≡ false → from (xs ++ ys) h ≡ from ys h
 from-skip h [] ys e = refl
-from-skip h (EndOf s ∷ xs) ys e = ap (λ b. cond b (EndOf s ∷ (xs ++ ys)) (from (xs ++ ys) h)) (first_false (same h s) (ends_in h xs) e)
-    ∙ from-skip h xs ys (second_false (same h s) (ends_in h xs) e)
+from-skip h (EndOf s ∷ xs) ys e = ap (λ b. cond b (EndOf s ∷ (xs ++ ys)) (from (xs ++ ys) h)) (or-left (same h s) (ends_in h xs) e)
+    ∙ from-skip h xs ys (or-right (same h s) (ends_in h xs) e)
 from-skip h (Credit k rs ∷ xs) ys e = from-skip h xs ys e
 from-skip h (Plain p g ∷ xs) ys e = from-skip h xs ys e
 from-skip h (Catch s u c r p g ∷ xs) ys e = from-skip h xs ys e
@@ -67,13 +57,6 @@ other_node i n j m e = ap (λ b. (i == j) && (b && true)) e ∙ off (i == j)
 
 pub other_index : (i n j m : ℕ) → (i == j) ≡ false → same (i ∷ n ∷ []) (j ∷ m ∷ []) ≡ false
 other_index i n j m e = ap (λ b. b && ((n == m) && true)) e
-
-pub not_equal : (i j : ℕ) → i < j → (i == j) ≡ false
-not_equal i j l = go (i == j) refl
-  where
-    go : (b : Bool) → (i == j) ≡ b → b ≡ false
-    go false e = refl
-    go true e = let no_way : ⊥ = grind arith in absurd no_way
 
 -- no element of an entry is an end
 no_end_element : (h : Name) (way : Way) (e : Entry) → ends_in h (element_on way e ∷ []) ≡ false
@@ -97,7 +80,7 @@ mutual
   no_end_node i m way (Numbered n kind alternatives) c =
       let here : one_if (n == m) ≡ 0 = omega (arith, c) in
       let rest : count_among m alternatives ≡ 0 = omega (arith, c) in
-      no_end_among i m way n kind 0 alternatives (unlike n m (one_if-zero (n == m) here)) rest
+      no_end_among i m way n kind 0 alternatives (numbers_turned n m (one_if-zero (n == m) here)) rest
 
   pub no_end_among : (i m : ℕ) (way : Way) (n : ℕ) (kind : Kind) (j : ℕ) (others : Alternatives) → (m == n) ≡ false
       → count_among m others ≡ 0 → ends_in (i ∷ m ∷ []) (list_among way n kind j others) ≡ false
@@ -107,7 +90,7 @@ mutual
       let rest : count_among m others ≡ 0 = omega (arith, c) in
       ends-append (i ∷ m ∷ []) (list_below (record { node = n; index = j; kind = kind } ∷ way) spent status) _
       (no_end_below i m (record { node = n; index = j; kind = kind } ∷ way) spent status here)
-      (neither (same (i ∷ m ∷ []) (j ∷ n ∷ [])) _ (other_node i m j n e) (no_end_among i m way n kind (suc j) others e rest))
+      (none_true (same (i ∷ m ∷ []) (j ∷ n ∷ [])) _ (other_node i m j n e) (no_end_among i m way n kind (suc j) others e rest))
 
   pub no_end_below : (i m : ℕ) (way : Way) (spent : ℕ) (status : Status) → count_below m status ≡ 0
       → ends_in (i ∷ m ∷ []) (list_below way spent status) ≡ false
@@ -124,7 +107,7 @@ no_end_later i n way kind j (alternative spent status others) l c =
     let rest : count_among n others ≡ 0 = omega (arith, c) in
     ends-append (i ∷ n ∷ []) (list_below (record { node = n; index = j; kind = kind } ∷ way) spent status) _
     (no_end_below i n (record { node = n; index = j; kind = kind } ∷ way) spent status here)
-    (neither (same (i ∷ n ∷ []) (j ∷ n ∷ [])) _ (other_index i n j n (not_equal i j l))
+    (none_true (same (i ∷ n ∷ []) (j ∷ n ∷ [])) _ (other_index i n j n (not_equal i j l))
     (no_end_later i n way kind (suc j) others (omega (arith, l)) rest))
 
 -- numbers on a way
@@ -169,9 +152,9 @@ from_back (v ∷ up) s d h = go (v.number == s) refl (λ k. from_back up s (λ m
         let many = d s in
         let few = on-counts s up k in
         let none_right : count_among s v.right ≡ 0 = omega (arith, many, few) in
-        let unlike_here : (s == v.number) ≡ false = unlike v.number s e in
+        let unlike_here : (s == v.number) ≡ false = numbers_turned v.number s e in
         let clear : ends_in (at_scope.0 ∷ s ∷ []) (list_right (way_of up) v)
-        ≡ false = neither (same (at_scope.0 ∷ s ∷ []) (length v.left ∷ v.number ∷ [])) _
+        ≡ false = none_true (same (at_scope.0 ∷ s ∷ []) (length v.left ∷ v.number ∷ [])) _
         (other_node at_scope.0 s (length v.left) v.number unlike_here)
         (no_end_among at_scope.0 s (way_of up) v.number v.kind (suc (length v.left)) v.right unlike_here none_right) in
         from-skip (scope_on (way_of up) s) (list_right (way_of up) v) (back_of up)

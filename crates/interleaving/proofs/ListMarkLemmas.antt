@@ -17,12 +17,10 @@ use Rattle.interleaving.specs.Erased.{from}
 use Rattle.interleaving.specs.Sound.{IsGuarded, IsGathered, IsMarkSound}
 use Rattle.interleaving.proofs.ContextLemmas.{IsLevel, IsAround, put_profiles, level_profiles}
 use Rattle.interleaving.proofs.WayLemmas.{cond-true, cond-false}
-use Rattle.interleaving.proofs.OpenSpotLemmas.{both_left, both_right}
 use Rattle.interleaving.proofs.ListEndLemmas.{levels_down, from_back}
-use Rattle.interleaving.proofs.ListScopeLemmas.{IsDistinct, sleeps_on, side_at, Scoped, distinct-down, on-down, Reads, reads_then, named}
-
-clash : {A : Type 0} → false ≡ true → A
-clash h = let no_way : ⊥ = cc in absurd no_way
+use Rattle.interleaving.proofs.ListScopeLemmas.{IsDistinct, dormant_on, side_at, Scoped, distinct-down, on-down, Reads, reads_then, named}
+use Rattle.interleaving.proofs.TestLemmas.{false_true}
+use Rattle.au_term.proofs.LogicLemmas.{and-right, and-left}
 
 -- the level of a number
 pub record AtLevel (levels : List Level) (s : ℕ) : Type 0 where
@@ -32,10 +30,10 @@ pub record AtLevel (levels : List Level) (s : ℕ) : Type 0 where
   pub number : level.number ≡ s
   pub scope : scope_on (way_of levels) s ≡ length level.left ∷ level.number ∷ []
   pub keeps : IsLevel above level IsOpen
-  pub sleeps : sleeps_on levels s ≡ catch_right level.right
+  pub sleeps : dormant_on levels s ≡ catch_right level.right
 
 pub at_level : (levels : List Level) (s : ℕ) → IsAround levels IsOpen → is_on (way_of levels) s ≡ true → AtLevel levels s
-at_level [] s h o = clash o
+at_level [] s h o = false_true o
 at_level (v ∷ up) s h o = go (v.number == s) refl (at_level up s h.1) o
   where
     go : (b : Bool) → (v.number == s) ≡ b → (is_on (way_of up) s ≡ true → AtLevel up s) → cond b true (is_on (way_of up) s) ≡ true
@@ -65,7 +63,7 @@ at_level (v ∷ up) s h o = go (v.number == s) refl (at_level up s h.1) o
 -- through the goal side of its node
 pub through_at : (kind : Kind) (levels : List Level) (s : ℕ) (u : Level) (ups : List Level) → levels_down levels s ≡ u ∷ ups
     → side_at kind levels s ≡ true → ((length u.left == 0) && same_kind u.kind kind) ≡ true
-through_at kind [] s u ups e t = clash t
+through_at kind [] s u ups e t = false_true t
 through_at kind (v ∷ up) s u ups e t = go (v.number == s) (through_at kind up s u ups) e t
   where
     go : (b : Bool) → (levels_down up s ≡ u ∷ ups → side_at kind up s ≡ true → ((length u.left == 0) && same_kind u.kind kind) ≡ true)
@@ -82,7 +80,7 @@ through_side kind (v ∷ up) s t = go (v.number == s) (is_barrier (step_of v)) (
         → cond b ((length v.left == 0) && same_kind v.kind kind) (cond c false (through kind (way_of up) s)) ≡ true
         → cond b ((length v.left == 0) && same_kind v.kind kind) (side_at kind up s) ≡ true
     go true c f t = t
-    go false true f t = clash t
+    go false true f t = false_true t
     go false false f t = f t
 
 pub no_left : (left : List (ℕ × Status)) → (length left == 0) ≡ true → left ≡ []
@@ -93,50 +91,50 @@ no_left (a ∷ left) h = let no_way : ⊥ = more (length left) h in absurd no_wa
     more n k = grind arith
 
 -- a recovery that sleeps
-pub record SleepsRight (v : Level) (e : Entry) : Type 0 where
+pub record DormantRight (v : Level) (e : Entry) : Type 0 where
   pub spent : ℕ
   pub others : Alternatives
   pub right : v.right ≡ alternative spent (Pending Dormant e) others
 
-pub catch_sleeps : (v : Level) → catch_right v.right ≡ true → (c : Term) × (r : Term) × (f : Continuation ℕ) × SleepsRight v
+pub catch_dormant : (v : Level) → catch_right v.right ≡ true → (c : Term) × (r : Term) × (f : Continuation ℕ) × DormantRight v
     (CatchEntry c r f)
-catch_sleeps v h = go v.right refl h
+catch_dormant v h = go v.right refl h
   where
-    go : (a : Alternatives) → v.right ≡ a → catch_right a ≡ true → (c : Term) × (r : Term) × (f : Continuation ℕ) × SleepsRight v
+    go : (a : Alternatives) → v.right ≡ a → catch_right a ≡ true → (c : Term) × (r : Term) × (f : Continuation ℕ) × DormantRight v
         (CatchEntry c r f)
-    go none e k = clash k
-    go (alternative sp (Inner node) others) e k = clash k
-    go (alternative sp (Closed c) others) e k = clash k
-    go (alternative sp (Pending Ready x) others) e k = clash k
-    go (alternative sp (Pending (TakenBy w) x) others) e k = clash k
-    go (alternative sp (Pending (Waiting g) x) others) e k = clash k
+    go none e k = false_true k
+    go (alternative sp (Inner node) others) e k = false_true k
+    go (alternative sp (Closed c) others) e k = false_true k
+    go (alternative sp (Pending Ready x) others) e k = false_true k
+    go (alternative sp (Pending (TakenBy w) x) others) e k = false_true k
+    go (alternative sp (Pending (Waiting g) x) others) e k = false_true k
     go (alternative sp (Pending Dormant (CatchEntry c r f)) others) e k = (c, r, f, record { spent = sp; others = others; right = e })
-    go (alternative sp (Pending Dormant (PlainEntry f)) others) e k = clash k
-    go (alternative sp (Pending Dormant (FindallEntry results l f)) others) e k = clash k
-    go (alternative sp (Pending Dormant (EndEntry b)) others) e k = clash k
+    go (alternative sp (Pending Dormant (PlainEntry f)) others) e k = false_true k
+    go (alternative sp (Pending Dormant (FindallEntry results l f)) others) e k = false_true k
+    go (alternative sp (Pending Dormant (EndEntry b)) others) e k = false_true k
 
-pub findall_sleeps : (v : Level) (up : List Level) → IsLevel up v IsOpen → v.left ≡ [] → v.kind ≡ FindallNode
-    → (rs : List Term) × (l : Term) × (f : Continuation ℕ) × SleepsRight v (FindallEntry rs l f)
-findall_sleeps v up i e k = go v.right refl
+pub findall_dormant : (v : Level) (up : List Level) → IsLevel up v IsOpen → v.left ≡ [] → v.kind ≡ FindallNode
+    → (rs : List Term) × (l : Term) × (f : Continuation ℕ) × DormantRight v (FindallEntry rs l f)
+findall_dormant v up i e k = go v.right refl
     (subst (λ l. are_pair FindallNode (put_profiles l (IsOpen ∷ profiles v.right)) ≡ true) e
     (subst (λ kind. is_shape kind (level_profiles v IsOpen) ≡ true) k i.shape))
   where
     go : (a : Alternatives) → v.right ≡ a → are_pair FindallNode (IsOpen ∷ profiles a) ≡ true
-        → (rs : List Term) × (l : Term) × (f : Continuation ℕ) × SleepsRight v (FindallEntry rs l f)
-    go none e k = clash k
-    go (alternative sp status (alternative sq other others)) e k = clash k
-    go (alternative sp (Inner node) none) e k = clash k
-    go (alternative sp (Closed c) none) e k = clash k
-    go (alternative sp (Pending Ready x) none) e k = clash k
-    go (alternative sp (Pending (TakenBy w) x) none) e k = clash k
-    go (alternative sp (Pending (Waiting g) x) none) e k = clash k
+        → (rs : List Term) × (l : Term) × (f : Continuation ℕ) × DormantRight v (FindallEntry rs l f)
+    go none e k = false_true k
+    go (alternative sp status (alternative sq other others)) e k = false_true k
+    go (alternative sp (Inner node) none) e k = false_true k
+    go (alternative sp (Closed c) none) e k = false_true k
+    go (alternative sp (Pending Ready x) none) e k = false_true k
+    go (alternative sp (Pending (TakenBy w) x) none) e k = false_true k
+    go (alternative sp (Pending (Waiting g) x) none) e k = false_true k
     go (alternative sp (Pending Dormant (FindallEntry rs l f)) none) e k = (rs, l, f, record { spent = sp; others = none; right = e })
-    go (alternative sp (Pending Dormant (PlainEntry f)) none) e k = clash k
-    go (alternative sp (Pending Dormant (CatchEntry c r f)) none) e k = clash k
-    go (alternative sp (Pending Dormant (EndEntry b)) none) e k = clash k
+    go (alternative sp (Pending Dormant (PlainEntry f)) none) e k = false_true k
+    go (alternative sp (Pending Dormant (CatchEntry c r f)) none) e k = false_true k
+    go (alternative sp (Pending Dormant (EndEntry b)) none) e k = false_true k
 
 -- what is after the end of a goal side's scope
-pub after_side : (v : Level) (up : List Level) (e : Entry) → v.left ≡ [] → (h : SleepsRight v e) → back_of (v ∷ up)
+pub after_side : (v : Level) (up : List Level) (e : Entry) → v.left ≡ [] → (h : DormantRight v e) → back_of (v ∷ up)
     ≡ EndOf (0 ∷ v.number ∷ []) ∷ (element_at v.number 1 (record { node = v.number; index = 1; kind = v.kind } ∷ way_of up) e
     ∷ (EndOf (1 ∷ v.number ∷ []) ∷ (list_among (way_of up) v.number v.kind 2 h.others ++ back_of up)))
 after_side v up e l h =
@@ -145,13 +143,13 @@ after_side v up e l h =
 
 -- a mark of a part of the branch
 pub guarded_at : (base levels : List Level) (s : ℕ) → from (back_of base) (scope_on (way_of base) s) ≡ back_of (levels_down levels s)
-    → scope_on (way_of base) s ≡ scope_on (way_of levels) s → AtLevel levels s → side_at CatchNode levels s ≡ true → sleeps_on levels s
+    → scope_on (way_of base) s ≡ scope_on (way_of levels) s → AtLevel levels s → side_at CatchNode levels s ≡ true → dormant_on levels s
     ≡ true → IsGuarded (back_of base) (scope_on (way_of base) s)
 guarded_at base levels s found same a t z =
     let v = a.level in
     let side = through_at CatchNode levels s v a.above a.down t in
-    let left : v.left ≡ [] = no_left v.left (both_left (length v.left == 0) _ side) in
-    let entry = catch_sleeps v (sym a.sleeps ∙ z) in
+    let left : v.left ≡ [] = no_left v.left (and-left (length v.left == 0) _ side) in
+    let entry = catch_dormant v (sym a.sleeps ∙ z) in
     let scope : scope_on (way_of base) s ≡ 0 ∷ v.number ∷ [] = same ∙ (a.scope ∙ ap (λ l. length l ∷ v.number ∷ []) left) in
     let all = found ∙ (ap back_of a.down ∙ after_side v a.above (CatchEntry entry.0 entry.1 entry.2) left entry.3) in
     record {
@@ -170,14 +168,14 @@ guarded_at base levels s found same a t z =
 
 same-findall : (k : Kind) → same_kind k FindallNode ≡ true → k ≡ FindallNode
 same-findall FindallNode h = refl
-same-findall ChoiceNode h = clash h
-same-findall CatchNode h = clash h
-same-findall QueryNode h = clash h
+same-findall ChoiceNode h = false_true h
+same-findall CatchNode h = false_true h
+same-findall QueryNode h = false_true h
 
 pub gathered_side : (base : List Level) (h : Name) (v : Level) (up : List Level) → from (back_of base) h ≡ back_of (v ∷ up) → h
     ≡ length v.left ∷ v.number ∷ [] → IsLevel up v IsOpen → v.left ≡ [] → v.kind ≡ FindallNode → IsGathered (back_of base) h
 gathered_side base h v up found same keeps left kind =
-    let entry = findall_sleeps v up keeps left kind in
+    let entry = findall_dormant v up keeps left kind in
     let scope : h ≡ 0 ∷ v.number ∷ [] = same ∙ ap (λ l. length l ∷ v.number ∷ []) left in
     let all = found ∙ after_side v up (FindallEntry entry.0 entry.1 entry.2) left entry.3 in
     record {
@@ -200,7 +198,7 @@ gathered_at base levels s found same a t =
     let v = a.level in
     let side = through_at FindallNode levels s v a.above a.down t in
     gathered_side base (scope_on (way_of base) s) v a.above (found ∙ ap back_of a.down) (same ∙ a.scope) a.keeps
-    (no_left v.left (both_left (length v.left == 0) _ side)) (same-findall v.kind (both_right (length v.left == 0) _ side))
+    (no_left v.left (and-left (length v.left == 0) _ side)) (same-findall v.kind (and-right (length v.left == 0) _ side))
 
 -- the marks of items
 pub around-down : (levels : List Level) (s : ℕ) → IsAround levels IsOpen → IsAround (levels_down levels s) IsOpen
@@ -215,7 +213,7 @@ module _ (base : List Level) (once : IsDistinct base) where
   pub marks_sound : (levels : List Level) (items : List (Item ℕ)) → IsDistinct levels → IsAround levels IsOpen
       → ((r : ℕ) → is_on (way_of levels) r ≡ true → Reads base levels r)
       → ((r : ℕ) → is_on (way_of levels) r ≡ true → is_on (way_of base) r ≡ true) → Scoped levels items
-      → MarksCaught (sleeps_on base) items → Each (IsMarkSound (back_of base)) (named base items)
+      → MarksCaught (dormant_on base) items → Each (IsMarkSound (back_of base)) (named base items)
   marks_sound levels [] d a f g h m = tt
   marks_sound levels (RemovalItem number ∷ items) d a f g h m = (tt, marks_sound levels items d a f g h m)
   marks_sound levels (GoalItem t s ∷ items) d a f g h m = (

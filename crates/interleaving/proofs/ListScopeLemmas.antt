@@ -22,9 +22,9 @@ abbrev pub IsDistinct : List Level → Type 0
 IsDistinct levels = (m : ℕ) → count_around m levels ≤ 1
 
 -- which catch nodes of a branch sleep
-abbrev pub sleeps_on : List Level → ℕ → Bool
-sleeps_on [] = λ m. false
-sleeps_on (v ∷ up) = with_catch v.number (catch_right v.right) (sleeps_on up)
+abbrev pub dormant_on : List Level → ℕ → Bool
+dormant_on [] = λ m. false
+dormant_on (v ∷ up) = with_catch v.number (catch_right v.right) (dormant_on up)
 
 -- whether a number is that of a node of this kind through whose goal side the branch leads
 abbrev pub side_at : Kind → List Level → ℕ → Bool
@@ -90,7 +90,7 @@ apart_above v up r d h = go (v.number == r) refl
 pub record Reads (base levels : List Level) (r : ℕ) : Type 0 where
   pub down : levels_down base r ≡ levels_down levels r
   pub scope : scope_on (way_of base) r ≡ scope_on (way_of levels) r
-  pub sleeps : sleeps_on base r ≡ sleeps_on levels r
+  pub sleeps : dormant_on base r ≡ dormant_on levels r
 
 reads_down : (levels : List Level) (s r : ℕ) → IsDistinct levels → is_on (way_of (levels_down levels s)) r ≡ true
     → Reads levels (levels_down levels s) r
@@ -107,7 +107,7 @@ reads_down (v ∷ up) s r d h = go (v.number == s) (λ k. reads_down up s r (dis
         record {
           down = cond-false (v.number == r) (v ∷ up) (levels_down up r) off ∙ h.down;
           scope = cond-false (v.number == r) _ (scope_on (way_of up) r) off ∙ h.scope;
-          sleeps = cond-false (v.number == r) (catch_right v.right) (sleeps_on up r) off ∙ h.sleeps;
+          sleeps = cond-false (v.number == r) (catch_right v.right) (dormant_on up r) off ∙ h.sleeps;
         }
 
 pub reads_then : (base levels : List Level) (s : ℕ) → IsDistinct levels

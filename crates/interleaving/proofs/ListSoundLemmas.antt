@@ -10,16 +10,14 @@ use Rattle.tree_model.specs.Elements.{Name}
 use Rattle.tree_model.specs.PendingLists.{Step, Way, way_of, element_on, list_in, list_among, list_below, list_right, back_of}
 use Rattle.tree_model.specs.Ways.{is_on, way_above, AreScoped}
 use Rattle.tree_model.specs.SoundTrees.{count_in, count_among, count_below, one_if}
-use Rattle.interleaving.specs.Sound.{IsOlder, EachFindall}
+use Rattle.interleaving.specs.Sound.{IsMadeElsewhere, EachFindall}
 use Rattle.interleaving.proofs.ContextLemmas.{count_around}
-use Rattle.interleaving.proofs.WayLemmas.{cond-false, reach-on, through-on, one_if-zero, same_self}
+use Rattle.interleaving.proofs.WayLemmas.{cond-false, reach-on, through-on, one_if-zero}
 use Rattle.interleaving.proofs.CarriedLemmas.{findalls-append}
 use Rattle.interleaving.proofs.ListEndLemmas.{levels_down}
 use Rattle.interleaving.proofs.ListScopeLemmas.{IsDistinct, Scoped, way_down, distinct-up, distinct-down, apart_above}
 use Rattle.interleaving.proofs.ListMarkLemmas.{through_side}
-
-clash : {A : Type 0} → false ≡ true → A
-clash h = let no_way : ⊥ = cc in absurd no_way
+use Rattle.interleaving.proofs.TestLemmas.{false_true, number_same}
 
 -- from scopes in reach to scopes on the branch
 abbrev levels_over : List Level → ℕ → List Level
@@ -108,7 +106,7 @@ scoped_by levels (CollectMark t s ∷ items) d h =
     )
 
 -- what an entry makes has a longer name than any scope of the tree
-pub older_scope : (i n a b : ℕ) → IsOlder (0 ∷ i ∷ n ∷ []) (a ∷ b ∷ [])
+pub older_scope : (i n a b : ℕ) → IsMadeElsewhere (0 ∷ i ∷ n ∷ []) (a ∷ b ∷ [])
 older_scope i n a b more e =
     let lengths : ◌≡◌ {A = ℕ} 2 (length (more ++ 0 ∷ i ∷ n ∷ [])) = ap length e in
     let long : length (more ++ 0 ∷ i ∷ n ∷ []) ≡ length more + 3 = length-append more (0 ∷ i ∷ n ∷ []) in
@@ -155,7 +153,7 @@ module _ (n : ℕ) where
   IsOther e = e ≡ 0 ∷ n ∷ [] → ⊥
 
   not_named : (a m : ℕ) → (m == n) ≡ false → IsOther (a ∷ m ∷ [])
-  not_named a m e h = let same : m ≡ n = cc in let yes : (m == n) ≡ true = subst (λ k. (m == k) ≡ true) same (same_self m) in clash
+  not_named a m e h = let same : m ≡ n = cc in let yes : (m == n) ≡ true = subst (λ k. (m == k) ≡ true) same (number_same m) in false_true
       (sym e ∙ yes)
 
   other_element : (a : Step) (way : Way) (e : Entry) → (a.node == n) ≡ false → EachFindall IsOther (element_on (a ∷ way) e ∷ [])

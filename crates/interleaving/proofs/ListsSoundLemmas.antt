@@ -19,27 +19,25 @@ use Rattle.tree_model.specs.CaughtTrees.{is_side, IsCaught, IsCaughtNode, AreCau
 use Rattle.interleaving.specs.Erased.{from}
 use Rattle.interleaving.specs.Sound.{IsGathered, IsSound}
 use Rattle.interleaving.proofs.ContextLemmas.{IsAround, taken_out, count_plug}
-use Rattle.interleaving.proofs.WayLemmas.{cond-true, cond-false, same_self}
+use Rattle.interleaving.proofs.WayLemmas.{cond-true, cond-false}
 use Rattle.interleaving.proofs.AppendLemmas.{append-assoc, append-nil}
 use Rattle.interleaving.proofs.ClockLemmas.{no_root}
 use Rattle.interleaving.proofs.ListEndLemmas.{levels_down, from_back}
-use Rattle.interleaving.proofs.ListScopeLemmas.{IsDistinct, sleeps_on, apart_above}
+use Rattle.interleaving.proofs.ListScopeLemmas.{IsDistinct, dormant_on, apart_above}
 use Rattle.interleaving.proofs.ListMarkLemmas.{AtLevel, no_left, gathered_side}
 use Rattle.interleaving.proofs.SoundListLemmas.{element_sound}
-
-clash : {A : Type 0} → false ≡ true → A
-clash h = let no_way : ⊥ = cc in absurd no_way
+use Rattle.interleaving.proofs.TestLemmas.{false_true, number_same}
 
 -- whether a goal side of a findall is on a branch
 abbrev pub under_of : List Level → Bool
 under_of [] = false
 under_of (v ∷ up) = is_side v.kind (length v.left) || under_of up
 
-findall-kind : (k : Kind) → is_findall k ≡ true → k ≡ FindallNode
+pub findall-kind : (k : Kind) → is_findall k ≡ true → k ≡ FindallNode
 findall-kind FindallNode h = refl
-findall-kind ChoiceNode h = clash h
-findall-kind CatchNode h = clash h
-findall-kind QueryNode h = clash h
+findall-kind ChoiceNode h = false_true h
+findall-kind CatchNode h = false_true h
+findall-kind QueryNode h = false_true h
 
 -- the nearest such goal side
 pub record IsSideLevel (up : List Level) : Type 0 where
@@ -51,11 +49,11 @@ pub record IsSideLevel (up : List Level) : Type 0 where
   pub name : findall_on (way_of up) ≡ 0 ∷ number ∷ []
 
 pub side_level : (up : List Level) → IsAround up IsOpen → under_of up ≡ true → IsSideLevel up
-side_level [] a u = clash u
+side_level [] a u = false_true u
 side_level (v ∷ up) a u = go (is_findall v.kind) refl (length v.left == 0) refl (λ k. side_level up a.1 k) u
   where
     itself : (v.number == v.number) ≡ true
-    itself = same_self v.number
+    itself = number_same v.number
 
     past : IsSideLevel up → findall_on (way_of (v ∷ up)) ≡ findall_on (way_of up) → IsSideLevel (v ∷ up)
     past h name = pick (v.number == h.number) refl
@@ -83,7 +81,7 @@ side_level (v ∷ up) a u = go (is_findall v.kind) refl (length v.left == 0) ref
             ≡ h.number = grind arith in absurd (on_way (subst (λ n. is_on (way_of up) n ≡ true) (sym same) h.on))
           where
             on_way : is_on (way_of up) v.number ≡ true → ⊥
-            on_way k = clash (sym a.0.new ∙ k)
+            on_way k = false_true (sym a.0.new ∙ k)
 
     here : is_findall v.kind ≡ true → (length v.left == 0) ≡ true → IsSideLevel (v ∷ up)
     here f z =
@@ -130,7 +128,7 @@ credit_sound v up c d a (inr e) = all c.records
         ≡ false → findall_on (way_of (v ∷ up)) ≡ findall_on (way_of up)
     passed false f c z s = cond-false (is_findall v.kind) _ _ f
     passed true f false z s = cond-true (is_findall v.kind) _ _ f ∙ cond-false (length v.left == 0) _ _ z
-    passed true f true z s = clash (sym s ∙ (ap (λ b. b && (length v.left == 0)) f ∙ ap (λ b. true && b) z))
+    passed true f true z s = false_true (sym s ∙ (ap (λ b. b && (length v.left == 0)) f ∙ ap (λ b. true && b) z))
 
     off : (v.number == side.number) ≡ false
     off = apart_above v up side.number d side.on
@@ -157,20 +155,21 @@ credit_sound v up c d a (inr e) = all c.records
     all (t ∷ ts) = (one, all ts)
 
 -- a tree round a place
-pub record IsGood (root : Status) : Type 0 where
+pub record IsDistinctTree (root : Status) : Type 0 where
   pub sound : IsSoundStatus [] root
   pub distinct : (m : ℕ) → count_below m root ≤ 1
 
-good_distinct : (levels : List Level) (status : Status) → IsGood (plug levels status) → IsDistinct levels
-good_distinct levels status g m = let z = g.distinct m in let c = count_plug m levels status in omega (arith, z, c)
+tree_distinct : (levels : List Level) (status : Status) → IsDistinctTree (plug levels status) → IsDistinct levels
+tree_distinct levels status g m = let z = g.distinct m in let c = count_plug m levels status in omega (arith, z, c)
 
 mutual
-  node_ok : (up : List Level) (node : Node) → IsGood (plug up (Inner node)) → IsCaughtNode (sleeps_on up) (under_of up) node
+  node_ok : (up : List Level) (node : Node) → IsDistinctTree (plug up (Inner node)) → IsCaughtNode (dormant_on up) (under_of up) node
       → IsSound (back_of up) → IsSound (list_in (way_of up) node ++ back_of up)
   node_ok up (Numbered n kind alternatives) g c z = among_ok up n kind [] alternatives g c z
 
   among_ok : (up : List Level) (n : ℕ) (kind : Kind) (left : List (ℕ × Status)) (others : Alternatives)
-      → IsGood (plug up (Inner (Numbered n kind (put_left left others)))) → AreCaught (sleeps_on up) (under_of up) n kind (length left)
+      → IsDistinctTree (plug up (Inner (Numbered n kind (put_left left others))))
+      → AreCaught (dormant_on up) (under_of up) n kind (length left)
       others → IsSound (back_of up) → IsSound (list_among (way_of up) n kind (length left) others ++ back_of up)
   among_ok up n kind left none g c z = z
   among_ok up n kind left (alternative spent status others) g c z =
@@ -181,24 +180,24 @@ mutual
       (list_right (way_of up) v) (back_of up) in
       subst IsSound (sym whole) (below_ok v up status g c.0 rest)
 
-  below_ok : (v : Level) (up : List Level) (status : Status) → IsGood (plug (v ∷ up) status)
-      → IsCaught (sleeps_on (v ∷ up)) (is_side v.kind (length v.left)) (under_of up) status → IsSound (back_of (v ∷ up))
+  below_ok : (v : Level) (up : List Level) (status : Status) → IsDistinctTree (plug (v ∷ up) status)
+      → IsCaught (dormant_on (v ∷ up)) (is_side v.kind (length v.left)) (under_of up) status → IsSound (back_of (v ∷ up))
       → IsSound (list_below (way_of (v ∷ up)) v.spent status ++ back_of (v ∷ up))
   below_ok v up (Inner node) g c z = (tt, node_ok (v ∷ up) node g c z)
   below_ok v up (Closed c) g k z =
-      (credit_sound v up c (good_distinct (v ∷ up) (Closed c) g) (taken_out (v ∷ up) (Closed c) g.sound).0.1 k, z)
+      (credit_sound v up c (tree_distinct (v ∷ up) (Closed c) g) (taken_out (v ∷ up) (Closed c) g.sound).0.1 k, z)
   below_ok v up (Pending Dormant e) g c z = let p = taken_out (v ∷ up) (Pending Dormant e) g.sound in element_sound v up Dormant e
-      (good_distinct (v ∷ up) (Pending Dormant e) g) p.0 p.1.0 p.1.1 c z
+      (tree_distinct (v ∷ up) (Pending Dormant e) g) p.0 p.1.0 p.1.1 c z
   below_ok v up (Pending Ready e) g c z = let p = taken_out (v ∷ up) (Pending Ready e) g.sound in
-      (tt, element_sound v up Ready e (good_distinct (v ∷ up) (Pending Ready e) g) p.0 p.1.0 p.1.1 c z)
+      (tt, element_sound v up Ready e (tree_distinct (v ∷ up) (Pending Ready e) g) p.0 p.1.0 p.1.1 c z)
   below_ok v up (Pending (TakenBy w) e) g c z = let p = taken_out (v ∷ up) (Pending (TakenBy w) e) g.sound in
-      (tt, element_sound v up (TakenBy w) e (good_distinct (v ∷ up) (Pending (TakenBy w) e) g) p.0 p.1.0 p.1.1 c z)
+      (tt, element_sound v up (TakenBy w) e (tree_distinct (v ∷ up) (Pending (TakenBy w) e) g) p.0 p.1.0 p.1.1 c z)
   below_ok v up (Pending (Waiting x) e) g c z = let p = taken_out (v ∷ up) (Pending (Waiting x) e) g.sound in
-      (tt, element_sound v up (Waiting x) e (good_distinct (v ∷ up) (Pending (Waiting x) e) g) p.0 p.1.0 p.1.1 c z)
+      (tt, element_sound v up (Waiting x) e (tree_distinct (v ∷ up) (Pending (Waiting x) e) g) p.0 p.1.0 p.1.1 c z)
 
-root_ok : (root : Status) → IsGood root → IsCaught (λ m. false) false false root → IsSound (pending_list root)
+root_ok : (root : Status) → IsDistinctTree root → IsCaught (λ m. false) false false root → IsSound (pending_list root)
 root_ok (Closed c) g (inl e) = (subst (λ ts. Each (λ (r : Record). IsGathered [] r.0) (map (λ t. (findall_on [], t)) ts)) (sym e) tt, tt)
-root_ok (Closed c) g (inr e) = clash e.1
+root_ok (Closed c) g (inr e) = false_true e.1
 root_ok (Pending hold e) g c = absurd (no_root e g.sound.0)
 root_ok (Inner node) g c = (tt, subst IsSound (append-nil (list_in [] node)) (node_ok [] node g c tt))
 

@@ -12,13 +12,13 @@ use Rattle.tree_model.specs.Nodes.{ChoiceNode, Status, Inner}
 use Rattle.tree_model.specs.Levels.{Level, level_node, plug}
 use Rattle.tree_model.specs.Floors.{query_node}
 use Rattle.tree_model.specs.Orders.{levels_below}
-use Rattle.tree_model.specs.Pruning.{lands}
+use Rattle.tree_model.specs.Pruning.{ball_closes}
 use Rattle.tree_model.specs.PendingLists.{Way, way_of, balance_on, pending_list, spent_at, front_of, back_of}
 use Rattle.tree_model.specs.SoundTrees.{IsOpen}
 use Rattle.tree_model.specs.CaughtTrees.{IsLastQuery}
 use Rattle.tree_model.specs.Elements.{Name, Record, Element, Credit, Plain, EndOf, Catch, Findall, End}
-use Rattle.interleaving.specs.Machine.{Machine, Takes, gives, freed, free_steps, run, seen}
-use Rattle.interleaving.specs.Scopes.{Shared, Sought, Lands, act, scoped}
+use Rattle.interleaving.specs.Machine.{Machine, Infers, gives, freed, free_steps, run, seen}
+use Rattle.interleaving.specs.Scopes.{Shared, Sought, ElementReplacement, act, scoped}
 use Rattle.interleaving.specs.Quiet.{IsQuiet, inferences, records}
 use Rattle.interleaving.specs.Views.{IsBlind}
 use Rattle.interleaving.specs.Laws.{MayBecome}
@@ -44,15 +44,13 @@ use Rattle.interleaving.proofs.WakeLemmas.{after_wake}
 use Rattle.interleaving.proofs.EndLemmas.{has_end, end_after}
 use Rattle.interleaving.proofs.ListEndLemmas.{levels_down}
 use Rattle.interleaving.proofs.FrontCloseLemmas.{bare}
-use Rattle.interleaving.proofs.BallLevelLemmas.{landed, wakes_in, lands_at, FirstShut, clear_step}
+use Rattle.interleaving.proofs.BallLevelLemmas.{ball_credit, wakes_in, ball_closes_at, FirstShut, clear_step}
 use Rattle.interleaving.proofs.BallPlaceLemmas.{QueryAt}
-use Rattle.interleaving.proofs.LowerListLemmas.{lower_front, front_split, landed_counts, landed_low}
+use Rattle.interleaving.proofs.LowerListLemmas.{lower_front, front_split, ball_credit_counts, ball_credit_low}
 use Rattle.interleaving.proofs.QueryLastLemmas.{RightsNone, rights_none, OnlyEnds, back_ends, ends_given, ends_erased, query_clear}
 use Rattle.interleaving.proofs.GatePrivateLemmas.{wakes_bare}
 use Rattle.interleaving.proofs.FrontStepLemmas.{bare_sound}
-
-clash : {A : Type 0} → false ≡ true → A
-clash h = let no_way : ⊥ = cc in absurd no_way
+use Rattle.interleaving.proofs.TestLemmas.{false_true}
 
 -- clear below a node and above it
 clear_join : (s : ℕ) (levels : List Level) → AreClear (levels_below (Some s) levels) → AreClear (levels_down levels s) → AreClear levels
@@ -69,14 +67,16 @@ module _ (clauses : List Clause) where
   abbrev m : Machine Shared Element Sought Record
   m = scoped clauses
 
-  stands_up : (x : Element) (q : Lands) (zs : List Element) → act clauses x ≡ Takes q → free_steps m [] (x ∷ zs) ≡ x ∷ map (gives m []) zs
+  stands_up : (x : Element) (q : ElementReplacement) (zs : List Element) → act clauses x ≡ Infers q → free_steps m [] (x ∷ zs)
+      ≡ x ∷ map (gives m []) zs
   stands_up x q zs h = ap (λ a. freed m a x (λ new. free_steps m new zs) (map (gives m []) zs)) h
 
-  taken_unmarks : (p : Name) (f : Continuation Name) (q : Lands) (zs : List Element) → act clauses (bare clauses p f) ≡ Takes q
+  taken_unmarks : (p : Name) (f : Continuation Name) (q : ElementReplacement) (zs : List Element) → act clauses (bare clauses p f)
+      ≡ Infers q
       → free_steps m [] (Plain p f ∷ zs) ≡ free_steps m [] (bare clauses p f ∷ zs)
   taken_unmarks p f q zs h = go f.items h
     where
-      go : (items : List (Item Name)) → act clauses (Plain p (with_items (without_marks items) f)) ≡ Takes q
+      go : (items : List (Item Name)) → act clauses (Plain p (with_items (without_marks items) f)) ≡ Infers q
           → free_steps m [] (Plain p (with_items items f) ∷ zs) ≡ free_steps m [] (Plain p (with_items (without_marks items) f) ∷ zs)
       go [] h = refl
       go (GoalItem t s ∷ items) h = refl
@@ -88,8 +88,9 @@ module _ (clauses : List Clause) where
           (wakes_bare clauses (without_marks items) p (with_items (CatchMark s ∷ items) f) q h)
           ∙ sym (stands_up (Plain p (with_items (without_marks items) f)) q zs h)
 
-  pub unmarked_becomes : (inside : Name → Bool) (pre : List Element) (p : Name) (f : Continuation Name) (q : Lands) (zs : List Element)
-      → act clauses (bare clauses p f) ≡ Takes q → Each (IsBlind inside) pre → inside p ≡ true
+  pub unmarked_becomes : (inside : Name → Bool) (pre : List Element) (p : Name) (f : Continuation Name) (q : ElementReplacement)
+      (zs : List Element)
+      → act clauses (bare clauses p f) ≡ Infers q → Each (IsBlind inside) pre → inside p ≡ true
       → MayBecome clauses (pre ++ (Plain p f ∷ zs)) (pre ++ (bare clauses p f ∷ zs))
   unmarked_becomes inside pre p f q zs h front own =
       let one = early m (any_ground clauses) (IsBlind inside) (IsSoughtApart clauses inside) _ (blind_closed clauses inside) 0 []
@@ -128,24 +129,24 @@ module _ (clauses : List Clause) (next : ℕ) (v : Level) (above : List Level) (
 
   -- the query's node is above some status
   above_last : (b : Option Term) → (x : Status) × (IsLastQuery (plug (q.level ∷ q.above) x))
-  above_last b = let l = lands_at next s levels status (credit_of 1) (EndEntry b) in
+  above_last b = let l = ball_closes_at next s levels status (credit_of 1) (EndEntry b) in
       (l.below, subst (λ d. IsLastQuery (plug d l.below)) q.down (subst IsLastQuery l.inside last))
 
   up_clear : AreClear q.above
-  up_clear = let l = above_last None in query_clear q.above (Inner (level_node q.level l.0)) (λ z. clash (sym z.0 ∙ q.query)) l.1
+  up_clear = let l = above_last None in query_clear q.above (Inner (level_node q.level l.0)) (λ z. false_true (sym z.0 ∙ q.query)) l.1
 
   pub all_clear : AreClear (v ∷ above)
   all_clear = clear_join s levels below (subst AreClear (sym q.down) (subst AreShut (sym q.end.left) tt, up_clear))
 
   rights : RightsNone q.above
-  rights = let l = above_last None in rights_none q.above (Inner (level_node q.level l.0)) (λ z. clash (sym z.0 ∙ q.query)) l.1
+  rights = let l = above_last None in rights_none q.above (Inner (level_node q.level l.0)) (λ z. false_true (sym z.0 ∙ q.query)) l.1
 
   abbrev near : Way
   near = record { node = next; index = 0; kind = ChoiceNode } ∷ record { node = q.level.number; index = 1; kind = q.level.kind }
       ∷ way_of q.above
 
   abbrev left_credit : TreeCredit
-  left_credit = landed (query_node (v ∷ above)) (v ∷ above) (credit_of 1)
+  left_credit = ball_credit (query_node (v ∷ above)) (v ∷ above) (credit_of 1)
 
   abbrev pre : List Element
   pre = front_of (q.level ∷ q.above) ++ (balance_on (way_of (q.level ∷ q.above)) left_credit ∷ EndOf (0 ∷ q.level.number ∷ []) ∷ [])
@@ -159,24 +160,25 @@ module _ (clauses : List Clause) (next : ℕ) (v : Level) (above : List Level) (
   abbrev tail : Option Term → List Element
   tail b = End (0 ∷ 0 ∷ next ∷ []) b ∷ back
 
-  list : (b : Option Term) → pending_list (lands next (query_node (v ∷ above)) (v ∷ above) (credit_of 1) (EndEntry b)).root ≡ xs ++ tail b
+  list : (b : Option Term) → pending_list (ball_closes next (query_node (v ∷ above)) (v ∷ above) (credit_of 1) (EndEntry b)).root ≡ xs
+      ++ tail b
   list b =
-      let l = lands_at next s levels status (credit_of 1) (EndEntry b) in
-      let root : (lands next s levels (credit_of 1) (EndEntry b)).root
+      let l = ball_closes_at next s levels status (credit_of 1) (EndEntry b) in
+      let root : (ball_closes next s levels (credit_of 1) (EndEntry b)).root
       ≡ (wakes_in next (q.level ∷ q.above) left_credit (EndEntry b)).root = ap (λ g. g.root)
-      (l.lands ∙ ap (λ d. wakes_in next d left_credit (EndEntry b)) q.down) in
+      (l.ball_closes ∙ ap (λ d. wakes_in next d left_credit (EndEntry b)) q.down) in
       ap pending_list root ∙ (after_wake next q.level q.above left_credit (EndEntry b) q.end.left
       ∙ sym (append-assoc pre (Credit 0 [] ∷ Credit 0 [] ∷ []) (tail b)))
 
   pub lost_end : (b : Option Term)
-      → has_end (pending_list (lands next (query_node (v ∷ above)) (v ∷ above) (credit_of 1) (EndEntry b)).root) ≡ true
+      → has_end (pending_list (ball_closes next (query_node (v ∷ above)) (v ∷ above) (credit_of 1) (EndEntry b)).root) ≡ true
   lost_end b = ap has_end (list b) ∙ end_after xs (tail b) refl
 
   -- the list after the ball, and the tree's
-  pub lost_lands : (p : Name) (b : Option Term) (k : ℕ) → v.spent ≡ 0 → k ≡ inferences (front_of (v ∷ above)) + 1
+  pub lost_ball_closes : (p : Name) (b : Option Term) (k : ℕ) → v.spent ≡ 0 → k ≡ inferences (front_of (v ∷ above)) + 1
       → Follows clauses (Credit k [] ∷ (End p b ∷ []))
-      (pending_list (lands next (query_node (v ∷ above)) (v ∷ above) (credit_of 1) (EndEntry b)).root)
-  lost_lands p b k unspent count =
+      (pending_list (ball_closes next (query_node (v ∷ above)) (v ∷ above) (credit_of 1) (EndEntry b)).root)
+  lost_ball_closes p b k unspent count =
       let c = left_credit in
       let front = front_of (q.level ∷ q.above) in
       let n = q.level.number in
@@ -196,12 +198,12 @@ module _ (clauses : List Clause) (next : ℕ) (v : Level) (above : List Level) (
       let split : inferences (front_of levels) ≡ inferences front + inferences (lower_front s levels) = ap inferences
       (front_split s levels ∙ ap (λ d. front_of d ++ lower_front s levels) q.down)
       ∙ inferences-append front (lower_front s levels) in
-      let counts = landed_counts s levels (credit_of 1) below (subst FirstShut (sym q.down) q.end.left) in
-      let low = landed_low s v above (credit_of 1) in
+      let counts = ball_credit_counts s levels (credit_of 1) below (subst FirstShut (sym q.down) q.end.left) in
+      let low = ball_credit_low s v above (credit_of 1) in
       let here : spent_at levels + (credit_of 1).inferences ≡ v.spent + 1 = refl in
       let most : min greatest k ≡ min greatest j = omega (arith, total_pre, total, split, counts, low, here, unspent, count) in
-      let one = credit_counted clauses [] (End p b ∷ []) k [] in
-      let two = credit_counted clauses [] tail j [] in
+      let one = credit_counted clauses [] (End p b ∷ []) k [] refl in
+      let two = credit_counted clauses [] tail j [] refl in
       let name : erased (Credit (min greatest k) [] ∷ (End p b ∷ [])) ≡ erased (Credit (min greatest k) [] ∷ tail) = ap
       (λ l. HeightCredit (min greatest k) [] ∷ (HeightEntry (EndEntry b) ∷ l)) (sym (ends_erased back ends).0) in
       let free = names_are_free clauses (Credit (min greatest k) [] ∷ (End p b ∷ [])) (Credit (min greatest k) [] ∷ tail) (tt, tt)

@@ -4,7 +4,7 @@ use Rattle.au_model.specs.Terms.Each.{Each}
 use Rattle.run_model.specs.Machine.Items.{Item, GoalItem, CatchMark, CollectMark, RemovalItem}
 use Rattle.tree_model.specs.Elements.{Name, Element, Credit, Plain, EndOf, Catch, Findall, End}
 use Rattle.interleaving.specs.Erased.{from}
-use Rattle.interleaving.specs.Sound.{names, IsOlder, IsPresent, IsChain, AreCarried, IsGuarded, IsGathered, IsMarkSound}
+use Rattle.interleaving.specs.Sound.{names, IsMadeElsewhere, IsPresent, IsChain, AreCarried, IsGuarded, IsGathered, IsMarkSound}
 use Rattle.tree_model.specs.Nodes.{CatchNode, FindallNode}
 use Rattle.tree_model.specs.Levels.{Level}
 use Rattle.tree_model.specs.Floors.{renamed_item}
@@ -15,9 +15,9 @@ use Rattle.interleaving.proofs.RoundtripLemmas.{IsPath, IsPart, part_from, part_
 use Rattle.interleaving.proofs.CollapseLemmas.{path-from, path-above}
 use Rattle.interleaving.proofs.NamedFloorLemmas.{below_named, floor_named}
 use Rattle.interleaving.proofs.PublishedBareLemmas.{right_of}
-use Rattle.interleaving.proofs.SkippedLemmas.{clash}
-use Rattle.interleaving.proofs.BrancheLemmas.{upto, scope_pair, below_after, from_from, above_from, above_in_from, pair_older}
+use Rattle.interleaving.proofs.BranchLemmas.{upto, scope_pair, below_after, from_from, above_from, above_in_from, pair_older}
 use Rattle.interleaving.proofs.LowSoundLemmas.{IsCatchOf, IsFindallOf, caught, gathered, guards_low}
+use Rattle.interleaving.proofs.TestLemmas.{true_false}
 
 tail_of : (x y : Element) (xs ys : List Element) → x ∷ xs ≡ y ∷ ys → xs ≡ ys
 tail_of x y xs ys e = cc
@@ -25,7 +25,7 @@ tail_of x y xs ys e = cc
 end_of : (s t : Name) (xs ys : List Element) → EndOf s ∷ xs ≡ EndOf t ∷ ys → s ≡ t
 end_of s t xs ys e = cc
 
-nothing : (t : Name) (ys : List Element) → [] ≡ EndOf t ∷ ys → ⊥
+pub nothing : (t : Name) (ys : List Element) → [] ≡ EndOf t ∷ ys → ⊥
 nothing t ys e = cc
 
 catch_found : (X : List Element) (t : Name) (rest : List Element) (head : Element) → IsCatchOf t head → from X t ≡ EndOf t ∷ head ∷ rest
@@ -95,7 +95,7 @@ gather_low (u ∷ w) t X Y x y g =
 -- a level's own end comes first
 upto_first : (levels : List Level) (s : ℕ) → is_on (way_of levels) s ≡ true → (rest : List Element) × below_named (upto levels s)
     ≡ EndOf (scope_on (way_of levels) s) ∷ rest
-upto_first [] s h = absurd (clash (sym h))
+upto_first [] s h = absurd (true_false (sym h))
 upto_first (v ∷ up) s h = go (v.number == s) (upto_first up s) h
   where
     go : (b : Bool) → (is_on (way_of up) s ≡ true → (rest : List Element) × below_named (upto up s)
@@ -110,8 +110,8 @@ module _ (levels : List Level) (path : IsPath (way_of levels)) (X : List Element
   abbrev renamed : List (Item ℕ) → List (Item Name)
   renamed items = map (renamed_item (scope_on (way_of levels)) (scope_on (way_of levels))) items
 
-  name_older : (p : Name) → length p ≡ 3 → (s : ℕ) → is_on (way_of levels) s ≡ true → IsOlder p (scope_on (way_of levels) s)
-  name_older p l s h = let n = scope_pair (way_of levels) s h in subst (IsOlder p) (sym n.same) (pair_older p l n.index s)
+  name_older : (p : Name) → length p ≡ 3 → (s : ℕ) → is_on (way_of levels) s ≡ true → IsMadeElsewhere p (scope_on (way_of levels) s)
+  name_older p l s h = let n = scope_pair (way_of levels) s h in subst (IsMadeElsewhere p) (sym n.same) (pair_older p l n.index s)
 
   name_present : (s : ℕ) → is_on (way_of levels) s ≡ true → IsPresent X (scope_on (way_of levels) s)
   name_present s h = let r = upto_first levels s h in (r.0, passes s h ∙ r.1)
@@ -122,7 +122,7 @@ module _ (levels : List Level) (path : IsPath (way_of levels)) (X : List Element
       ∙ (below_after levels path h r k ∙ sym (passes r (part_from (way_of levels) h r k)))
 
   items_older : (p : Name) → length p ≡ 3 → (part : Way) (items : List (Item ℕ)) → IsPart part (way_of levels) → AreScoped part items
-      → Each (IsOlder p) (names (map (renamed_item (scope_on (way_of levels)) (scope_on (way_of levels))) items))
+      → Each (IsMadeElsewhere p) (names (map (renamed_item (scope_on (way_of levels)) (scope_on (way_of levels))) items))
   items_older p l part [] k h = tt
   items_older p l part (GoalItem t s ∷ items) k h =
       (name_older p l s (k s (reach-on part s h.0)), items_older p l (way_from part s) items (λ r z. k r (part_from part s r z)) h.1)

@@ -5,16 +5,16 @@ use Rattle.au_model.specs.Terms.Each.{Each}
 use Rattle.run_model.specs.Machine.Items.{Continuation}
 use Rattle.run_model.specs.Machine.Entries.{Entry, PlainEntry, CatchEntry, FindallEntry, EndEntry}
 use Rattle.tree_model.specs.Elements.{Name, EndOf}
-use Rattle.interleaving.specs.Erased.{from, count}
-use Rattle.interleaving.specs.Sound.{names, IsOlder, IsMarkSound, EachFindall, IsEntrySound, IsRightUnder, IsSound}
+use Rattle.interleaving.specs.Erased.{from, element_count}
+use Rattle.interleaving.specs.Sound.{names, IsMadeElsewhere, IsMarkSound, EachFindall, IsEntrySound, IsRightUnder, IsSound}
 use Rattle.tree_model.specs.Nodes.{Kind, ChoiceNode, Ready, TakenBy, Waiting, Dormant, Alternatives, none, alternative, Status, Pending}
 use Rattle.tree_model.specs.Nodes.{Inner, Closed}
 use Rattle.tree_model.specs.Levels.{Level}
 use Rattle.tree_model.specs.Floors.{renamed_item}
 use Rattle.tree_model.specs.PendingLists.{Step, Way, way_of, scope_on, named_continuation, element_at, list_among, back_of}
 use Rattle.tree_model.specs.Ways.{is_on, AreScoped, IsOnWay}
-use Rattle.tree_model.specs.SoundTrees.{guards, IsOpen, Sleeps, profiles, is_shape, AreSound}
-use Rattle.interleaving.proofs.WayLemmas.{cond-true, cond-same, other_number, same_self}
+use Rattle.tree_model.specs.SoundTrees.{guards, IsOpen, IsDormant, profiles, is_shape, AreSound}
+use Rattle.interleaving.proofs.WayLemmas.{cond-true, cond-same, other_number}
 use Rattle.interleaving.proofs.RoundtripLemmas.{IsPath}
 use Rattle.interleaving.proofs.NamingLemmas.{from_own}
 use Rattle.interleaving.proofs.CarriedLemmas.{findalls-append, from_first}
@@ -23,12 +23,13 @@ use Rattle.interleaving.proofs.ContextLemmas.{put_profiles, IsAround}
 use Rattle.interleaving.proofs.ClosingSoundLemmas.{IsFree, free-above}
 use Rattle.interleaving.proofs.GrowingLemmas.{around_path}
 use Rattle.interleaving.proofs.ShapeLemmas.{plain_awake}
-use Rattle.interleaving.proofs.BallStackLemmas.{sleeps_first}
+use Rattle.interleaving.proofs.BallStackLemmas.{dormant_first}
 use Rattle.interleaving.proofs.NamedFloorLemmas.{right_named, below_named, from-beside, scope-above}
 use Rattle.interleaving.proofs.PublishedBareLemmas.{own_plain}
-use Rattle.interleaving.proofs.SkippedLemmas.{clash, last_number, Asleep, Awake, sleeping}
-use Rattle.interleaving.proofs.BrancheLemmas.{upto, below_from, back_from, pair_older}
+use Rattle.interleaving.proofs.SkippedLemmas.{last_number, Asleep, Awake, sleeping}
+use Rattle.interleaving.proofs.BranchLemmas.{upto, below_from, back_from, pair_older}
 use Rattle.interleaving.proofs.LowEntryLemmas.{carried_low, marks_low}
+use Rattle.interleaving.proofs.TestLemmas.{true_false, number_same}
 
 -- the findall entries of the floor
 findalls_element : (P : Name → Type 0) (n i : ℕ) (way : Way) (e : Entry) → P (0 ∷ n ∷ [])
@@ -54,7 +55,7 @@ findalls_low P [] h = tt
 findalls_low P (v ∷ up) h =
     findalls-append P (right_named v.number (suc (length v.left)) (way_of up) v.right) (below_named up)
     (findalls_right P v.number (suc (length v.left)) (way_of up) v.right
-    (h v.number (cond-true (v.number == v.number) true _ (same_self v.number))))
+    (h v.number (cond-true (v.number == v.number) true _ (number_same v.number))))
     (findalls_low P up (λ m k. h m (cond-same (v.number == m) true (is_on (way_of up) m) k)))
 
 module _ (next : ℕ) (up : List Level) (f : IsFree next up) (a : IsAround up IsOpen) (n i : ℕ) (kind : Kind)
@@ -96,31 +97,31 @@ module _ (next : ℕ) (up : List Level) (f : IsFree next up) (a : IsAround up Is
         };
         marks = marks_low up path (EndOf (i ∷ n ∷ []) ∷ below_named up) over (EndOf (i ∷ n ∷ []) ∷ back_of up)
             (scope_on (record { node = n; index = i; kind = kind } ∷ way_of up)) agree real (way_of up) g.items (λ r z. z) h m;
-        findalls = findalls_low (IsOlder (0 ∷ i ∷ n ∷ [])) up (λ m k. pair_older (0 ∷ i ∷ n ∷ []) refl 0 m);
+        findalls = findalls_low (IsMadeElsewhere (0 ∷ i ∷ n ∷ [])) up (λ m k. pair_older (0 ∷ i ∷ n ∷ []) refl 0 m);
       }
 
   under : IsRightUnder (EndOf (i ∷ n ∷ []) ∷ below_named up) (i ∷ n ∷ [])
-  under = ap count (from_own (i ∷ n ∷ []) (below_named up))
+  under = ap element_count (from_own (i ∷ n ∷ []) (below_named up))
 
-  pub sleeper_sound : (e : Entry) → (guards e ≡ ChoiceNode → ⊥) → IsOnWay (record { node = n; index = i; kind = kind } ∷ way_of up) e
+  pub dormant_sound : (e : Entry) → (guards e ≡ ChoiceNode → ⊥) → IsOnWay (record { node = n; index = i; kind = kind } ∷ way_of up) e
       → IsSound (element_at n i (record { node = n; index = i; kind = kind } ∷ way_of up) e ∷ EndOf (i ∷ n ∷ []) ∷ back_of up) →
       IsSound (element_at n i (way_of up) e ∷ EndOf (i ∷ n ∷ []) ∷ below_named up)
-  sleeper_sound (PlainEntry g) k h s = absurd (k refl)
-  sleeper_sound (EndEntry b) k h s = low
-  sleeper_sound (CatchEntry c r g) k h s = (guard_sound g h.scoped s.0.marks, under, low)
-  sleeper_sound (FindallEntry results l g) k h s = (
+  dormant_sound (PlainEntry g) k h s = absurd (k refl)
+  dormant_sound (EndEntry b) k h s = low
+  dormant_sound (CatchEntry c r g) k h s = (guard_sound g h.scoped s.0.marks, under, low)
+  dormant_sound (FindallEntry results l g) k h s = (
     guard_sound g h.scoped s.0.marks,
     under,
     findalls_low (λ e. e ≡ 0 ∷ n ∷ [] → ⊥) up
-        (λ m o z. clash (sym o ∙ (ap (is_on (way_of up)) (last_number 0 m 0 n z) ∙ off))),
+        (λ m o z. true_false (sym o ∙ (ap (is_on (way_of up)) (last_number 0 m 0 n z) ∙ off))),
     low,
   )
 
 -- no plain entry sleeps
-not_plain : (kind : Kind) (left : List (ℕ × Status)) (e : Entry) → is_shape kind (put_profiles left (IsOpen ∷ Sleeps (guards e) ∷ []))
+not_plain : (kind : Kind) (left : List (ℕ × Status)) (e : Entry) → is_shape kind (put_profiles left (IsOpen ∷ IsDormant (guards e) ∷ []))
     ≡ true → guards e ≡ ChoiceNode → ⊥
-not_plain kind [] e h k = plain_awake kind [] (ap (λ j. is_shape kind (IsOpen ∷ Sleeps j ∷ [])) (sym k) ∙ h)
-not_plain kind (a ∷ left) e h k = absurd (omega (arith, sleeps_first kind (a ∷ left) (guards e) [] h))
+not_plain kind [] e h k = plain_awake kind [] (ap (λ j. is_shape kind (IsOpen ∷ IsDormant j ∷ [])) (sym k) ∙ h)
+not_plain kind (a ∷ left) e h k = absurd (omega (arith, dormant_first kind (a ∷ left) (guards e) [] h))
 
 pub low_list : (next : ℕ) (levels : List Level) → IsFree next levels → IsAround levels IsOpen → IsSound (back_of levels)
     → IsSound (below_named levels)
@@ -137,7 +138,7 @@ low_list next (v ∷ up) f a s = go (sleeping v.number (suc (length v.left)) (wa
         let right = subst (λ r. AreSound (way_of up) v.number v.kind (suc (length v.left)) r) z.same a.0.right in
         let whole = subst (λ r. IsSound (list_among (way_of up) v.number v.kind (suc (length v.left)) r ++ back_of up)) z.same s in
         subst (λ r. IsSound (right_named v.number (suc (length v.left)) (way_of up) r ++ below_named up)) (sym z.same)
-        (sleeper_sound next up (free-above next v up f) a.1 v.number (suc (length v.left)) v.kind a.0.new low z.entry
+        (dormant_sound next up (free-above next v up f) a.1 v.number (suc (length v.left)) v.kind a.0.new low z.entry
         (not_plain v.kind v.left z.entry shape) right.0.0 whole)
 
 -- an alternative's entry
@@ -154,7 +155,7 @@ low_entry next v up g f a h s =
         marks = marks_low (v ∷ up) path (below_named (v ∷ up)) (λ r o. below_from (v ∷ up) r) (back_of (v ∷ up))
             (scope_on (way_of (v ∷ up))) (λ r o. refl) (back_from next (v ∷ up) f a) (way_of (v ∷ up)) g.items (λ r z. z) h.scoped
             s.0.marks;
-        findalls = findalls_low (IsOlder (0 ∷ length v.left ∷ v.number ∷ [])) (v ∷ up)
+        findalls = findalls_low (IsMadeElsewhere (0 ∷ length v.left ∷ v.number ∷ [])) (v ∷ up)
             (λ m k. pair_older (0 ∷ length v.left ∷ v.number ∷ []) refl 0 m);
       },
       low_list next (v ∷ up) f a s.1,

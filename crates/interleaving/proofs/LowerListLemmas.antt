@@ -9,7 +9,7 @@ use Rattle.tree_model.specs.Nodes.{Kind, Ready, TakenBy, Waiting, Dormant, Node,
 use Rattle.tree_model.specs.Nodes.{Pending, Inner, Closed}
 use Rattle.tree_model.specs.Levels.{Level}
 use Rattle.tree_model.specs.Orders.{credits_left, levels_below}
-use Rattle.tree_model.specs.Pruning.{is_findall, kept_records, left_after}
+use Rattle.tree_model.specs.Pruning.{is_findall, remaining_records, left_after}
 use Rattle.tree_model.specs.PendingLists.{Step, Way, way_of, element_on, list_in, list_among, list_below, list_left, list_right}
 use Rattle.tree_model.specs.PendingLists.{level_front, spent_at, front_of, back_of}
 use Rattle.tree_model.specs.SoundTrees.{one_if, count_in, count_among, count_below}
@@ -18,15 +18,11 @@ use Rattle.interleaving.specs.Quiet.{IsQuiet, inferences}
 use Rattle.interleaving.specs.Roots.{rooted}
 use Rattle.interleaving.specs.Views.{IsInner}
 use Rattle.interleaving.proofs.ContextLemmas.{count_left, count_around}
-use Rattle.interleaving.proofs.WayLemmas.{same_self}
-use Rattle.interleaving.proofs.AppendLemmas.{append-assoc, each-append}
-use Rattle.interleaving.proofs.RunFrontLemmas.{append-none}
+use Rattle.interleaving.proofs.AppendLemmas.{append-assoc, each-append, append-nil}
 use Rattle.interleaving.proofs.ClockLemmas.{AreShut, AreClear, quiet-append, inferences-append, left_quiet, left_counts}
 use Rattle.interleaving.proofs.ListEndLemmas.{levels_down}
-use Rattle.interleaving.proofs.BallLevelLemmas.{landed, clear_step, FirstShut}
-
-clash : {A : Type 0} → false ≡ true → A
-clash h = let no_way : ⊥ = cc in absurd no_way
+use Rattle.interleaving.proofs.BallLevelLemmas.{ball_credit, clear_step, FirstShut}
+use Rattle.interleaving.proofs.TestLemmas.{number_same}
 
 abbrev pub lower_front : ℕ → List Level → List Element
 lower_front s [] = []
@@ -42,7 +38,7 @@ front_split s (v ∷ up) = go (v.number == s) (front_split s up)
   where
     go : (b : Bool) → front_of up ≡ front_of (levels_down up s) ++ lower_front s up → front_of (v ∷ up)
         ≡ front_of (cond b (v ∷ up) (levels_down up s)) ++ cond b [] (lower_front s up ++ level_front up v)
-    go true h = sym (append-none (front_of (v ∷ up)))
+    go true h = sym (append-nil (front_of (v ∷ up)))
     go false h = ap (λ l. l ++ level_front up v) h ∙ append-assoc (front_of (levels_down up s)) (lower_front s up) (level_front up v)
 
 pub back_split : (s : ℕ) (levels : List Level) → back_of levels ≡ lower_back s levels ++ back_of (levels_down levels s)
@@ -65,8 +61,8 @@ lower_quiet s (v ∷ up) k = go (v.number == s) refl (λ c. lower_quiet s up c)
     go false e f = let c = clear_step s v up e k in quiet-append (lower_front s up) (level_front up v) (f c.1)
         (left_quiet (way_of up) v.number v.kind v.left c.0)
 
-kept_inferences : (v : Level) (c : TreeCredit) → (kept_records v c).inferences ≡ c.inferences
-kept_inferences v c = go v.left (is_findall v.kind)
+remaining_inferences : (v : Level) (c : TreeCredit) → (remaining_records v c).inferences ≡ c.inferences
+remaining_inferences v c = go v.left (is_findall v.kind)
   where
     go : (left : List (ℕ × Status)) (b : Bool)
         → (elim left as (λ l. TreeCredit) [ [] ↦ cond b (without_records c) c | a ∷ rest ↦ c ]).inferences ≡ c.inferences
@@ -75,21 +71,21 @@ kept_inferences v c = go v.left (is_findall v.kind)
     go (a ∷ rest) b = refl
 
 -- what a ball leaves counts what was below the node to the left, and what was spent
-pub landed_counts : (s : ℕ) (levels : List Level) (c : TreeCredit) → AreClear (levels_below (Some s) levels)
+pub ball_credit_counts : (s : ℕ) (levels : List Level) (c : TreeCredit) → AreClear (levels_below (Some s) levels)
     → FirstShut (levels_down levels s)
-    → min greatest (landed s levels c).inferences ≡ min greatest (inferences (lower_front s levels) + (spent_at levels + c.inferences))
-landed_counts s [] c k f = omega arith
-landed_counts s (v ∷ up) c k f = go (v.number == s) refl f (λ a b. landed_counts s up (left_after v c) a b)
+    → min greatest (ball_credit s levels c).inferences ≡ min greatest (inferences (lower_front s levels) + (spent_at levels + c.inferences))
+ball_credit_counts s [] c k f = omega arith
+ball_credit_counts s (v ∷ up) c k f = go (v.number == s) refl f (λ a b. ball_credit_counts s up (left_after v c) a b)
   where
     behind : AreShut v.left → (left_after v c).inferences
         ≡ min greatest (min greatest (inferences (list_left (way_of up) v.number v.kind v.left)) + min greatest
         (v.spent + c.inferences))
     behind shut =
         let left = left_counts (way_of up) v.number v.kind v.left shut in
-        let kept = kept_inferences v c in
+        let kept = remaining_inferences v c in
         let here : (left_after v c).inferences
-        ≡ min greatest ((credits_left v.left).inferences + min greatest (v.spent + (kept_records v c).inferences)) = refl in
-        here ∙ (ap (λ n. min greatest (n + min greatest (v.spent + (kept_records v c).inferences))) left
+        ≡ min greatest ((credits_left v.left).inferences + min greatest (v.spent + (remaining_records v c).inferences)) = refl in
+        here ∙ (ap (λ n. min greatest (n + min greatest (v.spent + (remaining_records v c).inferences))) left
         ∙ ap (λ n. min greatest (min greatest (inferences (list_left (way_of up) v.number v.kind v.left)) + min greatest
         (v.spent + n))) kept)
 
@@ -101,9 +97,9 @@ landed_counts s (v ∷ up) c k f = go (v.number == s) refl f (λ a b. landed_cou
         omega (arith, b, z)
 
     go : (b : Bool) → (v.number == s) ≡ b → FirstShut (cond b (v ∷ up) (levels_down up s))
-        → (AreClear (levels_below (Some s) up) → FirstShut (levels_down up s) → min greatest (landed s up (left_after v c)).inferences
+        → (AreClear (levels_below (Some s) up) → FirstShut (levels_down up s) → min greatest (ball_credit s up (left_after v c)).inferences
         ≡ min greatest (inferences (lower_front s up) + (spent_at up + (left_after v c).inferences)))
-        → min greatest (cond b (left_after v c) (landed s up (left_after v c))).inferences
+        → min greatest (cond b (left_after v c) (ball_credit s up (left_after v c))).inferences
         ≡ min greatest (inferences (cond b [] (lower_front s up ++ level_front up v)) + (v.spent + c.inferences))
     go true e z more = first z
     go false e z more =
@@ -115,22 +111,22 @@ landed_counts s (v ∷ up) c k f = go (v.number == s) refl f (λ a b. landed_cou
         inferences-append (lower_front s up) (level_front up v) in
         omega (arith, i, b, joined)
 
-pub landed_low : (s : ℕ) (v : Level) (up : List Level) (c : TreeCredit) → (landed s (v ∷ up) c).inferences ≤ greatest
-landed_low s v [] c = go (v.number == s)
+pub ball_credit_low : (s : ℕ) (v : Level) (up : List Level) (c : TreeCredit) → (ball_credit s (v ∷ up) c).inferences ≤ greatest
+ball_credit_low s v [] c = go (v.number == s)
   where
     go : (b : Bool) → (cond b (left_after v c) (left_after v c)).inferences ≤ greatest
     go true = let z : (left_after v c).inferences
-        ≡ min greatest ((credits_left v.left).inferences + min greatest (v.spent + (kept_records v c).inferences)) = refl in omega
+        ≡ min greatest ((credits_left v.left).inferences + min greatest (v.spent + (remaining_records v c).inferences)) = refl in omega
         (arith, z)
     go false = let z : (left_after v c).inferences
-        ≡ min greatest ((credits_left v.left).inferences + min greatest (v.spent + (kept_records v c).inferences)) = refl in omega
+        ≡ min greatest ((credits_left v.left).inferences + min greatest (v.spent + (remaining_records v c).inferences)) = refl in omega
         (arith, z)
-landed_low s v (u ∷ up) c = go (v.number == s) (landed_low s u up (left_after v c))
+ball_credit_low s v (u ∷ up) c = go (v.number == s) (ball_credit_low s u up (left_after v c))
   where
-    go : (b : Bool) → (landed s (u ∷ up) (left_after v c)).inferences ≤ greatest
-        → (cond b (left_after v c) (landed s (u ∷ up) (left_after v c))).inferences ≤ greatest
+    go : (b : Bool) → (ball_credit s (u ∷ up) (left_after v c)).inferences ≤ greatest
+        → (cond b (left_after v c) (ball_credit s (u ∷ up) (left_after v c))).inferences ≤ greatest
     go true h = let z : (left_after v c).inferences
-        ≡ min greatest ((credits_left v.left).inferences + min greatest (v.spent + (kept_records v c).inferences)) = refl in omega
+        ≡ min greatest ((credits_left v.left).inferences + min greatest (v.spent + (remaining_records v c).inferences)) = refl in omega
         (arith, z)
     go false h = h
 
@@ -162,7 +158,7 @@ module _ (inside : Name → Bool) (ok : ℕ → Bool) (named : (s : Name) → ro
   mutual
     node_inner : (way : Way) (node : Node) → ((m : ℕ) → 1 ≤ count_in m node → ok m ≡ true) → Each (IsInner inside) (list_in way node)
     node_inner way (Numbered n kind alternatives) h = among_inner way n kind 0 alternatives
-        (h n (let z : one_if (n == n) ≡ 1 = ap one_if (same_self n) in omega (arith, z))) (λ m l. h m (omega (arith, l)))
+        (h n (let z : one_if (n == n) ≡ 1 = ap one_if (number_same n) in omega (arith, z))) (λ m l. h m (omega (arith, l)))
 
     pub among_inner : (way : Way) (n : ℕ) (kind : Kind) (i : ℕ) (others : Alternatives) → ok n ≡ true
         → ((m : ℕ) → 1 ≤ count_among m others → ok m ≡ true) → Each (IsInner inside) (list_among way n kind i others)
@@ -205,7 +201,7 @@ module _ (inside : Name → Bool) (ok : ℕ → Bool) (named : (s : Name) → ro
       go false f more =
           let rest = more (λ m l. f m (omega (arith, l))) in
           let own : ok v.number ≡ true = f v.number
-          (let z : one_if (v.number == v.number) ≡ 1 = ap one_if (same_self v.number) in omega (arith, z)) in (
+          (let z : one_if (v.number == v.number) ≡ 1 = ap one_if (number_same v.number) in omega (arith, z)) in (
             each-append (IsInner inside) (lower_front s up) (level_front up v) rest.0
                 (tt, left_inner (way_of up) v.number v.kind v.left own (λ m l. f m (omega (arith, l)))),
             each-append (IsInner inside) (list_right (way_of up) v) (lower_back s up) (

@@ -11,6 +11,7 @@ use Rattle.tree_model.specs.Ways.{is_on, same_kind, stops_cuts, is_barrier, in_r
 use Rattle.tree_model.specs.Ways.{under_query}
 use Rattle.interleaving.proofs.WayLemmas.{cond-false, cond-same, through-on}
 use Rattle.interleaving.proofs.RoundtripLemmas.{by_heights, node_height, height_positive, height_low, IsPart, part_from, part_above}
+use Rattle.au_term.proofs.LogicLemmas.{and-right}
 
 -- whether a node is on a way with no query's node at or below it
 abbrev pub no_query_to : Way → ℕ → Bool
@@ -41,10 +42,6 @@ kind_no_query QueryNode ChoiceNode q h = let no_way : ⊥ = cc in absurd no_way
 kind_no_query QueryNode CatchNode q h = let no_way : ⊥ = cc in absurd no_way
 kind_no_query QueryNode FindallNode q h = let no_way : ⊥ = cc in absurd no_way
 
-and_right : (a b : Bool) → (a && b) ≡ true → b ≡ true
-and_right true b h = h
-and_right false b h = let no_way : ⊥ = cc in absurd no_way
-
 through_no_query : (kind : Kind) (way : Way) (s : ℕ) → is_query kind ≡ false → under_query way ≡ true → through kind way s ≡ true
     → no_query_to way s ≡ true
 through_no_query kind [] s q u h = h
@@ -54,7 +51,7 @@ through_no_query kind (a ∷ way) s q u h = go (a.node == s) (is_barrier a) refl
         → cond b ((a.index == 0) && same_kind a.kind kind) (cond c false (through kind way s)) ≡ true
         → cond (is_query a.kind) false (cond b true (no_query_to way s)) ≡ true
     go true c e f k = cond-false (is_query a.kind) false true
-        (kind_no_query a.kind kind q (and_right (a.index == 0) (same_kind a.kind kind) k))
+        (kind_no_query a.kind kind q (and-right (a.index == 0) (same_kind a.kind kind) k))
     go false false e f k = let n = no_barrier_no_query a.index a.kind (under_query way) u e in cond-false (is_query a.kind) false
         (no_query_to way s) n ∙ f (under_rest a.kind (a.index == 0) (under_query way) n u) k
     go false true e f k = let no_way : ⊥ = cc in absurd no_way
@@ -90,7 +87,7 @@ upper_above kind (a ∷ way) s q u h = go (a.node == s) (is_barrier a) refl (upp
         → cond b ((a.index == 0) && same_kind a.kind kind) (cond c false (through kind way s)) ≡ true
         → IsUpper (cond b way (way_above way s)) (a ∷ way)
     go true c e f k =
-        let n = kind_no_query a.kind kind q (and_right (a.index == 0) (same_kind a.kind kind) k) in
+        let n = kind_no_query a.kind kind q (and-right (a.index == 0) (same_kind a.kind kind) k) in
         record {
           asked = under_rest a.kind (a.index == 0) (under_query way) n u;
           sub = λ r j. cond-false (is_query a.kind) false _ n

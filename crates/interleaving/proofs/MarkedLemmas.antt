@@ -1,7 +1,6 @@
 -- The catch marks of a private run are over their own Catch entries.
 use Rattle.std.proofs.Common.{◌≡◌, ℕ, suc, ◌-◌, ◌≤◌, ◌<◌, ◌==◌, Bool, true, false, cond, List, [], ◌∷◌, ◌++◌, map, length, refl, sym, ap}
 use Rattle.std.proofs.Common.{◌∙◌, subst, arith}
-use Rattle.std.specs.Prelude.{◌||◌}
 use Rattle.std.specs.List.{list_any}
 use Rattle.au_term.specs.Term.{Term}
 use Rattle.au_model.specs.Terms.Each.{Each}
@@ -9,13 +8,12 @@ use Rattle.run_model.specs.Machine.Items.{Item, GoalItem, CatchMark, CollectMark
 use Rattle.run_model.specs.Machine.Entries.{Entry, PlainEntry, CatchEntry, FindallEntry, EndEntry}
 use Rattle.tree_model.specs.Shapes.{is_guard}
 use Rattle.tree_model.specs.Elements.{Name, same, Element, Credit, Plain, EndOf, Catch, Findall, End}
-use Rattle.interleaving.specs.HeightMachine.{HeightElement, HeightEntry, held_entries}
-use Rattle.interleaving.specs.Erased.{from, count, height, with_height, with_heights, erased}
+use Rattle.interleaving.specs.HeightMachine.{HeightElement, HeightEntry, height_entries}
+use Rattle.interleaving.specs.Erased.{from, element_count, height, with_height, continuation_heights, erased}
 use Rattle.interleaving.specs.Sound.{IsMarkSound, IsSound}
-use Rattle.interleaving.proofs.WayLemmas.{cond-true, cond-false, same_self}
-
-clash : {A : Type 0} → false ≡ true → A
-clash h = let no_way : ⊥ = cc in absurd no_way
+use Rattle.interleaving.proofs.WayLemmas.{cond-true, cond-false}
+use Rattle.interleaving.proofs.TestLemmas.{false_true, number_same}
+use Rattle.au_term.proofs.LogicLemmas.{neither}
 
 abbrev pub is_catch_entry : Entry → Bool
 is_catch_entry (CatchEntry c r f) = true
@@ -56,30 +54,30 @@ all_over [] floor h = tt
 all_over (e ∷ es) floor h = (h.0, all_over es floor h.1)
 
 -- by names
-held_cons : (e d : Entry) (xs : List HeightElement) (es : List Entry) → ◌≡◌ {A = List HeightElement} (HeightEntry e ∷ xs)
-    (held_entries (d ∷ es)) → (e ≡ d) × (xs ≡ held_entries es)
-held_cons e d xs es h = (let z : e ≡ d = cc in z, let z : xs ≡ held_entries es = cc in z)
+height_cons : (e d : Entry) (xs : List HeightElement) (es : List Entry) → ◌≡◌ {A = List HeightElement} (HeightEntry e ∷ xs)
+    (height_entries (d ∷ es)) → (e ≡ d) × (xs ≡ height_entries es)
+height_cons e d xs es h = (let z : e ≡ d = cc in z, let z : xs ≡ height_entries es = cc in z)
 
-held_length : (xs : List Element) (es : List Entry) → erased xs ≡ held_entries es → count xs ≡ length es
-held_length [] [] h = refl
-held_length [] (e ∷ es) h = let no_way : ⊥ = cc in absurd no_way
-held_length (EndOf s ∷ xs) es h = held_length xs es h
-held_length (Credit k rs ∷ xs) [] h = let no_way : ⊥ = cc in absurd no_way
-held_length (Credit k rs ∷ xs) (e ∷ es) h = let no_way : ⊥ = cc in absurd no_way
-held_length (Plain p f ∷ xs) [] h = let no_way : ⊥ = cc in absurd no_way
-held_length (Plain p f ∷ xs) (e ∷ es) h = ap suc (held_length xs es (held_cons _ e (erased xs) es h).1)
-held_length (Catch s u c r p f ∷ xs) [] h = let no_way : ⊥ = cc in absurd no_way
-held_length (Catch s u c r p f ∷ xs) (e ∷ es) h = ap suc (held_length xs es (held_cons _ e (erased xs) es h).1)
-held_length (Findall s u results l p f ∷ xs) [] h = let no_way : ⊥ = cc in absurd no_way
-held_length (Findall s u results l p f ∷ xs) (e ∷ es) h = ap suc (held_length xs es (held_cons _ e (erased xs) es h).1)
-held_length (End p b ∷ xs) [] h = let no_way : ⊥ = cc in absurd no_way
-held_length (End p b ∷ xs) (e ∷ es) h = ap suc (held_length xs es (held_cons _ e (erased xs) es h).1)
+height_length : (xs : List Element) (es : List Entry) → erased xs ≡ height_entries es → element_count xs ≡ length es
+height_length [] [] h = refl
+height_length [] (e ∷ es) h = let no_way : ⊥ = cc in absurd no_way
+height_length (EndOf s ∷ xs) es h = height_length xs es h
+height_length (Credit k rs ∷ xs) [] h = let no_way : ⊥ = cc in absurd no_way
+height_length (Credit k rs ∷ xs) (e ∷ es) h = let no_way : ⊥ = cc in absurd no_way
+height_length (Plain p f ∷ xs) [] h = let no_way : ⊥ = cc in absurd no_way
+height_length (Plain p f ∷ xs) (e ∷ es) h = ap suc (height_length xs es (height_cons _ e (erased xs) es h).1)
+height_length (Catch s u c r p f ∷ xs) [] h = let no_way : ⊥ = cc in absurd no_way
+height_length (Catch s u c r p f ∷ xs) (e ∷ es) h = ap suc (height_length xs es (height_cons _ e (erased xs) es h).1)
+height_length (Findall s u results l p f ∷ xs) [] h = let no_way : ⊥ = cc in absurd no_way
+height_length (Findall s u results l p f ∷ xs) (e ∷ es) h = ap suc (height_length xs es (height_cons _ e (erased xs) es h).1)
+height_length (End p b ∷ xs) [] h = let no_way : ⊥ = cc in absurd no_way
+height_length (End p b ∷ xs) (e ∷ es) h = ap suc (height_length xs es (height_cons _ e (erased xs) es h).1)
 
-from_low : (xs : List Element) (s : Name) → count (from xs s) ≤ count xs
+from_low : (xs : List Element) (s : Name) → element_count (from xs s) ≤ element_count xs
 from_low [] s = omega arith
 from_low (EndOf e ∷ xs) s = go (same s e) (from_low xs s)
   where
-    go : (b : Bool) → count (from xs s) ≤ count xs → count (cond b (EndOf e ∷ xs) (from xs s)) ≤ count xs
+    go : (b : Bool) → element_count (from xs s) ≤ element_count xs → element_count (cond b (EndOf e ∷ xs) (from xs s)) ≤ element_count xs
     go true h = omega arith
     go false h = h
 from_low (Credit k rs ∷ xs) s = let h = from_low xs s in omega (arith, h)
@@ -99,45 +97,47 @@ passed_entry e es h l k = cond-false (length es == h) (is_catch_entry e) (catch_
     apart false z = refl
     apart true z = let same : length es ≡ h = grind arith in let no_way : ⊥ = omega (arith, l, same) in absurd no_way
 
-guarded_height : (xs : List Element) (s : Name) (t : List Element) → Guards xs s t → suc (count t) ≤ count xs
-guarded_height xs s t g = let low = from_low xs s in let here : count (from xs s) ≡ suc (count t) = ap count g.5 in omega (arith, low, here)
+guarded_height : (xs : List Element) (s : Name) (t : List Element) → Guards xs s t → suc (element_count t) ≤ element_count xs
+guarded_height xs s t g = let low = from_low xs s in let here : element_count (from xs s)
+    ≡ suc (element_count t) = ap element_count g.5 in omega (arith, low, here)
 
-found_catch : (xs : List Element) (es : List Entry) (s : Name) (t : List Element) → erased xs ≡ held_entries es → Guards xs s t
-    → catch_at (count t) es ≡ true
+found_catch : (xs : List Element) (es : List Entry) (s : Name) (t : List Element) → erased xs ≡ height_entries es → Guards xs s t
+    → catch_at (element_count t) es ≡ true
 found_catch [] es s t e g = let z = g.5 in let no_way : ⊥ = cc in absurd no_way
 found_catch (EndOf n ∷ xs) es s t e g = go (same s n) g.5 (λ z. found_catch xs es s t e (g.0, g.1, g.2, g.3, g.4, z))
   where
     behind : (a b : Name) (ys zs : List Element) → ◌≡◌ {A = List Element} (EndOf a ∷ ys) (EndOf b ∷ zs) → ys ≡ zs
     behind a b ys zs h = cc
 
-    here : (es : List Entry) → erased (Catch s g.0 g.1 g.2 g.3 g.4 ∷ t) ≡ held_entries es → catch_at (count t) es ≡ true
+    here : (es : List Entry) → erased (Catch s g.0 g.1 g.2 g.3 g.4 ∷ t) ≡ height_entries es → catch_at (element_count t) es ≡ true
     here [] h = let no_way : ⊥ = cc in absurd no_way
     here (d ∷ ds) h =
-        let k = held_cons _ d (erased t) ds h in
-        let many : count t ≡ length ds = held_length t ds k.1 in
-        cond-true (length ds == count t) (is_catch_entry d) (catch_at (count t) ds)
-        (ap (λ n. length ds == n) many ∙ same_self (length ds)) ∙ ap is_catch_entry (sym k.0)
+        let k = height_cons _ d (erased t) ds h in
+        let many : element_count t ≡ length ds = height_length t ds k.1 in
+        cond-true (length ds == element_count t) (is_catch_entry d) (catch_at (element_count t) ds)
+        (ap (λ n. length ds == n) many ∙ number_same (length ds)) ∙ ap is_catch_entry (sym k.0)
 
     go : (b : Bool) → cond b (EndOf n ∷ xs) (from xs s) ≡ EndOf s ∷ Catch s g.0 g.1 g.2 g.3 g.4 ∷ t
-        → (from xs s ≡ EndOf s ∷ Catch s g.0 g.1 g.2 g.3 g.4 ∷ t → catch_at (count t) es ≡ true) → catch_at (count t) es ≡ true
+        → (from xs s ≡ EndOf s ∷ Catch s g.0 g.1 g.2 g.3 g.4 ∷ t → catch_at (element_count t) es ≡ true)
+        → catch_at (element_count t) es ≡ true
     go true z f = here es (ap erased (sym (behind n s xs (Catch s g.0 g.1 g.2 g.3 g.4 ∷ t) z)) ∙ e)
     go false z f = f z
 found_catch (Credit k rs ∷ xs) [] s t e g = let no_way : ⊥ = cc in absurd no_way
 found_catch (Credit k rs ∷ xs) (d ∷ es) s t e g = let no_way : ⊥ = cc in absurd no_way
 found_catch (Plain p f ∷ xs) [] s t e g = let no_way : ⊥ = cc in absurd no_way
-found_catch (Plain p f ∷ xs) (d ∷ es) s t e g = let k = (held_cons _ d (erased xs) es e).1 in let h = guarded_height xs s t g in
-    passed_entry d es (count t) (omega (arith, h, held_length xs es k)) (found_catch xs es s t k g)
+found_catch (Plain p f ∷ xs) (d ∷ es) s t e g = let k = (height_cons _ d (erased xs) es e).1 in let h = guarded_height xs s t g in
+    passed_entry d es (element_count t) (omega (arith, h, height_length xs es k)) (found_catch xs es s t k g)
 found_catch (Catch n u c r p f ∷ xs) [] s t e g = let no_way : ⊥ = cc in absurd no_way
-found_catch (Catch n u c r p f ∷ xs) (d ∷ es) s t e g = let k = (held_cons _ d (erased xs) es e).1 in let h = guarded_height xs s t g in
-    passed_entry d es (count t) (omega (arith, h, held_length xs es k)) (found_catch xs es s t k g)
+found_catch (Catch n u c r p f ∷ xs) (d ∷ es) s t e g = let k = (height_cons _ d (erased xs) es e).1 in let h = guarded_height xs s t g in
+    passed_entry d es (element_count t) (omega (arith, h, height_length xs es k)) (found_catch xs es s t k g)
 found_catch (Findall n u results l p f ∷ xs) [] s t e g = let no_way : ⊥ = cc in absurd no_way
-found_catch (Findall n u results l p f ∷ xs) (d ∷ es) s t e g = let k = (held_cons _ d (erased xs) es e).1 in let h = guarded_height xs
-    s t g in passed_entry d es (count t) (omega (arith, h, held_length xs es k)) (found_catch xs es s t k g)
+found_catch (Findall n u results l p f ∷ xs) (d ∷ es) s t e g = let k = (height_cons _ d (erased xs) es e).1 in let h = guarded_height xs
+    s t g in passed_entry d es (element_count t) (omega (arith, h, height_length xs es k)) (found_catch xs es s t k g)
 found_catch (End p b ∷ xs) [] s t e g = let no_way : ⊥ = cc in absurd no_way
-found_catch (End p b ∷ xs) (d ∷ es) s t e g = let k = (held_cons _ d (erased xs) es e).1 in let h = guarded_height xs s t g in
-    passed_entry d es (count t) (omega (arith, h, held_length xs es k)) (found_catch xs es s t k g)
+found_catch (End p b ∷ xs) (d ∷ es) s t e g = let k = (height_cons _ d (erased xs) es e).1 in let h = guarded_height xs s t g in
+    passed_entry d es (element_count t) (omega (arith, h, height_length xs es k)) (found_catch xs es s t k g)
 
-items_marked : (xs : List Element) (es : List Entry) (items : List (Item Name)) → erased xs ≡ held_entries es
+items_marked : (xs : List Element) (es : List Entry) (items : List (Item Name)) → erased xs ≡ height_entries es
     → Each (IsMarkSound xs) items → MarksAt es (map (with_height (height xs)) items)
 items_marked xs es [] e h = tt
 items_marked xs es (GoalItem t s ∷ items) e h = items_marked xs es items e h.1
@@ -145,13 +145,13 @@ items_marked xs es (CollectMark t s ∷ items) e h = items_marked xs es items e 
 items_marked xs es (RemovalItem n ∷ items) e h = items_marked xs es items e h.1
 items_marked xs es (CatchMark s ∷ items) e h =
     let g = h.0 in
-    let all : count (from xs s) ≡ suc (count g.under) = ap count g.found in
-    let here : height xs s - 1 ≡ count g.under = omega (arith, all) in (
+    let all : element_count (from xs s) ≡ suc (element_count g.under) = ap element_count g.found in
+    let here : height xs s - 1 ≡ element_count g.under = omega (arith, all) in (
       ap (λ n. catch_at n es) here ∙ found_catch xs es s g.under e (g.scope, g.catcher, g.recovery, g.name, g.after, g.found),
       items_marked xs es items e h.1,
     )
 
-pub named_marked : (xs : List Element) (es : List Entry) → IsSound xs → erased xs ≡ held_entries es → AllMarked es
+pub named_marked : (xs : List Element) (es : List Entry) → IsSound xs → erased xs ≡ height_entries es → AllMarked es
 named_marked [] [] i e = tt
 named_marked [] (d ∷ es) i e = tt_none
   where
@@ -161,21 +161,23 @@ named_marked (EndOf s ∷ xs) es i e = named_marked xs es i e
 named_marked (Credit k rs ∷ xs) [] i e = tt
 named_marked (Credit k rs ∷ xs) (d ∷ es) i e = let no_way : ⊥ = cc in absurd no_way
 named_marked (Plain p f ∷ xs) [] i e = tt
-named_marked (Plain p f ∷ xs) (d ∷ es) i e = let k = held_cons (PlainEntry (with_heights (height xs) f)) d (erased xs) es e in
+named_marked (Plain p f ∷ xs) (d ∷ es) i e = let k = height_cons (PlainEntry (continuation_heights (height xs) f)) d (erased xs) es e in
     (subst (EntryMarked es) k.0 (items_marked xs es f.items k.1 i.0.marks), named_marked xs es i.1 k.1)
 named_marked (Catch s u c r p f ∷ xs) [] i e = tt
-named_marked (Catch s u c r p f ∷ xs) (d ∷ es) i e = let k = held_cons (CatchEntry c r (with_heights (height xs) f)) d (erased xs) es
+named_marked (Catch s u c r p f ∷ xs) (d ∷ es) i e = let k = height_cons (CatchEntry c r (continuation_heights (height xs) f)) d
+    (erased xs) es
     e in (subst (EntryMarked es) k.0 (items_marked xs es f.items k.1 i.0.marks), named_marked xs es i.2 k.1)
 named_marked (Findall s u results l p f ∷ xs) [] i e = tt
-named_marked (Findall s u results l p f ∷ xs) (d ∷ es) i e = let k = held_cons (FindallEntry results l (with_heights (height xs) f)) d
+named_marked (Findall s u results l p f ∷ xs) (d ∷ es) i e = let k = height_cons
+    (FindallEntry results l (continuation_heights (height xs) f)) d
     (erased xs) es e in (subst (EntryMarked es) k.0 (items_marked xs es f.items k.1 i.0.marks), named_marked xs es i.3 k.1)
 named_marked (End p b ∷ xs) [] i e = tt
-named_marked (End p b ∷ xs) (d ∷ es) i e = let k = held_cons (EndEntry b) d (erased xs) es e in
+named_marked (End p b ∷ xs) (d ∷ es) i e = let k = height_cons (EndEntry b) d (erased xs) es e in
     (subst (EntryMarked es) k.0 tt, named_marked xs es i k.1)
 
 -- where a Catch entry may be
 pub catch_low : (h : ℕ) (es : List Entry) → catch_at h es ≡ true → suc h ≤ length es
-catch_low h [] k = clash k
+catch_low h [] k = false_true k
 catch_low h (e ∷ es) k = go (length es == h) refl k (catch_low h es)
   where
     go : (b : Bool) → (length es == h) ≡ b → cond b (is_catch_entry e) (catch_at h es) ≡ true
@@ -184,15 +186,10 @@ catch_low h (e ∷ es) k = go (length es == h) refl k (catch_low h es)
     go false q z f = let l = f z in omega (arith, l)
 
 guard_none : (e : Entry) → is_guard e ≡ false → is_catch_entry e ≡ false
-guard_none (CatchEntry c r f) h = clash (sym h)
+guard_none (CatchEntry c r f) h = false_true (sym h)
 guard_none (PlainEntry f) h = refl
 guard_none (FindallEntry results l f) h = refl
 guard_none (EndEntry b) h = refl
-
-neither : (a b : Bool) → (a || b) ≡ false → (a ≡ false) × (b ≡ false)
-neither false false h = (refl, refl)
-neither false true h = clash (sym h)
-neither true b h = clash (sym h)
 
 pub no_guard_catch : (h : ℕ) (olds es : List Entry) → list_any is_guard olds ≡ false → catch_at h (olds ++ es) ≡ true → catch_at h es ≡ true
 no_guard_catch h [] es n k = k
@@ -201,5 +198,5 @@ no_guard_catch h (o ∷ olds) es n k = go (length (olds ++ es) == h) k
   where
     go : (b : Bool) → cond b (is_catch_entry o) (catch_at h (olds ++ es)) ≡ true
         → (catch_at h (olds ++ es) ≡ true → catch_at h es ≡ true) → catch_at h es ≡ true
-    go true z f = clash (sym (guard_none o (neither (is_guard o) (list_any is_guard olds) n).0) ∙ z)
+    go true z f = false_true (sym (guard_none o (neither (is_guard o) (list_any is_guard olds) n).0) ∙ z)
     go false z f = f z

@@ -5,29 +5,30 @@ use Rattle.std.proofs.Common.{arith}
 use Rattle.run_model.specs.Machine.Items.{Item, GoalItem, CatchMark, CollectMark, RemovalItem, Continuation}
 use Rattle.run_model.specs.Machine.Entries.{Entry, PlainEntry, CatchEntry, FindallEntry, EndEntry}
 use Rattle.tree_model.specs.Elements.{Name, Element, EndOf, End}
-use Rattle.interleaving.specs.HeightMachine.{HeightEntry, held_entries}
-use Rattle.interleaving.specs.Erased.{from, count, height, with_height, erased}
+use Rattle.interleaving.specs.HeightMachine.{HeightEntry, height_entries}
+use Rattle.interleaving.specs.Erased.{from, element_count, height, with_height, erased}
 use Rattle.interleaving.specs.OwnRuns.{IsFloor}
 use Rattle.tree_model.specs.Levels.{Level}
 use Rattle.tree_model.specs.Nodes.{Hold, Ready, TakenBy, Waiting, Dormant, Alternatives, none, alternative, Pending, Inner, Closed}
 use Rattle.tree_model.specs.Floors.{renamed_item, renamed_entry, height_of, with_heights, right_entry, floor_of}
 use Rattle.tree_model.specs.PendingLists.{Step, Way, way_of, step_of, step_name, scope_on, element_at}
-use Rattle.interleaving.proofs.WayLemmas.{cond-true, cond-false, same_self}
+use Rattle.interleaving.proofs.WayLemmas.{cond-true, cond-false}
 use Rattle.interleaving.proofs.NamingLemmas.{from_end, from_own}
 use Rattle.tree_model.specs.Ways.{is_on}
 use Rattle.interleaving.proofs.RoundtripLemmas.{IsPath}
+use Rattle.interleaving.proofs.TestLemmas.{number_same}
 
 -- what sleeps to the right of an alternative, and its end; in its place, where nothing sleeps, an end of a query that
 -- takes no ball
-abbrev pub held_named : ℕ → ℕ → Way → Hold → Entry → List Element
-held_named n i way Dormant e = element_at n i way e ∷ EndOf (i ∷ n ∷ []) ∷ []
-held_named n i way Ready e = End [] None ∷ []
-held_named n i way (TakenBy w) e = End [] None ∷ []
-held_named n i way (Waiting g) e = End [] None ∷ []
+abbrev pub hold_named : ℕ → ℕ → Way → Hold → Entry → List Element
+hold_named n i way Dormant e = element_at n i way e ∷ EndOf (i ∷ n ∷ []) ∷ []
+hold_named n i way Ready e = End [] None ∷ []
+hold_named n i way (TakenBy w) e = End [] None ∷ []
+hold_named n i way (Waiting g) e = End [] None ∷ []
 
 abbrev pub right_named : ℕ → ℕ → Way → Alternatives → List Element
 right_named n i way none = End [] None ∷ []
-right_named n i way (alternative spent (Pending hold e) others) = held_named n i way hold e
+right_named n i way (alternative spent (Pending hold e) others) = hold_named n i way hold e
 right_named n i way (alternative spent (Inner node) others) = End [] None ∷ []
 right_named n i way (alternative spent (Closed c) others) = End [] None ∷ []
 
@@ -44,7 +45,8 @@ floor_named [] = []
 floor_named (v ∷ up) = right_named v.number (suc (length v.left)) (way_of up) v.right ++ below_named up
 
 -- an element's count, and what it ends: nothing
-pub count-element : (n i : ℕ) (way : Way) (e : Entry) (xs : List Element) → count (element_at n i way e ∷ xs) ≡ suc (count xs)
+pub count-element : (n i : ℕ) (way : Way) (e : Entry) (xs : List Element) → element_count (element_at n i way e ∷ xs)
+    ≡ suc (element_count xs)
 count-element n i way (PlainEntry f) xs = refl
 count-element n i way (CatchEntry c r f) xs = refl
 count-element n i way (FindallEntry results l f) xs = refl
@@ -73,8 +75,8 @@ pub from-other : (way : Way) (s i n : ℕ) (xs : List Element) → (s ≡ n → 
     ≡ from xs (scope_on way s)
 from-other way s i n xs h = from_end (i ∷ n ∷ []) (scope_on way s) xs (scope_other way s i n h)
 
-pub count-right : (n i : ℕ) (way : Way) (right : Alternatives) (xs : List Element) → count (right_named n i way right ++ xs)
-    ≡ suc (count xs)
+pub count-right : (n i : ℕ) (way : Way) (right : Alternatives) (xs : List Element) → element_count (right_named n i way right ++ xs)
+    ≡ suc (element_count xs)
 count-right n i way none xs = refl
 count-right n i way (alternative spent (Inner node) others) xs = refl
 count-right n i way (alternative spent (Closed c) others) xs = refl
@@ -95,7 +97,7 @@ from-right n i way (alternative spent (Pending (Waiting g) e) others) xs s h = r
 from-right n i way (alternative spent (Pending Dormant e) others) xs s h = from-element n i way e (EndOf (i ∷ n ∷ []) ∷ xs) s
     ∙ from_end (i ∷ n ∷ []) s xs h
 
-pub count-below : (levels : List Level) → count (below_named levels) ≡ length levels
+pub count-below : (levels : List Level) → element_count (below_named levels) ≡ length levels
 count-below [] = refl
 count-below (v ∷ up) = count-right v.number (suc (length v.left)) (way_of up) v.right (below_named up) ∙ ap suc (count-below up)
 
@@ -124,11 +126,11 @@ low_height (v ∷ up) s = go (v.number == s) refl (low_height up s)
         ≡ cond b (suc (length up)) (height_of up s)
     go true k f =
         let rest = right_named v.number (suc (length v.left)) (way_of up) v.right ++ below_named up in
-        ap count (from_own (step_name (step_of v)) rest) ∙ count-below (v ∷ up)
-    go false k f = ap count (from-level v up s (λ e. clash (sym k ∙ other e))) ∙ f
+        ap element_count (from_own (step_name (step_of v)) rest) ∙ count-below (v ∷ up)
+    go false k f = ap element_count (from-level v up s (λ e. clash (sym k ∙ other e))) ∙ f
       where
         other : s ≡ v.number → (v.number == s) ≡ true
-        other e = ap (λ m. v.number == m) e ∙ same_self v.number
+        other e = ap (λ m. v.number == m) e ∙ number_same v.number
 
         clash : false ≡ true → ⊥
         clash z = cc
@@ -173,7 +175,7 @@ scope_never (a ∷ way) s i n h e = go (a.node == s) (a.node == n) refl (scope_n
     go : (b c : Bool) → (a.node == n) ≡ c → (is_on way n ≡ false → scope_on way s ≡ i ∷ n ∷ [] → ⊥) → cond c true (is_on way n) ≡ false
         → cond b (step_name a) (scope_on way s) ≡ i ∷ n ∷ [] → ⊥
     go b true k f o z = clash o
-    go true false k f o z = clash (sym (same_self n) ∙ ap (λ m. m == n) (sym (same_last a.index a.node z)) ∙ k)
+    go true false k f o z = clash (sym (number_same n) ∙ ap (λ m. m == n) (sym (same_last a.index a.node z)) ∙ k)
     go false false k f o z = f o z
 
 -- past the end of a sleeper, whose node isn't on the way above
@@ -193,9 +195,9 @@ right_erased n i levels (alternative spent (Pending (TakenBy w) e) others) p = r
 right_erased n i levels (alternative spent (Pending (Waiting g) e) others) p = refl
 right_erased n i levels (alternative spent (Pending Dormant e) others) p =
     entry_low n i (way_of levels) e (EndOf (i ∷ n ∷ []) ∷ below_named levels) (height_of levels)
-    (λ s. ap count (from-beside (way_of levels) s i n (below_named levels) p) ∙ low_height levels s)
+    (λ s. ap element_count (from-beside (way_of levels) s i n (below_named levels) p) ∙ low_height levels s)
 
-pub below_erased : (levels : List Level) → IsPath (way_of levels) → erased (below_named levels) ≡ held_entries (floor_of levels)
+pub below_erased : (levels : List Level) → IsPath (way_of levels) → erased (below_named levels) ≡ height_entries (floor_of levels)
 below_erased [] p = refl
 below_erased (v ∷ up) p = right_erased v.number (suc (length v.left)) up v.right p.0
     ∙ ap (λ l. HeightEntry (with_heights up (right_entry v.right)) ∷ l) (below_erased up p.1)

@@ -8,7 +8,8 @@ use Rattle.run_model.specs.Goals.Outcomes.{Outcome, Replies, Controls, AskWorld}
 use Rattle.run_model.specs.Goals.GoalOutcomes.{outcome_of}
 use Rattle.run_model.specs.Goals.Worlds.{World, world_step}
 use Rattle.run_model.specs.Machine.Balls.{unwound}
-use Rattle.run_model.specs.Machine.Items.{Item, GoalItem, CatchMark, CollectMark, RemovalItem, Continuation, with_items, without_marks, first_mark}
+use Rattle.run_model.specs.Machine.Items.{Item, GoalItem, CatchMark, CollectMark, RemovalItem, Continuation, with_items, without_marks}
+use Rattle.run_model.specs.Machine.Items.{first_mark}
 use Rattle.run_model.specs.Machine.Entries.{Entry, PlainEntry, CatchEntry, FindallEntry, EndEntry}
 use Rattle.tree_model.specs.Nodes.{Gate, CutGate, BallGate, WorldGate, FrozenGate, Hold, Ready, TakenBy, Waiting, Dormant, Pending}
 use Rattle.tree_model.specs.Levels.{Level, Place, same_place, Spot, levels_of, place_of_spot}
@@ -17,7 +18,7 @@ use Rattle.tree_model.specs.PrivateRuns.{goal_alone, item_alone, taken_alone}
 use Rattle.tree_model.specs.Pruning.{Task}
 use Rattle.tree_model.specs.FrontGates.{Taken, Continues, Answered, Raises, Halts, QueryEnds, reply_taken, goal_at_front}
 use Rattle.tree_model.specs.FrontGates.{removal_at_front, item_at_front, taken_at_front}
-use Rattle.tree_model.specs.TreeStates.{TreeState, pending}
+use Rattle.tree_model.specs.TreeStates.{TreeState, pending_spots}
 use Rattle.tree_model.specs.Legality.{is_ready, is_taken_by, is_spot_at, claimable, may_resume, taken_at, run_fits, may_prune, at_spot}
 use Rattle.tree_model.specs.Effects.{with_status, or_none, gate_pruned, front_taken, run_placed, where_some}
 use Rattle.tree_model.specs.HandOuts.{Handed, Never, Away, Over, claimed, given_back}
@@ -25,14 +26,15 @@ use Rattle.tree_model.specs.SoundTrees.{IsSoundTree}
 use Rattle.interleaving.proofs.AppendLemmas.{found}
 use Rattle.interleaving.proofs.WayLemmas.{cond-true}
 use Rattle.interleaving.proofs.PluggedLemmas.{IsIn, all_in}
-use Rattle.interleaving.proofs.BallLemmas.{IsLow, landing_low}
+use Rattle.interleaving.proofs.BallLemmas.{IsLow, ball_scope_low}
 use Rattle.interleaving.proofs.PlacedSoundLemmas.{two_not_one}
 use Rattle.interleaving.proofs.HandOutCountLemmas.{handed}
-use Rattle.interleaving.proofs.UnchangedPlaceLemmas.{and_first, and_second, same_place-is}
+use Rattle.interleaving.proofs.UnchangedPlaceLemmas.{same_place-is}
 use Rattle.interleaving.proofs.OpenSpotLemmas.{if_room-some}
-use Rattle.interleaving.proofs.OnceLemmas.{IsGoing, IsKept, moved_at, here, all_defined, IsThere, there, IsMoved, moved_going}
-use Rattle.interleaving.proofs.OncePlaceLemmas.{held_going}
+use Rattle.interleaving.proofs.OnceLemmas.{IsGoing, IsPreserved, moved_at, here, all_defined, IsThere, there, IsMoved, moved_going}
+use Rattle.interleaving.proofs.OncePlaceLemmas.{hold_going}
 use Rattle.interleaving.proofs.OnceChangeLemmas.{closed_moved, left_moved, cut_moved, fall_moved, opens_moved, placed_moved}
+use Rattle.au_term.proofs.LogicLemmas.{and-right, and-left}
 
 -- a tree after a closing event, unless it was halted
 pub record Moves (F : Place → Option Handed) (t new : TreeState) (s : Spot) : Type 0 where
@@ -53,27 +55,28 @@ pub record IsTaken (w : ℕ) (a : Place) (t : TreeState) (s : Spot) : Type 0 whe
 
 pub taken_here : (w : ℕ) (a : Place) (t : TreeState) (s : Spot) → taken_at w a t ≡ Some s → IsTaken w a t s
 taken_here w a t s e =
-    let f = found (IsIn t.root) (λ r. is_taken_by w r.hold && same_place a (place_of_spot r)) (pending t) s (all_in t.root) e in
+    let f = found (IsIn t.root) (λ r. is_taken_by w r.hold && same_place a (place_of_spot r)) (pending_spots t) s (all_in t.root) e in
     record {
       inside = f.holds;
-      held = and_first (is_taken_by w s.hold) _ f.passes;
+      held = and-left (is_taken_by w s.hold) _ f.passes;
       here_is = same_place-is a (place_of_spot s)
-          (and_second (is_taken_by w s.hold) _ f.passes);
+          (and-right (is_taken_by w s.hold) _ f.passes);
     }
 
-pub closing : (G : Place → Option Handed) (t : TreeState) (w : ℕ) (a : Place) (test : Spot → Bool) (new : Spot → TreeState) → IsKept G t
+pub closing : (G : Place → Option Handed) (t : TreeState) (w : ℕ) (a : Place) (test : Spot → Bool) (new : Spot → TreeState)
+    → IsPreserved G t
     → t.halted ≡ None → IsSoundTree t → (o : Option Spot) → taken_at w a t ≡ o → at_spot o test ≡ true
     → IsSoundTree (where_some o t new) →
     ((s : Spot) → test s ≡ true → IsGoing G t → IsThere G t s → (new s).halted ≡ None
     → Moves (moved_at G (place_of_spot s) (given_back Over w)) t (new s) s)
-    → IsKept (moved_at G a (given_back Over w)) (where_some o t new)
+    → IsPreserved (moved_at G a (given_back Over w)) (where_some o t new)
 closing G t w a test new k z st None e h sn f = let no_way : ⊥ = cc in absurd no_way
 closing G t w a test new k z st (Some s) e h sn f =
     let i = taken_here w a t s e in
     let g = k.going z in
     let th = there G t s g st i.inside in
     let q = taken_out w Over s.hold i.held in
-    subst (λ p. IsKept (moved_at G p (given_back Over w)) (new s)) (sym i.here_is) (record {
+    subst (λ p. IsPreserved (moved_at G p (given_back Over w)) (new s)) (sym i.here_is) (record {
       defined = all_defined G (place_of_spot s) (given_back Over w) Over k.defined
           (here G (place_of_spot s) (given_back Over w) (handed s.hold) Over th.mine q);
       going = λ y. let m = f s h g th y in moved_going G t (new s) s (given_back Over w) Over m.gone k.defined g st th q sn m.moved;
@@ -91,7 +94,7 @@ low_some n (e ∷ es) h = tt
 goal_some : (levels : List Level) (o : Outcome) (h : ℕ) (f : Continuation ℕ) (es : List Entry)
     → may_prune levels (goal_gate levels o h f es) ≡ true → LeavesSome (goal_alone o h f es)
 goal_some levels (Replies (Ball b)) h f es e = low_some (length es) (unwound b (first_mark f.items) es)
-    (landing_low b (first_mark f.items) es)
+    (ball_scope_low b (first_mark f.items) es)
 goal_some levels (Replies (Solutions ss)) h f es e = let no_way : ⊥ = cc in absurd no_way
 goal_some levels (Replies (HaltNumber k)) h f es e = let no_way : ⊥ = cc in absurd no_way
 goal_some levels (Controls CutToScope) h f es e = tt
@@ -139,7 +142,7 @@ IsWhole QueryEnds = Unit {0}
 
 reply_whole : (r : Reply) (f : Continuation ℕ) (es : List Entry) → IsWhole (reply_taken r f es)
 reply_whole (Solutions ss) f es = tt
-reply_whole (Ball b) f es = low_some (length es) (unwound b (first_mark f.items) es) (landing_low b (first_mark f.items) es)
+reply_whole (Ball b) f es = low_some (length es) (unwound b (first_mark f.items) es) (ball_scope_low b (first_mark f.items) es)
 reply_whole (HaltNumber k) f es = tt
 
 goal_whole : (clauses : List Clause) (o : Outcome) (f : Continuation ℕ) (es : List Entry) (w : World)
@@ -180,22 +183,22 @@ answer_moves G t s w d g th v QueryEnds h n = record { gone = []; moved = opens_
 pub nodes_move : (G : Place → Option Handed) (t : TreeState) (s : Spot) (w k : ℕ) (sizes : List ℕ) (d : (a : Place) → G a ≢ None)
     → IsGoing G t → IsThere G t s → (o : Option (List Entry)) → (nat_le 1 k && run_fits (length (levels_of s)) sizes o) ≡ true
     → Moves (moved_at G (place_of_spot s) (given_back Over w)) t (run_placed s k sizes o t) s
-nodes_move G t s w k sizes d g th None h = let no_way : ⊥ = clash (and_second (nat_le 1 k) false h) in absurd no_way
+nodes_move G t s w k sizes d g th None h = let no_way : ⊥ = clash (and-right (nat_le 1 k) false h) in absurd no_way
   where
     clash : false ≡ true → ⊥
     clash z = cc
 nodes_move G t s w k (size ∷ sizes) d g th (Some es) h = record
     { gone = []; moved = placed_moved G t s (given_back Over w) d g th k size sizes es }
-nodes_move G t s w k [] d g th (Some []) h = let no_way : ⊥ = clash (and_second (nat_le 1 k) false h) in absurd no_way
+nodes_move G t s w k [] d g th (Some []) h = let no_way : ⊥ = clash (and-right (nat_le 1 k) false h) in absurd no_way
   where
     clash : false ≡ true → ⊥
     clash z = cc
-nodes_move G t s w k [] d g th (Some (e ∷ [])) h = let no_way : ⊥ = clash (and_second (nat_le 1 k) false h) in absurd no_way
+nodes_move G t s w k [] d g th (Some (e ∷ [])) h = let no_way : ⊥ = clash (and-right (nat_le 1 k) false h) in absurd no_way
   where
     clash : false ≡ true → ⊥
     clash z = cc
 nodes_move G t s w k [] d g th (Some (e ∷ x ∷ es)) h = let no_way : ⊥ = clash
-    (sym (two_not_one e x es) ∙ and_second (nat_le 1 k) _ h) in absurd no_way
+    (sym (two_not_one e x es) ∙ and-right (nat_le 1 k) _ h) in absurd no_way
   where
     clash : false ≡ true → ⊥
     clash z = cc
@@ -216,23 +219,24 @@ waiting_away s Dormant e = let no_way : ⊥ = cc in absurd no_way
 pub spot_is : (a : Place) (s : Spot) → is_spot_at a (Some s) ≡ true → a ≡ place_of_spot s
 spot_is a s h = same_place-is a (place_of_spot s) h
 
-pub holding : (G : Place → Option Handed) (t : TreeState) (a : Place) (tr : Handed → Option Handed) (hold : Hold) (s : Spot) → IsKept G t
+pub holding : (G : Place → Option Handed) (t : TreeState) (a : Place) (tr : Handed → Option Handed) (hold : Hold) (s : Spot)
+    → IsPreserved G t
     → t.halted ≡ None → IsSoundTree t → a ≡ place_of_spot s → IsIn t.root s → tr (handed s.hold) ≡ Some (handed hold)
-    → IsKept (moved_at G a tr) (with_status s (Pending hold s.entry) t)
+    → IsPreserved (moved_at G a tr) (with_status s (Pending hold s.entry) t)
 holding G t a tr hold s k z st e i q =
     let g = k.going z in
     let th = there G t s g st i in
-    subst (λ p. IsKept (moved_at G p tr) (with_status s (Pending hold s.entry) t)) (sym e) (record {
+    subst (λ p. IsPreserved (moved_at G p tr) (with_status s (Pending hold s.entry) t)) (sym e) (record {
       defined = all_defined G (place_of_spot s) tr (handed hold) k.defined
           (here G (place_of_spot s) tr (handed s.hold) (handed hold) th.mine q);
-      going = λ y. held_going G t s tr hold k.defined g th q;
+      going = λ y. hold_going G t s tr hold k.defined g th q;
     })
 
-pub claim_kept : (G : Place → Option Handed) (t : TreeState) (w : ℕ) (a : Place) → IsKept G t → t.halted ≡ None → IsSoundTree t
+pub claim_preserved : (G : Place → Option Handed) (t : TreeState) (w : ℕ) (a : Place) → IsPreserved G t → t.halted ≡ None → IsSoundTree t
     → (o : Option Spot) → claimable t ≡ o → is_spot_at a o ≡ true
-    → IsKept (moved_at G a (claimed w)) (where_some o t (λ s. with_status s (Pending (TakenBy w) s.entry) t))
-claim_kept G t w a k z st None e h = let no_way : ⊥ = cc in absurd no_way
-claim_kept G t w a k z st (Some s) e h =
-    let f = found (IsIn t.root) (λ r. is_ready r.hold) (pending t) s (all_in t.root)
-    (if_room-some t (find (λ r. is_ready r.hold) (pending t)) s e) in
+    → IsPreserved (moved_at G a (claimed w)) (where_some o t (λ s. with_status s (Pending (TakenBy w) s.entry) t))
+claim_preserved G t w a k z st None e h = let no_way : ⊥ = cc in absurd no_way
+claim_preserved G t w a k z st (Some s) e h =
+    let f = found (IsIn t.root) (λ r. is_ready r.hold) (pending_spots t) s (all_in t.root)
+    (if_room-some t (find (λ r. is_ready r.hold) (pending_spots t)) s e) in
     holding G t a (claimed w) (TakenBy w) s k z st (spot_is a s h) f.holds (ap (claimed w) (ready_never s.hold f.passes))

@@ -11,41 +11,43 @@ use Rattle.tree_model.specs.PrivateRuns.{taken_alone}
 use Rattle.tree_model.specs.Pruning.{Task}
 use Rattle.tree_model.specs.FrontGates.{taken_at_front}
 use Rattle.tree_model.specs.Events.{Event, Claim, Nodes, Empty, Collected, Lost, Suspend, Resume, Prune, Answer, Stop}
-use Rattle.tree_model.specs.TreeStates.{TreeState, opening_root, opening_tree, pending, leftmost, ended, end_by}
+use Rattle.tree_model.specs.TreeStates.{TreeState, opening_root, opening_tree, pending_spots, leftmost, ended, end_by}
 use Rattle.tree_model.specs.Legality.{is_spot_at, claimable, may_resume, resumable, taken_at, gate_of, run_of, is_task, at_spot}
 use Rattle.tree_model.specs.Legality.{is_allowed, is_legal}
-use Rattle.tree_model.specs.Effects.{with_status, closed_with, or_none, gate_pruned, world_moved, stack_of, run_placed, without_task}
+use Rattle.tree_model.specs.Effects.{with_status, closed_with, or_none, gate_pruned, world_moved, spot_stack, run_placed, without_task}
 use Rattle.tree_model.specs.Effects.{where_some, gate_or_frozen, after_allowed, after_event}
 use Rattle.tree_model.specs.Histories.{are_legal}
 use Rattle.tree_model.specs.HandOuts.{Handed, Never, Out, Away, Over, resumed, given_back, handed_by, and_so_on, handed_after}
 use Rattle.tree_model.specs.Promises.{Once}
 use Rattle.tree_model.specs.SoundTrees.{one_if, IsSoundTree}
 use Rattle.interleaving.proofs.AppendLemmas.{found}
-use Rattle.interleaving.proofs.WayLemmas.{cond-true, cond-false, same_self}
+use Rattle.interleaving.proofs.WayLemmas.{cond-true, cond-false}
 use Rattle.interleaving.proofs.PluggedLemmas.{IsIn, all_in}
-use Rattle.interleaving.proofs.HandOutCountLemmas.{handed, at, kept_root}
+use Rattle.interleaving.proofs.HandOutCountLemmas.{handed, at, preserved_root}
 use Rattle.interleaving.proofs.HandOutPlaceLemmas.{tasks_at, IsOut}
 use Rattle.interleaving.proofs.LegalLemmas.{allowed_sound, event_sound, opening_sound}
-use Rattle.interleaving.proofs.UnchangedPlaceLemmas.{and_first, and_second, same_place-is, place_self}
-use Rattle.interleaving.proofs.OnceLemmas.{IsKept, after_one, moved_at, elsewhere, here, all_defined, lost_elsewhere}
+use Rattle.interleaving.proofs.UnchangedPlaceLemmas.{same_place-is, place_self}
+use Rattle.interleaving.proofs.OnceLemmas.{IsPreserved, after_one, moved_at, elsewhere, here, all_defined, lost_elsewhere}
 use Rattle.interleaving.proofs.OnceChangeLemmas.{closed_moved}
 use Rattle.interleaving.proofs.OnceEventLemmas.{taken_out, taken_here, closing, stack_some, prune_moves, front_whole, answer_moves}
-use Rattle.interleaving.proofs.OnceEventLemmas.{nodes_move, waiting_away, spot_is, holding, claim_kept}
+use Rattle.interleaving.proofs.OnceEventLemmas.{nodes_move, waiting_away, spot_is, holding, claim_preserved}
+use Rattle.au_term.proofs.LogicLemmas.{and-right, and-left}
+use Rattle.interleaving.proofs.TestLemmas.{number_same}
 
-resume_kept : (G : Place → Option Handed) (t : TreeState) (w : ℕ) (a : Place) → IsKept G t → t.halted ≡ None → IsSoundTree t
+resume_preserved : (G : Place → Option Handed) (t : TreeState) (w : ℕ) (a : Place) → IsPreserved G t → t.halted ≡ None → IsSoundTree t
     → (o : Option Spot) → resumable t ≡ o → is_spot_at a o ≡ true
-    → IsKept (moved_at G a (resumed w)) (where_some o t (λ s. with_status s (Pending (TakenBy w) s.entry) t))
-resume_kept G t w a k z st None e h = let no_way : ⊥ = cc in absurd no_way
-resume_kept G t w a k z st (Some s) e h =
-    let f = found (IsIn t.root) (λ r. may_resume r r.hold) (pending t) s (all_in t.root) e in
+    → IsPreserved (moved_at G a (resumed w)) (where_some o t (λ s. with_status s (Pending (TakenBy w) s.entry) t))
+resume_preserved G t w a k z st None e h = let no_way : ⊥ = cc in absurd no_way
+resume_preserved G t w a k z st (Some s) e h =
+    let f = found (IsIn t.root) (λ r. may_resume r r.hold) (pending_spots t) s (all_in t.root) e in
     holding G t a (resumed w) (TakenBy w) s k z st (spot_is a s h) f.holds (ap (resumed w) (waiting_away s s.hold f.passes))
 
-suspend_kept : (G : Place → Option Handed) (t : TreeState) (w : ℕ) (a : Place) (frozen : Bool) (test : Spot → Bool) → IsKept G t
+suspend_preserved : (G : Place → Option Handed) (t : TreeState) (w : ℕ) (a : Place) (frozen : Bool) (test : Spot → Bool) → IsPreserved G t
     → t.halted ≡ None → IsSoundTree t → (o : Option Spot) → taken_at w a t ≡ o → at_spot o test ≡ true
-    → IsKept (moved_at G a (given_back Away w))
+    → IsPreserved (moved_at G a (given_back Away w))
     (where_some o t (λ s. with_status s (Pending (gate_or_frozen frozen (gate_of t s)) s.entry) t))
-suspend_kept G t w a frozen test k z st None e h = let no_way : ⊥ = cc in absurd no_way
-suspend_kept G t w a frozen test k z st (Some s) e h =
+suspend_preserved G t w a frozen test k z st None e h = let no_way : ⊥ = cc in absurd no_way
+suspend_preserved G t w a frozen test k z st (Some s) e h =
     let i = taken_here w a t s e in
     holding G t a (given_back Away w) (gate_or_frozen frozen (gate_of t s)) s k z st i.here_is i.inside
     (taken_out w Away s.hold i.held ∙ ap (λ x. Some x) (sym (waits frozen (gate_of t s))))
@@ -57,7 +59,7 @@ suspend_kept G t w a frozen test k z st (Some s) e h =
 
 -- a task that was pruned comes back
 is_its : (w : ℕ) (a : Place) (task : Task) → is_task w a task ≡ true → (task.at ≡ a) × (task.worker ≡ w)
-is_its w a task h = (same_place-is task.at a (and_second (task.worker == w) _ h), number task.worker w (and_first (task.worker == w) _ h))
+is_its w a task h = (same_place-is task.at a (and-right (task.worker == w) _ h), number task.worker w (and-left (task.worker == w) _ h))
   where
     number : (m n : ℕ) → (m == n) ≡ true → m ≡ n
     number m n e = grind arith
@@ -96,19 +98,19 @@ comes_back G w a (task ∷ tasks) o h = go (is_task w a task) refl (comes_back G
           others = subst (Each (IsOut G)) (sym same) (o.0, r.others);
         }
 
-lost_kept : (G : Place → Option Handed) (t : TreeState) (w : ℕ) (a : Place) → IsKept G t → t.halted ≡ None
-    → list_any (is_task w a) t.lost ≡ true → IsKept (moved_at G a (given_back Over w)) (record t { lost = without_task w a t.lost })
-lost_kept G t w a k z h =
+lost_preserved : (G : Place → Option Handed) (t : TreeState) (w : ℕ) (a : Place) → IsPreserved G t → t.halted ≡ None
+    → list_any (is_task w a) t.lost ≡ true → IsPreserved (moved_at G a (given_back Over w)) (record t { lost = without_task w a t.lost })
+lost_preserved G t w a k z h =
     let g = k.going z in
     let r = comes_back G w a t.lost g.lost h in
-    let q : given_back Over w (Out w) ≡ Some Over = cond-true (w == w) (Some Over) None (same_self w) in
+    let q : given_back Over w (Out w) ≡ Some Over = cond-true (w == w) (Some Over) None (number_same w) in
     let now : moved_at G a (given_back Over w) a ≡ Some Over = here G a (given_back Over w) (Out w) Over r.mine q in
     let e = elsewhere G a (given_back Over w) k.defined in
     let one = g.once a in
     record {
       defined = all_defined G a (given_back Over w) Over k.defined now;
       going = λ y. record {
-        agrees = kept_root G (moved_at G a (given_back Over w)) a e t.root (omega (arith, r.one_less, one)) g.agrees;
+        agrees = preserved_root G (moved_at G a (given_back Over w)) a e t.root (omega (arith, r.one_less, one)) g.agrees;
         new = λ b l. new_at b l (same_place a b) refl;
         lost = lost_elsewhere G (moved_at G a (given_back Over w)) a e (without_task w a t.lost) (omega (arith, r.one_less, one)) r.others;
         once = λ b. omega (arith, r.less b, g.once b);
@@ -126,39 +128,40 @@ lost_kept G t w a k z h =
     new_at b l false e = elsewhere G a (given_back Over w) k.defined b e ∙ (k.going z).new b l
 
 -- each event
-same_kept : (G F : Place → Option Handed) (t : TreeState) → ((a : Place) → G a ≡ F a) → IsKept G t → IsKept F t
-same_kept G F t e k = let path : G ≡ F = λ i a. e a i in subst (λ H. IsKept H t) path k
+same_preserved : (G F : Place → Option Handed) (t : TreeState) → ((a : Place) → G a ≡ F a) → IsPreserved G t → IsPreserved F t
+same_preserved G F t e k = let path : G ≡ F = λ i a. e a i in subst (λ H. IsPreserved H t) path k
 
-allowed_kept : (G : Place → Option Handed) (t : TreeState) (e : Event) → IsKept G t → t.halted ≡ None → IsSoundTree t → is_allowed t e
-    ≡ true → IsKept (after_one G e) (after_allowed t e)
+allowed_preserved : (G : Place → Option Handed) (t : TreeState) (e : Event) → IsPreserved G t → t.halted ≡ None → IsSoundTree t
+    → is_allowed t e
+    ≡ true → IsPreserved (after_one G e) (after_allowed t e)
 unfolding gate_of
-allowed_kept G t (Claim w a) k z st h = claim_kept G t w a k z st (claimable t) refl h
-allowed_kept G t (Resume w a) k z st h = resume_kept G t w a k z st (resumable t) refl h
-allowed_kept G t (Suspend w a true) k z st h = suspend_kept G t w a true _ k z st (taken_at w a t) refl h
-allowed_kept G t (Suspend w a false) k z st h = suspend_kept G t w a false _ k z st (taken_at w a t) refl h
-allowed_kept G t (Nodes w a n sizes) k z st h =
+allowed_preserved G t (Claim w a) k z st h = claim_preserved G t w a k z st (claimable t) refl h
+allowed_preserved G t (Resume w a) k z st h = resume_preserved G t w a k z st (resumable t) refl h
+allowed_preserved G t (Suspend w a true) k z st h = suspend_preserved G t w a true _ k z st (taken_at w a t) refl h
+allowed_preserved G t (Suspend w a false) k z st h = suspend_preserved G t w a false _ k z st (taken_at w a t) refl h
+allowed_preserved G t (Nodes w a n sizes) k z st h =
     closing G t w a _ (λ s. run_placed s n sizes (run_of t s n) t) k z st (taken_at w a t) refl h
     (allowed_sound t (Nodes w a n sizes) st h) (λ s p g th y. nodes_move G t s w n sizes k.defined g th (run_of t s n) p)
-allowed_kept G t (Empty w a n) k z st h =
+allowed_preserved G t (Empty w a n) k z st h =
     closing G t w a _ (λ s. closed_with s (record { inferences = n; answers = 0; records = [] }) t) k z st (taken_at w a t) refl h
     (allowed_sound t (Empty w a n) st h)
     (λ s p g th y. record { gone = []; moved = closed_moved G t s (given_back Over w) k.defined g th _ t.world })
-allowed_kept G t (Collected w a n) k z st h =
+allowed_preserved G t (Collected w a n) k z st h =
     closing G t w a _ _ k z st (taken_at w a t) refl h (allowed_sound t (Collected w a n) st h)
     (λ s p g th y. record { gone = []; moved = closed_moved G t s (given_back Over w) k.defined g th _ t.world })
-allowed_kept G t (Lost w a) k z st h = lost_kept G t w a k z h
-allowed_kept G t (Prune w a) k z st h =
-    closing G t w a _ (λ s. gate_pruned s (gate_of t s) (or_none (taken_alone t.job.clauses (stack_of s))) t) k z st (taken_at w a t)
+allowed_preserved G t (Lost w a) k z st h = lost_preserved G t w a k z h
+allowed_preserved G t (Prune w a) k z st h =
+    closing G t w a _ (λ s. gate_pruned s (gate_of t s) (or_none (taken_alone t.job.clauses (spot_stack s))) t) k z st (taken_at w a t)
     refl h (allowed_sound t (Prune w a) st h)
-    (λ s p g th y. prune_moves G t s w k.defined g th (gate_of t s) p (or_none (taken_alone t.job.clauses (stack_of s)))
-    (stack_some t.job.clauses (levels_of s) (stack_of s) p))
-allowed_kept G t (Answer w a true) k z st h = let no_way : ⊥ = cc in absurd no_way
-allowed_kept G t (Answer w a false) k z st h =
-    closing G t w a _ (λ s. world_moved s (taken_at_front t.job.clauses (stack_of s) t.world) t) k z st (taken_at w a t) refl h
+    (λ s p g th y. prune_moves G t s w k.defined g th (gate_of t s) p (or_none (taken_alone t.job.clauses (spot_stack s)))
+    (stack_some t.job.clauses (levels_of s) (spot_stack s) p))
+allowed_preserved G t (Answer w a true) k z st h = let no_way : ⊥ = cc in absurd no_way
+allowed_preserved G t (Answer w a false) k z st h =
+    closing G t w a _ (λ s. world_moved s (taken_at_front t.job.clauses (spot_stack s) t.world) t) k z st (taken_at w a t) refl h
     (allowed_sound t (Answer w a false) st h)
-    (λ s p g th y. answer_moves G t s w k.defined g th (taken_at_front t.job.clauses (stack_of s) t.world).0
-    (taken_at_front t.job.clauses (stack_of s) t.world).1 (front_whole t.job.clauses (stack_of s) t.world) y)
-allowed_kept G t (Stop w) k z st h = same_kept G (after_one G (Stop w)) (record t { stopped = true }) (λ a. unchanged (G a))
+    (λ s p g th y. answer_moves G t s w k.defined g th (taken_at_front t.job.clauses (spot_stack s) t.world).0
+    (taken_at_front t.job.clauses (spot_stack s) t.world).1 (front_whole t.job.clauses (spot_stack s) t.world) y)
+allowed_preserved G t (Stop w) k z st h = same_preserved G (after_one G (Stop w)) (record t { stopped = true }) (λ a. unchanged (G a))
     (record {
       defined = k.defined;
       going = λ y. let g = k.going y in record
@@ -169,13 +172,13 @@ allowed_kept G t (Stop w) k z st h = same_kept G (after_one G (Stop w)) (record 
     unchanged None = refl
     unchanged (Some h) = refl
 
-event_kept : (G : Place → Option Handed) (t : TreeState) (e : Event) → IsKept G t → IsSoundTree t → is_legal t e ≡ true
-    → IsKept (after_one G e) (after_event t e)
+event_preserved : (G : Place → Option Handed) (t : TreeState) (e : Event) → IsPreserved G t → IsSoundTree t → is_legal t e ≡ true
+    → IsPreserved (after_one G e) (after_event t e)
 unfolding is_legal after_event
-event_kept G t e k st h =
-    let rest = and_second (not t.stopped) _ h in
-    let open_tree : is_none (ended t) ≡ true = and_first (is_none (ended t)) _ rest in
-    let r = allowed_kept G t e k (no_halt t.halted open_tree) st (and_second (is_none (ended t)) _ rest) in
+event_preserved G t e k st h =
+    let rest = and-right (not t.stopped) _ h in
+    let open_tree : is_none (ended t) ≡ true = and-left (is_none (ended t)) _ rest in
+    let r = allowed_preserved G t e k (no_halt t.halted open_tree) st (and-right (is_none (ended t)) _ rest) in
     record {
       defined = r.defined;
       going = λ y. let g = r.going y in record
@@ -186,27 +189,28 @@ event_kept G t e k st h =
     no_halt None z = refl
     no_halt (Some n) z = let no_way : ⊥ = cc in absurd no_way
 
-events_kept : (t : TreeState) (es : List Event) (G : Place → Option Handed) → IsKept G t → IsSoundTree t → are_legal t es ≡ true
+events_preserved : (t : TreeState) (es : List Event) (G : Place → Option Handed) → IsPreserved G t → IsSoundTree t → are_legal t es ≡ true
     → (a : Place) → and_so_on (G a) (handed_after a es) ≢ None
-events_kept t [] G k st h a = same (G a) (k.defined a)
+events_preserved t [] G k st h a = same (G a) (k.defined a)
   where
     same : (o : Option Handed) → o ≢ None → and_so_on o (λ x. Some x) ≢ None
     same None d = d
     same (Some x) d = d
-events_kept t (e ∷ es) G k st h a = go (and_first (is_legal t e) _ h) (events_kept (after_event t e) es (after_one G e)) (joined (G a))
+events_preserved t (e ∷ es) G k st h a = go (and-left (is_legal t e) _ h) (events_preserved (after_event t e) es (after_one G e))
+    (joined (G a))
   where
     joined : (o : Option Handed) → and_so_on o (handed_after a (e ∷ es)) ≡ and_so_on (and_so_on o (handed_by a e)) (handed_after a es)
     joined None = refl
     joined (Some x) = refl
 
-    go : is_legal t e ≡ true → (IsKept (after_one G e) (after_event t e) → IsSoundTree (after_event t e)
+    go : is_legal t e ≡ true → (IsPreserved (after_one G e) (after_event t e) → IsSoundTree (after_event t e)
         → are_legal (after_event t e) es ≡ true → (b : Place) → and_so_on (after_one G e b) (handed_after b es) ≢ None) →
         and_so_on (G a) (handed_after a (e ∷ es)) ≡ and_so_on (after_one G e a) (handed_after a es)
         → and_so_on (G a) (handed_after a (e ∷ es)) ≢ None
-    go l f j n = f (event_kept G t e k st l) (event_sound t e st l) (and_second (is_legal t e) _ h) a (sym j ∙ n)
+    go l f j n = f (event_preserved G t e k st l) (event_sound t e st l) (and-right (is_legal t e) _ h) a (sym j ∙ n)
 
-opening_kept : (job : Job) (budget window : ℕ) → IsKept (λ a. Some Never) (opening_tree job budget window)
-opening_kept job budget window = go job.queries
+opening_preserved : (job : Job) (budget window : ℕ) → IsPreserved (λ a. Some Never) (opening_tree job budget window)
+opening_preserved job budget window = go job.queries
   where
     some_none : Some Never ≡ None → ⊥
     some_none z = cc
@@ -225,7 +229,7 @@ opening_kept job budget window = go job.queries
         pick false e false f true = omega arith
         pick false e false f false = omega arith
 
-    go : (qs : List Query) → IsKept (λ a. Some Never)
+    go : (qs : List Query) → IsPreserved (λ a. Some Never)
         (record (opening_tree job budget window) { root = opening_root qs; next = nodes_below (opening_root qs) })
     go [] = record {
       defined = λ a. some_none;
@@ -239,5 +243,5 @@ opening_kept job budget window = go job.queries
     }
 
 pub once : Once
-once job budget window es a h = events_kept (opening_tree job budget window) es (λ b. Some Never) (opening_kept job budget window)
+once job budget window es a h = events_preserved (opening_tree job budget window) es (λ b. Some Never) (opening_preserved job budget window)
     (opening_sound job budget window) h a

@@ -12,23 +12,24 @@ use Rattle.tree_model.specs.TreeStates.{TreeState}
 use Rattle.tree_model.specs.HandOuts.{Handed, Never, if_here, handed_by, and_so_on}
 use Rattle.tree_model.specs.Ways.{IsOnWay}
 use Rattle.tree_model.specs.SoundTrees.{one_if, count_among, count_below, IsSound, IsSoundTree}
-use Rattle.interleaving.proofs.WayLemmas.{cond-true, cond-false, same_self}
+use Rattle.interleaving.proofs.WayLemmas.{cond-true, cond-false}
 use Rattle.interleaving.proofs.PluggedLemmas.{IsIn}
 use Rattle.interleaving.proofs.ContextLemmas.{count_left, count_around, count_plug}
-use Rattle.interleaving.proofs.HandOutCountLemmas.{handed, Agrees, AgreesAround, stand, stand_around}
-use Rattle.interleaving.proofs.HandOutCountLemmas.{stand_plug, agrees_out, Elsewhere, NewIn, IsAgreed}
-use Rattle.interleaving.proofs.HandOutPlaceLemmas.{tasks_at, tasks_append, IsOut, each-append, stands_root}
+use Rattle.interleaving.proofs.HandOutCountLemmas.{handed, Agrees, AgreesAround, occurrences, occurrences_around}
+use Rattle.interleaving.proofs.HandOutCountLemmas.{occurrences_plug, agrees_out, Elsewhere, NewIn, IsAgreed}
+use Rattle.interleaving.proofs.HandOutPlaceLemmas.{tasks_at, tasks_append, IsOut, each-append, occurs_root}
 use Rattle.interleaving.proofs.UnchangedPlaceLemmas.{same_place-is, place_self}
+use Rattle.interleaving.proofs.TestLemmas.{number_same}
 
 -- a tree that has not been halted, and how its alternatives have been handed out
 pub record IsGoing (G : Place → Option Handed) (t : TreeState) : Type 0 where
   pub agrees : Agrees G 0 0 t.root
   pub new : NewIn G t.next
   pub lost : Each (IsOut G) t.lost
-  pub once : (a : Place) → tasks_at a t.lost + stand a 0 0 t.root ≤ 1
+  pub once : (a : Place) → tasks_at a t.lost + occurrences a 0 0 t.root ≤ 1
   pub old : (a : Place) → t.next ≤ a.node → tasks_at a t.lost ≡ 0
 
-pub record IsKept (G : Place → Option Handed) (t : TreeState) : Type 0 where
+pub record IsPreserved (G : Place → Option Handed) (t : TreeState) : Type 0 where
   pub defined : (a : Place) → G a ≢ None
   pub going : t.halted ≡ None → IsGoing G t
 
@@ -92,24 +93,25 @@ pub record IsThere (G : Place → Option Handed) (t : TreeState) (s : Spot) : Ty
   pub inside : IsIn t.root s
   pub around : AgreesAround G (levels_of s)
   pub mine : G (place_of_spot s) ≡ Some (handed s.hold)
-  pub alone : stand_around (place_of_spot s) (levels_of s) ≡ 0
+  pub alone : occurrences_around (place_of_spot s) (levels_of s) ≡ 0
   pub no_task : tasks_at (place_of_spot s) t.lost ≡ 0
   pub low : suc (place_of_spot s).node ≤ t.next
-  pub stands : (a : Place) → stand_around a (levels_of s) ≤ stand a 0 0 t.root
+  pub stands : (a : Place) → occurrences_around a (levels_of s) ≤ occurrences a 0 0 t.root
 
 pub there : (G : Place → Option Handed) (t : TreeState) (s : Spot) → IsGoing G t → IsSoundTree t → IsIn t.root s → IsThere G t s
 there G t s g k i =
     let b = place_of_spot s in
     let out = agrees_out G (levels_of s) (Pending s.hold s.entry) (subst (Agrees G 0 0) (sym i) g.agrees) in
-    let sum : (a : Place) → stand a 0 0 t.root ≡ stand_around a (levels_of s) + one_if (same_place a b) = λ a. ap (stand a 0 0) (sym i)
-    ∙ stand_plug a (levels_of s) (Pending s.hold s.entry) in
+    let sum : (a : Place) → occurrences a 0 0 t.root ≡ occurrences_around a (levels_of s) + one_if (same_place a b) = λ a. ap
+    (occurrences a 0 0) (sym i)
+    ∙ occurrences_plug a (levels_of s) (Pending s.hold s.entry) in
     let mine : one_if (same_place b b) ≡ 1 = ap one_if (place_self b) in
     let v = s.level in
     let counts : count_below v.number t.root
     ≡ (count_around v.number s.above +
     (one_if (v.number == v.number) + (count_left v.number v.left + count_among v.number v.right))) + 0 = ap (count_below v.number)
     (sym i) ∙ count_plug v.number (levels_of s) (Pending s.hold s.entry) in
-    let self : one_if (v.number == v.number) ≡ 1 = ap one_if (same_self v.number) in
+    let self : one_if (v.number == v.number) ≡ 1 = ap one_if (number_same v.number) in
     record {
       inside = i;
       around = out.0;
@@ -126,11 +128,11 @@ there G t s g k i =
 
 -- a tree after an event at a spot
 pub record IsMoved (F : Place → Option Handed) (t new : TreeState) (s : Spot) (gone : List Task) : Type 0 where
-  pub agreed : IsAgreed F t.next (λ a. tasks_at a gone) (λ a. stand_around a (levels_of s)) new.root
+  pub agreed : IsAgreed F t.next (λ a. tasks_at a gone) (λ a. occurrences_around a (levels_of s)) new.root
   pub lost : new.lost ≡ t.lost ++ gone
   pub out : Each (IsOut F) gone
   pub next : t.next ≤ new.next
-  pub gone_low : (a : Place) → tasks_at a gone ≤ stand_around a (levels_of s)
+  pub gone_low : (a : Place) → tasks_at a gone ≤ occurrences_around a (levels_of s)
 
 -- no entry is above all nodes
 no_top : (root : Status) → IsSound [] root → (hold : Hold) (e : Entry) → root ≡ Pending hold e → ⊥
@@ -172,13 +174,13 @@ moved_going G t new s tr h gone d g k th q kn m =
     lost_count : (a : Place) → tasks_at a new.lost ≡ tasks_at a t.lost + tasks_at a gone
     lost_count a = ap (tasks_at a) m.lost ∙ tasks_append a t.lost gone
 
-    no_stand : (a : Place) → t.next ≤ a.node → stand a 0 0 t.root ≡ 0
-    no_stand a l = omega (arith, stands_root a t.root 0 0 (no_top t.root k.sound), k.fresh a.node l)
+    no_occurrences : (a : Place) → t.next ≤ a.node → occurrences a 0 0 t.root ≡ 0
+    no_occurrences a l = omega (arith, occurs_root a t.root 0 0 (no_top t.root k.sound), k.fresh a.node l)
 
     old_at : (a : Place) → t.next ≤ a.node → tasks_at a new.lost ≡ 0
-    old_at a l = omega (arith, lost_count a, g.old a l, m.gone_low a, th.stands a, no_stand a l)
+    old_at a l = omega (arith, lost_count a, g.old a l, m.gone_low a, th.stands a, no_occurrences a l)
 
-    once_at : (a : Place) → (c : Bool) → nat_le t.next a.node ≡ c → tasks_at a new.lost + stand a 0 0 new.root ≤ 1
+    once_at : (a : Place) → (c : Bool) → nat_le t.next a.node ≡ c → tasks_at a new.lost + occurrences a 0 0 new.root ≤ 1
     once_at a true e = let l : t.next ≤ a.node = grind arith in omega
-        (arith, old_at a l, stands_root a new.root 0 0 (no_top new.root kn.sound), kn.distinct a.node)
+        (arith, old_at a l, occurs_root a new.root 0 0 (no_top new.root kn.sound), kn.distinct a.node)
     once_at a false e = let l : suc a.node ≤ t.next = grind arith in omega (arith, lost_count a, m.agreed.few a l, th.stands a, g.once a)

@@ -5,7 +5,7 @@ use Rattle.run_model.specs.Machine.Entries.{Entry}
 use Rattle.tree_model.specs.Nodes.{Hold, Ready, TakenBy, Waiting, Dormant, Status, Pending}
 use Rattle.tree_model.specs.Levels.{plug, Place, same_place, Spot, levels_of, place_of_spot}
 use Rattle.tree_model.specs.PendingLists.{way_of}
-use Rattle.tree_model.specs.TreeStates.{TreeState, pending, leftmost, live}
+use Rattle.tree_model.specs.TreeStates.{TreeState, pending_spots, leftmost, live}
 use Rattle.tree_model.specs.Legality.{is_ready, is_taken_by, is_spot_at, if_room, claimable, may_resume, resumable, taken_at}
 use Rattle.tree_model.specs.Effects.{with_status, where_some}
 use Rattle.tree_model.specs.Ways.{IsHeldBy}
@@ -13,6 +13,7 @@ use Rattle.tree_model.specs.SoundTrees.{count_below, IsOpen, profile, IsSound, I
 use Rattle.interleaving.proofs.AppendLemmas.{found}
 use Rattle.interleaving.proofs.PluggedLemmas.{IsIn, all_in}
 use Rattle.interleaving.proofs.ContextLemmas.{IsAround, taken_out, live_at, live_open, put_in, count_around, count_plug}
+use Rattle.au_term.proofs.LogicLemmas.{and-left}
 
 -- an alternative of the tree that is open
 pub record IsOpenSpot (root : Status) (s : Spot) : Type 0 where
@@ -37,14 +38,6 @@ waiting_open s Ready e k = let no_way : ⊥ = cc in absurd no_way
 waiting_open s (TakenBy w) e k = let no_way : ⊥ = cc in absurd no_way
 waiting_open s Dormant e k = let no_way : ⊥ = cc in absurd no_way
 
-pub both_left : (a b : Bool) → (a && b) ≡ true → a ≡ true
-both_left true b h = refl
-both_left false b h = let no_way : ⊥ = cc in absurd no_way
-
-pub both_right : (a b : Bool) → (a && b) ≡ true → b ≡ true
-both_right true b h = h
-both_right false b h = let no_way : ⊥ = cc in absurd no_way
-
 -- what may be handed out, and what is out
 pub if_room-some : (t : TreeState) (o : Option Spot) (s : Spot) → if_room t o ≡ Some s → o ≡ Some s
 if_room-some t None s h = h
@@ -56,19 +49,19 @@ if_room-some t (Some r) s h = go (is_spot_at (place_of_spot r) (leftmost t) || n
 
 pub claimable_open : (t : TreeState) (s : Spot) → claimable t ≡ Some s → IsOpenSpot t.root s
 claimable_open t s h =
-    let f = found (IsIn t.root) (λ r. is_ready r.hold) (pending t) s (all_in t.root)
-    (if_room-some t (find (λ r. is_ready r.hold) (pending t)) s h) in
+    let f = found (IsIn t.root) (λ r. is_ready r.hold) (pending_spots t) s (all_in t.root)
+    (if_room-some t (find (λ r. is_ready r.hold) (pending_spots t)) s h) in
     record { inside = f.holds; opened = ready_open s.hold s.entry f.passes }
 
 pub resumable_open : (t : TreeState) (s : Spot) → resumable t ≡ Some s → IsOpenSpot t.root s
 resumable_open t s h =
-    let f = found (IsIn t.root) (λ r. may_resume r r.hold) (pending t) s (all_in t.root) h in
+    let f = found (IsIn t.root) (λ r. may_resume r r.hold) (pending_spots t) s (all_in t.root) h in
     record { inside = f.holds; opened = waiting_open s s.hold s.entry f.passes }
 
 pub taken_at_open : (w : ℕ) (a : Place) (t : TreeState) (s : Spot) → taken_at w a t ≡ Some s → IsOpenSpot t.root s
 taken_at_open w a t s h =
-    let f = found (IsIn t.root) (λ r. is_taken_by w r.hold && same_place a (place_of_spot r)) (pending t) s (all_in t.root) h in
-    record { inside = f.holds; opened = taken_open w s.hold s.entry (both_left (is_taken_by w s.hold) _ f.passes) }
+    let f = found (IsIn t.root) (λ r. is_taken_by w r.hold && same_place a (place_of_spot r)) (pending_spots t) s (all_in t.root) h in
+    record { inside = f.holds; opened = taken_open w s.hold s.entry (and-left (is_taken_by w s.hold) _ f.passes) }
 
 -- round an open place, and the entry there
 pub record IsPlaced (s : Spot) : Type 0 where
@@ -103,9 +96,9 @@ awake_by Dormant (TakenBy w) e o q i = let no_way : ⊥ = cc in absurd no_way
 awake_by Dormant (Waiting g) e o q i = let no_way : ⊥ = cc in absurd no_way
 
 -- another worker or none has the entry
-pub held_sound : (t : TreeState) (s : Spot) (h : Hold) → profile (Pending h s.entry) ≡ IsOpen → IsSoundTree t → IsOpenSpot t.root s
+pub hold_sound : (t : TreeState) (s : Spot) (h : Hold) → profile (Pending h s.entry) ≡ IsOpen → IsSoundTree t → IsOpenSpot t.root s
     → IsSoundTree (with_status s (Pending h s.entry) t)
-held_sound t s h open_new k o =
+hold_sound t s h open_new k o =
     let p = placed_at t s k o in
     let same : (n : ℕ) → count_below n (plug (levels_of s) (Pending h s.entry)) ≡ count_below n t.root = λ n. count_plug n (levels_of s)
     (Pending h s.entry) ∙ (let z : count_around n (levels_of s) + 0 ≡ count_around n (levels_of s) = omega arith in z)
@@ -125,8 +118,8 @@ some_sound t (Some s) new k f = f s refl
 
 pub claim_sound : (t : TreeState) (w : ℕ) → IsSoundTree t
     → IsSoundTree (where_some (claimable t) t (λ s. with_status s (Pending (TakenBy w) s.entry) t))
-claim_sound t w k = some_sound t (claimable t) _ k (λ s e. held_sound t s (TakenBy w) refl k (claimable_open t s e))
+claim_sound t w k = some_sound t (claimable t) _ k (λ s e. hold_sound t s (TakenBy w) refl k (claimable_open t s e))
 
 pub resume_sound : (t : TreeState) (w : ℕ) → IsSoundTree t
     → IsSoundTree (where_some (resumable t) t (λ s. with_status s (Pending (TakenBy w) s.entry) t))
-resume_sound t w k = some_sound t (resumable t) _ k (λ s e. held_sound t s (TakenBy w) refl k (resumable_open t s e))
+resume_sound t w k = some_sound t (resumable t) _ k (λ s e. hold_sound t s (TakenBy w) refl k (resumable_open t s e))

@@ -1,5 +1,5 @@
 -- The opening tree's list runs as the sequential run by names.
-use Rattle.std.proofs.Common.{inr, ◌≡◌, ℕ, ◌≤◌, inl, Bool, false, List, [], ◌∷◌, map, None, refl, sym, ap, ◌∙◌, arith}
+use Rattle.std.proofs.Common.{inr, ◌≡◌, ℕ, ◌≤◌, inl, false, List, [], ◌∷◌, map, None, refl, sym, ap, ◌∙◌, arith}
 use Rattle.au_term.specs.Term.{Term}
 use Rattle.run_model.specs.Programs.Clauses.{Clause}
 use Rattle.run_model.specs.Machine.Items.{GoalItem, goals_at}
@@ -13,18 +13,19 @@ use Rattle.tree_model.specs.Elements.{Name, Element, Credit, Plain, EndOf, End}
 use Rattle.tree_model.specs.PendingLists.{Way, scope_on, pending_list}
 use Rattle.tree_model.specs.Floors.{renamed_item}
 use Rattle.interleaving.specs.Machine.{free_steps, run, seen, Alike}
-use Rattle.interleaving.specs.Scopes.{first_shared, opened, scoped}
+use Rattle.interleaving.specs.Scopes.{first_shared, opened_elements, scoped}
 use Rattle.interleaving.specs.Erased.{height, with_height, erased}
 use Rattle.interleaving.specs.Sound.{IsSound}
 use Rattle.interleaving.specs.Follows.{lead}
 use Rattle.interleaving.specs.HistoryInvariants.{IsInStep}
 use Rattle.interleaving.proofs.PreservedLemmas.{opened-sound}
-use Rattle.interleaving.proofs.RunHeightLemmas.{names_are_free}
+use Rattle.interleaving.proofs.RunHeightLemmas.{names_are_free, goals-at}
 use Rattle.interleaving.proofs.ListChangeLemmas.{no_credit}
 use Rattle.interleaving.proofs.LegalLemmas.{opening_sound}
 use Rattle.interleaving.proofs.ListsSoundLemmas.{lists_are_sound}
 use Rattle.tree_model.specs.GivenAnswers.{answers_in, AreInOrder}
-use Rattle.tree_model.specs.CaughtTrees.{MarksCaught, IsCaught, IsLastQuery, IsUnspent, IsCaughtTree}
+use Rattle.tree_model.specs.CaughtTrees.{IsCaught, IsLastQuery, IsUnspent, IsCaughtTree}
+use Rattle.interleaving.proofs.CaughtEventLemmas.{marks_opened}
 
 abbrev top : Way
 top = record { node = 0; index = 0; kind = QueryNode } ∷ []
@@ -33,10 +34,6 @@ goals_named : (f : Name → ℕ) (gs : List Term) → map (with_height f) (map (
     ≡ goals_at (f (0 ∷ 0 ∷ [])) gs
 goals_named f [] = refl
 goals_named f (g ∷ gs) = ap (λ l. GoalItem g (f (0 ∷ 0 ∷ [])) ∷ l) (goals_named f gs)
-
-goals_plain : (f : Name → ℕ) (h : Name) (gs : List Term) → map (with_height f) (goals_at h gs) ≡ goals_at (f h) gs
-goals_plain f h [] = refl
-goals_plain f h (g ∷ gs) = ap (λ l. GoalItem g (f h) ∷ l) (goals_plain f h gs)
 
 -- the list of a query's opening, without its empty credits
 abbrev first_list : Query → List Element
@@ -49,33 +46,30 @@ first_list q =
     })
     ∷ EndOf (0 ∷ 0 ∷ []) ∷ End (0 ∷ 1 ∷ 0 ∷ []) None ∷ EndOf (1 ∷ 0 ∷ []) ∷ []
 
-same_erased : (q : Query) (qs : List Query) → erased (opened [] (q ∷ qs)) ≡ erased (first_list q)
+same_erased : (q : Query) (qs : List Query) → erased (opened_elements [] (q ∷ qs)) ≡ erased (first_list q)
 same_erased q qs =
     ap (λ is. HeightEntry (PlainEntry (record { items = is; named = own_terms q.names; next = query_bound q })) ∷ HeightEntry
     (EndEntry None) ∷ [])
-    (goals_plain (height (EndOf [] ∷ End (1 ∷ []) None ∷ [])) [] q.goals
+    (goals-at (height (EndOf [] ∷ End (1 ∷ []) None ∷ [])) [] q.goals
     ∙ sym (goals_named (height (EndOf (0 ∷ 0 ∷ []) ∷ End (0 ∷ 1 ∷ 0 ∷ []) None ∷ EndOf (1 ∷ 0 ∷ []) ∷ [])) q.goals))
 
 opens_alike : (clauses : List Clause) (qs : List Query) → IsSound (pending_list (opening_root qs))
-    → Alike (scoped clauses) (opened [] qs) (pending_list (opening_root qs))
+    → Alike (scoped clauses) (opened_elements [] qs) (pending_list (opening_root qs))
 opens_alike clauses [] i n w = sym ((no_credit clauses [] []).alike n w)
 opens_alike clauses (q ∷ qs) i n w =
     let one = no_credit clauses [] (Credit 0 [] ∷ first_list q) in
     let two = no_credit clauses [] (first_list q) in
-    names_are_free clauses (opened [] (q ∷ qs)) (first_list q) (opened-sound [] (q ∷ qs)) (two.sound (one.sound i)) (same_erased q qs) n
+    names_are_free clauses (opened_elements [] (q ∷ qs)) (first_list q) (opened-sound [] (q ∷ qs)) (two.sound (one.sound i))
+    (same_erased q qs) n
     w ∙ (sym (two.alike n w) ∙ sym (one.alike n w))
 
 first_queries : (qs : List Query) → remaining_queries qs ≡ queries_after qs
 first_queries [] = refl
 first_queries (q ∷ qs) = refl
 
-goals_caught : (sleeps : ℕ → Bool) (n : ℕ) (gs : List Term) → MarksCaught sleeps (goals_at n gs)
-goals_caught sleeps n [] = tt
-goals_caught sleeps n (g ∷ gs) = goals_caught sleeps n gs
-
 root_caught : (qs : List Query) → IsCaught (λ m. false) false false (opening_root qs)
 root_caught [] = inl refl
-root_caught (q ∷ qs) = (goals_caught _ 0 q.goals, (tt, tt))
+root_caught (q ∷ qs) = (marks_opened _ 0 q.goals, (tt, tt))
 
 root_last : (qs : List Query) → IsLastQuery (opening_root qs)
 root_last [] = tt
@@ -97,8 +91,8 @@ root_ordered : (qs : List Query) → AreInOrder (opening_root qs)
 root_ordered [] = tt
 root_ordered (q ∷ qs) = (tt, inr refl, (tt, inr refl, tt))
 
-pub opening_stands : (job : Job) (budget window : ℕ) → IsInStep job budget (opening_tree job budget window)
-opening_stands job budget window = record {
+pub opening_in_step : (job : Job) (budget window : ℕ) → IsInStep job budget (opening_tree job budget window)
+opening_in_step job budget window = record {
   same_job = refl;
   same_budget = refl;
   sound = opening_sound job budget window;

@@ -1,5 +1,5 @@
 -- Events that are no answers, from what runs and prunes do to the list.
-use Rattle.std.proofs.Common.{◌≡◌, ℕ, zero, suc, true, false, List, [], ◌∷◌, ◌++◌, Option, Some, None, refl, sym, ap, ◌∙◌}
+use Rattle.std.proofs.Common.{◌≡◌, ℕ, zero, suc, true, List, [], ◌∷◌, ◌++◌, Option, Some, None, refl, sym, ap, ◌∙◌}
 use Rattle.std.specs.Prelude.{◌&&◌, nat_le, length}
 use Rattle.au_term.specs.Term.{Term}
 use Rattle.run_model.specs.Machine.Entries.{Entry, EndEntry}
@@ -17,16 +17,15 @@ use Rattle.tree_model.specs.CaughtTrees.{IsCaughtTree}
 use Rattle.interleaving.specs.Follows.{Follows, PublishChangesList}
 use Rattle.interleaving.specs.RunLaws.{EmptyReaches, CollectedReaches}
 use Rattle.interleaving.specs.HistoryInvariants.{ListFollows, EventFollows, IsOwn, IsPrune}
-use Rattle.interleaving.proofs.OpenSpotLemmas.{both_left, both_right, placed_at, taken_at_open}
+use Rattle.interleaving.proofs.OpenSpotLemmas.{placed_at, taken_at_open}
 use Rattle.interleaving.proofs.EndLemmas.{has_end, back_end, round_end}
 use Rattle.interleaving.proofs.GoingLemmas.{legal_parts}
 use Rattle.interleaving.proofs.LegalLemmas.{end_rests}
 use Rattle.interleaving.proofs.QuietEventLemmas.{list_follows, claim_follows, resume_follows, suspend_follows, lost_follows, stop_follows}
 use Rattle.interleaving.proofs.ListsSoundLemmas.{lists_are_sound}
 use Rattle.interleaving.proofs.RunEventLemmas.{IsAskedAt, asked_at, empty_follows, collected_follows}
-
-clash : {A : Type 0} → false ≡ true → A
-clash h = let no_way : ⊥ = cc in absurd no_way
+use Rattle.interleaving.proofs.TestLemmas.{false_true}
+use Rattle.au_term.proofs.LogicLemmas.{and-right, and-left}
 
 spent_back : (k : ℕ) (levels : List Level) → back_of (spending k levels) ≡ back_of levels
 spent_back k [] = refl
@@ -35,7 +34,7 @@ spent_back k (v ∷ up) = refl
 -- a run of some inferences is not that of an end
 runs_on : (t : TreeState) (s : Spot) (b : Option Term) (k : ℕ) → nat_le 1 k ≡ true → s.entry ≡ EndEntry b → run_of t s k ≡ None
 unfolding run_of
-runs_on t s b zero l e = clash l
+runs_on t s b zero l e = false_true l
 runs_on t s b (suc k) l e = ap (λ x. private_run t.job.clauses (levels_of s) (with_heights (levels_of s) x) (suc k)) e ∙ end_rests t s b k
 
 module _ (t : TreeState) (i : IsSoundTree t) (q : IsCaughtTree t) where
@@ -46,7 +45,7 @@ module _ (t : TreeState) (i : IsSoundTree t) (q : IsCaughtTree t) where
       → IsSoundTree (noted (run_placed s k sizes o t) e) → run_fits (length (levels_of s)) sizes o ≡ true
       → Follows t.job.clauses (pending_list t.root) (pending_list (noted (run_placed s k sizes o t) e).root)
       → ListFollows t (noted (run_placed s k sizes o t) e)
-  published e s k sizes None h j l f = clash l
+  published e s k sizes None h j l f = false_true l
   published e s k sizes (Some es) h j l f = list_follows t (noted (run_placed s k sizes (Some es) t) e) j refl refl refl f
       (λ x y. round_end (spending k (levels_of s)) (placed t.next sizes (levels_of s) es) (ap has_end (spent_back k (levels_of s)) ∙ h))
 
@@ -69,17 +68,17 @@ module _ (t : TreeState) (i : IsSoundTree t) (q : IsCaughtTree t) where
               → IsSoundTree (noted (where_some o t (λ s. run_placed s k sizes (run_of t s k) t)) (Nodes w a k sizes))
               → at_spot o (λ s. nat_le 1 k && run_fits (length (levels_of s)) sizes (run_of t s k)) ≡ true
               → ListFollows t (noted (where_some o t (λ s. run_placed s k sizes (run_of t s k) t)) (Nodes w a k sizes))
-          go None e f j x = clash x
+          go None e f j x = false_true x
           go (Some s) e f j x =
               let o = taken_at_open w a t s e in
               let p = placed_at t s i o in
-              let fits = both_right (nat_le 1 k) _ x in
-              let some = both_left (nat_le 1 k) _ x in
+              let fits = and-right (nat_le 1 k) _ x in
+              let some = and-left (nat_le 1 k) _ x in
               let asked : IsAskedAt s = asked_at t s o p (λ b z. stays_on (runs_on t s b k some z) fits) in
               published (Nodes w a k sizes) s k sizes (run_of t s k) (back_end (levels_of s) p.around asked) j fits f
             where
               stays_on : run_of t s k ≡ None → run_fits (length (levels_of s)) sizes (run_of t s k) ≡ true → ⊥
-              stays_on z h = clash (sym (ap (run_fits (length (levels_of s)) sizes) z) ∙ h)
+              stays_on z h = false_true (sym (ap (run_fits (length (levels_of s)) sizes) z) ∙ h)
 
 pub own_follow : PublishChangesList → EmptyReaches → CollectedReaches → EventFollows IsPrune → EventFollows IsOwn
 own_follow publish empty collected prune t (Claim w a) o i q j r l = claim_follows t i w a j

@@ -6,23 +6,23 @@ use Rattle.au_term.specs.Term.{Term}
 use Rattle.au_model.specs.Terms.Each.{Each}
 use Rattle.run_model.specs.Machine.Entries.{Entry, with_result, collected}
 use Rattle.tree_model.specs.Elements.{Name, Element, Credit, Plain, EndOf, Catch, Findall, End}
-use Rattle.interleaving.specs.Erased.{count}
+use Rattle.interleaving.specs.Erased.{element_count}
 use Rattle.interleaving.specs.Views.{IsInner, IsUnder}
-use Rattle.interleaving.proofs.GivenRecordLemmas.{StandsAt, stands-low}
+use Rattle.interleaving.proofs.GivenRecordLemmas.{IsFindallAt, findall_at-low}
 
 -- where a findall entry is, by whether it is inside
-stands-none : (inside : Name → Bool) (zs : List Element) (s : Name) (h : ℕ) → Each (IsUnder inside) zs → inside s ≡ true
-    → StandsAt zs s h → ⊥
-stands-none inside [] s h u i k = k
-stands-none inside (EndOf e ∷ zs) s h u i k = stands-none inside zs s h u.1 i k
-stands-none inside (Credit j rs ∷ zs) s h u i k = stands-none inside zs s h u.1 i k
-stands-none inside (Plain p f ∷ zs) s h u i k = stands-none inside zs s h u.1 i k
-stands-none inside (Catch e v c r p f ∷ zs) s h u i k = stands-none inside zs s h u.1 i k
-stands-none inside (End p b ∷ zs) s h u i k = stands-none inside zs s h u.1 i k
-stands-none inside (Findall e v results list p f ∷ zs) s h u i (inl k) = false≢true (sym u.0 ∙ ap inside k.0 ∙ i)
-stands-none inside (Findall e v results list p f ∷ zs) s h u i (inr k) = stands-none inside zs s h u.1 i k.1
+findall_at-none : (inside : Name → Bool) (zs : List Element) (s : Name) (h : ℕ) → Each (IsUnder inside) zs → inside s ≡ true
+    → IsFindallAt zs s h → ⊥
+findall_at-none inside [] s h u i k = k
+findall_at-none inside (EndOf e ∷ zs) s h u i k = findall_at-none inside zs s h u.1 i k
+findall_at-none inside (Credit j rs ∷ zs) s h u i k = findall_at-none inside zs s h u.1 i k
+findall_at-none inside (Plain p f ∷ zs) s h u i k = findall_at-none inside zs s h u.1 i k
+findall_at-none inside (Catch e v c r p f ∷ zs) s h u i k = findall_at-none inside zs s h u.1 i k
+findall_at-none inside (End p b ∷ zs) s h u i k = findall_at-none inside zs s h u.1 i k
+findall_at-none inside (Findall e v results list p f ∷ zs) s h u i (inl k) = false≢true (sym u.0 ∙ ap inside k.0 ∙ i)
+findall_at-none inside (Findall e v results list p f ∷ zs) s h u i (inr k) = findall_at-none inside zs s h u.1 i k.1
 
-pub count-after : (xs ls : List Element) → count ls ≤ count (xs ++ ls)
+pub count-after : (xs ls : List Element) → element_count ls ≤ element_count (xs ++ ls)
 count-after [] ls = omega arith
 count-after (EndOf e ∷ xs) ls = count-after xs ls
 count-after (Credit k rs ∷ xs) ls = omega (arith, count-after xs ls)
@@ -31,27 +31,27 @@ count-after (Catch e u c r p f ∷ xs) ls = omega (arith, count-after xs ls)
 count-after (Findall e u results list p f ∷ xs) ls = omega (arith, count-after xs ls)
 count-after (End p b ∷ xs) ls = omega (arith, count-after xs ls)
 
-pub stands-high : (inside : Name → Bool) (xs zs : List Element) (s : Name) (h : ℕ) → Each (IsUnder inside) zs → inside s ≡ true
-    → StandsAt (xs ++ zs) s h → count zs ≤ h
-stands-high inside [] zs s h u i k = absurd (stands-none inside zs s h u i k)
-stands-high inside (EndOf e ∷ xs) zs s h u i k = stands-high inside xs zs s h u i k
-stands-high inside (Credit j rs ∷ xs) zs s h u i k = stands-high inside xs zs s h u i k
-stands-high inside (Plain p f ∷ xs) zs s h u i k = stands-high inside xs zs s h u i k
-stands-high inside (Catch e v c r p f ∷ xs) zs s h u i k = stands-high inside xs zs s h u i k
-stands-high inside (End p b ∷ xs) zs s h u i k = stands-high inside xs zs s h u i k
-stands-high inside (Findall e v results list p f ∷ xs) zs s h u i (inl k) = omega (arith, k.1, count-after xs zs)
-stands-high inside (Findall e v results list p f ∷ xs) zs s h u i (inr k) = stands-high inside xs zs s h u i k.1
+pub findall_at-high : (inside : Name → Bool) (xs zs : List Element) (s : Name) (h : ℕ) → Each (IsUnder inside) zs → inside s ≡ true
+    → IsFindallAt (xs ++ zs) s h → element_count zs ≤ h
+findall_at-high inside [] zs s h u i k = absurd (findall_at-none inside zs s h u i k)
+findall_at-high inside (EndOf e ∷ xs) zs s h u i k = findall_at-high inside xs zs s h u i k
+findall_at-high inside (Credit j rs ∷ xs) zs s h u i k = findall_at-high inside xs zs s h u i k
+findall_at-high inside (Plain p f ∷ xs) zs s h u i k = findall_at-high inside xs zs s h u i k
+findall_at-high inside (Catch e v c r p f ∷ xs) zs s h u i k = findall_at-high inside xs zs s h u i k
+findall_at-high inside (End p b ∷ xs) zs s h u i k = findall_at-high inside xs zs s h u i k
+findall_at-high inside (Findall e v results list p f ∷ xs) zs s h u i (inl k) = omega (arith, k.1, count-after xs zs)
+findall_at-high inside (Findall e v results list p f ∷ xs) zs s h u i (inr k) = findall_at-high inside xs zs s h u i k.1
 
-pub stands-deep : (inside : Name → Bool) (xs zs : List Element) (s : Name) (h : ℕ) → Each (IsInner inside) xs → inside s ≡ false
-    → StandsAt (xs ++ zs) s h → suc h ≤ count zs
-stands-deep inside [] zs s h u i k = stands-low zs s h k
-stands-deep inside (EndOf e ∷ xs) zs s h u i k = stands-deep inside xs zs s h u.1 i k
-stands-deep inside (Credit j rs ∷ xs) zs s h u i k = stands-deep inside xs zs s h u.1 i k
-stands-deep inside (Plain p f ∷ xs) zs s h u i k = stands-deep inside xs zs s h u.1 i k
-stands-deep inside (Catch e v c r p f ∷ xs) zs s h u i k = stands-deep inside xs zs s h u.1 i k
-stands-deep inside (End p b ∷ xs) zs s h u i k = stands-deep inside xs zs s h u.1 i k
-stands-deep inside (Findall e v results list p f ∷ xs) zs s h u i (inl k) = absurd (false≢true (sym i ∙ ap inside (sym k.0) ∙ u.0.0))
-stands-deep inside (Findall e v results list p f ∷ xs) zs s h u i (inr k) = stands-deep inside xs zs s h u.1 i k.1
+pub findall_at-deep : (inside : Name → Bool) (xs zs : List Element) (s : Name) (h : ℕ) → Each (IsInner inside) xs → inside s ≡ false
+    → IsFindallAt (xs ++ zs) s h → suc h ≤ element_count zs
+findall_at-deep inside [] zs s h u i k = findall_at-low zs s h k
+findall_at-deep inside (EndOf e ∷ xs) zs s h u i k = findall_at-deep inside xs zs s h u.1 i k
+findall_at-deep inside (Credit j rs ∷ xs) zs s h u i k = findall_at-deep inside xs zs s h u.1 i k
+findall_at-deep inside (Plain p f ∷ xs) zs s h u i k = findall_at-deep inside xs zs s h u.1 i k
+findall_at-deep inside (Catch e v c r p f ∷ xs) zs s h u i k = findall_at-deep inside xs zs s h u.1 i k
+findall_at-deep inside (End p b ∷ xs) zs s h u i k = findall_at-deep inside xs zs s h u.1 i k
+findall_at-deep inside (Findall e v results list p f ∷ xs) zs s h u i (inl k) = absurd (false≢true (sym i ∙ ap inside (sym k.0) ∙ u.0.0))
+findall_at-deep inside (Findall e v results list p f ∷ xs) zs s h u i (inr k) = findall_at-deep inside xs zs s h u.1 i k.1
 
 -- a result given over a floor
 collected-none : (h : ℕ) (t : Term) (floor : List Entry) → length floor ≤ h → collected h t floor ≡ floor

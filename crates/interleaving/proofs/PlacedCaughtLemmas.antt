@@ -7,64 +7,62 @@ use Rattle.au_model.specs.Terms.Each.{Each}
 use Rattle.run_model.specs.Machine.Items.{Item, GoalItem, CatchMark, CollectMark, RemovalItem}
 use Rattle.run_model.specs.Machine.Entries.{Entry, PlainEntry, CatchEntry, FindallEntry, EndEntry}
 use Rattle.tree_model.specs.Nodes.{Kind, Hold, Ready, TakenBy, Waiting, Dormant, Alternatives, none, alternative, Status, Pending, Inner}
-use Rattle.tree_model.specs.Nodes.{Closed, standing}
+use Rattle.tree_model.specs.Nodes.{Closed, entry_alternatives}
 use Rattle.tree_model.specs.Levels.{Level}
 use Rattle.tree_model.specs.Floors.{node_of, with_nodes, right_entry, with_heights, floor_of}
-use Rattle.tree_model.specs.Shapes.{further, is_guard, is_alone, fits, holder, guard_kind, guard_hold, further_alternatives}
+use Rattle.tree_model.specs.Shapes.{further, is_guard, is_alone, fits_nodes, holder, guard_kind, guard_hold, further_alternatives}
 use Rattle.tree_model.specs.Shapes.{placed_status}
 use Rattle.tree_model.specs.PendingLists.{way_of}
 use Rattle.tree_model.specs.Ways.{is_query}
 use Rattle.tree_model.specs.CaughtTrees.{catch_right, with_catch, MarksCaught, EntryCaught, is_side, IsCaught, AreCaught, IsNoEnd}
 use Rattle.tree_model.specs.CaughtTrees.{HasNoQuery, HaveNoQuery, IsUnspent, AreUnspent}
-use Rattle.interleaving.proofs.WayLemmas.{cond-true, cond-false, same_self, other_number}
-use Rattle.interleaving.proofs.RoundtripLemmas.{by_nodes, IsPath, not_same}
+use Rattle.interleaving.proofs.WayLemmas.{cond-true, cond-false, other_number}
+use Rattle.interleaving.proofs.RoundtripLemmas.{by_nodes, IsPath}
 use Rattle.interleaving.proofs.EntryLemmas.{length-floor, own_height}
 use Rattle.interleaving.proofs.BallLemmas.{node_on}
 use Rattle.interleaving.proofs.PlacedSoundLemmas.{take-drop, drop-length}
 use Rattle.interleaving.proofs.PlacedShapeLemmas.{holder_first, holder_later, made, made_equal, fits_one}
-use Rattle.interleaving.proofs.PlacedErasedLemmas.{Fills}
-use Rattle.interleaving.proofs.ListScopeLemmas.{sleeps_on}
+use Rattle.interleaving.proofs.PlacedErasedLemmas.{HaveSizes}
+use Rattle.interleaving.proofs.ListScopeLemmas.{dormant_on}
 use Rattle.interleaving.proofs.MarkedLemmas.{is_catch_entry, catch_at, MarksAt, EntryMarked, AreMarked, catch_low, no_guard_catch}
-
-clash : {A : Type 0} → false ≡ true → A
-clash h = let no_way : ⊥ = cc in absurd no_way
+use Rattle.interleaving.proofs.TestLemmas.{false_true, not_equal, number_same}
 
 -- what sleeps on a floor
-entry_sleeps : (up : List Level) (right : Alternatives) → is_catch_entry (with_heights up (right_entry right)) ≡ true
+entry_dormant : (up : List Level) (right : Alternatives) → is_catch_entry (with_heights up (right_entry right)) ≡ true
     → catch_right right ≡ true
-entry_sleeps up none h = clash h
-entry_sleeps up (alternative sp (Inner node) others) h = clash h
-entry_sleeps up (alternative sp (Closed c) others) h = clash h
-entry_sleeps up (alternative sp (Pending Ready e) others) h = clash h
-entry_sleeps up (alternative sp (Pending (TakenBy w) e) others) h = clash h
-entry_sleeps up (alternative sp (Pending (Waiting g) e) others) h = clash h
-entry_sleeps up (alternative sp (Pending Dormant (CatchEntry c r f)) others) h = refl
-entry_sleeps up (alternative sp (Pending Dormant (PlainEntry f)) others) h = clash h
-entry_sleeps up (alternative sp (Pending Dormant (FindallEntry results l f)) others) h = clash h
-entry_sleeps up (alternative sp (Pending Dormant (EndEntry b)) others) h = clash h
+entry_dormant up none h = false_true h
+entry_dormant up (alternative sp (Inner node) others) h = false_true h
+entry_dormant up (alternative sp (Closed c) others) h = false_true h
+entry_dormant up (alternative sp (Pending Ready e) others) h = false_true h
+entry_dormant up (alternative sp (Pending (TakenBy w) e) others) h = false_true h
+entry_dormant up (alternative sp (Pending (Waiting g) e) others) h = false_true h
+entry_dormant up (alternative sp (Pending Dormant (CatchEntry c r f)) others) h = refl
+entry_dormant up (alternative sp (Pending Dormant (PlainEntry f)) others) h = false_true h
+entry_dormant up (alternative sp (Pending Dormant (FindallEntry results l f)) others) h = false_true h
+entry_dormant up (alternative sp (Pending Dormant (EndEntry b)) others) h = false_true h
 
-pub floor_sleeps : (levels : List Level) → IsPath (way_of levels) → (h : ℕ) → catch_at h (floor_of levels) ≡ true
-    → sleeps_on levels (node_of levels (suc h)) ≡ true
-floor_sleeps [] p h k = clash k
-floor_sleeps (v ∷ up) p h k = go (length (floor_of up) == h) refl k (floor_sleeps up p.1 h)
+pub floor_dormant : (levels : List Level) → IsPath (way_of levels) → (h : ℕ) → catch_at h (floor_of levels) ≡ true
+    → dormant_on levels (node_of levels (suc h)) ≡ true
+floor_dormant [] p h k = false_true k
+floor_dormant (v ∷ up) p h k = go (length (floor_of up) == h) refl k (floor_dormant up p.1 h)
   where
     go : (b : Bool) → (length (floor_of up) == h) ≡ b → cond b (is_catch_entry (with_heights up (right_entry v.right)))
-        (catch_at h (floor_of up)) ≡ true → (catch_at h (floor_of up) ≡ true → sleeps_on up (node_of up (suc h)) ≡ true)
-        → sleeps_on (v ∷ up) (node_of (v ∷ up) (suc h)) ≡ true
+        (catch_at h (floor_of up)) ≡ true → (catch_at h (floor_of up) ≡ true → dormant_on up (node_of up (suc h)) ≡ true)
+        → dormant_on (v ∷ up) (node_of (v ∷ up) (suc h)) ≡ true
     go true e z f =
         let top : length (floor_of up) ≡ h = grind arith in
         let own : node_of (v ∷ up) (suc h) ≡ v.number = ap (λ n. node_of (v ∷ up) (suc n)) (sym top ∙ length-floor up) ∙ own_height v up in
-        cond-true (v.number == node_of (v ∷ up) (suc h)) (catch_right v.right) _ (ap (λ n. v.number == n) own ∙ same_self v.number)
-        ∙ entry_sleeps up v.right z
+        cond-true (v.number == node_of (v ∷ up) (suc h)) (catch_right v.right) _ (ap (λ n. v.number == n) own ∙ number_same v.number)
+        ∙ entry_dormant up v.right z
     go false e z f =
         let low : suc h ≤ length up = let l = catch_low h (floor_of up) z in omega (arith, l, length-floor up) in
         let node : node_of (v ∷ up) (suc h) ≡ node_of up (suc h) = cond-false (suc h == suc (length up)) v.number (node_of up (suc h))
-        (not_same (suc h) (suc (length up)) (omega (arith, low))) in
+        (not_equal (suc h) (suc (length up)) (omega (arith, low))) in
         let on = node_on up (suc h) (omega arith) low in
         let off : (v.number == node_of up (suc h)) ≡ false = other_number (way_of up) v.number (node_of up (suc h)) p.0 on
         (v.number == node_of up (suc h)) refl in
-        ap (sleeps_on (v ∷ up)) node ∙ (cond-false (v.number == node_of up (suc h)) (catch_right v.right)
-        (sleeps_on up (node_of up (suc h))) off ∙ f z)
+        ap (dormant_on (v ∷ up)) node ∙ (cond-false (v.number == node_of up (suc h)) (catch_right v.right)
+        (dormant_on up (node_of up (suc h))) off ∙ f z)
 
 -- an entry by the nodes that it names
 abbrev Sleeping : (ℕ → ℕ) → (ℕ → Bool) → List Entry → Type 0
@@ -96,7 +94,7 @@ abbrev pub AreAlone : List ℕ → List Entry → Type 0
 AreAlone [] es = Unit {0}
 AreAlone (size ∷ sizes) es = (is_alone (drop (length es - further size) es) ≡ true) × AreAlone sizes (take (length es - further size) es)
 
-pub fits_alone : (low : ℕ) (cuts sizes : List ℕ) (es : List Entry) → fits low cuts sizes es ≡ true → AreAlone sizes es
+pub fits_alone : (low : ℕ) (cuts sizes : List ℕ) (es : List Entry) → fits_nodes low cuts sizes es ≡ true → AreAlone sizes es
 fits_alone low cuts [] es h = tt
 fits_alone low cuts (size ∷ sizes) es h =
     let f = fits_one low size sizes cuts es h in
@@ -110,7 +108,7 @@ pub record IsPlacedOver (name : ℕ → ℕ) (next : ℕ) (sizes : List ℕ) (sl
   pub marked : AreMarked low es
   pub no_ends : Each IsNoEnd es
   pub alone : AreAlone sizes es
-  pub fills : Fills sizes es
+  pub fills : HaveSizes sizes es
 
 pub record IsPlacedCaught (sleeps : ℕ → Bool) (status : Status) : Type 0 where
   pub caught : (side under : Bool) → IsCaught sleeps side under status
@@ -149,22 +147,22 @@ module _ (name : ℕ → ℕ) (next : ℕ) (sleeps : ℕ → Bool) (low : List E
       apart false e l = refl
       apart true e l = let same : next ≡ name (suc h) = grind arith in let no_way : ⊥ = omega (arith, same, l) in absurd no_way
 
-  olds_caught : (under : Bool) (kind : Kind) (hold : Hold) (i : ℕ) (olds : List Entry) → TailsPlain low olds → AreMarked low olds
-      → AreCaught sleeps under next kind i (standing hold (map (with_nodes name) olds))
-  olds_caught under kind hold i [] t m = tt
-  olds_caught under kind hold i (o ∷ os) t m =
-      let b = catch_right (standing hold (map (with_nodes name) os)) in (
+  further_caught : (under : Bool) (kind : Kind) (hold : Hold) (i : ℕ) (olds : List Entry) → TailsPlain low olds → AreMarked low olds
+      → AreCaught sleeps under next kind i (entry_alternatives hold (map (with_nodes name) olds))
+  further_caught under kind hold i [] t m = tt
+  further_caught under kind hold i (o ∷ os) t m =
+      let b = catch_right (entry_alternatives hold (map (with_nodes name) os)) in (
         entry_caught name (with_catch next b sleeps) (os ++ low) o (λ h k. lower b h (t.0 h k)) m.0,
-        olds_caught under kind hold (suc i)
+        further_caught under kind hold (suc i)
             os t.1 m.1,
       )
 
   -- what is over them
-  inner_sleeps : (size : ℕ) (sizes : List ℕ) (olds : List Entry)
+  inner_dormant : (size : ℕ) (sizes : List ℕ) (olds : List Entry)
       → ((p : ℕ) → name (suc (length low + p)) ≡ holder next (size ∷ sizes) p) → length olds ≡ further size → is_alone olds ≡ true
       → (h : ℕ) → catch_at h (olds ++ low) ≡ true → with_catch next (catch_right (further_alternatives (map (with_nodes name) olds)))
       sleeps (name (suc h)) ≡ true
-  inner_sleeps size sizes olds holds many alone h k = pick (list_any is_guard olds) refl
+  inner_dormant size sizes olds holds many alone h k = pick (list_any is_guard olds) refl
     where
       pick : (b : Bool) → list_any is_guard olds ≡ b → with_catch next (catch_right (further_alternatives (map (with_nodes name) olds)))
           sleeps (name (suc h)) ≡ true
@@ -184,9 +182,9 @@ module _ (name : ℕ → ℕ) (next : ℕ) (sleeps : ℕ → Bool) (low : List E
 
               wakes : (e : Entry) → is_catch_entry e ≡ true → catch_right (further_alternatives (map (with_nodes name) (e ∷ []))) ≡ true
               wakes (CatchEntry c r f) x = refl
-              wakes (PlainEntry f) x = clash x
-              wakes (FindallEntry results list f) x = clash x
-              wakes (EndEntry b) x = clash x
+              wakes (PlainEntry f) x = false_true x
+              wakes (FindallEntry results list f) x = false_true x
+              wakes (EndEntry b) x = false_true x
 
               go : (b : Bool) → (length low == h) ≡ b → cond b (is_catch_entry o) (catch_at h low) ≡ true
                   → with_catch next (catch_right (further_alternatives (map (with_nodes name) (o ∷ [])))) sleeps (name (suc h)) ≡ true
@@ -194,7 +192,7 @@ module _ (name : ℕ → ℕ) (next : ℕ) (sleeps : ℕ → Bool) (low : List E
               go true y x =
                   let top : h ≡ length low = (let t : length low ≡ h = grind arith in sym t) in
                   cond-true (next == name (suc h)) (catch_right (further_alternatives (map (with_nodes name) (o ∷ []))))
-                  (sleeps (name (suc h))) (ap (λ n. next == n) (own top) ∙ same_self next) ∙ wakes o x
+                  (sleeps (name (suc h))) (ap (λ n. next == n) (own top) ∙ number_same next) ∙ wakes o x
 
 guard_tails : (low olds : List Entry) → list_any is_guard olds ≡ false → TailsPlain low olds
 guard_tails low [] h = tt
@@ -202,7 +200,7 @@ guard_tails low (o ∷ os) h = ((λ k z. no_guard_catch k os low (rest (is_guard
   where
     rest : (b : Bool) → (b || list_any is_guard os) ≡ false → list_any is_guard os ≡ false
     rest false k = k
-    rest true k = clash (sym k)
+    rest true k = false_true (sym k)
 
 alone_tails : (low olds : List Entry) → is_alone olds ≡ true → TailsPlain low olds
 alone_tails low olds h = pick (list_any is_guard olds) refl
@@ -216,14 +214,14 @@ alone_tails low olds h = pick (list_any is_guard olds) refl
     pick false e = guard_tails low olds e
     pick true e = single olds (sym (ap (λ b. not b || (length olds == 1)) e) ∙ h)
 
-olds_no_query : (name : ℕ → ℕ) (hold : Hold) (olds : List Entry) → Each IsNoEnd olds
-    → HaveNoQuery (standing hold (map (with_nodes name) olds))
-olds_no_query name hold [] h = tt
-olds_no_query name hold (o ∷ os) h = (named_no_end name o h.0, olds_no_query name hold os h.1)
+further_no_query : (name : ℕ → ℕ) (hold : Hold) (olds : List Entry) → Each IsNoEnd olds
+    → HaveNoQuery (entry_alternatives hold (map (with_nodes name) olds))
+further_no_query name hold [] h = tt
+further_no_query name hold (o ∷ os) h = (named_no_end name o h.0, further_no_query name hold os h.1)
 
-olds_unspent : (hold : Hold) (olds : List Entry) → AreUnspent (standing hold olds)
-olds_unspent hold [] = tt
-olds_unspent hold (o ∷ os) = (refl, olds_unspent hold os)
+further_unspent : (hold : Hold) (olds : List Entry) → AreUnspent (entry_alternatives hold olds)
+further_unspent hold [] = tt
+further_unspent hold (o ∷ os) = (refl, further_unspent hold os)
 
 kind_no_query : (olds : List Entry) → is_query (guard_kind olds) ≡ false
 kind_no_query [] = refl
@@ -235,7 +233,7 @@ kind_no_query (EndEntry b ∷ es) = refl
 -- one node over what is inside it
 made_caught : (name : ℕ → ℕ) (next size : ℕ) (sizes : List ℕ) (sleeps : ℕ → Bool) (low inner olds : List Entry)
     → IsPlacedOver name next (size ∷ sizes) sleeps low (inner ++ olds) → length olds ≡ further size → is_alone olds ≡ true
-    → AreAlone sizes inner → Fills sizes inner
+    → AreAlone sizes inner → HaveSizes sizes inner
     → ((s : ℕ → Bool) → IsPlacedOver name (suc next) sizes s (olds ++ low) inner
     → IsPlacedCaught s (placed_status (suc next) sizes (map (with_nodes name) inner)))
     → IsPlacedCaught sleeps (made next (placed_status (suc next) sizes (map (with_nodes name) inner)) (map (with_nodes name) olds))
@@ -250,7 +248,7 @@ made_caught name next size sizes sleeps low inner olds h many alone rest fills i
       holds = λ p. ap (λ m. name (suc m))
           (let z : length (olds ++ low) + p ≡ length low + (further size + p) = omega (arith, tall) in z)
           ∙ (h.holds (further size + p) ∙ holder_later next size sizes p);
-      sleeping = inner_sleeps name next sleeps low h.nums h.sleeping size sizes olds h.holds many alone;
+      sleeping = inner_dormant name next sleeps low h.nums h.sleeping size sizes olds h.holds many alone;
       marked = marks.0;
       no_ends = ends.0;
       alone = rest;
@@ -259,15 +257,15 @@ made_caught name next size sizes sleeps low inner olds h many alone rest fills i
     record {
       caught = λ side under. (
         k.caught (is_side (guard_kind new) 0) (side || under),
-        olds_caught name next sleeps low h.nums h.sleeping
+        further_caught name next sleeps low h.nums h.sleeping
             (side || under) (guard_kind new) (guard_hold (guard_kind new)) 1 olds (alone_tails low olds alone) marks.1,
       );
-      no_query = (kind_no_query new, (k.no_query, olds_no_query name (guard_hold (guard_kind new)) olds ends.1));
-      unspent = (k.unspent, olds_unspent (guard_hold (guard_kind new)) new);
+      no_query = (kind_no_query new, (k.no_query, further_no_query name (guard_hold (guard_kind new)) olds ends.1));
+      unspent = (k.unspent, further_unspent (guard_hold (guard_kind new)) new);
     }
   where
-    tall_is : length (olds ++ low) ≡ length low + further size
-    tall_is = omega (arith, length-append olds low, many)
+    height_is : length (olds ++ low) ≡ length low + further size
+    height_is = omega (arith, length-append olds low, many)
 
     num : (n : ℕ) → 1 ≤ n → n ≤ length (olds ++ low) → (c : Bool) → nat_le n (length low) ≡ c → suc (name n) ≤ suc next
     num n a b true e = let l : n ≤ length low = grind arith in omega (arith, h.nums n a l)
@@ -276,7 +274,7 @@ made_caught name next size sizes sleeps low inner olds h many alone rest fills i
         let place : n ≡ suc (length low + (n - suc (length low))) = omega (arith, high) in
         let here : name n ≡ next = ap name place
         ∙ (h.holds (n - suc (length low)) ∙ holder_first next size sizes (n - suc (length low))
-        (omega (arith, high, b, tall_is))) in
+        (omega (arith, high, b, height_is))) in
         omega (arith, here)
 
 pub placed_caught : (name : ℕ → ℕ) (next : ℕ) (sizes : List ℕ) (sleeps : ℕ → Bool) (low es : List Entry)

@@ -8,7 +8,8 @@ use Rattle.run_model.specs.Goals.Worlds.{World, world_step}
 use Rattle.run_model.specs.Goals.Outcomes.{Reply, Solutions, Ball, HaltNumber, GoesOnWith, EitherOf, TestOf, CutToScope, CatchOf, FindallOf}
 use Rattle.run_model.specs.Goals.Outcomes.{Outcome, Replies, Controls, AskWorld}
 use Rattle.run_model.specs.Goals.GoalOutcomes.{outcome_of}
-use Rattle.run_model.specs.Machine.Items.{Item, GoalItem, CatchMark, CollectMark, RemovalItem, Continuation, with_items, without_marks, first_mark}
+use Rattle.run_model.specs.Machine.Items.{Item, GoalItem, CatchMark, CollectMark, RemovalItem, Continuation, with_items, without_marks}
+use Rattle.run_model.specs.Machine.Items.{first_mark}
 use Rattle.run_model.specs.Machine.Entries.{Entry, PlainEntry, CatchEntry, FindallEntry, EndEntry}
 use Rattle.run_model.specs.Machine.Balls.{unwound}
 use Rattle.au_model.specs.Writing.Lines.{answer_line, end_line}
@@ -17,12 +18,12 @@ use Rattle.tree_model.specs.Credits.{credit_of}
 use Rattle.tree_model.specs.Nodes.{CutGate, BallGate, Pending}
 use Rattle.tree_model.specs.Levels.{Level, Place, Spot, levels_of}
 use Rattle.tree_model.specs.Floors.{height_of, node_of, with_heights, floor_of, query_node}
-use Rattle.tree_model.specs.Gates.{landing_scope, lands_above, ball_gate, control_gate, goal_gate, item_gate, gate_on}
+use Rattle.tree_model.specs.Gates.{ball_scope, is_caught_above, ball_gate, control_gate, goal_gate, item_gate, gate_on}
 use Rattle.tree_model.specs.PrivateRuns.{goal_alone, item_alone, taken_alone}
 use Rattle.tree_model.specs.FrontGates.{reply_taken, goal_at_front, removal_at_front, item_at_front, taken_at_front}
 use Rattle.tree_model.specs.TreeStates.{TreeState}
 use Rattle.tree_model.specs.Legality.{taken_at, gate_of}
-use Rattle.tree_model.specs.Effects.{ball_falls, or_none, gate_pruned, front_taken, stack_of, world_moved, where_some}
+use Rattle.tree_model.specs.Effects.{ball_falls, or_none, gate_pruned, front_taken, spot_stack, world_moved, where_some}
 use Rattle.tree_model.specs.PendingLists.{Way, way_of}
 use Rattle.tree_model.specs.Ways.{in_reach, way_from, AreScoped, under_query, IsAsked, IsOnWay}
 use Rattle.tree_model.specs.SoundTrees.{IsOpen, profile, IsSoundTree}
@@ -87,9 +88,9 @@ rest_asked levels n items p q r h = record { asked = q; scoped = weaken_from (wa
 -- prunes
 pruned_ball : (t : TreeState) (s : Spot) (es : List Entry) → IsAt t s → IsSoundTree (ball_falls s es t)
     → IsSoundTree (gate_pruned s (ball_gate (levels_of s) es) es t)
-pruned_ball t s es h k = go (lands_above (levels_of s) es)
+pruned_ball t s es h k = go (is_caught_above (levels_of s) es)
   where
-    go : (b : Bool) → IsSoundTree (gate_pruned s (cond b None (Some (BallGate (landing_scope (levels_of s) es)))) es t)
+    go : (b : Bool) → IsSoundTree (gate_pruned s (cond b None (Some (BallGate (ball_scope (levels_of s) es)))) es t)
     go true = h.sound
     go false = k
 
@@ -154,7 +155,7 @@ at_spot w a t s h e = let o = taken_at_open w a t s e in record
 
 pub prune_sound : (t : TreeState) (w : ℕ) (a : Place) → IsSoundTree t
     → IsSoundTree (where_some (taken_at w a t) t
-    (λ s. gate_pruned s (gate_of t s) (or_none (taken_alone t.job.clauses (stack_of s))) t))
+    (λ s. gate_pruned s (gate_of t s) (or_none (taken_alone t.job.clauses (spot_stack s))) t))
 unfolding gate_of
 prune_sound t w a h = some_sound t (taken_at w a t) _ h
     (λ s e. let k = at_spot w a t s h e in pruned_stack t s t.job.clauses s.entry k k.placed.entry.0)
@@ -229,6 +230,6 @@ stack_front t s clauses (PlainEntry f) w h i =
     (marks_dropped (way_of (levels_of s)) f.items (around_path (levels_of s) IsOpen h.placed.around) i.scoped))
 
 pub answer_sound : (t : TreeState) (w : ℕ) (a : Place) → IsSoundTree t
-    → IsSoundTree (where_some (taken_at w a t) t (λ s. world_moved s (taken_at_front t.job.clauses (stack_of s) t.world) t))
+    → IsSoundTree (where_some (taken_at w a t) t (λ s. world_moved s (taken_at_front t.job.clauses (spot_stack s) t.world) t))
 answer_sound t w a h = some_sound t (taken_at w a t) _ h
     (λ s e. let k = at_spot w a t s h e in stack_front t s t.job.clauses s.entry t.world k k.placed.entry.0)

@@ -5,9 +5,9 @@ use Rattle.std.proofs.Common.{◌∙◌, subst, arith}
 use Rattle.run_model.specs.Machine.Items.{Item, GoalItem, CatchMark, CollectMark, RemovalItem, Continuation}
 use Rattle.run_model.specs.Machine.Entries.{Entry, PlainEntry, CatchEntry, FindallEntry, EndEntry}
 use Rattle.tree_model.specs.Elements.{Element, Credit, Plain, EndOf, Catch, Findall, End}
-use Rattle.interleaving.specs.HeightMachine.{HeightEntry, held_entries}
-use Rattle.interleaving.specs.Erased.{from, count, height, with_height, erased}
-use Rattle.tree_model.specs.Nodes.{Kind, Hold, Ready, TakenBy, Waiting, Dormant, standing}
+use Rattle.interleaving.specs.HeightMachine.{HeightEntry, height_entries}
+use Rattle.interleaving.specs.Erased.{from, element_count, height, with_height, erased}
+use Rattle.tree_model.specs.Nodes.{Kind, Hold, Ready, TakenBy, Waiting, Dormant, entry_alternatives}
 use Rattle.tree_model.specs.Floors.{renamed_item, with_nodes}
 use Rattle.std.specs.Prelude.{nat_le}
 use Rattle.tree_model.specs.PendingLists.{Step, Way, scope_on, element_at, own_credit, list_among}
@@ -49,10 +49,10 @@ olders way n kind i (o ∷ os) = element_at n i (record { node = n; index = i; k
     kind (suc i) os
 
 pub bare_olders : (way : Way) (n : ℕ) (kind : Kind) (i : ℕ) (hold : Hold) (os : List Entry)
-    → bare (list_among way n kind i (standing hold os)) ≡ olders way n kind i os
+    → bare (list_among way n kind i (entry_alternatives hold os)) ≡ olders way n kind i os
 bare_olders way n kind i hold [] = refl
 bare_olders way n kind i hold (o ∷ os) =
-    let rest = EndOf (i ∷ n ∷ []) ∷ list_among way n kind (suc i) (standing hold os) in
+    let rest = EndOf (i ∷ n ∷ []) ∷ list_among way n kind (suc i) (entry_alternatives hold os) in
     no_credit hold (element_at n i (record { node = n; index = i; kind = kind } ∷ way) o) rest
     ∙ (bare-element n i (record { node = n; index = i; kind = kind } ∷ way) o rest
     ∙ ap (λ l. element_at n i (record { node = n; index = i; kind = kind } ∷ way) o ∷ EndOf (i ∷ n ∷ []) ∷ l)
@@ -65,8 +65,8 @@ bare_olders way n kind i hold (o ∷ os) =
     no_credit (Waiting g) x ys = refl
 
 -- the height of a scope that a height was named by
-abbrev pub IsMet : List Element → Way → (ℕ → ℕ) → ℕ → Type 0
-IsMet xs way name h = height xs (scope_on way (name h)) ≡ h
+abbrev pub HasItsHeight : List Element → Way → (ℕ → ℕ) → ℕ → Type 0
+HasItsHeight xs way name h = height xs (scope_on way (name h)) ≡ h
 
 -- which heights entries name: those that a mark's entry is one below are whole too
 abbrev pub ItemsMeasured : (ℕ → Type 0) → ℕ → List (Item ℕ) → Type 0
@@ -101,7 +101,7 @@ measured_split Whole low (x ∷ xs) ys h =
 
 -- an entry is what its element stands for
 items_back : (Whole : ℕ → Type 0) (q : ℕ) (xs : List Element) (way : Way) (name : ℕ → ℕ) (items : List (Item ℕ))
-    → ItemsMeasured Whole q items → ((h : ℕ) → Whole h → 1 ≤ h → h ≤ q → IsMet xs way name h) →
+    → ItemsMeasured Whole q items → ((h : ℕ) → Whole h → 1 ≤ h → h ≤ q → HasItsHeight xs way name h) →
     map (with_height (height xs)) (map (renamed_item (scope_on way) (scope_on way)) (map (renamed_item name (λ h. name (suc h))) items))
     ≡ items
 items_back Whole q xs way name [] m g = refl
@@ -125,7 +125,7 @@ abbrev cont : Continuation ℕ → List (Item ℕ) → Continuation ℕ
 cont f items = record { items = items; named = f.named; next = f.next }
 
 pub entry_back : (Whole : ℕ → Type 0) (q : ℕ) (n i : ℕ) (way : Way) (name : ℕ → ℕ) (e : Entry) (xs : List Element)
-    → EntryMeasured Whole q e → ((h : ℕ) → Whole h → 1 ≤ h → h ≤ q → IsMet xs way name h) →
+    → EntryMeasured Whole q e → ((h : ℕ) → Whole h → 1 ≤ h → h ≤ q → HasItsHeight xs way name h) →
     erased (element_at n i way (with_nodes name e) ∷ xs) ≡ HeightEntry e ∷ erased xs
 entry_back Whole q n i way name (PlainEntry f) xs m g = ap (λ l. HeightEntry (PlainEntry (cont f l)) ∷ erased xs)
     (items_back Whole q xs way name f.items m g)
@@ -145,7 +145,7 @@ from_olders way n kind i (o ∷ os) xs s h =
     ∙ (from-other way s i n (olders way n kind (suc i) os ++ xs) h ∙ from_olders way n kind (suc i) os xs s h)
 
 pub count_olders : (way : Way) (n : ℕ) (kind : Kind) (i : ℕ) (os : List Entry) (xs : List Element)
-    → count (olders way n kind i os ++ xs) ≡ length os + count xs
+    → element_count (olders way n kind i os ++ xs) ≡ length os + element_count xs
 count_olders way n kind i [] xs = omega arith
 count_olders way n kind i (o ∷ os) xs =
     let here = count-element n i (record { node = n; index = i; kind = kind } ∷ way) o
@@ -161,37 +161,39 @@ other_node m n h = go (n == m) refl
     go true e = let same : n ≡ m = grind arith in absurd (h (sym same))
 
 -- the scopes that an older entry names
-pub older_met : (Whole : ℕ → Type 0) (name : ℕ → ℕ) (next f : ℕ) (way : Way) (kind : Kind) (xs : List Element)
-    → ((h : ℕ) → Whole h → 1 ≤ h → h ≤ count xs → IsMet xs way name h) → ((h : ℕ) → 1 ≤ h → h ≤ count xs → suc (name h) ≤ next) →
-    ((h : ℕ) → Whole h → suc (count xs) ≤ h → suc h ≤ count xs + f → ⊥) → (i : ℕ) (os : List Entry) → suc (length os) ≤ f →
-    (h : ℕ) → Whole h → 1 ≤ h → h ≤ length os + count xs
-    → IsMet (EndOf (i ∷ next ∷ []) ∷ (olders way next kind (suc i) (map (with_nodes name) os) ++ xs))
+pub older_height : (Whole : ℕ → Type 0) (name : ℕ → ℕ) (next f : ℕ) (way : Way) (kind : Kind) (xs : List Element)
+    → ((h : ℕ) → Whole h → 1 ≤ h → h ≤ element_count xs → HasItsHeight xs way name h)
+    → ((h : ℕ) → 1 ≤ h → h ≤ element_count xs → suc (name h) ≤ next) →
+    ((h : ℕ) → Whole h → suc (element_count xs) ≤ h → suc h ≤ element_count xs + f → ⊥) → (i : ℕ) (os : List Entry) → suc (length os) ≤ f →
+    (h : ℕ) → Whole h → 1 ≤ h → h ≤ length os + element_count xs
+    → HasItsHeight (EndOf (i ∷ next ∷ []) ∷ (olders way next kind (suc i) (map (with_nodes name) os) ++ xs))
     (record { node = next; index = i; kind = kind } ∷ way) name h
-older_met Whole name next f way kind xs sees nums none i os l h w a b = go (nat_le h (count xs)) refl
+older_height Whole name next f way kind xs sees nums none i os l h w a b = go (nat_le h (element_count xs)) refl
   where
     step : Step
     step = record { node = next; index = i; kind = kind }
 
-    go : (c : Bool) → nat_le h (count xs) ≡ c
-        → IsMet (EndOf (i ∷ next ∷ []) ∷ (olders way next kind (suc i) (map (with_nodes name) os) ++ xs))
+    go : (c : Bool) → nat_le h (element_count xs) ≡ c
+        → HasItsHeight (EndOf (i ∷ next ∷ []) ∷ (olders way next kind (suc i) (map (with_nodes name) os) ++ xs))
         (record { node = next; index = i; kind = kind } ∷ way) name h
-    go false e = let high : suc (count xs) ≤ h = grind arith in absurd (none h w high (omega (arith, l, b)))
+    go false e = let high : suc (element_count xs) ≤ h = grind arith in absurd (none h w high (omega (arith, l, b)))
     go true e =
-        let low : h ≤ count xs = grind arith in
+        let low : h ≤ element_count xs = grind arith in
         let apart : (name h ≡ next → ⊥) = (λ z. absurd (omega (arith, nums h a low, z))) in
         let tail = olders way next kind (suc i) (map (with_nodes name) os) ++ xs in
         ap (height (EndOf (i ∷ next ∷ []) ∷ tail)) (scope-above step way (name h) (other_node (name h) next apart))
-        ∙ (ap count (from-other way (name h) i next tail apart ∙ from_olders way next kind (suc i) (map (with_nodes name) os) xs
+        ∙ (ap element_count (from-other way (name h) i next tail apart ∙ from_olders way next kind (suc i) (map (with_nodes name) os) xs
         (name h) apart) ∙ sees h w a low)
 
 pub older_erased : (Whole : ℕ → Type 0) (name : ℕ → ℕ) (next f : ℕ) (way : Way) (kind : Kind) (xs : List Element)
-    → ((h : ℕ) → Whole h → 1 ≤ h → h ≤ count xs → IsMet xs way name h) → ((h : ℕ) → 1 ≤ h → h ≤ count xs → suc (name h) ≤ next) →
-    ((h : ℕ) → Whole h → suc (count xs) ≤ h → suc h ≤ count xs + f → ⊥) → (i : ℕ) (os : List Entry) → length os ≤ f
-    → AreMeasured Whole (count xs) os →
-    erased (olders way next kind i (map (with_nodes name) os) ++ xs) ≡ held_entries os ++ erased xs
+    → ((h : ℕ) → Whole h → 1 ≤ h → h ≤ element_count xs → HasItsHeight xs way name h)
+    → ((h : ℕ) → 1 ≤ h → h ≤ element_count xs → suc (name h) ≤ next) →
+    ((h : ℕ) → Whole h → suc (element_count xs) ≤ h → suc h ≤ element_count xs + f → ⊥) → (i : ℕ) (os : List Entry) → length os ≤ f
+    → AreMeasured Whole (element_count xs) os →
+    erased (olders way next kind i (map (with_nodes name) os) ++ xs) ≡ height_entries os ++ erased xs
 older_erased Whole name next f way kind xs sees nums none i [] l m = refl
 older_erased Whole name next f way kind xs sees nums none i (o ∷ os) l m =
     let tail = olders way next kind (suc i) (map (with_nodes name) os) ++ xs in
-    entry_back Whole (length os + count xs) next i (record { node = next; index = i; kind = kind } ∷ way) name o
-    (EndOf (i ∷ next ∷ []) ∷ tail) m.0 (older_met Whole name next f way kind xs sees nums none i os l)
+    entry_back Whole (length os + element_count xs) next i (record { node = next; index = i; kind = kind } ∷ way) name o
+    (EndOf (i ∷ next ∷ []) ∷ tail) m.0 (older_height Whole name next f way kind xs sees nums none i os l)
     ∙ ap (λ r. HeightEntry o ∷ r) (older_erased Whole name next f way kind xs sees nums none (suc i) os (omega arith) m.1)

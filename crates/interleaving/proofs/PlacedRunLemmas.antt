@@ -5,7 +5,7 @@ use Rattle.std.specs.Prelude.{nat_le}
 use Rattle.au_model.specs.Terms.Each.{Each}
 use Rattle.run_model.specs.Machine.Entries.{Entry}
 use Rattle.tree_model.specs.Elements.{Element}
-use Rattle.interleaving.specs.HeightMachine.{held_entries}
+use Rattle.interleaving.specs.HeightMachine.{height_entries}
 use Rattle.interleaving.specs.Erased.{height, erased}
 use Rattle.tree_model.specs.Levels.{Level}
 use Rattle.tree_model.specs.Floors.{height_of, node_of, floor_of}
@@ -13,20 +13,22 @@ use Rattle.tree_model.specs.Shapes.{cuts_of, fits_shape, placed_scope, placed}
 use Rattle.tree_model.specs.PendingLists.{way_of, step_of, scope_on, list_below}
 use Rattle.tree_model.specs.Ways.{is_on}
 use Rattle.tree_model.specs.Legality.{is_nonempty}
-use Rattle.interleaving.proofs.WayLemmas.{cond-true, cond-false, other_number, same_self}
+use Rattle.interleaving.proofs.WayLemmas.{cond-true, cond-false, other_number}
 use Rattle.interleaving.proofs.RoundtripLemmas.{IsPath}
 use Rattle.interleaving.proofs.BallLemmas.{node_on}
 use Rattle.interleaving.proofs.RunSoundLemmas.{height_way, length-heights, floor_way, IsRun}
 use Rattle.interleaving.proofs.LegalLemmas.{placed_floor, placed_above, one_size, any_seen}
 use Rattle.interleaving.proofs.PlacedSoundLemmas.{named_in, IsSeen, all_seen}
 use Rattle.interleaving.proofs.NamedFloorLemmas.{below_named, count-below, low_height, below_erased}
-use Rattle.interleaving.proofs.PlacedNameLemmas.{bare, IsMet, AreMeasured}
-use Rattle.interleaving.proofs.PlacedErasedLemmas.{NoneInside, Fills, IsNaming, held-append, placed_erased}
+use Rattle.interleaving.proofs.PlacedNameLemmas.{bare, HasItsHeight, AreMeasured}
+use Rattle.interleaving.proofs.PlacedErasedLemmas.{NoneInside, HaveSizes, IsNaming, placed_erased}
 use Rattle.interleaving.proofs.PlacedReadableLemmas.{placed_read}
 use Rattle.interleaving.proofs.RunMeasuredLemmas.{NotInside, not_inside_low, none_inside, fits_fill, cut_not_inside, GuardAt}
 use Rattle.interleaving.proofs.RunMeasuredLemmas.{guard_not_inside}
 use Rattle.interleaving.proofs.RunNameLemmas.{are_measured}
 use Rattle.interleaving.proofs.ReadableLemmas.{IsReadable}
+use Rattle.interleaving.proofs.TestLemmas.{true_false, number_same}
+use Rattle.interleaving.proofs.SequentialHeightLemmas.{height-append}
 
 -- a height of the floor, its node, and the node's height
 pub height_node : (levels : List Level) → IsPath (way_of levels) → (h : ℕ) → 1 ≤ h → h ≤ length levels
@@ -37,7 +39,7 @@ height_node (v ∷ up) p h a b = go (h == suc (length up)) refl (height_node up 
     go : (c : Bool) → (h == suc (length up)) ≡ c → (h ≤ length up → height_of up (node_of up h) ≡ h)
         → height_of (v ∷ up) (cond c v.number (node_of up h)) ≡ h
     go true e f = let top : h ≡ suc (length up) = grind arith in cond-true (v.number == v.number) (suc (length up))
-        (height_of up v.number) (same_self v.number) ∙ sym top
+        (height_of up v.number) (number_same v.number) ∙ sym top
     go false e f =
         let low : h ≤ length up = grind arith in
         let off : (v.number == node_of up h) ≡ false = other_number (way_of up) v.number (node_of up h) p.0 (node_on up h a low)
@@ -56,14 +58,11 @@ pub record IsPublished (levels : List Level) (next : ℕ) (sizes : List ℕ) (es
   pub some : is_nonempty es ≡ true
   pub fit : fits_shape (length levels) sizes es ≡ true
 
-clash : true ≡ false → ⊥
-clash z = cc
-
 naming_by : (Whole : ℕ → Type 0) (seen : ℕ → Bool) (levels : List Level) (next : ℕ) (sizes : List ℕ) (es : List Entry)
     → IsPublished levels next sizes es →
     ((h : ℕ) → seen h ≡ true → Whole h) → ((h : ℕ) → suc h ≤ length (height_way levels) → Whole (suc h))
     → ((h : ℕ) → GuardAt (length (height_way levels)) es h → Whole (suc h)) → Each (IsSeen seen) es →
-    NoneInside Whole (length levels) sizes → Fills sizes es → IsNaming Whole (placed_scope next sizes levels) next sizes (way_of levels)
+    NoneInside Whole (length levels) sizes → HaveSizes sizes es → IsNaming Whole (placed_scope next sizes levels) next sizes (way_of levels)
     (below_named levels) es
 naming_by Whole seen levels next sizes es p cuts low guards v none fills =
     record {
@@ -77,7 +76,7 @@ naming_by Whole seen levels next sizes es p cuts low guards v none fills =
       fills = fills;
     }
   where
-    met : (h : ℕ) → 1 ≤ h → h ≤ length levels → IsMet (below_named levels) (way_of levels) (placed_scope next sizes levels) h
+    met : (h : ℕ) → 1 ≤ h → h ≤ length levels → HasItsHeight (below_named levels) (way_of levels) (placed_scope next sizes levels) h
     met h a b = ap (λ m. height (below_named levels) (scope_on (way_of levels) m)) (placed_floor next sizes levels h b)
         ∙ (low_height levels (node_of levels h) ∙ height_node levels p.path h a b)
 
@@ -86,7 +85,7 @@ naming_by Whole seen levels next sizes es p cuts low guards v none fills =
       where
         go : (c : Bool) → nat_le next (node_of levels h) ≡ c → suc (placed_scope next sizes levels h) ≤ next
         go true e = let high : next ≤ node_of levels h = grind arith in absurd
-            (clash (sym (node_on levels h a b) ∙ p.new (node_of levels h) high))
+            (true_false (sym (node_on levels h a b) ∙ p.new (node_of levels h) high))
         go false e = let l : suc (node_of levels h) ≤ next = grind arith in omega (arith, l, placed_floor next sizes levels h b)
 
 -- one entry
@@ -111,26 +110,26 @@ many_naming levels next sizes e d es p =
     (none_inside (NotInside (length levels) sizes) (length levels) sizes (λ h w. w))
     (fits_fill (length levels) cuts sizes all p.fit)
 
-pub record StandPlaced (levels : List Level) (next : ℕ) (sizes : List ℕ) (es : List Entry) : Type 0 where
-  pub erases : erased (placed_list levels next sizes es ++ below_named levels) ≡ held_entries (es ++ floor_of levels)
+pub record PlacedIsErased (levels : List Level) (next : ℕ) (sizes : List ℕ) (es : List Entry) : Type 0 where
+  pub erases : erased (placed_list levels next sizes es ++ below_named levels) ≡ height_entries (es ++ floor_of levels)
   pub reads : IsReadable (below_named levels) → IsReadable (placed_list levels next sizes es ++ below_named levels)
 
 by_naming : (Whole : ℕ → Type 0) (v : Level) (up : List Level) (next : ℕ) (sizes : List ℕ) (es : List Entry) → IsPath (way_of (v ∷ up)) →
     IsNaming Whole (placed_scope next sizes (v ∷ up)) next sizes (way_of (v ∷ up)) (below_named (v ∷ up)) es
-    → StandPlaced (v ∷ up) next sizes es
+    → PlacedIsErased (v ∷ up) next sizes es
 by_naming Whole v up next sizes es p n = record {
   erases = placed_erased Whole (placed_scope next sizes (v ∷ up)) next sizes (step_of v) (way_of up) (below_named (v ∷ up)) es n
-      ∙ (ap (λ l. held_entries es ++ l) (below_erased (v ∷ up) p) ∙ sym (held-append es (floor_of (v ∷ up))));
+      ∙ (ap (λ l. height_entries es ++ l) (below_erased (v ∷ up) p) ∙ sym (height-append es (floor_of (v ∷ up))));
   reads = placed_read Whole (placed_scope next sizes (v ∷ up)) next sizes (step_of v) (way_of up) (below_named (v ∷ up)) es n;
 }
 
-pub stand_placed : (v : Level) (up : List Level) (next : ℕ) (sizes : List ℕ) (es : List Entry) → IsPublished (v ∷ up) next sizes es
-    → StandPlaced (v ∷ up) next sizes es
-stand_placed v up next sizes [] p = absurd (clash (sym p.some))
-stand_placed v up next sizes (e ∷ []) p =
+pub placed_is_erased : (v : Level) (up : List Level) (next : ℕ) (sizes : List ℕ) (es : List Entry) → IsPublished (v ∷ up) next sizes es
+    → PlacedIsErased (v ∷ up) next sizes es
+placed_is_erased v up next sizes [] p = absurd (true_false (sym p.some))
+placed_is_erased v up next sizes (e ∷ []) p =
     let one = one_size sizes p.fit in
-    subst (λ sz. StandPlaced (v ∷ up) next sz (e ∷ [])) (sym one)
+    subst (λ sz. PlacedIsErased (v ∷ up) next sz (e ∷ [])) (sym one)
     (by_naming (λ h. Unit {0}) v up next (1 ∷ []) (e ∷ []) p.path
     (single_naming (v ∷ up) next e (subst (λ sz. IsPublished (v ∷ up) next sz (e ∷ [])) one p)))
-stand_placed v up next sizes (e ∷ d ∷ es) p = by_naming (NotInside (length (v ∷ up)) sizes) v up next sizes (e ∷ d ∷ es) p.path
+placed_is_erased v up next sizes (e ∷ d ∷ es) p = by_naming (NotInside (length (v ∷ up)) sizes) v up next sizes (e ∷ d ∷ es) p.path
     (many_naming (v ∷ up) next sizes e d es p)

@@ -1,25 +1,27 @@
 -- Entries that become nodes: their scopes, shapes and kinds.
 use Rattle.std.proofs.Common.{◌≡◌, ℕ, suc, ◌+◌, ◌-◌, ◌≤◌, ◌==◌, Bool, true, false, List, [], ◌∷◌, ◌++◌, map, length, take, drop, refl}
 use Rattle.std.proofs.Common.{sym, ap, ◌∙◌, subst, arith}
-use Rattle.std.specs.Prelude.{◌&&◌, nat_lt, nat_le}
+use Rattle.std.specs.Prelude.{nat_lt, nat_le}
 use Rattle.au_model.specs.Terms.Each.{Each}
 use Rattle.run_model.specs.Machine.Entries.{Entry, PlainEntry, CatchEntry, FindallEntry, EndEntry}
 use Rattle.tree_model.specs.Nodes.{CatchNode, FindallNode, Numbered, alternative, Status, Inner}
 use Rattle.tree_model.specs.Floors.{with_nodes}
-use Rattle.tree_model.specs.Shapes.{further, is_unsplit, is_alone, fits, holder, guard_kind, guard_hold, further_alternatives}
+use Rattle.tree_model.specs.Shapes.{further, is_unsplit, is_alone, fits_nodes, holder, guard_kind, guard_hold, further_alternatives}
 use Rattle.tree_model.specs.Shapes.{placed_status}
 use Rattle.tree_model.specs.PendingLists.{Step, Way}
 use Rattle.tree_model.specs.Ways.{is_on, is_query, under_query, is_below}
 use Rattle.tree_model.specs.SoundTrees.{one_if, count_among, count_below, Profile, IsOpen, profile, profiles, some_open, is_live}
 use Rattle.tree_model.specs.SoundTrees.{is_shape, IsSound}
 use Rattle.interleaving.proofs.WayLemmas.{cond-true, cond-false}
-use Rattle.interleaving.proofs.RoundtripLemmas.{not_same, IsPath}
+use Rattle.interleaving.proofs.RoundtripLemmas.{IsPath}
 use Rattle.interleaving.proofs.CollapseLemmas.{Collapses, kept}
 use Rattle.interleaving.proofs.StackLemmas.{IsCounted, entry_step, stack_way, length-stack, counted_stack, AreOver}
 use Rattle.interleaving.proofs.RunSoundLemmas.{IsAwakeTop}
 use Rattle.interleaving.proofs.PlacedSoundLemmas.{named_in, IsSeen, inside_hidden, placed_asked, over_split, take-drop, map-take}
 use Rattle.interleaving.proofs.PlacedSoundLemmas.{map-drop, map-length, drop-length, take_awake, each-take, each-drop, two_not_one}
-use Rattle.interleaving.proofs.PlacedSoundLemmas.{several_awake, first_awake, standing_none, IsOlder, plain_older}
+use Rattle.interleaving.proofs.PlacedSoundLemmas.{several_awake, first_awake, alternatives_none, IsOlder, plain_older}
+use Rattle.au_term.proofs.LogicLemmas.{and-right, and-left}
+use Rattle.interleaving.proofs.TestLemmas.{not_equal}
 
 older : (name : ℕ → ℕ) (seen : ℕ → Bool) (w a : Way) (next : ℕ) (o : Entry) (os : List Entry) → is_alone (o ∷ os) ≡ true →
     Collapses name seen w a → IsPath a → under_query a ≡ true → is_on a next ≡ false → Each (IsSeen seen) (o ∷ os) → AreOver w (o ∷ os)
@@ -58,7 +60,7 @@ pub record IsPlacing (name : ℕ → ℕ) (cuts : List ℕ) (next : ℕ) (sizes 
   pub awake : IsAwakeTop es
   pub seen : Each (IsSeen (named_in cuts)) es
   pub holds : (p : ℕ) → name (suc (length w + p)) ≡ holder next sizes p
-  pub fit : fits (length w) cuts sizes es ≡ true
+  pub fit : fits_nodes (length w) cuts sizes es ≡ true
 
 pub record IsPlacedSound (a : Way) (next : ℕ) (sizes : List ℕ) (status : Status) : Type 0 where
   pub sound : IsSound a status
@@ -86,35 +88,27 @@ last_placed name cuts next w a (EndEntry b) h = record
 last_placed name cuts next w a (CatchEntry c r f) h = absurd h.awake
 last_placed name cuts next w a (FindallEntry results l f) h = absurd h.awake
 
-both_l : (a b : Bool) → (a && b) ≡ true → a ≡ true
-both_l true b h = refl
-both_l false b h = let no_way : ⊥ = cc in absurd no_way
-
-both_r : (a b : Bool) → (a && b) ≡ true → b ≡ true
-both_r true b h = h
-both_r false b h = let no_way : ⊥ = cc in absurd no_way
-
 -- the parts of a fitting size
 pub record FitsOne (low size : ℕ) (sizes cuts : List ℕ) (es : List Entry) : Type 0 where
   pub two : 2 ≤ size
   pub room : suc (further size) ≤ length es
   pub alone : is_alone (drop (length es - further size) es) ≡ true
   pub unsplit : is_unsplit low size cuts ≡ true
-  pub rest : fits (low + further size) cuts sizes (take (length es - further size) es) ≡ true
+  pub rest : fits_nodes (low + further size) cuts sizes (take (length es - further size) es) ≡ true
 
-pub fits_one : (low size : ℕ) (sizes cuts : List ℕ) (es : List Entry) → fits low cuts (size ∷ sizes) es ≡ true
+pub fits_one : (low size : ℕ) (sizes cuts : List ℕ) (es : List Entry) → fits_nodes low cuts (size ∷ sizes) es ≡ true
     → FitsOne low size sizes cuts es
 fits_one low size sizes cuts es h =
     let rest = length es - further size in
-    let h1 = both_r (nat_le 2 size) _ h in
-    let h2 = both_r (nat_lt (further size) (length es)) _ h1 in
-    let h3 = both_r (is_alone (drop rest es)) _ h2 in
+    let h1 = and-right (nat_le 2 size) _ h in
+    let h2 = and-right (nat_lt (further size) (length es)) _ h1 in
+    let h3 = and-right (is_alone (drop rest es)) _ h2 in
     record {
-      two = le_two (both_l (nat_le 2 size) _ h);
-      room = lt_room (both_l (nat_lt (further size) (length es)) _ h1);
-      alone = both_l (is_alone (drop rest es)) _ h2;
-      unsplit = both_l (is_unsplit low size cuts) _ h3;
-      rest = both_r (is_unsplit low size cuts) _ h3;
+      two = le_two (and-left (nat_le 2 size) _ h);
+      room = lt_room (and-left (nat_lt (further size) (length es)) _ h1);
+      alone = and-left (is_alone (drop rest es)) _ h2;
+      unsplit = and-left (is_unsplit low size cuts) _ h3;
+      rest = and-right (is_unsplit low size cuts) _ h3;
     }
   where
     le_two : nat_le 2 size ≡ true → 2 ≤ size
@@ -166,7 +160,7 @@ node_sound : (name : ℕ → ℕ) (cuts : List ℕ) (next size : ℕ) (sizes : L
     IsCounted w → Collapses name (named_in cuts) w a → IsPath a → under_query a ≡ true → ((m : ℕ) → next ≤ m → is_on a m ≡ false)
     → AreOver w (inner ++ olds) → IsAwakeTop inner → Each (IsSeen (named_in cuts)) inner → Each (IsSeen (named_in cuts)) olds →
     ((p : ℕ) → name (suc (length w + p)) ≡ holder next (size ∷ sizes) p) → is_alone olds ≡ true → is_unsplit (length w) size cuts ≡ true
-    → fits (length w + further size) cuts sizes inner ≡ true → length olds ≡ further size → 2 ≤ size →
+    → fits_nodes (length w + further size) cuts sizes inner ≡ true → length olds ≡ further size → 2 ≤ size →
     ((v b : Way) → IsPlacing name cuts (suc next) sizes v b inner
     → IsPlacedSound b (suc next) sizes (placed_status (suc next) sizes (map (with_nodes name) inner))) →
     IsPlacedSound a next (size ∷ sizes)
@@ -215,12 +209,12 @@ node_sound name cuts next size sizes w a inner (o ∷ os) c k p u nw ov aw si so
       collapse = old.collapse;
       path = (off, p);
       asked = cond-false (is_query (guard_kind new)) true (under_query a) old.no_query ∙ u;
-      new = λ m x. cond-false (next == m) true (is_on a m) (not_same next m x) ∙ nw m (omega arith);
+      new = λ m x. cond-false (next == m) true (is_on a m) (not_equal next m x) ∙ nw m (omega arith);
       over = split.0;
       awake = aw;
       seen = si;
       holds = later;
-      fit = subst (λ n. fits n cuts sizes inner ≡ true) (sym taller) fi;
+      fit = subst (λ n. fits_nodes n cuts sizes inner ≡ true) (sym taller) fi;
     }
 
     go : IsPlacedSound (first ∷ a) (suc next) sizes (placed_status (suc next) sizes (map (with_nodes name) inner))
@@ -238,14 +232,14 @@ node_sound name cuts next size sizes w a inner (o ∷ os) c k p u nw ov aw si so
         arith,
         one_other m (other_way m next x),
         r.low m (omega arith),
-        standing_none m (guard_hold (guard_kind new))
+        alternatives_none m (guard_hold (guard_kind new))
             new,
       );
       high = λ m x. omega (
         arith,
-        one_other m (not_same next m (omega arith)),
+        one_other m (not_equal next m (omega arith)),
         r.high m (omega arith),
-        standing_none m
+        alternatives_none m
             (guard_hold (guard_kind new)) new,
       );
     }
@@ -263,9 +257,9 @@ node_sound name cuts next size sizes w a inner (o ∷ os) c k p u nw ov aw si so
         few_at m true e =
             let same : next ≡ m = grind arith in
             let one : one_if (next == m) ≡ 1 = ap one_if e in
-            omega (arith, one, r.low m (omega (arith, same)), standing_none m (guard_hold (guard_kind new)) new)
+            omega (arith, one, r.low m (omega (arith, same)), alternatives_none m (guard_hold (guard_kind new)) new)
         few_at m false e = let zero_new : one_if (next == m)
-            ≡ 0 = ap one_if e in omega (arith, zero_new, r.few m, standing_none m (guard_hold (guard_kind new)) new)
+            ≡ 0 = ap one_if e in omega (arith, zero_new, r.few m, alternatives_none m (guard_hold (guard_kind new)) new)
 
 pub placed_in : (name : ℕ → ℕ) (cuts : List ℕ) (next : ℕ) (sizes : List ℕ) (w a : Way) (es : List Entry)
     → IsPlacing name cuts next sizes w a es → IsPlacedSound a next sizes (placed_status next sizes (map (with_nodes name) es))

@@ -6,19 +6,21 @@ use Rattle.std.specs.List.{list_any}
 use Rattle.au_model.specs.Terms.Each.{Each}
 use Rattle.run_model.specs.Machine.Items.{Item, GoalItem, CatchMark, CollectMark, RemovalItem}
 use Rattle.run_model.specs.Machine.Entries.{Entry, PlainEntry, CatchEntry, FindallEntry, EndEntry}
-use Rattle.tree_model.specs.Nodes.{ChoiceNode, Hold, Ready, standing}
+use Rattle.tree_model.specs.Nodes.{ChoiceNode, Hold, entry_alternatives}
 use Rattle.tree_model.specs.Floors.{with_nodes}
 use Rattle.tree_model.specs.Shapes.{further, is_guard, cuts_of_items, cuts_of_entry, cuts_of, is_unsplit, is_alone, guard_kind}
 use Rattle.tree_model.specs.Shapes.{guard_hold, further_alternatives}
 use Rattle.tree_model.specs.PendingLists.{Way}
 use Rattle.tree_model.specs.Ways.{is_on, is_query, under_query, IsAsked, IsAwake}
-use Rattle.tree_model.specs.SoundTrees.{count_among, IsOpen, profiles, none_sleeps, is_shape, AreSound}
-use Rattle.interleaving.proofs.WayLemmas.{same_self}
+use Rattle.tree_model.specs.SoundTrees.{count_among, IsOpen, profiles, is_shape, AreSound}
 use Rattle.interleaving.proofs.RoundtripLemmas.{by_nodes, IsPath}
-use Rattle.interleaving.proofs.GrowingLemmas.{IsReadyOn, ready_below, ready_awake}
-use Rattle.interleaving.proofs.CollapseLemmas.{Collapses, kept, hidden, AreSeen, as_scopes, items_kept}
+use Rattle.interleaving.proofs.GrowingLemmas.{IsReadyOn, alternatives_sound, alternatives_shape}
+use Rattle.interleaving.proofs.CollapseLemmas.{Collapses, kept, hidden, AreSeen, as_scopes, items_preserved}
 use Rattle.interleaving.proofs.StackLemmas.{entry_step, stack_way, length-stack, IsOver, AreOver}
 use Rattle.interleaving.proofs.RunSoundLemmas.{IsAwakeTop}
+use Rattle.au_term.proofs.LogicLemmas.{not-true}
+use Rattle.interleaving.proofs.TestLemmas.{number_same}
+use Rattle.au_model.proofs.ApplyLemmas.{or_left, or_right}
 
 -- the heights that goals name
 abbrev pub named_in : List ℕ → ℕ → Bool
@@ -30,14 +32,6 @@ IsSeen seen (CatchEntry c r f) = AreSeen seen f.items
 IsSeen seen (FindallEntry results l f) = AreSeen seen f.items
 IsSeen seen (EndEntry b) = Unit {0}
 
-or-right : (a b : Bool) → b ≡ true → (a || b) ≡ true
-or-right true b h = refl
-or-right false b h = h
-
-or-left : (a b : Bool) → a ≡ true → (a || b) ≡ true
-or-left true b h = refl
-or-left false b h = let no_way : ⊥ = cc in absurd no_way
-
 -- lists of heights within others
 abbrev pub AreIn : List ℕ → List ℕ → Type 0
 AreIn part cuts = (h : ℕ) → named_in part h ≡ true → named_in cuts h ≡ true
@@ -45,7 +39,7 @@ AreIn part cuts = (h : ℕ) → named_in part h ≡ true → named_in cuts h ≡
 items_seen : (cuts : List ℕ) (items : List (Item ℕ)) → AreIn (cuts_of_items items) cuts → AreSeen (named_in cuts) items
 items_seen cuts [] i = tt
 items_seen cuts (GoalItem t h ∷ items) i =
-    (i h (or-left (h == h) _ (same_self h)), items_seen cuts items (λ k j. i k (or-right (h == k) _ j)))
+    (i h (or_left (h == h) _ (number_same h)), items_seen cuts items (λ k j. i k (or_right (h == k) _ j)))
 items_seen cuts (CatchMark h ∷ items) i = items_seen cuts items i
 items_seen cuts (CollectMark t h ∷ items) i = items_seen cuts items i
 items_seen cuts (RemovalItem n ∷ items) i = items_seen cuts items i
@@ -67,7 +61,7 @@ in_front (x ∷ xs) ys h k = go (x == h) (in_front xs ys h) k
 
 behind : (xs ys : List ℕ) (h : ℕ) → named_in ys h ≡ true → named_in (xs ++ ys) h ≡ true
 behind [] ys h k = k
-behind (x ∷ xs) ys h k = or-right (x == h) (named_in (xs ++ ys) h) (behind xs ys h k)
+behind (x ∷ xs) ys h k = or_right (x == h) (named_in (xs ++ ys) h) (behind xs ys h k)
 
 all_seen_in : (cuts : List ℕ) (es : List Entry) → AreIn (cuts_of es) cuts → Each (IsSeen (named_in cuts)) es
 all_seen_in cuts [] i = tt
@@ -97,8 +91,8 @@ inside_hidden low size cuts u h a b = go (named_in cuts h) refl
             let same : c ≡ h = grind arith in
             let lower : nat_lt low c ≡ true = grind arith in
             let upper : nat_lt c (low + further size) ≡ true = grind arith in
-            or-left _ _ (ap (λ x. x && nat_lt c (low + further size)) lower ∙ upper)
-        pick false e f j = or-right (nat_lt low c && nat_lt c (low + further size)) _ (f j)
+            or_left _ _ (ap (λ x. x && nat_lt c (low + further size)) lower ∙ upper)
+        pick false e f j = or_right (nat_lt low c && nat_lt c (low + further size)) _ (f j)
 
     go : (z : Bool) → named_in cuts h ≡ z → z ≡ false
     go false e = refl
@@ -123,7 +117,7 @@ hidden_steps name seen w a (FindallEntry results l f ∷ os) k v c = absurd k.0
 -- an entry under its new names
 pub placed_asked : (name : ℕ → ℕ) (seen : ℕ → Bool) (w a : Way) (items : List (Item ℕ)) → Collapses name seen w a → IsPath a → under_query a
     ≡ true → AreSeen seen items → IsAsked w (as_scopes items) → IsAsked a (by_nodes name items)
-placed_asked name seen w a items c p u v h = record { asked = u; scoped = items_kept name seen w a items c p v h.scoped }
+placed_asked name seen w a items c p u v h = record { asked = u; scoped = items_preserved name seen w a items c p v h.scoped }
 
 pub placed_ready : (name : ℕ → ℕ) (seen : ℕ → Bool) (w a : Way) (e : Entry) → Collapses name seen w a → IsPath a → under_query a ≡ true
     → IsSeen seen e → IsAwake e → IsOver w e → IsReadyOn a (with_nodes name e)
@@ -208,10 +202,6 @@ pub or-false : (a b : Bool) → b ≡ false → (a || b) ≡ true → a ≡ true
 or-false true b h k = refl
 or-false false b h k = sym h ∙ k
 
-pub not-true : (b : Bool) → not b ≡ true → b ≡ false
-not-true false h = refl
-not-true true h = let no_way : ⊥ = cc in absurd no_way
-
 no_guards : (os : List Entry) → list_any is_guard os ≡ false → Each IsAwake os
 no_guards [] h = tt
 no_guards (PlainEntry f ∷ os) h = (tt, no_guards os h)
@@ -229,18 +219,9 @@ first_awake x [] k h = (k, tt)
 first_awake x (y ∷ os) k h = several_awake x y os h
 
 -- alternatives that hold nothing below them
-pub standing_none : (m : ℕ) (hold : Hold) (es : List Entry) → count_among m (standing hold es) ≡ 0
-standing_none m hold [] = refl
-standing_none m hold (e ∷ es) = let h = standing_none m hold es in omega (arith, h)
-
-standing_open : (es : List Entry) → none_sleeps (profiles (standing Ready es)) ≡ true
-standing_open [] = refl
-standing_open (e ∷ es) = standing_open es
-
-standing_below : (a : Way) (n i : ℕ) (es : List Entry) → is_on a n ≡ false → Each (IsReadyOn a) es
-    → AreSound a n ChoiceNode i (standing Ready es)
-standing_below a n i [] o h = tt
-standing_below a n i (e ∷ es) o h = ((ready_below a n i e o h.0, ready_awake a e h.0), standing_below a n (suc i) es o h.1)
+pub alternatives_none : (m : ℕ) (hold : Hold) (es : List Entry) → count_among m (entry_alternatives hold es) ≡ 0
+alternatives_none m hold [] = refl
+alternatives_none m hold (e ∷ es) = let h = alternatives_none m hold es in omega (arith, h)
 
 -- the older entries of a new node
 pub record IsOlder (name : ℕ → ℕ) (seen : ℕ → Bool) (w a : Way) (next : ℕ) (olds new : List Entry) : Type 0 where
@@ -262,7 +243,9 @@ plain_older name seen w a next o os j z k c p u off v h n hid =
     record {
       collapse = kept (entry_step o (length os + length w)) (record { node = next; index = 0; kind = guard_kind new }) (stack_way os w)
           a n refl (j ∙ sym z) low;
-      right = subst (λ kind. AreSound a next kind 1 (standing (guard_hold kind) new)) (sym z) (standing_below a next 1 new off ready);
-      shape = subst (λ kind. is_shape kind (IsOpen ∷ profiles (standing (guard_hold kind) new)) ≡ true) (sym z) (standing_open new);
+      right = subst (λ kind. AreSound a next kind 1 (entry_alternatives (guard_hold kind) new)) (sym z)
+          (alternatives_sound a next 1 new off ready);
+      shape = subst (λ kind. is_shape kind (IsOpen ∷ profiles (entry_alternatives (guard_hold kind) new)) ≡ true) (sym z)
+          (alternatives_shape new);
       no_query = ap is_query z;
     }

@@ -10,67 +10,70 @@ use Rattle.au_model.specs.Terms.Unifier.{unifier}
 use Rattle.au_model.specs.Terms.Copies.{copied, copy_takes}
 use Rattle.run_model.specs.Programs.Clauses.{Clause}
 use Rattle.run_model.specs.Programs.Jobs.{Query}
-use Rattle.run_model.specs.Goals.Outcomes.{Solution, Reply, Solutions, Ball, HaltNumber, ControlForm, GoesOnWith, EitherOf, TestOf, CutToScope}
+use Rattle.run_model.specs.Goals.Outcomes.{Solution, Reply, Solutions, Ball, HaltNumber, ControlForm, GoesOnWith, EitherOf, TestOf}
+use Rattle.run_model.specs.Goals.Outcomes.{CutToScope}
 use Rattle.run_model.specs.Goals.Outcomes.{CatchOf, FindallOf}
 use Rattle.run_model.specs.Machine.Items.{Item, GoalItem, CatchMark, CollectMark, Continuation, goals_at, with_next, before, first_mark}
 use Rattle.interleaving.specs.Machine.{Look, On, Here, looked, search_for, placed}
 use Rattle.tree_model.specs.Elements.{Name, same, Element, Credit, Plain, EndOf, Catch, Findall, End}
-use Rattle.interleaving.specs.Scopes.{Sought, Scope, Thrown, Caught, unified, solution_entries, reply_place, control_place, goals_first}
-use Rattle.interleaving.specs.Scopes.{test_items, opened, recovered, look, scoped}
-use Rattle.interleaving.specs.Erased.{from, count}
-use Rattle.interleaving.specs.Sound.{names, IsOlder, AreCarried, IsGuarded, IsGathered, IsMarkSound, EachFindall, IsEntrySound, IsSound}
-use Rattle.interleaving.proofs.RunFrontLemmas.{append-assoc-at, append-none}
+use Rattle.interleaving.specs.Scopes.{Sought, Scope, Thrown, Caught, unified_element, solution_elements, reply_place, control_place}
+use Rattle.interleaving.specs.Scopes.{goals_first}
+use Rattle.interleaving.specs.Scopes.{named_test_items, opened_elements, recovery_look, look, scoped}
+use Rattle.interleaving.specs.Erased.{from, element_count}
+use Rattle.interleaving.specs.Sound.{names, IsMadeElsewhere, AreCarried, IsGuarded, IsGathered, IsMarkSound, EachFindall, IsEntrySound}
+use Rattle.interleaving.specs.Sound.{IsSound}
 use Rattle.interleaving.proofs.NamingLemmas.{IsMadeBy, from_end, from_own, longer, not_longer}
 use Rattle.interleaving.proofs.CarriedLemmas.{findalls-map, sound-from, entry_child, entry_rest, entry_cut, entry_goals, front_of}
 use Rattle.interleaving.proofs.CarriedLemmas.{front_child, older-goals, own_front, here_front, from_first, other_child, entry_resolved}
 use Rattle.interleaving.proofs.PlaceHeightLemmas.{ends_made, solutions-made, from-solutions, search-from}
+use Rattle.interleaving.proofs.AppendLemmas.{append-assoc, append-nil}
 
 -- solutions
 pub unified-findalls : (P : Name → Type 0) (o : Option Substitution) (q : Name) (f : Continuation Name) (zs : List Element)
-    → EachFindall P zs → EachFindall P (unified o q f ++ zs)
+    → EachFindall P zs → EachFindall P (unified_element o q f ++ zs)
 unified-findalls P None q f zs h = h
 unified-findalls P (Some s) q f zs h = h
 
 pub solutions-findalls : (P : Name → Type 0) (n : ℕ) (p : Name) (f : Continuation Name) (ss : List Solution)
-    → EachFindall P (solution_entries n p f ss)
+    → EachFindall P (solution_elements n p f ss)
 solutions-findalls P n p f [] = tt
 solutions-findalls P n p f (s ∷ ss) =
     unified-findalls P (unifier s.equations) (n ∷ p) (with_next (f.next + s.variables) (before (goals_at p s.goals) f))
-    (solution_entries (suc n) p f ss) (solutions-findalls P (suc n) p f ss)
+    (solution_elements (suc n) p f ss) (solutions-findalls P (suc n) p f ss)
 
 unified-sound : (o : Option Substitution) (q : Name) (g : Continuation Name) (zs : List Element)
-    → IsEntrySound q zs (names g.items) g.items → IsSound zs → IsSound (unified o q g ++ zs)
+    → IsEntrySound q zs (names g.items) g.items → IsSound zs → IsSound (unified_element o q g ++ zs)
 unified-sound None q g zs e k = k
 unified-sound (Some s) q g zs e k = (entry_resolved q zs s g.items e, k)
 
 pub solutions-sound : (n : ℕ) (p : Name) (f : Continuation Name) (ss : List Solution) (xs : List Element)
-    → IsEntrySound p xs (names f.items) f.items → IsSound xs → IsSound (solution_entries n p f ss ++ xs)
+    → IsEntrySound p xs (names f.items) f.items → IsSound xs → IsSound (solution_elements n p f ss ++ xs)
 solutions-sound n p f [] xs s k = k
 solutions-sound n p f (t ∷ ss) xs s k =
-    let rest : List Element = solution_entries (suc n) p f ss in
+    let rest : List Element = solution_elements (suc n) p f ss in
     let one : Continuation Name = with_next (f.next + t.variables) (before (goals_at p t.goals) f) in
     let made = solutions-made (suc n) p f ss in
     let child : IsEntrySound (n ∷ p) (rest ++ xs) (names f.items) f.items = entry_child p n rest xs (names f.items) f.items made
-    (solutions-findalls (IsOlder (n ∷ p)) (suc n) p f ss) s.carried.older s in
+    (solutions-findalls (IsMadeElsewhere (n ∷ p)) (suc n) p f ss) s.carried.older s in
     let body = entry_goals (n ∷ p) (rest ++ xs) p t.goals f.items
     (own_front p n rest xs f.items made (from-solutions (suc n) p f ss xs) s.carried.older) child in
-    subst IsSound (sym (append-assoc-at (unified (unifier t.equations) (n ∷ p) one) rest xs))
+    subst IsSound (sym (append-assoc (unified_element (unifier t.equations) (n ∷ p) one) rest xs))
     (unified-sound (unifier t.equations) (n ∷ p) one (rest ++ xs) body (solutions-sound (suc n) p f ss xs s k))
 
 -- control constructs
 module _ (clauses : List Clause) (p h : Name) (f : Continuation Name) (xs : List Element)
     (s : IsEntrySound p xs (h ∷ names f.items) f.items) (k : IsSound xs) where
-  older : Each (IsOlder p) (names f.items)
+  older : Each (IsMadeElsewhere p) (names f.items)
   older = s.carried.older.1
 
   rest : IsEntrySound p xs (names f.items) f.items
   rest = entry_rest p xs h f.items s
 
-  child : (i : ℕ) (ys : List Element) → Each (IsMadeBy p) ys → EachFindall (IsOlder (i ∷ p)) ys
+  child : (i : ℕ) (ys : List Element) → Each (IsMadeBy p) ys → EachFindall (IsMadeElsewhere (i ∷ p)) ys
       → IsEntrySound (i ∷ p) (ys ++ xs) (names f.items) f.items
   child i ys m b = entry_child p i ys xs (names f.items) f.items m b older rest
 
-  carrying : (i : ℕ) (gs : List Term) (ys : List Element) → Each (IsMadeBy p) ys → EachFindall (IsOlder (i ∷ p)) ys
+  carrying : (i : ℕ) (gs : List Term) (ys : List Element) → Each (IsMadeBy p) ys → EachFindall (IsMadeElsewhere (i ∷ p)) ys
       → IsEntrySound (i ∷ p) (ys ++ xs) (names (goals_at h gs ++ f.items)) (goals_at h gs ++ f.items)
   carrying i gs ys m b = entry_goals (i ∷ p) (ys ++ xs) h gs f.items
       (front_child p i ys xs h f.items m older (front_of p xs h f.items s)) (child i ys m b)
@@ -92,9 +95,9 @@ module _ (clauses : List Clause) (p h : Name) (f : Continuation Name) (xs : List
       }
 
   -- the goal side of a catch or a findall, with its mark
-  side : (x : Element) (g : Term) (mark : Item Name) → IsMadeBy p x → EachFindall (IsOlder (0 ∷ p)) (x ∷ [])
+  side : (x : Element) (g : Term) (mark : Item Name) → IsMadeBy p x → EachFindall (IsMadeElsewhere (0 ∷ p)) (x ∷ [])
       → IsMarkSound (EndOf (2 ∷ p) ∷ x ∷ EndOf p ∷ xs) mark → names (mark ∷ f.items) ≡ (2 ∷ p) ∷ names f.items
-      → EachFindall (IsOlder (0 ∷ p)) (EndOf (2 ∷ p) ∷ x ∷ EndOf p ∷ []) → IsEntrySound (0 ∷ p) (EndOf (2 ∷ p) ∷ x ∷ EndOf p ∷ xs)
+      → EachFindall (IsMadeElsewhere (0 ∷ p)) (EndOf (2 ∷ p) ∷ x ∷ EndOf p ∷ []) → IsEntrySound (0 ∷ p) (EndOf (2 ∷ p) ∷ x ∷ EndOf p ∷ xs)
       ((2 ∷ p) ∷ names (mark ∷ f.items)) (GoalItem (call_of g) (2 ∷ p) ∷ mark ∷ f.items)
   side x g mark made b m e all =
       let ys : List Element = EndOf (2 ∷ p) ∷ x ∷ EndOf p ∷ [] in
@@ -128,8 +131,8 @@ module _ (clauses : List Clause) (p h : Name) (f : Continuation Name) (xs : List
       (own_front p 0 ys xs after made at_p (older-goals p h thens f.items s.carried.older.0 older)) then_part in
       let whole = entry_goals (0 ∷ p) zs (2 ∷ p) gs (GoalItem cut p ∷ after)
       (here_front (0 ∷ p) (2 ∷ p) (other ∷ EndOf p ∷ xs) (GoalItem cut p ∷ after) (other_child p)) committed in
-      let joined : goals_at (2 ∷ p) gs ++ (GoalItem cut p ∷ after) ≡ test_items (2 ∷ p) p h gs thens ++ f.items = sym
-      (append-assoc-at (goals_at (2 ∷ p) gs) (GoalItem cut p ∷ goals_at h thens) f.items) in
+      let joined : goals_at (2 ∷ p) gs ++ (GoalItem cut p ∷ after) ≡ named_test_items (2 ∷ p) p h gs thens ++ f.items = sym
+      (append-assoc (goals_at (2 ∷ p) gs) (GoalItem cut p ∷ goals_at h thens) f.items) in
       (subst (λ l. IsEntrySound (0 ∷ p) zs (names l) l) joined whole, (carrying 1 others (EndOf p ∷ []) (ends_made p) tt, k))
 
   pub control-sound : (o : ControlForm) → IsSound (placed (scoped clauses) (control_place o p h f) xs)
@@ -155,7 +158,7 @@ module _ (clauses : List Clause) (p h : Name) (f : Continuation Name) (xs : List
         found = from_own (2 ∷ p)
             (x ∷ EndOf p ∷ xs);
       } in
-      (side x g (CatchMark (2 ∷ p)) tt tt guard refl tt, (under 1, ap count (from_own p xs), k))
+      (side x g (CatchMark (2 ∷ p)) tt tt guard refl tt, (under 1, ap element_count (from_own p xs), k))
   control-sound (FindallOf t g l) =
       let x : Element = Findall (2 ∷ p) p [] l (1 ∷ p) f in
       let guard : IsGathered (EndOf (2 ∷ p) ∷ x ∷ EndOf p ∷ xs) (2 ∷ p) = record {
@@ -168,9 +171,11 @@ module _ (clauses : List Clause) (p h : Name) (f : Continuation Name) (xs : List
         found = from_own (2 ∷ p)
             (x ∷ EndOf p ∷ xs);
       } in
-      let lone : EachFindall (λ e. e ≡ 2 ∷ p → ⊥) xs = findalls-map (IsOlder p) (λ e. e ≡ 2 ∷ p → ⊥) (λ e n q. n (2 ∷ []) q) xs
-      s.findalls in
-      (side x g (CollectMark t (2 ∷ p)) tt (other_child p, tt) guard refl (other_child p, tt), (under 1, ap count (from_own p xs), lone, k))
+      let lone : EachFindall (λ e. e ≡ 2 ∷ p → ⊥) xs = findalls-map (IsMadeElsewhere p) (λ e. e ≡ 2 ∷ p → ⊥) (λ e n q. n (2 ∷ []) q) xs
+      s.findalls in (
+        side x g (CollectMark t (2 ∷ p)) tt (other_child p, tt) guard refl (other_child p, tt),
+        (under 1, ap element_count (from_own p xs), lone, k),
+      )
 
 -- balls
 abbrev pub IsBall : Sought → Type 0
@@ -183,7 +188,7 @@ IsLookSound (On q) xs = IsBall q
 IsLookSound (Here ys) xs = IsSound (ys ++ xs)
 
 recovered-sound : (t : Option Substitution) (b r : Term) (u p : Name) (f : Continuation Name) (q : Sought) (xs : List Element)
-    → IsBall q → IsEntrySound p xs (u ∷ names f.items) f.items → IsSound xs → IsLookSound (recovered t b r u p f q) xs
+    → IsBall q → IsEntrySound p xs (u ∷ names f.items) f.items → IsSound xs → IsLookSound (recovery_look t b r u p f q) xs
 recovered-sound None b r u p f q xs i s k = i
 recovered-sound (Some t) b r u p f q xs i s k =
     let g : Continuation Name = with_next (f.next + copy_takes b) (before (GoalItem (call_of r) u ∷ []) f) in
@@ -211,7 +216,7 @@ look-sound (Thrown b (Some m) o) (End p e) xs i s = tt
 look-sound (Caught b m o) (Catch e u c r p f) xs i s =
     let take : Option Substitution = unifier ((c, copied b f.next) ∷ []) in
     let next : Sought = Thrown b (first_mark f.items) o in
-    either_look (same m e) (recovered take b r u p f next) (On (Caught b m o)) xs (recovered-sound take b r u p f next xs tt s.0 s.2) tt
+    either_look (same m e) (recovery_look take b r u p f next) (On (Caught b m o)) xs (recovered-sound take b r u p f next xs tt s.0 s.2) tt
 look-sound (Caught b m o) (EndOf e) xs i s = tt
 look-sound (Caught b m o) (Credit j rs) xs i s = tt
 look-sound (Caught b m o) (Plain p f) xs i s = tt
@@ -244,11 +249,11 @@ reply-sound clauses (Ball b) p f xs s k = search-sound clauses (Thrown b (first_
 reply-sound clauses (HaltNumber n) p f xs s k = tt
 
 -- the next query
-pub opened-sound : (p : Name) (qs : List Query) → IsSound (opened p qs)
+pub opened-sound : (p : Name) (qs : List Query) → IsSound (opened_elements p qs)
 opened-sound p [] = tt
 opened-sound p (q ∷ qs) =
     let zs : List Element = EndOf p ∷ End (1 ∷ p) None ∷ [] in
     let none : IsEntrySound (0 ∷ p) zs [] [] = record
     { carried = record { older = tt; present = tt; chain = tt }; marks = tt; findalls = tt } in
     let whole = entry_goals (0 ∷ p) zs p q.goals [] (here_front (0 ∷ p) p (End (1 ∷ p) None ∷ []) [] (not_longer p 0)) none in
-    (subst (λ l. IsEntrySound (0 ∷ p) zs (names l) l) (append-none (goals_at p q.goals)) whole, tt)
+    (subst (λ l. IsEntrySound (0 ∷ p) zs (names l) l) (append-nil (goals_at p q.goals)) whole, tt)

@@ -7,9 +7,11 @@ use Rattle.au_term.specs.Term.{Term, AtomTerm}
 use Rattle.run_model.specs.Programs.Bodies.{call_of}
 use Rattle.au_model.specs.Terms.Substitutions.{Substitution}
 use Rattle.au_model.specs.Terms.Copies.{copy_takes}
-use Rattle.run_model.specs.Goals.Outcomes.{Reply, Solutions, Ball, HaltNumber, ControlForm, GoesOnWith, EitherOf, TestOf, CutToScope, CatchOf}
+use Rattle.run_model.specs.Goals.Outcomes.{Reply, Solutions, Ball, HaltNumber, ControlForm, GoesOnWith, EitherOf, TestOf, CutToScope}
+use Rattle.run_model.specs.Goals.Outcomes.{CatchOf}
 use Rattle.run_model.specs.Goals.Outcomes.{FindallOf}
-use Rattle.run_model.specs.Machine.Items.{Item, GoalItem, CatchMark, CollectMark, Continuation, goals_at, resolve_continuation, before, with_next}
+use Rattle.run_model.specs.Machine.Items.{Item, GoalItem, CatchMark, CollectMark, Continuation, goals_at, resolve_continuation, before}
+use Rattle.run_model.specs.Machine.Items.{with_next}
 use Rattle.run_model.specs.Machine.Items.{first_mark}
 use Rattle.run_model.specs.Machine.Entries.{Entry, PlainEntry, CatchEntry, FindallEntry, EndEntry, solution_entries}
 use Rattle.run_model.specs.Machine.Balls.{taken_by, next_mark, recovered, unwound}
@@ -17,17 +19,18 @@ use Rattle.run_model.specs.Machine.Heights.{goals_entry, test_items, guarded_goa
 use Rattle.tree_model.specs.Nodes.{CutGate, BallGate, CatchNode, FindallNode}
 use Rattle.tree_model.specs.Levels.{Level}
 use Rattle.tree_model.specs.Floors.{node_of}
-use Rattle.tree_model.specs.Gates.{landing_scope, lands_above, control_gate, reply_gate}
+use Rattle.tree_model.specs.Gates.{ball_scope, is_caught_above, control_gate, reply_gate}
 use Rattle.tree_model.specs.PendingLists.{Way}
 use Rattle.tree_model.specs.Ways.{is_barrier, in_reach, through, way_from, way_above, AreScoped, under_query, IsAsked}
 use Rattle.interleaving.proofs.AppendLemmas.{append-assoc}
-use Rattle.interleaving.proofs.WayLemmas.{cond-true, same_self}
+use Rattle.interleaving.proofs.WayLemmas.{cond-true}
 use Rattle.interleaving.proofs.RoundtripLemmas.{weaken_from}
-use Rattle.interleaving.proofs.BallLemmas.{IsLow, landing_low}
+use Rattle.interleaving.proofs.BallLemmas.{IsLow, ball_scope_low}
 use Rattle.interleaving.proofs.CollapseLemmas.{as_scopes}
 use Rattle.interleaving.proofs.StackLemmas.{IsCounted, counted_path, stack_way, length-stack, counted_stack, AreOver, drop_over}
 use Rattle.interleaving.proofs.StackLemmas.{resolved_scopes, top_reach, top_from, top_goals, scope_goals, over_plain, solutions_over}
 use Rattle.interleaving.proofs.StackLemmas.{drop-append, from_stack, stack_asked}
+use Rattle.interleaving.proofs.TestLemmas.{number_same}
 
 le_by : (a b : ℕ) → nat_le a b ≡ true → a ≤ b
 le_by a b h = grind arith
@@ -66,27 +69,27 @@ rest_of w es h items c g = record {
 }
 
 -- a ball that lands at an own entry
-no_low : (levels : List Level) (n : ℕ) → length levels ≡ n → (es : List Entry) → IsLow n es → lands_above levels es ≡ true → ⊥
+no_low : (levels : List Level) (n : ℕ) → length levels ≡ n → (es : List Entry) → IsLow n es → is_caught_above levels es ≡ true → ⊥
 no_low levels n l [] h k = h
 no_low levels n l (PlainEntry f ∷ es) h k = omega (arith, h, l, le_by (length levels) (length es) k)
 no_low levels n l (EndEntry b ∷ es) h k = cc
 no_low levels n l (CatchEntry c r f ∷ es) h k = h
 no_low levels n l (FindallEntry results x f ∷ es) h k = h
 
-landing_own : (w : Way) (floor : List Entry) → IsFloor w floor → (ball : Term) (es : List Entry) (mark : Option ℕ) → AreOver w es
-    → (levels : List Level) → length levels ≡ length floor → lands_above levels (unwound ball mark (es ++ floor)) ≡ true
+ball_scope_own : (w : Way) (floor : List Entry) → IsFloor w floor → (ball : Term) (es : List Entry) (mark : Option ℕ) → AreOver w es
+    → (levels : List Level) → length levels ≡ length floor → is_caught_above levels (unwound ball mark (es ++ floor)) ≡ true
     → IsOwn w floor (unwound ball mark (es ++ floor))
-landing_own w floor k ball [] mark o levels l h = absurd
-    (no_low levels (length floor) l (unwound ball mark floor) (landing_low ball mark floor) h)
-landing_own w floor k ball (PlainEntry f ∷ es) mark o levels l h = landing_own w floor k ball es mark o.1 levels l h
-landing_own w floor k ball (FindallEntry results x f ∷ es) mark o levels l h = landing_own w floor k ball es mark o.1 levels l h
-landing_own w floor k ball (EndEntry b ∷ es) mark o levels l h = landing_own w floor k ball es mark o.1 levels l h
-landing_own w floor k ball (CatchEntry x r f ∷ es) mark o levels l h = go (taken_by mark (length (es ++ floor)) ball x f) h
-    (λ j. landing_own w floor k ball es (next_mark mark (length (es ++ floor)) f) o.1 levels l j)
+ball_scope_own w floor k ball [] mark o levels l h = absurd
+    (no_low levels (length floor) l (unwound ball mark floor) (ball_scope_low ball mark floor) h)
+ball_scope_own w floor k ball (PlainEntry f ∷ es) mark o levels l h = ball_scope_own w floor k ball es mark o.1 levels l h
+ball_scope_own w floor k ball (FindallEntry results x f ∷ es) mark o levels l h = ball_scope_own w floor k ball es mark o.1 levels l h
+ball_scope_own w floor k ball (EndEntry b ∷ es) mark o levels l h = ball_scope_own w floor k ball es mark o.1 levels l h
+ball_scope_own w floor k ball (CatchEntry x r f ∷ es) mark o levels l h = go (taken_by mark (length (es ++ floor)) ball x f) h
+    (λ j. ball_scope_own w floor k ball es (next_mark mark (length (es ++ floor)) f) o.1 levels l j)
   where
-    go : (s : Option Substitution) → lands_above levels
+    go : (s : Option Substitution) → is_caught_above levels
         (recovered s ball r f (es ++ floor) (unwound ball (next_mark mark (length (es ++ floor)) f) (es ++ floor))) ≡ true →
-        (lands_above levels (unwound ball (next_mark mark (length (es ++ floor)) f) (es ++ floor)) ≡ true
+        (is_caught_above levels (unwound ball (next_mark mark (length (es ++ floor)) f) (es ++ floor)) ≡ true
         → IsOwn w floor (unwound ball (next_mark mark (length (es ++ floor)) f) (es ++ floor))) →
         IsOwn w floor (recovered s ball r f (es ++ floor) (unwound ball (next_mark mark (length (es ++ floor)) f) (es ++ floor)))
     go None j f = f j
@@ -173,7 +176,7 @@ form_own w floor es (CatchOf goal catcher recovery) h f k g levels l q =
     let cv : IsCounted V = counted_stack (CatchEntry catcher recovery f ∷ es) w k.counted in
     let r = rest_of w es h f.items k.counted g in
     let same : suc (length es + length w) ≡ suc n = ap suc (sym (length-stack es w) ∙ sym (stack_length w floor es k)) in
-    let self : (suc (length es + length w) == suc n) ≡ true = ap (λ m. m == suc n) same ∙ same_self (suc n) in
+    let self : (suc (length es + length w) == suc n) ≡ true = ap (λ m. m == suc n) same ∙ number_same (suc n) in
     let side : through CatchNode V (suc n) ≡ true = cond-true (suc (length es + length w) == suc n) true _ self in
     let above : way_above V (suc n) ≡ W = cond-true (suc (length es + length w) == suc n) W (way_above W (suc n)) self in
     let lengths : suc n ≡ length V = ap suc (stack_length w floor es k) in
@@ -197,7 +200,7 @@ form_own w floor es (FindallOf template goal list) h f k g levels l q =
     let cv : IsCounted V = counted_stack (FindallEntry [] list f ∷ es) w k.counted in
     let r = rest_of w es h f.items k.counted g in
     let same : suc (length es + length w) ≡ suc n = ap suc (sym (length-stack es w) ∙ sym (stack_length w floor es k)) in
-    let self : (suc (length es + length w) == suc n) ≡ true = ap (λ m. m == suc n) same ∙ same_self (suc n) in
+    let self : (suc (length es + length w) == suc n) ≡ true = ap (λ m. m == suc n) same ∙ number_same (suc n) in
     let side : through FindallNode V (suc n) ≡ true = cond-true (suc (length es + length w) == suc n) true _ self in
     let above : way_above V (suc n) ≡ W = cond-true (suc (length es + length w) == suc n) W (way_above W (suc n)) self in
     let lengths : suc n ≡ length V = ap suc (stack_length w floor es k) in
@@ -262,10 +265,10 @@ reply_own w floor es (Solutions ss) h f k g levels l q = record {
   joined = sym (append-assoc (solution_entries (length (es ++ floor)) f ss) es floor);
   over = solutions_over w (length (es ++ floor)) f ss es k.counted (stack_length w floor es k) (rest_of w es h f.items k.counted g) g.over;
 }
-reply_own w floor es (Ball b) h f k g levels l q = landing_own w floor k b es (first_mark f.items) g.over levels l
-    (no_gate (lands_above levels (unwound b (first_mark f.items) (es ++ floor))) q)
+reply_own w floor es (Ball b) h f k g levels l q = ball_scope_own w floor k b es (first_mark f.items) g.over levels l
+    (no_gate (is_caught_above levels (unwound b (first_mark f.items) (es ++ floor))) q)
   where
-    no_gate : (c : Bool) → cond c None (Some (BallGate (landing_scope levels (unwound b (first_mark f.items) (es ++ floor))))) ≡ None
+    no_gate : (c : Bool) → cond c None (Some (BallGate (ball_scope levels (unwound b (first_mark f.items) (es ++ floor))))) ≡ None
         → c ≡ true
     no_gate true e = refl
     no_gate false e = let no_way : ⊥ = cc in absurd no_way

@@ -23,6 +23,7 @@ use Rattle.interleaving.proofs.EntryLemmas.{length-floor}
 use Rattle.interleaving.proofs.CollapseLemmas.{as_scopes}
 use Rattle.interleaving.proofs.StackLemmas.{counted_path, entry_step, stack_way, counted_stack, IsOver, AreOver, marks_scopes, top_goals}
 use Rattle.interleaving.proofs.PrivateSoundLemmas.{IsOwn, IsFloor, stack_length, IsGoal, form_own, reply_own}
+use Rattle.run_model.proofs.FreeStepLemmas.{length-collected}
 
 goal_own : (w : Way) (floor es : List Entry) (o : Outcome) (h : ℕ) (f : Continuation ℕ) → IsFloor w floor → IsGoal w es h f.items
     → (levels : List Level) → length levels ≡ length floor → goal_gate levels o h f (es ++ floor) ≡ None
@@ -43,15 +44,6 @@ with_result_kind t (PlainEntry f) = refl
 with_result_kind t (CatchEntry c r f) = refl
 with_result_kind t (FindallEntry results l f) = refl
 with_result_kind t (EndEntry b) = refl
-
-pub length-collected : (h : ℕ) (t : Term) (es : List Entry) → length (collected h t es) ≡ length es
-length-collected h t [] = refl
-length-collected h t (e ∷ es) = go (length es == h) (length-collected h t es)
-  where
-    go : (b : Bool) → length (collected h t es) ≡ length es → length (cond b (with_result t e ∷ es) (e ∷ collected h t es))
-        ≡ suc (length es)
-    go true k = refl
-    go false k = ap suc k
 
 collected_way : (h : ℕ) (t : Term) (es : List Entry) (w : Way) → stack_way (collected h t es) w ≡ stack_way es w
 collected_way h t [] w = refl

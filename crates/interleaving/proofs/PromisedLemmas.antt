@@ -12,29 +12,28 @@ use Rattle.tree_model.specs.Credits.{greatest}
 use Rattle.tree_model.specs.Nodes.{Pending, credits_below}
 use Rattle.tree_model.specs.Levels.{Level, plug, Spot, levels_of}
 use Rattle.tree_model.specs.Orders.{clock_of, answers_left, credits_left}
-use Rattle.tree_model.specs.TreeStates.{TreeState, leftmost, first_spot, pending, ended, end_by, counts, counts_by}
+use Rattle.tree_model.specs.TreeStates.{TreeState, leftmost, first_spot, pending_spots, ended, end_by, counts, counts_by}
 use Rattle.tree_model.specs.PendingLists.{pending_list}
 use Rattle.tree_model.specs.Promises.{KeepsPrefix}
 use Rattle.tree_model.specs.Elements.{Element}
-use Rattle.interleaving.specs.Machine.{free_steps, run, seen, is_over}
+use Rattle.interleaving.specs.Machine.{free_steps, run, seen, is_finished}
 use Rattle.interleaving.specs.Scopes.{Shared, first_shared, scoped}
-use Rattle.interleaving.specs.Counted.{counted}
-use Rattle.interleaving.specs.Quiet.{IsQuiet, inferences}
+use Rattle.interleaving.specs.Counted.{counted_steps}
+use Rattle.interleaving.specs.Quiet.{IsQuiet}
 use Rattle.interleaving.specs.Readings.{opening_list, has_ended}
 use Rattle.interleaving.specs.Follows.{lead}
-use Rattle.interleaving.specs.HistoryInvariants.{shared_of, left_by, list_of, IsInStep}
+use Rattle.interleaving.specs.HistoryInvariants.{shared_of, left_by, tree_list, IsInStep}
 use Rattle.interleaving.proofs.RunHeightLemmas.{named_run}
-use Rattle.interleaving.proofs.PassingLemmas.{credits_end}
 use Rattle.interleaving.proofs.ClockLemmas.{leftmost_known, none_left}
 use Rattle.interleaving.proofs.EndLemmas.{not_over, first_end}
-use Rattle.interleaving.proofs.FinishingLemmas.{root_counts, counted_turn, lead-all}
+use Rattle.interleaving.proofs.FinishingLemmas.{root_counts, counted_turn, credits_over}
 use Rattle.interleaving.proofs.GoingLemmas.{going, not_halted, true_clock}
 use Rattle.interleaving.proofs.LeadLemmas.{world_stays}
 use Rattle.tree_model.specs.GivenAnswers.{answers_in, AreInOrder}
 use Rattle.interleaving.proofs.AnswerOrderLemmas.{answers_round, plug_answers, RightsEmpty, rights_empty}
 use Rattle.interleaving.proofs.AnswerClosingLemmas.{shown_below, shown_left}
 
-module _ (job : Job) (budget : ℕ) (below : budget < greatest) (t : TreeState) (h : IsInStep job budget t) where
+module _ (job : Job) (budget : ℕ) (below : budget ≤ greatest) (t : TreeState) (h : IsInStep job budget t) where
   abbrev after : ℕ → Shared × List Element
   after n = run (scoped job.clauses) n (first_shared job) (free_steps (scoped job.clauses) [] (opening_list job))
 
@@ -49,7 +48,7 @@ module _ (job : Job) (budget : ℕ) (below : budget < greatest) (t : TreeState) 
   at_from : (after h.from).0 ≡ shared_of h.answers t
   at_from = ap (λ s. s.0) (h.alike h.from (omega arith) (let e = h.early in omega (arith, e, below))) ∙ go t.halted refl
     where
-      go : (o : Option ℕ) → t.halted ≡ o → (tree_run (list_of t) h.from).0 ≡ shared_of h.answers t
+      go : (o : Option ℕ) → t.halted ≡ o → (tree_run (tree_list t) h.from).0 ≡ shared_of h.answers t
       go None e = ap (λ l. (tree_run l h.from).0) (not_halted t e) ∙ world_stays job.clauses (pending_list t.root) h.from
           (shared_of h.answers t) (h.ahead e)
       go (Some k) e = ap (λ l. (tree_run l h.from).0) (ap (λ o. left_by o (pending_list t.root)) e)
@@ -89,14 +88,14 @@ module _ (job : Job) (budget : ℕ) (below : budget < greatest) (t : TreeState) 
   abbrev IsAtEnd : Bool → Type 0
   IsAtEnd over = seen (after budget) ≡ (shared_of h.answers t, over)
 
-  at_budget : (over : Bool) → seen (tree_run (list_of t) budget) ≡ (shared_of h.answers t, over) → IsAtEnd over
+  at_budget : (over : Bool) → seen (tree_run (tree_list t) budget) ≡ (shared_of h.answers t, over) → IsAtEnd over
   at_budget over e = h.alike budget h.early below ∙ e
 
-  none_over : (es : List Entry) → is_over es ≡ true → es ≡ []
+  none_over : (es : List Entry) → is_finished es ≡ true → es ≡ []
   none_over [] e = refl
   none_over (x ∷ es) e = let no_way : ⊥ = cc in absurd no_way
 
-  some_left : (es : List Entry) (o : Option ℕ) → is_over es ≡ false → ending_by es o ≡ Budget
+  some_left : (es : List Entry) (o : Option ℕ) → is_finished es ≡ false → ending_by es o ≡ Budget
   some_left [] o e = let no_way : ⊥ = cc in absurd no_way
   some_left (x ∷ es) o e = refl
 
@@ -109,7 +108,7 @@ module _ (job : Job) (budget : ℕ) (below : budget < greatest) (t : TreeState) 
   halts_right : (over : Bool) → IsAtEnd over → (seq job budget).halted ≡ t.halted
   halts_right over e = ap (λ w. w.halted) (sym (named_run job budget).state ∙ ap (λ s. s.0) e)
 
-  over_right : (over : Bool) → IsAtEnd over → is_over (seq job budget).entries ≡ over
+  over_right : (over : Bool) → IsAtEnd over → is_finished (seq job budget).entries ≡ over
   over_right over e = sym (named_run job budget).over ∙ ap (λ s. s.1) e
 
   -- the sequential count where the run is over from there on
@@ -119,21 +118,21 @@ module _ (job : Job) (budget : ℕ) (below : budget < greatest) (t : TreeState) 
     where
       counted_at : (b : ℕ) → h.from ≤ b → ((n : ℕ) → n < h.from → has_ended job.clauses (first_shared job) (opening_list job) n ≡ false)
           → ((n : ℕ) → h.from ≤ n → n ≤ b → has_ended job.clauses (first_shared job) (opening_list job) n ≡ true)
-          → counted (has_ended job.clauses (first_shared job) (opening_list job)) b ≡ h.from
+          → counted_steps (has_ended job.clauses (first_shared job) (opening_list job)) b ≡ h.from
       counted_at b l g f = counted_turn (has_ended job.clauses (first_shared job) (opening_list job)) h.from g b f l
 
   -- halted
   halted_right : (k : ℕ) → t.halted ≡ Some k → IsRight (Halted k)
   halted_right k e =
-      let nothing : list_of t ≡ [] = ap (λ o. left_by o (pending_list t.root)) e in
-      let over : (n : ℕ) → tree_run (list_of t) n ≡ (shared_of h.answers t, []) = λ n. ap (λ l. tree_run l n) nothing
+      let nothing : tree_list t ≡ [] = ap (λ o. left_by o (pending_list t.root)) e in
+      let over : (n : ℕ) → tree_run (tree_list t) n ≡ (shared_of h.answers t, []) = λ n. ap (λ l. tree_run l n) nothing
       ∙ run-none n (shared_of h.answers t) in
-      let z : IsAtEnd true = at_budget true (ap (λ s. (s.0, is_over s.1)) (over budget)) in
+      let z : IsAtEnd true = at_budget true (ap (λ s. (s.0, is_finished s.1)) (over budget)) in
       let left : (seq job budget).entries ≡ [] = none_over (seq job budget).entries (over_right true z) in
       let by : ending_of job budget ≡ ending_by [] (Some k) = ap (λ es. ending_by es (seq job budget).halted) left
       ∙ ap (ending_by []) (halts_right true z ∙ e) in
       let flags : (n : ℕ) → h.from ≤ n → n ≤ budget → has_ended job.clauses (first_shared job) (opening_list job) n
-      ≡ true = λ n a b. ap (λ s. s.1) (h.alike n a (omega (arith, b, below))) ∙ ap (λ s. is_over s.1) (over n) in
+      ≡ true = λ n a b. ap (λ s. s.1) (h.alike n a (omega (arith, b, below))) ∙ ap (λ s. is_finished s.1) (over n) in
       (world_right true z, sym by, λ n. shown (leftmost t) refl ∙ sym (count_right flags))
     where
       stop : (lead (pending_list t.root) ≡ h.from) × (leftmost t ≡ None → ⊥)
@@ -154,23 +153,16 @@ module _ (job : Job) (budget : ℕ) (below : budget < greatest) (t : TreeState) 
       let early = h.early in
       let low : lead (pending_list t.root) ≤ h.from = h.finished e l in
       let high : h.from ≤ lead (pending_list t.root) = h.ahead e in
-      let total : inferences (pending_list t.root) ≡ h.from = let z = lead-all (pending_list t.root) quiet in omega (arith, z, low, high) in
-      let over : (n : ℕ) → h.from ≤ n → tree_run (list_of t) n ≡ (shared_of h.answers t, []) = λ n a. ap (λ l. tree_run l n)
-      (not_halted t e) ∙ passed n (omega (arith, total, a)) quiet in
-      let z : IsAtEnd true = at_budget true (ap (λ s. (s.0, is_over s.1)) (over budget h.early)) in
+      let over : (n : ℕ) → h.from ≤ n → tree_run (tree_list t) n ≡ (shared_of h.answers t, []) = λ n a. ap (λ l. tree_run l n)
+      (not_halted t e) ∙ credits_over job.clauses (pending_list t.root) n (shared_of h.answers t) quiet (omega (arith, low, a)) in
+      let z : IsAtEnd true = at_budget true (ap (λ s. (s.0, is_finished s.1)) (over budget h.early)) in
       let left : (seq job budget).entries ≡ [] = none_over (seq job budget).entries (over_right true z) in
       let by : ending_of job budget ≡ ending_by [] None = ap (λ es. ending_by es (seq job budget).halted) left
       ∙ ap (ending_by []) (halts_right true z ∙ e) in
       let flags : (n : ℕ) → h.from ≤ n → n ≤ budget → has_ended job.clauses (first_shared job) (opening_list job) n
-      ≡ true = λ n a b. ap (λ s. s.1) (h.alike n a (omega (arith, b, below))) ∙ ap (λ s. is_over s.1) (over n a) in
+      ≡ true = λ n a b. ap (λ s. s.1) (h.alike n a (omega (arith, b, below))) ∙ ap (λ s. is_finished s.1) (over n a) in
       (world_right true z, sym by, λ n. shown quiet low high ∙ sym (count_right flags))
     where
-      passed : (n : ℕ) → inferences (pending_list t.root) ≤ n → IsQuiet (pending_list t.root) → tree_run (pending_list t.root) n
-          ≡ (shared_of h.answers t, [])
-      passed n a q = let same : inferences (pending_list t.root) + (n - inferences (pending_list t.root))
-          ≡ n = omega (arith, a) in subst (λ k. tree_run (pending_list t.root) k ≡ (shared_of h.answers t, [])) same
-          (credits_end job.clauses (pending_list t.root) (shared_of h.answers t) (n - inferences (pending_list t.root)) q)
-
       none_first : (spots : List Spot) → first_spot spots ≡ None → spots ≡ []
       none_first [] q = refl
       none_first (s ∷ ss) q = let no_way : ⊥ = cc in absurd no_way
@@ -180,7 +172,7 @@ module _ (job : Job) (budget : ℕ) (below : budget < greatest) (t : TreeState) 
       shown q a b =
           let early = h.early in
           let c : (credits_below t.root).inferences ≡ lead (pending_list t.root) = root_counts t.root h.sound.sound
-          (none_first (pending t) l) q (omega (arith, a, early, below)) in
+          (none_first (pending_spots t) l) q (omega (arith, a, early, below)) in
           ap (λ o. (counts_by o t.root).1) l ∙ (let z : (credits_below t.root).inferences ≡ h.from = omega (arith, c, a, b) in z)
 
   -- at the budget
@@ -189,11 +181,11 @@ module _ (job : Job) (budget : ℕ) (below : budget < greatest) (t : TreeState) 
       let k = leftmost_known t h.sound s l in
       let c : clock_of (levels_of s) ≡ min greatest (lead (pending_list t.root)) = k.clock in
       let far : budget ≤ lead (pending_list t.root) = omega (arith, c, b) in
-      let world : (tree_run (list_of t) budget).0 ≡ shared_of h.answers t = ap (λ l. (tree_run l budget).0) (not_halted t e)
+      let world : (tree_run (tree_list t) budget).0 ≡ shared_of h.answers t = ap (λ l. (tree_run l budget).0) (not_halted t e)
       ∙ world_stays job.clauses (pending_list t.root) budget (shared_of h.answers t) far in
-      let over : Bool = is_over (tree_run (list_of t) budget).1 in
+      let over : Bool = is_finished (tree_run (tree_list t) budget).1 in
       let z : IsAtEnd over = at_budget over (ap (λ w. (w, over)) world) in
-      let goes : over ≡ false = ap (λ l. is_over (tree_run l budget).1) (not_halted t e)
+      let goes : over ≡ false = ap (λ l. is_finished (tree_run l budget).1) (not_halted t e)
       ∙ not_over job.clauses (pending_list t.root) budget (shared_of h.answers t) (first_end t s h.sound k) far in (
         world_right over z,
         sym (some_left (seq job budget).entries (seq job budget).halted (over_right over z ∙ goes)),
@@ -256,14 +248,9 @@ module _ (job : Job) (budget : ℕ) (below : budget < greatest) (t : TreeState) 
           let quiet = none_left t h.sound b in
           let low = h.finished a b in
           let early = h.early in
-          let count = lead-all (pending_list t.root) quiet in
-          let enough : inferences (pending_list t.root) ≤ budget = omega (arith, low, early, count) in
-          let same : inferences (pending_list t.root) + (budget - inferences (pending_list t.root)) ≡ budget = omega (arith, enough) in
           ap (λ s. s.0) (h.alike budget h.early below)
           ∙ (ap (λ l. (tree_run l budget).0) (not_halted t a)
-          ∙ subst (λ n. (tree_run (pending_list t.root) n).0 ≡ shared_of h.answers t) same
-          (ap (λ s. s.0) (credits_end job.clauses (pending_list t.root) (shared_of h.answers t)
-          (budget - inferences (pending_list t.root)) quiet)))
+          ∙ ap (λ s. s.0) (credits_over job.clauses (pending_list t.root) budget (shared_of h.answers t) quiet (omega (arith, low, early))))
       ends None a (Some s) b z = at_clock (nat_le t.budget (clock_of (levels_of s))) refl z
         where
           at_clock : (c : Bool) → nat_le t.budget (clock_of (levels_of s)) ≡ c → cond c (Some Budget) None ≡ Some e → (after budget).0

@@ -5,14 +5,16 @@ use Rattle.std.specs.Prelude.{nat_lt}
 use Rattle.au_term.specs.Term.{Term}
 use Rattle.run_model.specs.Goals.GoalOutcomes.{outcome_of}
 use Rattle.run_model.specs.Machine.Balls.{unwound}
-use Rattle.run_model.specs.Goals.Outcomes.{Solutions, Ball, HaltNumber, GoesOnWith, EitherOf, TestOf, CutToScope, CatchOf, FindallOf, Outcome}
+use Rattle.run_model.specs.Goals.Outcomes.{Solutions, Ball, HaltNumber, GoesOnWith, EitherOf, TestOf, CutToScope, CatchOf, FindallOf}
+use Rattle.run_model.specs.Goals.Outcomes.{Outcome}
 use Rattle.run_model.specs.Goals.Outcomes.{Replies, Controls, AskWorld}
-use Rattle.run_model.specs.Machine.Items.{Item, GoalItem, CatchMark, CollectMark, RemovalItem, Continuation, first_mark, with_items, without_marks}
+use Rattle.run_model.specs.Machine.Items.{Item, GoalItem, CatchMark, CollectMark, RemovalItem, Continuation, first_mark, with_items}
+use Rattle.run_model.specs.Machine.Items.{without_marks}
 use Rattle.run_model.specs.Machine.Entries.{Entry, PlainEntry}
 use Rattle.tree_model.specs.Nodes.{CutGate, BallGate, Pending}
 use Rattle.tree_model.specs.Levels.{Level, Spot, levels_of}
 use Rattle.tree_model.specs.Floors.{height_of, floor_of, node_of, with_heights, renamed_item}
-use Rattle.tree_model.specs.Gates.{landing_scope, lands_above, ball_gate, control_gate, goal_gate, item_gate, gate_on}
+use Rattle.tree_model.specs.Gates.{ball_scope, is_caught_above, ball_gate, control_gate, goal_gate, item_gate, gate_on}
 use Rattle.tree_model.specs.Orders.{levels_below, is_cleared}
 use Rattle.tree_model.specs.PrivateRuns.{goal_alone, item_alone, taken_alone}
 use Rattle.tree_model.specs.TreeStates.{TreeState}
@@ -23,7 +25,7 @@ use Rattle.tree_model.specs.Ways.{in_reach, way_from, AreScoped, under_query, Is
 use Rattle.tree_model.specs.SoundTrees.{IsOpen, IsSoundTree}
 use Rattle.tree_model.specs.CaughtTrees.{MarksCaught, IsCaughtTree}
 use Rattle.tree_model.specs.Elements.{Name, Plain}
-use Rattle.interleaving.specs.Machine.{Takes, Seek}
+use Rattle.interleaving.specs.Machine.{Infers, Seek}
 use Rattle.interleaving.specs.Scopes.{Thrown, Scope, act, item_act, goal_act}
 use Rattle.interleaving.proofs.WayLemmas.{reach-on}
 use Rattle.interleaving.proofs.RoundtripLemmas.{by_heights, node_height}
@@ -32,33 +34,33 @@ use Rattle.interleaving.proofs.OpenSpotLemmas.{IsOpenSpot}
 use Rattle.interleaving.proofs.PlacedEntryLemmas.{marks_dropped, marks_heights, rest_asked}
 use Rattle.interleaving.proofs.ClockLemmas.{AreClear}
 use Rattle.interleaving.proofs.HaltMoveLemmas.{dropped_names}
-use Rattle.interleaving.proofs.ListScopeLemmas.{sleeps_on}
+use Rattle.interleaving.proofs.ListScopeLemmas.{dormant_on}
 use Rattle.interleaving.proofs.FrontCloseLemmas.{bare}
 use Rattle.interleaving.proofs.CaughtEventLemmas.{marks_without}
 use Rattle.interleaving.proofs.BallLevelLemmas.{clear_below}
-use Rattle.interleaving.proofs.FallLemmas.{Fall, fall, fall_entries, MarkSleeps, IsTaken, landing_falls, fall_taken, first_height}
-use Rattle.interleaving.proofs.FallLemmas.{first_sleeps}
+use Rattle.interleaving.proofs.CatchingLemmas.{Catching, catching, catching_entries, MarkIsDormant, IsTaken, ball_scope_falls}
+use Rattle.interleaving.proofs.CatchingLemmas.{catching_taken}
+use Rattle.interleaving.proofs.CatchingLemmas.{first_height}
+use Rattle.interleaving.proofs.CatchingLemmas.{first_dormant}
 use Rattle.interleaving.proofs.BallSearchLemmas.{mark_name, first_name}
 use Rattle.interleaving.proofs.PrunedBallLemmas.{placed_here, root_here}
-
-clash : {A : Type 0} → false ≡ true → A
-clash h = let no_way : ⊥ = cc in absurd no_way
+use Rattle.interleaving.proofs.TestLemmas.{false_true}
 
 module _ (t : TreeState) (i : IsSoundTree t) (k : IsCaughtTree t) (running : t.halted ≡ None) (s : Spot) (o : IsOpenSpot t.root s)
     (f : Continuation ℕ) (entry : s.entry ≡ PlainEntry f) (Moves : TreeState → Type 0)
-    (falls : (ball : Term) (mark : Option ℕ) → MarkSleeps (levels_of s) mark → under_query (way_of (levels_of s)) ≡ true → (x : Fall)
-    → fall ball (levels_of s) mark ≡ x → IsTaken ball (levels_of s) x
-    → AreClear (levels_below (Some (landing_scope (levels_of s) (fall_entries ball x))) (levels_of s))
+    (falls : (ball : Term) (mark : Option ℕ) → MarkIsDormant (levels_of s) mark → under_query (way_of (levels_of s)) ≡ true → (x : Catching)
+    → catching ball (levels_of s) mark ≡ x → IsTaken ball (levels_of s) x
+    → AreClear (levels_below (Some (ball_scope (levels_of s) (catching_entries ball x))) (levels_of s))
     → act t.job.clauses (bare t.job.clauses (0 ∷ length s.level.left ∷ s.level.number ∷ [])
     (named_continuation (way_of (levels_of s)) f))
-    ≡ Takes (Seek (Thrown ball (mark_name (way_of (levels_of s)) mark) (0 ∷ length s.level.left ∷ s.level.number ∷ [])))
-    → Moves (ball_falls s (fall_entries ball x) t))
+    ≡ Infers (Seek (Thrown ball (mark_name (way_of (levels_of s)) mark) (0 ∷ length s.level.left ∷ s.level.number ∷ [])))
+    → Moves (ball_falls s (catching_entries ball x) t))
     (cuts : (n : ℕ) → in_reach (way_of (levels_of s)) n ≡ true → (s.level.number == n) ≡ false → (items : List (Item ℕ))
     → AreScoped (way_from (way_of (levels_of s)) n) items → AreScoped (way_of (levels_of s)) items → (g : Continuation ℕ) → g.named
     ≡ f.named → g.next ≡ f.next → AreClear (levels_below (Some n) (levels_of s)) → (es : List Entry)
     → act t.job.clauses (bare t.job.clauses (0 ∷ length s.level.left ∷ s.level.number ∷ [])
     (named_continuation (way_of (levels_of s)) f))
-    ≡ Takes (Seek (Scope (scope_on (way_of (levels_of s)) n)
+    ≡ Infers (Seek (Scope (scope_on (way_of (levels_of s)) n)
     (Plain (0 ∷ length s.level.left ∷ s.level.number ∷ [])
     (record {
       items = map (renamed_item (scope_on (way_of (levels_of s))) (scope_on (way_of (levels_of s)))) items;
@@ -81,7 +83,7 @@ module _ (t : TreeState) (i : IsSoundTree t) (k : IsCaughtTree t) (running : t.h
 
   module _ (goal : Term) (n : ℕ) (items : List (Item ℕ)) (q : without_marks f.items ≡ GoalItem goal n ∷ items)
       (reach : in_reach (way_of (levels_of s)) n ≡ true) (part : AreScoped (way_from (way_of (levels_of s)) n) items)
-      (asked : IsAsked (way_of (levels_of s)) items) (marks : MarksCaught (sleeps_on (levels_of s)) items) (g : Continuation ℕ)
+      (asked : IsAsked (way_of (levels_of s)) items) (marks : MarksCaught (dormant_on (levels_of s)) items) (g : Continuation ℕ)
       (same_named : g.named ≡ f.named) (same_next : g.next ≡ f.next) where
     abbrev rest : Continuation Name
     rest = record { items = map (renamed_item sc sc) items; named = f.named; next = f.next }
@@ -101,25 +103,25 @@ module _ (t : TreeState) (i : IsSoundTree t) (k : IsCaughtTree t) (running : t.h
         let root = root_here t i k running s o f entry in
         let status = Pending s.hold s.entry in
         let mark = first_mark items in
-        let sleeps = first_sleeps levels items marks in
-        let x = fall ball levels mark in
-        let same : fall_entries ball x ≡ es = sym (ap (λ m. unwound ball m (floor_of levels)) (first_height levels items)
-        ∙ landing_falls ball levels status mark p.around root.caught sleeps) ∙ lands in
-        let takes : act t.job.clauses (bare t.job.clauses own named) ≡ Takes (Seek (Thrown ball (mark_name (way_of levels) mark) own)) =
+        let sleeps = first_dormant levels items marks in
+        let x = catching ball levels mark in
+        let same : catching_entries ball x ≡ es = sym (ap (λ m. unwound ball m (floor_of levels)) (first_height levels items)
+        ∙ ball_scope_falls ball levels status mark p.around root.caught sleeps) ∙ lands in
+        let takes : act t.job.clauses (bare t.job.clauses own named) ≡ Infers (Seek (Thrown ball (mark_name (way_of levels) mark) own)) =
         acts ∙ (ap (λ x. goal_act t.job.clauses x own (sc n) rest) outcome
-        ∙ ap (λ m. Takes (Seek (Thrown ball m own))) (first_name (way_of levels) items)) in
+        ∙ ap (λ m. Infers (Seek (Thrown ball m own))) (first_name (way_of levels) items)) in
         subst (λ es. may_prune levels (ball_gate levels es) ≡ true → Moves (gate_pruned s (ball_gate levels es) es t)) same
-        (by_gate (fall_entries ball x) (λ z. falls ball mark sleeps asked.asked x refl
-        (fall_taken ball levels status mark p.around root.caught sleeps)
-        (clear_below (landing_scope levels (fall_entries ball x)) levels z) takes)) l
+        (by_gate (catching_entries ball x) (λ z. falls ball mark sleeps asked.asked x refl
+        (catching_taken ball levels status mark p.around root.caught sleeps)
+        (clear_below (ball_scope levels (catching_entries ball x)) levels z) takes)) l
       where
-        by_gate : (es : List Entry) → (is_cleared (Some (landing_scope levels es)) levels ≡ true → Moves (ball_falls s es t))
+        by_gate : (es : List Entry) → (is_cleared (Some (ball_scope levels es)) levels ≡ true → Moves (ball_falls s es t))
             → may_prune levels (ball_gate levels es) ≡ true → Moves (gate_pruned s (ball_gate levels es) es t)
-        by_gate es f l = go (lands_above levels es) l
+        by_gate es f l = go (is_caught_above levels es) l
           where
-            go : (b : Bool) → may_prune levels (cond b None (Some (BallGate (landing_scope levels es)))) ≡ true
-                → Moves (gate_pruned s (cond b None (Some (BallGate (landing_scope levels es)))) es t)
-            go true z = clash z
+            go : (b : Bool) → may_prune levels (cond b None (Some (BallGate (ball_scope levels es)))) ≡ true
+                → Moves (gate_pruned s (cond b None (Some (BallGate (ball_scope levels es)))) es t)
+            go true z = false_true z
             go false z = f z
 
     cut : outcome_of t.job.clauses goal f.next ≡ Controls CutToScope → (es : List Entry)
@@ -130,7 +132,7 @@ module _ (t : TreeState) (i : IsSoundTree t) (k : IsCaughtTree t) (running : t.h
         back : node_of levels (height_of levels n) ≡ n
         back = node_height levels n (reach-on (way_of levels) n reach)
 
-        takes : act t.job.clauses (bare t.job.clauses own named) ≡ Takes (Seek (Scope (sc n) (Plain own rest)))
+        takes : act t.job.clauses (bare t.job.clauses own named) ≡ Infers (Seek (Scope (sc n) (Plain own rest)))
         takes = acts ∙ ap (λ x. goal_act t.job.clauses x own (sc n) rest) outcome
 
         below : nat_lt (height_of levels n) (length levels) ≡ true → (s.level.number == n) ≡ false
@@ -147,7 +149,7 @@ module _ (t : TreeState) (i : IsSoundTree t) (k : IsCaughtTree t) (running : t.h
         go : (b : Bool) → nat_lt (height_of levels n) (length levels) ≡ b
             → may_prune levels (cond b (Some (CutGate (node_of levels (height_of levels n)))) None) ≡ true
             → Moves (gate_pruned s (cond b (Some (CutGate (node_of levels (height_of levels n)))) None) (PlainEntry high ∷ es) t)
-        go false e z = clash z
+        go false e z = false_true z
         go true e z = subst (λ m. Moves (cut_at s m (PlainEntry high ∷ es) t)) (sym back)
             (cuts n reach (below e) items part asked.scoped g same_named same_next
             (clear_below n levels (subst (λ m. is_cleared (Some m) levels ≡ true) back z)) es takes)
@@ -158,32 +160,32 @@ module _ (t : TreeState) (i : IsSoundTree t) (k : IsCaughtTree t) (running : t.h
         → Moves (gate_pruned s (goal_gate (levels_of s) x (height_of (levels_of s) n) (with_items (by_heights (levels_of s) items) g)
         (floor_of (levels_of s))) (goal_alone x (height_of (levels_of s) n) (with_items (by_heights (levels_of s) items) g)
         (floor_of (levels_of s))) t)
-    goal_moves (AskWorld ask) z l = clash l
-    goal_moves (Replies (Solutions ss)) z l = clash l
-    goal_moves (Replies (HaltNumber j)) z l = clash l
+    goal_moves (AskWorld ask) z l = false_true l
+    goal_moves (Replies (Solutions ss)) z l = false_true l
+    goal_moves (Replies (HaltNumber j)) z l = false_true l
     goal_moves (Replies (Ball b)) z l = thrown b z _ refl l
     goal_moves (Controls CutToScope) z l = cut z _ l
-    goal_moves (Controls (GoesOnWith gs)) z l = clash l
-    goal_moves (Controls (EitherOf gs others)) z l = clash l
-    goal_moves (Controls (TestOf gs thens others)) z l = clash l
-    goal_moves (Controls (CatchOf goal catcher recovery)) z l = clash l
-    goal_moves (Controls (FindallOf template goal list)) z l = clash l
+    goal_moves (Controls (GoesOnWith gs)) z l = false_true l
+    goal_moves (Controls (EitherOf gs others)) z l = false_true l
+    goal_moves (Controls (TestOf gs thens others)) z l = false_true l
+    goal_moves (Controls (CatchOf goal catcher recovery)) z l = false_true l
+    goal_moves (Controls (FindallOf template goal list)) z l = false_true l
 
   items_move : (g : Continuation ℕ) → g.named ≡ f.named → g.next ≡ f.next → (items : List (Item ℕ)) → without_marks f.items ≡ items
-      → under_query (way_of (levels_of s)) ≡ true → AreScoped (way_of (levels_of s)) items → MarksCaught (sleeps_on (levels_of s)) items
+      → under_query (way_of (levels_of s)) ≡ true → AreScoped (way_of (levels_of s)) items → MarksCaught (dormant_on (levels_of s)) items
       → may_prune (levels_of s) (item_gate t.job.clauses (levels_of s) (by_heights (levels_of s) items) g (floor_of (levels_of s))) ≡ true
       → Moves (gate_pruned s (item_gate t.job.clauses (levels_of s) (by_heights (levels_of s) items) g (floor_of (levels_of s)))
       (or_none (item_alone t.job.clauses (by_heights (levels_of s) items) g (floor_of (levels_of s)))) t)
-  items_move g gn gx [] q u i m l = clash l
-  items_move g gn gx (CatchMark n ∷ items) q u i m l = clash l
-  items_move g gn gx (CollectMark x n ∷ items) q u i m l = clash l
-  items_move g gn gx (RemovalItem n ∷ items) q u i m l = clash l
+  items_move g gn gx [] q u i m l = false_true l
+  items_move g gn gx (CatchMark n ∷ items) q u i m l = false_true l
+  items_move g gn gx (CollectMark x n ∷ items) q u i m l = false_true l
+  items_move g gn gx (RemovalItem n ∷ items) q u i m l = false_true l
   items_move g gn gx (GoalItem x n ∷ items) q u j m l =
       goal_moves x n items q j.0 j.1 (rest_asked levels n items
       (around_path levels IsOpen (placed_here t i k running s o f entry).around) u j.0 j.1) m g gn gx
       (outcome_of t.job.clauses x g.next) (ap (outcome_of t.job.clauses x) (sym gx)) l
 
-  pub plain_moves : IsOnWay (way_of (levels_of s)) (PlainEntry f) → MarksCaught (sleeps_on (levels_of s)) f.items
+  pub plain_moves : IsOnWay (way_of (levels_of s)) (PlainEntry f) → MarksCaught (dormant_on (levels_of s)) f.items
       → may_prune (levels_of s) (gate_on t.job.clauses (levels_of s)
       (with_heights (levels_of s) (PlainEntry f) ∷ floor_of (levels_of s))) ≡ true
       → Moves (gate_pruned s (gate_on t.job.clauses (levels_of s) (with_heights (levels_of s) (PlainEntry f) ∷ floor_of (levels_of s)))
@@ -193,7 +195,7 @@ module _ (t : TreeState) (i : IsSoundTree t) (k : IsCaughtTree t) (running : t.h
       let path = around_path levels IsOpen (placed_here t i k running s o f entry).around in
       go g (by_heights levels (without_marks f.items)) (without_marks (by_heights levels f.items)) (marks_heights levels f.items)
       (items_move g refl refl (without_marks f.items) refl h.asked (marks_dropped (way_of levels) f.items path h.scoped)
-      (marks_without (sleeps_on levels) f.items m)) l
+      (marks_without (dormant_on levels) f.items m)) l
     where
       go : (g : Continuation ℕ) (is js : List (Item ℕ)) → is ≡ js
           → (may_prune levels (item_gate t.job.clauses levels is g (floor_of levels)) ≡ true

@@ -11,10 +11,10 @@ use Rattle.tree_model.specs.Credits.{credit_of}
 use Rattle.tree_model.specs.Nodes.{Pending, Inner, Closed, single}
 use Rattle.tree_model.specs.Levels.{Level, plug, Spot, levels_of}
 use Rattle.tree_model.specs.Floors.{floor_of, node_of, with_nodes}
-use Rattle.tree_model.specs.Gates.{landing_scope}
+use Rattle.tree_model.specs.Gates.{ball_scope}
 use Rattle.tree_model.specs.Orders.{levels_below}
 use Rattle.tree_model.specs.Closing.{with_right, wakes}
-use Rattle.tree_model.specs.Pruning.{lands}
+use Rattle.tree_model.specs.Pruning.{ball_closes}
 use Rattle.tree_model.specs.TreeStates.{TreeState}
 use Rattle.tree_model.specs.Effects.{ball_falls}
 use Rattle.tree_model.specs.PendingLists.{way_of, element_on, list_right, named_continuation, pending_list, front_of, back_of}
@@ -22,7 +22,7 @@ use Rattle.tree_model.specs.Ways.{under_query}
 use Rattle.tree_model.specs.SoundTrees.{IsOpen, IsSoundTree}
 use Rattle.tree_model.specs.CaughtTrees.{IsCaught, IsLastQuery, IsUnspent, IsCaughtTree}
 use Rattle.tree_model.specs.Elements.{Name, Credit, Plain, End}
-use Rattle.interleaving.specs.Machine.{gives, Takes, Seek}
+use Rattle.interleaving.specs.Machine.{gives, Infers, Seek}
 use Rattle.interleaving.specs.Scopes.{Thrown, act, scoped}
 use Rattle.interleaving.specs.Quiet.{IsQuiet, inferences, records}
 use Rattle.interleaving.specs.Roots.{extends}
@@ -42,20 +42,22 @@ use Rattle.interleaving.proofs.ClockLemmas.{AreClear, quiet-append, inferences-a
 use Rattle.interleaving.proofs.ListScopeLemmas.{IsDistinct}
 use Rattle.interleaving.proofs.ListsSoundLemmas.{lists_are_sound}
 use Rattle.interleaving.proofs.ListMarkLemmas.{around-down}
-use Rattle.interleaving.proofs.FoldLemmas.{SidesKept, caught_out}
+use Rattle.interleaving.proofs.FoldLemmas.{HaveNoSideRecords, caught_out}
 use Rattle.interleaving.proofs.EndLemmas.{has_end, quiet_no_end, end_after, back_end, round_end}
 use Rattle.interleaving.proofs.FrontCloseLemmas.{bare, unspent_out}
 use Rattle.interleaving.proofs.FrontSoundLemmas.{front_short, own_inside}
 use Rattle.interleaving.proofs.CaughtContextLemmas.{IsCaughtRoot}
-use Rattle.interleaving.proofs.CaughtClosingLemmas.{sleeper_on}
-use Rattle.interleaving.proofs.BallLevelLemmas.{landed, wakes_in, lands_at}
-use Rattle.interleaving.proofs.FallLemmas.{Fall, Nobody, Catches, fall, fall_entries, by_heights_of, MarkSleeps, IsTaken, IsCatcher}
+use Rattle.interleaving.proofs.CaughtClosingLemmas.{dormant_there}
+use Rattle.interleaving.proofs.BallLevelLemmas.{ball_credit, wakes_in, ball_closes_at}
+use Rattle.interleaving.proofs.CatchingLemmas.{Catching, Uncaught, CaughtBy, catching, catching_entries, by_heights_of, MarkIsDormant}
+use Rattle.interleaving.proofs.CatchingLemmas.{IsTaken}
+use Rattle.interleaving.proofs.CatchingLemmas.{IsCatcher}
 use Rattle.interleaving.proofs.BallPlaceLemmas.{scope_down, query_at}
 use Rattle.interleaving.proofs.BallSearchLemmas.{mark_name}
 use Rattle.interleaving.proofs.BallCatchLemmas.{none_lost, loses}
 use Rattle.interleaving.proofs.BallFollowsLemmas.{ball_taken, free_top}
 use Rattle.interleaving.proofs.BallRecoveryLemmas.{ball_wakes}
-use Rattle.interleaving.proofs.LostBallLemmas.{unmarked_becomes, all_clear, lost_end, lost_lands}
+use Rattle.interleaving.proofs.LostBallLemmas.{unmarked_becomes, all_clear, lost_end, lost_ball_closes}
 
 -- what a prune does
 pub record PruneMoves (t new : TreeState) : Type 0 where
@@ -98,7 +100,7 @@ module _ (t : TreeState) (i : IsSoundTree t) (k : IsCaughtTree t) (running : t.h
   pub unspent_here : s.level.spent ≡ 0
   unspent_here = unspent_out s.level s.above (Pending s.hold s.entry) root_here.unspent
 
-  pub sides_here : SidesKept (levels_of s)
+  pub sides_here : HaveNoSideRecords (levels_of s)
   sides_here = (caught_out (levels_of s) (Pending s.hold s.entry) root_here.caught).0
 
   pub list_here : pending_list t.root
@@ -113,9 +115,9 @@ module _ (t : TreeState) (i : IsSoundTree t) (k : IsCaughtTree t) (running : t.h
       ∷ back_of (levels_of s))))
   sound_here = subst IsSound list_here (lists_are_sound t i k)
 
-  module _ (ball : Term) (mark : Option ℕ) (sleeps : MarkSleeps (levels_of s) mark) where
+  module _ (ball : Term) (mark : Option ℕ) (sleeps : MarkIsDormant (levels_of s) mark) where
     abbrev Throws : Type 0
-    Throws = act t.job.clauses (bare t.job.clauses own named) ≡ Takes (Seek (Thrown ball (mark_name (way_of levels) mark) own))
+    Throws = act t.job.clauses (bare t.job.clauses own named) ≡ Infers (Seek (Thrown ball (mark_name (way_of levels) mark) own))
 
     -- the node that takes a ball
     pub scope_is : (w : Level) (up : List Level) (r : Term) (g : Continuation ℕ) (u : Substitution)
@@ -131,29 +133,29 @@ module _ (t : TreeState) (i : IsSoundTree t) (k : IsCaughtTree t) (running : t.h
     woken up r g u = with_nodes (node_of levels) (PlainEntry (recovery up r g u))
 
     pub root_is : (w : Level) (up : List Level) (r : Term) (g : Continuation ℕ) (u : Substitution) → IsCatcher ball (levels_of s) w up r g u
-        → (ball_falls s (fall_entries ball (Catches w up r g u)) t).root
-        ≡ (wakes t.next w up (landed w.number (levels_of s) (credit_of 1)) (woken up r g u)).root
+        → (ball_falls s (catching_entries ball (CaughtBy w up r g u)) t).root
+        ≡ (wakes t.next w up (ball_credit w.number (levels_of s) (credit_of 1)) (woken up r g u)).root
     root_is w up r g u c =
         let e = woken up r g u in
-        let l = lands_at t.next w.number levels (Pending s.hold s.entry) (credit_of 1) e in
-        ap (λ n. (lands t.next n levels (credit_of 1) e).root) (scope_is w up r g u c)
-        ∙ ap (λ x. x.root) (l.lands ∙ ap (λ d. wakes_in t.next d (landed w.number levels (credit_of 1)) e) c.down)
+        let l = ball_closes_at t.next w.number levels (Pending s.hold s.entry) (credit_of 1) e in
+        ap (λ n. (ball_closes t.next n levels (credit_of 1) e).root) (scope_is w up r g u c)
+        ∙ ap (λ x. x.root) (l.ball_closes ∙ ap (λ d. wakes_in t.next d (ball_credit w.number levels (credit_of 1)) e) c.down)
 
     pub caught_ends : (w : Level) (up : List Level) (r : Term) (g : Continuation ℕ) (u : Substitution)
         → IsCatcher ball (levels_of s) w up r g u
-        → has_end (pending_list (ball_falls s (fall_entries ball (Catches w up r g u)) t).root) ≡ true
+        → has_end (pending_list (ball_falls s (catching_entries ball (CaughtBy w up r g u)) t).root) ≡ true
     caught_ends w up r g u c =
         let top : IsAround (w ∷ up) IsOpen = subst (λ l. IsAround l IsOpen) c.down (around-down levels w.number placed_here.around) in
-        let asked = (sleeper_on w up IsOpen c.sleeper.spent (CatchEntry c.catcher r g) top.0 c.sleeper.right).asked in
+        let asked = (dormant_there w up IsOpen c.sleeper.spent (CatchEntry c.catcher r g) top.0 c.sleeper.right).asked in
         let x = with_right (Inner (single t.next (woken up r g u))) w in
-        ap (λ z. has_end (pending_list z)) (root_is w up r g u c) ∙ round_end (x ∷ up) (Closed (landed w.number levels (credit_of 1)))
+        ap (λ z. has_end (pending_list z)) (root_is w up r g u c) ∙ round_end (x ∷ up) (Closed (ball_credit w.number levels (credit_of 1)))
         (end_after (list_right (way_of up) x) (back_of up) (back_end up top.1 asked))
 
     caught_follows : (w : Level) (up : List Level) (r : Term) (g : Continuation ℕ) (u : Substitution)
-        → IsCatcher ball (levels_of s) w up r g u → fall ball (levels_of s) mark ≡ Catches w up r g u
+        → IsCatcher ball (levels_of s) w up r g u → catching ball (levels_of s) mark ≡ CaughtBy w up r g u
         → AreClear (levels_below (Some w.number) (levels_of s)) → Throws
-        → IsSound (pending_list (ball_falls s (fall_entries ball (Catches w up r g u)) t).root)
-        → Follows t.job.clauses (pending_list t.root) (pending_list (ball_falls s (fall_entries ball (Catches w up r g u)) t).root)
+        → IsSound (pending_list (ball_falls s (catching_entries ball (CaughtBy w up r g u)) t).root)
+        → Follows t.job.clauses (pending_list t.root) (pending_list (ball_falls s (catching_entries ball (CaughtBy w up r g u)) t).root)
     caught_follows w up r g u c falls clear throws j =
         let clauses = t.job.clauses in
         let v = s.level in
@@ -169,9 +171,9 @@ module _ (t : TreeState) (i : IsSoundTree t) (k : IsCaughtTree t) (running : t.h
         subst (λ x. Follows clauses (pending_list t.root) (pending_list x)) (sym same)
         (follows_then clauses _ _ _ (follows_same clauses _ _ list_here) (follows_then clauses _ _ _ one.follows two))
 
-    lost_follows : under_query (way_of (levels_of s)) ≡ true → fall ball (levels_of s) mark ≡ Nobody
-        → AreClear (levels_below (Some (landing_scope (levels_of s) (fall_entries ball Nobody))) (levels_of s)) → Throws
-        → PruneMoves t (ball_falls s (fall_entries ball Nobody) t)
+    lost_follows : under_query (way_of (levels_of s)) ≡ true → catching ball (levels_of s) mark ≡ Uncaught
+        → AreClear (levels_below (Some (ball_scope (levels_of s) (catching_entries ball Uncaught))) (levels_of s)) → Throws
+        → PruneMoves t (ball_falls s (catching_entries ball Uncaught) t)
     lost_follows asked falls below throws =
         let clauses = t.job.clauses in
         let v = s.level in
@@ -204,7 +206,7 @@ module _ (t : TreeState) (i : IsSoundTree t) (k : IsCaughtTree t) (running : t.h
         (subst (λ l. MayBecome clauses (xs ++ (bare clauses own named ∷ back)) (Credit (inferences xs + 1) [] ∷ l)) none two)
         (omega (arith, between)) in
         let u = unspent_here in
-        let lands_so = lost_lands clauses t.next v s.above status a root_here.last q below own b (inferences xs + 1) u
+        let lands_so = lost_ball_closes clauses t.next v s.above status a root_here.last q below own b (inferences xs + 1) u
         (omega (arith, total, u)) in
         record {
           world = refl;
@@ -212,22 +214,22 @@ module _ (t : TreeState) (i : IsSoundTree t) (k : IsCaughtTree t) (running : t.h
           halted = refl;
           follows = follows_then clauses _ _ _ (follows_same clauses _ _ list)
               (follows_then clauses _ _ _ first (follows_then clauses _ _ _ taken lands_so));
-          going = λ z. quiet_no_end (pending_list (ball_falls s (fall_entries ball Nobody) t).root) z
+          going = λ z. quiet_no_end (pending_list (ball_falls s (catching_entries ball Uncaught) t).root) z
               (lost_end clauses t.next v s.above status a root_here.last q below b);
         }
 
-    pub falls_so : under_query (way_of (levels_of s)) ≡ true → (x : Fall) → fall ball (levels_of s) mark ≡ x
+    pub falls_so : under_query (way_of (levels_of s)) ≡ true → (x : Catching) → catching ball (levels_of s) mark ≡ x
         → IsTaken ball (levels_of s) x → AreClear
-        (levels_below (Some (landing_scope (levels_of s) (fall_entries ball x))) (levels_of s)) → Throws
-        → IsSound (pending_list (ball_falls s (fall_entries ball x) t).root) → PruneMoves t (ball_falls s (fall_entries ball x) t)
-    falls_so asked Nobody falls c below throws j = lost_follows asked falls below throws
-    falls_so asked (Catches w up r g u) falls c below throws j =
+        (levels_below (Some (ball_scope (levels_of s) (catching_entries ball x))) (levels_of s)) → Throws
+        → IsSound (pending_list (ball_falls s (catching_entries ball x) t).root) → PruneMoves t (ball_falls s (catching_entries ball x) t)
+    falls_so asked Uncaught falls c below throws j = lost_follows asked falls below throws
+    falls_so asked (CaughtBy w up r g u) falls c below throws j =
         record {
           world = refl;
           queries = refl;
           halted = refl;
           follows = caught_follows w up r g u c falls
               (subst (λ n. AreClear (levels_below (Some n) levels)) (scope_is w up r g u c) below) throws j;
-          going = λ z. quiet_no_end (pending_list (ball_falls s (fall_entries ball (Catches w up r g u)) t).root) z
+          going = λ z. quiet_no_end (pending_list (ball_falls s (catching_entries ball (CaughtBy w up r g u)) t).root) z
               (caught_ends w up r g u c);
         }

@@ -14,25 +14,18 @@ use Rattle.interleaving.specs.Scopes.{scoped}
 use Rattle.interleaving.specs.Roots.{rooted}
 use Rattle.interleaving.specs.Views.{IsInner}
 use Rattle.interleaving.specs.Erased.{erased}
-use Rattle.interleaving.proofs.WayLemmas.{same_self}
 use Rattle.interleaving.proofs.ContextLemmas.{count_left}
 use Rattle.interleaving.proofs.QuietCreditLemmas.{gives-fixed}
 use Rattle.interleaving.proofs.AppendLemmas.{append-assoc}
 use Rattle.interleaving.proofs.ListEndLemmas.{levels_down}
 use Rattle.interleaving.proofs.PlacedNameLemmas.{bare, bare-append}
 use Rattle.interleaving.proofs.LowerListLemmas.{count_lower}
+use Rattle.interleaving.proofs.TestLemmas.{number_same}
+use Rattle.interleaving.proofs.GrowingLemmas.{pruned_way}
 
 -- what a cut leaves of a level
 abbrev emptied_level : Level → Level
 emptied_level v = record v { right = emptied v.right }
-
-pub pruned_way : (s : ℕ) (levels : List Level) → way_of (pruned s levels) ≡ way_of levels
-pruned_way s [] = refl
-pruned_way s (v ∷ up) = go (v.number == s) (pruned_way s up)
-  where
-    go : (b : Bool) → way_of (pruned s up) ≡ way_of up → way_of (cond b (v ∷ up) (emptied_level v ∷ pruned s up)) ≡ way_of (v ∷ up)
-    go true h = refl
-    go false h = ap (λ way. record { node = v.number; index = length v.left; kind = v.kind } ∷ way) h
 
 pruned_spent : (s : ℕ) (levels : List Level) → spent_at (pruned s levels) ≡ spent_at levels
 pruned_spent s [] = refl
@@ -141,7 +134,7 @@ lower_ends ok s (v ∷ up) h = go (v.number == s) h (λ f. lower_ends ok s up f)
     go true f more = tt
     go false f more =
         let own : ok v.number ≡ true = f v.number
-        (let z : one_if (v.number == v.number) ≡ 1 = ap one_if (same_self v.number) in omega (arith, z)) in
+        (let z : one_if (v.number == v.number) ≡ 1 = ap one_if (number_same v.number) in omega (arith, z)) in
         let right = list_right (way_of up) (emptied_level v) in
         subst (EndsOf ok) (sym (bare-append right (lower_pruned s up)))
         (ends_joined ok (bare right) (bare (lower_pruned s up))

@@ -30,9 +30,7 @@ use Rattle.tree_model.specs.Effects.{result_of, results_of}
 use Rattle.interleaving.proofs.PublishEventLemmas.{before_list}
 use Rattle.interleaving.proofs.PublishedEndLemmas.{list_closed, closed_sound, emptied_alike}
 use Rattle.interleaving.proofs.PublishedResultLemmas.{list_result, collected_alike}
-
-clash : false ≡ true → ⊥
-clash z = cc
+use Rattle.interleaving.proofs.TestLemmas.{false_true}
 
 -- the list with the place closed, before anything folds
 closed_list : (v : Level) (up : List Level) (k : ℕ) → pending_list (plug (v ∷ up) (Closed (credit_of k))) ≡ list_closed v up k
@@ -128,8 +126,8 @@ empty_closes t s k c l before = go (run_of t s k) refl l
   where
     go : (o : Option (List Entry)) → private_run t.job.clauses (levels_of s) (with_heights (levels_of s) s.entry) k ≡ o → run_is_empty o
         ≡ true → Closes t.job.clauses (pending_list t.root) (pending_list (plug (levels_of s) (Closed (credit_of k))))
-    go None e l = absurd (clash l)
-    go (Some (x ∷ es)) e l = absurd (clash l)
+    go None e l = absurd (false_true l)
+    go (Some (x ∷ es)) e l = absurd (false_true l)
     go (Some []) e l =
         subst (λ r. Closes t.job.clauses (pending_list r) (pending_list (plug (levels_of s) (Closed (credit_of k))))) c.inside
         (empty_entry t s c k s.entry c.at.opened (awake_entry s.hold s.entry c.at.opened c.at.placed.entry.1) c.at.placed.entry.0 e
@@ -148,22 +146,22 @@ collected_closes t s k c l before after = go (run_of t s k) refl l after
         (pending_list (plug (levels_of s) (Closed (record { inferences = k; answers = 0; records = results_of o })))) →
         Alike (scoped t.job.clauses) (pending_list t.root)
         (pending_list (plug (levels_of s) (Closed (record { inferences = k; answers = 0; records = results_of o }))))
-    go None e l after = absurd (clash l)
-    go (Some []) e l after = absurd (clash l)
-    go (Some (CatchEntry y r f ∷ es)) e l after = absurd (clash l)
-    go (Some (FindallEntry results y f ∷ es)) e l after = absurd (clash l)
-    go (Some (EndEntry b ∷ es)) e l after = absurd (clash l)
-    go (Some (PlainEntry g ∷ x ∷ es)) e l after = absurd (clash l)
+    go None e l after = absurd (false_true l)
+    go (Some []) e l after = absurd (false_true l)
+    go (Some (CatchEntry y r f ∷ es)) e l after = absurd (false_true l)
+    go (Some (FindallEntry results y f ∷ es)) e l after = absurd (false_true l)
+    go (Some (EndEntry b ∷ es)) e l after = absurd (false_true l)
+    go (Some (PlainEntry g ∷ x ∷ es)) e l after = absurd (false_true l)
     go (Some (PlainEntry g ∷ [])) e l after = by_items g.items refl l after
       where
         by_items : (items : List (Item ℕ)) → g.items ≡ items → elim items [ CollectMark u h ∷ rest ↦ true | i ↦ false ] ≡ true
             → IsSound (pending_list (plug (levels_of s) (Closed (record { inferences = k; answers = 0; records = result_of items })))) →
             Alike (scoped t.job.clauses) (pending_list t.root)
             (pending_list (plug (levels_of s) (Closed (record { inferences = k; answers = 0; records = result_of items }))))
-        by_items [] i l after = absurd (clash l)
-        by_items (GoalItem u h ∷ items) i l after = absurd (clash l)
-        by_items (CatchMark h ∷ items) i l after = absurd (clash l)
-        by_items (RemovalItem n ∷ items) i l after = absurd (clash l)
+        by_items [] i l after = absurd (false_true l)
+        by_items (GoalItem u h ∷ items) i l after = absurd (false_true l)
+        by_items (CatchMark h ∷ items) i l after = absurd (false_true l)
+        by_items (RemovalItem n ∷ items) i l after = absurd (false_true l)
         by_items (CollectMark u h ∷ items) i l after =
             subst (λ r. Alike (scoped t.job.clauses) (pending_list r)
             (pending_list (plug (levels_of s) (Closed (credit_with_result k u))))) c.inside

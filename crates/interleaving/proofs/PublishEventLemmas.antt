@@ -1,5 +1,5 @@
 -- A legal publish event: the pending list runs as before.
-use Rattle.std.proofs.Common.{◌≡◌, ℕ, zero, suc, ◌+◌, ◌≤◌, ◌==◌, Bool, true, false, List, [], ◌∷◌, ◌++◌, length, Option, Some, None, refl}
+use Rattle.std.proofs.Common.{◌≡◌, ℕ, zero, suc, ◌+◌, ◌≤◌, ◌==◌, true, false, List, [], ◌∷◌, ◌++◌, length, Option, Some, None, refl}
 use Rattle.std.proofs.Common.{sym, ◌∙◌, subst, arith}
 use Rattle.std.specs.Prelude.{◌&&◌, not, is_none, nat_le}
 use Rattle.run_model.specs.Programs.Clauses.{Clause}
@@ -32,9 +32,8 @@ use Rattle.interleaving.proofs.PlacedRunLemmas.{IsPublished}
 use Rattle.interleaving.proofs.BaredLemmas.{lead_more}
 use Rattle.interleaving.proofs.PublishedBareLemmas.{list_before, list_after}
 use Rattle.interleaving.proofs.PublishedRunLemmas.{published_alike}
-
-clash : false ≡ true → ⊥
-clash z = cc
+use Rattle.interleaving.proofs.TestLemmas.{false_true}
+use Rattle.au_term.proofs.LogicLemmas.{and-right, and-left}
 
 -- the lists of an open plain entry and of what is placed
 pub before_list : (v : Level) (up : List Level) (hold : Hold) (f : Continuation ℕ) → profile (Pending hold (PlainEntry f)) ≡ IsOpen
@@ -59,20 +58,12 @@ pub record HasNode (next : ℕ) (sizes : List ℕ) (levels : List Level) (es : L
 pub first_node : (next : ℕ) (sizes : List ℕ) (levels : List Level) (es : List Entry) → fits_shape (length levels) sizes es ≡ true
     → is_nonempty es ≡ true → HasNode next sizes levels es
 first_node next (size ∷ sizes) levels es f h = record { size = size; others = sizes; same = refl; node = _; placed_node = refl }
-first_node next [] levels [] f h = absurd (clash h)
-first_node next [] levels (e ∷ []) f h = absurd (clash f)
+first_node next [] levels [] f h = absurd (false_true h)
+first_node next [] levels (e ∷ []) f h = absurd (false_true f)
 first_node next [] levels (e ∷ d ∷ es) f h = absurd (not_one (length es) f)
   where
     not_one : (n : ℕ) → (suc (suc n) == 1) ≡ true → ⊥
     not_one n z = let same : suc (suc n) ≡ 1 = grind arith in absurd (omega (arith, same))
-
-both_first : (a b : Bool) → (a && b) ≡ true → a ≡ true
-both_first true b h = refl
-both_first false b h = absurd (clash h)
-
-both_second : (a b : Bool) → (a && b) ≡ true → b ≡ true
-both_second true b h = h
-both_second false b h = absurd (clash h)
 
 follows : (clauses : List Clause) (v : Level) (up : List Level) (next k : ℕ) (sizes : List ℕ) (f : Continuation ℕ) (es : List Entry)
     → IsFree next (v ∷ up) → IsAround (v ∷ up) IsOpen → IsOnWay (way_of (v ∷ up)) (PlainEntry f) →
@@ -81,8 +72,8 @@ follows : (clauses : List Clause) (v : Level) (up : List Level) (next k : ℕ) (
     → IsSound (list_after v up (v.spent + k) (placed next sizes (v ∷ up) es)) →
     Follows clauses (list_before v up v.spent f) (list_after v up (v.spent + k) (placed next sizes (v ∷ up) es))
 follows clauses v up next k sizes f es free a h run fit before after =
-    let some = both_first (is_nonempty es) _ fit in
-    let shape = both_second (is_nonempty es) _ fit in
+    let some = and-left (is_nonempty es) _ fit in
+    let shape = and-right (is_nonempty es) _ fit in
     go (first_node next sizes (v ∷ up) es shape some)
   where
     path_of_levels : IsPublished (v ∷ up) next sizes es
@@ -90,8 +81,8 @@ follows clauses v up next k sizes f es free a h run fit before after =
       path = around_path (v ∷ up) IsOpen a;
       new = λ m l. off_way m (v ∷ up) (free.fresh m l);
       run = run_sound clauses (v ∷ up) (PlainEntry f) k es (around_path (v ∷ up) IsOpen a) tt h run;
-      some = both_first (is_nonempty es) _ fit;
-      fit = both_second (is_nonempty es) _ fit;
+      some = and-left (is_nonempty es) _ fit;
+      fit = and-right (is_nonempty es) _ fit;
     }
 
     go : HasNode next sizes (v ∷ up) es → Follows clauses (list_before v up v.spent f)
@@ -120,10 +111,10 @@ placed_follows : (t : TreeState) (s : Spot) (k : ℕ) (sizes : List ℕ) (e : En
     → (nat_le 1 k && run_fits (length (levels_of s)) sizes o) ≡ true → IsSound (pending_list (plug (levels_of s) (Pending hold e)))
     → IsSound (pending_list (run_placed s k sizes o t).root) →
     Follows t.job.clauses (pending_list (plug (levels_of s) (Pending hold e))) (pending_list (run_placed s k sizes o t).root)
-placed_follows t s k sizes e hold op free a h w None run fit before after = absurd (clash (both_second (nat_le 1 k) false fit))
+placed_follows t s k sizes e hold op free a h w None run fit before after = absurd (false_true (and-right (nat_le 1 k) false fit))
 placed_follows t s k sizes (CatchEntry c r f) hold op free a h w (Some es) run fit before after = absurd w
 placed_follows t s k sizes (FindallEntry results l f) hold op free a h w (Some es) run fit before after = absurd w
-placed_follows t s zero sizes (EndEntry b) hold op free a h w (Some es) run fit before after = absurd (clash fit)
+placed_follows t s zero sizes (EndEntry b) hold op free a h w (Some es) run fit before after = absurd (false_true fit)
 placed_follows t s (suc k) sizes (EndEntry b) hold op free a h w (Some es) run fit before after = absurd
     (none_some (sym (end_rests t s b k) ∙ run))
   where
@@ -134,7 +125,7 @@ placed_follows t s k sizes (PlainEntry f) hold op free a h w (Some es) run fit b
     let up = s.above in
     let old = before_list s.level s.above hold f op in
     let new = after_list s.level s.above k (placed t.next sizes (s.level ∷ s.above) es) in
-    let both = follows t.job.clauses s.level s.above t.next k sizes f es free a h run (both_second (nat_le 1 k) _ fit)
+    let both = follows t.job.clauses s.level s.above t.next k sizes f es free a h run (and-right (nat_le 1 k) _ fit)
     (subst IsSound old before) (subst IsSound new after) in
     subst (λ l. Follows t.job.clauses l
     (pending_list (plug (spending k (s.level ∷ s.above)) (placed t.next sizes (s.level ∷ s.above) es)))) (sym old)
@@ -150,7 +141,7 @@ allowed_follows t w a k sizes h before after l = go (taken_at w a t) refl after 
         → IsSound (pending_list (where_some o t (λ s. run_placed s k sizes (run_of t s k) t)).root)
         → at_spot o (λ s. nat_le 1 k && run_fits (length (levels_of s)) sizes (run_of t s k)) ≡ true →
         Follows t.job.clauses (pending_list t.root) (pending_list (where_some o t (λ s. run_placed s k sizes (run_of t s k) t)).root)
-    go None e after l = absurd (clash l)
+    go None e after l = absurd (false_true l)
     go (Some s) e after l =
         let at = known_at w a t s h e in
         let o = taken_at_open w a t s e in
@@ -164,4 +155,4 @@ allowed_follows t w a k sizes h before after l = go (taken_at w a t) refl after 
 pub publish_changes_list : PublishChangesList
 unfolding is_legal after_event
 publish_changes_list t w a k sizes h n before after l = allowed_follows t w a k sizes h before after
-    (both_second (is_none (ended t)) _ (both_second (not t.stopped) _ l))
+    (and-right (is_none (ended t)) _ (and-right (not t.stopped) _ l))

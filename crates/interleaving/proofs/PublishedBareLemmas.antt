@@ -10,11 +10,12 @@ use Rattle.tree_model.specs.Nodes.{Node, Status, Inner}
 use Rattle.tree_model.specs.Shapes.{placed}
 use Rattle.tree_model.specs.PendingLists.{way_of, named_continuation, list_in, list_among, list_below, front_of, back_of}
 use Rattle.interleaving.proofs.AppendLemmas.{append-assoc}
-use Rattle.interleaving.proofs.RootLemmas.{are_told}
+use Rattle.interleaving.proofs.RootLemmas.{are_distinguished}
 use Rattle.interleaving.proofs.NamingLemmas.{same-itself}
 use Rattle.interleaving.proofs.PlacedNameLemmas.{bare}
 use Rattle.interleaving.proofs.PlacedRunLemmas.{placed_list}
-use Rattle.interleaving.proofs.BaredLemmas.{bare_becomes, made_at, first_true, made_grown}
+use Rattle.interleaving.proofs.BaredLemmas.{bare_becomes, made_at, made_grown}
+use Rattle.au_model.proofs.ApplyLemmas.{or_left}
 
 -- what is right of an alternative's end
 abbrev pub right_of : List Level → List Element
@@ -39,7 +40,7 @@ abbrev pub list_after : Level → List Level → ℕ → Status → List Element
 list_after v up spent status = front_of (v ∷ up) ++ (list_below (way_of (v ∷ up)) spent status ++ (EndOf (own_name v) ∷ right_of (v ∷ up)))
 
 own_end : (v : Level) (next : ℕ) → own_inside v next (own_name v) ≡ true
-own_end v next = first_true _ _ (are_told.by_length (own_name v) (own_name v) [] refl ∙ same-itself (own_name v))
+own_end v next = or_left _ _ (are_distinguished.by_length (own_name v) (own_name v) [] refl ∙ same-itself (own_name v))
 
 pub own_entry : (v : Level) (next : ℕ) → own_inside v next (0 ∷ own_name v) ≡ true
 own_entry v next = made_grown (own_name v) next 0 (own_name v) (own_end v next)

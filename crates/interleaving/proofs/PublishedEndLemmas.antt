@@ -9,7 +9,7 @@ use Rattle.tree_model.specs.Elements.{Element, Credit, EndOf}
 use Rattle.interleaving.specs.Erased.{erased}
 use Rattle.interleaving.specs.Sound.{IsSound}
 use Rattle.interleaving.specs.Views.{IsBlind}
-use Rattle.interleaving.specs.OwnRuns.{StandsFor}
+use Rattle.interleaving.specs.OwnRuns.{NamesEntries}
 use Rattle.tree_model.specs.Levels.{Level}
 use Rattle.tree_model.specs.Floors.{with_heights, floor_of}
 use Rattle.tree_model.specs.PrivateRuns.{private_run}
@@ -19,7 +19,7 @@ use Rattle.tree_model.specs.SoundTrees.{IsOpen}
 use Rattle.interleaving.proofs.AppendLemmas.{append-assoc, each-append}
 use Rattle.interleaving.proofs.ListChangeLemmas.{named_anew}
 use Rattle.interleaving.proofs.FrontSameLemmas.{front_is_same}
-use Rattle.interleaving.proofs.FloorsReadableLemmas.{readable_enough}
+use Rattle.interleaving.proofs.FloorLemmas.{readable_enough}
 use Rattle.interleaving.proofs.ReadableLemmas.{IsReadable, sound_readable}
 use Rattle.interleaving.proofs.ContextLemmas.{IsAround}
 use Rattle.interleaving.proofs.ClosingSoundLemmas.{IsFree, free-above}
@@ -27,7 +27,7 @@ use Rattle.interleaving.proofs.SideLemmas.{front_blind}
 use Rattle.interleaving.proofs.NamedFloorLemmas.{below_named, floor_named, first_low}
 use Rattle.interleaving.proofs.BaredLemmas.{may_stay, made_at}
 use Rattle.interleaving.proofs.PublishedBareLemmas.{right_of, own_plain, list_before}
-use Rattle.interleaving.proofs.ToldNameLemmas.{tells_floor, tells_below}
+use Rattle.interleaving.proofs.DistinctNameLemmas.{respects_floor, respects_below}
 use Rattle.interleaving.proofs.LowListLemmas.{low_entry}
 use Rattle.interleaving.proofs.LeadRunLemmas.{lead_segment, run_front, lead_list_sound, lead_list_same, old_sound}
 use Rattle.interleaving.proofs.SoundEarlyLemmas.{sound_exchange}
@@ -44,14 +44,14 @@ module _ (clauses : List Clause) (v : Level) (up : List Level) (next : ℕ) (f :
     (a : IsAround (v ∷ up) IsOpen)
     (h : IsOnWay (way_of (v ∷ up)) (PlainEntry f)) (off : is_on (way_of (v ∷ up)) next ≡ false) (k : ℕ) where
   -- nothing is left of it
-  none_left : (left : List Element) → IsSound (own_plain v up f ∷ below_named (v ∷ up)) → StandsFor (made_at (0 ∷ next ∷ []) next) left
+  none_left : (left : List Element) → IsSound (own_plain v up f ∷ below_named (v ∷ up)) → NamesEntries (made_at (0 ∷ next ∷ []) next) left
       (below_named (v ∷ up)) [] (floor_of (v ∷ up)) → erased (left ++ back_of (v ∷ up)) ≡ erased (back_of (v ∷ up))
   none_left left low s =
       let end = EndOf (length v.left ∷ v.number ∷ []) ∷ [] in
       let before = append-assoc left end (floor_named (v ∷ up)) in
       ap erased (sym (append-assoc left end (right_of (v ∷ up))))
       ∙ readable_enough (floor_named (v ∷ up)) (right_of (v ∷ up)) (left ++ end) end (first_low (v ∷ up))
-      (tells_floor next v up free a (tells_below next up (free-above next v up free) a.1))
+      (respects_floor next v up free a (respects_below next up (free-above next v up free) a.1))
       (subst IsReadable (sym before) (sound_readable (left ++ below_named (v ∷ up)) s.sound))
       (sound_readable (below_named (v ∷ up)) low.1)
       (ap erased before ∙ (s.entries ∙ sym (below_erased (v ∷ up) (around_path (v ∷ up) IsOpen a))))

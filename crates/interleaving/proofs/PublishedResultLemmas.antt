@@ -20,7 +20,7 @@ use Rattle.tree_model.specs.SoundTrees.{IsOpen}
 use Rattle.interleaving.proofs.AppendLemmas.{append-assoc, each-append}
 use Rattle.interleaving.proofs.ListChangeLemmas.{credits_add, named_anew}
 use Rattle.interleaving.proofs.FrontSameLemmas.{front_is_same}
-use Rattle.interleaving.proofs.FloorsReadableLemmas.{readable_enough}
+use Rattle.interleaving.proofs.FloorLemmas.{readable_enough}
 use Rattle.interleaving.proofs.ReadableLemmas.{IsReadable, sound_readable, high_present}
 use Rattle.interleaving.proofs.ContextLemmas.{IsAround}
 use Rattle.interleaving.proofs.ClosingSoundLemmas.{IsFree, free-above}
@@ -28,7 +28,7 @@ use Rattle.interleaving.proofs.SideLemmas.{front_blind}
 use Rattle.interleaving.proofs.NamedFloorLemmas.{below_named, floor_named, first_low}
 use Rattle.interleaving.proofs.BaredLemmas.{may_then, may_stay, made_at}
 use Rattle.interleaving.proofs.PublishedBareLemmas.{right_of, own_plain, list_before}
-use Rattle.interleaving.proofs.ToldNameLemmas.{tells_floor, tells_below}
+use Rattle.interleaving.proofs.DistinctNameLemmas.{respects_floor, respects_below}
 use Rattle.interleaving.proofs.LowListLemmas.{low_entry}
 use Rattle.interleaving.proofs.LeadRunLemmas.{lead_segment, run_front, lead_list_sound, lead_list_same, old_sound}
 use Rattle.interleaving.proofs.SoundEarlyLemmas.{sound_exchange}
@@ -38,10 +38,10 @@ use Rattle.interleaving.proofs.PublishedBareLemmas.{own_entry}
 use Rattle.interleaving.proofs.PublishedStepLemmas.{by_names, lead_becomes}
 use Rattle.au_term.specs.Term.{Term}
 use Rattle.run_model.specs.Machine.Items.{Item, CollectMark}
-use Rattle.interleaving.specs.Machine.{Vanishes}
+use Rattle.interleaving.specs.Machine.{Drops}
 use Rattle.interleaving.specs.Scopes.{Does, item_act, act}
 use Rattle.interleaving.specs.HeightMachine.{HeightCredit, HeightEntry}
-use Rattle.interleaving.specs.Erased.{count, height}
+use Rattle.interleaving.specs.Erased.{element_count, height}
 use Rattle.interleaving.specs.Sound.{IsGathered, IsMarkSound}
 use Rattle.tree_model.specs.PendingLists.{findall_on}
 use Rattle.tree_model.specs.Ways.{AreScoped}
@@ -96,14 +96,14 @@ module _ (clauses : List Clause) (v : Level) (up : List Level) (next : ℕ) (f :
       let back = append-assoc behind end (right_of (v ∷ up)) in
       let reads = sound_readable (below_named (v ∷ up)) low.1 in
       let one : height (behind ++ below) s - 1 ≡ height below own - 1 = omega (arith, high, here) in
-      let some : 1 ≤ height (behind ++ below) s = omega (arith, ap count gathered.found) in
+      let some : 1 ≤ height (behind ++ below) s = omega (arith, ap element_count gathered.found) in
       let some_own : 1 ≤ height below own = omega (arith, here) in
       let whole = ap (λ n. HeightCredit 0 ((n, t) ∷ []) ∷ erased (behind ++ below)) one
       ∙ ap (λ l. HeightCredit 0 ((height below own - 1, t) ∷ []) ∷ l) (ends_erased behind below e) in
       ap (λ l. erased (Credit 0 ((s, t) ∷ []) ∷ l)) (sym back)
       ∙ readable_enough (floor_named (v ∷ up)) (right_of (v ∷ up)) (Credit 0 ((s, t) ∷ []) ∷ (behind ++ end))
       (Credit 0 ((own, t) ∷ []) ∷ end) (first_low (v ∷ up))
-      (tells_floor next v up free a (tells_below next up (free-above next v up free) a.1))
+      (respects_floor next v up free a (respects_below next up (free-above next v up free) a.1))
       (subst (λ l. IsReadable (Credit 0 ((s, t) ∷ []) ∷ l)) (sym floor) ((((_, gathered.found), some), tt), ends_read behind below e reads))
       (((high_present below own some_own, some_own), tt), reads)
       (ap (λ l. erased (Credit 0 ((s, t) ∷ []) ∷ l)) floor ∙ whole)
@@ -122,7 +122,7 @@ module _ (clauses : List Clause) (v : Level) (up : List Level) (next : ℕ) (f :
       (r.stands.entries ∙ ap (λ l. HeightEntry (PlainEntry g) ∷ l) (sym (below_erased (v ∷ up) (around_path (v ∷ up) IsOpen a)))) in
       let m = mark_first o.after.items (height (o.behind ++ below)) t hh gs (ap (λ x. x.items) o.heights ∙ first) in
       let s = m.0 in
-      let goes : ◌≡◌ {A = Does} (act clauses (Plain o.name o.after)) (Vanishes ((m.0, t) ∷ [])) = ap
+      let goes : ◌≡◌ {A = Does} (act clauses (Plain o.name o.after)) (Drops ((m.0, t) ∷ [])) = ap
       (λ is. item_act clauses is o.name o.after) m.2 in
       let sound_left = subst (λ l. IsSound (l ++ below)) o.same r.stands.sound in
       let entry = sound-after o.before (Plain o.name o.after ∷ (o.behind ++ below))

@@ -9,7 +9,7 @@ use Rattle.tree_model.specs.Elements.{Name, Element, Credit, EndOf}
 use Rattle.interleaving.specs.Erased.{erased}
 use Rattle.interleaving.specs.Sound.{IsSound}
 use Rattle.interleaving.specs.Views.{IsBlind}
-use Rattle.interleaving.specs.OwnRuns.{StandsFor}
+use Rattle.interleaving.specs.OwnRuns.{NamesEntries}
 use Rattle.tree_model.specs.Levels.{Level}
 use Rattle.tree_model.specs.Nodes.{Node, Inner}
 use Rattle.tree_model.specs.Floors.{with_heights, floor_of}
@@ -21,15 +21,15 @@ use Rattle.tree_model.specs.SoundTrees.{IsOpen}
 use Rattle.interleaving.proofs.AppendLemmas.{append-assoc, each-append}
 use Rattle.interleaving.proofs.ListChangeLemmas.{named_anew}
 use Rattle.interleaving.proofs.FrontSameLemmas.{front_is_same}
-use Rattle.interleaving.proofs.FloorsReadableLemmas.{readable_enough}
+use Rattle.interleaving.proofs.FloorLemmas.{readable_enough}
 use Rattle.interleaving.proofs.ReadableLemmas.{IsReadable, sound_readable}
 use Rattle.interleaving.proofs.ContextLemmas.{IsAround}
 use Rattle.interleaving.proofs.ClosingSoundLemmas.{IsFree, free-above}
 use Rattle.interleaving.proofs.NamedFloorLemmas.{below_named, floor_named, first_low}
-use Rattle.interleaving.proofs.PlacedRunLemmas.{placed_list, IsPublished, stand_placed}
+use Rattle.interleaving.proofs.PlacedRunLemmas.{placed_list, IsPublished, placed_is_erased}
 use Rattle.interleaving.proofs.BaredLemmas.{may_stay, made_at, inner_new}
 use Rattle.interleaving.proofs.PublishedBareLemmas.{right_of, own_plain, list_before, list_after, bared}
-use Rattle.interleaving.proofs.ToldNameLemmas.{tells_floor, tells_below}
+use Rattle.interleaving.proofs.DistinctNameLemmas.{respects_floor, respects_below}
 use Rattle.interleaving.proofs.LowListLemmas.{low_entry}
 use Rattle.interleaving.proofs.LeadRunLemmas.{lead_segment, run_front, lead_list_sound, lead_list_same, old_sound}
 use Rattle.interleaving.proofs.PublishedStepLemmas.{by_names, lead_becomes}
@@ -41,24 +41,24 @@ module _ (clauses : List Clause) (v : Level) (up : List Level) (next size : ℕ)
   off = p.new next (omega arith)
 
   -- the same entries over what stands to the right
-  same_back : (left : List Element) → IsSound (own_plain v up f ∷ below_named (v ∷ up)) → StandsFor (made_at (0 ∷ next ∷ []) next) left
+  same_back : (left : List Element) → IsSound (own_plain v up f ∷ below_named (v ∷ up)) → NamesEntries (made_at (0 ∷ next ∷ []) next) left
       (below_named (v ∷ up)) es (floor_of (v ∷ up)) → erased (left ++ back_of (v ∷ up))
       ≡ erased (placed_list (v ∷ up) next (size ∷ sizes) es ++ back_of (v ∷ up))
   same_back left low s =
       let c = placed_list (v ∷ up) next (size ∷ sizes) es in
       let own : Name = length v.left ∷ v.number ∷ [] in
       let end = EndOf (length v.left ∷ v.number ∷ []) ∷ [] in
-      let stand = stand_placed v up next (size ∷ sizes) es p in
+      let list_is = placed_is_erased v up next (size ∷ sizes) es p in
       let before = append-assoc left end (floor_named (v ∷ up)) in
       let after = append-assoc c end (floor_named (v ∷ up)) in
       let whole = readable_enough (floor_named (v ∷ up)) (right_of (v ∷ up)) (left ++ end) (c ++ end) (first_low (v ∷ up))
-      (tells_floor next v up free a (tells_below next up (free-above next v up free) a.1))
+      (respects_floor next v up free a (respects_below next up (free-above next v up free) a.1))
       (subst IsReadable (sym before) (sound_readable (left ++ below_named (v ∷ up)) s.sound))
-      (subst IsReadable (sym after) (stand.reads (sound_readable (below_named (v ∷ up)) low.1)))
-      (ap erased before ∙ (s.entries ∙ (sym stand.erases ∙ ap erased (sym after)))) in
+      (subst IsReadable (sym after) (list_is.reads (sound_readable (below_named (v ∷ up)) low.1)))
+      (ap erased before ∙ (s.entries ∙ (sym list_is.erases ∙ ap erased (sym after)))) in
       ap erased (sym (append-assoc left end (right_of (v ∷ up)))) ∙ (whole ∙ ap erased (append-assoc c end (right_of (v ∷ up))))
 
-  same_whole : (left : List Element) → IsSound (own_plain v up f ∷ below_named (v ∷ up)) → StandsFor (made_at (0 ∷ next ∷ []) next) left
+  same_whole : (left : List Element) → IsSound (own_plain v up f ∷ below_named (v ∷ up)) → NamesEntries (made_at (0 ∷ next ∷ []) next) left
       (below_named (v ∷ up)) es (floor_of (v ∷ up)) → (spent : ℕ) →
       erased (front_of (v ∷ up) ++ (Credit (spent + k) [] ∷ (placed_list (v ∷ up) next (size ∷ sizes) es ++ back_of (v ∷ up))))
       ≡ erased (front_of (v ∷ up) ++ (Credit (spent + k) [] ∷ (left ++ back_of (v ∷ up))))

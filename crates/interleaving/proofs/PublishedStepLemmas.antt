@@ -19,7 +19,7 @@ use Rattle.tree_model.specs.SoundTrees.{IsOpen}
 use Rattle.interleaving.proofs.AppendLemmas.{append-assoc, each-append}
 use Rattle.interleaving.proofs.ListChangeLemmas.{becomes, credits_add}
 use Rattle.interleaving.proofs.SameRunLemmas.{same_run}
-use Rattle.interleaving.proofs.OwnRunsOverLemmas.{runs_privately}
+use Rattle.interleaving.proofs.OwnRunLemmas.{runs_privately}
 use Rattle.interleaving.proofs.ContextLemmas.{IsAround}
 use Rattle.interleaving.proofs.ClosingSoundLemmas.{IsFree}
 use Rattle.interleaving.proofs.SideLemmas.{under_of_blind}
@@ -27,8 +27,8 @@ use Rattle.interleaving.proofs.NamedFloorLemmas.{below_named}
 use Rattle.interleaving.proofs.BaredLemmas.{may_then, made_at, made_grown}
 use Rattle.interleaving.proofs.PublishedBareLemmas.{own_plain}
 use Rattle.interleaving.proofs.NamingLemmas.{not-same}
-use Rattle.interleaving.proofs.BrancheLemmas.{pair_older}
-use Rattle.interleaving.proofs.SkippedLemmas.{clash as true_false}
+use Rattle.interleaving.proofs.BranchLemmas.{pair_older}
+use Rattle.interleaving.proofs.TestLemmas.{true_false}
 use Rattle.interleaving.proofs.LeadNameLemmas.{lead_far}
 use Rattle.interleaving.proofs.LeadRunLemmas.{lead_segment, new_entry, new_end, run_front, run_back, run_floor, deepest, run_stands}
 

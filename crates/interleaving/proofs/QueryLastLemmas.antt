@@ -16,19 +16,16 @@ use Rattle.tree_model.specs.CaughtTrees.{AreLast}
 use Rattle.tree_model.specs.Elements.{Record, Element, Credit, Plain, EndOf, Catch, Findall, End}
 use Rattle.interleaving.specs.Machine.{gives, free_steps}
 use Rattle.interleaving.specs.Scopes.{scoped}
-use Rattle.interleaving.specs.Quiet.{inferences}
-use Rattle.interleaving.specs.Erased.{count, erased}
+use Rattle.interleaving.specs.Quiet.{IsQuiet, inferences}
+use Rattle.interleaving.specs.Erased.{element_count, erased}
 use Rattle.interleaving.specs.Follows.{lead}
 use Rattle.interleaving.proofs.ContextLemmas.{IsAround}
 use Rattle.interleaving.proofs.QuietCreditLemmas.{gives-fixed}
-use Rattle.interleaving.proofs.ClockLemmas.{AreShut, AreClear}
-use Rattle.interleaving.proofs.LeadLemmas.{lead-quiet, lead-grows}
-use Rattle.interleaving.proofs.FoldLemmas.{SidesKept, LeftSides, node_totals, node_list, closed_round}
+use Rattle.interleaving.proofs.ClockLemmas.{AreShut, AreClear, quiet-append, front_quiet}
+use Rattle.interleaving.proofs.LeadLemmas.{lead-quiet, lead-grows, lead-bounded}
+use Rattle.interleaving.proofs.FoldLemmas.{HaveNoSideRecords, LeftSides, node_totals, node_list, closed_round}
 use Rattle.interleaving.proofs.ClosingListLemmas.{closed_list, no_side}
 use Rattle.interleaving.proofs.CaughtContextLemmas.{last_put, last_at}
-
-clash : {A : Type 0} → false ≡ true → A
-clash h = let no_way : ⊥ = cc in absurd no_way
 
 -- nothing is to the right
 abbrev pub RightsNone : List Level → Type 0
@@ -86,7 +83,7 @@ ends_settle clauses (Catch s u c r p f ∷ xs) h = absurd h
 ends_settle clauses (Findall s u results list p f ∷ xs) h = absurd h
 ends_settle clauses (End p b ∷ xs) h = absurd h
 
-pub ends_erased : (xs : List Element) → OnlyEnds xs → (erased xs ≡ []) × (count xs ≡ 0)
+pub ends_erased : (xs : List Element) → OnlyEnds xs → (erased xs ≡ []) × (element_count xs ≡ 0)
 ends_erased [] h = (refl, refl)
 ends_erased (EndOf s ∷ xs) h = ends_erased xs h
 ends_erased (Credit k qs ∷ xs) h = absurd h
@@ -139,10 +136,42 @@ none_guarded v e = go v.left v.right e
     go [] (alternative sp st others) e = let no_way : ⊥ = cc in absurd no_way
     go (a ∷ rest) right e = refl
 
+-- credits alone, that count as many up to the greatest, and no more
+pub record CountsLess (xs ys : List Element) : Type 0 where
+  pub quiet : IsQuiet ys
+  pub less : lead ys ≤ lead xs
+  pub enough : (m : ℕ) → m ≤ greatest → m ≤ lead xs → m ≤ lead ys
+
+counts_then : (xs ys zs : List Element) → CountsLess xs ys → CountsLess ys zs → CountsLess xs zs
+counts_then xs ys zs h k = record {
+  quiet = k.quiet;
+  less = (let a = h.less in let b = k.less in omega (arith, a, b));
+  enough = λ m b l. k.enough m b (h.enough m b l);
+}
+
+counts_itself : (xs : List Element) → IsQuiet xs → CountsLess xs xs
+counts_itself xs q = record { quiet = q; less = omega arith; enough = λ m b l. l }
+
+pub ends_quiet : (xs : List Element) → OnlyEnds xs → IsQuiet xs
+ends_quiet [] h = tt
+ends_quiet (EndOf s ∷ xs) h = ends_quiet xs h
+ends_quiet (Credit k qs ∷ xs) h = absurd h
+ends_quiet (Plain p f ∷ xs) h = absurd h
+ends_quiet (Catch s u c r p f ∷ xs) h = absurd h
+ends_quiet (Findall s u results list p f ∷ xs) h = absurd h
+ends_quiet (End p b ∷ xs) h = absurd h
+
+-- a closed place with nothing to its right
+closed_quiet : (levels : List Level) (c : TreeCredit) → AreClear levels → RightsNone levels
+    → IsQuiet (pending_list (plug levels (Closed c)))
+closed_quiet levels c clear n = subst IsQuiet (sym (closed_list levels c))
+    (quiet-append (front_of levels) (balance_on (way_of levels) c ∷ back_of levels) (front_quiet levels clear)
+    (ends_quiet (back_of levels) (back_ends levels n)))
+
 fold_lead : (v u : Level) (up : List Level) (c total : TreeCredit) → LeftSides v.kind v.left → is_side v.kind (length v.left) ≡ false
-    → all_closed v c ≡ Some total
-    → lead (pending_list (plug (u ∷ up) (Closed (added (credit_of u.spent) total)))) ≤ lead (pending_list (plug (v ∷ u ∷ up) (Closed c)))
-fold_lead v u up c total sides off e =
+    → all_closed v c ≡ Some total → AreClear (u ∷ up) → RightsNone (u ∷ up)
+    → CountsLess (pending_list (plug (v ∷ u ∷ up) (Closed c))) (pending_list (plug (u ∷ up) (Closed (added (credit_of u.spent) total))))
+fold_lead v u up c total sides off e clear n =
     let t = node_totals (u ∷ up) v c total sides off e in
     let inner = t.quiet in
     let d = added (credit_of u.spent) total in
@@ -156,26 +185,32 @@ fold_lead v u up c total sides off e =
     let new = ap lead (closed_list (u ∷ up) d) in
     let less : lead (front_of (u ∷ up) ++ (balance_on (way_of (u ∷ up)) d ∷ zs)) ≤ lead (front_of (u ∷ up) ++ (xs ++ zs)) = lead-grows
     (front_of (u ∷ up)) (balance_on (way_of (u ∷ up)) d ∷ zs) (xs ++ zs) (omega (arith, sum, here, long, most)) in
-    omega (arith, old, new, less)
+    record {
+      quiet = closed_quiet (u ∷ up) d clear n;
+      less = omega (arith, old, new, less);
+      enough = λ m b l.
+          let far : m ≤ lead (front_of (u ∷ up) ++ (xs ++ zs)) = omega (arith, old, l) in
+          let kept : m ≤ lead (front_of (u ∷ up) ++ (balance_on (way_of (u ∷ up)) d ∷ zs)) = lead-bounded m (front_of (u ∷ up)) (xs ++ zs)
+          (balance_on (way_of (u ∷ up)) d ∷ zs) (λ j a c. omega (arith, a, b, c, sum, here, long, most)) far in
+          omega (arith, new, kept);
+    }
   where
     list_inner : List Level → Level → TreeCredit → List Element
     list_inner up v c = list_left (way_of up) v.number v.kind v.left ++ (balance_on (way_of (v ∷ up)) c ∷ list_right (way_of up) v)
 
-pub closes_lead : (next : ℕ) (levels : List Level) (c : TreeCredit) → IsAround levels IsOpen → RightsNone levels → SidesKept levels
-    → lead (pending_list (closes next levels c).root) ≤ lead (pending_list (plug levels (Closed c)))
-closes_lead next [] c a n s = omega arith
-closes_lead next (v ∷ up) c a n s =
+pub closes_lead : (next : ℕ) (levels : List Level) (c : TreeCredit) → IsAround levels IsOpen → AreClear levels → RightsNone levels
+    → HaveNoSideRecords levels → CountsLess (pending_list (plug levels (Closed c))) (pending_list (closes next levels c).root)
+closes_lead next [] c a clear n s = counts_itself (pending_list (Closed c)) tt
+closes_lead next (v ∷ up) c a clear n s =
     let g = none_guarded v n.0 in
-    subst (λ o. lead (pending_list (goal_side_closes next v up c o (closes next up)).root) ≤ lead
-    (pending_list (plug (v ∷ up) (Closed c)))) (sym g)
-    (go up (all_closed v c) refl s.0 (no_side v up a.0 None g tt) (λ d. closes_lead next up d a.1 n.1 s.1))
+    subst (λ o. CountsLess (pending_list (plug (v ∷ up) (Closed c))) (pending_list (goal_side_closes next v up c o (closes next up)).root))
+    (sym g) (go up (all_closed v c) refl (no_side v up a.0 None g tt) clear n (λ d. closes_lead next up d a.1 clear.1 n.1 s.1))
   where
-    go : (above : List Level) (o : Option TreeCredit) → all_closed v c ≡ o → LeftSides v.kind v.left → is_side v.kind (length v.left)
-        ≡ false → ((d : TreeCredit) → lead (pending_list (closes next above d).root) ≤ lead (pending_list (plug above (Closed d))))
-        → lead (pending_list (folds next v above c o (closes next above)).root) ≤ lead (pending_list (plug (v ∷ above) (Closed c)))
-    go above None e l off f = omega arith
-    go [] (Some total) e l off f = omega arith
-    go (u ∷ above) (Some total) e l off f =
-        let one = f (added (credit_of u.spent) total) in
-        let two = fold_lead v u above c total l off e in
-        omega (arith, one, two)
+    go : (above : List Level) (o : Option TreeCredit) → all_closed v c ≡ o → is_side v.kind (length v.left) ≡ false → AreClear (v ∷ above)
+        → RightsNone (v ∷ above)
+        → ((d : TreeCredit) → CountsLess (pending_list (plug above (Closed d))) (pending_list (closes next above d).root))
+        → CountsLess (pending_list (plug (v ∷ above) (Closed c))) (pending_list (folds next v above c o (closes next above)).root)
+    go above None e off k r f = counts_itself _ (closed_quiet (v ∷ above) c k r)
+    go [] (Some total) e off k r f = counts_itself _ (closed_quiet (v ∷ []) c k r)
+    go (u ∷ above) (Some total) e off k r f = counts_then _ _ _ (fold_lead v u above c total s.0 off e k.1 r.1)
+        (f (added (credit_of u.spent) total))

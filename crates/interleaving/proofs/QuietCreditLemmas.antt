@@ -5,26 +5,27 @@ use Rattle.run_model.specs.Programs.Clauses.{Clause}
 use Rattle.interleaving.specs.Machine.{Machine, Put, gives}
 use Rattle.tree_model.specs.Elements.{Record, Element, Credit, Plain, EndOf, Catch, Findall, End}
 use Rattle.interleaving.specs.Scopes.{give, scoped}
-use Rattle.interleaving.specs.Segments.{outer, Private, private_none, private_goes, private_stands, private_wakes, private_takes}
+use Rattle.interleaving.specs.Segments.{outer, Private, private_none, private_drops, private_remains, private_changes, private_infers}
 use Rattle.interleaving.specs.Quiet.{IsQuiet, inferences, records, IsFixed}
-use Rattle.interleaving.proofs.RunFrontLemmas.{each-append, append-assoc-at, maps-append, map-seam, map-none}
+use Rattle.interleaving.proofs.RunFrontLemmas.{each-append, maps-append, map-seam, map-none}
 use Rattle.interleaving.proofs.AloneLemmas.{outer-append}
+use Rattle.interleaving.proofs.AppendLemmas.{append-assoc}
 
 -- one private run after another
 pub private-then : {W X Q R : Type 0} → (m : Machine W X Q R) (inner : R → Bool) (j k : ℕ) (rs qs : List R) (a s b : List X)
     → Private m inner k rs a s → Private m inner j qs s b → Private m inner (k + j) (rs ++ qs) a b
 private-then m inner j k rs qs a s b (private_none t) h = let same : j ≡ 0 + j = omega arith in subst (λ n. Private m inner n qs s b) same h
-private-then m inner j k rs qs a s b (private_goes i x new os xs t e r) h =
-    subst (λ l. Private m inner (i + j) l (x ∷ xs) b) (sym (append-assoc-at (outer inner new) os qs))
-    (private_goes (i + j) x new (os ++ qs) xs b e (private-then m inner j i os qs (map (gives m new) xs) s b r h))
-private-then m inner j k rs qs a s b (private_stands i x new os xs t e f r) h = private_stands (i + j) x new (os ++ qs) xs b e f
+private-then m inner j k rs qs a s b (private_drops i x new os xs t e r) h =
+    subst (λ l. Private m inner (i + j) l (x ∷ xs) b) (sym (append-assoc (outer inner new) os qs))
+    (private_drops (i + j) x new (os ++ qs) xs b e (private-then m inner j i os qs (map (gives m new) xs) s b r h))
+private-then m inner j k rs qs a s b (private_remains i x new os xs t e f r) h = private_remains (i + j) x new (os ++ qs) xs b e f
     (private-then m inner j i os qs (m.stands x ∷ xs) s b r h)
-private-then m inner j k rs qs a s b (private_wakes i x y os xs t e r) h = private_wakes (i + j) x y (os ++ qs) xs b e
+private-then m inner j k rs qs a s b (private_changes i x y os xs t e r) h = private_changes (i + j) x y (os ++ qs) xs b e
     (private-then m inner j i os qs (y ∷ xs) s b r h)
-private-then m inner j k rs qs a s b (private_takes i x p os xs t u e f r) h =
+private-then m inner j k rs qs a s b (private_infers i x p os xs t u e f r) h =
     let same : suc (i + j) ≡ suc i + j = omega arith in
     subst (λ n. Private m inner n (os ++ qs) (x ∷ xs) b) same
-    (private_takes (i + j) x p (os ++ qs) xs t b e f (private-then m inner j i os qs t s b r h))
+    (private_infers (i + j) x p (os ++ qs) xs t b e f (private-then m inner j i os qs t s b r h))
 
 -- records that leave a segment are not its own
 outer-apart : {R : Type 0} → (inner : R → Bool) (new : List R) → Each (λ o. inner o ≡ false) (outer inner new)
@@ -39,11 +40,11 @@ outer-apart {R = R} inner (o ∷ new) = go (inner o) refl (outer-apart inner new
 pub private-outer : {W X Q R : Type 0} → (m : Machine W X Q R) (inner : R → Bool) (k : ℕ) (rs : List R) (a b : List X)
     → Private m inner k rs a b → Each (λ r. inner r ≡ false) rs
 private-outer m inner k rs a b (private_none t) = tt
-private-outer m inner k rs a b (private_goes i x new os xs t e r) = each-append (λ o. inner o ≡ false) (outer inner new) os
+private-outer m inner k rs a b (private_drops i x new os xs t e r) = each-append (λ o. inner o ≡ false) (outer inner new) os
     (outer-apart inner new) (private-outer m inner i os (map (gives m new) xs) b r)
-private-outer m inner k rs a b (private_stands i x new os xs t e f r) = private-outer m inner i os (m.stands x ∷ xs) b r
-private-outer m inner k rs a b (private_wakes i x y os xs t e r) = private-outer m inner i os (y ∷ xs) b r
-private-outer m inner k rs a b (private_takes i x p os xs t u e f r) = private-outer m inner i os t b r
+private-outer m inner k rs a b (private_remains i x new os xs t e f r) = private-outer m inner i os (m.stands x ∷ xs) b r
+private-outer m inner k rs a b (private_changes i x y os xs t e r) = private-outer m inner i os (y ∷ xs) b r
+private-outer m inner k rs a b (private_infers i x p os xs t u e f r) = private-outer m inner i os t b r
 
 pub outer-all : {R : Type 0} → (rs : List R) → outer (λ r. false) rs ≡ rs
 outer-all [] = refl
@@ -82,22 +83,22 @@ module _ (clauses : List Clause) where
       → Private (scoped clauses) inner (k + j) (outer inner rs ++ qs) (Credit k rs ∷ xs) b
   credit-private inner zero j rs qs xs b h = let same : j
       ≡ 0 + j = omega arith in subst (λ n. Private (scoped clauses) inner n (outer inner rs ++ qs) (Credit 0 rs ∷ xs) b) same
-      (private_goes j (Credit 0 rs) rs qs xs b refl h)
+      (private_drops j (Credit 0 rs) rs qs xs b refl h)
   credit-private inner (suc k) j rs qs xs b h =
       let same : suc (k + j) ≡ suc k + j = omega arith in
       subst (λ n. Private (scoped clauses) inner n (outer inner rs ++ qs) (Credit (suc k) rs ∷ xs) b) same
-      (private_takes (k + j) (Credit (suc k) rs) (Put (Credit k rs ∷ [])) (outer inner rs ++ qs) xs (Credit k rs ∷ xs) b refl refl
+      (private_infers (k + j) (Credit (suc k) rs) (Put (Credit k rs ∷ [])) (outer inner rs ++ qs) xs (Credit k rs ∷ xs) b refl refl
       (credit-private inner k j rs qs xs b h))
 
   pub quiet-private : (inner : Record → Bool) (xs c : List Element) → IsQuiet xs → Private (scoped clauses) inner (inferences xs)
       (outer inner (records xs)) (xs ++ c) (map (gives (scoped clauses) (records xs)) c)
   quiet-private inner [] c h = subst (Private (scoped clauses) inner zero [] c) (sym (map-none (scoped clauses) c)) (private_none c)
   quiet-private inner (EndOf s ∷ xs) c h =
-      private_goes (inferences xs) (EndOf s) [] (outer inner (records xs)) (xs ++ c) (map (gives (scoped clauses) (records xs)) c) refl
+      private_drops (inferences xs) (EndOf s) [] (outer inner (records xs)) (xs ++ c) (map (gives (scoped clauses) (records xs)) c) refl
       (subst (λ l. Private (scoped clauses) inner (inferences xs) (outer inner (records xs)) l
       (map (gives (scoped clauses) (records xs)) c)) (sym (map-none (scoped clauses) (xs ++ c))) (quiet-private inner xs c h))
   quiet-private inner (Catch s u t r p f ∷ xs) c h =
-      private_goes (inferences xs) (Catch s u t r p f) [] (outer inner (records xs)) (xs ++ c)
+      private_drops (inferences xs) (Catch s u t r p f) [] (outer inner (records xs)) (xs ++ c)
       (map (gives (scoped clauses) (records xs)) c) refl
       (subst (λ l. Private (scoped clauses) inner (inferences xs) (outer inner (records xs)) l
       (map (gives (scoped clauses) (records xs)) c)) (sym (map-none (scoped clauses) (xs ++ c))) (quiet-private inner xs c h))

@@ -10,7 +10,7 @@ use Rattle.tree_model.specs.PendingLists.{pending_list}
 use Rattle.tree_model.specs.SoundTrees.{IsOpen, profile, IsSoundTree}
 use Rattle.interleaving.specs.Follows.{Follows}
 use Rattle.interleaving.specs.HistoryInvariants.{ListFollows}
-use Rattle.interleaving.proofs.StepsTakenLemmas.{held_list}
+use Rattle.interleaving.proofs.StepsTakenLemmas.{hold_list}
 use Rattle.interleaving.proofs.OpenSpotLemmas.{IsOpenSpot, claimable_open, resumable_open, taken_at_open}
 use Rattle.interleaving.proofs.LeadLemmas.{follows_same}
 use Rattle.interleaving.proofs.ClockLemmas.{leftmost_known}
@@ -28,9 +28,9 @@ list_stays t new i j w q h e = list_follows t new j w q h (follows_same t.job.cl
     (λ s l. ap has_end (sym e) ∙ first_end t s i (leftmost_known t i s l))
 
 -- the tree whose spot is held by another
-held_root : (t : TreeState) (s : Spot) (k : Hold) → IsOpenSpot t.root s → profile (Pending k s.entry) ≡ IsOpen → pending_list t.root
+hold_root : (t : TreeState) (s : Spot) (k : Hold) → IsOpenSpot t.root s → profile (Pending k s.entry) ≡ IsOpen → pending_list t.root
     ≡ pending_list (plug (levels_of s) (Pending k s.entry))
-held_root t s k o p = ap pending_list (sym o.inside) ∙ held_list (levels_of s) s.hold k s.entry o.opened p
+hold_root t s k o p = ap pending_list (sym o.inside) ∙ hold_list (levels_of s) s.hold k s.entry o.opened p
 
 module _ (t : TreeState) (i : IsSoundTree t) where
   -- the new tree is apart from its history
@@ -43,7 +43,7 @@ module _ (t : TreeState) (i : IsSoundTree t) where
       → ListFollows t (noted (where_some o t (λ s. with_status s (Pending (k s) s.entry) t)) e)
   holds e None k f p j = list_stays t (noted t e) i j refl refl refl refl
   holds e (Some s) k f p j = list_stays t (noted (with_status s (Pending (k s) s.entry) t) e) i j refl refl refl
-      (held_root t s (k s) (f s refl) (p s))
+      (hold_root t s (k s) (f s refl) (p s))
 
   pub claim_follows : (w : ℕ) (a : Place) → IsSoundTree (after_event t (Claim w a)) → ListFollows t (after_event t (Claim w a))
   unfolding after_event

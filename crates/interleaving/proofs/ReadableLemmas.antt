@@ -3,7 +3,7 @@ use Rattle.std.proofs.Common.{◌≡◌, ◌≤◌, Bool, true, false, cond, Lis
 use Rattle.au_model.specs.Terms.Each.{Each}
 use Rattle.run_model.specs.Machine.Items.{Item, GoalItem, CatchMark, CollectMark, RemovalItem}
 use Rattle.tree_model.specs.Elements.{Name, same, Record, Element, Credit, Plain, EndOf, Catch, Findall, End}
-use Rattle.interleaving.specs.Erased.{from, count, height}
+use Rattle.interleaving.specs.Erased.{from, element_count, height}
 use Rattle.interleaving.specs.Sound.{names, IsPresent, IsMarkSound, IsGathered, IsSound}
 use Rattle.interleaving.proofs.ApartLemmas.{same-true}
 
@@ -31,13 +31,13 @@ IsReadable (End p b ∷ xs) = IsReadable xs
 marks_high : (xs : List Element) (items : List (Item Name)) → Each (IsMarkSound xs) items → Each (IsMarkHigh xs) items
 marks_high xs [] h = tt
 marks_high xs (GoalItem t s ∷ items) h = (tt, marks_high xs items h.1)
-marks_high xs (CatchMark s ∷ items) h = (omega (arith, ap count h.0.found), marks_high xs items h.1)
-marks_high xs (CollectMark t s ∷ items) h = (omega (arith, ap count h.0.found), marks_high xs items h.1)
+marks_high xs (CatchMark s ∷ items) h = (omega (arith, ap element_count h.0.found), marks_high xs items h.1)
+marks_high xs (CollectMark t s ∷ items) h = (omega (arith, ap element_count h.0.found), marks_high xs items h.1)
 marks_high xs (RemovalItem n ∷ items) h = (tt, marks_high xs items h.1)
 
 records_high : (xs : List Element) (rs : List Record) → Each (λ r. IsGathered xs r.0) rs → Each (IsRecordRead xs) rs
 records_high xs [] h = tt
-records_high xs (r ∷ rs) h = (((_, h.0.found), omega (arith, ap count h.0.found)), records_high xs rs h.1)
+records_high xs (r ∷ rs) h = (((_, h.0.found), omega (arith, ap element_count h.0.found)), records_high xs rs h.1)
 
 pub sound_readable : (xs : List Element) → IsSound xs → IsReadable xs
 sound_readable [] h = tt
@@ -53,7 +53,7 @@ pub high_present : (xs : List Element) (s : Name) → 1 ≤ height xs s → IsPr
 high_present [] s h = absurd (omega (arith, h))
 high_present (EndOf e ∷ xs) s h = go (same s e) refl (high_present xs s) h
   where
-    go : (b : Bool) → same s e ≡ b → (1 ≤ height xs s → IsPresent xs s) → 1 ≤ count (cond b (EndOf e ∷ xs) (from xs s))
+    go : (b : Bool) → same s e ≡ b → (1 ≤ height xs s → IsPresent xs s) → 1 ≤ element_count (cond b (EndOf e ∷ xs) (from xs s))
         → IsPresent (EndOf e ∷ xs) s
     go true k f l = (xs, ap (λ b. cond b (EndOf e ∷ xs) (from xs s)) k ∙ ap (λ o. EndOf o ∷ xs) (sym (same-true s e k)))
     go false k f l = let p = f l in (p.0, ap (λ b. cond b (EndOf e ∷ xs) (from xs s)) k ∙ p.1)

@@ -13,20 +13,18 @@ use Rattle.tree_model.specs.PendingLists.{Way, way_of, step_of, step_name, scope
 use Rattle.tree_model.specs.Ways.{is_on, way_from, way_above, AreScoped, IsAsked}
 use Rattle.tree_model.specs.Elements.{Name, Element, EndOf}
 use Rattle.interleaving.specs.HeightMachine.{HeightEntry}
-use Rattle.interleaving.specs.Erased.{count, height, with_height, erased}
-use Rattle.interleaving.proofs.WayLemmas.{cond-true, reach-on, through-on, other_number, same_self}
+use Rattle.interleaving.specs.Erased.{element_count, height, with_height, erased}
+use Rattle.interleaving.proofs.WayLemmas.{cond-true, reach-on, through-on, other_number}
 use Rattle.interleaving.proofs.RoundtripLemmas.{by_nodes, by_heights, part_from, part_above}
 use Rattle.interleaving.proofs.EntryLemmas.{length-floor, own_height}
 use Rattle.interleaving.proofs.BallLemmas.{NamesFloor, names-above}
-use Rattle.interleaving.proofs.NamingLemmas.{from_own}
+use Rattle.interleaving.proofs.NamingLemmas.{from_own, heights-resolved}
 use Rattle.interleaving.proofs.NamedFloorLemmas.{from-other, scope-above, scope-here}
 use Rattle.interleaving.proofs.ListEndLemmas.{levels_down}
 use Rattle.interleaving.proofs.BallPlaceLemmas.{names_down, names_above}
-use Rattle.interleaving.proofs.FrontHeightLemmas.{resolved_heights, resolved_names}
+use Rattle.interleaving.proofs.FrontHeightLemmas.{resolved_names}
 use Rattle.interleaving.proofs.BallSearchLemmas.{second_step, named_recovery}
-
-clash : {A : Type 0} → false ≡ true → A
-clash h = let no_way : ⊥ = cc in absurd no_way
+use Rattle.interleaving.proofs.TestLemmas.{false_true, number_same}
 
 -- items whose scopes have the same heights
 pub items_high : (f g : ℕ → Name) (h k : Name → ℕ) (part : Way) (items : List (Item ℕ))
@@ -70,7 +68,7 @@ module _ (levels : List Level) (w u : Level) (up : List Level) (next : ℕ) (tai
   low_rest = EndOf (1 ∷ w.number ∷ []) ∷ rest
 
   apart : (n r : ℕ) → is_on (way_of (u ∷ up)) n ≡ false → is_on (way_of (u ∷ up)) r ≡ true → r ≡ n → ⊥
-  apart n r o k e = clash (sym o ∙ subst (λ x. is_on (way_of (u ∷ up)) x ≡ true) e k)
+  apart n r o k e = false_true (sym o ∙ subst (λ x. is_on (way_of (u ∷ up)) x ≡ true) e k)
 
   near_scope : (r : ℕ) → is_on (way_of (u ∷ up)) r ≡ true → scope_on near r ≡ scope_on (way_of (u ∷ up)) r
   near_scope r k = scope-above (second_step w) (way_of (u ∷ up)) r (other_number (way_of (u ∷ up)) w.number r new k (w.number == r) refl)
@@ -81,21 +79,21 @@ module _ (levels : List Level) (w u : Level) (up : List Level) (next : ℕ) (tai
 
   near_height : (r : ℕ) → is_on (way_of (u ∷ up)) r ≡ true → height low_rest (scope_on near r) ≡ height rest (scope_on (way_of (u ∷ up)) r)
   near_height r k = ap (height low_rest) (near_scope r k)
-      ∙ ap count (from-other (way_of (u ∷ up)) r 1 w.number rest (apart w.number r new k))
+      ∙ ap element_count (from-other (way_of (u ∷ up)) r 1 w.number rest (apart w.number r new k))
 
   far_height : (r : ℕ) → is_on (way_of (u ∷ up)) r ≡ true → height (EndOf (0 ∷ next ∷ []) ∷ low_rest) (scope_on far r)
       ≡ height rest (scope_on (way_of (u ∷ up)) r)
   far_height r k =
       ap (height (EndOf (0 ∷ next ∷ []) ∷ low_rest)) (far_scope r k)
-      ∙ (ap count (from-other (way_of (u ∷ up)) r 0 next low_rest (apart next r fresh k))
-      ∙ ap count (from-other (way_of (u ∷ up)) r 1 w.number rest (apart w.number r new k)))
+      ∙ (ap element_count (from-other (way_of (u ∷ up)) r 0 next low_rest (apart next r fresh k))
+      ∙ ap element_count (from-other (way_of (u ∷ up)) r 1 w.number rest (apart w.number r new k)))
 
   on_first : is_on (way_of (u ∷ up)) u.number ≡ true
-  on_first = cond-true (u.number == u.number) true _ (same_self u.number)
+  on_first = cond-true (u.number == u.number) true _ (number_same u.number)
 
-  first_height : height rest (scope_on (way_of (u ∷ up)) u.number) ≡ count rest
-  first_height = ap (height rest) (scope-here (step_of u) (way_of up) u.number (same_self u.number))
-      ∙ ap count (from_own (step_name (step_of u)) tail)
+  first_height : height rest (scope_on (way_of (u ∷ up)) u.number) ≡ element_count rest
+  first_height = ap (height rest) (scope-here (step_of u) (way_of up) u.number (number_same u.number))
+      ∙ ap element_count (from_own (step_name (step_of u)) tail)
 
   -- the goal of a recovery, at the node above
   goal_node : node_of levels (length (floor_of (u ∷ up))) ≡ u.number
@@ -117,14 +115,14 @@ module _ (levels : List Level) (w u : Level) (up : List Level) (next : ℕ) (tai
       let sf = scope_on far in
       let sn = scope_on near in
       let back : by_nodes node (by_heights (u ∷ up) f.items) ≡ f.items = names_above levels w.number w (u ∷ up) f.items down asked in
-      let goal : h (1 ∷ w.number ∷ []) ≡ k (sf u.number) = ap count (from_own (1 ∷ w.number ∷ []) rest)
+      let goal : h (1 ∷ w.number ∷ []) ≡ k (sf u.number) = ap element_count (from_own (1 ∷ w.number ∷ []) rest)
       ∙ sym (far_height u.number on_first ∙ first_height) in
       let items : map (with_height h) (map (renamed_item sn sn) f.items) ≡ map (with_height k) (map (renamed_item sf sf) f.items) =
       items_high sn sf h k (way_of (u ∷ up)) f.items (λ x z. near_height x z ∙ sym (far_height x z)) asked.scoped in
       let left : map (with_height h) (map (resolve_item o)
       (GoalItem (call_of r) (1 ∷ w.number ∷ []) ∷ map (renamed_item sn sn) f.items))
       ≡ map (resolve_item o) (GoalItem (call_of r) (k (sf u.number)) ∷ map (with_height k) (map (renamed_item sf sf) f.items)) =
-      resolved_heights h o (GoalItem (call_of r) (1 ∷ w.number ∷ []) ∷ map (renamed_item sn sn) f.items)
+      heights-resolved h o (GoalItem (call_of r) (1 ∷ w.number ∷ []) ∷ map (renamed_item sn sn) f.items)
       ∙ (ap (λ n. map (resolve_item o) (GoalItem (call_of r) n ∷ map (with_height h) (map (renamed_item sn sn) f.items))) goal
       ∙ ap (λ l. map (resolve_item o) (GoalItem (call_of r) (k (sf u.number)) ∷ l)) items) in
       let right : map (with_height k) (map (renamed_item sf sf) (by_nodes node g.items))
@@ -137,7 +135,7 @@ module _ (levels : List Level) (w u : Level) (up : List Level) (next : ℕ) (tai
       (map (renamed_item sf sf) (map (resolve_item o) (GoalItem (call_of r) (node (length (floor_of (u ∷ up)))) ∷ l)))) back
       ∙ (ap (λ n. map (with_height k) (map (renamed_item sf sf) (map (resolve_item o) (GoalItem (call_of r) n ∷ f.items)))) goal_node
       ∙ (ap (map (with_height k)) (named_resolved sf sf o (GoalItem (call_of r) u.number ∷ f.items))
-      ∙ resolved_heights k o (map (renamed_item sf sf) (GoalItem (call_of r) u.number ∷ f.items)))))) in
+      ∙ heights-resolved k o (map (renamed_item sf sf) (GoalItem (call_of r) u.number ∷ f.items)))))) in
       ap (λ l. HeightEntry (PlainEntry (record { items = l; named = map (resolve_named o) f.named; next = f.next + copy_takes ball }))
       ∷ erased rest) (left ∙ sym right)
       ∙ (ap (λ x. HeightEntry (PlainEntry

@@ -9,7 +9,7 @@ use Rattle.tree_model.specs.PendingLists.{Way, scope_on}
 use Rattle.tree_model.specs.Ways.{is_on, way_from, way_above, AreScoped}
 use Rattle.tree_model.specs.Elements.{Name, same, Record, Element, Credit, Plain, EndOf, Catch, Findall, End}
 use Rattle.interleaving.specs.HeightMachine.{HeightCredit, HeightEntry}
-use Rattle.interleaving.specs.Erased.{from, count, height, with_heights, record_height, erased}
+use Rattle.interleaving.specs.Erased.{from, element_count, height, continuation_heights, record_height, erased}
 use Rattle.interleaving.specs.Sound.{names}
 use Rattle.interleaving.specs.Views.{IsBlind}
 use Rattle.interleaving.proofs.WayLemmas.{reach-on, through-on}
@@ -20,7 +20,7 @@ use Rattle.interleaving.proofs.BlindLemmas.{of_node, from_on, above_on}
 -- the same heights, whatever is named
 pub record Same (ys zs : List Element) : Type 0 where
   pub entries : erased ys ≡ erased zs
-  pub counts : count ys ≡ count zs
+  pub counts : element_count ys ≡ element_count zs
   pub heights : (s : Name) → height ys s ≡ height zs s
 
 all-names : (f g : Name → ℕ) → ((s : Name) → f s ≡ g s) → (hs : List Name) → Each (λ s. f s ≡ g s) hs
@@ -45,7 +45,7 @@ same_front (Plain p f ∷ pre) ys zs h = let i = same_front pre ys zs h in
     record {
       entries = ap (λ l. HeightEntry (PlainEntry l) ∷ erased (pre ++ ys))
           (same-heights (height (pre ++ ys)) (height (pre ++ zs)) f (all-names _ _ i.heights (names f.items)))
-          ∙ ap (λ l. HeightEntry (PlainEntry (with_heights (height (pre ++ zs)) f)) ∷ l) i.entries;
+          ∙ ap (λ l. HeightEntry (PlainEntry (continuation_heights (height (pre ++ zs)) f)) ∷ l) i.entries;
       counts = ap suc i.counts;
       heights =
           i.heights;
@@ -54,7 +54,7 @@ same_front (Catch s u c r p f ∷ pre) ys zs h = let i = same_front pre ys zs h 
     record {
       entries = ap (λ l. HeightEntry (CatchEntry c r l) ∷ erased (pre ++ ys))
           (same-heights (height (pre ++ ys)) (height (pre ++ zs)) f (all-names _ _ i.heights (names f.items)))
-          ∙ ap (λ l. HeightEntry (CatchEntry c r (with_heights (height (pre ++ zs)) f)) ∷ l) i.entries;
+          ∙ ap (λ l. HeightEntry (CatchEntry c r (continuation_heights (height (pre ++ zs)) f)) ∷ l) i.entries;
       counts = ap suc i.counts;
       heights
           = i.heights;
@@ -63,7 +63,7 @@ same_front (Findall s u results list p f ∷ pre) ys zs h = let i = same_front p
     record {
       entries = ap (λ l. HeightEntry (FindallEntry results list l) ∷ erased (pre ++ ys))
           (same-heights (height (pre ++ ys)) (height (pre ++ zs)) f (all-names _ _ i.heights (names f.items)))
-          ∙ ap (λ l. HeightEntry (FindallEntry results list (with_heights (height (pre ++ zs)) f)) ∷ l) i.entries;
+          ∙ ap (λ l. HeightEntry (FindallEntry results list (continuation_heights (height (pre ++ zs)) f)) ∷ l) i.entries;
       counts = ap suc
           i.counts;
       heights = i.heights;
@@ -73,8 +73,8 @@ same_front (End p b ∷ pre) ys zs h = let i = same_front pre ys zs h in
 same_front (EndOf e ∷ pre) ys zs h = let i = same_front pre ys zs h in
     record { entries = i.entries; counts = i.counts; heights = λ s. at (same s e) s i }
   where
-    at : (b : Bool) (s : Name) → Same (pre ++ ys) (pre ++ zs) → count (cond b (EndOf e ∷ (pre ++ ys)) (from (pre ++ ys) s))
-        ≡ count (cond b (EndOf e ∷ (pre ++ zs)) (from (pre ++ zs) s))
+    at : (b : Bool) (s : Name) → Same (pre ++ ys) (pre ++ zs) → element_count (cond b (EndOf e ∷ (pre ++ ys)) (from (pre ++ ys) s))
+        ≡ element_count (cond b (EndOf e ∷ (pre ++ zs)) (from (pre ++ zs) s))
     at true s i = i.counts
     at false s i = i.heights s
 

@@ -5,8 +5,8 @@ use Rattle.run_model.specs.Machine.Items.{Item, GoalItem, CatchMark, CollectMark
 use Rattle.run_model.specs.Machine.Entries.{PlainEntry}
 use Rattle.tree_model.specs.Elements.{Name, same, Element, Plain, EndOf}
 use Rattle.interleaving.specs.HeightMachine.{HeightEntry}
-use Rattle.interleaving.specs.Erased.{from, count, height, with_height, erased}
-use Rattle.interleaving.specs.Sound.{names, IsOlder, IsPresent, IsChain, AreCarried, IsMarkSound, EachFindall, IsEntrySound}
+use Rattle.interleaving.specs.Erased.{from, element_count, height, with_height, erased}
+use Rattle.interleaving.specs.Sound.{names, IsMadeElsewhere, IsPresent, IsChain, AreCarried, IsMarkSound, EachFindall, IsEntrySound}
 use Rattle.interleaving.proofs.NamingLemmas.{from_end, from_own, heights-same}
 use Rattle.interleaving.proofs.CarriedLemmas.{marks-moved, from_first}
 use Rattle.interleaving.proofs.ApartLemmas.{same-true}
@@ -22,7 +22,7 @@ lead_items own new (CollectMark t s ∷ items) = CollectMark t s ∷ items
 abbrev pub Other : Name → Name → Type 0
 Other new s = s ≡ new → ⊥
 
-module _ (own new p q : Name) (rest : List Element) (older_new : IsOlder q new) where
+module _ (own new p q : Name) (rest : List Element) (older_new : IsMadeElsewhere q new) where
   abbrev Z : List Element
   Z = EndOf own ∷ rest
 
@@ -51,11 +51,11 @@ module _ (own new p q : Name) (rest : List Element) (older_new : IsOlder q new) 
   chains [] h k = tt
   chains (g ∷ hs) h k = (laters g hs h.0 h.1 k.0, chains hs h.1 k.1)
 
-  kept : (hs : List Name) → Each (Other new) hs → Each (IsOlder q) hs → Each (IsPresent (EndOf own ∷ rest)) hs
+  kept : (hs : List Name) → Each (Other new) hs → Each (IsMadeElsewhere q) hs → Each (IsPresent (EndOf own ∷ rest)) hs
       → IsChain (EndOf own ∷ rest) hs → AreCarried q (EndOf new ∷ EndOf own ∷ rest) hs
   kept hs h o k c = record { older = o; present = presents hs h k; chain = chains hs h c }
 
-  lead_carried : (items : List (Item Name)) → Each (Other new) (names items) → Each (IsOlder q) (names items)
+  lead_carried : (items : List (Item Name)) → Each (Other new) (names items) → Each (IsMadeElsewhere q) (names items)
       → Each (IsPresent (EndOf own ∷ rest)) (names items) → IsChain (EndOf own ∷ rest) (names items)
       → AreCarried q (EndOf new ∷ EndOf own ∷ rest) (names (lead_items own new items))
   lead_carried [] h o k c = record { older = tt; present = tt; chain = tt }
@@ -90,8 +90,8 @@ module _ (own new p q : Name) (rest : List Element) (older_new : IsOlder q new) 
       go true r = (tt, r)
       go false r = marks-moved (EndOf own ∷ rest) (EndOf new ∷ EndOf own ∷ rest) (GoalItem t g ∷ items) (all_from (g ∷ names items) h) m
 
-  pub lead_sound : (items : List (Item Name)) → Each (Other new) (names items) → Each (IsOlder q) (names items)
-      → EachFindall (IsOlder q) rest → IsEntrySound p (EndOf own ∷ rest) (names items) items →
+  pub lead_sound : (items : List (Item Name)) → Each (Other new) (names items) → Each (IsMadeElsewhere q) (names items)
+      → EachFindall (IsMadeElsewhere q) rest → IsEntrySound p (EndOf own ∷ rest) (names items) items →
       IsEntrySound q (EndOf new ∷ EndOf own ∷ rest) (names (lead_items own new items)) (lead_items own new items)
   lead_sound items h o f s = record
       { carried = lead_carried items h o s.carried.present s.carried.chain; marks = lead_marks items h s.marks; findalls = f }
@@ -100,7 +100,7 @@ module _ (own new p q : Name) (rest : List Element) (older_new : IsOlder q new) 
   all_heights : (hs : List Name) → Each (Other new) hs
       → Each (λ s. height (EndOf new ∷ EndOf own ∷ rest) s ≡ height (EndOf own ∷ rest) s) hs
   all_heights [] h = tt
-  all_heights (s ∷ hs) h = (ap count (same_from s h.0), all_heights hs h.1)
+  all_heights (s ∷ hs) h = (ap element_count (same_from s h.0), all_heights hs h.1)
 
   lead_heights : (items : List (Item Name)) → Each (Other new) (names items) → map (with_height (height (EndOf new ∷ EndOf own ∷ rest)))
       (lead_items own new items) ≡ map (with_height (height (EndOf own ∷ rest))) items
@@ -118,8 +118,9 @@ module _ (own new p q : Name) (rest : List Element) (older_new : IsOlder q new) 
           (cond b (GoalItem t new ∷ lead_items own new items) (GoalItem t g ∷ items))
           ≡ map (with_height (height (EndOf own ∷ rest))) (GoalItem t g ∷ items)
       go true e r =
-          let one : height (EndOf new ∷ EndOf own ∷ rest) new ≡ height (EndOf own ∷ rest) g = ap count (from_own new (EndOf own ∷ rest))
-          ∙ sym (ap (height (EndOf own ∷ rest)) (same-true g own e) ∙ ap count (from_own own rest)) in
+          let one : height (EndOf new ∷ EndOf own ∷ rest) new
+          ≡ height (EndOf own ∷ rest) g = ap element_count (from_own new (EndOf own ∷ rest))
+          ∙ sym (ap (height (EndOf own ∷ rest)) (same-true g own e) ∙ ap element_count (from_own own rest)) in
           ap (λ n. GoalItem t n ∷ map (with_height (height (EndOf new ∷ EndOf own ∷ rest))) (lead_items own new items)) one
           ∙ ap (λ l. GoalItem t (height (EndOf own ∷ rest) g) ∷ l) r
       go false e r = heights-same (height (EndOf new ∷ EndOf own ∷ rest)) (height (EndOf own ∷ rest)) (GoalItem t g ∷ items)

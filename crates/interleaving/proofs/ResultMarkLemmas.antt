@@ -13,20 +13,22 @@ use Rattle.tree_model.specs.Nodes.{FindallNode}
 use Rattle.tree_model.specs.PendingLists.{way_of, step_of, step_name}
 use Rattle.tree_model.specs.Ways.{is_on}
 use Rattle.interleaving.proofs.ReadableLemmas.{IsReadable}
-use Rattle.interleaving.proofs.SkippedLemmas.{clash as true_false}
+use Rattle.interleaving.proofs.TestLemmas.{true_false}
 use Rattle.au_term.specs.Term.{Term}
 use Rattle.run_model.specs.Machine.Items.{Item, GoalItem, CatchMark, CollectMark, RemovalItem}
 use Rattle.tree_model.specs.Elements.{Catch, Findall, End}
 use Rattle.interleaving.specs.HeightMachine.{HeightElement, HeightEntry}
-use Rattle.interleaving.specs.Erased.{height, with_height, with_heights as named_heights}
+use Rattle.interleaving.specs.Erased.{height, with_height, continuation_heights}
 use Rattle.tree_model.specs.Nodes.{Kind, ChoiceNode, CatchNode, QueryNode}
 use Rattle.tree_model.specs.Floors.{height_of}
 use Rattle.tree_model.specs.Pruning.{is_findall}
 use Rattle.tree_model.specs.PendingLists.{scope_on, findall_on}
 use Rattle.tree_model.specs.Ways.{same_kind, stops_cuts, through}
-use Rattle.interleaving.proofs.WayLemmas.{cond-true, cond-false, cond-same, other_number, same_self}
+use Rattle.interleaving.proofs.WayLemmas.{cond-true, cond-false, cond-same, other_number}
 use Rattle.interleaving.proofs.RoundtripLemmas.{IsPath}
 use Rattle.interleaving.proofs.RunSoundLemmas.{height_way}
+use Rattle.au_term.proofs.LogicLemmas.{both}
+use Rattle.interleaving.proofs.TestLemmas.{number_same}
 
 more : (xs ys : List Element) → length (erased ys) ≤ length (erased (xs ++ ys))
 more [] ys = omega arith
@@ -100,7 +102,7 @@ pub record OnePlain (left : List Element) (X : List Element) (g : Continuation �
   pub same : left ≡ before ++ (Plain name after ∷ behind)
   pub first : AreEnds before
   pub last : AreEnds behind
-  pub heights : named_heights (height (behind ++ X)) after ≡ g
+  pub heights : continuation_heights (height (behind ++ X)) after ≡ g
 
 pub one_plain : (left X : List Element) (g : Continuation ℕ) → erased (left ++ X) ≡ HeightEntry (PlainEntry g) ∷ erased X
     → OnePlain left X g
@@ -119,7 +121,7 @@ one_plain (EndOf s ∷ left) X g e =
       heights = o.heights;
     }
 one_plain (Plain p f ∷ left) X g e =
-    let parts = plain_parts (named_heights (height (left ++ X)) f) g (erased (left ++ X)) (erased X) e in
+    let parts = plain_parts (continuation_heights (height (left ++ X)) f) g (erased (left ++ X)) (erased X) e in
     record {
       before = [];
       name = p;
@@ -163,10 +165,6 @@ pub record FindallHere (levels : List Level) (h : ℕ) : Type 0 where
 is_zero : (n : ℕ) → (n == 0) ≡ true → n ≡ 0
 is_zero n e = grind arith
 
-both_true : (a b : Bool) → (a && b) ≡ true → (a ≡ true) × (b ≡ true)
-both_true true b e = (refl, e)
-both_true false b e = absurd (true_false (sym e))
-
 gathers : (k : Kind) → same_kind k FindallNode ≡ true → is_findall k ≡ true
 gathers FindallNode e = refl
 gathers ChoiceNode e = absurd (true_false (sym e))
@@ -190,18 +188,18 @@ findall_here (v ∷ up) p h t = go (suc (length up) == h) refl ((length v.left =
         cond b ((length v.left == 0) && same_kind v.kind FindallNode) (cond d false (through FindallNode (height_way up) h)) ≡ true
         → FindallHere (v ∷ up) h
     go true e d k f j =
-        let parts = both_true (length v.left == 0) (same_kind v.kind FindallNode) j in
+        let parts = both (length v.left == 0) (same_kind v.kind FindallNode) j in
         let zero_left = is_zero (length v.left) parts.0 in
         let top : suc (length up) ≡ h = grind arith in
         record {
           node = v.number;
-          on = cond-true (v.number == v.number) true _ (same_self v.number);
+          on = cond-true (v.number == v.number) true _ (number_same v.number);
           same = cond-true (is_findall v.kind) (cond (length v.left == 0) (0 ∷ v.number ∷ []) (findall_on (way_of up)))
               (findall_on (way_of up)) (gathers v.kind parts.1) ∙ cond-true (length v.left == 0) (0 ∷ v.number ∷ [])
               (findall_on (way_of up)) parts.0;
-          scope = cond-true (v.number == v.number) (step_name (step_of v)) (scope_on (way_of up) v.number) (same_self v.number)
+          scope = cond-true (v.number == v.number) (step_name (step_of v)) (scope_on (way_of up) v.number) (number_same v.number)
               ∙ ap (λ n. n ∷ v.number ∷ []) zero_left;
-          high = cond-true (v.number == v.number) (suc (length up)) (height_of up v.number) (same_self v.number) ∙ top;
+          high = cond-true (v.number == v.number) (suc (length up)) (height_of up v.number) (number_same v.number) ∙ top;
         }
     go false e true k f j = absurd (true_false (sym j))
     go false e false k f j =

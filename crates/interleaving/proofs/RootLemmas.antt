@@ -4,12 +4,9 @@ use Rattle.std.proofs.Common.{arith}
 use Rattle.std.proofs.lemmas.Bool.{false≢true}
 use Rattle.tree_model.specs.Elements.{Name, same}
 use Rattle.interleaving.specs.Views.{IsGrown}
-use Rattle.interleaving.specs.Roots.{extends, rooted, AreTold}
+use Rattle.interleaving.specs.Roots.{extends, rooted, AreDistinguished}
 use Rattle.interleaving.proofs.ApartLemmas.{same-true}
-
-either_true : (a b : Bool) → b ≡ true → (a || b) ≡ true
-either_true true b e = refl
-either_true false b e = e
+use Rattle.au_model.proofs.ApplyLemmas.{or_right}
 
 either_false : (a b : Bool) → a ≡ false → (a || b) ≡ b
 either_false true b e = absurd (false≢true (sym e))
@@ -20,7 +17,7 @@ right_false true b e = refl
 right_false false b e = e
 
 grown : (top : Name) → IsGrown (extends top)
-grown top i s h = either_true (same top (i ∷ s)) (extends top s) h
+grown top i s h = or_right (same top (i ∷ s)) (extends top s) h
 
 rooted-grown : (ok : ℕ → Bool) → IsGrown (rooted ok)
 rooted-grown ok i [] h = absurd (false≢true h)
@@ -54,5 +51,5 @@ by_root ok i p [] = refl
 by_root ok i p (j ∷ []) = refl
 by_root ok i p (j ∷ k ∷ more) = by_root ok i p (k ∷ more)
 
-pub are_told : AreTold
-are_told = record { extend = grown; root = rooted-grown; by_length = by_length; by_root = by_root }
+pub are_distinguished : AreDistinguished
+are_distinguished = record { extend = grown; root = rooted-grown; by_length = by_length; by_root = by_root }

@@ -8,7 +8,8 @@ use Rattle.tree_model.specs.Levels.{Level}
 use Rattle.tree_model.specs.Floors.{renamed_item, height_of, node_of}
 use Rattle.tree_model.specs.PendingLists.{Way, way_of}
 use Rattle.tree_model.specs.Ways.{is_on, same_kind, stops_cuts, is_barrier, in_reach, through, way_from, way_above, AreScoped}
-use Rattle.interleaving.proofs.WayLemmas.{cond-true, cond-false, cond-same, reach-on, through-on, below_new, same_self}
+use Rattle.interleaving.proofs.WayLemmas.{cond-true, cond-false, cond-same, reach-on, through-on, below_new}
+use Rattle.interleaving.proofs.TestLemmas.{not_equal, number_same}
 
 -- items with heights, by the nodes that they name
 abbrev pub by_nodes : (ℕ → ℕ) → List (Item ℕ) → List (Item ℕ)
@@ -25,13 +26,6 @@ height_low (v ∷ up) s = go (v.number == s) (height_low up s)
     go true h = omega arith
     go false h = omega arith
 
-pub not_same : (m n : ℕ) → suc m ≤ n → (m == n) ≡ false
-not_same m n h = go (m == n) refl
-  where
-    go : (b : Bool) → (m == n) ≡ b → b ≡ false
-    go false e = refl
-    go true e = let same : m ≡ n = grind arith in let no_way : ⊥ = omega arith in absurd no_way
-
 pub node_height : (levels : List Level) (s : ℕ) → is_on (way_of levels) s ≡ true → node_of levels (height_of levels s) ≡ s
 node_height [] s h = let no_way : ⊥ = cc in absurd no_way
 node_height (v ∷ up) s h = go (v.number == s) refl (node_height up s) h
@@ -39,9 +33,9 @@ node_height (v ∷ up) s h = go (v.number == s) refl (node_height up s) h
     go : (b : Bool) → (v.number == s) ≡ b → (is_on (way_of up) s ≡ true → node_of up (height_of up s) ≡ s)
         → cond b true (is_on (way_of up) s) ≡ true → node_of (v ∷ up) (cond b (suc (length up)) (height_of up s)) ≡ s
     go true e f k = let same : v.number ≡ s = grind arith in cond-true (suc (length up) == suc (length up)) v.number
-        (node_of up (suc (length up))) (same_self (suc (length up))) ∙ same
+        (node_of up (suc (length up))) (number_same (suc (length up))) ∙ same
     go false e f k = cond-false (height_of up s == suc (length up)) v.number (node_of up (height_of up s))
-        (not_same (height_of up s) (suc (length up)) (omega (arith, height_low up s))) ∙ f k
+        (not_equal (height_of up s) (suc (length up)) (omega (arith, height_low up s))) ∙ f k
 
 pub height_positive : (levels : List Level) (s : ℕ) → is_on (way_of levels) s ≡ true → suc (height_of levels s - 1) ≡ height_of levels s
 height_positive [] s h = let no_way : ⊥ = cc in absurd no_way

@@ -34,16 +34,15 @@ use Rattle.interleaving.proofs.WakeLemmas.{end_wakes}
 use Rattle.interleaving.proofs.FindallWakeLemmas.{findall_wakes}
 use Rattle.interleaving.proofs.GoingLemmas.{going, legal_parts}
 use Rattle.interleaving.proofs.QuietEventLemmas.{list_follows}
-
-clash : {A : Type 0} → false ≡ true → A
-clash h = let no_way : ⊥ = cc in absurd no_way
+use Rattle.interleaving.proofs.TestLemmas.{false_true}
 
 -- an open place of a tree, and the tree where it closes
 pub closing_follows : (t : TreeState) (s : Spot) (c : Credit) → IsSoundTree t → IsCaughtTree t → IsOpenSpot t.root s
+    → under_query (way_of (levels_of s)) ≡ true
     → Reaches t.job.clauses (pending_list t.root) (pending_list (plug (levels_of s) (Closed c)))
     → IsSound (pending_list (closes t.next (levels_of s) c).root) → Follows t.job.clauses (pending_list t.root)
     (pending_list (closes t.next (levels_of s) c).root)
-closing_follows t s c i k o r j =
+closing_follows t s c i k o asked r j =
     let placed = placed_at t s i o in
     let distinct : IsDistinct (levels_of s) = λ m. subst (λ x. x ≤ 1) (count_at t s o m) (i.distinct m) in
     let fresh : count_around t.next (levels_of s) ≡ 0 = sym (count_at t s o t.next) ∙ i.fresh t.next (omega arith) in
@@ -52,7 +51,7 @@ closing_follows t s c i k o r j =
     follows_then t.job.clauses (pending_list t.root) (pending_list (plug (levels_of s) (Closed c)))
     (pending_list (closes t.next (levels_of s) c).root) r.follows
     (closes_follow t.job.clauses (end_wakes t.job.clauses) (findall_wakes t.job.clauses) t.next (levels_of s) c placed.around distinct
-    fresh caught.0 r.sound j)
+    fresh caught.0 asked r.sound j)
 
 -- an entry that takes a private step, or leaves nothing, is asked by a query
 abbrev pub IsAskedAt : Spot → Type 0
@@ -86,7 +85,7 @@ module _ (t : TreeState) (i : IsSoundTree t) (k : IsCaughtTree t) where
       → IsCaughtTree (noted (closed_with s c t) e) → ListFollows t (noted (closed_with s c t) e)
   closed_follows e s c o u r j q =
       list_follows t (noted (closed_with s c t) e) j refl refl refl
-      (closing_follows t s c i k o r (lists_are_sound (noted (closed_with s c t) e) j q))
+      (closing_follows t s c i k o u r (lists_are_sound (noted (closed_with s c t) e) j q))
       (λ x l. closes_end t.next (levels_of s) c (placed_at t s i o).around u)
 
   pub empty_follows : EmptyReaches → (w : ℕ) (a : Place) (n : ℕ) → IsSoundTree (after_event t (Empty w a n))
@@ -99,7 +98,7 @@ module _ (t : TreeState) (i : IsSoundTree t) (k : IsCaughtTree t) where
           → IsSoundTree (noted (where_some o t (λ s. closed_with s (credit_of n) t)) (Empty w a n))
           → IsCaughtTree (noted (where_some o t (λ s. closed_with s (credit_of n) t)) (Empty w a n))
           → ListFollows t (noted (where_some o t (λ s. closed_with s (credit_of n) t)) (Empty w a n))
-      go None e x running j q = clash x
+      go None e x running j q = false_true x
       go (Some s) e x running j q =
           let o = taken_at_open w a t s e in
           let no_end : (b : Option Term) → s.entry ≡ EndEntry b → ⊥ = λ b z. stays_on b (end_stays t s b n z) x in
@@ -108,8 +107,8 @@ module _ (t : TreeState) (i : IsSoundTree t) (k : IsCaughtTree t) where
         where
           stays_on : (b : Option Term) → (run_of t s n ≡ None) ⊎ (run_of t s n ≡ Some (EndEntry b ∷ [])) → run_is_empty (run_of t s n)
               ≡ true → ⊥
-          stays_on b (inl z) h = clash (sym (ap run_is_empty z) ∙ h)
-          stays_on b (inr z) h = clash (sym (ap run_is_empty z) ∙ h)
+          stays_on b (inl z) h = false_true (sym (ap run_is_empty z) ∙ h)
+          stays_on b (inr z) h = false_true (sym (ap run_is_empty z) ∙ h)
 
   pub collected_follows : CollectedReaches → (w : ℕ) (a : Place) (n : ℕ) → IsSoundTree (after_event t (Collected w a n))
       → IsCaughtTree (after_event t (Collected w a n)) → is_legal t (Collected w a n) ≡ true
@@ -125,7 +124,7 @@ module _ (t : TreeState) (i : IsSoundTree t) (k : IsCaughtTree t) where
           (λ s. closed_with s (record { inferences = n; answers = 0; records = results_of (run_of t s n) }) t)) (Collected w a n))
           → ListFollows t (noted (where_some o t
           (λ s. closed_with s (record { inferences = n; answers = 0; records = results_of (run_of t s n) }) t)) (Collected w a n))
-      go None e x running j q = clash x
+      go None e x running j q = false_true x
       go (Some s) e x running j q =
           let o = taken_at_open w a t s e in
           let no_end : (b : Option Term) → s.entry ≡ EndEntry b → ⊥ = λ b z. stays_on b (end_stays t s b n z) x in
@@ -134,5 +133,5 @@ module _ (t : TreeState) (i : IsSoundTree t) (k : IsCaughtTree t) where
         where
           stays_on : (b : Option Term) → (run_of t s n ≡ None) ⊎ (run_of t s n ≡ Some (EndEntry b ∷ []))
               → run_gives_result (run_of t s n) ≡ true → ⊥
-          stays_on b (inl z) h = clash (sym (ap run_gives_result z) ∙ h)
-          stays_on b (inr z) h = clash (sym (ap run_gives_result z) ∙ h)
+          stays_on b (inl z) h = false_true (sym (ap run_gives_result z) ∙ h)
+          stays_on b (inr z) h = false_true (sym (ap run_gives_result z) ∙ h)

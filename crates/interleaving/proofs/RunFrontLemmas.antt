@@ -1,20 +1,14 @@
 -- The free steps and searches in front of other elements.
 use Rattle.std.proofs.Common.{◌≡◌, ◌⊎◌, inl, inr, List, [], ◌∷◌, ◌++◌, map, Some, None, refl, sym, ap, ◌∙◌}
 use Rattle.au_model.specs.Terms.Each.{Each}
-use Rattle.interleaving.specs.Machine.{Machine, Act, Vanishes, Wakes, Takes, Asks, Look, On, Here, Place, Put, Only, Seek, gives, looked}
+use Rattle.interleaving.specs.Machine.{Machine, Act, Drops, Becomes, Infers, AsksWorld, Look, On, Here, Replacement, Put, Only, Seek, gives}
+use Rattle.interleaving.specs.Machine.{looked}
 use Rattle.interleaving.specs.Machine.{search_for, placed, freed, free_steps}
+use Rattle.interleaving.proofs.AppendLemmas.{append-assoc, append-nil}
 
 pub each-append : {A : Type 0} → (P : A → Type 0) (xs ys : List A) → Each P xs → Each P ys → Each P (xs ++ ys)
 each-append P [] ys h k = k
 each-append P (x ∷ xs) ys h k = (h.0, each-append P xs ys h.1 k)
-
-pub append-assoc-at : {A : Type 0} → (xs ys zs : List A) → (xs ++ ys) ++ zs ≡ xs ++ (ys ++ zs)
-append-assoc-at [] ys zs = refl
-append-assoc-at (x ∷ xs) ys zs = ap (λ l. x ∷ l) (append-assoc-at xs ys zs)
-
-pub append-none : {A : Type 0} → (xs : List A) → xs ++ [] ≡ xs
-append-none [] = refl
-append-none (x ∷ xs) = ap (λ l. x ∷ l) (append-none xs)
 
 pub some-same : {A : Type 0} → (x y : A) → Some x ≡ Some y → x ≡ y
 some-same x y e = cc
@@ -41,10 +35,10 @@ module _ {W X Q R : Type 0} (m : Machine W X Q R) where
 
   pub freed-same : (a : Act W X Q R) (y : X) (f g : List R → List X) (xs ys : List X) → ((new : List R) → f new ≡ g new) → xs ≡ ys
       → freed m a y f xs ≡ freed m a y g ys
-  freed-same (Vanishes rs) y f g xs ys h e = h rs
-  freed-same (Wakes z) y f g xs ys h e = ap (λ zs. z ∷ zs) e
-  freed-same (Takes p) y f g xs ys h e = ap (λ zs. y ∷ zs) e
-  freed-same (Asks p) y f g xs ys h e = ap (λ zs. y ∷ zs) e
+  freed-same (Drops rs) y f g xs ys h e = h rs
+  freed-same (Becomes z) y f g xs ys h e = ap (λ zs. z ∷ zs) e
+  freed-same (Infers p) y f g xs ys h e = ap (λ zs. y ∷ zs) e
+  freed-same (AsksWorld p) y f g xs ys h e = ap (λ zs. y ∷ zs) e
 
   -- records that are under way, and records that were given
   pub settle-given : (rs qs : List R) (xs : List X) → free_steps m (rs ++ qs) xs ≡ free_steps m qs (map (gives m rs) xs)
@@ -53,23 +47,23 @@ module _ {W X Q R : Type 0} (m : Machine W X Q R) where
       ap (λ y. freed m (m.act y) y (λ new. free_steps m ((rs ++ qs) ++ new) xs) (map (gives m (rs ++ qs)) xs)) (gives-append rs qs x)
       ∙ freed-same (m.act (gives m qs (gives m rs x))) (gives m qs (gives m rs x)) (λ new. free_steps m ((rs ++ qs) ++ new) xs)
       (λ new. free_steps m (qs ++ new) (map (gives m rs) xs)) (map (gives m (rs ++ qs)) xs) (map (gives m qs) (map (gives m rs) xs))
-      (λ new. ap (λ zs. free_steps m zs xs) (append-assoc-at rs qs new) ∙ settle-given rs (qs ++ new) xs) (maps-append rs qs xs)
+      (λ new. ap (λ zs. free_steps m zs xs) (append-assoc rs qs new) ∙ settle-given rs (qs ++ new) xs) (maps-append rs qs xs)
 
   pub settle-map : (rs : List R) (xs : List X) → free_steps m rs xs ≡ free_steps m [] (map (gives m rs) xs)
-  settle-map rs xs = ap (λ zs. free_steps m zs xs) (sym (append-none rs)) ∙ settle-given rs [] xs
+  settle-map rs xs = ap (λ zs. free_steps m zs xs) (sym (append-nil rs)) ∙ settle-given rs [] xs
 
   -- elements that don't see what is under them, or see none of some elements
   module _ (P : X → Type 0) (K : Q → Type 0) (G : R → Type 0) where
-    abbrev pub PlaceOk : Place X Q → Type 0
+    abbrev pub PlaceOk : Replacement X Q → Type 0
     PlaceOk (Put ys) = Each P ys
     PlaceOk (Only ys) = Unit {0}
     PlaceOk (Seek q) = K q
 
     abbrev pub ActOk : Act W X Q R → Type 0
-    ActOk (Vanishes rs) = Each G rs
-    ActOk (Wakes y) = P y
-    ActOk (Takes p) = PlaceOk p
-    ActOk (Asks g) = (w : W) → PlaceOk (g w).1
+    ActOk (Drops rs) = Each G rs
+    ActOk (Becomes y) = P y
+    ActOk (Infers p) = PlaceOk p
+    ActOk (AsksWorld g) = (w : W) → PlaceOk (g w).1
 
     abbrev pub LookOk : Look X Q → Type 0
     LookOk (On q) = K q
@@ -119,7 +113,7 @@ module _ {W X Q R : Type 0} (m : Machine W X Q R) where
         × (((zs : List X) → free_steps m qs (xs ++ zs) ≡ free_steps m rs zs) ⊎
         ((x : X) × (new : List X) × P x × Each P new × ((zs : List X) → free_steps m qs (xs ++ zs) ≡ x ∷ (new ++ map (gives m rs) zs))))
 
-    abbrev pub FoundPlace : Place X Q → List X → Type 0
+    abbrev pub FoundPlace : Replacement X Q → List X → Type 0
     FoundPlace p xs =
         ((new : List X) × Each P new × ((zs : List X) → placed m p (xs ++ zs) ≡ new ++ zs)) ⊎
         (((new : List X) × ((zs : List X) → placed m p (xs ++ zs) ≡ new)) ⊎
@@ -135,7 +129,7 @@ module _ {W X Q R : Type 0} (m : Machine W X Q R) where
             ys ++ xs,
             each-append P ys xs ok k.1,
             λ zs.
-                ap (λ l. looked m l (λ p. search_for m p (xs ++ zs)) (xs ++ zs)) e ∙ sym (append-assoc-at ys xs zs),
+                ap (λ l. looked m l (λ p. search_for m p (xs ++ zs)) (xs ++ zs)) e ∙ sym (append-assoc ys xs zs),
           )
           go (On p) e ok next = elim (next p ok) [
             | inl f ↦ inl (f.0, f.1, λ zs. ap (λ l. looked m l (λ p. search_for m p (xs ++ zs)) (xs ++ zs)) e ∙ f.2 zs)
@@ -159,12 +153,12 @@ module _ {W X Q R : Type 0} (m : Machine W X Q R) where
 
           go : (a : Act W X Q R) → m.act (gives m qs x) ≡ a → ActOk a → ((new : List R) → Each G new → Freed (qs ++ new) xs)
               → Freed qs (x ∷ xs)
-          go (Vanishes new) e ok next = elim (next new ok).2 [
-            | inl f ↦ ((next new ok).0, (next new ok).1, inl (λ zs. at zs (Vanishes new) e ∙ f zs))
-            | inr f ↦ ((next new ok).0, (next new ok).1, inr (f.0, f.1, f.2, f.3, λ zs. at zs (Vanishes new) e ∙ f.4 zs))
+          go (Drops new) e ok next = elim (next new ok).2 [
+            | inl f ↦ ((next new ok).0, (next new ok).1, inl (λ zs. at zs (Drops new) e ∙ f zs))
+            | inr f ↦ ((next new ok).0, (next new ok).1, inr (f.0, f.1, f.2, f.3, λ zs. at zs (Drops new) e ∙ f.4 zs))
           ]
-          go (Wakes y) e ok next = (qs, h, inr (y, map (gives m qs) xs, ok, map-ok c qs xs h k.1, λ zs. at zs (Wakes y) e ∙ stays y zs))
-          go (Takes p) e ok next = (
+          go (Becomes y) e ok next = (qs, h, inr (y, map (gives m qs) xs, ok, map-ok c qs xs h k.1, λ zs. at zs (Becomes y) e ∙ stays y zs))
+          go (Infers p) e ok next = (
             qs,
             h,
             inr (
@@ -172,11 +166,11 @@ module _ {W X Q R : Type 0} (m : Machine W X Q R) where
               map (gives m qs) xs,
               here,
               map-ok c qs xs h k.1,
-              λ zs. at zs (Takes p) e
+              λ zs. at zs (Infers p) e
                   ∙ stays (gives m qs x) zs,
             ),
           )
-          go (Asks g) e ok next = (
+          go (AsksWorld g) e ok next = (
             qs,
             h,
             inr (
@@ -184,12 +178,12 @@ module _ {W X Q R : Type 0} (m : Machine W X Q R) where
               map (gives m qs) xs,
               here,
               map-ok c qs xs h k.1,
-              λ zs. at zs (Asks g) e
+              λ zs. at zs (AsksWorld g) e
                   ∙ stays (gives m qs x) zs,
             ),
           )
 
-      pub placed-found : (p : Place X Q) (xs : List X) → PlaceOk p → Each P xs → FoundPlace p xs
-      placed-found (Put ys) xs ok h = inl (ys ++ xs, each-append P ys xs ok h, λ zs. sym (append-assoc-at ys xs zs))
+      pub placed-found : (p : Replacement X Q) (xs : List X) → PlaceOk p → Each P xs → FoundPlace p xs
+      placed-found (Put ys) xs ok h = inl (ys ++ xs, each-append P ys xs ok h, λ zs. sym (append-assoc ys xs zs))
       placed-found (Only ys) xs ok h = inr (inl (ys, λ zs. refl))
       placed-found (Seek q) xs ok h = elim (found q xs ok h) [ inl f ↦ inl f | inr f ↦ inr (inr f) ]

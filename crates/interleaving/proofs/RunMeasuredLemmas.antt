@@ -5,13 +5,14 @@ use Rattle.std.specs.Prelude.{◌&&◌, ◌||◌, not}
 use Rattle.std.specs.List.{list_any}
 use Rattle.run_model.specs.Machine.Entries.{Entry, PlainEntry, CatchEntry, FindallEntry, EndEntry}
 use Rattle.tree_model.specs.Nodes.{Kind, CatchNode, FindallNode}
-use Rattle.tree_model.specs.Shapes.{further, is_guard, is_alone, fits, guard_kind}
+use Rattle.tree_model.specs.Shapes.{further, is_guard, is_alone, fits_nodes, guard_kind}
 use Rattle.tree_model.specs.PendingLists.{Way}
 use Rattle.tree_model.specs.Ways.{is_on, same_kind, is_barrier, through, way_from, way_above}
 use Rattle.interleaving.proofs.StackLemmas.{IsCounted, stack_way}
 use Rattle.interleaving.proofs.PlacedSoundLemmas.{named_in, inside_hidden, take-drop, drop-length}
 use Rattle.interleaving.proofs.PlacedShapeLemmas.{FitsOne, fits_one}
-use Rattle.interleaving.proofs.PlacedErasedLemmas.{NoneInside, Fills}
+use Rattle.interleaving.proofs.PlacedErasedLemmas.{NoneInside, HaveSizes}
+use Rattle.interleaving.proofs.TestLemmas.{true_false}
 
 -- a height that falls inside none of the nodes
 abbrev pub NotInside : ℕ → List ℕ → ℕ → Type 0
@@ -27,7 +28,7 @@ pub none_inside : (Whole : ℕ → Type 0) (low : ℕ) (sizes : List ℕ) → ((
 none_inside Whole low [] h = tt
 none_inside Whole low (size ∷ sizes) h = ((λ n w. (h n w).0), none_inside Whole (low + further size) sizes (λ n w. (h n w).1))
 
-pub fits_fill : (low : ℕ) (cuts sizes : List ℕ) (es : List Entry) → fits low cuts sizes es ≡ true → Fills sizes es
+pub fits_fill : (low : ℕ) (cuts sizes : List ℕ) (es : List Entry) → fits_nodes low cuts sizes es ≡ true → HaveSizes sizes es
 fits_fill low cuts [] es h = is_one h
   where
     is_one : (length es == 1) ≡ true → length es ≡ 1
@@ -36,16 +37,12 @@ fits_fill low cuts (size ∷ sizes) es h =
     let f = fits_one low size sizes cuts es h in
     (f.room, omega (arith, f.two), fits_fill (low + further size) cuts sizes (take (length es - further size) es) f.rest)
 
--- a goal's height falls inside no node
-clash : true ≡ false → ⊥
-clash z = cc
-
-pub cut_not_inside : (low : ℕ) (cuts sizes : List ℕ) (es : List Entry) → fits low cuts sizes es ≡ true → (h : ℕ) → named_in cuts h
+pub cut_not_inside : (low : ℕ) (cuts sizes : List ℕ) (es : List Entry) → fits_nodes low cuts sizes es ≡ true → (h : ℕ) → named_in cuts h
     ≡ true → NotInside low sizes h
 cut_not_inside low cuts [] es f h n = tt
 cut_not_inside low cuts (size ∷ sizes) es f h n =
     let one = fits_one low size sizes cuts es f in (
-      (λ a b. clash (sym n ∙ inside_hidden low size cuts one.unsplit h a b)),
+      (λ a b. true_false (sym n ∙ inside_hidden low size cuts one.unsplit h a b)),
       cut_not_inside (low + further size) cuts sizes
           (take (length es - further size) es) one.rest h n,
     )
@@ -97,7 +94,7 @@ alone_one es a g = is_one (ap (λ b. not b || (length es == 1)) (sym g) ∙ a)
         is_number z = grind arith
 
 -- the scope of a catch or findall entry falls inside no node
-pub guard_not_inside : (low : ℕ) (cuts sizes : List ℕ) (es : List Entry) → fits low cuts sizes es ≡ true → (h : ℕ) → GuardAt low es h
+pub guard_not_inside : (low : ℕ) (cuts sizes : List ℕ) (es : List Entry) → fits_nodes low cuts sizes es ≡ true → (h : ℕ) → GuardAt low es h
     → NotInside low sizes (suc h)
 guard_not_inside low cuts [] es f h g = tt
 guard_not_inside low cuts (size ∷ sizes) es f h g =
@@ -125,7 +122,7 @@ guard_not_inside low cuts (size ∷ sizes) es f h g =
 
 -- numbers on a counted way
 pub counted_on : (way : Way) (n : ℕ) → IsCounted way → is_on way n ≡ true → (1 ≤ n) × (n ≤ length way)
-counted_on [] n c h = absurd (clash (sym h))
+counted_on [] n c h = absurd (true_false (sym h))
 counted_on (a ∷ way) n c h = go (a.node == n) refl (counted_on way n c.1) h
   where
     go : (b : Bool) → (a.node == n) ≡ b → (is_on way n ≡ true → (1 ≤ n) × (n ≤ length way)) → cond b true (is_on way n) ≡ true
@@ -138,16 +135,16 @@ abbrev pub Guards : Kind → Type 0
 Guards kind = (e : Entry) → same_kind (guard_kind (e ∷ [])) kind ≡ true → is_guard e ≡ true
 
 pub catch_guards : Guards CatchNode
-catch_guards (PlainEntry f) h = absurd (clash (sym h))
+catch_guards (PlainEntry f) h = absurd (true_false (sym h))
 catch_guards (CatchEntry c r f) h = refl
-catch_guards (FindallEntry results l f) h = absurd (clash (sym h))
-catch_guards (EndEntry b) h = absurd (clash (sym h))
+catch_guards (FindallEntry results l f) h = absurd (true_false (sym h))
+catch_guards (EndEntry b) h = absurd (true_false (sym h))
 
 pub findall_guards : Guards FindallNode
-findall_guards (PlainEntry f) h = absurd (clash (sym h))
-findall_guards (CatchEntry c r f) h = absurd (clash (sym h))
+findall_guards (PlainEntry f) h = absurd (true_false (sym h))
+findall_guards (CatchEntry c r f) h = absurd (true_false (sym h))
 findall_guards (FindallEntry results l f) h = refl
-findall_guards (EndEntry b) h = absurd (clash (sym h))
+findall_guards (EndEntry b) h = absurd (true_false (sym h))
 
 -- a way has a step to a node of this kind
 abbrev pub HasStep : Kind → Way → ℕ → Type 0
@@ -155,14 +152,14 @@ HasStep kind [] s = ⊥
 HasStep kind (a ∷ way) s = ((a.node ≡ s) × (same_kind a.kind kind ≡ true)) ⊎ HasStep kind way s
 
 pub has_through : (kind : Kind) (way : Way) (s : ℕ) → through kind way s ≡ true → HasStep kind way s
-has_through kind [] s h = absurd (clash (sym h))
+has_through kind [] s h = absurd (true_false (sym h))
 has_through kind (a ∷ way) s h = go (a.node == s) refl (a.index == 0) (is_barrier a) (has_through kind way s) h
   where
     go : (b : Bool) → (a.node == s) ≡ b → (i d : Bool) → (through kind way s ≡ true → HasStep kind way s)
         → cond b (i && same_kind a.kind kind) (cond d false (through kind way s)) ≡ true → HasStep kind (a ∷ way) s
     go true e true d f k = let same : a.node ≡ s = grind arith in inl (same, k)
-    go true e false d f k = absurd (clash (sym k))
-    go false e i true f k = absurd (clash (sym k))
+    go true e false d f k = absurd (true_false (sym k))
+    go false e i true f k = absurd (true_false (sym k))
     go false e i false f k = inr (f k)
 
 pub has_from : (kind : Kind) (way : Way) (s r : ℕ) → HasStep kind (way_from way s) r → HasStep kind way r

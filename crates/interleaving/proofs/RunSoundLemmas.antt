@@ -13,14 +13,17 @@ use Rattle.tree_model.specs.PrivateRuns.{taken_alone, private_run}
 use Rattle.tree_model.specs.Gates.{gate_on}
 use Rattle.tree_model.specs.PendingLists.{Step, Way, way_of, step_of}
 use Rattle.tree_model.specs.Ways.{is_on, way_from, way_above, AreScoped, is_query, under_query, IsOnWay, IsAwake}
-use Rattle.interleaving.proofs.WayLemmas.{cond-true, cond-false, through-on, other_number, same_self}
+use Rattle.interleaving.proofs.WayLemmas.{cond-true, cond-false, through-on, other_number}
 use Rattle.interleaving.proofs.RoundtripLemmas.{by_heights, height_positive, IsPart, part_from, part_above, IsPath}
 use Rattle.interleaving.proofs.EntryLemmas.{length-floor, own_height}
 use Rattle.interleaving.proofs.BallLemmas.{NamesFloor, names-above}
-use Rattle.interleaving.proofs.CollapseLemmas.{Collapses, nothing, kept, path-from, path-above, reach_kept, through_kept, as_scopes}
+use Rattle.interleaving.proofs.CollapseLemmas.{Collapses, nothing, kept, path-from, path-above, reach_preserved, through_preserved}
+use Rattle.interleaving.proofs.CollapseLemmas.{as_scopes}
 use Rattle.interleaving.proofs.StackLemmas.{IsCounted, counted_path, IsOver, AreOver}
 use Rattle.interleaving.proofs.PrivateSoundLemmas.{IsFloor}
-use Rattle.interleaving.proofs.PrivateStepSoundLemmas.{settle_over, one_more_over, length-collected}
+use Rattle.interleaving.proofs.PrivateStepSoundLemmas.{settle_over, one_more_over}
+use Rattle.interleaving.proofs.TestLemmas.{number_same}
+use Rattle.run_model.proofs.FreeStepLemmas.{length-collected}
 
 -- a floor's way, by heights
 abbrev pub height_step : Level → ℕ → Step
@@ -53,7 +56,7 @@ nodes_to_heights : (name : ℕ → ℕ) (seen : ℕ → Bool) (levels : List Lev
     → ((s : ℕ) → is_on (way_of levels) s ≡ true → name s ≡ height_of levels s) → Collapses name seen (way_of levels) (height_way levels)
 nodes_to_heights name seen [] p a = nothing
 nodes_to_heights name seen (v ∷ up) p a =
-    let self = same_self v.number in
+    let self = number_same v.number in
     let here : name v.number ≡ suc (length up) = a v.number (cond-true (v.number == v.number) true _ self)
     ∙ cond-true (v.number == v.number) (suc (length up)) (height_of up v.number) self in
     kept (step_of v) (height_step v (length up)) (way_of up) (height_way up) here refl refl (nodes_to_heights name seen up p.1 (λ s o.
@@ -62,19 +65,19 @@ nodes_to_heights name seen (v ∷ up) p a =
     off))
 
 -- items under other names
-named_kept : (name : ℕ → ℕ) (u w : Way) (items : List (Item ℕ)) → Collapses name (λ n. true) u w → IsPath w → AreScoped u items
+named_preserved : (name : ℕ → ℕ) (u w : Way) (items : List (Item ℕ)) → Collapses name (λ n. true) u w → IsPath w → AreScoped u items
     → AreScoped w (map (renamed_item name name) items)
-named_kept name u w [] c p h = tt
-named_kept name u w (GoalItem t s ∷ items) c p h =
-    let r = reach_kept name (λ n. true) u w s c p refl h.0 in
-    (r.reach, named_kept name (way_from u s) (way_from w (name s)) items r.rest (path-from w (name s) p) h.1)
-named_kept name u w (CatchMark s ∷ items) c p h =
-    let r = through_kept CatchNode refl name (λ n. true) u w s c p h.0 in
-    (r.reach, named_kept name (way_above u s) (way_above w (name s)) items r.rest (path-above w (name s) p) h.1)
-named_kept name u w (CollectMark t s ∷ items) c p h =
-    let r = through_kept FindallNode refl name (λ n. true) u w s c p h.0 in
-    (r.reach, named_kept name (way_above u s) (way_above w (name s)) items r.rest (path-above w (name s) p) h.1)
-named_kept name u w (RemovalItem number ∷ items) c p h = named_kept name u w items c p h
+named_preserved name u w [] c p h = tt
+named_preserved name u w (GoalItem t s ∷ items) c p h =
+    let r = reach_preserved name (λ n. true) u w s c p refl h.0 in
+    (r.reach, named_preserved name (way_from u s) (way_from w (name s)) items r.rest (path-from w (name s) p) h.1)
+named_preserved name u w (CatchMark s ∷ items) c p h =
+    let r = through_preserved CatchNode refl name (λ n. true) u w s c p h.0 in
+    (r.reach, named_preserved name (way_above u s) (way_above w (name s)) items r.rest (path-above w (name s) p) h.1)
+named_preserved name u w (CollectMark t s ∷ items) c p h =
+    let r = through_preserved FindallNode refl name (λ n. true) u w s c p h.0 in
+    (r.reach, named_preserved name (way_above u s) (way_above w (name s)) items r.rest (path-above w (name s) p) h.1)
+named_preserved name u w (RemovalItem number ∷ items) c p h = named_preserved name u w items c p h
 
 heights_named : (levels : List Level) (way : Way) (items : List (Item ℕ)) → IsPart way (way_of levels) → AreScoped way items
     → map (renamed_item (height_of levels) (height_of levels)) items ≡ as_scopes (by_heights levels items)
@@ -111,7 +114,7 @@ over_floor levels (PlainEntry f) p a h =
     record {
       asked = sym (heights_asked levels) ∙ h.asked;
       scoped = subst (AreScoped w) (heights_named levels (way_of levels) f.items (λ r k. k) h.scoped)
-          (named_kept (height_of levels) (way_of levels) w f.items c (counted_path w (counted_heights levels)) h.scoped);
+          (named_preserved (height_of levels) (way_of levels) w f.items c (counted_path w (counted_heights levels)) h.scoped);
     }
 over_floor levels (EndEntry b) p a h = absurd a
 over_floor levels (CatchEntry c r f) p a h = absurd a

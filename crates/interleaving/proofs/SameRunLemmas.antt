@@ -1,58 +1,35 @@
 -- The tree's private run is the run of own entries over a floor.
-use Rattle.std.proofs.Common.{◌≡◌, ◌≤◌, ◌==◌, arith, ◌⊎◌, inl, inr, ℕ, zero, suc, ◌-◌, Bool, true, false, cond, List, [], ◌∷◌, ◌++◌}
+use Rattle.std.proofs.Common.{◌≡◌, ◌≤◌, arith, ◌⊎◌, inl, inr, ℕ, zero, suc, ◌-◌, Bool, true, false, cond, List, [], ◌∷◌, ◌++◌}
 use Rattle.std.proofs.Common.{length, Option, Some, None, refl, sym, ap, ◌∙◌}
 use Rattle.std.specs.Prelude.{nat_lt, nat_le}
-use Rattle.au_term.specs.Term.{Term}
 use Rattle.run_model.specs.Programs.Clauses.{Clause}
 use Rattle.run_model.specs.Goals.Outcomes.{Solutions, Ball, HaltNumber, ControlForm, GoesOnWith, EitherOf, TestOf, CutToScope, CatchOf}
 use Rattle.run_model.specs.Goals.Outcomes.{FindallOf, Outcome, Replies, Controls, AskWorld}
 use Rattle.run_model.specs.Goals.GoalOutcomes.{outcome_of}
 use Rattle.run_model.specs.Machine.Heights.{after_control}
-use Rattle.run_model.specs.Machine.Items.{Item, GoalItem, CatchMark, CollectMark, RemovalItem, Continuation, with_items, without_marks, first_mark}
-use Rattle.run_model.specs.Machine.Entries.{Entry, PlainEntry, CatchEntry, FindallEntry, EndEntry, with_result, collected}
+use Rattle.run_model.specs.Machine.Items.{Item, GoalItem, CatchMark, CollectMark, RemovalItem, Continuation, with_items, without_marks}
+use Rattle.run_model.specs.Machine.Items.{first_mark}
+use Rattle.run_model.specs.Machine.Entries.{Entry, PlainEntry, CatchEntry, FindallEntry, EndEntry, collected}
 use Rattle.run_model.specs.Machine.Balls.{unwound}
 use Rattle.tree_model.specs.Nodes.{CutGate, BallGate}
 use Rattle.tree_model.specs.Levels.{Level}
 use Rattle.tree_model.specs.Floors.{node_of, floor_of}
-use Rattle.tree_model.specs.Gates.{landing_scope, ball_gate, control_gate, goal_gate, item_gate, gate_on}
+use Rattle.tree_model.specs.Gates.{ball_scope, ball_gate, control_gate, goal_gate, item_gate, gate_on}
 use Rattle.tree_model.specs.PrivateRuns.{own_settles, own_free_steps, own_part, goal_alone, item_alone, taken_alone, if_no_gate}
 use Rattle.tree_model.specs.PrivateRuns.{own_after, one_more, if_any, private_run}
-use Rattle.interleaving.specs.OwnRuns.{own_settles as their_settles, own_settle, landed, own_control, own_goal, own_item, own_left}
+use Rattle.interleaving.specs.OwnRuns.{caught_own, own_control, own_goal, own_item, own_left}
 use Rattle.interleaving.specs.OwnRuns.{own_more, own_run}
+use Rattle.run_model.proofs.FreeStepLemmas.{length-collected}
+use Rattle.interleaving.proofs.EntryLemmas.{length-floor}
 
--- the free steps
-settles_same : (items : List (Item ℕ)) (f : Continuation ℕ) (es floor : List Entry) (go other : List Entry → List Entry)
-    → ((ds : List Entry) → go ds ≡ other ds) → own_settles items f es floor go ≡ their_settles items f es floor other
-settles_same [] f es floor go other h = refl
-settles_same (GoalItem t m ∷ items) f es floor go other h = refl
-settles_same (CatchMark m ∷ items) f es floor go other h = refl
-settles_same (RemovalItem n ∷ items) f es floor go other h = refl
-settles_same (CollectMark t m ∷ items) f es floor go other h = ap
-    (λ ds. cond (nat_lt m (length floor)) (PlainEntry (with_items (CollectMark t m ∷ items) f) ∷ es) ds)
-    (h (collected (m - length floor) t es))
-
-settle_same : (floor : List Entry) (k : ℕ) (es : List Entry) → own_free_steps floor k es ≡ own_settle floor k es
-settle_same floor zero es = refl
-settle_same floor (suc k) [] = refl
-settle_same floor (suc k) (CatchEntry c r f ∷ es) = settle_same floor k es
-settle_same floor (suc k) (FindallEntry results l f ∷ es) = refl
-settle_same floor (suc k) (PlainEntry f ∷ es) = settles_same (without_marks f.items) f es floor (own_free_steps floor k)
-    (own_settle floor k) (settle_same floor k)
-settle_same floor (suc k) (EndEntry b ∷ es) = refl
-
--- the goals
-length-floor : (levels : List Level) → length (floor_of levels) ≡ length levels
-length-floor [] = refl
-length-floor (v ∷ up) = ap suc (length-floor up)
-
-landed_same : (levels : List Level) (es : List Entry) → if_no_gate (ball_gate levels es) (Some es) ≡ landed (length levels) es
-landed_same levels [] = refl
-landed_same levels (EndEntry b ∷ es) = refl
-landed_same levels (CatchEntry c r f ∷ es) = refl
-landed_same levels (FindallEntry results l f ∷ es) = refl
-landed_same levels (PlainEntry f ∷ es) = go (nat_le (length levels) (length es))
+caught_own_same : (levels : List Level) (es : List Entry) → if_no_gate (ball_gate levels es) (Some es) ≡ caught_own (length levels) es
+caught_own_same levels [] = refl
+caught_own_same levels (EndEntry b ∷ es) = refl
+caught_own_same levels (CatchEntry c r f ∷ es) = refl
+caught_own_same levels (FindallEntry results l f ∷ es) = refl
+caught_own_same levels (PlainEntry f ∷ es) = go (nat_le (length levels) (length es))
   where
-    go : (b : Bool) → if_no_gate (cond b None (Some (BallGate (landing_scope levels (PlainEntry f ∷ es))))) (Some (PlainEntry f ∷ es))
+    go : (b : Bool) → if_no_gate (cond b None (Some (BallGate (ball_scope levels (PlainEntry f ∷ es))))) (Some (PlainEntry f ∷ es))
         ≡ cond b (Some (PlainEntry f ∷ es)) None
     go true = refl
     go false = refl
@@ -74,7 +51,7 @@ control_same levels CutToScope h f es = go (nat_lt h (length levels))
 goal_same : (levels : List Level) (o : Outcome) (h : ℕ) (f : Continuation ℕ) (es : List Entry)
     → if_no_gate (goal_gate levels o h f es) (Some (goal_alone o h f es)) ≡ own_goal o h f es (length levels)
 goal_same levels (Replies (Solutions ss)) h f es = refl
-goal_same levels (Replies (Ball b)) h f es = landed_same levels (unwound b (first_mark f.items) es)
+goal_same levels (Replies (Ball b)) h f es = caught_own_same levels (unwound b (first_mark f.items) es)
 goal_same levels (Replies (HaltNumber k)) h f es = refl
 goal_same levels (Controls form) h f es = control_same levels form h f es
 goal_same levels (AskWorld goal) h f es = refl
@@ -108,15 +85,6 @@ marks_twice (CatchMark m ∷ items) = marks_twice items
 marks_twice (GoalItem t m ∷ items) = refl
 marks_twice (CollectMark t m ∷ items) = refl
 marks_twice (RemovalItem n ∷ items) = refl
-
-length-collected : (h : ℕ) (t : Term) (es : List Entry) → length (collected h t es) ≡ length es
-length-collected h t [] = refl
-length-collected h t (e ∷ es) = go (length es == h) (length-collected h t es)
-  where
-    go : (b : Bool) → length (collected h t es) ≡ length es → length (cond b (with_result t e ∷ es) (e ∷ collected h t es))
-        ≡ suc (length es)
-    go true k = refl
-    go false k = ap suc k
 
 settles_top : (floor es : List Entry) (items : List (Item ℕ)) (f : Continuation ℕ) (go : List Entry → List Entry)
     → without_marks f.items ≡ items → ((ds : List Entry) → length ds ≡ length es → IsTop (go ds))
@@ -175,7 +143,7 @@ plain_same clauses levels f es (inr c) = collect_rests clauses levels (without_m
 
 left_same : (floor : List Entry) (o : Option (List Entry)) → own_after floor o ≡ own_left floor o
 left_same floor None = refl
-left_same floor (Some es) = ap (λ l. Some l) (settle_same floor (length (own_part floor es)) (own_part floor es))
+left_same floor (Some es) = refl
 
 more_same : (clauses : List Clause) (levels : List Level) (es : List Entry) → IsTop es → one_more clauses levels es
     ≡ own_more clauses (floor_of levels) (Some es)
@@ -217,6 +185,6 @@ run_top clauses levels e (suc k) = any_top clauses levels (private_run clauses l
 pub same_run : (clauses : List Clause) (levels : List Level) (e : Entry) (k : ℕ) → private_run clauses levels e k
     ≡ own_run clauses (floor_of levels) k (e ∷ [])
 unfolding private_run
-same_run clauses levels e zero = ap (λ l. Some l) (settle_same (floor_of levels) 1 (e ∷ []))
+same_run clauses levels e zero = refl
 same_run clauses levels e (suc k) = any_same clauses levels (private_run clauses levels e k) (run_top clauses levels e k)
     ∙ ap (own_more clauses (floor_of levels)) (same_run clauses levels e k)

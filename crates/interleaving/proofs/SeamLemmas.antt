@@ -7,9 +7,10 @@ use Rattle.au_term.specs.Term.{Term}
 use Rattle.au_model.specs.Terms.Each.{Each}
 use Rattle.run_model.specs.Machine.Items.{Item, GoalItem, CatchMark, CollectMark, RemovalItem, Continuation}
 use Rattle.tree_model.specs.Elements.{Name, same, Record, Element, Credit, Plain, EndOf, Catch, Findall, End}
-use Rattle.interleaving.specs.Erased.{from, count, height}
+use Rattle.interleaving.specs.Erased.{from, element_count, height}
 use Rattle.interleaving.specs.Views.{IsApart, IsBeside, IsItemApart, IsRecordApart, IsBlind}
-use Rattle.interleaving.specs.Sound.{names, IsOlder, IsPresent, IsChain, IsGuarded, IsGathered, IsMarkSound, EachFindall, IsEntrySound}
+use Rattle.interleaving.specs.Sound.{names, IsMadeElsewhere, IsPresent, IsChain, IsGuarded, IsGathered, IsMarkSound, EachFindall}
+use Rattle.interleaving.specs.Sound.{IsEntrySound}
 use Rattle.interleaving.specs.Sound.{IsRightUnder, IsSound}
 use Rattle.interleaving.proofs.NamingLemmas.{height-le}
 use Rattle.interleaving.proofs.ApartLemmas.{same-true}
@@ -68,7 +69,7 @@ pub record AreAlike (inside : Name → Bool) (ys ws zs : List Element) : Type 1 
   pub old : (s : Name) → IsApart inside s → from ys s ≡ from zs s
   pub new : (s : Name) → IsApart inside s → from ws s ≡ from zs s
   pub short : length zs ≤ length ys
-  pub fewer : count zs < count ys
+  pub fewer : element_count zs < element_count ys
   pub no_catch : (s u : Name) (c r : Term) (p : Name) (f : Continuation Name) (t : List Element) → IsApart inside s → ys
       ≡ Catch s u c r p f ∷ t → ⊥
   pub no_findall : (s u : Name) (results : List Term) (list : Term) (p : Name) (f : Continuation Name) (t : List Element)
@@ -222,7 +223,7 @@ module _ (inside : Name → Bool) (ys ws zs : List Element) (a : AreAlike inside
   findalls-moved P f (Findall e u results list p g ∷ xs) h = (h.0, findalls-moved P f xs h.1)
   findalls-moved P f (End p b ∷ xs) h = findalls-moved P f xs h
 
-  beside-older : (p : Name) → IsBeside inside p → (e : Name) → inside e ≡ true → IsOlder p e
+  beside-older : (p : Name) → IsBeside inside p → (e : Name) → inside e ≡ true → IsMadeElsewhere p e
   beside-older p b e i = λ more k. false≢true (sym (b more) ∙ ap inside (sym k) ∙ i)
 
   apart-other : (s : Name) → IsApart inside s → (e : Name) → inside e ≡ true → e ≡ s → ⊥
@@ -239,10 +240,10 @@ module _ (inside : Name → Bool) (ys ws zs : List Element) (a : AreAlike inside
           s.carried.chain;
     };
     marks = marks-moved xs items i s.marks;
-    findalls = findalls-moved (IsOlder p) (beside-older p b) xs s.findalls;
+    findalls = findalls-moved (IsMadeElsewhere p) (beside-older p b) xs s.findalls;
   }
 
-  pub count-append : (xs ls : List Element) → count (xs ++ ls) ≡ count xs + count ls
+  pub count-append : (xs ls : List Element) → element_count (xs ++ ls) ≡ element_count xs + element_count ls
   count-append [] ls = omega arith
   count-append (EndOf e ∷ xs) ls = count-append xs ls
   count-append (Credit k rs ∷ xs) ls = omega (arith, count-append xs ls)
@@ -257,9 +258,9 @@ module _ (inside : Name → Bool) (ys ws zs : List Element) (a : AreAlike inside
     where
       go : Seam xs u → IsRightUnder (xs ++ ws) u
       go (inl k) =
-          let size : count (k.0 ++ ys) ≡ count (xs ++ ys) = sym (ap count (k.2 ys)) ∙ h in
-          ap count (k.2 ws) ∙ omega (arith, size, count-append k.0 ys, count-append k.0 ws, count-append xs ys, count-append xs ws)
-      go (inr k) = let low : height zs u ≡ count (xs ++ ys) = sym (ap count (k ys ∙ a.old u p))
+          let size : element_count (k.0 ++ ys) ≡ element_count (xs ++ ys) = sym (ap element_count (k.2 ys)) ∙ h in
+          ap element_count (k.2 ws) ∙ omega (arith, size, count-append k.0 ys, count-append k.0 ws, count-append xs ys, count-append xs ws)
+      go (inr k) = let low : height zs u ≡ element_count (xs ++ ys) = sym (ap element_count (k ys ∙ a.old u p))
           ∙ h in absurd (omega (arith, low, height-le zs u, count-append xs ys, a.fewer))
 
   records-moved : (xs : List Element) (rs : List Record) → Each (IsRecordApart inside) rs → Each (λ o. IsGathered (xs ++ ys) o.0) rs

@@ -5,18 +5,19 @@ use Rattle.tree_model.specs.Nodes.{Kind, ChoiceNode, CatchNode, FindallNode, Que
 use Rattle.tree_model.specs.Nodes.{none, alternative, Status, Pending, Inner, Closed}
 use Rattle.tree_model.specs.Closing.{dormant_right}
 use Rattle.tree_model.specs.Ways.{is_query}
-use Rattle.tree_model.specs.SoundTrees.{Profile, IsOpen, Sleeps, IsShut, profile, profiles, none_sleeps, is_pair, are_pair, is_shape}
+use Rattle.tree_model.specs.SoundTrees.{Profile, IsOpen, IsDormant, IsShut, profile, profiles, none_dormant, is_pair, are_pair, is_shape}
 use Rattle.interleaving.proofs.ContextLemmas.{put_profiles}
 
-none_sleeps-after : (p : Profile) (ps qs : List Profile) → none_sleeps ps ≡ none_sleeps qs → none_sleeps (p ∷ ps) ≡ none_sleeps (p ∷ qs)
-none_sleeps-after IsOpen ps qs h = h
-none_sleeps-after IsShut ps qs h = h
-none_sleeps-after (Sleeps k) ps qs h = refl
+none_dormant-after : (p : Profile) (ps qs : List Profile) → none_dormant ps ≡ none_dormant qs → none_dormant (p ∷ ps)
+    ≡ none_dormant (p ∷ qs)
+none_dormant-after IsOpen ps qs h = h
+none_dormant-after IsShut ps qs h = h
+none_dormant-after (IsDormant k) ps qs h = refl
 
-pub none_sleeps-put : (left : List (ℕ × Status)) (ps qs : List Profile) → none_sleeps ps ≡ none_sleeps qs
-    → none_sleeps (put_profiles left ps) ≡ none_sleeps (put_profiles left qs)
-none_sleeps-put [] ps qs h = h
-none_sleeps-put (a ∷ left) ps qs h = none_sleeps-put left (profile a.1 ∷ ps) (profile a.1 ∷ qs) (none_sleeps-after (profile a.1) ps qs h)
+pub none_dormant-put : (left : List (ℕ × Status)) (ps qs : List Profile) → none_dormant ps ≡ none_dormant qs
+    → none_dormant (put_profiles left ps) ≡ none_dormant (put_profiles left qs)
+none_dormant-put [] ps qs h = h
+none_dormant-put (a ∷ left) ps qs h = none_dormant-put left (profile a.1 ∷ ps) (profile a.1 ∷ qs) (none_dormant-after (profile a.1) ps qs h)
 
 three_no_pair : (k : Kind) (left : List (ℕ × Status)) (x y z : Profile) (ps : List Profile)
     → are_pair k (put_profiles left (x ∷ y ∷ z ∷ ps)) ≡ false
@@ -49,7 +50,7 @@ same_right spent (Pending hold e) others = refl
 second_shut : (k : Kind) (p : Profile) → is_pair k p IsOpen ≡ true → is_pair k p IsShut ≡ true
 second_shut k IsShut h = refl
 second_shut k IsOpen h = absurd (true_false false h refl)
-second_shut k (Sleeps j) h = absurd (true_false false h refl)
+second_shut k (IsDormant j) h = absurd (true_false false h refl)
 
 pair_shut : (k : Kind) (left : List (ℕ × Status)) (right : Alternatives) → sleeping left right ≡ None
     → are_pair k (put_profiles left (IsOpen ∷ profiles right)) ≡ true → are_pair k (put_profiles left (IsShut ∷ profiles right)) ≡ true
@@ -64,7 +65,7 @@ pair_shut k (a ∷ b ∷ left) right d h = absurd (true_false _ h (three_no_pair
 pub shape_shut : (kind : Kind) (left : List (ℕ × Status)) (right : Alternatives) → sleeping left right ≡ None
     → is_shape kind (put_profiles left (IsOpen ∷ profiles right)) ≡ true → is_shape kind (put_profiles left (IsShut ∷ profiles right))
     ≡ true
-shape_shut ChoiceNode left right d h = none_sleeps-put left (IsShut ∷ profiles right) (IsOpen ∷ profiles right) refl ∙ h
+shape_shut ChoiceNode left right d h = none_dormant-put left (IsShut ∷ profiles right) (IsOpen ∷ profiles right) refl ∙ h
 shape_shut CatchNode left right d h = pair_shut CatchNode left right d h
 shape_shut FindallNode left right d h = pair_shut FindallNode left right d h
 shape_shut QueryNode left right d h = pair_shut QueryNode left right d h
@@ -83,7 +84,7 @@ shape_gone FindallNode = refl
 shape_gone QueryNode = refl
 
 -- no plain entry sleeps
-pub plain_awake : (kind : Kind) (ps : List Profile) → is_shape kind (IsOpen ∷ Sleeps ChoiceNode ∷ ps) ≡ true → ⊥
+pub plain_awake : (kind : Kind) (ps : List Profile) → is_shape kind (IsOpen ∷ IsDormant ChoiceNode ∷ ps) ≡ true → ⊥
 plain_awake ChoiceNode ps h = true_false false h refl
 plain_awake CatchNode [] h = true_false false h refl
 plain_awake CatchNode (p ∷ ps) h = true_false false h refl
@@ -93,14 +94,14 @@ plain_awake QueryNode [] h = true_false false h refl
 plain_awake QueryNode (p ∷ ps) h = true_false false h refl
 
 -- where a findall entry sleeps, its node is no query's
-pub findall_kind : (kind : Kind) (ps : List Profile) → is_shape kind (IsOpen ∷ Sleeps FindallNode ∷ ps) ≡ true → is_query kind ≡ false
+pub findall_kind : (kind : Kind) (ps : List Profile) → is_shape kind (IsOpen ∷ IsDormant FindallNode ∷ ps) ≡ true → is_query kind ≡ false
 findall_kind ChoiceNode ps h = refl
 findall_kind CatchNode ps h = refl
 findall_kind FindallNode ps h = refl
 findall_kind QueryNode [] h = absurd (true_false false h refl)
 findall_kind QueryNode (p ∷ ps) h = absurd (true_false false h refl)
 
-pub catch_kind : (kind : Kind) (ps : List Profile) → is_shape kind (IsOpen ∷ Sleeps CatchNode ∷ ps) ≡ true → is_query kind ≡ false
+pub catch_kind : (kind : Kind) (ps : List Profile) → is_shape kind (IsOpen ∷ IsDormant CatchNode ∷ ps) ≡ true → is_query kind ≡ false
 catch_kind ChoiceNode ps h = refl
 catch_kind CatchNode ps h = refl
 catch_kind FindallNode ps h = refl

@@ -9,17 +9,14 @@ use Rattle.tree_model.specs.Nodes.{Ready, TakenBy, Waiting, Dormant, Alternative
 use Rattle.tree_model.specs.Levels.{Level}
 use Rattle.tree_model.specs.PendingLists.{Way, way_of, element_at, front_of, back_of}
 use Rattle.tree_model.specs.SoundTrees.{one_if, count_among, Profile, IsOpen}
-use Rattle.interleaving.proofs.WayLemmas.{same_self}
 use Rattle.interleaving.proofs.ContextLemmas.{IsAround, count_left, count_around}
 use Rattle.interleaving.proofs.ClosingSoundLemmas.{IsFree}
 use Rattle.interleaving.proofs.AppendLemmas.{each-append}
 use Rattle.interleaving.proofs.BaredLemmas.{made_at}
 use Rattle.interleaving.proofs.NamedFloorLemmas.{right_named, below_named}
 use Rattle.interleaving.proofs.BesideLemmas.{Out, OutNode, WayOut, out_more, blind_among, blind_left}
-
-and-last : (b : Bool) → (b && false) ≡ false
-and-last true = refl
-and-last false = refl
+use Rattle.au_term.proofs.LogicLemmas.{and-false}
+use Rattle.interleaving.proofs.TestLemmas.{number_same}
 
 pub apart_number : (a b : ℕ) → (a ≡ b → ⊥) → (a == b) ≡ false
 apart_number a b h = go (a == b) refl
@@ -36,14 +33,14 @@ not_new next m h = go (nat_le next m) refl
     go true e = let l : next ≤ m = grind arith in absurd (omega (arith, l, h))
 
 pub out_other : (i n next m : ℕ) → (n ≡ m → ⊥) → suc m ≤ next → OutNode i n next m
-out_other i n next m h l j = (ap (λ b. (i == j) && (b && true)) (apart_number n m h) ∙ and-last (i == j), not_new next m l)
+out_other i n next m h l j = (ap (λ b. (i == j) && (b && true)) (apart_number n m h) ∙ and-false (i == j), not_new next m l)
 
 pub out_index : (i n next j : ℕ) → (i ≡ j → ⊥) → suc n ≤ next → Out i n next j n
 out_index i n next j h l = (ap (λ b. b && ((n == n) && true)) (apart_number i j h), not_new next n l)
 
 -- numbers round a place
 pub at_least : (v : Level) (up : List Level) → 1 ≤ count_around v.number (v ∷ up)
-at_least v up = let one : one_if (v.number == v.number) ≡ 1 = ap one_if (same_self v.number) in omega (arith, one)
+at_least v up = let one : one_if (v.number == v.number) ≡ 1 = ap one_if (number_same v.number) in omega (arith, one)
 
 pub is_old : (next : ℕ) (levels : List Level) → IsFree next levels → (m : ℕ) → 1 ≤ count_around m levels → suc m ≤ next
 is_old next levels f m l = go (nat_le next m) refl
@@ -54,13 +51,13 @@ is_old next levels f m l = go (nat_le next m) refl
 
 pub above_own : (next : ℕ) (v : Level) (up : List Level) → IsFree next (v ∷ up) → (m : ℕ) → 1 ≤ count_around m up → v.number ≡ m → ⊥
 above_own next v up f m l e =
-    let one : one_if (v.number == v.number) ≡ 1 = ap one_if (same_self v.number) in
+    let one : one_if (v.number == v.number) ≡ 1 = ap one_if (number_same v.number) in
     absurd (omega (arith, one, f.distinct v.number, subst (λ k. 1 ≤ count_around k up) (sym e) l))
 
 pub beside_own : (next : ℕ) (v : Level) (up : List Level) → IsFree next (v ∷ up) → (m : ℕ)
     → 1 ≤ count_left m v.left + count_among m v.right → v.number ≡ m → ⊥
 beside_own next v up f m l e =
-    let one : one_if (v.number == v.number) ≡ 1 = ap one_if (same_self v.number) in
+    let one : one_if (v.number == v.number) ≡ 1 = ap one_if (number_same v.number) in
     absurd (omega (arith, one, f.distinct v.number, subst (λ k. 1 ≤ count_left k v.left + count_among k v.right) (sym e) l))
 
 -- the front
@@ -88,7 +85,8 @@ module _ (i n next : ℕ) where
       let here = h v.number (at_least v up) in (
         tt,
         each-append (IsBlind (made_at (i ∷ n ∷ []) next)) _ (back_of up)
-            (blind_among i n next (way_of up) v.number v.kind (suc (length v.left)) v.right (way_out up (λ r l. h r (omega (arith, l)))) here
+            (blind_among i n next (way_of up) v.number v.kind (suc (length v.left)) v.right
+            (way_out up (λ r l. h r (omega (arith, l)))) here
             a.0.right (λ r l. h r (omega (arith, l))))
             (blind_back up IsOpen a.1 (λ r l. h r (omega (arith, l)))),
       )

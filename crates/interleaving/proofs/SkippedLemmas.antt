@@ -9,20 +9,18 @@ use Rattle.tree_model.specs.Nodes.{Alternatives, none, alternative, Status, Pend
 use Rattle.tree_model.specs.Levels.{Level}
 use Rattle.tree_model.specs.PendingLists.{Step, Way, way_of, list_in, list_among, list_below, back_of}
 use Rattle.tree_model.specs.Ways.{is_on}
-use Rattle.tree_model.specs.SoundTrees.{count_in, count_among, count_below, guards, IsOpen, Sleeps, profile, profiles, is_shape}
-use Rattle.interleaving.proofs.WayLemmas.{off_way, one_if-zero, same_self}
+use Rattle.tree_model.specs.SoundTrees.{count_in, count_among, count_below, guards, IsOpen, IsDormant, profile, profiles, is_shape}
+use Rattle.interleaving.proofs.WayLemmas.{off_way, one_if-zero}
 use Rattle.interleaving.proofs.AppendLemmas.{append-assoc}
 use Rattle.interleaving.proofs.NamingLemmas.{from_end}
 use Rattle.interleaving.proofs.ApartLemmas.{same-true}
 use Rattle.interleaving.proofs.NamingLemmas.{same-itself}
 use Rattle.interleaving.proofs.ContextLemmas.{put_profiles, count_around}
 use Rattle.interleaving.proofs.ClosingSoundLemmas.{IsFree}
-use Rattle.interleaving.proofs.GrowingLemmas.{none_sleeps-of, no_three}
+use Rattle.interleaving.proofs.GrowingLemmas.{none_dormant-of, no_three}
 use Rattle.interleaving.proofs.NamedFloorLemmas.{from-element, right_named}
 use Rattle.interleaving.proofs.PublishedBareLemmas.{right_of}
-
-pub clash : true ≡ false → ⊥
-clash z = cc
+use Rattle.interleaving.proofs.TestLemmas.{true_false, number_same}
 
 pub last_number : (k r j m : ℕ) → k ∷ r ∷ [] ≡ j ∷ m ∷ [] → r ≡ m
 last_number k r j m e = cc
@@ -38,7 +36,7 @@ mutual
       skip_among way m kind 0 alternatives xs k r (λ e. clash_number (one_if-zero (m == r) (omega (arith, c))) e) (omega (arith, c))
     where
       clash_number : (m == r) ≡ false → r ≡ m → ⊥
-      clash_number h e = clash (sym (same_self m) ∙ (ap (λ z. m == z) (sym e) ∙ h))
+      clash_number h e = true_false (sym (number_same m) ∙ (ap (λ z. m == z) (sym e) ∙ h))
 
   pub skip_among : (way : Way) (m : ℕ) (kind : Kind) (j : ℕ) (alternatives : Alternatives) (xs : List Element) (k r : ℕ) → (r ≡ m → ⊥)
       → count_among r alternatives ≡ 0 → from (list_among way m kind j alternatives ++ xs) (k ∷ r ∷ []) ≡ from xs (k ∷ r ∷ [])
@@ -66,7 +64,7 @@ pub on_counts : (levels : List Level) (r : ℕ) → is_on (way_of levels) r ≡ 
 on_counts levels r h = go (count_around r levels) refl
   where
     go : (c : ℕ) → count_around r levels ≡ c → 1 ≤ count_around r levels
-    go zero e = absurd (clash (sym h ∙ off_way r levels e))
+    go zero e = absurd (true_false (sym h ∙ off_way r levels e))
     go (suc c) e = omega (arith, e)
 
 pub not_beside : (next : ℕ) (v : Level) (up : List Level) → IsFree next (v ∷ up) → (r : ℕ) → is_on (way_of up) r ≡ true
@@ -74,7 +72,7 @@ pub not_beside : (next : ℕ) (v : Level) (up : List Level) → IsFree next (v �
 not_beside next v up f r h = omega (arith, f.distinct r, on_counts up r h)
 
 pub not_own : (v : Level) (up : List Level) (r : ℕ) → is_on (way_of up) v.number ≡ false → is_on (way_of up) r ≡ true → r ≡ v.number → ⊥
-not_own v up r p h e = clash (sym h ∙ (ap (is_on (way_of up)) e ∙ p))
+not_own v up r p h e = true_false (sym h ∙ (ap (is_on (way_of up)) e ∙ p))
 
 -- past the right of a level
 pub skip_right : (next : ℕ) (v : Level) (up : List Level) → IsFree next (v ∷ up) → is_on (way_of up) v.number ≡ false → (k r : ℕ)
@@ -83,17 +81,17 @@ skip_right next v up f p k r h = skip_among (way_of up) v.number v.kind (suc (le
     (not_own v up r p h) (not_beside next v up f r h)
 
 -- what sleeps is the last alternative
-pub last_sleeps : (kind : Kind) (left : List (ℕ × Status)) (k : Kind) (others : Alternatives)
-    → is_shape kind (put_profiles left (IsOpen ∷ Sleeps k ∷ profiles others)) ≡ true → others ≡ none
-last_sleeps kind left k none h = refl
-last_sleeps ChoiceNode left k (alternative spent status others) h = absurd
-    (clash (sym (none_sleeps-of left (IsOpen ∷ Sleeps k ∷ profile status ∷ profiles others) h)))
-last_sleeps CatchNode left k (alternative spent status others) h = absurd
-    (no_three CatchNode left IsOpen (Sleeps k) (profile status) (profiles others) h)
-last_sleeps FindallNode left k (alternative spent status others) h = absurd
-    (no_three FindallNode left IsOpen (Sleeps k) (profile status) (profiles others) h)
-last_sleeps QueryNode left k (alternative spent status others) h = absurd
-    (no_three QueryNode left IsOpen (Sleeps k) (profile status) (profiles others) h)
+pub last_dormant : (kind : Kind) (left : List (ℕ × Status)) (k : Kind) (others : Alternatives)
+    → is_shape kind (put_profiles left (IsOpen ∷ IsDormant k ∷ profiles others)) ≡ true → others ≡ none
+last_dormant kind left k none h = refl
+last_dormant ChoiceNode left k (alternative spent status others) h = absurd
+    (true_false (sym (none_dormant-of left (IsOpen ∷ IsDormant k ∷ profile status ∷ profiles others) h)))
+last_dormant CatchNode left k (alternative spent status others) h = absurd
+    (no_three CatchNode left IsOpen (IsDormant k) (profile status) (profiles others) h)
+last_dormant FindallNode left k (alternative spent status others) h = absurd
+    (no_three FindallNode left IsOpen (IsDormant k) (profile status) (profiles others) h)
+last_dormant QueryNode left k (alternative spent status others) h = absurd
+    (no_three QueryNode left IsOpen (IsDormant k) (profile status) (profiles others) h)
 
 -- either one entry sleeps to the right, or none does
 pub record Asleep (right : Alternatives) : Type 0 where
@@ -117,7 +115,7 @@ sleeping n i way kind left (alternative spent (Pending Dormant e) others) h = in
       spent = spent;
       entry = e;
       same = ap (λ o. alternative spent (Pending Dormant e) o)
-          (last_sleeps kind left (guards e) others h);
+          (last_dormant kind left (guards e) others h);
     })
 
 -- names are the same or not
@@ -126,4 +124,4 @@ decide s e = go (same s e) refl
   where
     go : (b : Bool) → same s e ≡ b → (s ≡ e) ⊎ (s ≡ e → ⊥)
     go true h = inl (same-true s e h)
-    go false h = inr (λ k. clash (sym (same-itself s) ∙ (ap (same s) k ∙ h)))
+    go false h = inr (λ k. true_false (sym (same-itself s) ∙ (ap (same s) k ∙ h)))

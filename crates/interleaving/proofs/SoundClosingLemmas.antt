@@ -18,14 +18,15 @@ use Rattle.tree_model.specs.Effects.{with_status, spending, closed_with, left_at
 use Rattle.tree_model.specs.Effects.{where_some}
 use Rattle.tree_model.specs.PendingLists.{Way, way_of}
 use Rattle.tree_model.specs.Ways.{is_on, in_reach, way_from, AreScoped}
-use Rattle.tree_model.specs.SoundTrees.{one_if, IsOpen, Sleeps, profile, is_live, IsSound, IsSoundTree}
+use Rattle.tree_model.specs.SoundTrees.{one_if, IsOpen, IsDormant, profile, is_live, IsSound, IsSoundTree}
 use Rattle.interleaving.proofs.ContextLemmas.{IsAround, count_around}
-use Rattle.interleaving.proofs.WayLemmas.{cond-true, off_way, same_self}
+use Rattle.interleaving.proofs.WayLemmas.{cond-true, off_way}
 use Rattle.interleaving.proofs.ClosingSoundLemmas.{IsSoundGrown, IsFree, one_if-same, closes_sound}
 use Rattle.interleaving.proofs.GrowingLemmas.{plug_sound, IsReadyOn, new_node_sound, spending_around, spending_free, pruned_way}
 use Rattle.interleaving.proofs.GrowingLemmas.{pruned_around, pruned_free}
 use Rattle.interleaving.proofs.EntryLemmas.{IsOverFloor, each-map}
-use Rattle.interleaving.proofs.OpenSpotLemmas.{IsOpenSpot, IsPlaced, placed_at, count_at, held_sound, taken_at_open, some_sound}
+use Rattle.interleaving.proofs.OpenSpotLemmas.{IsOpenSpot, IsPlaced, placed_at, count_at, hold_sound, taken_at_open, some_sound}
+use Rattle.interleaving.proofs.TestLemmas.{number_same}
 
 -- a tree with this root and next number
 pub grown_tree : (t : TreeState) → IsSoundGrown (record { root = t.root; next = t.next }) → IsSoundTree t
@@ -68,7 +69,7 @@ cut_sound t s scope e es p f r k =
     (subst (λ w. IsReadyOn w (with_nodes (node_of (levels_of s)) e)) (sym way) k, tt))
 
 -- the next query
-live_first : (way : Way) → is_live way (IsOpen ∷ Sleeps QueryNode ∷ []) ≡ true
+live_first : (way : Way) → is_live way (IsOpen ∷ IsDormant QueryNode ∷ []) ≡ true
 live_first [] = refl
 live_first (a ∷ way) = refl
 
@@ -76,8 +77,8 @@ opened_goals : (n : ℕ) (way : Way) (gs : List Term) → AreScoped (record { no
 opened_goals n way [] = tt
 opened_goals n way (g ∷ gs) =
     let from : way_from (record { node = n; index = 0; kind = QueryNode } ∷ way) n ≡ record { node = n; index = 0; kind = QueryNode }
-    ∷ way = cond-true (n == n) _ (way_from way n) (same_self n) in
-    (cond-true (n == n) true _ (same_self n), subst (λ w. AreScoped w (goals_at n gs)) (sym from) (opened_goals n way gs))
+    ∷ way = cond-true (n == n) _ (way_from way n) (number_same n) in
+    (cond-true (n == n) true _ (number_same n), subst (λ w. AreScoped w (goals_at n gs)) (sym from) (opened_goals n way gs))
 
 pub opened_sound : (n : ℕ) (way : Way) (q : Query) → is_on way n ≡ false → IsSound way (Inner (opened_node n q))
 opened_sound n way q o = (o, refl, live_first way, ((record { asked = refl; scoped = opened_goals n way q.goals }, tt), ((refl, tt), tt)))
@@ -118,7 +119,7 @@ halted_sound t s k o p f =
 pub suspend_sound : (t : TreeState) (w : ℕ) (a : Place) (frozen : Bool) → IsSoundTree t
     → IsSoundTree (where_some (taken_at w a t) t (λ s. with_status s (Pending (gate_or_frozen frozen (gate_of t s)) s.entry) t))
 suspend_sound t w a frozen h = some_sound t (taken_at w a t) _ h
-    (λ s e. held_sound t s (gate_or_frozen frozen (gate_of t s)) (waits frozen (gate_of t s) s.entry) h (taken_at_open w a t s e))
+    (λ s e. hold_sound t s (gate_or_frozen frozen (gate_of t s)) (waits frozen (gate_of t s) s.entry) h (taken_at_open w a t s e))
   where
     waits : (b : Bool) (g : Option Gate) (e : Entry) → profile (Pending (gate_or_frozen b g) e) ≡ IsOpen
     waits true g e = refl

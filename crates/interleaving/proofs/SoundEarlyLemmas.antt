@@ -6,11 +6,11 @@ use Rattle.au_term.specs.Term.{Term}
 use Rattle.au_model.specs.Terms.Each.{Each}
 use Rattle.run_model.specs.Programs.Clauses.{Clause}
 use Rattle.run_model.specs.Machine.Items.{Continuation}
-use Rattle.interleaving.specs.Machine.{Machine, Asks, Seek, gives, placed}
+use Rattle.interleaving.specs.Machine.{Machine, AsksWorld, Seek, gives, placed}
 use Rattle.tree_model.specs.Elements.{Name, Record, Element, Credit, Plain, EndOf, Catch, Findall, End}
 use Rattle.interleaving.specs.Scopes.{Shared, Sought, Scope, Does, act, give, scoped}
-use Rattle.interleaving.specs.Segments.{outer, Private, private_none, private_goes, private_stands, private_wakes, private_takes}
-use Rattle.interleaving.specs.Erased.{from, count}
+use Rattle.interleaving.specs.Segments.{outer, Private, private_none, private_drops, private_remains, private_changes, private_infers}
+use Rattle.interleaving.specs.Erased.{from, element_count}
 use Rattle.interleaving.specs.Views.{IsGrown, IsApart, IsInner, IsUnder}
 use Rattle.interleaving.specs.Laws.{is_inner_record, IsSegment}
 use Rattle.interleaving.specs.Sound.{IsGathered, EachFindall, IsSound}
@@ -18,8 +18,8 @@ use Rattle.interleaving.specs.Quiet.{records}
 use Rattle.interleaving.specs.Readings.{SoundExchange, SoundCut, SoundGate, SoundGateInPlace}
 use Rattle.interleaving.proofs.RunFrontLemmas.{each-append, PlaceOk, ActOk}
 use Rattle.interleaving.proofs.JoinedLemmas.{placed-within}
-use Rattle.interleaving.proofs.ApartLemmas.{inner-keeps}
-use Rattle.interleaving.proofs.InsideLemmas.{kept_inside, inner_closed, under_ground, IsSoughtInner, IsAnyRecord}
+use Rattle.interleaving.proofs.ApartLemmas.{inner-preserves}
+use Rattle.interleaving.proofs.InsideLemmas.{preserved_inside, inner_closed, under_ground, IsSoughtInner, IsAnyRecord}
 use Rattle.interleaving.proofs.InsideStepLemmas.{inner_stands}
 use Rattle.interleaving.proofs.NamingLemmas.{from_end}
 use Rattle.interleaving.proofs.CarriedLemmas.{gathered-moved}
@@ -30,7 +30,7 @@ use Rattle.interleaving.proofs.QuietCreditLemmas.{private-outer, gives-fixed}
 use Rattle.interleaving.proofs.CreditLawLemmas.{blind_none}
 use Rattle.interleaving.proofs.FrontLawLemmas.{asks-fixed, end_inside}
 use Rattle.interleaving.proofs.EarlyLawLemmas.{private_inner}
-use Rattle.interleaving.proofs.SoundStepLemmas.{takes-sound, wakes-sound, goes-gathered, asks-sound, stands-sound, AllGathered}
+use Rattle.interleaving.proofs.SoundStepLemmas.{infers-sound, becomes-sound, drops-gathered, asks-sound, stands-sound, AllGathered}
 use Rattle.interleaving.proofs.SeamLemmas.{AreAlike, front-sound}
 
 -- ends of scopes inside are passed by a scope that is not
@@ -54,13 +54,13 @@ module _ (clauses : List Clause) where
   m = scoped clauses
 
   module _ (inside : Name → Bool) (grown : IsGrown inside) (zs : List Element) (under : Each (IsUnder inside) zs) where
-    pub kept-zs : (r : Record) → inside r.0 ≡ true → (zs : List Element) → Each (IsUnder inside) zs → map (give r) zs ≡ zs
-    kept-zs r i [] h = refl
-    kept-zs r i (z ∷ zs) h = let head = kept_inside clauses inside r i z h.0 in let tail = kept-zs r i zs h.1 in cc
+    pub preserved-zs : (r : Record) → inside r.0 ≡ true → (zs : List Element) → Each (IsUnder inside) zs → map (give r) zs ≡ zs
+    preserved-zs r i [] h = refl
+    preserved-zs r i (z ∷ zs) h = let head = preserved_inside clauses inside r i z h.0 in let tail = preserved-zs r i zs h.1 in cc
 
-    kept-xs : (r : Record) → inside r.0 ≡ false → (xs : List Element) → Each (IsInner inside) xs → map (give r) xs ≡ xs
-    kept-xs r i [] h = refl
-    kept-xs r i (x ∷ xs) h = let head = inner-keeps clauses inside r x h.0 i in let tail = kept-xs r i xs h.1 in cc
+    preserved-xs : (r : Record) → inside r.0 ≡ false → (xs : List Element) → Each (IsInner inside) xs → map (give r) xs ≡ xs
+    preserved-xs r i [] h = refl
+    preserved-xs r i (x ∷ xs) h = let head = inner-preserves clauses inside r x h.0 i in let tail = preserved-xs r i xs h.1 in cc
 
     pub map-append : (r : Record) (xs ys : List Element) → map (give r) (xs ++ ys) ≡ map (give r) xs ++ map (give r) ys
     map-append r [] ys = refl
@@ -75,8 +75,9 @@ module _ (clauses : List Clause) where
     part-given r xs h i = go (inside r.0) refl
       where
         go : (t : Bool) → inside r.0 ≡ t → IsSound (map (give r) xs ++ zs)
-        go true e = subst IsSound (map-append r xs zs ∙ ap (λ l. map (give r) xs ++ l) (kept-zs r e zs under)) (sound-given r (xs ++ zs) i)
-        go false e = subst (λ l. IsSound (l ++ zs)) (sym (kept-xs r e xs h)) i
+        go true e = subst IsSound (map-append r xs zs ∙ ap (λ l. map (give r) xs ++ l) (preserved-zs r e zs under))
+            (sound-given r (xs ++ zs) i)
+        go false e = subst (λ l. IsSound (l ++ zs)) (sym (preserved-xs r e xs h)) i
 
     parts-given : (rs : List Record) (xs : List Element) → Each (IsInner inside) xs → IsSound (xs ++ zs)
         → IsSound (map (gives m rs) xs ++ zs) × Each (IsInner inside) (map (gives m rs) xs)
@@ -110,22 +111,22 @@ module _ (clauses : List Clause) where
     pub private-sound : (k : ℕ) (rs : List Record) (a b : List Element) → Private m (is_inner_record inside) k rs a b
         → Each (IsInner inside) a → IsSound (a ++ zs) → IsSound (b ++ zs) × AllGathered clauses zs rs
     private-sound k rs a b (private_none t) h i = (i, tt)
-    private-sound k rs a b (private_goes j x new os xs t e r) h i =
+    private-sound k rs a b (private_drops j x new os xs t e r) h i =
         let given = parts-given new xs h.1 (sound-tail x (xs ++ zs) i) in
         let next = private-sound j os (map (gives m new) xs) b r given.1 given.0 in (
           next.0,
           each-append (λ o. IsGathered zs o.0) (outer (is_inner_record inside) new) os
-              (gathered-under xs new h.1 (goes-gathered clauses x (xs ++ zs) new e i)) next.1,
+              (gathered-under xs new h.1 (drops-gathered clauses x (xs ++ zs) new e i)) next.1,
         )
-    private-sound k rs a b (private_stands j x new os xs t e f r) h i = private-sound j os (m.stands x ∷ xs) b r
+    private-sound k rs a b (private_remains j x new os xs t e f r) h i = private-sound j os (m.stands x ∷ xs) b r
         (inner_stands inside x h.0, h.1) (stands-sound clauses x (xs ++ zs) i)
-    private-sound k rs a b (private_wakes j x y os xs t e r) h i =
+    private-sound k rs a b (private_changes j x y os xs t e r) h i =
         private-sound j os (y ∷ xs) b r (subst InnerAct e ((inner_closed clauses inside grown).acts x h.0), h.1)
-        (wakes-sound clauses x y (xs ++ zs) e i)
-    private-sound k rs a b (private_takes j x p os xs t u e f r) h i =
+        (becomes-sound clauses x y (xs ++ zs) e i)
+    private-sound k rs a b (private_infers j x p os xs t u e f r) h i =
         private-sound j os t b r (private_inner clauses inside 1 [] (x ∷ xs) t grown h
-        (private_takes 0 x p [] xs t t e f (private_none t)))
-        (subst IsSound (placed-within m (under_ground clauses inside) p xs t zs f) (takes-sound clauses x p (xs ++ zs) e i))
+        (private_infers 0 x p [] xs t t e f (private_none t)))
+        (subst IsSound (placed-within m (under_ground clauses inside) p xs t zs f) (infers-sound clauses x p (xs ++ zs) e i))
 
   findalls-after : (P : Name → Type 0) (xs zs : List Element) → EachFindall P (xs ++ zs) → EachFindall P zs
   findalls-after P [] zs h = h
@@ -152,7 +153,7 @@ module _ (clauses : List Clause) where
   all-gathered inside b zs (r ∷ rs) h o g =
       (gathered-moved zs (b ++ zs) r.0 (from-inner inside b zs r.0 h o.0) g.0, all-gathered inside b zs rs h o.1 g.1)
 
-  alike_lists : (inside : Name → Bool) (a b zs : List Element) → 0 < count a → Each (IsInner inside) a → Each (IsInner inside) b
+  alike_lists : (inside : Name → Bool) (a b zs : List Element) → 0 < element_count a → Each (IsInner inside) a → Each (IsInner inside) b
       → IsSound (b ++ zs) → AreAlike inside (a ++ zs) (b ++ zs) zs
   alike_lists inside a b zs some own inner i = record {
     old = λ s h. from-inner inside a zs s own h;
@@ -165,7 +166,7 @@ module _ (clauses : List Clause) where
     sound = i;
   }
     where
-      count-after : (xs ls : List Element) → count (xs ++ ls) ≡ count xs + count ls
+      count-after : (xs ls : List Element) → element_count (xs ++ ls) ≡ element_count xs + element_count ls
       count-after [] ls = omega arith
       count-after (EndOf e ∷ xs) ls = count-after xs ls
       count-after (Credit k rs ∷ xs) ls = omega (arith, count-after xs ls)
@@ -174,7 +175,7 @@ module _ (clauses : List Clause) where
       count-after (Findall e u results list p f ∷ xs) ls = omega (arith, count-after xs ls)
       count-after (End p b ∷ xs) ls = omega (arith, count-after xs ls)
 
-      first_catch : (a : List Element) → Each (IsInner inside) a → 0 < count a
+      first_catch : (a : List Element) → Each (IsInner inside) a → 0 < element_count a
           → (s u : Name) (c r : Term) (p : Name) (f : Continuation Name) (t : List Element) → IsApart inside s → a ++ zs
           ≡ Catch s u c r p f ∷ t → ⊥
       first_catch [] own some s u c r p f t h e = absurd (omega arith)
@@ -182,7 +183,7 @@ module _ (clauses : List Clause) where
           let here : x ≡ Catch s u c r p f = cc in
           false≢true (sym h ∙ (subst (IsInner inside) here own.0).0)
 
-      first_findall : (a : List Element) → Each (IsInner inside) a → 0 < count a → (s u : Name) (results : List Term) (list : Term)
+      first_findall : (a : List Element) → Each (IsInner inside) a → 0 < element_count a → (s u : Name) (results : List Term) (list : Term)
           (p : Name) (f : Continuation Name) (t : List Element) → IsApart inside s → a ++ zs ≡ Findall s u results list p f ∷ t → ⊥
       first_findall [] own some s u results list p f t h e = absurd (omega arith)
       first_findall (x ∷ xs) own some s u results list p f t h e =
@@ -208,7 +209,7 @@ module _ (clauses : List Clause) where
       let y : Element = Plain p after in
       let left : IsSound ((y ∷ EndOf h ∷ []) ++ zs) = subst IsSound
       (placed-within m (under_ground clauses inside) (Seek (Scope h y)) mid (y ∷ EndOf h ∷ []) zs found)
-      (takes-sound clauses (Plain p f) (Seek (Scope h y)) (mid ++ zs) e (sound-after pre ((Plain p f ∷ mid) ++ zs) i)) in
+      (infers-sound clauses (Plain p f) (Seek (Scope h y)) (mid ++ zs) e (sound-after pre ((Plain p f ∷ mid) ++ zs) i)) in
       sound_exchange inside pre (Plain p f ∷ mid) (Credit 1 [] ∷ y ∷ EndOf h ∷ []) zs s.front s.own
       (tt, (s.own.0, (end_inside clauses inside h y mid found s.own.1, tt))) (omega arith) i (tt, left)
 
@@ -249,7 +250,7 @@ module _ (clauses : List Clause) where
       (PlaceOk m (IsInner inside) (IsSoughtInner clauses inside) (IsAnyRecord clauses inside)) put (act_inner w) in
       sound_exchange inside xs (x ∷ []) (Credit 1 [] ∷ ys) zs s.front s.own (tt, inner) (counts x e) i (tt, left)
     where
-      counts : (x : Element) → act clauses x ≡ Asks g → 0 < count (x ∷ [])
+      counts : (x : Element) → act clauses x ≡ AsksWorld g → 0 < element_count (x ∷ [])
       counts (EndOf s) f = absurd cc
       counts (Credit k rs) f = omega arith
       counts (Plain p k) f = omega arith

@@ -6,14 +6,11 @@ use Rattle.au_model.specs.Terms.Each.{Each}
 use Rattle.tree_model.specs.Nodes.{Kind, Node, Numbered, Alternatives, none, alternative, Status, Pending, Inner, Closed}
 use Rattle.tree_model.specs.Levels.{Level, Place, same_place, Spot, place_of_spot, pending_in, pending_among, pending_below, pending_of}
 use Rattle.tree_model.specs.SoundTrees.{one_if, count_in, count_among, count_below, IsSoundTree}
-use Rattle.tree_model.specs.TreeStates.{TreeState, leftmost, first_spot, pending}
+use Rattle.tree_model.specs.TreeStates.{TreeState, leftmost, first_spot, pending_spots}
 use Rattle.tree_model.specs.Legality.{is_spot_at, is_taken_by, taken_at}
 use Rattle.interleaving.proofs.AppendLemmas.{found, each-append, each-more}
-use Rattle.interleaving.proofs.OpenSpotLemmas.{both_right}
-use Rattle.interleaving.proofs.WayLemmas.{same_self}
-
-clash : {A : Type 0} → false ≡ true → A
-clash h = let no_way : ⊥ = cc in absurd no_way
+use Rattle.interleaving.proofs.TestLemmas.{false_true, number_same}
+use Rattle.au_term.proofs.LogicLemmas.{and-right}
 
 -- the place of a spot, by its numbers
 abbrev IsAtPlace : ℕ → ℕ → Spot → Type 0
@@ -27,7 +24,7 @@ abbrev IsBelow : ℕ → ℕ → Status → Spot → Type 0
 IsBelow n i status s = IsAtPlace n i s ⊎ (1 ≤ count_below s.level.number status)
 
 one-self : (n : ℕ) → one_if (n == n) ≡ 1
-one-self n = ap one_if (same_self n)
+one-self n = ap one_if (number_same n)
 
 mutual
   spots_in : (up : List Level) (node : Node) → Each (λ s. 1 ≤ count_in s.level.number node) (pending_in up node)
@@ -124,17 +121,17 @@ same_numbers a b h = go (a.node == b.node) refl (a.index == b.index) refl h
     go : (x : Bool) → (a.node == b.node) ≡ x → (y : Bool) → (a.index == b.index) ≡ y → (x && y) ≡ true
         → (a.node ≡ b.node) × (a.index ≡ b.index)
     go true e true f z = (grind arith, grind arith)
-    go true e false f z = clash z
-    go false e y f z = clash z
+    go true e false f z = false_true z
+    go false e y f z = false_true z
 
 -- an alternative that is out, at the place of the leftmost pending one, is that one
 pub taken_first : (t : TreeState) (w : ℕ) (a : Place) (s : Spot) → IsSoundTree t → taken_at w a t ≡ Some s → is_spot_at a (leftmost t)
     ≡ true → leftmost t ≡ Some s
-taken_first t w a s h f l = go (pending t) refl f l
+taken_first t w a s h f l = go (pending_spots t) refl f l
   where
-    go : (spots : List Spot) → pending t ≡ spots → find (λ r. is_taken_by w r.hold && same_place a (place_of_spot r)) spots ≡ Some s
+    go : (spots : List Spot) → pending_spots t ≡ spots → find (λ r. is_taken_by w r.hold && same_place a (place_of_spot r)) spots ≡ Some s
         → is_spot_at a (first_spot spots) ≡ true → first_spot spots ≡ Some s
-    go [] p f l = clash l
+    go [] p f l = false_true l
     go (r ∷ ss) p f l = pick (is_taken_by w r.hold && same_place a (place_of_spot r)) f
       where
         differs : Each (Differs r) ss
@@ -146,5 +143,5 @@ taken_first t w a s h f l = go (pending t) refl f l
         pick false z =
             let k = found (Differs r) (λ x. is_taken_by w x.hold && same_place a (place_of_spot x)) ss s differs z in
             let here = same_numbers a (place_of_spot r) l in
-            let there = same_numbers a (place_of_spot s) (both_right (is_taken_by w s.hold) _ k.passes) in
+            let there = same_numbers a (place_of_spot s) (and-right (is_taken_by w s.hold) _ k.passes) in
             absurd (k.holds (sym here.0 ∙ there.0) (sym here.1 ∙ there.1))

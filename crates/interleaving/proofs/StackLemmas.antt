@@ -11,9 +11,10 @@ use Rattle.run_model.specs.Machine.Entries.{Entry, PlainEntry, CatchEntry, Finda
 use Rattle.tree_model.specs.Shapes.{guard_kind}
 use Rattle.tree_model.specs.PendingLists.{Step, Way}
 use Rattle.tree_model.specs.Ways.{is_on, is_barrier, in_reach, way_from, way_above, AreScoped, under_query, IsAsked}
-use Rattle.interleaving.proofs.WayLemmas.{cond-true, cond-false, below_new, same_self}
-use Rattle.interleaving.proofs.RoundtripLemmas.{not_same, IsPath, weaken_from, weaken_above}
+use Rattle.interleaving.proofs.WayLemmas.{cond-true, cond-false, below_new}
+use Rattle.interleaving.proofs.RoundtripLemmas.{IsPath, weaken_from, weaken_above}
 use Rattle.interleaving.proofs.CollapseLemmas.{as_scopes}
+use Rattle.interleaving.proofs.TestLemmas.{not_equal, number_same}
 
 -- nodes are named by heights
 abbrev pub IsCounted : Way → Type 0
@@ -22,7 +23,7 @@ IsCounted (a ∷ way) = (a.node ≡ suc (length way)) × IsCounted way
 
 pub above_counted : (way : Way) (n : ℕ) → IsCounted way → suc (length way) ≤ n → is_on way n ≡ false
 above_counted [] n c l = refl
-above_counted (a ∷ way) n c l = cond-false (a.node == n) true (is_on way n) (not_same a.node n (omega (arith, c.0, l)))
+above_counted (a ∷ way) n c l = cond-false (a.node == n) true (is_on way n) (not_equal a.node n (omega (arith, c.0, l)))
     ∙ above_counted way n c.1 (omega arith)
 
 pub counted_path : (way : Way) → IsCounted way → IsPath way
@@ -81,11 +82,11 @@ marks_scopes way (RemovalItem number ∷ items) p h = h
 -- the topmost node is in reach
 pub top_reach : (way : Way) (n : ℕ) → IsCounted way → n ≡ length way → under_query way ≡ true → in_reach way n ≡ true
 top_reach [] n c e u = u
-top_reach (a ∷ way) n c e u = cond-true (a.node == n) true _ (ap (λ m. m == n) (c.0 ∙ sym e) ∙ same_self n)
+top_reach (a ∷ way) n c e u = cond-true (a.node == n) true _ (ap (λ m. m == n) (c.0 ∙ sym e) ∙ number_same n)
 
 pub top_from : (way : Way) (n : ℕ) → IsCounted way → n ≡ length way → way_from way n ≡ way
 top_from [] n c e = refl
-top_from (a ∷ way) n c e = cond-true (a.node == n) (a ∷ way) (way_from way n) (ap (λ m. m == n) (c.0 ∙ sym e) ∙ same_self n)
+top_from (a ∷ way) n c e = cond-true (a.node == n) (a ∷ way) (way_from way n) (ap (λ m. m == n) (c.0 ∙ sym e) ∙ number_same n)
 
 pub top_goals : (way : Way) (n : ℕ) → IsCounted way → n ≡ length way → under_query way ≡ true → (gs : List Term) (items : List (Item ℕ))
     → AreScoped way (as_scopes items) → AreScoped way (as_scopes (goals_at n gs ++ items))
@@ -153,11 +154,11 @@ over_plain w (EndEntry b ∷ new) es items c p h = absurd p
 over_plain w (CatchEntry x r f ∷ new) es items c p h = absurd p
 over_plain w (FindallEntry results l f ∷ new) es items c p h = absurd p
 
-unified_plain : (o : Option Substitution) (f : Continuation ℕ) (new : List Entry) → ArePlain new → ArePlain (unified o f ++ new)
+pub unified_plain : (o : Option Substitution) (f : Continuation ℕ) (new : List Entry) → ArePlain new → ArePlain (unified o f ++ new)
 unified_plain None f new p = p
 unified_plain (Some s) f new p = p
 
-solutions_plain : (n : ℕ) (f : Continuation ℕ) (ss : List Solution) → ArePlain (solution_entries n f ss)
+pub solutions_plain : (n : ℕ) (f : Continuation ℕ) (ss : List Solution) → ArePlain (solution_entries n f ss)
 solutions_plain n f [] = tt
 solutions_plain n f (s ∷ ss) = unified_plain (unifier s.equations) _ (solution_entries n f ss) (solutions_plain n f ss)
 
@@ -189,7 +190,7 @@ from_stack w es h zero c e l = top_from (stack_way es w) h (counted_stack es w c
 from_stack w [] h (suc k) c e l = let no_way : ⊥ = omega arith in absurd no_way
 from_stack w (x ∷ es) h (suc k) c e l =
     let other : (suc (length es + length w) == h) ≡ false = flip_same h (suc (length es + length w))
-    (not_same h (suc (length es + length w)) (omega (arith, e))) in
+    (not_equal h (suc (length es + length w)) (omega (arith, e))) in
     cond-false (suc (length es + length w) == h) _ (way_from (stack_way es w) h) other
     ∙ from_stack w es h k c (omega (arith, e)) (omega arith)
   where
@@ -198,7 +199,7 @@ from_stack w (x ∷ es) h (suc k) c e l =
       where
         go : (b : Bool) → (n == m) ≡ b → b ≡ false
         go false z = refl
-        go true z = let same : n ≡ m = grind arith in let no_way : ⊥ = cc (same_self m) in absurd no_way
+        go true z = let same : n ≡ m = grind arith in let no_way : ⊥ = cc (number_same m) in absurd no_way
 
 -- a query stays the innermost one
 pub stack_asked : (es : List Entry) (w : Way) → under_query (stack_way es w) ≡ under_query w

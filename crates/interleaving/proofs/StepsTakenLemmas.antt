@@ -3,7 +3,8 @@ use Rattle.std.proofs.Common.{◌≡◌, ℕ, Bool, true, false, cond, List, [],
 use Rattle.std.specs.Prelude.{nat_lt}
 use Rattle.run_model.specs.Programs.Clauses.{Clause}
 use Rattle.run_model.specs.Programs.Databases.{Database, without_clause}
-use Rattle.run_model.specs.Goals.Outcomes.{Reply, Solutions, Ball, HaltNumber, ControlForm, GoesOnWith, EitherOf, TestOf, CutToScope, CatchOf}
+use Rattle.run_model.specs.Goals.Outcomes.{Reply, Solutions, Ball, HaltNumber, ControlForm, GoesOnWith, EitherOf, TestOf, CutToScope}
+use Rattle.run_model.specs.Goals.Outcomes.{CatchOf}
 use Rattle.run_model.specs.Goals.Outcomes.{FindallOf, Outcome, Replies, Controls, AskWorld}
 use Rattle.run_model.specs.Goals.GoalOutcomes.{outcome_of}
 use Rattle.run_model.specs.Goals.Worlds.{World, world_step}
@@ -45,8 +46,7 @@ item_step clauses levels (GoalItem t m ∷ items) f es st e left h =
     let k = goal_step clauses levels (outcome_of clauses t f.next) m (with_items items f) es st e in
     (k.0 ∙ some_is h, k.1)
 
-pub private_is_step : (clauses : List Clause) (levels : List Level) (st : State) (f : Continuation ℕ) (es : List Entry)
-    → PrivateIsStep clauses levels st f es
+pub private_is_step : PrivateIsStep
 unfolding step
 private_is_step clauses levels st f es m e left h =
     item_step clauses levels f.items f es (record st { entries = PlainEntry f ∷ es })
@@ -99,8 +99,7 @@ item_front clauses levels (RemovalItem n ∷ items) f es st e = removal_front (w
 item_front clauses levels (GoalItem t m ∷ items) f es st e = goal_front clauses levels (outcome_of clauses t f.next) m
     (with_items items f) es st e
 
-pub front_is_step : (clauses : List Clause) (levels : List Level) (st : State) (f : Continuation ℕ) (es : List Entry)
-    → FrontIsStep clauses levels st f es
+pub front_is_step : FrontIsStep
 unfolding step
 front_is_step clauses levels st f es m e =
     subst (λ items. ((item_taken clauses f.items f es (record st { entries = PlainEntry f ∷ es })).entries
@@ -111,9 +110,9 @@ front_is_step clauses levels st f es m e =
     (ap (λ items. item_gate clauses levels items f es) (sym m) ∙ e))
 
 -- who holds an entry is not seen in the list
-pub held_list : (levels : List Level) (h k : Hold) (e : Entry) → profile (Pending h e) ≡ IsOpen → profile (Pending k e) ≡ IsOpen
+pub hold_list : (levels : List Level) (h k : Hold) (e : Entry) → profile (Pending h e) ≡ IsOpen → profile (Pending k e) ≡ IsOpen
     → pending_list (plug levels (Pending h e)) ≡ pending_list (plug levels (Pending k e))
-held_list levels h k e o p =
+hold_list levels h k e o p =
     around levels (Pending h e)
     ∙ (ap (λ credit. front_of levels ++ ((credit ++ element_on (way_of levels) e ∷ []) ++ back_of levels))
     (one_credit h e (spent_at levels) o ∙ sym (one_credit k e (spent_at levels) p)) ∙ sym (around levels (Pending k e)))

@@ -9,7 +9,7 @@ use Rattle.tree_model.specs.Credits.{Credit as TreeCredit}
 use Rattle.tree_model.specs.Nodes.{Kind, Status, Pending, Inner, Closed}
 use Rattle.tree_model.specs.Levels.{Level}
 use Rattle.tree_model.specs.Orders.{credits_left, levels_below}
-use Rattle.tree_model.specs.Pruning.{is_findall, kept_records, left_after}
+use Rattle.tree_model.specs.Pruning.{is_findall, remaining_records, left_after}
 use Rattle.tree_model.specs.Credits.{without_records}
 use Rattle.tree_model.specs.PendingLists.{Way, way_of, findall_on, list_left, level_front, front_of, back_of}
 use Rattle.tree_model.specs.SoundTrees.{one_if, count_among, IsOpen}
@@ -21,19 +21,16 @@ use Rattle.interleaving.specs.Views.{IsBlind, IsUnder, IsItemApart, IsRecordApar
 use Rattle.interleaving.specs.Segments.{outer}
 use Rattle.interleaving.specs.Laws.{is_inner_record}
 use Rattle.interleaving.proofs.ContextLemmas.{IsAround, count_left, count_around}
-use Rattle.interleaving.proofs.WayLemmas.{cond-true, same_self}
-use Rattle.interleaving.proofs.AppendLemmas.{append-assoc}
-use Rattle.interleaving.proofs.RunFrontLemmas.{append-none}
+use Rattle.interleaving.proofs.WayLemmas.{cond-true}
+use Rattle.interleaving.proofs.AppendLemmas.{append-assoc, append-nil}
 use Rattle.interleaving.proofs.AloneLemmas.{outer-append}
 use Rattle.interleaving.proofs.BlindLemmas.{of_node, front_blind, back_blind}
 use Rattle.interleaving.proofs.ClockLemmas.{AreShut, AreClear}
-use Rattle.interleaving.proofs.FoldLemmas.{LeftSides, SidesKept, side_name, named_by, named-append, records-append, closed_records}
+use Rattle.interleaving.proofs.FoldLemmas.{LeftSides, HaveNoSideRecords, side_name, named_by, named-append, records-append, closed_records}
 use Rattle.interleaving.proofs.ListEndLemmas.{levels_down}
-use Rattle.interleaving.proofs.BallLevelLemmas.{landed, clear_step, FirstShut}
+use Rattle.interleaving.proofs.BallLevelLemmas.{ball_credit, clear_step, FirstShut}
 use Rattle.interleaving.proofs.LowerListLemmas.{lower_front, count_lower}
-
-clash : {A : Type 0} → false ≡ true → A
-clash h = let no_way : ⊥ = cc in absurd no_way
+use Rattle.interleaving.proofs.TestLemmas.{false_true, number_same}
 
 -- names of nodes among some, from those of each
 module _ (ok : ℕ → Bool) where
@@ -43,7 +40,7 @@ module _ (ok : ℕ → Bool) where
     where
       go : (b : Bool) → ok i ≡ b → b ≡ false
       go false e = refl
-      go true e = clash (sym (f i e) ∙ same_self i)
+      go true e = false_true (sym (f i e) ∙ number_same i)
   apart_all (i ∷ j ∷ s) f = apart_all (j ∷ s) f
 
   items_all : (is : List (Item Name)) → ((m : ℕ) → ok m ≡ true → Each (IsItemApart (of_node m)) is) → Each (IsItemApart (rooted ok)) is
@@ -129,7 +126,7 @@ upper_findall up = named up (λ m. refl)
         go (v ∷ rest) k = pick (is_findall v.kind) (length v.left == 0) (go rest (λ m l. k m (omega (arith, l))))
           where
             mine : 1 ≤ count_around v.number up
-            mine = k v.number (let z : one_if (v.number == v.number) ≡ 1 = ap one_if (same_self v.number) in omega (arith, z))
+            mine = k v.number (let z : one_if (v.number == v.number) ≡ 1 = ap one_if (number_same v.number) in omega (arith, z))
 
             pick : (b c : Bool) → rooted (is_free_of up) (findall_on (way_of rest)) ≡ false
                 → rooted (is_free_of up) (cond b (cond c (0 ∷ v.number ∷ []) (findall_on (way_of rest))) (findall_on (way_of rest)))
@@ -142,13 +139,13 @@ upper_findall up = named up (λ m. refl)
 left_rows : (way : Way) (n : ℕ) (kind : Kind) (left : List (ℕ × Status)) → LeftSides kind left → AreShut left
     → records (list_left way n kind left) ≡ named_by way (credits_left left).records
 left_rows way n kind [] s k = refl
-left_rows way n kind ((sp, Pending hold e) ∷ left) s k = clash k.0
-left_rows way n kind ((sp, Inner node) ∷ left) s k = clash k.0
+left_rows way n kind ((sp, Pending hold e) ∷ left) s k = false_true k.0
+left_rows way n kind ((sp, Inner node) ∷ left) s k = false_true k.0
 left_rows way n kind ((sp, Closed c) ∷ left) s k =
     records-append (list_left way n kind left) _
     ∙ (ap (λ l. l ++ (named_by (record { node = n; index = length left; kind = kind } ∷ way) c.records ++ []))
     (left_rows way n kind left s.1 k.1)
-    ∙ (ap (λ l. named_by way (credits_left left).records ++ l) (append-none _ ∙ closed_records way n (length left) kind c.records s.0)
+    ∙ (ap (λ l. named_by way (credits_left left).records ++ l) (append-nil _ ∙ closed_records way n (length left) kind c.records s.0)
     ∙ sym (named-append way (credits_left left).records c.records)))
 
 -- records of one name
@@ -171,22 +168,22 @@ abbrev pub NoSideTop : List Level → Type 0
 NoSideTop [] = Unit {0}
 NoSideTop (v ∷ up) = is_side v.kind (length v.left) ≡ false
 
-kept_same : (v : Level) (c : TreeCredit) → is_side v.kind (length v.left) ≡ false → (kept_records v c).records ≡ c.records
-kept_same v c h = go v.left refl (is_findall v.kind) refl
+remaining_same : (v : Level) (c : TreeCredit) → is_side v.kind (length v.left) ≡ false → (remaining_records v c).records ≡ c.records
+remaining_same v c h = go v.left refl (is_findall v.kind) refl
   where
     go : (left : List (ℕ × Status)) → v.left ≡ left → (b : Bool) → is_findall v.kind ≡ b
         → (elim left as (λ l. TreeCredit) [ [] ↦ cond b (without_records c) c | a ∷ rest ↦ c ]).records ≡ c.records
     go [] q false e = refl
     go (a ∷ rest) q b e = refl
-    go [] q true e = clash (sym h ∙ (ap (λ b. b && (length v.left == 0)) e ∙ ap (λ l. true && (length l == 0)) q))
+    go [] q true e = false_true (sym h ∙ (ap (λ b. b && (length v.left == 0)) e ∙ ap (λ l. true && (length l == 0)) q))
 
-kept_gone : (v : Level) (c : TreeCredit) → is_side v.kind (length v.left) ≡ true
-    → ((kept_records v c).records ≡ []) × (is_findall v.kind ≡ true) × ((length v.left == 0) ≡ true)
-kept_gone v c h = go v.left refl (is_findall v.kind) refl
+remaining_gone : (v : Level) (c : TreeCredit) → is_side v.kind (length v.left) ≡ true
+    → ((remaining_records v c).records ≡ []) × (is_findall v.kind ≡ true) × ((length v.left == 0) ≡ true)
+remaining_gone v c h = go v.left refl (is_findall v.kind) refl
   where
     second : (x y : Bool) → (x && y) ≡ true → y ≡ true
     second true y z = z
-    second false y z = clash z
+    second false y z = false_true z
 
     not_first : (n : ℕ) → (suc n == 0) ≡ true → ⊥
     not_first n z = grind arith
@@ -195,7 +192,7 @@ kept_gone v c h = go v.left refl (is_findall v.kind) refl
         → ((elim left as (λ l. TreeCredit) [ [] ↦ cond b (without_records c) c | a ∷ rest ↦ c ]).records ≡ [])
         × (is_findall v.kind ≡ true) × ((length v.left == 0) ≡ true)
     go [] q true e = (refl, e, ap (λ l. length l == 0) q)
-    go [] q false e = clash (sym (ap (λ b. b && (length v.left == 0)) e) ∙ h)
+    go [] q false e = false_true (sym (ap (λ b. b && (length v.left == 0)) e) ∙ h)
     go (a ∷ rest) q b e = absurd (not_first (length rest)
         (sym (ap (λ l. length l == 0) q) ∙ second (is_findall v.kind) (length v.left == 0) h))
 
@@ -204,14 +201,15 @@ module _ (inside : Name → Bool) where
   abbrev out : List Record → List Record
   out rs = outer (is_inner_record inside) rs
 
-  pub landed_rows : (s : ℕ) (levels : List Level) (c : TreeCredit) → AreClear (levels_below (Some s) levels) → SidesKept levels
+  pub ball_credit_rows : (s : ℕ) (levels : List Level) (c : TreeCredit) → AreClear (levels_below (Some s) levels) → HaveNoSideRecords levels
       → FirstShut (levels_down levels s) → NoSideTop (levels_down levels s) → inside (findall_on (way_of (levels_down levels s)))
       ≡ false
       → ((m : ℕ) → 1 ≤ count_lower m s levels → inside (0 ∷ m ∷ []) ≡ true)
       → outer (is_inner_record inside) (records (lower_front s levels) ++ named_by (way_of levels) c.records)
-      ≡ named_by (way_of (levels_down levels s)) (landed s levels c).records
-  landed_rows s [] c k d f n o i = outer_out inside [] o c.records
-  landed_rows s (v ∷ up) c k d f n o i = go (v.number == s) refl f n o i (λ a b e g h. landed_rows s up (left_after v c) a d.1 b e g h)
+      ≡ named_by (way_of (levels_down levels s)) (ball_credit s levels c).records
+  ball_credit_rows s [] c k d f n o i = outer_out inside [] o c.records
+  ball_credit_rows s (v ∷ up) c k d f n o i = go (v.number == s) refl f n o i
+      (λ a b e g h. ball_credit_rows s up (left_after v c) a d.1 b e g h)
     where
       go : (b : Bool) → (v.number == s) ≡ b → FirstShut (cond b (v ∷ up) (levels_down up s))
           → NoSideTop (cond b (v ∷ up) (levels_down up s)) → inside (findall_on (way_of (cond b (v ∷ up) (levels_down up s)))) ≡ false
@@ -221,15 +219,15 @@ module _ (inside : Name → Bool) where
           → inside (findall_on (way_of (levels_down up s))) ≡ false
           → ((m : ℕ) → 1 ≤ count_lower m s up → inside (0 ∷ m ∷ []) ≡ true)
           → outer (is_inner_record inside) (records (lower_front s up) ++ named_by (way_of up) (left_after v c).records)
-          ≡ named_by (way_of (levels_down up s)) (landed s up (left_after v c)).records)
+          ≡ named_by (way_of (levels_down up s)) (ball_credit s up (left_after v c)).records)
           → outer (is_inner_record inside)
           (records (cond b [] (lower_front s up ++ level_front up v)) ++ named_by (way_of (v ∷ up)) c.records)
           ≡ named_by (way_of (cond b (v ∷ up) (levels_down up s)))
-          (cond b (left_after v c) (landed s up (left_after v c))).records
+          (cond b (left_after v c) (ball_credit s up (left_after v c))).records
       go true e z y x j more =
           outer_out inside (findall_on (way_of (v ∷ up))) x c.records
           ∙ ap (named_by (way_of (v ∷ up)))
-          (sym (ap (λ l. (credits_left l).records ++ ([] ++ (kept_records v c).records)) z ∙ kept_same v c y))
+          (sym (ap (λ l. (credits_left l).records ++ ([] ++ (remaining_records v c).records)) z ∙ remaining_same v c y))
       go false e z y x j more =
           let shut = clear_step s v up e k in
           let rows = left_rows (way_of up) v.number v.kind v.left d.0 shut.0 in
@@ -239,33 +237,33 @@ module _ (inside : Name → Bool) where
           let joined : records (lower_front s up ++ level_front up v) ≡ lower ++ left = records-append (lower_front s up)
           (level_front up v) ∙ ap (λ l. lower ++ l) rows in
           let own : inside (0 ∷ v.number ∷ [])
-          ≡ true = j v.number (let q : one_if (v.number == v.number) ≡ 1 = ap one_if (same_self v.number) in omega (arith, q)) in
-          let all : (left_after v c).records ≡ (credits_left v.left).records ++ (kept_records v c).records = refl in
+          ≡ true = j v.number (let q : one_if (v.number == v.number) ≡ 1 = ap one_if (number_same v.number) in omega (arith, q)) in
+          let all : (left_after v c).records ≡ (credits_left v.left).records ++ (remaining_records v c).records = refl in
           let split : lower ++ named_by (way_of up) (left_after v c).records
-          ≡ lower ++ (left ++ named_by (way_of up) (kept_records v c).records) = ap (λ l. lower ++ l)
-          (named-append (way_of up) (credits_left v.left).records (kept_records v c).records) in
+          ≡ lower ++ (left ++ named_by (way_of up) (remaining_records v c).records) = ap (λ l. lower ++ l)
+          (named-append (way_of up) (credits_left v.left).records (remaining_records v c).records) in
           ap (λ l. out (l ++ mine)) joined
           ∙ (ap out (append-assoc lower left mine)
-          ∙ (kept_part lower left own
+          ∙ (remaining_part lower left own
           ∙ (ap out (sym split) ∙ more shut.1 z y x (λ m l. j m (omega (arith, l))))))
         where
-          kept_part : (lower left : List Record) → inside (0 ∷ v.number ∷ []) ≡ true
+          remaining_part : (lower left : List Record) → inside (0 ∷ v.number ∷ []) ≡ true
               → out (lower ++ (left ++ named_by (way_of (v ∷ up)) c.records))
-              ≡ out (lower ++ (left ++ named_by (way_of up) (kept_records v c).records))
-          kept_part lower left own =
+              ≡ out (lower ++ (left ++ named_by (way_of up) (remaining_records v c).records))
+          remaining_part lower left own =
               outer-append (is_inner_record inside) lower (left ++ named_by (way_of (v ∷ up)) c.records)
               ∙ (ap (λ l. out lower ++ l) (outer-append (is_inner_record inside) left (named_by (way_of (v ∷ up)) c.records)
               ∙ (ap (λ l. out left ++ l) (side (is_side v.kind (length v.left)) refl)
-              ∙ sym (outer-append (is_inner_record inside) left (named_by (way_of up) (kept_records v c).records))))
-              ∙ sym (outer-append (is_inner_record inside) lower (left ++ named_by (way_of up) (kept_records v c).records)))
+              ∙ sym (outer-append (is_inner_record inside) left (named_by (way_of up) (remaining_records v c).records))))
+              ∙ sym (outer-append (is_inner_record inside) lower (left ++ named_by (way_of up) (remaining_records v c).records)))
             where
               side : (b : Bool) → is_side v.kind (length v.left) ≡ b → out (named_by (way_of (v ∷ up)) c.records)
-                  ≡ out (named_by (way_of up) (kept_records v c).records)
+                  ≡ out (named_by (way_of up) (remaining_records v c).records)
               side false q = ap (λ (name : Name). out (map {B = Record} (λ t. (name, t)) c.records))
                   (side_name (way_of up) v.number (length v.left) v.kind q)
-                  ∙ ap (λ ts. out (named_by (way_of up) ts)) (sym (kept_same v c q))
+                  ∙ ap (λ ts. out (named_by (way_of up) ts)) (sym (remaining_same v c q))
               side true q =
-                  let g = kept_gone v c q in
+                  let g = remaining_gone v c q in
                   let name : findall_on (way_of (v ∷ up)) ≡ 0 ∷ v.number ∷ [] = cond-true (is_findall v.kind) _ _ g.1
                   ∙ cond-true (length v.left == 0) _ _ g.2 in
                   ap (λ (x : Name). out (map {B = Record} (λ t. (x, t)) c.records)) name

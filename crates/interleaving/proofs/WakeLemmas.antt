@@ -16,7 +16,7 @@ use Rattle.interleaving.specs.Sound.{IsSound}
 use Rattle.interleaving.specs.Erased.{erased}
 use Rattle.interleaving.specs.Follows.{lead, Follows}
 use Rattle.interleaving.proofs.ContextLemmas.{IsAround, count_around}
-use Rattle.interleaving.proofs.WayLemmas.{same_self, one_if-zero}
+use Rattle.interleaving.proofs.WayLemmas.{one_if-zero}
 use Rattle.interleaving.proofs.AppendLemmas.{append-assoc, each-append}
 use Rattle.interleaving.proofs.RunHeightLemmas.{names_are_free}
 use Rattle.interleaving.proofs.ListChangeLemmas.{no_credit}
@@ -24,6 +24,7 @@ use Rattle.interleaving.proofs.LeadLemmas.{lead-grows}
 use Rattle.interleaving.proofs.BlindLemmas.{of_node, beside, front_blind, records_apart, off_levels}
 use Rattle.interleaving.proofs.RenameLemmas.{same_front, end_put}
 use Rattle.interleaving.proofs.ClosingListLemmas.{Guards, closed_list, EndWakes}
+use Rattle.interleaving.proofs.TestLemmas.{number_same}
 
 -- the list after a first alternative, for what is second
 pub second_right : (v : Level) (up : List Level) (spent : ℕ) (status : Status) → v.left ≡ [] → v.right ≡ alternative spent status none
@@ -88,7 +89,7 @@ end_wakes clauses next v up c b g a d fresh i j =
     (fresh_blind next v up c a fresh) (beside next 1 n (not_next next v up fresh), tt) in
     let put : erased (pre ++ (old ∷ zs)) ≡ erased (pre ++ (old ∷ (EndOf (0 ∷ next ∷ []) ∷ zs))) = ap erased
     (sym (append-assoc pre (old ∷ []) zs))
-    ∙ (end_put next 0 (pre ++ (old ∷ [])) zs (same_self next) blind
+    ∙ (end_put next 0 (pre ++ (old ∷ [])) zs (number_same next) blind
     ∙ ap erased (append-assoc pre (old ∷ []) (EndOf (0 ∷ next ∷ []) ∷ zs))) in
     let named = (same_front pre (old ∷ (EndOf (0 ∷ next ∷ []) ∷ zs)) (new ∷ (EndOf (0 ∷ next ∷ []) ∷ zs))
     (record { entries = refl; counts = refl; heights = λ s. refl })).entries in

@@ -80,20 +80,6 @@ below_new a way (CollectMark t s ∷ items) n b h =
     (reach, subst (λ w. AreScoped w items) (sym rest) h.1)
 below_new a way (RemovalItem number ∷ items) n b h = below_new a way items n b h
 
-pub same_self : (n : ℕ) → (n == n) ≡ true
-same_self n = go (n == n) refl
-  where
-    go : (b : Bool) → (n == n) ≡ b → b ≡ true
-    go true e = refl
-    go false e = let no_way : ⊥ = grind arith in absurd no_way
-
-pub unlike : (m n : ℕ) → (m == n) ≡ false → (n == m) ≡ false
-unlike m n h = go (n == m) refl
-  where
-    go : (b : Bool) → (n == m) ≡ b → b ≡ false
-    go false e = refl
-    go true e = let same : n ≡ m = grind arith in let no_way : ⊥ = cc (same_self m) in absurd no_way
-
 pub cond-same : {A : Type 0} → (b : Bool) (x y : A) → y ≡ x → cond b x y ≡ x
 cond-same true x y h = refl
 cond-same false x y h = h

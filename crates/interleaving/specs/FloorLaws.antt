@@ -8,13 +8,15 @@ use Rattle.interleaving.specs.Sound.{IsPresent, IsSound}
 use Rattle.interleaving.specs.OwnRuns.{IsFloor}
 
 -- scopes that have one height in the floor have one in the other list
-abbrev pub Tells : List Element → List Element → Type 0
-Tells floor zs = (s t : Name) → IsPresent floor s → IsPresent floor t → height floor s ≡ height floor t → height zs s ≡ height zs t
+abbrev pub RespectsHeights : List Element → List Element → Type 0
+RespectsHeights floor zs = (s t : Name) → IsPresent floor s → IsPresent floor t → height floor s ≡ height floor t → height zs s
+    ≡ height zs t
 
 -- segments that stand for the same entries over a floor do so over what it tells of
 abbrev pub FloorIsEnough : Type 0
 FloorIsEnough =
-    (floor zs b c : List Element) → IsFloor floor → Tells floor zs → IsSound (b ++ floor) → IsSound (c ++ floor) → erased (b ++ floor)
+    (floor zs b c : List Element) → IsFloor floor → RespectsHeights floor zs → IsSound (b ++ floor) → IsSound (c ++ floor)
+    → erased (b ++ floor)
     ≡ erased (c ++ floor)
     → erased (b ++ zs) ≡ erased (c ++ zs)
 

@@ -1,5 +1,5 @@
 -- How the list of a tree may change from one event to the next.
-use Rattle.std.specs.Prelude.{◌≡◌, ℕ, ◌+◌, ◌≤◌, ◌<◌, true, List, [], ◌∷◌}
+use Rattle.std.specs.Prelude.{◌≡◌, ℕ, ◌+◌, ◌≤◌, true, List, [], ◌∷◌}
 use Rattle.run_model.specs.Programs.Clauses.{Clause}
 use Rattle.tree_model.specs.Credits.{greatest}
 use Rattle.tree_model.specs.Elements.{Element, Credit, Plain, EndOf, Catch, Findall, End}
@@ -26,7 +26,7 @@ lead (End p b ∷ xs) = 0
 
 -- the new list runs like the old one as far as counts go, and no fewer inferences are in front of it
 pub record Follows (clauses : List Clause) (xs ys : List Element) : Type 0 where
-  pub alike : (n : ℕ) (w : Shared) → n < greatest → seen (run (scoped clauses) n w (free_steps (scoped clauses) [] xs))
+  pub alike : (n : ℕ) (w : Shared) → n ≤ greatest → seen (run (scoped clauses) n w (free_steps (scoped clauses) [] xs))
       ≡ seen (run (scoped clauses) n w (free_steps (scoped clauses) [] ys))
   pub lead : (m : ℕ) → m ≤ greatest → m ≤ lead xs → m ≤ lead ys
 

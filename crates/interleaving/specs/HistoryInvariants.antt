@@ -35,12 +35,12 @@ abbrev pub left_by : Option ℕ → List Element → List Element
 left_by None xs = xs
 left_by (Some k) xs = []
 
-abbrev pub list_of : TreeState → List Element
-list_of t = left_by t.halted (pending_list t.root)
+abbrev pub tree_list : TreeState → List Element
+tree_list t = left_by t.halted (pending_list t.root)
 
 -- as far as counts go, the run of the new list on the new world is seen like that of the old one from here on
 abbrev pub IsSeenFrom : List Clause → ℕ → Shared → List Element → Shared → List Element → Type 0
-IsSeenFrom clauses from v xs w ys = (n : ℕ) → from ≤ n → n < greatest
+IsSeenFrom clauses from v xs w ys = (n : ℕ) → from ≤ n → n ≤ greatest
     → seen (run (scoped clauses) n v (free_steps (scoped clauses) [] xs))
     ≡ seen (run (scoped clauses) n w (free_steps (scoped clauses) [] ys))
 
@@ -56,7 +56,7 @@ pub record IsInStep (job : Job) (budget : ℕ) (t : TreeState) : Type 0 where
   pub from : ℕ
   pub early : from ≤ budget
   pub fewer : answers ≤ from
-  pub alike : IsSeenFrom job.clauses from (first_shared job) (opening_list job) (shared_of answers t) (list_of t)
+  pub alike : IsSeenFrom job.clauses from (first_shared job) (opening_list job) (shared_of answers t) (tree_list t)
   pub ahead : t.halted ≡ None → from ≤ lead (pending_list t.root)
   -- where nothing is pending, that is all
   pub finished : t.halted ≡ None → leftmost t ≡ None → lead (pending_list t.root) ≤ from
@@ -75,7 +75,7 @@ pub record ListFollows (t new : TreeState) : Type 0 where
 -- what an answer does
 pub record AnswerMoves (t new : TreeState) (answers now : ℕ) : Type 0 where
   pub seen : IsSeenFrom t.job.clauses (suc (lead (pending_list t.root))) (shared_of answers t) (pending_list t.root) (shared_of now new)
-      (list_of new)
+      (tree_list new)
   pub ahead : new.halted ≡ None → (m : ℕ) → m ≤ greatest → m ≤ suc (lead (pending_list t.root)) → m ≤ lead (pending_list new.root)
   pub finished : new.halted ≡ None → leftmost new ≡ None → lead (pending_list new.root) ≤ suc (lead (pending_list t.root))
   pub stopped : (k : ℕ) → new.halted ≡ Some k → (lead (pending_list new.root) ≡ suc (lead (pending_list t.root)))
@@ -104,8 +104,9 @@ AnswersMove = (t : TreeState) (w : ℕ) (a : Place) (answers : ℕ) → IsSoundT
     → IsSoundTree (after_event t (Answer w a false)) → IsCaughtTree (after_event t (Answer w a false)) → is_legal t (Answer w a false)
     ≡ true → AnswerMoves t (after_event t (Answer w a false)) answers (answers + answers_next t)
 
-abbrev pub KeepsCaught : (Event → Type 0) → Type 0
-KeepsCaught ok = (t : TreeState) (e : Event) → ok e → IsSoundTree t → IsCaughtTree t → is_legal t e ≡ true → IsCaughtTree (after_event t e)
+abbrev pub PreservesCaught : (Event → Type 0) → Type 0
+PreservesCaught ok = (t : TreeState) (e : Event) → ok e → IsSoundTree t → IsCaughtTree t → is_legal t e ≡ true
+    → IsCaughtTree (after_event t e)
 
 -- any event
 abbrev pub IsAny : Event → Type 0

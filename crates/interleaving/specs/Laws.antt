@@ -4,11 +4,12 @@ use Rattle.std.specs.Option.{option_map}
 use Rattle.au_model.specs.Terms.Each.{Each}
 use Rattle.run_model.specs.Programs.Clauses.{Clause}
 use Rattle.run_model.specs.Machine.Items.{Continuation}
-use Rattle.interleaving.specs.Machine.{Vanishes, Wakes, Asks, Takes, Put, Seek, gives, placed, free_steps, run, is_over, seen, Alike}
+use Rattle.interleaving.specs.Machine.{Drops, Becomes, AsksWorld, Infers, Put, Seek, gives, placed, free_steps, run, is_finished, seen}
+use Rattle.interleaving.specs.Machine.{Alike}
 use Rattle.tree_model.specs.Elements.{Name, Record, Element, Credit, Plain, EndOf}
-use Rattle.interleaving.specs.Scopes.{Shared, Scope, Lands, act, scoped}
+use Rattle.interleaving.specs.Scopes.{Shared, Scope, ElementReplacement, act, scoped}
 use Rattle.interleaving.specs.Segments.{all_inner, outer, run_alone, search_in, placed_in, Private}
-use Rattle.interleaving.specs.Erased.{count}
+use Rattle.interleaving.specs.Erased.{element_count}
 use Rattle.interleaving.specs.Sound.{IsSound}
 use Rattle.interleaving.specs.Views.{IsGrown, IsBlind, IsInner, IsUnder}
 use Rattle.interleaving.specs.Quiet.{IsQuiet, inferences, records, IsFixed, IsStill}
@@ -26,13 +27,18 @@ alone clauses inside k a = option_map (λ s. s.1)
 abbrev pub run_off : List Clause → (Name → Bool) → ℕ → List Element → Option (List Record × List Element)
 run_off clauses inside k a = run_alone (scoped clauses) (is_inner_record inside) (λ new. true) k a
 
+-- that is a private run
+abbrev pub AloneIsPrivate : List Clause → Type 0
+AloneIsPrivate clauses = (inside : Name → Bool) (k : ℕ) (a b : List Element) → alone clauses inside k a ≡ Some b
+    → Private (scoped clauses) (is_inner_record inside) k [] a b
+
 -- a segment, an entry or a credit in it, between what sees none of it and what has no Findall entry of it
 pub record IsSegment (inside : Name → Bool) (pre a zs : List Element) : Type 0 where
   pub grown : IsGrown inside
   pub front : Each (IsBlind inside) pre
   pub own : Each (IsInner inside) a
   pub under : Each (IsUnder inside) zs
-  pub some : 0 < count a
+  pub some : 0 < element_count a
 
 -- a list may become another: they run alike, and names stay sound
 pub record MayBecome (clauses : List Clause) (xs ys : List Element) : Type 0 where
@@ -68,8 +74,9 @@ QuietEarly clauses =
 -- an inference after credits alone that stays in the segment: a cut, or a ball that is caught there
 abbrev pub TakenEarly : List Clause → Type 0
 TakenEarly clauses =
-    (inside : Name → Bool) (xs : List Element) (x : Element) (p : Lands) (pre mid b zs : List Element) → IsQuiet xs → act clauses x
-    ≡ Takes p
+    (inside : Name → Bool) (xs : List Element) (x : Element) (p : ElementReplacement) (pre mid b zs : List Element) → IsQuiet xs
+    → act clauses x
+    ≡ Infers p
     → placed_in (scoped clauses) p (map (gives (scoped clauses) (records xs)) mid) ≡ Some b → IsSegment inside pre (xs ++ (x ∷ mid)) zs
     → MayBecome clauses (pre ++ ((xs ++ (x ∷ mid)) ++ zs))
     (pre ++ (Credit (inferences xs + 1) (outer (is_inner_record inside) (records xs)) ∷ (b ++ zs)))
@@ -78,7 +85,7 @@ TakenEarly clauses =
 abbrev pub WokenEarly : List Clause → Type 0
 WokenEarly clauses =
     (inside : Name → Bool) (xs : List Element) (x y : Element) (pre zs : List Element) → IsQuiet xs
-    → act clauses (gives (scoped clauses) (records xs) x) ≡ Wakes y
+    → act clauses (gives (scoped clauses) (records xs) x) ≡ Becomes y
     → IsSegment inside pre (xs ++ (x ∷ [])) zs
     → MayBecome clauses (pre ++ ((xs ++ (x ∷ [])) ++ zs))
     (pre ++ (Credit (inferences xs) (outer (is_inner_record inside) (records xs)) ∷ (y ∷ zs)))
@@ -87,7 +94,7 @@ WokenEarly clauses =
 abbrev pub CollectedEarly : List Clause → Type 0
 CollectedEarly clauses =
     (inside : Name → Bool) (p : Name) (f : Continuation Name) (rs : List Record) (pre zs : List Element) → act clauses (Plain p f)
-    ≡ Vanishes rs → Each (IsBlind inside) pre → inside p ≡ true
+    ≡ Drops rs → Each (IsBlind inside) pre → inside p ≡ true
     → MayBecome clauses (pre ++ (Plain p f ∷ zs)) (pre ++ (Credit 0 rs ∷ zs))
 
 -- two segments that come to the same by themselves
@@ -116,8 +123,8 @@ NoCredit clauses = (pre zs : List Element) → MayBecome clauses (pre ++ (Credit
 -- the new list in the new world, are in the same states
 abbrev pub FrontGate : List Clause → Type 0
 FrontGate clauses =
-    (xs : List Element) (x : Element) (g : Shared → Shared × Lands) (zs : List Element) (w : Shared) (n : ℕ) → IsQuiet xs
-    → act clauses x ≡ Asks g
+    (xs : List Element) (x : Element) (g : Shared → Shared × ElementReplacement) (zs : List Element) (w : Shared) (n : ℕ) → IsQuiet xs
+    → act clauses x ≡ AsksWorld g
     → let m = scoped clauses in
     let k = inferences xs in
     run m (k + suc n) w (free_steps m [] (xs ++ (x ∷ zs)))
@@ -126,8 +133,8 @@ FrontGate clauses =
 -- the same where the credits stay where they are
 abbrev pub FrontGateInPlace : List Clause → Type 0
 FrontGateInPlace clauses =
-    (xs : List Element) (x : Element) (g : Shared → Shared × Lands) (ys zs : List Element) (w : Shared) (n : ℕ) → IsQuiet xs
-    → act clauses x ≡ Asks g → (g w).1 ≡ Put ys → Each IsFixed ys
+    (xs : List Element) (x : Element) (g : Shared → Shared × ElementReplacement) (ys zs : List Element) (w : Shared) (n : ℕ) → IsQuiet xs
+    → act clauses x ≡ AsksWorld g → (g w).1 ≡ Put ys → Each IsFixed ys
     → let m = scoped clauses in
     let k = inferences xs in
     run m (k + suc n) w (free_steps m [] (xs ++ (x ∷ zs))) ≡ run m (k + suc n) (g w).0 (free_steps m [] (xs ++ (Credit 1 [] ∷ (ys ++ zs))))
@@ -136,7 +143,7 @@ FrontGateInPlace clauses =
 abbrev pub CutInPlace : List Clause → Type 0
 CutInPlace clauses =
     (inside : Name → Bool) (xs : List Element) (p : Name) (f after : Continuation Name) (h : Name) (pre mid zs : List Element)
-    → IsQuiet xs → act clauses (Plain p f) ≡ Takes (Seek (Scope h (Plain p after)))
+    → IsQuiet xs → act clauses (Plain p f) ≡ Infers (Seek (Scope h (Plain p after)))
     → search_in (scoped clauses) (Scope h (Plain p after)) mid ≡ Some (Plain p after ∷ EndOf h ∷ [])
     → IsSegment inside pre (xs ++ (Plain p f ∷ mid)) zs
     → Alike (scoped clauses) (pre ++ ((xs ++ (Plain p f ∷ mid)) ++ zs))
@@ -146,7 +153,8 @@ CutInPlace clauses =
 -- catches ends the query
 abbrev pub TakenInFront : List Clause → Type 0
 TakenInFront clauses =
-    (xs : List Element) (x : Element) (p : Lands) (pre mid : List Element) → Each IsStill pre → IsQuiet xs → act clauses x ≡ Takes p
+    (xs : List Element) (x : Element) (p : ElementReplacement) (pre mid : List Element) → Each IsStill pre → IsQuiet xs → act clauses x
+    ≡ Infers p
     → MayBecome clauses (pre ++ (xs ++ (x ∷ mid)))
     (pre ++ (Credit (inferences xs + 1) [] ∷ placed (scoped clauses) p (map (gives (scoped clauses) (records xs)) mid)))
 
@@ -168,7 +176,7 @@ pub record CreditsPass (clauses : List Clause) (xs zs : List Element) (w : Share
   pub passed : run (scoped clauses) (inferences xs) w (free_steps (scoped clauses) [] (xs ++ zs))
       ≡ (w, free_steps (scoped clauses) [] (map (gives (scoped clauses) (records xs)) zs))
   pub world : (n : ℕ) → n ≤ inferences xs → (run (scoped clauses) n w (free_steps (scoped clauses) [] (xs ++ zs))).0 ≡ w
-  pub going : (n : ℕ) → n < inferences xs → is_over (run (scoped clauses) n w (free_steps (scoped clauses) [] (xs ++ zs))).1 ≡ false
+  pub going : (n : ℕ) → n < inferences xs → is_finished (run (scoped clauses) n w (free_steps (scoped clauses) [] (xs ++ zs))).1 ≡ false
 
 -- credits alone end with their last inference
 abbrev pub CreditsEnd : List Clause → Type 0

@@ -16,5 +16,4 @@ pub mod OwnRuns
 pub mod FloorLaws
 pub mod Follows
 pub mod HistoryInvariants
-pub mod HistoryPromises
 pub mod RunLaws

@@ -7,21 +7,21 @@ pub data Look (X Q : Type 0) : Type 0 where
   Here : List X → Look X Q
 
 -- what takes an element's place: elements; elements in place of the whole list; what a cut or a ball leaves
-pub data Place (X Q : Type 0) : Type 0 where
-  Put : List X → Place X Q
-  Only : List X → Place X Q
-  Seek : Q → Place X Q
+pub data Replacement (X Q : Type 0) : Type 0 where
+  Put : List X → Replacement X Q
+  Only : List X → Replacement X Q
+  Seek : Q → Replacement X Q
 
 -- what an element does when it comes to the front
 pub data Act (W X Q R : Type 0) : Type 0 where
   -- free: it goes, and its records go to what lies under it
-  Vanishes : List R → Act W X Q R
+  Drops : List R → Act W X Q R
   -- free: it becomes an element to be taken
-  Wakes : X → Act W X Q R
+  Becomes : X → Act W X Q R
   -- one inference
-  Takes : Place X Q → Act W X Q R
+  Infers : Replacement X Q → Act W X Q R
   -- one inference on the world
-  Asks : (W → W × Place X Q) → Act W X Q R
+  AsksWorld : (W → W × Replacement X Q) → Act W X Q R
 
 pub record Machine (W X Q R : Type 0) : Type 0 where
   pub act : X → Act W X Q R
@@ -32,9 +32,9 @@ pub record Machine (W X Q R : Type 0) : Type 0 where
   -- what is left of an element that is to go and is left standing
   pub stands : X → X
 
-abbrev pub is_over : {A : Type 0} → List A → Bool
-is_over [] = true
-is_over (x ∷ xs) = false
+abbrev pub is_finished : {A : Type 0} → List A → Bool
+is_finished [] = true
+is_finished (x ∷ xs) = false
 
 module _ {W X Q R : Type 0} (m : Machine W X Q R) where
   abbrev pub gives : List R → X → X
@@ -49,16 +49,16 @@ module _ {W X Q R : Type 0} (m : Machine W X Q R) where
   search_for q [] = m.lost q
   search_for q (x ∷ xs) = looked (m.look q x) (λ p. search_for p xs) xs
 
-  abbrev pub placed : Place X Q → List X → List X
+  abbrev pub placed : Replacement X Q → List X → List X
   placed (Put ys) xs = ys ++ xs
   placed (Only ys) xs = ys
   placed (Seek q) xs = search_for q xs
 
   abbrev pub freed : Act W X Q R → X → (List R → List X) → List X → List X
-  freed (Vanishes rs) x go xs = go rs
-  freed (Wakes y) x go xs = y ∷ xs
-  freed (Takes p) x go xs = x ∷ xs
-  freed (Asks g) x go xs = x ∷ xs
+  freed (Drops rs) x go xs = go rs
+  freed (Becomes y) x go xs = y ∷ xs
+  freed (Infers p) x go xs = x ∷ xs
+  freed (AsksWorld g) x go xs = x ∷ xs
 
   -- the free steps, with records under way
   abbrev pub free_steps : List R → List X → List X
@@ -66,10 +66,10 @@ module _ {W X Q R : Type 0} (m : Machine W X Q R) where
   free_steps rs (x ∷ xs) = freed (m.act (gives rs x)) (gives rs x) (λ new. free_steps (rs ++ new) xs) (map (gives rs) xs)
 
   abbrev pub acted : Act W X Q R → W → X → List X → W × List X
-  acted (Vanishes rs) w x xs = (w, free_steps [] xs)
-  acted (Wakes y) w x xs = (w, free_steps [] (y ∷ xs))
-  acted (Takes p) w x xs = (w, free_steps [] (placed p xs))
-  acted (Asks g) w x xs = ((g w).0, free_steps [] (placed (g w).1 xs))
+  acted (Drops rs) w x xs = (w, free_steps [] xs)
+  acted (Becomes y) w x xs = (w, free_steps [] (y ∷ xs))
+  acted (Infers p) w x xs = (w, free_steps [] (placed p xs))
+  acted (AsksWorld g) w x xs = ((g w).0, free_steps [] (placed (g w).1 xs))
 
   -- one inference and the free steps after it
   abbrev pub step : W → List X → W × List X
@@ -82,7 +82,7 @@ module _ {W X Q R : Type 0} (m : Machine W X Q R) where
 
 -- what is seen of a state: the world, and whether the run has ended
 abbrev pub seen : {W X : Type 0} → W × List X → W × Bool
-seen s = (s.0, is_over s.1)
+seen s = (s.0, is_finished s.1)
 
 -- two lists run alike
 abbrev pub Alike : {W X Q R : Type 0} → Machine W X Q R → List X → List X → Type 0

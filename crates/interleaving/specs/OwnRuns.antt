@@ -1,46 +1,30 @@
 -- What an entry does by itself, with heights: the steps of the sequential machine on its own entries, over a floor of
 -- entries that stay as they are.
-use Rattle.std.specs.Prelude.{ℕ, zero, suc, ◌-◌, Bool, cond, List, [], ◌∷◌, ◌++◌, length, take, nat_lt, nat_le, Option, Some, None, ◌≡◌}
+use Rattle.std.specs.Prelude.{ℕ, zero, suc, Bool, cond, List, [], ◌∷◌, ◌++◌, length, nat_lt, nat_le, Option, Some, None, ◌≡◌}
 use Rattle.au_model.specs.Terms.Each.{Each}
 use Rattle.run_model.specs.Programs.Clauses.{Clause}
 use Rattle.run_model.specs.Goals.Outcomes.{Solutions, Ball, HaltNumber, ControlForm, GoesOnWith, EitherOf, TestOf, CutToScope, CatchOf}
 use Rattle.run_model.specs.Goals.Outcomes.{FindallOf, Outcome, Replies, Controls, AskWorld}
 use Rattle.run_model.specs.Goals.GoalOutcomes.{outcome_of}
-use Rattle.run_model.specs.Machine.Items.{Item, GoalItem, CatchMark, CollectMark, RemovalItem, Continuation, with_items, without_marks, first_mark}
-use Rattle.run_model.specs.Machine.Entries.{Entry, PlainEntry, CatchEntry, FindallEntry, EndEntry, collected}
+use Rattle.run_model.specs.Machine.Items.{Item, GoalItem, CatchMark, CollectMark, RemovalItem, Continuation, with_items}
+use Rattle.run_model.specs.Machine.Items.{first_mark}
+use Rattle.run_model.specs.Machine.Entries.{Entry, PlainEntry, CatchEntry, FindallEntry, EndEntry}
 use Rattle.run_model.specs.Machine.Balls.{unwound}
 use Rattle.run_model.specs.Machine.Heights.{after_reply, after_control}
-use Rattle.run_model.specs.Machine.FreeSteps.{findall_ends}
+use Rattle.tree_model.specs.PrivateRuns.{settled_own, own_part}
 use Rattle.tree_model.specs.Elements.{Name, Element, Credit, Plain, EndOf, Catch, Findall, End}
 use Rattle.interleaving.specs.Scopes.{scoped}
 use Rattle.interleaving.specs.Segments.{Private}
 use Rattle.interleaving.specs.Views.{IsGrown, IsInner, IsUnder}
 use Rattle.interleaving.specs.Laws.{is_inner_record}
-use Rattle.interleaving.specs.HeightMachine.{held_entries}
+use Rattle.interleaving.specs.HeightMachine.{height_entries}
 use Rattle.interleaving.specs.Erased.{erased}
 use Rattle.interleaving.specs.Sound.{IsSound}
 
--- a collect mark whose findall entry is one of the floor is left standing
-abbrev pub own_settles : List (Item ℕ) → Continuation ℕ → List Entry → List Entry → (List Entry → List Entry) → List Entry
-own_settles (CollectMark t h ∷ items) f es floor go = cond (nat_lt h (length floor))
-    (PlainEntry (with_items (CollectMark t h ∷ items) f) ∷ es) (go (collected (h - length floor) t es))
-own_settles items f es floor go = PlainEntry (with_items items f) ∷ es
-
-abbrev pub own_settle : List Entry → ℕ → List Entry → List Entry
-own_settle floor zero es = es
-own_settle floor (suc k) [] = []
-own_settle floor (suc k) (CatchEntry c r f ∷ es) = own_settle floor k es
-own_settle floor (suc k) (FindallEntry results l f ∷ es) = findall_ends results l f (es ++ floor) ∷ es
-own_settle floor (suc k) (PlainEntry f ∷ es) = own_settles (without_marks f.items) f es floor (own_settle floor k)
-own_settle floor (suc k) (EndEntry b ∷ es) = EndEntry b ∷ es
-
-abbrev pub own_settled : List Entry → List Entry → List Entry
-own_settled floor es = own_settle floor (length es) es
-
 -- a ball that lands among the own entries
-abbrev pub landed : ℕ → List Entry → Option (List Entry)
-landed low (PlainEntry f ∷ es) = cond (nat_le low (length es)) (Some (PlainEntry f ∷ es)) None
-landed low es = None
+abbrev pub caught_own : ℕ → List Entry → Option (List Entry)
+caught_own low (PlainEntry f ∷ es) = cond (nat_le low (length es)) (Some (PlainEntry f ∷ es)) None
+caught_own low es = None
 
 -- a cut to an own entry
 abbrev pub own_control : ControlForm → ℕ → Continuation ℕ → List Entry → ℕ → Option (List Entry)
@@ -54,7 +38,7 @@ own_control (FindallOf t g l) h f es low = Some (after_control (FindallOf t g l)
 -- the stack that a goal leaves; none where it is a gate
 abbrev pub own_goal : Outcome → ℕ → Continuation ℕ → List Entry → ℕ → Option (List Entry)
 own_goal (Replies (Solutions ss)) h f es low = Some (after_reply (Solutions ss) f es)
-own_goal (Replies (Ball b)) h f es low = landed low (unwound b (first_mark f.items) es)
+own_goal (Replies (Ball b)) h f es low = caught_own low (unwound b (first_mark f.items) es)
 own_goal (Replies (HaltNumber k)) h f es low = None
 own_goal (Controls form) h f es low = own_control form h f es low
 own_goal (AskWorld g) h f es low = None
@@ -73,12 +57,9 @@ own_taken clauses floor (CatchEntry c r f ∷ es) = None
 own_taken clauses floor (FindallEntry results l f ∷ es) = None
 own_taken clauses floor (EndEntry b ∷ es) = None
 
-abbrev pub own_part : List Entry → List Entry → List Entry
-own_part floor st = take (length st - length floor) st
-
 abbrev pub own_left : List Entry → Option (List Entry) → Option (List Entry)
 own_left floor None = None
-own_left floor (Some st) = Some (own_settled floor (own_part floor st))
+own_left floor (Some st) = Some (settled_own floor (own_part floor st))
 
 abbrev pub own_more : List Clause → List Entry → Option (List Entry) → Option (List Entry)
 own_more clauses floor None = None
@@ -86,7 +67,7 @@ own_more clauses floor (Some es) = own_left floor (own_taken clauses floor es)
 
 -- so many inferences, and the free steps after them
 abbrev pub own_run : List Clause → List Entry → ℕ → List Entry → Option (List Entry)
-own_run clauses floor zero es = Some (own_settled floor es)
+own_run clauses floor zero es = Some (settled_own floor es)
 own_run clauses floor (suc k) es = own_more clauses floor (own_run clauses floor k es)
 
 -- no end of a scope comes first
@@ -100,28 +81,28 @@ IsFloor (Findall s u results list p f ∷ zs) = Unit {0}
 IsFloor (End p b ∷ zs) = Unit {0}
 
 -- own entries by names, over a floor by names
-pub record StandsFor (inside : Name → Bool) (a zs : List Element) (es floor : List Entry) : Type 0 where
+pub record NamesEntries (inside : Name → Bool) (a zs : List Element) (es floor : List Entry) : Type 0 where
   pub sound : IsSound (a ++ zs)
   pub inner : Each (IsInner inside) a
-  pub entries : erased (a ++ zs) ≡ held_entries (es ++ floor)
+  pub entries : erased (a ++ zs) ≡ height_entries (es ++ floor)
 
 pub record IsFloorUnder (inside : Name → Bool) (zs : List Element) (floor : List Entry) : Type 0 where
   pub under : Each (IsUnder inside) zs
-  pub entries : erased zs ≡ held_entries floor
+  pub entries : erased zs ≡ height_entries floor
 
 pub record IsFloorOf (inside : Name → Bool) (zs : List Element) (floor : List Entry) : Type 0 where
   pub under : Each (IsUnder inside) zs
   pub first : IsFloor zs
-  pub entries : erased zs ≡ held_entries floor
+  pub entries : erased zs ≡ height_entries floor
 
 -- a private run with heights is one by names
 pub record RunsPrivately (clauses : List Clause) (inside : Name → Bool) (k : ℕ) (a zs : List Element) (es floor : List Entry) : Type 0 where
   pub left : List Element
   pub private : Private (scoped clauses) (is_inner_record inside) k [] a left
-  pub stands : StandsFor inside left zs es floor
+  pub stands : NamesEntries inside left zs es floor
 
 abbrev pub OwnRuns : List Clause → Type 0
 OwnRuns clauses =
     (inside : Name → Bool) (floor : List Entry) (zs : List Element) → IsGrown inside → IsFloorOf inside zs floor
-    → (k : ℕ) (es after : List Entry) (a : List Element) → StandsFor inside a zs es floor → own_run clauses floor k es ≡ Some after
+    → (k : ℕ) (es after : List Entry) (a : List Element) → NamesEntries inside a zs es floor → own_run clauses floor k es ≡ Some after
     → RunsPrivately clauses inside k a zs after floor

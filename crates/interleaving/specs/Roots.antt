@@ -13,7 +13,7 @@ rooted ok (i ∷ []) = ok i
 rooted ok (i ∷ j ∷ s) = rooted ok (j ∷ s)
 
 -- what is made inside is inside, and a name is told from those that extend it by its length or by its last number
-pub record AreTold : Type 0 where
+pub record AreDistinguished : Type 0 where
   pub extend : (top : Name) → IsGrown (extends top)
   pub root : (ok : ℕ → Bool) → IsGrown (rooted ok)
   pub by_length : (top p : Name) (more : List ℕ) → length p ≡ length top → extends top (more ++ p) ≡ same top p

@@ -4,7 +4,7 @@ use Rattle.au_term.specs.Term.{Term}
 use Rattle.au_model.specs.Terms.Each.{Each}
 use Rattle.run_model.specs.Machine.Items.{Item, GoalItem, CatchMark, CollectMark, RemovalItem, Continuation}
 use Rattle.tree_model.specs.Elements.{Name, Element, Credit, Plain, EndOf, Catch, Findall, End}
-use Rattle.interleaving.specs.Erased.{from, count, height}
+use Rattle.interleaving.specs.Erased.{from, element_count, height}
 
 -- the scopes that items carry
 abbrev pub names : {N : Type 0} → List (Item N) → List N
@@ -15,8 +15,8 @@ names (CollectMark t s ∷ items) = s ∷ names items
 names (RemovalItem number ∷ items) = names items
 
 -- a name that the entry of this name didn't make
-abbrev pub IsOlder : Name → Name → Type 0
-IsOlder p s = (more : List ℕ) → s ≡ more ++ p → ⊥
+abbrev pub IsMadeElsewhere : Name → Name → Type 0
+IsMadeElsewhere p s = (more : List ℕ) → s ≡ more ++ p → ⊥
 
 -- a scope that ends in the list
 abbrev pub IsPresent : List Element → Name → Type 0
@@ -29,7 +29,7 @@ IsChain xs (h ∷ hs) = Each (λ s. from (from xs h) s ≡ from xs s) hs × IsCh
 
 -- the names that an entry of this name over this list carries
 pub record AreCarried (p : Name) (xs : List Element) (hs : List Name) : Type 0 where
-  pub older : Each (IsOlder p) hs
+  pub older : Each (IsMadeElsewhere p) hs
   pub present : Each (IsPresent xs) hs
   pub chain : IsChain xs hs
 
@@ -73,11 +73,11 @@ pub record IsEntrySound (p : Name) (xs : List Element) (hs : List Name) (items :
   pub carried : AreCarried p xs hs
   pub marks : Each (IsMarkSound xs) items
   -- it has made no Findall entry that is there
-  pub findalls : EachFindall (IsOlder p) xs
+  pub findalls : EachFindall (IsMadeElsewhere p) xs
 
 -- the scope that ends right below an entry
 abbrev pub IsRightUnder : List Element → Name → Type 0
-IsRightUnder xs u = height xs u ≡ count xs
+IsRightUnder xs u = height xs u ≡ element_count xs
 
 abbrev pub IsSound : List Element → Type 0
 IsSound [] = Unit {0}

@@ -20,17 +20,19 @@ stack_after (Halts k) queries es = []
 stack_after QueryEnds queries es = opened queries
 
 -- where a private inference is taken, it is the machine's, and changes no world
-abbrev pub PrivateIsStep : List Clause → List Level → State → Continuation ℕ → List Entry → Type 0
-PrivateIsStep clauses levels st f es =
-    without_marks f.items ≡ f.items → gate_on clauses levels (PlainEntry f ∷ es) ≡ None → (left : List Entry)
+abbrev pub PrivateIsStep : Type 0
+PrivateIsStep =
+    (clauses : List Clause) (levels : List Level) (st : State) (f : Continuation ℕ) (es : List Entry) → without_marks f.items ≡ f.items
+    → gate_on clauses levels (PlainEntry f ∷ es) ≡ None → (left : List Entry)
     → taken_alone clauses (PlainEntry f ∷ es) ≡ Some left →
     ((step clauses (record st { entries = PlainEntry f ∷ es })).entries ≡ left)
     × ((step clauses (record st { entries = PlainEntry f ∷ es })).world ≡ st.world)
 
 -- what is taken at the front is the machine's inference
-abbrev pub FrontIsStep : List Clause → List Level → State → Continuation ℕ → List Entry → Type 0
-FrontIsStep clauses levels st f es =
-    without_marks f.items ≡ f.items → gate_on clauses levels (PlainEntry f ∷ es) ≡ Some WorldGate →
+abbrev pub FrontIsStep : Type 0
+FrontIsStep =
+    (clauses : List Clause) (levels : List Level) (st : State) (f : Continuation ℕ) (es : List Entry) → without_marks f.items ≡ f.items
+    → gate_on clauses levels (PlainEntry f ∷ es) ≡ Some WorldGate →
     ((step clauses (record st { entries = PlainEntry f ∷ es })).entries
     ≡ stack_after (taken_at_front clauses (PlainEntry f ∷ es) st.world).1 st.queries es)
     × ((step clauses (record st { entries = PlainEntry f ∷ es })).world ≡ (taken_at_front clauses (PlainEntry f ∷ es) st.world).0)

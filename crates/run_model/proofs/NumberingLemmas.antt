@@ -72,7 +72,7 @@ solution-numbered h f s k n =
     let whole : IsContinuationNumbered (before (goals_at h s.goals) (with_next next f)) = goals-numbered h s.goals (with_next next f) k.1 wide in
     unified-numbered (unifier s.equations) (with_next next (before (goals_at h s.goals) f)) (unifier_below s.equations next k.0) whole
 
-solutions-numbered : (h : ℕ) (f : Continuation ℕ) (ss : List Solution) → Each (IsSolutionBelow f.next) ss → IsContinuationNumbered f → AreEntriesNumbered (solution_entries h f ss)
+pub solutions-numbered : (h : ℕ) (f : Continuation ℕ) (ss : List Solution) → Each (IsSolutionBelow f.next) ss → IsContinuationNumbered f → AreEntriesNumbered (solution_entries h f ss)
 solutions-numbered h f [] k n = tt
 solutions-numbered h f (s ∷ ss) k n = each-append IsEntryNumbered (solution_entry h f s) (solution_entries h f ss) (solution-numbered h f s k.0 n) (solutions-numbered h f ss k.1 n)
 
@@ -95,7 +95,7 @@ taken-below mark n ball c f h = go (is_height mark n)
     go true = unifier_below ((c, copied ball f.next) ∷ []) (f.next + copy_takes ball) (omega (arith, copied-below ball f.next))
     go false = tt
 
-landing-numbered : (ball : Term) (mark : Option ℕ) (es : List Entry) → AreEntriesNumbered es → AreEntriesNumbered (unwound ball mark es)
+pub landing-numbered : (ball : Term) (mark : Option ℕ) (es : List Entry) → AreEntriesNumbered es → AreEntriesNumbered (unwound ball mark es)
 landing-numbered ball mark [] h = (tt, tt)
 landing-numbered ball mark (CatchEntry c r f ∷ es) h =
     recovery-numbered (taken_by mark (length es) ball c f) ball r f es _ (taken-below mark (length es) ball c f h.0.0) h.0.1 h.0.2 h.1 (landing-numbered ball (next_mark mark (length es) f) es h.1)
@@ -104,12 +104,12 @@ landing-numbered ball mark (FindallEntry results l f ∷ es) h = landing-numbere
 landing-numbered ball mark (EndEntry b ∷ es) h = landing-numbered ball mark es h.1
 
 -- what takes the place of a goal
-reply-numbered : (r : Reply) (f : Continuation ℕ) (es : List Entry) → IsReplyBelow f.next r → IsContinuationNumbered f → AreEntriesNumbered es → AreEntriesNumbered (after_reply r f es)
+pub reply-numbered : (r : Reply) (f : Continuation ℕ) (es : List Entry) → IsReplyBelow f.next r → IsContinuationNumbered f → AreEntriesNumbered es → AreEntriesNumbered (after_reply r f es)
 reply-numbered (Solutions ss) f es k n h = each-append IsEntryNumbered (solution_entries (length es) f ss) es (solutions-numbered (length es) f ss k n) h
 reply-numbered (Ball b) f es k n h = landing-numbered b (first_mark f.items) es h
 reply-numbered (HaltNumber m) f es k n h = tt
 
-form-numbered : (o : ControlForm) (h : ℕ) (f : Continuation ℕ) (es : List Entry) → IsFormBelow f.next o → IsContinuationNumbered f → AreEntriesNumbered es → AreEntriesNumbered (after_control o h f es)
+pub form-numbered : (o : ControlForm) (h : ℕ) (f : Continuation ℕ) (es : List Entry) → IsFormBelow f.next o → IsContinuationNumbered f → AreEntriesNumbered es → AreEntriesNumbered (after_control o h f es)
 form-numbered (GoesOnWith gs) h f es k n e = (goals-numbered (length es) gs f k n, e)
 form-numbered (EitherOf gs others) h f es k n e = (goals-numbered h gs f k.0 n, (goals-numbered h others f k.1 n, e))
 form-numbered (TestOf gs thens others) h f es k n e =
@@ -143,12 +143,15 @@ names_bound-below : (vs : List NamedVariable) → Each (IsNamedBelow (names_boun
 names_bound-below [] = tt
 names_bound-below (v ∷ vs) = (omega arith, each-more (IsNamedBelow (names_bound vs)) (IsNamedBelow (max (suc v.number) (names_bound vs))) (λ t l. omega arith) (own_terms vs) (names_bound-below vs))
 
-opened-numbered : (qs : List Query) → AreEntriesNumbered (opened qs)
-opened-numbered [] = tt
-opened-numbered (q ∷ qs) =
+pub query-numbered : (h : ℕ) (q : Query) → IsContinuationNumbered (record { items = goals_at h q.goals; named = own_terms q.names; next = query_bound q })
+query-numbered h q =
     let goals = each-more (IsTermBelow (goals_bound q.goals)) (IsTermBelow (query_bound q)) (λ t l. omega arith) q.goals (goals_bound-below q.goals) in
     let named = each-more (IsNamedBelow (names_bound q.names)) (IsNamedBelow (query_bound q)) (λ v l. omega arith) (own_terms q.names) (names_bound-below q.names) in
-    (record { items = items-goals (query_bound q) 1 q.goals goals; named = named }, (tt, tt))
+    record { items = items-goals (query_bound q) h q.goals goals; named = named }
+
+opened-numbered : (qs : List Query) → AreEntriesNumbered (opened qs)
+opened-numbered [] = tt
+opened-numbered (q ∷ qs) = (query-numbered 1 q, (tt, tt))
 
 -- one inference
 item-numbered : (clauses : List Clause) (items : List (Item ℕ)) (f : Continuation ℕ) (es : List Entry) (st : State) → Each (AreItemTermsBelow f.next) items → Each (IsNamedBelow f.next) f.named → AreEntriesNumbered es → AreEntriesNumbered st.entries → AreEntriesNumbered (item_taken clauses items f es st).entries
@@ -170,13 +173,13 @@ list-below : (b : ℕ) (ts : List Term) → AreTermsBelow b ts → IsTermBelow b
 list-below b [] h = omega arith
 list-below b (t ∷ ts) h = omega (arith, h.0, list-below b ts h.1)
 
-findall-numbered : (results : List Term) (l : Term) (f : Continuation ℕ) (es : List Entry) → AreTermsBelow f.next results → IsTermBelow f.next l → IsContinuationNumbered f → IsEntryNumbered (findall_ends results l f es)
+pub findall-numbered : (results : List Term) (l : Term) (f : Continuation ℕ) (es : List Entry) → AreTermsBelow f.next results → IsTermBelow f.next l → IsContinuationNumbered f → IsEntryNumbered (findall_ends results l f es)
 findall-numbered results l f es r k n =
     let goal = binary (codes "=") l (list_term results) in
     let first : Each (AreItemTermsBelow f.next) (GoalItem goal (length es) ∷ []) = (omega (arith, list-below f.next results r), tt) in
     before-numbered (GoalItem goal (length es) ∷ []) f first n
 
-result-numbered : (t : Term) (e : Entry) → IsEntryNumbered e → IsEntryNumbered (with_result t e)
+pub result-numbered : (t : Term) (e : Entry) → IsEntryNumbered e → IsEntryNumbered (with_result t e)
 result-numbered t (PlainEntry f) h = h
 result-numbered t (CatchEntry c r f) h = h
 result-numbered t (EndEntry b) h = h
@@ -185,7 +188,7 @@ result-numbered t (FindallEntry results l f) h =
     let list = h.1 in
     (each-append (IsTermBelow next) results (copied t f.next ∷ []) (each-more (IsTermBelow f.next) (IsTermBelow next) (λ u k. omega arith) results h.0) (copied-below t f.next, tt), omega arith, next-numbered next f (omega arith) h.2)
 
-collected-numbered : (h : ℕ) (t : Term) (es : List Entry) → AreEntriesNumbered es → AreEntriesNumbered (collected h t es)
+pub collected-numbered : (h : ℕ) (t : Term) (es : List Entry) → AreEntriesNumbered es → AreEntriesNumbered (collected h t es)
 collected-numbered h t [] k = tt
 collected-numbered h t (e ∷ es) k = go (length es == h) (result-numbered t e k.0) (collected-numbered h t es k.1)
   where
@@ -193,7 +196,7 @@ collected-numbered h t (e ∷ es) k = go (length es == h) (result-numbered t e k
     go true one rest = (one, k.1)
     go false one rest = (k.0, rest)
 
-marks-numbered : (b : ℕ) (items : List (Item ℕ)) → Each (AreItemTermsBelow b) items → Each (AreItemTermsBelow b) (without_marks items)
+pub marks-numbered : (b : ℕ) (items : List (Item ℕ)) → Each (AreItemTermsBelow b) items → Each (AreItemTermsBelow b) (without_marks items)
 marks-numbered b [] h = tt
 marks-numbered b (CatchMark m ∷ items) h = marks-numbered b items h.1
 marks-numbered b (GoalItem t m ∷ items) h = h
@@ -207,7 +210,7 @@ plain-numbered (RemovalItem m ∷ items) f es go i n e g = (record { items = i; 
 plain-numbered (CatchMark m ∷ items) f es go i n e g = (record { items = i; named = n }, e)
 plain-numbered (CollectMark t m ∷ items) f es go i n e g = g (collected m t es) (collected-numbered m t es e)
 
-free_steps_within-numbered : (k : ℕ) (es : List Entry) → AreEntriesNumbered es → AreEntriesNumbered (free_steps_within k es)
+pub free_steps_within-numbered : (k : ℕ) (es : List Entry) → AreEntriesNumbered es → AreEntriesNumbered (free_steps_within k es)
 free_steps_within-numbered zero es h = h
 free_steps_within-numbered (suc k) [] h = tt
 free_steps_within-numbered (suc k) (CatchEntry c r f ∷ es) h = free_steps_within-numbered k es h.1
@@ -215,7 +218,7 @@ free_steps_within-numbered (suc k) (FindallEntry results l f ∷ es) h = (findal
 free_steps_within-numbered (suc k) (PlainEntry f ∷ es) h = plain-numbered (without_marks f.items) f es (free_steps_within k) (marks-numbered f.next f.items h.0.items) h.0.named h.1 (free_steps_within-numbered k)
 free_steps_within-numbered (suc k) (EndEntry b ∷ es) h = h
 
-step-numbered : (clauses : List Clause) (st : State) → AreEntriesNumbered st.entries → AreEntriesNumbered (step clauses st).entries
+pub step-numbered : (clauses : List Clause) (st : State) → AreEntriesNumbered st.entries → AreEntriesNumbered (step clauses st).entries
 unfolding step
 step-numbered clauses st h = entry-numbered clauses st.entries st h h
 

@@ -164,6 +164,37 @@ condition_commits : replayed condition_commits_job 12 3 condition_commits_events
 unfolding replayed
 condition_commits = refl
 
+-- The commit of once is taken while all to the left of its scope is still open: the worker of its second solution is lost.
+-- p(1). p(2). ?- (true ; once(p(X))).
+abbrev once_commits_job : Job
+once_commits_job =
+    job
+    (
+    clause (Compound (codes "p") (more (IntTerm (pos 1)) end)) (AtomTerm (codes "true")) ∷
+    clause (Compound (codes "p") (more (IntTerm (pos 2)) end)) (AtomTerm (codes "true")) ∷ [])
+    (
+    query (Compound (codes ";") (more (AtomTerm (codes "true"))
+    (more (Compound (codes "once") (more (Compound (codes "p") (more (VarTerm 0) end)) end)) end))) (named (codes "X") 0 ∷ []) ∷ [])
+
+abbrev once_commits_events : List Event
+once_commits_events =
+    Claim 0 (at_place 0 0) ∷ Nodes 0 (at_place 0 0) 1 (2 ∷ []) ∷ Claim 0 (at_place 1 0) ∷ Claim 1 (at_place 1 1) ∷
+    Nodes 1 (at_place 1 1) 3 (2 ∷ 2 ∷ []) ∷ Claim 1 (at_place 3 0) ∷ Claim 2 (at_place 3 1) ∷ Prune 1 (at_place 3 0) ∷
+    Lost 2 (at_place 3 1) ∷ Claim 2 (at_place 4 0) ∷ Nodes 2 (at_place 4 0) 1 (1 ∷ []) ∷ Claim 2 (at_place 5 0) ∷
+    Suspend 2 (at_place 5 0) false ∷ Nodes 0 (at_place 1 0) 1 (1 ∷ []) ∷ Claim 0 (at_place 6 0) ∷ Answer 0 (at_place 6 0) false ∷
+    Resume 1 (at_place 5 0) ∷ Answer 1 (at_place 5 0) false ∷ Claim 0 (at_place 7 0) ∷ Answer 0 (at_place 7 0) false ∷ []
+
+once_commits : replayed once_commits_job 20 10000 once_commits_events ≡ record {
+  legal = true;
+  text = lines
+      (codes "X = _0" ∷ codes "X = 1" ∷ codes "no" ∷ []);
+  end = Some Finished;
+  answers = 2;
+  inferences = 10;
+}
+unfolding replayed
+once_commits = refl
+
 -- A cut in a called goal is local to it.
 -- p(1). p(2). ?- call(p, X), call((p(Y), !)).
 abbrev cut_in_call_job : Job

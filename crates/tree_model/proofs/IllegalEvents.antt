@@ -93,6 +93,61 @@ waiting_is_not_cleared : shown_legal cut_job 10 10000
 unfolding shown_legal
 waiting_is_not_cleared = refl
 
+-- p(1). p(2). ?- p(X).
+abbrev answers_job : Job
+answers_job =
+    job (clause (Compound (codes "p") (more (IntTerm (pos 1)) end)) (AtomTerm (codes "true")) ∷
+    clause (Compound (codes "p") (more (IntTerm (pos 2)) end)) (AtomTerm (codes "true")) ∷ [])
+    (query (Compound (codes "p") (more (VarTerm 0) end)) (named (codes "X") 0 ∷ []) ∷ [])
+
+-- The second answer is not given while the first one is pending, and no branch is frozen that is short of the budget.
+answer_is_not_first : shown_legal answers_job 10 10000 both_out ([] ∷ [] ∷ [] ∷ [] ∷
+    (Answer 1 (at_place 1 1) false ∷ Suspend 1 (at_place 1 1) true ∷ Answer 0 (at_place 1 0) true ∷ Answer 0 (at_place 1 0) false ∷
+    []) ∷ [])
+    ≡ false ∷ false ∷ false ∷ true ∷ []
+unfolding shown_legal
+answer_is_not_first = refl
+
+-- Two nodes are live: with a window of two the second alternative is not handed out beside the first, with three it is.
+window_is_full : shown_legal answers_job 10 2 (Claim 0 (at_place 0 0) ∷ Nodes 0 (at_place 0 0) 1 (2 ∷ []) ∷ Claim 0 (at_place 1 0) ∷ [])
+    ([] ∷ [] ∷ (Claim 0 (at_place 1 1) ∷ Claim 0 (at_place 1 0) ∷ []) ∷ (Claim 1 (at_place 1 1) ∷ []) ∷ []) ≡ false ∷ true ∷ false ∷ []
+unfolding shown_legal
+window_is_full = refl
+
+window_has_room : shown_legal answers_job 10 3 (Claim 0 (at_place 0 0) ∷ Nodes 0 (at_place 0 0) 1 (2 ∷ []) ∷ Claim 0 (at_place 1 0) ∷ [])
+    ([] ∷ [] ∷ [] ∷ (Claim 1 (at_place 1 1) ∷ []) ∷ []) ≡ true ∷ []
+unfolding shown_legal
+window_has_room = refl
+
+-- p(1). p(2). ?- (p(X), true -> true ; fail).
+abbrev condition_job : Job
+condition_job =
+    job (clause (Compound (codes "p") (more (IntTerm (pos 1)) end)) (AtomTerm (codes "true")) ∷
+    clause (Compound (codes "p") (more (IntTerm (pos 2)) end)) (AtomTerm (codes "true")) ∷ [])
+    (query (Compound (codes ";") (more (Compound (codes "->")
+    (more (Compound (codes ",") (more (Compound (codes "p") (more (VarTerm 0) end)) (more (AtomTerm (codes "true")) end)))
+    (more (AtomTerm (codes "true")) end))) (more (AtomTerm (codes "fail")) end))) (named (codes "X") 0 ∷ []) ∷ [])
+
+-- The scope of the condition ends inside the first of these shapes.
+scope_is_split : shown_legal condition_job 10 10000 (Claim 0 (at_place 0 0) ∷ []) ([] ∷
+    (Nodes 0 (at_place 0 0) 2 (3 ∷ []) ∷ Nodes 0 (at_place 0 0) 2 (2 ∷ 2 ∷ []) ∷ []) ∷ []) ≡ false ∷ true ∷ []
+unfolding shown_legal
+scope_is_split = refl
+
+-- p(1). p(2). ?- catch(p(X), e, true).
+abbrev catch_job : Job
+catch_job =
+    job (clause (Compound (codes "p") (more (IntTerm (pos 1)) end)) (AtomTerm (codes "true")) ∷
+    clause (Compound (codes "p") (more (IntTerm (pos 2)) end)) (AtomTerm (codes "true")) ∷ [])
+    (query (Compound (codes "catch") (more (Compound (codes "p") (more (VarTerm 0) end))
+    (more (AtomTerm (codes "e")) (more (AtomTerm (codes "true")) end)))) (named (codes "X") 0 ∷ []) ∷ [])
+
+-- A recovery is the one further alternative of its node.
+recovery_is_not_alone : shown_legal catch_job 10 10000 (Claim 0 (at_place 0 0) ∷ []) ([] ∷
+    (Nodes 0 (at_place 0 0) 3 (3 ∷ []) ∷ Nodes 0 (at_place 0 0) 3 (2 ∷ 2 ∷ []) ∷ []) ∷ []) ≡ false ∷ true ∷ []
+unfolding shown_legal
+recovery_is_not_alone = refl
+
 -- Where the tree has been stopped nothing is legal, another stop included.
 stopped_refuses : shown_legal fact_job 10 10000 (Stop 0 ∷ []) ((Stop 0 ∷ []) ∷ (Stop 0 ∷ Claim 0 (at_place 0 0) ∷ []) ∷ [])
     ≡ true ∷ false ∷ false ∷ []

@@ -1,5 +1,6 @@
 mod BallHistories
 mod CutHistories
+mod HaltHistories
 mod IllegalEvents
 mod QueryHistories
 mod ResultHistories

@@ -162,7 +162,11 @@ world_changes_job =
               name = codes "k";
               arity = 1;
               clauses =
-                  (record { number = 0; clause = clause (Compound (codes "k") (more (IntTerm (pos 1)) end)) (AtomTerm (codes "true")) } ∷ record {
+                  (record {
+                    number = 0;
+                    clause = clause (Compound (codes "k") (more (IntTerm (pos 1)) end))
+                        (AtomTerm (codes "true"));
+                  } ∷ record {
                     number = 1;
                     clause = clause (Compound (codes "k") (more (IntTerm (pos 2)) end)) (AtomTerm (codes "true"));
                   } ∷ []);

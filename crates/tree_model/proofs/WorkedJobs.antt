@@ -47,21 +47,17 @@ pub record Replayed : Type 0 where
   pub answers : ℕ
   pub inferences : ℕ
 
+abbrev pub shown_of : Bool → TreeState → Replayed
+shown_of legal t = record { legal = legal; text = t.world.written; end = ended t; answers = (counts t).0; inferences = (counts t).1 }
+
 -- what the tree after a history shows
 unfoldable pub replayed : Job → ℕ → ℕ → List Event → Replayed
 unfolding after_event is_legal gate_of run_of private_run outcome_of unifier encode digits
 replayed j budget window es =
-    let t = tree_after j budget window es in
-    record {
-      legal = are_legal (opening_tree j budget window) es;
-      text = t.world.written;
-      end = ended t;
-      answers = (counts t).0;
-      inferences = (counts t).1;
-    }
+    shown_of (are_legal (opening_tree j budget window) es) (tree_after j budget window es)
 
 -- which of these events may happen in each tree of a history
-abbrev legal_here : TreeState → List Event → List Bool
+abbrev pub legal_here : TreeState → List Event → List Bool
 legal_here t [] = []
 legal_here t (e ∷ es) = is_legal t e ∷ legal_here t es
 

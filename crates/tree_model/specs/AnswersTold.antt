@@ -4,7 +4,7 @@ use Rattle.tree_model.specs.Levels.{Spot}
 use Rattle.tree_model.specs.FrontGates.{Taken, Continues, Answered, Raises, Halts, QueryEnds, taken_at_front}
 use Rattle.tree_model.specs.Events.{Event, Claim, Nodes, Empty, Collected, Lost, Suspend, Resume, Prune, Answer, Stop}
 use Rattle.tree_model.specs.TreeStates.{TreeState, leftmost}
-use Rattle.tree_model.specs.Effects.{stack_of}
+use Rattle.tree_model.specs.Effects.{spot_stack}
 
 abbrev pub answers_by : Taken → ℕ
 answers_by Answered = 1
@@ -15,7 +15,7 @@ answers_by QueryEnds = 0
 
 -- where what is at the front is taken
 abbrev pub answers_at : TreeState → Spot → ℕ
-answers_at t s = answers_by (taken_at_front t.job.clauses (stack_of s) t.world).1
+answers_at t s = answers_by (taken_at_front t.job.clauses (spot_stack s) t.world).1
 
 abbrev pub answers_first : TreeState → Option Spot → ℕ
 answers_first t None = 0

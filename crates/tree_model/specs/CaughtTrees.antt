@@ -8,12 +8,7 @@ use Rattle.tree_model.specs.Nodes.{Pending, Inner, Closed}
 use Rattle.tree_model.specs.Orders.{is_closed}
 use Rattle.tree_model.specs.Pruning.{is_findall}
 use Rattle.tree_model.specs.Ways.{is_query}
-use Rattle.tree_model.specs.Levels.{Place}
-use Rattle.tree_model.specs.Events.{Nodes}
 use Rattle.tree_model.specs.TreeStates.{TreeState}
-use Rattle.tree_model.specs.Legality.{is_legal}
-use Rattle.tree_model.specs.Effects.{after_event}
-use Rattle.tree_model.specs.SoundTrees.{IsSoundTree}
 
 -- whether a recovery sleeps first among these alternatives
 abbrev pub is_catch : Hold → Entry → Bool
@@ -140,7 +135,3 @@ pub record IsCaughtTree (t : TreeState) : Type 0 where
   pub last : IsLastQuery t.root
   -- a halt alone spends on an entry
   pub unspent : t.halted ≡ None → IsUnspent 0 t.root
-
-abbrev pub PublishKeepsCaught : Type 0
-PublishKeepsCaught = (t : TreeState) (w : ℕ) (a : Place) (k : ℕ) (sizes : List ℕ) → IsSoundTree t → IsCaughtTree t
-    → is_legal t (Nodes w a k sizes) ≡ true → IsCaughtTree (after_event t (Nodes w a k sizes))

@@ -7,13 +7,13 @@ use Rattle.run_model.specs.Programs.Jobs.{Query}
 use Rattle.run_model.specs.Goals.Worlds.{World}
 use Rattle.tree_model.specs.Credits.{Credit, credit_of}
 use Rattle.tree_model.specs.Nodes.{Gate, CutGate, BallGate, WorldGate, FrozenGate, ChoiceNode, Hold, Ready, TakenBy, Waiting, Numbered}
-use Rattle.tree_model.specs.Nodes.{Status, Pending, Inner, single, standing}
+use Rattle.tree_model.specs.Nodes.{Status, Pending, Inner, single, entry_alternatives}
 use Rattle.tree_model.specs.Levels.{Level, plug, Place, Spot, levels_of}
 use Rattle.tree_model.specs.Floors.{floor_of, with_heights, with_nodes, node_of}
-use Rattle.tree_model.specs.Gates.{landing_scope}
+use Rattle.tree_model.specs.Gates.{ball_scope}
 use Rattle.tree_model.specs.PrivateRuns.{taken_alone}
 use Rattle.tree_model.specs.Closing.{Grown, closes}
-use Rattle.tree_model.specs.Pruning.{Task, pruned, tasks_pruned, lands}
+use Rattle.tree_model.specs.Pruning.{Task, pruned, tasks_pruned, ball_closes}
 use Rattle.tree_model.specs.Shapes.{placed}
 use Rattle.tree_model.specs.FrontGates.{Taken, Continues, Answered, Raises, Halts, QueryEnds, taken_at_front}
 use Rattle.tree_model.specs.Events.{Event, Claim, Nodes, Empty, Collected, Lost, Suspend, Resume, Prune, Answer, Stop}
@@ -41,7 +41,7 @@ left_at s [] t = closed_with s (credit_of 1) t
 left_at s (e ∷ es) t =
     record t {
       root = plug (spending 1 (levels_of s))
-          (Inner (Numbered t.next ChoiceNode (standing Ready (map (with_nodes (node_of (levels_of s))) (e ∷ es)))));
+          (Inner (Numbered t.next ChoiceNode (entry_alternatives Ready (map (with_nodes (node_of (levels_of s))) (e ∷ es)))));
       next = suc t.next;
     }
 
@@ -49,8 +49,8 @@ left_at s (e ∷ es) t =
 abbrev pub ball_falls : Spot → List Entry → TreeState → TreeState
 ball_falls s [] t = t
 ball_falls s (e ∷ es) t =
-    let scope = landing_scope (levels_of s) (e ∷ es) in
-    grown (lands t.next scope (levels_of s) (credit_of 1) (with_nodes (node_of (levels_of s)) e))
+    let scope = ball_scope (levels_of s) (e ∷ es) in
+    grown (ball_closes t.next scope (levels_of s) (credit_of 1) (with_nodes (node_of (levels_of s)) e))
     (record t { lost = t.lost ++ tasks_pruned scope (levels_of s) })
 
 -- a cut leaves this entry
@@ -88,8 +88,8 @@ front_taken s (Halts k) t = record t { root = plug (spending 1 (levels_of s)) (P
 front_taken s QueryEnds t = query_opens s t.queries t
 
 -- what is in for an alternative in the sequential machine
-abbrev pub stack_of : Spot → List Entry
-stack_of s = with_heights (levels_of s) s.entry ∷ floor_of (levels_of s)
+abbrev pub spot_stack : Spot → List Entry
+spot_stack s = with_heights (levels_of s) s.entry ∷ floor_of (levels_of s)
 
 abbrev pub world_moved : Spot → World × Taken → TreeState → TreeState
 world_moved s r t = front_taken s r.1 (record t { world = r.0 })
@@ -133,9 +133,9 @@ after_allowed t (Lost w a) = record t { lost = without_task w a t.lost }
 after_allowed t (Suspend w a frozen) = where_some (taken_at w a t) t
     (λ s. with_status s (Pending (gate_or_frozen frozen (gate_of t s)) s.entry) t)
 after_allowed t (Prune w a) = where_some (taken_at w a t) t
-    (λ s. gate_pruned s (gate_of t s) (or_none (taken_alone t.job.clauses (stack_of s))) t)
+    (λ s. gate_pruned s (gate_of t s) (or_none (taken_alone t.job.clauses (spot_stack s))) t)
 after_allowed t (Answer w a frozen) = where_some (taken_at w a t) t
-    (λ s. world_moved s (taken_at_front t.job.clauses (stack_of s) t.world) t)
+    (λ s. world_moved s (taken_at_front t.job.clauses (spot_stack s) t.world) t)
 after_allowed t (Stop w) = record t { stopped = true }
 
 -- each event is noted

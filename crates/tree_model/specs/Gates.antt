@@ -1,9 +1,11 @@
 -- What a worker may not do by itself.
 use Rattle.std.specs.Prelude.{ℕ, suc, Bool, false, nat_le, cond, List, [], ◌∷◌, Option, Some, None, length, nat_lt}
 use Rattle.run_model.specs.Programs.Clauses.{Clause}
-use Rattle.run_model.specs.Goals.Outcomes.{Reply, Solutions, Ball, HaltNumber, ControlForm, GoesOnWith, EitherOf, TestOf, CutToScope, CatchOf}
+use Rattle.run_model.specs.Goals.Outcomes.{Reply, Solutions, Ball, HaltNumber, ControlForm, GoesOnWith, EitherOf, TestOf, CutToScope}
+use Rattle.run_model.specs.Goals.Outcomes.{CatchOf}
 use Rattle.run_model.specs.Goals.Outcomes.{FindallOf, Outcome, Replies, Controls, AskWorld}
-use Rattle.run_model.specs.Machine.Items.{Item, GoalItem, CatchMark, CollectMark, RemovalItem, Continuation, with_items, without_marks, first_mark}
+use Rattle.run_model.specs.Machine.Items.{Item, GoalItem, CatchMark, CollectMark, RemovalItem, Continuation, with_items, without_marks}
+use Rattle.run_model.specs.Machine.Items.{first_mark}
 use Rattle.run_model.specs.Machine.Entries.{Entry, PlainEntry, CatchEntry, FindallEntry, EndEntry}
 use Rattle.run_model.specs.Machine.Balls.{unwound}
 use Rattle.run_model.specs.Goals.GoalOutcomes.{outcome_of}
@@ -12,18 +14,18 @@ use Rattle.tree_model.specs.Levels.{Level}
 use Rattle.tree_model.specs.Floors.{node_of, query_node}
 
 -- the scope of a ball that leaves this of a stack: the catch node that takes it, or the innermost query's node
-abbrev pub landing_scope : List Level → List Entry → ℕ
-landing_scope levels (PlainEntry f ∷ es) = node_of levels (suc (length es))
-landing_scope levels es = query_node levels
+abbrev pub ball_scope : List Level → List Entry → ℕ
+ball_scope levels (PlainEntry f ∷ es) = node_of levels (suc (length es))
+ball_scope levels es = query_node levels
 
 -- whether it lands at one of the own entries
-abbrev pub lands_above : List Level → List Entry → Bool
-lands_above levels (PlainEntry f ∷ es) = nat_le (length levels) (length es)
-lands_above levels es = false
+abbrev pub is_caught_above : List Level → List Entry → Bool
+is_caught_above levels (PlainEntry f ∷ es) = nat_le (length levels) (length es)
+is_caught_above levels es = false
 
 -- a ball is one where it lands in the floor
 abbrev pub ball_gate : List Level → List Entry → Option Gate
-ball_gate levels es = cond (lands_above levels es) None (Some (BallGate (landing_scope levels es)))
+ball_gate levels es = cond (is_caught_above levels es) None (Some (BallGate (ball_scope levels es)))
 
 -- a cut is one where its scope is a node, the alternative's own excepted
 abbrev pub control_gate : List Level → ControlForm → ℕ → Option Gate

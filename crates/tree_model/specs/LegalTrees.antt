@@ -1,5 +1,5 @@
 -- What every legal tree keeps.
-use Rattle.std.specs.Prelude.{◌≡◌, ◌<◌, ℕ, true, List}
+use Rattle.std.specs.Prelude.{◌≡◌, ◌<◌, ◌≤◌, ℕ, true, List}
 use Rattle.run_model.specs.Programs.Jobs.{Job}
 use Rattle.tree_model.specs.Credits.{greatest}
 use Rattle.run_model.specs.Machine.Entries.{Entry}
@@ -14,12 +14,19 @@ use Rattle.tree_model.specs.Histories.{tree_after, IsLegalHistory}
 use Rattle.tree_model.specs.SoundTrees.{IsOpen, profile, IsSoundTree}
 use Rattle.tree_model.specs.CaughtTrees.{IsCaughtTree}
 use Rattle.tree_model.specs.GivenAnswers.{answers_in, AreInOrder}
+use Rattle.tree_model.specs.NumberedTrees.{IsNumberedTree}
 
--- numbers, shapes and scopes; catch marks, results, ends of queries and what was spent; the order of answers
+-- numbers, shapes and scopes; catch marks, results, ends of queries and what was spent; the order of answers; variables
 pub record IsLegalTree (t : TreeState) : Type 0 where
   pub sound : IsSoundTree t
   pub caught : IsCaughtTree t
   pub ordered : AreInOrder t.root
+  pub numbered : IsNumberedTree t
+
+-- of every budget
+abbrev pub HistoriesAreSound : Type 0
+HistoriesAreSound = (job : Job) (budget window : ℕ) (es : List Event) → IsLegalHistory job budget window es
+    → IsSoundTree (tree_after job budget window es)
 
 -- as long as its answers can be counted
 abbrev pub EventsKeepTrees : Type 0
@@ -28,7 +35,7 @@ EventsKeepTrees =
 
 abbrev pub HistoriesKeepTrees : Type 0
 HistoriesKeepTrees =
-    (job : Job) (budget window : ℕ) (es : List Event) → budget < greatest → IsLegalHistory job budget window es
+    (job : Job) (budget window : ℕ) (es : List Event) → budget ≤ greatest → IsLegalHistory job budget window es
     → IsLegalTree (tree_after job budget window es)
 
 -- who has an open entry is not seen in the list

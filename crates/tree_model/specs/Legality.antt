@@ -13,7 +13,7 @@ use Rattle.tree_model.specs.Orders.{is_cleared, spent_on}
 use Rattle.tree_model.specs.Pruning.{Task}
 use Rattle.tree_model.specs.Shapes.{fits_shape}
 use Rattle.tree_model.specs.Events.{Event, Claim, Nodes, Empty, Collected, Lost, Suspend, Resume, Prune, Answer, Stop}
-use Rattle.tree_model.specs.TreeStates.{TreeState, pending, leftmost, live, ended}
+use Rattle.tree_model.specs.TreeStates.{TreeState, pending_spots, leftmost, live, ended}
 
 abbrev pub is_ready : Hold → Bool
 is_ready Ready = true
@@ -37,7 +37,7 @@ if_room t None = None
 if_room t (Some s) = cond (is_spot_at (place_of_spot s) (leftmost t) || nat_lt (live t) t.window) (Some s) None
 
 abbrev pub claimable : TreeState → Option Spot
-claimable t = if_room t (find (λ s. is_ready s.hold) (pending t))
+claimable t = if_room t (find (λ s. is_ready s.hold) (pending_spots t))
 
 -- a branch that has reached the budget goes on never: all to its left would have to be closed, and then the tree has ended
 abbrev pub may_resume : Spot → Hold → Bool
@@ -47,11 +47,11 @@ may_resume s (TakenBy w) = false
 may_resume s Dormant = false
 
 abbrev pub resumable : TreeState → Option Spot
-resumable t = find (λ s. may_resume s s.hold) (pending t)
+resumable t = find (λ s. may_resume s s.hold) (pending_spots t)
 
 -- an alternative that is out to this worker
 abbrev pub taken_at : ℕ → Place → TreeState → Option Spot
-taken_at w a t = find (λ s. is_taken_by w s.hold && same_place a (place_of_spot s)) (pending t)
+taken_at w a t = find (λ s. is_taken_by w s.hold && same_place a (place_of_spot s)) (pending_spots t)
 
 -- the gate of its next item
 unfoldable pub gate_of : TreeState → Spot → Option Gate

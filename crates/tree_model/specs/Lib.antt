@@ -9,6 +9,7 @@ pub mod Closing
 pub mod Pruning
 pub mod Shapes
 pub mod Events
+pub mod EventViews
 pub mod TreeStates
 pub mod Legality
 pub mod FrontGates
@@ -19,6 +20,7 @@ pub mod Tables
 pub mod Ways
 pub mod SoundTrees
 pub mod CaughtTrees
+pub mod NumberedTrees
 pub mod GivenAnswers
 pub mod AnswersTold
 pub mod Elements

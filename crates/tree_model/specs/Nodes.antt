@@ -75,9 +75,9 @@ abbrev mutual
   credits_below (Closed credit) = credit
 
 -- alternatives that are Ready or Dormant
-abbrev pub standing : Hold → List Entry → Alternatives
-standing hold [] = none
-standing hold (e ∷ es) = alternative 0 (Pending hold e) (standing hold es)
+abbrev pub entry_alternatives : Hold → List Entry → Alternatives
+entry_alternatives hold [] = none
+entry_alternatives hold (e ∷ es) = alternative 0 (Pending hold e) (entry_alternatives hold es)
 
 -- a node with one alternative
 abbrev pub single : ℕ → Entry → Node

@@ -128,15 +128,15 @@ ListIsAround levels status = pending_list (plug levels status)
     ≡ front_of levels ++ (list_below (way_of levels) (spent_at levels) status ++ back_of levels)
 
 -- credits and ends
-abbrev pub IsQuiet : Element → Type 0
-IsQuiet (CreditElement k rs) = Unit {0}
-IsQuiet (EndOf s) = Unit {0}
-IsQuiet (Plain p f) = ⊥
-IsQuiet (Catch s u c r p f) = ⊥
-IsQuiet (Findall s u rs l p f) = ⊥
-IsQuiet (End p b) = ⊥
+abbrev pub IsCreditOrEnd : Element → Type 0
+IsCreditOrEnd (CreditElement k rs) = Unit {0}
+IsCreditOrEnd (EndOf s) = Unit {0}
+IsCreditOrEnd (Plain p f) = ⊥
+IsCreditOrEnd (Catch s u c r p f) = ⊥
+IsCreditOrEnd (Findall s u rs l p f) = ⊥
+IsCreditOrEnd (End p b) = ⊥
 
 -- the front is that of the levels from a scope on up, and then credits and ends alone
 pub record FrontIsQuiet (scope : Option ℕ) (levels : List Level) : Type 0 where
   pub joined : front_of levels ≡ front_of (levels_from scope levels) ++ front_below scope levels
-  pub quiet : Each IsQuiet (front_below scope levels)
+  pub quiet : Each IsCreditOrEnd (front_below scope levels)

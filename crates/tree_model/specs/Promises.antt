@@ -15,10 +15,6 @@ use Rattle.tree_model.specs.Legality.{claimable, resumable}
 use Rattle.tree_model.specs.Histories.{tree_after, IsLegalHistory}
 use Rattle.tree_model.specs.HandOuts.{Never, handed_after}
 
--- budgets that a count can reach
-pub record IsOpening (budget window : ℕ) : Type 0 where
-  pub budget_counts : budget ≤ greatest
-
 -- what was written is a front of the sequential text; while the tree has not ended, its world is the one after as many
 -- inferences as its leftmost clock shows
 pub record KeepsPrefix (job : Job) (budget : ℕ) (t : TreeState) : Type 0 where
@@ -31,12 +27,13 @@ pub record EndsRight (job : Job) (budget : ℕ) (t : TreeState) : Type 0 where
   pub ending : (e : RunEnding) → ended t ≡ Some e → e ≡ ending_of job budget
   pub counted : (e : RunEnding) → ended t ≡ Some e → e ≢ Budget → counts t ≡ (answers_of job budget, inferences_of job budget)
 
+-- of every budget that a count can reach
 abbrev pub Prefix : Type 0
-Prefix = (job : Job) (budget window : ℕ) (es : List Event) → IsOpening budget window → IsLegalHistory job budget window es
+Prefix = (job : Job) (budget window : ℕ) (es : List Event) → budget ≤ greatest → IsLegalHistory job budget window es
     → KeepsPrefix job budget (tree_after job budget window es)
 
 abbrev pub End : Type 0
-End = (job : Job) (budget window : ℕ) (es : List Event) → IsOpening budget window → IsLegalHistory job budget window es
+End = (job : Job) (budget window : ℕ) (es : List Event) → budget ≤ greatest → IsLegalHistory job budget window es
     → EndsRight job budget (tree_after job budget window es)
 
 -- no alternative is claimed twice, or out to two workers

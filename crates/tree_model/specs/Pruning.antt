@@ -56,14 +56,15 @@ is_findall CatchNode = false
 is_findall QueryNode = false
 
 -- records that are in the goal side of a findall go with it
-abbrev pub kept_records : Level → Credit → Credit
-kept_records v c = elim v.left [ [] ↦ cond (is_findall v.kind) (without_records c) c | a ∷ left ↦ c ]
+abbrev pub remaining_records : Level → Credit → Credit
+remaining_records v c = elim v.left [ [] ↦ cond (is_findall v.kind) (without_records c) c | a ∷ left ↦ c ]
 
 -- what a ball leaves of a level: what closed to the left, what was spent, and what is left of the levels below
 abbrev pub left_after : Level → Credit → Credit
-left_after v c = added (credits_left v.left) (added (credit_of v.spent) (kept_records v c))
+left_after v c = added (credits_left v.left) (added (credit_of v.spent) (remaining_records v c))
 
 -- a ball lands at the node that is its scope: the goal side closes, and what is dormant wakes as this entry
-abbrev pub lands : ℕ → ℕ → List Level → Credit → Entry → Grown
-lands next scope [] c e = record { root = Closed c; next = next }
-lands next scope (v ∷ up) c e = cond (v.number == scope) (wakes next v up (left_after v c) e) (lands next scope up (left_after v c) e)
+abbrev pub ball_closes : ℕ → ℕ → List Level → Credit → Entry → Grown
+ball_closes next scope [] c e = record { root = Closed c; next = next }
+ball_closes next scope (v ∷ up) c e = cond (v.number == scope) (wakes next v up (left_after v c) e)
+    (ball_closes next scope up (left_after v c) e)

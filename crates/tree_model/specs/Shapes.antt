@@ -5,7 +5,7 @@ use Rattle.std.specs.List.{list_any}
 use Rattle.run_model.specs.Machine.Items.{Item, GoalItem, CatchMark, CollectMark, RemovalItem}
 use Rattle.run_model.specs.Machine.Entries.{Entry, PlainEntry, CatchEntry, FindallEntry, EndEntry}
 use Rattle.tree_model.specs.Nodes.{Kind, ChoiceNode, CatchNode, FindallNode, Hold, Ready, Dormant, Numbered, Alternatives, alternative}
-use Rattle.tree_model.specs.Nodes.{Status, Pending, Inner, Closed, standing}
+use Rattle.tree_model.specs.Nodes.{Status, Pending, Inner, Closed, entry_alternatives}
 use Rattle.tree_model.specs.Credits.{no_credit}
 use Rattle.tree_model.specs.Levels.{Level}
 use Rattle.tree_model.specs.Floors.{node_of, with_nodes}
@@ -47,12 +47,12 @@ abbrev pub is_alone : List Entry → Bool
 is_alone es = not (list_any is_guard es) || length es == 1
 
 -- of entries over so many others, for nodes from the outermost on
-abbrev pub fits : ℕ → List ℕ → List ℕ → List Entry → Bool
-fits low cuts [] es = length es == 1
-fits low cuts (size ∷ sizes) es =
+abbrev pub fits_nodes : ℕ → List ℕ → List ℕ → List Entry → Bool
+fits_nodes low cuts [] es = length es == 1
+fits_nodes low cuts (size ∷ sizes) es =
     let rest = length es - further size in
     nat_le 2 size && (nat_lt (further size) (length es) &&
-    (is_alone (drop rest es) && (is_unsplit low size cuts && fits (low + further size) cuts sizes (take rest es))))
+    (is_alone (drop rest es) && (is_unsplit low size cuts && fits_nodes (low + further size) cuts sizes (take rest es))))
 
 abbrev pub same_sizes : List ℕ → List ℕ → Bool
 same_sizes [] [] = true
@@ -63,7 +63,7 @@ same_sizes (a ∷ sizes) (b ∷ bs) = (a == b) && same_sizes sizes bs
 -- one entry becomes a node of its own
 abbrev pub fits_shape : ℕ → List ℕ → List Entry → Bool
 fits_shape low sizes (e ∷ []) = same_sizes sizes (1 ∷ [])
-fits_shape low sizes es = fits low (cuts_of es) sizes es
+fits_shape low sizes es = fits_nodes low (cuts_of es) sizes es
 
 -- the node that holds the entry at this height over the floor, of nodes numbered from here on
 abbrev pub holder : ℕ → List ℕ → ℕ → ℕ
@@ -87,7 +87,7 @@ guard_hold FindallNode = Dormant
 guard_hold k = Ready
 
 abbrev pub further_alternatives : List Entry → Alternatives
-further_alternatives es = standing (guard_hold (guard_kind es)) es
+further_alternatives es = entry_alternatives (guard_hold (guard_kind es)) es
 
 -- the nodes of entries, the newest first
 abbrev pub placed_status : ℕ → List ℕ → List Entry → Status

@@ -1,13 +1,11 @@
 -- What every legal tree keeps.
 use Rattle.std.specs.Prelude.{◌≡◌, ℕ, suc, ◌+◌, ◌≤◌, ◌==◌, Bool, true, false, List, [], ◌∷◌}
-use Rattle.au_model.specs.Terms.Each.{Each}
-use Rattle.run_model.specs.Laws.Numbering.{IsEntryNumbered}
 use Rattle.run_model.specs.Machine.Entries.{Entry, PlainEntry, CatchEntry, FindallEntry, EndEntry}
 use Rattle.tree_model.specs.Nodes.{Kind, ChoiceNode, CatchNode, FindallNode, QueryNode, Hold, Ready, TakenBy, Waiting, Dormant, Node}
 use Rattle.tree_model.specs.Nodes.{Numbered, Alternatives, none, alternative, Status, Pending, Inner, Closed}
 use Rattle.tree_model.specs.PendingLists.{Way}
 use Rattle.tree_model.specs.Ways.{is_on, same_kind, IsOnWay, IsHeldBy}
-use Rattle.tree_model.specs.TreeStates.{TreeState, pending}
+use Rattle.tree_model.specs.TreeStates.{TreeState}
 
 -- how often a number names a node
 abbrev pub one_if : Bool → ℕ
@@ -31,7 +29,7 @@ abbrev mutual
 pub data Profile : Type 0 where
   IsOpen : Profile
   -- dormant after a first alternative of this kind of node
-  Sleeps : Kind → Profile
+  IsDormant : Kind → Profile
   IsShut : Profile
 
 abbrev pub guards : Entry → Kind
@@ -41,7 +39,7 @@ guards (FindallEntry results l f) = FindallNode
 guards (EndEntry b) = QueryNode
 
 abbrev pub hold_profile : Hold → Entry → Profile
-hold_profile Dormant e = Sleeps (guards e)
+hold_profile Dormant e = IsDormant (guards e)
 hold_profile Ready e = IsOpen
 hold_profile (TakenBy w) e = IsOpen
 hold_profile (Waiting g) e = IsOpen
@@ -55,19 +53,19 @@ abbrev pub profiles : Alternatives → List Profile
 profiles none = []
 profiles (alternative spent status others) = profile status ∷ profiles others
 
-abbrev pub none_sleeps : List Profile → Bool
-none_sleeps [] = true
-none_sleeps (Sleeps k ∷ ps) = false
-none_sleeps (IsOpen ∷ ps) = none_sleeps ps
-none_sleeps (IsShut ∷ ps) = none_sleeps ps
+abbrev pub none_dormant : List Profile → Bool
+none_dormant [] = true
+none_dormant (IsDormant k ∷ ps) = false
+none_dormant (IsOpen ∷ ps) = none_dormant ps
+none_dormant (IsShut ∷ ps) = none_dormant ps
 
 -- the second alternative sleeps exactly while the first is open; a recovery may have been cut away
 abbrev pub is_pair : Kind → Profile → Profile → Bool
-is_pair k IsOpen (Sleeps j) = same_kind k j
+is_pair k IsOpen (IsDormant j) = same_kind k j
 is_pair k IsOpen IsShut = same_kind k CatchNode
 is_pair k IsOpen IsOpen = false
-is_pair k (Sleeps j) p = false
-is_pair k IsShut (Sleeps j) = false
+is_pair k (IsDormant j) p = false
+is_pair k IsShut (IsDormant j) = false
 is_pair k IsShut IsOpen = true
 is_pair k IsShut IsShut = true
 
@@ -76,7 +74,7 @@ are_pair k (a ∷ b ∷ []) = is_pair k a b
 are_pair k ps = false
 
 abbrev pub is_shape : Kind → List Profile → Bool
-is_shape ChoiceNode ps = none_sleeps ps
+is_shape ChoiceNode ps = none_dormant ps
 is_shape CatchNode ps = are_pair CatchNode ps
 is_shape FindallNode ps = are_pair FindallNode ps
 is_shape QueryNode ps = are_pair QueryNode ps
@@ -86,7 +84,7 @@ abbrev pub some_open : List Profile → Bool
 some_open [] = false
 some_open (IsShut ∷ ps) = some_open ps
 some_open (IsOpen ∷ ps) = true
-some_open (Sleeps k ∷ ps) = true
+some_open (IsDormant k ∷ ps) = true
 
 abbrev pub is_live : Way → List Profile → Bool
 is_live [] ps = true
@@ -114,7 +112,3 @@ pub record IsSoundTree (t : TreeState) : Type 0 where
   -- numbers from the next one on name none
   pub fresh : (n : ℕ) → t.next ≤ n → count_below n t.root ≡ 0
   pub sound : IsSound [] t.root
-
--- the variables of each entry are below its next number
-abbrev pub IsNumberedTree : TreeState → Type 0
-IsNumberedTree t = Each (λ s. IsEntryNumbered s.entry) (pending t)

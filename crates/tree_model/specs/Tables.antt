@@ -12,16 +12,16 @@ pub data Cell : Type 0 where
   ClosedCell : Credit → Cell
 
 -- an alternative's spent inferences and its cell
-pub record Row : Type 0 where
+pub record NodeRow : Type 0 where
   pub parent : Option Place
   pub kind : Kind
   pub cells : List (ℕ × Cell)
 
 -- a number is the index of its row; none where the node is gone
 abbrev pub Table : Type 0
-Table = List (Option Row)
+Table = List (Option NodeRow)
 
-abbrev pub row_at : Table → ℕ → Option Row
+abbrev pub row_at : Table → ℕ → Option NodeRow
 row_at [] n = None
 row_at (r ∷ rows) zero = r
 row_at (r ∷ rows) (suc n) = row_at rows n
@@ -35,7 +35,7 @@ abbrev pub cells_alternatives : (ℕ → Node) → List (ℕ × Cell) → Altern
 cells_alternatives go [] = none
 cells_alternatives go (c ∷ cells) = alternative c.0 (cell_status go c.1) (cells_alternatives go cells)
 
-abbrev pub row_node : (ℕ → Node) → ℕ → Option Row → Node
+abbrev pub row_node : (ℕ → Node) → ℕ → Option NodeRow → Node
 row_node go n None = Numbered n ChoiceNode none
 row_node go n (Some r) = Numbered n r.kind (cells_alternatives go r.cells)
 

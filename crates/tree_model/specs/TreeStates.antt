@@ -65,15 +65,15 @@ opening_tree job budget window =
       history = [];
     }
 
-abbrev pub pending : TreeState → List Spot
-pending t = pending_of t.root
+abbrev pub pending_spots : TreeState → List Spot
+pending_spots t = pending_of t.root
 
 abbrev pub first_spot : List Spot → Option Spot
 first_spot [] = None
 first_spot (s ∷ ss) = Some s
 
 abbrev pub leftmost : TreeState → Option Spot
-leftmost t = first_spot (pending t)
+leftmost t = first_spot (pending_spots t)
 
 abbrev pub live : TreeState → ℕ
 live t = nodes_below t.root

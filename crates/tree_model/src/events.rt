@@ -1,19 +1,95 @@
 //! What workers do to the tree.
-use crate::places::AltRef;
+ghost use Rattle.std.specs.Prelude.{◌≡◌};
 
-/// An event of a worker at an alternative. `Nodes` places what its run has left as nodes of these sizes, the outermost
-/// first; `Empty` and `Collected` close the alternative after so many inferences; `frozen` tells an alternative that
-/// has taken the whole budget.
-#[derive(Debug, PartialEq, Eq, Drop)]
+use crate::places::AltRef;
+use std::marker::Model;
+
+/// The sizes of nodes, the outermost first; contracts see their list.
+#[derive(Debug, Drop)]
+pub struct Sizes {
+    list: Vec<u64>,
+}
+
+impl Model for Sizes {
+    ghost use Rattle.std.specs.Prelude.{ℕ, List};
+
+    ghost Value = { List ℕ };
+
+    ghost view = { λ s. s.list.items };
+}
+
+impl Sizes {
+    /// These sizes.
+    pub fn of(list: Vec<u64>) -> Sizes
+        ensures { result ≡ list.items }
+    {
+        Sizes { list }
+    }
+
+    /// The sizes, in their order.
+    pub fn as_slice(&self) -> &[u64]
+        ensures { result.now ≡ self.now }
+    {
+        &self.list
+    }
+}
+
+/// What a worker did to the tree in one turn.
+#[derive(Debug, Drop)]
 pub enum Event {
-    Claim(u32, AltRef),
-    Nodes(u32, AltRef, u64, Vec<u32>),
-    Empty(u32, AltRef, u64),
-    Collected(u32, AltRef, u64),
-    Lost(u32, AltRef),
-    Suspend(u32, AltRef, bool),
-    Resume(u32, AltRef),
-    Prune(u32, AltRef),
-    Answer(u32, AltRef, bool),
-    Stop(u32),
+    /// The alternative was handed out.
+    Claim {
+        worker: u32,
+        at: AltRef,
+    },
+    /// After so many inferences what it has left became nodes of these sizes.
+    Nodes {
+        worker: u32,
+        at: AltRef,
+        count: u64,
+        sizes: Sizes,
+    },
+    /// After so many inferences nothing of it was left.
+    Empty {
+        worker: u32,
+        at: AltRef,
+        count: u64,
+    },
+    /// After so many inferences it gave a result to a findall above.
+    Collected {
+        worker: u32,
+        at: AltRef,
+        count: u64,
+    },
+    /// It had been pruned.
+    Lost {
+        worker: u32,
+        at: AltRef,
+    },
+    /// It was given back, to wait for the gate of its next item, or because its branch has reached the budget.
+    Suspend {
+        worker: u32,
+        at: AltRef,
+        frozen: bool,
+    },
+    /// It was handed out again.
+    Resume {
+        worker: u32,
+        at: AltRef,
+    },
+    /// Its cut or ball was taken.
+    Prune {
+        worker: u32,
+        at: AltRef,
+    },
+    /// Its goal on the world, its answer or its end was taken.
+    Answer {
+        worker: u32,
+        at: AltRef,
+        frozen: bool,
+    },
+    /// The tree was stopped.
+    Stop {
+        worker: u32,
+    },
 }

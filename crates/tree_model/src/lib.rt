@@ -3,8 +3,9 @@
 #![tactic(auto)]
 
 pub mod events;
-pub mod laws;
 pub mod places;
+pub mod storied;
 
-pub use events::Event;
+pub use events::{Event, Sizes};
 pub use places::AltRef;
+pub use storied::Storied;

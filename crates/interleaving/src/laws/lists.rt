@@ -5,18 +5,20 @@ ghost use Rattle.tree_model.specs.Elements.{Name, Element};
 ghost use Rattle.interleaving.specs.Scopes.{Shared, scoped};
 ghost use Rattle.interleaving.specs.Segments.{Private};
 ghost use Rattle.interleaving.specs.Quiet.{IsQuiet};
-ghost use Rattle.interleaving.specs.Roots.{AreTold};
-ghost use Rattle.interleaving.specs.Laws.{is_inner_record, alone, Expansion, PrivateEarly, DoneEarly, SameAlone, QuietEarly, TakenEarly, WokenEarly, CollectedEarly, OneCredit, CreditsAdd, NoCredit, EnoughCredit, CreditsPass, CreditsEnd, FrontGate, FrontGateInPlace, CutInPlace, TakenInFront, RecordsGiven};
+ghost use Rattle.interleaving.specs.Roots.{AreDistinguished};
+ghost use Rattle.interleaving.specs.Laws.{AloneIsPrivate, Expansion, PrivateEarly, DoneEarly, SameAlone, QuietEarly, TakenEarly};
+ghost use Rattle.interleaving.specs.Laws.{WokenEarly, CollectedEarly, OneCredit, CreditsAdd, NoCredit, EnoughCredit, CreditsPass};
+ghost use Rattle.interleaving.specs.Laws.{CreditsEnd, FrontGate, FrontGateInPlace, CutInPlace, TakenInFront, RecordsGiven};
 
 /// The names that extend one, and the names with some last numbers, belong together, and are told from others by their
 /// length or by their last number.
 pub fn names_are_told_apart()
-    ensures { AreTold }
+    ensures { AreDistinguished }
 {}
 
 /// What a segment does privately, as a function, is a private run.
 pub fn alone_is_private()
-    ensures { (clauses : List Clause) (inside : Name → Bool) (k : ℕ) (a b : List Element) → alone clauses inside k a ≡ Some b → Private (scoped clauses) (is_inner_record inside) k [] a b }
+    ensures { (clauses : List Clause) → AloneIsPrivate clauses }
 {}
 
 /// A segment may be replaced by the credit of a private run of it and what that run leaves.

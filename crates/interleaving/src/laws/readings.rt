@@ -2,12 +2,13 @@
 ghost use Rattle.std.specs.Prelude.{ℕ, List};
 ghost use Rattle.run_model.specs.Programs.Clauses.{Clause};
 ghost use Rattle.run_model.specs.Programs.Jobs.{Job};
-ghost use Rattle.interleaving.specs.SequentialHeights.{IsHeldRun};
-ghost use Rattle.interleaving.specs.Readings.{HeightsRun, NamesAreFree, AlikeCounts, IsNamedRun, SoundExchange, SoundCut, SoundGate, SoundGateInPlace, NamedAnew};
+ghost use Rattle.interleaving.specs.SequentialHeights.{IsHeightRun};
+ghost use Rattle.interleaving.specs.Readings.{HeightsRun, NamesAreFree, AlikeCounts, IsNamedRun, SoundExchange, SoundCut, SoundGate};
+ghost use Rattle.interleaving.specs.Readings.{SoundGateInPlace, NamedAnew};
 
 /// The sequential run is the run with heights and credits in which no credit is.
 pub fn sequential_run_has_no_credit()
-    ensures { (job : Job) (n : ℕ) → IsHeldRun job n }
+    ensures { (job : Job) (n : ℕ) → IsHeightRun job n }
 {}
 
 /// A list with sound names runs as the heights do for which they stand: after each inference over the same world, to the

@@ -1,24 +1,17 @@
 //! Laws of legal histories: each function does nothing, and its contract is the law.
 ghost use Rattle.std.specs.Prelude.{◌≡◌, ℕ, List, Option, true};
-ghost use Rattle.run_model.specs.Programs.Jobs.{Job};
 ghost use Rattle.tree_model.specs.Levels.{Level};
 ghost use Rattle.tree_model.specs.Orders.{is_cleared};
-ghost use Rattle.tree_model.specs.Events.{Event};
-ghost use Rattle.tree_model.specs.Histories.{tree_after, IsLegalHistory};
 ghost use Rattle.tree_model.specs.PendingLists.{ListIsAround, FrontIsQuiet};
-ghost use Rattle.tree_model.specs.LegalTrees.{EventsKeepTrees, HistoriesKeepTrees, HoldIsUnseen};
-ghost use Rattle.tree_model.specs.SoundTrees.{IsSoundTree};
+ghost use Rattle.tree_model.specs.LegalTrees.{HistoriesAreSound, EventsKeepTrees, HistoriesKeepTrees, HoldIsUnseen};
 ghost use Rattle.tree_model.specs.Promises.{NoPrunedEffect, NeverStuck, Once};
 ghost use Rattle.interleaving.specs.Steps.{PrivateIsStep, FrontIsStep};
-ghost use Rattle.run_model.specs.Programs.Clauses.{Clause};
 ghost use Rattle.run_model.specs.Machine.Entries.{Entry};
-ghost use Rattle.run_model.specs.Machine.Items.{Continuation};
-ghost use Rattle.run_model.specs.Machine.States.{State};
 ghost use Rattle.tree_model.specs.Nodes.{Status, Hold};
 
 /// The tree after a legal history is sound: numbers differ, nodes have their shapes, and each entry looks up its way.
 pub fn legal_trees_are_sound()
-    ensures { (job : Job) (budget window : ℕ) (es : List Event) → IsLegalHistory job budget window es → IsSoundTree (tree_after job budget window es) }
+    ensures { HistoriesAreSound }
 {}
 
 /// Every event keeps what a legal tree keeps; so every legal history of a countable budget has it.
@@ -51,8 +44,8 @@ pub fn handed_out_once()
 
 /// Private inferences and those at the front are the sequential machine's, over the floor of the branch.
 pub fn inferences_are_steps()
-    ensures alone { (clauses : List Clause) (levels : List Level) (st : State) (f : Continuation ℕ) (es : List Entry) → PrivateIsStep clauses levels st f es }
-    ensures front { (clauses : List Clause) (levels : List Level) (st : State) (f : Continuation ℕ) (es : List Entry) → FrontIsStep clauses levels st f es }
+    ensures alone { PrivateIsStep }
+    ensures front { FrontIsStep }
 {}
 
 /// Who holds an open entry is not seen in the list of the tree.

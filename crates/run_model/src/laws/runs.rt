@@ -7,6 +7,8 @@ ghost use Rattle.run_model.specs.Laws.RunLaws.{EndedRunStays, TextGrows, IsStopp
 ghost use Rattle.run_model.specs.Laws.Numbering.{AreEntriesNumbered};
 ghost use Rattle.run_model.specs.Laws.HeightLaws.{FitHeights, KeepsLowerPart};
 ghost use Rattle.run_model.specs.Machine.Runs.{seq};
+ghost use Rattle.run_model.specs.Machine.States.{State, step};
+ghost use Rattle.run_model.specs.Programs.Clauses.{Clause};
 
 /// The free steps come to an end, and leave none on top. What has none stays as it is.
 pub fn free_steps_end()
@@ -32,6 +34,12 @@ pub fn budget_stops()
 /// All variables of an entry of a run are below its next number.
 pub fn variables_are_numbered()
     ensures { (job : Job) (n : ℕ) → AreEntriesNumbered (seq job n).entries }
+{}
+
+/// An inference, and the free steps, keep the variables of all entries below their next numbers, from any state.
+pub fn steps_keep_numbers()
+    ensures step { (clauses : List Clause) (st : State) → AreEntriesNumbered st.entries → AreEntriesNumbered (step clauses st).entries }
+    ensures free { (es : List Entry) → AreEntriesNumbered es → AreEntriesNumbered (take_free_steps es) }
 {}
 
 /// A cut keeps a lower part of the entries, and no height that an entry of a run carries passes what is under it.

@@ -3,19 +3,20 @@ use Rattle.std.proofs.Common.{◌≡◌, ℕ, suc, ◌==◌, Bool, true, false, 
 use Rattle.std.proofs.Common.{subst, arith}
 use Rattle.tree_model.specs.Elements.{Name}
 use Rattle.interleaving.specs.Erased.{from}
-use Rattle.interleaving.specs.Sound.{IsOlder}
+use Rattle.interleaving.specs.Sound.{IsMadeElsewhere}
 use Rattle.tree_model.specs.Levels.{Level}
 use Rattle.tree_model.specs.PendingLists.{Way, way_of, step_of, step_name, scope_on, back_of}
 use Rattle.tree_model.specs.Ways.{is_on, way_from, way_above}
 use Rattle.tree_model.specs.SoundTrees.{IsOpen}
-use Rattle.interleaving.proofs.WayLemmas.{cond-false, cond-same, other_number, same_self}
+use Rattle.interleaving.proofs.WayLemmas.{cond-false, cond-same, other_number}
 use Rattle.interleaving.proofs.NamingLemmas.{from_end, from_own}
 use Rattle.interleaving.proofs.RoundtripLemmas.{IsPath, part_from, part_above}
 use Rattle.interleaving.proofs.ContextLemmas.{IsAround}
 use Rattle.interleaving.proofs.ClosingSoundLemmas.{IsFree, free-above}
 use Rattle.interleaving.proofs.NamedFloorLemmas.{right_named, below_named, from-level, scope-above}
 use Rattle.interleaving.proofs.PublishedBareLemmas.{right_of}
-use Rattle.interleaving.proofs.SkippedLemmas.{clash, last_number, skip_right}
+use Rattle.interleaving.proofs.SkippedLemmas.{last_number, skip_right}
+use Rattle.interleaving.proofs.TestLemmas.{true_false, number_same}
 
 -- the levels from a node up
 abbrev pub upto : List Level → ℕ → List Level
@@ -32,7 +33,7 @@ upto_way (v ∷ up) s = go (v.number == s) (upto_way up s)
     go false h = h
 
 pub not_that : (m s : ℕ) → (m == s) ≡ false → s ≡ m → ⊥
-not_that m s h e = clash (sym (same_self m) ∙ (ap (λ z. m == z) (sym e) ∙ h))
+not_that m s h e = true_false (sym (number_same m) ∙ (ap (λ z. m == z) (sym e) ∙ h))
 
 -- a scope ends at its level
 pub below_from : (levels : List Level) (s : ℕ) → from (below_named levels) (scope_on (way_of levels) s) ≡ below_named (upto levels s)
@@ -51,7 +52,7 @@ pub record IsPairOf (s : ℕ) (t : Name) : Type 0 where
   pub same : t ≡ index ∷ s ∷ []
 
 pub scope_pair : (way : Way) (s : ℕ) → is_on way s ≡ true → IsPairOf s (scope_on way s)
-scope_pair [] s h = absurd (clash (sym h))
+scope_pair [] s h = absurd (true_false (sym h))
 scope_pair (a ∷ way) s h = go (a.node == s) refl (scope_pair way s) h
   where
     go : (b : Bool) → (a.node == s) ≡ b → (is_on way s ≡ true → IsPairOf s (scope_on way s)) → cond b true (is_on way s) ≡ true
@@ -61,7 +62,7 @@ scope_pair (a ∷ way) s h = go (a.node == s) refl (scope_pair way s) h
 
 pub back_from : (next : ℕ) (levels : List Level) → IsFree next levels → IsAround levels IsOpen → (s : ℕ) → is_on (way_of levels) s
     ≡ true → from (back_of levels) (scope_on (way_of levels) s) ≡ back_of (upto levels s)
-back_from next [] f a s h = absurd (clash (sym h))
+back_from next [] f a s h = absurd (true_false (sym h))
 back_from next (v ∷ up) f a s h = go (v.number == s) refl (back_from next up (free-above next v up f) a.1 s) h
   where
     go : (b : Bool) → (v.number == s) ≡ b
@@ -150,5 +151,5 @@ above_in_from (a ∷ way) h r o = go (a.node == h) (above_in_from way h r) o
     go false f k = f k
 
 -- a name of two numbers was not made by an entry of three
-pub pair_older : (p : Name) → length p ≡ 3 → (k m : ℕ) → IsOlder p (k ∷ m ∷ [])
+pub pair_older : (p : Name) → length p ≡ 3 → (k m : ℕ) → IsMadeElsewhere p (k ∷ m ∷ [])
 pair_older p l k m more e = absurd (omega (arith, l, length-append more p, ap length e))

@@ -2,14 +2,14 @@
 use Rattle.std.proofs.Common.{◌≡◌, ◌⊎◌, inl, inr, ℕ, suc, ◌==◌, true, false, List, [], ◌∷◌, ◌++◌, length, refl, sym, ap, ◌∙◌, subst}
 use Rattle.std.proofs.Common.{arith}
 use Rattle.tree_model.specs.Elements.{Name, Element, EndOf}
-use Rattle.interleaving.specs.Erased.{from, count, height}
+use Rattle.interleaving.specs.Erased.{from, element_count, height}
 use Rattle.interleaving.specs.Sound.{IsPresent}
-use Rattle.interleaving.specs.FloorLaws.{Tells}
+use Rattle.interleaving.specs.FloorLaws.{RespectsHeights}
 use Rattle.tree_model.specs.Levels.{Level}
 use Rattle.tree_model.specs.PendingLists.{way_of, step_of, step_name, list_among, back_of}
 use Rattle.tree_model.specs.Ways.{is_on}
 use Rattle.tree_model.specs.SoundTrees.{Profile, IsOpen}
-use Rattle.interleaving.proofs.WayLemmas.{cond-true, cond-same, same_self}
+use Rattle.interleaving.proofs.WayLemmas.{cond-true, cond-same}
 use Rattle.interleaving.proofs.NamingLemmas.{from_end, from_own}
 use Rattle.interleaving.proofs.ContextLemmas.{IsAround}
 use Rattle.interleaving.proofs.ClosingSoundLemmas.{IsFree, free-above}
@@ -17,6 +17,8 @@ use Rattle.interleaving.proofs.OwnInferenceLemmas.{floor-low}
 use Rattle.interleaving.proofs.NamedFloorLemmas.{from-element, right_named, below_named, floor_named, count-below, count-right, first_low}
 use Rattle.interleaving.proofs.PublishedBareLemmas.{right_of}
 use Rattle.interleaving.proofs.SkippedLemmas.{last_number, skip_right, Asleep, Awake, sleeping, decide}
+use Rattle.interleaving.proofs.TestLemmas.{number_same}
+use Rattle.interleaving.proofs.LowEntryLemmas.{nothing}
 
 -- what the floor's ends are
 pub record IsStepName (levels : List Level) (s : Name) : Type 0 where
@@ -35,10 +37,7 @@ wider v up s h = record {
 }
 
 own_step : (v : Level) (up : List Level) (k : ℕ) (s : Name) → s ≡ k ∷ v.number ∷ [] → IsStepName (v ∷ up) s
-own_step v up k s e = record { index = k; node = v.number; same = e; on = cond-true (v.number == v.number) true _ (same_self v.number) }
-
-nothing_there : (s : Name) (t : List Element) → [] ≡ EndOf s ∷ t → ⊥
-nothing_there s t e = cc
+own_step v up k s e = record { index = k; node = v.number; same = e; on = cond-true (v.number == v.number) true _ (number_same v.number) }
 
 -- an end past the first
 past : (s e : Name) (xs : List Element) → (s ≡ e → ⊥) → IsPresent (EndOf e ∷ xs) s → IsPresent xs s
@@ -46,8 +45,8 @@ past s e xs h p = (p.0, sym (from_end e s xs h) ∙ p.1)
 
 -- an end among what sleeps at a level and the floor above
 module _ (v : Level) (up : List Level) where
-  abbrev sleeper_end : Name
-  sleeper_end = suc (length v.left) ∷ v.number ∷ []
+  abbrev dormant_end : Name
+  dormant_end = suc (length v.left) ∷ v.number ∷ []
 
   right_past : (s : Name) → (s ≡ suc (length v.left) ∷ v.number ∷ [] → ⊥) → (xs : List Element)
       → Asleep v.right ⊎ Awake v.number (suc (length v.left)) (way_of up) v.right
@@ -82,7 +81,7 @@ module _ (v : Level) (up : List Level) where
 
 pub present_form : (levels : List Level) (p : Profile) → IsAround levels IsOpen → (s : Name) → IsPresent (below_named levels) s
     → IsStepName levels s
-present_form [] p a s h = absurd (nothing_there s h.0 h.1)
+present_form [] p a s h = absurd (nothing s h.0 h.1)
 present_form (v ∷ up) p a s h = go (decide s (step_name (step_of v))) (decide s (suc (length v.left) ∷ v.number ∷ []))
     (λ k. present_form up p a.1 s k)
   where
@@ -99,21 +98,21 @@ present_form (v ∷ up) p a s h = go (decide s (step_name (step_of v))) (decide 
 
 -- the highest end of the floor
 top_name : (levels : List Level) (s : Name) → IsPresent (below_named levels) s → height (below_named levels) s ≡ length levels
-    → height (back_of levels) s ≡ count (back_of levels)
-top_name [] s p h = absurd (nothing_there s p.0 p.1)
+    → height (back_of levels) s ≡ element_count (back_of levels)
+top_name [] s p h = absurd (nothing s p.0 p.1)
 top_name (v ∷ up) s p h = go (decide s (step_name (step_of v)))
   where
-    go : (s ≡ step_name (step_of v)) ⊎ (s ≡ step_name (step_of v) → ⊥) → height (back_of (v ∷ up)) s ≡ count (back_of (v ∷ up))
-    go (inl e) = ap (height (back_of (v ∷ up))) e ∙ ap count (from_own (step_name (step_of v)) (right_of (v ∷ up)))
+    go : (s ≡ step_name (step_of v)) ⊎ (s ≡ step_name (step_of v) → ⊥) → height (back_of (v ∷ up)) s ≡ element_count (back_of (v ∷ up))
+    go (inl e) = ap (height (back_of (v ∷ up))) e ∙ ap element_count (from_own (step_name (step_of v)) (right_of (v ∷ up)))
     go (inr n) =
         let k = past s (step_name (step_of v)) (floor_named (v ∷ up)) n p in
         let low = floor-low (floor_named (v ∷ up)) s k.0 (first_low (v ∷ up)) k.1 in
         let size = count-right v.number (suc (length v.left)) (way_of up) v.right (below_named up) in
-        absurd (omega (arith, low, size, count-below up, ap count (from_end (step_name (step_of v)) s (floor_named (v ∷ up)) n), h))
+        absurd (omega (arith, low, size, count-below up, ap element_count (from_end (step_name (step_of v)) s (floor_named (v ∷ up)) n), h))
 
 -- at one level
 module _ (next : ℕ) (v : Level) (up : List Level) (f : IsFree next (v ∷ up)) (a : IsAround (v ∷ up) IsOpen)
-    (above : Tells (below_named up) (back_of up)) where
+    (above : RespectsHeights (below_named up) (back_of up)) where
   abbrev z : Name
   z = suc (length v.left) ∷ v.number ∷ []
 
@@ -125,13 +124,13 @@ module _ (next : ℕ) (v : Level) (up : List Level) (f : IsFree next (v ∷ up))
   in_back s p =
       let n = present_form up IsOpen a.1 s p in
       ap (height (right_of (v ∷ up))) n.same
-      ∙ (ap count (skip_right next v up f a.0.new n.index n.node n.on) ∙ ap (height (back_of up)) (sym n.same))
+      ∙ (ap element_count (skip_right next v up f a.0.new n.index n.node n.on) ∙ ap (height (back_of up)) (sym n.same))
 
   moved : (s : Name) → (s ≡ suc (length v.left) ∷ v.number ∷ [] → ⊥) → IsPresent (floor_named (v ∷ up)) s → IsPresent (below_named up) s
   moved s n p = (p.0, sym (right_past v up s n (below_named up) asleep) ∙ p.1)
 
   same_low : (s : Name) → (s ≡ suc (length v.left) ∷ v.number ∷ [] → ⊥) → height (floor_named (v ∷ up)) s ≡ height (below_named up) s
-  same_low s n = ap count (right_past v up s n (below_named up) asleep)
+  same_low s n = ap element_count (right_past v up s n (below_named up) asleep)
 
   other_present : (s t : Name) → (s ≡ suc (length v.left) ∷ v.number ∷ [] → ⊥) → (t ≡ suc (length v.left) ∷ v.number ∷ [] → ⊥)
       → IsPresent (floor_named (v ∷ up)) s → IsPresent (floor_named (v ∷ up)) t → height (floor_named (v ∷ up)) s
@@ -153,8 +152,8 @@ module _ (next : ℕ) (v : Level) (up : List Level) (f : IsFree next (v ∷ up))
       go (inl s) =
           let qs = moved t n q in
           let top : height (below_named up) t ≡ length up = sym (same_low t n)
-          ∙ (sym e ∙ (ap count (right_own v up (below_named up) s) ∙ count-below up)) in
-          ap count (back_own v up s) ∙ (sym (top_name up t qs top) ∙ sym (in_back t qs))
+          ∙ (sym e ∙ (ap element_count (right_own v up (below_named up) s) ∙ count-below up)) in
+          ap element_count (back_own v up s) ∙ (sym (top_name up t qs top) ∙ sym (in_back t qs))
       go (inr s) =
           let there : IsPresent (below_named up) (suc (length v.left) ∷ v.number ∷ []) =
           (p.0, sym (right_awake v up (suc (length v.left) ∷ v.number ∷ []) (below_named up) s) ∙ p.1) in
@@ -165,8 +164,8 @@ module _ (next : ℕ) (v : Level) (up : List Level) (f : IsFree next (v ∷ up))
           clash : true ≡ false → ⊥
           clash k = cc
 
-  pub tells_floor : Tells (floor_named (v ∷ up)) (right_of (v ∷ up))
-  tells_floor s t p q e = go (decide s (suc (length v.left) ∷ v.number ∷ [])) (decide t (suc (length v.left) ∷ v.number ∷ []))
+  pub respects_floor : RespectsHeights (floor_named (v ∷ up)) (right_of (v ∷ up))
+  respects_floor s t p q e = go (decide s (suc (length v.left) ∷ v.number ∷ [])) (decide t (suc (length v.left) ∷ v.number ∷ []))
     where
       go : (s ≡ suc (length v.left) ∷ v.number ∷ []) ⊎ (s ≡ suc (length v.left) ∷ v.number ∷ [] → ⊥)
           → (t ≡ suc (length v.left) ∷ v.number ∷ []) ⊎ (t ≡ suc (length v.left) ∷ v.number ∷ [] → ⊥) → height (right_of (v ∷ up)) s
@@ -179,8 +178,8 @@ module _ (next : ℕ) (v : Level) (up : List Level) (f : IsFree next (v ∷ up))
       go (inr m) (inr n) = other_present s t m n p q e
 
   -- the end of the level's own alternative is higher than all others
-  tells_level : Tells (below_named (v ∷ up)) (back_of (v ∷ up))
-  tells_level s t p q e = go (decide s (step_name (step_of v))) (decide t (step_name (step_of v)))
+  respects_level : RespectsHeights (below_named (v ∷ up)) (back_of (v ∷ up))
+  respects_level s t p q e = go (decide s (step_name (step_of v))) (decide t (step_name (step_of v)))
     where
       own : Name
       own = length v.left ∷ v.number ∷ []
@@ -190,8 +189,8 @@ module _ (next : ℕ) (v : Level) (up : List Level) (f : IsFree next (v ∷ up))
       high r n k h =
           let j = past r (step_name (step_of v)) (floor_named (v ∷ up)) n k in
           let low = floor-low (floor_named (v ∷ up)) r j.0 (first_low (v ∷ up)) j.1 in
-          let size = ap count (from_own (step_name (step_of v)) (floor_named (v ∷ up))) in
-          absurd (omega (arith, low, size, h, ap count (from_end (step_name (step_of v)) r (floor_named (v ∷ up)) n)))
+          let size = ap element_count (from_own (step_name (step_of v)) (floor_named (v ∷ up))) in
+          absurd (omega (arith, low, size, h, ap element_count (from_end (step_name (step_of v)) r (floor_named (v ∷ up)) n)))
 
       go : (s ≡ step_name (step_of v)) ⊎ (s ≡ step_name (step_of v) → ⊥) → (t ≡ step_name (step_of v)) ⊎ (t ≡ step_name (step_of v) → ⊥)
           → height (back_of (v ∷ up)) s ≡ height (back_of (v ∷ up)) t
@@ -201,12 +200,13 @@ module _ (next : ℕ) (v : Level) (up : List Level) (f : IsFree next (v ∷ up))
       go (inr m) (inr n) =
           let j = past s (step_name (step_of v)) (floor_named (v ∷ up)) m p in
           let k = past t (step_name (step_of v)) (floor_named (v ∷ up)) n q in
-          let low = ap count (from_end (step_name (step_of v)) s (floor_named (v ∷ up)) m) in
-          let high = ap count (from_end (step_name (step_of v)) t (floor_named (v ∷ up)) n) in
-          ap count (from_end (step_name (step_of v)) s (right_of (v ∷ up)) m)
-          ∙ (tells_floor s t j k (sym low ∙ (e ∙ high)) ∙ sym (ap count (from_end (step_name (step_of v)) t (right_of (v ∷ up)) n)))
+          let low = ap element_count (from_end (step_name (step_of v)) s (floor_named (v ∷ up)) m) in
+          let high = ap element_count (from_end (step_name (step_of v)) t (floor_named (v ∷ up)) n) in
+          ap element_count (from_end (step_name (step_of v)) s (right_of (v ∷ up)) m)
+          ∙ (respects_floor s t j k (sym low ∙ (e ∙ high)) ∙ sym
+          (ap element_count (from_end (step_name (step_of v)) t (right_of (v ∷ up)) n)))
 
-pub tells_below : (next : ℕ) (levels : List Level) → IsFree next levels → IsAround levels IsOpen
-    → Tells (below_named levels) (back_of levels)
-tells_below next [] f a = λ s t p q e. refl
-tells_below next (v ∷ up) f a = tells_level next v up f a (tells_below next up (free-above next v up f) a.1)
+pub respects_below : (next : ℕ) (levels : List Level) → IsFree next levels → IsAround levels IsOpen
+    → RespectsHeights (below_named levels) (back_of levels)
+respects_below next [] f a = λ s t p q e. refl
+respects_below next (v ∷ up) f a = respects_level next v up f a (respects_below next up (free-above next v up f) a.1)

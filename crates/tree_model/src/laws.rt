@@ -1,1 +1,0 @@
-//! Laws of the definitions: each function does nothing, and its contract is the law.
