@@ -1,5 +1,5 @@
--- Tests joined by `and`, `or` and `not`, and tests of numbers.
-use Rattle.std.proofs.Common.{◌≡◌, ℕ, Bool, true, false, ◌&&◌, ◌||◌, not, ◌==◌, refl, arith}
+-- Tests joined by `and`, `or` and `not`, tests of numbers, and what contradicts itself.
+use Rattle.std.proofs.Common.{◌≡◌, ℕ, ◌<◌, ◌≤◌, Bool, true, false, ◌&&◌, ◌||◌, not, ◌==◌, nat_le, nat_lt, refl, arith}
 use Rattle.std.proofs.lemmas.Bool.Decides.{nat_tests}
 
 pub both : (a b : Bool) → (a && b) ≡ true → (a ≡ true) × (b ≡ true)
@@ -38,3 +38,38 @@ same_number m n h = grind (arith, nat_tests)
 
 pub numbers_turned : (m n : ℕ) → (m == n) ≡ false → (n == m) ≡ false
 numbers_turned m n h = grind (arith, nat_tests)
+
+pub false_true : {A : Type 0} → false ≡ true → A
+false_true h = let no_way : ⊥ = cc in absurd no_way
+
+pub true_false : true ≡ false → ⊥
+true_false h = cc
+
+pub none_true : (a b : Bool) → a ≡ false → b ≡ false → (a || b) ≡ false
+none_true false b h k = k
+none_true true b h k = absurd (true_false h)
+
+pub number_same : (n : ℕ) → (n == n) ≡ true
+number_same n = grind (arith, nat_tests)
+
+pub number_turned : (m n : ℕ) → (m == n) ≡ (n == m)
+number_turned m n = grind (arith, nat_tests)
+
+pub not_equal : (m n : ℕ) → m < n → (m == n) ≡ false
+not_equal m n h = grind (arith, nat_tests)
+
+pub not_less : (p q : ℕ) → q ≤ p → nat_lt p q ≡ false
+not_less p q l = grind (arith, nat_tests)
+
+pub less : (p q : ℕ) → p < q → nat_lt p q ≡ true
+less p q l = grind (arith, nat_tests)
+
+pub le_by : (a b : ℕ) → nat_le a b ≡ true → a ≤ b
+le_by a b h = grind (arith, nat_tests)
+
+pub not_lt_by : (a b : ℕ) → nat_lt a b ≡ false → b ≤ a
+not_lt_by a b h = grind (arith, nat_tests)
+
+pub or_false : (b : Bool) → (b || false) ≡ b
+or_false true = refl
+or_false false = refl

@@ -9,6 +9,7 @@ use Rattle.bind_store.specs.BindingLaws.{InTurn, NewIsUnbound, ResolvedIsFinal, 
 use Rattle.bind_store.proofs.ApplyLemmas.{apply_same, apply_twice, resolve_none}
 use Rattle.bind_store.proofs.TriangularLemmas.{resolve_skips, free-composed, resolved_avoids}
 use Rattle.bind_store.proofs.UndoLemmas.{apart_front, free_last}
+use Rattle.au_term.proofs.LogicLemmas.{not_equal as less_differs}
 
 turn_value : (bs more : List Binding) (n : ℕ) → value_of (composed (bs ++ more)) n ≡ apply (value_of (composed more)) (value_of (composed bs) n)
 turn_value [] more n = refl
@@ -25,9 +26,6 @@ turn_value (b ∷ bs) more n =
 pub in_turn : InTurn
 in_turn bs more t =
     apply_same (value_of (composed (bs ++ more))) (λ m. apply (value_of (composed more)) (value_of (composed bs) m)) (turn_value bs more) t ∙ sym (apply_twice (value_of (composed more)) (value_of (composed bs)) t)
-
-less_differs : (a b : ℕ) → a < b → (a == b) ≡ false
-less_differs a b lt = grind (arith, nat_tests)
 
 pub free_above : (bs : List Binding) (next n : ℕ) → Each (IsBindingBelow next) bs → next ≤ n → IsUnboundIn n bs
 free_above [] next n h le = tt

@@ -6,10 +6,7 @@ use Rattle.au_term.specs.PrefixOrder.{cells_of, all_cells}
 use Rattle.au_term.specs.declared.cell.Cell.{Cell}
 use Rattle.au_model.specs.Terms.Substitutions.{occurs, occurs_in}
 use Rattle.bind_store.specs.CellTests.{is_cell_of_variable}
-
-or_false : (b : Bool) → (b || false) ≡ b
-or_false true = refl
-or_false false = refl
+use Rattle.au_term.proofs.LogicLemmas.{or_false}
 
 or_assoc : (a b c : Bool) → ((a || b) || c) ≡ (a || (b || c))
 or_assoc true b c = refl

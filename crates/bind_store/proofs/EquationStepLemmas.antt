@@ -16,9 +16,7 @@ use Rattle.bind_store.specs.declared.unify.Step.TheVariants.{Drops, BindsLeft, B
 use Rattle.bind_store.specs.declared.unify.Place.{Place}
 use Rattle.bind_store.specs.declared.unify.Equation.{Equation}
 use Rattle.bind_store.proofs.ResolvedLemmas.{top_of-resolve}
-
-eqb_sym : (m n : ℕ) → (m == n) ≡ (n == m)
-eqb_sym m n = grind (arith, nat_tests)
+use Rattle.au_term.proofs.LogicLemmas.{number_turned as eqb_sym}
 
 and_sym : (a b : Bool) → (a && b) ≡ (b && a)
 and_sym true true = refl

@@ -8,12 +8,13 @@ use Rattle.au_term.specs.declared.cell.Cell.{Cell}
 use Rattle.au_term.specs.declared.cell.Cell.TheVariants.{Var as VarCell, Int as IntCell, Atom as AtomCell, Functor}
 use Rattle.au_model.specs.Terms.Substitutions.{apply, value_of, resolve, only, occurs}
 use Rattle.bind_store.specs.Bindings.{Binding, composed, place_in, value_at, IsUnboundIn, IsBoundAt, IsAbsent, AreTriangular, IsReached, IsConsistent, Ends, resolved_after, resolved_bindings, substitution_of}
-use Rattle.bind_store.proofs.TriangularLemmas.{free-composed, value-composed, composed-more, resolve-more, resolved_avoids, apart_more, bound_within, same_eqb}
+use Rattle.bind_store.proofs.TriangularLemmas.{free-composed, value-composed, composed-more, resolve-more, resolved_avoids, apart_more, bound_within}
 use Rattle.bind_store.specs.CellTests.{IsCellFound}
 use Rattle.std.proofs.lemmas.Bool.{false≢true}
 use Rattle.bind_store.proofs.BindingLemmas.{in_turn, avoiding_stays}
 use Rattle.bind_store.proofs.UndoLemmas.{apart_front, free_last}
 use Rattle.au_model.proofs.UnifierRuleLemmas.{count-apply_all}
+use Rattle.au_term.proofs.LogicLemmas.{number_same as same_eqb}
 
 
 -- a binding after others, with these applied

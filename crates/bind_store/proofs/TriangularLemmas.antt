@@ -7,11 +7,8 @@ use Rattle.std.proofs.lemmas.Bool.Decides.{nat_tests}
 use Rattle.std.proofs.lemmas.Bool.{false≢true}
 use Rattle.bind_store.specs.Bindings.{Binding, composed, place_in, value_at, IsUnboundIn, IsBoundAt, IsLookedUp, IsAbsent, AreTriangular, HasNoBoundVariable}
 use Rattle.bind_store.proofs.ApplyLemmas.{apply_same, apply_twice, resolve_none}
-use Rattle.au_term.proofs.LogicLemmas.{neither as either_false, same_number as eqb_same, numbers_turned as eqb_turned}
+use Rattle.au_term.proofs.LogicLemmas.{neither as either_false, same_number as eqb_same, numbers_turned as eqb_turned, none_true as neither, number_same as same_eqb}
 use Rattle.au_model.proofs.CopyLemmas.{one_place}
-
-neither : (a b : Bool) → a ≡ false → b ≡ false → (a || b) ≡ false
-neither a b p q = rw (p, q)
 
 -- a variable that doesn't occur plays no part
 mutual
@@ -27,9 +24,6 @@ mutual
       let both = either_false (occurs x t) (occurs_in x ts) h in
       let first = resolve_skips x u s t both.0 in
       let rest = resolve_all_skips x u s ts both.1 in cc
-
-pub same_eqb : (a : ℕ) → (a == a) ≡ true
-same_eqb a = grind (arith, nat_tests)
 
 found_after : (b : Binding) (bs : List Binding) (x : ℕ) (o : Option ℕ) → ((b.0 == x) ≡ false) → IsLookedUp bs x o → IsLookedUp (b ∷ bs) x (option_map (λ i. suc i) o)
 found_after b bs x None f h = (f, h)

@@ -16,9 +16,9 @@ use Rattle.bind_store.specs.declared.unify.Source.{Source}
 use Rattle.bind_store.specs.declared.unify.Source.TheVariants.{Left, Right, Value}
 use Rattle.bind_store.specs.declared.unify.Place.{Place}
 use Rattle.bind_store.specs.declared.unify.Equation.{Equation}
-use Rattle.bind_store.proofs.TriangularLemmas.{same_eqb}
 use Rattle.bind_store.proofs.ResolvedLemmas.{resolved-append, resolve-push, value_at-front as value_at-more}
 use Rattle.bind_store.proofs.WalkLemmas.{reverse-push}
+use Rattle.au_term.proofs.LogicLemmas.{number_same as same_eqb}
 
 -- what is found with what the rest gives
 abbrev pub completed : List Binding → Option Substitution → Option Substitution

@@ -14,6 +14,7 @@ use Rattle.au_term.specs.PrefixOrder.{cells_of, top_of}
 use Rattle.au_term.specs.declared.cell.Cell.TheVariants.{Var as VarCell, Int as IntCell}
 use Rattle.clause_compile.specs.ClauseInvariant.{numbers_from, IsClauseInvariant}
 use Rattle.clause_compile.specs.GoalPlaces.{AreGoalsAt}
+use Rattle.au_term.proofs.LogicLemmas.{not_equal as apart}
 
 term_extends : (t : Term) (seen : List ℕ) → Extends seen (seen_in t seen)
 term_extends t seen = subst (Extends seen) (seen_along-term t seen) (along_extends (cells_of t) seen)
@@ -40,9 +41,6 @@ head_stays head body = renamed_stays (seen_in head []) (seen_in body (seen_in he
 pub length-numbers : (first n : ℕ) → length (numbers_from first n) ≡ n
 length-numbers first zero = refl
 length-numbers first (suc n) = ap suc (length-numbers (suc first) n)
-
-apart : (a b : ℕ) → a < b → (a == b) ≡ false
-apart a b lt = grind (arith, nat_tests)
 
 among_by : (first k n : ℕ) (v : Bool) → (first == n) ≡ v → (suc first ≤ n → list_any (λ m. m == n) (numbers_from (suc first) k) ≡ true) → first ≤ n → (v || list_any (λ m. m == n) (numbers_from (suc first) k)) ≡ true
 among_by first k n true e h le = refl

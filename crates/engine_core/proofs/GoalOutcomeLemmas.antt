@@ -36,12 +36,7 @@ use Rattle.engine_core.proofs.ResolvedTermLemmas.{itself_resolved, count_resolve
 use Rattle.engine_core.proofs.CallArgumentLemmas.{call_form, added_count, added_resolved, added_callable, dropped_resolved, dropped_count, arguments_resolved}
 use Rattle.proc_index.proofs.LawLemmas.{argument_resolved}
 use Rattle.clause_compile.proofs.RenumberingLemmas.{callable_renamed as callable_resolved}
-
-is_less : (a b : ℕ) → a < b → nat_lt a b ≡ true
-is_less a b lt = grind (arith, nat_tests)
-
-not_less : (a b : ℕ) → b ≤ a → nat_lt a b ≡ false
-not_less a b le = grind (arith, nat_tests)
+use Rattle.au_term.proofs.LogicLemmas.{less as is_less, not_less}
 
 pub only_branch : (cut here : Scope) (gs : List Term) (rest : List Item) (st : StoreView) (b : Branch) (r : Reduction) → GoesOnPlainly here gs rest st b → IsAlone b r → IsOutcome cut here rest st (Controls (GoesOnWith gs)) r
 only_branch cut here gs rest st b (Alternatives bs) g a = subst (IsOnly here gs rest st) (sym a) g

@@ -29,8 +29,7 @@ use Rattle.interleaving.proofs.GoingLemmas.{going, legal_parts}
 use Rattle.interleaving.proofs.RunEventLemmas.{asked_at}
 use Rattle.interleaving.proofs.SpotsApartLemmas.{taken_first}
 use Rattle.interleaving.proofs.AnsweredMoveLemmas.{unmarked_names, answered_tree, answered_moves}
-use Rattle.interleaving.proofs.TestLemmas.{false_true}
-use Rattle.au_term.proofs.LogicLemmas.{and-right}
+use Rattle.au_term.proofs.LogicLemmas.{and-right, false_true}
 
 -- the tree after an answer
 answered_is : (t : TreeState) (w : ℕ) (a : Place) (s : Spot) (f : Continuation ℕ) → taken_at w a t ≡ Some s → s.entry ≡ PlainEntry f

@@ -5,7 +5,7 @@ use Rattle.tree_model.specs.Levels.{Level, put_left, level_node, plug}
 use Rattle.tree_model.specs.Orders.{is_closed}
 use Rattle.tree_model.specs.GivenAnswers.{answers_in, answers_among, AreInOrder, AmongInOrder}
 use Rattle.interleaving.proofs.ClockLemmas.{AreShut, AreClear}
-use Rattle.interleaving.proofs.TestLemmas.{false_true}
+use Rattle.au_term.proofs.LogicLemmas.{false_true}
 
 -- the answers round a place
 abbrev pub answers_before : List (ℕ × Status) → ℕ

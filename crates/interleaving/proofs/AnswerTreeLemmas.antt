@@ -50,8 +50,7 @@ use Rattle.interleaving.proofs.AnswerClosingLemmas.{IsOrdered, spent_left}
 use Rattle.interleaving.proofs.AnswerPlaceLemmas.{placed_none, put_preserved, closed_preserved, answer_preserved, left_preserved}
 use Rattle.interleaving.proofs.AnswerPlaceLemmas.{cut_preserved, fallen_preserved}
 use Rattle.interleaving.proofs.AnswerPlaceLemmas.{halt_preserved, queries_preserved}
-use Rattle.interleaving.proofs.TestLemmas.{false_true}
-use Rattle.au_term.proofs.LogicLemmas.{and-right}
+use Rattle.au_term.proofs.LogicLemmas.{and-right, false_true}
 
 none_more : (status : Status) (n : ℕ) → IsOrdered status n → IsOrdered status (n + 0)
 none_more status n h = let z = h.1 in (h.0, omega (arith, z))

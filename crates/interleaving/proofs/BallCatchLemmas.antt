@@ -30,7 +30,7 @@ use Rattle.interleaving.proofs.CatchingLemmas.{dormant_way}
 use Rattle.interleaving.proofs.CatchingLemmas.{dormant_marks, dormant_guards}
 use Rattle.interleaving.proofs.BallSearchLemmas.{mark_name, second_step, catch_element, named_recovery, next_in, thrown_pass, to_catch}
 use Rattle.interleaving.proofs.BallSearchLemmas.{end_pass, right_passes, mark_up, mark_apart, to_side, Finds, passes_level, off_catcher}
-use Rattle.interleaving.proofs.TestLemmas.{number_same}
+use Rattle.au_term.proofs.LogicLemmas.{number_same}
 
 module _ (clauses : List Clause) where
   abbrev m : Machine Shared Element Sought Record

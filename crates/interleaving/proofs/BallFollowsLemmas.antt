@@ -64,7 +64,7 @@ use Rattle.interleaving.proofs.BallSearchLemmas.{second_step, catch_element, nam
 use Rattle.interleaving.proofs.BallCatchLemmas.{finds}
 use Rattle.interleaving.proofs.RecoveryNamesLemmas.{recovery_same}
 use Rattle.interleaving.proofs.GatePrivateLemmas.{gate_private}
-use Rattle.interleaving.proofs.TestLemmas.{false_true, number_same}
+use Rattle.au_term.proofs.LogicLemmas.{false_true, number_same}
 
 pub some_count : (xs ys : List Element) → 0 < element_count ys → 0 < element_count (xs ++ ys)
 some_count [] ys h = h

@@ -20,7 +20,7 @@ use Rattle.interleaving.specs.HeightMachine.{HeightElement, HeightEntry, height_
 use Rattle.interleaving.specs.Erased.{from, element_count, height, with_height, continuation_heights, erased}
 use Rattle.interleaving.specs.Sound.{names, IsGuarded, IsMarkSound, IsRightUnder, IsSound}
 use Rattle.interleaving.proofs.NamingLemmas.{same-itself, resolved-heights, goals-heights, length-erased, height-le, sames}
-use Rattle.interleaving.proofs.TestLemmas.{not_equal}
+use Rattle.au_term.proofs.LogicLemmas.{not_equal}
 
 abbrev pub IsMarkGuarded : List Element → Option Name → Type 0
 IsMarkGuarded xs None = Unit {0}

@@ -21,7 +21,7 @@ use Rattle.interleaving.proofs.RoundtripLemmas.{by_nodes, by_heights, at_heights
 use Rattle.interleaving.proofs.ClosingSoundLemmas.{IsSoundGrown, IsFree, free-above, woken_sound}
 use Rattle.interleaving.proofs.MarkLemmas.{under_rest}
 use Rattle.interleaving.proofs.EntryLemmas.{resolved_scoped, own_height}
-use Rattle.interleaving.proofs.TestLemmas.{not_equal, number_same}
+use Rattle.au_term.proofs.LogicLemmas.{not_equal, number_same}
 
 -- a naming of heights that is the floor's as far as the floor goes
 abbrev pub NamesFloor : (ℕ → ℕ) → List Level → Type 0

@@ -17,7 +17,7 @@ use Rattle.interleaving.proofs.ListScopeLemmas.{dormant_on}
 use Rattle.interleaving.proofs.ListsSoundLemmas.{under_of}
 use Rattle.interleaving.proofs.CaughtContextLemmas.{RootCaught, caught_after, node_caught}
 use Rattle.interleaving.proofs.CaughtClosingLemmas.{RecordsUnder}
-use Rattle.interleaving.proofs.TestLemmas.{false_true, number_turned}
+use Rattle.au_term.proofs.LogicLemmas.{false_true, number_turned}
 
 -- what is left of the levels below a node
 abbrev pub ball_credit : ℕ → List Level → Credit → Credit

@@ -14,7 +14,7 @@ use Rattle.interleaving.proofs.RoundtripLemmas.{by_nodes, by_heights, back_again
 use Rattle.interleaving.proofs.BallLemmas.{NamesFloor, names-above, names_same}
 use Rattle.interleaving.proofs.EndLemmas.{HasQueryEnd, query_here}
 use Rattle.interleaving.proofs.ListEndLemmas.{levels_down}
-use Rattle.interleaving.proofs.TestLemmas.{false_true, not_equal, number_same}
+use Rattle.au_term.proofs.LogicLemmas.{false_true, not_equal, number_same}
 
 same_tail : {A : Type 0} → (a b : A) (xs ys : List A) → a ∷ xs ≡ b ∷ ys → xs ≡ ys
 same_tail a b xs ys e = cc

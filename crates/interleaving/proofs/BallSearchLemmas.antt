@@ -30,8 +30,7 @@ use Rattle.interleaving.proofs.ListScopeLemmas.{IsDistinct}
 use Rattle.interleaving.proofs.CaughtContextLemmas.{RootCaught}
 use Rattle.interleaving.proofs.LowerListLemmas.{lower_back}
 use Rattle.interleaving.proofs.CatchingLemmas.{CaughtBy, catching, MarkIsDormant, dormant_way, IsTaken, catching_taken}
-use Rattle.interleaving.proofs.TestLemmas.{false_true}
-use Rattle.au_term.proofs.LogicLemmas.{numbers_turned}
+use Rattle.au_term.proofs.LogicLemmas.{numbers_turned, false_true}
 
 -- a mark by name
 abbrev pub mark_name : Way → Option ℕ → Option Name

@@ -28,7 +28,7 @@ use Rattle.au_model.specs.Terms.Unifier.{unifier}
 use Rattle.interleaving.proofs.EntryLemmas.{own_height, length-floor}
 use Rattle.interleaving.proofs.BallLemmas.{NamesFloor, names-above, node_on, IsLow, ball_scope_low, fallen, IsFalling, falls-above}
 use Rattle.interleaving.proofs.BallLemmas.{stops_here, ends_sound, passes, recovery_on}
-use Rattle.interleaving.proofs.TestLemmas.{number_same}
+use Rattle.au_term.proofs.LogicLemmas.{number_same}
 
 -- where nothing can take a ball
 pub nothing_infers : (ball : Term) (es : List Entry) → unwound ball None es ≡ EndEntry (Some (copied ball 0)) ∷ []

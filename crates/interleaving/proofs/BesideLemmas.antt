@@ -23,7 +23,7 @@ use Rattle.interleaving.proofs.ContextLemmas.{LeftSound, count_left}
 use Rattle.interleaving.proofs.AppendLemmas.{each-append, append-assoc}
 use Rattle.interleaving.proofs.RootLemmas.{are_distinguished}
 use Rattle.interleaving.proofs.BaredLemmas.{made_at}
-use Rattle.interleaving.proofs.TestLemmas.{number_same}
+use Rattle.au_term.proofs.LogicLemmas.{number_same}
 
 module _ (i n next : ℕ) where
   abbrev pub own : Name

@@ -16,7 +16,7 @@ use Rattle.interleaving.proofs.ClosingSoundLemmas.{IsFree, free-above}
 use Rattle.interleaving.proofs.NamedFloorLemmas.{right_named, below_named, from-level, scope-above}
 use Rattle.interleaving.proofs.PublishedBareLemmas.{right_of}
 use Rattle.interleaving.proofs.SkippedLemmas.{last_number, skip_right}
-use Rattle.interleaving.proofs.TestLemmas.{true_false, number_same}
+use Rattle.au_term.proofs.LogicLemmas.{true_false, number_same}
 
 -- the levels from a node up
 abbrev pub upto : List Level → ℕ → List Level

@@ -31,7 +31,7 @@ use Rattle.interleaving.proofs.ListScopeLemmas.{dormant_on}
 use Rattle.interleaving.proofs.ListsSoundLemmas.{under_of}
 use Rattle.interleaving.proofs.ListMarkLemmas.{no_left, DormantRight, catch_dormant}
 use Rattle.interleaving.proofs.CaughtContextLemmas.{RootCaught, level_caught}
-use Rattle.interleaving.proofs.TestLemmas.{false_true, not_equal, number_same}
+use Rattle.au_term.proofs.LogicLemmas.{false_true, not_equal, number_same}
 
 -- the level of the catch that takes the ball, those above it, the recovery, what follows the catch, and the unifier
 pub data Catching : Type 0 where

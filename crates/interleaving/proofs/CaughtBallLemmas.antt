@@ -33,7 +33,7 @@ use Rattle.interleaving.proofs.CaughtClosingLemmas.{RecordsAt, wake_caught, mark
 use Rattle.interleaving.proofs.CatchingLemmas.{IsCatcher}
 use Rattle.interleaving.proofs.BallLevelLemmas.{ball_credit, wakes_in, ball_closes_at, ball_credit_under, FirstShut, under_top}
 use Rattle.interleaving.proofs.BallPlaceLemmas.{names_above, scope_down, QueryAt}
-use Rattle.interleaving.proofs.TestLemmas.{false_true}
+use Rattle.au_term.proofs.LogicLemmas.{false_true}
 
 -- bindings change no mark
 pub marks_resolved : (sleeps : ℕ → Bool) (node : ℕ → ℕ) (o : Substitution) (items : List (Item ℕ))

@@ -24,7 +24,7 @@ use Rattle.interleaving.proofs.FoldLemmas.{CaughtAt}
 use Rattle.interleaving.proofs.ListsSoundLemmas.{under_of}
 use Rattle.interleaving.proofs.CaughtContextLemmas.{caught_plug, caught_level, caught_after, caught_down, Rests, AllRest, rests_plug}
 use Rattle.interleaving.proofs.CaughtContextLemmas.{rests_level, unspent_nodes, unspent_level, IsCaughtRoot}
-use Rattle.interleaving.proofs.TestLemmas.{false_true}
+use Rattle.au_term.proofs.LogicLemmas.{false_true}
 
 -- records are below the goal side of a findall alone
 abbrev pub RecordsUnder : List Level → Credit → Type 0

@@ -21,7 +21,7 @@ use Rattle.interleaving.proofs.FoldLemmas.{CaughtAt}
 use Rattle.interleaving.proofs.CaughtContextLemmas.{SameRight, Rests, AllRest, put_rests, unspent_put, IsCaughtRoot}
 use Rattle.interleaving.proofs.CaughtClosingLemmas.{root_put}
 use Rattle.interleaving.proofs.BallLevelLemmas.{clear_step}
-use Rattle.interleaving.proofs.TestLemmas.{false_true}
+use Rattle.au_term.proofs.LogicLemmas.{false_true}
 
 -- marks of a way along which the same recoveries sleep
 pub marks_agree : (old new : ℕ → Bool) (way : Way) (items : List (Item ℕ)) → ((r : ℕ) → is_on way r ≡ true → new r ≡ old r)

@@ -6,7 +6,7 @@ use Rattle.interleaving.proofs.GoingLemmas.{legal_parts}
 use Rattle.interleaving.proofs.CaughtHoldLemmas.{claim_caught, resume_caught, suspend_caught, lost_caught, stop_caught}
 use Rattle.interleaving.proofs.CaughtTakenLemmas.{prune_caught, answer_caught, empty_caught, collected_caught}
 use Rattle.interleaving.proofs.CaughtPublishLemmas.{publish_caught}
-use Rattle.interleaving.proofs.TestLemmas.{false_true}
+use Rattle.au_term.proofs.LogicLemmas.{false_true}
 
 pub caught_preserved : PreservesCaught IsAny
 caught_preserved t (Claim w a) o i q l = claim_caught t q w a

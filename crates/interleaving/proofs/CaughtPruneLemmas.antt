@@ -50,7 +50,7 @@ use Rattle.interleaving.proofs.CaughtCutLemmas.{marks_agree, cut_root}
 use Rattle.interleaving.proofs.CaughtEventLemmas.{as_tree, clear_spent, marks_without, NewCaught, OverCaught, each_named}
 use Rattle.interleaving.proofs.CaughtEventLemmas.{alternatives_caught, alternatives_no_query, alternatives_no_node, alternatives_last}
 use Rattle.interleaving.proofs.CaughtEventLemmas.{alternatives_unspent}
-use Rattle.interleaving.proofs.TestLemmas.{false_true}
+use Rattle.au_term.proofs.LogicLemmas.{false_true}
 
 -- round an open place
 module _ (t : TreeState) (s : Spot) (h : IsAt t s) (old : Status)

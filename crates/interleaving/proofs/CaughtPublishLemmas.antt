@@ -49,8 +49,7 @@ use Rattle.interleaving.proofs.CaughtPruneLemmas.{put_node}
 use Rattle.interleaving.proofs.CaughtTakenLemmas.{root_at, same_caught}
 use Rattle.interleaving.proofs.MarkedLemmas.{AreMarked, all_over, named_marked, catch_low}
 use Rattle.interleaving.proofs.PlacedCaughtLemmas.{floor_dormant, AreAlone, fits_alone, IsPlacedOver, IsPlacedCaught, placed_caught}
-use Rattle.interleaving.proofs.TestLemmas.{false_true}
-use Rattle.au_term.proofs.LogicLemmas.{and-right, and-left}
+use Rattle.au_term.proofs.LogicLemmas.{and-right, and-left, false_true}
 
 -- the marks of a private run
 run_marked : (clauses : List Clause) (v : Level) (up : List Level) (next k : ℕ) (es : List Entry) (f : Continuation ℕ)

@@ -30,8 +30,7 @@ use Rattle.tree_model.specs.Effects.{spot_stack, where_some, after_event, result
 use Rattle.tree_model.specs.SoundTrees.{IsSoundTree}
 use Rattle.std.specs.Prelude.{◌&&◌}
 use Rattle.interleaving.proofs.CaughtFrontLemmas.{stack_preserved}
-use Rattle.interleaving.proofs.TestLemmas.{false_true}
-use Rattle.au_term.proofs.LogicLemmas.{and-right}
+use Rattle.au_term.proofs.LogicLemmas.{and-right, false_true}
 
 -- the events
 pub root_at : (t : TreeState) (s : Spot) → IsCaughtTree t → t.halted ≡ None → IsOpenSpot t.root s

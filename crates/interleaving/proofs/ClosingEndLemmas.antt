@@ -12,7 +12,7 @@ use Rattle.tree_model.specs.Ways.{under_query, is_query}
 use Rattle.tree_model.specs.SoundTrees.{IsOpen}
 use Rattle.interleaving.proofs.ContextLemmas.{IsAround}
 use Rattle.interleaving.proofs.EndLemmas.{has_end, end_after, end_before, HasQueryEnd, query_here, back_end, round_end}
-use Rattle.interleaving.proofs.TestLemmas.{false_true}
+use Rattle.au_term.proofs.LogicLemmas.{false_true}
 
 abbrev Ends : Grown → Type 0
 Ends g = has_end (pending_list g.root) ≡ true

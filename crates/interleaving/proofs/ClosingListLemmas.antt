@@ -37,8 +37,7 @@ use Rattle.interleaving.proofs.ListMarkLemmas.{no_left, findall_dormant}
 use Rattle.interleaving.proofs.BlindLemmas.{of_node, front_blind, back_under, records_apart, off_levels}
 use Rattle.interleaving.proofs.FoldLemmas.{Passes, passes_becoming, LeftSides, HaveNoSideRecords, closed_records}
 use Rattle.interleaving.proofs.FoldingLemmas.{fold_passes}
-use Rattle.interleaving.proofs.TestLemmas.{false_true, number_same}
-use Rattle.au_term.proofs.LogicLemmas.{and-right, and-left}
+use Rattle.au_term.proofs.LogicLemmas.{and-right, and-left, false_true, number_same}
 use Rattle.interleaving.proofs.ListsSoundLemmas.{findall-kind}
 
 -- what sleeps after a first alternative is the one further

@@ -18,8 +18,7 @@ use Rattle.interleaving.proofs.ContextLemmas.{put_profiles, level_profiles, IsLe
 use Rattle.interleaving.proofs.ContextLemmas.{count_plug}
 use Rattle.interleaving.proofs.WayLemmas.{cond-true, cond-false, cond-same, one_if-zero, off_way, below_new}
 use Rattle.interleaving.proofs.ShapeLemmas.{sleeping, shape_shut, shape_woken, shape_gone, plain_awake, findall_kind}
-use Rattle.au_term.proofs.LogicLemmas.{numbers_turned}
-use Rattle.interleaving.proofs.TestLemmas.{number_same}
+use Rattle.au_term.proofs.LogicLemmas.{numbers_turned, number_same}
 
 -- a root with the next number
 pub record IsSoundGrown (g : Grown) : Type 0 where

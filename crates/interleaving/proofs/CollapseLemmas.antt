@@ -7,8 +7,7 @@ use Rattle.tree_model.specs.PendingLists.{Step, Way}
 use Rattle.tree_model.specs.Ways.{same_kind, stops_cuts, is_barrier, in_reach, through, way_from, way_above, AreScoped}
 use Rattle.interleaving.proofs.WayLemmas.{cond-true, cond-false, reach-on, through-on, other_number}
 use Rattle.interleaving.proofs.RoundtripLemmas.{by_nodes, IsPath}
-use Rattle.au_term.proofs.LogicLemmas.{and-false}
-use Rattle.interleaving.proofs.TestLemmas.{number_same}
+use Rattle.au_term.proofs.LogicLemmas.{and-false, number_same}
 
 -- a way and what it becomes: each step has its own, but for hidden ones, whose nodes no goal names
 pub data Collapses (name : ℕ → ℕ) (seen : ℕ → Bool) : Way → Way → Type 0 where

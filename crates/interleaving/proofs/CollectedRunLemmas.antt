@@ -44,8 +44,8 @@ use Rattle.interleaving.proofs.ListScopeLemmas.{IsDistinct}
 use Rattle.interleaving.proofs.ListMarkLemmas.{gathered_side}
 use Rattle.interleaving.proofs.ListsSoundLemmas.{under_of, side_level}
 use Rattle.interleaving.proofs.FoldLemmas.{side_name}
-use Rattle.interleaving.proofs.TestLemmas.{false_true}
 use Rattle.interleaving.proofs.CreditLawLemmas.{blind_none}
+use Rattle.au_term.proofs.LogicLemmas.{false_true}
 
 -- where a findall's goal side is named, one is on the branch
 none_named : (levels : List Level) → under_of levels ≡ false → findall_on (way_of levels) ≡ []

@@ -34,7 +34,7 @@ use Rattle.interleaving.proofs.LowerListLemmas.{count_lower, count_split}
 use Rattle.interleaving.proofs.UpperBlindLemmas.{is_free_of, free_zero}
 use Rattle.interleaving.proofs.CutSegmentLemmas.{CutPart, cut_part}
 use Rattle.interleaving.proofs.PrunedBallLemmas.{placed_here, free_here, distinct_here}
-use Rattle.interleaving.proofs.TestLemmas.{false_true, number_same}
+use Rattle.au_term.proofs.LogicLemmas.{false_true, number_same}
 
 -- the level of a node of the branch, and the scope that it is
 pub record ScopeAt (levels : List Level) (n : ℕ) : Type 0 where

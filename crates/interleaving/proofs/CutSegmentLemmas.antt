@@ -23,8 +23,8 @@ use Rattle.interleaving.proofs.BaredLemmas.{made_at, made_grown}
 use Rattle.interleaving.proofs.SideLemmas.{at_least, out_other, out_index, is_old, front_blind as made_front_blind}
 use Rattle.interleaving.proofs.LowerListLemmas.{among_inner}
 use Rattle.interleaving.proofs.UpperBlindLemmas.{is_free_of, free_zero, zero_free, upper_front, upper_back, blind_is_under}
-use Rattle.interleaving.proofs.TestLemmas.{false_true, none_true, number_same}
 use Rattle.au_model.proofs.ApplyLemmas.{or_left, or_right}
+use Rattle.au_term.proofs.LogicLemmas.{false_true, none_true, number_same}
 
 -- the parts of the list round the segment
 pub record CutPart (w : Level) (up : List Level) : Type 0 where

@@ -17,8 +17,8 @@ use Rattle.interleaving.proofs.OwnInferenceLemmas.{floor-low}
 use Rattle.interleaving.proofs.NamedFloorLemmas.{from-element, right_named, below_named, floor_named, count-below, count-right, first_low}
 use Rattle.interleaving.proofs.PublishedBareLemmas.{right_of}
 use Rattle.interleaving.proofs.SkippedLemmas.{last_number, skip_right, Asleep, Awake, sleeping, decide}
-use Rattle.interleaving.proofs.TestLemmas.{number_same}
 use Rattle.interleaving.proofs.LowEntryLemmas.{nothing}
+use Rattle.au_term.proofs.LogicLemmas.{number_same}
 
 -- what the floor's ends are
 pub record IsStepName (levels : List Level) (s : Name) : Type 0 where

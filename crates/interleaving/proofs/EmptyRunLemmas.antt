@@ -24,8 +24,8 @@ use Rattle.interleaving.proofs.FrontCloseLemmas.{unspent_out}
 use Rattle.interleaving.proofs.RunEventLemmas.{end_stays}
 use Rattle.interleaving.proofs.PublishedBareLemmas.{list_before}
 use Rattle.interleaving.proofs.PublishedEndLemmas.{list_closed, closed_sound, emptied_alike}
-use Rattle.interleaving.proofs.TestLemmas.{false_true}
 use Rattle.interleaving.proofs.CollectedRunLemmas.{run_is}
+use Rattle.au_term.proofs.LogicLemmas.{false_true}
 
 empty_run : (o : Option (List Entry)) → run_is_empty o ≡ true → o ≡ Some []
 empty_run None h = false_true h

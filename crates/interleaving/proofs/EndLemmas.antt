@@ -26,7 +26,7 @@ use Rattle.interleaving.proofs.QuietCreditLemmas.{gives-fixed}
 use Rattle.interleaving.proofs.PassingLemmas.{credits_pass}
 use Rattle.interleaving.proofs.LeadLemmas.{IsParted, parted, goes_on}
 use Rattle.interleaving.proofs.ClockLemmas.{IsFirst, none_left}
-use Rattle.interleaving.proofs.TestLemmas.{false_true}
+use Rattle.au_term.proofs.LogicLemmas.{false_true}
 
 -- whether the end of a query is in a list
 abbrev pub has_end : List Element → Bool

@@ -17,7 +17,7 @@ use Rattle.interleaving.proofs.AppendLemmas.{each-append}
 use Rattle.interleaving.proofs.WayLemmas.{cond-true}
 use Rattle.interleaving.proofs.RoundtripLemmas.{by_nodes, IsPath, weaken_above}
 use Rattle.interleaving.proofs.GrowingLemmas.{IsReadyOn}
-use Rattle.interleaving.proofs.TestLemmas.{number_same}
+use Rattle.au_term.proofs.LogicLemmas.{number_same}
 
 -- catch marks in front are dropped
 pub marks_scoped : (node : ℕ → ℕ) (way : Way) (items : List (Item ℕ)) → IsPath way → AreScoped way (by_nodes node items)

@@ -40,8 +40,7 @@ use Rattle.interleaving.proofs.BlindLemmas.{of_node, beside, front_blind, back_u
 use Rattle.interleaving.proofs.RenameLemmas.{same_front, end_put, items_same}
 use Rattle.interleaving.proofs.ClosingListLemmas.{Guards, none_above, FindallWakes}
 use Rattle.interleaving.proofs.WakeLemmas.{before_wake, after_wake, not_next}
-use Rattle.interleaving.proofs.TestLemmas.{false_true, number_same}
-use Rattle.au_term.proofs.LogicLemmas.{numbers_turned}
+use Rattle.au_term.proofs.LogicLemmas.{numbers_turned, false_true, number_same}
 
 -- the entry with the results of its goal side, by heights and by names
 pub record Gathered (clauses : List Clause) (n : ℕ) (way : Way) (ts rs : List Term) (l : Term) (f : Continuation ℕ) : Type 0 where

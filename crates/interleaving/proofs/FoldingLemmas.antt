@@ -28,7 +28,7 @@ use Rattle.interleaving.proofs.EndLemmas.{has_end}
 use Rattle.interleaving.proofs.BlindLemmas.{of_node, front_blind, back_under, records_apart, off_levels}
 use Rattle.interleaving.proofs.FoldLemmas.{Passes, passes_becoming, passes_then, credit_counted, LeftSides, node_list, node_totals}
 use Rattle.interleaving.proofs.FoldLemmas.{closed_round}
-use Rattle.interleaving.proofs.TestLemmas.{number_same}
+use Rattle.au_term.proofs.LogicLemmas.{number_same}
 
 inner-append : (n : ℕ) (xs ys : List Element) → Each (IsInner (of_node n)) xs → Each (IsInner (of_node n)) ys
     → Each (IsInner (of_node n)) (xs ++ ys)

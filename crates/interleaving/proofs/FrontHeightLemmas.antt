@@ -27,7 +27,7 @@ use Rattle.interleaving.proofs.EntryLemmas.{own_height}
 use Rattle.interleaving.proofs.NamingLemmas.{from_end, from_own, heights-resolved}
 use Rattle.interleaving.proofs.NamedFloorLemmas.{scope-above, scope-here, from-other}
 use Rattle.interleaving.proofs.PlacedNameLemmas.{olders, from_olders, other_node}
-use Rattle.interleaving.proofs.TestLemmas.{number_same}
+use Rattle.au_term.proofs.LogicLemmas.{number_same}
 
 -- a new number is named by no height
 node_free : (next : ℕ) (levels : List Level) → IsFree next levels → 1 ≤ next → (h : ℕ) → node_of levels h ≡ next → ⊥

@@ -16,7 +16,7 @@ use Rattle.tree_model.specs.SoundTrees.{one_if, count_in, count_among, count_bel
 use Rattle.interleaving.proofs.HandOutCountLemmas.{handed, at, AgreesNode, AgreesAll, Agrees, occurrences_in, occurrences_all, occurrences}
 use Rattle.interleaving.proofs.HandOutCountLemmas.{AgreesAround}
 use Rattle.interleaving.proofs.HandOutCountLemmas.{occurrences_around, NewIn, IsAgreed, folds_agreed, wakes_agreed}
-use Rattle.interleaving.proofs.TestLemmas.{number_same}
+use Rattle.au_term.proofs.LogicLemmas.{number_same}
 
 side_agreed : (G : Place → Option Handed) (next : ℕ) (v : Level) (up : List Level) (c : Credit) (o : Option Entry) (go : Credit → Grown)
     (most : Place → ℕ) → NewIn G next → AgreesAround G (v ∷ up) → ((a : Place) → occurrences_around a (v ∷ up) ≤ most a)

@@ -15,7 +15,7 @@ use Rattle.interleaving.proofs.NamingLemmas.{not-same}
 use Rattle.interleaving.proofs.NamedFloorLemmas.{scope_other, scope_never}
 use Rattle.interleaving.proofs.FarNameLemmas.{IsItemFar}
 use Rattle.interleaving.proofs.RenamedLemmas.{lead_items, Other}
-use Rattle.interleaving.proofs.TestLemmas.{true_false, number_same}
+use Rattle.au_term.proofs.LogicLemmas.{true_false, number_same}
 
 -- a new name is none of a way
 pub others_new : (way : Way) (i n : ℕ) → is_on way n ≡ false → (items : List (Item ℕ))

@@ -34,8 +34,8 @@ use Rattle.interleaving.proofs.LowListLemmas.{findalls_low}
 use Rattle.interleaving.proofs.BranchLemmas.{below_from, pair_older}
 use Rattle.interleaving.proofs.RenamedLemmas.{lead_items, Other, lead_sound, lead_erased}
 use Rattle.interleaving.proofs.LeadNameLemmas.{others_new, blind_findalls}
-use Rattle.interleaving.proofs.TestLemmas.{true_false}
 use Rattle.au_model.proofs.ApplyLemmas.{or_right}
+use Rattle.au_term.proofs.LogicLemmas.{true_false}
 
 -- the run's own names
 abbrev pub own_end : ℕ → Name

@@ -32,8 +32,7 @@ use Rattle.interleaving.proofs.PlacedShapeLemmas.{IsPlacing, placed_in}
 use Rattle.interleaving.proofs.OpenSpotLemmas.{claim_sound, resume_sound}
 use Rattle.interleaving.proofs.SoundClosingLemmas.{grown_tree, emptied_sound, suspend_sound, opened_sound}
 use Rattle.interleaving.proofs.PlacedEntryLemmas.{IsAt, at_spot as known_at, prune_sound, answer_sound}
-use Rattle.au_term.proofs.LogicLemmas.{and-right}
-use Rattle.interleaving.proofs.TestLemmas.{not_equal}
+use Rattle.au_term.proofs.LogicLemmas.{and-right, not_equal}
 
 pub awake_entry : (h : Hold) (e : Entry) → profile (Pending h e) ≡ IsOpen → IsHeldBy h e → IsAwake e
 awake_entry Ready e o i = i

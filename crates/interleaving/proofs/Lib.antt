@@ -182,4 +182,3 @@ mod OncePlaceLemmas
 mod NumberedPlaceLemmas
 mod NumberedRunLemmas
 mod NumberedEventLemmas
-mod TestLemmas

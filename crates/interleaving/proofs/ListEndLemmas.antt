@@ -15,8 +15,7 @@ use Rattle.interleaving.specs.Erased.{from}
 use Rattle.interleaving.proofs.ContextLemmas.{count_around}
 use Rattle.interleaving.proofs.NamingLemmas.{from_own}
 use Rattle.interleaving.proofs.WayLemmas.{one_if-zero}
-use Rattle.au_term.proofs.LogicLemmas.{numbers_turned, or-left, or-right}
-use Rattle.interleaving.proofs.TestLemmas.{none_true, not_equal}
+use Rattle.au_term.proofs.LogicLemmas.{numbers_turned, or-left, or-right, none_true, not_equal}
 
 abbrev pub ends_in : Name → List Element → Bool
 ends_in h [] = false

@@ -19,8 +19,7 @@ use Rattle.interleaving.proofs.ContextLemmas.{IsLevel, IsAround, put_profiles, l
 use Rattle.interleaving.proofs.WayLemmas.{cond-true, cond-false}
 use Rattle.interleaving.proofs.ListEndLemmas.{levels_down, from_back}
 use Rattle.interleaving.proofs.ListScopeLemmas.{IsDistinct, dormant_on, side_at, Scoped, distinct-down, on-down, Reads, reads_then, named}
-use Rattle.interleaving.proofs.TestLemmas.{false_true}
-use Rattle.au_term.proofs.LogicLemmas.{and-right, and-left}
+use Rattle.au_term.proofs.LogicLemmas.{and-right, and-left, false_true}
 
 -- the level of a number
 pub record AtLevel (levels : List Level) (s : ℕ) : Type 0 where

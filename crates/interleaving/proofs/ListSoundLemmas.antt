@@ -17,7 +17,7 @@ use Rattle.interleaving.proofs.CarriedLemmas.{findalls-append}
 use Rattle.interleaving.proofs.ListEndLemmas.{levels_down}
 use Rattle.interleaving.proofs.ListScopeLemmas.{IsDistinct, Scoped, way_down, distinct-up, distinct-down, apart_above}
 use Rattle.interleaving.proofs.ListMarkLemmas.{through_side}
-use Rattle.interleaving.proofs.TestLemmas.{false_true, number_same}
+use Rattle.au_term.proofs.LogicLemmas.{false_true, number_same}
 
 -- from scopes in reach to scopes on the branch
 abbrev levels_over : List Level → ℕ → List Level

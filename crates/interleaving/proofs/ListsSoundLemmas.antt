@@ -26,7 +26,7 @@ use Rattle.interleaving.proofs.ListEndLemmas.{levels_down, from_back}
 use Rattle.interleaving.proofs.ListScopeLemmas.{IsDistinct, dormant_on, apart_above}
 use Rattle.interleaving.proofs.ListMarkLemmas.{AtLevel, no_left, gathered_side}
 use Rattle.interleaving.proofs.SoundListLemmas.{element_sound}
-use Rattle.interleaving.proofs.TestLemmas.{false_true, number_same}
+use Rattle.au_term.proofs.LogicLemmas.{false_true, number_same}
 
 -- whether a goal side of a findall is on a branch
 abbrev pub under_of : List Level → Bool

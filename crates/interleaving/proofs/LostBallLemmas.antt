@@ -50,7 +50,7 @@ use Rattle.interleaving.proofs.LowerListLemmas.{lower_front, front_split, ball_c
 use Rattle.interleaving.proofs.QueryLastLemmas.{RightsNone, rights_none, OnlyEnds, back_ends, ends_given, ends_erased, query_clear}
 use Rattle.interleaving.proofs.GatePrivateLemmas.{wakes_bare}
 use Rattle.interleaving.proofs.FrontStepLemmas.{bare_sound}
-use Rattle.interleaving.proofs.TestLemmas.{false_true}
+use Rattle.au_term.proofs.LogicLemmas.{false_true}
 
 -- clear below a node and above it
 clear_join : (s : ℕ) (levels : List Level) → AreClear (levels_below (Some s) levels) → AreClear (levels_down levels s) → AreClear levels

@@ -17,7 +17,7 @@ use Rattle.interleaving.proofs.NamedFloorLemmas.{below_named, floor_named}
 use Rattle.interleaving.proofs.PublishedBareLemmas.{right_of}
 use Rattle.interleaving.proofs.BranchLemmas.{upto, scope_pair, below_after, from_from, above_from, above_in_from, pair_older}
 use Rattle.interleaving.proofs.LowSoundLemmas.{IsCatchOf, IsFindallOf, caught, gathered, guards_low}
-use Rattle.interleaving.proofs.TestLemmas.{true_false}
+use Rattle.au_term.proofs.LogicLemmas.{true_false}
 
 tail_of : (x y : Element) (xs ys : List Element) → x ∷ xs ≡ y ∷ ys → xs ≡ ys
 tail_of x y xs ys e = cc

@@ -29,7 +29,7 @@ use Rattle.interleaving.proofs.PublishedBareLemmas.{own_plain}
 use Rattle.interleaving.proofs.SkippedLemmas.{last_number, Asleep, Awake, sleeping}
 use Rattle.interleaving.proofs.BranchLemmas.{upto, below_from, back_from, pair_older}
 use Rattle.interleaving.proofs.LowEntryLemmas.{carried_low, marks_low}
-use Rattle.interleaving.proofs.TestLemmas.{true_false, number_same}
+use Rattle.au_term.proofs.LogicLemmas.{true_false, number_same}
 
 -- the findall entries of the floor
 findalls_element : (P : Name → Type 0) (n i : ℕ) (way : Way) (e : Entry) → P (0 ∷ n ∷ [])

@@ -22,7 +22,7 @@ use Rattle.interleaving.proofs.AppendLemmas.{append-assoc, each-append, append-n
 use Rattle.interleaving.proofs.ClockLemmas.{AreShut, AreClear, quiet-append, inferences-append, left_quiet, left_counts}
 use Rattle.interleaving.proofs.ListEndLemmas.{levels_down}
 use Rattle.interleaving.proofs.BallLevelLemmas.{ball_credit, clear_step, FirstShut}
-use Rattle.interleaving.proofs.TestLemmas.{number_same}
+use Rattle.au_term.proofs.LogicLemmas.{number_same}
 
 abbrev pub lower_front : ℕ → List Level → List Element
 lower_front s [] = []

@@ -12,8 +12,7 @@ use Rattle.interleaving.specs.HeightMachine.{HeightElement, HeightEntry, height_
 use Rattle.interleaving.specs.Erased.{from, element_count, height, with_height, continuation_heights, erased}
 use Rattle.interleaving.specs.Sound.{IsMarkSound, IsSound}
 use Rattle.interleaving.proofs.WayLemmas.{cond-true, cond-false}
-use Rattle.interleaving.proofs.TestLemmas.{false_true, number_same}
-use Rattle.au_term.proofs.LogicLemmas.{neither}
+use Rattle.au_term.proofs.LogicLemmas.{neither, false_true, number_same}
 
 abbrev pub is_catch_entry : Entry → Bool
 is_catch_entry (CatchEntry c r f) = true

@@ -16,7 +16,7 @@ use Rattle.interleaving.proofs.WayLemmas.{cond-true, cond-false}
 use Rattle.interleaving.proofs.NamingLemmas.{from_end, from_own}
 use Rattle.tree_model.specs.Ways.{is_on}
 use Rattle.interleaving.proofs.RoundtripLemmas.{IsPath}
-use Rattle.interleaving.proofs.TestLemmas.{number_same}
+use Rattle.au_term.proofs.LogicLemmas.{number_same}
 
 -- what sleeps to the right of an alternative, and its end; in its place, where nothing sleeps, an end of a query that
 -- takes no ball

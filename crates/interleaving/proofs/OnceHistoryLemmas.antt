@@ -31,8 +31,7 @@ use Rattle.interleaving.proofs.OnceLemmas.{IsPreserved, after_one, moved_at, els
 use Rattle.interleaving.proofs.OnceChangeLemmas.{closed_moved}
 use Rattle.interleaving.proofs.OnceEventLemmas.{taken_out, taken_here, closing, stack_some, prune_moves, front_whole, answer_moves}
 use Rattle.interleaving.proofs.OnceEventLemmas.{nodes_move, waiting_away, spot_is, holding, claim_preserved}
-use Rattle.au_term.proofs.LogicLemmas.{and-right, and-left}
-use Rattle.interleaving.proofs.TestLemmas.{number_same}
+use Rattle.au_term.proofs.LogicLemmas.{and-right, and-left, number_same}
 
 resume_preserved : (G : Place → Option Handed) (t : TreeState) (w : ℕ) (a : Place) → IsPreserved G t → t.halted ≡ None → IsSoundTree t
     → (o : Option Spot) → resumable t ≡ o → is_spot_at a o ≡ true

@@ -19,7 +19,7 @@ use Rattle.interleaving.proofs.HandOutCountLemmas.{handed, Agrees, AgreesAround,
 use Rattle.interleaving.proofs.HandOutCountLemmas.{occurrences_plug, agrees_out, Elsewhere, NewIn, IsAgreed}
 use Rattle.interleaving.proofs.HandOutPlaceLemmas.{tasks_at, tasks_append, IsOut, each-append, occurs_root}
 use Rattle.interleaving.proofs.UnchangedPlaceLemmas.{same_place-is, place_self}
-use Rattle.interleaving.proofs.TestLemmas.{number_same}
+use Rattle.au_term.proofs.LogicLemmas.{number_same}
 
 -- a tree that has not been halted, and how its alternatives have been handed out
 pub record IsGoing (G : Place → Option Handed) (t : TreeState) : Type 0 where

@@ -36,8 +36,7 @@ use Rattle.interleaving.proofs.CaughtEventLemmas.{marks_without}
 use Rattle.interleaving.proofs.WorldGoalLemmas.{solutions_move, removal_moves}
 use Rattle.interleaving.proofs.QueryEndLemmas.{ends_move}
 use Rattle.interleaving.proofs.FrontBallLemmas.{ball_moves}
-use Rattle.interleaving.proofs.TestLemmas.{false_true}
-use Rattle.au_term.proofs.LogicLemmas.{and-right, and-left}
+use Rattle.au_term.proofs.LogicLemmas.{and-right, and-left, false_true}
 
 -- a cut or a ball is no gate of the world
 ball_no_world : (levels : List Level) (es : List Entry) → is_world_gate (ball_gate levels es) ≡ true → ⊥

@@ -24,8 +24,7 @@ use Rattle.interleaving.proofs.LegalLemmas.{end_rests}
 use Rattle.interleaving.proofs.QuietEventLemmas.{list_follows, claim_follows, resume_follows, suspend_follows, lost_follows, stop_follows}
 use Rattle.interleaving.proofs.ListsSoundLemmas.{lists_are_sound}
 use Rattle.interleaving.proofs.RunEventLemmas.{IsAskedAt, asked_at, empty_follows, collected_follows}
-use Rattle.interleaving.proofs.TestLemmas.{false_true}
-use Rattle.au_term.proofs.LogicLemmas.{and-right, and-left}
+use Rattle.au_term.proofs.LogicLemmas.{and-right, and-left, false_true}
 
 spent_back : (k : ℕ) (levels : List Level) → back_of (spending k levels) ≡ back_of levels
 spent_back k [] = refl

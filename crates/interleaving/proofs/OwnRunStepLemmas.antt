@@ -30,7 +30,7 @@ use Rattle.interleaving.proofs.FreeStepHeightLemmas.{length-map, marks-heights}
 use Rattle.interleaving.proofs.SequentialHeightLemmas.{length-height, height-collected}
 use Rattle.interleaving.proofs.SoundEarlyLemmas.{preserved-zs, part-given, inner-given, map-append}
 use Rattle.interleaving.proofs.OwnFreeStepLemmas.{count-after, findall_at-high, findall_at-deep, collected-over}
-use Rattle.interleaving.proofs.TestLemmas.{not_less, less}
+use Rattle.au_term.proofs.LogicLemmas.{not_less, less}
 
 module _ (clauses : List Clause) (inside : Name → Bool) (grown : IsGrown inside) (zs : List Element) (floor : List Entry)
     (fl : IsFloorUnder inside zs floor) where

@@ -25,7 +25,7 @@ use Rattle.interleaving.proofs.PlacedShapeLemmas.{holder_first, holder_later, ma
 use Rattle.interleaving.proofs.PlacedErasedLemmas.{HaveSizes}
 use Rattle.interleaving.proofs.ListScopeLemmas.{dormant_on}
 use Rattle.interleaving.proofs.MarkedLemmas.{is_catch_entry, catch_at, MarksAt, EntryMarked, AreMarked, catch_low, no_guard_catch}
-use Rattle.interleaving.proofs.TestLemmas.{false_true, not_equal, number_same}
+use Rattle.au_term.proofs.LogicLemmas.{false_true, not_equal, number_same}
 
 -- what sleeps on a floor
 entry_dormant : (up : List Level) (right : Alternatives) → is_catch_entry (with_heights up (right_entry right)) ≡ true

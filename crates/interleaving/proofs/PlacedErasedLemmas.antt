@@ -18,8 +18,8 @@ use Rattle.interleaving.proofs.NamedFloorLemmas.{from-other, scope-here, scope-a
 use Rattle.interleaving.proofs.PlacedNameLemmas.{bare, bare-append, bare-element, olders, bare_olders, HasItsHeight, AreMeasured}
 use Rattle.interleaving.proofs.PlacedNameLemmas.{measured_split}
 use Rattle.interleaving.proofs.PlacedNameLemmas.{entry_back, from_olders, count_olders, other_node, older_erased}
-use Rattle.interleaving.proofs.TestLemmas.{number_same}
 use Rattle.interleaving.proofs.SequentialHeightLemmas.{height-append}
+use Rattle.au_term.proofs.LogicLemmas.{number_same}
 
 -- no whole height falls inside a node
 abbrev pub NoneInside : (ℕ → Type 0) → ℕ → List ℕ → Type 0

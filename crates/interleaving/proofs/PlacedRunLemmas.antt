@@ -27,8 +27,8 @@ use Rattle.interleaving.proofs.RunMeasuredLemmas.{NotInside, not_inside_low, non
 use Rattle.interleaving.proofs.RunMeasuredLemmas.{guard_not_inside}
 use Rattle.interleaving.proofs.RunNameLemmas.{are_measured}
 use Rattle.interleaving.proofs.ReadableLemmas.{IsReadable}
-use Rattle.interleaving.proofs.TestLemmas.{true_false, number_same}
 use Rattle.interleaving.proofs.SequentialHeightLemmas.{height-append}
+use Rattle.au_term.proofs.LogicLemmas.{true_false, number_same}
 
 -- a height of the floor, its node, and the node's height
 pub height_node : (levels : List Level) → IsPath (way_of levels) → (h : ℕ) → 1 ≤ h → h ≤ length levels

@@ -20,8 +20,7 @@ use Rattle.interleaving.proofs.RunSoundLemmas.{IsAwakeTop}
 use Rattle.interleaving.proofs.PlacedSoundLemmas.{named_in, IsSeen, inside_hidden, placed_asked, over_split, take-drop, map-take}
 use Rattle.interleaving.proofs.PlacedSoundLemmas.{map-drop, map-length, drop-length, take_awake, each-take, each-drop, two_not_one}
 use Rattle.interleaving.proofs.PlacedSoundLemmas.{several_awake, first_awake, alternatives_none, IsOlder, plain_older}
-use Rattle.au_term.proofs.LogicLemmas.{and-right, and-left}
-use Rattle.interleaving.proofs.TestLemmas.{not_equal}
+use Rattle.au_term.proofs.LogicLemmas.{and-right, and-left, not_equal}
 
 older : (name : ℕ → ℕ) (seen : ℕ → Bool) (w a : Way) (next : ℕ) (o : Entry) (os : List Entry) → is_alone (o ∷ os) ≡ true →
     Collapses name seen w a → IsPath a → under_query a ≡ true → is_on a next ≡ false → Each (IsSeen seen) (o ∷ os) → AreOver w (o ∷ os)

@@ -18,8 +18,7 @@ use Rattle.interleaving.proofs.GrowingLemmas.{IsReadyOn, alternatives_sound, alt
 use Rattle.interleaving.proofs.CollapseLemmas.{Collapses, kept, hidden, AreSeen, as_scopes, items_preserved}
 use Rattle.interleaving.proofs.StackLemmas.{entry_step, stack_way, length-stack, IsOver, AreOver}
 use Rattle.interleaving.proofs.RunSoundLemmas.{IsAwakeTop}
-use Rattle.au_term.proofs.LogicLemmas.{not-true}
-use Rattle.interleaving.proofs.TestLemmas.{number_same}
+use Rattle.au_term.proofs.LogicLemmas.{not-true, number_same}
 use Rattle.au_model.proofs.ApplyLemmas.{or_left, or_right}
 
 -- the heights that goals name

@@ -30,13 +30,7 @@ use Rattle.interleaving.proofs.CollapseLemmas.{as_scopes}
 use Rattle.interleaving.proofs.StackLemmas.{IsCounted, counted_path, stack_way, length-stack, counted_stack, AreOver, drop_over}
 use Rattle.interleaving.proofs.StackLemmas.{resolved_scopes, top_reach, top_from, top_goals, scope_goals, over_plain, solutions_over}
 use Rattle.interleaving.proofs.StackLemmas.{drop-append, from_stack, stack_asked}
-use Rattle.interleaving.proofs.TestLemmas.{number_same}
-
-le_by : (a b : ℕ) → nat_le a b ≡ true → a ≤ b
-le_by a b h = grind arith
-
-not_lt_by : (a b : ℕ) → nat_lt a b ≡ false → b ≤ a
-not_lt_by a b h = grind arith
+use Rattle.au_term.proofs.LogicLemmas.{number_same, le_by, not_lt_by}
 
 -- own entries over a floor
 pub record IsOwn (w : Way) (floor result : List Entry) : Type 0 where

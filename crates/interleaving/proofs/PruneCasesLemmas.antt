@@ -44,7 +44,7 @@ use Rattle.interleaving.proofs.CatchingLemmas.{first_height}
 use Rattle.interleaving.proofs.CatchingLemmas.{first_dormant}
 use Rattle.interleaving.proofs.BallSearchLemmas.{mark_name, first_name}
 use Rattle.interleaving.proofs.PrunedBallLemmas.{placed_here, root_here}
-use Rattle.interleaving.proofs.TestLemmas.{false_true}
+use Rattle.au_term.proofs.LogicLemmas.{false_true}
 
 module _ (t : TreeState) (i : IsSoundTree t) (k : IsCaughtTree t) (running : t.halted ≡ None) (s : Spot) (o : IsOpenSpot t.root s)
     (f : Continuation ℕ) (entry : s.entry ≡ PlainEntry f) (Moves : TreeState → Type 0)

@@ -26,7 +26,7 @@ use Rattle.interleaving.proofs.CaughtContextLemmas.{caught_down}
 use Rattle.interleaving.proofs.PrunedBallLemmas.{PruneMoves, falls_so}
 use Rattle.interleaving.proofs.CutHeightLemmas.{cut_moves}
 use Rattle.interleaving.proofs.PruneCasesLemmas.{plain_moves}
-use Rattle.interleaving.proofs.TestLemmas.{false_true}
+use Rattle.au_term.proofs.LogicLemmas.{false_true}
 
 -- at any alternative that is out
 module _ (t : TreeState) (i : IsSoundTree t) (k : IsCaughtTree t) (running : t.halted ≡ None) (s : Spot) (o : IsOpenSpot t.root s) where

@@ -20,8 +20,8 @@ use Rattle.interleaving.proofs.AppendLemmas.{append-assoc}
 use Rattle.interleaving.proofs.ListEndLemmas.{levels_down}
 use Rattle.interleaving.proofs.PlacedNameLemmas.{bare, bare-append}
 use Rattle.interleaving.proofs.LowerListLemmas.{count_lower}
-use Rattle.interleaving.proofs.TestLemmas.{number_same}
 use Rattle.interleaving.proofs.GrowingLemmas.{pruned_way}
+use Rattle.au_term.proofs.LogicLemmas.{number_same}
 
 -- what a cut leaves of a level
 abbrev emptied_level : Level → Level

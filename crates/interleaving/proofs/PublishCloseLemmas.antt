@@ -30,7 +30,7 @@ use Rattle.tree_model.specs.Effects.{result_of, results_of}
 use Rattle.interleaving.proofs.PublishEventLemmas.{before_list}
 use Rattle.interleaving.proofs.PublishedEndLemmas.{list_closed, closed_sound, emptied_alike}
 use Rattle.interleaving.proofs.PublishedResultLemmas.{list_result, collected_alike}
-use Rattle.interleaving.proofs.TestLemmas.{false_true}
+use Rattle.au_term.proofs.LogicLemmas.{false_true}
 
 -- the list with the place closed, before anything folds
 closed_list : (v : Level) (up : List Level) (k : ℕ) → pending_list (plug (v ∷ up) (Closed (credit_of k))) ≡ list_closed v up k

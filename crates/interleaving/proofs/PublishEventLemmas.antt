@@ -32,8 +32,7 @@ use Rattle.interleaving.proofs.PlacedRunLemmas.{IsPublished}
 use Rattle.interleaving.proofs.BaredLemmas.{lead_more}
 use Rattle.interleaving.proofs.PublishedBareLemmas.{list_before, list_after}
 use Rattle.interleaving.proofs.PublishedRunLemmas.{published_alike}
-use Rattle.interleaving.proofs.TestLemmas.{false_true}
-use Rattle.au_term.proofs.LogicLemmas.{and-right, and-left}
+use Rattle.au_term.proofs.LogicLemmas.{and-right, and-left, false_true}
 
 -- the lists of an open plain entry and of what is placed
 pub before_list : (v : Level) (up : List Level) (hold : Hold) (f : Continuation ℕ) → profile (Pending hold (PlainEntry f)) ≡ IsOpen

@@ -28,9 +28,9 @@ use Rattle.interleaving.proofs.BaredLemmas.{may_then, made_at, made_grown}
 use Rattle.interleaving.proofs.PublishedBareLemmas.{own_plain}
 use Rattle.interleaving.proofs.NamingLemmas.{not-same}
 use Rattle.interleaving.proofs.BranchLemmas.{pair_older}
-use Rattle.interleaving.proofs.TestLemmas.{true_false}
 use Rattle.interleaving.proofs.LeadNameLemmas.{lead_far}
 use Rattle.interleaving.proofs.LeadRunLemmas.{lead_segment, new_entry, new_end, run_front, run_back, run_floor, deepest, run_stands}
+use Rattle.au_term.proofs.LogicLemmas.{true_false}
 
 module _ (clauses : List Clause) (v : Level) (up : List Level) (next : ℕ) (es : List Entry) (f : Continuation ℕ)
     (free : IsFree next (v ∷ up)) (a : IsAround (v ∷ up) IsOpen)

@@ -54,7 +54,7 @@ use Rattle.interleaving.proofs.FrontEntriesLemmas.{map-parts}
 use Rattle.interleaving.proofs.QueryLastLemmas.{RightsNone, rights_none, OnlyEnds, back_ends, ends_lead, ends_given, ends_settle}
 use Rattle.interleaving.proofs.QueryLastLemmas.{ends_erased, ends_quiet, closes_lead}
 use Rattle.interleaving.proofs.FrontStepLemmas.{front_asked, gate_moves}
-use Rattle.interleaving.proofs.TestLemmas.{number_same}
+use Rattle.au_term.proofs.LogicLemmas.{number_same}
 
 -- goals in a scope, by heights
 goals_high : (h g : Name → ℕ) (p q : Name) → h p ≡ g q → (gs : List Term) → map (with_height h) (goals_at p gs)

@@ -24,7 +24,7 @@ use Rattle.interleaving.proofs.ListEndLemmas.{levels_down}
 use Rattle.interleaving.proofs.BallPlaceLemmas.{names_down, names_above}
 use Rattle.interleaving.proofs.FrontHeightLemmas.{resolved_names}
 use Rattle.interleaving.proofs.BallSearchLemmas.{second_step, named_recovery}
-use Rattle.interleaving.proofs.TestLemmas.{false_true, number_same}
+use Rattle.au_term.proofs.LogicLemmas.{false_true, number_same}
 
 -- items whose scopes have the same heights
 pub items_high : (f g : ℕ → Name) (h k : Name → ℕ) (part : Way) (items : List (Item ℕ))

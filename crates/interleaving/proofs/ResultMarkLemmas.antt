@@ -13,7 +13,6 @@ use Rattle.tree_model.specs.Nodes.{FindallNode}
 use Rattle.tree_model.specs.PendingLists.{way_of, step_of, step_name}
 use Rattle.tree_model.specs.Ways.{is_on}
 use Rattle.interleaving.proofs.ReadableLemmas.{IsReadable}
-use Rattle.interleaving.proofs.TestLemmas.{true_false}
 use Rattle.au_term.specs.Term.{Term}
 use Rattle.run_model.specs.Machine.Items.{Item, GoalItem, CatchMark, CollectMark, RemovalItem}
 use Rattle.tree_model.specs.Elements.{Catch, Findall, End}
@@ -27,7 +26,7 @@ use Rattle.tree_model.specs.Ways.{same_kind, stops_cuts, through}
 use Rattle.interleaving.proofs.WayLemmas.{cond-true, cond-false, cond-same, other_number}
 use Rattle.interleaving.proofs.RoundtripLemmas.{IsPath}
 use Rattle.interleaving.proofs.RunSoundLemmas.{height_way}
-use Rattle.au_term.proofs.LogicLemmas.{both}
+use Rattle.au_term.proofs.LogicLemmas.{both, true_false}
 use Rattle.interleaving.proofs.TestLemmas.{number_same}
 
 more : (xs ys : List Element) → length (erased ys) ≤ length (erased (xs ++ ys))

@@ -9,7 +9,7 @@ use Rattle.tree_model.specs.Floors.{renamed_item, height_of, node_of}
 use Rattle.tree_model.specs.PendingLists.{Way, way_of}
 use Rattle.tree_model.specs.Ways.{is_on, same_kind, stops_cuts, is_barrier, in_reach, through, way_from, way_above, AreScoped}
 use Rattle.interleaving.proofs.WayLemmas.{cond-true, cond-false, cond-same, reach-on, through-on, below_new}
-use Rattle.interleaving.proofs.TestLemmas.{not_equal, number_same}
+use Rattle.au_term.proofs.LogicLemmas.{not_equal, number_same}
 
 -- items with heights, by the nodes that they name
 abbrev pub by_nodes : (ℕ → ℕ) → List (Item ℕ) → List (Item ℕ)

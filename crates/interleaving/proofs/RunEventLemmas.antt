@@ -34,7 +34,7 @@ use Rattle.interleaving.proofs.WakeLemmas.{end_wakes}
 use Rattle.interleaving.proofs.FindallWakeLemmas.{findall_wakes}
 use Rattle.interleaving.proofs.GoingLemmas.{going, legal_parts}
 use Rattle.interleaving.proofs.QuietEventLemmas.{list_follows}
-use Rattle.interleaving.proofs.TestLemmas.{false_true}
+use Rattle.au_term.proofs.LogicLemmas.{false_true}
 
 -- an open place of a tree, and the tree where it closes
 pub closing_follows : (t : TreeState) (s : Spot) (c : Credit) → IsSoundTree t → IsCaughtTree t → IsOpenSpot t.root s

@@ -12,7 +12,7 @@ use Rattle.interleaving.proofs.StackLemmas.{IsCounted, stack_way}
 use Rattle.interleaving.proofs.PlacedSoundLemmas.{named_in, inside_hidden, take-drop, drop-length}
 use Rattle.interleaving.proofs.PlacedShapeLemmas.{FitsOne, fits_one}
 use Rattle.interleaving.proofs.PlacedErasedLemmas.{NoneInside, HaveSizes}
-use Rattle.interleaving.proofs.TestLemmas.{true_false}
+use Rattle.au_term.proofs.LogicLemmas.{true_false}
 
 -- a height that falls inside none of the nodes
 abbrev pub NotInside : ℕ → List ℕ → ℕ → Type 0

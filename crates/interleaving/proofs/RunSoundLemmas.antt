@@ -22,8 +22,8 @@ use Rattle.interleaving.proofs.CollapseLemmas.{as_scopes}
 use Rattle.interleaving.proofs.StackLemmas.{IsCounted, counted_path, IsOver, AreOver}
 use Rattle.interleaving.proofs.PrivateSoundLemmas.{IsFloor}
 use Rattle.interleaving.proofs.PrivateStepSoundLemmas.{settle_over, one_more_over}
-use Rattle.interleaving.proofs.TestLemmas.{number_same}
 use Rattle.run_model.proofs.FreeStepLemmas.{length-collected}
+use Rattle.au_term.proofs.LogicLemmas.{number_same}
 
 -- a floor's way, by heights
 abbrev pub height_step : Level → ℕ → Step

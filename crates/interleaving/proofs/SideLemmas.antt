@@ -15,8 +15,7 @@ use Rattle.interleaving.proofs.AppendLemmas.{each-append}
 use Rattle.interleaving.proofs.BaredLemmas.{made_at}
 use Rattle.interleaving.proofs.NamedFloorLemmas.{right_named, below_named}
 use Rattle.interleaving.proofs.BesideLemmas.{Out, OutNode, WayOut, out_more, blind_among, blind_left}
-use Rattle.au_term.proofs.LogicLemmas.{and-false}
-use Rattle.interleaving.proofs.TestLemmas.{number_same}
+use Rattle.au_term.proofs.LogicLemmas.{and-false, number_same}
 
 pub apart_number : (a b : ℕ) → (a ≡ b → ⊥) → (a == b) ≡ false
 apart_number a b h = go (a == b) refl

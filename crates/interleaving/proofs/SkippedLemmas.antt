@@ -20,7 +20,7 @@ use Rattle.interleaving.proofs.ClosingSoundLemmas.{IsFree}
 use Rattle.interleaving.proofs.GrowingLemmas.{none_dormant-of, no_three}
 use Rattle.interleaving.proofs.NamedFloorLemmas.{from-element, right_named}
 use Rattle.interleaving.proofs.PublishedBareLemmas.{right_of}
-use Rattle.interleaving.proofs.TestLemmas.{true_false, number_same}
+use Rattle.au_term.proofs.LogicLemmas.{true_false, number_same}
 
 pub last_number : (k r j m : ℕ) → k ∷ r ∷ [] ≡ j ∷ m ∷ [] → r ≡ m
 last_number k r j m e = cc

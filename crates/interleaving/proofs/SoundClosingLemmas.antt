@@ -26,7 +26,7 @@ use Rattle.interleaving.proofs.GrowingLemmas.{plug_sound, IsReadyOn, new_node_so
 use Rattle.interleaving.proofs.GrowingLemmas.{pruned_around, pruned_free}
 use Rattle.interleaving.proofs.EntryLemmas.{IsOverFloor, each-map}
 use Rattle.interleaving.proofs.OpenSpotLemmas.{IsOpenSpot, IsPlaced, placed_at, count_at, hold_sound, taken_at_open, some_sound}
-use Rattle.interleaving.proofs.TestLemmas.{number_same}
+use Rattle.au_term.proofs.LogicLemmas.{number_same}
 
 -- a tree with this root and next number
 pub grown_tree : (t : TreeState) → IsSoundGrown (record { root = t.root; next = t.next }) → IsSoundTree t

@@ -23,7 +23,7 @@ use Rattle.interleaving.proofs.ListScopeLemmas.{IsDistinct, dormant_on, distinct
 use Rattle.interleaving.proofs.ListScopeLemmas.{chained}
 use Rattle.interleaving.proofs.ListMarkLemmas.{at_level, marks_sound}
 use Rattle.interleaving.proofs.ListSoundLemmas.{scoped_by, older_scope, short_back, other_back}
-use Rattle.interleaving.proofs.TestLemmas.{false_true, number_same}
+use Rattle.au_term.proofs.LogicLemmas.{false_true, number_same}
 
 -- names of the branch
 of_older : (base levels : List Level) (i n : ℕ) → IsAround levels IsOpen

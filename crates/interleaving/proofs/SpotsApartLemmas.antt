@@ -9,8 +9,7 @@ use Rattle.tree_model.specs.SoundTrees.{one_if, count_in, count_among, count_bel
 use Rattle.tree_model.specs.TreeStates.{TreeState, leftmost, first_spot, pending_spots}
 use Rattle.tree_model.specs.Legality.{is_spot_at, is_taken_by, taken_at}
 use Rattle.interleaving.proofs.AppendLemmas.{found, each-append, each-more}
-use Rattle.interleaving.proofs.TestLemmas.{false_true, number_same}
-use Rattle.au_term.proofs.LogicLemmas.{and-right}
+use Rattle.au_term.proofs.LogicLemmas.{and-right, false_true, number_same}
 
 -- the place of a spot, by its numbers
 abbrev IsAtPlace : ℕ → ℕ → Spot → Type 0

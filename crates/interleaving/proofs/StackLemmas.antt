@@ -14,7 +14,7 @@ use Rattle.tree_model.specs.Ways.{is_on, is_barrier, in_reach, way_from, way_abo
 use Rattle.interleaving.proofs.WayLemmas.{cond-true, cond-false, below_new}
 use Rattle.interleaving.proofs.RoundtripLemmas.{IsPath, weaken_from, weaken_above}
 use Rattle.interleaving.proofs.CollapseLemmas.{as_scopes}
-use Rattle.interleaving.proofs.TestLemmas.{not_equal, number_same}
+use Rattle.au_term.proofs.LogicLemmas.{not_equal, number_same}
 
 -- nodes are named by heights
 abbrev pub IsCounted : Way → Type 0

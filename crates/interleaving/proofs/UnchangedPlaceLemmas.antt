@@ -21,8 +21,7 @@ use Rattle.interleaving.proofs.WayLemmas.{cond-true}
 use Rattle.interleaving.proofs.PluggedLemmas.{IsIn, all_in}
 use Rattle.interleaving.proofs.FrontLemmas.{leftmost_front, cleared_below, tasks_plug}
 use Rattle.interleaving.proofs.LegalLemmas.{legal_sound}
-use Rattle.au_term.proofs.LogicLemmas.{and-right, and-left}
-use Rattle.interleaving.proofs.TestLemmas.{number_same}
+use Rattle.au_term.proofs.LogicLemmas.{and-right, and-left, number_same}
 
 -- a history with one event more
 after-last : (t : TreeState) (es : List Event) (e : Event) → after_events t (es ++ e ∷ []) ≡ after_event (after_events t es) e

@@ -30,7 +30,7 @@ use Rattle.interleaving.proofs.FoldLemmas.{LeftSides, HaveNoSideRecords, side_na
 use Rattle.interleaving.proofs.ListEndLemmas.{levels_down}
 use Rattle.interleaving.proofs.BallLevelLemmas.{ball_credit, clear_step, FirstShut}
 use Rattle.interleaving.proofs.LowerListLemmas.{lower_front, count_lower}
-use Rattle.interleaving.proofs.TestLemmas.{false_true, number_same}
+use Rattle.au_term.proofs.LogicLemmas.{false_true, number_same}
 
 -- names of nodes among some, from those of each
 module _ (ok : ℕ → Bool) where

@@ -24,7 +24,7 @@ use Rattle.interleaving.proofs.LeadLemmas.{lead-grows}
 use Rattle.interleaving.proofs.BlindLemmas.{of_node, beside, front_blind, records_apart, off_levels}
 use Rattle.interleaving.proofs.RenameLemmas.{same_front, end_put}
 use Rattle.interleaving.proofs.ClosingListLemmas.{Guards, closed_list, EndWakes}
-use Rattle.interleaving.proofs.TestLemmas.{number_same}
+use Rattle.au_term.proofs.LogicLemmas.{number_same}
 
 -- the list after a first alternative, for what is second
 pub second_right : (v : Level) (up : List Level) (spent : ℕ) (status : Status) → v.left ≡ [] → v.right ≡ alternative spent status none

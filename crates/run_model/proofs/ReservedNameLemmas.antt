@@ -5,6 +5,7 @@ use Rattle.std.proofs.lemmas.List.Folds.{list_any-append}
 use Rattle.run_model.specs.Goals.Builtins.{builtins}
 use Rattle.run_model.specs.Goals.Control.{is_named, control_constructs}
 use Rattle.run_model.specs.Goals.GoalOutcomes.{has_row}
+use Rattle.au_term.proofs.LogicLemmas.{or_false}
 
 find_by : {X : Type 0} → (p : X → Bool) (x : X) (xs : List X) (v : Bool) → is_some (find p xs) ≡ list_any p xs → is_some (cond v (Some x) (find p xs)) ≡ (v || list_any p xs)
 find_by p x xs true h = refl
@@ -13,10 +14,6 @@ find_by p x xs false h = h
 pub found_any : {X : Type 0} → (p : X → Bool) (xs : List X) → is_some (find p xs) ≡ list_any p xs
 found_any p [] = refl
 found_any p (x ∷ xs) = find_by p x xs (p x) (found_any p xs)
-
-or_false : (b : Bool) → (b || false) ≡ b
-or_false true = refl
-or_false false = refl
 
 pub has_row-any : (name : List ℕ) (arity : ℕ) → has_row name arity ≡ list_any (is_named name arity) (control_constructs ++ builtins)
 has_row-any name arity =

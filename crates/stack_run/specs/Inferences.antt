@@ -60,6 +60,10 @@ following s rest own = continuation_view own s.store rest
 abbrev pub in_store : Stack → Term → Term
 in_store s t = resolve (substitution s.store) t
 
+-- what a body's goals stand for
+abbrev pub goals_in : Stack → Term → List Term
+goals_in s t = goals_of (in_store s t)
+
 -- the stack goes on as a control construct of this form says
 abbrev pub GoesOnBy : ControlForm → ℕ → List Item → Stack → Stack → Type 0
 GoesOnBy form height rest old new = HasEntries (λ own. after_control form height (following old rest own) (entries_below old own)) new

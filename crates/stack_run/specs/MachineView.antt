@@ -67,6 +67,6 @@ abbrev pub IsInferredFrom : Job → (List ℕ → ℕ → State) → Machine →
 IsInferredFrom job before m =
     (written : List ℕ) (inferences : ℕ) → state_view job m (written ++ m.line.items) (inferences + 1) ≡ step (arc_value job.procs) (before written inferences)
 
-abbrev pub IsStepFrom : Job → (List ℕ → ℕ → State) → Machine → Type 0
-IsStepFrom job before m =
+abbrev pub IsRunStepFrom : Job → (List ℕ → ℕ → State) → Machine → Type 0
+IsRunStepFrom job before m =
     (written : List ℕ) (inferences : ℕ) → state_view job m (written ++ m.line.items) (inferences + 1) ≡ with_free_steps (step (arc_value job.procs) (before written inferences))

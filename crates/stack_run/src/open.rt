@@ -10,7 +10,7 @@ ghost use Rattle.au_model.specs.Terms.Substitutions.{resolve};
 ghost use Rattle.bind_store.specs.StoreView.{substitution};
 ghost use Rattle.engine_core.specs.Branches.{IsItemBelow};
 ghost use Rattle.stack_run.specs.StackView.{scope_height};
-ghost use Rattle.stack_run.specs.Inferences.{IsWorking, HasEntries, IsOpeningBelow, following, opened_form, entries_below, GoesOnBy, in_store};
+ghost use Rattle.stack_run.specs.Inferences.{IsWorking, HasEntries, IsOpeningBelow, following, opened_form, entries_below, GoesOnBy, in_store, goals_in};
 
 use crate::frame::{Catch, Choice, Findall, Stack};
 use crate::list::call_of;
@@ -66,7 +66,7 @@ fn condition(
     requires yes { var_bound yes.now ≤ stack.old.store.next }
     requires no { var_bound no.now ≤ stack.old.store.next }
     requires rest { Each (IsItemBelow stack.old.store.next) rest.now }
-    ensures { OnOk result (GoesOnBy (TestOf (goals_of (in_store stack.old test.now)) (goals_of (in_store stack.old yes.now)) (goals_of (in_store stack.old no.now))) (scope_height cut) rest.now stack.old stack.new) }
+    ensures { OnOk result (GoesOnBy (TestOf (goals_in stack.old test.now) (goals_in stack.old yes.now) (goals_in stack.old no.now)) (scope_height cut) rest.now stack.old stack.new) }
 {
     let place = stack.frames.len() as u64;
     let others = goals_before(alloc, no, cut, rest, &stack.store)?;

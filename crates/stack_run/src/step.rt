@@ -15,7 +15,7 @@ ghost use Rattle.stack_run.specs.StackInvariant.{IsFit};
 ghost use Rattle.stack_run.specs.FreeStepsTaken.{with_current};
 ghost use Rattle.stack_run.specs.Inferences.{HasEnd, IsWorking};
 ghost use Rattle.stack_run.specs.ItemsTaken.{IsAtItem};
-ghost use Rattle.stack_run.specs.MachineView.{state_view, stack_state, names_asked, opened_state, ball_of, value_in, IsReady, IsInferredFrom, IsStepFrom};
+ghost use Rattle.stack_run.specs.MachineView.{state_view, stack_state, names_asked, opened_state, ball_of, value_in, IsReady, IsInferredFrom, IsRunStepFrom};
 
 use crate::frame::{Machine, QueryEnd, Stack};
 use crate::free_steps::take_free_steps;
@@ -93,7 +93,7 @@ pub(crate) fn step(alloc: Global, job: &Job, machine: &mut Machine) -> Result<()
     requires ready { IsReady machine.old.stack }
     requires some { HasEnd machine.old.stack }
     requires few { machine.old.answers < 2 ^ 64 - 1 }
-    ensures state { OnOk result (IsStepFrom job.now (state_view job.now machine.old) machine.new) }
+    ensures state { OnOk result (IsRunStepFrom job.now (state_view job.now machine.old) machine.new) }
     ensures ready { OnOk result (IsReady machine.new.stack) }
 {
     machine.line.clear();

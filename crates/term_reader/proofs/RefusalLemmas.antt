@@ -17,7 +17,7 @@ use Rattle.au_model.specs.Syntax.TextFaults.{IsOneTooMany}
 use Rattle.term_reader.proofs.CompletionLemmas.{completion, completes}
 use Rattle.term_reader.proofs.ScannedTokenLemmas.{scans-tokens, scans-then}
 use Rattle.term_reader.proofs.LookaheadLemmas.{presumed-alike, IsSure, first-sure, post_operator_alone, joins-is}
-use Rattle.au_term.proofs.LogicLemmas.{and-left, and-right, and-both}
+use Rattle.au_term.proofs.LogicLemmas.{and-left, and-right, and-both, le_by as low}
 use Rattle.term_reader.proofs.PrimaryLemmas.{ends-same, name-balanced, name-begins, name-plain, lone-begins, over-begins}
 use Rattle.term_reader.proofs.HasReadLemmas.{read_to-begins, begins-more}
 use Rattle.term_reader.proofs.FollowingTokenLemmas.{name-call}
@@ -75,9 +75,6 @@ true_false b e h = let z : ⊥ = cc in absurd z
 
 high : (m n : ℕ) → m ≤ n → nat_le m n ≡ false → ⊥
 high m n le e = grind (arith, le, e)
-
-low : (m n : ℕ) → nat_le m n ≡ true → m ≤ n
-low m n e = grind (arith, e)
 
 -- a prefix operator in front of tokens in front of which it does not stand for itself
 pub lone-over : (s : Setting) (a : Bool) (x : Lexeme) (sign : Bool) (n : List ℕ) (o : Operator) (ts : List Token) → IsName x sign n → prefix_of s.ops n ≡ Some o → is_plain_name_before sign ts ≡ true → prefix_is_atom s.ops ts ≡ false

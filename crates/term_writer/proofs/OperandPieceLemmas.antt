@@ -13,7 +13,7 @@ use Rattle.au_model.specs.Writing.WrittenTerms.{notation_of, enclosed, pieces, t
 use Rattle.au_model.specs.declared.types.Style.TheVariants.{Quoted}
 use Rattle.au_model.specs.Writing.ReadBack.{tree_of}
 use Rattle.term_writer.proofs.PieceSeamLemmas.{after_token, Follows, lower, follows-stops, closes_round}
-use Rattle.au_term.proofs.LogicLemmas.{or-left, or-right}
+use Rattle.au_term.proofs.LogicLemmas.{or-left, or-right, not_lt_by as gt-false}
 use Rattle.au_model.proofs.PostOperatorLemmas.{bound_le}
 
 abbrev pub notated : OperatorTable → Notation
@@ -86,9 +86,6 @@ pub record Tails (s : Setting) (t : Term) : Type 0 where
   pub tail_alone : (rest : List Piece) → Alone s (tail_pieces (notated s.ops) t (Put CloseList ∷ rest))
   pub tail_reads : (ts : List Token) (head : Tree) (rest : List Piece) (b : InFront)
       → Operand s 999 ts (joined_pieces b (tail_pieces (notated s.ops) t (Put CloseList ∷ rest))) head → ItemsRead s ts rest (cell head (tree_of t))
-
-pub gt-false : (m n : ℕ) → nat_lt m n ≡ false → n ≤ m
-gt-false m n h = grind (arith, h)
 
 pub false-true : {x : Bool} {A : Type 0} → x ≡ false → x ≡ true → A
 false-true e f = let g : false ≡ true = sym e ∙ f in let h : ⊥ = cc in absurd h

@@ -22,6 +22,7 @@ use Rattle.term_reader.specs.declared.state.LastOperand.TheVariants.{Whole}
 use Rattle.term_reader.specs.declared.steps.Step.TheVariants.{Continue}
 use Rattle.term_reader.proofs.ReaderStepLemmas.{first-post_operator, outcome-same, pushed, infix-leads, postfix-leads, fits-bound}
 use Rattle.term_reader.proofs.steps.with_token.Goals as goal
+use Rattle.au_term.proofs.LogicLemmas.{false_true}
 
 pub returns-then-not-fits-clause-outcome : goal.returns-then-not-fits-clause-outcome
 returns-then-not-fits-clause-outcome c = λ k l st.
@@ -76,9 +77,6 @@ returns-in_ok-compound-in-Postfix-clause-outcome c = λ k l st.
       expected_is = refl;
       leads = postfix-leads c.args.source at c.args.found.end z.below z.tree q c.args.found.apart x n o c.requires.next is fits z.at_position.low;
     })
-
-false_true : {A : Type 0} → false ≡ true → A
-false_true e = let z : ⊥ = cc in absurd z
 
 pub returns-in-Nothing-clause-outcome : goal.returns-in-Nothing-clause-outcome
 returns-in-Nothing-clause-outcome c = λ k l st.
