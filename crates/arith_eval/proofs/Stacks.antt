@@ -7,7 +7,7 @@ use Rattle.au_term.specs.Term.{Term, Compound, Terms, end, more, count, first_of
 use Rattle.au_term.specs.PrefixOrder.{with_cell, arity, cells_of, terms_of, term_of, term_of-cells_of, IsTerm, IsForest}
 use Rattle.au_term.specs.declared.cell.Cell.{Cell}
 use Rattle.au_term.specs.declared.cell.Cell.TheVariants.{Functor}
-use Rattle.au_term.proofs.WholeTermLemmas.{count-take, stands}
+use Rattle.au_term.proofs.WholeTermLemmas.{count-take, forest_of}
 use Rattle.au_term.proofs.SizeFillLemmas.{opened, opens_at}
 use Rattle.run_model.specs.Goals.Arithmetic.{Evaluated, UnaryFunction, BinaryFunction, unary_value, binary_value, value_of, not_evaluable}
 use Rattle.arith_eval.specs.Evaluating.{evaluated, values_of, Stacks}
@@ -54,7 +54,7 @@ wide_value name n m values now ts v one two few left is h e =
     ap₂ (λ x xs. x ∷ xs) first others
 
 is_forest : (cells : List Cell) → IsTerm cells → IsForest cells
-is_forest cells t = record { cells = (stands 1 cells t.leaves).cells }
+is_forest cells t = record { cells = (forest_of 1 cells t.leaves).cells }
 
 -- the values of a cell's arguments are on the stack
 pub arguments_stacked : (cells : List Cell) (k at : ℕ) (c : Cell) (values : List (Result ℤ Problem)) → IsTerm cells → at ≡ k + 1 → k < length cells → c ≡ get_or cells k c → Stacks values (terms_of (drop at cells)) → arity c ≤ length values
@@ -69,7 +69,7 @@ value_stacked cells k at c v values e lt is h =
 pub one_stacked : (cells : List Cell) (at : ℕ) (values : List (Result ℤ Problem)) → IsTerm cells → at ≤ 0 → Stacks values (terms_of (drop at cells)) → length values ≡ 1
 one_stacked cells at values t e h =
     let zero_at : at ≡ 0 = omega arith in
-    sym (stack_count values (terms_of (drop at cells)) h) ∙ (ap (λ i. count (terms_of (drop i cells))) zero_at ∙ (stands 1 cells t.leaves).number)
+    sym (stack_count values (terms_of (drop at cells)) h) ∙ (ap (λ i. count (terms_of (drop i cells))) zero_at ∙ (forest_of 1 cells t.leaves).number)
 
 top_value : (v : Result ℤ Problem) (vs : List Evaluated) (ts : Terms) → evaluated v ∷ vs ≡ values_of ts → evaluated v ≡ value_of (first_of ts)
 top_value v vs end h = absurd cc

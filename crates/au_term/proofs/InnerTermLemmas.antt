@@ -81,7 +81,7 @@ subterm-shifted base at t lt =
     ∙ (ap term_of (drop-map (shifted_cell base) at (cells_of t))
     ∙ (ap first_of (terms_of-shifted base (drop at (cells_of t))) ∙ first_shifted base (terms_of (drop at (cells_of t))) (some_terms (drop at (cells_of t)) some)))
 
--- a subterm of a term that is itself a raised subterm
+-- a subterm of a term that is itself a shifted subterm
 pub record Inner (t : Term) (start base : ℕ) (at : ℕ) : Type 0 where
   pub place : IsShiftablePlace t (start + at) base
   pub same : shifted base (subterm (start + at) t) ≡ subterm at (shifted base (subterm start t))

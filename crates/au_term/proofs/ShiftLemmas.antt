@@ -97,7 +97,7 @@ subterm-bound t at lt =
     let e = ends t at (at + length (cells_of (subterm at t))) lt refl in
     omega (arith, ap cells_bound e.rest, cells_bound-append (cells_of (subterm at t)) (drop (at + length (cells_of (subterm at t))) (cells_of t)), cells_bound-cells_of (subterm at t), cells_bound-cells_of t, cells_bound-drop (cells_of t) at)
 
--- where all variables of a term can be raised, each of its cells is a place
+-- where all variables of a term can be shifted, each of its cells is a place
 pub place_of : (t : Term) (at base : ℕ) → at < length (cells_of t) → base + var_bound t < 2 ^ 64 → IsShiftablePlace t at base
 place_of t at base lt h = record { within = lt; fits = omega (arith, subterm-bound t at lt) }
 

@@ -5,18 +5,18 @@ use Rattle.au_term.specs.Term.{Term}
 use Rattle.au_term.specs.PrefixOrder.{cells_of, terms_of, term_of, IsForest, AreValidCells, IsTerm, subterm}
 use Rattle.au_term.specs.SubtermSizes.{all_sizes, IsMeasured}
 use Rattle.au_term.specs.declared.cell.Cell.{Cell}
-use Rattle.au_term.proofs.WholeTermLemmas.{whole, stands, DueAfter-term}
+use Rattle.au_term.proofs.WholeTermLemmas.{whole, forest_of, DueAfter-term}
 use Rattle.au_term.proofs.SubtermLemmas.{forest_from, term_forest, first_splits, first_taken}
 use Rattle.au_term.proofs.SubtermSizeLemmas.{length-all_sizes, size_at}
 
-pub record Kept (t : Term) (cells : List Cell) (sizes : List ℕ) : Type 0 where
+pub record IsStored (t : Term) (cells : List Cell) (sizes : List ℕ) : Type 0 where
   pub cells_are : cells ≡ cells_of t
   pub sizes_are : sizes ≡ all_sizes (terms_of (cells_of t))
   pub long : length sizes ≡ length (cells_of t)
   pub sound : AreValidCells (cells_of t)
 
-pub kept : (t : Term) (cells : List Cell) (sizes : List ℕ) → IsMeasured cells sizes → term_of cells ≡ t → Kept t cells sizes
-kept t cells sizes m e =
+pub stored : (t : Term) (cells : List Cell) (sizes : List ℕ) → IsMeasured cells sizes → term_of cells ≡ t → IsStored t cells sizes
+stored t cells sizes m e =
     let is = whole cells m.term.leaves ∙ ap cells_of e in
     let sizes_are = m.measured ∙ ap (λ cs. all_sizes (terms_of cs)) is in
     record {
@@ -27,7 +27,7 @@ kept t cells sizes m e =
     }
 
 pub whole_forest : (cs : List Cell) → IsTerm cs → IsForest cs
-whole_forest cs h = record { cells = (stands 1 cs h.leaves).cells }
+whole_forest cs h = record { cells = (forest_of 1 cs h.leaves).cells }
 
 -- where the subterm at a place ends
 pub record Ends (t : Term) (at stop : ℕ) : Type 0 where
@@ -47,7 +47,7 @@ ends t at stop lt e =
       within = omega (arith, ap length splits, length-append (cells_of (subterm at t)) (drop long (drop at (cells_of t))), length-drop at (cells_of t));
     }
 
-pub ends_by : (t : Term) (cells : List Cell) (sizes : List ℕ) (at size d : ℕ) → Kept t cells sizes → at < length (cells_of t) → size ≡ get_or sizes at d → Ends t at (at + size)
+pub ends_by : (t : Term) (cells : List Cell) (sizes : List ℕ) (at size d : ℕ) → IsStored t cells sizes → at < length (cells_of t) → size ≡ get_or sizes at d → Ends t at (at + size)
 ends_by t cells sizes at size d k lt is =
     ends t at (at + size) lt (ap (λ n. at + n) (is ∙ (ap (λ ss. get_or ss at d) k.sizes_are ∙ size_at (cells_of t) at d lt)))
 

@@ -21,20 +21,20 @@ count-drop (suc n) end = omega arith
 count-drop (suc n) (more t ts) = omega (arith, count-drop n ts)
 
 -- the cells stand for as many terms as were due, and are the cells of these
-pub record Stands (due : ℕ) (cs : List Cell) : Type 0 where
+pub record IsForest (due : ℕ) (cs : List Cell) : Type 0 where
   pub number : count (terms_of cs) ≡ due
   pub cells : all_cells (terms_of cs) ≡ cs
 
-with_one : (due : ℕ) (c : Cell) (cs : List Cell) → 0 < due → arity c ≡ 0 → count (with_cell c (terms_of cs)) ≡ suc (count (terms_of cs)) → all_cells (with_cell c (terms_of cs)) ≡ c ∷ all_cells (terms_of cs) → Stands (due - 1 + arity c) cs → Stands due (c ∷ cs)
+with_one : (due : ℕ) (c : Cell) (cs : List Cell) → 0 < due → arity c ≡ 0 → count (with_cell c (terms_of cs)) ≡ suc (count (terms_of cs)) → all_cells (with_cell c (terms_of cs)) ≡ c ∷ all_cells (terms_of cs) → IsForest (due - 1 + arity c) cs → IsForest due (c ∷ cs)
 with_one due c cs lt e n a h = record { number = omega (arith, h.number); cells = a ∙ ap (λ ds. c ∷ ds) h.cells }
 
-pub stands : (due : ℕ) (cs : List Cell) → DueAfter due cs 0 → Stands due cs
-stands due [] h = record { number = sym h; cells = refl }
-stands due (VarCell n ∷ cs) h = with_one due (VarCell n) cs h.0 refl refl refl (stands (due - 1 + 0) cs h.1)
-stands due (IntCell n ∷ cs) h = with_one due (IntCell n) cs h.0 refl refl refl (stands (due - 1 + 0) cs h.1)
-stands due (AtomCell n ∷ cs) h = with_one due (AtomCell n) cs h.0 refl refl refl (stands (due - 1 + 0) cs h.1)
-stands due (Functor f n ∷ cs) h =
-    let k = stands (due - 1 + n) cs h.1 in
+pub forest_of : (due : ℕ) (cs : List Cell) → DueAfter due cs 0 → IsForest due cs
+forest_of due [] h = record { number = sym h; cells = refl }
+forest_of due (VarCell n ∷ cs) h = with_one due (VarCell n) cs h.0 refl refl refl (forest_of (due - 1 + 0) cs h.1)
+forest_of due (IntCell n ∷ cs) h = with_one due (IntCell n) cs h.0 refl refl refl (forest_of (due - 1 + 0) cs h.1)
+forest_of due (AtomCell n ∷ cs) h = with_one due (AtomCell n) cs h.0 refl refl refl (forest_of (due - 1 + 0) cs h.1)
+forest_of due (Functor f n ∷ cs) h =
+    let k = forest_of (due - 1 + n) cs h.1 in
     let few : n ≤ count (terms_of cs) = omega (arith, k.number) in
     record {
       number = omega (arith, k.number, count-drop n (terms_of cs));
@@ -43,7 +43,7 @@ stands due (Functor f n ∷ cs) h =
 
 -- a term's cells are those that it is kept as
 pub whole : (cs : List Cell) → DueAfter 1 cs 0 → cs ≡ cells_of (term_of cs)
-whole cs h = sym (stands 1 cs h).cells ∙ one (terms_of cs) (stands 1 cs h).number
+whole cs h = sym (forest_of 1 cs h).cells ∙ one (terms_of cs) (forest_of 1 cs h).number
   where
     one : (ts : Terms) → count ts ≡ 1 → all_cells ts ≡ cells_of (first_of ts)
     one end e = absurd (omega arith)

@@ -21,7 +21,7 @@ abbrev pub shifted_cell : ℕ → Cell → Cell
 shifted_cell base (VarCell n) = VarCell (base + n)
 shifted_cell base c = c
 
--- a place of the term, whose subterm's variables can be raised by this and stay below the greatest number
+-- a place of the term, whose subterm's variables can be shifted by this and stay below the greatest number
 pub record IsShiftablePlace (t : Term) (at base : ℕ) : Type 0 where
   pub within : at < length (cells_of t)
   pub fits : base + var_bound (subterm at t) < 2 ^ 64

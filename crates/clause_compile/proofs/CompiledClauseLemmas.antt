@@ -79,7 +79,7 @@ head_is c d e = ap (λ k. let h : Term = k.head in h) e
 pub body_is : (c d : ClauseTerms) → c ≡ d → c.body ≡ d.body
 body_is c d e = ap (λ k. let b : Term = k.body in b) e
 
--- a shared part of a clause, raised
+-- a shared part of a clause, shifted
 pub part_place : (t u : Term) (base b : ℕ) → t ≡ u → base + b < 2 ^ 64 → var_bound u ≤ b → IsShiftablePlace t 0 base
 part_place t u base b e h l = subst (λ v. IsShiftablePlace v 0 base) (sym e) (whole_place u base b h l)
 

@@ -27,6 +27,6 @@ pub record PassesGoal (t : Term) (at next : ℕ) (places now : List ℕ) : Type 
   pub placed : Each (λ i. i < length (cells_of t)) places → Each (λ i. i < length (cells_of t)) now
   pub same : subterms_at t now ++ goals_of_all (terms_of (drop next (cells_of t))) ≡ subterms_at t places ++ goals_of_all (terms_of (drop at (cells_of t)))
 
--- each is a place whose subterm's variables can be raised by this
+-- each is a place whose subterm's variables can be shifted by this
 abbrev pub ArePlaces : Term → ℕ → List ℕ → Type 0
 ArePlaces t base places = Each (λ at. IsShiftablePlace t at base) places

@@ -75,7 +75,7 @@ make_one left right old new list u s listed =
       below = back_below old.made given old.next (subst (Each (IsBindingBelow old.next)) listed (subst (λ n. Each (IsBindingBelow n) new.made) next s.below));
     }
 
--- the goals of a clause, raised and resolved
+-- the goals of a clause, shifted and resolved
 goals_stand : (bs made : List Binding) (next k : ℕ) (seen : List ℕ) (gs : List Term) → seen ≡ numbers_from 0 k → ((n : ℕ) → next ≤ n → value_of (composed bs) n ≡ VarTerm n) → Each (λ g. var_bound g ≤ k) gs
     → map (resolve (composed (bs ++ made))) (map (shifted next) gs) ≡ map (resolve (composed made)) (map (apply (renamed seen next)) gs)
 goals_stand bs made next k seen [] e h b = refl

@@ -130,7 +130,7 @@ impl State {
     ) -> Result<Reduced, NoMemory>
         ensures at { self.new.at ≡ self.old.at }
         ensures fewer { IfOk result (λ p. IsFewer p (vec_len self.old.frames) (vec_len self.new.frames)) }
-        ensures plugged { WhereOperand self.old priority (λ s k l n. IfOk result (λ p. IsReduceOutcome s k l priority (post_operator_meant n post_operator) self.new p)) }
+        ensures reduced { WhereOperand self.old priority (λ s k l n. IfOk result (λ p. IsReduceOutcome s k l priority (post_operator_meant n post_operator) self.new p)) }
     {
         if post_operator.fits(self.bound(), priority) {
             return Ok(Reduced::Fits);

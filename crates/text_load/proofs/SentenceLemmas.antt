@@ -30,7 +30,7 @@ use Rattle.text_load.specs.LoadedSentences.{AreLoaded, IsSentenceOf}
 use Rattle.text_load.specs.Sentences.{Sentence, ClauseSentence, QuerySentence, NoSentence, sentence, IsSentence}
 use Rattle.text_load.specs.LoadedTexts.{Sentences, no_more, one_more, unread, no_sentence, further, IsRefused, clauses_in, queries_in}
 use Rattle.text_load.specs.declared.assembly.Loaded.{Loaded}
-use Rattle.text_load.specs.declared.sentence.Sentence.{Sentence as Kept}
+use Rattle.text_load.specs.declared.sentence.Sentence.{Sentence as ReadSentence}
 use Rattle.text_load.specs.declared.sentence.Sentence.TheVariants as kept
 use Rattle.std.proofs.Common.{append-nil}
 
@@ -90,7 +90,7 @@ begins_no_fault text at e f t rest h =
     absurd (no_operand (tokens_of (chars_from text at)) none h.spelled)
 
 -- one sentence further
-pub read_on : (text : List ℕ) (at end : ℕ) (l new : Loaded) (t : Tree) (k : Kept) (r : AreSentencesRead text at l) → HoldsSentence text at t k end → IsSentence (sentence t) → AreLoaded (r.done ++ sentence t ∷ []) new → AreSentencesRead text end new
+pub read_on : (text : List ℕ) (at end : ℕ) (l new : Loaded) (t : Tree) (k : ReadSentence) (r : AreSentencesRead text at l) → HoldsSentence text at t k end → IsSentence (sentence t) → AreLoaded (r.done ++ sentence t ∷ []) new → AreSentencesRead text end new
 read_on text at end l new t k r h s a = record {
   done = r.done ++ sentence t ∷ [];
   loaded = a;
@@ -126,7 +126,7 @@ blamed text at start end line column t kind h b p =
     bad (NoSentence other) e is = e ∙ ap NoSentence (sym is)
 
 -- what is kept and not refused is a sentence
-pub is_kept : (x : Sentence) (k : Kept) → IsSentenceOf x k → ((kind : FaultKind) → k ≡ kept.Refused kind → ⊥) → IsSentence x
+pub is_kept : (x : Sentence) (k : ReadSentence) → IsSentenceOf x k → ((kind : FaultKind) → k ≡ kept.Refused kind → ⊥) → IsSentence x
 is_kept (ClauseSentence c) k is n = tt
 is_kept (QuerySentence q) k is n = tt
 is_kept (NoSentence kind) (kept.Clause c) is n = absurd is

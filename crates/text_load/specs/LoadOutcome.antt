@@ -14,7 +14,7 @@ use Rattle.text_load.specs.LoadedSentences.{AreLoaded, IsSentenceOf}
 use Rattle.text_load.specs.Sentences.{Sentence, sentence, IsSentence}
 use Rattle.text_load.specs.LoadedTexts.{Sentences, FirstFault, IsRefused, first_setting}
 use Rattle.text_load.specs.declared.assembly.Loaded.{Loaded}
-use Rattle.text_load.specs.declared.sentence.Sentence.{Sentence as Kept}
+use Rattle.text_load.specs.declared.sentence.Sentence.{Sentence as ReadSentence}
 use Rattle.text_load.specs.declared.reading.LoadRefusal.{LoadRefusal}
 use Rattle.text_load.specs.declared.reading.LoadRefusal.TheVariants.{Refused, NoMemory}
 use Rattle.text_load.specs.declared.reading.Next.{Next}
@@ -42,7 +42,7 @@ pub record AreSentencesLoaded (text : List ℕ) (l : Loaded) : Type 0 where
   pub loaded : AreLoaded sentences l
 
 -- a term that a text spells from one place to another, and what is kept of it
-pub record HoldsSentence (text : List ℕ) (at : ℕ) (t : Tree) (kept : Kept) (end : ℕ) : Type 0 where
+pub record HoldsSentence (text : List ℕ) (at : ℕ) (t : Tree) (kept : ReadSentence) (end : ℕ) : Type 0 where
   pub spelling : Spelling first_setting text at end t
   pub kept_is : IsSentenceOf (sentence t) kept
 

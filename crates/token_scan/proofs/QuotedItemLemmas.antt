@@ -135,8 +135,8 @@ pub record Gone (q : ℕ) (start : List ℕ) (done here : List ℕ) : Type 0 whe
 pub gone-start : (q : ℕ) (cs : List ℕ) → Gone q cs [] cs
 gone-start q cs = record { is = sym (with_characters-none (quoted q cs)) }
 
-pub gone-stands : (q d : ℕ) (start done here rest : List ℕ) → Gone q start done here → part q here ≡ StandsFor d rest → Gone q start (done ++ (d ∷ [])) rest
-gone-stands q d start done here rest g e =
+pub gone-character : (q d : ℕ) (start done here rest : List ℕ) → Gone q start done here → part q here ≡ StandsFor d rest → Gone q start (done ++ (d ∷ [])) rest
+gone-character q d start done here rest g e =
     record { is = g.is ∙ (ap (with_characters done) (quoted-stands q d here rest e) ∙ with_characters-append done (d ∷ []) (quoted q rest)) }
 
 pub gone-nothing : (q : ℕ) (start done here rest : List ℕ) → Gone q start done here → part q here ≡ StandsForNothing rest → Gone q start done rest

@@ -8,7 +8,7 @@ use Rattle.token_scan.specs.declared.numbers.Number.TheVariants.{Fits, Float, Wi
 use Rattle.token_scan.specs.declared.cursor.Class.{Class}
 use Rattle.token_scan.specs.declared.cursor.Class.TheVariants.{Alphanumeric, Symbol, Line}
 use Rattle.token_scan.specs.declared.quotes.Piece.{Piece}
-use Rattle.token_scan.specs.declared.quotes.Piece.TheVariants.{Stands, Skips, Closes, Wrong, Cut}
+use Rattle.token_scan.specs.declared.quotes.Piece.TheVariants.{Character, Skips, Closes, Wrong, Cut}
 
 abbrev pub passes : Class → ℕ → Bool
 passes Alphanumeric c = is_alphanumeric c
@@ -17,7 +17,7 @@ passes Line c = is_in_line c
 
 -- the part of a text's quoted item that a piece names by its end
 abbrev pub quoted_part_of : List ℕ → Piece → Part
-quoted_part_of text (Stands c end) = StandsFor c (chars_from text end)
+quoted_part_of text (Character c end) = StandsFor c (chars_from text end)
 quoted_part_of text (Skips end) = StandsForNothing (chars_from text end)
 quoted_part_of text (Closes end) = ClosingQuote (chars_from text end)
 quoted_part_of text Wrong = NoEscape
@@ -29,7 +29,7 @@ IsPlaceFrom text at place = (at ≤ place) × IsCharBoundary text place
 
 -- the piece ends after this place
 abbrev pub EndsAfter : List ℕ → ℕ → Piece → Type 0
-EndsAfter text at (Stands c end) = IsPlaceFrom text (suc at) end
+EndsAfter text at (Character c end) = IsPlaceFrom text (suc at) end
 EndsAfter text at (Skips end) = IsPlaceFrom text (suc at) end
 EndsAfter text at (Closes end) = IsPlaceFrom text (suc at) end
 EndsAfter text at _ = Unit {0}

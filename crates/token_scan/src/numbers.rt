@@ -92,7 +92,7 @@ fn character_numeral(text: &str, at: usize) -> Option<Number>
         }
     } else if c == '\\' {
         match escape(text, after) {
-            Piece::Stands(d, end) => Some(Number::Fits(u64::from(d), end)),
+            Piece::Character(d, end) => Some(Number::Fits(u64::from(d), end)),
             _ => Some(Number::NoCharacter(at)),
         }
     } else {

@@ -17,7 +17,7 @@ use std::alloc::Global;
 #[derive(Clone, Copy)]
 pub(crate) enum Piece {
     /// It stands for a character.
-    Stands(char, usize),
+    Character(char, usize),
     /// It stands for nothing.
     Skips(usize),
     /// It is the closing quote.
@@ -65,7 +65,7 @@ fn numbered_escape(text: &str, at: usize, base: u32) -> Piece
     match peek(text, end) {
         None | Some('\n') => Piece::Cut,
         Some('\\') if has_digit => match character(number) {
-            Some(c) => Piece::Stands(c, step(text, end, '\\')),
+            Some(c) => Piece::Character(c, step(text, end, '\\')),
             None => Piece::Wrong,
         },
         Some(_) => Piece::Wrong,
@@ -87,7 +87,7 @@ pub(crate) fn escape(text: &str, at: usize) -> Piece
         'x' => numbered_escape(text, after, 16),
         _ if c.is_digit(8) => numbered_escape(text, at, 8),
         _ => match named_escape(c) {
-            Some(d) => Piece::Stands(d, after),
+            Some(d) => Piece::Character(d, after),
             None => Piece::Wrong,
         },
     }
@@ -105,7 +105,7 @@ pub(crate) fn part(text: &str, at: usize, quote: char) -> Piece
     let after = step(text, at, c);
     if c == quote {
         if is_next(text, after, quote) {
-            Piece::Stands(quote, step(text, after, quote))
+            Piece::Character(quote, step(text, after, quote))
         } else {
             Piece::Closes(after)
         }
@@ -114,7 +114,7 @@ pub(crate) fn part(text: &str, at: usize, quote: char) -> Piece
     } else if c == '\n' {
         Piece::Cut
     } else {
-        Piece::Stands(c, after)
+        Piece::Character(c, after)
     }
 }
 
@@ -134,7 +134,7 @@ pub(crate) fn quoted_end(
     let mut here = at;
     'parts: loop {
         match part(text, here, quote) {
-            Piece::Stands(_, end) | Piece::Skips(end) => here = end,
+            Piece::Character(_, end) | Piece::Skips(end) => here = end,
             Piece::Closes(end) => return Ok(end),
             Piece::Wrong => {
                 return Err(BadToken {
@@ -175,7 +175,7 @@ pub(crate) fn characters(
     let mut here = at;
     'parts: loop {
         match part(text, here, quote) {
-            Piece::Stands(c, end) => {
+            Piece::Character(c, end) => {
                 put(&mut value, c)?;
                 here = end;
             }

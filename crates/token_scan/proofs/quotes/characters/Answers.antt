@@ -4,7 +4,7 @@ use Rattle.std.specs.String.{string_bytes}
 use Rattle.std.proofs.lemmas.Str.{chars-nil}
 use Rattle.au_model.specs.Syntax.Characters.{chars_from}
 use Rattle.token_scan.specs.ScannedParts.{quoted_characters, quoted_part_of}
-use Rattle.token_scan.proofs.QuotedItemLemmas.{Gone, gone-start, gone-stands, gone-nothing, gone-closes, closed-wrong, closed-cut}
+use Rattle.token_scan.proofs.QuotedItemLemmas.{Gone, gone-start, gone-character, gone-nothing, gone-closes, closed-wrong, closed-cut}
 use Rattle.token_scan.proofs.quotes.characters.Goals as goal
 
 pub parts-init : goal.parts-init
@@ -14,11 +14,11 @@ parts-init c =
       subst (λ ds. Gone c.args.quote (chars_from c.args.text.now c.args.at) ds (chars_from c.args.text.now c.args.at)) (sym none) (gone-start _ _),
     )
 
-pub parts-preserved-in-Stands : goal.parts-preserved-in-Stands
-parts-preserved-in-Stands c = (
-  (omega (arith, c.parts.invariant.0.0, c.in-Stands.ensures.place.0), c.in-Stands.ensures.place.1),
-  subst (λ ds. Gone c.args.quote (chars_from c.args.text.now c.args.at) ds (chars_from c.args.text.now c.in-Stands.end)) (sym c.in_ok-put-in-Stands.ensures)
-      (gone-stands _ _ _ _ _ _ c.parts.invariant.1 c.in-Stands.ensures.part),
+pub parts-preserved-in-Character : goal.parts-preserved-in-Character
+parts-preserved-in-Character c = (
+  (omega (arith, c.parts.invariant.0.0, c.in-Character.ensures.place.0), c.in-Character.ensures.place.1),
+  subst (λ ds. Gone c.args.quote (chars_from c.args.text.now c.args.at) ds (chars_from c.args.text.now c.in-Character.end)) (sym c.in_ok-put-in-Character.ensures)
+      (gone-character _ _ _ _ _ _ c.parts.invariant.1 c.in-Character.ensures.part),
 )
 
 pub parts-preserved : goal.parts-preserved

@@ -2,7 +2,7 @@ use Rattle.std.proofs.Common.{ap, arith}
 use Rattle.au_model.specs.Syntax.Characters.{chars_from}
 use Rattle.au_model.specs.Syntax.Words.{quoted_word, QuotedWord}
 use Rattle.token_scan.specs.ScannedParts.{quoted_rest}
-use Rattle.token_scan.proofs.QuotedItemLemmas.{gone-stands, gone-nothing, gone-closes, gone-wrong, gone-cut}
+use Rattle.token_scan.proofs.QuotedItemLemmas.{gone-character, gone-nothing, gone-closes, gone-wrong, gone-cut}
 use Rattle.token_scan.proofs.quotes.quoted_end.Goals as goal
 
 pub returns-in-Closes-clause-ok : goal.returns-in-Closes-clause-ok
@@ -22,14 +22,14 @@ returns-in-Cut-clause-err c = record {
   fault = ap (quoted_word QuotedWord (chars_from c.args.text.now c.args.quote_at)) (gone-cut _ _ _ _ c.parts.invariant.1.1 c.in-Cut.ensures.part);
 }
 
-pub parts-preserved-in-Stands : goal.parts-preserved-in-Stands
-parts-preserved-in-Stands c = (
-  (omega (arith, c.parts.invariant.0.0, c.in-Stands.ensures.place.0), c.in-Stands.ensures.place.1),
-  (_, gone-stands _ _ _ _ _ _ c.parts.invariant.1.1 c.in-Stands.ensures.part),
+pub parts-preserved-in-Character : goal.parts-preserved-in-Character
+parts-preserved-in-Character c = (
+  (omega (arith, c.parts.invariant.0.0, c.in-Character.ensures.place.0), c.in-Character.ensures.place.1),
+  (_, gone-character _ _ _ _ _ _ c.parts.invariant.1.1 c.in-Character.ensures.part),
 )
 
 pub parts-preserved : goal.parts-preserved
 parts-preserved c = (
-  (omega (arith, c.parts.invariant.0.0, c.in-Stands.ensures.place.0), c.in-Stands.ensures.place.1),
-  (_, gone-nothing _ _ _ _ _ c.parts.invariant.1.1 c.in-Stands.ensures.part),
+  (omega (arith, c.parts.invariant.0.0, c.in-Character.ensures.place.0), c.in-Character.ensures.place.1),
+  (_, gone-nothing _ _ _ _ _ c.parts.invariant.1.1 c.in-Character.ensures.part),
 )

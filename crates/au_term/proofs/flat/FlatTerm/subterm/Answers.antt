@@ -1,11 +1,11 @@
 use Rattle.std.proofs.Common.{◌≡◌, ◌<◌, ◌≤◌, length, slice_range, arith, rules, ap, ◌∙◌, sym, subst}
 use Rattle.au_term.specs.PrefixOrder.{cells_of, IsTerm, subterm}
-use Rattle.au_term.proofs.StoredTermLemmas.{Kept, kept, taken, subterm_whole}
+use Rattle.au_term.proofs.StoredTermLemmas.{IsStored, stored, taken, subterm_whole}
 use Rattle.au_term.proofs.flat.FlatTerm.subterm.Goals as goal
 use Rattle.au_term.proofs.flat.FlatTerm.subterm.Goals.{After-term_end}
 
-all : (c : After-term_end) → Kept c.args.self.now c.deref.result.now c.self.inside.sizes.items
-all c = rw c.deref.ensures.value (kept c.args.self.now c.self.inside.cells.items c.self.inside.sizes.items c.self.invariant c.self.view_is)
+all : (c : After-term_end) → IsStored c.args.self.now c.deref.result.now c.self.inside.sizes.items
+all c = rw c.deref.ensures.value (stored c.args.self.now c.self.inside.cells.items c.self.inside.sizes.items c.self.invariant c.self.view_is)
 
 cut : (c : After-term_end) → slice_range c.deref.result.now c.args.at c.term_end.result ≡ cells_of (subterm c.args.at c.args.self.now)
 cut c = ap (λ cs. slice_range cs c.args.at c.term_end.result) (all c).cells_are ∙ taken c.args.self.now c.args.at c.term_end.result c.requires c.term_end.ensures.end
