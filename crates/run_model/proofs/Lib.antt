@@ -5,6 +5,7 @@ mod CatchRows
 mod WorldRows
 mod ArithmeticRows
 mod TermGoalRows
+mod AtomGoalRows
 pub mod ConstructLemmas
 pub mod FreeStepLemmas
 pub mod StepLemmas
@@ -19,3 +20,5 @@ pub mod PlainEntryLemmas
 pub mod ReservedNameLemmas
 pub mod AnswerBoundLemmas
 pub mod TermPartBoundLemmas
+pub mod PlainAnswerLemmas
+pub mod AtomGoalPlainLemmas

@@ -1,17 +1,17 @@
 -- What goals that make terms and take them apart come to, below a number.
-use Rattle.std.proofs.Common.{◌≡◌, ℕ, zero, suc, ◌+◌, ◌<◌, ◌≤◌, Bool, true, false, ℤ, pos, negsuc, cond, List, [], ◌∷◌, length, Ok, Err, refl, arith}
+use Rattle.std.proofs.Common.{◌≡◌, ℕ, zero, suc, ◌+◌, ◌≤◌, Bool, true, false, ℤ, pos, negsuc, cond, List, [], ◌∷◌, length, Ok, Err, refl, arith}
 use Rattle.std.specs.Prelude.{codes, nat_lt}
 use Rattle.std.proofs.lemmas.Bool.Decides.{nat_tests}
-use Rattle.au_term.specs.Term.{Term, VarTerm, IntTerm, AtomTerm, Compound, Terms, end, more, all_bound, var_bound, count, argument_count, term_at}
+use Rattle.au_term.specs.Term.{Term, VarTerm, IntTerm, AtomTerm, Compound, Terms, end, more, all_bound, var_bound, count, term_at}
 use Rattle.au_model.specs.Terms.Each.{Each}
 use Rattle.au_model.specs.Terms.ErrorTerms.{type_error, representation_error}
 use Rattle.au_model.specs.Terms.Forms.{same_name, list_term}
 use Rattle.au_model.specs.Terms.Lists.{terms_from}
 use Rattle.run_model.specs.Goals.ListForms.{ListForm, ProperList, PartialList, NoList, item_before, list_form, items_of}
 use Rattle.run_model.specs.Laws.Numbering.{IsTermBelow, AreTermsBelow}
-use Rattle.run_model.specs.Goals.BuiltinAnswers.{equal, one_solution}
+use Rattle.run_model.specs.Goals.BuiltinAnswers.{equal}
 use Rattle.run_model.specs.Goals.TermTests.{is_compound}
-use Rattle.run_model.specs.Goals.TermParts.{new_variables, functor_name, made_term, functor_of_count, functor_of_name, functor_built, functor_answer, numbered_argument, argument_of, argument_of_term, argument_answer, parts_of, compound_of, term_of_items, built_from, taken_apart, parts_answer, copy_answer, term_parts}
+use Rattle.run_model.specs.Goals.TermParts.{new_variables, made_term, functor_of_count, functor_of_name, functor_built, functor_answer, numbered_argument, argument_answer, parts_of, compound_of, term_of_items, built_from, taken_apart, parts_answer, copy_answer, term_parts}
 use Rattle.run_model.proofs.AnswerBoundLemmas.{IsAnswerBelow, row-below, equal-below}
 use Rattle.au_model.proofs.VariableBoundLemmas.{copied-below}
 use Rattle.run_model.proofs.BuiltinRowBoundLemmas.{IsRowBelow, term-below}

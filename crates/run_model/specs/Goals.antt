@@ -9,6 +9,7 @@ pub mod TermParts
 pub mod Arithmetic
 pub mod ArithmeticGoals
 pub mod UnificationGoals
+pub mod AtomGoals
 pub mod Builtins
 pub mod Worlds
 pub mod GoalOutcomes
