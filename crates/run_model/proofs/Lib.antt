@@ -6,6 +6,7 @@ mod WorldRows
 mod ArithmeticRows
 mod TermGoalRows
 mod AtomGoalRows
+mod NumberTextRows
 pub mod ConstructLemmas
 pub mod FreeStepLemmas
 pub mod StepLemmas
@@ -22,3 +23,4 @@ pub mod AnswerBoundLemmas
 pub mod TermPartBoundLemmas
 pub mod PlainAnswerLemmas
 pub mod AtomGoalPlainLemmas
+pub mod NumberTextPlainLemmas

@@ -10,6 +10,7 @@ pub mod Arithmetic
 pub mod ArithmeticGoals
 pub mod UnificationGoals
 pub mod AtomGoals
+pub mod NumberTexts
 pub mod Builtins
 pub mod Worlds
 pub mod GoalOutcomes

@@ -16,6 +16,7 @@ pub mod Programs
 --   ArithmeticGoals   is/2 and the comparisons of numbers
 --   UnificationGoals  unification
 --   AtomGoals         goals on the characters of atoms
+--   NumberTexts       numbers and their texts
 --   Builtins          the table of built-in predicates
 --   Worlds            the goals that look at the world or change it
 --   GoalOutcomes      the table of all goals

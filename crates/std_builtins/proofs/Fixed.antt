@@ -20,10 +20,12 @@ use Rattle.run_model.specs.Goals.StandardOrder.{order}
 use Rattle.run_model.specs.Goals.TermTests.{order_symbol, is_order_symbol, compare_answer}
 use Rattle.run_model.proofs.PlainAnswerLemmas.{IsPlain, IsPlainSolution, IsGround, ground_fixed}
 use Rattle.run_model.proofs.AtomGoalPlainLemmas.{length-plain, code-plain, spelling-plain}
+use Rattle.run_model.proofs.NumberTextPlainLemmas.{number_text-plain}
+use Rattle.run_model.specs.Goals.NumberTexts.{number_text_answer}
 use Rattle.run_model.specs.Goals.AtomGoals.{atom_length_answer, char_code_answer, spelling_answer}
 use Rattle.std_builtins.specs.Meanings.{answer_of, arguments_of, type_test, order_test, value_test, spelling_meant}
 use Rattle.std_builtins.specs.declared.table.Builtin.{Builtin}
-use Rattle.std_builtins.specs.declared.table.Builtin.TheVariants.{Unify, Differ, «Type» as TypeGoal, Order, Compare, Is, Value, Functor, Argument, Parts, Copy, AtomLength, CharCode, AtomText}
+use Rattle.std_builtins.specs.declared.table.Builtin.TheVariants.{Unify, Differ, «Type» as TypeGoal, Order, Compare, Is, Value, Functor, Argument, Parts, Copy, AtomLength, CharCode, AtomText, NumberText}
 
 -- few equations, of terms that the map does not change
 pub record IsFixed (f : ℕ → Term) (s : Solution) : Type 0 where
@@ -262,3 +264,4 @@ answer_fixed Copy ts next f few e new = (record { few = omega arith; sides = ((t
 answer_fixed AtomLength ts next f few e new = plain_fixed f (atom_length_answer (term_at 0 ts) (term_at 1 ts)) (length-plain (λ t. apply f t ≡ t) (term_at 0 ts) (term_at 1 ts) (term_fixed f 1 ts (omega arith) e))
 answer_fixed CharCode ts next f few e new = plain_fixed f (char_code_answer (term_at 0 ts) (term_at 1 ts)) (code-plain (λ t. apply f t ≡ t) (term_at 0 ts) (term_at 1 ts) (term_fixed f 0 ts (omega arith) e) (term_fixed f 1 ts (omega arith) e))
 answer_fixed (AtomText by) ts next f few e new = plain_fixed f (spelling_answer (spelling_meant by) (term_at 0 ts) (term_at 1 ts)) (spelling-plain (λ t. apply f t ≡ t) (spelling_meant by) (term_at 0 ts) (term_at 1 ts) (term_fixed f 0 ts (omega arith) e) (term_fixed f 1 ts (omega arith) e))
+answer_fixed (NumberText by) ts next f few e new = plain_fixed f (number_text_answer (spelling_meant by) (term_at 0 ts) (term_at 1 ts)) (number_text-plain (λ t. apply f t ≡ t) (spelling_meant by) (term_at 0 ts) (term_at 1 ts) (term_fixed f 0 ts (omega arith) e) (term_fixed f 1 ts (omega arith) e))

@@ -5,3 +5,4 @@ pub mod ControlLemmas
 pub mod PartLemmas
 pub mod CheckLemmas
 pub mod TextLemmas
+pub mod NumberTextLemmas

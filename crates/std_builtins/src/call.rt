@@ -10,6 +10,7 @@ use crate::arithmetic::{compared_values, is};
 use crate::atoms::{atom_length, char_code};
 use crate::comparisons::compared;
 use crate::functor::functor;
+use crate::numbers::number_text;
 use crate::parts::{copied, parts};
 use crate::spelling::atom_text;
 use crate::table::Builtin;
@@ -45,6 +46,7 @@ impl Builtin {
             Builtin::AtomLength => atom_length(alloc, &args[0], &args[1]),
             Builtin::CharCode => char_code(alloc, &args[0], &args[1]),
             Builtin::AtomText(by) => atom_text(alloc, by, &args[0], &args[1]),
+            Builtin::NumberText(by) => number_text(alloc, by, &args[0], &args[1]),
         }
     }
 }

@@ -24,7 +24,7 @@ pub(crate) enum Check {
 
 impl Check {
     /// Whether a term is that.
-    fn passes(self, term: &FlatTerm) -> bool
+    pub(crate) fn passes(self, term: &FlatTerm) -> bool
         ensures { result ≡ check_test self term.now }
     {
         let top = term.top();

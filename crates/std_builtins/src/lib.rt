@@ -13,6 +13,7 @@ pub mod control;
 mod functor;
 mod integers;
 mod lists;
+mod numbers;
 mod parts;
 pub mod spelling;
 pub mod table;

@@ -27,10 +27,11 @@ pub enum Builtin {
     AtomLength,
     CharCode,
     AtomText(Spelling),
+    NumberText(Spelling),
 }
 
 /// Each built-in predicate with its name and number of arguments.
-const BUILTINS: [(&str, u32, Builtin); 34] = [
+const BUILTINS: [(&str, u32, Builtin); 36] = [
     ("=", 2, Builtin::Unify),
     ("\\=", 2, Builtin::Differ),
     ("unify_with_occurs_check", 2, Builtin::Unify),
@@ -65,6 +66,8 @@ const BUILTINS: [(&str, u32, Builtin); 34] = [
     ("char_code", 2, Builtin::CharCode),
     ("atom_chars", 2, Builtin::AtomText(Spelling::Characters)),
     ("atom_codes", 2, Builtin::AtomText(Spelling::Codes)),
+    ("number_chars", 2, Builtin::NumberText(Spelling::Characters)),
+    ("number_codes", 2, Builtin::NumberText(Spelling::Codes)),
 ];
 
 /// The built-in predicate of this name and number of arguments, if there is one.
