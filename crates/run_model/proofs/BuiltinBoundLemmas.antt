@@ -18,12 +18,14 @@ use Rattle.run_model.specs.Goals.TermParts.{term_parts}
 use Rattle.run_model.specs.Goals.UnificationGoals.{apart_answer, unification_goals}
 use Rattle.run_model.specs.Goals.AtomGoals.{atom_goals}
 use Rattle.run_model.specs.Goals.NumberTexts.{number_goals}
+use Rattle.run_model.specs.Goals.Sorting.{sorting_goals}
 use Rattle.run_model.specs.Goals.Builtins.{builtins}
 use Rattle.au_model.proofs.EachLemmas.{each-append}
 use Rattle.run_model.proofs.AnswerBoundLemmas.{IsAnswerBelow, row-below, holds-below, equal-below}
 use Rattle.run_model.proofs.TermPartBoundLemmas.{term_parts-below}
 use Rattle.run_model.proofs.AtomGoalPlainLemmas.{atom_goals-below}
 use Rattle.run_model.proofs.NumberTextPlainLemmas.{number_goals-below}
+use Rattle.run_model.proofs.SortingLemmas.{sorting_goals-below}
 use Rattle.run_model.proofs.BuiltinRowBoundLemmas.{IsRowBelow, term-below}
 
 -- tests
@@ -71,5 +73,5 @@ unification_goals-below =
 pub builtins_below : Each IsRowBelow builtins
 builtins_below = (
   λ ts next n h. let left = term-below 0 next ts (omega arith) h in let right = term-below 1 next ts (omega arith) h in ((omega arith, tt), tt),
-  each-append IsRowBelow unification_goals (type_tests ++ (order_goals ++ (arithmetic_goals ++ (term_parts ++ (atom_goals ++ number_goals))))) unification_goals-below (each-append IsRowBelow type_tests (order_goals ++ (arithmetic_goals ++ (term_parts ++ (atom_goals ++ number_goals)))) type_tests-below (each-append IsRowBelow order_goals (arithmetic_goals ++ (term_parts ++ (atom_goals ++ number_goals))) order_goals-below (each-append IsRowBelow arithmetic_goals (term_parts ++ (atom_goals ++ number_goals)) arithmetic_goals-below (each-append IsRowBelow term_parts (atom_goals ++ number_goals) term_parts-below (each-append IsRowBelow atom_goals number_goals atom_goals-below number_goals-below))))),
+  each-append IsRowBelow unification_goals (type_tests ++ (order_goals ++ (arithmetic_goals ++ (term_parts ++ (atom_goals ++ (number_goals ++ sorting_goals)))))) unification_goals-below (each-append IsRowBelow type_tests (order_goals ++ (arithmetic_goals ++ (term_parts ++ (atom_goals ++ (number_goals ++ sorting_goals))))) type_tests-below (each-append IsRowBelow order_goals (arithmetic_goals ++ (term_parts ++ (atom_goals ++ (number_goals ++ sorting_goals)))) order_goals-below (each-append IsRowBelow arithmetic_goals (term_parts ++ (atom_goals ++ (number_goals ++ sorting_goals))) arithmetic_goals-below (each-append IsRowBelow term_parts (atom_goals ++ (number_goals ++ sorting_goals)) term_parts-below (each-append IsRowBelow atom_goals (number_goals ++ sorting_goals) atom_goals-below (each-append IsRowBelow number_goals sorting_goals number_goals-below sorting_goals-below)))))),
 )

@@ -7,6 +7,7 @@ mod ArithmeticRows
 mod TermGoalRows
 mod AtomGoalRows
 mod NumberTextRows
+mod SortingRows
 pub mod ConstructLemmas
 pub mod FreeStepLemmas
 pub mod StepLemmas
@@ -24,3 +25,4 @@ pub mod TermPartBoundLemmas
 pub mod PlainAnswerLemmas
 pub mod AtomGoalPlainLemmas
 pub mod NumberTextPlainLemmas
+pub mod SortingLemmas

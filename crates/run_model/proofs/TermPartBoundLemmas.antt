@@ -92,29 +92,29 @@ argument-below next (Compound f ts) (AtomTerm b) x h k = tt
 argument-below next (Compound f ts) (Compound g us) x h k = tt
 
 -- =..
-abbrev IsFormBelow : ℕ → ListForm → Type 0
-IsFormBelow b (ProperList ts) = AreTermsBelow b ts
-IsFormBelow b (PartialList ts) = AreTermsBelow b ts
-IsFormBelow b NoList = Unit {0}
+abbrev pub IsListBelow : ℕ → ListForm → Type 0
+IsListBelow b (ProperList ts) = AreTermsBelow b ts
+IsListBelow b (PartialList ts) = AreTermsBelow b ts
+IsListBelow b NoList = Unit {0}
 
-item-below : (b : ℕ) (t : Term) (form : ListForm) → IsTermBelow b t → IsFormBelow b form → IsFormBelow b (item_before t form)
+item-below : (b : ℕ) (t : Term) (form : ListForm) → IsTermBelow b t → IsListBelow b form → IsListBelow b (item_before t form)
 item-below b t (ProperList ts) h k = (h, k)
 item-below b t (PartialList ts) h k = (h, k)
 item-below b t NoList h k = tt
 
-form-below : (b : ℕ) (t : Term) → IsTermBelow b t → IsFormBelow b (list_form t)
+pub form-below : (b : ℕ) (t : Term) → IsTermBelow b t → IsListBelow b (list_form t)
 form-below b (VarTerm n) h = tt
 form-below b (IntTerm z) h = tt
 form-below b (AtomTerm a) h = by (same_name a (codes "[]"))
   where
-    by : (c : Bool) → IsFormBelow b (cond c (ProperList []) NoList)
+    by : (c : Bool) → IsListBelow b (cond c (ProperList []) NoList)
     by true = tt
     by false = tt
 form-below b (Compound f end) h = tt
 form-below b (Compound f (more t end)) h = tt
 form-below b (Compound f (more t (more rest end))) h = by (same_name f (codes ".")) (item-below b t (list_form rest) (omega arith) (form-below b rest (omega arith)))
   where
-    by : (c : Bool) → IsFormBelow b (item_before t (list_form rest)) → IsFormBelow b (cond c (item_before t (list_form rest)) NoList)
+    by : (c : Bool) → IsListBelow b (item_before t (list_form rest)) → IsListBelow b (cond c (item_before t (list_form rest)) NoList)
     by true k = k
     by false k = tt
 form-below b (Compound f (more t (more rest (more u us)))) h = tt
@@ -123,7 +123,7 @@ terms-below : (b : ℕ) (ts : List Term) → AreTermsBelow b ts → all_bound (t
 terms-below b [] h = omega arith
 terms-below b (t ∷ ts) h = omega (arith, h.0, terms-below b ts h.1)
 
-list-below : (b : ℕ) (ts : List Term) → AreTermsBelow b ts → var_bound (list_term ts) ≤ b
+pub list-below : (b : ℕ) (ts : List Term) → AreTermsBelow b ts → var_bound (list_term ts) ≤ b
 list-below b [] h = omega arith
 list-below b (t ∷ ts) h = omega (arith, h.0, list-below b ts h.1)
 
@@ -160,7 +160,7 @@ from_items-below next t (IntTerm z) (u ∷ us) h j k = compound-below next t (In
 from_items-below next t (AtomTerm a) (u ∷ us) h j k = compound-below next t (AtomTerm a) (u ∷ us) h k
 from_items-below next t (Compound f vs) (u ∷ us) h j k = compound-below next t (Compound f vs) (u ∷ us) h k
 
-from_form-below : (next : ℕ) (t l : Term) (form : ListForm) → IsTermBelow next t → IsFormBelow next form → IsAnswerBelow next (built_from t l form)
+from_form-below : (next : ℕ) (t l : Term) (form : ListForm) → IsTermBelow next t → IsListBelow next form → IsAnswerBelow next (built_from t l form)
 from_form-below next t l (PartialList ts) h k = tt
 from_form-below next t l NoList h k = tt
 from_form-below next t l (ProperList []) h k = tt

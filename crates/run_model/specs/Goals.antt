@@ -11,6 +11,7 @@ pub mod ArithmeticGoals
 pub mod UnificationGoals
 pub mod AtomGoals
 pub mod NumberTexts
+pub mod Sorting
 pub mod Builtins
 pub mod Worlds
 pub mod GoalOutcomes

@@ -17,6 +17,7 @@ pub mod Programs
 --   UnificationGoals  unification
 --   AtomGoals         goals on the characters of atoms
 --   NumberTexts       numbers and their texts
+--   Sorting           sorted lists
 --   Builtins          the table of built-in predicates
 --   Worlds            the goals that look at the world or change it
 --   GoalOutcomes      the table of all goals

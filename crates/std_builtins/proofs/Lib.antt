@@ -6,3 +6,4 @@ pub mod PartLemmas
 pub mod CheckLemmas
 pub mod TextLemmas
 pub mod NumberTextLemmas
+pub mod SortGoalLemmas

@@ -12,6 +12,7 @@ use Rattle.run_model.specs.Goals.TermParts.{functor_answer, argument_answer, par
 use Rattle.run_model.specs.Goals.UnificationGoals.{apart_answer}
 use Rattle.run_model.specs.Goals.AtomGoals.{Spelling, ByCharacters, ByCodes, atom_length_answer, char_code_answer, spelling_answer}
 use Rattle.run_model.specs.Goals.NumberTexts.{number_text_answer}
+use Rattle.run_model.specs.Goals.Sorting.{sort_answer, keysort_answer}
 use Rattle.std_builtins.specs.declared.type_tests.TypeTest.{TypeTest}
 use Rattle.std_builtins.specs.declared.type_tests.TypeTest.TheVariants as type
 use Rattle.std_builtins.specs.declared.comparisons.Comparison.{Comparison}
@@ -69,6 +70,8 @@ answer_of goal.Copy ts next = copy_answer (term_at 0 ts) (term_at 1 ts) next
 answer_of goal.AtomLength ts next = atom_length_answer (term_at 0 ts) (term_at 1 ts)
 answer_of goal.CharCode ts next = char_code_answer (term_at 0 ts) (term_at 1 ts)
 answer_of (goal.AtomText s) ts next = spelling_answer (spelling_meant s) (term_at 0 ts) (term_at 1 ts)
+answer_of goal.Sort ts next = sort_answer (term_at 0 ts) (term_at 1 ts)
+answer_of goal.KeySort ts next = keysort_answer (term_at 0 ts) (term_at 1 ts)
 answer_of (goal.NumberText s) ts next = number_text_answer (spelling_meant s) (term_at 0 ts) (term_at 1 ts)
 
 abbrev pub arguments_of : Builtin → ℕ
@@ -87,3 +90,5 @@ arguments_of goal.AtomLength = 2
 arguments_of goal.CharCode = 2
 arguments_of (goal.AtomText s) = 2
 arguments_of (goal.NumberText s) = 2
+arguments_of goal.Sort = 2
+arguments_of goal.KeySort = 2

@@ -12,6 +12,7 @@ use crate::comparisons::compared;
 use crate::functor::functor;
 use crate::numbers::number_text;
 use crate::parts::{copied, parts};
+use crate::sorting::{keysort, sort};
 use crate::spelling::atom_text;
 use crate::table::Builtin;
 use crate::unification::differ;
@@ -47,6 +48,8 @@ impl Builtin {
             Builtin::CharCode => char_code(alloc, &args[0], &args[1]),
             Builtin::AtomText(by) => atom_text(alloc, by, &args[0], &args[1]),
             Builtin::NumberText(by) => number_text(alloc, by, &args[0], &args[1]),
+            Builtin::Sort => sort(alloc, &args[0], &args[1]),
+            Builtin::KeySort => keysort(alloc, &args[0], &args[1]),
         }
     }
 }

@@ -3,7 +3,7 @@ ghost use Rattle.std.specs.Prelude.{◌≡◌, ◌∷◌, [], IfOk};
 ghost use Rattle.au_model.specs.Terms.Faults.{error_term_of};
 ghost use Rattle.run_model.specs.Goals.BuiltinAnswers.{Answer};
 ghost use Rattle.run_model.specs.Goals.AtomGoals.{with_each, with_counts};
-ghost use Rattle.std_builtins.specs.Checks.{check_test, check_error, IsPassed};
+ghost use Rattle.std_builtins.specs.Checks.{check_test, check_error, opens_key_pair, IsPassed};
 
 use crate::answer::BuiltinRefusal;
 use au_model::{DomainName, Fault, TypeName};
@@ -20,6 +20,8 @@ pub(crate) enum Check {
     /// An integer or a variable.
     OpenInteger,
     NotBelowZero,
+    /// `K-V`.
+    Pair,
 }
 
 impl Check {
@@ -37,6 +39,7 @@ impl Check {
                 Cell::Int(value) => *value >= 0,
                 _ => true,
             },
+            Check::Pair => is_key_pair(top),
         }
     }
 
@@ -51,7 +54,21 @@ impl Check {
             Check::OpenAtom => Fault::WrongType(TypeName::Atom, culprit),
             Check::OpenInteger => Fault::WrongType(TypeName::Integer, culprit),
             Check::NotBelowZero => Fault::Domain(DomainName::NotLessThanZero, culprit),
+            Check::Pair => match term.top() {
+                Cell::Var(_) => Fault::Instantiation,
+                _ => Fault::WrongType(TypeName::Pair, culprit),
+            },
         })
+    }
+}
+
+/// Whether a term with this first cell is a key and a value.
+fn is_key_pair(cell: &Cell) -> bool
+    ensures { result ≡ opens_key_pair cell.now }
+{
+    match cell {
+        Cell::Functor(name, arity) => *arity == 2 && name.is_text("-"),
+        _ => false,
     }
 }
 

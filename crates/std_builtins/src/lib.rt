@@ -15,6 +15,7 @@ mod integers;
 mod lists;
 mod numbers;
 mod parts;
+mod sorting;
 pub mod spelling;
 pub mod table;
 #[cfg(test)]

@@ -28,10 +28,12 @@ pub enum Builtin {
     CharCode,
     AtomText(Spelling),
     NumberText(Spelling),
+    Sort,
+    KeySort,
 }
 
 /// Each built-in predicate with its name and number of arguments.
-const BUILTINS: [(&str, u32, Builtin); 36] = [
+const BUILTINS: [(&str, u32, Builtin); 38] = [
     ("=", 2, Builtin::Unify),
     ("\\=", 2, Builtin::Differ),
     ("unify_with_occurs_check", 2, Builtin::Unify),
@@ -68,6 +70,8 @@ const BUILTINS: [(&str, u32, Builtin); 36] = [
     ("atom_codes", 2, Builtin::AtomText(Spelling::Codes)),
     ("number_chars", 2, Builtin::NumberText(Spelling::Characters)),
     ("number_codes", 2, Builtin::NumberText(Spelling::Codes)),
+    ("sort", 2, Builtin::Sort),
+    ("keysort", 2, Builtin::KeySort),
 ];
 
 /// The built-in predicate of this name and number of arguments, if there is one.
