@@ -20,11 +20,11 @@ greatest = pos 9223372036854775807
 sums : (two (codes "+") greatest (pos 1) ≡ overflow) × (two (codes "-") least (pos 1) ≡ overflow) × (two (codes "+") greatest least ≡ Ok (negsuc 0)) × (two (codes "*") (pos 4294967296) (pos 2147483648) ≡ overflow)
 sums = (refl, refl, refl, refl)
 
-mods : (two (codes "mod") (pos 7) (negsuc 1) ≡ Ok (negsuc 0)) × (two (codes "mod") (negsuc 6) (pos 2) ≡ Ok (pos 1)) × (two (codes "mod") (negsuc 6) (negsuc 1) ≡ Ok (negsuc 0)) × (two (codes "mod") (pos 6) (negsuc 2) ≡ Ok (pos 0)) × (two (codes "mod") least (negsuc 0) ≡ Ok (pos 0)) × (two (codes "mod") (pos 1) (pos 0) ≡ zero_divisor)
-mods = (refl, refl, refl, refl, refl, refl)
+mods : (two (codes "mod") (pos 7) (pos 2) ≡ Ok (pos 1)) × (two (codes "mod") (pos 7) (negsuc 1) ≡ Ok (negsuc 0)) × (two (codes "mod") (negsuc 6) (pos 2) ≡ Ok (pos 1)) × (two (codes "mod") (negsuc 6) (negsuc 1) ≡ Ok (negsuc 0)) × (two (codes "mod") (pos 6) (negsuc 2) ≡ Ok (pos 0)) × (two (codes "mod") least (negsuc 0) ≡ Ok (pos 0)) × (two (codes "mod") (pos 1) (pos 0) ≡ zero_divisor)
+mods = (refl, refl, refl, refl, refl, refl, refl)
 
-rems : (two (codes "rem") (pos 7) (negsuc 1) ≡ Ok (pos 1)) × (two (codes "rem") (negsuc 6) (pos 2) ≡ Ok (negsuc 0)) × (two (codes "rem") least (negsuc 0) ≡ Ok (pos 0)) × (two (codes "rem") (pos 1) (pos 0) ≡ zero_divisor)
-rems = (refl, refl, refl, refl)
+rems : (two (codes "rem") (pos 7) (negsuc 1) ≡ Ok (pos 1)) × (two (codes "rem") (negsuc 6) (pos 2) ≡ Ok (negsuc 0)) × (two (codes "rem") (negsuc 6) (negsuc 1) ≡ Ok (negsuc 0)) × (two (codes "rem") (pos 7) (pos 2) ≡ Ok (pos 1)) × (two (codes "rem") least (negsuc 0) ≡ Ok (pos 0)) × (two (codes "rem") (pos 1) (pos 0) ≡ zero_divisor)
+rems = (refl, refl, refl, refl, refl, refl)
 
 quotients : (two (codes "//") (negsuc 6) (pos 2) ≡ Ok (negsuc 2)) × (two (codes "//") least (negsuc 0) ≡ overflow) × (two (codes "//") (pos 1) (pos 0) ≡ zero_divisor) × (two (codes "/") (pos 7) (pos 2) ≡ undefined) × (two (codes "/") (negsuc 7) (pos 2) ≡ Ok (negsuc 3)) × (two (codes "/") (pos 0) (pos 0) ≡ zero_divisor)
 quotients = (refl, refl, refl, refl, refl, refl)
@@ -34,6 +34,10 @@ powers = (refl, refl, refl, refl, refl, refl)
 
 shifts : (two (codes "<<") (pos 1) (pos 62) ≡ Ok (pos 4611686018427387904)) × (two (codes "<<") (negsuc 0) (pos 63) ≡ Ok least) × (two (codes "<<") (pos 1) (pos 64) ≡ overflow) × (two (codes ">>") (negsuc 6) (pos 1) ≡ Ok (negsuc 3)) × (two (codes ">>") (pos 5) (negsuc 0) ≡ Ok (pos 10)) × (two (codes "<<") (pos 5) (negsuc 1) ≡ Ok (pos 1))
 shifts = (refl, refl, refl, refl, refl, refl)
+
+-- by 63 and 64 places
+far_shifts : (two (codes "<<") (pos 1) (pos 63) ≡ overflow) × (two (codes ">>") (pos 5) (pos 63) ≡ Ok (pos 0)) × (two (codes ">>") (negsuc 4) (pos 64) ≡ Ok (negsuc 0)) × (two (codes ">>") least (pos 63) ≡ Ok (negsuc 0)) × (two (codes "<<") (pos 5) (negsuc 0) ≡ Ok (pos 2))
+far_shifts = (refl, refl, refl, refl, refl)
 
 bits : (two (codes "/\\") (negsuc 3) (pos 6) ≡ Ok (pos 4)) × (two (codes "\\/") (negsuc 3) (pos 1) ≡ Ok (negsuc 2)) × (one (codes "\\") (pos 5) ≡ Ok (negsuc 5))
 bits = (refl, refl, refl)

@@ -1,26 +1,32 @@
 -- The solutions of built-in predicates have no variable past those of the goal and the new ones.
-use Rattle.std.proofs.Common.{◌≡◌, ℕ, ◌≤◌, Bool, true, false, ℤ, cond, List, [], ◌∷◌, ◌++◌, Ok, Err, arith}
+use Rattle.std.proofs.Common.{ℕ, Bool, true, false, ℤ, cond, List, [], ◌∷◌, ◌++◌, Ok, Err, arith}
 use Rattle.std.specs.Prelude.{codes, is_none, not, int_lt, int_le}
 use Rattle.std.specs.Ordering.{int_eq, is_eq, is_ne, is_lt, is_le, is_gt, is_ge}
 use Rattle.std.specs.declared.cmp.Ordering.{Ordering}
-use Rattle.au_term.specs.Term.{Term, VarTerm, IntTerm, AtomTerm, Compound, Terms, end, all_bound, count, term_at}
+use Rattle.au_term.specs.Term.{Term, VarTerm, IntTerm, AtomTerm, Compound, term_at}
 use Rattle.au_model.specs.Terms.Each.{Each}
 use Rattle.run_model.specs.Laws.Numbering.{IsTermBelow}
 use Rattle.au_model.specs.Terms.Unifier.{unifier}
 use Rattle.au_model.specs.Terms.ErrorTerms.{domain_error}
 use Rattle.au_model.specs.Terms.Forms.{is_callable}
-use Rattle.run_model.specs.Goals.BuiltinAnswers.{Answer, equal, holds_if, predicate}
+use Rattle.run_model.specs.Goals.BuiltinAnswers.{Answer, equal, holds_if}
 use Rattle.run_model.specs.Goals.Arithmetic.{Evaluated, value_of}
 use Rattle.run_model.specs.Goals.ArithmeticGoals.{with_value, is_answer, comparison_answer, comparison, arithmetic_goals}
 use Rattle.run_model.specs.Goals.StandardOrder.{order}
 use Rattle.run_model.specs.Goals.TermTests.{is_variable, is_integer, is_atom, is_compound, is_atomic, is_ground, test_row, type_tests, order_row, order_symbol, is_order_symbol, compare_answer, order_goals}
 use Rattle.run_model.specs.Goals.TermParts.{term_parts}
 use Rattle.run_model.specs.Goals.UnificationGoals.{apart_answer, unification_goals}
+use Rattle.run_model.specs.Goals.AtomGoals.{atom_goals}
+use Rattle.run_model.specs.Goals.NumberTexts.{number_goals}
+use Rattle.run_model.specs.Goals.Sorting.{sorting_goals}
 use Rattle.run_model.specs.Goals.Builtins.{builtins}
 use Rattle.au_model.proofs.EachLemmas.{each-append}
 use Rattle.run_model.proofs.AnswerBoundLemmas.{IsAnswerBelow, row-below, holds-below, equal-below}
 use Rattle.run_model.proofs.TermPartBoundLemmas.{term_parts-below}
-use Rattle.run_model.proofs.BuiltinRowBoundLemmas.{IsSolutionBelow, IsOutcomeBelow, IsRowBelow, term-below}
+use Rattle.run_model.proofs.AtomGoalPlainLemmas.{atom_goals-below}
+use Rattle.run_model.proofs.NumberTextPlainLemmas.{number_goals-below}
+use Rattle.run_model.proofs.SortingLemmas.{sorting_goals-below}
+use Rattle.run_model.proofs.BuiltinRowBoundLemmas.{IsRowBelow, term-below}
 
 -- tests
 test-below : (name : List ℕ) (test : Term → Bool) → IsRowBelow (test_row name test)
@@ -67,5 +73,5 @@ unification_goals-below =
 pub builtins_below : Each IsRowBelow builtins
 builtins_below = (
   λ ts next n h. let left = term-below 0 next ts (omega arith) h in let right = term-below 1 next ts (omega arith) h in ((omega arith, tt), tt),
-  each-append IsRowBelow unification_goals (type_tests ++ (order_goals ++ (arithmetic_goals ++ term_parts))) unification_goals-below (each-append IsRowBelow type_tests (order_goals ++ (arithmetic_goals ++ term_parts)) type_tests-below (each-append IsRowBelow order_goals (arithmetic_goals ++ term_parts) order_goals-below (each-append IsRowBelow arithmetic_goals term_parts arithmetic_goals-below term_parts-below))),
+  each-append IsRowBelow unification_goals (type_tests ++ (order_goals ++ (arithmetic_goals ++ (term_parts ++ (atom_goals ++ (number_goals ++ sorting_goals)))))) unification_goals-below (each-append IsRowBelow type_tests (order_goals ++ (arithmetic_goals ++ (term_parts ++ (atom_goals ++ (number_goals ++ sorting_goals))))) type_tests-below (each-append IsRowBelow order_goals (arithmetic_goals ++ (term_parts ++ (atom_goals ++ (number_goals ++ sorting_goals)))) order_goals-below (each-append IsRowBelow arithmetic_goals (term_parts ++ (atom_goals ++ (number_goals ++ sorting_goals))) arithmetic_goals-below (each-append IsRowBelow term_parts (atom_goals ++ (number_goals ++ sorting_goals)) term_parts-below (each-append IsRowBelow atom_goals (number_goals ++ sorting_goals) atom_goals-below (each-append IsRowBelow number_goals sorting_goals number_goals-below sorting_goals-below)))))),
 )

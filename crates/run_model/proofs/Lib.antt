@@ -5,6 +5,9 @@ mod CatchRows
 mod WorldRows
 mod ArithmeticRows
 mod TermGoalRows
+mod AtomGoalRows
+mod NumberTextRows
+mod SortingRows
 pub mod ConstructLemmas
 pub mod FreeStepLemmas
 pub mod StepLemmas
@@ -19,3 +22,7 @@ pub mod PlainEntryLemmas
 pub mod ReservedNameLemmas
 pub mod AnswerBoundLemmas
 pub mod TermPartBoundLemmas
+pub mod PlainAnswerLemmas
+pub mod AtomGoalPlainLemmas
+pub mod NumberTextPlainLemmas
+pub mod SortingLemmas

@@ -1,17 +1,17 @@
 -- What goals that make terms and take them apart come to, below a number.
-use Rattle.std.proofs.Common.{◌≡◌, ℕ, zero, suc, ◌+◌, ◌<◌, ◌≤◌, Bool, true, false, ℤ, pos, negsuc, cond, List, [], ◌∷◌, length, Ok, Err, refl, arith}
+use Rattle.std.proofs.Common.{◌≡◌, ℕ, zero, suc, ◌+◌, ◌≤◌, Bool, true, false, ℤ, pos, negsuc, cond, List, [], ◌∷◌, length, Ok, Err, refl, arith}
 use Rattle.std.specs.Prelude.{codes, nat_lt}
 use Rattle.std.proofs.lemmas.Bool.Decides.{nat_tests}
-use Rattle.au_term.specs.Term.{Term, VarTerm, IntTerm, AtomTerm, Compound, Terms, end, more, all_bound, var_bound, count, argument_count, term_at}
+use Rattle.au_term.specs.Term.{Term, VarTerm, IntTerm, AtomTerm, Compound, Terms, end, more, all_bound, var_bound, count, term_at}
 use Rattle.au_model.specs.Terms.Each.{Each}
 use Rattle.au_model.specs.Terms.ErrorTerms.{type_error, representation_error}
 use Rattle.au_model.specs.Terms.Forms.{same_name, list_term}
 use Rattle.au_model.specs.Terms.Lists.{terms_from}
 use Rattle.run_model.specs.Goals.ListForms.{ListForm, ProperList, PartialList, NoList, item_before, list_form, items_of}
 use Rattle.run_model.specs.Laws.Numbering.{IsTermBelow, AreTermsBelow}
-use Rattle.run_model.specs.Goals.BuiltinAnswers.{equal, one_solution}
+use Rattle.run_model.specs.Goals.BuiltinAnswers.{equal}
 use Rattle.run_model.specs.Goals.TermTests.{is_compound}
-use Rattle.run_model.specs.Goals.TermParts.{new_variables, functor_name, made_term, functor_of_count, functor_of_name, functor_built, functor_answer, numbered_argument, argument_of, argument_of_term, argument_answer, parts_of, compound_of, term_of_items, built_from, taken_apart, parts_answer, copy_answer, term_parts}
+use Rattle.run_model.specs.Goals.TermParts.{new_variables, made_term, functor_of_count, functor_of_name, functor_built, functor_answer, numbered_argument, argument_answer, parts_of, compound_of, term_of_items, built_from, taken_apart, parts_answer, copy_answer, term_parts}
 use Rattle.run_model.proofs.AnswerBoundLemmas.{IsAnswerBelow, row-below, equal-below}
 use Rattle.au_model.proofs.VariableBoundLemmas.{copied-below}
 use Rattle.run_model.proofs.BuiltinRowBoundLemmas.{IsRowBelow, term-below}
@@ -92,29 +92,29 @@ argument-below next (Compound f ts) (AtomTerm b) x h k = tt
 argument-below next (Compound f ts) (Compound g us) x h k = tt
 
 -- =..
-abbrev IsFormBelow : ℕ → ListForm → Type 0
-IsFormBelow b (ProperList ts) = AreTermsBelow b ts
-IsFormBelow b (PartialList ts) = AreTermsBelow b ts
-IsFormBelow b NoList = Unit {0}
+abbrev pub IsListBelow : ℕ → ListForm → Type 0
+IsListBelow b (ProperList ts) = AreTermsBelow b ts
+IsListBelow b (PartialList ts) = AreTermsBelow b ts
+IsListBelow b NoList = Unit {0}
 
-item-below : (b : ℕ) (t : Term) (form : ListForm) → IsTermBelow b t → IsFormBelow b form → IsFormBelow b (item_before t form)
+item-below : (b : ℕ) (t : Term) (form : ListForm) → IsTermBelow b t → IsListBelow b form → IsListBelow b (item_before t form)
 item-below b t (ProperList ts) h k = (h, k)
 item-below b t (PartialList ts) h k = (h, k)
 item-below b t NoList h k = tt
 
-form-below : (b : ℕ) (t : Term) → IsTermBelow b t → IsFormBelow b (list_form t)
+pub form-below : (b : ℕ) (t : Term) → IsTermBelow b t → IsListBelow b (list_form t)
 form-below b (VarTerm n) h = tt
 form-below b (IntTerm z) h = tt
 form-below b (AtomTerm a) h = by (same_name a (codes "[]"))
   where
-    by : (c : Bool) → IsFormBelow b (cond c (ProperList []) NoList)
+    by : (c : Bool) → IsListBelow b (cond c (ProperList []) NoList)
     by true = tt
     by false = tt
 form-below b (Compound f end) h = tt
 form-below b (Compound f (more t end)) h = tt
 form-below b (Compound f (more t (more rest end))) h = by (same_name f (codes ".")) (item-below b t (list_form rest) (omega arith) (form-below b rest (omega arith)))
   where
-    by : (c : Bool) → IsFormBelow b (item_before t (list_form rest)) → IsFormBelow b (cond c (item_before t (list_form rest)) NoList)
+    by : (c : Bool) → IsListBelow b (item_before t (list_form rest)) → IsListBelow b (cond c (item_before t (list_form rest)) NoList)
     by true k = k
     by false k = tt
 form-below b (Compound f (more t (more rest (more u us)))) h = tt
@@ -160,7 +160,7 @@ from_items-below next t (IntTerm z) (u ∷ us) h j k = compound-below next t (In
 from_items-below next t (AtomTerm a) (u ∷ us) h j k = compound-below next t (AtomTerm a) (u ∷ us) h k
 from_items-below next t (Compound f vs) (u ∷ us) h j k = compound-below next t (Compound f vs) (u ∷ us) h k
 
-from_form-below : (next : ℕ) (t l : Term) (form : ListForm) → IsTermBelow next t → IsFormBelow next form → IsAnswerBelow next (built_from t l form)
+from_form-below : (next : ℕ) (t l : Term) (form : ListForm) → IsTermBelow next t → IsListBelow next form → IsAnswerBelow next (built_from t l form)
 from_form-below next t l (PartialList ts) h k = tt
 from_form-below next t l NoList h k = tt
 from_form-below next t l (ProperList []) h k = tt

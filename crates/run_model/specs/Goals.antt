@@ -9,6 +9,9 @@ pub mod TermParts
 pub mod Arithmetic
 pub mod ArithmeticGoals
 pub mod UnificationGoals
+pub mod AtomGoals
+pub mod NumberTexts
+pub mod Sorting
 pub mod Builtins
 pub mod Worlds
 pub mod GoalOutcomes

@@ -15,6 +15,9 @@ pub mod Programs
 --   Arithmetic        the values of expressions, and their errors
 --   ArithmeticGoals   is/2 and the comparisons of numbers
 --   UnificationGoals  unification
+--   AtomGoals         goals on the characters of atoms
+--   NumberTexts       numbers and their texts
+--   Sorting           sorted lists
 --   Builtins          the table of built-in predicates
 --   Worlds            the goals that look at the world or change it
 --   GoalOutcomes      the table of all goals

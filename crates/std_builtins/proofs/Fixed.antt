@@ -1,5 +1,5 @@
 -- A map of variables that changes none of the arguments of a goal, and no new variable, changes nothing in its answer.
-use Rattle.std.proofs.Common.{◌≡◌, ℕ, zero, suc, ◌+◌, ◌≤◌, Bool, true, false, ℤ, pos, negsuc, cond, List, [], ◌∷◌, length, Ok, Err, refl, ap, ap₂, arith}
+use Rattle.std.proofs.Common.{◌≡◌, ℕ, zero, suc, ◌+◌, ◌≤◌, Bool, true, false, ℤ, pos, negsuc, cond, List, [], ◌∷◌, length, Ok, Err, refl, ap, ap₂, subst, arith}
 use Rattle.std.specs.Prelude.{codes, is_none, nat_lt}
 use Rattle.std.proofs.lemmas.Bool.Decides.{nat_tests}
 use Rattle.au_term.specs.Term.{Term, VarTerm, IntTerm, AtomTerm, Compound, Terms, end, more, count, term_at}
@@ -12,15 +12,23 @@ use Rattle.au_model.specs.Terms.Lists.{terms_from}
 use Rattle.run_model.specs.Goals.ListForms.{ListForm, ProperList, PartialList, NoList, item_before, list_form, items_of}
 use Rattle.run_model.specs.Goals.TermParts.{new_variables, made_term, functor_of_count, functor_of_name, functor_built, functor_answer, numbered_argument, argument_answer, parts_of, compound_of, term_of_items, built_from, taken_apart, parts_answer}
 use Rattle.run_model.specs.Goals.Outcomes.{Solution}
-use Rattle.au_model.specs.Terms.Unifier.{unifier}
+use Rattle.au_model.specs.Terms.Unifier.{Equations, unifier}
 use Rattle.run_model.specs.Goals.BuiltinAnswers.{Answer, equal, holds_if}
 use Rattle.run_model.specs.Goals.Arithmetic.{Evaluated, value_of}
 use Rattle.run_model.specs.Goals.ArithmeticGoals.{with_value}
 use Rattle.run_model.specs.Goals.StandardOrder.{order}
 use Rattle.run_model.specs.Goals.TermTests.{order_symbol, is_order_symbol, compare_answer}
-use Rattle.std_builtins.specs.Meanings.{answer_of, arguments_of, type_test, order_test, value_test}
+use Rattle.run_model.proofs.PlainAnswerLemmas.{IsPlain, IsPlainSolution, IsGround, ground_fixed}
+use Rattle.run_model.proofs.AtomGoalPlainLemmas.{length-plain, code-plain, spelling-plain}
+use Rattle.run_model.proofs.NumberTextPlainLemmas.{number_text-plain}
+use Rattle.run_model.proofs.SortingLemmas.{each_sorted, each_unlike, each-kept, into-kept}
+use Rattle.run_model.specs.Goals.AtomGoals.{with_each}
+use Rattle.run_model.specs.Goals.Sorting.{sorted_by, sorted_terms, is_before, is_same, is_key_before, is_pair_term, no_pair, sort_answer, keysort_answer}
+use Rattle.run_model.specs.Goals.NumberTexts.{number_text_answer}
+use Rattle.run_model.specs.Goals.AtomGoals.{atom_length_answer, char_code_answer, spelling_answer}
+use Rattle.std_builtins.specs.Meanings.{answer_of, arguments_of, type_test, order_test, value_test, spelling_meant}
 use Rattle.std_builtins.specs.declared.table.Builtin.{Builtin}
-use Rattle.std_builtins.specs.declared.table.Builtin.TheVariants.{Unify, Differ, «Type» as TypeGoal, Order, Compare, Is, Value, Functor, Argument, Parts, Copy}
+use Rattle.std_builtins.specs.declared.table.Builtin.TheVariants.{Unify, Differ, «Type» as TypeGoal, Order, Compare, Is, Value, Functor, Argument, Parts, Copy, AtomLength, CharCode, AtomText, NumberText, Sort, KeySort}
 
 -- few equations, of terms that the map does not change
 pub record IsFixed (f : ℕ → Term) (s : Solution) : Type 0 where
@@ -229,6 +237,34 @@ mutual
   all_copied_fixed f seen next end new = refl
   all_copied_fixed f seen next (more t ts) new = ap₂ more (copied_fixed f seen next t new) (all_copied_fixed f seen next ts new)
 
+-- answers without new variables
+plain_sides_fixed : (f : ℕ → Term) (es : Equations) → Each (λ e. (apply f e.0 ≡ e.0) × IsGround e.1) es → Each (λ e. (apply f e.0 ≡ e.0) × (apply f e.1 ≡ e.1)) es
+plain_sides_fixed f [] h = tt
+plain_sides_fixed f (e ∷ es) h = ((h.0.0, ground_fixed f e.1 h.0.1), plain_sides_fixed f es h.1)
+
+plain_all_fixed : (f : ℕ → Term) (ss : List Solution) → Each (IsPlainSolution (λ t. apply f t ≡ t)) ss → Each (IsFixed f) ss
+plain_all_fixed f [] h = tt
+plain_all_fixed f (s ∷ ss) h = (record { few = h.0.few; sides = plain_sides_fixed f s.equations h.0.sides }, plain_all_fixed f ss h.1)
+
+plain_fixed : (f : ℕ → Term) (a : Answer) → IsPlain (λ t. apply f t ≡ t) a → IsAnswerFixed f a
+plain_fixed f (Ok solutions) h = plain_all_fixed f solutions h
+plain_fixed f (Err e) h = tt
+
+-- sorted lists
+items_of_form_fixed : (f : ℕ → Term) (form : ListForm) (ts : List Term) → IsFormFixed f form → form ≡ ProperList ts → Each (λ t. apply f t ≡ t) ts
+unfolding IsFormFixed
+items_of_form_fixed f form ts h e = subst (IsFormFixed f) e h
+
+sort_fixed : (f : ℕ → Term) (l s : Term) → apply f l ≡ l → apply f s ≡ s → IsAnswerFixed f (sort_answer l s)
+sort_fixed f l s h k =
+    into-kept (IsAnswerFixed f) (λ e. tt) (Each (λ t. apply f t ≡ t)) l s (list_form l) (list_form s) (λ ts. equal s (list_term (sorted_terms ts))) (λ ts e. items_of_form_fixed f (list_form l) ts (form_fixed f l h) e)
+    (λ ts j. equal_fixed f s (list_term (sorted_terms ts)) k (list_fixed f (sorted_terms ts) (each_unlike (λ t. apply f t ≡ t) is_same (sorted_by is_before ts) (each_sorted (λ t. apply f t ≡ t) is_before ts j))))
+
+keysort_fixed : (f : ℕ → Term) (l s : Term) → apply f l ≡ l → apply f s ≡ s → IsAnswerFixed f (keysort_answer l s)
+keysort_fixed f l s h k =
+    into-kept (IsAnswerFixed f) (λ e. tt) (Each (λ t. apply f t ≡ t)) l s (list_form l) (list_form s) (λ ts. with_each is_pair_term no_pair ts (equal s (list_term (sorted_by is_key_before ts)))) (λ ts e. items_of_form_fixed f (list_form l) ts (form_fixed f l h) e)
+    (λ ts j. each-kept (IsAnswerFixed f) (λ e. tt) is_pair_term no_pair ts (equal s (list_term (sorted_by is_key_before ts))) (equal_fixed f s (list_term (sorted_by is_key_before ts)) k (list_fixed f (sorted_by is_key_before ts) (each_sorted (λ t. apply f t ≡ t) is_key_before ts j))))
+
 pub answer_fixed : (b : Builtin) (ts : Terms) (next : ℕ) (f : ℕ → Term) → arguments_of b ≤ count ts → apply_all f ts ≡ ts → ((n : ℕ) → next ≤ n → f n ≡ VarTerm n) → IsAnswerFixed f (answer_of b ts next)
 answer_fixed Unify ts next f few e new = equal_fixed f (term_at 0 ts) (term_at 1 ts) (term_fixed f 0 ts (omega arith) e) (term_fixed f 1 ts (omega arith) e)
 answer_fixed Differ ts next f few e new = holds_fixed f (is_none (unifier ((term_at 0 ts, term_at 1 ts) ∷ [])))
@@ -243,3 +279,9 @@ answer_fixed Functor ts next f few e new = functor_fixed f next (term_at 0 ts) (
 answer_fixed Argument ts next f few e new = argument_fixed f (term_at 0 ts) (term_at 1 ts) (term_at 2 ts) (term_fixed f 1 ts (omega arith) e) (term_fixed f 2 ts (omega arith) e)
 answer_fixed Parts ts next f few e new = parts_fixed f (term_at 0 ts) (term_at 1 ts) (term_fixed f 0 ts (omega arith) e) (term_fixed f 1 ts (omega arith) e)
 answer_fixed Copy ts next f few e new = (record { few = omega arith; sides = ((term_fixed f 1 ts (omega arith) e, copied_fixed f (seen_in (term_at 0 ts) []) next (term_at 0 ts) new), tt) }, tt)
+answer_fixed AtomLength ts next f few e new = plain_fixed f (atom_length_answer (term_at 0 ts) (term_at 1 ts)) (length-plain (λ t. apply f t ≡ t) (term_at 0 ts) (term_at 1 ts) (term_fixed f 1 ts (omega arith) e))
+answer_fixed CharCode ts next f few e new = plain_fixed f (char_code_answer (term_at 0 ts) (term_at 1 ts)) (code-plain (λ t. apply f t ≡ t) (term_at 0 ts) (term_at 1 ts) (term_fixed f 0 ts (omega arith) e) (term_fixed f 1 ts (omega arith) e))
+answer_fixed (AtomText by) ts next f few e new = plain_fixed f (spelling_answer (spelling_meant by) (term_at 0 ts) (term_at 1 ts)) (spelling-plain (λ t. apply f t ≡ t) (spelling_meant by) (term_at 0 ts) (term_at 1 ts) (term_fixed f 0 ts (omega arith) e) (term_fixed f 1 ts (omega arith) e))
+answer_fixed (NumberText by) ts next f few e new = plain_fixed f (number_text_answer (spelling_meant by) (term_at 0 ts) (term_at 1 ts)) (number_text-plain (λ t. apply f t ≡ t) (spelling_meant by) (term_at 0 ts) (term_at 1 ts) (term_fixed f 0 ts (omega arith) e) (term_fixed f 1 ts (omega arith) e))
+answer_fixed Sort ts next f few e new = sort_fixed f (term_at 0 ts) (term_at 1 ts) (term_fixed f 0 ts (omega arith) e) (term_fixed f 1 ts (omega arith) e)
+answer_fixed KeySort ts next f few e new = keysort_fixed f (term_at 0 ts) (term_at 1 ts) (term_fixed f 0 ts (omega arith) e) (term_fixed f 1 ts (omega arith) e)

@@ -3,3 +3,7 @@ pub mod AnswerLemmas
 pub mod Fixed
 pub mod ControlLemmas
 pub mod PartLemmas
+pub mod CheckLemmas
+pub mod TextLemmas
+pub mod NumberTextLemmas
+pub mod SortGoalLemmas

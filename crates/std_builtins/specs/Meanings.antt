@@ -10,10 +10,15 @@ use Rattle.run_model.specs.Goals.StandardOrder.{order}
 use Rattle.run_model.specs.Goals.TermTests.{is_variable, is_integer, is_atom, is_compound, is_atomic, is_ground, compare_answer}
 use Rattle.run_model.specs.Goals.TermParts.{functor_answer, argument_answer, parts_answer, copy_answer}
 use Rattle.run_model.specs.Goals.UnificationGoals.{apart_answer}
+use Rattle.run_model.specs.Goals.AtomGoals.{Spelling, ByCharacters, ByCodes, atom_length_answer, char_code_answer, spelling_answer}
+use Rattle.run_model.specs.Goals.NumberTexts.{number_text_answer}
+use Rattle.run_model.specs.Goals.Sorting.{sort_answer, keysort_answer}
 use Rattle.std_builtins.specs.declared.type_tests.TypeTest.{TypeTest}
 use Rattle.std_builtins.specs.declared.type_tests.TypeTest.TheVariants as type
 use Rattle.std_builtins.specs.declared.comparisons.Comparison.{Comparison}
 use Rattle.std_builtins.specs.declared.comparisons.Comparison.TheVariants as sign
+use Rattle.std_builtins.specs.declared.spelling.Spelling.{Spelling as SpellingCode}
+use Rattle.std_builtins.specs.declared.spelling.Spelling.TheVariants as by
 use Rattle.std_builtins.specs.declared.table.Builtin.{Builtin}
 use Rattle.std_builtins.specs.declared.table.Builtin.TheVariants as goal
 
@@ -45,6 +50,10 @@ value_test sign.AtMost y z = int_le y z
 value_test sign.Greater y z = int_lt z y
 value_test sign.AtLeast y z = int_le z y
 
+abbrev pub spelling_meant : SpellingCode → Spelling
+spelling_meant by.Characters = ByCharacters
+spelling_meant by.Codes = ByCodes
+
 -- the answer of a goal with these arguments at a next number
 abbrev pub answer_of : Builtin → Terms → ℕ → Answer
 answer_of goal.Unify ts next = equal (term_at 0 ts) (term_at 1 ts)
@@ -58,6 +67,12 @@ answer_of goal.Functor ts next = functor_answer (term_at 0 ts) (term_at 1 ts) (t
 answer_of goal.Argument ts next = argument_answer (term_at 0 ts) (term_at 1 ts) (term_at 2 ts)
 answer_of goal.Parts ts next = parts_answer (term_at 0 ts) (term_at 1 ts)
 answer_of goal.Copy ts next = copy_answer (term_at 0 ts) (term_at 1 ts) next
+answer_of goal.AtomLength ts next = atom_length_answer (term_at 0 ts) (term_at 1 ts)
+answer_of goal.CharCode ts next = char_code_answer (term_at 0 ts) (term_at 1 ts)
+answer_of (goal.AtomText s) ts next = spelling_answer (spelling_meant s) (term_at 0 ts) (term_at 1 ts)
+answer_of goal.Sort ts next = sort_answer (term_at 0 ts) (term_at 1 ts)
+answer_of goal.KeySort ts next = keysort_answer (term_at 0 ts) (term_at 1 ts)
+answer_of (goal.NumberText s) ts next = number_text_answer (spelling_meant s) (term_at 0 ts) (term_at 1 ts)
 
 abbrev pub arguments_of : Builtin → ℕ
 arguments_of goal.Unify = 2
@@ -71,3 +86,9 @@ arguments_of goal.Functor = 3
 arguments_of goal.Argument = 3
 arguments_of goal.Parts = 2
 arguments_of goal.Copy = 2
+arguments_of goal.AtomLength = 2
+arguments_of goal.CharCode = 2
+arguments_of (goal.AtomText s) = 2
+arguments_of (goal.NumberText s) = 2
+arguments_of goal.Sort = 2
+arguments_of goal.KeySort = 2

@@ -7,9 +7,13 @@ ghost use Rattle.std_builtins.specs.Meanings.{answer_of, arguments_of};
 use crate::answer::{BuiltinRefusal, Solution, equal, holds_if};
 use crate::argument::argument;
 use crate::arithmetic::{compared_values, is};
+use crate::atoms::{atom_length, char_code};
 use crate::comparisons::compared;
 use crate::functor::functor;
+use crate::numbers::number_text;
 use crate::parts::{copied, parts};
+use crate::sorting::{keysort, sort};
+use crate::spelling::atom_text;
 use crate::table::Builtin;
 use crate::unification::differ;
 use au_term::{FlatTerm, VarNo};
@@ -40,6 +44,12 @@ impl Builtin {
             Builtin::Argument => argument(alloc, &args[0], &args[1], &args[2]),
             Builtin::Parts => parts(alloc, &args[0], &args[1]),
             Builtin::Copy => copied(alloc, &args[0], &args[1], next),
+            Builtin::AtomLength => atom_length(alloc, &args[0], &args[1]),
+            Builtin::CharCode => char_code(alloc, &args[0], &args[1]),
+            Builtin::AtomText(by) => atom_text(alloc, by, &args[0], &args[1]),
+            Builtin::NumberText(by) => number_text(alloc, by, &args[0], &args[1]),
+            Builtin::Sort => sort(alloc, &args[0], &args[1]),
+            Builtin::KeySort => keysort(alloc, &args[0], &args[1]),
         }
     }
 }

@@ -4,13 +4,19 @@
 pub mod answer;
 mod argument;
 mod arithmetic;
+mod atoms;
 mod call;
+mod characters;
+mod checks;
 pub mod comparisons;
 pub mod control;
 mod functor;
 mod integers;
 mod lists;
+mod numbers;
 mod parts;
+mod sorting;
+pub mod spelling;
 pub mod table;
 #[cfg(test)]
 mod tests;
@@ -20,5 +26,6 @@ mod unification;
 pub use answer::{BuiltinRefusal, Solution};
 pub use comparisons::Comparison;
 pub use control::{Control, control_of, is_control};
+pub use spelling::Spelling;
 pub use table::{Builtin, builtin_of, is_builtin};
 pub use type_tests::TypeTest;

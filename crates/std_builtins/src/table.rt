@@ -7,6 +7,7 @@ ghost use Rattle.run_model.specs.Goals.Builtins.{builtins};
 ghost use Rattle.std_builtins.specs.Rows.{builtin_in, is_row, IsRowOf};
 
 use crate::comparisons::Comparison;
+use crate::spelling::Spelling;
 use crate::type_tests::TypeTest;
 
 /// What a built-in predicate does.
@@ -23,10 +24,16 @@ pub enum Builtin {
     Argument,
     Parts,
     Copy,
+    AtomLength,
+    CharCode,
+    AtomText(Spelling),
+    NumberText(Spelling),
+    Sort,
+    KeySort,
 }
 
 /// Each built-in predicate with its name and number of arguments.
-const BUILTINS: [(&str, u32, Builtin); 30] = [
+const BUILTINS: [(&str, u32, Builtin); 38] = [
     ("=", 2, Builtin::Unify),
     ("\\=", 2, Builtin::Differ),
     ("unify_with_occurs_check", 2, Builtin::Unify),
@@ -57,6 +64,14 @@ const BUILTINS: [(&str, u32, Builtin); 30] = [
     ("arg", 3, Builtin::Argument),
     ("=..", 2, Builtin::Parts),
     ("copy_term", 2, Builtin::Copy),
+    ("atom_length", 2, Builtin::AtomLength),
+    ("char_code", 2, Builtin::CharCode),
+    ("atom_chars", 2, Builtin::AtomText(Spelling::Characters)),
+    ("atom_codes", 2, Builtin::AtomText(Spelling::Codes)),
+    ("number_chars", 2, Builtin::NumberText(Spelling::Characters)),
+    ("number_codes", 2, Builtin::NumberText(Spelling::Codes)),
+    ("sort", 2, Builtin::Sort),
+    ("keysort", 2, Builtin::KeySort),
 ];
 
 /// The built-in predicate of this name and number of arguments, if there is one.

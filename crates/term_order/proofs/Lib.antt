@@ -1,2 +1,3 @@
 pub mod CellOrder
 pub mod TermOrder
+pub mod SortedLemmas

@@ -16,7 +16,7 @@ pub fn compare(left: &FlatTerm, right: &FlatTerm) -> Ordering
 }
 
 /// How lists of cells stand to one another: the first two that differ decide, and else the lengths.
-fn compare_all(left: &[Cell], right: &[Cell]) -> Ordering
+pub(crate) fn compare_all(left: &[Cell], right: &[Cell]) -> Ordering
     ensures { result ≡ slice_cmp cell_order left.now right.now }
 {
     let common = left.len().min(right.len());

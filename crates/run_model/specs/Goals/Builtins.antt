@@ -9,6 +9,9 @@ use Rattle.run_model.specs.Goals.ArithmeticGoals.{arithmetic_goals}
 use Rattle.run_model.specs.Goals.TermTests.{type_tests, order_goals}
 use Rattle.run_model.specs.Goals.TermParts.{term_parts}
 use Rattle.run_model.specs.Goals.UnificationGoals.{unification_goals}
+use Rattle.run_model.specs.Goals.AtomGoals.{atom_goals}
+use Rattle.run_model.specs.Goals.NumberTexts.{number_goals}
+use Rattle.run_model.specs.Goals.Sorting.{sorting_goals}
 
 abbrev pub builtin : List ℕ → ℕ → (Terms → ℕ → Reply) → Construct
 builtin name arity reply = record { name = name; arity = arity; outcome = λ ts next. Replies (reply ts next) }
@@ -21,4 +24,4 @@ abbrev pub builtins : List Construct
 builtins =
     -- unify (8.2.1)
     builtin (codes "=") 2 (λ ts next. holds_where ((term_at 0 ts, term_at 1 ts) ∷ []))
-    ∷ (unification_goals ++ (type_tests ++ (order_goals ++ (arithmetic_goals ++ term_parts))))
+    ∷ (unification_goals ++ (type_tests ++ (order_goals ++ (arithmetic_goals ++ (term_parts ++ (atom_goals ++ (number_goals ++ sorting_goals)))))))

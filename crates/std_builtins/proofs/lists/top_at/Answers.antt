@@ -1,4 +1,4 @@
-use Rattle.std.proofs.Common.{◌≡◌, ◌∷◌, ◌∙◌, ◌+◌, ap, drop, get_or, sym}
+use Rattle.std.proofs.Common.{◌∷◌, ◌∙◌, ◌+◌, ap, drop, get_or, sym}
 use Rattle.std.proofs.lemmas.List.{drop_more}
 use Rattle.au_term.specs.PrefixOrder.{cells_of}
 use Rattle.bind_store.proofs.PlaceLemmas.{top_of-subterm}

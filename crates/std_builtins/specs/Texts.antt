@@ -1,0 +1,40 @@
+-- Texts read from the items of a list.
+use Rattle.std.specs.Prelude.{◌≡◌, ℕ, ℤ, Bool, if◌then◌else◌, Option, None, List, map, Result, Ok, Err, String, string_bytes, codes}
+use Rattle.std.specs.Str.{chars}
+use Rattle.std.specs.Global.{Global}
+use Rattle.au_term.specs.Term.{Term}
+use Rattle.au_model.specs.Syntax.Layout.{begins_layout}
+use Rattle.au_model.specs.Syntax.Words.{next_word}
+use Rattle.au_model.specs.Terms.ErrorTerms.{type_error}
+use Rattle.au_model.specs.Terms.Faults.{error_term_of}
+use Rattle.run_model.specs.Goals.BuiltinAnswers.{Answer}
+use Rattle.run_model.specs.Goals.AtomGoals.{with_each, code_of, is_character, is_character_code, no_code}
+use Rattle.run_model.specs.Goals.NumberTexts.{number_behind_sign}
+use Rattle.std_builtins.specs.declared.answer.BuiltinRefusal.{BuiltinRefusal}
+use Rattle.std_builtins.specs.declared.answer.BuiltinRefusal.TheVariants.{Fault, NoMemory}
+use Rattle.std_builtins.specs.declared.spelling.Spelling.{Spelling}
+use Rattle.std_builtins.specs.declared.spelling.Spelling.TheVariants as by
+
+abbrev pub item_test : Spelling → Term → Bool
+item_test by.Characters t = is_character t
+item_test by.Codes t = is_character_code t
+
+abbrev pub item_error : Spelling → Term → Term
+item_error by.Characters t = type_error (codes "character") t
+item_error by.Codes t = no_code
+
+-- items read one after another
+abbrev pub AreItemsRead : Spelling → List Term → Result (String Global) BuiltinRefusal → Type 0
+AreItemsRead s ts (Ok text) = ((a : Answer) → with_each (item_test s) (item_error s) ts a ≡ a) × (chars (string_bytes text) ≡ map code_of ts)
+AreItemsRead s ts (Err (Fault fault)) = (a : Answer) → with_each (item_test s) (item_error s) ts a ≡ Err (error_term_of fault)
+AreItemsRead s ts (Err NoMemory) = Unit {0}
+
+-- an answer that waits for a text has it, or is an error
+abbrev pub IsTextOfItems : Answer → (List ℕ → Answer) → Result (String Global) BuiltinRefusal → Type 0
+IsTextOfItems waiting answer (Ok text) = waiting ≡ answer (chars (string_bytes text))
+IsTextOfItems waiting answer (Err (Fault fault)) = waiting ≡ Err (error_term_of fault)
+IsTextOfItems waiting answer (Err NoMemory) = Unit {0}
+
+-- the number whose digits begin a text
+abbrev pub number_behind : List ℕ → Option ℤ
+number_behind cs = if begins_layout cs then None else number_behind_sign (next_word cs)
