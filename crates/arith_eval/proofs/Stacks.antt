@@ -9,12 +9,13 @@ use Rattle.au_term.specs.declared.cell.Cell.{Cell}
 use Rattle.au_term.specs.declared.cell.Cell.TheVariants.{Functor}
 use Rattle.au_term.proofs.WholeTermLemmas.{count-take, forest_of}
 use Rattle.au_term.proofs.SizeFillLemmas.{opened, opens_at}
-use Rattle.run_model.specs.Goals.Arithmetic.{Evaluated, UnaryFunction, BinaryFunction, unary_value, binary_value, value_of, not_evaluable}
+use Rattle.run_model.specs.Goals.Arithmetic.{Evaluated, UnaryFunction, BinaryFunction, unary_value, binary_value, expression_value, not_evaluable}
 use Rattle.arith_eval.specs.Evaluating.{evaluated, values_of, Stacks}
 use Rattle.arith_eval.specs.Functions.{unary_meaning, binary_meaning}
 use Rattle.arith_eval.specs.declared.evaluation.Problem.{Problem}
 use Rattle.arith_eval.specs.declared.functions.Unary.{Unary}
 use Rattle.arith_eval.specs.declared.functions.Binary.{Binary}
+use Rattle.au_term.proofs.StoredTermLemmas.{whole_forest as is_forest}
 
 pub length-values_of : (ts : Terms) → length (values_of ts) ≡ count ts
 length-values_of end = refl
@@ -29,7 +30,7 @@ drop-values_of (suc n) (more t ts) = drop-values_of n ts
 pub stack_count : (values : List (Result ℤ Problem)) (ts : Terms) → Stacks values ts → count ts ≡ length values
 stack_count values ts h = sym (length-values_of ts) ∙ (ap length (sym h) ∙ (length-map (reverse values) evaluated ∙ length-reverse values))
 
-wide_compound : (name : List ℕ) (us : Terms) (n : ℕ) → count us ≡ n → (n ≡ 1 → ⊥) → (n ≡ 2 → ⊥) → value_of (Compound name us) ≡ not_evaluable name n
+wide_compound : (name : List ℕ) (us : Terms) (n : ℕ) → count us ≡ n → (n ≡ 1 → ⊥) → (n ≡ 2 → ⊥) → expression_value (Compound name us) ≡ not_evaluable name n
 wide_compound name end n e h k = ap (not_evaluable name) e
 wide_compound name (more a end) n e h k = absurd (h (sym e))
 wide_compound name (more a (more b end)) n e h k = absurd (k (sym e))
@@ -48,13 +49,10 @@ pub wide_value : (name : List ℕ) (n m : ℕ) (values now : List (Result ℤ Pr
     → evaluated v ∷ map evaluated (reverse now) ≡ values_of (with_cell (Functor name n) ts)
 wide_value name n m values now ts v one two few left is h e =
     let enough : n ≤ count ts = omega (arith, stack_count values ts h) in
-    let first : evaluated v ≡ value_of (Compound name (take_terms n ts)) = e ∙ sym (wide_compound name (take_terms n ts) n (count-take n ts enough) one two) in
+    let first : evaluated v ≡ expression_value (Compound name (take_terms n ts)) = e ∙ sym (wide_compound name (take_terms n ts) n (count-take n ts enough) one two) in
     let others : map evaluated (reverse now) ≡ values_of (drop_terms n ts) =
     ap (λ vs. map evaluated (reverse vs)) (is ∙ ap (λ k. take k values) left) ∙ (ap (map evaluated) (below_top n values few) ∙ (sym (drop-map evaluated n (reverse values)) ∙ (ap (drop n) h ∙ drop-values_of n ts))) in
     ap₂ (λ x xs. x ∷ xs) first others
-
-is_forest : (cells : List Cell) → IsTerm cells → IsForest cells
-is_forest cells t = record { cells = (forest_of 1 cells t.leaves).cells }
 
 -- the values of a cell's arguments are on the stack
 pub arguments_stacked : (cells : List Cell) (k at : ℕ) (c : Cell) (values : List (Result ℤ Problem)) → IsTerm cells → at ≡ k + 1 → k < length cells → c ≡ get_or cells k c → Stacks values (terms_of (drop at cells)) → arity c ≤ length values
@@ -71,15 +69,15 @@ one_stacked cells at values t e h =
     let zero_at : at ≡ 0 = omega arith in
     sym (stack_count values (terms_of (drop at cells)) h) ∙ (ap (λ i. count (terms_of (drop i cells))) zero_at ∙ (forest_of 1 cells t.leaves).number)
 
-top_value : (v : Result ℤ Problem) (vs : List Evaluated) (ts : Terms) → evaluated v ∷ vs ≡ values_of ts → evaluated v ≡ value_of (first_of ts)
+top_value : (v : Result ℤ Problem) (vs : List Evaluated) (ts : Terms) → evaluated v ∷ vs ≡ values_of ts → evaluated v ≡ expression_value (first_of ts)
 top_value v vs end h = absurd cc
 top_value v vs (more t ts) h = cc
 
-pub last_value : (cells : List Cell) (at : ℕ) (values now : List (Result ℤ Problem)) (v : Result ℤ Problem) (t : Term) → at ≤ 0 → cells ≡ cells_of t → values ≡ now ++ v ∷ [] → Stacks values (terms_of (drop at cells)) → evaluated v ≡ value_of t
+pub last_value : (cells : List Cell) (at : ℕ) (values now : List (Result ℤ Problem)) (v : Result ℤ Problem) (t : Term) → at ≤ 0 → cells ≡ cells_of t → values ≡ now ++ v ∷ [] → Stacks values (terms_of (drop at cells)) → evaluated v ≡ expression_value t
 last_value cells at values now v t e is top h =
     let zero_at : at ≡ 0 = omega arith in
     top_value v (map evaluated (reverse now)) (terms_of (drop at cells)) (ap (map evaluated) (sym (reverse-append now (v ∷ []))) ∙ (ap (λ vs. map evaluated (reverse vs)) (sym top) ∙ h))
-    ∙ ap value_of (ap (λ i. term_of (drop i cells)) zero_at ∙ (ap term_of is ∙ term_of-cells_of t))
+    ∙ ap expression_value (ap (λ i. term_of (drop i cells)) zero_at ∙ (ap term_of is ∙ term_of-cells_of t))
 
 pub unary_computed : (name : List ℕ) (f : Unary) (o : Option UnaryFunction) (x y : ℤ) (r : Evaluated) → option_map unary_meaning (Some f) ≡ option_map (λ g. g.value) o → y ≡ x → r ≡ unary_meaning f y → r ≡ unary_value name o (Ok x)
 unary_computed name f None x y r h same e = absurd cc

@@ -4,7 +4,7 @@ use Rattle.au_term.specs.Term.{Term, Terms, end, more}
 use Rattle.au_model.specs.Terms.Forms.{indicator}
 use Rattle.au_model.specs.Terms.ErrorTerms.{instantiation_error, type_error, evaluation_error}
 use Rattle.au_model.specs.Terms.Faults.{evaluation_word}
-use Rattle.run_model.specs.Goals.Arithmetic.{Evaluated, value_of}
+use Rattle.run_model.specs.Goals.Arithmetic.{Evaluated, expression_value}
 use Rattle.std.specs.Prelude.{◌≡◌, codes, map, reverse}
 use Rattle.au_model.specs.Terms.Faults.{error_term_of}
 use Rattle.arith_eval.specs.declared.evaluation.EvalRefusal.{EvalRefusal}
@@ -23,7 +23,7 @@ evaluated (Err problem) = Err (problem_term problem)
 
 abbrev pub values_of : Terms → List Evaluated
 values_of end = []
-values_of (more t ts) = value_of t ∷ values_of ts
+values_of (more t ts) = expression_value t ∷ values_of ts
 
 -- the stack, its top first, is of the values of these terms
 abbrev pub Stacks : List (Result ℤ Problem) → Terms → Type 0

@@ -4,7 +4,7 @@ ghost use Rattle.au_term.specs.PrefixOrder.{with_cell, arity};
 ghost use Rattle.au_term.specs.Term.{Terms};
 ghost use Rattle.au_term.specs.declared.cell.Cell.TheVariants.{Functor};
 ghost use Rattle.au_model.specs.Terms.Faults.{error_term_of};
-ghost use Rattle.run_model.specs.Goals.Arithmetic.{value_of, unary_value, binary_value, unary_function, binary_function, not_evaluable};
+ghost use Rattle.run_model.specs.Goals.Arithmetic.{expression_value, unary_value, binary_value, unary_function, binary_function, not_evaluable};
 ghost use Rattle.arith_eval.specs.Integers.{outcome};
 ghost use Rattle.arith_eval.specs.Evaluating.{evaluated, values_of, problem_term, Stacks, IsRefusal};
 
@@ -47,8 +47,8 @@ impl Problem {
 
 /// The value of an expression, or the first error that evaluating it comes to.
 pub fn eval(alloc: Global, term: &FlatTerm) -> Result<i64, EvalRefusal>
-    ensures value { IfOk result (λ z. value_of term.now ≡ Ok z) }
-    ensures error { IfErr result (IsRefusal (value_of term.now)) }
+    ensures value { IfOk result (λ z. expression_value term.now ≡ Ok z) }
+    ensures error { IfErr result (IsRefusal (expression_value term.now)) }
 {
     match value(alloc, term) {
         Ok(Ok(value)) => Ok(value),
@@ -63,7 +63,7 @@ pub fn eval(alloc: Global, term: &FlatTerm) -> Result<i64, EvalRefusal>
 /// What an expression comes to. Its cells are gone over from the last one, so that the values of a compound's arguments
 /// are on top of the stack as its own cell comes.
 fn value(alloc: Global, term: &FlatTerm) -> Result<Result<i64, Problem>, NoMemory>
-    ensures { IfOk result (λ v. evaluated v ≡ value_of term.now) }
+    ensures { IfOk result (λ v. evaluated v ≡ expression_value term.now) }
 {
     let cells = term.cells();
     let mut values = Vec::new(alloc);

@@ -21,6 +21,7 @@ use Rattle.engine_core.specs.Branches.{IsItemBelow}
 use Rattle.engine_core.specs.Conjunctions.{goals_of_bodies, bodies_size, SplitsBodies}
 use Rattle.engine_core.proofs.ResolvedTermLemmas.{argument_below}
 use Rattle.au_model.proofs.UnifierMeasureLemmas.{size_pos as some_size}
+use Rattle.std_builtins.proofs.PartLemmas.{no_two}
 
 -- a goal that is no conjunction
 pub single_goal : (st : StoreView) (g : Term) → IsUnbound st.made g → opens_conjunction (top_of g) ≡ false → goals_of (resolve (substitution st) g) ≡ resolve (substitution st) g ∷ []
@@ -33,9 +34,6 @@ single_goal st (Compound f (more a (more b end))) u h =
     let s = substitution st in
     ap (λ k. cond k (goals_of (resolve s a) ++ goals_of (resolve s b)) (binary f (resolve s a) (resolve s b) ∷ [])) h
 single_goal st (Compound f (more a (more b (more c ts)))) u h = refl
-
-pub no_two : (n : ℕ) → (suc (suc (suc n)) == 2) ≡ false
-no_two n = grind (arith, nat_tests)
 
 -- the two sides of a conjunction
 pub record IsConjunction (s : Substitution) (g : Term) : Type 0 where

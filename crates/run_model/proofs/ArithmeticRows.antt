@@ -3,13 +3,13 @@ use Rattle.std.specs.Prelude.{◌≡◌, ℕ, ℤ, pos, negsuc, List, codes, ref
 use Rattle.au_term.specs.Term.{VarTerm, IntTerm, AtomTerm, Compound, end, more}
 use Rattle.au_model.specs.Terms.Forms.{unary, binary, indicator}
 use Rattle.au_model.specs.Terms.ErrorTerms.{instantiation_error, type_error}
-use Rattle.run_model.specs.Goals.Arithmetic.{Evaluated, value_of, overflow, zero_divisor, undefined}
+use Rattle.run_model.specs.Goals.Arithmetic.{Evaluated, expression_value, overflow, zero_divisor, undefined}
 
 abbrev two : List ℕ → ℤ → ℤ → Evaluated
-two f x y = value_of (binary f (IntTerm x) (IntTerm y))
+two f x y = expression_value (binary f (IntTerm x) (IntTerm y))
 
 abbrev one : List ℕ → ℤ → Evaluated
-one f x = value_of (unary f (IntTerm x))
+one f x = expression_value (unary f (IntTerm x))
 
 abbrev least : ℤ
 least = negsuc 9223372036854775807
@@ -46,9 +46,9 @@ others : (one (codes "-") least ≡ overflow) × (one (codes "abs") least ≡ ov
 others = (refl, refl, refl, refl, refl, refl)
 
 -- X + foo; foo + X; foo(X); 1 // 0 + foo; f(1, 2, 3)
-errors : (value_of (binary (codes "+") (VarTerm 0) (AtomTerm (codes "foo"))) ≡ Err instantiation_error)
-    × (value_of (binary (codes "+") (AtomTerm (codes "foo")) (VarTerm 0)) ≡ Err (type_error (codes "evaluable") (indicator (codes "foo") 0)))
-    × (value_of (unary (codes "foo") (VarTerm 0)) ≡ Err (type_error (codes "evaluable") (indicator (codes "foo") 1)))
-    × (value_of (binary (codes "+") (binary (codes "//") (IntTerm (pos 1)) (IntTerm (pos 0))) (AtomTerm (codes "foo"))) ≡ zero_divisor)
-    × (value_of (Compound (codes "f") (more (IntTerm (pos 1)) (more (IntTerm (pos 2)) (more (VarTerm 3) end)))) ≡ Err (type_error (codes "evaluable") (indicator (codes "f") 3)))
+errors : (expression_value (binary (codes "+") (VarTerm 0) (AtomTerm (codes "foo"))) ≡ Err instantiation_error)
+    × (expression_value (binary (codes "+") (AtomTerm (codes "foo")) (VarTerm 0)) ≡ Err (type_error (codes "evaluable") (indicator (codes "foo") 0)))
+    × (expression_value (unary (codes "foo") (VarTerm 0)) ≡ Err (type_error (codes "evaluable") (indicator (codes "foo") 1)))
+    × (expression_value (binary (codes "+") (binary (codes "//") (IntTerm (pos 1)) (IntTerm (pos 0))) (AtomTerm (codes "foo"))) ≡ zero_divisor)
+    × (expression_value (Compound (codes "f") (more (IntTerm (pos 1)) (more (IntTerm (pos 2)) (more (VarTerm 3) end)))) ≡ Err (type_error (codes "evaluable") (indicator (codes "f") 3)))
 errors = (refl, refl, refl, refl, refl)

@@ -9,7 +9,7 @@ use Rattle.run_model.specs.Laws.Numbering.{IsTermBelow}
 use Rattle.run_model.specs.Goals.BuiltinAnswers.{Answer, equal, predicate}
 use Rattle.run_model.specs.Goals.ListForms.{ListForm, ProperList, PartialList, NoList, list_form}
 use Rattle.run_model.specs.Goals.TermTests.{is_variable, is_integer}
-use Rattle.run_model.specs.Goals.AtomGoals.{with_each, is_bound, is_open_integer, is_not_below_zero, is_character, is_character_code, below_zero, no_code, with_counts, atom_length_answer, Spelling, ByCharacters, ByCodes, item_for, code_of, coded_answer, char_code_answer, with_list, with_text, spelling_answer, atom_goals}
+use Rattle.run_model.specs.Goals.AtomGoals.{with_each, is_bound, is_open_integer, is_not_below_zero, is_character, is_character_code, below_zero, no_code, with_counts, atom_length_answer, CharacterList, ByCharacters, ByCodes, item_for, code_of, coded_answer, char_code_answer, with_list, with_text, spelling_answer, atom_goals}
 use Rattle.run_model.proofs.AnswerBoundLemmas.{row-below}
 use Rattle.run_model.proofs.BuiltinRowBoundLemmas.{IsRowBelow, term-below}
 use Rattle.run_model.proofs.PlainAnswerLemmas.{IsPlain, IsGround, equal-plain, each-plain, items-ground, plain-below}
@@ -46,16 +46,16 @@ items-plain P l (PartialList ts) answer h = tt
 items-plain P l NoList answer h = tt
 items-plain P l (ProperList ts) answer h = each-plain P is_bound (λ t. instantiation_error) ts (answer ts) (h ts)
 
-pub text-plain : (P : Term → Type 0) (by : Spelling) (ts : List Term) (answer : List ℕ → Answer) → ((cs : List ℕ) → IsPlain P (answer cs)) → IsPlain P (with_text by ts answer)
+pub text-plain : (P : Term → Type 0) (by : CharacterList) (ts : List Term) (answer : List ℕ → Answer) → ((cs : List ℕ) → IsPlain P (answer cs)) → IsPlain P (with_text by ts answer)
 text-plain P ByCharacters ts answer h = each-plain P is_character (type_error (codes "character")) ts (answer (map code_of ts)) (h (map code_of ts))
 text-plain P ByCodes ts answer h =
     each-plain P is_integer (type_error (codes "integer")) ts (with_each is_character_code (λ t. no_code) ts (answer (map code_of ts))) (each-plain P is_character_code (λ t. no_code) ts (answer (map code_of ts)) (h (map code_of ts)))
 
-pub item_for-ground : (by : Spelling) (c : ℕ) → IsGround (item_for by c)
+pub item_for-ground : (by : CharacterList) (c : ℕ) → IsGround (item_for by c)
 item_for-ground ByCharacters c = refl
 item_for-ground ByCodes c = refl
 
-pub spelling-plain : (P : Term → Type 0) (by : Spelling) (t l : Term) → P t → P l → IsPlain P (spelling_answer by t l)
+pub spelling-plain : (P : Term → Type 0) (by : CharacterList) (t l : Term) → P t → P l → IsPlain P (spelling_answer by t l)
 spelling-plain P by (VarTerm n) l h k =
     items-plain P l (list_form l) (λ ts. with_text by ts (λ cs. equal (VarTerm n) (AtomTerm cs))) (λ ts. text-plain P by ts (λ cs. equal (VarTerm n) (AtomTerm cs)) (λ cs. equal-plain P (VarTerm n) (AtomTerm cs) h refl))
 spelling-plain P by (IntTerm z) l h k = tt
@@ -71,6 +71,6 @@ atom_goals-below = (
   ),
 )
   where
-    item_for-below : (name : List ℕ) (by : Spelling) → IsRowBelow (predicate name 2 (λ ts next. spelling_answer by (term_at 0 ts) (term_at 1 ts)))
+    item_for-below : (name : List ℕ) (by : CharacterList) → IsRowBelow (predicate name 2 (λ ts next. spelling_answer by (term_at 0 ts) (term_at 1 ts)))
     item_for-below name by =
         row-below name 2 (λ ts next. spelling_answer by (term_at 0 ts) (term_at 1 ts)) (λ ts next n h. plain-below next (spelling_answer by (term_at 0 ts) (term_at 1 ts)) (spelling-plain (IsTermBelow next) by (term_at 0 ts) (term_at 1 ts) (term-below 0 next ts (omega arith) h) (term-below 1 next ts (omega arith) h)))

@@ -10,7 +10,7 @@ use Rattle.au_model.specs.Terms.Unifier.{unifier}
 use Rattle.au_model.specs.Terms.ErrorTerms.{domain_error}
 use Rattle.au_model.specs.Terms.Forms.{is_callable}
 use Rattle.run_model.specs.Goals.BuiltinAnswers.{Answer, equal, holds_if}
-use Rattle.run_model.specs.Goals.Arithmetic.{Evaluated, value_of}
+use Rattle.run_model.specs.Goals.Arithmetic.{Evaluated, expression_value}
 use Rattle.run_model.specs.Goals.ArithmeticGoals.{with_value, is_answer, comparison_answer, comparison, arithmetic_goals}
 use Rattle.run_model.specs.Goals.StandardOrder.{order}
 use Rattle.run_model.specs.Goals.TermTests.{is_variable, is_integer, is_atom, is_compound, is_atomic, is_ground, test_row, type_tests, order_row, order_symbol, is_order_symbol, compare_answer, order_goals}
@@ -59,11 +59,11 @@ value-below next (Ok z) answer h = h z
 value-below next (Err e) answer h = tt
 
 comparison-below : (name : List ℕ) (test : ℤ → ℤ → Bool) → IsRowBelow (comparison name test)
-comparison-below name test = row-below name 2 (λ ts next. comparison_answer test (term_at 0 ts) (term_at 1 ts)) (λ ts next n h. value-below next (value_of (term_at 0 ts)) (λ y. with_value (value_of (term_at 1 ts)) (λ z. holds_if (test y z))) (λ y. value-below next (value_of (term_at 1 ts)) (λ z. holds_if (test y z)) (λ z. holds-below next (test y z))))
+comparison-below name test = row-below name 2 (λ ts next. comparison_answer test (term_at 0 ts) (term_at 1 ts)) (λ ts next n h. value-below next (expression_value (term_at 0 ts)) (λ y. with_value (expression_value (term_at 1 ts)) (λ z. holds_if (test y z))) (λ y. value-below next (expression_value (term_at 1 ts)) (λ z. holds_if (test y z)) (λ z. holds-below next (test y z))))
 
 arithmetic_goals-below : Each IsRowBelow arithmetic_goals
 arithmetic_goals-below =
-    (row-below (codes "is") 2 (λ ts next. is_answer (term_at 0 ts) (term_at 1 ts)) (λ ts next n h. value-below next (value_of (term_at 1 ts)) (λ z. equal (term_at 0 ts) (IntTerm z)) (λ z. equal-below next (term_at 0 ts) (IntTerm z) (term-below 0 next ts (omega arith) h) (omega arith))), (comparison-below (codes "=:=") int_eq, (comparison-below (codes "=\\=") (λ y z. not (int_eq y z)), (comparison-below (codes "<") int_lt, (comparison-below (codes "=<") int_le, (comparison-below (codes ">") (λ y z. int_lt z y), (comparison-below (codes ">=") (λ y z. int_le z y), tt)))))))
+    (row-below (codes "is") 2 (λ ts next. is_answer (term_at 0 ts) (term_at 1 ts)) (λ ts next n h. value-below next (expression_value (term_at 1 ts)) (λ z. equal (term_at 0 ts) (IntTerm z)) (λ z. equal-below next (term_at 0 ts) (IntTerm z) (term-below 0 next ts (omega arith) h) (omega arith))), (comparison-below (codes "=:=") int_eq, (comparison-below (codes "=\\=") (λ y z. not (int_eq y z)), (comparison-below (codes "<") int_lt, (comparison-below (codes "=<") int_le, (comparison-below (codes ">") (λ y z. int_lt z y), (comparison-below (codes ">=") (λ y z. int_le z y), tt)))))))
 
 -- unification
 unification_goals-below : Each IsRowBelow unification_goals

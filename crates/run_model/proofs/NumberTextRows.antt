@@ -8,14 +8,14 @@ use Rattle.au_model.specs.Terms.Forms.{binary, list_term}
 use Rattle.au_model.specs.Terms.ErrorTerms.{instantiation_error, type_error, representation_error, syntax_error}
 use Rattle.run_model.specs.Goals.BuiltinAnswers.{equal}
 use Rattle.run_model.specs.Goals.AtomGoals.{ByCharacters, ByCodes}
-use Rattle.run_model.specs.Goals.NumberTexts.{number_of, number_text_answer}
+use Rattle.run_model.specs.Goals.NumberTexts.{number_in_text, number_text_answer}
 use Rattle.run_model.proofs.RowTerms.{atom, int, X, Y}
 
-read : (number_of (codes " 12") ≡ Some (pos 12)) × (number_of (codes "-3") ≡ Some (negsuc 2)) × (number_of (codes "/* a */ 0x1f") ≡ Some (pos 31)) × (number_of (codes "0'a") ≡ Some (pos 97)) × (number_of (codes "-9223372036854775808") ≡ Some (negsuc 9223372036854775807))
+read : (number_in_text (codes " 12") ≡ Some (pos 12)) × (number_in_text (codes "-3") ≡ Some (negsuc 2)) × (number_in_text (codes "/* a */ 0x1f") ≡ Some (pos 31)) × (number_in_text (codes "0'a") ≡ Some (pos 97)) × (number_in_text (codes "-9223372036854775808") ≡ Some (negsuc 9223372036854775807))
 unfolding after_layout numeral
 read = (refl, refl, refl, refl, refl)
 
-refused : (number_of (codes "12 ") ≡ None) × (number_of (codes "- 3") ≡ None) × (number_of (codes "1.5") ≡ None) × (number_of (codes "9223372036854775808") ≡ None) × (number_of (codes "a") ≡ None) × (number_of [] ≡ None) × (number_of (codes "+3") ≡ None)
+refused : (number_in_text (codes "12 ") ≡ None) × (number_in_text (codes "- 3") ≡ None) × (number_in_text (codes "1.5") ≡ None) × (number_in_text (codes "9223372036854775808") ≡ None) × (number_in_text (codes "a") ≡ None) × (number_in_text [] ≡ None) × (number_in_text (codes "+3") ≡ None)
 unfolding after_layout numeral
 refused = (refl, refl, refl, refl, refl, refl, refl)
 

@@ -9,7 +9,7 @@ use Rattle.run_model.specs.Laws.Numbering.{IsTermBelow}
 use Rattle.run_model.specs.Goals.BuiltinAnswers.{Answer, equal}
 use Rattle.run_model.specs.Goals.ListForms.{ListForm, ProperList, PartialList, NoList, list_form}
 use Rattle.run_model.specs.Goals.AtomGoals.{with_each}
-use Rattle.run_model.specs.Goals.Sorting.{insert_by, sorted_by, is_before, is_same, sorted_terms, is_pair_term, is_key_before, no_pair, sorted_into, sort_answer, keysort_answer, sorting_goals}
+use Rattle.run_model.specs.Goals.Sorting.{insert_by, sorted_by, precedes, is_same, sorted_terms, is_pair_term, is_key_before, no_pair, sorted_into, sort_answer, keysort_answer, sorting_goals}
 use Rattle.run_model.proofs.AnswerBoundLemmas.{IsAnswerBelow, row-below, equal-below}
 use Rattle.run_model.proofs.BuiltinRowBoundLemmas.{IsRowBelow, term-below}
 use Rattle.run_model.proofs.TermPartBoundLemmas.{IsListBelow, form-below, list-below}
@@ -60,7 +60,7 @@ items_below b form ts h e = subst (IsListBelow b) e h
 sort-below : (next : ℕ) (l s : Term) → IsTermBelow next l → IsTermBelow next s → IsAnswerBelow next (sort_answer l s)
 sort-below next l s h k =
     into-kept (IsAnswerBelow next) (λ e. tt) (Each (IsTermBelow next)) l s (list_form l) (list_form s) (λ ts. equal s (list_term (sorted_terms ts))) (λ ts e. items_below next (list_form l) ts (form-below next l h) e)
-    (λ ts j. equal-below next s (list_term (sorted_terms ts)) k (list-below next (sorted_terms ts) (each_unlike (IsTermBelow next) is_same (sorted_by is_before ts) (each_sorted (IsTermBelow next) is_before ts j))))
+    (λ ts j. equal-below next s (list_term (sorted_terms ts)) k (list-below next (sorted_terms ts) (each_unlike (IsTermBelow next) is_same (sorted_by precedes ts) (each_sorted (IsTermBelow next) precedes ts j))))
 
 keysort-below : (next : ℕ) (l s : Term) → IsTermBelow next l → IsTermBelow next s → IsAnswerBelow next (keysort_answer l s)
 keysort-below next l s h k =

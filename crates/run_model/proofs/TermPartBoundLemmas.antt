@@ -16,7 +16,7 @@ use Rattle.run_model.proofs.AnswerBoundLemmas.{IsAnswerBelow, row-below, equal-b
 use Rattle.au_model.proofs.VariableBoundLemmas.{copied-below}
 use Rattle.run_model.proofs.BuiltinRowBoundLemmas.{IsRowBelow, term-below}
 
-less : (m n : ℕ) → nat_lt m n ≡ true → suc m ≤ n
+pub less : (m n : ℕ) → nat_lt m n ≡ true → suc m ≤ n
 less m n e = grind (arith, nat_tests)
 
 -- functor

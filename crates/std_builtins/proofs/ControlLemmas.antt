@@ -10,10 +10,7 @@ use Rattle.run_model.specs.Goals.Control.{construct_of, control_constructs}
 use Rattle.std_builtins.specs.Controls.{IsControl, ControlRow, control_in}
 use Rattle.std_builtins.specs.Rows.{is_row}
 use Rattle.std_builtins.specs.declared.control.Control.{Control}
-
-both : (a b : Bool) → (a && b) ≡ true → (a ≡ true) × (b ≡ true)
-both true b h = (refl, h)
-both false b h = absurd cc
+use Rattle.au_term.proofs.LogicLemmas.{both}
 
 row_is : (construct : Control) (name row : List ℕ) (arity count : ℕ) → IsControl construct row count → is_row name arity row count ≡ true → IsControl construct name arity
 row_is construct name row arity count h t =

@@ -14,7 +14,7 @@ use Rattle.run_model.specs.Goals.TermParts.{new_variables, made_term, functor_of
 use Rattle.run_model.specs.Goals.Outcomes.{Solution}
 use Rattle.au_model.specs.Terms.Unifier.{Equations, unifier}
 use Rattle.run_model.specs.Goals.BuiltinAnswers.{Answer, equal, holds_if}
-use Rattle.run_model.specs.Goals.Arithmetic.{Evaluated, value_of}
+use Rattle.run_model.specs.Goals.Arithmetic.{Evaluated, expression_value}
 use Rattle.run_model.specs.Goals.ArithmeticGoals.{with_value}
 use Rattle.run_model.specs.Goals.StandardOrder.{order}
 use Rattle.run_model.specs.Goals.TermTests.{order_symbol, is_order_symbol, compare_answer}
@@ -23,12 +23,13 @@ use Rattle.run_model.proofs.AtomGoalPlainLemmas.{length-plain, code-plain, spell
 use Rattle.run_model.proofs.NumberTextPlainLemmas.{number_text-plain}
 use Rattle.run_model.proofs.SortingLemmas.{each_sorted, each_unlike, each-kept, into-kept}
 use Rattle.run_model.specs.Goals.AtomGoals.{with_each}
-use Rattle.run_model.specs.Goals.Sorting.{sorted_by, sorted_terms, is_before, is_same, is_key_before, is_pair_term, no_pair, sort_answer, keysort_answer}
+use Rattle.run_model.specs.Goals.Sorting.{sorted_by, sorted_terms, precedes, is_same, is_key_before, is_pair_term, no_pair, sort_answer, keysort_answer}
 use Rattle.run_model.specs.Goals.NumberTexts.{number_text_answer}
 use Rattle.run_model.specs.Goals.AtomGoals.{atom_length_answer, char_code_answer, spelling_answer}
 use Rattle.std_builtins.specs.Meanings.{answer_of, arguments_of, type_test, order_test, value_test, spelling_meant}
 use Rattle.std_builtins.specs.declared.table.Builtin.{Builtin}
 use Rattle.std_builtins.specs.declared.table.Builtin.TheVariants.{Unify, Differ, «Type» as TypeGoal, Order, Compare, Is, Value, Functor, Argument, Parts, Copy, AtomLength, CharCode, AtomText, NumberText, Sort, KeySort}
+use Rattle.run_model.proofs.TermPartBoundLemmas.{less}
 
 -- few equations, of terms that the map does not change
 pub record IsFixed (f : ℕ → Term) (s : Solution) : Type 0 where
@@ -38,9 +39,6 @@ pub record IsFixed (f : ℕ → Term) (s : Solution) : Type 0 where
 abbrev pub IsAnswerFixed : (ℕ → Term) → Answer → Type 0
 IsAnswerFixed f (Ok solutions) = Each (IsFixed f) solutions
 IsAnswerFixed f (Err e) = Unit {0}
-
-less : (m n : ℕ) → nat_lt m n ≡ true → suc m ≤ n
-less m n e = grind (arith, nat_tests)
 
 term_fixed : (f : ℕ → Term) (i : ℕ) (ts : Terms) → suc i ≤ count ts → apply_all f ts ≡ ts → apply f (term_at i ts) ≡ term_at i ts
 term_fixed f i end h e = absurd (omega arith)
@@ -258,7 +256,7 @@ items_of_form_fixed f form ts h e = subst (IsFormFixed f) e h
 sort_fixed : (f : ℕ → Term) (l s : Term) → apply f l ≡ l → apply f s ≡ s → IsAnswerFixed f (sort_answer l s)
 sort_fixed f l s h k =
     into-kept (IsAnswerFixed f) (λ e. tt) (Each (λ t. apply f t ≡ t)) l s (list_form l) (list_form s) (λ ts. equal s (list_term (sorted_terms ts))) (λ ts e. items_of_form_fixed f (list_form l) ts (form_fixed f l h) e)
-    (λ ts j. equal_fixed f s (list_term (sorted_terms ts)) k (list_fixed f (sorted_terms ts) (each_unlike (λ t. apply f t ≡ t) is_same (sorted_by is_before ts) (each_sorted (λ t. apply f t ≡ t) is_before ts j))))
+    (λ ts j. equal_fixed f s (list_term (sorted_terms ts)) k (list_fixed f (sorted_terms ts) (each_unlike (λ t. apply f t ≡ t) is_same (sorted_by precedes ts) (each_sorted (λ t. apply f t ≡ t) precedes ts j))))
 
 keysort_fixed : (f : ℕ → Term) (l s : Term) → apply f l ≡ l → apply f s ≡ s → IsAnswerFixed f (keysort_answer l s)
 keysort_fixed f l s h k =
@@ -271,10 +269,10 @@ answer_fixed Differ ts next f few e new = holds_fixed f (is_none (unifier ((term
 answer_fixed (TypeGoal test) ts next f few e new = holds_fixed f (type_test test (term_at 0 ts))
 answer_fixed (Order test) ts next f few e new = holds_fixed f (order_test test (order (term_at 0 ts) (term_at 1 ts)))
 answer_fixed Compare ts next f few e new = compare_fixed f (term_at 0 ts) (term_at 1 ts) (term_at 2 ts) (term_fixed f 0 ts (omega arith) e)
-answer_fixed Is ts next f few e new = value_fixed f (value_of (term_at 1 ts)) (λ z. equal (term_at 0 ts) (IntTerm z)) (λ z. equal_fixed f (term_at 0 ts) (IntTerm z) (term_fixed f 0 ts (omega arith) e) refl)
+answer_fixed Is ts next f few e new = value_fixed f (expression_value (term_at 1 ts)) (λ z. equal (term_at 0 ts) (IntTerm z)) (λ z. equal_fixed f (term_at 0 ts) (IntTerm z) (term_fixed f 0 ts (omega arith) e) refl)
 answer_fixed (Value test) ts next f few e new =
-    value_fixed f (value_of (term_at 0 ts)) (λ y. with_value (value_of (term_at 1 ts)) (λ z. holds_if (value_test test y z)))
-    (λ y. value_fixed f (value_of (term_at 1 ts)) (λ z. holds_if (value_test test y z)) (λ z. holds_fixed f (value_test test y z)))
+    value_fixed f (expression_value (term_at 0 ts)) (λ y. with_value (expression_value (term_at 1 ts)) (λ z. holds_if (value_test test y z)))
+    (λ y. value_fixed f (expression_value (term_at 1 ts)) (λ z. holds_if (value_test test y z)) (λ z. holds_fixed f (value_test test y z)))
 answer_fixed Functor ts next f few e new = functor_fixed f next (term_at 0 ts) (term_at 1 ts) (term_at 2 ts) new (term_fixed f 0 ts (omega arith) e) (term_fixed f 1 ts (omega arith) e) (term_fixed f 2 ts (omega arith) e)
 answer_fixed Argument ts next f few e new = argument_fixed f (term_at 0 ts) (term_at 1 ts) (term_at 2 ts) (term_fixed f 1 ts (omega arith) e) (term_fixed f 2 ts (omega arith) e)
 answer_fixed Parts ts next f few e new = parts_fixed f (term_at 0 ts) (term_at 1 ts) (term_fixed f 0 ts (omega arith) e) (term_fixed f 1 ts (omega arith) e)

@@ -14,8 +14,9 @@ use Rattle.token_scan.specs.NextToken.{kind_of, word_of, IsNextToken, IsTokenFau
 use Rattle.token_scan.specs.declared.token.Token.{Token}
 use Rattle.token_scan.specs.declared.token.BadToken.{BadToken}
 use Rattle.token_scan.specs.declared.token.TokenKind.TheVariants.{Name, Integer}
-use Rattle.run_model.specs.Goals.NumberTexts.{last_integer, without_sign, negated, number_behind_sign, number_read}
+use Rattle.run_model.specs.Goals.NumberTexts.{last_integer, without_sign, negated_number, number_behind_sign, number_read}
 use Rattle.std_builtins.specs.Texts.{number_behind}
+use Rattle.token_scan.proofs.WordLemmas.{next_word-found as found}
 
 pub last_found : (w : Word) (rest : List ℕ) → kind_of w ≡ Integer → rest ≡ [] → Some (word_number w) ≡ last_integer w rest
 last_found (NameWord cs) rest h e = absurd cc
@@ -46,9 +47,6 @@ chars_more text at u lt e =
     let none : drop at text ≡ [] = sym (encodes-chars (drop at text) u) ∙ ap encodes e in
     let n : length (drop at text) ≡ 0 = ap length none in
     omega (arith, lists.length-drop at text)
-
-pub found : (text : List ℕ) (at : ℕ) (t : Token) → IsNextToken text at t → next_word (chars_from text at) ≡ FoundWord (word_of text t) (chars_from text t.end)
-found text at t h = ap word_after h.layout ∙ h.token.word
 
 -- what is found, through an equation
 pub as_found : (r o p : Option ℤ) → o ≡ p → MatchOption r (o ≡ None) (λ z. o ≡ Some z) → MatchOption r (p ≡ None) (λ z. p ≡ Some z)
@@ -84,7 +82,7 @@ other_read (MarkWord c) rest h = refl
 other_read StopWord rest h = refl
 other_read LastWord rest h = refl
 
-pub behind_read : (cs : List ℕ) (w : Word) (rest : List ℕ) → begins_layout cs ≡ false → next_word cs ≡ FoundWord w rest → option_map negated (last_integer w rest) ≡ number_behind cs
+pub behind_read : (cs : List ℕ) (w : Word) (rest : List ℕ) → begins_layout cs ≡ false → next_word cs ≡ FoundWord w rest → option_map negated_number (last_integer w rest) ≡ number_behind cs
 behind_read cs w rest apart is = rw apart (ap number_behind_sign (sym is))
 
 pub behind_layout : (cs : List ℕ) → begins_layout cs ≡ true → number_behind cs ≡ None

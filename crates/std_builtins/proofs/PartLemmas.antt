@@ -84,12 +84,7 @@ compound_made t (AtomTerm a) made f ts r top most e h =
     subst (λ b. IsAnswer b r) (sym is) (subst (λ g. IsAnswer (equal t (Compound g (terms_from ts))) r) (sym same) (subst (λ u. IsAnswer (equal t u) r) e h))
 compound_made t (Compound g us) made f ts r top most e h = absurd cc
 
--- lists
-both : (a b : Bool) → (a && b) ≡ true → (a ≡ true) × (b ≡ true)
-both true b h = (refl, h)
-both false b h = absurd cc
-
-no_two : (n : ℕ) → (suc (suc (suc n)) == 2) ≡ false
+pub no_two : (n : ℕ) → (suc (suc (suc n)) == 2) ≡ false
 no_two n = grind (arith, nat_tests)
 
 pub pair_opened : (t : Term) → opens_pair (top_of t) ≡ true → (argument_count t ≡ 2) × (list_form t ≡ item_before (argument 0 t) (list_form (argument 1 t))) × (size (argument 1 t) < size t)
@@ -129,12 +124,6 @@ list_ended (Compound f (more a (more b (more c us)))) ts h = no_items ts
 pub items_before-push : (ts : List Term) (t : Term) (f : ListForm) → items_before (ts ++ t ∷ []) f ≡ items_before ts (item_before t f)
 items_before-push [] t f = refl
 items_before-push (u ∷ ts) t f = ap (item_before u) (items_before-push ts t f)
-
-pub some_cells : (t : Term) → 0 < length (cells_of t)
-some_cells (VarTerm n) = omega arith
-some_cells (IntTerm z) = omega arith
-some_cells (AtomTerm a) = omega arith
-some_cells (Compound f ts) = omega arith
 
 pub parts_built : (t l : Term) (n : ℕ) (r : Result (Vec Solution Global) BuiltinRefusal) → top_of t ≡ VarCell n → IsAnswer (built_from t l (list_form l)) r → IsAnswer (parts_answer t l) r
 parts_built (VarTerm m) l n r top h = h

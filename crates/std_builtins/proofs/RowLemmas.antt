@@ -11,14 +11,11 @@ use Rattle.run_model.specs.Goals.Builtins.{builtins}
 use Rattle.std_builtins.specs.Meanings.{answer_of, arguments_of}
 use Rattle.std_builtins.specs.Rows.{Row, is_row, builtin_in, IsRowOf}
 use Rattle.std_builtins.specs.declared.table.Builtin.{Builtin}
+use Rattle.au_term.proofs.LogicLemmas.{both}
 
 -- the definition's row of one of the code's
 abbrev pub defined : Row → Construct
 defined row = predicate row.0 row.1 (answer_of row.2)
-
-both : (a b : Bool) → (a && b) ≡ true → (a ≡ true) × (b ≡ true)
-both true b h = (refl, h)
-both false b h = absurd cc
 
 -- what is found in the definition's rows
 IsFoundIn : List Construct → List ℕ → ℕ → Option Builtin → Type 0

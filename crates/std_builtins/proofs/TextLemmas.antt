@@ -13,8 +13,8 @@ use Rattle.au_model.specs.Terms.ErrorTerms.{instantiation_error, type_error}
 use Rattle.run_model.specs.Goals.BuiltinAnswers.{Answer, equal}
 use Rattle.run_model.specs.Goals.ListForms.{ListForm, ProperList, PartialList, NoList, list_form}
 use Rattle.run_model.specs.Goals.TermTests.{is_integer}
-use Rattle.run_model.specs.Goals.AtomGoals.{with_each, is_bound, is_open_integer, item_for, is_character_code, no_code, with_counts, atom_length_answer, code_of, coded_answer, with_list, with_text, spelling_answer, Spelling, ByCharacters, ByCodes}
-use Rattle.run_model.specs.Goals.NumberTexts.{number_of, numbered_answer, written_answer, number_text}
+use Rattle.run_model.specs.Goals.AtomGoals.{with_each, is_bound, is_open_integer, item_for, is_character_code, no_code, with_counts, atom_length_answer, code_of, coded_answer, with_list, with_text, spelling_answer, CharacterList, ByCharacters, ByCodes}
+use Rattle.run_model.specs.Goals.NumberTexts.{number_in_text, numbered_answer, written_answer, number_text}
 use Rattle.std_builtins.specs.Answers.{IsAnswer}
 use Rattle.std_builtins.specs.Characters.{IsCharacterOf}
 use Rattle.std_builtins.specs.Checks.{IsPassed}
@@ -111,14 +111,14 @@ characters_read ts answer s h = items_answer Characters ts answer (with_text ByC
 pub codes_read : (ts : List Term) (answer : List ℕ → Answer) (s : Result (String Global) BuiltinRefusal) → ((a : Answer) → with_each is_integer (type_error (codes "integer")) ts a ≡ a) → AreItemsRead Codes ts s → IsTextOfItems (with_text ByCodes ts answer) answer s
 codes_read ts answer s integers h = items_answer Codes ts answer (with_text ByCodes ts answer) s (integers (with_each is_character_code (λ t. no_code) ts (answer (map code_of ts)))) h
 
-pub variable_spelled : (t l : Term) (n : ℕ) (by : Spelling) (r : Result (Vec Solution Global) BuiltinRefusal) → top_of t ≡ VarCell n → IsAnswer (with_list l (list_form l) (λ ts. with_text by ts (λ cs. equal t (AtomTerm cs)))) r → IsAnswer (spelling_answer by t l) r
+pub variable_spelled : (t l : Term) (n : ℕ) (by : CharacterList) (r : Result (Vec Solution Global) BuiltinRefusal) → top_of t ≡ VarCell n → IsAnswer (with_list l (list_form l) (λ ts. with_text by ts (λ cs. equal t (AtomTerm cs)))) r → IsAnswer (spelling_answer by t l) r
 variable_spelled (VarTerm m) l n by r h k = k
 variable_spelled (IntTerm z) l n by r h k = absurd cc
 variable_spelled (AtomTerm a) l n by r h k = absurd cc
 variable_spelled (Compound f ts) l n by r h k = absurd cc
 
 -- texts of numbers
-pub integer_written : (by : Spelling) (n l : Term) (form : ListForm) (z : ℤ) (x made : Term) (text : List ℕ) (r : Result (Vec Solution Global) BuiltinRefusal) → n ≡ IntTerm z → (form ≡ NoList → ⊥) → chars text ≡ signed_decimal z → made ≡ list_term (map (item_for by) (chars text)) → x ≡ l → IsAnswer (equal x made) r
+pub integer_written : (by : CharacterList) (n l : Term) (form : ListForm) (z : ℤ) (x made : Term) (text : List ℕ) (r : Result (Vec Solution Global) BuiltinRefusal) → n ≡ IntTerm z → (form ≡ NoList → ⊥) → chars text ≡ signed_decimal z → made ≡ list_term (map (item_for by) (chars text)) → x ≡ l → IsAnswer (equal x made) r
     → IsAnswer (written_answer by n l form) r
 integer_written by n l form z x made text r is some e m same k =
     let all : written_answer by n l form ≡ equal l made = ap (λ t. written_answer by t l form) is ∙ (any form some ∙ ap (equal l) (sym (m ∙ ap (λ cs. list_term (map (item_for by) cs)) e))) in
@@ -132,12 +132,12 @@ integer_written by n l form z x made text r is some e m same k =
 pub open_number : (n : Term) (a : Answer) (r : Result (Vec Solution Global) BuiltinRefusal) → is_open_integer n ≡ true → IsAnswer a r → IsAnswer (with_each is_open_integer (type_error (codes "integer")) (n ∷ []) a) r
 open_number n a r h k = rw h k
 
-pub number_is_read : (by : Spelling) (n l : Term) (ts items : List Term) (f : ListForm) (b : Bool) (r : Result (Vec Solution Global) BuiltinRefusal) → f ≡ ProperList items → ts ≡ items → b ≡ list_all is_bound ts → b ≡ true → IsAnswer (with_text by ts (λ cs. numbered_answer n (number_of cs))) r → IsAnswer (number_text by n l f) r
+pub number_is_read : (by : CharacterList) (n l : Term) (ts items : List Term) (f : ListForm) (b : Bool) (r : Result (Vec Solution Global) BuiltinRefusal) → f ≡ ProperList items → ts ≡ items → b ≡ list_all is_bound ts → b ≡ true → IsAnswer (with_text by ts (λ cs. numbered_answer n (number_in_text cs))) r → IsAnswer (number_text by n l f) r
 number_is_read by n l ts items f b r is read all passes k =
     let bound : list_all is_bound items ≡ true = ap (list_all is_bound) (sym read) ∙ (sym all ∙ passes) in
-    subst (λ g. IsAnswer (number_text by n l g) r) (sym is) (rw bound (subst (λ us. IsAnswer (with_text by us (λ cs. numbered_answer n (number_of cs))) r) read k))
+    subst (λ g. IsAnswer (number_text by n l g) r) (sym is) (rw bound (subst (λ us. IsAnswer (with_text by us (λ cs. numbered_answer n (number_in_text cs))) r) read k))
 
-pub number_is_written : (by : Spelling) (n l : Term) (ts items : List Term) (f : ListForm) (b : Bool) (r : Result (Vec Solution Global) BuiltinRefusal) → f ≡ ProperList items → ts ≡ items → b ≡ list_all is_bound ts → b ≡ false → ((g : ListForm) → (g ≡ NoList → ⊥) → IsAnswer (written_answer by n l g) r) → IsAnswer (number_text by n l f) r
+pub number_is_written : (by : CharacterList) (n l : Term) (ts items : List Term) (f : ListForm) (b : Bool) (r : Result (Vec Solution Global) BuiltinRefusal) → f ≡ ProperList items → ts ≡ items → b ≡ list_all is_bound ts → b ≡ false → ((g : ListForm) → (g ≡ NoList → ⊥) → IsAnswer (written_answer by n l g) r) → IsAnswer (number_text by n l f) r
 number_is_written by n l ts items f b r is read all fails k =
     let some : list_all is_bound items ≡ false = ap (list_all is_bound) (sym read) ∙ (sym all ∙ fails) in
     subst (λ g. IsAnswer (number_text by n l g) r) (sym is) (rw some (k (ProperList items) (λ e. absurd cc)))

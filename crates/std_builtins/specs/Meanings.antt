@@ -10,7 +10,7 @@ use Rattle.run_model.specs.Goals.StandardOrder.{order}
 use Rattle.run_model.specs.Goals.TermTests.{is_variable, is_integer, is_atom, is_compound, is_atomic, is_ground, compare_answer}
 use Rattle.run_model.specs.Goals.TermParts.{functor_answer, argument_answer, parts_answer, copy_answer}
 use Rattle.run_model.specs.Goals.UnificationGoals.{apart_answer}
-use Rattle.run_model.specs.Goals.AtomGoals.{Spelling, ByCharacters, ByCodes, atom_length_answer, char_code_answer, spelling_answer}
+use Rattle.run_model.specs.Goals.AtomGoals.{CharacterList, ByCharacters, ByCodes, atom_length_answer, char_code_answer, spelling_answer}
 use Rattle.run_model.specs.Goals.NumberTexts.{number_text_answer}
 use Rattle.run_model.specs.Goals.Sorting.{sort_answer, keysort_answer}
 use Rattle.std_builtins.specs.declared.type_tests.TypeTest.{TypeTest}
@@ -50,7 +50,7 @@ value_test sign.AtMost y z = int_le y z
 value_test sign.Greater y z = int_lt z y
 value_test sign.AtLeast y z = int_le z y
 
-abbrev pub spelling_meant : SpellingCode → Spelling
+abbrev pub spelling_meant : SpellingCode → CharacterList
 spelling_meant by.Characters = ByCharacters
 spelling_meant by.Codes = ByCodes
 

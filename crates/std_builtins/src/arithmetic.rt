@@ -1,6 +1,6 @@
 //! Goals that evaluate (ISO/IEC 13211-1, 8.6 and 8.7).
 ghost use Rattle.run_model.specs.Goals.ArithmeticGoals.{is_answer, comparison_answer, with_value};
-ghost use Rattle.run_model.specs.Goals.Arithmetic.{value_of};
+ghost use Rattle.run_model.specs.Goals.Arithmetic.{expression_value};
 ghost use Rattle.run_model.specs.Goals.BuiltinAnswers.{holds_if};
 ghost use Rattle.std_builtins.specs.Answers.{IsAnswer};
 ghost use Rattle.std_builtins.specs.Meanings.{value_test};
@@ -50,7 +50,7 @@ fn compared_to(
     left: i64,
     right: &FlatTerm,
 ) -> Result<Vec<Solution>, BuiltinRefusal>
-    ensures { IsAnswer (with_value (value_of right.now) (λ z. holds_if (value_test comparison left z))) result }
+    ensures { IsAnswer (with_value (expression_value right.now) (λ z. holds_if (value_test comparison left z))) result }
 {
     match eval(alloc, right) {
         Ok(value) => holds_if(alloc, comparison.holds(left, value)),

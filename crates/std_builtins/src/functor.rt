@@ -9,7 +9,7 @@ use crate::answer::{BuiltinRefusal, Solution, both_equal, equal, equal_with, fai
 use crate::integers::integer;
 use au_model::build::single;
 use au_model::{DomainName, Fault, LimitName, TypeName};
-use au_term::{Atom, Cell, FlatTerm, NoMemory, TermBuilder, VarNo};
+use au_term::{Atom, Cell, FlatTerm, MAX_ARITY, NoMemory, TermBuilder, VarNo};
 use std::alloc::Global;
 
 /// What `functor(T, Name, Arity)` answers.
@@ -85,7 +85,7 @@ fn functor_of_count(
         let culprit = integer(alloc, count)?;
         return failed(Fault::Domain(DomainName::NotLessThanZero, culprit));
     }
-    if count > 65_535 {
+    if count > MAX_ARITY as i64 {
         return failed(Fault::Representation(LimitName::MaxArity));
     }
     made_term(alloc, term, name, count as u32, next)

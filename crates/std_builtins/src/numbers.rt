@@ -5,12 +5,12 @@ ghost use Rattle.std.specs.Str.{chars};
 ghost use Rattle.au_model.specs.Syntax.Characters.{chars_from};
 ghost use Rattle.token_scan.specs.NextToken.{word_of, IsToken};
 ghost use Rattle.run_model.specs.Goals.ListForms.{ListForm as ListFormTerms, NoList};
-ghost use Rattle.run_model.specs.Goals.AtomGoals.{Spelling as SpellingTerms, is_bound, with_text};
-ghost use Rattle.run_model.specs.Goals.NumberTexts.{last_integer, without_sign, negated, number_of, number_read, numbered_answer, written_answer, number_text, number_text_answer};
+ghost use Rattle.run_model.specs.Goals.AtomGoals.{CharacterList as SpellingTerms, is_bound, with_text};
+ghost use Rattle.run_model.specs.Goals.NumberTexts.{last_integer, without_sign, negated_number, number_in_text, number_read, numbered_answer, written_answer, number_text, number_text_answer};
 ghost use Rattle.std_builtins.specs.Answers.{IsAnswer};
 ghost use Rattle.std_builtins.specs.Lists.{IsForm};
 ghost use Rattle.std_builtins.specs.Meanings.{spelling_meant};
-ghost use Rattle.std_builtins.specs.Texts.{number_behind};
+ghost use Rattle.std_builtins.specs.Texts.{number_behind, IsNumberRead};
 
 use crate::answer::{BuiltinRefusal, Solution, equal, failed};
 use crate::checks::Check;
@@ -49,9 +49,9 @@ fn without_sign(number: u64) -> Option<i64>
 }
 
 /// The integer of a number behind a sign.
-fn negated(number: u64) -> i64
+fn negated_number(number: u64) -> i64
     requires { number ≤ 2 ^ 63 }
-    ensures { result ≡ negated number }
+    ensures { result ≡ negated_number number }
 {
     if number == 0 {
         return 0;
@@ -71,7 +71,7 @@ fn behind_sign(text: &str, sign: &Token) -> Option<i64>
         return None;
     }
     match last_integer(text, &second) {
-        Some(number) => Some(negated(number)),
+        Some(number) => Some(negated_number(number)),
         None => None,
     }
 }
@@ -80,7 +80,7 @@ fn behind_sign(text: &str, sign: &Token) -> Option<i64>
 fn signed(text: &str, name: &Token) -> Option<i64>
     requires token { IsToken text.now name.now }
     requires name { name.now.kind ≡ TokenKind.Name }
-    ensures { MatchOption result (number_read (word_of text.now name.now) (chars_from text.now name.now.end) ≡ None) (λ z. number_read (word_of text.now name.now) (chars_from text.now name.now.end) ≡ Some z) }
+    ensures { IsNumberRead text.now name.now result }
 {
     if is_text(spelling(text, name), "-") {
         behind_sign(text, name)
@@ -90,8 +90,8 @@ fn signed(text: &str, name: &Token) -> Option<i64>
 }
 
 /// The integer whose text this is, if there is one.
-fn number_of(text: &str) -> Option<i64>
-    ensures { MatchOption result (number_of (chars text.now) ≡ None) (λ z. number_of (chars text.now) ≡ Some z) }
+fn number_in_text(text: &str) -> Option<i64>
+    ensures { MatchOption result (number_in_text (chars text.now) ≡ None) (λ z. number_in_text (chars text.now) ≡ Some z) }
 {
     let Ok(first) = next_token(text, 0) else {
         return None;
@@ -158,10 +158,10 @@ fn number_of_items(
     number: &FlatTerm,
     items: &[FlatTerm],
 ) -> Result<Vec<Solution>, BuiltinRefusal>
-    ensures { IsAnswer (with_text (spelling_meant by) items.now (λ cs. numbered_answer number.now (number_of cs))) result }
+    ensures { IsAnswer (with_text (spelling_meant by) items.now (λ cs. numbered_answer number.now (number_in_text cs))) result }
 {
     let text = text_of_items(alloc, by, items)?;
-    match number_of(text.as_str()) {
+    match number_in_text(text.as_str()) {
         Some(value) => equal(alloc, number.copy()?, integer(alloc, value)?),
         None => failed(Fault::Syntax),
     }

@@ -11,7 +11,7 @@ use crate::lists::{ListForm, list_form};
 use au_model::build::{atom, compound_of, list_of, single};
 use au_model::copies::copy_term;
 use au_model::{DomainName, Fault, LimitName, TypeName};
-use au_term::{Cell, FlatTerm, NoMemory, VarNo};
+use au_term::{Cell, FlatTerm, MAX_ARITY, NoMemory, VarNo};
 use std::alloc::Global;
 
 /// What `T =.. L` answers.
@@ -131,7 +131,7 @@ fn compound_part(
 {
     match name.top() {
         Cell::Atom(functor) => {
-            if arguments.len() > 65_535 {
+            if arguments.len() > MAX_ARITY as usize {
                 return failed(Fault::Representation(LimitName::MaxArity));
             }
             let made = compound_of(alloc, functor.share()?, arguments)?;

@@ -38,7 +38,7 @@ name (Functor f n) = f
 abbrev by_parts : Cell → Cell → Ordering
 by_parts = then_cmp (on kind nat_cmp) (then_cmp (on number nat_cmp) (then_cmp (on integer int_cmp) (on name (slice_cmp nat_cmp))))
 
-then_equal : (o : Ordering) → ordering_then o Equal ≡ o
+pub then_equal : (o : Ordering) → ordering_then o Equal ≡ o
 then_equal Less = refl
 then_equal Equal = refl
 then_equal Greater = refl

@@ -11,7 +11,7 @@ use Rattle.au_term.specs.PrefixOrder.{cells_of, all_cells, term_of, term_of-cell
 use Rattle.au_term.specs.declared.cell.Cell.{Cell}
 use Rattle.run_model.specs.Goals.StandardOrder.{order, order_all, IsOrderOfTerms}
 use Rattle.term_order.specs.Cells.{cell_order}
-use Rattle.term_order.proofs.CellOrder.{cells_total, same_cells, same_number}
+use Rattle.term_order.proofs.CellOrder.{cells_total, same_cells, same_number, then_equal}
 
 then_assoc : (o p q : Ordering) → ordering_then (ordering_then o p) q ≡ ordering_then o (ordering_then p q)
 then_assoc Less p q = refl
@@ -56,11 +56,6 @@ mutual
       ap₂ (slice_cmp cell_order) (append_assoc (cells_of t) (all_cells ts) cs) (append_assoc (cells_of u) (all_cells us) ds)
       ∙ (cells_decide t u (all_cells ts ++ cs) (all_cells us ++ ds)
       ∙ (ap (ordering_then (order t u)) (all_decide ts us cs ds (omega (arith, e))) ∙ sym (then_assoc (order t u) (order_all ts us) (slice_cmp cell_order cs ds))))
-
-then_equal : (o : Ordering) → ordering_then o Equal ≡ o
-then_equal Less = refl
-then_equal Equal = refl
-then_equal Greater = refl
 
 pub order_of_cells : (t u : Term) → slice_cmp cell_order (cells_of t) (cells_of u) ≡ order t u
 order_of_cells t u = ap₂ (slice_cmp cell_order) (sym (append-nil (cells_of t))) (sym (append-nil (cells_of u))) ∙ (cells_decide t u [] [] ∙ then_equal (order t u))

@@ -2,7 +2,7 @@
 ghost use Rattle.std.specs.Prelude.{◌≡◌, OnOk};
 ghost use Rattle.au_term.specs.PrefixOrder.{cells_of};
 ghost use Rattle.run_model.specs.Goals.StandardOrder.{order};
-ghost use Rattle.run_model.specs.Goals.Sorting.{sorted_by, sorted_terms, is_before, is_key_before, key_of_pair};
+ghost use Rattle.run_model.specs.Goals.Sorting.{sorted_by, sorted_terms, precedes, is_key_before, key_of_pair};
 
 use crate::comparison::{compare, compare_all};
 use au_term::{Cell, FlatTerm, NoMemory};
@@ -19,7 +19,7 @@ pub fn sort_unique(terms: &mut Vec<FlatTerm>) -> Result<(), NoMemory>
 
 /// Sorts terms in the standard order.
 fn sort_terms(terms: &mut Vec<FlatTerm>) -> Result<(), NoMemory>
-    ensures { OnOk result (terms.new.items ≡ sorted_by is_before terms.old.items) }
+    ensures { OnOk result (terms.new.items ≡ sorted_by precedes terms.old.items) }
 {
     terms.sort_by(|left, right| compare(left, right))?;
     Ok(())

@@ -121,10 +121,10 @@ binary_value name None x y = not_evaluable name 2
 
 -- The value of an expression. What is no evaluable is refused before its arguments are evaluated, these are evaluated
 -- from the left, and the function comes last (7.9.2).
-abbrev pub value_of : Term → Evaluated
-value_of (VarTerm n) = Err instantiation_error
-value_of (IntTerm z) = Ok z
-value_of (AtomTerm a) = not_evaluable a 0
-value_of (Compound f (more a end)) = unary_value f (unary_function f) (value_of a)
-value_of (Compound f (more a (more b end))) = binary_value f (binary_function f) (value_of a) (value_of b)
-value_of (Compound f ts) = not_evaluable f (count ts)
+abbrev pub expression_value : Term → Evaluated
+expression_value (VarTerm n) = Err instantiation_error
+expression_value (IntTerm z) = Ok z
+expression_value (AtomTerm a) = not_evaluable a 0
+expression_value (Compound f (more a end)) = unary_value f (unary_function f) (expression_value a)
+expression_value (Compound f (more a (more b end))) = binary_value f (binary_function f) (expression_value a) (expression_value b)
+expression_value (Compound f ts) = not_evaluable f (count ts)

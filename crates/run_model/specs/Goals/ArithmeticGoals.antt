@@ -4,7 +4,7 @@ use Rattle.std.specs.Ordering.{int_eq}
 use Rattle.au_term.specs.Term.{Term, IntTerm, term_at}
 use Rattle.run_model.specs.Goals.Control.{Construct}
 use Rattle.run_model.specs.Goals.BuiltinAnswers.{Answer, equal, holds_if, predicate}
-use Rattle.run_model.specs.Goals.Arithmetic.{Evaluated, value_of}
+use Rattle.run_model.specs.Goals.Arithmetic.{Evaluated, expression_value}
 
 -- the answer for a value, or the error of having none
 abbrev pub with_value : Evaluated → (ℤ → Answer) → Answer
@@ -13,11 +13,11 @@ with_value (Err e) answer = Err e
 
 -- X is E
 abbrev pub is_answer : Term → Term → Answer
-is_answer x e = with_value (value_of e) (λ z. equal x (IntTerm z))
+is_answer x e = with_value (expression_value e) (λ z. equal x (IntTerm z))
 
 -- the left expression first
 abbrev pub comparison_answer : (ℤ → ℤ → Bool) → Term → Term → Answer
-comparison_answer test a b = with_value (value_of a) (λ y. with_value (value_of b) (λ z. holds_if (test y z)))
+comparison_answer test a b = with_value (expression_value a) (λ y. with_value (expression_value b) (λ z. holds_if (test y z)))
 
 abbrev pub comparison : List ℕ → (ℤ → ℤ → Bool) → Construct
 comparison name test = predicate name 2 (λ ts next. comparison_answer test (term_at 0 ts) (term_at 1 ts))

@@ -52,11 +52,11 @@ atom_length_answer (AtomTerm a) n = with_counts (n ∷ []) (equal n (IntTerm (po
 atom_length_answer t n = Err (type_error (codes "atom") t)
 
 -- a text as a list: by its characters, or by their codes
-pub data Spelling : Type 0 where
-  ByCharacters : Spelling
-  ByCodes : Spelling
+pub data CharacterList : Type 0 where
+  ByCharacters : CharacterList
+  ByCodes : CharacterList
 
-abbrev pub item_for : Spelling → ℕ → Term
+abbrev pub item_for : CharacterList → ℕ → Term
 item_for ByCharacters c = AtomTerm (c ∷ [])
 item_for ByCodes c = IntTerm (pos c)
 
@@ -86,12 +86,12 @@ with_list l NoList answer = Err (type_error (codes "list") l)
 with_list l (ProperList ts) answer = with_each is_bound (λ t. instantiation_error) ts (answer ts)
 
 -- the text of characters or codes
-abbrev pub with_text : Spelling → List Term → (List ℕ → Answer) → Answer
+abbrev pub with_text : CharacterList → List Term → (List ℕ → Answer) → Answer
 with_text ByCharacters ts answer = with_each is_character (type_error (codes "character")) ts (answer (map code_of ts))
 with_text ByCodes ts answer = with_each is_integer (type_error (codes "integer")) ts (with_each is_character_code (λ t. no_code) ts (answer (map code_of ts)))
 
 -- atom_chars(A, L) and atom_codes(A, L) (8.16.4 and 8.16.5)
-abbrev pub spelling_answer : Spelling → Term → Term → Answer
+abbrev pub spelling_answer : CharacterList → Term → Term → Answer
 spelling_answer by (VarTerm n) l = with_list l (list_form l) (λ ts. with_text by ts (λ cs. equal (VarTerm n) (AtomTerm cs)))
 spelling_answer by (AtomTerm a) l = equal l (list_term (map (item_for by) a))
 spelling_answer by t l = Err (type_error (codes "atom") t)

@@ -11,7 +11,7 @@ use Rattle.au_model.specs.Terms.ErrorTerms.{instantiation_error, type_error, syn
 use Rattle.run_model.specs.Goals.Control.{Construct}
 use Rattle.run_model.specs.Goals.BuiltinAnswers.{Answer, equal, predicate}
 use Rattle.run_model.specs.Goals.ListForms.{ListForm, ProperList, NoList, list_form}
-use Rattle.run_model.specs.Goals.AtomGoals.{with_each, is_bound, is_open_integer, Spelling, ByCharacters, ByCodes, item_for, with_text}
+use Rattle.run_model.specs.Goals.AtomGoals.{with_each, is_bound, is_open_integer, CharacterList, ByCharacters, ByCodes, item_for, with_text}
 
 -- an integer with nothing behind it
 abbrev pub last_integer : Word → List ℕ → Option ℕ
@@ -22,13 +22,13 @@ last_integer w rest = None
 abbrev pub without_sign : ℕ → Option ℤ
 without_sign n = if nat_lt n (2 ^ 63) then Some (pos n) else None
 
-abbrev pub negated : ℕ → ℤ
-negated zero = pos 0
-negated (suc n) = negsuc n
+abbrev pub negated_number : ℕ → ℤ
+negated_number zero = pos 0
+negated_number (suc n) = negsuc n
 
 -- digits directly behind a sign
 abbrev pub number_behind_sign : Lexed → Option ℤ
-number_behind_sign (FoundWord w rest) = option_map negated (last_integer w rest)
+number_behind_sign (FoundWord w rest) = option_map negated_number (last_integer w rest)
 number_behind_sign (FoundFault k from) = None
 
 abbrev pub number_read : Word → List ℕ → Option ℤ
@@ -40,26 +40,26 @@ number_found (FoundWord w rest) = number_read w rest
 number_found (FoundFault k from) = None
 
 -- the number whose text this is
-abbrev pub number_of : List ℕ → Option ℤ
-number_of cs = number_found (next_word cs)
+abbrev pub number_in_text : List ℕ → Option ℤ
+number_in_text cs = number_found (next_word cs)
 
 abbrev pub numbered_answer : Term → Option ℤ → Answer
 numbered_answer n (Some z) = equal n (IntTerm z)
 numbered_answer n None = Err (syntax_error (codes "illegal_number"))
 
 -- the list of an integer's text
-abbrev pub written_answer : Spelling → Term → Term → ListForm → Answer
+abbrev pub written_answer : CharacterList → Term → Term → ListForm → Answer
 written_answer by (IntTerm z) l NoList = Err (type_error (codes "list") l)
 written_answer by (IntTerm z) l form = equal l (list_term (map (item_for by) (signed_decimal z)))
 written_answer by n l form = Err instantiation_error
 
 -- a list without variable items is read; in place of any other the text is written
-abbrev pub number_text : Spelling → Term → Term → ListForm → Answer
-number_text by n l (ProperList ts) = if list_all is_bound ts then with_text by ts (λ cs. numbered_answer n (number_of cs)) else written_answer by n l (ProperList ts)
+abbrev pub number_text : CharacterList → Term → Term → ListForm → Answer
+number_text by n l (ProperList ts) = if list_all is_bound ts then with_text by ts (λ cs. numbered_answer n (number_in_text cs)) else written_answer by n l (ProperList ts)
 number_text by n l form = written_answer by n l form
 
 -- number_chars(N, L) and number_codes(N, L)
-abbrev pub number_text_answer : Spelling → Term → Term → Answer
+abbrev pub number_text_answer : CharacterList → Term → Term → Answer
 number_text_answer by n l = with_each is_open_integer (type_error (codes "integer")) (n ∷ []) (number_text by n l (list_form l))
 
 abbrev pub number_goals : List Construct

@@ -22,15 +22,15 @@ abbrev pub sorted_by : (Term → Term → Bool) → List Term → List Term
 sorted_by less [] = []
 sorted_by less (t ∷ ts) = insert_by less t (sorted_by less ts)
 
-abbrev pub is_before : Term → Term → Bool
-is_before t u = is_lt (order t u)
+abbrev pub precedes : Term → Term → Bool
+precedes t u = is_lt (order t u)
 
 abbrev pub is_same : Term → Term → Bool
 is_same t u = is_eq (order t u)
 
 -- in the standard order, each term once
 abbrev pub sorted_terms : List Term → List Term
-sorted_terms ts = dedup is_same (sorted_by is_before ts)
+sorted_terms ts = dedup is_same (sorted_by precedes ts)
 
 -- a pair is K-V
 abbrev pub is_pair_term : Term → Bool
@@ -43,7 +43,7 @@ key_of_pair (Compound f (more k ts)) = k
 key_of_pair t = t
 
 abbrev pub is_key_before : Term → Term → Bool
-is_key_before t u = is_before (key_of_pair t) (key_of_pair u)
+is_key_before t u = precedes (key_of_pair t) (key_of_pair u)
 
 abbrev pub no_pair : Term → Term
 no_pair t = if is_variable t then instantiation_error else type_error (codes "pair") t

@@ -3,8 +3,9 @@ use Rattle.au_term.specs.PrefixOrder.{subterm, term_of, term_of-cells_of}
 use Rattle.run_model.specs.Goals.ListForms.{list_form, item_before}
 use Rattle.au_model.specs.Terms.Unifier.{size}
 use Rattle.std_builtins.specs.Lists.{IsForm, opens_pair, ends_list, items_before}
-use Rattle.std_builtins.proofs.PartLemmas.{pair_opened, list_ended, items_before-push, some_cells}
+use Rattle.std_builtins.proofs.PartLemmas.{pair_opened, list_ended, items_before-push}
 use Rattle.std_builtins.proofs.lists.list_form.Goals as goal
+use Rattle.au_term.proofs.SubtermLemmas.{some_cell as some_cells}
 
 pub items-init : goal.items-init
 items-init c = record { within = some_cells c.args.term.now; same = ap₂ items_before c.new-items.ensures.items (ap list_form (term_of-cells_of c.args.term.now)) }
