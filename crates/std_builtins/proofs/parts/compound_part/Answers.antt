@@ -8,6 +8,6 @@ use Rattle.std_builtins.proofs.parts.compound_part.Goals as goal
 
 pub returns-in_ok-copy-in-Atom : goal.returns-in_ok-copy-in-Atom
 returns-in_ok-copy-in-Atom c =
-    let most = c.if-arguments-gt65535.false in
+    let most = c.if-arguments.false in
     compound_made c.args.term.now c.args.name.now c.in_ok-made-in-Atom.made c.in-Atom.functor c.args.arguments.now c.equal.result (sym c.top.ensures ∙ c.in-Atom.is) (omega arith) (c.in_ok-made-in-Atom.ensures ∙ ap (λ f. Compound f (terms_from c.args.arguments.now)) c.in_ok-share-in-Atom.ensures)
     (subst (λ t. IsAnswer (equal t c.in_ok-made-in-Atom.made) c.equal.result) c.in_ok-copy-in-Atom.ensures c.equal.ensures)
