@@ -4,7 +4,7 @@ use Rattle.std.specs.Prelude.{reverse}
 use Rattle.std.proofs.lemmas.List.{reverse-append, length-reverse, length-map, take-append-drop, drop-map}
 use Rattle.std.proofs.Math.Seq.{drop-append_seam}
 use Rattle.au_term.specs.Term.{Term, Compound, Terms, end, more, count, first_of, take_terms, drop_terms}
-use Rattle.au_term.specs.PrefixOrder.{with_cell, arity, cells_of, terms_of, term_of, term_of-cells_of, IsTerm, IsForest}
+use Rattle.au_term.specs.PrefixOrder.{with_cell, arity, cells_of, terms_of, term_of, term_of-cells_of, IsTerm}
 use Rattle.au_term.specs.declared.cell.Cell.{Cell}
 use Rattle.au_term.specs.declared.cell.Cell.TheVariants.{Functor}
 use Rattle.au_term.proofs.WholeTermLemmas.{count-take, forest_of}

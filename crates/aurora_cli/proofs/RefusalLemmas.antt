@@ -1,6 +1,5 @@
 -- What refuses bytes.
-use Rattle.std.proofs.Common.{◌≡◌, ◌∙◌, inl, inr, ℕ, List, [], ◌∷◌, ◌++◌, take, length, codes, true, refl, sym, ap, subst, arith}
-use Rattle.std.proofs.lemmas.List.{drop_all}
+use Rattle.std.proofs.Common.{◌≡◌, ◌∙◌, inl, inr, ℕ, List, [], ◌++◌, take, length, codes, true, refl, sym, ap, subst}
 use Rattle.std.specs.Str.{chars, IsUtf8, IsValidUpTo}
 use Rattle.au_model.specs.Syntax.Characters.{chars_from}
 use Rattle.au_model.specs.Syntax.TermTexts.{is_over}

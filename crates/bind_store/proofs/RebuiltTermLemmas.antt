@@ -1,9 +1,9 @@
 -- Terms rebuilt cell by cell.
-use Rattle.std.proofs.Common.{◌≡◌, ℕ, suc, ◌<◌, List, [], ◌∷◌, ◌++◌, refl, sym, ap, ◌∙◌, append_assoc, append-nil}
-use Rattle.au_term.specs.Term.{Term, VarTerm, IntTerm, AtomTerm, Compound, Terms, end, more, count}
+use Rattle.std.proofs.Common.{◌≡◌, ℕ, ◌<◌, List, [], ◌∷◌, ◌++◌, refl, sym, ap, ◌∙◌, append_assoc, append-nil}
+use Rattle.au_term.specs.Term.{Term, VarTerm, IntTerm, AtomTerm, Compound, Terms, end, more}
 use Rattle.au_term.specs.PrefixOrder.{cells_of, all_cells, term_of, term_of-cells_of, DueAfter, due_after}
 use Rattle.au_term.specs.declared.cell.Cell.{Cell}
-use Rattle.au_term.proofs.WholeTermLemmas.{DueAfter-due, DueAfter-term, due_after-is}
+use Rattle.au_term.proofs.WholeTermLemmas.{DueAfter-due}
 use Rattle.au_model.specs.Terms.Substitutions.{apply, apply_all}
 use Rattle.bind_store.specs.ResolvedCells.{in_place, rebuilt}
 use Rattle.au_model.proofs.UnifierRuleLemmas.{count-apply_all}

@@ -1,9 +1,8 @@
 -- Bindings of which no value has a variable that was bound up to it.
-use Rattle.std.proofs.Common.{◌≡◌, ℕ, zero, suc, ◌<◌, ◌==◌, Bool, true, false, ◌||◌, cond, List, [], ◌∷◌, ◌++◌, length, get_or, Option, Some, None, refl, sym, ap, ◌∙◌, arith}
+use Rattle.std.proofs.Common.{◌≡◌, ℕ, zero, suc, ◌<◌, ◌==◌, Bool, true, false, cond, List, [], ◌∷◌, ◌++◌, length, get_or, Option, Some, None, refl, sym, ap, ◌∙◌, arith}
 use Rattle.std.specs.Prelude.{option_map}
 use Rattle.au_term.specs.Term.{Term, VarTerm, IntTerm, AtomTerm, Compound, Terms, end, more}
 use Rattle.au_model.specs.Terms.Substitutions.{Substitution, apply, apply_all, value_of, resolve, only, occurs, occurs_in}
-use Rattle.std.proofs.lemmas.Bool.Decides.{nat_tests}
 use Rattle.std.proofs.lemmas.Bool.{false≢true}
 use Rattle.bind_store.specs.Bindings.{Binding, composed, place_in, value_at, IsUnboundIn, IsBoundAt, IsLookedUp, IsAbsent, AreTriangular, HasNoBoundVariable}
 use Rattle.bind_store.proofs.ApplyLemmas.{apply_same, apply_twice, resolve_none}

@@ -1,5 +1,5 @@
 -- Solving equations, rule by rule.
-use Rattle.std.proofs.Common.{◌≡◌, ℕ, ◌<◌, ◌≤◌, List, [], ◌∷◌, ◌++◌, zero, suc, length, drop, reverse, length-append, append-nil, append_assoc, true, ◌||◌, inl, inr, Option, Some, None, refl, sym, ap, ◌∙◌, subst, arith}
+use Rattle.std.proofs.Common.{◌≡◌, ℕ, ◌<◌, ◌≤◌, List, [], ◌∷◌, ◌++◌, drop, reverse, length-append, append-nil, append_assoc, true, ◌||◌, inl, inr, Option, Some, None, refl, sym, ap, ◌∙◌, subst, arith}
 use Rattle.std.specs.Option.{option_map}
 use Rattle.au_term.specs.Term.{Term, VarTerm, IntTerm, AtomTerm, Compound, Terms, end, more, count, take_terms, var_bound, all_bound}
 use Rattle.au_term.specs.PrefixOrder.{cells_of, terms_of}
@@ -10,7 +10,7 @@ use Rattle.au_model.proofs.ApplyLemmas.{or_left, or_right}
 use Rattle.au_model.proofs.UnifierRuleLemmas.{Says, rule_says, Binds}
 use Rattle.au_model.proofs.UnifierMeasureLemmas.{appears, AllBelow, work, Less, less_dropped, less_bound, less_opened}
 use Rattle.au_model.proofs.UnifierLemmas.{unifier-first, unifier_goes, all_below}
-use Rattle.bind_store.specs.Bindings.{Binding, composed, resolved_after, resolved_bindings, substitution_of, value_at, IsConsistent, IsBindingBelow}
+use Rattle.bind_store.specs.Bindings.{Binding, composed, resolved_after, resolved_bindings, substitution_of, IsConsistent, IsBindingBelow}
 use Rattle.bind_store.specs.UnificationSteps.{Pair, whole_at, place_term, place_terms, IsThere, HasTermsAt, IsEquationValid, AreEquationsValid, equations_at, pending_equations, both_resolved, IsBoundTo, FollowsRule, after_drop, after_binding, after_opening, HasFurther, IsExtended}
 use Rattle.bind_store.specs.declared.unify.Source.{Source}
 use Rattle.bind_store.specs.declared.unify.Source.TheVariants.{Left, Right, Value}

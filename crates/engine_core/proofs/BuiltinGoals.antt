@@ -1,17 +1,15 @@
 -- Goals of built-in predicates.
-use Rattle.std.proofs.Common.{◌≡◌, ℕ, ◌+◌, ◌≤◌, true, false, is_some, List, [], ◌∷◌, map, length, Option, Some, None, Ok, Err, refl, sym, ap, ap₂, ◌∙◌, subst, arith}
-use Rattle.std.specs.Prelude.{codes, Vec}
+use Rattle.std.proofs.Common.{◌≡◌, ℕ, ◌≤◌, true, false, is_some, List, [], ◌∷◌, map, Ok, Err, refl, sym, ap, ap₂, ◌∙◌, subst, arith}
+use Rattle.std.specs.Prelude.{Vec}
 use Rattle.std.specs.Global.{Global}
-use Rattle.au_term.specs.Term.{Term, VarTerm, IntTerm, AtomTerm, Compound, Terms, count, arguments, argument_count, var_bound, all_bound}
+use Rattle.au_term.specs.Term.{Term, VarTerm, IntTerm, AtomTerm, Compound, Terms, count, arguments, argument_count, var_bound}
 use Rattle.au_model.specs.Terms.Each.{Each}
 use Rattle.au_model.specs.Terms.Forms.{is_callable, name_of}
-use Rattle.run_model.specs.Programs.Clauses.{Clause as ClauseTerms}
-use Rattle.run_model.specs.Goals.Control.{Construct, is_named, construct_of, control_constructs}
+use Rattle.run_model.specs.Goals.Control.{is_named, construct_of, control_constructs}
 use Rattle.au_model.specs.Terms.ErrorTerms.{error_term}
-use Rattle.au_model.specs.Terms.Faults.{error_term_of}
 use Rattle.run_model.specs.Goals.Builtins.{builtins}
-use Rattle.run_model.specs.Goals.BuiltinAnswers.{Answer, predicate, reply_of}
-use Rattle.run_model.specs.Goals.Outcomes.{Solution, Replies, Solutions, Ball}
+use Rattle.run_model.specs.Goals.BuiltinAnswers.{Answer, reply_of}
+use Rattle.run_model.specs.Goals.Outcomes.{Solution, Replies}
 use Rattle.run_model.specs.Goals.GoalOutcomes.{by_construct, by_builtin}
 use Rattle.au_model.specs.Terms.Substitutions.{apply, apply_all, value_of, resolve}
 use Rattle.run_model.proofs.BuiltinRowBoundLemmas.{IsSolutionBelow, IsOutcomeBelow, IsRowBelow}
@@ -23,7 +21,7 @@ use Rattle.clause_compile.specs.declared.item.Item.{Item}
 use Rattle.bind_store.specs.StoreView.{StoreView, IsValidStore, substitution}
 use Rattle.bind_store.proofs.BindingLemmas.{new_is_unbound, resolved_stays}
 use Rattle.bind_store.proofs.StoreLemmas.{resolve_below}
-use Rattle.std_builtins.specs.Meanings.{answer_of, arguments_of}
+use Rattle.std_builtins.specs.Meanings.{answer_of}
 use Rattle.std_builtins.specs.Rows.{IsRowOf}
 use Rattle.std_builtins.specs.Answers.{solution_meant}
 use Rattle.std_builtins.specs.declared.answer.Solution.{Solution as SolutionCode}

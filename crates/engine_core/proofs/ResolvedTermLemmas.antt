@@ -1,14 +1,14 @@
 -- Unresolved terms that stand for resolved ones.
 use Rattle.std.proofs.Common.{◌≡◌, ℕ, zero, suc, ◌<◌, ◌≤◌, true, false, refl, sym, ap, ◌∙◌, arith}
 use Rattle.au_term.specs.Term.{Term, VarTerm, IntTerm, AtomTerm, Compound, Terms, end, more, count, var_bound, all_bound, argument, argument_count, term_at}
-use Rattle.au_model.specs.Terms.Substitutions.{apply, apply_all, value_of, resolve}
+use Rattle.au_model.specs.Terms.Substitutions.{apply, value_of, resolve}
 use Rattle.au_model.specs.Terms.Forms.{name_of, is_callable}
 use Rattle.au_model.proofs.UnifierRuleLemmas.{count-apply_all}
 use Rattle.bind_store.specs.StoreView.{StoreView, IsUnbound, IsDereferencedTerm, substitution}
 use Rattle.bind_store.proofs.TriangularLemmas.{free-composed}
 use Rattle.engine_core.specs.GoalArguments.{resolved_argument}
 use Rattle.engine_core.specs.Reductions.{ResolvesTo}
-use Rattle.proc_index.proofs.LawLemmas.{term_resolved, argument_resolved}
+use Rattle.proc_index.proofs.LawLemmas.{argument_resolved}
 
 -- arguments
 term_below : (i b : ℕ) (ts : Terms) → i < count ts → all_bound ts ≤ b → var_bound (term_at i ts) ≤ b

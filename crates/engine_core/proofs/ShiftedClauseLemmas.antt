@@ -1,16 +1,15 @@
 -- Clauses renamed by being shifted.
-use Rattle.std.proofs.Common.{◌≡◌, ℕ, zero, suc, ◌+◌, ◌<◌, ◌≤◌, ◌==◌, Bool, true, false, cond, List, [], ◌∷◌, ◌++◌, refl, ap, ◌∙◌, arith}
+use Rattle.std.proofs.Common.{◌≡◌, ℕ, zero, suc, ◌+◌, ◌<◌, ◌≤◌, ◌==◌, Bool, true, false, cond, List, [], ◌∷◌, refl, ap, ◌∙◌, arith}
 use Rattle.std.specs.Prelude.{codes}
 use Rattle.std.proofs.lemmas.Bool.Decides.{nat_tests}
 use Rattle.au_term.specs.Term.{Term, VarTerm, IntTerm, AtomTerm, Compound, Terms, end, more, var_bound, all_bound}
 use Rattle.au_term.specs.Shifted.{shifted, all_shifted}
-use Rattle.run_model.specs.Programs.Bodies.{goals_of, clause_goals_of}
+use Rattle.run_model.specs.Programs.Bodies.{clause_goals_of}
 use Rattle.au_model.specs.Terms.Copies.{place_of, renamed}
 use Rattle.au_model.specs.Terms.Each.{Each}
-use Rattle.au_model.specs.Terms.Forms.{same_name, binary}
+use Rattle.au_model.specs.Terms.Forms.{same_name}
 use Rattle.au_model.specs.Terms.Substitutions.{Substitution, apply, apply_all, value_of, resolve}
 use Rattle.au_model.proofs.ApplyLemmas.{two}
-use Rattle.au_model.proofs.EachLemmas.{each-append}
 use Rattle.clause_compile.specs.ClauseInvariant.{numbers_from}
 use Rattle.au_term.proofs.LogicLemmas.{same_number}
 use Rattle.engine_core.proofs.GoalOutcomeLemmas.{goals_below as goals-below}

@@ -1,5 +1,5 @@
 -- The branches of a built-in predicate's solutions.
-use Rattle.std.proofs.Common.{◌≡◌, ℕ, zero, suc, ◌+◌, ◌<◌, ◌≤◌, Bool, true, false, max, List, [], ◌∷◌, ◌++◌, length, map, drop, get_or, Some, None, refl, sym, ap, ap₂, ◌∙◌, subst, arith, append_assoc}
+use Rattle.std.proofs.Common.{◌≡◌, ℕ, zero, suc, ◌+◌, ◌<◌, ◌≤◌, List, [], ◌∷◌, ◌++◌, length, map, get_or, Some, None, refl, sym, ap, ap₂, ◌∙◌, subst, arith, append_assoc}
 use Rattle.std.specs.Prelude.{codes}
 use Rattle.au_term.specs.Term.{Term, AtomTerm, Compound, Terms, end, more, count, drop_terms, term_at, var_bound}
 use Rattle.au_term.specs.declared.segment.Binding.{Binding as SharedBinding}
@@ -7,8 +7,8 @@ use Rattle.au_model.specs.Terms.Each.{Each}
 use Rattle.au_term.specs.PrefixOrder.{append_terms}
 use Rattle.au_model.specs.Terms.Lists.{terms_from}
 use Rattle.run_model.specs.Goals.Outcomes.{Solution}
-use Rattle.au_model.specs.Terms.Substitutions.{apply, value_of, resolve}
-use Rattle.au_model.specs.Terms.Unifier.{Equations, unifier, equations_bound}
+use Rattle.au_model.specs.Terms.Substitutions.{value_of, resolve}
+use Rattle.au_model.specs.Terms.Unifier.{Equations, unifier}
 use Rattle.au_model.proofs.UnifierLemmas.{unifier-first}
 use Rattle.clause_compile.specs.declared.item.Scope.{Scope}
 use Rattle.clause_compile.specs.declared.item.Item.{Item}

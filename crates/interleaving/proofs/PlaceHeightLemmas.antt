@@ -11,11 +11,11 @@ use Rattle.run_model.specs.Programs.Clauses.{Clause}
 use Rattle.run_model.specs.Goals.Outcomes.{Solution, ControlForm, GoesOnWith, EitherOf, TestOf, CutToScope, CatchOf, FindallOf}
 use Rattle.run_model.specs.Machine.Items.{Item, GoalItem, CatchMark, CollectMark, Continuation, resolve_continuation, goals_at, with_next}
 use Rattle.run_model.specs.Machine.Items.{before}
-use Rattle.run_model.specs.Machine.Entries.{Entry, PlainEntry, CatchEntry, FindallEntry, EndEntry, solution_entries}
+use Rattle.run_model.specs.Machine.Entries.{Entry, PlainEntry, CatchEntry, FindallEntry, solution_entries}
 use Rattle.run_model.specs.Machine.Entries as entries
 use Rattle.interleaving.specs.Machine.{On, Here, looked, search_for, placed}
 use Rattle.tree_model.specs.Elements.{Name, same, Element, Credit, Plain, EndOf, Catch, Findall, End}
-use Rattle.interleaving.specs.Scopes.{Sought, Scope, control_place, goals_first, named_test_items, look, lost, scoped}
+use Rattle.interleaving.specs.Scopes.{Scope, control_place, goals_first, named_test_items, scoped}
 use Rattle.interleaving.specs.Scopes as scopes
 use Rattle.interleaving.specs.HeightMachine.{HeightElement, HeightEntry, height_entries, height_control}
 use Rattle.interleaving.specs.Erased.{from, element_count, height, with_height, continuation_heights, erased}

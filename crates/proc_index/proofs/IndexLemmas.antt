@@ -11,7 +11,7 @@ use Rattle.std.specs.Cmp.{unsigned_ties}
 use Rattle.std.specs.Ordering.{nat_cmp}
 use Rattle.std.specs.Global.{Global}
 use Rattle.au_term.specs.declared.atom.Atom.{Atom}
-use Rattle.au_term.specs.Term.{Term, argument_count}
+use Rattle.au_term.specs.Term.{argument_count}
 use Rattle.au_model.specs.Terms.Each.{Each}
 use Rattle.au_model.specs.Terms.Forms.{same_name, name_of}
 use Rattle.run_model.specs.Programs.Clauses.{Clause as ClauseTerms, is_clause_of}

@@ -1,7 +1,7 @@
 -- Copies with new numbers, and lists of them.
 use Rattle.std.proofs.Common.{◌≡◌, ℕ, ◌+◌, ◌≤◌, List, [], ◌∷◌, ◌++◌, refl, sym, ap, ◌∙◌, subst, arith}
 use Rattle.std.specs.Prelude.{codes}
-use Rattle.au_term.specs.Term.{Term, var_bound}
+use Rattle.au_term.specs.Term.{Term}
 use Rattle.au_model.specs.Terms.Each.{Each}
 use Rattle.au_model.specs.Terms.Copies.{copied, copy_takes, renamed, seen_in, place_of}
 use Rattle.au_model.specs.Terms.Forms.{binary, list_term}

@@ -1,7 +1,6 @@
 -- A map of variables that changes none of the arguments of a goal, and no new variable, changes nothing in its answer.
 use Rattle.std.proofs.Common.{◌≡◌, ℕ, zero, suc, ◌+◌, ◌≤◌, Bool, true, false, ℤ, pos, negsuc, cond, List, [], ◌∷◌, length, Ok, Err, refl, ap, ap₂, subst, arith}
 use Rattle.std.specs.Prelude.{codes, is_none, nat_lt}
-use Rattle.std.proofs.lemmas.Bool.Decides.{nat_tests}
 use Rattle.au_term.specs.Term.{Term, VarTerm, IntTerm, AtomTerm, Compound, Terms, end, more, count, term_at}
 use Rattle.au_model.specs.Terms.Each.{Each}
 use Rattle.au_model.specs.Terms.ErrorTerms.{domain_error, representation_error}

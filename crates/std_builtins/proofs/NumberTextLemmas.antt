@@ -9,14 +9,12 @@ use lib.Utf8.{encodes}
 use Rattle.au_model.specs.Terms.Forms.{same_name}
 use Rattle.au_model.specs.Syntax.Characters.{chars_from}
 use Rattle.au_model.specs.Syntax.Layout.{begins_layout}
-use Rattle.au_model.specs.Syntax.Words.{Word, NameWord, QuotedWord, VariableWord, IntegerWord, TextWord, MarkWord, StopWord, LastWord, FoundWord, next_word, word_after, word_characters, word_number}
-use Rattle.token_scan.specs.NextToken.{kind_of, word_of, IsNextToken, IsTokenFault}
-use Rattle.token_scan.specs.declared.token.Token.{Token}
+use Rattle.au_model.specs.Syntax.Words.{Word, NameWord, QuotedWord, VariableWord, IntegerWord, TextWord, MarkWord, StopWord, LastWord, FoundWord, next_word, word_characters, word_number}
+use Rattle.token_scan.specs.NextToken.{kind_of, IsTokenFault}
 use Rattle.token_scan.specs.declared.token.BadToken.{BadToken}
 use Rattle.token_scan.specs.declared.token.TokenKind.TheVariants.{Name, Integer}
 use Rattle.run_model.specs.Goals.NumberTexts.{last_integer, without_sign, negated_number, number_behind_sign, number_read}
 use Rattle.std_builtins.specs.Texts.{number_behind}
-use Rattle.token_scan.proofs.WordLemmas.{next_word-found as found}
 
 pub last_found : (w : Word) (rest : List ℕ) → kind_of w ≡ Integer → rest ≡ [] → Some (word_number w) ≡ last_integer w rest
 last_found (NameWord cs) rest h e = absurd cc

@@ -9,7 +9,7 @@ use Rattle.au_model.specs.Syntax.Primaries.{ends_operand_before, prefix_is_atom}
 use Rattle.token_scan.specs.NextToken.{kind_of, word_of, IsNextToken}
 use Rattle.token_scan.specs.declared.token.Token.{Token}
 use Rattle.token_scan.specs.declared.token.TokenKind.{TokenKind}
-use Rattle.token_scan.specs.declared.token.TokenKind.TheVariants.{Name, QuotedName, Variable, Integer, DoubleQuoted, Punctuation, End, EndOfText}
+use Rattle.token_scan.specs.declared.token.TokenKind.TheVariants.{Name, QuotedName, Variable, Integer, Punctuation, End, EndOfText}
 use Rattle.term_reader.specs.declared.lexeme.Lexeme.{Lexeme}
 use Rattle.term_reader.specs.declared.lexeme.Lexeme.TheVariants as lex
 use Rattle.term_reader.specs.declared.lookahead.Follow.TheVariants.{Other}

@@ -1,8 +1,8 @@
 -- Tokens that end an operand.
-use Rattle.std.proofs.Common.{◌≡◌, ◌∙◌, ℕ, zero, suc, ◌+◌, ◌≤◌, Bool, false, List, [], ◌∷◌, ◌++◌, length, map, Some, refl, sym, ap, subst, arith}
+use Rattle.std.proofs.Common.{◌≡◌, ◌∙◌, ℕ, zero, suc, ◌+◌, ◌≤◌, Bool, false, List, [], ◌∷◌, ◌++◌, length, map, refl, sym, ap, subst, arith}
 use Rattle.au_model.specs.Syntax.Characters.{chars_from}
 use Rattle.au_model.specs.Syntax.Tokens as words
-use Rattle.au_model.specs.Syntax.Tokens.{Lexeme, Token, token, scanned, ScannedTo, is_end, front, tokens_of}
+use Rattle.au_model.specs.Syntax.Tokens.{Lexeme, Token, token, ScannedTo, is_end}
 use Rattle.au_model.specs.Syntax.Trees.{Tree, Trees, CompoundTree, no_trees, more_trees, tree_count, cell, list_name}
 use Rattle.au_model.specs.Syntax.PostOperators.{lexeme_post_operator}
 use Rattle.au_model.specs.Syntax.Primaries.{Setting}

@@ -7,7 +7,7 @@ use Rattle.au_model.specs.Syntax.Characters.{chars_from}
 use Rattle.au_model.specs.Syntax.Layout.{GapThen, after_layout, begins_layout}
 use Rattle.au_model.specs.Syntax.Words.{NameWord, QuotedWord, VariableWord, IntegerWord, TextWord, MarkWord, StopWord, LastWord, Lexed, FoundWord, FoundFault, next_word}
 use Rattle.au_model.specs.Syntax.Tokens as words
-use Rattle.au_model.specs.Syntax.Tokens.{Lexeme, Token, token, scanned, scanned_word, ScannedTo, ScannedNone, front, tokens_of}
+use Rattle.au_model.specs.Syntax.Tokens.{Lexeme, token, scanned, scanned_word, ScannedTo, ScannedNone, front, tokens_of}
 use Rattle.au_model.specs.Syntax.Primaries.{Setting}
 use Rattle.au_model.specs.Syntax.TermTexts.{is_last, is_over}
 use Rattle.au_model.specs.declared.types.FaultKind.{FaultKind}

@@ -2,7 +2,7 @@
 use Rattle.std.proofs.Common.{◌≡◌, ◌∙◌, ℕ, Bool, true, false, not, ◌&&◌, List, [], ◌∷◌, ◌++◌, refl, sym, ap, arith, IsCharBoundary}
 use Rattle.au_model.specs.Syntax.Characters.{chars_from}
 use Rattle.au_model.specs.Syntax.Tokens as words
-use Rattle.au_model.specs.Syntax.Tokens.{Lexeme, Token, token, Scanned, ScannedTo, ScannedNone, scanned, is_end, front, tokens_of}
+use Rattle.au_model.specs.Syntax.Tokens.{Lexeme, Token, token, ScannedTo, ScannedNone, scanned, is_end, tokens_of}
 use Rattle.au_model.specs.Syntax.Trees.{IntTree, AtomTree}
 use Rattle.au_model.specs.Terms.Forms.{nil_name, braces_name}
 use Rattle.au_model.specs.Syntax.Operators.{OperatorTable, prefix_of}

@@ -1,7 +1,7 @@
 -- What the kind of a token says of its word.
 use Rattle.std.proofs.Common.{◌≡◌, ℕ, List, Some, ap}
 use Rattle.au_model.specs.Syntax.Tokens as words
-use Rattle.au_model.specs.Syntax.Tokens.{Lexeme, lexeme_of}
+use Rattle.au_model.specs.Syntax.Tokens.{lexeme_of}
 use Rattle.au_model.specs.Syntax.Words.{Word, NameWord, QuotedWord, VariableWord, IntegerWord, TextWord, MarkWord, StopWord, LastWord, word_characters}
 use Rattle.token_scan.specs.NextToken.{kind_of}
 use Rattle.token_scan.specs.declared.token.TokenKind.{TokenKind}

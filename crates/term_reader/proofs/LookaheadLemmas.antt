@@ -1,7 +1,7 @@
 -- What is presumed of tokens.
 use Rattle.std.proofs.Common.{◌≡◌, ◌∙◌, ℕ, Bool, true, false, not, ◌&&◌, List, [], ◌∷◌, refl, sym, ap}
 use Rattle.au_model.specs.Syntax.Tokens as words
-use Rattle.au_model.specs.Syntax.Tokens.{Lexeme, Token, token, scanned, Scanned, ScannedTo, ScannedNone, is_end, front_with, no_front, after_scanned, first_tokens, front, tokens_of}
+use Rattle.au_model.specs.Syntax.Tokens.{Lexeme, Token, token}
 use Rattle.au_model.specs.Syntax.Operators.{OperatorTable, prefix_of}
 use Rattle.au_model.specs.Syntax.PostOperators.{named_post_operator}
 use Rattle.au_model.specs.Syntax.Primaries.{has_direct_open, has_direct_integer, is_post_operator, is_some_operator, is_operator_here, is_minus, ends_operand_before, prefix_is_atom}

@@ -8,10 +8,10 @@ use Rattle.au_model.specs.Syntax.PostOperators.{PostOperator, Infix, Postfix, No
 use Rattle.au_model.specs.Syntax.Primaries.{Setting, Leaf, Fails, primary_of, has_direct_open, is_minus_name, ends_operand_before, prefix_is_atom}
 use Rattle.au_model.specs.Syntax.Trees.{Tree, IntTree, AtomTree, one, two}
 use Rattle.term_reader.specs.Completion as stack
-use Rattle.term_reader.specs.Completion.{OpenFrame, bound_of, CompletesOperand, CompletesAfter, CompletesFrame, prefix, infixes}
+use Rattle.term_reader.specs.Completion.{OpenFrame, bound_of, CompletesOperand, CompletesAfter, CompletesFrame}
 use Rattle.term_reader.specs.FrameShapes.{IsWithinBounds}
 use Rattle.term_reader.specs.Lookahead as looks
-use Rattle.term_reader.specs.Lookahead.{Lookahead, is_plain_name_before, is_as_expected, Scans, none, onto, IsName}
+use Rattle.term_reader.specs.Lookahead.{is_plain_name_before, is_as_expected, Scans, none, onto, IsName}
 use Rattle.term_reader.specs.Positions.{Position, ExpectsOperand, AfterOperand, open_frames, IsWithinBound, HasReadTo}
 use Rattle.au_model.specs.Syntax.TextFaults.{BeginsTerm}
 use Rattle.term_reader.specs.Refusals.{IsStuck, accepts, lexeme_follows_atom}

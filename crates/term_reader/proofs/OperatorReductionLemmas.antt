@@ -8,7 +8,7 @@ use Rattle.au_model.specs.Syntax.PostOperators.{PostOperator, Nothing, right_bou
 use Rattle.au_model.specs.Syntax.Primaries.{Setting}
 use Rattle.au_term.specs.declared.cell.Cell.TheVariants.{Functor}
 use Rattle.term_reader.specs.Completion as stack
-use Rattle.term_reader.specs.Completion.{bound_of, CompletesAfter, CompletesFrame, by_rest, prefix, infixes}
+use Rattle.term_reader.specs.Completion.{bound_of, prefix, infixes}
 use Rattle.term_reader.specs.LeftToRight.{Stop, next_operator}
 use Rattle.term_reader.specs.FrameShapes.{Shape, PrefixShape, InfixShape, frame_meant, shape_of, shapes_up, shape_bound, emitted_stack, HasNoOperatorOnTop}
 use Rattle.term_reader.specs.TermOutput.{emit_tree, emit_cell}

@@ -2,7 +2,7 @@
 use Rattle.std.proofs.Common.{◌≡◌, ◌∙◌, ℕ, suc, ◌≤◌, nat_le, Bool, true, false, List, [], ◌∷◌, ◌++◌, map, Option, Some, None, refl, sym, ap, subst, arith}
 use Rattle.au_model.specs.Syntax.Characters.{chars_from}
 use Rattle.au_model.specs.Syntax.Tokens as words
-use Rattle.au_model.specs.Syntax.Tokens.{Lexeme, Token, token, scanned, Scanned, ScannedTo, ScannedNone, is_end, front, tokens_of}
+use Rattle.au_model.specs.Syntax.Tokens.{Lexeme, Token, token, scanned, ScannedTo, ScannedNone, is_end, tokens_of}
 use Rattle.au_model.specs.Syntax.Operators.{Operator, OperatorTable, prefix_of}
 use Rattle.au_model.specs.Syntax.PostOperators.{PostOperator, Infix, Postfix, post_operator_fits, lexeme_post_operator, token_post_operator}
 use Rattle.au_model.specs.Syntax.Trees.{Tree, AtomTree, one, two}
@@ -16,7 +16,7 @@ use Rattle.token_scan.specs.ScannedParts.{IsPlaceFrom}
 use Rattle.op_table.specs.OperatorView.{operator_meant}
 use Rattle.term_reader.specs.PrimaryView.{setting_of, tokens_at, leaf_tree, primary_meant, PrimaryEndsFrom, IsPrimaryOfLexeme}
 use Rattle.term_reader.specs.Lookahead as looks
-use Rattle.term_reader.specs.Lookahead.{Lookahead, Free, Named, Lone, InList, InCurly, Joined, is_as_expected, Scans, none, onto, IsName, IsPrefixAsAtom, MayTakeOperand}
+use Rattle.term_reader.specs.Lookahead.{Lookahead, Free, Named, Lone, InList, InCurly, Joined, is_as_expected, Scans, none, onto, IsName, MayTakeOperand}
 use Rattle.term_reader.specs.FollowingToken.{IsPlaceAfterTokens}
 use Rattle.term_reader.specs.LeftToRight.{OnInfix, OnPostfix, next_operator}
 use Rattle.term_reader.specs.Completion as stack

@@ -2,15 +2,15 @@
 use Rattle.std.proofs.Common.{◌≡◌, ◌∙◌, ℕ, ◌≤◌, nat_le, Bool, true, false, not, ◌&&◌, List, [], ◌∷◌, ◌++◌, length, Some, refl, sym, ap, subst, arith, append_assoc}
 use Rattle.au_model.specs.Syntax.Characters.{chars_from}
 use Rattle.au_model.specs.Syntax.Tokens as words
-use Rattle.au_model.specs.Syntax.Tokens.{Lexeme, Token, token, scanned, ScannedTo, ScannedNone, is_end, tokens_of}
+use Rattle.au_model.specs.Syntax.Tokens.{Lexeme, Token, token, scanned, ScannedTo, is_end, tokens_of}
 use Rattle.au_model.specs.Syntax.Operators.{Operator, OperatorTable, prefix_of}
 use Rattle.au_model.specs.Syntax.Primaries.{Setting, Leaf, Call, Prefix, primary_of, is_some_operator, is_minus_name, ends_operand_before, prefix_is_atom}
 use Rattle.au_model.specs.Syntax.Trees.{Tree, AtomTree}
 use Rattle.term_reader.specs.Completion as stack
-use Rattle.term_reader.specs.Completion.{OpenFrame, bound_of, CompletesOperand, CompletesAfter, CompletesFrame}
+use Rattle.term_reader.specs.Completion.{OpenFrame, bound_of, CompletesOperand, CompletesAfter}
 use Rattle.term_reader.specs.FrameShapes.{IsWithinBounds}
 use Rattle.term_reader.specs.Lookahead as looks
-use Rattle.term_reader.specs.Lookahead.{Lookahead, Free, Named, Lone, InList, InCurly, Joined, is_plain_name_before, is_as_expected, Scans, none, onto, IsName, IsPrefixAsAtom}
+use Rattle.term_reader.specs.Lookahead.{Lookahead, Free, Named, Lone, InList, InCurly, Joined, is_plain_name_before, is_as_expected, none, onto, IsName}
 use Rattle.term_reader.specs.Positions.{ExpectsOperand, AfterOperand, SuitsLookahead, HasReadTo, PrefixAtomBefore, MayTakeOperandBefore}
 use Rattle.term_reader.specs.Refusals.{IsStuck, is_named_post_operator}
 use Rattle.au_model.specs.Syntax.TextFaults.{IsOneTooMany}

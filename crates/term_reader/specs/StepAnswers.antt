@@ -1,5 +1,5 @@
 -- What a step of the reader answers, for a source and the state in which the step began.
-use Rattle.std.specs.Prelude.{◌≡◌, ℕ, Bool, false, List, Option}
+use Rattle.std.specs.Prelude.{◌≡◌, ℕ, Bool, false, List}
 use Rattle.au_model.specs.Syntax.Characters.{chars_from}
 use Rattle.au_model.specs.Syntax.Tokens.{scanned, token, ScannedTo}
 use Rattle.au_model.specs.Syntax.PostOperators.{post_operator_fits, lexeme_post_operator}

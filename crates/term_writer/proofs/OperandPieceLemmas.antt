@@ -1,5 +1,5 @@
 -- What is known of the pieces of a term, and of its operands.
-use Rattle.std.proofs.Common.{◌≡◌, ℕ, ◌-◌, ◌<◌, ◌≤◌, Bool, true, false, ◌&&◌, ◌==◌, nat_lt, List, [], ◌∷◌, refl, sym, ◌∙◌, arith, if◌then◌else◌}
+use Rattle.std.proofs.Common.{◌≡◌, ℕ, ◌-◌, ◌<◌, ◌≤◌, Bool, true, false, ◌&&◌, ◌==◌, List, [], ◌∷◌, refl, sym, ◌∙◌, arith, if◌then◌else◌}
 use Rattle.au_term.specs.Term.{Term}
 use Rattle.au_model.specs.Syntax.Operators.{Operator, OperatorTable}
 use Rattle.au_model.specs.Syntax.Tokens.{Lexeme, Token, token, Open, Close, CloseList, CloseCurly, Comma, Bar, End}

@@ -1,4 +1,4 @@
-use Rattle.std.proofs.Common.{◌≡◌, ◌++◌, map, drop}
+use Rattle.std.proofs.Common.{◌≡◌, ◌++◌, drop}
 use Rattle.au_term.specs.Term.{Compound}
 use Rattle.au_term.specs.PrefixOrder.{cells_of, all_cells}
 use Rattle.au_model.specs.Terms.Lists.{terms_from}

@@ -1,4 +1,4 @@
-use Rattle.std.proofs.Common.{◌≡◌, ◌∙◌, ◌+◌, ◌∷◌, ◌++◌, Option, List, ap, map, drop, refl, sym, subst, arith}
+use Rattle.std.proofs.Common.{◌∙◌, ◌+◌, ◌∷◌, ◌++◌, List, ap, map, drop, refl, sym, subst, arith}
 use Rattle.std.proofs.lemmas.List.{drop_more, drop_all}
 use Rattle.au_model.specs.Terms.Each.{Each}
 use Rattle.clause_compile.specs.declared.item.Scope.{Scope}
@@ -10,7 +10,7 @@ use Rattle.engine_core.specs.Solved.{IsUnboundSolution}
 use Rattle.engine_core.specs.Attempts.{IsTried}
 use Rattle.engine_core.proofs.Solutions.{each_at, all_further, none_further, one_further, fewer_further}
 use Rattle.engine_core.proofs.builtin.branches_of.Goals as goal
-use Rattle.engine_core.proofs.builtin.branches_of.Goals.{After-solution_tried, After-solution-item, in-Some+in_ok-push, in_default}
+use Rattle.engine_core.proofs.builtin.branches_of.Goals.{in-Some+in_ok-push, in_default}
 
 pub loop-solution-init : goal.loop-solution-init
 loop-solution-init c = record { store = refl; branches = all_further c.args.rest.now c.args.store.now (map solution_meant c.args.solutions.now) c.new-branches.result.items c.new-branches.ensures.items }

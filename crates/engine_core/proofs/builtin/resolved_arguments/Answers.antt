@@ -1,5 +1,5 @@
-use Rattle.std.proofs.Common.{◌≡◌, ◌∙◌, ◌+◌, ◌<◌, ◌++◌, ◌∷◌, [], ap, sym, arith}
-use Rattle.au_term.specs.Term.{arguments, argument, argument_count, count, drop_terms, more}
+use Rattle.std.proofs.Common.{◌≡◌, ◌∙◌, ◌+◌, ◌<◌, ap, sym, arith}
+use Rattle.au_term.specs.Term.{arguments, argument, argument_count, drop_terms, more}
 use Rattle.au_term.specs.PrefixOrder.{append_terms}
 use Rattle.au_model.specs.Terms.Lists.{terms_from}
 use Rattle.au_model.specs.Terms.Substitutions.{value_of, resolve}

@@ -1,7 +1,6 @@
-use Rattle.std.proofs.Common.{◌≡◌, ◌∙◌, ap₂, subst}
-use Rattle.engine_core.specs.Solved.{IsJoined}
+use Rattle.std.proofs.Common.{subst}
 use Rattle.engine_core.specs.Attempts.{AreUnifiedBy}
-use Rattle.engine_core.proofs.Solutions.{joined_as, left_below, right_below, solution_fails, solution_solves}
+use Rattle.engine_core.proofs.Solutions.{joined_as, solution_fails, solution_solves}
 use Rattle.engine_core.proofs.builtin.solution_branch.Goals as goal
 
 pub returns-in_default-clause-tried : goal.returns-in_default-clause-tried

@@ -1,10 +1,10 @@
-use Rattle.std.proofs.Common.{◌∷◌, [], refl, subst}
+use Rattle.std.proofs.Common.{[], refl, subst}
 use Rattle.std.specs.Prelude.{codes}
 use Rattle.std.proofs.lemmas.Result.{IfOk-weaker}
 use Rattle.au_term.specs.Term.{arguments, argument_count, drop_terms}
 use Rattle.run_model.specs.Goals.Control.{call_outcome, either_form, throw_outcome}
 use Rattle.au_model.specs.Terms.Forms.{name_of}
-use Rattle.run_model.specs.Goals.Outcomes.{Controls, Replies, Solutions}
+use Rattle.run_model.specs.Goals.Outcomes.{Controls}
 use Rattle.au_model.specs.Terms.Substitutions.{resolve}
 use Rattle.bind_store.specs.StoreView.{substitution}
 use Rattle.engine_core.specs.GoalArguments.{resolved_argument}
@@ -12,7 +12,6 @@ use Rattle.std_builtins.specs.Controls.{IsControl}
 use Rattle.engine_core.specs.PlainBranches.{IsAlone}
 use Rattle.engine_core.specs.GoalReductions.{ComesTo, Raises}
 use Rattle.engine_core.specs.Reductions.{IsOutcome}
-use Rattle.engine_core.specs.Attempts.{equation_solution}
 use Rattle.engine_core.specs.declared.reduction.Reduction.TheVariants.{Prune, Open}
 use Rattle.engine_core.proofs.GoalOutcomeLemmas.{only_branch}
 use Rattle.engine_core.proofs.NamedOutcomeLemmas.{by_name, by_call, shifted_so, fails}

@@ -1,6 +1,5 @@
-use Rattle.std.proofs.Common.{◌∙◌, Some, sym, ap, subst}
+use Rattle.std.proofs.Common.{sym, subst}
 use Rattle.token_scan.specs.NextToken.{word_of}
-use Rattle.term_reader.specs.LexemeView.{lexeme_meant}
 use Rattle.term_reader.specs.FollowingToken.{IsAhead, IsFollowingAt}
 use Rattle.term_reader.specs.declared.lexeme.Lexeme.TheVariants as lex
 use Rattle.term_reader.proofs.AheadLemmas.{mark-word, integer-word, follow-ahead, follow-other}

@@ -1,4 +1,4 @@
-use Rattle.std.proofs.Common.{◌≤◌, nat_le, false, [], refl, ap, subst, arith}
+use Rattle.std.proofs.Common.{◌≤◌, false, [], refl, subst, arith}
 use Rattle.std.proofs.lemmas.Result.{IfOk-weaker}
 use Rattle.au_model.specs.Syntax.Trees.{AtomTree}
 use Rattle.op_table.specs.OperatorView.{operator_meant}
