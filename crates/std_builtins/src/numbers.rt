@@ -6,11 +6,11 @@ ghost use Rattle.au_model.specs.Syntax.Characters.{chars_from};
 ghost use Rattle.token_scan.specs.NextToken.{word_of, IsToken};
 ghost use Rattle.run_model.specs.Goals.ListForms.{ListForm as ListFormTerms, NoList};
 ghost use Rattle.run_model.specs.Goals.AtomGoals.{Spelling as SpellingTerms, is_bound, with_text};
-ghost use Rattle.run_model.specs.Goals.NumberTexts.{last_integer, without_sign, negated, number_of, number_read, numbered_answer, written_answer, number_text, number_text_answer};
+ghost use Rattle.run_model.specs.Goals.NumberTexts.{last_integer, without_sign, negated, number_of, numbered_answer, written_answer, number_text, number_text_answer};
 ghost use Rattle.std_builtins.specs.Answers.{IsAnswer};
 ghost use Rattle.std_builtins.specs.Lists.{IsForm};
 ghost use Rattle.std_builtins.specs.Meanings.{spelling_meant};
-ghost use Rattle.std_builtins.specs.Texts.{number_behind};
+ghost use Rattle.std_builtins.specs.Texts.{number_behind, number_from};
 
 use crate::answer::{BuiltinRefusal, Solution, equal, failed};
 use crate::checks::Check;
@@ -80,7 +80,7 @@ fn behind_sign(text: &str, sign: &Token) -> Option<i64>
 fn signed(text: &str, name: &Token) -> Option<i64>
     requires token { IsToken text.now name.now }
     requires name { name.now.kind ≡ TokenKind.Name }
-    ensures { MatchOption result (number_read (word_of text.now name.now) (chars_from text.now name.now.end) ≡ None) (λ z. number_read (word_of text.now name.now) (chars_from text.now name.now.end) ≡ Some z) }
+    ensures { MatchOption result (number_from text.now name.now ≡ None) (λ z. number_from text.now name.now ≡ Some z) }
 {
     if is_text(spelling(text, name), "-") {
         behind_sign(text, name)
