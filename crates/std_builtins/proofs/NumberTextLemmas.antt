@@ -13,8 +13,8 @@ use Rattle.au_model.specs.Syntax.Words.{Word, NameWord, QuotedWord, VariableWord
 use Rattle.token_scan.specs.NextToken.{kind_of, IsTokenFault}
 use Rattle.token_scan.specs.declared.token.BadToken.{BadToken}
 use Rattle.token_scan.specs.declared.token.TokenKind.TheVariants.{Name, Integer}
-use Rattle.run_model.specs.Goals.NumberTexts.{last_integer, without_sign, negated_number, number_behind_sign, number_read}
-use Rattle.std_builtins.specs.Texts.{number_behind}
+use Rattle.run_model.specs.Goals.NumberTexts.{last_integer, without_sign, negated_number, number_after_sign, number_read}
+use Rattle.std_builtins.specs.Texts.{unsigned_number}
 
 pub last_found : (w : Word) (rest : List ℕ) → kind_of w ≡ Integer → rest ≡ [] → Some (word_number w) ≡ last_integer w rest
 last_found (NameWord cs) rest h e = absurd cc
@@ -50,7 +50,7 @@ chars_more text at u lt e =
 pub as_found : (r o p : Option ℤ) → o ≡ p → MatchOption r (o ≡ None) (λ z. o ≡ Some z) → MatchOption r (p ≡ None) (λ z. p ≡ Some z)
 as_found r o p e h = subst (λ q. MatchOption r (q ≡ None) (λ z. q ≡ Some z)) e h
 
-pub sign_read : (w : Word) (rest : List ℕ) → kind_of w ≡ Name → same_name (word_characters w) (codes "-") ≡ true → number_behind rest ≡ number_read w rest
+pub sign_read : (w : Word) (rest : List ℕ) → kind_of w ≡ Name → same_name (word_characters w) (codes "-") ≡ true → unsigned_number rest ≡ number_read w rest
 sign_read (NameWord cs) rest h e = rw e refl
 sign_read (QuotedWord cs) rest h e = absurd cc
 sign_read (VariableWord cs) rest h e = absurd cc
@@ -80,15 +80,15 @@ other_read (MarkWord c) rest h = refl
 other_read StopWord rest h = refl
 other_read LastWord rest h = refl
 
-pub behind_read : (cs : List ℕ) (w : Word) (rest : List ℕ) → begins_layout cs ≡ false → next_word cs ≡ FoundWord w rest → option_map negated_number (last_integer w rest) ≡ number_behind cs
-behind_read cs w rest apart is = rw apart (ap number_behind_sign (sym is))
+pub after_read : (cs : List ℕ) (w : Word) (rest : List ℕ) → begins_layout cs ≡ false → next_word cs ≡ FoundWord w rest → option_map negated_number (last_integer w rest) ≡ unsigned_number cs
+after_read cs w rest apart is = rw apart (ap number_after_sign (sym is))
 
-pub behind_layout : (cs : List ℕ) → begins_layout cs ≡ true → number_behind cs ≡ None
-behind_layout cs h = rw h refl
+pub after_layout_none : (cs : List ℕ) → begins_layout cs ≡ true → unsigned_number cs ≡ None
+after_layout_none cs h = rw h refl
 
-pub behind_fault : (text : List ℕ) (at : ℕ) (e : BadToken) → IsTokenFault (next_word (chars_from text at)) text at e → number_behind (chars_from text at) ≡ None
-behind_fault text at e h = by (begins_layout (chars_from text at))
+pub after_fault : (text : List ℕ) (at : ℕ) (e : BadToken) → IsTokenFault (next_word (chars_from text at)) text at e → unsigned_number (chars_from text at) ≡ None
+after_fault text at e h = by (begins_layout (chars_from text at))
   where
-    by : (b : Bool) → cond b None (number_behind_sign (next_word (chars_from text at))) ≡ None
+    by : (b : Bool) → cond b None (number_after_sign (next_word (chars_from text at))) ≡ None
     by true = refl
-    by false = ap number_behind_sign h.fault
+    by false = ap number_after_sign h.fault

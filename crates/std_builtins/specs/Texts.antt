@@ -3,13 +3,16 @@ use Rattle.std.specs.Prelude.{◌≡◌, ℕ, ℤ, Bool, if◌then◌else◌, Op
 use Rattle.std.specs.Str.{chars}
 use Rattle.std.specs.Global.{Global}
 use Rattle.au_term.specs.Term.{Term}
+use Rattle.au_model.specs.Syntax.Characters.{chars_from}
 use Rattle.au_model.specs.Syntax.Layout.{begins_layout}
+use Rattle.token_scan.specs.NextToken.{word_of}
+use Rattle.token_scan.specs.declared.token.Token.{Token}
 use Rattle.au_model.specs.Syntax.Words.{next_word}
 use Rattle.au_model.specs.Terms.ErrorTerms.{type_error}
 use Rattle.au_model.specs.Terms.Faults.{error_term_of}
 use Rattle.run_model.specs.Goals.BuiltinAnswers.{Answer}
 use Rattle.run_model.specs.Goals.AtomGoals.{with_each, code_of, is_character, is_character_code, no_code}
-use Rattle.run_model.specs.Goals.NumberTexts.{number_behind_sign, number_read}
+use Rattle.run_model.specs.Goals.NumberTexts.{number_after_sign, number_read}
 use Rattle.std_builtins.specs.declared.answer.BuiltinRefusal.{BuiltinRefusal}
 use Rattle.std_builtins.specs.declared.answer.BuiltinRefusal.TheVariants.{Fault, NoMemory}
 use Rattle.std_builtins.specs.declared.spelling.Spelling.{Spelling}
@@ -39,9 +42,9 @@ IsTextOfItems waiting answer (Err (Fault fault)) = waiting ≡ Err (error_term_o
 IsTextOfItems waiting answer (Err NoMemory) = Unit {0}
 
 -- the number whose digits begin a text
-abbrev pub number_behind : List ℕ → Option ℤ
-number_behind cs = if begins_layout cs then None else number_behind_sign (next_word cs)
+abbrev pub unsigned_number : List ℕ → Option ℤ
+unsigned_number cs = if begins_layout cs then None else number_after_sign (next_word cs)
 
--- the number that begins with a token, if it is one
-abbrev pub IsNumberRead : List ℕ → Token → Option ℤ → Type 0
-IsNumberRead text t o = MatchOption o (number_read (word_of text t) (chars_from text t.end) ≡ None) (λ z. number_read (word_of text t) (chars_from text t.end) ≡ Some z)
+-- the number whose text begins with a token
+abbrev pub number_from : List ℕ → Token → Option ℤ
+number_from text t = number_read (word_of text t) (chars_from text t.end)

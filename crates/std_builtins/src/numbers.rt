@@ -6,11 +6,11 @@ ghost use Rattle.au_model.specs.Syntax.Characters.{chars_from};
 ghost use Rattle.token_scan.specs.NextToken.{word_of, IsToken};
 ghost use Rattle.run_model.specs.Goals.ListForms.{ListForm as ListFormTerms, NoList};
 ghost use Rattle.run_model.specs.Goals.AtomGoals.{CharacterList as SpellingTerms, is_bound, with_text};
-ghost use Rattle.run_model.specs.Goals.NumberTexts.{last_integer, without_sign, negated_number, number_in_text, number_read, numbered_answer, written_answer, number_text, number_text_answer};
+ghost use Rattle.run_model.specs.Goals.NumberTexts.{last_integer, without_sign, negated_number, number_in_text, numbered_answer, written_answer, number_text, number_text_answer};
 ghost use Rattle.std_builtins.specs.Answers.{IsAnswer};
 ghost use Rattle.std_builtins.specs.Lists.{IsForm};
 ghost use Rattle.std_builtins.specs.Meanings.{spelling_meant};
-ghost use Rattle.std_builtins.specs.Texts.{number_behind, IsNumberRead};
+ghost use Rattle.std_builtins.specs.Texts.{unsigned_number, number_from};
 
 use crate::answer::{BuiltinRefusal, Solution, equal, failed};
 use crate::checks::Check;
@@ -23,7 +23,7 @@ use itoa::Buffer;
 use std::alloc::Global;
 use token_scan::{Token, TokenKind, integer as number_of_token, next_token, spelling};
 
-/// The number of an integer token with nothing behind it.
+/// The number of an integer token with nothing after it.
 fn last_integer(text: &str, token: &Token) -> Option<u64>
     requires { IsToken text.now token.now }
     ensures number { result ≡ last_integer (word_of text.now token.now) (chars_from text.now token.now.end) }
@@ -48,7 +48,7 @@ fn without_sign(number: u64) -> Option<i64>
     Some(number as i64)
 }
 
-/// The integer of a number behind a sign.
+/// The integer of a number after a sign.
 fn negated_number(number: u64) -> i64
     requires { number ≤ 2 ^ 63 }
     ensures { result ≡ negated_number number }
@@ -60,9 +60,9 @@ fn negated_number(number: u64) -> i64
 }
 
 /// The integer whose digits begin directly at a place, the end of a sign.
-fn behind_sign(text: &str, sign: &Token) -> Option<i64>
+fn after_sign(text: &str, sign: &Token) -> Option<i64>
     requires { IsToken text.now sign.now }
-    ensures { MatchOption result (number_behind (chars_from text.now sign.now.end) ≡ None) (λ z. number_behind (chars_from text.now sign.now.end) ≡ Some z) }
+    ensures { MatchOption result (unsigned_number (chars_from text.now sign.now.end) ≡ None) (λ z. unsigned_number (chars_from text.now sign.now.end) ≡ Some z) }
 {
     let Ok(second) = next_token(text, sign.end) else {
         return None;
@@ -80,10 +80,10 @@ fn behind_sign(text: &str, sign: &Token) -> Option<i64>
 fn signed(text: &str, name: &Token) -> Option<i64>
     requires token { IsToken text.now name.now }
     requires name { name.now.kind ≡ TokenKind.Name }
-    ensures { IsNumberRead text.now name.now result }
+    ensures { MatchOption result (number_from text.now name.now ≡ None) (λ z. number_from text.now name.now ≡ Some z) }
 {
     if is_text(spelling(text, name), "-") {
-        behind_sign(text, name)
+        after_sign(text, name)
     } else {
         None
     }

@@ -13,7 +13,7 @@ use Rattle.run_model.specs.Goals.BuiltinAnswers.{Answer, equal, predicate}
 use Rattle.run_model.specs.Goals.ListForms.{ListForm, ProperList, NoList, list_form}
 use Rattle.run_model.specs.Goals.AtomGoals.{with_each, is_bound, is_open_integer, CharacterList, ByCharacters, ByCodes, item_for, with_text}
 
--- an integer with nothing behind it
+-- an integer with nothing after it
 abbrev pub last_integer : Word → List ℕ → Option ℕ
 last_integer (IntegerWord n) [] = Some n
 last_integer w rest = None
@@ -26,13 +26,13 @@ abbrev pub negated_number : ℕ → ℤ
 negated_number zero = pos 0
 negated_number (suc n) = negsuc n
 
--- digits directly behind a sign
-abbrev pub number_behind_sign : Lexed → Option ℤ
-number_behind_sign (FoundWord w rest) = option_map negated_number (last_integer w rest)
-number_behind_sign (FoundFault k from) = None
+-- digits directly after a sign
+abbrev pub number_after_sign : Lexed → Option ℤ
+number_after_sign (FoundWord w rest) = option_map negated_number (last_integer w rest)
+number_after_sign (FoundFault k from) = None
 
 abbrev pub number_read : Word → List ℕ → Option ℤ
-number_read (NameWord cs) rest = if same_name cs (codes "-") then (if begins_layout rest then None else number_behind_sign (next_word rest)) else None
+number_read (NameWord cs) rest = if same_name cs (codes "-") then (if begins_layout rest then None else number_after_sign (next_word rest)) else None
 number_read w rest = option_and_then without_sign (last_integer w rest)
 
 abbrev pub number_found : Lexed → Option ℤ
