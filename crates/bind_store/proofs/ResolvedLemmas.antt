@@ -16,7 +16,6 @@ use Rattle.bind_store.proofs.UndoLemmas.{apart_front, free_last}
 use Rattle.au_model.proofs.UnifierRuleLemmas.{count-apply_all}
 use Rattle.au_term.proofs.LogicLemmas.{number_same as same_eqb}
 
-
 -- a binding after others, with these applied
 abbrev pub and_one : List Binding → Binding → List Binding
 and_one made b = made ++ (b.0, resolve (composed made) b.1) ∷ []
