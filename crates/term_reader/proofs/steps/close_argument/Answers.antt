@@ -8,16 +8,16 @@ use Rattle.term_reader.proofs.ClosingTokenLemmas.{refuses, is-comma}
 use Rattle.term_reader.specs.FollowingToken.{closer_of}
 use Rattle.term_reader.proofs.steps.close_argument.Goals as goal
 
-pub returns-then-before-ge65534-clause-outcome : goal.returns-then-before-ge65534-clause-outcome
-returns-then-before-ge65534-clause-outcome c = λ k l p h goal g.
+pub returns-then-before-clause-outcome : goal.returns-then-before-clause-outcome
+returns-then-before-clause-outcome c = λ k l p h goal g.
     refuses c.args.source c.args.state.now (frame.Argument c.args.name c.args.before c.args.place) k l p c.args.token c.args.end h (too_many c.args.source c.args.state.now c.args.state.now k l p c.args.token c.args.end c.args.name c.args.before c.args.place h c.in-Comma.is (omega arith)) goal g
 
-pub returns-then-before-ge65534-clause-fault : goal.returns-then-before-ge65534-clause-fault
-returns-then-before-ge65534-clause-fault c = λ first k l p h refused.
+pub returns-then-before-clause-fault : goal.returns-then-before-clause-fault
+returns-then-before-clause-fault c = λ first k l p h refused.
     (refused (too_many c.args.source c.args.state.now c.args.state.now k l p c.args.token c.args.end c.args.name c.args.before c.args.place h c.in-Comma.is (omega arith))).1 c.args.name c.args.before c.args.place refl (omega arith) (is-comma h.lexeme (sym h.closer ∙ c.in-Comma.is))
 
-pub returns-else-before-ge65534-clause-outcome : goal.returns-else-before-ge65534-clause-outcome
-returns-else-before-ge65534-clause-outcome c = λ k l p h.
+pub returns-else-before-clause-outcome : goal.returns-else-before-clause-outcome
+returns-else-before-clause-outcome c = λ k l p h.
     let lt : c.args.before < 65534 = omega arith in
     IfOk-weaker c.push_frame.result _ _ (λ t d. argument-goes_on c.args.source c.args.state.now c.push_frame.new.state k l p c.args.token c.args.end c.args.name c.args.before c.args.place t h c.in-Comma.is lt d) c.push_frame.ensures
 
@@ -25,8 +25,8 @@ pub returns-in_ok-compound-in-Close-clause-outcome : goal.returns-in_ok-compound
 returns-in_ok-compound-in-Close-clause-outcome c = λ k l p h.
     compound-closes c.args.source c.args.state.now _ k l p c.args.token c.args.end c.args.name c.args.before c.args.place h c.in-Close.is refl refl (c.in_ok-compound-in-Close.ensures (emit_tree (emitted_stack k) l) h.output)
 
-pub returns-then-before-gt65534-clause-outcome : goal.returns-then-before-gt65534-clause-outcome
-returns-then-before-gt65534-clause-outcome c = λ k l p h goal g.
+pub returns-then-before-ge-MAX_ARITY-clause-outcome : goal.returns-then-before-ge-MAX_ARITY-clause-outcome
+returns-then-before-ge-MAX_ARITY-clause-outcome c = λ k l p h goal g.
     few_arguments c.args.source c.args.state.now c.args.state.now k l p c.args.token c.args.end c.args.name c.args.before c.args.place h (omega arith)
 
 pub returns-in_default-clause-outcome : goal.returns-in_default-clause-outcome
