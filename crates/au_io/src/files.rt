@@ -1,5 +1,5 @@
 //! Files of the machine.
-ghost use Rattle.std.specs.Prelude.{◌≡◌, ◌+◌, ◌<◌, ◌≤◌, ◌≢◌, ◌++◌, ℕ, List, IfOk, IfErr, IfSome, OnOk, IsErrOf, length, drop, vec_len, Some, None, Ok};
+ghost use Rattle.std.specs.Prelude.{◌≡◌, ◌+◌, ◌<◌, ◌≤◌, ◌≢◌, ◌++◌, ℕ, List, IfOk, IfErr, IfSome, OnOk, IsErrOf, length, drop, vec_len, Some, None, Ok, Err};
 ghost use Rattle.std.specs.Io.KnownBytes.{Consumes, IsAtEnd};
 ghost use Rattle.au_io.specs.FaultCounts.{Increased, IncreasedBy};
 
@@ -80,6 +80,7 @@ impl Tally {
         ensures fault { IsErrOf result ReadRefusal.ReadFault → Increased self.old.faults self.new.faults }
         ensures long { IsErrOf result ReadRefusal.TooLong → IfSome (F.remaining file.old) (λ told. most < length told) }
         ensures too_long { IsErrOf result ReadRefusal.TooLong → IncreasedBy (most + 1) self.old.drawn self.new.drawn }
+        ensures quiet { result ≢ Err ReadRefusal.ReadFault → self.new.faults ≡ self.old.faults }
         ensures faults_stay { self.old.faults ≤ self.new.faults }
         ensures drawn_stay { self.old.drawn ≤ self.new.drawn }
         ensures least { self.new.drawn ≤ self.old.drawn + (most + 1) }
