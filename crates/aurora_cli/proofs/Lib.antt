@@ -1,3 +1,4 @@
 pub mod BudgetLemmas
 pub mod EndingLemmas
+pub mod OneRefusalLemmas
 pub mod RefusalLemmas
