@@ -48,6 +48,34 @@ pub fn aurora<R: Threads + Wait + Sync, S: Shelf, K: Sink, G: Gate>(
     ensures refusal { IsNotIncreased (S.faults shelf.old) (S.faults shelf.new)
         → IfSome (asked_by (map string_bytes words.now)) (IsRefusedFor (S.held shelf.old) result) }
 {
+    run_words(alloc, words, shelf, out)
+}
+
+/// The work of `aurora`, with no handle that could wait.
+fn run_words<S: Shelf, K: Sink>(
+    alloc: Global,
+    words: &[String],
+    shelf: &mut S,
+    out: &mut K,
+) -> Ending
+    ensures usage { asked_by (map string_bytes words.now) ≡ None → result ≡ Ending.Usage UsageKind.Words }
+    ensures asked { (kind : UsageKinds) → result ≡ Ending.Usage kind → asked_by (map string_bytes words.now) ≡ None }
+    ensures unasked { asked_by (map string_bytes words.now) ≡ None → (S.drawn shelf.new ≡ S.drawn shelf.old) × (S.faults shelf.new ≡ S.faults shelf.old) }
+    ensures once { S.drawn shelf.new ≤ S.drawn shelf.old + 16777217 }
+    ensures unwritten { asked_by (map string_bytes words.now) ≡ None → K.taken out.new ≡ K.taken out.old }
+    ensures read_fault { result ≡ Ending.ReadFault → Increased (S.faults shelf.old) (S.faults shelf.new) }
+    ensures read_quiet { result ≢ Ending.ReadFault → S.faults shelf.new ≡ S.faults shelf.old }
+    ensures too_long { result ≡ Ending.TooLong → IncreasedBy 16777217 (S.drawn shelf.old) (S.drawn shelf.new) }
+    ensures long { result ≡ Ending.TooLong → IfSome (asked_by (map string_bytes words.now)) (λ asked. IfSome (S.held shelf.old asked.file) (λ told. 16777216 < length told)) }
+    ensures short { ComesOfText result → IfSome (asked_by (map string_bytes words.now)) (λ asked. IfSome (S.held shelf.old asked.file) (λ told. length told ≤ 16777216)) }
+    ensures write_fault { result ≡ Ending.WriteFault → Increased (K.faults out.old) (K.faults out.new) }
+    ensures write_quiet { result ≢ Ending.WriteFault → K.faults out.new ≡ K.faults out.old }
+    ensures run { IfSome (asked_by (map string_bytes words.now)) (λ asked. EndsBy result (S.held shelf.old asked.file) asked.budget (K.taken out.old) (K.taken out.new)) }
+    ensures complete { IsNotIncreased (S.faults shelf.old) (S.faults shelf.new) → IsNotIncreased (K.faults out.old) (K.faults out.new)
+        → IfSome (asked_by (map string_bytes words.now)) (IsCompleteFor (S.held shelf.old) result) }
+    ensures refusal { IsNotIncreased (S.faults shelf.old) (S.faults shelf.new)
+        → IfSome (asked_by (map string_bytes words.now)) (IsRefusedFor (S.held shelf.old) result) }
+{
     match command_of(words) {
         None => Ending::Usage(UsageKind::Words),
         Some(command) => run_command(alloc, &command, shelf, out),
