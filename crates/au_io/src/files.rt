@@ -1,21 +1,49 @@
 //! Files of the machine.
-ghost use Rattle.std.specs.Prelude.{◌≡◌, ◌+◌, ◌<◌, ◌≤◌, ◌≢◌, ◌++◌, ℕ, List, IfOk, IfErr, IfSome, OnOk, IsErrOf, length, drop, vec_len, Some, None, Ok};
+ghost use Rattle.std.specs.Prelude.{◌≡◌, ◌+◌, ◌<◌, ◌≤◌, ◌≢◌, ◌++◌, ℕ, Bool, true, false, List, Option, IsErr, IfOk, IfErr, IfSome, OnOk, IsErrOf, length, drop, vec_len, Some, None, Ok, Err};
 ghost use Rattle.std.specs.Io.KnownBytes.{Consumes, IsAtEnd};
 ghost use Rattle.au_io.specs.FaultCounts.{Increased, IncreasedBy};
 
 use crate::shelf::{ReadRefusal, Shelf};
 use std::alloc::Global;
 use std::fs::File;
-use std::io::{ErrorKind, Read};
+use std::io::{self, ErrorKind, Read};
 use std::rt::Files;
 
 /// How many bytes one read asks for at most.
 const PIECE: usize = 65_536;
 
-/// The files of the machine. It tells no bytes; its counts stop at the greatest number.
+/// What opens a name for reading. It may tell what a name holds, and that a name is not there.
+pub trait Opener {
+    type File: Read + Drop;
+
+    /// The bytes of a name, where the opener tells them.
+    ghost held: { Self → List ℕ → Option (List ℕ) };
+
+    /// Whether the opener tells that it finds nothing under a name.
+    ghost is_missing: { Self → List ℕ → Bool };
+
+    fn open(&self, name: &str) -> io::Result<Self::File>
+        ensures held { IfOk result (λ file. IfSome (held self.now name.now) (λ told. Self.File.remaining file ≡ Some told)) }
+        ensures missing { is_missing self.now name.now ≡ true → IsErr result };
+}
+
+/// The machine's files, of which nothing is told.
+impl<R: Files> Opener for &R {
+    type File = R::File;
+
+    ghost held = { λ _ _. None };
+
+    ghost is_missing = { λ _ _. false };
+
+    fn open(&self, name: &str) -> io::Result<R::File> {
+        File::open(*self, name)
+    }
+}
+
+/// What an opener finds under a name. Its counts stop at the greatest number.
 #[derive(Drop)]
-pub struct FileShelf<'r, R: Files> {
-    rt: &'r R,
+pub struct FileShelf<O: Opener + Drop> {
+    opener: O,
     tally: Tally,
 }
 
@@ -26,13 +54,14 @@ struct Tally {
     drawn: u64,
 }
 
-impl<'r, R: Files> FileShelf<'r, R> {
+impl<O: Opener + Drop> FileShelf<O> {
     /// A shelf whose counts are 0.
-    pub fn new(rt: &'r R) -> FileShelf<'r, R>
-        ensures { (result.tally.faults ≡ 0) × (result.tally.drawn ≡ 0) }
+    pub fn new(opener: O) -> FileShelf<O>
+        ensures opener { result.opener ≡ opener }
+        ensures counts { (result.tally.faults ≡ 0) × (result.tally.drawn ≡ 0) }
     {
         FileShelf {
-            rt,
+            opener,
             tally: Tally {
                 faults: 0,
                 drawn: 0,
@@ -41,15 +70,28 @@ impl<'r, R: Files> FileShelf<'r, R> {
     }
 }
 
-impl<R: Files> Shelf for FileShelf<'_, R> {
-    ghost held = { λ _ _. None };
+impl<O: Opener + Drop> Shelf for FileShelf<O> {
+    ghost held = { λ s name. O.held s.opener name };
 
     ghost faults = { λ s. s.tally.faults };
 
     ghost drawn = { λ s. s.tally.drawn };
 
-    fn read_all(&mut self, alloc: Global, name: &str, most: usize) -> Result<Vec<u8>, ReadRefusal> {
-        match File::open(self.rt, name) {
+    /// A name that is not there is a read fault.
+    fn read_all(&mut self, alloc: Global, name: &str, most: usize) -> Result<Vec<u8>, ReadRefusal>
+        ensures whole { IfOk result (λ bytes. IfSome (O.held self.old.opener name.now) (λ told. bytes.items ≡ told)) }
+        ensures within { IfOk result (λ bytes. vec_len bytes ≤ most) }
+        ensures missing { O.is_missing self.old.opener name.now ≡ true → result ≡ Err ReadRefusal.ReadFault }
+        ensures fault { IsErrOf result ReadRefusal.ReadFault → Increased self.old.tally.faults self.new.tally.faults }
+        ensures long { IsErrOf result ReadRefusal.TooLong → IfSome (O.held self.old.opener name.now) (λ told. most < length told) }
+        ensures too_long { IsErrOf result ReadRefusal.TooLong → IncreasedBy (most + 1) self.old.tally.drawn self.new.tally.drawn }
+        ensures quiet { result ≢ Err ReadRefusal.ReadFault → self.new.tally.faults ≡ self.old.tally.faults }
+        ensures faults_stay { self.old.tally.faults ≤ self.new.tally.faults }
+        ensures drawn_stay { self.old.tally.drawn ≤ self.new.tally.drawn }
+        ensures least { self.new.tally.drawn ≤ self.old.tally.drawn + (most + 1) }
+        ensures kept { self.new.opener ≡ self.old.opener }
+    {
+        match self.opener.open(name) {
             Ok(mut file) => self.tally.read_file(alloc, &mut file, most),
             Err(_) => Err(self.tally.fault()),
         }
@@ -80,6 +122,7 @@ impl Tally {
         ensures fault { IsErrOf result ReadRefusal.ReadFault → Increased self.old.faults self.new.faults }
         ensures long { IsErrOf result ReadRefusal.TooLong → IfSome (F.remaining file.old) (λ told. most < length told) }
         ensures too_long { IsErrOf result ReadRefusal.TooLong → IncreasedBy (most + 1) self.old.drawn self.new.drawn }
+        ensures quiet { result ≢ Err ReadRefusal.ReadFault → self.new.faults ≡ self.old.faults }
         ensures faults_stay { self.old.faults ≤ self.new.faults }
         ensures drawn_stay { self.old.drawn ≤ self.new.drawn }
         ensures least { self.new.drawn ≤ self.old.drawn + (most + 1) }
@@ -153,7 +196,6 @@ fn read_piece<F: Read>(
 #[cfg(test)]
 mod tests {
     use super::*;
-    use std::io;
     use std::test::Fail;
 
     /// It gives a byte, is interrupted, and then fails.

@@ -11,9 +11,9 @@ pub mod stdout;
 #[cfg(test)]
 mod tests;
 
-pub use files::FileShelf;
+pub use files::{FileShelf, Opener};
 pub use gate::{Gate, Moment, NoGate};
 pub use memory::{MemoryShelf, MemorySink};
 pub use shelf::{ReadRefusal, Shelf};
 pub use sink::{Sink, WriteFault};
-pub use stdout::StdoutSink;
+pub use stdout::{Output, StdoutSink};

@@ -1,5 +1,5 @@
 //! Shelves and sinks in memory, which tell their bytes.
-ghost use Rattle.std.specs.Prelude.{◌≡◌, ◌+◌, ◌-◌, ◌<◌, ◌≤◌, ◌↔◌, ◌++◌, [], ℕ, List, IfOk, IfSome, IsErrOf, IsTrue, IsOk, OnOk, OnErr, Some, cond, false, length, option_map, take, vec_capacity, vec_len};
+ghost use Rattle.std.specs.Prelude.{◌≡◌, ◌≢◌, ◌+◌, ◌-◌, ◌<◌, ◌≤◌, ◌↔◌, ◌++◌, [], ℕ, List, IfOk, IfSome, IsErrOf, IsTrue, IsOk, OnOk, OnErr, Some, Err, cond, false, length, option_map, take, vec_capacity, vec_len};
 ghost use Rattle.au_io.specs.FaultCounts.{HasCause, Increased, IncreasedBy, Appended, AppendedPrefix, increased_count};
 ghost use Rattle.au_io.specs.MemoryFiles.{file_of, is_fault};
 
@@ -36,6 +36,7 @@ impl Shelf for MemoryShelf {
         ensures told_long { is_fault self.old name.now ≡ false → IfSome (file_of name.now self.old.files.items) (λ told. most < length told → IsErrOf result ReadRefusal.TooLong) }
         ensures too_long { IsErrOf result ReadRefusal.TooLong → IncreasedBy (most + 1) self.old.drawn self.new.drawn }
         ensures faults { self.new.faults ≡ cond (is_fault self.old name.now) (increased_count 1 self.old.faults) self.old.faults }
+        ensures quiet { result ≢ Err ReadRefusal.ReadFault → self.new.faults ≡ self.old.faults }
         ensures faults_stay { self.old.faults ≤ self.new.faults }
         ensures drawn { IfOk result (λ bytes. self.new.drawn ≡ increased_count (vec_len bytes) self.old.drawn) }
         ensures drawn_stay { self.old.drawn ≤ self.new.drawn }
@@ -116,7 +117,7 @@ impl Sink for MemorySink {
         ensures room { self.new.room ≡ self.old.room }
         ensures fits { IsOk result ↔ (vec_len self.old.bytes + length bytes.now ≤ self.old.room) }
         ensures items { self.new.bytes.items ≡ self.old.bytes.items ++ take (self.old.room - vec_len self.old.bytes) bytes.now }
-        ensures faults { OnOk result (self.new.faults ≡ self.old.faults) }
+        ensures quiet { OnOk result (self.new.faults ≡ self.old.faults) }
     {
         let fits = bytes.len().min(self.room - self.bytes.len());
         let Ok(()) = self.bytes.extend_from_slice(&bytes[..fits]) else {

@@ -1,5 +1,5 @@
 //! Where texts are read from.
-ghost use Rattle.std.specs.Prelude.{◌≡◌, ◌+◌, ◌<◌, ◌≤◌, ℕ, List, Option, IfOk, IfSome, IsErrOf, length, vec_len};
+ghost use Rattle.std.specs.Prelude.{◌≡◌, ◌≢◌, ◌+◌, ◌<◌, ◌≤◌, ℕ, List, Option, IfOk, IfSome, IsErrOf, Err, length, vec_len};
 ghost use Rattle.au_io.specs.FaultCounts.{Increased, IncreasedBy};
 
 use au_term::NoMemory;
@@ -46,5 +46,6 @@ pub trait Shelf {
         ensures faults_stay { faults self.old ≤ faults self.new }
         ensures drawn_stay { drawn self.old ≤ drawn self.new }
         ensures least { drawn self.new ≤ drawn self.old + (most + 1) }
+        ensures quiet { result ≢ Err ReadRefusal.ReadFault → faults self.new ≡ faults self.old }
         ensures kept { (other : List ℕ) → held self.new other ≡ held self.old other };
 }

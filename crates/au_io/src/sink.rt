@@ -1,5 +1,5 @@
 //! Where bytes are written to.
-ghost use Rattle.std.specs.Prelude.{ℕ, List, Option, OnOk, OnErr};
+ghost use Rattle.std.specs.Prelude.{◌≡◌, ℕ, List, Option, OnOk, OnErr};
 ghost use Rattle.au_io.specs.FaultCounts.{HasCause, Appended, AppendedPrefix};
 
 /// A write that failed.
@@ -18,5 +18,6 @@ pub trait Sink {
     fn write_all(&mut self, bytes: &[u8]) -> Result<(), WriteFault>
         ensures ok { OnOk result (Appended (taken self.old) (taken self.new) bytes.now) }
         ensures err { OnErr result (AppendedPrefix (taken self.old) (taken self.new) bytes.now) }
+        ensures quiet { OnOk result (faults self.new ≡ faults self.old) }
         ensures cause { HasCause (faults self.old) (faults self.new) result };
 }

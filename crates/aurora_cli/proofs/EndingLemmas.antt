@@ -36,13 +36,13 @@ pub loaded_job : (r : Result Job Ending) (held : Option (List ℕ)) (bytes text 
 loaded_job (Ok job) held bytes text e k h = record { text = text; read = k; stands = subst (λ (b : List ℕ). StandsFor b (job_meant job)) e h }
 loaded_job (Err x) held bytes text e k h = tt
 
-no_valid : (bytes : List ℕ) (n : ℕ) → IsValidUpTo bytes n → IsUtf8 bytes → ⊥
+pub no_valid : (bytes : List ℕ) (n : ℕ) → IsValidUpTo bytes n → IsUtf8 bytes → ⊥
 no_valid bytes n v u = v.longest (length bytes) v.short (subst IsUtf8 (sym (take_all (length bytes) bytes (omega arith))) u)
 
 stands_alone : (bytes : List ℕ) (job other : JobTerms) → StandsFor bytes job → StandsFor bytes other → job ≡ other
 stands_alone bytes job other h k = one_job library (chars bytes) job other h.loads k.loads
 
-not_both : (bytes : List ℕ) (job : JobTerms) (line column : ℕ) (kind : FaultKind) → StandsFor bytes job → IsRefusedText bytes line column kind → ⊥
+pub not_both : (bytes : List ℕ) (job : JobTerms) (line column : ℕ) (kind : FaultKind) → StandsFor bytes job → IsRefusedText bytes line column kind → ⊥
 not_both bytes job line column kind h (no_text v) = no_valid bytes _ v h.utf8
 not_both bytes job line column kind h (text_fault utf8 r) = no_fault (chars bytes) r.from h.loads.own kind h.loads.text_is r.fault
 

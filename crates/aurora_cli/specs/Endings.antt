@@ -1,5 +1,5 @@
 -- How the program ends.
-use Rattle.std.specs.Prelude.{◌≡◌, ◌⊎◌, ℕ, ◌≤◌, List, length, Option, IfSome}
+use Rattle.std.specs.Prelude.{◌≡◌, ◌⊎◌, ℕ, ◌<◌, ◌≤◌, List, length, Option, IfSome}
 use Rattle.run_model.specs.declared.ending.Ending.{Ending}
 use Rattle.run_model.specs.declared.ending.Ending.TheVariants.{Finished, Halted, Budget, Refused, TooLong, Usage, ReadFault, WriteFault, NoMemory}
 use Rattle.run_model.specs.declared.ending.RunEnding.{RunEnding}
@@ -69,6 +69,15 @@ IsComplete e budget text = (job : JobTerms) → length text ≤ 16777216 → Sta
 -- the same of a command, by what the shelf held
 abbrev pub IsCompleteFor : (List ℕ → Option (List ℕ)) → Ending → Asked → Type 0
 IsCompleteFor held e asked = IfSome (held asked.file) (IsComplete e asked.budget)
+
+-- a text that is refused or too long is answered so, unless memory runs out
+pub record IsRefusedAs (e : Ending) (text : List ℕ) : Type 0 where
+  pub refused : (line column : ℕ) (kind : FaultKind) → length text ≤ 16777216 → IsRefusedText text line column kind → (e ≡ Refused line column kind) ⊎ (e ≡ NoMemory)
+  pub too_long : 16777216 < length text → (e ≡ TooLong) ⊎ (e ≡ NoMemory)
+
+-- the same of a command, by what the shelf held
+abbrev pub IsRefusedFor : (List ℕ → Option (List ℕ)) → Ending → Asked → Type 0
+IsRefusedFor held e asked = IfSome (held asked.file) (IsRefusedAs e)
 
 -- a count of faults did not rise
 abbrev pub IsNotIncreased : ℕ → ℕ → Type 0

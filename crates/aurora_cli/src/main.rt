@@ -1,6 +1,10 @@
 //! The program `aurora FILE BUDGET`.
 #![tactic(auto)]
 
+ghost use Rattle.std.specs.Prelude.{◌≡◌, ◌≢◌, IfOk, IfErr};
+ghost use Rattle.std.specs.Vec.Iter.{into_iter_items};
+
+pub mod finish;
 mod job;
 pub mod note;
 #[cfg(test)]
@@ -12,12 +16,13 @@ mod tests;
 pub mod top;
 mod words;
 
-use crate::note::note_line;
+use crate::finish::finish;
 use crate::top::aurora;
 use au_io::{FileShelf, NoGate, StdoutSink};
-use run_model::{Ending, UsageKind, code};
-use std::env;
-use std::io::{ErrorKind, Write};
+use run_model::{Ending, UsageKind};
+use std::alloc::Global;
+use std::env::{self, Args};
+use std::io::ErrorKind;
 use std::process::ExitCode;
 use std::rt::Env;
 
@@ -31,35 +36,33 @@ fn main(rt: HostRuntime) -> ExitCode {
         }
         Err(ending) => ending,
     };
-    print_note(rt.stderr(), &ending);
-    ExitCode::from(code(&ending))
-}
-
-/// Prints the note of an ending. That it cannot be printed changes nothing.
-fn print_note<W: Write + Drop>(mut out: W, ending: &Ending) {
-    let mut line = [0; 160];
-    let length = note_line(ending, &mut line);
-    let _ = out.write_all(&line[..length]);
+    ExitCode::from(finish(&mut StdoutSink::new(rt.stderr()), &ending))
 }
 
 /// The words of the command line, the program's name first.
 fn command_line<R: Env + AllocGlobal>(rt: &R) -> Result<Vec<String>, Ending> {
     match env::args(rt) {
-        Ok(args) => {
-            let mut words = Vec::new(rt.alloc());
-            for word in args {
-                if words.push(word).is_err() {
-                    return Err(Ending::NoMemory);
-                }
-            }
-            Ok(words)
-        }
+        Ok(args) => words_of(rt.alloc(), args),
         Err(error) => Err(unread(error.kind())),
     }
 }
 
+/// The words, every one of them.
+fn words_of(alloc: Global, args: Args) -> Result<Vec<String>, Ending>
+    ensures ok { IfOk result (λ words. words.items ≡ into_iter_items args) }
+    ensures err { IfErr result (λ ending. ending ≡ Ending.NoMemory) }
+{
+    match Vec::from_iter(alloc, args) {
+        Ok(words) => Ok(words),
+        Err(_) => Err(Ending::NoMemory),
+    }
+}
+
 /// Why the words were not read: some are no text, or running out of memory.
-fn unread(kind: ErrorKind) -> Ending {
+fn unread(kind: ErrorKind) -> Ending
+    ensures memory { kind ≡ ErrorKind.OutOfMemory → result ≡ Ending.NoMemory }
+    ensures words { kind ≢ ErrorKind.OutOfMemory → result ≡ Ending.Usage UsageKind.Words }
+{
     match kind {
         ErrorKind::OutOfMemory => Ending::NoMemory,
         _ => Ending::Usage(UsageKind::Words),

@@ -1,7 +1,26 @@
 //! The larger programs of `examples/`, whose texts are here too, since a test can read no file outside its crate.
-use crate::tests::ends;
+use crate::tests::{ends, run_bytes};
 use run_model::Ending;
 use std::test::Fail;
+
+/// The text of `data/family.pl`, which the gate runs to a budget that stops it.
+const FAMILY: &str = r#"parent(ann, ben).
+parent(ann, cleo).
+parent(ben, dora).
+parent(cleo, emil).
+parent(dora, finn).
+
+ancestor(X, Y) :- parent(X, Y).
+ancestor(X, Y) :- parent(X, Z), ancestor(Z, Y).
+
+?- ancestor(ann, Who), parent(Who, Child).
+"#;
+
+const FAMILY_LINES: &str = r#"Who = ben, Child = dora
+Who = cleo, Child = emil
+Who = dora, Child = finn
+no
+"#;
 
 const PARSER: &str =
     r#"% Sentences of a small grammar: a sentence is a list of words, and its tree tells how it is built.
@@ -170,6 +189,7 @@ no
 #[test]
 fn programs(rt: HostRuntime) -> Result<(), Fail> {
     for (text, lines) in [
+        (FAMILY, FAMILY_LINES),
         (PARSER, PARSER_LINES),
         (PUZZLE, PUZZLE_LINES),
         (PLANNER, PLANNER_LINES),
@@ -188,5 +208,17 @@ fn programs(rt: HostRuntime) -> Result<(), Fail> {
             "{lines}"
         );
     }
+    Ok(())
+}
+
+#[test]
+fn text_too_long(rt: HostRuntime) -> Result<(), Fail> {
+    let alloc = rt.alloc();
+    let mut text = Vec::new(alloc);
+    text.resize(16_777_217, b' ')?;
+    assert_eq!(rt;
+        run_bytes(&rt, alloc, &text)?,
+        (Ending::TooLong, 16_777_217)
+    );
     Ok(())
 }

@@ -52,6 +52,19 @@ pub(crate) fn ends<R: Threads + Wait + Sync>(
     Ok(ended == ending && out.taken() == lines.as_bytes())
 }
 
+/// How the run of these bytes ends, and how many of them the shelf gave.
+pub(crate) fn run_bytes<R: Threads + Wait + Sync>(
+    rt: &R,
+    alloc: Global,
+    bytes: &[u8],
+) -> Result<(Ending, u64), Fail> {
+    let mut shelf = shelf_of(alloc, bytes)?;
+    let mut out = MemorySink::new(alloc, 0)?;
+    let words = words_of(alloc, &["f.pl", "9"])?;
+    let ending = aurora(rt, alloc, &words, &mut shelf, &mut out, &NoGate);
+    Ok((ending, shelf.drawn))
+}
+
 /// A text, the budget, the ending, and the lines.
 type Row = (&'static str, &'static str, Ending, &'static str);
 
@@ -486,6 +499,7 @@ fn words(rt: HostRuntime) -> Result<(), Fail> {
         let ending = aurora(&rt, alloc, &words, &mut shelf, &mut out, &NoGate);
         assert_eq!(rt; ending, Ending::Usage(UsageKind::Words));
         assert!(rt; out.taken().is_empty());
+        assert_eq!(rt; (shelf.calls, shelf.faults), (0, 0));
     }
     Ok(())
 }

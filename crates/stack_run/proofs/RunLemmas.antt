@@ -25,7 +25,7 @@ use Rattle.stack_run.specs.RunEnds.{IsRun}
 pub record IsRunning (job : KeptJob) (m : Machine) (taken : ℕ) (before now : Option (List ℕ)) (faults_before faults_now : ℕ) : Type 0 where
   pub state : state_view job m (text_of (job_meant job) taken) taken ≡ seq (job_meant job) taken
   pub bytes : Appended before now (text_of (job_meant job) taken)
-  pub faults : faults_before ≤ faults_now
+  pub faults : faults_now ≡ faults_before
   pub ready : IsReady m.stack
 
 -- what a step of the machine does
@@ -47,7 +47,7 @@ begins job m out faults h y =
     record {
       state = ap (λ bytes. state_view job m bytes 0) text ∙ sym first;
       bytes = subst (Appended out out) (sym text) (none out);
-      faults = omega arith;
+      faults = refl;
       ready = y;
     }
   where
@@ -61,14 +61,14 @@ next_state : (job : KeptJob) (m new : Machine) (i : ℕ) → state_view job m (t
 next_state job m new i h k = k (text_of (job_meant job) i) i ∙ (ap (λ st. with_free_steps (step (arc_value job.procs) st)) h ∙ sym (seq-next (job_meant job) i))
 
 pub goes_on : (job : KeptJob) (m new : Machine) (i : ℕ) (before now after : Option (List ℕ)) (fb fn fa : ℕ) → IsRunning job m i before now fb fn → Steps job m new
-    → IsReady new.stack → Appended now after new.line.items → fn ≤ fa → IsRunning job new (i + 1) before after fb fa
+    → IsReady new.stack → Appended now after new.line.items → fa ≡ fn → IsRunning job new (i + 1) before after fb fa
 goes_on job m new i before now after fb fn fa r k y t f =
     let s = next_state job m new i r.state k in
     let text : text_of (job_meant job) i ++ new.line.items ≡ text_of (job_meant job) (i + 1) = ap (λ (st : State). st.world.written) s in
     record {
       state = subst (λ bytes. state_view job new bytes (i + 1) ≡ seq (job_meant job) (i + 1)) text s;
       bytes = subst (Appended before after) text (took_both before now after (text_of (job_meant job) i) new.line.items r.bytes t);
-      faults = omega (arith, r.faults);
+      faults = f ∙ r.faults;
       ready = y;
     }
 

@@ -1,5 +1,5 @@
 //! Whole runs.
-ghost use Rattle.std.specs.Prelude.{◌≡◌, ◌≤◌};
+ghost use Rattle.std.specs.Prelude.{◌≡◌, ◌≢◌, ◌≤◌};
 ghost use Rattle.au_io.specs.FaultCounts.{Increased};
 ghost use Rattle.stack_run.specs.RunEnds.{IsRun};
 ghost use Rattle.text_load.specs.JobView.{job_meant};
@@ -15,6 +15,7 @@ use text_load::Job;
 pub fn run_job<K: Sink>(alloc: Global, job: Job, budget: u64, out: &mut K) -> RunEnd
     ensures run { IsRun (job_meant job) budget (K.taken out.old) (K.taken out.new) result }
     ensures fault { result.end ≡ RunEnding.WriteFault → Increased (K.faults out.old) (K.faults out.new) }
+    ensures quiet { result.end ≢ RunEnding.WriteFault → K.faults out.new ≡ K.faults out.old }
     ensures faults_stay { K.faults out.old ≤ K.faults out.new }
 {
     let Ok(mut machine) = opening(alloc, &job) else {

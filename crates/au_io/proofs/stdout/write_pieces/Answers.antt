@@ -18,7 +18,7 @@ loop-preserved g c =
 
 pub returns-then-is_empty-clause-err : goal.returns-then-is_empty-clause-err
 returns-then-is_empty-clause-err g c =
-    on_err_always c.map_err.result _ (front _ _ c.args.bytes.now c.loop.invariant.0 c.loop.rest.now c.loop.invariant.1 (Appends-keep _ _ _ c.loop.invariant.0 c.loop.invariant.2 c.flush.ensures.bytes))
+    on_err_always c.flush.result _ (front _ _ c.args.bytes.now c.loop.invariant.0 c.loop.rest.now c.loop.invariant.1 (Appends-keep _ _ _ c.loop.invariant.0 c.loop.invariant.2 c.flush.ensures.bytes))
 
 pub returns-in-Ok-eq0-clause-err : goal.returns-in-Ok-eq0-clause-err
 returns-in-Ok-eq0-clause-err g c =

@@ -1,4 +1,5 @@
 use Rattle.aurora_cli.proofs.EndingLemmas.{ran, complete_run, complete_fault}
+use Rattle.aurora_cli.proofs.OneRefusalLemmas.{refused_run, refused_fault}
 use Rattle.aurora_cli.proofs.top.run_command.Goals as goal
 
 pub returns-in-Ok-clause-run : goal.returns-in-Ok-clause-run
@@ -13,3 +14,10 @@ returns-in-Ok-clause-complete g c = λ read write.
 pub returns-in-Err-clause-complete : goal.returns-in-Err-clause-complete
 returns-in-Err-clause-complete g c = λ read write.
     complete_fault (g.S.Shelf.held c.args.shelf.now c.args.command.now.file.now) c.in-Err.ending c.args.command.now.budget c.in-Err.ensures.cause (λ q. read (c.in-Err.ensures.read_fault q)) c.in-Err.ensures.long
+
+pub returns-in-Ok-clause-refusal : goal.returns-in-Ok-clause-refusal
+returns-in-Ok-clause-refusal g c = λ read. refused_run (g.S.Shelf.held c.args.shelf.now c.args.command.now.file.now) c.in-Ok.job c.ending_of_run.result c.in-Ok.ensures.job (c.in-Ok.ensures.short tt)
+
+pub returns-in-Err-clause-refusal : goal.returns-in-Err-clause-refusal
+returns-in-Err-clause-refusal g c = λ read.
+    refused_fault (g.S.Shelf.held c.args.shelf.now c.args.command.now.file.now) c.in-Err.ending c.in-Err.ensures.cause (λ q. read (c.in-Err.ensures.read_fault q)) c.in-Err.ensures.long c.in-Err.ensures.short

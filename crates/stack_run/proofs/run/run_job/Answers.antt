@@ -33,4 +33,4 @@ returns-in-Err-clause-run g c =
 
 pub loop-taken-preserved : goal.loop-taken-preserved
 loop-taken-preserved g c =
-    goes_on c.args.job c.loop-taken.machine c.step.new.machine c.loop-taken.taken _ _ _ _ _ _ c.loop-taken.invariant c.in-Ok-step.ensures.state c.in-Ok-step.ensures.ready (subst (Appended (g.K.Sink.taken c.loop-taken.out) (g.K.Sink.taken c.write_all.new.self)) c.deref.ensures.value c.in-Ok-write_all.ensures.ok) c.write_all.ensures.cause.later
+    goes_on c.args.job c.loop-taken.machine c.step.new.machine c.loop-taken.taken _ _ _ _ _ _ c.loop-taken.invariant c.in-Ok-step.ensures.state c.in-Ok-step.ensures.ready (subst (Appended (g.K.Sink.taken c.loop-taken.out) (g.K.Sink.taken c.write_all.new.self)) c.deref.ensures.value c.in-Ok-write_all.ensures.ok) c.in-Ok-write_all.ensures.quiet
