@@ -3,3 +3,9 @@ pub mod GoalBoundLemmas
 pub mod JobAssemblyLemmas
 pub mod SentenceLemmas
 pub mod UniqueLoadLemmas
+pub mod FirstEndLemmas
+pub mod TokenPlaceLemmas
+pub mod RestLemmas
+pub mod FaultPlaceLemmas
+pub mod TermTotalityLemmas
+pub mod TextTotalityLemmas

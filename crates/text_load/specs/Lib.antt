@@ -5,3 +5,4 @@ pub mod LoadedSentences
 pub mod Sentences
 pub mod LoadedTexts
 pub mod SentenceForms
+pub mod Totality
