@@ -1,0 +1,344 @@
+//! Texts with what they write, and faulty texts with their faults.
+use au_model::FaultKind;
+use run_model::Ending;
+
+/// A text, the budget, the ending, and the lines.
+pub(crate) type Row = (&'static str, &'static str, Ending, &'static str);
+
+pub(crate) const FINISHED: Ending = Ending::Finished;
+
+pub(crate) static CONTROL: [Row; 44] = [
+    ("", "9", FINISHED, ""),
+    ("p(1). p(2). ?- p(X).", "4", FINISHED, "X = 1\nX = 2\nno\n"),
+    (
+        "p(1). p(2). ?- p(X).",
+        "3",
+        Ending::Budget,
+        "X = 1\nX = 2\n",
+    ),
+    ("p(1). ?- p(1).", "9", FINISHED, "true\nno\n"),
+    (
+        "p(1). p(2). q(X) :- p(X), !. ?- q(X).",
+        "99",
+        FINISHED,
+        "X = 1\nno\n",
+    ),
+    (
+        "r(a). r(X) :- loop, X = b. loop :- loop. ?- once(r(X)).",
+        "1000",
+        FINISHED,
+        "X = a\nno\n",
+    ),
+    ("n :- n. ?- n.", "10", Ending::Budget, ""),
+    (
+        "p(1). p(2). ?- findall(X, p(X), L).",
+        "99",
+        FINISHED,
+        "X = _0, L = [1,2]\nno\n",
+    ),
+    (
+        "?- foo.",
+        "9",
+        FINISHED,
+        "error: error(existence_error(procedure,foo/0),foo/0)\n",
+    ),
+    ("?- catch(true, _, true).", "5", FINISHED, "true\nno\n"),
+    ("?- catch(true, _, true).", "4", Ending::Budget, "true\n"),
+    ("?- X = f(X).", "9", FINISHED, "no\n"),
+    ("?- throw(f(Z)).", "9", FINISHED, "error: f(_0)\n"),
+    (
+        "?- catch(throw(f(Z)), f(A), true).",
+        "99",
+        FINISHED,
+        "Z = _0, A = _1\nno\n",
+    ),
+    (
+        "?- catch(true, _, true), throw(b).",
+        "99",
+        FINISHED,
+        "error: b\n",
+    ),
+    ("?- X = \"ab\".", "9", FINISHED, "X = [97,98]\nno\n"),
+    (
+        "?- call((fail, 1)).",
+        "9",
+        FINISHED,
+        "error: error(type_error(callable,(fail,1)),call/1)\n",
+    ),
+    (
+        "?- X = 1, (X ; true).",
+        "99",
+        FINISHED,
+        "error: error(type_error(callable,1),call/1)\n",
+    ),
+    (
+        "?- findall(Y, catch((Y = 1 ; findall(X, (X = 2 ; throw(e)), _)), _, Y = 3), L).",
+        "999",
+        FINISHED,
+        "Y = _0, X = _1, L = [1,3]\nno\n",
+    ),
+    (
+        "?- catch(findall(X, throw(e), _), e, true).",
+        "99",
+        FINISHED,
+        "X = _0\nno\n",
+    ),
+    ("?- X = (a :- b).", "9", FINISHED, "X = (a :- b)\nno\n"),
+    ("?- X = (-).", "9", FINISHED, "X = (-)\nno\n"),
+    ("?- X = - 1.", "9", FINISHED, "X = - 1\nno\n"),
+    ("?- X = 'A b'.", "9", FINISHED, "X = 'A b'\nno\n"),
+    (
+        "?- X = -9223372036854775808.",
+        "9",
+        FINISHED,
+        "X = -9223372036854775808\nno\n",
+    ),
+    (
+        "a(1). ?- a(X). ?- a(Y), Z = f(Y, W).",
+        "99",
+        FINISHED,
+        "X = 1\nno\nY = 1, Z = f(1,_2), W = _2\nno\n",
+    ),
+    ("?- (true -> X = 1 ; X = 2).", "99", FINISHED, "X = 1\nno\n"),
+    ("?- (fail -> X = 1 ; X = 2).", "99", FINISHED, "X = 2\nno\n"),
+    ("?- (fail -> true).", "99", FINISHED, "no\n"),
+    (
+        "?- (X = 1 ; X = 2), \\+ X = 1.",
+        "99",
+        FINISHED,
+        "X = 2\nno\n",
+    ),
+    ("?- \\+ fail.", "5", Ending::Budget, "true\n"),
+    ("?- \\+ fail.", "6", FINISHED, "true\nno\n"),
+    (
+        "p(1). p(2). p(3). ?- (p(X), ! ; X = 4).",
+        "99",
+        FINISHED,
+        "X = 1\nno\n",
+    ),
+    (
+        "p(1). p(2). ?- call((p(X), !)), p(Y).",
+        "99",
+        FINISHED,
+        "X = 1, Y = 1\nX = 1, Y = 2\nno\n",
+    ),
+    (
+        "?- call(f, 1).",
+        "9",
+        FINISHED,
+        "error: error(existence_error(procedure,f/1),f/1)\n",
+    ),
+    (
+        "?- call(','(X, Y), fail).",
+        "9",
+        FINISHED,
+        "error: error(existence_error(procedure,(',')/3),(',')/3)\n",
+    ),
+    (
+        "add(X, Y, f(X, Y)). ?- call(add(1), 2, Z).",
+        "99",
+        FINISHED,
+        "Z = f(1,2)\nno\n",
+    ),
+    (
+        "?- G = (X = 1 ; X = 2), G.",
+        "99",
+        FINISHED,
+        "G = (1 = 1 ; 1 = 2), X = 1\nG = (2 = 1 ; 2 = 2), X = 2\nno\n",
+    ),
+    (
+        "?- catch((X = 1 ; throw(a)), a, X = 2).",
+        "99",
+        FINISHED,
+        "X = 1\nX = 2\nno\n",
+    ),
+    (
+        "?- catch(catch(throw(a), b, true), a, X = 1).",
+        "99",
+        FINISHED,
+        "X = 1\nno\n",
+    ),
+    ("?- catch(throw(_), _, true).", "99", FINISHED, "true\nno\n"),
+    (
+        "?- X.",
+        "9",
+        FINISHED,
+        "error: error(instantiation_error,call/1)\n",
+    ),
+    (
+        "p :- catch(q, X, (X = e ; true)). q :- throw(e). q. ?- p. % two answers\n",
+        "99",
+        FINISHED,
+        "true\ntrue\nno\n",
+    ),
+    (
+        "e(X, X). ?- e(f(Y), f(g(Z))), findall(A-B, e(A, B), [P|Q]).",
+        "99",
+        FINISHED,
+        "Y = g(_1), Z = _1, A = _2, B = _3, P = _7-_7, Q = []\nno\n",
+    ),
+];
+
+/// A text, and the line, the column and the kind of its fault, and what its note says of the kind.
+pub(crate) type Bad = (&'static str, u32, u32, FaultKind, &'static str);
+
+pub(crate) static FAULTS: [Bad; 24] = [
+    ("p(1", 1, 4, FaultKind::UnexpectedEnd, "unexpected end"),
+    (
+        "p(1).q(",
+        1,
+        5,
+        FaultKind::UnexpectedToken,
+        "unexpected token",
+    ),
+    ("p('ab", 1, 3, FaultKind::UnclosedQuote, "quote not closed"),
+    (
+        "/* x",
+        1,
+        1,
+        FaultKind::UnclosedComment,
+        "comment not closed",
+    ),
+    ("p('\\q').", 1, 4, FaultKind::BadEscape, "bad escape"),
+    (
+        "p(1.5).",
+        1,
+        3,
+        FaultKind::FloatNumeral,
+        "floating-point numeral",
+    ),
+    (
+        "p(]).",
+        1,
+        3,
+        FaultKind::UnexpectedToken,
+        "unexpected token",
+    ),
+    ("p:-q", 1, 5, FaultKind::UnexpectedEnd, "unexpected end"),
+    (
+        "p(`",
+        1,
+        3,
+        FaultKind::BadCharacter,
+        "character not allowed",
+    ),
+    (
+        "p(1).\np(\n",
+        3,
+        1,
+        FaultKind::UnexpectedEnd,
+        "unexpected end",
+    ),
+    (
+        "p(9223372036854775808).",
+        1,
+        3,
+        FaultKind::WideNumeral,
+        "numeral too wide",
+    ),
+    (":- foo.", 1, 1, FaultKind::BadDirective, "not a directive"),
+    ("?- 1.", 1, 1, FaultKind::BadClause, "not a clause"),
+    ("p(1). p(", 1, 9, FaultKind::UnexpectedEnd, "unexpected end"),
+    ("p :- 1.", 1, 1, FaultKind::BadClause, "not a clause"),
+    (
+        "p.\n % c\n  X :- p.",
+        3,
+        3,
+        FaultKind::BadClause,
+        "not a clause",
+    ),
+    ("(a,b).", 1, 1, FaultKind::BadClause, "not a clause"),
+    ("call(_).", 1, 1, FaultKind::BadClause, "not a clause"),
+    ("a = b.", 1, 1, FaultKind::BadClause, "not a clause"),
+    ("?- a. 7.", 1, 7, FaultKind::BadClause, "not a clause"),
+    (
+        ":- dynamic c/1.",
+        1,
+        12,
+        FaultKind::UnexpectedToken,
+        "unexpected token",
+    ),
+    (
+        "f(- --> a).",
+        1,
+        9,
+        FaultKind::UnexpectedToken,
+        "unexpected token",
+    ),
+    (
+        "p. q :- (a ; 1). p(",
+        1,
+        4,
+        FaultKind::BadClause,
+        "not a clause",
+    ),
+    (
+        "é(é é).",
+        1,
+        5,
+        FaultKind::UnexpectedToken,
+        "unexpected token",
+    ),
+];
+
+/// Texts of built-in predicates, which end, and their lines.
+pub(crate) static BUILTINS: [(&'static str, &'static str); 16] = [
+    ("?- X is 2 + 3 * 4 - 10 // 3.", "X = 11\nno\n"),
+    (
+        "?- X is 7 mod -2, Y is -7 // 2, Z is 7 rem -2.",
+        "X = -1, Y = -3, Z = 1\nno\n",
+    ),
+    (
+        "?- X is 9223372036854775807 + 1.",
+        "error: error(evaluation_error(int_overflow),(is)/2)\n",
+    ),
+    (
+        "?- catch(X is 1 // 0, error(E, I), true).",
+        "X = _0, E = evaluation_error(zero_divisor), I = (is)/2\nno\n",
+    ),
+    (
+        "?- X is foo + Y.",
+        "error: error(type_error(evaluable,foo/0),(is)/2)\n",
+    ),
+    ("?- 1 =:= 2 - 1, 1 < 2, \\+ 2 < 1.", "true\nno\n"),
+    (
+        "?- X = f(A, B, A), copy_term(X, Y), Y = f(1, C, D).",
+        "X = f(_1,_2,_1), A = _1, B = _2, Y = f(1,_4,1), C = _4, D = 1\nno\n",
+    ),
+    ("?- compare(O, f(a), 1), a @< b, 1 @< a.", "O = (>)\nno\n"),
+    (
+        "?- functor(f(a, b), N, A), functor(T, g, 2).",
+        "N = f, A = 2, T = g(_3,_4)\nno\n",
+    ),
+    (
+        "?- functor(T, N, 2).",
+        "error: error(instantiation_error,functor/3)\n",
+    ),
+    (
+        "?- arg(2, f(a, b), X), \\+ arg(3, f(a, b), _).",
+        "X = b\nno\n",
+    ),
+    (
+        "?- f(a, b) =.. L, T =.. [g, 1].",
+        "L = [f,a,b], T = g(1)\nno\n",
+    ),
+    (
+        "?- T =.. [f|a].",
+        "error: error(type_error(list,[f|a]),(=..)/2)\n",
+    ),
+    (
+        "?- var(X), atom(a), \\+ ground(f(X)), X \\= f(X).",
+        "X = _0\nno\n",
+    ),
+    (
+        "n(0, 0) :- !. n(N, S) :- M is N - 1, n(M, T), S is T + N. ?- n(1000, S).",
+        "S = 500500\nno\n",
+    ),
+    (
+        "q([], _, _). q([Q|Qs], D, X) :- Q =\\= X, Q - X =\\= D, X - Q =\\= D, E is D + 1, q(Qs, E, X). \
+         s(X, [X|R], R). s(X, [Y|R], [Y|S]) :- s(X, R, S). \
+         p([], []). p(L, [X|Q]) :- s(X, L, R), p(R, Q), q(Q, 1, X). \
+         ?- once(p([1,2,3,4,5,6], Q)).",
+        "Q = [2,4,6,1,3,5]\nno\n",
+    ),
+];
