@@ -49,7 +49,7 @@ fn without_sign(number: u64) -> Option<i64>
 }
 
 /// The integer of a number after a sign.
-fn negated_number(number: u64) -> i64
+fn negated(number: u64) -> i64
     requires { number ≤ 2 ^ 63 }
     ensures { result ≡ negated_number number }
 {
@@ -71,7 +71,7 @@ fn after_sign(text: &str, sign: &Token) -> Option<i64>
         return None;
     }
     match last_integer(text, &second) {
-        Some(number) => Some(negated_number(number)),
+        Some(number) => Some(negated(number)),
         None => None,
     }
 }
@@ -90,7 +90,7 @@ fn signed(text: &str, name: &Token) -> Option<i64>
 }
 
 /// The integer whose text this is, if there is one.
-fn number_in_text(text: &str) -> Option<i64>
+fn number_of(text: &str) -> Option<i64>
     ensures { MatchOption result (number_in_text (chars text.now) ≡ None) (λ z. number_in_text (chars text.now) ≡ Some z) }
 {
     let Ok(first) = next_token(text, 0) else {
@@ -161,7 +161,7 @@ fn number_of_items(
     ensures { IsAnswer (with_text (spelling_meant by) items.now (λ cs. numbered_answer number.now (number_in_text cs))) result }
 {
     let text = text_of_items(alloc, by, items)?;
-    match number_in_text(text.as_str()) {
+    match number_of(text.as_str()) {
         Some(value) => equal(alloc, number.copy()?, integer(alloc, value)?),
         None => failed(Fault::Syntax),
     }
