@@ -14,7 +14,7 @@ use Rattle.tree_model.specs.Elements.{Name, Record, Element, Credit, Plain, EndO
 use Rattle.interleaving.specs.Scopes.{Shared, Sought, Does, unmarked, results_first, act, scoped}
 use Rattle.interleaving.specs.Segments.{IsActive}
 use Rattle.interleaving.specs.HeightMachine.{HeightElement, HeightEntry, height_collected_all, height_findall_ends, height_plain_free_step}
-use Rattle.interleaving.specs.HeightMachine.{height_free_steps_within, height_settle}
+use Rattle.interleaving.specs.HeightMachine.{height_free_steps_within, height_at_rest}
 use Rattle.interleaving.specs.Erased.{element_count, height, with_height, continuation_heights, record_height, erased}
 use Rattle.interleaving.specs.Sound.{names, IsGathered, IsEntrySound, IsSound}
 use Rattle.interleaving.proofs.RunFrontLemmas.{map-none, settle-map}
@@ -148,7 +148,7 @@ module _ (clauses : List Clause) where
 
   -- the free steps of a sound list by names and by heights
   pub settle-height : (xs : List Element) (hs : List HeightElement) → erased xs ≡ hs → IsSound xs
-      → IsFreed (free_steps m [] xs) (height_settle hs)
+      → IsFreed (free_steps m [] xs) (height_at_rest hs)
   settle-height xs hs e i =
       let size : element_count xs ≤ length hs = omega (arith, length-erased xs, ap length e) in
       subst (λ l. IsFreed (free_steps m [] xs) (height_free_steps_within (length hs) l)) e

@@ -21,7 +21,7 @@ use Rattle.tree_model.specs.Nodes.{entry_alternatives}
 use Rattle.tree_model.specs.Levels.{Level}
 use Rattle.tree_model.specs.Floors.{renamed_item, renamed_continuation, renamed_entry, with_nodes, right_entry, floor_of}
 use Rattle.tree_model.specs.Gates.{gate_on}
-use Rattle.tree_model.specs.PrivateRuns.{own_settles, own_free_steps, own_part, goal_alone, item_alone, taken_alone}
+use Rattle.tree_model.specs.PrivateRuns.{own_free_step, own_free_steps, own_part, goal_alone, item_alone, taken_alone}
 use Rattle.tree_model.specs.PrivateRuns.{if_no_gate}
 use Rattle.tree_model.specs.PrivateRuns.{own_after, one_more, if_any, private_run}
 use Rattle.tree_model.specs.Shapes.{further, guard_hold, guard_kind, placed_scope, placed_status, placed}
@@ -68,7 +68,7 @@ floor_numbered (v ∷ up) h = (renamed_numbered _ _ (right_entry v.right) (right
 -- the free steps
 own_settles_numbered : (items : List (Item ℕ)) (f : Continuation ℕ) (es floor : List Entry) (go : List Entry → List Entry)
     → Each (AreItemTermsBelow f.next) items → Each (IsNamedBelow f.next) f.named → AreEntriesNumbered es
-    → ((ds : List Entry) → AreEntriesNumbered ds → AreEntriesNumbered (go ds)) → AreEntriesNumbered (own_settles items f es floor go)
+    → ((ds : List Entry) → AreEntriesNumbered ds → AreEntriesNumbered (go ds)) → AreEntriesNumbered (own_free_step items f es floor go)
 own_settles_numbered [] f es floor go i n e g = (record { items = i; named = n }, e)
 own_settles_numbered (GoalItem t s ∷ items) f es floor go i n e g = (record { items = i; named = n }, e)
 own_settles_numbered (CatchMark s ∷ items) f es floor go i n e g = (record { items = i; named = n }, e)

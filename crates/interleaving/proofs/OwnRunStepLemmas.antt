@@ -17,7 +17,7 @@ use Rattle.interleaving.specs.HeightMachine.{HeightElement, HeightCredit, Height
 use Rattle.interleaving.specs.Views.{IsGrown, IsInner}
 use Rattle.interleaving.specs.Laws.{is_inner_record}
 use Rattle.interleaving.specs.Sound.{names, IsGathered, IsEntrySound, IsSound}
-use Rattle.tree_model.specs.PrivateRuns.{own_settles, own_free_steps, settled_own}
+use Rattle.tree_model.specs.PrivateRuns.{own_free_step, own_free_steps, own_at_rest}
 use Rattle.interleaving.specs.OwnRuns.{NamesEntries, IsFloorUnder}
 use Rattle.interleaving.proofs.RunFrontLemmas.{map-none}
 use Rattle.interleaving.proofs.InsideStepLemmas.{still_drops}
@@ -133,7 +133,7 @@ module _ (clauses : List Clause) (inside : Name → Bool) (grown : IsGrown insid
       (j : ℕ) → without_marks items ≡ us → Own (Plain p (with_items (CatchMark c ∷ items) f) ∷ a)
       (PlainEntry (height_cont a (with_items (CatchMark c ∷ items) f)) ∷ es) → Own a es → Next a es j
       → IsSettledOwn (Plain p (with_items (CatchMark c ∷ items) f) ∷ a)
-      (own_settles (map (with_height (height (a ++ zs))) us) (height_cont a (with_items (CatchMark c ∷ items) f)) es floor
+      (own_free_step (map (with_height (height (a ++ zs))) us) (height_cont a (with_items (CatchMark c ∷ items) f)) es floor
       (own_free_steps floor j))
   after_marks c items us p f a es j e whole o next = go us e entry
     where
@@ -166,7 +166,7 @@ module _ (clauses : List Clause) (inside : Name → Bool) (grown : IsGrown insid
 
       go : (us : List (Item Name)) → without_marks items ≡ us → IsEntrySound p (a ++ zs) (names us) us
           → IsSettledOwn (Plain p (with_items (CatchMark c ∷ items) f) ∷ a)
-          (own_settles (map (with_height (height (a ++ zs))) us) (height_cont a (with_items (CatchMark c ∷ items) f)) es floor
+          (own_free_step (map (with_height (height (a ++ zs))) us) (height_cont a (with_items (CatchMark c ∷ items) f)) es floor
           (own_free_steps floor j))
       go [] k s = woken [] refl k s
       go (GoalItem g h ∷ us) k s = woken (GoalItem g h ∷ us) refl k s
@@ -185,7 +185,7 @@ module _ (clauses : List Clause) (inside : Name → Bool) (grown : IsGrown insid
   plain-own : (items : List (Item Name)) (p : Name) (f : Continuation Name) (a : List Element) (es : List Entry) (j : ℕ)
       → Own (Plain p (with_items items f) ∷ a) (PlainEntry (height_cont a (with_items items f)) ∷ es) → Own a es → Next a es j
       → IsSettledOwn (Plain p (with_items items f) ∷ a)
-      (own_settles (map (with_height (height (a ++ zs))) (without_marks items)) (height_cont a (with_items items f)) es floor
+      (own_free_step (map (with_height (height (a ++ zs))) (without_marks items)) (height_cont a (with_items items f)) es floor
       (own_free_steps floor j))
   plain-own [] p f a es j whole o next = stays (Plain p (with_items [] f) ∷ a) _ whole
   plain-own (GoalItem g h ∷ items) p f a es j whole o next = stays (Plain p (with_items (GoalItem g h ∷ items) f) ∷ a) _ whole
@@ -251,7 +251,7 @@ module _ (clauses : List Clause) (inside : Name → Bool) (grown : IsGrown insid
       (omega (arith, length-map (give (s, t)) a)) (omega (arith, length-collected (height (a ++ zs) s - 1 - length floor) t es))
       g in
       subst (λ x. IsSettledOwn (Plain p f ∷ a) (own_free_steps floor (suc j) (x ∷ es))) (sym same)
-      (subst (λ is. IsSettledOwn (Plain p f ∷ a) (own_settles is (height_cont a f) es floor (own_free_steps floor j)))
+      (subst (λ is. IsSettledOwn (Plain p f ∷ a) (own_free_step is (height_cont a f) es floor (own_free_steps floor j)))
       (sym (marks-heights (height (a ++ zs)) f.items)) (plain-own f.items p f a es j whole rest next))
   settles (suc n) (suc j) (Catch s u t r p f ∷ a) [] l c o = no_first (Catch s u t r p f) a refl o
   settles (suc n) (suc j) (Catch s u t r p f ∷ a) (e ∷ es) l c o =
@@ -294,5 +294,5 @@ module _ (clauses : List Clause) (inside : Name → Bool) (grown : IsGrown insid
       subst (λ x. IsSettledOwn (End p b ∷ a) (own_free_steps floor (suc j) (x ∷ es))) (sym same)
       (stays (End p b ∷ a) (d ∷ es) (subst (λ x. Own (End p b ∷ a) (x ∷ es)) same o))
 
-  pub own-settled : (a : List Element) (es : List Entry) → NamesEntries inside a zs es floor → IsSettledOwn a (settled_own floor es)
+  pub own-settled : (a : List Element) (es : List Entry) → NamesEntries inside a zs es floor → IsSettledOwn a (own_at_rest floor es)
   own-settled a es o = settles (length a) (length es) a es (omega arith) (omega arith) o

@@ -14,7 +14,7 @@ use Rattle.tree_model.specs.Nodes.{Gate}
 use Rattle.tree_model.specs.Levels.{Level}
 use Rattle.tree_model.specs.Floors.{floor_of}
 use Rattle.tree_model.specs.Gates.{goal_gate, item_gate}
-use Rattle.tree_model.specs.PrivateRuns.{own_settles, own_free_steps, settled_own, own_part, goal_alone, item_alone, if_no_gate}
+use Rattle.tree_model.specs.PrivateRuns.{own_free_step, own_free_steps, own_at_rest, own_part, goal_alone, item_alone, if_no_gate}
 use Rattle.tree_model.specs.PrivateRuns.{own_after, one_more}
 use Rattle.tree_model.specs.Shapes.{guard_kind}
 use Rattle.tree_model.specs.PendingLists.{Way}
@@ -67,7 +67,7 @@ collected_over w h t (e ∷ es) o = go (length es == h) (collected_over w h t es
 
 settles_over : (w : Way) (floor es : List Entry) (items : List (Item ℕ)) (f : Continuation ℕ) (go : List Entry → List Entry)
     → IsAsked (stack_way es w) (as_scopes items) → AreOver w es → ((ds : List Entry) → AreOver w ds → AreOver w (go ds))
-    → AreOver w (own_settles items f es floor go)
+    → AreOver w (own_free_step items f es floor go)
 settles_over w floor es [] f go i o g = (i, o)
 settles_over w floor es (GoalItem t h ∷ items) f go i o g = (i, o)
 settles_over w floor es (CatchMark h ∷ items) f go i o g = (i, o)
@@ -116,8 +116,8 @@ after_over : (w : Way) (floor result es : List Entry) → IsFloor w floor → Is
     → AreOver w es
 after_over w floor result es k o e =
     let own : own_part floor result ≡ o.own = ap (own_part floor) o.joined ∙ own_part-join floor o.own in
-    let same : settled_own floor (own_part floor result) ≡ es = some_same e in
-    subst (AreOver w) same (subst (λ xs. AreOver w (settled_own floor xs)) (sym own) (settle_over w floor k (length o.own) o.own o.over))
+    let same : own_at_rest floor (own_part floor result) ≡ es = some_same e in
+    subst (AreOver w) same (subst (λ xs. AreOver w (own_at_rest floor xs)) (sym own) (settle_over w floor k (length o.own) o.own o.over))
   where
     some_same : {a b : List Entry} → Some a ≡ Some b → a ≡ b
     some_same h = cc

@@ -6,7 +6,7 @@ use Rattle.run_model.specs.Machine.Entries.{Entry, PlainEntry, CatchEntry, Finda
 use Rattle.tree_model.specs.Credits.{Credit, credit_of}
 use Rattle.tree_model.specs.Nodes.{Pending, Closed}
 use Rattle.tree_model.specs.Levels.{plug, Place, Spot, levels_of}
-use Rattle.tree_model.specs.PrivateRuns.{settled_own, private_run}
+use Rattle.tree_model.specs.PrivateRuns.{own_at_rest, private_run}
 use Rattle.tree_model.specs.Floors.{floor_of, with_heights}
 use Rattle.tree_model.specs.Closing.{closes}
 use Rattle.tree_model.specs.Events.{Event, Empty, Collected}
@@ -60,7 +60,7 @@ IsAskedAt s = under_query (way_of (levels_of s)) ≡ true
 pub end_stays : (t : TreeState) (s : Spot) (b : Option Term) (k : ℕ) → s.entry ≡ EndEntry b
     → (run_of t s k ≡ None) ⊎ (run_of t s k ≡ Some (EndEntry b ∷ []))
 unfolding run_of private_run
-end_stays t s b zero e = inr (ap (λ x. Some (settled_own (floor_of (levels_of s)) (with_heights (levels_of s) x ∷ []))) e)
+end_stays t s b zero e = inr (ap (λ x. Some (own_at_rest (floor_of (levels_of s)) (with_heights (levels_of s) x ∷ []))) e)
 end_stays t s b (suc k) e = inl (ap (λ x. private_run t.job.clauses (levels_of s) (with_heights (levels_of s) x) (suc k)) e
     ∙ end_rests t s b k)
 

@@ -21,7 +21,7 @@ use Rattle.interleaving.specs.Scopes.{scoped}
 use Rattle.interleaving.specs.Segments.{IsActive}
 use Rattle.interleaving.specs.HeightMachine.{HeightElement, HeightEntry, HeightState, height_entries, height_reply, height_control}
 use Rattle.interleaving.specs.HeightMachine.{height_goal}
-use Rattle.interleaving.specs.HeightMachine.{height_removed, height_item, height_unwound, height_settle, height_inference, height_run}
+use Rattle.interleaving.specs.HeightMachine.{height_removed, height_item, height_unwound, height_at_rest, height_inference, height_run}
 use Rattle.interleaving.specs.Erased.{element_count, height, with_height, continuation_heights, erased}
 use Rattle.interleaving.specs.Sound.{names, IsEntrySound, IsSound}
 use Rattle.interleaving.specs.Counted.{counted_steps}
@@ -58,7 +58,7 @@ module _ (clauses : List Clause) where
 
   -- an inference that leaves these, before the free steps
   leaves : (v : Shared) (ys : List Element) (t : HeightState) → v ≡ t.0 → erased ys ≡ t.1 → IsSound ys
-      → Pending (v, free_steps m [] ys) (t.0, height_settle t.1)
+      → Pending (v, free_steps m [] ys) (t.0, height_at_rest t.1)
   leaves v ys t w e i = (w, settle-height clauses ys t.1 e i)
 
   pub reply-height : (r : Reply) (p : Name) (f : Continuation Name) (xs : List Element) → IsEntrySound p xs (names f.items) f.items
@@ -72,7 +72,7 @@ module _ (clauses : List Clause) where
   goal-erases : (o : Outcome) (p h : Name) (f : Continuation Name) (x : Element) (xs : List Element) (w : Shared)
       → IsEntrySound p xs (h ∷ names f.items) f.items → IsSound xs
       → let t = height_goal clauses o (height xs h) (continuation_heights (height xs) f) (erased xs) w in Pending
-      (acted m (goal_act clauses o p h f) w x xs) (t.0, height_settle t.1)
+      (acted m (goal_act clauses o p h f) w x xs) (t.0, height_at_rest t.1)
   goal-erases (Replies (Solutions ss)) p h f x xs w s i =
       let rest = entry_rest p xs h f.items s in
       leaves w (placed m (reply_place (Solutions ss) p f) xs)
@@ -96,7 +96,7 @@ module _ (clauses : List Clause) where
 
   removal-erases : (o : Option Database) (p : Name) (f : Continuation Name) (xs : List Element) (w : Shared)
       → IsEntrySound p xs (names f.items) f.items → IsSound xs → let a = removed o p f w in let t = height_removed o
-      (continuation_heights (height xs) f) (erased xs) w in Pending (a.0, free_steps m [] (placed m a.1 xs)) (t.0, height_settle t.1)
+      (continuation_heights (height xs) f) (erased xs) w in Pending (a.0, free_steps m [] (placed m a.1 xs)) (t.0, height_at_rest t.1)
   removal-erases None p f xs w s i = leaves w xs (w, erased xs) refl refl i
   removal-erases (Some db) p f xs w s i = leaves _ (Plain p f ∷ xs)
       (record w { world = record w.world { database = db } }, erased (Plain p f ∷ xs)) refl refl (s, i)
@@ -112,7 +112,7 @@ module _ (clauses : List Clause) where
       → IsEntrySound p xs (names items) items → IsSound xs → IsActive (act clauses (Plain p (with_items items f)))
       → let t = height_item clauses (map (with_height (height xs)) items) (continuation_heights (height xs) (with_items items f))
       (erased xs) w in
-      Pending (step m w (Plain p (with_items items f) ∷ xs)) (t.0, height_settle t.1)
+      Pending (step m w (Plain p (with_items items f) ∷ xs)) (t.0, height_at_rest t.1)
   item-erases [] p f xs w s i a = leaves _ xs (_, erased xs) refl refl i
   item-erases (GoalItem g h ∷ items) p f xs w s i a =
       let rest : IsEntrySound p xs (h ∷ names items) items = record { carried = s.carried; marks = s.marks.1; findalls = s.findalls } in
@@ -160,8 +160,8 @@ module _ (clauses : List Clause) where
   pub heights_run : HeightsRun clauses
   heights_run xs i n w =
       let s = run m n w (free_steps m [] xs) in
-      let t = height_run clauses n (w, height_settle (erased xs)) in
-      let a : Pending s t = runs-erase n w (free_steps m [] xs) (height_settle (erased xs)) (settle-height clauses xs (erased xs) refl i) in
+      let t = height_run clauses n (w, height_at_rest (erased xs)) in
+      let a : Pending s t = runs-erase n w (free_steps m [] xs) (height_at_rest (erased xs)) (settle-height clauses xs (erased xs) refl i) in
       record {
         erases = ap (λ v. (v, erased s.1)) a.0 ∙ ap (λ l. (t.0, l)) a.1.0;
         over = sym (rested-over s.1 a.1.2)
@@ -169,12 +169,12 @@ module _ (clauses : List Clause) where
       }
 
   same-seen : (xs : List Element) → IsSound xs → (n : ℕ) (w : Shared) → seen (run m n w (free_steps m [] xs))
-      ≡ seen (height_run clauses n (w, height_settle (erased xs)))
+      ≡ seen (height_run clauses n (w, height_at_rest (erased xs)))
   same-seen xs i n w = let r = heights_run xs i n w in ap (λ o. ((run m n w (free_steps m [] xs)).0, o)) r.over
-      ∙ ap (λ t. (t.0, is_finished (height_run clauses n (w, height_settle (erased xs))).1)) r.erases
+      ∙ ap (λ t. (t.0, is_finished (height_run clauses n (w, height_at_rest (erased xs))).1)) r.erases
 
   pub names_are_free : NamesAreFree clauses
-  names_are_free xs ys i j e n w = same-seen xs i n w ∙ ap (λ hs. seen (height_run clauses n (w, height_settle hs))) e
+  names_are_free xs ys i j e n w = same-seen xs i n w ∙ ap (λ hs. seen (height_run clauses n (w, height_at_rest hs))) e
       ∙ sym (same-seen ys j n w)
 
 pub counted-same : (f g : ℕ → Bool) → ((n : ℕ) → f n ≡ g n) → (n : ℕ) → counted_steps f n ≡ counted_steps g n
@@ -192,8 +192,8 @@ named_run job n =
     let w = first_shared job in
     let sound : IsSound (opening_list job) = opened-sound [] job.queries in
     let start : erased (opening_list job) ≡ height_entries (states.opened job.queries) = opened-height [] job.queries in
-    let state : (k : ℕ) → height_run job.clauses k (first_shared job, height_settle (erased (opening_list job)))
-    ≡ height_after job k = λ k. ap (λ hs. height_run job.clauses k (first_shared job, height_settle hs)) start in
+    let state : (k : ℕ) → height_run job.clauses k (first_shared job, height_at_rest (erased (opening_list job)))
+    ≡ height_after job k = λ k. ap (λ hs. height_run job.clauses k (first_shared job, height_at_rest hs)) start in
     let same = heights_run job.clauses (opening_list job) sound in
     let q = seq_height job n in
     let ended : (k : ℕ) → is_finished (height_after job k).1 ≡ has_ended job.clauses (first_shared job) (opening_list job) k = λ k.

@@ -8,7 +8,7 @@ use Rattle.run_model.specs.Machine.Entries.{Entry, PlainEntry, CatchEntry, Finda
 use Rattle.tree_model.specs.Nodes.{CatchNode, FindallNode}
 use Rattle.tree_model.specs.Levels.{Level}
 use Rattle.tree_model.specs.Floors.{renamed_item, height_of, with_heights, floor_of}
-use Rattle.tree_model.specs.PrivateRuns.{own_settles, own_free_steps, settled_own, own_part, own_after, if_no_gate, if_any, one_more}
+use Rattle.tree_model.specs.PrivateRuns.{own_free_step, own_free_steps, own_at_rest, own_part, own_after, if_no_gate, if_any, one_more}
 use Rattle.tree_model.specs.PrivateRuns.{taken_alone, private_run}
 use Rattle.tree_model.specs.Gates.{gate_on}
 use Rattle.tree_model.specs.PendingLists.{Step, Way, way_of, step_of}
@@ -126,7 +126,7 @@ IsAwakeTop [] = Unit {0}
 IsAwakeTop (e ∷ es) = IsAwake e
 
 settles_awake : (floor es : List Entry) (items : List (Item ℕ)) (f : Continuation ℕ) (go : List Entry → List Entry)
-    → ((ds : List Entry) → length ds ≡ length es → IsAwakeTop (go ds)) → IsAwakeTop (own_settles items f es floor go)
+    → ((ds : List Entry) → length ds ≡ length es → IsAwakeTop (go ds)) → IsAwakeTop (own_free_step items f es floor go)
 settles_awake floor es [] f go g = tt
 settles_awake floor es (GoalItem t h ∷ items) f go g = tt
 settles_awake floor es (CatchMark h ∷ items) f go g = tt
@@ -171,7 +171,7 @@ pub run_sound : (clauses : List Clause) (levels : List Level) (e : Entry) (k : �
 unfolding private_run
 run_sound clauses levels e zero es p a o h =
     let first : AreOver (height_way levels) (with_heights levels e ∷ []) = (over_floor levels e p a o, tt) in
-    let same : settled_own (floor_of levels) (with_heights levels e ∷ []) ≡ es = some_same h in
+    let same : own_at_rest (floor_of levels) (with_heights levels e ∷ []) ≡ es = some_same h in
     record {
       over = subst (AreOver (height_way levels)) same
           (settle_over (height_way levels) (floor_of levels) (floor_way levels) 1 (with_heights levels e ∷ []) first);

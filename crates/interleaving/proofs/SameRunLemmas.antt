@@ -15,7 +15,7 @@ use Rattle.tree_model.specs.Nodes.{CutGate, BallGate}
 use Rattle.tree_model.specs.Levels.{Level}
 use Rattle.tree_model.specs.Floors.{node_of, floor_of}
 use Rattle.tree_model.specs.Gates.{ball_scope, ball_gate, control_gate, goal_gate, item_gate, gate_on}
-use Rattle.tree_model.specs.PrivateRuns.{own_settles, own_free_steps, own_part, goal_alone, item_alone, taken_alone, if_no_gate}
+use Rattle.tree_model.specs.PrivateRuns.{own_free_step, own_free_steps, own_part, goal_alone, item_alone, taken_alone, if_no_gate}
 use Rattle.tree_model.specs.PrivateRuns.{own_after, one_more, if_any, private_run}
 use Rattle.interleaving.specs.OwnRuns.{caught_own, own_control, own_goal, own_item, own_left}
 use Rattle.interleaving.specs.OwnRuns.{own_more, own_run}
@@ -88,7 +88,7 @@ marks_twice (RemovalItem n ∷ items) = refl
 
 settles_top : (floor es : List Entry) (items : List (Item ℕ)) (f : Continuation ℕ) (go : List Entry → List Entry)
     → without_marks f.items ≡ items → ((ds : List Entry) → length ds ≡ length es → IsTop (go ds))
-    → IsTop (own_settles items f es floor go)
+    → IsTop (own_free_step items f es floor go)
 settles_top floor es [] f go q g = inl refl
 settles_top floor es (GoalItem t m ∷ items) f go q g = inl refl
 settles_top floor es (CatchMark m ∷ items) f go q g = inl (sym (twice (sym q)))

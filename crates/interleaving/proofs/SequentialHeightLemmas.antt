@@ -27,7 +27,7 @@ use Rattle.interleaving.specs.HeightMachine.{HeightEntry, HeightState, height_en
 use Rattle.interleaving.specs.HeightMachine.{height_control}
 use Rattle.interleaving.specs.HeightMachine.{height_goal, height_removed, height_item, height_taken, height_collected}
 use Rattle.interleaving.specs.HeightMachine.{height_plain_free_step}
-use Rattle.interleaving.specs.HeightMachine.{height_free_steps_within, height_settle, height_inference, height_run}
+use Rattle.interleaving.specs.HeightMachine.{height_free_steps_within, height_at_rest, height_inference, height_run}
 use Rattle.interleaving.specs.Counted.{counted_steps}
 use Rattle.interleaving.specs.SequentialHeights.{height_opening, height_after, IsHeightRun}
 
@@ -111,7 +111,7 @@ height-free_steps_within (suc k) (FindallEntry results l f ∷ es) = rw (length-
 height-free_steps_within (suc k) (PlainEntry f ∷ es) = height-settles (without_marks f.items) f es k (height-free_steps_within k)
 height-free_steps_within (suc k) (EndEntry b ∷ es) = refl
 
-height-settle : (es : List Entry) → height_settle (height_entries es) ≡ height_entries (take_free_steps es)
+height-settle : (es : List Entry) → height_at_rest (height_entries es) ≡ height_entries (take_free_steps es)
 height-settle es = ap (λ n. height_free_steps_within n (height_entries es)) (length-height es) ∙ height-free_steps_within (length es) es
 
 -- one inference
@@ -195,7 +195,7 @@ went job n s a (x ∷ es) h =
     (height_inference job.clauses) now in
     let next = entry_taken job.clauses (x ∷ es) st in
     let after : Agrees (height_inference job.clauses (shared st, height_entries (x ∷ es))) (with_free_steps next) = record
-    { state = one.state; entries = ap height_settle one.entries ∙ height-settle next.entries } in
+    { state = one.state; entries = ap height_at_rest one.entries ∙ height-settle next.entries } in
     let on : cond (is_finished s.1) 0 1 ≡ 1 = ap (λ t. cond (is_finished t.1) 0 1) now in
     record {
       agrees = subst (λ t. Agrees t (seq job (suc n))) (sym moved)

@@ -144,12 +144,12 @@ height_free_steps_within (suc n) (HeightEntry (PlainEntry f) ∷ xs) = height_pl
     (height_free_steps_within n)
 height_free_steps_within (suc n) (HeightEntry (EndEntry b) ∷ xs) = HeightEntry (EndEntry b) ∷ xs
 
-abbrev pub height_settle : List HeightElement → List HeightElement
-height_settle xs = height_free_steps_within (length xs) xs
+abbrev pub height_at_rest : List HeightElement → List HeightElement
+height_at_rest xs = height_free_steps_within (length xs) xs
 
 -- one inference and the free steps after it
 abbrev pub height_inference : List Clause → HeightState → HeightState
-height_inference clauses s = let t = height_taken clauses s.0 s.1 in (t.0, height_settle t.1)
+height_inference clauses s = let t = height_taken clauses s.0 s.1 in (t.0, height_at_rest t.1)
 
 -- so many inferences
 abbrev pub height_run : List Clause → ℕ → HeightState → HeightState

@@ -11,7 +11,7 @@ use Rattle.run_model.specs.Machine.Items.{first_mark}
 use Rattle.run_model.specs.Machine.Entries.{Entry, PlainEntry, CatchEntry, FindallEntry, EndEntry}
 use Rattle.run_model.specs.Machine.Balls.{unwound}
 use Rattle.run_model.specs.Machine.Heights.{after_reply, after_control}
-use Rattle.tree_model.specs.PrivateRuns.{settled_own, own_part}
+use Rattle.tree_model.specs.PrivateRuns.{own_at_rest, own_part}
 use Rattle.tree_model.specs.Elements.{Name, Element, Credit, Plain, EndOf, Catch, Findall, End}
 use Rattle.interleaving.specs.Scopes.{scoped}
 use Rattle.interleaving.specs.Segments.{Private}
@@ -59,7 +59,7 @@ own_taken clauses floor (EndEntry b ∷ es) = None
 
 abbrev pub own_left : List Entry → Option (List Entry) → Option (List Entry)
 own_left floor None = None
-own_left floor (Some st) = Some (settled_own floor (own_part floor st))
+own_left floor (Some st) = Some (own_at_rest floor (own_part floor st))
 
 abbrev pub own_more : List Clause → List Entry → Option (List Entry) → Option (List Entry)
 own_more clauses floor None = None
@@ -67,7 +67,7 @@ own_more clauses floor (Some es) = own_left floor (own_taken clauses floor es)
 
 -- so many inferences, and the free steps after them
 abbrev pub own_run : List Clause → List Entry → ℕ → List Entry → Option (List Entry)
-own_run clauses floor zero es = Some (settled_own floor es)
+own_run clauses floor zero es = Some (own_at_rest floor es)
 own_run clauses floor (suc k) es = own_more clauses floor (own_run clauses floor k es)
 
 -- no end of a scope comes first

@@ -8,7 +8,7 @@ use Rattle.run_model.specs.Machine.Runs.{seq}
 use Rattle.interleaving.specs.Machine.{Infers, AsksWorld, Put, Seek, gives, placed, is_finished, free_steps, run, Alike}
 use Rattle.tree_model.specs.Elements.{Name, Element, Credit, Plain, EndOf}
 use Rattle.interleaving.specs.Scopes.{Shared, Scope, ElementReplacement, act, shared, first_shared, opened_elements, scoped}
-use Rattle.interleaving.specs.HeightMachine.{height_entries, height_settle, height_run}
+use Rattle.interleaving.specs.HeightMachine.{height_entries, height_at_rest, height_run}
 use Rattle.interleaving.specs.Erased.{element_count, erased}
 use Rattle.interleaving.specs.Sound.{IsSound}
 use Rattle.interleaving.specs.Segments.{search_in}
@@ -21,9 +21,9 @@ use Rattle.interleaving.specs.Counted.{counted_steps}
 -- have ended
 pub record SameRun (clauses : List Clause) (xs : List Element) (n : ℕ) (w : Shared) : Type 0 where
   pub erases : (let s = run (scoped clauses) n w (free_steps (scoped clauses) [] xs) in (s.0, erased s.1))
-      ≡ height_run clauses n (w, height_settle (erased xs))
+      ≡ height_run clauses n (w, height_at_rest (erased xs))
   pub over : is_finished (run (scoped clauses) n w (free_steps (scoped clauses) [] xs)).1
-      ≡ is_finished (height_run clauses n (w, height_settle (erased xs))).1
+      ≡ is_finished (height_run clauses n (w, height_at_rest (erased xs))).1
 
 abbrev pub HeightsRun : List Clause → Type 0
 HeightsRun clauses = (xs : List Element) → IsSound xs → (n : ℕ) (w : Shared) → SameRun clauses xs n w

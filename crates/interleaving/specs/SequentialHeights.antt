@@ -5,11 +5,11 @@ use Rattle.run_model.specs.Machine.States.{opened}
 use Rattle.run_model.specs.Machine.Runs.{seq}
 use Rattle.interleaving.specs.Machine.{is_finished}
 use Rattle.interleaving.specs.Scopes.{shared, first_shared}
-use Rattle.interleaving.specs.HeightMachine.{HeightState, height_entries, height_settle, height_run}
+use Rattle.interleaving.specs.HeightMachine.{HeightState, height_entries, height_at_rest, height_run}
 use Rattle.interleaving.specs.Counted.{counted_steps}
 
 abbrev pub height_opening : Job → HeightState
-height_opening job = (first_shared job, height_settle (height_entries (opened job.queries)))
+height_opening job = (first_shared job, height_at_rest (height_entries (opened job.queries)))
 
 abbrev pub height_after : Job → ℕ → HeightState
 height_after job n = height_run job.clauses n (height_opening job)

@@ -14,10 +14,10 @@ use Rattle.tree_model.specs.Floors.{floor_of}
 use Rattle.tree_model.specs.Gates.{gate_on}
 
 -- a collect mark gives its result to its findall entry; where that is one of the floor, it is left standing
-abbrev pub own_settles : List (Item ℕ) → Continuation ℕ → List Entry → List Entry → (List Entry → List Entry) → List Entry
-own_settles (CollectMark t h ∷ items) f es floor go =
+abbrev pub own_free_step : List (Item ℕ) → Continuation ℕ → List Entry → List Entry → (List Entry → List Entry) → List Entry
+own_free_step (CollectMark t h ∷ items) f es floor go =
     cond (nat_lt h (length floor)) (PlainEntry (with_items (CollectMark t h ∷ items) f) ∷ es) (go (collected (h - length floor) t es))
-own_settles items f es floor go = PlainEntry (with_items items f) ∷ es
+own_free_step items f es floor go = PlainEntry (with_items items f) ∷ es
 
 -- the free steps of own entries over a floor, where at most so many entries end
 abbrev pub own_free_steps : List Entry → ℕ → List Entry → List Entry
@@ -25,11 +25,11 @@ own_free_steps floor zero es = es
 own_free_steps floor (suc k) [] = []
 own_free_steps floor (suc k) (CatchEntry c r f ∷ es) = own_free_steps floor k es
 own_free_steps floor (suc k) (FindallEntry results l f ∷ es) = findall_ends results l f (es ++ floor) ∷ es
-own_free_steps floor (suc k) (PlainEntry f ∷ es) = own_settles (without_marks f.items) f es floor (own_free_steps floor k)
+own_free_steps floor (suc k) (PlainEntry f ∷ es) = own_free_step (without_marks f.items) f es floor (own_free_steps floor k)
 own_free_steps floor (suc k) (EndEntry b ∷ es) = EndEntry b ∷ es
 
-abbrev pub settled_own : List Entry → List Entry → List Entry
-settled_own floor es = own_free_steps floor (length es) es
+abbrev pub own_at_rest : List Entry → List Entry → List Entry
+own_at_rest floor es = own_free_steps floor (length es) es
 
 -- the entries of a stack that are over a floor
 abbrev pub own_part : List Entry → List Entry → List Entry
@@ -63,7 +63,7 @@ if_no_gate (Some g) taken = None
 
 abbrev pub own_after : List Entry → Option (List Entry) → Option (List Entry)
 own_after floor None = None
-own_after floor (Some es) = Some (settled_own floor (own_part floor es))
+own_after floor (Some es) = Some (own_at_rest floor (own_part floor es))
 
 -- own entries after one more inference and the free steps after it; none where there is none to take
 abbrev pub one_more : List Clause → List Level → List Entry → Option (List Entry)
@@ -78,5 +78,5 @@ if_any (Some es) more = more es
 
 -- the private run by so many inferences, with heights over the floor
 unfoldable pub private_run : List Clause → List Level → Entry → ℕ → Option (List Entry)
-private_run clauses levels e zero = Some (settled_own (floor_of levels) (e ∷ []))
+private_run clauses levels e zero = Some (own_at_rest (floor_of levels) (e ∷ []))
 private_run clauses levels e (suc k) = if_any (private_run clauses levels e k) (one_more clauses levels)
