@@ -26,8 +26,7 @@ use Rattle.tree_model.specs.Ways.{same_kind, stops_cuts, through}
 use Rattle.interleaving.proofs.WayLemmas.{cond-true, cond-false, cond-same, other_number}
 use Rattle.interleaving.proofs.RoundtripLemmas.{IsPath}
 use Rattle.interleaving.proofs.RunSoundLemmas.{height_way}
-use Rattle.au_term.proofs.LogicLemmas.{both, true_false}
-use Rattle.interleaving.proofs.TestLemmas.{number_same}
+use Rattle.au_term.proofs.LogicLemmas.{both, true_false, number_same}
 
 more : (xs ys : List Element) → length (erased ys) ≤ length (erased (xs ++ ys))
 more [] ys = omega arith
