@@ -16,7 +16,8 @@ use Rattle.text_load.proofs.UniqueLoadLemmas.{one_job, no_fault}
 use Rattle.run_model.specs.Machine.Runs.{ending_of}
 use Rattle.text_load.specs.JobView.{job_meant}
 use Rattle.stack_run.specs.RunEnds.{IsRun, IsRunBy}
-use Rattle.aurora_cli.specs.ProgramTexts.{StandsFor, IsRefusedText, no_text, text_fault, library}
+use Rattle.toplevel.specs.Library.{library_text}
+use Rattle.aurora_cli.specs.ProgramTexts.{StandsFor, IsRefusedText, no_text, text_fault}
 use Rattle.aurora_cli.specs.Endings.{IsTextRead, IsJobLoaded, EndsBy, IsComplete, ending_after}
 use Rattle.aurora_cli.specs.LoadFaults.{IsLoadFault, IsTextFault}
 
@@ -40,7 +41,7 @@ pub no_valid : (bytes : List ℕ) (n : ℕ) → IsValidUpTo bytes n → IsUtf8 b
 no_valid bytes n v u = v.longest (length bytes) v.short (subst IsUtf8 (sym (take_all (length bytes) bytes (omega arith))) u)
 
 stands_alone : (bytes : List ℕ) (job other : JobTerms) → StandsFor bytes job → StandsFor bytes other → job ≡ other
-stands_alone bytes job other h k = one_job library (chars bytes) job other h.loads k.loads
+stands_alone bytes job other h k = one_job library_text (chars bytes) job other h.loads k.loads
 
 pub not_both : (bytes : List ℕ) (job : JobTerms) (line column : ℕ) (kind : FaultKind) → StandsFor bytes job → IsRefusedText bytes line column kind → ⊥
 not_both bytes job line column kind h (no_text v) = no_valid bytes _ v h.utf8

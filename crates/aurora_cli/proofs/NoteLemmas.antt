@@ -1,5 +1,5 @@
 -- A note that was written, whole or in front.
-use Rattle.std.proofs.Common.{◌≡◌, ◌++◌, ℕ, List, length, take, Option, Some, None, Result, Ok, Err, sym, ap, ◌∙◌, subst, arith}
+use Rattle.std.proofs.Common.{◌++◌, ℕ, List, length, Option, Some, None, Result, Ok, Err, sym, ap, ◌∙◌, arith}
 use Rattle.std.specs.Prelude.{OnOk, OnErr}
 use Rattle.std.proofs.lemmas.List.{take_all}
 use Rattle.au_io.specs.FaultCounts.{Appended, AppendedPrefix, HasCause}

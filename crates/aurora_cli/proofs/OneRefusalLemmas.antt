@@ -1,8 +1,8 @@
 -- A text that is refused or too long is answered so.
-use Rattle.std.proofs.Common.{◌≡◌, ◌∙◌, ◌⊎◌, inl, inr, ℕ, ◌<◌, ◌≤◌, List, length, take, Option, Some, None, Result, Ok, Err, refl, sym, ap, subst, arith}
+use Rattle.std.proofs.Common.{◌≡◌, inl, inr, ℕ, ◌<◌, ◌≤◌, List, length, take, Option, Some, None, Err, refl, ap, subst, arith}
 use Rattle.std.specs.Prelude.{IfSome}
 use Rattle.std.specs.Result.{IsErrOf}
-use Rattle.std.specs.Str.{chars, IsUtf8, IsValidUpTo}
+use Rattle.std.specs.Str.{chars, IsValidUpTo}
 use Rattle.au_model.specs.declared.types.FaultKind.{FaultKind}
 use Rattle.au_model.specs.declared.types.FaultKind.TheVariants.{NotUtf8}
 use Rattle.au_model.specs.Syntax.TextFaults.{line_after, column_after}

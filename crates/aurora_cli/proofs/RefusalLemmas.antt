@@ -1,17 +1,17 @@
 -- What refuses bytes.
-use Rattle.std.proofs.Common.{◌≡◌, ◌∙◌, inl, inr, ℕ, List, [], ◌++◌, take, length, codes, true, refl, sym, ap, subst}
+use Rattle.std.proofs.Common.{◌≡◌, ◌∙◌, inl, inr, ℕ, List, ◌++◌, take, length, sym, ap, subst}
 use Rattle.std.specs.Str.{chars, IsUtf8, IsValidUpTo}
 use Rattle.au_model.specs.Syntax.Characters.{chars_from}
-use Rattle.au_model.specs.Syntax.TermTexts.{is_over}
-use Rattle.au_model.specs.Syntax.Layout.{after_layout}
 use Rattle.run_model.specs.Programs.Jobs.{Job}
 use Rattle.au_model.specs.declared.types.FaultKind.TheVariants.{NotUtf8}
 use Rattle.au_model.specs.Syntax.TextFaults.{IsLineAndColumn, line_after, column_after}
 use Rattle.text_load.specs.LoadOutcome.{IsLoadRefusal}
-use Rattle.text_load.specs.LoadedTexts.{IsRefused, LoadsTo, Sentences, no_more}
+use Rattle.text_load.specs.LoadedTexts.{FirstFault, IsRefused, LoadsTo}
 use Rattle.text_load.specs.declared.reading.LoadRefusal.{LoadRefusal}
 use Rattle.text_load.specs.declared.reading.LoadRefusal.TheVariants.{Refused, NoMemory}
 use Rattle.text_load.proofs.UniqueLoadLemmas.{no_fault}
+use Rattle.toplevel.specs.Library.{library_text}
+use Rattle.toplevel.proofs.LibraryLemmas.{library-loads}
 use Rattle.aurora_cli.specs.LoadFaults.{IsTextFault, refused_as}
 use Rattle.aurora_cli.specs.ProgramTexts.{StandsFor, IsRefusedText, no_text, text_fault}
 use Rattle.term_reader.proofs.FaultyTokenLemmas.{at-end as none_after}
@@ -27,19 +27,11 @@ no_text_at bytes text n line column v e p =
     let c : column ≡ column_after (chars (take n bytes)) = p.column_is ∙ ap column_after before in
     subst (λ x. IsRefusedText bytes x column NotUtf8) (sym l) (subst (λ y. IsRefusedText bytes (line_after (chars (take n bytes))) y NotUtf8) (sym c) (no_text v))
 
-nothing_is_over : is_over [] ≡ true
-unfolding after_layout
-nothing_is_over = refl
+module _ (library bytes text : List ℕ) (loaded_first : library ≡ library_text) (same : text ≡ bytes) (utf8 : IsUtf8 bytes) where
+  pub refused_text : (r : LoadRefusal) → IsLoadRefusal library (chars text) r → IsTextFault bytes (refused_as r)
+  refused_text (Refused line column kind) (inl r) = absurd (no_fault library_text r.from library-loads.0 kind library-loads.1 (subst (λ (l : List ℕ). FirstFault l kind r.from) loaded_first r.fault))
+  refused_text (Refused line column kind) (inr r) = text_fault utf8 (subst (λ (b : List ℕ). IsRefused (chars b) line column kind) same r.text_is)
+  refused_text NoMemory r = tt
 
-no_library : Sentences (chars (codes "")) []
-unfolding chars
-no_library = no_more nothing_is_over
-
-pub refused_text : (bytes text : List ℕ) (r : LoadRefusal) → text ≡ bytes → IsUtf8 bytes → IsLoadRefusal (chars (codes "")) (chars text) r → IsTextFault bytes (refused_as r)
-refused_text bytes text (Refused line column kind) e u (inl r) = absurd (no_fault (chars (codes "")) r.from [] kind no_library r.fault)
-refused_text bytes text (Refused line column kind) e u (inr r) = text_fault u (subst (λ (b : List ℕ). IsRefused (chars b) line column kind) e r.text_is)
-refused_text bytes text NoMemory e u r = tt
-
-pub stands_for : (bytes text : List ℕ) (job : Job) → text ≡ bytes → IsUtf8 bytes → LoadsTo (chars (codes "")) (chars text) job → StandsFor bytes job
-unfolding chars
-stands_for bytes text job e u l = record { utf8 = u; loads = subst (λ (b : List ℕ). LoadsTo [] (chars b) job) e l }
+  pub stands_for : (job : Job) → LoadsTo library (chars text) job → StandsFor bytes job
+  stands_for job h = record { utf8 = utf8; loads = subst (λ (b : List ℕ). LoadsTo library_text (chars b) job) same (subst (λ (l : List ℕ). LoadsTo l (chars text) job) loaded_first h) }

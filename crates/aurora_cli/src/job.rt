@@ -11,9 +11,7 @@ use std::alloc::Global;
 use std::str;
 use term_reader::line_and_column;
 use text_load::{Job, LoadRefusal, load};
-
-/// The procedures that are before those of a text: none yet.
-const LIBRARY: &str = "";
+use toplevel::library;
 
 /// The job for which bytes stand, or their refusal.
 pub(crate) fn job_of(alloc: Global, bytes: &[u8]) -> Result<Job, Ending>
@@ -21,7 +19,7 @@ pub(crate) fn job_of(alloc: Global, bytes: &[u8]) -> Result<Job, Ending>
     ensures err { IfErr result (IsTextFault bytes.now) }
 {
     match str::from_utf8(bytes) {
-        Ok(text) => match load(alloc, LIBRARY, text) {
+        Ok(text) => match load(alloc, library(), text) {
             Ok(job) => Ok(job),
             Err(refusal) => Err(ending_of(refusal)),
         },

@@ -281,8 +281,8 @@ pub(crate) static FAULTS: [Bad; 24] = [
     ),
 ];
 
-/// Texts of built-in predicates, which end, and their lines.
-pub(crate) static BUILTINS: [(&'static str, &'static str); 16] = [
+/// Texts of built-in predicates and of the library, which end, and their lines.
+pub(crate) static PREDICATES: [(&'static str, &'static str); 26] = [
     ("?- X is 2 + 3 * 4 - 10 // 3.", "X = 11\nno\n"),
     (
         "?- X is 7 mod -2, Y is -7 // 2, Z is 7 rem -2.",
@@ -341,4 +341,26 @@ pub(crate) static BUILTINS: [(&'static str, &'static str); 16] = [
          ?- once(p([1,2,3,4,5,6], Q)).",
         "Q = [2,4,6,1,3,5]\nno\n",
     ),
+    (
+        "?- append(X, Y, [1,2]).",
+        "X = [], Y = [1,2]\nX = [1], Y = [2]\nX = [1,2], Y = []\nno\n",
+    ),
+    ("?- length(L, 2).", "L = [_3,_7]\nno\n"),
+    ("?- length([a,b], N).", "N = 2\nno\n"),
+    ("?- length(L, -1).", "no\n"),
+    ("?- reverse([1,2,3], R).", "R = [3,2,1]\nno\n"),
+    ("?- between(1, 3, X).", "X = 1\nX = 2\nX = 3\nno\n"),
+    (
+        "?- catch((member(X, [1,2,3]), X >= 2, throw(found(X))), found(Y), true).",
+        "X = _0, Y = 2\nno\n",
+    ),
+    (
+        "?- findall(X-Y, member(X, [1,2]), L).",
+        "X = _0, Y = _1, L = [1-_3,2-_4]\nno\n",
+    ),
+    (
+        "?- select(X, [a,b], R).",
+        "X = a, R = [b]\nX = b, R = [a]\nno\n",
+    ),
+    ("member(a, b). ?- member(X, Y).", "X = a, Y = b\nno\n"),
 ];

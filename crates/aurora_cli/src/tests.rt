@@ -1,6 +1,6 @@
 //! Texts run from words to bytes, by rows.
 use crate::note::note_line;
-use crate::rows::{BUILTINS, Bad, CONTROL, FAULTS, FINISHED};
+use crate::rows::{Bad, CONTROL, FAULTS, FINISHED, PREDICATES};
 use crate::top::aurora;
 use au_io::{MemoryShelf, MemorySink, NoGate};
 use au_model::FaultKind;
@@ -67,8 +67,8 @@ pub(crate) fn run_bytes<R: Threads + Wait + Sync>(
 }
 
 #[test]
-fn builtins(rt: HostRuntime) -> Result<(), Fail> {
-    for (text, lines) in BUILTINS {
+fn predicates(rt: HostRuntime) -> Result<(), Fail> {
+    for (text, lines) in PREDICATES {
         assert!(rt;
             ends(&rt, rt.alloc(), text, "1000000", 999, FINISHED, lines)?,
             "{text}"

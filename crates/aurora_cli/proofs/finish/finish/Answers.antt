@@ -1,6 +1,5 @@
-use Rattle.std.proofs.Common.{sym, ◌∙◌, subst}
-use Rattle.au_io.specs.FaultCounts.{Appended, AppendedPrefix}
-use Rattle.aurora_cli.specs.Notes.{note_of}
+use Rattle.std.proofs.Common.{subst}
+use Rattle.au_io.specs.FaultCounts.{AppendedPrefix}
 use Rattle.aurora_cli.proofs.NoteLemmas.{prefix_written}
 use Rattle.aurora_cli.proofs.finish.finish.Goals as goal
 

@@ -1,0 +1,3 @@
+mod FoundSpellings
+mod FoundSentences
+pub mod LibraryLemmas
