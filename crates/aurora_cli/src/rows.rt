@@ -282,7 +282,7 @@ pub(crate) static FAULTS: [Bad; 24] = [
 ];
 
 /// Texts of built-in predicates and of the library, which end, and their lines.
-pub(crate) static PREDICATES: [(&'static str, &'static str); 26] = [
+pub(crate) static PREDICATES: [(&'static str, &'static str); 29] = [
     ("?- X is 2 + 3 * 4 - 10 // 3.", "X = 11\nno\n"),
     (
         "?- X is 7 mod -2, Y is -7 // 2, Z is 7 rem -2.",
@@ -363,4 +363,16 @@ pub(crate) static PREDICATES: [(&'static str, &'static str); 26] = [
         "X = a, R = [b]\nX = b, R = [a]\nno\n",
     ),
     ("member(a, b). ?- member(X, Y).", "X = a, Y = b\nno\n"),
+    (
+        "?- atom_concat(X, Y, ab), atom_concat(ab, X, Z).",
+        "X = '', Y = ab, Z = ab\nX = a, Y = b, Z = aba\nX = ab, Y = '', Z = abab\nno\n",
+    ),
+    (
+        "?- sub_atom(banana, B, L, 3, an). ?- sub_atom(abc, 1, 1, E, S).",
+        "B = 1, L = 2\nno\nE = 1, S = b\nno\n",
+    ),
+    (
+        "?- atom_concat(X, Y, Z).",
+        "error: error(instantiation_error,atom_concat/3)\n",
+    ),
 ];

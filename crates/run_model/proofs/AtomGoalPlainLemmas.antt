@@ -14,7 +14,7 @@ use Rattle.run_model.proofs.AnswerBoundLemmas.{row-below}
 use Rattle.run_model.proofs.BuiltinRowBoundLemmas.{IsRowBelow, term-below}
 use Rattle.run_model.proofs.PlainAnswerLemmas.{IsPlain, IsGround, equal-plain, each-plain, items-ground, plain-below}
 
-numbers-plain : (P : Term → Type 0) (ts : List Term) (a : Answer) → IsPlain P a → IsPlain P (with_counts ts a)
+pub numbers-plain : (P : Term → Type 0) (ts : List Term) (a : Answer) → IsPlain P a → IsPlain P (with_counts ts a)
 numbers-plain P ts a h = each-plain P is_open_integer (type_error (codes "integer")) ts (with_each is_not_below_zero below_zero ts a) (each-plain P is_not_below_zero below_zero ts a h)
 
 pub length-plain : (P : Term → Type 0) (t n : Term) → P n → IsPlain P (atom_length_answer t n)

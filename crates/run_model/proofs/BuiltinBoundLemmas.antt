@@ -17,6 +17,7 @@ use Rattle.run_model.specs.Goals.TermTests.{is_variable, is_integer, is_atom, is
 use Rattle.run_model.specs.Goals.TermParts.{term_parts}
 use Rattle.run_model.specs.Goals.UnificationGoals.{apart_answer, unification_goals}
 use Rattle.run_model.specs.Goals.AtomGoals.{atom_goals}
+use Rattle.run_model.specs.Goals.AtomParts.{part_goals}
 use Rattle.run_model.specs.Goals.NumberTexts.{number_goals}
 use Rattle.run_model.specs.Goals.Sorting.{sorting_goals}
 use Rattle.run_model.specs.Goals.Builtins.{builtins}
@@ -24,6 +25,7 @@ use Rattle.au_model.proofs.EachLemmas.{each-append}
 use Rattle.run_model.proofs.AnswerBoundLemmas.{IsAnswerBelow, row-below, holds-below, equal-below}
 use Rattle.run_model.proofs.TermPartBoundLemmas.{term_parts-below}
 use Rattle.run_model.proofs.AtomGoalPlainLemmas.{atom_goals-below}
+use Rattle.run_model.proofs.AtomPartPlainLemmas.{part_goals-below}
 use Rattle.run_model.proofs.NumberTextPlainLemmas.{number_goals-below}
 use Rattle.run_model.proofs.SortingLemmas.{sorting_goals-below}
 use Rattle.run_model.proofs.BuiltinRowBoundLemmas.{IsRowBelow, term-below}
@@ -73,5 +75,5 @@ unification_goals-below =
 pub builtins_below : Each IsRowBelow builtins
 builtins_below = (
   λ ts next n h. let left = term-below 0 next ts (omega arith) h in let right = term-below 1 next ts (omega arith) h in ((omega arith, tt), tt),
-  each-append IsRowBelow unification_goals (type_tests ++ (order_goals ++ (arithmetic_goals ++ (term_parts ++ (atom_goals ++ (number_goals ++ sorting_goals)))))) unification_goals-below (each-append IsRowBelow type_tests (order_goals ++ (arithmetic_goals ++ (term_parts ++ (atom_goals ++ (number_goals ++ sorting_goals))))) type_tests-below (each-append IsRowBelow order_goals (arithmetic_goals ++ (term_parts ++ (atom_goals ++ (number_goals ++ sorting_goals)))) order_goals-below (each-append IsRowBelow arithmetic_goals (term_parts ++ (atom_goals ++ (number_goals ++ sorting_goals))) arithmetic_goals-below (each-append IsRowBelow term_parts (atom_goals ++ (number_goals ++ sorting_goals)) term_parts-below (each-append IsRowBelow atom_goals (number_goals ++ sorting_goals) atom_goals-below (each-append IsRowBelow number_goals sorting_goals number_goals-below sorting_goals-below)))))),
+  each-append IsRowBelow unification_goals (type_tests ++ (order_goals ++ (arithmetic_goals ++ (term_parts ++ (atom_goals ++ (part_goals ++ (number_goals ++ sorting_goals))))))) unification_goals-below (each-append IsRowBelow type_tests (order_goals ++ (arithmetic_goals ++ (term_parts ++ (atom_goals ++ (part_goals ++ (number_goals ++ sorting_goals)))))) type_tests-below (each-append IsRowBelow order_goals (arithmetic_goals ++ (term_parts ++ (atom_goals ++ (part_goals ++ (number_goals ++ sorting_goals))))) order_goals-below (each-append IsRowBelow arithmetic_goals (term_parts ++ (atom_goals ++ (part_goals ++ (number_goals ++ sorting_goals)))) arithmetic_goals-below (each-append IsRowBelow term_parts (atom_goals ++ (part_goals ++ (number_goals ++ sorting_goals))) term_parts-below (each-append IsRowBelow atom_goals (part_goals ++ (number_goals ++ sorting_goals)) atom_goals-below (each-append IsRowBelow part_goals (number_goals ++ sorting_goals) part_goals-below (each-append IsRowBelow number_goals sorting_goals number_goals-below sorting_goals-below))))))),
 )

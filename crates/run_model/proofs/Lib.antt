@@ -6,6 +6,7 @@ mod WorldRows
 mod ArithmeticRows
 mod TermGoalRows
 mod AtomGoalRows
+mod AtomPartRows
 mod NumberTextRows
 mod SortingRows
 pub mod ConstructLemmas
@@ -24,5 +25,6 @@ pub mod AnswerBoundLemmas
 pub mod TermPartBoundLemmas
 pub mod PlainAnswerLemmas
 pub mod AtomGoalPlainLemmas
+pub mod AtomPartPlainLemmas
 pub mod NumberTextPlainLemmas
 pub mod SortingLemmas

@@ -10,6 +10,7 @@ pub mod Arithmetic
 pub mod ArithmeticGoals
 pub mod UnificationGoals
 pub mod AtomGoals
+pub mod AtomParts
 pub mod NumberTexts
 pub mod Sorting
 pub mod Builtins

@@ -16,6 +16,7 @@ pub mod Programs
 --   ArithmeticGoals   is/2 and the comparisons of numbers
 --   UnificationGoals  unification
 --   AtomGoals         goals on the characters of atoms
+--   AtomParts         atoms put together and taken apart
 --   NumberTexts       numbers and their texts
 --   Sorting           sorted lists
 --   Builtins          the table of built-in predicates

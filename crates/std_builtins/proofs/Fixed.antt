@@ -19,6 +19,8 @@ use Rattle.run_model.specs.Goals.StandardOrder.{order}
 use Rattle.run_model.specs.Goals.TermTests.{order_symbol, is_order_symbol, compare_answer}
 use Rattle.run_model.proofs.PlainAnswerLemmas.{IsPlain, IsPlainSolution, IsGround, ground_fixed}
 use Rattle.run_model.proofs.AtomGoalPlainLemmas.{length-plain, code-plain, spelling-plain}
+use Rattle.run_model.specs.Goals.AtomParts.{PartArguments, atom_concat_answer, sub_atom_answer}
+use Rattle.run_model.proofs.AtomPartPlainLemmas.{AreArguments, IsKeptByParts, atom_concat-plain, sub_atom-plain}
 use Rattle.run_model.proofs.NumberTextPlainLemmas.{number_text-plain}
 use Rattle.run_model.proofs.SortingLemmas.{each_sorted, each_unlike, each-kept, into-kept}
 use Rattle.run_model.specs.Goals.AtomGoals.{with_each}
@@ -27,7 +29,7 @@ use Rattle.run_model.specs.Goals.NumberTexts.{number_text_answer}
 use Rattle.run_model.specs.Goals.AtomGoals.{atom_length_answer, char_code_answer, spelling_answer}
 use Rattle.std_builtins.specs.Meanings.{answer_of, arguments_of, type_test, order_test, value_test, spelling_meant}
 use Rattle.std_builtins.specs.declared.table.Builtin.{Builtin}
-use Rattle.std_builtins.specs.declared.table.Builtin.TheVariants.{Unify, Differ, «Type» as TypeGoal, Order, Compare, Is, Value, Functor, Argument, Parts, Copy, AtomLength, CharCode, AtomText, NumberText, Sort, KeySort}
+use Rattle.std_builtins.specs.declared.table.Builtin.TheVariants.{Unify, Differ, «Type» as TypeGoal, Order, Compare, Is, Value, Functor, Argument, Parts, Copy, AtomLength, CharCode, AtomText, AtomConcat, SubAtom, NumberText, Sort, KeySort}
 use Rattle.run_model.proofs.TermPartBoundLemmas.{less}
 
 -- few equations, of terms that the map does not change
@@ -262,6 +264,9 @@ keysort_fixed f l s h k =
     into-kept (IsAnswerFixed f) (λ e. tt) (Each (λ t. apply f t ≡ t)) l s (list_form l) (list_form s) (λ ts. with_each is_pair_term no_pair ts (equal s (list_term (sorted_by is_key_before ts)))) (λ ts e. items_of_form_fixed f (list_form l) ts (form_fixed f l h) e)
     (λ ts j. each-kept (IsAnswerFixed f) (λ e. tt) is_pair_term no_pair ts (equal s (list_term (sorted_by is_key_before ts))) (equal_fixed f s (list_term (sorted_by is_key_before ts)) k (list_fixed f (sorted_by is_key_before ts) (each_sorted (λ t. apply f t ≡ t) is_key_before ts j))))
 
+parts_kept : (f : ℕ → Term) → IsKeptByParts (λ t. apply f t ≡ t)
+parts_kept f b l e s h k j i = ap (Compound (codes "part")) (ap₂ more h (ap₂ more k (ap₂ more j (ap₂ more i refl))))
+
 pub answer_fixed : (b : Builtin) (ts : Terms) (next : ℕ) (f : ℕ → Term) → arguments_of b ≤ count ts → apply_all f ts ≡ ts → ((n : ℕ) → next ≤ n → f n ≡ VarTerm n) → IsAnswerFixed f (answer_of b ts next)
 answer_fixed Unify ts next f few e new = equal_fixed f (term_at 0 ts) (term_at 1 ts) (term_fixed f 0 ts (omega arith) e) (term_fixed f 1 ts (omega arith) e)
 answer_fixed Differ ts next f few e new = holds_fixed f (is_none (unifier ((term_at 0 ts, term_at 1 ts) ∷ [])))
@@ -280,5 +285,11 @@ answer_fixed AtomLength ts next f few e new = plain_fixed f (atom_length_answer 
 answer_fixed CharCode ts next f few e new = plain_fixed f (char_code_answer (term_at 0 ts) (term_at 1 ts)) (code-plain (λ t. apply f t ≡ t) (term_at 0 ts) (term_at 1 ts) (term_fixed f 0 ts (omega arith) e) (term_fixed f 1 ts (omega arith) e))
 answer_fixed (AtomText by) ts next f few e new = plain_fixed f (spelling_answer (spelling_meant by) (term_at 0 ts) (term_at 1 ts)) (spelling-plain (λ t. apply f t ≡ t) (spelling_meant by) (term_at 0 ts) (term_at 1 ts) (term_fixed f 0 ts (omega arith) e) (term_fixed f 1 ts (omega arith) e))
 answer_fixed (NumberText by) ts next f few e new = plain_fixed f (number_text_answer (spelling_meant by) (term_at 0 ts) (term_at 1 ts)) (number_text-plain (λ t. apply f t ≡ t) (spelling_meant by) (term_at 0 ts) (term_at 1 ts) (term_fixed f 0 ts (omega arith) e) (term_fixed f 1 ts (omega arith) e))
+answer_fixed AtomConcat ts next f few e new =
+    plain_fixed f (atom_concat_answer (term_at 0 ts) (term_at 1 ts) (term_at 2 ts)) (atom_concat-plain (λ t. apply f t ≡ t) (term_at 0 ts) (term_at 1 ts) (term_at 2 ts) (term_fixed f 0 ts (omega arith) e) (term_fixed f 1 ts (omega arith) e) (term_fixed f 2 ts (omega arith) e))
+answer_fixed SubAtom ts next f few e new =
+    let asked : PartArguments = record { before = term_at 1 ts; length = term_at 2 ts; after = term_at 3 ts; text = term_at 4 ts } in
+    let kept : AreArguments (λ t. apply f t ≡ t) asked = record { before = term_fixed f 1 ts (omega arith) e; length = term_fixed f 2 ts (omega arith) e; after = term_fixed f 3 ts (omega arith) e; text = term_fixed f 4 ts (omega arith) e } in
+    plain_fixed f (sub_atom_answer (term_at 0 ts) asked) (sub_atom-plain (λ t. apply f t ≡ t) (parts_kept f) (term_at 0 ts) asked kept)
 answer_fixed Sort ts next f few e new = sort_fixed f (term_at 0 ts) (term_at 1 ts) (term_fixed f 0 ts (omega arith) e) (term_fixed f 1 ts (omega arith) e)
 answer_fixed KeySort ts next f few e new = keysort_fixed f (term_at 0 ts) (term_at 1 ts) (term_fixed f 0 ts (omega arith) e) (term_fixed f 1 ts (omega arith) e)

@@ -7,3 +7,4 @@ pub mod CheckLemmas
 pub mod TextLemmas
 pub mod NumberTextLemmas
 pub mod SortGoalLemmas
+pub mod AskedPartLemmas

@@ -6,3 +6,4 @@ pub mod Lists
 pub mod Characters
 pub mod Checks
 pub mod Texts
+pub mod AskedParts

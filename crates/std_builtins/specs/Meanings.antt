@@ -11,6 +11,7 @@ use Rattle.run_model.specs.Goals.TermTests.{is_variable, is_integer, is_atom, is
 use Rattle.run_model.specs.Goals.TermParts.{functor_answer, argument_answer, parts_answer, copy_answer}
 use Rattle.run_model.specs.Goals.UnificationGoals.{apart_answer}
 use Rattle.run_model.specs.Goals.AtomGoals.{CharacterList, ByCharacters, ByCodes, atom_length_answer, char_code_answer, spelling_answer}
+use Rattle.run_model.specs.Goals.AtomParts.{atom_concat_answer, sub_atom_answer}
 use Rattle.run_model.specs.Goals.NumberTexts.{number_text_answer}
 use Rattle.run_model.specs.Goals.Sorting.{sort_answer, keysort_answer}
 use Rattle.std_builtins.specs.declared.type_tests.TypeTest.{TypeTest}
@@ -70,6 +71,8 @@ answer_of goal.Copy ts next = copy_answer (term_at 0 ts) (term_at 1 ts) next
 answer_of goal.AtomLength ts next = atom_length_answer (term_at 0 ts) (term_at 1 ts)
 answer_of goal.CharCode ts next = char_code_answer (term_at 0 ts) (term_at 1 ts)
 answer_of (goal.AtomText s) ts next = spelling_answer (spelling_meant s) (term_at 0 ts) (term_at 1 ts)
+answer_of goal.AtomConcat ts next = atom_concat_answer (term_at 0 ts) (term_at 1 ts) (term_at 2 ts)
+answer_of goal.SubAtom ts next = sub_atom_answer (term_at 0 ts) (record { before = term_at 1 ts; length = term_at 2 ts; after = term_at 3 ts; text = term_at 4 ts })
 answer_of goal.Sort ts next = sort_answer (term_at 0 ts) (term_at 1 ts)
 answer_of goal.KeySort ts next = keysort_answer (term_at 0 ts) (term_at 1 ts)
 answer_of (goal.NumberText s) ts next = number_text_answer (spelling_meant s) (term_at 0 ts) (term_at 1 ts)
@@ -90,5 +93,7 @@ arguments_of goal.AtomLength = 2
 arguments_of goal.CharCode = 2
 arguments_of (goal.AtomText s) = 2
 arguments_of (goal.NumberText s) = 2
+arguments_of goal.AtomConcat = 3
+arguments_of goal.SubAtom = 5
 arguments_of goal.Sort = 2
 arguments_of goal.KeySort = 2

@@ -1,5 +1,5 @@
 -- Texts read from the items of a list.
-use Rattle.std.specs.Prelude.{◌≡◌, ℕ, ℤ, Bool, if◌then◌else◌, Option, None, List, map, Result, Ok, Err, String, string_bytes, codes, Some, MatchOption}
+use Rattle.std.specs.Prelude.{◌≡◌, ℕ, ℤ, Bool, if◌then◌else◌, Option, None, List, map, Result, Ok, Err, String, string_bytes, codes}
 use Rattle.std.specs.Str.{chars}
 use Rattle.std.specs.Global.{Global}
 use Rattle.au_term.specs.Term.{Term}

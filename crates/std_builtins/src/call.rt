@@ -7,6 +7,7 @@ ghost use Rattle.std_builtins.specs.Meanings.{answer_of, arguments_of};
 use crate::answer::{BuiltinRefusal, Solution, equal, holds_if};
 use crate::argument::argument;
 use crate::arithmetic::{compared_values, is};
+use crate::atom_concat::atom_concat;
 use crate::atoms::{atom_length, char_code};
 use crate::comparisons::compared;
 use crate::functor::functor;
@@ -14,6 +15,7 @@ use crate::numbers::number_text;
 use crate::parts::{copied, parts};
 use crate::sorting::{keysort, sort};
 use crate::spelling::atom_text;
+use crate::sub_atom::sub_atom;
 use crate::table::Builtin;
 use crate::unification::differ;
 use au_term::{FlatTerm, VarNo};
@@ -47,6 +49,8 @@ impl Builtin {
             Builtin::AtomLength => atom_length(alloc, &args[0], &args[1]),
             Builtin::CharCode => char_code(alloc, &args[0], &args[1]),
             Builtin::AtomText(by) => atom_text(alloc, by, &args[0], &args[1]),
+            Builtin::AtomConcat => atom_concat(alloc, &args[0], &args[1], &args[2]),
+            Builtin::SubAtom => sub_atom(alloc, &args[0], &args[1], &args[2], &args[3], &args[4]),
             Builtin::NumberText(by) => number_text(alloc, by, &args[0], &args[1]),
             Builtin::Sort => sort(alloc, &args[0], &args[1]),
             Builtin::KeySort => keysort(alloc, &args[0], &args[1]),

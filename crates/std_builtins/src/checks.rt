@@ -1,5 +1,5 @@
 //! Arguments and items tested one after another: the first that fails is the error.
-ghost use Rattle.std.specs.Prelude.{◌≡◌, ◌∷◌, [], IfOk};
+ghost use Rattle.std.specs.Prelude.{◌≡◌, ◌∷◌, [], IfOk, map};
 ghost use Rattle.au_model.specs.Terms.Faults.{error_term_of};
 ghost use Rattle.run_model.specs.Goals.BuiltinAnswers.{Answer};
 ghost use Rattle.run_model.specs.Goals.AtomGoals.{with_each, with_counts};
@@ -75,6 +75,18 @@ fn is_key_pair(cell: &Cell) -> bool
 /// Tests terms from the left.
 pub(crate) fn check_each(check: Check, terms: &[FlatTerm]) -> Result<(), BuiltinRefusal>
     ensures { (a : Answer) → IsPassed (with_each (check_test check) (check_error check) terms.now a) a result }
+{
+    for term in terms {
+        if !check.passes(term) {
+            return Err(BuiltinRefusal::Fault(check.fault(term)?));
+        }
+    }
+    Ok(())
+}
+
+/// Tests arguments from the left.
+pub(crate) fn check_all(check: Check, terms: &[&FlatTerm]) -> Result<(), BuiltinRefusal>
+    ensures { (a : Answer) → IsPassed (with_each (check_test check) (check_error check) (map (λ t. t.now) terms.now) a) a result }
 {
     for term in terms {
         if !check.passes(term) {

@@ -4,6 +4,8 @@
 pub mod answer;
 mod argument;
 mod arithmetic;
+mod asked;
+mod atom_concat;
 mod atoms;
 mod call;
 mod characters;
@@ -17,6 +19,7 @@ mod numbers;
 mod parts;
 mod sorting;
 pub mod spelling;
+mod sub_atom;
 pub mod table;
 #[cfg(test)]
 mod tests;

@@ -27,13 +27,15 @@ pub enum Builtin {
     AtomLength,
     CharCode,
     AtomText(Spelling),
+    AtomConcat,
+    SubAtom,
     NumberText(Spelling),
     Sort,
     KeySort,
 }
 
 /// Each built-in predicate with its name and number of arguments.
-const BUILTINS: [(&str, u32, Builtin); 38] = [
+const BUILTINS: [(&str, u32, Builtin); 40] = [
     ("=", 2, Builtin::Unify),
     ("\\=", 2, Builtin::Differ),
     ("unify_with_occurs_check", 2, Builtin::Unify),
@@ -68,6 +70,8 @@ const BUILTINS: [(&str, u32, Builtin); 38] = [
     ("char_code", 2, Builtin::CharCode),
     ("atom_chars", 2, Builtin::AtomText(Spelling::Characters)),
     ("atom_codes", 2, Builtin::AtomText(Spelling::Codes)),
+    ("atom_concat", 3, Builtin::AtomConcat),
+    ("sub_atom", 5, Builtin::SubAtom),
     ("number_chars", 2, Builtin::NumberText(Spelling::Characters)),
     ("number_codes", 2, Builtin::NumberText(Spelling::Codes)),
     ("sort", 2, Builtin::Sort),

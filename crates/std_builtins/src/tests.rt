@@ -152,6 +152,33 @@ fn atoms(rt: HostRuntime) -> Result<(), Fail> {
 }
 
 #[test]
+fn parts_of_atoms(rt: HostRuntime) -> Result<(), Fail> {
+    let alloc = rt.alloc();
+    let whole = [variable(alloc)?, variable(alloc)?, atom(alloc, "ab")?];
+    let second = [atom(alloc, "a")?, variable(alloc)?, atom(alloc, "ab")?];
+    let joined = [atom(alloc, "b")?, atom(alloc, "a")?, variable(alloc)?];
+    assert_eq!(rt; count(&Builtin::AtomConcat.call(alloc, &whole, 2)), 3);
+    assert!(rt; finds(&Builtin::AtomConcat.call(alloc, &second, 2), &second[0]));
+    let made = atom(alloc, "ba")?;
+    assert!(rt; finds(&Builtin::AtomConcat.call(alloc, &joined, 2), &made));
+    for (part, places) in [("aa", 2), ("", 4), ("b", 0)] {
+        let asked = [
+            atom(alloc, "aaa")?,
+            variable(alloc)?,
+            variable(alloc)?,
+            variable(alloc)?,
+            atom(alloc, part)?,
+        ];
+        assert_eq!(rt;
+            count(&Builtin::SubAtom.call(alloc, &asked, 2)),
+            places,
+            "{part}"
+        );
+    }
+    Ok(())
+}
+
+#[test]
 fn texts(rt: HostRuntime) -> Result<(), Fail> {
     let alloc = rt.alloc();
     let read = [variable(alloc)?, alone(alloc, integer(alloc, 55)?)?];

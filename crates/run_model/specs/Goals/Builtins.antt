@@ -10,6 +10,7 @@ use Rattle.run_model.specs.Goals.TermTests.{type_tests, order_goals}
 use Rattle.run_model.specs.Goals.TermParts.{term_parts}
 use Rattle.run_model.specs.Goals.UnificationGoals.{unification_goals}
 use Rattle.run_model.specs.Goals.AtomGoals.{atom_goals}
+use Rattle.run_model.specs.Goals.AtomParts.{part_goals}
 use Rattle.run_model.specs.Goals.NumberTexts.{number_goals}
 use Rattle.run_model.specs.Goals.Sorting.{sorting_goals}
 
@@ -24,4 +25,4 @@ abbrev pub builtins : List Construct
 builtins =
     -- unify (8.2.1)
     builtin (codes "=") 2 (λ ts next. holds_where ((term_at 0 ts, term_at 1 ts) ∷ []))
-    ∷ (unification_goals ++ (type_tests ++ (order_goals ++ (arithmetic_goals ++ (term_parts ++ (atom_goals ++ (number_goals ++ sorting_goals)))))))
+    ∷ (unification_goals ++ (type_tests ++ (order_goals ++ (arithmetic_goals ++ (term_parts ++ (atom_goals ++ (part_goals ++ (number_goals ++ sorting_goals))))))))
