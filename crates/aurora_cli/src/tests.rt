@@ -1,6 +1,6 @@
 //! Texts run from words to bytes, by rows.
 use crate::note::note_line;
-use crate::rows::{Bad, CONTROL, FAULTS, FINISHED, PREDICATES};
+use crate::rows::{Bad, CONTROL, ERRORS, FAULTS, FINISHED, PREDICATES};
 use crate::top::aurora;
 use au_io::{MemoryShelf, MemorySink, NoGate};
 use au_model::FaultKind;
@@ -73,6 +73,26 @@ fn predicates(rt: HostRuntime) -> Result<(), Fail> {
             ends(&rt, rt.alloc(), text, "1000000", 999, FINISHED, lines)?,
             "{text}"
         );
+    }
+    Ok(())
+}
+
+/// Whether a query of this goal alone ends with this error.
+fn is_in_error<R: Threads + Wait + Sync>(
+    rt: &R,
+    alloc: Global,
+    goal: &str,
+    error: &str,
+) -> Result<bool, Fail> {
+    let text = format!(in alloc; "?- {goal}.")?;
+    let line = format!(in alloc; "error: error({error})\n")?;
+    ends(rt, alloc, text.as_str(), "9", 99, FINISHED, line.as_str())
+}
+
+#[test]
+fn errors(rt: HostRuntime) -> Result<(), Fail> {
+    for (goal, error) in ERRORS {
+        assert!(rt; is_in_error(&rt, rt.alloc(), goal, error)?, "{goal}");
     }
     Ok(())
 }
