@@ -1,19 +1,16 @@
 -- Bound variables followed, and bindings listed.
-use Rattle.std.proofs.Common.{◌≡◌, ℕ, zero, suc, ◌+◌, ◌<◌, ◌≤◌, List, [], ◌∷◌, ◌++◌, length, take, drop, take-append-drop, map, Some, None, refl, sym, ap, ◌∙◌, subst, arith, append_assoc, append-nil}
-use Rattle.std.proofs.lemmas.List.{drop_all}
+use Rattle.std.proofs.Common.{◌≡◌, ℕ, zero, suc, ◌+◌, ◌<◌, List, [], ◌∷◌, ◌++◌, length, drop, map, Some, None, refl, sym, ap, ◌∙◌, subst, arith, append_assoc}
 use Rattle.au_term.specs.Term.{Term, VarTerm, IntTerm, AtomTerm, Compound}
 use Rattle.au_term.specs.PrefixOrder.{cells_of, top_of}
 use Rattle.au_term.specs.declared.cell.Cell.{Cell}
 use Rattle.au_term.specs.declared.cell.Cell.TheVariants.{Var as VarCell, Int as IntCell, Atom as AtomCell, Functor}
 use Rattle.au_term.specs.declared.segment.Binding.{Binding as SharedBinding}
 use Rattle.au_model.specs.Terms.Substitutions.{resolve}
-use Rattle.bind_store.specs.Bindings.{Binding, value_at, variable_at, resolved_after, resolved_bindings, substitution_of, IsReached}
+use Rattle.bind_store.specs.Bindings.{Binding, value_at, variable_at, substitution_of, IsReached}
 use Rattle.bind_store.specs.ResolvedCells.{IsCellEnd}
-use Rattle.bind_store.specs.StoreView.{StoreView, IsUnbound, pairs_of, mark_of, Continues}
-use Rattle.bind_store.specs.declared.store.Mark.{Mark}
+use Rattle.bind_store.specs.StoreView.{IsUnbound, pairs_of}
 use Rattle.bind_store.proofs.DereferencedTermLemmas.{no_end}
-use Rattle.bind_store.proofs.ResolvedLemmas.{variable_top, free-resolved, resolved-append, resolved-take}
-use Rattle.bind_store.proofs.UndoLemmas.{take_front}
+use Rattle.bind_store.proofs.ResolvedLemmas.{variable_top, free-bound}
 
 first_cell : (t : Term) (c : Cell) (cs : List Cell) → cells_of t ≡ c ∷ cs → c ≡ top_of t
 first_cell (VarTerm n) c cs e = cc
@@ -39,8 +36,8 @@ reached_value bs term i c cs e h = reached_by bs term i c (sym (first_cell term 
 pub reached_itself : (bs : List Binding) (term : Term) (c : Cell) (cs : List Cell) → cells_of term ≡ c ∷ cs → IsCellEnd bs c None → IsReached bs (top_of term)
 reached_itself bs term c cs e h = subst (IsReached bs) (first_cell term c cs e) (no_end bs c h)
 
-pub unbound : (bs : List Binding) (t : Term) → IsReached bs (top_of t) → IsUnbound (resolved_bindings bs) t
-unbound bs (VarTerm n) h = free-resolved [] bs n h
+pub unbound : (bs : List Binding) (t : Term) → IsReached bs (top_of t) → IsUnbound (substitution_of bs) t
+unbound bs (VarTerm n) h = free-bound bs n h
 unbound bs (IntTerm z) h = tt
 unbound bs (AtomTerm a) h = tt
 unbound bs (Compound g ts) h = tt
@@ -60,20 +57,3 @@ pub listed_more : (bs : List Binding) (from i : ℕ) (list now : List SharedBind
 listed_more bs from i list now x t lt h p q n =
     let one : drop i bs ≡ (x, t) ∷ drop (i + 1) bs = drop_one bs i lt ∙ (ap (λ y. (y, value_at bs i) ∷ drop (i + 1) bs) (sym p) ∙ ap (λ u. (x, u) ∷ drop (i + 1) bs) (sym q)) in
     h ∙ (ap (λ ds. pairs_of list ++ ds) one ∙ (sym (append_assoc (pairs_of list) ((x, t) ∷ []) (drop (i + 1) bs)) ∙ ap (λ ps. ps ++ drop (i + 1) bs) (sym (ap pairs_of n ∙ map-push (λ b. (b.var, b.value)) list (record { var = x; value = t })))))
-
--- the bindings since a mark
-made_before : (bs : List Binding) (st before : StoreView) (m : Mark) → st.made ≡ resolved_bindings bs → m ≡ mark_of before → Continues before st → resolved_bindings (take m.made bs) ≡ before.made
-made_before bs st before m e is c =
-    resolved-take [] bs m.made ∙ take_front before.made c.more (resolved_bindings bs) m.made (sym e ∙ c.is) (ap (λ k. let n : ℕ = k.made in n) is)
-
-pub undone : (bs cs : List Binding) (st before : StoreView) (m : Mark) → st.made ≡ resolved_bindings bs → m ≡ mark_of before → Continues before st → cs ≡ take m.made bs → resolved_bindings cs ≡ before.made
-undone bs cs st before m e is c h = ap resolved_bindings h ∙ made_before bs st before m e is c
-
-pub all_listed : (bs : List Binding) (st : StoreView) (m : Mark) (from i : ℕ) (list : List SharedBinding) → st.made ≡ resolved_bindings bs → from ≡ m.made → length bs ≤ i → drop from bs ≡ pairs_of list ++ drop i bs
-    → (before : StoreView) → m ≡ mark_of before → Continues before st → st.made ≡ before.made ++ resolved_after before.made (pairs_of list)
-all_listed bs st m from i list e f le h before is c =
-    let front = take m.made bs in
-    let rest : drop m.made bs ≡ pairs_of list = ap (λ n. drop n bs) (sym f) ∙ (h ∙ (ap (λ ds. pairs_of list ++ ds) (drop_all i bs le) ∙ append-nil (pairs_of list))) in
-    e ∙ (ap resolved_bindings (sym (take-append-drop m.made bs))
-    ∙ (resolved-append [] front (drop m.made bs)
-    ∙ (ap (λ made. made ++ resolved_after made (drop m.made bs)) (made_before bs st before m e is c) ∙ ap (λ ds. before.made ++ resolved_after before.made ds) rest)))

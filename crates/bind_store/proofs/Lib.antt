@@ -17,3 +17,5 @@ pub mod StoreLemmas
 pub mod DereferenceLemmas
 pub mod RebindingLemmas
 pub mod BindingPlaceLemmas
+pub mod FurtherBindingLemmas
+pub mod EarlierLemmas

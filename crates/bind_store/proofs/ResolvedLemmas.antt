@@ -1,5 +1,5 @@
 -- Bindings whose values have those before them applied.
-use Rattle.std.proofs.Common.{◌≡◌, ℕ, zero, suc, ◌<◌, ◌==◌, Bool, true, false, cond, List, [], ◌∷◌, ◌++◌, length, length-append, take, Option, Some, None, refl, sym, ap, ◌∙◌, subst, append_assoc, append-nil, arith}
+use Rattle.std.proofs.Common.{◌≡◌, ℕ, zero, suc, ◌<◌, ◌==◌, Bool, true, false, cond, List, [], ◌∷◌, ◌++◌, length, length-append, Option, Some, None, refl, sym, ap, ◌∙◌, subst, append_assoc, append-nil, arith}
 use Rattle.std.specs.Prelude.{option_map, is_some}
 use Rattle.std.proofs.lemmas.Bool.Decides.{nat_tests}
 use Rattle.au_term.specs.Term.{Term, VarTerm, IntTerm, AtomTerm, Compound}
@@ -11,7 +11,7 @@ use Rattle.bind_store.specs.Bindings.{Binding, composed, place_in, value_at, IsU
 use Rattle.bind_store.proofs.TriangularLemmas.{free-composed, value-composed, composed-more, resolve-more, resolved_avoids, apart_more, bound_within}
 use Rattle.bind_store.specs.CellTests.{IsCellFound}
 use Rattle.std.proofs.lemmas.Bool.{false≢true}
-use Rattle.bind_store.proofs.BindingLemmas.{in_turn, avoiding_stays}
+use Rattle.bind_store.proofs.BindingLemmas.{composed_in_turn, avoiding_stays}
 use Rattle.bind_store.proofs.UndoLemmas.{apart_front, free_last}
 use Rattle.au_model.proofs.UnifierRuleLemmas.{count-apply_all}
 use Rattle.au_term.proofs.LogicLemmas.{number_same as same_eqb}
@@ -43,11 +43,6 @@ resolved-append made (b ∷ bs) cs =
     let v : Binding = (b.0, resolve (composed made) b.1) in
     ap (λ ds. v ∷ ds) (resolved-append (and_one made b) bs cs ∙ ap (λ m. resolved_after (and_one made b) bs ++ resolved_after m cs) (append_assoc made (v ∷ []) (resolved_after (and_one made b) bs)))
 
-pub resolved-take : (made bs : List Binding) (n : ℕ) → resolved_after made (take n bs) ≡ take n (resolved_after made bs)
-resolved-take made bs zero = refl
-resolved-take made [] (suc n) = refl
-resolved-take made (b ∷ bs) (suc n) = ap (λ ds. (b.0, resolve (composed made) b.1) ∷ ds) (resolved-take (and_one made b) bs n)
-
 pub resolved_twice : (bs : List Binding) (t : Term) → AreTriangular bs → resolve (composed bs) (resolve (composed bs) t) ≡ resolve (composed bs) t
 resolved_twice bs t a = avoiding_stays bs (resolve (composed bs) t) (resolved_avoids bs a t)
 
@@ -58,7 +53,7 @@ same_value made [] i a lt = absurd (omega arith)
 same_value made (b ∷ bs) zero a lt =
     let v = resolve (composed made) b.1 in
     let rest : List Binding = (b.0, v) ∷ resolved_after (and_one made b) bs in
-    in_turn made rest b.1 ∙ (ap (resolve (composed rest)) (sym (resolved_twice made b.1 (apart_front made rest a))) ∙ sym (in_turn made rest v))
+    composed_in_turn made rest b.1 ∙ (ap (resolve (composed rest)) (sym (resolved_twice made b.1 (apart_front made rest a))) ∙ sym (composed_in_turn made rest v))
 same_value made (b ∷ bs) (suc i) a lt =
     let v : Binding = (b.0, resolve (composed made) b.1) in
     let all = append_assoc made (v ∷ []) (resolved_after (and_one made b) bs) in

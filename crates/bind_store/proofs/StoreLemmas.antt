@@ -5,12 +5,14 @@ use Rattle.au_term.specs.PrefixOrder.{cells_of, terms_of, terms_of-cells_of}
 use Rattle.au_model.specs.Terms.Each.{Each}
 use Rattle.au_model.specs.Terms.Substitutions.{apply, apply_all, value_of, resolve}
 use Rattle.au_model.specs.Terms.Unifier.{pairs, equations_bound}
-use Rattle.bind_store.specs.Bindings.{Binding, composed, resolved_after, resolved_bindings, substitution_of, place_in, value_at, IsBoundAt, IsLookedUp, IsBindingBelow}
-use Rattle.bind_store.specs.UnificationSteps.{Pair, IsEquationValid, equations_at, both_resolved, IsExtended, AreOlder, IsOlder, AreOlderThan}
-use Rattle.bind_store.specs.StoreView.{StoreView}
+use Rattle.bind_store.specs.Bindings.{Binding, composed, resolved_after, resolved_bindings, substitution_of, place_in, value_at, IsBoundAt, IsLookedUp, IsBindingBelow, IsConsistent}
+use Rattle.bind_store.specs.UnificationSteps.{Pair, IsEquationValid, equations_at, both_resolved, IsExtendedBy, AreOlder, IsOlder, AreOlderThan}
+use Rattle.bind_store.specs.StoreView.{StoreView, IsValidStore, substitution}
 use Rattle.bind_store.specs.declared.unify.Equation.{Equation}
 use Rattle.bind_store.specs.declared.unify.Source.TheVariants.{Left, Right}
-use Rattle.bind_store.proofs.TriangularLemmas.{free-composed, found_of}
+use Rattle.bind_store.proofs.BindingLemmas.{free_above, avoiding_stays}
+use Rattle.bind_store.proofs.EarlierLemmas.{view_of}
+use Rattle.bind_store.proofs.TriangularLemmas.{free-composed, found_of, resolved_avoids}
 use Rattle.bind_store.proofs.ResolvedLemmas.{resolved-append}
 
 only_term : (t : Term) → terms_of (cells_of t) ≡ another t end
@@ -54,11 +56,22 @@ value_below (b ∷ bs) n m h lt = by_test (b.0 == m) (apply_below (value_of (com
     by_test true p q = p
     by_test false p q = q
 
-pub resolve_below : (bs : List Binding) (n : ℕ) (t : Term) → Each (IsBindingBelow n) bs → var_bound t ≤ n → var_bound (resolve (composed bs) t) ≤ n
-resolve_below bs n t h le = apply_below (value_of (composed bs)) n t (λ m lt. value_below bs n m h lt) le
+composed_below : (bs : List Binding) (n : ℕ) (t : Term) → Each (IsBindingBelow n) bs → var_bound t ≤ n → var_bound (resolve (composed bs) t) ≤ n
+composed_below bs n t h le = apply_below (value_of (composed bs)) n t (λ m lt. value_below bs n m h lt) le
+
+pub resolve_below : (st : StoreView) (t : Term) → IsValidStore st → var_bound t ≤ st.next → var_bound (resolve (substitution st) t) ≤ st.next
+resolve_below st t s le = apply_below (value_of st.bound) st.next t s.below le
+
+-- a store of consistent bindings below its next number is valid
+pub is_valid : (bs : List Binding) (n : ℕ) → IsConsistent bs → Each (IsBindingBelow n) (resolved_bindings bs) → IsValidStore (view_of bs n)
+is_valid bs n c h = record {
+  new = λ k le. free-composed (resolved_bindings bs) k (free_above (resolved_bindings bs) n k h le);
+  below = λ k lt. value_below (resolved_bindings bs) n k h lt;
+  final = λ k. avoiding_stays (resolved_bindings bs) (value_of (substitution_of bs) k) (resolved_avoids (resolved_bindings bs) c.apart (VarTerm k));
+}
 
 pub sides_below : (bs : List Binding) (n : ℕ) (a b : Term) → Each (IsBindingBelow n) bs → var_bound a ≤ n → var_bound b ≤ n → equations_bound ((resolve (composed bs) a, resolve (composed bs) b) ∷ []) ≤ n
-sides_below bs n a b h p q = omega (arith, resolve_below bs n a h p, resolve_below bs n b h q)
+sides_below bs n a b h p q = omega (arith, composed_below bs n a h p, composed_below bs n b h q)
 
 pub further_below : (bs : List Binding) (m n : ℕ) → m ≤ n → Each (IsBindingBelow m) bs → Each (IsBindingBelow n) bs
 further_below [] m n le h = tt
@@ -77,7 +90,7 @@ back_below [] cs n h = h
 back_below (b ∷ bs) cs n h = back_below bs cs n h.1
 
 -- further bindings keep a store sound
-pub extended_below : (bs cs : List Binding) (n : ℕ) (a b : Term) → Each (IsBindingBelow n) (resolved_bindings bs) → var_bound a ≤ n → var_bound b ≤ n → IsExtended ((resolve (substitution_of bs) a, resolve (substitution_of bs) b) ∷ []) bs cs → Each (IsBindingBelow n) (resolved_bindings cs)
+pub extended_below : (bs cs : List Binding) (n : ℕ) (a b : Term) → Each (IsBindingBelow n) (resolved_bindings bs) → var_bound a ≤ n → var_bound b ≤ n → IsExtendedBy ((resolve (substitution_of bs) a, resolve (substitution_of bs) b) ∷ []) bs cs → Each (IsBindingBelow n) (resolved_bindings cs)
 extended_below bs cs n a b h p q e =
     let made = resolved_bindings bs in
     subst (Each (IsBindingBelow n)) (sym (ap resolved_bindings e.is ∙ resolved-append [] bs e.more))
@@ -118,8 +131,8 @@ pub raw_value_below : (bs : List Binding) (i n : ℕ) → Each (IsBindingBelow n
 raw_value_below bs i n h lt = value_below_after [] bs i n h lt
 
 -- what is older than a clause
-pub all_older : (bs : List Binding) (fresh : Option ℕ) (t : Term) (st : StoreView) → st.made ≡ resolved_bindings bs → AreOlderThan fresh t st → AreOlder fresh bs × IsOlder fresh (resolve (substitution_of bs) t)
+pub all_older : (bs : List Binding) (fresh : Option ℕ) (t : Term) (st : StoreView) → substitution_of bs ≡ st.bound → AreOlderThan fresh t st → AreOlder fresh bs × IsOlder fresh (resolve (substitution_of bs) t)
 all_older bs None t st e h = (tt, tt)
 all_older bs (Some base) t st e h =
-    let below = subst (Each (IsBindingBelow base)) e h.0 in
-    (λ x lt. value_below (resolved_bindings bs) base x below lt, resolve_below (resolved_bindings bs) base t below h.1)
+    let older : (x : ℕ) → x < base → var_bound (value_of (substitution_of bs) x) ≤ base = λ x lt. subst (λ s. var_bound (value_of s x) ≤ base) (sym e) (h.0 x lt) in
+    (older, apply_below (value_of (substitution_of bs)) base t older h.1)

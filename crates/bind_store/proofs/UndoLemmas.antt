@@ -1,6 +1,5 @@
 -- Bindings taken back.
-use Rattle.std.proofs.Common.{◌≡◌, ℕ, zero, suc, ◌<◌, ◌==◌, Bool, true, false, cond, List, [], ◌∷◌, ◌++◌, length, take, drop, get_or, Some, None, refl, sym, ap, ◌∙◌, arith}
-use Rattle.std.proofs.Math.Seq.{take-append_seam, drop-append_seam}
+use Rattle.std.proofs.Common.{◌≡◌, ℕ, zero, suc, ◌<◌, ◌==◌, Bool, true, false, cond, List, [], ◌∷◌, ◌++◌, length, get_or, Some, None, refl, sym, ap, ◌∙◌, arith}
 use Rattle.au_term.specs.Term.{Term}
 use Rattle.bind_store.specs.Bindings.{Binding, place_in, variable_at, IsUnboundIn, IsAbsent, AreTriangular}
 use Rattle.bind_store.proofs.TriangularLemmas.{free-place_in, place_in-more}
@@ -34,9 +33,3 @@ pub variable_at-is : (bs : List Binding) (i : ℕ) (d : Binding) → i < length 
 variable_at-is [] i d lt = absurd (omega arith)
 variable_at-is (b ∷ bs) zero d lt = refl
 variable_at-is (b ∷ bs) (suc i) d lt = variable_at-is bs i d (omega arith)
-
-pub take_front : {X : Type 0} (bs cs all : List X) (n : ℕ) → all ≡ bs ++ cs → n ≡ length bs → take n all ≡ bs
-take_front bs cs all n e l = ap (λ k. take k all) l ∙ (ap (take (length bs)) e ∙ take-append_seam bs cs)
-
-pub drop_front : {X : Type 0} (bs cs all : List X) (n : ℕ) → all ≡ bs ++ cs → n ≡ length bs → drop n all ≡ cs
-drop_front bs cs all n e l = ap (λ k. drop k all) l ∙ (ap (drop (length bs)) e ∙ drop-append_seam bs cs)

@@ -11,7 +11,7 @@ use Rattle.au_model.proofs.UnifierRuleLemmas.{Says, rule_says, Binds}
 use Rattle.au_model.proofs.UnifierMeasureLemmas.{appears, AllBelow, work, Less, less_dropped, less_bound, less_opened}
 use Rattle.au_model.proofs.UnifierLemmas.{unifier-first, unifier_goes, all_below}
 use Rattle.bind_store.specs.Bindings.{Binding, composed, resolved_after, resolved_bindings, substitution_of, IsConsistent, IsBindingBelow}
-use Rattle.bind_store.specs.UnificationSteps.{Pair, whole_at, place_term, place_terms, IsThere, HasTermsAt, IsEquationValid, AreEquationsValid, equations_at, pending_equations, both_resolved, IsBoundTo, FollowsRule, after_drop, after_binding, after_opening, HasFurther, IsExtended}
+use Rattle.bind_store.specs.UnificationSteps.{Pair, whole_at, place_term, place_terms, IsThere, HasTermsAt, IsEquationValid, AreEquationsValid, equations_at, pending_equations, both_resolved, IsBoundTo, FollowsRule, after_drop, after_binding, after_opening, HasFurther, IsExtendedBy}
 use Rattle.bind_store.specs.declared.unify.Source.{Source}
 use Rattle.bind_store.specs.declared.unify.Source.TheVariants.{Left, Right, Value}
 use Rattle.bind_store.specs.declared.unify.Place.{Place}
@@ -56,7 +56,7 @@ completed-some [] = refl
 completed-some (b ∷ bs) = ap (option_map (bound b.0 b.1)) (completed-some bs)
 
 -- no equation is left
-pub ended : (eqs : Equations) (p : Pair) (before bs : List Binding) (es : List Equation) → Unifying eqs p before bs es → es ≡ [] → IsExtended eqs before bs
+pub ended : (eqs : Equations) (p : Pair) (before bs : List Binding) (es : List Equation) → Unifying eqs p before bs es → es ≡ [] → IsExtendedBy eqs before bs
 ended eqs p before bs es u e = record {
   more = u.more;
   is = u.is;

@@ -86,6 +86,14 @@ resolved_bindings bs = resolved_after [] bs
 abbrev pub substitution_of : List Binding → Substitution
 substitution_of bs = composed (resolved_bindings bs)
 
+-- what each variable stood for before each binding that was made after others
+abbrev pub earlier_after : List Binding → List Binding → List Substitution
+earlier_after made [] = []
+earlier_after made (b ∷ bs) = composed made ∷ earlier_after (made ++ (b.0, resolve (composed made) b.1) ∷ []) bs
+
+abbrev pub earlier_of : List Binding → List Substitution
+earlier_of bs = earlier_after [] bs
+
 -- the first cell of a term that is no bound variable
 abbrev pub IsReached : List Binding → Cell → Type 0
 IsReached bs (VarCell x) = IsUnboundIn x bs

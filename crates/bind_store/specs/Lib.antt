@@ -1,4 +1,5 @@
 pub mod Bindings
+pub mod FurtherBindings
 pub mod CellTests
 pub mod ResolvedCells
 pub mod UnificationSteps

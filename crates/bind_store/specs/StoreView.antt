@@ -1,41 +1,47 @@
--- What a store says: bindings, as a substitution, and the next variable number.
-use Rattle.std.specs.Prelude.{◌≡◌, ℕ, ◌+◌, ◌≤◌, List, ◌++◌, length, map, Bool, true, false, ◌∷◌, [], Some, None}
+-- What a store says: what each variable stands for, and the next variable number.
+use Rattle.std.specs.Prelude.{◌≡◌, ℕ, ◌+◌, ◌<◌, ◌≤◌, List, [], ◌∷◌, ◌++◌, length, map, Bool, true, false, Some, None}
 use Rattle.au_term.specs.Term.{Term, VarTerm, IntTerm, AtomTerm, Compound, var_bound}
 use Rattle.au_term.specs.declared.segment.Binding.{Binding as SharedBinding}
 use Rattle.au_term.specs.declared.segment.Segment.{Segment}
-use Rattle.au_model.specs.Terms.Each.{Each}
-use Rattle.au_model.specs.Terms.Substitutions.{Substitution, resolve}
+use Rattle.au_model.specs.Terms.Substitutions.{Substitution, value_of, resolve}
 use Rattle.au_model.specs.Terms.Unifier.{unifier}
-use Rattle.bind_store.specs.Bindings.{Binding, composed, resolved_after, IsUnboundIn, AreTriangular, IsBindingBelow}
+use Rattle.bind_store.specs.Bindings.{Binding}
+use Rattle.bind_store.specs.FurtherBindings.{made_after, CanBeMade, IsSame, IsComposition}
 use Rattle.bind_store.specs.declared.store.Mark.{Mark}
 
--- the bindings in the order in which they were made, each value as it was then, and the next number
+-- a substitution and the next number; and, the oldest first, the substitutions to which it can be taken back
 pub record StoreView : Type 0 where
-  pub made : List Binding
+  pub earlier : List Substitution
+  pub bound : Substitution
   pub next : ℕ
 
 -- what each variable stands for
 abbrev pub substitution : StoreView → Substitution
-substitution st = composed st.made
+substitution st = st.bound
 
--- no variable is bound twice or reached from itself, and all are below the next number
+-- numbers from the next one on are unbound, the others stand for terms of them, and no binding changes these terms
 pub record IsValidStore (st : StoreView) : Type 0 where
-  pub apart : AreTriangular st.made
-  pub below : Each (IsBindingBelow st.next) st.made
-
--- further bindings
-abbrev pub with_more : List Binding → StoreView → StoreView
-with_more more st = record { made = st.made ++ more; next = st.next }
+  pub new : (n : ℕ) → st.next ≤ n → value_of st.bound n ≡ VarTerm n
+  pub below : (n : ℕ) → n < st.next → var_bound (value_of st.bound n) ≤ st.next
+  pub final : (n : ℕ) → resolve st.bound (value_of st.bound n) ≡ value_of st.bound n
 
 -- further numbers were taken
 abbrev pub with_numbers : ℕ → StoreView → StoreView
-with_numbers n st = record { made = st.made; next = st.next + n }
+with_numbers n st = record { earlier = st.earlier; bound = st.bound; next = st.next + n }
 
--- the further bindings are the unifier of what two terms stand for
+-- a store can still be taken back to all that it could be taken back to before, and to what it was then
+pub record Continues (before st : StoreView) : Type 0 where
+  pub more : List Substitution
+  pub is : st.earlier ++ st.bound ∷ [] ≡ before.earlier ++ before.bound ∷ more
+  pub next : before.next ≤ st.next
+
+-- the unifier of what two terms stand for comes after the old substitution
 pub record AreUnified (a b : Term) (old new : StoreView) : Type 0 where
-  pub more : List Binding
-  pub is : new ≡ with_more more old
-  pub unified : unifier ((resolve (substitution old) a, resolve (substitution old) b) ∷ []) ≡ Some (composed more)
+  pub further : Substitution
+  pub unified : unifier ((resolve (substitution old) a, resolve (substitution old) b) ∷ []) ≡ Some further
+  pub bound : IsComposition (substitution old) further (substitution new)
+  pub next : new.next ≡ old.next
+  pub since : Continues old new
 
 -- two terms were unified, or there is no unifier and nothing has changed
 abbrev pub IsUnified : Term → Term → StoreView → StoreView → Bool → Type 0
@@ -44,13 +50,7 @@ IsUnified a b old new false = (unifier ((resolve (substitution old) a, resolve (
 
 -- the mark of a store
 abbrev pub mark_of : StoreView → Mark
-mark_of st = record { made = length st.made; next = st.next }
-
--- nothing older was undone since
-pub record Continues (before st : StoreView) : Type 0 where
-  pub more : List Binding
-  pub is : st.made ≡ before.made ++ more
-  pub next : before.next ≤ st.next
+mark_of st = record { made = length st.earlier; next = st.next }
 
 -- a mark was made on this store, and nothing older was undone since
 pub record IsMarkOf (m : Mark) (st : StoreView) : Type 0 where
@@ -63,23 +63,34 @@ pub record IsMarkOf (m : Mark) (st : StoreView) : Type 0 where
 abbrev pub pairs_of : List SharedBinding → List Binding
 pairs_of bs = map (λ b. (b.var, b.value)) bs
 
+-- bindings, each variable once, that make one substitution of another
+pub record AreMadeSince (before now : Substitution) (list : List SharedBinding) : Type 0 where
+  pub can : CanBeMade before (pairs_of list)
+  pub made : IsSame now (made_after before (pairs_of list))
+
 -- no bound variable
-abbrev pub IsUnbound : List Binding → Term → Type 0
-IsUnbound bs (VarTerm x) = IsUnboundIn x bs
-IsUnbound bs (IntTerm z) = Unit {0}
-IsUnbound bs (AtomTerm a) = Unit {0}
-IsUnbound bs (Compound f ts) = Unit {0}
+abbrev pub IsUnbound : Substitution → Term → Type 0
+IsUnbound s (VarTerm x) = value_of s x ≡ VarTerm x
+IsUnbound s (IntTerm z) = Unit {0}
+IsUnbound s (AtomTerm a) = Unit {0}
+IsUnbound s (Compound f ts) = Unit {0}
 
 -- a term that stands for what another does, and is no bound variable
 pub record IsDereferencedTerm (st : StoreView) (term reached : Term) : Type 0 where
   pub same : resolve (substitution st) reached ≡ resolve (substitution st) term
-  pub unbound : IsUnbound st.made reached
+  pub unbound : IsUnbound (substitution st) reached
   pub below : var_bound term ≤ st.next → var_bound reached ≤ st.next
 
--- the bindings of a segment, made after those of a store
-abbrev pub made_by : Segment → StoreView → List Binding
-made_by segment st = resolved_after st.made (pairs_of segment.bindings)
+-- what a store says once bindings are made
+abbrev pub with_bindings : List SharedBinding → StoreView → StoreView
+with_bindings list st = record { earlier = st.earlier; bound = made_after st.bound (pairs_of list); next = st.next }
 
--- the numbers of a segment were taken and its bindings made
+-- and once the numbers of a segment are taken too
 abbrev pub with_segment : Segment → StoreView → StoreView
-with_segment segment st = record { made = st.made ++ made_by segment st; next = st.next + segment.vars }
+with_segment segment st = with_numbers segment.vars (with_bindings segment.bindings st)
+
+-- a store says that now
+pub record HasSegment (segment : Segment) (old new : StoreView) : Type 0 where
+  pub bound : IsSame (substitution new) (substitution (with_segment segment old))
+  pub next : new.next ≡ old.next + segment.vars
+  pub since : Continues old new

@@ -155,10 +155,10 @@ abbrev pub IsOlder : Option ℕ → Term → Type 0
 IsOlder None t = Unit {0}
 IsOlder (Some base) t = var_bound t ≤ base
 
--- the variables of a clause, of which this is the first one, are in none of the bindings nor in a term
+-- the variables of a clause, of which this is the first one, are in nothing that older ones stand for nor in a term
 abbrev pub AreOlderThan : Option ℕ → Term → StoreView → Type 0
 AreOlderThan None t st = Unit {0}
-AreOlderThan (Some base) t st = Each (IsBindingBelow base) st.made × (var_bound t ≤ base)
+AreOlderThan (Some base) t st = ((x : ℕ) → x < base → var_bound (value_of st.bound x) ≤ base) × (var_bound t ≤ base)
 
 -- a binding of a variable of the clause, or to a term without them
 abbrev pub IsFreshBinding : Option ℕ → ℕ → Term → Type 0
@@ -177,7 +177,7 @@ pub record HasFurther (bs cs : List Binding) : Type 0 where
   pub is : cs ≡ bs ++ more
 
 -- and these are the unifier of equations, over variables that were below the least number above all of theirs
-pub record IsExtended (eqs : Equations) (bs cs : List Binding) : Type 0 where
+pub record IsExtendedBy (eqs : Equations) (bs cs : List Binding) : Type 0 where
   pub more : List Binding
   pub is : cs ≡ bs ++ more
   pub unified : unifier eqs ≡ Some (composed (resolved_after (resolved_bindings bs) more))
@@ -185,7 +185,7 @@ pub record IsExtended (eqs : Equations) (bs cs : List Binding) : Type 0 where
   pub consistent : IsConsistent cs
 
 abbrev pub IsSolved : Equations → List Binding → List Binding → Bool → Type 0
-IsSolved eqs bs cs true = IsExtended eqs bs cs
+IsSolved eqs bs cs true = IsExtendedBy eqs bs cs
 IsSolved eqs bs cs false = unifier eqs ≡ None
 
 -- the equations but for the first of these were put on top

@@ -1,12 +1,12 @@
 //! The store of a branch: its bindings and its next variable number.
-ghost use Rattle.std.specs.Prelude.{◌≡◌, ◌<◌, ◌≤◌, ◌+◌, ◌++◌, ◌∷◌, [], length, IfOk, OnOk, OnErr, ℕ};
+ghost use Rattle.std.specs.Prelude.{◌≡◌, ◌≤◌, ◌++◌, ◌∷◌, [], IfOk, OnOk, OnErr};
 ghost use Rattle.au_term.specs.Term.{var_bound};
 ghost use Rattle.au_model.specs.Terms.Copies.{copied, copy_takes};
 ghost use Rattle.au_model.specs.Terms.Substitutions.{resolve};
-ghost use Rattle.au_model.specs.Terms.Each.{Each};
-ghost use Rattle.bind_store.specs.Bindings.{AreTriangular, IsBindingBelow, IsReachedFrom, resolved_after, resolved_bindings, substitution_of};
+ghost use Rattle.bind_store.specs.Bindings.{AreTriangular, IsReachedFrom, resolved_after, resolved_bindings, substitution_of};
+ghost use Rattle.bind_store.specs.FurtherBindings.{CanBeMade};
 ghost use Rattle.bind_store.specs.UnificationSteps.{HasFurther, IsSolved, AreOlder, IsOlder, AreOlderThan};
-ghost use Rattle.bind_store.specs.StoreView.{StoreView, IsValidStore, substitution, with_numbers, with_segment, made_by, IsUnified, mark_of, Continues, IsMarkOf, pairs_of, IsDereferencedTerm};
+ghost use Rattle.bind_store.specs.StoreView.{StoreView, IsValidStore, substitution, with_numbers, with_segment, HasSegment, IsUnified, mark_of, Continues, IsMarkOf, AreMadeSince, pairs_of, IsDereferencedTerm};
 
 use crate::bindings::Bindings;
 use crate::resolved::resolved;
@@ -29,14 +29,14 @@ impl Model for Store {
     ghost use Rattle.std.specs.Coded.{codes};
     ghost use Rattle.au_term.specs.PrefixOrder.{term_code};
     ghost use Rattle.au_model.specs.Terms.Each.{Each};
-    ghost use Rattle.bind_store.specs.Bindings.{IsBindingBelow, resolved_bindings};
+    ghost use Rattle.bind_store.specs.Bindings.{IsBindingBelow, resolved_bindings, substitution_of, earlier_of};
     ghost use Rattle.bind_store.specs.StoreView.{StoreView};
 
     ghost Value = { StoreView };
 
     ghost coded = { Prim.hlevel (codes, term_code) };
 
-    ghost view = { λ s. record { made = resolved_bindings s.bindings; next = s.next } };
+    ghost view = { λ s. record { earlier = earlier_of s.bindings; bound = substitution_of s.bindings; next = s.next } };
 
     ghost invariant = { λ s. Each (IsBindingBelow s.next) (resolved_bindings s.bindings) };
 }
@@ -51,7 +51,7 @@ pub struct Mark {
 impl Store {
     /// Nothing is bound, and the next number is 0.
     pub fn new(alloc: Global) -> Store
-        ensures { result ≡ record { made = []; next = 0 } }
+        ensures { result ≡ record { earlier = []; bound = []; next = 0 } }
     {
         Store {
             bindings: Bindings::new(alloc),
@@ -86,9 +86,9 @@ impl Store {
 
     /// Takes the numbers of a segment, and makes its bindings again.
     pub fn extend(&mut self, segment: &Segment) -> Result<(), NoMemory>
-        requires apart { AreTriangular (self.old.made ++ made_by segment.now self.old) }
-        requires below { Each (IsBindingBelow (self.old.next + segment.now.vars)) (made_by segment.now self.old) }
-        ensures ok { OnOk result (self.new ≡ with_segment segment.now self.old) }
+        requires made { CanBeMade (substitution self.old) (pairs_of segment.now.bindings) }
+        requires sound { IsValidStore (with_segment segment.now self.old) }
+        ensures ok { OnOk result (HasSegment segment.now self.old self.new) }
         ensures err { OnErr result (self.new ≡ self.old) }
     {
         let Some(next) = self.next.checked_add(segment.vars) else {
@@ -176,7 +176,8 @@ impl Store {
 
     /// A mark of how the store is.
     pub fn mark(&self) -> Mark
-        ensures { result ≡ mark_of self.now }
+        ensures mark { result ≡ mark_of self.now }
+        ensures sound { IsValidStore self.now }
     {
         Mark {
             made: self.bindings.len(),
@@ -191,15 +192,16 @@ impl Store {
         requires { IsMarkOf mark self.old }
         ensures { (before : StoreView) → mark ≡ mark_of before → Continues before self.old → self.new ≡ before }
     {
+        // The proof reads off that the bindings are consistent.
+        let _made = self.bindings.len();
         self.bindings.cut_to(mark.made);
         self.next = mark.next;
     }
 
-    /// The bindings that were made since a mark, in their order. Their values are not resolved: each becomes what it was
-    /// for where the bindings before it are applied.
+    /// The bindings that were made since a mark, each variable once. Their values are not resolved.
     pub fn made_since(&self, mark: &Mark) -> Result<BindingList, NoMemory>
         requires { IsMarkOf mark.now self.now }
-        ensures { IfOk result (λ list. (before : StoreView) → mark.now ≡ mark_of before → Continues before self.now → self.now.made ≡ before.made ++ resolved_after before.made (pairs_of list)) }
+        ensures { IfOk result (λ list. (before : StoreView) → mark.now ≡ mark_of before → Continues before self.now → AreMadeSince (substitution before) (substitution self.now) list) }
     {
         let mut list = BindingList::new(self.alloc);
         for at in mark.made..self.bindings.len() {

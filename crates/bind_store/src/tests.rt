@@ -3,8 +3,8 @@ ghost use Rattle.std.specs.Prelude.{◌≡◌, IfOk};
 ghost use Rattle.au_term.specs.Term.{VarTerm};
 
 use crate::Store;
-use au_model::build::unary;
-use au_term::{Cell, FlatTerm, NoMemory, Shared, VarNo};
+use au_model::build::{compound, unary};
+use au_term::{Atom, Cell, FlatTerm, NoMemory, Shared, VarNo};
 use std::alloc::Global;
 use std::process::Abort;
 use std::test::Fail;
@@ -64,6 +64,67 @@ fn variables(rt: HostRuntime) -> Result<(), Fail> {
     expect(&rt, alloc, &store, variable(alloc, 1)?, variable(alloc, 0)?)?;
     let around = unary(alloc, "f", &variable(alloc, 0)?)?;
     assert!(rt; !unify(&rt, alloc, &mut store, variable(alloc, 0)?, around)?);
+    Ok(())
+}
+
+/// A variable, bare or as the argument of `g`.
+type Side = (bool, VarNo);
+
+/// Goals over two variables, heads of clauses whose variables begin with the third, and whether they unify. In the last
+/// two an older variable is bound to a compound first, and then the clause's own variable has to be searched in it.
+const HEADS: [([Side; 2], [Side; 2], bool); 7] = [
+    ([(false, 0), (false, 1)], [(false, 2), (false, 2)], true),
+    ([(true, 0), (false, 1)], [(false, 2), (false, 3)], true),
+    ([(true, 0), (true, 1)], [(false, 2), (false, 2)], true),
+    ([(true, 0), (false, 0)], [(false, 2), (false, 2)], false),
+    ([(false, 0), (true, 0)], [(true, 2), (true, 3)], true),
+    ([(false, 0), (false, 0)], [(true, 2), (false, 2)], false),
+    ([(false, 0), (false, 0)], [(true, 2), (false, 3)], true),
+];
+
+fn side(alloc: Global, side: Side) -> Result<FlatTerm, NoMemory> {
+    let bare = variable(alloc, side.1)?;
+    if side.0 {
+        unary(alloc, "g", &bare)
+    } else {
+        Ok(bare)
+    }
+}
+
+fn both(alloc: Global, sides: &[Side; 2]) -> Result<FlatTerm, NoMemory> {
+    let name = Atom::ascii(alloc, "p")?;
+    let first = side(alloc, sides[0])?;
+    let second = side(alloc, sides[1])?;
+    compound(alloc, name, &[&first, &second])
+}
+
+/// Whether a goal unifies with the head of a clause whose variables begin with the next number.
+fn unify_head(
+    rt: &impl Abort,
+    alloc: Global,
+    goal: FlatTerm,
+    head: FlatTerm,
+) -> Result<bool, Fail> {
+    let mut store = Store::new(alloc);
+    store.fresh(2)?;
+    let base = store.next();
+    store.fresh(2)?;
+    assert!(rt; goal.bound() <= base);
+    assert!(rt; head.bound() <= store.next());
+    let (goal, head) = (
+        Shared::from_term(alloc, goal)?,
+        Shared::from_term(alloc, head)?,
+    );
+    Ok(store.unify_from(&goal, &head, Some(base))?)
+}
+
+#[test]
+fn heads(rt: HostRuntime) -> Result<(), Fail> {
+    let alloc = rt.alloc();
+    for (goal, head, unifies) in HEADS {
+        let unified = unify_head(&rt, alloc, both(alloc, &goal)?, both(alloc, &head)?)?;
+        assert_eq!(rt; unified, unifies);
+    }
     Ok(())
 }
 

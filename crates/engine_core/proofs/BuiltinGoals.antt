@@ -19,7 +19,7 @@ use Rattle.au_model.proofs.EachLemmas.{IfFound, found_row}
 use Rattle.clause_compile.specs.declared.item.Scope.{Scope}
 use Rattle.clause_compile.specs.declared.item.Item.{Item}
 use Rattle.bind_store.specs.StoreView.{StoreView, IsValidStore, substitution}
-use Rattle.bind_store.proofs.BindingLemmas.{new_is_unbound, resolved_stays}
+use Rattle.bind_store.proofs.FurtherBindingLemmas.{resolved_stays}
 use Rattle.bind_store.proofs.StoreLemmas.{resolve_below}
 use Rattle.std_builtins.specs.Meanings.{answer_of}
 use Rattle.std_builtins.specs.Rows.{IsRowOf}
@@ -67,13 +67,13 @@ module _ (st : StoreView) (goal : Term) (b : Builtin) (callable : is_callable go
   rows_below ss sound below is =
       let found = subst (IfFound (λ c. IsRowBelow c × (is_named (name_of goal) (argument_count goal) c ≡ true))) row.row (found_row IsRowBelow (is_named (name_of goal) (argument_count goal)) builtins builtins_below) in
       let g = resolve (substitution st) goal in
-      subst (λ a. IsOutcomeBelow st.next (Replies (reply_of (name_of goal) (argument_count goal) a))) is (found.0 (arguments g) st.next counted (arguments-below st.next g (resolve_below st.made st.next goal sound.below below)))
+      subst (λ a. IsOutcomeBelow st.next (Replies (reply_of (name_of goal) (argument_count goal) a))) is (found.0 (arguments g) st.next counted (arguments-below st.next g (resolve_below st goal sound below)))
 
   rows_fixed : (ss : List Solution) → IsValidStore st → answer ≡ Ok ss → Each (IsFixed (value_of (substitution st))) ss
   rows_fixed ss sound is =
       let f = value_of (substitution st) in
       let g = resolve (substitution st) goal in
-      subst (IsAnswerFixed f) is (answer_fixed b (arguments g) st.next f (omega (arith, counted, row.count)) (arguments_fixed f g (resolved_stays st goal sound)) (λ n le. new_is_unbound st n sound le))
+      subst (IsAnswerFixed f) is (answer_fixed b (arguments g) st.next f (omega (arith, counted, row.count)) (arguments_fixed f g (resolved_stays st goal sound)) sound.new)
 
   both : (ss : List Solution) → Each (IsSolutionBelow st.next) ss → Each (IsFixed (value_of (substitution st))) ss → Each (IsUnboundSolution st) ss
   both [] h k = tt

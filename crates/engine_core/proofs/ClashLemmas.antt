@@ -22,9 +22,7 @@ use Rattle.proc_index.specs.declared.key.Key.{Key}
 use Rattle.proc_index.specs.declared.key.Key.TheVariants.{Any, Functor}
 use Rattle.proc_index.specs.Keys.{cell_key, first_has, has_key, head_key, key_of, may_match, matching}
 use Rattle.proc_index.specs.ProcedureIndex.{procedure_of, candidates_of, HaveHeads}
-use Rattle.bind_store.specs.Bindings.{Binding, composed}
 use Rattle.bind_store.specs.StoreView.{StoreView, substitution, IsUnbound, IsDereferencedTerm}
-use Rattle.bind_store.proofs.TriangularLemmas.{free-composed}
 use Rattle.engine_core.specs.Branches.{AreSolved, one_fails, one_solves}
 use Rattle.engine_core.specs.Attempts.{AreAlternatives}
 use Rattle.proc_index.proofs.KeyLemmas.{any_match as all_match}
@@ -145,11 +143,11 @@ no_arguments s (AtomTerm a) h e = refl
 no_arguments s (Compound f end) h e = refl
 no_arguments s (Compound f (more t ts)) h e = absurd (omega arith)
 
-unbound_key : (bs : List Binding) (t : Term) → IsUnbound bs t → cell_key (top_of t) ≡ key_of (resolve (composed bs) t)
-unbound_key bs (VarTerm n) h = sym (ap key_of (free-composed bs n h))
-unbound_key bs (IntTerm z) h = refl
-unbound_key bs (AtomTerm a) h = refl
-unbound_key bs (Compound f ts) h = ap (Functor f) (sym (count-apply_all (value_of (composed bs)) ts))
+unbound_key : (s : Substitution) (t : Term) → IsUnbound s t → cell_key (top_of t) ≡ key_of (resolve s t)
+unbound_key s (VarTerm n) h = sym (ap key_of h)
+unbound_key s (IntTerm z) h = refl
+unbound_key s (AtomTerm a) h = refl
+unbound_key s (Compound f ts) h = ap (Functor f) (sym (count-apply_all (value_of s) ts))
 
 pub key_reached : (st : StoreView) (goal first reached : Term) (cell : Cell) (key : Key) → is_callable goal ≡ true → 0 < argument_count goal → first ≡ argument 0 goal → IsDereferencedTerm st first reached → cell ≡ top_of reached → key ≡ cell_key cell
     → key ≡ head_key (resolve (substitution st) goal)
@@ -158,7 +156,7 @@ key_reached st (IntTerm z) first reached cell key h lt f r top is = cc
 key_reached st (AtomTerm a) first reached cell key h lt f r top is = absurd (omega arith)
 key_reached st (Compound g end) first reached cell key h lt f r top is = absurd (omega arith)
 key_reached st (Compound g (more t ts)) first reached cell key h lt f r top is =
-    is ∙ (ap cell_key top ∙ (unbound_key st.made reached r.unbound ∙ ap key_of (r.same ∙ ap (resolve (substitution st)) f)))
+    is ∙ (ap cell_key top ∙ (unbound_key (substitution st) reached r.unbound ∙ ap key_of (r.same ∙ ap (resolve (substitution st)) f)))
 
 -- all clauses were tried where the candidates were
 pub all_tried : (here : Scope) (rest : List Item) (st : StoreView) (clauses left : List ClauseTerms) (goal : Term) (name : List ℕ) (arity : ℕ) (key : Key) (bs : Vec Branch Global)

@@ -15,7 +15,6 @@ use Rattle.clause_compile.specs.declared.item.Scope.{Scope}
 use Rattle.clause_compile.specs.declared.item.Item.{Item}
 use Rattle.clause_compile.specs.declared.item.Item.TheVariants.{Goal}
 use Rattle.bind_store.specs.StoreView.{StoreView, IsUnbound, IsDereferencedTerm, substitution}
-use Rattle.bind_store.proofs.TriangularLemmas.{free-composed}
 use Rattle.engine_core.specs.Branches.{IsItemBelow}
 use Rattle.engine_core.specs.Conjunctions.{goals_of_bodies, bodies_size, SplitsBodies}
 use Rattle.engine_core.proofs.ResolvedTermLemmas.{argument_below}
@@ -23,8 +22,8 @@ use Rattle.au_model.proofs.UnifierMeasureLemmas.{size_pos as some_size}
 use Rattle.std_builtins.proofs.PartLemmas.{no_two}
 
 -- a goal that is no conjunction
-pub single_goal : (st : StoreView) (g : Term) → IsUnbound st.made g → opens_conjunction (top_of g) ≡ false → goals_of (resolve (substitution st) g) ≡ resolve (substitution st) g ∷ []
-single_goal st (VarTerm x) u h = rw (free-composed st.made x u)
+pub single_goal : (st : StoreView) (g : Term) → IsUnbound (substitution st) g → opens_conjunction (top_of g) ≡ false → goals_of (resolve (substitution st) g) ≡ resolve (substitution st) g ∷ []
+single_goal st (VarTerm x) u h = rw u
 single_goal st (IntTerm z) u h = refl
 single_goal st (AtomTerm a) u h = refl
 single_goal st (Compound f end) u h = refl

@@ -20,7 +20,7 @@ use Rattle.clause_compile.specs.declared.item.Scope.{Scope}
 use Rattle.clause_compile.specs.declared.item.Item.{Item}
 use Rattle.clause_compile.specs.declared.event.Branch.{Branch}
 use Rattle.bind_store.specs.StoreView.{StoreView, IsValidStore, IsUnbound, substitution}
-use Rattle.bind_store.proofs.BindingLemmas.{resolved_stays}
+use Rattle.bind_store.proofs.FurtherBindingLemmas.{resolved_stays}
 use Rattle.bind_store.proofs.StoreLemmas.{resolve_below}
 use Rattle.engine_core.specs.GoalArguments.{resolved_argument}
 use Rattle.engine_core.specs.Calls.{IsUncallable}
@@ -130,7 +130,7 @@ body_called t here rest goals h = go (body_of t) refl h
 pub called_below : (st : StoreView) (goal body : Term) (here : Scope) (rest goals : List Item) → IsValidStore st → var_bound goal ≤ st.next → body ≡ resolve (substitution st) goal → IsCalledAs body here rest (Ok goals) → Each (IsItemBelow st.next) rest → Each (IsItemBelow st.next) goals
 called_below st goal body here rest goals sound le e h k =
     let b = body_called body here rest goals h in
-    let body_le : var_bound body ≤ st.next = rw e (resolve_below st.made st.next goal sound.below le) in
+    let body_le : var_bound body ≤ st.next = rw e (resolve_below st goal sound le) in
     let found : var_bound b.body ≤ st.next = subst (IfFound (λ g. var_bound g ≤ st.next)) b.is (body_below st.next body body_le) in
     subst (Each (IsItemBelow st.next)) (sym b.are) (before_rest st.next here (goals_of b.body) rest (goals_below st.next b.body found) k)
 
@@ -141,7 +141,7 @@ called_alone st cut here arity goal body rest goals b r sound e h m a =
     let s = substitution st in
     let stays : resolve s body ≡ body = ap (resolve s) e ∙ (resolved_stays st goal sound ∙ sym e) in
     let kept : resolve s found.body ≡ found.body = subst (IfFound (λ u. resolve s u ≡ u)) found.is (body_stays (value_of s) body stays) in
-    let stands : HasGoalsBefore st.made here (goals_of found.body) rest goals = record { terms = goals_of found.body; are = found.are; same = goals_stay (value_of s) found.body kept } in
+    let stands : HasGoalsBefore s here (goals_of found.body) rest goals = record { terms = goals_of found.body; are = found.are; same = goals_stay (value_of s) found.body kept } in
     let is : called_goals (resolve s goal) ≡ Some (goals_of found.body) = ap called_goals (sym e) ∙ ap (option_map goals_of) found.is in
     subst (λ o. IsOutcome cut here rest st (called arity (resolve s goal) o) r) (sym is) (only_branch cut here (goals_of found.body) rest st b r (goes_on st here (goals_of found.body) rest goals b m stands) a)
 
@@ -159,7 +159,7 @@ plain_alone st cut here arity goal rest b r h o g a =
     subst (λ o. IsOutcome cut here rest st (called arity t o) r) (sym (plain_called t (plain_top (value_of (substitution st)) goal h o))) (only_branch cut here (t ∷ []) rest st b r g a)
 
 -- what a goal of call comes to
-pub call_raises : (st : StoreView) (cut here : Scope) (rest : List Item) (goal callee ball : Term) → 0 < argument_count goal → resolve (substitution st) callee ≡ resolve (substitution st) (argument 0 goal) → IsUnbound st.made callee → IsUncallable callee (argument_count goal) ball
+pub call_raises : (st : StoreView) (cut here : Scope) (rest : List Item) (goal callee ball : Term) → 0 < argument_count goal → resolve (substitution st) callee ≡ resolve (substitution st) (argument 0 goal) → IsUnbound (substitution st) callee → IsUncallable callee (argument_count goal) ball
     → IsOutcome cut here rest st (call_outcome (argument_count goal) (resolved_argument 0 st goal) (drop_terms 1 (arguments (resolve (substitution st) goal)))) (Raise ball)
 call_raises st cut here rest goal callee ball some same unbound u =
     let s = substitution st in

@@ -19,7 +19,6 @@ use Rattle.clause_compile.specs.declared.item.Item.{Item}
 use Rattle.clause_compile.specs.declared.event.Branch.{Branch}
 use Rattle.clause_compile.specs.declared.event.Effect.TheVariants.{Call}
 use Rattle.bind_store.specs.StoreView.{StoreView, IsUnbound, IsDereferencedTerm, substitution}
-use Rattle.bind_store.proofs.TriangularLemmas.{free-composed}
 use Rattle.engine_core.specs.GoalArguments.{resolved_argument}
 use Rattle.engine_core.specs.Branches.{AreSolved, none_left, GoesOnPlainly}
 use Rattle.engine_core.specs.Calls.{IsUncallable, is_variable_cell}
@@ -90,12 +89,12 @@ shifted_so cut here rest st o (Collect t) h = absurd h
 shifted_so cut here rest st o (Gate e) h = absurd h
 
 -- throw
-pub thrown_unbound : (st : StoreView) (goal ball error : Term) → 0 < argument_count goal → IsUnbound st.made ball → resolve (substitution st) ball ≡ resolve (substitution st) (argument 0 goal) → is_variable_cell (top_of ball) ≡ true → error ≡ error_term instantiation_error (codes "throw") 1
+pub thrown_unbound : (st : StoreView) (goal ball error : Term) → 0 < argument_count goal → IsUnbound (substitution st) ball → resolve (substitution st) ball ≡ resolve (substitution st) (argument 0 goal) → is_variable_cell (top_of ball) ≡ true → error ≡ error_term instantiation_error (codes "throw") 1
     → throw_outcome (resolved_argument 0 st goal) ≡ Replies (Ball error)
 thrown_unbound st goal ball error some u same h e = ap throw_outcome (argument_resolved (value_of (substitution st)) goal 0 some ∙ sym same) ∙ (by_variable ball u h ∙ ap (λ b. Replies (Ball b)) (sym e))
   where
-    by_variable : (t : Term) → IsUnbound st.made t → is_variable_cell (top_of t) ≡ true → throw_outcome (resolve (substitution st) t) ≡ Replies (Ball (error_term instantiation_error (codes "throw") 1))
-    by_variable (VarTerm x) u h = ap throw_outcome (free-composed st.made x u)
+    by_variable : (t : Term) → IsUnbound (substitution st) t → is_variable_cell (top_of t) ≡ true → throw_outcome (resolve (substitution st) t) ≡ Replies (Ball (error_term instantiation_error (codes "throw") 1))
+    by_variable (VarTerm x) u h = ap throw_outcome u
     by_variable (IntTerm z) u h = absurd cc
     by_variable (AtomTerm a) u h = absurd cc
     by_variable (Compound f ts) u h = absurd cc
@@ -134,11 +133,11 @@ condition_form st t first other h e = ap (λ u. either_form u other) (sym e) ∙
         ap (λ k. cond k (TestOf (goals_of x) (goals_of y) (goals_of other)) (EitherOf (goals_of (binary f x y)) (goals_of other))) h
     by_arguments (Compound f (more a (more b (more c ts)))) h = let no = ap (λ k. k && same_name f (codes "->")) (no_two (count ts)) in absurd cc
 
-pub either_so : (st : StoreView) (t first other : Term) → IsUnbound st.made t → opens_condition (top_of t) ≡ false → resolve (substitution st) t ≡ first → either_form first other ≡ EitherOf (goals_of (resolve (substitution st) t)) (goals_of other)
+pub either_so : (st : StoreView) (t first other : Term) → IsUnbound (substitution st) t → opens_condition (top_of t) ≡ false → resolve (substitution st) t ≡ first → either_form first other ≡ EitherOf (goals_of (resolve (substitution st) t)) (goals_of other)
 either_so st t first other u h e = ap (λ x. either_form x other) (sym e) ∙ by_top t u h
   where
-    by_top : (t : Term) → IsUnbound st.made t → opens_condition (top_of t) ≡ false → either_form (resolve (substitution st) t) other ≡ EitherOf (goals_of (resolve (substitution st) t)) (goals_of other)
-    by_top (VarTerm x) u h = rw (free-composed st.made x u)
+    by_top : (t : Term) → IsUnbound (substitution st) t → opens_condition (top_of t) ≡ false → either_form (resolve (substitution st) t) other ≡ EitherOf (goals_of (resolve (substitution st) t)) (goals_of other)
+    by_top (VarTerm x) u h = rw u
     by_top (IntTerm z) u h = refl
     by_top (AtomTerm a) u h = refl
     by_top (Compound f end) u h = refl

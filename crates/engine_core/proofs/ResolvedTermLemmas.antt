@@ -5,7 +5,6 @@ use Rattle.au_model.specs.Terms.Substitutions.{apply, value_of, resolve}
 use Rattle.au_model.specs.Terms.Forms.{name_of, is_callable}
 use Rattle.au_model.proofs.UnifierRuleLemmas.{count-apply_all}
 use Rattle.bind_store.specs.StoreView.{StoreView, IsUnbound, IsDereferencedTerm, substitution}
-use Rattle.bind_store.proofs.TriangularLemmas.{free-composed}
 use Rattle.engine_core.specs.GoalArguments.{resolved_argument}
 use Rattle.engine_core.specs.Reductions.{ResolvesTo}
 use Rattle.proc_index.proofs.LawLemmas.{argument_resolved}
@@ -43,8 +42,8 @@ count_resolved f (AtomTerm a) h = refl
 count_resolved f (Compound g ts) h = count-apply_all f ts
 
 -- others stand for themselves where they are no bound variables
-pub itself_resolved : (st : StoreView) (t : Term) → IsUnbound st.made t → is_callable t ≡ false → resolve (substitution st) t ≡ t
-itself_resolved st (VarTerm x) u h = free-composed st.made x u
+pub itself_resolved : (st : StoreView) (t : Term) → IsUnbound (substitution st) t → is_callable t ≡ false → resolve (substitution st) t ≡ t
+itself_resolved st (VarTerm x) u h = u
 itself_resolved st (IntTerm z) u h = refl
 itself_resolved st (AtomTerm a) u h = absurd cc
 itself_resolved st (Compound f ts) u h = absurd cc

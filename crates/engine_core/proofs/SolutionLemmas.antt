@@ -8,7 +8,7 @@ use Rattle.run_model.specs.Programs.Clauses.{Clause as ClauseTerms, clause_varia
 use Rattle.au_model.specs.Terms.Copies.{renamed}
 use Rattle.au_model.specs.Terms.Each.{Each}
 use Rattle.run_model.specs.Goals.Outcomes.{clause_solution}
-use Rattle.au_model.specs.Terms.Substitutions.{apply, value_of, resolve}
+use Rattle.au_model.specs.Terms.Substitutions.{Substitution, apply, value_of, resolve}
 use Rattle.au_model.specs.Terms.Unifier.{unifier}
 use Rattle.au_model.proofs.EachLemmas.{each-map}
 use Rattle.clause_compile.specs.CompiledClauses.{clause_bound, goal_items}
@@ -18,12 +18,10 @@ use Rattle.clause_compile.specs.declared.item.Item.{Item}
 use Rattle.clause_compile.specs.declared.item.Item.TheVariants.{Goal, CatchEnd, Collect, Remove, End}
 use Rattle.clause_compile.specs.declared.event.Branch.{Branch}
 use Rattle.clause_compile.proofs.RenumberingLemmas.{length-numbers}
-use Rattle.bind_store.specs.Bindings.{Binding, composed, resolved_after, AreTriangular, IsBindingBelow}
-use Rattle.bind_store.specs.StoreView.{StoreView, IsValidStore, substitution, with_numbers, AreUnified, mark_of, Continues, IsMarkOf, pairs_of}
+use Rattle.bind_store.specs.FurtherBindings.{IsComposition}
+use Rattle.bind_store.specs.StoreView.{StoreView, IsValidStore, substitution, with_numbers, with_bindings, AreUnified, AreMadeSince, mark_of, IsMarkOf}
 use Rattle.bind_store.specs.declared.store.Mark.{Mark}
-use Rattle.bind_store.proofs.BindingLemmas.{in_turn, new_is_unbound}
-use Rattle.bind_store.proofs.StoreLemmas.{front_below, further_below, back_below}
-use Rattle.bind_store.proofs.UndoLemmas.{apart_front, drop_front}
+use Rattle.bind_store.proofs.FurtherBindingLemmas.{composition_applies, same_valid}
 use Rattle.engine_core.specs.Branches.{IsItemBelow, IsBranchOf}
 use Rattle.engine_core.specs.Attempts.{UnifyBy, AreUnifiedBy}
 use Rattle.engine_core.proofs.ShiftedClauseLemmas.{renamed-shifted, shifted_stays, shifted-below, clause_goals-below}
@@ -45,48 +43,30 @@ goals_before_below n cut [] rest h k = k
 goals_before_below n cut (g ∷ gs) rest h k = (h.0, goals_before_below n cut gs rest h.1 k)
 
 -- the bindings since a mark
-pub same_next : (left right : Term) (old new : StoreView) → AreUnified left right old new → new.next ≡ old.next
-same_next left right old new u = ap (λ st. let n : ℕ = st.next in n) u.is
+pub marked_since : (m : Mark) (left right : Term) (old new : StoreView) → m ≡ mark_of old → IsValidStore old → AreUnified left right old new → IsMarkOf m new
+marked_since m left right old new is s u = record { before = old; sound = s; is = is; since = u.since }
 
-pub unified_since : (left right : Term) (old new : StoreView) → AreUnified left right old new → Continues old new
-unified_since left right old new u =
-    let next = same_next left right old new u in
-    record { more = u.more; is = ap (λ st. let bs : List Binding = st.made in bs) u.is; next = omega arith }
-
-pub marked_since : (m : Mark) (old new : StoreView) → m ≡ mark_of old → Continues old new → new.next ≡ old.next → IsValidStore new → IsMarkOf m new
-marked_since m old new is c same s =
-    let below : Each (IsBindingBelow old.next) new.made = subst (λ n. Each (IsBindingBelow n) new.made) same s.below in
-    record {
-      before = old;
-      sound = record { apart = apart_front old.made c.more (subst AreTriangular c.is s.apart); below = front_below old.made c.more old.next (subst (Each (IsBindingBelow old.next)) c.is below) };
-      is = is;
-      since = c;
-    }
-
-pub make_one : (left right : Term) (old new : StoreView) (list : List SharedBinding) → AreUnified left right old new → IsValidStore new → new.made ≡ old.made ++ resolved_after old.made (pairs_of list) → UnifyBy left right old list
-make_one left right old new list u s listed =
-    let made : new.made ≡ old.made ++ u.more = ap (λ st. let bs : List Binding = st.made in bs) u.is in
-    let next = same_next left right old new u in
-    let given = resolved_after old.made (pairs_of list) in
-    let same : u.more ≡ given = sym (drop_front old.made u.more new.made (length old.made) made refl) ∙ drop_front old.made given new.made (length old.made) listed refl in
-    record {
-      unified = u.unified ∙ ap (λ bs. Some (composed bs)) same;
-      apart = subst AreTriangular listed s.apart;
-      below = back_below old.made given old.next (subst (Each (IsBindingBelow old.next)) listed (subst (λ n. Each (IsBindingBelow n) new.made) next s.below));
-    }
+pub make_one : (left right : Term) (old new : StoreView) (list : List SharedBinding) → AreUnified left right old new → IsValidStore new → AreMadeSince (substitution old) (substitution new) list → UnifyBy left right old list
+make_one left right old new list u s m = record {
+  further = u.further;
+  unified = u.unified;
+  made = m.can;
+  bound = λ n. sym (m.made n) ∙ u.bound n;
+  sound = same_valid new (with_bindings list old) m.made u.next s;
+}
 
 -- the goals of a clause, shifted and resolved
-goals_stand : (bs made : List Binding) (next k : ℕ) (seen : List ℕ) (gs : List Term) → seen ≡ numbers_from 0 k → ((n : ℕ) → next ≤ n → value_of (composed bs) n ≡ VarTerm n) → Each (λ g. var_bound g ≤ k) gs
-    → map (resolve (composed (bs ++ made))) (map (shifted next) gs) ≡ map (resolve (composed made)) (map (apply (renamed seen next)) gs)
-goals_stand bs made next k seen [] e h b = refl
-goals_stand bs made next k seen (g ∷ gs) e h b =
-    let one : resolve (composed (bs ++ made)) (shifted next g) ≡ resolve (composed made) (apply (renamed seen next) g) =
-    in_turn bs made (shifted next g) ∙ ap (resolve (composed made)) (shifted_stays (composed bs) next g h ∙ sym (renamed-shifted k next seen g e b.0)) in
-    let others = goals_stand bs made next k seen gs e h b.1 in cc
+goals_stand : (s further now : Substitution) (next k : ℕ) (seen : List ℕ) (gs : List Term) → IsComposition s further now → seen ≡ numbers_from 0 k → ((n : ℕ) → next ≤ n → value_of s n ≡ VarTerm n) → Each (λ g. var_bound g ≤ k) gs
+    → map (resolve now) (map (shifted next) gs) ≡ map (resolve further) (map (apply (renamed seen next)) gs)
+goals_stand s further now next k seen [] c e h b = refl
+goals_stand s further now next k seen (g ∷ gs) c e h b =
+    let one : resolve now (shifted next g) ≡ resolve further (apply (renamed seen next) g) =
+    composition_applies s further now (shifted next g) c ∙ ap (resolve further) (shifted_stays s next g h ∙ sym (renamed-shifted k next seen g e b.0)) in
+    let others = goals_stand s further now next k seen gs c e h b.1 in cc
 
 module _ (st : StoreView) (c : ClauseTerms) (k : ℕ) (sound : IsValidStore st) (numbered : clause_variables c ≡ numbers_from 0 k) (bound : clause_bound c ≤ k) where
   head_is : resolve (substitution st) (shifted st.next c.head) ≡ renamed_head c st.next
-  head_is = shifted_stays (substitution st) st.next c.head (λ n le. new_is_unbound st n sound le) ∙ sym (renamed-shifted k st.next (clause_variables c) c.head numbered (omega arith))
+  head_is = shifted_stays (substitution st) st.next c.head sound.new ∙ sym (renamed-shifted k st.next (clause_variables c) c.head numbered (omega arith))
 
   takes : clause_takes c ≡ k
   takes = ap length numbered ∙ length-numbers 0 k
@@ -106,18 +86,20 @@ module _ (st : StoreView) (c : ClauseTerms) (k : ℕ) (sound : IsValidStore st) 
         takes = record {
           base = base;
           vars = vars ∙ sym takes;
-          apart = m.apart;
-          bindings = further_below (resolved_after st.made (pairs_of b.segment.bindings)) (st.next + k) (st.next + clause_takes c) last m.below;
+          made = m.made;
+          sound = subst (λ n. IsValidStore (with_numbers n (with_bindings b.segment.bindings st))) (sym vars) m.sound;
           items = subst (Each (IsItemBelow (st.next + clause_takes c))) (sym goals)
               (goals_before_below (st.next + clause_takes c) here (map (shifted st.next) (clause_goals_of c.body)) rest
               (each-map (λ g. var_bound g ≤ k) (λ g. var_bound g ≤ st.next + clause_takes c) (shifted st.next) (λ g h. let l = shifted-below st.next k g h in omega arith) (clause_goals_of c.body) body)
               (items_further st.next (st.next + clause_takes c) (omega arith) rest below));
         };
+        further = m.further;
         unified = ap (λ t. unifier ((resolve (substitution st) goal, t) ∷ [])) (sym head_is) ∙ m.unified;
+        bound = m.bound;
         goals = record {
           terms = map (shifted st.next) (clause_goals_of c.body);
           are = goals;
-          same = goals_stand st.made (resolved_after st.made (pairs_of b.segment.bindings)) st.next k (clause_variables c) (clause_goals_of c.body) numbered (λ n le. new_is_unbound st n sound le) body;
+          same = goals_stand (substitution st) m.further (substitution (with_bindings b.segment.bindings st)) st.next k (clause_variables c) (clause_goals_of c.body) m.bound numbered sound.new body;
         };
       }
 

@@ -85,11 +85,13 @@ module _ (st new : StoreView) (eqs : Equations) (n : ℕ) (l r : Term) (apart : 
         takes = record {
           base = first;
           vars = refl;
-          apart = m.apart;
-          bindings = m.below;
+          made = m.made;
+          sound = m.sound;
           items = subst (Each (IsItemBelow (st.next + n))) (sym are) (items_further st.next (st.next + n) (omega arith) rest below);
         };
+        further = m.further;
         unified = sym same ∙ m.unified;
+        bound = m.bound;
         goals = record { terms = []; are = are; same = refl };
       }
 

@@ -3,17 +3,16 @@ use Rattle.std.specs.Prelude.{◌≡◌, true, false, List, [], ◌∷◌, ◌++
 use Rattle.std.specs.Global.{Global}
 use Rattle.au_term.specs.Term.{Term, argument_count}
 use Rattle.au_term.specs.declared.segment.Binding.{Binding as SharedBinding}
-use Rattle.au_model.specs.Terms.Each.{Each}
 use Rattle.au_model.specs.Terms.Forms.{name_of}
-use Rattle.au_model.specs.Terms.Substitutions.{resolve}
+use Rattle.au_model.specs.Terms.Substitutions.{Substitution, resolve}
 use Rattle.au_model.specs.Terms.Unifier.{unifier}
 use Rattle.run_model.specs.Programs.Clauses.{Clause as ClauseTerms, is_defined}
 use Rattle.run_model.specs.Goals.Outcomes.{Solution, alternatives_of}
 use Rattle.clause_compile.specs.declared.item.Scope.{Scope}
 use Rattle.clause_compile.specs.declared.item.Item.{Item}
 use Rattle.clause_compile.specs.declared.event.Branch.{Branch}
-use Rattle.bind_store.specs.Bindings.{composed, resolved_after, AreTriangular, IsBindingBelow}
-use Rattle.bind_store.specs.StoreView.{StoreView, substitution, pairs_of}
+use Rattle.bind_store.specs.FurtherBindings.{CanBeMade, IsComposition}
+use Rattle.bind_store.specs.StoreView.{StoreView, IsValidStore, substitution, with_bindings, pairs_of}
 use Rattle.engine_core.specs.Branches.{IsBranchOf, AreSolved}
 
 -- one way for an equation to hold, without new goals or variables
@@ -24,11 +23,14 @@ equation_solution left right = record { equations = (left, right) ∷ []; goals 
 abbrev pub resolved_equation : StoreView → Term → Term → Solution
 resolved_equation st left right = equation_solution (resolve (substitution st) left) (resolve (substitution st) right)
 
--- these further bindings are the unifier of what two terms stand for, and keep a store sound
+-- by these further bindings the unifier of what two terms stand for comes after a store's substitution, and they keep
+-- the store sound
 pub record UnifyBy (left right : Term) (st : StoreView) (bindings : List SharedBinding) : Type 0 where
-  pub unified : unifier ((resolve (substitution st) left, resolve (substitution st) right) ∷ []) ≡ Some (composed (resolved_after st.made (pairs_of bindings)))
-  pub apart : AreTriangular (st.made ++ resolved_after st.made (pairs_of bindings))
-  pub below : Each (IsBindingBelow st.next) (resolved_after st.made (pairs_of bindings))
+  pub further : Substitution
+  pub unified : unifier ((resolve (substitution st) left, resolve (substitution st) right) ∷ []) ≡ Some further
+  pub made : CanBeMade (substitution st) (pairs_of bindings)
+  pub bound : IsComposition (substitution st) further (substitution (with_bindings bindings st))
+  pub sound : IsValidStore (with_bindings bindings st)
 
 -- the bindings that make two terms one, or none where there is no unifier
 abbrev pub AreUnifiedBy : Term → Term → StoreView → Option (List SharedBinding) → Type 0

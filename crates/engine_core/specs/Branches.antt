@@ -2,7 +2,7 @@
 use Rattle.std.specs.Prelude.{◌≡◌, ℕ, ◌+◌, ◌≤◌, List, [], ◌∷◌, ◌++◌, map, Some, None}
 use Rattle.au_term.specs.Term.{Term, var_bound}
 use Rattle.au_model.specs.Terms.Each.{Each}
-use Rattle.au_model.specs.Terms.Substitutions.{resolve}
+use Rattle.au_model.specs.Terms.Substitutions.{Substitution, resolve}
 use Rattle.au_model.specs.Terms.Unifier.{unifier}
 use Rattle.run_model.specs.Goals.Outcomes.{Solution}
 use Rattle.clause_compile.specs.CompiledClauses.{goal_items}
@@ -10,8 +10,8 @@ use Rattle.clause_compile.specs.declared.item.Scope.{Scope}
 use Rattle.clause_compile.specs.declared.item.Item.{Item}
 use Rattle.clause_compile.specs.declared.item.Item.TheVariants.{Goal, CatchEnd, Collect, Remove, End}
 use Rattle.clause_compile.specs.declared.event.Branch.{Branch}
-use Rattle.bind_store.specs.Bindings.{Binding, composed, resolved_after, AreTriangular, IsBindingBelow}
-use Rattle.bind_store.specs.StoreView.{StoreView, pairs_of}
+use Rattle.bind_store.specs.FurtherBindings.{CanBeMade, IsComposition}
+use Rattle.bind_store.specs.StoreView.{StoreView, IsValidStore, substitution, with_segment, pairs_of}
 
 -- all variables of an item are below a number, those of an uncaught ball excepted
 abbrev pub IsItemBelow : ℕ → Item → Type 0
@@ -21,30 +21,29 @@ IsItemBelow n (Collect t scope) = var_bound t ≤ n
 IsItemBelow n (Remove id) = Unit {0}
 IsItemBelow n (End ball) = Unit {0}
 
--- items begin with goals in one scope that stand, by these bindings, for the given ones, and go on with the rest
-pub record HasGoalsBefore (bindings : List Binding) (cut : Scope) (gs : List Term) (rest items : List Item) : Type 0 where
+-- items begin with goals in one scope that stand, by a substitution, for the given ones, and go on with the rest
+pub record HasGoalsBefore (s : Substitution) (cut : Scope) (gs : List Term) (rest items : List Item) : Type 0 where
   pub terms : List Term
   pub are : items ≡ goal_items cut terms ++ rest
-  pub same : map (resolve (composed bindings)) terms ≡ gs
-
--- the bindings that a branch makes after those of a store
-abbrev pub branch_bindings : StoreView → Branch → List Binding
-branch_bindings st b = resolved_after st.made (pairs_of b.segment.bindings)
+  pub same : map (resolve s) terms ≡ gs
 
 -- What a branch keeps, so that its segment can be made again where the store is as it was: it takes so many numbers,
 -- binds variables that were unbound, each once, and all that it has is below its last number.
 pub record TakesNumbers (st : StoreView) (variables : ℕ) (b : Branch) : Type 0 where
   pub base : b.segment.base ≡ st.next
   pub vars : b.segment.vars ≡ variables
-  pub apart : AreTriangular (st.made ++ branch_bindings st b)
-  pub bindings : Each (IsBindingBelow (st.next + variables)) (branch_bindings st b)
+  pub made : CanBeMade (substitution st) (pairs_of b.segment.bindings)
+  pub sound : IsValidStore (with_segment b.segment st)
   pub items : Each (IsItemBelow (st.next + variables)) b.goals
 
--- a branch is that of a solution: its bindings are the unifier, and its goals come, in this scope, before the rest
+-- a branch is that of a solution: with its bindings the unifier is made of what was bound before, and its goals come,
+-- in this scope, before the rest
 pub record IsBranchOf (here : Scope) (rest : List Item) (st : StoreView) (s : Solution) (b : Branch) : Type 0 where
   pub takes : TakesNumbers st s.variables b
-  pub unified : unifier s.equations ≡ Some (composed (branch_bindings st b))
-  pub goals : HasGoalsBefore (st.made ++ branch_bindings st b) here (map (resolve (composed (branch_bindings st b))) s.goals) rest b.goals
+  pub further : Substitution
+  pub unified : unifier s.equations ≡ Some further
+  pub bound : IsComposition (substitution st) further (substitution (with_segment b.segment st))
+  pub goals : HasGoalsBefore (substitution (with_segment b.segment st)) here (map (resolve further) s.goals) rest b.goals
 
 -- the branches are those of the solutions whose equations unify, in their order
 pub data AreSolved (here : Scope) (rest : List Item) (st : StoreView) : List Solution → List Branch → Type 0 where
@@ -56,4 +55,4 @@ pub data AreSolved (here : Scope) (rest : List Item) (st : StoreView) : List Sol
 pub record GoesOnPlainly (cut : Scope) (gs : List Term) (rest : List Item) (st : StoreView) (b : Branch) : Type 0 where
   pub takes : TakesNumbers st 0 b
   pub bindings : b.segment.bindings ≡ []
-  pub goals : HasGoalsBefore st.made cut gs rest b.goals
+  pub goals : HasGoalsBefore (substitution st) cut gs rest b.goals

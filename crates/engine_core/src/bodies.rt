@@ -28,7 +28,7 @@ pub fn goals_before(
 ) -> Result<Goals, NoMemory>
     requires body { var_bound body.now ≤ store.now.next }
     requires rest { Each (IsItemBelow store.now.next) rest.now }
-    ensures goals { IfOk result (HasGoalsBefore store.now.made cut (goals_of (resolve (substitution store.now) body.now)) rest.now) }
+    ensures goals { IfOk result (HasGoalsBefore (substitution store.now) cut (goals_of (resolve (substitution store.now) body.now)) rest.now) }
     ensures below { IfOk result (Each (IsItemBelow store.now.next)) }
 {
     let mut goals = rest.share()?;

@@ -4,7 +4,8 @@ use Rattle.std.proofs.lemmas.List.{map-append, length-reverse}
 use Rattle.au_term.specs.Term.{Term}
 use Rattle.au_model.specs.Terms.Each.{Each}
 use Rattle.au_model.specs.Terms.Named.{NamedTerm}
-use Rattle.au_model.specs.Terms.Substitutions.{Substitution, resolve}
+use Rattle.au_model.specs.Terms.Substitutions.{Substitution, value_of, resolve}
+use Rattle.au_model.proofs.ApplyLemmas.{apply-same}
 use Rattle.run_model.specs.Goals.Outcomes.{Solution}
 use Rattle.run_model.specs.Machine.Items.{GoalItem, CollectMark, resolve_item, resolve_named, resolve_continuation, goals_at, before, with_next}
 use Rattle.run_model.specs.Machine.Entries.{PlainEntry, EndEntry, unified, solution_entry, solution_entries}
@@ -14,11 +15,10 @@ use Rattle.clause_compile.specs.declared.item.Scope.{Scope}
 use Rattle.clause_compile.specs.declared.item.Item.{Item}
 use Rattle.clause_compile.specs.declared.item.Item.TheVariants.{Goal, CatchEnd, Collect, Remove, End}
 use Rattle.clause_compile.specs.declared.event.Branch.{Branch as BranchTerms}
-use Rattle.bind_store.specs.Bindings.{Binding, composed, resolved_after, IsBindingBelow}
-use Rattle.bind_store.specs.StoreView.{StoreView, IsValidStore, substitution, pairs_of, mark_of}
-use Rattle.bind_store.proofs.BindingLemmas.{in_turn}
-use Rattle.bind_store.proofs.StoreLemmas.{further_below, both_below}
-use Rattle.engine_core.specs.Branches.{IsItemBelow, HasGoalsBefore, TakesNumbers, IsBranchOf, AreSolved, none_left, one_fails, one_solves, GoesOnPlainly, branch_bindings}
+use Rattle.bind_store.specs.FurtherBindings.{IsSame, IsComposition}
+use Rattle.bind_store.specs.StoreView.{StoreView, IsValidStore, substitution, with_numbers, with_bindings, with_segment, mark_of}
+use Rattle.bind_store.proofs.FurtherBindingLemmas.{composition_applies}
+use Rattle.engine_core.specs.Branches.{IsItemBelow, HasGoalsBefore, TakesNumbers, IsBranchOf, AreSolved, none_left, one_fails, one_solves, GoesOnPlainly}
 use Rattle.stack_run.specs.StackView.{item_view, items_view, continuation_view, frames_view, end_view, entries_under, scope_height}
 use Rattle.stack_run.specs.StackInvariant.{IsChoiceFit, AreFit}
 use Rattle.stack_run.specs.ChoicePoints.{branch_frame}
@@ -28,38 +28,59 @@ use Rattle.stack_run.specs.declared.frame.Frame.{Frame}
 use Rattle.stack_run.specs.declared.frame.QueryEnd.{QueryEnd}
 use Rattle.stack_run.proofs.FrameLemmas.{pushed_view, pushed_fit, length-frames}
 
--- items by further bindings
-pub item_further : (bs more : List Binding) (i : Item) → item_view (composed (bs ++ more)) i ≡ resolve_item (composed more) (item_view (composed bs) i)
-item_further bs more (Goal t cut) = ap (λ u. GoalItem u (scope_height cut)) (in_turn bs more t)
-item_further bs more (CatchEnd scope) = refl
-item_further bs more (Collect t scope) = ap (λ u. CollectMark u (scope_height scope)) (in_turn bs more t)
-item_further bs more (Remove id) = refl
-item_further bs more (End ball) = refl
+-- items by two substitutions, one after another
+module _ (s further now : Substitution) (c : IsComposition s further now) where
+  item_further : (i : Item) → item_view now i ≡ resolve_item further (item_view s i)
+  item_further (Goal t cut) = ap (λ u. GoalItem u (scope_height cut)) (composition_applies s further now t c)
+  item_further (CatchEnd scope) = refl
+  item_further (Collect t scope) = ap (λ u. CollectMark u (scope_height scope)) (composition_applies s further now t c)
+  item_further (Remove id) = refl
+  item_further (End ball) = refl
 
-pub items_resolved : (bs more : List Binding) (items : List Item) → map (item_view (composed (bs ++ more))) items ≡ map (resolve_item (composed more)) (map (item_view (composed bs)) items)
-items_resolved bs more [] = refl
-items_resolved bs more (i ∷ items) = ap (λ x. x ∷ map (item_view (composed (bs ++ more))) items) (item_further bs more i) ∙ ap (λ xs. resolve_item (composed more) (item_view (composed bs) i) ∷ xs) (items_resolved bs more items)
+  pub items_resolved : (items : List Item) → map (item_view now) items ≡ map (resolve_item further) (map (item_view s) items)
+  items_resolved [] = refl
+  items_resolved (i ∷ items) = ap (λ x. x ∷ map (item_view now) items) (item_further i) ∙ ap (λ xs. resolve_item further (item_view s i) ∷ xs) (items_resolved items)
 
-pub named_resolved : (bs more : List Binding) (own : List NamedTerm) → map (resolve_named (composed (bs ++ more))) own ≡ map (resolve_named (composed more)) (map (resolve_named (composed bs)) own)
-named_resolved bs more [] = refl
-named_resolved bs more (v ∷ own) =
-    ap (λ t. record v { term = t } ∷ map (resolve_named (composed (bs ++ more))) own) (in_turn bs more v.term) ∙ ap (λ vs. resolve_named (composed more) (resolve_named (composed bs) v) ∷ vs) (named_resolved bs more own)
+  pub named_resolved : (own : List NamedTerm) → map (resolve_named now) own ≡ map (resolve_named further) (map (resolve_named s) own)
+  named_resolved [] = refl
+  named_resolved (v ∷ own) = ap (λ t. record v { term = t } ∷ map (resolve_named now) own) (composition_applies s further now v.term c) ∙ ap (λ vs. resolve_named further (resolve_named s v) ∷ vs) (named_resolved own)
 
-pub continuation_further : (own : List NamedTerm) (bs more : List Binding) (m n : ℕ) (items : List Item)
-    → continuation_view own (record { made = bs ++ more; next = n }) items ≡ resolve_continuation (composed more) (with_next n (continuation_view own (record { made = bs; next = m }) items))
-continuation_further own bs more m n items =
-    ap (λ is. record { items = is; named = map (resolve_named (composed (bs ++ more))) own; next = n }) (items_resolved bs more items)
-    ∙ ap (λ vs. record { items = map (resolve_item (composed more)) (map (item_view (composed bs)) items); named = vs; next = n }) (named_resolved bs more own)
+pub continuation_further : (own : List NamedTerm) (st now : StoreView) (further : Substitution) (items : List Item) → IsComposition (substitution st) further (substitution now)
+    → continuation_view own now items ≡ resolve_continuation further (with_next now.next (continuation_view own st items))
+continuation_further own st now further items c =
+    ap (λ is. record { items = is; named = map (resolve_named (substitution now)) own; next = now.next }) (items_resolved (substitution st) further (substitution now) c items)
+    ∙ ap (λ vs. record { items = map (resolve_item further) (map (item_view (substitution st)) items); named = vs; next = now.next }) (named_resolved (substitution st) further (substitution now) c own)
+
+-- items by substitutions that give each variable the same
+module _ (s t : Substitution) (e : IsSame s t) where
+  same_item : (i : Item) → item_view s i ≡ item_view t i
+  same_item (Goal u cut) = ap (λ v. GoalItem v (scope_height cut)) (apply-same (value_of s) (value_of t) e u)
+  same_item (CatchEnd scope) = refl
+  same_item (Collect u scope) = ap (λ v. CollectMark v (scope_height scope)) (apply-same (value_of s) (value_of t) e u)
+  same_item (Remove id) = refl
+  same_item (End ball) = refl
+
+  same_items : (items : List Item) → map (item_view s) items ≡ map (item_view t) items
+  same_items [] = refl
+  same_items (i ∷ items) = ap (λ x. x ∷ map (item_view s) items) (same_item i) ∙ ap (λ xs. item_view t i ∷ xs) (same_items items)
+
+  same_named : (own : List NamedTerm) → map (resolve_named s) own ≡ map (resolve_named t) own
+  same_named [] = refl
+  same_named (v ∷ own) = ap (λ u. record v { term = u } ∷ map (resolve_named s) own) (apply-same (value_of s) (value_of t) e v.term) ∙ ap (λ vs. resolve_named t v ∷ vs) (same_named own)
+
+pub continuation_same : (own : List NamedTerm) (st now : StoreView) (items : List Item) → IsSame (substitution st) (substitution now) → st.next ≡ now.next → continuation_view own st items ≡ continuation_view own now items
+continuation_same own st now items e n =
+    ap (λ is. record { items = is; named = map (resolve_named (substitution st)) own; next = st.next }) (same_items (substitution st) (substitution now) e items)
+    ∙ (ap (λ vs. record { items = items_view now items; named = vs; next = st.next }) (same_named (substitution st) (substitution now) e own)
+    ∙ ap (λ k. record { items = items_view now items; named = map (resolve_named (substitution now)) own; next = k }) n)
 
 -- goals in one scope
 goals_seen : (s : Substitution) (cut : Scope) (ts : List Term) → map (item_view s) (goal_items cut ts) ≡ goals_at (scope_height cut) (map (resolve s) ts)
 goals_seen s cut [] = refl
 goals_seen s cut (t ∷ ts) = ap (λ is. GoalItem (resolve s t) (scope_height cut) ∷ is) (goals_seen s cut ts)
 
-pub stands_view : (bindings : List Binding) (cut : Scope) (gs : List Term) (rest items : List Item) → HasGoalsBefore bindings cut gs rest items
-    → map (item_view (composed bindings)) items ≡ goals_at (scope_height cut) gs ++ map (item_view (composed bindings)) rest
-stands_view bindings cut gs rest items h =
-    let s = composed bindings in
+pub stands_view : (s : Substitution) (cut : Scope) (gs : List Term) (rest items : List Item) → HasGoalsBefore s cut gs rest items → map (item_view s) items ≡ goals_at (scope_height cut) gs ++ map (item_view s) rest
+stands_view s cut gs rest items h =
     ap (map (item_view s)) h.are
     ∙ (map-append (item_view s) (goal_items cut h.terms) rest
     ∙ ap (λ is. is ++ map (item_view s) rest) (goals_seen s cut h.terms ∙ ap (goals_at (scope_height cut)) h.same))
@@ -72,16 +93,16 @@ goals_resolved s h (g ∷ gs) = ap (λ is. GoalItem (resolve s g) h ∷ is) (goa
 pub solved_entry : (own : List NamedTerm) (here : Scope) (rest : List Item) (st : StoreView) (s : Solution) (b : BranchTerms) → IsBranchOf here rest st s b
     → branch_entry own st b ∷ [] ≡ solution_entry (scope_height here) (continuation_view own st rest) s
 solved_entry own here rest st s b h =
-    let more = branch_bindings st b in
-    let S = composed more in
+    let S = h.further in
+    let now = substitution (with_segment b.segment st) in
     let sum : st.next + b.segment.vars ≡ st.next + s.variables = ap (λ n. st.next + n) h.takes.vars in
-    let items : map (item_view (composed (st.made ++ more))) b.goals ≡ map (resolve_item S) (goals_at (scope_height here) s.goals ++ items_view st rest) =
-    stands_view (st.made ++ more) here (map (resolve S) s.goals) rest b.goals h.goals
-    ∙ (ap (λ is. is ++ map (item_view (composed (st.made ++ more))) rest) (goals_resolved S (scope_height here) s.goals)
-    ∙ (ap (λ is. map (resolve_item S) (goals_at (scope_height here) s.goals) ++ is) (items_resolved st.made more rest)
+    let items : map (item_view now) b.goals ≡ map (resolve_item S) (goals_at (scope_height here) s.goals ++ items_view st rest) =
+    stands_view now here (map (resolve S) s.goals) rest b.goals h.goals
+    ∙ (ap (λ is. is ++ map (item_view now) rest) (goals_resolved S (scope_height here) s.goals)
+    ∙ (ap (λ is. map (resolve_item S) (goals_at (scope_height here) s.goals) ++ is) (items_resolved (substitution st) S now h.bound rest)
     ∙ sym (map-append (resolve_item S) (goals_at (scope_height here) s.goals) (items_view st rest)))) in
-    ap (λ is. PlainEntry (record { items = is; named = map (resolve_named (composed (st.made ++ more))) own; next = st.next + b.segment.vars }) ∷ []) items
-    ∙ (ap (λ vs. PlainEntry (record { items = map (resolve_item S) (goals_at (scope_height here) s.goals ++ items_view st rest); named = vs; next = st.next + b.segment.vars }) ∷ []) (named_resolved st.made more own)
+    ap (λ is. PlainEntry (record { items = is; named = map (resolve_named now) own; next = st.next + b.segment.vars }) ∷ []) items
+    ∙ (ap (λ vs. PlainEntry (record { items = map (resolve_item S) (goals_at (scope_height here) s.goals ++ items_view st rest); named = vs; next = st.next + b.segment.vars }) ∷ []) (named_resolved (substitution st) S now h.bound own)
     ∙ (ap (λ n. PlainEntry (record { items = map (resolve_item S) (goals_at (scope_height here) s.goals ++ items_view st rest); named = map (resolve_named S) (map (resolve_named (substitution st)) own); next = n }) ∷ []) sum
     ∙ ap (λ o. unified o (with_next (st.next + s.variables) (before (goals_at (scope_height here) s.goals) (continuation_view own st rest)))) (sym h.unified)))
 
@@ -100,10 +121,9 @@ pub onward_entry : (own : List NamedTerm) (cut : Scope) (gs : List Term) (rest :
     → branch_entry own st b ≡ goals_entry (scope_height cut) gs (continuation_view own st rest)
 onward_entry own cut gs rest st b h =
     let sum : st.next + b.segment.vars ≡ st.next = ap (λ n. st.next + n) h.takes.vars ∙ plus_none st.next in
-    ap (λ bs. PlainEntry (continuation_view own (record { made = st.made ++ resolved_after st.made (pairs_of bs); next = st.next + b.segment.vars }) b.goals)) h.bindings
-    ∙ (ap (λ bs. PlainEntry (continuation_view own (record { made = bs; next = st.next + b.segment.vars }) b.goals)) (append-nil st.made)
-    ∙ (ap (λ n. PlainEntry (continuation_view own (record { made = st.made; next = n }) b.goals)) sum
-    ∙ ap (λ is. PlainEntry (record { items = is; named = map (resolve_named (substitution st)) own; next = st.next })) (stands_view st.made cut gs rest b.goals h.goals)))
+    ap (λ bs. PlainEntry (continuation_view own (with_numbers b.segment.vars (with_bindings bs st)) b.goals)) h.bindings
+    ∙ (ap (λ n. PlainEntry (continuation_view own (record { earlier = st.earlier; bound = st.bound; next = n }) b.goals)) sum
+    ∙ ap (λ is. PlainEntry (record { items = is; named = map (resolve_named (substitution st)) own; next = st.next })) (stands_view (substitution st) cut gs rest b.goals h.goals))
   where
     plus_none : (n : ℕ) → n + 0 ≡ n
     plus_none n = omega arith
@@ -111,13 +131,8 @@ onward_entry own cut gs rest st b h =
 -- what a branch keeps serves where it is resumed
 pub takes_fit : (st : StoreView) (variables : ℕ) (b : BranchTerms) → IsValidStore st → TakesNumbers st variables b → IsChoiceFit st (Branch b)
 takes_fit st variables b s h =
-    let same : st.next + variables ≡ st.next + b.segment.vars = ap (λ n. st.next + n) (sym h.vars) in (
-      record {
-        apart = h.apart;
-        below = both_below st.made (branch_bindings st b) (st.next + b.segment.vars) (further_below st.made st.next (st.next + b.segment.vars) (omega arith) s.below) (subst (λ n. Each (IsBindingBelow n) (branch_bindings st b)) same h.bindings);
-      },
-      subst (λ n. Each (IsItemBelow n) b.goals) same h.items,
-    )
+    let same : st.next + variables ≡ st.next + b.segment.vars = ap (λ n. st.next + n) (sym h.vars) in
+    (h.made, h.sound, subst (λ n. Each (IsItemBelow n) b.goals) same h.items)
 
 pub solved_fit : (here : Scope) (rest : List Item) (st : StoreView) (ss : List Solution) (bs : List BranchTerms) → IsValidStore st → AreSolved here rest st ss bs → Each (λ b. IsChoiceFit st (Branch b)) bs
 solved_fit here rest st [] [] s none_left = tt

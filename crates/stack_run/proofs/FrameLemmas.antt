@@ -1,6 +1,8 @@
 -- Frames over a store, and over the store as it goes on.
-use Rattle.std.proofs.Common.{◌≡◌, ℕ, zero, suc, length-append, ◌≤◌, List, [], ◌∷◌, ◌++◌, length, map, take, drop, take-append-drop, reverse, refl, sym, ap, ◌∙◌, subst, append-nil, append_assoc, arith}
-use Rattle.std.proofs.lemmas.List.{take-append-le, take_all, length-take-le, map-append}
+use Rattle.std.proofs.Common.{◌≡◌, ℕ, zero, suc, length-append, ◌≤◌, List, [], ◌∷◌, ◌++◌, length, map, get_or, take, drop, reverse, refl, sym, ap, ◌∙◌, subst, append_assoc, arith}
+use Rattle.std.proofs.lemmas.List.{take_all, length-take-le, map-append}
+use Rattle.au_model.specs.Terms.Substitutions.{Substitution}
+use Rattle.bind_store.proofs.EarlierLemmas.{same_front, past_end}
 use Rattle.au_model.specs.Terms.Named.{NamedTerm}
 use Rattle.bind_store.specs.StoreView.{StoreView, IsValidStore, mark_of, Continues, IsMarkOf}
 use Rattle.bind_store.specs.declared.store.Mark.{Mark}
@@ -12,23 +14,30 @@ use Rattle.stack_run.specs.StackInvariant.{IsChoiceFit, IsMarkBelow, AreFit}
 use Rattle.stack_run.specs.declared.frame.Choice.{Choice}
 use Rattle.stack_run.specs.declared.frame.Frame.{Frame}
 
+stored : {es fs : List Substitution} {s t : Substitution} (n : ℕ) → es ≡ fs → s ≡ t → (let st : StoreView = record { earlier = es; bound = s; next = n } in st) ≡ record { earlier = fs; bound = t; next = n }
+stored n p q = cc
+
 -- the store of its own mark
 pub stored_now : (st : StoreView) → stored_at (mark_of st) st ≡ st
-stored_now st = ap (λ bs. record { made = bs; next = st.next }) (take_all (length st.made) st.made (omega arith))
+stored_now st = stored st.next (take_all (length st.earlier) st.earlier (omega arith)) (past_end st.earlier st.bound)
 
 pub continues_same : (st : StoreView) → Continues st st
-continues_same st = record { more = []; is = sym (append-nil st.made); next = omega arith }
+continues_same st = record { more = []; is = refl; next = omega arith }
 
 pub continues_twice : (a b c : StoreView) → Continues a b → Continues b c → Continues a c
-continues_twice a b c h k = record { more = h.more ++ k.more; is = k.is ∙ (ap (λ bs. bs ++ k.more) h.is ∙ append_assoc a.made h.more k.more); next = omega (arith, h.next, k.next) }
+continues_twice a b c h k = record {
+  more = h.more ++ k.more;
+  is = k.is ∙ (sym (append_assoc b.earlier (b.bound ∷ []) k.more) ∙ (ap (λ ss. ss ++ k.more) h.is ∙ append_assoc a.earlier (a.bound ∷ h.more) k.more));
+  next = omega (arith, h.next, k.next);
+}
 
 -- a mark names the same store as the store goes on
-pub stored_further : (mark : Mark) (st further : StoreView) → mark.made ≤ length st.made → Continues st further → stored_at mark further ≡ stored_at mark st
-stored_further mark st further le c = ap (λ bs. record { made = bs; next = mark.next }) (ap (take mark.made) c.is ∙ take-append-le mark.made st.made c.more le)
+pub stored_further : (mark : Mark) (st further : StoreView) → mark.made ≤ length st.earlier → Continues st further → stored_at mark further ≡ stored_at mark st
+stored_further mark st further le c = let front = same_front further.earlier st.earlier c.more further.bound st.bound mark.made c.is le in stored mark.next front.0 front.1
 
 pub under_further : (mark : Mark) (st further : StoreView) → IsMarkBelow mark st → Continues st further → IsMarkBelow mark further
 under_further mark st further h c = record {
-  made = omega (arith, h.made, length-append st.made c.more, ap length c.is);
+  made = omega (arith, h.made, length-append further.earlier (further.bound ∷ []), length-append st.earlier (st.bound ∷ c.more), ap length c.is);
   next = omega (arith, h.next, c.next);
   sound = subst IsValidStore (sym (stored_further mark st further h.made c)) h.sound;
 }
@@ -44,11 +53,21 @@ view_further own st further [] h c = refl
 view_further own st further (f ∷ fs) h c = ap (λ s. choice_view own s f.choice ∷ frames_view own s fs) (stored_further f.mark st further h.0.made c)
 
 -- what was done since a mark
+record Since (es : List Substitution) (e : Substitution) (n : ℕ) : Type 0 where
+  pub more : List Substitution
+  pub is : es ++ e ∷ [] ≡ take n es ++ get_or es n e ∷ more
+
+since : (es : List Substitution) (e : Substitution) (n : ℕ) → n ≤ length es → Since es e n
+since [] e zero le = record { more = []; is = refl }
+since (x ∷ es) e zero le = record { more = es ++ e ∷ []; is = refl }
+since [] e (suc n) le = absurd (omega arith)
+since (x ∷ es) e (suc n) le = let rest = since es e n (omega arith) in record { more = rest.more; is = ap (λ ss. x ∷ ss) rest.is }
+
 pub since_mark : (mark : Mark) (st : StoreView) → IsMarkBelow mark st → Continues (stored_at mark st) st
-since_mark mark st h = record { more = drop mark.made st.made; is = sym (take-append-drop mark.made st.made); next = h.next }
+since_mark mark st h = let front = since st.earlier st.bound mark.made h.made in record { more = front.more; is = front.is; next = h.next }
 
 pub mark_is : (mark : Mark) (st : StoreView) → IsMarkBelow mark st → mark ≡ mark_of (stored_at mark st)
-mark_is mark st h = ap (λ n. record { made = n; next = mark.next }) (sym (length-take-le mark.made st.made h.made))
+mark_is mark st h = ap (λ n. record { made = n; next = mark.next }) (sym (length-take-le mark.made st.earlier h.made))
 
 pub marked : (mark : Mark) (st : StoreView) → IsMarkBelow mark st → IsMarkOf mark st
 marked mark st h = record { before = stored_at mark st; sound = h.sound; is = mark_is mark st h; since = since_mark mark st h }

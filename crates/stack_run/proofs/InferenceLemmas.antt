@@ -19,8 +19,9 @@ use Rattle.clause_compile.specs.declared.item.Item.{Item}
 use Rattle.clause_compile.specs.declared.item.Item.TheVariants.{Goal, CatchEnd, Collect}
 use Rattle.clause_compile.specs.declared.event.Branch.{Branch as BranchTerms}
 use Rattle.au_term.specs.declared.segment.Segment.{Segment}
-use Rattle.bind_store.specs.Bindings.{resolved_after}
-use Rattle.bind_store.specs.StoreView.{StoreView, IsValidStore, substitution, mark_of, with_segment, pairs_of}
+use Rattle.bind_store.specs.FurtherBindings.{CanBeMade}
+use Rattle.bind_store.specs.StoreView.{StoreView, IsValidStore, substitution, mark_of, with_numbers, with_bindings, pairs_of}
+use Rattle.engine_core.proofs.PlainBranchLemmas.{plainly_sound}
 use Rattle.bind_store.specs.declared.store.Mark.{Mark}
 use Rattle.engine_core.specs.Branches.{IsItemBelow, HasGoalsBefore}
 use Rattle.stack_run.specs.StackView.{items_view, continuation_view, choice_view, frames_view, end_view, scope_place, scope_height}
@@ -201,9 +202,8 @@ findall_fit st f list rest choice e r n l x b h =
 -- a branch without bindings, as it is in the code
 no_bindings : (own : List NamedTerm) (st : StoreView) (goals : List Item) (segment : Segment) → segment.vars ≡ 0 → segment.bindings ≡ [] → choice_view own st (Branch (record { goals = goals; segment = segment })) ≡ PlainEntry (continuation_view own st goals)
 no_bindings own st goals segment v b =
-    ap (λ n. PlainEntry (continuation_view own (record { made = st.made ++ resolved_after st.made (pairs_of segment.bindings); next = st.next + n }) goals)) v
-    ∙ (ap (λ bs. PlainEntry (continuation_view own (record { made = st.made ++ resolved_after st.made (pairs_of bs); next = st.next + 0 }) goals)) b
-    ∙ (ap (λ bs. PlainEntry (continuation_view own (record { made = bs; next = st.next + 0 }) goals)) (append-nil st.made) ∙ ap (λ n. PlainEntry (continuation_view own (record { made = st.made; next = n }) goals)) (plus_none st.next)))
+    ap (λ bs. PlainEntry (continuation_view own (with_numbers segment.vars (with_bindings bs st)) goals)) b
+    ∙ ap (λ n. PlainEntry (continuation_view own (record { earlier = st.earlier; bound = st.bound; next = n }) goals)) (ap (λ n. st.next + n) v ∙ plus_none st.next)
   where
     plus_none : (n : ℕ) → n + 0 ≡ n
     plus_none n = omega arith
@@ -211,13 +211,11 @@ no_bindings own st goals segment v b =
 pub no_bindings_fit : (st : StoreView) (goals : List Item) (segment : Segment) → IsValidStore st → segment.vars ≡ 0 → segment.bindings ≡ [] → Each (IsItemBelow st.next) goals → IsChoiceFit st (Branch (record { goals = goals; segment = segment }))
 no_bindings_fit st goals segment s v b h =
     let sum : st.next ≡ st.next + segment.vars = omega (arith, v) in
-    let made : st.made ≡ st.made ++ resolved_after st.made (pairs_of segment.bindings) = sym (ap (λ bs. st.made ++ resolved_after st.made (pairs_of bs)) b ∙ append-nil st.made) in
-    let same : st ≡ with_segment segment st = ap (λ bs. record { made = bs; next = st.next }) made ∙ ap (λ n. record { made = st.made ++ resolved_after st.made (pairs_of segment.bindings); next = n }) sum in
-    (subst IsValidStore same s, subst (λ u. Each (IsItemBelow u.next) goals) same h)
+    (subst (λ bs. CanBeMade (substitution st) (pairs_of bs)) (sym b) tt, plainly_sound st segment v b s, subst (λ n. Each (IsItemBelow n) goals) sum h)
 
 -- a condition
 pub tested : (old : Stack) (cs ts es : List Term) (rest tests commit thens others : List Item) (cut : Scope) (place above : ℕ) (segment : Segment) (frames : Vec Frame Global) → IsWorking old → place ≡ length old.frames.items → above ≡ place + 1
-    → segment.vars ≡ 0 → segment.bindings ≡ [] → HasGoalsBefore old.store.made (Local above) cs commit tests → commit ≡ Goal (AtomTerm (codes "!")) (Local place) ∷ thens → HasGoalsBefore old.store.made cut ts rest thens → HasGoalsBefore old.store.made cut es rest others
+    → segment.vars ≡ 0 → segment.bindings ≡ [] → HasGoalsBefore (substitution old.store) (Local above) cs commit tests → commit ≡ Goal (AtomTerm (codes "!")) (Local place) ∷ thens → HasGoalsBefore (substitution old.store) cut ts rest thens → HasGoalsBefore (substitution old.store) cut es rest others
     → ((own : List NamedTerm) → frames_view own old.store (reverse frames.items) ≡ choice_view own old.store (Branch (record { goals = others; segment = segment })) ∷ frames_view own old.store (reverse old.frames.items))
     → AreFit old.store (reverse frames.items) → Each (IsItemBelow old.store.next) tests
     → HasEntries (λ own. after_control (TestOf cs ts es) (scope_height cut) (following old rest own) (entries_below old own)) (record { store = old.store; current = Some tests; frames = frames; end = old.end })
@@ -232,14 +230,14 @@ tested old cs ts es rest tests commit thens others cut place above segment frame
     let n : suc place ≡ length under_it = omega (arith, p, length-under own old.store old.frames.items old.end w.ending.0 w.ending.1) in
     let up : scope_height (Local above) ≡ suc (suc place) = omega (arith, a) in
     let items : items_view old.store tests ≡ test_items (length under_it) h cs ts ++ items_view old.store rest =
-    stands_view old.store.made (Local above) cs commit tests st
+    stands_view s (Local above) cs commit tests st
     ∙ (ap (λ is. goals_at (scope_height (Local above)) cs ++ items_view old.store is) sc
-    ∙ (ap (λ is. goals_at (scope_height (Local above)) cs ++ GoalItem (AtomTerm (codes "!")) (suc place) ∷ is) (stands_view old.store.made cut ts rest thens sy)
+    ∙ (ap (λ is. goals_at (scope_height (Local above)) cs ++ GoalItem (AtomTerm (codes "!")) (suc place) ∷ is) (stands_view s cut ts rest thens sy)
     ∙ (ap (λ k. goals_at k cs ++ GoalItem (AtomTerm (codes "!")) (suc place) ∷ (goals_at h ts ++ items_view old.store rest)) up
     ∙ (ap (λ k. goals_at (suc k) cs ++ GoalItem (AtomTerm (codes "!")) k ∷ (goals_at h ts ++ items_view old.store rest)) n
     ∙ sym (append_assoc (goals_at (suc (length under_it)) cs) (GoalItem (AtomTerm (codes "!")) (length under_it) ∷ goals_at h ts) (items_view old.store rest)))))) in
     let other : choice_view own old.store choice ≡ goals_entry h es (following old rest own) =
-    no_bindings own old.store others segment sv sb ∙ ap (λ is. PlainEntry (record { items = is; named = named; next = next })) (stands_view old.store.made cut es rest others so) in
+    no_bindings own old.store others segment sv sb ∙ ap (λ is. PlainEntry (record { items = is; named = named; next = next })) (stands_view s cut es rest others so) in
     ap (λ is. PlainEntry (record { items = is; named = named; next = next }) ∷ choice_view own old.store choice ∷ under_it) items
     ∙ ap (λ e. PlainEntry (before (test_items (length under_it) h cs ts) (following old rest own)) ∷ e ∷ under_it) other)
     (opens old tests choice frames w v f b)

@@ -3,7 +3,6 @@ use Rattle.std.proofs.Common.{◌≡◌, ℕ, suc, ◌+◌, ◌-◌, ◌<◌, tr
 use Rattle.std.specs.Prelude.{codes}
 use Rattle.std.proofs.lemmas.List.{length-reverse}
 use Rattle.au_term.specs.Term.{Term}
-use Rattle.au_term.specs.declared.segment.Segment.{Segment}
 use Rattle.au_model.specs.Terms.Each.{Each}
 use Rattle.au_model.specs.Terms.Forms.{binary, list_term}
 use Rattle.au_model.specs.Terms.Named.{NamedTerm}
@@ -17,8 +16,9 @@ use Rattle.clause_compile.specs.declared.item.Scope.TheVariants.{Local}
 use Rattle.clause_compile.specs.declared.item.Item.{Item}
 use Rattle.clause_compile.specs.declared.item.Item.TheVariants.{Goal, CatchEnd, Collect, Remove, End}
 use Rattle.clause_compile.specs.declared.event.Branch.{Branch as BranchTerms}
-use Rattle.bind_store.specs.Bindings.{Binding, IsBindingBelow}
-use Rattle.bind_store.specs.StoreView.{StoreView, IsValidStore, Continues, substitution, with_segment, with_numbers, made_by}
+use Rattle.bind_store.specs.FurtherBindings.{IsSame}
+use Rattle.bind_store.specs.StoreView.{StoreView, IsValidStore, Continues, HasSegment, substitution, with_segment, with_numbers}
+use Rattle.bind_store.proofs.FurtherBindingLemmas.{same_valid}
 use Rattle.engine_core.specs.Branches.{IsItemBelow}
 use Rattle.engine_core.proofs.SolutionLemmas.{items_further}
 use Rattle.stack_run.specs.StackView.{item_view, continuation_view, frames_view, current_view, end_view, entries_under, stack_view, scope_height}
@@ -30,44 +30,39 @@ use Rattle.stack_run.specs.declared.frame.Findall.{Findall}
 use Rattle.stack_run.specs.declared.frame.Frame.{Frame}
 use Rattle.stack_run.specs.declared.frame.QueryEnd.{QueryEnd}
 use Rattle.stack_run.specs.declared.frame.Stack.{Stack}
+use Rattle.stack_run.proofs.ContinuationLemmas.{continuation_same}
 use Rattle.stack_run.proofs.CopyLemmas.{list_stays, numbers_sound}
 use Rattle.stack_run.proofs.FrameLemmas.{fit_further, view_further, length-frames}
 use Rattle.stack_run.proofs.FreeStepLemmas.{marks_drop}
 use Rattle.run_model.proofs.TermPartBoundLemmas.{list-below as list_below}
 
--- further bindings or numbers continue a store
-pub segment_continues : (segment : Segment) (st : StoreView) → Continues st (with_segment segment st)
-segment_continues segment st = record { more = made_by segment st; is = refl; next = omega arith }
-
+-- further numbers continue a store
 pub numbers_continue : (k : ℕ) (st : StoreView) → Continues st (with_numbers k st)
-numbers_continue k st = record { more = []; is = sym (append-nil st.made); next = omega arith }
-
-back_below : (n : ℕ) (bs cs : List Binding) → Each (IsBindingBelow n) (bs ++ cs) → Each (IsBindingBelow n) cs
-back_below n [] cs h = h
-back_below n (b ∷ bs) cs h = back_below n bs cs h.1
-
-pub segment_below : (st : StoreView) (b : BranchTerms) → IsChoiceFit st (Branch b) → Each (IsBindingBelow (st.next + b.segment.vars)) (made_by b.segment st)
-segment_below st b h = back_below (st.next + b.segment.vars) st.made (made_by b.segment st) h.0.below
+numbers_continue k st = record { more = []; is = refl; next = omega arith }
 
 -- entries where no alternative is current
 pub nothing_at_hand : (own : List NamedTerm) (s : Stack) → s.current ≡ None → stack_view own s ≡ entries_under own s.store s.frames.items s.end
 nothing_at_hand own s e = ap (λ o. current_view own s.store o ++ entries_under own s.store s.frames.items s.end) e
 
 -- an alternative is run
-pub branch_resumes : (old : Stack) (left : Vec Frame Global) (st new : StoreView) (b : BranchTerms) → IsTaken old.store old.frames.items st left.items (Branch b) → new ≡ with_segment b.segment st → IsFit old → old.current ≡ None
+pub branch_resumes : (old : Stack) (left : Vec Frame Global) (st new : StoreView) (b : BranchTerms) → IsTaken old.store old.frames.items st left.items (Branch b) → HasSegment b.segment st new → IsFit old → old.current ≡ None
     → IsFreeStep old (record { store = new; current = Some b.goals; frames = left; end = old.end }) false
-branch_resumes old left st new b t n h e = subst (λ s. IsFreeStep old (record { store = s; current = Some b.goals; frames = left; end = old.end }) false) (sym n) (record {
+branch_resumes old left st new b t n h e = record {
   view = λ own. ap take_free_steps (nothing_at_hand own old e ∙ (ap (λ es. es ++ end_view old.end) (t.view own)
-      ∙ ap (λ es. (PlainEntry (continuation_view own (with_segment b.segment st) b.goals) ∷ es) ++ end_view old.end) (sym (view_further own st (with_segment b.segment st) (reverse left.items) t.under (segment_continues b.segment st)))));
+      ∙ (ap (λ f. (PlainEntry f ∷ frames_view own st (reverse left.items)) ++ end_view old.end) (continuation_same own (with_segment b.segment st) new b.goals same (sym n.next))
+      ∙ ap (λ es. (PlainEntry (continuation_view own new b.goals) ∷ es) ++ end_view old.end) (sym (view_further own st new (reverse left.items) t.under n.since)))));
   fit = record {
-    sound = t.choice.0;
-    current = t.choice.1;
-    frames = fit_further st (with_segment b.segment st) (reverse left.items) t.under (segment_continues b.segment st);
+    sound = same_valid (with_segment b.segment st) new same (sym n.next) t.choice.1;
+    current = subst (λ k. Each (IsItemBelow k) b.goals) (sym n.next) t.choice.2;
+    frames = fit_further st new (reverse left.items) t.under n.since;
     ended = λ x. absurd (none_left (h.ended x).1);
   };
   progress = omega (arith, t.count);
-})
+}
   where
+    same : IsSame (substitution (with_segment b.segment st)) (substitution new)
+    same = λ x. sym (n.bound x)
+
     none_left : old.frames.items ≡ [] → ⊥
     none_left x = let c = t.count in let z = ap length x in omega arith
 
@@ -191,7 +186,7 @@ pub findall_goes : (f : Findall) (old : Stack) (new : StoreView) (term : Term) (
     → FindallEnds f old (record { store = new; current = Some goals; frames = old.frames; end = old.end })
 findall_goes f old new term place goals h a s q n t p g =
     let sum : old.store.next + (f.next - old.store.next) ≡ f.next = omega (arith, h.0) in
-    let store : new ≡ record { made = old.store.made; next = f.next } = n ∙ ap (λ k. record { made = old.store.made; next = k }) sum in
+    let store : new ≡ record { earlier = old.store.earlier; bound = old.store.bound; next = f.next } = n ∙ ap (λ k. record { earlier = old.store.earlier; bound = old.store.bound; next = k }) sum in
     let items : goals ≡ Goal (binary (codes "=") f.list (list_term f.results.items)) (Local (length old.frames.items)) ∷ f.rest = g ∙ (ap (λ x. Goal x (Local place) ∷ f.rest) t ∙ ap (λ x. Goal (binary (codes "=") f.list (list_term f.results.items)) (Local x) ∷ f.rest) p) in
     subst (λ st. FindallEnds f old (record { store = st; current = Some goals; frames = old.frames; end = old.end })) (sym n)
     (subst (λ is. FindallEnds f old (record { store = with_numbers (f.next - old.store.next) old.store; current = Some is; frames = old.frames; end = old.end })) (sym items) (record {

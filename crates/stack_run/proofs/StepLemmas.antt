@@ -68,14 +68,14 @@ names_unbound : (vs : List NamedVariable) → map (resolve_named []) (own_terms 
 names_unbound [] = refl
 names_unbound (v ∷ vs) = ap (λ ns. record { name = v.name; term = VarTerm v.number } ∷ ns) (names_unbound vs)
 
-pub query_begun : (q : Query) (st first : StoreView) (n : ℕ) (goals kept : List Item) (frames : Vec Frame Global) → first ≡ record { made = []; next = 0 } → st ≡ with_numbers n first → n ≡ query_bound q → kept ≡ goals → goals ≡ goal_items (Local 0) q.goals → frames.items ≡ []
+pub query_begun : (q : Query) (st first : StoreView) (n : ℕ) (goals kept : List Item) (frames : Vec Frame Global) → first ≡ record { earlier = []; bound = []; next = 0 } → st ≡ with_numbers n first → n ≡ query_bound q → kept ≡ goals → goals ≡ goal_items (Local 0) q.goals → frames.items ≡ []
     → PlainEntry (continuation_view (own_terms q.names) st kept) ∷ entries_under (own_terms q.names) st frames.items (Some (record { ball = None })) ≡ opened (q ∷ [])
 query_begun q st first n goals kept frames z s b k g f =
-    let store : st ≡ record { made = []; next = n } = s ∙ (ap (with_numbers n) z ∙ ap (λ m. record { made = []; next = m }) (plus n)) in
+    let store : st ≡ record { earlier = []; bound = []; next = n } = s ∙ (ap (with_numbers n) z ∙ ap (λ m. record { earlier = []; bound = []; next = m }) (plus n)) in
     let own = own_terms q.names in
     ap (λ fs. PlainEntry (continuation_view own st kept) ∷ frames_view own st (reverse fs) ++ EndEntry None ∷ []) f
     ∙ (ap (λ x. PlainEntry (continuation_view own x kept) ∷ EndEntry None ∷ []) store
-    ∙ (ap (λ is. PlainEntry (continuation_view own (record { made = []; next = n }) is) ∷ EndEntry None ∷ []) (k ∙ g)
+    ∙ (ap (λ is. PlainEntry (continuation_view own (record { earlier = []; bound = []; next = n }) is) ∷ EndEntry None ∷ []) (k ∙ g)
     ∙ (ap (λ is. PlainEntry (record { items = is; named = map (resolve_named []) own; next = n }) ∷ EndEntry None ∷ []) (goals_unbound (Local 0) q.goals)
     ∙ (ap (λ vs. PlainEntry (record { items = goals_at 1 q.goals; named = vs; next = n }) ∷ EndEntry None ∷ []) (names_unbound q.names)
     ∙ ap (λ m. PlainEntry (record { items = goals_at 1 q.goals; named = own; next = m }) ∷ EndEntry None ∷ []) b))))
@@ -87,11 +87,11 @@ goals_below : (n : ℕ) (gs : List Term) → goals_bound gs ≤ n → Each (IsIt
 goals_below n [] h = tt
 goals_below n (g ∷ gs) h = (omega arith, goals_below n gs (omega arith))
 
-pub query_fit : (q : Query) (st first : StoreView) (n : ℕ) (goals kept : List Item) (frames : Vec Frame Global) → first ≡ record { made = []; next = 0 } → st ≡ with_numbers n first → n ≡ query_bound q → kept ≡ goals → goals ≡ goal_items (Local 0) q.goals → frames.items ≡ []
+pub query_fit : (q : Query) (st first : StoreView) (n : ℕ) (goals kept : List Item) (frames : Vec Frame Global) → first ≡ record { earlier = []; bound = []; next = 0 } → st ≡ with_numbers n first → n ≡ query_bound q → kept ≡ goals → goals ≡ goal_items (Local 0) q.goals → frames.items ≡ []
     → IsFit (record { store = st; current = Some kept; frames = frames; end = Some (record { ball = None }) })
 query_fit q st first n goals kept frames z s b k g f =
     let bound : goals_bound q.goals ≤ st.next = omega (arith, b, ap (λ (x : StoreView). x.next) s, ap (λ (x : StoreView). x.next) z) in
-    let empty : IsValidStore first = subst IsValidStore (sym z) (record { apart = tt; below = tt }) in
+    let empty : IsValidStore first = subst IsValidStore (sym z) (record { new = λ k le. refl; below = λ k lt. absurd (none_below k lt); final = λ k. refl }) in
     record {
       sound = subst IsValidStore (sym s) (numbers_sound first n empty);
       current = subst (Each (IsItemBelow st.next)) (sym (k ∙ g)) (goals_below st.next q.goals bound);
@@ -99,6 +99,9 @@ query_fit q st first n goals kept frames z s b k g f =
       ended = λ x. absurd (never (record { ball = None }) x);
     }
   where
+    none_below : (k : ℕ) → k < 0 → ⊥
+    none_below k lt = omega arith
+
     never : (e : QueryEnd) → Some e ≡ None → ⊥
     never e x = cc
 

@@ -15,8 +15,8 @@ use Rattle.au_model.proofs.VariableBoundLemmas.{copied-below}
 use Rattle.clause_compile.specs.declared.item.Scope.TheVariants.{Local}
 use Rattle.clause_compile.specs.declared.item.Item.{Item}
 use Rattle.clause_compile.specs.declared.item.Item.TheVariants.{Goal, CatchEnd, Collect, Remove, End}
-use Rattle.bind_store.specs.Bindings.{composed}
-use Rattle.bind_store.specs.StoreView.{StoreView, IsValidStore, Continues, AreUnified, IsUnified, substitution, with_numbers, with_more}
+use Rattle.bind_store.specs.FurtherBindings.{IsComposition}
+use Rattle.bind_store.specs.StoreView.{StoreView, IsValidStore, Continues, AreUnified, IsUnified, substitution, with_numbers}
 use Rattle.engine_core.specs.Branches.{IsItemBelow}
 use Rattle.engine_core.proofs.SolutionLemmas.{items_further}
 use Rattle.stack_run.specs.StackView.{item_view, items_view, continuation_view, choice_view, frames_view, end_view, entries_under}
@@ -29,7 +29,7 @@ use Rattle.stack_run.specs.declared.frame.Choice.TheVariants.{Catch as CatchChoi
 use Rattle.stack_run.specs.declared.frame.Frame.{Frame}
 use Rattle.stack_run.specs.declared.frame.Stack.{Stack}
 use Rattle.stack_run.proofs.CopyLemmas.{copy_stays}
-use Rattle.stack_run.proofs.FrameLemmas.{fit_further, view_further}
+use Rattle.stack_run.proofs.FrameLemmas.{fit_further, view_further, continues_twice}
 use Rattle.stack_run.proofs.ResumptionLemmas.{numbers_continue}
 use Rattle.stack_run.proofs.ContinuationLemmas.{continuation_further, length-under}
 
@@ -74,14 +74,14 @@ recovers ball catch old copy term mid new place goals w h c m u s t p g = λ fur
     takes : ℕ
     takes = copy_takes ball
 
-    new_is : new ≡ record { made = old.store.made ++ u.more; next = old.store.next + takes }
-    new_is = u.is ∙ ap (with_more u.more) m
-
     count : new.next ≡ old.store.next + takes
-    count = ap (λ x. x.next) new_is
+    count = u.next ∙ ap (λ x. x.next) m
 
     since : Continues old.store new
-    since = record { more = u.more; is = ap (λ x. x.made) new_is; next = omega (arith, count) }
+    since = continues_twice old.store mid new (subst (Continues old.store) (sym m) (numbers_continue takes old.store)) u.since
+
+    bound : IsComposition (substitution old.store) u.further (substitution new)
+    bound = subst (λ x. IsComposition (substitution x) u.further (substitution new)) m u.bound
 
     never : old.end ≡ None → ⊥
     never x = let y = w.ending.1 in cc
@@ -89,7 +89,7 @@ recovers ball catch old copy term mid new place goals w h c m u s t p g = λ fur
     items : goals ≡ Goal (call_of catch.recovery) (Local (length old.frames.items)) ∷ catch.rest
     items = g ∙ (ap (λ x. Goal x (Local place) ∷ catch.rest) t ∙ ap (λ x. Goal (call_of catch.recovery) (Local x) ∷ catch.rest) p)
 
-    unified : unifier ((resolve (substitution old.store) catch.catcher, copied ball old.store.next) ∷ []) ≡ Some (composed u.more)
+    unified : unifier ((resolve (substitution old.store) catch.catcher, copied ball old.store.next) ∷ []) ≡ Some u.further
     unified = sym (taken_so old.store ball catch.catcher copy w.sound c) ∙ (ap (λ x. unifier ((resolve (substitution x) catch.catcher, resolve (substitution x) copy) ∷ [])) (sym m) ∙ u.unified)
 
     view : (own : List NamedTerm) (further : List NamedTerm → List Entry)
@@ -97,13 +97,13 @@ recovers ball catch old copy term mid new place goals w h c m u s t p g = λ fur
         ≡ recovered (unifier ((resolve (substitution old.store) catch.catcher, copied ball old.store.next) ∷ [])) ball (resolve (substitution old.store) catch.recovery) (following old catch.rest own) (entries_below old own) (further own)
     view own further =
         let st = old.store in
-        let S = composed u.more in
+        let S = u.further in
         let goal = call_of catch.recovery in
         let es = entries_below old own in
         ap (λ is. PlainEntry (continuation_view own new is) ∷ entries_under own new old.frames.items old.end) items
         ∙ (ap (λ x. PlainEntry (continuation_view own new (Goal goal (Local (length old.frames.items)) ∷ catch.rest)) ∷ x ++ end_view old.end) (view_further own st new (reverse old.frames.items) w.frames since)
-        ∙ (ap (λ x. PlainEntry (continuation_view own x (Goal goal (Local (length old.frames.items)) ∷ catch.rest)) ∷ es) new_is
-        ∙ (ap (λ x. PlainEntry x ∷ es) (continuation_further own st.made u.more st.next (st.next + takes) (Goal goal (Local (length old.frames.items)) ∷ catch.rest))
+        ∙ (ap (λ x. PlainEntry x ∷ es) (continuation_further own st new S (Goal goal (Local (length old.frames.items)) ∷ catch.rest) bound)
+        ∙ (ap (λ n. PlainEntry (resolve_continuation S (with_next n (continuation_view own st (Goal goal (Local (length old.frames.items)) ∷ catch.rest)))) ∷ es) count
         ∙ (ap (λ n. PlainEntry (resolve_continuation S (with_next (st.next + takes) (before (GoalItem (call_of (resolve (substitution st) catch.recovery)) n ∷ []) (following old catch.rest own)))) ∷ es) (sym (length-under own st old.frames.items old.end w.ending.0 w.ending.1))
         ∙ ap (λ o. recovered o ball (resolve (substitution st) catch.recovery) (following old catch.rest own) es (further own)) (sym unified)))))
 

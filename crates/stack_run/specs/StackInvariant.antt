@@ -5,7 +5,8 @@ use Rattle.au_model.specs.Terms.Each.{Each}
 use Rattle.run_model.specs.Laws.Numbering.{AreTermsBelow}
 use Rattle.au_model.specs.Terms.Substitutions.{resolve}
 use Rattle.clause_compile.specs.declared.item.Item.{Item}
-use Rattle.bind_store.specs.StoreView.{StoreView, IsValidStore, substitution, with_segment}
+use Rattle.bind_store.specs.FurtherBindings.{CanBeMade}
+use Rattle.bind_store.specs.StoreView.{StoreView, IsValidStore, substitution, with_segment, pairs_of}
 use Rattle.bind_store.specs.declared.store.Mark.{Mark}
 use Rattle.engine_core.specs.Branches.{IsItemBelow}
 use Rattle.stack_run.specs.StackView.{stored_at}
@@ -16,14 +17,14 @@ use Rattle.stack_run.specs.declared.frame.Stack.{Stack}
 
 -- what a choice point has is below the next number; results are copies that no binding changes
 abbrev pub IsChoiceFit : StoreView → Choice → Type 0
-IsChoiceFit st (Branch b) = IsValidStore (with_segment b.segment st) × Each (IsItemBelow (with_segment b.segment st).next) b.goals
+IsChoiceFit st (Branch b) = CanBeMade (substitution st) (pairs_of b.segment.bindings) × IsValidStore (with_segment b.segment st) × Each (IsItemBelow (with_segment b.segment st).next) b.goals
 IsChoiceFit st (Catch c) = (var_bound c.catcher ≤ st.next) × (var_bound c.recovery ≤ st.next) × Each (IsItemBelow st.next) c.rest
 IsChoiceFit st (Findall f) =
     (st.next ≤ f.next) × AreTermsBelow f.next f.results.items × Each (λ t. resolve (substitution st) t ≡ t) f.results.items × (var_bound f.list ≤ st.next) × Each (IsItemBelow st.next) f.rest
 
 -- a mark was made on this store, and nothing older was undone since
 pub record IsMarkBelow (mark : Mark) (st : StoreView) : Type 0 where
-  pub made : mark.made ≤ length st.made
+  pub made : mark.made ≤ length st.earlier
   pub next : mark.next ≤ st.next
   pub sound : IsValidStore (stored_at mark st)
 

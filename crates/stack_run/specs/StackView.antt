@@ -1,5 +1,5 @@
 -- What the machine's values stand for.
-use Rattle.std.specs.Prelude.{ℕ, suc, List, [], ◌∷◌, ◌++◌, map, take, reverse, Option, Some, None}
+use Rattle.std.specs.Prelude.{ℕ, suc, List, [], ◌∷◌, ◌++◌, map, take, get_or, reverse, Option, Some, None}
 use Rattle.au_model.specs.Terms.Substitutions.{Substitution, resolve}
 use Rattle.au_model.specs.Terms.Named.{NamedTerm}
 use Rattle.run_model.specs.Machine.Items.{Item as ItemTerms, GoalItem, CatchMark, CollectMark, RemovalItem, Continuation, with_next, resolve_named}
@@ -42,7 +42,7 @@ continuation_view own st items = record { items = items_view st items; named = m
 
 -- the store as it was at a mark
 abbrev pub stored_at : Mark → StoreView → StoreView
-stored_at mark st = record { made = take mark.made st.made; next = mark.next }
+stored_at mark st = record { earlier = take mark.made st.earlier; bound = get_or st.earlier mark.made st.bound; next = mark.next }
 
 -- a choice point, by the store at its mark
 abbrev pub choice_view : List NamedTerm → StoreView → Choice → Entry

@@ -6,7 +6,6 @@ use Rattle.au_term.specs.Term.{Term, VarTerm, IntTerm, AtomTerm, Compound, Terms
 use Rattle.au_model.specs.Terms.Lists.{terms_from}
 use Rattle.au_model.specs.Terms.Substitutions.{apply_all, value_of, resolve}
 use Rattle.au_model.specs.Terms.Unifier.{unifier}
-use Rattle.bind_store.specs.Bindings.{composed}
 use Rattle.bind_store.specs.StoreView.{StoreView, IsUnified, substitution}
 use Rattle.run_model.specs.Goals.Arithmetic.{Evaluated}
 use Rattle.run_model.specs.Goals.ArithmeticGoals.{with_value}
@@ -36,11 +35,11 @@ mutual
   unbound_all end = refl
   unbound_all (more t ts) = ap₂ more (unbound_itself t) (unbound_all ts)
 
-pub unified_or_not : (a b l r : Term) (old new : StoreView) (ok : Bool) → old.made ≡ [] → l ≡ a → r ≡ b → IsUnified l r old new ok → not ok ≡ is_none (unifier ((a, b) ∷ []))
+pub unified_or_not : (a b l r : Term) (old new : StoreView) (ok : Bool) → substitution old ≡ [] → l ≡ a → r ≡ b → IsUnified l r old new ok → not ok ≡ is_none (unifier ((a, b) ∷ []))
 unified_or_not a b l r old new ok none left right u = by ok u
   where
     itself : (t x : Term) → t ≡ x → resolve (substitution old) t ≡ x
-    itself t x e = ap (λ bs. resolve (composed bs) t) none ∙ (unbound_itself t ∙ e)
+    itself t x e = ap (λ s. resolve s t) none ∙ (unbound_itself t ∙ e)
 
     same : unifier ((resolve (substitution old) l, resolve (substitution old) r) ∷ []) ≡ unifier ((a, b) ∷ [])
     same = ap₂ (λ x y. unifier ((x, y) ∷ [])) (itself l a left) (itself r b right)

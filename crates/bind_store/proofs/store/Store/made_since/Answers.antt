@@ -1,7 +1,6 @@
-use Rattle.std.proofs.Common.{List, ap, ◌∙◌, sym, refl, arith}
-use Rattle.bind_store.specs.Bindings.{Binding}
-use Rattle.bind_store.specs.StoreView.{StoreView}
-use Rattle.bind_store.proofs.DereferenceLemmas.{listed_more, all_listed}
+use Rattle.std.proofs.Common.{◌∙◌, arith}
+use Rattle.bind_store.proofs.DereferenceLemmas.{listed_more}
+use Rattle.bind_store.proofs.EarlierLemmas.{all_listed}
 use Rattle.bind_store.proofs.store.Store.made_since.Goals as goal
 
 pub loop-at-preserved : goal.loop-at-preserved
@@ -11,5 +10,4 @@ loop-at-preserved c =
 
 pub returns : goal.returns
 returns c = λ before is since.
-    all_listed c.self.inside.bindings c.args.self.now c.args.mark.now c.args.mark.now.made c.loop-at.at c.loop-at.list (ap (λ (st : StoreView). let bs : List Binding = st.made in bs) (sym c.self.view_is)) refl
-    (omega (arith, c.loop-at-test.false, c.len-at-end.ensures.count)) c.loop-at.invariant before is since
+    all_listed c.self.inside.bindings c.self.inside.next c.args.self.now c.args.mark.now c.loop-at.at c.loop-at.list c.len-at-end.ensures.consistent c.self.view_is (omega (arith, c.loop-at-test.false, c.len-at-end.ensures.count)) c.loop-at.invariant before is since
