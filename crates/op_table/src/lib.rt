@@ -1,9 +1,10 @@
 //! Operators.
 #![tactic(auto)]
 
+mod change;
+mod names;
 mod operator;
 mod refusal;
-mod search;
 mod table;
 
 pub use operator::{ARGUMENT_PRIORITY, MAX_PRIORITY, OpKind, OpRow, Operator};
