@@ -1,5 +1,5 @@
 -- The map of names: what its changes are of the names and their rows.
-use Rattle.std.proofs.Common.{◌≡◌, ◌∙◌, ℕ, zero, suc, ◌+◌, ◌<◌, ◌≤◌, Bool, true, false, List, [], ◌∷◌, ◌++◌, map, fold, take, drop, length, get_or, Option, Some, None, refl, sym, ap, ap₂, subst, append-nil, append_assoc, arith}
+use Rattle.std.proofs.Common.{◌≡◌, ◌∙◌, ℕ, zero, suc, ◌+◌, ◌<◌, ◌≤◌, true, false, List, [], ◌∷◌, ◌++◌, map, fold, take, length, get_or, Option, Some, None, refl, sym, ap, ap₂, subst, append-nil, append_assoc, arith}
 use Rattle.std.specs.Prelude.{String, IsSome}
 use Rattle.std.specs.Global.{Global}
 use Rattle.std.specs.Borrow.{Bor}

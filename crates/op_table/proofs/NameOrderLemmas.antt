@@ -1,5 +1,5 @@
 -- Names by their characters: what is done at a key of the map is done at its name.
-use Rattle.std.proofs.Common.{◌≡◌, ℕ, Bool, true, false, cond, List, [], ◌∷◌, map, Option, Some, refl, sym, ap, ap₂, ◌∙◌}
+use Rattle.std.proofs.Common.{◌≡◌, ℕ, Bool, true, false, cond, List, [], ◌∷◌, map, Some, refl, sym, ap, ap₂, ◌∙◌}
 use Rattle.std.specs.Global.{Global}
 use Rattle.std.specs.Prelude.{String}
 use Rattle.std.specs.String.{string_bytes, string_cmp}

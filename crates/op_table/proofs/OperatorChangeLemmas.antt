@@ -1,5 +1,5 @@
 -- A table changed by op/3 is a table.
-use Rattle.std.proofs.Common.{◌≡◌, ◌∙◌, ℕ, zero, suc, ◌+◌, ◌<◌, ◌≤◌, Bool, true, false, not, ◌&&◌, ◌||◌, ◌==◌, nat_eq, nat_le, nat_lt, cond, List, [], ◌∷◌, map, fold, filter, Option, Some, None, Result, Ok, Err, codes, pos, refl, sym, ap, ap₂, subst, arith}
+use Rattle.std.proofs.Common.{◌≡◌, ◌∙◌, ℕ, zero, suc, ◌<◌, ◌≤◌, Bool, true, false, not, ◌&&◌, ◌||◌, ◌==◌, nat_eq, nat_le, nat_lt, cond, List, [], ◌∷◌, map, fold, Option, Some, None, Result, Ok, Err, codes, pos, refl, sym, ap, ap₂, subst, arith}
 use Rattle.std.specs.Prelude.{IfErr, IsErrAnd, OnErr, OnOk}
 use Rattle.std.specs.List.{AllByRecursion}
 use Rattle.std.specs.List.Sorted.{IsStrictlySortedBy}
@@ -10,14 +10,14 @@ use Rattle.std.proofs.lemmas.Bool.Decides.{nat_tests}
 use Rattle.std.proofs.lemmas.List.Elements.{All-from_recursion, recursion_from_All}
 use Rattle.au_term.specs.Term.{Term, IntTerm, AtomTerm}
 use Rattle.au_term.specs.declared.NoMemory.{NoMemory as NoMemoryLeft}
-use Rattle.au_term.proofs.LogicLemmas.{both as both_true, and-both, neither, same_number, number_same}
+use Rattle.au_term.proofs.LogicLemmas.{both as both_true, and-both, neither, same_number}
 use Rattle.au_model.specs.Terms.Each.{Each}
 use Rattle.au_model.specs.Terms.Forms.{same_name, name_of}
 use Rattle.au_model.specs.Terms.ErrorTerms.{permission_error}
 use Rattle.au_model.specs.Terms.Faults.{error_term_of}
 use Rattle.au_model.specs.Syntax.Operators.{OperatorClass, PrefixClass, InfixClass, PostfixClass, OperatorKind, class_of, class_rank, Operator, OperatorRow, OperatorTable, row_rank, row_order, is_operator_row, operator_of, prefix_of, infix_of, postfix_of, is_operator_name_free, is_no_operator, with_operator, without_operator, IsOperatorTable}
-use Rattle.au_model.specs.Syntax.OperatorChanges.{kind_named, items_in, named_items, is_priority, conflicting_operator, has_conflict, is_no_operator_name, error_if, first_error, item_error, argument_error, name_error, unless_error, with_named, with_names, operators_changed}
-use Rattle.op_table.specs.OperatorView.{kind_meant, class_meant, operator_meant}
+use Rattle.au_model.specs.Syntax.OperatorChanges.{kind_named, items_in, named_items, conflicting_operator, is_no_operator_name, first_error, argument_error, name_error, unless_error, with_named, with_names, operators_changed}
+use Rattle.op_table.specs.OperatorView.{kind_meant, operator_meant}
 use Rattle.op_table.specs.NameRows.{row_changed, operator_by}
 use Rattle.op_table.specs.TableChanges.{is_protected_name, may_be_added}
 use Rattle.op_table.specs.Arguments.{IsRead, IsTested, IsErrorOf, comma_error, making_error, is_refused}

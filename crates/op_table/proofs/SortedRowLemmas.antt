@@ -1,13 +1,9 @@
 -- The rows of a table around a place.
-use Rattle.std.proofs.Common.{◌≡◌, ◌∙◌, ℕ, zero, suc, ◌+◌, ◌-◌, ◌/◌, ◌<◌, true, false, ◌==◌, cond, List, [], ◌∷◌, map, take, drop, length, get_or, Some, None, refl, sym, ap, arith}
-use Rattle.std.specs.List.{AllByRecursion}
-use Rattle.std.specs.List.Sorted.{IsStrictlySortedBy}
-use Rattle.std.specs.Ordering.{nat_cmp, ordering_reverse, is_eq}
-use Rattle.std.specs.declared.cmp.Ordering.{Ordering}
-use Rattle.std.specs.declared.cmp.Ordering.TheVariants.{Less, Equal, Greater}
+use Rattle.std.proofs.Common.{◌≡◌, ℕ, List, refl}
+use Rattle.std.specs.Ordering.{nat_cmp, is_eq}
 use Rattle.std.specs.Cmp.{IsTotalOrder, then_total, on_total, nat_cmp_total, both_tied, unsigned_ties}
 use Rattle.std.specs.Cmp.Lexicographic.{slice_cmp, nat_list_cmp_total, texts_ties}
-use Rattle.au_model.specs.Syntax.Operators.{OperatorKind, KindFy, KindXfx, KindXf, OperatorClass, PrefixClass, InfixClass, PostfixClass, class_rank, OperatorRow, OperatorTable, row_rank, row_order, is_operator_row, operator_of}
+use Rattle.au_model.specs.Syntax.Operators.{OperatorKind, KindFy, KindXfx, KindXf, OperatorClass, PrefixClass, InfixClass, PostfixClass, class_rank, OperatorRow, row_rank, row_order, is_operator_row}
 use Rattle.op_table.specs.OperatorView.{place_order}
 
 pub row_order-total : IsTotalOrder row_order

@@ -1,5 +1,5 @@
 -- The rows that the program's table stands for: those of each name, in the order of the names.
-use Rattle.std.specs.Prelude.{◌≡◌, ℕ, suc, zero, Bool, true, ◌&&◌, ◌==◌, cond, List, [], ◌∷◌, ◌++◌, map, Option, Some, None, IsSome, chars}
+use Rattle.std.specs.Prelude.{◌≡◌, ℕ, suc, zero, Bool, true, ◌&&◌, ◌==◌, List, [], ◌∷◌, ◌++◌, map, Option, Some, None, IsSome, chars}
 use Rattle.std.specs.Global.{Global}
 use Rattle.std.specs.Prelude.{String}
 use Rattle.std.specs.String.{string_bytes, string_cmp}

@@ -142,11 +142,7 @@ fn check_comma(alloc: Global, names: &[Atom]) -> Result<(), OpRefusal>
 }
 
 /// The error of a name with which something may not be done.
-fn not_permitted(
-    alloc: Global,
-    permission: PermissionName,
-    name: &Atom,
-) -> Result<(), OpRefusal>
+fn not_permitted(alloc: Global, permission: PermissionName, name: &Atom) -> Result<(), OpRefusal>
     ensures { IsRefusedWith (permission_error_of permission (AtomTerm name.now)) result }
 {
     let culprit = single(alloc, Cell::Atom(name.share()?))?;
@@ -237,7 +233,13 @@ impl Ops {
         ensures err { OnErr result (self.new ≡ self.old) }
     {
         let OpRow { name, operator } = row;
-        change(self.alloc, &mut self.names, &[name], operator.kind.class(), Some(operator))
+        change(
+            self.alloc,
+            &mut self.names,
+            &[name],
+            operator.kind.class(),
+            Some(operator),
+        )
     }
 
     /// What op(Priority, Specifier, Names) does (8.14.3): all names are checked before the first is changed.
@@ -253,7 +255,13 @@ impl Ops {
     {
         let asked = Change::read(self.alloc, priority, kind, names)?;
         self.check(&asked)?;
-        change(self.alloc, &mut self.names, &asked.names, asked.kind.class(), asked.operator())?;
+        change(
+            self.alloc,
+            &mut self.names,
+            &asked.names,
+            asked.kind.class(),
+            asked.operator(),
+        )?;
         Ok(())
     }
 

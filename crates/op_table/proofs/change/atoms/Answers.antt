@@ -1,6 +1,6 @@
-use Rattle.std.proofs.Common.{◌≡◌, ◌∙◌, ◌∷◌, [], ◌++◌, ◌+◌, ℕ, List, map, take, true, false, not, codes, refl, sym, ap, ap₂, subst}
+use Rattle.std.proofs.Common.{◌≡◌, ◌∙◌, ◌∷◌, [], ◌++◌, map, not, codes, refl, sym, ap, ap₂}
 use Rattle.std.proofs.lemmas.List.{map-append}
-use Rattle.au_term.specs.Term.{Term, AtomTerm}
+use Rattle.au_term.specs.Term.{AtomTerm}
 use Rattle.au_model.specs.Terms.TermTypes.{is_atom}
 use Rattle.au_model.specs.Terms.ErrorTerms.{type_error}
 use Rattle.op_table.specs.Arguments.{AreAtoms, no_atom_error}
@@ -24,10 +24,11 @@ loop-item-preserved c =
     record {
       passed = c.loop-item.invariant.passed ∙ item_passed (λ t. not (is_atom t)) (type_error (codes "atom")) c.args.items.now c.loop-item.item-index item c.loop-item-test.true c.item-item.is (ap (λ t. not (is_atom t)) is);
       read = taken_item c.args.items.now c.loop-item.item-index item c.loop-item-test.true c.item-item.is
-      ∙ (ap₂ (λ ts t. ts ++ t ∷ []) c.loop-item.invariant.read is ∙ (sym (map-append AtomTerm c.loop-item.names.items (name ∷ [])) ∙ ap (map AtomTerm) (sym c.in_ok-push.ensures.items)));
+          ∙ (ap₂ (λ ts t. ts ++ t ∷ []) c.loop-item.invariant.read is ∙ (sym (map-append AtomTerm c.loop-item.names.items (name ∷ [])) ∙ ap (map AtomTerm) (sym c.in_ok-push.ensures.items)));
     }
 
 pub returns : goal.returns
-returns c =
-    (c.loop-item.invariant.passed ∙ items_over (λ t. not (is_atom t)) (type_error (codes "atom")) c.args.items.now c.loop-item.item-index c.loop-item-test.false,
-    sym (taken_all c.args.items.now c.loop-item.item-index c.loop-item-test.false) ∙ c.loop-item.invariant.read)
+returns c = (
+  c.loop-item.invariant.passed ∙ items_over (λ t. not (is_atom t)) (type_error (codes "atom")) c.args.items.now c.loop-item.item-index c.loop-item-test.false,
+  sym (taken_all c.args.items.now c.loop-item.item-index c.loop-item-test.false) ∙ c.loop-item.invariant.read,
+)

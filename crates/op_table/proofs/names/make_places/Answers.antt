@@ -1,4 +1,4 @@
-use Rattle.std.proofs.Common.{◌∙◌, ◌+◌, List, ℕ, refl, sym, subst, take, ap}
+use Rattle.std.proofs.Common.{◌∙◌, refl, subst, take}
 use Rattle.au_model.specs.Terms.Each.{Each}
 use Rattle.op_table.specs.NameRows.{HasName}
 use Rattle.op_table.proofs.MapLemmas.{each_more, each_kept, take_whole}

@@ -1,4 +1,3 @@
-use Rattle.std.proofs.Common.{◌∙◌, sym, Some}
 use Rattle.std.specs.Str.{chars}
 use Rattle.op_table.specs.OperatorView.{class_meant}
 use Rattle.op_table.proofs.MapLemmas.{IsSet, set_there, set_absent}

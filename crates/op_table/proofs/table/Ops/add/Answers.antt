@@ -1,10 +1,10 @@
 use Rattle.std.proofs.Common.{◌≡◌, ◌∙◌, sym, subst, ap, fold, map, Some}
 use Rattle.au_term.specs.Term.{AtomTerm}
 use Rattle.au_model.specs.Syntax.Operators.{OperatorTable, IsOperatorTable}
-use Rattle.au_model.specs.Syntax.OperatorChanges.{name_error, with_named}
+use Rattle.au_model.specs.Syntax.OperatorChanges.{name_error}
 use Rattle.op_table.specs.OperatorView.{class_meant, kind_meant}
 use Rattle.op_table.specs.NameRows.{row_changed, rows_of}
-use Rattle.op_table.proofs.OperatorChangeLemmas.{add_done, add_refused, add_table, either_table, rows_changed}
+use Rattle.op_table.proofs.OperatorChangeLemmas.{add_refused, add_table, either_table, rows_changed}
 use Rattle.op_table.proofs.table.Ops.add.Goals as goal
 
 pub returns-in_err-check-clause-fault : goal.returns-in_err-check-clause-fault

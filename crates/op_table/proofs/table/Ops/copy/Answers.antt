@@ -1,6 +1,6 @@
 use Rattle.std.proofs.Common.{◌≡◌, ◌∙◌, sym, subst, ap}
 use Rattle.au_model.specs.Syntax.Operators.{IsOperatorTable}
-use Rattle.op_table.specs.NameRows.{named_entries, rows_of, table_rows}
+use Rattle.op_table.specs.NameRows.{named_entries, table_rows}
 use Rattle.op_table.proofs.NameOrderLemmas.{clones_named}
 use Rattle.op_table.proofs.MapLemmas.{names_copied}
 use Rattle.op_table.proofs.table.Ops.copy.Goals as goal

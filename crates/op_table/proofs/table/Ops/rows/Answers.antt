@@ -1,4 +1,4 @@
-use Rattle.std.proofs.Common.{◌∙◌, ◌++◌, sym, ap, ap₂}
+use Rattle.std.proofs.Common.{◌∙◌, ◌++◌, sym, ap₂}
 use Rattle.std.specs.Str.{chars}
 use Rattle.op_table.specs.NameRows.{name_rows}
 use Rattle.op_table.proofs.MapLemmas.{rows_push}
