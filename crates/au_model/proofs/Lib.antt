@@ -1,4 +1,5 @@
 mod OperatorRows
+mod OperatorChangeRows
 mod WritingRows
 pub mod ApplyLemmas
 pub mod UnifierRuleLemmas
@@ -8,6 +9,7 @@ pub mod EquationOrderLemmas
 pub mod EachLemmas
 pub mod VariableBoundLemmas
 pub mod ListTermLemmas
+pub mod ListFormLemmas
 pub mod ListBuildingLemmas
 pub mod CopyLemmas
 pub mod EquationsInTurnLemmas

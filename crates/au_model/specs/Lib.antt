@@ -1,6 +1,9 @@
 -- Terms: terms, substitutions and unifiers
 --   Forms            terms by name and arguments
+--   TermTypes        variables, integers, atoms and compounds
 --   Lists            arguments from a list
+--   ListForms        lists, partial lists and their items
+--   ListCells        lists read cell by cell
 --   Each             what holds of each element of a list
 --   Named            a query's variables by their names
 --   Substitutions    what each variable stands for
@@ -20,6 +23,7 @@ pub mod Terms
 --   Words            the longest token at the front of a text
 --   Tokens           the tokens of a text as a reader of terms sees them
 --   Operators        operators and their table
+--   OperatorChanges  operators put into the table and taken out of it
 --   Trees            terms as they are spelled
 --   PostOperators    infix and postfix operators after an operand
 --   Primaries        how a term begins

@@ -6,6 +6,7 @@ pub mod Numerals
 pub mod Words
 pub mod Tokens
 pub mod Operators
+pub mod OperatorChanges
 pub mod Trees
 pub mod PostOperators
 pub mod Primaries

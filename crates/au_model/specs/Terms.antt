@@ -1,6 +1,9 @@
 -- Terms, substitutions and unifiers.
 pub mod Forms
+pub mod TermTypes
 pub mod Lists
+pub mod ListForms
+pub mod ListCells
 pub mod Each
 pub mod Named
 pub mod Substitutions

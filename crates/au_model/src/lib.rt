@@ -7,6 +7,7 @@ pub mod characters;
 pub mod copies;
 pub mod fault;
 pub mod laws;
+pub mod lists;
 pub mod names;
 #[cfg(test)]
 mod tests;

@@ -1,3 +1,9 @@
+pub mod TextOrderLemmas
+pub mod NameOrderLemmas
 pub mod SortedRowLemmas
 pub mod InitialTableLemmas
 pub mod TableChangeLemmas
+pub mod NameRowLemmas
+pub mod MapLemmas
+pub mod ArgumentLemmas
+pub mod OperatorChangeLemmas

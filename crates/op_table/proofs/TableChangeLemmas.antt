@@ -1,18 +1,18 @@
 -- A table with an operator put into it is a table.
-use Rattle.std.proofs.Common.{◌≡◌, ◌∙◌, ap₂, map, get_or, ℕ, zero, suc, ◌+◌, ◌<◌, ◌≤◌, Bool, true, false, not, ◌&&◌, ◌||◌, ◌==◌, nat_eq, nat_lt, nat_le, cond, List, [], ◌∷◌, ◌++◌, take, drop, length, slice_set, Option, Some, None, codes, refl, sym, ap, arith}
+use Rattle.std.proofs.Common.{◌≡◌, ◌∙◌, ℕ, ◌<◌, ◌≤◌, Bool, true, false, not, ◌&&◌, ◌||◌, ◌==◌, nat_eq, nat_lt, nat_le, cond, List, [], ◌∷◌, Option, Some, None, codes, refl, sym, ap}
 use Rattle.std.specs.List.{AllByRecursion}
 use Rattle.std.specs.List.Sorted.{IsStrictlySortedBy}
 use Rattle.std.specs.Option.{is_none}
-use Rattle.std.specs.Ordering.{nat_cmp, ordering_then, ordering_reverse, is_eq}
+use Rattle.std.specs.Ordering.{ordering_reverse, is_eq}
 use Rattle.std.specs.declared.cmp.Ordering.{Ordering}
 use Rattle.std.specs.declared.cmp.Ordering.TheVariants.{Less, Equal, Greater}
-use Rattle.std.specs.Cmp.Lexicographic.{pointwise, slice_cmp, same_text, other_text}
+use Rattle.std.specs.Cmp.Lexicographic.{pointwise, same_text, other_text}
 use Rattle.std.proofs.lemmas.Bool.{leb-true, ltb-true}
 use Rattle.std.proofs.lemmas.List.Elements.{All-from_recursion, recursion_from_All}
 use Rattle.au_model.specs.Syntax.Operators.{OperatorClass, PrefixClass, InfixClass, PostfixClass, class_of, class_rank, OperatorRow, OperatorTable, row_rank, row_order, is_operator_row, operator_of, postfix_of, is_operator_name_free, is_no_operator, with_operator, row_placed, IsOperatorTable}
+use Rattle.au_model.specs.Syntax.OperatorChanges.{conflicting_operator}
 use Rattle.op_table.specs.OperatorView.{place_order}
-use Rattle.op_table.specs.TableChanges.{conflicting_operator, is_protected_name, may_be_added, IsSlot}
-use Rattle.op_table.specs.declared.search.Slot.TheVariants.{Taken, Free}
+use Rattle.op_table.specs.TableChanges.{is_protected_name, may_be_added}
 use Rattle.op_table.proofs.SortedRowLemmas.{row_order-total, row_at, at_place, is_row-place}
 use Rattle.au_term.proofs.LogicLemmas.{both as both_true, not-true as not_true}
 
@@ -64,7 +64,7 @@ both_equal : (class : OperatorClass) (name : List ℕ) (row r : OperatorRow) →
 both_equal class name row r e k =
     row_order-total.congr row (row_at class name) r (equal_at class name row e) ∙ turned r (row_at class name) Equal (equal_at class name r k)
 
-found_with : (class : OperatorClass) (name : List ℕ) (row : OperatorRow) (t : OperatorTable) → operator_of class (with_operator t row) name ≡ cond (is_operator_row class name row) (Some row.operator) (operator_of class t name)
+pub found_with : (class : OperatorClass) (name : List ℕ) (row : OperatorRow) (t : OperatorTable) → operator_of class (with_operator t row) name ≡ cond (is_operator_row class name row) (Some row.operator) (operator_of class t name)
 found_with class name row [] = refl
 found_with class name row (r ∷ rs) = go (row_order row r) refl (found_with class name row rs)
   where
@@ -101,7 +101,7 @@ none_found class name (r ∷ rs) e = go (is_operator_row class name r) refl e (n
     go true k f h = let g : ⊥ = cc in absurd g
     go false k f h = (k, h f)
 
-no_both : (a b : Bool) → b ≡ false → (a && b) ≡ false
+pub no_both : (a b : Bool) → b ≡ false → (a && b) ≡ false
 no_both true b e = e
 no_both false b e = refl
 
@@ -116,7 +116,7 @@ all_apart_still : (t : OperatorTable) (row : OperatorRow) (rs : OperatorTable) �
 all_apart_still t row [] n h = tt
 all_apart_still t row (r ∷ rs) n h = (apart_still t row r (no_both (pointwise nat_eq row.name r.name) (row_rank row == 2) n) h.0, all_apart_still t row rs n h.1)
 
-not_named : (m n : List ℕ) → pointwise nat_eq m n ≡ false → pointwise nat_eq n m ≡ false
+pub not_named : (m n : List ℕ) → pointwise nat_eq m n ≡ false → pointwise nat_eq n m ≡ false
 not_named m n e = go (pointwise nat_eq n m) refl
   where
     go : (b : Bool) → pointwise nat_eq n m ≡ b → b ≡ false
@@ -207,58 +207,3 @@ table_with t row h p =
       nil = no_operator_still (codes "[]") row t m.nil ∙ h.nil;
       braces = no_operator_still (codes "{}") row t m.braces ∙ h.braces;
     }
-
--- where rows are from the new one
-pub from_row : (class : OperatorClass) (name : List ℕ) (row r : OperatorRow) → class ≡ class_of row.operator.kind → name ≡ row.name → place_order class name r ≡ row_order r row
-from_row class name row r e k = ap₂ (λ n c. ordering_then (slice_cmp nat_cmp r.name n) (nat_cmp (row_rank r) (class_rank c))) k e
-
-module _ {X : Type 0} (f : X → OperatorRow) (row : OperatorRow) where
-  stands : (xs : List X) (m : ℕ) (x : X) → m < length xs → x ≡ get_or xs m x → drop m (map f xs) ≡ f x ∷ drop (m + 1) (map f xs)
-  stands [] m x lt e = absurd (omega arith)
-  stands (y ∷ xs) zero x lt e = ap (λ z. f z ∷ map f xs) (sym e)
-  stands (y ∷ xs) (suc m) x lt e = let n : suc m + 1 ≡ suc (m + 1) = omega arith in rw n (stands xs m x (omega arith) e)
-
-  taken : (xs : List X) (m : ℕ) (x : X) (rs : OperatorTable) → m < length xs → x ≡ get_or xs m x → take (m + 1) (map f xs) ++ rs ≡ take m (map f xs) ++ f x ∷ rs
-  taken [] m x rs lt e = absurd (omega arith)
-  taken (y ∷ xs) zero x rs lt e = ap (λ z. f z ∷ rs) (sym e)
-  taken (y ∷ xs) (suc m) x rs lt e = let n : suc m + 1 ≡ suc (m + 1) = omega arith in rw n (ap (λ q. f y ∷ q) (taken xs m x rs (omega arith) e))
-
-  within : (xs : List X) (m : ℕ) → m < length xs → m < length (map f xs)
-  within [] m lt = lt
-  within (y ∷ xs) zero lt = omega arith
-  within (y ∷ xs) (suc m) lt = let h = within xs m (omega arith) in omega (arith, h)
-
-  placed : (xs : List X) (m : ℕ) (x : X) (o : Ordering) → m < length xs → x ≡ get_or xs m x → row_order (f x) row ≡ o
-      → with_operator (map f xs) row ≡ take m (map f xs) ++ with_operator (drop m (map f xs)) row
-      → with_operator (map f xs) row ≡ take m (map f xs) ++ row_placed (ordering_reverse o) row (f x) (drop (m + 1) (map f xs)) (with_operator (drop (m + 1) (map f xs)) row)
-  placed xs m x o lt e l h =
-      let rest = drop (m + 1) (map f xs) in
-      h ∙ ap (λ q. take m (map f xs) ++ q) (ap (λ q. with_operator q row) (stands xs m x lt e) ∙ ap (λ p. row_placed p row (f x) rest (with_operator rest row)) (turned (f x) row o l))
-
-  pub slot_passed : (xs : List X) (m : ℕ) (x : X) → m < length xs → x ≡ get_or xs m x → row_order (f x) row ≡ Less
-      → with_operator (map f xs) row ≡ take m (map f xs) ++ with_operator (drop m (map f xs)) row
-      → with_operator (map f xs) row ≡ take (m + 1) (map f xs) ++ with_operator (drop (m + 1) (map f xs)) row
-  slot_passed xs m x lt e l h = placed xs m x Less lt e l h ∙ sym (taken xs m x (with_operator (drop (m + 1) (map f xs)) row) lt e)
-
-  pub slot_taken : (xs : List X) (m : ℕ) (x : X) → m < length xs → x ≡ get_or xs m x → row_order (f x) row ≡ Equal
-      → with_operator (map f xs) row ≡ take m (map f xs) ++ with_operator (drop m (map f xs)) row
-      → IsSlot (map f xs) row (Taken m)
-  slot_taken xs m x lt e l h = (within xs m lt, placed xs m x Equal lt e l h)
-
-  pub slot_free : (xs : List X) (m : ℕ) (x : X) → m < length xs → x ≡ get_or xs m x → row_order (f x) row ≡ Greater
-      → with_operator (map f xs) row ≡ take m (map f xs) ++ with_operator (drop m (map f xs)) row
-      → IsSlot (map f xs) row (Free m)
-  slot_free xs m x lt e l h =
-      let w = within xs m lt in
-      (omega (arith, w), placed xs m x Greater lt e l h ∙ ap (λ q. take m (map f xs) ++ row ∷ q) (sym (stands xs m x lt e)))
-
-  -- a row set or put in
-  pub set_at : (xs : List X) (m : ℕ) (x : X) → m < length xs → f x ≡ row → map f (slice_set xs m x) ≡ take m (map f xs) ++ row ∷ drop (m + 1) (map f xs)
-  set_at [] m x lt e = absurd (omega arith)
-  set_at (y ∷ xs) zero x lt e = ap (λ r. r ∷ map f xs) e
-  set_at (y ∷ xs) (suc m) x lt e = let n : suc m + 1 ≡ suc (m + 1) = omega arith in rw n (ap (λ q. f y ∷ q) (set_at xs m x (omega arith) e))
-
-  pub put_at : (xs : List X) (m : ℕ) (x : X) → f x ≡ row → map f (take m xs ++ x ∷ drop m xs) ≡ take m (map f xs) ++ row ∷ drop m (map f xs)
-  put_at xs zero x e = ap (λ r. r ∷ map f xs) e
-  put_at [] (suc m) x e = ap (λ r. r ∷ []) e
-  put_at (y ∷ xs) (suc m) x e = ap (λ q. f y ∷ q) (put_at xs m x e)

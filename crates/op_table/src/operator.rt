@@ -1,10 +1,11 @@
 //! Operators and rows of a table.
-ghost use Rattle.std.specs.Prelude.{◌≡◌, IfOk};
-ghost use Rattle.au_model.specs.Syntax.Operators.{class_of, class_rank};
+ghost use Rattle.std.specs.Prelude.{◌≡◌, option_map};
+ghost use Rattle.au_model.specs.Syntax.Operators.{class_of};
+ghost use Rattle.au_model.specs.Syntax.OperatorChanges.{kind_named};
 ghost use Rattle.au_model.specs.Syntax.PostOperators.{left_bound, right_bound, takes_equal_left, takes_equal_right};
 ghost use Rattle.op_table.specs.OperatorView.{class_meant, kind_meant, operator_meant};
 
-use au_term::{Atom, NoMemory};
+use au_term::Atom;
 
 /// Where the operands are: `f` is the operator, `x` an operand of lower priority, `y` one of at
 /// most the operator's.
@@ -48,6 +49,34 @@ pub struct OpRow {
 }
 
 impl OpKind {
+    /// The kind of a specifier.
+    pub(crate) fn named(name: &Atom) -> Option<OpKind>
+        ensures { option_map kind_meant result ≡ kind_named name.now }
+    {
+        if name.is_text("xfx") {
+            return Some(OpKind::Xfx);
+        }
+        if name.is_text("xfy") {
+            return Some(OpKind::Xfy);
+        }
+        if name.is_text("yfx") {
+            return Some(OpKind::Yfx);
+        }
+        if name.is_text("fy") {
+            return Some(OpKind::Fy);
+        }
+        if name.is_text("fx") {
+            return Some(OpKind::Fx);
+        }
+        if name.is_text("xf") {
+            return Some(OpKind::Xf);
+        }
+        if name.is_text("yf") {
+            return Some(OpKind::Yf);
+        }
+        None
+    }
+
     pub(crate) fn class(self) -> OpClass
         ensures { class_meant result ≡ class_of (kind_meant self) }
     {
@@ -94,30 +123,5 @@ impl Operator {
         } else {
             self.priority.saturating_sub(1)
         }
-    }
-}
-
-impl OpClass {
-    /// The place of a class among those of a name.
-    pub(crate) fn rank(self) -> u8
-        ensures { result ≡ class_rank (class_meant self) }
-    {
-        match self {
-            OpClass::Prefix => 0,
-            OpClass::Infix => 1,
-            OpClass::Postfix => 2,
-        }
-    }
-}
-
-impl OpRow {
-    /// The same row.
-    pub(crate) fn share(&self) -> Result<OpRow, NoMemory>
-        ensures { IfOk result (λ row. row ≡ self.now) }
-    {
-        Ok(OpRow {
-            name: self.name.share()?,
-            operator: self.operator,
-        })
     }
 }

@@ -1,7 +1,10 @@
 //! The standard's operators (ISO/IEC 13211-1, 6.3.4.4).
 
-use crate::{OpKind, OpRow, Operator, Ops};
-use au_term::Atom;
+use crate::{OpKind, OpRefusal, OpRow, Operator, Ops};
+use au_model::build::{binary, list_of, single};
+use au_model::{DomainName, Fault, PermissionName, TypeName};
+use au_term::{Atom, Cell, FlatTerm, NoMemory};
+use std::alloc::Global;
 use std::process::Abort;
 use std::test::Fail;
 
@@ -130,23 +133,217 @@ fn operators_put(rt: HostRuntime) -> Result<(), Fail> {
     Ok(())
 }
 
-/// Operators that may not be put into the table that a text begins with.
-static KEPT: [(&str, u16, OpKind); 6] = [
-    ("~", 0, OpKind::Fy),
-    ("~", 1201, OpKind::Fy),
-    (",", 1000, OpKind::Xfy),
-    ("[]", 200, OpKind::Xf),
-    ("{}", 200, OpKind::Fy),
-    ("is", 200, OpKind::Xf),
+/// An argument of op/3.
+enum Arg {
+    Var,
+    Int(i64),
+    Name(&'static str),
+    List(&'static [Arg]),
+    /// A list with one item and a variable behind it.
+    Open(&'static str),
+}
+
+/// What op/3 is asked for, and its error.
+struct Case {
+    priority: Arg,
+    specifier: Arg,
+    names: Arg,
+    error: Want,
+}
+
+enum Want {
+    Instantiation,
+    Type(TypeName, Arg),
+    Domain(DomainName, Arg),
+    Permission(PermissionName, &'static str),
+}
+
+static CASES: [Case; 14] = [
+    Case {
+        priority: Arg::Name("p"),
+        specifier: Arg::Int(1),
+        names: Arg::List(&[Arg::Int(2), Arg::Var]),
+        error: Want::Instantiation,
+    },
+    Case {
+        priority: Arg::Int(1),
+        specifier: Arg::Name("xfx"),
+        names: Arg::Open("a"),
+        error: Want::Instantiation,
+    },
+    Case {
+        priority: Arg::Var,
+        specifier: Arg::Int(1),
+        names: Arg::Int(2),
+        error: Want::Instantiation,
+    },
+    Case {
+        priority: Arg::Name("p"),
+        specifier: Arg::Int(1),
+        names: Arg::Int(2),
+        error: Want::Type(TypeName::Integer, Arg::Name("p")),
+    },
+    Case {
+        priority: Arg::Int(1201),
+        specifier: Arg::Int(1),
+        names: Arg::Int(2),
+        error: Want::Type(TypeName::Atom, Arg::Int(1)),
+    },
+    Case {
+        priority: Arg::Int(1201),
+        specifier: Arg::Name("a"),
+        names: Arg::Int(2),
+        error: Want::Type(TypeName::ProperList, Arg::Int(2)),
+    },
+    Case {
+        priority: Arg::Int(1201),
+        specifier: Arg::Name("a"),
+        names: Arg::List(&[Arg::Name(","), Arg::Int(2)]),
+        error: Want::Type(TypeName::Atom, Arg::Int(2)),
+    },
+    Case {
+        priority: Arg::Int(1201),
+        specifier: Arg::Name("a"),
+        names: Arg::Name(","),
+        error: Want::Domain(DomainName::OperatorPriority, Arg::Int(1201)),
+    },
+    Case {
+        priority: Arg::Int(-1),
+        specifier: Arg::Name("a"),
+        names: Arg::Name(","),
+        error: Want::Domain(DomainName::OperatorPriority, Arg::Int(-1)),
+    },
+    Case {
+        priority: Arg::Int(1200),
+        specifier: Arg::Name("a"),
+        names: Arg::Name(","),
+        error: Want::Domain(DomainName::OperatorSpecifier, Arg::Name("a")),
+    },
+    Case {
+        priority: Arg::Int(700),
+        specifier: Arg::Name("xfx"),
+        names: Arg::List(&[Arg::Name("[]"), Arg::Name(",")]),
+        error: Want::Permission(PermissionName::ModifyOperator, ","),
+    },
+    Case {
+        priority: Arg::Int(700),
+        specifier: Arg::Name("xfx"),
+        names: Arg::List(&[Arg::Name("=="), Arg::Name("|")]),
+        error: Want::Permission(PermissionName::CreateOperator, "|"),
+    },
+    Case {
+        priority: Arg::Int(200),
+        specifier: Arg::Name("fy"),
+        names: Arg::Name("{}"),
+        error: Want::Permission(PermissionName::CreateOperator, "{}"),
+    },
+    Case {
+        priority: Arg::Int(0),
+        specifier: Arg::Name("xf"),
+        names: Arg::List(&[Arg::Name("~"), Arg::Name("is")]),
+        error: Want::Permission(PermissionName::CreateOperator, "is"),
+    },
+];
+
+fn name(alloc: Global, text: &str) -> Result<FlatTerm, NoMemory> {
+    single(alloc, Cell::Atom(Atom::new(alloc, text)?))
+}
+
+/// An argument that is no list.
+fn item(alloc: Global, arg: &Arg) -> Result<FlatTerm, NoMemory> {
+    match arg {
+        Arg::Int(value) => single(alloc, Cell::Int(*value)),
+        Arg::Name(text) => name(alloc, text),
+        _ => single(alloc, Cell::Var(0)),
+    }
+}
+
+fn term(alloc: Global, arg: &Arg) -> Result<FlatTerm, NoMemory> {
+    match arg {
+        Arg::List(args) => {
+            let mut items = Vec::new(alloc);
+            for arg in *args {
+                items.push(item(alloc, arg)?)?;
+            }
+            list_of(alloc, &items)
+        }
+        Arg::Open(first) => binary(
+            alloc,
+            ".",
+            &name(alloc, first)?,
+            &single(alloc, Cell::Var(0))?,
+        ),
+        _ => item(alloc, arg),
+    }
+}
+
+fn fault(alloc: Global, want: &Want) -> Result<Fault, NoMemory> {
+    Ok(match want {
+        Want::Instantiation => Fault::Instantiation,
+        Want::Type(name, culprit) => Fault::WrongType(*name, item(alloc, culprit)?),
+        Want::Domain(name, culprit) => Fault::Domain(*name, item(alloc, culprit)?),
+        Want::Permission(permission, culprit) => Fault::Permission(
+            *permission,
+            name(alloc, culprit)?,
+        ),
+    })
+}
+
+#[test]
+fn operators_refused(rt: HostRuntime) -> Result<(), Fail> {
+    let alloc = rt.alloc();
+    let op = Atom::new(alloc, "op")?;
+    let mut ops = Ops::initial(alloc)?;
+    for case in &CASES {
+        let (priority, specifier) = (term(alloc, &case.priority)?, term(alloc, &case.specifier)?);
+        match ops.add(&priority, &specifier, &term(alloc, &case.names)?) {
+            Err(OpRefusal::Fault(found)) => {
+                let want = fault(alloc, &case.error)?.term(alloc, &op, 3)?;
+                assert!(rt; found.term(alloc, &op, 3)?.cells() == want.cells());
+            }
+            _ => panic!(rt; "not refused"),
+        }
+    }
+    check_groups(&rt, &ops, &GROUPS);
+    assert_eq!(rt; ops.rows()?.len(), 39);
+    Ok(())
+}
+
+/// Operators added one after another, and how many rows the table then has.
+static ADDED: [(i64, &'static str, Arg, usize); 6] = [
+    (0, "xfx", Arg::Name("="), 38),
+    (0, "fy", Arg::Name("="), 38),
+    (700, "xfx", Arg::Name("[]"), 38),
+    (
+        200,
+        "xf",
+        Arg::List(&[Arg::Name("="), Arg::Name("~"), Arg::Name("=")]),
+        40,
+    ),
+    (
+        100,
+        "yf",
+        Arg::List(&[Arg::Name("é"), Arg::Name("~"), Arg::Name("z")]),
+        42,
+    ),
+    (0, "xf", Arg::List(&[Arg::Name("="), Arg::Name("é")]), 40),
 ];
 
 #[test]
-fn operators_kept(rt: HostRuntime) -> Result<(), Fail> {
-    let ops = Ops::initial(rt.alloc())?;
-    for (name, priority, kind) in KEPT {
-        let name = Atom::new(rt.alloc(), name)?;
-        let operator = Operator { priority, kind };
-        assert!(rt; !ops.may_put(&OpRow { name, operator }));
+fn operators_added(rt: HostRuntime) -> Result<(), Fail> {
+    let alloc = rt.alloc();
+    let first = Ops::initial(alloc)?;
+    let mut ops = first.copy()?;
+    for (priority, specifier, names, count) in &ADDED {
+        let (priority, specifier) = (
+            single(alloc, Cell::Int(*priority))?,
+            name(alloc, specifier)?,
+        );
+        assert!(rt; ops.add(&priority, &specifier, &term(alloc, names)?).is_ok());
+        assert_eq!(rt; ops.rows()?.len(), *count);
     }
+    assert_eq!(rt; priority(ops.postfix("~")), Some(100));
+    assert_eq!(rt; priority(ops.infix("=")), None);
+    assert_eq!(rt; priority(first.infix("=")), Some(700));
     Ok(())
 }

@@ -3,6 +3,7 @@ mod FactRows
 mod CutRows
 mod CatchRows
 mod WorldRows
+mod DatabaseRows
 mod ArithmeticRows
 mod TermGoalRows
 mod AtomGoalRows

@@ -1,15 +1,16 @@
 -- Programs: what a text loads to
---   Bodies     terms as bodies
---   Clauses    clauses, renamed where they are tried
---   Databases  the dynamic procedures
---   Jobs       static clauses, dynamic procedures, operators and queries
+--   Bodies           terms as bodies
+--   Clauses          clauses, renamed where they are tried
+--   Databases        the dynamic procedures
+--   DatabaseChanges  procedures declared, changed and taken away
+--   Jobs             static clauses, dynamic procedures, operators and queries
 pub mod Programs
 -- Goals: what a goal comes to
 --   Outcomes          the kinds of outcomes
 --   Control           the control constructs
 --   BuiltinAnswers    solutions and errors of built-in predicates
 --   StandardOrder     the standard order of terms
---   ListForms         lists, partial lists and their items
+--   ListForms         lists and arguments as goals read them
 --   TermTests         type tests and comparisons
 --   TermParts         goals that take terms apart and put them together
 --   Arithmetic        the values of expressions, and their errors

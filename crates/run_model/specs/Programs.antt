@@ -2,4 +2,5 @@
 pub mod Bodies
 pub mod Clauses
 pub mod Databases
+pub mod DatabaseChanges
 pub mod Jobs

@@ -1,39 +1,16 @@
 -- Goals that tell and compare terms (ISO/IEC 13211-1, 8.3 and 8.4; callable/1, ground/1 and compare/3 are of its second
 -- corrigendum).
-use Rattle.std.specs.Prelude.{ℕ, Bool, true, false, not, ◌||◌, ◌==◌, if◌then◌else◌, List, [], ◌∷◌, codes, Err}
+pub use Rattle.au_model.specs.Terms.TermTypes.{is_variable, is_integer, is_atom, is_compound}
+use Rattle.std.specs.Prelude.{ℕ, Bool, not, ◌||◌, ◌==◌, if◌then◌else◌, List, [], ◌∷◌, codes, Err}
 use Rattle.std.specs.declared.cmp.Ordering.{Ordering}
 use Rattle.std.specs.declared.cmp.Ordering.TheVariants.{Less, Equal, Greater}
 use Rattle.std.specs.Ordering.{is_eq, is_ne, is_lt, is_le, is_gt, is_ge}
-use Rattle.au_term.specs.Term.{Term, VarTerm, IntTerm, AtomTerm, Compound, term_at, var_bound}
+use Rattle.au_term.specs.Term.{Term, VarTerm, AtomTerm, term_at, var_bound}
 use Rattle.au_model.specs.Terms.Forms.{same_name, is_callable}
 use Rattle.au_model.specs.Terms.ErrorTerms.{type_error, domain_error}
 use Rattle.run_model.specs.Goals.Control.{Construct}
 use Rattle.run_model.specs.Goals.BuiltinAnswers.{Answer, equal, holds_if, predicate}
 use Rattle.run_model.specs.Goals.StandardOrder.{order}
-
-abbrev pub is_variable : Term → Bool
-is_variable (VarTerm n) = true
-is_variable (IntTerm z) = false
-is_variable (AtomTerm a) = false
-is_variable (Compound f ts) = false
-
-abbrev pub is_integer : Term → Bool
-is_integer (VarTerm n) = false
-is_integer (IntTerm z) = true
-is_integer (AtomTerm a) = false
-is_integer (Compound f ts) = false
-
-abbrev pub is_atom : Term → Bool
-is_atom (VarTerm n) = false
-is_atom (IntTerm z) = false
-is_atom (AtomTerm a) = true
-is_atom (Compound f ts) = false
-
-abbrev pub is_compound : Term → Bool
-is_compound (VarTerm n) = false
-is_compound (IntTerm z) = false
-is_compound (AtomTerm a) = false
-is_compound (Compound f ts) = true
 
 abbrev pub is_atomic : Term → Bool
 is_atomic t = is_integer t || is_atom t
