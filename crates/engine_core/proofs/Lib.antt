@@ -10,3 +10,4 @@ pub mod GoalOutcomeLemmas
 pub mod NamedOutcomeLemmas
 pub mod Solutions
 pub mod BuiltinGoals
+pub mod WorldGoalLemmas

@@ -13,6 +13,9 @@ use Rattle.au_model.specs.Terms.ErrorTerms.{error_term, instantiation_error}
 use Rattle.run_model.specs.Goals.Control.{construct_of, control_constructs, call_row, call_outcome, throw_outcome, either_form}
 use Rattle.run_model.specs.Goals.Builtins.{builtins}
 use Rattle.run_model.specs.Goals.Outcomes.{Outcome, Replies, Ball, EitherOf, TestOf, alternatives_of}
+use Rattle.std.specs.Prelude.{is_some, ◌||◌}
+use Rattle.au_term.proofs.LogicLemmas.{or-right}
+use Rattle.run_model.specs.Goals.Worlds.{is_world_goal}
 use Rattle.run_model.specs.Goals.GoalOutcomes.{outcome_of, named_outcome, by_construct, by_builtin, has_row}
 use Rattle.clause_compile.specs.declared.item.Scope.{Scope}
 use Rattle.clause_compile.specs.declared.item.Item.{Item}
@@ -181,7 +184,12 @@ pub by_world : (cut here : Scope) (rest : List Item) (st : StoreView) (clauses :
     → called ≡ resolve (substitution st) goal → IsOutcome cut here rest st (outcome_of clauses (resolve (substitution st) goal) st.next) (Gate (Call called))
 by_world cut here rest st clauses goal called h row d e =
     let f = value_of (substitution st) in
-    subst (λ o. IsOutcome cut here rest st o (Gate (Call called))) (sym (other_call clauses (apply f goal) st.next (callable_resolved f goal h) (no_row f goal h row) (same_definition f clauses goal h ∙ d))) e
+    let name = name_of (apply f goal) in
+    let arity = argument_count (apply f goal) in
+    let asks = is_world_goal name arity in
+    let none = no_row f goal h row in
+    let no_world : asks ≡ false = or-right (is_some (construct_of builtins name arity)) asks (or-right (is_some (construct_of control_constructs name arity)) (is_some (construct_of builtins name arity) || asks) none) in
+    subst (λ o. IsOutcome cut here rest st o (Gate (Call called))) (sym (other_call clauses (apply f goal) st.next (callable_resolved f goal h) none (same_definition f clauses goal h ∙ d))) (e, no_world)
 
 -- fail, by either name
 pub fails : (cut here : Scope) (rest : List Item) (st : StoreView) (goal : Term) (bs : Vec Branch Global) → is_callable goal ≡ true → ((name_of goal ≡ codes "fail") ⊎ (name_of goal ≡ codes "false")) × (argument_count goal ≡ 0) → bs.items ≡ [] → ComesTo cut here rest st goal (Alternatives bs)

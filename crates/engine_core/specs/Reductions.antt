@@ -1,11 +1,13 @@
 -- What one item comes to, beside a store of bindings: the table of outcomes, with its terms as they are unresolved.
-use Rattle.std.specs.Prelude.{◌≡◌, ◌≤◌, List, [], ◌∷◌}
-use Rattle.au_term.specs.Term.{Term, var_bound}
+use Rattle.std.specs.Prelude.{◌≡◌, ◌≤◌, ℕ, false, List, [], ◌∷◌, codes}
+use Rattle.au_term.specs.Term.{Term, Terms, end, more, arguments, argument_count, var_bound}
+use Rattle.au_model.specs.Terms.Forms.{name_of}
 use Rattle.au_model.specs.Terms.Substitutions.{resolve}
 use Rattle.run_model.specs.Programs.Bodies.{goals_of}
 use Rattle.run_model.specs.Programs.Clauses.{Clause as ClauseTerms}
 use Rattle.run_model.specs.Goals.Outcomes.{Outcome, Replies, Solutions, Ball, Controls, GoesOnWith, EitherOf, TestOf, CutToScope, CatchOf, FindallOf, AskWorld}
 use Rattle.run_model.specs.Goals.GoalOutcomes.{outcome_of}
+use Rattle.run_model.specs.Goals.Worlds.{is_world_goal}
 use Rattle.clause_compile.specs.declared.item.Scope.{Scope}
 use Rattle.clause_compile.specs.declared.item.Item.{Item}
 use Rattle.clause_compile.specs.declared.item.Item.TheVariants as item
@@ -51,8 +53,18 @@ abbrev pub IsFindall : StoreView → Term → Term → Term → Opening → Type
 IsFindall st template goal list (Findall t g l) = ResolvesTo st template t × ResolvesTo st goal g × ResolvesTo st list l
 IsFindall st template goal list o = ⊥
 
+-- a goal of this name and with these arguments
+abbrev pub IsGoalOf : List ℕ → Terms → Term → Type 0
+IsGoalOf name ts goal = (name_of goal ≡ name) × (arguments goal ≡ ts)
+
+-- the effect for which a goal asks the world: what it writes, or the call of a procedure
 abbrev pub AsksWorld : Term → Effect → Type 0
-AsksWorld goal (effect.Call t) = t ≡ goal
+AsksWorld goal (effect.Write t) = IsGoalOf (codes "write") (more t end) goal
+AsksWorld goal (effect.Writeq t) = IsGoalOf (codes "writeq") (more t end) goal
+AsksWorld goal (effect.WriteCanonical t) = IsGoalOf (codes "write_canonical") (more t end) goal
+AsksWorld goal effect.Nl = IsGoalOf (codes "nl") end goal
+AsksWorld goal (effect.PutChar t) = IsGoalOf (codes "put_char") (more t end) goal
+AsksWorld goal (effect.Call t) = (t ≡ goal) × (is_world_goal (name_of goal) (argument_count goal) ≡ false)
 AsksWorld goal e = ⊥
 
 -- what an outcome is here: cut is the scope that the goal carries, and here the entry's own

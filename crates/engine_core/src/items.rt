@@ -15,13 +15,14 @@ use crate::call::calling_ball;
 use crate::control::construct_outcome;
 use crate::procedure::clauses_tried;
 use crate::reduction::{Continuation, Reduction};
+use crate::world::effect_of;
 use au_model::names::name_of_shared;
 use au_term::{Atom, FlatTerm, NoMemory, Shared};
 use bind_store::Store;
 use clause_compile::{Effect, Goals, Item, Scope};
 use proc_index::Procs;
 use std::alloc::Global;
-use std_builtins::{builtin_of, control_of};
+use std_builtins::{builtin_of, control_of, world_goal_of};
 
 /// What an item comes to, before the items that follow, beside a store; `here` is the choice point to which a cut in a
 /// called body or a clause's body cuts (ISO/IEC 13211-1, 7.7). The store stays as it is.
@@ -111,6 +112,9 @@ fn callable_outcome(
     }
     if let Some(builtin) = builtin_of(name.text(), arity) {
         return builtin_outcome(alloc, builtin, goal, &name, place, store);
+    }
+    if let Some(asked) = world_goal_of(name.text(), arity) {
+        return Ok(Reduction::Gate(effect_of(asked, goal, store)?));
     }
     procedure_outcome(alloc, goal, &name, place, store, procs)
 }

@@ -12,6 +12,7 @@ mod procedure;
 pub mod reduction;
 #[cfg(test)]
 mod tests;
+mod world;
 
 pub use bodies::goals_before;
 pub use items::reduce;

@@ -54,3 +54,17 @@ world_call clauses g next w h =
     let asks = is_world_goal (name_of g) (argument_count g) in
     let others : (is_some built || asks) ≡ false = second_is_false (is_some control) (is_some built || asks) h in
     ap (λ o. by_world_construct o clauses g next w) (none_of (world_construct_of (name_of g) (argument_count g)) (second_is_false (is_some built) asks others))
+
+-- a goal of the world asks it
+asks_named : (clauses : List Clause) (g : Term) (next : ℕ) → is_some (construct_of control_constructs (name_of g) (argument_count g)) ≡ false → construct_of builtins (name_of g) (argument_count g) ≡ None → is_world_goal (name_of g) (argument_count g) ≡ true
+    → named_outcome clauses g next ≡ AskWorld g
+asks_named clauses g next c b w =
+    ap (λ o. by_construct o clauses g next) (none_of (construct_of control_constructs (name_of g) (argument_count g)) c) ∙ (ap (λ o. by_builtin o clauses g next) b ∙ ap (λ a. by_world_goal a clauses g next) w)
+
+pub world_goal : (clauses : List Clause) (g : Term) (next : ℕ) → is_callable g ≡ true → is_some (construct_of control_constructs (name_of g) (argument_count g)) ≡ false → construct_of builtins (name_of g) (argument_count g) ≡ None → is_world_goal (name_of g) (argument_count g) ≡ true
+    → outcome_of clauses g next ≡ AskWorld g
+unfolding outcome_of
+world_goal clauses (VarTerm n) next h c b w = cc
+world_goal clauses (IntTerm z) next h c b w = cc
+world_goal clauses (AtomTerm a) next h c b w = asks_named clauses (AtomTerm a) next c b w
+world_goal clauses (Compound f ts) next h c b w = asks_named clauses (Compound f ts) next c b w

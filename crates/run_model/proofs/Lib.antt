@@ -3,6 +3,7 @@ mod FactRows
 mod CutRows
 mod CatchRows
 mod WorldRows
+mod OutputRows
 mod DatabaseRows
 mod ArithmeticRows
 mod TermGoalRows
@@ -13,6 +14,7 @@ mod SortingRows
 pub mod ConstructLemmas
 pub mod FreeStepLemmas
 pub mod StepLemmas
+pub mod OutputLemmas
 pub mod RunLemmas
 pub mod BuiltinRowBoundLemmas
 pub mod BuiltinBoundLemmas

@@ -20,6 +20,9 @@ use Rattle.run_model.specs.Goals.Worlds.{World, WorldConstruct, world_constructs
 use Rattle.run_model.specs.Goals.GoalOutcomes.{by_procedure, by_world_goal, by_builtin, by_construct, named_outcome, outcome_of}
 use Rattle.au_model.proofs.EachLemmas.{IfFound, found_row, each-append, each-map}
 use Rattle.run_model.proofs.BuiltinRowBoundLemmas.{IsSolutionBelow, IsReplyBelow, IsFormBelow, IsOutcomeBelow, IsRowBelow, term-below}
+use Rattle.std.specs.Str.{encode_utf8_all}
+use Rattle.run_model.specs.Goals.AtomGoals.{is_character}
+use Rattle.run_model.specs.Goals.OutputGoals.{bytes_out, character_out, no_character_ball, holds_once}
 use Rattle.run_model.proofs.BuiltinBoundLemmas.{builtins_below}
 use Rattle.au_model.proofs.VariableBoundLemmas.{AllSeen, all_seen, still_seen, renamed-below}
 
@@ -260,8 +263,21 @@ outcome-below clauses (Compound f ts) next h = named-below clauses (Compound f t
 abbrev pub IsWorldRowBelow : WorldConstruct → Type 0
 IsWorldRowBelow c = (clauses : List Clause) (ts : Terms) (next : ℕ) (w : World) → count ts ≡ c.arity → all_bound ts ≤ next → IsReplyBelow next ((c.effect clauses ts next w).1)
 
+once-below : (next : ℕ) → IsReplyBelow next holds_once
+once-below next = ((omega arith, tt), tt)
+
+character_out-below : (next : ℕ) (t : Term) (w : World) → IsReplyBelow next (character_out t w).1
+character_out-below next t w = by (is_character t)
+  where
+    by : (b : Bool) → IsReplyBelow next (cond b (bytes_out (encode_utf8_all (name_of t)) w) (w, Ball (no_character_ball t))).1
+    by true = once-below next
+    by false = tt
+
 pub world_rows_below : Each IsWorldRowBelow world_constructs
-world_rows_below = tt
+world_rows_below = (
+  λ clauses ts next w n h. once-below next,
+  (λ clauses ts next w n h. once-below next, (λ clauses ts next w n h. once-below next, (λ clauses ts next w n h. once-below next, (λ clauses ts next w n h. character_out-below next (term_at 0 ts) w, tt)))),
+)
 
 dynamic-below : (o : Option (List NumberedClause)) (g : Term) (next : ℕ) → IsTermBelow next g → IsReplyBelow next (dynamic_call o g next)
 dynamic-below None g next h = tt

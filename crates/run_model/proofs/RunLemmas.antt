@@ -1,6 +1,9 @@
 -- The run, inference by inference.
-use Rattle.std.proofs.Common.{true, ◌≡◌, ◌≢◌, ◌⊎◌, inl, inr, ℕ, zero, suc, ◌+◌, ◌≤◌, List, [], ◌∷◌, ◌++◌, Option, Some, None, refl, sym, ap, ◌∙◌, subst, arith, append_assoc, append-nil}
-use Rattle.au_term.specs.Term.{Term, Terms, arguments, argument_count}
+use Rattle.std.proofs.Common.{Bool, cond, true, false, ◌≡◌, ◌≢◌, ◌⊎◌, inl, inr, ℕ, zero, suc, ◌+◌, ◌≤◌, List, [], ◌∷◌, ◌++◌, Option, Some, None, refl, sym, ap, ◌∙◌, subst, arith, append_assoc, append-nil}
+use Rattle.std.specs.Str.{encode_utf8_all}
+use Rattle.au_term.specs.Term.{Term, Terms, term_at, arguments, argument_count}
+use Rattle.run_model.specs.Goals.AtomGoals.{is_character}
+use Rattle.run_model.specs.Goals.OutputGoals.{bytes_out, character_out, no_character_ball}
 use Rattle.au_model.specs.Terms.Forms.{name_of}
 use Rattle.run_model.specs.declared.ending.RunEnding.TheVariants.{Budget}
 use Rattle.run_model.specs.Programs.Clauses.{Clause}
@@ -44,8 +47,21 @@ front_front {a} h k = record { rest = h.rest ++ k.rest; joined = k.joined ∙ (a
 abbrev pub Writes : WorldConstruct → Type 0
 Writes c = (clauses : List Clause) (ts : Terms) (next : ℕ) (w : World) → IsPrefixOf w.written ((c.effect clauses ts next w).0).written
 
+character_grows : (t : Term) (w : World) → IsPrefixOf w.written (character_out t w).0.written
+character_grows t w = by (is_character t)
+  where
+    by : (b : Bool) → IsPrefixOf w.written (cond b (bytes_out (encode_utf8_all (name_of t)) w) (w, Ball (no_character_ball t))).0.written
+    by true = record { rest = _; joined = refl }
+    by false = front_same w.written
+
 pub all_write : Each Writes world_constructs
-all_write = tt
+all_write = (
+  λ clauses ts next w. record { rest = _; joined = refl },
+  (
+    λ clauses ts next w. record { rest = _; joined = refl },
+    (λ clauses ts next w. record { rest = _; joined = refl }, (λ clauses ts next w. record { rest = _; joined = refl }, (λ clauses ts next w. character_grows (term_at 0 ts) w, tt))),
+  ),
+)
 
 found_grows : (name : List ℕ) (arity : ℕ) (o : Option WorldConstruct) → IfFound (λ c. Writes c × (is_world_construct name arity c ≡ true)) o → (clauses : List Clause) (goal : Term) (next : ℕ) (w : World) → IsPrefixOf w.written ((by_world_construct o clauses goal next w).0).written
 found_grows name arity None h clauses goal next w = front_same w.written

@@ -14,5 +14,7 @@ pub mod AtomParts
 pub mod NumberTexts
 pub mod Sorting
 pub mod Builtins
+pub mod WorldConstructs
+pub mod OutputGoals
 pub mod Worlds
 pub mod GoalOutcomes

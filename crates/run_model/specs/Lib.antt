@@ -21,7 +21,9 @@ pub mod Programs
 --   NumberTexts       numbers and their texts
 --   Sorting           sorted lists
 --   Builtins          the table of built-in predicates
---   Worlds            the goals that look at the world or change it
+--   WorldConstructs   the world that the goals share
+--   OutputGoals       goals that write
+--   Worlds            the table of goals that look at the world or change it
 --   GoalOutcomes      the table of all goals
 pub mod Goals
 -- Machine: the sequential machine

@@ -7,6 +7,7 @@ pub mod ContinuationLemmas
 pub mod UnwindingLemmas
 pub mod UnnamedGoalLemmas
 pub mod InferenceLemmas
+pub mod EffectLemmas
 pub mod ReductionLemmas
 pub mod StepLemmas
 pub mod RunLemmas

@@ -15,7 +15,11 @@ use Rattle.au_model.specs.Writing.Lines.{answer_line, end_line}
 use Rattle.run_model.specs.Machine.Items.{GoalItem, Continuation, goals_at, resolve_named}
 use Rattle.run_model.specs.Machine.Entries.{Entry, PlainEntry, EndEntry}
 use Rattle.run_model.specs.Goals.Outcomes.{Outcome, Replies, Solutions, Ball, HaltNumber, Controls, AskWorld}
-use Rattle.run_model.specs.Machine.States.{State, opened, remaining_queries, item_taken, goal_taken, with_free_steps, step}
+use Rattle.au_model.specs.Syntax.Operators.{OperatorTable}
+use Rattle.run_model.specs.Goals.Worlds.{plain_world, world_step}
+use Rattle.run_model.specs.Machine.Heights.{after_control, after_reply}
+use Rattle.run_model.proofs.OutputLemmas.{world-after, world-without}
+use Rattle.run_model.specs.Machine.States.{State, opened, remaining_queries, item_taken, goal_taken, replied, with_free_steps, step}
 use Rattle.au_model.specs.Terms.Substitutions.{Substitution, resolve}
 use Rattle.au_model.specs.declared.types.VarName.{VarName}
 use Rattle.run_model.proofs.FreeStepLemmas.{all_settle}
@@ -34,7 +38,7 @@ use Rattle.text_load.specs.declared.job.Job.{Job}
 use Rattle.stack_run.specs.StackView.{item_view, items_view, continuation_view, frames_view, end_view, entries_under, stack_view}
 use Rattle.stack_run.specs.StackInvariant.{IsFit, AreFit, IsCurrentFit}
 use Rattle.stack_run.specs.FreeStepsTaken.{IsResting, with_current}
-use Rattle.stack_run.specs.Inferences.{IsWorking, HasEnd, IsUnhalted, IsNoHalt, IsNoMark, HasEntries, following, item_entries, outcome_entries, entries_below}
+use Rattle.stack_run.specs.Inferences.{IsWorking, HasEnd, IsUnhalted, IsNoHalt, IsNoMark, HasEntries, asked_of, following, item_bytes, item_entries, outcome_bytes, outcome_entries, entries_below}
 use Rattle.stack_run.specs.ItemsTaken.{BeginsWithNoMark, IsAtItem}
 use Rattle.stack_run.specs.MachineView.{names_asked, own_asked, stack_state, opened_state, ball_of, value_in, IsReady}
 use Rattle.stack_run.specs.declared.frame.Frame.{Frame}
@@ -162,32 +166,43 @@ answer_fit s w = record { sound = w.sound; current = subst (IsCurrentFit s.store
     never x = let y = w.ending.1 in cc
 
 -- an item is taken
+-- a goal of the world, after what was written before
+world_replies : (clauses : List Clause) (operators : OperatorTable) (goal : Term) (next : ℕ) (written : List ℕ)
+    → world_step clauses goal next (plain_world operators written) ≡ (plain_world operators (written ++ (asked_of operators goal next).0.written), (asked_of operators goal next).1)
+world_replies clauses operators goal next written = world-without clauses goal next (plain_world operators written) ∙ (world-after operators [] goal next).after written
+
 goal_goes : (clauses : List Clause) (o : Outcome) (h : ℕ) (f : Continuation ℕ) (es : List Entry) (job : Job) (written : List ℕ) (answers inferences : ℕ) (qs : List Query) (all : List Entry) → IsNoHalt o
-    → goal_taken clauses o h f es (state_of job written answers inferences qs all) ≡ state_of job written answers (inferences + 1) qs (outcome_entries o h f es)
-goal_goes clauses (Replies (Solutions ss)) h f es job written answers inferences qs all n = refl
-goal_goes clauses (Replies (Ball b)) h f es job written answers inferences qs all n = refl
+    → goal_taken clauses o h f es (state_of job written answers inferences qs all) ≡ state_of job (written ++ outcome_bytes job.ops o f.next) answers (inferences + 1) qs (outcome_entries job.ops o h f es)
+goal_goes clauses (Replies (Solutions ss)) h f es job written answers inferences qs all n = ap (λ bytes. state_of job bytes answers (inferences + 1) qs (after_reply (Solutions ss) f es)) (sym (append-nil written))
+goal_goes clauses (Replies (Ball b)) h f es job written answers inferences qs all n = ap (λ bytes. state_of job bytes answers (inferences + 1) qs (after_reply (Ball b) f es)) (sym (append-nil written))
 goal_goes clauses (Replies (HaltNumber k)) h f es job written answers inferences qs all n = absurd n
-goal_goes clauses (Controls form) h f es job written answers inferences qs all n = refl
-goal_goes clauses (AskWorld goal) h f es job written answers inferences qs all n = refl
+goal_goes clauses (Controls form) h f es job written answers inferences qs all n = ap (λ bytes. state_of job bytes answers (inferences + 1) qs (after_control form h f es)) (sym (append-nil written))
+goal_goes clauses (AskWorld goal) h f es job written answers inferences qs all n =
+    let asked = asked_of job.ops goal f.next in
+    let bytes = written ++ asked.0.written in
+    ap (λ r. replied r f es (state_of job written answers inferences qs all)) (world_replies clauses job.ops goal f.next written)
+    ∙ ap (λ halt. record { entries = after_reply asked.1 f es; world = plain_world job.ops bytes; queries = qs; answers = answers; inferences = inferences + 1; halted = halt }) (world-after job.ops [] goal f.next).unhalted
 
 item_goes : (clauses : List Clause) (own : List NamedTerm) (st : StoreView) (i : Item) (rest : List Item) (es : List Entry) (job : Job) (written : List ℕ) (answers inferences : ℕ) (qs : List Query) (all : List Entry) → IsNoMark i → IsUnhalted clauses st i
     → item_taken clauses (items_view st (i ∷ rest)) (continuation_view own st (i ∷ rest)) es (state_of job written answers inferences qs all)
-    ≡ state_of job written answers (inferences + 1) qs (item_entries clauses (item_view (substitution st) i) (continuation_view own st rest) es)
+    ≡ state_of job (written ++ item_bytes clauses job.ops (item_view (substitution st) i) st.next) answers (inferences + 1) qs (item_entries clauses job.ops (item_view (substitution st) i) (continuation_view own st rest) es)
 item_goes clauses own st (Goal t cut) rest es job written answers inferences qs all m g = goal_goes clauses (outcome_of clauses (resolve (substitution st) t) st.next) _ (continuation_view own st rest) es job written answers inferences qs all g
 item_goes clauses own st (CatchEnd scope) rest es job written answers inferences qs all m g = absurd m
 item_goes clauses own st (Collect t scope) rest es job written answers inferences qs all m g = absurd m
-item_goes clauses own st (Remove id) rest es job written answers inferences qs all m g = refl
-item_goes clauses own st (End ball) rest es job written answers inferences qs all m g = refl
+item_goes clauses own st (Remove id) rest es job written answers inferences qs all m g = ap (λ bytes. state_of job bytes answers (inferences + 1) qs es) (sym (append-nil written))
+item_goes clauses own st (End ball) rest es job written answers inferences qs all m g = ap (λ bytes. state_of job bytes answers (inferences + 1) qs es) (sym (append-nil written))
 
-pub infers_so : (job : Job) (clauses : List Clause) (asked answers : ℕ) (s new : Stack) (goals rest : List Item) (i : Item) (line : List ℕ) → clauses ≡ arc_value job.procs → goals ≡ i ∷ rest → IsNoMark i → IsUnhalted clauses s.store i → line ≡ []
-    → HasEntries (λ own. item_entries clauses (item_view (substitution s.store) i) (following s rest own) (entries_below s own)) new → (written : List ℕ) (inferences : ℕ)
+pub infers_so : (job : Job) (clauses : List Clause) (asked answers : ℕ) (s new : Stack) (goals rest : List Item) (i : Item) (before line : List ℕ) → clauses ≡ arc_value job.procs → goals ≡ i ∷ rest → IsNoMark i → IsUnhalted clauses s.store i → before ≡ []
+    → line ≡ before ++ item_bytes clauses job.ops (item_view (substitution s.store) i) s.store.next
+    → HasEntries (λ own. item_entries clauses job.ops (item_view (substitution s.store) i) (following s rest own) (entries_below s own)) new → (written : List ℕ) (inferences : ℕ)
     → stack_state job asked answers new (written ++ line) (inferences + 1) ≡ step (arc_value job.procs) (stack_state job asked answers (with_current goals s) written inferences)
-infers_so job clauses asked answers s new goals rest i line p g m o l v written inferences =
+infers_so job clauses asked answers s new goals rest i before line p g m o b l v written inferences =
     let qs = job.queries.items in
     let own = own_asked asked qs in
-    let bytes : written ++ line ≡ written = ap (λ x. written ++ x) l ∙ append-nil written in
-    ap (λ x. state_of job x answers (inferences + 1) (drop asked qs) (stack_view own new)) bytes
-    ∙ (ap (state_of job written answers (inferences + 1) (drop asked qs)) (v.view own)
+    let bytes = item_bytes clauses job.ops (item_view (substitution s.store) i) s.store.next in
+    let text : line ≡ bytes = l ∙ ap (λ x. x ++ bytes) b in
+    ap (λ x. state_of job (written ++ x) answers (inferences + 1) (drop asked qs) (stack_view own new)) text
+    ∙ (ap (state_of job (written ++ bytes) answers (inferences + 1) (drop asked qs)) (v.view own)
     ∙ (sym (item_goes clauses own s.store i rest (entries_below s own) job written answers inferences (drop asked qs) (stack_view own (with_current (i ∷ rest) s)) m o)
     ∙ (sym (plain_step clauses (stack_state job asked answers (with_current (i ∷ rest) s) written inferences) (continuation_view own s.store (i ∷ rest)) (entries_below s own) refl)
     ∙ (ap (λ is. step clauses (stack_state job asked answers (with_current is s) written inferences)) (sym g)
@@ -228,6 +243,10 @@ taken_state job asked answers s goals c written inferences =
 
 pub first_no_mark : (goals rest : List Item) (i : Item) → goals ≡ i ∷ rest → BeginsWithNoMark goals → IsNoMark i
 first_no_mark goals rest i e h = subst BeginsWithNoMark e h
+
+pub all_ok : {T E : Type 0} (r : Result T E) {A B C D : Type 0} → (A → B → C → D) → OnOk r A → OnOk r B → OnOk r C → OnOk r D
+all_ok (Ok x) f a b c = f a b c
+all_ok (Err x) f a b c = tt
 
 pub both_ok : {T E : Type 0} (r : Result T E) {A B C : Type 0} → (A → B → C) → OnOk r A → OnOk r B → OnOk r C
 both_ok (Ok x) f a b = f a b

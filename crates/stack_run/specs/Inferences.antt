@@ -7,10 +7,13 @@ use Rattle.au_model.specs.Terms.Named.{NamedTerm}
 use Rattle.run_model.specs.Programs.Clauses.{Clause}
 use Rattle.au_model.specs.Terms.Copies.{copied}
 use Rattle.run_model.specs.Goals.GoalOutcomes.{outcome_of}
-use Rattle.run_model.specs.Goals.Outcomes.{Outcome, Replies, Solutions, Ball, HaltNumber, Controls, AskWorld, ControlForm, TestOf, CatchOf, FindallOf}
+use Rattle.run_model.specs.Goals.Outcomes.{Outcome, Reply, Replies, Solutions, Ball, HaltNumber, Controls, AskWorld, ControlForm, TestOf, CatchOf, FindallOf}
 use Rattle.au_model.specs.Terms.Substitutions.{resolve}
 use Rattle.au_model.specs.Terms.Unifier.{unifier}
-use Rattle.run_model.specs.Goals.Worlds.{dynamic_call}
+use Rattle.run_model.specs.Goals.OutputGoals.{character_out, line_out, term_out}
+use Rattle.run_model.specs.Goals.Worlds.{World, plain_world, dynamic_call, world_step}
+use Rattle.au_model.specs.Syntax.Operators.{OperatorTable}
+use Rattle.au_model.specs.declared.types.Style.TheVariants.{Plain, Quoted, Canonical}
 use Rattle.run_model.specs.Machine.Items.{Item as ItemTerms, GoalItem, CatchMark, CollectMark, RemovalItem, Continuation}
 use Rattle.run_model.specs.Machine.Balls.{unwound, recovered}
 use Rattle.run_model.specs.Machine.Entries.{Entry}
@@ -75,18 +78,34 @@ branch_entry own st b = choice_view own st (BranchChoice b)
 abbrev pub height_at : Option ℕ → Option ℕ
 height_at place = option_map (λ i. suc i) place
 
--- what takes the place of a goal by its outcome, where no procedure is dynamic
-abbrev pub outcome_entries : Outcome → ℕ → Continuation ℕ → List Entry → List Entry
-outcome_entries (Replies r) h f es = after_reply r f es
-outcome_entries (Controls form) h f es = after_control form h f es
-outcome_entries (AskWorld goal) h f es = after_reply (dynamic_call None goal f.next) f es
+-- what a goal of the world comes to where nothing is written and no procedure is dynamic, whatever the text's clauses are
+abbrev pub asked_of : OperatorTable → Term → ℕ → World × Reply
+asked_of operators goal next = world_step [] goal next (plain_world operators [])
+
+-- what takes the place of a goal by its outcome
+abbrev pub outcome_entries : OperatorTable → Outcome → ℕ → Continuation ℕ → List Entry → List Entry
+outcome_entries operators (Replies r) h f es = after_reply r f es
+outcome_entries operators (Controls form) h f es = after_control form h f es
+outcome_entries operators (AskWorld goal) h f es = after_reply (asked_of operators goal f.next).1 f es
+
+-- and what is written
+abbrev pub outcome_bytes : OperatorTable → Outcome → ℕ → List ℕ
+outcome_bytes operators (Replies r) next = []
+outcome_bytes operators (Controls form) next = []
+outcome_bytes operators (AskWorld goal) next = (asked_of operators goal next).0.written
 
 -- by the item in front; a removal fails where no procedure is dynamic
-abbrev pub item_entries : List Clause → ItemTerms ℕ → Continuation ℕ → List Entry → List Entry
-item_entries clauses (GoalItem g h) f es = outcome_entries (outcome_of clauses g f.next) h f es
-item_entries clauses (CatchMark h) f es = es
-item_entries clauses (CollectMark t h) f es = es
-item_entries clauses (RemovalItem n) f es = es
+abbrev pub item_entries : List Clause → OperatorTable → ItemTerms ℕ → Continuation ℕ → List Entry → List Entry
+item_entries clauses operators (GoalItem g h) f es = outcome_entries operators (outcome_of clauses g f.next) h f es
+item_entries clauses operators (CatchMark h) f es = es
+item_entries clauses operators (CollectMark t h) f es = es
+item_entries clauses operators (RemovalItem n) f es = es
+
+abbrev pub item_bytes : List Clause → OperatorTable → ItemTerms ℕ → ℕ → List ℕ
+item_bytes clauses operators (GoalItem g h) next = outcome_bytes operators (outcome_of clauses g next) next
+item_bytes clauses operators (CatchMark h) next = []
+item_bytes clauses operators (CollectMark t h) next = []
+item_bytes clauses operators (RemovalItem n) next = []
 
 -- an item that is no mark
 abbrev pub IsNoMark : Item → Type 0
@@ -136,10 +155,21 @@ opened_form st (opening.Condition c t e) = TestOf (goals_of (resolve (substituti
 opened_form st (opening.Catch g c r) = CatchOf (resolve (substitution st) g) (resolve (substitution st) c) (resolve (substitution st) r)
 opened_form st (opening.Findall t g l) = FindallOf (resolve (substitution st) t) (resolve (substitution st) g) (resolve (substitution st) l)
 
--- what takes the place of an effect: the call of a procedure that is not there raises its error, others fail
-abbrev pub gate_entries : Effect → Continuation ℕ → List Entry → List Entry
-gate_entries (effect.Call goal) f es = after_reply (dynamic_call None goal f.next) f es
-gate_entries e f es = es
+-- what an effect comes to: the call of a procedure that is not there raises its error, a removal fails
+abbrev pub gate_answer : OperatorTable → Effect → ℕ → World × Reply
+gate_answer operators (effect.Write t) next = term_out Plain t (plain_world operators [])
+gate_answer operators (effect.Writeq t) next = term_out Quoted t (plain_world operators [])
+gate_answer operators (effect.WriteCanonical t) next = term_out Canonical t (plain_world operators [])
+gate_answer operators effect.Nl next = line_out (plain_world operators [])
+gate_answer operators (effect.PutChar t) next = character_out t (plain_world operators [])
+gate_answer operators (effect.Call goal) next = (plain_world operators [], dynamic_call None goal next)
+gate_answer operators e next = (plain_world operators [], Solutions [])
+
+abbrev pub gate_entries : OperatorTable → Effect → Continuation ℕ → List Entry → List Entry
+gate_entries operators e f es = after_reply (gate_answer operators e f.next).1 f es
+
+abbrev pub gate_bytes : OperatorTable → Effect → List ℕ
+gate_bytes operators e = (gate_answer operators e 0).0.written
 
 -- a goal that does not end the run
 abbrev pub IsNoHalt : Outcome → Type 0
@@ -157,6 +187,6 @@ IsUnhalted clauses st (Remove id) = Unit {0}
 IsUnhalted clauses st (End ball) = Unit {0}
 
 -- the stack goes on as the item in front says
-abbrev pub TakesItem : List Clause → Item → List Item → Stack → Stack → Type 0
-TakesItem clauses item rest old new =
-    HasEntries (λ own. item_entries clauses (item_view (substitution old.store) item) (following old rest own) (entries_below old own)) new
+abbrev pub TakesItem : List Clause → OperatorTable → Item → List Item → Stack → Stack → Type 0
+TakesItem clauses operators item rest old new =
+    HasEntries (λ own. item_entries clauses operators (item_view (substitution old.store) item) (following old rest own) (entries_below old own)) new

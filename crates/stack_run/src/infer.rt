@@ -16,33 +16,37 @@ ghost use Rattle.bind_store.specs.StoreView.{substitution};
 ghost use Rattle.engine_core.specs.Branches.{IsItemBelow};
 ghost use Rattle.stack_run.specs.StackView.{items_view, item_view, scope_height};
 ghost use Rattle.stack_run.specs.StackInvariant.{IsChoiceFit};
-ghost use Rattle.stack_run.specs.Inferences.{IsWorking, IsUnhalted, HasEntries, IsNoMark, branch_entry, cut_of, following, gate_entries, item_entries, entries_below, TakesItem};
+ghost use Rattle.stack_run.specs.Inferences.{IsWorking, IsUnhalted, HasEntries, IsNoMark, branch_entry, cut_of, following, item_bytes, entries_below, TakesItem};
 
 use crate::frame::{Choice, Stack};
+use crate::effects::pass_gate;
 use crate::free_steps::place_of;
 use crate::open::open;
 use crate::stack::push_branches;
 use crate::unwinding::unwind;
-use au_model::Fault;
-use au_term::{Atom, Cell, FlatTerm, NoMemory};
-use clause_compile::{Branch, Effect, Goals, Item, Scope};
+use au_term::NoMemory;
+use clause_compile::{Branch, Goals, Item, Scope};
 use engine_core::{Reduction, reduce};
+use op_table::Ops;
 use proc_index::Procs;
 use std::alloc::Global;
 
-/// Takes the item that was in front of the current alternative.
+/// Takes the item that was in front of the current alternative. What it writes comes after the bytes of `line`.
 pub(crate) fn infer(
     alloc: Global,
     item: &Item,
     rest: &Goals,
     procs: &Procs,
+    ops: &Ops,
     stack: &mut Stack,
+    line: &mut Vec<u8>,
 ) -> Result<(), NoMemory>
     requires work { IsWorking stack.old }
     requires item { IsItemBelow stack.old.store.next item.now }
     requires rest { Each (IsItemBelow stack.old.store.next) rest.now }
     requires goal { IsNoMark item.now }
-    ensures leaves { OnOk result (TakesItem procs.now item.now rest.now stack.old stack.new) }
+    ensures leaves { OnOk result (TakesItem procs.now ops.now item.now rest.now stack.old stack.new) }
+    ensures line { OnOk result (line.new.items ≡ line.old.items ++ item_bytes procs.now ops.now (item_view (substitution stack.old.store) item.now) stack.old.store.next) }
     ensures halts { OnOk result (IsUnhalted procs.now stack.old.store item.now) }
 {
     let here = Scope::Local(stack.frames.len() as u64);
@@ -51,24 +55,8 @@ pub(crate) fn infer(
         Reduction::Raise(ball) => unwind(alloc, &ball, rest, stack),
         Reduction::Prune(scope) => prune(scope, rest, stack),
         Reduction::Open(opening) => open(alloc, opening, cut_of(item), rest, stack),
-        Reduction::Gate(effect) => pass_gate(alloc, &effect, rest, stack),
+        Reduction::Gate(effect) => pass_gate(alloc, &effect, rest, ops, stack, line),
         Reduction::Collect(_) => Ok(()),
-    }
-}
-
-/// Takes a goal of a procedure that is not static; no clause is there to be removed.
-fn pass_gate(
-    alloc: Global,
-    effect: &Effect,
-    rest: &Goals,
-    stack: &mut Stack,
-) -> Result<(), NoMemory>
-    requires { IsWorking stack.old }
-    ensures { OnOk result (HasEntries (λ own. gate_entries effect.now (following stack.old rest.now own) (entries_below stack.old own)) stack.new) }
-{
-    match effect {
-        Effect::Call(goal) => raise_unknown(alloc, goal, rest, stack),
-        _ => Ok(()),
     }
 }
 
@@ -101,31 +89,4 @@ fn prune(scope: Scope, rest: &Goals, stack: &mut Stack) -> Result<(), NoMemory>
     stack.frames.truncate(place_of(scope) as usize);
     stack.current = Some(rest.share()?);
     Ok(())
-}
-
-/// The error of a procedure that is not there (7.7.7).
-fn raise_unknown(
-    alloc: Global,
-    goal: &FlatTerm,
-    rest: &Goals,
-    stack: &mut Stack,
-) -> Result<(), NoMemory>
-    requires { IsWorking stack.old }
-    ensures { OnOk result (HasEntries (λ own. after_reply (dynamic_call None goal.now stack.old.store.next) (following stack.old rest.now own) (entries_below stack.old own)) stack.new) }
-{
-    let name = name_of(alloc, goal)?;
-    let arity = goal.arity();
-    let fault = Fault::Existence(name.share()?, arity);
-    let ball = fault.term(alloc, &name, arity)?;
-    unwind(alloc, &ball, rest, stack)
-}
-
-/// The name of a goal.
-fn name_of(alloc: Global, goal: &FlatTerm) -> Result<Atom, NoMemory>
-    ensures { IfOk result (λ a. a ≡ name_of goal.now) }
-{
-    match goal.top() {
-        Cell::Atom(name) | Cell::Functor(name, _) => name.share(),
-        _ => Atom::ascii(alloc, ""),
-    }
 }

@@ -128,7 +128,15 @@ fn take_item(alloc: Global, job: &Job, goals: &Goals, machine: &mut Machine) -> 
         None => answer(alloc, job, machine),
         Some(item) => {
             let rest = goals.rest()?;
-            infer(alloc, item, &rest, &job.procs, &mut machine.stack)
+            infer(
+                alloc,
+                item,
+                &rest,
+                &job.procs,
+                &job.ops,
+                &mut machine.stack,
+                &mut machine.line,
+            )
         }
     }
 }

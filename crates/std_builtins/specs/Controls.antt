@@ -1,6 +1,5 @@
 -- Which goals are of a control construct, by name and number of arguments.
-use Rattle.std.specs.Prelude.{◌≡◌, ◌⊎◌, ℕ, ◌≤◌, cond, List, [], ◌∷◌, Option, Some, None, codes}
-use Rattle.std_builtins.specs.Rows.{is_row}
+use Rattle.std.specs.Prelude.{◌≡◌, ◌⊎◌, ℕ, ◌≤◌, List, codes}
 use Rattle.std_builtins.specs.declared.control.Control.{Control}
 use Rattle.std_builtins.specs.declared.control.Control.TheVariants.{Succeed, Fail, Cut, Either, Then, Not, Once, Throw, Catch, Findall, Call}
 
@@ -20,8 +19,3 @@ IsControl Call name arity = (name ≡ codes "call") × (1 ≤ arity) × (arity �
 -- a name, a number of arguments, and the construct
 abbrev pub ControlRow : Type 0
 ControlRow = List ℕ × ℕ × Control
-
--- the construct of the first row with this name and number of arguments
-abbrev pub control_in : List ℕ → ℕ → List ControlRow → Option Control
-control_in name arity [] = None
-control_in name arity (row ∷ rows) = cond (is_row name arity row.0 row.1) (Some row.2) (control_in name arity rows)

@@ -2,6 +2,7 @@ pub mod Answers
 pub mod Meanings
 pub mod Rows
 pub mod Controls
+pub mod WorldGoals
 pub mod Lists
 pub mod Characters
 pub mod Checks

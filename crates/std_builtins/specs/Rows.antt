@@ -14,10 +14,10 @@ Row = List ℕ × ℕ × Builtin
 abbrev pub is_row : List ℕ → ℕ → List ℕ → ℕ → Bool
 is_row name arity row count = same_name row name && count == arity
 
--- the case of the first row with this name and number of arguments
-abbrev pub builtin_in : List ℕ → ℕ → List Row → Option Builtin
-builtin_in name arity [] = None
-builtin_in name arity (row ∷ rows) = cond (is_row name arity row.0 row.1) (Some row.2) (builtin_in name arity rows)
+-- what the first row with this name and number of arguments names
+abbrev pub kind_in : {K : Type 0} → List ℕ → ℕ → List (List ℕ × ℕ × K) → Option K
+kind_in name arity [] = None
+kind_in name arity (row ∷ rows) = cond (is_row name arity row.0 row.1) (Some row.2) (kind_in name arity rows)
 
 -- the definition's row of a name and number of arguments answers as a case does
 pub record IsRowOf (name : List ℕ) (arity : ℕ) (b : Builtin) : Type 0 where

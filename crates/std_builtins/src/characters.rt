@@ -25,7 +25,7 @@ fn only_character(text: &str) -> Option<char>
 }
 
 /// The character that a term is, if it is one.
-pub(crate) fn character(term: &FlatTerm) -> Option<char>
+pub fn character(term: &FlatTerm) -> Option<char>
     ensures { MatchOption result (is_character term.now ≡ false) (λ c. term.now ≡ AtomTerm (c ∷ [])) }
 {
     match term.top() {

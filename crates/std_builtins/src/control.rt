@@ -4,7 +4,8 @@ ghost use Rattle.std.specs.List.{list_any};
 ghost use Rattle.std_builtins.specs.Rows.{is_row as is_row_of};
 ghost use Rattle.std.specs.Str.{chars};
 ghost use Rattle.run_model.specs.Goals.Control.{construct_of, control_constructs};
-ghost use Rattle.std_builtins.specs.Controls.{IsControl, control_in};
+ghost use Rattle.std_builtins.specs.Controls.{IsControl};
+ghost use Rattle.std_builtins.specs.Rows.{kind_in};
 
 use crate::table::is_row;
 
@@ -56,7 +57,7 @@ pub fn control_of(name: &str, arity: u32) -> Option<Control>
 
 /// The construct of the first of these rows that has this name and number of arguments.
 fn control_among(rows: &[(&str, u32, Control)], name: &str, arity: u32) -> Option<Control>
-    ensures { result ≡ control_in (chars name.now) arity (map (λ row. (chars row.0.now, row.1, row.2)) rows.now) }
+    ensures { result ≡ kind_in (chars name.now) arity (map (λ row. (chars row.0.now, row.1, row.2)) rows.now) }
 {
     for row in rows {
         if is_row(row.0, row.1, name, arity) {

@@ -4,7 +4,7 @@ ghost use Rattle.std.specs.List.{list_any};
 ghost use Rattle.std.specs.Str.{chars};
 ghost use Rattle.run_model.specs.Goals.Control.{construct_of};
 ghost use Rattle.run_model.specs.Goals.Builtins.{builtins};
-ghost use Rattle.std_builtins.specs.Rows.{builtin_in, is_row, IsRowOf};
+ghost use Rattle.std_builtins.specs.Rows.{kind_in, is_row, IsRowOf};
 
 use crate::comparisons::Comparison;
 use crate::spelling::Spelling;
@@ -87,7 +87,7 @@ pub fn builtin_of(name: &str, arity: u32) -> Option<Builtin>
 
 /// The case of the first of these rows that has this name and number of arguments.
 fn builtin_among(rows: &[(&str, u32, Builtin)], name: &str, arity: u32) -> Option<Builtin>
-    ensures { result ≡ builtin_in (chars name.now) arity (map (λ row. (chars row.0.now, row.1, row.2)) rows.now) }
+    ensures { result ≡ kind_in (chars name.now) arity (map (λ row. (chars row.0.now, row.1, row.2)) rows.now) }
 {
     for row in rows {
         if is_row(row.0, row.1, name, arity) {

@@ -1,33 +1,17 @@
--- The world that the goals of a run share, and the goals that look at it or change it.
-use Rattle.std.specs.Prelude.{ℕ, Bool, ◌&&◌, ◌==◌, List, [], Option, Some, None, find, is_some}
-use Rattle.au_term.specs.Term.{Term, Terms, arguments, argument_count}
+-- Goals that look at the world or change it: the table, and what they come to.
+pub use Rattle.run_model.specs.Goals.WorldConstructs.{World, first_world, plain_world, writes, WorldConstruct}
+use Rattle.std.specs.Prelude.{ℕ, Bool, ◌&&◌, ◌==◌, List, Option, Some, None, find, is_some}
+use Rattle.au_term.specs.Term.{Term, arguments, argument_count}
 use Rattle.au_model.specs.Terms.Forms.{same_name, name_of, indicator}
 use Rattle.run_model.specs.Programs.Clauses.{Clause}
 use Rattle.au_model.specs.Terms.ErrorTerms.{error_term, existence_error}
 use Rattle.run_model.specs.Goals.Outcomes.{Reply, Solutions, Ball, alternatives_of}
-use Rattle.au_model.specs.Syntax.Operators.{OperatorTable}
-use Rattle.run_model.specs.Programs.Jobs.{Job}
-use Rattle.run_model.specs.Programs.Databases.{Database, NumberedClause, clauses_of, plain_clauses}
-
--- the bytes written, the dynamic procedures, and the operators
-pub record World : Type 0 where
-  pub written : List ℕ
-  pub database : Database
-  pub operators : OperatorTable
-
--- a run begins with nothing written, and with the job's dynamic procedures and operators
-abbrev pub first_world : Job → World
-first_world job = record { written = []; database = job.database; operators = job.operators }
-
--- what goals of a name and number of arguments do: by the text's clauses, their arguments, the next number and the world
-pub record WorldConstruct : Type 0 where
-  pub name : List ℕ
-  pub arity : ℕ
-  pub effect : List Clause → Terms → ℕ → World → World × Reply
+use Rattle.run_model.specs.Goals.OutputGoals.{output_goals}
+use Rattle.run_model.specs.Programs.Databases.{NumberedClause, clauses_of, plain_clauses}
 
 -- one row for each
 abbrev pub world_constructs : List WorldConstruct
-world_constructs = []
+world_constructs = output_goals
 
 abbrev pub is_world_construct : List ℕ → ℕ → WorldConstruct → Bool
 is_world_construct name arity c = same_name c.name name && c.arity == arity

@@ -1,10 +1,10 @@
 -- The state of the sequential machine, and one inference of it.
-use Rattle.std.specs.Prelude.{ℕ, ◌+◌, List, [], ◌∷◌, ◌++◌, Option, Some, None}
+use Rattle.std.specs.Prelude.{ℕ, ◌+◌, List, [], ◌∷◌, Option, Some, None}
 use Rattle.au_term.specs.Term.{Term}
 use Rattle.au_model.specs.Writing.Lines.{answer_line, end_line}
 use Rattle.run_model.specs.Programs.Clauses.{Clause}
 use Rattle.run_model.specs.Programs.Databases.{Database, without_clause}
-use Rattle.run_model.specs.Goals.Worlds.{World, world_step}
+use Rattle.run_model.specs.Goals.Worlds.{World, writes, world_step}
 use Rattle.run_model.specs.Goals.Outcomes.{Reply, Solutions, Ball, HaltNumber, Outcome, Replies, Controls, AskWorld}
 use Rattle.run_model.specs.Goals.GoalOutcomes.{outcome_of}
 use Rattle.run_model.specs.Machine.Items.{Item, GoalItem, CatchMark, CollectMark, RemovalItem, Continuation, with_items, goals_at}
@@ -31,9 +31,6 @@ opened (q ∷ qs) = PlainEntry (record { items = goals_at 1 q.goals; named = own
 abbrev pub remaining_queries : List Query → List Query
 remaining_queries [] = []
 remaining_queries (q ∷ qs) = qs
-
-abbrev pub writes : List ℕ → World → World
-writes bytes w = record w { written = w.written ++ bytes }
 
 -- one inference that leaves these entries
 abbrev pub with_entries : List Entry → State → State

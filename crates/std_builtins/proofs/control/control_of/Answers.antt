@@ -1,11 +1,11 @@
-use Rattle.std.proofs.Common.{◌∷◌, [], inl, inr, refl, sym, arith, List}
+use Rattle.std.proofs.Common.{◌∷◌, [], inl, inr, refl, sym, arith, is_some, List}
 use Rattle.std.specs.Prelude.{codes}
 use Rattle.std.specs.Str.{chars}
-use Rattle.std_builtins.specs.Controls.{ControlRow}
+use Rattle.std_builtins.specs.Controls.{ControlRow, IsControl}
 use Rattle.std_builtins.specs.declared.control.Control.TheVariants.{Succeed, Fail, Cut, Either, Then, Not, Once, Throw, Catch, Findall, Call}
-use Rattle.run_model.specs.Goals.Control.{is_named, control_constructs}
+use Rattle.run_model.specs.Goals.Control.{is_named, construct_of, control_constructs}
 use Rattle.run_model.proofs.ReservedNameLemmas.{found_any}
-use Rattle.std_builtins.proofs.ControlLemmas.{found_control}
+use Rattle.std_builtins.proofs.ControlLemmas.{found_kind}
 use Rattle.std_builtins.proofs.control.control_of.Goals as goal
 
 -- the rows, read
@@ -19,6 +19,6 @@ unfolding chars
 returns c =
     let name = chars c.args.name.now in
     let arity = c.args.arity in
-    found_control name name arity rows c.control_among.result c.control_among.ensures refl
+    found_kind IsControl name arity name rows c.control_among.result (is_some (construct_of control_constructs name arity)) c.control_among.ensures refl
     ((refl, refl), ((inl refl, refl), ((inr refl, refl), ((refl, refl), ((refl, refl), ((refl, refl), ((refl, refl), ((refl, refl), ((refl, refl), ((refl, refl), ((refl, refl), ((refl, omega arith, omega arith), ((refl, omega arith, omega arith), ((refl, omega arith, omega arith), ((refl, omega arith, omega arith), ((refl, omega arith, omega arith), ((refl, omega arith, omega arith), ((refl, omega arith, omega arith), ((refl, omega arith, omega arith), tt)))))))))))))))))))
     (sym (found_any (is_named name arity) control_constructs))
