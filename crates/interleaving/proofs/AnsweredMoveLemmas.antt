@@ -4,7 +4,7 @@ use Rattle.std.proofs.Common.{subst, arith}
 use Rattle.run_model.specs.Machine.Items.{Item, GoalItem, CatchMark, CollectMark, RemovalItem, Continuation, with_items, without_marks}
 use Rattle.run_model.specs.Machine.Entries.{PlainEntry}
 use Rattle.au_model.specs.Writing.Lines.{answer_line}
-use Rattle.run_model.specs.Machine.States.{writes}
+use Rattle.run_model.specs.Goals.Worlds.{writes}
 use Rattle.tree_model.specs.Credits.{Credit as TreeCredit}
 use Rattle.tree_model.specs.Nodes.{Pending, Closed}
 use Rattle.tree_model.specs.Levels.{plug, Spot, levels_of}

@@ -4,9 +4,8 @@ use Rattle.std.proofs.Common.{subst}
 use Rattle.au_term.specs.Term.{Term}
 use Rattle.run_model.specs.Programs.Clauses.{Clause}
 use Rattle.run_model.specs.Programs.Databases.{Database, without_clause}
-use Rattle.run_model.specs.Goals.Worlds.{World, world_step}
+use Rattle.run_model.specs.Goals.Worlds.{World, world_step, writes}
 use Rattle.au_model.specs.Writing.Lines.{answer_line, end_line}
-use Rattle.run_model.specs.Machine.States.{writes}
 use Rattle.run_model.specs.Programs.Jobs.{Query}
 use Rattle.run_model.specs.Goals.GoalOutcomes.{outcome_of}
 use Rattle.run_model.specs.Machine.Balls.{unwound}

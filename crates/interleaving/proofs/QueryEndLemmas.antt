@@ -4,7 +4,8 @@ use Rattle.std.proofs.Common.{ap, ◌∙◌, subst, arith}
 use Rattle.au_term.specs.Term.{Term}
 use Rattle.run_model.specs.Programs.Jobs.{Query, own_terms, query_bound}
 use Rattle.au_model.specs.Writing.Lines.{end_line}
-use Rattle.run_model.specs.Machine.States.{writes, remaining_queries}
+use Rattle.run_model.specs.Goals.Worlds.{writes}
+use Rattle.run_model.specs.Machine.States.{remaining_queries}
 use Rattle.run_model.specs.Machine.Items.{GoalItem, goals_at}
 use Rattle.run_model.specs.Machine.Entries.{PlainEntry, EndEntry}
 use Rattle.tree_model.specs.Credits.{credit_of}

@@ -7,7 +7,7 @@ use Rattle.au_model.specs.Terms.Copies.{copied, copy_takes}
 use Rattle.run_model.specs.Programs.Clauses.{Clause}
 use Rattle.run_model.specs.Programs.Databases.{Database, without_clause}
 use Rattle.au_model.specs.Writing.Lines.{answer_line, end_line}
-use Rattle.run_model.specs.Goals.Worlds.{World, world_step}
+use Rattle.run_model.specs.Goals.Worlds.{World, world_step, writes}
 use Rattle.run_model.specs.Goals.Outcomes.{Reply, Solutions, Ball, HaltNumber, ControlForm, GoesOnWith, EitherOf, TestOf, CutToScope}
 use Rattle.run_model.specs.Goals.Outcomes.{CatchOf}
 use Rattle.run_model.specs.Goals.Outcomes.{FindallOf, Outcome, Replies, Controls, AskWorld}
@@ -19,7 +19,7 @@ use Rattle.run_model.specs.Machine.Entries.{Entry, PlainEntry, CatchEntry, Finda
 use Rattle.run_model.specs.Machine.Balls.{taken_by, next_mark}
 use Rattle.run_model.specs.Machine.Heights.{goals_entry, test_items, guarded_goal}
 use Rattle.au_model.specs.Terms.Forms.{binary, list_term}
-use Rattle.run_model.specs.Machine.States.{opened, writes, halt_number, remaining_queries}
+use Rattle.run_model.specs.Machine.States.{opened, halt_number, remaining_queries}
 use Rattle.interleaving.specs.Scopes.{Shared}
 
 pub data HeightElement : Type 0 where

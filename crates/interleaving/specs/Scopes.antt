@@ -9,7 +9,7 @@ use Rattle.au_model.specs.Terms.Copies.{copied, copy_takes}
 use Rattle.run_model.specs.Programs.Clauses.{Clause}
 use Rattle.run_model.specs.Programs.Databases.{Database, without_clause}
 use Rattle.au_model.specs.Writing.Lines.{answer_line, end_line}
-use Rattle.run_model.specs.Goals.Worlds.{World, world_step}
+use Rattle.run_model.specs.Goals.Worlds.{World, world_step, writes}
 use Rattle.run_model.specs.Goals.Outcomes.{Solution, Reply, Solutions, Ball, HaltNumber, ControlForm, GoesOnWith, EitherOf, TestOf}
 use Rattle.run_model.specs.Goals.Outcomes.{CutToScope}
 use Rattle.run_model.specs.Goals.Outcomes.{CatchOf, FindallOf, Outcome, Replies, Controls, AskWorld}
@@ -18,7 +18,7 @@ use Rattle.run_model.specs.Machine.Items.{Item, GoalItem, CatchMark, CollectMark
 use Rattle.run_model.specs.Machine.Items.{with_items, with_next, before, without_marks, first_mark}
 use Rattle.run_model.specs.Programs.Jobs.{Query, Job, own_terms, query_bound}
 use Rattle.run_model.specs.Goals.Worlds.{first_world}
-use Rattle.run_model.specs.Machine.States.{State, writes, halt_number, remaining_queries}
+use Rattle.run_model.specs.Machine.States.{State, halt_number, remaining_queries}
 use Rattle.interleaving.specs.Machine.{Machine, Act, Drops, Becomes, Infers, AsksWorld, Look, On, Here, Replacement, Put, Only, Seek}
 use Rattle.tree_model.specs.Elements.{Name, same, Record, Element, Credit, Plain, EndOf, Catch, Findall, End}
 

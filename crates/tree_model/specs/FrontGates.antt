@@ -2,7 +2,7 @@
 use Rattle.std.specs.Prelude.{ℕ, List, [], ◌∷◌, Option, Some, None, length}
 use Rattle.run_model.specs.Programs.Clauses.{Clause}
 use Rattle.run_model.specs.Programs.Databases.{Database, without_clause}
-use Rattle.run_model.specs.Goals.Worlds.{World, world_step}
+use Rattle.run_model.specs.Goals.Worlds.{World, world_step, writes}
 use Rattle.run_model.specs.Goals.Outcomes.{Reply, Solutions, Ball, HaltNumber, Outcome, Replies, Controls, AskWorld}
 use Rattle.run_model.specs.Goals.GoalOutcomes.{outcome_of}
 use Rattle.au_model.specs.Writing.Lines.{answer_line, end_line}
@@ -10,7 +10,6 @@ use Rattle.run_model.specs.Machine.Items.{Item, GoalItem, CatchMark, CollectMark
 use Rattle.run_model.specs.Machine.Items.{first_mark}
 use Rattle.run_model.specs.Machine.Entries.{Entry, PlainEntry, CatchEntry, FindallEntry, EndEntry, solution_entries}
 use Rattle.run_model.specs.Machine.Balls.{unwound}
-use Rattle.run_model.specs.Machine.States.{writes}
 
 pub data Taken : Type 0 where
   -- these entries are left in its place
