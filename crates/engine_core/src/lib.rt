@@ -12,6 +12,7 @@ mod procedure;
 pub mod reduction;
 #[cfg(test)]
 mod tests;
+mod told_apart;
 
 pub use bodies::goals_before;
 pub use items::reduce;

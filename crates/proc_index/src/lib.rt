@@ -9,5 +9,5 @@ mod procs;
 #[cfg(test)]
 mod tests;
 
-pub use key::Key;
+pub use key::{Key, cells_tell_apart};
 pub use procs::{Candidates, Procs};
