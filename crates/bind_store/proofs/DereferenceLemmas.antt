@@ -10,7 +10,7 @@ use Rattle.bind_store.specs.Bindings.{Binding, value_at, variable_at, substituti
 use Rattle.bind_store.specs.ResolvedCells.{IsCellEnd}
 use Rattle.bind_store.specs.StoreView.{IsUnbound, pairs_of}
 use Rattle.bind_store.proofs.DereferencedTermLemmas.{no_end}
-use Rattle.bind_store.proofs.ResolvedLemmas.{variable_top, free-bound}
+use Rattle.bind_store.proofs.ResolvedLemmas.{variable_top, free-bound, top_of-resolve}
 
 first_cell : (t : Term) (c : Cell) (cs : List Cell) → cells_of t ≡ c ∷ cs → c ≡ top_of t
 first_cell (VarTerm n) c cs e = cc
@@ -35,6 +35,15 @@ reached_value bs term i c cs e h = reached_by bs term i c (sym (first_cell term 
 
 pub reached_itself : (bs : List Binding) (term : Term) (c : Cell) (cs : List Cell) → cells_of term ≡ c ∷ cs → IsCellEnd bs c None → IsReached bs (top_of term)
 reached_itself bs term c cs e h = subst (IsReached bs) (first_cell term c cs e) (no_end bs c h)
+
+-- the first cell of what a term stands for
+pub top_itself : (bs : List Binding) (t : Term) (c : Cell) → top_of t ≡ c → IsCellEnd bs c None → c ≡ top_of (resolve (substitution_of bs) t)
+top_itself bs t c e h = sym e ∙ sym (top_of-resolve bs t (subst (IsReached bs) (sym e) (no_end bs c h)))
+
+pub top_value : (bs : List Binding) (t : Term) (i : ℕ) (c d : Cell) (ds : List Cell) → top_of t ≡ c → IsCellEnd bs c (Some i) → cells_of (value_at bs i) ≡ d ∷ ds → d ≡ top_of (resolve (substitution_of bs) t)
+top_value bs t i c d ds e h first =
+    let r = reached_by bs t i c e h in
+    first_cell (value_at bs i) d ds first ∙ (sym (top_of-resolve bs (value_at bs i) r.reached) ∙ ap top_of r.same)
 
 pub unbound : (bs : List Binding) (t : Term) → IsReached bs (top_of t) → IsUnbound (substitution_of bs) t
 unbound bs (VarTerm n) h = free-bound bs n h

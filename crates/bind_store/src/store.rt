@@ -1,5 +1,7 @@
 //! The store of a branch: its bindings and its next variable number.
-ghost use Rattle.std.specs.Prelude.{◌≡◌, ◌≤◌, ◌++◌, ◌∷◌, [], IfOk, OnOk, OnErr};
+ghost use Rattle.std.specs.Prelude.{◌≡◌, ◌<◌, ◌≤◌, ◌++◌, ◌∷◌, [], length, IfOk, OnOk, OnErr};
+ghost use Rattle.au_term.specs.PrefixOrder.{cells_of, subterm, top_of};
+ghost use Rattle.au_term.specs.Shifted.{shifted_cell};
 ghost use Rattle.au_term.specs.Term.{var_bound};
 ghost use Rattle.au_model.specs.Terms.Copies.{copied, copy_takes};
 ghost use Rattle.au_model.specs.Terms.Substitutions.{resolve};
@@ -13,7 +15,7 @@ use crate::resolved::resolved;
 use crate::unify::{Equation, Place, Sides, Source, extend};
 use crate::walk::end_of_cell;
 use au_model::copies::copy_term;
-use au_term::{Binding, Bindings as BindingList, FlatTerm, NoMemory, Segment, Shared, VarNo};
+use au_term::{Binding, Bindings as BindingList, Cell, FlatTerm, NoMemory, Segment, Shared, VarNo};
 use std::alloc::Global;
 use std::marker::Model;
 
@@ -160,6 +162,18 @@ impl Store {
         ensures { IfOk result (λ t. IsDereferencedTerm self.now term.now t) }
     {
         reached(term, &self.bindings)
+    }
+
+    /// The first cell of what the subterm at a place of a term stands for, and what is to be added to its variable.
+    pub fn top_at<'a>(&'a self, term: &'a Shared, at: usize) -> (&'a Cell, VarNo)
+        requires { at < length (cells_of term.now) }
+        ensures { shifted_cell result.1 result.0.now ≡ top_of (resolve (substitution self.entry.now) (subterm at term.entry.now)) }
+    {
+        let (cell, base) = term.cell_at(at);
+        match end_of_cell(cell, base, &self.bindings) {
+            None => (cell, base),
+            Some(place) => self.bindings.value(place).cell_at(0),
+        }
     }
 
     /// A copy of a term, whose variables take the next numbers in order of first occurrence.

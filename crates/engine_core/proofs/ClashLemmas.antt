@@ -143,21 +143,6 @@ no_arguments s (AtomTerm a) h e = refl
 no_arguments s (Compound f end) h e = refl
 no_arguments s (Compound f (more t ts)) h e = absurd (omega arith)
 
-unbound_key : (s : Substitution) (t : Term) → IsUnbound s t → cell_key (top_of t) ≡ key_of (resolve s t)
-unbound_key s (VarTerm n) h = sym (ap key_of h)
-unbound_key s (IntTerm z) h = refl
-unbound_key s (AtomTerm a) h = refl
-unbound_key s (Compound f ts) h = ap (Functor f) (sym (count-apply_all (value_of s) ts))
-
-pub key_reached : (st : StoreView) (goal first reached : Term) (cell : Cell) (key : Key) → is_callable goal ≡ true → 0 < argument_count goal → first ≡ argument 0 goal → IsDereferencedTerm st first reached → cell ≡ top_of reached → key ≡ cell_key cell
-    → key ≡ head_key (resolve (substitution st) goal)
-key_reached st (VarTerm n) first reached cell key h lt f r top is = cc
-key_reached st (IntTerm z) first reached cell key h lt f r top is = cc
-key_reached st (AtomTerm a) first reached cell key h lt f r top is = absurd (omega arith)
-key_reached st (Compound g end) first reached cell key h lt f r top is = absurd (omega arith)
-key_reached st (Compound g (more t ts)) first reached cell key h lt f r top is =
-    is ∙ (ap cell_key top ∙ (unbound_key (substitution st) reached r.unbound ∙ ap key_of (r.same ∙ ap (resolve (substitution st)) f)))
-
 -- all clauses were tried where the candidates were
 pub all_tried : (here : Scope) (rest : List Item) (st : StoreView) (clauses left : List ClauseTerms) (goal : Term) (name : List ℕ) (arity : ℕ) (key : Key) (bs : Vec Branch Global)
     → is_callable goal ≡ true → HaveHeads clauses → name_of goal ≡ name → argument_count goal ≡ arity → key ≡ head_key (resolve (substitution st) goal) → Some left ≡ candidates_of clauses name arity key

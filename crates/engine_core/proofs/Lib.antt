@@ -3,6 +3,7 @@ pub mod ConjunctionLemmas
 pub mod PlainBranchLemmas
 pub mod ShiftedClauseLemmas
 pub mod ClashLemmas
+pub mod ToldApartLemmas
 pub mod SolutionLemmas
 pub mod BranchListLemmas
 pub mod CallArgumentLemmas

@@ -1,4 +1,5 @@
 pub mod Branches
+pub mod ToldApart
 pub mod Reductions
 pub mod Conjunctions
 pub mod PlainBranches

@@ -12,6 +12,7 @@ mod procedure;
 pub mod reduction;
 #[cfg(test)]
 mod tests;
+mod told_apart;
 mod world;
 
 pub use bodies::goals_before;

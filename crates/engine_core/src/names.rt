@@ -5,7 +5,7 @@ ghost use Rattle.engine_core.specs.Calls.{is_variable_cell, is_integer_cell};
 ghost use Rattle.engine_core.specs.Conjunctions.{opens_condition};
 ghost use Rattle.au_model.specs.Terms.Substitutions.{resolve};
 ghost use Rattle.bind_store.specs.StoreView.{substitution};
-ghost use Rattle.proc_index.specs.Keys.{cell_key, head_key};
+ghost use Rattle.proc_index.specs.Keys.{head_key};
 
 use au_term::{Cell, NoMemory, Shared};
 use bind_store::Store;
@@ -49,18 +49,6 @@ pub(crate) fn first_key(goal: &Shared, store: &Store) -> Result<Key, NoMemory>
     if goal.arity() == 0 {
         return Ok(Key::Any);
     }
-    let first = store.reached(&goal.argument(0)?)?;
-    Ok(key_of(first.top()?))
-}
-
-/// The key of a term that begins with this cell.
-fn key_of(cell: Cell) -> Key
-    ensures { result ≡ cell_key cell }
-{
-    match cell {
-        Cell::Var(_) => Key::Any,
-        Cell::Int(value) => Key::Int(value),
-        Cell::Atom(name) => Key::Atom(name),
-        Cell::Functor(name, arity) => Key::Functor(name, arity),
-    }
+    let (cell, _base) = store.top_at(goal, 1);
+    Key::of_cell(cell)
 }

@@ -14,6 +14,7 @@ ghost use Rattle.bind_store.specs.UnificationSteps.{AreOlderThan};
 
 use crate::names::first_key;
 use crate::procedure;
+use crate::told_apart::told_apart;
 use au_term::{Atom, Bindings, NoMemory, Segment, Shared, VarNo};
 use bind_store::Store;
 use clause_compile::{Branch, Clause, Goals, Scope};
@@ -104,6 +105,9 @@ pub(crate) fn try_clause(
     ensures tried { IfOk result (IsTried here rest.now store.old (clause_solution (resolve (substitution store.old) goal.now) store.old.next clause.now)) }
     ensures store { store.new ≡ store.old }
 {
+    if told_apart(goal, clause.head(), store) {
+        return Ok(None);
+    }
     let mark = store.mark();
     let branch = clause_branch(alloc, goal, clause, rest, here, store);
     store.undo_to(mark);

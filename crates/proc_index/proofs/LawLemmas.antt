@@ -24,18 +24,18 @@ argument_resolved f (AtomTerm a) i lt = absurd (omega arith)
 argument_resolved f (Compound g ts) i lt = term_resolved f ts i lt
 
 -- a key is kept, whatever the variables stand for
-kept_key : (f : ℕ → Term) (t : Term) → is_any (key_of t) ≡ false → key_of (apply f t) ≡ key_of t
+pub kept_key : (f : ℕ → Term) (t : Term) → is_any (key_of t) ≡ false → key_of (apply f t) ≡ key_of t
 kept_key f (VarTerm n) h = absurd cc
 kept_key f (IntTerm z) h = refl
 kept_key f (AtomTerm a) h = refl
 kept_key f (Compound g ts) h = ap (Functor g) (count-apply_all f ts)
 
-record Apart (k l : Key) : Type 0 where
+pub record Apart (k l : Key) : Type 0 where
   pub left : is_any k ≡ false
   pub right : is_any l ≡ false
   pub other : same_key k l ≡ false
 
-apart_by : (k l : Key) (a b c : Bool) → is_any k ≡ a → is_any l ≡ b → same_key k l ≡ c → (not a && (not b && not c)) ≡ true → Apart k l
+pub apart_by : (k l : Key) (a b c : Bool) → is_any k ≡ a → is_any l ≡ b → same_key k l ≡ c → (not a && (not b && not c)) ≡ true → Apart k l
 apart_by k l true b c p q r h = absurd cc
 apart_by k l false true c p q r h = absurd cc
 apart_by k l false false true p q r h = absurd cc

@@ -2,3 +2,4 @@ pub mod PlacesLemmas
 pub mod KeyLemmas
 pub mod IndexLemmas
 pub mod LawLemmas
+pub mod TakenLemmas

@@ -1,6 +1,7 @@
 //! What a first argument can be told by.
 ghost use Rattle.std.specs.Prelude.{◌≡◌, IfOk};
 ghost use Rattle.proc_index.specs.Keys.{cell_key, head_key, is_any};
+ghost use Rattle.proc_index.specs.Laws.{tell_apart};
 
 use au_term::{Atom, Cell, FlatTerm, NoMemory};
 
@@ -11,6 +12,19 @@ pub enum Key {
     Int(i64),
     Atom(Atom),
     Functor(Atom, u32),
+}
+
+/// Whether the first cells of two terms tell them apart: neither is a variable's, and their keys differ.
+pub fn cells_tell_apart(left: &Cell, right: &Cell) -> bool
+    ensures { result ≡ tell_apart (cell_key left.now) (cell_key right.now) }
+{
+    match (left, right) {
+        (Cell::Var(_), _) | (_, Cell::Var(_)) => false,
+        (Cell::Int(y), Cell::Int(z)) => *y != *z,
+        (Cell::Atom(a), Cell::Atom(b)) => !a.same(b),
+        (Cell::Functor(f, m), Cell::Functor(g, n)) => *m != *n || !f.same(g),
+        _ => true,
+    }
 }
 
 impl Key {
@@ -25,7 +39,7 @@ impl Key {
     }
 
     /// The key of a term that begins with this cell.
-    fn of_cell(cell: &Cell) -> Result<Key, NoMemory>
+    pub fn of_cell(cell: &Cell) -> Result<Key, NoMemory>
         ensures { IfOk result (λ key. key ≡ cell_key cell.now) }
     {
         Ok(match cell {

@@ -6,8 +6,10 @@ pub mod laws;
 mod places;
 mod procedure;
 mod procs;
+mod taken;
 #[cfg(test)]
 mod tests;
 
-pub use key::Key;
+pub use key::{Key, cells_tell_apart};
 pub use procs::{Candidates, Procs};
+pub use taken::Taken;

@@ -5,17 +5,20 @@ ghost use Rattle.std.specs.Iterator.{YieldsFirstBy, item_count};
 ghost use Rattle.au_term.specs.Term.{argument_count};
 ghost use Rattle.au_model.specs.Terms.Forms.{is_callable, name_of};
 ghost use Rattle.proc_index.specs.ProcedureIndex.{HaveHeads, IsAdded, IsAddedTo, candidates_of};
+ghost use Rattle.proc_index.specs.TakenClauses.{IsCounted};
 
 use crate::key::Key;
 use crate::places::Merged;
 use crate::procedure::Procedure;
+use crate::taken::{Counted, Taken, take_all};
 use au_model::names::name_of;
-use au_term::{Atom, NoMemory};
+use au_term::{Atom, NoMemory, Steps};
 use clause_compile::Clause;
 use std::alloc::Global;
 use std::collections::BTreeMap;
 use std::marker::Model;
 use std::sync::Arc;
+use std::sync::ledger::Ledger;
 
 /// The procedures of a name, by number of arguments.
 type Arities = BTreeMap<u32, Procedure>;
@@ -71,6 +74,24 @@ impl Procs {
             clauses: &self.clauses,
             places: procedure.places_of(first),
         })
+    }
+
+    /// The same clauses, shared, with one step for each: what is read is counted.
+    pub fn take_candidates<L: Ledger>(
+        &self,
+        alloc: Global,
+        name: &Atom,
+        arity: u32,
+        first: &Key,
+        steps: &mut Steps<L>,
+    ) -> Result<Option<Taken>, NoMemory>
+        ensures clauses { IfOk result (λ taken. taken ≡ candidates_of self.now name.now arity first.now) }
+        ensures steps { IfOk result (IsCounted steps.old steps.new) }
+    {
+        match self.candidates(name, arity, first) {
+            Some(candidates) => Ok(Some(take_all(alloc, Counted::new(candidates), steps)?)),
+            None => Ok(None),
+        }
     }
 }
 

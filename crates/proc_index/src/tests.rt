@@ -1,9 +1,13 @@
 //! What no clause gives: the clauses that are found among those of certain heads.
+ghost use Rattle.std.specs.Prelude.{◌≡◌, ◌<◌};
+
 use crate::{Key, Procs};
-use au_term::{Atom, Cell, FlatTerm, TermBuilder};
+use au_term::{Atom, Cell, FlatTerm, Steps, TermBuilder};
 use clause_compile::compile;
 use std::alloc::Global;
+use std::marker::Brand;
 use std::process::Abort;
+use std::sync::ledger::{Blank, Ledger};
 use std::test::Fail;
 
 /// The first argument of a head that a test writes down.
@@ -91,6 +95,40 @@ fn expect(
     }
     assert_eq!(rt; found, places.len());
     Ok(())
+}
+
+/// Those that are taken are the candidates.
+fn take_two<L: Ledger>(
+    rt: &impl Abort,
+    alloc: Global,
+    procs: &Procs,
+    blank: Blank,
+) -> Result<(), Fail>
+    requires name { blank.name ≡ L.name }
+    requires parts { blank.parts ≡ L.parts }
+    requires some { 0 < blank.parts }
+{
+    let mut steps = Steps::<L>::new(blank);
+    let name = Atom::new(alloc, "p")?;
+    let taken = procs
+        .take_candidates(alloc, &name, 1, &Key::Int(2), &mut steps)?
+        .ok_or("undefined")?;
+    assert_eq!(rt; taken.len(), 2);
+    for (place, at) in [(0, 2), (1, 4)] {
+        assert!(rt; place < taken.len());
+        let (name, first) = HEADS[at];
+        assert!(rt; taken.get(place).head().cells() == head(rt, alloc, name, first)?.cells());
+    }
+    let none = procs.take_candidates(alloc, &name, 2, &Key::Int(2), &mut steps)?;
+    assert!(rt; none.is_none());
+    Ok(())
+}
+
+#[test]
+fn taken(rt: HostRuntime) -> Result<(), Fail> {
+    let alloc = rt.alloc();
+    let procs = procs(&rt, alloc)?;
+    take_two::<Brand>(&rt, alloc, &procs, Blank::new(1))
 }
 
 #[test]
