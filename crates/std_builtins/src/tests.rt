@@ -1,7 +1,7 @@
 //! Names of built-in predicates and control constructs; and each built-in called once with ample memory.
 use crate::{
-    Builtin, BuiltinRefusal, Comparison, Control, Solution, Spelling, TypeTest, builtin_of,
-    control_of, is_builtin, is_control,
+    Builtin, BuiltinRefusal, Comparison, Control, Solution, Spelling, TypeTest, WorldGoal, builtin_of,
+    control_of, is_builtin, is_control, is_world_goal, world_goal_of,
 };
 use au_model::build::{atom, binary, list_of, single, unary};
 use au_term::{Cell, FlatTerm, NoMemory};
@@ -15,6 +15,8 @@ fn names(rt: HostRuntime) {
     assert!(rt; is_control("call", 8) && !is_control("call", 9) && !is_control("=", 2));
     assert!(rt; matches!(control_of("findall", 3), Some(Control::Findall)));
     assert!(rt; matches!(builtin_of("is", 2), Some(Builtin::Is)));
+    assert!(rt; matches!(world_goal_of("nl", 0), Some(WorldGoal::Nl)));
+    assert!(rt; is_world_goal("write", 1) && !is_world_goal("write", 2));
 }
 
 /// Whether an answer is one solution, whose first equation has this term on its right side.
