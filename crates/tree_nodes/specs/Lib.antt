@@ -1,0 +1,6 @@
+pub mod Bodies
+pub mod Rows
+pub mod RowViews
+pub mod TreeTables
+pub mod Changes
+pub mod Drops

@@ -1,0 +1,10 @@
+//! The nodes of the shared tree.
+#![tactic(auto)]
+
+pub mod body;
+mod drops;
+mod row;
+pub mod state;
+
+pub use body::{NodeBody, NodeKind};
+pub use state::{AltState, Credit};
