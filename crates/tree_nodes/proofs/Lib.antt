@@ -5,3 +5,5 @@ pub mod RowLemmas
 pub mod DropLemmas
 pub mod GoingLemmas
 pub mod DropStepLemmas
+pub mod ReverseLemmas
+pub mod PutLemmas

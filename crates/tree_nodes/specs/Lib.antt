@@ -4,3 +4,5 @@ pub mod RowViews
 pub mod TreeTables
 pub mod Changes
 pub mod Drops
+pub mod Gathering
+pub mod Puts

@@ -2,7 +2,9 @@
 #![tactic(auto)]
 
 pub mod body;
+mod cells;
 mod drops;
+mod gather;
 mod row;
 pub mod state;
 

@@ -1,12 +1,15 @@
 //! The rows of the table.
-ghost use Rattle.std.specs.Prelude.{◌≡◌, ◌<◌, List, None, Some, length, IfOk, MatchOption};
+ghost use Rattle.std.specs.Prelude.{◌≡◌, ◌<◌, List, None, Some, length, map, slice_get, IfOk, OnOk, MatchOption};
 ghost use Rattle.std.specs.Option.{option_map, option_copied};
 ghost use Rattle.tree_model.specs.EventViews.{place_view};
-ghost use Rattle.tree_nodes.specs.Rows.{cell_view, cells_at};
+ghost use Rattle.tree_nodes.specs.Rows.{cell_view, cells_at, credit_view};
+ghost use Rattle.tree_nodes.specs.Gathering.{closed_in, is_shut, are_shut, with_left, with_right, shut_beside, with_beside};
+ghost use Rattle.tree_nodes.specs.Puts.{inner_at};
 ghost use Rattle.tree_nodes.specs.RowViews.{row_view, alternative_view, inner_of, with_cell, IsShortened};
 
 use crate::body::NodeBody;
-use crate::state::AltState;
+use crate::gather::Gathered;
+use crate::state::{AltState, Credit};
 use au_term::NoMemory;
 use std::alloc::Global;
 use std::marker::Model;
@@ -31,6 +34,22 @@ impl Alternative {
             _ => None,
         }
     }
+
+    /// What it has closed with, if it has.
+    pub(crate) fn credit(&self) -> Option<&Credit>
+        ensures { option_map credit_view (option_copied result) ≡ closed_in (cell_view self.now.state) }
+    {
+        match &self.state {
+            AltState::Closed(credit) => Some(credit),
+            _ => None,
+        }
+    }
+
+    fn is_closed(&self) -> bool
+        ensures { result ≡ is_shut (cell_view self.now.state) }
+    {
+        matches!(self.state, AltState::Closed(_))
+    }
 }
 
 /// A node: the alternative that it is below, what it was made from, and its alternatives.
@@ -39,6 +58,62 @@ pub(crate) struct Row {
     pub(crate) parent: Option<AltRef>,
     pub(crate) body: Arc<NodeBody>,
     pub(crate) alternatives: Vec<Alternative>,
+}
+
+impl Row {
+    /// Whether all alternatives but this one have closed.
+    pub(crate) fn shut_beside(&self, index: usize) -> bool
+        requires { index < length (row_view self.now).cells }
+        ensures { result ≡ shut_beside index (row_view self.now).cells }
+    {
+        are_shut(&self.alternatives[..index]) && are_shut(&self.alternatives[index + 1..])
+    }
+
+    /// Adds what is closed on both sides of an alternative to its credit.
+    pub(crate) fn gather_beside(
+        &self,
+        index: usize,
+        gathered: &mut Gathered,
+    ) -> Result<(), NoMemory>
+        requires { index < length (row_view self.now).cells }
+        ensures { OnOk result (gathered.new ≡ with_beside index (row_view self.now).cells gathered.old) }
+    {
+        gather_right(&self.alternatives[index + 1..], gathered)?;
+        gather_left(&self.alternatives[..index], gathered)
+    }
+}
+
+fn are_shut(alternatives: &[Alternative]) -> bool
+    ensures { result ≡ are_shut (map alternative_view alternatives.now) }
+{
+    for alternative in alternatives {
+        if !alternative.is_closed() {
+            return false;
+        }
+    }
+    true
+}
+
+fn gather_left(alternatives: &[Alternative], gathered: &mut Gathered) -> Result<(), NoMemory>
+    ensures { OnOk result (gathered.new ≡ with_left (map alternative_view alternatives.now) gathered.old) }
+{
+    for i in 0..alternatives.len() {
+        if let Some(credit) = alternatives[alternatives.len() - 1 - i].credit() {
+            gathered.add_left(credit)?;
+        }
+    }
+    Ok(())
+}
+
+fn gather_right(alternatives: &[Alternative], gathered: &mut Gathered) -> Result<(), NoMemory>
+    ensures { OnOk result (gathered.new ≡ with_right gathered.old (map alternative_view alternatives.now)) }
+{
+    for alternative in alternatives {
+        if let Some(credit) = alternative.credit() {
+            gathered.add_right(credit)?;
+        }
+    }
+    Ok(())
 }
 
 /// The place of a row, which is empty once the node is gone.
@@ -89,6 +164,17 @@ impl Slot {
     {
         match &self.row {
             Some(row) => Some(row),
+            None => None,
+        }
+    }
+
+    /// The node below an alternative, if there is one.
+    pub(crate) fn inner(&self, index: usize) -> Option<u64>
+        requires { index < length (cells_at self.now) }
+        ensures { result ≡ inner_at (slice_get (cells_at self.now) index) }
+    {
+        match &self.row {
+            Some(row) => row.alternatives[index].inner(),
             None => None,
         }
     }
