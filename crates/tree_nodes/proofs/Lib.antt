@@ -7,3 +7,4 @@ pub mod GoingLemmas
 pub mod DropStepLemmas
 pub mod ReverseLemmas
 pub mod PutLemmas
+pub mod NewRowLemmas

@@ -1,10 +1,10 @@
 -- What a changed alternative makes of the tree.
 use Rattle.std.proofs.Common.{◌≡◌, ◌≢◌, ℕ, zero, suc, ◌+◌, ◌-◌, ◌<◌, ◌≤◌, ◌==◌, List, [], ◌∷◌, ◌++◌, length, Option, Some, None}
 use Rattle.std.proofs.Common.{refl, sym, ap, ◌∙◌, arith, subst, inl, inr}
-use Rattle.std.specs.Prelude.{slice_get}
+use Rattle.std.specs.Prelude.{slice_get, IsSome}
 use Rattle.std.proofs.lemmas.Bool.{cases_lt}
-use Rattle.run_model.specs.Machine.Entries.{Entry}
-use Rattle.tree_model.specs.Credits.{Credit}
+use Rattle.run_model.specs.Machine.Entries.{Entry, EndEntry}
+use Rattle.tree_model.specs.Credits.{Credit, no_credit}
 use Rattle.tree_model.specs.Nodes.{Hold, Kind, Node, Numbered, Alternatives, none, alternative, Status, Pending, Inner, Closed, nodes_in, nodes_below}
 use Rattle.tree_model.specs.Levels.{Level, put_left, level_node, plug, Place, place_at}
 use Rattle.tree_model.specs.SoundTrees.{one_if, count_in, count_among, count_below}
@@ -202,3 +202,20 @@ sets_stand old new a spent cell there there_spent st e h =
     let k = located old st.read st.root a (there_spent, there) st.stands e in
     set_stand new st.read (record k.level { spent = spent } ∷ k.above) k.status cell
     (h st.read k.level k.above k.status k.at (subst (StandsFor old st.read) k.is st.stands))
+
+is_some_cell : (o : Option (ℕ × Cell)) → IsSome o → (c : ℕ × Cell) × (o ≡ Some c)
+is_some_cell None h = absurd (cc h)
+is_some_cell (Some c) h = (c, refl)
+
+pub put_stand : (old new : NodesView) (a : Place) (cell : ℕ × Cell) → Stand old → IsSome (cell_at old.rows a)
+    → IsPut old.rows old.live new.rows new.live a cell → new.first ≡ old.first → Fits (cell_at old.rows a) cell.1 → Stand new
+put_stand old new a cell st there p f fit =
+    let k = is_some_cell (cell_at old.rows a) there in
+    sets_stand old new a cell.0 cell.1 k.0.1 k.0.0 st k.1 (put_set old new a cell p f fit)
+
+pub no_nodes_stand : Stand (record { rows = []; first = None; live = 0; spare = 0 })
+no_nodes_stand = record {
+  read = λ way. EndEntry None;
+  root = Closed no_credit;
+  stands = record { placed = tt; rooted = refl; distinct = λ n. omega arith; others = λ n h. refl; live = refl };
+}

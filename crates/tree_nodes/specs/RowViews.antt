@@ -1,5 +1,5 @@
 -- Rows as the code keeps them, and how one is changed.
-use Rattle.std.specs.Prelude.{◌≡◌, ℕ, List, [], ◌∷◌, ◌++◌, Option, Some, None, map, slice_set}
+use Rattle.std.specs.Prelude.{◌≡◌, ℕ, zero, suc, length, List, [], ◌∷◌, ◌++◌, Option, Some, None, map, slice_set}
 use Rattle.std.specs.Option.{option_map}
 use Rattle.std.specs.Arc.{arc_value}
 use Rattle.std.specs.Global.{Global}
@@ -11,7 +11,7 @@ use Rattle.tree_nodes.specs.declared.row.Alternative.{Alternative}
 use Rattle.tree_nodes.specs.declared.row.Row.{Row}
 use Rattle.tree_nodes.specs.declared.row.Shortened.{Shortened}
 use Rattle.tree_nodes.specs.declared.row.Shortened.TheVariants as shortened
-use Rattle.tree_nodes.specs.Bodies.{body_view}
+use Rattle.tree_nodes.specs.Bodies.{Body, BodyKind, body_view, first_hold}
 use Rattle.tree_nodes.specs.Rows.{Cell, PendingCell, InnerCell, ClosedCell, NodeRow, cell_view}
 
 abbrev pub alternative_view : Alternative → ℕ × Cell
@@ -63,3 +63,11 @@ IsShortened None new shortened.Nothing = new ≡ None
 IsShortened (Some r) new (shortened.Alternative inner) = IsShorter r new inner
 IsShortened (Some r) new (shortened.Row parent) = IsGone r new parent
 IsShortened (Some r) new shortened.Nothing = ⊥
+
+-- the cells of a new node's alternatives from an index on, so many of them
+abbrev pub new_cells : BodyKind → ℕ → ℕ → List (ℕ × Cell)
+new_cells kind i zero = []
+new_cells kind i (suc k) = (0, PendingCell (first_hold kind i)) ∷ new_cells kind (suc i) k
+
+abbrev pub new_row : Option Place → Body → NodeRow
+new_row parent body = record { parent = parent; body = body; cells = new_cells body.kind 0 (length body.branches) }

@@ -1,4 +1,7 @@
 //! What a node is made from.
+ghost use Rattle.std.specs.Prelude.{◌≡◌};
+ghost use Rattle.tree_nodes.specs.Bodies.{guards, kind_view};
+
 use au_term::{FlatTerm, Segment, Shared};
 use clause_compile::Branch;
 use std::sync::Arc;
@@ -18,6 +21,18 @@ pub enum NodeKind {
         list: Shared,
     },
     Query,
+}
+
+impl NodeKind {
+    /// Whether the second alternative sleeps while the first is open.
+    pub(crate) fn guards(&self) -> bool
+        ensures { result ≡ guards (kind_view self.now) }
+    {
+        match self {
+            NodeKind::Choice | NodeKind::Condition => false,
+            NodeKind::Catch { .. } | NodeKind::Findall { .. } | NodeKind::Query => true,
+        }
+    }
 }
 
 /// What a node is made from: the variables and bindings that all its branches share, and the branches.

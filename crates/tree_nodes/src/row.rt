@@ -1,13 +1,15 @@
 //! The rows of the table.
-ghost use Rattle.std.specs.Prelude.{◌≡◌, ◌<◌, List, None, Some, length, map, slice_get, IfOk, OnOk, MatchOption};
+ghost use Rattle.std.specs.Prelude.{◌≡◌, ◌<◌, List, None, Some, length, map, slice_get, vec_len, IfOk, OnOk, MatchOption};
+ghost use Rattle.std.specs.Arc.{arc_value};
+ghost use Rattle.tree_nodes.specs.Bodies.{body_view, kind_view, first_hold};
 ghost use Rattle.std.specs.Option.{option_map, option_copied};
 ghost use Rattle.tree_model.specs.EventViews.{place_view};
-ghost use Rattle.tree_nodes.specs.Rows.{cell_view, cells_at, credit_view};
+ghost use Rattle.tree_nodes.specs.Rows.{PendingCell, cell_view, cells_at, credit_view};
 ghost use Rattle.tree_nodes.specs.Gathering.{closed_in, is_shut, are_shut, with_left, with_right, shut_beside, with_beside};
 ghost use Rattle.tree_nodes.specs.Puts.{inner_at};
-ghost use Rattle.tree_nodes.specs.RowViews.{row_view, alternative_view, inner_of, with_cell, IsShortened};
+ghost use Rattle.tree_nodes.specs.RowViews.{row_view, parent_view, alternative_view, new_cells, new_row, inner_of, with_cell, IsShortened};
 
-use crate::body::NodeBody;
+use crate::body::{NodeBody, NodeKind};
 use crate::gather::Gathered;
 use crate::state::{AltState, Credit};
 use au_term::NoMemory;
@@ -83,6 +85,28 @@ impl Row {
     }
 }
 
+fn first_state(kind: &NodeKind, index: usize) -> AltState
+    ensures { cell_view result ≡ PendingCell (first_hold (kind_view kind.now) index) }
+{
+    if index == 1 && kind.guards() {
+        AltState::Dormant
+    } else {
+        AltState::Ready
+    }
+}
+
+// The alternatives of a new node.
+fn first_alternatives(alloc: Global, body: &NodeBody) -> Result<Vec<Alternative>, NoMemory>
+    ensures { IfOk result (λ v. map alternative_view v.items ≡ new_cells (kind_view body.now.kind) 0 (vec_len body.now.branches)) }
+{
+    let mut alternatives = Vec::new(alloc);
+    for i in 0..body.branches.len() {
+        let state = first_state(&body.kind, i);
+        alternatives.push(Alternative { state, spent: 0 })?;
+    }
+    Ok(alternatives)
+}
+
 fn are_shut(alternatives: &[Alternative]) -> bool
     ensures { result ≡ are_shut (map alternative_view alternatives.now) }
 {
@@ -149,10 +173,20 @@ pub(crate) enum Shortened {
 }
 
 impl Slot {
-    /// A row.
-    pub(crate) fn new(alloc: Global, row: Row) -> Result<Slot, NoMemory>
-        ensures { IfOk result (λ slot. slot ≡ Some (row_view row)) }
+    /// The row of a new node.
+    pub(crate) fn new(
+        alloc: Global,
+        parent: Option<AltRef>,
+        body: Arc<NodeBody>,
+    ) -> Result<Slot, NoMemory>
+        ensures { IfOk result (λ slot. slot ≡ Some (new_row (parent_view parent) (body_view (arc_value body)))) }
     {
+        let alternatives = first_alternatives(alloc, &body)?;
+        let row = Row {
+            parent,
+            body,
+            alternatives,
+        };
         Ok(Slot {
             row: Some(Box::new(alloc, row)?),
         })

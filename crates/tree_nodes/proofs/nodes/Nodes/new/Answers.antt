@@ -1,0 +1,8 @@
+use Rattle.std.proofs.Common.{None, List, subst}
+use Rattle.tree_nodes.specs.Rows.{Rows}
+use Rattle.tree_nodes.specs.TreeTables.{Stand}
+use Rattle.tree_nodes.proofs.PutLemmas.{no_nodes_stand}
+use Rattle.tree_nodes.proofs.nodes.Nodes.new.Goals as goal
+
+pub invariant_of-result : goal.invariant_of-result
+invariant_of-result c = rw c.new.ensures.items no_nodes_stand

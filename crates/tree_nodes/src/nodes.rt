@@ -1,0 +1,142 @@
+//! The table, and the tree for which it stands.
+ghost use Rattle.std.specs.Prelude.{◌≡◌, ◌<◌, ◌+◌, ◌-◌, max, IsSome, IsOk, IfOk, OnOk, OnErr, Some, None, [], length, is_some};
+ghost use Rattle.std.specs.Option.{option_map, option_copied};
+ghost use Rattle.tree_model.specs.EventViews.{place_view};
+ghost use Rattle.tree_nodes.specs.Rows.{row_at, cell_at, cell_view};
+ghost use Rattle.tree_nodes.specs.RowViews.{row_view};
+ghost use Rattle.tree_nodes.specs.TreeTables.{NodesView, Stand};
+ghost use Rattle.tree_nodes.specs.Changes.{SetsAt, Fits, KeepsNumbers};
+
+use crate::cells::put_cell;
+use crate::row::{Alternative, Row, Slot};
+use crate::state::{AltState};
+use au_term::NoMemory;
+use std::alloc::Global;
+use std::marker::Model;
+use tree_model::AltRef;
+
+/// The nodes of a tree. Contracts see the table, and speak of the tree for which it stands.
+#[derive(Drop)]
+pub struct Nodes {
+    slots: Vec<Slot>,
+    first: Option<u64>,
+    live: u64,
+    spare: u64,
+    alloc: Global,
+}
+
+impl Model for Nodes {
+    ghost use Rattle.tree_nodes.specs.TreeTables.{NodesView};
+    ghost use Rattle.std.specs.Coded.{codes};
+    ghost use Rattle.au_term.specs.PrefixOrder.{term_code};
+    ghost use Rattle.au_term.specs.contracts.flat.FlatTerm as flat;
+    ghost use Rattle.au_term.specs.contracts.shared.Shared as shared;
+
+    ghost Value = { NodesView };
+
+    ghost coded = { Prim.hlevel (codes, term_code, flat.the_row.coded, shared.the_row.coded) };
+
+    ghost use Rattle.tree_nodes.specs.TreeTables.{Stand};
+
+    ghost view = { λ s. record { rows = s.slots.items; first = s.first; live = s.live; spare = s.spare } };
+
+    ghost invariant = { λ s. Stand (record { rows = s.slots.items; first = s.first; live = s.live; spare = s.spare }) };
+}
+
+impl Nodes {
+    /// No nodes.
+    pub fn new(alloc: Global) -> Nodes
+        ensures { result ≡ record { rows = []; first = None; live = 0; spare = 0 } }
+    {
+        Nodes {
+            slots: Vec::new(alloc),
+            first: None,
+            live: 0,
+            spare: 0,
+            alloc,
+        }
+    }
+
+    /// How many nodes there are.
+    pub fn live(&self) -> u64
+        ensures live { result ≡ self.now.live }
+        ensures sound { Stand self.now }
+    {
+        self.live
+    }
+
+    /// How many closings are provided for.
+    pub fn spare(&self) -> u64
+        ensures { result ≡ self.now.spare }
+    {
+        self.spare
+    }
+
+    /// Provides for so many closings at least.
+    pub fn reserve(&mut self, closings: u64) -> Result<(), NoMemory>
+        ensures ok { OnOk result (self.new ≡ record self.old { spare = max self.old.spare closings }) }
+        ensures err { OnErr result (self.new ≡ self.old) }
+    {
+        self.spare = self.spare.max(closings);
+        Ok(())
+    }
+
+    /// The node that has no parent.
+    pub fn first(&self) -> Option<u64>
+        ensures { result ≡ self.now.first }
+    {
+        self.first
+    }
+
+    fn row(&self, node: u64) -> Option<&Row>
+        ensures { option_map row_view (option_copied result) ≡ row_at self.now.rows node }
+    {
+        match self.slots.get(node as usize) {
+            Some(slot) => slot.row(),
+            None => None,
+        }
+    }
+
+    /// Whether a node is there.
+    pub fn has(&self, node: u64) -> bool
+        ensures { result ≡ is_some (row_at self.now.rows node) }
+    {
+        self.row(node).is_some()
+    }
+
+    fn alternative(&self, at: AltRef) -> &Alternative
+        requires { IsSome (cell_at self.now.rows (place_view at)) }
+        ensures { cell_at self.now.rows (place_view at) ≡ Some (result.now.spent, cell_view result.now.state) }
+    {
+        match self.row(at.node) {
+            Some(row) => &row.alternatives[at.alternative as usize],
+            None => unreachable!(),
+        }
+    }
+
+    /// How an alternative stands.
+    pub fn state(&self, at: AltRef) -> &AltState
+        requires { IsSome (cell_at self.now.rows (place_view at)) }
+        ensures { option_map (λ c. c.1) (cell_at self.now.rows (place_view at)) ≡ Some (cell_view result.now) }
+    {
+        &self.alternative(at).state
+    }
+
+    /// The inferences spent on an alternative.
+    pub fn spent(&self, at: AltRef) -> u64
+        requires { IsSome (cell_at self.now.rows (place_view at)) }
+        ensures { option_map (λ c. c.0) (cell_at self.now.rows (place_view at)) ≡ Some result }
+    {
+        self.alternative(at).spent
+    }
+
+    /// Puts another state in place of an alternative's. What stood below it goes, but for the node of the new state.
+    pub fn set(&mut self, at: AltRef, state: AltState, spent: u64)
+        requires there { IsSome (cell_at self.old.rows (place_view at)) }
+        requires fits { Fits (cell_at self.old.rows (place_view at)) (cell_view state) }
+        ensures set { SetsAt self.old self.new (place_view at) spent (cell_view state) }
+        ensures numbers { KeepsNumbers self.old self.new }
+    {
+        put_cell(&mut self.slots, &mut self.live, at, Alternative { state, spent });
+    }
+}
