@@ -8,3 +8,4 @@ pub mod DropStepLemmas
 pub mod ReverseLemmas
 pub mod PutLemmas
 pub mod NewRowLemmas
+pub mod AddLemmas

@@ -203,7 +203,7 @@ sets_stand old new a spent cell there there_spent st e h =
     set_stand new st.read (record k.level { spent = spent } ∷ k.above) k.status cell
     (h st.read k.level k.above k.status k.at (subst (StandsFor old st.read) k.is st.stands))
 
-is_some_cell : (o : Option (ℕ × Cell)) → IsSome o → (c : ℕ × Cell) × (o ≡ Some c)
+pub is_some_cell : (o : Option (ℕ × Cell)) → IsSome o → (c : ℕ × Cell) × (o ≡ Some c)
 is_some_cell None h = absurd (cc h)
 is_some_cell (Some c) h = (c, refl)
 

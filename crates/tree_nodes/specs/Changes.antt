@@ -1,5 +1,5 @@
 -- How calls change the tree, round a place.
-use Rattle.std.specs.Prelude.{◌≡◌, ◌≢◌, ℕ, suc, ◌==◌, ◌<◌, List, [], ◌∷◌, Option, Some, None, length}
+use Rattle.std.specs.Prelude.{◌≡◌, ℕ, ◌+◌, List, [], ◌∷◌, Option, Some, None, length}
 use Rattle.run_model.specs.Machine.Entries.{Entry}
 use Rattle.tree_model.specs.Credits.{Credit, no_credit, added, credit_of}
 use Rattle.tree_model.specs.Nodes.{Hold, Status, Pending, Inner, Closed}
@@ -64,6 +64,16 @@ IsOpenCell (Some c) = elim c.1 [ PendingCell hold ↦ Unit {0} | InnerCell n ↦
 abbrev pub CanHold : NodesView → Option Place → Type 0
 CanHold nodes None = nodes.live ≡ 0
 CanHold nodes (Some a) = IsOpenCell (cell_at nodes.rows a)
+
+-- one more number is drawn, and the same is provided for
+pub record IsLonger (old new : NodesView) : Type 0 where
+  pub length : length new.rows ≡ length old.rows + 1
+  pub spare : new.spare ≡ old.spare
+
+-- the first node is the one without a parent
+abbrev pub first_of : Option ℕ → Option Place → ℕ → Option ℕ
+first_of first None n = Some n
+first_of first (Some a) n = first
 
 -- levels, and what the alternative of the innermost has closed with
 pub record Folded : Type 0 where

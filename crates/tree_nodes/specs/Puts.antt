@@ -1,7 +1,7 @@
 -- How one alternative of a table is changed.
-use Rattle.std.specs.Prelude.{◌≡◌, ◌≢◌, ℕ, List, Option, Some, None, length}
+use Rattle.std.specs.Prelude.{◌≡◌, ◌≢◌, ℕ, List, Option, Some, None, length, IsSome}
 use Rattle.tree_model.specs.Levels.{Place}
-use Rattle.tree_nodes.specs.Rows.{Cell, NodeRow, Rows, row_at, cell_at}
+use Rattle.tree_nodes.specs.Rows.{Cell, InnerCell, NodeRow, Rows, row_at, cell_at}
 use Rattle.tree_nodes.specs.RowViews.{with_cell, inner_of}
 use Rattle.tree_nodes.specs.Drops.{DropsNode}
 
@@ -27,3 +27,19 @@ pub record IsPut (rows : Rows) (live : ℕ) (new : Rows) (left : ℕ) (a : Place
   pub below : Option ℕ
   pub replaced : IsReplaced rows middle a cell below
   pub dropped : IsDroppedBy below (inner_of cell.1) middle live new left
+
+-- a place has this node below it, and the same is spent
+pub record IsLinkedAt (rows new : Rows) (a : Place) (n : ℕ) : Type 0 where
+  pub spent : ℕ
+  pub cell : Cell
+  pub below : Option ℕ
+  pub there : cell_at rows a ≡ Some (spent, cell)
+  pub replaced : IsReplaced rows new a (spent, InnerCell n) below
+
+abbrev pub IsLinked : Rows → Rows → Option Place → ℕ → Type 0
+IsLinked rows new None n = new ≡ rows
+IsLinked rows new (Some a) n = IsLinkedAt rows new a n
+
+abbrev pub IsPlaceIn : Rows → Option Place → Type 0
+IsPlaceIn rows None = Unit {0}
+IsPlaceIn rows (Some a) = IsSome (cell_at rows a)

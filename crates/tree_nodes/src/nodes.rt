@@ -3,16 +3,20 @@ ghost use Rattle.std.specs.Prelude.{◌≡◌, ◌<◌, ◌+◌, ◌-◌, max, I
 ghost use Rattle.std.specs.Option.{option_map, option_copied};
 ghost use Rattle.tree_model.specs.EventViews.{place_view};
 ghost use Rattle.tree_nodes.specs.Rows.{row_at, cell_at, cell_view};
-ghost use Rattle.tree_nodes.specs.RowViews.{row_view};
+ghost use Rattle.tree_nodes.specs.RowViews.{row_view, parent_view};
 ghost use Rattle.tree_nodes.specs.TreeTables.{NodesView, Stand};
-ghost use Rattle.tree_nodes.specs.Changes.{SetsAt, Fits, KeepsNumbers};
+ghost use Rattle.std.specs.Arc.{arc_value};
+ghost use Rattle.tree_nodes.specs.Bodies.{body_view, IsWhole};
+ghost use Rattle.tree_nodes.specs.Changes.{SetsAt, Fits, KeepsNumbers, Adds, CanHold, IsLonger, first_of};
 
-use crate::cells::put_cell;
+use crate::body::NodeBody;
+use crate::cells::{link_cell, put_cell};
 use crate::row::{Alternative, Row, Slot};
 use crate::state::{AltState};
 use au_term::NoMemory;
 use std::alloc::Global;
 use std::marker::Model;
+use std::sync::Arc;
 use tree_model::AltRef;
 
 /// The nodes of a tree. Contracts see the table, and speak of the tree for which it stands.
@@ -138,5 +142,35 @@ impl Nodes {
         ensures numbers { KeepsNumbers self.old self.new }
     {
         put_cell(&mut self.slots, &mut self.live, at, Alternative { state, spent });
+    }
+
+    /// Adds a node below an alternative that has an entry, or the first one, and gives its number.
+    pub fn add(&mut self, parent: Option<AltRef>, body: Arc<NodeBody>) -> Result<u64, NoMemory>
+        requires whole { IsWhole (body_view (arc_value body)) }
+        requires open { CanHold self.old (parent_view parent) }
+        ensures number { IfOk result (λ n. n ≡ length self.old.rows) }
+        ensures added { IfOk result (λ n. Adds self.old self.new (parent_view parent) n (body_view (arc_value body))) }
+        ensures grown { OnOk result (IsLonger self.old self.new) }
+        ensures err { OnErr result (self.new ≡ self.old) }
+    {
+        let slot = Slot::new(self.alloc, parent, body)?;
+        let Some(live) = self.live.checked_add(1) else {
+            return Err(NoMemory);
+        };
+        let number = self.slots.len() as u64;
+        self.slots.push(slot)?;
+        link_cell(&mut self.slots, parent, number);
+        self.first = first_after(self.first, parent, number);
+        self.live = live;
+        Ok(number)
+    }
+}
+
+fn first_after(first: Option<u64>, parent: Option<AltRef>, node: u64) -> Option<u64>
+    ensures { result ≡ first_of first (parent_view parent) node }
+{
+    match parent {
+        Some(_) => first,
+        None => Some(node),
     }
 }

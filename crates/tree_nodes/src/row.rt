@@ -213,6 +213,17 @@ impl Slot {
         }
     }
 
+    /// The inferences spent on an alternative.
+    pub(crate) fn spent(&self, index: usize) -> u64
+        requires { index < length (cells_at self.now) }
+        ensures { option_map (λ c. c.0) (slice_get (cells_at self.now) index) ≡ Some result }
+    {
+        match &self.row {
+            Some(row) => row.alternatives[index].spent,
+            None => unreachable!(),
+        }
+    }
+
     /// Puts another in place of an alternative.
     pub(crate) fn put(&mut self, index: usize, alternative: Alternative)
         requires { index < length (cells_at self.old) }
