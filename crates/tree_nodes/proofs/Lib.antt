@@ -9,3 +9,5 @@ pub mod ReverseLemmas
 pub mod PutLemmas
 pub mod NewRowLemmas
 pub mod AddLemmas
+pub mod CreditLemmas
+pub mod FoldLemmas

@@ -74,7 +74,7 @@ pub record IsAt (root : Status) (a : Place) : Type 0 where
   pub is : root ≡ plug (level ∷ above) status
   pub at : place_at level ≡ a
 
-present : (nodes : NodesView) (read : Reading) (root : Status) (n : ℕ) (r : NodeRow) → StandsFor nodes read root → row_at nodes.rows n ≡ Some r
+pub present : (nodes : NodesView) (read : Reading) (root : Status) (n : ℕ) (r : NodeRow) → StandsFor nodes read root → row_at nodes.rows n ≡ Some r
     → 0 < count_below n root
 present nodes read root n r s e =
     elim (cases_lt 0 (count_below n root)) [ inl l ↦ l | inr not ↦ absurd (let z = s.others n (omega (arith, not)) in cc (z, e)) ]

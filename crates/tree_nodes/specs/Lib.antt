@@ -6,3 +6,4 @@ pub mod Changes
 pub mod Drops
 pub mod Gathering
 pub mod Puts
+pub mod Folds
