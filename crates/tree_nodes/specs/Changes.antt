@@ -1,5 +1,5 @@
 -- How calls change the tree, round a place.
-use Rattle.std.specs.Prelude.{◌≡◌, ℕ, ◌+◌, List, [], ◌∷◌, Option, Some, None, length}
+use Rattle.std.specs.Prelude.{◌≡◌, ℕ, ◌+◌, ◌-◌, List, [], ◌∷◌, Option, Some, None, length}
 use Rattle.run_model.specs.Machine.Entries.{Entry}
 use Rattle.tree_model.specs.Credits.{Credit, no_credit, added, credit_of}
 use Rattle.tree_model.specs.Nodes.{Hold, Status, Pending, Inner, Closed}
@@ -64,6 +64,11 @@ IsOpenCell (Some c) = elim c.1 [ PendingCell hold ↦ Unit {0} | InnerCell n ↦
 abbrev pub CanHold : NodesView → Option Place → Type 0
 CanHold nodes None = nodes.live ≡ 0
 CanHold nodes (Some a) = IsOpenCell (cell_at nodes.rows a)
+
+-- no number is drawn, and one closing less is provided for
+pub record LowersSpare (old new : NodesView) : Type 0 where
+  pub length : length new.rows ≡ length old.rows
+  pub spare : new.spare ≡ old.spare - 1
 
 -- one more number is drawn, and the same is provided for
 pub record IsLonger (old new : NodesView) : Type 0 where

@@ -66,3 +66,9 @@ pub record IsStaying (rows : Rows) (at : Place) (c total : Credit) : Type 0 wher
 abbrev pub IsFoldStep : Rows → Place → Credit → Option Place → Credit → Type 0
 IsFoldStep rows at c (Some above) total = IsFolding rows at above c total
 IsFoldStep rows at c None total = IsStaying rows at c total
+
+-- what is beside an alternative was added where all of it is closed
+abbrev pub Gathers : Option NodeRow → ℕ → Bool → Credit → Credit → Type 0
+Gathers None i shut c total = ⊥
+Gathers (Some r) i true c total = (shut_beside i r.cells ≡ true) × (total ≡ with_beside i r.cells c)
+Gathers (Some r) i false c total = (shut_beside i r.cells ≡ false) × (total ≡ c)

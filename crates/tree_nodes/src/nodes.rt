@@ -2,17 +2,20 @@
 ghost use Rattle.std.specs.Prelude.{◌≡◌, ◌<◌, ◌+◌, ◌-◌, max, IsSome, IsOk, IfOk, OnOk, OnErr, Some, None, [], length, is_some};
 ghost use Rattle.std.specs.Option.{option_map, option_copied};
 ghost use Rattle.tree_model.specs.EventViews.{place_view};
-ghost use Rattle.tree_nodes.specs.Rows.{row_at, cell_at, cell_view};
+ghost use Rattle.tree_nodes.specs.Rows.{row_at, cell_at, cell_view, credit_view};
 ghost use Rattle.tree_nodes.specs.RowViews.{row_view, parent_view};
 ghost use Rattle.tree_nodes.specs.TreeTables.{NodesView, Stand};
 ghost use Rattle.std.specs.Arc.{arc_value};
 ghost use Rattle.tree_nodes.specs.Bodies.{body_view, IsWhole};
-ghost use Rattle.tree_nodes.specs.Changes.{SetsAt, Fits, KeepsNumbers, Adds, CanHold, IsLonger, first_of};
+ghost use Rattle.tree_nodes.specs.Changes.{SetsAt, Fits, KeepsNumbers, Adds, CanHold, IsLonger, ClosesAt, LowersSpare, first_of};
+ghost use Rattle.tree_nodes.specs.Folds.{FoldsUpTo, IsAbove};
+ghost use Rattle.tree_nodes.specs.Gathering.{IsFoldStep, Gathers};
 
 use crate::body::NodeBody;
 use crate::cells::{link_cell, put_cell};
 use crate::row::{Alternative, Row, Slot};
-use crate::state::{AltState};
+use crate::gather::Gathered;
+use crate::state::{AltState, Credit};
 use au_term::NoMemory;
 use std::alloc::Global;
 use std::marker::Model;
@@ -108,6 +111,20 @@ impl Nodes {
         self.row(node).is_some()
     }
 
+    /// The alternative that a node is below, if it is below one.
+    pub fn parent(&self, node: u64) -> Option<AltRef>
+        requires { IsSome (row_at self.now.rows node) }
+        ensures parent { option_map (λ r. r.parent) (row_at self.now.rows node) ≡ Some (parent_view result) }
+        ensures above { IsAbove self.now.rows (parent_view result) node }
+    {
+        // The proof reads off that there is a tree.
+        let _live = self.live();
+        match self.row(node) {
+            Some(row) => row.parent,
+            None => unreachable!(),
+        }
+    }
+
     fn alternative(&self, at: AltRef) -> &Alternative
         requires { IsSome (cell_at self.now.rows (place_view at)) }
         ensures { cell_at self.now.rows (place_view at) ≡ Some (result.now.spent, cell_view result.now.state) }
@@ -163,6 +180,67 @@ impl Nodes {
         self.first = first_after(self.first, parent, number);
         self.live = live;
         Ok(number)
+    }
+
+    /// Closes an alternative, and drops what stood below it. Where all alternatives of a node below another have then
+    /// closed, it folds into the alternative that it is below, and so on.
+    pub fn close(&mut self, at: AltRef, credit: Credit) -> Result<(), NoMemory>
+        requires there { IsSome (cell_at self.old.rows (place_view at)) }
+        ensures closed { OnOk result (ClosesAt self.old self.new (place_view at) (credit_view credit)) }
+        ensures numbers { OnOk result (LowersSpare self.old self.new) }
+        ensures err { OnErr result (self.new ≡ self.old) }
+    {
+        let (end, total) = self.folded(at, credit)?;
+        let spent = self.spent(end);
+        self.set(end, AltState::Closed(total), spent);
+        self.spare = self.spare.saturating_sub(1);
+        Ok(())
+    }
+
+    // Where an alternative that closes with this credit folds to, and with what.
+    fn folded(&self, at: AltRef, credit: Credit) -> Result<(AltRef, Credit), NoMemory>
+        requires { IsSome (cell_at self.now.rows (place_view at)) }
+        ensures folds { IfOk result (λ f. FoldsUpTo self.now (place_view at) (credit_view credit) (place_view f.0) (credit_view f.1)) }
+        ensures there { IfOk result (λ f. IsSome (cell_at self.now.rows (place_view f.0))) }
+    {
+        let mut gathered = Gathered::new(self.alloc, credit);
+        let mut end = at;
+        while let Some(above) = self.fold_step(end, &mut gathered)? {
+            end = above;
+        }
+        let total = gathered.finish()?;
+        Ok((end, total))
+    }
+
+    // Adds what is beside an alternative, where its node folds, and gives the alternative that the node is below.
+    fn fold_step(&self, at: AltRef, gathered: &mut Gathered) -> Result<Option<AltRef>, NoMemory>
+        requires { IsSome (cell_at self.now.rows (place_view at)) }
+        ensures step { IfOk result (λ above. IsFoldStep self.now.rows (place_view at) gathered.old (parent_view above) gathered.new) }
+        ensures above { IfOk result (λ above. IsAbove self.now.rows (parent_view above) at.node) }
+    {
+        let Some(above) = self.parent(at.node) else {
+            return Ok(None);
+        };
+        if !self.gather(at, gathered)? {
+            return Ok(None);
+        }
+        gathered.spend(self.spent(above));
+        Ok(Some(above))
+    }
+
+    fn gather(&self, at: AltRef, gathered: &mut Gathered) -> Result<bool, NoMemory>
+        requires { IsSome (cell_at self.now.rows (place_view at)) }
+        ensures { IfOk result (λ shut. Gathers (row_at self.now.rows at.node) at.alternative shut gathered.old gathered.new) }
+    {
+        let Some(row) = self.row(at.node) else {
+            unreachable!()
+        };
+        let index = at.alternative as usize;
+        if !row.shut_beside(index) {
+            return Ok(false);
+        }
+        row.gather_beside(index, gathered)?;
+        Ok(true)
     }
 }
 
