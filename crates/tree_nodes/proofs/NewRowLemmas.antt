@@ -1,5 +1,5 @@
 -- The cells of new alternatives, made one by one.
-use Rattle.std.proofs.Common.{◌≡◌, ℕ, zero, suc, ◌+◌, List, [], ◌∷◌, ◌++◌, refl, sym, ap, ◌∙◌, arith}
+use Rattle.std.proofs.Common.{◌≡◌, ℕ, zero, suc, ◌+◌, length, List, [], ◌∷◌, ◌++◌, refl, sym, ap, ◌∙◌, arith}
 use Rattle.tree_nodes.specs.Bodies.{BodyKind, first_hold}
 use Rattle.tree_nodes.specs.Rows.{Cell, PendingCell}
 use Rattle.tree_nodes.specs.RowViews.{new_cells}
@@ -12,3 +12,7 @@ new_cells-more kind i (suc k) =
     ap (new_cells kind i) one
     ∙ (ap (λ (cells : List (ℕ × Cell)). (0, PendingCell (first_hold kind i)) ∷ cells) (new_cells-more kind (suc i) k)
     ∙ ap (λ (j : ℕ). (0, PendingCell (first_hold kind i)) ∷ (new_cells kind (suc i) k ++ (0, PendingCell (first_hold kind j)) ∷ [])) shift)
+
+pub length-new_cells : (kind : BodyKind) (i k : ℕ) → length (new_cells kind i k) ≡ k
+length-new_cells kind i zero = refl
+length-new_cells kind i (suc k) = ap suc (length-new_cells kind (suc i) k)

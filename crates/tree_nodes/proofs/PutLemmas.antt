@@ -11,7 +11,7 @@ use Rattle.tree_model.specs.SoundTrees.{one_if, count_in, count_among, count_bel
 use Rattle.tree_nodes.specs.Bodies.{Branching, Reading}
 use Rattle.tree_nodes.specs.Rows.{Cell, PendingCell, InnerCell, ClosedCell, NodeRow, Rows, row_at, cells_at, cell_at}
 use Rattle.tree_nodes.specs.RowViews.{with_cell, inner_of}
-use Rattle.tree_nodes.specs.TreeTables.{number_of, cell_of, IsNodeIn, IsIn, NodesView, StandsFor, Stand}
+use Rattle.tree_nodes.specs.TreeTables.{number_of, cell_of, IsNodeIn, IsIn, IsRoot, NodesView, StandsFor, Stand}
 use Rattle.tree_nodes.specs.Changes.{IsEntryOf, IsSet, SetsAt, Fits}
 use Rattle.tree_nodes.specs.Drops.{IsDropped, DropsNode}
 use Rattle.tree_nodes.specs.Puts.{inner_at, IsReplaced, IsDroppedBy, IsPut}
@@ -218,4 +218,15 @@ no_nodes_stand = record {
   read = λ way. EndEntry None;
   root = Closed no_credit;
   stands = record { placed = tt; rooted = refl; distinct = λ n. omega arith; others = λ n h. refl; live = refl };
+}
+
+-- a table with the same rows, wherever they end
+pub same_rows : (old new : NodesView) (read : Reading) (root : Status) → ((m : ℕ) → row_at new.rows m ≡ row_at old.rows m) → new.first ≡ old.first
+    → new.live ≡ old.live → StandsFor old read root → StandsFor new read root
+same_rows old new read root rows first live s = record {
+  placed = below_kept old.rows new.rows read [] None root (λ m l. rows m) s.placed;
+  rooted = subst (λ (o : Option ℕ). IsRoot o root) (sym first) s.rooted;
+  distinct = s.distinct;
+  others = λ m h. rows m ∙ s.others m h;
+  live = live ∙ s.live;
 }

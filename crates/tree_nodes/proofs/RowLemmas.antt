@@ -1,5 +1,6 @@
 -- Rows of a table that is changed at one number.
-use Rattle.std.proofs.Common.{◌≡◌, ◌≢◌, ℕ, zero, suc, ◌+◌, ◌<◌, ◌≤◌, List, [], ◌∷◌, length, Option, Some, None, refl, sym, ap, ◌∙◌, arith, get_or}
+use Rattle.std.proofs.Common.{◌≡◌, ◌≢◌, ℕ, zero, suc, ◌+◌, ◌<◌, ◌≤◌, List, [], ◌∷◌, length, Option, Some, None, refl, sym, ap, ◌∙◌, arith, get_or, take}
+use Rattle.std.proofs.Math.Seq.{take-nil}
 use Rattle.std.specs.Prelude.{slice_set}
 use Rattle.tree_nodes.specs.Rows.{NodeRow, Rows, row_at}
 use Rattle.tree_nodes.specs.Drops.{row_weight, weight}
@@ -38,3 +39,10 @@ pub row_at-read : (rows : Rows) (i : ℕ) (x : Option NodeRow) → i < length ro
 row_at-read [] i x l e = absurd (omega (arith, l))
 row_at-read (r ∷ rows) zero x l e = sym e
 row_at-read (r ∷ rows) (suc i) x l e = row_at-read rows i x (omega (arith, l)) e
+
+pub row_at-take : (rows : Rows) (n m : ℕ) → ((k : ℕ) → n ≤ k → row_at rows k ≡ None) → row_at (take n rows) m ≡ row_at rows m
+row_at-take [] n m h = ap (λ (rs : Rows). row_at rs m) (take-nil n)
+row_at-take (r ∷ rows) zero zero h = sym (h 0 (omega arith))
+row_at-take (r ∷ rows) zero (suc m) h = sym (h (suc m) (omega arith))
+row_at-take (r ∷ rows) (suc n) zero h = refl
+row_at-take (r ∷ rows) (suc n) (suc m) h = row_at-take rows n m (λ k l. h (suc k) (omega (arith, l)))

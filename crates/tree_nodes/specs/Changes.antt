@@ -1,5 +1,5 @@
 -- How calls change the tree, round a place.
-use Rattle.std.specs.Prelude.{◌≡◌, ℕ, ◌+◌, ◌-◌, List, [], ◌∷◌, Option, Some, None, length}
+use Rattle.std.specs.Prelude.{◌≡◌, ℕ, ◌+◌, ◌-◌, ◌≤◌, min, List, [], ◌∷◌, Option, Some, None, length}
 use Rattle.run_model.specs.Machine.Entries.{Entry}
 use Rattle.tree_model.specs.Credits.{Credit, no_credit, added, credit_of}
 use Rattle.tree_model.specs.Nodes.{Hold, Status, Pending, Inner, Closed}
@@ -64,6 +64,16 @@ IsOpenCell (Some c) = elim c.1 [ PendingCell hold ↦ Unit {0} | InnerCell n ↦
 abbrev pub CanHold : NodesView → Option Place → Type 0
 CanHold nodes None = nodes.live ≡ 0
 CanHold nodes (Some a) = IsOpenCell (cell_at nodes.rows a)
+
+-- numbers from one on name no node
+abbrev pub AreGone : Rows → ℕ → Type 0
+AreGone rows next = (m : ℕ) → next ≤ m → row_at rows m ≡ None
+
+-- they are drawn anew, and the tree is the same
+pub record GivesBack (old new : NodesView) (next : ℕ) : Type 0 where
+  pub length : length new.rows ≡ min next (length old.rows)
+  pub spare : new.spare ≡ old.spare
+  pub same : (read : Reading) (root : Status) → StandsFor old read root → StandsFor new read root
 
 -- no number is drawn, and one closing less is provided for
 pub record LowersSpare (old new : NodesView) : Type 0 where

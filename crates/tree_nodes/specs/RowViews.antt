@@ -1,5 +1,5 @@
 -- Rows as the code keeps them, and how one is changed.
-use Rattle.std.specs.Prelude.{◌≡◌, ℕ, zero, suc, length, List, [], ◌∷◌, ◌++◌, Option, Some, None, map, slice_set}
+use Rattle.std.specs.Prelude.{◌≡◌, ◌<◌, ◌^◌, ℕ, zero, suc, length, List, [], ◌∷◌, ◌++◌, Option, Some, None, map, slice_set}
 use Rattle.std.specs.Option.{option_map}
 use Rattle.std.specs.Arc.{arc_value}
 use Rattle.std.specs.Global.{Global}
@@ -27,6 +27,11 @@ row_view r = record { parent = parent_view r.parent; body = body_view (arc_value
 abbrev pub slot_view : Option (Box Row Global) → Option NodeRow
 slot_view None = None
 slot_view (Some b) = Some (row_view b.value)
+
+-- the index of each alternative fits 32 bits
+abbrev pub IsNarrow : Option NodeRow → Type 0
+IsNarrow None = Unit {0}
+IsNarrow (Some r) = length r.cells < 2 ^ 32
 
 abbrev pub with_cells : List (ℕ × Cell) → NodeRow → NodeRow
 with_cells cells r = record { parent = r.parent; body = r.body; cells = cells }

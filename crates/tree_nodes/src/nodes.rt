@@ -2,12 +2,12 @@
 ghost use Rattle.std.specs.Prelude.{◌≡◌, ◌<◌, ◌+◌, ◌-◌, max, IsSome, IsOk, IfOk, OnOk, OnErr, Some, None, [], length, is_some};
 ghost use Rattle.std.specs.Option.{option_map, option_copied};
 ghost use Rattle.tree_model.specs.EventViews.{place_view};
-ghost use Rattle.tree_nodes.specs.Rows.{row_at, cell_at, cell_view, credit_view};
+ghost use Rattle.tree_nodes.specs.Rows.{row_at, cell_at, cells_at, cell_view, credit_view};
 ghost use Rattle.tree_nodes.specs.RowViews.{row_view, parent_view};
 ghost use Rattle.tree_nodes.specs.TreeTables.{NodesView, Stand};
 ghost use Rattle.std.specs.Arc.{arc_value};
 ghost use Rattle.tree_nodes.specs.Bodies.{body_view, IsWhole};
-ghost use Rattle.tree_nodes.specs.Changes.{SetsAt, Fits, KeepsNumbers, Adds, CanHold, IsLonger, ClosesAt, LowersSpare, first_of};
+ghost use Rattle.tree_nodes.specs.Changes.{SetsAt, Fits, KeepsNumbers, Adds, CanHold, IsLonger, ClosesAt, LowersSpare, AreGone, GivesBack, first_of};
 ghost use Rattle.tree_nodes.specs.Folds.{FoldsUpTo, IsAbove};
 ghost use Rattle.tree_nodes.specs.Gathering.{IsFoldStep, Gathers};
 
@@ -125,6 +125,27 @@ impl Nodes {
         }
     }
 
+    /// What a node was made from.
+    pub fn body(&self, node: u64) -> &Arc<NodeBody>
+        requires { IsSome (row_at self.now.rows node) }
+        ensures { option_map (λ r. r.body) (row_at self.now.rows node) ≡ Some (body_view (arc_value result.now)) }
+    {
+        match self.row(node) {
+            Some(row) => &row.body,
+            None => unreachable!(),
+        }
+    }
+
+    /// How many alternatives a node has; none where it is gone.
+    pub fn width(&self, node: u64) -> u32
+        ensures { result ≡ length (cells_at (row_at self.now.rows node)) }
+    {
+        match self.slots.get(node as usize) {
+            Some(slot) => slot.width(),
+            None => 0,
+        }
+    }
+
     fn alternative(&self, at: AltRef) -> &Alternative
         requires { IsSome (cell_at self.now.rows (place_view at)) }
         ensures { cell_at self.now.rows (place_view at) ≡ Some (result.now.spent, cell_view result.now.state) }
@@ -180,6 +201,15 @@ impl Nodes {
         self.first = first_after(self.first, parent, number);
         self.live = live;
         Ok(number)
+    }
+
+    /// Gives back the numbers from this one on, none of which names a node. So what was added and dropped again leaves no
+    /// trace.
+    pub fn give_back(&mut self, next: u64)
+        requires { AreGone self.old.rows next }
+        ensures { GivesBack self.old self.new next }
+    {
+        self.slots.truncate(next as usize);
     }
 
     /// Closes an alternative, and drops what stood below it. Where all alternatives of a node below another have then

@@ -97,7 +97,8 @@ fn first_state(kind: &NodeKind, index: usize) -> AltState
 
 // The alternatives of a new node.
 fn first_alternatives(alloc: Global, body: &NodeBody) -> Result<Vec<Alternative>, NoMemory>
-    ensures { IfOk result (λ v. map alternative_view v.items ≡ new_cells (kind_view body.now.kind) 0 (vec_len body.now.branches)) }
+    ensures cells { IfOk result (λ v. map alternative_view v.items ≡ new_cells (kind_view body.now.kind) 0 (vec_len body.now.branches)) }
+    ensures many { IfOk result (λ v. length (map alternative_view v.items) ≡ vec_len body.now.branches) }
 {
     let mut alternatives = Vec::new(alloc);
     for i in 0..body.branches.len() {
@@ -158,9 +159,11 @@ impl Model for Slot {
 
     ghost coded = { Prim.hlevel (codes, term_code, flat.the_row.coded, shared.the_row.coded) };
 
-    ghost use Rattle.tree_nodes.specs.RowViews.{slot_view};
+    ghost use Rattle.tree_nodes.specs.RowViews.{slot_view, IsNarrow};
 
     ghost view = { λ s. slot_view s.row };
+
+    ghost invariant = { λ s. IsNarrow (slot_view s.row) };
 }
 
 /// What was taken off a row.
@@ -181,6 +184,10 @@ impl Slot {
     ) -> Result<Slot, NoMemory>
         ensures { IfOk result (λ slot. slot ≡ Some (new_row (parent_view parent) (body_view (arc_value body)))) }
     {
+        // An alternative's index has to fit its name.
+        if body.branches.len() > u32::MAX as usize {
+            return Err(NoMemory);
+        }
         let alternatives = first_alternatives(alloc, &body)?;
         let row = Row {
             parent,
@@ -199,6 +206,16 @@ impl Slot {
         match &self.row {
             Some(row) => Some(row),
             None => None,
+        }
+    }
+
+    /// How many alternatives there are.
+    pub(crate) fn width(&self) -> u32
+        ensures { result ≡ length (cells_at self.now) }
+    {
+        match &self.row {
+            Some(row) => row.alternatives.len() as u32,
+            None => 0,
         }
     }
 
