@@ -1,24 +1,23 @@
 -- A new node below an alternative, and a first one.
 use Rattle.std.proofs.Common.{◌≡◌, ◌≢◌, ℕ, zero, suc, ◌+◌, ◌<◌, ◌≤◌, ◌==◌, List, [], ◌∷◌, ◌++◌, length, Option, Some, None}
 use Rattle.std.proofs.Common.{refl, sym, ap, ◌∙◌, arith, subst, inl, inr}
-use Rattle.std.specs.Prelude.{slice_get, IsSome}
+use Rattle.std.specs.Prelude.{slice_get}
 use Rattle.std.proofs.lemmas.Bool.{cases_lt}
 use Rattle.clause_compile.specs.declared.event.Branch.{Branch}
-use Rattle.tree_model.specs.Credits.{Credit, no_credit}
-use Rattle.tree_model.specs.Nodes.{Kind, Node, Numbered, Alternatives, none, alternative, Status, Pending, Inner, Closed, nodes_among, nodes_below}
-use Rattle.tree_model.specs.Levels.{Level, level_node, plug, Place, place_at}
-use Rattle.tree_model.specs.SoundTrees.{one_if, count_in, count_among, count_below}
-use Rattle.tree_nodes.specs.Bodies.{Body, Branching, Reading, kind_of, first_hold, new_alternatives, new_node}
-use Rattle.tree_nodes.specs.Rows.{Cell, PendingCell, InnerCell, ClosedCell, NodeRow, Rows, row_at, cells_at, cell_at}
+use Rattle.tree_model.specs.Nodes.{Numbered, Status, Pending, Inner, Closed, nodes_among, nodes_below}
+use Rattle.tree_model.specs.Levels.{Level, plug, Place, place_at}
+use Rattle.tree_model.specs.SoundTrees.{one_if, count_among, count_below}
+use Rattle.tree_nodes.specs.Bodies.{Body, Branching, Reading, first_hold, new_alternatives, new_node}
+use Rattle.tree_nodes.specs.Rows.{Cell, PendingCell, InnerCell, NodeRow, Rows, row_at, cells_at, cell_at}
 use Rattle.tree_nodes.specs.RowViews.{with_cell, new_cells, new_row}
-use Rattle.tree_nodes.specs.TreeTables.{number_of, cell_of, cells_of, IsBelow, AreIn, IsIn, NodesView, IsRoot, StandsFor, Stand, IsWayTo, above_of}
-use Rattle.tree_nodes.specs.Changes.{AddsAt, AddsFirst, Adds, IsOpenCell, CanHold, first_of}
-use Rattle.tree_nodes.specs.Puts.{IsReplaced, IsLinkedAt, IsLinked}
-use Rattle.tree_nodes.proofs.PlaceLemmas.{AreRound, IsPlaced, taken_out, count_around, count_plug, nodes_around, nodes_plug, one_if-same, one_if-other}
-use Rattle.tree_nodes.proofs.FrameLemmas.{ChangesCell, Replaces, replaced}
-use Rattle.tree_nodes.proofs.LocateLemmas.{IsAt, located, found}
-use Rattle.tree_nodes.proofs.RowLemmas.{row_at_past, row_at_within}
-use Rattle.tree_nodes.proofs.PutLemmas.{cell_there, is_some_cell}
+use Rattle.tree_nodes.specs.TreeTables.{cell_of, cells_of, IsBelow, AreIn, IsIn, NodesView, StandsFor, Stand, IsWayTo, above_of}
+use Rattle.tree_nodes.specs.Changes.{AddsFirst, Adds, IsOpenCell, CanHold, first_of}
+use Rattle.tree_nodes.specs.Puts.{IsLinkedAt, IsLinked}
+use Rattle.tree_nodes.proofs.PlaceLemmas.{AreRound, taken_out, count_around, count_plug, nodes_plug, one_if-same, one_if-other}
+use Rattle.tree_nodes.proofs.FrameLemmas.{replaced}
+use Rattle.tree_nodes.proofs.LocateLemmas.{located, found}
+use Rattle.tree_nodes.proofs.RowLemmas.{row_at_within}
+use Rattle.tree_nodes.proofs.PutLemmas.{cell_there}
 
 -- one more row
 pub row_at-more : (rows : Rows) (r : Option NodeRow) (m : ℕ) → m ≢ length rows → row_at (rows ++ r ∷ []) m ≡ row_at rows m
@@ -52,19 +51,27 @@ new_in rows read way body n i (b ∷ bs) = (refl, new_in rows read way body n (s
 
 new_placed : (rows : Rows) (read : Reading) (way : Branching) (parent : Option Place) (n : ℕ) (body : Body) → row_at rows n ≡ Some (new_row parent body)
     → IsBelow parent n → IsIn rows read way parent (Inner (new_node read way n body))
-new_placed rows read way parent n body e below =
-    (body, (e ∙ ap (λ (cells : List (ℕ × Cell)). Some (record { parent = parent; body = body; cells = cells }))
-    (sym (cells_of-new read way body 0 body.branches)), refl, below, new_in rows read way body n 0 body.branches))
+new_placed rows read way parent n body e below = (
+  body,
+  (
+    e ∙ ap (λ (cells : List (ℕ × Cell)). Some (record { parent = parent; body = body; cells = cells }))
+        (sym (cells_of-new read way body 0 body.branches)),
+    refl,
+    below,
+    new_in rows read way body n 0 body.branches,
+  ),
+)
 
 -- no number from the length of the table on is in the tree
 pub numbers_within : (nodes : NodesView) (read : Reading) (root : Status) (m : ℕ) → StandsFor nodes read root → length nodes.rows ≤ m → count_below m root ≡ 0
 numbers_within nodes read root m s l =
     elim (cases_lt 0 (count_below m root)) [
-      inl there ↦ (let f = found m root there in
-        let placed : IsIn nodes.rows read [] None (plug f.up (Inner (Numbered m f.kind f.alternatives))) = subst (IsIn nodes.rows read [] None) f.is s.placed in
-        let k = taken_out nodes.rows read f.up (Inner (Numbered m f.kind f.alternatives)) placed in
-        let within = row_at_within nodes.rows m _ k.inside.1.0 in absurd (omega (arith, l, within)))
-      | inr not ↦ omega (arith, not) ]
+      | inl there ↦ (let f = found m root there in
+          let placed : IsIn nodes.rows read [] None (plug f.up (Inner (Numbered m f.kind f.alternatives))) = subst (IsIn nodes.rows read [] None) f.is s.placed in
+          let k = taken_out nodes.rows read f.up (Inner (Numbered m f.kind f.alternatives)) placed in
+          let within = row_at_within nodes.rows m _ k.inside.1.0 in absurd (omega (arith, l, within)))
+      | inr not ↦ omega (arith, not)
+    ]
 
 -- the way down to a place is one
 pub way_to : (rows : Rows) (read : Reading) (levels : List Level) (way : Branching) (cell : Cell) → AreRound rows read levels way cell → IsWayTo rows levels way
@@ -97,16 +104,17 @@ module _ (old new : NodesView) (read : Reading) (v : Level) (up : List Level) (w
 
   was_open : (there : Status) → was ≡ there → ((m : ℕ) → count_below m was ≡ 0) × (nodes_below was ≡ 0)
   was_open (Pending hold entry) w = ((λ m. ap (count_below m) w), ap nodes_below w)
-  was_open (Inner node) w = absurd (subst IsOpenCell (was_cell ∙ ap (λ (x : Status). Some (v.spent, cell_of x)) w) open_cell)
-  was_open (Closed credit) w = absurd (subst IsOpenCell (was_cell ∙ ap (λ (x : Status). Some (v.spent, cell_of x)) w) open_cell)
+  was_open (Inner node) w = absurd (let z = subst IsOpenCell (was_cell ∙ ap (λ (x : Status). Some (v.spent, cell_of x)) w) open_cell in cc z)
+  was_open (Closed credit) w = absurd (let z = subst IsOpenCell (was_cell ∙ ap (λ (x : Status). Some (v.spent, cell_of x)) w) open_cell in cc z)
 
   around_of : (m : ℕ) → count_below m (plug (v ∷ up) was) ≡ count_around m (v ∷ up)
   around_of m = let p = count_plug m (v ∷ up) was in let z = (was_open was refl).0 m in omega (arith, p, z)
 
   around_within : (m : ℕ) → 0 < count_around m (v ∷ up) → m < length old.rows
   around_within m l = elim (cases_lt m (length old.rows)) [
-      inl h ↦ h
-    | inr h ↦ absurd (let z = numbers_within old read (plug (v ∷ up) was) m s h in let a = around_of m in omega (arith, l, z, a)) ]
+    | inl h ↦ h
+    | inr h ↦ absurd (let z = numbers_within old read (plug (v ∷ up) was) m s h in let a = around_of m in omega (arith, l, z, a))
+  ]
 
   own_within : v.number < length old.rows
   own_within = around_within v.number (let o = one_if-same v.number in omega (arith, o))
@@ -115,7 +123,7 @@ module _ (old new : NodesView) (read : Reading) (v : Level) (up : List Level) (w
   unfolding pushed
   same_spent =
       let here : cell_at pushed (place_at v) ≡ Some (v.spent, cell_of was) = ap (λ (o : Option NodeRow). slice_get (cells_at o) (length v.left))
-        (row_at-more old.rows (Some (new_row (Some (place_at v)) body)) v.number (λ e. (let l = own_within in absurd (omega (arith, e, l))))) ∙ was_cell in
+      (row_at-more old.rows (Some (new_row (Some (place_at v)) body)) v.number (λ e. (let l = own_within in absurd (omega (arith, e, l))))) ∙ was_cell in
       let pairs : Some (linked.spent, linked.cell) ≡ Some (v.spent, cell_of was) = sym linked.there ∙ here in
       ap spent_or pairs
     where
@@ -134,7 +142,7 @@ module _ (old new : NodesView) (read : Reading) (v : Level) (up : List Level) (w
       let own = own_within in
       let apart : n ≢ v.number = (λ e. absurd (omega (arith, e, own))) in
       let row : row_at new.rows n ≡ Some (new_row (Some (place_at v)) body) = linked.replaced.same n apart
-        ∙ row_at-last old.rows (Some (new_row (Some (place_at v)) body)) in
+      ∙ row_at-last old.rows (Some (new_row (Some (place_at v)) body)) in
       let node : (m : ℕ) → count_among m (new_alternatives read way body 0 body.branches) ≡ 0 = new_none read way body 0 body.branches in
       replaced old new read v up was (Inner (new_node read way n body)) v.spent s (record {
         cell = record {
@@ -147,15 +155,16 @@ module _ (old new : NodesView) (read : Reading) (v : Level) (up : List Level) (w
         inside = subst (λ (w : Branching). IsIn new.rows read w (Some (place_at v)) (Inner (new_node read way n body))) (sym same_way)
             (new_placed new.rows read way (Some (place_at v)) n body row own);
         distinct = λ m. (let z = s.distinct m in let a = around_of m in let b = node m in
-          elim (cases_lt 0 (count_around m (v ∷ up))) [
-            inl l ↦ (let c = around_within m l in let d = one_if-other n m (λ e. absurd (omega (arith, e, c))) in omega (arith, z, a, b, d))
-          | inr not ↦ (let e = one_if_le n m in omega (arith, b, not, e)) ]);
+            elim (cases_lt 0 (count_around m (v ∷ up))) [
+              | inl l ↦ (let c = around_within m l in let d = one_if-other n m (λ e. absurd (omega (arith, e, c))) in omega (arith, z, a, b, d))
+              | inr not ↦ (let e = one_if_le n m in omega (arith, b, not, e))
+            ]);
         others = λ m h k. (let b = node m in
-          let past : m ≢ n = (λ e. (let o = one_if-same n in let k' = subst (λ (j : ℕ). one_if (n == j) + count_among j (new_alternatives read way body 0 body.branches) ≡ 0) e k in absurd (omega (arith, o, k')))) in
-          let ne : m ≢ v.number = (λ e. (let o = one_if-same v.number in let h' = subst (λ (j : ℕ). count_around j (v ∷ up) ≡ 0) e h in absurd (omega (arith, o, h')))) in
-          old_row m ne past ∙ s.others m (around_of m ∙ h));
+            let past : m ≢ n = (λ e. (let o = one_if-same n in let k' = subst (λ (j : ℕ). one_if (n == j) + count_among j (new_alternatives read way body 0 body.branches) ≡ 0) e k in absurd (omega (arith, o, k')))) in
+            let ne : m ≢ v.number = (λ e. (let o = one_if-same v.number in let h' = subst (λ (j : ℕ). count_around j (v ∷ up) ≡ 0) e h in absurd (omega (arith, o, h')))) in
+            old_row m ne past ∙ s.others m (around_of m ∙ h));
         live = (let p = nodes_plug (v ∷ up) was in let l = s.live in let z = (was_open was refl).1 in let c = new_nodes read way body 0 body.branches in
-          omega (arith, p, l, z, c, one_more));
+            omega (arith, p, l, z, c, one_more));
         first = first_same;
       })
     where
@@ -175,7 +184,7 @@ adds_first old new body rows first live read c s =
       rooted = first;
       distinct = λ m. (let a = new_none read [] body 0 body.branches m in let b = one_if_le n m in omega (arith, a, b));
       others = λ m h. (let past : m ≢ n = (λ e. (let o = one_if-same n in let h' = subst (λ (j : ℕ). one_if (n == j) + count_among j alternatives ≡ 0) e h in absurd (omega (arith, o, h')))) in
-        row_of m ∙ (row_at-more old.rows (Some (new_row None body)) m past ∙ s.others m refl));
+          row_of m ∙ (row_at-more old.rows (Some (new_row None body)) m past ∙ s.others m refl));
       live = (let a = new_nodes read [] body 0 body.branches in let l = s.live in omega (arith, a, l, live));
     }
   where
@@ -193,7 +202,7 @@ adds old new (Some a) body linked first live can = λ read v up was way e s w.
     adds_at old new read v up was body s (subst O (sym e) can) (subst L (sym e) linked) first live way w
 
 open_there : (o : Option (ℕ × Cell)) → IsOpenCell o → (c : ℕ × Cell) × (o ≡ Some c)
-open_there None h = absurd h
+open_there None h = absurd (cc h)
 open_there (Some c) h = (c, refl)
 
 pub adds_stand : (old new : NodesView) (parent : Option Place) (body : Body) → Stand old → CanHold old parent

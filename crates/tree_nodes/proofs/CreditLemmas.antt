@@ -1,17 +1,17 @@
 -- Credits beside an alternative, in the table and in the tree.
-use Rattle.std.proofs.Common.{◌≡◌, ◌⊎◌, ℕ, zero, suc, ◌+◌, Bool, true, false, List, [], ◌∷◌, ◌++◌, length, Option, Some, None, take, drop, min}
-use Rattle.std.proofs.Common.{refl, sym, ap, ◌∙◌, arith, subst, inl, inr, append_assoc}
+use Rattle.std.proofs.Common.{◌≡◌, ◌⊎◌, ℕ, Bool, true, false, List, [], ◌∷◌, ◌++◌, Option, Some, None}
+use Rattle.std.proofs.Common.{refl, sym, ap, ◌∙◌, arith, inl, inr, append_assoc}
 use Rattle.std.specs.Prelude.{◌&&◌}
 use Rattle.std.proofs.lemmas.List.{append-nil}
 use Rattle.au_term.specs.Term.{Term}
-use Rattle.tree_model.specs.Credits.{Credit, no_credit, counted, added, credit_of, greatest}
+use Rattle.tree_model.specs.Credits.{Credit, no_credit, counted, added}
 use Rattle.tree_model.specs.Nodes.{Alternatives, none, alternative, Status, Pending, Inner, Closed}
 use Rattle.tree_model.specs.Closing.{and_then, closed_credit, all_left, all_right, all_closed}
 use Rattle.tree_model.specs.Levels.{Level}
-use Rattle.tree_nodes.specs.Rows.{Cell, PendingCell, InnerCell, ClosedCell}
+use Rattle.tree_nodes.specs.Rows.{Cell}
 use Rattle.tree_nodes.specs.TreeTables.{cell_of, cells_of}
-use Rattle.tree_nodes.specs.Gathering.{closed_in, is_shut, are_shut, add_left, add_right, with_left, with_right, shut_beside, with_beside}
-use Rattle.tree_nodes.proofs.PlaceLemmas.{left_cells, length-left_cells}
+use Rattle.tree_nodes.specs.Gathering.{closed_in, is_shut, are_shut, add_left, with_left, with_right}
+use Rattle.tree_nodes.proofs.PlaceLemmas.{left_cells}
 
 same_credit : (i j a b : ℕ) (rs ts : List Term) → i ≡ j → a ≡ b → rs ≡ ts
     → ◌≡◌ {A = Credit} (record { inferences = i; answers = a; records = rs }) (record { inferences = j; answers = b; records = ts })
@@ -85,14 +85,17 @@ left_sums (a ∷ left) = by_status (left_sums left) a.1 refl
       shut = are_shut-snoc (left_cells left) (a.0, cell_of a.1) ∙ ap (λ (b : Bool). b && is_shut (cell_of a.1)) o.shut;
       all = ap (λ (o : Option Credit). and_then o (closed_credit a.1)) o.all;
     })
-    closed e is (inl h) = inl (added h.0 e, record {
-      shut = are_shut-snoc (left_cells left) (a.0, cell_of a.1)
-          ∙ (ap (λ (b : Bool). b && is_shut (cell_of a.1)) h.1.shut ∙ ap (λ (s : Status). is_shut (cell_of s)) is);
-      all = ap (λ (o : Option Credit). and_then o (closed_credit a.1)) h.1.all ∙ ap (λ (s : Status). and_then (Some h.0) (closed_credit s)) is;
-      sum = λ d c. ap (added d) (added-assoc h.0 e c) ∙ (h.1.sum d (added e c)
-          ∙ ap (added d) (ap (λ (s : Status). with_left (left_cells left) (add_left (closed_in (cell_of s)) c)) (sym is)
-          ∙ sym (with_left-snoc (left_cells left) (a.0, cell_of a.1) c)));
-    })
+    closed e is (inl h) = inl (
+      added h.0 e,
+      record {
+        shut = are_shut-snoc (left_cells left) (a.0, cell_of a.1)
+            ∙ (ap (λ (b : Bool). b && is_shut (cell_of a.1)) h.1.shut ∙ ap (λ (s : Status). is_shut (cell_of s)) is);
+        all = ap (λ (o : Option Credit). and_then o (closed_credit a.1)) h.1.all ∙ ap (λ (s : Status). and_then (Some h.0) (closed_credit s)) is;
+        sum = λ d c. ap (added d) (added-assoc h.0 e c) ∙ (h.1.sum d (added e c)
+            ∙ ap (added d) (ap (λ (s : Status). with_left (left_cells left) (add_left (closed_in (cell_of s)) c)) (sym is)
+            ∙ sym (with_left-snoc (left_cells left) (a.0, cell_of a.1) c)));
+      },
+    )
 
     by_status : (((total : Credit) × IsLeftSum left total) ⊎ IsLeftOpen left) → (s : Status) → a.1 ≡ s
         → ((total : Credit) × IsLeftSum (a ∷ left) total) ⊎ IsLeftOpen (a ∷ left)
@@ -118,11 +121,14 @@ right_sums (alternative spent (Closed e) others) = closed (right_sums others)
     closed : (((total : Credit) × IsRightSum others total) ⊎ IsRightOpen others)
         → ((total : Credit) × IsRightSum (alternative spent (Closed e) others) total) ⊎ IsRightOpen (alternative spent (Closed e) others)
     closed (inr o) = inr (record { shut = o.shut; all = ap (and_then (Some e)) o.all })
-    closed (inl h) = inl (added e h.0, record {
-      shut = h.1.shut;
-      all = ap (and_then (Some e)) h.1.all;
-      sum = λ d c. ap (added d) (sym (added-assoc c e h.0)) ∙ h.1.sum d (added c e);
-    })
+    closed (inl h) = inl (
+      added e h.0,
+      record {
+        shut = h.1.shut;
+        all = ap (and_then (Some e)) h.1.all;
+        sum = λ d c. ap (added d) (sym (added-assoc c e h.0)) ∙ h.1.sum d (added c e);
+      },
+    )
 
 -- sums that are the same behind any credit
 with_left_same : (cells : List (ℕ × Cell)) (a b : Credit) → ((d : Credit) → added d a ≡ added d b) → (d : Credit)
@@ -148,12 +154,15 @@ beside_sum v c s = by_parts (left_sums v.left) (right_sums v.right)
         → (total : Credit) × IsBesideSum v c (left_cells v.left) (cells_of v.right) total
     by_parts (inr o) r = absurd (let z : (false && are_shut (cells_of v.right)) ≡ true = ap (λ (b : Bool). b && are_shut (cells_of v.right)) (sym o.shut) ∙ s in cc z)
     by_parts (inl l) (inr o) = absurd (let z : (are_shut (left_cells v.left) && false) ≡ true = ap (λ (b : Bool). are_shut (left_cells v.left) && b) (sym o.shut) ∙ s in
-      let y : false ≡ true = sym (false_after (are_shut (left_cells v.left))) ∙ z in cc y)
-    by_parts (inl l) (inl r) = (added (added l.0 c) r.0, record {
-      all = ap (λ (o : Option Credit). and_then (and_then o (Some c)) (all_right v.right)) l.1.all ∙ ap (and_then (Some (added l.0 c))) r.1.all;
-      sum = λ d. ap (added d) (added-assoc l.0 c r.0) ∙ (l.1.sum d (added c r.0)
-          ∙ with_left_same (left_cells v.left) (added c r.0) (with_right c (cells_of v.right)) (λ e. r.1.sum e c) d);
-    })
+        let y : false ≡ true = sym (false_after (are_shut (left_cells v.left))) ∙ z in cc y)
+    by_parts (inl l) (inl r) = (
+      added (added l.0 c) r.0,
+      record {
+        all = ap (λ (o : Option Credit). and_then (and_then o (Some c)) (all_right v.right)) l.1.all ∙ ap (and_then (Some (added l.0 c))) r.1.all;
+        sum = λ d. ap (added d) (added-assoc l.0 c r.0) ∙ (l.1.sum d (added c r.0)
+            ∙ with_left_same (left_cells v.left) (added c r.0) (with_right c (cells_of v.right)) (λ e. r.1.sum e c) d);
+      },
+    )
 
 pub beside_open : (v : Level) (c : Credit) → (are_shut (left_cells v.left) && are_shut (cells_of v.right)) ≡ false → all_closed v c ≡ None
 beside_open v c s = by_parts (left_sums v.left) (right_sums v.right)
@@ -163,4 +172,4 @@ beside_open v c s = by_parts (left_sums v.left) (right_sums v.right)
     by_parts (inr o) r = ap (λ (p : Option Credit). and_then (and_then p (Some c)) (all_right v.right)) o.all
     by_parts (inl l) (inr o) = ap (λ (p : Option Credit). and_then (and_then (all_left v.left) (Some c)) p) o.all ∙ none_after (and_then (all_left v.left) (Some c))
     by_parts (inl l) (inl r) = absurd (let z : (true && true) ≡ false = ap (λ (b : Bool). true && b) (sym r.1.shut)
-      ∙ (ap (λ (b : Bool). b && are_shut (cells_of v.right)) (sym l.1.shut) ∙ s) in cc z)
+        ∙ (ap (λ (b : Bool). b && are_shut (cells_of v.right)) (sym l.1.shut) ∙ s) in cc z)

@@ -1,21 +1,14 @@
 -- What is left of a node while it goes, from the right.
-use Rattle.std.proofs.Common.{◌≡◌, ◌≢◌, ℕ, zero, suc, ◌+◌, ◌-◌, ◌<◌, ◌≤◌, ◌==◌, Bool, true, false, cond, List, [], ◌∷◌, ◌++◌, length, Option, Some, None}
-use Rattle.std.proofs.Common.{refl, sym, ap, ◌∙◌, arith, subst}
-use Rattle.std.proofs.lemmas.List.{append-nil}
-use Rattle.tree_model.specs.declared.places.AltRef.{AltRef}
-use Rattle.tree_model.specs.EventViews.{place_view}
-use Rattle.tree_model.specs.Nodes.{Kind, Node, Numbered, Alternatives, none, alternative, Status, Pending, Inner, Closed}
-use Rattle.tree_model.specs.Nodes.{nodes_in, nodes_among, nodes_below}
+use Rattle.std.proofs.Common.{◌≡◌, ℕ, ◌+◌, ◌<◌, ◌≤◌, ◌==◌, List, [], ◌∷◌, ◌++◌, length, Option, Some}
+use Rattle.std.proofs.Common.{refl, sym, ap, arith, subst}
+use Rattle.tree_model.specs.Nodes.{Node, Numbered, Alternatives, none, alternative, Status, Pending, Inner, Closed}
+use Rattle.tree_model.specs.Nodes.{nodes_among}
 use Rattle.tree_model.specs.Levels.{Level, put_left, level_node, plug, Place, place_at}
-use Rattle.tree_model.specs.SoundTrees.{one_if, count_in, count_among, count_below}
-use Rattle.tree_nodes.specs.declared.row.Shortened.{Shortened}
-use Rattle.tree_nodes.specs.declared.row.Shortened.TheVariants as shortened
+use Rattle.tree_model.specs.SoundTrees.{one_if, count_among}
 use Rattle.tree_nodes.specs.Bodies.{Branching, Reading}
-use Rattle.tree_nodes.specs.Rows.{Cell, InnerCell, NodeRow, Rows, row_at}
-use Rattle.tree_nodes.specs.RowViews.{parent_view, with_cells, inner_of, IsShorter, IsGone, IsShortened}
-use Rattle.tree_nodes.specs.TreeTables.{number_of, cell_of, cells_of, IsNodeIn, IsIn}
-use Rattle.tree_nodes.specs.Drops.{IsShortenedAt, next_of, live_after, IsDropStep, IsDropped, DropsNode}
-use Rattle.tree_nodes.proofs.PlaceLemmas.{left_cells, cells_of-put, are_in-split, count_left, count_around, count_plug, one_if-same, one_if-other}
+use Rattle.tree_nodes.specs.Rows.{Cell, Rows}
+use Rattle.tree_nodes.specs.TreeTables.{number_of, IsIn}
+use Rattle.tree_nodes.proofs.PlaceLemmas.{are_in-split, count_around, one_if-same}
 
 pub snoc_same : (xs ys : List (ℕ × Cell)) (x y : ℕ × Cell) → xs ++ x ∷ [] ≡ ys ++ y ∷ [] → (xs ≡ ys) × (x ≡ y)
 snoc_same [] [] x y e = (refl, cc e)

@@ -1,22 +1,22 @@
 -- A node goes step by step.
-use Rattle.std.proofs.Common.{◌≡◌, ◌≢◌, ℕ, zero, suc, ◌+◌, ◌-◌, ◌<◌, ◌≤◌, ◌==◌, Bool, true, false, cond, List, [], ◌∷◌, ◌++◌, length, Option, Some, None}
+use Rattle.std.proofs.Common.{◌≡◌, ◌≢◌, ℕ, ◌+◌, ◌-◌, ◌<◌, ◌==◌, Bool, true, false, cond, List, [], ◌∷◌, ◌++◌, Option, Some, None}
 use Rattle.std.proofs.Common.{refl, sym, ap, ◌∙◌, arith, subst}
 use Rattle.std.proofs.Common.{inl, inr}
 use Rattle.std.proofs.lemmas.Bool.{cases_eq}
 use Rattle.tree_model.specs.declared.places.AltRef.{AltRef}
 use Rattle.tree_model.specs.EventViews.{place_view}
-use Rattle.tree_model.specs.Nodes.{Kind, Node, Numbered, Alternatives, none, alternative, Status, Pending, Inner, Closed}
+use Rattle.tree_model.specs.Nodes.{Node, Numbered, Status, Pending, Inner, Closed}
 use Rattle.tree_model.specs.Nodes.{nodes_in, nodes_among, nodes_below}
-use Rattle.tree_model.specs.Levels.{Level, put_left, level_node, plug, Place, place_at}
+use Rattle.tree_model.specs.Levels.{Level, put_left, plug, Place}
 use Rattle.tree_model.specs.SoundTrees.{one_if, count_in, count_among, count_below}
 use Rattle.tree_nodes.specs.declared.row.Shortened.{Shortened}
 use Rattle.tree_nodes.specs.declared.row.Shortened.TheVariants as shortened
 use Rattle.tree_nodes.specs.Bodies.{Branching, Reading}
-use Rattle.tree_nodes.specs.Rows.{Cell, InnerCell, NodeRow, Rows, row_at}
+use Rattle.tree_nodes.specs.Rows.{Cell, NodeRow, Rows, row_at}
 use Rattle.tree_nodes.specs.RowViews.{parent_view, with_cells, inner_of, IsShorter, IsGone, IsShortened}
 use Rattle.tree_nodes.specs.TreeTables.{number_of, cell_of, cells_of, IsNodeIn, IsIn}
-use Rattle.tree_nodes.specs.Drops.{IsShortenedAt, next_of, live_after, IsDropStep, IsDropped}
-use Rattle.tree_nodes.proofs.PlaceLemmas.{left_cells, count_left, count_around, count_plug, one_if-same, one_if-other}
+use Rattle.tree_nodes.specs.Drops.{next_of, live_after, IsDropped}
+use Rattle.tree_nodes.proofs.PlaceLemmas.{left_cells, count_left, one_if-same, one_if-other}
 use Rattle.tree_nodes.proofs.DropLemmas.{snoc_same, snoc_some, above_from, inside, done, on_path, nodes_done, done_within, outermost}
 use Rattle.tree_nodes.proofs.GoingLemmas.{IsGoing, IsOnce, passed, entered, left_behind, counted_once, count-put-here}
 
@@ -90,7 +90,7 @@ module _ (old : Rows) (live : ℕ) (rows : Rows) (now : ℕ) (at top : ℕ) (nod
           let here : Some next ≡ Some below = e ∙ ap (λ (o : Option ℕ). next_of at top (shortened.Alternative o)) inner in
           let v : Level = record { number = at; kind = g.kind; left = left; spent = spent; right = g.right } in
           let whole : Inner node ≡ plug (v ∷ g.path) (Inner (Numbered below kind others)) = g.is
-            ∙ ap (λ (l : List (ℕ × Status)). plug g.path (Inner (Numbered at g.kind (put_left l g.right)))) lefts in
+          ∙ ap (λ (l : List (ℕ × Status)). plug g.path (Inner (Numbered at g.kind (put_left l g.right)))) lefts in
           let k = inside old read way parent (v ∷ g.path) (Inner (Numbered below kind others)) (subst (IsIn old read way parent) whole placed) in
           subst (λ (n : ℕ). IsGoing old live new now n (Inner node)) (sym (cc here))
           (entered old live rows now at (Inner node) once g new changed spent below kind others left lefts
@@ -124,18 +124,19 @@ module _ (old : Rows) (live : ℕ) (rows : Rows) (now : ℕ) (at top : ℕ) (nod
       let h : Inner node ≡ Inner (Numbered at g.kind (put_left g.left g.right)) = g.is ∙ ap (λ (p : List Level). plug p (Inner (Numbered at g.kind (put_left g.left g.right)))) paths in
       let none_left = no_left g.left lefts in
       let counts : (m : ℕ) → count_in m node ≡ one_if (at == m) + count_among m g.right = (λ m.
-        let a : count_in m node ≡ one_if (at == m) + count_among m (put_left g.left g.right) = ap (count_below m) h in
-        let b = count-put-here m g.left g.right in
-        let c : count_left m g.left ≡ 0 = ap (count_left m) none_left in omega (arith, a, b, c)) in
+      let a : count_in m node ≡ one_if (at == m) + count_among m (put_left g.left g.right) = ap (count_below m) h in
+      let b = count-put-here m g.left g.right in
+      let c : count_left m g.left ≡ 0 = ap (count_left m) none_left in omega (arith, a, b, c)) in
       let nodes : nodes_in node ≡ 1 + nodes_among g.right = ap nodes_below h ∙ ap (λ (l : List (ℕ × Status)). 1 + nodes_among (put_left l g.right)) none_left in
       let dones : (m : ℕ) → done m g.path ≡ 0 = (λ m. ap (done m) paths) in
       record {
         gone = λ m l. elim (cases_eq m at) [
-            inl e ↦ ap (row_at new) e ∙ row
-          | inr ne ↦ changed m ne ∙ g.gone m (let a = counts m in let b = one_if-other at m (λ e. ne (sym e)) in omega (arith, l, a, b)) ];
+          | inl e ↦ ap (row_at new) e ∙ row
+          | inr ne ↦ changed m ne ∙ g.gone m (let a = counts m in let b = one_if-other at m (λ e. ne (sym e)) in omega (arith, l, a, b))
+        ];
         same = λ m l. (let a = counts m in let d = dones m in
-          let ne : m ≢ at = (λ e. (let a' = counts at in let l' = subst (λ (k : ℕ). count_in k node ≡ 0) e l in let b = one_if-same at in omega (arith, a', l', b))) in
-          changed m ne ∙ g.same m (omega (arith, l, a, d)) ne (ap (on_path m) paths));
+            let ne : m ≢ at = (λ e. (let a' = counts at in let l' = subst (λ (k : ℕ). count_in k node ≡ 0) e l in let b = one_if-same at in omega (arith, a', l', b))) in
+            changed m ne ∙ g.same m (omega (arith, l, a, d)) ne (ap (on_path m) paths));
         counted = let c = g.counted in let d : nodes_done g.path ≡ 0 = ap nodes_done paths in omega (arith, c, d, nodes);
       }
 

@@ -1,16 +1,15 @@
 -- Where an alternative folds to.
-use Rattle.std.proofs.Common.{◌≡◌, ℕ, zero, suc, ◌+◌, ◌<◌, Bool, true, false, List, [], ◌∷◌, ◌++◌, length, Option, Some, None, take, drop}
+use Rattle.std.proofs.Common.{◌≡◌, ℕ, zero, suc, false, List, [], ◌∷◌, ◌++◌, length, Option, Some, None, take, drop}
 use Rattle.std.proofs.Common.{refl, sym, ap, ◌∙◌, arith, subst}
-use Rattle.std.specs.Prelude.{◌&&◌, slice_get, IsSome, is_some}
+use Rattle.std.specs.Prelude.{◌&&◌, is_some}
 use Rattle.tree_model.specs.Credits.{Credit, added, credit_of}
-use Rattle.tree_model.specs.Nodes.{Alternatives, Numbered, Status, Pending, Inner, Closed}
-use Rattle.tree_model.specs.Closing.{all_closed}
+use Rattle.tree_model.specs.Nodes.{Numbered, Status, Inner, Closed}
 use Rattle.tree_model.specs.Levels.{Level, level_node, plug, Place, place_at}
 use Rattle.tree_nodes.specs.Bodies.{Branching, Reading}
 use Rattle.tree_nodes.specs.Rows.{Cell, InnerCell, ClosedCell, NodeRow, Rows, row_at, cells_at, cell_at}
 use Rattle.tree_nodes.specs.TreeTables.{cell_of, cells_of, IsBelow, IsIn, IsRoot, NodesView, StandsFor, Stand, above_of}
 use Rattle.tree_nodes.specs.Changes.{Folded, folded_on, folded_up, closed_tree, ClosesAt, SetsAt}
-use Rattle.tree_nodes.specs.Gathering.{are_shut, shut_beside, with_beside, with_left, with_right, IsFolding, StaysIn, IsStaying, IsFoldStep}
+use Rattle.tree_nodes.specs.Gathering.{are_shut, shut_beside, with_beside, with_left, with_right, IsFolding, StaysIn, IsStaying}
 use Rattle.tree_nodes.specs.Folds.{IsFoldedTo, FoldsTo, FoldsUpTo, IsAbove}
 use Rattle.tree_nodes.proofs.PlaceLemmas.{left_cells, length-left_cells, AreRound, taken_out}
 use Rattle.tree_nodes.proofs.PutLemmas.{cell_there}
@@ -35,7 +34,7 @@ module _ (rows : Rows) (read : Reading) (v : Level) (up : List Level) (was : Sta
       → (r.parent ≡ above_of up) × (r.cells ≡ left_cells v.left ++ (v.spent, cell_of was) ∷ cells_of v.right)
   cells_round way h r e =
       let same : Some r ≡ Some (record { parent = above_of up; body = h.0; cells = left_cells v.left ++ (v.spent, cell_of was) ∷ cells_of v.right })
-        = sym e ∙ h.1.1.1.row in
+      = sym e ∙ h.1.1.1.row in
       (ap parent_or same, ap (λ (o : Option NodeRow). cells_at o) same)
     where
       parent_or : Option NodeRow → Option Place
@@ -78,8 +77,8 @@ module _ (rows : Rows) (read : Reading) (v : Level) (up : List Level) (was : Sta
           let pairs : Some (u.spent, InnerCell v.number) ≡ Some (f.spent, f.cell) = sym there ∙ (ap (cell_at rows) place ∙ f.there) in
           let spent : f.spent ≡ u.spent = ap spent_or (sym pairs) in
           let sum : added (credit_of u.spent) b.0 ≡ total = b.1.sum (credit_of u.spent)
-            ∙ (ap (added (credit_of u.spent)) (sym (with_round f.row.cells parts.1))
-            ∙ (ap (λ (k : ℕ). added (credit_of k) (with_beside (length v.left) f.row.cells c)) (sym spent) ∙ sym f.sum)) in
+          ∙ (ap (added (credit_of u.spent)) (sym (with_round f.row.cells parts.1))
+          ∙ (ap (λ (k : ℕ). added (credit_of k) (with_beside (length v.left) f.row.cells c)) (sym spent) ∙ sym f.sum)) in
           record {
             level = u;
             above = more;
@@ -154,9 +153,10 @@ folds_end nodes a c b now total h y read v up was e s =
     let k = h read v up was e s in
     let placed = subst (IsIn nodes.rows read [] None) k.same s.placed in
     let t = taken_out nodes.rows read (k.level ∷ k.above) k.status placed in
-    let here : IsStaying nodes.rows (place_at k.level) now total = subst (λ (p : Place). IsStaying nodes.rows p now total) (sym k.at) y in
-    (record { level = k.level; above = k.above; status = k.status; same = k.same; at = k.at; folds = k.folds ∙ ap (folded_up (k.level ∷ k.above)) (sym y.sum) },
-    stays_here nodes.rows read k.level k.above k.status total total t.way t.around (record { row = here.row; here = here.here; stays = here.stays; sum = refl }))
+    let here : IsStaying nodes.rows (place_at k.level) now total = subst (λ (p : Place). IsStaying nodes.rows p now total) (sym k.at) y in (
+      record { level = k.level; above = k.above; status = k.status; same = k.same; at = k.at; folds = k.folds ∙ ap (folded_up (k.level ∷ k.above)) (sym y.sum) },
+      stays_here nodes.rows read k.level k.above k.status total total t.way t.around (record { row = here.row; here = here.here; stays = here.stays; sum = refl }),
+    )
 
 -- closing where it folds to is closing
 pub closes_at : (old new : NodesView) (a : Place) (c : Credit) (b : Place) (total : Credit) (spent : ℕ) → FoldsUpTo old a c b total
@@ -170,7 +170,7 @@ closes_at old new a c b total spent f same_spent h read v up was e s =
     let spends : spent ≡ k.0.level.spent = same_spent (cell_of k.0.status) k.0.level.spent (ap (cell_at old.rows) (sym k.0.at) ∙ there) in
     let closed = h read k.0.level k.0.above k.0.status k.0.at t in
     let whole : StandsFor new read (plug (k.0.level ∷ k.0.above) (Closed total))
-      = subst (λ (n : ℕ). StandsFor new read (plug (record k.0.level { spent = n } ∷ k.0.above) (Closed total))) spends closed in
+    = subst (λ (n : ℕ). StandsFor new read (plug (record k.0.level { spent = n } ∷ k.0.above) (Closed total))) spends closed in
     subst (λ (g : Folded). StandsFor new read (closed_tree g)) (sym (k.0.folds ∙ k.1)) whole
 
 -- what is provided for is no part of the tree

@@ -1,15 +1,15 @@
 -- A table that has changed elsewhere, and one with another cell at a place.
-use Rattle.std.proofs.Common.{◌≡◌, ◌≢◌, ℕ, zero, suc, ◌+◌, ◌<◌, ◌≤◌, ◌==◌, List, [], ◌∷◌, ◌++◌, length, Option, Some, None, refl, sym, ap, ◌∙◌, arith}
+use Rattle.std.proofs.Common.{◌≡◌, ◌≢◌, ℕ, suc, ◌+◌, ◌<◌, ◌≤◌, ◌==◌, List, [], ◌∷◌, ◌++◌, length, Option, Some, None, refl, sym, ap, ◌∙◌, arith}
 use Rattle.std.proofs.Common.{subst}
 use Rattle.std.proofs.lemmas.List.{set_at}
 use Rattle.tree_model.specs.Nodes.{Node, Numbered, Alternatives, none, alternative, Status, Pending, Inner, Closed, nodes_below}
-use Rattle.tree_model.specs.Levels.{Level, put_left, level_node, plug, Place, place_at}
-use Rattle.tree_model.specs.SoundTrees.{one_if, count_in, count_among, count_below}
+use Rattle.tree_model.specs.Levels.{Level, level_node, plug, Place, place_at}
+use Rattle.tree_model.specs.SoundTrees.{one_if, count_among, count_below}
 use Rattle.tree_nodes.specs.Bodies.{Body, Branching, Reading}
 use Rattle.tree_nodes.specs.Rows.{Cell, InnerCell, NodeRow, Rows, row_at}
 use Rattle.tree_nodes.specs.RowViews.{with_cells, with_cell}
 use Rattle.tree_nodes.specs.TreeTables.{number_of, cell_of, cells_of, AreIn, IsIn, NodesView, IsRoot, StandsFor, above_of}
-use Rattle.tree_nodes.proofs.PlaceLemmas.{left_cells, AreLeftIn, IsRound, AreRound, IsPlaced, length-left_cells, taken_out, put_in}
+use Rattle.tree_nodes.proofs.PlaceLemmas.{left_cells, AreLeftIn, AreRound, IsPlaced, length-left_cells, taken_out, put_in}
 use Rattle.tree_nodes.proofs.PlaceLemmas.{count_left, count_around, count_plug, nodes_around, nodes_plug, one_if-same}
 
 -- what is counted has the same rows
@@ -29,16 +29,18 @@ mutual
   pub among_kept : (rows new : Rows) (read : Reading) (way : Branching) (body : Body) (n i : ℕ) (others : Alternatives)
       → Agree rows new (λ m. count_among m others) → AreIn rows read way body n i others → AreIn new read way body n i others
   among_kept rows new read way body n i none same h = tt
-  among_kept rows new read way body n i (alternative spent status others) same h =
-      (below_kept rows new read ((body, i) ∷ way) (Some (record { node = n; index = i })) status (λ m l. same m (omega (arith, l))) h.0,
-      among_kept rows new read way body n (suc i) others (λ m l. same m (omega (arith, l))) h.1)
+  among_kept rows new read way body n i (alternative spent status others) same h = (
+    below_kept rows new read ((body, i) ∷ way) (Some (record { node = n; index = i })) status (λ m l. same m (omega (arith, l))) h.0,
+    among_kept rows new read way body n (suc i) others (λ m l. same m (omega (arith, l))) h.1,
+  )
 
 pub left_kept : (rows new : Rows) (read : Reading) (way : Branching) (body : Body) (n : ℕ) (left : List (ℕ × Status))
     → Agree rows new (λ m. count_left m left) → AreLeftIn rows read way body n left → AreLeftIn new read way body n left
 left_kept rows new read way body n [] same h = tt
-left_kept rows new read way body n (a ∷ left) same h =
-    (left_kept rows new read way body n left (λ m l. same m (omega (arith, l))) h.0,
-    below_kept rows new read ((body, length left) ∷ way) (Some (record { node = n; index = length left })) a.1 (λ m l. same m (omega (arith, l))) h.1)
+left_kept rows new read way body n (a ∷ left) same h = (
+  left_kept rows new read way body n left (λ m l. same m (omega (arith, l))) h.0,
+  below_kept rows new read ((body, length left) ∷ way) (Some (record { node = n; index = length left })) a.1 (λ m l. same m (omega (arith, l))) h.1,
+)
 
 pub around_kept : (rows new : Rows) (read : Reading) (levels : List Level) (way : Branching) (cell : Cell)
     → Agree rows new (λ m. count_around m levels) → AreRound rows read levels way cell → AreRound new read levels way cell
@@ -46,14 +48,23 @@ around_kept rows new read [] way cell same h = h
 around_kept rows new read (v ∷ up) way cell same h =
     let round = h.1.1.1 in
     let own = one_if-same v.number in
-    let one : 0 < count_around v.number (v ∷ up) = omega (arith, own) in
-    (h.0, (h.1.0, (h.1.1.0, record {
-      row = same v.number one ∙ round.row;
-      kind = round.kind;
-      below = round.below;
-      left = left_kept rows new read h.1.0 h.0 v.number v.left (λ m l. same m (omega (arith, l))) round.left;
-      right = among_kept rows new read h.1.0 h.0 v.number (suc (length v.left)) v.right (λ m l. same m (omega (arith, l))) round.right;
-    }, around_kept rows new read up h.1.0 (InnerCell v.number) (λ m l. same m (omega (arith, l))) h.1.1.2)))
+    let one : 0 < count_around v.number (v ∷ up) = omega (arith, own) in (
+      h.0,
+      (
+        h.1.0,
+        (
+          h.1.1.0,
+          record {
+            row = same v.number one ∙ round.row;
+            kind = round.kind;
+            below = round.below;
+            left = left_kept rows new read h.1.0 h.0 v.number v.left (λ m l. same m (omega (arith, l))) round.left;
+            right = among_kept rows new read h.1.0 h.0 v.number (suc (length v.left)) v.right (λ m l. same m (omega (arith, l))) round.right;
+          },
+          around_kept rows new read up h.1.0 (InnerCell v.number) (λ m l. same m (omega (arith, l))) h.1.1.2,
+        ),
+      ),
+    )
 
 -- rows are the same round a place, but for the cell at it
 pub record ChangesCell (rows new : Rows) (v : Level) (up : List Level) (cell : ℕ × Cell) : Type 0 where
@@ -78,17 +89,26 @@ around_set rows new read v up way was cell spent d c h =
     ≡ Some (record { parent = above_of up; body = body; cells = left_cells v.left ++ (spent, cell) ∷ cells_of v.right }) =
     (c.row ∙ ap (with_cell (length v.left) (spent, cell)) round.row)
     ∙ ap (λ (cells : List (ℕ × Cell)). Some (with_cells cells old))
-    (set_at (left_cells v.left) (v.spent, was) (cells_of v.right) (spent, cell) (length v.left) (length-left_cells v.left)) in
-    (body, (h.1.0, (h.1.1.0, record {
-      row = row;
-      kind = round.kind;
-      below = round.below;
-      left = left_kept rows new read h.1.0 body v.number v.left
-          (λ m l. c.same m (omega (arith, l)) (apart v up d (λ k. count_left k v.left) (λ k. omega arith) m l)) round.left;
-      right = among_kept rows new read h.1.0 body v.number (suc (length v.left)) v.right
-          (λ m l. c.same m (omega (arith, l)) (apart v up d (λ k. count_among k v.right) (λ k. omega arith) m l)) round.right;
-    }, around_kept rows new read up h.1.0 (InnerCell v.number)
-    (λ m l. c.same m (omega (arith, l)) (apart v up d (λ k. count_around k up) (λ k. omega arith) m l)) h.1.1.2)))
+    (set_at (left_cells v.left) (v.spent, was) (cells_of v.right) (spent, cell) (length v.left) (length-left_cells v.left)) in (
+      body,
+      (
+        h.1.0,
+        (
+          h.1.1.0,
+          record {
+            row = row;
+            kind = round.kind;
+            below = round.below;
+            left = left_kept rows new read h.1.0 body v.number v.left
+                (λ m l. c.same m (omega (arith, l)) (apart v up d (λ k. count_left k v.left) (λ k. omega arith) m l)) round.left;
+            right = among_kept rows new read h.1.0 body v.number (suc (length v.left)) v.right
+                (λ m l. c.same m (omega (arith, l)) (apart v up d (λ k. count_among k v.right) (λ k. omega arith) m l)) round.right;
+          },
+          around_kept rows new read up h.1.0 (InnerCell v.number)
+              (λ m l. c.same m (omega (arith, l)) (apart v up d (λ k. count_around k up) (λ k. omega arith) m l)) h.1.1.2,
+        ),
+      ),
+    )
 
 root_kept : (first : Option ℕ) (up : List Level) (node other : Node) → number_of node ≡ number_of other → IsRoot first (plug up (Inner node))
     → IsRoot first (plug up (Inner other))

@@ -1,25 +1,19 @@
 -- A node while it goes, from the right: each step, and the end.
-use Rattle.std.proofs.Common.{◌≡◌, ◌≢◌, ℕ, zero, suc, ◌+◌, ◌-◌, ◌<◌, ◌≤◌, ◌==◌, Bool, true, false, cond, List, [], ◌∷◌, ◌++◌, length, Option, Some, None}
+use Rattle.std.proofs.Common.{◌≡◌, ◌≢◌, ℕ, ◌+◌, ◌-◌, ◌<◌, ◌≤◌, ◌==◌, List, [], ◌∷◌, Option, Some, None}
 use Rattle.std.proofs.Common.{refl, sym, ap, ◌∙◌, arith, subst}
 use Rattle.std.proofs.lemmas.List.{append-nil}
 use Rattle.std.proofs.lemmas.Bool.{cases_eq}
 use Rattle.std.proofs.Common.{inl, inr}
-use Rattle.tree_model.specs.declared.places.AltRef.{AltRef}
-use Rattle.tree_model.specs.EventViews.{place_view}
-use Rattle.tree_model.specs.Nodes.{Kind, Node, Numbered, Alternatives, none, alternative, Status, Pending, Inner, Closed}
-use Rattle.tree_model.specs.Nodes.{nodes_in, nodes_among, nodes_below}
-use Rattle.tree_model.specs.Levels.{Level, put_left, level_node, plug, Place, place_at}
-use Rattle.tree_model.specs.SoundTrees.{one_if, count_in, count_among, count_below}
-use Rattle.tree_nodes.specs.declared.row.Shortened.{Shortened}
-use Rattle.tree_nodes.specs.declared.row.Shortened.TheVariants as shortened
+use Rattle.tree_model.specs.Nodes.{Kind, Node, Numbered, Alternatives, none, alternative, Status, Inner}
+use Rattle.tree_model.specs.Nodes.{nodes_among, nodes_below}
+use Rattle.tree_model.specs.Levels.{Level, put_left, plug, Place}
+use Rattle.tree_model.specs.SoundTrees.{one_if, count_among, count_below}
 use Rattle.tree_nodes.specs.Bodies.{Branching, Reading}
-use Rattle.tree_nodes.specs.Rows.{Cell, InnerCell, NodeRow, Rows, row_at}
-use Rattle.tree_nodes.specs.RowViews.{parent_view, with_cells, inner_of, IsShorter, IsGone, IsShortened}
-use Rattle.tree_nodes.specs.TreeTables.{number_of, cell_of, cells_of, IsNodeIn, IsIn}
-use Rattle.tree_nodes.specs.Drops.{IsShortenedAt, next_of, live_after, IsDropStep, IsDropped, DropsNode}
+use Rattle.tree_nodes.specs.Rows.{Cell, NodeRow, Rows, row_at}
+use Rattle.tree_nodes.specs.RowViews.{with_cells}
+use Rattle.tree_nodes.specs.TreeTables.{number_of, cells_of, IsNodeIn}
 use Rattle.tree_nodes.proofs.PlaceLemmas.{left_cells, cells_of-put, count_left, count_around, count_plug, one_if-same, one_if-other}
-use Rattle.tree_nodes.proofs.DropLemmas.{snoc_same, snoc_some, all_left, above_from, inside, done, on_path, nodes_done, done_within}
-use Rattle.tree_nodes.proofs.DropLemmas.{outermost}
+use Rattle.tree_nodes.proofs.DropLemmas.{all_left, done, on_path, nodes_done, done_within}
 
 -- of a node its alternatives on the left are left
 abbrev pub IsShort : Rows → Rows → ℕ → List (ℕ × Status) → Type 0
@@ -111,7 +105,7 @@ module _ (old : Rows) (live : ℕ) (rows : Rows) (now : ℕ) (at : ℕ) (status 
     above = above_kept old rows new at g.path changed (let z = once_here at in let y = one_if-same at in let x = done_within at g.path in omega (arith, z, y, x)) g.above;
     gone = λ m l. (let z = zero_count m in
         let ne : m ≢ at = λ e. (let l' = subst (λ (k : ℕ). 0 < (count_below k there + count_among k g.right) + done k g.path) e l in
-          let z' = zero_count at in let w = once_here at in let y = one_if-same at in let x = done_within at g.path in omega (arith, l', z', w, y, x)) in
+        let z' = zero_count at in let w = once_here at in let y = one_if-same at in let x = done_within at g.path in omega (arith, l', z', w, y, x)) in
         changed m ne ∙ g.gone m (omega (arith, l, z)));
     same = λ m l ne on. (let z = zero_count m in changed m ne ∙ g.same m (omega (arith, l, z)) ne on);
     counted = let c = g.counted in omega (arith, c, zero_nodes);
@@ -126,7 +120,7 @@ module _ (old : Rows) (live : ℕ) (rows : Rows) (now : ℕ) (at : ℕ) (status 
       let all = all_left others [] in
       let all_cells : cells_of others ≡ left_cells all.all = ap cells_of all.is ∙ (cells_of-put all.all none ∙ append-nil (left_cells all.all)) in
       let at_once : (m : ℕ) → count_around m g.path + (one_if (at == m) + (((one_if (below == m) + count_among m others) + count_left m left) + count_among m g.right)) ≤ 1 =
-        (λ m. subst (λ (l : List (ℕ × Status)). count_around m g.path + (one_if (at == m) + (count_left m l + count_among m g.right)) ≤ 1) lefts (once_here m)) in
+      (λ m. subst (λ (l : List (ℕ × Status)). count_around m g.path + (one_if (at == m) + (count_left m l + count_among m g.right)) ≤ 1) lefts (once_here m)) in
       let own_one = one_if-same below in
       let at_below = at_once below in
       let below_path = done_within below g.path in
@@ -140,13 +134,15 @@ module _ (old : Rows) (live : ℕ) (rows : Rows) (now : ℕ) (at : ℕ) (status 
         is = (g.is ∙ ap (λ (l : List (ℕ × Status)). plug g.path (Inner (Numbered at g.kind (put_left l g.right)))) lefts)
             ∙ ap (λ (rest : Alternatives). plug (v ∷ g.path) (Inner (Numbered below kind rest))) all.is;
         own = (r, (there, (still ∙ there) ∙ ap (λ (cs : List (ℕ × Cell)). Some (with_cells cs r)) (cells ∙ all_cells)));
-        above = ((g.own.0, (g.own.1.0, row)),
-            above_kept old rows new at g.path changed (let z = once_here at in let y = one_if-same at in let x = done_within at g.path in omega (arith, z, y, x)) g.above);
+        above = (
+          (g.own.0, (g.own.1.0, row)),
+          above_kept old rows new at g.path changed (let z = once_here at in let y = one_if-same at in let x = done_within at g.path in omega (arith, z, y, x)) g.above,
+        );
         gone = λ m l. (let ne : m ≢ at = λ e. (let l' = subst (λ (k : ℕ). 0 < 0 + (count_among k g.right + done k g.path)) e l in
             let w = once_here at in let y = one_if-same at in let x = done_within at g.path in omega (arith, l', w, y, x)) in
-          changed m ne ∙ g.gone m (omega (arith, l)));
+            changed m ne ∙ g.gone m (omega (arith, l)));
         same = λ m l ne on. (let off : m ≢ at = λ e. (let on' = subst (λ (k : ℕ). one_if (at == k) + on_path k g.path ≡ 0) e on in let y = one_if-same at in omega (arith, on', y)) in
-          changed m off ∙ g.same m (omega (arith, l)) off (omega (arith, on)));
+            changed m off ∙ g.same m (omega (arith, l)) off (omega (arith, on)));
         counted = let c = g.counted in omega (arith, c);
       }
 
@@ -155,13 +151,13 @@ module _ (old : Rows) (live : ℕ) (rows : Rows) (now : ℕ) (at : ℕ) (status 
   left_behind v path paths lefts row =
       let gone_node : Node = Numbered at g.kind (put_left g.left g.right) in
       let counts : (m : ℕ) → count_among m (put_left g.left g.right) ≡ count_among m g.right = (λ m. let z = count-put-here m g.left g.right in
-        let y : count_left m g.left ≡ 0 = ap (count_left m) lefts in omega (arith, z, y)) in
+      let y : count_left m g.left ≡ 0 = ap (count_left m) lefts in omega (arith, z, y)) in
       let nodes : nodes_among (put_left g.left g.right) ≡ nodes_among g.right = ap (λ (l : List (ℕ × Status)). nodes_among (put_left l g.right)) lefts in
       let shorts : AreShort old rows (v ∷ path) = subst (AreShort old rows) paths g.above in
       let dones : (m : ℕ) → done m g.path ≡ count_among m v.right + done m path = (λ m. ap (done m) paths) in
       let ons : (m : ℕ) → on_path m g.path ≡ one_if (v.number == m) + on_path m path = (λ m. ap (on_path m) paths) in
       let kept : AreShort old new (v ∷ path) = above_kept old rows new at (v ∷ path) changed
-        (let z = once_here at in let y = one_if-same at in let x = done_within at g.path in let w = ons at in omega (arith, z, y, x, w)) shorts in
+      (let z = once_here at in let y = one_if-same at in let x = done_within at g.path in let w = ons at in omega (arith, z, y, x, w)) shorts in
       record {
         path = path;
         kind = v.kind;
@@ -171,12 +167,13 @@ module _ (old : Rows) (live : ℕ) (rows : Rows) (now : ℕ) (at : ℕ) (status 
         own = kept.0;
         above = kept.1;
         gone = λ m l. elim (cases_eq m at) [
-            inl e ↦ ap (row_at new) e ∙ row
-          | inr ne ↦ changed m ne ∙ g.gone m (let z = counts m in let y = dones m in let x = one_if-other at m (λ e. ne (sym e)) in omega (arith, l, z, y, x)) ];
+          | inl e ↦ ap (row_at new) e ∙ row
+          | inr ne ↦ changed m ne ∙ g.gone m (let z = counts m in let y = dones m in let x = one_if-other at m (λ e. ne (sym e)) in omega (arith, l, z, y, x))
+        ];
         same = λ m l ne on. (let off : m ≢ at = (λ e. (let l' = subst (λ (k : ℕ). ((one_if (at == k) + count_among k (put_left g.left g.right)) + count_among k v.right) + done k path ≡ 0) e l in
             let y = one_if-same at in omega (arith, l', y))) in
-          let z = counts m in let y = dones m in let x = ons m in
-          let w : one_if (v.number == m) ≡ 0 = one_if-other v.number m (λ e. ne (sym e)) in
-          changed m off ∙ g.same m (omega (arith, l, z, y)) off (omega (arith, on, x, w)));
+            let z = counts m in let y = dones m in let x = ons m in
+            let w : one_if (v.number == m) ≡ 0 = one_if-other v.number m (λ e. ne (sym e)) in
+            changed m off ∙ g.same m (omega (arith, l, z, y)) off (omega (arith, on, x, w)));
         counted = let c = g.counted in let d : nodes_done g.path ≡ nodes_among v.right + nodes_done path = ap nodes_done paths in omega (arith, c, d, nodes);
       }

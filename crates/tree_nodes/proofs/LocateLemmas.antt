@@ -1,14 +1,14 @@
 -- Where a number is in the tree.
-use Rattle.std.proofs.Common.{◌≡◌, ◌≢◌, ◌⊎◌, ℕ, zero, suc, ◌+◌, ◌<◌, ◌≤◌, ◌==◌, List, [], ◌∷◌, ◌++◌, length, Option, Some, None, refl, sym, ap, ◌∙◌, arith}
+use Rattle.std.proofs.Common.{◌≡◌, ℕ, zero, suc, ◌+◌, ◌<◌, List, [], ◌∷◌, ◌++◌, length, Option, Some, None, refl, sym, ap, ◌∙◌, arith}
 use Rattle.std.proofs.Common.{subst, inl, inr}
 use Rattle.std.specs.Prelude.{slice_get}
 use Rattle.std.proofs.lemmas.Bool.{cases_lt, cases_eq}
 use Rattle.std.proofs.lemmas.Option.{slice_get_within}
-use Rattle.tree_model.specs.Nodes.{Kind, Node, Numbered, Alternatives, none, alternative, Status, Pending, Inner, Closed}
+use Rattle.tree_model.specs.Nodes.{Kind, Numbered, Alternatives, none, alternative, Status, Pending, Inner, Closed}
 use Rattle.tree_model.specs.Levels.{Level, put_left, level_node, plug, Place, place_at}
-use Rattle.tree_model.specs.SoundTrees.{one_if, count_in, count_among, count_below}
+use Rattle.tree_model.specs.SoundTrees.{count_among, count_below}
 use Rattle.tree_nodes.specs.Bodies.{Reading}
-use Rattle.tree_nodes.specs.Rows.{Cell, NodeRow, Rows, row_at, cells_at, cell_at}
+use Rattle.tree_nodes.specs.Rows.{Cell, NodeRow, row_at, cells_at, cell_at}
 use Rattle.tree_nodes.specs.TreeTables.{cells_of, IsIn, NodesView, StandsFor}
 use Rattle.tree_nodes.proofs.PlaceLemmas.{taken_out, one_if-other}
 
@@ -37,16 +37,18 @@ mutual
   found n (Closed c) l = absurd (omega (arith, l))
   found n (Inner (Numbered m kind alternatives)) l =
       elim (cases_eq m n) [
-        inl e ↦ record { up = []; kind = kind; alternatives = alternatives; is = ap (λ k. Inner (Numbered k kind alternatives)) e }
-        | inr ne ↦ found_among n m kind [] alternatives (let z = one_if-other m n ne in omega (arith, l, z)) ]
+        | inl e ↦ record { up = []; kind = kind; alternatives = alternatives; is = ap (λ k. Inner (Numbered k kind alternatives)) e }
+        | inr ne ↦ found_among n m kind [] alternatives (let z = one_if-other m n ne in omega (arith, l, z))
+      ]
 
   found_among : (n m : ℕ) (kind : Kind) (left : List (ℕ × Status)) (others : Alternatives) → 0 < count_among n others
       → IsFound n (Inner (Numbered m kind (put_left left others)))
   found_among n m kind left none l = absurd (omega (arith, l))
   found_among n m kind left (alternative spent status others) l =
       elim (cases_lt 0 (count_below n status)) [
-        inl here ↦ found_below n (record { number = m; kind = kind; left = left; spent = spent; right = others }) status (found n status here)
-        | inr not ↦ found_among n m kind ((spent, status) ∷ left) others (omega (arith, l, not)) ]
+        | inl here ↦ found_below n (record { number = m; kind = kind; left = left; spent = spent; right = others }) status (found n status here)
+        | inr not ↦ found_among n m kind ((spent, status) ∷ left) others (omega (arith, l, not))
+      ]
 
 -- alternatives as they are round the one with an index
 pub record IsSplit (others : Alternatives) (left : List (ℕ × Status)) (i : ℕ) : Type 0 where
@@ -60,7 +62,13 @@ pub record IsSplit (others : Alternatives) (left : List (ℕ × Status)) (i : �
 pub split_at : (others : Alternatives) (left : List (ℕ × Status)) (i : ℕ) → i < length (cells_of others) → IsSplit others left i
 split_at none left i l = absurd (omega (arith, l))
 split_at (alternative spent status others) left zero l = record {
-  before = left; spent = spent; status = status; right = others; is = refl; index = omega arith }
+  before = left;
+  spent = spent;
+  status = status;
+  right = others;
+  is = refl;
+  index = omega arith;
+}
 split_at (alternative spent status others) left (suc i) l =
     let r = split_at others ((spent, status) ∷ left) i (omega (arith, l)) in
     let longer : length ((spent, status) ∷ left) ≡ suc (length left) = refl in

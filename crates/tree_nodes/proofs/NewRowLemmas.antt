@@ -1,5 +1,5 @@
 -- The cells of new alternatives, made one by one.
-use Rattle.std.proofs.Common.{◌≡◌, ℕ, zero, suc, ◌+◌, length, List, [], ◌∷◌, ◌++◌, refl, sym, ap, ◌∙◌, arith}
+use Rattle.std.proofs.Common.{◌≡◌, ℕ, zero, suc, ◌+◌, length, List, [], ◌∷◌, ◌++◌, refl, ap, ◌∙◌, arith}
 use Rattle.tree_nodes.specs.Bodies.{BodyKind, first_hold}
 use Rattle.tree_nodes.specs.Rows.{Cell, PendingCell}
 use Rattle.tree_nodes.specs.RowViews.{new_cells}

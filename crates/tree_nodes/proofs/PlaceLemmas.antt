@@ -1,13 +1,13 @@
 -- A table round a place of its tree, and at the place itself.
-use Rattle.std.proofs.Common.{◌≡◌, ◌≢◌, ℕ, zero, suc, ◌+◌, ◌<◌, ◌≤◌, ◌==◌, List, [], ◌∷◌, ◌++◌, length, Option, Some, None, refl, sym, ap, ◌∙◌, arith}
+use Rattle.std.proofs.Common.{◌≡◌, ◌≢◌, ℕ, suc, ◌+◌, ◌==◌, List, [], ◌∷◌, ◌++◌, length, Option, Some, None, refl, sym, ap, ◌∙◌, arith}
 use Rattle.std.proofs.Common.{subst, append_assoc, length-append}
-use Rattle.tree_model.specs.Nodes.{Node, Numbered, Alternatives, none, alternative, Status, Pending, Inner, Closed}
-use Rattle.tree_model.specs.Nodes.{nodes_in, nodes_among, nodes_below}
+use Rattle.tree_model.specs.Nodes.{Alternatives, alternative, Status, Inner}
+use Rattle.tree_model.specs.Nodes.{nodes_among, nodes_below}
 use Rattle.tree_model.specs.Levels.{Level, put_left, level_node, plug, Place, place_at}
-use Rattle.tree_model.specs.SoundTrees.{one_if, count_in, count_among, count_below}
+use Rattle.tree_model.specs.SoundTrees.{one_if, count_among, count_below}
 use Rattle.tree_nodes.specs.Bodies.{Body, Branching, Reading, kind_of}
-use Rattle.tree_nodes.specs.Rows.{Cell, InnerCell, NodeRow, Rows, row_at}
-use Rattle.tree_nodes.specs.TreeTables.{number_of, cell_of, cells_of, IsBelow, IsNodeIn, AreIn, IsIn, above_of}
+use Rattle.tree_nodes.specs.Rows.{Cell, InnerCell, Rows, row_at}
+use Rattle.tree_nodes.specs.TreeTables.{cell_of, cells_of, IsBelow, AreIn, IsIn, above_of}
 
 -- the cells of alternatives whose nearest stands first
 abbrev pub left_cells : List (ℕ × Status) → List (ℕ × Cell)

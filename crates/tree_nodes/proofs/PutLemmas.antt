@@ -1,24 +1,24 @@
 -- What a changed alternative makes of the tree.
-use Rattle.std.proofs.Common.{◌≡◌, ◌≢◌, ℕ, zero, suc, ◌+◌, ◌-◌, ◌<◌, ◌≤◌, ◌==◌, List, [], ◌∷◌, ◌++◌, length, Option, Some, None}
+use Rattle.std.proofs.Common.{◌≡◌, ◌≢◌, ℕ, zero, suc, ◌+◌, ◌<◌, ◌≤◌, List, [], ◌∷◌, ◌++◌, length, Option, Some, None}
 use Rattle.std.proofs.Common.{refl, sym, ap, ◌∙◌, arith, subst, inl, inr}
 use Rattle.std.specs.Prelude.{slice_get, IsSome}
 use Rattle.std.proofs.lemmas.Bool.{cases_lt}
-use Rattle.run_model.specs.Machine.Entries.{Entry, EndEntry}
-use Rattle.tree_model.specs.Credits.{Credit, no_credit}
-use Rattle.tree_model.specs.Nodes.{Hold, Kind, Node, Numbered, Alternatives, none, alternative, Status, Pending, Inner, Closed, nodes_in, nodes_below}
-use Rattle.tree_model.specs.Levels.{Level, put_left, level_node, plug, Place, place_at}
-use Rattle.tree_model.specs.SoundTrees.{one_if, count_in, count_among, count_below}
+use Rattle.run_model.specs.Machine.Entries.{EndEntry}
+use Rattle.tree_model.specs.Credits.{no_credit}
+use Rattle.tree_model.specs.Nodes.{Node, Status, Pending, Inner, Closed, nodes_below}
+use Rattle.tree_model.specs.Levels.{Level, plug, Place, place_at}
+use Rattle.tree_model.specs.SoundTrees.{count_in, count_below}
 use Rattle.tree_nodes.specs.Bodies.{Branching, Reading}
 use Rattle.tree_nodes.specs.Rows.{Cell, PendingCell, InnerCell, ClosedCell, NodeRow, Rows, row_at, cells_at, cell_at}
 use Rattle.tree_nodes.specs.RowViews.{with_cell, inner_of}
 use Rattle.tree_nodes.specs.TreeTables.{number_of, cell_of, IsNodeIn, IsIn, IsRoot, NodesView, StandsFor, Stand}
 use Rattle.tree_nodes.specs.Changes.{IsEntryOf, IsSet, SetsAt, Fits}
 use Rattle.tree_nodes.specs.Drops.{IsDropped, DropsNode}
-use Rattle.tree_nodes.specs.Puts.{inner_at, IsReplaced, IsDroppedBy, IsPut}
-use Rattle.tree_nodes.proofs.PlaceLemmas.{left_cells, length-left_cells, AreRound, IsPlaced, taken_out}
-use Rattle.tree_nodes.proofs.PlaceLemmas.{count_around, count_plug, nodes_around, nodes_plug, one_if-same}
-use Rattle.tree_nodes.proofs.FrameLemmas.{below_kept, ChangesCell, Replaces, replaced}
-use Rattle.tree_nodes.proofs.LocateLemmas.{IsAt, located}
+use Rattle.tree_nodes.specs.Puts.{inner_at, IsDroppedBy, IsPut}
+use Rattle.tree_nodes.proofs.PlaceLemmas.{left_cells, length-left_cells, AreRound, taken_out}
+use Rattle.tree_nodes.proofs.PlaceLemmas.{count_around, count_plug, nodes_plug, one_if-same}
+use Rattle.tree_nodes.proofs.FrameLemmas.{below_kept, replaced}
+use Rattle.tree_nodes.proofs.LocateLemmas.{located}
 
 slice_get-seam : (xs : List (ℕ × Cell)) (y : ℕ × Cell) (ys : List (ℕ × Cell)) (n : ℕ) → length xs ≡ n → slice_get (xs ++ y ∷ ys) n ≡ Some y
 slice_get-seam [] y ys zero e = refl
@@ -53,8 +53,9 @@ module _ (old new : NodesView) (read : Reading) (v : Level) (up : List Level) (w
 
   gone_others : (m : ℕ) → count_around m (v ∷ up) ≡ 0 → count_below m now ≡ 0 → row_at new.rows m ≡ None
   gone_others m h k = elim (cases_lt 0 (count_below m was)) [
-      inl l ↦ t.gone m l k
-    | inr not ↦ t.same m (omega (arith, not)) ∙ (others_same m (not_here m h) ∙ s.others m (let p = count_plug m (v ∷ up) was in omega (arith, p, h, not))) ]
+    | inl l ↦ t.gone m l k
+    | inr not ↦ t.same m (omega (arith, not)) ∙ (others_same m (not_here m h) ∙ s.others m (let p = count_plug m (v ∷ up) was in omega (arith, p, h, not)))
+  ]
 
   pub trimmed_stands : StandsFor new read (plug (record v { spent = spent } ∷ up) now)
   trimmed_stands = replaced old new read v up was now spent s (record {
@@ -122,23 +123,23 @@ module _ (old new : NodesView) (read : Reading) (v : Level) (up : List Level) (w
       → IsTrimmed p.middle old.live new.rows new.live there now
   leaf_trimmed now leaf e (Pending hold entry) w =
       let d : IsDroppedBy None (inner_of cell.1) p.middle old.live new.rows new.live
-        = subst (λ (o : Option ℕ). IsDroppedBy o (inner_of cell.1) p.middle old.live new.rows new.live) (below_was ∙ ap (λ (x : Status). inner_of (cell_of x)) w) p.dropped in
+      = subst (λ (o : Option ℕ). IsDroppedBy o (inner_of cell.1) p.middle old.live new.rows new.live) (below_was ∙ ap (λ (x : Status). inner_of (cell_of x)) w) p.dropped in
       none_trimmed p.middle new.rows old.live new.live (Pending hold entry) now d.0 d.1 (λ m. refl) leaf.count refl leaf.nodes
   leaf_trimmed now leaf e (Closed credit) w =
       let d : IsDroppedBy None (inner_of cell.1) p.middle old.live new.rows new.live
-        = subst (λ (o : Option ℕ). IsDroppedBy o (inner_of cell.1) p.middle old.live new.rows new.live) (below_was ∙ ap (λ (x : Status). inner_of (cell_of x)) w) p.dropped in
+      = subst (λ (o : Option ℕ). IsDroppedBy o (inner_of cell.1) p.middle old.live new.rows new.live) (below_was ∙ ap (λ (x : Status). inner_of (cell_of x)) w) p.dropped in
       none_trimmed p.middle new.rows old.live new.live (Closed credit) now d.0 d.1 (λ m. refl) leaf.count refl leaf.nodes
   leaf_trimmed now leaf e (Inner node) w =
       let d : IsDroppedBy (Some (number_of node)) (inner_of cell.1) p.middle old.live new.rows new.live
-        = subst (λ (o : Option ℕ). IsDroppedBy o (inner_of cell.1) p.middle old.live new.rows new.live) (below_was ∙ ap (λ (x : Status). inner_of (cell_of x)) w) p.dropped in
+      = subst (λ (o : Option ℕ). IsDroppedBy o (inner_of cell.1) p.middle old.live new.rows new.live) (below_was ∙ ap (λ (x : Status). inner_of (cell_of x)) w) p.dropped in
       let drops : DropsNode p.middle old.live new.rows new.live (number_of node)
-        = subst (λ (o : Option ℕ). IsDroppedBy (Some (number_of node)) o p.middle old.live new.rows new.live) (ap inner_of e ∙ leaf.inner) d in
+      = subst (λ (o : Option ℕ). IsDroppedBy (Some (number_of node)) o p.middle old.live new.rows new.live) (ap inner_of e ∙ leaf.inner) d in
       let k = taken_out old.rows read (v ∷ up) was s.placed in
       let placed : IsNodeIn old.rows read k.way (Some (place_at v)) node = subst (IsIn old.rows read k.way (Some (place_at v))) w k.inside in
       let kept : IsIn p.middle read k.way (Some (place_at v)) (Inner node) = below_kept old.rows p.middle read k.way (Some (place_at v)) (Inner node)
-        (λ m l. p.replaced.same m (apart_was m (subst (λ (x : Status). 0 < count_below m x) (sym w) l))) placed in
+      (λ m l. p.replaced.same m (apart_was m (subst (λ (x : Status). 0 < count_below m x) (sym w) l))) placed in
       let once : (m : ℕ) → count_in m node ≤ 1 = (λ m. let z = s.distinct m in let q = count_plug m (v ∷ up) was in
-        let c : count_below m was ≡ count_in m node = ap (count_below m) w in omega (arith, z, q, c)) in
+      let c : count_below m was ≡ count_in m node = ap (count_below m) w in omega (arith, z, q, c)) in
       node_trimmed p.middle new.rows old.live new.live node now (drops.drops read k.way (Some (place_at v)) node refl kept once) leaf.count leaf.nodes
 
   -- the same rows, at and off the place
@@ -163,8 +164,8 @@ module _ (old new : NodesView) (read : Reading) (v : Level) (up : List Level) (w
   stays_set n e (Inner node) w h =
       let below : p.below ≡ Some (number_of node) = below_was ∙ ap (λ (x : Status). inner_of (cell_of x)) w in
       let d : IsDroppedBy (Some (number_of node)) (Some n) p.middle old.live new.rows new.live
-        = subst (λ (o : Option ℕ). IsDroppedBy (Some (number_of node)) o p.middle old.live new.rows new.live) (ap inner_of e)
-        (subst (λ (o : Option ℕ). IsDroppedBy o (inner_of cell.1) p.middle old.live new.rows new.live) below p.dropped) in
+      = subst (λ (o : Option ℕ). IsDroppedBy (Some (number_of node)) o p.middle old.live new.rows new.live) (ap inner_of e)
+      (subst (λ (o : Option ℕ). IsDroppedBy o (inner_of cell.1) p.middle old.live new.rows new.live) below p.dropped) in
       let k = taken_out old.rows read (v ∷ up) was s.placed in
       let cells : cell.1 ≡ cell_of was = e ∙ (sym h ∙ ap cell_of (sym w)) in
       trimmed_stands old new read v up was was cell.0 s p.middle

@@ -1,5 +1,5 @@
 -- What nodes are made from, and how their alternatives begin.
-use Rattle.std.specs.Prelude.{◌≡◌, ℕ, suc, ◌==◌, ◌≤◌, ◌&&◌, Bool, true, false, cond, List, [], ◌∷◌, length}
+use Rattle.std.specs.Prelude.{◌≡◌, ℕ, suc, ◌==◌, nat_le, ◌&&◌, Bool, true, false, cond, List, [], ◌∷◌, length}
 use Rattle.std.specs.Arc.{arc_value}
 use Rattle.au_term.specs.Term.{Term}
 use Rattle.au_term.specs.declared.segment.Segment.{Segment}
@@ -52,8 +52,11 @@ guards (FindallBody results list) = true
 guards QueryBody = true
 
 -- at least one branch, and two where the second sleeps
+abbrev pub is_whole : Body → Bool
+is_whole b = cond (guards b.kind) (length b.branches == 2) (nat_le 1 (length b.branches))
+
 abbrev pub IsWhole : Body → Type 0
-IsWhole b = (1 ≤ length b.branches) × (guards b.kind ≡ true → length b.branches ≡ 2)
+IsWhole b = is_whole b ≡ true
 
 -- how the alternative with this index begins
 abbrev pub first_hold : BodyKind → ℕ → Hold

@@ -1,12 +1,12 @@
 -- How calls change the tree, round a place.
-use Rattle.std.specs.Prelude.{◌≡◌, ℕ, ◌+◌, ◌-◌, ◌≤◌, min, List, [], ◌∷◌, Option, Some, None, length}
+use Rattle.std.specs.Prelude.{◌≡◌, Bool, true, false, ℕ, ◌+◌, ◌-◌, ◌≤◌, min, List, [], ◌∷◌, Option, Some, None, length}
 use Rattle.run_model.specs.Machine.Entries.{Entry}
-use Rattle.tree_model.specs.Credits.{Credit, no_credit, added, credit_of}
-use Rattle.tree_model.specs.Nodes.{Hold, Status, Pending, Inner, Closed}
+use Rattle.tree_model.specs.Credits.{Credit, added, credit_of}
+use Rattle.tree_model.specs.Nodes.{Status, Pending, Inner, Closed}
 use Rattle.tree_model.specs.Levels.{Level, plug, Place, place_at}
 use Rattle.tree_model.specs.Closing.{all_closed}
 use Rattle.tree_nodes.specs.Bodies.{Body, Branching, Reading, new_node}
-use Rattle.tree_nodes.specs.Rows.{Cell, PendingCell, InnerCell, ClosedCell, NodeRow, Rows, row_at, cell_at}
+use Rattle.tree_nodes.specs.Rows.{Cell, PendingCell, InnerCell, ClosedCell, Rows, row_at, cell_at}
 use Rattle.tree_nodes.specs.TreeTables.{NodesView, StandsFor, IsWayTo}
 
 -- the entry stays where one is pending
@@ -57,9 +57,17 @@ Adds old new None n body = AddsFirst old new n body
 Adds old new (Some a) n body = AddsAt old new a n body
 
 -- what has an entry can get a node below it; a first node is added where no node is there
+abbrev pub is_pending_cell : Cell → Bool
+is_pending_cell (PendingCell hold) = true
+is_pending_cell (InnerCell n) = false
+is_pending_cell (ClosedCell credit) = false
+
+abbrev pub is_pending : Option (ℕ × Cell) → Bool
+is_pending None = false
+is_pending (Some c) = is_pending_cell c.1
+
 abbrev pub IsOpenCell : Option (ℕ × Cell) → Type 0
-IsOpenCell None = ⊥
-IsOpenCell (Some c) = elim c.1 [ PendingCell hold ↦ Unit {0} | InnerCell n ↦ ⊥ | ClosedCell credit ↦ ⊥ ]
+IsOpenCell o = is_pending o ≡ true
 
 abbrev pub CanHold : NodesView → Option Place → Type 0
 CanHold nodes None = nodes.live ≡ 0

@@ -1,6 +1,5 @@
 -- How a node and all that is below it go, from the right.
-use Rattle.std.specs.Prelude.{◌≡◌, ◌≢◌, ℕ, ◌+◌, ◌-◌, ◌<◌, ◌≤◌, ◌==◌, cond, List, [], ◌∷◌, length, Option, Some, None}
-use Rattle.tree_model.specs.declared.places.AltRef.{AltRef}
+use Rattle.std.specs.Prelude.{◌≡◌, ◌≢◌, ℕ, ◌+◌, ◌-◌, ◌<◌, ◌≤◌, ◌==◌, cond, [], ◌∷◌, length, Option, Some, None}
 use Rattle.tree_model.specs.Nodes.{Node, nodes_in}
 use Rattle.tree_model.specs.Levels.{Place}
 use Rattle.tree_model.specs.SoundTrees.{count_in}

@@ -1,7 +1,7 @@
 -- How one alternative of a table is changed.
-use Rattle.std.specs.Prelude.{◌≡◌, ◌≢◌, ℕ, List, Option, Some, None, length, IsSome}
+use Rattle.std.specs.Prelude.{◌≡◌, ◌≢◌, ℕ, Option, Some, None, length, IsSome}
 use Rattle.tree_model.specs.Levels.{Place}
-use Rattle.tree_nodes.specs.Rows.{Cell, InnerCell, NodeRow, Rows, row_at, cell_at}
+use Rattle.tree_nodes.specs.Rows.{Cell, InnerCell, Rows, row_at, cell_at}
 use Rattle.tree_nodes.specs.RowViews.{with_cell, inner_of}
 use Rattle.tree_nodes.specs.Drops.{DropsNode}
 

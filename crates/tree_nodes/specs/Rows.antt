@@ -1,15 +1,9 @@
 -- The table of a tree's nodes: a row for each, found by its number.
-use Rattle.std.specs.Prelude.{◌≡◌, ℕ, List, [], ◌∷◌, Option, Some, None, map, slice_get}
-use Rattle.std.specs.Option.{option_map, option_and_then}
-use Rattle.std.specs.Arc.{arc_value}
-use Rattle.std.specs.Global.{Global}
-use Rattle.std.specs.declared.boxed.Box.{Box}
+use Rattle.std.specs.Prelude.{ℕ, List, [], Option, Some, None, slice_get}
 use Rattle.clause_compile.specs.declared.item.Scope.{Scope}
 use Rattle.clause_compile.specs.declared.item.Scope.TheVariants as scope
 use Rattle.clause_compile.specs.declared.event.GateKind.{GateKind}
 use Rattle.clause_compile.specs.declared.event.GateKind.TheVariants as gate
-use Rattle.tree_model.specs.declared.places.AltRef.{AltRef}
-use Rattle.tree_model.specs.EventViews.{place_view}
 use Rattle.tree_model.specs.Credits.{Credit}
 use Rattle.tree_model.specs.Nodes.{Gate, CutGate, BallGate, WorldGate, FrozenGate, Hold, Ready, TakenBy, Waiting, Dormant}
 use Rattle.tree_model.specs.Levels.{Place}

@@ -1,6 +1,5 @@
 -- The tree for which a table of nodes stands.
 use Rattle.std.specs.Prelude.{◌≡◌, ℕ, suc, ◌<◌, ◌≤◌, List, [], ◌∷◌, length, Option, Some, None}
-use Rattle.run_model.specs.Machine.Entries.{Entry}
 use Rattle.tree_model.specs.Nodes.{Node, Numbered, Alternatives, none, alternative, Status, Pending, Inner, Closed, nodes_below}
 use Rattle.tree_model.specs.Levels.{Level, Place, place_at}
 use Rattle.tree_model.specs.SoundTrees.{count_below}

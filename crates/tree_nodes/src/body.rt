@@ -1,6 +1,6 @@
 //! What a node is made from.
 ghost use Rattle.std.specs.Prelude.{◌≡◌};
-ghost use Rattle.tree_nodes.specs.Bodies.{guards, kind_view};
+ghost use Rattle.tree_nodes.specs.Bodies.{guards, is_whole, kind_view, body_view};
 
 use au_term::{FlatTerm, Segment, Shared};
 use clause_compile::Branch;
@@ -41,4 +41,17 @@ pub struct NodeBody {
     pub segment: Arc<Segment>,
     pub branches: Vec<Branch>,
     pub kind: NodeKind,
+}
+
+impl NodeBody {
+    /// Whether a node can be made from it: it has at least one branch, and two where the second sleeps.
+    pub fn is_whole(&self) -> bool
+        ensures { result ≡ is_whole (body_view self.now) }
+    {
+        if self.kind.guards() {
+            self.branches.len() == 2
+        } else {
+            1 <= self.branches.len()
+        }
+    }
 }

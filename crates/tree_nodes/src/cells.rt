@@ -11,7 +11,11 @@ use crate::state::AltState;
 use tree_model::AltRef;
 
 /// Puts another in place of an alternative, and names the node that was below it.
-pub(crate) fn replace_cell(slots: &mut Vec<Slot>, at: AltRef, alternative: Alternative) -> Option<u64>
+pub(crate) fn replace_cell(
+    slots: &mut Vec<Slot>,
+    at: AltRef,
+    alternative: Alternative,
+) -> Option<u64>
     requires there { IsSome (cell_at slots.old.items (place_view at)) }
     ensures { IsReplaced slots.old.items slots.new.items (place_view at) (alternative_view alternative) result }
 {
@@ -22,12 +26,7 @@ pub(crate) fn replace_cell(slots: &mut Vec<Slot>, at: AltRef, alternative: Alter
 }
 
 /// Puts another in place of an alternative; the node that was below it goes with all below that, unless it stays.
-pub(crate) fn put_cell(
-    slots: &mut Vec<Slot>,
-    live: &mut u64,
-    at: AltRef,
-    alternative: Alternative,
-)
+pub(crate) fn put_cell(slots: &mut Vec<Slot>, live: &mut u64, at: AltRef, alternative: Alternative)
     requires there { IsSome (cell_at slots.old.items (place_view at)) }
     ensures { IsPut slots.old.items live.old slots.new.items live.new (place_view at) (alternative_view alternative) }
 {

@@ -7,14 +7,14 @@ ghost use Rattle.tree_nodes.specs.RowViews.{row_view, parent_view};
 ghost use Rattle.tree_nodes.specs.TreeTables.{NodesView, Stand};
 ghost use Rattle.std.specs.Arc.{arc_value};
 ghost use Rattle.tree_nodes.specs.Bodies.{body_view, IsWhole};
-ghost use Rattle.tree_nodes.specs.Changes.{SetsAt, Fits, KeepsNumbers, Adds, CanHold, IsLonger, ClosesAt, LowersSpare, AreGone, GivesBack, first_of};
+ghost use Rattle.tree_nodes.specs.Changes.{SetsAt, Fits, KeepsNumbers, Adds, CanHold, IsLonger, ClosesAt, LowersSpare, AreGone, GivesBack, is_pending, first_of};
 ghost use Rattle.tree_nodes.specs.Folds.{FoldsUpTo, IsAbove};
 ghost use Rattle.tree_nodes.specs.Gathering.{IsFoldStep, Gathers};
 
 use crate::body::NodeBody;
 use crate::cells::{link_cell, put_cell};
-use crate::row::{Alternative, Row, Slot};
 use crate::gather::Gathered;
+use crate::row::{Alternative, Row, Slot};
 use crate::state::{AltState, Credit};
 use au_term::NoMemory;
 use std::alloc::Global;
@@ -146,6 +146,20 @@ impl Nodes {
         }
     }
 
+    /// Whether an alternative is there.
+    pub fn has_alternative(&self, at: AltRef) -> bool
+        ensures { result ≡ is_some (cell_at self.now.rows (place_view at)) }
+    {
+        at.alternative < self.width(at.node)
+    }
+
+    /// Whether an alternative has an entry.
+    pub fn is_pending(&self, at: AltRef) -> bool
+        ensures { result ≡ is_pending (cell_at self.now.rows (place_view at)) }
+    {
+        self.has_alternative(at) && self.alternative(at).is_pending()
+    }
+
     fn alternative(&self, at: AltRef) -> &Alternative
         requires { IsSome (cell_at self.now.rows (place_view at)) }
         ensures { cell_at self.now.rows (place_view at) ≡ Some (result.now.spent, cell_view result.now.state) }
@@ -179,7 +193,12 @@ impl Nodes {
         ensures set { SetsAt self.old self.new (place_view at) spent (cell_view state) }
         ensures numbers { KeepsNumbers self.old self.new }
     {
-        put_cell(&mut self.slots, &mut self.live, at, Alternative { state, spent });
+        put_cell(
+            &mut self.slots,
+            &mut self.live,
+            at,
+            Alternative { state, spent },
+        );
     }
 
     /// Adds a node below an alternative that has an entry, or the first one, and gives its number.

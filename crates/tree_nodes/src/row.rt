@@ -6,6 +6,7 @@ ghost use Rattle.std.specs.Option.{option_map, option_copied};
 ghost use Rattle.tree_model.specs.EventViews.{place_view};
 ghost use Rattle.tree_nodes.specs.Rows.{PendingCell, cell_view, cells_at, credit_view};
 ghost use Rattle.tree_nodes.specs.Gathering.{closed_in, is_shut, are_shut, with_left, with_right, shut_beside, with_beside};
+ghost use Rattle.tree_nodes.specs.Changes.{is_pending_cell};
 ghost use Rattle.tree_nodes.specs.Puts.{inner_at};
 ghost use Rattle.tree_nodes.specs.RowViews.{row_view, parent_view, alternative_view, new_cells, new_row, inner_of, with_cell, IsShortened};
 
@@ -45,6 +46,13 @@ impl Alternative {
             AltState::Closed(credit) => Some(credit),
             _ => None,
         }
+    }
+
+    /// Whether it has an entry.
+    pub(crate) fn is_pending(&self) -> bool
+        ensures { result ≡ is_pending_cell (cell_view self.now.state) }
+    {
+        !matches!(self.state, AltState::Inner(_) | AltState::Closed(_))
     }
 
     fn is_closed(&self) -> bool

@@ -1,6 +1,5 @@
-use Rattle.std.proofs.Common.{◌≡◌, ℕ, length, refl, ◌∙◌, subst, Option, None, sym}
-use Rattle.tree_model.specs.Nodes.{Node, Inner}
-use Rattle.tree_nodes.specs.Drops.{DropsNode, next_of}
+use Rattle.std.proofs.Common.{ℕ, refl, ◌∙◌, subst}
+use Rattle.tree_model.specs.Nodes.{Inner}
 use Rattle.tree_nodes.proofs.GoingLemmas.{IsGoing, going_begins}
 use Rattle.tree_nodes.proofs.DropStepLemmas.{stepped, ended}
 use Rattle.tree_nodes.proofs.drops.drop_node.Goals as goal

@@ -1,4 +1,4 @@
-use Rattle.std.proofs.Common.{◌≡◌, ℕ, length, Option}
+use Rattle.std.proofs.Common.{◌≡◌, length, Option}
 use Rattle.tree_model.specs.Nodes.{Node, Inner}
 use Rattle.tree_model.specs.Levels.{Place}
 use Rattle.tree_nodes.specs.Bodies.{Branching, Reading}

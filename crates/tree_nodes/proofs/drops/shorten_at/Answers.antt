@@ -1,4 +1,4 @@
-use Rattle.std.proofs.Common.{◌≡◌, ℕ, ◌+◌, ◌<◌, length, ap, sym, ◌∙◌, arith, subst, Option, length-set}
+use Rattle.std.proofs.Common.{◌+◌, ◌<◌, length, ap, sym, ◌∙◌, arith, subst, Option, length-set}
 use Rattle.std.specs.Prelude.{slice_set}
 use Rattle.tree_nodes.specs.Rows.{NodeRow, row_at}
 use Rattle.tree_nodes.specs.RowViews.{IsShortened}
@@ -11,11 +11,13 @@ returns c =
     let rows = c.args.slots.now.items in
     let l : c.args.at < length rows = omega arith in
     let same = row_at-set_same rows c.args.at c.shorten.new.self l in
-    record { rows = record {
-      here = subst (λ (o : Option NodeRow). IsShortened o (row_at (slice_set rows c.args.at c.shorten.new.self) c.args.at) c.shorten.result)
-          (sym (row_at-read rows c.args.at c.index_mut-slot.result.now l c.index_mut-slot.ensures.value))
-          (subst (λ (o : Option NodeRow). IsShortened c.index_mut-slot.result.now o c.shorten.result) (sym same) c.shorten.ensures);
-      same = λ m ne. row_at-set_other rows c.args.at c.shorten.new.self m ne;
-      length = length-set rows c.args.at c.shorten.new.self;
-      weight = weight-set rows c.args.at c.shorten.new.self l ∙ ap (λ (o : Option NodeRow). weight rows + row_weight o) (sym same);
-    } }
+    record {
+      rows = record {
+        here = subst (λ (o : Option NodeRow). IsShortened o (row_at (slice_set rows c.args.at c.shorten.new.self) c.args.at) c.shorten.result)
+            (sym (row_at-read rows c.args.at c.index_mut-slot.result.now l c.index_mut-slot.ensures.value))
+            (subst (λ (o : Option NodeRow). IsShortened c.index_mut-slot.result.now o c.shorten.result) (sym same) c.shorten.ensures);
+        same = λ m ne. row_at-set_other rows c.args.at c.shorten.new.self m ne;
+        length = length-set rows c.args.at c.shorten.new.self;
+        weight = weight-set rows c.args.at c.shorten.new.self l ∙ ap (λ (o : Option NodeRow). weight rows + row_weight o) (sym same);
+      };
+    }

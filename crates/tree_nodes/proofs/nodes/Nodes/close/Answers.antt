@@ -14,7 +14,7 @@ returns-clause-closed c =
     let a = place_view c.args.at in
     let b = place_view c.in_ok-end.end in
     let spent : (cell : Cell) (there : ℕ) → cell_at old.rows b ≡ Some (there, cell) → c.spent-spent.result ≡ there
-      = λ cell there e. (let z : Some c.spent-spent.result ≡ Some there = sym c.spent-spent.ensures ∙ ap (λ (o : Option (ℕ × Cell)). option_map (λ x. x.0) o) e in cc z) in
+    = λ cell there e. (let z : Some c.spent-spent.result ≡ Some there = sym c.spent-spent.ensures ∙ ap (λ (o : Option (ℕ × Cell)). option_map (λ x. x.0) o) e in cc z) in
     closes_same old middle new a (credit_view c.args.credit)
     (ap (λ (o : NodesView). o.rows) c.self.view_is) (ap (λ (o : NodesView). o.first) c.self.view_is) (ap (λ (o : NodesView). o.live) c.self.view_is)
     (closes_at old middle a (credit_view c.args.credit) b (credit_view c.in_ok-end.total) c.spent-spent.result c.in_ok-end.ensures.folds spent c.set.ensures.set)

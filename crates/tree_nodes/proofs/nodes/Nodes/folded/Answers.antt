@@ -1,4 +1,4 @@
-use Rattle.std.proofs.Common.{◌≡◌, Option, Some, None, sym, ap, ◌∙◌, subst}
+use Rattle.std.proofs.Common.{Option, sym, subst}
 use Rattle.tree_model.specs.Credits.{Credit}
 use Rattle.tree_model.specs.EventViews.{place_view}
 use Rattle.tree_model.specs.declared.places.AltRef.{AltRef}

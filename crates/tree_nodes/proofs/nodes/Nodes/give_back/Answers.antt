@@ -1,4 +1,4 @@
-use Rattle.std.proofs.Common.{◌≡◌, ℕ, take, length, min, refl, sym, ap, ◌∙◌, subst, length-take}
+use Rattle.std.proofs.Common.{◌≡◌, ℕ, length, refl, sym, ap, ◌∙◌, subst, length-take}
 use Rattle.tree_nodes.specs.Rows.{Rows, row_at}
 use Rattle.tree_nodes.specs.TreeTables.{NodesView}
 use Rattle.tree_nodes.specs.Changes.{AreGone, GivesBack}
@@ -12,8 +12,11 @@ invariant_of-self c =
     let new : NodesView = record { rows = c.truncate.new.self.items; first = c.self.inside.first; live = c.self.inside.live; spare = c.self.inside.spare } in
     let gone : AreGone old.rows c.args.next = subst (λ (o : NodesView). AreGone o.rows c.args.next) (sym c.self.view_is) c.requires in
     let rows : (m : ℕ) → row_at new.rows m ≡ row_at old.rows m = λ m. ap (λ (rs : Rows). row_at rs m) c.truncate.ensures.items ∙ row_at-take old.rows c.args.next m gone in
-    record { read = c.self.invariant.read; root = c.self.invariant.root;
-      stands = same_rows old new c.self.invariant.read c.self.invariant.root rows refl refl c.self.invariant.stands }
+    record {
+      read = c.self.invariant.read;
+      root = c.self.invariant.root;
+      stands = same_rows old new c.self.invariant.read c.self.invariant.root rows refl refl c.self.invariant.stands;
+    }
 
 pub returns : goal.returns
 returns c =

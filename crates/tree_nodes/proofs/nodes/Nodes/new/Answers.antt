@@ -1,6 +1,3 @@
-use Rattle.std.proofs.Common.{None, List, subst}
-use Rattle.tree_nodes.specs.Rows.{Rows}
-use Rattle.tree_nodes.specs.TreeTables.{Stand}
 use Rattle.tree_nodes.proofs.PutLemmas.{no_nodes_stand}
 use Rattle.tree_nodes.proofs.nodes.Nodes.new.Goals as goal
 

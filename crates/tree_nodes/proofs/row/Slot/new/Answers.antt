@@ -1,9 +1,7 @@
-use Rattle.std.proofs.Common.{◌≡◌, ℕ, length, map, ap, ◌∙◌, arith, vec_len}
+use Rattle.std.proofs.Common.{length, map, ap, arith}
 use Rattle.std.proofs.lemmas.Grind.{common_steps}
 use Rattle.tree_nodes.specs.declared.row.Row.{Row}
-use Rattle.tree_nodes.specs.Bodies.{kind_view}
-use Rattle.tree_nodes.specs.RowViews.{alternative_view, new_cells}
-use Rattle.tree_nodes.proofs.NewRowLemmas.{length-new_cells}
+use Rattle.tree_nodes.specs.RowViews.{alternative_view}
 use Rattle.tree_nodes.proofs.row.Slot.new.Goals as goal
 
 pub invariant_of-result : goal.invariant_of-result
