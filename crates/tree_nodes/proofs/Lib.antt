@@ -11,3 +11,4 @@ pub mod NewRowLemmas
 pub mod AddLemmas
 pub mod CreditLemmas
 pub mod FoldLemmas
+pub mod WalkLemmas
