@@ -63,7 +63,7 @@ left_index n (a ∷ left) = by_found (first_open_left n left) (open_index 0 (lef
         ∙ sym (ap (option_map (place_on n)) (open_index-snoc 0 (left_cells left) (a.0, cell_of a.1)
         ∙ ap (λ (o : Option ℕ). or_index o (first_at (is_shut (cell_of a.1)) (0 + length (left_cells left)) None)) f))))
 
-take-seam : (xs ys : List (ℕ × Cell)) (y : ℕ × Cell) (n : ℕ) → length xs ≡ n → take n (xs ++ y ∷ ys) ≡ xs
+pub take-seam : (xs ys : List (ℕ × Cell)) (y : ℕ × Cell) (n : ℕ) → length xs ≡ n → take n (xs ++ y ∷ ys) ≡ xs
 take-seam [] ys y zero e = refl
 take-seam [] ys y (suc n) e = absurd (omega (arith, e))
 take-seam (x ∷ xs) ys y zero e = absurd (omega (arith, e))
@@ -81,7 +81,7 @@ or_else-assoc : (a b c : Option Place) → or_else (or_else a b) c ≡ or_else a
 or_else-assoc None b c = refl
 or_else-assoc (Some p) b c = refl
 
-first_open-level : (v : Level) (up : List Level) → first_open (v ∷ up) ≡ or_else (first_open up) (first_open_left v.number v.left)
+pub first_open-level : (v : Level) (up : List Level) → first_open (v ∷ up) ≡ or_else (first_open up) (first_open_left v.number v.left)
 first_open-level v up = by_found (first_open up)
   where
     by_found : (o : Option Place) → (elim o [ Some p ↦ Some p | None ↦ first_open_left v.number v.left ]) ≡ or_else o (first_open_left v.number v.left)
@@ -159,7 +159,7 @@ walk_goes_on nodes a scope b first parent w p read v up was e s =
     (ap (λ (q : Place). option_map (λ r. r.parent) (row_at nodes.rows q.node)) k.at ∙ p))
 
 -- one alternative more is closed
-drop-take-cons : (cells : List (ℕ × Cell)) (i n : ℕ) (c : ℕ × Cell) → i < n → slice_get cells i ≡ Some c → drop i (take n cells) ≡ c ∷ drop (suc i) (take n cells)
+pub drop-take-cons : (cells : List (ℕ × Cell)) (i n : ℕ) (c : ℕ × Cell) → i < n → slice_get cells i ≡ Some c → drop i (take n cells) ≡ c ∷ drop (suc i) (take n cells)
 drop-take-cons [] i n c l e = absurd (cc e)
 drop-take-cons (x ∷ cells) zero zero c l e = absurd (omega (arith, l))
 drop-take-cons (x ∷ cells) zero (suc n) c l e = ap (λ (y : ℕ × Cell). y ∷ take n cells) (cc e)
@@ -211,3 +211,7 @@ place_below rows scope (Some a) n h = by_test (is_node scope a.node)
     by_test : (b : Bool) → IsPlaceIn rows (if_below b a)
     by_test true = tt
     by_test false = h.0
+
+pub above_there : (rows : Rows) (parent : Option Place) (n : ℕ) → IsAbove rows parent n → IsPlaceIn rows parent
+above_there rows None n h = tt
+above_there rows (Some a) n h = h.0

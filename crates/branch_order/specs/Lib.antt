@@ -1,2 +1,3 @@
 pub mod LeftOf
 pub mod Walks
+pub mod Clocks
