@@ -215,3 +215,26 @@ place_below rows scope (Some a) n h = by_test (is_node scope a.node)
 pub above_there : (rows : Rows) (parent : Option Place) (n : ℕ) → IsAbove rows parent n → IsPlaceIn rows parent
 above_there rows None n h = tt
 above_there rows (Some a) n h = h.0
+
+-- the same over all alternatives of a node
+drop-cons-here : (cells : List (ℕ × Cell)) (i : ℕ) (c : ℕ × Cell) → slice_get cells i ≡ Some c → drop i cells ≡ c ∷ drop (suc i) cells
+drop-cons-here [] i c e = absurd (cc e)
+drop-cons-here (x ∷ cells) zero c e = ap (λ (y : ℕ × Cell). y ∷ cells) (cc e)
+drop-cons-here (x ∷ cells) (suc i) c e = drop-cons-here cells i c e
+
+some_within : (cells : List (ℕ × Cell)) (i : ℕ) → i < length cells → (c : ℕ × Cell) × (slice_get cells i ≡ Some c)
+some_within [] i l = absurd (omega (arith, l))
+some_within (x ∷ cells) zero l = (x, refl)
+some_within (x ∷ cells) (suc i) l = some_within cells i (omega (arith, l))
+
+pub open_more : (cells : List (ℕ × Cell)) (i : ℕ) (b : Bool) → i < length cells → is_shut_at (slice_get cells i) ≡ b
+    → open_index i (drop i cells) ≡ first_at b i (open_index (suc i) (drop (suc i) cells))
+open_more cells i b l e =
+    let c = some_within cells i l in
+    ap (open_index i) (drop-cons-here cells i c.0 c.1)
+    ∙ ap (λ (x : Bool). first_at x i (open_index (suc i) (drop (suc i) cells))) (ap is_shut_at (sym c.1) ∙ e)
+
+pub row_within : (rows : Rows) (m : ℕ) → IsSome (row_at rows m) → m < length rows
+row_within [] m h = absurd (cc h)
+row_within (r ∷ rows) zero h = omega arith
+row_within (r ∷ rows) (suc m) h = let l = row_within rows m h in omega (arith, l)

@@ -55,3 +55,11 @@ is_shut_at (Some c) = is_shut c.1
 abbrev pub IsCleared : NodesView → Place → Scope → Result (Unit {0}) AltRef → Type 0
 IsCleared nodes a scope (Ok done) = IsFirstOpen nodes a (Some (scope_number scope)) None
 IsCleared nodes a scope (Err left) = IsFirstOpen nodes a (Some (scope_number scope)) (Some (place_view left))
+
+-- the leftmost alternative of a node that has not closed
+abbrev pub open_first : Rows → ℕ → Option Place
+open_first rows n = option_map (place_on n) (open_index 0 (cells_at (row_at rows n)))
+
+abbrev pub IsOn : ℕ → Option Place → Type 0
+IsOn n None = Unit {0}
+IsOn n (Some a) = a.node ≡ n

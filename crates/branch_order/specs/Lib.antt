@@ -1,3 +1,4 @@
 pub mod LeftOf
 pub mod Walks
 pub mod Clocks
+pub mod Leftmosts

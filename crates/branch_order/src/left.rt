@@ -71,7 +71,7 @@ fn open_left(nodes: &Nodes, at: AltRef) -> Option<AltRef>
     None
 }
 
-fn is_closed(nodes: &Nodes, at: AltRef) -> bool
+pub(crate) fn is_closed(nodes: &Nodes, at: AltRef) -> bool
     requires { IsSome (cell_at nodes.now.rows (place_view at)) }
     ensures { result ≡ is_shut_at (cell_at nodes.now.rows (place_view at)) }
 {

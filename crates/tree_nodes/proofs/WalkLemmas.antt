@@ -1,13 +1,18 @@
 -- Levels of a tree on the way up, as the table has them.
-use Rattle.std.proofs.Common.{◌≡◌, ℕ, List, [], ◌∷◌, ◌++◌, Option, Some, None, refl, sym, ap, ◌∙◌, subst}
+use Rattle.std.proofs.Common.{◌≡◌, ◌<◌, ℕ, List, [], ◌∷◌, ◌++◌, Option, Some, None, refl, sym, ap, ◌∙◌, subst}
 use Rattle.std.specs.Option.{option_map}
-use Rattle.tree_model.specs.Nodes.{Status, Inner}
+use Rattle.std.specs.Prelude.{IsSome, is_some}
+use Rattle.tree_model.specs.Nodes.{Numbered, Status, Pending, Inner, Closed}
 use Rattle.tree_model.specs.Levels.{Level, level_node, plug, Place, place_at}
 use Rattle.tree_nodes.specs.Bodies.{Reading}
 use Rattle.tree_nodes.specs.Rows.{Cell, NodeRow, Rows, row_at, cells_at, cell_at}
-use Rattle.tree_nodes.specs.TreeTables.{cell_of, cells_of, IsIn, NodesView, StandsFor, above_of}
+use Rattle.tree_nodes.specs.TreeTables.{cell_of, cells_of, IsIn, NodesView, StandsFor, Stand, above_of}
+use Rattle.tree_nodes.specs.RowViews.{inner_of}
+use Rattle.tree_nodes.specs.Puts.{inner_at}
+use Rattle.tree_nodes.specs.Folds.{IsDeeper}
+use Rattle.tree_nodes.proofs.LocateLemmas.{IsAt, located}
 use Rattle.tree_nodes.proofs.PlaceLemmas.{left_cells, taken_out}
-use Rattle.tree_nodes.proofs.PutLemmas.{cell_there}
+use Rattle.tree_nodes.proofs.PutLemmas.{cell_there, is_some_cell}
 
 -- the cells of the node at a place, and what is at the place
 pub cells_beside : (nodes : NodesView) (read : Reading) (v : Level) (up : List Level) (was : Status) → StandsFor nodes read (plug (v ∷ up) was)
@@ -40,3 +45,23 @@ one_level_up v (u ∷ up) a e = record { level = u; above = up; is = refl; at = 
 pub no_level_up : (up : List Level) → above_of up ≡ None → up ≡ []
 no_level_up [] e = refl
 no_level_up (u ∷ up) e = absurd (cc e)
+
+-- the node below an alternative is there
+module _ (nodes : NodesView) (read : Reading) (root : Status) (a : Place) (s : StandsFor nodes read root) (k : IsAt root a) where
+  below_status : (there : Status) → k.status ≡ there → IsDeeper nodes.rows a.node (inner_of (cell_of there))
+  below_status (Pending hold entry) e = tt
+  below_status (Closed credit) e = tt
+  below_status (Inner (Numbered m kind others)) e =
+      let t = taken_out nodes.rows read (k.level ∷ k.above) k.status (subst (IsIn nodes.rows read [] None) k.is s.placed) in
+      let h : IsIn nodes.rows read t.way (Some (place_at k.level)) (Inner (Numbered m kind others)) = subst (IsIn nodes.rows read t.way (Some (place_at k.level))) e t.inside in
+      (ap is_some h.1.0, subst (λ (p : Place). p.node < m) k.at h.1.2)
+
+  cell_at_place : cell_at nodes.rows a ≡ Some (k.level.spent, cell_of k.status)
+  cell_at_place = ap (cell_at nodes.rows) (sym k.at) ∙ cell_here nodes read k.level k.above k.status (subst (StandsFor nodes read) k.is s)
+
+pub below_there : (nodes : NodesView) (a : Place) → Stand nodes → IsSome (cell_at nodes.rows a) → IsDeeper nodes.rows a.node (inner_at (cell_at nodes.rows a))
+below_there nodes a st there =
+    let c = is_some_cell (cell_at nodes.rows a) there in
+    let k = located nodes st.read st.root a c.0 st.stands c.1 in
+    subst (λ (o : Option (ℕ × Cell)). IsDeeper nodes.rows a.node (inner_at o)) (sym (cell_at_place nodes st.read st.root a st.stands k))
+    (below_status nodes st.read st.root a st.stands k k.status refl)

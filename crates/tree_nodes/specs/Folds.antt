@@ -4,7 +4,7 @@ use Rattle.tree_model.specs.Credits.{Credit}
 use Rattle.tree_model.specs.Nodes.{Status}
 use Rattle.tree_model.specs.Levels.{Level, plug, Place, place_at}
 use Rattle.tree_nodes.specs.Bodies.{Reading}
-use Rattle.tree_nodes.specs.Rows.{Rows, cell_at}
+use Rattle.tree_nodes.specs.Rows.{Rows, row_at, cell_at}
 use Rattle.tree_nodes.specs.TreeTables.{NodesView, StandsFor}
 use Rattle.tree_nodes.specs.Changes.{folded_up}
 
@@ -32,3 +32,8 @@ FoldsUpTo nodes a c b total =
 abbrev pub IsAbove : Rows → Option Place → ℕ → Type 0
 IsAbove rows None n = Unit {0}
 IsAbove rows (Some a) n = IsSome (cell_at rows a) × (a.node < n)
+
+-- a node below an alternative is there, and its number is greater
+abbrev pub IsDeeper : Rows → ℕ → Option ℕ → Type 0
+IsDeeper rows n None = Unit {0}
+IsDeeper rows n (Some m) = IsSome (row_at rows m) × (n < m)

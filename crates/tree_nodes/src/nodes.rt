@@ -8,7 +8,8 @@ ghost use Rattle.tree_nodes.specs.TreeTables.{NodesView, Stand};
 ghost use Rattle.std.specs.Arc.{arc_value};
 ghost use Rattle.tree_nodes.specs.Bodies.{body_view, IsWhole};
 ghost use Rattle.tree_nodes.specs.Changes.{SetsAt, Fits, KeepsNumbers, Adds, CanHold, IsLonger, ClosesAt, LowersSpare, AreGone, GivesBack, is_pending, first_of};
-ghost use Rattle.tree_nodes.specs.Folds.{FoldsUpTo, IsAbove};
+ghost use Rattle.tree_nodes.specs.Folds.{FoldsUpTo, IsAbove, IsDeeper};
+ghost use Rattle.tree_nodes.specs.Puts.{inner_at};
 ghost use Rattle.tree_nodes.specs.Gathering.{IsFoldStep, Gathers};
 
 use crate::body::NodeBody;
@@ -151,6 +152,17 @@ impl Nodes {
         ensures { result ≡ is_some (cell_at self.now.rows (place_view at)) }
     {
         at.alternative < self.width(at.node)
+    }
+
+    /// The node below an alternative, if there is one.
+    pub fn below(&self, at: AltRef) -> Option<u64>
+        requires { IsSome (cell_at self.now.rows (place_view at)) }
+        ensures below { result ≡ inner_at (cell_at self.now.rows (place_view at)) }
+        ensures deeper { IsDeeper self.now.rows at.node result }
+    {
+        // The proof reads off that there is a tree.
+        let _live = self.live();
+        self.alternative(at).inner()
     }
 
     /// Whether an alternative has an entry.
