@@ -65,6 +65,11 @@ impl Nodes {
         }
     }
 
+    /// Where the nodes take their memory.
+    pub fn allocator(&self) -> Global {
+        self.alloc
+    }
+
     /// How many nodes there are.
     pub fn live(&self) -> u64
         ensures live { result ≡ self.now.live }
