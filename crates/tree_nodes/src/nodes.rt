@@ -263,8 +263,8 @@ impl Nodes {
         Ok(())
     }
 
-    // Where an alternative that closes with this credit folds to, and with what.
-    fn folded(&self, at: AltRef, credit: Credit) -> Result<(AltRef, Credit), NoMemory>
+    /// Where an alternative that closes with this credit folds to, and with what.
+    pub fn folded(&self, at: AltRef, credit: Credit) -> Result<(AltRef, Credit), NoMemory>
         requires { IsSome (cell_at self.now.rows (place_view at)) }
         ensures folds { IfOk result (λ f. FoldsUpTo self.now (place_view at) (credit_view credit) (place_view f.0) (credit_view f.1)) }
         ensures there { IfOk result (λ f. IsSome (cell_at self.now.rows (place_view f.0))) }
