@@ -7,13 +7,13 @@ use Rattle.tree_model.specs.Levels.{Level, level_node, plug, Place, place_at}
 use Rattle.tree_model.specs.Orders.{is_node, levels_below, is_closed, first_open_left, first_open}
 use Rattle.tree_nodes.specs.Bodies.{Reading}
 use Rattle.tree_nodes.specs.Rows.{Cell, NodeRow, Rows, row_at, cells_at, cell_at}
-use Rattle.tree_nodes.specs.Gathering.{is_shut}
+use Rattle.tree_nodes.specs.Gathering.{is_shut, is_shut_at}
 use Rattle.tree_nodes.specs.TreeTables.{cell_of, cells_of, NodesView, StandsFor, above_of}
 use Rattle.tree_nodes.specs.Puts.{IsPlaceIn}
 use Rattle.tree_nodes.specs.Folds.{IsAbove}
 use Rattle.tree_nodes.proofs.PlaceLemmas.{left_cells, length-left_cells}
 use Rattle.tree_nodes.proofs.WalkLemmas.{cells_beside, parent_here, one_level_up, no_level_up}
-use Rattle.branch_order.specs.LeftOf.{first_at, open_index, place_on, open_beside, or_else, if_below, below_scope, is_shut_at}
+use Rattle.branch_order.specs.LeftOf.{first_at, open_index, place_on, open_beside, or_else, if_below, below_scope}
 use Rattle.branch_order.specs.Walks.{IsAtLevel, IsWalked, Walks}
 
 abbrev or_index : Option ℕ → Option ℕ → Option ℕ

@@ -47,10 +47,6 @@ abbrev pub below_scope : Option ℕ → Option Place → Option Place
 below_scope scope None = None
 below_scope scope (Some a) = if_below (is_node scope a.node) a
 
-abbrev pub is_shut_at : Option (ℕ × Cell) → Bool
-is_shut_at None = false
-is_shut_at (Some c) = is_shut c.1
-
 -- the answer of a test for what is open to the left
 abbrev pub IsCleared : NodesView → Place → Scope → Result (Unit {0}) AltRef → Type 0
 IsCleared nodes a scope (Ok done) = IsFirstOpen nodes a (Some (scope_number scope)) None

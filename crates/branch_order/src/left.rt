@@ -3,11 +3,11 @@ ghost use Rattle.std.specs.Prelude.{◌≡◌, IsSome};
 ghost use Rattle.tree_model.specs.EventViews.{place_view};
 ghost use Rattle.tree_nodes.specs.Rows.{cell_at};
 ghost use Rattle.tree_nodes.specs.RowViews.{parent_view};
-ghost use Rattle.branch_order.specs.LeftOf.{open_beside, or_else, below_scope, is_shut_at, IsFirstOpen, IsCleared};
+ghost use Rattle.branch_order.specs.LeftOf.{open_beside, or_else, below_scope, IsFirstOpen, IsCleared};
 
 use clause_compile::Scope;
 use tree_model::AltRef;
-use tree_nodes::{AltState, Nodes};
+use tree_nodes::Nodes;
 
 /// Whether all to the left of an alternative below a node has closed; otherwise the leftmost that has not.
 pub fn cleared(nodes: &Nodes, at: AltRef, scope: Scope) -> Result<(), AltRef>
@@ -64,16 +64,9 @@ fn open_left(nodes: &Nodes, at: AltRef) -> Option<AltRef>
             node: at.node,
             alternative,
         };
-        if !is_closed(nodes, left) {
+        if !nodes.is_closed(left) {
             return Some(left);
         }
     }
     None
-}
-
-pub(crate) fn is_closed(nodes: &Nodes, at: AltRef) -> bool
-    requires { IsSome (cell_at nodes.now.rows (place_view at)) }
-    ensures { result ≡ is_shut_at (cell_at nodes.now.rows (place_view at)) }
-{
-    matches!(nodes.state(at), AltState::Closed(_))
 }

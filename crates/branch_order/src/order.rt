@@ -5,7 +5,6 @@ ghost use Rattle.tree_nodes.specs.RowViews.{parent_view};
 ghost use Rattle.branch_order.specs.LeftOf.{open_first, IsOn};
 ghost use Rattle.branch_order.specs.Leftmosts.{IsLeftmost};
 
-use crate::left::is_closed;
 use tree_model::AltRef;
 use tree_nodes::Nodes;
 
@@ -36,7 +35,7 @@ fn first_of(nodes: &Nodes, node: u64) -> Option<AltRef>
 {
     for alternative in 0..nodes.width(node) {
         let at = AltRef { node, alternative };
-        if !is_closed(nodes, at) {
+        if !nodes.is_closed(at) {
             return Some(at);
         }
     }

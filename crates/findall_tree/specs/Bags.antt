@@ -1,19 +1,14 @@
 -- The records of a findall's goal side.
-use Rattle.std.specs.Prelude.{◌≡◌, ℕ, List, [], ◌∷◌, Option, Some, None}
+use Rattle.std.specs.Prelude.{◌≡◌, ℕ, List, ◌∷◌}
 use Rattle.au_term.specs.Term.{Term}
 use Rattle.tree_model.specs.Credits.{Credit}
 use Rattle.tree_model.specs.Nodes.{Closed}
 use Rattle.tree_model.specs.Levels.{Level, plug, Place, place_at}
 use Rattle.tree_nodes.specs.Bodies.{Reading}
-use Rattle.tree_nodes.specs.Rows.{Cell, PendingCell, InnerCell, ClosedCell}
 use Rattle.tree_nodes.specs.TreeTables.{NodesView, StandsFor}
 
 abbrev pub goal_side : ℕ → Place
 goal_side n = record { node = n; index = 0 }
-
-abbrev pub IsClosedCell : Option (ℕ × Cell) → Type 0
-IsClosedCell None = ⊥
-IsClosedCell (Some c) = elim c.1 [ PendingCell hold ↦ ⊥ | InnerCell n ↦ ⊥ | ClosedCell credit ↦ Unit {0} ]
 
 -- what the goal side closed with, in the order of its branches
 abbrev pub IsBagOf : NodesView → ℕ → List Term → Type 0

@@ -4,5 +4,7 @@
 #![tactic(auto)]
 
 pub mod bag;
+#[cfg(test)]
+mod tests;
 
 pub use bag::bag_of;

@@ -14,6 +14,10 @@ is_shut (PendingCell hold) = false
 is_shut (InnerCell n) = false
 is_shut (ClosedCell credit) = true
 
+abbrev pub is_shut_at : Option (ℕ × Cell) → Bool
+is_shut_at None = false
+is_shut_at (Some c) = is_shut c.1
+
 abbrev pub are_shut : List (ℕ × Cell) → Bool
 are_shut [] = true
 are_shut (c ∷ cells) = is_shut c.1 && are_shut cells

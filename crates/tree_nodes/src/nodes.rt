@@ -10,7 +10,7 @@ ghost use Rattle.tree_nodes.specs.Bodies.{body_view, IsWhole};
 ghost use Rattle.tree_nodes.specs.Changes.{SetsAt, Fits, KeepsNumbers, Adds, CanHold, IsLonger, ClosesAt, LowersSpare, AreGone, GivesBack, is_pending, first_of};
 ghost use Rattle.tree_nodes.specs.Folds.{FoldsUpTo, IsAbove, IsDeeper};
 ghost use Rattle.tree_nodes.specs.Puts.{inner_at};
-ghost use Rattle.tree_nodes.specs.Gathering.{IsFoldStep, Gathers};
+ghost use Rattle.tree_nodes.specs.Gathering.{IsFoldStep, Gathers, is_shut_at};
 
 use crate::body::NodeBody;
 use crate::cells::{link_cell, put_cell};
@@ -175,6 +175,13 @@ impl Nodes {
         ensures { result ≡ is_pending (cell_at self.now.rows (place_view at)) }
     {
         self.has_alternative(at) && self.alternative(at).is_pending()
+    }
+
+    /// Whether an alternative has closed.
+    pub fn is_closed(&self, at: AltRef) -> bool
+        ensures { result ≡ is_shut_at (cell_at self.now.rows (place_view at)) }
+    {
+        self.has_alternative(at) && self.alternative(at).is_closed()
     }
 
     fn alternative(&self, at: AltRef) -> &Alternative

@@ -55,7 +55,8 @@ impl Alternative {
         !matches!(self.state, AltState::Inner(_) | AltState::Closed(_))
     }
 
-    fn is_closed(&self) -> bool
+    /// Whether it has closed.
+    pub(crate) fn is_closed(&self) -> bool
         ensures { result ≡ is_shut (cell_view self.now.state) }
     {
         matches!(self.state, AltState::Closed(_))

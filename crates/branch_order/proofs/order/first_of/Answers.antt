@@ -2,7 +2,8 @@ use Rattle.std.proofs.Common.{◌≡◌, ℕ, suc, ◌<◌, ◌+◌, true, false
 use Rattle.std.specs.Option.{option_map}
 use Rattle.std.specs.Prelude.{slice_get}
 use Rattle.tree_nodes.specs.Rows.{row_at, cells_at}
-use Rattle.branch_order.specs.LeftOf.{open_index, place_on, is_shut_at}
+use Rattle.tree_nodes.specs.Gathering.{is_shut_at}
+use Rattle.branch_order.specs.LeftOf.{open_index, place_on}
 use Rattle.branch_order.proofs.LeftLemmas.{open_more}
 use Rattle.branch_order.proofs.order.first_of.Goals as goal
 
