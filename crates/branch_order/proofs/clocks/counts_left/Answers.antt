@@ -1,0 +1,30 @@
+use Rattle.std.proofs.Common.{◌≡◌, ℕ, suc, ◌<◌, ◌+◌, min, List, take, drop, refl, sym, ap, ◌∙◌, arith}
+use Rattle.std.specs.Prelude.{slice_get, IsSome}
+use Rattle.tree_model.specs.EventViews.{place_view}
+use Rattle.tree_model.specs.Credits.{counted}
+use Rattle.tree_nodes.specs.Rows.{Cell, row_at, cells_at}
+use Rattle.branch_order.specs.Clocks.{counts_from, counts_in}
+use Rattle.branch_order.proofs.LeftLemmas.{some_before}
+use Rattle.branch_order.proofs.ClockLemmas.{counts_step}
+use Rattle.branch_order.proofs.clocks.counts_left.Goals as goal
+
+pub loop-alternative-preserved : goal.loop-alternative-preserved
+loop-alternative-preserved c =
+    let cells = cells_at (row_at c.args.nodes.now.rows c.args.at.node) in
+    let i = c.loop-alternative.alternative in
+    let n = c.args.at.alternative in
+    let l : i < n = omega arith in
+    let there = some_before cells i n l c.requires in
+    let here = counts_in (slice_get cells i) in
+    let one : suc i ≡ i + 1 = omega arith in
+    let given : c.counts_at-given.result ≡ here = c.counts_at-given.ensures in
+    let first : c.counts_at-given.result.0 ≡ here.0 = ap (λ (p : ℕ × ℕ). p.0) given in
+    let second : c.counts_at-given.result.1 ≡ here.1 = ap (λ (p : ℕ × ℕ). p.1) given in
+    let answers : counted c.loop-alternative.answers here.0 ≡ c.saturating_add-answers.result = (let e = c.saturating_add-answers.ensures in omega (arith, e, first)) in
+    let inferences : counted c.loop-alternative.inferences here.1 ≡ c.saturating_add-inferences.result = (let e = c.saturating_add-inferences.ensures in omega (arith, e, second)) in
+    let rest = drop (suc i) (take n cells) in
+    c.loop-alternative.invariant
+    ∙ (counts_step cells i n (c.loop-alternative.answers, c.loop-alternative.inferences) l there
+    ∙ (ap (λ (k : ℕ). counts_from (k, counted c.loop-alternative.inferences here.1) rest) answers
+    ∙ (ap (λ (k : ℕ). counts_from (c.saturating_add-answers.result, k) rest) inferences
+    ∙ ap (λ (k : ℕ). counts_from (c.saturating_add-answers.result, c.saturating_add-inferences.result) (drop k (take n cells))) one)))

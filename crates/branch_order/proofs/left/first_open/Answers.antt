@@ -1,0 +1,27 @@
+use Rattle.std.proofs.Common.{◌≡◌, ℕ, Option, Some, None, refl, sym, ap, ◌∙◌, subst}
+use Rattle.tree_model.specs.EventViews.{place_view}
+use Rattle.tree_model.specs.declared.places.AltRef.{AltRef}
+use Rattle.tree_model.specs.Levels.{Place}
+use Rattle.tree_nodes.specs.Rows.{Rows}
+use Rattle.tree_nodes.specs.RowViews.{parent_view}
+use Rattle.tree_nodes.specs.Puts.{IsPlaceIn}
+use Rattle.tree_nodes.specs.Folds.{IsAbove}
+use Rattle.branch_order.specs.LeftOf.{open_beside, or_else, below_scope}
+use Rattle.branch_order.specs.Walks.{Walks}
+use Rattle.branch_order.proofs.LeftLemmas.{walk_goes_on, place_below}
+use Rattle.branch_order.proofs.left.first_open.Goals as goal
+
+pub loop-next-preserved : goal.loop-next-preserved
+loop-next-preserved c =
+    let nodes = c.args.nodes.now in
+    let a = place_view c.args.at in
+    let b = place_view c.in-Some.here in
+    let walks = subst (λ (o : Option AltRef). Walks nodes a c.args.scope (parent_view o) (parent_view c.loop-next.first)) c.in-Some.is c.loop-next.invariant.walks in
+    let more = walk_goes_on nodes a c.args.scope b (parent_view c.loop-next.first) (parent_view c.parent.result) walks c.parent.ensures.parent in
+    let first : parent_view c.further_left-first.result ≡ or_else (open_beside nodes.rows b) (parent_view c.loop-next.first)
+      = c.further_left-first.ensures ∙ ap (λ (o : Option Place). or_else o (parent_view c.loop-next.first)) c.open_left.ensures in
+    record {
+      there = subst (IsPlaceIn nodes.rows) (sym c.below-next-in-Some.ensures) (place_below nodes.rows c.args.scope (parent_view c.parent.result) b.node c.parent.ensures.above);
+      walks = subst (λ (o : Option Place). Walks nodes a c.args.scope o (parent_view c.further_left-first.result)) (sym c.below-next-in-Some.ensures)
+          (subst (λ (o : Option Place). Walks nodes a c.args.scope (below_scope c.args.scope (parent_view c.parent.result)) o) (sym first) more);
+    }

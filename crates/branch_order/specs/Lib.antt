@@ -1,0 +1,4 @@
+pub mod LeftOf
+pub mod Walks
+pub mod Clocks
+pub mod Leftmosts

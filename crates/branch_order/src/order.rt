@@ -1,0 +1,43 @@
+//! The leftmost entry of the tree.
+ghost use Rattle.std.specs.Prelude.{◌≡◌};
+ghost use Rattle.tree_nodes.specs.Puts.{IsPlaceIn};
+ghost use Rattle.tree_nodes.specs.RowViews.{parent_view};
+ghost use Rattle.branch_order.specs.LeftOf.{open_first, IsOn};
+ghost use Rattle.branch_order.specs.Leftmosts.{IsLeftmost};
+
+use tree_model::AltRef;
+use tree_nodes::Nodes;
+
+/// The leftmost alternative that has an entry, none where all have closed.
+pub fn leftmost(nodes: &Nodes) -> Option<AltRef>
+    ensures { IsLeftmost nodes.now (parent_view result) }
+{
+    let Some(first) = nodes.first() else {
+        return None;
+    };
+    let mut node = first;
+    loop {
+        let Some(at) = first_of(nodes, node) else {
+            return None;
+        };
+        match nodes.below(at) {
+            Some(below) => node = below,
+            None => return Some(at),
+        }
+    }
+}
+
+// The first alternative of a node that has not closed.
+fn first_of(nodes: &Nodes, node: u64) -> Option<AltRef>
+    ensures first { parent_view result ≡ open_first nodes.now.rows node }
+    ensures there { IsPlaceIn nodes.now.rows (parent_view result) }
+    ensures on { IsOn node (parent_view result) }
+{
+    for alternative in 0..nodes.width(node) {
+        let at = AltRef { node, alternative };
+        if !nodes.is_closed(at) {
+            return Some(at);
+        }
+    }
+    None
+}

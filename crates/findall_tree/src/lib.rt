@@ -1,0 +1,10 @@
+//! The solutions of a findall in the shared tree.
+//!
+//! `bag_of` copies the records of a goal side that has closed, in the order of its branches.
+#![tactic(auto)]
+
+pub mod bag;
+#[cfg(test)]
+mod tests;
+
+pub use bag::bag_of;

@@ -1,0 +1,14 @@
+pub mod PlaceLemmas
+pub mod FrameLemmas
+pub mod LocateLemmas
+pub mod RowLemmas
+pub mod DropLemmas
+pub mod GoingLemmas
+pub mod DropStepLemmas
+pub mod ReverseLemmas
+pub mod PutLemmas
+pub mod NewRowLemmas
+pub mod AddLemmas
+pub mod CreditLemmas
+pub mod FoldLemmas
+pub mod WalkLemmas

@@ -1,0 +1,32 @@
+use Rattle.std.proofs.Common.{◌≡◌, ℕ, length, refl, sym, ap, ◌∙◌, subst, length-take}
+use Rattle.tree_nodes.specs.Rows.{Rows, row_at}
+use Rattle.tree_nodes.specs.TreeTables.{NodesView}
+use Rattle.tree_nodes.specs.Changes.{AreGone, GivesBack}
+use Rattle.tree_nodes.proofs.RowLemmas.{row_at-take}
+use Rattle.tree_nodes.proofs.PutLemmas.{same_rows}
+use Rattle.tree_nodes.proofs.nodes.Nodes.give_back.Goals as goal
+
+pub invariant_of-self : goal.invariant_of-self
+invariant_of-self c =
+    let old : NodesView = record { rows = c.self.inside.slots.items; first = c.self.inside.first; live = c.self.inside.live; spare = c.self.inside.spare } in
+    let new : NodesView = record { rows = c.truncate.new.self.items; first = c.self.inside.first; live = c.self.inside.live; spare = c.self.inside.spare } in
+    let gone : AreGone old.rows c.args.next = subst (λ (o : NodesView). AreGone o.rows c.args.next) (sym c.self.view_is) c.requires in
+    let rows : (m : ℕ) → row_at new.rows m ≡ row_at old.rows m = λ m. ap (λ (rs : Rows). row_at rs m) c.truncate.ensures.items ∙ row_at-take old.rows c.args.next m gone in
+    record {
+      read = c.self.invariant.read;
+      root = c.self.invariant.root;
+      stands = same_rows old new c.self.invariant.read c.self.invariant.root rows refl refl c.self.invariant.stands;
+    }
+
+pub returns : goal.returns
+returns c =
+    let old : NodesView = record { rows = c.self.inside.slots.items; first = c.self.inside.first; live = c.self.inside.live; spare = c.self.inside.spare } in
+    let new : NodesView = record { rows = c.truncate.new.self.items; first = c.self.inside.first; live = c.self.inside.live; spare = c.self.inside.spare } in
+    let gone : AreGone old.rows c.args.next = subst (λ (o : NodesView). AreGone o.rows c.args.next) (sym c.self.view_is) c.requires in
+    let rows : (m : ℕ) → row_at new.rows m ≡ row_at old.rows m = λ m. ap (λ (rs : Rows). row_at rs m) c.truncate.ensures.items ∙ row_at-take old.rows c.args.next m gone in
+    let given : GivesBack old new c.args.next = record {
+      length = ap length c.truncate.ensures.items ∙ length-take c.args.next old.rows;
+      spare = refl;
+      same = λ read root s. same_rows old new read root rows refl refl s;
+    } in
+    subst (λ (o : NodesView). GivesBack o new c.args.next) c.self.view_is given

@@ -1,0 +1,5 @@
+use Rattle.tree_nodes.proofs.PutLemmas.{no_nodes_stand}
+use Rattle.tree_nodes.proofs.nodes.Nodes.new.Goals as goal
+
+pub invariant_of-result : goal.invariant_of-result
+invariant_of-result c = rw c.new.ensures.items no_nodes_stand

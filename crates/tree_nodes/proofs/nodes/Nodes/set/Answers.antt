@@ -1,0 +1,26 @@
+use Rattle.std.proofs.Common.{refl, subst, sym}
+use Rattle.std.specs.Prelude.{IsSome}
+use Rattle.tree_model.specs.EventViews.{place_view}
+use Rattle.tree_nodes.specs.Rows.{cell_at, cell_view}
+use Rattle.tree_nodes.specs.TreeTables.{NodesView}
+use Rattle.tree_nodes.specs.Changes.{SetsAt, Fits}
+use Rattle.tree_nodes.proofs.PutLemmas.{put_set, put_stand}
+use Rattle.tree_nodes.proofs.nodes.Nodes.set.Goals as goal
+
+pub invariant_of-self : goal.invariant_of-self
+invariant_of-self c =
+    let old : NodesView = record { rows = c.self.inside.slots.items; first = c.self.inside.first; live = c.self.inside.live; spare = c.self.inside.spare } in
+    let new : NodesView = record { rows = c.put_cell.new.slots.items; first = c.self.inside.first; live = c.put_cell.new.live; spare = c.self.inside.spare } in
+    let a = place_view c.args.at in
+    let there : IsSome (cell_at old.rows a) = subst (λ (o : NodesView). IsSome (cell_at o.rows a)) (sym c.self.view_is) c.requires.there in
+    let fits : Fits (cell_at old.rows a) (cell_view c.args.state) = subst (λ (o : NodesView). Fits (cell_at o.rows a) (cell_view c.args.state)) (sym c.self.view_is) c.requires.fits in
+    put_stand old new a (c.args.spent, cell_view c.args.state) c.self.invariant there c.put_cell.ensures refl fits
+
+pub returns-clause-set : goal.returns-clause-set
+returns-clause-set c =
+    let old : NodesView = record { rows = c.self.inside.slots.items; first = c.self.inside.first; live = c.self.inside.live; spare = c.self.inside.spare } in
+    let new : NodesView = record { rows = c.put_cell.new.slots.items; first = c.self.inside.first; live = c.put_cell.new.live; spare = c.self.inside.spare } in
+    let a = place_view c.args.at in
+    let fits : Fits (cell_at old.rows a) (cell_view c.args.state) = subst (λ (o : NodesView). Fits (cell_at o.rows a) (cell_view c.args.state)) (sym c.self.view_is) c.requires.fits in
+    subst (λ (o : NodesView). SetsAt o new a c.args.spent (cell_view c.args.state)) c.self.view_is
+    (put_set old new a (c.args.spent, cell_view c.args.state) c.put_cell.ensures refl fits)

@@ -1,0 +1,327 @@
+//! The table, and the tree for which it stands.
+ghost use Rattle.std.specs.Prelude.{◌≡◌, ◌<◌, ◌+◌, ◌-◌, max, IsSome, IsOk, IfOk, OnOk, OnErr, Some, None, [], length, is_some};
+ghost use Rattle.std.specs.Option.{option_map, option_copied};
+ghost use Rattle.tree_model.specs.EventViews.{place_view};
+ghost use Rattle.tree_nodes.specs.Rows.{row_at, cell_at, cells_at, cell_view, credit_view};
+ghost use Rattle.tree_nodes.specs.RowViews.{row_view, parent_view};
+ghost use Rattle.tree_nodes.specs.TreeTables.{NodesView, Stand};
+ghost use Rattle.std.specs.Arc.{arc_value};
+ghost use Rattle.tree_nodes.specs.Bodies.{body_view, IsWhole};
+ghost use Rattle.tree_nodes.specs.Changes.{SetsAt, Fits, KeepsNumbers, Adds, CanHold, IsLonger, ClosesAt, LowersSpare, AreGone, GivesBack, is_pending, first_of};
+ghost use Rattle.tree_nodes.specs.Folds.{FoldsUpTo, IsAbove, IsDeeper};
+ghost use Rattle.tree_nodes.specs.Puts.{inner_at};
+ghost use Rattle.tree_nodes.specs.Gathering.{IsFoldStep, Gathers, is_shut_at};
+
+use crate::body::NodeBody;
+use crate::cells::{link_cell, put_cell};
+use crate::gather::Gathered;
+use crate::row::{Alternative, Row, Slot};
+use crate::state::{AltState, Credit};
+use au_term::NoMemory;
+use std::alloc::Global;
+use std::marker::Model;
+use std::sync::Arc;
+use tree_model::AltRef;
+
+/// The nodes of a tree. Contracts see the table, and speak of the tree for which it stands.
+#[derive(Drop)]
+pub struct Nodes {
+    slots: Vec<Slot>,
+    first: Option<u64>,
+    live: u64,
+    spare: u64,
+    alloc: Global,
+}
+
+impl Model for Nodes {
+    ghost use Rattle.tree_nodes.specs.TreeTables.{NodesView};
+    ghost use Rattle.std.specs.Coded.{codes};
+    ghost use Rattle.au_term.specs.PrefixOrder.{term_code};
+    ghost use Rattle.au_term.specs.contracts.flat.FlatTerm as flat;
+    ghost use Rattle.au_term.specs.contracts.shared.Shared as shared;
+
+    ghost Value = { NodesView };
+
+    ghost coded = { Prim.hlevel (codes, term_code, flat.the_row.coded, shared.the_row.coded) };
+
+    ghost use Rattle.tree_nodes.specs.TreeTables.{Stand};
+
+    ghost view = { λ s. record { rows = s.slots.items; first = s.first; live = s.live; spare = s.spare } };
+
+    ghost invariant = { λ s. Stand (record { rows = s.slots.items; first = s.first; live = s.live; spare = s.spare }) };
+}
+
+impl Nodes {
+    /// No nodes.
+    pub fn new(alloc: Global) -> Nodes
+        ensures { result ≡ record { rows = []; first = None; live = 0; spare = 0 } }
+    {
+        Nodes {
+            slots: Vec::new(alloc),
+            first: None,
+            live: 0,
+            spare: 0,
+            alloc,
+        }
+    }
+
+    /// Where the nodes take their memory.
+    pub fn allocator(&self) -> Global {
+        self.alloc
+    }
+
+    /// How many nodes there are.
+    pub fn live(&self) -> u64
+        ensures live { result ≡ self.now.live }
+        ensures sound { Stand self.now }
+    {
+        self.live
+    }
+
+    /// How many closings are provided for.
+    pub fn spare(&self) -> u64
+        ensures { result ≡ self.now.spare }
+    {
+        self.spare
+    }
+
+    /// Provides for so many closings at least.
+    pub fn reserve(&mut self, closings: u64) -> Result<(), NoMemory>
+        ensures ok { OnOk result (self.new ≡ record self.old { spare = max self.old.spare closings }) }
+        ensures err { OnErr result (self.new ≡ self.old) }
+    {
+        self.spare = self.spare.max(closings);
+        Ok(())
+    }
+
+    /// The node that has no parent.
+    pub fn first(&self) -> Option<u64>
+        ensures { result ≡ self.now.first }
+    {
+        self.first
+    }
+
+    fn row(&self, node: u64) -> Option<&Row>
+        ensures { option_map row_view (option_copied result) ≡ row_at self.now.rows node }
+    {
+        match self.slots.get(node as usize) {
+            Some(slot) => slot.row(),
+            None => None,
+        }
+    }
+
+    /// Whether a node is there.
+    pub fn has(&self, node: u64) -> bool
+        ensures { result ≡ is_some (row_at self.now.rows node) }
+    {
+        self.row(node).is_some()
+    }
+
+    /// The alternative that a node is below, if it is below one.
+    pub fn parent(&self, node: u64) -> Option<AltRef>
+        requires { IsSome (row_at self.now.rows node) }
+        ensures parent { option_map (λ r. r.parent) (row_at self.now.rows node) ≡ Some (parent_view result) }
+        ensures above { IsAbove self.now.rows (parent_view result) node }
+    {
+        // The proof reads off that there is a tree.
+        let _live = self.live();
+        match self.row(node) {
+            Some(row) => row.parent,
+            None => unreachable!(),
+        }
+    }
+
+    /// What a node was made from.
+    pub fn body(&self, node: u64) -> &Arc<NodeBody>
+        requires { IsSome (row_at self.now.rows node) }
+        ensures { option_map (λ r. r.body) (row_at self.now.rows node) ≡ Some (body_view (arc_value result.now)) }
+    {
+        match self.row(node) {
+            Some(row) => &row.body,
+            None => unreachable!(),
+        }
+    }
+
+    /// How many alternatives a node has; none where it is gone.
+    pub fn width(&self, node: u64) -> u32
+        ensures { result ≡ length (cells_at (row_at self.now.rows node)) }
+    {
+        match self.slots.get(node as usize) {
+            Some(slot) => slot.width(),
+            None => 0,
+        }
+    }
+
+    /// Whether an alternative is there.
+    pub fn has_alternative(&self, at: AltRef) -> bool
+        ensures { result ≡ is_some (cell_at self.now.rows (place_view at)) }
+    {
+        at.alternative < self.width(at.node)
+    }
+
+    /// The node below an alternative, if there is one.
+    pub fn below(&self, at: AltRef) -> Option<u64>
+        requires { IsSome (cell_at self.now.rows (place_view at)) }
+        ensures below { result ≡ inner_at (cell_at self.now.rows (place_view at)) }
+        ensures deeper { IsDeeper self.now.rows at.node result }
+    {
+        // The proof reads off that there is a tree.
+        let _live = self.live();
+        self.alternative(at).inner()
+    }
+
+    /// Whether an alternative has an entry.
+    pub fn is_pending(&self, at: AltRef) -> bool
+        ensures { result ≡ is_pending (cell_at self.now.rows (place_view at)) }
+    {
+        self.has_alternative(at) && self.alternative(at).is_pending()
+    }
+
+    /// Whether an alternative has closed.
+    pub fn is_closed(&self, at: AltRef) -> bool
+        ensures { result ≡ is_shut_at (cell_at self.now.rows (place_view at)) }
+    {
+        self.has_alternative(at) && self.alternative(at).is_closed()
+    }
+
+    fn alternative(&self, at: AltRef) -> &Alternative
+        requires { IsSome (cell_at self.now.rows (place_view at)) }
+        ensures { cell_at self.now.rows (place_view at) ≡ Some (result.now.spent, cell_view result.now.state) }
+    {
+        match self.row(at.node) {
+            Some(row) => &row.alternatives[at.alternative as usize],
+            None => unreachable!(),
+        }
+    }
+
+    /// How an alternative stands.
+    pub fn state(&self, at: AltRef) -> &AltState
+        requires { IsSome (cell_at self.now.rows (place_view at)) }
+        ensures { option_map (λ c. c.1) (cell_at self.now.rows (place_view at)) ≡ Some (cell_view result.now) }
+    {
+        &self.alternative(at).state
+    }
+
+    /// The inferences spent on an alternative.
+    pub fn spent(&self, at: AltRef) -> u64
+        requires { IsSome (cell_at self.now.rows (place_view at)) }
+        ensures { option_map (λ c. c.0) (cell_at self.now.rows (place_view at)) ≡ Some result }
+    {
+        self.alternative(at).spent
+    }
+
+    /// Puts another state in place of an alternative's. What stood below it goes, but for the node of the new state.
+    pub fn set(&mut self, at: AltRef, state: AltState, spent: u64)
+        requires there { IsSome (cell_at self.old.rows (place_view at)) }
+        requires fits { Fits (cell_at self.old.rows (place_view at)) (cell_view state) }
+        ensures set { SetsAt self.old self.new (place_view at) spent (cell_view state) }
+        ensures numbers { KeepsNumbers self.old self.new }
+    {
+        put_cell(
+            &mut self.slots,
+            &mut self.live,
+            at,
+            Alternative { state, spent },
+        );
+    }
+
+    /// Adds a node below an alternative that has an entry, or the first one, and gives its number.
+    pub fn add(&mut self, parent: Option<AltRef>, body: Arc<NodeBody>) -> Result<u64, NoMemory>
+        requires whole { IsWhole (body_view (arc_value body)) }
+        requires open { CanHold self.old (parent_view parent) }
+        ensures number { IfOk result (λ n. n ≡ length self.old.rows) }
+        ensures added { IfOk result (λ n. Adds self.old self.new (parent_view parent) n (body_view (arc_value body))) }
+        ensures grown { OnOk result (IsLonger self.old self.new) }
+        ensures err { OnErr result (self.new ≡ self.old) }
+    {
+        let slot = Slot::new(self.alloc, parent, body)?;
+        let Some(live) = self.live.checked_add(1) else {
+            return Err(NoMemory);
+        };
+        let number = self.slots.len() as u64;
+        self.slots.push(slot)?;
+        link_cell(&mut self.slots, parent, number);
+        self.first = first_after(self.first, parent, number);
+        self.live = live;
+        Ok(number)
+    }
+
+    /// Gives back the numbers from this one on, none of which names a node. So what was added and dropped again leaves no
+    /// trace.
+    pub fn give_back(&mut self, next: u64)
+        requires { AreGone self.old.rows next }
+        ensures { GivesBack self.old self.new next }
+    {
+        self.slots.truncate(next as usize);
+    }
+
+    /// Closes an alternative, and drops what stood below it. Where all alternatives of a node below another have then
+    /// closed, it folds into the alternative that it is below, and so on.
+    pub fn close(&mut self, at: AltRef, credit: Credit) -> Result<(), NoMemory>
+        requires there { IsSome (cell_at self.old.rows (place_view at)) }
+        ensures closed { OnOk result (ClosesAt self.old self.new (place_view at) (credit_view credit)) }
+        ensures numbers { OnOk result (LowersSpare self.old self.new) }
+        ensures err { OnErr result (self.new ≡ self.old) }
+    {
+        let (end, total) = self.folded(at, credit)?;
+        let spent = self.spent(end);
+        self.set(end, AltState::Closed(total), spent);
+        self.spare = self.spare.saturating_sub(1);
+        Ok(())
+    }
+
+    /// Where an alternative that closes with this credit folds to, and with what.
+    pub fn folded(&self, at: AltRef, credit: Credit) -> Result<(AltRef, Credit), NoMemory>
+        requires { IsSome (cell_at self.now.rows (place_view at)) }
+        ensures folds { IfOk result (λ f. FoldsUpTo self.now (place_view at) (credit_view credit) (place_view f.0) (credit_view f.1)) }
+        ensures there { IfOk result (λ f. IsSome (cell_at self.now.rows (place_view f.0))) }
+    {
+        let mut gathered = Gathered::new(self.alloc, credit);
+        let mut end = at;
+        while let Some(above) = self.fold_step(end, &mut gathered)? {
+            end = above;
+        }
+        let total = gathered.finish()?;
+        Ok((end, total))
+    }
+
+    // Adds what is beside an alternative, where its node folds, and gives the alternative that the node is below.
+    fn fold_step(&self, at: AltRef, gathered: &mut Gathered) -> Result<Option<AltRef>, NoMemory>
+        requires { IsSome (cell_at self.now.rows (place_view at)) }
+        ensures step { IfOk result (λ above. IsFoldStep self.now.rows (place_view at) gathered.old (parent_view above) gathered.new) }
+        ensures above { IfOk result (λ above. IsAbove self.now.rows (parent_view above) at.node) }
+    {
+        let Some(above) = self.parent(at.node) else {
+            return Ok(None);
+        };
+        if !self.gather(at, gathered)? {
+            return Ok(None);
+        }
+        gathered.spend(self.spent(above));
+        Ok(Some(above))
+    }
+
+    fn gather(&self, at: AltRef, gathered: &mut Gathered) -> Result<bool, NoMemory>
+        requires { IsSome (cell_at self.now.rows (place_view at)) }
+        ensures { IfOk result (λ shut. Gathers (row_at self.now.rows at.node) at.alternative shut gathered.old gathered.new) }
+    {
+        let Some(row) = self.row(at.node) else {
+            unreachable!()
+        };
+        let index = at.alternative as usize;
+        if !row.shut_beside(index) {
+            return Ok(false);
+        }
+        row.gather_beside(index, gathered)?;
+        Ok(true)
+    }
+}
+
+fn first_after(first: Option<u64>, parent: Option<AltRef>, node: u64) -> Option<u64>
+    ensures { result ≡ first_of first (parent_view parent) node }
+{
+    match parent {
+        Some(_) => first,
+        None => Some(node),
+    }
+}

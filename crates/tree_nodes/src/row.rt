@@ -1,0 +1,287 @@
+//! The rows of the table.
+ghost use Rattle.std.specs.Prelude.{◌≡◌, ◌<◌, List, None, Some, length, map, slice_get, vec_len, IfOk, OnOk, MatchOption};
+ghost use Rattle.std.specs.Arc.{arc_value};
+ghost use Rattle.tree_nodes.specs.Bodies.{body_view, kind_view, first_hold};
+ghost use Rattle.std.specs.Option.{option_map, option_copied};
+ghost use Rattle.tree_model.specs.EventViews.{place_view};
+ghost use Rattle.tree_nodes.specs.Rows.{PendingCell, cell_view, cells_at, credit_view};
+ghost use Rattle.tree_nodes.specs.Gathering.{closed_in, is_shut, are_shut, with_left, with_right, shut_beside, with_beside};
+ghost use Rattle.tree_nodes.specs.Changes.{is_pending_cell};
+ghost use Rattle.tree_nodes.specs.Puts.{inner_at};
+ghost use Rattle.tree_nodes.specs.RowViews.{row_view, parent_view, alternative_view, new_cells, new_row, inner_of, with_cell, IsShortened};
+
+use crate::body::{NodeBody, NodeKind};
+use crate::gather::Gathered;
+use crate::state::{AltState, Credit};
+use au_term::NoMemory;
+use std::alloc::Global;
+use std::marker::Model;
+use std::mem;
+use std::sync::Arc;
+use tree_model::AltRef;
+
+/// An alternative, and the inferences spent on it.
+#[derive(Drop)]
+pub(crate) struct Alternative {
+    pub(crate) state: AltState,
+    pub(crate) spent: u64,
+}
+
+impl Alternative {
+    /// The node below it, if there is one.
+    pub(crate) fn inner(&self) -> Option<u64>
+        ensures { result ≡ inner_of (cell_view self.now.state) }
+    {
+        match &self.state {
+            AltState::Inner(node) => Some(*node),
+            _ => None,
+        }
+    }
+
+    /// What it has closed with, if it has.
+    pub(crate) fn credit(&self) -> Option<&Credit>
+        ensures { option_map credit_view (option_copied result) ≡ closed_in (cell_view self.now.state) }
+    {
+        match &self.state {
+            AltState::Closed(credit) => Some(credit),
+            _ => None,
+        }
+    }
+
+    /// Whether it has an entry.
+    pub(crate) fn is_pending(&self) -> bool
+        ensures { result ≡ is_pending_cell (cell_view self.now.state) }
+    {
+        !matches!(self.state, AltState::Inner(_) | AltState::Closed(_))
+    }
+
+    /// Whether it has closed.
+    pub(crate) fn is_closed(&self) -> bool
+        ensures { result ≡ is_shut (cell_view self.now.state) }
+    {
+        matches!(self.state, AltState::Closed(_))
+    }
+}
+
+/// A node: the alternative that it is below, what it was made from, and its alternatives.
+#[derive(Drop)]
+pub(crate) struct Row {
+    pub(crate) parent: Option<AltRef>,
+    pub(crate) body: Arc<NodeBody>,
+    pub(crate) alternatives: Vec<Alternative>,
+}
+
+impl Row {
+    /// Whether all alternatives but this one have closed.
+    pub(crate) fn shut_beside(&self, index: usize) -> bool
+        requires { index < length (row_view self.now).cells }
+        ensures { result ≡ shut_beside index (row_view self.now).cells }
+    {
+        are_shut(&self.alternatives[..index]) && are_shut(&self.alternatives[index + 1..])
+    }
+
+    /// Adds what is closed on both sides of an alternative to its credit.
+    pub(crate) fn gather_beside(
+        &self,
+        index: usize,
+        gathered: &mut Gathered,
+    ) -> Result<(), NoMemory>
+        requires { index < length (row_view self.now).cells }
+        ensures { OnOk result (gathered.new ≡ with_beside index (row_view self.now).cells gathered.old) }
+    {
+        gather_right(&self.alternatives[index + 1..], gathered)?;
+        gather_left(&self.alternatives[..index], gathered)
+    }
+}
+
+fn first_state(kind: &NodeKind, index: usize) -> AltState
+    ensures { cell_view result ≡ PendingCell (first_hold (kind_view kind.now) index) }
+{
+    if index == 1 && kind.guards() {
+        AltState::Dormant
+    } else {
+        AltState::Ready
+    }
+}
+
+// The alternatives of a new node.
+fn first_alternatives(alloc: Global, body: &NodeBody) -> Result<Vec<Alternative>, NoMemory>
+    ensures cells { IfOk result (λ v. map alternative_view v.items ≡ new_cells (kind_view body.now.kind) 0 (vec_len body.now.branches)) }
+    ensures many { IfOk result (λ v. length (map alternative_view v.items) ≡ vec_len body.now.branches) }
+{
+    let mut alternatives = Vec::new(alloc);
+    for i in 0..body.branches.len() {
+        let state = first_state(&body.kind, i);
+        alternatives.push(Alternative { state, spent: 0 })?;
+    }
+    Ok(alternatives)
+}
+
+fn are_shut(alternatives: &[Alternative]) -> bool
+    ensures { result ≡ are_shut (map alternative_view alternatives.now) }
+{
+    for alternative in alternatives {
+        if !alternative.is_closed() {
+            return false;
+        }
+    }
+    true
+}
+
+fn gather_left(alternatives: &[Alternative], gathered: &mut Gathered) -> Result<(), NoMemory>
+    ensures { OnOk result (gathered.new ≡ with_left (map alternative_view alternatives.now) gathered.old) }
+{
+    for i in 0..alternatives.len() {
+        if let Some(credit) = alternatives[alternatives.len() - 1 - i].credit() {
+            gathered.add_left(credit)?;
+        }
+    }
+    Ok(())
+}
+
+fn gather_right(alternatives: &[Alternative], gathered: &mut Gathered) -> Result<(), NoMemory>
+    ensures { OnOk result (gathered.new ≡ with_right gathered.old (map alternative_view alternatives.now)) }
+{
+    for alternative in alternatives {
+        if let Some(credit) = alternative.credit() {
+            gathered.add_right(credit)?;
+        }
+    }
+    Ok(())
+}
+
+/// The place of a row, which is empty once the node is gone.
+#[derive(Drop)]
+pub(crate) struct Slot {
+    row: Option<Box<Row>>,
+}
+
+impl Model for Slot {
+    ghost use Rattle.std.specs.Prelude.{Option};
+    ghost use Rattle.tree_nodes.specs.Rows.{NodeRow};
+    ghost use Rattle.std.specs.Coded.{codes};
+    ghost use Rattle.au_term.specs.PrefixOrder.{term_code};
+    ghost use Rattle.au_term.specs.contracts.flat.FlatTerm as flat;
+    ghost use Rattle.au_term.specs.contracts.shared.Shared as shared;
+
+    ghost Value = { Option NodeRow };
+
+    ghost coded = { Prim.hlevel (codes, term_code, flat.the_row.coded, shared.the_row.coded) };
+
+    ghost use Rattle.tree_nodes.specs.RowViews.{slot_view, IsNarrow};
+
+    ghost view = { λ s. slot_view s.row };
+
+    ghost invariant = { λ s. IsNarrow (slot_view s.row) };
+}
+
+/// What was taken off a row.
+pub(crate) enum Shortened {
+    /// Its last alternative, below which was this node, or none.
+    Alternative(Option<u64>),
+    /// All of it, since no alternative was left; the alternative that it was below.
+    Row(Option<AltRef>),
+    Nothing,
+}
+
+impl Slot {
+    /// The row of a new node.
+    pub(crate) fn new(
+        alloc: Global,
+        parent: Option<AltRef>,
+        body: Arc<NodeBody>,
+    ) -> Result<Slot, NoMemory>
+        ensures { IfOk result (λ slot. slot ≡ Some (new_row (parent_view parent) (body_view (arc_value body)))) }
+    {
+        // An alternative's index has to fit its name.
+        if body.branches.len() > u32::MAX as usize {
+            return Err(NoMemory);
+        }
+        let alternatives = first_alternatives(alloc, &body)?;
+        let row = Row {
+            parent,
+            body,
+            alternatives,
+        };
+        Ok(Slot {
+            row: Some(Box::new(alloc, row)?),
+        })
+    }
+
+    /// The row, where it is there.
+    pub(crate) fn row(&self) -> Option<&Row>
+        ensures { option_map row_view (option_copied result) ≡ self.now }
+    {
+        match &self.row {
+            Some(row) => Some(row),
+            None => None,
+        }
+    }
+
+    /// How many alternatives there are.
+    pub(crate) fn width(&self) -> u32
+        ensures { result ≡ length (cells_at self.now) }
+    {
+        match &self.row {
+            Some(row) => row.alternatives.len() as u32,
+            None => 0,
+        }
+    }
+
+    /// The node below an alternative, if there is one.
+    pub(crate) fn inner(&self, index: usize) -> Option<u64>
+        requires { index < length (cells_at self.now) }
+        ensures { result ≡ inner_at (slice_get (cells_at self.now) index) }
+    {
+        match &self.row {
+            Some(row) => row.alternatives[index].inner(),
+            None => None,
+        }
+    }
+
+    /// The inferences spent on an alternative.
+    pub(crate) fn spent(&self, index: usize) -> u64
+        requires { index < length (cells_at self.now) }
+        ensures { option_map (λ c. c.0) (slice_get (cells_at self.now) index) ≡ Some result }
+    {
+        match &self.row {
+            Some(row) => row.alternatives[index].spent,
+            None => unreachable!(),
+        }
+    }
+
+    /// Puts another in place of an alternative.
+    pub(crate) fn put(&mut self, index: usize, alternative: Alternative)
+        requires { index < length (cells_at self.old) }
+        ensures { self.new ≡ with_cell index (alternative_view alternative) self.old }
+    {
+        match &mut self.row {
+            Some(row) => let_go(mem::replace(&mut row.alternatives[index], alternative)),
+            None => let_go(alternative),
+        }
+    }
+
+    /// Takes off the last alternative, or the row where none is left.
+    pub(crate) fn shorten(&mut self) -> Shortened
+        ensures { IsShortened self.old self.new result }
+    {
+        let Some(row) = &mut self.row else {
+            return Shortened::Nothing;
+        };
+        match row.alternatives.pop() {
+            Some(alternative) => {
+                let inner = alternative.inner();
+                let_go(alternative);
+                Shortened::Alternative(inner)
+            }
+            None => {
+                let parent = row.parent;
+                self.row = None;
+                Shortened::Row(parent)
+            }
+        }
+    }
+}
+
+// A call of its own keeps the cases of a gate out of the proofs of its callers.
+fn let_go(_alternative: Alternative) {}
