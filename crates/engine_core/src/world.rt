@@ -14,11 +14,7 @@ use clause_compile::Effect;
 use std_builtins::WorldGoal;
 
 /// The effect for which a goal of the world asks.
-pub(crate) fn effect_of(
-    asked: WorldGoal,
-    goal: &Shared,
-    store: &Store,
-) -> Result<Effect, NoMemory>
+pub(crate) fn effect_of(asked: WorldGoal, goal: &Shared, store: &Store) -> Result<Effect, NoMemory>
     requires callable { is_callable goal.now ≡ true }
     requires named { IsWorldGoal asked (name_of goal.now) (argument_count goal.now) }
     ensures { IfOk result (AsksWorld (resolve (substitution store.now) goal.now)) }

@@ -18,8 +18,8 @@ ghost use Rattle.stack_run.specs.StackView.{items_view, item_view, scope_height}
 ghost use Rattle.stack_run.specs.StackInvariant.{IsChoiceFit};
 ghost use Rattle.stack_run.specs.Inferences.{IsWorking, IsUnhalted, HasEntries, IsNoMark, branch_entry, cut_of, following, item_bytes, entries_below, TakesItem};
 
-use crate::frame::{Choice, Stack};
 use crate::effects::pass_gate;
+use crate::frame::{Choice, Stack};
 use crate::free_steps::place_of;
 use crate::open::open;
 use crate::stack::push_branches;
