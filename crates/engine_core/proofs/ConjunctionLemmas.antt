@@ -19,7 +19,7 @@ use Rattle.engine_core.specs.Branches.{IsItemBelow}
 use Rattle.engine_core.specs.Conjunctions.{goals_of_bodies, bodies_size, SplitsBodies}
 use Rattle.engine_core.proofs.ResolvedTermLemmas.{argument_below}
 use Rattle.au_model.proofs.UnifierMeasureLemmas.{size_pos as some_size}
-use Rattle.std_builtins.proofs.PartLemmas.{no_two}
+use Rattle.au_model.proofs.ListFormLemmas.{no_two}
 
 -- a goal that is no conjunction
 pub single_goal : (st : StoreView) (g : Term) → IsUnbound (substitution st) g → opens_conjunction (top_of g) ≡ false → goals_of (resolve (substitution st) g) ≡ resolve (substitution st) g ∷ []

@@ -33,7 +33,7 @@ use Rattle.engine_core.specs.declared.reduction.Reduction.TheVariants.{Alternati
 use Rattle.engine_core.proofs.ResolvedTermLemmas.{itself_resolved, name_resolved, count_resolved}
 use Rattle.proc_index.proofs.LawLemmas.{argument_resolved}
 use Rattle.clause_compile.proofs.RenumberingLemmas.{callable_renamed as callable_resolved}
-use Rattle.std_builtins.proofs.PartLemmas.{no_two}
+use Rattle.au_model.proofs.ListFormLemmas.{no_two}
 
 -- atoms and compounds go by name
 pub named_goal : (clauses : List ClauseTerms) (g : Term) (next : ℕ) → is_callable g ≡ true → outcome_of clauses g next ≡ named_outcome clauses g next

@@ -11,7 +11,7 @@ use Rattle.au_term.specs.declared.atom.Atom.{Atom}
 use Rattle.au_model.specs.Terms.TermTypes.{is_atom, is_integer, is_variable}
 use Rattle.au_model.specs.Terms.Each.{Each}
 use Rattle.au_model.specs.Terms.Faults.{error_term_of}
-use Rattle.au_model.specs.Syntax.OperatorChanges.{argument_error, error_if, first_error, is_open, item_error, named_items}
+use Rattle.au_model.specs.Syntax.OperatorChanges.{argument_error, error_if, first_error, is_open_form, first_item_error, named_items}
 use Rattle.op_table.specs.Arguments.{IsTested, IsRefusedWith, atom_in, integer_in, list_error}
 use Rattle.op_table.specs.declared.refusal.OpRefusal.{OpRefusal}
 use Rattle.op_table.specs.declared.refusal.OpRefusal.TheVariants.{Fault, NoMemory}
@@ -21,14 +21,14 @@ module _ (bad : Term → Bool) (error : Term → Term) where
   here xs i t lt is = drop_more xs i t lt ∙ ap (λ y. y ∷ drop (i + 1) xs) (sym is)
 
   -- an item that is not refused is passed
-  pub item_passed : (xs : List Term) (i : ℕ) (t : Term) → i < length xs → t ≡ get_or xs i t → bad t ≡ false → item_error bad error (drop i xs) ≡ item_error bad error (drop (i + 1) xs)
-  item_passed xs i t lt is p = ap (item_error bad error) (here xs i t lt is) ∙ (rw p refl)
+  pub item_passed : (xs : List Term) (i : ℕ) (t : Term) → i < length xs → t ≡ get_or xs i t → bad t ≡ false → first_item_error bad error (drop i xs) ≡ first_item_error bad error (drop (i + 1) xs)
+  item_passed xs i t lt is p = ap (first_item_error bad error) (here xs i t lt is) ∙ (rw p refl)
 
-  pub item_refused : (xs : List Term) (i : ℕ) (t : Term) → i < length xs → t ≡ get_or xs i t → bad t ≡ true → item_error bad error (drop i xs) ≡ Some (error t)
-  item_refused xs i t lt is p = ap (item_error bad error) (here xs i t lt is) ∙ (rw p refl)
+  pub item_refused : (xs : List Term) (i : ℕ) (t : Term) → i < length xs → t ≡ get_or xs i t → bad t ≡ true → first_item_error bad error (drop i xs) ≡ Some (error t)
+  item_refused xs i t lt is p = ap (first_item_error bad error) (here xs i t lt is) ∙ (rw p refl)
 
-  pub items_over : (xs : List Term) (i : ℕ) → length xs ≤ i → item_error bad error (drop i xs) ≡ None
-  items_over xs i le = ap (item_error bad error) (drop_all i xs le)
+  pub items_over : (xs : List Term) (i : ℕ) → length xs ≤ i → first_item_error bad error (drop i xs) ≡ None
+  items_over xs i le = ap (first_item_error bad error) (drop_all i xs le)
 
 -- an error of this term is the refusal
 pub refused_is : {X : Type 0} (e : Option Term) (t : Term) (P : X → Type 0) (r : Result X OpRefusal) → e ≡ Some t → IsRefusedWith t r → IsTested e P r
@@ -76,22 +76,22 @@ module _ (bad : Term → Bool) (error : Term → Term) where
   named (y ∷ ys) zero a lt e = (omega arith, ap AtomTerm e)
   named (y ∷ ys) (suc i) a lt e = let h = named ys i a (omega arith) e in (omega (arith, h.0), h.1)
 
-  pub name_passed : (xs : List (List ℕ)) (i : ℕ) (a : List ℕ) → i < length xs → a ≡ get_or xs i a → bad (AtomTerm a) ≡ false → item_error bad error (drop i (map AtomTerm xs)) ≡ item_error bad error (drop (i + 1) (map AtomTerm xs))
+  pub name_passed : (xs : List (List ℕ)) (i : ℕ) (a : List ℕ) → i < length xs → a ≡ get_or xs i a → bad (AtomTerm a) ≡ false → first_item_error bad error (drop i (map AtomTerm xs)) ≡ first_item_error bad error (drop (i + 1) (map AtomTerm xs))
   name_passed xs i a lt is p = let h = named xs i a lt is in item_passed bad error (map AtomTerm xs) i (AtomTerm a) h.0 h.1 p
 
-  pub name_refused : (xs : List (List ℕ)) (i : ℕ) (a : List ℕ) → i < length xs → a ≡ get_or xs i a → bad (AtomTerm a) ≡ true → item_error bad error (drop i (map AtomTerm xs)) ≡ Some (error (AtomTerm a))
+  pub name_refused : (xs : List (List ℕ)) (i : ℕ) (a : List ℕ) → i < length xs → a ≡ get_or xs i a → bad (AtomTerm a) ≡ true → first_item_error bad error (drop i (map AtomTerm xs)) ≡ Some (error (AtomTerm a))
   name_refused xs i a lt is p = let h = named xs i a lt is in item_refused bad error (map AtomTerm xs) i (AtomTerm a) h.0 h.1 p
 
-  pub names_over : (xs : List (List ℕ)) (i : ℕ) → length xs ≤ i → item_error bad error (drop i (map AtomTerm xs)) ≡ None
+  pub names_over : (xs : List (List ℕ)) (i : ℕ) → length xs ≤ i → first_item_error bad error (drop i (map AtomTerm xs)) ≡ None
   names_over xs i le = items_over bad error (map AtomTerm xs) i (let e = length-map xs AtomTerm in omega (arith, e))
 
   -- no name is refused
-  pub none_refused : (xs : List (List ℕ)) → item_error bad error (map AtomTerm xs) ≡ None → Each (λ a. bad (AtomTerm a) ≡ false) xs
+  pub none_refused : (xs : List (List ℕ)) → first_item_error bad error (map AtomTerm xs) ≡ None → Each (λ a. bad (AtomTerm a) ≡ false) xs
   none_refused [] e = tt
   none_refused (a ∷ xs) e = go (bad (AtomTerm a)) refl e (none_refused xs)
     where
       go : (b : Bool) → bad (AtomTerm a) ≡ b → first_error (error_if b (error (AtomTerm a)) ∷ map (λ t. error_if (bad t) (error t)) (map AtomTerm xs)) ≡ None
-          → (item_error bad error (map AtomTerm xs) ≡ None → Each (λ x. bad (AtomTerm x) ≡ false) xs) → Each (λ x. bad (AtomTerm x) ≡ false) (a ∷ xs)
+          → (first_item_error bad error (map AtomTerm xs) ≡ None → Each (λ x. bad (AtomTerm x) ≡ false) xs) → Each (λ x. bad (AtomTerm x) ≡ false) (a ∷ xs)
       go true h k f = absurd cc
       go false h k f = (h, f k)
 
@@ -112,5 +112,5 @@ integer_there (IntTerm y) z e = refl
 integer_there (AtomTerm a) z e = absurd cc
 integer_there (Compound f ts) z e = absurd cc
 
-pub list_refused : (p s n t : Term) → is_variable p ≡ false → is_variable s ≡ false → is_open (named_items n) ≡ false → is_integer p ≡ true → is_atom s ≡ true → list_error n (named_items n) ≡ Some t → argument_error p s n ≡ Some t
+pub list_refused : (p s n t : Term) → is_variable p ≡ false → is_variable s ≡ false → is_open_form (named_items n) ≡ false → is_integer p ≡ true → is_atom s ≡ true → list_error n (named_items n) ≡ Some t → argument_error p s n ≡ Some t
 list_refused p s n t a b c d e f = rw (a, b, c, d, e, f) refl

@@ -10,7 +10,7 @@ use Rattle.au_model.specs.Terms.ListForms.{ListForm}
 use Rattle.au_model.specs.Terms.ErrorTerms.{type_error, permission_error}
 use Rattle.au_model.specs.Terms.Faults.{error_term_of}
 use Rattle.au_model.specs.Syntax.Operators.{OperatorTable, OperatorKind}
-use Rattle.au_model.specs.Syntax.OperatorChanges.{error_if, has_conflict, is_no_operator_name, is_proper, item_error, kind_named, items_in, named_items}
+use Rattle.au_model.specs.Syntax.OperatorChanges.{error_if, has_conflict, is_no_operator_name, is_proper, first_item_error, kind_named, items_in, named_items}
 use Rattle.op_table.specs.OperatorView.{kind_meant}
 use Rattle.op_table.specs.declared.change.Change.{Change}
 use Rattle.op_table.specs.declared.refusal.OpRefusal.{OpRefusal}
@@ -29,20 +29,20 @@ atom_in (AtomTerm a) = Some a
 atom_in (Compound f ts) = None
 
 abbrev pub no_atom_error : List Term → Option Term
-no_atom_error ts = item_error (λ t. not (is_atom t)) (type_error (codes "atom")) ts
+no_atom_error ts = first_item_error (λ t. not (is_atom t)) (type_error (codes "atom")) ts
 
 abbrev pub list_error : Term → ListForm → Option Term
 list_error t form = error_if (not (is_proper form)) (type_error (codes "list") t)
 
 abbrev pub comma_error : List Term → Option Term
-comma_error ts = item_error (λ name. same_name (name_of name) (codes ",")) (permission_error (codes "modify") (codes "operator")) ts
+comma_error ts = first_item_error (λ name. same_name (name_of name) (codes ",")) (permission_error (codes "modify") (codes "operator")) ts
 
 -- a name that may not have an operator of this kind
 abbrev pub is_refused : OperatorTable → OperatorKind → Term → Bool
 is_refused t kind name = is_no_operator_name (name_of name) || has_conflict t (Some kind) (name_of name)
 
 abbrev pub making_error : OperatorTable → OperatorKind → List Term → Option Term
-making_error t kind ts = item_error (is_refused t kind) (permission_error (codes "create") (codes "operator")) ts
+making_error t kind ts = first_item_error (is_refused t kind) (permission_error (codes "create") (codes "operator")) ts
 
 abbrev pub AreItems : List Term → Vec FlatTerm Global → Type 0
 AreItems ts items = ts ≡ items.items

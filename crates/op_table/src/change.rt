@@ -7,7 +7,7 @@ ghost use Rattle.au_model.specs.Terms.ListForms.{ListForm as ListFormTerms};
 ghost use Rattle.au_model.specs.Terms.ListCells.{IsForm};
 ghost use Rattle.au_model.specs.Terms.ErrorTerms.{domain_error, type_error};
 ghost use Rattle.au_model.specs.Terms.Faults.{domain_word, type_word};
-ghost use Rattle.au_model.specs.Syntax.OperatorChanges.{argument_error, is_open, is_priority, items_in, named_items};
+ghost use Rattle.au_model.specs.Syntax.OperatorChanges.{argument_error, is_open_form, is_priority, items_in, named_items};
 ghost use Rattle.op_table.specs.OperatorView.{kind_meant, operator_meant};
 ghost use Rattle.op_table.specs.NameRows.{operator_by};
 ghost use Rattle.op_table.specs.Arguments.{AreAtoms, AreItems, IsRead, IsRefusedWith, IsTested, atom_in, integer_in, list_error, no_atom_error};
@@ -126,7 +126,7 @@ fn named_items(alloc: Global, names: &FlatTerm) -> Result<ListForm, NoMemory>
 
 /// Whether items may still become others.
 fn is_open(form: &ListForm) -> bool
-    ensures { (f : ListFormTerms) → IsForm f form.now → result ≡ is_open f }
+    ensures { (f : ListFormTerms) → IsForm f form.now → result ≡ is_open_form f }
 {
     match form {
         ListForm::Proper(items) => has_variable(items),

@@ -10,8 +10,8 @@ use Rattle.run_model.specs.Programs.Clauses.{Clause as ClauseTerms}
 abbrev pub slot_value : Option (Arc Clause Global) → Option ClauseTerms
 slot_value = option_map arc_value
 
-abbrev pub clauses_in : List (Option (Arc Clause Global)) → List ClauseTerms
-clauses_in slots = filter_map slot_value slots
+abbrev pub taken_clauses : List (Option (Arc Clause Global)) → List ClauseTerms
+taken_clauses slots = filter_map slot_value slots
 
 abbrev pub AreFull : List (Option (Arc Clause Global)) → Type 0
 AreFull slots = list_all is_some slots ≡ true

@@ -28,9 +28,9 @@ impl Model for Taken {
 
     ghost coded = { Prim.hlevel (codes, term_code) };
 
-    ghost use Rattle.proc_index.specs.TakenClauses.{AreFull, clauses_in};
+    ghost use Rattle.proc_index.specs.TakenClauses.{AreFull, taken_clauses};
 
-    ghost view = { λ t. clauses_in t.slots.items };
+    ghost view = { λ t. taken_clauses t.slots.items };
 
     ghost invariant = { λ t. AreFull t.slots.items };
 }

@@ -168,6 +168,10 @@ gate_answer operators e next = (plain_world operators [], Solutions [])
 abbrev pub gate_entries : OperatorTable → Effect → Continuation ℕ → List Entry → List Entry
 gate_entries operators e f es = after_reply (gate_answer operators e f.next).1 f es
 
+-- the stack goes on by a reply to the goal in front
+abbrev pub LeavesReply : Reply → List Item → Stack → Stack → Type 0
+LeavesReply reply rest old new = HasEntries (λ own. after_reply reply (following old rest own) (entries_below old own)) new
+
 abbrev pub gate_bytes : OperatorTable → Effect → List ℕ
 gate_bytes operators e = (gate_answer operators e 0).0.written
 

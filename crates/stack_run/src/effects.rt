@@ -7,9 +7,8 @@ ghost use Rattle.au_model.specs.Terms.Forms.{name_of};
 ghost use Rattle.run_model.specs.Goals.OutputGoals.{character_out, no_character_ball};
 ghost use Rattle.run_model.specs.Goals.Worlds.{dynamic_call, plain_world};
 ghost use Rattle.run_model.specs.Machine.Entries.{PlainEntry};
-ghost use Rattle.run_model.specs.Machine.Heights.{after_reply};
 ghost use Rattle.engine_core.specs.Branches.{IsItemBelow};
-ghost use Rattle.stack_run.specs.Inferences.{HasEntries, IsWorking, entries_below, following, gate_bytes, gate_entries};
+ghost use Rattle.stack_run.specs.Inferences.{HasEntries, IsWorking, LeavesReply, entries_below, following, gate_bytes, gate_entries};
 
 use crate::frame::Stack;
 use crate::unwinding::unwind;
@@ -67,7 +66,7 @@ fn put_char(
 ) -> Result<(), NoMemory>
     requires work { IsWorking stack.old }
     requires rest { Each (IsItemBelow stack.old.store.next) rest.now }
-    ensures leaves { (operators : OperatorTable) → OnOk result (HasEntries (λ own. after_reply (character_out term.now (plain_world operators [])).1 (following stack.old rest.now own) (entries_below stack.old own)) stack.new) }
+    ensures leaves { (operators : OperatorTable) → OnOk result (LeavesReply (character_out term.now (plain_world operators [])).1 rest.now stack.old stack.new) }
     ensures line { (operators : OperatorTable) → OnOk result (line.new.items ≡ line.old.items ++ (character_out term.now (plain_world operators [])).0.written) }
 {
     match character(term) {
@@ -111,7 +110,7 @@ fn raise_unknown(
     stack: &mut Stack,
 ) -> Result<(), NoMemory>
     requires { IsWorking stack.old }
-    ensures { OnOk result (HasEntries (λ own. after_reply (dynamic_call None goal.now stack.old.store.next) (following stack.old rest.now own) (entries_below stack.old own)) stack.new) }
+    ensures { OnOk result (LeavesReply (dynamic_call None goal.now stack.old.store.next) rest.now stack.old stack.new) }
 {
     let name = name_of(alloc, goal)?;
     let arity = goal.arity();

@@ -3,7 +3,6 @@ pub mod Meanings
 pub mod Rows
 pub mod Controls
 pub mod WorldGoals
-pub mod Lists
 pub mod Characters
 pub mod Checks
 pub mod Texts

@@ -4,7 +4,7 @@ ghost use Rattle.std.specs.Str.{chars};
 ghost use Rattle.au_term.specs.Term.{AtomTerm, IntTerm};
 ghost use Rattle.au_model.specs.Terms.Forms.{same_name};
 ghost use Rattle.run_model.specs.Goals.AtomParts.{admits_atom, admits_count};
-ghost use Rattle.std_builtins.specs.AskedParts.{IsAsked, IsOnlyCount};
+ghost use Rattle.std_builtins.specs.AskedParts.{IsAskedText, IsOnlyCount};
 
 use crate::characters::{atom_term, put};
 use crate::integers::integer;
@@ -20,7 +20,7 @@ pub(crate) struct Asked<'a> {
 
 /// An argument with its characters, if it is an atom.
 pub(crate) fn asked_for(alloc: Global, term: &FlatTerm) -> Result<Asked<'_>, NoMemory>
-    ensures asked { IfOk result IsAsked }
+    ensures asked { IfOk result IsAskedText }
     ensures term { IfOk result (λ asked. asked.term.now ≡ term.now) }
 {
     let characters = match term.top() {
@@ -33,7 +33,7 @@ pub(crate) fn asked_for(alloc: Global, term: &FlatTerm) -> Result<Asked<'_>, NoM
 impl Asked<'_> {
     /// Whether these characters can be the part.
     pub(crate) fn admits(&self, part: &[char]) -> bool
-        requires { IsAsked self.now }
+        requires { IsAskedText self.now }
         ensures { result ≡ admits_atom self.now.term.now part.now }
     {
         match &self.characters {

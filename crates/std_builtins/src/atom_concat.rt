@@ -3,10 +3,10 @@ ghost use Rattle.std.specs.Prelude.{◌≡◌, ◌++◌, ◌∷◌, ◌≤◌, �
 ghost use Rattle.std.specs.Str.{chars};
 ghost use Rattle.au_term.specs.Term.{AtomTerm};
 ghost use Rattle.au_model.specs.Terms.Forms.{name_of};
-ghost use Rattle.run_model.specs.Goals.AtomParts.{atom_concat_answer, concat_answer, fits_split, split_at, split_solution, splits_for};
+ghost use Rattle.run_model.specs.Goals.AtomParts.{atom_concat_answer, concat_answer, fits_split, split_at, split_solution};
 ghost use Rattle.run_model.specs.Goals.TermTests.{is_variable};
 ghost use Rattle.std_builtins.specs.Answers.{IsAnswer, solution_meant};
-ghost use Rattle.std_builtins.specs.AskedParts.{IsAsked};
+ghost use Rattle.std_builtins.specs.AskedParts.{IsAskedText, split_solutions};
 
 use crate::answer::{BuiltinRefusal, Solution, equal, failed};
 use crate::asked::{Asked, asked_for, atom_of, characters_of};
@@ -86,9 +86,9 @@ fn splits(
     second: &Asked<'_>,
     characters: &[char],
 ) -> Result<Vec<Solution>, NoMemory>
-    requires first { IsAsked first.now }
-    requires second { IsAsked second.now }
-    ensures { IfOk result (λ solutions. map solution_meant solutions.items ≡ map (split_solution first.now.term.now second.now.term.now) (splits_for first.now.term.now second.now.term.now characters.now)) }
+    requires first { IsAskedText first.now }
+    requires second { IsAskedText second.now }
+    ensures { IfOk result (λ solutions. map solution_meant solutions.items ≡ split_solutions first.now second.now characters.now) }
 {
     let mut solutions = Vec::new(alloc);
     for at in 0..characters.len() {
@@ -114,8 +114,8 @@ fn push_split(
     at: usize,
     solutions: &mut Vec<Solution>,
 ) -> Result<(), NoMemory>
-    requires first { IsAsked first.now }
-    requires second { IsAsked second.now }
+    requires first { IsAskedText first.now }
+    requires second { IsAskedText second.now }
     requires at { at ≤ length characters.now }
     ensures { OnOk result (map solution_meant solutions.new.items ≡ map solution_meant solutions.old.items
         ++ map (split_solution first.now.term.now second.now.term.now) (filter (fits_split first.now.term.now second.now.term.now) (split_at characters.now at ∷ []))) }

@@ -14,7 +14,6 @@ pub mod comparisons;
 pub mod control;
 mod functor;
 mod integers;
-mod lists;
 mod numbers;
 mod parts;
 mod sorting;

@@ -8,15 +8,15 @@ ghost use Rattle.run_model.specs.Goals.ListForms.{ListForm as ListFormTerms, NoL
 ghost use Rattle.run_model.specs.Goals.AtomGoals.{CharacterList as SpellingTerms, is_bound, with_text};
 ghost use Rattle.run_model.specs.Goals.NumberTexts.{last_integer, without_sign, negated_number, number_in_text, numbered_answer, written_answer, number_text, number_text_answer};
 ghost use Rattle.std_builtins.specs.Answers.{IsAnswer};
-ghost use Rattle.std_builtins.specs.Lists.{IsForm};
+ghost use Rattle.au_model.specs.Terms.ListCells.{IsForm};
 ghost use Rattle.std_builtins.specs.Meanings.{spelling_meant};
 ghost use Rattle.std_builtins.specs.Texts.{unsigned_number, number_from};
 
 use crate::answer::{BuiltinRefusal, Solution, equal, failed};
 use crate::checks::Check;
 use crate::integers::integer;
-use crate::lists::{ListForm, list_form};
 use crate::spelling::{Spelling, list_of_text, text_of_items};
+use au_model::lists::{ListForm, list_form};
 use au_model::{Fault, TypeName};
 use au_term::{Cell, FlatTerm, is_text};
 use itoa::Buffer;

@@ -4,12 +4,13 @@ ghost use Rattle.au_term.specs.Term.{arguments};
 ghost use Rattle.run_model.specs.Goals.ListForms.{ListForm as ListFormTerms, items_of};
 ghost use Rattle.run_model.specs.Goals.TermParts.{parts_answer, taken_apart, built_from, term_of_items, compound_of as compound_answer, parts_of, copy_answer};
 ghost use Rattle.std_builtins.specs.Answers.{IsAnswer};
-ghost use Rattle.std_builtins.specs.Lists.{IsForm, built_from_list};
+ghost use Rattle.au_model.specs.Terms.ListCells.{IsForm};
+ghost use Rattle.std_builtins.specs.Answers.{built_from_list};
 
 use crate::answer::{BuiltinRefusal, Solution, equal, equal_with, failed};
-use crate::lists::{ListForm, list_form};
 use au_model::build::{atom, compound_of, list_of, single};
 use au_model::copies::copy_term;
+use au_model::lists::{ListForm, list_form};
 use au_model::{DomainName, Fault, LimitName, TypeName};
 use au_term::{Cell, FlatTerm, MAX_ARITY, NoMemory, VarNo};
 use std::alloc::Global;

@@ -10,8 +10,8 @@ ghost use Rattle.std_builtins.specs.Checks.{AreItemsFor};
 
 use crate::answer::{BuiltinRefusal, Solution, equal};
 use crate::checks::{Check, check_each};
-use crate::lists::{ListForm, list_form};
 use au_model::build::list_of;
+use au_model::lists::{ListForm, list_form};
 use au_model::{Fault, TypeName};
 use au_term::FlatTerm;
 use std::alloc::Global;

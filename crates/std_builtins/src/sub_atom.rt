@@ -6,7 +6,7 @@ ghost use Rattle.au_model.specs.Terms.ErrorTerms.{type_error};
 ghost use Rattle.run_model.specs.Goals.AtomGoals.{is_open_atom, with_counts, with_each};
 ghost use Rattle.run_model.specs.Goals.AtomParts.{fits_part, part_at, part_solution, part_term, found_parts_answer, parts_from, atom_parts, sub_atom_answer};
 ghost use Rattle.std_builtins.specs.Answers.{IsAnswer, solution_meant};
-ghost use Rattle.std_builtins.specs.AskedParts.{IsAsked, IsOnlyLength, asked_meant};
+ghost use Rattle.std_builtins.specs.AskedParts.{IsAskedText, IsOnlyLength, asked_meant};
 
 use crate::answer::{BuiltinRefusal, Solution, failed};
 use crate::asked::{
@@ -61,7 +61,7 @@ pub(crate) fn sub_atom(
 impl PartsAsked<'_> {
     /// The solutions of the parts that fit.
     fn solutions(&self, alloc: Global, characters: &[char]) -> Result<Vec<Solution>, NoMemory>
-        requires { IsAsked self.now.text }
+        requires { IsAskedText self.now.text }
         ensures { IfOk result (λ solutions. map solution_meant solutions.items ≡ map (part_solution (asked_meant self.now)) (filter (fits_part (asked_meant self.now)) (atom_parts characters.now))) }
     {
         let mut solutions = Vec::new(alloc);
@@ -80,7 +80,7 @@ impl PartsAsked<'_> {
         start: usize,
         solutions: &mut Vec<Solution>,
     ) -> Result<(), NoMemory>
-        requires asked { IsAsked self.now.text }
+        requires asked { IsAskedText self.now.text }
         requires start { start ≤ length characters.now }
         ensures { OnOk result (map solution_meant solutions.new.items ≡ map solution_meant solutions.old.items
             ++ map (part_solution (asked_meant self.now)) (filter (fits_part (asked_meant self.now)) (parts_from characters.now start))) }
@@ -98,7 +98,7 @@ impl PartsAsked<'_> {
 
     /// The one length that a part can have, if an argument says it.
     fn only_length(&self, rest: usize) -> Option<usize>
-        requires { IsAsked self.now.text }
+        requires { IsAskedText self.now.text }
         ensures { IsOnlyLength self.now rest result }
     {
         if let Some(length) = only_count(self.length) {
@@ -119,7 +119,7 @@ impl PartsAsked<'_> {
         start: usize,
         solutions: &mut Vec<Solution>,
     ) -> Result<(), NoMemory>
-        requires asked { IsAsked self.now.text }
+        requires asked { IsAskedText self.now.text }
         requires start { start ≤ length characters.now }
         ensures { OnOk result (map solution_meant solutions.new.items ≡ map solution_meant solutions.old.items
             ++ map (part_solution (asked_meant self.now)) (filter (fits_part (asked_meant self.now)) (parts_from characters.now start))) }
@@ -140,7 +140,7 @@ impl PartsAsked<'_> {
         count: usize,
         solutions: &mut Vec<Solution>,
     ) -> Result<(), NoMemory>
-        requires asked { IsAsked self.now.text }
+        requires asked { IsAskedText self.now.text }
         requires within { start + count ≤ length characters.now }
         ensures { OnOk result (map solution_meant solutions.new.items ≡ map solution_meant solutions.old.items
             ++ map (part_solution (asked_meant self.now)) (filter (fits_part (asked_meant self.now)) (part_at characters.now start count ∷ []))) }

@@ -40,10 +40,10 @@ is_proper (PartialList ts) = false
 is_proper NoList = false
 
 -- a partial list, or a list with a variable in it
-abbrev pub is_open : ListForm → Bool
-is_open (ProperList ts) = list_any is_variable ts
-is_open (PartialList ts) = true
-is_open NoList = false
+abbrev pub is_open_form : ListForm → Bool
+is_open_form (ProperList ts) = list_any is_variable ts
+is_open_form (PartialList ts) = true
+is_open_form NoList = false
 
 -- 0 takes an operator away
 abbrev pub is_priority : Term → Bool
@@ -78,17 +78,17 @@ first_error (Some e ∷ es) = Some e
 first_error (None ∷ es) = first_error es
 
 -- the first error of an item
-abbrev pub item_error : (Term → Bool) → (Term → Term) → List Term → Option Term
-item_error is_refused error ts = first_error (map (λ t. error_if (is_refused t) (error t)) ts)
+abbrev pub first_item_error : (Term → Bool) → (Term → Term) → List Term → Option Term
+first_item_error is_refused error ts = first_error (map (λ t. error_if (is_refused t) (error t)) ts)
 
 -- what the arguments have to be, whatever the table: each condition is tried of all items before the next one (8.14.3.3)
 abbrev pub argument_error : Term → Term → Term → Option Term
 argument_error priority specifier names =
-    first_error (error_if (is_variable priority || (is_variable specifier || is_open (named_items names))) instantiation_error
+    first_error (error_if (is_variable priority || (is_variable specifier || is_open_form (named_items names))) instantiation_error
     ∷ error_if (not (is_integer priority)) (type_error (codes "integer") priority)
     ∷ error_if (not (is_atom specifier)) (type_error (codes "atom") specifier)
     ∷ error_if (not (is_proper (named_items names))) (type_error (codes "list") names)
-    ∷ item_error (λ t. not (is_atom t)) (type_error (codes "atom")) (items_in (named_items names))
+    ∷ first_item_error (λ t. not (is_atom t)) (type_error (codes "atom")) (items_in (named_items names))
     ∷ error_if (not (is_priority priority)) (domain_error (codes "operator_priority") priority)
     ∷ error_if (is_none (kind_named (name_of specifier))) (domain_error (codes "operator_specifier") specifier)
     ∷ [])
@@ -96,8 +96,8 @@ argument_error priority specifier names =
 -- the comma stays what it is, some names are never operators, and no name is both infix and postfix
 abbrev pub name_error : OperatorTable → Option OperatorKind → List Term → Option Term
 name_error t kind names =
-    first_error (item_error (λ name. same_name (name_of name) (codes ",")) (permission_error (codes "modify") (codes "operator")) names
-    ∷ item_error (λ name. is_no_operator_name (name_of name) || has_conflict t kind (name_of name)) (permission_error (codes "create") (codes "operator")) names
+    first_error (first_item_error (λ name. same_name (name_of name) (codes ",")) (permission_error (codes "modify") (codes "operator")) names
+    ∷ first_item_error (λ name. is_no_operator_name (name_of name) || has_conflict t kind (name_of name)) (permission_error (codes "create") (codes "operator")) names
     ∷ [])
 
 -- the table with the operator of a name, or without it where the priority is 0

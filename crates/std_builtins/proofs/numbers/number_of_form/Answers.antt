@@ -4,7 +4,7 @@ use Rattle.std.specs.List.{list_all}
 use Rattle.run_model.specs.Goals.AtomGoals.{is_bound}
 use Rattle.run_model.specs.Goals.NumberTexts.{number_text}
 use Rattle.std_builtins.specs.Answers.{IsAnswer}
-use Rattle.std_builtins.specs.Lists.{IsForm}
+use Rattle.au_model.specs.Terms.ListCells.{IsForm}
 use Rattle.std_builtins.specs.Meanings.{spelling_meant}
 use Rattle.std_builtins.proofs.TextLemmas.{number_is_read, number_is_written}
 use Rattle.std_builtins.proofs.numbers.number_of_form.Goals as goal

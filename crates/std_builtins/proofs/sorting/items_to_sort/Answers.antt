@@ -1,6 +1,6 @@
 use Rattle.std.proofs.Common.{subst}
 use Rattle.run_model.specs.Goals.ListForms.{list_form}
-use Rattle.std_builtins.specs.Lists.{IsForm}
+use Rattle.au_model.specs.Terms.ListCells.{IsForm}
 use Rattle.std_builtins.proofs.SortGoalLemmas.{unsorted, result_refused}
 use Rattle.std_builtins.proofs.sorting.items_to_sort.Goals as goal
 

@@ -6,7 +6,7 @@ use Rattle.run_model.specs.Goals.BuiltinAnswers.{Answer, equal}
 use Rattle.run_model.specs.Goals.ListForms.{list_form}
 use Rattle.run_model.specs.Goals.AtomGoals.{with_text}
 use Rattle.std_builtins.specs.Answers.{IsAnswer}
-use Rattle.std_builtins.specs.Lists.{IsForm}
+use Rattle.au_model.specs.Terms.ListCells.{IsForm}
 use Rattle.std_builtins.specs.Meanings.{spelling_meant}
 use Rattle.std_builtins.specs.declared.spelling.Spelling.{Spelling}
 use Rattle.std_builtins.proofs.TextLemmas.{items_refused, items_passed, text_refused}
