@@ -4,3 +4,6 @@ pub mod NormalBodies
 pub mod GoalPlaces
 pub mod ClauseInvariant
 pub mod CompiledClauses
+pub mod AtomNumbers
+pub mod Places
+pub mod PlacedClauses

@@ -5,7 +5,7 @@ ghost use Rattle.au_term.specs.PrefixOrder.{IsTerm};
 ghost use Rattle.au_term.specs.Shifted.{shifted, IsShiftablePlace};
 ghost use Rattle.au_model.specs.Terms.Forms.{is_callable};
 ghost use Rattle.run_model.specs.Programs.Bodies.{body_of, clause_goals_of};
-ghost use Rattle.clause_compile.specs.GoalPlaces.{subterms_at, ArePlaces};
+ghost use Rattle.clause_compile.specs.GoalPlaces.{subterms_at, AreGoalsAt, ArePlaces};
 ghost use Rattle.clause_compile.specs.CompiledClauses.{clause_bound, goal_items, numbered, IsCompiled, IsCalledAs};
 ghost use Rattle.clause_compile.specs.ClauseInvariant.{numbers_from};
 ghost use Rattle.run_model.specs.Programs.Clauses.{clause_variables};
@@ -136,6 +136,13 @@ impl Clause {
         ensures kept { body_of result.now ≡ Some result.now }
     {
         &self.body
+    }
+
+    /// Where the goals of the body are in it.
+    pub(crate) fn goal_places(&self) -> &[usize]
+        ensures { AreGoalsAt self.entry.now.body result.now (clause_goals_of self.entry.now.body) }
+    {
+        &self.goals
     }
 
     /// How many variables it has. They are numbered from 0 in order of first occurrence, those of the head first.

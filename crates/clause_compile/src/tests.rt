@@ -1,5 +1,5 @@
 //! What no clause gives: which clauses and goals certain terms make, and that long ones are made and dropped.
-use crate::{Clause, ClauseRefusal, Goals, Item, Part, Scope, body_goals, compile};
+use crate::{Clause, ClauseRefusal, Code, Goals, Item, Part, Place, Scope, body_goals, compile};
 use au_term::{Atom, Cell, FlatTerm, Shared, TermBuilder};
 use std::alloc::Global;
 use std::process::Abort;
@@ -243,5 +243,56 @@ fn long(rt: HostRuntime) -> Result<(), Fail> {
         found = found.saturating_add(1);
     }
     assert_eq!(rt; found, 1_000_001);
+    Ok(())
+}
+
+/// The places of `p(f(X, a), X) :- q(X, a), r.`, where `a`, `f`, `p`, `q` and `r` are met in this order.
+const PLACES: [Place; 9] = [
+    Place::Functor(1, 2),
+    Place::Var(0),
+    Place::Atom(0),
+    Place::Functor(2, 2),
+    Place::Sub(0),
+    Place::Var(0),
+    Place::Functor(3, 2),
+    Place::Var(0),
+    Place::Atom(0),
+];
+
+#[test]
+fn places(rt: HostRuntime) -> Result<(), Fail> {
+    let alloc = rt.alloc();
+    let head = term(
+        &rt,
+        alloc,
+        &[
+            Name("p", 2),
+            Name("f", 2),
+            Variable(7),
+            Name("a", 0),
+            Variable(7),
+        ],
+    )?;
+    let body = term(
+        &rt,
+        alloc,
+        &[
+            Name(",", 2),
+            Name("q", 2),
+            Variable(7),
+            Name("a", 0),
+            Name("r", 0),
+        ],
+    )?;
+    let clause = compile(alloc, &head, &body)?;
+    let mut code = Code::new(alloc);
+    let made = code.push_clause(alloc, &clause)?;
+    assert_eq!(rt; made.head, Place::Sub(3));
+    assert!(rt; made.goals.as_slice() == [Place::Sub(6), Place::Atom(4)].as_slice());
+    assert_eq!(rt; code.len(), PLACES.len());
+    for (at, place) in PLACES.iter().enumerate() {
+        assert!(rt; at < code.len());
+        assert_eq!(rt; code.place(at), *place);
+    }
     Ok(())
 }

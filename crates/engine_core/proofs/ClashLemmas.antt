@@ -1,10 +1,8 @@
 -- Clauses that give nothing by their name, number of arguments or first argument.
-use Rattle.std.proofs.Common.{◌≡◌, ℕ, ◌<◌, arith, Bool, true, false, ◌&&◌, ◌==◌, cond, List, [], ◌∷◌, ◌++◌, Option, Some, None, refl, sym, ap, ◌∙◌, subst}
+use Rattle.std.proofs.Common.{◌≡◌, ℕ, arith, Bool, true, false, ◌&&◌, ◌==◌, cond, List, [], ◌∷◌, ◌++◌, Option, Some, None, refl, sym, ap, ◌∙◌, subst}
 use Rattle.std.specs.Global.{Global}
 use Rattle.std.specs.Prelude.{Vec}
-use Rattle.au_term.specs.Term.{Term, VarTerm, IntTerm, AtomTerm, Compound, Terms, end, more, count, argument, argument_count, arguments}
-use Rattle.au_term.specs.PrefixOrder.{top_of}
-use Rattle.au_term.specs.declared.cell.Cell.{Cell}
+use Rattle.au_term.specs.Term.{Term, VarTerm, IntTerm, AtomTerm, Compound, Terms, end, more, count, argument_count, arguments}
 use Rattle.run_model.specs.Programs.Clauses.{Clause as ClauseTerms, is_clause_of, is_defined, renamed_head, clause_renaming}
 use Rattle.run_model.specs.Machine.Entries.{unified}
 use Rattle.au_model.specs.Terms.Forms.{same_name, name_of, is_callable}
@@ -19,10 +17,10 @@ use Rattle.clause_compile.specs.declared.item.Item.{Item}
 use Rattle.clause_compile.specs.declared.item.Scope.{Scope}
 use Rattle.clause_compile.specs.declared.event.Branch.{Branch}
 use Rattle.proc_index.specs.declared.key.Key.{Key}
-use Rattle.proc_index.specs.declared.key.Key.TheVariants.{Any, Functor}
-use Rattle.proc_index.specs.Keys.{cell_key, first_has, has_key, head_key, key_of, may_match, matching}
+use Rattle.proc_index.specs.declared.key.Key.TheVariants.{Any}
+use Rattle.proc_index.specs.Keys.{first_has, has_key, head_key, key_of, may_match, matching}
 use Rattle.proc_index.specs.ProcedureIndex.{procedure_of, candidates_of, HaveHeads}
-use Rattle.bind_store.specs.StoreView.{StoreView, substitution, IsUnbound, IsDereferencedTerm}
+use Rattle.bind_store.specs.StoreView.{StoreView, substitution}
 use Rattle.engine_core.specs.Branches.{AreSolved, one_fails, one_solves}
 use Rattle.engine_core.specs.Attempts.{AreAlternatives}
 use Rattle.proc_index.proofs.KeyLemmas.{any_match as all_match}

@@ -1,5 +1,5 @@
 -- The branches of solutions.
-use Rattle.std.proofs.Common.{◌≡◌, ℕ, ◌+◌, ◌≤◌, List, [], ◌∷◌, ◌++◌, length, map, Some, None, refl, sym, ap, ◌∙◌, subst, arith}
+use Rattle.std.proofs.Common.{◌≡◌, ℕ, ◌+◌, ◌≤◌, List, [], ◌∷◌, ◌++◌, length, map, None, refl, sym, ap, ◌∙◌, subst, arith}
 use Rattle.au_term.specs.Term.{Term, VarTerm, var_bound}
 use Rattle.au_term.specs.Shifted.{shifted}
 use Rattle.au_term.specs.declared.segment.Binding.{Binding as SharedBinding}

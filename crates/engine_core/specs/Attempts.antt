@@ -1,5 +1,5 @@
 -- Trying one way for a goal to hold.
-use Rattle.std.specs.Prelude.{◌≡◌, true, false, List, [], ◌∷◌, ◌++◌, Option, Some, None, Vec}
+use Rattle.std.specs.Prelude.{◌≡◌, true, false, List, [], ◌∷◌, Option, Some, None, Vec}
 use Rattle.std.specs.Global.{Global}
 use Rattle.au_term.specs.Term.{Term, argument_count}
 use Rattle.au_term.specs.declared.segment.Binding.{Binding as SharedBinding}

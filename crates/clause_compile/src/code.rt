@@ -1,0 +1,203 @@
+//! Program text as places.
+ghost use Rattle.std.specs.Prelude.{◌≡◌, ◌+◌, ◌<◌, ◌≤◌, ◌∷◌, [], ◌++◌, IfOk, OnOk, length, take, drop, reverse};
+ghost use Rattle.au_term.specs.PrefixOrder.{cells_of, term_of, arity};
+ghost use Rattle.run_model.specs.Programs.Bodies.{clause_goals_of};
+ghost use Rattle.clause_compile.specs.AtomNumbers.{name_at};
+ghost use Rattle.clause_compile.specs.PlacedClauses.{IsClausePlaced};
+ghost use Rattle.clause_compile.specs.Places.{CodeView, AreSound, IsPlaced, AreAllPlaced, ArePlacesOf, AddsCell, HasMorePlaces};
+
+use crate::atom_numbers::AtomNumbers;
+use crate::clause::Clause;
+use crate::place::Place;
+use au_term::{Atom, Cell, FlatTerm, NoMemory, VarNo};
+use std::alloc::Global;
+use std::marker::Model;
+
+/// Program text as places. It is only added to, and a compound's arguments are there before it. Contracts see the names
+/// of its atoms, by number, and the places.
+#[derive(Drop)]
+pub struct Code {
+    names: AtomNumbers,
+    places: Vec<Place>,
+}
+
+impl Model for Code {
+    ghost use Rattle.clause_compile.specs.Places.{CodeView, AreSound};
+    ghost use Rattle.std.specs.Prelude.{length};
+
+    ghost Value = { CodeView };
+
+    ghost view = { λ c. record { names = c.names; places = c.places.items } };
+
+    ghost invariant = { λ c. AreSound (length c.names) c.places.items };
+}
+
+/// A clause as places: those of its head and of the goals of its body, and how many variables it has.
+#[derive(Drop)]
+pub struct ClausePlaces {
+    pub head: Place,
+    pub goals: Vec<Place>,
+    pub vars: VarNo,
+}
+
+impl Code {
+    /// No text.
+    pub fn new(alloc: Global) -> Code
+        ensures { result ≡ record { names = []; places = [] } }
+    {
+        Code {
+            names: AtomNumbers::new(alloc),
+            places: Vec::new(alloc),
+        }
+    }
+
+    /// How many places there are. Each compound's arguments stand before it.
+    pub fn len(&self) -> usize
+        ensures count { result ≡ length self.now.places }
+        ensures sound { AreSound (length self.now.names) self.now.places }
+    {
+        self.places.len()
+    }
+
+    /// The place with a number.
+    pub fn place(&self, at: usize) -> Place
+        requires { at < length self.now.places }
+        ensures { drop at self.now.places ≡ result ∷ drop (at + 1) self.now.places }
+    {
+        self.places[at]
+    }
+
+    /// The name with a number.
+    pub fn name(&self, number: u32) -> &Atom
+        requires { number < length self.now.names }
+        ensures { result.now ≡ name_at self.entry.now.names number }
+    {
+        self.names.name(number)
+    }
+
+    /// Adds a clause: its head, and the goals of its body.
+    pub fn push_clause(&mut self, alloc: Global, clause: &Clause) -> Result<ClausePlaces, NoMemory>
+        ensures { IfOk result (IsClausePlaced self.old self.new clause.now) }
+    {
+        let head = self.push_term(alloc, clause.head())?;
+        let goals = self.push_goals(alloc, clause)?;
+        Ok(ClausePlaces {
+            head,
+            goals,
+            vars: clause.vars(),
+        })
+    }
+
+    /// Adds the goals of a clause's body.
+    fn push_goals(&mut self, alloc: Global, clause: &Clause) -> Result<Vec<Place>, NoMemory>
+        ensures { IfOk result (λ goals. AreAllPlaced self.old self.new (clause_goals_of clause.now.body) goals.items) }
+    {
+        let body = clause.body();
+        let places = clause.goal_places();
+        let mut goals = Vec::new(alloc);
+        for at in places {
+            let goal = self.push_cells(alloc, body.subterm(*at))?;
+            goals.push(goal)?;
+        }
+        Ok(goals)
+    }
+
+    /// Adds a term, and gives the place that means it.
+    pub fn push_term(&mut self, alloc: Global, term: &FlatTerm) -> Result<Place, NoMemory>
+        ensures { IfOk result (IsPlaced self.old self.new term.now) }
+    {
+        self.push_cells(alloc, term.cells())
+    }
+
+    /// Adds the term of these cells, and gives the place that means it.
+    fn push_cells(&mut self, alloc: Global, cells: &[Cell]) -> Result<Place, NoMemory>
+        requires { cells_of (term_of cells.now) ≡ cells.now }
+        ensures { IfOk result (IsPlaced self.old self.new (term_of cells.now)) }
+    {
+        let mut stack = Vec::new(alloc);
+        let mut left = cells.len();
+        while left > 0 {
+            left -= 1;
+            self.push_cell(&cells[left], &mut stack)?;
+        }
+        match stack.pop() {
+            Some(place) => Ok(place),
+            None => unreachable!(),
+        }
+    }
+
+    /// Adds a cell before those that were added; the places of its arguments are taken from the stack, and its own put there.
+    fn push_cell(&mut self, cell: &Cell, stack: &mut Vec<Place>) -> Result<(), NoMemory>
+        requires enough { arity cell.now ≤ length stack.old.items }
+        requires stand { ArePlacesOf self.old stack.old.items }
+        ensures { OnOk result (AddsCell self.old self.new cell.now stack.old.items stack.new.items) }
+    {
+        match cell {
+            Cell::Var(number) => put(Place::Var(*number), stack),
+            Cell::Int(value) => put(integer(value), stack),
+            Cell::Atom(name) => {
+                let number = self.names.number(name)?;
+                put(Place::Atom(number), stack)
+            }
+            Cell::Functor(name, count) => self.push_compound(name, *count, stack),
+        }
+    }
+
+    /// Adds a compound, whose arguments' places are taken from the stack.
+    fn push_compound(
+        &mut self,
+        name: &Atom,
+        count: u32,
+        stack: &mut Vec<Place>,
+    ) -> Result<(), NoMemory>
+        requires enough { count ≤ length stack.old.items }
+        requires stand { ArePlacesOf self.old stack.old.items }
+        ensures { OnOk result (AddsCell self.old self.new (Cell.Functor name.now count) stack.old.items stack.new.items) }
+    {
+        let number = self.names.number(name)?;
+        let at = self.places.len();
+        if let Err(error) = push_block(number, count, stack, &mut self.places) {
+            self.places.truncate(at);
+            return Err(error);
+        }
+        stack.push(Place::Sub(at))?;
+        Ok(())
+    }
+}
+
+/// The place of an integer.
+fn integer(value: &i64) -> Place
+    ensures { result ≡ Place.Int value.now }
+{
+    Place::Int(*value)
+}
+
+/// Puts a place on the stack.
+fn put(place: Place, stack: &mut Vec<Place>) -> Result<(), NoMemory>
+    ensures { OnOk result (stack.new.items ≡ stack.old.items ++ place ∷ []) }
+{
+    stack.push(place)?;
+    Ok(())
+}
+
+/// Adds a functor and so many places of the stack, the topmost first.
+fn push_block(
+    number: u32,
+    count: u32,
+    stack: &mut Vec<Place>,
+    places: &mut Vec<Place>,
+) -> Result<(), NoMemory>
+    requires { count ≤ length stack.old.items }
+    ensures grown { HasMorePlaces places.old.items places.new.items }
+    ensures block { OnOk result (places.new.items ≡ places.old.items ++ Place.Functor number count ∷ take count (reverse stack.old.items)) }
+    ensures left { OnOk result (reverse stack.new.items ≡ drop count (reverse stack.old.items)) }
+{
+    places.push(Place::Functor(number, count))?;
+    for _argument in 0..count {
+        match stack.pop() {
+            Some(place) => places.push(place)?,
+            None => unreachable!(),
+        }
+    }
+    Ok(())
+}
