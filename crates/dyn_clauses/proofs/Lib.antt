@@ -1,0 +1,4 @@
+pub mod PositionIndexLemmas
+pub mod EntryLemmas
+pub mod ProcedureLemmas
+pub mod MatchingLemmas

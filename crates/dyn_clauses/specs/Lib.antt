@@ -1,0 +1,2 @@
+pub mod PositionIndex
+pub mod KeptClauses
