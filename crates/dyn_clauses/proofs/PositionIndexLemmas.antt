@@ -1,16 +1,15 @@
 -- Positions noted under keys, and taken from under them.
-use Rattle.std.proofs.Common.{◌≡◌, ◌∙◌, ℕ, Bool, true, false, ◌&&◌, cond, List, [], Option, Some, None, Result, Ok, Err, refl, sym, ap, length}
+use Rattle.std.proofs.Common.{◌≡◌, ◌∙◌, ℕ, Bool, true, false, ◌&&◌, cond, Option, Some, None, Result, Ok, Err, refl, sym, ap}
 use Rattle.std.specs.Prelude.{IsSome, OnErr}
 use Rattle.std.specs.Option.{is_some}
 use Rattle.std.specs.Ordering.{nat_cmp}
-use Rattle.std.specs.BTreeMap.{BTreeMap, get, is_at}
+use Rattle.std.specs.BTreeMap.{get, is_at}
 use Rattle.std.specs.BTreeSet.{BTreeSet, contains, btree_set_len}
 use Rattle.std.specs.List.{list_any}
 use Rattle.std.proofs.lemmas.List.{nil_from_length}
 use Rattle.proc_index.specs.declared.key.Key.{Key}
 use Rattle.proc_index.specs.declared.key.Key.TheVariants.{Any, Int, Atom, Functor}
 use Rattle.proc_index.specs.ProcedureIndex.{key_cmp}
-use Rattle.proc_index.specs.Keys.{is_any, same_key}
 use Rattle.proc_index.proofs.KeyLemmas.{key_tied, same_key_is}
 use Rattle.dyn_clauses.specs.PositionIndex.{Index, is_in, is_noted, is_place}
 

@@ -1,23 +1,21 @@
 -- The clauses of a procedure: put, taken, and found by their keys.
-use Rattle.std.proofs.Common.{◌≡◌, ◌∙◌, ℕ, ◌+◌, ◌<◌, Bool, true, false, ◌&&◌, ◌||◌, cond, List, [], ◌∷◌, ◌++◌, map, filter, Option, Some, None, refl, sym, ap, ap₂, subst, append_assoc}
-use Rattle.std.specs.Prelude.{IsSome}
+use Rattle.std.proofs.Common.{◌≡◌, ◌∙◌, ℕ, Bool, true, false, not, ◌&&◌, cond, List, [], ◌∷◌, ◌++◌, map, Some, None, refl, sym, ap, subst, append_assoc}
 use Rattle.std.specs.Borrow.{Bor}
 use Rattle.std.specs.Map.Iter.{deref, deref_pair}
 use Rattle.std.specs.Option.{option_map, is_some}
-use Rattle.std.specs.List.{AllByRecursion, list_any}
+use Rattle.std.specs.List.{AllByRecursion}
 use Rattle.std.specs.List.Sorted.{IsStrictlySortedBy}
 use Rattle.std.specs.Ordering.{nat_cmp, is_eq}
-use Rattle.std.specs.declared.cmp.Ordering.TheVariants.{Less, Equal, Greater}
-use Rattle.std.specs.Cmp.{nat_cmp_total, unsigned_ties}
+use Rattle.std.specs.declared.cmp.Ordering.TheVariants.{Less}
+use Rattle.std.specs.Cmp.{unsigned_ties}
 use Rattle.std.specs.Map.{keys_of, lookup, remove_entry}
 use Rattle.std.specs.BTreeMap.{BTreeMap, get, IsOrdered, insert_entry, is_at}
 use Rattle.au_term.proofs.LogicLemmas.{same_number}
-use Rattle.run_model.specs.Programs.Clauses.{Clause as ClauseTerms}
 use Rattle.proc_index.specs.declared.key.Key.{Key}
 use Rattle.proc_index.specs.Keys.{head_key}
 use Rattle.proc_index.specs.ProcedureIndex.{key_cmp}
 use Rattle.dyn_clauses.specs.declared.procedure.Kept.{Kept}
-use Rattle.dyn_clauses.specs.PositionIndex.{Index, Placed, entry_at, is_noted, is_place, matching_clauses, numbered_clauses, numbered_entry, picked}
+use Rattle.dyn_clauses.specs.PositionIndex.{Index, Placed, entry_at, is_noted, is_place, numbered_clauses, numbered_entry, picked, without_position}
 use Rattle.dyn_clauses.specs.KeptClauses.{IsProcedure, clause_kept, is_keyed, numbered_kept, placed, placed_entry}
 use Rattle.dyn_clauses.proofs.EntryLemmas.{lookup_mapped, insert_mapped, remove_mapped, all_inserted, all_removed, none_mapped, some_mapped}
 
@@ -83,8 +81,29 @@ procedure_kept m n i j h same noted = record {
 pub put_placed : (m n : Kepts) (q : ℕ) (kept : Kept) → n.entries ≡ insert_entry nat_cmp m.entries q kept → placed n ≡ insert_entry nat_cmp (placed m) q (clause_kept kept)
 put_placed m n q kept e = ap (map placed_entry) e ∙ insert_mapped clause_kept nat_cmp m.entries q kept
 
-pub take_placed : (m n : Kepts) (q : ℕ) → n.entries ≡ remove_entry (is_at (nat_cmp q)) m.entries → placed n ≡ remove_entry (is_at (nat_cmp q)) (placed m)
-take_placed m n q e = ap (map placed_entry) e ∙ remove_mapped clause_kept (is_at (nat_cmp q)) m.entries
+none_at : (q : ℕ) (es : Placed) → AllByRecursion (λ k. nat_cmp q k ≡ Less) (keys_of es) → without_position q es ≡ es
+none_at q [] h = refl
+none_at q (e ∷ es) h = ap (λ o. cond (not (is_eq o)) (e ∷ without_position q es) (without_position q es)) h.0 ∙ ap (λ (ds : Placed). e ∷ ds) (none_at q es h.1)
+
+-- positions differ
+removed_is : (q : ℕ) (es : Placed) → IsStrictlySortedBy nat_cmp (keys_of es) → remove_entry (is_at (nat_cmp q)) es ≡ without_position q es
+unfolding IsStrictlySortedBy
+removed_is q [] s = refl
+removed_is q (e ∷ es) s = go (is_at (nat_cmp q) e.0) refl (removed_is q es s.1)
+  where
+    go : (b : Bool) → is_at (nat_cmp q) e.0 ≡ b → remove_entry (is_at (nat_cmp q)) es ≡ without_position q es → cond b es (e ∷ remove_entry (is_at (nat_cmp q)) es) ≡ cond (not b) (e ∷ without_position q es) (without_position q es)
+    go true h k = sym (none_at q es (subst (λ p. AllByRecursion (λ k. nat_cmp p k ≡ Less) (keys_of es)) (sym (at_same q e.0 h)) s.0))
+    go false h k = ap (λ (ds : Placed). e ∷ ds) k
+
+keys_placed : (es : List (ℕ × Kept)) → keys_of (map placed_entry es) ≡ keys_of es
+keys_placed [] = refl
+keys_placed (e ∷ es) = ap (λ ks. e.0 ∷ ks) (keys_placed es)
+
+pub sorted_placed : (m : Kepts) → IsStrictlySortedBy nat_cmp (keys_of m.entries) → IsStrictlySortedBy nat_cmp (keys_of (placed m))
+sorted_placed m s = subst (IsStrictlySortedBy nat_cmp) (sym (keys_placed m.entries)) s
+
+pub take_placed : (m n : Kepts) (q : ℕ) → IsOrdered nat_cmp m → n.entries ≡ remove_entry (is_at (nat_cmp q)) m.entries → placed n ≡ without_position q (placed m)
+take_placed m n q s e = ap (map placed_entry) e ∙ (remove_mapped clause_kept (is_at (nat_cmp q)) m.entries ∙ removed_is q (placed m) (sorted_placed m s))
 
 pub found_placed : (m : Kepts) (q : ℕ) → is_some (lookup (is_at (nat_cmp q)) (placed m)) ≡ is_some (get nat_cmp m q)
 found_placed m q = ap is_some (lookup_mapped clause_kept (is_at (nat_cmp q)) m.entries) ∙ some_mapped clause_kept (get nat_cmp m q)

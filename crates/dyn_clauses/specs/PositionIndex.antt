@@ -1,14 +1,14 @@
 -- The positions of a procedure's clauses, by the key of their heads' first arguments.
-use Rattle.std.specs.Prelude.{◌≡◌, ℕ, ◌+◌, ◌-◌, nat_lt, if◌then◌else◌, Bool, false, ◌&&◌, cond, List, [], ◌∷◌, ◌++◌, map, filter, Option, Some, None}
+use Rattle.std.specs.Prelude.{ℕ, ◌+◌, ◌-◌, nat_lt, if◌then◌else◌, Bool, false, not, ◌&&◌, ◌==◌, List, [], ◌∷◌, ◌++◌, map, filter, Option, Some, None}
 use Rattle.std.specs.Ordering.{nat_cmp}
-use Rattle.std.specs.BTreeMap.{BTreeMap, get, IsOrdered, is_at}
+use Rattle.std.specs.BTreeMap.{BTreeMap, get, is_at}
 use Rattle.std.specs.BTreeSet.{BTreeSet, contains}
 use Rattle.std.specs.Map.{lookup}
-use Rattle.std.specs.List.{AllByRecursion}
+use Rattle.std.specs.List.{list_any}
 use Rattle.run_model.specs.Programs.Clauses.{Clause as ClauseTerms}
 use Rattle.run_model.specs.Programs.Databases.{NumberedClause}
 use Rattle.proc_index.specs.declared.key.Key.{Key}
-use Rattle.proc_index.specs.Keys.{head_key, may_match}
+use Rattle.proc_index.specs.Keys.{may_match}
 use Rattle.proc_index.specs.ProcedureIndex.{key_cmp}
 
 abbrev pub Index : Type 0
@@ -62,3 +62,10 @@ entry_at q (Some c) = (q, c) ∷ []
 abbrev pub picked : List ℕ → Placed → Placed
 picked [] es = []
 picked (q ∷ qs) es = entry_at q (lookup (is_at (nat_cmp q)) es) ++ picked qs es
+
+abbrev pub without_position : ℕ → Placed → Placed
+without_position q es = filter (λ e. not (is_at (nat_cmp q) e.0)) es
+
+-- whether a procedure has a clause with this number
+abbrev pub has_numbered : Placed → ℕ → Bool
+has_numbered ps n = list_any (λ d. number_of d.0 == n) ps

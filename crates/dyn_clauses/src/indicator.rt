@@ -6,6 +6,7 @@ ghost use Rattle.au_model.specs.Terms.Forms.{name_of};
 use au_model::names::name_of;
 use au_term::{Atom, NoMemory};
 use clause_compile::Clause;
+use std::alloc::AllocError;
 
 /// A procedure's name and number of arguments (ISO/IEC 13211-1, 7.1.6.6).
 #[derive(PartialEq, Eq, PartialOrd, Ord, Drop)]
@@ -34,5 +35,16 @@ impl Indicator {
             name: self.name.share()?,
             arity: self.arity,
         })
+    }
+}
+
+impl Clone for Indicator {
+    ghost is_clone = { λ x y. y ≡ x };
+
+    fn clone(&self) -> Result<Indicator, AllocError> {
+        match self.share() {
+            Ok(indicator) => Ok(indicator),
+            Err(NoMemory) => Err(AllocError),
+        }
     }
 }

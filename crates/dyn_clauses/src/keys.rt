@@ -57,7 +57,12 @@ fn share(key: &Key) -> Result<Key, NoMemory>
 }
 
 /// Notes a position under a key.
-pub(crate) fn note(alloc: Global, index: &mut Index, key: &Key, position: u64) -> Result<(), NoMemory>
+pub(crate) fn note(
+    alloc: Global,
+    index: &mut Index,
+    key: &Key,
+    position: u64,
+) -> Result<(), NoMemory>
     ensures ok { OnOk result ((k : Key) (q : ℕ) → is_noted index.new k q ≡ cond (is_place key.now position k q) true (is_noted index.old k q)) }
     ensures err { OnErr result ((k : Key) (q : ℕ) → is_noted index.new k q ≡ is_noted index.old k q) }
 {

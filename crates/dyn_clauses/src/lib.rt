@@ -9,9 +9,10 @@
 mod database;
 mod indicator;
 mod keys;
+mod place;
 mod procedure;
 #[cfg(test)]
 mod tests;
 
-
+pub use database::{DataRefusal, Database, Gone, Snapshot, Static};
 pub use indicator::Indicator;

@@ -1,17 +1,18 @@
 //! The clauses of one dynamic procedure.
-ghost use Rattle.std.specs.Prelude.{◌≡◌, ◌++◌, ◌∷◌, [], None, map, IfOk, OnErr, OnOk, is_some};
+ghost use Rattle.std.specs.Prelude.{◌≡◌, ◌++◌, ◌∷◌, [], ℕ, None, cond, map, IfOk, OnErr, OnOk, is_some};
 ghost use Rattle.std.specs.Ordering.{nat_cmp};
-ghost use Rattle.std.specs.Map.{lookup, remove_entry};
+ghost use Rattle.std.specs.Map.{lookup};
 ghost use Rattle.std.specs.BTreeMap.{get, insert_entry, is_at};
 ghost use Rattle.std.specs.Arc.{arc_value};
-ghost use Rattle.dyn_clauses.specs.PositionIndex.{matching_clauses, number_of, numbered_clauses, picked};
+ghost use Rattle.dyn_clauses.specs.PositionIndex.{has_numbered, matching_clauses, number_of, numbered_clauses, picked, without_position};
 ghost use Rattle.dyn_clauses.specs.KeptClauses.{IsProcedure, numbered_kept, placed, shown};
 
 use crate::keys::{Index, forget, is_any, key_of_head, note};
+use crate::place::Places;
 use au_term::NoMemory;
 use clause_compile::{Clause, ClauseId};
 use proc_index::Key;
-use std::alloc::Global;
+use std::alloc::{AllocError, Global};
 use std::collections::{BTreeMap, BTreeSet};
 use std::marker::Model;
 use std::sync::Arc;
@@ -73,13 +74,19 @@ impl Procedure {
         ensures ok { OnOk result (self.new ≡ insert_entry nat_cmp self.old position (arc_value clause)) }
         ensures err { OnErr result (self.new ≡ self.old) }
     {
-        put_kept(self.alloc, &mut self.clauses, &mut self.index, position, clause)
+        put_kept(
+            self.alloc,
+            &mut self.clauses,
+            &mut self.index,
+            position,
+            clause,
+        )
     }
 
     /// Takes the clause at a position, and says whether there was one.
     pub(crate) fn take(&mut self, position: u64) -> bool
         ensures found { result ≡ is_some (lookup (is_at (nat_cmp position)) self.old) }
-        ensures taken { self.new ≡ remove_entry (is_at (nat_cmp position)) self.old }
+        ensures taken { self.new ≡ without_position position self.old }
     {
         take_kept(&mut self.clauses, &mut self.index, position)
     }
@@ -112,6 +119,15 @@ impl Procedure {
         Ok(found)
     }
 
+    /// Takes the numbers of the clauses out of a map.
+    pub(crate) fn drop_places(&self, places: &mut Places)
+        ensures { (n : ℕ) → get nat_cmp places.new n ≡ cond (has_numbered self.now n) None (get nat_cmp places.old n) }
+    {
+        for position in self.clauses.keys() {
+            places.remove(&number_of(*position));
+        }
+    }
+
     /// The same clauses.
     pub(crate) fn copy(&self) -> Result<Procedure, NoMemory>
         ensures { IfOk result (λ p. p ≡ self.now) }
@@ -121,6 +137,17 @@ impl Procedure {
             copy.put(*position, kept.clause.clone()?)?;
         }
         Ok(copy)
+    }
+}
+
+impl Clone for Procedure {
+    ghost is_clone = { λ x y. y ≡ x };
+
+    fn clone(&self) -> Result<Procedure, AllocError> {
+        match self.copy() {
+            Ok(procedure) => Ok(procedure),
+            Err(NoMemory) => Err(AllocError),
+        }
     }
 }
 
@@ -153,7 +180,7 @@ fn take_kept(clauses: &mut Kepts, index: &mut Index, position: u64) -> bool
     requires { IsProcedure clauses.old index.old }
     ensures kept { IsProcedure clauses.new index.new }
     ensures found { result ≡ is_some (lookup (is_at (nat_cmp position)) (placed clauses.old)) }
-    ensures taken { placed clauses.new ≡ remove_entry (is_at (nat_cmp position)) (placed clauses.old) }
+    ensures taken { placed clauses.new ≡ without_position position (placed clauses.old) }
 {
     let Some(kept) = clauses.remove(&position) else {
         return false;

@@ -1,4 +1,4 @@
-use Rattle.std.proofs.Common.{◌≡◌, ◌∙◌, ◌++◌, List, [], map, ap, sym, subst, append-nil}
+use Rattle.std.proofs.Common.{◌≡◌, ◌∙◌, ◌++◌, List, map, ap, sym, subst, append-nil}
 use Rattle.std.specs.Prelude.{OnOk}
 use Rattle.run_model.specs.Programs.Databases.{NumberedClause}
 use Rattle.dyn_clauses.specs.PositionIndex.{numbered_clauses}

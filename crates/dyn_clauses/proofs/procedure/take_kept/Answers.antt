@@ -7,7 +7,7 @@ pub returns-in_default-clause-found : goal.returns-in_default-clause-found
 returns-in_default-clause-found c = sym (found_placed c.args.clauses.now c.args.position ∙ ap is_some (sym c.in_default.ensures.value))
 
 pub returns-in_default-clause-taken : goal.returns-in_default-clause-taken
-returns-in_default-clause-taken c = take_placed c.args.clauses.now c.remove.new.self c.args.position c.remove.ensures.entries
+returns-in_default-clause-taken c = take_placed c.args.clauses.now c.remove.new.self c.args.position c.requires.ordered c.remove.ensures.entries
 
 pub returns-clause-kept : goal.returns-clause-kept
 returns-clause-kept c =
@@ -18,4 +18,4 @@ pub returns-clause-found : goal.returns-clause-found
 returns-clause-found c = sym (found_placed c.args.clauses.now c.args.position ∙ ap is_some (sym c.in-Some.ensures.value))
 
 pub returns-clause-taken : goal.returns-clause-taken
-returns-clause-taken c = take_placed c.args.clauses.now c.remove.new.self c.args.position c.remove.ensures.entries
+returns-clause-taken c = take_placed c.args.clauses.now c.remove.new.self c.args.position c.requires.ordered c.remove.ensures.entries
