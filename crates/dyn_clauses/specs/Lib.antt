@@ -1,0 +1,4 @@
+pub mod PositionIndex
+pub mod KeptClauses
+pub mod DatabaseView
+pub mod ClauseEnds
