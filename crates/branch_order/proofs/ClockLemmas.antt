@@ -53,11 +53,12 @@ left_closed n (a ∷ left) e = by_found (first_open_left n left) refl e (left_cl
     by_status (Closed c) is h f =
         let snoc = counts-snoc (0, 0) (left_cells left) (a.0, cell_of a.1) in
         let answers : (credits_left (a ∷ left)).answers ≡ counted (credits_left left).answers c.answers = ap (λ (s : Status). counted (credits_left left).answers (credits_of s).answers) is in
-        let inferences : (credits_left (a ∷ left)).inferences ≡ counted (credits_left left).inferences c.inferences = ap (λ (s : Status). counted (credits_left left).inferences (credits_of s).inferences) is in
-        (answers ∙ (ap (λ (k : ℕ). counted k c.answers) h.0
-          ∙ (ap (λ (s : Status). counted (counts_from (0, 0) (left_cells left)).0 (closed_counts (cell_of s)).0) (sym is) ∙ sym (ap (λ (p : ℕ × ℕ). p.0) snoc))),
-        inferences ∙ (ap (λ (k : ℕ). counted k c.inferences) h.1
-          ∙ (ap (λ (s : Status). counted (counts_from (0, 0) (left_cells left)).1 (closed_counts (cell_of s)).1) (sym is) ∙ sym (ap (λ (p : ℕ × ℕ). p.1) snoc))))
+        let inferences : (credits_left (a ∷ left)).inferences ≡ counted (credits_left left).inferences c.inferences = ap (λ (s : Status). counted (credits_left left).inferences (credits_of s).inferences) is in (
+          answers ∙ (ap (λ (k : ℕ). counted k c.answers) h.0
+              ∙ (ap (λ (s : Status). counted (counts_from (0, 0) (left_cells left)).0 (closed_counts (cell_of s)).0) (sym is) ∙ sym (ap (λ (p : ℕ × ℕ). p.0) snoc))),
+          inferences ∙ (ap (λ (k : ℕ). counted k c.inferences) h.1
+              ∙ (ap (λ (s : Status). counted (counts_from (0, 0) (left_cells left)).1 (closed_counts (cell_of s)).1) (sym is) ∙ sym (ap (λ (p : ℕ × ℕ). p.1) snoc))),
+        )
 
     by_found : (o : Option Place) → first_open_left n left ≡ o
         → ◌≡◌ {A = Option Place} (elim o [ Some p ↦ Some p | None ↦ cond (is_closed a.1) None (Some (place_on n (length left))) ]) None
@@ -74,7 +75,12 @@ beside_counts nodes read v up was s = ap (counts_from (0, 0)) (ap (take (length 
 
 pub counts_begin : (nodes : NodesView) (a : Place) → Counts nodes a (Some a) 0 0
 counts_begin nodes a read v up was e s f = record {
-  level = v; above = up; status = was; same = refl; at = e; shut = f;
+  level = v;
+  above = up;
+  status = was;
+  same = refl;
+  at = e;
+  shut = f;
   given = counted-whole (answers_left up) (credits_left v.left).answers;
   taken = counted-whole (clock_of up) (counted (credits_left v.left).inferences v.spent);
 }
@@ -89,7 +95,7 @@ module _ (nodes : NodesView) (b : Place) (answers inferences spent : ℕ) (read 
   left_counts =
       let l = left_closed k.level.number k.level.left parts.1 in
       let same : counts_from (0, 0) (left_cells k.level.left) ≡ beside = sym (beside_counts nodes read k.level k.above k.status here)
-        ∙ (ap (counts_beside nodes.rows) k.at ∙ sym is_beside) in
+      ∙ (ap (counts_beside nodes.rows) k.at ∙ sym is_beside) in
       (l.0 ∙ ap (λ (p : ℕ × ℕ). p.0) same, l.1 ∙ ap (λ (p : ℕ × ℕ). p.1) same)
 
   given_more : answers_left (v ∷ up) ≡ counted (answers_left k.above) (counted beside.0 answers)
@@ -103,10 +109,11 @@ module _ (nodes : NodesView) (b : Place) (answers inferences spent : ℕ) (read 
 
   by_parent : (o : Option Place) → above_of k.above ≡ o → IsCountedTo v up was o (counted beside.0 answers) (counted (counted beside.1 spent) inferences)
   by_parent None z =
-      let top = no_level_up k.above z in
-      (counted-first beside.0 answers ∙ sym (given_more ∙ ap (λ (ls : List Level). counted (answers_left ls) (counted beside.0 answers)) top),
-      counted-first (counted beside.1 spent) inferences
-        ∙ sym (taken_more ∙ ap (λ (ls : List Level). counted (clock_of ls) (counted (counted beside.1 spent) inferences)) top))
+      let top = no_level_up k.above z in (
+        counted-first beside.0 answers ∙ sym (given_more ∙ ap (λ (ls : List Level). counted (answers_left ls) (counted beside.0 answers)) top),
+        counted-first (counted beside.1 spent) inferences
+            ∙ sym (taken_more ∙ ap (λ (ls : List Level). counted (clock_of ls) (counted (counted beside.1 spent) inferences)) top),
+      )
   by_parent (Some q) z =
       let u = one_level_up k.level k.above q z in
       record {
@@ -128,7 +135,7 @@ counts_go_on nodes a b answers inferences spent parent beside w p is_beside sp r
     let k = w read v up was e s f in
     let here = subst (StandsFor nodes read) k.same s in
     let spends : Some spent ≡ Some k.level.spent = sym sp ∙ ap (λ (o : Option (ℕ × Cell)). option_map (λ c. c.0) o)
-      (ap (cell_at nodes.rows) (sym k.at) ∙ cell_here nodes read k.level k.above k.status here) in
+    (ap (cell_at nodes.rows) (sym k.at) ∙ cell_here nodes read k.level k.above k.status here) in
     by_parent nodes b answers inferences spent read v up was k here beside is_beside (cc spends) parent
     (parent_here nodes read k.level k.above k.status parent here
     (ap (λ (q : Place). option_map (λ r. r.parent) (row_at nodes.rows q.node)) k.at ∙ p))

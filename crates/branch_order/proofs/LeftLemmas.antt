@@ -109,7 +109,12 @@ walk_begins nodes a scope read v up was e s = by_test (is_node scope a.node) ref
     by_test : (b : Bool) → is_node scope a.node ≡ b → IsWalked v up was scope (if_below b a) None
     by_test true t = ap first_open (at_scope scope v up (same_test ∙ t))
     by_test false t = record {
-      level = v; above = up; status = was; same = refl; at = e; below = off_scope scope v up (same_test ∙ t);
+      level = v;
+      above = up;
+      status = was;
+      same = refl;
+      at = e;
+      below = off_scope scope v up (same_test ∙ t);
       found = or_none (first_open (levels_below scope (v ∷ up)));
     }
 

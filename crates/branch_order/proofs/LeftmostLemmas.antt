@@ -69,9 +69,25 @@ first_among : (up : List Level) (n : ℕ) (kind : Kind) (left : List (ℕ × Sta
     → IsFirst up n kind (put_left left others) (pending_among up n kind left others) (open_index (length left) (cells_of others))
 first_among up n kind left none = refl
 first_among up n kind left (alternative spent (Pending hold entry) others) = record {
-  left = left; spent = spent; status = Pending hold entry; right = others; is = refl; index = refl; shut = refl; spots_are = refl }
+  left = left;
+  spent = spent;
+  status = Pending hold entry;
+  right = others;
+  is = refl;
+  index = refl;
+  shut = refl;
+  spots_are = refl;
+}
 first_among up n kind left (alternative spent (Inner node) others) = record {
-  left = left; spent = spent; status = Inner node; right = others; is = refl; index = refl; shut = refl; spots_are = refl }
+  left = left;
+  spent = spent;
+  status = Inner node;
+  right = others;
+  is = refl;
+  index = refl;
+  shut = refl;
+  spots_are = refl;
+}
 first_among up n kind left (alternative spent (Closed credit) others) = first_among up n kind ((spent, Closed credit) ∷ left) others
 
 -- the cells of the node at hand
@@ -93,7 +109,12 @@ goes_down_from nodes n f read root s sound = by_root root s.rooted sound refl
     by_root (Inner (Numbered m kind others)) h k e =
         let same : n ≡ m = (let z : Some n ≡ Some m = sym f ∙ h in cc z) in
         subst (IsDownTo root) (sym same) (record {
-          up = []; kind = kind; alternatives = others; way = []; same = e; sound = k;
+          up = [];
+          kind = kind;
+          alternatives = others;
+          way = [];
+          same = e;
+          sound = k;
           first = ap (λ (x : Status). first_spot (pending_of x)) e;
         })
 
@@ -111,7 +132,7 @@ nothing_down nodes n g e read root s sound =
     let d = g read root s sound in
     let cells = cells_down nodes read root n s d in
     let none_open : open_index 0 (cells_of d.alternatives) ≡ None = no_place (open_index 0 (cells_of d.alternatives))
-      (ap (λ (x : List (ℕ × Cell)). option_map (place_on n) (open_index 0 x)) (sym cells) ∙ e) in
+    (ap (λ (x : List (ℕ × Cell)). option_map (place_on n) (open_index 0 x)) (sym cells) ∙ e) in
     let h = subst (IsFirst d.up n d.kind d.alternatives (pending_among d.up n d.kind [] d.alternatives)) none_open (first_among d.up n d.kind [] d.alternatives) in
     ap (option_map place_of_spot) (d.first ∙ ap first_spot h)
   where
@@ -172,7 +193,7 @@ module _ (nodes : NodesView) (n : ℕ) (a : Place) (read : Reading) (root : Stat
       by_status : (t : Status) → f.status ≡ t → option_map place_of_spot (first_spot (pending_of root)) ≡ Some a
       by_status (Closed credit) is = absurd (let z : true ≡ false = ap (λ (x : Status). is_shut (cell_of x)) (sym is) ∙ f.shut in cc z)
       by_status (Inner node) is = absurd (let z : Some (number_of node) ≡ None = ap (λ (x : Status). inner_of (cell_of x)) (sym is)
-        ∙ (ap inner_at (sym cell_first) ∙ e) in cc z)
+          ∙ (ap inner_at (sym cell_first) ∙ e) in cc z)
       by_status (Pending hold entry) is =
           ap (option_map place_of_spot) (d.first ∙ (ap first_spot f.spots_are
           ∙ ap (λ (x : Status). first_spot (pending_among d.up n d.kind f.left (alternative f.spent x f.right))) is))
@@ -186,7 +207,7 @@ module _ (nodes : NodesView) (n : ℕ) (a : Place) (read : Reading) (root : Stat
 
       sound_first : IsSound (record { node = n; index = length f.left; kind = d.kind } ∷ d.way) f.status
       sound_first = (sound-right d.way n d.kind f.left (alternative f.spent f.status f.right)
-        (subst (AreSound d.way n d.kind 0) f.is d.sound.3)).0
+          (subst (AreSound d.way n d.kind 0) f.is d.sound.3)).0
 
       by_status : (t : Status) → f.status ≡ t → IsDownTo root m
       by_status (Closed credit) is = absurd (let z = inner_is (Closed credit) is in cc z)

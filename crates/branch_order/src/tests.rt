@@ -1,5 +1,5 @@
 //! What no clause gives: that calls succeed, and what they say of one tree.
-use crate::{clock, cleared, counts, first_open, leftmost};
+use crate::{cleared, clock, counts, first_open, leftmost};
 use au_term::{Bindings, NoMemory, Segment};
 use clause_compile::{Branch, Goals, Scope};
 use std::alloc::Global;

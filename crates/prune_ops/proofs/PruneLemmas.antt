@@ -49,13 +49,13 @@ pub same_width : (old nodes : NodesView) (read : Reading) (v : Level) (up : List
     → (p : IsPruningAt nodes read v up was j) → j + length (cells_of p.rest) ≡ length (cells_at (row_at old.rows v.number))
 same_width old nodes read v up was j s p =
     let a : length (cells_of (put_left p.left (emptied p.rest))) ≡ length (left_cells p.left) + length (cells_of (emptied p.rest))
-      = ap length (cells_of-put p.left (emptied p.rest)) ∙ length-append (left_cells p.left) (cells_of (emptied p.rest)) in
+    = ap length (cells_of-put p.left (emptied p.rest)) ∙ length-append (left_cells p.left) (cells_of (emptied p.rest)) in
     let b : length (cells_of (put_left v.left (alternative v.spent was (emptied v.right)))) ≡ length (left_cells v.left) + length (cells_of (alternative v.spent was (emptied v.right)))
-      = ap length (cells_of-put v.left (alternative v.spent was (emptied v.right))) ∙ length-append (left_cells v.left) (cells_of (alternative v.spent was (emptied v.right))) in
+    = ap length (cells_of-put v.left (alternative v.spent was (emptied v.right))) ∙ length-append (left_cells v.left) (cells_of (alternative v.spent was (emptied v.right))) in
     let same : length (cells_of (put_left p.left (emptied p.rest))) ≡ length (cells_of (put_left v.left (alternative v.spent was (emptied v.right))))
-      = ap (λ (x : Alternatives). length (cells_of x)) p.same in
+    = ap (λ (x : Alternatives). length (cells_of x)) p.same in
     let old_cells : length (cells_at (row_at old.rows v.number)) ≡ length (left_cells v.left) + length ((v.spent, cell_of was) ∷ cells_of v.right)
-      = ap length (cells_beside old read v up was s) ∙ length-append (left_cells v.left) ((v.spent, cell_of was) ∷ cells_of v.right) in
+    = ap length (cells_beside old read v up was s) ∙ length-append (left_cells v.left) ((v.spent, cell_of was) ∷ cells_of v.right) in
     let c = width_emptied p.rest in
     let d = width_emptied v.right in
     let left = length-left_cells p.left in
@@ -154,7 +154,7 @@ module _ (old new : NodesView) (read : Reading) (v : Level) (up : List Level) (w
   by_test true q t z =
       let u = one_level_up level above q z in
       let whole : pruned scope above ≡ above = ap (pruned scope) u.is
-        ∙ (at_scope scope u.level u.above (ap (λ (p : Place). p.node == scope) u.at ∙ t) ∙ sym u.is) in
+      ∙ (at_scope scope u.level u.above (ap (λ (p : Place). p.node == scope) u.at ∙ t) ∙ sym u.is) in
       subst (StandsFor new read) (sym (same_more ∙ ap (λ (ls : List Level). plug ls (Inner (level_node (record level { right = emptied level.right }) status))) whole)) here
   by_test false q t z =
       let u = one_level_up level above q z in

@@ -16,10 +16,10 @@ loop-next-preserved c =
     let beside = c.counts_left-given.result in
     let counts = subst (λ (o : Option AltRef). Counts nodes a (parent_view o) c.loop-next.answers c.loop-next.inferences) c.in-Some.is c.loop-next.invariant.counts in
     let more = counts_go_on nodes a b c.loop-next.answers c.loop-next.inferences c.spent.result (parent_view c.parent-next.result) beside counts
-      c.parent-next.ensures.parent c.counts_left-given.ensures c.spent.ensures in
+    c.parent-next.ensures.parent c.counts_left-given.ensures c.spent.ensures in
     let answers : counted beside.0 c.loop-next.answers ≡ c.saturating_add-answers.result = (let e = c.saturating_add-answers.ensures in omega (arith, e)) in
     let inferences : counted (counted beside.1 c.spent.result) c.loop-next.inferences ≡ c.saturating_add-inferences.result
-      = (let e = c.saturating_add-inferences.ensures in let f = c.saturating_add.ensures in omega (arith, e, f)) in
+    = (let e = c.saturating_add-inferences.ensures in let f = c.saturating_add.ensures in omega (arith, e, f)) in
     record {
       there = above_there nodes.rows (parent_view c.parent-next.result) b.node c.parent-next.ensures.above;
       counts = subst (λ (k : ℕ). Counts nodes a (parent_view c.parent-next.result) c.saturating_add-answers.result k) inferences

@@ -19,7 +19,7 @@ loop-next-preserved c =
     let walks = subst (λ (o : Option AltRef). Walks nodes a c.args.scope (parent_view o) (parent_view c.loop-next.first)) c.in-Some.is c.loop-next.invariant.walks in
     let more = walk_goes_on nodes a c.args.scope b (parent_view c.loop-next.first) (parent_view c.parent.result) walks c.parent.ensures.parent in
     let first : parent_view c.further_left-first.result ≡ or_else (open_beside nodes.rows b) (parent_view c.loop-next.first)
-      = c.further_left-first.ensures ∙ ap (λ (o : Option Place). or_else o (parent_view c.loop-next.first)) c.open_left.ensures in
+    = c.further_left-first.ensures ∙ ap (λ (o : Option Place). or_else o (parent_view c.loop-next.first)) c.open_left.ensures in
     record {
       there = subst (IsPlaceIn nodes.rows) (sym c.below-next-in-Some.ensures) (place_below nodes.rows c.args.scope (parent_view c.parent.result) b.node c.parent.ensures.above);
       walks = subst (λ (o : Option Place). Walks nodes a c.args.scope o (parent_view c.further_left-first.result)) (sym c.below-next-in-Some.ensures)

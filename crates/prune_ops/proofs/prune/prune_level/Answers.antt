@@ -26,7 +26,7 @@ loop-alternative-preserved c =
     let j = c.loop-alternative.alternative in
     let l : j < length (cells_at (row_at old.rows a.node)) = (let w = c.width-width.ensures in omega (arith, w)) in
     let spent : (there : ℕ) (cell : Cell) → cell_at nodes.rows (record { node = a.node; index = j }) ≡ Some (there, cell) → c.spent-spent.result ≡ there
-      = λ there cell e. (let z : Some c.spent-spent.result ≡ Some there = sym c.spent-spent.ensures ∙ ap (λ (o : Option (ℕ × Cell)). option_map (λ x. x.0) o) e in cc z) in
+    = λ there cell e. (let z : Some c.spent-spent.result ≡ Some there = sym c.spent-spent.ensures ∙ ap (λ (o : Option (ℕ × Cell)). option_map (λ x. x.0) o) e in cc z) in
     let set = subst (λ (k : Credit). SetsAt nodes c.set.new.self (record { node = a.node; index = j }) c.spent-spent.result (ClosedCell k)) c.nothing-credit.ensures c.set.ensures.set in
     record {
       prunes = prunes_more old nodes c.set.new.self a j c.spent-spent.result c.loop-alternative.invariant.prunes l spent set;
