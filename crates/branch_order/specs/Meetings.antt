@@ -1,5 +1,5 @@
 -- Two branches, and where they part.
-use Rattle.std.specs.Prelude.{◌≡◌, ◌⊎◌, ℕ, ◌<◌, Bool, List, ◌∷◌, Option, Some, None, IsSome}
+use Rattle.std.specs.Prelude.{◌≡◌, ◌⊎◌, ℕ, ◌+◌, ◌<◌, Bool, List, ◌∷◌, Option, Some, None, IsSome}
 use Rattle.std.specs.Option.{option_map}
 use Rattle.tree_model.specs.declared.places.AltRef.{AltRef}
 use Rattle.tree_model.specs.EventViews.{place_view}
@@ -32,3 +32,7 @@ IsMeetStep rows a b None = (a.node ≡ b.node) ⊎ (IsUpFrom rows a b None ⊎ I
 abbrev pub AreThere : Rows → Option (AltRef × AltRef) → Type 0
 AreThere rows None = Unit {0}
 AreThere rows (Some p) = IsSome (cell_at rows (place_view p.0)) × IsSome (cell_at rows (place_view p.1))
+
+abbrev pub AreLower : ℕ → Option (AltRef × AltRef) → Type 0
+AreLower n None = Unit {0}
+AreLower n (Some p) = p.0.node + p.1.node < n

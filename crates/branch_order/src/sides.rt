@@ -1,8 +1,8 @@
 //! Left and right of two branches.
-ghost use Rattle.std.specs.Prelude.{◌≡◌, IsSome};
+ghost use Rattle.std.specs.Prelude.{◌≡◌, ◌+◌, IsSome};
 ghost use Rattle.tree_model.specs.EventViews.{place_view};
 ghost use Rattle.tree_nodes.specs.Rows.{cell_at};
-ghost use Rattle.branch_order.specs.Meetings.{IsBeforeAt, IsMeetStep, AreThere};
+ghost use Rattle.branch_order.specs.Meetings.{IsBeforeAt, IsMeetStep, AreThere, AreLower};
 
 use tree_model::AltRef;
 use tree_nodes::Nodes;
@@ -28,6 +28,7 @@ fn up_to_meet(nodes: &Nodes, first: AltRef, second: AltRef) -> Option<(AltRef, A
     requires second { IsSome (cell_at nodes.now.rows (place_view second)) }
     ensures step { IsMeetStep nodes.now.rows (place_view first) (place_view second) result }
     ensures there { AreThere nodes.now.rows result }
+    ensures lower { AreLower (first.node + second.node) result }
 {
     if second.node < first.node {
         match nodes.parent(first.node) {
