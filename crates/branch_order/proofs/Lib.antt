@@ -1,3 +1,4 @@
 pub mod LeftLemmas
 pub mod ClockLemmas
 pub mod LeftmostLemmas
+pub mod MeetingLemmas

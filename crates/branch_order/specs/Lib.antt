@@ -2,3 +2,4 @@ pub mod LeftOf
 pub mod Walks
 pub mod Clocks
 pub mod Leftmosts
+pub mod Meetings

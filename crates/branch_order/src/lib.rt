@@ -1,16 +1,19 @@
-//! Left and right in the shared tree: what is open to the left of an alternative, the clock of a branch, and the leftmost
-//! entry.
+//! Left and right in the shared tree: which of two alternatives is further left, what is open to the left of one, the clock
+//! of a branch, and the leftmost entry.
 //!
-//! `first_open`, `cleared`, `clock` and `counts` walk from an alternative up, and cost the alternatives to the left on the
-//! way. `leftmost` walks down, and costs the closed alternatives that it passes. None takes memory.
+//! `before` walks from two alternatives up until they meet. `first_open`, `cleared`, `clock` and `counts` walk from an
+//! alternative up, and cost the alternatives to the left on the way. `leftmost` walks down, and costs the closed
+//! alternatives that it passes. None takes memory.
 #![tactic(auto)]
 
 pub mod clocks;
 pub mod left;
 pub mod order;
+pub mod sides;
 #[cfg(test)]
 mod tests;
 
 pub use clocks::{clock, counts};
 pub use left::{cleared, first_open};
 pub use order::leftmost;
+pub use sides::before;

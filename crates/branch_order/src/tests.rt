@@ -1,5 +1,9 @@
 //! What no clause gives: that calls succeed, and what they say of one tree.
+<<<<<<< HEAD
 use crate::{cleared, clock, counts, first_open, leftmost};
+=======
+use crate::{before, cleared, clock, counts, first_open, leftmost};
+>>>>>>> bb2c644
 use au_term::{Bindings, NoMemory, Segment};
 use clause_compile::{Branch, Goals, Scope};
 use std::alloc::Global;
@@ -103,6 +107,19 @@ fn what_is_left(rt: HostRuntime) -> Result<(), Fail> {
         if let Some(scope) = scope {
             assert_eq!(rt; cleared(&nodes, at, Scope::Node(scope)).err(), left);
         }
+    }
+    for (a, b, left) in [
+        ((1, 0), (1, 1), true),
+        ((1, 1), (1, 0), false),
+        ((0, 1), (2, 0), false),
+        ((2, 0), (0, 1), false),
+        ((0, 0), (2, 1), true),
+        ((0, 2), (2, 1), false),
+        ((2, 1), (2, 1), false),
+    ] {
+        let (one, other) = (place(a.0, a.1), place(b.0, b.1));
+        assert!(rt; nodes.has_alternative(one) && nodes.has_alternative(other));
+        assert_eq!(rt; before(&nodes, one, other), left);
     }
     let at = place(1, 0);
     assert!(rt; nodes.has_alternative(at));

@@ -86,7 +86,10 @@ fn records_in_order(rt: HostRuntime) -> Result<(), Fail> {
         };
         close(&rt, &mut nodes, place(1, alternative), credit)?;
     }
-    let side = place(0, 0);
+    let side = AltRef {
+        node: 0,
+        alternative: 0,
+    };
     assert!(rt; nodes.has_alternative(side));
     assert!(rt; nodes.is_closed(side));
     let bag = bag_of(&nodes, 0)?;

@@ -12,3 +12,4 @@ pub mod AddLemmas
 pub mod CreditLemmas
 pub mod FoldLemmas
 pub mod WalkLemmas
+pub mod MeetLemmas
