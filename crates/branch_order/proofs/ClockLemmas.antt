@@ -7,8 +7,8 @@ use Rattle.tree_model.specs.Nodes.{Status, Pending, Inner, Closed, credits_below
 use Rattle.tree_model.specs.Levels.{Level, level_node, plug, Place, place_at}
 use Rattle.tree_model.specs.Orders.{is_closed, first_open_left, first_open, credits_left, clock_of, answers_left}
 use Rattle.tree_nodes.specs.Bodies.{Reading}
-use Rattle.tree_nodes.specs.Rows.{Cell, Rows, row_at, cells_at, cell_at}
-use Rattle.tree_nodes.specs.TreeTables.{cell_of, cells_of, NodesView, StandsFor, above_of}
+use Rattle.tree_nodes.specs.Rows.{AlternativeCell, Rows, row_of_node, alternatives_at, cell_at}
+use Rattle.tree_nodes.specs.TreeTables.{cell_of, cells_of, NodesView, IsTableOf, above_of}
 use Rattle.tree_nodes.proofs.PlaceLemmas.{left_cells, length-left_cells}
 use Rattle.tree_nodes.proofs.WalkLemmas.{cells_beside, cell_here, parent_here, one_level_up, no_level_up}
 use Rattle.branch_order.specs.LeftOf.{or_else, place_on}
@@ -31,7 +31,7 @@ both_none : (a b : Option Place) → or_else a b ≡ None → (a ≡ None) × (b
 both_none None b e = (refl, e)
 both_none (Some p) b e = absurd (cc e)
 
-counts-snoc : (n : ℕ × ℕ) (cells : List (ℕ × Cell)) (x : ℕ × Cell) → counts_from n (cells ++ x ∷ [])
+counts-snoc : (n : ℕ × ℕ) (cells : List (ℕ × AlternativeCell)) (x : ℕ × AlternativeCell) → counts_from n (cells ++ x ∷ [])
     ≡ (counted (counts_from n cells).0 (closed_counts x.1).0, counted (counts_from n cells).1 (closed_counts x.1).1)
 counts-snoc n [] x = refl
 counts-snoc n (y ∷ cells) x = counts-snoc (counted n.0 (closed_counts y.1).0, counted n.1 (closed_counts y.1).1) cells x
@@ -68,7 +68,7 @@ left_closed n (a ∷ left) e = by_found (first_open_left n left) refl e (left_cl
     by_found None is f h = by_status a.1 refl (h is) f
 
 -- the counts on the left of a place
-beside_counts : (nodes : NodesView) (read : Reading) (v : Level) (up : List Level) (was : Status) → StandsFor nodes read (plug (v ∷ up) was)
+beside_counts : (nodes : NodesView) (read : Reading) (v : Level) (up : List Level) (was : Status) → IsTableOf nodes read (plug (v ∷ up) was)
     → counts_beside nodes.rows (place_at v) ≡ counts_from (0, 0) (left_cells v.left)
 beside_counts nodes read v up was s = ap (counts_from (0, 0)) (ap (take (length v.left)) (cells_beside nodes read v up was s)
     ∙ take-seam (left_cells v.left) (cells_of v.right) (v.spent, cell_of was) (length v.left) (length-left_cells v.left))
@@ -86,7 +86,7 @@ counts_begin nodes a read v up was e s f = record {
 }
 
 module _ (nodes : NodesView) (b : Place) (answers inferences spent : ℕ) (read : Reading) (v : Level) (up : List Level) (was : Status)
-    (k : IsCountedFrom v up was b answers inferences) (here : StandsFor nodes read (plug (k.level ∷ k.above) k.status))
+    (k : IsCountedFrom v up was b answers inferences) (here : IsTableOf nodes read (plug (k.level ∷ k.above) k.status))
     (beside : ℕ × ℕ) (is_beside : beside ≡ counts_beside nodes.rows b) (is_spent : spent ≡ k.level.spent) where
   parts : (first_open k.above ≡ None) × (first_open_left k.level.number k.level.left ≡ None)
   parts = both_none (first_open k.above) (first_open_left k.level.number k.level.left) (sym (first_open-level k.level k.above) ∙ k.shut)
@@ -128,25 +128,25 @@ module _ (nodes : NodesView) (b : Place) (answers inferences spent : ℕ) (read 
       }
 
 pub counts_go_on : (nodes : NodesView) (a b : Place) (answers inferences spent : ℕ) (parent : Option Place) (beside : ℕ × ℕ) → Counts nodes a (Some b) answers inferences
-    → option_map (λ r. r.parent) (row_at nodes.rows b.node) ≡ Some parent → beside ≡ counts_beside nodes.rows b
+    → option_map (λ r. r.parent) (row_of_node nodes.rows b.node) ≡ Some parent → beside ≡ counts_beside nodes.rows b
     → option_map (λ c. c.0) (cell_at nodes.rows b) ≡ Some spent
     → Counts nodes a parent (counted beside.0 answers) (counted (counted beside.1 spent) inferences)
 counts_go_on nodes a b answers inferences spent parent beside w p is_beside sp read v up was e s f =
     let k = w read v up was e s f in
-    let here = subst (StandsFor nodes read) k.same s in
-    let spends : Some spent ≡ Some k.level.spent = sym sp ∙ ap (λ (o : Option (ℕ × Cell)). option_map (λ c. c.0) o)
+    let here = subst (IsTableOf nodes read) k.same s in
+    let spends : Some spent ≡ Some k.level.spent = sym sp ∙ ap (λ (o : Option (ℕ × AlternativeCell)). option_map (λ c. c.0) o)
     (ap (cell_at nodes.rows) (sym k.at) ∙ cell_here nodes read k.level k.above k.status here) in
     by_parent nodes b answers inferences spent read v up was k here beside is_beside (cc spends) parent
     (parent_here nodes read k.level k.above k.status parent here
-    (ap (λ (q : Place). option_map (λ r. r.parent) (row_at nodes.rows q.node)) k.at ∙ p))
+    (ap (λ (q : Place). option_map (λ r. r.parent) (row_of_node nodes.rows q.node)) k.at ∙ p))
 
 -- one alternative more
-pub counts_step : (cells : List (ℕ × Cell)) (i n : ℕ) (so_far : ℕ × ℕ) → i < n → IsSome (slice_get cells i)
+pub counts_step : (cells : List (ℕ × AlternativeCell)) (i n : ℕ) (so_far : ℕ × ℕ) → i < n → IsSome (slice_get cells i)
     → counts_from so_far (drop i (take n cells))
     ≡ counts_from (counted so_far.0 (counts_in (slice_get cells i)).0, counted so_far.1 (counts_in (slice_get cells i)).1) (drop (suc i) (take n cells))
 counts_step cells i n so_far l there = by_cell (slice_get cells i) refl there
   where
-    by_cell : (o : Option (ℕ × Cell)) → slice_get cells i ≡ o → IsSome o
+    by_cell : (o : Option (ℕ × AlternativeCell)) → slice_get cells i ≡ o → IsSome o
         → counts_from so_far (drop i (take n cells)) ≡ counts_from (counted so_far.0 (counts_in o).0, counted so_far.1 (counts_in o).1) (drop (suc i) (take n cells))
     by_cell None g t = absurd (cc t)
     by_cell (Some c) g t = ap (counts_from so_far) (drop-take-cons cells i n c l g)

@@ -6,9 +6,9 @@ use Rattle.tree_model.specs.Nodes.{Status, Pending, Inner, Closed}
 use Rattle.tree_model.specs.Levels.{Level, level_node, plug, Place, place_at}
 use Rattle.tree_model.specs.Orders.{is_node, levels_below, is_closed, first_open_left, first_open}
 use Rattle.tree_nodes.specs.Bodies.{Reading}
-use Rattle.tree_nodes.specs.Rows.{Cell, NodeRow, Rows, row_at, cells_at, cell_at}
+use Rattle.tree_nodes.specs.Rows.{AlternativeCell, StoredNode, Rows, row_of_node, alternatives_at, cell_at}
 use Rattle.tree_nodes.specs.Gathering.{is_shut, is_shut_at}
-use Rattle.tree_nodes.specs.TreeTables.{cell_of, cells_of, NodesView, StandsFor, above_of}
+use Rattle.tree_nodes.specs.TreeTables.{cell_of, cells_of, NodesView, IsTableOf, above_of}
 use Rattle.tree_nodes.specs.Puts.{IsPlaceIn}
 use Rattle.tree_nodes.specs.Folds.{IsAbove}
 use Rattle.tree_nodes.proofs.PlaceLemmas.{left_cells, length-left_cells}
@@ -25,7 +25,7 @@ shut_closed (Pending hold entry) = refl
 shut_closed (Inner node) = refl
 shut_closed (Closed credit) = refl
 
-open_index-snoc : (i : ℕ) (cells : List (ℕ × Cell)) (x : ℕ × Cell) → open_index i (cells ++ x ∷ [])
+open_index-snoc : (i : ℕ) (cells : List (ℕ × AlternativeCell)) (x : ℕ × AlternativeCell) → open_index i (cells ++ x ∷ [])
     ≡ or_index (open_index i cells) (first_at (is_shut x.1) (i + length cells) None)
 open_index-snoc i [] x = ap (λ (k : ℕ). first_at (is_shut x.1) k None) (let e : i ≡ i + 0 = omega arith in e)
 open_index-snoc i (y ∷ cells) x = by_test (is_shut y.1) (open_index-snoc (suc i) cells x)
@@ -63,17 +63,17 @@ left_index n (a ∷ left) = by_found (first_open_left n left) (open_index 0 (lef
         ∙ sym (ap (option_map (place_on n)) (open_index-snoc 0 (left_cells left) (a.0, cell_of a.1)
         ∙ ap (λ (o : Option ℕ). or_index o (first_at (is_shut (cell_of a.1)) (0 + length (left_cells left)) None)) f))))
 
-pub take-seam : (xs ys : List (ℕ × Cell)) (y : ℕ × Cell) (n : ℕ) → length xs ≡ n → take n (xs ++ y ∷ ys) ≡ xs
+pub take-seam : (xs ys : List (ℕ × AlternativeCell)) (y : ℕ × AlternativeCell) (n : ℕ) → length xs ≡ n → take n (xs ++ y ∷ ys) ≡ xs
 take-seam [] ys y zero e = refl
 take-seam [] ys y (suc n) e = absurd (omega (arith, e))
 take-seam (x ∷ xs) ys y zero e = absurd (omega (arith, e))
-take-seam (x ∷ xs) ys y (suc n) e = ap (λ (cells : List (ℕ × Cell)). x ∷ cells) (take-seam xs ys y n (omega (arith, e)))
+take-seam (x ∷ xs) ys y (suc n) e = ap (λ (cells : List (ℕ × AlternativeCell)). x ∷ cells) (take-seam xs ys y n (omega (arith, e)))
 
-beside_here : (nodes : NodesView) (read : Reading) (v : Level) (up : List Level) (was : Status) → StandsFor nodes read (plug (v ∷ up) was)
+beside_here : (nodes : NodesView) (read : Reading) (v : Level) (up : List Level) (was : Status) → IsTableOf nodes read (plug (v ∷ up) was)
     → first_open_left v.number v.left ≡ open_beside nodes.rows (place_at v)
 beside_here nodes read v up was s =
     left_index v.number v.left
-    ∙ ap (λ (cells : List (ℕ × Cell)). option_map (place_on v.number) (open_index 0 cells))
+    ∙ ap (λ (cells : List (ℕ × AlternativeCell)). option_map (place_on v.number) (open_index 0 cells))
     (sym (ap (take (length v.left)) (cells_beside nodes read v up was s)
     ∙ take-seam (left_cells v.left) (cells_of v.right) (v.spent, cell_of was) (length v.left) (length-left_cells v.left)))
 
@@ -120,7 +120,7 @@ walk_begins nodes a scope read v up was e s = by_test (is_node scope a.node) ref
 
 -- one level more
 module _ (nodes : NodesView) (scope : Option ℕ) (b : Place) (first : Option Place) (read : Reading) (v : Level) (up : List Level) (was : Status)
-    (k : IsAtLevel v up was scope b first) (here : StandsFor nodes read (plug (k.level ∷ k.above) k.status)) where
+    (k : IsAtLevel v up was scope b first) (here : IsTableOf nodes read (plug (k.level ∷ k.above) k.status)) where
   found_more : first_open (levels_below scope (v ∷ up)) ≡ or_else (first_open (levels_below scope k.above)) (or_else (open_beside nodes.rows b) first)
   found_more = k.found
       ∙ (ap (λ (ls : List Level). or_else (first_open ls) first) k.below
@@ -154,56 +154,56 @@ module _ (nodes : NodesView) (scope : Option ℕ) (b : Place) (first : Option Pl
   by_parent (Some q) z = by_test (is_node scope q.node) q refl z
 
 pub walk_goes_on : (nodes : NodesView) (a : Place) (scope : Option ℕ) (b : Place) (first parent : Option Place) → Walks nodes a scope (Some b) first
-    → option_map (λ r. r.parent) (row_at nodes.rows b.node) ≡ Some parent
+    → option_map (λ r. r.parent) (row_of_node nodes.rows b.node) ≡ Some parent
     → Walks nodes a scope (below_scope scope parent) (or_else (open_beside nodes.rows b) first)
 walk_goes_on nodes a scope b first parent w p read v up was e s =
     let k = w read v up was e s in
-    let here = subst (StandsFor nodes read) k.same s in
+    let here = subst (IsTableOf nodes read) k.same s in
     by_parent nodes scope b first read v up was k here parent
     (parent_here nodes read k.level k.above k.status parent here
-    (ap (λ (q : Place). option_map (λ r. r.parent) (row_at nodes.rows q.node)) k.at ∙ p))
+    (ap (λ (q : Place). option_map (λ r. r.parent) (row_of_node nodes.rows q.node)) k.at ∙ p))
 
 -- one alternative more is closed
-pub drop-take-cons : (cells : List (ℕ × Cell)) (i n : ℕ) (c : ℕ × Cell) → i < n → slice_get cells i ≡ Some c → drop i (take n cells) ≡ c ∷ drop (suc i) (take n cells)
+pub drop-take-cons : (cells : List (ℕ × AlternativeCell)) (i n : ℕ) (c : ℕ × AlternativeCell) → i < n → slice_get cells i ≡ Some c → drop i (take n cells) ≡ c ∷ drop (suc i) (take n cells)
 drop-take-cons [] i n c l e = absurd (cc e)
 drop-take-cons (x ∷ cells) zero zero c l e = absurd (omega (arith, l))
-drop-take-cons (x ∷ cells) zero (suc n) c l e = ap (λ (y : ℕ × Cell). y ∷ take n cells) (cc e)
+drop-take-cons (x ∷ cells) zero (suc n) c l e = ap (λ (y : ℕ × AlternativeCell). y ∷ take n cells) (cc e)
 drop-take-cons (x ∷ cells) (suc i) zero c l e = absurd (omega (arith, l))
 drop-take-cons (x ∷ cells) (suc i) (suc n) c l e = drop-take-cons cells i n c (omega (arith, l)) e
 
-pub open_step : (cells : List (ℕ × Cell)) (i n : ℕ) (b : Bool) → i < n → is_shut_at (slice_get cells i) ≡ b → IsSome (slice_get cells i)
+pub open_step : (cells : List (ℕ × AlternativeCell)) (i n : ℕ) (b : Bool) → i < n → is_shut_at (slice_get cells i) ≡ b → IsSome (slice_get cells i)
     → open_index i (drop i (take n cells)) ≡ first_at b i (open_index (suc i) (drop (suc i) (take n cells)))
 open_step cells i n b l e there = by_cell (slice_get cells i) refl e there
   where
-    by_cell : (o : Option (ℕ × Cell)) → slice_get cells i ≡ o → is_shut_at o ≡ b → IsSome o
+    by_cell : (o : Option (ℕ × AlternativeCell)) → slice_get cells i ≡ o → is_shut_at o ≡ b → IsSome o
         → open_index i (drop i (take n cells)) ≡ first_at b i (open_index (suc i) (drop (suc i) (take n cells)))
     by_cell None g f t = absurd (cc t)
     by_cell (Some c) g f t = ap (open_index i) (drop-take-cons cells i n c l g) ∙ ap (λ (x : Bool). first_at x i (open_index (suc i) (drop (suc i) (take n cells)))) f
 
-pub none_left : (cells : List (ℕ × Cell)) (n : ℕ) → open_index n (drop n (take n cells)) ≡ None
+pub none_left : (cells : List (ℕ × AlternativeCell)) (n : ℕ) → open_index n (drop n (take n cells)) ≡ None
 none_left [] zero = refl
 none_left [] (suc n) = ap (open_index (suc n)) (drop-nil-here (suc n))
   where
-    drop-nil-here : (k : ℕ) → ◌≡◌ {A = List (ℕ × Cell)} (drop k (take k [])) []
+    drop-nil-here : (k : ℕ) → ◌≡◌ {A = List (ℕ × AlternativeCell)} (drop k (take k [])) []
     drop-nil-here zero = refl
     drop-nil-here (suc k) = refl
 none_left (x ∷ cells) zero = refl
 none_left (x ∷ cells) (suc n) = later cells n (suc n)
   where
-    later : (cells : List (ℕ × Cell)) (n i : ℕ) → open_index i (drop n (take n cells)) ≡ None
+    later : (cells : List (ℕ × AlternativeCell)) (n i : ℕ) → open_index i (drop n (take n cells)) ≡ None
     later [] zero i = refl
     later [] (suc n) i = refl
     later (x ∷ cells) zero i = refl
     later (x ∷ cells) (suc n) i = later cells n i
 
-pub some_row : (rows : Rows) (a : Place) → IsSome (cell_at rows a) → IsSome (row_at rows a.node)
-some_row rows a h = by_row (row_at rows a.node) h
+pub some_row : (rows : Rows) (a : Place) → IsSome (cell_at rows a) → IsSome (row_of_node rows a.node)
+some_row rows a h = by_row (row_of_node rows a.node) h
   where
-    by_row : (o : Option NodeRow) → IsSome (slice_get (cells_at o) a.index) → IsSome o
+    by_row : (o : Option StoredNode) → IsSome (slice_get (alternatives_at o) a.index) → IsSome o
     by_row None h = absurd (cc h)
     by_row (Some r) h = refl
 
-pub some_before : (cells : List (ℕ × Cell)) (i n : ℕ) → i < n → IsSome (slice_get cells n) → IsSome (slice_get cells i)
+pub some_before : (cells : List (ℕ × AlternativeCell)) (i n : ℕ) → i < n → IsSome (slice_get cells n) → IsSome (slice_get cells i)
 some_before [] i n l h = absurd (cc h)
 some_before (x ∷ cells) zero n l h = refl
 some_before (x ∷ cells) (suc i) zero l h = absurd (omega (arith, l))
@@ -222,24 +222,24 @@ above_there rows None n h = tt
 above_there rows (Some a) n h = h.0
 
 -- the same over all alternatives of a node
-drop-cons-here : (cells : List (ℕ × Cell)) (i : ℕ) (c : ℕ × Cell) → slice_get cells i ≡ Some c → drop i cells ≡ c ∷ drop (suc i) cells
+drop-cons-here : (cells : List (ℕ × AlternativeCell)) (i : ℕ) (c : ℕ × AlternativeCell) → slice_get cells i ≡ Some c → drop i cells ≡ c ∷ drop (suc i) cells
 drop-cons-here [] i c e = absurd (cc e)
-drop-cons-here (x ∷ cells) zero c e = ap (λ (y : ℕ × Cell). y ∷ cells) (cc e)
+drop-cons-here (x ∷ cells) zero c e = ap (λ (y : ℕ × AlternativeCell). y ∷ cells) (cc e)
 drop-cons-here (x ∷ cells) (suc i) c e = drop-cons-here cells i c e
 
-some_within : (cells : List (ℕ × Cell)) (i : ℕ) → i < length cells → (c : ℕ × Cell) × (slice_get cells i ≡ Some c)
+some_within : (cells : List (ℕ × AlternativeCell)) (i : ℕ) → i < length cells → (c : ℕ × AlternativeCell) × (slice_get cells i ≡ Some c)
 some_within [] i l = absurd (omega (arith, l))
 some_within (x ∷ cells) zero l = (x, refl)
 some_within (x ∷ cells) (suc i) l = some_within cells i (omega (arith, l))
 
-pub open_more : (cells : List (ℕ × Cell)) (i : ℕ) (b : Bool) → i < length cells → is_shut_at (slice_get cells i) ≡ b
+pub open_more : (cells : List (ℕ × AlternativeCell)) (i : ℕ) (b : Bool) → i < length cells → is_shut_at (slice_get cells i) ≡ b
     → open_index i (drop i cells) ≡ first_at b i (open_index (suc i) (drop (suc i) cells))
 open_more cells i b l e =
     let c = some_within cells i l in
     ap (open_index i) (drop-cons-here cells i c.0 c.1)
     ∙ ap (λ (x : Bool). first_at x i (open_index (suc i) (drop (suc i) cells))) (ap is_shut_at (sym c.1) ∙ e)
 
-pub row_within : (rows : Rows) (m : ℕ) → IsSome (row_at rows m) → m < length rows
+pub row_within : (rows : Rows) (m : ℕ) → IsSome (row_of_node rows m) → m < length rows
 row_within [] m h = absurd (cc h)
 row_within (r ∷ rows) zero h = omega arith
 row_within (r ∷ rows) (suc m) h = let l = row_within rows m h in omega (arith, l)

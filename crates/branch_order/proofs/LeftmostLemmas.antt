@@ -7,11 +7,11 @@ use Rattle.tree_model.specs.PendingLists.{Step, Way}
 use Rattle.tree_model.specs.SoundTrees.{profile, profiles, hold_profile, some_open, is_live, IsSound, IsSoundNode, AreSound}
 use Rattle.tree_model.specs.TreeStates.{first_spot}
 use Rattle.tree_nodes.specs.Bodies.{Reading}
-use Rattle.tree_nodes.specs.Rows.{Cell, NodeRow, Rows, row_at, cells_at, cell_at}
+use Rattle.tree_nodes.specs.Rows.{AlternativeCell, StoredNode, Rows, row_of_node, alternatives_at, cell_at}
 use Rattle.tree_nodes.specs.RowViews.{inner_of}
 use Rattle.tree_nodes.specs.Gathering.{is_shut}
 use Rattle.tree_nodes.specs.Puts.{inner_at}
-use Rattle.tree_nodes.specs.TreeTables.{number_of, cell_of, cells_of, IsIn, NodesView, IsRoot, StandsFor}
+use Rattle.tree_nodes.specs.TreeTables.{node_number, cell_of, cells_of, IsIn, NodesView, IsRoot, IsTableOf}
 use Rattle.tree_nodes.proofs.PlaceLemmas.{taken_out}
 use Rattle.tree_nodes.proofs.WalkLemmas.{cell_here}
 use Rattle.branch_order.specs.LeftOf.{first_at, open_index, place_on, open_first}
@@ -91,11 +91,11 @@ first_among up n kind left (alternative spent (Inner node) others) = record {
 first_among up n kind left (alternative spent (Closed credit) others) = first_among up n kind ((spent, Closed credit) ∷ left) others
 
 -- the cells of the node at hand
-cells_down : (nodes : NodesView) (read : Reading) (root : Status) (n : ℕ) (s : StandsFor nodes read root) (d : IsDownTo root n)
-    → cells_at (row_at nodes.rows n) ≡ cells_of d.alternatives
+cells_down : (nodes : NodesView) (read : Reading) (root : Status) (n : ℕ) (s : IsTableOf nodes read root) (d : IsDownTo root n)
+    → alternatives_at (row_of_node nodes.rows n) ≡ cells_of d.alternatives
 cells_down nodes read root n s d =
     let k = taken_out nodes.rows read d.up (Inner (Numbered n d.kind d.alternatives)) (subst (IsIn nodes.rows read [] None) d.same s.placed) in
-    ap cells_at k.inside.1.0
+    ap alternatives_at k.inside.1.0
 
 first_spot-front : (front back : List Spot) → IsSomeSpot front → first_spot (front ++ back) ≡ first_spot front
 first_spot-front front back h = ap (λ (x : List Spot). first_spot (x ++ back)) h.are ∙ ap first_spot (sym h.are)
@@ -124,7 +124,7 @@ no_first nodes f read root s sound = by_root root s.rooted refl
     by_root : (r : Status) → IsRoot nodes.first r → root ≡ r → option_map place_of_spot (first_spot (pending_of root)) ≡ None
     by_root (Pending hold entry) h e = absurd h
     by_root (Closed credit) h e = ap (λ (x : Status). option_map place_of_spot (first_spot (pending_of x))) e
-    by_root (Inner node) h e = absurd (let z : Some (number_of node) ≡ None = sym h ∙ f in cc z)
+    by_root (Inner node) h e = absurd (let z : Some (node_number node) ≡ None = sym h ∙ f in cc z)
 
 -- nothing is open at the node at hand
 pub nothing_down : (nodes : NodesView) (n : ℕ) → GoesDown nodes n → open_first nodes.rows n ≡ None → IsLeftmost nodes None
@@ -132,7 +132,7 @@ nothing_down nodes n g e read root s sound =
     let d = g read root s sound in
     let cells = cells_down nodes read root n s d in
     let none_open : open_index 0 (cells_of d.alternatives) ≡ None = no_place (open_index 0 (cells_of d.alternatives))
-    (ap (λ (x : List (ℕ × Cell)). option_map (place_on n) (open_index 0 x)) (sym cells) ∙ e) in
+    (ap (λ (x : List (ℕ × AlternativeCell)). option_map (place_on n) (open_index 0 x)) (sym cells) ∙ e) in
     let h = subst (IsFirst d.up n d.kind d.alternatives (pending_among d.up n d.kind [] d.alternatives)) none_open (first_among d.up n d.kind [] d.alternatives) in
     ap (option_map place_of_spot) (d.first ∙ ap first_spot h)
   where
@@ -141,11 +141,11 @@ nothing_down nodes n g e read root s sound =
     no_place (Some j) e = absurd (cc e)
 
 -- what is first at the node at hand
-module _ (nodes : NodesView) (n : ℕ) (a : Place) (first : open_first nodes.rows n ≡ Some a) (read : Reading) (root : Status) (s : StandsFor nodes read root)
+module _ (nodes : NodesView) (n : ℕ) (a : Place) (first : open_first nodes.rows n ≡ Some a) (read : Reading) (root : Status) (s : IsTableOf nodes read root)
     (d : IsDownTo root n) where
   index_is : open_index 0 (cells_of d.alternatives) ≡ Some a.index
   index_is = by_index (open_index 0 (cells_of d.alternatives))
-      (ap (λ (x : List (ℕ × Cell)). option_map (place_on n) (open_index 0 x)) (sym (cells_down nodes read root n s d)) ∙ first)
+      (ap (λ (x : List (ℕ × AlternativeCell)). option_map (place_on n) (open_index 0 x)) (sym (cells_down nodes read root n s d)) ∙ first)
     where
       by_index : (o : Option ℕ) → option_map (place_on n) o ≡ Some a → o ≡ Some a.index
       by_index None e = absurd (cc e)
@@ -157,7 +157,7 @@ module _ (nodes : NodesView) (n : ℕ) (a : Place) (first : open_first nodes.row
 
   node_is : n ≡ a.node
   node_is = by_index (open_index 0 (cells_of d.alternatives))
-      (ap (λ (x : List (ℕ × Cell)). option_map (place_on n) (open_index 0 x)) (sym (cells_down nodes read root n s d)) ∙ first)
+      (ap (λ (x : List (ℕ × AlternativeCell)). option_map (place_on n) (open_index 0 x)) (sym (cells_down nodes read root n s d)) ∙ first)
     where
       by_index : (o : Option ℕ) → option_map (place_on n) o ≡ Some a → n ≡ a.node
       by_index None e = absurd (cc e)
@@ -174,7 +174,7 @@ module _ (nodes : NodesView) (n : ℕ) (a : Place) (first : open_first nodes.row
 abbrev first_level : (up : List Level) (n : ℕ) (kind : Kind) (whole : Alternatives) (spots : List Spot) (j : ℕ) → IsFirstOf up n kind whole spots j → Level
 first_level up n kind whole spots j f = record { number = n; kind = kind; left = f.left; spent = f.spent; right = f.right }
 
-module _ (nodes : NodesView) (n : ℕ) (a : Place) (read : Reading) (root : Status) (s : StandsFor nodes read root) (d : IsDownTo root n)
+module _ (nodes : NodesView) (n : ℕ) (a : Place) (read : Reading) (root : Status) (s : IsTableOf nodes read root) (d : IsDownTo root n)
     (same_node : n ≡ a.node) (f : IsFirstOf d.up n d.kind d.alternatives (pending_among d.up n d.kind [] d.alternatives) a.index) where
   at_first : place_at (first_level d.up n d.kind d.alternatives (pending_among d.up n d.kind [] d.alternatives) a.index f) ≡ a
   at_first = ap (λ (i : ℕ). record { node = n; index = i }) f.index ∙ ap (λ (k : ℕ). record { node = k; index = a.index }) same_node
@@ -185,14 +185,14 @@ module _ (nodes : NodesView) (n : ℕ) (a : Place) (read : Reading) (root : Stat
   cell_first : cell_at nodes.rows a ≡ Some (f.spent, cell_of f.status)
   cell_first = ap (cell_at nodes.rows) (sym at_first)
       ∙ cell_here nodes read (first_level d.up n d.kind d.alternatives (pending_among d.up n d.kind [] d.alternatives) a.index f) d.up f.status
-      (subst (StandsFor nodes read) whole_is s)
+      (subst (IsTableOf nodes read) whole_is s)
 
   first_entry : inner_at (cell_at nodes.rows a) ≡ None → option_map place_of_spot (first_spot (pending_of root)) ≡ Some a
   first_entry e = by_status f.status refl
     where
       by_status : (t : Status) → f.status ≡ t → option_map place_of_spot (first_spot (pending_of root)) ≡ Some a
       by_status (Closed credit) is = absurd (let z : true ≡ false = ap (λ (x : Status). is_shut (cell_of x)) (sym is) ∙ f.shut in cc z)
-      by_status (Inner node) is = absurd (let z : Some (number_of node) ≡ None = ap (λ (x : Status). inner_of (cell_of x)) (sym is)
+      by_status (Inner node) is = absurd (let z : Some (node_number node) ≡ None = ap (λ (x : Status). inner_of (cell_of x)) (sym is)
           ∙ (ap inner_at (sym cell_first) ∙ e) in cc z)
       by_status (Pending hold entry) is =
           ap (option_map place_of_spot) (d.first ∙ (ap first_spot f.spots_are

@@ -8,7 +8,7 @@ use Rattle.tree_model.specs.Levels.{Level, plug, Place, place_at}
 use Rattle.tree_model.specs.Orders.{path_of, parts_left}
 use Rattle.tree_nodes.specs.Bodies.{Reading}
 use Rattle.tree_nodes.specs.Rows.{Rows, cell_at}
-use Rattle.tree_nodes.specs.TreeTables.{NodesView, StandsFor}
+use Rattle.tree_nodes.specs.TreeTables.{NodesView, IsTableOf}
 use Rattle.tree_nodes.proofs.MeetLemmas.{AreSides, sides_begin, sides_turned, first_up, never_stuck, meeting_parts}
 use Rattle.branch_order.specs.Meetings.{IsBeforeAt, parent_at, IsUpFrom, IsMeetStep, AreThere}
 
@@ -16,7 +16,7 @@ use Rattle.branch_order.specs.Meetings.{IsBeforeAt, parent_at, IsUpFrom, IsMeetS
 abbrev pub Meets : NodesView → Place → Place → Place → Place → Type 0
 Meets nodes a b x y =
     (read : Reading) (v : Level) (up : List Level) (s : Status) (w : Level) (over : List Level) (t : Status) → place_at v ≡ a → place_at w ≡ b
-    → StandsFor nodes read (plug (v ∷ up) s) → plug (v ∷ up) s ≡ plug (w ∷ over) t → AreSides (plug (v ∷ up) s) (v ∷ up) (w ∷ over) x y
+    → IsTableOf nodes read (plug (v ∷ up) s) → plug (v ∷ up) s ≡ plug (w ∷ over) t → AreSides (plug (v ∷ up) s) (v ∷ up) (w ∷ over) x y
 
 pub meets_begin : (nodes : NodesView) (a b : Place) → Meets nodes a b a b
 meets_begin nodes a b read v up s w over t e f st same =

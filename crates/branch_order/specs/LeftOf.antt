@@ -8,16 +8,16 @@ use Rattle.tree_model.specs.Nodes.{Status}
 use Rattle.tree_model.specs.Levels.{Level, plug, Place, place_at}
 use Rattle.tree_model.specs.Orders.{is_node, levels_below, first_open}
 use Rattle.tree_nodes.specs.Bodies.{Reading}
-use Rattle.tree_nodes.specs.Rows.{Cell, PendingCell, InnerCell, ClosedCell, Rows, row_at, cells_at, scope_number}
+use Rattle.tree_nodes.specs.Rows.{AlternativeCell, PendingCell, InnerCell, ClosedCell, Rows, row_of_node, alternatives_at, scope_number}
 use Rattle.tree_nodes.specs.Gathering.{is_shut}
-use Rattle.tree_nodes.specs.TreeTables.{NodesView, StandsFor}
+use Rattle.tree_nodes.specs.TreeTables.{NodesView, IsTableOf}
 
 -- the first of these that has not closed, by its index from this one on
 abbrev pub first_at : Bool → ℕ → Option ℕ → Option ℕ
 first_at true i others = others
 first_at false i others = Some i
 
-abbrev pub open_index : ℕ → List (ℕ × Cell) → Option ℕ
+abbrev pub open_index : ℕ → List (ℕ × AlternativeCell) → Option ℕ
 open_index i [] = None
 open_index i (c ∷ cells) = first_at (is_shut c.1) i (open_index (suc i) cells)
 
@@ -26,12 +26,12 @@ place_on n i = record { node = n; index = i }
 
 -- the leftmost alternative left of a place at its node that has not closed
 abbrev pub open_beside : Rows → Place → Option Place
-open_beside rows a = option_map (place_on a.node) (open_index 0 (take a.index (cells_at (row_at rows a.node))))
+open_beside rows a = option_map (place_on a.node) (open_index 0 (take a.index (alternatives_at (row_of_node rows a.node))))
 
 -- the leftmost left of a place below a node, or in the whole tree, that has not closed
 abbrev pub IsFirstOpen : NodesView → Place → Option ℕ → Option Place → Type 0
 IsFirstOpen nodes a scope result =
-    (read : Reading) (v : Level) (up : List Level) (was : Status) → place_at v ≡ a → StandsFor nodes read (plug (v ∷ up) was)
+    (read : Reading) (v : Level) (up : List Level) (was : Status) → place_at v ≡ a → IsTableOf nodes read (plug (v ∷ up) was)
     → first_open (levels_below scope (v ∷ up)) ≡ result
 
 abbrev pub or_else : Option Place → Option Place → Option Place
@@ -54,7 +54,7 @@ IsCleared nodes a scope (Err left) = IsFirstOpen nodes a (Some (scope_number sco
 
 -- the leftmost alternative of a node that has not closed
 abbrev pub open_first : Rows → ℕ → Option Place
-open_first rows n = option_map (place_on n) (open_index 0 (cells_at (row_at rows n)))
+open_first rows n = option_map (place_on n) (open_index 0 (alternatives_at (row_of_node rows n)))
 
 abbrev pub IsOn : ℕ → Option Place → Type 0
 IsOn n None = Unit {0}

@@ -7,12 +7,12 @@ use Rattle.tree_model.specs.PendingLists.{Way}
 use Rattle.tree_model.specs.SoundTrees.{IsSound, IsSoundNode}
 use Rattle.tree_model.specs.TreeStates.{first_spot}
 use Rattle.tree_nodes.specs.Bodies.{Reading}
-use Rattle.tree_nodes.specs.TreeTables.{NodesView, StandsFor}
+use Rattle.tree_nodes.specs.TreeTables.{NodesView, IsTableOf}
 
 -- of a sound tree
 abbrev pub IsLeftmost : NodesView → Option Place → Type 0
 IsLeftmost nodes result =
-    (read : Reading) (root : Status) → StandsFor nodes read root → IsSound [] root
+    (read : Reading) (root : Status) → IsTableOf nodes read root → IsSound [] root
     → option_map place_of_spot (first_spot (pending_of root)) ≡ result
 
 -- on the way down, the leftmost entry of the tree is that of the node at hand
@@ -26,4 +26,4 @@ pub record IsDownTo (root : Status) (n : ℕ) : Type 0 where
   pub first : first_spot (pending_of root) ≡ first_spot (pending_in up (Numbered n kind alternatives))
 
 abbrev pub GoesDown : NodesView → ℕ → Type 0
-GoesDown nodes n = (read : Reading) (root : Status) → StandsFor nodes read root → IsSound [] root → IsDownTo root n
+GoesDown nodes n = (read : Reading) (root : Status) → IsTableOf nodes read root → IsSound [] root → IsDownTo root n

@@ -7,17 +7,17 @@ use Rattle.tree_model.specs.Nodes.{Status}
 use Rattle.tree_model.specs.Levels.{Level, plug, Place, place_at}
 use Rattle.tree_model.specs.Orders.{path_of, parts_left}
 use Rattle.tree_nodes.specs.Bodies.{Reading}
-use Rattle.tree_nodes.specs.Rows.{Rows, row_at, cell_at}
-use Rattle.tree_nodes.specs.TreeTables.{NodesView, StandsFor}
+use Rattle.tree_nodes.specs.Rows.{Rows, row_of_node, cell_at}
+use Rattle.tree_nodes.specs.TreeTables.{NodesView, IsTableOf}
 
 -- whether one place of a tree is before another
 abbrev pub IsBeforeAt : NodesView → Place → Place → Bool → Type 0
 IsBeforeAt nodes a b result =
     (read : Reading) (v : Level) (up : List Level) (s : Status) (w : Level) (over : List Level) (t : Status) → place_at v ≡ a → place_at w ≡ b
-    → StandsFor nodes read (plug (v ∷ up) s) → plug (v ∷ up) s ≡ plug (w ∷ over) t → result ≡ parts_left (path_of (v ∷ up)) (path_of (w ∷ over))
+    → IsTableOf nodes read (plug (v ∷ up) s) → plug (v ∷ up) s ≡ plug (w ∷ over) t → result ≡ parts_left (path_of (v ∷ up)) (path_of (w ∷ over))
 
 abbrev pub parent_at : Rows → ℕ → Option (Option Place)
-parent_at rows n = option_map (λ r. r.parent) (row_at rows n)
+parent_at rows n = option_map (λ r. r.parent) (row_of_node rows n)
 
 -- one side is deeper, and this is above its node
 abbrev pub IsUpFrom : Rows → Place → Place → Option Place → Type 0

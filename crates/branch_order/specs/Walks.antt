@@ -4,7 +4,7 @@ use Rattle.tree_model.specs.Nodes.{Status}
 use Rattle.tree_model.specs.Levels.{Level, plug, Place, place_at}
 use Rattle.tree_model.specs.Orders.{is_node, levels_below, first_open}
 use Rattle.tree_nodes.specs.Bodies.{Reading}
-use Rattle.tree_nodes.specs.TreeTables.{NodesView, StandsFor}
+use Rattle.tree_nodes.specs.TreeTables.{NodesView, IsTableOf}
 use Rattle.branch_order.specs.LeftOf.{or_else}
 
 -- the level at this place is below the scope, and what is found counts where nothing is open further out
@@ -23,10 +23,10 @@ IsWalked v up was scope None first = first_open (levels_below scope (v ∷ up)) 
 
 abbrev pub Walks : NodesView → Place → Option ℕ → Option Place → Option Place → Type 0
 Walks nodes a scope next first =
-    (read : Reading) (v : Level) (up : List Level) (was : Status) → place_at v ≡ a → StandsFor nodes read (plug (v ∷ up) was)
+    (read : Reading) (v : Level) (up : List Level) (was : Status) → place_at v ≡ a → IsTableOf nodes read (plug (v ∷ up) was)
     → IsWalked v up was scope next first
 
 -- numbers grow downward
-abbrev pub height_of : Option Place → ℕ
-height_of None = 0
-height_of (Some a) = suc a.node
+abbrev pub place_height : Option Place → ℕ
+place_height None = 0
+place_height (Some a) = suc a.node

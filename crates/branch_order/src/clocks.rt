@@ -1,7 +1,7 @@
 //! What was counted on a branch and to its left.
 ghost use Rattle.std.specs.Prelude.{◌≡◌, IsSome};
 ghost use Rattle.tree_model.specs.EventViews.{place_view};
-ghost use Rattle.tree_nodes.specs.Rows.{cell_at, cells_at, row_at};
+ghost use Rattle.tree_nodes.specs.Rows.{cell_at, alternatives_at, row_of_node};
 ghost use Rattle.branch_order.specs.Clocks.{CountsBranch, HasClock, counts_beside, counts_in};
 
 use tree_model::AltRef;

@@ -1,9 +1,5 @@
 //! What no clause gives: that calls succeed, and what they say of one tree.
-<<<<<<< HEAD
-use crate::{cleared, clock, counts, first_open, leftmost};
-=======
 use crate::{before, cleared, clock, counts, first_open, leftmost};
->>>>>>> bb2c644
 use au_term::{Bindings, NoMemory, Segment};
 use clause_compile::{Branch, Goals, Scope};
 use std::alloc::Global;

@@ -14,8 +14,8 @@ use Rattle.run_model.specs.Programs.Clauses.{Clause as ClauseTerms}
 use Rattle.run_model.specs.Programs.Databases.{NumberedClause, DynamicProcedure, has_number, procedure_without}
 use Rattle.dyn_clauses.specs.declared.indicator.Indicator.{Indicator}
 use Rattle.dyn_clauses.specs.declared.place.Place.{Place}
-use Rattle.dyn_clauses.specs.PositionIndex.{Placed, first_position, has_numbered, last_position, middle, number_of, numbered_clauses, numbered_entry, without_position}
-use Rattle.dyn_clauses.specs.DatabaseView.{Entries, IsDatabase, IsPlaced, clause_at, clause_in, indicator_cmp, is_spot, procedures_meant, without_spot}
+use Rattle.dyn_clauses.specs.PositionIndex.{Placed, first_position, has_numbered, last_position, middle, position_number, numbered_clauses, numbered_entry, without_position}
+use Rattle.dyn_clauses.specs.DatabaseView.{Entries, IsDatabase, HavePlaces, clause_at, clause_in, indicator_cmp, is_spot, procedures_meant, without_spot}
 use Rattle.dyn_clauses.proofs.EntriesLemmas.{at_self, found_entries, same_indicator, some_each}
 use Rattle.dyn_clauses.proofs.ProcedureLemmas.{at_same}
 
@@ -55,7 +55,7 @@ place_same i j p q e = let h : place i p ≡ place j q = cc in (ap (λ x. x.proc
 
 -- ---- put
 
-pub absent_spot : (m : Procedures) (a : Places) (number : ℕ) (i : Indicator) (q : ℕ) → IsDatabase m a number → number_of q ≡ number → clause_at m.entries i q ≡ None
+pub absent_spot : (m : Procedures) (a : Places) (number : ℕ) (i : Indicator) (q : ℕ) → IsDatabase m a number → position_number q ≡ number → clause_at m.entries i q ≡ None
 absent_spot m a number i q h e = go (clause_at m.entries i q) refl
   where
     go : (o : Option ClauseTerms) → clause_at m.entries i q ≡ o → o ≡ None
@@ -65,11 +65,11 @@ absent_spot m a number i q h e = go (clause_at m.entries i q) refl
         let lt = h.below number (ap is_some there) in
         absurd (omega arith)
 
-pub add_kept : (m n : Procedures) (a b : Places) (number : ℕ) (i : Indicator) (q : ℕ) (c : ClauseTerms) → IsDatabase m a number → number_of q ≡ number → IsOrdered indicator_cmp n
+pub add_kept : (m n : Procedures) (a b : Places) (number : ℕ) (i : Indicator) (q : ℕ) (c : ClauseTerms) → IsDatabase m a number → position_number q ≡ number → IsOrdered indicator_cmp n
     → ((j : Indicator) (p : ℕ) → clause_at n.entries j p ≡ cond (is_spot i q j p) (Some c) (clause_at m.entries j p)) → ((k : ℕ) → get nat_cmp b k ≡ cond (pos_at number k) (Some (place i q)) (get nat_cmp a k))
     → IsDatabase n b (number + 1)
 add_kept m n a b number i q c h e ordered clauses places = record {
-  kept = record { ordered = ordered; placed = placed; there = there };
+  kept = record { ordered = ordered; placed_clause = placed_clause; there = there };
   below = below;
 }
   where
@@ -80,26 +80,26 @@ add_kept m n a b number i q c h e ordered clauses places = record {
         by false f = refl
         by true f = let same = at_same number k f in let lt = h.below k s in absurd (omega arith)
 
-    placed : (j : Indicator) (p : ℕ) → IsSome (clause_at n.entries j p) → get nat_cmp b (number_of p) ≡ Some (place j p)
-    placed j p s = by (is_spot i q j p) refl (subst IsSome (clauses j p) s)
+    placed_clause : (j : Indicator) (p : ℕ) → IsSome (clause_at n.entries j p) → get nat_cmp b (position_number p) ≡ Some (place j p)
+    placed_clause j p s = by (is_spot i q j p) refl (subst IsSome (clauses j p) s)
       where
-        by : (x : Bool) → is_spot i q j p ≡ x → IsSome (cond x (Some c) (clause_at m.entries j p)) → get nat_cmp b (number_of p) ≡ Some (place j p)
+        by : (x : Bool) → is_spot i q j p ≡ x → IsSome (cond x (Some c) (clause_at m.entries j p)) → get nat_cmp b (position_number p) ≡ Some (place j p)
         by true f t =
             let same = spot_is i j q p f in
-            let here : number ≡ number_of p = sym e ∙ ap number_of same.1 in
-            places (number_of p) ∙ (ap (λ x. cond x (Some (place i q)) (get nat_cmp a (number_of p))) (ap (λ k. pos_at k (number_of p)) here ∙ pos_self (number_of p)) ∙ ap₂ (λ (x : Indicator) (y : ℕ). Some (place x y)) same.0 same.1)
+            let here : number ≡ position_number p = sym e ∙ ap position_number same.1 in
+            places (position_number p) ∙ (ap (λ x. cond x (Some (place i q)) (get nat_cmp a (position_number p))) (ap (λ k. pos_at k (position_number p)) here ∙ pos_self (position_number p)) ∙ ap₂ (λ (x : Indicator) (y : ℕ). Some (place x y)) same.0 same.1)
         by false f t =
             let old = h.kept.placed j p t in
-            places (number_of p) ∙ (ap (λ x. cond x (Some (place i q)) (get nat_cmp a (number_of p))) (other (number_of p) (ap is_some old)) ∙ old)
+            places (position_number p) ∙ (ap (λ x. cond x (Some (place i q)) (get nat_cmp a (position_number p))) (other (position_number p) (ap is_some old)) ∙ old)
 
-    there : (k : ℕ) (x : Place) → get nat_cmp b k ≡ Some x → IsSome (clause_at n.entries x.procedure x.position) × (number_of x.position ≡ k)
+    there : (k : ℕ) (x : Place) → get nat_cmp b k ≡ Some x → IsSome (clause_at n.entries x.procedure x.position) × (position_number x.position ≡ k)
     there k x s = by (pos_at number k) refl (sym (places k) ∙ s)
       where
-        by : (y : Bool) → pos_at number k ≡ y → cond y (Some (place i q)) (get nat_cmp a k) ≡ Some x → IsSome (clause_at n.entries x.procedure x.position) × (number_of x.position ≡ k)
+        by : (y : Bool) → pos_at number k ≡ y → cond y (Some (place i q)) (get nat_cmp a k) ≡ Some x → IsSome (clause_at n.entries x.procedure x.position) × (position_number x.position ≡ k)
         by true f t =
             let same : place i q ≡ x = cc in
             let at_it : IsSome (clause_at n.entries i q) = subst IsSome (sym (clauses i q ∙ ap (λ z. cond z (Some c) (clause_at m.entries i q)) (spot_self i q))) refl in
-            subst (λ (z : Place). IsSome (clause_at n.entries z.procedure z.position) × (number_of z.position ≡ k)) same (at_it, e ∙ at_same number k f)
+            subst (λ (z : Place). IsSome (clause_at n.entries z.procedure z.position) × (position_number z.position ≡ k)) same (at_it, e ∙ at_same number k f)
         by false f t =
             let old = h.kept.there k x t in
             (subst IsSome (sym (clauses x.procedure x.position)) (some_spot (is_spot i q x.procedure x.position) c (clause_at m.entries x.procedure x.position) old.0), old.1)
@@ -117,7 +117,7 @@ pub database_same : (m n : Procedures) (a b : Places) (number : ℕ) → IsDatab
 database_same m n a b number h ordered clauses places = record {
   kept = record {
     ordered = ordered;
-    placed = λ j p s. places (number_of p) ∙ h.kept.placed j p (subst IsSome (clauses j p) s);
+    placed_clause = λ j p s. places (position_number p) ∙ h.kept.placed j p (subst IsSome (clauses j p) s);
     there = λ k x s. let old = h.kept.there k x (sym (places k) ∙ s) in (subst IsSome (sym (clauses x.procedure x.position)) old.0, old.1);
   };
   below = λ k s. h.below k (subst IsSome (places k) s);
@@ -138,43 +138,43 @@ place_undone m a b d number x h made gone k = gone k ∙ go (pos_at number k) re
 
 -- ---- taken
 
-pub remove_kept : (m n : Procedures) (a b : Places) (number : ℕ) (x : Place) → IsPlaced m a → get nat_cmp a number ≡ Some x → IsOrdered indicator_cmp n
-    → ((j : Indicator) (p : ℕ) → clause_at n.entries j p ≡ cond (is_spot x.procedure x.position j p) None (clause_at m.entries j p)) → ((k : ℕ) → get nat_cmp b k ≡ cond (pos_at number k) None (get nat_cmp a k)) → IsPlaced n b
-remove_kept m n a b number x h here ordered clauses places = record { ordered = ordered; placed = placed; there = there }
+pub remove_kept : (m n : Procedures) (a b : Places) (number : ℕ) (x : Place) → HavePlaces m a → get nat_cmp a number ≡ Some x → IsOrdered indicator_cmp n
+    → ((j : Indicator) (p : ℕ) → clause_at n.entries j p ≡ cond (is_spot x.procedure x.position j p) None (clause_at m.entries j p)) → ((k : ℕ) → get nat_cmp b k ≡ cond (pos_at number k) None (get nat_cmp a k)) → HavePlaces n b
+remove_kept m n a b number x h here ordered clauses places = record { ordered = ordered; placed_clause = placed_clause; there = there }
   where
-    placed : (j : Indicator) (p : ℕ) → IsSome (clause_at n.entries j p) → get nat_cmp b (number_of p) ≡ Some (place j p)
-    placed j p s = by (is_spot x.procedure x.position j p) refl (subst IsSome (clauses j p) s)
+    placed_clause : (j : Indicator) (p : ℕ) → IsSome (clause_at n.entries j p) → get nat_cmp b (position_number p) ≡ Some (place j p)
+    placed_clause j p s = by (is_spot x.procedure x.position j p) refl (subst IsSome (clauses j p) s)
       where
-        by : (y : Bool) → is_spot x.procedure x.position j p ≡ y → IsSome (cond y None (clause_at m.entries j p)) → get nat_cmp b (number_of p) ≡ Some (place j p)
+        by : (y : Bool) → is_spot x.procedure x.position j p ≡ y → IsSome (cond y None (clause_at m.entries j p)) → get nat_cmp b (position_number p) ≡ Some (place j p)
         by true f t = absurd cc
-        by false f t = places (number_of p) ∙ (ap (λ z. cond z None (get nat_cmp a (number_of p))) (other (pos_at number (number_of p)) refl) ∙ old)
+        by false f t = places (position_number p) ∙ (ap (λ z. cond z None (get nat_cmp a (position_number p))) (other (pos_at number (position_number p)) refl) ∙ old)
           where
-            old : get nat_cmp a (number_of p) ≡ Some (place j p)
+            old : get nat_cmp a (position_number p) ≡ Some (place j p)
             old = h.placed j p t
 
-            other : (z : Bool) → pos_at number (number_of p) ≡ z → z ≡ false
+            other : (z : Bool) → pos_at number (position_number p) ≡ z → z ≡ false
             other false g = refl
             other true g =
-                let same : Some x ≡ Some (place j p) = sym here ∙ (ap (get nat_cmp a) (at_same number (number_of p) g) ∙ old) in
+                let same : Some x ≡ Some (place j p) = sym here ∙ (ap (get nat_cmp a) (at_same number (position_number p) g) ∙ old) in
                 let parts = place_same x.procedure j x.position p same in
                 let yes : is_spot x.procedure x.position j p ≡ true = ap₂ (λ u v. is_spot x.procedure x.position u v) (sym parts.0) (sym parts.1) ∙ spot_self x.procedure x.position in
                 absurd (no_way (sym yes ∙ f))
 
-    there : (k : ℕ) (y : Place) → get nat_cmp b k ≡ Some y → IsSome (clause_at n.entries y.procedure y.position) × (number_of y.position ≡ k)
+    there : (k : ℕ) (y : Place) → get nat_cmp b k ≡ Some y → IsSome (clause_at n.entries y.procedure y.position) × (position_number y.position ≡ k)
     there k y s = by (pos_at number k) refl (sym (places k) ∙ s)
       where
-        by : (z : Bool) → pos_at number k ≡ z → cond z None (get nat_cmp a k) ≡ Some y → IsSome (clause_at n.entries y.procedure y.position) × (number_of y.position ≡ k)
+        by : (z : Bool) → pos_at number k ≡ z → cond z None (get nat_cmp a k) ≡ Some y → IsSome (clause_at n.entries y.procedure y.position) × (position_number y.position ≡ k)
         by true f t = absurd cc
         by false f t = (subst IsSome (sym (clauses y.procedure y.position)) (stays (is_spot x.procedure x.position y.procedure y.position) refl), old.1)
           where
-            old : IsSome (clause_at m.entries y.procedure y.position) × (number_of y.position ≡ k)
+            old : IsSome (clause_at m.entries y.procedure y.position) × (position_number y.position ≡ k)
             old = h.there k y t
 
             stays : (z : Bool) → is_spot x.procedure x.position y.procedure y.position ≡ z → IsSome (cond z None (clause_at m.entries y.procedure y.position))
             stays false g = old.0
             stays true g =
                 let same = spot_is x.procedure y.procedure x.position y.position g in
-                let number_is : number ≡ k = sym (h.there number x here).1 ∙ (ap number_of same.1 ∙ old.1) in
+                let number_is : number ≡ k = sym (h.there number x here).1 ∙ (ap position_number same.1 ∙ old.1) in
                 absurd (no_way (sym (ap (pos_at number) (sym number_is) ∙ pos_self number) ∙ f))
 
 -- fewer numbers
@@ -187,13 +187,13 @@ fewer a b test places k s = go (test k) (subst IsSome (places k) s)
 
 -- ---- numbers of clauses
 
-module _ (m : Procedures) (a : Places) (h : IsPlaced m a) (number : ℕ) where
+module _ (m : Procedures) (a : Places) (h : HavePlaces m a) (number : ℕ) where
   -- the clauses of a procedure have their places
-  own_place : (e : Indicator × Placed) (q : ℕ) → lookup (is_at (indicator_cmp e.0)) m.entries ≡ Some e.1 → IsSome (lookup (pos_at q) e.1) → get nat_cmp a (number_of q) ≡ Some (place e.0 q)
+  own_place : (e : Indicator × Placed) (q : ℕ) → lookup (is_at (indicator_cmp e.0)) m.entries ≡ Some e.1 → IsSome (lookup (pos_at q) e.1) → get nat_cmp a (position_number q) ≡ Some (place e.0 q)
   own_place e q own s = h.placed e.0 q (subst (λ o. IsSome (clause_in o q)) (sym own) s)
 
   abbrev Numbers : (ℕ → Bool) → Placed → Type 0
-  Numbers test ps = AllByRecursion (λ d. (number_of d.0 == number) ≡ test d.0) ps
+  Numbers test ps = AllByRecursion (λ d. (position_number d.0 == number) ≡ test d.0) ps
 
   -- by a test of positions
   any_by : (test : ℕ → Bool) (ps : Placed) → Numbers test ps → list_any (λ c. c.number == number) (numbered_clauses ps) ≡ list_any (λ d. test d.0) ps
@@ -202,7 +202,7 @@ module _ (m : Procedures) (a : Places) (h : IsPlaced m a) (number : ℕ) where
 
   kept_by : (test : ℕ → Bool) (ps : Placed) → Numbers test ps → numbered_clauses (filter (λ d. not (test d.0)) ps) ≡ filter (λ c. not (c.number == number)) (numbered_clauses ps)
   kept_by test [] f = refl
-  kept_by test (d ∷ ps) f = go (test d.0) (number_of d.0 == number) f.0 (kept_by test ps f.1)
+  kept_by test (d ∷ ps) f = go (test d.0) (position_number d.0 == number) f.0 (kept_by test ps f.1)
     where
       go : (x y : Bool) → y ≡ x → numbered_clauses (filter (λ d. not (test d.0)) ps) ≡ filter (λ c. not (c.number == number)) (numbered_clauses ps)
           → numbered_clauses (cond (not x) (d ∷ filter (λ d. not (test d.0)) ps) (filter (λ d. not (test d.0)) ps)) ≡ cond (not y) (numbered_entry d ∷ filter (λ c. not (c.number == number)) (numbered_clauses ps)) (filter (λ c. not (c.number == number)) (numbered_clauses ps))
@@ -223,13 +223,13 @@ module _ (m : Procedures) (a : Places) (h : IsPlaced m a) (number : ℕ) where
   module _ (none : get nat_cmp a number ≡ None) where
     no_numbers : (e : Indicator × Placed) (ds : Placed) → lookup (is_at (indicator_cmp e.0)) m.entries ≡ Some e.1 → AllByRecursion (λ d. IsSome (lookup (pos_at d.0) e.1)) ds → Numbers (λ q. false) ds
     no_numbers e [] own s = tt
-    no_numbers e (d ∷ ds) own s = (go (number_of d.0 == number) refl, no_numbers e ds own s.1)
+    no_numbers e (d ∷ ds) own s = (go (position_number d.0 == number) refl, no_numbers e ds own s.1)
       where
-        go : (x : Bool) → (number_of d.0 == number) ≡ x → x ≡ false
+        go : (x : Bool) → (position_number d.0 == number) ≡ x → x ≡ false
         go false f = refl
         go true f =
             let there = own_place e d.0 own s.0 in
-            let gone : get nat_cmp a (number_of d.0) ≡ None = ap (get nat_cmp a) (same_number (number_of d.0) number f) ∙ none in
+            let gone : get nat_cmp a (position_number d.0) ≡ None = ap (get nat_cmp a) (same_number (position_number d.0) number f) ∙ none in
             absurd (none_some gone (ap is_some there))
 
     none_in : (es : Entries) → AllByRecursion (λ e. lookup (is_at (indicator_cmp e.0)) m.entries ≡ Some e.1) es → list_any (has_number number) (procedures_meant es) ≡ false
@@ -243,19 +243,19 @@ module _ (m : Procedures) (a : Places) (h : IsPlaced m a) (number : ℕ) where
   module _ (x : Place) (here : get nat_cmp a number ≡ Some x) where
     spot_numbers : (e : Indicator × Placed) (ds : Placed) → lookup (is_at (indicator_cmp e.0)) m.entries ≡ Some e.1 → AllByRecursion (λ d. IsSome (lookup (pos_at d.0) e.1)) ds → Numbers (λ q. is_spot x.procedure x.position e.0 q) ds
     spot_numbers e [] own s = tt
-    spot_numbers e (d ∷ ds) own s = (go (number_of d.0 == number) (is_spot x.procedure x.position e.0 d.0) refl refl, spot_numbers e ds own s.1)
+    spot_numbers e (d ∷ ds) own s = (go (position_number d.0 == number) (is_spot x.procedure x.position e.0 d.0) refl refl, spot_numbers e ds own s.1)
       where
-        go : (y z : Bool) → (number_of d.0 == number) ≡ y → is_spot x.procedure x.position e.0 d.0 ≡ z → y ≡ z
+        go : (y z : Bool) → (position_number d.0 == number) ≡ y → is_spot x.procedure x.position e.0 d.0 ≡ z → y ≡ z
         go true true f g = refl
         go false false f g = refl
         go true false f g =
-            let same : Some x ≡ Some (place e.0 d.0) = sym here ∙ (ap (get nat_cmp a) (sym (same_number (number_of d.0) number f)) ∙ own_place e d.0 own s.0) in
+            let same : Some x ≡ Some (place e.0 d.0) = sym here ∙ (ap (get nat_cmp a) (sym (same_number (position_number d.0) number f)) ∙ own_place e d.0 own s.0) in
             let parts = place_same x.procedure e.0 x.position d.0 same in
             let yes : is_spot x.procedure x.position e.0 d.0 ≡ true = ap₂ (λ u v. is_spot x.procedure x.position u v) (sym parts.0) (sym parts.1) ∙ spot_self x.procedure x.position in
             absurd (no_way (sym yes ∙ g))
         go false true f g =
             let same = spot_is x.procedure e.0 x.position d.0 g in
-            let is : number_of d.0 ≡ number = ap number_of (sym same.1) ∙ (h.there number x here).1 in
+            let is : position_number d.0 ≡ number = ap position_number (sym same.1) ∙ (h.there number x here).1 in
             absurd (no_way (sym (ap (λ k. k == number) is ∙ number_same number) ∙ f))
 
     without_one : (e : Indicator × Placed) → lookup (is_at (indicator_cmp e.0)) m.entries ≡ Some e.1
@@ -275,7 +275,7 @@ module _ (m : Procedures) (a : Places) (h : IsPlaced m a) (number : ℕ) where
 
 -- ---- clauses with a number
 
-pub numbered_there : (q : ℕ) (ps : Placed) → IsSome (lookup (pos_at q) ps) → has_numbered ps (number_of q) ≡ true
+pub numbered_there : (q : ℕ) (ps : Placed) → IsSome (lookup (pos_at q) ps) → has_numbered ps (position_number q) ≡ true
 numbered_there q [] s = absurd cc
 numbered_there q (d ∷ ps) s = go (pos_at q d.0) refl s (numbered_there q ps)
   where
@@ -283,16 +283,16 @@ numbered_there q (d ∷ ps) s = go (pos_at q d.0) refl s (numbered_there q ps)
     or_true true y e = refl
     or_true false y e = e
 
-    go : (b : Bool) → pos_at q d.0 ≡ b → IsSome (cond b (Some d.1) (lookup (pos_at q) ps)) → (IsSome (lookup (pos_at q) ps) → has_numbered ps (number_of q) ≡ true) → (number_of d.0 == number_of q) || has_numbered ps (number_of q) ≡ true
-    go true e t r = ap (λ x. x || has_numbered ps (number_of q)) (ap (λ k. number_of k == number_of q) (sym (at_same q d.0 e)) ∙ number_same (number_of q))
-    go false e t r = or_true (number_of d.0 == number_of q) (has_numbered ps (number_of q)) (r t)
+    go : (b : Bool) → pos_at q d.0 ≡ b → IsSome (cond b (Some d.1) (lookup (pos_at q) ps)) → (IsSome (lookup (pos_at q) ps) → has_numbered ps (position_number q) ≡ true) → (position_number d.0 == position_number q) || has_numbered ps (position_number q) ≡ true
+    go true e t r = ap (λ x. x || has_numbered ps (position_number q)) (ap (λ k. position_number k == position_number q) (sym (at_same q d.0 e)) ∙ number_same (position_number q))
+    go false e t r = or_true (position_number d.0 == position_number q) (has_numbered ps (position_number q)) (r t)
 
-pub numbered_found : (k : ℕ) (ps ds : Placed) → AllByRecursion (λ d. IsSome (lookup (pos_at d.0) ps)) ds → has_numbered ds k ≡ true → (q : ℕ) × (IsSome (lookup (pos_at q) ps)) × (number_of q ≡ k)
+pub numbered_found : (k : ℕ) (ps ds : Placed) → AllByRecursion (λ d. IsSome (lookup (pos_at d.0) ps)) ds → has_numbered ds k ≡ true → (q : ℕ) × (IsSome (lookup (pos_at q) ps)) × (position_number q ≡ k)
 numbered_found k ps [] s e = absurd cc
-numbered_found k ps (d ∷ ds) s e = go (number_of d.0 == k) refl e (numbered_found k ps ds s.1)
+numbered_found k ps (d ∷ ds) s e = go (position_number d.0 == k) refl e (numbered_found k ps ds s.1)
   where
-    go : (x : Bool) → (number_of d.0 == k) ≡ x → (x || has_numbered ds k) ≡ true → (has_numbered ds k ≡ true → (q : ℕ) × (IsSome (lookup (pos_at q) ps)) × (number_of q ≡ k)) → (q : ℕ) × (IsSome (lookup (pos_at q) ps)) × (number_of q ≡ k)
-    go true f t r = (d.0, s.0, same_number (number_of d.0) k f)
+    go : (x : Bool) → (position_number d.0 == k) ≡ x → (x || has_numbered ds k) ≡ true → (has_numbered ds k ≡ true → (q : ℕ) × (IsSome (lookup (pos_at q) ps)) × (position_number q ≡ k)) → (q : ℕ) × (IsSome (lookup (pos_at q) ps)) × (position_number q ≡ k)
+    go true f t r = (d.0, s.0, same_number (position_number d.0) k f)
     go false f t r = r t
 
 any_entry : (number : ℕ) (i : Indicator) (es : Entries) (ps : Placed) → lookup (is_at (indicator_cmp i)) es ≡ Some ps → list_any (λ c. c.number == number) (numbered_clauses ps) ≡ true → list_any (has_number number) (procedures_meant es) ≡ true
@@ -310,50 +310,50 @@ any_entry number i (e ∷ es) ps l t = go (is_at (indicator_cmp i) e.0) l (any_e
 
 numbered_any : (ps : Placed) (k : ℕ) → list_any (λ c. c.number == k) (numbered_clauses ps) ≡ has_numbered ps k
 numbered_any [] k = refl
-numbered_any (d ∷ ps) k = ap (λ x. (number_of d.0 == k) || x) (numbered_any ps k)
+numbered_any (d ∷ ps) k = ap (λ x. (position_number d.0 == k) || x) (numbered_any ps k)
 
-pub any_numbered : (m : Procedures) (a : Places) (number : ℕ) (x : Place) → IsPlaced m a → get nat_cmp a number ≡ Some x → list_any (has_number number) (procedures_meant m.entries) ≡ true
+pub any_numbered : (m : Procedures) (a : Places) (number : ℕ) (x : Place) → HavePlaces m a → get nat_cmp a number ≡ Some x → list_any (has_number number) (procedures_meant m.entries) ≡ true
 any_numbered m a number x h here = go (lookup (is_at (indicator_cmp x.procedure)) m.entries) refl (h.there number x here)
   where
-    go : (o : Option Placed) → lookup (is_at (indicator_cmp x.procedure)) m.entries ≡ o → IsSome (clause_in o x.position) × (number_of x.position ≡ number) → list_any (has_number number) (procedures_meant m.entries) ≡ true
+    go : (o : Option Placed) → lookup (is_at (indicator_cmp x.procedure)) m.entries ≡ o → IsSome (clause_in o x.position) × (position_number x.position ≡ number) → list_any (has_number number) (procedures_meant m.entries) ≡ true
     go None l t = absurd (none_some {X = ClauseTerms} {o = None} refl t.0)
     go (Some ps) l t = any_entry number x.procedure m.entries ps l (numbered_any ps number ∙ (ap (has_numbered ps) (sym t.1) ∙ numbered_there x.position ps t.0))
 
 -- ---- a whole procedure taken away
 
-pub abolish_kept : (m n : Procedures) (a b : Places) (i : Indicator) (ps : Placed) → IsPlaced m a → IsOrdered indicator_cmp n → Some ps ≡ get indicator_cmp m i → ((j : Indicator) → get indicator_cmp n j ≡ cond (is_at (indicator_cmp i) j) None (get indicator_cmp m j))
-    → ((k : ℕ) → get nat_cmp b k ≡ cond (has_numbered ps k) None (get nat_cmp a k)) → IsPlaced n b
-abolish_kept m n a b i ps h ordered known procedures places = record { ordered = ordered; placed = placed; there = there }
+pub abolish_kept : (m n : Procedures) (a b : Places) (i : Indicator) (ps : Placed) → HavePlaces m a → IsOrdered indicator_cmp n → Some ps ≡ get indicator_cmp m i → ((j : Indicator) → get indicator_cmp n j ≡ cond (is_at (indicator_cmp i) j) None (get indicator_cmp m j))
+    → ((k : ℕ) → get nat_cmp b k ≡ cond (has_numbered ps k) None (get nat_cmp a k)) → HavePlaces n b
+abolish_kept m n a b i ps h ordered known procedures places = record { ordered = ordered; placed_clause = placed_clause; there = there }
   where
-    own : (q : ℕ) → IsSome (lookup (pos_at q) ps) → get nat_cmp a (number_of q) ≡ Some (place i q)
+    own : (q : ℕ) → IsSome (lookup (pos_at q) ps) → get nat_cmp a (position_number q) ≡ Some (place i q)
     own q s = h.placed i q (subst (λ o. IsSome (clause_in o q)) known s)
 
-    placed : (j : Indicator) (p : ℕ) → IsSome (clause_at n.entries j p) → get nat_cmp b (number_of p) ≡ Some (place j p)
-    placed j p s = by (is_at (indicator_cmp i) j) refl (subst (λ o. IsSome (clause_in o p)) (procedures j) s)
+    placed_clause : (j : Indicator) (p : ℕ) → IsSome (clause_at n.entries j p) → get nat_cmp b (position_number p) ≡ Some (place j p)
+    placed_clause j p s = by (is_at (indicator_cmp i) j) refl (subst (λ o. IsSome (clause_in o p)) (procedures j) s)
       where
-        by : (x : Bool) → is_at (indicator_cmp i) j ≡ x → IsSome (clause_in (cond x None (get indicator_cmp m j)) p) → get nat_cmp b (number_of p) ≡ Some (place j p)
+        by : (x : Bool) → is_at (indicator_cmp i) j ≡ x → IsSome (clause_in (cond x None (get indicator_cmp m j)) p) → get nat_cmp b (position_number p) ≡ Some (place j p)
         by true f t = absurd cc
-        by false f t = places (number_of p) ∙ (ap (λ x. cond x None (get nat_cmp a (number_of p))) (other (has_numbered ps (number_of p)) refl) ∙ old)
+        by false f t = places (position_number p) ∙ (ap (λ x. cond x None (get nat_cmp a (position_number p))) (other (has_numbered ps (position_number p)) refl) ∙ old)
           where
-            old : get nat_cmp a (number_of p) ≡ Some (place j p)
+            old : get nat_cmp a (position_number p) ≡ Some (place j p)
             old = h.placed j p t
 
-            other : (z : Bool) → has_numbered ps (number_of p) ≡ z → z ≡ false
+            other : (z : Bool) → has_numbered ps (position_number p) ≡ z → z ≡ false
             other false g = refl
             other true g =
-                let found = numbered_found (number_of p) ps ps (some_each ps) g in
+                let found = numbered_found (position_number p) ps ps (some_each ps) g in
                 let same : Some (place i found.0) ≡ Some (place j p) = sym (own found.0 found.1) ∙ (ap (get nat_cmp a) found.2 ∙ old) in
                 let yes : is_at (indicator_cmp i) j ≡ true = ap (is_at (indicator_cmp i)) (sym (place_same i j found.0 p same).0) ∙ at_self i in
                 absurd (no_way (sym yes ∙ f))
 
-    there : (k : ℕ) (x : Place) → get nat_cmp b k ≡ Some x → IsSome (clause_at n.entries x.procedure x.position) × (number_of x.position ≡ k)
+    there : (k : ℕ) (x : Place) → get nat_cmp b k ≡ Some x → IsSome (clause_at n.entries x.procedure x.position) × (position_number x.position ≡ k)
     there k x s = by (has_numbered ps k) refl (sym (places k) ∙ s)
       where
-        by : (z : Bool) → has_numbered ps k ≡ z → cond z None (get nat_cmp a k) ≡ Some x → IsSome (clause_at n.entries x.procedure x.position) × (number_of x.position ≡ k)
+        by : (z : Bool) → has_numbered ps k ≡ z → cond z None (get nat_cmp a k) ≡ Some x → IsSome (clause_at n.entries x.procedure x.position) × (position_number x.position ≡ k)
         by true f t = absurd cc
         by false f t = (subst (λ o. IsSome (clause_in o x.position)) (sym (procedures x.procedure)) (stays (is_at (indicator_cmp i) x.procedure) refl), old.1)
           where
-            old : IsSome (clause_at m.entries x.procedure x.position) × (number_of x.position ≡ k)
+            old : IsSome (clause_at m.entries x.procedure x.position) × (position_number x.position ≡ k)
             old = h.there k x t
 
             stays : (z : Bool) → is_at (indicator_cmp i) x.procedure ≡ z → IsSome (clause_in (cond z None (get indicator_cmp m x.procedure)) x.position)
@@ -364,18 +364,18 @@ abolish_kept m n a b i ps h ordered known procedures places = record { ordered =
                 let yes : has_numbered ps k ≡ true = ap (has_numbered ps) (sym old.1) ∙ numbered_there x.position ps s in
                 absurd (no_way (sym yes ∙ f))
 
-pub placed_same : (m n : Procedures) (a : Places) → IsPlaced m a → IsOrdered indicator_cmp n → n.entries ≡ m.entries → IsPlaced n a
+pub placed_same : (m n : Procedures) (a : Places) → HavePlaces m a → IsOrdered indicator_cmp n → n.entries ≡ m.entries → HavePlaces n a
 placed_same m n a h ordered same = record {
   ordered = ordered;
-  placed = λ j p s. h.placed j p (subst (λ (es : Entries). IsSome (clause_at es j p)) same s);
+  placed_clause = λ j p s. h.placed j p (subst (λ (es : Entries). IsSome (clause_at es j p)) same s);
   there = λ k x s. let old = h.there k x s in (subst (λ (es : Entries). IsSome (clause_at es x.procedure x.position)) (sym same) old.0, old.1);
 }
 
 -- no such place
-pub placed_none : (m : Procedures) (a b : Places) (number : ℕ) → IsPlaced m a → get nat_cmp a number ≡ None → ((k : ℕ) → get nat_cmp b k ≡ cond (pos_at number k) None (get nat_cmp a k)) → IsPlaced m b
+pub placed_none : (m : Procedures) (a b : Places) (number : ℕ) → HavePlaces m a → get nat_cmp a number ≡ None → ((k : ℕ) → get nat_cmp b k ≡ cond (pos_at number k) None (get nat_cmp a k)) → HavePlaces m b
 placed_none m a b number h none places = record {
   ordered = h.ordered;
-  placed = λ j p s. same (number_of p) ∙ h.placed j p s;
+  placed_clause = λ j p s. same (position_number p) ∙ h.placed j p s;
   there = λ k x s. h.there k x (sym (same k) ∙ s);
 }
   where
@@ -388,20 +388,20 @@ placed_none m a b number h none places = record {
 
 -- ---- the ends
 
-pub number_first : (n : ℕ) → n < middle → number_of (first_position n) ≡ n
+pub number_first : (n : ℕ) → n < middle → position_number (first_position n) ≡ n
 number_first n lt = let t : nat_lt (first_position n) middle ≡ true = grind (arith, nat_tests) in ap (λ b. cond b (first_position (first_position n)) (first_position n - middle)) t ∙ omega arith
 
-pub number_last : (n : ℕ) → number_of (last_position n) ≡ n
+pub number_last : (n : ℕ) → position_number (last_position n) ≡ n
 number_last n = let t : nat_lt (last_position n) middle ≡ false = grind (arith, nat_tests) in ap (λ b. cond b (first_position (last_position n)) (last_position n - middle)) t ∙ omega arith
 
-above_first : (q n : ℕ) → n < middle → number_of q < n → first_position n < q
+above_first : (q n : ℕ) → n < middle → position_number q < n → first_position n < q
 above_first q n lt h = go (nat_lt q middle) refl (subst (λ k. k < n) refl h)
   where
     go : (b : Bool) → nat_lt q middle ≡ b → cond b (first_position q) (q - middle) < n → first_position n < q
     go true e k = let l : q < middle = grind (arith, nat_tests) in omega arith
     go false e k = let l : middle ≤ q = grind (arith, nat_tests) in omega arith
 
-below_last : (q n : ℕ) → number_of q < n → q < last_position n
+below_last : (q n : ℕ) → position_number q < n → q < last_position n
 below_last q n h = go (nat_lt q middle) refl h
   where
     go : (b : Bool) → nat_lt q middle ≡ b → cond b (first_position q) (q - middle) < n → q < last_position n
@@ -421,15 +421,15 @@ numbered_snoc [] d = refl
 numbered_snoc (e ∷ ps) d = ap (λ cs. numbered_entry e ∷ cs) (numbered_snoc ps d)
 
 module _ (m : Procedures) (a : Places) (n : ℕ) (h : IsDatabase m a n) (i : Indicator) (ps : Placed) (known : lookup (is_at (indicator_cmp i)) m.entries ≡ Some ps) where
-  numbers_below : (ds : Placed) → AllByRecursion (λ d. IsSome (lookup (pos_at d.0) ps)) ds → AllByRecursion (λ d. number_of d.0 < n) ds
+  numbers_below : (ds : Placed) → AllByRecursion (λ d. IsSome (lookup (pos_at d.0) ps)) ds → AllByRecursion (λ d. position_number d.0 < n) ds
   numbers_below [] s = tt
-  numbers_below (d ∷ ds) s = (h.below (number_of d.0) (ap is_some (h.kept.placed i d.0 (subst (λ o. IsSome (clause_in o d.0)) (sym known) s.0))), numbers_below ds s.1)
+  numbers_below (d ∷ ds) s = (h.below (position_number d.0) (ap is_some (h.kept.placed i d.0 (subst (λ o. IsSome (clause_in o d.0)) (sym known) s.0))), numbers_below ds s.1)
 
-  all_above : (ds : Placed) → n < middle → AllByRecursion (λ d. number_of d.0 < n) ds → AllByRecursion (λ d. first_position n < d.0) ds
+  all_above : (ds : Placed) → n < middle → AllByRecursion (λ d. position_number d.0 < n) ds → AllByRecursion (λ d. first_position n < d.0) ds
   all_above [] lt s = tt
   all_above (d ∷ ds) lt s = (above_first d.0 n lt s.0, all_above ds lt s.1)
 
-  all_below : (ds : Placed) → AllByRecursion (λ d. number_of d.0 < n) ds → AllByRecursion (λ d. d.0 < last_position n) ds
+  all_below : (ds : Placed) → AllByRecursion (λ d. position_number d.0 < n) ds → AllByRecursion (λ d. d.0 < last_position n) ds
   all_below [] s = tt
   all_below (d ∷ ds) s = (below_last d.0 n s.0, all_below ds s.1)
 

@@ -22,7 +22,7 @@ use Rattle.proc_index.specs.ProcedureIndex.{key_cmp}
 use Rattle.proc_index.proofs.KeyLemmas.{all_match, key_tied, match_by_key}
 use Rattle.dyn_clauses.specs.declared.procedure.Kept.{Kept}
 use Rattle.dyn_clauses.specs.PositionIndex.{Index, Placed, entry_at, is_in, is_noted, matching_clauses, picked}
-use Rattle.dyn_clauses.specs.KeptClauses.{IsProcedure, clause_kept, is_keyed, placed, placed_entry}
+use Rattle.dyn_clauses.specs.KeptClauses.{IsProcedure, clause_kept, is_keyed, placed_clause, placed_entry}
 use Rattle.dyn_clauses.proofs.EntryLemmas.{all_found, lookup_mapped}
 
 -- ---- a key that stands for all
@@ -113,7 +113,7 @@ keys_placed : (es : List (ℕ × Kept)) → keys_of (map placed_entry es) ≡ ke
 keys_placed [] = refl
 keys_placed (e ∷ es) = ap (λ ks. e.0 ∷ ks) (keys_placed es)
 
-pub sorted_placed : (m : BTreeMap ℕ Kept) → IsStrictlySortedBy nat_cmp (keys_of m.entries) → IsStrictlySortedBy nat_cmp (keys_of (placed m))
+pub sorted_placed : (m : BTreeMap ℕ Kept) → IsStrictlySortedBy nat_cmp (keys_of m.entries) → IsStrictlySortedBy nat_cmp (keys_of (placed_clause m))
 sorted_placed m s = subst (IsStrictlySortedBy nat_cmp) (sym (keys_placed m.entries)) s
 
 module _ (m : BTreeMap ℕ Kept) (i : Index) (key : Key) (h : IsProcedure m i) (a : is_any key ≡ false) where
@@ -130,10 +130,10 @@ module _ (m : BTreeMap ℕ Kept) (i : Index) (key : Key) (h : IsProcedure m i) (
       filtered true = refl
       filtered false = refl
 
-  pub picked_matching : (ps : List ℕ) → IsStrictlySortedBy nat_cmp ps → ((q : ℕ) → list_any (at q) ps ≡ (is_noted i Any q || is_noted i key q)) → picked ps (placed m) ≡ matching_clauses key (placed m)
+  pub picked_matching : (ps : List ℕ) → IsStrictlySortedBy nat_cmp ps → ((q : ℕ) → list_any (at q) ps ≡ (is_noted i Any q || is_noted i key q)) → picked ps (placed_clause m) ≡ matching_clauses key (placed_clause m)
   unfolding may
   picked_matching ps s noted =
-      picked_passing may (placed m) ps (sorted_placed m h.ordered) s (λ q.
+      picked_passing may (placed_clause m) ps (sorted_placed m h.ordered) s (λ q.
       noted q ∙ (ap₂ (λ x y. x || y) (h.indexed Any q) (h.indexed key q)
       ∙ (by_kept (get nat_cmp m q) (λ kept e. all_found (λ k. k.key ≡ head_key (clause_kept k).head) (at q) m.entries kept h.keyed e) ∙ ap (passes may) (sym (lookup_mapped clause_kept (at q) m.entries)))))
 

@@ -16,7 +16,7 @@ use Rattle.proc_index.specs.Keys.{head_key}
 use Rattle.proc_index.specs.ProcedureIndex.{key_cmp}
 use Rattle.dyn_clauses.specs.declared.procedure.Kept.{Kept}
 use Rattle.dyn_clauses.specs.PositionIndex.{Index, Placed, entry_at, is_noted, is_place, numbered_clauses, numbered_entry, picked, without_position}
-use Rattle.dyn_clauses.specs.KeptClauses.{IsProcedure, clause_kept, is_keyed, numbered_kept, placed, placed_entry}
+use Rattle.dyn_clauses.specs.KeptClauses.{IsProcedure, clause_kept, is_keyed, numbered_kept, placed_clause, placed_entry}
 use Rattle.dyn_clauses.proofs.EntryLemmas.{lookup_mapped, insert_mapped, remove_mapped, all_inserted, all_removed, none_mapped, some_mapped}
 
 abbrev Kepts : Type 0
@@ -28,7 +28,7 @@ RightKey kept = kept.key ≡ head_key (clause_kept kept).head
 pub at_same : (p q : ℕ) → is_at (nat_cmp p) q ≡ true → p ≡ q
 at_same p q e = same_number p q (unsigned_ties p q ∙ e)
 
-pub absent_is : (m : Kepts) (q : ℕ) → lookup (is_at (nat_cmp q)) (placed m) ≡ None → get nat_cmp m q ≡ None
+pub absent_is : (m : Kepts) (q : ℕ) → lookup (is_at (nat_cmp q)) (placed_clause m) ≡ None → get nat_cmp m q ≡ None
 absent_is m q e = none_mapped clause_kept (get nat_cmp m q) (sym (lookup_mapped clause_kept (is_at (nat_cmp q)) m.entries) ∙ e)
 
 module _ (m n : Kepts) (i j : Index) (q : ℕ) (key : Key) (h : IsProcedure m i) where
@@ -78,7 +78,7 @@ procedure_kept m n i j h same noted = record {
   indexed = λ k p. noted k p ∙ (h.indexed k p ∙ ap (λ (es : List (ℕ × Kept)). is_keyed (lookup (is_at (nat_cmp p)) es) k) (sym same));
 }
 
-pub put_placed : (m n : Kepts) (q : ℕ) (kept : Kept) → n.entries ≡ insert_entry nat_cmp m.entries q kept → placed n ≡ insert_entry nat_cmp (placed m) q (clause_kept kept)
+pub put_placed : (m n : Kepts) (q : ℕ) (kept : Kept) → n.entries ≡ insert_entry nat_cmp m.entries q kept → placed_clause n ≡ insert_entry nat_cmp (placed_clause m) q (clause_kept kept)
 put_placed m n q kept e = ap (map placed_entry) e ∙ insert_mapped clause_kept nat_cmp m.entries q kept
 
 none_at : (q : ℕ) (es : Placed) → AllByRecursion (λ k. nat_cmp q k ≡ Less) (keys_of es) → without_position q es ≡ es
@@ -99,13 +99,13 @@ keys_placed : (es : List (ℕ × Kept)) → keys_of (map placed_entry es) ≡ ke
 keys_placed [] = refl
 keys_placed (e ∷ es) = ap (λ ks. e.0 ∷ ks) (keys_placed es)
 
-pub sorted_placed : (m : Kepts) → IsStrictlySortedBy nat_cmp (keys_of m.entries) → IsStrictlySortedBy nat_cmp (keys_of (placed m))
+pub sorted_placed : (m : Kepts) → IsStrictlySortedBy nat_cmp (keys_of m.entries) → IsStrictlySortedBy nat_cmp (keys_of (placed_clause m))
 sorted_placed m s = subst (IsStrictlySortedBy nat_cmp) (sym (keys_placed m.entries)) s
 
-pub take_placed : (m n : Kepts) (q : ℕ) → IsOrdered nat_cmp m → n.entries ≡ remove_entry (is_at (nat_cmp q)) m.entries → placed n ≡ without_position q (placed m)
-take_placed m n q s e = ap (map placed_entry) e ∙ (remove_mapped clause_kept (is_at (nat_cmp q)) m.entries ∙ removed_is q (placed m) (sorted_placed m s))
+pub take_placed : (m n : Kepts) (q : ℕ) → IsOrdered nat_cmp m → n.entries ≡ remove_entry (is_at (nat_cmp q)) m.entries → placed_clause n ≡ without_position q (placed_clause m)
+take_placed m n q s e = ap (map placed_entry) e ∙ (remove_mapped clause_kept (is_at (nat_cmp q)) m.entries ∙ removed_is q (placed_clause m) (sorted_placed m s))
 
-pub found_placed : (m : Kepts) (q : ℕ) → is_some (lookup (is_at (nat_cmp q)) (placed m)) ≡ is_some (get nat_cmp m q)
+pub found_placed : (m : Kepts) (q : ℕ) → is_some (lookup (is_at (nat_cmp q)) (placed_clause m)) ≡ is_some (get nat_cmp m q)
 found_placed m q = ap is_some (lookup_mapped clause_kept (is_at (nat_cmp q)) m.entries) ∙ some_mapped clause_kept (get nat_cmp m q)
 
 -- ---- clauses one after another
@@ -136,8 +136,8 @@ picked_push ys p es =
     ap (λ ps. numbered_clauses (picked ps es)) (deref_push ys p)
     ∙ (ap numbered_clauses (picked_append (map deref ys) (p.now ∷ []) es) ∙ numbered_append (picked (map deref ys) es) (picked (p.now ∷ []) es))
 
-pub picked_one : (m : Kepts) (q : ℕ) (kept : Kept) → Some kept ≡ get nat_cmp m q → picked (q ∷ []) (placed m) ≡ (q, clause_kept kept) ∷ []
+pub picked_one : (m : Kepts) (q : ℕ) (kept : Kept) → Some kept ≡ get nat_cmp m q → picked (q ∷ []) (placed_clause m) ≡ (q, clause_kept kept) ∷ []
 picked_one m q kept e = ap (λ o. entry_at q o ++ []) (lookup_mapped clause_kept (is_at (nat_cmp q)) m.entries ∙ ap (option_map clause_kept) (sym e))
 
-pub picked_none : (m : Kepts) (q : ℕ) → None ≡ get nat_cmp m q → picked (q ∷ []) (placed m) ≡ []
+pub picked_none : (m : Kepts) (q : ℕ) → None ≡ get nat_cmp m q → picked (q ∷ []) (placed_clause m) ≡ []
 picked_none m q e = ap (λ o. entry_at q o ++ []) (lookup_mapped clause_kept (is_at (nat_cmp q)) m.entries ∙ ap (option_map clause_kept) (sym e))

@@ -11,7 +11,7 @@ use Rattle.run_model.specs.Programs.Clauses.{Clause as ClauseTerms}
 use Rattle.run_model.specs.Programs.Databases.{NumberedClause, DynamicProcedure, Database}
 use Rattle.proc_index.specs.declared.key.Key.{Key}
 use Rattle.proc_index.specs.Keys.{may_match}
-use Rattle.dyn_clauses.specs.PositionIndex.{Placed, number_of, numbered_clauses, without_position}
+use Rattle.dyn_clauses.specs.PositionIndex.{Placed, position_number, numbered_clauses, without_position}
 use Rattle.dyn_clauses.specs.KeptClauses.{shown}
 use Rattle.dyn_clauses.specs.declared.indicator.Indicator.{Indicator}
 use Rattle.dyn_clauses.specs.contracts.indicator.IndicatorOrd.TheImpl as indicator_ord
@@ -55,15 +55,19 @@ clause_at es i q = clause_in (lookup (is_at (indicator_cmp i)) es) q
 abbrev pub is_spot : Indicator → ℕ → Indicator → ℕ → Bool
 is_spot i q j p = is_at (indicator_cmp i) j && is_at (nat_cmp q) p
 
+-- a procedure has this clause at a position, or none, and all else is as it was
+abbrev pub ChangesSpot : Entries → Entries → Indicator → ℕ → Option ClauseTerms → Type 0
+ChangesSpot old new procedure position clause = (i : Indicator) (q : ℕ) → clause_at new i q ≡ cond (is_spot procedure position i q) clause (clause_at old i q)
+
 -- each clause has its place under its number, and each place has a clause
-pub record IsPlaced (procedures : BTreeMap Indicator Placed) (places : BTreeMap ℕ Place) : Type 0 where
+pub record HavePlaces (procedures : BTreeMap Indicator Placed) (places : BTreeMap ℕ Place) : Type 0 where
   pub ordered : IsOrdered indicator_cmp procedures
-  pub placed : (i : Indicator) (q : ℕ) → IsSome (clause_at procedures.entries i q) → get nat_cmp places (number_of q) ≡ Some (record { procedure = i; position = q })
-  pub there : (n : ℕ) (p : Place) → get nat_cmp places n ≡ Some p → IsSome (clause_at procedures.entries p.procedure p.position) × (number_of p.position ≡ n)
+  pub placed_clause : (i : Indicator) (q : ℕ) → IsSome (clause_at procedures.entries i q) → get nat_cmp places (position_number q) ≡ Some (record { procedure = i; position = q })
+  pub there : (n : ℕ) (p : Place) → get nat_cmp places n ≡ Some p → IsSome (clause_at procedures.entries p.procedure p.position) × (position_number p.position ≡ n)
 
 -- the numbers are below the next one
 pub record IsDatabase (procedures : BTreeMap Indicator Placed) (places : BTreeMap ℕ Place) (next : ℕ) : Type 0 where
-  pub kept : IsPlaced procedures places
+  pub kept : HavePlaces procedures places
   pub below : (n : ℕ) → IsSome (get nat_cmp places n) → n < next
 
 -- a procedure changed, where it has a place in the order: before this one, in its stead, or further on

@@ -27,8 +27,8 @@ clause_kept kept = arc_value kept.clause
 abbrev pub placed_entry : ℕ × Kept → ℕ × ClauseTerms
 placed_entry e = (e.0, clause_kept e.1)
 
-abbrev pub placed : BTreeMap ℕ Kept → Placed
-placed m = map placed_entry m.entries
+abbrev pub placed_clause : BTreeMap ℕ Kept → Placed
+placed_clause m = map placed_entry m.entries
 
 abbrev pub numbered_kept : ℕ → Kept → NumberedClause
 numbered_kept q kept = numbered_entry (q, clause_kept kept)

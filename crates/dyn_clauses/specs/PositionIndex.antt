@@ -41,11 +41,11 @@ abbrev pub last_position : ℕ → ℕ
 last_position n = middle + n
 
 -- the number of the clause at a position
-abbrev pub number_of : ℕ → ℕ
-number_of q = if nat_lt q middle then first_position q else q - middle
+abbrev pub position_number : ℕ → ℕ
+position_number q = if nat_lt q middle then first_position q else q - middle
 
 abbrev pub numbered_entry : ℕ × ClauseTerms → NumberedClause
-numbered_entry e = record { number = number_of e.0; clause = e.1 }
+numbered_entry e = record { number = position_number e.0; clause = e.1 }
 
 abbrev pub numbered_clauses : Placed → List NumberedClause
 numbered_clauses es = map numbered_entry es
@@ -68,4 +68,4 @@ without_position q es = filter (λ e. not (is_at (nat_cmp q) e.0)) es
 
 -- whether a procedure has a clause with this number
 abbrev pub has_numbered : Placed → ℕ → Bool
-has_numbered ps n = list_any (λ d. number_of d.0 == n) ps
+has_numbered ps n = list_any (λ d. position_number d.0 == n) ps

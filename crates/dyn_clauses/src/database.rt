@@ -9,8 +9,8 @@ ghost use Rattle.std.specs.Arc.{arc_value};
 ghost use Rattle.run_model.specs.Programs.Databases.{clauses_of, has_number, no_procedures, procedure_without, without_clause};
 ghost use Rattle.run_model.specs.Programs.DatabaseChanges.{declared_in, with_first_clause, with_last_clause, without_procedure};
 ghost use Rattle.dyn_clauses.specs.declared.indicator.Indicator.{Indicator as IndicatorTerms};
-ghost use Rattle.dyn_clauses.specs.PositionIndex.{middle, number_of};
-ghost use Rattle.dyn_clauses.specs.DatabaseView.{IsCause, IsDatabase, IsPlaced, IsRemoved, IsSnapshot, IsStaticCause, clause_at, indicator_cmp, is_spot, is_static, matching_numbered, procedures_meant, with_entry, without_spot};
+ghost use Rattle.dyn_clauses.specs.PositionIndex.{middle, position_number};
+ghost use Rattle.dyn_clauses.specs.DatabaseView.{ChangesSpot, IsCause, IsDatabase, HavePlaces, IsRemoved, IsSnapshot, IsStaticCause, clause_at, indicator_cmp, is_spot, is_static, matching_numbered, procedures_meant, with_entry, without_spot};
 ghost use Rattle.dyn_clauses.specs.ClauseEnds.{end_position, indicator_of, with_clause_at};
 
 use crate::indicator::Indicator;
@@ -113,7 +113,7 @@ fn put(
     requires ordered { IsOrdered indicator_cmp procedures.old }
     requires absent { clause_at procedures.old.entries procedure position ≡ None }
     ensures ordered { IsOrdered indicator_cmp procedures.new }
-    ensures clauses { OnOk result ((i : IndicatorTerms) (q : ℕ) → clause_at procedures.new.entries i q ≡ cond (is_spot procedure position i q) (Some (arc_value clause)) (clause_at procedures.old.entries i q)) }
+    ensures clauses { OnOk result (ChangesSpot procedures.old.entries procedures.new.entries procedure position (Some (arc_value clause))) }
     ensures ok { OnOk result (procedures.new.entries ≡ with_entry (λ ps. insert_entry nat_cmp ps position (arc_value clause)) procedure procedures.old.entries) }
     ensures err { OnErr result (procedures.new.entries ≡ procedures.old.entries) }
 {
@@ -130,7 +130,7 @@ fn put(
 fn take(procedures: &mut Procedures, procedure: &Indicator, position: u64)
     requires { IsOrdered indicator_cmp procedures.old }
     ensures ordered { IsOrdered indicator_cmp procedures.new }
-    ensures clauses { (i : IndicatorTerms) (q : ℕ) → clause_at procedures.new.entries i q ≡ cond (is_spot procedure.now position i q) None (clause_at procedures.old.entries i q) }
+    ensures clauses { ChangesSpot procedures.old.entries procedures.new.entries procedure.now position None }
     ensures taken { procedures.new.entries ≡ without_spot procedure.now position procedures.old.entries }
 {
     if let Some(known) = procedures.get_mut(procedure) {
@@ -149,7 +149,7 @@ fn add(
     clause: Arc<Clause>,
 ) -> Result<(), NoMemory>
     requires kept { IsDatabase procedures.old places.old number }
-    requires number { number_of position ≡ number }
+    requires number { position_number position ≡ number }
     ensures kept { OnOk result (IsDatabase procedures.new places.new (number + 1)) }
     ensures stays { OnErr result (IsDatabase procedures.new places.new number) }
     ensures ok { OnOk result (procedures.new.entries ≡ with_entry (λ ps. insert_entry nat_cmp ps position (arc_value clause)) procedure procedures.old.entries) }
@@ -169,8 +169,8 @@ fn add(
 
 /// Takes the clause with a number, and says whether there was one.
 fn remove(procedures: &mut Procedures, places: &mut Places, number: u64) -> bool
-    requires { IsPlaced procedures.old places.old }
-    ensures kept { IsPlaced procedures.new places.new }
+    requires { HavePlaces procedures.old places.old }
+    ensures kept { HavePlaces procedures.new places.new }
     ensures fewer { (n : ℕ) → IsSome (get nat_cmp places.new n) → IsSome (get nat_cmp places.old n) }
     ensures found { result ≡ list_any (has_number number) (procedures_meant procedures.old.entries) }
     ensures taken { OnTrue result (procedures_meant procedures.new.entries ≡ map (procedure_without number) (procedures_meant procedures.old.entries)) }
@@ -185,8 +185,8 @@ fn remove(procedures: &mut Procedures, places: &mut Places, number: u64) -> bool
 
 /// Makes a procedure unknown.
 fn abolish(procedures: &mut Procedures, places: &mut Places, procedure: &Indicator)
-    requires { IsPlaced procedures.old places.old }
-    ensures kept { IsPlaced procedures.new places.new }
+    requires { HavePlaces procedures.old places.old }
+    ensures kept { HavePlaces procedures.new places.new }
     ensures fewer { (n : ℕ) → IsSome (get nat_cmp places.new n) → IsSome (get nat_cmp places.old n) }
     ensures taken { procedures.new.entries ≡ remove_entry (is_at (indicator_cmp procedure.now)) procedures.old.entries }
 {

@@ -4,8 +4,8 @@ ghost use Rattle.std.specs.Ordering.{nat_cmp};
 ghost use Rattle.std.specs.Map.{lookup};
 ghost use Rattle.std.specs.BTreeMap.{get, insert_entry, is_at};
 ghost use Rattle.std.specs.Arc.{arc_value};
-ghost use Rattle.dyn_clauses.specs.PositionIndex.{has_numbered, matching_clauses, number_of, numbered_clauses, picked, without_position};
-ghost use Rattle.dyn_clauses.specs.KeptClauses.{IsProcedure, numbered_kept, placed, shown};
+ghost use Rattle.dyn_clauses.specs.PositionIndex.{has_numbered, matching_clauses, position_number, numbered_clauses, picked, without_position};
+ghost use Rattle.dyn_clauses.specs.KeptClauses.{IsProcedure, numbered_kept, placed_clause, shown};
 
 use crate::keys::{Index, forget, is_any, key_of_head, note};
 use crate::place::Places;
@@ -45,13 +45,13 @@ impl Model for Procedure {
     ghost use Rattle.std.specs.Coded.{codes};
     ghost use Rattle.au_term.specs.PrefixOrder.{term_code};
     ghost use Rattle.dyn_clauses.specs.PositionIndex.{Placed};
-    ghost use Rattle.dyn_clauses.specs.KeptClauses.{placed, IsProcedure};
+    ghost use Rattle.dyn_clauses.specs.KeptClauses.{placed_clause, IsProcedure};
 
     ghost Value = { Placed };
 
     ghost coded = { Prim.hlevel (codes, term_code) };
 
-    ghost view = { λ p. placed p.clauses };
+    ghost view = { λ p. placed_clause p.clauses };
 
     ghost invariant = { λ p. IsProcedure p.clauses p.index };
 }
@@ -162,8 +162,8 @@ fn put_kept(
     requires kept { IsProcedure clauses.old index.old }
     requires absent { get nat_cmp clauses.old position ≡ None }
     ensures kept { IsProcedure clauses.new index.new }
-    ensures ok { OnOk result (placed clauses.new ≡ insert_entry nat_cmp (placed clauses.old) position (arc_value clause)) }
-    ensures err { OnErr result (placed clauses.new ≡ placed clauses.old) }
+    ensures ok { OnOk result (placed_clause clauses.new ≡ insert_entry nat_cmp (placed_clause clauses.old) position (arc_value clause)) }
+    ensures err { OnErr result (placed_clause clauses.new ≡ placed_clause clauses.old) }
 {
     let key = key_of_head(clause.head())?;
     note(alloc, index, &key, position)?;
@@ -179,8 +179,8 @@ fn put_kept(
 fn take_kept(clauses: &mut Kepts, index: &mut Index, position: u64) -> bool
     requires { IsProcedure clauses.old index.old }
     ensures kept { IsProcedure clauses.new index.new }
-    ensures found { result ≡ is_some (lookup (is_at (nat_cmp position)) (placed clauses.old)) }
-    ensures taken { placed clauses.new ≡ without_position position (placed clauses.old) }
+    ensures found { result ≡ is_some (lookup (is_at (nat_cmp position)) (placed_clause clauses.old)) }
+    ensures taken { placed_clause clauses.new ≡ without_position position (placed_clause clauses.old) }
 {
     let Some(kept) = clauses.remove(&position) else {
         return false;
@@ -191,7 +191,7 @@ fn take_kept(clauses: &mut Kepts, index: &mut Index, position: u64) -> bool
 
 /// Puts what is at a position after others.
 fn push_at(found: &mut Vec<Numbered>, clauses: &Kepts, position: u64) -> Result<(), NoMemory>
-    ensures { OnOk result (map shown found.new.items ≡ map shown found.old.items ++ numbered_clauses (picked (position ∷ []) (placed clauses.now))) }
+    ensures { OnOk result (map shown found.new.items ≡ map shown found.old.items ++ numbered_clauses (picked (position ∷ []) (placed_clause clauses.now))) }
 {
     match clauses.get(&position) {
         Some(kept) => push(found, position, kept),
@@ -209,7 +209,7 @@ fn push(found: &mut Vec<Numbered>, position: u64, kept: &Kept) -> Result<(), NoM
 
 /// The number of the clause at a position.
 pub(crate) fn number_of(position: u64) -> u64
-    ensures { result ≡ number_of position }
+    ensures { result ≡ position_number position }
 {
     if position < MIDDLE {
         MIDDLE - 1 - position

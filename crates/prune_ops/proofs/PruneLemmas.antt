@@ -8,16 +8,16 @@ use Rattle.tree_model.specs.Nodes.{Numbered, Alternatives, none, alternative, St
 use Rattle.tree_model.specs.Levels.{Level, put_left, level_node, plug, Place, place_at}
 use Rattle.tree_model.specs.Pruning.{emptied, pruned}
 use Rattle.tree_nodes.specs.Bodies.{Reading}
-use Rattle.tree_nodes.specs.Rows.{Cell, ClosedCell, NodeRow, Rows, row_at, cells_at, cell_at}
-use Rattle.tree_nodes.specs.TreeTables.{cell_of, cells_of, IsIn, NodesView, StandsFor, Stand, above_of}
-use Rattle.tree_nodes.specs.Changes.{SetsAt, KeepsNumbers}
+use Rattle.tree_nodes.specs.Rows.{AlternativeCell, ClosedCell, StoredNode, Rows, row_of_node, alternatives_at, cell_at}
+use Rattle.tree_nodes.specs.TreeTables.{cell_of, cells_of, IsIn, NodesView, IsTableOf, Stand, above_of}
+use Rattle.tree_nodes.specs.Changes.{SetsCell, KeepsNumbers}
 use Rattle.tree_nodes.specs.Puts.{IsPlaceIn}
 use Rattle.tree_nodes.specs.Folds.{IsAbove}
 use Rattle.tree_nodes.proofs.PlaceLemmas.{left_cells, length-left_cells, cells_of-put, taken_out}
 use Rattle.tree_nodes.proofs.LocateLemmas.{IsAt, located}
 use Rattle.tree_nodes.proofs.PutLemmas.{is_some_cell}
 use Rattle.tree_nodes.proofs.WalkLemmas.{cells_beside, cell_here, parent_here, one_level_up, no_level_up}
-use Rattle.prune_ops.specs.Prunes.{PrunesRight, PrunesLevel, IsPruningAt, PrunesTo, IsPrunedTo, IsPrunedUp, PrunesUp, if_below, below_scope}
+use Rattle.prune_ops.specs.Prunes.{PrunesRight, PrunesLevel, IsPruningAt, PrunesTo, IsPrunedTo, IsPrunedUp, PrunesUp, if_within, within_scope}
 
 pub prunes_begin : (nodes : NodesView) (a : Place) → PrunesTo nodes nodes a (a.index + 1)
 prunes_begin nodes a read v up was e s = record {
@@ -30,13 +30,13 @@ prunes_begin nodes a read v up was e s = record {
 
 -- how many alternatives the node has
 width_at : (nodes : NodesView) (read : Reading) (v : Level) (up : List Level) (was : Status) (j : ℕ) (p : IsPruningAt nodes read v up was j)
-    → length (cells_at (row_at nodes.rows v.number)) ≡ j + length (cells_of p.rest)
+    → length (alternatives_at (row_of_node nodes.rows v.number)) ≡ j + length (cells_of p.rest)
 width_at nodes read v up was j p =
     let k = taken_out nodes.rows read up (Inner (Numbered v.number v.kind (put_left p.left p.rest))) p.stands.placed in
-    let cells : cells_at (row_at nodes.rows v.number) ≡ left_cells p.left ++ cells_of p.rest = ap cells_at k.inside.1.0 ∙ cells_of-put p.left p.rest in
+    let cells : alternatives_at (row_of_node nodes.rows v.number) ≡ left_cells p.left ++ cells_of p.rest = ap alternatives_at k.inside.1.0 ∙ cells_of-put p.left p.rest in
     let size : length (left_cells p.left ++ cells_of p.rest) ≡ length (left_cells p.left) + length (cells_of p.rest) = length-append (left_cells p.left) (cells_of p.rest) in
     let left = length-left_cells p.left in
-    let whole : length (cells_at (row_at nodes.rows v.number)) ≡ length (left_cells p.left ++ cells_of p.rest) = ap length cells in
+    let whole : length (alternatives_at (row_of_node nodes.rows v.number)) ≡ length (left_cells p.left ++ cells_of p.rest) = ap length cells in
     let passed = p.passed in
     omega (arith, whole, size, left, passed)
 
@@ -45,8 +45,8 @@ width_emptied none = refl
 width_emptied (alternative spent status others) = ap suc (width_emptied others)
 
 -- the width stays
-pub same_width : (old nodes : NodesView) (read : Reading) (v : Level) (up : List Level) (was : Status) (j : ℕ) → StandsFor old read (plug (v ∷ up) was)
-    → (p : IsPruningAt nodes read v up was j) → j + length (cells_of p.rest) ≡ length (cells_at (row_at old.rows v.number))
+pub same_width : (old nodes : NodesView) (read : Reading) (v : Level) (up : List Level) (was : Status) (j : ℕ) → IsTableOf old read (plug (v ∷ up) was)
+    → (p : IsPruningAt nodes read v up was j) → j + length (cells_of p.rest) ≡ length (alternatives_at (row_of_node old.rows v.number))
 same_width old nodes read v up was j s p =
     let a : length (cells_of (put_left p.left (emptied p.rest))) ≡ length (left_cells p.left) + length (cells_of (emptied p.rest))
     = ap length (cells_of-put p.left (emptied p.rest)) ∙ length-append (left_cells p.left) (cells_of (emptied p.rest)) in
@@ -54,7 +54,7 @@ same_width old nodes read v up was j s p =
     = ap length (cells_of-put v.left (alternative v.spent was (emptied v.right))) ∙ length-append (left_cells v.left) (cells_of (alternative v.spent was (emptied v.right))) in
     let same : length (cells_of (put_left p.left (emptied p.rest))) ≡ length (cells_of (put_left v.left (alternative v.spent was (emptied v.right))))
     = ap (λ (x : Alternatives). length (cells_of x)) p.same in
-    let old_cells : length (cells_at (row_at old.rows v.number)) ≡ length (left_cells v.left) + length ((v.spent, cell_of was) ∷ cells_of v.right)
+    let old_cells : length (alternatives_at (row_of_node old.rows v.number)) ≡ length (left_cells v.left) + length ((v.spent, cell_of was) ∷ cells_of v.right)
     = ap length (cells_beside old read v up was s) ∙ length-append (left_cells v.left) ((v.spent, cell_of was) ∷ cells_of v.right) in
     let c = width_emptied p.rest in
     let d = width_emptied v.right in
@@ -63,17 +63,17 @@ same_width old nodes read v up was j s p =
     omega (arith, a, b, same, old_cells, c, d, left, passed)
 
 -- one alternative more
-pub prunes_more : (old nodes new : NodesView) (a : Place) (j spent : ℕ) → PrunesTo old nodes a j → j < length (cells_at (row_at old.rows a.node))
-    → ((there : ℕ) (cell : Cell) → cell_at nodes.rows (record { node = a.node; index = j }) ≡ Some (there, cell) → spent ≡ there)
-    → SetsAt nodes new (record { node = a.node; index = j }) spent (ClosedCell no_credit) → PrunesTo old new a (j + 1)
+pub prunes_more : (old nodes new : NodesView) (a : Place) (j spent : ℕ) → PrunesTo old nodes a j → j < length (alternatives_at (row_of_node old.rows a.node))
+    → ((there : ℕ) (cell : AlternativeCell) → cell_at nodes.rows (record { node = a.node; index = j }) ≡ Some (there, cell) → spent ≡ there)
+    → SetsCell nodes new (record { node = a.node; index = j }) spent (ClosedCell no_credit) → PrunesTo old new a (j + 1)
 prunes_more old nodes new a j spent p l same_spent h read v up was e s =
     let k = p read v up was e s in
     let node : v.number ≡ a.node = ap (λ (q : Place). q.node) e in
     let width = same_width old nodes read v up was j s k in
-    let within : 0 < length (cells_of k.rest) = (let z : length (cells_at (row_at old.rows v.number)) ≡ length (cells_at (row_at old.rows a.node)) = ap (λ (n : ℕ). length (cells_at (row_at old.rows n))) node in omega (arith, l, width, z)) in
+    let within : 0 < length (cells_of k.rest) = (let z : length (alternatives_at (row_of_node old.rows v.number)) ≡ length (alternatives_at (row_of_node old.rows a.node)) = ap (λ (n : ℕ). length (alternatives_at (row_of_node old.rows n))) node in omega (arith, l, width, z)) in
     by_rest k.left k.rest k.stands k.passed k.same within node
   where
-    by_rest : (left : List (ℕ × Status)) (rest : Alternatives) → StandsFor nodes read (plug up (Inner (Numbered v.number v.kind (put_left left rest))))
+    by_rest : (left : List (ℕ × Status)) (rest : Alternatives) → IsTableOf nodes read (plug up (Inner (Numbered v.number v.kind (put_left left rest))))
         → length left ≡ j → put_left left (emptied rest) ≡ put_left ((v.spent, was) ∷ v.left) (emptied v.right) → 0 < length (cells_of rest) → v.number ≡ a.node
         → IsPruningAt new read v up was (j + 1)
     by_rest left none st passed same within node = absurd (omega (arith, within))
@@ -85,47 +85,47 @@ prunes_more old nodes new a j spent p l same_spent h read v up was e s =
         record {
           left = (sp, Closed no_credit) ∷ left;
           rest = others;
-          stands = subst (λ (x : ℕ). StandsFor new read (plug (record w { spent = x } ∷ up) (Closed no_credit))) spends closed;
+          stands = subst (λ (x : ℕ). IsTableOf new read (plug (record w { spent = x } ∷ up) (Closed no_credit))) spends closed;
           passed = (let y : length ((sp, Closed no_credit) ∷ left) ≡ suc (length left) = refl in omega (arith, passed, y));
           same = same;
         }
 
-pub prunes_all : (old new : NodesView) (a : Place) (j : ℕ) → PrunesTo old new a j → length (cells_at (row_at old.rows a.node)) ≤ j → PrunesLevel old new a
+pub prunes_all : (old new : NodesView) (a : Place) (j : ℕ) → PrunesTo old new a j → length (alternatives_at (row_of_node old.rows a.node)) ≤ j → PrunesLevel old new a
 prunes_all old new a j p l read v up was e s =
     let k = p read v up was e s in
     let node : v.number ≡ a.node = ap (λ (q : Place). q.node) e in
     let width = same_width old new read v up was j s k in
-    let nothing : length (cells_of k.rest) ≡ 0 = (let z : length (cells_at (row_at old.rows v.number)) ≡ length (cells_at (row_at old.rows a.node)) = ap (λ (n : ℕ). length (cells_at (row_at old.rows n))) node in omega (arith, l, width, z)) in
+    let nothing : length (cells_of k.rest) ≡ 0 = (let z : length (alternatives_at (row_of_node old.rows v.number)) ≡ length (alternatives_at (row_of_node old.rows a.node)) = ap (λ (n : ℕ). length (alternatives_at (row_of_node old.rows n))) node in omega (arith, l, width, z)) in
     by_rest k.left k.rest k.stands k.same nothing
   where
-    by_rest : (left : List (ℕ × Status)) (rest : Alternatives) → StandsFor new read (plug up (Inner (Numbered v.number v.kind (put_left left rest))))
+    by_rest : (left : List (ℕ × Status)) (rest : Alternatives) → IsTableOf new read (plug up (Inner (Numbered v.number v.kind (put_left left rest))))
         → put_left left (emptied rest) ≡ put_left ((v.spent, was) ∷ v.left) (emptied v.right) → length (cells_of rest) ≡ 0
-        → StandsFor new read (plug (record v { right = emptied v.right } ∷ up) was)
-    by_rest left none st same z = subst (λ (x : Alternatives). StandsFor new read (plug up (Inner (Numbered v.number v.kind x)))) same st
+        → IsTableOf new read (plug (record v { right = emptied v.right } ∷ up) was)
+    by_rest left none st same z = subst (λ (x : Alternatives). IsTableOf new read (plug up (Inner (Numbered v.number v.kind x)))) same st
     by_rest left (alternative sp there others) st same z = absurd (omega (arith, z))
 
 -- the place is still there, and so are those to its right
 pub place_stays : (old nodes : NodesView) (a : Place) (j i : ℕ) → Stand old → IsSome (cell_at old.rows a) → PrunesTo old nodes a j
-    → i < length (cells_at (row_at old.rows a.node)) → IsSome (cell_at nodes.rows (record { node = a.node; index = i }))
+    → i < length (alternatives_at (row_of_node old.rows a.node)) → IsSome (cell_at nodes.rows (record { node = a.node; index = i }))
 place_stays old nodes a j i st there p l =
     let c = is_some_cell (cell_at old.rows a) there in
     let k = located old st.read st.root a c.0 st.stands c.1 in
-    let s = subst (StandsFor old st.read) k.is st.stands in
+    let s = subst (IsTableOf old st.read) k.is st.stands in
     let q = p st.read k.level k.above k.status k.at s in
     let width = width_at nodes st.read k.level k.above k.status j q in
     let same = same_width old nodes st.read k.level k.above k.status j s q in
     let node : k.level.number ≡ a.node = ap (λ (x : Place). x.node) k.at in
-    let w : length (cells_at (row_at nodes.rows a.node)) ≡ length (cells_at (row_at nodes.rows k.level.number)) = ap (λ (n : ℕ). length (cells_at (row_at nodes.rows n))) (sym node) in
-    let z : length (cells_at (row_at old.rows k.level.number)) ≡ length (cells_at (row_at old.rows a.node)) = ap (λ (n : ℕ). length (cells_at (row_at old.rows n))) node in
-    some_within (cells_at (row_at nodes.rows a.node)) i (omega (arith, l, width, same, w, z))
+    let w : length (alternatives_at (row_of_node nodes.rows a.node)) ≡ length (alternatives_at (row_of_node nodes.rows k.level.number)) = ap (λ (n : ℕ). length (alternatives_at (row_of_node nodes.rows n))) (sym node) in
+    let z : length (alternatives_at (row_of_node old.rows k.level.number)) ≡ length (alternatives_at (row_of_node old.rows a.node)) = ap (λ (n : ℕ). length (alternatives_at (row_of_node old.rows n))) node in
+    some_within (alternatives_at (row_of_node nodes.rows a.node)) i (omega (arith, l, width, same, w, z))
   where
-    some_within : (cells : List (ℕ × Cell)) (i : ℕ) → i < length cells → IsSome (slice_get cells i)
+    some_within : (cells : List (ℕ × AlternativeCell)) (i : ℕ) → i < length cells → IsSome (slice_get cells i)
     some_within [] i l = absurd (omega (arith, l))
     some_within (x ∷ cells) zero l = refl
     some_within (x ∷ cells) (suc i) l = some_within cells i (omega (arith, l))
 
-pub within_some : (rows : Rows) (a : Place) → IsSome (cell_at rows a) → a.index < length (cells_at (row_at rows a.node))
-within_some rows a h = let c = is_some_cell (cell_at rows a) h in slice_get_within (cells_at (row_at rows a.node)) a.index c.0 c.1
+pub within_some : (rows : Rows) (a : Place) → IsSome (cell_at rows a) → a.index < length (alternatives_at (row_of_node rows a.node))
+within_some rows a h = let c = is_some_cell (cell_at rows a) h in slice_get_within (alternatives_at (row_of_node rows a.node)) a.index c.0 c.1
 
 -- pruning begins, and goes on level by level
 at_scope : (scope : ℕ) (v : Level) (up : List Level) → (v.number == scope) ≡ true → pruned scope (v ∷ up) ≡ v ∷ up
@@ -134,61 +134,61 @@ at_scope scope v up e = ap (λ (b : Bool). cond b (v ∷ up) (record v { right =
 off_scope : (scope : ℕ) (v : Level) (up : List Level) → (v.number == scope) ≡ false → pruned scope (v ∷ up) ≡ record v { right = emptied v.right } ∷ pruned scope up
 off_scope scope v up e = ap (λ (b : Bool). cond b (v ∷ up) (record v { right = emptied v.right } ∷ pruned scope up)) e
 
-pub pruned_begin : (nodes : NodesView) (a : Place) (scope : ℕ) → PrunesUp nodes nodes a scope (below_scope scope (Some a))
+pub pruned_begin : (nodes : NodesView) (a : Place) (scope : ℕ) → PrunesUp nodes nodes a scope (within_scope scope (Some a))
 pruned_begin nodes a scope read v up was e s = by_test (a.node == scope) refl
   where
     same_test : (v.number == scope) ≡ (a.node == scope)
     same_test = ap (λ (p : Place). p.node == scope) e
 
-    by_test : (b : Bool) → (a.node == scope) ≡ b → IsPrunedUp nodes read v up was scope (if_below b a)
-    by_test true t = subst (λ (ls : List Level). StandsFor nodes read (plug ls was)) (sym (at_scope scope v up (same_test ∙ t))) s
+    by_test : (b : Bool) → (a.node == scope) ≡ b → IsPrunedUp nodes read v up was scope (if_within b a)
+    by_test true t = subst (λ (ls : List Level). IsTableOf nodes read (plug ls was)) (sym (at_scope scope v up (same_test ∙ t))) s
     by_test false t = record { level = v; above = up; status = was; stands = s; at = e; below = same_test ∙ t; same = refl }
 
 module _ (old new : NodesView) (read : Reading) (v : Level) (up : List Level) (was : Status) (scope : ℕ) (level : Level) (above : List Level) (status : Status)
-    (here : StandsFor new read (plug (record level { right = emptied level.right } ∷ above) status)) (below : (level.number == scope) ≡ false)
+    (here : IsTableOf new read (plug (record level { right = emptied level.right } ∷ above) status)) (below : (level.number == scope) ≡ false)
     (same : plug (pruned scope (v ∷ up)) was ≡ plug (pruned scope (level ∷ above)) status) where
   same_more : plug (pruned scope (v ∷ up)) was ≡ plug (pruned scope above) (Inner (level_node (record level { right = emptied level.right }) status))
   same_more = same ∙ ap (λ (ls : List Level). plug ls status) (off_scope scope level above below)
 
-  by_test : (t : Bool) (q : Place) → (q.node == scope) ≡ t → above_of above ≡ Some q → IsPrunedUp new read v up was scope (if_below t q)
+  by_test : (t : Bool) (q : Place) → (q.node == scope) ≡ t → above_of above ≡ Some q → IsPrunedUp new read v up was scope (if_within t q)
   by_test true q t z =
       let u = one_level_up level above q z in
       let whole : pruned scope above ≡ above = ap (pruned scope) u.is
       ∙ (at_scope scope u.level u.above (ap (λ (p : Place). p.node == scope) u.at ∙ t) ∙ sym u.is) in
-      subst (StandsFor new read) (sym (same_more ∙ ap (λ (ls : List Level). plug ls (Inner (level_node (record level { right = emptied level.right }) status))) whole)) here
+      subst (IsTableOf new read) (sym (same_more ∙ ap (λ (ls : List Level). plug ls (Inner (level_node (record level { right = emptied level.right }) status))) whole)) here
   by_test false q t z =
       let u = one_level_up level above q z in
       record {
         level = u.level;
         above = u.above;
         status = Inner (level_node (record level { right = emptied level.right }) status);
-        stands = subst (λ (ls : List Level). StandsFor new read (plug ls (Inner (level_node (record level { right = emptied level.right }) status)))) u.is here;
+        stands = subst (λ (ls : List Level). IsTableOf new read (plug ls (Inner (level_node (record level { right = emptied level.right }) status)))) u.is here;
         at = u.at;
         below = ap (λ (p : Place). p.node == scope) u.at ∙ t;
         same = same_more ∙ ap (λ (ls : List Level). plug (pruned scope ls) (Inner (level_node (record level { right = emptied level.right }) status))) u.is;
       }
 
-  by_parent : (o : Option Place) → above_of above ≡ o → IsPrunedUp new read v up was scope (below_scope scope o)
+  by_parent : (o : Option Place) → above_of above ≡ o → IsPrunedUp new read v up was scope (within_scope scope o)
   by_parent None z =
       let top = no_level_up above z in
       let whole : pruned scope above ≡ above = ap (pruned scope) top ∙ sym top in
-      subst (StandsFor new read) (sym (same_more ∙ ap (λ (ls : List Level). plug ls (Inner (level_node (record level { right = emptied level.right }) status))) whole)) here
+      subst (IsTableOf new read) (sym (same_more ∙ ap (λ (ls : List Level). plug ls (Inner (level_node (record level { right = emptied level.right }) status))) whole)) here
   by_parent (Some q) z = by_test (q.node == scope) q refl z
 
 pub pruned_more : (old nodes new : NodesView) (a : Place) (scope : ℕ) (b : Place) (parent : Option Place) → PrunesUp old nodes a scope (Some b)
-    → PrunesLevel nodes new b → option_map (λ r. r.parent) (row_at new.rows b.node) ≡ Some parent → PrunesUp old new a scope (below_scope scope parent)
+    → PrunesLevel nodes new b → option_map (λ r. r.parent) (row_of_node new.rows b.node) ≡ Some parent → PrunesUp old new a scope (within_scope scope parent)
 pruned_more old nodes new a scope b parent p h e read v up was at s =
     let k = p read v up was at s in
     let here = h read k.level k.above k.status k.at k.stands in
     by_parent old new read v up was scope k.level k.above k.status here k.below k.same parent
     (parent_here new read (record k.level { right = emptied k.level.right }) k.above k.status parent here
-    (ap (λ (q : Place). option_map (λ r. r.parent) (row_at new.rows q.node)) k.at ∙ e))
+    (ap (λ (q : Place). option_map (λ r. r.parent) (row_of_node new.rows q.node)) k.at ∙ e))
 
-pub place_below : (rows : Rows) (scope : ℕ) (parent : Option Place) (n : ℕ) → IsAbove rows parent n → IsPlaceIn rows (below_scope scope parent)
+pub place_below : (rows : Rows) (scope : ℕ) (parent : Option Place) (n : ℕ) → IsAbove rows parent n → IsPlaceIn rows (within_scope scope parent)
 place_below rows scope None n h = tt
 place_below rows scope (Some a) n h = by_bool (a.node == scope)
   where
-    by_bool : (b : Bool) → IsPlaceIn rows (if_below b a)
+    by_bool : (b : Bool) → IsPlaceIn rows (if_within b a)
     by_bool true = tt
     by_bool false = h.0
 

@@ -5,7 +5,7 @@ ghost use Rattle.tree_nodes.specs.Rows.{cell_at, credit_view, scope_number};
 ghost use Rattle.tree_model.specs.Credits.{no_credit};
 ghost use Rattle.tree_nodes.specs.RowViews.{parent_view};
 ghost use Rattle.tree_nodes.specs.Changes.{KeepsNumbers};
-ghost use Rattle.prune_ops.specs.Prunes.{PrunesRight, PrunesLevel, below_scope};
+ghost use Rattle.prune_ops.specs.Prunes.{PrunesRight, PrunesLevel, within_scope};
 
 use clause_compile::Scope;
 use std::alloc::Global;
@@ -27,7 +27,7 @@ pub fn prune_right(nodes: &mut Nodes, at: AltRef, scope: Scope)
 }
 
 fn below(at: Option<AltRef>, scope: u64) -> Option<AltRef>
-    ensures { parent_view result ≡ below_scope scope (parent_view at) }
+    ensures { parent_view result ≡ within_scope scope (parent_view at) }
 {
     match at {
         Some(at) if at.node != scope => Some(at),

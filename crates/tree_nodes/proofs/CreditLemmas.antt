@@ -8,9 +8,9 @@ use Rattle.tree_model.specs.Credits.{Credit, no_credit, counted, added}
 use Rattle.tree_model.specs.Nodes.{Alternatives, none, alternative, Status, Pending, Inner, Closed}
 use Rattle.tree_model.specs.Closing.{and_then, closed_credit, all_left, all_right, all_closed}
 use Rattle.tree_model.specs.Levels.{Level}
-use Rattle.tree_nodes.specs.Rows.{Cell}
+use Rattle.tree_nodes.specs.Rows.{AlternativeCell}
 use Rattle.tree_nodes.specs.TreeTables.{cell_of, cells_of}
-use Rattle.tree_nodes.specs.Gathering.{closed_in, is_shut, are_shut, add_left, with_left, with_right}
+use Rattle.tree_nodes.specs.Gathering.{closed_in, is_shut, are_shut, add_left, with_left, with_right_credits}
 use Rattle.tree_nodes.proofs.PlaceLemmas.{left_cells}
 
 same_credit : (i j a b : ℕ) (rs ts : List Term) → i ≡ j → a ≡ b → rs ≡ ts
@@ -40,7 +40,7 @@ nothing_right : (d c : Credit) → added d (added c no_credit) ≡ added d c
 nothing_right d c = same_credit _ _ _ _ _ _ (counted-none d.inferences c.inferences) (counted-none d.answers c.answers)
     (ap (λ (rs : List Term). d.records ++ rs) (append-nil c.records))
 
-are_shut-snoc : (cells : List (ℕ × Cell)) (x : ℕ × Cell) → are_shut (cells ++ x ∷ []) ≡ (are_shut cells && is_shut x.1)
+are_shut-snoc : (cells : List (ℕ × AlternativeCell)) (x : ℕ × AlternativeCell) → are_shut (cells ++ x ∷ []) ≡ (are_shut cells && is_shut x.1)
 are_shut-snoc [] x = grind arith
 are_shut-snoc (y ∷ cells) x = ap (λ (b : Bool). is_shut y.1 && b) (are_shut-snoc cells x) ∙ and-assoc (is_shut y.1) (are_shut cells) (is_shut x.1)
   where
@@ -48,7 +48,7 @@ are_shut-snoc (y ∷ cells) x = ap (λ (b : Bool). is_shut y.1 && b) (are_shut-s
     and-assoc true b c = refl
     and-assoc false b c = refl
 
-with_left-snoc : (cells : List (ℕ × Cell)) (x : ℕ × Cell) (c : Credit) → with_left (cells ++ x ∷ []) c ≡ with_left cells (add_left (closed_in x.1) c)
+with_left-snoc : (cells : List (ℕ × AlternativeCell)) (x : ℕ × AlternativeCell) (c : Credit) → with_left (cells ++ x ∷ []) c ≡ with_left cells (add_left (closed_in x.1) c)
 with_left-snoc [] x c = refl
 with_left-snoc (y ∷ cells) x c = ap (add_left (closed_in y.1)) (with_left-snoc cells x c)
 
@@ -106,7 +106,7 @@ left_sums (a ∷ left) = by_status (left_sums left) a.1 refl
 pub record IsRightSum (right : Alternatives) (total : Credit) : Type 0 where
   pub shut : are_shut (cells_of right) ≡ true
   pub all : all_right right ≡ Some total
-  pub sum : (d c : Credit) → added d (added c total) ≡ added d (with_right c (cells_of right))
+  pub sum : (d c : Credit) → added d (added c total) ≡ added d (with_right_credits c (cells_of right))
 
 pub record IsRightOpen (right : Alternatives) : Type 0 where
   pub shut : are_shut (cells_of right) ≡ false
@@ -131,7 +131,7 @@ right_sums (alternative spent (Closed e) others) = closed (right_sums others)
     )
 
 -- sums that are the same behind any credit
-with_left_same : (cells : List (ℕ × Cell)) (a b : Credit) → ((d : Credit) → added d a ≡ added d b) → (d : Credit)
+with_left_same : (cells : List (ℕ × AlternativeCell)) (a b : Credit) → ((d : Credit) → added d a ≡ added d b) → (d : Credit)
     → added d (with_left cells a) ≡ added d (with_left cells b)
 with_left_same [] a b h d = h d
 with_left_same (x ∷ cells) a b h d = by_cell (closed_in x.1) (λ e. with_left_same cells a b h e)
@@ -142,9 +142,9 @@ with_left_same (x ∷ cells) a b h d = by_cell (closed_in x.1) (λ e. with_left_
     by_cell (Some e) same = sym (added-assoc d e (with_left cells a)) ∙ (same (added d e) ∙ added-assoc d e (with_left cells b))
 
 -- a node folds exactly where all beside an alternative are closed
-pub record IsBesideSum (v : Level) (c : Credit) (left right : List (ℕ × Cell)) (total : Credit) : Type 0 where
+pub record IsBesideSum (v : Level) (c : Credit) (left right : List (ℕ × AlternativeCell)) (total : Credit) : Type 0 where
   pub all : all_closed v c ≡ Some total
-  pub sum : (d : Credit) → added d total ≡ added d (with_left left (with_right c right))
+  pub sum : (d : Credit) → added d total ≡ added d (with_left left (with_right_credits c right))
 
 pub beside_sum : (v : Level) (c : Credit) → (are_shut (left_cells v.left) && are_shut (cells_of v.right)) ≡ true
     → (total : Credit) × IsBesideSum v c (left_cells v.left) (cells_of v.right) total
@@ -160,7 +160,7 @@ beside_sum v c s = by_parts (left_sums v.left) (right_sums v.right)
       record {
         all = ap (λ (o : Option Credit). and_then (and_then o (Some c)) (all_right v.right)) l.1.all ∙ ap (and_then (Some (added l.0 c))) r.1.all;
         sum = λ d. ap (added d) (added-assoc l.0 c r.0) ∙ (l.1.sum d (added c r.0)
-            ∙ with_left_same (left_cells v.left) (added c r.0) (with_right c (cells_of v.right)) (λ e. r.1.sum e c) d);
+            ∙ with_left_same (left_cells v.left) (added c r.0) (with_right_credits c (cells_of v.right)) (λ e. r.1.sum e c) d);
       },
     )
 

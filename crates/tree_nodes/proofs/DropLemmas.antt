@@ -6,11 +6,11 @@ use Rattle.tree_model.specs.Nodes.{nodes_among}
 use Rattle.tree_model.specs.Levels.{Level, put_left, level_node, plug, Place, place_at}
 use Rattle.tree_model.specs.SoundTrees.{one_if, count_among}
 use Rattle.tree_nodes.specs.Bodies.{Branching, Reading}
-use Rattle.tree_nodes.specs.Rows.{Cell, Rows}
-use Rattle.tree_nodes.specs.TreeTables.{number_of, IsIn}
+use Rattle.tree_nodes.specs.Rows.{AlternativeCell, Rows}
+use Rattle.tree_nodes.specs.TreeTables.{node_number, IsIn}
 use Rattle.tree_nodes.proofs.PlaceLemmas.{are_in-split, count_around, one_if-same}
 
-pub snoc_same : (xs ys : List (ℕ × Cell)) (x y : ℕ × Cell) → xs ++ x ∷ [] ≡ ys ++ y ∷ [] → (xs ≡ ys) × (x ≡ y)
+pub snoc_same : (xs ys : List (ℕ × AlternativeCell)) (x y : ℕ × AlternativeCell) → xs ++ x ∷ [] ≡ ys ++ y ∷ [] → (xs ≡ ys) × (x ≡ y)
 snoc_same [] [] x y e = (refl, cc e)
 snoc_same [] (b ∷ []) x y e = absurd (cc e)
 snoc_same [] (b ∷ c ∷ ys) x y e = absurd (cc e)
@@ -22,7 +22,7 @@ snoc_same (a ∷ xs) (b ∷ ys) x y e =
     let k = snoc_same xs ys x y tails in
     (cc (heads, k.0), k.1)
 
-pub snoc_some : (xs : List (ℕ × Cell)) (x : ℕ × Cell) → xs ++ x ∷ [] ≡ [] → ⊥
+pub snoc_some : (xs : List (ℕ × AlternativeCell)) (x : ℕ × AlternativeCell) → xs ++ x ∷ [] ≡ [] → ⊥
 snoc_some [] x e = cc e
 snoc_some (a ∷ xs) x e = cc e
 
@@ -70,9 +70,9 @@ done_within m [] = omega arith
 done_within m (v ∷ path) = let h = done_within m path in omega (arith, h)
 
 -- the number of the outermost node
-pub outermost : (v : Level) (path : List Level) (status : Status) (node : Node) → Inner node ≡ plug (v ∷ path) status → 0 < on_path (number_of node) (v ∷ path)
+pub outermost : (v : Level) (path : List Level) (status : Status) (node : Node) → Inner node ≡ plug (v ∷ path) status → 0 < on_path (node_number node) (v ∷ path)
 outermost v [] status node e =
-    let same : number_of node ≡ v.number = ap number e in
+    let same : node_number node ≡ v.number = ap number e in
     subst (λ (k : ℕ). 0 < one_if (v.number == k) + 0) (sym same) (let z = one_if-same v.number in omega (arith, z))
   where
     number : Status → ℕ

@@ -12,9 +12,9 @@ use Rattle.tree_model.specs.SoundTrees.{one_if, count_in, count_among, count_bel
 use Rattle.tree_nodes.specs.declared.row.Shortened.{Shortened}
 use Rattle.tree_nodes.specs.declared.row.Shortened.TheVariants as shortened
 use Rattle.tree_nodes.specs.Bodies.{Branching, Reading}
-use Rattle.tree_nodes.specs.Rows.{Cell, NodeRow, Rows, row_at}
+use Rattle.tree_nodes.specs.Rows.{AlternativeCell, StoredNode, Rows, row_of_node}
 use Rattle.tree_nodes.specs.RowViews.{parent_view, with_cells, inner_of, IsShorter, IsGone, IsShortened}
-use Rattle.tree_nodes.specs.TreeTables.{number_of, cell_of, cells_of, IsNodeIn, IsIn}
+use Rattle.tree_nodes.specs.TreeTables.{node_number, cell_of, cells_of, IsNodeIn, IsIn}
 use Rattle.tree_nodes.specs.Drops.{next_of, live_after, IsDropped}
 use Rattle.tree_nodes.proofs.PlaceLemmas.{left_cells, count_left, one_if-same, one_if-other}
 use Rattle.tree_nodes.proofs.DropLemmas.{snoc_same, snoc_some, above_from, inside, done, on_path, nodes_done, done_within, outermost}
@@ -29,13 +29,13 @@ node_or None = 0
 node_or (Some a) = a.node
 
 abbrev number_or : Status → ℕ
-number_or (Inner node) = number_of node
+number_or (Inner node) = node_number node
 number_or (Pending hold entry) = 0
 number_or (Closed credit) = 0
 
 module _ (old : Rows) (live : ℕ) (rows : Rows) (now : ℕ) (at top : ℕ) (node : Node) (once : IsOnce (Inner node)) (g : IsGoing old live rows now at (Inner node))
-    (read : Reading) (way : Branching) (parent : Option Place) (placed : IsNodeIn old read way parent node) (is_top : number_of node ≡ top)
-    (new : Rows) (changed : (m : ℕ) → m ≢ at → row_at new m ≡ row_at rows m) where
+    (read : Reading) (way : Branching) (parent : Option Place) (placed : IsNodeIn old read way parent node) (is_top : node_number node ≡ top)
+    (new : Rows) (changed : (m : ℕ) → m ≢ at → row_of_node new m ≡ row_of_node rows m) where
   -- the row of the node at hand
   own_parent : g.own.0.parent ≡ above_from parent g.path
   own_parent =
@@ -43,15 +43,15 @@ module _ (old : Rows) (live : ℕ) (rows : Rows) (now : ℕ) (at top : ℕ) (nod
       let same : Some g.own.0 ≡ Some (record { parent = above_from parent g.path; body = k.inside.0; cells = cells_of (put_left g.left g.right) }) = sym g.own.1.0 ∙ k.inside.1.0 in
       ap parent_of same
     where
-      parent_of : Option NodeRow → Option Place
+      parent_of : Option StoredNode → Option Place
       parent_of None = None
       parent_of (Some r) = r.parent
 
-  gone_row : (p : Option AltRef) → IsShortened (row_at rows at) (row_at new at) (shortened.Row p) → IsGone (with_cells (left_cells g.left) g.own.0) (row_at new at) p
-  gone_row p h = subst (λ (o : Option NodeRow). IsShortened o (row_at new at) (shortened.Row p)) g.own.1.1 h
+  gone_row : (p : Option AltRef) → IsShortened (row_of_node rows at) (row_of_node new at) (shortened.Row p) → IsGone (with_cells (left_cells g.left) g.own.0) (row_of_node new at) p
+  gone_row p h = subst (λ (o : Option StoredNode). IsShortened o (row_of_node new at) (shortened.Row p)) g.own.1.1 h
 
-  shorter_row : (p : Option ℕ) → IsShortened (row_at rows at) (row_at new at) (shortened.Alternative p) → IsShorter (with_cells (left_cells g.left) g.own.0) (row_at new at) p
-  shorter_row p h = subst (λ (o : Option NodeRow). IsShortened o (row_at new at) (shortened.Alternative p)) g.own.1.1 h
+  shorter_row : (p : Option ℕ) → IsShortened (row_of_node rows at) (row_of_node new at) (shortened.Alternative p) → IsShorter (with_cells (left_cells g.left) g.own.0) (row_of_node new at) p
+  shorter_row p h = subst (λ (o : Option StoredNode). IsShortened o (row_of_node new at) (shortened.Alternative p)) g.own.1.1 h
 
   top_at : g.path ≡ [] → at ≡ top
   top_at e =
@@ -59,7 +59,7 @@ module _ (old : Rows) (live : ℕ) (rows : Rows) (now : ℕ) (at top : ℕ) (nod
       sym (ap number_or h) ∙ is_top
 
   -- on to the node above
-  upward : (p : AltRef) (next : ℕ) → IsGone (with_cells (left_cells g.left) g.own.0) (row_at new at) (Some p) → at ≢ top → next ≡ p.node
+  upward : (p : AltRef) (next : ℕ) → IsGone (with_cells (left_cells g.left) g.own.0) (row_of_node new at) (Some p) → at ≢ top → next ≡ p.node
       → IsGoing old live new (now - 1) next (Inner node)
   upward p next h ne e = by_path g.path refl
     where
@@ -72,12 +72,12 @@ module _ (old : Rows) (live : ℕ) (rows : Rows) (now : ℕ) (at top : ℕ) (nod
           (left_behind old live rows now at (Inner node) once g new changed v path paths (no_left g.left h.were) h.are)
 
   -- on at the same node, or below
-  onward : (p : Option ℕ) (next : ℕ) → IsShorter (with_cells (left_cells g.left) g.own.0) (row_at new at) p
+  onward : (p : Option ℕ) (next : ℕ) → IsShorter (with_cells (left_cells g.left) g.own.0) (row_of_node new at) p
       → Some next ≡ next_of at top (shortened.Alternative p) → IsGoing old live new now next (Inner node)
   onward p next h e = by_left g.left refl
     where
       by_status : (spent : ℕ) (there : Status) (left : List (ℕ × Status)) → g.left ≡ (spent, there) ∷ left → p ≡ inner_of (cell_of there)
-          → row_at new at ≡ Some (with_cells (left_cells left) g.own.0) → IsGoing old live new now next (Inner node)
+          → row_of_node new at ≡ Some (with_cells (left_cells left) g.own.0) → IsGoing old live new now next (Inner node)
       by_status spent (Pending hold entry) left lefts inner row =
           let here : Some next ≡ Some at = e ∙ ap (λ (o : Option ℕ). next_of at top (shortened.Alternative o)) inner in
           subst (λ (n : ℕ). IsGoing old live new now n (Inner node)) (sym (cc here))
@@ -101,15 +101,15 @@ module _ (old : Rows) (live : ℕ) (rows : Rows) (now : ℕ) (at top : ℕ) (nod
       by_left (a ∷ left) lefts =
           let snoc : left_cells left ++ (a.0, cell_of a.1) ∷ [] ≡ h.cells ++ h.last ∷ [] = ap left_cells (sym lefts) ∙ h.were in
           let parts = snoc_same (left_cells left) h.cells (a.0, cell_of a.1) h.last snoc in
-          by_status a.0 a.1 left lefts (h.inner ∙ ap (λ (x : ℕ × Cell). inner_of x.1) (sym parts.1))
-          (h.are ∙ ap (λ (cs : List (ℕ × Cell)). Some (with_cells cs g.own.0)) (sym parts.0))
+          by_status a.0 a.1 left lefts (h.inner ∙ ap (λ (x : ℕ × AlternativeCell). inner_of x.1) (sym parts.1))
+          (h.are ∙ ap (λ (cs : List (ℕ × AlternativeCell)). Some (with_cells cs g.own.0)) (sym parts.0))
 
-  by_test : (b : Bool) → (at == top) ≡ b → (p : AltRef) (next : ℕ) → IsGone (with_cells (left_cells g.left) g.own.0) (row_at new at) (Some p)
+  by_test : (b : Bool) → (at == top) ≡ b → (p : AltRef) (next : ℕ) → IsGone (with_cells (left_cells g.left) g.own.0) (row_of_node new at) (Some p)
       → Some next ≡ cond b None (Some p.node) → IsGoing old live new (now - 1) next (Inner node)
   by_test true t p next h e = absurd (cc e)
   by_test false t p next h e = upward p next h (λ i. (let z : (at == at) ≡ false = ap (λ (k : ℕ). at == k) i ∙ t in absurd (grind arith))) (cc e)
 
-  pub stepped : (s : Shortened) (left next : ℕ) → IsShortened (row_at rows at) (row_at new at) s → Some next ≡ next_of at top s → left ≡ live_after now s
+  pub stepped : (s : Shortened) (left next : ℕ) → IsShortened (row_of_node rows at) (row_of_node new at) s → Some next ≡ next_of at top s → left ≡ live_after now s
       → IsGoing old live new left next (Inner node)
   stepped shortened.Nothing left next h e l = absurd (cc e)
   stepped (shortened.Row None) left next h e l = absurd (cc e)
@@ -119,7 +119,7 @@ module _ (old : Rows) (live : ℕ) (rows : Rows) (now : ℕ) (at top : ℕ) (nod
       (onward p next (shorter_row p h) e)
 
   -- the node itself has gone
-  whole_gone : g.path ≡ [] → left_cells g.left ≡ [] → row_at new at ≡ None → IsDropped old live new (now - 1) node
+  whole_gone : g.path ≡ [] → left_cells g.left ≡ [] → row_of_node new at ≡ None → IsDropped old live new (now - 1) node
   whole_gone paths lefts row =
       let h : Inner node ≡ Inner (Numbered at g.kind (put_left g.left g.right)) = g.is ∙ ap (λ (p : List Level). plug p (Inner (Numbered at g.kind (put_left g.left g.right)))) paths in
       let none_left = no_left g.left lefts in
@@ -131,7 +131,7 @@ module _ (old : Rows) (live : ℕ) (rows : Rows) (now : ℕ) (at top : ℕ) (nod
       let dones : (m : ℕ) → done m g.path ≡ 0 = (λ m. ap (done m) paths) in
       record {
         gone = λ m l. elim (cases_eq m at) [
-          | inl e ↦ ap (row_at new) e ∙ row
+          | inl e ↦ ap (row_of_node new) e ∙ row
           | inr ne ↦ changed m ne ∙ g.gone m (let a = counts m in let b = one_if-other at m (λ e. ne (sym e)) in omega (arith, l, a, b))
         ];
         same = λ m l. (let a = counts m in let d = dones m in
@@ -167,9 +167,9 @@ module _ (old : Rows) (live : ℕ) (rows : Rows) (now : ℕ) (at top : ℕ) (nod
   end_test true t p e = at_end (grind arith)
   end_test false t p e = absurd (cc e)
 
-  pub ended : (s : Shortened) (left : ℕ) → IsShortened (row_at rows at) (row_at new at) s → None ≡ next_of at top s → left ≡ live_after now s
+  pub ended : (s : Shortened) (left : ℕ) → IsShortened (row_of_node rows at) (row_of_node new at) s → None ≡ next_of at top s → left ≡ live_after now s
       → IsDropped old live new left node
-  ended shortened.Nothing left h e l = absurd (subst (λ (o : Option NodeRow). IsShortened o (row_at new at) shortened.Nothing) g.own.1.1 h)
+  ended shortened.Nothing left h e l = absurd (subst (λ (o : Option StoredNode). IsShortened o (row_of_node new at) shortened.Nothing) g.own.1.1 h)
   ended (shortened.Row None) left h e l = let k = gone_row None h in
       subst (λ (n : ℕ). IsDropped old live new n node) (sym l) (whole_gone (no_parent k.parent) k.were k.are)
   ended (shortened.Row (Some p)) left h e l = let k = gone_row (Some p) h in

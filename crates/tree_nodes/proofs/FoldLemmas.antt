@@ -6,23 +6,23 @@ use Rattle.tree_model.specs.Credits.{Credit, added, credit_of}
 use Rattle.tree_model.specs.Nodes.{Numbered, Status, Inner, Closed}
 use Rattle.tree_model.specs.Levels.{Level, level_node, plug, Place, place_at}
 use Rattle.tree_nodes.specs.Bodies.{Branching, Reading}
-use Rattle.tree_nodes.specs.Rows.{Cell, InnerCell, ClosedCell, NodeRow, Rows, row_at, cells_at, cell_at}
-use Rattle.tree_nodes.specs.TreeTables.{cell_of, cells_of, IsBelow, IsIn, IsRoot, NodesView, StandsFor, Stand, above_of}
-use Rattle.tree_nodes.specs.Changes.{Folded, folded_on, folded_up, closed_tree, ClosesAt, SetsAt}
-use Rattle.tree_nodes.specs.Gathering.{are_shut, shut_beside, with_beside, with_left, with_right, IsFolding, StaysIn, IsStaying}
+use Rattle.tree_nodes.specs.Rows.{AlternativeCell, InnerCell, ClosedCell, StoredNode, Rows, row_of_node, alternatives_at, cell_at}
+use Rattle.tree_nodes.specs.TreeTables.{cell_of, cells_of, IsBelow, IsIn, IsRoot, NodesView, IsTableOf, Stand, above_of}
+use Rattle.tree_nodes.specs.Changes.{Folded, folded_on, folded_up, closed_tree, ClosesAt, SetsCell}
+use Rattle.tree_nodes.specs.Gathering.{are_shut, shut_beside, with_beside, with_left, with_right_credits, IsFolding, StaysIn, IsStaying}
 use Rattle.tree_nodes.specs.Folds.{IsFoldedTo, FoldsTo, FoldsUpTo, IsAbove}
 use Rattle.tree_nodes.proofs.PlaceLemmas.{left_cells, length-left_cells, AreRound, taken_out}
 use Rattle.tree_nodes.proofs.PutLemmas.{cell_there}
 use Rattle.tree_nodes.proofs.LocateLemmas.{found, present}
 use Rattle.tree_nodes.proofs.CreditLemmas.{beside_sum, beside_open}
 
-take-seam : (xs ys : List (ℕ × Cell)) (y : ℕ × Cell) (n : ℕ) → length xs ≡ n → take n (xs ++ y ∷ ys) ≡ xs
+take-seam : (xs ys : List (ℕ × AlternativeCell)) (y : ℕ × AlternativeCell) (n : ℕ) → length xs ≡ n → take n (xs ++ y ∷ ys) ≡ xs
 take-seam [] ys y zero e = refl
 take-seam [] ys y (suc n) e = absurd (omega (arith, e))
 take-seam (x ∷ xs) ys y zero e = absurd (omega (arith, e))
-take-seam (x ∷ xs) ys y (suc n) e = ap (λ (cells : List (ℕ × Cell)). x ∷ cells) (take-seam xs ys y n (omega (arith, e)))
+take-seam (x ∷ xs) ys y (suc n) e = ap (λ (cells : List (ℕ × AlternativeCell)). x ∷ cells) (take-seam xs ys y n (omega (arith, e)))
 
-drop-seam : (xs ys : List (ℕ × Cell)) (y : ℕ × Cell) (n : ℕ) → length xs ≡ n → drop (suc n) (xs ++ y ∷ ys) ≡ ys
+drop-seam : (xs ys : List (ℕ × AlternativeCell)) (y : ℕ × AlternativeCell) (n : ℕ) → length xs ≡ n → drop (suc n) (xs ++ y ∷ ys) ≡ ys
 drop-seam [] ys y zero e = refl
 drop-seam [] ys y (suc n) e = absurd (omega (arith, e))
 drop-seam (x ∷ xs) ys y zero e = absurd (omega (arith, e))
@@ -30,33 +30,33 @@ drop-seam (x ∷ xs) ys y (suc n) e = drop-seam xs ys y n (omega (arith, e))
 
 module _ (rows : Rows) (read : Reading) (v : Level) (up : List Level) (was : Status) (c total : Credit) where
   -- the cells beside a place
-  cells_round : (way : _) → AreRound rows read (v ∷ up) way (cell_of was) → (r : NodeRow) → row_at rows v.number ≡ Some r
+  cells_round : (way : _) → AreRound rows read (v ∷ up) way (cell_of was) → (r : StoredNode) → row_of_node rows v.number ≡ Some r
       → (r.parent ≡ above_of up) × (r.cells ≡ left_cells v.left ++ (v.spent, cell_of was) ∷ cells_of v.right)
   cells_round way h r e =
       let same : Some r ≡ Some (record { parent = above_of up; body = h.0; cells = left_cells v.left ++ (v.spent, cell_of was) ∷ cells_of v.right })
       = sym e ∙ h.1.1.1.row in
-      (ap parent_or same, ap (λ (o : Option NodeRow). cells_at o) same)
+      (ap parent_or same, ap (λ (o : Option StoredNode). alternatives_at o) same)
     where
-      parent_or : Option NodeRow → Option Place
+      parent_or : Option StoredNode → Option Place
       parent_or None = None
       parent_or (Some r) = r.parent
 
-  shut_round : (cells : List (ℕ × Cell)) → cells ≡ left_cells v.left ++ (v.spent, cell_of was) ∷ cells_of v.right
+  shut_round : (cells : List (ℕ × AlternativeCell)) → cells ≡ left_cells v.left ++ (v.spent, cell_of was) ∷ cells_of v.right
       → shut_beside (length v.left) cells ≡ (are_shut (left_cells v.left) && are_shut (cells_of v.right))
   shut_round cells e =
       ap (shut_beside (length v.left)) e
-      ∙ (ap (λ (x : List (ℕ × Cell)). are_shut x && are_shut (drop (suc (length v.left)) (left_cells v.left ++ (v.spent, cell_of was) ∷ cells_of v.right)))
+      ∙ (ap (λ (x : List (ℕ × AlternativeCell)). are_shut x && are_shut (drop (suc (length v.left)) (left_cells v.left ++ (v.spent, cell_of was) ∷ cells_of v.right)))
       (take-seam (left_cells v.left) (cells_of v.right) (v.spent, cell_of was) (length v.left) (length-left_cells v.left))
-      ∙ ap (λ (x : List (ℕ × Cell)). are_shut (left_cells v.left) && are_shut x)
+      ∙ ap (λ (x : List (ℕ × AlternativeCell)). are_shut (left_cells v.left) && are_shut x)
       (drop-seam (left_cells v.left) (cells_of v.right) (v.spent, cell_of was) (length v.left) (length-left_cells v.left)))
 
-  with_round : (cells : List (ℕ × Cell)) → cells ≡ left_cells v.left ++ (v.spent, cell_of was) ∷ cells_of v.right
-      → with_beside (length v.left) cells c ≡ with_left (left_cells v.left) (with_right c (cells_of v.right))
+  with_round : (cells : List (ℕ × AlternativeCell)) → cells ≡ left_cells v.left ++ (v.spent, cell_of was) ∷ cells_of v.right
+      → with_beside (length v.left) cells c ≡ with_left (left_cells v.left) (with_right_credits c (cells_of v.right))
   with_round cells e =
-      ap (λ (x : List (ℕ × Cell)). with_beside (length v.left) x c) e
-      ∙ (ap (λ (x : List (ℕ × Cell)). with_left x (with_right c (drop (suc (length v.left)) (left_cells v.left ++ (v.spent, cell_of was) ∷ cells_of v.right))))
+      ap (λ (x : List (ℕ × AlternativeCell)). with_beside (length v.left) x c) e
+      ∙ (ap (λ (x : List (ℕ × AlternativeCell)). with_left x (with_right_credits c (drop (suc (length v.left)) (left_cells v.left ++ (v.spent, cell_of was) ∷ cells_of v.right))))
       (take-seam (left_cells v.left) (cells_of v.right) (v.spent, cell_of was) (length v.left) (length-left_cells v.left))
-      ∙ ap (λ (x : List (ℕ × Cell)). with_left (left_cells v.left) (with_right c x))
+      ∙ ap (λ (x : List (ℕ × AlternativeCell)). with_left (left_cells v.left) (with_right_credits c x))
       (drop-seam (left_cells v.left) (cells_of v.right) (v.spent, cell_of was) (length v.left) (length-left_cells v.left)))
 
   -- one level up
@@ -94,7 +94,7 @@ module _ (rows : Rows) (read : Reading) (v : Level) (up : List Level) (was : Sta
           place_or a None = a
           place_or a (Some b) = b
 
-          spent_or : Option (ℕ × Cell) → ℕ
+          spent_or : Option (ℕ × AlternativeCell) → ℕ
           spent_or None = 0
           spent_or (Some c) = c.0
 
@@ -116,7 +116,7 @@ module _ (rows : Rows) (read : Reading) (v : Level) (up : List Level) (was : Sta
           ∙ (ap (λ (k : Credit). record { levels = v ∷ u ∷ more; credit = k }) (sym s.sum) ∙ ap (λ (l : List Level). record { levels = v ∷ l; credit = total }) (sym ups)))
 
 -- the alternative that a node is below is there
-pub parent_above : (nodes : NodesView) (n : ℕ) (r : NodeRow) → Stand nodes → row_at nodes.rows n ≡ Some r → IsAbove nodes.rows r.parent n
+pub parent_above : (nodes : NodesView) (n : ℕ) (r : StoredNode) → Stand nodes → row_of_node nodes.rows n ≡ Some r → IsAbove nodes.rows r.parent n
 parent_above nodes n r st e =
     let s = st.stands in
     let f = found n st.root (present nodes st.read st.root n r s e) in
@@ -125,7 +125,7 @@ parent_above nodes n r st e =
     let parent : above_of f.up ≡ r.parent = ap parent_or (sym k.inside.1.0 ∙ e) in
     subst (λ (o : Option Place). IsAbove nodes.rows o n) parent (by_levels f.up k.way k.around k.inside.1.2)
   where
-    parent_or : Option NodeRow → Option Place
+    parent_or : Option StoredNode → Option Place
     parent_or None = None
     parent_or (Some r) = r.parent
 
@@ -160,18 +160,18 @@ folds_end nodes a c b now total h y read v up was e s =
 
 -- closing where it folds to is closing
 pub closes_at : (old new : NodesView) (a : Place) (c : Credit) (b : Place) (total : Credit) (spent : ℕ) → FoldsUpTo old a c b total
-    → ((cell : Cell) → (there : ℕ) → cell_at old.rows b ≡ Some (there, cell) → spent ≡ there)
-    → SetsAt old new b spent (ClosedCell total) → ClosesAt old new a c
+    → ((cell : AlternativeCell) → (there : ℕ) → cell_at old.rows b ≡ Some (there, cell) → spent ≡ there)
+    → SetsCell old new b spent (ClosedCell total) → ClosesAt old new a c
 closes_at old new a c b total spent f same_spent h read v up was e s =
     let k = f read v up was e s in
-    let t = subst (StandsFor old read) k.0.same s in
+    let t = subst (IsTableOf old read) k.0.same s in
     let p = taken_out old.rows read (k.0.level ∷ k.0.above) k.0.status t.placed in
     let there = cell_there old.rows read k.0.level k.0.above p.way (cell_of k.0.status) p.around in
     let spends : spent ≡ k.0.level.spent = same_spent (cell_of k.0.status) k.0.level.spent (ap (cell_at old.rows) (sym k.0.at) ∙ there) in
     let closed = h read k.0.level k.0.above k.0.status k.0.at t in
-    let whole : StandsFor new read (plug (k.0.level ∷ k.0.above) (Closed total))
-    = subst (λ (n : ℕ). StandsFor new read (plug (record k.0.level { spent = n } ∷ k.0.above) (Closed total))) spends closed in
-    subst (λ (g : Folded). StandsFor new read (closed_tree g)) (sym (k.0.folds ∙ k.1)) whole
+    let whole : IsTableOf new read (plug (k.0.level ∷ k.0.above) (Closed total))
+    = subst (λ (n : ℕ). IsTableOf new read (plug (record k.0.level { spent = n } ∷ k.0.above) (Closed total))) spends closed in
+    subst (λ (g : Folded). IsTableOf new read (closed_tree g)) (sym (k.0.folds ∙ k.1)) whole
 
 -- what is provided for is no part of the tree
 pub closes_same : (old middle new : NodesView) (a : Place) (c : Credit) → new.rows ≡ middle.rows → new.first ≡ middle.first → new.live ≡ middle.live
@@ -183,6 +183,6 @@ closes_same old middle new a c r f l h read v up was e s =
       placed = subst (λ (rows : Rows). IsIn rows read [] None root) (sym r) k.placed;
       rooted = subst (λ (o : Option ℕ). IsRoot o root) (sym f) k.rooted;
       distinct = k.distinct;
-      others = λ n h. ap (λ (rows : Rows). row_at rows n) r ∙ k.others n h;
+      others = λ n h. ap (λ (rows : Rows). row_of_node rows n) r ∙ k.others n h;
       live = l ∙ k.live;
     }

@@ -6,15 +6,15 @@ use Rattle.tree_model.specs.Nodes.{Node, Numbered, Alternatives, none, alternati
 use Rattle.tree_model.specs.Levels.{Level, level_node, plug, Place, place_at}
 use Rattle.tree_model.specs.SoundTrees.{one_if, count_among, count_below}
 use Rattle.tree_nodes.specs.Bodies.{Body, Branching, Reading}
-use Rattle.tree_nodes.specs.Rows.{Cell, InnerCell, NodeRow, Rows, row_at}
-use Rattle.tree_nodes.specs.RowViews.{with_cells, with_cell}
-use Rattle.tree_nodes.specs.TreeTables.{number_of, cell_of, cells_of, AreIn, IsIn, NodesView, IsRoot, StandsFor, above_of}
+use Rattle.tree_nodes.specs.Rows.{AlternativeCell, InnerCell, StoredNode, Rows, row_of_node}
+use Rattle.tree_nodes.specs.RowViews.{with_cells, with_state}
+use Rattle.tree_nodes.specs.TreeTables.{node_number, cell_of, cells_of, AreIn, IsIn, NodesView, IsRoot, IsTableOf, above_of}
 use Rattle.tree_nodes.proofs.PlaceLemmas.{left_cells, AreLeftIn, AreRound, IsPlaced, length-left_cells, taken_out, put_in}
 use Rattle.tree_nodes.proofs.PlaceLemmas.{count_left, count_around, count_plug, nodes_around, nodes_plug, one_if-same}
 
 -- what is counted has the same rows
 abbrev pub Agree : Rows → Rows → (ℕ → ℕ) → Type 0
-Agree rows new count = (m : ℕ) → 0 < count m → row_at new m ≡ row_at rows m
+Agree rows new count = (m : ℕ) → 0 < count m → row_of_node new m ≡ row_of_node rows m
 
 mutual
   pub below_kept : (rows new : Rows) (read : Reading) (way : Branching) (parent : Option Place) (status : Status)
@@ -42,7 +42,7 @@ left_kept rows new read way body n (a ∷ left) same h = (
   below_kept rows new read ((body, length left) ∷ way) (Some (record { node = n; index = length left })) a.1 (λ m l. same m (omega (arith, l))) h.1,
 )
 
-pub around_kept : (rows new : Rows) (read : Reading) (levels : List Level) (way : Branching) (cell : Cell)
+pub around_kept : (rows new : Rows) (read : Reading) (levels : List Level) (way : Branching) (cell : AlternativeCell)
     → Agree rows new (λ m. count_around m levels) → AreRound rows read levels way cell → AreRound new read levels way cell
 around_kept rows new read [] way cell same h = h
 around_kept rows new read (v ∷ up) way cell same h =
@@ -67,9 +67,9 @@ around_kept rows new read (v ∷ up) way cell same h =
     )
 
 -- rows are the same round a place, but for the cell at it
-pub record ChangesCell (rows new : Rows) (v : Level) (up : List Level) (cell : ℕ × Cell) : Type 0 where
-  pub row : row_at new v.number ≡ with_cell (length v.left) cell (row_at rows v.number)
-  pub same : (m : ℕ) → 0 < count_around m (v ∷ up) → m ≢ v.number → row_at new m ≡ row_at rows m
+pub record ChangesCell (rows new : Rows) (v : Level) (up : List Level) (cell : ℕ × AlternativeCell) : Type 0 where
+  pub row : row_of_node new v.number ≡ with_state (length v.left) cell (row_of_node rows v.number)
+  pub same : (m : ℕ) → 0 < count_around m (v ∷ up) → m ≢ v.number → row_of_node new m ≡ row_of_node rows m
 
 -- no number of a level is beside it or above
 apart : (v : Level) (up : List Level) → ((m : ℕ) → count_around m (v ∷ up) ≤ 1) → (count : ℕ → ℕ)
@@ -78,17 +78,17 @@ apart v up d count le m l e =
     let here = subst (λ (k : ℕ). 0 < count k) e l in
     omega (arith, here, d v.number, le v.number, one_if-same v.number)
 
-pub around_set : (rows new : Rows) (read : Reading) (v : Level) (up : List Level) (way : Branching) (was cell : Cell) (spent : ℕ)
+pub around_set : (rows new : Rows) (read : Reading) (v : Level) (up : List Level) (way : Branching) (was cell : AlternativeCell) (spent : ℕ)
     → ((m : ℕ) → count_around m (v ∷ up) ≤ 1) → ChangesCell rows new v up (spent, cell) → AreRound rows read (v ∷ up) way was
     → AreRound new read (record v { spent = spent } ∷ up) way cell
 around_set rows new read v up way was cell spent d c h =
     let round = h.1.1.1 in
     let body = h.0 in
-    let old : NodeRow = record { parent = above_of up; body = body; cells = left_cells v.left ++ (v.spent, was) ∷ cells_of v.right } in
-    let row : row_at new v.number
+    let old : StoredNode = record { parent = above_of up; body = body; cells = left_cells v.left ++ (v.spent, was) ∷ cells_of v.right } in
+    let row : row_of_node new v.number
     ≡ Some (record { parent = above_of up; body = body; cells = left_cells v.left ++ (spent, cell) ∷ cells_of v.right }) =
-    (c.row ∙ ap (with_cell (length v.left) (spent, cell)) round.row)
-    ∙ ap (λ (cells : List (ℕ × Cell)). Some (with_cells cells old))
+    (c.row ∙ ap (with_state (length v.left) (spent, cell)) round.row)
+    ∙ ap (λ (cells : List (ℕ × AlternativeCell)). Some (with_cells cells old))
     (set_at (left_cells v.left) (v.spent, was) (cells_of v.right) (spent, cell) (length v.left) (length-left_cells v.left)) in (
       body,
       (
@@ -110,7 +110,7 @@ around_set rows new read v up way was cell spent d c h =
       ),
     )
 
-root_kept : (first : Option ℕ) (up : List Level) (node other : Node) → number_of node ≡ number_of other → IsRoot first (plug up (Inner node))
+root_kept : (first : Option ℕ) (up : List Level) (node other : Node) → node_number node ≡ node_number other → IsRoot first (plug up (Inner node))
     → IsRoot first (plug up (Inner other))
 root_kept first [] node other e h = h ∙ ap Some e
 root_kept first (u ∷ up) node other e h = root_kept first up (level_node u (Inner node)) (level_node u (Inner other)) refl h
@@ -121,13 +121,13 @@ pub record Replaces (old new : NodesView) (read : Reading) (v : Level) (up : Lis
   pub cell : ChangesCell old.rows new.rows v up (spent, cell_of now)
   pub inside : IsIn new.rows read placed.way (Some (place_at v)) now
   pub distinct : (m : ℕ) → count_around m (v ∷ up) + count_below m now ≤ 1
-  pub others : (m : ℕ) → count_around m (v ∷ up) ≡ 0 → count_below m now ≡ 0 → row_at new.rows m ≡ None
+  pub others : (m : ℕ) → count_around m (v ∷ up) ≡ 0 → count_below m now ≡ 0 → row_of_node new.rows m ≡ None
   pub live : new.live ≡ nodes_around (v ∷ up) + nodes_below now
   pub first : new.first ≡ old.first
 
 pub replaced : (old new : NodesView) (read : Reading) (v : Level) (up : List Level) (was now : Status) (spent : ℕ)
-    (s : StandsFor old read (plug (v ∷ up) was)) → Replaces old new read v up was now spent (taken_out old.rows read (v ∷ up) was s.placed)
-    → StandsFor new read (plug (record v { spent = spent } ∷ up) now)
+    (s : IsTableOf old read (plug (v ∷ up) was)) → Replaces old new read v up was now spent (taken_out old.rows read (v ∷ up) was s.placed)
+    → IsTableOf new read (plug (record v { spent = spent } ∷ up) now)
 replaced old new read v up was now spent s r =
     let k = taken_out old.rows read (v ∷ up) was s.placed in
     let levels : List Level = record v { spent = spent } ∷ up in

@@ -9,15 +9,15 @@ use Rattle.tree_model.specs.Nodes.{nodes_among, nodes_below}
 use Rattle.tree_model.specs.Levels.{Level, put_left, plug, Place}
 use Rattle.tree_model.specs.SoundTrees.{one_if, count_among, count_below}
 use Rattle.tree_nodes.specs.Bodies.{Branching, Reading}
-use Rattle.tree_nodes.specs.Rows.{Cell, NodeRow, Rows, row_at}
+use Rattle.tree_nodes.specs.Rows.{AlternativeCell, StoredNode, Rows, row_of_node}
 use Rattle.tree_nodes.specs.RowViews.{with_cells}
-use Rattle.tree_nodes.specs.TreeTables.{number_of, cells_of, IsNodeIn}
+use Rattle.tree_nodes.specs.TreeTables.{node_number, cells_of, IsNodeIn}
 use Rattle.tree_nodes.proofs.PlaceLemmas.{left_cells, cells_of-put, count_left, count_around, count_plug, one_if-same, one_if-other}
 use Rattle.tree_nodes.proofs.DropLemmas.{all_left, done, on_path, nodes_done, done_within}
 
 -- of a node its alternatives on the left are left
 abbrev pub IsShort : Rows → Rows → ℕ → List (ℕ × Status) → Type 0
-IsShort old rows n left = (r : NodeRow) × ((row_at old n ≡ Some r) × (row_at rows n ≡ Some (with_cells (left_cells left) r)))
+IsShort old rows n left = (r : StoredNode) × ((row_of_node old n ≡ Some r) × (row_of_node rows n ≡ Some (with_cells (left_cells left) r)))
 
 abbrev pub AreShort : Rows → Rows → List Level → Type 0
 AreShort old rows [] = Unit {0}
@@ -32,18 +32,18 @@ pub record IsGoing (old : Rows) (live : ℕ) (rows : Rows) (now : ℕ) (at : ℕ
   pub is : status ≡ plug path (Inner (Numbered at kind (put_left left right)))
   pub own : IsShort old rows at left
   pub above : AreShort old rows path
-  pub gone : (m : ℕ) → 0 < count_among m right + done m path → row_at rows m ≡ None
-  pub same : (m : ℕ) → count_among m right + done m path ≡ 0 → m ≢ at → on_path m path ≡ 0 → row_at rows m ≡ row_at old m
+  pub gone : (m : ℕ) → 0 < count_among m right + done m path → row_of_node rows m ≡ None
+  pub same : (m : ℕ) → count_among m right + done m path ≡ 0 → m ≢ at → on_path m path ≡ 0 → row_of_node rows m ≡ row_of_node old m
   pub counted : now ≡ live - (nodes_among right + nodes_done path)
 
 -- all of it is still there
 pub going_begins : (rows : Rows) (live : ℕ) (read : Reading) (way : Branching) (parent : Option Place) (node : Node)
-    → IsNodeIn rows read way parent node → IsGoing rows live rows live (number_of node) (Inner node)
+    → IsNodeIn rows read way parent node → IsGoing rows live rows live (node_number node) (Inner node)
 going_begins rows live read way parent (Numbered n kind others) h =
     let all = all_left others [] in
     let cells : cells_of others ≡ left_cells all.all = ap cells_of all.is ∙ (cells_of-put all.all none ∙ append-nil (left_cells all.all)) in
-    let r : NodeRow = record { parent = parent; body = h.0; cells = cells_of others } in
-    let now : row_at rows n ≡ Some (with_cells (left_cells all.all) r) = h.1.0 ∙ ap (λ (cs : List (ℕ × Cell)). Some (with_cells cs r)) cells in
+    let r : StoredNode = record { parent = parent; body = h.0; cells = cells_of others } in
+    let now : row_of_node rows n ≡ Some (with_cells (left_cells all.all) r) = h.1.0 ∙ ap (λ (cs : List (ℕ × AlternativeCell)). Some (with_cells cs r)) cells in
     record {
       path = [];
       kind = kind;
@@ -79,7 +79,7 @@ counted_once n kind path left right status once is m =
     omega (arith, whole, parts, here)
 
 -- the rows on a path are the same where the table has changed at no number of it
-above_kept : (old rows new : Rows) (n : ℕ) (path : List Level) → ((m : ℕ) → m ≢ n → row_at new m ≡ row_at rows m) → on_path n path ≡ 0
+above_kept : (old rows new : Rows) (n : ℕ) (path : List Level) → ((m : ℕ) → m ≢ n → row_of_node new m ≡ row_of_node rows m) → on_path n path ≡ 0
     → AreShort old rows path → AreShort old new path
 above_kept old rows new n [] same off h = tt
 above_kept old rows new n (v ∷ path) same off h =
@@ -87,14 +87,14 @@ above_kept old rows new n (v ∷ path) same off h =
     ((h.0.0, (h.0.1.0, same v.number ne ∙ h.0.1.1)), above_kept old rows new n path same (omega (arith, off)) h.1)
 
 module _ (old : Rows) (live : ℕ) (rows : Rows) (now : ℕ) (at : ℕ) (status : Status) (once : IsOnce status) (g : IsGoing old live rows now at status)
-    (new : Rows) (changed : (m : ℕ) → m ≢ at → row_at new m ≡ row_at rows m) where
+    (new : Rows) (changed : (m : ℕ) → m ≢ at → row_of_node new m ≡ row_of_node rows m) where
   once_here : (m : ℕ) → count_around m g.path + (one_if (at == m) + (count_left m g.left + count_among m g.right)) ≤ 1
   once_here = counted_once at g.kind g.path g.left g.right status once g.is
 
   -- an alternative without a node below it was taken off
   pub passed : (spent : ℕ) (there : Status) (left : List (ℕ × Status)) → g.left ≡ (spent, there) ∷ left
       → ((m : ℕ) → count_below m there ≡ 0) → nodes_below there ≡ 0
-      → row_at new at ≡ Some (with_cells (left_cells left) g.own.0) → IsGoing old live new now at status
+      → row_of_node new at ≡ Some (with_cells (left_cells left) g.own.0) → IsGoing old live new now at status
   passed spent there left lefts zero_count zero_nodes row = record {
     path = g.path;
     kind = g.kind;
@@ -113,8 +113,8 @@ module _ (old : Rows) (live : ℕ) (rows : Rows) (now : ℕ) (at : ℕ) (status 
 
   -- an alternative was taken off, and the node below it is next
   pub entered : (spent below : ℕ) (kind : Kind) (others : Alternatives) (left : List (ℕ × Status)) → g.left ≡ (spent, Inner (Numbered below kind others)) ∷ left
-      → (r : NodeRow) → row_at old below ≡ Some r → r.cells ≡ cells_of others
-      → row_at new at ≡ Some (with_cells (left_cells left) g.own.0) → IsGoing old live new now below status
+      → (r : StoredNode) → row_of_node old below ≡ Some r → r.cells ≡ cells_of others
+      → row_of_node new at ≡ Some (with_cells (left_cells left) g.own.0) → IsGoing old live new now below status
   entered spent below kind others left lefts r there cells row =
       let v : Level = record { number = at; kind = g.kind; left = left; spent = spent; right = g.right } in
       let all = all_left others [] in
@@ -125,7 +125,7 @@ module _ (old : Rows) (live : ℕ) (rows : Rows) (now : ℕ) (at : ℕ) (status 
       let at_below = at_once below in
       let below_path = done_within below g.path in
       let apart : below ≢ at = (λ e. (let z = one_if-same at in let y : one_if (at == below) ≡ one_if (at == at) = ap (λ (k : ℕ). one_if (at == k)) e in omega (arith, z, y, own_one, at_below))) in
-      let still : row_at new below ≡ row_at old below = changed below apart ∙ g.same below (omega (arith, own_one, at_below, below_path)) apart (omega (arith, own_one, at_below, below_path)) in
+      let still : row_of_node new below ≡ row_of_node old below = changed below apart ∙ g.same below (omega (arith, own_one, at_below, below_path)) apart (omega (arith, own_one, at_below, below_path)) in
       record {
         path = v ∷ g.path;
         kind = kind;
@@ -133,7 +133,7 @@ module _ (old : Rows) (live : ℕ) (rows : Rows) (now : ℕ) (at : ℕ) (status 
         right = none;
         is = (g.is ∙ ap (λ (l : List (ℕ × Status)). plug g.path (Inner (Numbered at g.kind (put_left l g.right)))) lefts)
             ∙ ap (λ (rest : Alternatives). plug (v ∷ g.path) (Inner (Numbered below kind rest))) all.is;
-        own = (r, (there, (still ∙ there) ∙ ap (λ (cs : List (ℕ × Cell)). Some (with_cells cs r)) (cells ∙ all_cells)));
+        own = (r, (there, (still ∙ there) ∙ ap (λ (cs : List (ℕ × AlternativeCell)). Some (with_cells cs r)) (cells ∙ all_cells)));
         above = (
           (g.own.0, (g.own.1.0, row)),
           above_kept old rows new at g.path changed (let z = once_here at in let y = one_if-same at in let x = done_within at g.path in omega (arith, z, y, x)) g.above,
@@ -147,7 +147,7 @@ module _ (old : Rows) (live : ℕ) (rows : Rows) (now : ℕ) (at : ℕ) (status 
       }
 
   -- a node without alternatives was taken out, and the one above it is next
-  pub left_behind : (v : Level) (path : List Level) → g.path ≡ v ∷ path → g.left ≡ [] → row_at new at ≡ None → IsGoing old live new (now - 1) v.number status
+  pub left_behind : (v : Level) (path : List Level) → g.path ≡ v ∷ path → g.left ≡ [] → row_of_node new at ≡ None → IsGoing old live new (now - 1) v.number status
   left_behind v path paths lefts row =
       let gone_node : Node = Numbered at g.kind (put_left g.left g.right) in
       let counts : (m : ℕ) → count_among m (put_left g.left g.right) ≡ count_among m g.right = (λ m. let z = count-put-here m g.left g.right in
@@ -167,7 +167,7 @@ module _ (old : Rows) (live : ℕ) (rows : Rows) (now : ℕ) (at : ℕ) (status 
         own = kept.0;
         above = kept.1;
         gone = λ m l. elim (cases_eq m at) [
-          | inl e ↦ ap (row_at new) e ∙ row
+          | inl e ↦ ap (row_of_node new) e ∙ row
           | inr ne ↦ changed m ne ∙ g.gone m (let z = counts m in let y = dones m in let x = one_if-other at m (λ e. ne (sym e)) in omega (arith, l, z, y, x))
         ];
         same = λ m l ne on. (let off : m ≢ at = (λ e. (let l' = subst (λ (k : ℕ). ((one_if (at == k) + count_among k (put_left g.left g.right)) + count_among k v.right) + done k path ≡ 0) e l in

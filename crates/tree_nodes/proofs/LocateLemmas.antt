@@ -8,8 +8,8 @@ use Rattle.tree_model.specs.Nodes.{Kind, Numbered, Alternatives, none, alternati
 use Rattle.tree_model.specs.Levels.{Level, put_left, level_node, plug, Place, place_at}
 use Rattle.tree_model.specs.SoundTrees.{count_among, count_below}
 use Rattle.tree_nodes.specs.Bodies.{Reading}
-use Rattle.tree_nodes.specs.Rows.{Cell, NodeRow, row_at, cells_at, cell_at}
-use Rattle.tree_nodes.specs.TreeTables.{cells_of, IsIn, NodesView, StandsFor}
+use Rattle.tree_nodes.specs.Rows.{AlternativeCell, StoredNode, row_of_node, alternatives_at, cell_at}
+use Rattle.tree_nodes.specs.TreeTables.{cells_of, IsIn, NodesView, IsTableOf}
 use Rattle.tree_nodes.proofs.PlaceLemmas.{taken_out, one_if-other}
 
 -- a status is a node of this number in a context
@@ -82,19 +82,19 @@ pub record IsAt (root : Status) (a : Place) : Type 0 where
   pub is : root ≡ plug (level ∷ above) status
   pub at : place_at level ≡ a
 
-pub present : (nodes : NodesView) (read : Reading) (root : Status) (n : ℕ) (r : NodeRow) → StandsFor nodes read root → row_at nodes.rows n ≡ Some r
+pub present : (nodes : NodesView) (read : Reading) (root : Status) (n : ℕ) (r : StoredNode) → IsTableOf nodes read root → row_of_node nodes.rows n ≡ Some r
     → 0 < count_below n root
 present nodes read root n r s e =
     elim (cases_lt 0 (count_below n root)) [ inl l ↦ l | inr not ↦ absurd (let z = s.others n (omega (arith, not)) in cc (z, e)) ]
 
-at_row : (nodes : NodesView) (read : Reading) (root : Status) (n i : ℕ) (r : NodeRow) → StandsFor nodes read root → row_at nodes.rows n ≡ Some r
+at_row : (nodes : NodesView) (read : Reading) (root : Status) (n i : ℕ) (r : StoredNode) → IsTableOf nodes read root → row_of_node nodes.rows n ≡ Some r
     → i < length r.cells → IsAt root (record { node = n; index = i })
 at_row nodes read root n i r s e l =
     let f = found n root (present nodes read root n r s e) in
     let placed : IsIn nodes.rows read [] None (plug f.up (Inner (Numbered n f.kind f.alternatives))) = subst (IsIn nodes.rows read [] None) f.is s.placed in
     let k = taken_out nodes.rows read f.up (Inner (Numbered n f.kind f.alternatives)) placed in
     let same : r.cells ≡ cells_of f.alternatives = cc (e, k.inside.1.0) in
-    let p = split_at f.alternatives [] i (subst (λ (cells : List (ℕ × Cell)). i < length cells) same l) in
+    let p = split_at f.alternatives [] i (subst (λ (cells : List (ℕ × AlternativeCell)). i < length cells) same l) in
     let v : Level = record { number = n; kind = f.kind; left = p.before; spent = p.spent; right = p.right } in
     let index : length p.before ≡ i = (let z = p.index in omega (arith, z)) in
     record {
@@ -105,10 +105,10 @@ at_row nodes read root n i r s e l =
       at = ap (λ (j : ℕ). record { node = n; index = j }) index;
     }
 
-pub located : (nodes : NodesView) (read : Reading) (root : Status) (a : Place) (c : ℕ × Cell) → StandsFor nodes read root
+pub located : (nodes : NodesView) (read : Reading) (root : Status) (a : Place) (c : ℕ × AlternativeCell) → IsTableOf nodes read root
     → cell_at nodes.rows a ≡ Some c → IsAt root a
-located nodes read root a c s e = at_option (row_at nodes.rows a.node) refl e
+located nodes read root a c s e = at_option (row_of_node nodes.rows a.node) refl e
   where
-    at_option : (o : Option NodeRow) → row_at nodes.rows a.node ≡ o → slice_get (cells_at o) a.index ≡ Some c → IsAt root a
+    at_option : (o : Option StoredNode) → row_of_node nodes.rows a.node ≡ o → slice_get (alternatives_at o) a.index ≡ Some c → IsAt root a
     at_option None h k = absurd (cc k)
     at_option (Some r) h k = at_row nodes read root a.node a.index r s h (slice_get_within r.cells a.index c k)

@@ -7,22 +7,22 @@ use Rattle.tree_model.specs.Nodes.{Node, Numbered, Status, Pending, Inner, Close
 use Rattle.tree_model.specs.Levels.{Level, level_node, plug, Place, place_at}
 use Rattle.tree_model.specs.Orders.{path_of, parts_left}
 use Rattle.tree_nodes.specs.Bodies.{Branching, Reading}
-use Rattle.tree_nodes.specs.Rows.{Cell, PendingCell, InnerCell, ClosedCell, NodeRow, Rows, row_at, cell_at}
-use Rattle.tree_nodes.specs.TreeTables.{number_of, cell_of, IsIn, NodesView, IsRoot, StandsFor, above_of}
+use Rattle.tree_nodes.specs.Rows.{AlternativeCell, PendingCell, InnerCell, ClosedCell, StoredNode, Rows, row_of_node, cell_at}
+use Rattle.tree_nodes.specs.TreeTables.{node_number, cell_of, IsIn, NodesView, IsRoot, IsTableOf, above_of}
 use Rattle.tree_nodes.proofs.PlaceLemmas.{AreRound, taken_out}
 use Rattle.tree_nodes.proofs.PutLemmas.{cell_there}
 use Rattle.tree_nodes.proofs.WalkLemmas.{one_level_up, no_level_up}
 
-abbrev parent_or : Option NodeRow → Option Place
+abbrev parent_or : Option StoredNode → Option Place
 parent_or None = None
 parent_or (Some r) = r.parent
 
 abbrev number_or : Status → ℕ
-number_or (Inner node) = number_of node
+number_or (Inner node) = node_number node
 number_or (Pending hold entry) = 0
 number_or (Closed credit) = 0
 
-abbrev inner_or : Option (ℕ × Cell) → ℕ
+abbrev inner_or : Option (ℕ × AlternativeCell) → ℕ
 inner_or None = 0
 inner_or (Some c) = elim c.1 [ PendingCell hold ↦ 0 | InnerCell n ↦ n | ClosedCell credit ↦ 0 ]
 
@@ -92,7 +92,7 @@ sides_turned root one other a b s = record {
 }
 
 -- the level above has a lower number
-lower_above : (rows : Rows) (read : Reading) (v u : Level) (up : List Level) (way : Branching) (cell : Cell) → AreRound rows read (v ∷ u ∷ up) way cell
+lower_above : (rows : Rows) (read : Reading) (v u : Level) (up : List Level) (way : Branching) (cell : AlternativeCell) → AreRound rows read (v ∷ u ∷ up) way cell
     → u.number < v.number
 lower_above rows read v u up way cell h = h.1.1.1.below
 
@@ -105,8 +105,8 @@ apart_below x out [] h = tt
 apart_below x out (y ∷ other) h = λ e. absurd (omega (arith, h, e))
 
 -- the deeper side goes up
-pub first_up : (nodes : NodesView) (read : Reading) (root : Status) (one other : List Level) (a b above : Place) → StandsFor nodes read root
-    → AreSides root one other a b → b.node < a.node → option_map (λ r. r.parent) (row_at nodes.rows a.node) ≡ Some (Some above)
+pub first_up : (nodes : NodesView) (read : Reading) (root : Status) (one other : List Level) (a b above : Place) → IsTableOf nodes read root
+    → AreSides root one other a b → b.node < a.node → option_map (λ r. r.parent) (row_of_node nodes.rows a.node) ≡ Some (Some above)
     → AreSides root one other above b
 first_up nodes read root one other a b above st s l p =
     let f = s.first in
@@ -114,8 +114,8 @@ first_up nodes read root one other a b above st s l p =
     let k = taken_out nodes.rows read (f.level ∷ f.above) f.status placed in
     let node : f.level.number ≡ a.node = ap (λ (q : Place). q.node) f.at in
     let node_b : s.second.level.number ≡ b.node = ap (λ (q : Place). q.node) s.second.at in
-    let parent : Some (above_of f.above) ≡ Some (Some above) = sym (ap (λ (o : Option NodeRow). option_map (λ r. r.parent) o) k.around.1.1.1.row)
-    ∙ (ap (λ (n : ℕ). option_map (λ r. r.parent) (row_at nodes.rows n)) node ∙ p) in
+    let parent : Some (above_of f.above) ≡ Some (Some above) = sym (ap (λ (o : Option StoredNode). option_map (λ r. r.parent) o) k.around.1.1.1.row)
+    ∙ (ap (λ (n : ℕ). option_map (λ r. r.parent) (row_of_node nodes.rows n)) node ∙ p) in
     let u = one_level_up f.level f.above above (cc parent) in
     let round : AreRound nodes.rows read (f.level ∷ u.level ∷ u.above) k.way (cell_of f.status) = subst (λ (ls : List Level). AreRound nodes.rows read (f.level ∷ ls) k.way (cell_of f.status)) u.is k.around in
     let lower = lower_above nodes.rows read f.level u.level u.above k.way (cell_of f.status) round in
@@ -136,24 +136,24 @@ first_up nodes read root one other a b above st s l p =
     }
 
 -- no side goes up from the first node while the other is above it
-least : (rows : Rows) (read : Reading) (w : Level) (over : List Level) (way : Branching) (t : Status) (cell : Cell) (node : Node) → AreRound rows read (w ∷ over) way cell
-    → Inner node ≡ plug (w ∷ over) t → number_of node ≤ w.number
-least rows read w [] way t cell node h e = (let z : number_of node ≡ w.number = ap number_or e in omega (arith, z))
+least : (rows : Rows) (read : Reading) (w : Level) (over : List Level) (way : Branching) (t : Status) (cell : AlternativeCell) (node : Node) → AreRound rows read (w ∷ over) way cell
+    → Inner node ≡ plug (w ∷ over) t → node_number node ≤ w.number
+least rows read w [] way t cell node h e = (let z : node_number node ≡ w.number = ap number_or e in omega (arith, z))
 least rows read w (u ∷ over) way t cell node h e =
     let k = least rows read u over h.1.0 (Inner (level_node w t)) (InnerCell w.number) node h.1.1.2 e in
     let l = lower_above rows read w u over way cell h in
     omega (arith, k, l)
 
-pub never_stuck : (nodes : NodesView) (read : Reading) (root : Status) (one other : List Level) (a b : Place) → StandsFor nodes read root
-    → AreSides root one other a b → b.node < a.node → option_map (λ r. r.parent) (row_at nodes.rows a.node) ≡ Some None → ⊥
+pub never_stuck : (nodes : NodesView) (read : Reading) (root : Status) (one other : List Level) (a b : Place) → IsTableOf nodes read root
+    → AreSides root one other a b → b.node < a.node → option_map (λ r. r.parent) (row_of_node nodes.rows a.node) ≡ Some None → ⊥
 never_stuck nodes read root one other a b st s l p =
     let f = s.first in
     let placed = subst (IsIn nodes.rows read [] None) f.is st.placed in
     let k = taken_out nodes.rows read (f.level ∷ f.above) f.status placed in
     let node : f.level.number ≡ a.node = ap (λ (q : Place). q.node) f.at in
     let node_b : s.second.level.number ≡ b.node = ap (λ (q : Place). q.node) s.second.at in
-    let parent : Some (above_of f.above) ≡ Some None = sym (ap (λ (o : Option NodeRow). option_map (λ r. r.parent) o) k.around.1.1.1.row)
-    ∙ (ap (λ (n : ℕ). option_map (λ r. r.parent) (row_at nodes.rows n)) node ∙ p) in
+    let parent : Some (above_of f.above) ≡ Some None = sym (ap (λ (o : Option StoredNode). option_map (λ r. r.parent) o) k.around.1.1.1.row)
+    ∙ (ap (λ (n : ℕ). option_map (λ r. r.parent) (row_of_node nodes.rows n)) node ∙ p) in
     let top = no_level_up f.above (cc parent) in
     let whole : root ≡ Inner (level_node f.level f.status) = f.is ∙ ap (λ (ls : List Level). plug (f.level ∷ ls) f.status) top in
     let g = s.second in
@@ -163,7 +163,7 @@ never_stuck nodes read root one other a b st s l p =
     omega (arith, l, node, node_b, z)
 
 -- where both are at one node, what is above is the same
-path_same : (rows : Rows) (read : Reading) (up over : List Level) (way other : Branching) (cell there : Cell) → AreRound rows read up way cell
+path_same : (rows : Rows) (read : Reading) (up over : List Level) (way other : Branching) (cell there : AlternativeCell) → AreRound rows read up way cell
     → AreRound rows read over other there → above_of up ≡ above_of over → path_of up ≡ path_of over
 path_same rows read [] [] way other cell there h k e = refl
 path_same rows read [] (w ∷ over) way other cell there h k e = absurd (cc e)
@@ -171,7 +171,7 @@ path_same rows read (v ∷ up) [] way other cell there h k e = absurd (cc e)
 path_same rows read (v ∷ up) (w ∷ over) way other cell there h k e =
     let place : place_at v ≡ place_at w = cc e in
     let node : v.number ≡ w.number = ap (λ (q : Place). q.node) place in
-    let rows_same = sym h.1.1.1.row ∙ (ap (row_at rows) node ∙ k.1.1.1.row) in
+    let rows_same = sym h.1.1.1.row ∙ (ap (row_of_node rows) node ∙ k.1.1.1.row) in
     let parents : above_of up ≡ above_of over = ap parent_or rows_same in
     let rest = path_same rows read up over h.1.0 k.1.0 (InnerCell v.number) (InnerCell w.number) h.1.1.2 k.1.1.2 parents in
     ap (λ (ps : List Place). ps ++ place_at v ∷ []) rest ∙ ap (λ (q : Place). path_of over ++ q ∷ []) place
@@ -184,21 +184,21 @@ parts_front (a ∷ front) ps qs = ap (λ (b : Bool). cond b (parts_left (front +
     same_index n = grind arith
 
 -- the node below a place that was left
-round_back : (rows : Rows) (read : Reading) (out levels : List Level) (way : Branching) (cell : Cell) → AreRound rows read (put_back out levels) way cell
-    → (other : Branching) × ((there : Cell) × AreRound rows read levels other there)
+round_back : (rows : Rows) (read : Reading) (out levels : List Level) (way : Branching) (cell : AlternativeCell) → AreRound rows read (put_back out levels) way cell
+    → (other : Branching) × ((there : AlternativeCell) × AreRound rows read levels other there)
 round_back rows read [] levels way cell h = (way, (cell, h))
 round_back rows read (x ∷ out) levels way cell h =
     let k = round_back rows read out (x ∷ levels) way cell h in
     (k.1.1.1.0, (InnerCell x.number, k.1.1.1.1.2))
 
-head_cell : (rows : Rows) (read : Reading) (x : Level) (out levels : List Level) (way : Branching) (cell : Cell) → AreRound rows read (put_back (x ∷ out) levels) way cell
+head_cell : (rows : Rows) (read : Reading) (x : Level) (out levels : List Level) (way : Branching) (cell : AlternativeCell) → AreRound rows read (put_back (x ∷ out) levels) way cell
     → (other : Branching) × AreRound rows read levels other (InnerCell x.number)
 head_cell rows read x out levels way cell h =
     let k = round_back rows read out (x ∷ levels) way cell h in
     (k.1.1.1.0, k.1.1.1.1.2)
 
 module _ (nodes : NodesView) (read : Reading) (root : Status) (v : Level) (up : List Level) (s : Status) (w : Level) (over : List Level) (t : Status)
-    (st : StandsFor nodes read root) (is : root ≡ plug (v ∷ up) s) (other_is : root ≡ plug (w ∷ over) t) (a b : Place)
+    (st : IsTableOf nodes read root) (is : root ≡ plug (v ∷ up) s) (other_is : root ≡ plug (w ∷ over) t) (a b : Place)
     (sides : AreSides root (v ∷ up) (w ∷ over) a b) (met : a.node ≡ b.node) where
   node_same : sides.first.level.number ≡ sides.second.level.number
   node_same = ap (λ (q : Place). q.node) sides.first.at ∙ (met ∙ ap (λ (q : Place). q.node) (sym sides.second.at))
@@ -207,7 +207,7 @@ module _ (nodes : NodesView) (read : Reading) (root : Status) (v : Level) (up : 
   fronts_same =
       let k = taken_out nodes.rows read (sides.first.level ∷ sides.first.above) sides.first.status (subst (IsIn nodes.rows read [] None) sides.first.is st.placed) in
       let m = taken_out nodes.rows read (sides.second.level ∷ sides.second.above) sides.second.status (subst (IsIn nodes.rows read [] None) sides.second.is st.placed) in
-      let rows_same = sym k.around.1.1.1.row ∙ (ap (row_at nodes.rows) node_same ∙ m.around.1.1.1.row) in
+      let rows_same = sym k.around.1.1.1.row ∙ (ap (row_of_node nodes.rows) node_same ∙ m.around.1.1.1.row) in
       path_same nodes.rows read sides.first.above sides.second.above k.around.1.0 m.around.1.0 (InnerCell sides.first.level.number) (InnerCell sides.second.level.number)
       k.around.1.1.2 m.around.1.1.2 (ap parent_or rows_same)
 

@@ -5,12 +5,12 @@ use Rattle.tree_model.specs.Nodes.{Alternatives, alternative, Status, Inner}
 use Rattle.tree_model.specs.Nodes.{nodes_among, nodes_below}
 use Rattle.tree_model.specs.Levels.{Level, put_left, level_node, plug, Place, place_at}
 use Rattle.tree_model.specs.SoundTrees.{one_if, count_among, count_below}
-use Rattle.tree_nodes.specs.Bodies.{Body, Branching, Reading, kind_of}
-use Rattle.tree_nodes.specs.Rows.{Cell, InnerCell, Rows, row_at}
+use Rattle.tree_nodes.specs.Bodies.{Body, Branching, Reading, node_kind}
+use Rattle.tree_nodes.specs.Rows.{AlternativeCell, InnerCell, Rows, row_of_node}
 use Rattle.tree_nodes.specs.TreeTables.{cell_of, cells_of, IsBelow, AreIn, IsIn, above_of}
 
 -- the cells of alternatives whose nearest stands first
-abbrev pub left_cells : List (ℕ × Status) → List (ℕ × Cell)
+abbrev pub left_cells : List (ℕ × Status) → List (ℕ × AlternativeCell)
 left_cells [] = []
 left_cells (a ∷ left) = left_cells left ++ (a.0, cell_of a.1) ∷ []
 
@@ -23,16 +23,16 @@ AreLeftIn rows read way body n (a ∷ left) = AreLeftIn rows read way body n lef
     × IsIn rows read ((body, length left) ∷ way) (place_number n (length left)) a.1
 
 -- a node round an alternative with this cell
-pub record IsRound (rows : Rows) (read : Reading) (up : List Level) (above : Branching) (body : Body) (v : Level) (cell : Cell) : Type 0 where
-  pub row : row_at rows v.number
+pub record IsRound (rows : Rows) (read : Reading) (up : List Level) (above : Branching) (body : Body) (v : Level) (cell : AlternativeCell) : Type 0 where
+  pub row : row_of_node rows v.number
       ≡ Some (record { parent = above_of up; body = body; cells = left_cells v.left ++ (v.spent, cell) ∷ cells_of v.right })
-  pub kind : v.kind ≡ kind_of body.kind
+  pub kind : v.kind ≡ node_kind body.kind
   pub below : IsBelow (above_of up) v.number
   pub left : AreLeftIn rows read above body v.number v.left
   pub right : AreIn rows read above body v.number (suc (length v.left)) v.right
 
 -- all nodes round a place with this cell, by the way down to it
-abbrev pub AreRound : Rows → Reading → List Level → Branching → Cell → Type 0
+abbrev pub AreRound : Rows → Reading → List Level → Branching → AlternativeCell → Type 0
 AreRound rows read [] way cell = way ≡ []
 AreRound rows read (v ∷ up) way cell =
     (body : Body) × ((above : Branching) × ((way ≡ (body, length v.left) ∷ above) × IsRound rows read up above body v cell
@@ -76,9 +76,9 @@ taken_out rows read (v ∷ up) status h =
     let body = k.inside.0 in
     let facts = k.inside.1 in
     let parts = are_in-split rows read k.way body v.number v.left (alternative v.spent status v.right) facts.3 in
-    let row : row_at rows v.number
+    let row : row_of_node rows v.number
     ≡ Some (record { parent = above_of up; body = body; cells = left_cells v.left ++ (v.spent, cell_of status) ∷ cells_of v.right }) = facts.0
-    ∙ ap (λ (cells : List (ℕ × Cell)). Some (record { parent = above_of up; body = body; cells = cells }))
+    ∙ ap (λ (cells : List (ℕ × AlternativeCell)). Some (record { parent = above_of up; body = body; cells = cells }))
     (cells_of-put v.left (alternative v.spent status v.right)) in
     record {
       way = (body, length v.left) ∷ k.way;
@@ -94,9 +94,9 @@ put_in rows read (v ∷ up) way status h k =
     let above = h.1.0 in
     let round = h.1.1.1 in
     let here = subst (λ (w : Branching). IsIn rows read w (Some (place_at v)) status) h.1.1.0 k in
-    let row : row_at rows v.number
+    let row : row_of_node rows v.number
     ≡ Some (record { parent = above_of up; body = body; cells = cells_of (put_left v.left (alternative v.spent status v.right)) }) = round.row
-    ∙ ap (λ (cells : List (ℕ × Cell)). Some (record { parent = above_of up; body = body; cells = cells }))
+    ∙ ap (λ (cells : List (ℕ × AlternativeCell)). Some (record { parent = above_of up; body = body; cells = cells }))
     (sym (cells_of-put v.left (alternative v.spent status v.right))) in
     put_in rows read up above (Inner (level_node v status)) h.1.1.2
     (body, (row, round.kind, round.below, are_in-join rows read above body v.number v.left (alternative v.spent status v.right) round.left (here, round.right)))

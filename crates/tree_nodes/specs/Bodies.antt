@@ -36,31 +36,31 @@ abbrev pub body_view : NodeBody → Body
 body_view b = record { segment = arc_value b.segment; branches = b.branches.items; kind = kind_view b.kind }
 
 -- the branches of a condition are those of a choice
-abbrev pub kind_of : BodyKind → Kind
-kind_of ChoiceBody = ChoiceNode
-kind_of ConditionBody = ChoiceNode
-kind_of (CatchBody catcher recovery) = CatchNode
-kind_of (FindallBody results list) = FindallNode
-kind_of QueryBody = QueryNode
+abbrev pub node_kind : BodyKind → Kind
+node_kind ChoiceBody = ChoiceNode
+node_kind ConditionBody = ChoiceNode
+node_kind (CatchBody catcher recovery) = CatchNode
+node_kind (FindallBody results list) = FindallNode
+node_kind QueryBody = QueryNode
 
 -- whether the second alternative sleeps while the first is open
-abbrev pub guards : BodyKind → Bool
-guards ChoiceBody = false
-guards ConditionBody = false
-guards (CatchBody catcher recovery) = true
-guards (FindallBody results list) = true
-guards QueryBody = true
+abbrev pub guards_kind : BodyKind → Bool
+guards_kind ChoiceBody = false
+guards_kind ConditionBody = false
+guards_kind (CatchBody catcher recovery) = true
+guards_kind (FindallBody results list) = true
+guards_kind QueryBody = true
 
 -- at least one branch, and two where the second sleeps
 abbrev pub is_whole : Body → Bool
-is_whole b = cond (guards b.kind) (length b.branches == 2) (nat_le 1 (length b.branches))
+is_whole b = cond (guards_kind b.kind) (length b.branches == 2) (nat_le 1 (length b.branches))
 
 abbrev pub IsWhole : Body → Type 0
 IsWhole b = is_whole b ≡ true
 
 -- how the alternative with this index begins
 abbrev pub first_hold : BodyKind → ℕ → Hold
-first_hold kind i = cond (guards kind && (i == 1)) Dormant Ready
+first_hold kind i = cond (guards_kind kind && (i == 1)) Dormant Ready
 
 -- the branches on the way down to an alternative, the innermost first: a body, and the index of the branch
 abbrev pub Branching : Type 0
@@ -77,4 +77,4 @@ new_alternatives read way body i (b ∷ bs) = alternative 0 (Pending (first_hold
     (new_alternatives read way body (suc i) bs)
 
 abbrev pub new_node : Reading → Branching → ℕ → Body → Node
-new_node read way n body = Numbered n (kind_of body.kind) (new_alternatives read way body 0 body.branches)
+new_node read way n body = Numbered n (node_kind body.kind) (new_alternatives read way body 0 body.branches)

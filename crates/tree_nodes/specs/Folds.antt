@@ -4,8 +4,8 @@ use Rattle.tree_model.specs.Credits.{Credit}
 use Rattle.tree_model.specs.Nodes.{Status}
 use Rattle.tree_model.specs.Levels.{Level, plug, Place, place_at}
 use Rattle.tree_nodes.specs.Bodies.{Reading}
-use Rattle.tree_nodes.specs.Rows.{Rows, row_at, cell_at}
-use Rattle.tree_nodes.specs.TreeTables.{NodesView, StandsFor}
+use Rattle.tree_nodes.specs.Rows.{Rows, row_of_node, cell_at}
+use Rattle.tree_nodes.specs.TreeTables.{NodesView, IsTableOf}
 use Rattle.tree_nodes.specs.Changes.{folded_up}
 
 -- on the way up, at this place and with this credit, the same is left to fold
@@ -19,13 +19,13 @@ pub record IsFoldedTo (v : Level) (up : List Level) (was : Status) (c : Credit) 
 
 abbrev pub FoldsTo : NodesView → Place → Credit → Place → Credit → Type 0
 FoldsTo nodes a c b total =
-    (read : Reading) (v : Level) (up : List Level) (was : Status) → place_at v ≡ a → StandsFor nodes read (plug (v ∷ up) was)
+    (read : Reading) (v : Level) (up : List Level) (was : Status) → place_at v ≡ a → IsTableOf nodes read (plug (v ∷ up) was)
     → IsFoldedTo v up was c b total
 
 -- and no more is left
 abbrev pub FoldsUpTo : NodesView → Place → Credit → Place → Credit → Type 0
 FoldsUpTo nodes a c b total =
-    (read : Reading) (v : Level) (up : List Level) (was : Status) → place_at v ≡ a → StandsFor nodes read (plug (v ∷ up) was)
+    (read : Reading) (v : Level) (up : List Level) (was : Status) → place_at v ≡ a → IsTableOf nodes read (plug (v ∷ up) was)
     → (f : IsFoldedTo v up was c b total) × (folded_up (f.level ∷ f.above) total ≡ record { levels = f.level ∷ f.above; credit = total })
 
 -- the alternative that a node is below is there, and its node's number is lower
@@ -36,4 +36,4 @@ IsAbove rows (Some a) n = IsSome (cell_at rows a) × (a.node < n)
 -- a node below an alternative is there, and its number is greater
 abbrev pub IsDeeper : Rows → ℕ → Option ℕ → Type 0
 IsDeeper rows n None = Unit {0}
-IsDeeper rows n (Some m) = IsSome (row_at rows m) × (n < m)
+IsDeeper rows n (Some m) = IsSome (row_of_node rows m) × (n < m)

@@ -1,18 +1,18 @@
 -- How one alternative of a table is changed.
 use Rattle.std.specs.Prelude.{◌≡◌, ◌≢◌, ℕ, Option, Some, None, length, IsSome}
 use Rattle.tree_model.specs.Levels.{Place}
-use Rattle.tree_nodes.specs.Rows.{Cell, InnerCell, Rows, row_at, cell_at}
-use Rattle.tree_nodes.specs.RowViews.{with_cell, inner_of}
+use Rattle.tree_nodes.specs.Rows.{AlternativeCell, InnerCell, Rows, row_of_node, cell_at}
+use Rattle.tree_nodes.specs.RowViews.{with_state, inner_of}
 use Rattle.tree_nodes.specs.Drops.{DropsNode}
 
-abbrev pub inner_at : Option (ℕ × Cell) → Option ℕ
+abbrev pub inner_at : Option (ℕ × AlternativeCell) → Option ℕ
 inner_at None = None
 inner_at (Some c) = inner_of c.1
 
 -- another cell is at a place, and which node was below it
-pub record IsReplaced (rows new : Rows) (a : Place) (cell : ℕ × Cell) (below : Option ℕ) : Type 0 where
-  pub row : row_at new a.node ≡ with_cell a.index cell (row_at rows a.node)
-  pub same : (m : ℕ) → m ≢ a.node → row_at new m ≡ row_at rows m
+pub record IsReplaced (rows new : Rows) (a : Place) (cell : ℕ × AlternativeCell) (below : Option ℕ) : Type 0 where
+  pub row : row_of_node new a.node ≡ with_state a.index cell (row_of_node rows a.node)
+  pub same : (m : ℕ) → m ≢ a.node → row_of_node new m ≡ row_of_node rows m
   pub length : length new ≡ length rows
   pub inner : below ≡ inner_at (cell_at rows a)
 
@@ -22,7 +22,7 @@ IsDroppedBy (Some n) None rows live new left = DropsNode rows live new left n
 IsDroppedBy (Some n) (Some m) rows live new left = (new ≡ rows) × (left ≡ live)
 IsDroppedBy None other rows live new left = (new ≡ rows) × (left ≡ live)
 
-pub record IsPut (rows : Rows) (live : ℕ) (new : Rows) (left : ℕ) (a : Place) (cell : ℕ × Cell) : Type 0 where
+pub record IsStatePut (rows : Rows) (live : ℕ) (new : Rows) (left : ℕ) (a : Place) (cell : ℕ × AlternativeCell) : Type 0 where
   pub middle : Rows
   pub below : Option ℕ
   pub replaced : IsReplaced rows middle a cell below
@@ -31,7 +31,7 @@ pub record IsPut (rows : Rows) (live : ℕ) (new : Rows) (left : ℕ) (a : Place
 -- a place has this node below it, and the same is spent
 pub record IsLinkedAt (rows new : Rows) (a : Place) (n : ℕ) : Type 0 where
   pub spent : ℕ
-  pub cell : Cell
+  pub cell : AlternativeCell
   pub below : Option ℕ
   pub there : cell_at rows a ≡ Some (spent, cell)
   pub replaced : IsReplaced rows new a (spent, InnerCell n) below

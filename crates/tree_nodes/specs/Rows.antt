@@ -13,36 +13,36 @@ use Rattle.tree_nodes.specs.declared.state.AltState.TheVariants as alt
 use Rattle.tree_nodes.specs.Bodies.{Body}
 
 -- what is at an alternative: an entry, a node, or what has closed
-pub data Cell : Type 0 where
-  PendingCell : Hold → Cell
-  InnerCell : ℕ → Cell
-  ClosedCell : Credit → Cell
+pub data AlternativeCell : Type 0 where
+  PendingCell : Hold → AlternativeCell
+  InnerCell : ℕ → AlternativeCell
+  ClosedCell : Credit → AlternativeCell
 
 -- the alternative that the node is below, what the node was made from, and for each alternative the inferences spent on
 -- it, and its cell
-pub record NodeRow : Type 0 where
+pub record StoredNode : Type 0 where
   pub parent : Option Place
   pub body : Body
-  pub cells : List (ℕ × Cell)
+  pub cells : List (ℕ × AlternativeCell)
 
 -- a number is the index of its row; none where the node is gone
 abbrev pub Rows : Type 0
-Rows = List (Option NodeRow)
+Rows = List (Option StoredNode)
 
-abbrev pub joined : Option (Option NodeRow) → Option NodeRow
+abbrev pub joined : Option (Option StoredNode) → Option StoredNode
 joined None = None
 joined (Some r) = r
 
-abbrev pub row_at : Rows → ℕ → Option NodeRow
-row_at rows n = joined (slice_get rows n)
+abbrev pub row_of_node : Rows → ℕ → Option StoredNode
+row_of_node rows n = joined (slice_get rows n)
 
-abbrev pub cells_at : Option NodeRow → List (ℕ × Cell)
-cells_at None = []
-cells_at (Some r) = r.cells
+abbrev pub alternatives_at : Option StoredNode → List (ℕ × AlternativeCell)
+alternatives_at None = []
+alternatives_at (Some r) = r.cells
 
 -- what is spent at a place, and its cell; none where there is no such alternative
-abbrev pub cell_at : Rows → Place → Option (ℕ × Cell)
-cell_at rows a = slice_get (cells_at (row_at rows a.node)) a.index
+abbrev pub cell_at : Rows → Place → Option (ℕ × AlternativeCell)
+cell_at rows a = slice_get (alternatives_at (row_of_node rows a.node)) a.index
 
 abbrev pub credit_view : CreditData → Credit
 credit_view c = record { inferences = c.inferences; answers = c.answers; records = c.records.items }
@@ -58,7 +58,7 @@ gate_view (gate.Throw s ball) = BallGate (scope_number s)
 gate_view (gate.World effect) = WorldGate
 gate_view gate.Frozen = FrozenGate
 
-abbrev pub cell_view : AltState → Cell
+abbrev pub cell_view : AltState → AlternativeCell
 cell_view alt.Ready = PendingCell Ready
 cell_view (alt.Taken w) = PendingCell (TakenBy w)
 cell_view (alt.Inner n) = InnerCell n

@@ -3,18 +3,18 @@ use Rattle.std.specs.Prelude.{◌≡◌, ℕ, suc, ◌<◌, ◌≤◌, List, [],
 use Rattle.tree_model.specs.Nodes.{Node, Numbered, Alternatives, none, alternative, Status, Pending, Inner, Closed, nodes_below}
 use Rattle.tree_model.specs.Levels.{Level, Place, place_at}
 use Rattle.tree_model.specs.SoundTrees.{count_below}
-use Rattle.tree_nodes.specs.Bodies.{Body, Branching, Reading, kind_of}
-use Rattle.tree_nodes.specs.Rows.{Cell, PendingCell, InnerCell, ClosedCell, NodeRow, Rows, row_at}
+use Rattle.tree_nodes.specs.Bodies.{Body, Branching, Reading, node_kind}
+use Rattle.tree_nodes.specs.Rows.{AlternativeCell, PendingCell, InnerCell, ClosedCell, StoredNode, Rows, row_of_node}
 
-abbrev pub number_of : Node → ℕ
-number_of (Numbered n kind alternatives) = n
+abbrev pub node_number : Node → ℕ
+node_number (Numbered n kind alternatives) = n
 
-abbrev pub cell_of : Status → Cell
+abbrev pub cell_of : Status → AlternativeCell
 cell_of (Pending hold entry) = PendingCell hold
-cell_of (Inner node) = InnerCell (number_of node)
+cell_of (Inner node) = InnerCell (node_number node)
 cell_of (Closed credit) = ClosedCell credit
 
-abbrev pub cells_of : Alternatives → List (ℕ × Cell)
+abbrev pub cells_of : Alternatives → List (ℕ × AlternativeCell)
 cells_of none = []
 cells_of (alternative spent status others) = (spent, cell_of status) ∷ cells_of others
 
@@ -28,8 +28,8 @@ IsBelow (Some a) n = a.node < n
 abbrev mutual
   pub IsNodeIn : Rows → Reading → Branching → Option Place → Node → Type 0
   IsNodeIn rows read way parent (Numbered n kind alternatives) =
-      (body : Body) × ((row_at rows n ≡ Some (record { parent = parent; body = body; cells = cells_of alternatives }))
-      × (kind ≡ kind_of body.kind) × IsBelow parent n × AreIn rows read way body n 0 alternatives)
+      (body : Body) × ((row_of_node rows n ≡ Some (record { parent = parent; body = body; cells = cells_of alternatives }))
+      × (kind ≡ node_kind body.kind) × IsBelow parent n × AreIn rows read way body n 0 alternatives)
 
   pub AreIn : Rows → Reading → Branching → Body → ℕ → ℕ → Alternatives → Type 0
   AreIn rows read way body n i none = Unit {0}
@@ -51,26 +51,26 @@ pub record NodesView : Type 0 where
   pub spare : ℕ
 
 abbrev pub IsRoot : Option ℕ → Status → Type 0
-IsRoot first (Inner node) = first ≡ Some (number_of node)
+IsRoot first (Inner node) = first ≡ Some (node_number node)
 IsRoot first (Closed credit) = first ≡ None
 IsRoot first (Pending hold entry) = ⊥
 
 -- the nodes stand for this tree
-pub record StandsFor (nodes : NodesView) (read : Reading) (root : Status) : Type 0 where
+pub record IsTableOf (nodes : NodesView) (read : Reading) (root : Status) : Type 0 where
   pub placed : IsIn nodes.rows read [] None root
   pub rooted : IsRoot nodes.first root
   -- no number names two nodes
   pub distinct : (n : ℕ) → count_below n root ≤ 1
   -- what is not in the tree is gone
-  pub others : (n : ℕ) → count_below n root ≡ 0 → row_at nodes.rows n ≡ None
+  pub others : (n : ℕ) → count_below n root ≡ 0 → row_of_node nodes.rows n ≡ None
   pub live : nodes.live ≡ nodes_below root
 
 pub record Stand (nodes : NodesView) : Type 0 where
   pub read : Reading
   pub root : Status
-  pub stands : StandsFor nodes read root
+  pub stands : IsTableOf nodes read root
 
-abbrev pub body_in : Body → Option NodeRow → Body
+abbrev pub body_in : Body → Option StoredNode → Body
 body_in other None = other
 body_in other (Some r) = r.body
 
@@ -78,7 +78,7 @@ body_in other (Some r) = r.body
 abbrev pub IsWayTo : Rows → List Level → Branching → Type 0
 IsWayTo rows [] way = way ≡ []
 IsWayTo rows (v ∷ up) way =
-    (r : NodeRow) × ((above : Branching) × ((row_at rows v.number ≡ Some r) × (way ≡ (r.body, length v.left) ∷ above) × IsWayTo rows up above))
+    (r : StoredNode) × ((above : Branching) × ((row_of_node rows v.number ≡ Some r) × (way ≡ (r.body, length v.left) ∷ above) × IsWayTo rows up above))
 
 -- the alternative above all levels
 abbrev pub above_of : List Level → Option Place

@@ -1,6 +1,6 @@
 //! What a node is made from.
 ghost use Rattle.std.specs.Prelude.{◌≡◌};
-ghost use Rattle.tree_nodes.specs.Bodies.{guards, is_whole, kind_view, body_view};
+ghost use Rattle.tree_nodes.specs.Bodies.{guards_kind, is_whole, kind_view, body_view};
 
 use au_term::{FlatTerm, Segment, Shared};
 use clause_compile::Branch;
@@ -26,7 +26,7 @@ pub enum NodeKind {
 impl NodeKind {
     /// Whether the second alternative sleeps while the first is open.
     pub(crate) fn guards(&self) -> bool
-        ensures { result ≡ guards (kind_view self.now) }
+        ensures { result ≡ guards_kind (kind_view self.now) }
     {
         match self {
             NodeKind::Choice | NodeKind::Condition => false,

@@ -3,7 +3,7 @@ ghost use Rattle.std.specs.Prelude.{◌≡◌, IsSome};
 ghost use Rattle.tree_model.specs.EventViews.{place_view};
 ghost use Rattle.tree_nodes.specs.Rows.{cell_at};
 ghost use Rattle.tree_nodes.specs.RowViews.{alternative_view, parent_view};
-ghost use Rattle.tree_nodes.specs.Puts.{IsReplaced, IsDroppedBy, IsPut, IsPlaceIn, IsLinked, IsLinkedAt};
+ghost use Rattle.tree_nodes.specs.Puts.{IsReplaced, IsDroppedBy, IsStatePut, IsPlaceIn, IsLinked, IsLinkedAt};
 
 use crate::drops::drop_node;
 use crate::row::{Alternative, Slot};
@@ -28,7 +28,7 @@ pub(crate) fn replace_cell(
 /// Puts another in place of an alternative; the node that was below it goes with all below that, unless it stays.
 pub(crate) fn put_cell(slots: &mut Vec<Slot>, live: &mut u64, at: AltRef, alternative: Alternative)
     requires there { IsSome (cell_at slots.old.items (place_view at)) }
-    ensures { IsPut slots.old.items live.old slots.new.items live.new (place_view at) (alternative_view alternative) }
+    ensures { IsStatePut slots.old.items live.old slots.new.items live.new (place_view at) (alternative_view alternative) }
 {
     let now = alternative.inner();
     let below = replace_cell(slots, at, alternative);

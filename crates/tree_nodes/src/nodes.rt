@@ -2,12 +2,12 @@
 ghost use Rattle.std.specs.Prelude.{◌≡◌, ◌<◌, ◌+◌, ◌-◌, max, IsSome, IsOk, IfOk, OnOk, OnErr, Some, None, [], length, is_some};
 ghost use Rattle.std.specs.Option.{option_map, option_copied};
 ghost use Rattle.tree_model.specs.EventViews.{place_view};
-ghost use Rattle.tree_nodes.specs.Rows.{row_at, cell_at, cells_at, cell_view, credit_view};
+ghost use Rattle.tree_nodes.specs.Rows.{row_of_node, cell_at, alternatives_at, cell_view, credit_view};
 ghost use Rattle.tree_nodes.specs.RowViews.{row_view, parent_view};
 ghost use Rattle.tree_nodes.specs.TreeTables.{NodesView, Stand};
 ghost use Rattle.std.specs.Arc.{arc_value};
 ghost use Rattle.tree_nodes.specs.Bodies.{body_view, IsWhole};
-ghost use Rattle.tree_nodes.specs.Changes.{SetsAt, Fits, KeepsNumbers, Adds, CanHold, IsLonger, ClosesAt, LowersSpare, AreGone, GivesBack, is_pending, first_of};
+ghost use Rattle.tree_nodes.specs.Changes.{SetsCell, Fits, KeepsNumbers, Adds, CanHold, IsLonger, ClosesAt, LowersSpare, AreGone, GivesBack, is_pending, root_after};
 ghost use Rattle.tree_nodes.specs.Folds.{FoldsUpTo, IsAbove, IsDeeper};
 ghost use Rattle.tree_nodes.specs.Puts.{inner_at};
 ghost use Rattle.tree_nodes.specs.Gathering.{IsFoldStep, Gathers, is_shut_at};
@@ -102,7 +102,7 @@ impl Nodes {
     }
 
     fn row(&self, node: u64) -> Option<&Row>
-        ensures { option_map row_view (option_copied result) ≡ row_at self.now.rows node }
+        ensures { option_map row_view (option_copied result) ≡ row_of_node self.now.rows node }
     {
         match self.slots.get(node as usize) {
             Some(slot) => slot.row(),
@@ -112,15 +112,15 @@ impl Nodes {
 
     /// Whether a node is there.
     pub fn has(&self, node: u64) -> bool
-        ensures { result ≡ is_some (row_at self.now.rows node) }
+        ensures { result ≡ is_some (row_of_node self.now.rows node) }
     {
         self.row(node).is_some()
     }
 
     /// The alternative that a node is below, if it is below one.
     pub fn parent(&self, node: u64) -> Option<AltRef>
-        requires { IsSome (row_at self.now.rows node) }
-        ensures parent { option_map (λ r. r.parent) (row_at self.now.rows node) ≡ Some (parent_view result) }
+        requires { IsSome (row_of_node self.now.rows node) }
+        ensures parent { option_map (λ r. r.parent) (row_of_node self.now.rows node) ≡ Some (parent_view result) }
         ensures above { IsAbove self.now.rows (parent_view result) node }
     {
         // The proof reads off that there is a tree.
@@ -133,8 +133,8 @@ impl Nodes {
 
     /// What a node was made from.
     pub fn body(&self, node: u64) -> &Arc<NodeBody>
-        requires { IsSome (row_at self.now.rows node) }
-        ensures { option_map (λ r. r.body) (row_at self.now.rows node) ≡ Some (body_view (arc_value result.now)) }
+        requires { IsSome (row_of_node self.now.rows node) }
+        ensures { option_map (λ r. r.body) (row_of_node self.now.rows node) ≡ Some (body_view (arc_value result.now)) }
     {
         match self.row(node) {
             Some(row) => &row.body,
@@ -144,7 +144,7 @@ impl Nodes {
 
     /// How many alternatives a node has; none where it is gone.
     pub fn width(&self, node: u64) -> u32
-        ensures { result ≡ length (cells_at (row_at self.now.rows node)) }
+        ensures { result ≡ length (alternatives_at (row_of_node self.now.rows node)) }
     {
         match self.slots.get(node as usize) {
             Some(slot) => slot.width(),
@@ -214,7 +214,7 @@ impl Nodes {
     pub fn set(&mut self, at: AltRef, state: AltState, spent: u64)
         requires there { IsSome (cell_at self.old.rows (place_view at)) }
         requires fits { Fits (cell_at self.old.rows (place_view at)) (cell_view state) }
-        ensures set { SetsAt self.old self.new (place_view at) spent (cell_view state) }
+        ensures set { SetsCell self.old self.new (place_view at) spent (cell_view state) }
         ensures numbers { KeepsNumbers self.old self.new }
     {
         put_cell(
@@ -303,7 +303,7 @@ impl Nodes {
 
     fn gather(&self, at: AltRef, gathered: &mut Gathered) -> Result<bool, NoMemory>
         requires { IsSome (cell_at self.now.rows (place_view at)) }
-        ensures { IfOk result (λ shut. Gathers (row_at self.now.rows at.node) at.alternative shut gathered.old gathered.new) }
+        ensures { IfOk result (λ shut. Gathers (row_of_node self.now.rows at.node) at.alternative shut gathered.old gathered.new) }
     {
         let Some(row) = self.row(at.node) else {
             unreachable!()
@@ -318,7 +318,7 @@ impl Nodes {
 }
 
 fn first_after(first: Option<u64>, parent: Option<AltRef>, node: u64) -> Option<u64>
-    ensures { result ≡ first_of first (parent_view parent) node }
+    ensures { result ≡ root_after first (parent_view parent) node }
 {
     match parent {
         Some(_) => first,

@@ -4,11 +4,11 @@ ghost use Rattle.std.specs.Arc.{arc_value};
 ghost use Rattle.tree_nodes.specs.Bodies.{body_view, kind_view, first_hold};
 ghost use Rattle.std.specs.Option.{option_map, option_copied};
 ghost use Rattle.tree_model.specs.EventViews.{place_view};
-ghost use Rattle.tree_nodes.specs.Rows.{PendingCell, cell_view, cells_at, credit_view};
-ghost use Rattle.tree_nodes.specs.Gathering.{closed_in, is_shut, are_shut, with_left, with_right, shut_beside, with_beside};
+ghost use Rattle.tree_nodes.specs.Rows.{PendingCell, cell_view, alternatives_at, credit_view};
+ghost use Rattle.tree_nodes.specs.Gathering.{closed_in, is_shut, are_shut, with_left, with_right_credits, shut_beside, with_beside};
 ghost use Rattle.tree_nodes.specs.Changes.{is_pending_cell};
 ghost use Rattle.tree_nodes.specs.Puts.{inner_at};
-ghost use Rattle.tree_nodes.specs.RowViews.{row_view, parent_view, alternative_view, new_cells, new_row, inner_of, with_cell, IsShortened};
+ghost use Rattle.tree_nodes.specs.RowViews.{row_view, parent_view, alternative_view, new_cells, new_row, inner_of, with_state, IsShortened};
 
 use crate::body::{NodeBody, NodeKind};
 use crate::gather::Gathered;
@@ -140,7 +140,7 @@ fn gather_left(alternatives: &[Alternative], gathered: &mut Gathered) -> Result<
 }
 
 fn gather_right(alternatives: &[Alternative], gathered: &mut Gathered) -> Result<(), NoMemory>
-    ensures { OnOk result (gathered.new ≡ with_right gathered.old (map alternative_view alternatives.now)) }
+    ensures { OnOk result (gathered.new ≡ with_right_credits gathered.old (map alternative_view alternatives.now)) }
 {
     for alternative in alternatives {
         if let Some(credit) = alternative.credit() {
@@ -158,21 +158,21 @@ pub(crate) struct Slot {
 
 impl Model for Slot {
     ghost use Rattle.std.specs.Prelude.{Option};
-    ghost use Rattle.tree_nodes.specs.Rows.{NodeRow};
+    ghost use Rattle.tree_nodes.specs.Rows.{StoredNode};
     ghost use Rattle.std.specs.Coded.{codes};
     ghost use Rattle.au_term.specs.PrefixOrder.{term_code};
     ghost use Rattle.au_term.specs.contracts.flat.FlatTerm as flat;
     ghost use Rattle.au_term.specs.contracts.shared.Shared as shared;
 
-    ghost Value = { Option NodeRow };
+    ghost Value = { Option StoredNode };
 
     ghost coded = { Prim.hlevel (codes, term_code, flat.the_row.coded, shared.the_row.coded) };
 
-    ghost use Rattle.tree_nodes.specs.RowViews.{slot_view, IsNarrow};
+    ghost use Rattle.tree_nodes.specs.RowViews.{slot_view, IsRowNarrow};
 
     ghost view = { λ s. slot_view s.row };
 
-    ghost invariant = { λ s. IsNarrow (slot_view s.row) };
+    ghost invariant = { λ s. IsRowNarrow (slot_view s.row) };
 }
 
 /// What was taken off a row.
@@ -220,7 +220,7 @@ impl Slot {
 
     /// How many alternatives there are.
     pub(crate) fn width(&self) -> u32
-        ensures { result ≡ length (cells_at self.now) }
+        ensures { result ≡ length (alternatives_at self.now) }
     {
         match &self.row {
             Some(row) => row.alternatives.len() as u32,
@@ -230,8 +230,8 @@ impl Slot {
 
     /// The node below an alternative, if there is one.
     pub(crate) fn inner(&self, index: usize) -> Option<u64>
-        requires { index < length (cells_at self.now) }
-        ensures { result ≡ inner_at (slice_get (cells_at self.now) index) }
+        requires { index < length (alternatives_at self.now) }
+        ensures { result ≡ inner_at (slice_get (alternatives_at self.now) index) }
     {
         match &self.row {
             Some(row) => row.alternatives[index].inner(),
@@ -241,8 +241,8 @@ impl Slot {
 
     /// The inferences spent on an alternative.
     pub(crate) fn spent(&self, index: usize) -> u64
-        requires { index < length (cells_at self.now) }
-        ensures { option_map (λ c. c.0) (slice_get (cells_at self.now) index) ≡ Some result }
+        requires { index < length (alternatives_at self.now) }
+        ensures { option_map (λ c. c.0) (slice_get (alternatives_at self.now) index) ≡ Some result }
     {
         match &self.row {
             Some(row) => row.alternatives[index].spent,
@@ -252,8 +252,8 @@ impl Slot {
 
     /// Puts another in place of an alternative.
     pub(crate) fn put(&mut self, index: usize, alternative: Alternative)
-        requires { index < length (cells_at self.old) }
-        ensures { self.new ≡ with_cell index (alternative_view alternative) self.old }
+        requires { index < length (alternatives_at self.old) }
+        ensures { self.new ≡ with_state index (alternative_view alternative) self.old }
     {
         match &mut self.row {
             Some(row) => let_go(mem::replace(&mut row.alternatives[index], alternative)),

@@ -2,7 +2,7 @@ use Rattle.std.proofs.Common.{◌≡◌, ℕ, suc, ◌<◌, ◌+◌, min, List, 
 use Rattle.std.specs.Prelude.{slice_get, IsSome}
 use Rattle.tree_model.specs.EventViews.{place_view}
 use Rattle.tree_model.specs.Credits.{counted}
-use Rattle.tree_nodes.specs.Rows.{Cell, row_at, cells_at}
+use Rattle.tree_nodes.specs.Rows.{AlternativeCell, row_of_node, alternatives_at}
 use Rattle.branch_order.specs.Clocks.{counts_from, counts_in}
 use Rattle.branch_order.proofs.LeftLemmas.{some_before}
 use Rattle.branch_order.proofs.ClockLemmas.{counts_step}
@@ -10,7 +10,7 @@ use Rattle.branch_order.proofs.clocks.counts_left.Goals as goal
 
 pub loop-alternative-preserved : goal.loop-alternative-preserved
 loop-alternative-preserved c =
-    let cells = cells_at (row_at c.args.nodes.now.rows c.args.at.node) in
+    let cells = alternatives_at (row_of_node c.args.nodes.now.rows c.args.at.node) in
     let i = c.loop-alternative.alternative in
     let n = c.args.at.alternative in
     let l : i < n = omega arith in

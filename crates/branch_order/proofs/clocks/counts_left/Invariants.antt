@@ -1,9 +1,9 @@
 use Rattle.std.proofs.Common.{◌≡◌, take, drop}
 use Rattle.tree_model.specs.EventViews.{place_view}
-use Rattle.tree_nodes.specs.Rows.{row_at, cells_at}
+use Rattle.tree_nodes.specs.Rows.{row_of_node, alternatives_at}
 use Rattle.branch_order.specs.Clocks.{counts_beside, counts_from}
 use Rattle.branch_order.proofs.clocks.counts_left.Given as goal
 
 abbrev pub invariant-loop-alternative : goal.invariant-loop-alternative
 invariant-loop-alternative l = counts_beside l.nodes.rows (place_view l.at)
-    ≡ counts_from (l.answers, l.inferences) (drop l.alternative (take l.at.alternative (cells_at (row_at l.nodes.rows l.at.node))))
+    ≡ counts_from (l.answers, l.inferences) (drop l.alternative (take l.at.alternative (alternatives_at (row_of_node l.nodes.rows l.at.node))))

@@ -2,7 +2,7 @@ use Rattle.std.proofs.Common.{ℕ}
 use Rattle.tree_model.specs.EventViews.{place_view}
 use Rattle.tree_nodes.specs.RowViews.{parent_view}
 use Rattle.tree_nodes.specs.Puts.{IsPlaceIn}
-use Rattle.branch_order.specs.Walks.{Walks, height_of}
+use Rattle.branch_order.specs.Walks.{Walks, place_height}
 use Rattle.branch_order.proofs.left.first_open.Given as goal
 
 abbrev pub invariant-loop-next : goal.invariant-loop-next
@@ -12,4 +12,4 @@ invariant-loop-next l = record {
 }
 
 abbrev pub decreases-loop-next : goal.decreases-loop-next
-decreases-loop-next l = height_of (parent_view l.next)
+decreases-loop-next l = place_height (parent_view l.next)

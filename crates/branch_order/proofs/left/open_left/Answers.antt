@@ -2,7 +2,7 @@ use Rattle.std.proofs.Common.{◌≡◌, ℕ, suc, ◌<◌, ◌+◌, true, false
 use Rattle.std.specs.Option.{option_map}
 use Rattle.std.specs.Prelude.{slice_get, IsSome}
 use Rattle.tree_model.specs.EventViews.{place_view}
-use Rattle.tree_nodes.specs.Rows.{Cell, row_at, cells_at}
+use Rattle.tree_nodes.specs.Rows.{AlternativeCell, row_of_node, alternatives_at}
 use Rattle.tree_nodes.specs.Gathering.{is_shut_at}
 use Rattle.branch_order.specs.LeftOf.{first_at, open_beside, open_index, place_on}
 use Rattle.branch_order.proofs.LeftLemmas.{open_step, some_before}
@@ -10,7 +10,7 @@ use Rattle.branch_order.proofs.left.open_left.Goals as goal
 
 pub returns-then-not-is_closed : goal.returns-then-not-is_closed
 returns-then-not-is_closed c =
-    let cells = cells_at (row_at c.args.nodes.now.rows c.args.at.node) in
+    let cells = alternatives_at (row_of_node c.args.nodes.now.rows c.args.at.node) in
     let i = c.loop-alternative.alternative in
     let l : i < c.args.at.alternative = omega arith in
     let shut : is_shut_at (slice_get cells i) ≡ false = cc (c.is_closed.ensures, c.if-not-is_closed.true) in
@@ -19,7 +19,7 @@ returns-then-not-is_closed c =
 
 pub loop-alternative-preserved : goal.loop-alternative-preserved
 loop-alternative-preserved c =
-    let cells = cells_at (row_at c.args.nodes.now.rows c.args.at.node) in
+    let cells = alternatives_at (row_of_node c.args.nodes.now.rows c.args.at.node) in
     let i = c.loop-alternative.alternative in
     let l : i < c.args.at.alternative = omega arith in
     let shut : is_shut_at (slice_get cells i) ≡ true = cc (c.is_closed.ensures, c.if-not-is_closed.false) in

@@ -1,7 +1,7 @@
 use Rattle.std.proofs.Common.{◌≡◌, ℕ, suc, ◌<◌, ◌+◌, true, false, length, drop, sym, ap, ◌∙◌, arith}
 use Rattle.std.specs.Option.{option_map}
 use Rattle.std.specs.Prelude.{slice_get}
-use Rattle.tree_nodes.specs.Rows.{row_at, cells_at}
+use Rattle.tree_nodes.specs.Rows.{row_of_node, alternatives_at}
 use Rattle.tree_nodes.specs.Gathering.{is_shut_at}
 use Rattle.branch_order.specs.LeftOf.{open_index, place_on}
 use Rattle.branch_order.proofs.LeftLemmas.{open_more}
@@ -9,7 +9,7 @@ use Rattle.branch_order.proofs.order.first_of.Goals as goal
 
 pub returns-then-not-is_closed-clause-first : goal.returns-then-not-is_closed-clause-first
 returns-then-not-is_closed-clause-first c =
-    let cells = cells_at (row_at c.args.nodes.now.rows c.args.node) in
+    let cells = alternatives_at (row_of_node c.args.nodes.now.rows c.args.node) in
     let i = c.loop-alternative.alternative in
     let l : i < length cells = (let w = c.width-alternative-end.ensures in omega (arith, w)) in
     let shut : is_shut_at (slice_get cells i) ≡ false = cc (c.is_closed.ensures, c.if-not-is_closed.true) in
@@ -17,7 +17,7 @@ returns-then-not-is_closed-clause-first c =
 
 pub loop-alternative-preserved : goal.loop-alternative-preserved
 loop-alternative-preserved c =
-    let cells = cells_at (row_at c.args.nodes.now.rows c.args.node) in
+    let cells = alternatives_at (row_of_node c.args.nodes.now.rows c.args.node) in
     let i = c.loop-alternative.alternative in
     let l : i < length cells = (let w = c.width-alternative-end.ensures in omega (arith, w)) in
     let shut : is_shut_at (slice_get cells i) ≡ true = cc (c.is_closed.ensures, c.if-not-is_closed.false) in

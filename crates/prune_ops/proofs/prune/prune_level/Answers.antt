@@ -2,8 +2,8 @@ use Rattle.std.proofs.Common.{◌≡◌, ℕ, ◌<◌, ◌≤◌, ◌+◌, lengt
 use Rattle.std.specs.Option.{option_map}
 use Rattle.tree_model.specs.Credits.{Credit}
 use Rattle.tree_model.specs.EventViews.{place_view}
-use Rattle.tree_nodes.specs.Rows.{Cell, ClosedCell, row_at, cells_at, cell_at}
-use Rattle.tree_nodes.specs.Changes.{SetsAt}
+use Rattle.tree_nodes.specs.Rows.{AlternativeCell, ClosedCell, row_of_node, alternatives_at, cell_at}
+use Rattle.tree_nodes.specs.Changes.{SetsCell}
 use Rattle.prune_ops.proofs.PruneLemmas.{prunes_begin, prunes_more, prunes_all, place_stays, within_some, numbers_kept}
 use Rattle.prune_ops.proofs.prune.prune_level.Goals as goal
 
@@ -15,7 +15,7 @@ spent-spent-requires c =
     let old = c.args.nodes.now in
     let a = place_view c.args.at in
     let j = c.loop-alternative.alternative in
-    let l : j < length (cells_at (row_at old.rows a.node)) = (let w = c.width-width.ensures in omega (arith, w)) in
+    let l : j < length (alternatives_at (row_of_node old.rows a.node)) = (let w = c.width-width.ensures in omega (arith, w)) in
     place_stays old c.loop-alternative.nodes a j j c.live-live.ensures.sound c.requires c.loop-alternative.invariant.prunes l
 
 pub loop-alternative-preserved : goal.loop-alternative-preserved
@@ -24,10 +24,10 @@ loop-alternative-preserved c =
     let nodes = c.loop-alternative.nodes in
     let a = place_view c.args.at in
     let j = c.loop-alternative.alternative in
-    let l : j < length (cells_at (row_at old.rows a.node)) = (let w = c.width-width.ensures in omega (arith, w)) in
-    let spent : (there : ℕ) (cell : Cell) → cell_at nodes.rows (record { node = a.node; index = j }) ≡ Some (there, cell) → c.spent-spent.result ≡ there
-    = λ there cell e. (let z : Some c.spent-spent.result ≡ Some there = sym c.spent-spent.ensures ∙ ap (λ (o : Option (ℕ × Cell)). option_map (λ x. x.0) o) e in cc z) in
-    let set = subst (λ (k : Credit). SetsAt nodes c.set.new.self (record { node = a.node; index = j }) c.spent-spent.result (ClosedCell k)) c.nothing-credit.ensures c.set.ensures.set in
+    let l : j < length (alternatives_at (row_of_node old.rows a.node)) = (let w = c.width-width.ensures in omega (arith, w)) in
+    let spent : (there : ℕ) (cell : AlternativeCell) → cell_at nodes.rows (record { node = a.node; index = j }) ≡ Some (there, cell) → c.spent-spent.result ≡ there
+    = λ there cell e. (let z : Some c.spent-spent.result ≡ Some there = sym c.spent-spent.ensures ∙ ap (λ (o : Option (ℕ × AlternativeCell)). option_map (λ x. x.0) o) e in cc z) in
+    let set = subst (λ (k : Credit). SetsCell nodes c.set.new.self (record { node = a.node; index = j }) c.spent-spent.result (ClosedCell k)) c.nothing-credit.ensures c.set.ensures.set in
     record {
       prunes = prunes_more old nodes c.set.new.self a j c.spent-spent.result c.loop-alternative.invariant.prunes l spent set;
       numbers = numbers_kept old nodes c.set.new.self c.loop-alternative.invariant.numbers c.set.ensures.numbers;
@@ -38,7 +38,7 @@ returns-clause-pruned c =
     let old = c.args.nodes.now in
     let a = place_view c.args.at in
     let j = c.loop-alternative.alternative in
-    let l : length (cells_at (row_at old.rows a.node)) ≤ j = (let w = c.width-width.ensures in omega (arith, w)) in
+    let l : length (alternatives_at (row_of_node old.rows a.node)) ≤ j = (let w = c.width-width.ensures in omega (arith, w)) in
     prunes_all old c.loop-alternative.nodes a j c.loop-alternative.invariant.prunes l
 
 pub returns-clause-there : goal.returns-clause-there

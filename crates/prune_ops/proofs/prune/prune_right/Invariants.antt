@@ -3,7 +3,7 @@ use Rattle.tree_model.specs.EventViews.{place_view}
 use Rattle.tree_nodes.specs.RowViews.{parent_view}
 use Rattle.tree_nodes.specs.Puts.{IsPlaceIn}
 use Rattle.tree_nodes.specs.Changes.{KeepsNumbers}
-use Rattle.prune_ops.specs.Prunes.{PrunesUp, height_of}
+use Rattle.prune_ops.specs.Prunes.{PrunesUp, level_height}
 use Rattle.prune_ops.proofs.prune.prune_right.Given as goal
 
 abbrev pub invariant-loop-next : goal.invariant-loop-next
@@ -14,4 +14,4 @@ invariant-loop-next l = record {
 }
 
 abbrev pub decreases-loop-next : goal.decreases-loop-next
-decreases-loop-next l = height_of (parent_view l.next)
+decreases-loop-next l = level_height (parent_view l.next)

@@ -2,10 +2,10 @@ use Rattle.std.proofs.Common.{◌≡◌, ℕ, ◌+◌, [], ◌∷◌, ◌++◌, 
 use Rattle.std.proofs.lemmas.Grind.{common_steps}
 use Rattle.std.specs.Arc.{arc_value}
 use Rattle.tree_nodes.specs.Bodies.{body_view}
-use Rattle.tree_nodes.specs.Rows.{NodeRow, Rows}
+use Rattle.tree_nodes.specs.Rows.{StoredNode, Rows}
 use Rattle.tree_nodes.specs.RowViews.{parent_view, new_row}
 use Rattle.tree_nodes.specs.TreeTables.{NodesView}
-use Rattle.tree_nodes.specs.Changes.{Adds, CanHold, first_of}
+use Rattle.tree_nodes.specs.Changes.{Adds, CanHold, root_after}
 use Rattle.tree_nodes.specs.Puts.{IsLinked}
 use Rattle.tree_nodes.proofs.AddLemmas.{adds, adds_stand}
 use Rattle.tree_nodes.proofs.nodes.Nodes.add.Goals as goal
@@ -19,11 +19,11 @@ invariant_of-self-2 c =
     let can : CanHold old parent = subst (λ (o : NodesView). CanHold o parent) (sym c.self.view_is) c.requires.open in
     let number : c.len-number.result ≡ length old.rows = grind (arith, common_steps) in
     let items : c.push.new.self.items ≡ old.rows ++ Some (new_row parent body) ∷ []
-    = c.in_ok-push.ensures.items ∙ ap (λ (r : Option NodeRow). old.rows ++ r ∷ []) c.in_ok-slot.ensures in
+    = c.in_ok-push.ensures.items ∙ ap (λ (r : Option StoredNode). old.rows ++ r ∷ []) c.in_ok-slot.ensures in
     let linked : IsLinked (old.rows ++ Some (new_row parent body) ∷ []) new.rows parent (length old.rows)
     = subst (λ (n : ℕ). IsLinked (old.rows ++ Some (new_row parent body) ∷ []) new.rows parent n) number
     (subst (λ (rs : Rows). IsLinked rs new.rows parent c.len-number.result) items c.link_cell.ensures) in
-    let first : new.first ≡ first_of old.first parent (length old.rows) = c.first_after-self-inside.ensures ∙ ap (first_of old.first parent) number in
+    let first : new.first ≡ root_after old.first parent (length old.rows) = c.first_after-self-inside.ensures ∙ ap (root_after old.first parent) number in
     let live : new.live ≡ old.live + 1 = grind (arith, common_steps) in
     adds_stand old new parent body c.self.invariant can (adds old new parent body linked first live can)
 
@@ -36,11 +36,11 @@ returns-clause-added c =
     let can : CanHold old parent = subst (λ (o : NodesView). CanHold o parent) (sym c.self.view_is) c.requires.open in
     let number : c.len-number.result ≡ length old.rows = grind (arith, common_steps) in
     let items : c.push.new.self.items ≡ old.rows ++ Some (new_row parent body) ∷ []
-    = c.in_ok-push.ensures.items ∙ ap (λ (r : Option NodeRow). old.rows ++ r ∷ []) c.in_ok-slot.ensures in
+    = c.in_ok-push.ensures.items ∙ ap (λ (r : Option StoredNode). old.rows ++ r ∷ []) c.in_ok-slot.ensures in
     let linked : IsLinked (old.rows ++ Some (new_row parent body) ∷ []) new.rows parent (length old.rows)
     = subst (λ (n : ℕ). IsLinked (old.rows ++ Some (new_row parent body) ∷ []) new.rows parent n) number
     (subst (λ (rs : Rows). IsLinked rs new.rows parent c.len-number.result) items c.link_cell.ensures) in
-    let first : new.first ≡ first_of old.first parent (length old.rows) = c.first_after-self-inside.ensures ∙ ap (first_of old.first parent) number in
+    let first : new.first ≡ root_after old.first parent (length old.rows) = c.first_after-self-inside.ensures ∙ ap (root_after old.first parent) number in
     let live : new.live ≡ old.live + 1 = grind (arith, common_steps) in
     subst (λ (o : NodesView). Adds o new parent c.len-number.result body) c.self.view_is
     (subst (λ (n : ℕ). Adds old new parent n body) (sym number) (adds old new parent body linked first live can))

@@ -1,5 +1,5 @@
 use Rattle.std.proofs.Common.{◌≡◌, ℕ, length, refl, sym, ap, ◌∙◌, subst, length-take}
-use Rattle.tree_nodes.specs.Rows.{Rows, row_at}
+use Rattle.tree_nodes.specs.Rows.{Rows, row_of_node}
 use Rattle.tree_nodes.specs.TreeTables.{NodesView}
 use Rattle.tree_nodes.specs.Changes.{AreGone, GivesBack}
 use Rattle.tree_nodes.proofs.RowLemmas.{row_at-take}
@@ -11,7 +11,7 @@ invariant_of-self c =
     let old : NodesView = record { rows = c.self.inside.slots.items; first = c.self.inside.first; live = c.self.inside.live; spare = c.self.inside.spare } in
     let new : NodesView = record { rows = c.truncate.new.self.items; first = c.self.inside.first; live = c.self.inside.live; spare = c.self.inside.spare } in
     let gone : AreGone old.rows c.args.next = subst (λ (o : NodesView). AreGone o.rows c.args.next) (sym c.self.view_is) c.requires in
-    let rows : (m : ℕ) → row_at new.rows m ≡ row_at old.rows m = λ m. ap (λ (rs : Rows). row_at rs m) c.truncate.ensures.items ∙ row_at-take old.rows c.args.next m gone in
+    let rows : (m : ℕ) → row_of_node new.rows m ≡ row_of_node old.rows m = λ m. ap (λ (rs : Rows). row_of_node rs m) c.truncate.ensures.items ∙ row_at-take old.rows c.args.next m gone in
     record {
       read = c.self.invariant.read;
       root = c.self.invariant.root;
@@ -23,7 +23,7 @@ returns c =
     let old : NodesView = record { rows = c.self.inside.slots.items; first = c.self.inside.first; live = c.self.inside.live; spare = c.self.inside.spare } in
     let new : NodesView = record { rows = c.truncate.new.self.items; first = c.self.inside.first; live = c.self.inside.live; spare = c.self.inside.spare } in
     let gone : AreGone old.rows c.args.next = subst (λ (o : NodesView). AreGone o.rows c.args.next) (sym c.self.view_is) c.requires in
-    let rows : (m : ℕ) → row_at new.rows m ≡ row_at old.rows m = λ m. ap (λ (rs : Rows). row_at rs m) c.truncate.ensures.items ∙ row_at-take old.rows c.args.next m gone in
+    let rows : (m : ℕ) → row_of_node new.rows m ≡ row_of_node old.rows m = λ m. ap (λ (rs : Rows). row_of_node rs m) c.truncate.ensures.items ∙ row_at-take old.rows c.args.next m gone in
     let given : GivesBack old new c.args.next = record {
       length = ap length c.truncate.ensures.items ∙ length-take c.args.next old.rows;
       spare = refl;

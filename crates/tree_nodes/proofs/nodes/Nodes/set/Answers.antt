@@ -3,7 +3,7 @@ use Rattle.std.specs.Prelude.{IsSome}
 use Rattle.tree_model.specs.EventViews.{place_view}
 use Rattle.tree_nodes.specs.Rows.{cell_at, cell_view}
 use Rattle.tree_nodes.specs.TreeTables.{NodesView}
-use Rattle.tree_nodes.specs.Changes.{SetsAt, Fits}
+use Rattle.tree_nodes.specs.Changes.{SetsCell, Fits}
 use Rattle.tree_nodes.proofs.PutLemmas.{put_set, put_stand}
 use Rattle.tree_nodes.proofs.nodes.Nodes.set.Goals as goal
 
@@ -22,5 +22,5 @@ returns-clause-set c =
     let new : NodesView = record { rows = c.put_cell.new.slots.items; first = c.self.inside.first; live = c.put_cell.new.live; spare = c.self.inside.spare } in
     let a = place_view c.args.at in
     let fits : Fits (cell_at old.rows a) (cell_view c.args.state) = subst (λ (o : NodesView). Fits (cell_at o.rows a) (cell_view c.args.state)) (sym c.self.view_is) c.requires.fits in
-    subst (λ (o : NodesView). SetsAt o new a c.args.spent (cell_view c.args.state)) c.self.view_is
+    subst (λ (o : NodesView). SetsCell o new a c.args.spent (cell_view c.args.state)) c.self.view_is
     (put_set old new a (c.args.spent, cell_view c.args.state) c.put_cell.ensures refl fits)
