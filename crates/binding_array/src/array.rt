@@ -1,0 +1,103 @@
+//! The array of cells.
+ghost use Rattle.std.specs.Prelude.{◌≡◌, ◌<◌, ◌≤◌, [], MatchOption, ℕ, OnOk, length, slice_set};
+ghost use Rattle.au_model.specs.Terms.Substitutions.{Substitution, value_of, resolve};
+ghost use Rattle.clause_compile.specs.Places.{CodeView};
+ghost use Rattle.binding_array.specs.Represented.{cell_of, cell_term, IsValueFor, IsBound, IsFollowed, Represents};
+
+use crate::cell::BindingCell;
+use au_term::NoMemory;
+use std::alloc::Global;
+use std::marker::Model;
+
+/// The cells of variables, by their numbers. Contracts see the cells.
+#[derive(Drop)]
+pub struct BindingArray {
+    cells: Vec<BindingCell>,
+}
+
+impl Model for BindingArray {
+    ghost use Rattle.std.specs.Prelude.{List};
+    ghost use Rattle.binding_array.specs.declared.cell.BindingCell.{BindingCell};
+
+    ghost Value = { List BindingCell };
+
+    ghost use Rattle.binding_array.specs.Represented.{AreFalling};
+
+    ghost view = { λ a. a.cells.items };
+
+    ghost invariant = { λ a. AreFalling a.cells.items };
+}
+
+impl BindingArray {
+    /// No variables.
+    pub fn new(alloc: Global) -> BindingArray
+        ensures { result ≡ [] }
+    {
+        BindingArray {
+            cells: Vec::new(alloc),
+        }
+    }
+
+    /// How many variables there are cells for.
+    pub fn len(&self) -> usize
+        ensures { result ≡ length self.now }
+    {
+        self.cells.len()
+    }
+
+    /// Makes cells for at least so many variables; new ones are free.
+    pub fn grow(&mut self, to: usize) -> Result<(), NoMemory>
+        ensures long { OnOk result (to ≤ length self.new) }
+        ensures same { (v : ℕ) → cell_of self.new v ≡ cell_of self.old v }
+    {
+        if self.cells.len() < to {
+            self.cells.resize(to, BindingCell::Free)?;
+        }
+        Ok(())
+    }
+
+    /// What a variable is bound to, if it is bound.
+    pub fn get(&self, variable: u32) -> Option<BindingCell>
+        requires { variable < length self.now }
+        ensures { MatchOption result (cell_of self.now variable ≡ BindingCell.Free) (λ c. (cell_of self.now variable ≡ c) × IsBound c) }
+    {
+        match self.cells[variable as usize] {
+            BindingCell::Free => None,
+            cell => Some(cell),
+        }
+    }
+
+    /// Binds a variable.
+    pub fn bind(&mut self, variable: u32, value: BindingCell)
+        requires there { variable < length self.old }
+        requires free { cell_of self.old variable ≡ BindingCell.Free }
+        requires value { IsValueFor variable value }
+        ensures { self.new ≡ slice_set self.old variable value }
+    {
+        self.cells[variable as usize] = value;
+    }
+
+    /// Frees a variable.
+    pub fn free(&mut self, variable: u32)
+        requires { variable < length self.old }
+        ensures { self.new ≡ slice_set self.old variable BindingCell.Free }
+    {
+        self.cells[variable as usize] = BindingCell::Free;
+    }
+
+    /// What is at the end of the chain of variables that one begins: a free variable, or what is none.
+    pub fn follow(&self, variable: u32) -> BindingCell
+        requires { variable < length self.now }
+        ensures end { IsFollowed self.now result }
+        ensures same { (code : CodeView) (s : Substitution) → Represents code self.now s → value_of s variable ≡ resolve s (cell_term code result) }
+    {
+        let mut at = variable;
+        while let BindingCell::Var(next) = self.cells[at as usize] {
+            at = next;
+        }
+        match self.cells[at as usize] {
+            BindingCell::Free => BindingCell::Var(at),
+            value => value,
+        }
+    }
+}
