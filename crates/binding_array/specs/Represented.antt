@@ -10,8 +10,8 @@ use Rattle.binding_array.specs.declared.cell.BindingCell.{BindingCell}
 use Rattle.binding_array.specs.declared.cell.BindingCell.TheVariants.{Free, Var, Int, Atom, Compound}
 
 -- the cell of a variable
-abbrev pub cell_of : List BindingCell → ℕ → BindingCell
-cell_of cells v = get_or cells v Free
+abbrev pub variable_cell : List BindingCell → ℕ → BindingCell
+variable_cell cells v = get_or cells v Free
 
 -- the term that a value stands for, before what is bound is applied
 abbrev pub cell_term : CodeView → BindingCell → Term
@@ -21,12 +21,12 @@ cell_term code (Int z) = IntTerm z
 cell_term code (Atom a) = AtomTerm (name_at code.names a)
 cell_term code (Compound at base) = shifted base (meaning_in code (Sub at))
 
-abbrev pub IsBound : BindingCell → Type 0
-IsBound Free = ⊥
-IsBound (Var v) = Unit {0}
-IsBound (Int z) = Unit {0}
-IsBound (Atom a) = Unit {0}
-IsBound (Compound at base) = Unit {0}
+abbrev pub IsBoundCell : BindingCell → Type 0
+IsBoundCell Free = ⊥
+IsBoundCell (Var v) = Unit {0}
+IsBoundCell (Int z) = Unit {0}
+IsBoundCell (Atom a) = Unit {0}
+IsBoundCell (Compound at base) = Unit {0}
 
 -- a variable is bound to smaller ones alone
 abbrev pub IsFalling : ℕ → BindingCell → Type 0
@@ -37,32 +37,32 @@ IsFalling v (Atom a) = Unit {0}
 IsFalling v (Compound at base) = Unit {0}
 
 abbrev pub AreFalling : List BindingCell → Type 0
-AreFalling cells = (v : ℕ) → IsFalling v (cell_of cells v)
+AreFalling cells = (v : ℕ) → IsFalling v (variable_cell cells v)
 
 -- what a variable may be bound to
 abbrev pub IsValueFor : ℕ → BindingCell → Type 0
-IsValueFor v c = IsBound c × IsFalling v c
+IsValueFor v c = IsBoundCell c × IsFalling v c
 
 -- by a substitution a variable stands for itself, or for what its value stands for
-abbrev pub StandsFor : CodeView → Substitution → ℕ → BindingCell → Type 0
-StandsFor code s v Free = value_of s v ≡ VarTerm v
-StandsFor code s v (Var w) = value_of s v ≡ resolve s (VarTerm w)
-StandsFor code s v (Int z) = value_of s v ≡ IntTerm z
-StandsFor code s v (Atom a) = value_of s v ≡ AtomTerm (name_at code.names a)
-StandsFor code s v (Compound at base) = value_of s v ≡ resolve s (shifted base (meaning_in code (Sub at)))
+abbrev pub CellStandsFor : CodeView → Substitution → ℕ → BindingCell → Type 0
+CellStandsFor code s v Free = value_of s v ≡ VarTerm v
+CellStandsFor code s v (Var w) = value_of s v ≡ resolve s (VarTerm w)
+CellStandsFor code s v (Int z) = value_of s v ≡ IntTerm z
+CellStandsFor code s v (Atom a) = value_of s v ≡ AtomTerm (name_at code.names a)
+CellStandsFor code s v (Compound at base) = value_of s v ≡ resolve s (shifted base (meaning_in code (Sub at)))
 
 -- the cells represent a substitution: each variable stands for what its cell says
 abbrev pub Represents : CodeView → List BindingCell → Substitution → Type 0
-Represents code cells s = (v : ℕ) → StandsFor code s v (cell_of cells v)
+Represents code cells s = (v : ℕ) → CellStandsFor code s v (variable_cell cells v)
 
 -- a free variable, or a value that is no variable
 abbrev pub IsFollowed : List BindingCell → BindingCell → Type 0
 IsFollowed cells Free = ⊥
-IsFollowed cells (Var v) = cell_of cells v ≡ Free
+IsFollowed cells (Var v) = variable_cell cells v ≡ Free
 IsFollowed cells (Int z) = Unit {0}
 IsFollowed cells (Atom a) = Unit {0}
 IsFollowed cells (Compound at base) = Unit {0}
 
 abbrev pub BindingRepresents : Type 0
-BindingRepresents = (code : CodeView) (cells : List BindingCell) (s now : Substitution) (v : ℕ) (c : BindingCell) → Represents code cells s → cell_of cells v ≡ Free → v < length cells → IsBound c
+BindingRepresents = (code : CodeView) (cells : List BindingCell) (s now : Substitution) (v : ℕ) (c : BindingCell) → Represents code cells s → variable_cell cells v ≡ Free → v < length cells → IsBoundCell c
     → occurs v (resolve s (cell_term code c)) ≡ false → ((n : ℕ) → value_of now n ≡ apply (only v (resolve s (cell_term code c))) (value_of s n)) → Represents code (slice_set cells v c) now

@@ -2,7 +2,7 @@
 ghost use Rattle.std.specs.Prelude.{◌≡◌, ◌<◌, ◌≤◌, [], MatchOption, ℕ, OnOk, length, slice_set};
 ghost use Rattle.au_model.specs.Terms.Substitutions.{Substitution, value_of, resolve};
 ghost use Rattle.clause_compile.specs.Places.{CodeView};
-ghost use Rattle.binding_array.specs.Represented.{cell_of, cell_term, IsValueFor, IsBound, IsFollowed, Represents};
+ghost use Rattle.binding_array.specs.Represented.{variable_cell, cell_term, IsValueFor, IsBoundCell, IsFollowed, Represents};
 
 use crate::cell::BindingCell;
 use au_term::NoMemory;
@@ -48,7 +48,7 @@ impl BindingArray {
     /// Makes cells for at least so many variables; new ones are free.
     pub fn grow(&mut self, to: usize) -> Result<(), NoMemory>
         ensures long { OnOk result (to ≤ length self.new) }
-        ensures same { (v : ℕ) → cell_of self.new v ≡ cell_of self.old v }
+        ensures same { (v : ℕ) → variable_cell self.new v ≡ variable_cell self.old v }
     {
         if self.cells.len() < to {
             self.cells.resize(to, BindingCell::Free)?;
@@ -59,7 +59,7 @@ impl BindingArray {
     /// What a variable is bound to, if it is bound.
     pub fn get(&self, variable: u32) -> Option<BindingCell>
         requires { variable < length self.now }
-        ensures { MatchOption result (cell_of self.now variable ≡ BindingCell.Free) (λ c. (cell_of self.now variable ≡ c) × IsBound c) }
+        ensures { MatchOption result (variable_cell self.now variable ≡ BindingCell.Free) (λ c. (variable_cell self.now variable ≡ c) × IsBoundCell c) }
     {
         match self.cells[variable as usize] {
             BindingCell::Free => None,
@@ -70,7 +70,7 @@ impl BindingArray {
     /// Binds a variable.
     pub fn bind(&mut self, variable: u32, value: BindingCell)
         requires there { variable < length self.old }
-        requires free { cell_of self.old variable ≡ BindingCell.Free }
+        requires free { variable_cell self.old variable ≡ BindingCell.Free }
         requires value { IsValueFor variable value }
         ensures { self.new ≡ slice_set self.old variable value }
     {

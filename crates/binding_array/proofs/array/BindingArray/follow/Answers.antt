@@ -1,12 +1,12 @@
 use Rattle.std.proofs.Common.{◌≡◌, ◌∙◌, ◌<◌, sym, ap, subst, arith, slice_index_or}
-use Rattle.binding_array.specs.Represented.{cell_of, AreFalling, StandsFor}
+use Rattle.binding_array.specs.Represented.{variable_cell, AreFalling, CellStandsFor}
 use Rattle.binding_array.specs.declared.cell.BindingCell.TheVariants.{Var}
 use Rattle.binding_array.proofs.RepresentedLemmas.{read, link_falls, link_stands, end_of, stood}
 use Rattle.binding_array.proofs.array.BindingArray.follow.Goals as goal
 
 pub loop-next-preserved : goal.loop-next-preserved
 loop-next-preserved c =
-    let cell : cell_of c.args.self.now c.loop-next.at ≡ Var c.in-Var.next = read c.args.self.now c.loop-next.at (Var c.in-Var.next) c.index.result.now c.loop-next.invariant.within (sym c.in-Var.is ∙ (c.index.ensures ∙ ap (λ cells. slice_index_or cells c.loop-next.at c.index.result.now) c.self.view_is)) in
+    let cell : variable_cell c.args.self.now c.loop-next.at ≡ Var c.in-Var.next = read c.args.self.now c.loop-next.at (Var c.in-Var.next) c.index.result.now c.loop-next.invariant.within (sym c.in-Var.is ∙ (c.index.ensures ∙ ap (λ cells. slice_index_or cells c.loop-next.at c.index.result.now) c.self.view_is)) in
     let falls : c.in-Var.next < c.loop-next.at = link_falls c.args.self.now c.loop-next.at c.in-Var.next (subst AreFalling c.self.view_is c.self.invariant) cell in
     let within = c.loop-next.invariant.within in
     record { within = omega (arith, falls, within); same = λ code s r. c.loop-next.invariant.same code s r ∙ link_stands code c.args.self.now s c.loop-next.at c.in-Var.next r cell }
@@ -14,7 +14,7 @@ loop-next-preserved c =
 pub returns-in_default-index : goal.returns-in_default-index
 returns-in_default-index c =
     let value = c.index-2.result.now in
-    let cell : cell_of c.args.self.now c.loop-next.at ≡ value = read c.args.self.now c.loop-next.at value value c.loop-next.invariant.within (c.index-2.ensures ∙ ap (λ cells. slice_index_or cells c.loop-next.at value) c.self.view_is) in
-    let first : cell_of c.args.self.now c.loop-next.at ≡ c.index.result.now = read c.args.self.now c.loop-next.at c.index.result.now c.index.result.now c.loop-next.invariant.within (c.index.ensures ∙ ap (λ cells. slice_index_or cells c.loop-next.at c.index.result.now) c.self.view_is) in
+    let cell : variable_cell c.args.self.now c.loop-next.at ≡ value = read c.args.self.now c.loop-next.at value value c.loop-next.invariant.within (c.index-2.ensures ∙ ap (λ cells. slice_index_or cells c.loop-next.at value) c.self.view_is) in
+    let first : variable_cell c.args.self.now c.loop-next.at ≡ c.index.result.now = read c.args.self.now c.loop-next.at c.index.result.now c.index.result.now c.loop-next.invariant.within (c.index.ensures ∙ ap (λ cells. slice_index_or cells c.loop-next.at c.index.result.now) c.self.view_is) in
     let end = end_of c.args.self.now value (λ x e. c.in_default.not-Var x (sym first ∙ (cell ∙ e))) c.in_default-index.not-Free in
-    record { end = end.0; same = λ code s r. c.loop-next.invariant.same code s r ∙ stood code s c.loop-next.at value end.1 (subst (StandsFor code s c.loop-next.at) cell (r c.loop-next.at)) }
+    record { end = end.0; same = λ code s r. c.loop-next.invariant.same code s r ∙ stood code s c.loop-next.at value end.1 (subst (CellStandsFor code s c.loop-next.at) cell (r c.loop-next.at)) }
