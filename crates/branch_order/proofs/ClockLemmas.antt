@@ -13,10 +13,9 @@ use Rattle.tree_nodes.proofs.PlaceLemmas.{left_cells, length-left_cells}
 use Rattle.tree_nodes.proofs.WalkLemmas.{cells_beside, cell_here, parent_here, one_level_up, no_level_up}
 use Rattle.branch_order.specs.LeftOf.{or_else, place_on}
 use Rattle.branch_order.specs.Clocks.{closed_counts, counts_in, counts_from, counts_beside, IsCountedFrom, IsCountedTo, Counts}
-use Rattle.branch_order.proofs.LeftLemmas.{take-seam, drop-take-cons, first_open-level}
-
-counted-assoc : (a b c : ℕ) → counted (counted a b) c ≡ counted a (counted b c)
-counted-assoc a b c = omega arith
+use Rattle.tree_nodes.proofs.CreditLemmas.{counted-assoc}
+use Rattle.tree_nodes.proofs.FoldLemmas.{take-seam}
+use Rattle.branch_order.proofs.LeftLemmas.{drop-take-cons, first_open-level}
 
 counted-three : (x y s i : ℕ) → counted (counted x (counted y s)) i ≡ counted x (counted (counted y s) i)
 counted-three x y s i = omega arith

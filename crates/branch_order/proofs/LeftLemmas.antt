@@ -13,6 +13,7 @@ use Rattle.tree_nodes.specs.Puts.{IsPlaceIn}
 use Rattle.tree_nodes.specs.Folds.{IsAbove}
 use Rattle.tree_nodes.proofs.PlaceLemmas.{left_cells, length-left_cells}
 use Rattle.tree_nodes.proofs.WalkLemmas.{cells_beside, parent_here, one_level_up, no_level_up}
+use Rattle.tree_nodes.proofs.FoldLemmas.{take-seam}
 use Rattle.branch_order.specs.LeftOf.{first_at, open_index, place_on, open_beside, or_else, if_below, below_scope}
 use Rattle.branch_order.specs.Walks.{IsAtLevel, IsWalked, Walks}
 
@@ -62,12 +63,6 @@ left_index n (a ∷ left) = by_found (first_open_left n left) (open_index 0 (lef
         ∙ (ap (λ (b : Bool). option_map (place_on n) (first_at b (0 + length (left_cells left)) None)) (sym (shut_closed a.1))
         ∙ sym (ap (option_map (place_on n)) (open_index-snoc 0 (left_cells left) (a.0, cell_of a.1)
         ∙ ap (λ (o : Option ℕ). or_index o (first_at (is_shut (cell_of a.1)) (0 + length (left_cells left)) None)) f))))
-
-pub take-seam : (xs ys : List (ℕ × AlternativeCell)) (y : ℕ × AlternativeCell) (n : ℕ) → length xs ≡ n → take n (xs ++ y ∷ ys) ≡ xs
-take-seam [] ys y zero e = refl
-take-seam [] ys y (suc n) e = absurd (omega (arith, e))
-take-seam (x ∷ xs) ys y zero e = absurd (omega (arith, e))
-take-seam (x ∷ xs) ys y (suc n) e = ap (λ (cells : List (ℕ × AlternativeCell)). x ∷ cells) (take-seam xs ys y n (omega (arith, e)))
 
 beside_here : (nodes : NodesView) (read : Reading) (v : Level) (up : List Level) (was : Status) → IsTableOf nodes read (plug (v ∷ up) was)
     → first_open_left v.number v.left ≡ open_beside nodes.rows (place_at v)

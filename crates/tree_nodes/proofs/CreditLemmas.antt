@@ -4,6 +4,7 @@ use Rattle.std.proofs.Common.{refl, sym, ap, ◌∙◌, arith, inl, inr, append_
 use Rattle.std.specs.Prelude.{◌&&◌}
 use Rattle.std.proofs.lemmas.List.{append-nil}
 use Rattle.au_term.specs.Term.{Term}
+use Rattle.au_term.proofs.LogicLemmas.{and-false}
 use Rattle.tree_model.specs.Credits.{Credit, no_credit, counted, added}
 use Rattle.tree_model.specs.Nodes.{Alternatives, none, alternative, Status, Pending, Inner, Closed}
 use Rattle.tree_model.specs.Closing.{and_then, closed_credit, all_left, all_right, all_closed}
@@ -20,7 +21,7 @@ same_credit i j a b rs ts e f g =
     ∙ (ap (λ (k : ℕ). record { inferences = j; answers = k; records = rs }) f
     ∙ ap (λ (k : List Term). record { inferences = j; answers = b; records = k }) g)
 
-counted-assoc : (a b c : ℕ) → counted (counted a b) c ≡ counted a (counted b c)
+pub counted-assoc : (a b c : ℕ) → counted (counted a b) c ≡ counted a (counted b c)
 counted-assoc a b c = omega arith
 
 pub added-assoc : (a b c : Credit) → added (added a b) c ≡ added a (added b c)
@@ -66,17 +67,13 @@ none_after : (o : Option Credit) → and_then o None ≡ None
 none_after None = refl
 none_after (Some c) = refl
 
-false_after : (b : Bool) → (b && false) ≡ false
-false_after true = refl
-false_after false = refl
-
 pub left_sums : (left : List (ℕ × Status)) → ((total : Credit) × IsLeftSum left total) ⊎ IsLeftOpen left
 left_sums [] = inl (no_credit, record { shut = refl; all = refl; sum = nothing_left })
 left_sums (a ∷ left) = by_status (left_sums left) a.1 refl
   where
     not_shut : (is_shut (cell_of a.1) ≡ false) → (closed_credit a.1 ≡ None) → IsLeftOpen (a ∷ left)
     not_shut s e = record {
-      shut = are_shut-snoc (left_cells left) (a.0, cell_of a.1) ∙ (ap (λ (b : Bool). are_shut (left_cells left) && b) s ∙ false_after (are_shut (left_cells left)));
+      shut = are_shut-snoc (left_cells left) (a.0, cell_of a.1) ∙ (ap (λ (b : Bool). are_shut (left_cells left) && b) s ∙ and-false (are_shut (left_cells left)));
       all = ap (and_then (all_left left)) e ∙ none_after (all_left left);
     }
 
@@ -154,7 +151,7 @@ beside_sum v c s = by_parts (left_sums v.left) (right_sums v.right)
         → (total : Credit) × IsBesideSum v c (left_cells v.left) (cells_of v.right) total
     by_parts (inr o) r = absurd (let z : (false && are_shut (cells_of v.right)) ≡ true = ap (λ (b : Bool). b && are_shut (cells_of v.right)) (sym o.shut) ∙ s in cc z)
     by_parts (inl l) (inr o) = absurd (let z : (are_shut (left_cells v.left) && false) ≡ true = ap (λ (b : Bool). are_shut (left_cells v.left) && b) (sym o.shut) ∙ s in
-        let y : false ≡ true = sym (false_after (are_shut (left_cells v.left))) ∙ z in cc y)
+        let y : false ≡ true = sym (and-false (are_shut (left_cells v.left))) ∙ z in cc y)
     by_parts (inl l) (inl r) = (
       added (added l.0 c) r.0,
       record {

@@ -16,7 +16,7 @@ use Rattle.tree_nodes.proofs.PutLemmas.{cell_there}
 use Rattle.tree_nodes.proofs.LocateLemmas.{found, present}
 use Rattle.tree_nodes.proofs.CreditLemmas.{beside_sum, beside_open}
 
-take-seam : (xs ys : List (ℕ × AlternativeCell)) (y : ℕ × AlternativeCell) (n : ℕ) → length xs ≡ n → take n (xs ++ y ∷ ys) ≡ xs
+pub take-seam : (xs ys : List (ℕ × AlternativeCell)) (y : ℕ × AlternativeCell) (n : ℕ) → length xs ≡ n → take n (xs ++ y ∷ ys) ≡ xs
 take-seam [] ys y zero e = refl
 take-seam [] ys y (suc n) e = absurd (omega (arith, e))
 take-seam (x ∷ xs) ys y zero e = absurd (omega (arith, e))
