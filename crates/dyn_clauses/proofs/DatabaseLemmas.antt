@@ -69,7 +69,7 @@ pub add_kept : (m n : Procedures) (a b : Places) (number : ℕ) (i : Indicator) 
     → ((j : Indicator) (p : ℕ) → clause_at n.entries j p ≡ cond (is_spot i q j p) (Some c) (clause_at m.entries j p)) → ((k : ℕ) → get nat_cmp b k ≡ cond (pos_at number k) (Some (place i q)) (get nat_cmp a k))
     → IsDatabase n b (number + 1)
 add_kept m n a b number i q c h e ordered clauses places = record {
-  kept = record { ordered = ordered; placed_clause = placed_clause; there = there };
+  kept = record { ordered = ordered; placed = placed; there = there };
   below = below;
 }
   where
@@ -80,8 +80,8 @@ add_kept m n a b number i q c h e ordered clauses places = record {
         by false f = refl
         by true f = let same = at_same number k f in let lt = h.below k s in absurd (omega arith)
 
-    placed_clause : (j : Indicator) (p : ℕ) → IsSome (clause_at n.entries j p) → get nat_cmp b (position_number p) ≡ Some (place j p)
-    placed_clause j p s = by (is_spot i q j p) refl (subst IsSome (clauses j p) s)
+    placed : (j : Indicator) (p : ℕ) → IsSome (clause_at n.entries j p) → get nat_cmp b (position_number p) ≡ Some (place j p)
+    placed j p s = by (is_spot i q j p) refl (subst IsSome (clauses j p) s)
       where
         by : (x : Bool) → is_spot i q j p ≡ x → IsSome (cond x (Some c) (clause_at m.entries j p)) → get nat_cmp b (position_number p) ≡ Some (place j p)
         by true f t =
@@ -117,7 +117,7 @@ pub database_same : (m n : Procedures) (a b : Places) (number : ℕ) → IsDatab
 database_same m n a b number h ordered clauses places = record {
   kept = record {
     ordered = ordered;
-    placed_clause = λ j p s. places (position_number p) ∙ h.kept.placed j p (subst IsSome (clauses j p) s);
+    placed = λ j p s. places (position_number p) ∙ h.kept.placed j p (subst IsSome (clauses j p) s);
     there = λ k x s. let old = h.kept.there k x (sym (places k) ∙ s) in (subst IsSome (sym (clauses x.procedure x.position)) old.0, old.1);
   };
   below = λ k s. h.below k (subst IsSome (places k) s);
@@ -140,10 +140,10 @@ place_undone m a b d number x h made gone k = gone k ∙ go (pos_at number k) re
 
 pub remove_kept : (m n : Procedures) (a b : Places) (number : ℕ) (x : Place) → HavePlaces m a → get nat_cmp a number ≡ Some x → IsOrdered indicator_cmp n
     → ((j : Indicator) (p : ℕ) → clause_at n.entries j p ≡ cond (is_spot x.procedure x.position j p) None (clause_at m.entries j p)) → ((k : ℕ) → get nat_cmp b k ≡ cond (pos_at number k) None (get nat_cmp a k)) → HavePlaces n b
-remove_kept m n a b number x h here ordered clauses places = record { ordered = ordered; placed_clause = placed_clause; there = there }
+remove_kept m n a b number x h here ordered clauses places = record { ordered = ordered; placed = placed; there = there }
   where
-    placed_clause : (j : Indicator) (p : ℕ) → IsSome (clause_at n.entries j p) → get nat_cmp b (position_number p) ≡ Some (place j p)
-    placed_clause j p s = by (is_spot x.procedure x.position j p) refl (subst IsSome (clauses j p) s)
+    placed : (j : Indicator) (p : ℕ) → IsSome (clause_at n.entries j p) → get nat_cmp b (position_number p) ≡ Some (place j p)
+    placed j p s = by (is_spot x.procedure x.position j p) refl (subst IsSome (clauses j p) s)
       where
         by : (y : Bool) → is_spot x.procedure x.position j p ≡ y → IsSome (cond y None (clause_at m.entries j p)) → get nat_cmp b (position_number p) ≡ Some (place j p)
         by true f t = absurd cc
@@ -323,13 +323,13 @@ any_numbered m a number x h here = go (lookup (is_at (indicator_cmp x.procedure)
 
 pub abolish_kept : (m n : Procedures) (a b : Places) (i : Indicator) (ps : Placed) → HavePlaces m a → IsOrdered indicator_cmp n → Some ps ≡ get indicator_cmp m i → ((j : Indicator) → get indicator_cmp n j ≡ cond (is_at (indicator_cmp i) j) None (get indicator_cmp m j))
     → ((k : ℕ) → get nat_cmp b k ≡ cond (has_numbered ps k) None (get nat_cmp a k)) → HavePlaces n b
-abolish_kept m n a b i ps h ordered known procedures places = record { ordered = ordered; placed_clause = placed_clause; there = there }
+abolish_kept m n a b i ps h ordered known procedures places = record { ordered = ordered; placed = placed; there = there }
   where
     own : (q : ℕ) → IsSome (lookup (pos_at q) ps) → get nat_cmp a (position_number q) ≡ Some (place i q)
     own q s = h.placed i q (subst (λ o. IsSome (clause_in o q)) known s)
 
-    placed_clause : (j : Indicator) (p : ℕ) → IsSome (clause_at n.entries j p) → get nat_cmp b (position_number p) ≡ Some (place j p)
-    placed_clause j p s = by (is_at (indicator_cmp i) j) refl (subst (λ o. IsSome (clause_in o p)) (procedures j) s)
+    placed : (j : Indicator) (p : ℕ) → IsSome (clause_at n.entries j p) → get nat_cmp b (position_number p) ≡ Some (place j p)
+    placed j p s = by (is_at (indicator_cmp i) j) refl (subst (λ o. IsSome (clause_in o p)) (procedures j) s)
       where
         by : (x : Bool) → is_at (indicator_cmp i) j ≡ x → IsSome (clause_in (cond x None (get indicator_cmp m j)) p) → get nat_cmp b (position_number p) ≡ Some (place j p)
         by true f t = absurd cc
@@ -367,7 +367,7 @@ abolish_kept m n a b i ps h ordered known procedures places = record { ordered =
 pub placed_same : (m n : Procedures) (a : Places) → HavePlaces m a → IsOrdered indicator_cmp n → n.entries ≡ m.entries → HavePlaces n a
 placed_same m n a h ordered same = record {
   ordered = ordered;
-  placed_clause = λ j p s. h.placed j p (subst (λ (es : Entries). IsSome (clause_at es j p)) same s);
+  placed = λ j p s. h.placed j p (subst (λ (es : Entries). IsSome (clause_at es j p)) same s);
   there = λ k x s. let old = h.there k x s in (subst (λ (es : Entries). IsSome (clause_at es x.procedure x.position)) (sym same) old.0, old.1);
 }
 
@@ -375,7 +375,7 @@ placed_same m n a h ordered same = record {
 pub placed_none : (m : Procedures) (a b : Places) (number : ℕ) → HavePlaces m a → get nat_cmp a number ≡ None → ((k : ℕ) → get nat_cmp b k ≡ cond (pos_at number k) None (get nat_cmp a k)) → HavePlaces m b
 placed_none m a b number h none places = record {
   ordered = h.ordered;
-  placed_clause = λ j p s. same (position_number p) ∙ h.placed j p s;
+  placed = λ j p s. same (position_number p) ∙ h.placed j p s;
   there = λ k x s. h.there k x (sym (same k) ∙ s);
 }
   where

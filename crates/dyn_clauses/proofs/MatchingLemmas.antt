@@ -24,6 +24,7 @@ use Rattle.dyn_clauses.specs.declared.procedure.Kept.{Kept}
 use Rattle.dyn_clauses.specs.PositionIndex.{Index, Placed, entry_at, is_in, is_noted, matching_clauses, picked}
 use Rattle.dyn_clauses.specs.KeptClauses.{IsProcedure, clause_kept, is_keyed, placed_clause, placed_entry}
 use Rattle.dyn_clauses.proofs.EntryLemmas.{all_found, lookup_mapped}
+use Rattle.dyn_clauses.proofs.ProcedureLemmas.{keys_placed, sorted_placed}
 
 -- ---- a key that stands for all
 
@@ -108,13 +109,6 @@ keyed_matches Any key a = refl
 keyed_matches (Int z) key a = key_tied (Int z) key refl
 keyed_matches (Atom n) key a = key_tied (Atom n) key refl
 keyed_matches (Functor f n) key a = key_tied (Functor f n) key refl
-
-keys_placed : (es : List (ℕ × Kept)) → keys_of (map placed_entry es) ≡ keys_of es
-keys_placed [] = refl
-keys_placed (e ∷ es) = ap (λ ks. e.0 ∷ ks) (keys_placed es)
-
-pub sorted_placed : (m : BTreeMap ℕ Kept) → IsStrictlySortedBy nat_cmp (keys_of m.entries) → IsStrictlySortedBy nat_cmp (keys_of (placed_clause m))
-sorted_placed m s = subst (IsStrictlySortedBy nat_cmp) (sym (keys_placed m.entries)) s
 
 module _ (m : BTreeMap ℕ Kept) (i : Index) (key : Key) (h : IsProcedure m i) (a : is_any key ≡ false) where
   may : ClauseTerms → Bool

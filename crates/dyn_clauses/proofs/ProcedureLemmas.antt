@@ -95,7 +95,7 @@ removed_is q (e ∷ es) s = go (is_at (nat_cmp q) e.0) refl (removed_is q es s.1
     go true h k = sym (none_at q es (subst (λ p. AllByRecursion (λ k. nat_cmp p k ≡ Less) (keys_of es)) (sym (at_same q e.0 h)) s.0))
     go false h k = ap (λ (ds : Placed). e ∷ ds) k
 
-keys_placed : (es : List (ℕ × Kept)) → keys_of (map placed_entry es) ≡ keys_of es
+pub keys_placed : (es : List (ℕ × Kept)) → keys_of (map placed_entry es) ≡ keys_of es
 keys_placed [] = refl
 keys_placed (e ∷ es) = ap (λ ks. e.0 ∷ ks) (keys_placed es)
 

@@ -62,7 +62,7 @@ ChangesSpot old new procedure position clause = (i : Indicator) (q : ℕ) → cl
 -- each clause has its place under its number, and each place has a clause
 pub record HavePlaces (procedures : BTreeMap Indicator Placed) (places : BTreeMap ℕ Place) : Type 0 where
   pub ordered : IsOrdered indicator_cmp procedures
-  pub placed_clause : (i : Indicator) (q : ℕ) → IsSome (clause_at procedures.entries i q) → get nat_cmp places (position_number q) ≡ Some (record { procedure = i; position = q })
+  pub placed : (i : Indicator) (q : ℕ) → IsSome (clause_at procedures.entries i q) → get nat_cmp places (position_number q) ≡ Some (record { procedure = i; position = q })
   pub there : (n : ℕ) (p : Place) → get nat_cmp places n ≡ Some p → IsSome (clause_at procedures.entries p.procedure p.position) × (position_number p.position ≡ n)
 
 -- the numbers are below the next one
