@@ -8,7 +8,7 @@ use Rattle.tree_model.specs.Nodes.{Status}
 use Rattle.tree_model.specs.Levels.{Level, plug, Place, place_at}
 use Rattle.tree_model.specs.Orders.{is_node, levels_below, first_open}
 use Rattle.tree_nodes.specs.Bodies.{Reading}
-use Rattle.tree_nodes.specs.Rows.{Cell, PendingCell, InnerCell, ClosedCell, Rows, row_at, cells_at, scope_number}
+use Rattle.tree_nodes.specs.Rows.{Cell, Rows, row_at, cells_at, scope_number}
 use Rattle.tree_nodes.specs.Gathering.{is_shut}
 use Rattle.tree_nodes.specs.TreeTables.{NodesView, StandsFor}
 

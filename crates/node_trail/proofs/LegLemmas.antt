@@ -1,7 +1,7 @@
 -- Segments appended, and turned round.
 use Rattle.std.proofs.Common.{◌≡◌, List, [], ◌∷◌, ◌++◌, Option, Some, None, refl, sym, ap, ◌∙◌, append_assoc}
 use Rattle.std.specs.Prelude.{reverse}
-use Rattle.std.proofs.lemmas.List.{append-nil, reverse-append}
+use Rattle.std.proofs.lemmas.List.{reverse-append}
 use Rattle.au_term.specs.declared.segment.Segment.{Segment}
 use Rattle.node_trail.specs.Segments.{all_some}
 

@@ -1,5 +1,5 @@
 -- Segments of nodes and branches.
-use Rattle.std.specs.Prelude.{◌≡◌, ℕ, ◌<◌, List, [], ◌∷◌, Option, Some, None, length, slice_get}
+use Rattle.std.specs.Prelude.{ℕ, ◌<◌, List, [], ◌∷◌, Option, Some, None, length, slice_get}
 use Rattle.au_term.specs.declared.segment.Segment.{Segment}
 use Rattle.clause_compile.specs.declared.event.Branch.{Branch}
 use Rattle.tree_nodes.specs.Bodies.{Body}

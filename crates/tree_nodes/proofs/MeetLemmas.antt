@@ -1,14 +1,14 @@
 -- Two ways up from places of a tree, until they meet.
-use Rattle.std.proofs.Common.{◌≡◌, ◌≢◌, ◌⊎◌, ℕ, zero, suc, ◌+◌, ◌<◌, ◌≤◌, ◌==◌, Bool, true, false, cond, List, [], ◌∷◌, ◌++◌, length, Option, Some, None, refl, sym, ap, ◌∙◌, arith, subst, append_assoc}
+use Rattle.std.proofs.Common.{◌≡◌, ◌≢◌, ℕ, ◌<◌, ◌≤◌, ◌==◌, Bool, true, false, cond, List, [], ◌∷◌, ◌++◌, length, Option, Some, None, refl, sym, ap, ◌∙◌, arith, subst, append_assoc}
 use Rattle.std.specs.Prelude.{nat_lt}
 use Rattle.std.proofs.lemmas.List.{append-nil}
 use Rattle.std.specs.Option.{option_map}
-use Rattle.tree_model.specs.Nodes.{Node, Numbered, Status, Pending, Inner, Closed}
+use Rattle.tree_model.specs.Nodes.{Node, Status, Pending, Inner, Closed}
 use Rattle.tree_model.specs.Levels.{Level, level_node, plug, Place, place_at}
 use Rattle.tree_model.specs.Orders.{path_of, parts_left}
 use Rattle.tree_nodes.specs.Bodies.{Branching, Reading}
 use Rattle.tree_nodes.specs.Rows.{Cell, PendingCell, InnerCell, ClosedCell, NodeRow, Rows, row_at, cell_at}
-use Rattle.tree_nodes.specs.TreeTables.{number_of, cell_of, IsIn, NodesView, IsRoot, StandsFor, above_of}
+use Rattle.tree_nodes.specs.TreeTables.{number_of, cell_of, IsIn, NodesView, StandsFor, above_of}
 use Rattle.tree_nodes.proofs.PlaceLemmas.{AreRound, taken_out}
 use Rattle.tree_nodes.proofs.PutLemmas.{cell_there}
 use Rattle.tree_nodes.proofs.WalkLemmas.{one_level_up, no_level_up}
@@ -84,7 +84,12 @@ apart_sym (x ∷ one) (y ∷ other) h = λ e. h (sym e)
 
 abbrev pub sides_turned : (root : Status) (one other : List Level) (a b : Place) → AreSides root one other a b → AreSides root other one b a
 sides_turned root one other a b s = record {
-  first = s.second; second = s.first; first_below = s.second_below; second_below = s.first_below; apart = apart_sym s.first.out s.second.out s.apart }
+  first = s.second;
+  second = s.first;
+  first_below = s.second_below;
+  second_below = s.first_below;
+  apart = apart_sym s.first.out s.second.out s.apart;
+}
 
 -- the level above has a lower number
 pub lower_above : (rows : Rows) (read : Reading) (v u : Level) (up : List Level) (way : Branching) (cell : Cell) → AreRound rows read (v ∷ u ∷ up) way cell
@@ -99,6 +104,9 @@ pub apart_below : (x : Level) (out other : List Level) → IsLastBelow other x.n
 apart_below x out [] h = tt
 apart_below x out (y ∷ other) h = λ e. absurd (omega (arith, h, e))
 
+pub same_parent : (a b : Option Place) → Some a ≡ Some b → a ≡ b
+same_parent a b e = cc e
+
 -- the deeper side goes up
 abbrev pub first_up : (nodes : NodesView) (read : Reading) (root : Status) (one other : List Level) (a b above : Place) → StandsFor nodes read root
     → AreSides root one other a b → b.node < a.node → option_map (λ r. r.parent) (row_at nodes.rows a.node) ≡ Some (Some above)
@@ -110,8 +118,8 @@ first_up nodes read root one other a b above st s l p =
     let node : f.level.number ≡ a.node = ap (λ (q : Place). q.node) f.at in
     let node_b : s.second.level.number ≡ b.node = ap (λ (q : Place). q.node) s.second.at in
     let parent : Some (above_of f.above) ≡ Some (Some above) = sym (ap (λ (o : Option NodeRow). option_map (λ r. r.parent) o) k.around.1.1.1.row)
-      ∙ (ap (λ (n : ℕ). option_map (λ r. r.parent) (row_at nodes.rows n)) node ∙ p) in
-    let u = one_level_up f.level f.above above (cc parent) in
+    ∙ (ap (λ (n : ℕ). option_map (λ r. r.parent) (row_at nodes.rows n)) node ∙ p) in
+    let u = one_level_up f.level f.above above (same_parent (above_of f.above) (Some above) parent) in
     let round : AreRound nodes.rows read (f.level ∷ u.level ∷ u.above) k.way (cell_of f.status) = subst (λ (ls : List Level). AreRound nodes.rows read (f.level ∷ ls) k.way (cell_of f.status)) u.is k.around in
     let lower = lower_above nodes.rows read f.level u.level u.above k.way (cell_of f.status) round in
     record {
@@ -148,7 +156,7 @@ never_stuck nodes read root one other a b st s l p =
     let node : f.level.number ≡ a.node = ap (λ (q : Place). q.node) f.at in
     let node_b : s.second.level.number ≡ b.node = ap (λ (q : Place). q.node) s.second.at in
     let parent : Some (above_of f.above) ≡ Some None = sym (ap (λ (o : Option NodeRow). option_map (λ r. r.parent) o) k.around.1.1.1.row)
-      ∙ (ap (λ (n : ℕ). option_map (λ r. r.parent) (row_at nodes.rows n)) node ∙ p) in
+    ∙ (ap (λ (n : ℕ). option_map (λ r. r.parent) (row_at nodes.rows n)) node ∙ p) in
     let top = no_level_up f.above (cc parent) in
     let whole : root ≡ Inner (level_node f.level f.status) = f.is ∙ ap (λ (ls : List Level). plug (f.level ∷ ls) f.status) top in
     let g = s.second in
@@ -227,9 +235,9 @@ module _ (nodes : NodesView) (read : Reading) (root : Status) (v : Level) (up : 
           let k = taken_out nodes.rows read (v ∷ up) s (subst (IsIn nodes.rows read [] None) is st.placed) in
           let m = taken_out nodes.rows read (w ∷ over) t (subst (IsIn nodes.rows read [] None) other_is st.placed) in
           let kx = head_cell nodes.rows read x o (sides.first.level ∷ sides.first.above) k.way (cell_of s)
-            (subst (λ (ls : List Level). AreRound nodes.rows read ls k.way (cell_of s)) f k.around) in
+          (subst (λ (ls : List Level). AreRound nodes.rows read ls k.way (cell_of s)) f k.around) in
           let my = head_cell nodes.rows read y p (sides.second.level ∷ sides.second.above) m.way (cell_of t)
-            (subst (λ (ls : List Level). AreRound nodes.rows read ls m.way (cell_of t)) g m.around) in
+          (subst (λ (ls : List Level). AreRound nodes.rows read ls m.way (cell_of t)) g m.around) in
           let cx = cell_there nodes.rows read sides.first.level sides.first.above kx.0 (InnerCell x.number) kx.1 in
           let cy = cell_there nodes.rows read sides.second.level sides.second.above my.0 (InnerCell y.number) my.1 in
           let same : Some (sides.first.level.spent, InnerCell x.number) ≡ Some (sides.second.level.spent, InnerCell y.number) = sym cx ∙ (ap (cell_at nodes.rows) e ∙ cy) in
@@ -251,7 +259,7 @@ module _ (nodes : NodesView) (read : Reading) (root : Status) (v : Level) (up : 
       by_test true c =
           let index : length sides.first.level.left ≡ length sides.second.level.left = grind arith in
           let place : place_at sides.first.level ≡ place_at sides.second.level = ap (λ (i : ℕ). record { node = sides.first.level.number; index = i }) index
-            ∙ ap (λ (n : ℕ). record { node = n; index = length sides.second.level.left }) node_same in
+          ∙ ap (λ (n : ℕ). record { node = n; index = length sides.second.level.left }) node_same in
           ap (λ (x : Bool). cond x (parts_left (path_down sides.first.out) (path_down sides.second.out)) (nat_lt (length sides.first.level.left) (length sides.second.level.left))) c
           ∙ (one_left place ∙ sym (not_below (length sides.first.level.left) (length sides.second.level.left) index))
         where

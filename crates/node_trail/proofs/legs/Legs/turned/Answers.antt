@@ -1,4 +1,4 @@
-use Rattle.std.proofs.Common.{List, [], ◌∷◌, ◌++◌, ◌≡◌, ap, ◌∙◌, Option, Some, None, reverse}
+use Rattle.std.proofs.Common.{List, ◌++◌, ap, ◌∙◌, reverse}
 use Rattle.au_term.specs.declared.segment.Segment.{Segment}
 use Rattle.node_trail.specs.Segments.{all_some}
 use Rattle.node_trail.proofs.LegLemmas.{turned_some, turned_none}
