@@ -1,13 +1,13 @@
 -- What is counted, level by level.
-use Rattle.std.proofs.Common.{◌≡◌, ℕ, zero, suc, ◌+◌, ◌<◌, Bool, true, false, cond, List, [], ◌∷◌, ◌++◌, length, take, drop, min, Option, Some, None, refl, sym, ap, ◌∙◌, arith, subst}
+use Rattle.std.proofs.Common.{◌≡◌, ℕ, suc, ◌<◌, cond, List, [], ◌∷◌, ◌++◌, length, take, drop, Option, Some, None, refl, sym, ap, ◌∙◌, arith, subst}
 use Rattle.std.specs.Option.{option_map}
 use Rattle.std.specs.Prelude.{slice_get, IsSome}
-use Rattle.tree_model.specs.Credits.{Credit, counted, greatest}
+use Rattle.tree_model.specs.Credits.{Credit, counted}
 use Rattle.tree_model.specs.Nodes.{Status, Pending, Inner, Closed, credits_below}
 use Rattle.tree_model.specs.Levels.{Level, level_node, plug, Place, place_at}
 use Rattle.tree_model.specs.Orders.{is_closed, first_open_left, first_open, credits_left, clock_of, answers_left}
 use Rattle.tree_nodes.specs.Bodies.{Reading}
-use Rattle.tree_nodes.specs.Rows.{AlternativeCell, Rows, row_of_node, alternatives_at, cell_at}
+use Rattle.tree_nodes.specs.Rows.{AlternativeCell, row_of_node, cell_at}
 use Rattle.tree_nodes.specs.TreeTables.{cell_of, cells_of, NodesView, IsTableOf, above_of}
 use Rattle.tree_nodes.proofs.PlaceLemmas.{left_cells, length-left_cells}
 use Rattle.tree_nodes.proofs.WalkLemmas.{cells_beside, cell_here, parent_here, one_level_up, no_level_up}

@@ -1,20 +1,20 @@
 -- The leftmost entry, node by node.
-use Rattle.std.proofs.Common.{◌≡◌, ◌≢◌, ℕ, zero, suc, ◌+◌, ◌<◌, Bool, true, false, List, [], ◌∷◌, ◌++◌, length, Option, Some, None, refl, sym, ap, ◌∙◌, arith, subst}
+use Rattle.std.proofs.Common.{◌≡◌, ℕ, suc, true, false, List, [], ◌∷◌, ◌++◌, length, Option, Some, None, refl, sym, ap, ◌∙◌, subst}
 use Rattle.std.specs.Option.{option_map}
-use Rattle.tree_model.specs.Nodes.{Kind, Hold, Ready, TakenBy, Waiting, Dormant, Node, Numbered, Alternatives, none, alternative, Status, Pending, Inner, Closed}
-use Rattle.tree_model.specs.Levels.{Level, put_left, level_node, plug, Place, place_at, Spot, place_of_spot, pending_in, pending_among, pending_below, pending_of}
+use Rattle.tree_model.specs.Nodes.{Kind, Node, Numbered, Alternatives, none, alternative, Status, Pending, Inner, Closed}
+use Rattle.tree_model.specs.Levels.{Level, put_left, plug, Place, place_at, Spot, place_of_spot, pending_in, pending_among, pending_below, pending_of}
 use Rattle.tree_model.specs.PendingLists.{Step, Way}
-use Rattle.tree_model.specs.SoundTrees.{profile, profiles, hold_profile, some_open, is_live, IsSound, IsSoundNode, AreSound}
+use Rattle.tree_model.specs.SoundTrees.{profiles, some_open, IsSound, IsSoundNode, AreSound}
 use Rattle.tree_model.specs.TreeStates.{first_spot}
 use Rattle.tree_nodes.specs.Bodies.{Reading}
-use Rattle.tree_nodes.specs.Rows.{AlternativeCell, StoredNode, Rows, row_of_node, alternatives_at, cell_at}
+use Rattle.tree_nodes.specs.Rows.{AlternativeCell, row_of_node, alternatives_at, cell_at}
 use Rattle.tree_nodes.specs.RowViews.{inner_of}
 use Rattle.tree_nodes.specs.Gathering.{is_shut}
 use Rattle.tree_nodes.specs.Puts.{inner_at}
 use Rattle.tree_nodes.specs.TreeTables.{node_number, cell_of, cells_of, IsIn, NodesView, IsRoot, IsTableOf}
 use Rattle.tree_nodes.proofs.PlaceLemmas.{taken_out}
 use Rattle.tree_nodes.proofs.WalkLemmas.{cell_here}
-use Rattle.branch_order.specs.LeftOf.{first_at, open_index, place_on, open_first}
+use Rattle.branch_order.specs.LeftOf.{open_index, place_on, open_first}
 use Rattle.branch_order.specs.Leftmosts.{IsLeftmost, IsDownTo, GoesDown}
 
 -- a live node has an entry below it

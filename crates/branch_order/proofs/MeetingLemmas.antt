@@ -1,16 +1,14 @@
 -- Two branches followed up to where they part.
-use Rattle.std.proofs.Common.{◌≡◌, ◌⊎◌, ℕ, suc, ◌+◌, ◌<◌, Bool, List, ◌∷◌, Option, Some, None, refl, sym, ap, ◌∙◌, arith, subst, inl, inr}
-use Rattle.std.specs.Prelude.{nat_lt, IsSome}
+use Rattle.std.proofs.Common.{◌≡◌, Bool, List, ◌∷◌, Some, None, refl, sym, ◌∙◌, subst, inl, inr}
+use Rattle.std.specs.Prelude.{nat_lt}
 use Rattle.tree_model.specs.declared.places.AltRef.{AltRef}
 use Rattle.tree_model.specs.EventViews.{place_view}
 use Rattle.tree_model.specs.Nodes.{Status}
 use Rattle.tree_model.specs.Levels.{Level, plug, Place, place_at}
-use Rattle.tree_model.specs.Orders.{path_of, parts_left}
 use Rattle.tree_nodes.specs.Bodies.{Reading}
-use Rattle.tree_nodes.specs.Rows.{Rows, cell_at}
 use Rattle.tree_nodes.specs.TreeTables.{NodesView, IsTableOf}
 use Rattle.tree_nodes.proofs.MeetLemmas.{AreSides, sides_begin, sides_turned, first_up, never_stuck, meeting_parts}
-use Rattle.branch_order.specs.Meetings.{IsBeforeAt, parent_at, IsUpFrom, IsMeetStep, AreThere}
+use Rattle.branch_order.specs.Meetings.{IsBeforeAt, IsMeetStep}
 
 -- from two places the sides have come to these
 abbrev pub Meets : NodesView → Place → Place → Place → Place → Type 0

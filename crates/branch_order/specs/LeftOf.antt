@@ -8,7 +8,7 @@ use Rattle.tree_model.specs.Nodes.{Status}
 use Rattle.tree_model.specs.Levels.{Level, plug, Place, place_at}
 use Rattle.tree_model.specs.Orders.{is_node, levels_below, first_open}
 use Rattle.tree_nodes.specs.Bodies.{Reading}
-use Rattle.tree_nodes.specs.Rows.{AlternativeCell, PendingCell, InnerCell, ClosedCell, Rows, row_of_node, alternatives_at, scope_number}
+use Rattle.tree_nodes.specs.Rows.{AlternativeCell, Rows, row_of_node, alternatives_at, scope_number}
 use Rattle.tree_nodes.specs.Gathering.{is_shut}
 use Rattle.tree_nodes.specs.TreeTables.{NodesView, IsTableOf}
 

@@ -1,8 +1,8 @@
 -- The leftmost entry of a tree.
-use Rattle.std.specs.Prelude.{◌≡◌, ℕ, List, [], Option, Some, None}
+use Rattle.std.specs.Prelude.{◌≡◌, ℕ, List, [], Option}
 use Rattle.std.specs.Option.{option_map}
-use Rattle.tree_model.specs.Nodes.{Kind, Node, Numbered, Alternatives, Status, Inner}
-use Rattle.tree_model.specs.Levels.{Level, plug, Place, Spot, place_of_spot, pending_in, pending_of}
+use Rattle.tree_model.specs.Nodes.{Kind, Numbered, Alternatives, Status, Inner}
+use Rattle.tree_model.specs.Levels.{Level, plug, Place, place_of_spot, pending_in, pending_of}
 use Rattle.tree_model.specs.PendingLists.{Way}
 use Rattle.tree_model.specs.SoundTrees.{IsSound, IsSoundNode}
 use Rattle.tree_model.specs.TreeStates.{first_spot}

@@ -2,7 +2,7 @@
 use Rattle.std.specs.Prelude.{◌≡◌, ℕ, suc, List, ◌∷◌, Option, Some, None}
 use Rattle.tree_model.specs.Nodes.{Status}
 use Rattle.tree_model.specs.Levels.{Level, plug, Place, place_at}
-use Rattle.tree_model.specs.Orders.{is_node, levels_below, first_open}
+use Rattle.tree_model.specs.Orders.{levels_below, first_open}
 use Rattle.tree_nodes.specs.Bodies.{Reading}
 use Rattle.tree_nodes.specs.TreeTables.{NodesView, IsTableOf}
 use Rattle.branch_order.specs.LeftOf.{or_else}

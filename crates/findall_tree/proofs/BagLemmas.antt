@@ -1,5 +1,5 @@
 -- What a closed goal side has collected.
-use Rattle.std.proofs.Common.{◌≡◌, ℕ, List, [], ◌∷◌, Option, Some, None, sym, ap, ◌∙◌}
+use Rattle.std.proofs.Common.{◌≡◌, ℕ, List, [], Option, Some, None, sym, ap, ◌∙◌}
 use Rattle.std.specs.Option.{option_map}
 use Rattle.au_term.specs.Term.{Term}
 use Rattle.tree_model.specs.Credits.{Credit}

@@ -2,22 +2,22 @@
 use Rattle.std.proofs.Common.{◌≡◌, ℕ, zero, suc, ◌+◌, ◌<◌, ◌≤◌, ◌==◌, Bool, true, false, cond, List, [], ◌∷◌, ◌++◌, length, Option, Some, None, refl, sym, ap, ◌∙◌, arith, subst, length-append}
 use Rattle.std.specs.Option.{option_map}
 use Rattle.std.proofs.lemmas.Option.{slice_get_within}
-use Rattle.std.specs.Prelude.{IsSome, is_some, slice_get}
+use Rattle.std.specs.Prelude.{IsSome, slice_get}
 use Rattle.tree_model.specs.Credits.{no_credit}
 use Rattle.tree_model.specs.Nodes.{Numbered, Alternatives, none, alternative, Status, Inner, Closed}
 use Rattle.tree_model.specs.Levels.{Level, put_left, level_node, plug, Place, place_at}
 use Rattle.tree_model.specs.Pruning.{emptied, pruned}
 use Rattle.tree_nodes.specs.Bodies.{Reading}
-use Rattle.tree_nodes.specs.Rows.{AlternativeCell, ClosedCell, StoredNode, Rows, row_of_node, alternatives_at, cell_at}
-use Rattle.tree_nodes.specs.TreeTables.{cell_of, cells_of, IsIn, NodesView, IsTableOf, Stand, above_of}
+use Rattle.tree_nodes.specs.Rows.{AlternativeCell, ClosedCell, Rows, row_of_node, alternatives_at, cell_at}
+use Rattle.tree_nodes.specs.TreeTables.{cell_of, cells_of, NodesView, IsTableOf, Stand, above_of}
 use Rattle.tree_nodes.specs.Changes.{SetsCell, KeepsNumbers}
 use Rattle.tree_nodes.specs.Puts.{IsPlaceIn}
 use Rattle.tree_nodes.specs.Folds.{IsAbove}
 use Rattle.tree_nodes.proofs.PlaceLemmas.{left_cells, length-left_cells, cells_of-put, taken_out}
-use Rattle.tree_nodes.proofs.LocateLemmas.{IsAt, located}
+use Rattle.tree_nodes.proofs.LocateLemmas.{located}
 use Rattle.tree_nodes.proofs.PutLemmas.{is_some_cell}
 use Rattle.tree_nodes.proofs.WalkLemmas.{cells_beside, cell_here, parent_here, one_level_up, no_level_up}
-use Rattle.prune_ops.specs.Prunes.{PrunesRight, PrunesLevel, IsPruningAt, PrunesTo, IsPrunedTo, IsPrunedUp, PrunesUp, if_within, within_scope}
+use Rattle.prune_ops.specs.Prunes.{PrunesLevel, IsPruningAt, PrunesTo, IsPrunedUp, PrunesUp, if_within, within_scope}
 
 pub prunes_begin : (nodes : NodesView) (a : Place) → PrunesTo nodes nodes a (a.index + 1)
 prunes_begin nodes a read v up was e s = record {

@@ -1,6 +1,5 @@
 -- How pruning changes the tree.
 use Rattle.std.specs.Prelude.{◌≡◌, ℕ, suc, ◌==◌, Bool, true, false, List, ◌∷◌, length, Option, Some, None}
-use Rattle.clause_compile.specs.declared.item.Scope.{Scope}
 use Rattle.tree_model.specs.Nodes.{Numbered, Alternatives, Status, Inner}
 use Rattle.tree_model.specs.Levels.{Level, put_left, plug, Place, place_at}
 use Rattle.tree_model.specs.Pruning.{emptied, pruned}

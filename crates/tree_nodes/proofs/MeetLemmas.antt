@@ -1,14 +1,14 @@
 -- Two ways up from places of a tree, until they meet.
-use Rattle.std.proofs.Common.{◌≡◌, ◌≢◌, ◌⊎◌, ℕ, zero, suc, ◌+◌, ◌<◌, ◌≤◌, ◌==◌, Bool, true, false, cond, List, [], ◌∷◌, ◌++◌, length, Option, Some, None, refl, sym, ap, ◌∙◌, arith, subst, append_assoc}
+use Rattle.std.proofs.Common.{◌≡◌, ◌≢◌, ℕ, ◌<◌, ◌≤◌, ◌==◌, Bool, true, false, cond, List, [], ◌∷◌, ◌++◌, length, Option, Some, None, refl, sym, ap, ◌∙◌, arith, subst, append_assoc}
 use Rattle.std.specs.Prelude.{nat_lt}
 use Rattle.std.proofs.lemmas.List.{append-nil}
 use Rattle.std.specs.Option.{option_map}
-use Rattle.tree_model.specs.Nodes.{Node, Numbered, Status, Pending, Inner, Closed}
+use Rattle.tree_model.specs.Nodes.{Node, Status, Pending, Inner, Closed}
 use Rattle.tree_model.specs.Levels.{Level, level_node, plug, Place, place_at}
 use Rattle.tree_model.specs.Orders.{path_of, parts_left}
 use Rattle.tree_nodes.specs.Bodies.{Branching, Reading}
 use Rattle.tree_nodes.specs.Rows.{AlternativeCell, PendingCell, InnerCell, ClosedCell, StoredNode, Rows, row_of_node, cell_at}
-use Rattle.tree_nodes.specs.TreeTables.{node_number, cell_of, IsIn, NodesView, IsRoot, IsTableOf, above_of}
+use Rattle.tree_nodes.specs.TreeTables.{node_number, cell_of, IsIn, NodesView, IsTableOf, above_of}
 use Rattle.tree_nodes.proofs.PlaceLemmas.{AreRound, taken_out}
 use Rattle.tree_nodes.proofs.PutLemmas.{cell_there}
 use Rattle.tree_nodes.proofs.WalkLemmas.{one_level_up, no_level_up}
@@ -66,7 +66,7 @@ pub record AreSides (root : Status) (one other : List Level) (a b : Place) : Typ
   pub second_below : IsLastBelow second.out first.level.number
   pub apart : AreApart first.out second.out
 
-pub sides_begin : (root : Status) (v : Level) (up : List Level) (s : Status) (w : Level) (over : List Level) (t : Status) → root ≡ plug (v ∷ up) s
+abbrev pub sides_begin : (root : Status) (v : Level) (up : List Level) (s : Status) (w : Level) (over : List Level) (t : Status) → root ≡ plug (v ∷ up) s
     → root ≡ plug (w ∷ over) t → AreSides root (v ∷ up) (w ∷ over) (place_at v) (place_at w)
 sides_begin root v up s w over t e f = record {
   first = record { level = v; above = up; out = []; status = s; is = e; at = refl; from = refl };
@@ -76,13 +76,13 @@ sides_begin root v up s w over t e f = record {
   apart = tt;
 }
 
-apart_sym : (one other : List Level) → AreApart one other → AreApart other one
+pub apart_sym : (one other : List Level) → AreApart one other → AreApart other one
 apart_sym [] [] h = tt
 apart_sym [] (y ∷ other) h = tt
 apart_sym (x ∷ one) [] h = tt
 apart_sym (x ∷ one) (y ∷ other) h = λ e. h (sym e)
 
-pub sides_turned : (root : Status) (one other : List Level) (a b : Place) → AreSides root one other a b → AreSides root other one b a
+abbrev pub sides_turned : (root : Status) (one other : List Level) (a b : Place) → AreSides root one other a b → AreSides root other one b a
 sides_turned root one other a b s = record {
   first = s.second;
   second = s.first;
@@ -92,20 +92,23 @@ sides_turned root one other a b s = record {
 }
 
 -- the level above has a lower number
-lower_above : (rows : Rows) (read : Reading) (v u : Level) (up : List Level) (way : Branching) (cell : AlternativeCell) → AreRound rows read (v ∷ u ∷ up) way cell
+pub lower_above : (rows : Rows) (read : Reading) (v u : Level) (up : List Level) (way : Branching) (cell : AlternativeCell) → AreRound rows read (v ∷ u ∷ up) way cell
     → u.number < v.number
 lower_above rows read v u up way cell h = h.1.1.1.below
 
-last_lower : (out : List Level) (m n : ℕ) → m < n → IsLastBelow out n → IsLastBelow out m
+pub last_lower : (out : List Level) (m n : ℕ) → m < n → IsLastBelow out n → IsLastBelow out m
 last_lower [] m n l h = tt
 last_lower (x ∷ out) m n l h = omega (arith, l, h)
 
-apart_below : (x : Level) (out other : List Level) → IsLastBelow other x.number → AreApart (x ∷ out) other
+pub apart_below : (x : Level) (out other : List Level) → IsLastBelow other x.number → AreApart (x ∷ out) other
 apart_below x out [] h = tt
 apart_below x out (y ∷ other) h = λ e. absurd (omega (arith, h, e))
 
+pub same_parent : (a b : Option Place) → Some a ≡ Some b → a ≡ b
+same_parent a b e = cc e
+
 -- the deeper side goes up
-pub first_up : (nodes : NodesView) (read : Reading) (root : Status) (one other : List Level) (a b above : Place) → IsTableOf nodes read root
+abbrev pub first_up : (nodes : NodesView) (read : Reading) (root : Status) (one other : List Level) (a b above : Place) → IsTableOf nodes read root
     → AreSides root one other a b → b.node < a.node → option_map (λ r. r.parent) (row_of_node nodes.rows a.node) ≡ Some (Some above)
     → AreSides root one other above b
 first_up nodes read root one other a b above st s l p =
@@ -116,7 +119,7 @@ first_up nodes read root one other a b above st s l p =
     let node_b : s.second.level.number ≡ b.node = ap (λ (q : Place). q.node) s.second.at in
     let parent : Some (above_of f.above) ≡ Some (Some above) = sym (ap (λ (o : Option StoredNode). option_map (λ r. r.parent) o) k.around.1.1.1.row)
     ∙ (ap (λ (n : ℕ). option_map (λ r. r.parent) (row_of_node nodes.rows n)) node ∙ p) in
-    let u = one_level_up f.level f.above above (cc parent) in
+    let u = one_level_up f.level f.above above (same_parent (above_of f.above) (Some above) parent) in
     let round : AreRound nodes.rows read (f.level ∷ u.level ∷ u.above) k.way (cell_of f.status) = subst (λ (ls : List Level). AreRound nodes.rows read (f.level ∷ ls) k.way (cell_of f.status)) u.is k.around in
     let lower = lower_above nodes.rows read f.level u.level u.above k.way (cell_of f.status) round in
     record {
@@ -163,7 +166,7 @@ never_stuck nodes read root one other a b st s l p =
     omega (arith, l, node, node_b, z)
 
 -- where both are at one node, what is above is the same
-path_same : (rows : Rows) (read : Reading) (up over : List Level) (way other : Branching) (cell there : AlternativeCell) → AreRound rows read up way cell
+pub path_same : (rows : Rows) (read : Reading) (up over : List Level) (way other : Branching) (cell there : AlternativeCell) → AreRound rows read up way cell
     → AreRound rows read over other there → above_of up ≡ above_of over → path_of up ≡ path_of over
 path_same rows read [] [] way other cell there h k e = refl
 path_same rows read [] (w ∷ over) way other cell there h k e = absurd (cc e)
@@ -176,7 +179,7 @@ path_same rows read (v ∷ up) (w ∷ over) way other cell there h k e =
     let rest = path_same rows read up over h.1.0 k.1.0 (InnerCell v.number) (InnerCell w.number) h.1.1.2 k.1.1.2 parents in
     ap (λ (ps : List Place). ps ++ place_at v ∷ []) rest ∙ ap (λ (q : Place). path_of over ++ q ∷ []) place
 
-parts_front : (front ps qs : List Place) → parts_left (front ++ ps) (front ++ qs) ≡ parts_left ps qs
+pub parts_front : (front ps qs : List Place) → parts_left (front ++ ps) (front ++ qs) ≡ parts_left ps qs
 parts_front [] ps qs = refl
 parts_front (a ∷ front) ps qs = ap (λ (b : Bool). cond b (parts_left (front ++ ps) (front ++ qs)) (nat_lt a.index a.index)) (same_index a.index) ∙ parts_front front ps qs
   where
@@ -203,7 +206,7 @@ module _ (nodes : NodesView) (read : Reading) (root : Status) (v : Level) (up : 
   node_same : sides.first.level.number ≡ sides.second.level.number
   node_same = ap (λ (q : Place). q.node) sides.first.at ∙ (met ∙ ap (λ (q : Place). q.node) (sym sides.second.at))
 
-  fronts_same : path_of sides.first.above ≡ path_of sides.second.above
+  pub fronts_same : path_of sides.first.above ≡ path_of sides.second.above
   fronts_same =
       let k = taken_out nodes.rows read (sides.first.level ∷ sides.first.above) sides.first.status (subst (IsIn nodes.rows read [] None) sides.first.is st.placed) in
       let m = taken_out nodes.rows read (sides.second.level ∷ sides.second.above) sides.second.status (subst (IsIn nodes.rows read [] None) sides.second.is st.placed) in
@@ -211,11 +214,11 @@ module _ (nodes : NodesView) (read : Reading) (root : Status) (v : Level) (up : 
       path_same nodes.rows read sides.first.above sides.second.above k.around.1.0 m.around.1.0 (InnerCell sides.first.level.number) (InnerCell sides.second.level.number)
       k.around.1.1.2 m.around.1.1.2 (ap parent_or rows_same)
 
-  path_one : path_of (v ∷ up) ≡ path_of sides.first.above ++ place_at sides.first.level ∷ path_down sides.first.out
+  pub path_one : path_of (v ∷ up) ≡ path_of sides.first.above ++ place_at sides.first.level ∷ path_down sides.first.out
   path_one = ap path_of sides.first.from ∙ (path_of-back sides.first.out (sides.first.level ∷ sides.first.above)
       ∙ append_assoc (path_of sides.first.above) (place_at sides.first.level ∷ []) (path_down sides.first.out))
 
-  path_other : path_of (w ∷ over) ≡ path_of sides.first.above ++ place_at sides.second.level ∷ path_down sides.second.out
+  pub path_other : path_of (w ∷ over) ≡ path_of sides.first.above ++ place_at sides.second.level ∷ path_down sides.second.out
   path_other = ap path_of sides.second.from ∙ (path_of-back sides.second.out (sides.second.level ∷ sides.second.above)
       ∙ (append_assoc (path_of sides.second.above) (place_at sides.second.level ∷ []) (path_down sides.second.out)
       ∙ ap (λ (ps : List Place). ps ++ place_at sides.second.level ∷ path_down sides.second.out) (sym fronts_same)))

@@ -3,9 +3,9 @@ use Rattle.std.proofs.Common.{◌≡◌, ◌<◌, ℕ, List, [], ◌∷◌, ◌+
 use Rattle.std.specs.Option.{option_map}
 use Rattle.std.specs.Prelude.{IsSome, is_some}
 use Rattle.tree_model.specs.Nodes.{Numbered, Status, Pending, Inner, Closed}
-use Rattle.tree_model.specs.Levels.{Level, level_node, plug, Place, place_at}
+use Rattle.tree_model.specs.Levels.{Level, plug, Place, place_at}
 use Rattle.tree_nodes.specs.Bodies.{Reading}
-use Rattle.tree_nodes.specs.Rows.{AlternativeCell, StoredNode, Rows, row_of_node, alternatives_at, cell_at}
+use Rattle.tree_nodes.specs.Rows.{AlternativeCell, StoredNode, row_of_node, alternatives_at, cell_at}
 use Rattle.tree_nodes.specs.TreeTables.{cell_of, cells_of, IsIn, NodesView, IsTableOf, Stand, above_of}
 use Rattle.tree_nodes.specs.RowViews.{inner_of}
 use Rattle.tree_nodes.specs.Puts.{inner_at}

@@ -1,5 +1,5 @@
 -- Rows as the code keeps them, and how one is changed.
-use Rattle.std.specs.Prelude.{◌≡◌, ◌<◌, ◌^◌, ℕ, zero, suc, length, List, [], ◌∷◌, ◌++◌, Option, Some, None, map, slice_set}
+use Rattle.std.specs.Prelude.{◌≡◌, ◌<◌, ◌≤◌, ◌^◌, ℕ, zero, suc, length, List, [], ◌∷◌, ◌++◌, Option, Some, None, map, slice_set}
 use Rattle.std.specs.Arc.{arc_value}
 use Rattle.std.specs.Global.{Global}
 use Rattle.std.specs.declared.boxed.Box.{Box}
@@ -10,6 +10,7 @@ use Rattle.tree_nodes.specs.declared.row.Alternative.{Alternative}
 use Rattle.tree_nodes.specs.declared.row.Row.{Row}
 use Rattle.tree_nodes.specs.declared.row.Shortened.{Shortened}
 use Rattle.tree_nodes.specs.declared.row.Shortened.TheVariants as shortened
+use Rattle.clause_compile.specs.declared.event.Branch.{Branch}
 use Rattle.tree_nodes.specs.Bodies.{Body, BodyKind, body_view, first_hold}
 use Rattle.tree_nodes.specs.Rows.{AlternativeCell, PendingCell, InnerCell, ClosedCell, StoredNode, cell_view}
 
@@ -27,10 +28,14 @@ abbrev pub slot_view : Option (Box Row Global) → Option StoredNode
 slot_view None = None
 slot_view (Some b) = Some (row_view b.value)
 
--- the index of each alternative fits 32 bits
+-- the index of each alternative fits 32 bits, and there is a branch for each
 abbrev pub IsRowNarrow : Option StoredNode → Type 0
 IsRowNarrow None = Unit {0}
-IsRowNarrow (Some r) = length r.cells < 2 ^ 32
+IsRowNarrow (Some r) = (length r.cells < 2 ^ 32) × (length r.cells ≤ length r.body.branches)
+
+abbrev pub branches_at : Option StoredNode → List Branch
+branches_at None = []
+branches_at (Some r) = r.body.branches
 
 abbrev pub with_cells : List (ℕ × AlternativeCell) → StoredNode → StoredNode
 with_cells cells r = record { parent = r.parent; body = r.body; cells = cells }

@@ -1,9 +1,9 @@
 //! The table, and the tree for which it stands.
-ghost use Rattle.std.specs.Prelude.{◌≡◌, ◌<◌, ◌+◌, ◌-◌, max, IsSome, IsOk, IfOk, OnOk, OnErr, Some, None, [], length, is_some};
+ghost use Rattle.std.specs.Prelude.{◌≡◌, ◌<◌, ◌≤◌, ◌+◌, ◌-◌, max, IsSome, IsOk, IfOk, OnOk, OnErr, Some, None, [], length, is_some};
 ghost use Rattle.std.specs.Option.{option_map, option_copied};
 ghost use Rattle.tree_model.specs.EventViews.{place_view};
 ghost use Rattle.tree_nodes.specs.Rows.{row_of_node, cell_at, alternatives_at, cell_view, credit_view};
-ghost use Rattle.tree_nodes.specs.RowViews.{row_view, parent_view};
+ghost use Rattle.tree_nodes.specs.RowViews.{row_view, parent_view, branches_at};
 ghost use Rattle.tree_nodes.specs.TreeTables.{NodesView, Stand};
 ghost use Rattle.std.specs.Arc.{arc_value};
 ghost use Rattle.tree_nodes.specs.Bodies.{body_view, IsWhole};
@@ -102,7 +102,8 @@ impl Nodes {
     }
 
     fn row(&self, node: u64) -> Option<&Row>
-        ensures { option_map row_view (option_copied result) ≡ row_of_node self.now.rows node }
+        ensures row { option_map row_view (option_copied result) ≡ row_of_node self.now.rows node }
+        ensures branches { length (alternatives_at (row_of_node self.now.rows node)) ≤ length (branches_at (row_of_node self.now.rows node)) }
     {
         match self.slots.get(node as usize) {
             Some(slot) => slot.row(),
@@ -134,7 +135,8 @@ impl Nodes {
     /// What a node was made from.
     pub fn body(&self, node: u64) -> &Arc<NodeBody>
         requires { IsSome (row_of_node self.now.rows node) }
-        ensures { option_map (λ r. r.body) (row_of_node self.now.rows node) ≡ Some (body_view (arc_value result.now)) }
+        ensures body { option_map (λ r. r.body) (row_of_node self.now.rows node) ≡ Some (body_view (arc_value result.now)) }
+        ensures branches { length (alternatives_at (row_of_node self.now.rows node)) ≤ length (body_view (arc_value result.now)).branches }
     {
         match self.row(node) {
             Some(row) => &row.body,

@@ -1,5 +1,5 @@
 //! The rows of the table.
-ghost use Rattle.std.specs.Prelude.{◌≡◌, ◌<◌, List, None, Some, length, map, slice_get, vec_len, IfOk, OnOk, MatchOption};
+ghost use Rattle.std.specs.Prelude.{◌≡◌, ◌<◌, ◌≤◌, List, None, Some, length, map, slice_get, vec_len, IfOk, OnOk, MatchOption};
 ghost use Rattle.std.specs.Arc.{arc_value};
 ghost use Rattle.tree_nodes.specs.Bodies.{body_view, kind_view, first_hold};
 ghost use Rattle.std.specs.Option.{option_map, option_copied};
@@ -8,7 +8,7 @@ ghost use Rattle.tree_nodes.specs.Rows.{PendingCell, cell_view, alternatives_at,
 ghost use Rattle.tree_nodes.specs.Gathering.{closed_in, is_shut, are_shut, with_left, with_right_credits, shut_beside, with_beside};
 ghost use Rattle.tree_nodes.specs.Changes.{is_pending_cell};
 ghost use Rattle.tree_nodes.specs.Puts.{inner_at};
-ghost use Rattle.tree_nodes.specs.RowViews.{row_view, parent_view, alternative_view, new_cells, new_row, inner_of, with_state, IsShortened};
+ghost use Rattle.tree_nodes.specs.RowViews.{row_view, parent_view, branches_at, alternative_view, new_cells, new_row, inner_of, with_state, IsShortened};
 
 use crate::body::{NodeBody, NodeKind};
 use crate::gather::Gathered;
@@ -210,7 +210,8 @@ impl Slot {
 
     /// The row, where it is there.
     pub(crate) fn row(&self) -> Option<&Row>
-        ensures { option_map row_view (option_copied result) ≡ self.now }
+        ensures row { option_map row_view (option_copied result) ≡ self.now }
+        ensures branches { length (alternatives_at self.now) ≤ length (branches_at self.now) }
     {
         match &self.row {
             Some(row) => Some(row),

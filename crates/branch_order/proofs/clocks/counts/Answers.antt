@@ -1,4 +1,4 @@
-use Rattle.std.proofs.Common.{◌≡◌, ℕ, ◌+◌, min, Option, Some, refl, sym, ap, ◌∙◌, subst, arith}
+use Rattle.std.proofs.Common.{◌≡◌, ℕ, Option, subst, arith}
 use Rattle.tree_model.specs.EventViews.{place_view}
 use Rattle.tree_model.specs.Credits.{counted}
 use Rattle.tree_model.specs.declared.places.AltRef.{AltRef}

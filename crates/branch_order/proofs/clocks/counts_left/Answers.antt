@@ -1,8 +1,7 @@
-use Rattle.std.proofs.Common.{◌≡◌, ℕ, suc, ◌<◌, ◌+◌, min, List, take, drop, refl, sym, ap, ◌∙◌, arith}
-use Rattle.std.specs.Prelude.{slice_get, IsSome}
-use Rattle.tree_model.specs.EventViews.{place_view}
+use Rattle.std.proofs.Common.{◌≡◌, ℕ, suc, ◌<◌, ◌+◌, take, drop, ap, ◌∙◌, arith}
+use Rattle.std.specs.Prelude.{slice_get}
 use Rattle.tree_model.specs.Credits.{counted}
-use Rattle.tree_nodes.specs.Rows.{AlternativeCell, row_of_node, alternatives_at}
+use Rattle.tree_nodes.specs.Rows.{row_of_node, alternatives_at}
 use Rattle.branch_order.specs.Clocks.{counts_from, counts_in}
 use Rattle.branch_order.proofs.LeftLemmas.{some_before}
 use Rattle.branch_order.proofs.ClockLemmas.{counts_step}

@@ -1,11 +1,9 @@
-use Rattle.std.proofs.Common.{◌≡◌, ℕ, Option, Some, None, refl, sym, ap, ◌∙◌, subst}
+use Rattle.std.proofs.Common.{◌≡◌, Option, sym, ap, ◌∙◌, subst}
 use Rattle.tree_model.specs.EventViews.{place_view}
 use Rattle.tree_model.specs.declared.places.AltRef.{AltRef}
 use Rattle.tree_model.specs.Levels.{Place}
-use Rattle.tree_nodes.specs.Rows.{Rows}
 use Rattle.tree_nodes.specs.RowViews.{parent_view}
 use Rattle.tree_nodes.specs.Puts.{IsPlaceIn}
-use Rattle.tree_nodes.specs.Folds.{IsAbove}
 use Rattle.branch_order.specs.LeftOf.{open_beside, or_else, below_scope}
 use Rattle.branch_order.specs.Walks.{Walks}
 use Rattle.branch_order.proofs.LeftLemmas.{walk_goes_on, place_below}

@@ -1,10 +1,9 @@
-use Rattle.std.proofs.Common.{◌≡◌, ℕ, suc, ◌<◌, ◌+◌, true, false, List, take, drop, Option, Some, refl, sym, ap, ◌∙◌, arith, add-one}
+use Rattle.std.proofs.Common.{◌≡◌, ℕ, suc, ◌<◌, ◌+◌, true, false, take, drop, sym, ap, ◌∙◌, arith}
 use Rattle.std.specs.Option.{option_map}
-use Rattle.std.specs.Prelude.{slice_get, IsSome}
-use Rattle.tree_model.specs.EventViews.{place_view}
-use Rattle.tree_nodes.specs.Rows.{AlternativeCell, row_of_node, alternatives_at}
+use Rattle.std.specs.Prelude.{slice_get}
+use Rattle.tree_nodes.specs.Rows.{row_of_node, alternatives_at}
 use Rattle.tree_nodes.specs.Gathering.{is_shut_at}
-use Rattle.branch_order.specs.LeftOf.{first_at, open_beside, open_index, place_on}
+use Rattle.branch_order.specs.LeftOf.{open_index, place_on}
 use Rattle.branch_order.proofs.LeftLemmas.{open_step, some_before}
 use Rattle.branch_order.proofs.left.open_left.Goals as goal
 

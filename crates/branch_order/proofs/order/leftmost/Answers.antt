@@ -1,4 +1,4 @@
-use Rattle.std.proofs.Common.{◌≡◌, ℕ, ◌<◌, ◌-◌, length, sym, arith}
+use Rattle.std.proofs.Common.{sym, arith}
 use Rattle.tree_model.specs.EventViews.{place_view}
 use Rattle.branch_order.proofs.LeftLemmas.{row_within}
 use Rattle.branch_order.proofs.LeftmostLemmas.{goes_down_from, goes_down, nothing_down, is_leftmost}

@@ -1,8 +1,6 @@
-use Rattle.std.proofs.Common.{◌≡◌, ℕ, ◌+◌, ◌<◌, Option, Some, None, refl, sym, subst, arith}
-use Rattle.tree_model.specs.declared.places.AltRef.{AltRef}
+use Rattle.std.proofs.Common.{refl, arith}
 use Rattle.tree_model.specs.EventViews.{place_view}
-use Rattle.branch_order.specs.Meetings.{IsMeetStep}
-use Rattle.branch_order.proofs.MeetingLemmas.{Meets, meets_begin, meets_more, meets_end}
+use Rattle.branch_order.proofs.MeetingLemmas.{meets_begin, meets_more, meets_end}
 use Rattle.branch_order.proofs.sides.before.Goals as goal
 
 pub loop-above-init : goal.loop-above-init

@@ -1,4 +1,4 @@
-use Rattle.std.proofs.Common.{◌≡◌, sym, ap, ◌∙◌, Some}
+use Rattle.std.proofs.Common.{◌≡◌, ap, ◌∙◌, Some}
 use Rattle.std.proofs.lemmas.Result.{IfOk-weaker}
 use Rattle.tree_nodes.specs.Rows.{cell_view, credit_view}
 use Rattle.tree_nodes.specs.declared.state.AltState.{AltState}

@@ -1,10 +1,10 @@
-use Rattle.std.proofs.Common.{◌≡◌, ℕ, Option, Some, sym, subst}
+use Rattle.std.proofs.Common.{Option, sym, subst}
 use Rattle.tree_model.specs.declared.places.AltRef.{AltRef}
 use Rattle.tree_model.specs.EventViews.{place_view}
 use Rattle.tree_model.specs.Levels.{Place}
 use Rattle.tree_nodes.specs.RowViews.{parent_view}
 use Rattle.tree_nodes.specs.Puts.{IsPlaceIn}
-use Rattle.prune_ops.specs.Prunes.{PrunesUp, within_scope}
+use Rattle.prune_ops.specs.Prunes.{PrunesUp}
 use Rattle.prune_ops.proofs.PruneLemmas.{pruned_more, place_below, numbers_kept}
 use Rattle.prune_ops.proofs.prune.prune_right.Goals as goal
 

@@ -1,4 +1,3 @@
-use Rattle.std.proofs.Common.{ℕ}
 use Rattle.tree_model.specs.EventViews.{place_view}
 use Rattle.tree_nodes.specs.RowViews.{parent_view}
 use Rattle.tree_nodes.specs.Puts.{IsPlaceIn}
