@@ -7,6 +7,7 @@ ghost use Rattle.au_model.specs.Terms.Forms.{name_of};
 ghost use Rattle.run_model.specs.Goals.OutputGoals.{character_out, no_character_ball};
 ghost use Rattle.run_model.specs.Goals.Worlds.{dynamic_call, plain_world};
 ghost use Rattle.run_model.specs.Machine.Entries.{PlainEntry};
+ghost use Rattle.run_model.specs.Machine.Heights.{after_reply};
 ghost use Rattle.engine_core.specs.Branches.{IsItemBelow};
 ghost use Rattle.stack_run.specs.Inferences.{HasEntries, IsWorking, LeavesReply, entries_below, following, gate_bytes, gate_entries};
 
@@ -110,7 +111,7 @@ fn raise_unknown(
     stack: &mut Stack,
 ) -> Result<(), NoMemory>
     requires { IsWorking stack.old }
-    ensures { OnOk result (LeavesReply (dynamic_call None goal.now stack.old.store.next) rest.now stack.old stack.new) }
+    ensures { OnOk result (HasEntries (λ own. after_reply (dynamic_call None goal.now stack.old.store.next) (following stack.old rest.now own) (entries_below stack.old own)) stack.new) }
 {
     let name = name_of(alloc, goal)?;
     let arity = goal.arity();
