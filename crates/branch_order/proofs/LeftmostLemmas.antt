@@ -90,7 +90,7 @@ first_among up n kind left (alternative spent (Inner node) others) = record {
 }
 first_among up n kind left (alternative spent (Closed credit) others) = first_among up n kind ((spent, Closed credit) ∷ left) others
 
--- the cells of the node at hand
+-- the cells of the current node
 cells_down : (nodes : NodesView) (read : Reading) (root : Status) (n : ℕ) (s : IsTableOf nodes read root) (d : IsDownTo root n)
     → alternatives_at (row_of_node nodes.rows n) ≡ cells_of d.alternatives
 cells_down nodes read root n s d =
@@ -126,7 +126,7 @@ no_first nodes f read root s sound = by_root root s.rooted refl
     by_root (Closed credit) h e = ap (λ (x : Status). option_map place_of_spot (first_spot (pending_of x))) e
     by_root (Inner node) h e = absurd (let z : Some (node_number node) ≡ None = sym h ∙ f in cc z)
 
--- nothing is open at the node at hand
+-- nothing is open at the current node
 pub nothing_down : (nodes : NodesView) (n : ℕ) → GoesDown nodes n → open_first nodes.rows n ≡ None → IsLeftmost nodes None
 nothing_down nodes n g e read root s sound =
     let d = g read root s sound in
@@ -140,7 +140,7 @@ nothing_down nodes n g e read root s sound =
     no_place None e = refl
     no_place (Some j) e = absurd (cc e)
 
--- what is first at the node at hand
+-- what is first at the current node
 module _ (nodes : NodesView) (n : ℕ) (a : Place) (first : open_first nodes.rows n ≡ Some a) (read : Reading) (root : Status) (s : IsTableOf nodes read root)
     (d : IsDownTo root n) where
   index_is : open_index 0 (cells_of d.alternatives) ≡ Some a.index

@@ -15,7 +15,7 @@ IsLeftmost nodes result =
     (read : Reading) (root : Status) → IsTableOf nodes read root → IsSound [] root
     → option_map place_of_spot (first_spot (pending_of root)) ≡ result
 
--- on the way down, the leftmost entry of the tree is that of the node at hand
+-- on the way down, the leftmost entry of the tree is that of the current node
 pub record IsDownTo (root : Status) (n : ℕ) : Type 0 where
   pub up : List Level
   pub kind : Kind

@@ -10,7 +10,7 @@ use Rattle.tree_nodes.specs.Bodies.{Reading}
 use Rattle.tree_nodes.specs.Rows.{Rows}
 use Rattle.tree_nodes.specs.TreeTables.{NodesView, IsTableOf}
 use Rattle.tree_nodes.proofs.MeetLemmas.{AreApart, AreSides, path_down, sides_begin, sides_turned, first_up, never_stuck, path_one, path_other}
-use Rattle.node_trail.specs.Trails.{node_segment, place_segment, parent_at, segments_down, segments_below, HeadsApart, IsPathBetween}
+use Rattle.node_trail.specs.Trails.{node_segment, place_segment, node_parent, segments_down, segments_below, HeadsApart, IsPathBetween}
 
 pub record AreTrails (rows : Rows) (root : Status) (one other : List Level) (x y : Place) (leave enter : List Segment) : Type 0 where
   pub sides : AreSides root one other x y
@@ -50,7 +50,7 @@ one_more rows at x below old new e f g =
     ∙ sym (reverse-append (node_segment rows at.node ∷ place_segment rows at ∷ []) (segments_down rows below))))
 
 one_up : (nodes : NodesView) (read : Reading) (root : Status) (one other : List Level) (x y above : Place) (leave enter new : List Segment)
-    → IsTableOf nodes read root → AreTrails nodes.rows root one other x y leave enter → y.node < x.node → parent_at nodes.rows x.node ≡ Some (Some above)
+    → IsTableOf nodes read root → AreTrails nodes.rows root one other x y leave enter → y.node < x.node → node_parent nodes.rows x.node ≡ Some (Some above)
     → new ≡ leave ++ place_segment nodes.rows x ∷ node_segment nodes.rows x.node ∷ [] → AreTrails nodes.rows root one other above y new enter
 one_up nodes read root one other x y above leave enter new st k l p g = record {
   sides = first_up nodes read root one other x y above st k.sides l p;
@@ -59,13 +59,13 @@ one_up nodes read root one other x y above leave enter new st k l p g = record {
 }
 
 pub trails_left : (nodes : NodesView) (a b x y above : Place) (leave enter new : List Segment) → Trails nodes a b x y leave enter → y.node < x.node
-    → parent_at nodes.rows x.node ≡ Some (Some above) → new ≡ leave ++ place_segment nodes.rows x ∷ node_segment nodes.rows x.node ∷ []
+    → node_parent nodes.rows x.node ≡ Some (Some above) → new ≡ leave ++ place_segment nodes.rows x ∷ node_segment nodes.rows x.node ∷ []
     → Trails nodes a b above y new enter
 trails_left nodes a b x y above leave enter new m l p g read v up s w over t e f st same =
     one_up nodes read (plug (v ∷ up) s) (v ∷ up) (w ∷ over) x y above leave enter new st (m read v up s w over t e f st same) l p g
 
 pub trails_entered : (nodes : NodesView) (a b x y above : Place) (leave enter new : List Segment) → Trails nodes a b x y leave enter → x.node < y.node
-    → parent_at nodes.rows y.node ≡ Some (Some above) → new ≡ enter ++ place_segment nodes.rows y ∷ node_segment nodes.rows y.node ∷ []
+    → node_parent nodes.rows y.node ≡ Some (Some above) → new ≡ enter ++ place_segment nodes.rows y ∷ node_segment nodes.rows y.node ∷ []
     → Trails nodes a b x above leave new
 trails_entered nodes a b x y above leave enter new m l p g read v up s w over t e f st same =
     let k = trails_turned nodes.rows (plug (v ∷ up) s) (v ∷ up) (w ∷ over) x y leave enter (m read v up s w over t e f st same) in
@@ -74,13 +74,13 @@ trails_entered nodes a b x y above leave enter new m l p g read v up s w over t 
 
 -- neither comes to the first node while the other is above it
 pub left_on : (nodes : NodesView) (a b x y : Place) (leave enter one two : List Segment) → Trails nodes a b x y leave enter → y.node < x.node
-    → parent_at nodes.rows x.node ≡ Some None → IsPathBetween nodes a b one two
+    → node_parent nodes.rows x.node ≡ Some None → IsPathBetween nodes a b one two
 left_on nodes a b x y leave enter one two m l p read v up s w over t e f st same =
     let k = m read v up s w over t e f st same in
     absurd (never_stuck nodes read (plug (v ∷ up) s) (v ∷ up) (w ∷ over) x y st k.sides l p)
 
 pub entered_on : (nodes : NodesView) (a b x y : Place) (leave enter one two : List Segment) → Trails nodes a b x y leave enter → x.node < y.node
-    → parent_at nodes.rows y.node ≡ Some None → IsPathBetween nodes a b one two
+    → node_parent nodes.rows y.node ≡ Some None → IsPathBetween nodes a b one two
 entered_on nodes a b x y leave enter one two m l p read v up s w over t e f st same =
     let k = m read v up s w over t e f st same in
     absurd (never_stuck nodes read (plug (v ∷ up) s) (w ∷ over) (v ∷ up) y x st (sides_turned (plug (v ∷ up) s) (v ∷ up) (w ∷ over) x y k.sides) l p)

@@ -24,8 +24,8 @@ node_segment rows n = node_segment_in (row_of_node rows n)
 abbrev pub place_segment : Rows → Place → Segment
 place_segment rows p = branch_segment_in p.index (row_of_node rows p.node)
 
-abbrev pub parent_at : Rows → ℕ → Option (Option Place)
-parent_at rows n = option_map (λ r. r.parent) (row_of_node rows n)
+abbrev pub node_parent : Rows → ℕ → Option (Option Place)
+node_parent rows n = option_map (λ r. r.parent) (row_of_node rows n)
 
 -- what is entered on the way down
 abbrev pub segments_down : Rows → List Place → List Segment

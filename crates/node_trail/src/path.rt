@@ -4,7 +4,7 @@ ghost use Rattle.tree_model.specs.EventViews.{place_view};
 ghost use Rattle.tree_nodes.specs.Folds.{IsAbove};
 ghost use Rattle.tree_nodes.specs.RowViews.{parent_view};
 ghost use Rattle.tree_nodes.specs.Rows.{cell_at};
-ghost use Rattle.node_trail.specs.Trails.{node_segment, place_segment, parent_at, IsPathBetween};
+ghost use Rattle.node_trail.specs.Trails.{node_segment, place_segment, node_parent, IsPathBetween};
 
 use crate::legs::{Leg, Legs};
 use au_term::NoMemory;
@@ -55,7 +55,7 @@ pub fn path_between(nodes: &Nodes, from: AltRef, to: AltRef) -> Result<Path, NoM
 fn leave_node(nodes: &Nodes, at: AltRef, legs: &mut Legs) -> Result<Option<AltRef>, NoMemory>
     requires { IsSome (cell_at nodes.now.rows (place_view at)) }
     ensures legs { OnOk result (legs.new ≡ legs.old ++ place_segment nodes.now.rows (place_view at) ∷ node_segment nodes.now.rows at.node ∷ []) }
-    ensures parent { IfOk result (λ above. parent_at nodes.now.rows at.node ≡ Some (parent_view above)) }
+    ensures parent { IfOk result (λ above. node_parent nodes.now.rows at.node ≡ Some (parent_view above)) }
     ensures above { IfOk result (λ above. IsAbove nodes.now.rows (parent_view above) at.node) }
 {
     legs.push(branch(nodes, at)?)?;

@@ -63,7 +63,7 @@ fn close(rt: &impl Abort, nodes: &mut Nodes, at: AltRef, credit: Credit) -> Resu
 }
 
 /// A node of three alternatives; below the second one of three, and below the second of these one of two, of which the
-/// first is at hand. The last of the second node has closed.
+/// first is the current one. The last of the second node has closed.
 #[test]
 fn what_is_pruned(rt: HostRuntime) -> Result<(), Fail> {
     let alloc = rt.alloc();

@@ -10,8 +10,8 @@ use run_model::{RunEnd, RunEnding};
 use std::alloc::Global;
 use text_load::Job;
 
-/// Runs a job for at most `budget` inferences, and writes its lines to `out`. A run that a failed write or want of
-/// memory cuts short has written a front of its text, and its numbers are 0.
+/// Runs a job for at most `budget` inferences, and writes its lines to `out`. A run that a failed write or running out
+/// of memory cuts short has written a prefix of its text, and its numbers are 0.
 pub fn run_job<K: Sink>(alloc: Global, job: Job, budget: u64, out: &mut K) -> RunEnd
     ensures run { IsRun (job_meant job) budget (K.taken out.old) (K.taken out.new) result }
     ensures fault { result.end ≡ RunEnding.WriteFault → Increased (K.faults out.old) (K.faults out.new) }

@@ -1,4 +1,4 @@
--- Which frame takes a joint.
+-- Which frame takes a post-operator.
 use Rattle.std.proofs.Common.{◌≡◌, ◌∙◌, ℕ, true, false, ◌||◌, List, [], ◌∷◌, ◌++◌, map, Some, None, sym, ap}
 use Rattle.au_model.specs.Syntax.PostOperators.{PostOperator, post_operator_fits}
 use Rattle.term_reader.specs.Completion as stack

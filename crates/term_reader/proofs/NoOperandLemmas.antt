@@ -178,7 +178,7 @@ taken s j (stack.InfixOf m o u ∷ k) l p h le e = go (post_operator_fits (right
       let v = over-infix s j k m o u l p le f in
       record { below = t.below; tree = t.tree; priority = t.priority; bounds = t.bounds; low = t.low; fits = t.fits; back = λ ts goal q g. v.back ts goal q (t.back ts goal q g) }
 
--- what completes an operand with the joint after it
+-- what completes an operand with the post-operator after it
 record Joined (s : Setting) (a : Bool) (x : Lexeme) (k : List OpenFrame) (l : Tree) (p : ℕ) : Type 0 where
   pub more : List Token
   pub quiet : IsQuiet more

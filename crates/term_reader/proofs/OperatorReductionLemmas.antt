@@ -105,7 +105,7 @@ pub bound-none : (xs : List Frame) (k : List stack.OpenFrame) → map frame_mean
 bound-none xs [] e h = refl
 bound-none xs (f ∷ k) e h = none_some (shape_of f) (ap (option_map frame_meant) (sym h) ∙ last-shape xs (f ∷ k) e)
 
--- an operand stops in front of a joint that does not fit
+-- an operand stops in front of a post-operator that does not fit
 pub stops-at : (ops : OperatorTable) (bound p : ℕ) (ts : List Token) (j : PostOperator) → first_post_operator ops ts ≡ j → post_operator_fits bound p j ≡ false → next_operator ops bound p ts ≡ Stop
 stops-at ops bound p [] j e h = refl
 stops-at ops bound p (t ∷ ts) j e h = next-stop ops bound p (t ∷ ts) (ap (post_operator_fits bound p) e ∙ h)

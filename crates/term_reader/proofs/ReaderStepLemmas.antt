@@ -357,7 +357,7 @@ on-infix ops bound p ts us t n o e f h = ap (next_operator ops bound p) e ∙ rw
 pub on-postfix : (ops : OperatorTable) (bound p : ℕ) (ts us : List Token) (t : Token) (n : List ℕ) (o : Operator) → ts ≡ t ∷ us → token_post_operator ops t ≡ Postfix n o → post_operator_fits bound p (Postfix n o) ≡ true → next_operator ops bound p ts ≡ OnPostfix n o us
 on-postfix ops bound p ts us t n o e f h = ap (next_operator ops bound p) e ∙ rw f (rw h refl)
 
--- a joint is no end
+-- a post-operator is no end
 not-end : (ops : OperatorTable) (x : Lexeme) (n : List ℕ) (o : Operator) → lexeme_post_operator ops x ≡ Infix n o → is_end x ≡ false
 not-end ops words.End n o e = let z : ⊥ = cc in absurd z
 not-end ops x n o e = refl

@@ -18,7 +18,7 @@ abbrev pub first_post_operator : OperatorTable → List Token → PostOperator
 first_post_operator ops [] = Nothing
 first_post_operator ops (t ∷ ts) = token_post_operator ops t
 
--- in front of this joint one operand goes on just as the other does
+-- before this post-operator one operand goes on just as the other does
 pub record ReadSame (s : Setting) (j : PostOperator) (k : List OpenFrame) (l : Tree) (p : ℕ) (m : List OpenFrame) (t : Tree) (q : ℕ) : Type 0 where
   pub to : (ts : List Token) (goal : Tree) → first_post_operator s.ops ts ≡ j → CompletesAfter s k ts l p goal → CompletesAfter s m ts t q goal
   pub back : (ts : List Token) (goal : Tree) → first_post_operator s.ops ts ≡ j → CompletesAfter s m ts t q goal → CompletesAfter s k ts l p goal
@@ -45,7 +45,7 @@ abbrev pub IsFewer : Reduced → ℕ → ℕ → Type 0
 IsFewer (Applied q) m n = n + 1 ≡ m
 IsFewer _ m n = Unit {0}
 
--- nothing is left to be put over the operand; a joint goes on after it, or none is open
+-- nothing is left to be put over the operand; a post-operator goes on after it, or none is open
 abbrev pub IsFullyReduced : List OpenFrame → ℕ → PostOperator → Bool → Type 0
 IsFullyReduced k q j true = post_operator_fits (bound_of k) q j ≡ true
 IsFullyReduced k q j false = (post_operator_fits (bound_of k) q j ≡ false) × HasNoOperatorOnTop k

@@ -99,7 +99,7 @@ IsFaultAtFrame source start st f k l p c end h r =
 
 -- ---- after a prefix operator
 
--- the joint goes on after an operand of this priority, maybe when operators were put over it
+-- the post-operator goes on after an operand of this priority, maybe when operators were put over it
 abbrev pub accepts : List OpenFrame → ℕ → PostOperator → Bool
 accepts [] p j = post_operator_fits 1200 p j
 accepts (PrefixOf n o ∷ k) p j = post_operator_fits (right_bound o) p j || accepts k o.priority j

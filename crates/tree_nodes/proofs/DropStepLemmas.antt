@@ -36,7 +36,7 @@ number_or (Closed credit) = 0
 module _ (old : Rows) (live : ℕ) (rows : Rows) (now : ℕ) (at top : ℕ) (node : Node) (once : IsOnce (Inner node)) (g : IsGoing old live rows now at (Inner node))
     (read : Reading) (way : Branching) (parent : Option Place) (placed : IsNodeIn old read way parent node) (is_top : node_number node ≡ top)
     (new : Rows) (changed : (m : ℕ) → m ≢ at → row_of_node new m ≡ row_of_node rows m) where
-  -- the row of the node at hand
+  -- the row of the current node
   own_parent : g.own.0.parent ≡ above_from parent g.path
   own_parent =
       let k = inside old read way parent g.path (Inner (Numbered at g.kind (put_left g.left g.right))) (subst (IsIn old read way parent) g.is placed) in

@@ -3,7 +3,7 @@
 //!
 //! A node is found by its number at once, and numbers are never used again; of a node that is gone a place of eight bytes
 //! is left. `add` costs the node's alternatives. `set` and `close` cost what they drop, and `close` besides the
-//! alternatives of the node at hand and of those that fold. Nothing recurses, and each call takes its memory before it
+//! alternatives of the current node and of those that fold. Nothing recurses, and each call takes its memory before it
 //! changes anything.
 #![tactic(auto)]
 
