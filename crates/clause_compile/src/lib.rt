@@ -2,7 +2,7 @@
 #![tactic(auto)]
 
 mod atom_numbers;
-mod body;
+pub mod body;
 pub mod clause;
 mod code;
 pub mod event;
@@ -14,6 +14,7 @@ mod place;
 mod tests;
 
 pub use atom_numbers::AtomNumbers;
+pub use body::goal_places;
 pub use clause::{Clause, ClauseRefusal, Part, body_goals, compile};
 pub use code::{ClausePlaces, Code};
 pub use event::{Branch, Effect, GateKind, Opening};

@@ -2,8 +2,11 @@
 #![tactic(auto)]
 
 mod assembly;
+mod directive;
 pub mod job;
 pub mod laws;
+mod loading;
+mod procedures;
 pub mod query;
 pub mod reading;
 mod reserved;
@@ -11,6 +14,6 @@ mod sentence;
 #[cfg(test)]
 mod tests;
 
-pub use job::Job;
+pub use job::{Job, JobParts};
 pub use query::Query;
 pub use reading::{LoadRefusal, load};

@@ -32,15 +32,15 @@ fn jobs(rt: HostRuntime) -> Result<(), Fail> {
         ("r", 1, None),
     ] {
         assert_eq!(rt;
-            clauses_of(alloc, &job.procs, name, arity)?,
+            clauses_of(alloc, job.procs(), name, arity)?,
             count,
             "{name}/{arity}"
         );
     }
-    assert_eq!(rt; job.queries.len(), 2);
-    assert_eq!(rt; job.queries[0].names().len(), 1);
-    assert_eq!(rt; job.queries[1].names().len(), 2);
-    assert_eq!(rt; job.queries[1].vars(), 3);
+    assert_eq!(rt; job.queries().len(), 2);
+    assert_eq!(rt; job.queries()[0].names().len(), 1);
+    assert_eq!(rt; job.queries()[1].names().len(), 2);
+    assert_eq!(rt; job.queries()[1].vars(), 3);
     Ok(())
 }
 
