@@ -28,7 +28,7 @@ impl Indicator {
     }
 
     /// The same.
-    pub(crate) fn share(&self) -> Result<Indicator, NoMemory>
+    pub fn share(&self) -> Result<Indicator, NoMemory>
         ensures { IfOk result (λ i. i ≡ self.now) }
     {
         Ok(Indicator {

@@ -1,17 +1,15 @@
 //! The job of what is loaded of a library and of a text.
-ghost use Rattle.std.specs.Prelude.{◌≡◌, ◌++◌, false, IfOk, OnOk, List, map, fold};
+ghost use Rattle.std.specs.Prelude.{◌≡◌, ◌++◌, ◌||◌, false, IfOk, OnOk, map, fold};
 ghost use Rattle.std.specs.Arc.{arc_value};
 ghost use Rattle.au_model.specs.Terms.Each.{Each};
-ghost use Rattle.au_term.specs.Term.{argument_count};
-ghost use Rattle.au_model.specs.Terms.Forms.{name_of};
-ghost use Rattle.run_model.specs.Programs.Clauses.{Clause as ClauseTerms, is_defined};
+ghost use Rattle.run_model.specs.Programs.Clauses.{is_clause_of};
 ghost use Rattle.run_model.specs.Programs.DatabaseChanges.{declared_in, with_last_clause};
 ghost use Rattle.dyn_clauses.specs.declared.indicator.Indicator.{Indicator as IndicatorTerms};
 ghost use Rattle.dyn_clauses.specs.DatabaseView.{is_static};
 ghost use Rattle.dyn_clauses.specs.ClauseEnds.{indicator_of};
 ghost use Rattle.text_load.specs.JobView.{AreStatics};
-ghost use Rattle.text_load.specs.LoadedTexts.{clauses_beside, database_of, job_of, procedures_beside};
 ghost use Rattle.text_load.specs.LoadingView.{AreApart};
+ghost use Rattle.text_load.specs.LoadedTexts.{clauses_beside, database_of, job_of, procedures_beside};
 
 use crate::job::Job;
 use crate::loading::Loading;
@@ -57,7 +55,7 @@ fn push_beside(
     ensures { OnOk result (map arc_value clauses.new.items ≡ map arc_value clauses.old.items ++ clauses_beside text.now (map arc_value library.now)) }
 {
     for clause in library {
-        if !text.defines(&Indicator::of_clause(clause)?) {
+        if !text.defines_that_of(clause)? {
             clauses.push(clause.clone()?)?;
         }
     }
@@ -94,18 +92,40 @@ fn procedures_of(
     library: &Loading,
     text: &Loading,
 ) -> Result<Vec<Indicator>, NoMemory>
-    ensures { IfOk result (λ procedures. procedures.items ≡ procedures_beside text.now library.now.declared ++ text.now.declared) }
+    ensures procedures { IfOk result (λ procedures. procedures.items ≡ procedures_beside text.now library.now.declared ++ text.now.declared) }
+    ensures library { IfOk result (λ procedures. AreApart library.now.declared library.now.statics library.now.dynamics) }
+    ensures text { IfOk result (λ procedures. AreApart text.now.declared text.now.statics text.now.dynamics) }
 {
     let mut procedures = Vec::new(alloc);
-    for procedure in library.declared.procedures() {
+    push_procedures_beside(library.declared_procedures(), text, &mut procedures)?;
+    push_procedures(text.declared_procedures(), &mut procedures)?;
+    Ok(procedures)
+}
+
+/// Puts the procedures that a text does not define after those that are there.
+fn push_procedures_beside(
+    library: &[Indicator],
+    text: &Loading,
+    procedures: &mut Vec<Indicator>,
+) -> Result<(), NoMemory>
+    ensures { OnOk result (procedures.new.items ≡ procedures.old.items ++ procedures_beside text.now library.now) }
+{
+    for procedure in library {
         if !text.defines(procedure) {
-            procedures.push(procedure.clone()?)?;
+            procedures.push(procedure.share()?)?;
         }
     }
-    for procedure in text.declared.procedures() {
-        procedures.push(procedure.clone()?)?;
+    Ok(())
+}
+
+/// Puts procedures after those that are there.
+fn push_procedures(more: &[Indicator], procedures: &mut Vec<Indicator>) -> Result<(), NoMemory>
+    ensures { OnOk result (procedures.new.items ≡ procedures.old.items ++ more.now) }
+{
+    for procedure in more {
+        procedures.push(procedure.share()?)?;
     }
-    Ok(procedures)
+    Ok(())
 }
 
 /// The database of a library and a text, beside the procedures of static clauses.
@@ -120,8 +140,10 @@ fn database_of(
     ensures statics { IfOk result (λ d. AreStatics d.statics (map arc_value statics.now)) }
 {
     let mut database = Database::new(alloc, defined_by(alloc, statics)?)?;
-    declare_all(&procedures_of(alloc, library, text)?, &mut database)?;
-    add_all(dynamic_clauses_of(alloc, library, text)?, &mut database)?;
+    let procedures = procedures_of(alloc, library, text)?;
+    declare_all(&procedures, &mut database)?;
+    let clauses = dynamic_clauses_of(alloc, library, text)?;
+    add_all(&clauses, &mut database)?;
     Ok(database)
 }
 
@@ -131,16 +153,24 @@ fn defined_by(alloc: Global, clauses: &[Arc<Clause>]) -> Result<Vec<Indicator>, 
 {
     let mut procedures = Vec::new(alloc);
     for clause in clauses {
-        procedures.push(Indicator::of_clause(clause)?)?;
+        push_procedure(clause, &mut procedures)?;
     }
     Ok(procedures)
+}
+
+/// Puts the procedure of a clause after those that are there.
+fn push_procedure(clause: &Clause, procedures: &mut Vec<Indicator>) -> Result<(), NoMemory>
+    ensures { OnOk result ((i : IndicatorTerms) → is_static procedures.new.items i ≡ (is_static procedures.old.items i || is_clause_of i.name i.arity clause.now)) }
+{
+    procedures.push(Indicator::of_clause(clause)?)?;
+    Ok(())
 }
 
 /// Makes procedures dynamic.
 fn declare_all(procedures: &[Indicator], database: &mut Database) -> Result<(), NoMemory>
     requires { Each (λ i. is_static database.old.statics i ≡ false) procedures.now }
     ensures kept { OnOk result (database.new.kept ≡ fold (λ db i. declared_in db i.name i.arity) database.old.kept procedures.now) }
-    ensures statics { database.new.statics ≡ database.old.statics }
+    ensures statics { OnOk result (database.new.statics ≡ database.old.statics) }
 {
     for procedure in procedures {
         match database.declare(procedure) {
@@ -153,13 +183,13 @@ fn declare_all(procedures: &[Indicator], database: &mut Database) -> Result<(), 
 }
 
 /// Puts clauses of dynamic procedures after those that are there.
-fn add_all(clauses: Vec<Arc<Clause>>, database: &mut Database) -> Result<(), NoMemory>
-    requires { Each (λ c. is_static database.old.statics (indicator_of c) ≡ false) (map arc_value clauses.items) }
-    ensures kept { OnOk result (database.new.kept ≡ fold with_last_clause database.old.kept (map arc_value clauses.items)) }
-    ensures statics { database.new.statics ≡ database.old.statics }
+fn add_all(clauses: &[Arc<Clause>], database: &mut Database) -> Result<(), NoMemory>
+    requires { Each (λ c. is_static database.old.statics (indicator_of c) ≡ false) (map arc_value clauses.now) }
+    ensures kept { OnOk result (database.new.kept ≡ fold with_last_clause database.old.kept (map arc_value clauses.now)) }
+    ensures statics { OnOk result (database.new.statics ≡ database.old.statics) }
 {
     for clause in clauses {
-        match database.add_last(clause) {
+        match database.add_last(clause.clone()?) {
             Ok(_) => {}
             Err(DataRefusal::NoMemory) => return Err(NoMemory),
             Err(DataRefusal::Static) => unreachable!(),

@@ -1,8 +1,8 @@
 //! Directives (ISO/IEC 13211-1, 7.4.2).
-ghost use Rattle.std.specs.Prelude.{◌≡◌, ◌<◌, ◌≤◌, IfOk, option_map};
+ghost use Rattle.std.specs.Prelude.{◌≡◌, ◌<◌, ◌≤◌, IfOk, length, option_map};
 ghost use Rattle.std.specs.Str.{IsAscii};
 ghost use Rattle.au_term.specs.Term.{argument, argument_count};
-ghost use Rattle.au_term.specs.PrefixOrder.{top_of};
+ghost use Rattle.au_term.specs.PrefixOrder.{cells_of, subterm, top_of};
 ghost use Rattle.run_model.specs.Programs.Bodies.{goals_of};
 ghost use Rattle.text_load.specs.Directives.{MakesDynamic, LetsStandApart, definable, directive_of, indicator_in, indicator_with, indicators_in, is_named, parts_of, quotes_named};
 ghost use Rattle.text_load.specs.DirectiveCells.{quotes_by};
@@ -156,7 +156,8 @@ fn parts_of(alloc: Global, term: &FlatTerm) -> Result<Vec<FlatTerm>, NoMemory>
 {
     match list_form(alloc, term)? {
         ListForm::Proper(items) => Ok(items),
-        _ => conjuncts(alloc, term),
+        ListForm::Partial(_items) => conjuncts(alloc, term),
+        ListForm::NoList => conjuncts(alloc, term),
     }
 }
 
@@ -167,9 +168,17 @@ fn conjuncts(alloc: Global, term: &FlatTerm) -> Result<Vec<FlatTerm>, NoMemory>
     let places = goal_places(alloc, term)?;
     let mut parts = Vec::new(alloc);
     for place in &places {
-        parts.push(FlatTerm::from_slice(alloc, term.subterm(*place))?)?;
+        parts.push(part_at(alloc, term, *place)?)?;
     }
     Ok(parts)
+}
+
+/// The subterm at a place, with cells of its own.
+fn part_at(alloc: Global, term: &FlatTerm, at: usize) -> Result<FlatTerm, NoMemory>
+    requires { at < length (cells_of term.now) }
+    ensures { IfOk result (λ t. t ≡ subterm at term.now) }
+{
+    FlatTerm::from_slice(alloc, term.subterm(at))
 }
 
 /// The procedure of an indicator.
@@ -180,15 +189,16 @@ fn indicator_in(part: &FlatTerm) -> Result<Option<Indicator>, NoMemory>
         return Ok(None);
     }
     match (argument_top(part, 0), argument_top(part, 1)) {
-        (Cell::Atom(name), Cell::Int(arity)) => indicator_with(name, *arity),
+        (Cell::Atom(name), Cell::Int(arity)) => indicator_with(name, arity),
         _ => Ok(None),
     }
 }
 
 /// The procedure with this name and number of arguments, where a text may define it.
-fn indicator_with(name: &Atom, arity: i64) -> Result<Option<Indicator>, NoMemory>
-    ensures { IfOk result (λ i. i ≡ indicator_with name.now arity) }
+fn indicator_with(name: &Atom, arity: &i64) -> Result<Option<Indicator>, NoMemory>
+    ensures { IfOk result (λ i. i ≡ indicator_with name.now arity.now) }
 {
+    let arity = *arity;
     if arity < 0 || arity > MAX_ARITY {
         return Ok(None);
     }

@@ -1,11 +1,7 @@
 //! What a text loads to.
 ghost use Rattle.std.specs.Prelude.{◌≡◌};
 ghost use Rattle.std.specs.Arc.{arc_value};
-ghost use Rattle.run_model.specs.Programs.Clauses.{is_defined};
-ghost use Rattle.run_model.specs.Programs.Jobs.{Job as JobTerms};
-ghost use Rattle.dyn_clauses.specs.declared.indicator.Indicator.{Indicator as IndicatorTerms};
-ghost use Rattle.dyn_clauses.specs.DatabaseView.{is_static};
-ghost use Rattle.text_load.specs.JobView.{AreStatics, HasParts, job_meant};
+ghost use Rattle.text_load.specs.JobView.{AreStatics, HasParts};
 
 use crate::query::Query;
 use dyn_clauses::Database;

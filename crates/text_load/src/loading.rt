@@ -1,13 +1,14 @@
 //! What is loaded of a text so far.
-ghost use Rattle.std.specs.Prelude.{◌≡◌, ◌++◌, ◌∷◌, [], IfOk, OnOk, map};
+ghost use Rattle.std.specs.Prelude.{◌≡◌, ◌++◌, ◌∷◌, [], true, false, IfOk};
 ghost use Rattle.std.specs.Arc.{arc_value};
 ghost use Rattle.std.specs.List.{list_any};
-ghost use Rattle.au_model.specs.Syntax.Primaries.{Setting};
+ghost use Rattle.au_term.specs.Term.{argument_count};
+ghost use Rattle.au_model.specs.Terms.Forms.{name_of};
 ghost use Rattle.run_model.specs.Programs.Clauses.{is_defined};
-ghost use Rattle.text_load.specs.Sentences.{ClauseSentence};
 ghost use Rattle.text_load.specs.Directives.{MakesDynamic, ChangesOperators};
-ghost use Rattle.text_load.specs.LoadedTexts.{Loading as LoadingTerms, defines, directed, first_loading, taken, with_clause};
+ghost use Rattle.text_load.specs.LoadedTexts.{defines, directed, first_loading, is_declared, taken, with_clause};
 ghost use Rattle.text_load.specs.LoadedSentences.{IsTaken, directive_meant, sentence_meant};
+ghost use Rattle.text_load.specs.LoadingView.{AreApart};
 
 use crate::directive::Directive;
 use crate::procedures::{Declared, Statics};
@@ -109,14 +110,31 @@ impl Loading {
     }
 
     /// What is loaded with a clause more.
-    fn with_clause(mut self, clause: Arc<Clause>) -> Result<Loading, NoMemory>
+    fn with_clause(self, clause: Arc<Clause>) -> Result<Loading, NoMemory>
         ensures { IfOk result (λ l. l ≡ with_clause self (arc_value clause)) }
     {
-        if self.declared.has(&Indicator::of_clause(&clause)?) {
-            self.dynamics.push(clause)?;
-        } else {
-            self.statics = self.statics.with(clause)?;
+        let procedure = Indicator::of_clause(&clause)?;
+        if self.declared.has(&procedure) {
+            return self.with_dynamic(clause);
         }
+        self.with_static(clause)
+    }
+
+    /// What is loaded with a clause of a dynamic procedure more.
+    fn with_dynamic(mut self, clause: Arc<Clause>) -> Result<Loading, NoMemory>
+        requires { is_declared self.declared (name_of (arc_value clause).head) (argument_count (arc_value clause).head) ≡ true }
+        ensures { IfOk result (λ l. l ≡ record self { dynamics = self.dynamics ++ arc_value clause ∷ [] }) }
+    {
+        self.dynamics.push(clause)?;
+        Ok(self)
+    }
+
+    /// What is loaded with a clause of another procedure more.
+    fn with_static(mut self, clause: Arc<Clause>) -> Result<Loading, NoMemory>
+        requires { is_declared self.declared (name_of (arc_value clause).head) (argument_count (arc_value clause).head) ≡ false }
+        ensures { IfOk result (λ l. l ≡ record self { statics = self.statics ++ arc_value clause ∷ [] }) }
+    {
+        self.statics = self.statics.with(clause)?;
         Ok(self)
     }
 
@@ -146,9 +164,7 @@ impl Loading {
         if self.has_static(&procedures) {
             return Err(Untaken::Fault(FaultKind::StaticTwice));
         }
-        for procedure in procedures {
-            self.declared = self.declared.with(procedure)?;
-        }
+        self.declared = self.declared.with_all(procedures)?;
         Ok(self)
     }
 
@@ -156,7 +172,9 @@ impl Loading {
     fn has_static(&self, procedures: &[Indicator]) -> bool
         ensures { result ≡ list_any (λ i. is_defined self.now.statics i.name i.arity) procedures.now }
     {
-        procedures.iter().any(|procedure| self.statics.define(procedure))
+        procedures
+            .iter()
+            .any(|procedure| self.statics.define(procedure))
     }
 
     /// Does what `op/3` does, but for its errors.
@@ -175,10 +193,26 @@ impl Loading {
         }
     }
 
+    /// The procedures that were made dynamic.
+    pub(crate) fn declared_procedures(&self) -> &[Indicator]
+        ensures are { result.now ≡ self.now.declared }
+        ensures apart { AreApart self.now.declared self.now.statics self.now.dynamics }
+    {
+        self.declared.procedures()
+    }
+
     /// Whether the text defines a procedure.
     pub(crate) fn defines(&self, procedure: &Indicator) -> bool
         ensures { result ≡ defines self.now procedure.now.name procedure.now.arity }
     {
         self.statics.define(procedure) || self.declared.has(procedure)
+    }
+
+    /// Whether the text defines the procedure of a clause.
+    pub(crate) fn defines_that_of(&self, clause: &Clause) -> Result<bool, NoMemory>
+        ensures { IfOk result (λ b. b ≡ defines self.now (name_of clause.now.head) (argument_count clause.now.head)) }
+    {
+        let procedure = Indicator::of_clause(clause)?;
+        Ok(self.defines(&procedure))
     }
 }

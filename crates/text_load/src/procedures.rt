@@ -60,9 +60,20 @@ impl Declared {
     pub(crate) fn with(mut self, procedure: Indicator) -> Result<Declared, NoMemory>
         ensures { IfOk result (λ d. d ≡ self ++ procedure ∷ []) }
     {
-        self.known.insert(procedure.clone()?)?;
+        self.known.insert(procedure.share()?)?;
         self.procedures.push(procedure)?;
         Ok(self)
+    }
+
+    /// These, and others after them.
+    pub(crate) fn with_all(self, procedures: Vec<Indicator>) -> Result<Declared, NoMemory>
+        ensures { IfOk result (λ d. d ≡ self ++ procedures.items) }
+    {
+        let mut all = self;
+        for procedure in procedures {
+            all = all.with(procedure)?;
+        }
+        Ok(all)
     }
 }
 

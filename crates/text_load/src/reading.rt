@@ -75,7 +75,12 @@ pub(crate) enum Next {
 
 /// What the term is that is in front of what is left of a text, as it is read with the operators and the meaning of
 /// double-quoted items in force.
-fn next_sentence(alloc: Global, loading: &Loading, text: &str, at: usize) -> Result<Next, LoadRefusal>
+fn next_sentence(
+    alloc: Global,
+    loading: &Loading,
+    text: &str,
+    at: usize,
+) -> Result<Next, LoadRefusal>
     requires { IsCharBoundary text.now at }
     ensures { IsNext loading.now text.now at result }
 {
@@ -100,7 +105,12 @@ fn refusal_of(refused: ReadRefused) -> LoadRefusal
 }
 
 /// What is loaded with a sentence more, or its refusal: its term is blamed at its first token.
-fn taken(loading: Loading, sentence: Sentence, text: &str, at: usize) -> Result<Loading, LoadRefusal>
+fn taken(
+    loading: Loading,
+    sentence: Sentence,
+    text: &str,
+    at: usize,
+) -> Result<Loading, LoadRefusal>
     requires { IsCharBoundary text.now at }
     ensures { IsStep loading (sentence_meant sentence) text.now at result }
 {
