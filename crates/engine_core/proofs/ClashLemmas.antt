@@ -107,6 +107,17 @@ module _ (here : Scope) (rest : List Item) (st : StoreView) where
     among_all [] bs heads h = h
     among_all (c ∷ cs) bs heads h = by_procedure c cs bs (is_clause_of (name_of goal) (argument_count goal) c) heads.0 refl (λ ds k. among_all cs ds heads.1 k) h
 
+    -- the clauses of a procedure that the key tells apart give nothing
+    by_key_alone : (c : ClauseTerms) (cs : List ClauseTerms) (bs : List Branch) (fits : Bool) → may_match (head_key goal) c.head ≡ fits
+        → ((ds : List Branch) → AreSolved here rest st (alternatives_of (matching (head_key goal) cs) goal next) ds → AreSolved here rest st (alternatives_of cs goal next) ds)
+        → AreSolved here rest st (alternatives_of (cond fits (c ∷ matching (head_key goal) cs) (matching (head_key goal) cs)) goal next) bs → AreSolved here rest st (alternatives_of (c ∷ cs) goal next) bs
+    by_key_alone c cs bs true e h k = one_solution_more (clause_solution goal next c) (alternatives_of (matching (head_key goal) cs) goal next) (alternatives_of cs goal next) bs h k
+    by_key_alone c cs bs false e h k = one_fails (key_clash goal c.head (clause_renaming c next) e) (h bs k)
+
+    pub among_matching : (cs : List ClauseTerms) (bs : List Branch) → AreSolved here rest st (alternatives_of (matching (head_key goal) cs) goal next) bs → AreSolved here rest st (alternatives_of cs goal next) bs
+    among_matching [] bs h = h
+    among_matching (c ∷ cs) bs h = by_key_alone c cs bs (may_match (head_key goal) c.head) refl (λ ds k. among_matching cs ds k) h
+
 -- what a goal keeps where bindings are applied
 callable_kept : (s : Substitution) (t : Term) → is_callable t ≡ true → is_callable (resolve s t) ≡ true
 callable_kept s (VarTerm n) h = cc

@@ -8,12 +8,20 @@ use Rattle.au_model.specs.Terms.Substitutions.{Substitution, resolve}
 use Rattle.au_model.specs.Terms.Unifier.{unifier}
 use Rattle.run_model.specs.Programs.Clauses.{Clause as ClauseTerms, is_defined}
 use Rattle.run_model.specs.Goals.Outcomes.{Solution, alternatives_of}
+use Rattle.std.specs.Arc.{arc_value}
+use Rattle.std.specs.declared.sync.Arc.{Arc}
+use Rattle.clause_compile.specs.declared.clause.Clause.{Clause}
+use Rattle.clause_compile.specs.declared.item.ClauseId.{ClauseId}
 use Rattle.clause_compile.specs.declared.item.Scope.{Scope}
 use Rattle.clause_compile.specs.declared.item.Item.{Item}
 use Rattle.clause_compile.specs.declared.event.Branch.{Branch}
 use Rattle.bind_store.specs.FurtherBindings.{CanBeMade, IsComposition}
 use Rattle.bind_store.specs.StoreView.{StoreView, IsValidStore, substitution, with_bindings, pairs_of}
 use Rattle.engine_core.specs.Branches.{IsBranchOf, AreSolved}
+
+-- a clause without its number
+abbrev pub numbered_clause : ClauseId × Arc Clause Global → ClauseTerms
+numbered_clause p = arc_value p.1
 
 -- one way for an equation to hold, without new goals or variables
 abbrev pub equation_solution : Term → Term → Solution

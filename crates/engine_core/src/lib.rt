@@ -7,8 +7,8 @@ mod call;
 mod control;
 mod faults;
 pub mod items;
-mod names;
-mod procedure;
+pub mod names;
+pub mod procedure;
 pub mod reduction;
 #[cfg(test)]
 mod tests;
@@ -17,4 +17,6 @@ mod world;
 
 pub use bodies::goals_before;
 pub use items::reduce;
+pub use names::first_key;
+pub use procedure::dynamic_branches;
 pub use reduction::Reduction;

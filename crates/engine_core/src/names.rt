@@ -42,7 +42,7 @@ pub(crate) fn is_integer(cell: &Cell) -> bool
 }
 
 /// The key of a goal's first argument, its bindings applied; `Any` where it is a variable or there is none.
-pub(crate) fn first_key(goal: &Shared, store: &Store) -> Result<Key, NoMemory>
+pub fn first_key(goal: &Shared, store: &Store) -> Result<Key, NoMemory>
     requires { is_callable goal.now ≡ true }
     ensures { IfOk result (λ key. key ≡ head_key (resolve (substitution store.now) goal.now)) }
 {

@@ -1,6 +1,6 @@
 //! The clauses of a goal's procedure, tried in their order (ISO/IEC 13211-1, 7.7.10), and unification as a goal (8.2.1).
 //! Each attempt begins from the store as it is, and leaves it so.
-ghost use Rattle.std.specs.Prelude.{◌≡◌, ◌≤◌, ◌∷◌, [], true, IfOk};
+ghost use Rattle.std.specs.Prelude.{◌≡◌, ◌≤◌, ◌∷◌, [], true, IfOk, map};
 ghost use Rattle.au_term.specs.Term.{var_bound, argument_count};
 ghost use Rattle.au_model.specs.Terms.Each.{Each};
 ghost use Rattle.au_model.specs.Terms.Forms.{is_callable, name_of};
@@ -9,7 +9,7 @@ ghost use Rattle.run_model.specs.Goals.Outcomes.{alternatives_of, clause_solutio
 ghost use Rattle.clause_compile.specs.declared.item.Scope.{Scope};
 ghost use Rattle.bind_store.specs.StoreView.{substitution, IsValidStore, Continues};
 ghost use Rattle.engine_core.specs.Branches.{AreSolved, IsItemBelow};
-ghost use Rattle.engine_core.specs.Attempts.{AreAlternatives, equation_solution, AreUnifiedBy, IsTried, resolved_equation};
+ghost use Rattle.engine_core.specs.Attempts.{AreAlternatives, equation_solution, AreUnifiedBy, IsTried, numbered_clause, resolved_equation};
 ghost use Rattle.bind_store.specs.UnificationSteps.{AreOlderThan};
 
 use crate::names::first_key;
@@ -17,9 +17,10 @@ use crate::procedure;
 use crate::told_apart::told_apart;
 use au_term::{Atom, Bindings, NoMemory, Segment, Shared, VarNo};
 use bind_store::Store;
-use clause_compile::{Branch, Clause, Goals, Scope};
+use clause_compile::{Branch, Clause, ClauseId, Goals, Scope};
 use proc_index::{Candidates, Procs};
 use std::alloc::Global;
+use std::sync::Arc;
 
 /// Tries the clauses of a goal's procedure, each from the store as it is; none where the procedure has no clause.
 pub(crate) fn clauses_tried(
@@ -63,6 +64,30 @@ fn branches_of(
 {
     let mut branches = Vec::new(alloc);
     for clause in clauses {
+        if let Some(branch) = try_clause(alloc, goal, clause, rest, here, store)? {
+            branches.push(branch)?;
+        }
+    }
+    Ok(branches)
+}
+
+/// The branches of the clauses that a dynamic procedure has at this moment, in their order (7.5.4).
+pub fn dynamic_branches(
+    alloc: Global,
+    goal: &Shared,
+    clauses: &[(ClauseId, Arc<Clause>)],
+    rest: &Goals,
+    here: Scope,
+    store: &mut Store,
+) -> Result<Vec<Branch>, NoMemory>
+    requires goal { var_bound goal.now ≤ store.old.next }
+    requires rest { Each (IsItemBelow store.old.next) rest.now }
+    ensures solved { IfOk result (λ branches. AreSolved here rest.now store.old (alternatives_of (map numbered_clause clauses.now) (resolve (substitution store.old) goal.now) store.old.next) branches.items) }
+    ensures store { store.new ≡ store.old }
+{
+    let mut branches = Vec::new(alloc);
+    for numbered in clauses {
+        let (_id, clause) = numbered;
         if let Some(branch) = try_clause(alloc, goal, clause, rest, here, store)? {
             branches.push(branch)?;
         }
