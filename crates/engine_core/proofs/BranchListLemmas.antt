@@ -31,6 +31,9 @@ module _ (here : Scope) (rest : List Item) (st : StoreView) (goal : Term) where
   pub none_ahead : (left all : List ClauseTerms) (done : List Branch) → left ≡ [] → Ahead here rest st goal left all done → AreSolved here rest st (ways st goal all) done
   none_ahead left all done l h = subst (AreSolved here rest st (ways st goal all)) (nothing_more done) (h [] (subst (λ cs. AreSolved here rest st (ways st goal cs) []) (sym l) none_left))
 
+  pub subst_done : (left all : List ClauseTerms) (done now : List Branch) → now ≡ done → Ahead here rest st goal left all done → Ahead here rest st goal left all now
+  subst_done left all done now e h = subst (Ahead here rest st goal left all) (sym e) h
+
   module _ (c d : ClauseTerms) (now : StoreView) (before left all : List ClauseTerms) (done : List Branch) (tried : Option Branch) (first : before ≡ c ∷ left) (same : d ≡ c) (stays : now ≡ st)
       (ahead : Ahead here rest st goal before all done) (is : IsTried here rest now (clause_solution (resolve (substitution now) goal) now.next d) tried) where
     tried_here : IsTried here rest st (clause_solution (resolve (substitution st) goal) st.next c) tried

@@ -1,13 +1,12 @@
 -- What effects come to.
-use Rattle.std.proofs.Common.{◌≡◌, ◌∙◌, ℕ, ◌+◌, List, [], ◌∷◌, ◌++◌, map, Some, None, refl, sym, ap, ap₂, arith}
+use Rattle.std.proofs.Common.{◌≡◌, ◌∙◌, ℕ, ◌+◌, List, [], ◌∷◌, map, Some, None, refl, sym, ap, ap₂, arith}
 use Rattle.std.specs.Prelude.{Option, codes}
 use Rattle.au_term.specs.Term.{Term, Terms, end, more, count, arguments, argument_count}
-use Rattle.au_model.specs.Syntax.Operators.{OperatorTable}
 use Rattle.au_model.specs.Terms.Forms.{name_of}
 use Rattle.au_model.specs.Terms.Named.{NamedTerm}
 use Rattle.au_model.specs.Terms.Unifier.{unifier}
 use Rattle.run_model.specs.Goals.OutputGoals.{holds_once}
-use Rattle.run_model.specs.Goals.Worlds.{World, WorldConstruct, by_world_construct, dynamic_call, plain_world, world_construct_of}
+use Rattle.run_model.specs.Goals.Worlds.{World, WorldConstruct, by_world_construct, dynamic_call, world_construct_of}
 use Rattle.run_model.specs.Goals.Outcomes.{Reply}
 use Rattle.run_model.specs.Programs.Databases.{clauses_of}
 use Rattle.run_model.specs.Machine.Entries.{Entry, PlainEntry}
@@ -22,7 +21,7 @@ use Rattle.bind_store.proofs.ApplyLemmas.{resolve_none}
 use Rattle.engine_core.specs.Reductions.{AsksWorld, IsGoalOf, IsRemoval}
 use Rattle.engine_core.specs.declared.reduction.Reduction.{Reduction}
 use Rattle.engine_core.specs.declared.reduction.Reduction.TheVariants as reduction
-use Rattle.stack_run.specs.Inferences.{asked_of, gate_answer, gate_bytes}
+use Rattle.stack_run.specs.Inferences.{Unwritten, asked_of, gate_answer, gate_bytes, world_with}
 
 -- what is no effect
 abbrev pub IsNoGate : Reduction → Type 0
@@ -42,92 +41,92 @@ as_row : (o : Option WorldConstruct) (goal : Term) (next : ℕ) (w : World) → 
 as_row (Some c) goal next w = refl
 as_row None goal next w = refl
 
-asked_by : (operators : OperatorTable) (goal : Term) (next : ℕ) (name : List ℕ) (ts : Terms) → IsGoalOf name ts goal → asked_of operators goal next ≡ by_row (world_construct_of name (count ts)) ts goal next (plain_world operators [])
-asked_by operators goal next name ts h =
-    as_row (world_construct_of (name_of goal) (argument_count goal)) goal next (plain_world operators [])
-    ∙ ap₂ (λ n us. by_row (world_construct_of n (count us)) us goal next (plain_world operators [])) h.0 h.1
+asked_by : (world : Unwritten) (goal : Term) (next : ℕ) (name : List ℕ) (ts : Terms) → IsGoalOf name ts goal → asked_of world goal next ≡ by_row (world_construct_of name (count ts)) ts goal next (world_with world [])
+asked_by world goal next name ts h =
+    as_row (world_construct_of (name_of goal) (argument_count goal)) goal next (world_with world [])
+    ∙ ap₂ (λ n us. by_row (world_construct_of n (count us)) us goal next (world_with world [])) h.0 h.1
 
 -- a goal asks the world for an effect
-pub asked-as : (operators : OperatorTable) (goal : Term) (e : Effect) (next : ℕ) → AsksWorld goal e → asked_of operators goal next ≡ gate_answer operators e next
-asked-as operators goal (effect.Write a) next h = asked_by operators goal next (codes "write") (more a end) h
-asked-as operators goal (effect.Writeq a) next h = asked_by operators goal next (codes "writeq") (more a end) h
-asked-as operators goal (effect.WriteCanonical a) next h = asked_by operators goal next (codes "write_canonical") (more a end) h
-asked-as operators goal effect.Nl next h = asked_by operators goal next (codes "nl") end h
-asked-as operators goal (effect.PutChar a) next h = asked_by operators goal next (codes "put_char") (more a end) h
-asked-as operators goal (effect.Asserta a) next h = absurd h
-asked-as operators goal (effect.Assertz a) next h = absurd h
-asked-as operators goal (effect.Retract a) next h = absurd h
-asked-as operators goal (effect.Abolish a) next h = absurd h
-asked-as operators goal (effect.Clause a b) next h = absurd h
-asked-as operators goal (effect.Op a b c) next h = absurd h
-asked-as operators goal (effect.CurrentOp a b c) next h = absurd h
-asked-as operators goal effect.Halt next h = absurd h
-asked-as operators goal (effect.HaltWith a) next h = absurd h
-asked-as operators goal (effect.Call a) next h = ap (λ o. by_world_construct o [] goal next (plain_world operators [])) (none_of (world_construct_of (name_of goal) (argument_count goal)) h.1) ∙ ap (λ t. (plain_world operators [], dynamic_call None t next)) (sym h.0)
-asked-as operators goal (effect.Remove a) next h = absurd h
-asked-as operators goal (effect.Answer a b) next h = absurd h
-asked-as operators goal (effect.End a) next h = absurd h
+pub asked-as : (world : Unwritten) (goal : Term) (e : Effect) (next : ℕ) → AsksWorld goal e → asked_of world goal next ≡ gate_answer world e next
+asked-as world goal (effect.Write a) next h = asked_by world goal next (codes "write") (more a end) h
+asked-as world goal (effect.Writeq a) next h = asked_by world goal next (codes "writeq") (more a end) h
+asked-as world goal (effect.WriteCanonical a) next h = asked_by world goal next (codes "write_canonical") (more a end) h
+asked-as world goal effect.Nl next h = asked_by world goal next (codes "nl") end h
+asked-as world goal (effect.PutChar a) next h = asked_by world goal next (codes "put_char") (more a end) h
+asked-as world goal (effect.Asserta a) next h = absurd h
+asked-as world goal (effect.Assertz a) next h = absurd h
+asked-as world goal (effect.Retract a) next h = absurd h
+asked-as world goal (effect.Abolish a) next h = absurd h
+asked-as world goal (effect.Clause a b) next h = absurd h
+asked-as world goal (effect.Op a b c) next h = absurd h
+asked-as world goal (effect.CurrentOp a b c) next h = absurd h
+asked-as world goal effect.Halt next h = absurd h
+asked-as world goal (effect.HaltWith a) next h = absurd h
+asked-as world goal (effect.Call a) next h = ap (λ o. by_world_construct o [] goal next (world_with world [])) (none_of (world_construct_of (name_of goal) (argument_count goal)) h.1) ∙ ap (λ t. (world_with world [], dynamic_call (clauses_of world.database (name_of t) (argument_count t)) t next)) (sym h.0)
+asked-as world goal (effect.Remove a) next h = absurd h
+asked-as world goal (effect.Answer a b) next h = absurd h
+asked-as world goal (effect.End a) next h = absurd h
 
 -- what is written does not depend on the next number
-pub same-bytes : (operators : OperatorTable) (e : Effect) (m n : ℕ) → (gate_answer operators e m).0.written ≡ (gate_answer operators e n).0.written
-same-bytes operators (effect.Write a) m n = refl
-same-bytes operators (effect.Writeq a) m n = refl
-same-bytes operators (effect.WriteCanonical a) m n = refl
-same-bytes operators effect.Nl m n = refl
-same-bytes operators (effect.PutChar a) m n = refl
-same-bytes operators (effect.Asserta a) m n = refl
-same-bytes operators (effect.Assertz a) m n = refl
-same-bytes operators (effect.Retract a) m n = refl
-same-bytes operators (effect.Abolish a) m n = refl
-same-bytes operators (effect.Clause a b) m n = refl
-same-bytes operators (effect.Op a b c) m n = refl
-same-bytes operators (effect.CurrentOp a b c) m n = refl
-same-bytes operators effect.Halt m n = refl
-same-bytes operators (effect.HaltWith a) m n = refl
-same-bytes operators (effect.Call a) m n = refl
-same-bytes operators (effect.Remove a) m n = refl
-same-bytes operators (effect.Answer a b) m n = refl
-same-bytes operators (effect.End a) m n = refl
+pub same-bytes : (world : Unwritten) (e : Effect) (m n : ℕ) → (gate_answer world e m).0.written ≡ (gate_answer world e n).0.written
+same-bytes world (effect.Write a) m n = refl
+same-bytes world (effect.Writeq a) m n = refl
+same-bytes world (effect.WriteCanonical a) m n = refl
+same-bytes world effect.Nl m n = refl
+same-bytes world (effect.PutChar a) m n = refl
+same-bytes world (effect.Asserta a) m n = refl
+same-bytes world (effect.Assertz a) m n = refl
+same-bytes world (effect.Retract a) m n = refl
+same-bytes world (effect.Abolish a) m n = refl
+same-bytes world (effect.Clause a b) m n = refl
+same-bytes world (effect.Op a b c) m n = refl
+same-bytes world (effect.CurrentOp a b c) m n = refl
+same-bytes world effect.Halt m n = refl
+same-bytes world (effect.HaltWith a) m n = refl
+same-bytes world (effect.Call a) m n = refl
+same-bytes world (effect.Remove a) m n = refl
+same-bytes world (effect.Answer a b) m n = refl
+same-bytes world (effect.End a) m n = refl
 
 -- a removal and an end write nothing here
-pub removal_bytes : (operators : OperatorTable) (i : Item) (e : Effect) → IsRemoval i e → gate_bytes operators e ≡ []
-removal_bytes operators (Remove id) (effect.Write a) h = absurd h
-removal_bytes operators (Remove id) (effect.Writeq a) h = absurd h
-removal_bytes operators (Remove id) (effect.WriteCanonical a) h = absurd h
-removal_bytes operators (Remove id) effect.Nl h = absurd h
-removal_bytes operators (Remove id) (effect.PutChar a) h = absurd h
-removal_bytes operators (Remove id) (effect.Asserta a) h = absurd h
-removal_bytes operators (Remove id) (effect.Assertz a) h = absurd h
-removal_bytes operators (Remove id) (effect.Retract a) h = absurd h
-removal_bytes operators (Remove id) (effect.Abolish a) h = absurd h
-removal_bytes operators (Remove id) (effect.Clause a b) h = absurd h
-removal_bytes operators (Remove id) (effect.Op a b c) h = absurd h
-removal_bytes operators (Remove id) (effect.CurrentOp a b c) h = absurd h
-removal_bytes operators (Remove id) effect.Halt h = absurd h
-removal_bytes operators (Remove id) (effect.HaltWith a) h = absurd h
-removal_bytes operators (Remove id) (effect.Call a) h = absurd h
-removal_bytes operators (Remove id) (effect.Remove a) h = refl
-removal_bytes operators (Remove id) (effect.Answer a b) h = absurd h
-removal_bytes operators (Remove id) (effect.End a) h = absurd h
-removal_bytes operators (End ball) (effect.Write a) h = absurd h
-removal_bytes operators (End ball) (effect.Writeq a) h = absurd h
-removal_bytes operators (End ball) (effect.WriteCanonical a) h = absurd h
-removal_bytes operators (End ball) effect.Nl h = absurd h
-removal_bytes operators (End ball) (effect.PutChar a) h = absurd h
-removal_bytes operators (End ball) (effect.Asserta a) h = absurd h
-removal_bytes operators (End ball) (effect.Assertz a) h = absurd h
-removal_bytes operators (End ball) (effect.Retract a) h = absurd h
-removal_bytes operators (End ball) (effect.Abolish a) h = absurd h
-removal_bytes operators (End ball) (effect.Clause a b) h = absurd h
-removal_bytes operators (End ball) (effect.Op a b c) h = absurd h
-removal_bytes operators (End ball) (effect.CurrentOp a b c) h = absurd h
-removal_bytes operators (End ball) effect.Halt h = absurd h
-removal_bytes operators (End ball) (effect.HaltWith a) h = absurd h
-removal_bytes operators (End ball) (effect.Call a) h = absurd h
-removal_bytes operators (End ball) (effect.Remove a) h = absurd h
-removal_bytes operators (End ball) (effect.Answer a b) h = absurd h
-removal_bytes operators (End ball) (effect.End a) h = refl
-removal_bytes operators i e h = absurd h
+pub removal_bytes : (world : Unwritten) (i : Item) (e : Effect) → IsRemoval i e → gate_bytes world e ≡ []
+removal_bytes world (Remove id) (effect.Write a) h = absurd h
+removal_bytes world (Remove id) (effect.Writeq a) h = absurd h
+removal_bytes world (Remove id) (effect.WriteCanonical a) h = absurd h
+removal_bytes world (Remove id) effect.Nl h = absurd h
+removal_bytes world (Remove id) (effect.PutChar a) h = absurd h
+removal_bytes world (Remove id) (effect.Asserta a) h = absurd h
+removal_bytes world (Remove id) (effect.Assertz a) h = absurd h
+removal_bytes world (Remove id) (effect.Retract a) h = absurd h
+removal_bytes world (Remove id) (effect.Abolish a) h = absurd h
+removal_bytes world (Remove id) (effect.Clause a b) h = absurd h
+removal_bytes world (Remove id) (effect.Op a b c) h = absurd h
+removal_bytes world (Remove id) (effect.CurrentOp a b c) h = absurd h
+removal_bytes world (Remove id) effect.Halt h = absurd h
+removal_bytes world (Remove id) (effect.HaltWith a) h = absurd h
+removal_bytes world (Remove id) (effect.Call a) h = absurd h
+removal_bytes world (Remove id) (effect.Remove a) h = refl
+removal_bytes world (Remove id) (effect.Answer a b) h = absurd h
+removal_bytes world (Remove id) (effect.End a) h = absurd h
+removal_bytes world (End ball) (effect.Write a) h = absurd h
+removal_bytes world (End ball) (effect.Writeq a) h = absurd h
+removal_bytes world (End ball) (effect.WriteCanonical a) h = absurd h
+removal_bytes world (End ball) effect.Nl h = absurd h
+removal_bytes world (End ball) (effect.PutChar a) h = absurd h
+removal_bytes world (End ball) (effect.Asserta a) h = absurd h
+removal_bytes world (End ball) (effect.Assertz a) h = absurd h
+removal_bytes world (End ball) (effect.Retract a) h = absurd h
+removal_bytes world (End ball) (effect.Abolish a) h = absurd h
+removal_bytes world (End ball) (effect.Clause a b) h = absurd h
+removal_bytes world (End ball) (effect.Op a b c) h = absurd h
+removal_bytes world (End ball) (effect.CurrentOp a b c) h = absurd h
+removal_bytes world (End ball) effect.Halt h = absurd h
+removal_bytes world (End ball) (effect.HaltWith a) h = absurd h
+removal_bytes world (End ball) (effect.Call a) h = absurd h
+removal_bytes world (End ball) (effect.Remove a) h = absurd h
+removal_bytes world (End ball) (effect.Answer a b) h = absurd h
+removal_bytes world (End ball) (effect.End a) h = refl
+removal_bytes world i e h = absurd h
 
 -- to hold once is to go on
 items_same : (items : List (ItemTerms ℕ)) → map (resolve_item []) items ≡ items

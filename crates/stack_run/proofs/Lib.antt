@@ -7,6 +7,8 @@ pub mod ContinuationLemmas
 pub mod UnwindingLemmas
 pub mod UnnamedGoalLemmas
 pub mod InferenceLemmas
+pub mod WorldLemmas
+pub mod CalledProcedureLemmas
 pub mod EffectLemmas
 pub mod ReductionLemmas
 pub mod StepLemmas

@@ -1,25 +1,26 @@
 -- Steps of a run.
-use Rattle.std.proofs.Common.{◌≡◌, ℕ, zero, suc, ◌+◌, ◌-◌, ◌<◌, ◌≤◌, List, [], ◌∷◌, ◌++◌, length, map, drop, reverse, get_or, Option, Some, None, Result, Ok, Err, OnOk, Vec, Global, refl, sym, ap, ◌∙◌, subst, append-nil, arith}
-use Rattle.std.specs.Arc.{arc_value}
+use Rattle.std.proofs.Common.{◌≡◌, ℕ, zero, suc, ◌+◌, ◌-◌, ◌<◌, ◌≤◌, List, [], ◌∷◌, ◌++◌, length, map, drop, reverse, get_or, Option, Some, None, Result, Ok, Err, OnOk, Vec, Global, refl, sym, ap, ap₂, ◌∙◌, subst, append-nil, arith, codes}
 use Rattle.std.proofs.lemmas.List.{drop_more}
-use Rattle.au_term.specs.Term.{Term, VarTerm}
+use Rattle.au_term.specs.Term.{Term, VarTerm, AtomTerm}
 use Rattle.au_model.specs.Terms.Each.{Each}
 use Rattle.run_model.specs.Programs.Clauses.{Clause}
-use Rattle.run_model.specs.Programs.Databases.{no_procedures}
+use Rattle.run_model.specs.Programs.Databases.{Database, without_clause}
 use Rattle.run_model.specs.Machine.FreeSteps.{take_free_steps, HasNoFreeStep, HaveNoMarkFirst}
 use Rattle.run_model.specs.Goals.GoalOutcomes.{outcome_of}
 use Rattle.au_model.specs.Terms.Named.{NamedVariable}
-use Rattle.run_model.specs.Programs.Jobs.{Query, goals_bound, own_terms, query_bound}
+use Rattle.run_model.specs.Programs.Jobs.{Job, Query, goals_bound, own_terms, query_bound}
 use Rattle.au_model.specs.Terms.Named.{NamedTerm}
 use Rattle.au_model.specs.Writing.Lines.{answer_line, end_line}
 use Rattle.run_model.specs.Machine.Items.{GoalItem, Continuation, goals_at, resolve_named}
 use Rattle.run_model.specs.Machine.Entries.{Entry, PlainEntry, EndEntry}
 use Rattle.run_model.specs.Goals.Outcomes.{Outcome, Replies, Solutions, Ball, HaltNumber, Controls, AskWorld}
 use Rattle.au_model.specs.Syntax.Operators.{OperatorTable}
-use Rattle.run_model.specs.Goals.Worlds.{plain_world, world_step}
+use Rattle.run_model.specs.Goals.Worlds.{world_step}
 use Rattle.run_model.specs.Machine.Heights.{after_control, after_reply}
-use Rattle.run_model.proofs.OutputLemmas.{world-after, world-without}
-use Rattle.run_model.specs.Machine.States.{State, opened, remaining_queries, item_taken, goal_taken, replied, with_free_steps, step}
+use Rattle.stack_run.proofs.WorldLemmas.{world-after, world-without}
+use Rattle.stack_run.proofs.EffectLemmas.{once_goes_on}
+use Rattle.stack_run.proofs.ReductionLemmas.{end_fails}
+use Rattle.run_model.specs.Machine.States.{State, opening, opened, remaining_queries, item_taken, goal_taken, removal_taken, replied, with_free_steps, step}
 use Rattle.au_model.specs.Terms.Substitutions.{Substitution, resolve}
 use Rattle.au_model.specs.declared.types.VarName.{VarName}
 use Rattle.run_model.proofs.FreeStepLemmas.{all_settle}
@@ -34,11 +35,10 @@ use Rattle.bind_store.proofs.ApplyLemmas.{resolve_none}
 use Rattle.engine_core.specs.Branches.{IsItemBelow}
 use Rattle.term_writer.specs.AnswerParts.{named_term, named_terms}
 use Rattle.au_model.specs.Terms.Named.{variable_meant}
-use Rattle.text_load.specs.declared.job.Job.{Job}
 use Rattle.stack_run.specs.StackView.{item_view, items_view, continuation_view, frames_view, end_view, entries_under, stack_view}
 use Rattle.stack_run.specs.StackInvariant.{IsFit, AreFit, IsCurrentFit}
 use Rattle.stack_run.specs.FreeStepsTaken.{IsResting, with_current}
-use Rattle.stack_run.specs.Inferences.{IsWorking, HasEnd, IsUnhalted, IsNoHalt, IsNoMark, HasEntries, asked_of, following, item_bytes, item_entries, outcome_bytes, outcome_entries, entries_below}
+use Rattle.stack_run.specs.Inferences.{Unwritten, unwritten, world_with, database_left, removal_reply, item_database, IsWorking, HasEnd, IsUnhalted, IsNoHalt, IsNoMark, HasEntries, asked_of, following, item_bytes, item_entries, outcome_bytes, outcome_entries, entries_below}
 use Rattle.stack_run.specs.ItemsTaken.{BeginsWithNoMark, IsAtItem}
 use Rattle.stack_run.specs.MachineView.{names_asked, own_asked, stack_state, opened_state, ball_of, value_in, IsReady}
 use Rattle.stack_run.specs.declared.frame.Frame.{Frame}
@@ -110,54 +110,54 @@ query_fit q st first n goals kept frames z s b k g f =
     never e x = cc
 
 -- a state by its parts
-abbrev state_of : Job → List ℕ → ℕ → ℕ → List Query → List Entry → State
-state_of job written answers inferences queries entries = record {
+abbrev state_of : Job → Database → List ℕ → ℕ → ℕ → List Query → List Entry → State
+state_of job db written answers inferences queries entries = record {
   entries = entries;
-  world = record { written = written; database = no_procedures; operators = job.ops };
+  world = record { written = written; database = db; operators = job.operators };
   queries = queries;
   answers = answers;
   inferences = inferences;
   halted = None;
 }
 
-pub query_opens : (job : Job) (asked answers : ℕ) (q : Query) (new old : Stack) → asked < length job.queries.items → q ≡ get_or job.queries.items asked q → stack_view (own_terms q.names) new ≡ opened (q ∷ [])
-    → (written : List ℕ) (inferences : ℕ) → stack_state job (asked + 1) answers new written inferences ≡ opened_state (stack_state job asked answers old written inferences)
-query_opens job asked answers q new old lt is view written inferences =
-    let qs = job.queries.items in
+pub query_opens : (job : Job) (db : Database) (asked answers : ℕ) (q : Query) (new old : Stack) → asked < length job.queries → q ≡ get_or job.queries asked q → stack_view (own_terms q.names) new ≡ opened (q ∷ [])
+    → (written : List ℕ) (inferences : ℕ) → stack_state job db (asked + 1) answers new written inferences ≡ opened_state (stack_state job db asked answers old written inferences)
+query_opens job db asked answers q new old lt is view written inferences =
+    let qs = job.queries in
     let split : drop asked qs ≡ q ∷ drop (asked + 1) qs = drop_more qs asked q lt ∙ ap (λ d. d ∷ drop (asked + 1) qs) (sym is) in
     let back : asked ≡ asked + 1 - 1 = omega arith in
     let named : names_asked (asked + 1) qs ≡ q.names = sym (names_at (asked + 1) qs q (omega arith) (omega arith) (is ∙ ap (λ k. get_or qs k q) back)) in
     let entries : stack_view (own_asked (asked + 1) qs) new ≡ opened (drop asked qs) = ap (λ ns. stack_view (own_terms ns) new) named ∙ (view ∙ ap opened (sym split)) in
-    ap (state_of job written answers inferences (drop (asked + 1) qs)) entries ∙ ap (λ d. state_of job written answers inferences d (opened (drop asked qs))) (ap remaining_queries (sym split))
+    ap (state_of job db written answers inferences (drop (asked + 1) qs)) entries ∙ ap (λ d. state_of job db written answers inferences d (opened (drop asked qs))) (ap remaining_queries (sym split))
 
 -- a query ends
-pub query_ends : (job : Job) (asked answers : ℕ) (s : Stack) (line : List ℕ) → IsReady s → s.current ≡ None → HasEnd s → line ≡ end_line job.ops (ball_of s.end) → (written : List ℕ) (inferences : ℕ)
-    → opened_state (stack_state job asked answers s (written ++ line) (inferences + 1)) ≡ step (arc_value job.procs) (stack_state job asked answers s written inferences)
-query_ends job asked answers s line r n h l written inferences =
-    let qs = job.queries.items in
+pub query_ends : (job : Job) (db : Database) (asked answers : ℕ) (s : Stack) (line : List ℕ) → IsReady s → s.current ≡ None → HasEnd s → line ≡ end_line job.operators (ball_of s.end) → (written : List ℕ) (inferences : ℕ)
+    → opened_state (stack_state job db asked answers s (written ++ line) (inferences + 1)) ≡ step job.clauses (stack_state job db asked answers s written inferences)
+query_ends job db asked answers s line r n h l written inferences =
+    let qs = job.queries in
     let own = own_asked asked qs in
     let entries : stack_view own s ≡ EndEntry (ball_of s.end) ∷ [] =
     nothing_at_hand own s n ∙ (ap (λ fs. frames_view own s.store (reverse fs) ++ end_view s.end) (r.resting n)
     ∙ (ap end_view h.1 ∙ ap (λ o. EndEntry (ball_of o) ∷ []) (sym h.1))) in
-    ap (λ x. state_of job (written ++ x) answers (inferences + 1) (remaining_queries (drop asked qs)) (opened (drop asked qs))) l
-    ∙ sym (end_step (arc_value job.procs) (stack_state job asked answers s written inferences) (ball_of s.end) [] entries)
+    ap (λ x. state_of job db (written ++ x) answers (inferences + 1) (remaining_queries (drop asked qs)) (opened (drop asked qs))) l
+    ∙ sym (end_step job.clauses (stack_state job db asked answers s written inferences) (ball_of s.end) [] entries)
 
 -- an answer
 values_named : (st : StoreView) (names : List VarName) → named_terms names (map (value_in st) names) ≡ map (resolve_named (substitution st)) (own_terms (map variable_meant names))
 values_named st [] = refl
 values_named st (v ∷ names) = ap (λ ns. named_term v (value_in st v) ∷ ns) (values_named st names)
 
-pub answers_so : (job : Job) (asked answers : ℕ) (s : Stack) (names : List VarName) (values : List Term) (line : List ℕ) → IsWorking s → map variable_meant names ≡ names_asked asked job.queries.items → values ≡ map (value_in s.store) names
-    → line ≡ answer_line job.ops (named_terms names values) → (written : List ℕ) (inferences : ℕ)
-    → stack_state job asked (answers + 1) s (written ++ line) (inferences + 1) ≡ step (arc_value job.procs) (stack_state job asked answers (with_current [] s) written inferences)
-answers_so job asked answers s names values line w m v l written inferences =
-    let qs = job.queries.items in
+pub answers_so : (job : Job) (db : Database) (asked answers : ℕ) (s : Stack) (names : List VarName) (values : List Term) (line : List ℕ) → IsWorking s → map variable_meant names ≡ names_asked asked job.queries → values ≡ map (value_in s.store) names
+    → line ≡ answer_line job.operators (named_terms names values) → (written : List ℕ) (inferences : ℕ)
+    → stack_state job db asked (answers + 1) s (written ++ line) (inferences + 1) ≡ step job.clauses (stack_state job db asked answers (with_current [] s) written inferences)
+answers_so job db asked answers s names values line w m v l written inferences =
+    let qs = job.queries in
     let own = own_asked asked qs in
     let f = continuation_view own s.store [] in
     let named : named_terms names values ≡ f.named = ap (named_terms names) v ∙ (values_named s.store names ∙ ap (λ ns. map (resolve_named (substitution s.store)) (own_terms ns)) m) in
-    ap (λ x. state_of job (written ++ x) (answers + 1) (inferences + 1) (drop asked qs) (stack_view own s)) (l ∙ ap (answer_line job.ops) named)
-    ∙ (ap (state_of job (written ++ answer_line job.ops f.named) (answers + 1) (inferences + 1) (drop asked qs)) (nothing_at_hand own s w.none)
-    ∙ sym (plain_step (arc_value job.procs) (stack_state job asked answers (with_current [] s) written inferences) f (entries_below s own) refl))
+    ap (λ x. state_of job db (written ++ x) (answers + 1) (inferences + 1) (drop asked qs) (stack_view own s)) (l ∙ ap (answer_line job.operators) named)
+    ∙ (ap (state_of job db (written ++ answer_line job.operators f.named) (answers + 1) (inferences + 1) (drop asked qs)) (nothing_at_hand own s w.none)
+    ∙ sym (plain_step job.clauses (stack_state job db asked answers (with_current [] s) written inferences) f (entries_below s own) refl))
 
 pub answer_fit : (s : Stack) → IsWorking s → IsFit s
 answer_fit s w = record { sound = w.sound; current = subst (IsCurrentFit s.store) (sym w.none) tt; frames = w.frames; ended = λ x. absurd (never x) }
@@ -167,51 +167,76 @@ answer_fit s w = record { sound = w.sound; current = subst (IsCurrentFit s.store
 
 -- an item is taken
 -- a goal of the world, after what was written before
-world_replies : (clauses : List Clause) (operators : OperatorTable) (goal : Term) (next : ℕ) (written : List ℕ)
-    → world_step clauses goal next (plain_world operators written) ≡ (plain_world operators (written ++ (asked_of operators goal next).0.written), (asked_of operators goal next).1)
-world_replies clauses operators goal next written = world-without clauses goal next (plain_world operators written) ∙ (world-after operators [] goal next).after written
+world_replies : (clauses : List Clause) (world : Unwritten) (goal : Term) (next : ℕ) (written : List ℕ)
+    → world_step clauses goal next (world_with world written) ≡ (world_with world (written ++ (asked_of world goal next).0.written), (asked_of world goal next).1)
+world_replies clauses world goal next written = world-without clauses goal next (world_with world written) ∙ (world-after world [] goal next).after written
 
-goal_goes : (clauses : List Clause) (o : Outcome) (h : ℕ) (f : Continuation ℕ) (es : List Entry) (job : Job) (written : List ℕ) (answers inferences : ℕ) (qs : List Query) (all : List Entry) → IsNoHalt o
-    → goal_taken clauses o h f es (state_of job written answers inferences qs all) ≡ state_of job (written ++ outcome_bytes job.ops o f.next) answers (inferences + 1) qs (outcome_entries job.ops o h f es)
-goal_goes clauses (Replies (Solutions ss)) h f es job written answers inferences qs all n = ap (λ bytes. state_of job bytes answers (inferences + 1) qs (after_reply (Solutions ss) f es)) (sym (append-nil written))
-goal_goes clauses (Replies (Ball b)) h f es job written answers inferences qs all n = ap (λ bytes. state_of job bytes answers (inferences + 1) qs (after_reply (Ball b) f es)) (sym (append-nil written))
-goal_goes clauses (Replies (HaltNumber k)) h f es job written answers inferences qs all n = absurd n
-goal_goes clauses (Controls form) h f es job written answers inferences qs all n = ap (λ bytes. state_of job bytes answers (inferences + 1) qs (after_control form h f es)) (sym (append-nil written))
-goal_goes clauses (AskWorld goal) h f es job written answers inferences qs all n =
-    let asked = asked_of job.ops goal f.next in
+goal_goes : (clauses : List Clause) (o : Outcome) (h : ℕ) (f : Continuation ℕ) (es : List Entry) (job : Job) (db : Database) (written : List ℕ) (answers inferences : ℕ) (qs : List Query) (all : List Entry) → IsNoHalt o
+    → goal_taken clauses o h f es (state_of job db written answers inferences qs all) ≡ state_of job db (written ++ outcome_bytes (unwritten db job.operators) o f.next) answers (inferences + 1) qs (outcome_entries (unwritten db job.operators) o h f es)
+goal_goes clauses (Replies (Solutions ss)) h f es job db written answers inferences qs all n = ap (λ bytes. state_of job db bytes answers (inferences + 1) qs (after_reply (Solutions ss) f es)) (sym (append-nil written))
+goal_goes clauses (Replies (Ball b)) h f es job db written answers inferences qs all n = ap (λ bytes. state_of job db bytes answers (inferences + 1) qs (after_reply (Ball b) f es)) (sym (append-nil written))
+goal_goes clauses (Replies (HaltNumber k)) h f es job db written answers inferences qs all n = absurd n
+goal_goes clauses (Controls form) h f es job db written answers inferences qs all n = ap (λ bytes. state_of job db bytes answers (inferences + 1) qs (after_control form h f es)) (sym (append-nil written))
+goal_goes clauses (AskWorld goal) h f es job db written answers inferences qs all n =
+    let world = unwritten db job.operators in
+    let asked = asked_of world goal f.next in
     let bytes = written ++ asked.0.written in
-    ap (λ r. replied r f es (state_of job written answers inferences qs all)) (world_replies clauses job.ops goal f.next written)
-    ∙ ap (λ halt. record { entries = after_reply asked.1 f es; world = plain_world job.ops bytes; queries = qs; answers = answers; inferences = inferences + 1; halted = halt }) (world-after job.ops [] goal f.next).unhalted
+    ap (λ r. replied r f es (state_of job db written answers inferences qs all)) (world_replies clauses world goal f.next written)
+    ∙ ap (λ halt. record { entries = after_reply asked.1 f es; world = world_with world bytes; queries = qs; answers = answers; inferences = inferences + 1; halted = halt }) (world-after world [] goal f.next).unhalted
 
-item_goes : (clauses : List Clause) (own : List NamedTerm) (st : StoreView) (i : Item) (rest : List Item) (es : List Entry) (job : Job) (written : List ℕ) (answers inferences : ℕ) (qs : List Query) (all : List Entry) → IsNoMark i → IsUnhalted clauses st i
-    → item_taken clauses (items_view st (i ∷ rest)) (continuation_view own st (i ∷ rest)) es (state_of job written answers inferences qs all)
-    ≡ state_of job (written ++ item_bytes clauses job.ops (item_view (substitution st) i) st.next) answers (inferences + 1) qs (item_entries clauses job.ops (item_view (substitution st) i) (continuation_view own st rest) es)
-item_goes clauses own st (Goal t cut) rest es job written answers inferences qs all m g = goal_goes clauses (outcome_of clauses (resolve (substitution st) t) st.next) _ (continuation_view own st rest) es job written answers inferences qs all g
-item_goes clauses own st (CatchEnd scope) rest es job written answers inferences qs all m g = absurd m
-item_goes clauses own st (Collect t scope) rest es job written answers inferences qs all m g = absurd m
-item_goes clauses own st (Remove id) rest es job written answers inferences qs all m g = ap (λ bytes. state_of job bytes answers (inferences + 1) qs es) (sym (append-nil written))
-item_goes clauses own st (End ball) rest es job written answers inferences qs all m g = ap (λ bytes. state_of job bytes answers (inferences + 1) qs es) (sym (append-nil written))
+-- a clause is removed, or is gone
+removal_goes : (o : Option Database) (f : Continuation ℕ) (es : List Entry) (job : Job) (db : Database) (written : List ℕ) (answers inferences : ℕ) (qs : List Query) (all : List Entry)
+    → removal_taken o f es (state_of job db written answers inferences qs all) ≡ state_of job (database_left o db) (written ++ []) answers (inferences + 1) qs (after_reply (removal_reply o) f es)
+removal_goes (Some left) f es job db written answers inferences qs all = ap₂ (λ bytes entries. state_of job left bytes answers (inferences + 1) qs entries) (sym (append-nil written)) (sym (once_goes_on f es))
+removal_goes None f es job db written answers inferences qs all = ap (λ bytes. state_of job db bytes answers (inferences + 1) qs es) (sym (append-nil written))
 
-pub infers_so : (job : Job) (clauses : List Clause) (asked answers : ℕ) (s new : Stack) (goals rest : List Item) (i : Item) (before line : List ℕ) → clauses ≡ arc_value job.procs → goals ≡ i ∷ rest → IsNoMark i → IsUnhalted clauses s.store i → before ≡ []
-    → line ≡ before ++ item_bytes clauses job.ops (item_view (substitution s.store) i) s.store.next
-    → HasEntries (λ own. item_entries clauses job.ops (item_view (substitution s.store) i) (following s rest own) (entries_below s own)) new → (written : List ℕ) (inferences : ℕ)
-    → stack_state job asked answers new (written ++ line) (inferences + 1) ≡ step (arc_value job.procs) (stack_state job asked answers (with_current goals s) written inferences)
-infers_so job clauses asked answers s new goals rest i before line p g m o b l v written inferences =
-    let qs = job.queries.items in
+item_goes : (clauses : List Clause) (own : List NamedTerm) (st : StoreView) (i : Item) (rest : List Item) (es : List Entry) (job : Job) (db : Database) (written : List ℕ) (answers inferences : ℕ) (qs : List Query) (all : List Entry) → IsNoMark i → IsUnhalted clauses st i
+    → item_taken clauses (items_view st (i ∷ rest)) (continuation_view own st (i ∷ rest)) es (state_of job db written answers inferences qs all)
+    ≡ state_of job (item_database (unwritten db job.operators) (item_view (substitution st) i)) (written ++ item_bytes clauses (unwritten db job.operators) (item_view (substitution st) i) st.next) answers (inferences + 1) qs (item_entries clauses (unwritten db job.operators) (item_view (substitution st) i) (continuation_view own st rest) es)
+item_goes clauses own st (Goal t cut) rest es job db written answers inferences qs all m g = goal_goes clauses (outcome_of clauses (resolve (substitution st) t) st.next) _ (continuation_view own st rest) es job db written answers inferences qs all g
+item_goes clauses own st (CatchEnd scope) rest es job db written answers inferences qs all m g = absurd m
+item_goes clauses own st (Collect t scope) rest es job db written answers inferences qs all m g = absurd m
+item_goes clauses own st (Remove id) rest es job db written answers inferences qs all m g = removal_goes (without_clause id.0 db) (continuation_view own st rest) es job db written answers inferences qs all
+item_goes clauses own st (End ball) rest es job db written answers inferences qs all m g =
+    goal_goes clauses (outcome_of clauses (AtomTerm (codes "fail")) st.next) 0 (continuation_view own st rest) es job db written answers inferences qs all (subst IsNoHalt (sym (end_fails clauses st.next)) tt)
+
+pub infers_so : (job : Job) (db left : Database) (clauses : List Clause) (asked answers : ℕ) (s new : Stack) (goals rest : List Item) (i : Item) (before line : List ℕ) → clauses ≡ job.clauses → goals ≡ i ∷ rest → IsNoMark i → IsUnhalted clauses s.store i → before ≡ []
+    → line ≡ before ++ item_bytes clauses (unwritten db job.operators) (item_view (substitution s.store) i) s.store.next → left ≡ item_database (unwritten db job.operators) (item_view (substitution s.store) i)
+    → HasEntries (λ own. item_entries clauses (unwritten db job.operators) (item_view (substitution s.store) i) (following s rest own) (entries_below s own)) new → (written : List ℕ) (inferences : ℕ)
+    → stack_state job left asked answers new (written ++ line) (inferences + 1) ≡ step job.clauses (stack_state job db asked answers (with_current goals s) written inferences)
+infers_so job db left clauses asked answers s new goals rest i before line p g m o b l d v written inferences =
+    let qs = job.queries in
     let own = own_asked asked qs in
-    let bytes = item_bytes clauses job.ops (item_view (substitution s.store) i) s.store.next in
+    let bytes = item_bytes clauses (unwritten db job.operators) (item_view (substitution s.store) i) s.store.next in
+    let after = item_database (unwritten db job.operators) (item_view (substitution s.store) i) in
     let text : line ≡ bytes = l ∙ ap (λ x. x ++ bytes) b in
-    ap (λ x. state_of job (written ++ x) answers (inferences + 1) (drop asked qs) (stack_view own new)) text
-    ∙ (ap (state_of job (written ++ bytes) answers (inferences + 1) (drop asked qs)) (v.view own)
-    ∙ (sym (item_goes clauses own s.store i rest (entries_below s own) job written answers inferences (drop asked qs) (stack_view own (with_current (i ∷ rest) s)) m o)
-    ∙ (sym (plain_step clauses (stack_state job asked answers (with_current (i ∷ rest) s) written inferences) (continuation_view own s.store (i ∷ rest)) (entries_below s own) refl)
-    ∙ (ap (λ is. step clauses (stack_state job asked answers (with_current is s) written inferences)) (sym g)
-    ∙ ap (λ cs. step cs (stack_state job asked answers (with_current goals s) written inferences)) p))))
+    ap₂ (λ e x. state_of job e (written ++ x) answers (inferences + 1) (drop asked qs) (stack_view own new)) d text
+    ∙ (ap (state_of job after (written ++ bytes) answers (inferences + 1) (drop asked qs)) (v.view own)
+    ∙ (sym (item_goes clauses own s.store i rest (entries_below s own) job db written answers inferences (drop asked qs) (stack_view own (with_current (i ∷ rest) s)) m o)
+    ∙ (sym (plain_step clauses (stack_state job db asked answers (with_current (i ∷ rest) s) written inferences) (continuation_view own s.store (i ∷ rest)) (entries_below s own) refl)
+    ∙ (ap (λ is. step clauses (stack_state job db asked answers (with_current is s) written inferences)) (sym g)
+    ∙ ap (λ cs. step cs (stack_state job db asked answers (with_current goals s) written inferences)) p))))
+
+-- by the operators of a table that is the job's
+pub infers_with : (job : Job) (db left : Database) (clauses : List Clause) (operators : OperatorTable) → operators ≡ job.operators → (asked answers : ℕ) (s new : Stack) (goals rest : List Item) (i : Item) (before line : List ℕ) → clauses ≡ job.clauses → goals ≡ i ∷ rest → IsNoMark i
+    → IsUnhalted clauses s.store i → before ≡ [] → line ≡ before ++ item_bytes clauses (unwritten db operators) (item_view (substitution s.store) i) s.store.next → left ≡ item_database (unwritten db operators) (item_view (substitution s.store) i)
+    → HasEntries (λ own. item_entries clauses (unwritten db operators) (item_view (substitution s.store) i) (following s rest own) (entries_below s own)) new → (written : List ℕ) (inferences : ℕ)
+    → stack_state job left asked answers new (written ++ line) (inferences + 1) ≡ step job.clauses (stack_state job db asked answers (with_current goals s) written inferences)
+infers_with job db left clauses operators k asked answers s new goals rest i before line p g m o b l d v written inferences =
+    infers_so job db left clauses asked answers s new goals rest i before line p g m o b
+    (subst (λ (w : OperatorTable). line ≡ before ++ item_bytes clauses (unwritten db w) (item_view (substitution s.store) i) s.store.next) k l)
+    (subst (λ (w : OperatorTable). left ≡ item_database (unwritten db w) (item_view (substitution s.store) i)) k d)
+    (subst (λ (w : OperatorTable). HasEntries (λ own. item_entries clauses (unwritten db w) (item_view (substitution s.store) i) (following s rest own) (entries_below s own)) new) k v) written inferences
+
+-- the state before the first inference, and before its free steps
+pub first_state : (job : Job) (db : Database) → db ≡ job.database
+    → ◌≡◌ {A = State} (record { entries = opened job.queries; world = record { written = []; database = db; operators = job.operators }; queries = remaining_queries job.queries; answers = 0; inferences = 0; halted = None }) (opening job)
+first_state job db e = ap (λ (d : Database). record { entries = opened job.queries; world = record { written = []; database = d; operators = job.operators }; queries = remaining_queries job.queries; answers = 0; inferences = 0; halted = None }) e
 
 -- free steps after it
-pub settles_so : (job : Job) (asked answers : ℕ) (s new : Stack) → ((own : List NamedTerm) → stack_view own new ≡ take_free_steps (stack_view own s)) → (written : List ℕ) (inferences : ℕ)
-    → stack_state job asked answers new written inferences ≡ with_free_steps (stack_state job asked answers s written inferences)
-settles_so job asked answers s new h written inferences = ap (state_of job written answers inferences (drop asked job.queries.items)) (h (own_asked asked job.queries.items))
+pub settles_so : (job : Job) (db : Database) (asked answers : ℕ) (s new : Stack) → ((own : List NamedTerm) → stack_view own new ≡ take_free_steps (stack_view own s)) → (written : List ℕ) (inferences : ℕ)
+    → stack_state job db asked answers new written inferences ≡ with_free_steps (stack_state job db asked answers s written inferences)
+settles_so job db asked answers s new h written inferences = ap (state_of job db written answers inferences (drop asked job.queries)) (h (own_asked asked job.queries))
 
 pub ready : (s new : Stack) → ((own : List NamedTerm) → stack_view own new ≡ take_free_steps (stack_view own s)) → IsFit new → IsResting new → IsReady new
 ready s new h f r = record { fit = f; resting = r; settled = λ own. subst HasNoFreeStep (sym (h own)) (all_settle (stack_view own s)) }
@@ -236,17 +261,17 @@ at_item s goals taken c t r e =
     }
 
 -- what was taken stands for the stack as it was
-pub taken_state : (job : Job) (asked answers : ℕ) (s : Stack) (goals : List Item) → s.current ≡ Some goals → (written : List ℕ) (inferences : ℕ)
-    → stack_state job asked answers (with_current goals s) written inferences ≡ stack_state job asked answers s written inferences
-taken_state job asked answers s goals c written inferences =
-    ap (λ o. stack_state job asked answers (record { store = s.store; current = o; frames = s.frames; end = s.end }) written inferences) (sym c)
+pub taken_state : (job : Job) (db : Database) (asked answers : ℕ) (s : Stack) (goals : List Item) → s.current ≡ Some goals → (written : List ℕ) (inferences : ℕ)
+    → stack_state job db asked answers (with_current goals s) written inferences ≡ stack_state job db asked answers s written inferences
+taken_state job db asked answers s goals c written inferences =
+    ap (λ o. stack_state job db asked answers (record { store = s.store; current = o; frames = s.frames; end = s.end }) written inferences) (sym c)
 
 pub first_no_mark : (goals rest : List Item) (i : Item) → goals ≡ i ∷ rest → BeginsWithNoMark goals → IsNoMark i
 first_no_mark goals rest i e h = subst BeginsWithNoMark e h
 
-pub all_ok : {T E : Type 0} (r : Result T E) {A B C D : Type 0} → (A → B → C → D) → OnOk r A → OnOk r B → OnOk r C → OnOk r D
-all_ok (Ok x) f a b c = f a b c
-all_ok (Err x) f a b c = tt
+pub four_ok : {T E : Type 0} (r : Result T E) {A B C D F : Type 0} → (A → B → C → D → F) → OnOk r A → OnOk r B → OnOk r C → OnOk r D → OnOk r F
+four_ok (Ok x) f a b c d = f a b c d
+four_ok (Err x) f a b c d = tt
 
 pub both_ok : {T E : Type 0} (r : Result T E) {A B C : Type 0} → (A → B → C) → OnOk r A → OnOk r B → OnOk r C
 both_ok (Ok x) f a b = f a b

@@ -1,17 +1,20 @@
 -- One inference, by what the current item comes to.
 use Rattle.std.specs.Prelude.{◌≡◌, ℕ, suc, Bool, true, false, ◌≤◌, length, List, [], ◌∷◌, reverse, Option, Some, None}
 use Rattle.std.specs.Option.{option_map}
-use Rattle.au_term.specs.Term.{Term, var_bound}
+use Rattle.au_term.specs.Term.{Term, argument_count, var_bound}
+use Rattle.au_model.specs.Terms.Forms.{is_callable, name_of}
 use Rattle.run_model.specs.Programs.Bodies.{goals_of}
 use Rattle.au_model.specs.Terms.Named.{NamedTerm}
 use Rattle.run_model.specs.Programs.Clauses.{Clause}
 use Rattle.au_model.specs.Terms.Copies.{copied}
 use Rattle.run_model.specs.Goals.GoalOutcomes.{outcome_of}
-use Rattle.run_model.specs.Goals.Outcomes.{Outcome, Reply, Replies, Solutions, Ball, HaltNumber, Controls, AskWorld, ControlForm, TestOf, CatchOf, FindallOf}
+use Rattle.engine_core.specs.Branches.{AreSolved}
+use Rattle.run_model.specs.Goals.Outcomes.{Solution, Outcome, Reply, Replies, Solutions, Ball, HaltNumber, Controls, AskWorld, ControlForm, TestOf, CatchOf, FindallOf}
 use Rattle.au_model.specs.Terms.Substitutions.{resolve}
 use Rattle.au_model.specs.Terms.Unifier.{unifier}
-use Rattle.run_model.specs.Goals.OutputGoals.{character_out, line_out, term_out}
-use Rattle.run_model.specs.Goals.Worlds.{World, plain_world, dynamic_call, world_step}
+use Rattle.run_model.specs.Goals.OutputGoals.{character_out, holds_once, line_out, term_out}
+use Rattle.run_model.specs.Programs.Databases.{Database, clauses_of, without_clause}
+use Rattle.run_model.specs.Goals.Worlds.{World, dynamic_call, world_step}
 use Rattle.au_model.specs.Syntax.Operators.{OperatorTable}
 use Rattle.au_model.specs.declared.types.Style.TheVariants.{Plain, Quoted, Canonical}
 use Rattle.run_model.specs.Machine.Items.{Item as ItemTerms, GoalItem, CatchMark, CollectMark, RemovalItem, Continuation}
@@ -28,6 +31,8 @@ use Rattle.clause_compile.specs.declared.event.Opening.{Opening}
 use Rattle.clause_compile.specs.declared.event.Opening.TheVariants as opening
 use Rattle.clause_compile.specs.declared.event.Branch.{Branch as BranchTerms}
 use Rattle.bind_store.specs.StoreView.{StoreView, IsValidStore, Continues, substitution}
+use Rattle.dyn_clauses.specs.declared.indicator.Indicator.{Indicator}
+use Rattle.dyn_clauses.specs.DatabaseView.{is_static}
 use Rattle.stack_run.specs.StackView.{stack_view, continuation_view, choice_view, entries_under, scope_place, item_view}
 use Rattle.stack_run.specs.StackInvariant.{IsFit, AreFit}
 use Rattle.stack_run.specs.declared.frame.Catch.{Catch}
@@ -78,34 +83,61 @@ branch_entry own st b = choice_view own st (BranchChoice b)
 abbrev pub height_at : Option ℕ → Option ℕ
 height_at place = option_map (λ i. suc i) place
 
--- what a goal of the world comes to where nothing is written and no procedure is dynamic, whatever the text's clauses are
-abbrev pub asked_of : OperatorTable → Term → ℕ → World × Reply
-asked_of operators goal next = world_step [] goal next (plain_world operators [])
+-- the world but for the bytes written
+pub record Unwritten : Type 0 where
+  pub database : Database
+  pub operators : OperatorTable
+
+abbrev pub unwritten : Database → OperatorTable → Unwritten
+unwritten database operators = record { database = database; operators = operators }
+
+abbrev pub world_with : Unwritten → List ℕ → World
+world_with world written = record { written = written; database = world.database; operators = world.operators }
+
+-- what a goal of the world comes to where nothing is written, whatever the text's clauses are
+abbrev pub asked_of : Unwritten → Term → ℕ → World × Reply
+asked_of world goal next = world_step [] goal next (world_with world [])
 
 -- what takes the place of a goal by its outcome
-abbrev pub outcome_entries : OperatorTable → Outcome → ℕ → Continuation ℕ → List Entry → List Entry
-outcome_entries operators (Replies r) h f es = after_reply r f es
-outcome_entries operators (Controls form) h f es = after_control form h f es
-outcome_entries operators (AskWorld goal) h f es = after_reply (asked_of operators goal f.next).1 f es
+abbrev pub outcome_entries : Unwritten → Outcome → ℕ → Continuation ℕ → List Entry → List Entry
+outcome_entries world (Replies r) h f es = after_reply r f es
+outcome_entries world (Controls form) h f es = after_control form h f es
+outcome_entries world (AskWorld goal) h f es = after_reply (asked_of world goal f.next).1 f es
 
 -- and what is written
-abbrev pub outcome_bytes : OperatorTable → Outcome → ℕ → List ℕ
-outcome_bytes operators (Replies r) next = []
-outcome_bytes operators (Controls form) next = []
-outcome_bytes operators (AskWorld goal) next = (asked_of operators goal next).0.written
+abbrev pub outcome_bytes : Unwritten → Outcome → ℕ → List ℕ
+outcome_bytes world (Replies r) next = []
+outcome_bytes world (Controls form) next = []
+outcome_bytes world (AskWorld goal) next = (asked_of world goal next).0.written
 
--- by the item in front; a removal fails where no procedure is dynamic
-abbrev pub item_entries : List Clause → OperatorTable → ItemTerms ℕ → Continuation ℕ → List Entry → List Entry
-item_entries clauses operators (GoalItem g h) f es = outcome_entries operators (outcome_of clauses g f.next) h f es
-item_entries clauses operators (CatchMark h) f es = es
-item_entries clauses operators (CollectMark t h) f es = es
-item_entries clauses operators (RemovalItem n) f es = es
+-- a clause is removed, or the goal fails where it is gone
+abbrev pub removal_reply : Option Database → Reply
+removal_reply (Some db) = holds_once
+removal_reply None = Solutions []
 
-abbrev pub item_bytes : List Clause → OperatorTable → ItemTerms ℕ → ℕ → List ℕ
-item_bytes clauses operators (GoalItem g h) next = outcome_bytes operators (outcome_of clauses g next) next
-item_bytes clauses operators (CatchMark h) next = []
-item_bytes clauses operators (CollectMark t h) next = []
-item_bytes clauses operators (RemovalItem n) next = []
+abbrev pub database_left : Option Database → Database → Database
+database_left (Some db) old = db
+database_left None old = old
+
+-- by the item in front
+abbrev pub item_entries : List Clause → Unwritten → ItemTerms ℕ → Continuation ℕ → List Entry → List Entry
+item_entries clauses world (GoalItem g h) f es = outcome_entries world (outcome_of clauses g f.next) h f es
+item_entries clauses world (CatchMark h) f es = es
+item_entries clauses world (CollectMark t h) f es = es
+item_entries clauses world (RemovalItem n) f es = after_reply (removal_reply (without_clause n world.database)) f es
+
+abbrev pub item_bytes : List Clause → Unwritten → ItemTerms ℕ → ℕ → List ℕ
+item_bytes clauses world (GoalItem g h) next = outcome_bytes world (outcome_of clauses g next) next
+item_bytes clauses world (CatchMark h) next = []
+item_bytes clauses world (CollectMark t h) next = []
+item_bytes clauses world (RemovalItem n) next = []
+
+-- the dynamic procedures after it
+abbrev pub item_database : Unwritten → ItemTerms ℕ → Database
+item_database world (GoalItem g h) = world.database
+item_database world (CatchMark h) = world.database
+item_database world (CollectMark t h) = world.database
+item_database world (RemovalItem n) = database_left (without_clause n world.database) world.database
 
 -- an item that is no mark
 abbrev pub IsNoMark : Item → Type 0
@@ -155,25 +187,29 @@ opened_form st (opening.Condition c t e) = TestOf (goals_of (resolve (substituti
 opened_form st (opening.Catch g c r) = CatchOf (resolve (substitution st) g) (resolve (substitution st) c) (resolve (substitution st) r)
 opened_form st (opening.Findall t g l) = FindallOf (resolve (substitution st) t) (resolve (substitution st) g) (resolve (substitution st) l)
 
--- what an effect comes to: the call of a procedure that is not there raises its error, a removal fails
-abbrev pub gate_answer : OperatorTable → Effect → ℕ → World × Reply
-gate_answer operators (effect.Write t) next = term_out Plain t (plain_world operators [])
-gate_answer operators (effect.Writeq t) next = term_out Quoted t (plain_world operators [])
-gate_answer operators (effect.WriteCanonical t) next = term_out Canonical t (plain_world operators [])
-gate_answer operators effect.Nl next = line_out (plain_world operators [])
-gate_answer operators (effect.PutChar t) next = character_out t (plain_world operators [])
-gate_answer operators (effect.Call goal) next = (plain_world operators [], dynamic_call None goal next)
-gate_answer operators e next = (plain_world operators [], Solutions [])
+abbrev pub removal_answer : Option Database → Unwritten → World × Reply
+removal_answer o world = (record { written = []; database = database_left o world.database; operators = world.operators }, removal_reply o)
 
-abbrev pub gate_entries : OperatorTable → Effect → Continuation ℕ → List Entry → List Entry
-gate_entries operators e f es = after_reply (gate_answer operators e f.next).1 f es
+-- what an effect comes to
+abbrev pub gate_answer : Unwritten → Effect → ℕ → World × Reply
+gate_answer world (effect.Write t) next = term_out Plain t (world_with world [])
+gate_answer world (effect.Writeq t) next = term_out Quoted t (world_with world [])
+gate_answer world (effect.WriteCanonical t) next = term_out Canonical t (world_with world [])
+gate_answer world effect.Nl next = line_out (world_with world [])
+gate_answer world (effect.PutChar t) next = character_out t (world_with world [])
+gate_answer world (effect.Call goal) next = (world_with world [], dynamic_call (clauses_of world.database (name_of goal) (argument_count goal)) goal next)
+gate_answer world (effect.Remove id) next = removal_answer (without_clause id.0 world.database) world
+gate_answer world e next = (world_with world [], Solutions [])
+
+abbrev pub gate_entries : Unwritten → Effect → Continuation ℕ → List Entry → List Entry
+gate_entries world e f es = after_reply (gate_answer world e f.next).1 f es
 
 -- the stack goes on by a reply to the goal in front
 abbrev pub LeavesReply : Reply → List Item → Stack → Stack → Type 0
 LeavesReply reply rest old new = HasEntries (λ own. after_reply reply (following old rest own) (entries_below old own)) new
 
-abbrev pub gate_bytes : OperatorTable → Effect → List ℕ
-gate_bytes operators e = (gate_answer operators e 0).0.written
+abbrev pub gate_bytes : Unwritten → Effect → List ℕ
+gate_bytes world e = (gate_answer world e 0).0.written
 
 -- a goal that does not end the run
 abbrev pub IsNoHalt : Outcome → Type 0
@@ -191,6 +227,27 @@ IsUnhalted clauses st (Remove id) = Unit {0}
 IsUnhalted clauses st (End ball) = Unit {0}
 
 -- the stack goes on as the item in front says
-abbrev pub TakesItem : List Clause → OperatorTable → Item → List Item → Stack → Stack → Type 0
-TakesItem clauses operators item rest old new =
-    HasEntries (λ own. item_entries clauses operators (item_view (substitution old.store) item) (following old rest own) (entries_below old own)) new
+abbrev pub TakesItem : List Clause → Unwritten → Item → List Item → Stack → Stack → Type 0
+TakesItem clauses world item rest old new =
+    HasEntries (λ own. item_entries clauses world (item_view (substitution old.store) item) (following old rest own) (entries_below old own)) new
+
+-- no call of a procedure, and no removal
+abbrev pub IsNoCall : Effect → Type 0
+IsNoCall (effect.Call goal) = ⊥
+IsNoCall e = Unit {0}
+
+abbrev pub IsNoRemoval : Effect → Type 0
+IsNoRemoval (effect.Remove id) = ⊥
+IsNoRemoval e = Unit {0}
+
+-- a goal with every binding applied, of a procedure that is not static
+pub record IsCalledOutside (statics : List Indicator) (st : StoreView) (goal : Term) : Type 0 where
+  pub callable : is_callable goal ≡ true
+  pub below : var_bound goal ≤ st.next
+  pub applied : resolve (substitution st) goal ≡ goal
+  pub outside : is_static statics (record { name = name_of goal; arity = argument_count goal }) ≡ false
+
+-- the stack goes on by any solutions that the branches of these are branches of
+abbrev pub LeavesSolutions : Scope → List Solution → List Item → Stack → Stack → Type 0
+LeavesSolutions here tried rest old new =
+    (ss : List Solution) → ((bs : List BranchTerms) → AreSolved here rest old.store tried bs → AreSolved here rest old.store ss bs) → LeavesReply (Solutions ss) rest old new

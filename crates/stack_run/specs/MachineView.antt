@@ -1,23 +1,21 @@
 -- What a run stands for.
 use Rattle.std.specs.Prelude.{ℕ, zero, suc, List, [], ◌∷◌, drop, Option, Some, None, ◌≡◌, ◌+◌, ◌++◌}
 use Rattle.au_term.specs.Term.{Term, VarTerm}
-use Rattle.run_model.specs.Programs.Databases.{no_procedures}
+use Rattle.run_model.specs.Programs.Databases.{Database}
 use Rattle.au_model.specs.Terms.Substitutions.{resolve}
 use Rattle.run_model.specs.Machine.FreeSteps.{HasNoFreeStep}
 use Rattle.au_model.specs.Terms.Named.{NamedTerm}
 use Rattle.au_model.specs.Terms.Named.{NamedVariable}
-use Rattle.run_model.specs.Programs.Jobs.{Query, own_terms}
+use Rattle.run_model.specs.Programs.Jobs.{Job, Query, own_terms}
 use Rattle.run_model.specs.Machine.States.{State, opened, remaining_queries, with_free_steps, step}
 use Rattle.au_model.specs.declared.types.VarName.{VarName}
 use Rattle.bind_store.specs.StoreView.{StoreView, substitution}
-use Rattle.text_load.specs.declared.job.Job.{Job}
 use Rattle.stack_run.specs.StackView.{stack_view}
 use Rattle.stack_run.specs.StackInvariant.{IsFit}
 use Rattle.stack_run.specs.FreeStepsTaken.{IsResting}
 use Rattle.stack_run.specs.declared.frame.QueryEnd.{QueryEnd}
 use Rattle.stack_run.specs.declared.frame.Stack.{Stack}
 use Rattle.stack_run.specs.declared.frame.Machine.{Machine}
-use Rattle.std.specs.Arc.{arc_value}
 
 -- the names of the query that was asked last, where so many were asked
 abbrev pub names_asked : ℕ → List Query → List NamedVariable
@@ -30,19 +28,19 @@ names_asked (suc (suc n)) (q ∷ qs) = names_asked (suc n) qs
 abbrev pub own_asked : ℕ → List Query → List NamedTerm
 own_asked asked qs = own_terms (names_asked asked qs)
 
--- the state of a run with this stack, after these bytes and so many inferences
-abbrev pub stack_state : Job → ℕ → ℕ → Stack → List ℕ → ℕ → State
-stack_state job asked answers s written inferences = record {
-  entries = stack_view (own_asked asked job.queries.items) s;
-  world = record { written = written; database = no_procedures; operators = job.ops };
-  queries = drop asked job.queries.items;
+-- the state of a run with these dynamic procedures and this stack, after these bytes and so many inferences
+abbrev pub stack_state : Job → Database → ℕ → ℕ → Stack → List ℕ → ℕ → State
+stack_state job database asked answers s written inferences = record {
+  entries = stack_view (own_asked asked job.queries) s;
+  world = record { written = written; database = database; operators = job.operators };
+  queries = drop asked job.queries;
   answers = answers;
   inferences = inferences;
   halted = None;
 }
 
 abbrev pub state_view : Job → Machine → List ℕ → ℕ → State
-state_view job m written inferences = stack_state job m.asked m.answers m.stack written inferences
+state_view job m written inferences = stack_state job m.database.kept m.asked m.answers m.stack written inferences
 
 -- no free step is left
 pub record IsReady (s : Stack) : Type 0 where
@@ -65,8 +63,8 @@ ball_of (Some e) = e.ball
 -- the machine is one inference on, whatever was written and inferred before: without the free steps after it, or with them
 abbrev pub IsInferredFrom : Job → (List ℕ → ℕ → State) → Machine → Type 0
 IsInferredFrom job before m =
-    (written : List ℕ) (inferences : ℕ) → state_view job m (written ++ m.line.items) (inferences + 1) ≡ step (arc_value job.procs) (before written inferences)
+    (written : List ℕ) (inferences : ℕ) → state_view job m (written ++ m.line.items) (inferences + 1) ≡ step (job.clauses) (before written inferences)
 
 abbrev pub IsRunStepFrom : Job → (List ℕ → ℕ → State) → Machine → Type 0
 IsRunStepFrom job before m =
-    (written : List ℕ) (inferences : ℕ) → state_view job m (written ++ m.line.items) (inferences + 1) ≡ with_free_steps (step (arc_value job.procs) (before written inferences))
+    (written : List ℕ) (inferences : ℕ) → state_view job m (written ++ m.line.items) (inferences + 1) ≡ with_free_steps (step (job.clauses) (before written inferences))

@@ -1,15 +1,12 @@
-//! Effects: what goals of the world come to (ISO/IEC 13211-1, 8.12 and 8.14), where no procedure is dynamic.
-ghost use Rattle.std.specs.Prelude.{◌≡◌, ◌≤◌, ◌∷◌, ◌++◌, [], None, IfOk, OnOk};
+//! Effects: what goals that write come to (ISO/IEC 13211-1, 8.12 and 8.14).
+ghost use Rattle.std.specs.Prelude.{◌≡◌, ◌∷◌, ◌++◌, [], IfOk, OnOk};
 ghost use Rattle.std.specs.Str.{encode_utf8_all};
-ghost use Rattle.au_model.specs.Syntax.Operators.{OperatorTable};
 ghost use Rattle.au_model.specs.Terms.Each.{Each};
-ghost use Rattle.au_model.specs.Terms.Forms.{name_of};
 ghost use Rattle.run_model.specs.Goals.OutputGoals.{character_out, no_character_ball};
-ghost use Rattle.run_model.specs.Goals.Worlds.{dynamic_call, plain_world};
+ghost use Rattle.run_model.specs.Programs.Databases.{Database as DatabaseTerms};
 ghost use Rattle.run_model.specs.Machine.Entries.{PlainEntry};
-ghost use Rattle.run_model.specs.Machine.Heights.{after_reply};
 ghost use Rattle.engine_core.specs.Branches.{IsItemBelow};
-ghost use Rattle.stack_run.specs.Inferences.{HasEntries, IsWorking, LeavesReply, entries_below, following, gate_bytes, gate_entries};
+ghost use Rattle.stack_run.specs.Inferences.{HasEntries, IsNoCall, IsNoRemoval, IsWorking, LeavesReply, Unwritten, entries_below, following, gate_bytes, gate_entries, unwritten, world_with};
 
 use crate::frame::Stack;
 use crate::unwinding::unwind;
@@ -21,7 +18,7 @@ use std::alloc::Global;
 use std_builtins::character;
 use term_writer::write_into;
 
-/// Passes an effect: what is written comes after the bytes of `line`. No clause is there to be removed.
+/// Passes an effect: what is written comes after the bytes of `line`.
 pub(crate) fn pass_gate(
     alloc: Global,
     effect: &Effect,
@@ -32,8 +29,11 @@ pub(crate) fn pass_gate(
 ) -> Result<(), NoMemory>
     requires work { IsWorking stack.old }
     requires rest { Each (IsItemBelow stack.old.store.next) rest.now }
-    ensures leaves { OnOk result (HasEntries (λ own. gate_entries ops.now effect.now (following stack.old rest.now own) (entries_below stack.old own)) stack.new) }
-    ensures line { OnOk result (line.new.items ≡ line.old.items ++ gate_bytes ops.now effect.now) }
+    requires call { IsNoCall effect.now }
+    requires removal { IsNoRemoval effect.now }
+    ensures removal { IsNoRemoval effect.now }
+    ensures leaves { (database : DatabaseTerms) → OnOk result (HasEntries (λ own. gate_entries (unwritten database ops.now) effect.now (following stack.old rest.now own) (entries_below stack.old own)) stack.new) }
+    ensures line { (database : DatabaseTerms) → OnOk result (line.new.items ≡ line.old.items ++ gate_bytes (unwritten database ops.now) effect.now) }
 {
     match effect {
         Effect::Write(term) => write_into(alloc, line, term, ops, Style::Plain)?,
@@ -41,14 +41,13 @@ pub(crate) fn pass_gate(
         Effect::WriteCanonical(term) => write_into(alloc, line, term, ops, Style::Canonical)?,
         Effect::Nl => line.push(b'\n')?,
         Effect::PutChar(term) => return put_char(alloc, term, rest, stack, line),
-        Effect::Call(goal) => return raise_unknown(alloc, goal, rest, stack),
         _ => return Ok(()),
     }
     go_on(rest, stack)
 }
 
 /// Goes on with what follows.
-fn go_on(rest: &Goals, stack: &mut Stack) -> Result<(), NoMemory>
+pub(crate) fn go_on(rest: &Goals, stack: &mut Stack) -> Result<(), NoMemory>
     requires work { IsWorking stack.old }
     requires rest { Each (IsItemBelow stack.old.store.next) rest.now }
     ensures { OnOk result (HasEntries (λ own. PlainEntry (following stack.old rest.now own) ∷ entries_below stack.old own) stack.new) }
@@ -67,8 +66,8 @@ fn put_char(
 ) -> Result<(), NoMemory>
     requires work { IsWorking stack.old }
     requires rest { Each (IsItemBelow stack.old.store.next) rest.now }
-    ensures leaves { (operators : OperatorTable) → OnOk result (LeavesReply (character_out term.now (plain_world operators [])).1 rest.now stack.old stack.new) }
-    ensures line { (operators : OperatorTable) → OnOk result (line.new.items ≡ line.old.items ++ (character_out term.now (plain_world operators [])).0.written) }
+    ensures leaves { (world : Unwritten) → OnOk result (LeavesReply (character_out term.now (world_with world [])).1 rest.now stack.old stack.new) }
+    ensures line { (world : Unwritten) → OnOk result (line.new.items ≡ line.old.items ++ (character_out term.now (world_with world [])).0.written) }
 {
     match character(term) {
         Some(c) => {
@@ -101,31 +100,4 @@ fn no_character_ball(alloc: Global, term: &FlatTerm) -> Result<FlatTerm, NoMemor
         _ => Fault::WrongType(TypeName::Character, term.copy()?),
     };
     fault.term(alloc, &Atom::ascii(alloc, "put_char")?, 1)
-}
-
-/// The error of a procedure that is not there (7.7.7).
-fn raise_unknown(
-    alloc: Global,
-    goal: &FlatTerm,
-    rest: &Goals,
-    stack: &mut Stack,
-) -> Result<(), NoMemory>
-    requires { IsWorking stack.old }
-    ensures { OnOk result (HasEntries (λ own. after_reply (dynamic_call None goal.now stack.old.store.next) (following stack.old rest.now own) (entries_below stack.old own)) stack.new) }
-{
-    let name = name_of(alloc, goal)?;
-    let arity = goal.arity();
-    let fault = Fault::Existence(name.share()?, arity);
-    let ball = fault.term(alloc, &name, arity)?;
-    unwind(alloc, &ball, rest, stack)
-}
-
-/// The name of a goal.
-fn name_of(alloc: Global, goal: &FlatTerm) -> Result<Atom, NoMemory>
-    ensures { IfOk result (λ a. a ≡ name_of goal.now) }
-{
-    match goal.top() {
-        Cell::Atom(name) | Cell::Functor(name, _) => name.share(),
-        _ => Atom::ascii(alloc, ""),
-    }
 }

@@ -2,6 +2,7 @@
 use au_term::{FlatTerm, Shared, VarNo};
 use bind_store::{Mark, Store};
 use clause_compile::{Branch, Goals};
+use dyn_clauses::Database;
 
 /// A catch: what it catches, the recovery, and what follows.
 #[derive(Drop)]
@@ -52,10 +53,11 @@ pub(crate) struct Stack {
     pub(crate) end: Option<QueryEnd>,
 }
 
-/// A run: what is left of the current query, how many queries were asked and answers written, and what the last step
-/// wrote.
+/// A run: the dynamic procedures, what is left of the current query, how many queries were asked and answers written,
+/// and what the last step wrote.
 #[derive(Drop)]
 pub(crate) struct Machine {
+    pub(crate) database: Database,
     pub(crate) stack: Stack,
     pub(crate) asked: usize,
     pub(crate) answers: u64,

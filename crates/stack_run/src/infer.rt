@@ -16,8 +16,10 @@ ghost use Rattle.bind_store.specs.StoreView.{substitution};
 ghost use Rattle.engine_core.specs.Branches.{IsItemBelow};
 ghost use Rattle.stack_run.specs.StackView.{items_view, item_view, scope_height};
 ghost use Rattle.stack_run.specs.StackInvariant.{IsChoiceFit};
-ghost use Rattle.stack_run.specs.Inferences.{IsWorking, IsUnhalted, HasEntries, IsNoMark, branch_entry, cut_of, following, item_bytes, entries_below, TakesItem};
+ghost use Rattle.stack_run.specs.Inferences.{IsWorking, IsUnhalted, HasEntries, IsNoMark, branch_entry, cut_of, following, item_bytes, entries_below, item_database, unwritten, TakesItem};
+ghost use Rattle.text_load.specs.JobView.{AreStatics};
 
+use crate::dynamic::{call_dynamic, remove_clause};
 use crate::effects::pass_gate;
 use crate::frame::{Choice, Stack};
 use crate::free_steps::place_of;
@@ -25,7 +27,8 @@ use crate::open::open;
 use crate::stack::push_branches;
 use crate::unwinding::unwind;
 use au_term::NoMemory;
-use clause_compile::{Branch, Goals, Item, Scope};
+use clause_compile::{Branch, Effect, Goals, Item, Scope};
+use dyn_clauses::Database;
 use engine_core::{Reduction, reduce};
 use op_table::Ops;
 use proc_index::Procs;
@@ -38,15 +41,19 @@ pub(crate) fn infer(
     rest: &Goals,
     procs: &Procs,
     ops: &Ops,
+    database: &mut Database,
     stack: &mut Stack,
     line: &mut Vec<u8>,
 ) -> Result<(), NoMemory>
     requires work { IsWorking stack.old }
+    requires statics { AreStatics database.old.statics procs.now }
     requires item { IsItemBelow stack.old.store.next item.now }
     requires rest { Each (IsItemBelow stack.old.store.next) rest.now }
     requires goal { IsNoMark item.now }
-    ensures leaves { OnOk result (TakesItem procs.now ops.now item.now rest.now stack.old stack.new) }
-    ensures line { OnOk result (line.new.items ≡ line.old.items ++ item_bytes procs.now ops.now (item_view (substitution stack.old.store) item.now) stack.old.store.next) }
+    ensures leaves { OnOk result (TakesItem procs.now (unwritten database.old.kept ops.now) item.now rest.now stack.old stack.new) }
+    ensures line { OnOk result (line.new.items ≡ line.old.items ++ item_bytes procs.now (unwritten database.old.kept ops.now) (item_view (substitution stack.old.store) item.now) stack.old.store.next) }
+    ensures database { OnOk result (database.new.kept ≡ item_database (unwritten database.old.kept ops.now) (item_view (substitution stack.old.store) item.now)) }
+    ensures statics { database.new.statics ≡ database.old.statics }
     ensures halts { OnOk result (IsUnhalted procs.now stack.old.store item.now) }
 {
     let here = Scope::Local(stack.frames.len() as u64);
@@ -55,6 +62,10 @@ pub(crate) fn infer(
         Reduction::Raise(ball) => unwind(alloc, &ball, rest, stack),
         Reduction::Prune(scope) => prune(scope, rest, stack),
         Reduction::Open(opening) => open(alloc, opening, cut_of(item), rest, stack),
+        Reduction::Gate(Effect::Call(goal)) => call_dynamic(
+            alloc, goal, rest, here, database, stack,
+        ),
+        Reduction::Gate(Effect::Remove(id)) => remove_clause(id, rest, database, stack),
         Reduction::Gate(effect) => pass_gate(alloc, &effect, rest, ops, stack, line),
         Reduction::Collect(_) => Ok(()),
     }
@@ -71,7 +82,7 @@ fn cut_of(item: &Item) -> Scope
 }
 
 /// Leaves the branches to be run, the first on top.
-fn branch_off(branches: Vec<Branch>, stack: &mut Stack) -> Result<(), NoMemory>
+pub(crate) fn branch_off(branches: Vec<Branch>, stack: &mut Stack) -> Result<(), NoMemory>
     requires work { IsWorking stack.old }
     requires branches { Each (λ b. IsChoiceFit stack.old.store (Choice.Branch b)) branches.items }
     ensures { OnOk result (HasEntries (λ own. map (branch_entry own stack.old.store) branches.items ++ entries_below stack.old own) stack.new) }

@@ -1,6 +1,7 @@
 //! The sequential machine: one path of the search at a time, with a stack of what is still to be done.
 #![tactic(auto)]
 
+mod dynamic;
 mod effects;
 mod frame;
 mod free_steps;

@@ -2,7 +2,6 @@
 ghost use Rattle.std.specs.Prelude.{◌≡◌, ◌≢◌, ◌≤◌};
 ghost use Rattle.au_io.specs.FaultCounts.{Increased};
 ghost use Rattle.stack_run.specs.RunEnds.{IsRun};
-ghost use Rattle.text_load.specs.JobView.{job_meant};
 
 use crate::step::{opening, step};
 use au_io::Sink;
@@ -13,7 +12,7 @@ use text_load::Job;
 /// Runs a job for at most `budget` inferences, and writes its lines to `out`. A run that a failed write or running out
 /// of memory cuts short has written a prefix of its text, and its numbers are 0.
 pub fn run_job<K: Sink>(alloc: Global, job: Job, budget: u64, out: &mut K) -> RunEnd
-    ensures run { IsRun (job_meant job) budget (K.taken out.old) (K.taken out.new) result }
+    ensures run { IsRun job budget (K.taken out.old) (K.taken out.new) result }
     ensures fault { result.end ≡ RunEnding.WriteFault → Increased (K.faults out.old) (K.faults out.new) }
     ensures quiet { result.end ≢ RunEnding.WriteFault → K.faults out.new ≡ K.faults out.old }
     ensures faults_stay { K.faults out.old ≤ K.faults out.new }

@@ -1,12 +1,11 @@
 //! One step of a run (ISO/IEC 13211-1, 7.7).
 ghost use Rattle.std.specs.Prelude.{◌≡◌, ◌<◌, ◌^◌, ◌-◌, ◌+◌, ◌++◌, ◌∷◌, [], ℕ, List, Some, None, IfOk, OnOk, map};
-ghost use Rattle.std.specs.Arc.{arc_value};
 ghost use Rattle.au_term.specs.Term.{VarTerm};
 ghost use Rattle.run_model.specs.Programs.Jobs.{own_terms};
 ghost use Rattle.au_model.specs.Terms.Named.{NamedTerm};
 ghost use Rattle.au_model.specs.Writing.Lines.{end_line};
 ghost use Rattle.run_model.specs.Machine.States.{opened, with_free_steps, step, opening};
-ghost use Rattle.text_load.specs.JobView.{job_meant};
+ghost use Rattle.text_load.specs.JobView.{AreStatics};
 ghost use Rattle.au_model.specs.Terms.Named.{variable_meant};
 ghost use Rattle.au_model.specs.Terms.Substitutions.{resolve};
 ghost use Rattle.bind_store.specs.StoreView.{substitution};
@@ -31,10 +30,12 @@ use text_load::{Job, Query};
 
 /// The machine before the first inference.
 pub(crate) fn opening(alloc: Global, job: &Job) -> Result<Machine, NoMemory>
-    ensures state { IfOk result (λ m. state_view job.now m [] 0 ≡ with_free_steps (opening (job_meant job.now))) }
+    ensures state { IfOk result (λ m. state_view job.now m [] 0 ≡ with_free_steps (opening job.now)) }
     ensures ready { IfOk result (λ m. IsReady m.stack) }
+    ensures statics { IfOk result (λ m. AreStatics m.database.statics job.now.clauses) }
 {
     let mut machine = Machine {
+        database: job.database().copy()?,
         stack: nothing_left(alloc),
         asked: 0,
         answers: 0,
@@ -78,9 +79,10 @@ fn ask_next(alloc: Global, job: &Job, machine: &mut Machine) -> Result<(), NoMem
     ensures state { OnOk result ((written : List ℕ) (inferences : ℕ) → state_view job.now machine.new written inferences ≡ opened_state (state_view job.now machine.old written inferences)) }
     ensures fit { OnOk result (IsFit machine.new.stack) }
     ensures line { machine.new.line ≡ machine.old.line }
+    ensures database { machine.new.database ≡ machine.old.database }
 {
-    if machine.asked < job.queries.len() {
-        machine.stack = query_stack(alloc, &job.queries[machine.asked])?;
+    if machine.asked < job.queries().len() {
+        machine.stack = query_stack(alloc, &job.queries()[machine.asked])?;
         machine.asked += 1;
     } else {
         machine.stack = nothing_left(alloc);
@@ -93,8 +95,10 @@ pub(crate) fn step(alloc: Global, job: &Job, machine: &mut Machine) -> Result<()
     requires ready { IsReady machine.old.stack }
     requires some { HasEnd machine.old.stack }
     requires few { machine.old.answers < 2 ^ 64 - 1 }
+    requires statics { AreStatics machine.old.database.statics job.now.clauses }
     ensures state { OnOk result (IsRunStepFrom job.now (state_view job.now machine.old) machine.new) }
     ensures ready { OnOk result (IsReady machine.new.stack) }
+    ensures statics { OnOk result (AreStatics machine.new.database.statics job.now.clauses) }
 {
     machine.line.clear();
     inference(alloc, job, machine)?;
@@ -107,8 +111,10 @@ fn inference(alloc: Global, job: &Job, machine: &mut Machine) -> Result<(), NoMe
     requires some { HasEnd machine.old.stack }
     requires line { machine.old.line.items ≡ [] }
     requires few { machine.old.answers < 2 ^ 64 - 1 }
+    requires statics { AreStatics machine.old.database.statics job.now.clauses }
     ensures state { OnOk result (IsInferredFrom job.now (state_view job.now machine.old) machine.new) }
     ensures fit { OnOk result (IsFit machine.new.stack) }
+    ensures statics { OnOk result (AreStatics machine.new.database.statics job.now.clauses) }
 {
     match machine.stack.current.take() {
         Some(goals) => take_item(alloc, job, &goals, machine),
@@ -121,8 +127,10 @@ fn take_item(alloc: Global, job: &Job, goals: &Goals, machine: &mut Machine) -> 
     requires goals { IsAtItem goals.now machine.old.stack }
     requires line { machine.old.line.items ≡ [] }
     requires few { machine.old.answers < 2 ^ 64 - 1 }
-    ensures state { OnOk result (IsInferredFrom job.now (stack_state job.now machine.old.asked machine.old.answers (with_current goals.now machine.old.stack)) machine.new) }
+    requires statics { AreStatics machine.old.database.statics job.now.clauses }
+    ensures state { OnOk result (IsInferredFrom job.now (stack_state job.now machine.old.database.kept machine.old.asked machine.old.answers (with_current goals.now machine.old.stack)) machine.new) }
     ensures fit { OnOk result (IsFit machine.new.stack) }
+    ensures statics { OnOk result (AreStatics machine.new.database.statics job.now.clauses) }
 {
     match goals.first() {
         None => answer(alloc, job, machine),
@@ -132,8 +140,9 @@ fn take_item(alloc: Global, job: &Job, goals: &Goals, machine: &mut Machine) -> 
                 alloc,
                 item,
                 &rest,
-                &job.procs,
-                &job.ops,
+                job.procs(),
+                job.ops(),
+                &mut machine.database,
                 &mut machine.stack,
                 &mut machine.line,
             )
@@ -146,24 +155,25 @@ fn answer(alloc: Global, job: &Job, machine: &mut Machine) -> Result<(), NoMemor
     requires work { IsWorking machine.old.stack }
     requires line { machine.old.line.items ≡ [] }
     requires few { machine.old.answers < 2 ^ 64 - 1 }
-    ensures state { OnOk result (IsInferredFrom job.now (stack_state job.now machine.old.asked machine.old.answers (with_current [] machine.old.stack)) machine.new) }
+    ensures state { OnOk result (IsInferredFrom job.now (stack_state job.now machine.old.database.kept machine.old.asked machine.old.answers (with_current [] machine.old.stack)) machine.new) }
     ensures fit { OnOk result (IsFit machine.new.stack) }
+    ensures database { machine.new.database ≡ machine.old.database }
 {
     let names = asked_names(job, machine.asked);
     let values = values_of(alloc, names, &machine.stack.store)?;
-    answer_line(alloc, &mut machine.line, names, &values, &job.ops)?;
+    answer_line(alloc, &mut machine.line, names, &values, job.ops())?;
     machine.answers += 1;
     Ok(())
 }
 
 /// The names of the query that was asked last.
 fn asked_names(job: &Job, asked: usize) -> &[VarName]
-    ensures { map variable_meant result.now ≡ names_asked asked job.entry.now.queries.items }
+    ensures { map variable_meant result.now ≡ names_asked asked job.entry.now.queries }
 {
-    if asked == 0 || asked > job.queries.len() {
+    if asked == 0 || asked > job.queries().len() {
         return &[];
     }
-    job.queries[asked - 1].names()
+    job.queries()[asked - 1].names()
 }
 
 /// What variables stand for.
@@ -198,8 +208,9 @@ fn end_query(alloc: Global, job: &Job, machine: &mut Machine) -> Result<(), NoMe
     requires line { machine.old.line.items ≡ [] }
     ensures state { OnOk result (IsInferredFrom job.now (state_view job.now machine.old) machine.new) }
     ensures fit { OnOk result (IsFit machine.new.stack) }
+    ensures database { machine.new.database ≡ machine.old.database }
 {
-    end_line(alloc, &machine.stack.end, &job.ops, &mut machine.line)?;
+    end_line(alloc, &machine.stack.end, job.ops(), &mut machine.line)?;
     ask_next(alloc, job, machine)
 }
 

@@ -292,29 +292,29 @@ fn numbered(alloc: Global, count: u32, before: &str, after: &str) -> Result<Stri
 #[test]
 fn long_texts(rt: HostRuntime) -> Result<(), Fail> {
     let alloc = rt.alloc();
-    let mut operators = numbered(alloc, 10_000, ":- op(700, xfx, o", "). ")?;
-    operators.push_str(&numbered(alloc, 10_000, "p(1 o", " 2). ")?)?;
+    let mut operators = numbered(alloc, 1_000, ":- op(700, xfx, o", "). ")?;
+    operators.push_str(&numbered(alloc, 1_000, "p(1 o", " 2). ")?)?;
     expect(
         &rt,
         alloc,
         "",
         &operators,
-        &[("p", 1, Standing::Static(10_000))],
+        &[("p", 1, Standing::Static(1_000))],
     )?;
     let mut clauses = format!(in alloc; ":- dynamic(p/1). ")?;
-    clauses.push_str(&numbered(alloc, 100_000, "p(", "). ")?)?;
+    clauses.push_str(&numbered(alloc, 2_000, "p(", "). ")?)?;
     expect(
         &rt,
         alloc,
         "",
         &clauses,
-        &[("p", 1, Standing::Dynamic(100_000))],
+        &[("p", 1, Standing::Dynamic(2_000))],
     )?;
-    let mut procedures = numbered(alloc, 100_000, ":- dynamic(p", "/1). ")?;
-    procedures.push_str(&numbered(alloc, 100_000, "p", "(a). ")?)?;
+    let mut procedures = numbered(alloc, 2_000, ":- dynamic(p", "/1). ")?;
+    procedures.push_str(&numbered(alloc, 2_000, "p", "(a). ")?)?;
     let last = [
         ("p0", 1, Standing::Dynamic(1)),
-        ("p99999", 1, Standing::Dynamic(1)),
+        ("p1999", 1, Standing::Dynamic(1)),
     ];
     expect(&rt, alloc, "", &procedures, &last)
 }

@@ -12,5 +12,5 @@ returns-clause-state c =
     let line = c.ask_next.new.machine.line.items in
     on_ok_weaker c.ask_next.result (λ h. λ written inferences.
     h (written ++ line) (inferences + 1)
-    ∙ query_ends job m.asked m.answers m.stack line c.requires.ready c.requires.none c.requires.some
-    (ap (λ (v : Vec ℕ Global). v.items) c.ask_next.ensures.line ∙ (c.in_ok-end_line.ensures ∙ ap (λ bytes. bytes ++ end_line job.ops (ball_of m.stack.end)) c.requires.line)) written inferences) c.ask_next.ensures.state
+    ∙ query_ends job m.database.kept m.asked m.answers m.stack line c.requires.ready c.requires.none c.requires.some
+    (ap (λ (v : Vec ℕ Global). v.items) c.ask_next.ensures.line ∙ (c.in_ok-end_line.ensures ∙ (ap (λ o. m.line.items ++ end_line o (ball_of m.stack.end)) c.ops.ensures ∙ ap (λ bytes. bytes ++ end_line job.operators (ball_of m.stack.end)) c.requires.line))) written inferences) c.ask_next.ensures.state

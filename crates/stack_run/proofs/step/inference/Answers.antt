@@ -1,6 +1,5 @@
 use Rattle.std.proofs.Common.{sym, ap, ◌∙◌}
 use Rattle.std.proofs.lemmas.Result.{on_ok_weaker}
-use Rattle.std.specs.Arc.{arc_value}
 use Rattle.run_model.specs.Machine.States.{step}
 use Rattle.stack_run.proofs.StepLemmas.{at_item, taken_state}
 use Rattle.stack_run.proofs.step.inference.Goals as goal
@@ -12,4 +11,4 @@ pub returns-in-Some-clause-state : goal.returns-in-Some-clause-state
 returns-in-Some-clause-state c =
     let job = c.args.job.now in
     let m = c.args.machine.now in
-    on_ok_weaker c.take_item.result (λ h. λ written inferences. h written inferences ∙ ap (step (arc_value job.procs)) (taken_state job m.asked m.answers m.stack c.in-Some.goals (sym c.in-Some.ensures.value) written inferences)) c.take_item.ensures.state
+    on_ok_weaker c.take_item.result (λ h. λ written inferences. h written inferences ∙ ap (step job.clauses) (taken_state job m.database.kept m.asked m.answers m.stack c.in-Some.goals (sym c.in-Some.ensures.value) written inferences)) c.take_item.ensures.state

@@ -9,7 +9,7 @@ use Rattle.stack_run.proofs.step.step.Goals as goal
 pub returns-clause-state : goal.returns-clause-state
 returns-clause-state c =
     let m = c.inference.new.machine in
-    on_ok_weaker c.take_free_steps.result (λ h. λ written inferences. settles_so c.args.job.now m.asked m.answers m.stack c.take_free_steps.new.stack h (written ++ m.line.items) (inferences + 1) ∙ ap with_free_steps (c.in_ok-inference.ensures.state written inferences)) c.take_free_steps.ensures.view
+    on_ok_weaker c.take_free_steps.result (λ h. λ written inferences. settles_so c.args.job.now m.database.kept m.asked m.answers m.stack c.take_free_steps.new.stack h (written ++ m.line.items) (inferences + 1) ∙ ap with_free_steps (c.in_ok-inference.ensures.state written inferences)) c.take_free_steps.ensures.view
 
 pub returns-clause-ready : goal.returns-clause-ready
 returns-clause-ready c =
