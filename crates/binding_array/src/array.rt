@@ -1,5 +1,5 @@
 //! The array of cells.
-ghost use Rattle.std.specs.Prelude.{◌≡◌, ◌<◌, ◌≤◌, [], MatchOption, ℕ, OnOk, length, slice_set};
+ghost use Rattle.std.specs.Prelude.{◌≡◌, ◌<◌, ◌≤◌, [], MatchOption, ℕ, OnOk, OnErr, length, max, take, slice_set};
 ghost use Rattle.au_model.specs.Terms.Substitutions.{Substitution, value_of, resolve};
 ghost use Rattle.clause_compile.specs.Places.{CodeView};
 ghost use Rattle.binding_array.specs.Represented.{variable_cell, cell_term, IsValueFor, IsBoundCell, IsFollowed, Represents};
@@ -47,13 +47,21 @@ impl BindingArray {
 
     /// Makes cells for at least so many variables; new ones are free.
     pub fn grow(&mut self, to: usize) -> Result<(), NoMemory>
-        ensures long { OnOk result (to ≤ length self.new) }
+        ensures long { OnOk result (length self.new ≡ max (length self.old) to) }
         ensures same { (v : ℕ) → variable_cell self.new v ≡ variable_cell self.old v }
+        ensures err { OnErr result (self.new ≡ self.old) }
     {
         if self.cells.len() < to {
             self.cells.resize(to, BindingCell::Free)?;
         }
         Ok(())
+    }
+
+    /// Takes away the cells after so many.
+    pub fn cut_to(&mut self, count: usize)
+        ensures { self.new ≡ take count self.old }
+    {
+        self.cells.truncate(count);
     }
 
     /// What a variable is bound to, if it is bound.
