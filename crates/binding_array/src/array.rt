@@ -2,7 +2,7 @@
 ghost use Rattle.std.specs.Prelude.{◌≡◌, ◌<◌, ◌≤◌, [], MatchOption, ℕ, OnOk, OnErr, length, max, take, slice_set};
 ghost use Rattle.au_model.specs.Terms.Substitutions.{Substitution, value_of, resolve};
 ghost use Rattle.clause_compile.specs.Places.{CodeView};
-ghost use Rattle.binding_array.specs.Represented.{variable_cell, cell_term, IsValueFor, IsBoundCell, IsFollowed, Represents};
+ghost use Rattle.binding_array.specs.Represented.{variable_cell, cell_term, IsValueFor, IsBoundCell, IsFollowed, IsStored, Represents};
 
 use crate::cell::BindingCell;
 use au_term::NoMemory;
@@ -97,6 +97,7 @@ impl BindingArray {
     pub fn follow(&self, variable: u32) -> BindingCell
         requires { variable < length self.now }
         ensures end { IsFollowed self.now result }
+        ensures stored { IsStored self.now result }
         ensures same { (code : CodeView) (s : Substitution) → Represents code self.now s → value_of s variable ≡ resolve s (cell_term code result) }
     {
         let mut at = variable;

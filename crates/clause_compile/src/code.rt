@@ -2,7 +2,7 @@
 ghost use Rattle.std.specs.Prelude.{◌≡◌, ◌+◌, ◌<◌, ◌≤◌, ◌∷◌, [], ◌++◌, IfOk, OnOk, length, take, drop, reverse};
 ghost use Rattle.au_term.specs.PrefixOrder.{cells_of, term_of, arity};
 ghost use Rattle.run_model.specs.Programs.Bodies.{clause_goals_of};
-ghost use Rattle.clause_compile.specs.AtomNumbers.{name_at};
+ghost use Rattle.clause_compile.specs.AtomNumbers.{AreDistinct, name_at};
 ghost use Rattle.clause_compile.specs.PlacedClauses.{IsClausePlaced};
 ghost use Rattle.clause_compile.specs.Places.{CodeView, AreSound, IsPlaced, AreAllPlaced, ArePlacesOf, AddsCell, HasMorePlaces};
 
@@ -57,6 +57,14 @@ impl Code {
         ensures sound { AreSound (length self.now.names) self.now.places }
     {
         self.places.len()
+    }
+
+    /// How many names there are. No two are the same.
+    pub fn names(&self) -> usize
+        ensures count { result ≡ length self.now.names }
+        ensures distinct { AreDistinct self.now.names }
+    {
+        self.names.len()
     }
 
     /// The place with a number.

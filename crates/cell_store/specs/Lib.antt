@@ -1,0 +1,5 @@
+pub mod HeapView
+pub mod Values
+pub mod CellMeanings
+pub mod Undoing
+pub mod StoreView

@@ -1,0 +1,169 @@
+//! The store.
+ghost use Rattle.std.specs.Prelude.{◌≡◌, ◌<◌, ◌≤◌, ◌+◌, ◌++◌, ◌∷◌, [], List, length, take, drop, IfOk, OnOk, OnErr};
+ghost use Rattle.std.specs.Arc.{arc_value};
+ghost use Rattle.au_model.specs.Terms.Each.{Each};
+ghost use Rattle.cell_store.specs.Undoing.{AreNested, freed};
+ghost use Rattle.cell_store.specs.StoreView.{Moment, IsValidStore, IsValueIn, IsDereferenced, CanBeBound, BindsFurther, meaning, new_store, with_numbers, with_mark, with_marks, taken_back};
+
+use crate::heap::Heap;
+use crate::mark::Mark;
+use au_term::NoMemory;
+use binding_array::{BindingArray, BindingCell};
+use clause_compile::Code;
+use std::alloc::Global;
+use std::marker::Model;
+use std::sync::Arc;
+
+/// What the variables of a branch stand for, its next variable number, and the terms that were made.
+#[derive(Drop)]
+pub struct Store {
+    heap: Heap,
+    cells: BindingArray,
+    /// Variables that were there at the newest mark of their time and were bound since.
+    trail: Vec<u32>,
+    marks: Vec<Mark>,
+}
+
+impl Model for Store {
+    ghost use Rattle.std.specs.Coded.{codes};
+    ghost use Rattle.au_term.specs.PrefixOrder.{term_code};
+    ghost use Rattle.cell_store.specs.Undoing.{Parts};
+    ghost use Rattle.cell_store.specs.StoreView.{StoreView, IsConsistent, view_of};
+
+    ghost Value = { StoreView };
+
+    ghost coded = { Prim.hlevel (codes, term_code) };
+
+    ghost view = { λ s. view_of (record { heap = s.heap; cells = s.cells; trail = s.trail.items; marks = s.marks.items }) };
+
+    ghost invariant = { λ s. IsConsistent (record { heap = s.heap; cells = s.cells; trail = s.trail.items; marks = s.marks.items }) };
+}
+
+impl Store {
+    /// Nothing is made or bound.
+    pub fn new(alloc: Global, program: Arc<Code>) -> Result<Store, NoMemory>
+        ensures { IfOk result (λ store. store ≡ new_store (arc_value program)) }
+    {
+        if program.len() > u32::MAX as usize {
+            return Err(NoMemory);
+        }
+        Ok(Store {
+            heap: Heap::new(alloc, program),
+            cells: BindingArray::new(alloc),
+            trail: Vec::new(alloc),
+            marks: Vec::new(alloc),
+        })
+    }
+
+    /// The next variable number.
+    pub fn next(&self) -> u32
+        ensures next { result ≡ self.now.now.next }
+        ensures sound { IsValidStore self.now }
+    {
+        self.cells.len() as u32
+    }
+
+    /// How many marks there are.
+    pub fn marks(&self) -> usize
+        ensures { result ≡ length self.now.marks }
+    {
+        self.marks.len()
+    }
+
+    /// Takes so many new numbers, and gives the first.
+    pub fn fresh(&mut self, count: u32) -> Result<u32, NoMemory>
+        ensures ok { OnOk result (self.new ≡ with_numbers count self.old) }
+        ensures first { IfOk result (λ first. first ≡ self.old.now.next) }
+        ensures err { OnErr result (self.new ≡ self.old) }
+    {
+        let first = self.next();
+        let Some(next) = first.checked_add(count) else {
+            return Err(NoMemory);
+        };
+        self.cells.grow(next as usize)?;
+        Ok(first)
+    }
+
+    /// A value that stands for the same and is no bound variable.
+    pub fn dereference(&self, value: BindingCell) -> BindingCell
+        requires { IsValueIn self.now value }
+        ensures { IsDereferenced self.now value result }
+    {
+        match value {
+            BindingCell::Var(variable) => self.cells.follow(variable),
+            value => value,
+        }
+    }
+
+    /// Binds a free variable.
+    pub fn bind(&mut self, variable: u32, value: BindingCell) -> Result<(), NoMemory>
+        requires { CanBeBound self.old variable value }
+        ensures ok { OnOk result (BindsFurther self.old self.new ((variable, meaning self.old value) ∷ [])) }
+        ensures err { OnErr result (self.new ≡ self.old) }
+    {
+        if (variable as usize) < protected(&self.marks) {
+            self.trail.push(variable)?;
+        }
+        self.cells.bind(variable, value);
+        Ok(())
+    }
+
+    /// Marks the state of the store, and gives the number of marks before.
+    pub fn mark(&mut self) -> Result<usize, NoMemory>
+        ensures ok { OnOk result (self.new ≡ with_mark self.old) }
+        ensures count { IfOk result (λ count. count ≡ length self.old.marks) }
+        ensures err { OnErr result (self.new ≡ self.old) }
+    {
+        let count = self.marks.len();
+        self.marks.push(Mark {
+            trail: self.trail.len(),
+            variables: self.cells.len(),
+            made: self.heap.made(),
+        })?;
+        Ok(count)
+    }
+
+    /// Drops all marks after the oldest ones; what is bound and made stays.
+    pub fn keep_marks(&mut self, count: usize)
+        ensures { self.new ≡ with_marks count self.old }
+    {
+        self.marks.truncate(count);
+    }
+
+    /// Takes the store back to a mark, by the number of marks before it. The mark stays, and those after it are dropped.
+    pub fn undo_to(&mut self, mark: usize)
+        requires { mark < length self.old.marks }
+        ensures { (before after : List Moment) (moment : Moment) → self.old.marks ≡ before ++ moment ∷ after → mark ≡ length before → self.new ≡ taken_back moment (with_marks (mark + 1) self.old) }
+    {
+        let at = self.marks[mark];
+        self.marks.truncate(mark + 1);
+        free_after(at.trail, &mut self.trail, &mut self.cells);
+        self.cells.cut_to(at.variables);
+        self.heap.cut_to(at.made);
+    }
+}
+
+/// How many variables there were at the newest mark.
+fn protected(marks: &[Mark]) -> usize
+    requires { AreNested marks.now }
+    ensures { Each (λ m. m.variables ≤ result) marks.now }
+{
+    match marks.last() {
+        Some(mark) => mark.variables,
+        None => 0,
+    }
+}
+
+/// Frees the variables of the trail after the first ones, the last first, and takes them from it.
+fn free_after(kept: usize, trail: &mut Vec<u32>, cells: &mut BindingArray)
+    requires { Each (λ v. v < length cells.old) trail.old.items }
+    ensures trail { trail.new.items ≡ take kept trail.old.items }
+    ensures cells { cells.new ≡ freed (drop kept trail.old.items) cells.old }
+{
+    while trail.len() > kept {
+        match trail.pop() {
+            Some(variable) => cells.free(variable),
+            None => unreachable!(),
+        }
+    }
+}
