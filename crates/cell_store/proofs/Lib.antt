@@ -6,3 +6,7 @@ pub mod UndoingLemmas
 pub mod StoreLemmas
 pub mod HeapLemmas
 pub mod DereferenceLemmas
+pub mod ArgumentLemmas
+pub mod WalkLemmas
+pub mod UnificationLemmas
+pub mod RuleLemmas

@@ -6,6 +6,7 @@ use Rattle.au_term.specs.Term.{Term, VarTerm}
 use Rattle.au_model.specs.Terms.Each.{Each}
 use Rattle.au_model.specs.Terms.Substitutions.{Substitution, value_of, resolve, occurs}
 use Rattle.au_model.proofs.EachLemmas.{each-append, each-more}
+use Rattle.clause_compile.specs.AtomNumbers.{AreDistinct}
 use Rattle.clause_compile.specs.Places.{CodeView, AreSound}
 use Rattle.clause_compile.specs.declared.place.Place.{Place}
 use Rattle.binding_array.specs.Represented.{variable_cell, cell_term, IsFalling}
@@ -35,8 +36,8 @@ module _ (h : HeapView) (cs ds : List BindingCell) (t u : List ℕ) (ms ns : Lis
   still_moments ks w = map-same W (moment_at (parts h ds u ns)) (moment_at (parts h cs t ms)) (λ m v. ap (moment_of (cut_heap m.made h)) (same m v)) ks w
 
 -- nothing is made or bound
-pub new_parts : (program : CodeView) → AreSound (length program.names) program.places → length program.places < 2 ^ 32 → (h : HeapView) → text_of h ≡ program → IsConsistent (parts h [] [] [])
-new_parts program text few h e = record {
+pub new_parts : (program : CodeView) → AreSound (length program.names) program.places → length program.places < 2 ^ 32 → AreDistinct program.names → (h : HeapView) → text_of h ≡ program → IsConsistent (parts h [] [] [])
+new_parts program text few apart h e = record {
   now = subst (λ c. AreConsistent c []) (sym e) (none_consistent program text);
   at_marks = tt;
   within = tt;
@@ -44,11 +45,13 @@ new_parts program text few h e = record {
   trail = tt;
   variables = omega arith;
   places = subst (λ (c : CodeView). length c.places < 2 ^ 32) (sym e) few;
+  distinct = subst (λ (c : CodeView). AreDistinct c.names) (sym e) apart;
 }
 
 -- what the view says is valid
 pub is_valid : (p : Parts) → IsConsistent p → IsValidStore (view_of p)
 is_valid p k = record {
+  distinct = k.distinct;
   new = λ n le. is_new (text_of p.heap) p.cells n k.now le;
   below = λ n lt. is_below (text_of p.heap) p.cells k.now n lt;
   final = λ n. final (text_of p.heap) p.cells n k.now;
@@ -68,6 +71,7 @@ module _ (h : HeapView) (cs ds : List BindingCell) (t : List ℕ) (ms : List Mar
     trail = each-more (λ v. v < length cs) (λ v. v < length ds) (λ v lt. omega arith) t k.trail;
     variables = few;
     places = k.places;
+    distinct = k.distinct;
   }
 
   pub grown_view : (n : ℕ) → length ds ≡ length cs + n → view_of (parts h ds t ms) ≡ with_numbers n (view_of (parts h cs t ms))
@@ -108,11 +112,7 @@ module _ (h : HeapView) (cs : List BindingCell) (t : List ℕ) (ms : List Mark) 
   further : (u : List ℕ) → map (moment_at (parts h ds u ms)) ms ≡ map (moment_at (parts h cs t ms)) ms → BindsFurther (view_of (parts h cs t ms)) (view_of (parts h ds u ms)) ((v, meaning (view_of (parts h cs t ms)) c) ∷ [])
   further u e = record {
     bound = bound_value (text_of h) cs v c k.now b.there b.free b.value b.falling b.apart;
-    program = refl;
-    names = refl;
-    made = refl;
-    next = same_length;
-    marks = e;
+    others = (let a = same_length in cc);
   }
 
   -- of a variable that was there at the newest mark
@@ -128,6 +128,7 @@ module _ (h : HeapView) (cs : List BindingCell) (t : List ℕ) (ms : List Mark) 
     trail = each-append (λ x. x < length ds) t (v ∷ []) trail_still (omega (arith, same_length, b.there), tt);
     variables = omega (arith, same_length, k.variables);
     places = k.places;
+    distinct = k.distinct;
   }
 
   pub trailed_view : BindsFurther (view_of (parts h cs t ms)) (view_of (parts h ds (t ++ v ∷ []) ms)) ((v, meaning (view_of (parts h cs t ms)) c) ∷ [])
@@ -149,6 +150,7 @@ module _ (h : HeapView) (cs : List BindingCell) (t : List ℕ) (ms : List Mark) 
     trail = trail_still;
     variables = omega (arith, same_length, k.variables);
     places = k.places;
+    distinct = k.distinct;
   }
 
   pub younger_view : (n : ℕ) → n ≤ v → Each (λ m. m.variables ≤ n) ms → BindsFurther (view_of (parts h cs t ms)) (view_of (parts h ds t ms)) ((v, meaning (view_of (parts h cs t ms)) c) ∷ [])
@@ -187,6 +189,7 @@ module _ (h : HeapView) (cs : List BindingCell) (t : List ℕ) (ms : List Mark) 
     trail = k.trail;
     variables = k.variables;
     places = k.places;
+    distinct = k.distinct;
   }
 
   pub marked_view : view_of q ≡ with_mark (view_of p)
@@ -204,6 +207,7 @@ kept_parts h cs t ms n k = record {
   trail = k.trail;
   variables = k.variables;
   places = k.places;
+  distinct = k.distinct;
 }
 
 pub kept_view : (h : HeapView) (cs : List BindingCell) (t : List ℕ) (ms : List Mark) (n : ℕ) → view_of (parts h cs t (take n ms)) ≡ with_marks n (view_of (parts h cs t ms))
@@ -262,6 +266,7 @@ module _ (h : HeapView) (cs : List BindingCell) (t : List ℕ) (before : List Ma
     trail = each-more (λ x. x < m.variables) (λ x. x < length (undone m t cs)) (λ x lt. omega (arith, length-undone m t cs own.older.variables)) (take m.trail t) own.there;
     variables = omega (arith, length-undone m t cs own.older.variables, own.older.variables, k.variables);
     places = omega (arith, length-append h.program.places (take m.made h.made), length-append h.program.places h.made, length-take-le m.made h.made own.older.made, own.older.made, k.places);
+    distinct = k.distinct;
   }
     where
       nested_front : (ns : List Mark) → AreNested (ns ++ m ∷ after) → AreNested (ns ++ m ∷ [])

@@ -226,7 +226,7 @@ final code cells v a = is_final code cells (substitution_in code cells) a.fallin
 no_variable : (t : Term) (u : ℕ) → IsCompound t → t ≡ VarTerm u → ⊥
 no_variable t u (compound f ts) e = absurd cc
 
-resolved_compound : (s : Substitution) (t : Term) → IsCompound t → IsCompound (resolve s t)
+pub resolved_compound : (s : Substitution) (t : Term) → IsCompound t → IsCompound (resolve s t)
 resolved_compound s t (compound f ts) = compound f _
 
 module _ (code : CodeView) (cells : List BindingCell) (a : AreConsistent code cells) where

@@ -3,3 +3,5 @@ pub mod Values
 pub mod CellMeanings
 pub mod Undoing
 pub mod StoreView
+pub mod Arguments
+pub mod UnificationSteps

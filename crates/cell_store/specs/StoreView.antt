@@ -3,6 +3,7 @@ use Rattle.std.specs.Prelude.{◌≡◌, ℕ, ◌+◌, ◌^◌, ◌<◌, ◌≤�
 use Rattle.au_term.specs.Term.{Term, VarTerm, var_bound}
 use Rattle.au_model.specs.Terms.Each.{Each}
 use Rattle.au_model.specs.Terms.Substitutions.{Substitution, apply, value_of, resolve, only, occurs}
+use Rattle.clause_compile.specs.AtomNumbers.{AreDistinct}
 use Rattle.clause_compile.specs.Places.{CodeView}
 use Rattle.clause_compile.specs.declared.place.Place.{Place}
 use Rattle.binding_array.specs.Represented.{cell_term, IsFalling}
@@ -85,6 +86,7 @@ pub record IsConsistent (p : Parts) : Type 0 where
   pub trail : Each (λ v. v < length p.cells) p.trail
   pub variables : length p.cells < 2 ^ 32
   pub places : length (text_of p.heap).places < 2 ^ 32
+  pub distinct : AreDistinct (text_of p.heap).names
 
 -- nothing is made or bound
 abbrev pub new_store : CodeView → StoreView
@@ -110,14 +112,14 @@ taken_back m st = record { program = st.program; names = st.names; now = m; mark
 abbrev pub IsComposition : Substitution → Substitution → Substitution → Type 0
 IsComposition s further t = (n : ℕ) → value_of t n ≡ resolve further (value_of s n)
 
+-- the same, but for what is bound
+abbrev pub with_substitution : Substitution → StoreView → StoreView
+with_substitution s st = record { program = st.program; names = st.names; now = record { made = st.now.made; bound = s; next = st.now.next }; marks = st.marks }
+
 -- bindings were made, and all else is as it was
 pub record BindsFurther (old new : StoreView) (further : Substitution) : Type 0 where
   pub bound : IsComposition (substitution old) further (substitution new)
-  pub program : new.program ≡ old.program
-  pub names : new.names ≡ old.names
-  pub made : new.now.made ≡ old.now.made
-  pub next : new.now.next ≡ old.now.next
-  pub marks : new.marks ≡ old.marks
+  pub others : new ≡ with_substitution (substitution new) old
 
 -- what a free variable can be bound to
 pub record CanBeBound (st : StoreView) (v : ℕ) (c : BindingCell) : Type 0 where
@@ -127,8 +129,9 @@ pub record CanBeBound (st : StoreView) (v : ℕ) (c : BindingCell) : Type 0 wher
   pub falling : IsFalling v c
   pub apart : occurs v (meaning st c) ≡ false
 
--- numbers from the next one on are unbound, the others stand for terms of them, and no binding changes these terms
+-- names are distinct; numbers from the next one on are unbound, the others stand for terms of them, and no binding changes these terms
 pub record IsValidStore (st : StoreView) : Type 0 where
+  pub distinct : AreDistinct (text_in st).names
   pub new : (n : ℕ) → st.now.next ≤ n → value_of (substitution st) n ≡ VarTerm n
   pub below : (n : ℕ) → n < st.now.next → var_bound (value_of (substitution st) n) ≤ st.now.next
   pub final : (n : ℕ) → resolve (substitution st) (value_of (substitution st) n) ≡ value_of (substitution st) n

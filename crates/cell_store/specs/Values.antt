@@ -28,3 +28,10 @@ IsCell code n (Compound at base) = IsValue code n (Compound at base)
 
 abbrev pub AreCells : CodeView → List BindingCell → Type 0
 AreCells code cells = (v : ℕ) → IsCell code (length cells) (variable_cell cells v)
+
+abbrev pub IsNoVariable : BindingCell → Type 0
+IsNoVariable Free = ⊥
+IsNoVariable (Var v) = ⊥
+IsNoVariable (Int z) = Unit {0}
+IsNoVariable (Atom a) = Unit {0}
+IsNoVariable (Compound at base) = Unit {0}

@@ -8,8 +8,11 @@
 //! younger one is not put on the trail, since its cell is cut off. What a mark has not seen stays where marks are dropped.
 #![tactic(auto)]
 
+mod arguments;
 mod heap;
 mod mark;
+mod occurs;
 mod store;
+mod unify;
 
 pub use store::Store;

@@ -1,15 +1,19 @@
 //! The store.
-ghost use Rattle.std.specs.Prelude.{◌≡◌, ◌<◌, ◌≤◌, ◌+◌, ◌++◌, ◌∷◌, [], List, length, take, drop, IfOk, OnOk, OnErr};
+ghost use Rattle.std.specs.Prelude.{◌≡◌, ◌-◌, ◌^◌, ◌<◌, ◌≤◌, ◌+◌, ◌++◌, ◌∷◌, [], ℕ, List, length, take, drop, IfOk, OnOk, OnErr};
 ghost use Rattle.std.specs.Arc.{arc_value};
 ghost use Rattle.au_model.specs.Terms.Each.{Each};
+ghost use Rattle.clause_compile.specs.Places.{IsPlaceOf};
+ghost use Rattle.cell_store.specs.Arguments.{HasFunctor, IsArgument, argument_at};
 ghost use Rattle.cell_store.specs.Undoing.{AreNested, freed};
-ghost use Rattle.cell_store.specs.StoreView.{Moment, IsValidStore, IsValueIn, IsDereferenced, CanBeBound, BindsFurther, meaning, new_store, with_numbers, with_mark, with_marks, taken_back};
+ghost use Rattle.cell_store.specs.UnificationSteps.{IsUnified, OnlyBinds};
+ghost use Rattle.cell_store.specs.StoreView.{Moment, IsValidStore, IsValueIn, IsDereferenced, CanBeBound, BindsFurther, meaning, text_in, value_term, new_store, with_numbers, with_mark, with_marks, taken_back};
 
 use crate::heap::Heap;
 use crate::mark::Mark;
+use crate::unify::unify;
 use au_term::NoMemory;
 use binding_array::{BindingArray, BindingCell};
-use clause_compile::Code;
+use clause_compile::{Code, Place};
 use std::alloc::Global;
 use std::marker::Model;
 use std::sync::Arc;
@@ -22,6 +26,7 @@ pub struct Store {
     /// Variables that were there at the newest mark of their time and were bound since.
     trail: Vec<u32>,
     marks: Vec<Mark>,
+    alloc: Global,
 }
 
 impl Model for Store {
@@ -44,6 +49,8 @@ impl Store {
     pub fn new(alloc: Global, program: Arc<Code>) -> Result<Store, NoMemory>
         ensures { IfOk result (λ store. store ≡ new_store (arc_value program)) }
     {
+        // The proof reads off that no two names are the same.
+        let _names = program.names();
         if program.len() > u32::MAX as usize {
             return Err(NoMemory);
         }
@@ -52,6 +59,7 @@ impl Store {
             cells: BindingArray::new(alloc),
             trail: Vec::new(alloc),
             marks: Vec::new(alloc),
+            alloc,
         })
     }
 
@@ -84,6 +92,34 @@ impl Store {
         Ok(first)
     }
 
+    /// The functor of the compound at a place: its name, by number, and how many arguments follow.
+    pub fn functor(&self, at: u32) -> (u32, u32)
+        requires { IsPlaceOf (text_in self.now) (Place.Sub at) }
+        ensures short { at < 2 ^ 32 - 1 }
+        ensures functor { (base : ℕ) → IsValueIn self.now (BindingCell.Compound at base) → HasFunctor (text_in self.now) self.now.now.next at base result.0 result.1 }
+    {
+        match self.heap.place(at as usize) {
+            Place::Functor(name, count) => (name, count),
+            _ => unreachable!(),
+        }
+    }
+
+    /// The argument at a place, with a number added to its variables.
+    pub fn argument(&self, at: u32, base: u32) -> BindingCell
+        requires { IsArgument (text_in self.now) self.now.now.next base at }
+        ensures term { value_term self.now result ≡ argument_at (text_in self.now) base at }
+        ensures there { IsValueIn self.now result }
+        ensures short { at < 2 ^ 32 - 1 }
+    {
+        match self.heap.place(at as usize) {
+            Place::Functor(_, _) => unreachable!(),
+            Place::Var(number) => BindingCell::Var(base + number as u32),
+            Place::Int(value) => BindingCell::Int(value),
+            Place::Atom(number) => BindingCell::Atom(number),
+            Place::Sub(place) => BindingCell::Compound(place as u32, base),
+        }
+    }
+
     /// A value that stands for the same and is no bound variable.
     pub fn dereference(&self, value: BindingCell) -> BindingCell
         requires { IsValueIn self.now value }
@@ -106,6 +142,17 @@ impl Store {
         }
         self.cells.bind(variable, value);
         Ok(())
+    }
+
+    /// Makes two values one by further bindings, or answers that none do. Where none do, or out of memory, some bindings may
+    /// be left: the store can be taken back to a mark.
+    pub fn unify(&mut self, a: BindingCell, b: BindingCell) -> Result<bool, NoMemory>
+        requires left { IsValueIn self.old a }
+        requires right { IsValueIn self.old b }
+        ensures unified { IfOk result (IsUnified a b self.old self.new) }
+        ensures kept { OnlyBinds self.old self.new }
+    {
+        unify(self.alloc, a, b, self)
     }
 
     /// Marks the state of the store, and gives the number of marks before.

@@ -1,5 +1,6 @@
 use Rattle.std.proofs.Common.{[], ◌≡◌, ◌∙◌, ◌<◌, ◌^◌, ap, ap₂, sym, subst, refl, length, append-nil, arith}
 use Rattle.std.specs.Arc.{arc_value}
+use Rattle.clause_compile.specs.AtomNumbers.{AreDistinct}
 use Rattle.clause_compile.specs.Places.{CodeView, AreSound}
 use Rattle.cell_store.specs.HeapView.{HeapView, text_of}
 use Rattle.cell_store.specs.StoreView.{IsConsistent, view_of, new_store}
@@ -9,12 +10,13 @@ use Rattle.cell_store.proofs.store.Store.new.Goals as goal
 pub invariant_of-result : goal.invariant_of-result
 invariant_of-result c =
     let program = arc_value c.args.program in
-    let text : AreSound (length program.names) program.places = subst (λ (p : CodeView). AreSound (length p.names) p.places) c.deref.ensures c.len.ensures.sound in
-    let count : c.len.result ≡ length program.places = c.len.ensures.count ∙ ap (λ (p : CodeView). length p.places) c.deref.ensures in
+    let text : AreSound (length program.names) program.places = subst (λ (p : CodeView). AreSound (length p.names) p.places) c.deref-2.ensures c.len.ensures.sound in
+    let count : c.len.result ≡ length program.places = c.len.ensures.count ∙ ap (λ (p : CodeView). length p.places) c.deref-2.ensures in
     let few : length program.places < 2 ^ 32 = let a = c.if-len.false in omega arith in
+    let apart : AreDistinct program.names = subst (λ (p : CodeView). AreDistinct p.names) c.deref.ensures c.names-names.ensures.distinct in
     subst (λ ms. IsConsistent (parts c.new.result c.new-2.result c.new-3.result.items ms)) (sym c.new-4.ensures.items)
     (subst (λ t. IsConsistent (parts c.new.result c.new-2.result t [])) (sym c.new-3.ensures.items)
-    (subst (λ cs. IsConsistent (parts c.new.result cs [] [])) (sym c.new-2.ensures) (new_parts program text few c.new.result (new_heap program c.new.result c.new.ensures))))
+    (subst (λ cs. IsConsistent (parts c.new.result cs [] [])) (sym c.new-2.ensures) (new_parts program text few apart c.new.result (new_heap program c.new.result c.new.ensures))))
 
 pub returns : goal.returns
 returns c =
