@@ -2,7 +2,9 @@
 ghost use Rattle.std.specs.Prelude.{◌≡◌, ◌-◌, ◌^◌, ◌<◌, ◌≤◌, ◌+◌, ◌++◌, ◌∷◌, [], ℕ, List, length, take, drop, IfOk, OnOk, OnErr};
 ghost use Rattle.std.specs.Arc.{arc_value};
 ghost use Rattle.au_model.specs.Terms.Each.{Each};
-ghost use Rattle.clause_compile.specs.Places.{IsPlaceOf};
+ghost use Rattle.au_term.specs.Term.{var_bound};
+ghost use Rattle.au_term.specs.Shifted.{shifted};
+ghost use Rattle.clause_compile.specs.Places.{IsPlaceOf, meaning_in};
 ghost use Rattle.cell_store.specs.Arguments.{HasFunctor, IsArgument, argument_at};
 ghost use Rattle.cell_store.specs.Undoing.{AreNested, freed};
 ghost use Rattle.cell_store.specs.UnificationSteps.{IsUnified, OnlyBinds};
@@ -104,6 +106,24 @@ impl Store {
         }
     }
 
+    /// What a place of the text means, with a number added to its variables.
+    pub fn value(&self, place: Place, base: u32) -> BindingCell
+        requires there { IsPlaceOf (text_in self.now) place }
+        requires below { var_bound (shifted base (meaning_in (text_in self.now) place)) ≤ self.now.now.next }
+        ensures term { value_term self.now result ≡ shifted base (meaning_in (text_in self.now) place) }
+        ensures there { IsValueIn self.now result }
+    {
+        // The proof reads off that numbers and places are small.
+        let _next = self.cells.len();
+        match place {
+            Place::Functor(_, _) => unreachable!(),
+            Place::Var(number) => BindingCell::Var(base + number as u32),
+            Place::Int(value) => BindingCell::Int(value),
+            Place::Atom(number) => BindingCell::Atom(number),
+            Place::Sub(at) => BindingCell::Compound(at as u32, base),
+        }
+    }
+
     /// The argument at a place, with a number added to its variables.
     pub fn argument(&self, at: u32, base: u32) -> BindingCell
         requires { IsArgument (text_in self.now) self.now.now.next base at }
@@ -111,13 +131,7 @@ impl Store {
         ensures there { IsValueIn self.now result }
         ensures short { at < 2 ^ 32 - 1 }
     {
-        match self.heap.place(at as usize) {
-            Place::Functor(_, _) => unreachable!(),
-            Place::Var(number) => BindingCell::Var(base + number as u32),
-            Place::Int(value) => BindingCell::Int(value),
-            Place::Atom(number) => BindingCell::Atom(number),
-            Place::Sub(place) => BindingCell::Compound(place as u32, base),
-        }
+        self.value(self.heap.place(at as usize), base)
     }
 
     /// A value that stands for the same and is no bound variable.
