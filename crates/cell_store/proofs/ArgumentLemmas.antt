@@ -85,7 +85,7 @@ opened code next at f n s e base v =
     let term : cell_term code (Compound at base) ≡ CompoundTerm (name_at code.names f) (terms_from (arguments_from code base n (at + 1))) =
     ap (shifted base) (deep (length code.places) within (omega arith) stand.1)
     ∙ (ap (CompoundTerm (name_at code.names f)) (shifted_list base (meaning_in code) args) ∙ ap (λ ts. CompoundTerm (name_at code.names f) (terms_from ts)) (sym (taken_from code base n (at + 1) enough))) in
-    record { named = begins.0; arguments = argument_bounds next base code n (at + 1) s enough places (subst (λ t. var_bound t ≤ next) term v.1); term = term }
+    record { named = begins.0; arity = stand.2; arguments = argument_bounds next base code n (at + 1) s enough places (subst (λ t. var_bound t ≤ next) term v.1); term = term }
   where
     all_of : (ps : List Place) → Each (IsPlaceBefore (length code.names) code.places at) ps → Each (IsPlaceOf code) ps
     all_of [] b = tt

@@ -10,3 +10,4 @@ pub mod ArgumentLemmas
 pub mod WalkLemmas
 pub mod UnificationLemmas
 pub mod RuleLemmas
+pub mod WritingLemmas

@@ -16,7 +16,7 @@ use Rattle.binding_array.specs.declared.cell.BindingCell.TheVariants.{Free, Var,
 use Rattle.cell_store.specs.Values.{IsValue, IsNoVariable}
 use Rattle.cell_store.specs.StoreView.{StoreView, substitution, meaning, value_term, text_in, IsValueIn, BindsFurther}
 use Rattle.cell_store.specs.Arguments.{argument_at, arguments_from, arguments_in, AreArguments, HasFunctor, AreThere, resolved_terms}
-use Rattle.cell_store.specs.UnificationSteps.{paired, equations_in, AreEquations, pending_equations, AllEquations, FollowsRule, after_same, after_binding, after_opening, after_none, TakesRule, IsBoundOr, HasRestEquations, KeepsRestEquations}
+use Rattle.cell_store.specs.UnificationSteps.{paired, equations_in, AreEquations, pending_equations, AllEquations, FollowsRule, after_same, after_binding, after_opening, TakesRule, IsBoundOr, HasRestEquations, KeepsRestEquations}
 use Rattle.cell_store.specs.declared.arguments.Arguments.{Arguments}
 use Rattle.cell_store.specs.declared.arguments.Equations.{Equations as ArgumentEquations}
 use Rattle.cell_store.proofs.CellMeaningLemmas.{IsCompound, compound, means_compound}
@@ -146,9 +146,10 @@ module _ (st : StoreView) (at base f m to over g n : ℕ) (left : HasFunctor (te
       same : (count ts == count us) ≡ true
       same = let l = how_many s code base m (at + 1) in let r = how_many s code over n (to + 1) in grind (arith, nat_tests)
 
-  pub opened_some : (x y : Arguments) (e : ArgumentEquations) (es fs : List ArgumentEquations) → pointwise nat_eq (name_at code.names f) (name_at code.names g) ≡ true → m ≡ n → 0 < m → x ≡ record { at = at + 1; base = base; count = m } → y ≡ record { at = to + 1; base = over; count = n } → e ≡ record { left = x; right = y } → fs ≡ es ++ e ∷ []
+  pub opened_some : (x y : Arguments) (e : ArgumentEquations) (es fs : List ArgumentEquations) → pointwise nat_eq (name_at code.names f) (name_at code.names g) ≡ true → m ≡ n → x ≡ record { at = at + 1; base = base; count = m } → y ≡ record { at = to + 1; base = over; count = n } → e ≡ record { left = x; right = y } → fs ≡ es ++ e ∷ []
       → FollowsRule st st a b es fs
-  opened_some x y e es fs h q p l r k j =
+  opened_some x y e es fs h q l r k j =
+      let p = left.arity.0 in
       let lefts : e.left ≡ record { at = at + 1; base = base; count = m } = ap (λ (z : ArgumentEquations). z.left) k ∙ l in
       let rights : e.right ≡ record { at = to + 1; base = over; count = n } = ap (λ (z : ArgumentEquations). z.right) k ∙ r in
       let listed : equations_in code e ≡ paired (arguments_from code base m (at + 1)) (arguments_from code over n (to + 1)) = ap₂ (λ u v. paired (arguments_in code u) (arguments_in code v)) lefts rights in

@@ -20,7 +20,7 @@ use Rattle.clause_compile.specs.Places.{CodeView}
 use Rattle.binding_array.specs.declared.cell.BindingCell.{BindingCell}
 use Rattle.cell_store.specs.Arguments.{argument_at}
 use Rattle.cell_store.specs.StoreView.{StoreView, substitution, meaning, value_term, text_in, with_substitution, IsComposition, BindsFurther}
-use Rattle.cell_store.specs.UnificationSteps.{paired, equations_in, AreEquations, pending_equations, AllEquations, FollowsRule, after_same, after_binding, after_opening, after_none, HasRestEquations, KeepsRestEquations, TakesRule, OnlyBinds, AreUnified, IsUnified}
+use Rattle.cell_store.specs.UnificationSteps.{paired, equations_in, AreEquations, pending_equations, AllEquations, FollowsRule, after_same, after_binding, after_opening, HasRestEquations, KeepsRestEquations, TakesRule, OnlyBinds, AreUnified, IsUnified}
 use Rattle.cell_store.specs.declared.arguments.Equations.{Equations as ArgumentEquations}
 use Rattle.cell_store.proofs.WalkLemmas.{turned}
 
@@ -190,8 +190,6 @@ module _ (eqs : Equations) (first st : StoreView) (a b : Term) (es : List Argume
   pub follows : (new : StoreView) (fs : List ArgumentEquations) → FollowsRule st new a b es fs → GoesOn eqs first st new before (reverse fs)
   follows new fs (after_same e n f) =
       subst (λ v. GoesOn eqs first st v before (reverse fs)) (sym n) (subst (λ gs. GoesOn eqs first st st before (reverse gs)) (sym f) (unchanged rest (reverse es) (same_goes eqs (substitution first) (substitution st) a b rest u e) refl there))
-  follows new fs (after_none k n f) =
-      subst (λ v. GoesOn eqs first st v before (reverse fs)) (sym n) (subst (λ gs. GoesOn eqs first st st before (reverse gs)) (sym f) (unchanged rest (reverse es) (opening_goes eqs (substitution first) (substitution st) a b rest u [] k) refl there))
   follows new fs (after_binding x t k f g) = subst (λ gs. GoesOn eqs first st new before (reverse gs)) (sym g) (rebound new x t k f)
   follows new fs (after_opening e k t n f) =
       let opened = resolved_equations (substitution st) (equations_in (text_in st) e) in

@@ -25,7 +25,7 @@ any_list : (x : ℕ) (ts : List Term) → occurs_in x (terms_from ts) ≡ occurs
 any_list x [] = refl
 any_list x (t ∷ ts) = ap (λ b. occurs x t || b) (any_list x ts)
 
-size_list : (ts : List Term) → size_all (terms_from ts) ≡ sizes ts
+pub size_list : (ts : List Term) → size_all (terms_from ts) ≡ sizes ts
 size_list [] = refl
 size_list (t ∷ ts) = ap (λ n. size t + n) (size_list ts)
 
@@ -37,7 +37,7 @@ any_append : (x : ℕ) (ts us : List Term) → occurs_in_any x (ts ++ us) ≡ (o
 any_append x [] us = refl
 any_append x (t ∷ ts) us = ap (λ b. occurs x t || b) (any_append x ts us) ∙ sym (or_assoc (occurs x t) (occurs_in_any x ts) (occurs_in_any x us))
 
-sizes_append : (ts us : List Term) → sizes (ts ++ us) ≡ sizes ts + sizes us
+pub sizes_append : (ts us : List Term) → sizes (ts ++ us) ≡ sizes ts + sizes us
 sizes_append [] us = omega arith
 sizes_append (t ∷ ts) us = omega (arith, sizes_append ts us)
 
@@ -66,22 +66,13 @@ goes_past x s code next t pending now o p e = record {
 }
 
 -- arguments on top
-pub opened_some : (code : CodeView) (next at base f n : ℕ) (a : Arguments) (old : List Arguments) → a ≡ record { at = at + 1; base = base; count = n } → 0 < n → HasFunctor code next at base f n → HasOpened code next at base old (a ∷ old)
-opened_some code next at base f n a old e p h = record {
+pub opened_some : (code : CodeView) (next at base f n : ℕ) (a : Arguments) (old : List Arguments) → a ≡ record { at = at + 1; base = base; count = n } → HasFunctor code next at base f n → HasOpened code next at base old (a ∷ old)
+opened_some code next at base f n a old e h = record {
   name = name_at code.names f;
   arguments = arguments_from code base n (at + 1);
   term = h.term;
   pending = ap (λ (b : Arguments). arguments_in code b ++ pending_terms code old) e;
-  there = λ k. (subst (AreThere code next) (sym e) (p, h.arguments), k);
-}
-
-pub opened_none : (code : CodeView) (next at base f n : ℕ) (old : List Arguments) → n ≡ 0 → HasFunctor code next at base f n → HasOpened code next at base old old
-opened_none code next at base f n old e h = record {
-  name = name_at code.names f;
-  arguments = [];
-  term = h.term ∙ ap (λ k. CompoundTerm (name_at code.names f) (terms_from (arguments_from code base k (at + 1)))) e;
-  pending = refl;
-  there = λ k. k;
+  there = λ k. (subst (AreThere code next) (sym e) (h.arity.0, h.arguments), k);
 }
 
 -- all but the first

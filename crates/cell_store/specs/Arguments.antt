@@ -6,7 +6,7 @@ use Rattle.au_model.specs.Terms.Lists.{terms_from}
 use Rattle.au_model.specs.Terms.Substitutions.{Substitution, resolve, occurs}
 use Rattle.au_model.specs.Terms.Unifier.{size}
 use Rattle.clause_compile.specs.AtomNumbers.{name_at}
-use Rattle.clause_compile.specs.Places.{CodeView, IsPlaceOf, meaning_in}
+use Rattle.clause_compile.specs.Places.{CodeView, IsArity, IsPlaceOf, meaning_in}
 use Rattle.clause_compile.specs.declared.place.Place.{Place}
 use Rattle.clause_compile.specs.declared.place.Place.TheVariants.{Var as VarPlace}
 use Rattle.binding_array.specs.Represented.{cell_term}
@@ -38,6 +38,7 @@ AreArguments code next base (suc n) at = IsArgument code next base at × AreArgu
 -- the compound at a place has this functor
 pub record HasFunctor (code : CodeView) (next at base f n : ℕ) : Type 0 where
   pub named : f < length code.names
+  pub arity : IsArity n
   pub arguments : AreArguments code next base n (at + 1)
   pub term : cell_term code (Compound at base) ≡ CompoundTerm (name_at code.names f) (terms_from (arguments_from code base n (at + 1)))
 

@@ -5,3 +5,4 @@ pub mod Undoing
 pub mod StoreView
 pub mod Arguments
 pub mod UnificationSteps
+pub mod WrittenTerms

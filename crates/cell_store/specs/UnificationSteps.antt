@@ -38,7 +38,6 @@ pub data FollowsRule (old new : StoreView) (a b : Term) (es fs : List ArgumentEq
   after_same : a ≡ b → new ≡ old → fs ≡ es → FollowsRule old new a b es fs
   after_binding : (x : ℕ) (t : Term) → rule a b ≡ Replaced x t → BindsFurther old new ((x, t) ∷ []) → fs ≡ es → FollowsRule old new a b es fs
   after_opening : (e : ArgumentEquations) → rule a b ≡ Opened (resolved_equations (substitution old) (equations_in (text_in old) e)) → AreEquations (text_in old) old.now.next e → new ≡ old → fs ≡ es ++ e ∷ [] → FollowsRule old new a b es fs
-  after_none : rule a b ≡ Opened [] → new ≡ old → fs ≡ es → FollowsRule old new a b es fs
 
 -- a variable was bound to a term, unless it occurs in it
 abbrev pub IsBoundOr : ℕ → Term → StoreView → StoreView → Bool → Type 0

@@ -12,6 +12,7 @@ mod arguments;
 mod heap;
 mod mark;
 mod occurs;
+mod resolved;
 mod store;
 mod unify;
 

@@ -55,7 +55,7 @@ fn is_found(
 }
 
 /// Puts the arguments of the compound at a place on top.
-fn push_arguments(
+pub(crate) fn push_arguments(
     at: u32,
     base: u32,
     store: &Store,
@@ -65,15 +65,13 @@ fn push_arguments(
     ensures { OnOk result (HasOpened (text_in store.now) store.now.now.next at base (reverse pending.old.items) (reverse pending.new.items)) }
 {
     let (_name, count) = store.functor(at);
-    if count > 0 {
-        let at = at + 1;
-        pending.push(Arguments { at, base, count })?;
-    }
+    let at = at + 1;
+    pending.push(Arguments { at, base, count })?;
     Ok(())
 }
 
 /// Puts arguments but for the first on top.
-fn push_rest(arguments: Arguments, pending: &mut Vec<Arguments>) -> Result<(), NoMemory>
+pub(crate) fn push_rest(arguments: Arguments, pending: &mut Vec<Arguments>) -> Result<(), NoMemory>
     requires some { 0 < arguments.count }
     requires short { arguments.at < 2 ^ 32 - 1 }
     ensures { OnOk result (KeepsRest arguments (reverse pending.old.items) (reverse pending.new.items)) }

@@ -4,6 +4,7 @@ ghost use Rattle.std.specs.Arc.{arc_value};
 ghost use Rattle.au_model.specs.Terms.Each.{Each};
 ghost use Rattle.au_term.specs.Term.{var_bound};
 ghost use Rattle.au_term.specs.Shifted.{shifted};
+ghost use Rattle.clause_compile.specs.AtomNumbers.{name_at};
 ghost use Rattle.clause_compile.specs.Places.{IsPlaceOf, meaning_in};
 ghost use Rattle.cell_store.specs.Arguments.{HasFunctor, IsArgument, argument_at};
 ghost use Rattle.cell_store.specs.Undoing.{AreNested, freed};
@@ -12,8 +13,9 @@ ghost use Rattle.cell_store.specs.StoreView.{Moment, IsValidStore, IsValueIn, Is
 
 use crate::heap::Heap;
 use crate::mark::Mark;
+use crate::resolved::resolved;
 use crate::unify::unify;
-use au_term::NoMemory;
+use au_term::{Atom, FlatTerm, NoMemory};
 use binding_array::{BindingArray, BindingCell};
 use clause_compile::{Code, Place};
 use std::alloc::Global;
@@ -94,6 +96,14 @@ impl Store {
         Ok(first)
     }
 
+    /// The name with a number.
+    pub fn name(&self, number: u32) -> &Atom
+        requires { number < length (text_in self.now).names }
+        ensures { result.now ≡ name_at (text_in self.entry.now).names number }
+    {
+        self.heap.name(number)
+    }
+
     /// The functor of the compound at a place: its name, by number, and how many arguments follow.
     pub fn functor(&self, at: u32) -> (u32, u32)
         requires { IsPlaceOf (text_in self.now) (Place.Sub at) }
@@ -167,6 +177,14 @@ impl Store {
         ensures kept { OnlyBinds self.old self.new }
     {
         unify(self.alloc, a, b, self)
+    }
+
+    /// The term that a value stands for.
+    pub fn resolve(&self, value: BindingCell) -> Result<FlatTerm, NoMemory>
+        requires { IsValueIn self.now value }
+        ensures { IfOk result (λ t. t ≡ meaning self.now value) }
+    {
+        resolved(self.alloc, value, self)
     }
 
     /// Marks the state of the store, and gives the number of marks before.

@@ -162,12 +162,10 @@ fn compounds_go(
     if count != others || !are_same(name, other, store) {
         return Ok(false);
     }
-    if count > 0 {
-        pending.push(Equations {
-            left: arguments(left, count),
-            right: arguments(right, count),
-        })?;
-    }
+    pending.push(Equations {
+        left: arguments(left, count),
+        right: arguments(right, count),
+    })?;
     Ok(true)
 }
 
