@@ -4,7 +4,9 @@ pub mod CellMeaningLemmas
 pub mod SubstitutionLemmas
 pub mod UndoingLemmas
 pub mod StoreLemmas
+pub mod AddedTextLemmas
 pub mod HeapLemmas
+pub mod HeapGrowthLemmas
 pub mod DereferenceLemmas
 pub mod ArgumentLemmas
 pub mod WalkLemmas

@@ -4,7 +4,7 @@ use Rattle.au_term.specs.Term.{Term, VarTerm, var_bound}
 use Rattle.au_model.specs.Terms.Each.{Each}
 use Rattle.au_model.specs.Terms.Substitutions.{Substitution, apply, value_of, resolve, only, occurs}
 use Rattle.clause_compile.specs.AtomNumbers.{AreDistinct}
-use Rattle.clause_compile.specs.Places.{CodeView}
+use Rattle.clause_compile.specs.Places.{CodeView, Keeps}
 use Rattle.clause_compile.specs.declared.place.Place.{Place}
 use Rattle.binding_array.specs.Represented.{cell_term, IsFalling}
 use Rattle.binding_array.specs.declared.cell.BindingCell.{BindingCell}
@@ -135,3 +135,12 @@ pub record IsValidStore (st : StoreView) : Type 0 where
   pub new : (n : ℕ) → st.now.next ≤ n → value_of (substitution st) n ≡ VarTerm n
   pub below : (n : ℕ) → n < st.now.next → var_bound (value_of (substitution st) n) ≤ st.now.next
   pub final : (n : ℕ) → resolve (substitution st) (value_of (substitution st) n) ≡ value_of (substitution st) n
+
+-- terms were made: what was there is there and means the same, and all else is as it was
+pub record AddsText (old new : StoreView) : Type 0 where
+  pub keeps : Keeps (text_in old) (text_in new)
+  pub values : (c : BindingCell) → IsValueIn old c → IsValueIn new c × (value_term new c ≡ value_term old c)
+  pub program : new.program ≡ old.program
+  pub bound : substitution new ≡ substitution old
+  pub next : new.now.next ≡ old.now.next
+  pub marks : new.marks ≡ old.marks

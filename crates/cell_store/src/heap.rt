@@ -1,11 +1,14 @@
 //! The heap: a program's text, with what was made behind it.
-ghost use Rattle.std.specs.Prelude.{◌≡◌, ◌<◌, ◌+◌, ◌∷◌, [], length, drop};
+ghost use Rattle.std.specs.Prelude.{◌≡◌, ◌<◌, ◌≤◌, ◌+◌, ◌^◌, ◌∷◌, [], ◌++◌, IfOk, OnOk, length, drop};
 ghost use Rattle.std.specs.Arc.{arc_value};
+ghost use Rattle.au_term.specs.PrefixOrder.{arity, cell_bound, IsValidCell};
+ghost use Rattle.au_term.specs.Shifted.{shifted_cell};
 ghost use Rattle.clause_compile.specs.AtomNumbers.{name_at};
-ghost use Rattle.cell_store.specs.HeapView.{text_of, cut_heap};
+ghost use Rattle.clause_compile.specs.Places.{IsArity, IsPlaced, AddsCell, ArePlacesOf};
+ghost use Rattle.cell_store.specs.HeapView.{text_of, cut_heap, IsSoundHeap, GrowsHeap, IsNumberedIn};
 
-use au_term::{Atom, NoMemory};
-use clause_compile::{AtomNumbers, Code, Place};
+use au_term::{Atom, Cell, NoMemory, Shared, VarNo};
+use clause_compile::{AtomNumbers, Code, Place, push_block};
 use std::alloc::Global;
 use std::marker::Model;
 use std::sync::Arc;
@@ -72,10 +75,119 @@ impl Heap {
         }
     }
 
+    /// Adds a term, and gives the place that means it.
+    pub(crate) fn push_term(&mut self, alloc: Global, term: &Shared) -> Result<Place, NoMemory>
+        requires { IsSoundHeap self.old }
+        ensures placed { IfOk result (IsPlaced (text_of self.old) (text_of self.new) term.now) }
+        ensures grown { GrowsHeap self.old self.new }
+    {
+        let mut stack = Vec::new(alloc);
+        let mut left = term.len();
+        while left > 0 {
+            left -= 1;
+            let (cell, base) = term.cell_at(left);
+            self.push_cell(cell, base, &mut stack)?;
+        }
+        match stack.pop() {
+            Some(place) => Ok(place),
+            None => unreachable!(),
+        }
+    }
+
+    /// Adds a cell, with a number added to its variable, before those that were added; the places of its arguments are taken
+    /// from the stack, and its own put there.
+    fn push_cell(
+        &mut self,
+        cell: &Cell,
+        base: VarNo,
+        stack: &mut Vec<Place>,
+    ) -> Result<(), NoMemory>
+        requires heap { IsSoundHeap self.old }
+        requires sound { IsValidCell cell.now }
+        requires fits { base + cell_bound cell.now < 2 ^ 64 }
+        requires enough { arity cell.now ≤ length stack.old.items }
+        requires stand { ArePlacesOf (text_of self.old) stack.old.items }
+        ensures added { OnOk result (AddsCell (text_of self.old) (text_of self.new) (shifted_cell base cell.now) stack.old.items stack.new.items) }
+        ensures grown { GrowsHeap self.old self.new }
+    {
+        match cell {
+            Cell::Var(number) => put(Place::Var(base + *number), stack),
+            Cell::Int(value) => put(integer(value), stack),
+            Cell::Atom(name) => {
+                let number = self.number(name)?;
+                put(Place::Atom(number), stack)
+            }
+            Cell::Functor(name, count) => self.push_compound(name, *count, stack),
+        }
+    }
+
+    /// Adds a compound, whose arguments' places are taken from the stack.
+    fn push_compound(
+        &mut self,
+        name: &Atom,
+        count: u32,
+        stack: &mut Vec<Place>,
+    ) -> Result<(), NoMemory>
+        requires heap { IsSoundHeap self.old }
+        requires arity { IsArity count }
+        requires enough { count ≤ length stack.old.items }
+        requires stand { ArePlacesOf (text_of self.old) stack.old.items }
+        ensures added { OnOk result (AddsCell (text_of self.old) (text_of self.new) (Cell.Functor name.now count) stack.old.items stack.new.items) }
+        ensures grown { GrowsHeap self.old self.new }
+    {
+        let number = self.number(name)?;
+        let made = self.made.len();
+        let at = self.program.len() + made;
+        if at + count as usize >= u32::MAX as usize {
+            return Err(NoMemory);
+        }
+        if let Err(error) = push_block(number, count, stack, &mut self.made) {
+            self.made.truncate(made);
+            return Err(error);
+        }
+        put(Place::Sub(at), stack)
+    }
+
+    /// The number of a name, which gets the next one where it has none.
+    fn number(&mut self, name: &Atom) -> Result<u32, NoMemory>
+        requires { IsSoundHeap self.old }
+        ensures numbered { IfOk result (IsNumberedIn self.old self.new name.now) }
+        ensures grown { GrowsHeap self.old self.new }
+    {
+        if let Some(number) = self.program.find(name) {
+            return Ok(number);
+        }
+        let number = self.names.number(name)?;
+        // The proof reads off that no two of the added names are the same.
+        let _names = self.names.len();
+        let Ok(program) = u32::try_from(self.program.names()) else {
+            return Err(NoMemory);
+        };
+        let Some(number) = program.checked_add(number) else {
+            return Err(NoMemory);
+        };
+        Ok(number)
+    }
+
     /// Takes away the places that were added after so many.
     pub(crate) fn cut_to(&mut self, made: usize)
         ensures { self.new ≡ cut_heap made self.old }
     {
         self.made.truncate(made);
     }
+}
+
+/// Puts a place on the stack.
+fn put(place: Place, stack: &mut Vec<Place>) -> Result<(), NoMemory>
+    ensures { OnOk result (stack.new.items ≡ stack.old.items ++ place ∷ []) }
+{
+    stack.push(place)?;
+    Ok(())
+}
+
+/// The place of an integer.
+fn integer(value: &i64) -> Place
+    ensures { result ≡ Place.Int value.now }
+{
+    Place::Int(*value)
 }

@@ -9,13 +9,13 @@ ghost use Rattle.clause_compile.specs.Places.{IsPlaceOf, meaning_in};
 ghost use Rattle.cell_store.specs.Arguments.{HasFunctor, IsArgument, argument_at};
 ghost use Rattle.cell_store.specs.Undoing.{AreNested, freed};
 ghost use Rattle.cell_store.specs.UnificationSteps.{IsUnified, OnlyBinds};
-ghost use Rattle.cell_store.specs.StoreView.{Moment, IsValidStore, IsValueIn, IsDereferenced, CanBeBound, BindsFurther, meaning, text_in, value_term, new_store, with_numbers, with_mark, with_marks, taken_back};
+ghost use Rattle.cell_store.specs.StoreView.{Moment, IsValidStore, IsValueIn, IsDereferenced, CanBeBound, BindsFurther, AddsText, meaning, text_in, value_term, new_store, with_numbers, with_mark, with_marks, taken_back};
 
 use crate::heap::Heap;
 use crate::mark::Mark;
 use crate::resolved::resolved;
 use crate::unify::unify;
-use au_term::{Atom, FlatTerm, NoMemory};
+use au_term::{Atom, FlatTerm, NoMemory, Shared};
 use binding_array::{BindingArray, BindingCell};
 use clause_compile::{Code, Place};
 use std::alloc::Global;
@@ -177,6 +177,17 @@ impl Store {
         ensures kept { OnlyBinds self.old self.new }
     {
         unify(self.alloc, a, b, self)
+    }
+
+    /// The value that a term is: it is put into the heap.
+    pub fn copy_in(&mut self, term: &Shared) -> Result<BindingCell, NoMemory>
+        requires { var_bound term.now ≤ self.old.now.next }
+        ensures there { IfOk result (IsValueIn self.new) }
+        ensures term { IfOk result (λ value. value_term self.new value ≡ term.now) }
+        ensures others { AddsText self.old self.new }
+    {
+        let place = self.heap.push_term(self.alloc, term)?;
+        Ok(self.value(place, 0))
     }
 
     /// The term that a value stands for.

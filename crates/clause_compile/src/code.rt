@@ -199,7 +199,7 @@ fn put(place: Place, stack: &mut Vec<Place>) -> Result<(), NoMemory>
 }
 
 /// Adds a functor and so many places of the stack, the topmost first.
-fn push_block(
+pub fn push_block(
     number: u32,
     count: u32,
     stack: &mut Vec<Place>,

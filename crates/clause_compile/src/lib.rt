@@ -15,7 +15,7 @@ mod tests;
 
 pub use atom_numbers::AtomNumbers;
 pub use clause::{Clause, ClauseRefusal, Part, body_goals, compile};
-pub use code::{ClausePlaces, Code};
+pub use code::{ClausePlaces, Code, push_block};
 pub use event::{Branch, Effect, GateKind, Opening};
 pub use goal_list::{GoalItems, Goals};
 pub use item::{ClauseId, Item, Scope};
