@@ -1,16 +1,15 @@
 -- Terms that are made while a store goes on.
-use Rattle.std.proofs.Common.{append-nil, ◌≡◌, ℕ, ◌+◌, ◌<◌, ◌≤◌, List, [], ◌∷◌, ◌++◌, length, length-append, take, map, refl, sym, ap, ap₂, ◌∙◌, subst, arith}
+use Rattle.std.proofs.Common.{append-nil, ◌≡◌, ℕ, ◌≤◌, List, [], ◌++◌, length, length-append, take, refl, sym, ap, ap₂, ◌∙◌, subst, arith}
 use Rattle.std.proofs.lemmas.List.{take-append-le}
 use Rattle.au_model.specs.Terms.Each.{Each}
 use Rattle.au_model.proofs.EachLemmas.{each-more}
 use Rattle.clause_compile.specs.Places.{CodeView, AreSound, Keeps}
-use Rattle.clause_compile.specs.declared.place.Place.{Place}
 use Rattle.clause_compile.proofs.PlaceMeaningLemmas.{added_keeps}
 use Rattle.clause_compile.proofs.CodeLemmas.{names_sound}
 use Rattle.binding_array.specs.declared.cell.BindingCell.{BindingCell}
 use Rattle.cell_store.specs.HeapView.{HeapView, text_of, cut_heap, IsSoundHeap, GrowsHeap}
 use Rattle.cell_store.specs.Undoing.{undone, Parts, IsWithin}
-use Rattle.cell_store.specs.StoreView.{Moment, StoreView, moment_at, view_of, IsConsistentAt, IsConsistent, AddsText}
+use Rattle.cell_store.specs.StoreView.{Moment, moment_at, view_of, IsConsistentAt, IsConsistent, AddsText}
 use Rattle.cell_store.specs.declared.mark.Mark.{Mark}
 use Rattle.cell_store.proofs.SubstitutionLemmas.{value_kept, substitution_kept, consistent_kept}
 use Rattle.cell_store.proofs.UndoingLemmas.{each-both, map-same}

@@ -1,7 +1,7 @@
 -- What compounds' places hold.
-use Rattle.std.proofs.Common.{◌≡◌, ℕ, zero, suc, ◌+◌, ◌<◌, ◌≤◌, ◌^◌, max, List, [], ◌∷◌, length, take, drop, get_or, map, refl, sym, ap, ap₂, ◌∙◌, subst, arith}
+use Rattle.std.proofs.Common.{◌≡◌, ℕ, zero, suc, ◌+◌, ◌<◌, ◌≤◌, List, [], ◌∷◌, length, take, drop, get_or, map, refl, sym, ap, ap₂, ◌∙◌, subst, arith}
 use Rattle.std.proofs.lemmas.List.{length-drop}
-use Rattle.au_term.specs.Term.{Term, VarTerm, IntTerm, AtomTerm, Compound as CompoundTerm, Terms, end, more, var_bound, all_bound}
+use Rattle.au_term.specs.Term.{Term, Compound as CompoundTerm, more, var_bound, all_bound}
 use Rattle.au_term.specs.Shifted.{shifted, all_shifted}
 use Rattle.au_model.specs.Terms.Each.{Each}
 use Rattle.au_model.specs.Terms.Lists.{terms_from}
@@ -9,12 +9,11 @@ use Rattle.clause_compile.specs.AtomNumbers.{name_at}
 use Rattle.clause_compile.specs.Places.{CodeView, AreSound, StandBefore, BeginsCompound, IsPlaceBefore, IsPlaceOf, place_meaning, compound_to, compound_here, meaning_in}
 use Rattle.clause_compile.specs.declared.place.Place.{Place}
 use Rattle.clause_compile.specs.declared.place.Place.TheVariants.{Functor, Var as VarPlace, Int as IntPlace, Atom as AtomPlace, Sub}
-use Rattle.clause_compile.proofs.PlaceMeaningLemmas.{deep_same, begins_within}
+use Rattle.clause_compile.proofs.PlaceMeaningLemmas.{deep_same}
 use Rattle.binding_array.specs.Represented.{cell_term}
-use Rattle.binding_array.specs.declared.cell.BindingCell.{BindingCell}
-use Rattle.binding_array.specs.declared.cell.BindingCell.TheVariants.{Free, Var, Int, Atom, Compound}
+use Rattle.binding_array.specs.declared.cell.BindingCell.TheVariants.{Compound}
 use Rattle.cell_store.specs.Values.{IsValue}
-use Rattle.cell_store.specs.Arguments.{place_at, argument_at, arguments_from, IsArgument, AreArguments, HasFunctor}
+use Rattle.cell_store.specs.Arguments.{place_at, arguments_from, AreArguments, HasFunctor}
 
 -- a place that was read
 pub place_read : (code : CodeView) (at : ℕ) (p : Place) → drop at code.places ≡ p ∷ drop (at + 1) code.places → place_at code at ≡ p

@@ -1,15 +1,12 @@
 -- The substitution that cells represent is the one that is read off them.
-use Rattle.std.proofs.Common.{◌≡◌, ℕ, zero, suc, ◌+◌, ◌<◌, ◌≤◌, Bool, true, false, cond, nat_lt, ◌==◌, List, [], ◌∷◌, length, refl, sym, ap, ◌∙◌, subst, arith}
-use Rattle.std.proofs.lemmas.Bool.Decides.{nat_tests}
+use Rattle.std.proofs.Common.{◌≡◌, ℕ, zero, suc, ◌<◌, ◌≤◌, true, nat_lt, List, [], ◌∷◌, length, refl, sym, ap, ◌∙◌, subst, arith}
 use Rattle.std.proofs.lemmas.Bool.{eqb-true}
-use Rattle.au_term.specs.Term.{Term, VarTerm, IntTerm, AtomTerm, Compound as CompoundTerm, Terms, end, more, var_bound}
+use Rattle.au_term.specs.Term.{Term, VarTerm, Compound as CompoundTerm, Terms, var_bound}
 use Rattle.au_term.specs.Shifted.{shifted, all_shifted}
-use Rattle.au_model.specs.Terms.Substitutions.{Substitution, apply, apply_all, value_of, resolve, occurs, occurs_in}
-use Rattle.au_model.specs.Terms.Unifier.{size, size_all}
-use Rattle.au_term.proofs.LogicLemmas.{number_same}
-use Rattle.au_model.proofs.ApplyLemmas.{apply-same, apply-apply, size_all-occurs}
-use Rattle.clause_compile.specs.AtomNumbers.{name_at}
-use Rattle.clause_compile.specs.Places.{CodeView, BeginsCompound, IsPlaceOf, compound_here, compound_to, place_meaning, meaning_in, AreSound}
+use Rattle.au_model.specs.Terms.Substitutions.{Substitution, apply, value_of, resolve, occurs}
+use Rattle.au_model.specs.Terms.Unifier.{size}
+use Rattle.au_model.proofs.ApplyLemmas.{apply-apply, size_all-occurs}
+use Rattle.clause_compile.specs.Places.{CodeView, BeginsCompound, IsPlaceOf, compound_here, compound_to, meaning_in}
 use Rattle.clause_compile.specs.declared.place.Place.{Place}
 use Rattle.clause_compile.specs.declared.place.Place.TheVariants.{Functor, Var as VarPlace, Int as IntPlace, Atom as AtomPlace, Sub}
 use Rattle.binding_array.specs.Represented.{variable_cell, cell_term, IsBoundCell, IsFalling, AreFalling, CellStandsFor, Represents}
@@ -17,8 +14,8 @@ use Rattle.binding_array.specs.declared.cell.BindingCell.{BindingCell}
 use Rattle.binding_array.specs.declared.cell.BindingCell.TheVariants.{Free, Var, Int, Atom, Compound}
 use Rattle.binding_array.proofs.RepresentedLemmas.{stood}
 use Rattle.cell_store.specs.Values.{IsValue, IsCell, AreCells}
-use Rattle.cell_store.specs.CellMeanings.{value_by, value_to, with_value, values_below, substitution_in, AreConsistent}
-use Rattle.cell_store.proofs.OccurrenceLemmas.{agreed, kept_below, occurs_below}
+use Rattle.cell_store.specs.CellMeanings.{value_by, value_to}
+use Rattle.cell_store.proofs.OccurrenceLemmas.{agreed, occurs_below}
 use Rattle.cell_store.proofs.CountLemmas.{rank, rank-lt, tally-within, smaller_first, lower_first, place_by_size}
 
 -- a compound

@@ -1,14 +1,13 @@
 -- Where chains of variables lead.
-use Rattle.std.proofs.Common.{◌≡◌, ◌<◌, ℕ, List, length, refl, sym, ap, ◌∙◌, subst, arith}
-use Rattle.au_term.specs.Term.{VarTerm}
+use Rattle.std.proofs.Common.{◌≡◌, ◌<◌, ℕ, length, sym, ap, ◌∙◌, subst}
 use Rattle.au_model.specs.Terms.Substitutions.{Substitution, value_of, resolve}
 use Rattle.clause_compile.specs.Places.{CodeView}
-use Rattle.binding_array.specs.Represented.{variable_cell, cell_term, Represents, IsFollowed, IsStored}
+use Rattle.binding_array.specs.Represented.{cell_term, Represents, IsFollowed, IsStored}
 use Rattle.binding_array.specs.declared.cell.BindingCell.{BindingCell}
 use Rattle.binding_array.specs.declared.cell.BindingCell.TheVariants.{Free, Var, Int, Atom, Compound}
 use Rattle.cell_store.specs.HeapView.{text_of}
-use Rattle.cell_store.specs.Values.{IsValue, IsCell, AreCells}
-use Rattle.cell_store.specs.CellMeanings.{substitution_in, AreConsistent}
+use Rattle.cell_store.specs.Values.{IsCell}
+use Rattle.cell_store.specs.CellMeanings.{substitution_in}
 use Rattle.cell_store.specs.Undoing.{Parts}
 use Rattle.cell_store.specs.StoreView.{view_of, IsConsistent, IsUnbound, IsValueIn, IsDereferenced}
 use Rattle.cell_store.proofs.CellMeaningLemmas.{free_stands}

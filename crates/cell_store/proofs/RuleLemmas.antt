@@ -1,22 +1,21 @@
 -- The rule for two values.
-use Rattle.std.proofs.Common.{◌≡◌, ℕ, ℤ, zero, suc, ◌+◌, ◌-◌, ◌<◌, ◌≤◌, List, [], ◌∷◌, ◌++◌, length, Bool, true, false, ◌&&◌, cond, ◌==◌, nat_eq, nat_lt, reverse, refl, sym, ap, ap₂, ◌∙◌, subst, arith}
+use Rattle.std.proofs.Common.{◌≡◌, ℕ, ℤ, zero, suc, ◌+◌, ◌-◌, ◌<◌, List, [], ◌∷◌, ◌++◌, Bool, true, false, ◌&&◌, cond, ◌==◌, nat_eq, nat_lt, reverse, refl, sym, ap, ap₂, ◌∙◌, subst, arith}
 use Rattle.std.specs.Cmp.Lexicographic.{pointwise}
 use Rattle.std.proofs.lemmas.Bool.Decides.{nat_tests}
-use Rattle.au_term.specs.Term.{Term, VarTerm, IntTerm, AtomTerm, Compound as CompoundTerm, Terms, end, more, count}
+use Rattle.au_term.specs.Term.{Term, VarTerm, IntTerm, AtomTerm, Terms, count}
 use Rattle.au_term.proofs.LogicLemmas.{and-false, less, not_equal, number_turned, not_less}
 use Rattle.au_model.specs.Terms.Lists.{terms_from}
-use Rattle.au_model.specs.Terms.Substitutions.{Substitution, value_of, resolve, occurs}
-use Rattle.au_model.specs.Terms.Unifier.{Equations, Rule, Dropped, Replaced, Opened, Clash, rule, pairs, variable_rule}
+use Rattle.au_model.specs.Terms.Substitutions.{Substitution, resolve}
+use Rattle.au_model.specs.Terms.Unifier.{Dropped, Replaced, Opened, Clash, rule, pairs, variable_rule}
 use Rattle.au_model.specs.Terms.EquationsInTurn.{resolved_equations}
 use Rattle.clause_compile.specs.AtomNumbers.{name_at}
 use Rattle.clause_compile.specs.Places.{CodeView}
-use Rattle.binding_array.specs.Represented.{cell_term}
 use Rattle.binding_array.specs.declared.cell.BindingCell.{BindingCell}
 use Rattle.binding_array.specs.declared.cell.BindingCell.TheVariants.{Free, Var, Int, Atom, Compound}
-use Rattle.cell_store.specs.Values.{IsValue, IsNoVariable}
+use Rattle.cell_store.specs.Values.{IsNoVariable}
 use Rattle.cell_store.specs.StoreView.{StoreView, substitution, meaning, value_term, text_in, IsValueIn, BindsFurther}
 use Rattle.cell_store.specs.Arguments.{argument_at, arguments_from, arguments_in, AreArguments, HasFunctor, AreThere, resolved_terms}
-use Rattle.cell_store.specs.UnificationSteps.{paired, equations_in, AreEquations, pending_equations, AllEquations, FollowsRule, after_same, after_binding, after_opening, TakesRule, IsBoundOr, HasRestEquations, KeepsRestEquations}
+use Rattle.cell_store.specs.UnificationSteps.{paired, equations_in, AreEquations, pending_equations, AllEquations, FollowsRule, after_binding, after_opening, TakesRule, IsBoundOr, HasRestEquations, KeepsRestEquations}
 use Rattle.cell_store.specs.declared.arguments.Arguments.{Arguments}
 use Rattle.cell_store.specs.declared.arguments.Equations.{Equations as ArgumentEquations}
 use Rattle.cell_store.proofs.CellMeaningLemmas.{IsCompound, compound, means_compound}

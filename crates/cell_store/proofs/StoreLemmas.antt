@@ -1,22 +1,20 @@
 -- How the parts of a store go on fitting together, and what its view becomes.
-use Rattle.std.proofs.Common.{append-nil, ◌≡◌, ℕ, zero, suc, ◌+◌, ◌-◌, ◌^◌, ◌<◌, ◌≤◌, List, [], ◌∷◌, ◌++◌, length, length-append, take, drop, slice_set, get_or, map, refl, sym, ap, ap₂, ◌∙◌, subst, arith}
-use Rattle.std.proofs.Math.Seq.{take-length, drop-append_seam}
-use Rattle.std.proofs.lemmas.List.{length-set, take-append-le, take-map, map-append, length-take-le, length-map}
-use Rattle.au_term.specs.Term.{Term, VarTerm}
+use Rattle.std.proofs.Common.{append-nil, ◌≡◌, ℕ, ◌+◌, ◌^◌, ◌<◌, ◌≤◌, List, [], ◌∷◌, ◌++◌, length, length-append, take, drop, slice_set, get_or, map, refl, sym, ap, ap₂, ◌∙◌, subst, arith}
+use Rattle.std.proofs.Math.Seq.{take-length}
+use Rattle.std.proofs.lemmas.List.{length-set, take-append-le, take-map, map-append, length-take-le}
 use Rattle.au_model.specs.Terms.Each.{Each}
-use Rattle.au_model.specs.Terms.Substitutions.{Substitution, value_of, resolve, occurs}
+use Rattle.au_model.specs.Terms.Substitutions.{Substitution}
 use Rattle.au_model.proofs.EachLemmas.{each-append, each-more}
 use Rattle.clause_compile.specs.AtomNumbers.{AreDistinct}
 use Rattle.clause_compile.specs.Places.{CodeView, AreSound}
 use Rattle.clause_compile.specs.declared.place.Place.{Place}
-use Rattle.binding_array.specs.Represented.{variable_cell, cell_term, IsFalling}
+use Rattle.binding_array.specs.Represented.{variable_cell}
 use Rattle.binding_array.specs.declared.cell.BindingCell.{BindingCell}
 use Rattle.binding_array.specs.declared.cell.BindingCell.TheVariants.{Free}
 use Rattle.cell_store.specs.HeapView.{HeapView, text_of, cut_heap}
-use Rattle.cell_store.specs.Values.{IsValue}
-use Rattle.cell_store.specs.CellMeanings.{substitution_in, AreConsistent}
-use Rattle.cell_store.specs.Undoing.{freed, undone, Parts, IsOlderMark, AreNested, mark_now, IsWithin}
-use Rattle.cell_store.specs.StoreView.{Moment, StoreView, moment_of, moment_at, view_of, IsConsistentAt, IsConsistent, IsValidStore, new_store, with_numbers, with_mark, with_marks, taken_back, substitution, meaning, BindsFurther, CanBeBound, text_in}
+use Rattle.cell_store.specs.CellMeanings.{AreConsistent}
+use Rattle.cell_store.specs.Undoing.{undone, Parts, IsOlderMark, AreNested, mark_now, IsWithin}
+use Rattle.cell_store.specs.StoreView.{Moment, StoreView, moment_of, moment_at, view_of, IsConsistentAt, IsConsistent, IsValidStore, new_store, with_numbers, with_mark, with_marks, taken_back, meaning, BindsFurther, CanBeBound}
 use Rattle.cell_store.specs.declared.mark.Mark.{Mark}
 use Rattle.cell_store.proofs.SubstitutionLemmas.{none_bound, none_consistent, consistent_grown, substitution_grown, is_new, is_below, final, is_free_cell, bound_consistent, bound_value}
 use Rattle.cell_store.proofs.UndoingLemmas.{undone_trailed, undone_younger, undone_grown, undone_now, undone_twice, take_within, length-undone, each-both, map-same, each-take, nested-append, nested-take, older_than, split_at, front_at, mapped_at}

@@ -1,25 +1,25 @@
 -- Cells that are changed, and the substitution that is read off them.
-use Rattle.std.proofs.Common.{◌≡◌, ℕ, zero, suc, ◌+◌, ◌-◌, ◌<◌, ◌≤◌, Bool, true, false, cond, nat_lt, ◌==◌, List, [], ◌∷◌, length, slice_set, get_or, refl, sym, ap, ap₂, ◌∙◌, subst, arith}
+use Rattle.std.proofs.Common.{◌≡◌, ℕ, zero, suc, ◌+◌, ◌-◌, ◌<◌, ◌≤◌, Bool, true, false, cond, nat_lt, ◌==◌, List, [], ◌∷◌, length, slice_set, refl, sym, ap, ◌∙◌, subst, arith}
 use Rattle.std.proofs.lemmas.Bool.Decides.{nat_tests}
 use Rattle.std.proofs.Math.ListN.{get_or-eq_default}
 use Rattle.std.proofs.lemmas.List.{length-set}
-use Rattle.au_term.specs.Term.{Term, VarTerm, IntTerm, AtomTerm, Compound as CompoundTerm, Terms, var_bound}
+use Rattle.au_term.specs.Term.{Term, VarTerm, IntTerm, AtomTerm, var_bound}
 use Rattle.au_term.specs.Shifted.{shifted}
-use Rattle.au_model.specs.Terms.Substitutions.{Substitution, apply, value_of, resolve, only, occurs}
+use Rattle.au_model.specs.Terms.Substitutions.{Substitution, apply, value_of, resolve, occurs}
 use Rattle.au_term.proofs.LogicLemmas.{number_same}
 use Rattle.au_model.specs.Terms.EquationsInTurn.{after}
 use Rattle.au_model.proofs.ApplyLemmas.{apply-same}
 use Rattle.au_model.proofs.EquationsInTurnLemmas.{resolve-after}
 use Rattle.clause_compile.specs.AtomNumbers.{name_at}
-use Rattle.clause_compile.specs.Places.{CodeView, IsPlaceOf, meaning_in, AreSound, Keeps}
+use Rattle.clause_compile.specs.Places.{CodeView, meaning_in, AreSound, Keeps}
 use Rattle.clause_compile.specs.declared.place.Place.TheVariants.{Sub, Atom as AtomPlace}
-use Rattle.binding_array.specs.Represented.{variable_cell, cell_term, IsBoundCell, IsFalling, AreFalling, CellStandsFor, Represents, IsFollowed}
+use Rattle.binding_array.specs.Represented.{variable_cell, cell_term, IsBoundCell, IsFalling, AreFalling, CellStandsFor, Represents}
 use Rattle.binding_array.specs.declared.cell.BindingCell.{BindingCell}
 use Rattle.binding_array.specs.declared.cell.BindingCell.TheVariants.{Free, Var, Int, Atom, Compound}
 use Rattle.binding_array.proofs.RepresentedLemmas.{written, binding_represents}
 use Rattle.cell_store.specs.Values.{IsValue, IsCell, AreCells}
 use Rattle.cell_store.specs.CellMeanings.{value_by, value_to, with_value, values_below, substitution_in, AreConsistent}
-use Rattle.cell_store.proofs.OccurrenceLemmas.{agreed, kept_below, occurs_below}
+use Rattle.cell_store.proofs.OccurrenceLemmas.{kept_below, occurs_below}
 use Rattle.cell_store.proofs.CellMeaningLemmas.{FreeOrBound, is_free, is_bound_cell, free_or_bound, free_stands, bound_stands, by_values, read_value, is_final, has_value, term_below, means_compound, IsCompound, compound}
 
 -- what the list of values has for a variable

@@ -1,14 +1,14 @@
 -- What undoing leaves stays the same while a store goes on.
-use Rattle.std.proofs.Common.{◌≡◌, ℕ, zero, suc, ◌+◌, ◌-◌, ◌<◌, ◌≤◌, Bool, true, false, nat_lt, List, [], ◌∷◌, ◌++◌, length, length-append, take, drop, slice_set, get_or, map, refl, sym, ap, ap₂, ◌∙◌, subst, arith}
+use Rattle.std.proofs.Common.{◌≡◌, ℕ, zero, suc, ◌+◌, ◌<◌, ◌≤◌, Bool, true, false, nat_lt, List, [], ◌∷◌, ◌++◌, length, length-append, take, drop, slice_set, get_or, map, refl, sym, ap, ap₂, ◌∙◌, subst, arith}
 use Rattle.std.proofs.lemmas.Bool.Decides.{nat_tests}
-use Rattle.std.proofs.Math.Seq.{take-length, take-set-lt, take-append_seam, drop-append_seam}
-use Rattle.std.proofs.lemmas.List.{take-set-le, set-get_or, length-set, drop-append-le, take-append-le, take-append-drop, drop-take, length-take-le}
+use Rattle.std.proofs.Math.Seq.{take-length, take-set-lt}
+use Rattle.std.proofs.lemmas.List.{take-set-le, set-get_or, length-set, drop-append-le, take-append-le, take-append-drop, length-take-le}
 use Rattle.au_model.specs.Terms.Each.{Each}
 use Rattle.au_model.proofs.EachLemmas.{each-append, each-more}
 use Rattle.binding_array.specs.Represented.{variable_cell}
 use Rattle.binding_array.specs.declared.cell.BindingCell.{BindingCell}
 use Rattle.binding_array.specs.declared.cell.BindingCell.TheVariants.{Free}
-use Rattle.cell_store.specs.Undoing.{freed, undone, Parts, IsOlderMark, AreNested, mark_now, IsWithin}
+use Rattle.cell_store.specs.Undoing.{freed, undone, IsOlderMark, AreNested}
 use Rattle.cell_store.specs.declared.mark.Mark.{Mark}
 
 pub freed-append : (vs ws : List ℕ) (cells : List BindingCell) → freed (vs ++ ws) cells ≡ freed vs (freed ws cells)

@@ -1,26 +1,24 @@
 -- Solving equations, rule by rule.
-use Rattle.std.proofs.Common.{nat_eq, nat_lt, ℤ, ◌≡◌, ℕ, ◌<◌, ◌≤◌, List, [], ◌∷◌, ◌++◌, Bool, true, false, ◌||◌, cond, ◌==◌, Option, Some, None, reverse, refl, sym, ap, ap₂, ◌∙◌, subst, arith, append-nil, append_assoc}
+use Rattle.std.proofs.Common.{nat_eq, nat_lt, ℤ, ◌≡◌, ℕ, ◌<◌, List, [], ◌∷◌, ◌++◌, Bool, true, false, cond, ◌==◌, Option, Some, None, reverse, refl, sym, ap, ap₂, ◌∙◌, subst}
 use Rattle.std.proofs.lemmas.List.{map-append}
 use Rattle.std.specs.Option.{option_map}
 use Rattle.std.specs.Ordering.{int_eq}
 use Rattle.std.specs.Cmp.Lexicographic.{pointwise, other_text}
 use Rattle.std.proofs.lemmas.Bool.Decides.{Decides-int_eq}
 use Rattle.au_term.specs.Term.{Term, VarTerm, IntTerm, AtomTerm, Compound as CompoundTerm, Terms, end, more, count}
-use Rattle.au_model.specs.Terms.Lists.{terms_from}
-use Rattle.au_model.specs.Terms.Substitutions.{Substitution, apply, value_of, resolve, only, occurs, occurs_in}
+use Rattle.au_model.specs.Terms.Substitutions.{Substitution, apply, value_of, resolve, only}
 use Rattle.au_model.specs.Terms.Unifier.{Equations, Rule, Dropped, Replaced, Opened, Clash, rule, by_rule, replace, bound, unifier, equations_bound, pairs}
 use Rattle.au_model.specs.Terms.EquationsInTurn.{resolved_equations}
 use Rattle.au_model.proofs.ApplyLemmas.{apply-same, apply-apply}
 use Rattle.au_model.proofs.EquationsInTurnLemmas.{resolve-nothing}
 use Rattle.au_model.proofs.UnifierRuleLemmas.{Says, rule_says}
-use Rattle.au_model.proofs.UnifierMeasureLemmas.{appears, AllBelow, work, Less, less_dropped, less_bound, less_opened}
+use Rattle.au_model.proofs.UnifierMeasureLemmas.{AllBelow, work, less_dropped, less_bound, less_opened}
 use Rattle.au_model.proofs.UnifierLemmas.{unifier-first, unifier_goes, all_below, bound_first}
 use Rattle.au_term.proofs.LogicLemmas.{number_same, and-both}
-use Rattle.clause_compile.specs.Places.{CodeView}
 use Rattle.binding_array.specs.declared.cell.BindingCell.{BindingCell}
 use Rattle.cell_store.specs.Arguments.{argument_at}
 use Rattle.cell_store.specs.StoreView.{StoreView, substitution, meaning, value_term, text_in, with_substitution, IsComposition, BindsFurther}
-use Rattle.cell_store.specs.UnificationSteps.{paired, equations_in, AreEquations, pending_equations, AllEquations, FollowsRule, after_same, after_binding, after_opening, HasRestEquations, KeepsRestEquations, TakesRule, OnlyBinds, AreUnified, IsUnified}
+use Rattle.cell_store.specs.UnificationSteps.{equations_in, AreEquations, pending_equations, AllEquations, FollowsRule, after_same, after_binding, after_opening, HasRestEquations, KeepsRestEquations, AreUnified}
 use Rattle.cell_store.specs.declared.arguments.Equations.{Equations as ArgumentEquations}
 use Rattle.cell_store.proofs.WalkLemmas.{turned}
 

@@ -1,15 +1,14 @@
 -- Going over the arguments of what a value stands for.
-use Rattle.std.proofs.Common.{◌≡◌, ℕ, zero, suc, ◌+◌, ◌-◌, ◌<◌, ◌≤◌, ◌||◌, Bool, true, false, List, [], ◌∷◌, ◌++◌, length, map, reverse, refl, sym, ap, ap₂, ◌∙◌, subst, arith, append_assoc}
+use Rattle.std.proofs.Common.{◌≡◌, ℕ, zero, suc, ◌+◌, ◌-◌, ◌<◌, ◌||◌, Bool, true, false, List, [], ◌∷◌, ◌++◌, reverse, refl, sym, ap, ◌∙◌, subst, arith}
 use Rattle.std.proofs.lemmas.List.{map-append, reverse-append}
-use Rattle.au_term.specs.Term.{Term, VarTerm, IntTerm, AtomTerm, Compound as CompoundTerm, Terms, end, more}
+use Rattle.au_term.specs.Term.{Term, Compound as CompoundTerm, more}
 use Rattle.au_model.specs.Terms.Lists.{terms_from}
 use Rattle.au_model.specs.Terms.Substitutions.{Substitution, apply_all, value_of, resolve, occurs, occurs_in}
 use Rattle.au_model.specs.Terms.Unifier.{size, size_all}
 use Rattle.clause_compile.specs.AtomNumbers.{name_at}
 use Rattle.clause_compile.specs.Places.{CodeView}
 use Rattle.binding_array.specs.Represented.{cell_term}
-use Rattle.binding_array.specs.declared.cell.BindingCell.{BindingCell}
-use Rattle.binding_array.specs.declared.cell.BindingCell.TheVariants.{Free, Var, Int, Atom, Compound}
+use Rattle.binding_array.specs.declared.cell.BindingCell.TheVariants.{Compound}
 use Rattle.cell_store.specs.Arguments.{argument_at, arguments_from, arguments_in, IsArgument, AreArguments, HasFunctor, AreThere, AllThere, pending_terms, resolved_terms, occurs_in_any, sizes, GoesInto, IsFoundOr, HasOpened, HasRest, KeepsRest}
 use Rattle.cell_store.specs.declared.arguments.Arguments.{Arguments}
 

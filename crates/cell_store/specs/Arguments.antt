@@ -1,5 +1,5 @@
 -- The arguments of compounds, by their places.
-use Rattle.std.specs.Prelude.{◌≡◌, ◌^◌, ℕ, zero, suc, ◌+◌, ◌<◌, ◌≤◌, ◌||◌, Bool, true, false, List, [], ◌∷◌, ◌++◌, length, map, get_or}
+use Rattle.std.specs.Prelude.{◌≡◌, ℕ, zero, suc, ◌+◌, ◌<◌, ◌≤◌, ◌||◌, Bool, true, false, List, [], ◌∷◌, ◌++◌, length, map, get_or}
 use Rattle.au_term.specs.Term.{Term, Compound as CompoundTerm, var_bound}
 use Rattle.au_term.specs.Shifted.{shifted}
 use Rattle.au_model.specs.Terms.Lists.{terms_from}

@@ -1,5 +1,5 @@
 -- The substitution that cells represent.
-use Rattle.std.specs.Prelude.{◌≡◌, ℕ, zero, suc, List, [], ◌∷◌, length}
+use Rattle.std.specs.Prelude.{ℕ, zero, suc, List, [], ◌∷◌, length}
 use Rattle.au_term.specs.Term.{Term, VarTerm, IntTerm, AtomTerm}
 use Rattle.au_term.specs.Shifted.{shifted}
 use Rattle.au_model.specs.Terms.Substitutions.{Substitution, apply}

@@ -2,7 +2,7 @@
 use Rattle.std.specs.Prelude.{◌≡◌, ℕ, ◌+◌, ◌^◌, ◌<◌, ◌≤◌, false, List, [], ◌++◌, ◌∷◌, length, map, take}
 use Rattle.au_term.specs.Term.{Term, VarTerm, var_bound}
 use Rattle.au_model.specs.Terms.Each.{Each}
-use Rattle.au_model.specs.Terms.Substitutions.{Substitution, apply, value_of, resolve, only, occurs}
+use Rattle.au_model.specs.Terms.Substitutions.{Substitution, value_of, resolve, occurs}
 use Rattle.clause_compile.specs.AtomNumbers.{AreDistinct}
 use Rattle.clause_compile.specs.Places.{CodeView, Keeps}
 use Rattle.clause_compile.specs.declared.place.Place.{Place}

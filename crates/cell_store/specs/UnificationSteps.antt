@@ -1,8 +1,8 @@
 -- Equations between the arguments of compounds, and how they are solved one after another (ISO/IEC 13211-1, 7.3.2).
-use Rattle.std.specs.Prelude.{◌≡◌, ℕ, ◌<◌, Bool, true, false, List, [], ◌∷◌, ◌++◌, Option, Some, None}
+use Rattle.std.specs.Prelude.{◌≡◌, ℕ, Bool, true, false, List, [], ◌∷◌, ◌++◌, Some, None}
 use Rattle.au_term.specs.Term.{Term}
-use Rattle.au_model.specs.Terms.Substitutions.{Substitution, resolve, occurs}
-use Rattle.au_model.specs.Terms.Unifier.{Equations, Rule, Dropped, Replaced, Opened, Clash, rule, unifier}
+use Rattle.au_model.specs.Terms.Substitutions.{Substitution, occurs}
+use Rattle.au_model.specs.Terms.Unifier.{Equations, Replaced, Opened, Clash, rule, unifier}
 use Rattle.au_model.specs.Terms.EquationsInTurn.{resolved_equations}
 use Rattle.clause_compile.specs.Places.{CodeView}
 use Rattle.binding_array.specs.declared.cell.BindingCell.{BindingCell}

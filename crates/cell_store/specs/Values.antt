@@ -1,10 +1,9 @@
 -- Values: what variables are bound to and what is unified. A compound is a place of the text and the number that is added
 -- to its variables.
 use Rattle.std.specs.Prelude.{ℕ, ◌<◌, ◌≤◌, List, length}
-use Rattle.au_term.specs.Term.{Term, var_bound}
+use Rattle.au_term.specs.Term.{var_bound}
 use Rattle.au_term.specs.Shifted.{shifted}
 use Rattle.clause_compile.specs.Places.{CodeView, IsPlaceOf, meaning_in}
-use Rattle.clause_compile.specs.declared.place.Place.{Place}
 use Rattle.clause_compile.specs.declared.place.Place.TheVariants.{Sub}
 use Rattle.binding_array.specs.Represented.{variable_cell}
 use Rattle.binding_array.specs.declared.cell.BindingCell.{BindingCell}

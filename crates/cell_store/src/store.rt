@@ -51,7 +51,8 @@ impl Model for Store {
 impl Store {
     /// Nothing is made or bound.
     pub fn new(alloc: Global, program: Arc<Code>) -> Result<Store, NoMemory>
-        ensures { IfOk result (λ store. store ≡ new_store (arc_value program)) }
+        ensures new { IfOk result (λ store. store ≡ new_store (arc_value program)) }
+        ensures text { IfOk result (λ store. text_in store ≡ arc_value program) }
     {
         // The proof reads off that no two names are the same.
         let _names = program.names();

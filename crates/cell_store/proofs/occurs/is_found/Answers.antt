@@ -1,4 +1,4 @@
-use Rattle.std.proofs.Common.{◌≡◌, ◌∙◌, reverse, sym, ap}
+use Rattle.std.proofs.Common.{◌∙◌, reverse, sym, ap}
 use Rattle.cell_store.specs.StoreView.{meaning, substitution, text_in}
 use Rattle.cell_store.proofs.WalkLemmas.{goes_into}
 use Rattle.cell_store.proofs.occurs.is_found.Goals as goal

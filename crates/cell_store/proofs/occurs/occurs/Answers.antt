@@ -1,6 +1,5 @@
-use Rattle.std.proofs.Common.{◌≡◌, ◌∙◌, reverse, sym, ap, subst}
-use Rattle.cell_store.specs.StoreView.{meaning, substitution, text_in}
-use Rattle.cell_store.proofs.WalkLemmas.{first_there, top_there, walked, Walked}
+use Rattle.cell_store.specs.StoreView.{text_in}
+use Rattle.cell_store.proofs.WalkLemmas.{first_there, top_there}
 use Rattle.cell_store.proofs.occurs.occurs.Goals as goal
 
 pub argument-value-requires : goal.argument-value-requires

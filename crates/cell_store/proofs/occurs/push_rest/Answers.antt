@@ -1,4 +1,4 @@
-use Rattle.std.proofs.Common.{◌≡◌, ◌+◌, ◌-◌, ◌∷◌, ◌∙◌, refl, reverse, sym, subst, ap}
+use Rattle.std.proofs.Common.{◌+◌, ◌-◌, ◌∙◌, refl, reverse, sym, subst, ap}
 use Rattle.cell_store.specs.Arguments.{KeepsRest}
 use Rattle.cell_store.specs.declared.arguments.Arguments.{Arguments}
 use Rattle.cell_store.proofs.WalkLemmas.{rest_some, turned}

@@ -1,6 +1,5 @@
-use Rattle.std.proofs.Common.{◌≡◌, ◌∙◌, ◌++◌, [], refl, reverse, sym, ap, arith, append-nil}
+use Rattle.std.proofs.Common.{◌∙◌, ◌++◌, refl, reverse, sym, ap, arith, append-nil}
 use Rattle.std.proofs.lemmas.List.{nil_from_length}
-use Rattle.au_term.specs.PrefixOrder.{cells_of}
 use Rattle.au_model.proofs.CopyLemmas.{copy_done}
 use Rattle.cell_store.specs.StoreView.{meaning, substitution, text_in}
 use Rattle.cell_store.specs.WrittenTerms.{cells_left}

@@ -1,4 +1,4 @@
-use Rattle.std.proofs.Common.{◌≡◌, ◌∙◌, ◌++◌, ◌∷◌, [], reverse, sym, ap, subst}
+use Rattle.std.proofs.Common.{◌∙◌, ◌++◌, ◌∷◌, [], reverse, sym, ap, subst}
 use Rattle.std.proofs.lemmas.Result.{on_ok_weaker}
 use Rattle.au_term.specs.declared.cell.Cell.TheVariants.{Functor as FunctorCell}
 use Rattle.cell_store.specs.StoreView.{IsValueIn, meaning, substitution, text_in}

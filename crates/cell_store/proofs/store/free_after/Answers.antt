@@ -1,6 +1,4 @@
-use Rattle.std.proofs.Common.{◌≡◌, ◌<◌, ◌≤◌, ◌+◌, ◌++◌, ◌∷◌, [], ◌∙◌, length, take, drop, sym, subst, ap, arith}
-use Rattle.au_model.specs.Terms.Each.{Each}
-use Rattle.cell_store.specs.Undoing.{freed}
+use Rattle.std.proofs.Common.{◌≡◌, ◌<◌, ◌++◌, ◌∷◌, [], ◌∙◌, length, arith}
 use Rattle.cell_store.proofs.UndoingLemmas.{popped}
 use Rattle.cell_store.proofs.store.free_after.Goals as goal
 

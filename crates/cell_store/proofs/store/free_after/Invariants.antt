@@ -1,4 +1,4 @@
-use Rattle.std.proofs.Common.{◌≡◌, ◌<◌, ◌≤◌, length, take, drop}
+use Rattle.std.proofs.Common.{◌≡◌, ◌<◌, length, take, drop}
 use Rattle.au_model.specs.Terms.Each.{Each}
 use Rattle.cell_store.specs.Undoing.{freed}
 use Rattle.cell_store.proofs.store.free_after.Given as goal

@@ -1,4 +1,4 @@
-use Rattle.std.proofs.Common.{◌≡◌, ◌+◌, ◌∙◌, ℕ, false, true, refl, sym, ap, arith}
+use Rattle.std.proofs.Common.{◌+◌, ◌∙◌, refl, sym, ap}
 use Rattle.cell_store.proofs.RuleLemmas.{numbers_differ, names_differ, opened_some}
 use Rattle.cell_store.specs.declared.arguments.Arguments.{Arguments}
 use Rattle.cell_store.specs.declared.arguments.Equations.{Equations as ArgumentEquations}

@@ -1,7 +1,6 @@
 use Rattle.std.proofs.Common.{◌≡◌, ◌∙◌, sym, ap, subst}
 use Rattle.std.proofs.lemmas.Result.{IfOk-weaker}
 use Rattle.au_term.specs.Term.{VarTerm}
-use Rattle.binding_array.specs.declared.cell.BindingCell.TheVariants.{Var}
 use Rattle.cell_store.specs.StoreView.{meaning, substitution, IsUnbound}
 use Rattle.cell_store.proofs.RuleLemmas.{rule_left, rule_right, no_variable, bound_or, sides_same}
 use Rattle.cell_store.proofs.unify.pair_goes.Goals as goal

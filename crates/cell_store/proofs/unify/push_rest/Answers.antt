@@ -1,4 +1,4 @@
-use Rattle.std.proofs.Common.{◌≡◌, ◌+◌, ◌-◌, ◌∷◌, ◌∙◌, refl, reverse, sym, subst, ap}
+use Rattle.std.proofs.Common.{◌∙◌, reverse, sym, subst, ap}
 use Rattle.cell_store.specs.UnificationSteps.{KeepsRestEquations}
 use Rattle.cell_store.specs.declared.arguments.Equations.{Equations as ArgumentEquations}
 use Rattle.cell_store.proofs.WalkLemmas.{turned}

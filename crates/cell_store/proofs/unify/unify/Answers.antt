@@ -1,6 +1,6 @@
-use Rattle.std.proofs.Common.{◌≡◌, ◌∙◌, [], ◌∷◌, reverse, sym, ap, subst, arith}
+use Rattle.std.proofs.Common.{◌∙◌, [], ◌∷◌, reverse, ap, subst, arith}
 use Rattle.std.proofs.lemmas.List.{nil_from_length}
-use Rattle.cell_store.specs.StoreView.{meaning, substitution, text_in}
+use Rattle.cell_store.specs.StoreView.{meaning, text_in}
 use Rattle.cell_store.specs.UnificationSteps.{TakesRule}
 use Rattle.cell_store.proofs.WalkLemmas.{first_there, turned}
 use Rattle.cell_store.proofs.RuleLemmas.{top_equations}

@@ -1,6 +1,6 @@
-use Rattle.std.proofs.Common.{◌≡◌, ◌+◌, ◌-◌, ◌≤◌, ◌∷◌, ◌++◌, ◌∙◌, ap, subst, sym, drop, length, slice_index_or, arith}
+use Rattle.std.proofs.Common.{◌≡◌, ◌-◌, ◌≤◌, ◌∙◌, ap, length, slice_index_or, arith}
 use Rattle.clause_compile.specs.Places.{CodeView}
-use Rattle.cell_store.specs.HeapView.{HeapView, text_of}
+use Rattle.cell_store.specs.HeapView.{HeapView}
 use Rattle.cell_store.proofs.HeapLemmas.{place_behind}
 use Rattle.cell_store.proofs.heap.Heap.place.Goals as goal
 

@@ -1,8 +1,8 @@
-use Rattle.std.proofs.Common.{◌≡◌, ◌+◌, ◌∷◌, [], ◌++◌, refl, ap, ◌∙◌}
+use Rattle.std.proofs.Common.{◌≡◌, ◌+◌, ◌∷◌, [], ◌++◌, refl, ap}
 use Rattle.std.proofs.lemmas.Result.{on_ok_weaker}
 use Rattle.au_term.specs.Shifted.{shifted_cell}
 use Rattle.clause_compile.specs.Places.{CodeView}
-use Rattle.clause_compile.specs.declared.place.Place.TheVariants.{Var, Int, Atom}
+use Rattle.clause_compile.specs.declared.place.Place.TheVariants.{Var, Atom}
 use Rattle.clause_compile.proofs.CodeLemmas.{adds_variable, adds_integer, adds_atom}
 use Rattle.cell_store.specs.HeapView.{text_of}
 use Rattle.cell_store.proofs.HeapGrowthLemmas.{grows_same}

@@ -1,10 +1,10 @@
-use Rattle.std.proofs.Common.{◌≡◌, ◌+◌, ◌<◌, ◌^◌, ◌∷◌, [], ◌++◌, length, take, reverse, refl, sym, ap, ◌∙◌, subst, arith}
+use Rattle.std.proofs.Common.{◌≡◌, ◌+◌, ◌∷◌, [], ◌++◌, length, take, reverse, ap, ◌∙◌, arith}
 use Rattle.std.proofs.lemmas.Result.{on_ok_weaker}
 use Rattle.std.specs.Arc.{arc_value}
 use Rattle.clause_compile.specs.Places.{CodeView}
 use Rattle.clause_compile.specs.declared.place.Place.TheVariants.{Functor, Sub}
-use Rattle.cell_store.specs.HeapView.{HeapView, text_of, GrowsHeap}
-use Rattle.cell_store.proofs.HeapGrowthLemmas.{heap_of, places_counted, compound_adds, compound_grows, cut_back}
+use Rattle.cell_store.specs.HeapView.{HeapView, text_of}
+use Rattle.cell_store.proofs.HeapGrowthLemmas.{heap_of, places_counted, compound_adds, compound_grows}
 use Rattle.cell_store.proofs.heap.Heap.push_compound.Goals as goal
 
 pub returns-clause-added : goal.returns-clause-added

@@ -1,8 +1,7 @@
-use Rattle.std.proofs.Common.{◌≡◌, ◌+◌, ◌-◌, ◌<◌, ◌≤◌, ◌∷◌, [], suc, length, drop, refl, ap, ◌∙◌, sym, subst, arith, append-nil}
+use Rattle.std.proofs.Common.{◌≡◌, ◌+◌, ◌-◌, ◌≤◌, ◌∷◌, suc, length, drop, ap, ◌∙◌, sym, subst, arith}
 use Rattle.std.proofs.lemmas.List.{drop_all, nil_from_length}
-use Rattle.au_term.specs.PrefixOrder.{cells_of, terms_of, top_of}
+use Rattle.au_term.specs.PrefixOrder.{cells_of, terms_of}
 use Rattle.au_term.specs.Shifted.{shifted_cell}
-use Rattle.au_term.specs.declared.cell.Cell.{Cell}
 use Rattle.au_term.proofs.SubtermLemmas.{term_forest}
 use Rattle.clause_compile.specs.Places.{ArePlacesOf, meanings}
 use Rattle.clause_compile.proofs.CodeLemmas.{keeps_same, cell_added, enough_there, placed, none_missing}

@@ -1,4 +1,4 @@
-use Rattle.std.proofs.Common.{◌≡◌, ◌≤◌, ◌∷◌, [], slice_set, sym, subst, ap, ◌∙◌}
+use Rattle.std.proofs.Common.{◌≡◌, ◌≤◌, ◌∷◌, [], slice_set, sym, subst}
 use Rattle.au_model.specs.Terms.Each.{Each}
 use Rattle.binding_array.specs.Represented.{variable_cell}
 use Rattle.binding_array.specs.declared.cell.BindingCell.TheVariants.{Free}

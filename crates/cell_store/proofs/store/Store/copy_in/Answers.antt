@@ -1,6 +1,5 @@
-use Rattle.std.proofs.Common.{◌≡◌, ◌≤◌, ◌∙◌, length, sym, ap, subst}
-use Rattle.au_term.specs.Term.{Term, var_bound}
-use Rattle.au_term.specs.Shifted.{shifted}
+use Rattle.std.proofs.Common.{◌≤◌, ◌∙◌, length, sym, subst}
+use Rattle.au_term.specs.Term.{var_bound}
 use Rattle.au_term.proofs.ShiftLemmas.{shifted-zero}
 use Rattle.cell_store.specs.StoreView.{StoreView, AddsText, view_of}
 use Rattle.cell_store.proofs.StoreLemmas.{parts}

@@ -1,5 +1,5 @@
-use Rattle.std.proofs.Common.{sym, subst}
-use Rattle.cell_store.specs.StoreView.{IsValueIn, IsDereferenced}
+use Rattle.std.proofs.Common.{subst}
+use Rattle.cell_store.specs.StoreView.{IsDereferenced}
 use Rattle.cell_store.proofs.StoreLemmas.{parts}
 use Rattle.cell_store.proofs.DereferenceLemmas.{followed}
 use Rattle.cell_store.proofs.store.Store.dereference.Goals as goal

@@ -1,4 +1,4 @@
-use Rattle.std.proofs.Common.{◌≡◌, ◌+◌, ◌<◌, ◌≤◌, ◌^◌, ◌∙◌, ap, sym, length, arith}
+use Rattle.std.proofs.Common.{◌≡◌, ◌+◌, ◌<◌, ◌^◌, ◌∙◌, ap, sym, length, arith}
 use Rattle.cell_store.specs.StoreView.{StoreView, with_numbers}
 use Rattle.cell_store.proofs.StoreLemmas.{grown_parts, grown_view}
 use Rattle.cell_store.proofs.store.Store.fresh.Goals as goal

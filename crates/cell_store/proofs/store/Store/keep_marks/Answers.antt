@@ -1,4 +1,4 @@
-use Rattle.std.proofs.Common.{◌≡◌, ◌∙◌, ap, sym, subst, take}
+use Rattle.std.proofs.Common.{◌∙◌, ap, sym, subst}
 use Rattle.cell_store.specs.StoreView.{IsConsistent, view_of, with_marks}
 use Rattle.cell_store.proofs.StoreLemmas.{parts, kept_parts, kept_view}
 use Rattle.cell_store.proofs.store.Store.keep_marks.Goals as goal

@@ -1,8 +1,8 @@
-use Rattle.std.proofs.Common.{◌≡◌, ◌∙◌, ap, sym, subst, ◌++◌, ◌∷◌, []}
-use Rattle.cell_store.specs.StoreView.{IsConsistent, view_of, with_mark}
+use Rattle.std.proofs.Common.{◌≡◌, sym, subst}
+use Rattle.cell_store.specs.StoreView.{IsConsistent}
 use Rattle.cell_store.specs.Undoing.{mark_now}
 use Rattle.cell_store.specs.declared.mark.Mark.{Mark}
-use Rattle.cell_store.proofs.StoreLemmas.{parts, marked_parts, marked_view}
+use Rattle.cell_store.proofs.StoreLemmas.{parts, marked_parts}
 use Rattle.cell_store.proofs.store.Store.mark.Goals as goal
 
 pub invariant_of-self-2 : goal.invariant_of-self-2

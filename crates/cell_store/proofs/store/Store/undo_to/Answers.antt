@@ -1,8 +1,6 @@
-use Rattle.std.proofs.Common.{◌≡◌, ◌<◌, ◌≤◌, ◌+◌, ◌++◌, ◌∷◌, [], ◌∙◌, length, take, drop, map, slice_index_or, sym, subst, ap, arith, List}
+use Rattle.std.proofs.Common.{◌≡◌, ◌<◌, ◌+◌, ◌++◌, ◌∷◌, ◌∙◌, length, take, map, slice_index_or, sym, ap, arith}
 use Rattle.std.proofs.lemmas.List.{length-map}
-use Rattle.cell_store.specs.Undoing.{freed, undone}
-use Rattle.cell_store.specs.HeapView.{cut_heap}
-use Rattle.cell_store.specs.StoreView.{StoreView, Moment, moment_at, IsConsistent, view_of, taken_back, with_marks}
+use Rattle.cell_store.specs.StoreView.{StoreView, moment_at, taken_back, with_marks}
 use Rattle.cell_store.specs.declared.mark.Mark.{Mark}
 use Rattle.cell_store.proofs.StoreLemmas.{parts, undone_parts, undone_view}
 use Rattle.cell_store.proofs.store.Store.undo_to.Goals as goal
