@@ -11,5 +11,6 @@ pub mod DereferenceLemmas
 pub mod ArgumentLemmas
 pub mod WalkLemmas
 pub mod UnificationLemmas
+pub mod FreshLemmas
 pub mod RuleLemmas
 pub mod WritingLemmas

@@ -133,7 +133,7 @@ module _ (eqs : Equations) (start now : Substitution) (a b : Term) (rest : Equat
   clash_ends k = sym first_result ∙ (ap (λ q. completed u.made (by_rule q rest unifier)) k ∙ completed-none u.made)
 
 -- what is bound after a binding
-resolved_binding : (s now : Substitution) (x : ℕ) (t u : Term) → IsComposition s ((x, t) ∷ []) now → resolve now u ≡ apply (only x t) (resolve s u)
+pub resolved_binding : (s now : Substitution) (x : ℕ) (t u : Term) → IsComposition s ((x, t) ∷ []) now → resolve now u ≡ apply (only x t) (resolve s u)
 resolved_binding s now x t u c = apply-same (value_of now) (λ n. apply (only x t) (value_of s n)) c u ∙ sym (apply-apply (only x t) (value_of s) u)
 
 replaced : (s now : Substitution) (x : ℕ) (t : Term) (eqs : Equations) → IsComposition s ((x, t) ∷ []) now → resolved_equations now eqs ≡ replace x t (resolved_equations s eqs)
@@ -143,7 +143,7 @@ replaced s now x t (e ∷ eqs) c =
     let right = resolved_binding s now x t e.1 c in
     let rest = replaced s now x t eqs c in cc
 
-resolved_append : (s : Substitution) (es fs : Equations) → resolved_equations s (es ++ fs) ≡ resolved_equations s es ++ resolved_equations s fs
+pub resolved_append : (s : Substitution) (es fs : Equations) → resolved_equations s (es ++ fs) ≡ resolved_equations s es ++ resolved_equations s fs
 resolved_append s es fs = map-append (λ e. (resolve s e.0, resolve s e.1)) es fs
 
 abbrev pub left_in : StoreView → List ArgumentEquations → Equations
@@ -235,7 +235,7 @@ module _ (eqs : Equations) (first st : StoreView) (old rest between : List Argum
   rest_kept : HasRestEquations (text_in st) st.now.next e (reverse rest) (reverse between)
   rest_kept = kept (text_in st) st.now.next both.0 both.1
 
-  first_is : left_in st (reverse old) ≡ (meaning st left, meaning st right) ∷ left_in st (reverse between)
+  pub first_is : left_in st (reverse old) ≡ (meaning st left, meaning st right) ∷ left_in st (reverse between)
   first_is =
       ap (left_in st) turned_old
       ∙ (ap (resolved_equations (substitution st)) (sym rest_kept.equations)

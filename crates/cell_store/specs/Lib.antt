@@ -6,3 +6,4 @@ pub mod StoreView
 pub mod Arguments
 pub mod UnificationSteps
 pub mod WrittenTerms
+pub mod FreshVariables

@@ -177,7 +177,25 @@ impl Store {
         ensures unified { IfOk result (IsUnified a b self.old self.new) }
         ensures kept { OnlyBinds self.old self.new }
     {
-        unify(self.alloc, a, b, self)
+        unify(self.alloc, a, b, None, self)
+    }
+
+    /// The same, of a goal and the head of a clause whose variables are numbered from `base` on and are in nothing that the
+    /// goal stands for: one of them is bound without the search for it in its value, until an older variable is bound to a
+    /// compound of the head.
+    pub fn unify_head(
+        &mut self,
+        goal: BindingCell,
+        head: BindingCell,
+        base: u32,
+    ) -> Result<bool, NoMemory>
+        requires goal { IsValueIn self.old goal }
+        requires head { IsValueIn self.old head }
+        requires older { var_bound (meaning self.old goal) ≤ base }
+        ensures unified { IfOk result (IsUnified goal head self.old self.new) }
+        ensures kept { OnlyBinds self.old self.new }
+    {
+        unify(self.alloc, goal, head, Some(base), self)
     }
 
     /// The value that a term is: it is put into the heap.

@@ -93,6 +93,53 @@ fn unification(rt: HostRuntime) -> Result<(), Fail> {
     Ok(())
 }
 
+/// Goals over two variables, heads over the two that come after them, and whether they unify. In the last two an older
+/// variable is bound to a compound first, and then the head's own variable has to be searched in it.
+const HEADS: [([Side; 2], [Side; 2], bool); 6] = [
+    ([(false, 0), (false, 1)], [(false, 2), (false, 2)], true),
+    ([(true, 0), (true, 1)], [(false, 2), (false, 2)], true),
+    ([(true, 0), (false, 0)], [(false, 2), (false, 2)], false),
+    ([(false, 0), (true, 0)], [(true, 2), (true, 3)], true),
+    ([(false, 0), (false, 0)], [(true, 2), (false, 2)], false),
+    ([(false, 0), (false, 0)], [(true, 2), (false, 3)], true),
+];
+
+/// Whether a goal over the first two variables unifies with a head over the others.
+fn unify_head(
+    rt: &impl Abort,
+    store: &mut Store,
+    goal: &Shared,
+    head: &Shared,
+    bound: VarNo,
+) -> Result<bool, Fail>
+    requires goal { var_bound goal.now ≤ store.old.now.next }
+    requires bound { var_bound head.now ≤ bound }
+{
+    let goal = store.copy_in(goal)?;
+    assert!(rt; bound <= VarNo::from(store.next()));
+    let head = store.copy_in(head)?;
+    assert!(rt; store.resolve(goal)?.bound() <= 2);
+    Ok(store.unify_head(goal, head, 2)?)
+}
+
+#[test]
+fn heads(rt: HostRuntime) -> Result<(), Fail> {
+    let alloc = rt.alloc();
+    for (goal, head, unifies) in HEADS {
+        let mut store = store(alloc)?;
+        let (goal, head) = (both(alloc, &goal)?, both(alloc, &head)?);
+        let bound = head.bound();
+        assert!(rt; goal.bound() <= VarNo::from(store.next()));
+        let (goal, head) = (
+            Shared::from_term(alloc, goal)?,
+            Shared::from_term(alloc, head)?,
+        );
+        let unified = unify_head(&rt, &mut store, &goal, &head, bound)?;
+        assert_eq!(rt; unified, unifies);
+    }
+    Ok(())
+}
+
 /// What is done with a store.
 #[derive(Clone, Copy)]
 enum Step {

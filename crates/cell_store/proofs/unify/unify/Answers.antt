@@ -1,10 +1,11 @@
-use Rattle.std.proofs.Common.{◌∙◌, [], ◌∷◌, reverse, ap, subst, arith}
+use Rattle.std.proofs.Common.{sym, ◌∙◌, [], ◌∷◌, reverse, ap, subst, arith}
 use Rattle.std.proofs.lemmas.List.{nil_from_length}
 use Rattle.cell_store.specs.StoreView.{meaning, text_in}
 use Rattle.cell_store.specs.UnificationSteps.{TakesRule}
 use Rattle.cell_store.proofs.WalkLemmas.{first_there, turned}
 use Rattle.cell_store.proofs.RuleLemmas.{top_equations}
-use Rattle.cell_store.proofs.UnificationLemmas.{start_follows, start_clashes, top_follows, top_clashes, ended, unified, left_in}
+use Rattle.cell_store.proofs.UnificationLemmas.{start_follows, start_clashes, top_follows, top_clashes, ended, unified, left_in, first_is}
+use Rattle.cell_store.proofs.FreshLemmas.{AllOlder, older_follows}
 use Rattle.cell_store.proofs.unify.unify.Goals as goal
 
 pub returns-then-not-branch-clause-unified : goal.returns-then-not-branch-clause-unified
@@ -15,8 +16,17 @@ returns-then-not-branch-clause-unified c =
 pub loop-equations-init : goal.loop-equations-init
 loop-equations-init c =
     let st = c.args.store.now in
-    let h = start_follows st c.pair_goes.new.store (meaning st c.args.a) (meaning st c.args.b) c.new-pending.result.items c.pair_goes.new.pending.items c.new-pending.ensures.items (subst (TakesRule st c.pair_goes.new.store (meaning st c.args.a) (meaning st c.args.b) c.new-pending.result.items c.pair_goes.new.pending.items) c.if-not-branch.false c.in_ok-pair_goes.ensures.goes) in
-    record { unifying = h.unifying; there = h.there; others = h.others }
+    let pending = c.new-pending.result.items in
+    let after = c.pair_goes.new.pending.items in
+    let follows = subst (TakesRule st c.pair_goes.new.store (meaning st c.args.a) (meaning st c.args.b) pending after) c.if-not-branch.false c.in_ok-pair_goes.ensures.goes in
+    let h = start_follows st c.pair_goes.new.store (meaning st c.args.a) (meaning st c.args.b) pending after c.new-pending.ensures.items follows in
+    let first : AllOlder c.args.fresh ((meaning st c.args.a, meaning st c.args.b) ∷ left_in st (reverse pending)) = (c.requires.older, subst (λ es. AllOlder c.args.fresh (left_in st (reverse es))) (sym c.new-pending.ensures.items) tt) in
+    record {
+      unifying = h.unifying;
+      there = h.there;
+      older = older_follows c.args.fresh c.pair_goes.new.fresh st c.pair_goes.new.store (meaning st c.args.a) (meaning st c.args.b) pending after first c.in_ok-pair_goes.ensures.kept.others follows (c.in_ok-pair_goes.ensures.stays c.if-not-branch.false);
+      others = h.others;
+    }
 
 pub argument-left-requires : goal.argument-left-requires
 argument-left-requires c =
@@ -67,8 +77,15 @@ loop-equations-preserved c =
     let between = c.push_rest.new.pending.items in
     let after = c.pair_goes-in-Some.new.pending.items in
     let eqs = (meaning first c.args.a, meaning first c.args.b) ∷ [] in
-    let h = top_follows eqs first st c.loop-equations.pending.items c.pop.new.self.items between e left right c.in-Some.ensures.items c.loop-equations.invariant.unifying c.loop-equations.invariant.there c.in_ok-push_rest.ensures c.argument-left.ensures.term c.argument-right.ensures.term c.loop-equations.invariant.others now after (subst (TakesRule st now (meaning st left) (meaning st right) between after) c.if-not-branch-2.false c.in_ok-pair_goes-2.ensures.goes) in
-    record { unifying = h.unifying; there = h.there; others = h.others }
+    let rule = subst (TakesRule st now (meaning st left) (meaning st right) between after) c.if-not-branch-2.false c.in_ok-pair_goes-2.ensures.goes in
+    let h = top_follows eqs first st c.loop-equations.pending.items c.pop.new.self.items between e left right c.in-Some.ensures.items c.loop-equations.invariant.unifying c.loop-equations.invariant.there c.in_ok-push_rest.ensures c.argument-left.ensures.term c.argument-right.ensures.term c.loop-equations.invariant.others now after rule in
+    let older = subst (AllOlder c.loop-equations.fresh) (first_is eqs first st c.loop-equations.pending.items c.pop.new.self.items between e left right c.in-Some.ensures.items c.loop-equations.invariant.unifying c.loop-equations.invariant.there c.in_ok-push_rest.ensures c.argument-left.ensures.term c.argument-right.ensures.term) c.loop-equations.invariant.older in
+    record {
+      unifying = h.unifying;
+      there = h.there;
+      older = older_follows c.loop-equations.fresh c.pair_goes-in-Some.new.fresh st now (meaning st left) (meaning st right) between after older c.in_ok-pair_goes-2.ensures.kept.others rule (c.in_ok-pair_goes-2.ensures.stays c.if-not-branch-2.false);
+      others = h.others;
+    }
 
 pub returns-clause-unified : goal.returns-clause-unified
 returns-clause-unified c =
