@@ -8,6 +8,8 @@ use Rattle.au_term.specs.Term.{Term, VarTerm, IntTerm, var_bound}
 use Rattle.au_model.specs.Terms.Forms.{is_callable}
 use Rattle.run_model.specs.Programs.Bodies.{body_of, called_goals}
 use Rattle.run_model.specs.Programs.Clauses.{Clause as ClauseTerms, numbered}
+use Rattle.run_model.specs.Programs.Databases.{NumberedClause}
+use Rattle.clause_compile.specs.declared.item.ClauseId.{ClauseId}
 use Rattle.clause_compile.specs.declared.item.Scope.{Scope}
 use Rattle.clause_compile.specs.declared.item.Item.{Item}
 use Rattle.clause_compile.specs.declared.item.Item.TheVariants.{Goal}
@@ -28,6 +30,10 @@ goal_items cut goals = map (λ g. Goal g cut) goals
 abbrev pub IsNumberedClause : Term → Option Term → ClauseTerms → Type 0
 IsNumberedClause head None c = ⊥
 IsNumberedClause head (Some body) c = c ≡ numbered (record { head = head; body = body })
+
+-- a clause and its number as they are handed out
+abbrev pub shown : ClauseId × Arc Clause Global → NumberedClause
+shown p = record { number = p.0.0; clause = arc_value p.1 }
 
 -- a head and a body make a clause, or the answer says why not
 abbrev pub IsCompiled : Term → Term → Result (Arc Clause Global) ClauseRefusal → Type 0

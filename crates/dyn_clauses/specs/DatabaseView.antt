@@ -12,7 +12,7 @@ use Rattle.run_model.specs.Programs.Databases.{NumberedClause, DynamicProcedure,
 use Rattle.proc_index.specs.declared.key.Key.{Key}
 use Rattle.proc_index.specs.Keys.{may_match}
 use Rattle.dyn_clauses.specs.PositionIndex.{Placed, position_number, numbered_clauses, without_position}
-use Rattle.dyn_clauses.specs.KeptClauses.{shown}
+use Rattle.clause_compile.specs.CompiledClauses.{shown}
 use Rattle.dyn_clauses.specs.declared.indicator.Indicator.{Indicator}
 use Rattle.dyn_clauses.specs.contracts.indicator.IndicatorOrd.TheImpl as indicator_ord
 use Rattle.dyn_clauses.specs.declared.place.Place.{Place}

@@ -61,7 +61,7 @@ pub joined_as : (eqs fs : Equations) (a b l r : Term) → eqs ≡ fs → l ≡ a
 joined_as eqs fs a b l r e left right j = subst (λ es. IsJoined es l r) e (subst (λ x. IsJoined eqs x r) (sym left) (subst (λ y. IsJoined eqs a y) (sym right) j))
 
 abbrev solution : Equations → ℕ → Solution
-solution eqs n = record { equations = eqs; goals = []; variables = n }
+solution eqs n = record { equations = eqs; goals = []; removes = None; variables = n }
 
 -- the equation stands for the same beside the store
 module _ (st new : StoreView) (eqs : Equations) (n : ℕ) (l r : Term) (apart : IsUnboundSolution st (solution eqs n)) (joined : IsJoined eqs l r) (taken : new ≡ with_numbers n st) where
@@ -92,6 +92,8 @@ module _ (st new : StoreView) (eqs : Equations) (n : ℕ) (l r : Term) (apart : 
         further = m.further;
         unified = sym same ∙ m.unified;
         bound = m.bound;
+        after = rest;
+        removes = refl;
         goals = record { terms = []; are = are; same = refl };
       }
 

@@ -13,7 +13,7 @@ use Rattle.au_model.specs.Syntax.VariableNumbers as reading
 use Rattle.au_model.specs.Syntax.VariableNumbers.{no_variables}
 use Rattle.au_model.specs.declared.types.FaultKind.{FaultKind}
 use Rattle.au_model.specs.declared.types.FaultKind.TheVariants.{BadClause, BadDirective}
-use Rattle.clause_compile.specs.CompiledClauses.{numbered}
+use Rattle.run_model.specs.Programs.Clauses.{numbered}
 
 pub data Sentence : Type 0 where
   ClauseSentence : Clause → Sentence
