@@ -6,3 +6,4 @@ mod QueryHistories
 mod ResultHistories
 mod ClosingRows
 pub mod WorkedJobs
+pub mod CountLemmas
