@@ -1,27 +1,13 @@
 -- Lists read from their fronts.
-use Rattle.std.proofs.Common.{◌≡◌, ℕ, suc, ◌+◌, ◌<◌, ◌&&◌, ◌==◌, Bool, true, false, cond, List, [], ◌∷◌, ◌++◌, drop, refl, ap, ◌∙◌, subst, arith}
+use Rattle.std.proofs.Common.{◌≡◌, ℕ, suc, ◌+◌, ◌<◌, ◌&&◌, ◌==◌, Bool, true, false, cond, List, [], ◌∷◌, ◌++◌, refl, ap, ◌∙◌, arith}
 use Rattle.std.specs.Prelude.{codes}
 use Rattle.std.proofs.lemmas.Bool.Decides.{nat_tests}
-use Rattle.au_term.specs.Term.{Term, VarTerm, IntTerm, AtomTerm, Compound, end, more, count, first_of, argument, argument_count}
-use Rattle.au_term.specs.PrefixOrder.{cells_of, terms_of, term_of, subterm, top_of, with_cell, IsForest}
-use Rattle.au_term.specs.declared.cell.Cell.{Cell}
-use Rattle.au_term.specs.declared.cell.Cell.TheVariants.{Var as VarCell, Int as IntCell, Atom as AtomCell, Functor}
-use Rattle.au_term.proofs.WholeTermLemmas.{count-take}
-use Rattle.au_term.proofs.SubtermLemmas.{opens, forest_from, term_forest}
+use Rattle.au_term.specs.Term.{Term, VarTerm, IntTerm, AtomTerm, Compound, end, more, count, argument, argument_count}
+use Rattle.au_term.specs.PrefixOrder.{top_of}
 use Rattle.au_model.specs.Terms.Forms.{same_name}
 use Rattle.au_model.specs.Terms.ListForms.{ListForm, ProperList, PartialList, NoList, item_before, list_form}
 use Rattle.au_model.specs.Terms.ListCells.{opens_pair, ends_list, items_before}
 use Rattle.au_model.specs.Terms.Unifier.{size}
-
-top_of-first : (c : Cell) (cs : List Cell) → IsForest (c ∷ cs) → top_of (first_of (with_cell c (terms_of cs))) ≡ c
-top_of-first (VarCell n) cs h = refl
-top_of-first (IntCell z) cs h = refl
-top_of-first (AtomCell a) cs h = refl
-top_of-first (Functor f n) cs h = ap (Functor f) (count-take n (terms_of cs) (opens (Functor f n) cs h).enough)
-
--- the first cell of a subterm
-pub top_of-subterm : (t : Term) (at : ℕ) (c : Cell) → drop at (cells_of t) ≡ c ∷ drop (at + 1) (cells_of t) → top_of (subterm at t) ≡ c
-top_of-subterm t at c here = ap (λ cs. top_of (term_of cs)) here ∙ top_of-first c (drop (at + 1) (cells_of t)) (subst IsForest here (forest_from (cells_of t) at (term_forest t)))
 
 pub no_two : (n : ℕ) → (suc (suc (suc n)) == 2) ≡ false
 no_two n = grind (arith, nat_tests)

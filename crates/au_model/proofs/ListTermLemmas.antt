@@ -1,5 +1,6 @@
 -- Compounds built argument by argument.
-use Rattle.std.proofs.Common.{◌≡◌, suc, ◌<◌, List, [], ◌∷◌, ◌++◌, length, refl, sym, ap, ◌∙◌, subst, append_assoc, append-nil}
+use Rattle.std.proofs.Common.{◌≡◌, ℕ, suc, ◌<◌, ◌≤◌, List, [], ◌∷◌, ◌++◌, length, drop, refl, sym, ap, ◌∙◌, subst, append_assoc, append-nil}
+use Rattle.std.proofs.lemmas.List.{drop_all}
 use Rattle.au_term.specs.Term.{Term, VarTerm, IntTerm, AtomTerm, Compound, count}
 use Rattle.au_term.specs.PrefixOrder.{cells_of, all_cells, term_of, term_of-cells_of, DueAfter, AreDue, due_after}
 use Rattle.au_term.specs.declared.cell.Cell.{Cell}
@@ -23,6 +24,9 @@ due_next whole a built rest e = cells_are_due a (due_after 1 built) (due_here bu
 
 pub built_more : (built now a rest all : List Cell) → built ++ (a ++ rest) ≡ all → now ≡ built ++ a → now ++ rest ≡ all
 built_more built now a rest all e n = ap (λ cs. cs ++ rest) n ∙ (append_assoc built a rest ∙ e)
+
+pub all_built : (i : ℕ) (ts : List Term) (built all : List Cell) → length ts ≤ i → built ++ all_cells (terms_from (drop i ts)) ≡ all → built ++ [] ≡ all
+all_built i ts built all le e = ap (λ us. built ++ all_cells (terms_from us)) (sym (drop_all i ts le)) ∙ e
 
 pub none_due : (whole : Term) (built : List Cell) → built ++ [] ≡ cells_of whole → due_after 1 built ≡ 0
 none_due whole built e = ap (due_after 1) (sym (append-nil built) ∙ e) ∙ due_after-is 1 (cells_of whole) 0 (DueAfter-term whole)

@@ -9,3 +9,4 @@ pub mod ArgumentLemmas
 pub mod VariableBoundLemmas
 pub mod TextLemmas
 pub mod LogicLemmas
+pub mod OptionLemmas

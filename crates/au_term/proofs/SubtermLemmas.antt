@@ -1,12 +1,12 @@
 -- The subterms of a term, by the places of its cells.
-use Rattle.std.proofs.Common.{◌≡◌, ℕ, zero, suc, ◌<◌, ◌≤◌, List, [], ◌∷◌, ◌++◌, length, take, drop, refl, sym, ap, ◌∙◌, append-nil, arith, length-append, length-drop, subst}
+use Rattle.std.proofs.Common.{◌≡◌, ℕ, ℤ, zero, suc, ◌+◌, ◌<◌, ◌≤◌, List, [], ◌∷◌, ◌++◌, length, take, drop, refl, sym, ap, ◌∙◌, append-nil, arith, length-append, length-drop, subst}
 use Rattle.std.proofs.Math.Seq.{take-append_seam, drop-append_seam}
 use Rattle.au_term.specs.Term.{Term, VarTerm, IntTerm, AtomTerm, Compound, Terms, end, more, count, first_of, take_terms, drop_terms, term_at, argument, arguments, argument_count}
-use Rattle.au_term.specs.PrefixOrder.{cells_of, all_cells, arity, with_cell, terms_of, term_of, terms_of-cells_of, IsForest, subterm}
+use Rattle.au_term.specs.PrefixOrder.{cells_of, all_cells, arity, with_cell, terms_of, term_of, terms_of-cells_of, IsForest, subterm, top_of}
 use Rattle.au_term.specs.Arguments.{terms_of-cells}
 use Rattle.au_term.specs.declared.cell.Cell.{Cell}
 use Rattle.au_term.specs.declared.cell.Cell.TheVariants.{Var as VarCell, Int as IntCell, Atom as AtomCell, Functor}
-use Rattle.au_term.proofs.WholeTermLemmas.{take_drop_cells, count-drop}
+use Rattle.au_term.proofs.WholeTermLemmas.{take_drop_cells, count-take, count-drop}
 
 -- what a forest's first cell says
 pub record Opens (c : Cell) (cs : List Cell) : Type 0 where
@@ -113,3 +113,26 @@ inside c cs i h lt =
 
 pub subterm-zero : (t : Term) → subterm 0 t ≡ t
 subterm-zero t = ap (λ cs. term_of cs) (sym (append-nil (cells_of t))) ∙ ap first_of (terms_of-cells_of t [])
+
+-- the first cell of a subterm
+top_of-first : (c : Cell) (cs : List Cell) → IsForest (c ∷ cs) → top_of (first_of (with_cell c (terms_of cs))) ≡ c
+top_of-first (VarCell n) cs h = refl
+top_of-first (IntCell z) cs h = refl
+top_of-first (AtomCell a) cs h = refl
+top_of-first (Functor f n) cs h = ap (Functor f) (count-take n (terms_of cs) (opens (Functor f n) cs h).enough)
+
+pub top_of-subterm : (t : Term) (at : ℕ) (c : Cell) → drop at (cells_of t) ≡ c ∷ drop (at + 1) (cells_of t) → top_of (subterm at t) ≡ c
+top_of-subterm t at c here = ap (λ cs. top_of (term_of cs)) here ∙ top_of-first c (drop (at + 1) (cells_of t)) (subst IsForest here (forest_from (cells_of t) at (term_forest t)))
+
+-- an atom and an integer are known by their first cell
+pub atom_of_top : (t : Term) (a : List ℕ) → top_of t ≡ AtomCell a → t ≡ AtomTerm a
+atom_of_top (VarTerm n) a h = absurd cc
+atom_of_top (IntTerm z) a h = absurd cc
+atom_of_top (AtomTerm b) a h = let same : b ≡ a = cc in ap AtomTerm same
+atom_of_top (Compound f ts) a h = absurd cc
+
+pub integer_of_top : (t : Term) (z : ℤ) → top_of t ≡ IntCell z → t ≡ IntTerm z
+integer_of_top (VarTerm n) z h = absurd cc
+integer_of_top (IntTerm y) z h = let same : y ≡ z = cc in ap IntTerm same
+integer_of_top (AtomTerm b) z h = absurd cc
+integer_of_top (Compound f ts) z h = absurd cc

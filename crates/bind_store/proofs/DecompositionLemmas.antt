@@ -7,7 +7,7 @@ use Rattle.au_term.specs.Term.{Term, VarTerm, IntTerm, AtomTerm, Compound, Terms
 use Rattle.au_term.specs.PrefixOrder.{cells_of, terms_of, term_of, top_of, arity, with_cell, IsForest}
 use Rattle.au_term.specs.declared.cell.Cell.{Cell}
 use Rattle.au_term.specs.declared.cell.Cell.TheVariants.{Var as VarCell, Int as IntCell, Atom as AtomCell, Functor}
-use Rattle.au_term.proofs.SubtermLemmas.{opens, forest_from, term_forest}
+use Rattle.au_term.proofs.SubtermLemmas.{opens, forest_from, term_forest, top_of-subterm}
 use Rattle.au_term.proofs.SizeFillLemmas.{opened}
 use Rattle.au_model.specs.Terms.Substitutions.{apply, apply_all, value_of, resolve}
 use Rattle.au_model.specs.Terms.Unifier.{Opened, pairs}
@@ -16,7 +16,7 @@ use Rattle.bind_store.specs.UnificationSteps.{Pair, whole_at, place_term, place_
 use Rattle.bind_store.specs.declared.unify.Step.TheVariants.{Drops, BindsLeft, BindsRight, Opens, Clashes}
 use Rattle.bind_store.specs.declared.unify.Place.{Place}
 use Rattle.bind_store.specs.declared.unify.Equation.{Equation}
-use Rattle.bind_store.proofs.PlaceLemmas.{stand_within, top_of-subterm}
+use Rattle.bind_store.proofs.PlaceLemmas.{stand_within}
 use Rattle.bind_store.proofs.EquationStepLemmas.{reached_rule}
 
 -- both sides of what is opened have so many arguments

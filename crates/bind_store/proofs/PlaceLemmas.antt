@@ -1,27 +1,14 @@
 -- Subterms by their places.
-use Rattle.std.proofs.Common.{◌≡◌, ℕ, zero, suc, ◌+◌, ◌-◌, ◌<◌, ◌≤◌, List, [], ◌∷◌, ◌++◌, length, drop, reverse, refl, sym, ap, ◌∙◌, subst, arith}
-use Rattle.au_term.specs.Term.{Term, more, count, first_of, take_terms}
-use Rattle.au_term.specs.PrefixOrder.{cells_of, terms_of, term_of, terms_of-cells_of, subterm, top_of, with_cell, IsForest}
+use Rattle.std.proofs.Common.{◌≡◌, ℕ, zero, suc, ◌+◌, ◌-◌, ◌<◌, ◌≤◌, List, [], ◌∷◌, ◌++◌, length, drop, reverse, sym, ap, ◌∙◌, arith}
+use Rattle.au_term.specs.Term.{more, count, take_terms}
+use Rattle.au_term.specs.PrefixOrder.{cells_of, terms_of, terms_of-cells_of, subterm}
 use Rattle.au_term.specs.declared.cell.Cell.{Cell}
-use Rattle.au_term.specs.declared.cell.Cell.TheVariants.{Var as VarCell, Int as IntCell, Atom as AtomCell, Functor}
-use Rattle.au_term.proofs.WholeTermLemmas.{count-take}
-use Rattle.au_term.proofs.SubtermLemmas.{opens, forest_from, term_forest}
 use Rattle.bind_store.specs.Bindings.{Binding}
 use Rattle.au_model.specs.Terms.Unifier.{pairs}
 use Rattle.bind_store.specs.UnificationSteps.{Pair, whole_at, place_term, place_terms, HasTermsAt, IsNextPlace, equations_at, pending_equations}
 use Rattle.bind_store.specs.declared.unify.Equation.{Equation}
 use Rattle.bind_store.proofs.WalkLemmas.{reverse-push}
 use Rattle.bind_store.specs.declared.unify.Place.{Place}
-
-top_of-first : (c : Cell) (cs : List Cell) → IsForest (c ∷ cs) → top_of (first_of (with_cell c (terms_of cs))) ≡ c
-top_of-first (VarCell n) cs h = refl
-top_of-first (IntCell z) cs h = refl
-top_of-first (AtomCell a) cs h = refl
-top_of-first (Functor f n) cs h = ap (Functor f) (count-take n (terms_of cs) (opens (Functor f n) cs h).enough)
-
--- the first cell of a subterm
-pub top_of-subterm : (t : Term) (at : ℕ) (c : Cell) → drop at (cells_of t) ≡ c ∷ drop (at + 1) (cells_of t) → top_of (subterm at t) ≡ c
-top_of-subterm t at c here = ap (λ cs. top_of (term_of cs)) here ∙ top_of-first c (drop (at + 1) (cells_of t)) (subst IsForest here (forest_from (cells_of t) at (term_forest t)))
 
 -- the terms from a place on are the subterm and the terms after it
 pub after_is : (p : Pair) (bs : List Binding) (at next : Place) → next.source ≡ at.source → drop at.at (cells_of (whole_at p bs at.source)) ≡ cells_of (subterm at.at (whole_at p bs at.source)) ++ drop next.at (cells_of (whole_at p bs at.source)) → IsNextPlace p bs at next

@@ -7,7 +7,7 @@ use Rattle.tree_model.specs.Nodes.{Status, Pending, Inner, Closed, credits_below
 use Rattle.tree_model.specs.Levels.{Level, level_node, plug, Place, place_at}
 use Rattle.tree_model.specs.Orders.{is_closed, first_open_left, first_open, credits_left, clock_of, answers_left}
 use Rattle.tree_nodes.specs.Bodies.{Reading}
-use Rattle.tree_nodes.specs.Rows.{AlternativeCell, row_of_node, cell_at}
+use Rattle.tree_nodes.specs.Rows.{AlternativeCell, node_parent, cell_at}
 use Rattle.tree_nodes.specs.TreeTables.{cell_of, cells_of, NodesView, IsTableOf, above_of}
 use Rattle.tree_nodes.proofs.PlaceLemmas.{left_cells, length-left_cells}
 use Rattle.tree_nodes.proofs.WalkLemmas.{cells_beside, cell_here, parent_here, one_level_up, no_level_up}
@@ -127,7 +127,7 @@ module _ (nodes : NodesView) (b : Place) (answers inferences spent : ℕ) (read 
       }
 
 pub counts_go_on : (nodes : NodesView) (a b : Place) (answers inferences spent : ℕ) (parent : Option Place) (beside : ℕ × ℕ) → Counts nodes a (Some b) answers inferences
-    → option_map (λ r. r.parent) (row_of_node nodes.rows b.node) ≡ Some parent → beside ≡ counts_beside nodes.rows b
+    → node_parent nodes.rows b.node ≡ Some parent → beside ≡ counts_beside nodes.rows b
     → option_map (λ c. c.0) (cell_at nodes.rows b) ≡ Some spent
     → Counts nodes a parent (counted beside.0 answers) (counted (counted beside.1 spent) inferences)
 counts_go_on nodes a b answers inferences spent parent beside w p is_beside sp read v up was e s f =
@@ -137,7 +137,7 @@ counts_go_on nodes a b answers inferences spent parent beside w p is_beside sp r
     (ap (cell_at nodes.rows) (sym k.at) ∙ cell_here nodes read k.level k.above k.status here) in
     by_parent nodes b answers inferences spent read v up was k here beside is_beside (cc spends) parent
     (parent_here nodes read k.level k.above k.status parent here
-    (ap (λ (q : Place). option_map (λ r. r.parent) (row_of_node nodes.rows q.node)) k.at ∙ p))
+    (ap (λ (q : Place). node_parent nodes.rows q.node) k.at ∙ p))
 
 -- one alternative more
 pub counts_step : (cells : List (ℕ × AlternativeCell)) (i n : ℕ) (so_far : ℕ × ℕ) → i < n → IsSome (slice_get cells i)

@@ -6,7 +6,7 @@ use Rattle.tree_model.specs.Nodes.{Status, Pending, Inner, Closed}
 use Rattle.tree_model.specs.Levels.{Level, level_node, plug, Place, place_at}
 use Rattle.tree_model.specs.Orders.{is_node, levels_below, is_closed, first_open_left, first_open}
 use Rattle.tree_nodes.specs.Bodies.{Reading}
-use Rattle.tree_nodes.specs.Rows.{AlternativeCell, StoredNode, Rows, row_of_node, alternatives_at, cell_at}
+use Rattle.tree_nodes.specs.Rows.{AlternativeCell, StoredNode, Rows, row_of_node, node_parent, alternatives_at, cell_at}
 use Rattle.tree_nodes.specs.Gathering.{is_shut, is_shut_at}
 use Rattle.tree_nodes.specs.TreeTables.{cell_of, cells_of, NodesView, IsTableOf, above_of}
 use Rattle.tree_nodes.specs.Puts.{IsPlaceIn}
@@ -149,14 +149,14 @@ module _ (nodes : NodesView) (scope : Option ℕ) (b : Place) (first : Option Pl
   by_parent (Some q) z = by_test (is_node scope q.node) q refl z
 
 pub walk_goes_on : (nodes : NodesView) (a : Place) (scope : Option ℕ) (b : Place) (first parent : Option Place) → Walks nodes a scope (Some b) first
-    → option_map (λ r. r.parent) (row_of_node nodes.rows b.node) ≡ Some parent
+    → node_parent nodes.rows b.node ≡ Some parent
     → Walks nodes a scope (below_scope scope parent) (or_else (open_beside nodes.rows b) first)
 walk_goes_on nodes a scope b first parent w p read v up was e s =
     let k = w read v up was e s in
     let here = subst (IsTableOf nodes read) k.same s in
     by_parent nodes scope b first read v up was k here parent
     (parent_here nodes read k.level k.above k.status parent here
-    (ap (λ (q : Place). option_map (λ r. r.parent) (row_of_node nodes.rows q.node)) k.at ∙ p))
+    (ap (λ (q : Place). node_parent nodes.rows q.node) k.at ∙ p))
 
 -- one alternative more is closed
 pub drop-take-cons : (cells : List (ℕ × AlternativeCell)) (i n : ℕ) (c : ℕ × AlternativeCell) → i < n → slice_get cells i ≡ Some c → drop i (take n cells) ≡ c ∷ drop (suc i) (take n cells)

@@ -1,13 +1,12 @@
 -- Two branches, and where they part.
 use Rattle.std.specs.Prelude.{◌≡◌, ◌⊎◌, ℕ, ◌+◌, ◌<◌, Bool, List, ◌∷◌, Option, Some, None, IsSome}
-use Rattle.std.specs.Option.{option_map}
 use Rattle.tree_model.specs.declared.places.AltRef.{AltRef}
 use Rattle.tree_model.specs.EventViews.{place_view}
 use Rattle.tree_model.specs.Nodes.{Status}
 use Rattle.tree_model.specs.Levels.{Level, plug, Place, place_at}
 use Rattle.tree_model.specs.Orders.{path_of, parts_left}
 use Rattle.tree_nodes.specs.Bodies.{Reading}
-use Rattle.tree_nodes.specs.Rows.{Rows, row_of_node, cell_at}
+use Rattle.tree_nodes.specs.Rows.{Rows, node_parent, cell_at}
 use Rattle.tree_nodes.specs.TreeTables.{NodesView, IsTableOf}
 
 -- whether one place of a tree is before another
@@ -16,12 +15,9 @@ IsBeforeAt nodes a b result =
     (read : Reading) (v : Level) (up : List Level) (s : Status) (w : Level) (over : List Level) (t : Status) → place_at v ≡ a → place_at w ≡ b
     → IsTableOf nodes read (plug (v ∷ up) s) → plug (v ∷ up) s ≡ plug (w ∷ over) t → result ≡ parts_left (path_of (v ∷ up)) (path_of (w ∷ over))
 
-abbrev pub parent_at : Rows → ℕ → Option (Option Place)
-parent_at rows n = option_map (λ r. r.parent) (row_of_node rows n)
-
 -- one side is deeper, and this is above its node
 abbrev pub IsUpFrom : Rows → Place → Place → Option Place → Type 0
-IsUpFrom rows a b above = (b.node < a.node) × (parent_at rows a.node ≡ Some above)
+IsUpFrom rows a b above = (b.node < a.node) × (node_parent rows a.node ≡ Some above)
 
 -- the deeper side has gone up
 abbrev pub IsMeetStep : Rows → Place → Place → Option (AltRef × AltRef) → Type 0

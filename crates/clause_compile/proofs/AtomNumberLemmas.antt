@@ -10,7 +10,7 @@ use Rattle.au_term.specs.declared.atom.Atom.{Atom}
 use Rattle.au_model.specs.Terms.Forms.{same_name}
 use Rattle.clause_compile.specs.AtomNumbers.{name_at, number_in, AreDistinct, IsNumbering, IsNumbered}
 
-at_name : (n q : List ℕ) → is_at (slice_cmp nat_cmp n) q ≡ same_name n q
+pub at_name : (n q : List ℕ) → is_at (slice_cmp nat_cmp n) q ≡ same_name n q
 at_name n q = sym (texts_ties n q)
 
 self_same : (a : List ℕ) → same_name a a ≡ true

@@ -2,7 +2,7 @@
 use Rattle.std.proofs.Common.{◌≡◌, ℕ, ℤ, zero, suc, ◌+◌, ◌-◌, ◌<◌, ◌≤◌, Bool, true, false, nat_le, List, [], ◌∷◌, ◌++◌, length, length-append, map, get_or, take, drop, reverse, refl, sym, ap, ap₂, ◌∙◌, subst, append-nil, append_assoc, arith}
 use Rattle.std.proofs.Math.Seq.{drop-append_seam, take-append_seam}
 use Rattle.std.proofs.lemmas.Bool.Decides.{nat_tests}
-use Rattle.std.proofs.lemmas.List.{map-append, take-append-le, take_all, reverse-append, length-reverse, length-map}
+use Rattle.std.proofs.lemmas.List.{map-append, drop-append-le, take-append-le, take_all, reverse-append, length-reverse, length-map}
 use Rattle.au_term.specs.Term.{Term, VarTerm, IntTerm, AtomTerm, Compound, Terms, end, more, count, take_terms, drop_terms}
 use Rattle.au_term.specs.PrefixOrder.{cells_of, terms_of, term_of, term_of-cells_of, subterm, with_cell, arity, IsForest}
 use Rattle.au_term.specs.Arguments.{terms_of-cells}
@@ -11,13 +11,13 @@ use Rattle.au_term.specs.declared.cell.Cell.TheVariants.{Var as VarCell, Int as 
 use Rattle.au_term.proofs.SubtermLemmas.{opens, forest_from}
 use Rattle.au_model.specs.Terms.Each.{Each}
 use Rattle.au_model.specs.Terms.Lists.{terms_from}
-use Rattle.au_model.proofs.EachLemmas.{each-append}
+use Rattle.au_model.proofs.EachLemmas.{each-append, each-drop}
 use Rattle.clause_compile.specs.AtomNumbers.{name_at, IsNumbered}
 use Rattle.clause_compile.specs.GoalPlaces.{subterms_at}
 use Rattle.clause_compile.specs.Places.{place_meaning, compound_here, compound_to, meaning_of, BeginsCompound, IsPlaceBefore, StandBefore, AreSound, CodeView, IsPlaceOf, meaning_in, Keeps, IsPlaced, AreAllPlaced, meanings, ArePlacesOf, AddsCell, HasMorePlaces}
 use Rattle.clause_compile.specs.declared.place.Place.{Place}
 use Rattle.clause_compile.specs.declared.place.Place.TheVariants.{Functor, Var, Int, Atom, Sub}
-use Rattle.clause_compile.proofs.PlaceMeaningLemmas.{drop_front, all_before_still, all_mean_still, added_keeps}
+use Rattle.clause_compile.proofs.PlaceMeaningLemmas.{all_before_still, all_mean_still, added_keeps}
 
 drop_past : {X : Type 0} (n m : ℕ) (xs ys : List X) → n ≡ m + length xs → drop n (xs ++ ys) ≡ drop m ys
 drop_past n m [] ys e = let same : n ≡ m = omega arith in ap (λ k. drop k ys) same
@@ -65,7 +65,7 @@ block_sound k m f n places args s le e b at = by_order (nat_le (length places) a
         subst (StandBefore m new at) (sym (drop_past at (at - length places) places (Functor f n ∷ args) (omega arith))) (from_block (at - length places) la)
     by_order false q =
         let lt : at < length places = grind (arith, nat_tests) in
-        subst (StandBefore m new at) (sym (drop_front at places (Functor f n ∷ args) (omega arith))) (stands_still k m at places (Functor f n ∷ args) (drop at places) le (some_left at places lt) (s at))
+        subst (StandBefore m new at) (sym (drop-append-le at places (Functor f n ∷ args) (omega arith))) (stands_still k m at places (Functor f n ∷ args) (drop at places) le (some_left at places lt) (s at))
 
 -- and where names were added
 pub names_sound : (k m : ℕ) (places : List Place) → AreSound k places → k ≤ m → AreSound m places
@@ -145,11 +145,6 @@ each_taken P zero xs h = tt
 each_taken P (suc n) [] h = tt
 each_taken P (suc n) (x ∷ xs) h = (h.0, each_taken P n xs h.1)
 
-each_dropped : {X : Type 0} (P : X → Type 0) (n : ℕ) (xs : List X) → Each P xs → Each P (drop n xs)
-each_dropped P zero xs h = h
-each_dropped P (suc n) [] h = tt
-each_dropped P (suc n) (x ∷ xs) h = each_dropped P n xs h.1
-
 length_taken : {X : Type 0} (n : ℕ) (xs : List X) → n ≤ length xs → n ≡ length (take n xs)
 length_taken zero xs le = refl
 length_taken (suc n) [] le = absurd (omega arith)
@@ -181,7 +176,7 @@ module _ (names further : List (List ℕ)) (places before : List Place) (f n : �
       let front : reverse after ≡ Sub (length places) ∷ drop n (reverse before) = ap reverse is ∙ (turned left (Sub (length places)) ∙ ap (λ ps. Sub (length places) ∷ ps) rest) in
       let own : IsPlaceOf new (Sub (length places)) =
       (omega (arith, length-append places (Functor f n ∷ args)), subst (BeginsCompound (length (names ++ further))) (sym (drop-append_seam places (Functor f n ∷ args))) (known, omega (arith, number))) in
-      let others = each_dropped (IsPlaceOf old) n (reverse before) stand in
+      let others = each-drop (IsPlaceOf old) n (reverse before) stand in
       let term : meaning_in new (Sub (length places)) ≡ Compound name (take_terms n (meanings old before)) =
       block_means names further places args f n sound number those
       ∙ (ap (λ m. Compound m (terms_from (map (meaning_in old) args))) named ∙ ap (Compound name) (sym (take_map (meaning_in old) n (reverse before)))) in

@@ -1,6 +1,6 @@
 -- What places mean, as text is added.
 use Rattle.std.proofs.Common.{◌≡◌, ℕ, zero, suc, ◌<◌, ◌≤◌, List, [], ◌∷◌, ◌++◌, length, length-append, map, take, drop, refl, sym, ap, ap₂, ◌∙◌, subst, append-nil, arith}
-use Rattle.std.proofs.lemmas.List.{take-append-le}
+use Rattle.std.proofs.lemmas.List.{drop-append-le, take-append-le}
 use Rattle.au_term.specs.Term.{Term, AtomTerm, Compound}
 use Rattle.au_model.specs.Terms.Each.{Each}
 use Rattle.au_model.specs.Terms.Lists.{terms_from}
@@ -9,11 +9,6 @@ use Rattle.clause_compile.specs.Places.{place_meaning, compound_here, compound_t
 use Rattle.clause_compile.specs.declared.place.Place.{Place}
 use Rattle.clause_compile.specs.declared.place.Place.TheVariants.{Functor, Var, Int, Atom, Sub}
 use Rattle.clause_compile.proofs.AtomNumberLemmas.{name_at-front}
-
-pub drop_front : {X : Type 0} (n : ℕ) (xs ys : List X) → n ≤ length xs → drop n (xs ++ ys) ≡ drop n xs ++ ys
-drop_front zero xs ys le = refl
-drop_front (suc n) [] ys le = absurd (omega arith)
-drop_front (suc n) (x ∷ xs) ys le = drop_front n xs ys (omega arith)
 
 -- a compound begins within
 pub begins_within : (k : ℕ) (places : List Place) (at : ℕ) → BeginsCompound k (drop at places) → at < length places
@@ -59,7 +54,7 @@ pub added_same : (k : ℕ) (names further : List (List ℕ)) (places more : List
 added_same k names further places more e s zero at b = refl
 added_same k names further places more e s (suc n) at b =
     let lt = begins_within k places at b in
-    same_here k names (names ++ further) places at (compound_to n (names ++ further) (places ++ more)) (compound_to n names places) (λ i l. name_at-front names further i (omega arith)) (λ i l c. added_same k names further places more e s n i c) (drop at places) (drop at (places ++ more)) more (drop_front at places more (omega arith)) b (s at)
+    same_here k names (names ++ further) places at (compound_to n (names ++ further) (places ++ more)) (compound_to n names places) (λ i l. name_at-front names further i (omega arith)) (λ i l c. added_same k names further places more e s n i c) (drop at places) (drop at (places ++ more)) more (drop-append-le at places more (omega arith)) b (s at)
 
 begins_still : (k m : ℕ) (ds more : List Place) → k ≤ m → BeginsCompound k ds → BeginsCompound m (ds ++ more)
 begins_still k m [] more le b = absurd b
@@ -76,7 +71,7 @@ before_still k m places more at next (Int z) lk la b = tt
 before_still k m places more at next (Atom a) lk la b = omega (arith, b)
 before_still k m places more at next (Sub i) lk la b =
     let lt = begins_within k places i b.1 in
-    (omega (arith, b.0), subst (BeginsCompound m) (sym (drop_front i places more (omega arith))) (begins_still k m (drop i places) more lk b.1))
+    (omega (arith, b.0), subst (BeginsCompound m) (sym (drop-append-le i places more (omega arith))) (begins_still k m (drop i places) more lk b.1))
 
 pub all_before_still : (k m : ℕ) (places more : List Place) (at next : ℕ) (ps : List Place) → k ≤ m → at ≤ next → Each (IsPlaceBefore k places at) ps → Each (IsPlaceBefore m (places ++ more) next) ps
 all_before_still k m places more at next [] lk la b = tt

@@ -9,7 +9,8 @@ use Rattle.std.specs.Cmp.{nat_cmp_is, unsigned_ties}
 use Rattle.std.specs.Map.{lookup}
 use Rattle.std.specs.BTreeMap.{BTreeMap, get, IsOrdered, insert_entry, is_at}
 use Rattle.std.proofs.lemmas.Bool.Decides.{nat_tests}
-use Rattle.au_term.proofs.LogicLemmas.{both as both_true, number_same, same_number}
+use Rattle.au_term.proofs.LogicLemmas.{both as both_true, number_same, same_number, true_false}
+use Rattle.au_term.proofs.OptionLemmas.{some_cond}
 use Rattle.run_model.specs.Programs.Clauses.{Clause as ClauseTerms}
 use Rattle.run_model.specs.Programs.Databases.{NumberedClause, DynamicProcedure, has_number, procedure_without}
 use Rattle.dyn_clauses.specs.declared.indicator.Indicator.{Indicator}
@@ -34,21 +35,14 @@ pos_at q p = is_at (nat_cmp q) p
 pos_self : (q : ℕ) → pos_at q q ≡ true
 pos_self q = sym (unsigned_ties q q) ∙ number_same q
 
-no_way : true ≡ false → ⊥
-no_way e = cc
-
 none_some : {X : Type 0} {o : Option X} → o ≡ None → IsSome o → ⊥
-none_some e h = no_way (sym h ∙ ap is_some e)
+none_some e h = true_false (sym h ∙ ap is_some e)
 
 spot_is : (i j : Indicator) (q p : ℕ) → is_spot i q j p ≡ true → (i ≡ j) × (q ≡ p)
 spot_is i j q p e = let h = both_true (is_at (indicator_cmp i) j) (pos_at q p) e in (same_indicator i j h.0, at_same q p h.1)
 
 spot_self : (i : Indicator) (q : ℕ) → is_spot i q i q ≡ true
 spot_self i q = ap₂ (λ x y. x && y) (at_self i) (pos_self q)
-
-some_spot : (b : Bool) (c : ClauseTerms) (o : Option ClauseTerms) → IsSome o → IsSome (cond b (Some c) o)
-some_spot true c o h = refl
-some_spot false c o h = h
 
 place_same : (i j : Indicator) (p q : ℕ) → Some (place i p) ≡ Some (place j q) → (i ≡ j) × (p ≡ q)
 place_same i j p q e = let h : place i p ≡ place j q = cc in (ap (λ x. x.procedure) h, ap (λ x. x.position) h)
@@ -102,7 +96,7 @@ add_kept m n a b number i q c h e ordered clauses places = record {
             subst (λ (z : Place). IsSome (clause_at n.entries z.procedure z.position) × (position_number z.position ≡ k)) same (at_it, e ∙ at_same number k f)
         by false f t =
             let old = h.kept.there k x t in
-            (subst IsSome (sym (clauses x.procedure x.position)) (some_spot (is_spot i q x.procedure x.position) c (clause_at m.entries x.procedure x.position) old.0), old.1)
+            (subst IsSome (sym (clauses x.procedure x.position)) (some_cond (is_spot i q x.procedure x.position) c (clause_at m.entries x.procedure x.position) old.0), old.1)
 
     below : (k : ℕ) → IsSome (get nat_cmp b k) → k < number + 1
     below k s = by (pos_at number k) refl (subst IsSome (places k) s)
@@ -158,7 +152,7 @@ remove_kept m n a b number x h here ordered clauses places = record { ordered = 
                 let same : Some x ≡ Some (place j p) = sym here ∙ (ap (get nat_cmp a) (at_same number (position_number p) g) ∙ old) in
                 let parts = place_same x.procedure j x.position p same in
                 let yes : is_spot x.procedure x.position j p ≡ true = ap₂ (λ u v. is_spot x.procedure x.position u v) (sym parts.0) (sym parts.1) ∙ spot_self x.procedure x.position in
-                absurd (no_way (sym yes ∙ f))
+                absurd (true_false (sym yes ∙ f))
 
     there : (k : ℕ) (y : Place) → get nat_cmp b k ≡ Some y → IsSome (clause_at n.entries y.procedure y.position) × (position_number y.position ≡ k)
     there k y s = by (pos_at number k) refl (sym (places k) ∙ s)
@@ -175,7 +169,7 @@ remove_kept m n a b number x h here ordered clauses places = record { ordered = 
             stays true g =
                 let same = spot_is x.procedure y.procedure x.position y.position g in
                 let number_is : number ≡ k = sym (h.there number x here).1 ∙ (ap position_number same.1 ∙ old.1) in
-                absurd (no_way (sym (ap (pos_at number) (sym number_is) ∙ pos_self number) ∙ f))
+                absurd (true_false (sym (ap (pos_at number) (sym number_is) ∙ pos_self number) ∙ f))
 
 -- fewer numbers
 pub fewer : {X : Type 0} (a b : BTreeMap ℕ X) (test : ℕ → Bool) → ((k : ℕ) → get nat_cmp b k ≡ cond (test k) None (get nat_cmp a k)) → (k : ℕ) → IsSome (get nat_cmp b k) → IsSome (get nat_cmp a k)
@@ -252,11 +246,11 @@ module _ (m : Procedures) (a : Places) (h : HavePlaces m a) (number : ℕ) where
             let same : Some x ≡ Some (place e.0 d.0) = sym here ∙ (ap (get nat_cmp a) (sym (same_number (position_number d.0) number f)) ∙ own_place e d.0 own s.0) in
             let parts = place_same x.procedure e.0 x.position d.0 same in
             let yes : is_spot x.procedure x.position e.0 d.0 ≡ true = ap₂ (λ u v. is_spot x.procedure x.position u v) (sym parts.0) (sym parts.1) ∙ spot_self x.procedure x.position in
-            absurd (no_way (sym yes ∙ g))
+            absurd (true_false (sym yes ∙ g))
         go false true f g =
             let same = spot_is x.procedure e.0 x.position d.0 g in
             let is : position_number d.0 ≡ number = ap position_number (sym same.1) ∙ (h.there number x here).1 in
-            absurd (no_way (sym (ap (λ k. k == number) is ∙ number_same number) ∙ f))
+            absurd (true_false (sym (ap (λ k. k == number) is ∙ number_same number) ∙ f))
 
     without_one : (e : Indicator × Placed) → lookup (is_at (indicator_cmp e.0)) m.entries ≡ Some e.1
         → numbered_clauses (cond (is_at (indicator_cmp x.procedure) e.0) (without_position x.position e.1) e.1) ≡ filter (λ c. not (c.number == number)) (numbered_clauses e.1)
@@ -344,7 +338,7 @@ abolish_kept m n a b i ps h ordered known procedures places = record { ordered =
                 let found = numbered_found (position_number p) ps ps (some_each ps) g in
                 let same : Some (place i found.0) ≡ Some (place j p) = sym (own found.0 found.1) ∙ (ap (get nat_cmp a) found.2 ∙ old) in
                 let yes : is_at (indicator_cmp i) j ≡ true = ap (is_at (indicator_cmp i)) (sym (place_same i j found.0 p same).0) ∙ at_self i in
-                absurd (no_way (sym yes ∙ f))
+                absurd (true_false (sym yes ∙ f))
 
     there : (k : ℕ) (x : Place) → get nat_cmp b k ≡ Some x → IsSome (clause_at n.entries x.procedure x.position) × (position_number x.position ≡ k)
     there k x s = by (has_numbered ps k) refl (sym (places k) ∙ s)
@@ -362,7 +356,7 @@ abolish_kept m n a b i ps h ordered known procedures places = record { ordered =
                 let same = same_indicator i x.procedure g in
                 let s : IsSome (lookup (pos_at x.position) ps) = subst (λ o. IsSome (clause_in o x.position)) (sym (known ∙ ap (get indicator_cmp m) same)) old.0 in
                 let yes : has_numbered ps k ≡ true = ap (has_numbered ps) (sym old.1) ∙ numbered_there x.position ps s in
-                absurd (no_way (sym yes ∙ f))
+                absurd (true_false (sym yes ∙ f))
 
 pub placed_same : (m n : Procedures) (a : Places) → HavePlaces m a → IsOrdered indicator_cmp n → n.entries ≡ m.entries → HavePlaces n a
 placed_same m n a h ordered same = record {

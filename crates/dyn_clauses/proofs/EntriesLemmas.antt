@@ -1,7 +1,7 @@
 -- The entries of procedures: found, changed, and without a clause.
 use Rattle.std.proofs.Common.{◌≡◌, ◌∙◌, ℕ, Bool, true, false, not, ◌&&◌, ◌||◌, ◌==◌, cond, List, [], ◌∷◌, ◌++◌, filter, find, Option, Some, None, refl, sym, ap, ap₂, subst}
 use Rattle.std.specs.Prelude.{IsSome, Result, Ok, Err, OnOk, OnErr}
-use Rattle.std.specs.Option.{option_map, is_some}
+use Rattle.std.specs.Option.{option_map}
 use Rattle.std.specs.List.{AllByRecursion, list_any}
 use Rattle.std.specs.List.Sorted.{IsStrictlySortedBy}
 use Rattle.std.specs.Ordering.{nat_cmp, is_eq, match_ordering, ordering_reverse}
@@ -14,7 +14,8 @@ use Rattle.std.specs.BTreeMap.{BTreeMap, get, insert_entry, is_at}
 use Rattle.std.proofs.lemmas.Map.{NonePasses, lookup-none, none_passes_from_lookup}
 use Rattle.std.proofs.lemmas.Map.Entries.{lookup-filter-keys, none_below_head, none_past_head}
 use Rattle.std.proofs.lemmas.Map.Keys.{IsDistinct-from_sorted}
-use Rattle.au_term.proofs.LogicLemmas.{both as both_true, number_same, number_turned, same_number}
+use Rattle.au_term.proofs.LogicLemmas.{both as both_true, false_true, number_same, number_turned, same_number}
+use Rattle.au_term.proofs.OptionLemmas.{some_cond}
 use Rattle.au_model.specs.Terms.Forms.{same_name}
 use Rattle.run_model.specs.Programs.Clauses.{Clause as ClauseTerms}
 use Rattle.run_model.specs.Programs.Databases.{NumberedClause, DynamicProcedure, is_procedure}
@@ -152,10 +153,7 @@ lookup_inserted p q c (e ∷ ps) = go (nat_cmp q e.0) refl (pos_at p e.0) (pos_a
         let here : p ≡ e.0 = at_same p e.0 i in
         let there : q ≡ p = at_same q p j in
         let no : is_eq Greater ≡ true = ap is_eq (sym h) ∙ (ap (λ k. pos_at k e.0) there ∙ i) in
-        absurd (no_way no)
-      where
-        no_way : false ≡ true → ⊥
-        no_way k = cc
+        false_true no
     go Greater h true false i j r = ap (λ b. cond b (Some e.1) (lookup (pos_at p) (insert_entry nat_cmp ps q c))) i
     go Greater h false true i j r = ap (λ b. cond b (Some e.1) (lookup (pos_at p) (insert_entry nat_cmp ps q c))) i ∙ r
     go Greater h false false i j r = ap (λ b. cond b (Some e.1) (lookup (pos_at p) (insert_entry nat_cmp ps q c))) i ∙ r
@@ -233,14 +231,6 @@ spot_declared m n i ws fresh none set j p = clauses_set m n i ws set j p ∙ go 
     go true h = ap (lookup (pos_at p)) fresh ∙ sym (ap (λ o. clause_in o p) (ap (get indicator_cmp m) (sym (same_indicator i j h)) ∙ none))
     go false h = refl
 
-pub some_value : {X : Type 0} (o : Option X) → is_some o ≡ true → (x : X) × (o ≡ Some x)
-some_value None e = absurd cc
-some_value (Some x) e = (x, refl)
-
-pub none_value : {X : Type 0} (o : Option X) → is_some o ≡ false → o ≡ None
-none_value None e = refl
-none_value (Some x) e = absurd cc
-
 pub ok_map : {X E : Type 0} (r : Result X E) (P Q : Type 0) → OnOk r P → (P → Q) → OnOk r Q
 ok_map (Ok x) P Q p f = f p
 ok_map (Err e) P Q p f = tt
@@ -265,10 +255,6 @@ pub found_entries : (es : Entries) → Sorted es → AllByRecursion (λ e. looku
 unfolding IsStrictlySortedBy
 found_entries [] s = tt
 found_entries (e ∷ es) s = (ap (λ b. cond b (Some e.1) (lookup (at e.0) es)) (at_self e.0), further e es es s.0 (found_entries es s.1))
-
-some_cond : {X : Type 0} (b : Bool) (x : X) (o : Option X) → IsSome o → IsSome (cond b (Some x) o)
-some_cond true x o h = refl
-some_cond false x o h = h
 
 each_further : (e : ℕ × ClauseTerms) (ps ds : Placed) → AllByRecursion (λ d. IsSome (lookup (pos_at d.0) ps)) ds → AllByRecursion (λ d. IsSome (lookup (pos_at d.0) (e ∷ ps))) ds
 each_further e ps [] h = tt

@@ -13,7 +13,7 @@ use Rattle.au_model.specs.Terms.Substitutions.{Substitution, apply, apply_all, v
 use Rattle.au_model.specs.Terms.Unifier.{unifier}
 use Rattle.au_model.specs.Terms.Forms.{is_callable}
 use Rattle.au_model.proofs.UnifierRuleLemmas.{count-apply_all}
-use Rattle.bind_store.proofs.PlaceLemmas.{top_of-subterm}
+use Rattle.au_term.proofs.SubtermLemmas.{top_of-subterm}
 use Rattle.proc_index.specs.declared.key.Key.{Key}
 use Rattle.proc_index.specs.Keys.{key_of, cell_key, head_key, is_any, same_key}
 use Rattle.proc_index.specs.Laws.{tell_apart}

@@ -17,13 +17,13 @@ use Rattle.tree_model.specs.Ways.{under_query}
 use Rattle.tree_model.specs.SoundTrees.{IsSoundTree}
 use Rattle.tree_model.specs.CaughtTrees.{IsCaught, IsUnspent, IsCaughtTree}
 use Rattle.tree_model.specs.Elements.{Name, Credit, Plain}
+use Rattle.tree_model.proofs.CountLemmas.{count_around}
 use Rattle.interleaving.specs.Machine.{AsksWorld, free_steps, run, seen}
 use Rattle.interleaving.specs.Scopes.{act, item_act, answer_taken, scoped}
 use Rattle.interleaving.specs.Quiet.{inferences}
 use Rattle.interleaving.specs.Sound.{IsSound}
 use Rattle.interleaving.specs.Follows.{lead, Follows}
 use Rattle.interleaving.specs.HistoryInvariants.{shared_of, AnswerMoves}
-use Rattle.interleaving.proofs.ContextLemmas.{count_around}
 use Rattle.interleaving.proofs.OpenSpotLemmas.{IsOpenSpot, placed_at, count_at}
 use Rattle.interleaving.proofs.ClockLemmas.{IsFirst, front_quiet}
 use Rattle.interleaving.proofs.LeadLemmas.{lead-quiet}

@@ -29,14 +29,14 @@ use Rattle.interleaving.specs.Views.{IsBlind, IsInner, IsUnder, IsRecordApart}
 use Rattle.interleaving.specs.Laws.{is_inner_record, IsSegment}
 use Rattle.interleaving.specs.Erased.{element_count, erased}
 use Rattle.interleaving.specs.Follows.{lead}
-use Rattle.interleaving.proofs.ContextLemmas.{IsAround, count_around}
+use Rattle.interleaving.proofs.ContextLemmas.{IsAround}
 use Rattle.interleaving.proofs.WayLemmas.{cond-false}
 use Rattle.interleaving.proofs.RoundtripLemmas.{by_heights}
 use Rattle.interleaving.proofs.ClosingSoundLemmas.{IsFree}
 use Rattle.interleaving.proofs.AppendLemmas.{append-assoc, each-append, append-nil}
 use Rattle.interleaving.proofs.QuietCreditLemmas.{gives-fixed}
-use Rattle.interleaving.proofs.ContextLemmas.{count_left}
 use Rattle.tree_model.specs.SoundTrees.{count_among}
+use Rattle.tree_model.proofs.CountLemmas.{count_around, count_left}
 use Rattle.interleaving.proofs.RootLemmas.{are_distinguished}
 use Rattle.interleaving.proofs.ClockLemmas.{AreClear, quiet-append, inferences-append}
 use Rattle.interleaving.proofs.ListChangeLemmas.{becomes as private_becomes}

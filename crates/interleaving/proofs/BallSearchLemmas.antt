@@ -18,10 +18,11 @@ use Rattle.tree_model.specs.PendingLists.{Step, Way, way_of, scope_on, named_con
 use Rattle.tree_model.specs.Ways.{is_on}
 use Rattle.tree_model.specs.SoundTrees.{count_among, one_if, IsOpen}
 use Rattle.tree_model.specs.Elements.{Name, same, Record, Element, Credit, Plain, EndOf, Catch, Findall, End}
+use Rattle.tree_model.proofs.CountLemmas.{count_left, count_around}
 use Rattle.interleaving.specs.Machine.{Machine, On, Here, gives}
 use Rattle.interleaving.specs.Scopes.{Shared, Sought, Scope, Thrown, Caught, look, give, findall_with_result, recovery_look, scoped}
 use Rattle.interleaving.specs.Segments.{found_in, search_in}
-use Rattle.interleaving.proofs.ContextLemmas.{IsAround, count_left, count_around}
+use Rattle.interleaving.proofs.ContextLemmas.{IsAround}
 use Rattle.interleaving.proofs.WayLemmas.{cond-false, other_number}
 use Rattle.interleaving.proofs.AppendLemmas.{append-assoc}
 use Rattle.interleaving.proofs.NamingLemmas.{same-itself}

@@ -17,7 +17,8 @@ use Rattle.tree_model.specs.Pruning.{left_after}
 use Rattle.tree_model.specs.PendingLists.{way_of}
 use Rattle.tree_model.specs.Ways.{is_on, is_query, IsAsked}
 use Rattle.tree_model.specs.SoundTrees.{one_if, count_among, Profile, IsOpen, IsDormant, profile, profiles, is_shape}
-use Rattle.interleaving.proofs.ContextLemmas.{put_profiles, count_around}
+use Rattle.tree_model.proofs.CountLemmas.{count_around}
+use Rattle.interleaving.proofs.ContextLemmas.{put_profiles}
 use Rattle.interleaving.proofs.WayLemmas.{cond-true, cond-false, one_if-zero, off_way, other_number}
 use Rattle.interleaving.proofs.ShapeLemmas.{catch_kind}
 use Rattle.interleaving.proofs.RoundtripLemmas.{by_nodes, by_heights}

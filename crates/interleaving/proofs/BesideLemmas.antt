@@ -17,9 +17,10 @@ use Rattle.tree_model.specs.PendingLists.{Step, Way, step_name, scope_on, findal
 use Rattle.tree_model.specs.PendingLists.{list_below, list_left}
 use Rattle.tree_model.specs.Ways.{is_on, way_from, way_above, AreScoped, IsOnWay}
 use Rattle.tree_model.specs.SoundTrees.{one_if, count_in, count_among, count_below, IsSoundNode, AreSound, IsSound}
+use Rattle.tree_model.proofs.CountLemmas.{count_left}
 use Rattle.interleaving.proofs.WayLemmas.{cond-same, reach-on, through-on}
 use Rattle.interleaving.proofs.RoundtripLemmas.{part_from, part_above, IsPart}
-use Rattle.interleaving.proofs.ContextLemmas.{LeftSound, count_left}
+use Rattle.interleaving.proofs.ContextLemmas.{LeftSound}
 use Rattle.interleaving.proofs.AppendLemmas.{each-append, append-assoc}
 use Rattle.interleaving.proofs.RootLemmas.{are_distinguished}
 use Rattle.interleaving.proofs.BaredLemmas.{made_at}

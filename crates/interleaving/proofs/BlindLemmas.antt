@@ -15,9 +15,10 @@ use Rattle.tree_model.specs.PendingLists.{list_right, level_front, front_of, bac
 use Rattle.tree_model.specs.Ways.{is_on, way_from, way_above, AreScoped, IsOnWay}
 use Rattle.tree_model.specs.SoundTrees.{one_if, count_in, count_among, count_below, IsOpen, IsSound as IsSoundStatus, IsSoundNode}
 use Rattle.tree_model.specs.SoundTrees.{AreSound}
+use Rattle.tree_model.proofs.CountLemmas.{count_left, count_around}
 use Rattle.interleaving.specs.Roots.{rooted}
 use Rattle.interleaving.specs.Views.{IsApart, IsBeside, IsItemApart, IsRecordApart, IsBlind, IsUnder}
-use Rattle.interleaving.proofs.ContextLemmas.{LeftSound, IsAround, count_left, count_around}
+use Rattle.interleaving.proofs.ContextLemmas.{LeftSound, IsAround}
 use Rattle.interleaving.proofs.WayLemmas.{reach-on, through-on, one_if-zero, other_number, off_way}
 use Rattle.interleaving.proofs.AppendLemmas.{each-append}
 use Rattle.interleaving.proofs.RootLemmas.{are_distinguished}

@@ -18,7 +18,8 @@ use Rattle.tree_model.specs.PendingLists.{way_of}
 use Rattle.tree_model.specs.Ways.{is_on, is_query, IsAsked}
 use Rattle.tree_model.specs.SoundTrees.{IsOpen}
 use Rattle.tree_model.specs.CaughtTrees.{catch_right, with_catch, MarksCaught, is_side}
-use Rattle.interleaving.proofs.ContextLemmas.{IsAround, count_around}
+use Rattle.tree_model.proofs.CountLemmas.{count_around}
+use Rattle.interleaving.proofs.ContextLemmas.{IsAround}
 use Rattle.interleaving.proofs.RoundtripLemmas.{by_nodes, by_heights}
 use Rattle.interleaving.proofs.EntryLemmas.{length-floor}
 use Rattle.interleaving.proofs.WayLemmas.{off_way}

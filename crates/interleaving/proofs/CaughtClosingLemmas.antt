@@ -14,7 +14,8 @@ use Rattle.tree_model.specs.PendingLists.{Way, way_of}
 use Rattle.tree_model.specs.Ways.{is_on, way_from, way_above, AreScoped, IsOnWay}
 use Rattle.tree_model.specs.SoundTrees.{Profile, IsOpen, AreSound}
 use Rattle.tree_model.specs.CaughtTrees.{catch_right, with_catch, MarksCaught, EntryCaught, is_side, AreCaught, IsNoEnd, IsUnspent}
-use Rattle.interleaving.proofs.ContextLemmas.{IsLevel, IsAround, count_around}
+use Rattle.tree_model.proofs.CountLemmas.{count_around}
+use Rattle.interleaving.proofs.ContextLemmas.{IsLevel, IsAround}
 use Rattle.interleaving.proofs.WayLemmas.{cond-false, through-on, other_number, off_way}
 use Rattle.interleaving.proofs.RoundtripLemmas.{part_from, part_above}
 use Rattle.interleaving.proofs.ClosingSoundLemmas.{IsFree, free-above}

@@ -20,12 +20,13 @@ use Rattle.tree_model.specs.PendingLists.{front_of, back_of}
 use Rattle.tree_model.specs.SoundTrees.{one_if, IsOpen, IsDormant, profile, profiles, is_shape, guards}
 use Rattle.tree_model.specs.CaughtTrees.{is_side}
 use Rattle.tree_model.specs.Ways.{under_query, is_query}
+use Rattle.tree_model.proofs.CountLemmas.{count_around, count_left}
 use Rattle.interleaving.specs.Laws.{IsSegment}
 use Rattle.interleaving.specs.Views.{IsBlind, IsRecordApart}
 use Rattle.interleaving.specs.Sound.{IsSound}
 use Rattle.interleaving.specs.Follows.{Follows}
 use Rattle.interleaving.proofs.ListRoundLemmas.{around}
-use Rattle.interleaving.proofs.ContextLemmas.{IsLevel, IsAround, put_profiles, count_around, count_left}
+use Rattle.interleaving.proofs.ContextLemmas.{IsLevel, IsAround, put_profiles}
 use Rattle.interleaving.proofs.AppendLemmas.{append-assoc, each-append}
 use Rattle.interleaving.proofs.RootLemmas.{are_distinguished}
 use Rattle.interleaving.proofs.ListChangeLemmas.{quiet_early}

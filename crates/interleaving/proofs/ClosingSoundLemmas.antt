@@ -14,8 +14,8 @@ use Rattle.tree_model.specs.PendingLists.{Step, Way, way_of}
 use Rattle.tree_model.specs.Ways.{is_on, in_reach, way_from, AreScoped, is_query, under_query, IsAsked, IsOnWay, IsAwake}
 use Rattle.tree_model.specs.SoundTrees.{one_if, count_among, count_below, Profile, IsOpen, IsDormant, IsShut, profile, profiles, some_open}
 use Rattle.tree_model.specs.SoundTrees.{IsSound}
-use Rattle.interleaving.proofs.ContextLemmas.{put_profiles, level_profiles, IsLevel, IsAround, live_at, put_open, put_in, count_around}
-use Rattle.interleaving.proofs.ContextLemmas.{count_plug}
+use Rattle.tree_model.proofs.CountLemmas.{count_around, count_plug}
+use Rattle.interleaving.proofs.ContextLemmas.{put_profiles, level_profiles, IsLevel, IsAround, live_at, put_open, put_in}
 use Rattle.interleaving.proofs.WayLemmas.{cond-true, cond-false, cond-same, one_if-zero, off_way, below_new}
 use Rattle.interleaving.proofs.ShapeLemmas.{sleeping, shape_shut, shape_woken, shape_gone, plain_awake, findall_kind}
 use Rattle.au_term.proofs.LogicLemmas.{numbers_turned, number_same}
@@ -110,8 +110,8 @@ one_at-most : (b : Bool) → one_if b ≤ 1
 one_at-most true = omega arith
 one_at-most false = omega arith
 
-pub one_if-same : (n m : ℕ) → (suc n ≤ m) → one_if (n == m) ≡ 0
-one_if-same n m h = go (n == m) refl
+pub one_if-less : (n m : ℕ) → (suc n ≤ m) → one_if (n == m) ≡ 0
+one_if-less n m h = go (n == m) refl
   where
     go : (b : Bool) → (n == m) ≡ b → one_if b ≡ 0
     go false e = refl
@@ -155,7 +155,7 @@ woken_sound next n kind spent right up c e h k f o wake =
         ≡ (count_around m up + (one_if (n == m) + (0 + (((one_if (next == m) + (0 + 0)) + 0))))) + 0
         → count_below m (plug (with_right (Inner (single next e))
         (record { number = n; kind = kind; left = []; spent = spent; right = right }) ∷ up) (Closed c)) ≡ 0
-    fresh_at m l e = omega (arith, e, none_from m (omega arith), one_if-same next m l)
+    fresh_at m l e = omega (arith, e, none_from m (omega arith), one_if-less next m l)
 
     distinct_at : (m : ℕ) → count_below m
         (plug (with_right (Inner (single next e)) (record { number = n; kind = kind; left = []; spent = spent; right = right }) ∷ up)

@@ -14,6 +14,7 @@ use Rattle.tree_model.specs.Ways.{is_on, in_reach, way_from, AreScoped}
 use Rattle.tree_model.specs.SoundTrees.{one_if, count_among, IsOpen, IsSoundTree}
 use Rattle.tree_model.specs.CaughtTrees.{IsCaughtTree}
 use Rattle.tree_model.specs.Elements.{Name, same, Record, Element, Credit, Plain, EndOf, Catch, Findall, End}
+use Rattle.tree_model.proofs.CountLemmas.{count_left, count_around}
 use Rattle.interleaving.specs.Machine.{Machine}
 use Rattle.interleaving.specs.Scopes.{Shared, Sought, scoped}
 use Rattle.interleaving.specs.Segments.{outer}
@@ -21,7 +22,7 @@ use Rattle.interleaving.specs.Quiet.{IsQuiet}
 use Rattle.interleaving.specs.Roots.{rooted}
 use Rattle.interleaving.specs.Views.{IsInner, IsRecordApart}
 use Rattle.interleaving.specs.Laws.{is_inner_record}
-use Rattle.interleaving.proofs.ContextLemmas.{IsAround, count_left, count_around}
+use Rattle.interleaving.proofs.ContextLemmas.{IsAround}
 use Rattle.interleaving.proofs.WayLemmas.{cond-true, cond-false, reach-on}
 use Rattle.interleaving.proofs.RoundtripLemmas.{by_heights}
 use Rattle.interleaving.proofs.OpenSpotLemmas.{IsOpenSpot}

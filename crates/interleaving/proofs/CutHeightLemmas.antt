@@ -15,6 +15,7 @@ use Rattle.tree_model.specs.Ways.{is_on, in_reach, way_from, AreScoped}
 use Rattle.tree_model.specs.SoundTrees.{IsSoundTree}
 use Rattle.tree_model.specs.CaughtTrees.{IsCaughtTree}
 use Rattle.tree_model.specs.Elements.{Name, Record, Element, Credit, Plain, EndOf}
+use Rattle.tree_model.proofs.CountLemmas.{count_around}
 use Rattle.interleaving.specs.Machine.{Machine, Infers, Seek, gives, free_steps, run, seen}
 use Rattle.interleaving.specs.Scopes.{Shared, Sought, Scope, act, scoped}
 use Rattle.interleaving.specs.Segments.{outer}
@@ -26,7 +27,6 @@ use Rattle.interleaving.specs.HeightMachine.{HeightEntry}
 use Rattle.interleaving.specs.Erased.{element_count, height, with_height, erased}
 use Rattle.interleaving.specs.Sound.{IsSound}
 use Rattle.interleaving.specs.Follows.{lead}
-use Rattle.interleaving.proofs.ContextLemmas.{count_around}
 use Rattle.interleaving.proofs.WayLemmas.{off_way, other_number}
 use Rattle.interleaving.proofs.RoundtripLemmas.{by_nodes, by_heights, back_again}
 use Rattle.interleaving.proofs.OpenSpotLemmas.{IsOpenSpot}

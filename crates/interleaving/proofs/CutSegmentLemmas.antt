@@ -11,9 +11,10 @@ use Rattle.tree_model.specs.Levels.{Level}
 use Rattle.tree_model.specs.PendingLists.{Step, Way, way_of, element_on, list_in, list_among, list_below, list_left, front_of, back_of}
 use Rattle.tree_model.specs.SoundTrees.{one_if, count_in, count_among, count_below, IsOpen}
 use Rattle.tree_model.specs.Elements.{Name, Record, Element, Credit, Plain, EndOf, Catch, Findall, End}
+use Rattle.tree_model.proofs.CountLemmas.{count_around}
 use Rattle.interleaving.specs.Roots.{extends, rooted}
 use Rattle.interleaving.specs.Views.{IsGrown, IsItemApart, IsRecordApart, IsBlind, IsInner, IsUnder}
-use Rattle.interleaving.proofs.ContextLemmas.{IsAround, count_around}
+use Rattle.interleaving.proofs.ContextLemmas.{IsAround}
 use Rattle.interleaving.proofs.AppendLemmas.{each-append}
 use Rattle.interleaving.proofs.RootLemmas.{are_distinguished}
 use Rattle.interleaving.proofs.NamingLemmas.{same-itself}

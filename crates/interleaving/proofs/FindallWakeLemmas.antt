@@ -20,6 +20,7 @@ use Rattle.tree_model.specs.PendingLists.{Way, way_of, scope_on, findall_on, bal
 use Rattle.tree_model.specs.PendingLists.{pending_list, front_of, back_of}
 use Rattle.tree_model.specs.Ways.{is_on, IsAsked}
 use Rattle.tree_model.specs.SoundTrees.{IsOpen, IsDormant, profiles, is_shape, AreSound}
+use Rattle.tree_model.proofs.CountLemmas.{count_around}
 use Rattle.interleaving.specs.Views.{IsBlind}
 use Rattle.interleaving.specs.Sound.{IsSound}
 use Rattle.interleaving.specs.Erased.{erased}
@@ -29,7 +30,7 @@ use Rattle.interleaving.specs.Segments.{outer}
 use Rattle.interleaving.specs.Laws.{is_inner_record, IsSegment}
 use Rattle.interleaving.specs.Quiet.{inferences, records}
 use Rattle.interleaving.specs.Follows.{lead, Follows}
-use Rattle.interleaving.proofs.ContextLemmas.{IsLevel, put_profiles, count_around}
+use Rattle.interleaving.proofs.ContextLemmas.{IsLevel, put_profiles}
 use Rattle.interleaving.proofs.WayLemmas.{cond-true, cond-false, other_number}
 use Rattle.interleaving.proofs.AppendLemmas.{append-assoc, each-append, append-nil}
 use Rattle.interleaving.proofs.RootLemmas.{are_distinguished}

@@ -18,6 +18,7 @@ use Rattle.tree_model.specs.Ways.{under_query}
 use Rattle.tree_model.specs.SoundTrees.{IsSoundTree}
 use Rattle.tree_model.specs.CaughtTrees.{IsCaught, IsUnspent, IsCaughtTree}
 use Rattle.tree_model.specs.Elements.{Name, Record, Element, Credit, Plain}
+use Rattle.tree_model.proofs.CountLemmas.{count_around}
 use Rattle.interleaving.specs.Machine.{Machine, AsksWorld, Put, gives, placed, free_steps, run, seen}
 use Rattle.interleaving.specs.Scopes.{Shared, Sought, ElementReplacement, act, scoped}
 use Rattle.interleaving.specs.Quiet.{IsFixed, inferences, records}
@@ -27,7 +28,6 @@ use Rattle.interleaving.specs.Follows.{Follows}
 use Rattle.interleaving.specs.HistoryInvariants.{shared_of, AnswerMoves}
 use Rattle.interleaving.proofs.ListRoundLemmas.{around}
 use Rattle.interleaving.proofs.StackLemmas.{ArePlain}
-use Rattle.interleaving.proofs.ContextLemmas.{count_around}
 use Rattle.interleaving.proofs.OpenSpotLemmas.{IsOpenSpot, placed_at, count_at}
 use Rattle.interleaving.proofs.SoundClosingLemmas.{free_at}
 use Rattle.interleaving.proofs.QuietCreditLemmas.{gives-fixed, map-fixed}

@@ -16,10 +16,10 @@ use Rattle.tree_model.specs.PendingLists.{Way, way_of, scope_on}
 use Rattle.tree_model.specs.Ways.{is_on, way_from, way_above, AreScoped}
 use Rattle.tree_model.specs.SoundTrees.{one_if}
 use Rattle.tree_model.specs.Elements.{Name, Element, Plain, EndOf}
+use Rattle.tree_model.proofs.CountLemmas.{count_around}
 use Rattle.interleaving.specs.Scopes.{unified_element, solution_elements}
 use Rattle.interleaving.specs.HeightMachine.{HeightEntry}
 use Rattle.interleaving.specs.Erased.{from, element_count, height, with_height, erased}
-use Rattle.interleaving.proofs.ContextLemmas.{count_around}
 use Rattle.interleaving.proofs.ClosingSoundLemmas.{IsFree, free-above}
 use Rattle.interleaving.proofs.WayLemmas.{reach-on, through-on}
 use Rattle.interleaving.proofs.RoundtripLemmas.{by_heights, height_positive, node_height, part_from, part_above}

@@ -13,12 +13,12 @@ use Rattle.tree_model.specs.PendingLists.{Way, way_of, step_of}
 use Rattle.tree_model.specs.Ways.{is_on, same_kind, stops_cuts, is_barrier, in_reach, IsAsked, IsOnWay, IsAwake}
 use Rattle.tree_model.specs.SoundTrees.{one_if, count_among, count_below, Profile, IsOpen, IsDormant, IsShut, profile, profiles, is_live}
 use Rattle.tree_model.specs.SoundTrees.{none_dormant, are_pair, is_shape, AreSound, IsSound}
-use Rattle.interleaving.proofs.ContextLemmas.{LeftSound, put_profiles, IsAround, live_at, live_open, put_in, count_left, count_around}
-use Rattle.interleaving.proofs.ContextLemmas.{count_plug}
+use Rattle.tree_model.proofs.CountLemmas.{count_left, count_around, count_plug}
+use Rattle.interleaving.proofs.ContextLemmas.{LeftSound, put_profiles, IsAround, live_at, live_open, put_in}
 use Rattle.interleaving.proofs.WayLemmas.{off_way, below_new}
 use Rattle.interleaving.proofs.ShapeLemmas.{none_dormant-put}
 use Rattle.interleaving.proofs.RoundtripLemmas.{IsPath}
-use Rattle.interleaving.proofs.ClosingSoundLemmas.{IsSoundGrown, IsFree, one_if-same}
+use Rattle.interleaving.proofs.ClosingSoundLemmas.{IsSoundGrown, IsFree, one_if-less}
 use Rattle.au_term.proofs.LogicLemmas.{and-false}
 
 -- a status put into a place
@@ -97,7 +97,7 @@ new_node_sound next levels e ds h f k =
     few m false q = let zero_new : one_if (next == m) ≡ 0 = ap one_if q in omega (arith, zero_new, alternatives_count m es, f.distinct m)
 
     zero_at : (m : ℕ) → suc next ≤ m → count_around m levels + (one_if (next == m) + count_among m (entry_alternatives Ready es)) ≡ 0
-    zero_at m l = omega (arith, one_if-same next m l, alternatives_count m es, f.fresh m (omega arith))
+    zero_at m l = omega (arith, one_if-less next m l, alternatives_count m es, f.fresh m (omega arith))
 
 -- what was spent is none of it
 pub spending_around : (k : ℕ) (levels : List Level) → IsAround levels IsOpen → IsAround (spending k levels) IsOpen

@@ -16,12 +16,13 @@ use Rattle.tree_model.specs.Floors.{with_heights, height_of, floor_of}
 use Rattle.tree_model.specs.PendingLists.{way_of, named_continuation, front_of, back_of}
 use Rattle.tree_model.specs.Ways.{is_on, IsOnWay}
 use Rattle.tree_model.specs.SoundTrees.{IsOpen}
+use Rattle.tree_model.proofs.CountLemmas.{count_around}
 use Rattle.interleaving.proofs.AppendLemmas.{append-assoc, each-append}
 use Rattle.interleaving.proofs.NamingLemmas.{from_end, same-itself}
 use Rattle.interleaving.proofs.SoundEarlyLemmas.{sound_exchange, sound-after}
 use Rattle.interleaving.proofs.OwnInferenceLemmas.{floor-low}
 use Rattle.interleaving.proofs.FrontSameLemmas.{front_is_same}
-use Rattle.interleaving.proofs.ContextLemmas.{IsAround, count_around}
+use Rattle.interleaving.proofs.ContextLemmas.{IsAround}
 use Rattle.interleaving.proofs.ClosingSoundLemmas.{IsFree}
 use Rattle.interleaving.proofs.GrowingLemmas.{around_path}
 use Rattle.interleaving.proofs.NamedFloorLemmas.{below_named, floor_named, low_height, entry_low, below_erased, first_low}

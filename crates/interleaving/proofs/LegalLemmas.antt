@@ -19,8 +19,9 @@ use Rattle.tree_model.specs.Histories.{after_events, are_legal, tree_after, IsLe
 use Rattle.tree_model.specs.PendingLists.{way_of}
 use Rattle.tree_model.specs.Ways.{under_query, IsOnWay, IsAwake, IsHeldBy}
 use Rattle.tree_model.specs.SoundTrees.{one_if, count_below, Profile, IsOpen, profile, IsSound, IsSoundTree}
+use Rattle.tree_model.proofs.CountLemmas.{count_around}
 use Rattle.au_term.specs.Term.{Term}
-use Rattle.interleaving.proofs.ContextLemmas.{IsAround, count_around}
+use Rattle.interleaving.proofs.ContextLemmas.{IsAround}
 use Rattle.interleaving.proofs.WayLemmas.{cond-true, cond-false, off_way}
 use Rattle.interleaving.proofs.ClosingSoundLemmas.{IsSoundGrown, IsFree}
 use Rattle.interleaving.proofs.GrowingLemmas.{plug_sound, IsReadyOn, new_node_sound, spending_around, spending_free, around_path}

@@ -11,8 +11,8 @@ use Rattle.tree_model.specs.PendingLists.{Way, way_of, step_name, scope_on, elem
 use Rattle.tree_model.specs.PendingLists.{back_of}
 use Rattle.tree_model.specs.Ways.{is_on}
 use Rattle.tree_model.specs.SoundTrees.{one_if, count_in, count_among, count_below}
+use Rattle.tree_model.proofs.CountLemmas.{count_around}
 use Rattle.interleaving.specs.Erased.{from}
-use Rattle.interleaving.proofs.ContextLemmas.{count_around}
 use Rattle.interleaving.proofs.NamingLemmas.{from_own}
 use Rattle.interleaving.proofs.WayLemmas.{one_if-zero}
 use Rattle.au_term.proofs.LogicLemmas.{numbers_turned, or-left, or-right, none_true, not_equal}

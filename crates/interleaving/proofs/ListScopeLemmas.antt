@@ -11,9 +11,9 @@ use Rattle.tree_model.specs.PendingLists.{way_of, step_of, scope_on, back_of}
 use Rattle.tree_model.specs.Ways.{is_on, same_kind, way_from}
 use Rattle.tree_model.specs.SoundTrees.{one_if}
 use Rattle.tree_model.specs.CaughtTrees.{catch_right, with_catch}
+use Rattle.tree_model.proofs.CountLemmas.{count_around}
 use Rattle.interleaving.specs.Erased.{from}
 use Rattle.interleaving.specs.Sound.{names, IsChain}
-use Rattle.interleaving.proofs.ContextLemmas.{count_around}
 use Rattle.interleaving.proofs.WayLemmas.{cond-false}
 use Rattle.interleaving.proofs.ListEndLemmas.{on-counts, levels_down, from_back}
 

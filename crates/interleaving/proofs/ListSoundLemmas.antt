@@ -10,8 +10,8 @@ use Rattle.tree_model.specs.Elements.{Name}
 use Rattle.tree_model.specs.PendingLists.{Step, Way, way_of, element_on, list_in, list_among, list_below, list_right, back_of}
 use Rattle.tree_model.specs.Ways.{is_on, way_above, AreScoped}
 use Rattle.tree_model.specs.SoundTrees.{count_in, count_among, count_below, one_if}
+use Rattle.tree_model.proofs.CountLemmas.{count_around}
 use Rattle.interleaving.specs.Sound.{IsMadeElsewhere, EachFindall}
-use Rattle.interleaving.proofs.ContextLemmas.{count_around}
 use Rattle.interleaving.proofs.WayLemmas.{cond-false, reach-on, through-on, one_if-zero}
 use Rattle.interleaving.proofs.CarriedLemmas.{findalls-append}
 use Rattle.interleaving.proofs.ListEndLemmas.{levels_down}

@@ -16,9 +16,10 @@ use Rattle.tree_model.specs.PendingLists.{back_of}
 use Rattle.tree_model.specs.SoundTrees.{IsSound as IsSoundStatus, count_below, IsOpen, IsSoundTree}
 use Rattle.tree_model.specs.Ways.{is_on}
 use Rattle.tree_model.specs.CaughtTrees.{is_side, IsCaught, IsCaughtNode, AreCaught, IsCaughtTree}
+use Rattle.tree_model.proofs.CountLemmas.{count_plug}
 use Rattle.interleaving.specs.Erased.{from}
 use Rattle.interleaving.specs.Sound.{IsGathered, IsSound}
-use Rattle.interleaving.proofs.ContextLemmas.{IsAround, taken_out, count_plug}
+use Rattle.interleaving.proofs.ContextLemmas.{IsAround, taken_out}
 use Rattle.interleaving.proofs.WayLemmas.{cond-true, cond-false}
 use Rattle.interleaving.proofs.AppendLemmas.{append-assoc, append-nil}
 use Rattle.interleaving.proofs.ClockLemmas.{no_root}

@@ -14,10 +14,10 @@ use Rattle.tree_model.specs.PendingLists.{Step, Way, way_of, element_on, list_in
 use Rattle.tree_model.specs.PendingLists.{level_front, spent_at, front_of, back_of}
 use Rattle.tree_model.specs.SoundTrees.{one_if, count_in, count_among, count_below}
 use Rattle.tree_model.specs.Elements.{Name, Element}
+use Rattle.tree_model.proofs.CountLemmas.{count_left, count_around}
 use Rattle.interleaving.specs.Quiet.{IsQuiet, inferences}
 use Rattle.interleaving.specs.Roots.{rooted}
 use Rattle.interleaving.specs.Views.{IsInner}
-use Rattle.interleaving.proofs.ContextLemmas.{count_left, count_around}
 use Rattle.interleaving.proofs.AppendLemmas.{append-assoc, each-append, append-nil}
 use Rattle.interleaving.proofs.ClockLemmas.{AreShut, AreClear, quiet-append, inferences-append, left_quiet, left_counts}
 use Rattle.interleaving.proofs.ListEndLemmas.{levels_down}

@@ -12,9 +12,9 @@ use Rattle.tree_model.specs.TreeStates.{TreeState}
 use Rattle.tree_model.specs.HandOuts.{Handed, Never, if_here, handed_by, and_so_on}
 use Rattle.tree_model.specs.Ways.{IsOnWay}
 use Rattle.tree_model.specs.SoundTrees.{one_if, count_among, count_below, IsSound, IsSoundTree}
+use Rattle.tree_model.proofs.CountLemmas.{count_left, count_around, count_plug}
 use Rattle.interleaving.proofs.WayLemmas.{cond-true, cond-false}
 use Rattle.interleaving.proofs.PluggedLemmas.{IsIn}
-use Rattle.interleaving.proofs.ContextLemmas.{count_left, count_around, count_plug}
 use Rattle.interleaving.proofs.HandOutCountLemmas.{handed, Agrees, AgreesAround, occurrences, occurrences_around}
 use Rattle.interleaving.proofs.HandOutCountLemmas.{occurrences_plug, agrees_out, Elsewhere, NewIn, IsAgreed}
 use Rattle.interleaving.proofs.HandOutPlaceLemmas.{tasks_at, tasks_append, IsOut, each-append, occurs_root}

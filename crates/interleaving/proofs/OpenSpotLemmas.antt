@@ -10,9 +10,10 @@ use Rattle.tree_model.specs.Legality.{is_ready, is_taken_by, is_spot_at, if_room
 use Rattle.tree_model.specs.Effects.{with_status, where_some}
 use Rattle.tree_model.specs.Ways.{IsHeldBy}
 use Rattle.tree_model.specs.SoundTrees.{count_below, IsOpen, profile, IsSound, IsSoundTree}
+use Rattle.tree_model.proofs.CountLemmas.{count_around, count_plug}
 use Rattle.interleaving.proofs.AppendLemmas.{found}
 use Rattle.interleaving.proofs.PluggedLemmas.{IsIn, all_in}
-use Rattle.interleaving.proofs.ContextLemmas.{IsAround, taken_out, live_at, live_open, put_in, count_around, count_plug}
+use Rattle.interleaving.proofs.ContextLemmas.{IsAround, taken_out, live_at, live_open, put_in}
 use Rattle.au_term.proofs.LogicLemmas.{and-left}
 
 -- an alternative of the tree that is open

@@ -9,12 +9,12 @@ use Rattle.tree_model.specs.Pruning.{emptied, pruned}
 use Rattle.tree_model.specs.PendingLists.{Way, way_of, list_among, list_left, list_right, spent_at, front_of, level_front, back_of}
 use Rattle.tree_model.specs.SoundTrees.{one_if, count_among}
 use Rattle.tree_model.specs.Elements.{Name, Record, Element, Credit, Plain, EndOf, Catch, Findall, End}
+use Rattle.tree_model.proofs.CountLemmas.{count_left}
 use Rattle.interleaving.specs.Machine.{gives}
 use Rattle.interleaving.specs.Scopes.{scoped}
 use Rattle.interleaving.specs.Roots.{rooted}
 use Rattle.interleaving.specs.Views.{IsInner}
 use Rattle.interleaving.specs.Erased.{erased}
-use Rattle.interleaving.proofs.ContextLemmas.{count_left}
 use Rattle.interleaving.proofs.QuietCreditLemmas.{gives-fixed}
 use Rattle.interleaving.proofs.AppendLemmas.{append-assoc}
 use Rattle.interleaving.proofs.ListEndLemmas.{levels_down}

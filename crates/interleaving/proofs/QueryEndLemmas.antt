@@ -21,6 +21,7 @@ use Rattle.tree_model.specs.PendingLists.{Step, Way, way_of, scope_on, element_o
 use Rattle.tree_model.specs.SoundTrees.{IsSoundTree}
 use Rattle.tree_model.specs.CaughtTrees.{IsCaught, IsUnspent, IsNoEnd, IsLastQuery, IsCaughtTree}
 use Rattle.tree_model.specs.Elements.{Name, Element, Credit, EndOf, End}
+use Rattle.tree_model.proofs.CountLemmas.{count_around}
 use Rattle.interleaving.specs.Machine.{gives, free_steps, run, seen}
 use Rattle.interleaving.specs.Scopes.{Shared, opened_elements, query_end_taken, scoped}
 use Rattle.interleaving.specs.Quiet.{inferences, records}
@@ -30,7 +31,6 @@ use Rattle.interleaving.specs.Sound.{IsSound}
 use Rattle.interleaving.specs.Follows.{lead}
 use Rattle.interleaving.specs.HistoryInvariants.{shared_of, AnswerMoves}
 use Rattle.interleaving.proofs.ListRoundLemmas.{around}
-use Rattle.interleaving.proofs.ContextLemmas.{count_around}
 use Rattle.interleaving.proofs.WayLemmas.{cond-true}
 use Rattle.interleaving.proofs.OpenSpotLemmas.{IsOpenSpot, placed_at, count_at}
 use Rattle.interleaving.proofs.SoundClosingLemmas.{free_at}

@@ -17,11 +17,11 @@ use Rattle.tree_model.specs.PendingLists.{way_of, pending_list}
 use Rattle.tree_model.specs.Ways.{under_query, IsOnWay, IsAwake}
 use Rattle.tree_model.specs.SoundTrees.{IsSoundTree}
 use Rattle.tree_model.specs.CaughtTrees.{IsCaught, IsCaughtTree}
+use Rattle.tree_model.proofs.CountLemmas.{count_around}
 use Rattle.interleaving.specs.Sound.{IsSound}
 use Rattle.interleaving.specs.Follows.{Follows}
 use Rattle.interleaving.specs.HistoryInvariants.{ListFollows}
 use Rattle.interleaving.specs.RunLaws.{Reaches, IsOpenPlace, EmptyReaches, CollectedReaches}
-use Rattle.interleaving.proofs.ContextLemmas.{count_around}
 use Rattle.interleaving.proofs.OpenSpotLemmas.{IsOpenSpot, IsPlaced, placed_at, count_at, taken_at_open}
 use Rattle.interleaving.proofs.LegalLemmas.{end_rests, awake_entry}
 use Rattle.interleaving.proofs.LeadLemmas.{follows_then}

@@ -9,7 +9,8 @@ use Rattle.tree_model.specs.Nodes.{Ready, TakenBy, Waiting, Dormant, Alternative
 use Rattle.tree_model.specs.Levels.{Level}
 use Rattle.tree_model.specs.PendingLists.{Way, way_of, element_at, front_of, back_of}
 use Rattle.tree_model.specs.SoundTrees.{one_if, count_among, Profile, IsOpen}
-use Rattle.interleaving.proofs.ContextLemmas.{IsAround, count_left, count_around}
+use Rattle.tree_model.proofs.CountLemmas.{count_left, count_around}
+use Rattle.interleaving.proofs.ContextLemmas.{IsAround}
 use Rattle.interleaving.proofs.ClosingSoundLemmas.{IsFree}
 use Rattle.interleaving.proofs.AppendLemmas.{each-append}
 use Rattle.interleaving.proofs.BaredLemmas.{made_at}

@@ -10,12 +10,13 @@ use Rattle.tree_model.specs.Levels.{Level}
 use Rattle.tree_model.specs.PendingLists.{Step, Way, way_of, list_in, list_among, list_below, back_of}
 use Rattle.tree_model.specs.Ways.{is_on}
 use Rattle.tree_model.specs.SoundTrees.{count_in, count_among, count_below, guards, IsOpen, IsDormant, profile, profiles, is_shape}
+use Rattle.tree_model.proofs.CountLemmas.{count_around}
 use Rattle.interleaving.proofs.WayLemmas.{off_way, one_if-zero}
 use Rattle.interleaving.proofs.AppendLemmas.{append-assoc}
 use Rattle.interleaving.proofs.NamingLemmas.{from_end}
 use Rattle.interleaving.proofs.ApartLemmas.{same-true}
 use Rattle.interleaving.proofs.NamingLemmas.{same-itself}
-use Rattle.interleaving.proofs.ContextLemmas.{put_profiles, count_around}
+use Rattle.interleaving.proofs.ContextLemmas.{put_profiles}
 use Rattle.interleaving.proofs.ClosingSoundLemmas.{IsFree}
 use Rattle.interleaving.proofs.GrowingLemmas.{none_dormant-of, no_three}
 use Rattle.interleaving.proofs.NamedFloorLemmas.{from-element, right_named}

@@ -19,9 +19,10 @@ use Rattle.tree_model.specs.Effects.{where_some}
 use Rattle.tree_model.specs.PendingLists.{Way, way_of}
 use Rattle.tree_model.specs.Ways.{is_on, in_reach, way_from, AreScoped}
 use Rattle.tree_model.specs.SoundTrees.{one_if, IsOpen, IsDormant, profile, is_live, IsSound, IsSoundTree}
-use Rattle.interleaving.proofs.ContextLemmas.{IsAround, count_around}
+use Rattle.tree_model.proofs.CountLemmas.{count_around}
+use Rattle.interleaving.proofs.ContextLemmas.{IsAround}
 use Rattle.interleaving.proofs.WayLemmas.{cond-true, off_way}
-use Rattle.interleaving.proofs.ClosingSoundLemmas.{IsSoundGrown, IsFree, one_if-same, closes_sound}
+use Rattle.interleaving.proofs.ClosingSoundLemmas.{IsSoundGrown, IsFree, one_if-less, closes_sound}
 use Rattle.interleaving.proofs.GrowingLemmas.{plug_sound, IsReadyOn, new_node_sound, spending_around, spending_free, pruned_way}
 use Rattle.interleaving.proofs.GrowingLemmas.{pruned_around, pruned_free}
 use Rattle.interleaving.proofs.EntryLemmas.{IsOverFloor, each-map}
@@ -103,7 +104,7 @@ opens_sound t s (q ∷ qs) p f =
 
     zero_at : (levels : List Level) → IsFree t.next levels → (m : ℕ) → suc t.next ≤ m
         → count_around m levels + (one_if (t.next == m) + (0 + (0 + 0))) ≡ 0
-    zero_at levels g m l = omega (arith, one_if-same t.next m l, g.fresh m (omega arith))
+    zero_at levels g m l = omega (arith, one_if-less t.next m l, g.fresh m (omega arith))
 
 -- a halt
 pub halted_sound : (t : TreeState) (s : Spot) (k : ℕ) → profile (Pending s.hold s.entry) ≡ IsOpen → IsPlaced s

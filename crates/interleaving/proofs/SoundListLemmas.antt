@@ -12,9 +12,10 @@ use Rattle.tree_model.specs.PendingLists.{way_of, element_on, list_among, back_o
 use Rattle.tree_model.specs.Ways.{is_on, AreScoped, IsOnWay, IsHeldBy}
 use Rattle.tree_model.specs.SoundTrees.{one_if, IsOpen, IsDormant, IsShut, Profile, profile, profiles, is_shape, are_pair, is_pair}
 use Rattle.tree_model.specs.CaughtTrees.{MarksCaught, EntryCaught}
+use Rattle.tree_model.proofs.CountLemmas.{count_around}
 use Rattle.interleaving.specs.Erased.{from, element_count, height}
 use Rattle.interleaving.specs.Sound.{names, IsMadeElsewhere, IsPresent, EachFindall, IsEntrySound, IsSound}
-use Rattle.interleaving.proofs.ContextLemmas.{IsLevel, IsAround, put_profiles, level_profiles, count_around}
+use Rattle.interleaving.proofs.ContextLemmas.{IsLevel, IsAround, put_profiles, level_profiles}
 use Rattle.interleaving.proofs.WayLemmas.{cond-false}
 use Rattle.interleaving.proofs.NamingLemmas.{from_own}
 use Rattle.interleaving.proofs.GrowingLemmas.{none_dormant-of, no_three}

@@ -1,6 +1,6 @@
 -- A place names one pending alternative.
 use Rattle.std.proofs.Common.{◌≡◌, ℕ, suc, ◌+◌, ◌≤◌, ◌==◌, ◌⊎◌, inl, inr, Bool, true, false, cond, List, [], ◌∷◌, ◌++◌, length, Some}
-use Rattle.std.proofs.Common.{refl, sym, ap, ◌∙◌, subst, arith}
+use Rattle.std.proofs.Common.{refl, sym, ◌∙◌, subst, arith}
 use Rattle.std.specs.Prelude.{◌&&◌, find}
 use Rattle.au_model.specs.Terms.Each.{Each}
 use Rattle.tree_model.specs.Nodes.{Kind, Node, Numbered, Alternatives, none, alternative, Status, Pending, Inner, Closed}
@@ -8,8 +8,9 @@ use Rattle.tree_model.specs.Levels.{Level, Place, same_place, Spot, place_of_spo
 use Rattle.tree_model.specs.SoundTrees.{one_if, count_in, count_among, count_below, IsSoundTree}
 use Rattle.tree_model.specs.TreeStates.{TreeState, leftmost, first_spot, pending_spots}
 use Rattle.tree_model.specs.Legality.{is_spot_at, is_taken_by, taken_at}
+use Rattle.tree_model.proofs.CountLemmas.{one_if-same}
 use Rattle.interleaving.proofs.AppendLemmas.{found, each-append, each-more}
-use Rattle.au_term.proofs.LogicLemmas.{and-right, false_true, number_same}
+use Rattle.au_term.proofs.LogicLemmas.{and-right, false_true}
 
 -- the place of a spot, by its numbers
 abbrev IsAtPlace : ℕ → ℕ → Spot → Type 0
@@ -22,9 +23,6 @@ IsLater n i others s = ((s.level.number ≡ n) × (i ≤ length s.level.left)) �
 abbrev IsBelow : ℕ → ℕ → Status → Spot → Type 0
 IsBelow n i status s = IsAtPlace n i s ⊎ (1 ≤ count_below s.level.number status)
 
-one-self : (n : ℕ) → one_if (n == n) ≡ 1
-one-self n = ap one_if (number_same n)
-
 mutual
   spots_in : (up : List Level) (node : Node) → Each (λ s. 1 ≤ count_in s.level.number node) (pending_in up node)
   spots_in up (Numbered n kind alternatives) = each-more (IsLater n 0 alternatives)
@@ -32,7 +30,7 @@ mutual
       (spots_among up n kind [] alternatives)
     where
       counts : (s : Spot) → IsLater n 0 alternatives s → 1 ≤ one_if (n == s.level.number) + count_among s.level.number alternatives
-      counts s (inl h) = let one : one_if (n == s.level.number) ≡ 1 = subst (λ m. one_if (n == m) ≡ 1) (sym h.0) (one-self n) in omega
+      counts s (inl h) = let one : one_if (n == s.level.number) ≡ 1 = subst (λ m. one_if (n == m) ≡ 1) (sym h.0) (one_if-same n) in omega
           (arith, one)
       counts s (inr h) = omega (arith, h)
 
@@ -97,9 +95,9 @@ mutual
       apart : (s b : Spot) → IsBelow n (length left) status s → IsLater n (suc (length left)) others b → Differs s b
       apart s b (inl h) (inl k) e f = let i = h.1 in let j = k.1 in omega (arith, i, j, f)
       apart s b (inl h) (inr k) e f = let same : b.level.number ≡ n = sym e ∙ h.0 in let few = d b.level.number in let one : one_if
-          (n == b.level.number) ≡ 1 = subst (λ m. one_if (n == m) ≡ 1) (sym same) (one-self n) in omega (arith, few, one, k)
+          (n == b.level.number) ≡ 1 = subst (λ m. one_if (n == m) ≡ 1) (sym same) (one_if-same n) in omega (arith, few, one, k)
       apart s b (inr h) (inl k) e f = let same : s.level.number ≡ n = e ∙ k.0 in let few = d s.level.number in let one : one_if
-          (n == s.level.number) ≡ 1 = subst (λ m. one_if (n == m) ≡ 1) (sym same) (one-self n) in omega (arith, few, one, h)
+          (n == s.level.number) ≡ 1 = subst (λ m. one_if (n == m) ≡ 1) (sym same) (one_if-same n) in omega (arith, few, one, h)
       apart s b (inr h) (inr k) e f = let few = d s.level.number in let moved : 1 ≤ count_among s.level.number others = subst
           (λ m. 1 ≤ count_among m others) (sym e) k in omega (arith, few, h, moved)
 

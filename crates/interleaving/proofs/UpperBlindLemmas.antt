@@ -15,12 +15,13 @@ use Rattle.tree_model.specs.PendingLists.{Way, way_of, findall_on, list_left, le
 use Rattle.tree_model.specs.SoundTrees.{one_if, count_among, IsOpen}
 use Rattle.tree_model.specs.CaughtTrees.{is_side}
 use Rattle.tree_model.specs.Elements.{Name, Record, Element, Credit, Plain, EndOf, Catch, Findall, End}
+use Rattle.tree_model.proofs.CountLemmas.{count_left, count_around}
 use Rattle.interleaving.specs.Quiet.{records}
 use Rattle.interleaving.specs.Roots.{rooted}
 use Rattle.interleaving.specs.Views.{IsBlind, IsUnder, IsItemApart, IsRecordApart}
 use Rattle.interleaving.specs.Segments.{outer}
 use Rattle.interleaving.specs.Laws.{is_inner_record}
-use Rattle.interleaving.proofs.ContextLemmas.{IsAround, count_left, count_around}
+use Rattle.interleaving.proofs.ContextLemmas.{IsAround}
 use Rattle.interleaving.proofs.WayLemmas.{cond-true}
 use Rattle.interleaving.proofs.AppendLemmas.{append-assoc, append-nil}
 use Rattle.interleaving.proofs.AloneLemmas.{outer-append}

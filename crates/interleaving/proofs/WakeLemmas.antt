@@ -11,11 +11,12 @@ use Rattle.tree_model.specs.Elements.{Element, Credit, EndOf, End}
 use Rattle.tree_model.specs.PendingLists.{way_of, balance_on, element_on, list_among, list_below, list_right, pending_list, front_of}
 use Rattle.tree_model.specs.PendingLists.{back_of}
 use Rattle.tree_model.specs.SoundTrees.{one_if, IsOpen}
+use Rattle.tree_model.proofs.CountLemmas.{count_around}
 use Rattle.interleaving.specs.Views.{IsBlind}
 use Rattle.interleaving.specs.Sound.{IsSound}
 use Rattle.interleaving.specs.Erased.{erased}
 use Rattle.interleaving.specs.Follows.{lead, Follows}
-use Rattle.interleaving.proofs.ContextLemmas.{IsAround, count_around}
+use Rattle.interleaving.proofs.ContextLemmas.{IsAround}
 use Rattle.interleaving.proofs.WayLemmas.{one_if-zero}
 use Rattle.interleaving.proofs.AppendLemmas.{append-assoc, each-append}
 use Rattle.interleaving.proofs.RunHeightLemmas.{names_are_free}

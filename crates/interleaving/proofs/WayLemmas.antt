@@ -7,7 +7,7 @@ use Rattle.tree_model.specs.Levels.{Level}
 use Rattle.tree_model.specs.PendingLists.{Step, Way, way_of}
 use Rattle.tree_model.specs.Ways.{is_on, same_kind, is_barrier, in_reach, through, way_from, way_above, AreScoped}
 use Rattle.tree_model.specs.SoundTrees.{one_if}
-use Rattle.interleaving.proofs.ContextLemmas.{count_around}
+use Rattle.tree_model.proofs.CountLemmas.{count_around}
 
 -- a test on a Bool whose value is known
 pub cond-true : {A : Type 0} → (b : Bool) (x y : A) → b ≡ true → cond b x y ≡ x

@@ -7,10 +7,10 @@ use Rattle.tree_model.specs.Nodes.{Status}
 use Rattle.tree_model.specs.Levels.{Level, plug, Place, place_at}
 use Rattle.tree_model.specs.Orders.{path_of}
 use Rattle.tree_nodes.specs.Bodies.{Reading}
-use Rattle.tree_nodes.specs.Rows.{Rows}
+use Rattle.tree_nodes.specs.Rows.{Rows, node_parent}
 use Rattle.tree_nodes.specs.TreeTables.{NodesView, IsTableOf}
 use Rattle.tree_nodes.proofs.MeetLemmas.{AreApart, AreSides, path_down, sides_begin, sides_turned, first_up, never_stuck, path_one, path_other}
-use Rattle.node_trail.specs.Trails.{node_segment, place_segment, node_parent, segments_down, segments_below, HeadsApart, IsPathBetween}
+use Rattle.node_trail.specs.Trails.{node_segment, place_segment, segments_down, segments_below, HeadsApart, IsPathBetween}
 
 pub record AreTrails (rows : Rows) (root : Status) (one other : List Level) (x y : Place) (leave enter : List Segment) : Type 0 where
   pub sides : AreSides root one other x y

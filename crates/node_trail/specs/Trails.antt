@@ -1,6 +1,5 @@
 -- The way from one place of a tree to another.
 use Rattle.std.specs.Prelude.{◌≡◌, ◌≢◌, ℕ, ◌==◌, cond, List, [], ◌∷◌, ◌++◌, Option, Some, None, reverse}
-use Rattle.std.specs.Option.{option_map}
 use Rattle.au_term.specs.declared.segment.Segment.{Segment}
 use Rattle.tree_model.specs.Nodes.{Status}
 use Rattle.tree_model.specs.Levels.{Level, plug, Place, place_at}
@@ -23,9 +22,6 @@ node_segment rows n = node_segment_in (row_of_node rows n)
 
 abbrev pub place_segment : Rows → Place → Segment
 place_segment rows p = branch_segment_in p.index (row_of_node rows p.node)
-
-abbrev pub node_parent : Rows → ℕ → Option (Option Place)
-node_parent rows n = option_map (λ r. r.parent) (row_of_node rows n)
 
 -- what is entered on the way down
 abbrev pub segments_down : Rows → List Place → List Segment

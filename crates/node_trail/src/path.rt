@@ -3,8 +3,8 @@ ghost use Rattle.std.specs.Prelude.{◌≡◌, [], ◌∷◌, ◌++◌, Some, On
 ghost use Rattle.tree_model.specs.EventViews.{place_view};
 ghost use Rattle.tree_nodes.specs.Folds.{IsAbove};
 ghost use Rattle.tree_nodes.specs.RowViews.{parent_view};
-ghost use Rattle.tree_nodes.specs.Rows.{cell_at};
-ghost use Rattle.node_trail.specs.Trails.{node_segment, place_segment, node_parent, IsPathBetween};
+ghost use Rattle.tree_nodes.specs.Rows.{node_parent, cell_at};
+ghost use Rattle.node_trail.specs.Trails.{node_segment, place_segment, IsPathBetween};
 
 use crate::legs::{Leg, Legs};
 use au_term::NoMemory;

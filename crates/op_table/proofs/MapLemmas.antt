@@ -15,6 +15,8 @@ use Rattle.std.specs.Cmp.Lexicographic.{slice_cmp}
 use Rattle.std.specs.Map.{keys_of, lookup, set_value}
 use Rattle.std.specs.BTreeMap.{BTreeMap, IsOrdered, get_by, is_at, insert_entry}
 use Rattle.std.proofs.lemmas.Map.{none_passes_from_lookup}
+use Rattle.au_term.proofs.LogicLemmas.{true_false}
+use Rattle.au_term.proofs.OptionLemmas.{none_value}
 use Rattle.au_model.specs.Terms.Each.{Each}
 use Rattle.au_model.specs.Syntax.Operators.{OperatorClass, operator_of}
 use Rattle.op_table.specs.declared.operator.Operator.{Operator as DeclaredOperator}
@@ -28,10 +30,6 @@ Names = BTreeMap (String Global) NameOperators
 
 abbrev asked : List ℕ → String Global → Ordering
 asked bs k = slice_cmp nat_cmp bs (string_bytes k)
-
-none_there : {X : Type 0} (o : Option X) → is_some o ≡ false → o ≡ None
-none_there None e = refl
-none_there (Some x) e = absurd cc
 
 -- what is at a name
 abbrev at_name : Names → List ℕ → Option NameOperators
@@ -61,7 +59,7 @@ placed m n bs k s u h none key empty entries ordered =
     let es = named_entries m in
     let is : named_entries n ≡ insert_entry (slice_cmp nat_cmp) es name no_operators =
     ap (map named_entry) entries ∙ (insert_named m.entries k s ∙ ap₂ (λ b t. insert_entry (slice_cmp nat_cmp) es (chars b) t) key empty) in
-    let absent : lookup (is_at (slice_cmp nat_cmp name)) es ≡ None = none_there (at_name m name) (ap is_some (sym (lookup_named bs u m.entries)) ∙ none) in
+    let absent : lookup (is_at (slice_cmp nat_cmp name)) es ≡ None = none_value (at_name m name) (ap is_some (sym (lookup_named bs u m.entries)) ∙ none) in
     record {
       names = record { ordered = ordered; classed = subst (AllByRecursion (λ e. is_classed e.1 ≡ true)) (sym is) (classed_inserted name no_operators es h.classed refl) };
       rows = ap table_rows is ∙ rows_placed name es absent;
@@ -101,10 +99,7 @@ set_absent m n class o bs u there none same = ap rows_of same ∙ by o there (sy
   where
     by : (p : Option DeclaredOperator) → (IsSome p → HasName m (chars bs)) → at_name m (chars bs) ≡ None → rows_of m ≡ row_changed class p (rows_of m) (chars bs)
     by None t a = sym (rows_absent class (chars bs) (named_entries m) (none_passes_from_lookup (is_at (slice_cmp nat_cmp (chars bs))) (named_entries m) a))
-    by (Some p) t a = let yes = t refl in let no : is_some (at_name m (chars bs)) ≡ false = ap is_some a in absurd (no_way (sym yes ∙ no))
-      where
-        no_way : true ≡ false → ⊥
-        no_way e = cc
+    by (Some p) t a = let yes = t refl in let no : is_some (at_name m (chars bs)) ≡ false = ap is_some a in absurd (true_false (sym yes ∙ no))
 
 -- names one after another
 pub each_more : (P : List ℕ → Type 0) (xs : List (List ℕ)) (i : ℕ) (x : List ℕ) → i < length xs → x ≡ get_or xs i x → Each P (take i xs) → P x → Each P (take (i + 1) xs)

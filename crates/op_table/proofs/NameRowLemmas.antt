@@ -1,5 +1,5 @@
 -- The rows of names: found, put, and taken away.
-use Rattle.std.proofs.Common.{◌≡◌, ◌∙◌, ℕ, ◌<◌, Bool, true, false, not, ◌&&◌, ◌==◌, nat_eq, cond, List, [], ◌∷◌, ◌++◌, Option, Some, None, refl, sym, ap, ap₂, subst, append_assoc, arith}
+use Rattle.std.proofs.Common.{◌≡◌, ◌∙◌, ℕ, ◌<◌, Bool, true, false, not, ◌==◌, nat_eq, cond, List, [], ◌∷◌, ◌++◌, Option, Some, None, refl, sym, ap, ap₂, subst, append_assoc, arith}
 use Rattle.std.specs.Prelude.{IsSome}
 use Rattle.std.specs.List.{AllByRecursion}
 use Rattle.std.specs.List.Sorted.{IsStrictlySortedBy}
@@ -14,7 +14,8 @@ use Rattle.std.specs.BTreeMap.{is_at, insert_entry}
 use Rattle.std.proofs.lemmas.Map.{NonePasses, lookup-none}
 use Rattle.std.proofs.lemmas.Map.Entries.{none_past_head, none_below_head}
 use Rattle.std.proofs.lemmas.Map.Keys.{IsDistinct-from_sorted}
-use Rattle.au_term.proofs.LogicLemmas.{both as both_true, same_number}
+use Rattle.au_term.proofs.LogicLemmas.{both as both_true, and-both, same_number}
+use Rattle.au_term.proofs.OptionLemmas.{some_cond}
 use Rattle.au_model.specs.Syntax.Operators.{OperatorClass, PrefixClass, InfixClass, PostfixClass, class_of, class_rank, Operator, OperatorRow, OperatorTable, row_rank, row_order, row_placed, is_operator_row, operator_of, with_operator, without_operator}
 use Rattle.op_table.specs.declared.operator.Operator.{Operator as DeclaredOperator}
 use Rattle.op_table.specs.declared.names.NameOperators.{NameOperators}
@@ -36,9 +37,6 @@ at name k = is_at (slice_cmp nat_cmp name) k
 
 at_is : (name k : List ℕ) → at name k ≡ pointwise nat_eq name k
 at_is name k = sym (texts_ties name k)
-
-itself : (name : List ℕ) → pointwise nat_eq name name ≡ true
-itself name = nat_list_eq_equiv.refl name
 
 -- the rows of a name in front of others, one class after another
 in_turn : (a b c rest : OperatorTable) → (a ++ (b ++ c)) ++ rest ≡ a ++ (b ++ (c ++ rest))
@@ -79,13 +77,13 @@ module _ (class : OperatorClass) where
 
   own_class : (n : List ℕ) (o : Option DeclaredOperator) (rest : OperatorTable) → fits_class class o ≡ true → operator_of class (class_rows n o ++ rest) n ≡ own o (operator_of class rest n)
   own_class n None rest h = refl
-  own_class n (Some o) rest h = rw (itself n, h) refl
+  own_class n (Some o) rest h = rw (nat_list_eq_equiv.refl n, h) refl
 
   skip_class : (c : OperatorClass) (n : List ℕ) (o : Option DeclaredOperator) (rest : OperatorTable) → fits_class c o ≡ true → (class_rank c == class_rank class) ≡ false → operator_of class (class_rows n o ++ rest) n ≡ operator_of class rest n
   skip_class c n None rest h k = refl
   skip_class c n (Some o) rest h k =
       let miss : (class_rank (class_of (kind_meant o.kind)) == class_rank class) ≡ false = ap (λ r. r == class_rank class) (rank_of c o h) ∙ k in
-      rw (itself n, miss) refl
+      rw (nat_list_eq_equiv.refl n, miss) refl
 
 own_rows : (class : OperatorClass) (n : List ℕ) (s : NameOperators) (rest : OperatorTable) → Classes s → operator_of class (name_rows n s ++ rest) n ≡ own class (of_class class s) (operator_of class rest n)
 own_rows PrefixClass n s rest h =
@@ -163,7 +161,7 @@ module _ (row : OperatorRow) where
       is_equal Greater e = absurd cc
 
       self_order : (n : List ℕ) → slice_cmp nat_cmp n n ≡ Equal
-      self_order n = is_equal (slice_cmp nat_cmp n n) (at_is n n ∙ itself n)
+      self_order n = is_equal (slice_cmp nat_cmp n n) (at_is n n ∙ nat_list_eq_equiv.refl n)
 
   class_before : (c : OperatorClass) (o : Option DeclaredOperator) (rest : OperatorTable) → fits_class c o ≡ true → class_rank c < row_rank row → with_operator (class_rows row.name o ++ rest) row ≡ class_rows row.name o ++ with_operator rest row
   class_before c None rest h lt = refl
@@ -282,13 +280,13 @@ rows_absent class name (e ∷ es) h =
 module _ (class : OperatorClass) (n : List ℕ) where
   drop_class : (o : Option DeclaredOperator) → fits_class class o ≡ true → without_operator class n (class_rows n o) ≡ []
   drop_class None h = refl
-  drop_class (Some o) h = rw (itself n, h) refl
+  drop_class (Some o) h = rw (nat_list_eq_equiv.refl n, h) refl
 
   keep_class : (c : OperatorClass) (o : Option DeclaredOperator) → fits_class c o ≡ true → (class_rank c == class_rank class) ≡ false → without_operator class n (class_rows n o) ≡ class_rows n o
   keep_class c None h k = refl
   keep_class c (Some o) h k =
       let miss : (class_rank (class_of (kind_meant o.kind)) == class_rank class) ≡ false = ap (λ r. r == class_rank class) (rank_of c o h) ∙ k in
-      rw (itself n, miss) refl
+      rw (nat_list_eq_equiv.refl n, miss) refl
 
 own_without : (class : OperatorClass) (n : List ℕ) (s : NameOperators) → Classes s → without_operator class n (name_rows n s) ≡ name_rows n (with_class class None s)
 own_without PrefixClass n s h =
@@ -327,17 +325,13 @@ rows_placed name (e ∷ es) h = go (slice_cmp nat_cmp name e.0) h (rows_placed n
     go Equal k r = absurd cc
     go Greater k r = ap (λ q. name_rows e.0 e.1 ++ q) (r k)
 
-some_cond : {X : Type 0} (b : Bool) (x : X) (o : Option X) → IsSome o → IsSome (cond b (Some x) o)
-some_cond true x o h = refl
-some_cond false x o h = h
-
 pub place_there : (name : List ℕ) (es : Slots) (s : NameOperators) → IsSome (lookup (at name) (insert_entry (slice_cmp nat_cmp) es name s))
-place_there name [] s = let e : at name name ≡ true = at_is name name ∙ itself name in subst (λ b. IsSome (cond b (Some s) None)) (sym e) refl
+place_there name [] s = let e : at name name ≡ true = at_is name name ∙ nat_list_eq_equiv.refl name in subst (λ b. IsSome (cond b (Some s) None)) (sym e) refl
 place_there name (e ∷ es) s = go (slice_cmp nat_cmp name e.0) refl (place_there name es s)
   where
     go : (p : Ordering) → slice_cmp nat_cmp name e.0 ≡ p → IsSome (lookup (at name) (insert_entry (slice_cmp nat_cmp) es name s))
         → IsSome (lookup (at name) (match_ordering p ((name, s) ∷ e ∷ es) ((e.0, s) ∷ es) (e ∷ insert_entry (slice_cmp nat_cmp) es name s)))
-    go Less h k = let t : at name name ≡ true = at_is name name ∙ itself name in subst (λ b. IsSome (cond b (Some s) (lookup (at name) (e ∷ es)))) (sym t) refl
+    go Less h k = let t : at name name ≡ true = at_is name name ∙ nat_list_eq_equiv.refl name in subst (λ b. IsSome (cond b (Some s) (lookup (at name) (e ∷ es)))) (sym t) refl
     go Equal h k = subst (λ q. IsSome (cond (is_eq q) (Some s) (lookup (at name) es))) (sym h) refl
     go Greater h k = some_cond (at name e.0) e.1 _ k
 
@@ -366,13 +360,10 @@ value_kept q name (e ∷ es) s h = go (at name e.0) (at q e.0) refl h (value_kep
 
 -- ---- each operator stays one of its class
 
-and_true : (a b : Bool) → a ≡ true → b ≡ true → (a && b) ≡ true
-and_true a b e f = rw (e, f) refl
-
 pub classed_with : (class : OperatorClass) (o : Option DeclaredOperator) (s : NameOperators) → is_classed s ≡ true → fits_class class o ≡ true → is_classed (with_class class o s) ≡ true
-classed_with PrefixClass o s h f = let c = classes s h in and_true (fits_class PrefixClass o) _ f (and_true (fits_class InfixClass s.as_infix) (fits_class PostfixClass s.as_postfix) c.as_infix c.as_postfix)
-classed_with InfixClass o s h f = let c = classes s h in and_true (fits_class PrefixClass s.as_prefix) _ c.as_prefix (and_true (fits_class InfixClass o) (fits_class PostfixClass s.as_postfix) f c.as_postfix)
-classed_with PostfixClass o s h f = let c = classes s h in and_true (fits_class PrefixClass s.as_prefix) _ c.as_prefix (and_true (fits_class InfixClass s.as_infix) (fits_class PostfixClass o) c.as_infix f)
+classed_with PrefixClass o s h f = let c = classes s h in and-both (fits_class PrefixClass o) _ f (and-both (fits_class InfixClass s.as_infix) (fits_class PostfixClass s.as_postfix) c.as_infix c.as_postfix)
+classed_with InfixClass o s h f = let c = classes s h in and-both (fits_class PrefixClass s.as_prefix) _ c.as_prefix (and-both (fits_class InfixClass o) (fits_class PostfixClass s.as_postfix) f c.as_postfix)
+classed_with PostfixClass o s h f = let c = classes s h in and-both (fits_class PrefixClass s.as_prefix) _ c.as_prefix (and-both (fits_class InfixClass s.as_infix) (fits_class PostfixClass o) c.as_infix f)
 
 pub classed_at : (name : List ℕ) (s : NameOperators) (es : Slots) → Classed es → lookup (at name) es ≡ Some s → is_classed s ≡ true
 classed_at name s [] c l = absurd cc

@@ -6,7 +6,7 @@ use Rattle.std.specs.Map.{lookup}
 use Rattle.std.specs.Prelude.{Vec, ◌||◌}
 use Rattle.std.specs.List.{list_any}
 use Rattle.std.specs.BTreeMap.{BTreeMap, get, is_at}
-use Rattle.std.specs.Cmp.Lexicographic.{slice_cmp, same_text, texts_ties}
+use Rattle.std.specs.Cmp.Lexicographic.{slice_cmp, same_text}
 use Rattle.std.specs.Cmp.{unsigned_ties}
 use Rattle.std.specs.Ordering.{nat_cmp}
 use Rattle.std.specs.Global.{Global}
@@ -15,6 +15,7 @@ use Rattle.au_term.specs.Term.{argument_count}
 use Rattle.au_model.specs.Terms.Each.{Each}
 use Rattle.au_model.specs.Terms.Forms.{same_name, name_of}
 use Rattle.run_model.specs.Programs.Clauses.{Clause as ClauseTerms, is_clause_of}
+use Rattle.clause_compile.proofs.AtomNumberLemmas.{at_name}
 use Rattle.proc_index.specs.declared.key.Key.{Key}
 use Rattle.proc_index.specs.declared.procedure.Procedure.{Procedure}
 use Rattle.proc_index.specs.Keys.{matching, may_match, head_key, is_any, same_key}
@@ -22,9 +23,6 @@ use Rattle.proc_index.specs.Places.{places_from, places, merged, clauses_at}
 use Rattle.proc_index.specs.ProcedureIndex.{Arities, key_cmp, found_places, all_in, variables_in, keyed_in, found_in, procedure_at, and_place, IsListed, IsIndexed, GainsPlace, IsPut, IsPutUnder, IsEmpty, IsAdded, IsAddedTo, procedure_of, candidates_of}
 use Rattle.proc_index.proofs.KeyLemmas.{key_tied, same_key_is, match_by_key, all_match, any_or_same}
 use Rattle.proc_index.proofs.PlacesLemmas.{merged_nil, merged_places, same_places, push_places, clauses_at_places, places_within, filter_twice, filter_same}
-
-at-name : (n q : List ℕ) → is_at (slice_cmp nat_cmp n) q ≡ same_name n q
-at-name n q = sym (texts_ties n q)
 
 at-arity : (a b : ℕ) → is_at (nat_cmp a) b ≡ (a == b)
 at-arity a b = sym (unsigned_ties a b)
@@ -93,12 +91,12 @@ added index mid now own number place c key taken arities put o k e t m n f a nam
   where
     go : (b : Bool) → same_name own name ≡ b → GainsPlace (procedure_at index name arity) (procedure_at now name arity) (b && number == arity) place key
     go true h =
-        let there : procedure_at now name arity ≡ get nat_cmp put arity = ap (λ x. found_in x arity) (n name ∙ ap (λ b. cond b (Some put) (get (slice_cmp nat_cmp) mid name)) (at-name own name ∙ h)) in
+        let there : procedure_at now name arity ≡ get nat_cmp put arity = ap (λ x. found_in x arity) (n name ∙ ap (λ b. cond b (Some put) (get (slice_cmp nat_cmp) mid name)) (at_name own name ∙ h)) in
         let here : get nat_cmp arities arity ≡ procedure_at index name arity = f arity ∙ ap (λ x. found_in x arity) (t ∙ ap (get (slice_cmp nat_cmp) index) (same_text own name (sym h))) in
         subst (λ x. GainsPlace (procedure_at index name arity) x (number == arity) place key) (sym there) (subst (λ x. GainsPlace x (get nat_cmp put arity) (number == arity) place key) here (a arity))
     go false h =
         let same : procedure_at now name arity ≡ procedure_at index name arity =
-        ap (λ x. found_in x arity) (n name ∙ (ap (λ b. cond b (Some put) (get (slice_cmp nat_cmp) mid name)) (at-name own name ∙ h) ∙ (m name ∙ ap (λ b. cond b None (get (slice_cmp nat_cmp) index name)) (at-name own name ∙ h)))) in
+        ap (λ x. found_in x arity) (n name ∙ (ap (λ b. cond b (Some put) (get (slice_cmp nat_cmp) mid name)) (at_name own name ∙ h) ∙ (m name ∙ ap (λ b. cond b None (get (slice_cmp nat_cmp) index name)) (at_name own name ∙ h)))) in
         subst (λ x. GainsPlace (procedure_at index name arity) x false place key) (sym same) (stays (procedure_at index name arity) place key)
 
 -- one clause more

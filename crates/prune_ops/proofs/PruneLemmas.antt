@@ -1,6 +1,5 @@
 -- Pruning, alternative by alternative and level by level.
 use Rattle.std.proofs.Common.{◌≡◌, ℕ, zero, suc, ◌+◌, ◌<◌, ◌≤◌, ◌==◌, Bool, true, false, cond, List, [], ◌∷◌, ◌++◌, length, Option, Some, None, refl, sym, ap, ◌∙◌, arith, subst, length-append}
-use Rattle.std.specs.Option.{option_map}
 use Rattle.std.proofs.lemmas.Option.{slice_get_within}
 use Rattle.std.specs.Prelude.{IsSome, slice_get}
 use Rattle.tree_model.specs.Credits.{no_credit}
@@ -8,7 +7,7 @@ use Rattle.tree_model.specs.Nodes.{Numbered, Alternatives, none, alternative, St
 use Rattle.tree_model.specs.Levels.{Level, put_left, level_node, plug, Place, place_at}
 use Rattle.tree_model.specs.Pruning.{emptied, pruned}
 use Rattle.tree_nodes.specs.Bodies.{Reading}
-use Rattle.tree_nodes.specs.Rows.{AlternativeCell, ClosedCell, Rows, row_of_node, alternatives_at, cell_at}
+use Rattle.tree_nodes.specs.Rows.{AlternativeCell, ClosedCell, Rows, row_of_node, node_parent, alternatives_at, cell_at}
 use Rattle.tree_nodes.specs.TreeTables.{cell_of, cells_of, NodesView, IsTableOf, Stand, above_of}
 use Rattle.tree_nodes.specs.Changes.{SetsCell, KeepsNumbers}
 use Rattle.tree_nodes.specs.Puts.{IsPlaceIn}
@@ -176,13 +175,13 @@ module _ (old new : NodesView) (read : Reading) (v : Level) (up : List Level) (w
   by_parent (Some q) z = by_test (q.node == scope) q refl z
 
 pub pruned_more : (old nodes new : NodesView) (a : Place) (scope : ℕ) (b : Place) (parent : Option Place) → PrunesUp old nodes a scope (Some b)
-    → PrunesLevel nodes new b → option_map (λ r. r.parent) (row_of_node new.rows b.node) ≡ Some parent → PrunesUp old new a scope (within_scope scope parent)
+    → PrunesLevel nodes new b → node_parent new.rows b.node ≡ Some parent → PrunesUp old new a scope (within_scope scope parent)
 pruned_more old nodes new a scope b parent p h e read v up was at s =
     let k = p read v up was at s in
     let here = h read k.level k.above k.status k.at k.stands in
     by_parent old new read v up was scope k.level k.above k.status here k.below k.same parent
     (parent_here new read (record k.level { right = emptied k.level.right }) k.above k.status parent here
-    (ap (λ (q : Place). option_map (λ r. r.parent) (row_of_node new.rows q.node)) k.at ∙ e))
+    (ap (λ (q : Place). node_parent new.rows q.node) k.at ∙ e))
 
 pub place_below : (rows : Rows) (scope : ℕ) (parent : Option Place) (n : ℕ) → IsAbove rows parent n → IsPlaceIn rows (within_scope scope parent)
 place_below rows scope None n h = tt

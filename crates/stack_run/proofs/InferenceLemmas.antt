@@ -1,7 +1,7 @@
 -- What inferences leave.
 use Rattle.std.proofs.Common.{◌≡◌, ◌⊎◌, inl, inr, ℕ, zero, suc, ◌+◌, ◌-◌, ◌≤◌, List, [], ◌∷◌, ◌++◌, length, map, take, drop, take-append-drop, reverse, Some, None, Vec, Global, refl, sym, ap, ◌∙◌, subst, append_assoc, length-drop, arith}
 use Rattle.std.specs.Prelude.{codes}
-use Rattle.std.proofs.lemmas.List.{length-reverse, reverse-append}
+use Rattle.std.proofs.lemmas.List.{drop-append-le, length-reverse, reverse-append}
 use Rattle.std.proofs.Math.Seq.{drop-append_seam}
 use Rattle.au_term.specs.Term.{Term, AtomTerm, var_bound}
 use Rattle.au_model.specs.Terms.Each.{Each}
@@ -80,11 +80,6 @@ reverse_take i xs le =
     sym (ap (λ k. drop k (reverse xs)) count
     ∙ (ap (drop (length (reverse (drop i xs)))) (ap reverse (sym (take-append-drop i xs)) ∙ reverse-append (take i xs) (drop i xs)) ∙ drop-append_seam (reverse (drop i xs)) (reverse (take i xs))))
 
-drop_front : {X : Type 0} (k : ℕ) (xs ys : List X) → k ≤ length xs → drop k (xs ++ ys) ≡ drop k xs ++ ys
-drop_front zero xs ys le = refl
-drop_front (suc k) [] ys le = absurd (omega arith)
-drop_front (suc k) (x ∷ xs) ys le = drop_front k xs ys (omega arith)
-
 take_past : {X : Type 0} (i : ℕ) (xs : List X) → length xs ≤ i → take i xs ≡ xs
 take_past zero [] le = refl
 take_past zero (x ∷ xs) le = absurd (omega arith)
@@ -118,7 +113,7 @@ pruned old goals rest frames scope place w b g f p =
           ∙ ap (λ es. PlainEntry (following old rest own) ∷ es)
           (ap (λ fs. frames_view own old.store fs ++ end_view old.end) turned
           ∙ (ap (λ es. es ++ end_view old.end) (dropped_view own k old.store (reverse old.frames.items) w.frames)
-          ∙ (sym (drop_front k fv (end_view old.end) within) ∙ ap (λ m. drop m (entries_below old own)) height)));
+          ∙ (sym (drop-append-le k fv (end_view old.end) within) ∙ ap (λ m. drop m (entries_below old own)) height)));
       fit = record {
         sound = w.sound;
         current = subst (Each (IsItemBelow old.store.next)) (sym g) b;

@@ -5,7 +5,8 @@ use Rattle.std.specs.Str.{chars}
 use Rattle.std.specs.Global.{Global}
 use Rattle.au_term.specs.Term.{Term, VarTerm, IntTerm, AtomTerm, Compound}
 use Rattle.au_term.specs.PrefixOrder.{top_of}
-use Rattle.au_term.specs.declared.cell.Cell.TheVariants.{Var as VarCell, Atom as AtomCell, Int as IntCell}
+use Rattle.au_term.proofs.SubtermLemmas.{atom_of_top}
+use Rattle.au_term.specs.declared.cell.Cell.TheVariants.{Var as VarCell, Atom as AtomCell}
 use Rattle.std.specs.Fmt.{signed_decimal}
 use Rattle.std.specs.List.{list_all}
 use Rattle.au_model.specs.Terms.Forms.{list_term}
@@ -26,12 +27,6 @@ use Rattle.std_builtins.specs.declared.spelling.Spelling.{Spelling as SpellingCo
 use Rattle.std_builtins.specs.declared.spelling.Spelling.TheVariants.{Characters, Codes}
 use Rattle.std_builtins.proofs.CheckLemmas.{refused}
 
-pub atom_of_top : (t : Term) (a : List ℕ) → top_of t ≡ AtomCell a → t ≡ AtomTerm a
-atom_of_top (VarTerm n) a h = absurd cc
-atom_of_top (IntTerm z) a h = absurd cc
-atom_of_top (AtomTerm b) a h = let same : b ≡ a = cc in ap AtomTerm same
-atom_of_top (Compound f ts) a h = absurd cc
-
 pub map_last : {X Y : Type 0} (f : X → Y) (xs : List X) (x : X) → map f (xs ++ x ∷ []) ≡ map f xs ++ f x ∷ []
 map_last f [] x = refl
 map_last f (y ∷ xs) x = ap (λ ys. f y ∷ ys) (map_last f xs x)
@@ -50,12 +45,6 @@ taken_all f [] zero le = refl
 taken_all f [] (suc i) le = refl
 taken_all f (y ∷ xs) zero le = absurd (omega arith)
 taken_all f (y ∷ xs) (suc i) le = ap (λ ys. f y ∷ ys) (taken_all f xs i (omega arith))
-
-pub integer_of_top : (t : Term) (z : ℤ) → top_of t ≡ IntCell z → t ≡ IntTerm z
-integer_of_top (VarTerm n) z h = absurd cc
-integer_of_top (IntTerm y) z h = let same : y ≡ z = cc in ap IntTerm same
-integer_of_top (AtomTerm b) z h = absurd cc
-integer_of_top (Compound f ts) z h = absurd cc
 
 pub coded_made : (c n made x : Term) (z : ℤ) (d : ℕ) (r : Result (Vec Solution Global) BuiltinRefusal) → n ≡ IntTerm z → IsCharacterOf z d → made ≡ AtomTerm (d ∷ []) → x ≡ c → IsAnswer (equal x made) r → IsAnswer (coded_answer c n) r
 coded_made c n made x z d r is h e same k =

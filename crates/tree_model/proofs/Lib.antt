@@ -4,5 +4,6 @@ mod HaltHistories
 mod IllegalEvents
 mod QueryHistories
 mod ResultHistories
-mod TableRows
+mod ClosingRows
 pub mod WorkedJobs
+pub mod CountLemmas

@@ -16,7 +16,6 @@ pub mod FrontGates
 pub mod Effects
 pub mod Histories
 pub mod HandOuts
-pub mod Tables
 pub mod Ways
 pub mod SoundTrees
 pub mod CaughtTrees

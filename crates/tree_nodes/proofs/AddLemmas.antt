@@ -7,13 +7,14 @@ use Rattle.clause_compile.specs.declared.event.Branch.{Branch}
 use Rattle.tree_model.specs.Nodes.{Numbered, Status, Pending, Inner, Closed, nodes_among, nodes_below}
 use Rattle.tree_model.specs.Levels.{Level, plug, Place, place_at}
 use Rattle.tree_model.specs.SoundTrees.{one_if, count_among, count_below}
+use Rattle.tree_model.proofs.CountLemmas.{count_around, count_plug, one_if-same, one_if-other}
 use Rattle.tree_nodes.specs.Bodies.{Body, Branching, Reading, first_hold, new_alternatives, new_node}
 use Rattle.tree_nodes.specs.Rows.{AlternativeCell, PendingCell, InnerCell, StoredNode, Rows, row_of_node, alternatives_at, cell_at}
 use Rattle.tree_nodes.specs.RowViews.{with_state, new_cells, new_row}
 use Rattle.tree_nodes.specs.TreeTables.{cell_of, cells_of, IsBelow, AreIn, IsIn, NodesView, IsTableOf, Stand, IsWayTo, above_of}
 use Rattle.tree_nodes.specs.Changes.{AddsFirst, Adds, IsOpenCell, CanHold, root_after}
 use Rattle.tree_nodes.specs.Puts.{IsLinkedAt, IsLinked}
-use Rattle.tree_nodes.proofs.PlaceLemmas.{AreRound, taken_out, count_around, count_plug, nodes_plug, one_if-same, one_if-other}
+use Rattle.tree_nodes.proofs.PlaceLemmas.{AreRound, taken_out, nodes_plug}
 use Rattle.tree_nodes.proofs.FrameLemmas.{replaced}
 use Rattle.tree_nodes.proofs.LocateLemmas.{located, found}
 use Rattle.tree_nodes.proofs.RowLemmas.{row_at_within}

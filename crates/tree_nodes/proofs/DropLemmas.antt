@@ -5,10 +5,11 @@ use Rattle.tree_model.specs.Nodes.{Node, Numbered, Alternatives, none, alternati
 use Rattle.tree_model.specs.Nodes.{nodes_among}
 use Rattle.tree_model.specs.Levels.{Level, put_left, level_node, plug, Place, place_at}
 use Rattle.tree_model.specs.SoundTrees.{one_if, count_among}
+use Rattle.tree_model.proofs.CountLemmas.{count_around, one_if-same}
 use Rattle.tree_nodes.specs.Bodies.{Branching, Reading}
 use Rattle.tree_nodes.specs.Rows.{AlternativeCell, Rows}
 use Rattle.tree_nodes.specs.TreeTables.{node_number, IsIn}
-use Rattle.tree_nodes.proofs.PlaceLemmas.{are_in-split, count_around, one_if-same}
+use Rattle.tree_nodes.proofs.PlaceLemmas.{are_in-split}
 
 pub snoc_same : (xs ys : List (ℕ × AlternativeCell)) (x y : ℕ × AlternativeCell) → xs ++ x ∷ [] ≡ ys ++ y ∷ [] → (xs ≡ ys) × (x ≡ y)
 snoc_same [] [] x y e = (refl, cc e)

@@ -9,6 +9,7 @@ use Rattle.tree_model.specs.Nodes.{Node, Numbered, Status, Pending, Inner, Close
 use Rattle.tree_model.specs.Nodes.{nodes_in, nodes_among, nodes_below}
 use Rattle.tree_model.specs.Levels.{Level, put_left, plug, Place}
 use Rattle.tree_model.specs.SoundTrees.{one_if, count_in, count_among, count_below}
+use Rattle.tree_model.proofs.CountLemmas.{count_left, count-put, one_if-same, one_if-other}
 use Rattle.tree_nodes.specs.declared.row.Shortened.{Shortened}
 use Rattle.tree_nodes.specs.declared.row.Shortened.TheVariants as shortened
 use Rattle.tree_nodes.specs.Bodies.{Branching, Reading}
@@ -16,9 +17,9 @@ use Rattle.tree_nodes.specs.Rows.{AlternativeCell, StoredNode, Rows, row_of_node
 use Rattle.tree_nodes.specs.RowViews.{parent_view, with_cells, inner_of, IsShorter, IsGone, IsShortened}
 use Rattle.tree_nodes.specs.TreeTables.{node_number, cell_of, cells_of, IsNodeIn, IsIn}
 use Rattle.tree_nodes.specs.Drops.{next_of, live_after, IsDropped}
-use Rattle.tree_nodes.proofs.PlaceLemmas.{left_cells, count_left, one_if-same, one_if-other}
+use Rattle.tree_nodes.proofs.PlaceLemmas.{left_cells}
 use Rattle.tree_nodes.proofs.DropLemmas.{snoc_same, snoc_some, above_from, inside, done, on_path, nodes_done, done_within, outermost}
-use Rattle.tree_nodes.proofs.GoingLemmas.{IsGoing, IsOnce, passed, entered, left_behind, counted_once, count-put-here}
+use Rattle.tree_nodes.proofs.GoingLemmas.{IsGoing, IsOnce, passed, entered, left_behind, counted_once}
 
 no_left : (left : List (ℕ × Status)) → left_cells left ≡ [] → left ≡ []
 no_left [] e = refl
@@ -125,7 +126,7 @@ module _ (old : Rows) (live : ℕ) (rows : Rows) (now : ℕ) (at top : ℕ) (nod
       let none_left = no_left g.left lefts in
       let counts : (m : ℕ) → count_in m node ≡ one_if (at == m) + count_among m g.right = (λ m.
       let a : count_in m node ≡ one_if (at == m) + count_among m (put_left g.left g.right) = ap (count_below m) h in
-      let b = count-put-here m g.left g.right in
+      let b = count-put m g.left g.right in
       let c : count_left m g.left ≡ 0 = ap (count_left m) none_left in omega (arith, a, b, c)) in
       let nodes : nodes_in node ≡ 1 + nodes_among g.right = ap nodes_below h ∙ ap (λ (l : List (ℕ × Status)). 1 + nodes_among (put_left l g.right)) none_left in
       let dones : (m : ℕ) → done m g.path ≡ 0 = (λ m. ap (done m) paths) in

@@ -5,12 +5,13 @@ use Rattle.std.proofs.lemmas.List.{set_at}
 use Rattle.tree_model.specs.Nodes.{Node, Numbered, Alternatives, none, alternative, Status, Pending, Inner, Closed, nodes_below}
 use Rattle.tree_model.specs.Levels.{Level, level_node, plug, Place, place_at}
 use Rattle.tree_model.specs.SoundTrees.{one_if, count_among, count_below}
+use Rattle.tree_model.proofs.CountLemmas.{count_left, count_around, count_plug, one_if-same}
 use Rattle.tree_nodes.specs.Bodies.{Body, Branching, Reading}
 use Rattle.tree_nodes.specs.Rows.{AlternativeCell, InnerCell, StoredNode, Rows, row_of_node}
 use Rattle.tree_nodes.specs.RowViews.{with_cells, with_state}
 use Rattle.tree_nodes.specs.TreeTables.{node_number, cell_of, cells_of, AreIn, IsIn, NodesView, IsRoot, IsTableOf, above_of}
 use Rattle.tree_nodes.proofs.PlaceLemmas.{left_cells, AreLeftIn, AreRound, IsPlaced, length-left_cells, taken_out, put_in}
-use Rattle.tree_nodes.proofs.PlaceLemmas.{count_left, count_around, count_plug, nodes_around, nodes_plug, one_if-same}
+use Rattle.tree_nodes.proofs.PlaceLemmas.{nodes_around, nodes_plug}
 
 -- what is counted has the same rows
 abbrev pub Agree : Rows → Rows → (ℕ → ℕ) → Type 0

@@ -8,11 +8,12 @@ use Rattle.tree_model.specs.Nodes.{Kind, Node, Numbered, Alternatives, none, alt
 use Rattle.tree_model.specs.Nodes.{nodes_among, nodes_below}
 use Rattle.tree_model.specs.Levels.{Level, put_left, plug, Place}
 use Rattle.tree_model.specs.SoundTrees.{one_if, count_among, count_below}
+use Rattle.tree_model.proofs.CountLemmas.{count_left, count_around, count-put, count_plug, one_if-same, one_if-other}
 use Rattle.tree_nodes.specs.Bodies.{Branching, Reading}
 use Rattle.tree_nodes.specs.Rows.{AlternativeCell, StoredNode, Rows, row_of_node}
 use Rattle.tree_nodes.specs.RowViews.{with_cells}
 use Rattle.tree_nodes.specs.TreeTables.{node_number, cells_of, IsNodeIn}
-use Rattle.tree_nodes.proofs.PlaceLemmas.{left_cells, cells_of-put, count_left, count_around, count_plug, one_if-same, one_if-other}
+use Rattle.tree_nodes.proofs.PlaceLemmas.{left_cells, cells_of-put}
 use Rattle.tree_nodes.proofs.DropLemmas.{all_left, done, on_path, nodes_done, done_within}
 
 -- of a node its alternatives on the left are left
@@ -60,14 +61,6 @@ going_begins rows live read way parent (Numbered n kind others) h =
 abbrev pub IsOnce : Status → Type 0
 IsOnce status = (m : ℕ) → count_below m status ≤ 1
 
-pub count-put-here : (m : ℕ) (left : List (ℕ × Status)) (others : Alternatives) → count_among m (put_left left others)
-    ≡ count_left m left + count_among m others
-count-put-here m [] others = omega arith
-count-put-here m (a ∷ left) others =
-    let h : count_among m (put_left left (alternative a.0 a.1 others)) ≡ count_left m left + (count_below m a.1 + count_among m others)
-    = count-put-here m left (alternative a.0 a.1 others) in
-    omega (arith, h)
-
 -- how often a number is at the node, on its left and right, and on the path
 pub counted_once : (n : ℕ) (kind : Kind) (path : List Level) (left : List (ℕ × Status)) (right : Alternatives) (status : Status) → IsOnce status
     → status ≡ plug path (Inner (Numbered n kind (put_left left right))) → (m : ℕ)
@@ -75,7 +68,7 @@ pub counted_once : (n : ℕ) (kind : Kind) (path : List Level) (left : List (ℕ
 counted_once n kind path left right status once is m =
     let whole : count_below m (plug path (Inner (Numbered n kind (put_left left right)))) ≤ 1 = subst (λ (s : Status). count_below m s ≤ 1) is (once m) in
     let parts = count_plug m path (Inner (Numbered n kind (put_left left right))) in
-    let here = count-put-here m left right in
+    let here = count-put m left right in
     omega (arith, whole, parts, here)
 
 -- the rows on a path are the same where the table has changed at no number of it
@@ -150,7 +143,7 @@ module _ (old : Rows) (live : ℕ) (rows : Rows) (now : ℕ) (at : ℕ) (status 
   pub left_behind : (v : Level) (path : List Level) → g.path ≡ v ∷ path → g.left ≡ [] → row_of_node new at ≡ None → IsGoing old live new (now - 1) v.number status
   left_behind v path paths lefts row =
       let gone_node : Node = Numbered at g.kind (put_left g.left g.right) in
-      let counts : (m : ℕ) → count_among m (put_left g.left g.right) ≡ count_among m g.right = (λ m. let z = count-put-here m g.left g.right in
+      let counts : (m : ℕ) → count_among m (put_left g.left g.right) ≡ count_among m g.right = (λ m. let z = count-put m g.left g.right in
       let y : count_left m g.left ≡ 0 = ap (count_left m) lefts in omega (arith, z, y)) in
       let nodes : nodes_among (put_left g.left g.right) ≡ nodes_among g.right = ap (λ (l : List (ℕ × Status)). nodes_among (put_left l g.right)) lefts in
       let shorts : AreShort old rows (v ∷ path) = subst (AreShort old rows) paths g.above in

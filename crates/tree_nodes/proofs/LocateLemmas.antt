@@ -7,10 +7,11 @@ use Rattle.std.proofs.lemmas.Option.{slice_get_within}
 use Rattle.tree_model.specs.Nodes.{Kind, Numbered, Alternatives, none, alternative, Status, Pending, Inner, Closed}
 use Rattle.tree_model.specs.Levels.{Level, put_left, level_node, plug, Place, place_at}
 use Rattle.tree_model.specs.SoundTrees.{count_among, count_below}
+use Rattle.tree_model.proofs.CountLemmas.{one_if-other}
 use Rattle.tree_nodes.specs.Bodies.{Reading}
 use Rattle.tree_nodes.specs.Rows.{AlternativeCell, StoredNode, row_of_node, alternatives_at, cell_at}
 use Rattle.tree_nodes.specs.TreeTables.{cells_of, IsIn, NodesView, IsTableOf}
-use Rattle.tree_nodes.proofs.PlaceLemmas.{taken_out, one_if-other}
+use Rattle.tree_nodes.proofs.PlaceLemmas.{taken_out}
 
 -- a status is a node of this number in a context
 pub record IsFound (n : ℕ) (status : Status) : Type 0 where

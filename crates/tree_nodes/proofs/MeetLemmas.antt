@@ -7,7 +7,7 @@ use Rattle.tree_model.specs.Nodes.{Node, Status, Pending, Inner, Closed}
 use Rattle.tree_model.specs.Levels.{Level, level_node, plug, Place, place_at}
 use Rattle.tree_model.specs.Orders.{path_of, parts_left}
 use Rattle.tree_nodes.specs.Bodies.{Branching, Reading}
-use Rattle.tree_nodes.specs.Rows.{AlternativeCell, PendingCell, InnerCell, ClosedCell, StoredNode, Rows, row_of_node, cell_at}
+use Rattle.tree_nodes.specs.Rows.{AlternativeCell, PendingCell, InnerCell, ClosedCell, StoredNode, Rows, row_of_node, node_parent, cell_at}
 use Rattle.tree_nodes.specs.TreeTables.{node_number, cell_of, IsIn, NodesView, IsTableOf, above_of}
 use Rattle.tree_nodes.proofs.PlaceLemmas.{AreRound, taken_out}
 use Rattle.tree_nodes.proofs.PutLemmas.{cell_there}
@@ -109,7 +109,7 @@ same_parent a b e = cc e
 
 -- the deeper side goes up
 abbrev pub first_up : (nodes : NodesView) (read : Reading) (root : Status) (one other : List Level) (a b above : Place) → IsTableOf nodes read root
-    → AreSides root one other a b → b.node < a.node → option_map (λ r. r.parent) (row_of_node nodes.rows a.node) ≡ Some (Some above)
+    → AreSides root one other a b → b.node < a.node → node_parent nodes.rows a.node ≡ Some (Some above)
     → AreSides root one other above b
 first_up nodes read root one other a b above st s l p =
     let f = s.first in
@@ -118,7 +118,7 @@ first_up nodes read root one other a b above st s l p =
     let node : f.level.number ≡ a.node = ap (λ (q : Place). q.node) f.at in
     let node_b : s.second.level.number ≡ b.node = ap (λ (q : Place). q.node) s.second.at in
     let parent : Some (above_of f.above) ≡ Some (Some above) = sym (ap (λ (o : Option StoredNode). option_map (λ r. r.parent) o) k.around.1.1.1.row)
-    ∙ (ap (λ (n : ℕ). option_map (λ r. r.parent) (row_of_node nodes.rows n)) node ∙ p) in
+    ∙ (ap (λ (n : ℕ). node_parent nodes.rows n) node ∙ p) in
     let u = one_level_up f.level f.above above (same_parent (above_of f.above) (Some above) parent) in
     let round : AreRound nodes.rows read (f.level ∷ u.level ∷ u.above) k.way (cell_of f.status) = subst (λ (ls : List Level). AreRound nodes.rows read (f.level ∷ ls) k.way (cell_of f.status)) u.is k.around in
     let lower = lower_above nodes.rows read f.level u.level u.above k.way (cell_of f.status) round in
@@ -148,7 +148,7 @@ least rows read w (u ∷ over) way t cell node h e =
     omega (arith, k, l)
 
 pub never_stuck : (nodes : NodesView) (read : Reading) (root : Status) (one other : List Level) (a b : Place) → IsTableOf nodes read root
-    → AreSides root one other a b → b.node < a.node → option_map (λ r. r.parent) (row_of_node nodes.rows a.node) ≡ Some None → ⊥
+    → AreSides root one other a b → b.node < a.node → node_parent nodes.rows a.node ≡ Some None → ⊥
 never_stuck nodes read root one other a b st s l p =
     let f = s.first in
     let placed = subst (IsIn nodes.rows read [] None) f.is st.placed in
@@ -156,7 +156,7 @@ never_stuck nodes read root one other a b st s l p =
     let node : f.level.number ≡ a.node = ap (λ (q : Place). q.node) f.at in
     let node_b : s.second.level.number ≡ b.node = ap (λ (q : Place). q.node) s.second.at in
     let parent : Some (above_of f.above) ≡ Some None = sym (ap (λ (o : Option StoredNode). option_map (λ r. r.parent) o) k.around.1.1.1.row)
-    ∙ (ap (λ (n : ℕ). option_map (λ r. r.parent) (row_of_node nodes.rows n)) node ∙ p) in
+    ∙ (ap (λ (n : ℕ). node_parent nodes.rows n) node ∙ p) in
     let top = no_level_up f.above (cc parent) in
     let whole : root ≡ Inner (level_node f.level f.status) = f.is ∙ ap (λ (ls : List Level). plug (f.level ∷ ls) f.status) top in
     let g = s.second in

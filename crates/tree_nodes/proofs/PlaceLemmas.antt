@@ -1,10 +1,9 @@
 -- A table round a place of its tree, and at the place itself.
-use Rattle.std.proofs.Common.{◌≡◌, ◌≢◌, ℕ, suc, ◌+◌, ◌==◌, List, [], ◌∷◌, ◌++◌, length, Option, Some, None, refl, sym, ap, ◌∙◌, arith}
+use Rattle.std.proofs.Common.{◌≡◌, ℕ, suc, ◌+◌, List, [], ◌∷◌, ◌++◌, length, Option, Some, None, refl, sym, ap, ◌∙◌, arith}
 use Rattle.std.proofs.Common.{subst, append_assoc, length-append}
 use Rattle.tree_model.specs.Nodes.{Alternatives, alternative, Status, Inner}
 use Rattle.tree_model.specs.Nodes.{nodes_among, nodes_below}
 use Rattle.tree_model.specs.Levels.{Level, put_left, level_node, plug, Place, place_at}
-use Rattle.tree_model.specs.SoundTrees.{one_if, count_among, count_below}
 use Rattle.tree_nodes.specs.Bodies.{Body, Branching, Reading, node_kind}
 use Rattle.tree_nodes.specs.Rows.{AlternativeCell, InnerCell, Rows, row_of_node}
 use Rattle.tree_nodes.specs.TreeTables.{cell_of, cells_of, IsBelow, AreIn, IsIn, above_of}
@@ -101,36 +100,6 @@ put_in rows read (v ∷ up) way status h k =
     put_in rows read up above (Inner (level_node v status)) h.1.1.2
     (body, (row, round.kind, round.below, are_in-join rows read above body v.number v.left (alternative v.spent status v.right) round.left (here, round.right)))
 
--- counts round a place
-abbrev pub count_left : ℕ → List (ℕ × Status) → ℕ
-count_left m [] = 0
-count_left m (a ∷ left) = count_below m a.1 + count_left m left
-
-abbrev pub count_beside : ℕ → Level → ℕ
-count_beside m v = count_left m v.left + count_among m v.right
-
-abbrev pub count_around : ℕ → List Level → ℕ
-count_around m [] = 0
-count_around m (v ∷ up) = count_around m up + (one_if (v.number == m) + count_beside m v)
-
-count-put : (m : ℕ) (left : List (ℕ × Status)) (others : Alternatives) → count_among m (put_left left others)
-    ≡ count_left m left + count_among m others
-count-put m [] others = omega arith
-count-put m (a ∷ left) others =
-    let h : count_among m (put_left left (alternative a.0 a.1 others)) ≡ count_left m left + (count_below m a.1 + count_among m others)
-    = count-put m left (alternative a.0 a.1 others) in
-    omega (arith, h)
-
-pub count_plug : (m : ℕ) (levels : List Level) (status : Status) → count_below m (plug levels status) ≡ count_around m levels + count_below m status
-count_plug m [] status = omega arith
-count_plug m (v ∷ up) status =
-    let h : count_below m (plug up (Inner (level_node v status)))
-    ≡ count_around m up + (one_if (v.number == m) + count_among m (put_left v.left (alternative v.spent status v.right))) =
-    count_plug m up (Inner (level_node v status)) in
-    let k : count_among m (put_left v.left (alternative v.spent status v.right))
-    ≡ count_left m v.left + (count_below m status + count_among m v.right) = count-put m v.left (alternative v.spent status v.right) in
-    omega (arith, h, k)
-
 -- numbers of nodes round a place
 abbrev pub nodes_left : List (ℕ × Status) → ℕ
 nodes_left [] = 0
@@ -155,9 +124,3 @@ nodes_plug (v ∷ up) status =
     let k : nodes_among (put_left v.left (alternative v.spent status v.right))
     ≡ nodes_left v.left + (nodes_below status + nodes_among v.right) = nodes-put v.left (alternative v.spent status v.right) in
     omega (arith, h, k)
-
-pub one_if-same : (n : ℕ) → one_if (n == n) ≡ 1
-one_if-same n = grind arith
-
-pub one_if-other : (m n : ℕ) → m ≢ n → one_if (m == n) ≡ 0
-one_if-other m n h = grind arith

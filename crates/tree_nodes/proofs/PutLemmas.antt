@@ -8,6 +8,7 @@ use Rattle.tree_model.specs.Credits.{no_credit}
 use Rattle.tree_model.specs.Nodes.{Node, Status, Pending, Inner, Closed, nodes_below}
 use Rattle.tree_model.specs.Levels.{Level, plug, Place, place_at}
 use Rattle.tree_model.specs.SoundTrees.{count_in, count_below}
+use Rattle.tree_model.proofs.CountLemmas.{count_around, count_plug, one_if-same}
 use Rattle.tree_nodes.specs.Bodies.{Branching, Reading}
 use Rattle.tree_nodes.specs.Rows.{AlternativeCell, PendingCell, InnerCell, ClosedCell, StoredNode, Rows, row_of_node, alternatives_at, cell_at}
 use Rattle.tree_nodes.specs.RowViews.{with_state, inner_of}
@@ -16,7 +17,7 @@ use Rattle.tree_nodes.specs.Changes.{IsEntryOf, IsSet, SetsCell, Fits}
 use Rattle.tree_nodes.specs.Drops.{IsDropped, DropsNode}
 use Rattle.tree_nodes.specs.Puts.{inner_at, IsDroppedBy, IsStatePut}
 use Rattle.tree_nodes.proofs.PlaceLemmas.{left_cells, length-left_cells, AreRound, taken_out}
-use Rattle.tree_nodes.proofs.PlaceLemmas.{count_around, count_plug, nodes_plug, one_if-same}
+use Rattle.tree_nodes.proofs.PlaceLemmas.{nodes_plug}
 use Rattle.tree_nodes.proofs.FrameLemmas.{below_kept, replaced}
 use Rattle.tree_nodes.proofs.LocateLemmas.{located}
 

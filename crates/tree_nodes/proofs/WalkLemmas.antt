@@ -5,7 +5,7 @@ use Rattle.std.specs.Prelude.{IsSome, is_some}
 use Rattle.tree_model.specs.Nodes.{Numbered, Status, Pending, Inner, Closed}
 use Rattle.tree_model.specs.Levels.{Level, plug, Place, place_at}
 use Rattle.tree_nodes.specs.Bodies.{Reading}
-use Rattle.tree_nodes.specs.Rows.{AlternativeCell, StoredNode, row_of_node, alternatives_at, cell_at}
+use Rattle.tree_nodes.specs.Rows.{AlternativeCell, StoredNode, row_of_node, node_parent, alternatives_at, cell_at}
 use Rattle.tree_nodes.specs.TreeTables.{cell_of, cells_of, IsIn, NodesView, IsTableOf, Stand, above_of}
 use Rattle.tree_nodes.specs.RowViews.{inner_of}
 use Rattle.tree_nodes.specs.Puts.{inner_at}
@@ -25,7 +25,7 @@ cell_here nodes read v up was s = let k = taken_out nodes.rows read (v ∷ up) w
 
 -- the parent of a node is the alternative of the level above
 pub parent_here : (nodes : NodesView) (read : Reading) (v : Level) (up : List Level) (was : Status) (parent : Option Place)
-    → IsTableOf nodes read (plug (v ∷ up) was) → option_map (λ r. r.parent) (row_of_node nodes.rows v.number) ≡ Some parent → above_of up ≡ parent
+    → IsTableOf nodes read (plug (v ∷ up) was) → node_parent nodes.rows v.number ≡ Some parent → above_of up ≡ parent
 parent_here nodes read v up was parent s e =
     let k = taken_out nodes.rows read (v ∷ up) was s.placed in
     let same : Some (above_of up) ≡ Some parent = sym (ap (λ (o : Option StoredNode). option_map (λ r. r.parent) o) k.around.1.1.1.row) ∙ e in

@@ -1,5 +1,6 @@
 -- The table of a tree's nodes: a row for each, found by its number.
 use Rattle.std.specs.Prelude.{ℕ, List, [], Option, Some, None, slice_get}
+use Rattle.std.specs.Option.{option_map}
 use Rattle.clause_compile.specs.declared.item.Scope.{Scope}
 use Rattle.clause_compile.specs.declared.item.Scope.TheVariants as scope
 use Rattle.clause_compile.specs.declared.event.GateKind.{GateKind}
@@ -35,6 +36,10 @@ joined (Some r) = r
 
 abbrev pub row_of_node : Rows → ℕ → Option StoredNode
 row_of_node rows n = joined (slice_get rows n)
+
+-- of a node: the alternative that it is below
+abbrev pub node_parent : Rows → ℕ → Option (Option Place)
+node_parent rows n = option_map (λ r. r.parent) (row_of_node rows n)
 
 abbrev pub alternatives_at : Option StoredNode → List (ℕ × AlternativeCell)
 alternatives_at None = []

@@ -2,7 +2,7 @@
 ghost use Rattle.std.specs.Prelude.{◌≡◌, ◌<◌, ◌≤◌, ◌+◌, ◌-◌, max, IsSome, IsOk, IfOk, OnOk, OnErr, Some, None, [], length, is_some};
 ghost use Rattle.std.specs.Option.{option_map, option_copied};
 ghost use Rattle.tree_model.specs.EventViews.{place_view};
-ghost use Rattle.tree_nodes.specs.Rows.{row_of_node, cell_at, alternatives_at, cell_view, credit_view};
+ghost use Rattle.tree_nodes.specs.Rows.{row_of_node, node_parent, cell_at, alternatives_at, cell_view, credit_view};
 ghost use Rattle.tree_nodes.specs.RowViews.{row_view, parent_view, branches_at};
 ghost use Rattle.tree_nodes.specs.TreeTables.{NodesView, Stand};
 ghost use Rattle.std.specs.Arc.{arc_value};
@@ -121,7 +121,7 @@ impl Nodes {
     /// The alternative that a node is below, if it is below one.
     pub fn parent(&self, node: u64) -> Option<AltRef>
         requires { IsSome (row_of_node self.now.rows node) }
-        ensures parent { option_map (λ r. r.parent) (row_of_node self.now.rows node) ≡ Some (parent_view result) }
+        ensures parent { node_parent self.now.rows node ≡ Some (parent_view result) }
         ensures above { IsAbove self.now.rows (parent_view result) node }
     {
         // The proof reads off that there is a tree.

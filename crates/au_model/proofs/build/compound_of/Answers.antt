@@ -1,12 +1,12 @@
 use Rattle.std.proofs.Common.{◌≡◌, ◌+◌, ◌++◌, ◌∷◌, [], drop, length, ap, sym, ◌∙◌, subst, arith}
-use Rattle.std.proofs.lemmas.List.{drop_more, drop_all}
+use Rattle.std.proofs.lemmas.List.{drop_more}
 use Rattle.au_term.specs.Term.{Compound}
 use Rattle.au_term.specs.PrefixOrder.{cells_of, all_cells, AreDue, due_after}
 use Rattle.au_term.specs.declared.cell.Cell.TheVariants.{Functor}
 use Rattle.au_model.specs.Terms.Lists.{terms_from}
-use Rattle.au_model.proofs.ListTermLemmas.{count-terms_from, due_next, built_more, none_due, is_whole}
+use Rattle.au_model.proofs.ListTermLemmas.{count-terms_from, due_next, built_more, all_built, none_due, is_whole}
 use Rattle.au_model.proofs.build.compound_of.Goals as goal
-use Rattle.au_model.proofs.build.compound_of.Goals.{After-cells, After-loop-argument}
+use Rattle.au_model.proofs.build.compound_of.Goals.{After-cells}
 
 pub loop-argument-init : goal.loop-argument-init
 loop-argument-init c =
@@ -29,12 +29,8 @@ pub loop-argument-preserved : goal.loop-argument-preserved
 loop-argument-preserved c =
     built_more c.loop-argument.builder c.push_all.new.self (cells_of c.argument-item.result) _ _ (read (goal.at.loop-argument-preserved c).After-cells) (c.in_ok-push_all.ensures.ok ∙ ap (λ cs. c.loop-argument.builder ++ cs) c.cells.ensures.cells)
 
-over : (c : After-loop-argument) → c.loop-argument.builder ++ [] ≡ cells_of (Compound c.args.name (terms_from c.args.arguments.now))
-over c =
-    ap (λ ys. c.loop-argument.builder ++ all_cells (terms_from ys)) (sym (drop_all c.loop-argument.argument-index c.args.arguments.now (omega (arith, c.loop-argument-test.false)))) ∙ c.loop-argument.invariant
-
 pub finish-requires : goal.finish-requires
-finish-requires c = none_due (Compound c.args.name (terms_from c.args.arguments.now)) c.loop-argument.builder (over (goal.at.finish-requires c).After-loop-argument)
+finish-requires c = none_due (Compound c.args.name (terms_from c.args.arguments.now)) c.loop-argument.builder (all_built c.loop-argument.argument-index c.args.arguments.now c.loop-argument.builder _ (omega (arith, c.loop-argument-test.false)) c.loop-argument.invariant)
 
 pub returns : goal.returns
-returns c = is_whole c.finish.result (Compound c.args.name (terms_from c.args.arguments.now)) c.loop-argument.builder c.finish.ensures.cells (over (goal.at.returns c).After-loop-argument)
+returns c = is_whole c.finish.result (Compound c.args.name (terms_from c.args.arguments.now)) c.loop-argument.builder c.finish.ensures.cells (all_built c.loop-argument.argument-index c.args.arguments.now c.loop-argument.builder _ (omega (arith, c.loop-argument-test.false)) c.loop-argument.invariant)

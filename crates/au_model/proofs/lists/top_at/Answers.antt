@@ -1,7 +1,7 @@
 use Rattle.std.proofs.Common.{◌∷◌, ◌∙◌, ◌+◌, ap, drop, get_or, sym}
 use Rattle.std.proofs.lemmas.List.{drop_more}
 use Rattle.au_term.specs.PrefixOrder.{cells_of}
-use Rattle.au_model.proofs.ListFormLemmas.{top_of-subterm}
+use Rattle.au_term.proofs.SubtermLemmas.{top_of-subterm}
 use Rattle.au_model.proofs.lists.top_at.Goals as goal
 
 pub returns : goal.returns

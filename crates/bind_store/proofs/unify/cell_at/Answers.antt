@@ -1,7 +1,7 @@
 use Rattle.std.proofs.Common.{◌≡◌, sym, subst}
 use Rattle.au_term.specs.PrefixOrder.{top_of, subterm}
 use Rattle.au_term.specs.Shifted.{shifted_cell}
-use Rattle.bind_store.proofs.PlaceLemmas.{top_of-subterm}
+use Rattle.au_term.proofs.SubtermLemmas.{top_of-subterm}
 use Rattle.bind_store.proofs.unify.cell_at.Goals as goal
 
 pub returns-clause-top : goal.returns-clause-top

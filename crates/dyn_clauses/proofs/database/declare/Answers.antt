@@ -3,7 +3,8 @@ use Rattle.std.specs.BTreeMap.{get, insert_entry}
 use Rattle.dyn_clauses.specs.declared.indicator.Indicator.{Indicator as IndicatorTerms}
 use Rattle.dyn_clauses.specs.PositionIndex.{Placed}
 use Rattle.dyn_clauses.specs.DatabaseView.{indicator_cmp}
-use Rattle.dyn_clauses.proofs.EntriesLemmas.{none_value, some_value, spot_declared, with_absent, with_same}
+use Rattle.au_term.proofs.OptionLemmas.{none_value, some_value}
+use Rattle.dyn_clauses.proofs.EntriesLemmas.{spot_declared, with_absent, with_same}
 use Rattle.dyn_clauses.proofs.database.declare.Goals as goal
 
 pub returns-then-contains_key-clause-ok : goal.returns-then-contains_key-clause-ok

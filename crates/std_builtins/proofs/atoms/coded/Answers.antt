@@ -2,7 +2,8 @@ use Rattle.std.proofs.Common.{◌∙◌, sym, ap, w64, rules}
 use Rattle.std.proofs.lemmas.Int.{to_z-of_z}
 use mir.Val.{SFits}
 use Rattle.au_term.specs.Term.{IntTerm}
-use Rattle.std_builtins.proofs.TextLemmas.{integer_of_top, coded_made}
+use Rattle.au_term.proofs.SubtermLemmas.{integer_of_top}
+use Rattle.std_builtins.proofs.TextLemmas.{coded_made}
 use Rattle.std_builtins.proofs.atoms.coded.Goals as goal
 
 pub returns-in_ok-copy-in-Some : goal.returns-in_ok-copy-in-Some

@@ -4,7 +4,8 @@ use Rattle.std.proofs.lemmas.Int.{to_z-of_z}
 use mir.Val.{SFits}
 use Rattle.std.proofs.lemmas.Str.{chars-IsAscii}
 use Rattle.std_builtins.specs.Meanings.{spelling_meant}
-use Rattle.std_builtins.proofs.TextLemmas.{integer_of_top, integer_written}
+use Rattle.au_term.proofs.SubtermLemmas.{integer_of_top}
+use Rattle.std_builtins.proofs.TextLemmas.{integer_written}
 use Rattle.std_builtins.proofs.numbers.written.Goals as goal
 
 pub returns-in_ok-copy-in-Int : goal.returns-in_ok-copy-in-Int

@@ -7,7 +7,7 @@ use Rattle.run_model.specs.Goals.AtomGoals.{below_zero, is_not_below_zero, is_op
 use Rattle.run_model.specs.Goals.AtomParts.{PartArguments, found_parts_answer, sub_atom_answer}
 use Rattle.std_builtins.specs.Answers.{IsAnswer}
 use Rattle.std_builtins.proofs.CheckLemmas.{refused}
-use Rattle.std_builtins.proofs.TextLemmas.{atom_of_top}
+use Rattle.au_term.proofs.SubtermLemmas.{atom_of_top}
 use Rattle.std_builtins.proofs.sub_atom.sub_atom.Goals as goal
 
 abbrev numbers : PartArguments → List Term

@@ -1,11 +1,11 @@
-use Rattle.std.proofs.Common.{◌≡◌, ◌∷◌, ap, ◌∙◌, sym, subst}
+use Rattle.std.proofs.Common.{◌≡◌, ap, ◌∙◌, sym, subst}
 use Rattle.au_term.specs.PrefixOrder.{cells_of, top_of, subterm}
 use Rattle.au_term.specs.Shifted.{shifted_cell}
 use Rattle.au_model.specs.Terms.Substitutions.{resolve}
 use Rattle.au_term.proofs.SubtermLemmas.{some_cell}
 use Rattle.bind_store.specs.StoreView.{StoreView, substitution}
 use Rattle.bind_store.proofs.DereferenceLemmas.{top_itself, top_value}
-use Rattle.bind_store.proofs.PlaceLemmas.{top_of-subterm}
+use Rattle.au_term.proofs.SubtermLemmas.{top_of-subterm}
 use Rattle.bind_store.proofs.store.Store.top_at.Goals as goal
 
 pub cell_at-requires : goal.cell_at-requires

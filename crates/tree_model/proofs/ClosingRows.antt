@@ -1,33 +1,17 @@
--- Worked rows: a table and its tree, folding, distances.
-use Rattle.std.specs.Prelude.{◌≡◌, ℕ, List, [], ◌∷◌, Some, None, refl}
-use Rattle.run_model.specs.Machine.Entries.{EndEntry}
+-- Worked rows: folding, distances.
+use Rattle.std.specs.Prelude.{◌≡◌, ℕ, List, [], ◌∷◌, refl}
 use Rattle.tree_model.specs.Credits.{credit_of}
-use Rattle.tree_model.specs.Nodes.{ChoiceNode, Ready, Numbered, none, alternative, Pending, Inner, Closed}
-use Rattle.tree_model.specs.Levels.{Level, plug}
+use Rattle.tree_model.specs.Nodes.{ChoiceNode, Numbered, none, alternative, Inner, Closed}
+use Rattle.tree_model.specs.Levels.{Level}
 use Rattle.tree_model.specs.Closing.{closes}
 use Rattle.tree_model.specs.Branches.{Leg, distance}
-use Rattle.tree_model.specs.Tables.{Table, PendingCell, InnerCell, ClosedCell, tree_of}
 
 -- a node of one alternative, and below it one of two, the first closed with 2 inferences
-abbrev two_nodes : Table
-two_nodes =
-    Some (record { parent = None; kind = ChoiceNode; cells = (0, InnerCell 1) ∷ [] })
-    ∷ Some (record {
-      parent = Some (record { node = 0; index = 0 });
-      kind = ChoiceNode;
-      cells = (0, ClosedCell (credit_of 2))
-          ∷ (0, PendingCell Ready (EndEntry None)) ∷ [];
-    })
-    ∷ []
-
 abbrev upper : Level
 upper = record { number = 0; kind = ChoiceNode; left = []; spent = 0; right = none }
 
 abbrev lower : Level
 lower = record { number = 1; kind = ChoiceNode; left = (0, Closed (credit_of 2)) ∷ []; spent = 0; right = none }
-
-tree_of_two : tree_of two_nodes (Some 0) ≡ plug (lower ∷ upper ∷ []) (Pending Ready (EndEntry None))
-tree_of_two = refl
 
 -- the second closes with 3: both fold into the upper node, which stays
 folded_up : closes 2 (lower ∷ upper ∷ []) (credit_of 3)
