@@ -77,7 +77,7 @@ module _ (st : StoreView) (goal : Term) (b : Builtin) (callable : is_callable go
 
   both : (ss : List Solution) → Each (IsSolutionBelow st.next) ss → Each (IsFixed (value_of (substitution st))) ss → Each (IsUnboundSolution st) ss
   both [] h k = tt
-  both (s ∷ ss) h k = (record { few = k.0.few; below = h.0.0; sides = k.0.sides }, both ss h.1 k.1)
+  both (s ∷ ss) h k = (record { few = omega (arith, k.0.few); below = h.0.0; sides = k.0.sides }, both ss h.1 k.1)
 
   pub solutions_unbound : (ss : List Solution) → IsValidStore st → var_bound goal ≤ st.next → answer ≡ Ok ss → Each (IsUnboundSolution st) ss
   solutions_unbound ss sound below is = both ss (rows_below ss sound below is) (rows_fixed ss sound is)

@@ -1,5 +1,5 @@
-use Rattle.std.proofs.Common.{subst, arith}
-use Rattle.std.specs.Prelude.{codes, ℕ, List}
+use Rattle.std.proofs.Common.{subst}
+use Rattle.std.specs.Prelude.{codes}
 use Rattle.au_model.specs.Terms.Forms.{name_of}
 use Rattle.au_model.specs.Terms.Substitutions.{resolve}
 use Rattle.au_term.specs.Term.{argument_count}
@@ -7,96 +7,6 @@ use Rattle.bind_store.specs.StoreView.{substitution}
 use Rattle.std_builtins.specs.WorldGoals.{IsWorldGoal, writing_name}
 use Rattle.engine_core.proofs.WorldGoalLemmas.{asks_alone, asks_with, asks_with_two, asks_with_three}
 use Rattle.engine_core.proofs.world.effect_of.Goals as goal
-
-pub argument-in-Write-requires : goal.argument-in-Write-requires
-argument-in-Write-requires c =
-    let goal = c.args.goal.now in
-    let named = subst (λ w. IsWorldGoal w (name_of goal) (argument_count goal)) c.in-Write.is c.requires.named in
-    omega (arith, named.1)
-
-pub argument-in-PutChar-requires : goal.argument-in-PutChar-requires
-argument-in-PutChar-requires c =
-    let goal = c.args.goal.now in
-    let named = subst (λ w. IsWorldGoal w (name_of goal) (argument_count goal)) c.in-PutChar.is c.requires.named in
-    omega (arith, named.1)
-
-pub argument-in-Asserta-requires : goal.argument-in-Asserta-requires
-argument-in-Asserta-requires c =
-    let goal = c.args.goal.now in
-    let named = subst (λ w. IsWorldGoal w (name_of goal) (argument_count goal)) c.in-Asserta.is c.requires.named in
-    omega (arith, named.1)
-
-pub argument-in-Assertz-requires : goal.argument-in-Assertz-requires
-argument-in-Assertz-requires c =
-    let goal = c.args.goal.now in
-    let named = subst (λ w. IsWorldGoal w (name_of goal) (argument_count goal)) c.in-Assertz.is c.requires.named in
-    omega (arith, named.1)
-
-pub argument-in-Retract-requires : goal.argument-in-Retract-requires
-argument-in-Retract-requires c =
-    let goal = c.args.goal.now in
-    let named = subst (λ w. IsWorldGoal w (name_of goal) (argument_count goal)) c.in-Retract.is c.requires.named in
-    omega (arith, named.1)
-
-pub argument-in-Abolish-requires : goal.argument-in-Abolish-requires
-argument-in-Abolish-requires c =
-    let goal = c.args.goal.now in
-    let named = subst (λ w. IsWorldGoal w (name_of goal) (argument_count goal)) c.in-Abolish.is c.requires.named in
-    omega (arith, named.1)
-
-pub argument-in-Clause-requires : goal.argument-in-Clause-requires
-argument-in-Clause-requires c =
-    let goal = c.args.goal.now in
-    let named = subst (λ w. IsWorldGoal w (name_of goal) (argument_count goal)) c.in-Clause.is c.requires.named in
-    omega (arith, named.1)
-
-pub argument-in-Clause-2-requires : goal.argument-in-Clause-2-requires
-argument-in-Clause-2-requires c =
-    let goal = c.args.goal.now in
-    let named = subst (λ w. IsWorldGoal w (name_of goal) (argument_count goal)) c.in-Clause.is c.requires.named in
-    omega (arith, named.1)
-
-pub argument-in-Op-requires : goal.argument-in-Op-requires
-argument-in-Op-requires c =
-    let goal = c.args.goal.now in
-    let named = subst (λ w. IsWorldGoal w (name_of goal) (argument_count goal)) c.in-Op.is c.requires.named in
-    omega (arith, named.1)
-
-pub argument-in-Op-2-requires : goal.argument-in-Op-2-requires
-argument-in-Op-2-requires c =
-    let goal = c.args.goal.now in
-    let named = subst (λ w. IsWorldGoal w (name_of goal) (argument_count goal)) c.in-Op.is c.requires.named in
-    omega (arith, named.1)
-
-pub argument-in-Op-3-requires : goal.argument-in-Op-3-requires
-argument-in-Op-3-requires c =
-    let goal = c.args.goal.now in
-    let named = subst (λ w. IsWorldGoal w (name_of goal) (argument_count goal)) c.in-Op.is c.requires.named in
-    omega (arith, named.1)
-
-pub argument-in-CurrentOp-requires : goal.argument-in-CurrentOp-requires
-argument-in-CurrentOp-requires c =
-    let goal = c.args.goal.now in
-    let named = subst (λ w. IsWorldGoal w (name_of goal) (argument_count goal)) c.in-CurrentOp.is c.requires.named in
-    omega (arith, named.1)
-
-pub argument-in-CurrentOp-2-requires : goal.argument-in-CurrentOp-2-requires
-argument-in-CurrentOp-2-requires c =
-    let goal = c.args.goal.now in
-    let named = subst (λ w. IsWorldGoal w (name_of goal) (argument_count goal)) c.in-CurrentOp.is c.requires.named in
-    omega (arith, named.1)
-
-pub argument-in-CurrentOp-3-requires : goal.argument-in-CurrentOp-3-requires
-argument-in-CurrentOp-3-requires c =
-    let goal = c.args.goal.now in
-    let named = subst (λ w. IsWorldGoal w (name_of goal) (argument_count goal)) c.in-CurrentOp.is c.requires.named in
-    omega (arith, named.1)
-
-pub argument-in-HaltWith-requires : goal.argument-in-HaltWith-requires
-argument-in-HaltWith-requires c =
-    let goal = c.args.goal.now in
-    let named = subst (λ w. IsWorldGoal w (name_of goal) (argument_count goal)) c.in-HaltWith.is c.requires.named in
-    omega (arith, named.1)
 
 pub returns-in_ok-argument-in-Write : goal.returns-in_ok-argument-in-Write
 returns-in_ok-argument-in-Write c =

@@ -1,7 +1,7 @@
 use Rattle.std.proofs.Common.{◌≡◌, map, drop}
 use Rattle.std_builtins.specs.Answers.{solution_meant}
 use Rattle.engine_core.proofs.Solutions.{Further}
-use Rattle.engine_core.proofs.builtin.branches_of.Given as goal
+use Rattle.engine_core.proofs.builtin.solutions_tried.Given as goal
 
 abbrev pub invariant-loop-solution : goal.invariant-loop-solution
 invariant-loop-solution l = record {

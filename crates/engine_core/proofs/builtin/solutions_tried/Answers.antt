@@ -9,8 +9,8 @@ use Rattle.engine_core.specs.Branches.{IsItemBelow, AreSolved}
 use Rattle.engine_core.specs.Solved.{IsUnboundSolution}
 use Rattle.engine_core.specs.Attempts.{IsTried}
 use Rattle.engine_core.proofs.Solutions.{each_at, all_further, none_further, one_further, fewer_further}
-use Rattle.engine_core.proofs.builtin.branches_of.Goals as goal
-use Rattle.engine_core.proofs.builtin.branches_of.Goals.{in-Some+in_ok-push, in_default}
+use Rattle.engine_core.proofs.builtin.solutions_tried.Goals as goal
+use Rattle.engine_core.proofs.builtin.solutions_tried.Goals.{in-Some+in_ok-push, in_default}
 
 pub loop-solution-init : goal.loop-solution-init
 loop-solution-init c = record { store = refl; branches = all_further c.args.rest.now c.args.store.now (map solution_meant c.args.solutions.now) c.new-branches.result.items c.new-branches.ensures.items }
