@@ -75,10 +75,11 @@ module _ (old : World) (t : Term) where
       pub abolition_done : (database : KnownDatabase) → statics_of old p.name p.arity ≡ false → database ≡ record old.database { kept = without_procedure old.database.kept p.name p.arity }
           → IsEffectApplied (effect.Abolish t) old (record old { database = database }) Went
       abolition_done database h d = λ next.
-          let same = passed_by (codes "abolish") 1 (world_meant old) all_errors (record (world_meant old) { database = without_procedure old.database.kept (name_of (name_part t)) (number_in (arity_part t)) }, holds_once) (static_as false h) in
-          (ap (λ (k : KnownDatabase). record (world_meant old) { database = k.kept }) d
-          ∙ (ap₂ (λ name arity. record (world_meant old) { database = without_procedure old.database.kept name arity }) same_name_as same_arity_as ∙ sym (ap (λ p. p.0) same)),
-          ap (λ p. p.1) same)
+          let same = passed_by (codes "abolish") 1 (world_meant old) all_errors (record (world_meant old) { database = without_procedure old.database.kept (name_of (name_part t)) (number_in (arity_part t)) }, holds_once) (static_as false h) in (
+            ap (λ (k : KnownDatabase). record (world_meant old) { database = k.kept }) d
+                ∙ (ap₂ (λ name arity. record (world_meant old) { database = without_procedure old.database.kept name arity }) same_name_as same_arity_as ∙ sym (ap (λ p. p.0) same)),
+            ap (λ p. p.1) same,
+          )
 
 pub not_static : (old : World) (p : Indicator) → statics_of old p.name p.arity ≡ false → is_static old.database.statics p ≡ true → ⊥
 not_static old p h k = let free = or-right (is_reserved p.name p.arity) (is_static old.database.statics p) h in cc

@@ -63,13 +63,15 @@ module _ (old : World) (database : KnownDatabase) (t head body : Term) (c : Clau
   pub assertion_done : (end : End) → database ≡ record old.database { kept = adding end old.database.kept c } → IsEffectApplied (assertion end t) old (record old { database = database }) Went
   assertion_done First d = λ next.
       let same = passed_by (codes "asserta") 1 (world_meant old) (assertion_error (statics_of old) (head_in t) (body_in t))
-      (record (world_meant old) { database = with_clause_by with_first_clause (head_in t) (body_of (body_in t)) old.database.kept }, holds_once) none in
-      (ap (λ (k : KnownDatabase). record (world_meant old) { database = k.kept }) d
-      ∙ (ap (λ x. record (world_meant old) { database = x }) (sym (added with_first_clause (head_in t) (body_of (body_in t)) c old.database.kept made)) ∙ sym (ap (λ p. p.0) same)),
-      ap (λ p. p.1) same)
+      (record (world_meant old) { database = with_clause_by with_first_clause (head_in t) (body_of (body_in t)) old.database.kept }, holds_once) none in (
+        ap (λ (k : KnownDatabase). record (world_meant old) { database = k.kept }) d
+            ∙ (ap (λ x. record (world_meant old) { database = x }) (sym (added with_first_clause (head_in t) (body_of (body_in t)) c old.database.kept made)) ∙ sym (ap (λ p. p.0) same)),
+        ap (λ p. p.1) same,
+      )
   assertion_done Last d = λ next.
       let same = passed_by (codes "assertz") 1 (world_meant old) (assertion_error (statics_of old) (head_in t) (body_in t))
-      (record (world_meant old) { database = with_clause_by with_last_clause (head_in t) (body_of (body_in t)) old.database.kept }, holds_once) none in
-      (ap (λ (k : KnownDatabase). record (world_meant old) { database = k.kept }) d
-      ∙ (ap (λ x. record (world_meant old) { database = x }) (sym (added with_last_clause (head_in t) (body_of (body_in t)) c old.database.kept made)) ∙ sym (ap (λ p. p.0) same)),
-      ap (λ p. p.1) same)
+      (record (world_meant old) { database = with_clause_by with_last_clause (head_in t) (body_of (body_in t)) old.database.kept }, holds_once) none in (
+        ap (λ (k : KnownDatabase). record (world_meant old) { database = k.kept }) d
+            ∙ (ap (λ x. record (world_meant old) { database = x }) (sym (added with_last_clause (head_in t) (body_of (body_in t)) c old.database.kept made)) ∙ sym (ap (λ p. p.0) same)),
+        ap (λ p. p.1) same,
+      )

@@ -153,8 +153,11 @@ retraction_done old t head applied e h s l = by applied (subst (λ x. AreLookedU
 
     by : (x : Applied) → AreLookedUp (may_unify_with old.database.kept (head_in t)) x → IsEffectApplied (effect.Retract t) old old x
     by Fails k = λ next. (sym (ap (λ p. p.0) (passed next)), ap (λ p. p.1) (passed next) ∙ none_found (removed_by t next) old.database.kept (head_in t) k)
-    by (Clauses cs) k = λ next. (sym (ap (λ p. p.0) (passed next)), subst (λ r. AreFound (removed_by t next) r (map shown cs.items)) (sym (ap (λ p. p.1) (passed next)))
-        (match_found (λ c. Some c.number) old.database.kept (head_in t) (body_in t) next (map shown cs.items) k))
+    by (Clauses cs) k = λ next. (
+      sym (ap (λ p. p.0) (passed next)),
+      subst (λ r. AreFound (removed_by t next) r (map shown cs.items)) (sym (ap (λ p. p.1) (passed next)))
+          (match_found (λ c. Some c.number) old.database.kept (head_in t) (body_in t) next (map shown cs.items) k),
+    )
     by Went k = absurd k
     by (Raise fault) k = absurd k
     by (Rows rows) k = absurd k
@@ -172,8 +175,11 @@ look_done old head body applied h b s l = by applied l
 
     by : (x : Applied) → AreLookedUp (may_unify_with old.database.kept head) x → IsEffectApplied (effect.Clause head body) old old x
     by Fails k = λ next. (sym (ap (λ p. p.0) (passed next)), ap (λ p. p.1) (passed next) ∙ none_found (looked_at head body next) old.database.kept head k)
-    by (Clauses cs) k = λ next. (sym (ap (λ p. p.0) (passed next)), subst (λ r. AreFound (looked_at head body next) r (map shown cs.items)) (sym (ap (λ p. p.1) (passed next)))
-        (match_found (λ c. None) old.database.kept head body next (map shown cs.items) k))
+    by (Clauses cs) k = λ next. (
+      sym (ap (λ p. p.0) (passed next)),
+      subst (λ r. AreFound (looked_at head body next) r (map shown cs.items)) (sym (ap (λ p. p.1) (passed next)))
+          (match_found (λ c. None) old.database.kept head body next (map shown cs.items) k),
+    )
     by Went k = absurd k
     by (Raise fault) k = absurd k
     by (Rows rows) k = absurd k

@@ -3,6 +3,7 @@
 #![tactic(auto)]
 
 mod assertion;
+mod balls;
 mod heads;
 mod indicators;
 mod lookup;
@@ -11,6 +12,9 @@ mod output;
 mod refusal;
 mod statics;
 mod status;
+#[cfg(test)]
+mod tests;
 pub mod world;
 
+pub use balls::ball;
 pub use world::{Applied, World};

@@ -13,8 +13,8 @@ returns-then-is_variable c =
     let arity : c.in_ok-arity.arity ≡ arity_part t = c.in_ok-arity.ensures.term ∙ (ap term_of c.arg-2.ensures.cells ∙ term_of-cells_of (arity_part t)) in
     open_parts t (sym c.if-not-is_indicator.ensures)
     (elim c.then-is_variable.branch [
-        then-is_variable-via-then-is_variable w ↦ first_open (is_variable (name_part t)) (is_variable (arity_part t)) (sym (ap is_variable name) ∙ sym w.if-is_variable.ensures)
-        | then-is_variable-via-else-is_variable+then-is_variable-2 w ↦ second_open (is_variable (name_part t)) (is_variable (arity_part t)) (sym (ap is_variable arity) ∙ sym w.if-is_variable-2.ensures)
+      | then-is_variable-via-then-is_variable w ↦ first_open (is_variable (name_part t)) (is_variable (arity_part t)) (sym (ap is_variable name) ∙ sym w.if-is_variable.ensures)
+      | then-is_variable-via-else-is_variable+then-is_variable-2 w ↦ second_open (is_variable (name_part t)) (is_variable (arity_part t)) (sym (ap is_variable arity) ∙ sym w.if-is_variable-2.ensures)
     ])
 
 pub returns : goal.returns

@@ -30,8 +30,8 @@ returns-then-is_static-clause-done c =
     let name = c.in_ok-name.name in
     let arity = c.in_ok-name.arity in
     λ next.
-        let raises = static_raises old t name arity c.in_ok-name.ensures.0 c.in_ok-name.ensures.1 c.in_ok-procedure.procedure c.in_ok-procedure.ensures.0 c.in_ok-procedure.ensures.1 (sym c.if-is_static.ensures) next in
-        (raises.0, raises.1 ∙ ap (λ x. Ball (error_term (modify_error x) (codes "abolish") 1)) (sym c.in_ok-copy.ensures))
+    let raises = static_raises old t name arity c.in_ok-name.ensures.0 c.in_ok-name.ensures.1 c.in_ok-procedure.procedure c.in_ok-procedure.ensures.0 c.in_ok-procedure.ensures.1 (sym c.if-is_static.ensures) next in
+    (raises.0, raises.1 ∙ ap (λ x. Ball (error_term (modify_error x) (codes "abolish") 1)) (sym c.in_ok-copy.ensures))
 
 pub unreachable-requires : goal.unreachable-requires
 unreachable-requires c = not_static c.args.self.now c.in_ok-procedure.procedure (sym c.if-is_static.ensures) c.in-Err.ensures.cause
