@@ -13,6 +13,8 @@ mod refusal;
 mod statics;
 mod status;
 #[cfg(test)]
+mod test_rows;
+#[cfg(test)]
 mod tests;
 pub mod world;
 
