@@ -8,13 +8,12 @@ use Rattle.run_model.specs.declared.ending.Ending.TheVariants.{Finished as ItFin
 use Rattle.run_model.specs.declared.ending.RunEnding.{RunEnding}
 use Rattle.run_model.specs.declared.ending.RunEnding.TheVariants.{Finished, Halted, Budget, WriteFault, NoMemory}
 use Rattle.run_model.specs.declared.ending.RunEnd.{RunEnd}
-use Rattle.run_model.specs.Programs.Jobs.{Job as JobTerms}
 use Rattle.au_model.specs.declared.types.FaultKind.{FaultKind}
 use Rattle.std.specs.Str.{chars, IsUtf8, IsValidUpTo}
-use Rattle.text_load.specs.declared.job.Job.{Job}
+use Rattle.run_model.specs.Programs.Jobs.{Job}
+use Rattle.text_load.specs.LoadedTexts.{first_loading}
 use Rattle.text_load.proofs.UniqueLoadLemmas.{one_job, no_fault}
 use Rattle.run_model.specs.Machine.Runs.{ending_of}
-use Rattle.text_load.specs.JobView.{job_meant}
 use Rattle.stack_run.specs.RunEnds.{IsRun, IsRunBy}
 use Rattle.toplevel.specs.Library.{library_text}
 use Rattle.aurora_cli.specs.ProgramTexts.{StandsFor, IsRefusedText, no_text, text_fault}
@@ -33,32 +32,32 @@ load_fault (Err ItsBudget) held bytes text e k h = absurd h
 load_fault (Err (Usage n)) held bytes text e k h = absurd h
 load_fault (Err ItsWriteFault) held bytes text e k h = absurd h
 
-pub loaded_job : (r : Result Job Ending) (held : Option (List ℕ)) (bytes text : List ℕ) → bytes ≡ text → IsTextRead held text → IfOk r (λ job. StandsFor bytes (job_meant job)) → IfOk r (IsJobLoaded held)
-loaded_job (Ok job) held bytes text e k h = record { text = text; read = k; stands = subst (λ (b : List ℕ). StandsFor b (job_meant job)) e h }
+pub loaded_job : (r : Result Job Ending) (held : Option (List ℕ)) (bytes text : List ℕ) → bytes ≡ text → IsTextRead held text → IfOk r (λ job. StandsFor bytes job) → IfOk r (IsJobLoaded held)
+loaded_job (Ok job) held bytes text e k h = record { text = text; read = k; stands = subst (λ (b : List ℕ). StandsFor b job) e h }
 loaded_job (Err x) held bytes text e k h = tt
 
 pub no_valid : (bytes : List ℕ) (n : ℕ) → IsValidUpTo bytes n → IsUtf8 bytes → ⊥
 no_valid bytes n v u = v.longest (length bytes) v.short (subst IsUtf8 (sym (take_all (length bytes) bytes (omega arith))) u)
 
-stands_alone : (bytes : List ℕ) (job other : JobTerms) → StandsFor bytes job → StandsFor bytes other → job ≡ other
+stands_alone : (bytes : List ℕ) (job other : Job) → StandsFor bytes job → StandsFor bytes other → job ≡ other
 stands_alone bytes job other h k = one_job library_text (chars bytes) job other h.loads k.loads
 
-pub not_both : (bytes : List ℕ) (job : JobTerms) (line column : ℕ) (kind : FaultKind) → StandsFor bytes job → IsRefusedText bytes line column kind → ⊥
+pub not_both : (bytes : List ℕ) (job : Job) (line column : ℕ) (kind : FaultKind) → StandsFor bytes job → IsRefusedText bytes line column kind → ⊥
 not_both bytes job line column kind h (no_text v) = no_valid bytes _ v h.utf8
-not_both bytes job line column kind h (text_fault utf8 r) = no_fault (chars bytes) r.from h.loads.own kind h.loads.text_is r.fault
+not_both bytes job line column kind h (text_fault utf8 r) = no_fault first_loading h.loads.own (chars bytes) r.from kind h.loads.text_is r.fault
 
 module _ (held : Option (List ℕ)) (job : Job) (budget : ℕ) (before ending_of_run : Option (List ℕ)) (r : RunEnd) (loaded : IsJobLoaded held job) where
-  by_end : (end : RunEnding) → r.end ≡ end → IsRunBy end (job_meant job) budget before ending_of_run r → EndsBy (ending_after end) held budget before ending_of_run
+  by_end : (end : RunEnding) → r.end ≡ end → IsRunBy end job budget before ending_of_run r → EndsBy (ending_after end) held budget before ending_of_run
   by_end Finished q w = record { job = job; loaded = loaded; ends = ap ending_after (sym q ∙ w.ended); bytes = w.bytes }
   by_end (Halted k) q w = record { job = job; loaded = loaded; ends = ap ending_after (sym q ∙ w.ended); bytes = w.bytes }
   by_end Budget q w = record { job = job; loaded = loaded; ends = ap ending_after (sym q ∙ w.ended); bytes = w.bytes }
   by_end WriteFault q w = record { job = job; loaded = loaded; bytes = w.bytes }
   by_end NoMemory q w = inr (record { job = job; loaded = loaded; bytes = w.bytes })
 
-  pub ran : (e : Ending) → IsRun (job_meant job) budget before ending_of_run r → e ≡ ending_after r.end → EndsBy e held budget before ending_of_run
+  pub ran : (e : Ending) → IsRun job budget before ending_of_run r → e ≡ ending_after r.end → EndsBy e held budget before ending_of_run
   ran e run is = subst (λ k. EndsBy k held budget before ending_of_run) (sym is) (by_end r.end refl run)
 
-  whole_by : (j : JobTerms) → job_meant job ≡ j → (end : RunEnding) → r.end ≡ end → IsRunBy end (job_meant job) budget before ending_of_run r → (end ≡ WriteFault → ⊥)
+  whole_by : (j : Job) → job ≡ j → (end : RunEnding) → r.end ≡ end → IsRunBy end job budget before ending_of_run r → (end ≡ WriteFault → ⊥)
       → (ending_after end ≡ ending_after (ending_of j budget)) ⊎ (ending_after end ≡ ItsMemory)
   whole_by j same Finished q w n = inl (ap ending_after (sym q ∙ (w.ended ∙ ap (λ k. ending_of k budget) same)))
   whole_by j same (Halted k) q w n = inl (ap ending_after (sym q ∙ (w.ended ∙ ap (λ k. ending_of k budget) same)))
@@ -66,11 +65,11 @@ module _ (held : Option (List ℕ)) (job : Job) (budget : ℕ) (before ending_of
   whole_by j same WriteFault q w n = absurd (n refl)
   whole_by j same NoMemory q w n = inr refl
 
-pub complete_run : (held : Option (List ℕ)) (job : Job) (budget : ℕ) (before ending_of_run : Option (List ℕ)) (r : RunEnd) (e : Ending) → IsJobLoaded held job → IsRun (job_meant job) budget before ending_of_run r → e ≡ ending_after r.end
+pub complete_run : (held : Option (List ℕ)) (job : Job) (budget : ℕ) (before ending_of_run : Option (List ℕ)) (r : RunEnd) (e : Ending) → IsJobLoaded held job → IsRun job budget before ending_of_run r → e ≡ ending_after r.end
     → (r.end ≡ WriteFault → ⊥) → IfSome held (IsComplete e budget)
 complete_run None job budget before ending_of_run r e loaded run is n = tt
 complete_run (Some told) job budget before ending_of_run r e loaded run is n = λ j short s.
-    let same = stands_alone told (job_meant job) j (subst (λ t. StandsFor t (job_meant job)) loaded.read loaded.stands) s in
+    let same = stands_alone told job j (subst (λ t. StandsFor t job) loaded.read loaded.stands) s in
     subst (λ k. (k ≡ ending_after (ending_of j budget)) ⊎ (k ≡ ItsMemory)) (sym is) (whole_by (Some told) job budget before ending_of_run r loaded j same r.end refl run n)
 
 fault_by : (told : List ℕ) (e : Ending) (budget : ℕ) → IsLoadFault (Some told) e → (e ≡ ReadFault → ⊥) → (e ≡ TooLong → 16777216 < length told) → IsComplete e budget told

@@ -8,8 +8,7 @@ use Rattle.au_model.specs.declared.types.FaultKind.TheVariants.{NotUtf8}
 use Rattle.au_model.specs.Syntax.TextFaults.{line_after, column_after}
 use Rattle.run_model.specs.declared.ending.Ending.{Ending}
 use Rattle.run_model.specs.declared.ending.Ending.TheVariants.{Finished, Halted, Budget, Refused, TooLong, Usage, ReadFault, WriteFault, NoMemory}
-use Rattle.text_load.specs.declared.job.Job.{Job}
-use Rattle.text_load.specs.JobView.{job_meant}
+use Rattle.run_model.specs.Programs.Jobs.{Job}
 use Rattle.text_load.proofs.UniqueLoadLemmas.{one_refusal}
 use Rattle.aurora_cli.specs.ProgramTexts.{StandsFor, IsRefusedText, no_text, text_fault}
 use Rattle.aurora_cli.specs.Endings.{IsJobLoaded, IsRefusedAs, ComesOfText}
@@ -36,15 +35,15 @@ one_refused bytes line column other_line other_column kind other (text_fault u r
     let same = one_refusal (chars bytes) line column other_line other_column kind other r s in
     same_refusal line column other_line other_column kind other same.0 same.1 same.2
 
-no_refusal : (e : Ending) (told : List ℕ) (job : Job) → StandsFor told (job_meant job) → length told ≤ 16777216 → IsRefusedAs e told
+no_refusal : (e : Ending) (told : List ℕ) (job : Job) → StandsFor told job → length told ≤ 16777216 → IsRefusedAs e told
 no_refusal e told job stands short = record {
-  refused = λ line column kind few r. absurd (not_both told (job_meant job) line column kind stands r);
+  refused = λ line column kind few r. absurd (not_both told job line column kind stands r);
   too_long = λ long. absurd (omega (arith, long, short));
 }
 
 pub refused_run : (held : Option (List ℕ)) (job : Job) (e : Ending) → IsJobLoaded held job → IfSome held (λ told. length told ≤ 16777216) → IfSome held (IsRefusedAs e)
 refused_run None job e loaded short = tt
-refused_run (Some told) job e loaded short = no_refusal e told job (subst (λ (t : List ℕ). StandsFor t (job_meant job)) loaded.read loaded.stands) short
+refused_run (Some told) job e loaded short = no_refusal e told job (subst (λ (t : List ℕ). StandsFor t job) loaded.read loaded.stands) short
 
 as_told : (told : List ℕ) (e : Ending) → IsLoadFault (Some told) e → (e ≡ ReadFault → ⊥) → (e ≡ TooLong → 16777216 < length told) → (ComesOfText e → length told ≤ 16777216) → IsRefusedAs e told
 as_told told (Refused line column kind) f r l s = record {

@@ -6,7 +6,7 @@ use Rattle.run_model.specs.Programs.Jobs.{Job}
 use Rattle.au_model.specs.declared.types.FaultKind.TheVariants.{NotUtf8}
 use Rattle.au_model.specs.Syntax.TextFaults.{IsLineAndColumn, line_after, column_after}
 use Rattle.text_load.specs.LoadOutcome.{IsLoadRefusal}
-use Rattle.text_load.specs.LoadedTexts.{FirstFault, IsRefused, LoadsTo}
+use Rattle.text_load.specs.LoadedTexts.{FirstFault, IsRefused, LoadsTo, first_loading}
 use Rattle.text_load.specs.declared.reading.LoadRefusal.{LoadRefusal}
 use Rattle.text_load.specs.declared.reading.LoadRefusal.TheVariants.{Refused, NoMemory}
 use Rattle.text_load.proofs.UniqueLoadLemmas.{no_fault}
@@ -29,7 +29,7 @@ no_text_at bytes text n line column v e p =
 
 module _ (library bytes text : List ℕ) (loaded_first : library ≡ library_text) (same : text ≡ bytes) (utf8 : IsUtf8 bytes) where
   pub refused_text : (r : LoadRefusal) → IsLoadRefusal library (chars text) r → IsTextFault bytes (refused_as r)
-  refused_text (Refused line column kind) (inl r) = absurd (no_fault library_text r.from library-loads.0 kind library-loads.1 (subst (λ (l : List ℕ). FirstFault l kind r.from) loaded_first r.fault))
+  refused_text (Refused line column kind) (inl r) = absurd (no_fault first_loading library-loads.0 library_text r.from kind library-loads.1 (subst (λ (l : List ℕ). FirstFault first_loading l kind r.from) loaded_first r.fault))
   refused_text (Refused line column kind) (inr r) = text_fault utf8 (subst (λ (b : List ℕ). IsRefused (chars b) line column kind) same r.text_is)
   refused_text NoMemory r = tt
 

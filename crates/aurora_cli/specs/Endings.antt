@@ -5,11 +5,9 @@ use Rattle.run_model.specs.declared.ending.Ending.TheVariants.{Finished, Halted,
 use Rattle.run_model.specs.declared.ending.RunEnding.{RunEnding}
 use Rattle.run_model.specs.declared.ending.RunEnding.TheVariants.{Finished as RanOut, Halted as RanToHalt, Budget as RanToBudget, WriteFault as RanToFault, NoMemory as RanFull}
 use Rattle.au_model.specs.declared.types.FaultKind.{FaultKind}
-use Rattle.run_model.specs.Programs.Jobs.{Job as JobTerms}
 use Rattle.run_model.specs.Machine.Runs.{text_of, ending_of}
 use Rattle.au_io.specs.FaultCounts.{Appended, AppendedPrefix, Increased}
-use Rattle.text_load.specs.declared.job.Job.{Job}
-use Rattle.text_load.specs.JobView.{job_meant}
+use Rattle.run_model.specs.Programs.Jobs.{Job}
 use Rattle.aurora_cli.specs.ProgramTexts.{StandsFor, IsRefusedText}
 use Rattle.aurora_cli.specs.CommandWords.{Asked}
 
@@ -29,7 +27,7 @@ IsTextRead held text = IfSome held (λ told. text ≡ told)
 pub record IsJobLoaded (held : Option (List ℕ)) (job : Job) : Type 0 where
   pub text : List ℕ
   pub read : IsTextRead held text
-  pub stands : StandsFor text (job_meant job)
+  pub stands : StandsFor text job
 
 -- a text was read, and is refused so
 pub record IsTextReadRefused (held : Option (List ℕ)) (line column : ℕ) (kind : FaultKind) : Type 0 where
@@ -41,14 +39,14 @@ pub record IsTextReadRefused (held : Option (List ℕ)) (line column : ℕ) (kin
 pub record IsRunOf (held : Option (List ℕ)) (budget : ℕ) (before ending_of_run : Option (List ℕ)) (e : Ending) : Type 0 where
   pub job : Job
   pub loaded : IsJobLoaded held job
-  pub ends : e ≡ ending_after (ending_of (job_meant job) budget)
-  pub bytes : Appended before ending_of_run (text_of (job_meant job) budget)
+  pub ends : e ≡ ending_after (ending_of job budget)
+  pub bytes : Appended before ending_of_run (text_of job budget)
 
 -- the bytes are a front of those of that run
 pub record IsPrefixOfRun (held : Option (List ℕ)) (budget : ℕ) (before ending_of_run : Option (List ℕ)) : Type 0 where
   pub job : Job
   pub loaded : IsJobLoaded held job
-  pub bytes : AppendedPrefix before ending_of_run (text_of (job_meant job) budget)
+  pub bytes : AppendedPrefix before ending_of_run (text_of job budget)
 
 -- what each ending says of the text that was asked for, the budget, and the bytes that the sink took
 abbrev pub EndsBy : Ending → Option (List ℕ) → ℕ → Option (List ℕ) → Option (List ℕ) → Type 0
@@ -64,7 +62,7 @@ EndsBy ReadFault held budget before ending_of_run = before ≡ ending_of_run
 
 -- a text that stands for a job and is not too long is run, unless memory runs out
 abbrev pub IsComplete : Ending → ℕ → List ℕ → Type 0
-IsComplete e budget text = (job : JobTerms) → length text ≤ 16777216 → StandsFor text job → (e ≡ ending_after (ending_of job budget)) ⊎ (e ≡ NoMemory)
+IsComplete e budget text = (job : Job) → length text ≤ 16777216 → StandsFor text job → (e ≡ ending_after (ending_of job budget)) ⊎ (e ≡ NoMemory)
 
 -- the same of a command, by what the shelf held
 abbrev pub IsCompleteFor : (List ℕ → Option (List ℕ)) → Ending → Asked → Type 0

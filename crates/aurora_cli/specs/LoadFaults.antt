@@ -3,7 +3,7 @@
 use Rattle.std.specs.Prelude.{ℕ, List, Option, Result, Ok, Err}
 use Rattle.run_model.specs.declared.ending.Ending.{Ending}
 use Rattle.run_model.specs.declared.ending.Ending.TheVariants.{Refused, TooLong, ReadFault, NoMemory}
-use Rattle.text_load.specs.declared.job.Job.{Job}
+use Rattle.run_model.specs.Programs.Jobs.{Job}
 use Rattle.text_load.specs.declared.reading.LoadRefusal.{LoadRefusal}
 use Rattle.text_load.specs.declared.reading.LoadRefusal.TheVariants.{Refused as RefusedText, NoMemory as Full}
 use Rattle.aurora_cli.specs.Endings.{ComesOfText, IsTextReadRefused}

@@ -1,7 +1,6 @@
 //! The job for which bytes stand.
 ghost use Rattle.std.specs.Prelude.{◌≡◌, IfOk, IfErr};
 ghost use Rattle.std.specs.Str.{IsValidUpTo};
-ghost use Rattle.text_load.specs.JobView.{job_meant};
 ghost use Rattle.aurora_cli.specs.LoadFaults.{IsTextFault, refused_as};
 ghost use Rattle.aurora_cli.specs.ProgramTexts.{StandsFor};
 
@@ -15,7 +14,7 @@ use toplevel::library;
 
 /// The job for which bytes stand, or their refusal.
 pub(crate) fn job_of(alloc: Global, bytes: &[u8]) -> Result<Job, Ending>
-    ensures ok { IfOk result (λ job. StandsFor bytes.now (job_meant job)) }
+    ensures ok { IfOk result (λ job. StandsFor bytes.now job) }
     ensures err { IfErr result (IsTextFault bytes.now) }
 {
     match str::from_utf8(bytes) {

@@ -7,7 +7,7 @@ pub(crate) type Row = (&'static str, &'static str, Ending, &'static str);
 
 pub(crate) const FINISHED: Ending = Ending::Finished;
 
-pub(crate) static CONTROL: [Row; 44] = [
+pub(crate) static CONTROL: [Row; 51] = [
     ("", "9", FINISHED, ""),
     ("p(1). p(2). ?- p(X).", "4", FINISHED, "X = 1\nX = 2\nno\n"),
     (
@@ -177,12 +177,54 @@ pub(crate) static CONTROL: [Row; 44] = [
         FINISHED,
         "Y = g(_1), Z = _1, A = _2, B = _3, P = _7-_7, Q = []\nno\n",
     ),
+    (
+        ":- op(700, xfx, ===>). ?- X = (a ===> b), writeq(X), nl, fail.",
+        "99",
+        FINISHED,
+        "a ===> b\nno\n",
+    ),
+    (
+        ":- op(1150, fx, dynamic). :- dynamic c/1. ?- c(X).",
+        "9",
+        FINISHED,
+        "no\n",
+    ),
+    (
+        ":- op(0, fy, -). ?- X = \\ -1, arg(1, X, Y).",
+        "99",
+        FINISHED,
+        "X = \\ -1, Y = -1\nno\n",
+    ),
+    (
+        ":- dynamic(c/1). c(1). c(2). ?- c(X). ?- c(2). ?- d(1).",
+        "99",
+        FINISHED,
+        "X = 1\nX = 2\nno\ntrue\nno\nerror: error(existence_error(procedure,d/1),d/1)\n",
+    ),
+    (
+        ":- dynamic([d/2, e/1]). d(_, a). d(1, b). d(2, c). d(X, Y) :- X = 2, !, Y = d. ?- d(2, Y).",
+        "99",
+        FINISHED,
+        "Y = a\nY = c\nY = d\nno\n",
+    ),
+    (
+        ":- dynamic(append/3). ?- append(X, Y, []).",
+        "99",
+        FINISHED,
+        "no\n",
+    ),
+    (
+        ":- discontiguous(append/3). ?- append(X, Y, []). :- set_prolog_flag(double_quotes, atom). ?- X = \"ab\".",
+        "99",
+        FINISHED,
+        "X = [], Y = []\nno\nX = ab\nno\n",
+    ),
 ];
 
 /// A text, and the line, the column and the kind of its fault, and what its note says of the kind.
 pub(crate) type Bad = (&'static str, u32, u32, FaultKind, &'static str);
 
-pub(crate) static FAULTS: [Bad; 24] = [
+pub(crate) static FAULTS: [Bad; 25] = [
     ("p(1", 1, 4, FaultKind::UnexpectedEnd, "unexpected end"),
     (
         "p(1).q(",
@@ -278,6 +320,13 @@ pub(crate) static FAULTS: [Bad; 24] = [
         5,
         FaultKind::UnexpectedToken,
         "unexpected token",
+    ),
+    (
+        "p(1). :- dynamic(p/1).",
+        1,
+        7,
+        FaultKind::StaticTwice,
+        "dynamic after clauses",
     ),
 ];
 

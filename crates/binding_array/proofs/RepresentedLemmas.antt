@@ -7,7 +7,7 @@ use Rattle.au_term.proofs.LogicLemmas.{number_same}
 use Rattle.au_model.specs.Terms.Substitutions.{Substitution, apply, value_of, resolve, only}
 use Rattle.au_model.proofs.ApplyLemmas.{apply-same, apply-apply, apply-only_absent}
 use Rattle.clause_compile.specs.Places.{CodeView}
-use Rattle.binding_array.specs.Represented.{variable_cell, cell_term, IsBoundCell, IsFalling, AreFalling, CellStandsFor, Represents, IsFollowed, BindingRepresents}
+use Rattle.binding_array.specs.Represented.{variable_cell, cell_term, IsBoundCell, IsFalling, AreFalling, CellStandsFor, Represents, IsFollowed, IsStored, BindingRepresents}
 use Rattle.binding_array.specs.declared.cell.BindingCell.{BindingCell}
 use Rattle.binding_array.specs.declared.cell.BindingCell.TheVariants.{Free, Var, Int, Atom, Compound}
 
@@ -37,6 +37,13 @@ end_of cells (Var x) not_var not_free = absurd (not_var x refl)
 end_of cells (Int z) not_var not_free = (tt, tt)
 end_of cells (Atom a) not_var not_free = (tt, tt)
 end_of cells (Compound at base) not_var not_free = (tt, tt)
+
+pub stored_at : (cells : List BindingCell) (v : ℕ) (c : BindingCell) → variable_cell cells v ≡ c → ((x : ℕ) → c ≡ Var x → ⊥) → (c ≡ Free → ⊥) → IsStored cells c
+stored_at cells v Free e not_var not_free = absurd (not_free refl)
+stored_at cells v (Var x) e not_var not_free = absurd (not_var x refl)
+stored_at cells v (Int z) e not_var not_free = record { variable = v; is = e }
+stored_at cells v (Atom a) e not_var not_free = record { variable = v; is = e }
+stored_at cells v (Compound at base) e not_var not_free = record { variable = v; is = e }
 
 -- what a value stands for is what its cell says
 stands : (code : CodeView) (s : Substitution) (v : ℕ) (c : BindingCell) → IsBoundCell c → value_of s v ≡ resolve s (cell_term code c) → CellStandsFor code s v c

@@ -63,6 +63,19 @@ IsFollowed cells (Int z) = Unit {0}
 IsFollowed cells (Atom a) = Unit {0}
 IsFollowed cells (Compound at base) = Unit {0}
 
+-- the cell of some variable
+pub record IsCellOf (cells : List BindingCell) (c : BindingCell) : Type 0 where
+  pub variable : ℕ
+  pub is : variable_cell cells variable ≡ c
+
+-- a variable that has a cell, or what a cell has
+abbrev pub IsStored : List BindingCell → BindingCell → Type 0
+IsStored cells Free = ⊥
+IsStored cells (Var v) = v < length cells
+IsStored cells (Int z) = IsCellOf cells (Int z)
+IsStored cells (Atom a) = IsCellOf cells (Atom a)
+IsStored cells (Compound at base) = IsCellOf cells (Compound at base)
+
 abbrev pub BindingRepresents : Type 0
 BindingRepresents = (code : CodeView) (cells : List BindingCell) (s now : Substitution) (v : ℕ) (c : BindingCell) → Represents code cells s → variable_cell cells v ≡ Free → v < length cells → IsBoundCell c
     → occurs v (resolve s (cell_term code c)) ≡ false → ((n : ℕ) → value_of now n ≡ apply (only v (resolve s (cell_term code c))) (value_of s n)) → Represents code (slice_set cells v c) now

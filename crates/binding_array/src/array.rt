@@ -1,8 +1,8 @@
 //! The array of cells.
-ghost use Rattle.std.specs.Prelude.{◌≡◌, ◌<◌, ◌≤◌, [], MatchOption, ℕ, OnOk, length, slice_set};
+ghost use Rattle.std.specs.Prelude.{◌≡◌, ◌<◌, ◌≤◌, [], MatchOption, ℕ, OnOk, OnErr, length, max, take, slice_set};
 ghost use Rattle.au_model.specs.Terms.Substitutions.{Substitution, value_of, resolve};
 ghost use Rattle.clause_compile.specs.Places.{CodeView};
-ghost use Rattle.binding_array.specs.Represented.{variable_cell, cell_term, IsValueFor, IsBoundCell, IsFollowed, Represents};
+ghost use Rattle.binding_array.specs.Represented.{variable_cell, cell_term, IsValueFor, IsBoundCell, IsFollowed, IsStored, Represents};
 
 use crate::cell::BindingCell;
 use au_term::NoMemory;
@@ -47,13 +47,21 @@ impl BindingArray {
 
     /// Makes cells for at least so many variables; new ones are free.
     pub fn grow(&mut self, to: usize) -> Result<(), NoMemory>
-        ensures long { OnOk result (to ≤ length self.new) }
+        ensures long { OnOk result (length self.new ≡ max (length self.old) to) }
         ensures same { (v : ℕ) → variable_cell self.new v ≡ variable_cell self.old v }
+        ensures err { OnErr result (self.new ≡ self.old) }
     {
         if self.cells.len() < to {
             self.cells.resize(to, BindingCell::Free)?;
         }
         Ok(())
+    }
+
+    /// Takes away the cells after so many.
+    pub fn cut_to(&mut self, count: usize)
+        ensures { self.new ≡ take count self.old }
+    {
+        self.cells.truncate(count);
     }
 
     /// What a variable is bound to, if it is bound.
@@ -89,6 +97,7 @@ impl BindingArray {
     pub fn follow(&self, variable: u32) -> BindingCell
         requires { variable < length self.now }
         ensures end { IsFollowed self.now result }
+        ensures stored { IsStored self.now result }
         ensures same { (code : CodeView) (s : Substitution) → Represents code self.now s → value_of s variable ≡ resolve s (cell_term code result) }
     {
         let mut at = variable;

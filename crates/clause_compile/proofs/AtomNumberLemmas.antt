@@ -1,5 +1,5 @@
 -- Names numbered in the order in which they are met.
-use Rattle.std.proofs.Common.{◌≡◌, ℕ, zero, suc, ◌<◌, ◌==◌, nat_eq, Bool, true, false, cond, List, [], ◌∷◌, ◌++◌, length, length-append, Option, Some, None, refl, sym, ap, ◌∙◌, subst, append-nil, arith}
+use Rattle.std.proofs.Common.{inl, inr, ◌≡◌, ℕ, zero, suc, ◌<◌, ◌==◌, nat_eq, Bool, true, false, cond, List, [], ◌∷◌, ◌++◌, length, length-append, Option, Some, None, refl, sym, ap, ◌∙◌, subst, append-nil, arith}
 use Rattle.std.specs.Prelude.{option_map}
 use Rattle.std.proofs.lemmas.Bool.{false≢true}
 use Rattle.std.proofs.lemmas.Bool.Decides.{nat_tests}
@@ -102,12 +102,13 @@ no_names numbers h = record { found = h; distinct = λ i j li lj e. absurd (omeg
 pub numbered_before : (names : List (List ℕ)) (numbers : BTreeMap Atom ℕ) (a : List ℕ) (n : ℕ) → IsNumbering names numbers → get (slice_cmp nat_cmp) numbers a ≡ Some n → IsNumbered names names a n
 numbered_before names numbers a n h e =
     let there = stands_there names a n (sym (h.found a) ∙ e) in
-    record { more = []; is = sym (append-nil names); within = there.0; named = there.1 }
+    record { more = []; is = sym (append-nil names); few = inl refl; within = there.0; named = there.1 }
 
 pub numbered_now : (names now : List (List ℕ)) (a : List ℕ) (n : ℕ) → n ≡ length names → now ≡ names ++ a ∷ [] → IsNumbered names now a n
 numbered_now names now a n e h = subst (λ ns. IsNumbered names ns a n) (sym h) (record {
   more = a ∷ [];
   is = refl;
+  few = inr refl;
   within = omega (arith, length-append names (a ∷ []));
   named = ap (name_at (names ++ a ∷ [])) e ∙ name_at-last names a;
 })

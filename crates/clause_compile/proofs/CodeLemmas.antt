@@ -14,7 +14,7 @@ use Rattle.au_model.specs.Terms.Lists.{terms_from}
 use Rattle.au_model.proofs.EachLemmas.{each-append, each-drop}
 use Rattle.clause_compile.specs.AtomNumbers.{name_at, IsNumbered}
 use Rattle.clause_compile.specs.GoalPlaces.{subterms_at}
-use Rattle.clause_compile.specs.Places.{place_meaning, compound_here, compound_to, meaning_of, BeginsCompound, IsPlaceBefore, StandBefore, AreSound, CodeView, IsPlaceOf, meaning_in, Keeps, IsPlaced, AreAllPlaced, meanings, ArePlacesOf, AddsCell, HasMorePlaces}
+use Rattle.clause_compile.specs.Places.{place_meaning, compound_here, compound_to, meaning_of, BeginsCompound, IsPlaceBefore, StandBefore, IsArity, AreSound, CodeView, IsPlaceOf, meaning_in, Keeps, IsPlaced, AreAllPlaced, meanings, ArePlacesOf, AddsCell, HasMorePlaces}
 use Rattle.clause_compile.specs.declared.place.Place.{Place}
 use Rattle.clause_compile.specs.declared.place.Place.TheVariants.{Functor, Var, Int, Atom, Sub}
 use Rattle.clause_compile.proofs.PlaceMeaningLemmas.{all_before_still, all_mean_still, added_keeps}
@@ -28,7 +28,7 @@ drop_past (suc n) m (x ∷ xs) ys e = drop_past n m xs ys (omega arith)
 stands_still : (k m at : ℕ) (places added ds : List Place) → k ≤ m → 0 < length ds → StandBefore k places at ds → StandBefore m (places ++ added) at (ds ++ added)
 stands_still k m at places added [] le lt s = absurd (omega arith)
 stands_still k m at places added (Functor f n ∷ ps) le lt s =
-    (omega (arith, s.0, length-append ps added), subst (Each (IsPlaceBefore m (places ++ added) at)) (sym (take-append-le n ps added s.0)) (all_before_still k m places added at at (take n ps) le (omega arith) s.1))
+    (omega (arith, s.0, length-append ps added), subst (Each (IsPlaceBefore m (places ++ added) at)) (sym (take-append-le n ps added s.0)) (all_before_still k m places added at at (take n ps) le (omega arith) s.1), s.2)
 stands_still k m at places added (Var v ∷ ps) le lt s = tt
 stands_still k m at places added (Int z ∷ ps) le lt s = tt
 stands_still k m at places added (Atom a ∷ ps) le lt s = tt
@@ -44,14 +44,14 @@ argument_stands k m l at zero places all (Atom a ∷ ps) b = tt
 argument_stands k m l at zero places all (Sub j ∷ ps) b = tt
 argument_stands k m l at (suc i) places all (p ∷ ps) b = argument_stands k m l at i places all ps b.1
 
-pub block_sound : (k m f n : ℕ) (places args : List Place) → AreSound k places → k ≤ m → n ≡ length args → Each (IsPlaceBefore k places (length places)) args → AreSound m (places ++ Functor f n ∷ args)
-block_sound k m f n places args s le e b at = by_order (nat_le (length places) at) refl
+pub block_sound : (k m f n : ℕ) (places args : List Place) → IsArity n → AreSound k places → k ≤ m → n ≡ length args → Each (IsPlaceBefore k places (length places)) args → AreSound m (places ++ Functor f n ∷ args)
+block_sound k m f n places args r s le e b at = by_order (nat_le (length places) at) refl
   where
     new : List Place
     new = places ++ Functor f n ∷ args
 
     from_block : (j : ℕ) → length places ≤ at → StandBefore m new at (drop j (Functor f n ∷ args))
-    from_block zero la = (omega arith, subst (Each (IsPlaceBefore m new at)) (sym (take_all n args (omega arith))) (all_before_still k m places (Functor f n ∷ args) (length places) at args le la b))
+    from_block zero la = (omega arith, subst (Each (IsPlaceBefore m new at)) (sym (take_all n args (omega arith))) (all_before_still k m places (Functor f n ∷ args) (length places) at args le la b), r)
     from_block (suc j) la = argument_stands k m (length places) at j places new args b
 
     some_left : {X : Type 0} (i : ℕ) (xs : List X) → i < length xs → 0 < length (drop i xs)
@@ -76,7 +76,7 @@ names_sound k m places s le at = by_part (drop at places) (s at)
 
     by_part : (ds : List Place) → StandBefore k places at ds → StandBefore m places at ds
     by_part [] h = tt
-    by_part (Functor f n ∷ ps) h = (h.0, raised (take n ps) h.1)
+    by_part (Functor f n ∷ ps) h = (h.0, raised (take n ps) h.1, h.2)
     by_part (Var v ∷ ps) h = tt
     by_part (Int z ∷ ps) h = tt
     by_part (Atom a ∷ ps) h = tt
@@ -167,8 +167,8 @@ module _ (names further : List (List ℕ)) (places before : List Place) (f n : �
   those : Each (IsPlaceBefore (length names) places (length places)) args
   those = each_taken (IsPlaceBefore (length names) places (length places)) n (reverse before) stand
 
-  pub compound_sound : AreSound (length (names ++ further)) (places ++ Functor f n ∷ args)
-  compound_sound = block_sound (length names) (length (names ++ further)) f n places args sound (omega (arith, length-append names further)) number those
+  pub compound_sound : IsArity n → AreSound (length (names ++ further)) (places ++ Functor f n ∷ args)
+  compound_sound r = block_sound (length names) (length (names ++ further)) f n places args r sound (omega (arith, length-append names further)) number those
 
   pub adds_compound : (name : List ℕ) (left after : List Place) → f < length (names ++ further) → name_at (names ++ further) f ≡ name → reverse left ≡ drop n (reverse before) → after ≡ left ++ Sub (length places) ∷ [] → AddsCell old new (FunctorCell name n) before after
   adds_compound name left after known named rest is =
@@ -255,9 +255,9 @@ module _ (names now : List (List ℕ)) (places : List Place) (old : CodeView) (n
   standing : Each (IsPlaceBefore (length names) places (length places)) (reverse before)
   standing = subst (λ v. ArePlacesOf v before) (sym o) stand
 
-  pub still_sound : (now_places : List Place) → now_places ≡ places ++ Functor f n ∷ take n (reverse before) → AreSound (length now) now_places
-  still_sound now_places e =
-      subst (λ ns. AreSound (length ns) now_places) (sym k.is) (subst (AreSound (length (names ++ k.more))) (sym e) (compound_sound names k.more places before f n s standing few))
+  pub still_sound : IsArity n → (now_places : List Place) → now_places ≡ places ++ Functor f n ∷ take n (reverse before) → AreSound (length now) now_places
+  still_sound r now_places e =
+      subst (λ ns. AreSound (length ns) now_places) (sym k.is) (subst (AreSound (length (names ++ k.more))) (sym e) (compound_sound names k.more places before f n s standing few r))
 
   pub compound_added : (view : CodeView) (now_places left after : List Place) → view ≡ record { names = now; places = now_places } → now_places ≡ places ++ Functor f n ∷ take n (reverse before) → reverse left ≡ drop n (reverse before) → after ≡ left ++ Sub (length places) ∷ []
       → AddsCell old view (FunctorCell name n) before after

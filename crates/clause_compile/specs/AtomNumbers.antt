@@ -1,5 +1,5 @@
 -- Names by number.
-use Rattle.std.specs.Prelude.{◌≡◌, ℕ, suc, ◌<◌, cond, List, [], ◌∷◌, ◌++◌, length, get_or, Option, Some, None, option_map}
+use Rattle.std.specs.Prelude.{◌≡◌, ◌⊎◌, ℕ, suc, ◌<◌, cond, List, [], ◌∷◌, ◌++◌, length, get_or, Option, Some, None, option_map}
 use Rattle.std.specs.BTreeMap.{BTreeMap, get}
 use Rattle.std.specs.Cmp.Lexicographic.{slice_cmp}
 use Rattle.std.specs.Ordering.{nat_cmp}
@@ -28,5 +28,6 @@ pub record IsNumbering (names : List (List ℕ)) (numbers : BTreeMap Atom ℕ) :
 pub record IsNumbered (old new : List (List ℕ)) (name : List ℕ) (number : ℕ) : Type 0 where
   pub more : List (List ℕ)
   pub is : new ≡ old ++ more
+  pub few : (more ≡ []) ⊎ (more ≡ name ∷ [])
   pub within : number < length new
   pub named : name_at new number ≡ name

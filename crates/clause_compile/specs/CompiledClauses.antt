@@ -7,8 +7,9 @@ use Rattle.std.specs.declared.sync.Arc.{Arc}
 use Rattle.au_term.specs.Term.{Term, VarTerm, IntTerm, var_bound}
 use Rattle.au_model.specs.Terms.Forms.{is_callable}
 use Rattle.run_model.specs.Programs.Bodies.{body_of, called_goals}
-use Rattle.au_model.specs.Terms.Substitutions.{apply}
-use Rattle.run_model.specs.Programs.Clauses.{Clause as ClauseTerms, renamed_head, clause_renaming}
+use Rattle.run_model.specs.Programs.Clauses.{Clause as ClauseTerms, numbered}
+use Rattle.run_model.specs.Programs.Databases.{NumberedClause}
+use Rattle.clause_compile.specs.declared.item.ClauseId.{ClauseId}
 use Rattle.clause_compile.specs.declared.item.Scope.{Scope}
 use Rattle.clause_compile.specs.declared.item.Item.{Item}
 use Rattle.clause_compile.specs.declared.item.Item.TheVariants.{Goal}
@@ -25,14 +26,14 @@ clause_bound c = max (var_bound c.head) (var_bound c.body)
 abbrev pub goal_items : Scope → List Term → List Item
 goal_items cut goals = map (λ g. Goal g cut) goals
 
--- a clause with its variables numbered from 0 in order of first occurrence, those of the head first
-abbrev pub numbered : ClauseTerms → ClauseTerms
-numbered c = record { head = renamed_head c 0; body = apply (clause_renaming c 0) c.body }
-
 -- a clause is the numbered one of this head and the body that it has
 abbrev pub IsNumberedClause : Term → Option Term → ClauseTerms → Type 0
 IsNumberedClause head None c = ⊥
 IsNumberedClause head (Some body) c = c ≡ numbered (record { head = head; body = body })
+
+-- a clause and its number as they are handed out
+abbrev pub shown : ClauseId × Arc Clause Global → NumberedClause
+shown p = record { number = p.0.0; clause = arc_value p.1 }
 
 -- a head and a body make a clause, or the answer says why not
 abbrev pub IsCompiled : Term → Term → Result (Arc Clause Global) ClauseRefusal → Type 0

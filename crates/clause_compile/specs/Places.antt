@@ -46,10 +46,14 @@ IsPlaceBefore k places at (Int z) = Unit {0}
 IsPlaceBefore k places at (Atom a) = a < k
 IsPlaceBefore k places at (Sub i) = (i < at) × BeginsCompound k (drop i places)
 
+-- how many arguments a compound may have
+abbrev pub IsArity : ℕ → Type 0
+IsArity n = (0 < n) × (n ≤ 65535)
+
 -- the arguments of the compound that begins here stand before it
 abbrev pub StandBefore : ℕ → List Place → ℕ → List Place → Type 0
 StandBefore k places at [] = Unit {0}
-StandBefore k places at (Functor f n ∷ ps) = (n ≤ length ps) × Each (IsPlaceBefore k places at) (take n ps)
+StandBefore k places at (Functor f n ∷ ps) = (n ≤ length ps) × Each (IsPlaceBefore k places at) (take n ps) × IsArity n
 StandBefore k places at (p ∷ ps) = Unit {0}
 
 -- each compound's arguments stand before it

@@ -48,6 +48,16 @@ impl AtomNumbers {
         self.names.len()
     }
 
+    /// The number of a name, if it has one.
+    pub fn find(&self, name: &Atom) -> Option<u32>
+        ensures { result ≡ number_in self.now name.now }
+    {
+        match self.numbers.get(name) {
+            Some(number) => Some(*number),
+            None => None,
+        }
+    }
+
     /// The number of a name, which gets the next one where it has none.
     pub fn number(&mut self, name: &Atom) -> Result<u32, NoMemory>
         ensures ok { IfOk result (IsNumbered self.old self.new name.now) }

@@ -74,7 +74,7 @@ pub(crate) fn clause_places(alloc: Global, body: &FlatTerm) -> Result<Vec<usize>
 }
 
 /// The places of the goals of a body.
-pub(crate) fn goal_places(alloc: Global, body: &FlatTerm) -> Result<Vec<usize>, NoMemory>
+pub fn goal_places(alloc: Global, body: &FlatTerm) -> Result<Vec<usize>, NoMemory>
     ensures { IfOk result (λ places. AreGoalsAt body.now places.items (goals_of body.now)) }
 {
     let mut places = Vec::new(alloc);

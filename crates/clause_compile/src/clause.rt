@@ -6,9 +6,9 @@ ghost use Rattle.au_term.specs.Shifted.{shifted, IsShiftablePlace};
 ghost use Rattle.au_model.specs.Terms.Forms.{is_callable};
 ghost use Rattle.run_model.specs.Programs.Bodies.{body_of, clause_goals_of};
 ghost use Rattle.clause_compile.specs.GoalPlaces.{subterms_at, AreGoalsAt, ArePlaces};
-ghost use Rattle.clause_compile.specs.CompiledClauses.{clause_bound, goal_items, numbered, IsCompiled, IsCalledAs};
+ghost use Rattle.clause_compile.specs.CompiledClauses.{clause_bound, goal_items, IsCompiled, IsCalledAs};
 ghost use Rattle.clause_compile.specs.ClauseInvariant.{numbers_from};
-ghost use Rattle.run_model.specs.Programs.Clauses.{clause_variables};
+ghost use Rattle.run_model.specs.Programs.Clauses.{clause_variables, numbered};
 
 use crate::body::{clause_places, goal_places, normal_body};
 use crate::goal_list::Goals;

@@ -1,10 +1,10 @@
 //! Program text as places.
 ghost use Rattle.std.specs.Prelude.{◌≡◌, ◌+◌, ◌<◌, ◌≤◌, ◌∷◌, [], ◌++◌, IfOk, OnOk, length, take, drop, reverse};
-ghost use Rattle.au_term.specs.PrefixOrder.{cells_of, term_of, arity};
+ghost use Rattle.au_term.specs.PrefixOrder.{cells_of, term_of, arity, IsValidCell, AreValidCells};
 ghost use Rattle.run_model.specs.Programs.Bodies.{clause_goals_of};
-ghost use Rattle.clause_compile.specs.AtomNumbers.{name_at};
+ghost use Rattle.clause_compile.specs.AtomNumbers.{AreDistinct, name_at, number_in};
 ghost use Rattle.clause_compile.specs.PlacedClauses.{IsClausePlaced};
-ghost use Rattle.clause_compile.specs.Places.{CodeView, AreSound, IsPlaced, AreAllPlaced, ArePlacesOf, AddsCell, HasMorePlaces};
+ghost use Rattle.clause_compile.specs.Places.{CodeView, AreSound, IsArity, IsPlaced, AreAllPlaced, ArePlacesOf, AddsCell, HasMorePlaces};
 
 use crate::atom_numbers::AtomNumbers;
 use crate::clause::Clause;
@@ -59,6 +59,14 @@ impl Code {
         self.places.len()
     }
 
+    /// How many names there are. No two are the same.
+    pub fn names(&self) -> usize
+        ensures count { result ≡ length self.now.names }
+        ensures distinct { AreDistinct self.now.names }
+    {
+        self.names.len()
+    }
+
     /// The place with a number.
     pub fn place(&self, at: usize) -> Place
         requires { at < length self.now.places }
@@ -73,6 +81,13 @@ impl Code {
         ensures { result.now ≡ name_at self.entry.now.names number }
     {
         self.names.name(number)
+    }
+
+    /// The number of a name, if it has one.
+    pub fn find(&self, name: &Atom) -> Option<u32>
+        ensures { result ≡ number_in self.now.names name.now }
+    {
+        self.names.find(name)
     }
 
     /// Adds a clause: its head, and the goals of its body.
@@ -111,7 +126,8 @@ impl Code {
 
     /// Adds the term of these cells, and gives the place that means it.
     fn push_cells(&mut self, alloc: Global, cells: &[Cell]) -> Result<Place, NoMemory>
-        requires { cells_of (term_of cells.now) ≡ cells.now }
+        requires cells { cells_of (term_of cells.now) ≡ cells.now }
+        requires sound { AreValidCells cells.now }
         ensures { IfOk result (IsPlaced self.old self.new (term_of cells.now)) }
     {
         let mut stack = Vec::new(alloc);
@@ -128,6 +144,7 @@ impl Code {
 
     /// Adds a cell before those that were added; the places of its arguments are taken from the stack, and its own put there.
     fn push_cell(&mut self, cell: &Cell, stack: &mut Vec<Place>) -> Result<(), NoMemory>
+        requires sound { IsValidCell cell.now }
         requires enough { arity cell.now ≤ length stack.old.items }
         requires stand { ArePlacesOf self.old stack.old.items }
         ensures { OnOk result (AddsCell self.old self.new cell.now stack.old.items stack.new.items) }
@@ -150,6 +167,7 @@ impl Code {
         count: u32,
         stack: &mut Vec<Place>,
     ) -> Result<(), NoMemory>
+        requires arity { IsArity count }
         requires enough { count ≤ length stack.old.items }
         requires stand { ArePlacesOf self.old stack.old.items }
         ensures { OnOk result (AddsCell self.old self.new (Cell.Functor name.now count) stack.old.items stack.new.items) }
@@ -181,7 +199,7 @@ fn put(place: Place, stack: &mut Vec<Place>) -> Result<(), NoMemory>
 }
 
 /// Adds a functor and so many places of the stack, the topmost first.
-fn push_block(
+pub fn push_block(
     number: u32,
     count: u32,
     stack: &mut Vec<Place>,

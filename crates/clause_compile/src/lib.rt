@@ -2,7 +2,7 @@
 #![tactic(auto)]
 
 mod atom_numbers;
-mod body;
+pub mod body;
 pub mod clause;
 mod code;
 pub mod event;
@@ -14,8 +14,9 @@ mod place;
 mod tests;
 
 pub use atom_numbers::AtomNumbers;
+pub use body::goal_places;
 pub use clause::{Clause, ClauseRefusal, Part, body_goals, compile};
-pub use code::{ClausePlaces, Code};
+pub use code::{ClausePlaces, Code, push_block};
 pub use event::{Branch, Effect, GateKind, Opening};
 pub use goal_list::{GoalItems, Goals};
 pub use item::{ClauseId, Item, Scope};

@@ -1,5 +1,5 @@
 -- The dynamic procedures as they are kept, and what callers see of them.
-use Rattle.std.specs.Prelude.{◌≡◌, ◌<◌, ◌&&◌, ◌==◌, ℕ, Bool, true, false, cond, List, [], ◌∷◌, map, filter, Option, Some, None, IsSome, Result, Ok, Err}
+use Rattle.std.specs.Prelude.{◌≡◌, ◌<◌, ◌&&◌, ◌==◌, ℕ, Bool, true, false, cond, List, [], ◌∷◌, map, filter, Option, Some, None, IsSome, Result, Ok, Err, Vec}
 use Rattle.std.specs.declared.cmp.Ordering.{Ordering}
 use Rattle.std.specs.declared.cmp.Ordering.TheVariants.{Less, Equal, Greater}
 use Rattle.std.specs.Ordering.{nat_cmp}
@@ -12,7 +12,11 @@ use Rattle.run_model.specs.Programs.Databases.{NumberedClause, DynamicProcedure,
 use Rattle.proc_index.specs.declared.key.Key.{Key}
 use Rattle.proc_index.specs.Keys.{may_match}
 use Rattle.dyn_clauses.specs.PositionIndex.{Placed, position_number, numbered_clauses, without_position}
-use Rattle.dyn_clauses.specs.KeptClauses.{shown}
+use Rattle.std.specs.Global.{Global}
+use Rattle.std.specs.declared.sync.Arc.{Arc}
+use Rattle.clause_compile.specs.CompiledClauses.{shown}
+use Rattle.clause_compile.specs.declared.clause.Clause.{Clause}
+use Rattle.clause_compile.specs.declared.item.ClauseId.{ClauseId}
 use Rattle.dyn_clauses.specs.declared.indicator.Indicator.{Indicator}
 use Rattle.dyn_clauses.specs.contracts.indicator.IndicatorOrd.TheImpl as indicator_ord
 use Rattle.dyn_clauses.specs.declared.place.Place.{Place}
@@ -86,6 +90,10 @@ without_spot i q es = map (λ e. (e.0, cond (is_at (indicator_cmp i) e.0) (witho
 
 abbrev pub matching_numbered : Key → List NumberedClause → List NumberedClause
 matching_numbered key cs = filter (λ c. may_match key c.clause.head) cs
+
+-- clauses as they are handed out
+abbrev pub shown_clauses : Vec (ClauseId × Arc Clause Global) Global → List NumberedClause
+shown_clauses found = map shown found.items
 
 -- a change is refused exactly where the procedure is static
 abbrev pub IsCause : {X : Type 0} → Bool → Result X DataRefusal → Type 0

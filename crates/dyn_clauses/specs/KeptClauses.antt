@@ -7,7 +7,6 @@ use Rattle.std.specs.Ordering.{nat_cmp}
 use Rattle.std.specs.List.{AllByRecursion}
 use Rattle.std.specs.BTreeMap.{BTreeMap, get, IsOrdered, is_at}
 use Rattle.clause_compile.specs.declared.clause.Clause.{Clause}
-use Rattle.clause_compile.specs.declared.item.ClauseId.{ClauseId}
 use Rattle.run_model.specs.Programs.Clauses.{Clause as ClauseTerms}
 use Rattle.run_model.specs.Programs.Databases.{NumberedClause}
 use Rattle.proc_index.specs.declared.key.Key.{Key}
@@ -32,10 +31,6 @@ placed_clause m = map placed_entry m.entries
 
 abbrev pub numbered_kept : ℕ → Kept → NumberedClause
 numbered_kept q kept = numbered_entry (q, clause_kept kept)
-
--- a clause and its number as they are handed out
-abbrev pub shown : ClauseId × Arc Clause Global → NumberedClause
-shown p = record { number = p.0.0; clause = arc_value p.1 }
 
 -- each clause has its own key, and is noted under it
 pub record IsProcedure (clauses : BTreeMap ℕ Kept) (index : Index) : Type 0 where

@@ -8,15 +8,17 @@ ghost use Rattle.std.specs.BTreeMap.{IsOrdered, get, insert_entry, is_at};
 ghost use Rattle.std.specs.Arc.{arc_value};
 ghost use Rattle.run_model.specs.Programs.Databases.{clauses_of, has_number, no_procedures, procedure_without, without_clause};
 ghost use Rattle.run_model.specs.Programs.DatabaseChanges.{declared_in, with_first_clause, with_last_clause, without_procedure};
+ghost use Rattle.proc_index.specs.Keys.{head_key};
 ghost use Rattle.dyn_clauses.specs.declared.indicator.Indicator.{Indicator as IndicatorTerms};
 ghost use Rattle.dyn_clauses.specs.PositionIndex.{middle, position_number};
-ghost use Rattle.dyn_clauses.specs.DatabaseView.{ChangesSpot, IsCause, IsDatabase, HavePlaces, IsRemoved, IsSnapshot, IsStaticCause, clause_at, indicator_cmp, is_spot, is_static, matching_numbered, procedures_meant, with_entry, without_spot};
+ghost use Rattle.dyn_clauses.specs.DatabaseView.{ChangesSpot, IsCause, IsDatabase, HavePlaces, IsRemoved, IsSnapshot, IsStaticCause, clause_at, indicator_cmp, is_spot, is_static, matching_numbered, procedures_meant, shown_clauses, with_entry, without_spot};
 ghost use Rattle.dyn_clauses.specs.ClauseEnds.{end_position, indicator_of, with_clause_at};
 
 use crate::indicator::Indicator;
+use crate::keys::key_of_head;
 use crate::place::{Place, Places};
 use crate::procedure::{MIDDLE, Numbered, Procedure};
-use au_term::NoMemory;
+use au_term::{FlatTerm, NoMemory};
 use clause_compile::{Clause, ClauseId};
 use proc_index::Key;
 use std::alloc::{AllocFailed, Global};
@@ -234,7 +236,8 @@ impl Database {
         })
     }
 
-    fn is_static(&self, procedure: &Indicator) -> bool
+    /// Whether a procedure is static.
+    pub fn is_static(&self, procedure: &Indicator) -> bool
         ensures { result ≡ is_static self.now.statics procedure.now }
     {
         self.statics.contains(procedure)
@@ -346,6 +349,23 @@ impl Database {
         match self.procedures.get(procedure) {
             Some(known) => Ok(Snapshot::Clauses(known.matching(key)?)),
             None => Ok(Snapshot::Unknown),
+        }
+    }
+
+    /// The clauses of a procedure with which a head may unify: those whose heads' first arguments are variables or
+    /// have the key of its own. None where the procedure is unknown.
+    pub fn candidates(
+        &self,
+        procedure: &Indicator,
+        head: &FlatTerm,
+    ) -> Result<Option<Vec<Numbered>>, NoMemory>
+        ensures { IfOk result (λ found. option_map shown_clauses found ≡ option_map (matching_numbered (head_key head.now))
+            (clauses_of self.now.kept procedure.now.name procedure.now.arity)) }
+    {
+        let key = key_of_head(head)?;
+        match self.procedures.get(procedure) {
+            Some(known) => Ok(Some(known.matching(&key)?)),
+            None => Ok(None),
         }
     }
 

@@ -17,7 +17,7 @@ pub struct Indicator {
 
 impl Indicator {
     /// That of a clause.
-    pub(crate) fn of_clause(clause: &Clause) -> Result<Indicator, NoMemory>
+    pub fn of_clause(clause: &Clause) -> Result<Indicator, NoMemory>
         ensures { IfOk result (λ i. (i.name ≡ name_of clause.now.head) × (i.arity ≡ argument_count clause.now.head)) }
     {
         let head = clause.head();
@@ -28,7 +28,7 @@ impl Indicator {
     }
 
     /// The same.
-    pub(crate) fn share(&self) -> Result<Indicator, NoMemory>
+    pub fn share(&self) -> Result<Indicator, NoMemory>
         ensures { IfOk result (λ i. i ≡ self.now) }
     {
         Ok(Indicator {

@@ -5,7 +5,8 @@ ghost use Rattle.std.specs.Map.{lookup};
 ghost use Rattle.std.specs.BTreeMap.{get, insert_entry, is_at};
 ghost use Rattle.std.specs.Arc.{arc_value};
 ghost use Rattle.dyn_clauses.specs.PositionIndex.{has_numbered, matching_clauses, position_number, numbered_clauses, picked, without_position};
-ghost use Rattle.dyn_clauses.specs.KeptClauses.{IsProcedure, numbered_kept, placed_clause, shown};
+ghost use Rattle.dyn_clauses.specs.KeptClauses.{IsProcedure, numbered_kept, placed_clause};
+ghost use Rattle.clause_compile.specs.CompiledClauses.{shown};
 
 use crate::keys::{Index, forget, is_any, key_of_head, note};
 use crate::place::Places;

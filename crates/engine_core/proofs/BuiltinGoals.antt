@@ -38,7 +38,7 @@ use Rattle.engine_core.proofs.NamedOutcomeLemmas.{by_name}
 use Rattle.engine_core.proofs.ResolvedTermLemmas.{name_resolved, count_resolved}
 use Rattle.run_model.proofs.ConstructLemmas.{none_of}
 
-arguments_fixed : (f : ℕ → Term) (t : Term) → apply f t ≡ t → apply_all f (arguments t) ≡ arguments t
+pub arguments_fixed : (f : ℕ → Term) (t : Term) → apply f t ≡ t → apply_all f (arguments t) ≡ arguments t
 arguments_fixed f (VarTerm n) e = refl
 arguments_fixed f (IntTerm z) e = refl
 arguments_fixed f (AtomTerm a) e = refl
@@ -77,7 +77,7 @@ module _ (st : StoreView) (goal : Term) (b : Builtin) (callable : is_callable go
 
   both : (ss : List Solution) → Each (IsSolutionBelow st.next) ss → Each (IsFixed (value_of (substitution st))) ss → Each (IsUnboundSolution st) ss
   both [] h k = tt
-  both (s ∷ ss) h k = (record { few = k.0.few; below = h.0.0; sides = k.0.sides }, both ss h.1 k.1)
+  both (s ∷ ss) h k = (record { few = omega (arith, k.0.few); below = h.0.0; sides = k.0.sides }, both ss h.1 k.1)
 
   pub solutions_unbound : (ss : List Solution) → IsValidStore st → var_bound goal ≤ st.next → answer ≡ Ok ss → Each (IsUnboundSolution st) ss
   solutions_unbound ss sound below is = both ss (rows_below ss sound below is) (rows_fixed ss sound is)

@@ -12,3 +12,4 @@ pub mod NamedOutcomeLemmas
 pub mod Solutions
 pub mod BuiltinGoals
 pub mod WorldGoalLemmas
+pub mod MatchLemmas

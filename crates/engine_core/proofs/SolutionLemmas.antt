@@ -96,6 +96,8 @@ module _ (st : StoreView) (c : ClauseTerms) (k : ℕ) (sound : IsValidStore st) 
         further = m.further;
         unified = ap (λ t. unifier ((resolve (substitution st) goal, t) ∷ [])) (sym head_is) ∙ m.unified;
         bound = m.bound;
+        after = rest;
+        removes = refl;
         goals = record {
           terms = map (shifted st.next) (clause_goals_of c.body);
           are = goals;

@@ -57,11 +57,31 @@ joined_two (x ∷ y ∷ []) d e l r some few first second left right =
     }
 joined_two (x ∷ y ∷ z ∷ eqs) d e l r some few first second left right = absurd (omega arith)
 
+abbrev triple_of : Term → Term → Term → Term
+triple_of a b c = Compound (codes "=") (more a (more b (more c end)))
+
+pub joined_three : (eqs : Equations) (d e f : Term × Term) (l r : Term) → 3 ≤ length eqs → length eqs < 4 → d ≡ get_or eqs 0 d → e ≡ get_or eqs 1 e → f ≡ get_or eqs 2 f → l ≡ triple_of d.0 e.0 f.0 → r ≡ triple_of d.1 e.1 f.1 → IsJoined eqs l r
+joined_three [] d e f l r some few first second third left right = absurd (omega arith)
+joined_three (x ∷ []) d e f l r some few first second third left right = absurd (omega arith)
+joined_three (x ∷ y ∷ []) d e f l r some few first second third left right = absurd (omega arith)
+joined_three (x ∷ y ∷ z ∷ []) d e f l r some few first second third left right =
+    let a : l ≡ triple_of x.0 y.0 z.0 = left ∙ (ap₂ (λ (p : Term × Term) (q : Term × Term). triple_of p.0 q.0 f.0) first second ∙ ap (λ (p : Term × Term). triple_of x.0 y.0 p.0) third) in
+    let b : r ≡ triple_of x.1 y.1 z.1 = right ∙ (ap₂ (λ (p : Term × Term) (q : Term × Term). triple_of p.1 q.1 f.1) first second ∙ ap (λ (p : Term × Term). triple_of x.1 y.1 p.1) third) in
+    record {
+      unified = ap₂ (λ v w. unifier ((v, w) ∷ [])) a b ∙ unifier-first (triple_of x.0 y.0 z.0) (triple_of x.1 y.1 z.1) [];
+      below = rw (a, b) (omega arith);
+      fixed = λ g h. rw (a, b) (
+        ap₂ (λ t u. t u) (ap₂ triple_of h.0.0 h.1.0.0) h.1.1.0.0,
+        ap₂ (λ t u. t u) (ap₂ triple_of h.0.1 h.1.0.1) h.1.1.0.1,
+      );
+    }
+joined_three (x ∷ y ∷ z ∷ w ∷ eqs) d e f l r some few first second third left right = absurd (omega arith)
+
 pub joined_as : (eqs fs : Equations) (a b l r : Term) → eqs ≡ fs → l ≡ a → r ≡ b → IsJoined eqs a b → IsJoined fs l r
 joined_as eqs fs a b l r e left right j = subst (λ es. IsJoined es l r) e (subst (λ x. IsJoined eqs x r) (sym left) (subst (λ y. IsJoined eqs a y) (sym right) j))
 
 abbrev solution : Equations → ℕ → Solution
-solution eqs n = record { equations = eqs; goals = []; variables = n }
+solution eqs n = record { equations = eqs; goals = []; removes = None; variables = n }
 
 -- the equation stands for the same beside the store
 module _ (st new : StoreView) (eqs : Equations) (n : ℕ) (l r : Term) (apart : IsUnboundSolution st (solution eqs n)) (joined : IsJoined eqs l r) (taken : new ≡ with_numbers n st) where
@@ -92,6 +112,8 @@ module _ (st new : StoreView) (eqs : Equations) (n : ℕ) (l r : Term) (apart : 
         further = m.further;
         unified = sym same ∙ m.unified;
         bound = m.bound;
+        after = rest;
+        removes = refl;
         goals = record { terms = []; are = are; same = refl };
       }
 

@@ -1,5 +1,5 @@
 -- Goals that ask the world.
-use Rattle.std.proofs.Common.{◌≡◌, ◌∙◌, ℕ, suc, true, false, List, None, refl, ap, sym, subst, arith}
+use Rattle.std.proofs.Common.{◌≡◌, ◌∙◌, ℕ, suc, true, false, List, None, refl, ap, ap₂, sym, subst, arith}
 use Rattle.std.specs.Prelude.{is_some}
 use Rattle.au_term.specs.Term.{Term, Terms, end, more, count, term_at, argument, arguments, argument_count}
 use Rattle.au_model.specs.Terms.Forms.{is_callable, name_of}
@@ -13,7 +13,7 @@ use Rattle.run_model.specs.Goals.Worlds.{is_world_goal}
 use Rattle.run_model.proofs.ConstructLemmas.{world_goal}
 use Rattle.std_builtins.specs.WorldGoals.{IsWorldGoal}
 use Rattle.std_builtins.specs.declared.world_goals.WorldGoal.{WorldGoal}
-use Rattle.std_builtins.specs.declared.world_goals.WorldGoal.TheVariants.{Write, Nl, PutChar}
+use Rattle.std_builtins.specs.declared.world_goals.WorldGoal.TheVariants.{Write, Nl, PutChar, Asserta, Assertz, Retract, Abolish, Clause, Op, CurrentOp, Halt, HaltWith}
 use Rattle.clause_compile.specs.declared.item.Scope.{Scope}
 use Rattle.clause_compile.specs.declared.item.Item.{Item}
 use Rattle.clause_compile.specs.declared.event.Effect.{Effect}
@@ -33,6 +33,14 @@ no_term : (ts : Terms) → count ts ≡ 0 → ts ≡ end
 no_term end h = refl
 no_term (more t ts) h = absurd (omega (arith, h))
 
+two_terms : (ts : Terms) → count ts ≡ 2 → ts ≡ more (term_at 0 ts) (more (term_at 1 ts) end)
+two_terms end h = absurd (omega (arith, h))
+two_terms (more t ts) h = ap (more t) (one_term ts (omega (arith, h)))
+
+three_terms : (ts : Terms) → count ts ≡ 3 → ts ≡ more (term_at 0 ts) (more (term_at 1 ts) (more (term_at 2 ts) end))
+three_terms end h = absurd (omega (arith, h))
+three_terms (more t ts) h = ap (more t) (two_terms ts (omega (arith, h)))
+
 module _ (st : StoreView) (goal : Term) (callable : is_callable goal ≡ true) where
   -- a goal with one argument, and what stands for it
   pub asks_with : (name : List ℕ) (t : Term) → name_of goal ≡ name → argument_count goal ≡ 1 → t ≡ resolve (substitution st) (argument 0 goal) → IsGoalOf name (more t end) (resolve (substitution st) goal)
@@ -40,6 +48,26 @@ module _ (st : StoreView) (goal : Term) (callable : is_callable goal ≡ true) w
       let f = value_of (substitution st) in
       let one = one_term (arguments (apply f goal)) (count_resolved f goal callable ∙ a) in
       (name_resolved f goal callable ∙ n, one ∙ ap (λ u. more u end) (argument_resolved f goal 0 (omega (arith, a)) ∙ sym e))
+
+  pub asks_with_two : (name : List ℕ) (t u : Term) → name_of goal ≡ name → argument_count goal ≡ 2 → t ≡ resolve (substitution st) (argument 0 goal) → u ≡ resolve (substitution st) (argument 1 goal)
+      → IsGoalOf name (more t (more u end)) (resolve (substitution st) goal)
+  asks_with_two name t u n a d e =
+      let f = value_of (substitution st) in
+      let two = two_terms (arguments (apply f goal)) (count_resolved f goal callable ∙ a) in (
+        name_resolved f goal callable ∙ n,
+        two ∙ ap₂ (λ x y. more x (more y end)) (argument_resolved f goal 0 (omega (arith, a)) ∙ sym d) (argument_resolved f goal 1 (omega (arith, a)) ∙ sym e),
+      )
+
+  pub asks_with_three : (name : List ℕ) (t u v : Term) → name_of goal ≡ name → argument_count goal ≡ 3 → t ≡ resolve (substitution st) (argument 0 goal) → u ≡ resolve (substitution st) (argument 1 goal)
+      → v ≡ resolve (substitution st) (argument 2 goal) → IsGoalOf name (more t (more u (more v end))) (resolve (substitution st) goal)
+  asks_with_three name t u v n a d e g =
+      let f = value_of (substitution st) in
+      let three = three_terms (arguments (apply f goal)) (count_resolved f goal callable ∙ a) in (
+        name_resolved f goal callable ∙ n,
+        three
+            ∙ (ap₂ (λ x y. more x (more y (more (term_at 2 (arguments (apply f goal))) end))) (argument_resolved f goal 0 (omega (arith, a)) ∙ sym d) (argument_resolved f goal 1 (omega (arith, a)) ∙ sym e)
+            ∙ ap (λ z. more t (more u (more z end))) (argument_resolved f goal 2 (omega (arith, a)) ∙ sym g)),
+      )
 
   pub asks_alone : (name : List ℕ) → name_of goal ≡ name → argument_count goal ≡ 0 → IsGoalOf name end (resolve (substitution st) goal)
   asks_alone name n a =
@@ -53,6 +81,15 @@ is_asked (Write Quoted) name arity h = rw (h.0, h.1) refl
 is_asked (Write Canonical) name arity h = rw (h.0, h.1) refl
 is_asked Nl name arity h = rw (h.0, h.1) refl
 is_asked PutChar name arity h = rw (h.0, h.1) refl
+is_asked Asserta name arity h = rw (h.0, h.1) refl
+is_asked Assertz name arity h = rw (h.0, h.1) refl
+is_asked Retract name arity h = rw (h.0, h.1) refl
+is_asked Abolish name arity h = rw (h.0, h.1) refl
+is_asked Clause name arity h = rw (h.0, h.1) refl
+is_asked Op name arity h = rw (h.0, h.1) refl
+is_asked CurrentOp name arity h = rw (h.0, h.1) refl
+is_asked Halt name arity h = rw (h.0, h.1) refl
+is_asked HaltWith name arity h = rw (h.0, h.1) refl
 
 pub asks_world : (cut here : Scope) (rest : List Item) (st : StoreView) (clauses : List ClauseTerms) (goal : Term) (asked : WorldGoal) (e : Effect) → is_callable goal ≡ true → is_some (construct_of control_constructs (name_of goal) (argument_count goal)) ≡ false
     → construct_of builtins (name_of goal) (argument_count goal) ≡ None → IsWorldGoal asked (name_of goal) (argument_count goal) → AsksWorld (resolve (substitution st) goal) e

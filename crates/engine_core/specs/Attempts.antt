@@ -5,7 +5,7 @@ use Rattle.au_term.specs.Term.{Term, argument_count}
 use Rattle.au_term.specs.declared.segment.Binding.{Binding as SharedBinding}
 use Rattle.au_model.specs.Terms.Forms.{name_of}
 use Rattle.au_model.specs.Terms.Substitutions.{Substitution, resolve}
-use Rattle.au_model.specs.Terms.Unifier.{unifier}
+use Rattle.au_model.specs.Terms.Unifier.{Equations, unifier}
 use Rattle.run_model.specs.Programs.Clauses.{Clause as ClauseTerms, is_defined}
 use Rattle.run_model.specs.Goals.Outcomes.{Solution, alternatives_of}
 use Rattle.clause_compile.specs.declared.item.Scope.{Scope}
@@ -17,20 +17,31 @@ use Rattle.engine_core.specs.Branches.{IsBranchOf, AreSolved}
 
 -- one way for an equation to hold, without new goals or variables
 abbrev pub equation_solution : Term → Term → Solution
-equation_solution left right = record { equations = (left, right) ∷ []; goals = []; variables = 0 }
+equation_solution left right = record { equations = (left, right) ∷ []; goals = []; removes = None; variables = 0 }
 
 -- the same for what two terms stand for
 abbrev pub resolved_equation : StoreView → Term → Term → Solution
 resolved_equation st left right = equation_solution (resolve (substitution st) left) (resolve (substitution st) right)
 
--- by these further bindings the unifier of what two terms stand for comes after a store's substitution, and they keep
--- the store sound
-pub record UnifyBy (left right : Term) (st : StoreView) (bindings : List SharedBinding) : Type 0 where
+-- by these further bindings the unifier of equations comes after a store's substitution, and they keep the store sound
+pub record SolvesBy (equations : Equations) (st : StoreView) (bindings : List SharedBinding) : Type 0 where
   pub further : Substitution
-  pub unified : unifier ((resolve (substitution st) left, resolve (substitution st) right) ∷ []) ≡ Some further
+  pub unified : unifier equations ≡ Some further
   pub made : CanBeMade (substitution st) (pairs_of bindings)
   pub bound : IsComposition (substitution st) further (substitution (with_bindings bindings st))
   pub sound : IsValidStore (with_bindings bindings st)
+
+-- what two terms stand for, as an equation
+abbrev pub equation_in : StoreView → Term → Term → Term × Term
+equation_in st left right = (resolve (substitution st) left, resolve (substitution st) right)
+
+abbrev pub UnifyBy : Term → Term → StoreView → List SharedBinding → Type 0
+UnifyBy left right st bindings = SolvesBy (equation_in st left right ∷ []) st bindings
+
+-- the bindings that solve equations, or none where there is no unifier
+abbrev pub AreSolvedBy : Equations → StoreView → Option (List SharedBinding) → Type 0
+AreSolvedBy equations st (Some bindings) = SolvesBy equations st bindings
+AreSolvedBy equations st None = unifier equations ≡ None
 
 -- the bindings that make two terms one, or none where there is no unifier
 abbrev pub AreUnifiedBy : Term → Term → StoreView → Option (List SharedBinding) → Type 0

@@ -1,5 +1,5 @@
 -- The branches that the ways of a goal to hold become, beside a store of bindings.
-use Rattle.std.specs.Prelude.{◌≡◌, ℕ, ◌+◌, ◌≤◌, List, [], ◌∷◌, ◌++◌, map, Some, None}
+use Rattle.std.specs.Prelude.{◌≡◌, ℕ, ◌+◌, ◌≤◌, List, [], ◌∷◌, ◌++◌, map, Option, Some, None}
 use Rattle.au_term.specs.Term.{Term, var_bound}
 use Rattle.au_model.specs.Terms.Each.{Each}
 use Rattle.au_model.specs.Terms.Substitutions.{Substitution, resolve}
@@ -7,6 +7,7 @@ use Rattle.au_model.specs.Terms.Unifier.{unifier}
 use Rattle.run_model.specs.Goals.Outcomes.{Solution}
 use Rattle.clause_compile.specs.CompiledClauses.{goal_items}
 use Rattle.clause_compile.specs.declared.item.Scope.{Scope}
+use Rattle.clause_compile.specs.declared.item.ClauseId.{ClauseId}
 use Rattle.clause_compile.specs.declared.item.Item.{Item}
 use Rattle.clause_compile.specs.declared.item.Item.TheVariants.{Goal, CatchEnd, Collect, Remove, End}
 use Rattle.clause_compile.specs.declared.event.Branch.{Branch}
@@ -36,14 +37,21 @@ pub record TakesNumbers (st : StoreView) (variables : ℕ) (b : Branch) : Type 0
   pub sound : IsValidStore (with_segment b.segment st)
   pub items : Each (IsItemBelow (st.next + variables)) b.goals
 
+-- the removal of a clause comes before what follows, where one is named
+abbrev pub IsRemovalBefore : Option ℕ → List Item → List Item → Type 0
+IsRemovalBefore None rest after = after ≡ rest
+IsRemovalBefore (Some number) rest after = (id : ClauseId) × (id.0 ≡ number) × (after ≡ Remove id ∷ rest)
+
 -- a branch is that of a solution: with its bindings the unifier is made of what was bound before, and its goals come,
--- in this scope, before the rest
+-- in this scope, before the removal of a clause, if it has one, and the rest
 pub record IsBranchOf (here : Scope) (rest : List Item) (st : StoreView) (s : Solution) (b : Branch) : Type 0 where
   pub takes : TakesNumbers st s.variables b
   pub further : Substitution
   pub unified : unifier s.equations ≡ Some further
   pub bound : IsComposition (substitution st) further (substitution (with_segment b.segment st))
-  pub goals : HasGoalsBefore (substitution (with_segment b.segment st)) here (map (resolve further) s.goals) rest b.goals
+  pub after : List Item
+  pub removes : IsRemovalBefore s.removes rest after
+  pub goals : HasGoalsBefore (substitution (with_segment b.segment st)) here (map (resolve further) s.goals) after b.goals
 
 -- the branches are those of the solutions whose equations unify, in their order
 pub data AreSolved (here : Scope) (rest : List Item) (st : StoreView) : List Solution → List Branch → Type 0 where

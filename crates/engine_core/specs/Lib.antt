@@ -5,6 +5,7 @@ pub mod Conjunctions
 pub mod PlainBranches
 pub mod GoalArguments
 pub mod Attempts
+pub mod Matches
 pub mod Calls
 pub mod GoalReductions
 pub mod Solved

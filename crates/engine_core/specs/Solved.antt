@@ -9,7 +9,7 @@ use Rattle.bind_store.specs.StoreView.{StoreView, substitution}
 
 -- few equations, of terms without bound variables, below the next number and the solution's own
 pub record IsUnboundSolution (st : StoreView) (s : Solution) : Type 0 where
-  pub few : length s.equations ≤ 2
+  pub few : length s.equations ≤ 3
   pub below : equations_bound s.equations ≤ st.next + s.variables
   pub sides : Each (λ e. (resolve (substitution st) e.0 ≡ e.0) × (resolve (substitution st) e.1 ≡ e.1)) s.equations
 

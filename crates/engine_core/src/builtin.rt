@@ -70,7 +70,7 @@ fn answered(
     let args = resolved_arguments(alloc, goal, store)?;
     match builtin.call(alloc, &args, store.next()) {
         Ok(solutions) => {
-            let branches = branches_of(alloc, &solutions, place.rest, store)?;
+            let branches = solutions_tried(alloc, &solutions, place.rest, store)?;
             Ok(Reduction::Alternatives(branches))
         }
         Err(BuiltinRefusal::Fault(fault)) => {
@@ -98,7 +98,7 @@ fn resolved_arguments(
 }
 
 /// The branches of solutions, in their order.
-fn branches_of(
+pub fn solutions_tried(
     alloc: Global,
     solutions: &[Solution],
     rest: &Goals,
@@ -172,7 +172,7 @@ fn joined(
     alloc: Global,
     equations: &[(FlatTerm, FlatTerm)],
 ) -> Result<(FlatTerm, FlatTerm), NoMemory>
-    requires { length equations.now ≤ 2 }
+    requires { length equations.now ≤ 3 }
     ensures { IfOk result (λ sides. IsJoined equations.now sides.0 sides.1) }
 {
     match equations {
@@ -181,6 +181,13 @@ fn joined(
         [first, second] => {
             let left = compound(alloc, Atom::ascii(alloc, "=")?, &[&first.0, &second.0])?;
             let right = compound(alloc, Atom::ascii(alloc, "=")?, &[&first.1, &second.1])?;
+            Ok((left, right))
+        }
+        [first, second, third] => {
+            let lefts = [&first.0, &second.0, &third.0];
+            let rights = [&first.1, &second.1, &third.1];
+            let left = compound(alloc, Atom::ascii(alloc, "=")?, &lefts)?;
+            let right = compound(alloc, Atom::ascii(alloc, "=")?, &rights)?;
             Ok((left, right))
         }
         _ => unreachable!(),

@@ -7,6 +7,7 @@ mod call;
 mod control;
 mod faults;
 pub mod items;
+mod matches;
 mod names;
 mod procedure;
 pub mod reduction;
@@ -16,5 +17,7 @@ mod told_apart;
 mod world;
 
 pub use bodies::goals_before;
+pub use builtin::solutions_tried;
 pub use items::reduce;
+pub use matches::{clauses_called, clauses_matched};
 pub use reduction::Reduction;

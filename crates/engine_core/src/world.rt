@@ -20,18 +20,38 @@ pub(crate) fn effect_of(asked: WorldGoal, goal: &Shared, store: &Store) -> Resul
     ensures { IfOk result (AsksWorld (resolve (substitution store.now) goal.now)) }
 {
     match asked {
-        WorldGoal::Write(style) => Ok(writing(style, first_argument(goal, store)?)),
+        WorldGoal::Write(style) => Ok(writing(style, argument(goal, 0, store)?)),
         WorldGoal::Nl => Ok(Effect::Nl),
-        WorldGoal::PutChar => Ok(Effect::PutChar(first_argument(goal, store)?)),
+        WorldGoal::PutChar => Ok(Effect::PutChar(argument(goal, 0, store)?)),
+        WorldGoal::Asserta => Ok(Effect::Asserta(argument(goal, 0, store)?)),
+        WorldGoal::Assertz => Ok(Effect::Assertz(argument(goal, 0, store)?)),
+        WorldGoal::Retract => Ok(Effect::Retract(argument(goal, 0, store)?)),
+        WorldGoal::Abolish => Ok(Effect::Abolish(argument(goal, 0, store)?)),
+        WorldGoal::Clause => Ok(Effect::Clause(
+            argument(goal, 0, store)?,
+            argument(goal, 1, store)?,
+        )),
+        WorldGoal::Op => Ok(Effect::Op(
+            argument(goal, 0, store)?,
+            argument(goal, 1, store)?,
+            argument(goal, 2, store)?,
+        )),
+        WorldGoal::CurrentOp => Ok(Effect::CurrentOp(
+            argument(goal, 0, store)?,
+            argument(goal, 1, store)?,
+            argument(goal, 2, store)?,
+        )),
+        WorldGoal::Halt => Ok(Effect::Halt),
+        WorldGoal::HaltWith => Ok(Effect::HaltWith(argument(goal, 0, store)?)),
     }
 }
 
-/// The first argument, with every binding applied.
-fn first_argument(goal: &Shared, store: &Store) -> Result<FlatTerm, NoMemory>
-    requires { 0 < argument_count goal.now }
-    ensures { IfOk result (λ t. t ≡ resolve (substitution store.now) (argument 0 goal.now)) }
+/// An argument, with every binding applied.
+fn argument(goal: &Shared, i: u32, store: &Store) -> Result<FlatTerm, NoMemory>
+    requires { i < argument_count goal.now }
+    ensures { IfOk result (λ t. t ≡ resolve (substitution store.now) (argument i goal.now)) }
 {
-    store.resolve(&goal.argument(0)?)
+    store.resolve(&goal.argument(i)?)
 }
 
 /// The effect of a goal that writes a term.

@@ -16,7 +16,7 @@ use Rattle.run_model.specs.Goals.Outcomes.{CutToScope}
 use Rattle.run_model.specs.Goals.Outcomes.{CatchOf, FindallOf, Outcome, Replies, Controls, AskWorld}
 use Rattle.run_model.specs.Machine.Items.{Item, GoalItem, CatchMark, CollectMark, RemovalItem, Continuation, resolve_item, goals_at}
 use Rattle.run_model.specs.Machine.Items.{with_items}
-use Rattle.run_model.specs.Machine.Items.{with_next, before, without_marks, first_mark}
+use Rattle.run_model.specs.Machine.Items.{with_next, before, removal_items, removing, without_marks, first_mark}
 use Rattle.interleaving.specs.Machine.{Look, On, Here}
 use Rattle.tree_model.specs.Elements.{Name, same, Record, Element, Credit, Plain, EndOf, Catch, Findall, End}
 use Rattle.interleaving.specs.Scopes.{Shared, Sought, Scope, Thrown, Caught, Does, ElementReplacement, unified_element, solution_elements}
@@ -99,13 +99,17 @@ module _ (clauses : List Clause) (inside : Name → Bool) where
   unified-blind None p f b i = tt
   unified-blind (Some s) p f b i = ((b, resolved-apart s f.items i), tt)
 
+  removal-apart : (number : Option ℕ) (items : List (Item Name)) → Items items → Items (removal_items number ++ items)
+  removal-apart None items i = i
+  removal-apart (Some k) items i = (tt, i)
+
   solutions-blind : (n : ℕ) (p : Name) (f : Continuation Name) (ss : List Solution) → IsBeside inside p → Items f.items
       → Each Blind (solution_elements n p f ss)
   solutions-blind n p f [] b i = (tt, tt)
   solutions-blind n p f (s ∷ ss) b i =
-      let one : Continuation Name = with_next (f.next + s.variables) (before (goals_at p s.goals) f) in
+      let one : Continuation Name = with_next (f.next + s.variables) (before (goals_at p s.goals) (removing s.removes f)) in
       each-append Blind (unified_element (unifier s.equations) (n ∷ p) one) (solution_elements (suc n) p f ss)
-      (unified-blind (unifier s.equations) (n ∷ p) one (beside_child p n b) (goals-apart p s.goals f.items (b []) i))
+      (unified-blind (unifier s.equations) (n ∷ p) one (beside_child p n b) (goals-apart p s.goals (removing s.removes f).items (b []) (removal-apart s.removes f.items i)))
       (solutions-blind (suc n) p f ss b i)
 
   reply-blind : (r : Reply) (p : Name) (f : Continuation Name) → IsBeside inside p → Items f.items → PlaceBlind (reply_place r p f)

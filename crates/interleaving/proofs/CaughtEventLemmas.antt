@@ -7,7 +7,7 @@ use Rattle.au_model.specs.Terms.Substitutions.{Substitution}
 use Rattle.au_model.specs.Terms.Unifier.{unifier}
 use Rattle.run_model.specs.Goals.Outcomes.{Solution}
 use Rattle.run_model.specs.Machine.Items.{Item, GoalItem, CatchMark, CollectMark, RemovalItem, Continuation, goals_at, before, with_next}
-use Rattle.run_model.specs.Machine.Items.{without_marks}
+use Rattle.run_model.specs.Machine.Items.{removal_items, removing, without_marks}
 use Rattle.run_model.specs.Machine.Entries.{Entry, unified, solution_entry, solution_entries}
 use Rattle.tree_model.specs.Nodes.{ChoiceNode, Ready, entry_alternatives}
 use Rattle.tree_model.specs.Levels.{Level}
@@ -69,13 +69,18 @@ unified_caught : (sleeps : ℕ → Bool) (next : ℕ) (node : ℕ → ℕ) (o : 
 unified_caught sleeps next node None f h = tt
 unified_caught sleeps next node (Some o) f h = ((marks_resolved (with_catch next false sleeps) node o f.items h, tt), tt)
 
+marks_removal : (sleeps : ℕ → Bool) (node : ℕ → ℕ) (number : Option ℕ) (items : List (Item ℕ)) → MarksCaught sleeps (by_nodes node items)
+    → MarksCaught sleeps (by_nodes node (removal_items number ++ items))
+marks_removal sleeps node None items h = h
+marks_removal sleeps node (Some k) items h = h
+
 pub solutions_caught : (sleeps : ℕ → Bool) (next : ℕ) (node : ℕ → ℕ) (n : ℕ) (f : Continuation ℕ) (ss : List Solution)
     → MarksCaught (with_catch next false sleeps) (by_nodes node f.items) → Each (OverCaught sleeps next node) (solution_entries n f ss)
 solutions_caught sleeps next node n f [] h = tt
 solutions_caught sleeps next node n f (s ∷ ss) h =
     each-append (OverCaught sleeps next node) (solution_entry n f s) (solution_entries n f ss)
-    (unified_caught sleeps next node (unifier s.equations) (with_next (f.next + s.variables) (before (goals_at n s.goals) f))
-    (marks_goals (with_catch next false sleeps) node n s.goals f.items h))
+    (unified_caught sleeps next node (unifier s.equations) (with_next (f.next + s.variables) (before (goals_at n s.goals) (removing s.removes f)))
+    (marks_goals (with_catch next false sleeps) node n s.goals (removing s.removes f).items (marks_removal (with_catch next false sleeps) node s.removes f.items h)))
     (solutions_caught sleeps next node n f ss h)
 
 alternatives_right : (ds : List Entry) → catch_right (entry_alternatives Ready ds) ≡ false

@@ -7,7 +7,7 @@ use Rattle.au_model.specs.Terms.Substitutions.{Substitution}
 use Rattle.au_model.specs.Terms.Unifier.{unifier}
 use Rattle.run_model.specs.Goals.Outcomes.{Solution}
 use Rattle.run_model.specs.Machine.Items.{Item, GoalItem, CatchMark, CollectMark, RemovalItem, Continuation, goals_at, resolve_item, before}
-use Rattle.run_model.specs.Machine.Items.{with_next, without_marks}
+use Rattle.run_model.specs.Machine.Items.{with_next, removal_items, removing, without_marks}
 use Rattle.run_model.specs.Machine.Entries.{Entry, unified, solution_entry, solution_entries}
 use Rattle.tree_model.specs.Levels.{Level}
 use Rattle.tree_model.specs.Floors.{node_of, with_nodes, floor_of}
@@ -69,14 +69,19 @@ unified_over : (levels : List Level) (o : Option Substitution) (f : Continuation
 unified_over levels None f q h = tt
 unified_over levels (Some s) f q h = (record { asked = q; scoped = resolved_scoped (node_of levels) s (way_of levels) f.items h }, tt)
 
+removal_scoped : (node : ℕ → ℕ) (number : Option ℕ) (way : Way) (items : List (Item ℕ)) → AreScoped way (by_nodes node items)
+    → AreScoped way (by_nodes node (removal_items number ++ items))
+removal_scoped node None way items h = h
+removal_scoped node (Some k) way items h = h
+
 pub solutions_over : (v : Level) (up : List Level) (n : ℕ) → n ≡ suc (length up) → (f : Continuation ℕ) (ss : List Solution)
     → under_query (way_of (v ∷ up)) ≡ true → AreScoped (way_of (v ∷ up)) (by_nodes (node_of (v ∷ up)) f.items) →
     Each (IsOverFloor (v ∷ up)) (solution_entries n f ss)
 solutions_over v up n e f [] q h = tt
 solutions_over v up n e f (s ∷ ss) q h =
     each-append (IsOverFloor (v ∷ up)) (solution_entry n f s) (solution_entries n f ss)
-    (unified_over (v ∷ up) (unifier s.equations) (with_next (f.next + s.variables) (before (goals_at n s.goals) f)) q
-    (own_goals_scoped v up n e s.goals f.items h))
+    (unified_over (v ∷ up) (unifier s.equations) (with_next (f.next + s.variables) (before (goals_at n s.goals) (removing s.removes f))) q
+    (own_goals_scoped v up n e s.goals (removing s.removes f).items (removal_scoped (node_of (v ∷ up)) s.removes (way_of (v ∷ up)) f.items h)))
     (solutions_over v up n e f ss q h)
 
 pub each-map : (P : Entry → Type 0) (g : Entry → Entry) (es : List Entry) → Each (λ e. P (g e)) es → Each P (map g es)

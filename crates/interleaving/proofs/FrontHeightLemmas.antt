@@ -7,7 +7,7 @@ use Rattle.au_model.specs.Terms.Unifier.{unifier}
 use Rattle.run_model.specs.Goals.Outcomes.{Solution}
 use Rattle.run_model.specs.Machine.Items.{Item, GoalItem, CatchMark, CollectMark, RemovalItem, Continuation, goals_at, resolve_item}
 use Rattle.run_model.specs.Machine.Items.{resolve_named}
-use Rattle.run_model.specs.Machine.Items.{before, with_next}
+use Rattle.run_model.specs.Machine.Items.{before, removal_items, removing, with_next}
 use Rattle.run_model.specs.Machine.Entries.{Entry, PlainEntry, unified, solution_entries}
 use Rattle.tree_model.specs.Nodes.{ChoiceNode, CatchNode, FindallNode}
 use Rattle.tree_model.specs.Levels.{Level}
@@ -62,6 +62,12 @@ goals_heights : (h : Name → ℕ) (f g : ℕ → ℕ) (p : Name) (n : ℕ) → 
 goals_heights h f g p n e [] xs ys k = k
 goals_heights h f g p n e (t ∷ gs) xs ys k = ap (λ i. GoalItem t i ∷ map (with_height h) (goals_at p gs ++ xs)) e
     ∙ ap (λ l. GoalItem t (f n) ∷ l) (goals_heights h f g p n e gs xs ys k)
+
+removal_same : (h : Name → ℕ) (f g : ℕ → ℕ) (number : Option ℕ) (xs : List (Item Name)) (ys : List (Item ℕ))
+    → map (with_height h) xs ≡ map (renamed_item f g) ys
+    → map (with_height h) (removal_items number ++ xs) ≡ map (renamed_item f g) (removal_items number ++ ys)
+removal_same h f g None xs ys k = k
+removal_same h f g (Some n) xs ys k = ap (λ l. RemovalItem n ∷ l) k
 
 -- a scope of a branch is no entry's own name
 scope_short : (way : Way) (s a b c : ℕ) → scope_on way s ≡ a ∷ b ∷ c ∷ [] → ⊥
@@ -183,22 +189,23 @@ module _ (v : Level) (up : List Level) (next : ℕ) (free : IsFree next (v ∷ u
         (names_items (height rest) (λ r. refl) way items (λ r k. k) scoped
         ∙ sym (tree_items (height (EndOf (0 ∷ next ∷ []) ∷ rest)) 0 (λ n. over_olders 0 [] n) (by_heights (v ∷ up) items)))
 
-    solved_items : (h : Name → ℕ) (k : ℕ) (es : List Entry) (o : Substitution) (gs : List Term)
+    solved_items : (h : Name → ℕ) (k : ℕ) (es : List Entry) (o : Substitution) (gs : List Term) (number : Option ℕ)
         → ((r : ℕ) → h (scope_on way r) ≡ height rest (scope_on way r)) → h own ≡ element_count rest
-        → map (with_height h) (map (resolve_item o) (goals_at own gs ++ map (renamed_item (scope_on way) (scope_on way)) items))
+        → map (with_height h) (map (resolve_item o) (goals_at own gs ++ (removal_items number ++ map (renamed_item (scope_on way) (scope_on way)) items)))
         ≡ map (with_height (height (EndOf (k ∷ next ∷ []) ∷ (olders way next ChoiceNode (suc k) es ++ rest))))
         (map (renamed_item (scope_on (below k)) (scope_on (below k)))
         (map (renamed_item node (λ n. node (suc n)))
-        (map (resolve_item o) (goals_at (suc (length up)) gs ++ by_heights (v ∷ up) items))))
-    solved_items h k es o gs f e =
+        (map (resolve_item o) (goals_at (suc (length up)) gs ++ (removal_items number ++ by_heights (v ∷ up) items)))))
+    solved_items h k es o gs number f e =
         let goals = goals_heights h tall height_mark own (suc (length up)) (e ∙ sym top_height) gs
-        (map (renamed_item (scope_on way) (scope_on way)) items) (by_heights (v ∷ up) items)
-        (names_items h f way items (λ r z. z) scoped) in
-        heights-resolved h o (goals_at own gs ++ map (renamed_item (scope_on way) (scope_on way)) items)
+        (removal_items number ++ map (renamed_item (scope_on way) (scope_on way)) items) (removal_items number ++ by_heights (v ∷ up) items)
+        (removal_same h tall height_mark number (map (renamed_item (scope_on way) (scope_on way)) items) (by_heights (v ∷ up) items)
+        (names_items h f way items (λ r z. z) scoped)) in
+        heights-resolved h o (goals_at own gs ++ (removal_items number ++ map (renamed_item (scope_on way) (scope_on way)) items))
         ∙ (ap (map (resolve_item o)) goals
-        ∙ (sym (resolved_names tall height_mark o (goals_at (suc (length up)) gs ++ by_heights (v ∷ up) items))
+        ∙ (sym (resolved_names tall height_mark o (goals_at (suc (length up)) gs ++ (removal_items number ++ by_heights (v ∷ up) items)))
         ∙ sym (tree_items (height (EndOf (k ∷ next ∷ []) ∷ (olders way next ChoiceNode (suc k) es ++ rest))) k (over_olders k es)
-        (map (resolve_item o) (goals_at (suc (length up)) gs ++ by_heights (v ∷ up) items)))))
+        (map (resolve_item o) (goals_at (suc (length up)) gs ++ (removal_items number ++ by_heights (v ∷ up) items))))))
 
     from_solved : (j : ℕ) (ss : List Solution) (s : Name) → from (solution_elements j own named_rest ss ++ rest) s
         ≡ from (EndOf own ∷ rest) s
@@ -206,7 +213,7 @@ module _ (v : Level) (up : List Level) (next : ℕ) (free : IsFree next (v ∷ u
     from_solved j (x ∷ ss) s = go (unifier x.equations) (from_solved (suc j) ss s)
       where
         go : (o : Option Substitution) → from (solution_elements (suc j) own named_rest ss ++ rest) s ≡ from (EndOf own ∷ rest) s
-            → from ((unified_element o (j ∷ own) (with_next (f.next + x.variables) (before (goals_at own x.goals) named_rest))
+            → from ((unified_element o (j ∷ own) (with_next (f.next + x.variables) (before (goals_at own x.goals) (removing x.removes named_rest)))
             ++ solution_elements (suc j) own named_rest ss) ++ rest) s ≡ from (EndOf own ∷ rest) s
         go None k = k
         go (Some o) k = k
@@ -220,16 +227,16 @@ module _ (v : Level) (up : List Level) (next : ℕ) (free : IsFree next (v ∷ u
         go : (o : Option Substitution) → ((n : ℕ) → erased (solution_elements (suc j) own named_rest ss ++ rest)
             ≡ erased (olders way next ChoiceNode n (map (with_nodes node) (solution_entries h height_rest ss)) ++ rest))
             → ((n : Name) → from (solution_elements (suc j) own named_rest ss ++ rest) n ≡ from (EndOf own ∷ rest) n)
-            → erased ((unified_element o (j ∷ own) (with_next (f.next + x.variables) (before (goals_at own x.goals) named_rest))
+            → erased ((unified_element o (j ∷ own) (with_next (f.next + x.variables) (before (goals_at own x.goals) (removing x.removes named_rest)))
             ++ solution_elements (suc j) own named_rest ss) ++ rest)
             ≡ erased (olders way next ChoiceNode k
-            (map (with_nodes node) (unified o (with_next (f.next + x.variables) (before (goals_at h x.goals) height_rest))
+            (map (with_nodes node) (unified o (with_next (f.next + x.variables) (before (goals_at h x.goals) (removing x.removes height_rest)))
             ++ solution_entries h height_rest ss)) ++ rest)
         go None more far = more k
         go (Some o) more far =
             let es = map (with_nodes node) (solution_entries h height_rest ss) in
             let hs = height (solution_elements (suc j) own named_rest ss ++ rest) in
-            let same = solved_items hs k es o x.goals (λ r. ap element_count (far (scope_on way r)) ∙ over_own r)
+            let same = solved_items hs k es o x.goals x.removes (λ r. ap element_count (far (scope_on way r)) ∙ over_own r)
             (ap element_count (far own) ∙ own_count) in
             ap (λ l. HeightEntry (PlainEntry (record { items = l; named = map (resolve_named o) f.named; next = f.next + x.variables }))
             ∷ erased (solution_elements (suc j) own named_rest ss ++ rest)) same
@@ -237,7 +244,7 @@ module _ (v : Level) (up : List Level) (next : ℕ) (free : IsFree next (v ∷ u
             (record {
               items = map (with_height (height (EndOf (k ∷ next ∷ []) ∷ (olders way next ChoiceNode (suc k) es ++ rest))))
                   (map (renamed_item (scope_on (below k)) (scope_on (below k)))
-                  (map (renamed_item node (λ n. node (suc n))) (map (resolve_item o) (goals_at n x.goals ++ by_heights (v ∷ up) items))));
+                  (map (renamed_item node (λ n. node (suc n))) (map (resolve_item o) (goals_at n x.goals ++ (removal_items x.removes ++ by_heights (v ∷ up) items)))));
               named = map (resolve_named o) f.named;
               next = f.next + x.variables;
             })) ∷ erased
@@ -246,7 +253,7 @@ module _ (v : Level) (up : List Level) (next : ℕ) (free : IsFree next (v ∷ u
             (record {
               items = map (with_height (height (EndOf (k ∷ next ∷ []) ∷ (olders way next ChoiceNode (suc k) es ++ rest))))
                   (map (renamed_item (scope_on (below k)) (scope_on (below k)))
-                  (map (renamed_item node (λ n. node (suc n))) (map (resolve_item o) (goals_at h x.goals ++ by_heights (v ∷ up) items))));
+                  (map (renamed_item node (λ n. node (suc n))) (map (resolve_item o) (goals_at h x.goals ++ (removal_items x.removes ++ by_heights (v ∷ up) items)))));
               named = map (resolve_named o) f.named;
               next = f.next + x.variables;
             })) ∷ l) (more (suc k)))

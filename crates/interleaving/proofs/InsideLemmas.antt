@@ -15,7 +15,7 @@ use Rattle.run_model.specs.Goals.Outcomes.{CutToScope}
 use Rattle.run_model.specs.Goals.Outcomes.{CatchOf, FindallOf, Outcome, Replies, Controls, AskWorld}
 use Rattle.run_model.specs.Machine.Items.{Item, GoalItem, CatchMark, CollectMark, RemovalItem, Continuation, goals_at, with_items}
 use Rattle.run_model.specs.Machine.Items.{with_next}
-use Rattle.run_model.specs.Machine.Items.{before, without_marks, first_mark}
+use Rattle.run_model.specs.Machine.Items.{before, removing, without_marks, first_mark}
 use Rattle.interleaving.specs.Machine.{Look, On, Here}
 use Rattle.tree_model.specs.Elements.{Name, same, Record, Element, Credit, Plain, EndOf, Catch, Findall, End}
 use Rattle.interleaving.specs.Scopes.{Shared, Sought, Scope, Thrown, Caught, Does, ElementReplacement, unified_element, solution_elements}
@@ -62,7 +62,7 @@ module _ (clauses : List Clause) (inside : Name → Bool) where
         → Each Inner (solution_elements n p f ss)
     solutions-inner n p f [] b = (b, tt)
     solutions-inner n p f (s ∷ ss) b =
-        let one : Continuation Name = with_next (f.next + s.variables) (before (goals_at p s.goals) f) in
+        let one : Continuation Name = with_next (f.next + s.variables) (before (goals_at p s.goals) (removing s.removes f)) in
         each-append Inner (unified_element (unifier s.equations) (n ∷ p) one) (solution_elements (suc n) p f ss)
         (unified-inner (unifier s.equations) (n ∷ p) one (child n p b)) (solutions-inner (suc n) p f ss b)
 

@@ -1,12 +1,12 @@
 -- Heights for names.
-use Rattle.std.proofs.Common.{◌≡◌, ℕ, suc, ◌-◌, ◌≤◌, Bool, true, false, ◌==◌, cond, List, [], ◌∷◌, ◌++◌, map, length, length-append}
+use Rattle.std.proofs.Common.{◌≡◌, ℕ, suc, ◌-◌, ◌≤◌, Bool, true, false, ◌==◌, cond, List, [], ◌∷◌, ◌++◌, map, length, length-append, Option, Some, None}
 use Rattle.std.proofs.Common.{drop, refl, sym, ap, ◌∙◌, arith}
 use Rattle.std.proofs.lemmas.Bool.{eq-eqb}
 use Rattle.au_term.specs.Term.{Term}
 use Rattle.au_model.specs.Terms.Each.{Each}
 use Rattle.au_model.specs.Terms.Substitutions.{Substitution}
 use Rattle.run_model.specs.Machine.Items.{Item, GoalItem, CatchMark, CollectMark, RemovalItem, Continuation, resolve_item, resolve_named}
-use Rattle.run_model.specs.Machine.Items.{resolve_continuation, goals_at, before}
+use Rattle.run_model.specs.Machine.Items.{resolve_continuation, goals_at, before, removal_items, removing}
 use Rattle.run_model.specs.Machine.Entries.{PlainEntry, CatchEntry, FindallEntry, EndEntry}
 use Rattle.tree_model.specs.Elements.{Name, same, Element, Credit, Plain, EndOf, Catch, Findall, End}
 use Rattle.interleaving.specs.HeightMachine.{HeightElement, HeightCredit, HeightEntry, height_lowest}
@@ -75,6 +75,15 @@ pub goals-heights : (f g : Name → ℕ) (h : Name) (n : ℕ) (gs : List Term) (
     → Each (λ s. f s ≡ g s) (names k.items) → continuation_heights f (before (goals_at h gs) k)
     ≡ before (goals_at n gs) (continuation_heights g k)
 goals-heights f g h n gs k e a = ap (λ l. record { items = l; named = k.named; next = k.next }) (body-heights f g h n gs k.items e a)
+
+-- a removal has no scope
+pub names-removal : (P : Name → Type 0) (number : Option ℕ) (items : List (Item Name)) → Each P (names items) → Each P (names (removal_items number ++ items))
+names-removal P None items h = h
+names-removal P (Some k) items h = h
+
+pub removal-heights : (f : Name → ℕ) (number : Option ℕ) (k : Continuation Name) → continuation_heights f (removing number k) ≡ removing number (continuation_heights f k)
+removal-heights f None k = refl
+removal-heights f (Some n) k = refl
 
 -- lists
 pub length-erased : (xs : List Element) → length (erased xs) ≡ element_count xs

@@ -10,7 +10,7 @@ use Rattle.au_model.specs.Terms.Unifier.{unifier}
 use Rattle.run_model.specs.Programs.Clauses.{Clause}
 use Rattle.run_model.specs.Goals.Outcomes.{Solution, ControlForm, GoesOnWith, EitherOf, TestOf, CutToScope, CatchOf, FindallOf}
 use Rattle.run_model.specs.Machine.Items.{Item, GoalItem, CatchMark, CollectMark, Continuation, resolve_continuation, goals_at, with_next}
-use Rattle.run_model.specs.Machine.Items.{before}
+use Rattle.run_model.specs.Machine.Items.{before, removing}
 use Rattle.run_model.specs.Machine.Entries.{Entry, PlainEntry, CatchEntry, FindallEntry, solution_entries}
 use Rattle.run_model.specs.Machine.Entries as entries
 use Rattle.interleaving.specs.Machine.{On, Here, looked, search_for, placed}
@@ -20,7 +20,7 @@ use Rattle.interleaving.specs.Scopes as scopes
 use Rattle.interleaving.specs.HeightMachine.{HeightElement, HeightEntry, height_entries, height_control}
 use Rattle.interleaving.specs.Erased.{from, element_count, height, with_height, continuation_heights, erased}
 use Rattle.interleaving.specs.Sound.{names, IsMadeElsewhere, AreCarried}
-use Rattle.interleaving.proofs.NamingLemmas.{heights-same, resolved-heights, same-heights, body-heights, goals-heights, length-erased}
+use Rattle.interleaving.proofs.NamingLemmas.{heights-same, resolved-heights, same-heights, body-heights, goals-heights, names-removal, removal-heights, length-erased}
 use Rattle.interleaving.proofs.NamingLemmas.{lowest-from, IsMadeBy, from_end, from_own, heights-made, heights-cut, longer, sames}
 use Rattle.interleaving.proofs.AppendLemmas.{append-assoc}
 
@@ -44,7 +44,7 @@ unified-made p (Some s) q f = (tt, tt)
 pub solutions-made : (n : ℕ) (p : Name) (f : Continuation Name) (ss : List Solution) → Each (IsMadeBy p) (scopes.solution_elements n p f ss)
 solutions-made n p f [] = ends_made p
 solutions-made n p f (s ∷ ss) =
-    let one : Continuation Name = with_next (f.next + s.variables) (before (goals_at p s.goals) f) in
+    let one : Continuation Name = with_next (f.next + s.variables) (before (goals_at p s.goals) (removing s.removes f)) in
     made-append p (scopes.unified_element (unifier s.equations) (n ∷ p) one) (scopes.solution_elements (suc n) p f ss)
     (unified-made p (unifier s.equations) (n ∷ p) one) (solutions-made (suc n) p f ss)
 
@@ -57,7 +57,7 @@ pub from-solutions : (n : ℕ) (p : Name) (f : Continuation Name) (ss : List Sol
     → from (scopes.solution_elements n p f ss ++ xs) p ≡ EndOf p ∷ xs
 from-solutions n p f [] xs = from_own p xs
 from-solutions n p f (s ∷ ss) xs =
-    let one : Continuation Name = with_next (f.next + s.variables) (before (goals_at p s.goals) f) in
+    let one : Continuation Name = with_next (f.next + s.variables) (before (goals_at p s.goals) (removing s.removes f)) in
     ap (λ l. from l p) (append-assoc (scopes.unified_element (unifier s.equations) (n ∷ p) one)
     (scopes.solution_elements (suc n) p f ss) xs)
     ∙ from-unified (unifier s.equations) (n ∷ p) one (scopes.solution_elements (suc n) p f ss ++ xs) p
@@ -77,15 +77,18 @@ pub solutions-height : (n : ℕ) (p : Name) (f : Continuation Name) (ss : List S
 solutions-height n p f [] xs h = refl
 solutions-height n p f (s ∷ ss) xs h =
     let rest : List Element = scopes.solution_elements (suc n) p f ss in
-    let g : Continuation Name = before (goals_at p s.goals) f in
+    let kept : Continuation Name = removing s.removes f in
+    let g : Continuation Name = before (goals_at p s.goals) kept in
     let next : ℕ = f.next + s.variables in
+    let as_made = heights-made p rest xs (names f.items) (solutions-made (suc n) p f ss) h in
     let one : continuation_heights (height (rest ++ xs)) g ≡ before (goals_at (element_count xs) s.goals)
-    (continuation_heights (height xs) f) = goals-heights
-    (height (rest ++ xs)) (height xs) p (element_count xs) s.goals f (ap element_count (from-solutions (suc n) p f ss xs))
-    (heights-made p rest xs (names f.items) (solutions-made (suc n) p f ss) h) in
+    (removing s.removes (continuation_heights (height xs) f)) = goals-heights
+    (height (rest ++ xs)) (height xs) p (element_count xs) s.goals kept (ap element_count (from-solutions (suc n) p f ss xs))
+    (names-removal (λ m. height (rest ++ xs) m ≡ height xs m) s.removes f.items as_made)
+    ∙ ap (before (goals_at (element_count xs) s.goals)) (removal-heights (height xs) s.removes f) in
     ap erased (append-assoc (scopes.unified_element (unifier s.equations) (n ∷ p) (with_next next g)) rest xs)
     ∙ unified-height (unifier s.equations) (n ∷ p) (with_next next g)
-    (with_next next (before (goals_at (element_count xs) s.goals) (continuation_heights (height xs) f))) (rest ++ xs)
+    (with_next next (before (goals_at (element_count xs) s.goals) (removing s.removes (continuation_heights (height xs) f)))) (rest ++ xs)
     (solution_entries (element_count xs) (continuation_heights (height xs) f) ss) (erased xs) (ap (with_next next) one)
     (solutions-height (suc n) p f ss xs h)
 

@@ -13,7 +13,7 @@ use Rattle.run_model.specs.Programs.Jobs.{Query}
 use Rattle.run_model.specs.Goals.Outcomes.{Solution, Reply, Solutions, Ball, HaltNumber, ControlForm, GoesOnWith, EitherOf, TestOf}
 use Rattle.run_model.specs.Goals.Outcomes.{CutToScope}
 use Rattle.run_model.specs.Goals.Outcomes.{CatchOf, FindallOf}
-use Rattle.run_model.specs.Machine.Items.{Item, GoalItem, CatchMark, CollectMark, Continuation, goals_at, with_next, before, first_mark}
+use Rattle.run_model.specs.Machine.Items.{Item, GoalItem, CatchMark, CollectMark, Continuation, goals_at, with_next, before, removal_items, removing, first_mark}
 use Rattle.interleaving.specs.Machine.{Look, On, Here, looked, search_for, placed}
 use Rattle.tree_model.specs.Elements.{Name, same, Element, Credit, Plain, EndOf, Catch, Findall, End}
 use Rattle.interleaving.specs.Scopes.{Sought, Scope, Thrown, Caught, unified_element, solution_elements, reply_place, control_place}
@@ -22,7 +22,7 @@ use Rattle.interleaving.specs.Scopes.{named_test_items, opened_elements, recover
 use Rattle.interleaving.specs.Erased.{from, element_count}
 use Rattle.interleaving.specs.Sound.{names, IsMadeElsewhere, AreCarried, IsGuarded, IsGathered, IsMarkSound, EachFindall, IsEntrySound}
 use Rattle.interleaving.specs.Sound.{IsSound}
-use Rattle.interleaving.proofs.NamingLemmas.{IsMadeBy, from_end, from_own, longer, not_longer}
+use Rattle.interleaving.proofs.NamingLemmas.{IsMadeBy, from_end, from_own, longer, not_longer, names-removal}
 use Rattle.interleaving.proofs.CarriedLemmas.{findalls-map, sound-from, entry_child, entry_rest, entry_cut, entry_goals, front_of}
 use Rattle.interleaving.proofs.CarriedLemmas.{front_child, older-goals, own_front, here_front, from_first, other_child, entry_resolved}
 use Rattle.interleaving.proofs.PlaceHeightLemmas.{ends_made, solutions-made, from-solutions, search-from}
@@ -38,7 +38,7 @@ pub solutions-findalls : (P : Name → Type 0) (n : ℕ) (p : Name) (f : Continu
     → EachFindall P (solution_elements n p f ss)
 solutions-findalls P n p f [] = tt
 solutions-findalls P n p f (s ∷ ss) =
-    unified-findalls P (unifier s.equations) (n ∷ p) (with_next (f.next + s.variables) (before (goals_at p s.goals) f))
+    unified-findalls P (unifier s.equations) (n ∷ p) (with_next (f.next + s.variables) (before (goals_at p s.goals) (removing s.removes f)))
     (solution_elements (suc n) p f ss) (solutions-findalls P (suc n) p f ss)
 
 unified-sound : (o : Option Substitution) (q : Name) (g : Continuation Name) (zs : List Element)
@@ -46,17 +46,24 @@ unified-sound : (o : Option Substitution) (q : Name) (g : Continuation Name) (zs
 unified-sound None q g zs e k = k
 unified-sound (Some s) q g zs e k = (entry_resolved q zs s g.items e, k)
 
+removal_sound : (p : Name) (xs : List Element) (number : Option ℕ) (items : List (Item Name)) → IsEntrySound p xs (names items) items
+    → IsEntrySound p xs (names (removal_items number ++ items)) (removal_items number ++ items)
+removal_sound p xs None items h = h
+removal_sound p xs (Some k) items h = record { carried = h.carried; marks = (tt, h.marks); findalls = h.findalls }
+
 pub solutions-sound : (n : ℕ) (p : Name) (f : Continuation Name) (ss : List Solution) (xs : List Element)
     → IsEntrySound p xs (names f.items) f.items → IsSound xs → IsSound (solution_elements n p f ss ++ xs)
 solutions-sound n p f [] xs s k = k
 solutions-sound n p f (t ∷ ss) xs s k =
     let rest : List Element = solution_elements (suc n) p f ss in
-    let one : Continuation Name = with_next (f.next + t.variables) (before (goals_at p t.goals) f) in
+    let kept : Continuation Name = removing t.removes f in
+    let one : Continuation Name = with_next (f.next + t.variables) (before (goals_at p t.goals) kept) in
     let made = solutions-made (suc n) p f ss in
     let child : IsEntrySound (n ∷ p) (rest ++ xs) (names f.items) f.items = entry_child p n rest xs (names f.items) f.items made
     (solutions-findalls (IsMadeElsewhere (n ∷ p)) (suc n) p f ss) s.carried.older s in
-    let body = entry_goals (n ∷ p) (rest ++ xs) p t.goals f.items
-    (own_front p n rest xs f.items made (from-solutions (suc n) p f ss xs) s.carried.older) child in
+    let older = names-removal (IsMadeElsewhere p) t.removes f.items s.carried.older in
+    let body = entry_goals (n ∷ p) (rest ++ xs) p t.goals kept.items
+    (own_front p n rest xs kept.items made (from-solutions (suc n) p f ss xs) older) (removal_sound (n ∷ p) (rest ++ xs) t.removes f.items child) in
     subst IsSound (sym (append-assoc (unified_element (unifier t.equations) (n ∷ p) one) rest xs))
     (unified-sound (unifier t.equations) (n ∷ p) one (rest ++ xs) body (solutions-sound (suc n) p f ss xs s k))
 

@@ -6,7 +6,7 @@ use Rattle.au_model.specs.Terms.Substitutions.{Substitution}
 use Rattle.au_model.specs.Terms.Unifier.{unifier}
 use Rattle.run_model.specs.Goals.Outcomes.{Solution}
 use Rattle.run_model.specs.Machine.Items.{Item, GoalItem, CatchMark, CollectMark, RemovalItem, Continuation, goals_at, resolve_item, before}
-use Rattle.run_model.specs.Machine.Items.{with_next, without_marks}
+use Rattle.run_model.specs.Machine.Items.{with_next, removal_items, removing, without_marks}
 use Rattle.run_model.specs.Machine.Entries.{Entry, PlainEntry, CatchEntry, FindallEntry, EndEntry, unified, solution_entries}
 use Rattle.tree_model.specs.Shapes.{guard_kind}
 use Rattle.tree_model.specs.PendingLists.{Step, Way}
@@ -169,13 +169,17 @@ unified_over w (Some s) f new es c p h k =
     let g = over_plain w new es f.items c p h in
     (record { asked = g.asked; scoped = resolved_scopes s (stack_way (new ++ es) w) f.items g.scoped }, k)
 
+removal_scopes : (number : Option ℕ) (way : Way) (items : List (Item ℕ)) → AreScoped way (as_scopes items) → AreScoped way (as_scopes (removal_items number ++ items))
+removal_scopes None way items h = h
+removal_scopes (Some k) way items h = h
+
 pub solutions_over : (w : Way) (n : ℕ) (f : Continuation ℕ) (ss : List Solution) (es : List Entry) → IsCounted w → n
     ≡ length (stack_way es w) → IsAsked (stack_way es w) (as_scopes f.items) → AreOver w es → AreOver w (solution_entries n f ss ++ es)
 solutions_over w n f [] es c e h k = k
 solutions_over w n f (s ∷ ss) es c e h k =
-    unified_over w (unifier s.equations) (with_next (f.next + s.variables) (before (goals_at n s.goals) f)) (solution_entries n f ss) es
+    unified_over w (unifier s.equations) (with_next (f.next + s.variables) (before (goals_at n s.goals) (removing s.removes f))) (solution_entries n f ss) es
     c (solutions_plain n f ss)
-    (record { asked = h.asked; scoped = top_goals (stack_way es w) n (counted_stack es w c) e h.asked s.goals f.items h.scoped })
+    (record { asked = h.asked; scoped = top_goals (stack_way es w) n (counted_stack es w c) e h.asked s.goals (removing s.removes f).items (removal_scopes s.removes (stack_way es w) f.items h.scoped) })
     (solutions_over w n f ss es c e h k)
 
 -- a cut keeps own entries, or none

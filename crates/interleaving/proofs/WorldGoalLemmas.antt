@@ -9,7 +9,7 @@ use Rattle.run_model.specs.Programs.Databases.{Database, without_clause}
 use Rattle.run_model.specs.Goals.Worlds.{World, world_step}
 use Rattle.run_model.specs.Goals.Outcomes.{Solution, Solutions, AskWorld}
 use Rattle.run_model.specs.Goals.GoalOutcomes.{outcome_of}
-use Rattle.run_model.specs.Machine.Items.{Item, GoalItem, RemovalItem, Continuation, with_items, without_marks, goals_at, before, with_next}
+use Rattle.run_model.specs.Machine.Items.{Item, GoalItem, RemovalItem, Continuation, with_items, without_marks, goals_at, before, removing, with_next}
 use Rattle.run_model.specs.Machine.Entries.{Entry, PlainEntry, unified, solution_entries}
 use Rattle.tree_model.specs.Nodes.{ChoiceNode}
 use Rattle.tree_model.specs.Levels.{Place, Spot, levels_of}
@@ -50,9 +50,9 @@ none_solved : (clauses : List Clause) (j h : ℕ) (p : Name) (fn : Continuation 
 none_solved clauses j h p fn fh e [] q = refl
 none_solved clauses j h p fn fh e (s ∷ ss) q = go (unifier s.equations) q (λ z. none_solved clauses (suc j) h p fn fh e ss z)
   where
-    go : (o : Option Substitution) → unified o (with_next (fh.next + s.variables) (before (goals_at h s.goals) fh))
+    go : (o : Option Substitution) → unified o (with_next (fh.next + s.variables) (before (goals_at h s.goals) (removing s.removes fh)))
         ++ solution_entries h fh ss ≡ [] → (solution_entries h fh ss ≡ [] → solution_elements (suc j) p fn ss ≡ EndOf p ∷ [])
-        → unified_element o (j ∷ p) (with_next (fn.next + s.variables) (before (goals_at p s.goals) fn))
+        → unified_element o (j ∷ p) (with_next (fn.next + s.variables) (before (goals_at p s.goals) (removing s.removes fn)))
         ++ solution_elements (suc j) p fn ss
         ≡ EndOf p ∷ []
     go None z f = f z

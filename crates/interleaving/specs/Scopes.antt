@@ -15,7 +15,7 @@ use Rattle.run_model.specs.Goals.Outcomes.{CutToScope}
 use Rattle.run_model.specs.Goals.Outcomes.{CatchOf, FindallOf, Outcome, Replies, Controls, AskWorld}
 use Rattle.run_model.specs.Goals.GoalOutcomes.{outcome_of}
 use Rattle.run_model.specs.Machine.Items.{Item, GoalItem, CatchMark, CollectMark, RemovalItem, Continuation, resolve_continuation, goals_at}
-use Rattle.run_model.specs.Machine.Items.{with_items, with_next, before, without_marks, first_mark}
+use Rattle.run_model.specs.Machine.Items.{with_items, with_next, before, removing, without_marks, first_mark}
 use Rattle.run_model.specs.Programs.Jobs.{Query, Job, own_terms, query_bound}
 use Rattle.run_model.specs.Goals.Worlds.{first_world}
 use Rattle.run_model.specs.Machine.States.{State, halt_number, remaining_queries}
@@ -50,7 +50,7 @@ unified_element (Some s) p f = Plain p (resolve_continuation s f) ∷ []
 abbrev pub solution_elements : ℕ → Name → Continuation Name → List Solution → List Element
 solution_elements n p f [] = EndOf p ∷ []
 solution_elements n p f (s ∷ ss) = unified_element (unifier s.equations) (n ∷ p)
-    (with_next (f.next + s.variables) (before (goals_at p s.goals) f)) ++ solution_elements (suc n) p f ss
+    (with_next (f.next + s.variables) (before (goals_at p s.goals) (removing s.removes f))) ++ solution_elements (suc n) p f ss
 
 abbrev pub reply_place : Reply → Name → Continuation Name → ElementReplacement
 reply_place (Solutions ss) p f = Put (solution_elements zero p f ss)

@@ -50,7 +50,7 @@ pub struct OpRow {
 
 impl OpKind {
     /// The kind of a specifier.
-    pub(crate) fn named(name: &Atom) -> Option<OpKind>
+    pub fn named(name: &Atom) -> Option<OpKind>
         ensures { option_map kind_meant result ≡ kind_named name.now }
     {
         if name.is_text("xfx") {

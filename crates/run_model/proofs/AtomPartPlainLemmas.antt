@@ -19,7 +19,7 @@ use Rattle.run_model.proofs.AtomGoalPlainLemmas.{numbers-plain}
 
 splits-plain : (P : Term → Type 0) (a b : Term) → P a → P b → (ps : List (List ℕ × List ℕ)) → Each (IsPlainSolution P) (map (split_solution a b) ps)
 splits-plain P a b h k [] = tt
-splits-plain P a b h k (p ∷ ps) = (record { few = omega arith; none = refl; taken = refl; sides = ((h, refl), ((k, refl), tt)) }, splits-plain P a b h k ps)
+splits-plain P a b h k (p ∷ ps) = (record { few = omega arith; none = refl; kept = refl; taken = refl; sides = ((h, refl), ((k, refl), tt)) }, splits-plain P a b h k ps)
 
 concat-plain : (P : Term → Type 0) (a b c : Term) → P a → P b → P c → IsPlain P (concat_answer a b c)
 concat-plain P a b c h k j = by (is_atom a && is_atom b)
@@ -51,7 +51,7 @@ pub record AreArguments (P : Term → Type 0) (asked : PartArguments) : Type 0 w
 parts-plain : (P : Term → Type 0) → IsKeptByParts P → (asked : PartArguments) → AreArguments P asked → (ps : List AtomPart) → Each (IsPlainSolution P) (map (part_solution asked) ps)
 parts-plain P keeps asked h [] = tt
 parts-plain P keeps asked h (p ∷ ps) =
-    (record { few = omega arith; none = refl; taken = refl; sides = ((keeps asked.before asked.length asked.after asked.text h.before h.length h.after h.text, refl), tt) }, parts-plain P keeps asked h ps)
+    (record { few = omega arith; none = refl; kept = refl; taken = refl; sides = ((keeps asked.before asked.length asked.after asked.text h.before h.length h.after h.text, refl), tt) }, parts-plain P keeps asked h ps)
 
 pub sub_atom-plain : (P : Term → Type 0) → IsKeptByParts P → (t : Term) (asked : PartArguments) → AreArguments P asked → IsPlain P (sub_atom_answer t asked)
 sub_atom-plain P keeps (VarTerm n) asked h = tt

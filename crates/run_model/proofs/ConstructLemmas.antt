@@ -7,7 +7,7 @@ use Rattle.run_model.specs.Programs.Clauses.{Clause, is_defined}
 use Rattle.run_model.specs.Goals.Outcomes.{Replies, Solutions, AskWorld, alternatives_of}
 use Rattle.run_model.specs.Goals.Control.{construct_of, control_constructs}
 use Rattle.run_model.specs.Goals.Builtins.{builtins}
-use Rattle.run_model.specs.Goals.Worlds.{World, is_world_goal, world_construct_of, dynamic_call, by_world_construct, world_step}
+use Rattle.run_model.specs.Goals.Worlds.{World, static_among, is_world_goal, world_construct_of, dynamic_call, by_world_construct, world_step}
 use Rattle.run_model.specs.Programs.Databases.{clauses_of}
 use Rattle.run_model.specs.Goals.GoalOutcomes.{by_procedure, by_world_goal, by_builtin, by_construct, named_outcome, outcome_of, has_row, is_reserved}
 use Rattle.au_term.proofs.LogicLemmas.{or-left as first_is_false, or-right as second_is_false}
@@ -53,7 +53,7 @@ world_call clauses g next w h =
     let built = construct_of builtins (name_of g) (argument_count g) in
     let asks = is_world_goal (name_of g) (argument_count g) in
     let others : (is_some built || asks) ≡ false = second_is_false (is_some control) (is_some built || asks) h in
-    ap (λ o. by_world_construct o clauses g next w) (none_of (world_construct_of (name_of g) (argument_count g)) (second_is_false (is_some built) asks others))
+    ap (λ o. by_world_construct o (static_among clauses) g next w) (none_of (world_construct_of (name_of g) (argument_count g)) (second_is_false (is_some built) asks others))
 
 -- a goal of the world asks it
 asks_named : (clauses : List Clause) (g : Term) (next : ℕ) → is_some (construct_of control_constructs (name_of g) (argument_count g)) ≡ false → construct_of builtins (name_of g) (argument_count g) ≡ None → is_world_goal (name_of g) (argument_count g) ≡ true

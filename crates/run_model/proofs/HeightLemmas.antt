@@ -11,7 +11,7 @@ use Rattle.run_model.specs.Programs.Databases.{Database, without_clause}
 use Rattle.run_model.specs.Goals.Worlds.{world_step}
 use Rattle.run_model.specs.Goals.Outcomes.{Solution, Reply, Solutions, Ball, HaltNumber, ControlForm, GoesOnWith, EitherOf, TestOf, CutToScope, CatchOf, FindallOf, Outcome, Replies, Controls, AskWorld}
 use Rattle.run_model.specs.Goals.GoalOutcomes.{outcome_of}
-use Rattle.run_model.specs.Machine.Items.{Item, GoalItem, CatchMark, CollectMark, RemovalItem, Continuation, resolve_item, goals_at, with_items, before, with_next, without_marks, first_mark}
+use Rattle.run_model.specs.Machine.Items.{Item, GoalItem, CatchMark, CollectMark, RemovalItem, Continuation, resolve_item, goals_at, with_items, before, removal_items, removing, with_next, without_marks, first_mark}
 use Rattle.run_model.specs.Machine.Entries.{Entry, PlainEntry, CatchEntry, FindallEntry, EndEntry, lowest, unified, solution_entries, with_result, collected}
 use Rattle.run_model.specs.Machine.FreeSteps.{plain_free_step, free_steps_within}
 use Rattle.run_model.specs.Machine.Balls.{taken_by, next_mark, recovered, unwound}
@@ -58,6 +58,10 @@ fall-marks n (GoalItem t l ∷ items) h = h
 fall-marks n (CollectMark t l ∷ items) h = h
 fall-marks n (RemovalItem l ∷ items) h = h
 
+fall-removal : (n : ℕ) (number : Option ℕ) (items : List (Item ℕ)) → HeightsFall n items → HeightsFall n (removal_items number ++ items)
+fall-removal n None items h = h
+fall-removal n (Some k) items h = h
+
 -- solutions, each over the later ones
 unified-fit : (n : ℕ) (o : Option Substitution) (f : Continuation ℕ) (rest es : List Entry) → n ≤ length es → HeightsFall n f.items → FitHeights (rest ++ es) → FitHeights ((unified o f ++ rest) ++ es)
 unified-fit n None f rest es k h r = r
@@ -66,7 +70,8 @@ unified-fit n (Some s) f rest es k h r = (fall-more n (length (rest ++ es)) (ome
 solutions-fit : (n : ℕ) (f : Continuation ℕ) (ss : List Solution) (es : List Entry) → n ≤ length es → HeightsFall n f.items → FitHeights es → FitHeights (solution_entries n f ss ++ es)
 solutions-fit n f [] es k h e = e
 solutions-fit n f (s ∷ ss) es k h e =
-    unified-fit n (unifier s.equations) (with_next (f.next + s.variables) (before (goals_at n s.goals) f)) (solution_entries n f ss) es k (fall-goals n n (omega arith) s.goals f.items h) (solutions-fit n f ss es k h e)
+    unified-fit n (unifier s.equations) (with_next (f.next + s.variables) (before (goals_at n s.goals) (removing s.removes f))) (solution_entries n f ss) es k
+    (fall-goals n n (omega arith) s.goals (removing s.removes f).items (fall-removal n s.removes f.items h)) (solutions-fit n f ss es k h e)
 
 -- balls
 recovery-fit : (o : Option Substitution) (ball r : Term) (f : Continuation ℕ) (es further : List Entry) → HeightsFall (length es) f.items → FitHeights es → FitHeights further → FitHeights (recovered o ball r f es further)

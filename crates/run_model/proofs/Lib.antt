@@ -2,7 +2,8 @@ pub mod RowTerms
 mod FactRows
 mod CutRows
 mod CatchRows
-mod WorldRows
+pub mod WorldRows
+mod WorldGoalRows
 mod OutputRows
 mod DatabaseRows
 mod ArithmeticRows
@@ -14,15 +15,14 @@ mod SortingRows
 pub mod ConstructLemmas
 pub mod FreeStepLemmas
 pub mod StepLemmas
-pub mod OutputLemmas
 pub mod RunLemmas
 pub mod BuiltinRowBoundLemmas
 pub mod BuiltinBoundLemmas
+pub mod WorldGoalBoundLemmas
 pub mod OutcomeBoundLemmas
 pub mod NumberingLemmas
 pub mod HeightLemmas
 pub mod ClauseTrialLemmas
-pub mod PlainEntryLemmas
 pub mod ReservedNameLemmas
 pub mod AnswerBoundLemmas
 pub mod TermPartBoundLemmas

@@ -14,7 +14,7 @@ use Rattle.run_model.specs.Programs.Databases.{Database, without_clause}
 use Rattle.run_model.specs.Goals.Worlds.{world_step}
 use Rattle.run_model.specs.Goals.Outcomes.{Solution, Reply, Solutions, Ball, HaltNumber, ControlForm, GoesOnWith, EitherOf, TestOf, CutToScope, CatchOf, FindallOf, Outcome, Replies, Controls, AskWorld}
 use Rattle.run_model.specs.Goals.GoalOutcomes.{outcome_of}
-use Rattle.run_model.specs.Machine.Items.{Item, GoalItem, CatchMark, CollectMark, RemovalItem, Continuation, resolve_item, resolve_named, resolve_continuation, goals_at, with_items, before, with_next, without_marks, first_mark}
+use Rattle.run_model.specs.Machine.Items.{Item, GoalItem, CatchMark, CollectMark, RemovalItem, Continuation, resolve_item, resolve_named, resolve_continuation, goals_at, with_items, before, removing, with_next, without_marks, first_mark}
 use Rattle.run_model.specs.Machine.Entries.{Entry, PlainEntry, CatchEntry, FindallEntry, EndEntry, unified, solution_entry, solution_entries, with_result, collected}
 use Rattle.run_model.specs.Machine.FreeSteps.{findall_ends, plain_free_step, free_steps_within}
 use Rattle.run_model.specs.Machine.Balls.{taken_by, next_mark, recovered, unwound, is_height}
@@ -60,6 +60,10 @@ next-numbered n f k h = record { items = each-more (AreItemTermsBelow f.next) (A
 goals-numbered : (h : ℕ) (gs : List Term) (f : Continuation ℕ) → AreTermsBelow f.next gs → IsContinuationNumbered f → IsContinuationNumbered (before (goals_at h gs) f)
 goals-numbered h gs f k n = before-numbered (goals_at h gs) f (items-goals f.next h gs k) n
 
+removing-numbered : (number : Option ℕ) (f : Continuation ℕ) → IsContinuationNumbered f → IsContinuationNumbered (removing number f)
+removing-numbered None f n = before-numbered [] f tt n
+removing-numbered (Some k) f n = before-numbered (RemovalItem k ∷ []) f (tt, tt) n
+
 -- solutions
 unified-numbered : (o : Option Substitution) (f : Continuation ℕ) → KeepsBelow f.next o → IsContinuationNumbered f → AreEntriesNumbered (unified o f)
 unified-numbered None f k h = tt
@@ -68,9 +72,10 @@ unified-numbered (Some s) f k h = (resolved-numbered s f k h, tt)
 solution-numbered : (h : ℕ) (f : Continuation ℕ) (s : Solution) → IsSolutionBelow f.next s → IsContinuationNumbered f → AreEntriesNumbered (solution_entry h f s)
 solution-numbered h f s k n =
     let next = f.next + s.variables in
-    let wide : IsContinuationNumbered (with_next next f) = next-numbered next f (omega arith) n in
-    let whole : IsContinuationNumbered (before (goals_at h s.goals) (with_next next f)) = goals-numbered h s.goals (with_next next f) k.1 wide in
-    unified-numbered (unifier s.equations) (with_next next (before (goals_at h s.goals) f)) (unifier_below s.equations next k.0) whole
+    let kept : Continuation ℕ = removing s.removes f in
+    let wide : IsContinuationNumbered (with_next next kept) = next-numbered next kept (omega arith) (removing-numbered s.removes f n) in
+    let whole : IsContinuationNumbered (before (goals_at h s.goals) (with_next next kept)) = goals-numbered h s.goals (with_next next kept) k.1 wide in
+    unified-numbered (unifier s.equations) (with_next next (before (goals_at h s.goals) kept)) (unifier_below s.equations next k.0) whole
 
 pub solutions-numbered : (h : ℕ) (f : Continuation ℕ) (ss : List Solution) → Each (IsSolutionBelow f.next) ss → IsContinuationNumbered f → AreEntriesNumbered (solution_entries h f ss)
 solutions-numbered h f [] k n = tt

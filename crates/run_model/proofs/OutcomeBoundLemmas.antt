@@ -16,14 +16,12 @@ use Rattle.run_model.specs.Goals.Outcomes.{Ball, EitherOf, TestOf, Outcome, clau
 use Rattle.run_model.specs.Goals.Control.{Construct, is_named, construct_of, control_constructs, with_arguments, called, call_outcome, throw_outcome, either_form}
 use Rattle.run_model.specs.Goals.Builtins.{builtins}
 use Rattle.run_model.specs.Programs.Databases.{NumberedClause, clauses_of, plain_clauses}
-use Rattle.run_model.specs.Goals.Worlds.{World, WorldConstruct, world_constructs, is_world_construct, world_construct_of, is_world_goal, dynamic_call, by_world_construct, world_step}
+use Rattle.run_model.specs.Goals.Worlds.{World, WorldConstruct, Statics, static_among, world_constructs, is_world_construct, world_construct_of, is_world_goal, dynamic_call, by_world_construct, world_step}
 use Rattle.run_model.specs.Goals.GoalOutcomes.{by_procedure, by_world_goal, by_builtin, by_construct, named_outcome, outcome_of}
 use Rattle.au_model.proofs.EachLemmas.{IfFound, found_row, each-append, each-map}
 use Rattle.run_model.proofs.BuiltinRowBoundLemmas.{IsSolutionBelow, IsReplyBelow, IsFormBelow, IsOutcomeBelow, IsRowBelow, term-below}
-use Rattle.std.specs.Str.{encode_utf8_all}
-use Rattle.run_model.specs.Goals.AtomGoals.{is_character}
-use Rattle.run_model.specs.Goals.OutputGoals.{bytes_out, character_out, no_character_ball, holds_once}
 use Rattle.run_model.proofs.BuiltinBoundLemmas.{builtins_below}
+use Rattle.run_model.proofs.WorldGoalBoundLemmas.{IsWorldRowBelow, world_rows_below}
 use Rattle.au_model.proofs.VariableBoundLemmas.{AllSeen, all_seen, still_seen, renamed-below}
 
 -- bodies and goals
@@ -260,25 +258,6 @@ outcome-below clauses (AtomTerm a) next h = named-below clauses (AtomTerm a) nex
 outcome-below clauses (Compound f ts) next h = named-below clauses (Compound f ts) next h
 
 -- and any world goal
-abbrev pub IsWorldRowBelow : WorldConstruct → Type 0
-IsWorldRowBelow c = (clauses : List Clause) (ts : Terms) (next : ℕ) (w : World) → count ts ≡ c.arity → all_bound ts ≤ next → IsReplyBelow next ((c.effect clauses ts next w).1)
-
-once-below : (next : ℕ) → IsReplyBelow next holds_once
-once-below next = ((omega arith, tt), tt)
-
-character_out-below : (next : ℕ) (t : Term) (w : World) → IsReplyBelow next (character_out t w).1
-character_out-below next t w = by (is_character t)
-  where
-    by : (b : Bool) → IsReplyBelow next (cond b (bytes_out (encode_utf8_all (name_of t)) w) (w, Ball (no_character_ball t))).1
-    by true = once-below next
-    by false = tt
-
-pub world_rows_below : Each IsWorldRowBelow world_constructs
-world_rows_below = (
-  λ clauses ts next w n h. once-below next,
-  (λ clauses ts next w n h. once-below next, (λ clauses ts next w n h. once-below next, (λ clauses ts next w n h. once-below next, (λ clauses ts next w n h. character_out-below next (term_at 0 ts) w, tt)))),
-)
-
 dynamic-below : (o : Option (List NumberedClause)) (g : Term) (next : ℕ) → IsTermBelow next g → IsReplyBelow next (dynamic_call o g next)
 dynamic-below None g next h = tt
 dynamic-below (Some cs) g next h = alternatives-below (plain_clauses cs) g next h
@@ -290,10 +269,10 @@ world_arity name arity c h = sym (eqb-true c.arity arity (second_true (same_name
     second_true true b k = k
     second_true false b k = cc
 
-world_construct-below : (o : Option WorldConstruct) (clauses : List Clause) (g : Term) (next : ℕ) (w : World) → IfFound (λ c. IsWorldRowBelow c × (is_world_construct (name_of g) (argument_count g) c ≡ true)) o → IsTermBelow next g → IsReplyBelow next ((by_world_construct o clauses g next w).1)
-world_construct-below None clauses g next w r h = dynamic-below (clauses_of w.database (name_of g) (argument_count g)) g next h
-world_construct-below (Some c) clauses g next w r h = r.0 clauses (arguments g) next w (world_arity (name_of g) (argument_count g) c r.1) (arguments-below next g h)
+world_construct-below : (o : Option WorldConstruct) (statics : Statics) (g : Term) (next : ℕ) (w : World) → IfFound (λ c. IsWorldRowBelow c × (is_world_construct (name_of g) (argument_count g) c ≡ true)) o → IsTermBelow next g → IsReplyBelow next ((by_world_construct o statics g next w).1)
+world_construct-below None statics g next w r h = dynamic-below (clauses_of w.database (name_of g) (argument_count g)) g next h
+world_construct-below (Some c) statics g next w r h = r.0 statics (arguments g) next w (world_arity (name_of g) (argument_count g) c r.1) (arguments-below next g h)
 
 pub world-below : (clauses : List Clause) (g : Term) (next : ℕ) (w : World) → IsTermBelow next g → IsReplyBelow next ((world_step clauses g next w).1)
 world-below clauses g next w h =
-    world_construct-below (world_construct_of (name_of g) (argument_count g)) clauses g next w (found_row IsWorldRowBelow (is_world_construct (name_of g) (argument_count g)) world_constructs world_rows_below) h
+    world_construct-below (world_construct_of (name_of g) (argument_count g)) (static_among clauses) g next w (found_row IsWorldRowBelow (is_world_construct (name_of g) (argument_count g)) world_constructs world_rows_below) h

@@ -1,5 +1,5 @@
 -- Answers without new variables, whose equations have what is asked for on the left and a term without variables on the right.
-use Rattle.std.proofs.Common.{◌≡◌, ℕ, ◌≤◌, Bool, true, false, cond, List, [], ◌∷◌, map, length, Ok, Err, refl, ap₂, arith}
+use Rattle.std.proofs.Common.{◌≡◌, ℕ, ◌≤◌, Bool, true, false, cond, List, [], ◌∷◌, map, length, Ok, Err, None, refl, ap₂, arith}
 use Rattle.au_term.specs.Term.{Term, VarTerm, IntTerm, AtomTerm, Compound, Terms, end, more, all_bound, var_bound}
 use Rattle.au_model.specs.Terms.Each.{Each}
 use Rattle.au_model.specs.Terms.Forms.{list_term}
@@ -18,6 +18,7 @@ IsGround t = var_bound t ≡ 0
 pub record IsPlainSolution (P : Term → Type 0) (s : Solution) : Type 0 where
   pub few : length s.equations ≤ 2
   pub none : s.goals ≡ []
+  pub kept : s.removes ≡ None
   pub taken : s.variables ≡ 0
   pub sides : Each (λ e. P e.0 × IsGround e.1) s.equations
 
@@ -26,7 +27,7 @@ IsPlain P (Ok solutions) = Each (IsPlainSolution P) solutions
 IsPlain P (Err e) = Unit {0}
 
 pub equal-plain : (P : Term → Type 0) (a b : Term) → P a → IsGround b → IsPlain P (equal a b)
-equal-plain P a b h k = (record { few = omega arith; none = refl; taken = refl; sides = ((h, k), tt) }, tt)
+equal-plain P a b h k = (record { few = omega arith; none = refl; kept = refl; taken = refl; sides = ((h, k), tt) }, tt)
 
 either-plain : (P : Term → Type 0) (b : Bool) (a : Answer) (e : Term) → IsPlain P a → IsPlain P (cond b a (Err e))
 either-plain P true a e h = h

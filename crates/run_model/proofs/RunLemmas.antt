@@ -1,14 +1,23 @@
 -- The run, inference by inference.
-use Rattle.std.proofs.Common.{Bool, cond, true, false, ◌≡◌, ◌≢◌, ◌⊎◌, inl, inr, ℕ, zero, suc, ◌+◌, ◌≤◌, List, [], ◌∷◌, ◌++◌, Option, Some, None, refl, sym, ap, ◌∙◌, subst, arith, append_assoc, append-nil}
+use Rattle.std.proofs.Common.{Bool, cond, true, false, ◌≡◌, ◌≢◌, ◌⊎◌, inl, inr, ℕ, zero, suc, ◌+◌, ◌≤◌, List, [], ◌∷◌, ◌++◌, map, Option, Some, None, Result, Ok, Err, refl, sym, ap, ◌∙◌, subst, arith, append_assoc, append-nil}
+use Rattle.std.specs.Prelude.{codes}
 use Rattle.std.specs.Str.{encode_utf8_all}
 use Rattle.au_term.specs.Term.{Term, Terms, term_at, arguments, argument_count}
 use Rattle.run_model.specs.Goals.AtomGoals.{is_character}
-use Rattle.run_model.specs.Goals.OutputGoals.{bytes_out, character_out, no_character_ball}
+use Rattle.run_model.specs.Goals.OutputGoals.{output_goals, bytes_out, character_out, no_character_ball}
+use Rattle.run_model.specs.Goals.DatabaseGoals.{database_goals, head_in, body_in, assertion_error, with_clause_by, asserted, clause_match, each_clause, clauses_for, clause_error, clause_found, retraction_error, retracted, number_in, indicator_error, abolished}
+use Rattle.run_model.specs.Goals.OperatorGoals.{operator_goals, operators_left, operator_error, operator_solution, current_operators}
+use Rattle.run_model.specs.Goals.HaltGoals.{halt_goals, status_error, halted_by}
+use Rattle.run_model.specs.Goals.WorldConstructs.{holds_once, unless_raised}
+use Rattle.au_model.specs.Syntax.Operators.{OperatorTable}
+use Rattle.au_model.specs.Syntax.OperatorChanges.{operators_changed}
 use Rattle.au_model.specs.Terms.Forms.{name_of}
 use Rattle.run_model.specs.declared.ending.RunEnding.TheVariants.{Budget}
 use Rattle.run_model.specs.Programs.Clauses.{Clause}
 use Rattle.run_model.specs.Programs.Databases.{Database, without_clause}
-use Rattle.run_model.specs.Goals.Worlds.{World, WorldConstruct, world_constructs, is_world_construct, world_construct_of, by_world_construct, world_step}
+use Rattle.run_model.specs.Programs.DatabaseChanges.{with_first_clause, with_last_clause, without_procedure}
+use Rattle.run_model.specs.Programs.Bodies.{body_of}
+use Rattle.run_model.specs.Goals.Worlds.{World, WorldConstruct, Statics, static_among, world_constructs, is_world_construct, world_construct_of, by_world_construct, world_step}
 use Rattle.run_model.specs.Goals.Outcomes.{Reply, Solutions, Ball, HaltNumber, Outcome, Replies, Controls, AskWorld}
 use Rattle.run_model.specs.Machine.Heights.{after_control}
 use Rattle.run_model.specs.Goals.GoalOutcomes.{outcome_of}
@@ -22,7 +31,7 @@ use Rattle.run_model.specs.Laws.RunLaws.{IsPrefixOf, IsStopped, EndedRunStays, T
 use Rattle.run_model.proofs.FreeStepLemmas.{all_settle}
 use Rattle.run_model.proofs.StepLemmas.{step_is, seq-zero, seq-suc}
 use Rattle.au_model.specs.Terms.Each.{Each}
-use Rattle.au_model.proofs.EachLemmas.{IfFound, found_row}
+use Rattle.au_model.proofs.EachLemmas.{IfFound, found_row, each-append}
 
 -- an ended run stays
 ended_step : (clauses : List Clause) (st : State) → st.entries ≡ [] → with_free_steps (step clauses st) ≡ st
@@ -45,7 +54,7 @@ front_front {a} h k = record { rest = h.rest ++ k.rest; joined = k.joined ∙ (a
 
 -- a goal that looks at the world or changes it writes after what is written
 abbrev pub Writes : WorldConstruct → Type 0
-Writes c = (clauses : List Clause) (ts : Terms) (next : ℕ) (w : World) → IsPrefixOf w.written ((c.effect clauses ts next w).0).written
+Writes c = (statics : Statics) (ts : Terms) (next : ℕ) (w : World) → IsPrefixOf w.written ((c.effect statics ts next w).0).written
 
 character_grows : (t : Term) (w : World) → IsPrefixOf w.written (character_out t w).0.written
 character_grows t w = by (is_character t)
@@ -54,22 +63,80 @@ character_grows t w = by (is_character t)
     by true = record { rest = _; joined = refl }
     by false = front_same w.written
 
-pub all_write : Each Writes world_constructs
-all_write = (
-  λ clauses ts next w. record { rest = _; joined = refl },
+raised_grows : (name : List ℕ) (arity : ℕ) (w : World) (o : Option Term) (r : World × Reply) → IsPrefixOf w.written r.0.written → IsPrefixOf w.written (unless_raised name arity w o r).0.written
+raised_grows name arity w (Some e) r h = front_same w.written
+raised_grows name arity w None r h = h
+
+left_grows : (w : World) (r : Result OperatorTable Term) → IsPrefixOf w.written (operators_left r w).0.written
+left_grows w (Ok t) = front_same w.written
+left_grows w (Err e) = front_same w.written
+
+output_write : Each Writes output_goals
+output_write = (
+  λ statics ts next w. record { rest = _; joined = refl },
   (
-    λ clauses ts next w. record { rest = _; joined = refl },
-    (λ clauses ts next w. record { rest = _; joined = refl }, (λ clauses ts next w. record { rest = _; joined = refl }, (λ clauses ts next w. character_grows (term_at 0 ts) w, tt))),
+    λ statics ts next w. record { rest = _; joined = refl },
+    (λ statics ts next w. record { rest = _; joined = refl }, (λ statics ts next w. record { rest = _; joined = refl }, (λ statics ts next w. character_grows (term_at 0 ts) w, tt))),
   ),
 )
 
-found_grows : (name : List ℕ) (arity : ℕ) (o : Option WorldConstruct) → IfFound (λ c. Writes c × (is_world_construct name arity c ≡ true)) o → (clauses : List Clause) (goal : Term) (next : ℕ) (w : World) → IsPrefixOf w.written ((by_world_construct o clauses goal next w).0).written
-found_grows name arity None h clauses goal next w = front_same w.written
-found_grows name arity (Some c) h clauses goal next w = h.0 clauses (arguments goal) next w
+asserted_grows : (add : Database → Clause → Database) (name : List ℕ) (statics : Statics) (t : Term) (w : World) → IsPrefixOf w.written (asserted add name statics t w).0.written
+asserted_grows add name statics t w =
+    raised_grows name 1 w (assertion_error statics (head_in t) (body_in t)) (record w { database = with_clause_by add (head_in t) (body_of (body_in t)) w.database }, holds_once) (front_same w.written)
+
+retracted_grows : (statics : Statics) (t : Term) (next : ℕ) (w : World) → IsPrefixOf w.written (retracted statics t next w).0.written
+retracted_grows statics t next w =
+    raised_grows (codes "retract") 1 w (retraction_error statics (head_in t)) (w, each_clause (λ c. clause_match (Some c.number) (head_in t) (body_in t) next c.clause) (clauses_for (head_in t) w)) (front_same w.written)
+
+abolished_grows : (statics : Statics) (t : Term) (w : World) → IsPrefixOf w.written (abolished statics t w).0.written
+abolished_grows statics t w =
+    let name = term_at 0 (arguments t) in
+    let arity = term_at 1 (arguments t) in
+    raised_grows (codes "abolish") 1 w (indicator_error statics t name arity) (record w { database = without_procedure w.database (name_of name) (number_in arity) }, holds_once) (front_same w.written)
+
+found_clause_grows : (statics : Statics) (head body : Term) (next : ℕ) (w : World) → IsPrefixOf w.written (clause_found statics head body next w).0.written
+found_clause_grows statics head body next w =
+    raised_grows (codes "clause") 2 w (clause_error statics head body) (w, each_clause (λ c. clause_match None head body next c.clause) (clauses_for head w)) (front_same w.written)
+
+current_grows : (p t n : Term) (w : World) → IsPrefixOf w.written (current_operators p t n w).0.written
+current_grows p t n w = raised_grows (codes "current_op") 3 w (operator_error p t n) (w, Solutions (map (operator_solution p t n) w.operators)) (front_same w.written)
+
+halted_grows : (t : Term) (w : World) → IsPrefixOf w.written (halted_by t w).0.written
+halted_grows t w = raised_grows (codes "halt") 1 w (status_error t) (w, HaltNumber (number_in t)) (front_same w.written)
+
+database_write : Each Writes database_goals
+database_write = (
+  λ statics ts next w. asserted_grows with_first_clause (codes "asserta") statics (term_at 0 ts) w,
+  (
+    λ statics ts next w. asserted_grows with_last_clause (codes "assertz") statics (term_at 0 ts) w,
+    (
+      λ statics ts next w. retracted_grows statics (term_at 0 ts) next w,
+      (λ statics ts next w. abolished_grows statics (term_at 0 ts) w, (λ statics ts next w. found_clause_grows statics (term_at 0 ts) (term_at 1 ts) next w, tt)),
+    ),
+  ),
+)
+
+operator_write : Each Writes operator_goals
+operator_write = (
+  λ statics ts next w. left_grows w (operators_changed w.operators (term_at 0 ts) (term_at 1 ts) (term_at 2 ts)),
+  (λ statics ts next w. current_grows (term_at 0 ts) (term_at 1 ts) (term_at 2 ts) w, tt),
+)
+
+halt_write : Each Writes halt_goals
+halt_write = (λ statics ts next w. front_same w.written, (λ statics ts next w. halted_grows (term_at 0 ts) w, tt))
+
+pub all_write : Each Writes world_constructs
+all_write =
+    each-append Writes output_goals (database_goals ++ (operator_goals ++ halt_goals)) output_write
+    (each-append Writes database_goals (operator_goals ++ halt_goals) database_write (each-append Writes operator_goals halt_goals operator_write halt_write))
+
+found_grows : (name : List ℕ) (arity : ℕ) (o : Option WorldConstruct) → IfFound (λ c. Writes c × (is_world_construct name arity c ≡ true)) o → (statics : Statics) (goal : Term) (next : ℕ) (w : World) → IsPrefixOf w.written ((by_world_construct o statics goal next w).0).written
+found_grows name arity None h statics goal next w = front_same w.written
+found_grows name arity (Some c) h statics goal next w = h.0 statics (arguments goal) next w
 
 world_grows : (clauses : List Clause) (goal : Term) (next : ℕ) (w : World) → IsPrefixOf w.written ((world_step clauses goal next w).0).written
 world_grows clauses goal next w =
-    found_grows (name_of goal) (argument_count goal) (world_construct_of (name_of goal) (argument_count goal)) (found_row Writes (is_world_construct (name_of goal) (argument_count goal)) world_constructs all_write) clauses goal next w
+    found_grows (name_of goal) (argument_count goal) (world_construct_of (name_of goal) (argument_count goal)) (found_row Writes (is_world_construct (name_of goal) (argument_count goal)) world_constructs all_write) (static_among clauses) goal next w
 
 goal_grows : (clauses : List Clause) (o : Outcome) (h : ℕ) (f : Continuation ℕ) (es : List Entry) (st : State) → IsPrefixOf st.world.written (goal_taken clauses o h f es st).world.written
 goal_grows clauses (Replies r) h f es st = front_same st.world.written

@@ -1,5 +1,5 @@
 -- Worked rows: goals that tell, compare, make and take apart terms.
-use Rattle.std.specs.Prelude.{◌≡◌, true, false, negsuc, [], ◌∷◌, codes, refl, Ok, Err}
+use Rattle.std.specs.Prelude.{◌≡◌, true, false, negsuc, [], ◌∷◌, codes, refl, Ok, Err, None}
 use Rattle.std.specs.declared.cmp.Ordering.TheVariants.{Less, Equal}
 use Rattle.au_term.specs.Term.{Term, VarTerm, IntTerm, Compound, end, more}
 use Rattle.au_model.specs.Terms.Forms.{unary, binary, list_term}
@@ -27,7 +27,7 @@ told = (refl, refl, refl)
 
 functors : (functor_answer (f X) Y Z 5 ≡ one_solution ((Y, atom (codes "f")) ∷ (Z, int 1) ∷ []))
     × (functor_answer (int 7) Y Z 5 ≡ one_solution ((Y, int 7) ∷ (Z, int 0) ∷ []))
-    × (functor_answer X (atom (codes "g")) (int 2) 5 ≡ Ok (record { equations = (X, binary (codes "g") (VarTerm 5) (VarTerm 6)) ∷ []; goals = []; variables = 2 } ∷ []))
+    × (functor_answer X (atom (codes "g")) (int 2) 5 ≡ Ok (record { equations = (X, binary (codes "g") (VarTerm 5) (VarTerm 6)) ∷ []; goals = []; removes = None; variables = 2 } ∷ []))
     × (functor_answer X (int 7) (int 0) 5 ≡ equal X (int 7))
     × (functor_answer X Y (int 1) 5 ≡ Err instantiation_error)
     × (functor_answer X (f Y) Z 5 ≡ Err instantiation_error)
@@ -68,7 +68,7 @@ univs : (parts_answer (f X) Y ≡ equal Y (list_term (atom (codes "f") ∷ X ∷
 univs = (refl, refl, refl, refl, refl, refl, refl, refl, refl, refl, refl)
 
 -- copy_term(f(X, Y, X), Z) at the next number 3
-copies : copy_answer (Compound (codes "f") (more X (more Y (more X end)))) Z 3 ≡ Ok (record { equations = (Z, Compound (codes "f") (more (VarTerm 3) (more (VarTerm 4) (more (VarTerm 3) end)))) ∷ []; goals = []; variables = 2 } ∷ [])
+copies : copy_answer (Compound (codes "f") (more X (more Y (more X end)))) Z 3 ≡ Ok (record { equations = (Z, Compound (codes "f") (more (VarTerm 3) (more (VarTerm 4) (more (VarTerm 3) end)))) ∷ []; goals = []; removes = None; variables = 2 } ∷ [])
 copies = refl
 
 -- X is 1 // 0

@@ -7,7 +7,7 @@ use Rattle.run_model.specs.Programs.Jobs.{Job}
 use Rattle.run_model.proofs.RowTerms.{int, X, fact, two_facts, only_x, asked, lines, shown}
 
 -- c(1). c(2). as a dynamic procedure, and d/1 without clauses
-abbrev kept : Database
+abbrev pub kept : Database
 kept = record {
   procedures =
       (record { name = codes "c"; arity = 1; clauses = (record { number = 0; clause = fact (unary (codes "c") (int 1)) }) ∷ (record { number = 1; clause = fact (unary (codes "c") (int 2)) }) ∷ [] })

@@ -16,5 +16,8 @@ pub mod Sorting
 pub mod Builtins
 pub mod WorldConstructs
 pub mod OutputGoals
+pub mod DatabaseGoals
+pub mod OperatorGoals
+pub mod HaltGoals
 pub mod Worlds
 pub mod GoalOutcomes

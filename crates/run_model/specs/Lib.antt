@@ -23,6 +23,9 @@ pub mod Programs
 --   Builtins          the table of built-in predicates
 --   WorldConstructs   the world that the goals share
 --   OutputGoals       goals that write
+--   DatabaseGoals     goals on dynamic procedures
+--   OperatorGoals     goals on operators
+--   HaltGoals         goals that end the run
 --   Worlds            the table of goals that look at the world or change it
 --   GoalOutcomes      the table of all goals
 pub mod Goals

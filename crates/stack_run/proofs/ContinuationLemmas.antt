@@ -1,5 +1,5 @@
 -- Continuations over a store as it goes on.
-use Rattle.std.proofs.Common.{◌≡◌, ℕ, suc, ◌+◌, List, [], ◌∷◌, ◌++◌, length, map, reverse, Option, Some, refl, sym, ap, ◌∙◌, subst, length-append, arith}
+use Rattle.std.proofs.Common.{◌≡◌, ℕ, suc, ◌+◌, List, [], ◌∷◌, ◌++◌, length, map, reverse, Option, Some, None, refl, sym, ap, ◌∙◌, subst, length-append, arith}
 use Rattle.std.proofs.lemmas.List.{map-append, length-reverse}
 use Rattle.au_term.specs.Term.{Term}
 use Rattle.au_model.specs.Terms.Each.{Each}
@@ -7,7 +7,7 @@ use Rattle.au_model.specs.Terms.Named.{NamedTerm}
 use Rattle.au_model.specs.Terms.Substitutions.{Substitution, value_of, resolve}
 use Rattle.au_model.proofs.ApplyLemmas.{apply-same}
 use Rattle.run_model.specs.Goals.Outcomes.{Solution}
-use Rattle.run_model.specs.Machine.Items.{GoalItem, CollectMark, resolve_item, resolve_named, resolve_continuation, goals_at, before, with_next}
+use Rattle.run_model.specs.Machine.Items.{Item as ItemTerms, GoalItem, CollectMark, RemovalItem, resolve_item, resolve_named, resolve_continuation, goals_at, before, removal_items, removing, with_next}
 use Rattle.run_model.specs.Machine.Entries.{PlainEntry, EndEntry, unified, solution_entry, solution_entries}
 use Rattle.run_model.specs.Machine.Heights.{goals_entry}
 use Rattle.clause_compile.specs.CompiledClauses.{goal_items}
@@ -18,7 +18,7 @@ use Rattle.clause_compile.specs.declared.event.Branch.{Branch as BranchTerms}
 use Rattle.bind_store.specs.FurtherBindings.{IsSame, IsComposition}
 use Rattle.bind_store.specs.StoreView.{StoreView, IsValidStore, substitution, with_numbers, with_bindings, with_segment, mark_of}
 use Rattle.bind_store.proofs.FurtherBindingLemmas.{composition_applies}
-use Rattle.engine_core.specs.Branches.{IsItemBelow, HasGoalsBefore, TakesNumbers, IsBranchOf, AreSolved, none_left, one_fails, one_solves, GoesOnPlainly}
+use Rattle.engine_core.specs.Branches.{IsItemBelow, IsRemovalBefore, HasGoalsBefore, TakesNumbers, IsBranchOf, AreSolved, none_left, one_fails, one_solves, GoesOnPlainly}
 use Rattle.stack_run.specs.StackView.{item_view, items_view, continuation_view, frames_view, end_view, entries_under, scope_height}
 use Rattle.stack_run.specs.StackInvariant.{IsChoiceFit, AreFit}
 use Rattle.stack_run.specs.ChoicePoints.{branch_frame}
@@ -89,6 +89,15 @@ goals_resolved : (s : Substitution) (h : ℕ) (gs : List Term) → goals_at h (m
 goals_resolved s h [] = refl
 goals_resolved s h (g ∷ gs) = ap (λ is. GoalItem (resolve s g) h ∷ is) (goals_resolved s h gs)
 
+-- the removal of a clause stands for itself
+removed_view : (now : Substitution) (number : Option ℕ) (rest after : List Item) → IsRemovalBefore number rest after → map (item_view now) after ≡ removal_items number ++ map (item_view now) rest
+removed_view now None rest after h = ap (map (item_view now)) h
+removed_view now (Some n) rest after (id, e, h) = ap (map (item_view now)) h ∙ ap (λ m. RemovalItem m ∷ map (item_view now) rest) e
+
+removal_resolved : (s : Substitution) (number : Option ℕ) (items : List (ItemTerms ℕ)) → removal_items number ++ map (resolve_item s) items ≡ map (resolve_item s) (removal_items number ++ items)
+removal_resolved s None items = refl
+removal_resolved s (Some n) items = refl
+
 -- the branch of a solution
 pub solved_entry : (own : List NamedTerm) (here : Scope) (rest : List Item) (st : StoreView) (s : Solution) (b : BranchTerms) → IsBranchOf here rest st s b
     → branch_entry own st b ∷ [] ≡ solution_entry (scope_height here) (continuation_view own st rest) s
@@ -96,15 +105,19 @@ solved_entry own here rest st s b h =
     let S = h.further in
     let now = substitution (with_segment b.segment st) in
     let sum : st.next + b.segment.vars ≡ st.next + s.variables = ap (λ n. st.next + n) h.takes.vars in
-    let items : map (item_view now) b.goals ≡ map (resolve_item S) (goals_at (scope_height here) s.goals ++ items_view st rest) =
-    stands_view now here (map (resolve S) s.goals) rest b.goals h.goals
-    ∙ (ap (λ is. is ++ map (item_view now) rest) (goals_resolved S (scope_height here) s.goals)
-    ∙ (ap (λ is. map (resolve_item S) (goals_at (scope_height here) s.goals) ++ is) (items_resolved (substitution st) S now h.bound rest)
-    ∙ sym (map-append (resolve_item S) (goals_at (scope_height here) s.goals) (items_view st rest)))) in
+    let left : List (ItemTerms ℕ) = removal_items s.removes ++ items_view st rest in
+    let tail : map (item_view now) h.after ≡ map (resolve_item S) left =
+    removed_view now s.removes rest h.after h.removes
+    ∙ (ap (λ is. removal_items s.removes ++ is) (items_resolved (substitution st) S now h.bound rest) ∙ removal_resolved S s.removes (items_view st rest)) in
+    let items : map (item_view now) b.goals ≡ map (resolve_item S) (goals_at (scope_height here) s.goals ++ left) =
+    stands_view now here (map (resolve S) s.goals) h.after b.goals h.goals
+    ∙ (ap (λ is. is ++ map (item_view now) h.after) (goals_resolved S (scope_height here) s.goals)
+    ∙ (ap (λ is. map (resolve_item S) (goals_at (scope_height here) s.goals) ++ is) tail
+    ∙ sym (map-append (resolve_item S) (goals_at (scope_height here) s.goals) left))) in
     ap (λ is. PlainEntry (record { items = is; named = map (resolve_named now) own; next = st.next + b.segment.vars }) ∷ []) items
-    ∙ (ap (λ vs. PlainEntry (record { items = map (resolve_item S) (goals_at (scope_height here) s.goals ++ items_view st rest); named = vs; next = st.next + b.segment.vars }) ∷ []) (named_resolved (substitution st) S now h.bound own)
-    ∙ (ap (λ n. PlainEntry (record { items = map (resolve_item S) (goals_at (scope_height here) s.goals ++ items_view st rest); named = map (resolve_named S) (map (resolve_named (substitution st)) own); next = n }) ∷ []) sum
-    ∙ ap (λ o. unified o (with_next (st.next + s.variables) (before (goals_at (scope_height here) s.goals) (continuation_view own st rest)))) (sym h.unified)))
+    ∙ (ap (λ vs. PlainEntry (record { items = map (resolve_item S) (goals_at (scope_height here) s.goals ++ left); named = vs; next = st.next + b.segment.vars }) ∷ []) (named_resolved (substitution st) S now h.bound own)
+    ∙ (ap (λ n. PlainEntry (record { items = map (resolve_item S) (goals_at (scope_height here) s.goals ++ left); named = map (resolve_named S) (map (resolve_named (substitution st)) own); next = n }) ∷ []) sum
+    ∙ ap (λ o. unified o (with_next (st.next + s.variables) (before (goals_at (scope_height here) s.goals) (removing s.removes (continuation_view own st rest))))) (sym h.unified)))
 
 pub solved_entries : (own : List NamedTerm) (here : Scope) (rest : List Item) (st : StoreView) (ss : List Solution) (bs : List BranchTerms) → AreSolved here rest st ss bs
     → map (branch_entry own st) bs ≡ solution_entries (scope_height here) (continuation_view own st rest) ss
@@ -112,7 +125,7 @@ solved_entries own here rest st [] [] none_left = refl
 solved_entries own here rest st [] (b ∷ bs) x = elim x [ ]
 solved_entries own here rest st (s ∷ ss) bs (one_fails e h) =
     let f = continuation_view own st rest in
-    solved_entries own here rest st ss bs h ∙ ap (λ o. unified o (with_next (f.next + s.variables) (before (goals_at (scope_height here) s.goals) f)) ++ solution_entries (scope_height here) f ss) (sym e)
+    solved_entries own here rest st ss bs h ∙ ap (λ o. unified o (with_next (f.next + s.variables) (before (goals_at (scope_height here) s.goals) (removing s.removes f))) ++ solution_entries (scope_height here) f ss) (sym e)
 solved_entries own here rest st (s ∷ ss) (b ∷ bs) (one_solves e h) =
     ap (λ es. branch_entry own st b ∷ es) (solved_entries own here rest st ss bs h) ∙ ap (λ es. es ++ solution_entries (scope_height here) (continuation_view own st rest) ss) (solved_entry own here rest st s b e)
 

@@ -5,9 +5,12 @@ pub mod FreeStepLemmas
 pub mod ResumptionLemmas
 pub mod ContinuationLemmas
 pub mod UnwindingLemmas
-pub mod UnnamedGoalLemmas
 pub mod InferenceLemmas
 pub mod EffectLemmas
+pub mod AskedGoalLemmas
+pub mod WorldFrontLemmas
+pub mod FoundLemmas
+pub mod RowLemmas
 pub mod ReductionLemmas
 pub mod StepLemmas
 pub mod RunLemmas

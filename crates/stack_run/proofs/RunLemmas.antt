@@ -1,36 +1,121 @@
 -- A run so far, and how it ends.
-use Rattle.std.proofs.Common.{◌≡◌, ℕ, ◌+◌, ◌-◌, ◌<◌, ◌≤◌, List, [], ◌∷◌, ◌++◌, length, take, min, Option, Some, None, true, false, refl, sym, ap, ◌∙◌, subst, reverse, is_some, append_assoc, append-nil, length-append, arith}
+use Rattle.std.proofs.Common.{◌≡◌, ℕ, zero, suc, ◌||◌, Vec, Global, ◌+◌, ◌-◌, ◌<◌, ◌≤◌, List, [], ◌∷◌, ◌++◌, length, take, min, Option, Some, None, true, false, refl, sym, ap, ◌∙◌, subst, reverse, is_some, append_assoc, append-nil, length-append, arith}
 use Rattle.std.proofs.Math.Seq.{take-append_seam, take-append-add}
 use Rattle.std.proofs.lemmas.List.{take-append-le, take_min}
-use Rattle.run_model.specs.declared.ending.RunEnding.TheVariants.{Finished, Budget, WriteFault, NoMemory}
-use Rattle.run_model.specs.Machine.Entries.{Entry}
+use Rattle.run_model.specs.declared.ending.RunEnding.{RunEnding}
+use Rattle.run_model.specs.declared.ending.RunEnding.TheVariants.{Budget, WriteFault, NoMemory}
+use Rattle.run_model.specs.Machine.Entries.{Entry, PlainEntry, CatchEntry, FindallEntry, EndEntry}
 use Rattle.run_model.specs.Programs.Jobs.{Job}
-use Rattle.run_model.specs.Machine.States.{State, step, with_free_steps, opening}
+use Rattle.run_model.specs.Machine.States.{State, halt_number, goal_taken, removal_taken, item_taken, entry_taken, step, with_free_steps, opening}
 use Rattle.run_model.specs.Machine.Runs.{seq, text_of, ending_by, answers_of}
 use Rattle.run_model.proofs.RunLemmas.{ended_run_stays, text_grows, is_stopped}
 use Rattle.au_io.specs.FaultCounts.{Appended, AppendedPrefix}
 use Rattle.std.specs.Arc.{arc_value}
-use Rattle.run_model.proofs.StepLemmas.{seq-zero, seq-next}
-use Rattle.text_load.specs.JobView.{job_meant}
-use Rattle.text_load.specs.declared.job.Job.{Job as KeptJob}
+use Rattle.run_model.proofs.StepLemmas.{seq-zero, seq-suc, seq-next}
+use Rattle.std.proofs.Math.Path.{fun_ext}
+use Rattle.text_load.specs.JobView.{AreStatics, HasParts}
+use Rattle.text_load.specs.declared.job.JobParts.{JobParts}
+use Rattle.dyn_clauses.specs.DatabaseView.{is_static}
+use Rattle.effect_gate.specs.Effects.{statics_of}
+use Rattle.effect_gate.specs.declared.world.World.{World as KeptWorld}
+use Rattle.run_model.specs.Programs.Clauses.{Clause, is_defined}
+use Rattle.run_model.specs.Programs.Databases.{Database, without_clause}
+use Rattle.run_model.specs.Goals.Worlds.{is_reserved, world_step}
+use Rattle.run_model.specs.Goals.Outcomes.{Reply, Solutions, Ball, HaltNumber, Outcome, Replies, Controls, AskWorld}
+use Rattle.run_model.specs.Goals.GoalOutcomes.{outcome_of}
+use Rattle.run_model.specs.Machine.Heights.{after_reply}
+use Rattle.run_model.specs.Machine.Items.{Item, GoalItem, CatchMark, CollectMark, RemovalItem, Continuation, with_items}
+use Rattle.run_model.specs.Machine.FreeSteps.{take_free_steps}
+use Rattle.au_model.specs.Terms.Named.{NamedTerm}
+use Rattle.stack_run.specs.declared.frame.Program.{Program}
 use Rattle.stack_run.specs.declared.frame.Machine.{Machine}
 use Rattle.stack_run.specs.declared.frame.QueryEnd.{QueryEnd}
 use Rattle.stack_run.specs.declared.frame.Stack.{Stack}
 use Rattle.stack_run.specs.Inferences.{HasEnd}
-use Rattle.stack_run.specs.MachineView.{state_view, own_asked, IsReady}
+use Rattle.stack_run.specs.MachineView.{stack_state, state_view, own_asked, HasStatics, IsReady}
 use Rattle.stack_run.specs.StackView.{stack_view, current_view, entries_under, frames_view, end_view}
-use Rattle.stack_run.specs.RunEnds.{IsRun}
+use Rattle.stack_run.specs.RunEnds.{IsRun, IsRunBy, IsWholeRun}
 
--- after so many inferences the machine stands for the state of the run, whose text was written
-pub record IsRunning (job : KeptJob) (m : Machine) (taken : ℕ) (before now : Option (List ℕ)) (faults_before faults_now : ℕ) : Type 0 where
-  pub state : state_view job m (text_of (job_meant job) taken) taken ≡ seq (job_meant job) taken
-  pub bytes : Appended before now (text_of (job_meant job) taken)
+-- a run that was halted has nothing left
+abbrev IsEmptyIfHalted : Option ℕ → List Entry → Type 0
+IsEmptyIfHalted None es = Unit {0}
+IsEmptyIfHalted (Some k) es = es ≡ []
+
+reply_empties : (r : Reply) (f : Continuation ℕ) (es : List Entry) → IsEmptyIfHalted (halt_number r) (after_reply r f es)
+reply_empties (Solutions ss) f es = tt
+reply_empties (Ball b) f es = tt
+reply_empties (HaltNumber k) f es = refl
+
+still_empty : (o : Option ℕ) (e : Entry) (es new : List Entry) → IsEmptyIfHalted o (e ∷ es) → IsEmptyIfHalted o new
+still_empty None e es new h = tt
+still_empty (Some k) e es new h = cc
+
+goal_empties : (clauses : List Clause) (o : Outcome) (h : ℕ) (f : Continuation ℕ) (e : Entry) (es : List Entry) (st : State) → IsEmptyIfHalted st.halted (e ∷ es) → IsEmptyIfHalted (goal_taken clauses o h f es st).halted (goal_taken clauses o h f es st).entries
+goal_empties clauses (Replies r) h f e es st k = reply_empties r f es
+goal_empties clauses (Controls form) h f e es st k = still_empty st.halted e es _ k
+goal_empties clauses (AskWorld goal) h f e es st k = reply_empties (world_step clauses goal f.next st.world).1 f es
+
+removal_empties : (o : Option Database) (f : Continuation ℕ) (e : Entry) (es : List Entry) (st : State) → IsEmptyIfHalted st.halted (e ∷ es) → IsEmptyIfHalted (removal_taken o f es st).halted (removal_taken o f es st).entries
+removal_empties (Some db) f e es st k = still_empty st.halted e es _ k
+removal_empties None f e es st k = still_empty st.halted e es _ k
+
+item_empties : (clauses : List Clause) (items : List (Item ℕ)) (f : Continuation ℕ) (e : Entry) (es : List Entry) (st : State) → st.entries ≡ e ∷ es → IsEmptyIfHalted st.halted (e ∷ es) → IsEmptyIfHalted (item_taken clauses items f es st).halted (item_taken clauses items f es st).entries
+item_empties clauses [] f e es st s k = still_empty st.halted e es _ k
+item_empties clauses (GoalItem g h ∷ items) f e es st s k = goal_empties clauses (outcome_of clauses g f.next) h (with_items items f) e es st k
+item_empties clauses (RemovalItem n ∷ items) f e es st s k = removal_empties (without_clause n st.world.database) (with_items items f) e es st k
+item_empties clauses (CatchMark h ∷ items) f e es st s k = still_empty st.halted e es _ k
+item_empties clauses (CollectMark t h ∷ items) f e es st s k = still_empty st.halted e es _ k
+
+entry_empties : (clauses : List Clause) (all : List Entry) (st : State) → st.entries ≡ all → IsEmptyIfHalted st.halted all → IsEmptyIfHalted (entry_taken clauses all st).halted (entry_taken clauses all st).entries
+entry_empties clauses [] st s k = subst (IsEmptyIfHalted st.halted) (sym s) k
+entry_empties clauses (PlainEntry f ∷ es) st s k = item_empties clauses f.items f (PlainEntry f) es st s k
+entry_empties clauses (EndEntry b ∷ es) st s k = still_empty st.halted (EndEntry b) es _ k
+entry_empties clauses (CatchEntry c r f ∷ es) st s k = still_empty st.halted (CatchEntry c r f) es _ k
+entry_empties clauses (FindallEntry results l f ∷ es) st s k = still_empty st.halted (FindallEntry results l f) es _ k
+
+free_empties : (o : Option ℕ) (es : List Entry) → IsEmptyIfHalted o es → IsEmptyIfHalted o (take_free_steps es)
+free_empties None es h = tt
+free_empties (Some k) es h = ap take_free_steps h
+
+step_empties : (clauses : List Clause) (st : State) → IsEmptyIfHalted st.halted st.entries → IsEmptyIfHalted (step clauses st).halted (step clauses st).entries
+unfolding step
+step_empties clauses st h = entry_empties clauses st.entries st refl h
+
+halts_empty : (job : Job) (n : ℕ) → IsEmptyIfHalted (seq job n).halted (seq job n).entries
+halts_empty job zero = subst (λ (st : State). IsEmptyIfHalted st.halted st.entries) (sym (seq-zero job)) tt
+halts_empty job (suc n) =
+    let next = free_empties (step job.clauses (seq job n)).halted (step job.clauses (seq job n)).entries (step_empties job.clauses (seq job n) (halts_empty job n)) in
+    subst (λ (st : State). IsEmptyIfHalted st.halted st.entries) (sym (seq-suc job n)) next
+
+-- after so many inferences the machine stands for the state of the run, whose text was put out
+pub record IsRunning (job : Job) (program : Program) (m : Machine) (taken : ℕ) (before now : Option (List ℕ)) (faults_before faults_now : ℕ) : Type 0 where
+  pub clauses : arc_value program.procs ≡ job.clauses
+  pub state : state_view program m (text_of job taken) taken ≡ seq job taken
+  pub empty : m.world.out.items ≡ []
+  pub bytes : Appended before now (text_of job taken)
   pub faults : faults_now ≡ faults_before
   pub ready : IsReady m.stack
+  pub statics : HasStatics program m.world
 
 -- what a step of the machine does
-abbrev pub Steps : KeptJob → Machine → Machine → Type 0
-Steps job m new = (written : List ℕ) (inferences : ℕ) → state_view job new (written ++ new.line.items) (inferences + 1) ≡ with_free_steps (step (arc_value job.procs) (state_view job m written inferences))
+abbrev pub Steps : Program → Machine → Machine → Type 0
+Steps program m new = (written : List ℕ) (inferences : ℕ) → state_view program new written (inferences + 1) ≡ with_free_steps (step (arc_value program.procs) (state_view program m written inferences))
+
+-- what is put out does not change the state
+abbrev pub put_out : Machine → Vec ℕ Global → Machine
+put_out m out = record m { world = record m.world { out = out } }
+
+seen_same : (program : Program) (m : Machine) (out : Vec ℕ Global) (written : List ℕ) (inferences : ℕ) → out.items ≡ [] → state_view program (put_out m out) (written ++ m.world.out.items) inferences ≡ state_view program m written inferences
+seen_same program m out written inferences e =
+    ap (λ bs. stack_state program m.asked m.answers m.stack (record { written = bs; database = m.world.database.kept; operators = m.world.ops }) m.halted inferences)
+    (ap (λ bs. (written ++ m.world.out.items) ++ bs) e ∙ append-nil (written ++ m.world.out.items))
+
+-- the statics of a world by those of its database
+pub statics_same : (old new : KeptWorld) → new.database.statics ≡ old.database.statics → statics_of new ≡ statics_of old
+statics_same old new h = ap (λ l (name : List ℕ) (arity : ℕ). is_reserved name arity || is_static l (record { name = name; arity = arity })) h
+
+pub statics_by : (program : Program) (job : Job) (w : KeptWorld) → arc_value program.procs ≡ job.clauses → AreStatics w.database.statics job.clauses → HasStatics program w
+statics_by program job w c h = fun_ext (λ name. fun_ext (λ arity. ap (λ b. is_reserved name arity || b) (h (record { name = name; arity = arity }) ∙ ap (λ cs. is_defined cs name arity) (sym c))))
 
 took_both : (a b c : Option (List ℕ)) (x y : List ℕ) → Appended a b x → Appended b c y → Appended a c (x ++ y)
 took_both None b c x y h k = tt
@@ -40,15 +125,23 @@ took_both (Some old) (Some new) c x y h k = k ∙ ap Some (ap (λ z. z ++ y) (in
     inside : Some new ≡ Some (old ++ x) → new ≡ old ++ x
     inside e = cc
 
-pub begins : (job : KeptJob) (m : Machine) (out : Option (List ℕ)) (faults : ℕ) → state_view job m [] 0 ≡ with_free_steps (opening (job_meant job)) → IsReady m.stack → IsRunning job m 0 out out faults faults
-begins job m out faults h y =
-    let first : seq (job_meant job) 0 ≡ state_view job m [] 0 = seq-zero (job_meant job) ∙ sym h in
-    let text : text_of (job_meant job) 0 ≡ [] = ap (λ (st : State). st.world.written) first in
+-- the parts of a job make it again
+pub parts_job : (job : Job) (parts : JobParts) → HasParts job parts → record { clauses = arc_value parts.procs; database = parts.database.kept; operators = parts.ops; queries = parts.queries.items } ≡ job
+parts_job job parts h = rw (h.clauses, h.database, h.operators, h.queries) refl
+
+pub begins : (job : Job) (program : Program) (m : Machine) (out : Option (List ℕ)) (faults : ℕ) → arc_value program.procs ≡ job.clauses → state_view program m [] 0 ≡ with_free_steps (opening job) → m.world.out.items ≡ [] → IsReady m.stack → HasStatics program m.world
+    → IsRunning job program m 0 out out faults faults
+begins job program m out faults c h z y k =
+    let first : seq job 0 ≡ state_view program m [] 0 = seq-zero job ∙ sym h in
+    let text : text_of job 0 ≡ [] = ap (λ (st : State). st.world.written) first ∙ z in
     record {
-      state = ap (λ bytes. state_view job m bytes 0) text ∙ sym first;
+      clauses = c;
+      state = ap (λ bytes. state_view program m bytes 0) text ∙ sym first;
+      empty = z;
       bytes = subst (Appended out out) (sym text) (none out);
       faults = refl;
       ready = y;
+      statics = k;
     }
   where
     none : (o : Option (List ℕ)) → Appended o o []
@@ -56,27 +149,31 @@ begins job m out faults h y =
     none (Some old) = ap Some (sym (append-nil old))
 
 -- the state after one more inference
-next_state : (job : KeptJob) (m new : Machine) (i : ℕ) → state_view job m (text_of (job_meant job) i) i ≡ seq (job_meant job) i → Steps job m new
-    → state_view job new (text_of (job_meant job) i ++ new.line.items) (i + 1) ≡ seq (job_meant job) (i + 1)
-next_state job m new i h k = k (text_of (job_meant job) i) i ∙ (ap (λ st. with_free_steps (step (arc_value job.procs) st)) h ∙ sym (seq-next (job_meant job) i))
+next_state : (job : Job) (program : Program) (m new : Machine) (i : ℕ) → arc_value program.procs ≡ job.clauses → state_view program m (text_of job i) i ≡ seq job i → Steps program m new → state_view program new (text_of job i) (i + 1) ≡ seq job (i + 1)
+next_state job program m new i c h k = k (text_of job i) i ∙ (ap (λ cs. with_free_steps (step cs (state_view program m (text_of job i) i))) c ∙ (ap (λ st. with_free_steps (step job.clauses st)) h ∙ sym (seq-next job i)))
 
-pub goes_on : (job : KeptJob) (m new : Machine) (i : ℕ) (before now after : Option (List ℕ)) (fb fn fa : ℕ) → IsRunning job m i before now fb fn → Steps job m new
-    → IsReady new.stack → Appended now after new.line.items → fa ≡ fn → IsRunning job new (i + 1) before after fb fa
-goes_on job m new i before now after fb fn fa r k y t f =
-    let s = next_state job m new i r.state k in
-    let text : text_of (job_meant job) i ++ new.line.items ≡ text_of (job_meant job) (i + 1) = ap (λ (st : State). st.world.written) s in
+next_text : (job : Job) (program : Program) (m new : Machine) (i : ℕ) → arc_value program.procs ≡ job.clauses → state_view program m (text_of job i) i ≡ seq job i → Steps program m new → text_of job i ++ new.world.out.items ≡ text_of job (i + 1)
+next_text job program m new i c h k = ap (λ (st : State). st.world.written) (next_state job program m new i c h k)
+
+pub goes_on : (job : Job) (program : Program) (m new : Machine) (out : Vec ℕ Global) (i : ℕ) (before now after : Option (List ℕ)) (fb fn fa : ℕ) → IsRunning job program m i before now fb fn → Steps program m new
+    → IsReady new.stack → new.world.database.statics ≡ m.world.database.statics → Appended now after new.world.out.items → fa ≡ fn → out.items ≡ [] → IsRunning job program (put_out new out) (i + 1) before after fb fa
+goes_on job program m new out i before now after fb fn fa r k y z t f e =
+    let text = next_text job program m new i r.clauses r.state k in
     record {
-      state = subst (λ bytes. state_view job new bytes (i + 1) ≡ seq (job_meant job) (i + 1)) text s;
-      bytes = subst (Appended before after) text (took_both before now after (text_of (job_meant job) i) new.line.items r.bytes t);
+      clauses = r.clauses;
+      state = subst (λ bytes. state_view program (put_out new out) bytes (i + 1) ≡ seq job (i + 1)) text (seen_same program new out (text_of job i) (i + 1) e ∙ next_state job program m new i r.clauses r.state k);
+      empty = e;
+      bytes = subst (Appended before after) text (took_both before now after (text_of job i) new.world.out.items r.bytes t);
       faults = f ∙ r.faults;
       ready = y;
+      statics = statics_same m.world (put_out new out).world z ∙ r.statics;
     }
 
 -- so few answers have been counted
-pub few_answers : (job : KeptJob) (m : Machine) (i : ℕ) (before now : Option (List ℕ)) (fb fn : ℕ) → IsRunning job m i before now fb fn → m.answers ≤ i
-few_answers job m i before now fb fn r =
-    let s = is_stopped (job_meant job) i in
-    let same : m.answers ≡ answers_of (job_meant job) i = ap (λ (st : State). st.answers) r.state in
+pub few_answers : (job : Job) (program : Program) (m : Machine) (i : ℕ) (before now : Option (List ℕ)) (fb fn : ℕ) → IsRunning job program m i before now fb fn → m.answers ≤ i
+few_answers job program m i before now fb fn r =
+    let s = is_stopped job i in
+    let same : m.answers ≡ answers_of job i = ap (λ (st : State). st.answers) r.state in
     omega (arith, same, s.answered, s.within)
 
 no_entries : (s : Stack) → IsReady s → s.end ≡ None → (own : List _) → stack_view own s ≡ []
@@ -85,23 +182,27 @@ no_entries s y e own =
     ap (λ o. current_view own s.store o ++ entries_under own s.store s.frames.items s.end) none.0
     ∙ (ap (λ fs. frames_view own s.store (reverse fs) ++ end_view s.end) none.1 ∙ ap end_view e)
 
-entries_now : (job : KeptJob) (m : Machine) (i : ℕ) (before now : Option (List ℕ)) (fb fn : ℕ) → IsRunning job m i before now fb fn → (seq (job_meant job) i).entries ≡ stack_view (own_asked m.asked job.queries.items) m.stack
-entries_now job m i before now fb fn r = sym (ap (λ (st : State). st.entries) r.state)
+entries_now : (job : Job) (program : Program) (m : Machine) (i : ℕ) (before now : Option (List ℕ)) (fb fn : ℕ) → IsRunning job program m i before now fb fn → (seq job i).entries ≡ stack_view (own_asked m.asked program.queries.items) m.stack
+entries_now job program m i before now fb fn r = sym (ap (λ (st : State). st.entries) r.state)
 
-pub finished : (job : KeptJob) (m : Machine) (i budget : ℕ) (before now : Option (List ℕ)) (fb fn : ℕ) → IsRunning job m i before now fb fn → i ≤ budget → m.stack.end ≡ None
-    → IsRun (job_meant job) budget before now (record { end = Finished; answers = m.answers; inferences = i })
-finished job m i budget before now fb fn r le e =
-    let J = job_meant job in
-    let none : (seq J i).entries ≡ [] = entries_now job m i before now fb fn r ∙ no_entries m.stack r.ready e (own_asked m.asked job.queries.items) in
+pub finished : (job : Job) (program : Program) (m : Machine) (i budget : ℕ) (before now : Option (List ℕ)) (fb fn : ℕ) (end : RunEnding) → IsRunning job program m i before now fb fn → i ≤ budget → m.stack.end ≡ None → end ≡ ending_by [] m.halted
+    → IsRun job budget before now (record { end = end; answers = m.answers; inferences = i })
+finished job program m i budget before now fb fn end r le e is =
+    let none : (seq job i).entries ≡ [] = entries_now job program m i before now fb fn r ∙ no_entries m.stack r.ready e (own_asked m.asked program.queries.items) in
     let sum : i + (budget - i) ≡ budget = omega arith in
-    let same : seq J budget ≡ seq J i = ap (seq J) (sym sum) ∙ ended_run_stays J i (budget - i) none in
-    let halted : (seq J i).halted ≡ None = sym (ap (λ (st : State). st.halted) r.state) in
-    record {
-      ended = sym (ap (λ (st : State). ending_by st.entries st.halted) same ∙ (ap (λ es. ending_by es (seq J i).halted) none ∙ ap (ending_by []) halted));
+    let same : seq job budget ≡ seq job i = ap (seq job) (sym sum) ∙ ended_run_stays job i (budget - i) none in
+    let halted : (seq job i).halted ≡ m.halted = sym (ap (λ (st : State). st.halted) r.state) in
+    let whole : IsWholeRun job budget before now (record { end = end; answers = m.answers; inferences = i }) = record {
+      ended = is ∙ sym (ap (λ (st : State). ending_by st.entries st.halted) same ∙ (ap (λ es. ending_by es (seq job i).halted) none ∙ ap (ending_by []) halted));
       bytes = subst (λ (st : State). Appended before now st.world.written) (sym same) r.bytes;
       answers = ap (λ (st : State). st.answers) (r.state ∙ sym same);
       inferences = ap (λ (st : State). st.inferences) (r.state ∙ sym same);
-    }
+    } in
+    by m.halted is whole
+  where
+    by : (o : Option ℕ) → end ≡ ending_by [] o → IsWholeRun job budget before now (record { end = end; answers = m.answers; inferences = i }) → IsRun job budget before now (record { end = end; answers = m.answers; inferences = i })
+    by None x h = subst (λ x. IsRunBy x job budget before now (record { end = end; answers = m.answers; inferences = i })) (sym x) h
+    by (Some k) x h = subst (λ x. IsRunBy x job budget before now (record { end = end; answers = m.answers; inferences = i })) (sym x) h
 
 budget_by : (es : List Entry) (halted : Option ℕ) → 0 < length es → ending_by es halted ≡ Budget
 budget_by [] halted lt = absurd (omega arith)
@@ -110,16 +211,25 @@ budget_by (e ∷ es) halted lt = refl
 some_there : {X : Type 0} (xs ys zs : List X) → 0 < length zs → 0 < length (xs ++ (ys ++ zs))
 some_there xs ys zs lt = omega (arith, length-append xs (ys ++ zs), length-append ys zs)
 
-pub stopped : (job : KeptJob) (m : Machine) (budget : ℕ) (before now : Option (List ℕ)) (fb fn : ℕ) → IsRunning job m budget before now fb fn → HasEnd m.stack
-    → IsRun (job_meant job) budget before now (record { end = Budget; answers = m.answers; inferences = budget })
-stopped job m budget before now fb fn r some =
-    let J = job_meant job in
-    let own = own_asked m.asked job.queries.items in
-    let s = m.stack in
-    let many : 0 < length (stack_view own s) =
-    some_there (current_view own s.store s.current) (frames_view own s.store (reverse s.frames.items)) (end_view s.end) (subst (λ o. 0 < length (end_view o)) (sym some.1) (omega arith)) in
+has_entries : (own : List NamedTerm) (s : Stack) → HasEnd s → 0 < length (stack_view own s)
+has_entries own s some = some_there (current_view own s.store s.current) (frames_view own s.store (reverse s.frames.items)) (end_view s.end) (subst (λ o. 0 < length (end_view o)) (sym some.1) (omega arith))
+
+-- where something is left, nothing has halted
+pub not_halted : (job : Job) (program : Program) (m : Machine) (i : ℕ) (before now : Option (List ℕ)) (fb fn : ℕ) → IsRunning job program m i before now fb fn → HasEnd m.stack → m.halted ≡ None
+not_halted job program m i before now fb fn r some =
+    let many = has_entries (own_asked m.asked program.queries.items) m.stack some in
+    ap (λ (st : State). st.halted) r.state ∙ by (seq job i).halted (halts_empty job i) (omega (arith, many, ap length (entries_now job program m i before now fb fn r)))
+  where
+    by : (o : Option ℕ) → IsEmptyIfHalted o (seq job i).entries → 0 < length (seq job i).entries → o ≡ None
+    by None h lt = refl
+    by (Some k) h lt = absurd (omega (arith, ap length h))
+
+pub stopped : (job : Job) (program : Program) (m : Machine) (budget : ℕ) (before now : Option (List ℕ)) (fb fn : ℕ) → IsRunning job program m budget before now fb fn → HasEnd m.stack
+    → IsRun job budget before now (record { end = Budget; answers = m.answers; inferences = budget })
+stopped job program m budget before now fb fn r some =
+    let own = own_asked m.asked program.queries.items in
     record {
-      ended = sym (ap (λ es. ending_by es (seq J budget).halted) (entries_now job m budget before now fb fn r) ∙ budget_by (stack_view own s) (seq J budget).halted many);
+      ended = sym (ap (λ es. ending_by es (seq job budget).halted) (entries_now job program m budget before now fb fn r) ∙ budget_by (stack_view own m.stack) (seq job budget).halted (has_entries own m.stack some));
       bytes = r.bytes;
       answers = ap (λ (st : State). st.answers) r.state;
       inferences = ap (λ (st : State). st.inferences) r.state;
@@ -130,14 +240,13 @@ took_front : (a b : Option (List ℕ)) (x y : List ℕ) → Appended a b x → A
 took_front None b x y h = tt
 took_front (Some old) b x y h = (length x, h ∙ ap (λ z. Some (old ++ z)) (sym (take-append_seam x y)))
 
-pub cut_short : (job : KeptJob) (m : Machine) (i budget : ℕ) (before now : Option (List ℕ)) (fb fn : ℕ) → IsRunning job m i before now fb fn → i ≤ budget
-    → IsRun (job_meant job) budget before now (record { end = NoMemory; answers = 0; inferences = 0 })
-cut_short job m i budget before now fb fn r le =
-    let J = job_meant job in
-    let more = text_grows J i (budget - i) in
+pub cut_short : (job : Job) (program : Program) (m : Machine) (i budget : ℕ) (before now : Option (List ℕ)) (fb fn : ℕ) → IsRunning job program m i before now fb fn → i ≤ budget
+    → IsRun job budget before now (record { end = NoMemory; answers = 0; inferences = 0 })
+cut_short job program m i budget before now fb fn r le =
+    let more = text_grows job i (budget - i) in
     let sum : i + (budget - i) ≡ budget = omega arith in
-    let whole : text_of J budget ≡ text_of J i ++ more.rest = ap (text_of J) (sym sum) ∙ more.joined in
-    record { bytes = subst (AppendedPrefix before now) (sym whole) (took_front before now (text_of J i) more.rest r.bytes); answers = refl; inferences = refl }
+    let whole : text_of job budget ≡ text_of job i ++ more.rest = ap (text_of job) (sym sum) ∙ more.joined in
+    record { bytes = subst (AppendedPrefix before now) (sym whole) (took_front before now (text_of job i) more.rest r.bytes); answers = refl; inferences = refl }
 
 -- nothing is written before the run begins
 pub not_begun : (job : Job) (budget : ℕ) (out : Option (List ℕ)) → IsRun job budget out out (record { end = NoMemory; answers = 0; inferences = 0 })
@@ -162,17 +271,16 @@ front_after (Some old) (Some new) c x y h k more =
         ∙ (take-append-add x (y ++ more) (min k.0 (length y))
         ∙ ap (λ z. x ++ z) (take-append-le (min k.0 (length y)) y more (omega arith) ∙ take_min k.0 y))
 
--- the write of a line failed
-pub write_failed : (job : KeptJob) (m new : Machine) (i budget : ℕ) (before now after : Option (List ℕ)) (fb fn : ℕ) → IsRunning job m i before now fb fn → i < budget → Steps job m new
-    → AppendedPrefix now after new.line.items → IsRun (job_meant job) budget before after (record { end = WriteFault; answers = 0; inferences = 0 })
-write_failed job m new i budget before now after fb fn r lt k t =
-    let J = job_meant job in
-    let text : text_of J i ++ new.line.items ≡ text_of J (i + 1) = ap (λ (st : State). st.world.written) (next_state job m new i r.state k) in
-    let more = text_grows J (i + 1) (budget - (i + 1)) in
+-- a write failed
+pub write_failed : (job : Job) (program : Program) (m new : Machine) (i budget : ℕ) (before now after : Option (List ℕ)) (fb fn : ℕ) → IsRunning job program m i before now fb fn → i < budget → Steps program m new
+    → AppendedPrefix now after new.world.out.items → IsRun job budget before after (record { end = WriteFault; answers = 0; inferences = 0 })
+write_failed job program m new i budget before now after fb fn r lt k t =
+    let text = next_text job program m new i r.clauses r.state k in
+    let more = text_grows job (i + 1) (budget - (i + 1)) in
     let sum : i + 1 + (budget - (i + 1)) ≡ budget = omega arith in
-    let whole : text_of J budget ≡ (text_of J i ++ new.line.items) ++ more.rest = ap (text_of J) (sym sum) ∙ (more.joined ∙ ap (λ z. z ++ more.rest) (sym text)) in
+    let whole : text_of job budget ≡ (text_of job i ++ new.world.out.items) ++ more.rest = ap (text_of job) (sym sum) ∙ (more.joined ∙ ap (λ z. z ++ more.rest) (sym text)) in
     record {
-      bytes = subst (AppendedPrefix before after) (sym whole) (front_after before now after (text_of J i) new.line.items r.bytes t more.rest);
+      bytes = subst (AppendedPrefix before after) (sym whole) (front_after before now after (text_of job i) new.world.out.items r.bytes t more.rest);
       answers = refl;
       inferences = refl;
     }

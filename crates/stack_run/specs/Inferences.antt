@@ -1,5 +1,5 @@
 -- One inference, by what the current item comes to.
-use Rattle.std.specs.Prelude.{◌≡◌, ℕ, suc, Bool, true, false, ◌≤◌, length, List, [], ◌∷◌, reverse, Option, Some, None}
+use Rattle.std.specs.Prelude.{◌≡◌, ℕ, suc, Bool, true, false, ◌≤◌, length, List, [], ◌∷◌, reverse, Option, Some, None, Result, Ok, Err}
 use Rattle.std.specs.Option.{option_map}
 use Rattle.au_term.specs.Term.{Term, var_bound}
 use Rattle.run_model.specs.Programs.Bodies.{goals_of}
@@ -10,10 +10,10 @@ use Rattle.run_model.specs.Goals.GoalOutcomes.{outcome_of}
 use Rattle.run_model.specs.Goals.Outcomes.{Outcome, Reply, Replies, Solutions, Ball, HaltNumber, Controls, AskWorld, ControlForm, TestOf, CatchOf, FindallOf}
 use Rattle.au_model.specs.Terms.Substitutions.{resolve}
 use Rattle.au_model.specs.Terms.Unifier.{unifier}
-use Rattle.run_model.specs.Goals.OutputGoals.{character_out, line_out, term_out}
-use Rattle.run_model.specs.Goals.Worlds.{World, plain_world, dynamic_call, world_step}
-use Rattle.au_model.specs.Syntax.Operators.{OperatorTable}
-use Rattle.au_model.specs.declared.types.Style.TheVariants.{Plain, Quoted, Canonical}
+use Rattle.run_model.specs.Goals.Worlds.{World, Statics, static_among, effect_on}
+use Rattle.run_model.specs.Programs.Databases.{without_clause}
+use Rattle.run_model.specs.Machine.States.{halt_number}
+use Rattle.effect_gate.specs.Effects.{removed}
 use Rattle.run_model.specs.Machine.Items.{Item as ItemTerms, GoalItem, CatchMark, CollectMark, RemovalItem, Continuation}
 use Rattle.run_model.specs.Machine.Balls.{unwound, recovered}
 use Rattle.run_model.specs.Machine.Entries.{Entry}
@@ -22,8 +22,6 @@ use Rattle.clause_compile.specs.declared.item.Item.{Item}
 use Rattle.clause_compile.specs.declared.item.Item.TheVariants.{Goal, CatchEnd, Collect, Remove, End}
 use Rattle.clause_compile.specs.declared.item.Scope.{Scope}
 use Rattle.clause_compile.specs.declared.item.Scope.TheVariants.{Local}
-use Rattle.clause_compile.specs.declared.event.Effect.{Effect}
-use Rattle.clause_compile.specs.declared.event.Effect.TheVariants as effect
 use Rattle.clause_compile.specs.declared.event.Opening.{Opening}
 use Rattle.clause_compile.specs.declared.event.Opening.TheVariants as opening
 use Rattle.clause_compile.specs.declared.event.Branch.{Branch as BranchTerms}
@@ -78,34 +76,65 @@ branch_entry own st b = choice_view own st (BranchChoice b)
 abbrev pub height_at : Option ℕ → Option ℕ
 height_at place = option_map (λ i. suc i) place
 
--- what a goal of the world comes to where nothing is written and no procedure is dynamic, whatever the text's clauses are
-abbrev pub asked_of : OperatorTable → Term → ℕ → World × Reply
-asked_of operators goal next = world_step [] goal next (plain_world operators [])
+-- these entries are left, or nothing at all
+pub record LeavesEntries (entries : List NamedTerm → List Entry) (s : Stack) : Type 0 where
+  pub view : (own : List NamedTerm) → stack_view own s ≡ entries own
+  pub fit : IsFit s
 
--- what takes the place of a goal by its outcome
-abbrev pub outcome_entries : OperatorTable → Outcome → ℕ → Continuation ℕ → List Entry → List Entry
-outcome_entries operators (Replies r) h f es = after_reply r f es
-outcome_entries operators (Controls form) h f es = after_control form h f es
-outcome_entries operators (AskWorld goal) h f es = after_reply (asked_of operators goal f.next).1 f es
+-- what takes the place of a goal by its outcome, in a world with these static procedures
+abbrev pub outcome_entries : Statics → World → Outcome → ℕ → Continuation ℕ → List Entry → List Entry
+outcome_entries statics w (Replies r) h f es = after_reply r f es
+outcome_entries statics w (Controls form) h f es = after_control form h f es
+outcome_entries statics w (AskWorld goal) h f es = after_reply (effect_on statics goal f.next w).1 f es
 
--- and what is written
-abbrev pub outcome_bytes : OperatorTable → Outcome → ℕ → List ℕ
-outcome_bytes operators (Replies r) next = []
-outcome_bytes operators (Controls form) next = []
-outcome_bytes operators (AskWorld goal) next = (asked_of operators goal next).0.written
+-- the world after it
+abbrev pub outcome_world : Statics → World → Outcome → ℕ → World
+outcome_world statics w (Replies r) next = w
+outcome_world statics w (Controls form) next = w
+outcome_world statics w (AskWorld goal) next = (effect_on statics goal next w).0
 
--- by the item in front; a removal fails where no procedure is dynamic
-abbrev pub item_entries : List Clause → OperatorTable → ItemTerms ℕ → Continuation ℕ → List Entry → List Entry
-item_entries clauses operators (GoalItem g h) f es = outcome_entries operators (outcome_of clauses g f.next) h f es
-item_entries clauses operators (CatchMark h) f es = es
-item_entries clauses operators (CollectMark t h) f es = es
-item_entries clauses operators (RemovalItem n) f es = es
+-- the number by which it halts the run
+abbrev pub outcome_halt : Statics → World → Outcome → ℕ → Option ℕ
+outcome_halt statics w (Replies r) next = halt_number r
+outcome_halt statics w (Controls form) next = None
+outcome_halt statics w (AskWorld goal) next = halt_number (effect_on statics goal next w).1
 
-abbrev pub item_bytes : List Clause → OperatorTable → ItemTerms ℕ → ℕ → List ℕ
-item_bytes clauses operators (GoalItem g h) next = outcome_bytes operators (outcome_of clauses g next) next
-item_bytes clauses operators (CatchMark h) next = []
-item_bytes clauses operators (CollectMark t h) next = []
-item_bytes clauses operators (RemovalItem n) next = []
+-- the removal of a clause
+abbrev pub removal_answer : ℕ → World → World × Reply
+removal_answer number w = removed (without_clause number w.database) w
+
+-- the same three by the item in front, where these are the clauses of the text
+abbrev pub item_entries : List Clause → World → ItemTerms ℕ → Continuation ℕ → List Entry → List Entry
+item_entries clauses w (GoalItem g h) f es = outcome_entries (static_among clauses) w (outcome_of clauses g f.next) h f es
+item_entries clauses w (CatchMark h) f es = es
+item_entries clauses w (CollectMark t h) f es = es
+item_entries clauses w (RemovalItem n) f es = after_reply (removal_answer n w).1 f es
+
+abbrev pub item_world : List Clause → World → ItemTerms ℕ → ℕ → World
+item_world clauses w (GoalItem g h) next = outcome_world (static_among clauses) w (outcome_of clauses g next) next
+item_world clauses w (CatchMark h) next = w
+item_world clauses w (CollectMark t h) next = w
+item_world clauses w (RemovalItem n) next = (removal_answer n w).0
+
+abbrev pub item_halt : List Clause → World → ItemTerms ℕ → ℕ → Option ℕ
+item_halt clauses w (GoalItem g h) next = outcome_halt (static_among clauses) w (outcome_of clauses g next) next
+item_halt clauses w (CatchMark h) next = None
+item_halt clauses w (CollectMark t h) next = None
+item_halt clauses w (RemovalItem n) next = halt_number (removal_answer n w).1
+
+-- whether an item is a query's end
+abbrev pub is_end : Item → Bool
+is_end (Goal t cut) = false
+is_end (CatchEnd scope) = false
+is_end (Collect t scope) = false
+is_end (Remove id) = false
+is_end (End ball) = true
+
+-- what was done, and that it halts nothing
+abbrev pub IsUnhalted : {E : Type 0} → Result (Unit {0}) E → Result (Option ℕ) E → Type 0
+IsUnhalted (Ok u) (Ok halted) = halted ≡ None
+IsUnhalted (Err e) (Ok halted) = ⊥
+IsUnhalted done (Err e) = Unit {0}
 
 -- an item that is no mark
 abbrev pub IsNoMark : Item → Type 0
@@ -155,42 +184,12 @@ opened_form st (opening.Condition c t e) = TestOf (goals_of (resolve (substituti
 opened_form st (opening.Catch g c r) = CatchOf (resolve (substitution st) g) (resolve (substitution st) c) (resolve (substitution st) r)
 opened_form st (opening.Findall t g l) = FindallOf (resolve (substitution st) t) (resolve (substitution st) g) (resolve (substitution st) l)
 
--- what an effect comes to: the call of a procedure that is not there raises its error, a removal fails
-abbrev pub gate_answer : OperatorTable → Effect → ℕ → World × Reply
-gate_answer operators (effect.Write t) next = term_out Plain t (plain_world operators [])
-gate_answer operators (effect.Writeq t) next = term_out Quoted t (plain_world operators [])
-gate_answer operators (effect.WriteCanonical t) next = term_out Canonical t (plain_world operators [])
-gate_answer operators effect.Nl next = line_out (plain_world operators [])
-gate_answer operators (effect.PutChar t) next = character_out t (plain_world operators [])
-gate_answer operators (effect.Call goal) next = (plain_world operators [], dynamic_call None goal next)
-gate_answer operators e next = (plain_world operators [], Solutions [])
-
-abbrev pub gate_entries : OperatorTable → Effect → Continuation ℕ → List Entry → List Entry
-gate_entries operators e f es = after_reply (gate_answer operators e f.next).1 f es
-
 -- the stack goes on by a reply to the goal in front
 abbrev pub LeavesReply : Reply → List Item → Stack → Stack → Type 0
 LeavesReply reply rest old new = HasEntries (λ own. after_reply reply (following old rest own) (entries_below old own)) new
 
-abbrev pub gate_bytes : OperatorTable → Effect → List ℕ
-gate_bytes operators e = (gate_answer operators e 0).0.written
-
--- a goal that does not end the run
-abbrev pub IsNoHalt : Outcome → Type 0
-IsNoHalt (Replies (Solutions ss)) = Unit {0}
-IsNoHalt (Replies (Ball b)) = Unit {0}
-IsNoHalt (Replies (HaltNumber k)) = ⊥
-IsNoHalt (Controls form) = Unit {0}
-IsNoHalt (AskWorld goal) = Unit {0}
-
-abbrev pub IsUnhalted : List Clause → StoreView → Item → Type 0
-IsUnhalted clauses st (Goal t cut) = IsNoHalt (outcome_of clauses (resolve (substitution st) t) st.next)
-IsUnhalted clauses st (CatchEnd scope) = Unit {0}
-IsUnhalted clauses st (Collect t scope) = Unit {0}
-IsUnhalted clauses st (Remove id) = Unit {0}
-IsUnhalted clauses st (End ball) = Unit {0}
-
--- the stack goes on as the item in front says
-abbrev pub TakesItem : List Clause → OperatorTable → Item → List Item → Stack → Stack → Type 0
-TakesItem clauses operators item rest old new =
-    HasEntries (λ own. item_entries clauses operators (item_view (substitution old.store) item) (following old rest own) (entries_below old own)) new
+-- the stack and the world go on as the item in front says, and the run is halted by this number or not at all
+pub record TakesItem (clauses : List Clause) (item : Item) (rest : List Item) (old new : Stack) (before after : World) (halted : Option ℕ) : Type 0 where
+  pub entries : LeavesEntries (λ own. item_entries clauses before (item_view (substitution old.store) item) (following old rest own) (entries_below old own)) new
+  pub world : after ≡ item_world clauses before (item_view (substitution old.store) item) old.store.next
+  pub halts : halted ≡ item_halt clauses before (item_view (substitution old.store) item) old.store.next

@@ -3,6 +3,7 @@ pub mod StackInvariant
 pub mod ChoicePoints
 pub mod FreeStepsTaken
 pub mod Inferences
+pub mod EffectsTaken
 pub mod MachineView
 pub mod ItemsTaken
 pub mod RunEnds

@@ -1,5 +1,6 @@
 -- What the machine's values stand for.
-use Rattle.std.specs.Prelude.{ℕ, suc, List, [], ◌∷◌, ◌++◌, map, take, get_or, reverse, Option, Some, None}
+use Rattle.au_term.specs.Term.{AtomTerm}
+use Rattle.std.specs.Prelude.{codes, ℕ, suc, List, [], ◌∷◌, ◌++◌, map, take, get_or, reverse, Option, Some, None}
 use Rattle.au_model.specs.Terms.Substitutions.{Substitution, resolve}
 use Rattle.au_model.specs.Terms.Named.{NamedTerm}
 use Rattle.run_model.specs.Machine.Items.{Item as ItemTerms, GoalItem, CatchMark, CollectMark, RemovalItem, Continuation, with_next, resolve_named}
@@ -25,13 +26,13 @@ scope_place (Node n) = 0
 abbrev pub scope_height : Scope → ℕ
 scope_height scope = suc (scope_place scope)
 
--- removals and ends do not occur here
+-- the end of a query is kept under the stack, so where it is an item it fails
 abbrev pub item_view : Substitution → Item → ItemTerms ℕ
 item_view s (Goal t cut) = GoalItem (resolve s t) (scope_height cut)
 item_view s (CatchEnd scope) = CatchMark (scope_height scope)
 item_view s (Collect t scope) = CollectMark (resolve s t) (scope_height scope)
-item_view s (Remove id) = RemovalItem 0
-item_view s (End ball) = RemovalItem 0
+item_view s (Remove id) = RemovalItem id.0
+item_view s (End ball) = GoalItem (AtomTerm (codes "fail")) 0
 
 abbrev pub items_view : StoreView → List Item → List (ItemTerms ℕ)
 items_view st items = map (item_view (substitution st)) items

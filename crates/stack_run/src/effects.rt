@@ -1,50 +1,55 @@
-//! Effects: what goals of the world come to (ISO/IEC 13211-1, 8.12 and 8.14), where no procedure is dynamic.
-ghost use Rattle.std.specs.Prelude.{◌≡◌, ◌≤◌, ◌∷◌, ◌++◌, [], None, IfOk, OnOk};
-ghost use Rattle.std.specs.Str.{encode_utf8_all};
-ghost use Rattle.au_model.specs.Syntax.Operators.{OperatorTable};
+//! What effects leave of the stack (ISO/IEC 13211-1, 7.7.7).
+ghost use Rattle.std.specs.Prelude.{◌≡◌, ◌∷◌, map, IfOk, OnOk};
 ghost use Rattle.au_model.specs.Terms.Each.{Each};
-ghost use Rattle.au_model.specs.Terms.Forms.{name_of};
-ghost use Rattle.run_model.specs.Goals.OutputGoals.{character_out, no_character_ball};
-ghost use Rattle.run_model.specs.Goals.Worlds.{dynamic_call, plain_world};
+ghost use Rattle.au_model.specs.Terms.ErrorTerms.{error_term};
+ghost use Rattle.au_model.specs.Terms.Faults.{error_term_of};
+ghost use Rattle.clause_compile.specs.CompiledClauses.{shown};
+ghost use Rattle.run_model.specs.Goals.Outcomes.{Reply, Ball, Solutions};
 ghost use Rattle.run_model.specs.Machine.Entries.{PlainEntry};
-ghost use Rattle.run_model.specs.Machine.Heights.{after_reply};
 ghost use Rattle.engine_core.specs.Branches.{IsItemBelow};
-ghost use Rattle.stack_run.specs.Inferences.{HasEntries, IsWorking, LeavesReply, entries_below, following, gate_bytes, gate_entries};
+ghost use Rattle.effect_gate.specs.Effects.{effect_name, effect_arity, AreFoundBy, AreRowsFor};
+ghost use Rattle.stack_run.specs.Inferences.{HasEntries, IsWorking, LeavesReply, entries_below, following};
+ghost use Rattle.stack_run.specs.EffectsTaken.{IsEffectIn, IsTermIn, IsGatePassed, IsHaltedBy};
+ghost use Rattle.engine_core.specs.Matches.{matches_of};
 
 use crate::frame::Stack;
+use crate::infer::{branch_off, unhalted};
+use crate::rows::{Asked, operators_tried};
 use crate::unwinding::unwind;
-use au_model::{Fault, Style, TypeName};
-use au_term::{Atom, Cell, FlatTerm, NoMemory};
-use clause_compile::{Effect, Goals};
-use op_table::Ops;
+use au_model::Fault;
+use au_term::{FlatTerm, NoMemory};
+use clause_compile::{Clause, ClauseId, Effect, Goals, Scope};
+use effect_gate::{Applied, World, ball, body_of, head_of};
+use engine_core::{clauses_called, clauses_matched};
+use op_table::OpRow;
 use std::alloc::Global;
-use std_builtins::character;
-use term_writer::write_into;
+use std::sync::Arc;
 
-/// Passes an effect: what is written comes after the bytes of `line`. No clause is there to be removed.
+/// Applies an effect to the world, and goes on as it says; answers the status where the effect halts the run.
 pub(crate) fn pass_gate(
     alloc: Global,
     effect: &Effect,
     rest: &Goals,
-    ops: &Ops,
     stack: &mut Stack,
-    line: &mut Vec<u8>,
-) -> Result<(), NoMemory>
+    world: &mut World,
+) -> Result<Option<u8>, NoMemory>
     requires work { IsWorking stack.old }
+    requires effect { IsEffectIn stack.old.store effect.now }
     requires rest { Each (IsItemBelow stack.old.store.next) rest.now }
-    ensures leaves { OnOk result (HasEntries (λ own. gate_entries ops.now effect.now (following stack.old rest.now own) (entries_below stack.old own)) stack.new) }
-    ensures line { OnOk result (line.new.items ≡ line.old.items ++ gate_bytes ops.now effect.now) }
+    ensures passed { IfOk result (IsGatePassed effect.now rest.now stack.old stack.new world.old world.new) }
+    ensures statics { world.new.database.statics ≡ world.old.database.statics }
 {
-    match effect {
-        Effect::Write(term) => write_into(alloc, line, term, ops, Style::Plain)?,
-        Effect::Writeq(term) => write_into(alloc, line, term, ops, Style::Quoted)?,
-        Effect::WriteCanonical(term) => write_into(alloc, line, term, ops, Style::Canonical)?,
-        Effect::Nl => line.push(b'\n')?,
-        Effect::PutChar(term) => return put_char(alloc, term, rest, stack, line),
-        Effect::Call(goal) => return raise_unknown(alloc, goal, rest, stack),
-        _ => return Ok(()),
+    match world.apply(alloc, effect)? {
+        Applied::Went => unhalted(go_on(rest, stack)),
+        Applied::Raise(fault) => unhalted(raise(alloc, effect, &fault, rest, stack)),
+        Applied::Clauses(clauses) => unhalted(try_clauses(alloc, effect, &clauses, rest, stack)),
+        Applied::Fails => Ok(None),
+        Applied::Rows(rows) => unhalted(try_rows(alloc, effect, &rows, rest, stack)),
+        Applied::Halt(status) => {
+            halt(stack);
+            Ok(Some(status))
+        }
     }
-    go_on(rest, stack)
 }
 
 /// Goes on with what follows.
@@ -57,75 +62,100 @@ fn go_on(rest: &Goals, stack: &mut Stack) -> Result<(), NoMemory>
     Ok(())
 }
 
-/// Writes a character, or raises the error of a term that is none (8.12.3).
-fn put_char(
+/// Raises the error of a goal.
+fn raise(
     alloc: Global,
-    term: &FlatTerm,
+    effect: &Effect,
+    fault: &Fault,
     rest: &Goals,
     stack: &mut Stack,
-    line: &mut Vec<u8>,
 ) -> Result<(), NoMemory>
     requires work { IsWorking stack.old }
-    requires rest { Each (IsItemBelow stack.old.store.next) rest.now }
-    ensures leaves { (operators : OperatorTable) → OnOk result (LeavesReply (character_out term.now (plain_world operators [])).1 rest.now stack.old stack.new) }
-    ensures line { (operators : OperatorTable) → OnOk result (line.new.items ≡ line.old.items ++ (character_out term.now (plain_world operators [])).0.written) }
+    ensures { OnOk result (LeavesReply (Ball (error_term (error_term_of fault.now) (effect_name effect.now) (effect_arity effect.now))) rest.now stack.old stack.new) }
 {
-    match character(term) {
-        Some(c) => {
-            push_character(alloc, c, line)?;
-            go_on(rest, stack)
-        }
-        None => {
-            let ball = no_character_ball(alloc, term)?;
-            unwind(alloc, &ball, rest, stack)
-        }
-    }
+    let raised = ball(alloc, effect, fault)?;
+    unwind(alloc, &raised, rest, stack)
 }
 
-/// Puts the bytes of a character after those of `line`.
-fn push_character(alloc: Global, c: char, line: &mut Vec<u8>) -> Result<(), NoMemory>
-    ensures { OnOk result (line.new.items ≡ line.old.items ++ encode_utf8_all (c ∷ [])) }
-{
-    let mut text = String::new(alloc);
-    text.push(c)?;
-    line.extend_from_slice(text.as_bytes())?;
-    Ok(())
-}
-
-/// The ball of a term that is no character.
-fn no_character_ball(alloc: Global, term: &FlatTerm) -> Result<FlatTerm, NoMemory>
-    ensures { IfOk result (λ ball. ball ≡ no_character_ball term.now) }
-{
-    let fault = match term.top() {
-        Cell::Var(_) => Fault::Instantiation,
-        _ => Fault::WrongType(TypeName::Character, term.copy()?),
-    };
-    fault.term(alloc, &Atom::ascii(alloc, "put_char")?, 1)
-}
-
-/// The error of a procedure that is not there (7.7.7).
-fn raise_unknown(
+/// Tries the clauses that were found for a call, a removal or a look at them.
+fn try_clauses(
     alloc: Global,
-    goal: &FlatTerm,
+    effect: &Effect,
+    clauses: &[(ClauseId, Arc<Clause>)],
     rest: &Goals,
     stack: &mut Stack,
 ) -> Result<(), NoMemory>
-    requires { IsWorking stack.old }
-    ensures { OnOk result (HasEntries (λ own. after_reply (dynamic_call None goal.now stack.old.store.next) (following stack.old rest.now own) (entries_below stack.old own)) stack.new) }
+    requires work { IsWorking stack.old }
+    requires effect { IsEffectIn stack.old.store effect.now }
+    requires rest { Each (IsItemBelow stack.old.store.next) rest.now }
+    ensures { (reply : Reply) → AreFoundBy effect.now stack.old.store.next reply (map shown clauses.now) → OnOk result (LeavesReply reply rest.now stack.old stack.new) }
 {
-    let name = name_of(alloc, goal)?;
-    let arity = goal.arity();
-    let fault = Fault::Existence(name.share()?, arity);
-    let ball = fault.term(alloc, &name, arity)?;
-    unwind(alloc, &ball, rest, stack)
+    match effect {
+        Effect::Call(goal) => {
+            let here = Scope::Local(stack.frames.len() as u64);
+            let branches = clauses_called(alloc, goal, clauses, rest, here, &mut stack.store)?;
+            branch_off(branches, stack)
+        }
+        Effect::Retract(clause) => {
+            let head = head_of(alloc, clause)?;
+            let body = body_of(alloc, clause)?;
+            try_matches(alloc, &head, &body, true, clauses, rest, stack)
+        }
+        Effect::Clause(head, body) => try_matches(alloc, head, body, false, clauses, rest, stack),
+        _ => Ok(()),
+    }
 }
 
-/// The name of a goal.
-fn name_of(alloc: Global, goal: &FlatTerm) -> Result<Atom, NoMemory>
-    ensures { IfOk result (λ a. a ≡ name_of goal.now) }
+/// Tries the clauses whose heads and bodies unify with these.
+fn try_matches(
+    alloc: Global,
+    head: &FlatTerm,
+    body: &FlatTerm,
+    removes: bool,
+    clauses: &[(ClauseId, Arc<Clause>)],
+    rest: &Goals,
+    stack: &mut Stack,
+) -> Result<(), NoMemory>
+    requires work { IsWorking stack.old }
+    requires head { IsTermIn stack.old.store head.now }
+    requires body { IsTermIn stack.old.store body.now }
+    requires rest { Each (IsItemBelow stack.old.store.next) rest.now }
+    ensures { OnOk result (LeavesReply (Solutions (matches_of removes head.now body.now stack.old.store.next (map shown clauses.now))) rest.now stack.old stack.new) }
 {
-    match goal.top() {
-        Cell::Atom(name) | Cell::Functor(name, _) => name.share(),
-        _ => Atom::ascii(alloc, ""),
-    }
+    let branches = clauses_matched(alloc, head, body, removes, clauses, rest, &mut stack.store)?;
+    branch_off(branches, stack)
+}
+
+/// Tries the operators that were found.
+fn try_rows(
+    alloc: Global,
+    effect: &Effect,
+    rows: &[OpRow],
+    rest: &Goals,
+    stack: &mut Stack,
+) -> Result<(), NoMemory>
+    requires work { IsWorking stack.old }
+    requires effect { IsEffectIn stack.old.store effect.now }
+    requires rest { Each (IsItemBelow stack.old.store.next) rest.now }
+    ensures { (reply : Reply) → AreRowsFor effect.now reply rows.now → OnOk result (LeavesReply reply rest.now stack.old stack.new) }
+{
+    let Effect::CurrentOp(priority, specifier, name) = effect else {
+        return Ok(());
+    };
+    let asked = Asked {
+        priority,
+        specifier,
+        name,
+    };
+    let branches = operators_tried(alloc, &asked, rows, rest, &mut stack.store)?;
+    branch_off(branches, stack)
+}
+
+/// Leaves nothing to be done.
+fn halt(stack: &mut Stack)
+    requires { IsWorking stack.old }
+    ensures { IsHaltedBy stack.new }
+{
+    stack.frames.clear();
+    stack.end = None;
 }

@@ -2,6 +2,10 @@
 use au_term::{FlatTerm, Shared, VarNo};
 use bind_store::{Mark, Store};
 use clause_compile::{Branch, Goals};
+use effect_gate::World;
+use proc_index::Procs;
+use std::sync::Arc;
+use text_load::Query;
 
 /// A catch: what it catches, the recovery, and what follows.
 #[derive(Drop)]
@@ -52,12 +56,20 @@ pub(crate) struct Stack {
     pub(crate) end: Option<QueryEnd>,
 }
 
-/// A run: what is left of the current query, how many queries were asked and answers written, and what the last step
-/// wrote.
+/// What a run goes by: the static procedures, and the queries, which are run one after another.
+#[derive(Drop)]
+pub(crate) struct Program {
+    pub(crate) procs: Arc<Procs>,
+    pub(crate) queries: Vec<Query>,
+}
+
+/// A run: what is left of the current query, how many queries were asked and answers written, the world with what is
+/// written and not yet put out, and the status by which the run was halted if it was.
 #[derive(Drop)]
 pub(crate) struct Machine {
     pub(crate) stack: Stack,
     pub(crate) asked: usize,
     pub(crate) answers: u64,
-    pub(crate) line: Vec<u8>,
+    pub(crate) world: World,
+    pub(crate) halted: Option<u8>,
 }

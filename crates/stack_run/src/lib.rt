@@ -7,6 +7,7 @@ mod free_steps;
 mod infer;
 mod list;
 mod open;
+mod rows;
 mod run;
 mod stack;
 mod step;

@@ -6,7 +6,7 @@ ghost use Rattle.run_model.specs.Programs.Jobs.{own_terms};
 ghost use Rattle.au_model.specs.Terms.Named.{NamedTerm};
 ghost use Rattle.au_model.specs.Writing.Lines.{end_line};
 ghost use Rattle.run_model.specs.Machine.States.{opened, with_free_steps, step, opening};
-ghost use Rattle.text_load.specs.JobView.{job_meant};
+ghost use Rattle.effect_gate.specs.Effects.{world_meant};
 ghost use Rattle.au_model.specs.Terms.Named.{variable_meant};
 ghost use Rattle.au_model.specs.Terms.Substitutions.{resolve};
 ghost use Rattle.bind_store.specs.StoreView.{substitution};
@@ -15,32 +15,36 @@ ghost use Rattle.stack_run.specs.StackInvariant.{IsFit};
 ghost use Rattle.stack_run.specs.FreeStepsTaken.{with_current};
 ghost use Rattle.stack_run.specs.Inferences.{HasEnd, IsWorking};
 ghost use Rattle.stack_run.specs.ItemsTaken.{IsAtItem};
-ghost use Rattle.stack_run.specs.MachineView.{state_view, stack_state, names_asked, opened_state, ball_of, value_in, IsReady, IsInferredFrom, IsRunStepFrom};
+ghost use Rattle.stack_run.specs.MachineView.{state_view, taken_view, names_asked, opened_state, ball_of, value_in, job_of, HasStatics, IsReady, IsInferredFrom, IsRunStepFrom};
 
-use crate::frame::{Machine, QueryEnd, Stack};
+use crate::frame::{Machine, Program, QueryEnd, Stack};
 use crate::free_steps::take_free_steps;
 use crate::infer::infer;
 use au_model::VarName;
 use au_term::{Cell, FlatTerm, NoMemory, Shared, TermBuilder, VarNo};
 use bind_store::Store;
 use clause_compile::Goals;
+use effect_gate::World;
 use op_table::Ops;
 use std::alloc::Global;
 use term_writer::{answer_line, ball_line};
-use text_load::{Job, Query};
+use text_load::Query;
 
 /// The machine before the first inference.
-pub(crate) fn opening(alloc: Global, job: &Job) -> Result<Machine, NoMemory>
-    ensures state { IfOk result (λ m. state_view job.now m [] 0 ≡ with_free_steps (opening (job_meant job.now))) }
+pub(crate) fn opening(alloc: Global, program: &Program, world: World) -> Result<Machine, NoMemory>
+    requires { world.out.items ≡ [] }
+    ensures state { IfOk result (λ m. state_view program.now m [] 0 ≡ with_free_steps (opening (job_of program.now (world_meant world)))) }
     ensures ready { IfOk result (λ m. IsReady m.stack) }
+    ensures world { IfOk result (λ m. m.world ≡ world) }
 {
     let mut machine = Machine {
         stack: nothing_left(alloc),
         asked: 0,
         answers: 0,
-        line: Vec::new(alloc),
+        world,
+        halted: None,
     };
-    ask_next(alloc, job, &mut machine)?;
+    ask_next(alloc, program, &mut machine)?;
     take_free_steps(alloc, &mut machine.stack)?;
     Ok(machine)
 }
@@ -74,13 +78,14 @@ fn query_stack(alloc: Global, query: &Query) -> Result<Stack, NoMemory>
 }
 
 /// Lets the next query begin, if one is left.
-fn ask_next(alloc: Global, job: &Job, machine: &mut Machine) -> Result<(), NoMemory>
-    ensures state { OnOk result ((written : List ℕ) (inferences : ℕ) → state_view job.now machine.new written inferences ≡ opened_state (state_view job.now machine.old written inferences)) }
+fn ask_next(alloc: Global, program: &Program, machine: &mut Machine) -> Result<(), NoMemory>
+    ensures state { OnOk result ((written : List ℕ) (inferences : ℕ) → state_view program.now machine.new written inferences ≡ opened_state (state_view program.now machine.old written inferences)) }
     ensures fit { OnOk result (IsFit machine.new.stack) }
-    ensures line { machine.new.line ≡ machine.old.line }
+    ensures world { machine.new.world ≡ machine.old.world }
+    ensures halted { machine.new.halted ≡ machine.old.halted }
 {
-    if machine.asked < job.queries.len() {
-        machine.stack = query_stack(alloc, &job.queries[machine.asked])?;
+    if machine.asked < program.queries.len() {
+        machine.stack = query_stack(alloc, &program.queries[machine.asked])?;
         machine.asked += 1;
     } else {
         machine.stack = nothing_left(alloc);
@@ -88,82 +93,99 @@ fn ask_next(alloc: Global, job: &Job, machine: &mut Machine) -> Result<(), NoMem
     Ok(())
 }
 
-/// One inference, and all free steps after it; what it writes is the machine's line.
-pub(crate) fn step(alloc: Global, job: &Job, machine: &mut Machine) -> Result<(), NoMemory>
+/// One inference, and all free steps after it.
+pub(crate) fn step(alloc: Global, program: &Program, machine: &mut Machine) -> Result<(), NoMemory>
     requires ready { IsReady machine.old.stack }
     requires some { HasEnd machine.old.stack }
+    requires unhalted { machine.old.halted ≡ None }
+    requires statics { HasStatics program.now machine.old.world }
     requires few { machine.old.answers < 2 ^ 64 - 1 }
-    ensures state { OnOk result (IsRunStepFrom job.now (state_view job.now machine.old) machine.new) }
+    ensures state { OnOk result (IsRunStepFrom program.now (state_view program.now machine.old) machine.new) }
     ensures ready { OnOk result (IsReady machine.new.stack) }
+    ensures statics { machine.new.world.database.statics ≡ machine.old.world.database.statics }
 {
-    machine.line.clear();
-    inference(alloc, job, machine)?;
+    inference(alloc, program, machine)?;
     take_free_steps(alloc, &mut machine.stack)
 }
 
 /// One inference, without the free steps after it.
-fn inference(alloc: Global, job: &Job, machine: &mut Machine) -> Result<(), NoMemory>
+fn inference(alloc: Global, program: &Program, machine: &mut Machine) -> Result<(), NoMemory>
     requires ready { IsReady machine.old.stack }
     requires some { HasEnd machine.old.stack }
-    requires line { machine.old.line.items ≡ [] }
+    requires unhalted { machine.old.halted ≡ None }
+    requires statics { HasStatics program.now machine.old.world }
     requires few { machine.old.answers < 2 ^ 64 - 1 }
-    ensures state { OnOk result (IsInferredFrom job.now (state_view job.now machine.old) machine.new) }
+    ensures state { OnOk result (IsInferredFrom program.now (state_view program.now machine.old) machine.new) }
     ensures fit { OnOk result (IsFit machine.new.stack) }
+    ensures statics { machine.new.world.database.statics ≡ machine.old.world.database.statics }
 {
     match machine.stack.current.take() {
-        Some(goals) => take_item(alloc, job, &goals, machine),
-        None => end_query(alloc, job, machine),
+        Some(goals) => take_item(alloc, program, &goals, machine),
+        None => end_query(alloc, program, machine),
     }
 }
 
 /// One inference on an alternative that was taken.
-fn take_item(alloc: Global, job: &Job, goals: &Goals, machine: &mut Machine) -> Result<(), NoMemory>
+fn take_item(
+    alloc: Global,
+    program: &Program,
+    goals: &Goals,
+    machine: &mut Machine,
+) -> Result<(), NoMemory>
     requires goals { IsAtItem goals.now machine.old.stack }
-    requires line { machine.old.line.items ≡ [] }
+    requires unhalted { machine.old.halted ≡ None }
+    requires statics { HasStatics program.now machine.old.world }
     requires few { machine.old.answers < 2 ^ 64 - 1 }
-    ensures state { OnOk result (IsInferredFrom job.now (stack_state job.now machine.old.asked machine.old.answers (with_current goals.now machine.old.stack)) machine.new) }
+    ensures state { OnOk result (IsInferredFrom program.now (taken_view program.now machine.old (with_current goals.now machine.old.stack)) machine.new) }
     ensures fit { OnOk result (IsFit machine.new.stack) }
+    ensures statics { machine.new.world.database.statics ≡ machine.old.world.database.statics }
 {
     match goals.first() {
-        None => answer(alloc, job, machine),
+        None => answer(alloc, program, machine),
         Some(item) => {
             let rest = goals.rest()?;
-            infer(
+            machine.halted = infer(
                 alloc,
                 item,
                 &rest,
-                &job.procs,
-                &job.ops,
+                &program.procs,
                 &mut machine.stack,
-                &mut machine.line,
-            )
+                &mut machine.world,
+            )?;
+            Ok(())
         }
     }
 }
 
 /// Writes the line of an answer.
-fn answer(alloc: Global, job: &Job, machine: &mut Machine) -> Result<(), NoMemory>
+fn answer(alloc: Global, program: &Program, machine: &mut Machine) -> Result<(), NoMemory>
     requires work { IsWorking machine.old.stack }
-    requires line { machine.old.line.items ≡ [] }
     requires few { machine.old.answers < 2 ^ 64 - 1 }
-    ensures state { OnOk result (IsInferredFrom job.now (stack_state job.now machine.old.asked machine.old.answers (with_current [] machine.old.stack)) machine.new) }
+    ensures state { OnOk result (IsInferredFrom program.now (taken_view program.now machine.old (with_current [] machine.old.stack)) machine.new) }
     ensures fit { OnOk result (IsFit machine.new.stack) }
+    ensures statics { machine.new.world.database.statics ≡ machine.old.world.database.statics }
 {
-    let names = asked_names(job, machine.asked);
+    let names = asked_names(program, machine.asked);
     let values = values_of(alloc, names, &machine.stack.store)?;
-    answer_line(alloc, &mut machine.line, names, &values, &job.ops)?;
+    answer_line(
+        alloc,
+        &mut machine.world.out,
+        names,
+        &values,
+        &machine.world.ops,
+    )?;
     machine.answers += 1;
     Ok(())
 }
 
 /// The names of the query that was asked last.
-fn asked_names(job: &Job, asked: usize) -> &[VarName]
-    ensures { map variable_meant result.now ≡ names_asked asked job.entry.now.queries.items }
+fn asked_names(program: &Program, asked: usize) -> &[VarName]
+    ensures { map variable_meant result.now ≡ names_asked asked program.entry.now.queries.items }
 {
-    if asked == 0 || asked > job.queries.len() {
+    if asked == 0 || asked > program.queries.len() {
         return &[];
     }
-    job.queries[asked - 1].names()
+    program.queries[asked - 1].names()
 }
 
 /// What variables stand for.
@@ -191,16 +213,21 @@ fn value_of(alloc: Global, number: VarNo, store: &Store) -> Result<FlatTerm, NoM
 }
 
 /// Writes the line that ends a query, and lets the next one begin.
-fn end_query(alloc: Global, job: &Job, machine: &mut Machine) -> Result<(), NoMemory>
+fn end_query(alloc: Global, program: &Program, machine: &mut Machine) -> Result<(), NoMemory>
     requires ready { IsReady machine.old.stack }
     requires none { machine.old.stack.current ≡ None }
     requires some { HasEnd machine.old.stack }
-    requires line { machine.old.line.items ≡ [] }
-    ensures state { OnOk result (IsInferredFrom job.now (state_view job.now machine.old) machine.new) }
+    ensures state { OnOk result (IsInferredFrom program.now (state_view program.now machine.old) machine.new) }
     ensures fit { OnOk result (IsFit machine.new.stack) }
+    ensures statics { machine.new.world.database.statics ≡ machine.old.world.database.statics }
 {
-    end_line(alloc, &machine.stack.end, &job.ops, &mut machine.line)?;
-    ask_next(alloc, job, machine)
+    end_line(
+        alloc,
+        &machine.stack.end,
+        &machine.world.ops,
+        &mut machine.world.out,
+    )?;
+    ask_next(alloc, program, machine)
 }
 
 /// Puts the line that ends a query after the bytes of `line`.

@@ -1,6 +1,6 @@
 -- Terms made of parts, and taken apart.
 use Rattle.std.proofs.Common.{◌≡◌, ℕ, zero, suc, ◌+◌, ◌-◌, ◌<◌, ◌≤◌, ◌&&◌, ◌==◌, Bool, true, false, cond, List, [], ◌∷◌, ◌++◌, length, Result, Ok, refl, sym, ap, ap₂, ◌∙◌, subst, append_assoc, arith}
-use Rattle.std.specs.Prelude.{codes, nat_lt, Vec}
+use Rattle.std.specs.Prelude.{codes, nat_lt, Vec, None}
 use Rattle.std.specs.Global.{Global}
 use Rattle.std.proofs.lemmas.Bool.Decides.{nat_tests}
 use Rattle.au_term.specs.Term.{Term, VarTerm, IntTerm, AtomTerm, Compound, Terms, end, more, count, argument, argument_count, term_at}
@@ -47,20 +47,20 @@ variables_further whole built now next i k n lt is pushed h =
 pub variables_over : (whole : List Cell) (built : List Cell) (next i k : ℕ) → k ≤ i → built ++ all_cells (new_variables (next + i) (k - i)) ≡ whole → built ++ [] ≡ whole
 variables_over whole built next i k le h = let none : k - i ≡ 0 = omega arith in ap (λ m. built ++ all_cells (new_variables (next + i) m)) (sym none) ∙ h
 
-pub made_found : (t name : Term) (next k : ℕ) (f : List ℕ) (r : Result (Vec Solution Global) BuiltinRefusal) → top_of name ≡ AtomCell f → 0 < k → IsAnswer (Ok (record { equations = (t, Compound f (new_variables next k)) ∷ []; goals = []; variables = k } ∷ [])) r → IsAnswer (made_term t next name k) r
+pub made_found : (t name : Term) (next k : ℕ) (f : List ℕ) (r : Result (Vec Solution Global) BuiltinRefusal) → top_of name ≡ AtomCell f → 0 < k → IsAnswer (Ok (record { equations = (t, Compound f (new_variables next k)) ∷ []; goals = []; removes = None; variables = k } ∷ [])) r → IsAnswer (made_term t next name k) r
 made_found t name next zero f r top some h = absurd (omega arith)
 made_found t (VarTerm n) next (suc k) f r top some h = absurd cc
 made_found t (IntTerm z) next (suc k) f r top some h = absurd cc
 made_found t (AtomTerm a) next (suc k) f r top some h =
     let same : f ≡ a = cc in
-    subst (λ g. IsAnswer (Ok (record { equations = (t, Compound g (new_variables next (suc k))) ∷ []; goals = []; variables = suc k } ∷ [])) r) same h
+    subst (λ g. IsAnswer (Ok (record { equations = (t, Compound g (new_variables next (suc k))) ∷ []; goals = []; removes = None; variables = suc k } ∷ [])) r) same h
 made_found t (Compound g us) next (suc k) f r top some h = absurd cc
 
-pub same_solution : (t u v w : Term) (j k : ℕ) (r : Result (Vec Solution Global) BuiltinRefusal) → t ≡ u → v ≡ w → j ≡ k → IsAnswer (Ok (record { equations = (t, v) ∷ []; goals = []; variables = j } ∷ [])) r → IsAnswer (Ok (record { equations = (u, w) ∷ []; goals = []; variables = k } ∷ [])) r
+pub same_solution : (t u v w : Term) (j k : ℕ) (r : Result (Vec Solution Global) BuiltinRefusal) → t ≡ u → v ≡ w → j ≡ k → IsAnswer (Ok (record { equations = (t, v) ∷ []; goals = []; removes = None; variables = j } ∷ [])) r → IsAnswer (Ok (record { equations = (u, w) ∷ []; goals = []; removes = None; variables = k } ∷ [])) r
 same_solution t u v w j k r a b c h =
-    subst (λ x. IsAnswer (Ok (record { equations = (x, w) ∷ []; goals = []; variables = k } ∷ [])) r) a
-    (subst (λ x. IsAnswer (Ok (record { equations = (t, x) ∷ []; goals = []; variables = k } ∷ [])) r) b
-    (subst (λ n. IsAnswer (Ok (record { equations = (t, v) ∷ []; goals = []; variables = n } ∷ [])) r) c h))
+    subst (λ x. IsAnswer (Ok (record { equations = (x, w) ∷ []; goals = []; removes = None; variables = k } ∷ [])) r) a
+    (subst (λ x. IsAnswer (Ok (record { equations = (t, x) ∷ []; goals = []; removes = None; variables = k } ∷ [])) r) b
+    (subst (λ n. IsAnswer (Ok (record { equations = (t, v) ∷ []; goals = []; removes = None; variables = n } ∷ [])) r) c h))
 
 -- a first argument by its number
 pub argument_found : (n i : ℕ) (ts : Terms) (x a : Term) (r : Result (Vec Solution Global) BuiltinRefusal) → n ≡ suc i → i < count ts → a ≡ term_at i ts → IsAnswer (equal x a) r → IsAnswer (numbered_argument n ts x) r

@@ -1,5 +1,5 @@
 -- What a call answers.
-use Rattle.std.specs.Prelude.{◌≡◌, List, [], map, Result, Ok, Err, Vec}
+use Rattle.std.specs.Prelude.{◌≡◌, List, [], map, None, Result, Ok, Err, Vec}
 use Rattle.std.specs.Global.{Global}
 use Rattle.au_term.specs.Term.{Term, AtomTerm}
 use Rattle.au_model.specs.Terms.Faults.{error_term_of}
@@ -13,7 +13,7 @@ use Rattle.std_builtins.specs.declared.answer.BuiltinRefusal.{BuiltinRefusal}
 use Rattle.std_builtins.specs.declared.answer.BuiltinRefusal.TheVariants.{Fault, NoMemory}
 
 abbrev pub solution_meant : Solution → SolutionTerms
-solution_meant s = record { equations = s.equations.items; goals = []; variables = s.vars }
+solution_meant s = record { equations = s.equations.items; goals = []; removes = None; variables = s.vars }
 
 -- the solutions or the error of an answer, or running out of memory
 abbrev pub IsAnswer : Answer → Result (Vec Solution Global) BuiltinRefusal → Type 0

@@ -1,5 +1,5 @@
 //! What a built-in predicate answers.
-ghost use Rattle.std.specs.Prelude.{◌≡◌, ◌∷◌, [], Ok, Err};
+ghost use Rattle.std.specs.Prelude.{◌≡◌, ◌∷◌, [], None, Ok, Err};
 ghost use Rattle.au_model.specs.Terms.Faults.{error_term_of};
 ghost use Rattle.run_model.specs.Goals.BuiltinAnswers.{holds_if, equal, one_solution};
 ghost use Rattle.std_builtins.specs.Answers.{IsAnswer};
@@ -72,7 +72,7 @@ pub(crate) fn equal_with(
     right: FlatTerm,
     vars: u64,
 ) -> Result<Vec<Solution>, BuiltinRefusal>
-    ensures { IsAnswer (Ok (record { equations = (left, right) ∷ []; goals = []; variables = vars } ∷ [])) result }
+    ensures { IsAnswer (Ok (record { equations = (left, right) ∷ []; goals = []; removes = None; variables = vars } ∷ [])) result }
 {
     let mut equations = Vec::new(alloc);
     equations.push((left, right))?;

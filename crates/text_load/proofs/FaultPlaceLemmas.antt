@@ -8,7 +8,7 @@ use Rattle.au_model.specs.Syntax.Words.{Lexed, FoundWord, FoundFault, next_word}
 use Rattle.au_model.specs.declared.types.FaultKind.{FaultKind}
 use Rattle.term_reader.proofs.FirstTokenLemmas.{front-end, front-more, tokens-none}
 use Rattle.term_reader.proofs.TokenSequenceLemmas.{scanned-shorter}
-use Rattle.text_load.specs.LoadedTexts.{FirstFault, unread, no_sentence, further, IsRefused, first_setting}
+use Rattle.text_load.specs.LoadedTexts.{Loading, FirstFault, unread, refused, further, IsRefused, first_loading}
 use Rattle.text_load.proofs.RestLemmas.{HasRest, rest-all, rest-then, WordHasRest, GapHasRest, layout-rest, word-rest}
 
 abbrev ScannedHasRest : List ℕ → Scanned → Type 0
@@ -68,12 +68,12 @@ fault-rest s cs from kind (too_many {m = m} f o e) = start-rest m cs from e
 fault-rest s cs from kind (faulty b e) = subst (WordHasRest cs) e (word-rest cs (front cs).rest (front-rest cs))
 fault-rest s cs from kind (ended b e) = record { before = cs; splits = sym (append-nil cs) }
 
-pub first_fault-rest : (cs from : List ℕ) (kind : FaultKind) → FirstFault cs kind from → HasRest cs from
-first_fault-rest cs from kind (unread more none f) = fault-rest first_setting cs from kind f
-first_fault-rest cs from kind (no_sentence h bad e) = start-rest zero cs from e
-first_fault-rest cs from kind (further h s f) = rest-then (subst (HasRest cs) h.left (front-rest cs)) (first_fault-rest _ from kind f)
+pub first_fault-rest : (l : Loading) (cs from : List ℕ) (kind : FaultKind) → FirstFault l cs kind from → HasRest cs from
+first_fault-rest l cs from kind (unread more none f) = fault-rest l.setting cs from kind f
+first_fault-rest l cs from kind (refused h bad e) = start-rest zero cs from e
+first_fault-rest l cs from kind (further h s f) = rest-then (subst (HasRest cs) h.left (front-rest cs)) (first_fault-rest _ _ from kind f)
 
-pub refused-at : (text from : List ℕ) (kind : FaultKind) → FirstFault text kind from → (line : ℕ) × (column : ℕ) × IsRefused text line column kind
+pub refused-at : (text from : List ℕ) (kind : FaultKind) → FirstFault first_loading text kind from → (line : ℕ) × (column : ℕ) × IsRefused text line column kind
 refused-at text from kind f =
-    let l = first_fault-rest text from kind f in
+    let l = first_fault-rest first_loading text from kind f in
     (line_after l.before, column_after l.before, record { before = l.before; from = from; splits = l.splits; fault = f; line_is = refl; column_is = refl })

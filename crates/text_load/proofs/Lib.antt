@@ -1,5 +1,7 @@
+pub mod DirectiveLemmas
 pub mod SentenceFormLemmas
 pub mod GoalBoundLemmas
+pub mod ProcedureLemmas
 pub mod JobAssemblyLemmas
 pub mod SentenceLemmas
 pub mod UniqueLoadLemmas

@@ -15,7 +15,7 @@ use Rattle.text_load.specs.Sentences as form
 use Rattle.text_load.specs.Sentences.{may_head, sentence_of}
 use Rattle.text_load.specs.SentenceForms.{compound_form, sentence_form_of_cell, sentence_written_as}
 use Rattle.text_load.specs.declared.sentence.Form.{Form}
-use Rattle.text_load.specs.declared.sentence.Form.TheVariants.{Query, Rule, Fact}
+use Rattle.text_load.specs.declared.sentence.Form.TheVariants.{Query, Directive, Rule, Fact}
 
 pub may_atom : (t : Term) (a name : List ℕ) (b : Bool) → top_of t ≡ AtomCell a → name ≡ a → b ≡ is_reserved name 0 → not b ≡ may_head t
 may_atom (VarTerm n) a name b e k h = let f : ⊥ = cc in absurd f
@@ -66,6 +66,13 @@ query_has (IntTerm z) e = let f : ⊥ = cc in absurd f
 query_has (AtomTerm a) e = let f : ⊥ = cc in absurd f
 query_has (Compound f end) e = let g : ⊥ = cc in absurd g
 query_has (Compound f (more t ts)) e = omega arith
+
+pub directive_has : (t : Term) → sentence_form_of_cell (top_of t) ≡ Directive → 0 < argument_count t
+directive_has (VarTerm n) e = let f : ⊥ = cc in absurd f
+directive_has (IntTerm z) e = let f : ⊥ = cc in absurd f
+directive_has (AtomTerm a) e = let f : ⊥ = cc in absurd f
+directive_has (Compound f end) e = let g : ⊥ = cc in absurd g
+directive_has (Compound f (more t ts)) e = omega arith
 
 pub rule_has : (t : Term) → sentence_form_of_cell (top_of t) ≡ Rule → 1 < argument_count t
 rule_has (VarTerm n) e = let f : ⊥ = cc in absurd f

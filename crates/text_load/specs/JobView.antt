@@ -1,9 +1,19 @@
--- What a job stands for.
+-- What is kept of a job.
+use Rattle.std.specs.Prelude.{◌≡◌, List}
 use Rattle.std.specs.Arc.{arc_value}
-use Rattle.run_model.specs.Programs.Databases.{no_procedures}
+use Rattle.run_model.specs.Programs.Clauses.{Clause, is_defined}
 use Rattle.run_model.specs.Programs.Jobs.{Job as JobTerms}
-use Rattle.text_load.specs.declared.job.Job.{Job}
+use Rattle.dyn_clauses.specs.declared.indicator.Indicator.{Indicator}
+use Rattle.dyn_clauses.specs.DatabaseView.{is_static}
+use Rattle.text_load.specs.declared.job.JobParts.{JobParts}
 
--- no procedure is dynamic
-abbrev pub job_meant : Job → JobTerms
-job_meant job = record { clauses = arc_value job.procs; database = no_procedures; operators = job.ops; queries = job.queries.items }
+-- Which procedures are static: those that have these clauses. The control constructs, the built-in predicates and the
+-- goals of the world are static too, and told by their own tables.
+abbrev pub AreStatics : List Indicator → List Clause → Type 0
+AreStatics statics clauses = (i : Indicator) → is_static statics i ≡ is_defined clauses i.name i.arity
+
+pub record HasParts (job : JobTerms) (parts : JobParts) : Type 0 where
+  pub clauses : arc_value parts.procs ≡ job.clauses
+  pub database : parts.database.kept ≡ job.database
+  pub operators : parts.ops ≡ job.operators
+  pub queries : parts.queries.items ≡ job.queries

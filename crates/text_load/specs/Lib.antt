@@ -1,8 +1,11 @@
-pub mod QueryView
-pub mod LoadOutcome
-pub mod JobView
-pub mod LoadedSentences
+pub mod Directives
 pub mod Sentences
 pub mod LoadedTexts
-pub mod SentenceForms
 pub mod Totality
+pub mod SentenceForms
+pub mod DirectiveCells
+pub mod QueryView
+pub mod LoadingView
+pub mod LoadedSentences
+pub mod LoadOutcome
+pub mod JobView

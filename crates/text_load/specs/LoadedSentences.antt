@@ -1,20 +1,35 @@
--- What is read of a text.
-use Rattle.std.specs.Prelude.{◌≡◌, List, map}
+-- What is read of a term of a text.
+use Rattle.std.specs.Prelude.{◌≡◌, List, Result, Ok, Err, map}
 use Rattle.std.specs.Arc.{arc_value}
+use Rattle.au_model.specs.declared.types.FaultKind.{FaultKind}
+use Rattle.text_load.specs.Directives as asked
 use Rattle.text_load.specs.Sentences as form
-use Rattle.text_load.specs.LoadedTexts.{clauses_in, queries_in}
-use Rattle.text_load.specs.declared.assembly.Loaded.{Loaded}
+use Rattle.text_load.specs.LoadedTexts.{Loading as LoadingTerms}
+use Rattle.text_load.specs.declared.directive.Directive.{Directive as ReadDirective}
+use Rattle.text_load.specs.declared.directive.Directive.TheVariants.{Dynamic, Discontiguous, Op, Quotes}
 use Rattle.text_load.specs.declared.sentence.Sentence.{Sentence}
-use Rattle.text_load.specs.declared.sentence.Sentence.TheVariants.{Clause, Query, Refused}
+use Rattle.text_load.specs.declared.sentence.Sentence.TheVariants.{Clause, Query, Directive, Refused}
+use Rattle.text_load.specs.declared.loading.Untaken.{Untaken}
+use Rattle.text_load.specs.declared.loading.Untaken.TheVariants.{Fault, NoMemory}
 
--- a sentence is kept as such
+abbrev pub directive_meant : ReadDirective → asked.Directive
+directive_meant (Dynamic is) = asked.MakesDynamic is.items
+directive_meant (Discontiguous is) = asked.LetsStandApart is.items
+directive_meant (Op priority specifier names) = asked.ChangesOperators priority specifier names
+directive_meant (Quotes quotes) = asked.ReadsQuotesAs quotes
+
+abbrev pub sentence_meant : Sentence → form.Sentence
+sentence_meant (Clause c) = form.ClauseSentence (arc_value c)
+sentence_meant (Query q) = form.QuerySentence q
+sentence_meant (Directive d) = form.DirectiveSentence (directive_meant d)
+sentence_meant (Refused kind) = form.NoSentence kind
+
+-- a sentence is read as such
 abbrev pub IsSentenceOf : form.Sentence → Sentence → Type 0
-IsSentenceOf (form.ClauseSentence c) (Clause kept) = arc_value kept ≡ c
-IsSentenceOf (form.QuerySentence q) (Query kept) = kept ≡ q
-IsSentenceOf (form.NoSentence kind) (Refused other) = other ≡ kind
-IsSentenceOf s kept = ⊥
+IsSentenceOf s kept = sentence_meant kept ≡ s
 
--- the clauses and queries of sentences
-pub record AreLoaded (xs : List form.Sentence) (l : Loaded) : Type 0 where
-  pub clauses : map arc_value l.clauses.items ≡ clauses_in xs
-  pub queries : l.queries.items ≡ queries_in xs
+-- what is loaded with a sentence more, or its fault
+abbrev pub IsTaken : {X : Type 0} → (X → LoadingTerms) → Result LoadingTerms FaultKind → Result X Untaken → Type 0
+IsTaken meant wanted (Ok l) = wanted ≡ Ok (meant l)
+IsTaken meant wanted (Err (Fault kind)) = wanted ≡ Err kind
+IsTaken meant wanted (Err NoMemory) = Unit {0}

@@ -6,9 +6,9 @@ use Rattle.au_term.specs.declared.cell.Cell.TheVariants.{Var as VarCell, Int as 
 use Rattle.au_model.specs.Terms.Forms.{same_name}
 use Rattle.run_model.specs.Programs.Bodies.{called_goals}
 use Rattle.au_model.specs.Terms.Named.{NamedVariable}
-use Rattle.au_model.specs.declared.types.FaultKind.TheVariants.{BadDirective}
 use Rattle.text_load.specs.Sentences as form
-use Rattle.text_load.specs.Sentences.{query_with, clause_of, fact_of, NoSentence}
+use Rattle.text_load.specs.Sentences.{query_with, directive_with, clause_of, fact_of}
+use Rattle.text_load.specs.Directives.{directive_of}
 use Rattle.text_load.specs.declared.sentence.Form.{Form}
 use Rattle.text_load.specs.declared.sentence.Form.TheVariants.{Query, Directive, Rule, Fact}
 
@@ -27,6 +27,6 @@ sentence_form_of_cell (Functor f n) = compound_form n (same_name f (codes "?-"))
 
 abbrev pub sentence_written_as : Form → List NamedVariable → Term → form.Sentence
 sentence_written_as Query names t = query_with names (called_goals (argument 0 t))
-sentence_written_as Directive names t = NoSentence BadDirective
+sentence_written_as Directive names t = directive_with (directive_of (argument 0 t))
 sentence_written_as Rule names t = clause_of (argument 0 t) (argument 1 t)
 sentence_written_as Fact names t = fact_of t

@@ -1,5 +1,5 @@
--- What a term of a text is: a clause, a query, or neither (ISO/IEC 13211-1, 6.2.1 and 7.4). That a query is in the
--- text is our own.
+-- What a term of a text is: a clause, a query, a directive, or none of them (ISO/IEC 13211-1, 6.2.1 and 7.4). That a
+-- query is in the text is our own.
 use Rattle.std.specs.Prelude.{ℕ, Bool, not, ◌&&◌, List, Option, Some, None, codes, if◌then◌else◌, cond}
 use Rattle.au_term.specs.Term.{Term, AtomTerm, Compound, end, more, argument_count}
 use Rattle.au_model.specs.Terms.Forms.{same_name, name_of, is_callable}
@@ -13,11 +13,13 @@ use Rattle.au_model.specs.Syntax.VariableNumbers as reading
 use Rattle.au_model.specs.Syntax.VariableNumbers.{no_variables}
 use Rattle.au_model.specs.declared.types.FaultKind.{FaultKind}
 use Rattle.au_model.specs.declared.types.FaultKind.TheVariants.{BadClause, BadDirective}
-use Rattle.clause_compile.specs.CompiledClauses.{numbered}
+use Rattle.run_model.specs.Programs.Clauses.{numbered}
+use Rattle.text_load.specs.Directives.{Directive, directive_of}
 
 pub data Sentence : Type 0 where
   ClauseSentence : Clause → Sentence
   QuerySentence : Query → Sentence
+  DirectiveSentence : Directive → Sentence
   NoSentence : FaultKind → Sentence
 
 -- a head names a procedure that a text may define
@@ -39,11 +41,14 @@ abbrev pub query_with : List NamedVariable → Option (List Term) → Sentence
 query_with names (Some gs) = QuerySentence (record { goals = gs; names = names })
 query_with names None = NoSentence BadClause
 
--- no directive is one yet
+abbrev pub directive_with : Option Directive → Sentence
+directive_with (Some d) = DirectiveSentence d
+directive_with None = NoSentence BadDirective
+
 abbrev pub prefixed_sentence : List NamedVariable → List ℕ → Term → Sentence
 prefixed_sentence names f t =
     if same_name f (codes "?-") then query_with names (called_goals t)
-    else if same_name f (codes ":-") then NoSentence BadDirective
+    else if same_name f (codes ":-") then directive_with (directive_of t)
     else fact_of (Compound f (more t end))
 
 abbrev pub sentence_of : List NamedVariable → Term → Sentence
@@ -54,8 +59,3 @@ sentence_of names t = fact_of t
 -- the sentence of a term as it is spelled
 abbrev pub sentence : Tree → Sentence
 sentence t = let r = reading.numbered no_variables t in sentence_of r.1.named r.0
-
-abbrev pub IsSentence : Sentence → Type 0
-IsSentence (ClauseSentence c) = Unit {0}
-IsSentence (QuerySentence q) = Unit {0}
-IsSentence (NoSentence kind) = ⊥

@@ -8,8 +8,7 @@ use Rattle.au_model.specs.Syntax.TextFaults.{Fault}
 use Rattle.au_model.specs.Syntax.Trees.{Tree}
 use Rattle.au_model.specs.declared.types.FaultKind.{FaultKind}
 use Rattle.text_load.specs.LoadOutcome.{IsTextRefused}
-use Rattle.text_load.specs.LoadedTexts.{FirstFault, IsRefused, LoadsTo, Sentences}
-use Rattle.text_load.specs.Sentences.{Sentence}
+use Rattle.text_load.specs.LoadedTexts.{Loading, FirstFault, IsRefused, Loads, LoadsTo}
 
 abbrev pub IsNeverNeither : Type 0 → Type 0 → Type 0
 IsNeverNeither A B = (A → ⊥) → (B → ⊥) → ⊥
@@ -20,11 +19,11 @@ HasTermFirst s cs = (t : Tree) × (rest : List ℕ) × SpellsTermWithEnd s cs t 
 abbrev pub HasFault : Setting → List ℕ → Type 0
 HasFault s cs = (kind : FaultKind) × (from : List ℕ) × Fault s cs kind from
 
-abbrev pub HasSentences : List ℕ → Type 0
-HasSentences text = (xs : List Sentence) × Sentences text xs
+abbrev pub HasAllLoaded : Loading → List ℕ → Type 0
+HasAllLoaded l text = (all : Loading) × Loads l text all
 
-abbrev pub HasFirstFault : List ℕ → Type 0
-HasFirstFault text = (kind : FaultKind) × (from : List ℕ) × FirstFault text kind from
+abbrev pub HasFirstFault : Loading → List ℕ → Type 0
+HasFirstFault l text = (kind : FaultKind) × (from : List ℕ) × FirstFault l text kind from
 
 abbrev pub HasJob : List ℕ → List ℕ → Type 0
 HasJob library text = (job : Job) × LoadsTo library text job

@@ -1,77 +1,61 @@
-//! The job of a library's sentences and a text's.
-ghost use Rattle.std.specs.Prelude.{◌≡◌, ◌++◌, ◌&&◌, ◌==◌, true, IfOk, List, OnOk, map};
+//! The job of what is loaded of a library and of a text.
+ghost use Rattle.std.specs.Prelude.{◌≡◌, ◌++◌, ◌||◌, false, IfOk, OnOk, map, fold};
 ghost use Rattle.std.specs.Arc.{arc_value};
-ghost use Rattle.au_term.specs.Term.{argument_count};
-ghost use Rattle.au_model.specs.Terms.Forms.{is_callable, name_of, same_name};
-ghost use Rattle.run_model.specs.Programs.Clauses.{is_clause_of, is_defined};
-ghost use Rattle.au_model.specs.Syntax.Operators.{initial_operators};
-ghost use Rattle.text_load.specs.JobView.{job_meant};
-ghost use Rattle.text_load.specs.LoadedTexts.{job_of, not_defined_by};
-ghost use Rattle.text_load.specs.LoadedSentences.{AreLoaded};
-ghost use Rattle.text_load.specs.Sentences.{Sentence as SentenceTerms};
+ghost use Rattle.au_model.specs.Terms.Each.{Each};
+ghost use Rattle.run_model.specs.Programs.Clauses.{is_clause_of};
+ghost use Rattle.run_model.specs.Programs.DatabaseChanges.{declared_in, with_last_clause};
+ghost use Rattle.dyn_clauses.specs.declared.indicator.Indicator.{Indicator as IndicatorTerms};
+ghost use Rattle.dyn_clauses.specs.DatabaseView.{is_static};
+ghost use Rattle.dyn_clauses.specs.ClauseEnds.{indicator_of};
+ghost use Rattle.text_load.specs.JobView.{AreStatics};
+ghost use Rattle.text_load.specs.LoadingView.{AreApart};
+ghost use Rattle.text_load.specs.LoadedTexts.{clauses_beside, database_of, job_of, procedures_beside};
 
 use crate::job::Job;
-use crate::query::Query;
-use au_model::names::name_of;
-use au_term::{FlatTerm, NoMemory};
+use crate::loading::Loading;
+use au_term::NoMemory;
 use clause_compile::Clause;
-use op_table::Ops;
+use dyn_clauses::{DataRefusal, Database, Indicator};
 use proc_index::Procs;
 use std::alloc::Global;
 use std::sync::Arc;
 
-/// The clauses and the queries of a text, each in their order.
-#[derive(Drop)]
-pub(crate) struct Loaded {
-    pub(crate) clauses: Vec<Arc<Clause>>,
-    pub(crate) queries: Vec<Query>,
-}
-
 /// The job of a library and a text. A procedure that the text defines is the text's alone.
-pub(crate) fn job_from(
-    alloc: Global,
-    ops: Ops,
-    library: Loaded,
-    text: Loaded,
-) -> Result<Job, NoMemory>
-    requires { ops ≡ initial_operators }
-    ensures { IfOk result (λ job. (others own : List SentenceTerms) → AreLoaded others library → AreLoaded own text → job_meant job ≡ job_of others own) }
+pub(crate) fn job_from(alloc: Global, library: Loading, text: Loading) -> Result<Job, NoMemory>
+    ensures { IfOk result (λ job. job ≡ job_of library text) }
 {
-    let clauses = clauses_of(alloc, &library.clauses, &text.clauses)?;
+    let clauses = clauses_of(alloc, &library, &text)?;
+    let database = database_of(alloc, &clauses, &library, &text)?;
     let (mut queries, mut own) = (library.queries, text.queries);
     queries.append(&mut own)?;
     let procs = Arc::new(alloc, Procs::new(alloc, clauses)?)?;
-    Ok(Job {
-        procs,
-        ops,
-        queries,
-    })
+    Ok(Job::new(procs, database, text.ops, queries))
 }
 
-/// The library's clauses of procedures that the text does not define, and the text's.
+/// The static clauses of a library beside a text, and those of the text.
 fn clauses_of(
     alloc: Global,
-    library: &[Arc<Clause>],
-    text: &[Arc<Clause>],
+    library: &Loading,
+    text: &Loading,
 ) -> Result<Vec<Arc<Clause>>, NoMemory>
-    ensures { IfOk result (λ clauses. map arc_value clauses.items ≡ not_defined_by (map arc_value text.now) (map arc_value library.now) ++ map arc_value text.now) }
+    ensures { IfOk result (λ clauses. map arc_value clauses.items ≡ clauses_beside text.now library.now.statics ++ text.now.statics) }
 {
     let mut clauses = Vec::new(alloc);
-    push_undefined(library, text, &mut clauses)?;
-    push_all(text, &mut clauses)?;
+    push_beside(library.statics.clauses(), text, &mut clauses)?;
+    push_all(text.statics.clauses(), &mut clauses)?;
     Ok(clauses)
 }
 
-/// Puts the clauses of procedures that others do not define after those that are there.
-fn push_undefined(
+/// Puts the clauses of procedures that a text does not define after those that are there.
+fn push_beside(
     library: &[Arc<Clause>],
-    others: &[Arc<Clause>],
+    text: &Loading,
     clauses: &mut Vec<Arc<Clause>>,
 ) -> Result<(), NoMemory>
-    ensures { OnOk result (map arc_value clauses.new.items ≡ map arc_value clauses.old.items ++ not_defined_by (map arc_value others.now) (map arc_value library.now)) }
+    ensures { OnOk result (map arc_value clauses.new.items ≡ map arc_value clauses.old.items ++ clauses_beside text.now (map arc_value library.now)) }
 {
     for clause in library {
-        if !is_defined(others, clause.head()) {
+        if !text.defines_that_of(clause)? {
             clauses.push(clause.clone()?)?;
         }
     }
@@ -88,25 +72,128 @@ fn push_all(more: &[Arc<Clause>], clauses: &mut Vec<Arc<Clause>>) -> Result<(), 
     Ok(())
 }
 
-/// Whether one of the clauses is of the procedure of a head.
-fn is_defined(clauses: &[Arc<Clause>], head: &FlatTerm) -> bool
-    requires { is_callable head.now ≡ true }
-    ensures { result ≡ is_defined (map arc_value clauses.now) (name_of head.now) (argument_count head.now) }
+/// The dynamic clauses of a library beside a text, and those of the text.
+fn dynamic_clauses_of(
+    alloc: Global,
+    library: &Loading,
+    text: &Loading,
+) -> Result<Vec<Arc<Clause>>, NoMemory>
+    ensures { IfOk result (λ clauses. map arc_value clauses.items ≡ clauses_beside text.now library.now.dynamics ++ text.now.dynamics) }
 {
-    for clause in clauses {
-        if is_alike(clause.head(), head) {
-            return true;
-        }
-    }
-    false
+    let mut clauses = Vec::new(alloc);
+    push_beside(&library.dynamics, text, &mut clauses)?;
+    push_all(&text.dynamics, &mut clauses)?;
+    Ok(clauses)
 }
 
-/// Whether two heads have one name and number of arguments.
-fn is_alike(head: &FlatTerm, other: &FlatTerm) -> bool
-    requires head { is_callable head.now ≡ true }
-    requires other { is_callable other.now ≡ true }
-    ensures { result ≡ (same_name (name_of head.now) (name_of other.now) && argument_count head.now == argument_count other.now) }
+/// The dynamic procedures of a library beside a text, and those of the text.
+fn procedures_of(
+    alloc: Global,
+    library: &Loading,
+    text: &Loading,
+) -> Result<Vec<Indicator>, NoMemory>
+    ensures procedures { IfOk result (λ procedures. procedures.items ≡ procedures_beside text.now library.now.declared ++ text.now.declared) }
+    ensures library { IfOk result (λ procedures. AreApart library.now.declared library.now.statics library.now.dynamics) }
+    ensures text { IfOk result (λ procedures. AreApart text.now.declared text.now.statics text.now.dynamics) }
 {
-    let same = name_of(head).same(name_of(other));
-    same && head.arity() == other.arity()
+    let mut procedures = Vec::new(alloc);
+    push_procedures_beside(library.declared_procedures(), text, &mut procedures)?;
+    push_procedures(text.declared_procedures(), &mut procedures)?;
+    Ok(procedures)
+}
+
+/// Puts the procedures that a text does not define after those that are there.
+fn push_procedures_beside(
+    library: &[Indicator],
+    text: &Loading,
+    procedures: &mut Vec<Indicator>,
+) -> Result<(), NoMemory>
+    ensures { OnOk result (procedures.new.items ≡ procedures.old.items ++ procedures_beside text.now library.now) }
+{
+    for procedure in library {
+        if !text.defines(procedure) {
+            procedures.push(procedure.share()?)?;
+        }
+    }
+    Ok(())
+}
+
+/// Puts procedures after those that are there.
+fn push_procedures(more: &[Indicator], procedures: &mut Vec<Indicator>) -> Result<(), NoMemory>
+    ensures { OnOk result (procedures.new.items ≡ procedures.old.items ++ more.now) }
+{
+    for procedure in more {
+        procedures.push(procedure.share()?)?;
+    }
+    Ok(())
+}
+
+/// The database of a library and a text, beside the procedures of static clauses.
+fn database_of(
+    alloc: Global,
+    statics: &[Arc<Clause>],
+    library: &Loading,
+    text: &Loading,
+) -> Result<Database, NoMemory>
+    requires { map arc_value statics.now ≡ clauses_beside text.now library.now.statics ++ text.now.statics }
+    ensures kept { IfOk result (λ d. d.kept ≡ database_of (procedures_beside text.now library.now.declared ++ text.now.declared) (clauses_beside text.now library.now.dynamics ++ text.now.dynamics)) }
+    ensures statics { IfOk result (λ d. AreStatics d.statics (map arc_value statics.now)) }
+{
+    let mut database = Database::new(alloc, defined_by(alloc, statics)?)?;
+    let procedures = procedures_of(alloc, library, text)?;
+    declare_all(&procedures, &mut database)?;
+    let clauses = dynamic_clauses_of(alloc, library, text)?;
+    add_all(&clauses, &mut database)?;
+    Ok(database)
+}
+
+/// The procedures of clauses.
+fn defined_by(alloc: Global, clauses: &[Arc<Clause>]) -> Result<Vec<Indicator>, NoMemory>
+    ensures { IfOk result (λ is. AreStatics is.items (map arc_value clauses.now)) }
+{
+    let mut procedures = Vec::new(alloc);
+    for clause in clauses {
+        push_procedure(clause, &mut procedures)?;
+    }
+    Ok(procedures)
+}
+
+/// Puts the procedure of a clause after those that are there.
+fn push_procedure(clause: &Clause, procedures: &mut Vec<Indicator>) -> Result<(), NoMemory>
+    ensures { OnOk result ((i : IndicatorTerms) → is_static procedures.new.items i ≡ (is_static procedures.old.items i || is_clause_of i.name i.arity clause.now)) }
+{
+    procedures.push(Indicator::of_clause(clause)?)?;
+    Ok(())
+}
+
+/// Makes procedures dynamic.
+fn declare_all(procedures: &[Indicator], database: &mut Database) -> Result<(), NoMemory>
+    requires { Each (λ i. is_static database.old.statics i ≡ false) procedures.now }
+    ensures kept { OnOk result (database.new.kept ≡ fold (λ db i. declared_in db i.name i.arity) database.old.kept procedures.now) }
+    ensures statics { OnOk result (database.new.statics ≡ database.old.statics) }
+{
+    for procedure in procedures {
+        match database.declare(procedure) {
+            Ok(()) => {}
+            Err(DataRefusal::NoMemory) => return Err(NoMemory),
+            Err(DataRefusal::Static) => unreachable!(),
+        }
+    }
+    Ok(())
+}
+
+/// Puts clauses of dynamic procedures after those that are there.
+fn add_all(clauses: &[Arc<Clause>], database: &mut Database) -> Result<(), NoMemory>
+    requires { Each (λ c. is_static database.old.statics (indicator_of c) ≡ false) (map arc_value clauses.now) }
+    ensures kept { OnOk result (database.new.kept ≡ fold with_last_clause database.old.kept (map arc_value clauses.now)) }
+    ensures statics { OnOk result (database.new.statics ≡ database.old.statics) }
+{
+    for clause in clauses {
+        match database.add_last(clause.clone()?) {
+            Ok(_) => {}
+            Err(DataRefusal::NoMemory) => return Err(NoMemory),
+            Err(DataRefusal::Static) => unreachable!(),
+        }
+    }
+    Ok(())
 }

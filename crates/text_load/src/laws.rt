@@ -3,14 +3,13 @@ ghost use Rattle.std.specs.Prelude.{◌≡◌, ℕ, List};
 ghost use Rattle.run_model.specs.Programs.Jobs.{Job};
 ghost use Rattle.au_model.specs.Syntax.Primaries.{Setting};
 ghost use Rattle.au_model.specs.declared.types.FaultKind.{FaultKind};
-ghost use Rattle.text_load.specs.Sentences.{Sentence};
-ghost use Rattle.text_load.specs.LoadedTexts.{FirstFault, IsOneRefusal, LoadsTo, Sentences};
-ghost use Rattle.text_load.specs.Totality.{HasFault, HasFirstFault, HasJob, HasRefusal, HasSentences, HasTermFirst, IsNeverNeither};
+ghost use Rattle.text_load.specs.LoadedTexts.{FirstFault, IsOneRefusal, Loading, Loads, LoadsTo};
+ghost use Rattle.text_load.specs.Totality.{HasAllLoaded, HasFault, HasFirstFault, HasJob, HasRefusal, HasTermFirst, IsNeverNeither};
 
 /// A text loads to one job at most, a text of sentences has no fault, and the first fault of another text is one.
 pub fn texts_load_to_one_job()
     ensures one { (library text : List ℕ) (job other : Job) → LoadsTo library text job → LoadsTo library text other → job ≡ other }
-    ensures none { (text from : List ℕ) (xs : List Sentence) (kind : FaultKind) → Sentences text xs → FirstFault text kind from → ⊥ }
+    ensures none { (l all : Loading) (text from : List ℕ) (kind : FaultKind) → Loads l text all → FirstFault l text kind from → ⊥ }
     ensures refused { (text : List ℕ) → IsOneRefusal text }
 {}
 
@@ -21,6 +20,6 @@ pub fn terms_are_read_or_refused()
 
 /// It is never that a text has neither sentences nor a first fault, and so never that it neither loads nor is refused.
 pub fn texts_load_or_are_refused()
-    ensures sentences { (text : List ℕ) → IsNeverNeither (HasSentences text) (HasFirstFault text) }
+    ensures sentences { (l : Loading) (text : List ℕ) → IsNeverNeither (HasAllLoaded l text) (HasFirstFault l text) }
     ensures job { (library text : List ℕ) → IsNeverNeither (HasJob library text) (HasRefusal library text) }
 {}

@@ -2,15 +2,17 @@
 #![tactic(auto)]
 
 mod assembly;
+mod directive;
 pub mod job;
 pub mod laws;
+mod loading;
+mod procedures;
 pub mod query;
 pub mod reading;
-mod reserved;
 mod sentence;
 #[cfg(test)]
 mod tests;
 
-pub use job::Job;
+pub use job::{Job, JobParts};
 pub use query::Query;
 pub use reading::{LoadRefusal, load};

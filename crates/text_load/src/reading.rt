@@ -1,21 +1,17 @@
 //! Loading a text.
-ghost use Rattle.std.specs.Prelude.{◌≡◌, ◌++◌, ◌∷◌, [], IfOk, OnOk, IfErr, IsCharBoundary, List};
+ghost use Rattle.std.specs.Prelude.{◌≡◌, IfOk, IfErr, IsCharBoundary};
 ghost use Rattle.std.specs.Str.{chars};
-ghost use Rattle.au_model.specs.Syntax.Characters.{chars_from};
-ghost use Rattle.au_model.specs.Syntax.Operators.{initial_operators};
-ghost use Rattle.au_model.specs.Syntax.Trees.{Tree};
-ghost use Rattle.text_load.specs.LoadOutcome.{AreSentencesLoaded, IsNext, IsRefusedAt, IsLoadRefusal, HoldsSentence, BeginsTermAt, refusal_by};
-ghost use Rattle.text_load.specs.JobView.{job_meant};
-ghost use Rattle.text_load.specs.LoadedSentences.{AreLoaded, IsSentenceOf};
-ghost use Rattle.text_load.specs.Sentences.{Sentence as SentenceTerms, IsSentence};
-ghost use Rattle.text_load.specs.LoadedTexts.{LoadsTo};
+ghost use Rattle.au_model.specs.Syntax.Primaries.{Setting};
+ghost use Rattle.text_load.specs.LoadOutcome.{IsNext, IsStep, IsRefusedAt, IsLoadRefusal, BeginsTermAt, refusal_by};
+ghost use Rattle.text_load.specs.LoadedTexts.{LoadsTo, Loads, first_loading};
+ghost use Rattle.text_load.specs.LoadedSentences.{sentence_meant};
 
-use crate::assembly::{Loaded, job_from};
+use crate::assembly::job_from;
 use crate::job::Job;
+use crate::loading::{Loading, Untaken};
 use crate::sentence::{Sentence, sentence_of};
-use au_model::{DoubleQuotes, FaultKind};
+use au_model::FaultKind;
 use au_term::NoMemory;
-use op_table::Ops;
 use std::alloc::Global;
 use term_reader::{ReadOutcome, ReadRefused, line_and_column, read_term};
 use token_scan::next_token;
@@ -44,32 +40,26 @@ impl From<NoMemory> for LoadRefusal {
 /// The job that a text loads to, with the procedures of a library that the text does not define (ISO/IEC 13211-1,
 /// 7.4), or the first fault of the library or else of the text.
 pub fn load(alloc: Global, library: &str, text: &str) -> Result<Job, LoadRefusal>
-    ensures ok { IfOk result (λ job. LoadsTo (chars library.now) (chars text.now) (job_meant job)) }
+    ensures ok { IfOk result (LoadsTo (chars library.now) (chars text.now)) }
     ensures refused { IfErr result (IsLoadRefusal (chars library.now) (chars text.now)) }
 {
-    let ops = Ops::initial(alloc)?;
-    let library = loaded(alloc, &ops, library)?;
-    let own = loaded(alloc, &ops, text)?;
-    Ok(job_from(alloc, ops, library, own)?)
+    let library = loaded(alloc, library)?;
+    let own = loaded(alloc, text)?;
+    Ok(job_from(alloc, library, own)?)
 }
 
-/// The clauses and queries of a text.
-fn loaded(alloc: Global, ops: &Ops, text: &str) -> Result<Loaded, LoadRefusal>
-    requires { ops.now ≡ initial_operators }
-    ensures ok { IfOk result (AreSentencesLoaded (chars text.now)) }
+/// What is loaded of a text.
+fn loaded(alloc: Global, text: &str) -> Result<Loading, LoadRefusal>
+    ensures ok { IfOk result (Loads first_loading (chars text.now)) }
     ensures refused { IfErr result (IsRefusedAt (chars text.now)) }
 {
-    let mut loaded = Loaded {
-        clauses: Vec::new(alloc),
-        queries: Vec::new(alloc),
-    };
+    let mut loading = Loading::new(alloc)?;
     let mut at = 0;
     'sentences: loop {
-        let next = next_sentence(alloc, ops, text, at)?;
-        match next {
-            Next::Over => return Ok(loaded),
+        match next_sentence(alloc, &loading, text, at)? {
+            Next::Over => return Ok(loading),
             Next::Sentence(sentence, end) => {
-                keep(&mut loaded, sentence)?;
+                loading = taken(loading, sentence, text, at)?;
                 at = end;
             }
         }
@@ -83,17 +73,22 @@ pub(crate) enum Next {
     Over,
 }
 
-/// The sentence at the front of what is left of a text.
-fn next_sentence(alloc: Global, ops: &Ops, text: &str, at: usize) -> Result<Next, LoadRefusal>
-    requires ops { ops.now ≡ initial_operators }
-    requires at { IsCharBoundary text.now at }
-    ensures { IsNext text.now at result }
+/// What the term is that is in front of what is left of a text, as it is read with the operators and the meaning of
+/// double-quoted items in force.
+fn next_sentence(
+    alloc: Global,
+    loading: &Loading,
+    text: &str,
+    at: usize,
+) -> Result<Next, LoadRefusal>
+    requires { IsCharBoundary text.now at }
+    ensures { IsNext loading.now text.now at result }
 {
-    match read_term(alloc, text, at, ops, DoubleQuotes::Codes) {
+    match read_term(alloc, text, at, &loading.ops, loading.quotes) {
         Ok(ReadOutcome::EndOfText) => Ok(Next::Over),
         Ok(ReadOutcome::Read { term, names, end }) => {
             let sentence = sentence_of(alloc, term, names)?;
-            sentence_at(text, at, sentence, end)
+            Ok(Next::Sentence(sentence, end))
         }
         Err(refused) => Err(refusal_of(refused)),
     }
@@ -109,40 +104,34 @@ fn refusal_of(refused: ReadRefused) -> LoadRefusal
     }
 }
 
-/// A sentence that was read, or the refusal of its term, which is blamed at its first token.
-fn sentence_at(text: &str, at: usize, sentence: Sentence, end: usize) -> Result<Next, LoadRefusal>
+/// What is loaded with a sentence more, or its refusal: its term is blamed at its first token.
+fn taken(
+    loading: Loading,
+    sentence: Sentence,
+    text: &str,
+    at: usize,
+) -> Result<Loading, LoadRefusal>
     requires { IsCharBoundary text.now at }
-    ensures { (t : Tree) → HoldsSentence text.now at t sentence end → IsNext text.now at result }
+    ensures { IsStep loading (sentence_meant sentence) text.now at result }
 {
-    match sentence {
-        Sentence::Refused(kind) => {
+    match loading.take(sentence) {
+        Ok(loading) => Ok(loading),
+        Err(Untaken::Fault(kind)) => {
             let (line, column) = line_and_column(text, first_token(text, at));
             Err(LoadRefusal::Refused { line, column, kind })
         }
-        kept => Ok(Next::Sentence(kept, end)),
+        Err(Untaken::NoMemory) => Err(LoadRefusal::NoMemory),
     }
 }
 
 /// The place of the first token after a place.
 fn first_token(text: &str, at: usize) -> usize
     requires { IsCharBoundary text.now at }
-    ensures begins { BeginsTermAt text.now at result }
+    ensures begins { (s : Setting) → BeginsTermAt s text.now at result }
     ensures place { IsCharBoundary text.now result }
 {
     match next_token(text, at) {
         Ok(token) => token.start,
         Err(_) => at,
     }
-}
-
-/// Puts a sentence after those that are kept.
-fn keep(loaded: &mut Loaded, sentence: Sentence) -> Result<(), NoMemory>
-    ensures { OnOk result ((xs : List SentenceTerms) (x : SentenceTerms) → AreLoaded xs loaded.old → IsSentence x → IsSentenceOf x sentence → AreLoaded (xs ++ x ∷ []) loaded.new) }
-{
-    match sentence {
-        Sentence::Clause(clause) => loaded.clauses.push(clause)?,
-        Sentence::Query(query) => loaded.queries.push(query)?,
-        Sentence::Refused(_) => {}
-    }
-    Ok(())
 }

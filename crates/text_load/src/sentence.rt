@@ -5,23 +5,26 @@ ghost use Rattle.au_term.specs.Term.{argument, argument_count};
 ghost use Rattle.au_model.specs.Terms.Named.{variable_meant};
 ghost use Rattle.text_load.specs.LoadedSentences.{IsSentenceOf};
 ghost use Rattle.text_load.specs.SentenceForms.{sentence_form_of_cell, compound_form};
-ghost use Rattle.text_load.specs.Sentences.{may_head, clause_of, query_with, sentence_of};
+ghost use Rattle.text_load.specs.Sentences.{may_head, clause_of, directive_with, query_with, sentence_of};
+ghost use Rattle.text_load.specs.Directives.{directive_of};
 ghost use Rattle.run_model.specs.Programs.Bodies.{called_goals};
 
+use crate::directive::{Directive, argument, directive_of};
 use crate::query::Query;
-use crate::reserved::is_reserved;
 use au_model::build::atom;
 use au_model::{FaultKind, VarName};
 use au_term::{Atom, Cell, FlatTerm, NoMemory, Shared, VarNo};
 use clause_compile::{Clause, ClauseRefusal, Goals, Scope, body_goals, compile};
 use std::alloc::Global;
 use std::sync::Arc;
+use std_builtins::is_reserved;
 
 /// What a term of a text is.
 #[derive(Drop)]
 pub(crate) enum Sentence {
     Clause(Arc<Clause>),
     Query(Query),
+    Directive(Directive),
     Refused(FaultKind),
 }
 
@@ -36,7 +39,7 @@ pub(crate) fn sentence_of(
     let form = form_of(term.top());
     match form {
         Form::Query => asked(alloc, term, names),
-        Form::Directive => Ok(Sentence::Refused(FaultKind::BadDirective)),
+        Form::Directive => directive(alloc, &term),
         Form::Rule => rule(alloc, term),
         Form::Fact => clause(alloc, &term, &atom(alloc, "true")?),
     }
@@ -86,6 +89,17 @@ fn asked(alloc: Global, term: FlatTerm, names: Vec<VarName>) -> Result<Sentence,
     let term = Shared::from_term(alloc, term)?;
     let body = term.argument(0)?;
     query(alloc, &body, names)
+}
+
+/// The directive that is in a term.
+fn directive(alloc: Global, term: &FlatTerm) -> Result<Sentence, NoMemory>
+    requires { 0 < argument_count term.now }
+    ensures { IfOk result (IsSentenceOf (directive_with (directive_of (argument 0 term.now)))) }
+{
+    match directive_of(alloc, &argument(alloc, term, 0)?)? {
+        Some(directive) => Ok(Sentence::Directive(directive)),
+        None => Ok(Sentence::Refused(FaultKind::BadDirective)),
+    }
 }
 
 /// The clause of a head and a body that are in one term.

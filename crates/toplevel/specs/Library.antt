@@ -1,8 +1,7 @@
 -- The library: predicates on lists that every text has, as common Prolog systems define them. A name with `$` is the
 -- library's own.
 use Rattle.std.specs.Prelude.{ℕ, List, [], ◌∷◌, ◌++◌, codes}
-use Rattle.text_load.specs.LoadedTexts.{Sentences}
-use Rattle.text_load.specs.Sentences.{Sentence}
+use Rattle.text_load.specs.LoadedTexts.{Loading, Loads, first_loading}
 
 -- lines with their line feeds
 abbrev lines : List (List ℕ) → List ℕ
@@ -34,4 +33,4 @@ library_text = lines (
 
 -- the library has no fault
 abbrev pub IsLibraryLoaded : Type 0
-IsLibraryLoaded = (xs : List Sentence) × Sentences library_text xs
+IsLibraryLoaded = (all : Loading) × Loads first_loading library_text all

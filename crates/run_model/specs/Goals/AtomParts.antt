@@ -1,6 +1,6 @@
 -- Atoms put together and taken apart (ISO/IEC 13211-1, 8.16.2 and 8.16.3). Only the parts that fit the arguments are
 -- solutions.
-use Rattle.std.specs.Prelude.{ℕ, suc, ◌-◌, ◌==◌, Bool, true, ◌&&◌, ◌||◌, pos, if◌then◌else◌, List, [], ◌∷◌, ◌++◌, map, filter, flat_map, take, drop, length, codes, Ok, Err}
+use Rattle.std.specs.Prelude.{ℕ, suc, ◌-◌, ◌==◌, Bool, true, ◌&&◌, ◌||◌, pos, if◌then◌else◌, List, [], ◌∷◌, ◌++◌, map, filter, flat_map, take, drop, length, codes, Ok, Err, None}
 use Rattle.std.specs.List.{range_with_len}
 use Rattle.au_term.specs.Term.{Term, VarTerm, IntTerm, AtomTerm, Compound, more, end, term_at}
 use Rattle.au_model.specs.Terms.Forms.{same_name, name_of}
@@ -22,7 +22,7 @@ admits_count (IntTerm (pos n)) k = n == k
 admits_count t k = true
 
 abbrev pub solution_with : List (Term × Term) → Solution
-solution_with equations = record { equations = equations; goals = []; variables = 0 }
+solution_with equations = record { equations = equations; goals = []; removes = None; variables = 0 }
 
 -- ---- two parts
 

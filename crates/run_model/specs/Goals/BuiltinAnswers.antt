@@ -1,5 +1,5 @@
 -- What a built-in predicate comes to: its solutions in order, or an error without the goal that raised it.
-use Rattle.std.specs.Prelude.{ℕ, Bool, true, false, List, [], ◌∷◌, Result, Ok, Err}
+use Rattle.std.specs.Prelude.{ℕ, Bool, true, false, List, [], ◌∷◌, Result, Ok, Err, None}
 use Rattle.au_term.specs.Term.{Term, Terms}
 use Rattle.au_model.specs.Terms.Unifier.{Equations}
 use Rattle.au_model.specs.Terms.ErrorTerms.{error_term}
@@ -11,7 +11,7 @@ Answer = Result (List Solution) Term
 
 -- one solution: where the equations unify
 abbrev pub one_solution : Equations → Answer
-one_solution equations = Ok (record { equations = equations; goals = []; variables = 0 } ∷ [])
+one_solution equations = Ok (record { equations = equations; goals = []; removes = None; variables = 0 } ∷ [])
 
 abbrev pub equal : Term → Term → Answer
 equal a b = one_solution ((a, b) ∷ [])

@@ -1,6 +1,6 @@
 -- Built-in predicates that look at their arguments alone, one row for each: their solutions or their error, by their
 -- arguments and the next number.
-use Rattle.std.specs.Prelude.{ℕ, List, [], ◌∷◌, ◌++◌, codes}
+use Rattle.std.specs.Prelude.{ℕ, List, [], ◌∷◌, ◌++◌, codes, None}
 use Rattle.au_term.specs.Term.{Terms, term_at}
 use Rattle.au_model.specs.Terms.Unifier.{Equations}
 use Rattle.run_model.specs.Goals.Outcomes.{Reply, Solutions, Replies}
@@ -19,7 +19,7 @@ builtin name arity reply = record { name = name; arity = arity; outcome = λ ts 
 
 -- one solution: where the equations unify
 abbrev pub holds_where : Equations → Reply
-holds_where equations = Solutions ((record { equations = equations; goals = []; variables = 0 }) ∷ [])
+holds_where equations = Solutions ((record { equations = equations; goals = []; removes = None; variables = 0 }) ∷ [])
 
 abbrev pub builtins : List Construct
 builtins =

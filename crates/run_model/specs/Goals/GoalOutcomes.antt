@@ -1,7 +1,8 @@
 -- What a goal comes to (ISO/IEC 13211-1, 7.7.7).
-use Rattle.std.specs.Prelude.{ℕ, Bool, true, false, ◌||◌, ◌&&◌, ◌==◌, codes, List, Option, Some, None, is_some}
+pub use Rattle.run_model.specs.Goals.Worlds.{has_row, is_reserved}
+use Rattle.std.specs.Prelude.{ℕ, Bool, true, false, List, Option, Some, None}
 use Rattle.au_term.specs.Term.{Term, VarTerm, IntTerm, AtomTerm, Compound, end, arguments, argument_count}
-use Rattle.au_model.specs.Terms.Forms.{same_name, name_of}
+use Rattle.au_model.specs.Terms.Forms.{name_of}
 use Rattle.run_model.specs.Programs.Clauses.{Clause, is_defined}
 use Rattle.run_model.specs.Goals.Outcomes.{Outcome, Replies, Solutions, AskWorld, alternatives_of}
 use Rattle.run_model.specs.Goals.Control.{Construct, construct_of, control_constructs, call_outcome}
@@ -34,11 +35,3 @@ outcome_of clauses (VarTerm n) next = call_outcome 1 (VarTerm n) end
 outcome_of clauses (IntTerm z) next = call_outcome 1 (IntTerm z) end
 outcome_of clauses (AtomTerm a) next = named_outcome clauses (AtomTerm a) next
 outcome_of clauses (Compound f ts) next = named_outcome clauses (Compound f ts) next
-
--- whether goals of a name and number of arguments are control constructs, built-ins or world goals
-abbrev pub has_row : List ℕ → ℕ → Bool
-has_row name arity = is_some (construct_of control_constructs name arity) || (is_some (construct_of builtins name arity) || is_world_goal name arity)
-
--- these and the conjunction may be defined by no clause of a text
-abbrev pub is_reserved : List ℕ → ℕ → Bool
-is_reserved name arity = (same_name name (codes ",") && arity == 2) || has_row name arity

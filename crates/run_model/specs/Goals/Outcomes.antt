@@ -1,16 +1,17 @@
 -- What a goal can come to (ISO/IEC 13211-1, 7.7 and 7.8), with scopes named by how they stand to the current entry:
 -- the scope that the goal carries; the entry's own scope, which a cut in a called body cuts to; the scope of a test,
 -- just above the other branch.
-use Rattle.std.specs.Prelude.{ℕ, List, [], ◌∷◌, map}
+use Rattle.std.specs.Prelude.{ℕ, List, [], ◌∷◌, map, Option, None}
 use Rattle.au_term.specs.Term.{Term}
 use Rattle.au_model.specs.Terms.Unifier.{Equations}
 use Rattle.run_model.specs.Programs.Clauses.{Clause, renamed_head, renamed_goals, clause_takes}
 
--- one way for a goal to hold: where these equations unify, these goals are left, in the entry's own scope; and how
--- many new variables it takes
+-- one way for a goal to hold: where these equations unify, these goals are left, in the entry's own scope, and then the
+-- removal of a clause, where one is named by its number; and how many new variables it takes
 pub record Solution : Type 0 where
   pub equations : Equations
   pub goals : List Term
+  pub removes : Option ℕ
   pub variables : ℕ
 
 -- what a goal without control comes to: its solutions, a ball, or the end of the run
@@ -44,7 +45,7 @@ pub data Outcome : Type 0 where
 -- a clause tried for a goal, its variables renamed to the next numbers
 abbrev pub clause_solution : Term → ℕ → Clause → Solution
 clause_solution goal next c =
-    record { equations = (goal, renamed_head c next) ∷ []; goals = renamed_goals c next; variables = clause_takes c }
+    record { equations = (goal, renamed_head c next) ∷ []; goals = renamed_goals c next; removes = None; variables = clause_takes c }
 
 -- the alternatives of a goal: every clause is tried, in the order of the text (7.7.10)
 abbrev pub alternatives_of : List Clause → Term → ℕ → List Solution

@@ -1,5 +1,5 @@
 -- Goals that write (ISO/IEC 13211-1, 8.12.3 and 8.14.2): on the one output that there is, after what is written.
-use Rattle.std.specs.Prelude.{ℕ, if◌then◌else◌, List, [], ◌∷◌, codes}
+use Rattle.std.specs.Prelude.{ℕ, if◌then◌else◌, List, [], ◌∷◌, codes, None}
 use Rattle.std.specs.Str.{encode_utf8_all}
 use Rattle.au_term.specs.Term.{Term, Terms, term_at}
 use Rattle.au_model.specs.Terms.Forms.{name_of}
@@ -7,14 +7,10 @@ use Rattle.au_model.specs.Terms.ErrorTerms.{error_term, instantiation_error, typ
 use Rattle.au_model.specs.Writing.WrittenTerms.{written_term}
 use Rattle.au_model.specs.declared.types.Style.{Style}
 use Rattle.au_model.specs.declared.types.Style.TheVariants.{Plain, Quoted, Canonical}
-use Rattle.run_model.specs.Goals.Outcomes.{Reply, Solutions, Ball}
+use Rattle.run_model.specs.Goals.Outcomes.{Reply, Ball}
 use Rattle.run_model.specs.Goals.AtomGoals.{is_character}
 use Rattle.run_model.specs.Goals.TermTests.{is_variable}
-use Rattle.run_model.specs.Goals.WorldConstructs.{World, writes, WorldConstruct}
-
--- it holds, once
-abbrev pub holds_once : Reply
-holds_once = Solutions (record { equations = []; goals = []; variables = 0 } ∷ [])
+use Rattle.run_model.specs.Goals.WorldConstructs.{World, writes, WorldConstruct, holds_once}
 
 abbrev pub bytes_out : List ℕ → World → World × Reply
 bytes_out bytes w = (writes bytes w, holds_once)
@@ -36,7 +32,7 @@ abbrev pub character_out : Term → World → World × Reply
 character_out t w = if is_character t then bytes_out (encode_utf8_all (name_of t)) w else (w, Ball (no_character_ball t))
 
 abbrev pub output_goal : List ℕ → ℕ → (Terms → World → World × Reply) → WorldConstruct
-output_goal name arity output = record { name = name; arity = arity; effect = λ clauses ts next w. output ts w }
+output_goal name arity output = record { name = name; arity = arity; effect = λ statics ts next w. output ts w }
 
 abbrev pub output_goals : List WorldConstruct
 output_goals =

@@ -1,5 +1,5 @@
 -- Goals that make terms and take them apart (ISO/IEC 13211-1, 8.5).
-use Rattle.std.specs.Prelude.{ℕ, zero, suc, nat_lt, if◌then◌else◌, ℤ, pos, negsuc, List, [], ◌∷◌, codes, length, Ok, Err}
+use Rattle.std.specs.Prelude.{ℕ, zero, suc, nat_lt, if◌then◌else◌, ℤ, pos, negsuc, List, [], ◌∷◌, codes, length, Ok, Err, None}
 use Rattle.au_term.specs.Term.{Term, VarTerm, IntTerm, AtomTerm, Compound, Terms, end, more, count, argument_count, term_at}
 use Rattle.au_model.specs.Terms.Forms.{list_term}
 use Rattle.au_model.specs.Terms.Lists.{terms_from}
@@ -23,7 +23,7 @@ functor_name t = t
 -- a term of a name and a number of arguments, which are new variables
 abbrev pub made_term : Term → ℕ → Term → ℕ → Answer
 made_term t next name zero = equal t name
-made_term t next (AtomTerm f) (suc n) = Ok (record { equations = (t, Compound f (new_variables next (suc n))) ∷ []; goals = []; variables = suc n } ∷ [])
+made_term t next (AtomTerm f) (suc n) = Ok (record { equations = (t, Compound f (new_variables next (suc n))) ∷ []; goals = []; removes = None; variables = suc n } ∷ [])
 made_term t next name (suc n) = Err (type_error (codes "atom") name)
 
 abbrev pub functor_of_count : Term → ℕ → Term → ℤ → Answer
@@ -99,7 +99,7 @@ parts_answer t l = if is_variable t then built_from t l (list_form l) else taken
 
 -- copy_term(T, U) (8.5.4)
 abbrev pub copy_answer : Term → Term → ℕ → Answer
-copy_answer t u next = Ok (record { equations = (u, copied t next) ∷ []; goals = []; variables = copy_takes t } ∷ [])
+copy_answer t u next = Ok (record { equations = (u, copied t next) ∷ []; goals = []; removes = None; variables = copy_takes t } ∷ [])
 
 abbrev pub term_parts : List Construct
 term_parts =

@@ -1,11 +1,11 @@
 -- The world that the goals of a run share, and the rows of goals that look at it or change it.
-use Rattle.std.specs.Prelude.{ℕ, List, [], ◌++◌}
-use Rattle.au_term.specs.Term.{Terms}
+use Rattle.std.specs.Prelude.{ℕ, Bool, List, [], ◌∷◌, ◌++◌, Option, Some, None}
+use Rattle.au_term.specs.Term.{Term, Terms}
+use Rattle.au_model.specs.Terms.ErrorTerms.{error_term}
 use Rattle.au_model.specs.Syntax.Operators.{OperatorTable}
-use Rattle.run_model.specs.Programs.Clauses.{Clause}
 use Rattle.run_model.specs.Programs.Databases.{Database, no_procedures}
 use Rattle.run_model.specs.Programs.Jobs.{Job}
-use Rattle.run_model.specs.Goals.Outcomes.{Reply}
+use Rattle.run_model.specs.Goals.Outcomes.{Reply, Solutions, Ball}
 
 -- the bytes written, the dynamic procedures, and the operators
 pub record World : Type 0 where
@@ -24,8 +24,24 @@ plain_world operators written = record { written = written; database = no_proced
 abbrev pub writes : List ℕ → World → World
 writes bytes w = record w { written = w.written ++ bytes }
 
--- what goals of a name and number of arguments do: by the text's clauses, their arguments, the next number and the world
+-- which procedures, by name and number of arguments, no goal changes
+abbrev pub Statics : Type 0
+Statics = List ℕ → ℕ → Bool
+
+-- what goals of a name and number of arguments do: by the static procedures, their arguments, the next number and the world
 pub record WorldConstruct : Type 0 where
   pub name : List ℕ
   pub arity : ℕ
-  pub effect : List Clause → Terms → ℕ → World → World × Reply
+  pub effect : Statics → Terms → ℕ → World → World × Reply
+
+abbrev pub world_goal : List ℕ → ℕ → (Statics → Terms → ℕ → World → World × Reply) → WorldConstruct
+world_goal name arity effect = record { name = name; arity = arity; effect = effect }
+
+-- it holds, once
+abbrev pub holds_once : Reply
+holds_once = Solutions (record { equations = []; goals = []; removes = None; variables = 0 } ∷ [])
+
+-- the error of a goal with its name and number of arguments, which leaves the world as it is; or else what it comes to
+abbrev pub unless_raised : List ℕ → ℕ → World → Option Term → World × Reply → World × Reply
+unless_raised name arity w (Some e) r = (w, Ball (error_term e name arity))
+unless_raised name arity w None r = r

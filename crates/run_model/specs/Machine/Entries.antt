@@ -6,7 +6,7 @@ use Rattle.au_model.specs.Terms.Unifier.{unifier}
 use Rattle.au_model.specs.Terms.Substitutions.{Substitution}
 use Rattle.au_model.specs.Terms.Copies.{copied, copy_takes}
 use Rattle.run_model.specs.Goals.Outcomes.{Solution}
-use Rattle.run_model.specs.Machine.Items.{Continuation, before, with_next, goals_at, resolve_continuation}
+use Rattle.run_model.specs.Machine.Items.{Continuation, before, removing, with_next, goals_at, resolve_continuation}
 
 pub data Entry : Type 0 where
   PlainEntry : Continuation ℕ → Entry
@@ -27,7 +27,7 @@ unified None f = []
 unified (Some s) f = PlainEntry (resolve_continuation s f) ∷ []
 
 abbrev pub solution_entry : ℕ → Continuation ℕ → Solution → List Entry
-solution_entry h f s = unified (unifier s.equations) (with_next (f.next + s.variables) (before (goals_at h s.goals) f))
+solution_entry h f s = unified (unifier s.equations) (with_next (f.next + s.variables) (before (goals_at h s.goals) (removing s.removes f)))
 
 -- the entries of solutions, in their order, their goals cutting to this height
 abbrev pub solution_entries : ℕ → Continuation ℕ → List Solution → List Entry

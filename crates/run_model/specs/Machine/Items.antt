@@ -43,6 +43,15 @@ with_items items f = record { items = items; named = f.named; next = f.next }
 abbrev pub before : {N : Type 0} → List (Item N) → Continuation N → Continuation N
 before items f = with_items (items ++ f.items) f
 
+-- the removal of a clause, where one is named
+abbrev pub removal_items : {N : Type 0} → Option ℕ → List (Item N)
+removal_items (Some number) = RemovalItem number ∷ []
+removal_items None = []
+
+-- and before what follows
+abbrev pub removing : {N : Type 0} → Option ℕ → Continuation N → Continuation N
+removing number f = before (removal_items number) f
+
 abbrev pub with_next : {N : Type 0} → ℕ → Continuation N → Continuation N
 with_next n f = record { items = f.items; named = f.named; next = n }
 

@@ -26,6 +26,13 @@ renamed_head c next = apply (clause_renaming c next) c.head
 abbrev pub renamed_goals : Clause → ℕ → List Term
 renamed_goals c next = map (apply (clause_renaming c next)) (clause_goals_of c.body)
 
+abbrev pub renamed_body : Clause → ℕ → Term
+renamed_body c next = apply (clause_renaming c next) c.body
+
+-- the clause as it is kept: its variables numbered from 0
+abbrev pub numbered : Clause → Clause
+numbered c = record { head = renamed_head c 0; body = renamed_body c 0 }
+
 -- how many numbers it takes
 abbrev pub clause_takes : Clause → ℕ
 clause_takes c = length (clause_variables c)

@@ -2,7 +2,7 @@ use Rattle.std.proofs.Common.{◌≡◌, ◌∙◌, ◌++◌, List, map, ap, sym
 use Rattle.std.specs.Prelude.{OnOk}
 use Rattle.run_model.specs.Programs.Databases.{NumberedClause}
 use Rattle.dyn_clauses.specs.PositionIndex.{numbered_clauses}
-use Rattle.dyn_clauses.specs.KeptClauses.{shown}
+use Rattle.clause_compile.specs.CompiledClauses.{shown}
 use Rattle.dyn_clauses.proofs.ProcedureLemmas.{picked_one, picked_none}
 use Rattle.dyn_clauses.proofs.procedure.push_at.Goals as goal
 

@@ -14,8 +14,8 @@ call-requires c =
     let f = value_of (substitution c.args.store.now) in
     ap length c.deref.ensures.value ∙ (sym (count-terms_from c.in_ok-args.args.items) ∙ (ap count c.in_ok-args.ensures ∙ (count_resolved f c.args.goal.now c.requires.callable ∙ c.requires.row.count)))
 
-pub branches_of-requires-clause-unbound : goal.branches_of-requires-clause-unbound
-branches_of-requires-clause-unbound c =
+pub solutions_tried-requires-clause-unbound : goal.solutions_tried-requires-clause-unbound
+solutions_tried-requires-clause-unbound c =
     read_unbound c.args.store.now c.args.goal.now c.args.builtin c.requires.callable c.requires.row (terms_from c.deref.result.now) c.next.result c.in-Ok.solutions.items c.deref-in-Ok.result.now c.next.ensures.sound c.requires.below
     (ap terms_from c.deref.ensures.value ∙ c.in_ok-args.ensures) c.next.ensures.next c.deref-in-Ok.ensures.value c.in-Ok.ensures
 

@@ -1,45 +1,87 @@
-use Rattle.std.proofs.Common.{◌∙◌, ◌++◌, ap, append-nil, sym, subst, arith}
-use Rattle.std.proofs.lemmas.Result.{on_ok_weaker}
+use Rattle.std.proofs.Common.{◌≡◌, ◌∙◌, ap, sym, subst, None, refl, arith}
+use Rattle.std.proofs.lemmas.Result.{IfOk-weaker}
 use Rattle.au_model.specs.Terms.Each.{Each}
 use Rattle.clause_compile.specs.declared.item.Scope.TheVariants.{Local}
 use Rattle.engine_core.specs.Branches.{IsItemBelow}
 use Rattle.engine_core.specs.Reductions.{IsReduced}
-use Rattle.engine_core.specs.declared.reduction.Reduction.TheVariants.{Alternatives, Raise, Prune, Open}
+use Rattle.engine_core.specs.declared.reduction.Reduction.TheVariants.{Alternatives, Raise, Prune, Open, Gate}
+use Rattle.effect_gate.specs.Effects.{statics_of, world_meant}
+use Rattle.stack_run.specs.EffectsTaken.{IsEffectIn, IsGatePassed}
 use Rattle.stack_run.specs.StackInvariant.{IsChoiceFit}
-use Rattle.stack_run.specs.Inferences.{IsOpeningBelow}
+use Rattle.stack_run.specs.Inferences.{IsOpeningBelow, TakesItem}
 use Rattle.stack_run.specs.declared.frame.Choice.TheVariants.{Branch}
-use Rattle.stack_run.proofs.ReductionLemmas.{alternatives_fit, effect_written, nothing_written, open_below, goes_on, none_collects, alternatives_left, ball_left, cut_left, open_left, gate_left}
+use Rattle.stack_run.proofs.FoundLemmas.{unhalted_so}
+use Rattle.stack_run.proofs.ReductionLemmas.{alternatives_fit, open_below, none_collects, alternatives_left, ball_left, cut_left, open_left, gate_left, gate_in, takes_plainly, end_fails}
 use Rattle.stack_run.proofs.infer.infer.Goals as goal
+
+pub returns-then-is_end-clause-takes : goal.returns-then-is_end-clause-takes
+returns-then-is_end-clause-takes c = end_fails c.args.procs.now (world_meant c.args.world.now) c.args.item.now c.args.rest.now c.args.stack.now c.requires.work (sym c.is_end.ensures ∙ c.if-is_end.true)
 
 pub branch_off-requires-clause-branches : goal.branch_off-requires-clause-branches
 branch_off-requires-clause-branches c =
     let st = c.args.stack.now.store in
-    subst (λ s. Each (λ b. IsChoiceFit s (Branch b)) c.in-Alternatives.branches.items) (sym c.in_ok-branches.ensures.store)
-    (alternatives_fit c.args.ops.now c.args.procs.now c.args.item.now (Local c.len.result) c.args.rest.now st c.in-Alternatives.branches c.requires.work.sound c.requires.goal (subst (IsReduced c.args.procs.now (Local c.len.result) c.args.rest.now st c.args.item.now) c.in-Alternatives.is c.in_ok-branches.ensures.reduced))
+    let old = c.args.stack.now in
+    let item = c.args.item.now in
+    let rest = c.args.rest.now in
+    let here = Local c.len.result in
+    let clauses = c.args.procs.now in
+    let w = world_meant c.args.world.now in
+    let same = c.in_ok-branches.ensures.store in
+    let no_end = sym c.is_end.ensures ∙ c.if-is_end.false in
+    let r = subst (IsReduced clauses here rest st item) c.in-Alternatives.is c.in_ok-branches.ensures.reduced in
+    subst (λ s. Each (λ b. IsChoiceFit s (Branch b)) c.in-Alternatives.branches.items) (sym same) (alternatives_fit clauses w item here rest st c.in-Alternatives.branches c.requires.work.sound c.requires.goal r)
 
-pub returns-in-Alternatives-clause-leaves : goal.returns-in-Alternatives-clause-leaves
-returns-in-Alternatives-clause-leaves c =
+pub returns-in-Alternatives-clause-takes : goal.returns-in-Alternatives-clause-takes
+returns-in-Alternatives-clause-takes c =
     let st = c.args.stack.now.store in
-    on_ok_weaker c.branch_off.result (λ l.
-    alternatives_left c.args.ops.now c.args.procs.now c.args.item.now c.args.rest.now c.args.stack.now c.branch_off.new.stack c.reduce.new.store c.len.result c.in-Alternatives.branches c.in_ok-branches.ensures.store c.requires.work (omega (arith, c.len.ensures, c.args.stack.now.frames.ok.0)) c.requires.goal
-    (subst (IsReduced c.args.procs.now (Local c.len.result) c.args.rest.now st c.args.item.now) c.in-Alternatives.is c.in_ok-branches.ensures.reduced) l) c.branch_off.ensures
+    let old = c.args.stack.now in
+    let item = c.args.item.now in
+    let rest = c.args.rest.now in
+    let here = Local c.len.result in
+    let clauses = c.args.procs.now in
+    let w = world_meant c.args.world.now in
+    let same = c.in_ok-branches.ensures.store in
+    let no_end = sym c.is_end.ensures ∙ c.if-is_end.false in
+    let r = subst (IsReduced clauses here rest st item) c.in-Alternatives.is c.in_ok-branches.ensures.reduced in
+    let new = c.branch_off.new.stack in
+    unhalted_so c.branch_off.result c.unhalted.result (TakesItem clauses item rest old new w w) c.unhalted.ensures c.branch_off.ensures
+    (λ k n l. takes_plainly clauses w item here rest old new (Alternatives c.in-Alternatives.branches) k no_end r tt n
+    (alternatives_left clauses w item rest old new c.reduce.new.store c.len.result c.in-Alternatives.branches same c.requires.work (omega (arith, c.len.ensures, old.frames.ok.0)) c.requires.goal r l))
 
-pub returns-in-Raise-clause-leaves : goal.returns-in-Raise-clause-leaves
-returns-in-Raise-clause-leaves c =
+pub returns-in-Raise-clause-takes : goal.returns-in-Raise-clause-takes
+returns-in-Raise-clause-takes c =
     let st = c.args.stack.now.store in
-    on_ok_weaker c.unwind.result (λ l.
-    ball_left c.args.ops.now c.args.procs.now c.args.item.now (Local c.len.result) c.args.rest.now c.args.stack.now c.unwind.new.stack c.reduce.new.store c.in-Raise.ball c.in_ok-branches.ensures.store
-    (subst (IsReduced c.args.procs.now (Local c.len.result) c.args.rest.now st c.args.item.now) c.in-Raise.is c.in_ok-branches.ensures.reduced) l) c.unwind.ensures
+    let old = c.args.stack.now in
+    let item = c.args.item.now in
+    let rest = c.args.rest.now in
+    let here = Local c.len.result in
+    let clauses = c.args.procs.now in
+    let w = world_meant c.args.world.now in
+    let same = c.in_ok-branches.ensures.store in
+    let no_end = sym c.is_end.ensures ∙ c.if-is_end.false in
+    let r = subst (IsReduced clauses here rest st item) c.in-Raise.is c.in_ok-branches.ensures.reduced in
+    let new = c.unwind.new.stack in
+    unhalted_so c.unwind.result c.unhalted-in-Raise.result (TakesItem clauses item rest old new w w) c.unhalted-in-Raise.ensures c.unwind.ensures
+    (λ k n l. takes_plainly clauses w item here rest old new (Raise c.in-Raise.ball) k no_end r tt n (ball_left clauses w item here rest old new c.reduce.new.store c.in-Raise.ball same r l))
 
 pub prune-requires-clause-rest : goal.prune-requires-clause-rest
 prune-requires-clause-rest c = subst (λ s. Each (IsItemBelow s.next) c.args.rest.now) (sym c.in_ok-branches.ensures.store) c.requires.rest
 
-pub returns-in-Prune-clause-leaves : goal.returns-in-Prune-clause-leaves
-returns-in-Prune-clause-leaves c =
+pub returns-in-Prune-clause-takes : goal.returns-in-Prune-clause-takes
+returns-in-Prune-clause-takes c =
     let st = c.args.stack.now.store in
-    on_ok_weaker c.prune.result (λ l.
-    cut_left c.args.ops.now c.args.procs.now c.args.item.now (Local c.len.result) c.args.rest.now c.args.stack.now c.prune.new.stack c.reduce.new.store c.in-Prune.scope c.in_ok-branches.ensures.store
-    (subst (IsReduced c.args.procs.now (Local c.len.result) c.args.rest.now st c.args.item.now) c.in-Prune.is c.in_ok-branches.ensures.reduced) l) c.prune.ensures
+    let old = c.args.stack.now in
+    let item = c.args.item.now in
+    let rest = c.args.rest.now in
+    let here = Local c.len.result in
+    let clauses = c.args.procs.now in
+    let w = world_meant c.args.world.now in
+    let same = c.in_ok-branches.ensures.store in
+    let no_end = sym c.is_end.ensures ∙ c.if-is_end.false in
+    let r = subst (IsReduced clauses here rest st item) c.in-Prune.is c.in_ok-branches.ensures.reduced in
+    let new = c.prune.new.stack in
+    unhalted_so c.prune.result c.unhalted-in-Prune.result (TakesItem clauses item rest old new w w) c.unhalted-in-Prune.ensures c.prune.ensures
+    (λ k n l. takes_plainly clauses w item here rest old new (Prune c.in-Prune.scope) k no_end r tt n (cut_left clauses w item here rest old new c.reduce.new.store c.in-Prune.scope same r l))
 
 pub open-requires-clause-rest : goal.open-requires-clause-rest
 open-requires-clause-rest c = subst (λ s. Each (IsItemBelow s.next) c.args.rest.now) (sym c.in_ok-branches.ensures.store) c.requires.rest
@@ -47,67 +89,76 @@ open-requires-clause-rest c = subst (λ s. Each (IsItemBelow s.next) c.args.rest
 pub open-requires-clause-opening : goal.open-requires-clause-opening
 open-requires-clause-opening c =
     let st = c.args.stack.now.store in
-    subst (λ s. IsOpeningBelow s.next c.in-Open.opening) (sym c.in_ok-branches.ensures.store)
-    (open_below c.args.ops.now c.args.procs.now c.args.item.now (Local c.len.result) c.args.rest.now st c.in-Open.opening (subst (IsReduced c.args.procs.now (Local c.len.result) c.args.rest.now st c.args.item.now) c.in-Open.is c.in_ok-branches.ensures.reduced))
+    let old = c.args.stack.now in
+    let item = c.args.item.now in
+    let rest = c.args.rest.now in
+    let here = Local c.len.result in
+    let clauses = c.args.procs.now in
+    let w = world_meant c.args.world.now in
+    let same = c.in_ok-branches.ensures.store in
+    let no_end = sym c.is_end.ensures ∙ c.if-is_end.false in
+    let r = subst (IsReduced clauses here rest st item) c.in-Open.is c.in_ok-branches.ensures.reduced in
+    subst (λ s. IsOpeningBelow s.next c.in-Open.opening) (sym same) (open_below clauses w item here rest st c.in-Open.opening r)
 
-pub returns-in-Open-clause-leaves : goal.returns-in-Open-clause-leaves
-returns-in-Open-clause-leaves c =
+pub returns-in-Open-clause-takes : goal.returns-in-Open-clause-takes
+returns-in-Open-clause-takes c =
     let st = c.args.stack.now.store in
-    on_ok_weaker c.open.result (λ l.
-    open_left c.args.ops.now c.args.procs.now c.args.item.now (Local c.len.result) c.args.rest.now c.args.stack.now c.open.new.stack c.reduce.new.store c.in-Open.opening c.cut_of.result c.in_ok-branches.ensures.store c.cut_of.ensures
-    (subst (IsReduced c.args.procs.now (Local c.len.result) c.args.rest.now st c.args.item.now) c.in-Open.is c.in_ok-branches.ensures.reduced) l) c.open.ensures
+    let old = c.args.stack.now in
+    let item = c.args.item.now in
+    let rest = c.args.rest.now in
+    let here = Local c.len.result in
+    let clauses = c.args.procs.now in
+    let w = world_meant c.args.world.now in
+    let same = c.in_ok-branches.ensures.store in
+    let no_end = sym c.is_end.ensures ∙ c.if-is_end.false in
+    let r = subst (IsReduced clauses here rest st item) c.in-Open.is c.in_ok-branches.ensures.reduced in
+    let new = c.open.new.stack in
+    unhalted_so c.open.result c.unhalted-in-Open.result (TakesItem clauses item rest old new w w) c.unhalted-in-Open.ensures c.open.ensures
+    (λ k n l. takes_plainly clauses w item here rest old new (Open c.in-Open.opening) k no_end r tt n (open_left clauses w item here rest old new c.reduce.new.store c.in-Open.opening c.cut_of.result same c.cut_of.ensures r l))
 
-pub returns-in-Gate-clause-leaves : goal.returns-in-Gate-clause-leaves
-returns-in-Gate-clause-leaves c =
+pub pass_gate-requires-clause-rest : goal.pass_gate-requires-clause-rest
+pass_gate-requires-clause-rest c = subst (λ s. Each (IsItemBelow s.next) c.args.rest.now) (sym c.in_ok-branches.ensures.store) c.requires.rest
+
+pub pass_gate-requires-clause-effect : goal.pass_gate-requires-clause-effect
+pass_gate-requires-clause-effect c =
     let st = c.args.stack.now.store in
-    on_ok_weaker c.pass_gate.result (λ l.
-    gate_left c.args.ops.now c.args.procs.now c.args.item.now (Local c.len.result) c.args.rest.now c.args.stack.now c.pass_gate.new.stack c.reduce.new.store c.in-Gate.effect c.in_ok-branches.ensures.store
-    (subst (IsReduced c.args.procs.now (Local c.len.result) c.args.rest.now st c.args.item.now) c.in-Gate.is c.in_ok-branches.ensures.reduced) l) c.pass_gate.ensures.leaves
+    let old = c.args.stack.now in
+    let item = c.args.item.now in
+    let rest = c.args.rest.now in
+    let here = Local c.len.result in
+    let clauses = c.args.procs.now in
+    let w = world_meant c.args.world.now in
+    let same = c.in_ok-branches.ensures.store in
+    let no_end = sym c.is_end.ensures ∙ c.if-is_end.false in
+    let r = subst (IsReduced clauses here rest st item) c.in-Gate.is c.in_ok-branches.ensures.reduced in
+    subst (λ s. IsEffectIn s c.in-Gate.effect) (sym same) (gate_in clauses w item here rest st c.in-Gate.effect c.requires.work.sound c.requires.item no_end r)
 
-pub returns-clause-leaves : goal.returns-clause-leaves
-returns-clause-leaves c =
+pub returns-in-Gate-clause-takes : goal.returns-in-Gate-clause-takes
+returns-in-Gate-clause-takes c =
     let st = c.args.stack.now.store in
-    absurd (none_collects c.args.ops.now c.args.procs.now c.args.item.now (Local c.len.result) c.args.rest.now st _ c.requires.goal (subst (IsReduced c.args.procs.now (Local c.len.result) c.args.rest.now st c.args.item.now) c.in-Collect.is c.in_ok-branches.ensures.reduced))
+    let old = c.args.stack.now in
+    let item = c.args.item.now in
+    let rest = c.args.rest.now in
+    let here = Local c.len.result in
+    let clauses = c.args.procs.now in
+    let w = world_meant c.args.world.now in
+    let same = c.in_ok-branches.ensures.store in
+    let no_end = sym c.is_end.ensures ∙ c.if-is_end.false in
+    let r = subst (IsReduced clauses here rest st item) c.in-Gate.is c.in_ok-branches.ensures.reduced in
+    let new = c.pass_gate.new.stack in
+    IfOk-weaker c.pass_gate.result _ (TakesItem clauses item rest old new w (world_meant c.pass_gate.new.world))
+    (λ k p. gate_left clauses w item here rest old new c.reduce.new.store c.in-Gate.effect (statics_of c.args.world.now) (world_meant c.pass_gate.new.world) k same c.requires.statics no_end r p.entries p.world p.halts) c.pass_gate.ensures.passed
 
-pub returns-in-Alternatives-clause-halts : goal.returns-in-Alternatives-clause-halts
-returns-in-Alternatives-clause-halts c = on_ok_weaker c.branch_off.result (λ l. goes_on c.args.ops.now c.args.procs.now (Local c.len.result) c.args.rest.now c.args.stack.now.store c.args.item.now c.in_ok-branches.field-0 c.in_ok-branches.ensures.reduced) c.branch_off.ensures
-
-pub returns-in-Raise-clause-halts : goal.returns-in-Raise-clause-halts
-returns-in-Raise-clause-halts c = on_ok_weaker c.unwind.result (λ l. goes_on c.args.ops.now c.args.procs.now (Local c.len.result) c.args.rest.now c.args.stack.now.store c.args.item.now c.in_ok-branches.field-0 c.in_ok-branches.ensures.reduced) c.unwind.ensures
-
-pub returns-in-Prune-clause-halts : goal.returns-in-Prune-clause-halts
-returns-in-Prune-clause-halts c = on_ok_weaker c.prune.result (λ l. goes_on c.args.ops.now c.args.procs.now (Local c.len.result) c.args.rest.now c.args.stack.now.store c.args.item.now c.in_ok-branches.field-0 c.in_ok-branches.ensures.reduced) c.prune.ensures
-
-pub returns-in-Open-clause-halts : goal.returns-in-Open-clause-halts
-returns-in-Open-clause-halts c = on_ok_weaker c.open.result (λ l. goes_on c.args.ops.now c.args.procs.now (Local c.len.result) c.args.rest.now c.args.stack.now.store c.args.item.now c.in_ok-branches.field-0 c.in_ok-branches.ensures.reduced) c.open.ensures
-
-pub returns-in-Gate-clause-halts : goal.returns-in-Gate-clause-halts
-returns-in-Gate-clause-halts c = on_ok_weaker c.pass_gate.result (λ l. goes_on c.args.ops.now c.args.procs.now (Local c.len.result) c.args.rest.now c.args.stack.now.store c.args.item.now c.in_ok-branches.field-0 c.in_ok-branches.ensures.reduced) c.pass_gate.ensures.leaves
-
-pub returns-clause-halts : goal.returns-clause-halts
-returns-clause-halts c = goes_on c.args.ops.now c.args.procs.now (Local c.len.result) c.args.rest.now c.args.stack.now.store c.args.item.now c.in_ok-branches.field-0 c.in_ok-branches.ensures.reduced
-
-pub returns-in-Alternatives-clause-line : goal.returns-in-Alternatives-clause-line
-returns-in-Alternatives-clause-line c =
-    on_ok_weaker c.branch_off.result (λ l. sym (append-nil c.args.line.now.items) ∙ ap (λ bytes. c.args.line.now.items ++ bytes) (sym (nothing_written c.args.ops.now c.args.procs.now (Local c.len.result) c.args.rest.now c.args.stack.now.store c.args.item.now (Alternatives c.in-Alternatives.branches)
-    (subst (IsReduced c.args.procs.now (Local c.len.result) c.args.rest.now c.args.stack.now.store c.args.item.now) c.in-Alternatives.is c.in_ok-branches.ensures.reduced) tt))) c.branch_off.ensures
-
-pub returns-in-Raise-clause-line : goal.returns-in-Raise-clause-line
-returns-in-Raise-clause-line c =
-    on_ok_weaker c.unwind.result (λ l. sym (append-nil c.args.line.now.items) ∙ ap (λ bytes. c.args.line.now.items ++ bytes) (sym (nothing_written c.args.ops.now c.args.procs.now (Local c.len.result) c.args.rest.now c.args.stack.now.store c.args.item.now (Raise c.in-Raise.ball)
-    (subst (IsReduced c.args.procs.now (Local c.len.result) c.args.rest.now c.args.stack.now.store c.args.item.now) c.in-Raise.is c.in_ok-branches.ensures.reduced) tt))) c.unwind.ensures
-
-pub returns-in-Prune-clause-line : goal.returns-in-Prune-clause-line
-returns-in-Prune-clause-line c =
-    on_ok_weaker c.prune.result (λ l. sym (append-nil c.args.line.now.items) ∙ ap (λ bytes. c.args.line.now.items ++ bytes) (sym (nothing_written c.args.ops.now c.args.procs.now (Local c.len.result) c.args.rest.now c.args.stack.now.store c.args.item.now (Prune c.in-Prune.scope)
-    (subst (IsReduced c.args.procs.now (Local c.len.result) c.args.rest.now c.args.stack.now.store c.args.item.now) c.in-Prune.is c.in_ok-branches.ensures.reduced) tt))) c.prune.ensures
-
-pub returns-in-Open-clause-line : goal.returns-in-Open-clause-line
-returns-in-Open-clause-line c =
-    on_ok_weaker c.open.result (λ l. sym (append-nil c.args.line.now.items) ∙ ap (λ bytes. c.args.line.now.items ++ bytes) (sym (nothing_written c.args.ops.now c.args.procs.now (Local c.len.result) c.args.rest.now c.args.stack.now.store c.args.item.now (Open c.in-Open.opening)
-    (subst (IsReduced c.args.procs.now (Local c.len.result) c.args.rest.now c.args.stack.now.store c.args.item.now) c.in-Open.is c.in_ok-branches.ensures.reduced) tt))) c.open.ensures
-
-pub returns-in-Gate-clause-line : goal.returns-in-Gate-clause-line
-returns-in-Gate-clause-line c =
-    on_ok_weaker c.pass_gate.result (λ l. l ∙ ap (λ bytes. c.args.line.now.items ++ bytes) (effect_written c.args.ops.now c.args.procs.now (Local c.len.result) c.args.rest.now c.args.stack.now.store c.args.item.now c.in-Gate.effect
-    (subst (IsReduced c.args.procs.now (Local c.len.result) c.args.rest.now c.args.stack.now.store c.args.item.now) c.in-Gate.is c.in_ok-branches.ensures.reduced))) c.pass_gate.ensures.line
+pub returns-clause-takes : goal.returns-clause-takes
+returns-clause-takes c =
+    let st = c.args.stack.now.store in
+    let old = c.args.stack.now in
+    let item = c.args.item.now in
+    let rest = c.args.rest.now in
+    let here = Local c.len.result in
+    let clauses = c.args.procs.now in
+    let w = world_meant c.args.world.now in
+    let same = c.in_ok-branches.ensures.store in
+    let no_end = sym c.is_end.ensures ∙ c.if-is_end.false in
+    let r = subst (IsReduced clauses here rest st item) c.in-Collect.is c.in_ok-branches.ensures.reduced in
+    absurd (none_collects clauses w item here rest st _ c.requires.goal r)

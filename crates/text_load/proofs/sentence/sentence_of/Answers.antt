@@ -13,3 +13,8 @@ pub returns-in-Rule : goal.returns-in-Rule
 returns-in-Rule c =
     let is = as_form (map variable_meant c.args.names.items) c.args.term _ c.top.result.now (sym c.in-Rule.is ∙ c.form_of-form.ensures) c.top.ensures in
     same_sentence c.rule.result _ _ (sym is) c.rule.ensures
+
+pub returns-in-Directive : goal.returns-in-Directive
+returns-in-Directive c =
+    let is = as_form (map variable_meant c.args.names.items) c.args.term _ c.top.result.now (sym c.in-Directive.is ∙ c.form_of-form.ensures) c.top.ensures in
+    same_sentence c.directive.result _ _ (sym is) c.directive.ensures

@@ -1,7 +1,7 @@
-use Rattle.std.proofs.Common.{◌≡◌, ◌∙◌, ◌<◌, sym, ap, subst, arith, slice_index_or}
+use Rattle.std.proofs.Common.{◌≡◌, ◌∙◌, ◌<◌, sym, ap, subst, arith, slice_index_or, ℕ}
 use Rattle.binding_array.specs.Represented.{variable_cell, AreFalling, CellStandsFor}
 use Rattle.binding_array.specs.declared.cell.BindingCell.TheVariants.{Var}
-use Rattle.binding_array.proofs.RepresentedLemmas.{read, link_falls, link_stands, end_of, stood}
+use Rattle.binding_array.proofs.RepresentedLemmas.{read, link_falls, link_stands, end_of, stored_at, stood}
 use Rattle.binding_array.proofs.array.BindingArray.follow.Goals as goal
 
 pub loop-next-preserved : goal.loop-next-preserved
@@ -16,5 +16,6 @@ returns-in_default-index c =
     let value = c.index-2.result.now in
     let cell : variable_cell c.args.self.now c.loop-next.at ≡ value = read c.args.self.now c.loop-next.at value value c.loop-next.invariant.within (c.index-2.ensures ∙ ap (λ cells. slice_index_or cells c.loop-next.at value) c.self.view_is) in
     let first : variable_cell c.args.self.now c.loop-next.at ≡ c.index.result.now = read c.args.self.now c.loop-next.at c.index.result.now c.index.result.now c.loop-next.invariant.within (c.index.ensures ∙ ap (λ cells. slice_index_or cells c.loop-next.at c.index.result.now) c.self.view_is) in
-    let end = end_of c.args.self.now value (λ x e. c.in_default.not-Var x (sym first ∙ (cell ∙ e))) c.in_default-index.not-Free in
-    record { end = end.0; same = λ code s r. c.loop-next.invariant.same code s r ∙ stood code s c.loop-next.at value end.1 (subst (CellStandsFor code s c.loop-next.at) cell (r c.loop-next.at)) }
+    let not_var : (x : ℕ) → value ≡ Var x → ⊥ = λ x e. c.in_default.not-Var x (sym first ∙ (cell ∙ e)) in
+    let end = end_of c.args.self.now value not_var c.in_default-index.not-Free in
+    record { end = end.0; stored = stored_at c.args.self.now c.loop-next.at value cell not_var c.in_default-index.not-Free; same = λ code s r. c.loop-next.invariant.same code s r ∙ stood code s c.loop-next.at value end.1 (subst (CellStandsFor code s c.loop-next.at) cell (r c.loop-next.at)) }

@@ -2,6 +2,7 @@ use Rattle.std.proofs.Common.{◌≡◌, ◌+◌, ◌-◌, ◌<◌, ◌∷◌, s
 use Rattle.std.proofs.lemmas.List.{drop_all, nil_from_length}
 use Rattle.au_term.specs.PrefixOrder.{terms_of, term_of, IsForest}
 use Rattle.au_term.proofs.SizeFillLemmas.{opened}
+use Rattle.au_term.proofs.VariableBoundLemmas.{AreSound-at}
 use Rattle.au_term.proofs.SubtermLemmas.{term_forest}
 use Rattle.clause_compile.specs.Places.{ArePlacesOf, meanings}
 use Rattle.clause_compile.proofs.CodeLemmas.{keeps_same, cell_added, enough_there, placed, none_missing}
@@ -32,7 +33,10 @@ means_here c = let same : c.loop-left.left ≡ suc (c.loop-left.left - 1) = omeg
 
 pub push_cell-requires-clause-enough : goal.push_cell-requires-clause-enough
 push_cell-requires-clause-enough c =
-    enough_there c.index-cells-left.result c.args.cells.now (c.loop-left.left - 1) c.loop-left.self c.loop-left.stack.items (subst IsForest c.requires (term_forest (term_of c.args.cells.now))) (opens_here c) (means_here c)
+    enough_there c.index-cells-left.result c.args.cells.now (c.loop-left.left - 1) c.loop-left.self c.loop-left.stack.items (subst IsForest c.requires.cells (term_forest (term_of c.args.cells.now))) (opens_here c) (means_here c)
+
+pub push_cell-requires-clause-sound : goal.push_cell-requires-clause-sound
+push_cell-requires-clause-sound c = AreSound-at c.args.cells.now (c.loop-left.left - 1) c.index-cells-left.result c.requires.sound (omega arith) c.index-cells-left.is
 
 pub loop-left-preserved : goal.loop-left-preserved
 loop-left-preserved c =
@@ -43,10 +47,10 @@ loop-left-preserved c =
 pub unreachable-requires : goal.unreachable-requires
 unreachable-requires c =
     let none : c.loop-left.left ≡ 0 = omega arith in
-    none_missing c.loop-left.self (term_of c.args.cells.now) c.loop-left.stack.items (c.loop-left.invariant.means ∙ (ap (λ n. terms_of (drop n c.args.cells.now)) none ∙ ap terms_of (sym c.requires))) (nil_from_length c.loop-left.stack.items (omega (arith, c.in-None.ensures.cases, c.loop-left.stack.ok.0)))
+    none_missing c.loop-left.self (term_of c.args.cells.now) c.loop-left.stack.items (c.loop-left.invariant.means ∙ (ap (λ n. terms_of (drop n c.args.cells.now)) none ∙ ap terms_of (sym c.requires.cells))) (nil_from_length c.loop-left.stack.items (omega (arith, c.in-None.ensures.cases, c.loop-left.stack.ok.0)))
 
 pub returns : goal.returns
 returns c =
     let none : c.loop-left.left ≡ 0 = omega arith in
     placed c.args.self.now c.loop-left.self (term_of c.args.cells.now) c.loop-left.stack.items c.pop.new.self.items c.in-Some.place c.loop-left.invariant.keeps c.loop-left.invariant.stand
-    (c.loop-left.invariant.means ∙ (ap (λ n. terms_of (drop n c.args.cells.now)) none ∙ ap terms_of (sym c.requires))) c.in-Some.ensures.items
+    (c.loop-left.invariant.means ∙ (ap (λ n. terms_of (drop n c.args.cells.now)) none ∙ ap terms_of (sym c.requires.cells))) c.in-Some.ensures.items

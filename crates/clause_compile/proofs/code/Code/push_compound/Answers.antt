@@ -11,7 +11,7 @@ invariant_of-self-in-Err c =
 pub invariant_of-self-in_default : goal.invariant_of-self-in_default
 invariant_of-self-in_default c =
     still_sound c.self.inside.names c.number.new.self c.self.inside.places.items c.args.self.now c.args.name.now c.in_ok-number.number c.args.count c.args.stack.now.items c.self.view_is c.self.invariant c.in_ok-number.ensures.ok c.requires.stand c.requires.enough
-    c.push_block.new.places.items c.in_default.ensures.block
+    c.requires.arity c.push_block.new.places.items c.in_default.ensures.block
 
 pub returns : goal.returns
 returns c =

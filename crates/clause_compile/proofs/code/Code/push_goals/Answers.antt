@@ -15,8 +15,8 @@ subterm-requires c =
     let lt = each_get (λ at. at < length (cells_of c.args.clause.now.body)) c.goal_places-places.result.now c.loop-at.at-index c.goal_places-places.ensures.within c.loop-at-test.true in
     subst (λ (t : Term). get_or c.goal_places-places.result.now c.loop-at.at-index 0 < length (cells_of t)) (sym c.body-body.ensures.body) lt
 
-pub push_cells-requires : goal.push_cells-requires
-push_cells-requires c = cells_kept c.subterm.result.now (subterm (get_or c.goal_places-places.result.now c.loop-at.at-index 0) c.body-body.result.now) c.subterm.ensures.cells
+pub push_cells-requires-clause-cells : goal.push_cells-requires-clause-cells
+push_cells-requires-clause-cells c = cells_kept c.subterm.result.now (subterm (get_or c.goal_places-places.result.now c.loop-at.at-index 0) c.body-body.result.now) c.subterm.ensures.cells
 
 pub loop-at-preserved : goal.loop-at-preserved
 loop-at-preserved c =

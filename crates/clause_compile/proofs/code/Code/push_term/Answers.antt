@@ -5,8 +5,8 @@ use Rattle.clause_compile.specs.Places.{IsPlaced}
 use Rattle.clause_compile.proofs.CodeLemmas.{cells_kept}
 use Rattle.clause_compile.proofs.code.Code.push_term.Goals as goal
 
-pub push_cells-requires : goal.push_cells-requires
-push_cells-requires c = cells_kept c.cells.result.now c.args.term.now c.cells.ensures.cells
+pub push_cells-requires-clause-cells : goal.push_cells-requires-clause-cells
+push_cells-requires-clause-cells c = cells_kept c.cells.result.now c.args.term.now c.cells.ensures.cells
 
 pub returns : goal.returns
 returns c =

@@ -2,7 +2,8 @@ use Rattle.std.proofs.Common.{◌≡◌, ◌∙◌, ◌++◌, ◌∷◌, [], map
 use Rattle.std.specs.Map.Iter.{deref_pair}
 use Rattle.std.proofs.lemmas.Map.Iter.{iter_end}
 use Rattle.dyn_clauses.specs.PositionIndex.{numbered_clauses}
-use Rattle.dyn_clauses.specs.KeptClauses.{numbered_kept, placed_entry, shown}
+use Rattle.dyn_clauses.specs.KeptClauses.{numbered_kept, placed_entry}
+use Rattle.clause_compile.specs.CompiledClauses.{shown}
 use Rattle.dyn_clauses.proofs.ProcedureLemmas.{numbered_push}
 use Rattle.dyn_clauses.proofs.procedure.Procedure.all.Goals as goal
 

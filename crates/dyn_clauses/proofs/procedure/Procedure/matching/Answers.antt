@@ -6,7 +6,7 @@ use Rattle.dyn_clauses.specs.PositionIndex.{Placed, matching_clauses, numbered_c
 use Rattle.std.specs.BTreeMap.{get}
 use Rattle.proc_index.specs.declared.key.Key.TheVariants.{Any}
 use Rattle.proc_index.specs.ProcedureIndex.{key_cmp}
-use Rattle.dyn_clauses.specs.KeptClauses.{shown}
+use Rattle.clause_compile.specs.CompiledClauses.{shown}
 use Rattle.dyn_clauses.proofs.ProcedureLemmas.{picked_push}
 use Rattle.dyn_clauses.proofs.MatchingLemmas.{all_matching, picked_matching, positions_found}
 use Rattle.dyn_clauses.proofs.procedure.Procedure.matching.Goals as goal

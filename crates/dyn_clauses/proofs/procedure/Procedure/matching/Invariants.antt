@@ -1,7 +1,7 @@
 use Rattle.std.proofs.Common.{◌≡◌, map}
 use Rattle.std.specs.Map.Iter.{deref}
 use Rattle.dyn_clauses.specs.PositionIndex.{numbered_clauses, picked}
-use Rattle.dyn_clauses.specs.KeptClauses.{shown}
+use Rattle.clause_compile.specs.CompiledClauses.{shown}
 use Rattle.dyn_clauses.proofs.procedure.Procedure.matching.Given as goal
 
 abbrev pub invariant-loop-position : goal.invariant-loop-position

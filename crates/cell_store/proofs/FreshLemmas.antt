@@ -1,0 +1,130 @@
+-- Older terms stay older.
+use Rattle.std.proofs.Common.{◌≡◌, ◌⊎◌, inl, inr, ℕ, suc, ◌<◌, ◌≤◌, Bool, true, false, cond, nat_le, ◌==◌, List, [], ◌∷◌, ◌++◌, reverse, Option, Some, None, refl, sym, ap, ◌∙◌, subst, arith}
+use Rattle.std.proofs.lemmas.Bool.Decides.{nat_tests}
+use Rattle.au_term.specs.Term.{Term, VarTerm, Compound as CompoundTerm, Terms, end, more, var_bound, all_bound}
+use Rattle.au_term.proofs.LogicLemmas.{true_false}
+use Rattle.au_model.specs.Terms.Each.{Each}
+use Rattle.au_model.proofs.EachLemmas.{each-append}
+use Rattle.au_model.specs.Terms.Substitutions.{Substitution, apply, value_of, resolve, only, occurs}
+use Rattle.au_model.specs.Terms.Unifier.{Equations, Opened, rule, pairs}
+use Rattle.au_model.specs.Terms.EquationsInTurn.{resolved_equations}
+use Rattle.au_model.proofs.UnifierRuleLemmas.{Says, rule_says}
+use Rattle.binding_array.specs.declared.cell.BindingCell.{BindingCell}
+use Rattle.binding_array.specs.declared.cell.BindingCell.TheVariants.{Free, Var, Int, Atom, Compound}
+use Rattle.binding_array.specs.Represented.{IsFalling}
+use Rattle.cell_store.specs.FreshVariables.{IsOlder, is_fresh, fresh_after, StaysOlder}
+use Rattle.cell_store.specs.Values.{IsNoVariable}
+use Rattle.cell_store.specs.StoreView.{StoreView, substitution, meaning, text_in, with_substitution, IsComposition, BindsFurther}
+use Rattle.cell_store.specs.UnificationSteps.{equations_in, pending_equations, FollowsRule, after_same, after_binding, after_opening, IsBoundOr}
+use Rattle.cell_store.specs.declared.arguments.Equations.{Equations as ArgumentEquations}
+use Rattle.cell_store.proofs.OccurrenceLemmas.{kept_below, occurs_below}
+use Rattle.cell_store.proofs.WalkLemmas.{turned}
+use Rattle.cell_store.proofs.UnificationLemmas.{left_in, resolved_binding, resolved_append}
+
+-- a fresh variable is not in an older term
+pub fresh_apart : (x : ℕ) (fresh : Option ℕ) (t : Term) → is_fresh x fresh ≡ true → IsOlder fresh t → occurs x t ≡ false
+fresh_apart x None t f o = absurd (true_false (sym f))
+fresh_apart x (Some base) t f o = by_test (occurs x t) refl
+  where
+    by_test : (b : Bool) → occurs x t ≡ b → b ≡ false
+    by_test true e = let lt = occurs_below x t e in let le : base ≤ x = grind (arith, nat_tests) in absurd (omega arith)
+    by_test false e = refl
+
+-- an older term put in a variable's place
+pub older_put : (from : Option ℕ) (x : ℕ) (t u : Term) → IsOlder from t → IsOlder from u → IsOlder from (apply (only x t) u)
+older_put None x t u o p = tt
+older_put (Some base) x t u o p = kept_below (only x t) base u (λ w k. by_test w (x == w) (omega (arith, occurs_below w u k)))
+  where
+    by_test : (w : ℕ) (b : Bool) → w < base → var_bound (cond b t (VarTerm w)) ≤ base
+    by_test w true lt = o
+    by_test w false lt = omega arith
+
+pub binding_stays : (old new : StoreView) (from : Option ℕ) (x : ℕ) (t : Term) → BindsFurther old new ((x, t) ∷ []) → IsOlder from t → StaysOlder old new from from
+binding_stays old new from x t b o = record {
+  still = inl refl;
+  kept = λ u p. subst (IsOlder from) (sym (resolved_binding (substitution old) (substitution new) x t u b.bound)) (older_put from x t (resolve (substitution old) u) o p);
+}
+
+pub nothing_stays : (old new : StoreView) (from : Option ℕ) → new ≡ old → StaysOlder old new from from
+nothing_stays old new from e = record { still = inl refl; kept = λ t p. subst (λ st. IsOlder from (resolve (substitution st) t)) (sym e) p }
+
+ended_stays : (old new : StoreView) (from : Option ℕ) → StaysOlder old new from None
+ended_stays old new from = record { still = inr refl; kept = λ t p. tt }
+
+no_variables : (from : Option ℕ) (t : Term) → var_bound t ≡ 0 → IsOlder from t
+no_variables None t e = tt
+no_variables (Some base) t e = omega (arith, e)
+
+-- of a binding of an older variable
+pub left_stays : (old new : StoreView) (from to : Option ℕ) (x : ℕ) (c : BindingCell) (goes : Bool) → IsNoVariable c → to ≡ fresh_after from c → IsBoundOr x (meaning old c) old new goes → goes ≡ true → StaysOlder old new from to
+left_stays old new from to x c false n e h g = absurd (true_false (sym g))
+left_stays old new from to x Free true n e h g = absurd n
+left_stays old new from to x (Var v) true n e h g = absurd n
+left_stays old new from to x (Int z) true n e h g = subst (StaysOlder old new from) (sym e) (binding_stays old new from x (meaning old (Int z)) h.1 (no_variables from (meaning old (Int z)) refl))
+left_stays old new from to x (Atom a) true n e h g = subst (StaysOlder old new from) (sym e) (binding_stays old new from x (meaning old (Atom a)) h.1 (no_variables from (meaning old (Atom a)) refl))
+left_stays old new from to x (Compound at base) true n e h g = subst (StaysOlder old new from) (sym e) (ended_stays old new from)
+
+-- of a binding to something older
+pub right_stays : (old new : StoreView) (from : Option ℕ) (x : ℕ) (t : Term) (goes : Bool) → IsOlder from t → IsBoundOr x t old new goes → goes ≡ true → StaysOlder old new from from
+right_stays old new from x t false o h g = absurd (true_false (sym g))
+right_stays old new from x t true o h g = binding_stays old new from x t h.1 o
+
+-- the equations that are left, with the older side on the left
+abbrev pub AllOlder : Option ℕ → Equations → Type 0
+AllOlder from eqs = Each (λ e. IsOlder from e.0) eqs
+
+weaker : (from to : Option ℕ) (t : Term) → (to ≡ from) ⊎ (to ≡ None) → IsOlder from t → IsOlder to t
+weaker from to t (inl e) o = subst (λ f. IsOlder f t) (sym e) o
+weaker from to t (inr e) o = subst (λ f. IsOlder f t) (sym e) tt
+
+all_stay : (old new : StoreView) (from to : Option ℕ) (eqs : Equations) → StaysOlder old new from to → AllOlder from (resolved_equations (substitution old) eqs) → AllOlder to (resolved_equations (substitution new) eqs)
+all_stay old new from to [] s o = tt
+all_stay old new from to (e ∷ eqs) s o = (s.kept e.0 (weaker from to (resolve (substitution old) e.0) s.still o.0), all_stay old new from to eqs s o.1)
+
+abbrev IsOlderAll : Option ℕ → Terms → Type 0
+IsOlderAll from end = Unit {0}
+IsOlderAll from (more t ts) = IsOlder from t × IsOlderAll from ts
+
+none_fresh : (ts : Terms) → IsOlderAll None ts
+none_fresh end = tt
+none_fresh (more t ts) = (tt, none_fresh ts)
+
+all_below : (base : ℕ) (ts : Terms) → all_bound ts ≤ base → IsOlderAll (Some base) ts
+all_below base end le = tt
+all_below base (more t ts) le = (omega arith, all_below base ts (omega arith))
+
+arguments_older : (from : Option ℕ) (name : List ℕ) (ts : Terms) → IsOlder from (CompoundTerm name ts) → IsOlderAll from ts
+arguments_older None name ts o = none_fresh ts
+arguments_older (Some base) name ts o = all_below base ts o
+
+inside : (from : Option ℕ) (ts us : Terms) → IsOlderAll from ts → AllOlder from (pairs ts us)
+inside from end us o = tt
+inside from (more t ts) end o = tt
+inside from (more t ts) (more u us) o = (o.0, inside from ts us o.1)
+
+-- what is opened is older too
+pub opened_older : (from : Option ℕ) (a b : Term) (es : Equations) → rule a b ≡ Opened es → IsOlder from a → AllOlder from es
+opened_older from a b es r o =
+    let says = subst (Says a b) r (rule_says a b) in
+    subst (AllOlder from) (sym says.es_are) (inside from says.left says.right (arguments_older from says.name says.left (subst (IsOlder from) says.a_is o)))
+
+pub older_follows : (from to : Option ℕ) (st new : StoreView) (a b : Term) (es fs : List ArgumentEquations) → AllOlder from ((a, b) ∷ left_in st (reverse es)) → new ≡ with_substitution (substitution new) st → FollowsRule st new a b es fs → StaysOlder st new from to → AllOlder to (left_in new (reverse fs))
+older_follows from to st new a b es fs o others f s = subst (λ c. AllOlder to (resolved_equations (substitution new) (pending_equations c (reverse fs)))) (sym (ap text_in others)) (all_stay st new from to (pending_equations (text_in st) (reverse fs)) s (by_rule f))
+  where
+    by_rule : FollowsRule st new a b es fs → AllOlder from (left_in st (reverse fs))
+    by_rule (after_same e n g) = subst (λ gs. AllOlder from (left_in st (reverse gs))) (sym g) o.1
+    by_rule (after_binding x t k h g) = subst (λ gs. AllOlder from (left_in st (reverse gs))) (sym g) o.1
+    by_rule (after_opening e k t n g) =
+        subst (λ gs. AllOlder from (left_in st gs)) (sym (ap reverse g ∙ turned es e))
+        (subst (AllOlder from) (sym (resolved_append (substitution st) (equations_in (text_in st) e) (pending_equations (text_in st) (reverse es)))) (each-append (λ q. IsOlder from q.0) (resolved_equations (substitution st) (equations_in (text_in st) e)) (left_in st (reverse es)) (opened_older from a b _ k o.0) o.1))
+
+pub smaller_older : (from : Option ℕ) (n m : ℕ) → n < m → IsOlder from (VarTerm m) → IsOlder from (VarTerm n)
+smaller_older None n m lt o = tt
+smaller_older (Some base) n m lt o = omega (arith, lt, o)
+
+pub falls : (x : ℕ) (c : BindingCell) → IsNoVariable c → IsFalling x c
+falls x Free n = absurd n
+falls x (Var v) n = absurd n
+falls x (Int z) n = tt
+falls x (Atom a) n = tt
+falls x (Compound at base) n = tt

@@ -1,0 +1,16 @@
+pub mod OccurrenceLemmas
+pub mod CountLemmas
+pub mod CellMeaningLemmas
+pub mod SubstitutionLemmas
+pub mod UndoingLemmas
+pub mod StoreLemmas
+pub mod AddedTextLemmas
+pub mod HeapLemmas
+pub mod HeapGrowthLemmas
+pub mod DereferenceLemmas
+pub mod ArgumentLemmas
+pub mod WalkLemmas
+pub mod UnificationLemmas
+pub mod FreshLemmas
+pub mod RuleLemmas
+pub mod WritingLemmas

@@ -1,0 +1,44 @@
+use Rattle.std.proofs.Common.{◌≡◌, ◌+◌, ◌∷◌, [], ◌++◌, length, take, reverse, ap, ◌∙◌, arith}
+use Rattle.std.proofs.lemmas.Result.{on_ok_weaker}
+use Rattle.std.specs.Arc.{arc_value}
+use Rattle.clause_compile.specs.Places.{CodeView}
+use Rattle.clause_compile.specs.declared.place.Place.TheVariants.{Functor, Sub}
+use Rattle.cell_store.specs.HeapView.{HeapView, text_of}
+use Rattle.cell_store.proofs.HeapGrowthLemmas.{heap_of, places_counted, compound_adds, compound_grows}
+use Rattle.cell_store.proofs.heap.Heap.push_compound.Goals as goal
+
+pub returns-clause-added : goal.returns-clause-added
+returns-clause-added c =
+    let s = c.self.inside in
+    let h = c.args.self.now in
+    let named = c.number.new.self in
+    let program = arc_value s.program in
+    let f = c.in_ok-number.number in
+    let k = c.in_ok-number.ensures.numbered in
+    let block = Functor f c.args.count ∷ take c.args.count (reverse c.args.stack.now.items) in
+    let now = heap_of program s.names c.push_block.new.places.items in
+    let now_is : now ≡ heap_of named.program named.names (named.made ++ block) = ap (heap_of program s.names) c.in_default.ensures.block ∙ ap (λ (g : HeapView). heap_of g.program g.names (g.made ++ block)) c.self.view_is in
+    let counted = places_counted h named c.args.name.now f k program s.names s.made.items c.self.view_is in
+    let length_is : c.len.result ≡ length program.places = c.len.ensures.count ∙ ap (λ (p : CodeView). length p.places) c.deref.ensures in
+    let made_is = c.len-made.ensures in
+    let at = c.len.result + c.len-made.result in
+    let place : at ≡ length (text_of h).places = omega (arith, counted, length_is, made_is, s.made.ok.0) in
+    on_ok_weaker c.put.result (λ (a : c.put.new.stack.items ≡ c.push_block.new.stack.items ++ Sub at ∷ []). compound_adds h named now c.args.name.now f c.args.count at c.args.stack.now.items c.push_block.new.stack.items c.put.new.stack.items c.requires.heap c.in_ok-number.ensures.grown k c.requires.arity c.requires.stand c.requires.enough now_is c.in_default.ensures.left a place) c.put.ensures
+
+pub returns-clause-grown : goal.returns-clause-grown
+returns-clause-grown c =
+    let s = c.self.inside in
+    let h = c.args.self.now in
+    let named = c.number.new.self in
+    let program = arc_value s.program in
+    let f = c.in_ok-number.number in
+    let k = c.in_ok-number.ensures.numbered in
+    let block = Functor f c.args.count ∷ take c.args.count (reverse c.args.stack.now.items) in
+    let now = heap_of program s.names c.push_block.new.places.items in
+    let now_is : now ≡ heap_of named.program named.names (named.made ++ block) = ap (heap_of program s.names) c.in_default.ensures.block ∙ ap (λ (g : HeapView). heap_of g.program g.names (g.made ++ block)) c.self.view_is in
+    let counted = places_counted h named c.args.name.now f k program s.names s.made.items c.self.view_is in
+    let length_is : c.len.result ≡ length program.places = c.len.ensures.count ∙ ap (λ (p : CodeView). length p.places) c.deref.ensures in
+    let made_is = c.len-made.ensures in
+    let at = c.len.result + c.len-made.result in
+    compound_grows h named now c.args.name.now f c.args.count at c.args.stack.now.items c.push_block.new.stack.items c.put.new.stack.items c.requires.heap c.in_ok-number.ensures.grown k c.requires.arity c.requires.stand c.requires.enough now_is
+    (omega (arith, counted, length_is, made_is, s.made.ok.0, c.if-at-count.false))

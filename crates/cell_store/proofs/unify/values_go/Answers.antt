@@ -1,0 +1,8 @@
+use Rattle.cell_store.proofs.RuleLemmas.{int_clash, atom_clash}
+use Rattle.cell_store.proofs.unify.values_go.Goals as goal
+
+pub returns-in_default : goal.returns-in_default
+returns-in_default c = int_clash c.args.store.now c.in_default.field-0-0 c.args.left c.args.right c.in_default.is-0 c.requires.right_no_variable c.requires.right c.in_default.not-Int-1
+
+pub returns-in_default-2 : goal.returns-in_default-2
+returns-in_default-2 c = atom_clash c.args.store.now c.in_default.field-0-0 c.args.left c.args.right c.in_default.is-0 c.requires.right_no_variable c.requires.right c.in_default.not-Atom-1

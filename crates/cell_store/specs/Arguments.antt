@@ -1,0 +1,97 @@
+-- The arguments of compounds, by their places.
+use Rattle.std.specs.Prelude.{◌≡◌, ℕ, zero, suc, ◌+◌, ◌<◌, ◌≤◌, ◌||◌, Bool, true, false, List, [], ◌∷◌, ◌++◌, length, map, get_or}
+use Rattle.au_term.specs.Term.{Term, Compound as CompoundTerm, var_bound}
+use Rattle.au_term.specs.Shifted.{shifted}
+use Rattle.au_model.specs.Terms.Lists.{terms_from}
+use Rattle.au_model.specs.Terms.Substitutions.{Substitution, resolve, occurs}
+use Rattle.au_model.specs.Terms.Unifier.{size}
+use Rattle.clause_compile.specs.AtomNumbers.{name_at}
+use Rattle.clause_compile.specs.Places.{CodeView, IsArity, IsPlaceOf, meaning_in}
+use Rattle.clause_compile.specs.declared.place.Place.{Place}
+use Rattle.clause_compile.specs.declared.place.Place.TheVariants.{Var as VarPlace}
+use Rattle.binding_array.specs.Represented.{cell_term}
+use Rattle.binding_array.specs.declared.cell.BindingCell.TheVariants.{Compound}
+use Rattle.cell_store.specs.declared.arguments.Arguments.{Arguments}
+
+abbrev pub place_at : CodeView → ℕ → Place
+place_at code at = get_or code.places at (VarPlace 0)
+
+-- the argument at a place, with a number added to its variables
+abbrev pub argument_at : CodeView → ℕ → ℕ → Term
+argument_at code base at = shifted base (meaning_in code (place_at code at))
+
+-- so many arguments, from a place on
+abbrev pub arguments_from : CodeView → ℕ → ℕ → ℕ → List Term
+arguments_from code base zero at = []
+arguments_from code base (suc n) at = argument_at code base at ∷ arguments_from code base n (at + 1)
+
+-- an argument is there, and its variables are below a number
+pub record IsArgument (code : CodeView) (next base at : ℕ) : Type 0 where
+  pub within : at < length code.places
+  pub place : IsPlaceOf code (place_at code at)
+  pub below : var_bound (argument_at code base at) ≤ next
+
+abbrev pub AreArguments : CodeView → ℕ → ℕ → ℕ → ℕ → Type 0
+AreArguments code next base zero at = Unit {0}
+AreArguments code next base (suc n) at = IsArgument code next base at × AreArguments code next base n (at + 1)
+
+-- the compound at a place has this functor
+pub record HasFunctor (code : CodeView) (next at base f n : ℕ) : Type 0 where
+  pub named : f < length code.names
+  pub arity : IsArity n
+  pub arguments : AreArguments code next base n (at + 1)
+  pub term : cell_term code (Compound at base) ≡ CompoundTerm (name_at code.names f) (terms_from (arguments_from code base n (at + 1)))
+
+-- arguments that are still to be gone over
+abbrev pub arguments_in : CodeView → Arguments → List Term
+arguments_in code a = arguments_from code a.base a.count a.at
+
+abbrev pub AreThere : CodeView → ℕ → Arguments → Type 0
+AreThere code next a = (0 < a.count) × AreArguments code next a.base a.count a.at
+
+-- the top ones first
+abbrev pub pending_terms : CodeView → List Arguments → List Term
+pending_terms code [] = []
+pending_terms code (a ∷ further) = arguments_in code a ++ pending_terms code further
+
+abbrev pub AllThere : CodeView → ℕ → List Arguments → Type 0
+AllThere code next [] = Unit {0}
+AllThere code next (a ∷ further) = AreThere code next a × AllThere code next further
+
+abbrev pub resolved_terms : Substitution → List Term → List Term
+resolved_terms s ts = map (resolve s) ts
+
+abbrev pub occurs_in_any : ℕ → List Term → Bool
+occurs_in_any x [] = false
+occurs_in_any x (t ∷ ts) = occurs x t || occurs_in_any x ts
+
+abbrev pub sizes : List Term → ℕ
+sizes [] = 0
+sizes (t ∷ ts) = size t + sizes ts
+
+-- a value is the variable, or the arguments of a compound come on top
+pub record GoesInto (x : ℕ) (s : Substitution) (code : CodeView) (next : ℕ) (t : Term) (old new : List Arguments) : Type 0 where
+  pub same : occurs_in_any x (resolved_terms s (pending_terms code new)) ≡ (occurs x t || occurs_in_any x (resolved_terms s (pending_terms code old)))
+  pub fewer : sizes (resolved_terms s (pending_terms code new)) < size t + sizes (resolved_terms s (pending_terms code old))
+  pub there : AllThere code next old → AllThere code next new
+
+-- whether the variable is what a value stands for
+abbrev pub IsFoundOr : Bool → ℕ → Substitution → CodeView → ℕ → Term → List Arguments → List Arguments → Type 0
+IsFoundOr true x s code next t old new = occurs x t ≡ true
+IsFoundOr false x s code next t old new = GoesInto x s code next t old new
+
+-- the arguments of a compound came on top
+pub record HasOpened (code : CodeView) (next at base : ℕ) (old new : List Arguments) : Type 0 where
+  pub name : List ℕ
+  pub arguments : List Term
+  pub term : cell_term code (Compound at base) ≡ CompoundTerm name (terms_from arguments)
+  pub pending : pending_terms code new ≡ arguments ++ pending_terms code old
+  pub there : AllThere code next old → AllThere code next new
+
+-- all but the first of these came on top
+pub record HasRest (code : CodeView) (next : ℕ) (a : Arguments) (old new : List Arguments) : Type 0 where
+  pub terms : argument_at code a.base a.at ∷ pending_terms code new ≡ arguments_in code a ++ pending_terms code old
+  pub there : AllThere code next new
+
+abbrev pub KeepsRest : Arguments → List Arguments → List Arguments → Type 0
+KeepsRest a old new = (code : CodeView) (next : ℕ) → AreThere code next a → AllThere code next old → HasRest code next a old new

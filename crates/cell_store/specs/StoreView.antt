@@ -1,0 +1,146 @@
+-- What callers see of a store: the text, what is bound and the next variable number, and what they were at each mark.
+use Rattle.std.specs.Prelude.{◌≡◌, ℕ, ◌+◌, ◌^◌, ◌<◌, ◌≤◌, false, List, [], ◌++◌, ◌∷◌, length, map, take}
+use Rattle.au_term.specs.Term.{Term, VarTerm, var_bound}
+use Rattle.au_model.specs.Terms.Each.{Each}
+use Rattle.au_model.specs.Terms.Substitutions.{Substitution, value_of, resolve, occurs}
+use Rattle.clause_compile.specs.AtomNumbers.{AreDistinct}
+use Rattle.clause_compile.specs.Places.{CodeView, Keeps}
+use Rattle.clause_compile.specs.declared.place.Place.{Place}
+use Rattle.binding_array.specs.Represented.{cell_term, IsFalling}
+use Rattle.binding_array.specs.declared.cell.BindingCell.{BindingCell}
+use Rattle.binding_array.specs.declared.cell.BindingCell.TheVariants.{Free, Var, Int, Atom, Compound}
+use Rattle.cell_store.specs.HeapView.{HeapView, text_of, cut_heap}
+use Rattle.cell_store.specs.Values.{IsValue}
+use Rattle.cell_store.specs.CellMeanings.{substitution_in, AreConsistent}
+use Rattle.cell_store.specs.Undoing.{Parts, undone, AreNested, IsWithin}
+use Rattle.cell_store.specs.declared.mark.Mark.{Mark}
+
+-- the terms that were made, what each variable stands for, and the next variable number
+pub record Moment : Type 0 where
+  pub made : List Place
+  pub bound : Substitution
+  pub next : ℕ
+
+-- a program's text and further names, a substitution and the next number; and what it can be taken back to, the oldest first
+pub record StoreView : Type 0 where
+  pub program : CodeView
+  pub names : List (List ℕ)
+  pub now : Moment
+  pub marks : List Moment
+
+-- the program's text with the names and terms that were made behind it
+abbrev pub text_in : StoreView → CodeView
+text_in st = record { names = st.program.names ++ st.names; places = st.program.places ++ st.now.made }
+
+-- what each variable stands for
+abbrev pub substitution : StoreView → Substitution
+substitution st = st.now.bound
+
+-- a value that has its places in the text and its variables among those that were taken
+abbrev pub IsValueIn : StoreView → BindingCell → Type 0
+IsValueIn st c = IsValue (text_in st) st.now.next c
+
+-- the term that a value is
+abbrev pub value_term : StoreView → BindingCell → Term
+value_term st c = cell_term (text_in st) c
+
+-- what it stands for
+abbrev pub meaning : StoreView → BindingCell → Term
+meaning st c = resolve (substitution st) (value_term st c)
+
+-- no bound variable
+abbrev pub IsUnbound : Substitution → BindingCell → Type 0
+IsUnbound s Free = ⊥
+IsUnbound s (Var v) = value_of s v ≡ VarTerm v
+IsUnbound s (Int z) = Unit {0}
+IsUnbound s (Atom a) = Unit {0}
+IsUnbound s (Compound at base) = Unit {0}
+
+-- a value that stands for what another does, and is no bound variable
+pub record IsDereferenced (st : StoreView) (value reached : BindingCell) : Type 0 where
+  pub same : meaning st reached ≡ meaning st value
+  pub unbound : IsUnbound (substitution st) reached
+  pub there : IsValueIn st reached
+
+-- the state of a heap and of cells
+abbrev pub moment_of : HeapView → List BindingCell → Moment
+moment_of h cells = record { made = h.made; bound = substitution_in (text_of h) cells; next = length cells }
+
+-- the state at a mark
+abbrev pub moment_at : Parts → Mark → Moment
+moment_at p m = moment_of (cut_heap m.made p.heap) (undone m p.trail p.cells)
+
+abbrev pub view_of : Parts → StoreView
+view_of p = record { program = p.heap.program; names = p.heap.names; now = moment_of p.heap p.cells; marks = map (moment_at p) p.marks }
+
+-- at a mark too the cells represent a substitution
+abbrev pub IsConsistentAt : Parts → Mark → Type 0
+IsConsistentAt p m = AreConsistent (text_of (cut_heap m.made p.heap)) (undone m p.trail p.cells)
+
+-- the parts of a store fit together
+pub record IsConsistent (p : Parts) : Type 0 where
+  pub now : AreConsistent (text_of p.heap) p.cells
+  pub at_marks : Each (IsConsistentAt p) p.marks
+  pub within : Each (IsWithin p) p.marks
+  pub nested : AreNested p.marks
+  pub trail : Each (λ v. v < length p.cells) p.trail
+  pub variables : length p.cells < 2 ^ 32
+  pub places : length (text_of p.heap).places < 2 ^ 32
+  pub distinct : AreDistinct (text_of p.heap).names
+
+-- nothing is made or bound
+abbrev pub new_store : CodeView → StoreView
+new_store program = record { program = program; names = []; now = record { made = []; bound = []; next = 0 }; marks = [] }
+
+-- further numbers were taken
+abbrev pub with_numbers : ℕ → StoreView → StoreView
+with_numbers n st = record { program = st.program; names = st.names; now = record { made = st.now.made; bound = st.now.bound; next = st.now.next + n }; marks = st.marks }
+
+-- the state is marked
+abbrev pub with_mark : StoreView → StoreView
+with_mark st = record { program = st.program; names = st.names; now = st.now; marks = st.marks ++ st.now ∷ [] }
+
+-- the oldest marks alone
+abbrev pub with_marks : ℕ → StoreView → StoreView
+with_marks n st = record { program = st.program; names = st.names; now = st.now; marks = take n st.marks }
+
+-- taken back to a state that was marked
+abbrev pub taken_back : Moment → StoreView → StoreView
+taken_back m st = record { program = st.program; names = st.names; now = m; marks = st.marks }
+
+-- one substitution and then another make the third
+abbrev pub IsComposition : Substitution → Substitution → Substitution → Type 0
+IsComposition s further t = (n : ℕ) → value_of t n ≡ resolve further (value_of s n)
+
+-- the same, but for what is bound
+abbrev pub with_substitution : Substitution → StoreView → StoreView
+with_substitution s st = record { program = st.program; names = st.names; now = record { made = st.now.made; bound = s; next = st.now.next }; marks = st.marks }
+
+-- bindings were made, and all else is as it was
+pub record BindsFurther (old new : StoreView) (further : Substitution) : Type 0 where
+  pub bound : IsComposition (substitution old) further (substitution new)
+  pub others : new ≡ with_substitution (substitution new) old
+
+-- what a free variable can be bound to
+pub record CanBeBound (st : StoreView) (v : ℕ) (c : BindingCell) : Type 0 where
+  pub there : v < st.now.next
+  pub free : value_of (substitution st) v ≡ VarTerm v
+  pub value : IsValueIn st c
+  pub falling : IsFalling v c
+  pub apart : occurs v (meaning st c) ≡ false
+
+-- names are distinct; numbers from the next one on are unbound, the others stand for terms of them, and no binding changes these terms
+pub record IsValidStore (st : StoreView) : Type 0 where
+  pub distinct : AreDistinct (text_in st).names
+  pub new : (n : ℕ) → st.now.next ≤ n → value_of (substitution st) n ≡ VarTerm n
+  pub below : (n : ℕ) → n < st.now.next → var_bound (value_of (substitution st) n) ≤ st.now.next
+  pub final : (n : ℕ) → resolve (substitution st) (value_of (substitution st) n) ≡ value_of (substitution st) n
+
+-- terms were made: what was there is there and means the same, and all else is as it was
+pub record AddsText (old new : StoreView) : Type 0 where
+  pub keeps : Keeps (text_in old) (text_in new)
+  pub values : (c : BindingCell) → IsValueIn old c → IsValueIn new c × (value_term new c ≡ value_term old c)
+  pub program : new.program ≡ old.program
+  pub bound : substitution new ≡ substitution old
+  pub next : new.now.next ≡ old.now.next
+  pub marks : new.marks ≡ old.marks

@@ -1,0 +1,193 @@
+//! The heap: a program's text, with what was made behind it.
+ghost use Rattle.std.specs.Prelude.{◌≡◌, ◌<◌, ◌≤◌, ◌+◌, ◌^◌, ◌∷◌, [], ◌++◌, IfOk, OnOk, length, drop};
+ghost use Rattle.std.specs.Arc.{arc_value};
+ghost use Rattle.au_term.specs.PrefixOrder.{arity, cell_bound, IsValidCell};
+ghost use Rattle.au_term.specs.Shifted.{shifted_cell};
+ghost use Rattle.clause_compile.specs.AtomNumbers.{name_at};
+ghost use Rattle.clause_compile.specs.Places.{IsArity, IsPlaced, AddsCell, ArePlacesOf};
+ghost use Rattle.cell_store.specs.HeapView.{text_of, cut_heap, IsSoundHeap, GrowsHeap, IsNumberedIn};
+
+use au_term::{Atom, Cell, NoMemory, Shared, VarNo};
+use clause_compile::{AtomNumbers, Code, Place, push_block};
+use std::alloc::Global;
+use std::marker::Model;
+use std::sync::Arc;
+
+/// A program's text, which is shared and stays as it is, and the names and places that were added behind it.
+#[derive(Drop)]
+pub(crate) struct Heap {
+    program: Arc<Code>,
+    names: AtomNumbers,
+    made: Vec<Place>,
+}
+
+impl Model for Heap {
+    ghost use Rattle.std.specs.Arc.{arc_value};
+    ghost use Rattle.cell_store.specs.HeapView.{HeapView};
+
+    ghost Value = { HeapView };
+
+    ghost view = { λ h. record { program = arc_value h.program; names = h.names; made = h.made.items } };
+}
+
+impl Heap {
+    /// Nothing was added.
+    pub(crate) fn new(alloc: Global, program: Arc<Code>) -> Heap
+        ensures { result ≡ record { program = arc_value program; names = []; made = [] } }
+    {
+        Heap {
+            program,
+            names: AtomNumbers::new(alloc),
+            made: Vec::new(alloc),
+        }
+    }
+
+    /// How many places were added.
+    pub(crate) fn made(&self) -> usize
+        ensures { result ≡ length self.now.made }
+    {
+        self.made.len()
+    }
+
+    /// The place with a number.
+    pub(crate) fn place(&self, at: usize) -> Place
+        requires { at < length (text_of self.now).places }
+        ensures { drop at (text_of self.now).places ≡ result ∷ drop (at + 1) (text_of self.now).places }
+    {
+        let program = self.program.len();
+        if at < program {
+            self.program.place(at)
+        } else {
+            self.made[at - program]
+        }
+    }
+
+    /// The name with a number.
+    pub(crate) fn name(&self, number: u32) -> &Atom
+        requires { number < length (text_of self.now).names }
+        ensures { result.now ≡ name_at (text_of self.entry.now).names number }
+    {
+        let program = self.program.names();
+        if (number as usize) < program {
+            self.program.name(number)
+        } else {
+            self.names.name(number - program as u32)
+        }
+    }
+
+    /// Adds a term, and gives the place that means it.
+    pub(crate) fn push_term(&mut self, alloc: Global, term: &Shared) -> Result<Place, NoMemory>
+        requires { IsSoundHeap self.old }
+        ensures placed { IfOk result (IsPlaced (text_of self.old) (text_of self.new) term.now) }
+        ensures grown { GrowsHeap self.old self.new }
+    {
+        let mut stack = Vec::new(alloc);
+        let mut left = term.len();
+        while left > 0 {
+            left -= 1;
+            let (cell, base) = term.cell_at(left);
+            self.push_cell(cell, base, &mut stack)?;
+        }
+        match stack.pop() {
+            Some(place) => Ok(place),
+            None => unreachable!(),
+        }
+    }
+
+    /// Adds a cell, with a number added to its variable, before those that were added; the places of its arguments are taken
+    /// from the stack, and its own put there.
+    fn push_cell(
+        &mut self,
+        cell: &Cell,
+        base: VarNo,
+        stack: &mut Vec<Place>,
+    ) -> Result<(), NoMemory>
+        requires heap { IsSoundHeap self.old }
+        requires sound { IsValidCell cell.now }
+        requires fits { base + cell_bound cell.now < 2 ^ 64 }
+        requires enough { arity cell.now ≤ length stack.old.items }
+        requires stand { ArePlacesOf (text_of self.old) stack.old.items }
+        ensures added { OnOk result (AddsCell (text_of self.old) (text_of self.new) (shifted_cell base cell.now) stack.old.items stack.new.items) }
+        ensures grown { GrowsHeap self.old self.new }
+    {
+        match cell {
+            Cell::Var(number) => put(Place::Var(base + *number), stack),
+            Cell::Int(value) => put(integer(value), stack),
+            Cell::Atom(name) => {
+                let number = self.number(name)?;
+                put(Place::Atom(number), stack)
+            }
+            Cell::Functor(name, count) => self.push_compound(name, *count, stack),
+        }
+    }
+
+    /// Adds a compound, whose arguments' places are taken from the stack.
+    fn push_compound(
+        &mut self,
+        name: &Atom,
+        count: u32,
+        stack: &mut Vec<Place>,
+    ) -> Result<(), NoMemory>
+        requires heap { IsSoundHeap self.old }
+        requires arity { IsArity count }
+        requires enough { count ≤ length stack.old.items }
+        requires stand { ArePlacesOf (text_of self.old) stack.old.items }
+        ensures added { OnOk result (AddsCell (text_of self.old) (text_of self.new) (Cell.Functor name.now count) stack.old.items stack.new.items) }
+        ensures grown { GrowsHeap self.old self.new }
+    {
+        let number = self.number(name)?;
+        let made = self.made.len();
+        let at = self.program.len() + made;
+        if at + count as usize >= u32::MAX as usize {
+            return Err(NoMemory);
+        }
+        if let Err(error) = push_block(number, count, stack, &mut self.made) {
+            self.made.truncate(made);
+            return Err(error);
+        }
+        put(Place::Sub(at), stack)
+    }
+
+    /// The number of a name, which gets the next one where it has none.
+    fn number(&mut self, name: &Atom) -> Result<u32, NoMemory>
+        requires { IsSoundHeap self.old }
+        ensures numbered { IfOk result (IsNumberedIn self.old self.new name.now) }
+        ensures grown { GrowsHeap self.old self.new }
+    {
+        if let Some(number) = self.program.find(name) {
+            return Ok(number);
+        }
+        let number = self.names.number(name)?;
+        // The proof reads off that no two of the added names are the same.
+        let _names = self.names.len();
+        let Ok(program) = u32::try_from(self.program.names()) else {
+            return Err(NoMemory);
+        };
+        let Some(number) = program.checked_add(number) else {
+            return Err(NoMemory);
+        };
+        Ok(number)
+    }
+
+    /// Takes away the places that were added after so many.
+    pub(crate) fn cut_to(&mut self, made: usize)
+        ensures { self.new ≡ cut_heap made self.old }
+    {
+        self.made.truncate(made);
+    }
+}
+
+/// Puts a place on the stack.
+fn put(place: Place, stack: &mut Vec<Place>) -> Result<(), NoMemory>
+    ensures { OnOk result (stack.new.items ≡ stack.old.items ++ place ∷ []) }
+{
+    stack.push(place)?;
+    Ok(())
+}
+
+/// The place of an integer.
+fn integer(value: &i64) -> Place
+    ensures { result ≡ Place.Int value.now }
+{
+    Place::Int(*value)
+}

@@ -1,0 +1,278 @@
+//! The store.
+ghost use Rattle.std.specs.Prelude.{◌≡◌, ◌-◌, ◌^◌, ◌<◌, ◌≤◌, ◌+◌, ◌++◌, ◌∷◌, [], ℕ, List, length, take, drop, IfOk, OnOk, OnErr};
+ghost use Rattle.std.specs.Arc.{arc_value};
+ghost use Rattle.au_model.specs.Terms.Each.{Each};
+ghost use Rattle.au_term.specs.Term.{var_bound};
+ghost use Rattle.au_term.specs.Shifted.{shifted};
+ghost use Rattle.clause_compile.specs.AtomNumbers.{name_at};
+ghost use Rattle.clause_compile.specs.Places.{IsPlaceOf, meaning_in};
+ghost use Rattle.cell_store.specs.Arguments.{HasFunctor, IsArgument, argument_at};
+ghost use Rattle.cell_store.specs.Undoing.{AreNested, freed};
+ghost use Rattle.cell_store.specs.UnificationSteps.{IsUnified, OnlyBinds};
+ghost use Rattle.cell_store.specs.StoreView.{Moment, IsValidStore, IsValueIn, IsDereferenced, CanBeBound, BindsFurther, AddsText, meaning, text_in, value_term, new_store, with_numbers, with_mark, with_marks, taken_back};
+
+use crate::heap::Heap;
+use crate::mark::Mark;
+use crate::resolved::resolved;
+use crate::unify::unify;
+use au_term::{Atom, FlatTerm, NoMemory, Shared};
+use binding_array::{BindingArray, BindingCell};
+use clause_compile::{Code, Place};
+use std::alloc::Global;
+use std::marker::Model;
+use std::sync::Arc;
+
+/// What the variables of a branch stand for, its next variable number, and the terms that were made.
+#[derive(Drop)]
+pub struct Store {
+    heap: Heap,
+    cells: BindingArray,
+    /// Variables that were there at the newest mark of their time and were bound since.
+    trail: Vec<u32>,
+    marks: Vec<Mark>,
+    alloc: Global,
+}
+
+impl Model for Store {
+    ghost use Rattle.std.specs.Coded.{codes};
+    ghost use Rattle.au_term.specs.PrefixOrder.{term_code};
+    ghost use Rattle.cell_store.specs.Undoing.{Parts};
+    ghost use Rattle.cell_store.specs.StoreView.{StoreView, IsConsistent, view_of};
+
+    ghost Value = { StoreView };
+
+    ghost coded = { Prim.hlevel (codes, term_code) };
+
+    ghost view = { λ s. view_of (record { heap = s.heap; cells = s.cells; trail = s.trail.items; marks = s.marks.items }) };
+
+    ghost invariant = { λ s. IsConsistent (record { heap = s.heap; cells = s.cells; trail = s.trail.items; marks = s.marks.items }) };
+}
+
+impl Store {
+    /// Nothing is made or bound.
+    pub fn new(alloc: Global, program: Arc<Code>) -> Result<Store, NoMemory>
+        ensures new { IfOk result (λ store. store ≡ new_store (arc_value program)) }
+        ensures text { IfOk result (λ store. text_in store ≡ arc_value program) }
+    {
+        // The proof reads off that no two names are the same.
+        let _names = program.names();
+        if program.len() > u32::MAX as usize {
+            return Err(NoMemory);
+        }
+        Ok(Store {
+            heap: Heap::new(alloc, program),
+            cells: BindingArray::new(alloc),
+            trail: Vec::new(alloc),
+            marks: Vec::new(alloc),
+            alloc,
+        })
+    }
+
+    /// The next variable number.
+    pub fn next(&self) -> u32
+        ensures next { result ≡ self.now.now.next }
+        ensures sound { IsValidStore self.now }
+    {
+        self.cells.len() as u32
+    }
+
+    /// How many marks there are.
+    pub fn marks(&self) -> usize
+        ensures { result ≡ length self.now.marks }
+    {
+        self.marks.len()
+    }
+
+    /// Takes so many new numbers, and gives the first.
+    pub fn fresh(&mut self, count: u32) -> Result<u32, NoMemory>
+        ensures ok { OnOk result (self.new ≡ with_numbers count self.old) }
+        ensures first { IfOk result (λ first. first ≡ self.old.now.next) }
+        ensures err { OnErr result (self.new ≡ self.old) }
+    {
+        let first = self.next();
+        let Some(next) = first.checked_add(count) else {
+            return Err(NoMemory);
+        };
+        self.cells.grow(next as usize)?;
+        Ok(first)
+    }
+
+    /// The name with a number.
+    pub fn name(&self, number: u32) -> &Atom
+        requires { number < length (text_in self.now).names }
+        ensures { result.now ≡ name_at (text_in self.entry.now).names number }
+    {
+        self.heap.name(number)
+    }
+
+    /// The functor of the compound at a place: its name, by number, and how many arguments follow.
+    pub fn functor(&self, at: u32) -> (u32, u32)
+        requires { IsPlaceOf (text_in self.now) (Place.Sub at) }
+        ensures short { at < 2 ^ 32 - 1 }
+        ensures functor { (base : ℕ) → IsValueIn self.now (BindingCell.Compound at base) → HasFunctor (text_in self.now) self.now.now.next at base result.0 result.1 }
+    {
+        match self.heap.place(at as usize) {
+            Place::Functor(name, count) => (name, count),
+            _ => unreachable!(),
+        }
+    }
+
+    /// What a place of the text means, with a number added to its variables.
+    pub fn value(&self, place: Place, base: u32) -> BindingCell
+        requires there { IsPlaceOf (text_in self.now) place }
+        requires below { var_bound (shifted base (meaning_in (text_in self.now) place)) ≤ self.now.now.next }
+        ensures term { value_term self.now result ≡ shifted base (meaning_in (text_in self.now) place) }
+        ensures there { IsValueIn self.now result }
+    {
+        // The proof reads off that numbers and places are small.
+        let _next = self.cells.len();
+        match place {
+            Place::Functor(_, _) => unreachable!(),
+            Place::Var(number) => BindingCell::Var(base + number as u32),
+            Place::Int(value) => BindingCell::Int(value),
+            Place::Atom(number) => BindingCell::Atom(number),
+            Place::Sub(at) => BindingCell::Compound(at as u32, base),
+        }
+    }
+
+    /// The argument at a place, with a number added to its variables.
+    pub fn argument(&self, at: u32, base: u32) -> BindingCell
+        requires { IsArgument (text_in self.now) self.now.now.next base at }
+        ensures term { value_term self.now result ≡ argument_at (text_in self.now) base at }
+        ensures there { IsValueIn self.now result }
+        ensures short { at < 2 ^ 32 - 1 }
+    {
+        self.value(self.heap.place(at as usize), base)
+    }
+
+    /// A value that stands for the same and is no bound variable.
+    pub fn dereference(&self, value: BindingCell) -> BindingCell
+        requires { IsValueIn self.now value }
+        ensures { IsDereferenced self.now value result }
+    {
+        match value {
+            BindingCell::Var(variable) => self.cells.follow(variable),
+            value => value,
+        }
+    }
+
+    /// Binds a free variable.
+    pub fn bind(&mut self, variable: u32, value: BindingCell) -> Result<(), NoMemory>
+        requires { CanBeBound self.old variable value }
+        ensures ok { OnOk result (BindsFurther self.old self.new ((variable, meaning self.old value) ∷ [])) }
+        ensures err { OnErr result (self.new ≡ self.old) }
+    {
+        if (variable as usize) < protected(&self.marks) {
+            self.trail.push(variable)?;
+        }
+        self.cells.bind(variable, value);
+        Ok(())
+    }
+
+    /// Makes two values one by further bindings, or answers that none do. Where none do, or out of memory, some bindings may
+    /// be left: the store can be taken back to a mark.
+    pub fn unify(&mut self, a: BindingCell, b: BindingCell) -> Result<bool, NoMemory>
+        requires left { IsValueIn self.old a }
+        requires right { IsValueIn self.old b }
+        ensures unified { IfOk result (IsUnified a b self.old self.new) }
+        ensures kept { OnlyBinds self.old self.new }
+    {
+        unify(self.alloc, a, b, None, self)
+    }
+
+    /// The same, of a goal and the head of a clause whose variables are numbered from `base` on and are in nothing that the
+    /// goal stands for: one of them is bound without the search for it in its value, until an older variable is bound to a
+    /// compound of the head.
+    pub fn unify_head(
+        &mut self,
+        goal: BindingCell,
+        head: BindingCell,
+        base: u32,
+    ) -> Result<bool, NoMemory>
+        requires goal { IsValueIn self.old goal }
+        requires head { IsValueIn self.old head }
+        requires older { var_bound (meaning self.old goal) ≤ base }
+        ensures unified { IfOk result (IsUnified goal head self.old self.new) }
+        ensures kept { OnlyBinds self.old self.new }
+    {
+        unify(self.alloc, goal, head, Some(base), self)
+    }
+
+    /// The value that a term is: it is put into the heap.
+    pub fn copy_in(&mut self, term: &Shared) -> Result<BindingCell, NoMemory>
+        requires { var_bound term.now ≤ self.old.now.next }
+        ensures there { IfOk result (IsValueIn self.new) }
+        ensures term { IfOk result (λ value. value_term self.new value ≡ term.now) }
+        ensures others { AddsText self.old self.new }
+    {
+        let place = self.heap.push_term(self.alloc, term)?;
+        Ok(self.value(place, 0))
+    }
+
+    /// The term that a value stands for.
+    pub fn resolve(&self, value: BindingCell) -> Result<FlatTerm, NoMemory>
+        requires { IsValueIn self.now value }
+        ensures { IfOk result (λ t. t ≡ meaning self.now value) }
+    {
+        resolved(self.alloc, value, self)
+    }
+
+    /// Marks the state of the store, and gives the number of marks before.
+    pub fn mark(&mut self) -> Result<usize, NoMemory>
+        ensures ok { OnOk result (self.new ≡ with_mark self.old) }
+        ensures count { IfOk result (λ count. count ≡ length self.old.marks) }
+        ensures err { OnErr result (self.new ≡ self.old) }
+    {
+        let count = self.marks.len();
+        self.marks.push(Mark {
+            trail: self.trail.len(),
+            variables: self.cells.len(),
+            made: self.heap.made(),
+        })?;
+        Ok(count)
+    }
+
+    /// Drops all marks after the oldest ones; what is bound and made stays.
+    pub fn keep_marks(&mut self, count: usize)
+        ensures { self.new ≡ with_marks count self.old }
+    {
+        self.marks.truncate(count);
+    }
+
+    /// Takes the store back to a mark, by the number of marks before it. The mark stays, and those after it are dropped.
+    pub fn undo_to(&mut self, mark: usize)
+        requires { mark < length self.old.marks }
+        ensures { (before after : List Moment) (moment : Moment) → self.old.marks ≡ before ++ moment ∷ after → mark ≡ length before → self.new ≡ taken_back moment (with_marks (mark + 1) self.old) }
+    {
+        let at = self.marks[mark];
+        self.marks.truncate(mark + 1);
+        free_after(at.trail, &mut self.trail, &mut self.cells);
+        self.cells.cut_to(at.variables);
+        self.heap.cut_to(at.made);
+    }
+}
+
+/// How many variables there were at the newest mark.
+fn protected(marks: &[Mark]) -> usize
+    requires { AreNested marks.now }
+    ensures { Each (λ m. m.variables ≤ result) marks.now }
+{
+    match marks.last() {
+        Some(mark) => mark.variables,
+        None => 0,
+    }
+}
+
+/// Frees the variables of the trail after the first ones, the last first, and takes them from it.
+fn free_after(kept: usize, trail: &mut Vec<u32>, cells: &mut BindingArray)
+    requires { Each (λ v. v < length cells.old) trail.old.items }
+    ensures trail { trail.new.items ≡ take kept trail.old.items }
+    ensures cells { cells.new ≡ freed (drop kept trail.old.items) cells.old }
+{
+    while trail.len() > kept {
+        match trail.pop() {
+            Some(variable) => cells.free(variable),
+            None => unreachable!(),
+        }
+    }
+}

@@ -1,0 +1,285 @@
+//! The unifier of two values (ISO/IEC 13211-1, 7.3.2).
+ghost use Rattle.std.specs.Prelude.{◌≡◌, ◌<◌, ◌+◌, ◌-◌, ◌^◌, IfOk, OnOk, Bool, true, ℕ, Option, List, length, nat_eq, reverse};
+ghost use Rattle.std.specs.Cmp.Lexicographic.{pointwise};
+ghost use Rattle.au_term.specs.Term.{VarTerm};
+ghost use Rattle.au_model.specs.Terms.Substitutions.{value_of};
+ghost use Rattle.binding_array.specs.Represented.{IsFalling};
+ghost use Rattle.clause_compile.specs.AtomNumbers.{name_at};
+ghost use Rattle.cell_store.specs.FreshVariables.{IsOlder, StaysOlder, fresh_after, is_fresh};
+ghost use Rattle.cell_store.specs.Values.{IsNoVariable};
+ghost use Rattle.cell_store.specs.StoreView.{IsValueIn, meaning, substitution, text_in};
+ghost use Rattle.cell_store.specs.UnificationSteps.{IsUnified, OnlyBinds, TakesRule, IsBoundOr, KeepsRestEquations};
+ghost use Rattle.cell_store.specs.declared.arguments.Equations.{Equations as ArgumentEquations};
+
+use crate::arguments::{Arguments, Equations};
+use crate::occurs::occurs;
+use crate::store::Store;
+use au_term::NoMemory;
+use binding_array::BindingCell;
+use std::alloc::Global;
+
+/// Makes two values one by further bindings, or answers that none do. Where the second is the head of a clause and the
+/// first one older than the clause, `fresh` is the clause's first variable: such a variable is bound to what is older
+/// without the search for it there.
+pub(crate) fn unify(
+    alloc: Global,
+    a: BindingCell,
+    b: BindingCell,
+    fresh: Option<u32>,
+    store: &mut Store,
+) -> Result<bool, NoMemory>
+    requires left { IsValueIn store.old a }
+    requires right { IsValueIn store.old b }
+    requires older { IsOlder fresh (meaning store.old a) }
+    ensures unified { IfOk result (IsUnified a b store.old store.new) }
+    ensures kept { OnlyBinds store.old store.new }
+{
+    let mut fresh = fresh;
+    let mut pending = Vec::new(alloc);
+    if !pair_goes(alloc, a, b, &mut fresh, store, &mut pending)? {
+        return Ok(false);
+    }
+    while let Some(equations) = pending.pop() {
+        let left = store.argument(equations.left.at, equations.left.base);
+        let right = store.argument(equations.right.at, equations.right.base);
+        push_rest(equations, &mut pending)?;
+        if !pair_goes(alloc, left, right, &mut fresh, store, &mut pending)? {
+            return Ok(false);
+        }
+    }
+    Ok(true)
+}
+
+/// Goes by the rule for an equation, and answers whether it is no clash.
+fn pair_goes(
+    alloc: Global,
+    left: BindingCell,
+    right: BindingCell,
+    fresh: &mut Option<u32>,
+    store: &mut Store,
+    pending: &mut Vec<Equations>,
+) -> Result<bool, NoMemory>
+    requires left { IsValueIn store.old left }
+    requires right { IsValueIn store.old right }
+    requires older { IsOlder fresh.old (meaning store.old left) }
+    ensures goes { IfOk result (TakesRule store.old store.new (meaning store.old left) (meaning store.old right) pending.old.items pending.new.items) }
+    ensures stays { IfOk result (λ goes. goes ≡ true → StaysOlder store.old store.new fresh.old fresh.new) }
+    ensures kept { OnlyBinds store.old store.new }
+{
+    let left = store.dereference(left);
+    let right = store.dereference(right);
+    match left {
+        BindingCell::Var(m) => match right {
+            BindingCell::Var(n) => variables_go(m, n, store),
+            _ => bind_left(alloc, m, right, fresh, store),
+        },
+        _ => match right {
+            BindingCell::Var(n) => bind_right(alloc, n, left, *fresh, store),
+            _ => values_go(left, right, store, pending),
+        },
+    }
+}
+
+/// Of two free variables the one with the greater number is bound to the other.
+fn variables_go(m: u32, n: u32, store: &mut Store) -> Result<bool, NoMemory>
+    requires left { IsValueIn store.old (BindingCell.Var m) }
+    requires right { IsValueIn store.old (BindingCell.Var n) }
+    requires left_free { value_of (substitution store.old) m ≡ VarTerm m }
+    requires right_free { value_of (substitution store.old) n ≡ VarTerm n }
+    ensures goes { IfOk result (λ goes. (es : List ArgumentEquations) → TakesRule store.old store.new (VarTerm m) (VarTerm n) es es goes) }
+    ensures stays { OnOk result ((fresh : Option ℕ) → IsOlder fresh (VarTerm m) → StaysOlder store.old store.new fresh fresh) }
+    ensures kept { OnlyBinds store.old store.new }
+{
+    if m < n {
+        store.bind(n, BindingCell::Var(m))?;
+    } else if n < m {
+        store.bind(m, BindingCell::Var(n))?;
+    }
+    Ok(true)
+}
+
+/// Binds a free variable to a value, and answers whether it doesn't occur there.
+fn bind_checked(
+    alloc: Global,
+    variable: u32,
+    value: BindingCell,
+    store: &mut Store,
+) -> Result<bool, NoMemory>
+    requires there { IsValueIn store.old (BindingCell.Var variable) }
+    requires free { value_of (substitution store.old) variable ≡ VarTerm variable }
+    requires value { IsValueIn store.old value }
+    requires falling { IsFalling variable value }
+    ensures bound { IfOk result (IsBoundOr variable (meaning store.old value) store.old store.new) }
+    ensures kept { OnlyBinds store.old store.new }
+{
+    if occurs(alloc, variable, value, store)? {
+        return Ok(false);
+    }
+    store.bind(variable, value)?;
+    Ok(true)
+}
+
+/// Binds a free variable of something older. Where it is bound to a compound, a clause's variables are no longer fresh.
+fn bind_left(
+    alloc: Global,
+    variable: u32,
+    value: BindingCell,
+    fresh: &mut Option<u32>,
+    store: &mut Store,
+) -> Result<bool, NoMemory>
+    requires there { IsValueIn store.old (BindingCell.Var variable) }
+    requires free { value_of (substitution store.old) variable ≡ VarTerm variable }
+    requires value { IsValueIn store.old value }
+    requires no_variable { IsNoVariable value }
+    ensures bound { IfOk result (IsBoundOr variable (meaning store.old value) store.old store.new) }
+    ensures stays { IfOk result (λ goes. goes ≡ true → StaysOlder store.old store.new fresh.old fresh.new) }
+    ensures kept { OnlyBinds store.old store.new }
+{
+    let goes = bind_checked(alloc, variable, value, store)?;
+    *fresh = fresh_after(*fresh, value);
+    Ok(goes)
+}
+
+/// What is fresh after an older variable was bound to a value.
+fn fresh_after(fresh: Option<u32>, value: BindingCell) -> Option<u32>
+    ensures { result ≡ fresh_after fresh value }
+{
+    match value {
+        BindingCell::Compound(_, _) => None,
+        _ => fresh,
+    }
+}
+
+/// Binds a free variable to a value that is older than a clause.
+fn bind_right(
+    alloc: Global,
+    variable: u32,
+    value: BindingCell,
+    fresh: Option<u32>,
+    store: &mut Store,
+) -> Result<bool, NoMemory>
+    requires there { IsValueIn store.old (BindingCell.Var variable) }
+    requires free { value_of (substitution store.old) variable ≡ VarTerm variable }
+    requires value { IsValueIn store.old value }
+    requires no_variable { IsNoVariable value }
+    requires older { IsOlder fresh (meaning store.old value) }
+    ensures bound { IfOk result (IsBoundOr variable (meaning store.old value) store.old store.new) }
+    ensures stays { IfOk result (λ goes. goes ≡ true → StaysOlder store.old store.new fresh fresh) }
+    ensures kept { OnlyBinds store.old store.new }
+{
+    if is_fresh(variable, fresh) {
+        store.bind(variable, value)?;
+        return Ok(true);
+    }
+    bind_checked(alloc, variable, value, store)
+}
+
+/// Whether a variable is one of a clause of which this is the first one.
+fn is_fresh(variable: u32, fresh: Option<u32>) -> bool
+    ensures { result ≡ is_fresh variable fresh }
+{
+    match fresh {
+        Some(base) => base <= variable,
+        None => false,
+    }
+}
+
+/// Goes by the rule for two values that are no variables.
+fn values_go(
+    left: BindingCell,
+    right: BindingCell,
+    store: &Store,
+    pending: &mut Vec<Equations>,
+) -> Result<bool, NoMemory>
+    requires left { IsValueIn store.now left }
+    requires right { IsValueIn store.now right }
+    requires left_no_variable { IsNoVariable left }
+    requires right_no_variable { IsNoVariable right }
+    ensures { IfOk result (TakesRule store.now store.now (meaning store.now left) (meaning store.now right) pending.old.items pending.new.items) }
+{
+    match (left, right) {
+        (BindingCell::Int(y), BindingCell::Int(z)) => Ok(y == z),
+        (BindingCell::Atom(a), BindingCell::Atom(b)) => Ok(are_same(a, b, store)),
+        (BindingCell::Compound(at, base), BindingCell::Compound(to, on)) => {
+            compounds_go((at, base), (to, on), store, pending)
+        }
+        _ => Ok(false),
+    }
+}
+
+/// Whether two numbers are those of the same name.
+fn are_same(a: u32, b: u32, store: &Store) -> bool
+    requires left { a < length (text_in store.now).names }
+    requires right { b < length (text_in store.now).names }
+    ensures { result ≡ pointwise nat_eq (name_at (text_in store.now).names a) (name_at (text_in store.now).names b) }
+{
+    // The proof reads off that no two names are the same.
+    let _next = store.next();
+    a == b
+}
+
+/// Puts the equations of two compounds' arguments on top, where their functors are the same.
+fn compounds_go(
+    left: (u32, u32),
+    right: (u32, u32),
+    store: &Store,
+    pending: &mut Vec<Equations>,
+) -> Result<bool, NoMemory>
+    requires left { IsValueIn store.now (BindingCell.Compound left.0 left.1) }
+    requires right { IsValueIn store.now (BindingCell.Compound right.0 right.1) }
+    ensures { IfOk result (TakesRule store.now store.now (meaning store.now (BindingCell.Compound left.0 left.1)) (meaning store.now (BindingCell.Compound right.0 right.1)) pending.old.items pending.new.items) }
+{
+    if left == right {
+        return Ok(true);
+    }
+    let (name, count) = store.functor(left.0);
+    let (other, others) = store.functor(right.0);
+    if count != others || !are_same(name, other, store) {
+        return Ok(false);
+    }
+    pending.push(Equations {
+        left: arguments(left, count),
+        right: arguments(right, count),
+    })?;
+    Ok(true)
+}
+
+/// The arguments of the compound at a place.
+fn arguments(compound: (u32, u32), count: u32) -> Arguments
+    requires { compound.0 < 2 ^ 32 - 1 }
+    ensures { result ≡ record { at = compound.0 + 1; base = compound.1; count = count } }
+{
+    Arguments {
+        at: compound.0 + 1,
+        base: compound.1,
+        count,
+    }
+}
+
+/// Puts equations but for the first on top.
+fn push_rest(equations: Equations, pending: &mut Vec<Equations>) -> Result<(), NoMemory>
+    requires some { (0 < equations.left.count) × (0 < equations.right.count) }
+    requires short { (equations.left.at < 2 ^ 32 - 1) × (equations.right.at < 2 ^ 32 - 1) }
+    ensures { OnOk result (KeepsRestEquations equations (reverse pending.old.items) (reverse pending.new.items)) }
+{
+    if equations.left.count > 1 {
+        pending.push(Equations {
+            left: rest_of(equations.left),
+            right: rest_of(equations.right),
+        })?;
+    }
+    Ok(())
+}
+
+/// Arguments but for the first.
+fn rest_of(arguments: Arguments) -> Arguments
+    requires some { 0 < arguments.count }
+    requires short { arguments.at < 2 ^ 32 - 1 }
+    ensures { result ≡ record { at = arguments.at + 1; base = arguments.base; count = arguments.count - 1 } }
+{
+    Arguments {
+        at: arguments.at + 1,
+        base: arguments.base,
+        count: arguments.count - 1,
+    }
+}

@@ -1,9 +1,0 @@
-use Rattle.std.proofs.Common.{◌≡◌, ◌++◌, map, drop}
-use Rattle.std.specs.Arc.{arc_value}
-use Rattle.text_load.specs.LoadedTexts.{not_defined_by}
-use Rattle.text_load.proofs.assembly.push_undefined.Given as goal
-
-abbrev pub invariant-loop-clause : goal.invariant-loop-clause
-invariant-loop-clause l =
-    map arc_value l.clauses.items ++ not_defined_by (map arc_value l.others) (map arc_value (drop l.clause-index l.library))
-    ≡ map arc_value l.fn.clauses.items ++ not_defined_by (map arc_value l.others) (map arc_value l.library)
