@@ -7,7 +7,7 @@ ghost use Rattle.binding_array.specs.Represented.{IsFalling};
 ghost use Rattle.clause_compile.specs.AtomNumbers.{name_at};
 ghost use Rattle.cell_store.specs.FreshVariables.{IsOlder, StaysOlder, fresh_after, is_fresh};
 ghost use Rattle.cell_store.specs.Values.{IsNoVariable};
-ghost use Rattle.cell_store.specs.StoreView.{IsValueIn, meaning, substitution, text_in};
+ghost use Rattle.cell_store.specs.StoreView.{IsValueIn, compound_meaning, meaning, substitution, text_in};
 ghost use Rattle.cell_store.specs.UnificationSteps.{IsUnified, OnlyBinds, TakesRule, IsBoundOr, KeepsRestEquations};
 ghost use Rattle.cell_store.specs.declared.arguments.Equations.{Equations as ArgumentEquations};
 
@@ -228,7 +228,7 @@ fn compounds_go(
 ) -> Result<bool, NoMemory>
     requires left { IsValueIn store.now (BindingCell.Compound left.0 left.1) }
     requires right { IsValueIn store.now (BindingCell.Compound right.0 right.1) }
-    ensures { IfOk result (TakesRule store.now store.now (meaning store.now (BindingCell.Compound left.0 left.1)) (meaning store.now (BindingCell.Compound right.0 right.1)) pending.old.items pending.new.items) }
+    ensures { IfOk result (TakesRule store.now store.now (compound_meaning store.now left) (compound_meaning store.now right) pending.old.items pending.new.items) }
 {
     if left == right {
         return Ok(true);
