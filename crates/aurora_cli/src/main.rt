@@ -17,6 +17,8 @@ mod rows;
 mod tests;
 pub mod top;
 mod words;
+#[cfg(test)]
+mod worlds;
 
 use crate::finish::finish;
 use crate::top::aurora;

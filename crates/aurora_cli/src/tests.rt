@@ -78,7 +78,7 @@ fn predicates(rt: HostRuntime) -> Result<(), Fail> {
 }
 
 /// Whether a query of this goal alone ends with this error.
-fn is_in_error<R: Threads + Wait + Sync>(
+pub(crate) fn is_in_error<R: Threads + Wait + Sync>(
     rt: &R,
     alloc: Global,
     goal: &str,

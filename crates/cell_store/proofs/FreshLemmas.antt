@@ -1,11 +1,11 @@
 -- Older terms stay older.
-use Rattle.std.proofs.Common.{◌≡◌, ◌⊎◌, inl, inr, ℕ, suc, ◌<◌, ◌≤◌, Bool, true, false, cond, nat_le, ◌==◌, List, [], ◌∷◌, ◌++◌, reverse, Option, Some, None, refl, sym, ap, ◌∙◌, subst, arith}
+use Rattle.std.proofs.Common.{◌≡◌, ◌⊎◌, inl, inr, ℕ, ◌<◌, ◌≤◌, Bool, true, false, cond, ◌==◌, List, [], ◌∷◌, reverse, Option, Some, None, refl, sym, ap, ◌∙◌, subst, arith}
 use Rattle.std.proofs.lemmas.Bool.Decides.{nat_tests}
 use Rattle.au_term.specs.Term.{Term, VarTerm, Compound as CompoundTerm, Terms, end, more, var_bound, all_bound}
 use Rattle.au_term.proofs.LogicLemmas.{true_false}
 use Rattle.au_model.specs.Terms.Each.{Each}
 use Rattle.au_model.proofs.EachLemmas.{each-append}
-use Rattle.au_model.specs.Terms.Substitutions.{Substitution, apply, value_of, resolve, only, occurs}
+use Rattle.au_model.specs.Terms.Substitutions.{apply, resolve, only, occurs}
 use Rattle.au_model.specs.Terms.Unifier.{Equations, Opened, rule, pairs}
 use Rattle.au_model.specs.Terms.EquationsInTurn.{resolved_equations}
 use Rattle.au_model.proofs.UnifierRuleLemmas.{Says, rule_says}
@@ -14,7 +14,7 @@ use Rattle.binding_array.specs.declared.cell.BindingCell.TheVariants.{Free, Var,
 use Rattle.binding_array.specs.Represented.{IsFalling}
 use Rattle.cell_store.specs.FreshVariables.{IsOlder, is_fresh, fresh_after, StaysOlder}
 use Rattle.cell_store.specs.Values.{IsNoVariable}
-use Rattle.cell_store.specs.StoreView.{StoreView, substitution, meaning, text_in, with_substitution, IsComposition, BindsFurther}
+use Rattle.cell_store.specs.StoreView.{StoreView, substitution, meaning, text_in, with_substitution, BindsFurther}
 use Rattle.cell_store.specs.UnificationSteps.{equations_in, pending_equations, FollowsRule, after_same, after_binding, after_opening, IsBoundOr}
 use Rattle.cell_store.specs.declared.arguments.Equations.{Equations as ArgumentEquations}
 use Rattle.cell_store.proofs.OccurrenceLemmas.{kept_below, occurs_below}

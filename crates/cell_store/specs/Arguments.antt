@@ -10,7 +10,9 @@ use Rattle.clause_compile.specs.Places.{CodeView, IsArity, IsPlaceOf, meaning_in
 use Rattle.clause_compile.specs.declared.place.Place.{Place}
 use Rattle.clause_compile.specs.declared.place.Place.TheVariants.{Var as VarPlace}
 use Rattle.binding_array.specs.Represented.{cell_term}
+use Rattle.binding_array.specs.declared.cell.BindingCell.{BindingCell}
 use Rattle.binding_array.specs.declared.cell.BindingCell.TheVariants.{Compound}
+use Rattle.cell_store.specs.StoreView.{StoreView, substitution, meaning, text_in}
 use Rattle.cell_store.specs.declared.arguments.Arguments.{Arguments}
 
 abbrev pub place_at : CodeView → ℕ → Place
@@ -95,3 +97,7 @@ pub record HasRest (code : CodeView) (next : ℕ) (a : Arguments) (old new : Lis
 
 abbrev pub KeepsRest : Arguments → List Arguments → List Arguments → Type 0
 KeepsRest a old new = (code : CodeView) (next : ℕ) → AreThere code next a → AllThere code next old → HasRest code next a old new
+
+-- whether the variable is what a value of a store stands for
+abbrev pub IsFoundAt : StoreView → Bool → ℕ → BindingCell → List Arguments → List Arguments → Type 0
+IsFoundAt st found x c old new = IsFoundOr found x (substitution st) (text_in st) st.now.next (meaning st c) old new

@@ -1,5 +1,5 @@
 -- The variables of a clause whose head is unified: while older terms have none of them, such a variable is in none of those.
-use Rattle.std.specs.Prelude.{◌≡◌, ◌⊎◌, ℕ, ◌≤◌, Bool, true, false, nat_le, Option, Some, None}
+use Rattle.std.specs.Prelude.{◌≡◌, ◌⊎◌, ℕ, ◌≤◌, Bool, false, nat_le, Option, Some, None}
 use Rattle.au_term.specs.Term.{Term, var_bound}
 use Rattle.au_model.specs.Terms.Substitutions.{resolve}
 use Rattle.binding_array.specs.declared.cell.BindingCell.{BindingCell}

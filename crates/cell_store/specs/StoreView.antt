@@ -48,6 +48,10 @@ value_term st c = cell_term (text_in st) c
 abbrev pub meaning : StoreView → BindingCell → Term
 meaning st c = resolve (substitution st) (value_term st c)
 
+-- what the compound at a place stands for, with a number added to its variables
+abbrev pub compound_meaning : StoreView → ℕ × ℕ → Term
+compound_meaning st p = meaning st (Compound p.0 p.1)
+
 -- no bound variable
 abbrev pub IsUnbound : Substitution → BindingCell → Type 0
 IsUnbound s Free = ⊥

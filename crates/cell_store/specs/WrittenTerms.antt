@@ -7,6 +7,8 @@ use Rattle.au_model.specs.Terms.Lists.{terms_from}
 use Rattle.au_model.specs.Terms.Substitutions.{Substitution}
 use Rattle.au_model.specs.Terms.Unifier.{size}
 use Rattle.clause_compile.specs.Places.{CodeView}
+use Rattle.binding_array.specs.declared.cell.BindingCell.{BindingCell}
+use Rattle.cell_store.specs.StoreView.{StoreView, substitution, meaning, text_in}
 use Rattle.cell_store.specs.Arguments.{AllThere, pending_terms, resolved_terms, sizes}
 use Rattle.cell_store.specs.declared.arguments.Arguments.{Arguments}
 
@@ -19,3 +21,7 @@ pub record GoesOnWriting (s : Substitution) (code : CodeView) (next : ℕ) (t : 
   pub same : after ++ cells_left s code new ≡ before ++ (cells_of t ++ cells_left s code old)
   pub fewer : sizes (resolved_terms s (pending_terms code new)) < size t + sizes (resolved_terms s (pending_terms code old))
   pub there : AllThere code next old → AllThere code next new
+
+-- the first cell of what a value stands for was written
+abbrev pub IsFirstWritten : StoreView → BindingCell → List Cell → List Cell → List Arguments → List Arguments → Type 0
+IsFirstWritten st c before after old new = GoesOnWriting (substitution st) (text_in st) st.now.next (meaning st c) before after old new

@@ -5,7 +5,13 @@
 //!
 //! Reading a place, binding and marking take constant time, and so does taking new numbers, for each of them. Dereferencing
 //! takes as many steps as its chain has links. Undoing takes as many as variables older than the mark were bound since: a
-//! younger one is not put on the trail, since its cell is cut off. What a mark has not seen stays where marks are dropped.
+//! younger one is not put on the trail, since its cell is cut off. Dropping marks undoes nothing.
+//!
+//! Unification takes as many steps as it comes to equations, and keeps the room in which they wait. A compound is not gone
+//! into beside itself, at the same place with the same number added. A variable that is bound to a
+//! compound is searched in all that this stands for, as long as it is written out; a head's own variables are not, until an
+//! older variable is bound to a compound. Resolving a value takes as many steps as the term has cells, and copying a term in
+//! as many as it has, with the logarithm of the number of names for each name.
 #![tactic(auto)]
 
 mod arguments;

@@ -1,8 +1,8 @@
 //! Whether a variable occurs in what a value stands for.
 ghost use Rattle.std.specs.Prelude.{◌≡◌, ◌<◌, ◌-◌, ◌^◌, ◌∷◌, IfOk, OnOk, reverse};
 ghost use Rattle.au_model.specs.Terms.Substitutions.{occurs};
-ghost use Rattle.cell_store.specs.StoreView.{IsValueIn, meaning, substitution, text_in};
-ghost use Rattle.cell_store.specs.Arguments.{AllThere, AreThere, IsFoundOr, HasOpened, KeepsRest};
+ghost use Rattle.cell_store.specs.StoreView.{IsValueIn, meaning, text_in};
+ghost use Rattle.cell_store.specs.Arguments.{IsFoundAt, HasOpened, KeepsRest};
 
 use crate::arguments::Arguments;
 use crate::store::Store;
@@ -42,7 +42,7 @@ fn is_found(
     pending: &mut Vec<Arguments>,
 ) -> Result<bool, NoMemory>
     requires { IsValueIn store.now value }
-    ensures { IfOk result (λ found. IsFoundOr found variable (substitution store.now) (text_in store.now) store.now.now.next (meaning store.now value) (reverse pending.old.items) (reverse pending.new.items)) }
+    ensures { IfOk result (λ found. IsFoundAt store.now found variable value (reverse pending.old.items) (reverse pending.new.items)) }
 {
     match store.dereference(value) {
         BindingCell::Var(number) => Ok(number == variable),

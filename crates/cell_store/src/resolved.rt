@@ -1,8 +1,8 @@
 //! What values stand for, as terms.
 ghost use Rattle.std.specs.Prelude.{◌≡◌, ◌<◌, IfOk, OnOk, reverse};
 ghost use Rattle.au_term.specs.PrefixOrder.{due_after};
-ghost use Rattle.cell_store.specs.StoreView.{IsValueIn, meaning, substitution, text_in};
-ghost use Rattle.cell_store.specs.WrittenTerms.{GoesOnWriting};
+ghost use Rattle.cell_store.specs.StoreView.{IsValueIn, meaning};
+ghost use Rattle.cell_store.specs.WrittenTerms.{IsFirstWritten};
 
 use crate::arguments::Arguments;
 use crate::occurs::{push_arguments, push_rest};
@@ -40,7 +40,7 @@ fn write_first(
 ) -> Result<(), NoMemory>
     requires there { IsValueIn store.now value }
     requires due { 0 < due_after 1 builder.old }
-    ensures { OnOk result (GoesOnWriting (substitution store.now) (text_in store.now) store.now.now.next (meaning store.now value) builder.old builder.new (reverse pending.old.items) (reverse pending.new.items)) }
+    ensures { OnOk result (IsFirstWritten store.now value builder.old builder.new (reverse pending.old.items) (reverse pending.new.items)) }
 {
     match store.dereference(value) {
         BindingCell::Free => unreachable!(),

@@ -8,9 +8,11 @@ ghost use Rattle.clause_compile.specs.AtomNumbers.{name_at};
 ghost use Rattle.clause_compile.specs.Places.{IsPlaceOf, meaning_in};
 ghost use Rattle.cell_store.specs.Arguments.{HasFunctor, IsArgument, argument_at};
 ghost use Rattle.cell_store.specs.Undoing.{AreNested, freed};
+ghost use Rattle.cell_store.specs.FreshVariables.{IsOlder};
 ghost use Rattle.cell_store.specs.UnificationSteps.{IsUnified, OnlyBinds};
 ghost use Rattle.cell_store.specs.StoreView.{Moment, IsValidStore, IsValueIn, IsDereferenced, CanBeBound, BindsFurther, AddsText, meaning, text_in, value_term, new_store, with_numbers, with_mark, with_marks, taken_back};
 
+use crate::arguments::Equations;
 use crate::heap::Heap;
 use crate::mark::Mark;
 use crate::resolved::resolved;
@@ -20,6 +22,7 @@ use binding_array::{BindingArray, BindingCell};
 use clause_compile::{Code, Place};
 use std::alloc::Global;
 use std::marker::Model;
+use std::mem;
 use std::sync::Arc;
 
 /// What the variables of a branch stand for, its next variable number, and the terms that were made.
@@ -30,6 +33,8 @@ pub struct Store {
     /// Variables that were there at the newest mark of their time and were bound since.
     trail: Vec<u32>,
     marks: Vec<Mark>,
+    /// Room for the equations of a unification.
+    pending: Vec<Equations>,
     alloc: Global,
 }
 
@@ -64,6 +69,7 @@ impl Store {
             cells: BindingArray::new(alloc),
             trail: Vec::new(alloc),
             marks: Vec::new(alloc),
+            pending: Vec::new(alloc),
             alloc,
         })
     }
@@ -177,7 +183,7 @@ impl Store {
         ensures unified { IfOk result (IsUnified a b self.old self.new) }
         ensures kept { OnlyBinds self.old self.new }
     {
-        unify(self.alloc, a, b, None, self)
+        self.unify_from(a, b, None)
     }
 
     /// The same, of a goal and the head of a clause whose variables are numbered from `base` on and are in nothing that the
@@ -195,7 +201,26 @@ impl Store {
         ensures unified { IfOk result (IsUnified goal head self.old self.new) }
         ensures kept { OnlyBinds self.old self.new }
     {
-        unify(self.alloc, goal, head, Some(base), self)
+        self.unify_from(goal, head, Some(base))
+    }
+
+    /// The same, where with a number it is of a head.
+    fn unify_from(
+        &mut self,
+        a: BindingCell,
+        b: BindingCell,
+        fresh: Option<u32>,
+    ) -> Result<bool, NoMemory>
+        requires left { IsValueIn self.old a }
+        requires right { IsValueIn self.old b }
+        requires older { IsOlder fresh (meaning self.old a) }
+        ensures unified { IfOk result (IsUnified a b self.old self.new) }
+        ensures kept { OnlyBinds self.old self.new }
+    {
+        let mut pending = mem::replace(&mut self.pending, Vec::new(self.alloc));
+        let answer = unify(self.alloc, a, b, fresh, self, &mut pending);
+        self.pending = pending;
+        answer
     }
 
     /// The value that a term is: it is put into the heap.

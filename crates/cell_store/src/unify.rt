@@ -7,7 +7,7 @@ ghost use Rattle.binding_array.specs.Represented.{IsFalling};
 ghost use Rattle.clause_compile.specs.AtomNumbers.{name_at};
 ghost use Rattle.cell_store.specs.FreshVariables.{IsOlder, StaysOlder, fresh_after, is_fresh};
 ghost use Rattle.cell_store.specs.Values.{IsNoVariable};
-ghost use Rattle.cell_store.specs.StoreView.{IsValueIn, meaning, substitution, text_in};
+ghost use Rattle.cell_store.specs.StoreView.{IsValueIn, compound_meaning, meaning, substitution, text_in};
 ghost use Rattle.cell_store.specs.UnificationSteps.{IsUnified, OnlyBinds, TakesRule, IsBoundOr, KeepsRestEquations};
 ghost use Rattle.cell_store.specs.declared.arguments.Equations.{Equations as ArgumentEquations};
 
@@ -20,13 +20,14 @@ use std::alloc::Global;
 
 /// Makes two values one by further bindings, or answers that none do. Where the second is the head of a clause and the
 /// first one older than the clause, `fresh` is the clause's first variable: such a variable is bound to what is older
-/// without the search for it there.
+/// without the search for it there. The list takes the equations that are still to be solved.
 pub(crate) fn unify(
     alloc: Global,
     a: BindingCell,
     b: BindingCell,
     fresh: Option<u32>,
     store: &mut Store,
+    pending: &mut Vec<Equations>,
 ) -> Result<bool, NoMemory>
     requires left { IsValueIn store.old a }
     requires right { IsValueIn store.old b }
@@ -35,15 +36,15 @@ pub(crate) fn unify(
     ensures kept { OnlyBinds store.old store.new }
 {
     let mut fresh = fresh;
-    let mut pending = Vec::new(alloc);
-    if !pair_goes(alloc, a, b, &mut fresh, store, &mut pending)? {
+    pending.clear();
+    if !pair_goes(alloc, a, b, &mut fresh, store, pending)? {
         return Ok(false);
     }
     while let Some(equations) = pending.pop() {
         let left = store.argument(equations.left.at, equations.left.base);
         let right = store.argument(equations.right.at, equations.right.base);
-        push_rest(equations, &mut pending)?;
-        if !pair_goes(alloc, left, right, &mut fresh, store, &mut pending)? {
+        push_rest(equations, pending)?;
+        if !pair_goes(alloc, left, right, &mut fresh, store, pending)? {
             return Ok(false);
         }
     }
@@ -227,7 +228,7 @@ fn compounds_go(
 ) -> Result<bool, NoMemory>
     requires left { IsValueIn store.now (BindingCell.Compound left.0 left.1) }
     requires right { IsValueIn store.now (BindingCell.Compound right.0 right.1) }
-    ensures { IfOk result (TakesRule store.now store.now (meaning store.now (BindingCell.Compound left.0 left.1)) (meaning store.now (BindingCell.Compound right.0 right.1)) pending.old.items pending.new.items) }
+    ensures { IfOk result (TakesRule store.now store.now (compound_meaning store.now left) (compound_meaning store.now right) pending.old.items pending.new.items) }
 {
     if left == right {
         return Ok(true);

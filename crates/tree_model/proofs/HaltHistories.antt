@@ -1,5 +1,5 @@
--- A halt beside speculation. No goal of the table of goals halts yet: what a halting goal would leave at the leftmost
--- pending alternative is put there by hand.
+-- A halt beside speculation: what a halting goal leaves at the leftmost pending alternative is put there by hand, and
+-- what follows is computed.
 use Rattle.std.specs.Prelude.{◌≡◌, ℕ, Bool, true, false, List, [], ◌∷◌, Some, codes, refl}
 use Rattle.au_term.specs.Term.{AtomTerm, Compound, end, more}
 use Rattle.run_model.specs.declared.ending.RunEnding.TheVariants.{Halted}

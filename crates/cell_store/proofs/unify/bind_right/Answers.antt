@@ -1,4 +1,4 @@
-use Rattle.std.proofs.Common.{◌≡◌, ◌∙◌, true, sym}
+use Rattle.std.proofs.Common.{◌∙◌, sym}
 use Rattle.std.proofs.lemmas.Result.{IfOk-weaker}
 use Rattle.cell_store.specs.StoreView.{meaning}
 use Rattle.cell_store.proofs.FreshLemmas.{fresh_apart, binding_stays, right_stays, falls}

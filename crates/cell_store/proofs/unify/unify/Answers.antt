@@ -11,16 +11,16 @@ use Rattle.cell_store.proofs.unify.unify.Goals as goal
 pub returns-then-not-branch-clause-unified : goal.returns-then-not-branch-clause-unified
 returns-then-not-branch-clause-unified c =
     let st = c.args.store.now in
-    start_clashes st (meaning st c.args.a) (meaning st c.args.b) (subst (TakesRule st c.pair_goes.new.store (meaning st c.args.a) (meaning st c.args.b) c.new-pending.result.items c.pair_goes.new.pending.items) c.if-not-branch.true c.in_ok-pair_goes.ensures.goes)
+    start_clashes st (meaning st c.args.a) (meaning st c.args.b) (subst (TakesRule st c.pair_goes.new.store (meaning st c.args.a) (meaning st c.args.b) c.clear.new.self.items c.pair_goes.new.pending.items) c.if-not-branch.true c.in_ok-pair_goes.ensures.goes)
 
 pub loop-equations-init : goal.loop-equations-init
 loop-equations-init c =
     let st = c.args.store.now in
-    let pending = c.new-pending.result.items in
+    let pending = c.clear.new.self.items in
     let after = c.pair_goes.new.pending.items in
     let follows = subst (TakesRule st c.pair_goes.new.store (meaning st c.args.a) (meaning st c.args.b) pending after) c.if-not-branch.false c.in_ok-pair_goes.ensures.goes in
-    let h = start_follows st c.pair_goes.new.store (meaning st c.args.a) (meaning st c.args.b) pending after c.new-pending.ensures.items follows in
-    let first : AllOlder c.args.fresh ((meaning st c.args.a, meaning st c.args.b) ∷ left_in st (reverse pending)) = (c.requires.older, subst (λ es. AllOlder c.args.fresh (left_in st (reverse es))) (sym c.new-pending.ensures.items) tt) in
+    let h = start_follows st c.pair_goes.new.store (meaning st c.args.a) (meaning st c.args.b) pending after c.clear.ensures.items follows in
+    let first : AllOlder c.args.fresh ((meaning st c.args.a, meaning st c.args.b) ∷ left_in st (reverse pending)) = (c.requires.older, subst (λ es. AllOlder c.args.fresh (left_in st (reverse es))) (sym c.clear.ensures.items) tt) in
     record {
       unifying = h.unifying;
       there = h.there;
