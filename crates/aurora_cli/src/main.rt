@@ -4,6 +4,8 @@
 ghost use Rattle.std.specs.Prelude.{◌≡◌, ◌≢◌, IfOk, IfErr};
 ghost use Rattle.std.specs.Vec.Iter.{into_iter_items};
 
+#[cfg(test)]
+mod faulty_texts;
 pub mod finish;
 mod job;
 pub mod note;

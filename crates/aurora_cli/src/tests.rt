@@ -1,6 +1,7 @@
 //! Texts run from words to bytes, by rows.
 use crate::note::note_line;
-use crate::rows::{Bad, CONTROL, ERRORS, FAULTS, FINISHED, PREDICATES};
+use crate::faulty_texts::{Bad, FAULTS};
+use crate::rows::{CONTROL, ERRORS, FINISHED, PREDICATES};
 use crate::top::aurora;
 use au_io::{MemoryShelf, MemorySink, NoGate};
 use au_model::FaultKind;

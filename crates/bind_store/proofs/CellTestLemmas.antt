@@ -1,16 +1,13 @@
 -- Questions about terms, cell by cell.
 use Rattle.std.proofs.Common.{◌≡◌, ℕ, Bool, true, false, ◌||◌, List, [], ◌∷◌, ◌++◌, refl, sym, ap, ◌∙◌}
 use Rattle.std.specs.List.{list_any}
+use Rattle.std.proofs.Math.Bool.{or_assoc}
 use Rattle.au_term.specs.Term.{Term, VarTerm, IntTerm, AtomTerm, Compound, Terms, end, more}
 use Rattle.au_term.specs.PrefixOrder.{cells_of, all_cells}
 use Rattle.au_term.specs.declared.cell.Cell.{Cell}
 use Rattle.au_model.specs.Terms.Substitutions.{occurs, occurs_in}
 use Rattle.bind_store.specs.CellTests.{is_cell_of_variable}
 use Rattle.au_term.proofs.LogicLemmas.{or_false}
-
-or_assoc : (a b c : Bool) → ((a || b) || c) ≡ (a || (b || c))
-or_assoc true b c = refl
-or_assoc false b c = refl
 
 any-append : (x : ℕ) (cs ds : List Cell) → list_any (λ c. is_cell_of_variable x c) (cs ++ ds) ≡ (list_any (λ c. is_cell_of_variable x c) cs || list_any (λ c. is_cell_of_variable x c) ds)
 any-append x [] ds = refl

@@ -25,9 +25,9 @@ IsMeetStep rows a b (Some p) =
     (IsUpFrom rows a b (Some (place_view p.0)) × (place_view p.1 ≡ b)) ⊎ (IsUpFrom rows b a (Some (place_view p.1)) × (place_view p.0 ≡ a))
 IsMeetStep rows a b None = (a.node ≡ b.node) ⊎ (IsUpFrom rows a b None ⊎ IsUpFrom rows b a None)
 
-abbrev pub AreThere : Rows → Option (AltRef × AltRef) → Type 0
-AreThere rows None = Unit {0}
-AreThere rows (Some p) = IsSome (cell_at rows (place_view p.0)) × IsSome (cell_at rows (place_view p.1))
+abbrev pub AreInTable : Rows → Option (AltRef × AltRef) → Type 0
+AreInTable rows None = Unit {0}
+AreInTable rows (Some p) = IsSome (cell_at rows (place_view p.0)) × IsSome (cell_at rows (place_view p.1))
 
 abbrev pub AreLower : ℕ → Option (AltRef × AltRef) → Type 0
 AreLower n None = Unit {0}

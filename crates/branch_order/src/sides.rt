@@ -2,7 +2,7 @@
 ghost use Rattle.std.specs.Prelude.{◌≡◌, ◌+◌, IsSome};
 ghost use Rattle.tree_model.specs.EventViews.{place_view};
 ghost use Rattle.tree_nodes.specs.Rows.{cell_at};
-ghost use Rattle.branch_order.specs.Meetings.{IsBeforeAt, IsMeetStep, AreThere, AreLower};
+ghost use Rattle.branch_order.specs.Meetings.{IsBeforeAt, IsMeetStep, AreInTable, AreLower};
 
 use tree_model::AltRef;
 use tree_nodes::Nodes;
@@ -27,7 +27,7 @@ fn up_to_meet(nodes: &Nodes, first: AltRef, second: AltRef) -> Option<(AltRef, A
     requires first { IsSome (cell_at nodes.now.rows (place_view first)) }
     requires second { IsSome (cell_at nodes.now.rows (place_view second)) }
     ensures step { IsMeetStep nodes.now.rows (place_view first) (place_view second) result }
-    ensures there { AreThere nodes.now.rows result }
+    ensures there { AreInTable nodes.now.rows result }
     ensures lower { AreLower (first.node + second.node) result }
 {
     if second.node < first.node {

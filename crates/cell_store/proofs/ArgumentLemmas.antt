@@ -13,10 +13,10 @@ use Rattle.clause_compile.proofs.PlaceMeaningLemmas.{deep_same}
 use Rattle.binding_array.specs.Represented.{cell_term}
 use Rattle.binding_array.specs.declared.cell.BindingCell.TheVariants.{Compound}
 use Rattle.cell_store.specs.Values.{IsValue}
-use Rattle.cell_store.specs.Arguments.{place_at, arguments_from, AreArguments, HasFunctor}
+use Rattle.cell_store.specs.Arguments.{code_place, arguments_from, AreArguments, HasFunctor}
 
 -- a place that was read
-pub place_read : (code : CodeView) (at : ℕ) (p : Place) → drop at code.places ≡ p ∷ drop (at + 1) code.places → place_at code at ≡ p
+pub place_read : (code : CodeView) (at : ℕ) (p : Place) → drop at code.places ≡ p ∷ drop (at + 1) code.places → code_place code at ≡ p
 place_read code at p e = go code.places at e
   where
     go : (ps : List Place) (i : ℕ) → drop i ps ≡ p ∷ drop (i + 1) ps → get_or ps i (VarPlace 0) ≡ p

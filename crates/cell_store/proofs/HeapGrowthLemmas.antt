@@ -7,14 +7,14 @@ use Rattle.au_term.specs.PrefixOrder.{arity}
 use Rattle.au_term.specs.Shifted.{shifted_cell}
 use Rattle.au_term.specs.declared.cell.Cell.{Cell}
 use Rattle.au_term.specs.declared.cell.Cell.TheVariants.{Var as VarCell, Int as IntCell, Atom as AtomCell, Functor as FunctorCell}
-use Rattle.clause_compile.specs.AtomNumbers.{name_at, number_in, AreDistinct, IsNumbered}
+use Rattle.clause_compile.specs.AtomNumbers.{name_at, number_of_name, AreDistinct, IsNumbered}
 use Rattle.clause_compile.specs.Places.{CodeView, AreSound, IsArity, Keeps, ArePlacesOf, AddsCell, HasMorePlaces}
 use Rattle.clause_compile.specs.declared.place.Place.{Place}
 use Rattle.clause_compile.specs.declared.place.Place.TheVariants.{Functor, Sub}
 use Rattle.clause_compile.proofs.AtomNumberLemmas.{stands_there, stands_nowhere, name_at-front}
 use Rattle.clause_compile.proofs.PlaceMeaningLemmas.{added_keeps}
 use Rattle.clause_compile.proofs.CodeLemmas.{names_sound, still_sound, compound_added}
-use Rattle.cell_store.specs.HeapView.{HeapView, text_of, IsSoundHeap, GrowsHeap, IsNumberedIn}
+use Rattle.cell_store.specs.HeapView.{HeapView, heap_text, IsSoundHeap, GrowsHeap, IsNumberedIn}
 
 abbrev pub heap_of : CodeView → List (List ℕ) → List Place → HeapView
 heap_of program names made = record { program = program; names = names; made = made }
@@ -34,20 +34,20 @@ grows_twice a b c g k = record {
 }
 
 -- the text that was there is there
-pub grown_text : (h : HeapView) (names : List (List ℕ)) (places : List Place) → text_of (heap_of h.program (h.names ++ names) (h.made ++ places)) ≡ code_of ((text_of h).names ++ names) ((text_of h).places ++ places)
+pub grown_text : (h : HeapView) (names : List (List ℕ)) (places : List Place) → heap_text (heap_of h.program (h.names ++ names) (h.made ++ places)) ≡ code_of ((heap_text h).names ++ names) ((heap_text h).places ++ places)
 grown_text h names places = ap₂ code_of (sym (append_assoc h.program.names h.names names)) (sym (append_assoc h.program.places h.made places))
 
-pub grown_keeps : (a b : HeapView) → IsSoundHeap a → GrowsHeap a b → Keeps (text_of a) (text_of b)
-grown_keeps a b s g = subst (Keeps (text_of a)) (sym (ap text_of g.is ∙ grown_text a g.names g.places)) (added_keeps (text_of a).names g.names (text_of a).places g.places s.text)
+pub grown_keeps : (a b : HeapView) → IsSoundHeap a → GrowsHeap a b → Keeps (heap_text a) (heap_text b)
+grown_keeps a b s g = subst (Keeps (heap_text a)) (sym (ap heap_text g.is ∙ grown_text a g.names g.places)) (added_keeps (heap_text a).names g.names (heap_text a).places g.places s.text)
 
 -- a name of the program
-pub known_number : (h : HeapView) (a : List ℕ) (n : ℕ) → number_in h.program.names a ≡ Some n → IsNumberedIn h h a n
+pub known_number : (h : HeapView) (a : List ℕ) (n : ℕ) → number_of_name h.program.names a ≡ Some n → IsNumberedIn h h a n
 known_number h a n e =
     let there = stands_there h.program.names a n e in
     record {
       numbered = record {
         more = [];
-        is = sym (append-nil (text_of h).names);
+        is = sym (append-nil (heap_text h).names);
         few = inl refl;
         within = omega (arith, there.0, length-append h.program.names h.names);
         named = name_at-front h.program.names h.names n there.0 ∙ there.1;
@@ -85,11 +85,11 @@ distinct_more ns a d new i j li lj e = by_place (nat_lt i (length ns)) (nat_lt j
         omega (arith, l, m, li, lj, length-append ns (a ∷ []))
 
 -- a name that the program has not
-module _ (h : HeapView) (own : List (List ℕ)) (a : List ℕ) (k : ℕ) (s : IsSoundHeap h) (missing : number_in h.program.names a ≡ None) (n : IsNumbered h.names own a k) (apart : AreDistinct own) where
+module _ (h : HeapView) (own : List (List ℕ)) (a : List ℕ) (k : ℕ) (s : IsSoundHeap h) (missing : number_of_name h.program.names a ≡ None) (n : IsNumbered h.names own a k) (apart : AreDistinct own) where
   abbrev now : HeapView
   now = heap_of h.program own h.made
 
-  names_now : (text_of now).names ≡ (text_of h).names ++ n.more
+  names_now : (heap_text now).names ≡ (heap_text h).names ++ n.more
   names_now = ap (λ ns. h.program.names ++ ns) n.is ∙ sym (append_assoc h.program.names h.names n.more)
 
   not_own : (i : ℕ) → own ≡ h.names ++ a ∷ [] → i < length h.names → name_at h.names i ≡ a → ⊥
@@ -99,7 +99,7 @@ module _ (h : HeapView) (own : List (List ℕ)) (a : List ℕ) (k : ℕ) (s : Is
       (ap (λ ns. name_at ns i) e ∙ (name_at-front h.names (a ∷ []) i l ∙ (q ∙ sym (ap (λ ns. name_at ns (length h.names)) e ∙ (ap (name_at (h.names ++ a ∷ [])) z ∙ name_at-behind h.names (a ∷ []) 0))))) in
       omega (arith, same, l)
 
-  new_name : own ≡ h.names ++ a ∷ [] → (i : ℕ) → i < length (text_of h).names → name_at (text_of h).names i ≡ a → ⊥
+  new_name : own ≡ h.names ++ a ∷ [] → (i : ℕ) → i < length (heap_text h).names → name_at (heap_text h).names i ≡ a → ⊥
   new_name e i l q = by_place (nat_lt i (length h.program.names)) refl
     where
       by_place : (b : Bool) → nat_lt i (length h.program.names) ≡ b → ⊥
@@ -108,12 +108,12 @@ module _ (h : HeapView) (own : List (List ℕ)) (a : List ℕ) (k : ℕ) (s : Is
           let m : length h.program.names ≤ i = grind (arith, nat_tests) in
           let j = i - length h.program.names in
           let is : i ≡ length h.program.names + j = omega arith in
-          not_own j e (omega (arith, l, length-append h.program.names h.names)) (sym (name_at-behind h.program.names h.names j) ∙ (ap (name_at (text_of h).names) (sym is) ∙ q))
+          not_own j e (omega (arith, l, length-append h.program.names h.names)) (sym (name_at-behind h.program.names h.names j) ∙ (ap (name_at (heap_text h).names) (sym is) ∙ q))
 
-  distinct_now : AreDistinct (text_of now).names
+  distinct_now : AreDistinct (heap_text now).names
   distinct_now = elim n.few [
-    | inl e ↦ subst AreDistinct (sym (names_now ∙ (ap (λ ms. (text_of h).names ++ ms) e ∙ append-nil (text_of h).names))) s.distinct
-    | inr e ↦ subst AreDistinct (sym (names_now ∙ ap (λ ms. (text_of h).names ++ ms) e)) (distinct_more (text_of h).names a s.distinct (new_name (n.is ∙ ap (λ ms. h.names ++ ms) e)))
+    | inl e ↦ subst AreDistinct (sym (names_now ∙ (ap (λ ms. (heap_text h).names ++ ms) e ∙ append-nil (heap_text h).names))) s.distinct
+    | inr e ↦ subst AreDistinct (sym (names_now ∙ ap (λ ms. (heap_text h).names ++ ms) e)) (distinct_more (heap_text h).names a s.distinct (new_name (n.is ∙ ap (λ ms. h.names ++ ms) e)))
   ]
 
   pub new_number : IsNumberedIn h now a (length h.program.names + k)
@@ -134,41 +134,41 @@ module _ (h : HeapView) (own : List (List ℕ)) (a : List ℕ) (k : ℕ) (s : Is
     places = [];
     is = ap₂ (heap_of h.program) n.is (sym (append-nil h.made));
     sound = record {
-      text = names_sound (length (text_of h).names) (length (text_of now).names) (text_of h).places s.text (omega (arith, ap length names_now, length-append (text_of h).names n.more));
+      text = names_sound (length (heap_text h).names) (length (heap_text now).names) (heap_text h).places s.text (omega (arith, ap length names_now, length-append (heap_text h).names n.more));
       distinct = distinct_now;
       small = s.small;
     };
   }
 
 -- a compound
-module _ (h named now : HeapView) (name : List ℕ) (f n at : ℕ) (before left after : List Place) (s : IsSoundHeap h) (g : GrowsHeap h named) (k : IsNumberedIn h named name f) (arity : IsArity n) (stand : ArePlacesOf (text_of h) before) (enough : n ≤ length before)
+module _ (h named now : HeapView) (name : List ℕ) (f n at : ℕ) (before left after : List Place) (s : IsSoundHeap h) (g : GrowsHeap h named) (k : IsNumberedIn h named name f) (arity : IsArity n) (stand : ArePlacesOf (heap_text h) before) (enough : n ≤ length before)
     (now_is : now ≡ heap_of named.program named.names (named.made ++ Functor f n ∷ take n (reverse before))) where
   abbrev block : List Place
   block = Functor f n ∷ take n (reverse before)
 
-  places_now : (text_of now).places ≡ (text_of h).places ++ block
-  places_now = ap (λ (u : HeapView). (text_of u).places) now_is ∙ (sym (append_assoc named.program.places named.made block) ∙ ap (λ ps. ps ++ block) k.places)
+  places_now : (heap_text now).places ≡ (heap_text h).places ++ block
+  places_now = ap (λ (u : HeapView). (heap_text u).places) now_is ∙ (sym (append_assoc named.program.places named.made block) ∙ ap (λ ps. ps ++ block) k.places)
 
-  names_same : (text_of now).names ≡ (text_of named).names
-  names_same = ap (λ (u : HeapView). (text_of u).names) now_is
+  names_same : (heap_text now).names ≡ (heap_text named).names
+  names_same = ap (λ (u : HeapView). (heap_text u).names) now_is
 
-  whole : text_of now ≡ code_of (text_of named).names (text_of now).places
-  whole = ap (λ ns. code_of ns (text_of now).places) names_same
+  whole : heap_text now ≡ code_of (heap_text named).names (heap_text now).places
+  whole = ap (λ ns. code_of ns (heap_text now).places) names_same
 
-  pub compound_adds : reverse left ≡ drop n (reverse before) → after ≡ left ++ Sub at ∷ [] → at ≡ length (text_of h).places → AddsCell (text_of h) (text_of now) (FunctorCell name n) before after
+  pub compound_adds : reverse left ≡ drop n (reverse before) → after ≡ left ++ Sub at ∷ [] → at ≡ length (heap_text h).places → AddsCell (heap_text h) (heap_text now) (FunctorCell name n) before after
   compound_adds r a e =
-      compound_added (text_of h).names (text_of named).names (text_of h).places (text_of h) name f n before refl s.text k.numbered stand enough (text_of now) (text_of now).places left after whole places_now r (a ∙ ap (λ i. left ++ Sub i ∷ []) e)
+      compound_added (heap_text h).names (heap_text named).names (heap_text h).places (heap_text h) name f n before refl s.text k.numbered stand enough (heap_text now) (heap_text now).places left after whole places_now r (a ∙ ap (λ i. left ++ Sub i ∷ []) e)
 
-  few_places : length (text_of h).places + suc n < 2 ^ 32 → length (text_of now).places < 2 ^ 32
-  few_places room = omega (arith, room, ap length places_now, length-append (text_of h).places block, length-take-le n (reverse before) (omega (arith, enough, length-reverse before)))
+  few_places : length (heap_text h).places + suc n < 2 ^ 32 → length (heap_text now).places < 2 ^ 32
+  few_places room = omega (arith, room, ap length places_now, length-append (heap_text h).places block, length-take-le n (reverse before) (omega (arith, enough, length-reverse before)))
 
-  pub compound_grows : length (text_of h).places + suc n < 2 ^ 32 → GrowsHeap h now
+  pub compound_grows : length (heap_text h).places + suc n < 2 ^ 32 → GrowsHeap h now
   compound_grows room = record {
     names = g.names;
     places = g.places ++ block;
     is = now_is ∙ (ap (λ (u : HeapView). heap_of u.program u.names (u.made ++ block)) g.is ∙ ap (heap_of h.program (h.names ++ g.names)) (append_assoc h.made g.places block));
     sound = record {
-      text = subst (λ ns. AreSound (length ns) (text_of now).places) (sym names_same) (still_sound (text_of h).names (text_of named).names (text_of h).places (text_of h) name f n before refl s.text k.numbered stand enough arity (text_of now).places places_now);
+      text = subst (λ ns. AreSound (length ns) (heap_text now).places) (sym names_same) (still_sound (heap_text h).names (heap_text named).names (heap_text h).places (heap_text h) name f n before refl s.text k.numbered stand enough arity (heap_text now).places places_now);
       distinct = subst AreDistinct (sym names_same) g.sound.distinct;
       small = few_places room;
     };
@@ -178,9 +178,9 @@ module _ (h named now : HeapView) (name : List ℕ) (f n at : ℕ) (before left 
 pub cut_back : (made some now : List Place) (n : ℕ) → HasMorePlaces made some → n ≡ length made → now ≡ take n some → now ≡ made
 cut_back made some now n g e t = t ∙ (ap (take n) g.is ∙ (ap (λ j. take j (made ++ g.more)) e ∙ take-append_seam made g.more))
 
-pub places_counted : (h named : HeapView) (name : List ℕ) (f : ℕ) → IsNumberedIn h named name f → (program : CodeView) (names : List (List ℕ)) (made : List Place) → heap_of program names made ≡ named → length (text_of h).places ≡ length program.places + length made
+pub places_counted : (h named : HeapView) (name : List ℕ) (f : ℕ) → IsNumberedIn h named name f → (program : CodeView) (names : List (List ℕ)) (made : List Place) → heap_of program names made ≡ named → length (heap_text h).places ≡ length program.places + length made
 places_counted h named name f k program names made v =
-    ap length (sym k.places) ∙ (ap (λ (g : HeapView). length (text_of g).places) (sym v) ∙ length-append program.places made)
+    ap length (sym k.places) ∙ (ap (λ (g : HeapView). length (heap_text g).places) (sym v) ∙ length-append program.places made)
 
 pub shifted_arity : (base : ℕ) (c : Cell) → arity (shifted_cell base c) ≡ arity c
 shifted_arity base (VarCell n) = refl

@@ -11,13 +11,14 @@ use Rattle.clause_compile.specs.declared.place.Place.{Place}
 use Rattle.binding_array.specs.Represented.{variable_cell}
 use Rattle.binding_array.specs.declared.cell.BindingCell.{BindingCell}
 use Rattle.binding_array.specs.declared.cell.BindingCell.TheVariants.{Free}
-use Rattle.cell_store.specs.HeapView.{HeapView, text_of, cut_heap}
+use Rattle.cell_store.specs.HeapView.{HeapView, heap_text, cut_heap}
 use Rattle.cell_store.specs.CellMeanings.{AreConsistent}
 use Rattle.cell_store.specs.Undoing.{undone, Parts, IsOlderMark, AreNested, mark_now, IsWithin}
 use Rattle.cell_store.specs.StoreView.{Moment, StoreView, moment_of, moment_at, view_of, IsConsistentAt, IsConsistent, IsValidStore, new_store, with_numbers, with_mark, with_marks, taken_back, meaning, BindsFurther, CanBeBound}
 use Rattle.cell_store.specs.declared.mark.Mark.{Mark}
 use Rattle.cell_store.proofs.SubstitutionLemmas.{none_bound, none_consistent, consistent_grown, substitution_grown, is_new, is_below, final, is_free_cell, bound_consistent, bound_value}
-use Rattle.cell_store.proofs.UndoingLemmas.{undone_trailed, undone_younger, undone_grown, undone_now, undone_twice, take_within, length-undone, each-both, map-same, each-take, nested-append, nested-take, older_than, split_at, front_at, mapped_at}
+use Rattle.clause_compile.proofs.CodeLemmas.{each_taken}
+use Rattle.cell_store.proofs.UndoingLemmas.{undone_trailed, undone_younger, undone_grown, undone_now, undone_twice, take_within, length-undone, each-both, map-same, nested-append, nested-take, older_than, split_at, front_at, mapped_at}
 
 abbrev pub parts : HeapView → List BindingCell → List ℕ → List Mark → Parts
 parts h cells trail marks = record { heap = h; cells = cells; trail = trail; marks = marks }
@@ -28,13 +29,13 @@ with_made h ps = record { program = h.program; names = h.names; made = ps }
 -- where marks see the same, all that is said of them stays
 module _ (h : HeapView) (cs ds : List BindingCell) (t u : List ℕ) (ms ns : List Mark) (W : Mark → Type 0) (same : (m : Mark) → W m → undone m u ds ≡ undone m t cs) where
   pub still_consistent : (ks : List Mark) → Each W ks → Each (IsConsistentAt (parts h cs t ms)) ks → Each (IsConsistentAt (parts h ds u ns)) ks
-  still_consistent ks w k = each-both W (IsConsistentAt (parts h cs t ms)) (IsConsistentAt (parts h ds u ns)) (λ m v a. subst (AreConsistent (text_of (cut_heap m.made h))) (sym (same m v)) a) ks w k
+  still_consistent ks w k = each-both W (IsConsistentAt (parts h cs t ms)) (IsConsistentAt (parts h ds u ns)) (λ m v a. subst (AreConsistent (heap_text (cut_heap m.made h))) (sym (same m v)) a) ks w k
 
   pub still_moments : (ks : List Mark) → Each W ks → map (moment_at (parts h ds u ns)) ks ≡ map (moment_at (parts h cs t ms)) ks
   still_moments ks w = map-same W (moment_at (parts h ds u ns)) (moment_at (parts h cs t ms)) (λ m v. ap (moment_of (cut_heap m.made h)) (same m v)) ks w
 
 -- nothing is made or bound
-pub new_parts : (program : CodeView) → AreSound (length program.names) program.places → length program.places < 2 ^ 32 → AreDistinct program.names → (h : HeapView) → text_of h ≡ program → IsConsistent (parts h [] [] [])
+pub new_parts : (program : CodeView) → AreSound (length program.names) program.places → length program.places < 2 ^ 32 → AreDistinct program.names → (h : HeapView) → heap_text h ≡ program → IsConsistent (parts h [] [] [])
 new_parts program text few apart h e = record {
   now = subst (λ c. AreConsistent c []) (sym e) (none_consistent program text);
   at_marks = tt;
@@ -50,9 +51,9 @@ new_parts program text few apart h e = record {
 pub is_valid : (p : Parts) → IsConsistent p → IsValidStore (view_of p)
 is_valid p k = record {
   distinct = k.distinct;
-  new = λ n le. is_new (text_of p.heap) p.cells n k.now le;
-  below = λ n lt. is_below (text_of p.heap) p.cells k.now n lt;
-  final = λ n. final (text_of p.heap) p.cells n k.now;
+  new = λ n le. is_new (heap_text p.heap) p.cells n k.now le;
+  below = λ n lt. is_below (heap_text p.heap) p.cells k.now n lt;
+  final = λ n. final (heap_text p.heap) p.cells n k.now;
 }
 
 -- further numbers are taken
@@ -62,7 +63,7 @@ module _ (h : HeapView) (cs ds : List BindingCell) (t : List ℕ) (ms : List Mar
 
   pub grown_parts : IsConsistent (parts h ds t ms)
   grown_parts = record {
-    now = consistent_grown (text_of h) cs ds same longer k.now;
+    now = consistent_grown (heap_text h) cs ds same longer k.now;
     at_marks = still_consistent h cs ds t t ms ms (IsWithin (parts h cs t ms)) seen ms k.within k.at_marks;
     within = each-more (IsWithin (parts h cs t ms)) (IsWithin (parts h ds t ms)) (λ m w. record { older = record { trail = w.older.trail; variables = (let le = w.older.variables in omega arith); made = w.older.made }; there = w.there }) ms k.within;
     nested = k.nested;
@@ -74,7 +75,7 @@ module _ (h : HeapView) (cs ds : List BindingCell) (t : List ℕ) (ms : List Mar
 
   pub grown_view : (n : ℕ) → length ds ≡ length cs + n → view_of (parts h ds t ms) ≡ with_numbers n (view_of (parts h cs t ms))
   grown_view n e =
-      let bound = substitution_grown (text_of h) cs ds same longer k.now in
+      let bound = substitution_grown (heap_text h) cs ds same longer k.now in
       let marks = still_moments h cs ds t t ms ms (IsWithin (parts h cs t ms)) seen ms k.within in cc
 
 -- one more binding
@@ -83,7 +84,7 @@ module _ (h : HeapView) (cs : List BindingCell) (t : List ℕ) (ms : List Mark) 
   ds = slice_set cs v c
 
   pub unbound_cell : variable_cell cs v ≡ Free
-  unbound_cell = is_free_cell (text_of h) cs k.now v b.free
+  unbound_cell = is_free_cell (heap_text h) cs k.now v b.free
 
   same_length : length ds ≡ length cs
   same_length = length-set cs v c
@@ -101,15 +102,15 @@ module _ (h : HeapView) (cs : List BindingCell) (t : List ℕ) (ms : List Mark) 
   abbrev Seen : Mark → Type 0
   Seen m = IsWithin (parts h cs t ms) m × (m.variables ≤ v)
 
-  now : AreConsistent (text_of h) ds
-  now = bound_consistent (text_of h) cs v c k.now b.there b.free b.value b.falling b.apart
+  now : AreConsistent (heap_text h) ds
+  now = bound_consistent (heap_text h) cs v c k.now b.there b.free b.value b.falling b.apart
 
   trail_still : Each (λ x. x < length ds) t
   trail_still = each-more (λ x. x < length cs) (λ x. x < length ds) (λ x lt. omega (arith, same_length)) t k.trail
 
   further : (u : List ℕ) → map (moment_at (parts h ds u ms)) ms ≡ map (moment_at (parts h cs t ms)) ms → BindsFurther (view_of (parts h cs t ms)) (view_of (parts h ds u ms)) ((v, meaning (view_of (parts h cs t ms)) c) ∷ [])
   further u e = record {
-    bound = bound_value (text_of h) cs v c k.now b.there b.free b.value b.falling b.apart;
+    bound = bound_value (heap_text h) cs v c k.now b.there b.free b.value b.falling b.apart;
     others = (let a = same_length in cc);
   }
 
@@ -180,7 +181,7 @@ module _ (h : HeapView) (cs : List BindingCell) (t : List ℕ) (ms : List Mark) 
   pub marked_parts : IsConsistent q
   marked_parts = record {
     now = k.now;
-    at_marks = each-append (IsConsistentAt q) ms (m ∷ []) k.at_marks (subst (λ g. AreConsistent (text_of g) (undone m t cs)) (sym heap_same) (subst (AreConsistent (text_of h)) (sym cells_same) k.now), tt);
+    at_marks = each-append (IsConsistentAt q) ms (m ∷ []) k.at_marks (subst (λ g. AreConsistent (heap_text g) (undone m t cs)) (sym heap_same) (subst (AreConsistent (heap_text h)) (sym cells_same) k.now), tt);
     within = each-append (IsWithin q) ms (m ∷ []) (each-more (IsWithin p) (IsWithin q) (λ n w. record { older = record { trail = w.older.trail; variables = w.older.variables; made = w.older.made }; there = w.there }) ms k.within)
         (record { older = record { trail = omega (arith, trail_is); variables = omega (arith, variables_are); made = omega (arith, made_is) }; there = subst (λ vs. Each (λ x. x < m.variables) vs) (sym (ap (λ n. take n t) trail_is ∙ take-length t)) (each-more (λ x. x < length cs) (λ x. x < m.variables) (λ x lt. omega (arith, variables_are)) t k.trail) }, tt);
     nested = nested-append ms m k.nested (each-more (IsWithin p) (λ n. IsOlderMark n m) (λ n w. record { trail = omega (arith, trail_is, w.older.trail); variables = omega (arith, variables_are, w.older.variables); made = omega (arith, made_is, w.older.made) }) ms k.within);
@@ -199,8 +200,8 @@ module _ (h : HeapView) (cs : List BindingCell) (t : List ℕ) (ms : List Mark) 
 pub kept_parts : (h : HeapView) (cs : List BindingCell) (t : List ℕ) (ms : List Mark) (n : ℕ) → IsConsistent (parts h cs t ms) → IsConsistent (parts h cs t (take n ms))
 kept_parts h cs t ms n k = record {
   now = k.now;
-  at_marks = each-take (IsConsistentAt (parts h cs t (take n ms))) n ms k.at_marks;
-  within = each-take (IsWithin (parts h cs t (take n ms))) n ms (each-more (IsWithin (parts h cs t ms)) (IsWithin (parts h cs t (take n ms))) (λ m w. record { older = record { trail = w.older.trail; variables = w.older.variables; made = w.older.made }; there = w.there }) ms k.within);
+  at_marks = each_taken (IsConsistentAt (parts h cs t (take n ms))) n ms k.at_marks;
+  within = each_taken (IsWithin (parts h cs t (take n ms))) n ms (each-more (IsWithin (parts h cs t ms)) (IsWithin (parts h cs t (take n ms))) (λ m w. record { older = record { trail = w.older.trail; variables = w.older.variables; made = w.older.made }; there = w.there }) ms k.within);
   nested = nested-take n ms k.nested;
   trail = k.trail;
   variables = k.variables;
@@ -243,7 +244,7 @@ module _ (h : HeapView) (cs : List BindingCell) (t : List ℕ) (before : List Ma
   moments n o = ap (λ g. moment_of g (undone n (take m.trail t) (undone m t cs))) (heaps n o) ∙ ap (moment_of (cut_heap n.made h)) (undone_twice n m t cs o)
 
   consistent_back : (n : Mark) → IsOlderMark n m → IsConsistentAt old n → IsConsistentAt back n
-  consistent_back n o a = subst (λ g. AreConsistent (text_of g) (undone n (take m.trail t) (undone m t cs))) (sym (heaps n o)) (subst (AreConsistent (text_of (cut_heap n.made h))) (sym (undone_twice n m t cs o)) a)
+  consistent_back n o a = subst (λ g. AreConsistent (heap_text g) (undone n (take m.trail t) (undone m t cs))) (sym (heaps n o)) (subst (AreConsistent (heap_text (cut_heap n.made h))) (sym (undone_twice n m t cs o)) a)
 
   within_back : (n : Mark) → IsOlderMark n m → IsWithin old n → IsWithin back n
   within_back n o w = record {
@@ -278,15 +279,15 @@ module _ (h : HeapView) (cs : List BindingCell) (t : List ℕ) (before : List Ma
 abbrev new_heap_view : CodeView → HeapView
 new_heap_view program = record { program = program; names = []; made = [] }
 
-pub new_heap : (program : CodeView) (h : HeapView) → h ≡ record { program = program; names = []; made = [] } → text_of h ≡ program
-new_heap program h e = ap text_of e ∙ same_text (append-nil program.names) (append-nil program.places)
+pub new_heap : (program : CodeView) (h : HeapView) → h ≡ record { program = program; names = []; made = [] } → heap_text h ≡ program
+new_heap program h e = ap heap_text e ∙ same_text (append-nil program.names) (append-nil program.places)
   where
     same_text : {ns ms : List (List ℕ)} {ps qs : List Place} → ns ≡ ms → ps ≡ qs → (let c : CodeView = record { names = ns; places = ps } in c) ≡ record { names = ms; places = qs }
     same_text a b = cc
 
 pub new_view : (program : CodeView) (h : HeapView) (cs : List BindingCell) (t : List ℕ) (ms : List Mark) → h ≡ record { program = program; names = []; made = [] } → cs ≡ [] → t ≡ [] → ms ≡ [] → view_of (parts h cs t ms) ≡ new_store program
 new_view program h cs t ms e f g i =
-    ap (λ ns. view_of (parts h cs t ns)) i ∙ (ap (λ u. view_of (parts h cs u [])) g ∙ (ap (λ ds. view_of (parts h ds [] [])) f ∙ (ap (λ k. view_of (parts k [] [] [])) e ∙ ap (λ s. with_bound s) (none_bound (text_of (new_heap_view program))))))
+    ap (λ ns. view_of (parts h cs t ns)) i ∙ (ap (λ u. view_of (parts h cs u [])) g ∙ (ap (λ ds. view_of (parts h ds [] [])) f ∙ (ap (λ k. view_of (parts k [] [] [])) e ∙ ap (λ s. with_bound s) (none_bound (heap_text (new_heap_view program))))))
   where
     with_bound : Substitution → StoreView
     with_bound s = record { program = program; names = []; now = record { made = []; bound = s; next = 0 }; marks = [] }

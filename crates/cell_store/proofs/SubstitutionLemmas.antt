@@ -18,22 +18,22 @@ use Rattle.binding_array.specs.declared.cell.BindingCell.{BindingCell}
 use Rattle.binding_array.specs.declared.cell.BindingCell.TheVariants.{Free, Var, Int, Atom, Compound}
 use Rattle.binding_array.proofs.RepresentedLemmas.{written, binding_represents}
 use Rattle.cell_store.specs.Values.{IsValue, IsCell, AreCells}
-use Rattle.cell_store.specs.CellMeanings.{value_by, value_to, with_value, values_below, substitution_in, AreConsistent}
+use Rattle.cell_store.specs.CellMeanings.{value_by, value_to, with_cell_value, values_below, substitution_in, AreConsistent}
 use Rattle.cell_store.proofs.OccurrenceLemmas.{kept_below, occurs_below}
 use Rattle.cell_store.proofs.CellMeaningLemmas.{FreeOrBound, is_free, is_bound_cell, free_or_bound, free_stands, bound_stands, by_values, read_value, is_final, has_value, term_below, means_compound, IsCompound, compound}
 
 -- what the list of values has for a variable
-with_free : (c : BindingCell) (n : ℕ) (t : Term) (s : Substitution) → c ≡ Free → with_value c n t s ≡ s
-with_free c n t s e = ap (λ d. with_value d n t s) e
+with_free : (c : BindingCell) (n : ℕ) (t : Term) (s : Substitution) → c ≡ Free → with_cell_value c n t s ≡ s
+with_free c n t s e = ap (λ d. with_cell_value d n t s) e
 
-with_bound : (c : BindingCell) (n : ℕ) (t : Term) (s : Substitution) → IsBoundCell c → with_value c n t s ≡ (n, t) ∷ s
+with_bound : (c : BindingCell) (n : ℕ) (t : Term) (s : Substitution) → IsBoundCell c → with_cell_value c n t s ≡ (n, t) ∷ s
 with_bound Free n t s b = absurd b
 with_bound (Var w) n t s b = refl
 with_bound (Int z) n t s b = refl
 with_bound (Atom a) n t s b = refl
 with_bound (Compound at base) n t s b = refl
 
-other_value : (c : BindingCell) (n : ℕ) (t : Term) (s : Substitution) (v : ℕ) → (n == v) ≡ false → value_of (with_value c n t s) v ≡ value_of s v
+other_value : (c : BindingCell) (n : ℕ) (t : Term) (s : Substitution) (v : ℕ) → (n == v) ≡ false → value_of (with_cell_value c n t s) v ≡ value_of s v
 other_value Free n t s v e = refl
 other_value (Var w) n t s v e = ap (λ b. cond b t (value_of s v)) e
 other_value (Int z) n t s v e = ap (λ b. cond b t (value_of s v)) e
@@ -51,7 +51,7 @@ value_within (suc n) cells f v free lt = by_test (n == v) refl (value_within n c
     rest : Substitution
     rest = values_below n cells f
 
-    itself : n ≡ v → FreeOrBound (variable_cell cells n) → value_of (with_value (variable_cell cells n) n (f n) rest) v ≡ f v
+    itself : n ≡ v → FreeOrBound (variable_cell cells n) → value_of (with_cell_value (variable_cell cells n) n (f n) rest) v ≡ f v
     itself same (is_free e) =
         ap (λ s. value_of s v) (with_free (variable_cell cells n) n (f n) rest e)
         ∙ (value_beyond n cells f v (omega arith) ∙ sym (free (ap (variable_cell cells) (sym same) ∙ e)))
@@ -59,7 +59,7 @@ value_within (suc n) cells f v free lt = by_test (n == v) refl (value_within n c
         ap (λ s. value_of s v) (with_bound (variable_cell cells n) n (f n) rest b)
         ∙ (ap (λ t. cond t (f n) (value_of rest v)) (ap (λ k. n == k) (sym same) ∙ number_same n) ∙ ap f same)
 
-    by_test : (b : Bool) → (n == v) ≡ b → (v < n → value_of rest v ≡ f v) → value_of (with_value (variable_cell cells n) n (f n) rest) v ≡ f v
+    by_test : (b : Bool) → (n == v) ≡ b → (v < n → value_of rest v ≡ f v) → value_of (with_cell_value (variable_cell cells n) n (f n) rest) v ≡ f v
     by_test true e below = itself (grind (arith, nat_tests)) (free_or_bound (variable_cell cells n))
     by_test false e below = other_value (variable_cell cells n) n (f n) rest v e ∙ below (grind (arith, nat_tests))
 
@@ -111,8 +111,8 @@ none_consistent code text = consistent_by code [] [] text (λ v. tt) (λ v. tt) 
 values_same : (n : ℕ) (cells now : List BindingCell) (f g : ℕ → Term) → ((v : ℕ) → variable_cell now v ≡ variable_cell cells v) → ((v : ℕ) → g v ≡ f v) → values_below n now g ≡ values_below n cells f
 values_same zero cells now f g c h = refl
 values_same (suc n) cells now f g c h =
-    ap (λ d. with_value d n (g n) (values_below n now g)) (c n)
-    ∙ (ap (λ t. with_value (variable_cell cells n) n t (values_below n now g)) (h n) ∙ ap (with_value (variable_cell cells n) n (f n)) (values_same n cells now f g c h))
+    ap (λ d. with_cell_value d n (g n) (values_below n now g)) (c n)
+    ∙ (ap (λ t. with_cell_value (variable_cell cells n) n t (values_below n now g)) (h n) ∙ ap (with_cell_value (variable_cell cells n) n (f n)) (values_same n cells now f g c h))
 
 -- text was added
 term_kept : (old new : CodeView) (n : ℕ) (c : BindingCell) → Keeps old new → IsValue old n c → cell_term new c ≡ cell_term old c

@@ -5,6 +5,7 @@ use Rattle.std.proofs.Math.Seq.{take-length, take-set-lt}
 use Rattle.std.proofs.lemmas.List.{take-set-le, set-get_or, length-set, drop-append-le, take-append-le, take-append-drop, length-take-le}
 use Rattle.au_model.specs.Terms.Each.{Each}
 use Rattle.au_model.proofs.EachLemmas.{each-append, each-more}
+use Rattle.clause_compile.proofs.CodeLemmas.{each_taken}
 use Rattle.binding_array.specs.Represented.{variable_cell}
 use Rattle.binding_array.specs.declared.cell.BindingCell.{BindingCell}
 use Rattle.binding_array.specs.declared.cell.BindingCell.TheVariants.{Free}
@@ -70,14 +71,11 @@ undone_now trail cells m t v =
     ap (λ n. take n (freed (drop m.trail trail) cells)) v
     ∙ (ap (λ n. take (length cells) (freed (drop n trail) cells)) t ∙ (ap (λ vs. take (length cells) (freed vs cells)) (drop_all trail) ∙ take-length cells))
 
-take_twice : {X : Type 0} (m n : ℕ) (xs : List X) → m ≤ n → take m (take n xs) ≡ take m xs
-take_twice zero n xs le = refl
-take_twice (suc m) zero xs le = absurd (omega arith)
-take_twice (suc m) (suc n) [] le = refl
-take_twice (suc m) (suc n) (x ∷ xs) le = ap (λ ys. x ∷ ys) (take_twice m n xs (omega arith))
-
 pub take_within : {X : Type 0} (m n : ℕ) (xs : List X) → m ≤ n → take m (take n xs) ≡ take m xs
-take_within m n xs le = take_twice m n xs le
+take_within zero n xs le = refl
+take_within (suc m) zero xs le = absurd (omega arith)
+take_within (suc m) (suc n) [] le = refl
+take_within (suc m) (suc n) (x ∷ xs) le = ap (λ ys. x ∷ ys) (take_within m n xs (omega arith))
 
 dropped_apart : {X : Type 0} (m n : ℕ) (xs : List X) → m ≤ n → drop m xs ≡ drop m (take n xs) ++ drop n xs
 dropped_apart zero n xs le = sym (take-append-drop n xs)
@@ -89,7 +87,7 @@ dropped_apart (suc m) (suc n) (x ∷ xs) le = dropped_apart m n xs (omega arith)
 pub undone_twice : (m n : Mark) (trail : List ℕ) (cells : List BindingCell) → IsOlderMark m n → undone m (take n.trail trail) (undone n trail cells) ≡ undone m trail cells
 undone_twice m n trail cells o =
     let young = freed (drop n.trail trail) cells in
-    freed_front m.variables (drop m.trail (take n.trail trail)) (take n.variables young) young (take_twice m.variables n.variables young o.variables)
+    freed_front m.variables (drop m.trail (take n.trail trail)) (take n.variables young) young (take_within m.variables n.variables young o.variables)
     ∙ ap (take m.variables) (sym (freed-append (drop m.trail (take n.trail trail)) (drop n.trail trail) cells) ∙ ap (λ vs. freed vs cells) (sym (dropped_apart m.trail n.trail trail o.trail)))
 
 pub length-undone : (m : Mark) (trail : List ℕ) (cells : List BindingCell) → m.variables ≤ length cells → length (undone m trail cells) ≡ m.variables
@@ -104,11 +102,6 @@ pub map-same : {X Y : Type 0} (P : X → Type 0) (f g : X → Y) → ((x : X) �
 map-same P f g h [] e = refl
 map-same P f g h (x ∷ xs) e = ap₂ (λ y ys. y ∷ ys) (h x e.0) (map-same P f g h xs e.1)
 
-pub each-take : {X : Type 0} (P : X → Type 0) (n : ℕ) (xs : List X) → Each P xs → Each P (take n xs)
-each-take P zero xs h = tt
-each-take P (suc n) [] h = tt
-each-take P (suc n) (x ∷ xs) h = (h.0, each-take P n xs h.1)
-
 -- nested marks
 pub nested-append : (ms : List Mark) (n : Mark) → AreNested ms → Each (λ m. IsOlderMark m n) ms → AreNested (ms ++ n ∷ [])
 nested-append [] n h o = (tt, tt)
@@ -117,7 +110,7 @@ nested-append (m ∷ ms) n h o = (each-append (IsOlderMark m) ms (n ∷ []) h.0 
 pub nested-take : (n : ℕ) (ms : List Mark) → AreNested ms → AreNested (take n ms)
 nested-take zero ms h = tt
 nested-take (suc n) [] h = tt
-nested-take (suc n) (m ∷ ms) h = (each-take (IsOlderMark m) n ms h.0, nested-take n ms h.1)
+nested-take (suc n) (m ∷ ms) h = (each_taken (IsOlderMark m) n ms h.0, nested-take n ms h.1)
 
 older_itself : (m : Mark) → IsOlderMark m m
 older_itself m = record { trail = omega arith; variables = omega arith; made = omega arith }

@@ -1,5 +1,6 @@
 -- Going over the arguments of what a value stands for.
 use Rattle.std.proofs.Common.{◌≡◌, ℕ, zero, suc, ◌+◌, ◌-◌, ◌<◌, ◌||◌, Bool, true, false, List, [], ◌∷◌, ◌++◌, reverse, refl, sym, ap, ◌∙◌, subst, arith}
+use Rattle.std.proofs.Math.Bool.{or_assoc}
 use Rattle.std.proofs.lemmas.List.{map-append, reverse-append}
 use Rattle.au_term.specs.Term.{Term, Compound as CompoundTerm, more}
 use Rattle.au_model.specs.Terms.Lists.{terms_from}
@@ -27,10 +28,6 @@ any_list x (t ∷ ts) = ap (λ b. occurs x t || b) (any_list x ts)
 pub size_list : (ts : List Term) → size_all (terms_from ts) ≡ sizes ts
 size_list [] = refl
 size_list (t ∷ ts) = ap (λ n. size t + n) (size_list ts)
-
-or_assoc : (a b c : Bool) → ((a || b) || c) ≡ (a || (b || c))
-or_assoc true b c = refl
-or_assoc false b c = refl
 
 any_append : (x : ℕ) (ts us : List Term) → occurs_in_any x (ts ++ us) ≡ (occurs_in_any x ts || occurs_in_any x us)
 any_append x [] us = refl

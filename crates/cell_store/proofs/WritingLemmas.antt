@@ -75,6 +75,3 @@ still_due s code next old rest between a t u v before e h k ta tu w =
     begins : (cs ds : List Cell) → 0 < length cs → before ++ (cs ++ ds) ≡ cells_of v → 0 < due_after 1 before
     begins [] ds p q = absurd (omega arith)
     begins (c ∷ cs) ds p q = DueAfter-due 1 0 before (cs ++ ds) c (subst (λ es. DueAfter 1 es 0) (sym q) (DueAfter-term v))
-
-pub same_term : (t u : Term) → cells_of t ≡ cells_of u → t ≡ u
-same_term t u e = sym (term_of-cells_of t) ∙ (ap term_of e ∙ term_of-cells_of u)

@@ -15,12 +15,12 @@ use Rattle.binding_array.specs.declared.cell.BindingCell.TheVariants.{Compound}
 use Rattle.cell_store.specs.StoreView.{StoreView, substitution, meaning, text_in}
 use Rattle.cell_store.specs.declared.arguments.Arguments.{Arguments}
 
-abbrev pub place_at : CodeView → ℕ → Place
-place_at code at = get_or code.places at (VarPlace 0)
+abbrev pub code_place : CodeView → ℕ → Place
+code_place code at = get_or code.places at (VarPlace 0)
 
 -- the argument at a place, with a number added to its variables
 abbrev pub argument_at : CodeView → ℕ → ℕ → Term
-argument_at code base at = shifted base (meaning_in code (place_at code at))
+argument_at code base at = shifted base (meaning_in code (code_place code at))
 
 -- so many arguments, from a place on
 abbrev pub arguments_from : CodeView → ℕ → ℕ → ℕ → List Term
@@ -30,7 +30,7 @@ arguments_from code base (suc n) at = argument_at code base at ∷ arguments_fro
 -- an argument is there, and its variables are below a number
 pub record IsArgument (code : CodeView) (next base at : ℕ) : Type 0 where
   pub within : at < length code.places
-  pub place : IsPlaceOf code (place_at code at)
+  pub place : IsPlaceOf code (code_place code at)
   pub below : var_bound (argument_at code base at) ≤ next
 
 abbrev pub AreArguments : CodeView → ℕ → ℕ → ℕ → ℕ → Type 0

@@ -25,17 +25,17 @@ value_to zero code cells v = VarTerm v
 value_to (suc n) code cells v = value_by code (value_to n code cells) v (variable_cell cells v)
 
 -- one more variable, where it is bound
-abbrev pub with_value : BindingCell → ℕ → Term → Substitution → Substitution
-with_value Free v t s = s
-with_value (Var w) v t s = (v, t) ∷ s
-with_value (Int z) v t s = (v, t) ∷ s
-with_value (Atom a) v t s = (v, t) ∷ s
-with_value (Compound at base) v t s = (v, t) ∷ s
+abbrev pub with_cell_value : BindingCell → ℕ → Term → Substitution → Substitution
+with_cell_value Free v t s = s
+with_cell_value (Var w) v t s = (v, t) ∷ s
+with_cell_value (Int z) v t s = (v, t) ∷ s
+with_cell_value (Atom a) v t s = (v, t) ∷ s
+with_cell_value (Compound at base) v t s = (v, t) ∷ s
 
 -- what the bound variables below a number stand for
 abbrev pub values_below : ℕ → List BindingCell → (ℕ → Term) → Substitution
 values_below zero cells f = []
-values_below (suc n) cells f = with_value (variable_cell cells n) n (f n) (values_below n cells f)
+values_below (suc n) cells f = with_cell_value (variable_cell cells n) n (f n) (values_below n cells f)
 
 -- what each variable stands for: no way through cells that represent a substitution is longer than there are variables
 unfoldable pub substitution_in : CodeView → List BindingCell → Substitution

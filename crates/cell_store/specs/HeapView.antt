@@ -11,8 +11,8 @@ pub record HeapView : Type 0 where
   pub made : List Place
 
 -- all of it as one text
-abbrev pub text_of : HeapView → CodeView
-text_of h = record { names = h.program.names ++ h.names; places = h.program.places ++ h.made }
+abbrev pub heap_text : HeapView → CodeView
+heap_text h = record { names = h.program.names ++ h.names; places = h.program.places ++ h.made }
 
 -- with as many of the places as there were earlier; names stay
 abbrev pub cut_heap : ℕ → HeapView → HeapView
@@ -20,9 +20,9 @@ cut_heap n h = record { program = h.program; names = h.names; made = take n h.ma
 
 -- a text in which each compound's arguments stand before it, no two names are the same, and places have numbers of 32 bits
 pub record IsSoundHeap (h : HeapView) : Type 0 where
-  pub text : AreSound (length (text_of h).names) (text_of h).places
-  pub distinct : AreDistinct (text_of h).names
-  pub small : length (text_of h).places < 2 ^ 32
+  pub text : AreSound (length (heap_text h).names) (heap_text h).places
+  pub distinct : AreDistinct (heap_text h).names
+  pub small : length (heap_text h).places < 2 ^ 32
 
 -- names and places were added
 pub record GrowsHeap (old new : HeapView) : Type 0 where
@@ -33,5 +33,5 @@ pub record GrowsHeap (old new : HeapView) : Type 0 where
 
 -- a name has this number
 pub record IsNumberedIn (old new : HeapView) (name : List ℕ) (number : ℕ) : Type 0 where
-  pub numbered : IsNumbered (text_of old).names (text_of new).names name number
-  pub places : (text_of new).places ≡ (text_of old).places
+  pub numbered : IsNumbered (heap_text old).names (heap_text new).names name number
+  pub places : (heap_text new).places ≡ (heap_text old).places

@@ -9,7 +9,7 @@ use Rattle.clause_compile.specs.declared.place.Place.{Place}
 use Rattle.binding_array.specs.Represented.{cell_term, IsFalling}
 use Rattle.binding_array.specs.declared.cell.BindingCell.{BindingCell}
 use Rattle.binding_array.specs.declared.cell.BindingCell.TheVariants.{Free, Var, Int, Atom, Compound}
-use Rattle.cell_store.specs.HeapView.{HeapView, text_of, cut_heap}
+use Rattle.cell_store.specs.HeapView.{HeapView, heap_text, cut_heap}
 use Rattle.cell_store.specs.Values.{IsValue}
 use Rattle.cell_store.specs.CellMeanings.{substitution_in, AreConsistent}
 use Rattle.cell_store.specs.Undoing.{Parts, undone, AreNested, IsWithin}
@@ -68,7 +68,7 @@ pub record IsDereferenced (st : StoreView) (value reached : BindingCell) : Type 
 
 -- the state of a heap and of cells
 abbrev pub moment_of : HeapView → List BindingCell → Moment
-moment_of h cells = record { made = h.made; bound = substitution_in (text_of h) cells; next = length cells }
+moment_of h cells = record { made = h.made; bound = substitution_in (heap_text h) cells; next = length cells }
 
 -- the state at a mark
 abbrev pub moment_at : Parts → Mark → Moment
@@ -79,18 +79,18 @@ view_of p = record { program = p.heap.program; names = p.heap.names; now = momen
 
 -- at a mark too the cells represent a substitution
 abbrev pub IsConsistentAt : Parts → Mark → Type 0
-IsConsistentAt p m = AreConsistent (text_of (cut_heap m.made p.heap)) (undone m p.trail p.cells)
+IsConsistentAt p m = AreConsistent (heap_text (cut_heap m.made p.heap)) (undone m p.trail p.cells)
 
 -- the parts of a store fit together
 pub record IsConsistent (p : Parts) : Type 0 where
-  pub now : AreConsistent (text_of p.heap) p.cells
+  pub now : AreConsistent (heap_text p.heap) p.cells
   pub at_marks : Each (IsConsistentAt p) p.marks
   pub within : Each (IsWithin p) p.marks
   pub nested : AreNested p.marks
   pub trail : Each (λ v. v < length p.cells) p.trail
   pub variables : length p.cells < 2 ^ 32
-  pub places : length (text_of p.heap).places < 2 ^ 32
-  pub distinct : AreDistinct (text_of p.heap).names
+  pub places : length (heap_text p.heap).places < 2 ^ 32
+  pub distinct : AreDistinct (heap_text p.heap).names
 
 -- nothing is made or bound
 abbrev pub new_store : CodeView → StoreView

@@ -5,7 +5,7 @@ ghost use Rattle.au_term.specs.PrefixOrder.{arity, cell_bound, IsValidCell};
 ghost use Rattle.au_term.specs.Shifted.{shifted_cell};
 ghost use Rattle.clause_compile.specs.AtomNumbers.{name_at};
 ghost use Rattle.clause_compile.specs.Places.{IsArity, IsPlaced, AddsCell, ArePlacesOf};
-ghost use Rattle.cell_store.specs.HeapView.{text_of, cut_heap, IsSoundHeap, GrowsHeap, IsNumberedIn};
+ghost use Rattle.cell_store.specs.HeapView.{heap_text, cut_heap, IsSoundHeap, GrowsHeap, IsNumberedIn};
 
 use au_term::{Atom, Cell, NoMemory, Shared, VarNo};
 use clause_compile::{AtomNumbers, Code, Place, push_block};
@@ -51,8 +51,8 @@ impl Heap {
 
     /// The place with a number.
     pub(crate) fn place(&self, at: usize) -> Place
-        requires { at < length (text_of self.now).places }
-        ensures { drop at (text_of self.now).places ≡ result ∷ drop (at + 1) (text_of self.now).places }
+        requires { at < length (heap_text self.now).places }
+        ensures { drop at (heap_text self.now).places ≡ result ∷ drop (at + 1) (heap_text self.now).places }
     {
         let program = self.program.len();
         if at < program {
@@ -64,8 +64,8 @@ impl Heap {
 
     /// The name with a number.
     pub(crate) fn name(&self, number: u32) -> &Atom
-        requires { number < length (text_of self.now).names }
-        ensures { result.now ≡ name_at (text_of self.entry.now).names number }
+        requires { number < length (heap_text self.now).names }
+        ensures { result.now ≡ name_at (heap_text self.entry.now).names number }
     {
         let program = self.program.names();
         if (number as usize) < program {
@@ -78,7 +78,7 @@ impl Heap {
     /// Adds a term, and gives the place that means it.
     pub(crate) fn push_term(&mut self, alloc: Global, term: &Shared) -> Result<Place, NoMemory>
         requires { IsSoundHeap self.old }
-        ensures placed { IfOk result (IsPlaced (text_of self.old) (text_of self.new) term.now) }
+        ensures placed { IfOk result (IsPlaced (heap_text self.old) (heap_text self.new) term.now) }
         ensures grown { GrowsHeap self.old self.new }
     {
         let mut stack = Vec::new(alloc);
@@ -106,8 +106,8 @@ impl Heap {
         requires sound { IsValidCell cell.now }
         requires fits { base + cell_bound cell.now < 2 ^ 64 }
         requires enough { arity cell.now ≤ length stack.old.items }
-        requires stand { ArePlacesOf (text_of self.old) stack.old.items }
-        ensures added { OnOk result (AddsCell (text_of self.old) (text_of self.new) (shifted_cell base cell.now) stack.old.items stack.new.items) }
+        requires stand { ArePlacesOf (heap_text self.old) stack.old.items }
+        ensures added { OnOk result (AddsCell (heap_text self.old) (heap_text self.new) (shifted_cell base cell.now) stack.old.items stack.new.items) }
         ensures grown { GrowsHeap self.old self.new }
     {
         match cell {
@@ -131,8 +131,8 @@ impl Heap {
         requires heap { IsSoundHeap self.old }
         requires arity { IsArity count }
         requires enough { count ≤ length stack.old.items }
-        requires stand { ArePlacesOf (text_of self.old) stack.old.items }
-        ensures added { OnOk result (AddsCell (text_of self.old) (text_of self.new) (Cell.Functor name.now count) stack.old.items stack.new.items) }
+        requires stand { ArePlacesOf (heap_text self.old) stack.old.items }
+        ensures added { OnOk result (AddsCell (heap_text self.old) (heap_text self.new) (Cell.Functor name.now count) stack.old.items stack.new.items) }
         ensures grown { GrowsHeap self.old self.new }
     {
         let number = self.number(name)?;

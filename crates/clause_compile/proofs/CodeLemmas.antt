@@ -140,7 +140,7 @@ drop_map f zero ps = refl
 drop_map f (suc n) [] = refl
 drop_map f (suc n) (p ∷ ps) = drop_map f n ps
 
-each_taken : {X : Type 0} (P : X → Type 0) (n : ℕ) (xs : List X) → Each P xs → Each P (take n xs)
+pub each_taken : {X : Type 0} (P : X → Type 0) (n : ℕ) (xs : List X) → Each P xs → Each P (take n xs)
 each_taken P zero xs h = tt
 each_taken P (suc n) [] h = tt
 each_taken P (suc n) (x ∷ xs) h = (h.0, each_taken P n xs h.1)

@@ -11,9 +11,9 @@ abbrev pub name_at : List (List ℕ) → ℕ → List ℕ
 name_at names n = get_or names n []
 
 -- the number of a name, if it has one
-abbrev pub number_in : List (List ℕ) → List ℕ → Option ℕ
-number_in [] a = None
-number_in (n ∷ ns) a = cond (same_name n a) (Some 0) (option_map (λ i. suc i) (number_in ns a))
+abbrev pub number_of_name : List (List ℕ) → List ℕ → Option ℕ
+number_of_name [] a = None
+number_of_name (n ∷ ns) a = cond (same_name n a) (Some 0) (option_map (λ i. suc i) (number_of_name ns a))
 
 -- no two names are the same
 abbrev pub AreDistinct : List (List ℕ) → Type 0
@@ -21,7 +21,7 @@ AreDistinct names = (i j : ℕ) → i < length names → j < length names → na
 
 -- the map has the number of each name
 pub record IsNumbering (names : List (List ℕ)) (numbers : BTreeMap Atom ℕ) : Type 0 where
-  pub found : (a : List ℕ) → get (slice_cmp nat_cmp) numbers a ≡ number_in names a
+  pub found : (a : List ℕ) → get (slice_cmp nat_cmp) numbers a ≡ number_of_name names a
   pub distinct : AreDistinct names
 
 -- a name has this number, and the others keep theirs

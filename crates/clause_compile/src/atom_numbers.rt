@@ -1,6 +1,6 @@
 //! Names by number.
 ghost use Rattle.std.specs.Prelude.{◌≡◌, [], ◌<◌, IfOk, OnErr, None, length};
-ghost use Rattle.clause_compile.specs.AtomNumbers.{IsNumbered, AreDistinct, name_at, number_in};
+ghost use Rattle.clause_compile.specs.AtomNumbers.{IsNumbered, AreDistinct, name_at, number_of_name};
 
 use au_term::{Atom, NoMemory};
 use std::alloc::Global;
@@ -50,7 +50,7 @@ impl AtomNumbers {
 
     /// The number of a name, if it has one.
     pub fn find(&self, name: &Atom) -> Option<u32>
-        ensures { result ≡ number_in self.now name.now }
+        ensures { result ≡ number_of_name self.now name.now }
     {
         match self.numbers.get(name) {
             Some(number) => Some(*number),
@@ -71,7 +71,7 @@ impl AtomNumbers {
 
     /// Gives the next number to a name that has none.
     fn add(&mut self, name: &Atom) -> Result<u32, NoMemory>
-        requires { number_in self.old name.now ≡ None }
+        requires { number_of_name self.old name.now ≡ None }
         ensures ok { IfOk result (IsNumbered self.old self.new name.now) }
         ensures err { OnErr result (self.new ≡ self.old) }
     {

@@ -2,7 +2,7 @@
 ghost use Rattle.std.specs.Prelude.{◌≡◌, ◌+◌, ◌<◌, ◌≤◌, ◌∷◌, [], ◌++◌, IfOk, OnOk, length, take, drop, reverse};
 ghost use Rattle.au_term.specs.PrefixOrder.{cells_of, term_of, arity, IsValidCell, AreValidCells};
 ghost use Rattle.run_model.specs.Programs.Bodies.{clause_goals_of};
-ghost use Rattle.clause_compile.specs.AtomNumbers.{AreDistinct, name_at, number_in};
+ghost use Rattle.clause_compile.specs.AtomNumbers.{AreDistinct, name_at, number_of_name};
 ghost use Rattle.clause_compile.specs.PlacedClauses.{IsClausePlaced};
 ghost use Rattle.clause_compile.specs.Places.{CodeView, AreSound, IsArity, IsPlaced, AreAllPlaced, ArePlacesOf, AddsCell, HasMorePlaces};
 
@@ -85,7 +85,7 @@ impl Code {
 
     /// The number of a name, if it has one.
     pub fn find(&self, name: &Atom) -> Option<u32>
-        ensures { result ≡ number_in self.now.names name.now }
+        ensures { result ≡ number_of_name self.now.names name.now }
     {
         self.names.find(name)
     }

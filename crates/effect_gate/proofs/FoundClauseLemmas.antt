@@ -23,8 +23,7 @@ use Rattle.proc_index.specs.declared.key.Key.{Key}
 use Rattle.proc_index.specs.declared.key.Key.TheVariants.{Any}
 use Rattle.proc_index.specs.Keys.{first_has, has_key, head_key, key_of, may_match}
 use Rattle.proc_index.specs.Laws.{tell_apart}
-use Rattle.proc_index.proofs.KeyLemmas.{any_match}
-use Rattle.proc_index.proofs.LawLemmas.{told_apart}
+use Rattle.proc_index.proofs.KeyClashLemmas.{key_clash}
 use Rattle.dyn_clauses.specs.DatabaseView.{matching_numbered}
 use Rattle.effect_gate.specs.Effects.{AreFound, IsEffectApplied, statics_of, world_meant}
 use Rattle.effect_gate.specs.Refusals.{AreLookedUp, may_unify_with}
@@ -33,47 +32,15 @@ use Rattle.effect_gate.specs.declared.world.Applied.{Applied}
 use Rattle.effect_gate.specs.declared.world.Applied.TheVariants.{Went, Raise, Clauses, Fails, Rows, Halt}
 use Rattle.effect_gate.proofs.RefusalLemmas.{front_none, one_error, passed_by, Raises, raised_by, front_some}
 
--- terms of other keys are told apart, whatever the variables of one stand for
-other_key : (t u : Term) (r : ℕ → Term) → has_key (key_of t) u ≡ false → tell_apart (key_of t) (key_of (apply r u)) ≡ true
-other_key (VarTerm n) u r h = absurd cc
-other_key (IntTerm z) (VarTerm n) r h = absurd cc
-other_key (IntTerm z) (IntTerm y) r h = ap not h
-other_key (IntTerm z) (AtomTerm b) r h = refl
-other_key (IntTerm z) (Compound g us) r h = refl
-other_key (AtomTerm a) (VarTerm n) r h = absurd cc
-other_key (AtomTerm a) (IntTerm y) r h = refl
-other_key (AtomTerm a) (AtomTerm b) r h = ap not h
-other_key (AtomTerm a) (Compound g us) r h = refl
-other_key (Compound f ts) (VarTerm n) r h = absurd cc
-other_key (Compound f ts) (IntTerm y) r h = refl
-other_key (Compound f ts) (AtomTerm b) r h = refl
-other_key (Compound f ts) (Compound g us) r h = ap not (ap (λ n. same_name f g && count ts == n) (count-apply_all r us) ∙ h)
-
-any_fits : {A : Type 0} (ts : Terms) → first_has Any ts ≡ false → A
-any_fits ts h = let k = any_match ts in absurd cc
-
--- a head whose first argument has another key
-key_clash : (goal head : Term) (r : ℕ → Term) → may_match (head_key goal) head ≡ false → unifier ((goal, apply r head) ∷ []) ≡ None
-key_clash (VarTerm n) head r h = any_fits (arguments head) h
-key_clash (IntTerm z) head r h = any_fits (arguments head) h
-key_clash (AtomTerm a) head r h = any_fits (arguments head) h
-key_clash (Compound f end) head r h = any_fits (arguments head) h
-key_clash (Compound f (more t ts)) (VarTerm n) r h = absurd cc
-key_clash (Compound f (more t ts)) (IntTerm z) r h = absurd cc
-key_clash (Compound f (more t ts)) (AtomTerm a) r h = absurd cc
-key_clash (Compound f (more t ts)) (Compound g end) r h = absurd cc
-key_clash (Compound f (more t ts)) (Compound g (more u us)) r h =
-    told_apart (Compound f (more t ts)) (apply r (Compound g (more u us))) 0 (omega arith) (omega arith) (other_key t u r h)
-
-first_fails : (e d : Term × Term) → unifier (e ∷ []) ≡ None → unifier (e ∷ d ∷ []) ≡ None
-first_fails e d h = front_first (e ∷ []) (d ∷ []) ∙ ap (λ o. further_unified o (d ∷ [])) h
-
 -- a call and a match that fail by the key
 call_clash : (goal : Term) (next : ℕ) (c : NumberedClause) → may_match (head_key goal) c.clause.head ≡ false → unifier (clause_solution goal next c.clause).equations ≡ None
 call_clash goal next c h = key_clash goal c.clause.head (clause_renaming c.clause next) h
 
 match_clash : (removes : Option ℕ) (head body : Term) (next : ℕ) (c : NumberedClause) → may_match (head_key head) c.clause.head ≡ false → unifier (clause_match removes head body next c.clause).equations ≡ None
-match_clash removes head body next c h = first_fails (head, renamed_head c.clause next) (body, renamed_body c.clause next) (key_clash head c.clause.head (clause_renaming c.clause next) h)
+match_clash removes head body next c h =
+    let first = (head, renamed_head c.clause next) in
+    let second = (body, renamed_body c.clause next) in
+    front_first (first ∷ []) (second ∷ []) ∙ ap (λ o. further_unified o (second ∷ [])) (key_clash head c.clause.head (clause_renaming c.clause next) h)
 
 abbrev some_value : {A : Type 0} (x : A) (o : Option A) → A
 some_value x None = x
@@ -93,7 +60,8 @@ found_by : (solution : NumberedClause → Solution) (head : Term) (reply : Reply
 found_by solution head reply all found others replies kept =
     record { all = all; may_unify = λ c. may_match (head_key head) c.clause.head; replies = replies; kept = kept; others = others }
 
-called_once : (goal : Term) (next : ℕ) (cs : List NumberedClause) → alternatives_of (plain_clauses cs) goal next ≡ map (λ c. clause_solution goal next c.clause) cs
+-- a clause is tried for a call as it is for one goal
+pub called_once : (goal : Term) (next : ℕ) (cs : List NumberedClause) → alternatives_of (plain_clauses cs) goal next ≡ map (λ c. clause_solution goal next c.clause) cs
 called_once goal next [] = refl
 called_once goal next (c ∷ cs) = ap (λ ss. clause_solution goal next c.clause ∷ ss) (called_once goal next cs)
 

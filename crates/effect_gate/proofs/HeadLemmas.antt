@@ -102,10 +102,3 @@ open_parts t h v = shape_by t true false true h (indicated t h) v
 
 pub bound_parts : (t : Term) → is_indicator t ≡ true → is_variable (name_part t) ≡ false → is_variable (arity_part t) ≡ false → shape_error t ≡ None
 bound_parts t h n a = shape_by t true false false h (indicated t h) (ap₂ (λ x y. x || y) n a)
-
-pub first_open : (a b : Bool) → a ≡ true → (a || b) ≡ true
-first_open a b h = ap (λ x. x || b) h
-
-pub second_open : (a b : Bool) → b ≡ true → (a || b) ≡ true
-second_open true b h = refl
-second_open false b h = h

@@ -14,7 +14,7 @@ use Rattle.run_model.specs.Goals.Outcomes.{Reply, Ball}
 use Rattle.run_model.specs.Goals.WorldConstructs.{World as WorldTerms, unless_raised}
 use Rattle.clause_compile.specs.declared.event.Effect.{Effect}
 use Rattle.effect_gate.specs.Effects.{IsEffectApplied, world_meant}
-use Rattle.effect_gate.specs.Refusals.{IsDone, IsPassed, IsTested, writing}
+use Rattle.effect_gate.specs.Refusals.{IsEffectDone, IsPassedOrError, IsValueOrError, writing}
 use Rattle.effect_gate.specs.declared.refusal.Refusal.{Refusal}
 use Rattle.effect_gate.specs.declared.refusal.Refusal.TheVariants.{Fault, NoMemory}
 use Rattle.effect_gate.specs.declared.world.World.{World}
@@ -52,19 +52,19 @@ passed_by name arity w o r h = ap (λ x. unless_raised name arity w x r) h
 abbrev pub Raises : Effect → World → Option Term → Type 0
 Raises e old o = (fault : FaultTerms) → o ≡ Some (error_term_of fault) → IsEffectApplied e old old (Raise fault)
 
-pub refused_by : {X : Type 0} (e : Effect) (old : World) (o : Option Term) (P : X → Type 0) (d : Refusal) (q : Result Applied Refusal) → IsTested o P (Err d) → IsErrAnd q (λ x. x ≡ d) → Raises e old o → IsDone e old old q
+pub refused_by : {X : Type 0} (e : Effect) (old : World) (o : Option Term) (P : X → Type 0) (d : Refusal) (q : Result Applied Refusal) → IsValueOrError o P (Err d) → IsErrAnd q (λ x. x ≡ d) → Raises e old o → IsEffectDone e old old q
 refused_by e old o P d (Ok a) t s k = absurd s
-refused_by e old o P d (Err x) t s k = by x (subst (λ y. IsTested o P (Err y)) (sym s) t)
+refused_by e old o P d (Err x) t s k = by x (subst (λ y. IsValueOrError o P (Err y)) (sym s) t)
   where
-    by : (y : Refusal) → IsTested o P (Err y) → IsDone e old old (Err y)
+    by : (y : Refusal) → IsValueOrError o P (Err y) → IsEffectDone e old old (Err y)
     by (Fault fault) h = k fault h
     by NoMemory h = tt
 
-pub stopped_by : (e : Effect) (old : World) (o : Option Term) (d : Refusal) (q : Result Applied Refusal) → IsPassed o (Err d) → IsErrAnd q (λ x. x ≡ d) → Raises e old o → IsDone e old old q
+pub stopped_by : (e : Effect) (old : World) (o : Option Term) (d : Refusal) (q : Result Applied Refusal) → IsPassedOrError o (Err d) → IsErrAnd q (λ x. x ≡ d) → Raises e old o → IsEffectDone e old old q
 stopped_by e old o d (Ok a) t s k = absurd s
-stopped_by e old o d (Err x) t s k = by x (subst (λ y. IsPassed o (Err y)) (sym s) t)
+stopped_by e old o d (Err x) t s k = by x (subst (λ y. IsPassedOrError o (Err y)) (sym s) t)
   where
-    by : (y : Refusal) → IsPassed o (Err y) → IsDone e old old (Err y)
+    by : (y : Refusal) → IsPassedOrError o (Err y) → IsEffectDone e old old (Err y)
     by (Fault fault) h = k fault h
     by NoMemory h = tt
 

@@ -38,9 +38,9 @@ abbrev pub statics_of : World → Statics
 statics_of w name arity = is_reserved name arity || is_static w.database.statics (record { name = name; arity = arity })
 
 -- the removal of a clause holds once where the clause is still there
-abbrev pub removed : Option Database → WorldTerms → WorldTerms × Reply
-removed (Some database) w = (record w { database = database }, holds_once)
-removed None w = (w, Solutions [])
+abbrev pub clause_removed : Option Database → WorldTerms → WorldTerms × Reply
+clause_removed (Some database) w = (record w { database = database }, holds_once)
+clause_removed None w = (w, Solutions [])
 
 -- the world after an effect, and what the effect comes to, where this is the next number
 abbrev pub effect_answer : Statics → Effect → ℕ → WorldTerms → WorldTerms × Reply
@@ -59,7 +59,7 @@ effect_answer statics (effect.CurrentOp priority specifier name) next w = curren
 effect_answer statics effect.Halt next w = (w, HaltNumber 0)
 effect_answer statics (effect.HaltWith status) next w = halted_by status w
 effect_answer statics (effect.Call goal) next w = (w, dynamic_call (clauses_of w.database (name_of goal) (argument_count goal)) goal next)
-effect_answer statics (effect.Remove id) next w = removed (without_clause id.0 w.database) w
+effect_answer statics (effect.Remove id) next w = clause_removed (without_clause id.0 w.database) w
 effect_answer statics (effect.Answer names values) next w = bytes_out (answer_line w.operators (named_terms names.items values.items)) w
 effect_answer statics (effect.End ball) next w = bytes_out (end_line w.operators ball) w
 

@@ -25,22 +25,22 @@ use Rattle.effect_gate.specs.declared.world.Applied.{Applied}
 use Rattle.effect_gate.specs.declared.world.Applied.TheVariants.{Went, Raise, Clauses, Fails, Rows, Halt}
 
 -- no error and a value that is so, or this error
-abbrev pub IsTested : {X : Type 0} → Option Term → (X → Type 0) → Result X Refusal → Type 0
-IsTested e P (Ok x) = (e ≡ None) × P x
-IsTested e P (Err (Fault fault)) = e ≡ Some (error_term_of fault)
-IsTested e P (Err NoMemory) = Unit {0}
+abbrev pub IsValueOrError : {X : Type 0} → Option Term → (X → Type 0) → Result X Refusal → Type 0
+IsValueOrError e P (Ok x) = (e ≡ None) × P x
+IsValueOrError e P (Err (Fault fault)) = e ≡ Some (error_term_of fault)
+IsValueOrError e P (Err NoMemory) = Unit {0}
 
 -- no error, or this one
-abbrev pub IsPassed : Option Term → Result (Unit {0}) Refusal → Type 0
-IsPassed e (Ok u) = e ≡ None
-IsPassed e (Err (Fault fault)) = e ≡ Some (error_term_of fault)
-IsPassed e (Err NoMemory) = Unit {0}
+abbrev pub IsPassedOrError : Option Term → Result (Unit {0}) Refusal → Type 0
+IsPassedOrError e (Ok u) = e ≡ None
+IsPassedOrError e (Err (Fault fault)) = e ≡ Some (error_term_of fault)
+IsPassedOrError e (Err NoMemory) = Unit {0}
 
 -- an effect was applied, or its goal raises an error
-abbrev pub IsDone : Effect → World → World → Result Applied Refusal → Type 0
-IsDone e old new (Ok applied) = IsEffectApplied e old new applied
-IsDone e old new (Err (Fault fault)) = IsEffectApplied e old new (Raise fault)
-IsDone e old new (Err NoMemory) = Unit {0}
+abbrev pub IsEffectDone : Effect → World → World → Result Applied Refusal → Type 0
+IsEffectDone e old new (Ok applied) = IsEffectApplied e old new applied
+IsEffectDone e old new (Err (Fault fault)) = IsEffectApplied e old new (Raise fault)
+IsEffectDone e old new (Err NoMemory) = Unit {0}
 
 abbrev pub writing : Style → Term → Effect
 writing Plain t = effect.Write t
@@ -66,9 +66,9 @@ AreLookedUp found (Clauses cs) = found ≡ Some (map shown cs.items)
 AreLookedUp found applied = ⊥
 
 -- a refusal is this error, or running out of memory
-abbrev pub IsRefused : Option Term → Refusal → Type 0
-IsRefused e (Fault fault) = e ≡ Some (error_term_of fault)
-IsRefused e NoMemory = Unit {0}
+abbrev pub IsErrorRefusal : Option Term → Refusal → Type 0
+IsErrorRefusal e (Fault fault) = e ≡ Some (error_term_of fault)
+IsErrorRefusal e NoMemory = Unit {0}
 
 -- whether a term is a head and a body
 abbrev pub has_body : Term → Bool

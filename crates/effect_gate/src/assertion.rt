@@ -3,7 +3,7 @@ ghost use Rattle.std.specs.Prelude.{◌≡◌, false, OnOk};
 ghost use Rattle.std.specs.Arc.{arc_value};
 ghost use Rattle.dyn_clauses.specs.DatabaseView.{is_static};
 ghost use Rattle.dyn_clauses.specs.ClauseEnds.{indicator_of};
-ghost use Rattle.effect_gate.specs.Refusals.{IsDone, adding, assertion};
+ghost use Rattle.effect_gate.specs.Refusals.{IsEffectDone, adding, assertion};
 
 use crate::heads::{body_of, clause_of, head_of};
 use crate::refusal::Refusal;
@@ -30,7 +30,7 @@ impl World {
         clause: &FlatTerm,
         end: End,
     ) -> Result<Applied, Refusal>
-        ensures done { IsDone (assertion end clause.now) self.old self.new result }
+        ensures done { IsEffectDone (assertion end clause.now) self.old self.new result }
         ensures statics { self.new.database.statics ≡ self.old.database.statics }
     {
         let head = head_of(alloc, clause)?;

@@ -6,7 +6,7 @@ ghost use Rattle.au_model.specs.Terms.ErrorTerms.{type_error};
 ghost use Rattle.au_model.specs.Terms.TermTypes.{is_integer};
 ghost use Rattle.std.specs.Prelude.{codes};
 ghost use Rattle.run_model.specs.Goals.DatabaseGoals.{head_in, body_in, head_errors, no_body_error};
-ghost use Rattle.effect_gate.specs.Refusals.{IsKeptClause, IsPassed, IsTested, has_body};
+ghost use Rattle.effect_gate.specs.Refusals.{IsKeptClause, IsPassedOrError, IsValueOrError, has_body};
 
 use crate::refusal::{Refusal, wrong_type};
 use au_model::build::atom;
@@ -48,7 +48,7 @@ pub fn body_of(alloc: Global, clause: &FlatTerm) -> Result<FlatTerm, NoMemory>
 
 /// Refuses a head that is a variable or an integer.
 pub(crate) fn check_head(head: &FlatTerm) -> Result<(), Refusal>
-    ensures { IsPassed (first_error (head_errors head.now)) result }
+    ensures { IsPassedOrError (first_error (head_errors head.now)) result }
 {
     match head.top() {
         Cell::Var(_) => Err(Refusal::Fault(Fault::Instantiation)),
@@ -59,7 +59,7 @@ pub(crate) fn check_head(head: &FlatTerm) -> Result<(), Refusal>
 
 /// Refuses a body that is an integer.
 pub(crate) fn check_body(body: &FlatTerm) -> Result<(), Refusal>
-    ensures { IsPassed (error_if (is_integer body.now) (type_error (codes "callable") body.now)) result }
+    ensures { IsPassedOrError (error_if (is_integer body.now) (type_error (codes "callable") body.now)) result }
 {
     match body.top() {
         Cell::Int(_) => Err(wrong_type(TypeName::Callable, body)),
@@ -73,7 +73,7 @@ pub(crate) fn clause_of(
     head: &FlatTerm,
     body: &FlatTerm,
 ) -> Result<Arc<Clause>, Refusal>
-    ensures { IsTested (first_error (head_errors head.now ++ no_body_error body.now ∷ [])) (λ clause. IsKeptClause head.now body.now (arc_value clause)) result }
+    ensures { IsValueOrError (first_error (head_errors head.now ++ no_body_error body.now ∷ [])) (λ clause. IsKeptClause head.now body.now (arc_value clause)) result }
 {
     match compile(alloc, head, body) {
         Ok(clause) => Ok(clause),

@@ -1,7 +1,7 @@
 //! Procedures that become unknown (ISO/IEC 13211-1, 8.9.4).
 ghost use Rattle.std.specs.Prelude.{◌≡◌, false};
 ghost use Rattle.clause_compile.specs.declared.event.Effect.TheVariants.{Abolish as AbolishEffect};
-ghost use Rattle.effect_gate.specs.Refusals.{IsDone, IsRefused, IsTested};
+ghost use Rattle.effect_gate.specs.Refusals.{IsEffectDone, IsErrorRefusal, IsValueOrError};
 ghost use Rattle.effect_gate.specs.Indicators.{AreParts, IsProcedureOf, parts_error, shape_error};
 ghost use Rattle.au_model.specs.Terms.TermTypes.{is_variable};
 ghost use Rattle.run_model.specs.Goals.DatabaseGoals.{is_indicator};
@@ -19,7 +19,7 @@ const MAX_ARITY: i64 = 65_535;
 impl World {
     /// Takes a procedure away with all its clauses.
     pub(crate) fn abolish(&mut self, alloc: Global, term: &FlatTerm) -> Result<Applied, Refusal>
-        ensures done { IsDone (AbolishEffect term.now) self.old self.new result }
+        ensures done { IsEffectDone (AbolishEffect term.now) self.old self.new result }
         ensures statics { self.new.database.statics ≡ self.old.database.statics }
     {
         let (name, arity) = parts(alloc, term)?;
@@ -37,7 +37,7 @@ impl World {
 
 /// The name and the number of arguments in `Name/Arity`, of which neither is a variable.
 fn parts(alloc: Global, term: &FlatTerm) -> Result<(FlatTerm, FlatTerm), Refusal>
-    ensures { IsTested (shape_error term.now) (AreParts term.now) result }
+    ensures { IsValueOrError (shape_error term.now) (AreParts term.now) result }
 {
     if !is_indicator(term) {
         return Err(no_indicator(term));
@@ -69,7 +69,7 @@ fn is_variable(term: &FlatTerm) -> bool
 /// The error of a term that is not `Name/Arity`.
 fn no_indicator(term: &FlatTerm) -> Refusal
     requires { is_indicator term.now ≡ false }
-    ensures { IsRefused (shape_error term.now) result }
+    ensures { IsErrorRefusal (shape_error term.now) result }
 {
     match term.top() {
         Cell::Var(_) => Refusal::Fault(Fault::Instantiation),
@@ -79,7 +79,7 @@ fn no_indicator(term: &FlatTerm) -> Refusal
 
 /// The procedure of a name and a number of arguments.
 fn procedure(name: &FlatTerm, arity: &FlatTerm) -> Result<Indicator, Refusal>
-    ensures { IsTested (parts_error name.now arity.now) (IsProcedureOf name.now arity.now) result }
+    ensures { IsValueOrError (parts_error name.now arity.now) (IsProcedureOf name.now arity.now) result }
 {
     let Cell::Atom(text) = name.top() else {
         return Err(wrong_type(TypeName::Atom, name));

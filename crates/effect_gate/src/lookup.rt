@@ -4,7 +4,7 @@ ghost use Rattle.std.specs.Prelude.{◌≡◌, IfOk};
 ghost use Rattle.std.specs.Option.{option_map};
 ghost use Rattle.dyn_clauses.specs.DatabaseView.{shown_clauses};
 ghost use Rattle.clause_compile.specs.declared.event.Effect.TheVariants.{Call as CallEffect, Clause as ClauseEffect, Remove as RemoveEffect, Retract as RetractEffect};
-ghost use Rattle.effect_gate.specs.Refusals.{AreLookedUp, IsDone, may_unify_with};
+ghost use Rattle.effect_gate.specs.Refusals.{AreLookedUp, IsEffectDone, may_unify_with};
 
 use crate::heads::{check_body, check_head, head_of};
 use crate::refusal::Refusal;
@@ -41,7 +41,7 @@ impl World {
 
     /// The clauses that a call of a procedure tries.
     pub(crate) fn call(&self, alloc: Global, goal: &FlatTerm) -> Result<Applied, Refusal>
-        ensures { IsDone (CallEffect goal.now) self.now self.now result }
+        ensures { IsEffectDone (CallEffect goal.now) self.now self.now result }
     {
         match self.candidates(alloc, goal)? {
             Some(found) => Ok(Applied::Clauses(found)),
@@ -59,7 +59,7 @@ impl World {
         head: &FlatTerm,
         body: &FlatTerm,
     ) -> Result<Applied, Refusal>
-        ensures { IsDone (ClauseEffect head.now body.now) self.now self.now result }
+        ensures { IsEffectDone (ClauseEffect head.now body.now) self.now self.now result }
     {
         check_head(head)?;
         check_body(body)?;
@@ -69,7 +69,7 @@ impl World {
 
     /// The clauses of which retract/1 removes those that unify.
     pub(crate) fn retract(&self, alloc: Global, clause: &FlatTerm) -> Result<Applied, Refusal>
-        ensures { IsDone (RetractEffect clause.now) self.now self.now result }
+        ensures { IsEffectDone (RetractEffect clause.now) self.now self.now result }
     {
         let head = head_of(alloc, clause)?;
         check_head(&head)?;
@@ -79,7 +79,7 @@ impl World {
 
     /// Removes a clause, where it is still there.
     pub(crate) fn remove(&mut self, id: ClauseId) -> Result<Applied, Refusal>
-        ensures done { IsDone (RemoveEffect id) self.old self.new result }
+        ensures done { IsEffectDone (RemoveEffect id) self.old self.new result }
         ensures statics { self.new.database.statics ≡ self.old.database.statics }
     {
         match self.database.remove(id) {

@@ -5,7 +5,7 @@ ghost use Rattle.au_model.specs.Terms.TermTypes.{is_atom, is_variable};
 ghost use Rattle.au_model.specs.Syntax.OperatorChanges.{error_if, is_priority};
 ghost use Rattle.run_model.specs.Goals.OperatorGoals.{is_specifier};
 ghost use Rattle.clause_compile.specs.declared.event.Effect.TheVariants.{CurrentOp as CurrentOpEffect, Op as OpEffect};
-ghost use Rattle.effect_gate.specs.Refusals.{IsDone, IsPassed};
+ghost use Rattle.effect_gate.specs.Refusals.{IsEffectDone, IsPassedOrError};
 
 use crate::refusal::{Refusal, wrong_type, wrong_value};
 use crate::world::{Applied, World};
@@ -21,7 +21,7 @@ impl World {
         specifier: &FlatTerm,
         names: &FlatTerm,
     ) -> Result<Applied, Refusal>
-        ensures done { IsDone (OpEffect priority.now specifier.now names.now) self.old self.new result }
+        ensures done { IsEffectDone (OpEffect priority.now specifier.now names.now) self.old self.new result }
         ensures statics { self.new.database ≡ self.old.database }
     {
         match self.ops.add(priority, specifier, names) {
@@ -38,7 +38,7 @@ impl World {
         specifier: &FlatTerm,
         name: &FlatTerm,
     ) -> Result<Applied, Refusal>
-        ensures { IsDone (CurrentOpEffect priority.now specifier.now name.now) self.now self.now result }
+        ensures { IsEffectDone (CurrentOpEffect priority.now specifier.now name.now) self.now self.now result }
     {
         check_priority(priority)?;
         check_specifier(specifier)?;
@@ -49,7 +49,7 @@ impl World {
 
 /// Refuses a term that is neither a variable nor a priority.
 fn check_priority(term: &FlatTerm) -> Result<(), Refusal>
-    ensures { IsPassed (error_if (not (is_variable term.now) && not (is_priority term.now)) (domain_error (codes "operator_priority") term.now)) result }
+    ensures { IsPassedOrError (error_if (not (is_variable term.now) && not (is_priority term.now)) (domain_error (codes "operator_priority") term.now)) result }
 {
     match term.top() {
         Cell::Var(_) => Ok(()),
@@ -60,7 +60,7 @@ fn check_priority(term: &FlatTerm) -> Result<(), Refusal>
 
 /// Refuses a term that is neither a variable nor a specifier.
 fn check_specifier(term: &FlatTerm) -> Result<(), Refusal>
-    ensures { IsPassed (error_if (not (is_variable term.now) && not (is_specifier term.now)) (domain_error (codes "operator_specifier") term.now)) result }
+    ensures { IsPassedOrError (error_if (not (is_variable term.now) && not (is_specifier term.now)) (domain_error (codes "operator_specifier") term.now)) result }
 {
     match term.top() {
         Cell::Var(_) => Ok(()),
@@ -71,7 +71,7 @@ fn check_specifier(term: &FlatTerm) -> Result<(), Refusal>
 
 /// Refuses a term that is neither a variable nor an atom.
 fn check_name(term: &FlatTerm) -> Result<(), Refusal>
-    ensures { IsPassed (error_if (not (is_variable term.now) && not (is_atom term.now)) (type_error (codes "atom") term.now)) result }
+    ensures { IsPassedOrError (error_if (not (is_variable term.now) && not (is_atom term.now)) (type_error (codes "atom") term.now)) result }
 {
     match term.top() {
         Cell::Var(_) | Cell::Atom(_) => Ok(()),

@@ -6,7 +6,7 @@ ghost use Rattle.au_model.specs.Terms.Faults.{error_term_of};
 ghost use Rattle.au_model.specs.Writing.Lines.{end_line};
 ghost use Rattle.run_model.specs.Goals.OutputGoals.{no_character_ball};
 ghost use Rattle.clause_compile.specs.declared.event.Effect.TheVariants.{Nl as NlEffect, PutChar as PutCharEffect, Answer as AnswerEffect, End as EndEffect};
-ghost use Rattle.effect_gate.specs.Refusals.{IsDone, writing};
+ghost use Rattle.effect_gate.specs.Refusals.{IsEffectDone, writing};
 ghost use Rattle.std.specs.Prelude.{codes};
 
 use crate::refusal::Refusal;
@@ -26,7 +26,7 @@ impl World {
         term: &FlatTerm,
         style: Style,
     ) -> Result<Applied, Refusal>
-        ensures done { IsDone (writing style term.now) self.old self.new result }
+        ensures done { IsEffectDone (writing style term.now) self.old self.new result }
         ensures database { self.new.database ≡ self.old.database }
     {
         write_into(alloc, &mut self.out, term, &self.ops, style)?;
@@ -35,7 +35,7 @@ impl World {
 
     /// Ends a line.
     pub(crate) fn end_line(&mut self) -> Result<Applied, Refusal>
-        ensures done { IsDone NlEffect self.old self.new result }
+        ensures done { IsEffectDone NlEffect self.old self.new result }
         ensures database { self.new.database ≡ self.old.database }
     {
         self.out.push(b'\n')?;
@@ -48,7 +48,7 @@ impl World {
         alloc: Global,
         term: &FlatTerm,
     ) -> Result<Applied, Refusal>
-        ensures done { IsDone (PutCharEffect term.now) self.old self.new result }
+        ensures done { IsEffectDone (PutCharEffect term.now) self.old self.new result }
         ensures database { self.new.database ≡ self.old.database }
     {
         let Some(c) = character(term) else {
@@ -65,7 +65,7 @@ impl World {
         names: &Vec<VarName>,
         values: &Vec<FlatTerm>,
     ) -> Result<Applied, Refusal>
-        ensures done { IsDone (AnswerEffect names.now values.now) self.old self.new result }
+        ensures done { IsEffectDone (AnswerEffect names.now values.now) self.old self.new result }
         ensures database { self.new.database ≡ self.old.database }
     {
         answer_line(alloc, &mut self.out, names, values, &self.ops)?;
@@ -78,7 +78,7 @@ impl World {
         alloc: Global,
         ball: &Option<FlatTerm>,
     ) -> Result<Applied, Refusal>
-        ensures done { IsDone (EndEffect ball.now) self.old self.new result }
+        ensures done { IsEffectDone (EndEffect ball.now) self.old self.new result }
         ensures database { self.new.database ≡ self.old.database }
     {
         push_end_line(alloc, ball, &self.ops, &mut self.out)?;

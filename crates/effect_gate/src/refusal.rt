@@ -2,7 +2,7 @@
 ghost use Rattle.std.specs.Prelude.{◌≡◌, Some};
 ghost use Rattle.au_model.specs.Terms.ErrorTerms.{domain_error, type_error};
 ghost use Rattle.au_model.specs.Terms.Faults.{domain_word, type_word};
-ghost use Rattle.effect_gate.specs.Refusals.{IsRefused};
+ghost use Rattle.effect_gate.specs.Refusals.{IsErrorRefusal};
 
 use au_model::{DomainName, Fault, TypeName};
 use au_term::{FlatTerm, NoMemory};
@@ -37,7 +37,7 @@ impl<T: Drop> From<AllocFailed<T>> for Refusal {
 
 /// The error of a term that is of another type.
 pub(crate) fn wrong_type(name: TypeName, culprit: &FlatTerm) -> Refusal
-    ensures { IsRefused (Some (type_error (type_word name) culprit.now)) result }
+    ensures { IsErrorRefusal (Some (type_error (type_word name) culprit.now)) result }
 {
     match culprit.copy() {
         Ok(culprit) => Refusal::Fault(Fault::WrongType(name, culprit)),
@@ -47,7 +47,7 @@ pub(crate) fn wrong_type(name: TypeName, culprit: &FlatTerm) -> Refusal
 
 /// The error of a term that is not among those of its type that may stand here.
 pub(crate) fn wrong_value(name: DomainName, culprit: &FlatTerm) -> Refusal
-    ensures { IsRefused (Some (domain_error (domain_word name) culprit.now)) result }
+    ensures { IsErrorRefusal (Some (domain_error (domain_word name) culprit.now)) result }
 {
     match culprit.copy() {
         Ok(culprit) => Refusal::Fault(Fault::Domain(name, culprit)),

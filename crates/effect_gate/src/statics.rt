@@ -5,7 +5,7 @@ ghost use Rattle.au_model.specs.Terms.Forms.{name_of};
 ghost use Rattle.au_model.specs.Terms.Faults.{permission_error_of};
 ghost use Rattle.run_model.specs.Goals.DatabaseGoals.{static_error};
 ghost use Rattle.effect_gate.specs.Effects.{statics_of};
-ghost use Rattle.effect_gate.specs.Refusals.{IsPassed};
+ghost use Rattle.effect_gate.specs.Refusals.{IsPassedOrError};
 
 use crate::refusal::Refusal;
 use crate::world::World;
@@ -31,7 +31,7 @@ impl World {
         head: &FlatTerm,
         permission: PermissionName,
     ) -> Result<(), Refusal>
-        ensures { IsPassed (static_error (statics_of self.now) (permission_error_of permission) head.now) result }
+        ensures { IsPassedOrError (static_error (statics_of self.now) (permission_error_of permission) head.now) result }
     {
         let procedure = procedure_of(alloc, head)?;
         if self.is_static(&procedure) {

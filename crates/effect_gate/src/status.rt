@@ -1,7 +1,7 @@
 //! The status with which a goal ends the run (ISO/IEC 13211-1, 8.17.4).
 ghost use Rattle.clause_compile.specs.declared.event.Effect.TheVariants.{HaltWith as HaltWithEffect};
 ghost use Rattle.effect_gate.specs.Effects.{IsEffectApplied};
-ghost use Rattle.effect_gate.specs.Refusals.{IsDone};
+ghost use Rattle.effect_gate.specs.Refusals.{IsEffectDone};
 ghost use Rattle.effect_gate.specs.declared.world.World.{World as WorldTerms};
 
 use crate::refusal::{Refusal, wrong_type, wrong_value};
@@ -14,7 +14,7 @@ const MAX_STATUS: i64 = 63;
 
 /// Ends the run with this status.
 pub(crate) fn halt_with(status: &FlatTerm) -> Result<Applied, Refusal>
-    ensures { (w : WorldTerms) → IsDone (HaltWithEffect status.now) w w result }
+    ensures { (w : WorldTerms) → IsEffectDone (HaltWithEffect status.now) w w result }
 {
     match status.top() {
         Cell::Var(_) => Err(Refusal::Fault(Fault::Instantiation)),

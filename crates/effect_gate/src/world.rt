@@ -1,7 +1,7 @@
 //! The world, and what each effect does to it.
 ghost use Rattle.std.specs.Prelude.{◌≡◌, IfOk};
 ghost use Rattle.effect_gate.specs.Effects.{IsEffectApplied};
-ghost use Rattle.effect_gate.specs.Refusals.{IsDone};
+ghost use Rattle.effect_gate.specs.Refusals.{IsEffectDone};
 
 use crate::assertion::End;
 use crate::refusal::Refusal;
@@ -53,7 +53,7 @@ impl World {
     }
 
     fn apply_or_refuse(&mut self, alloc: Global, effect: &Effect) -> Result<Applied, Refusal>
-        ensures applied { IsDone effect.now self.old self.new result }
+        ensures applied { IsEffectDone effect.now self.old self.new result }
         ensures statics { self.new.database.statics ≡ self.old.database.statics }
     {
         match effect {

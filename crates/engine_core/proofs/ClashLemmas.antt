@@ -23,54 +23,7 @@ use Rattle.proc_index.specs.ProcedureIndex.{procedure_of, candidates_of, HaveHea
 use Rattle.bind_store.specs.StoreView.{StoreView, substitution}
 use Rattle.engine_core.specs.Branches.{AreSolved, one_fails, one_solves}
 use Rattle.engine_core.specs.Attempts.{AreAlternatives}
-use Rattle.proc_index.proofs.KeyLemmas.{any_match as all_match}
-
--- terms of other keys clash
-other_key : (t u : Term) (r : ℕ → Term) → has_key (key_of t) u ≡ false → rule t (apply r u) ≡ Clash
-other_key (VarTerm n) u r h = cc
-other_key (IntTerm z) (VarTerm n) r h = cc
-other_key (IntTerm z) (IntTerm y) r h = ap (λ b. cond b Dropped Clash) h
-other_key (IntTerm z) (AtomTerm b) r h = refl
-other_key (IntTerm z) (Compound g us) r h = refl
-other_key (AtomTerm a) (VarTerm n) r h = cc
-other_key (AtomTerm a) (IntTerm y) r h = refl
-other_key (AtomTerm a) (AtomTerm b) r h = ap (λ c. cond c Dropped Clash) h
-other_key (AtomTerm a) (Compound g us) r h = refl
-other_key (Compound f ts) (VarTerm n) r h = cc
-other_key (Compound f ts) (IntTerm y) r h = refl
-other_key (Compound f ts) (AtomTerm b) r h = refl
-other_key (Compound f ts) (Compound g us) r h =
-    let renamed = apply_all r us in
-    let differ : (same_name f g && count ts == count renamed) ≡ false = ap (λ n. same_name f g && count ts == n) (count-apply_all r us) ∙ h in
-    ap (λ c. cond c (Opened (pairs ts renamed)) Clash) differ
-
-first_clashes : (t u : Term) (es : Equations) → rule t u ≡ Clash → unifier ((t, u) ∷ es) ≡ None
-first_clashes t u es h = unifier-first t u es ∙ ap (λ q. by_rule q es unifier) h
-
--- a clash of the first arguments is one of the compounds
-opened_clash : (t u : Term) (es : Equations) (b : Bool) → rule t u ≡ Clash → by_rule (cond b (Opened ((t, u) ∷ es)) Clash) [] unifier ≡ None
-opened_clash t u es true h = first_clashes t u (es ++ []) h
-opened_clash t u es false h = refl
-
-any_fits : {A : Type 0} (ts : Terms) → first_has Any ts ≡ false → A
-any_fits ts h = let k = all_match ts in absurd (cc)
-
-arguments_clash : (f g : List ℕ) (t u : Term) (ts us : Terms) (r : ℕ → Term) → has_key (key_of t) u ≡ false → unifier ((Compound f (more t ts), apply r (Compound g (more u us))) ∷ []) ≡ None
-arguments_clash f g t u ts us r h =
-    unifier-first (Compound f (more t ts)) (apply r (Compound g (more u us))) []
-    ∙ opened_clash t (apply r u) (pairs ts (apply_all r us)) (same_name f g && count (more t ts) == count (more (apply r u) (apply_all r us))) (other_key t u r h)
-
--- a head whose first argument has another key
-key_clash : (goal head : Term) (r : ℕ → Term) → may_match (head_key goal) head ≡ false → unifier ((goal, apply r head) ∷ []) ≡ None
-key_clash (VarTerm n) head r h = any_fits (arguments head) h
-key_clash (IntTerm z) head r h = any_fits (arguments head) h
-key_clash (AtomTerm a) head r h = any_fits (arguments head) h
-key_clash (Compound f end) head r h = any_fits (arguments head) h
-key_clash (Compound f (more t ts)) (VarTerm n) r h = cc
-key_clash (Compound f (more t ts)) (IntTerm z) r h = cc
-key_clash (Compound f (more t ts)) (AtomTerm a) r h = cc
-key_clash (Compound f (more t ts)) (Compound g end) r h = cc
-key_clash (Compound f (more t ts)) (Compound g (more u us)) r h = arguments_clash f g t u ts us r h
+use Rattle.proc_index.proofs.KeyClashLemmas.{any_fits, key_clash}
 
 none_unified : (o : Option Substitution) (f : Continuation ℕ) → unified o f ≡ [] → o ≡ None
 none_unified None f h = refl

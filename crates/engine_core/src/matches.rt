@@ -7,7 +7,6 @@ ghost use Rattle.au_term.specs.Term.{var_bound};
 ghost use Rattle.au_model.specs.Terms.Each.{Each};
 ghost use Rattle.au_model.specs.Terms.Substitutions.{resolve};
 ghost use Rattle.run_model.specs.Goals.Outcomes.{alternatives_of};
-ghost use Rattle.run_model.specs.Goals.DatabaseGoals.{clause_match};
 ghost use Rattle.run_model.specs.Programs.Databases.{plain_clauses};
 ghost use Rattle.clause_compile.specs.CompiledClauses.{shown};
 ghost use Rattle.clause_compile.specs.declared.item.Scope.{Scope};
@@ -15,7 +14,7 @@ ghost use Rattle.bind_store.specs.StoreView.{substitution, IsValidStore, Continu
 ghost use Rattle.bind_store.specs.UnificationSteps.{AreOlderThan};
 ghost use Rattle.engine_core.specs.Branches.{AreSolved, IsItemBelow, IsRemovalBefore};
 ghost use Rattle.engine_core.specs.Attempts.{AreSolvedBy, IsTried, equation_in};
-ghost use Rattle.engine_core.specs.Matches.{matches_of, removal_of, clause_number};
+ghost use Rattle.engine_core.specs.Matches.{match_in, matches_of, removal_of, clause_number};
 
 use crate::procedure::try_clause;
 use crate::told_apart::told_apart;
@@ -101,7 +100,7 @@ fn try_match(
     requires head { var_bound head.now ≤ store.old.next }
     requires body { var_bound body.now ≤ store.old.next }
     requires rest { Each (IsItemBelow store.old.next) rest.now }
-    ensures tried { IfOk result (λ branch. (here : Scope) → IsTried here rest.now store.old (clause_match (option_map clause_number removed) (resolve (substitution store.old) head.now) (resolve (substitution store.old) body.now) store.old.next clause.now) branch) }
+    ensures tried { IfOk result (λ branch. (here : Scope) → IsTried here rest.now store.old (match_in store.old removed head.now body.now clause.now) branch) }
     ensures store { store.new ≡ store.old }
 {
     if told_apart(head, clause.head(), store) {
@@ -126,7 +125,7 @@ fn match_branch(
     requires head { var_bound head.now ≤ store.old.next }
     requires body { var_bound body.now ≤ store.old.next }
     requires rest { Each (IsItemBelow store.old.next) rest.now }
-    ensures tried { IfOk result (λ branch. (here : Scope) → IsTried here rest.now store.old (clause_match (option_map clause_number removed) (resolve (substitution store.old) head.now) (resolve (substitution store.old) body.now) store.old.next clause.now) branch) }
+    ensures tried { IfOk result (λ branch. (here : Scope) → IsTried here rest.now store.old (match_in store.old removed head.now body.now clause.now) branch) }
     ensures sound { IsValidStore store.old }
     ensures since { Continues store.old store.new }
 {

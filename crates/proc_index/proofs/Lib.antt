@@ -3,3 +3,4 @@ pub mod KeyLemmas
 pub mod IndexLemmas
 pub mod LawLemmas
 pub mod TakenLemmas
+pub mod KeyClashLemmas

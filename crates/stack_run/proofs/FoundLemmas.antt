@@ -26,6 +26,7 @@ use Rattle.op_table.specs.declared.operator.OpRow.{OpRow}
 use Rattle.engine_core.specs.Branches.{AreSolved, none_left, one_fails, one_solves}
 use Rattle.effect_gate.specs.Effects.{AreFound, AreFoundBy, AreRowsFor, effect_answer, statics_of, world_meant}
 use Rattle.effect_gate.specs.declared.world.World.{World}
+use Rattle.effect_gate.proofs.FoundClauseLemmas.{called_once}
 use Rattle.stack_run.specs.StackView.{continuation_view, entries_under}
 use Rattle.stack_run.specs.StackInvariant.{IsChoiceFit}
 use Rattle.stack_run.specs.Inferences.{IsWorking, HasEntries, LeavesReply, IsUnhalted, branch_entry, entries_below, following}
@@ -70,13 +71,9 @@ pub solutions_fit : (rest : List Item) (st store : StoreView) (n : ℕ) (ss : Li
 solutions_fit rest st store n ss bs e s h = subst (λ x. Each (λ b. IsChoiceFit x (Branch b)) bs) (sym e) (solved_fit (Local n) rest st ss bs s h)
 
 -- the clauses of a call
-called_clauses : (goal : Term) (next : ℕ) (cs : List NumberedClause) → alternatives_of (plain_clauses cs) goal next ≡ map (λ c. clause_solution goal next c.clause) cs
-called_clauses goal next [] = refl
-called_clauses goal next (c ∷ cs) = ap (λ ss. clause_solution goal next c.clause ∷ ss) (called_clauses goal next cs)
-
 pub called_found : (n : ℕ) (rest : List Item) (st : StoreView) (goal : Term) (next : ℕ) (found : List NumberedClause) (bs : List BranchTerms) → AreSolved (Local n) rest st (alternatives_of (plain_clauses found) goal next) bs
     → AreSolved (Local n) rest st (map (λ c. clause_solution goal next c.clause) found) bs
-called_found n rest st goal next found bs h = subst (λ ss. AreSolved (Local n) rest st ss bs) (called_clauses goal next found) h
+called_found n rest st goal next found bs h = subst (λ ss. AreSolved (Local n) rest st ss bs) (called_once goal next found) h
 
 pub reply_as : (reply other : Reply) (rest : List Item) (old new : Stack) → reply ≡ other → LeavesReply other rest old new → LeavesReply reply rest old new
 reply_as reply other rest old new e l = subst (λ r. LeavesReply r rest old new) (sym e) l

@@ -9,7 +9,7 @@ use Rattle.bind_store.specs.declared.store.Mark.{Mark}
 use Rattle.stack_run.specs.StackView.{stored_at, choice_view, frames_view}
 use Rattle.clause_compile.specs.declared.event.Branch.{Branch}
 use Rattle.bind_store.proofs.WalkLemmas.{reverse-push}
-use Rattle.stack_run.specs.ChoicePoints.{branch_frame, IsTaken}
+use Rattle.stack_run.specs.ChoicePoints.{branch_frame, IsTopTaken}
 use Rattle.stack_run.specs.StackInvariant.{IsChoiceFit, IsMarkBelow, AreFit}
 use Rattle.stack_run.specs.declared.frame.Choice.{Choice}
 use Rattle.stack_run.specs.declared.frame.Frame.{Frame}
@@ -23,13 +23,6 @@ stored_now st = stored st.next (take_all (length st.earlier) st.earlier (omega a
 
 pub continues_same : (st : StoreView) → Continues st st
 continues_same st = record { more = []; is = refl; next = omega arith }
-
-pub continues_twice : (a b c : StoreView) → Continues a b → Continues b c → Continues a c
-continues_twice a b c h k = record {
-  more = h.more ++ k.more;
-  is = k.is ∙ (sym (append_assoc b.earlier (b.bound ∷ []) k.more) ∙ (ap (λ ss. ss ++ k.more) h.is ∙ append_assoc a.earlier (a.bound ∷ h.more) k.more));
-  next = omega (arith, h.next, k.next);
-}
 
 -- a mark names the same store as the store goes on
 pub stored_further : (mark : Mark) (st further : StoreView) → mark.made ≤ length st.earlier → Continues st further → stored_at mark further ≡ stored_at mark st
@@ -100,7 +93,7 @@ length-frames own st [] = refl
 length-frames own st (f ∷ fs) = ap (λ n. suc n) (length-frames own (stored_at f.mark st) fs)
 
 -- what was on top
-pub taken_top : (st : StoreView) (frames left : List Frame) (new : StoreView) (f : Frame) → frames ≡ left ++ f ∷ [] → new ≡ stored_at f.mark st → AreFit st (reverse frames) → IsTaken st frames new left f.choice
+pub taken_top : (st : StoreView) (frames left : List Frame) (new : StoreView) (f : Frame) → frames ≡ left ++ f ∷ [] → new ≡ stored_at f.mark st → AreFit st (reverse frames) → IsTopTaken st frames new left f.choice
 taken_top st frames left new f e n h =
     let turned : reverse frames ≡ f ∷ reverse left = ap reverse e ∙ reverse-push left f in
     let fit = subst (AreFit st) turned h in

@@ -35,7 +35,7 @@ use Rattle.engine_core.specs.declared.reduction.Reduction.{Reduction}
 use Rattle.engine_core.specs.declared.reduction.Reduction.TheVariants as reduction
 use Rattle.stack_run.specs.StackView.{item_view, items_view, continuation_view, entries_under, scope_height}
 use Rattle.stack_run.specs.StackInvariant.{IsChoiceFit}
-use Rattle.stack_run.specs.Inferences.{IsWorking, HasEntries, LeavesEntries, TakesItem, IsNoMark, IsOpeningBelow, branch_entry, cut_of, following, is_end, item_entries, item_world, item_halt, opened_form, outcome_entries, outcome_world, outcome_halt, entries_below}
+use Rattle.stack_run.specs.Inferences.{IsWorking, HasEntries, LeavesEntries, TakesItem, IsNoMark, IsOpeningBelow, branch_entry, cut_of, following, is_end_item, item_entries, item_world, item_halt, opened_form, outcome_entries, outcome_world, outcome_halt, entries_below}
 use Rattle.stack_run.specs.declared.frame.Choice.TheVariants.{Branch}
 use Rattle.stack_run.specs.declared.frame.Stack.{Stack}
 use Rattle.stack_run.proofs.ContinuationLemmas.{solved_entries, solved_fit, onward_entry, takes_fit, length-under}
@@ -240,7 +240,7 @@ module _ (clauses : List Clause) (w : World) where
         halts = ap (λ r. halt_number r.1) asked ∙ ap (λ o. outcome_halt (static_among clauses) w o st.next) (sym is);
       }
 
-  gate_is : (own : List NamedTerm) (item : Item) (here : Scope) (rest : List Item) (st : StoreView) (e : Effect) → is_end item ≡ false → IsReduced clauses here rest st item (reduction.Gate e) → GateIs own item rest st e
+  gate_is : (own : List NamedTerm) (item : Item) (here : Scope) (rest : List Item) (st : StoreView) (e : Effect) → is_end_item item ≡ false → IsReduced clauses here rest st item (reduction.Gate e) → GateIs own item rest st e
   gate_is own (Goal t cut) here rest st e n h = gate_goal own t cut here rest st (outcome_of clauses (resolve (substitution st) t) st.next) e refl h
   gate_is own (CatchEnd s) here rest st e n h = absurd h
   gate_is own (Collect t s) here rest st e n h = absurd h
@@ -261,7 +261,7 @@ module _ (clauses : List Clause) (w : World) where
   effect_goal cut here rest st t (Controls (FindallOf x y z)) e s b g h = absurd h
   effect_goal cut here rest st t (AskWorld goal) e s b g h = effect_in st t s b e (subst (λ u. AsksWorld u e) (g goal refl) h)
 
-  pub gate_in : (item : Item) (here : Scope) (rest : List Item) (st : StoreView) (e : Effect) → IsValidStore st → IsItemBelow st.next item → is_end item ≡ false → IsReduced clauses here rest st item (reduction.Gate e) → IsEffectIn st e
+  pub gate_in : (item : Item) (here : Scope) (rest : List Item) (st : StoreView) (e : Effect) → IsValidStore st → IsItemBelow st.next item → is_end_item item ≡ false → IsReduced clauses here rest st item (reduction.Gate e) → IsEffectIn st e
   gate_in (Goal t cut) here rest st e s b n h =
       effect_goal cut here rest st t (outcome_of clauses (resolve (substitution st) t) st.next) e s b (λ goal. asked_itself clauses (resolve (substitution st) t) st.next goal) h
   gate_in (CatchEnd x) here rest st e s b n h = absurd h
@@ -318,7 +318,7 @@ module _ (clauses : List Clause) (w : World) where
       (λ own. ap (λ k. after_control (opened_form old.store op) (scope_height k) (following old rest own) (entries_below old own)) c ∙ open_item own item here rest old.store op (entries_below old own) h)
       (subst (λ st. HasEntries (λ own. after_control (opened_form st op) (scope_height cut) (continuation_view own st rest) (entries_under own st old.frames.items old.end)) new) e l)
 
-  pub gate_left : (item : Item) (here : Scope) (rest : List Item) (old new : Stack) (store : StoreView) (g : Effect) (statics : Statics) (after : World) (halted : Option ℕ) → store ≡ old.store → statics ≡ static_among clauses → is_end item ≡ false
+  pub gate_left : (item : Item) (here : Scope) (rest : List Item) (old new : Stack) (store : StoreView) (g : Effect) (statics : Statics) (after : World) (halted : Option ℕ) → store ≡ old.store → statics ≡ static_among clauses → is_end_item item ≡ false
       → IsReduced clauses here rest old.store item (reduction.Gate g)
       → LeavesEntries (λ own. after_reply (effect_answer statics g store.next w).1 (continuation_view own store rest) (entries_under own store old.frames.items old.end)) new
       → after ≡ (effect_answer statics g store.next w).0 → halted ≡ halt_number (effect_answer statics g store.next w).1 → TakesItem clauses item rest old new w after halted
@@ -350,7 +350,7 @@ module _ (clauses : List Clause) (w : World) where
   outcome_same cut here rest st (AskWorld goal) (reduction.Collect x) next h g = absurd h
   outcome_same cut here rest st (AskWorld goal) (reduction.Gate e) next h g = absurd g
 
-  item_same : (item : Item) (here : Scope) (rest : List Item) (st : StoreView) (r : Reduction) → is_end item ≡ false → IsReduced clauses here rest st item r → IsNoGate r
+  item_same : (item : Item) (here : Scope) (rest : List Item) (st : StoreView) (r : Reduction) → is_end_item item ≡ false → IsReduced clauses here rest st item r → IsNoGate r
       → (w ≡ item_world clauses w (item_view (substitution st) item) st.next) × (None ≡ item_halt clauses w (item_view (substitution st) item) st.next)
   item_same (Goal t cut) here rest st r n h g = outcome_same cut here rest st (outcome_of clauses (resolve (substitution st) t) st.next) r st.next h g
   item_same (CatchEnd s) here rest st r n h g = (refl, refl)
@@ -363,14 +363,14 @@ module _ (clauses : List Clause) (w : World) where
   item_same (Remove id) here rest st (reduction.Gate e) n h g = absurd g
   item_same (End ball) here rest st r n h g = absurd cc
 
-  pub takes_plainly : (item : Item) (here : Scope) (rest : List Item) (old new : Stack) (r : Reduction) (halted : Option ℕ) → is_end item ≡ false → IsReduced clauses here rest old.store item r → IsNoGate r → halted ≡ None
+  pub takes_plainly : (item : Item) (here : Scope) (rest : List Item) (old new : Stack) (r : Reduction) (halted : Option ℕ) → is_end_item item ≡ false → IsReduced clauses here rest old.store item r → IsNoGate r → halted ≡ None
       → HasEntries (λ own. item_entries clauses w (item_view (substitution old.store) item) (following old rest own) (entries_below old own)) new → TakesItem clauses item rest old new w w halted
   takes_plainly item here rest old new r halted n h g k l =
       let same = item_same item here rest old.store r n h g in
       record { entries = record { view = l.view; fit = l.fit }; world = same.0; halts = k ∙ same.1 }
 
   -- the end of a query fails as an item
-  pub end_fails : (item : Item) (rest : List Item) (s : Stack) → IsWorking s → is_end item ≡ true → TakesItem clauses item rest s s w w None
+  pub end_fails : (item : Item) (rest : List Item) (s : Stack) → IsWorking s → is_end_item item ≡ true → TakesItem clauses item rest s s w w None
   unfolding outcome_of
   end_fails (Goal t cut) rest s k h = absurd cc
   end_fails (CatchEnd x) rest s k h = absurd cc

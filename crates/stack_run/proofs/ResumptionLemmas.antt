@@ -23,7 +23,7 @@ use Rattle.engine_core.specs.Branches.{IsItemBelow}
 use Rattle.engine_core.proofs.SolutionLemmas.{items_further}
 use Rattle.stack_run.specs.StackView.{item_view, continuation_view, frames_view, current_view, end_view, entries_under, stack_view, scope_height}
 use Rattle.stack_run.specs.StackInvariant.{IsFit, AreFit, IsChoiceFit, IsCurrentFit}
-use Rattle.stack_run.specs.ChoicePoints.{IsTaken}
+use Rattle.stack_run.specs.ChoicePoints.{IsTopTaken}
 use Rattle.stack_run.specs.FreeStepsTaken.{IsFreeStep, FindallEnds, with_current, begins_with_mark, result_in_front, free_steps_left}
 use Rattle.stack_run.specs.declared.frame.Choice.TheVariants.{Branch, Findall as FindallChoice}
 use Rattle.stack_run.specs.declared.frame.Findall.{Findall}
@@ -45,7 +45,7 @@ pub nothing_at_hand : (own : List NamedTerm) (s : Stack) → s.current ≡ None 
 nothing_at_hand own s e = ap (λ o. current_view own s.store o ++ entries_under own s.store s.frames.items s.end) e
 
 -- an alternative is run
-pub branch_resumes : (old : Stack) (left : Vec Frame Global) (st new : StoreView) (b : BranchTerms) → IsTaken old.store old.frames.items st left.items (Branch b) → HasSegment b.segment st new → IsFit old → old.current ≡ None
+pub branch_resumes : (old : Stack) (left : Vec Frame Global) (st new : StoreView) (b : BranchTerms) → IsTopTaken old.store old.frames.items st left.items (Branch b) → HasSegment b.segment st new → IsFit old → old.current ≡ None
     → IsFreeStep old (record { store = new; current = Some b.goals; frames = left; end = old.end }) false
 branch_resumes old left st new b t n h e = record {
   view = λ own. ap take_free_steps (nothing_at_hand own old e ∙ (ap (λ es. es ++ end_view old.end) (t.view own)

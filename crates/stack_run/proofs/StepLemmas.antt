@@ -33,7 +33,7 @@ use Rattle.bind_store.proofs.ApplyLemmas.{resolve_none}
 use Rattle.engine_core.specs.Branches.{IsItemBelow}
 use Rattle.term_writer.specs.AnswerParts.{named_term, named_terms}
 use Rattle.au_model.specs.Terms.Named.{variable_meant}
-use Rattle.effect_gate.specs.Effects.{removed}
+use Rattle.effect_gate.specs.Effects.{clause_removed}
 use Rattle.stack_run.specs.StackView.{item_view, items_view, continuation_view, frames_view, end_view, entries_under, stack_view}
 use Rattle.stack_run.specs.StackInvariant.{IsFit, AreFit, IsCurrentFit}
 use Rattle.stack_run.specs.FreeStepsTaken.{IsResting, with_current}
@@ -177,7 +177,7 @@ goal_goes clauses (Controls form) h f es w answers inferences qs all = refl
 goal_goes clauses (AskWorld goal) h f es w answers inferences qs all = refl
 
 removal_goes : (o : Option Database) (f : Continuation ℕ) (es : List Entry) (w : WorldTerms) (answers inferences : ℕ) (qs : List Query) (all : List Entry)
-    → removal_taken o f es (state_of w None answers inferences qs all) ≡ state_of (removed o w).0 (halt_number (removed o w).1) answers (inferences + 1) qs (after_reply (removed o w).1 f es)
+    → removal_taken o f es (state_of w None answers inferences qs all) ≡ state_of (clause_removed o w).0 (halt_number (clause_removed o w).1) answers (inferences + 1) qs (after_reply (clause_removed o w).1 f es)
 removal_goes (Some db) f es w answers inferences qs all = ap (state_of (record w { database = db }) None answers (inferences + 1) qs) (sym (once_goes_on f es))
 removal_goes None f es w answers inferences qs all = refl
 
@@ -207,8 +207,8 @@ front_entries clauses front w (CatchMark h) f es = (refl, refl, refl)
 front_entries clauses front w (CollectMark t h) f es = (refl, refl, refl)
 front_entries clauses front w (RemovalItem n) f es = by (without_clause n w.database)
   where
-    by : (o : Option Database) → ((removed o (with_front front w)).0 ≡ with_front front (removed o w).0) × (halt_number (removed o (with_front front w)).1 ≡ halt_number (removed o w).1)
-        × (after_reply (removed o (with_front front w)).1 f es ≡ after_reply (removed o w).1 f es)
+    by : (o : Option Database) → ((clause_removed o (with_front front w)).0 ≡ with_front front (clause_removed o w).0) × (halt_number (clause_removed o (with_front front w)).1 ≡ halt_number (clause_removed o w).1)
+        × (after_reply (clause_removed o (with_front front w)).1 f es ≡ after_reply (clause_removed o w).1 f es)
     by (Some db) = (refl, refl, refl)
     by None = (refl, refl, refl)
 

@@ -21,7 +21,7 @@ use Rattle.engine_core.specs.Branches.{IsItemBelow}
 use Rattle.engine_core.proofs.SolutionLemmas.{items_further}
 use Rattle.stack_run.specs.StackView.{item_view, items_view, continuation_view, choice_view, frames_view, end_view, entries_under}
 use Rattle.stack_run.specs.StackInvariant.{AreFit, IsChoiceFit}
-use Rattle.stack_run.specs.ChoicePoints.{IsTaken}
+use Rattle.stack_run.specs.ChoicePoints.{IsTopTaken}
 use Rattle.stack_run.specs.Inferences.{IsWorking, HasEnd, HasEntries, IsCatchOf, IsRecovered, height_at, entries_below, following, marked_place}
 use Rattle.stack_run.specs.declared.frame.Catch.{Catch}
 use Rattle.stack_run.specs.declared.frame.Choice.{Choice}
@@ -29,7 +29,8 @@ use Rattle.stack_run.specs.declared.frame.Choice.TheVariants.{Catch as CatchChoi
 use Rattle.stack_run.specs.declared.frame.Frame.{Frame}
 use Rattle.stack_run.specs.declared.frame.Stack.{Stack}
 use Rattle.stack_run.proofs.CopyLemmas.{copy_stays}
-use Rattle.stack_run.proofs.FrameLemmas.{fit_further, view_further, continues_twice}
+use Rattle.engine_core.proofs.MatchLemmas.{continues_twice}
+use Rattle.stack_run.proofs.FrameLemmas.{fit_further, view_further}
 use Rattle.stack_run.proofs.ResumptionLemmas.{numbers_continue}
 use Rattle.stack_run.proofs.ContinuationLemmas.{continuation_further, length-under}
 
@@ -118,16 +119,16 @@ caught_entry ball own st catch place es l =
     let same : (suc place == length es) ≡ true = eq-eqb (suc place) (length es) (sym l) in
     ap (λ b. recovered (cond b u None) ball r f es (unwound ball (cond b (first_mark f.items) (Some (suc place))) es)) same
 
-pub taken_under : (own : List NamedTerm) (old : Stack) (left : List Frame) (st : StoreView) (choice : Choice) → IsTaken old.store old.frames.items st left choice
+pub taken_under : (own : List NamedTerm) (old : Stack) (left : List Frame) (st : StoreView) (choice : Choice) → IsTopTaken old.store old.frames.items st left choice
     → entries_below old own ≡ choice_view own st choice ∷ entries_under own st left old.end
 taken_under own old left st choice t = ap (λ es. es ++ end_view old.end) (t.view own)
 
-pub lands_past : (ball : Term) (old : Stack) (left : List Frame) (st : StoreView) (choice : Choice) (mark : Option ℕ) (place : ℕ) → IsTaken old.store old.frames.items st left choice → IsCatchOf choice mark place None
+pub lands_past : (ball : Term) (old : Stack) (left : List Frame) (st : StoreView) (choice : Choice) (mark : Option ℕ) (place : ℕ) → IsTopTaken old.store old.frames.items st left choice → IsCatchOf choice mark place None
     → place ≡ length left → HasEnd old → (own : List NamedTerm) → unwound ball (height_at mark) (entries_under own st left old.end) ≡ unwound ball (height_at mark) (entries_below old own)
 lands_past ball old left st choice mark place t k p e own =
     sym (ap (unwound ball (height_at mark)) (taken_under own old left st choice t) ∙ k own st ball (entries_under own st left old.end) (length-under own st left old.end e.0 e.1 ∙ ap (λ n. suc n) (sym p)))
 
-lands_there : (ball : Term) (own : List NamedTerm) (old : Stack) (left : List Frame) (st : StoreView) (choice : Choice) (catch : Catch) (mark : Option ℕ) (place : ℕ) → IsTaken old.store old.frames.items st left choice
+lands_there : (ball : Term) (own : List NamedTerm) (old : Stack) (left : List Frame) (st : StoreView) (choice : Choice) (catch : Catch) (mark : Option ℕ) (place : ℕ) → IsTopTaken old.store old.frames.items st left choice
     → IsCatchOf choice mark place (Some catch) → place ≡ length left → HasEnd old
     → unwound ball (height_at mark) (entries_below old own)
     ≡ recovered (unifier ((resolve (substitution st) catch.catcher, copied ball st.next) ∷ [])) ball (resolve (substitution st) catch.recovery) (continuation_view own st catch.rest) (entries_under own st left old.end) (unwound ball (first_mark (items_view st catch.rest)) (entries_under own st left old.end))
@@ -137,14 +138,14 @@ lands_there ball own old left st choice catch mark place t k p e =
     ∙ (ap (λ ch. unwound ball (Some (suc place)) (choice_view own st ch ∷ entries_under own st left old.end)) k.0
     ∙ caught_entry ball own st catch place (entries_under own st left old.end) (length-under own st left old.end e.0 e.1 ∙ ap (λ n. suc n) (sym p))))
 
-pub lands_on : (ball : Term) (old : Stack) (left : Vec Frame Global) (st : StoreView) (choice : Choice) (catch : Catch) (mark : Option ℕ) (place : ℕ) (new : Stack) → IsTaken old.store old.frames.items st left.items choice
+pub lands_on : (ball : Term) (old : Stack) (left : Vec Frame Global) (st : StoreView) (choice : Choice) (catch : Catch) (mark : Option ℕ) (place : ℕ) (new : Stack) → IsTopTaken old.store old.frames.items st left.items choice
     → IsCatchOf choice mark place (Some catch) → place ≡ length left.items → HasEnd old → IsRecovered ball catch (record { store = st; current = old.current; frames = left; end = old.end }) new true
     → HasEntries (λ own. unwound ball (height_at mark) (entries_below old own)) new
 lands_on ball old left st choice catch mark place new t k p e r =
     let l = r (λ own. unwound ball (first_mark (items_view st catch.rest)) (entries_under own st left.items old.end)) in
     record { view = λ own. l.view own ∙ sym (lands_there ball own old left.items st choice catch mark place t k p e); fit = l.fit; ending = l.ending }
 
-pub lands_further : (ball : Term) (old : Stack) (left : Vec Frame Global) (st : StoreView) (choice : Choice) (catch : Catch) (mark behind : Option ℕ) (place : ℕ) (new : Stack) → IsTaken old.store old.frames.items st left.items choice
+pub lands_further : (ball : Term) (old : Stack) (left : Vec Frame Global) (st : StoreView) (choice : Choice) (catch : Catch) (mark behind : Option ℕ) (place : ℕ) (new : Stack) → IsTopTaken old.store old.frames.items st left.items choice
     → IsCatchOf choice mark place (Some catch) → place ≡ length left.items → HasEnd old → IsRecovered ball catch (record { store = st; current = old.current; frames = left; end = old.end }) new false
     → ((s : Substitution) → height_at behind ≡ first_mark (map (item_view s) catch.rest))
     → (own : List NamedTerm) → unwound ball (height_at behind) (entries_below new own) ≡ unwound ball (height_at mark) (entries_below old own)
@@ -160,7 +161,7 @@ lands_further ball old left st choice catch mark behind place new t k p e r b ow
         ∙ (ap (λ en. frames_view own new.store (reverse left.items) ++ end_view en) r.5
         ∙ ap (λ es. es ++ end_view old.end) (view_further own st new.store (reverse left.items) t.under r.1))
 
-pub further_fit : (ball : Term) (old : Stack) (left : Vec Frame Global) (st : StoreView) (choice : Choice) (catch : Catch) (new : Stack) → IsTaken old.store old.frames.items st left.items choice
+pub further_fit : (ball : Term) (old : Stack) (left : Vec Frame Global) (st : StoreView) (choice : Choice) (catch : Catch) (new : Stack) → IsTopTaken old.store old.frames.items st left.items choice
     → IsRecovered ball catch (record { store = st; current = old.current; frames = left; end = old.end }) new false → AreFit new.store (reverse new.frames.items)
 further_fit ball old left st choice catch new t r =
     subst (λ (fs : Vec Frame Global). AreFit new.store (reverse fs.items)) (sym r.4) (fit_further st new.store (reverse left.items) t.under r.1)

@@ -14,7 +14,7 @@ abbrev pub branch_frame : Mark → BranchTerms → Frame
 branch_frame mark b = record { mark = mark; choice = Branch b }
 
 -- the top choice point over the store as it was then, and the frames that were under it
-pub record IsTaken (old : StoreView) (frames : List Frame) (new : StoreView) (left : List Frame) (top : Choice) : Type 0 where
+pub record IsTopTaken (old : StoreView) (frames : List Frame) (new : StoreView) (left : List Frame) (top : Choice) : Type 0 where
   pub view : (own : List NamedTerm) → frames_view own old (reverse frames) ≡ choice_view own new top ∷ frames_view own new (reverse left)
   pub sound : IsValidStore new
   pub choice : IsChoiceFit new top
@@ -23,4 +23,4 @@ pub record IsTaken (old : StoreView) (frames : List Frame) (new : StoreView) (le
 
 abbrev pub IsPopped : StoreView → List Frame → StoreView → List Frame → Option Choice → Type 0
 IsPopped old frames new left None = (frames ≡ []) × (left ≡ []) × (new ≡ old)
-IsPopped old frames new left (Some choice) = IsTaken old frames new left choice
+IsPopped old frames new left (Some choice) = IsTopTaken old frames new left choice

@@ -1,13 +1,17 @@
 -- Effects, and what they leave.
-use Rattle.std.specs.Prelude.{◌≡◌, ℕ, ◌≤◌, List, [], Option, Some, None}
+use Rattle.std.specs.Prelude.{◌≡◌, ℕ, ◌≤◌, List, [], Option, Some, None, map}
 use Rattle.au_term.specs.Term.{Term, var_bound}
 use Rattle.au_model.specs.Terms.Named.{NamedTerm}
 use Rattle.au_model.specs.Terms.Substitutions.{resolve}
+use Rattle.run_model.specs.Goals.OperatorGoals.{operator_solution}
+use Rattle.run_model.specs.Goals.Outcomes.{Solution}
 use Rattle.run_model.specs.Machine.Heights.{after_reply}
 use Rattle.run_model.specs.Machine.States.{halt_number}
 use Rattle.clause_compile.specs.declared.event.Effect.{Effect}
 use Rattle.clause_compile.specs.declared.event.Effect.TheVariants as effect
 use Rattle.clause_compile.specs.declared.item.Item.{Item}
+use Rattle.op_table.specs.OperatorView.{row_meant}
+use Rattle.op_table.specs.declared.operator.OpRow.{OpRow}
 use Rattle.bind_store.specs.StoreView.{StoreView, substitution}
 use Rattle.effect_gate.specs.Effects.{effect_answer, statics_of, world_meant}
 use Rattle.effect_gate.specs.declared.world.World.{World}
@@ -15,11 +19,16 @@ use Rattle.stack_run.specs.StackView.{stack_view}
 use Rattle.stack_run.specs.StackInvariant.{IsFit}
 use Rattle.stack_run.specs.Inferences.{LeavesEntries, entries_below, following}
 use Rattle.stack_run.specs.declared.frame.Stack.{Stack}
+use Rattle.stack_run.specs.declared.rows.Asked.{Asked}
 
 -- a term of unbound variables below the next number
 pub record IsTermIn (st : StoreView) (t : Term) : Type 0 where
   pub below : var_bound t ≤ st.next
   pub resolved : resolve (substitution st) t ≡ t
+
+-- a solution for each operator, by what it is asked for
+abbrev pub solutions_asked : Asked → List OpRow → List Solution
+solutions_asked asked rows = map (operator_solution asked.priority.now asked.specifier.now asked.name.now) (map row_meant rows)
 
 -- the terms that an effect has unified are such
 abbrev pub IsEffectIn : StoreView → Effect → Type 0

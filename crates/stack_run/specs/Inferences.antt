@@ -13,7 +13,7 @@ use Rattle.au_model.specs.Terms.Unifier.{unifier}
 use Rattle.run_model.specs.Goals.Worlds.{World, Statics, static_among, effect_on}
 use Rattle.run_model.specs.Programs.Databases.{without_clause}
 use Rattle.run_model.specs.Machine.States.{halt_number}
-use Rattle.effect_gate.specs.Effects.{removed}
+use Rattle.effect_gate.specs.Effects.{clause_removed}
 use Rattle.run_model.specs.Machine.Items.{Item as ItemTerms, GoalItem, CatchMark, CollectMark, RemovalItem, Continuation}
 use Rattle.run_model.specs.Machine.Balls.{unwound, recovered}
 use Rattle.run_model.specs.Machine.Entries.{Entry}
@@ -101,7 +101,7 @@ outcome_halt statics w (AskWorld goal) next = halt_number (effect_on statics goa
 
 -- the removal of a clause
 abbrev pub removal_answer : ℕ → World → World × Reply
-removal_answer number w = removed (without_clause number w.database) w
+removal_answer number w = clause_removed (without_clause number w.database) w
 
 -- the same three by the item in front, where these are the clauses of the text
 abbrev pub item_entries : List Clause → World → ItemTerms ℕ → Continuation ℕ → List Entry → List Entry
@@ -123,12 +123,12 @@ item_halt clauses w (CollectMark t h) next = None
 item_halt clauses w (RemovalItem n) next = halt_number (removal_answer n w).1
 
 -- whether an item is a query's end
-abbrev pub is_end : Item → Bool
-is_end (Goal t cut) = false
-is_end (CatchEnd scope) = false
-is_end (Collect t scope) = false
-is_end (Remove id) = false
-is_end (End ball) = true
+abbrev pub is_end_item : Item → Bool
+is_end_item (Goal t cut) = false
+is_end_item (CatchEnd scope) = false
+is_end_item (Collect t scope) = false
+is_end_item (Remove id) = false
+is_end_item (End ball) = true
 
 -- what was done, and that it halts nothing
 abbrev pub IsUnhalted : {E : Type 0} → Result (Unit {0}) E → Result (Option ℕ) E → Type 0

@@ -86,5 +86,5 @@ IsRunStepFrom program before m =
     (written : List ℕ) (inferences : ℕ) → state_view program m written (inferences + 1) ≡ with_free_steps (step (arc_value program.procs) (before written inferences))
 
 -- the job of a program that begins in this world
-abbrev pub job_of : Program → World → Job
-job_of program w = record { clauses = arc_value program.procs; database = w.database; operators = w.operators; queries = program.queries.items }
+abbrev pub program_job : Program → World → Job
+program_job program w = record { clauses = arc_value program.procs; database = w.database; operators = w.operators; queries = program.queries.items }

@@ -17,7 +17,7 @@ ghost use Rattle.bind_store.specs.StoreView.{substitution};
 ghost use Rattle.engine_core.specs.Branches.{IsItemBelow};
 ghost use Rattle.stack_run.specs.StackView.{items_view, item_view, scope_height};
 ghost use Rattle.stack_run.specs.StackInvariant.{IsChoiceFit};
-ghost use Rattle.stack_run.specs.Inferences.{IsWorking, HasEntries, IsNoMark, branch_entry, cut_of, following, is_end, entries_below, IsUnhalted, TakesItem};
+ghost use Rattle.stack_run.specs.Inferences.{IsWorking, HasEntries, IsNoMark, branch_entry, cut_of, following, is_end_item, entries_below, IsUnhalted, TakesItem};
 
 use crate::effects::pass_gate;
 use crate::frame::{Choice, Stack};
@@ -49,7 +49,7 @@ pub(crate) fn infer(
     ensures takes { IfOk result (TakesItem procs.now item.now rest.now stack.old stack.new (world_meant world.old) (world_meant world.new)) }
     ensures statics { world.new.database.statics ≡ world.old.database.statics }
 {
-    if is_end(item) {
+    if is_end_item(item) {
         return Ok(None);
     }
     let here = Scope::Local(stack.frames.len() as u64);
@@ -64,8 +64,8 @@ pub(crate) fn infer(
 }
 
 /// Whether an item is the end of a query. The end is kept under the stack, so as an item it fails.
-fn is_end(item: &Item) -> bool
-    ensures { result ≡ is_end item.now }
+fn is_end_item(item: &Item) -> bool
+    ensures { result ≡ is_end_item item.now }
 {
     match item {
         Item::End(_) => true,

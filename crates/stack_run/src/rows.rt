@@ -7,7 +7,7 @@ ghost use Rattle.run_model.specs.Goals.OperatorGoals.{operator_solution, specifi
 ghost use Rattle.op_table.specs.OperatorView.{kind_meant, row_meant};
 ghost use Rattle.std_builtins.specs.Answers.{solution_meant};
 ghost use Rattle.engine_core.specs.Branches.{AreSolved, IsItemBelow};
-ghost use Rattle.stack_run.specs.EffectsTaken.{IsTermIn};
+ghost use Rattle.stack_run.specs.EffectsTaken.{IsTermIn, solutions_asked};
 
 use au_model::build::atom;
 use au_term::{Atom, Cell, FlatTerm, NoMemory, TermBuilder};
@@ -38,7 +38,7 @@ pub(crate) fn operators_tried(
     requires specifier { IsTermIn store.old asked.now.specifier.now }
     requires name { IsTermIn store.old asked.now.name.now }
     requires rest { Each (IsItemBelow store.old.next) rest.now }
-    ensures solved { IfOk result (λ branches. (here : Scope) → AreSolved here rest.now store.old (map (operator_solution asked.now.priority.now asked.now.specifier.now asked.now.name.now) (map row_meant rows.now)) branches.items) }
+    ensures solved { IfOk result (λ branches. (here : Scope) → AreSolved here rest.now store.old (solutions_asked asked.now rows.now) branches.items) }
     ensures store { store.new ≡ store.old }
 {
     let solutions = row_solutions(alloc, asked, rows)?;
@@ -51,7 +51,7 @@ fn row_solutions(
     asked: &Asked<'_>,
     rows: &[OpRow],
 ) -> Result<Vec<Solution>, NoMemory>
-    ensures { IfOk result (λ solutions. map solution_meant solutions.items ≡ map (operator_solution asked.now.priority.now asked.now.specifier.now asked.now.name.now) (map row_meant rows.now)) }
+    ensures { IfOk result (λ solutions. map solution_meant solutions.items ≡ solutions_asked asked.now rows.now) }
 {
     let mut solutions = Vec::new(alloc);
     for row in rows {

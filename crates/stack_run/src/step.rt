@@ -15,7 +15,7 @@ ghost use Rattle.stack_run.specs.StackInvariant.{IsFit};
 ghost use Rattle.stack_run.specs.FreeStepsTaken.{with_current};
 ghost use Rattle.stack_run.specs.Inferences.{HasEnd, IsWorking};
 ghost use Rattle.stack_run.specs.ItemsTaken.{IsAtItem};
-ghost use Rattle.stack_run.specs.MachineView.{state_view, taken_view, names_asked, opened_state, ball_of, value_in, job_of, HasStatics, IsReady, IsInferredFrom, IsRunStepFrom};
+ghost use Rattle.stack_run.specs.MachineView.{state_view, taken_view, names_asked, opened_state, ball_of, value_in, program_job, HasStatics, IsReady, IsInferredFrom, IsRunStepFrom};
 
 use crate::frame::{Machine, Program, QueryEnd, Stack};
 use crate::free_steps::take_free_steps;
@@ -33,7 +33,7 @@ use text_load::Query;
 /// The machine before the first inference.
 pub(crate) fn opening(alloc: Global, program: &Program, world: World) -> Result<Machine, NoMemory>
     requires { world.out.items ≡ [] }
-    ensures state { IfOk result (λ m. state_view program.now m [] 0 ≡ with_free_steps (opening (job_of program.now (world_meant world)))) }
+    ensures state { IfOk result (λ m. state_view program.now m [] 0 ≡ with_free_steps (opening (program_job program.now (world_meant world)))) }
     ensures ready { IfOk result (λ m. IsReady m.stack) }
     ensures world { IfOk result (λ m. m.world ≡ world) }
 {

@@ -7,7 +7,7 @@ use Rattle.au_term.specs.declared.cell.Cell.TheVariants.{Int as IntCell, Atom as
 use Rattle.au_model.specs.Terms.Forms.{same_name}
 use Rattle.au_model.proofs.ListFormLemmas.{no_two}
 use Rattle.dyn_clauses.specs.declared.indicator.Indicator.{Indicator}
-use Rattle.text_load.specs.Directives.{indicator_before, indicator_in, indicator_with, is_named}
+use Rattle.text_load.specs.Directives.{indicator_before, indicator_in, indicator_with, has_indicator}
 
 indicator_of_two : (f name : List ℕ) (z : ℤ) (a b : Term) → same_name f (codes "/") ≡ true → top_of a ≡ AtomCell name → top_of b ≡ IntCell z → indicator_with name z ≡ indicator_in (Compound f (more a (more b end)))
 indicator_of_two f name z (AtomTerm n) (IntTerm y) e k h =
@@ -21,7 +21,7 @@ indicator_of_two f name z (VarTerm n) b e k h = let g : ⊥ = cc in absurd g
 indicator_of_two f name z (IntTerm n) b e k h = let g : ⊥ = cc in absurd g
 indicator_of_two f name z (Compound n ts) b e k h = let g : ⊥ = cc in absurd g
 
-pub indicator_is : (t : Term) (name : List ℕ) (z : ℤ) → is_named t (codes "/") 2 ≡ true → top_of (argument 0 t) ≡ AtomCell name → top_of (argument 1 t) ≡ IntCell z → indicator_with name z ≡ indicator_in t
+pub indicator_is : (t : Term) (name : List ℕ) (z : ℤ) → has_indicator t (codes "/") 2 ≡ true → top_of (argument 0 t) ≡ AtomCell name → top_of (argument 1 t) ≡ IntCell z → indicator_with name z ≡ indicator_in t
 indicator_is (VarTerm n) name z e k h = let g : ⊥ = cc in absurd g
 indicator_is (IntTerm n) name z e k h = let g : ⊥ = cc in absurd g
 indicator_is (AtomTerm n) name z e k h = let g : ⊥ = cc in absurd g

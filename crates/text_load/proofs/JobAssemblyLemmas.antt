@@ -9,6 +9,7 @@ use Rattle.au_term.specs.Term.{argument_count}
 use Rattle.au_term.proofs.LogicLemmas.{and-both, both, neither, none_true, not-true, number_same, or_false, same_number}
 use Rattle.au_model.specs.Terms.Each.{Each}
 use Rattle.au_model.specs.Terms.Forms.{same_name, name_of}
+use Rattle.au_model.proofs.ApplyLemmas.{or_right}
 use Rattle.au_model.proofs.EachLemmas.{each-append, each-more}
 use Rattle.run_model.specs.Programs.Clauses.{Clause, is_clause_of, is_defined}
 use Rattle.dyn_clauses.specs.declared.indicator.Indicator.{Indicator}
@@ -43,16 +44,12 @@ each_kept P Q keep g (x ∷ xs) h = go (keep x) refl (each_kept P Q keep g xs h.
 
 -- ---- procedures of a list
 
-or-right-true : (a b : Bool) → b ≡ true → (a || b) ≡ true
-or-right-true true b e = refl
-or-right-true false b e = e
-
 declared_here : (i : Indicator) (is : List Indicator) → is_declared (i ∷ is) i.name i.arity ≡ true
 declared_here i is = ap (λ b. b || is_declared is i.name i.arity) (and-both (same_name i.name i.name) (i.arity == i.arity) (nat_list_eq_equiv.refl i.name) (number_same i.arity))
 
 declared_later : (all is : List Indicator) → ((i : Indicator) → is_declared is i.name i.arity ≡ true → is_declared all i.name i.arity ≡ true) → Each (λ i. is_declared all i.name i.arity ≡ true) is
 declared_later all [] h = tt
-declared_later all (i ∷ is) h = (h i (declared_here i is), declared_later all is (λ j e. h j (or-right-true (same_name j.name i.name && j.arity == i.arity) (is_declared is j.name j.arity) e)))
+declared_later all (i ∷ is) h = (h i (declared_here i is), declared_later all is (λ j e. h j (or_right (same_name j.name i.name && j.arity == i.arity) (is_declared is j.name j.arity) e)))
 
 declared_self : (is : List Indicator) → Each (λ i. is_declared is i.name i.arity ≡ true) is
 declared_self is = declared_later is is (λ i e. e)
@@ -82,7 +79,7 @@ module _ (library text : Loading) (l : AreApart library.declared library.statics
 
   own_free : (i : Indicator) → is_declared text.declared i.name i.arity ≡ true → IsFree i.name i.arity
   own_free i e =
-      let defined = or-right-true (is_defined text.statics i.name i.arity) (is_declared text.declared i.name i.arity) e in
+      let defined = or_right (is_defined text.statics i.name i.arity) (is_declared text.declared i.name i.arity) e in
       both_free i.name i.arity (none_kept (is_clause_of i.name i.arity) (λ c. not (defines text (name_of c.head) (argument_count c.head))) (not_of text i.name i.arity defined) library.statics) (t.static i e)
 
   other_free : (i : Indicator) → not (defines text i.name i.arity) ≡ true → is_declared library.declared i.name i.arity ≡ true → IsFree i.name i.arity

@@ -50,11 +50,11 @@ parts_by (ProperList ts) t = ts
 parts_by (PartialList ts) t = goals_of t
 parts_by NoList t = goals_of t
 
-abbrev pub parts_of : Term → List Term
-parts_of t = parts_by (list_form t) t
+abbrev pub listed_parts : Term → List Term
+listed_parts t = parts_by (list_form t) t
 
 abbrev pub indicators_in : Term → Option (List Indicator)
-indicators_in t = indicators_among (parts_of t)
+indicators_in t = indicators_among (listed_parts t)
 
 abbrev pub quotes_named : List ℕ → Option DoubleQuotes
 quotes_named name =
@@ -68,13 +68,13 @@ abbrev pub quotes_set : Term → Term → Option Directive
 quotes_set (AtomTerm flag) (AtomTerm value) = cond (same_name flag (codes "double_quotes")) (option_map ReadsQuotesAs (quotes_named value)) None
 quotes_set flag value = None
 
-abbrev pub is_named : Term → List ℕ → ℕ → Bool
-is_named t name arity = argument_count t == arity && same_name (name_of t) name
+abbrev pub has_indicator : Term → List ℕ → ℕ → Bool
+has_indicator t name arity = argument_count t == arity && same_name (name_of t) name
 
 abbrev pub directive_of : Term → Option Directive
 directive_of t =
-    if is_named t (codes "dynamic") 1 then option_map MakesDynamic (indicators_in (argument 0 t))
-    else if is_named t (codes "discontiguous") 1 then option_map LetsStandApart (indicators_in (argument 0 t))
-    else if is_named t (codes "op") 3 then Some (ChangesOperators (argument 0 t) (argument 1 t) (argument 2 t))
-    else if is_named t (codes "set_prolog_flag") 2 then quotes_set (argument 0 t) (argument 1 t)
+    if has_indicator t (codes "dynamic") 1 then option_map MakesDynamic (indicators_in (argument 0 t))
+    else if has_indicator t (codes "discontiguous") 1 then option_map LetsStandApart (indicators_in (argument 0 t))
+    else if has_indicator t (codes "op") 3 then Some (ChangesOperators (argument 0 t) (argument 1 t) (argument 2 t))
+    else if has_indicator t (codes "set_prolog_flag") 2 then quotes_set (argument 0 t) (argument 1 t)
     else None

@@ -4,7 +4,7 @@ ghost use Rattle.std.specs.Str.{IsAscii};
 ghost use Rattle.au_term.specs.Term.{argument, argument_count};
 ghost use Rattle.au_term.specs.PrefixOrder.{cells_of, subterm, top_of};
 ghost use Rattle.run_model.specs.Programs.Bodies.{goals_of};
-ghost use Rattle.text_load.specs.Directives.{MakesDynamic, LetsStandApart, definable, directive_of, indicator_in, indicator_with, indicators_in, is_named, parts_of, quotes_named};
+ghost use Rattle.text_load.specs.Directives.{MakesDynamic, LetsStandApart, definable, directive_of, indicator_in, indicator_with, indicators_in, has_indicator, listed_parts, quotes_named};
 ghost use Rattle.text_load.specs.DirectiveCells.{quotes_by};
 ghost use Rattle.text_load.specs.LoadedSentences.{directive_meant};
 
@@ -36,32 +36,32 @@ const MAX_ARITY: i64 = 65_535;
 pub(crate) fn directive_of(alloc: Global, term: &FlatTerm) -> Result<Option<Directive>, NoMemory>
     ensures { IfOk result (λ d. option_map directive_meant d ≡ directive_of term.now) }
 {
-    if is_named(term, "dynamic", 1) {
+    if has_indicator(term, "dynamic", 1) {
         let procedures = indicators_in(alloc, &argument(alloc, term, 0)?)?;
         return Ok(dynamic(procedures));
     }
-    if is_named(term, "discontiguous", 1) {
+    if has_indicator(term, "discontiguous", 1) {
         let procedures = indicators_in(alloc, &argument(alloc, term, 0)?)?;
         return Ok(discontiguous(procedures));
     }
-    if is_named(term, "op", 3) {
+    if has_indicator(term, "op", 3) {
         return Ok(Some(Directive::Op {
             priority: argument(alloc, term, 0)?,
             specifier: argument(alloc, term, 1)?,
             names: argument(alloc, term, 2)?,
         }));
     }
-    if is_named(term, "set_prolog_flag", 2) {
+    if has_indicator(term, "set_prolog_flag", 2) {
         return Ok(quotes_set(argument_top(term, 0), argument_top(term, 1)));
     }
     Ok(None)
 }
 
 /// Whether a term is a compound of this name with so many arguments.
-fn is_named(term: &FlatTerm, name: &str, arity: u32) -> bool
+fn has_indicator(term: &FlatTerm, name: &str, arity: u32) -> bool
     requires ascii { IsAscii name.now }
     requires some { 0 < arity }
-    ensures { result ≡ is_named term.now name.now arity }
+    ensures { result ≡ has_indicator term.now name.now arity }
 {
     match term.top() {
         Cell::Functor(own, count) => *count == arity && own.is_text(name),
@@ -139,7 +139,7 @@ fn quotes_named(name: &Atom) -> Option<DoubleQuotes>
 fn indicators_in(alloc: Global, term: &FlatTerm) -> Result<Option<Vec<Indicator>>, NoMemory>
     ensures { IfOk result (λ is. option_map (λ v. v.items) is ≡ indicators_in term.now) }
 {
-    let parts = parts_of(alloc, term)?;
+    let parts = listed_parts(alloc, term)?;
     let mut procedures = Vec::new(alloc);
     for part in &parts {
         let Some(procedure) = indicator_in(part)? else {
@@ -151,8 +151,8 @@ fn indicators_in(alloc: Global, term: &FlatTerm) -> Result<Option<Vec<Indicator>
 }
 
 /// The items of a list, or else the parts of a conjunction.
-fn parts_of(alloc: Global, term: &FlatTerm) -> Result<Vec<FlatTerm>, NoMemory>
-    ensures { IfOk result (λ parts. parts.items ≡ parts_of term.now) }
+fn listed_parts(alloc: Global, term: &FlatTerm) -> Result<Vec<FlatTerm>, NoMemory>
+    ensures { IfOk result (λ parts. parts.items ≡ listed_parts term.now) }
 {
     match list_form(alloc, term)? {
         ListForm::Proper(items) => Ok(items),
@@ -185,7 +185,7 @@ fn part_at(alloc: Global, term: &FlatTerm, at: usize) -> Result<FlatTerm, NoMemo
 fn indicator_in(part: &FlatTerm) -> Result<Option<Indicator>, NoMemory>
     ensures { IfOk result (λ i. i ≡ indicator_in part.now) }
 {
-    if !is_named(part, "/", 2) {
+    if !has_indicator(part, "/", 2) {
         return Ok(None);
     }
     match (argument_top(part, 0), argument_top(part, 1)) {

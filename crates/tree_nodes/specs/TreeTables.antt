@@ -70,9 +70,9 @@ pub record Stand (nodes : NodesView) : Type 0 where
   pub root : Status
   pub stands : IsTableOf nodes read root
 
-abbrev pub body_in : Body → Option StoredNode → Body
-body_in other None = other
-body_in other (Some r) = r.body
+abbrev pub stored_body : Body → Option StoredNode → Body
+stored_body other None = other
+stored_body other (Some r) = r.body
 
 -- the branches on the way down to a place
 abbrev pub IsWayTo : Rows → List Level → Branching → Type 0

@@ -1,10 +1,11 @@
 use Rattle.std.proofs.Common.{◌∙◌, ◌++◌, refl, reverse, sym, ap, arith, append-nil}
 use Rattle.std.proofs.lemmas.List.{nil_from_length}
+use Rattle.au_term.specs.PrefixOrder.{term_of, term_of-cells_of}
 use Rattle.au_model.proofs.CopyLemmas.{copy_done}
 use Rattle.cell_store.specs.StoreView.{meaning, substitution, text_in}
 use Rattle.cell_store.specs.WrittenTerms.{cells_left}
 use Rattle.cell_store.proofs.WalkLemmas.{first_there, top_there}
-use Rattle.cell_store.proofs.WritingLemmas.{written, still_due, same_term}
+use Rattle.cell_store.proofs.WritingLemmas.{written, still_due}
 use Rattle.cell_store.proofs.resolved.resolved.Goals as goal
 
 pub argument-value-requires : goal.argument-value-requires
@@ -35,4 +36,5 @@ pub returns : goal.returns
 returns c =
     let st = c.args.store.now in
     let none = nil_from_length c.loop-arguments.pending.items (omega (arith, c.in_default.ensures.cases, c.loop-arguments.pending.ok.0)) in
-    same_term c.finish.result (meaning st c.args.value) (c.finish.ensures.cells ∙ (sym (append-nil c.loop-arguments.builder) ∙ (ap (λ ps. c.loop-arguments.builder ++ cells_left (substitution st) (text_in st) (reverse ps)) (sym none) ∙ c.loop-arguments.invariant.same)))
+    let cells = c.finish.ensures.cells ∙ (sym (append-nil c.loop-arguments.builder) ∙ (ap (λ ps. c.loop-arguments.builder ++ cells_left (substitution st) (text_in st) (reverse ps)) (sym none) ∙ c.loop-arguments.invariant.same)) in
+    sym (term_of-cells_of c.finish.result) ∙ (ap term_of cells ∙ term_of-cells_of (meaning st c.args.value))

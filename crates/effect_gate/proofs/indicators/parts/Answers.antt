@@ -2,7 +2,8 @@ use Rattle.std.proofs.Common.{◌≡◌, ◌∙◌, ap, sym}
 use Rattle.au_term.specs.PrefixOrder.{term_of, term_of-cells_of}
 use Rattle.au_model.specs.Terms.TermTypes.{is_variable}
 use Rattle.effect_gate.specs.Indicators.{name_part, arity_part}
-use Rattle.effect_gate.proofs.HeadLemmas.{bound_parts, first_open, open_parts, second_open}
+use Rattle.au_model.proofs.ApplyLemmas.{or_left, or_right}
+use Rattle.effect_gate.proofs.HeadLemmas.{bound_parts, open_parts}
 use Rattle.effect_gate.proofs.indicators.parts.Goals.{then-is_variable-via-then-is_variable, then-is_variable-via-else-is_variable+then-is_variable-2}
 use Rattle.effect_gate.proofs.indicators.parts.Goals as goal
 
@@ -13,8 +14,8 @@ returns-then-is_variable c =
     let arity : c.in_ok-arity.arity ≡ arity_part t = c.in_ok-arity.ensures.term ∙ (ap term_of c.arg-2.ensures.cells ∙ term_of-cells_of (arity_part t)) in
     open_parts t (sym c.if-not-is_indicator.ensures)
     (elim c.then-is_variable.branch [
-      | then-is_variable-via-then-is_variable w ↦ first_open (is_variable (name_part t)) (is_variable (arity_part t)) (sym (ap is_variable name) ∙ sym w.if-is_variable.ensures)
-      | then-is_variable-via-else-is_variable+then-is_variable-2 w ↦ second_open (is_variable (name_part t)) (is_variable (arity_part t)) (sym (ap is_variable arity) ∙ sym w.if-is_variable-2.ensures)
+      | then-is_variable-via-then-is_variable w ↦ or_left (is_variable (name_part t)) (is_variable (arity_part t)) (sym (ap is_variable name) ∙ sym w.if-is_variable.ensures)
+      | then-is_variable-via-else-is_variable+then-is_variable-2 w ↦ or_right (is_variable (name_part t)) (is_variable (arity_part t)) (sym (ap is_variable arity) ∙ sym w.if-is_variable-2.ensures)
     ])
 
 pub returns : goal.returns

@@ -14,8 +14,8 @@ use Rattle.stack_run.proofs.FoundLemmas.{unhalted_so}
 use Rattle.stack_run.proofs.ReductionLemmas.{alternatives_fit, open_below, none_collects, alternatives_left, ball_left, cut_left, open_left, gate_left, gate_in, takes_plainly, end_fails}
 use Rattle.stack_run.proofs.infer.infer.Goals as goal
 
-pub returns-then-is_end-clause-takes : goal.returns-then-is_end-clause-takes
-returns-then-is_end-clause-takes c = end_fails c.args.procs.now (world_meant c.args.world.now) c.args.item.now c.args.rest.now c.args.stack.now c.requires.work (sym c.is_end.ensures ∙ c.if-is_end.true)
+pub returns-then-is_end_item-clause-takes : goal.returns-then-is_end_item-clause-takes
+returns-then-is_end_item-clause-takes c = end_fails c.args.procs.now (world_meant c.args.world.now) c.args.item.now c.args.rest.now c.args.stack.now c.requires.work (sym c.is_end_item.ensures ∙ c.if-is_end_item.true)
 
 pub branch_off-requires-clause-branches : goal.branch_off-requires-clause-branches
 branch_off-requires-clause-branches c =
@@ -27,7 +27,7 @@ branch_off-requires-clause-branches c =
     let clauses = c.args.procs.now in
     let w = world_meant c.args.world.now in
     let same = c.in_ok-branches.ensures.store in
-    let no_end = sym c.is_end.ensures ∙ c.if-is_end.false in
+    let no_end = sym c.is_end_item.ensures ∙ c.if-is_end_item.false in
     let r = subst (IsReduced clauses here rest st item) c.in-Alternatives.is c.in_ok-branches.ensures.reduced in
     subst (λ s. Each (λ b. IsChoiceFit s (Branch b)) c.in-Alternatives.branches.items) (sym same) (alternatives_fit clauses w item here rest st c.in-Alternatives.branches c.requires.work.sound c.requires.goal r)
 
@@ -41,7 +41,7 @@ returns-in-Alternatives-clause-takes c =
     let clauses = c.args.procs.now in
     let w = world_meant c.args.world.now in
     let same = c.in_ok-branches.ensures.store in
-    let no_end = sym c.is_end.ensures ∙ c.if-is_end.false in
+    let no_end = sym c.is_end_item.ensures ∙ c.if-is_end_item.false in
     let r = subst (IsReduced clauses here rest st item) c.in-Alternatives.is c.in_ok-branches.ensures.reduced in
     let new = c.branch_off.new.stack in
     unhalted_so c.branch_off.result c.unhalted.result (TakesItem clauses item rest old new w w) c.unhalted.ensures c.branch_off.ensures
@@ -58,7 +58,7 @@ returns-in-Raise-clause-takes c =
     let clauses = c.args.procs.now in
     let w = world_meant c.args.world.now in
     let same = c.in_ok-branches.ensures.store in
-    let no_end = sym c.is_end.ensures ∙ c.if-is_end.false in
+    let no_end = sym c.is_end_item.ensures ∙ c.if-is_end_item.false in
     let r = subst (IsReduced clauses here rest st item) c.in-Raise.is c.in_ok-branches.ensures.reduced in
     let new = c.unwind.new.stack in
     unhalted_so c.unwind.result c.unhalted-in-Raise.result (TakesItem clauses item rest old new w w) c.unhalted-in-Raise.ensures c.unwind.ensures
@@ -77,7 +77,7 @@ returns-in-Prune-clause-takes c =
     let clauses = c.args.procs.now in
     let w = world_meant c.args.world.now in
     let same = c.in_ok-branches.ensures.store in
-    let no_end = sym c.is_end.ensures ∙ c.if-is_end.false in
+    let no_end = sym c.is_end_item.ensures ∙ c.if-is_end_item.false in
     let r = subst (IsReduced clauses here rest st item) c.in-Prune.is c.in_ok-branches.ensures.reduced in
     let new = c.prune.new.stack in
     unhalted_so c.prune.result c.unhalted-in-Prune.result (TakesItem clauses item rest old new w w) c.unhalted-in-Prune.ensures c.prune.ensures
@@ -96,7 +96,7 @@ open-requires-clause-opening c =
     let clauses = c.args.procs.now in
     let w = world_meant c.args.world.now in
     let same = c.in_ok-branches.ensures.store in
-    let no_end = sym c.is_end.ensures ∙ c.if-is_end.false in
+    let no_end = sym c.is_end_item.ensures ∙ c.if-is_end_item.false in
     let r = subst (IsReduced clauses here rest st item) c.in-Open.is c.in_ok-branches.ensures.reduced in
     subst (λ s. IsOpeningBelow s.next c.in-Open.opening) (sym same) (open_below clauses w item here rest st c.in-Open.opening r)
 
@@ -110,7 +110,7 @@ returns-in-Open-clause-takes c =
     let clauses = c.args.procs.now in
     let w = world_meant c.args.world.now in
     let same = c.in_ok-branches.ensures.store in
-    let no_end = sym c.is_end.ensures ∙ c.if-is_end.false in
+    let no_end = sym c.is_end_item.ensures ∙ c.if-is_end_item.false in
     let r = subst (IsReduced clauses here rest st item) c.in-Open.is c.in_ok-branches.ensures.reduced in
     let new = c.open.new.stack in
     unhalted_so c.open.result c.unhalted-in-Open.result (TakesItem clauses item rest old new w w) c.unhalted-in-Open.ensures c.open.ensures
@@ -129,7 +129,7 @@ pass_gate-requires-clause-effect c =
     let clauses = c.args.procs.now in
     let w = world_meant c.args.world.now in
     let same = c.in_ok-branches.ensures.store in
-    let no_end = sym c.is_end.ensures ∙ c.if-is_end.false in
+    let no_end = sym c.is_end_item.ensures ∙ c.if-is_end_item.false in
     let r = subst (IsReduced clauses here rest st item) c.in-Gate.is c.in_ok-branches.ensures.reduced in
     subst (λ s. IsEffectIn s c.in-Gate.effect) (sym same) (gate_in clauses w item here rest st c.in-Gate.effect c.requires.work.sound c.requires.item no_end r)
 
@@ -143,7 +143,7 @@ returns-in-Gate-clause-takes c =
     let clauses = c.args.procs.now in
     let w = world_meant c.args.world.now in
     let same = c.in_ok-branches.ensures.store in
-    let no_end = sym c.is_end.ensures ∙ c.if-is_end.false in
+    let no_end = sym c.is_end_item.ensures ∙ c.if-is_end_item.false in
     let r = subst (IsReduced clauses here rest st item) c.in-Gate.is c.in_ok-branches.ensures.reduced in
     let new = c.pass_gate.new.stack in
     IfOk-weaker c.pass_gate.result _ (TakesItem clauses item rest old new w (world_meant c.pass_gate.new.world))
@@ -159,6 +159,6 @@ returns-clause-takes c =
     let clauses = c.args.procs.now in
     let w = world_meant c.args.world.now in
     let same = c.in_ok-branches.ensures.store in
-    let no_end = sym c.is_end.ensures ∙ c.if-is_end.false in
+    let no_end = sym c.is_end_item.ensures ∙ c.if-is_end_item.false in
     let r = subst (IsReduced clauses here rest st item) c.in-Collect.is c.in_ok-branches.ensures.reduced in
     absurd (none_collects clauses w item here rest st _ c.requires.goal r)

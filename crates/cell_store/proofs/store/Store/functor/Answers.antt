@@ -1,6 +1,6 @@
 use Rattle.std.proofs.Common.{ℕ, length, subst}
 use Rattle.binding_array.specs.declared.cell.BindingCell.TheVariants.{Compound}
-use Rattle.cell_store.specs.HeapView.{text_of}
+use Rattle.cell_store.specs.HeapView.{heap_text}
 use Rattle.cell_store.specs.StoreView.{IsValueIn, text_in}
 use Rattle.cell_store.specs.Arguments.{HasFunctor}
 use Rattle.cell_store.proofs.ArgumentLemmas.{opened}
@@ -9,4 +9,4 @@ use Rattle.cell_store.proofs.store.Store.functor.Goals as goal
 pub returns-clause-functor : goal.returns-clause-functor
 returns-clause-functor c =
     subst (λ st. (base : ℕ) → IsValueIn st (Compound c.args.at base) → HasFunctor (text_in st) st.now.next c.args.at base c.in-Functor.name c.in-Functor.count) c.self.view_is
-    (opened (text_of c.self.inside.heap) (length c.self.inside.cells) c.args.at c.in-Functor.name c.in-Functor.count c.self.invariant.now.text c.in-Functor.ensures)
+    (opened (heap_text c.self.inside.heap) (length c.self.inside.cells) c.args.at c.in-Functor.name c.in-Functor.count c.self.invariant.now.text c.in-Functor.ensures)

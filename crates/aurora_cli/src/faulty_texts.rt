@@ -1,0 +1,111 @@
+//! Faulty texts with their faults.
+use au_model::FaultKind;
+
+/// A text, and the line, the column and the kind of its fault, and what its note says of the kind.
+pub(crate) type Bad = (&'static str, u32, u32, FaultKind, &'static str);
+
+pub(crate) static FAULTS: [Bad; 25] = [
+    ("p(1", 1, 4, FaultKind::UnexpectedEnd, "unexpected end"),
+    (
+        "p(1).q(",
+        1,
+        5,
+        FaultKind::UnexpectedToken,
+        "unexpected token",
+    ),
+    ("p('ab", 1, 3, FaultKind::UnclosedQuote, "quote not closed"),
+    (
+        "/* x",
+        1,
+        1,
+        FaultKind::UnclosedComment,
+        "comment not closed",
+    ),
+    ("p('\\q').", 1, 4, FaultKind::BadEscape, "bad escape"),
+    (
+        "p(1.5).",
+        1,
+        3,
+        FaultKind::FloatNumeral,
+        "floating-point numeral",
+    ),
+    (
+        "p(]).",
+        1,
+        3,
+        FaultKind::UnexpectedToken,
+        "unexpected token",
+    ),
+    ("p:-q", 1, 5, FaultKind::UnexpectedEnd, "unexpected end"),
+    (
+        "p(`",
+        1,
+        3,
+        FaultKind::BadCharacter,
+        "character not allowed",
+    ),
+    (
+        "p(1).\np(\n",
+        3,
+        1,
+        FaultKind::UnexpectedEnd,
+        "unexpected end",
+    ),
+    (
+        "p(9223372036854775808).",
+        1,
+        3,
+        FaultKind::WideNumeral,
+        "numeral too wide",
+    ),
+    (":- foo.", 1, 1, FaultKind::BadDirective, "not a directive"),
+    ("?- 1.", 1, 1, FaultKind::BadClause, "not a clause"),
+    ("p(1). p(", 1, 9, FaultKind::UnexpectedEnd, "unexpected end"),
+    ("p :- 1.", 1, 1, FaultKind::BadClause, "not a clause"),
+    (
+        "p.\n % c\n  X :- p.",
+        3,
+        3,
+        FaultKind::BadClause,
+        "not a clause",
+    ),
+    ("(a,b).", 1, 1, FaultKind::BadClause, "not a clause"),
+    ("call(_).", 1, 1, FaultKind::BadClause, "not a clause"),
+    ("a = b.", 1, 1, FaultKind::BadClause, "not a clause"),
+    ("?- a. 7.", 1, 7, FaultKind::BadClause, "not a clause"),
+    (
+        ":- dynamic c/1.",
+        1,
+        12,
+        FaultKind::UnexpectedToken,
+        "unexpected token",
+    ),
+    (
+        "f(- --> a).",
+        1,
+        9,
+        FaultKind::UnexpectedToken,
+        "unexpected token",
+    ),
+    (
+        "p. q :- (a ; 1). p(",
+        1,
+        4,
+        FaultKind::BadClause,
+        "not a clause",
+    ),
+    (
+        "é(é é).",
+        1,
+        5,
+        FaultKind::UnexpectedToken,
+        "unexpected token",
+    ),
+    (
+        "p(1). :- dynamic(p/1).",
+        1,
+        7,
+        FaultKind::StaticTwice,
+        "dynamic after clauses",
+    ),
+];
