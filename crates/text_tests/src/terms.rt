@@ -1,7 +1,7 @@
 //! Values that no clause gives: that calls succeed, and what atoms and terms look like from outside.
 ghost use Rattle.std.specs.Prelude.{◌≡◌, ◌<◌};
 
-use crate::{
+use au_term::{
     Atom, Binding, Bindings, Cell, FlatTerm, NoMemory, Segment, Shared, Steps, TermBuilder, is_text,
 };
 use std::alloc::Global;

@@ -1,5 +1,5 @@
 //! What no clause says: that reductions succeed, and what small goals come to.
-use crate::{Reduction, reduce};
+use engine_core::{Reduction, reduce};
 use au_model::build::compound;
 use au_term::{Atom, Cell, FlatTerm, NoMemory, Shared};
 use bind_store::Store;

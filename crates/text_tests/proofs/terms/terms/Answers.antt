@@ -1,7 +1,7 @@
 use Rattle.std.proofs.Common.{◌≡◌, ◌<◌, sym, ap, subst, arith}
 use Rattle.au_term.specs.PrefixOrder.{due_after, AreDue}
 use Rattle.au_term.proofs.WholeTermLemmas.{cells_are_due}
-use Rattle.au_term.proofs.tests.terms.Goals as goal
+use Rattle.text_tests.proofs.terms.terms.Goals as goal
 
 pub push_all-requires-clause-due : goal.push_all-requires-clause-due
 push_all-requires-clause-due g c =

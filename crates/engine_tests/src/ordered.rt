@@ -1,5 +1,5 @@
 //! Orders from outside: terms of each kind in their order, and hostile sizes.
-use crate::compare;
+use term_order::compare;
 use au_model::build::{atom, binary, single, unary};
 use au_term::{Atom, Cell, FlatTerm, TermBuilder};
 use std::cmp::Ordering;

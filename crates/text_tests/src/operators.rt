@@ -1,6 +1,6 @@
 //! The standard's operators (ISO/IEC 13211-1, 6.3.4.4).
 
-use crate::{OpKind, OpRefusal, OpRow, Operator, Ops};
+use op_table::{OpKind, OpRefusal, OpRow, Operator, Ops};
 use au_model::build::{binary, list_of, single};
 use au_model::{DomainName, Fault, PermissionName, TypeName};
 use au_term::{Atom, Cell, FlatTerm, NoMemory};

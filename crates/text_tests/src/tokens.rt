@@ -2,7 +2,7 @@
 ghost use Rattle.std.specs.Prelude.{IfOk};
 ghost use Rattle.token_scan.specs.NextToken.{IsToken};
 
-use crate::{BadToken, Token, TokenKind, integer, next_token, spelling, value};
+use token_scan::{BadToken, Token, TokenKind, integer, next_token, spelling, value};
 use au_model::FaultKind;
 use std::alloc::Global;
 use std::process::Abort;

@@ -1,5 +1,5 @@
 //! Names of built-in predicates and control constructs; and each built-in called once with ample memory.
-use crate::{
+use std_builtins::{
     Builtin, BuiltinRefusal, Comparison, Control, Solution, Spelling, TypeTest, WorldGoal,
     builtin_of, control_of, is_builtin, is_control, is_world_goal, world_goal_of,
 };

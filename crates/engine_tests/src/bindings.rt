@@ -2,7 +2,7 @@
 ghost use Rattle.std.specs.Prelude.{◌≡◌, IfOk};
 ghost use Rattle.au_term.specs.Term.{VarTerm};
 
-use crate::Store;
+use bind_store::Store;
 use au_model::build::{compound, unary};
 use au_term::{Atom, Cell, FlatTerm, NoMemory, Shared, VarNo};
 use std::alloc::Global;

@@ -1,7 +1,7 @@
 //! What no clause gives: the clauses that are found among those of certain heads.
 ghost use Rattle.std.specs.Prelude.{◌≡◌, ◌<◌};
 
-use crate::{Key, Procs};
+use proc_index::{Key, Procs};
 use au_term::{Atom, Cell, FlatTerm, Steps, TermBuilder};
 use clause_compile::compile;
 use std::alloc::Global;

@@ -1,7 +1,7 @@
 //! What no clause says: that calls succeed.
-use crate::build::{atom, binary, indicator, unary};
-use crate::copies::copy_term;
-use crate::{Fault, TypeName};
+use au_model::build::{atom, binary, indicator, unary};
+use au_model::copies::copy_term;
+use au_model::{Fault, TypeName};
 use au_term::{Atom, Cell, FlatTerm, NoMemory};
 use std::alloc::Global;
 use std::process::Abort;

@@ -1,7 +1,7 @@
 //! Values from outside: the examples of ISO/IEC 13211-1, 9.1, 9.3 and 9.4, and the limits of 64 bits.
 ghost use Rattle.std.specs.Prelude.{◌≡◌};
 
-use crate::{EvalRefusal, eval};
+use arith_eval::{EvalRefusal, eval};
 use au_model::build::{binary, unary};
 use au_model::{EvalName, Fault, TypeName};
 use au_term::{Atom, Cell, FlatTerm, NoMemory, TermBuilder};

@@ -1,6 +1,6 @@
 //! Texts and their terms; places and kinds of faults.
 
-use crate::{ReadOutcome, ReadRefused, read_term};
+use term_reader::{ReadOutcome, ReadRefused, read_term};
 use au_model::{DoubleQuotes, FaultKind};
 use op_table::Ops;
 use std::alloc::Global;

@@ -2,7 +2,7 @@
 ghost use Rattle.std.specs.Prelude.{Some, None, cond, nat_eq, not};
 ghost use Rattle.std.specs.Cmp.Lexicographic.{pointwise};
 
-use crate::{
+use au_io::{
     FileShelf, Gate, MemoryShelf, MemorySink, Moment, NoGate, Opener, Output, ReadRefusal, Shelf,
     Sink, StdoutSink, WriteFault,
 };

@@ -1,6 +1,6 @@
 //! Written terms, by ISO/IEC 13211-1, 6.3.4 and 7.10.5.
 
-use crate::{answer_line, ball_line, write_into};
+use term_writer::{answer_line, ball_line, write_into};
 use au_model::{Style, VarName};
 use au_term::{Atom, Cell, FlatTerm, NoMemory, TermBuilder};
 use op_table::Ops;

@@ -1,0 +1,16 @@
+//! Tests of the crates of programs and of the engine: what no clause says, outside examples, and each call that allocates
+//! once, with ample memory. They are in a crate of their own because a crate with tests is proved twice.
+#![tactic(auto)]
+
+#[cfg(test)]
+mod bindings;
+#[cfg(test)]
+mod builtin_goals;
+#[cfg(test)]
+mod evaluated;
+#[cfg(test)]
+mod indexed;
+#[cfg(test)]
+mod ordered;
+#[cfg(test)]
+mod reductions;
