@@ -13,10 +13,12 @@ mod drops;
 mod gather;
 pub mod nodes;
 mod row;
+pub mod siblings;
 pub mod state;
 #[cfg(test)]
 mod tests;
 
 pub use body::{NodeBody, NodeKind};
 pub use nodes::Nodes;
+pub use siblings::Passed;
 pub use state::{AltState, Credit};

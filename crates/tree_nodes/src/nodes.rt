@@ -15,7 +15,8 @@ ghost use Rattle.tree_nodes.specs.Gathering.{IsFoldStep, Gathers, is_shut_at};
 use crate::body::NodeBody;
 use crate::cells::{link_cell, put_cell};
 use crate::gather::Gathered;
-use crate::row::{Alternative, Row, Slot};
+use crate::row::{Row, Slot};
+use crate::siblings::Alternative;
 use crate::state::{AltState, Credit};
 use au_term::NoMemory;
 use std::alloc::Global;
@@ -191,7 +192,7 @@ impl Nodes {
         ensures { cell_at self.now.rows (place_view at) ≡ Some (result.now.spent, cell_view result.now.state) }
     {
         match self.row(at.node) {
-            Some(row) => &row.alternatives[at.alternative as usize],
+            Some(row) => row.alternatives.at(at.alternative as usize),
             None => unreachable!(),
         }
     }
@@ -311,10 +312,10 @@ impl Nodes {
             unreachable!()
         };
         let index = at.alternative as usize;
-        if !row.shut_beside(index) {
+        if !row.alternatives.shut_beside(index) {
             return Ok(false);
         }
-        row.gather_beside(index, gathered)?;
+        row.alternatives.gather_beside(index, gathered)?;
         Ok(true)
     }
 }
