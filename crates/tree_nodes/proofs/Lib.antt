@@ -14,3 +14,5 @@ pub mod CreditLemmas
 pub mod FoldLemmas
 pub mod WalkLemmas
 pub mod MeetLemmas
+pub mod FrontLemmas
+pub mod FrontKeptLemmas

@@ -8,3 +8,4 @@ pub mod Gathering
 pub mod Siblings
 pub mod Puts
 pub mod Folds
+pub mod Fronts

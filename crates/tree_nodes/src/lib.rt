@@ -10,6 +10,7 @@
 pub mod body;
 mod cells;
 mod drops;
+pub mod front;
 mod gather;
 pub mod nodes;
 mod row;
@@ -19,6 +20,7 @@ pub mod state;
 mod tests;
 
 pub use body::{NodeBody, NodeKind};
+pub use front::Front;
 pub use nodes::Nodes;
 pub use siblings::Passed;
 pub use state::{AltState, Credit};

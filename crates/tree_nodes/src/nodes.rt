@@ -9,14 +9,17 @@ ghost use Rattle.std.specs.Arc.{arc_value};
 ghost use Rattle.tree_nodes.specs.Bodies.{body_view, IsWhole};
 ghost use Rattle.tree_nodes.specs.Changes.{SetsCell, Fits, KeepsNumbers, Adds, CanHold, IsLonger, ClosesAt, LowersSpare, AreGone, GivesBack, is_pending, root_after};
 ghost use Rattle.tree_nodes.specs.Folds.{FoldsUpTo, IsAbove, IsDeeper};
+ghost use Rattle.tree_nodes.specs.Fronts.{KeepsFront, IsFront, IsNextOf};
+ghost use Rattle.tree_nodes.specs.Siblings.{IsPassed};
 ghost use Rattle.tree_nodes.specs.Puts.{inner_at};
 ghost use Rattle.tree_nodes.specs.Gathering.{IsFoldStep, Gathers, is_shut_at};
 
 use crate::body::NodeBody;
 use crate::cells::{link_cell, put_cell};
+use crate::front::{Front, last_of, retreat};
 use crate::gather::Gathered;
 use crate::row::{Row, Slot};
-use crate::siblings::Alternative;
+use crate::siblings::{Alternative, Passed};
 use crate::state::{AltState, Credit};
 use au_term::NoMemory;
 use std::alloc::Global;
@@ -31,6 +34,7 @@ pub struct Nodes {
     first: Option<u64>,
     live: u64,
     spare: u64,
+    front: Vec<Front>,
     alloc: Global,
 }
 
@@ -45,11 +49,11 @@ impl Model for Nodes {
 
     ghost coded = { Prim.hlevel (codes, term_code, flat.the_row.coded, shared.the_row.coded) };
 
-    ghost use Rattle.tree_nodes.specs.TreeTables.{Stand};
+    ghost use Rattle.tree_nodes.specs.Fronts.{AreKept};
 
     ghost view = { λ s. record { rows = s.slots.items; first = s.first; live = s.live; spare = s.spare } };
 
-    ghost invariant = { λ s. Stand (record { rows = s.slots.items; first = s.first; live = s.live; spare = s.spare }) };
+    ghost invariant = { λ s. AreKept (record { rows = s.slots.items; first = s.first; live = s.live; spare = s.spare }) s.front.items };
 }
 
 impl Nodes {
@@ -62,6 +66,7 @@ impl Nodes {
             first: None,
             live: 0,
             spare: 0,
+            front: Vec::new(alloc),
             alloc,
         }
     }
@@ -155,6 +160,16 @@ impl Nodes {
         }
     }
 
+    /// Alternatives at the left of a node that have closed, as far as they were passed.
+    pub fn passed(&self, node: u64) -> Passed
+        ensures { IsPassed (alternatives_at (row_of_node self.now.rows node)) result }
+    {
+        match self.row(node) {
+            Some(row) => row.alternatives.passed(),
+            None => Passed::NONE,
+        }
+    }
+
     /// Whether an alternative is there.
     pub fn has_alternative(&self, at: AltRef) -> bool
         ensures { result ≡ is_some (cell_at self.now.rows (place_view at)) }
@@ -220,12 +235,104 @@ impl Nodes {
         ensures set { SetsCell self.old self.new (place_view at) spent (cell_view state) }
         ensures numbers { KeepsNumbers self.old self.new }
     {
+        let limit = self.front_limit(at, &state);
         put_cell(
             &mut self.slots,
             &mut self.live,
             at,
             Alternative { state, spent },
         );
+        retreat(&self.slots, &mut self.front, limit);
+        self.advance_below(at.node, limit);
+    }
+
+    // The number past which the front may no longer be one where a state is put in place of another.
+    fn front_limit(&self, at: AltRef, state: &AltState) -> u64
+        requires { IsSome (cell_at self.now.rows (place_view at)) }
+        ensures { KeepsFront self.now.rows (place_view at) (cell_view state.now) result }
+    {
+        if self.is_closed(at) || matches!(state, AltState::Inner(_)) {
+            at.node
+        } else {
+            u64::MAX
+        }
+    }
+
+    /// The last node of the front: all to its left has closed.
+    pub fn front(&self) -> Option<Front>
+        ensures { IsFront self.now result }
+    {
+        last_of(&self.front)
+    }
+
+    // What is pruned one by one waits for the next change.
+    fn advance_below(&mut self, node: u64, limit: u64)
+        ensures { self.new ≡ self.old }
+    {
+        if node < limit {
+            self.advance();
+        }
+    }
+
+    // Goes down to the leftmost entry.
+    fn advance(&mut self)
+        ensures { self.new ≡ self.old }
+    {
+        for _i in 0..self.slots.len() {
+            if !self.go_down() {
+                return;
+            }
+        }
+    }
+
+    // One node further down. Where no memory is left for it, the front stays where it is.
+    fn go_down(&mut self) -> bool
+        ensures { self.new ≡ self.old }
+    {
+        let last = last_of(&self.front);
+        match self.next_front(last) {
+            Some(next) => self.front.push(next).is_ok(),
+            None => false,
+        }
+    }
+
+    fn next_front(&self, last: Option<Front>) -> Option<Front>
+        ensures { IsNextOf self.now last result }
+    {
+        match last {
+            Some(last) => self.front_below(last),
+            None => match self.first {
+                Some(node) => Some(Front {
+                    node,
+                    answers: 0,
+                    inferences: 0,
+                }),
+                None => None,
+            },
+        }
+    }
+
+    // The node below the first alternative that has not closed.
+    fn front_below(&self, last: Front) -> Option<Front>
+        ensures { IsNextOf self.now (Some last) result }
+    {
+        // The proof reads off that there is a tree.
+        let _live = self.live();
+        let passed = self.passed(last.node);
+        if self.width(last.node) as usize <= passed.many {
+            return None;
+        }
+        let at = AltRef {
+            node: last.node,
+            alternative: passed.many as u32,
+        };
+        let node = self.below(at)?;
+        let taken = passed.inferences.saturating_add(self.spent(at));
+        Some(Front {
+            node,
+            answers: last.answers.saturating_add(passed.answers),
+            inferences: last.inferences.saturating_add(taken),
+        })
     }
 
     /// Adds a node below an alternative that has an entry, or the first one, and gives its number.
@@ -244,8 +351,10 @@ impl Nodes {
         let number = self.slots.len() as u64;
         self.slots.push(slot)?;
         link_cell(&mut self.slots, parent, number);
+        retreat(&self.slots, &mut self.front, u64::MAX);
         self.first = first_after(self.first, parent, number);
         self.live = live;
+        self.advance();
         Ok(number)
     }
 

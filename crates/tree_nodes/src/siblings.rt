@@ -82,7 +82,8 @@ pub struct Passed {
 }
 
 impl Passed {
-    const NONE: Passed = Passed {
+    /// None is passed.
+    pub(crate) const NONE: Passed = Passed {
         many: 0,
         answers: 0,
         inferences: 0,
