@@ -16,7 +16,7 @@ use Rattle.tree_nodes.specs.Puts.{inner_at}
 use Rattle.tree_nodes.specs.Gathering.{is_shut, is_shut_at, are_shut}
 use Rattle.tree_nodes.specs.Siblings.{counts_from}
 use Rattle.tree_nodes.specs.TreeTables.{cell_of, IsBelow, IsIn, NodesView, Stand, above_of}
-use Rattle.tree_nodes.specs.Fronts.{place_on, counts_before, IsNextTo, IsNext, AreNext, IsLastOf, IsLastThere, IsBeyond, KeepsFront}
+use Rattle.tree_nodes.specs.Fronts.{place_on, IsNextTo, IsNext, AreNext, IsLastOf, IsLastThere, IsBeyond, KeepsFront}
 use Rattle.tree_nodes.proofs.PlaceLemmas.{AreRound, taken_out}
 use Rattle.tree_nodes.proofs.PutLemmas.{cell_there, is_some_cell}
 use Rattle.tree_nodes.proofs.LocateLemmas.{IsAt, located, found, present}

@@ -13,8 +13,8 @@ abbrev pub place_on : ℕ → ℕ → Place
 place_on n i = record { node = n; index = i }
 
 -- what was counted to the left of an alternative
-abbrev pub counts_before : Rows → ℕ → ℕ → ℕ × ℕ
-counts_before rows n i = counts_from (0, 0) (take i (alternatives_at (row_of_node rows n)))
+abbrev pub counts_beside : Rows → Place → ℕ × ℕ
+counts_beside rows a = counts_from (0, 0) (take a.index (alternatives_at (row_of_node rows a.node)))
 
 -- the second node is below an alternative of the first one, and all to its left there has closed
 pub record IsNextTo (rows : Rows) (d e : Front) : Type 0 where
@@ -23,8 +23,8 @@ pub record IsNextTo (rows : Rows) (d e : Front) : Type 0 where
   pub cell : cell_at rows (place_on d.node index) ≡ Some (spent, InnerCell e.node)
   pub parent : node_parent rows e.node ≡ Some (Some (place_on d.node index))
   pub shut : are_shut (take index (alternatives_at (row_of_node rows d.node))) ≡ true
-  pub answers : e.answers ≡ counted d.answers (counts_before rows d.node index).0
-  pub inferences : e.inferences ≡ counted d.inferences (counted (counts_before rows d.node index).1 spent)
+  pub answers : e.answers ≡ counted d.answers (counts_beside rows (place_on d.node index)).0
+  pub inferences : e.inferences ≡ counted d.inferences (counted (counts_beside rows (place_on d.node index)).1 spent)
 
 -- nothing was counted above the first node
 pub record IsFirstFront (first : Option ℕ) (e : Front) : Type 0 where

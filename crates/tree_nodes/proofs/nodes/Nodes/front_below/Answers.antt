@@ -4,7 +4,7 @@ use Rattle.tree_model.specs.EventViews.{place_view}
 use Rattle.tree_model.specs.Credits.{counted}
 use Rattle.tree_nodes.specs.Rows.{AlternativeCell, InnerCell, cell_at}
 use Rattle.tree_nodes.specs.Puts.{inner_at}
-use Rattle.tree_nodes.specs.Fronts.{place_on, counts_before}
+use Rattle.tree_nodes.specs.Fronts.{place_on, counts_beside}
 use Rattle.tree_nodes.proofs.FrontLemmas.{inner_parent, inner_cell}
 use Rattle.tree_nodes.proofs.nodes.Nodes.front_below.Goals as goal
 
@@ -17,8 +17,8 @@ returns c =
     let inner : inner_at (cell_at nodes.rows a) ≡ Some n = sym c.in_ok-node.ensures.below in
     let k = inner_cell (cell_at nodes.rows a) n inner in
     let spent : k.0 ≡ c.spent.result = (let z : Some k.0 ≡ Some c.spent.result = ap (λ (o : Option (ℕ × AlternativeCell)). option_map (λ x. x.0) o) (sym k.1) ∙ c.spent.ensures in cc z) in
-    let given : p.answers ≡ (counts_before nodes.rows c.args.last.node p.many).0 = sym (ap (λ (x : ℕ × ℕ). x.0) c.passed-passed.ensures.counts) in
-    let taken : p.inferences ≡ (counts_before nodes.rows c.args.last.node p.many).1 = sym (ap (λ (x : ℕ × ℕ). x.1) c.passed-passed.ensures.counts) in
+    let given : p.answers ≡ (counts_beside nodes.rows a).0 = sym (ap (λ (x : ℕ × ℕ). x.0) c.passed-passed.ensures.counts) in
+    let taken : p.inferences ≡ (counts_beside nodes.rows a).1 = sym (ap (λ (x : ℕ × ℕ). x.1) c.passed-passed.ensures.counts) in
     record {
       index = p.many;
       spent = k.0;
