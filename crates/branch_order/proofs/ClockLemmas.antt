@@ -30,7 +30,7 @@ counted-whole a b = omega arith
 counted-first : (a b : ℕ) → counted a b ≡ counted 0 (counted a b)
 counted-first a b = omega arith
 
-both_none : (a b : Option Place) → or_else a b ≡ None → (a ≡ None) × (b ≡ None)
+pub both_none : (a b : Option Place) → or_else a b ≡ None → (a ≡ None) × (b ≡ None)
 both_none None b e = (refl, e)
 both_none (Some p) b e = absurd (cc e)
 

@@ -3,6 +3,7 @@ use Rattle.std.proofs.Common.{◌≡◌, ℕ, zero, suc, ◌+◌, ◌<◌, ◌�
 use Rattle.std.proofs.Common.{refl, sym, ap, ◌∙◌, arith, subst}
 use Rattle.std.specs.Option.{option_map}
 use Rattle.std.specs.Prelude.{◌&&◌, slice_get, IsSome, is_some}
+use Rattle.au_term.proofs.LogicLemmas.{both}
 use Rattle.tree_model.specs.Credits.{counted}
 use Rattle.tree_model.specs.Nodes.{Numbered, Status, Pending, Inner, Closed}
 use Rattle.tree_model.specs.Levels.{Level, level_node, plug, Place, place_at}
@@ -15,7 +16,7 @@ use Rattle.tree_nodes.specs.Puts.{inner_at}
 use Rattle.tree_nodes.specs.Gathering.{is_shut, are_shut}
 use Rattle.tree_nodes.specs.Siblings.{closed_counts, counts_from}
 use Rattle.tree_nodes.specs.TreeTables.{cell_of, cells_of, IsIn, IsRoot, NodesView, IsTableOf, above_of}
-use Rattle.tree_nodes.specs.Fronts.{place_on, counts_beside, IsNext, AreNext, IsFront}
+use Rattle.tree_nodes.specs.Fronts.{place_on, counts_beside, IsNextDown, AreNext, IsFront}
 use Rattle.tree_nodes.proofs.PlaceLemmas.{left_cells, length-left_cells}
 use Rattle.tree_nodes.proofs.FoldLemmas.{take-seam}
 use Rattle.tree_nodes.proofs.WalkLemmas.{cells_beside, cell_here, parent_here, one_level_up, no_level_up}
@@ -25,11 +26,7 @@ use Rattle.branch_order.specs.Walks.{Walks}
 use Rattle.branch_order.specs.Leftmosts.{GoesDown, IsTop}
 use Rattle.branch_order.proofs.LeftLemmas.{left_index, first_open-level, found_more}
 use Rattle.branch_order.proofs.LeftmostLemmas.{goes_down_from, goes_down}
-use Rattle.branch_order.proofs.ClockLemmas.{left_closed, given_more, taken_more}
-
-both_true : (b c : Bool) → (b && c) ≡ true → (b ≡ true) × (c ≡ true)
-both_true true c e = (refl, e)
-both_true false c e = absurd (cc e)
+use Rattle.branch_order.proofs.ClockLemmas.{both_none, left_closed, given_more, taken_more}
 
 -- what has closed at the left is passed
 pub shut_passed : (cells : List (ℕ × AlternativeCell)) (i n : ℕ) → are_shut (take n cells) ≡ true → open_index i cells ≡ open_index (i + n) (drop n cells)
@@ -37,7 +34,7 @@ shut_passed [] i zero h = refl
 shut_passed [] i (suc n) h = refl
 shut_passed (x ∷ cells) i zero h = ap (λ (k : ℕ). open_index k (x ∷ cells)) (let e : i ≡ i + 0 = omega arith in e)
 shut_passed (x ∷ cells) i (suc n) h =
-    let parts = both_true (is_shut x.1) (are_shut (take n cells)) h in
+    let parts = both (is_shut x.1) (are_shut (take n cells)) h in
     let more : suc i + n ≡ i + suc n = omega arith in
     ap (λ (b : Bool). first_at b i (open_index (suc i) cells)) parts.0 ∙ (shut_passed cells (suc i) n parts.1 ∙ ap (λ (k : ℕ). open_index k (drop n cells)) more)
 
@@ -49,14 +46,14 @@ open_here (x ∷ cells) i zero c h g e =
     let here : is_shut x.1 ≡ false = ap (λ (y : ℕ × AlternativeCell). is_shut y.1) same ∙ e in
     ap (λ (b : Bool). first_at b i (open_index (suc i) cells)) here ∙ ap Some (let z : i ≡ i + 0 = omega arith in z)
 open_here (x ∷ cells) i (suc n) c h g e =
-    let parts = both_true (is_shut x.1) (are_shut (take n cells)) h in
+    let parts = both (is_shut x.1) (are_shut (take n cells)) h in
     let more : suc i + n ≡ i + suc n = omega arith in
     ap (λ (b : Bool). first_at b i (open_index (suc i) cells)) parts.0 ∙ (open_here cells (suc i) n c parts.1 g e ∙ ap Some more)
 
 none_open : (cells : List (ℕ × AlternativeCell)) (i : ℕ) → are_shut cells ≡ true → open_index i cells ≡ None
 none_open [] i h = refl
 none_open (x ∷ cells) i h =
-    let parts = both_true (is_shut x.1) (are_shut cells) h in
+    let parts = both (is_shut x.1) (are_shut cells) h in
     ap (λ (b : Bool). first_at b i (open_index (suc i) cells)) parts.0 ∙ none_open cells (suc i) parts.1
 
 pub counts_passed : (n : ℕ × ℕ) (cells : List (ℕ × AlternativeCell)) (k : ℕ) → counts_from n cells ≡ counts_from (counts_from n (take k cells)) (drop k cells)
@@ -70,7 +67,7 @@ abbrev Reached : NodesView → Option Front → Type 0
 Reached nodes None = Unit {0}
 Reached nodes (Some d) = GoesDown nodes d.node
 
-down_one : (nodes : NodesView) (before : Option Front) (e : Front) → IsNext nodes.rows nodes.first before e → Reached nodes before → GoesDown nodes e.node
+down_one : (nodes : NodesView) (before : Option Front) (e : Front) → IsNextDown nodes.rows nodes.first before e → Reached nodes before → GoesDown nodes e.node
 down_one nodes None e h k = goes_down_from nodes e.node h.node
 down_one nodes (Some d) e h k =
     let cells = alternatives_at (row_of_node nodes.rows d.node) in
@@ -113,7 +110,7 @@ abbrev spent_or : ℕ → Option (ℕ × AlternativeCell) → ℕ
 spent_or other None = other
 spent_or other (Some c) = c.0
 
-counts_one : (nodes : NodesView) (before : Option Front) (e : Front) → IsNext nodes.rows nodes.first before e → CountedTo nodes before → CountsAt nodes e
+counts_one : (nodes : NodesView) (before : Option Front) (e : Front) → IsNextDown nodes.rows nodes.first before e → CountedTo nodes before → CountsAt nodes e
 counts_one nodes None e h k read v up was same s =
     let parent : node_parent nodes.rows v.number ≡ Some None
     = subst (λ (n : ℕ). node_parent nodes.rows n ≡ Some None) (sym same) (first_parent nodes e.node read (plug (v ∷ up) was) h.node s) in
@@ -163,15 +160,11 @@ counts_all nodes before (d ∷ above) e h k = counts_all nodes (Some d) above e 
 pub front_counts : (nodes : NodesView) (e : Front) → IsFront nodes (Some e) → CountsAt nodes e
 front_counts nodes e h = counts_all nodes None h.0 e h.1 tt
 
-neither : (a b : Option Place) → or_else a b ≡ None → (a ≡ None) × (b ≡ None)
-neither None b e = (refl, e)
-neither (Some p) b e = absurd (cc e)
-
 -- nothing is open on fewer levels
 pub none_below : (scope : Option ℕ) (levels : List Level) → first_open levels ≡ None → first_open (levels_below scope levels) ≡ None
 none_below scope [] e = refl
 none_below scope (v ∷ up) e =
-    let parts = neither (first_open up) (first_open_left v.number v.left) (sym (first_open-level v up) ∙ e) in
+    let parts = both_none (first_open up) (first_open_left v.number v.left) (sym (first_open-level v up) ∙ e) in
     by_test (is_node scope v.number) parts.1 (none_below scope up parts.0)
   where
     by_test : (b : Bool) → first_open_left v.number v.left ≡ None → first_open (levels_below scope up) ≡ None

@@ -2,7 +2,7 @@
 ghost use Rattle.std.specs.Prelude.{◌≡◌, ◌≤◌, IsSome, take};
 ghost use Rattle.tree_model.specs.EventViews.{place_view};
 ghost use Rattle.tree_nodes.specs.Rows.{row_of_node, alternatives_at, cell_at};
-ghost use Rattle.tree_nodes.specs.Siblings.{IsPassed};
+ghost use Rattle.tree_nodes.specs.Siblings.{ArePassed};
 ghost use Rattle.tree_nodes.specs.RowViews.{parent_view};
 ghost use Rattle.branch_order.specs.LeftOf.{open_beside, or_else, below_scope, IsFirstOpen, IsCleared, IsAtFront};
 
@@ -53,7 +53,7 @@ pub(crate) fn at_front(front: Option<Front>, node: u64) -> Option<Front>
 /// Alternatives that have closed at the left of a node, as far as they were passed and are left of this one.
 pub(crate) fn passed_left(nodes: &Nodes, at: AltRef) -> Passed
     requires { IsSome (cell_at nodes.now.rows (place_view at)) }
-    ensures passed { IsPassed (take at.alternative (alternatives_at (row_of_node nodes.now.rows at.node))) result }
+    ensures passed { ArePassed (take at.alternative (alternatives_at (row_of_node nodes.now.rows at.node))) result }
     ensures left { result.many ≤ at.alternative }
 {
     let passed = nodes.passed(at.node);

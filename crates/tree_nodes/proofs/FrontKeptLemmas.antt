@@ -12,7 +12,7 @@ use Rattle.tree_nodes.specs.Gathering.{is_shut_at}
 use Rattle.tree_nodes.specs.TreeTables.{IsRoot, NodesView, IsTableOf, Stand}
 use Rattle.tree_nodes.specs.Changes.{Fits, CanHold, is_pending, root_after}
 use Rattle.tree_nodes.specs.Puts.{IsStatePut, IsLinked, IsLinkedAt}
-use Rattle.tree_nodes.specs.Fronts.{AreNext, IsLastOf, IsNext, Retreats, IsBeyond, KeepsFront, AreKept}
+use Rattle.tree_nodes.specs.Fronts.{AreNext, IsLastOf, IsNextDown, Retreats, IsBeyond, KeepsFront, AreKept}
 use Rattle.tree_nodes.proofs.RowLemmas.{row_at_past, row_at_within}
 use Rattle.tree_nodes.proofs.LocateLemmas.{located}
 use Rattle.tree_nodes.proofs.PutLemmas.{put_stand, rows_left, is_some_cell}
@@ -92,12 +92,12 @@ add_kept old new (Some a) body limit front left k can linked f st r =
     } in
     record {
       tree = st;
-      led = (are_kept old new a (linked.spent, InnerCell n) limit k.tree st changed was.0 (inl beyond) None left f led r.1).0;
+      led = (are_kept old new a (linked.spent, InnerCell n) limit k.tree st changed was.0 (inr (inl beyond)) None left f led r.1).0;
     }
 
 -- one node more, where there was memory for it
 pub pushed_kept : (nodes : NodesView) (front new : List Front) (last : Option Front) (e : Front) (ok : Bool) → AreKept nodes front → IsLastOf front last
-    → IsNext nodes.rows nodes.first last e → new ≡ cond ok (front ++ e ∷ []) front → AreKept nodes new
+    → IsNextDown nodes.rows nodes.first last e → new ≡ cond ok (front ++ e ∷ []) front → AreKept nodes new
 pushed_kept nodes front new last e true k l n is =
     record { tree = k.tree; led = subst (AreNext nodes.rows nodes.first None) (sym is) (next-snoc nodes.rows nodes.first front last e k.led l n) }
 pushed_kept nodes front new last e false k l n is = record { tree = k.tree; led = subst (AreNext nodes.rows nodes.first None) (sym is) k.led }

@@ -5,6 +5,7 @@ use Rattle.std.proofs.lemmas.Bool.{cases_lt, cases_eq}
 use Rattle.std.proofs.lemmas.List.{take-set-le, append-nil, append_assoc}
 use Rattle.std.specs.Option.{option_map}
 use Rattle.std.specs.Prelude.{◌⊎◌, ◌&&◌, slice_get, slice_set, IsSome, is_some}
+use Rattle.au_term.proofs.LogicLemmas.{both}
 use Rattle.tree_model.specs.Credits.{counted}
 use Rattle.tree_model.specs.Nodes.{Numbered, Status, Pending, Inner, Closed}
 use Rattle.tree_model.specs.Levels.{Level, plug, Place, place_at}
@@ -16,7 +17,7 @@ use Rattle.tree_nodes.specs.Puts.{inner_at}
 use Rattle.tree_nodes.specs.Gathering.{is_shut, is_shut_at, are_shut}
 use Rattle.tree_nodes.specs.Siblings.{counts_from}
 use Rattle.tree_nodes.specs.TreeTables.{cell_of, IsBelow, IsIn, NodesView, Stand, above_of}
-use Rattle.tree_nodes.specs.Fronts.{place_on, IsNextTo, IsNext, AreNext, IsLastOf, IsLastThere, IsBeyond, KeepsFront}
+use Rattle.tree_nodes.specs.Fronts.{place_on, IsNextTo, IsNextDown, AreNext, IsLastOf, IsLastThere, IsBeyond, HasOpenLeft, KeepsFront}
 use Rattle.tree_nodes.proofs.PlaceLemmas.{AreRound, taken_out}
 use Rattle.tree_nodes.proofs.PutLemmas.{cell_there, is_some_cell}
 use Rattle.tree_nodes.proofs.LocateLemmas.{IsAt, located, found, present}
@@ -109,17 +110,13 @@ set_before (x ∷ cells) zero j c l = absurd (omega (arith, l))
 set_before (x ∷ cells) (suc i) zero c l = refl
 set_before (x ∷ cells) (suc i) (suc j) c l = set_before cells i j c (omega (arith, l))
 
-left_true : (b c : Bool) → (b && c) ≡ true → (b ≡ true) × (c ≡ true)
-left_true true c e = (refl, e)
-left_true false c e = absurd (cc e)
-
 shut_before : (cells : List Cell) (n i : ℕ) (c : Cell) → are_shut (take n cells) ≡ true → i < n → slice_get cells i ≡ Some c → is_shut c.1 ≡ true
 shut_before [] n i c h l e = absurd (cc e)
 shut_before (x ∷ cells) zero i c h l e = absurd (omega (arith, l))
 shut_before (x ∷ cells) (suc n) zero c h l e =
     let same : x ≡ c = (cc e) in
-    ap (λ (y : Cell). is_shut y.1) (sym same) ∙ (left_true (is_shut x.1) (are_shut (take n cells)) h).0
-shut_before (x ∷ cells) (suc n) (suc i) c h l e = shut_before cells n i c (left_true (is_shut x.1) (are_shut (take n cells)) h).1 (omega (arith, l)) e
+    ap (λ (y : Cell). is_shut y.1) (sym same) ∙ (both (is_shut x.1) (are_shut (take n cells)) h).0
+shut_before (x ∷ cells) (suc n) (suc i) c h l e = shut_before cells n i c (both (is_shut x.1) (are_shut (take n cells)) h).1 (omega (arith, l)) e
 
 cells-with_state : (i : ℕ) (c : Cell) (o : Option StoredNode) → alternatives_at (with_state i c o) ≡ slice_set (alternatives_at o) i c
 cells-with_state i c None = refl
@@ -195,6 +192,20 @@ module _ (old new : NodesView) (a : Place) (cell : Cell) (limit : ℕ) (was : St
         (ap alternatives_at (c.here (subst (λ (k : ℕ). IsSome (row_of_node old.rows k)) same (some_cell_row old.rows (place_on d.node h.index) (h.spent, InnerCell e.node) h.cell))
         (subst (λ (k : ℕ). IsSome (row_of_node new.rows k)) same row_there)) ∙ cells-with_state a.index cell (row_of_node old.rows a.node))
 
+    at_right : HasOpenLeft old.rows a → IsNextTo new.rows d e
+    at_right o = elim (cases_lt h.index a.index) [
+      | inl l ↦ beyond d e h p l cells_are
+      | inr not ↦ absurd (
+          let k = is_some_cell (cell_at old.rows (place_on a.node o.index)) o.there in
+          let at : slice_get (alternatives_at (row_of_node old.rows d.node)) o.index ≡ Some k.0
+          = ap (λ (n : ℕ). slice_get (alternatives_at (row_of_node old.rows n)) o.index) same ∙ k.1 in
+          let less = o.less in
+          let shut = shut_before (alternatives_at (row_of_node old.rows d.node)) h.index o.index k.0 h.shut (omega (arith, not, less)) at in
+          let z : true ≡ false = sym shut ∙ (ap is_shut_at (sym k.1) ∙ o.unclosed) in
+          cc z
+          )
+    ]
+
     at_node : IsBeyond old.rows a cell.1 → IsNextTo new.rows d e
     at_node b = elim (cases_lt h.index a.index) [
       | inl l ↦ beyond d e h p l cells_are
@@ -227,7 +238,10 @@ module _ (old new : NodesView) (a : Place) (cell : Cell) (limit : ℕ) (was : St
       let d_new = some_cell_row new.rows (place_on d.node h.index) (i.0, InnerCell e.node) i.1 in
       let d_old = some_cell_row old.rows (place_on d.node h.index) (h.spent, InnerCell e.node) h.cell in
       elim (cases_eq d.node a.node) [
-        | inl same ↦ elim keeps [ inl b ↦ at_node d e h p same b | inr at_limit ↦ absurd (omega (arith, same, at_limit, le, lower)) ]
+        | inl same ↦ elim keeps [
+          | inl o ↦ at_right d e h p same o
+          | inr others ↦ elim others [ inl b ↦ at_node d e h p same b | inr at_limit ↦ absurd (omega (arith, same, at_limit, le, lower)) ]
+        ]
         | inr ne ↦ moved d e h p (c.same d.node ne d_old d_new)
       ]
 
@@ -235,8 +249,8 @@ module _ (old new : NodesView) (a : Place) (cell : Cell) (limit : ℕ) (was : St
   IsHead [] = Unit {0}
   IsHead (e ∷ front) = IsSome (row_of_node new.rows e.node) × (e.node ≤ limit)
 
-  one_kept : (before : Option Front) (e : Front) → new.first ≡ old.first → IsNext old.rows old.first before e → IsSome (row_of_node new.rows e.node) → e.node ≤ limit
-      → IsNext new.rows new.first before e
+  one_kept : (before : Option Front) (e : Front) → new.first ≡ old.first → IsNextDown old.rows old.first before e → IsSome (row_of_node new.rows e.node) → e.node ≤ limit
+      → IsNextDown new.rows new.first before e
   one_kept None e f h s l = record { node = f ∙ h.node; answers = h.answers; inferences = h.inferences }
   one_kept (Some d) e f h s l = next_kept d e h s l
 
@@ -264,7 +278,7 @@ pub next_same : (rows new : Rows) (first : Option ℕ) (before : Option Front) (
 next_same rows new first before [] same h = tt
 next_same rows new first before (e ∷ front) same h = (one before h.0, next_same rows new first (Some e) front same h.1)
   where
-    one : (o : Option Front) → IsNext rows first o e → IsNext new first o e
+    one : (o : Option Front) → IsNextDown rows first o e → IsNextDown new first o e
     one None k = k
     one (Some d) k = record {
       index = k.index;
@@ -292,13 +306,13 @@ last_is front (Some e) h = sym (ap (last_from None) h.1 ∙ last_from-snoc None 
 
 -- one node more
 next_from : (rows : Rows) (first : Option ℕ) (before : Option Front) (front : List Front) (e : Front)
-    → AreNext rows first before front → IsNext rows first (last_from before front) e → AreNext rows first before (front ++ e ∷ [])
+    → AreNext rows first before front → IsNextDown rows first (last_from before front) e → AreNext rows first before (front ++ e ∷ [])
 next_from rows first before [] e h n = (n, tt)
 next_from rows first before (d ∷ front) e h n = (h.0, next_from rows first (Some d) front e h.1 n)
 
 pub next-snoc : (rows : Rows) (first : Option ℕ) (front : List Front) (last : Option Front) (e : Front)
-    → AreNext rows first None front → IsLastOf front last → IsNext rows first last e → AreNext rows first None (front ++ e ∷ [])
-next-snoc rows first front last e h l n = next_from rows first None front e h (subst (λ (o : Option Front). IsNext rows first o e) (last_is front last l) n)
+    → AreNext rows first None front → IsLastOf front last → IsNextDown rows first last e → AreNext rows first None (front ++ e ∷ [])
+next-snoc rows first front last e h l n = next_from rows first None front e h (subst (λ (o : Option Front). IsNextDown rows first o e) (last_is front last l) n)
 
 pub next_at_first : (rows : Rows) (first : Option ℕ) (front : List Front) → first ≡ None → AreNext rows first None front → front ≡ []
 next_at_first rows first [] e h = refl

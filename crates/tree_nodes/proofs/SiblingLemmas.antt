@@ -11,7 +11,7 @@ use Rattle.tree_nodes.specs.declared.siblings.Passed.{Passed}
 use Rattle.tree_nodes.specs.declared.siblings.Alternative.{Alternative}
 use Rattle.tree_nodes.specs.Rows.{AlternativeCell, cell_view}
 use Rattle.tree_nodes.specs.Gathering.{is_shut, are_shut, shut_beside}
-use Rattle.tree_nodes.specs.Siblings.{closed_counts, counts_from, one_open, open_count, IsPassed, AreCounted, alternative_view}
+use Rattle.tree_nodes.specs.Siblings.{closed_counts, counts_from, one_open, open_count, ArePassed, AreCounted, alternative_view}
 
 abbrev Cell : Type 0
 Cell = ℕ × AlternativeCell
@@ -76,12 +76,12 @@ open_count-at (x ∷ cells) zero c e =
     omega (arith, one)
 open_count-at (x ∷ cells) (suc i) c e = let h = open_count-at cells i c e in omega (arith, h)
 
-pub none_passed : (cells : List Cell) → IsPassed cells (record { many = 0; answers = 0; inferences = 0 })
+pub none_passed : (cells : List Cell) → ArePassed cells (record { many = 0; answers = 0; inferences = 0 })
 none_passed cells = record { many = omega arith; shut = refl; counts = refl }
 
 -- what is passed stays so where another is changed, or taken off
 pub passed-set : (cells : List Cell) (p : Passed) (i : ℕ) (now : Cell) → p.many ≤ i → length (slice_set cells i now) ≡ length cells
-    → IsPassed cells p → IsPassed (slice_set cells i now) p
+    → ArePassed cells p → ArePassed (slice_set cells i now) p
 passed-set cells p i now l len h =
     let same : take p.many (slice_set cells i now) ≡ take p.many cells = take-set-le p.many cells i now l in
     let many = h.many in
@@ -91,7 +91,7 @@ passed-set cells p i now l len h =
       counts = ap (counts_from (0, 0)) same ∙ h.counts;
     }
 
-pub passed-front : (front : List Cell) (last : Cell) (p : Passed) → p.many ≤ length front → IsPassed (front ++ last ∷ []) p → IsPassed front p
+pub passed-front : (front : List Cell) (last : Cell) (p : Passed) → p.many ≤ length front → ArePassed (front ++ last ∷ []) p → ArePassed front p
 passed-front front last p l h =
     let same : take p.many (front ++ last ∷ []) ≡ take p.many front = take-append-le p.many front (last ∷ []) l in
     record {
@@ -121,9 +121,9 @@ take-one_more (x ∷ cells) (suc i) c e =
     ap (λ (n : ℕ). take n (x ∷ cells)) one ∙ ap (λ (ys : List Cell). x ∷ ys) (take-one_more cells i c e)
 
 -- one more is passed
-pub passed-more : (cells : List Cell) (p now : Passed) (c : Cell) → IsPassed cells p → slice_get cells p.many ≡ Some c → p.many < length cells
+pub passed-more : (cells : List Cell) (p now : Passed) (c : Cell) → ArePassed cells p → slice_get cells p.many ≡ Some c → p.many < length cells
     → is_shut c.1 ≡ true → now.many ≡ p.many + 1 → now.answers ≡ counted p.answers (closed_counts c.1).0
-    → now.inferences ≡ counted p.inferences (closed_counts c.1).1 → IsPassed cells now
+    → now.inferences ≡ counted p.inferences (closed_counts c.1).1 → ArePassed cells now
 passed-more cells p now c h e l shut many answers inferences =
     let front : take now.many cells ≡ take p.many cells ++ c ∷ [] = ap (λ (n : ℕ). take n cells) many ∙ take-one_more cells p.many c e in
     record {
@@ -147,10 +147,10 @@ module _ (items front : List Alternative) (last : Alternative) (m : ℕ) (p : Pa
       let o = k.open_are in
       omega (arith, a, b, o)
 
-  pub popped_passed : p.many ≤ length front → IsPassed (map alternative_view front) p
+  pub popped_passed : p.many ≤ length front → ArePassed (map alternative_view front) p
   popped_passed l =
       let len = length-map front alternative_view in
-      passed-front (map alternative_view front) (alternative_view last) p (omega (arith, l, len)) (subst (λ (x : List Cell). IsPassed x p) cells k.passed)
+      passed-front (map alternative_view front) (alternative_view last) p (omega (arith, l, len)) (subst (λ (x : List Cell). ArePassed x p) cells k.passed)
 
 pub item_at : (items : List Alternative) (i : ℕ) (x : Alternative) → i < length items → x ≡ get_or items i x
     → slice_get (map alternative_view items) i ≡ Some (alternative_view x)
@@ -193,6 +193,6 @@ module _ (items : List Alternative) (i : ℕ) (was now : Alternative) (m : ℕ) 
       let d = length-set items i now in
       omega (arith, a, b, c, d)
 
-  pub put_passed : p.many ≤ i → IsPassed (map alternative_view (slice_set items i now)) p
-  put_passed d = subst (λ (x : List Cell). IsPassed x p) (sym cells_put)
+  pub put_passed : p.many ≤ i → ArePassed (map alternative_view (slice_set items i now)) p
+  put_passed d = subst (λ (x : List Cell). ArePassed x p) (sym cells_put)
       (passed-set (map alternative_view items) p i (alternative_view now) d (length-set (map alternative_view items) i (alternative_view now)) k.passed)

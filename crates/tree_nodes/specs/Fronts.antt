@@ -1,5 +1,5 @@
 -- The front of a table: nodes from the first one down, to the left of which all has closed, and what was counted there.
-use Rattle.std.specs.Prelude.{◌≡◌, ◌≢◌, ◌≤◌, ◌⊎◌, ℕ, Bool, true, false, List, [], ◌∷◌, ◌++◌, Option, Some, None, IsSome, take}
+use Rattle.std.specs.Prelude.{◌≡◌, ◌≢◌, ◌<◌, ◌≤◌, ◌⊎◌, ℕ, Bool, true, false, List, [], ◌∷◌, ◌++◌, Option, Some, None, IsSome, take}
 use Rattle.tree_model.specs.Credits.{counted}
 use Rattle.tree_model.specs.Levels.{Place}
 use Rattle.tree_nodes.specs.declared.front.Front.{Front}
@@ -32,14 +32,14 @@ pub record IsFirstFront (first : Option ℕ) (e : Front) : Type 0 where
   pub answers : e.answers ≡ 0
   pub inferences : e.inferences ≡ 0
 
-abbrev pub IsNext : Rows → Option ℕ → Option Front → Front → Type 0
-IsNext rows first None e = IsFirstFront first e
-IsNext rows first (Some d) e = IsNextTo rows d e
+abbrev pub IsNextDown : Rows → Option ℕ → Option Front → Front → Type 0
+IsNextDown rows first None e = IsFirstFront first e
+IsNextDown rows first (Some d) e = IsNextTo rows d e
 
 -- each is next to the one before it
 abbrev pub AreNext : Rows → Option ℕ → Option Front → List Front → Type 0
 AreNext rows first before [] = Unit {0}
-AreNext rows first before (e ∷ front) = IsNext rows first before e × AreNext rows first (Some e) front
+AreNext rows first before (e ∷ front) = IsNextDown rows first before e × AreNext rows first (Some e) front
 
 -- the last of such nodes
 abbrev pub IsFront : NodesView → Option Front → Type 0
@@ -48,7 +48,7 @@ IsFront nodes (Some e) = (above : List Front) × AreNext nodes.rows nodes.first 
 
 abbrev pub IsNextOf : NodesView → Option Front → Option Front → Type 0
 IsNextOf nodes before None = Unit {0}
-IsNextOf nodes before (Some e) = IsNext nodes.rows nodes.first before e
+IsNextOf nodes before (Some e) = IsNextDown nodes.rows nodes.first before e
 
 abbrev pub IsLastOf : List Front → Option Front → Type 0
 IsLastOf front None = front ≡ []
@@ -72,8 +72,16 @@ pub record IsBeyond (rows : Rows) (a : Place) (cell : AlternativeCell) : Type 0 
   pub was : is_shut_at (cell_at rows a) ≡ false
   pub now : (m : ℕ) → IsSome (row_of_node rows m) → inner_of cell ≢ Some m
 
+-- an alternative to the left of a place at its node is open
+pub record HasOpenLeft (rows : Rows) (a : Place) : Type 0 where
+  pub index : ℕ
+  pub less : index < a.index
+  pub there : IsSome (cell_at rows (place_on a.node index))
+  pub unclosed : is_shut_at (cell_at rows (place_on a.node index)) ≡ false
+
+-- so far down the front stays where another cell is put at a place
 abbrev pub KeepsFront : Rows → Place → AlternativeCell → ℕ → Type 0
-KeepsFront rows a cell limit = IsBeyond rows a cell ⊎ (limit ≡ a.node)
+KeepsFront rows a cell limit = HasOpenLeft rows a ⊎ (IsBeyond rows a cell ⊎ (limit ≡ a.node))
 
 -- what is kept of nodes: they stand for a tree, and the front is one
 pub record AreKept (nodes : NodesView) (front : List Front) : Type 0 where

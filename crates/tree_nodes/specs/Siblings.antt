@@ -32,7 +32,7 @@ open_count [] = 0
 open_count (c ∷ cells) = one_open c.1 + open_count cells
 
 -- so many from the left have closed, with these counts
-pub record IsPassed (cells : List (ℕ × AlternativeCell)) (p : Passed) : Type 0 where
+pub record ArePassed (cells : List (ℕ × AlternativeCell)) (p : Passed) : Type 0 where
   pub many : p.many ≤ length cells
   pub shut : are_shut (take p.many cells) ≡ true
   pub counts : counts_from (0, 0) (take p.many cells) ≡ (p.answers, p.inferences)
@@ -40,4 +40,4 @@ pub record IsPassed (cells : List (ℕ × AlternativeCell)) (p : Passed) : Type 
 -- what is kept beside alternatives: how many are open, and how far the left has been passed
 pub record AreCounted (many_open : ℕ) (p : Passed) (cells : List (ℕ × AlternativeCell)) : Type 0 where
   pub open_are : many_open ≡ open_count cells
-  pub passed : IsPassed cells p
+  pub passed : ArePassed cells p

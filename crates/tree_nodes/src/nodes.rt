@@ -1,5 +1,6 @@
 //! The table, and the tree for which it stands.
 ghost use Rattle.std.specs.Prelude.{◌≡◌, ◌<◌, ◌≤◌, ◌+◌, ◌-◌, max, IsSome, IsOk, IfOk, OnOk, OnErr, Some, None, [], length, is_some};
+ghost use Rattle.std.specs.Bool.{OnTrue};
 ghost use Rattle.std.specs.Option.{option_map, option_copied};
 ghost use Rattle.tree_model.specs.EventViews.{place_view};
 ghost use Rattle.tree_nodes.specs.Rows.{row_of_node, node_parent, cell_at, alternatives_at, cell_view, credit_view};
@@ -9,8 +10,8 @@ ghost use Rattle.std.specs.Arc.{arc_value};
 ghost use Rattle.tree_nodes.specs.Bodies.{body_view, IsWhole};
 ghost use Rattle.tree_nodes.specs.Changes.{SetsCell, Fits, KeepsNumbers, Adds, CanHold, IsLonger, ClosesAt, LowersSpare, AreGone, GivesBack, is_pending, root_after};
 ghost use Rattle.tree_nodes.specs.Folds.{FoldsUpTo, IsAbove, IsDeeper};
-ghost use Rattle.tree_nodes.specs.Fronts.{KeepsFront, IsFront, IsNextOf};
-ghost use Rattle.tree_nodes.specs.Siblings.{IsPassed};
+ghost use Rattle.tree_nodes.specs.Fronts.{HasOpenLeft, KeepsFront, IsFront, IsNextOf};
+ghost use Rattle.tree_nodes.specs.Siblings.{ArePassed};
 ghost use Rattle.tree_nodes.specs.Puts.{inner_at};
 ghost use Rattle.tree_nodes.specs.Gathering.{IsFoldStep, Gathers, is_shut_at};
 
@@ -162,7 +163,7 @@ impl Nodes {
 
     /// Alternatives at the left of a node that have closed, as far as they were passed.
     pub fn passed(&self, node: u64) -> Passed
-        ensures { IsPassed (alternatives_at (row_of_node self.now.rows node)) result }
+        ensures { ArePassed (alternatives_at (row_of_node self.now.rows node)) result }
     {
         match self.row(node) {
             Some(row) => row.alternatives.passed(),
@@ -251,11 +252,27 @@ impl Nodes {
         requires { IsSome (cell_at self.now.rows (place_view at)) }
         ensures { KeepsFront self.now.rows (place_view at) (cell_view state.now) result }
     {
-        if self.is_closed(at) || matches!(state, AltState::Inner(_)) {
+        let near = self.is_closed(at) || matches!(state, AltState::Inner(_));
+        if near && !self.has_open_left(at) {
             at.node
         } else {
             u64::MAX
         }
+    }
+
+    // Whether an alternative to the left of one at its node is known to be open.
+    fn has_open_left(&self, at: AltRef) -> bool
+        requires { IsSome (cell_at self.now.rows (place_view at)) }
+        ensures { OnTrue result (HasOpenLeft self.now.rows (place_view at)) }
+    {
+        let passed = self.passed(at.node);
+        if at.alternative as usize <= passed.many {
+            return false;
+        }
+        !self.is_closed(AltRef {
+            node: at.node,
+            alternative: passed.many as u32,
+        })
     }
 
     /// The last node of the front: all to its left has closed.

@@ -5,7 +5,7 @@ ghost use Rattle.tree_nodes.specs.Rows.{cell_view, credit_view};
 ghost use Rattle.tree_nodes.specs.RowViews.{inner_of};
 ghost use Rattle.tree_nodes.specs.Changes.{is_pending_cell};
 ghost use Rattle.tree_nodes.specs.Gathering.{closed_in, is_shut, with_left, with_right_credits, shut_beside, with_beside};
-ghost use Rattle.tree_nodes.specs.Siblings.{alternative_view, closed_counts, one_open, open_count, IsPassed};
+ghost use Rattle.tree_nodes.specs.Siblings.{alternative_view, closed_counts, one_open, open_count, ArePassed};
 
 use crate::gather::Gathered;
 use crate::state::{AltState, Credit};
@@ -147,7 +147,7 @@ impl Siblings {
 
     /// Alternatives at the left that have closed, as far as they were passed.
     pub(crate) fn passed(&self) -> Passed
-        ensures { IsPassed self.now result }
+        ensures { ArePassed self.now result }
     {
         self.passed
     }
@@ -218,8 +218,8 @@ fn open_count(items: &[Alternative]) -> usize
 
 // Passes what has closed, from here on.
 fn pass(items: &[Alternative], from: Passed) -> Passed
-    requires { IsPassed (map alternative_view items.now) from }
-    ensures { IsPassed (map alternative_view items.now) result }
+    requires { ArePassed (map alternative_view items.now) from }
+    ensures { ArePassed (map alternative_view items.now) result }
 {
     let mut passed = from;
     while passed.many < items.len() && items[passed.many].is_closed() {

@@ -3,7 +3,7 @@ use Rattle.std.specs.Prelude.{slice_set}
 use Rattle.std.proofs.lemmas.List.{length-map, map-set}
 use Rattle.tree_nodes.specs.declared.siblings.Alternative.{Alternative}
 use Rattle.tree_nodes.specs.declared.siblings.Passed.{Passed}
-use Rattle.tree_nodes.specs.Siblings.{alternative_view, IsPassed}
+use Rattle.tree_nodes.specs.Siblings.{alternative_view, ArePassed}
 use Rattle.tree_nodes.proofs.SiblingLemmas.{put_below, put_open, put_bound, put_passed, none_passed}
 use Rattle.tree_nodes.proofs.siblings.Siblings.put.Goals as goal
 use Rattle.tree_nodes.proofs.siblings.Siblings.put.Goals.{then-index-self, else-index-self}
@@ -56,12 +56,12 @@ pass-self-inside-requires c =
     let e : was ≡ get_or items c.args.index was = read items c.args.index was c.index_mut.result.now c.replace-before.ensures.value c.index_mut.ensures.value in
     let dest : c.deref.result.now ≡ slice_set items c.args.index now
     = c.deref.ensures.value ∙ ap (slice_set items c.args.index) c.replace-before.ensures.after in
-    let from : IsPassed (map alternative_view (slice_set items c.args.index now)) c.if-index-self.from = elim c.if-index-self.branch [
-      | then-index-self w ↦ subst (IsPassed (map alternative_view (slice_set items c.args.index now))) (sym w.from-is) (none_passed _)
-      | else-index-self w ↦ subst (IsPassed (map alternative_view (slice_set items c.args.index now))) (sym w.from-is)
+    let from : ArePassed (map alternative_view (slice_set items c.args.index now)) c.if-index-self.from = elim c.if-index-self.branch [
+      | then-index-self w ↦ subst (ArePassed (map alternative_view (slice_set items c.args.index now))) (sym w.from-is) (none_passed _)
+      | else-index-self w ↦ subst (ArePassed (map alternative_view (slice_set items c.args.index now))) (sym w.from-is)
           (put_passed items c.args.index was now m p l e c.self.invariant w.if-index-self.false)
     ] in
-    subst (λ (x : List Alternative). IsPassed (map alternative_view x) c.if-index-self.from) (sym dest) from
+    subst (λ (x : List Alternative). ArePassed (map alternative_view x) c.if-index-self.from) (sym dest) from
 
 pub invariant_of-self : goal.invariant_of-self
 invariant_of-self c =
@@ -82,7 +82,7 @@ invariant_of-self c =
     = ap (λ (x : Alternative). map alternative_view (slice_set items c.args.index x)) dest in
     rw same (record {
       open_are = omega (arith, count, one, two);
-      passed = subst (λ (x : List Alternative). IsPassed (map alternative_view x) c.pass-self-inside.result) (c.deref.ensures.value ∙ ap (slice_set items c.args.index) dest) c.pass-self-inside.ensures;
+      passed = subst (λ (x : List Alternative). ArePassed (map alternative_view x) c.pass-self-inside.result) (c.deref.ensures.value ∙ ap (slice_set items c.args.index) dest) c.pass-self-inside.ensures;
     })
 
 pub returns : goal.returns
