@@ -1,5 +1,5 @@
 -- Procedures that become unknown.
-use Rattle.std.proofs.Common.{◌≡◌, ℕ, Bool, true, false, not, ◌&&◌, ◌||◌, nat_lt, List, [], ◌∷◌, ◌++◌, Option, Some, None, refl, sym, ap, ap₂, ◌∙◌, subst, codes}
+use Rattle.std.proofs.Common.{◌≡◌, ℕ, Bool, true, false, not, ◌&&◌, ◌||◌, nat_lt, List, [], ◌∷◌, ◌++◌, Option, None, sym, ap, ap₂, ◌∙◌, codes}
 use Rattle.au_term.specs.Term.{Term}
 use Rattle.au_term.proofs.LogicLemmas.{or-right}
 use Rattle.au_model.specs.Terms.Forms.{name_of}

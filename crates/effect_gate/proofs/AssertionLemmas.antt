@@ -1,11 +1,11 @@
 -- Clauses that are added to procedures that are not static.
-use Rattle.std.proofs.Common.{◌≡◌, ℕ, Bool, true, false, ◌||◌, List, [], ◌∷◌, ◌++◌, Option, Some, None, Vec, refl, sym, ap, ap₂, ◌∙◌, subst, codes}
+use Rattle.std.proofs.Common.{◌≡◌, false, [], ◌∷◌, ◌++◌, Option, Some, None, sym, ap, ap₂, ◌∙◌, subst, codes}
 use Rattle.au_term.specs.Term.{Term, argument_count}
 use Rattle.au_term.proofs.LogicLemmas.{or-right}
-use Rattle.au_model.specs.Terms.Forms.{name_of, indicator, is_callable}
+use Rattle.au_model.specs.Terms.Forms.{name_of, indicator}
 use Rattle.au_model.specs.Syntax.OperatorChanges.{first_error}
 use Rattle.run_model.specs.Programs.Bodies.{body_of}
-use Rattle.run_model.specs.Programs.Clauses.{Clause, numbered}
+use Rattle.run_model.specs.Programs.Clauses.{Clause}
 use Rattle.run_model.specs.Programs.Databases.{Database}
 use Rattle.run_model.specs.Programs.DatabaseChanges.{with_first_clause, with_last_clause}
 use Rattle.run_model.specs.Goals.DatabaseGoals.{assertion_error, body_in, head_errors, head_in, modify_error, no_body_error, static_error, with_clause_by}
@@ -14,7 +14,6 @@ use Rattle.run_model.specs.Goals.Worlds.{is_reserved}
 use Rattle.clause_compile.specs.CompiledClauses.{IsNumberedClause}
 use Rattle.dyn_clauses.specs.ClauseEnds.{indicator_of}
 use Rattle.dyn_clauses.specs.DatabaseView.{KnownDatabase, is_static}
-use Rattle.dyn_clauses.specs.declared.indicator.Indicator.{Indicator}
 use Rattle.effect_gate.specs.Effects.{IsEffectApplied, statics_of, world_meant}
 use Rattle.effect_gate.specs.Refusals.{IsKeptClause, adding, assertion}
 use Rattle.effect_gate.specs.declared.assertion.End.{End}

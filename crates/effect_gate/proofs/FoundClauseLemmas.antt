@@ -1,18 +1,15 @@
 -- Clauses that were looked up by the key of a head: those that were left out do not unify.
-use Rattle.std.proofs.Common.{◌≡◌, ℕ, ◌<◌, Bool, true, false, not, ◌&&◌, ◌==◌, List, [], ◌∷◌, ◌++◌, map, Option, Some, None, refl, sym, ap, ◌∙◌, subst, codes, arith}
-use Rattle.std.specs.Ordering.{int_eq}
+use Rattle.std.proofs.Common.{◌≡◌, ℕ, false, List, [], ◌∷◌, map, Option, Some, None, refl, sym, ap, ◌∙◌, subst, codes}
 use Rattle.std.specs.Option.{option_map}
-use Rattle.au_term.specs.Term.{Term, VarTerm, IntTerm, AtomTerm, Compound, Terms, end, more, count, arguments, argument, argument_count}
+use Rattle.au_term.specs.Term.{Term, argument_count}
 use Rattle.au_model.specs.Terms.EquationsInTurn.{further_unified}
-use Rattle.au_model.specs.Terms.Forms.{name_of, same_name}
-use Rattle.au_model.specs.Terms.Substitutions.{apply, apply_all}
+use Rattle.au_model.specs.Terms.Forms.{name_of}
 use Rattle.au_model.specs.Terms.Unifier.{unifier}
 use Rattle.au_model.specs.Syntax.OperatorChanges.{error_if, first_error}
 use Rattle.au_model.specs.Terms.TermTypes.{is_integer}
 use Rattle.au_model.specs.Terms.ErrorTerms.{type_error}
 use Rattle.au_model.proofs.EquationsInTurnLemmas.{front_first}
-use Rattle.au_model.proofs.UnifierRuleLemmas.{count-apply_all}
-use Rattle.run_model.specs.Programs.Clauses.{Clause, clause_renaming, renamed_head, renamed_body}
+use Rattle.run_model.specs.Programs.Clauses.{clause_renaming, renamed_head, renamed_body}
 use Rattle.run_model.specs.Programs.Databases.{NumberedClause, Database, clauses_of, plain_clauses}
 use Rattle.run_model.specs.Goals.Outcomes.{Reply, Solutions, Solution, clause_solution, alternatives_of}
 use Rattle.run_model.specs.Goals.DatabaseGoals.{body_in, clause_error, clause_found, clause_match, clauses_for, each_clause, head_errors, head_in, modify_error, access_error, retracted, retraction_error, static_error}
@@ -20,9 +17,7 @@ use Rattle.run_model.specs.Goals.Worlds.{dynamic_call}
 use Rattle.clause_compile.specs.CompiledClauses.{shown}
 use Rattle.clause_compile.specs.declared.event.Effect.TheVariants as effect
 use Rattle.proc_index.specs.declared.key.Key.{Key}
-use Rattle.proc_index.specs.declared.key.Key.TheVariants.{Any}
-use Rattle.proc_index.specs.Keys.{first_has, has_key, head_key, key_of, may_match}
-use Rattle.proc_index.specs.Laws.{tell_apart}
+use Rattle.proc_index.specs.Keys.{head_key, may_match}
 use Rattle.proc_index.proofs.KeyClashLemmas.{key_clash}
 use Rattle.dyn_clauses.specs.DatabaseView.{matching_numbered}
 use Rattle.effect_gate.specs.Effects.{AreFound, IsEffectApplied, statics_of, world_meant}
@@ -30,7 +25,7 @@ use Rattle.effect_gate.specs.Refusals.{AreLookedUp, may_unify_with}
 use Rattle.effect_gate.specs.declared.world.World.{World}
 use Rattle.effect_gate.specs.declared.world.Applied.{Applied}
 use Rattle.effect_gate.specs.declared.world.Applied.TheVariants.{Went, Raise, Clauses, Fails, Rows, Halt}
-use Rattle.effect_gate.proofs.RefusalLemmas.{front_none, one_error, passed_by, Raises, raised_by, front_some}
+use Rattle.effect_gate.proofs.RefusalLemmas.{front_none, one_error, passed_by, Raises, raised_by}
 
 -- a call and a match that fail by the key
 call_clash : (goal : Term) (next : ℕ) (c : NumberedClause) → may_match (head_key goal) c.clause.head ≡ false → unifier (clause_solution goal next c.clause).equations ≡ None
@@ -38,8 +33,8 @@ call_clash goal next c h = key_clash goal c.clause.head (clause_renaming c.claus
 
 match_clash : (removes : Option ℕ) (head body : Term) (next : ℕ) (c : NumberedClause) → may_match (head_key head) c.clause.head ≡ false → unifier (clause_match removes head body next c.clause).equations ≡ None
 match_clash removes head body next c h =
-    let first = (head, renamed_head c.clause next) in
-    let second = (body, renamed_body c.clause next) in
+    let first : Term × Term = (head, renamed_head c.clause next) in
+    let second : Term × Term = (body, renamed_body c.clause next) in
     front_first (first ∷ []) (second ∷ []) ∙ ap (λ o. further_unified o (second ∷ [])) (key_clash head c.clause.head (clause_renaming c.clause next) h)
 
 abbrev some_value : {A : Type 0} (x : A) (o : Option A) → A

@@ -1,5 +1,5 @@
 -- Heads and bodies in clauses, and the parts of Name/Arity.
-use Rattle.std.proofs.Common.{◌≡◌, ℕ, suc, arith, Bool, true, false, not, ◌&&◌, ◌||◌, ◌==◌, if◌then◌else◌, List, [], ◌∷◌, ◌++◌, Option, Some, None, Result, Ok, Err, IfOk, refl, sym, ap, ap₂, ◌∙◌, subst, codes}
+use Rattle.std.proofs.Common.{◌≡◌, ℕ, suc, arith, Bool, true, false, not, ◌&&◌, ◌||◌, ◌==◌, if◌then◌else◌, [], ◌∷◌, ◌++◌, Option, Some, None, Result, Ok, Err, IfOk, refl, sym, ap, ap₂, ◌∙◌, codes}
 use Rattle.std.proofs.lemmas.Bool.Decides.{nat_tests}
 use Rattle.std.specs.Option.{is_none}
 use Rattle.au_term.specs.Term.{Term, VarTerm, IntTerm, AtomTerm, Compound, Terms, end, more, argument, argument_count, count}
@@ -12,9 +12,8 @@ use Rattle.au_model.specs.Terms.Substitutions.{apply}
 use Rattle.au_model.specs.Syntax.OperatorChanges.{error_if, first_error}
 use Rattle.au_model.proofs.UnifierRuleLemmas.{count-apply_all}
 use Rattle.au_model.specs.Terms.Forms.{name_of}
-use Rattle.run_model.specs.Programs.Bodies.{body_of}
-use Rattle.run_model.specs.Programs.Clauses.{Clause, numbered}
-use Rattle.run_model.specs.Goals.DatabaseGoals.{head_in, body_in, head_errors, no_body_error, is_indicator}
+use Rattle.run_model.specs.Programs.Clauses.{Clause}
+use Rattle.run_model.specs.Goals.DatabaseGoals.{head_in, body_in, head_errors, is_indicator}
 use Rattle.clause_compile.specs.CompiledClauses.{IsNumberedClause}
 use Rattle.effect_gate.specs.Refusals.{has_body}
 use Rattle.effect_gate.specs.Indicators.{name_part, arity_part, shape_error}

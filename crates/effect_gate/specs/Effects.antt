@@ -1,13 +1,12 @@
 -- What effects come to: the world after each, and its reply.
-use Rattle.std.specs.Prelude.{◌≡◌, ℕ, Bool, ◌||◌, List, [], ◌∷◌, map, filter, false, Option, Some, None, codes, Result, Ok, Err}
-use Rattle.au_term.specs.Term.{Term, argument_count}
+use Rattle.std.specs.Prelude.{◌≡◌, ℕ, Bool, ◌||◌, List, [], map, filter, false, Option, Some, None, codes}
+use Rattle.au_term.specs.Term.{argument_count}
 use Rattle.au_model.specs.Terms.ErrorTerms.{error_term}
 use Rattle.au_model.specs.Terms.Faults.{error_term_of}
 use Rattle.au_model.specs.Terms.Forms.{name_of}
 use Rattle.au_model.specs.Terms.Unifier.{unifier}
 use Rattle.au_model.specs.Syntax.OperatorChanges.{operators_changed}
 use Rattle.au_model.specs.Writing.Lines.{answer_line, end_line}
-use Rattle.au_model.specs.declared.fault.Fault.{Fault}
 use Rattle.au_model.specs.declared.types.Style.TheVariants.{Plain, Quoted, Canonical}
 use Rattle.run_model.specs.Programs.Databases.{Database, NumberedClause, clauses_of, without_clause}
 use Rattle.run_model.specs.Programs.DatabaseChanges.{with_first_clause, with_last_clause}

@@ -1,6 +1,6 @@
 -- What Name/Arity has to be, condition by condition.
-use Rattle.std.specs.Prelude.{◌≡◌, ℕ, nat_lt, Bool, not, ◌||◌, ◌&&◌, pos, List, [], ◌∷◌, Option, codes}
-use Rattle.au_term.specs.Term.{Term, IntTerm, AtomTerm, arguments, term_at}
+use Rattle.std.specs.Prelude.{◌≡◌, nat_lt, not, ◌||◌, ◌&&◌, [], ◌∷◌, Option, codes}
+use Rattle.au_term.specs.Term.{Term, arguments, term_at}
 use Rattle.au_model.specs.Terms.Forms.{name_of}
 use Rattle.au_model.specs.Terms.TermTypes.{is_variable, is_integer, is_atom}
 use Rattle.au_model.specs.Terms.ErrorTerms.{instantiation_error, type_error, domain_error, representation_error}

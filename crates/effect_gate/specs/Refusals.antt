@@ -1,5 +1,5 @@
 -- What functions answer that refuse an effect with an error.
-use Rattle.std.specs.Prelude.{◌≡◌, ℕ, Bool, true, ◌&&◌, ◌==◌, codes, List, map, Option, Some, None, Result, Ok, Err}
+use Rattle.std.specs.Prelude.{◌≡◌, Bool, true, ◌&&◌, ◌==◌, codes, List, map, Option, Some, None, Result, Ok, Err}
 use Rattle.au_term.specs.Term.{Term, argument_count}
 use Rattle.au_model.specs.Terms.Faults.{error_term_of}
 use Rattle.au_model.specs.Terms.Forms.{name_of, is_callable, same_name}
@@ -22,7 +22,7 @@ use Rattle.effect_gate.specs.declared.assertion.End.{End}
 use Rattle.effect_gate.specs.declared.assertion.End.TheVariants.{First, Last}
 use Rattle.effect_gate.specs.declared.world.World.{World}
 use Rattle.effect_gate.specs.declared.world.Applied.{Applied}
-use Rattle.effect_gate.specs.declared.world.Applied.TheVariants.{Went, Raise, Clauses, Fails, Rows, Halt}
+use Rattle.effect_gate.specs.declared.world.Applied.TheVariants.{Raise, Clauses, Fails}
 
 -- no error and a value that is so, or this error
 abbrev pub IsValueOrError : {X : Type 0} → Option Term → (X → Type 0) → Result X Refusal → Type 0

@@ -10,13 +10,17 @@
 pub mod body;
 mod cells;
 mod drops;
+pub mod front;
 mod gather;
 pub mod nodes;
 mod row;
+pub mod siblings;
 pub mod state;
 #[cfg(test)]
 mod tests;
 
 pub use body::{NodeBody, NodeKind};
+pub use front::Front;
 pub use nodes::Nodes;
+pub use siblings::Passed;
 pub use state::{AltState, Credit};

@@ -1,0 +1,4 @@
+pub mod FrameLemmas
+pub mod ScopeLemmas
+pub mod StandingLemmas
+pub mod RegionLemmas

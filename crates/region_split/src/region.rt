@@ -1,0 +1,161 @@
+//! The region.
+ghost use Rattle.std.specs.Prelude.{◌≡◌, ◌<◌, ◌≤◌, IfOk, OnOk, OnErr, [], length};
+ghost use Rattle.std.specs.Arc.{arc_value};
+ghost use Rattle.region_split.specs.Frames.{items_at};
+ghost use Rattle.region_split.specs.ChoicePoints.{frames_kept};
+ghost use Rattle.region_split.specs.Regions.{IsPositionIn, AreAlternativesIn};
+ghost use Rattle.region_split.specs.StackOperations.{new_region, AddsFrame, AddsChoice, CutsTo, TakesNewest, DropsNewest};
+
+use crate::choice::{Alternatives, ChoicePoint};
+use crate::frame::{Frame, Position};
+use crate::text::Text;
+use au_term::NoMemory;
+use cell_store::Store;
+use std::alloc::Global;
+use std::marker::Model;
+use std::sync::Arc;
+
+/// Frames and choice points over a store, each choice point with its mark.
+#[derive(Drop)]
+pub struct Region {
+    text: Arc<Text>,
+    store: Store,
+    frames: Vec<Frame>,
+    choices: Vec<ChoicePoint>,
+}
+
+impl Model for Region {
+    ghost use Rattle.std.specs.Arc.{arc_value};
+    ghost use Rattle.std.specs.Coded.{codes};
+    ghost use Rattle.au_term.specs.PrefixOrder.{term_code};
+    ghost use Rattle.region_split.specs.Regions.{RegionView, IsConsistentRegion};
+
+    ghost Value = { RegionView };
+
+    ghost coded = { Prim.hlevel (codes, term_code) };
+
+    ghost view = { λ r. record { text = arc_value r.text; store = r.store; frames = r.frames.items; choices = r.choices.items } };
+
+    ghost invariant = { λ r. IsConsistentRegion (record { text = arc_value r.text; store = r.store; frames = r.frames.items; choices = r.choices.items }) };
+}
+
+impl Region {
+    /// No frame and no choice point.
+    pub fn new(alloc: Global, text: Arc<Text>) -> Result<Region, NoMemory>
+        ensures { IfOk result (λ r. r ≡ new_region (arc_value text)) }
+    {
+        let store = Store::new(alloc, text.code()?)?;
+        Ok(Region {
+            text,
+            store,
+            frames: Vec::new(alloc),
+            choices: Vec::new(alloc),
+        })
+    }
+
+    /// How many choice points there are.
+    pub fn height(&self) -> usize
+        ensures { result ≡ length self.now.choices }
+    {
+        self.choices.len()
+    }
+
+    /// The position at which nothing is left to do.
+    pub fn nothing_left(&self) -> Position
+        ensures items { items_at self.now.text self.now.frames result ≡ [] }
+        ensures position { IsPositionIn self.now result }
+    {
+        Position { frame: 0, at: 0 }
+    }
+
+    /// Makes a frame, and gives its number. A frame that no choice point keeps, and that is younger than the one in which the
+    /// new frame goes on, is written over.
+    pub fn push_frame(&mut self, frame: Frame) -> Result<u32, NoMemory>
+        requires { frame.after.frame ≤ length self.old.frames }
+        ensures ok { IfOk result (AddsFrame self.old self.new frame) }
+        ensures err { OnErr result (self.new ≡ self.old) }
+    {
+        let kept = frames_kept_by(&self.choices).max(frame.after.frame);
+        let Some(number) = kept.checked_add(1) else {
+            return Err(NoMemory);
+        };
+        let at = kept as usize;
+        if at < self.frames.len() {
+            self.frames[at] = frame;
+            self.frames.truncate(number as usize);
+        } else {
+            self.frames.push(frame)?;
+        }
+        Ok(number)
+    }
+
+    /// Puts a choice point on top, whose alternatives go on at a position.
+    pub fn push_choice(
+        &mut self,
+        alternatives: Alternatives,
+        after: Position,
+    ) -> Result<(), NoMemory>
+        requires position { IsPositionIn self.old after }
+        requires values { AreAlternativesIn self.old alternatives }
+        ensures ok { OnOk result (AddsChoice self.old self.new alternatives after) }
+        ensures err { OnErr result (self.new ≡ self.old) }
+    {
+        let frames = frames_kept_by(&self.choices).max(after.frame);
+        self.choices.reserve(1)?;
+        self.store.mark()?;
+        self.choices
+            .push(ChoicePoint {
+                alternatives,
+                after,
+                frames,
+            })
+            .unwrap();
+        Ok(())
+    }
+
+    /// Cuts down to so many choice points, the oldest. Nothing is undone.
+    pub fn cut_to(&mut self, count: usize)
+        requires { count ≤ length self.old.choices }
+        ensures { CutsTo self.old self.new count }
+    {
+        self.choices.truncate(count);
+        self.store.keep_marks(count);
+    }
+
+    /// Takes the newest choice point off, and undoes all that was bound and made since it came.
+    pub fn take_newest(&mut self) -> ChoicePoint
+        requires { 0 < length self.old.choices }
+        ensures { TakesNewest self.old self.new result }
+    {
+        let newest = self.choices.len() - 1;
+        self.store.undo_to(newest);
+        self.store.keep_marks(newest);
+        match self.choices.pop() {
+            Some(choice) => choice,
+            None => unreachable!(),
+        }
+    }
+
+    /// Takes the newest choice point off, and undoes nothing: a cursor with no clause left, or a catch at its end.
+    pub fn drop_newest(&mut self) -> ChoicePoint
+        requires { 0 < length self.old.choices }
+        ensures { DropsNewest self.old self.new result }
+    {
+        let newest = self.choices.len() - 1;
+        self.store.keep_marks(newest);
+        match self.choices.pop() {
+            Some(choice) => choice,
+            None => unreachable!(),
+        }
+    }
+}
+
+/// How many frames the newest choice point keeps.
+fn frames_kept_by(choices: &[ChoicePoint]) -> u32
+    ensures { result ≡ frames_kept 0 choices.now }
+{
+    match choices.last() {
+        Some(choice) => choice.frames,
+        None => 0,
+    }
+}
