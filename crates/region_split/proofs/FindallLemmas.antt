@@ -9,7 +9,7 @@ use Rattle.au_model.specs.Terms.Named.{NamedTerm}
 use Rattle.run_model.specs.Machine.Items.{Continuation}
 use Rattle.run_model.specs.Machine.Entries.{Entry, with_result, collected}
 use Rattle.cell_store.specs.StoreView.{Moment}
-use Rattle.region_split.specs.ChoicePoints.{RegionSetting, Standing, standing_over, nothing_standing, with_entries_on_top, choice_entries, alternative_entries, continuation_at, height_of_cut, AreAlternativesAt, IsChoiceOver, AreChoicesOver, IsFindall, with_found, frames_kept}
+use Rattle.region_split.specs.ChoicePoints.{RegionSetting, Standing, standing_over, nothing_standing, with_entries_on_top, choice_entries, alternative_entries, continuation_at, height_of_cut, AreAlternativesAt, IsChoiceOver, AreChoicesOver, IsCollecting, with_found, frames_kept}
 use Rattle.region_split.specs.Regions.{RegionView, region_setting, standing, entries_of, heights_of, IsConsistentRegion}
 use Rattle.region_split.specs.StackOperations.{AddsResult, HasFindallAt}
 use Rattle.region_split.specs.declared.choice.Alternatives.{Alternatives}
@@ -47,7 +47,7 @@ record IsFindallEntry (s : RegionSetting) (m : Moment) (h : ℕ) (f : Continuati
   was : alternative_entries s m h f a ≡ entry ∷ []
   is : alternative_entries s m h f (with_found t a) ≡ with_result t entry ∷ []
 
-findall_entry : (s : RegionSetting) (m : Moment) (h : ℕ) (f : Continuation ℕ) (t : Term) (a : Alternatives) → IsFindall a → IsFindallEntry s m h f t a
+findall_entry : (s : RegionSetting) (m : Moment) (h : ℕ) (f : Continuation ℕ) (t : Term) (a : Alternatives) → IsCollecting a → IsFindallEntry s m h f t a
 findall_entry s m h f t (Clauses goal first end) k = absurd k
 findall_entry s m h f t Elsewhere k = absurd k
 findall_entry s m h f t (Catch catcher recovery) k = absurd k
@@ -85,7 +85,7 @@ kept_changed : (frames : ℕ) (xs ys : List ChoicePoint) (c : ChoicePoint) (a : 
 kept_changed frames [] ys c a = refl
 kept_changed frames (x ∷ xs) ys c a = kept_changed x.frames xs ys c a
 
-module _ (r : RegionView) (k : IsConsistentRegion r) (xs ys : List ChoicePoint) (c : ChoicePoint) (ns ps : List Moment) (m : Moment) (t : Term) (choices : r.choices ≡ xs ++ c ∷ ys) (marks : r.store.marks ≡ ns ++ m ∷ ps) (places : length xs ≡ length ns) (findall : IsFindall c.alternatives) where
+module _ (r : RegionView) (k : IsConsistentRegion r) (xs ys : List ChoicePoint) (c : ChoicePoint) (ns ps : List Moment) (m : Moment) (t : Term) (choices : r.choices ≡ xs ++ c ∷ ys) (marks : r.store.marks ≡ ns ++ m ∷ ps) (places : length xs ≡ length ns) (findall : IsCollecting c.alternatives) where
   abbrev found : ChoicePoint
   found = record c { alternatives = with_found t c.alternatives }
 
@@ -147,14 +147,14 @@ module _ (r : RegionView) (k : IsConsistentRegion r) (xs ys : List ChoicePoint) 
     others = refl;
   }
 
-is_findall : (cs : List ChoicePoint) (i : ℕ) (x : ChoicePoint) → IsSomeAnd (slice_get cs i) (λ c. IsFindall c.alternatives) → x ≡ get_or cs i x → (i < length cs) × IsFindall x.alternatives
+is_findall : (cs : List ChoicePoint) (i : ℕ) (x : ChoicePoint) → IsSomeAnd (slice_get cs i) (λ c. IsCollecting c.alternatives) → x ≡ get_or cs i x → (i < length cs) × IsCollecting x.alternatives
 is_findall [] i x h e = absurd h
-is_findall (c ∷ cs) zero x h e = (omega arith, subst (λ (y : ChoicePoint). IsFindall y.alternatives) (sym e) h)
+is_findall (c ∷ cs) zero x h e = (omega arith, subst (λ (y : ChoicePoint). IsCollecting y.alternatives) (sym e) h)
 is_findall (c ∷ cs) (suc i) x h e = let rest = is_findall cs i x h e in (let lt = rest.0 in omega (arith, lt), rest.1)
 
 -- as the code leaves it
 module _ (r old : RegionView) (seen : r ≡ old) (k : IsConsistentRegion r) (over : ℕ) (x : ChoicePoint) (t : Term) (d : Alternatives) (has : HasFindallAt old over) (at : x ≡ get_or r.choices over x) where
-  there : (over < length r.choices) × IsFindall x.alternatives
+  there : (over < length r.choices) × IsCollecting x.alternatives
   there = is_findall r.choices over x (subst (λ y. HasFindallAt y over) (sym seen) has) at
 
   parted : r.choices ≡ take over r.choices ++ x ∷ drop (over + 1) r.choices

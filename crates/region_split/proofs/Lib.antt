@@ -5,3 +5,4 @@ pub mod RegionLemmas
 pub mod CursorLemmas
 pub mod FindallLemmas
 pub mod LeftLemmas
+pub mod StoreLemmas

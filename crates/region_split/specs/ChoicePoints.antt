@@ -96,12 +96,12 @@ HaveNoClause (Catch catcher recovery) = Unit {0}
 HaveNoClause (Findall list results) = Unit {0}
 HaveNoClause QueryEnd = Unit {0}
 
-abbrev pub IsFindall : Alternatives → Type 0
-IsFindall (Clauses goal first end) = ⊥
-IsFindall Elsewhere = ⊥
-IsFindall (Catch catcher recovery) = ⊥
-IsFindall (Findall list results) = Unit {0}
-IsFindall QueryEnd = ⊥
+abbrev pub IsCollecting : Alternatives → Type 0
+IsCollecting (Clauses goal first end) = ⊥
+IsCollecting Elsewhere = ⊥
+IsCollecting (Catch catcher recovery) = ⊥
+IsCollecting (Findall list results) = Unit {0}
+IsCollecting QueryEnd = ⊥
 
 -- a findall with one more result
 abbrev pub with_found : Term → Alternatives → Alternatives

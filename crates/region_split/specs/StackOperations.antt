@@ -8,7 +8,7 @@ use Rattle.run_model.specs.Machine.Entries.{Entry, lowest, solution_entry, colle
 use Rattle.cell_store.specs.StoreView.{Moment, with_mark, with_marks, new_store, IsValueIn, meaning}
 use Rattle.region_split.specs.Texts.{TextView}
 use Rattle.region_split.specs.Frames.{body_left, items_at, AreCutWithin}
-use Rattle.region_split.specs.ChoicePoints.{height_of_cut, HaveNoClause, IsFindall}
+use Rattle.region_split.specs.ChoicePoints.{height_of_cut, HaveNoClause, IsCollecting}
 use Rattle.region_split.specs.Regions.{RegionView, continuation_here, standing, entries_of, heights_of, position_entry, entries_on, IsPositionIn, IsPositionOver, AreAlternativesIn}
 use Rattle.region_split.specs.declared.choice.Alternatives.{Alternatives}
 use Rattle.region_split.specs.declared.choice.ChoicePoint.{ChoicePoint}
@@ -91,7 +91,7 @@ pub record TakesClause (old new : RegionView) (t : Trial) : Type 0 where
 
 -- there is a findall over so many choice points
 abbrev pub HasFindallAt : RegionView → ℕ → Type 0
-HasFindallAt r over = IsSomeAnd (slice_get r.choices over) (λ c. IsFindall c.alternatives)
+HasFindallAt r over = IsSomeAnd (slice_get r.choices over) (λ c. IsCollecting c.alternatives)
 
 -- a result was added to the findall over so many choice points
 pub record AddsResult (old new : RegionView) (over : ℕ) (t : Term) : Type 0 where
@@ -99,3 +99,9 @@ pub record AddsResult (old new : RegionView) (over : ℕ) (t : Term) : Type 0 wh
   pub heights : (named : List NamedTerm) → heights_of named new ≡ heights_of named old
   pub many : length new.choices ≡ length old.choices
   pub others : new ≡ record old { choices = new.choices }
+
+-- the store went on: the choice points stand for what they stood for, and positions stay
+pub record StaysStanding (old new : RegionView) : Type 0 where
+  pub stands : (named : List NamedTerm) → standing named new ≡ standing named old
+  pub position : (p : Position) → IsPositionIn old p → IsPositionIn new p
+  pub others : new ≡ record old { store = new.store }

@@ -1,6 +1,6 @@
 //! Choice points.
 ghost use Rattle.std.specs.Prelude.{◌≡◌, MatchOption, OnOk, OnErr, IsTrue, ◌↔◌};
-ghost use Rattle.region_split.specs.ChoicePoints.{HasNextClause, HaveNoClause, IsFindall, with_found};
+ghost use Rattle.region_split.specs.ChoicePoints.{HasNextClause, HaveNoClause, IsCollecting, with_found};
 
 use crate::frame::Position;
 use crate::results::Results;
@@ -66,7 +66,7 @@ impl Alternatives {
 
     /// Adds a copy of a term to the results of a findall.
     pub(crate) fn add_result(&mut self, alloc: Global, term: &FlatTerm) -> Result<(), NoMemory>
-        requires { IsFindall self.old }
+        requires { IsCollecting self.old }
         ensures ok { OnOk result (self.new ≡ with_found term.now self.old) }
         ensures err { OnErr result (self.new ≡ self.old) }
     {
@@ -80,7 +80,7 @@ impl Alternatives {
 impl ChoicePoint {
     /// Whether it is a findall.
     pub(crate) fn is_findall(&self) -> bool
-        ensures { IsTrue result ↔ IsFindall self.now.alternatives }
+        ensures { IsTrue result ↔ IsCollecting self.now.alternatives }
     {
         match &self.alternatives {
             Alternatives::Findall { .. } => true,

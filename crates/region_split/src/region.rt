@@ -1,15 +1,19 @@
 //! The region.
 ghost use Rattle.std.specs.Prelude.{◌≡◌, ◌<◌, ◌≤◌, IfOk, OnOk, OnErr, MatchOption, IsTrue, ◌↔◌, [], length};
 ghost use Rattle.std.specs.Arc.{arc_value};
+ghost use Rattle.au_term.specs.Term.{var_bound};
+ghost use Rattle.cell_store.specs.StoreView.{IsValueIn, meaning, with_numbers};
+ghost use Rattle.cell_store.specs.UnificationSteps.{IsUnified, OnlyBinds};
 ghost use Rattle.region_split.specs.Frames.{items_at, IsLeftAt};
 ghost use Rattle.region_split.specs.ChoicePoints.{frames_kept};
 ghost use Rattle.region_split.specs.Regions.{IsPositionIn, AreAlternativesIn};
-ghost use Rattle.region_split.specs.StackOperations.{new_region, AddsFrame, AddsChoice, CutsTo, TakesNewest, DropsNewest, HasNoClauseOnTop, TakesClause, HasFindallAt, AddsResult};
+ghost use Rattle.region_split.specs.StackOperations.{new_region, AddsFrame, AddsChoice, CutsTo, TakesNewest, DropsNewest, HasNoClauseOnTop, TakesClause, HasFindallAt, AddsResult, StaysStanding};
 
 use crate::choice::{Alternatives, ChoicePoint, Trial};
 use crate::frame::{Frame, Left, Position};
 use crate::text::{BodyItem, Text};
 use au_term::{FlatTerm, NoMemory};
+use binding_array::BindingCell;
 use cell_store::Store;
 use std::alloc::Global;
 use std::marker::Model;
@@ -225,6 +229,46 @@ impl Region {
         ensures err { OnErr result (self.new ≡ self.old) }
     {
         self.choices[over].alternatives.add_result(alloc, term)
+    }
+
+    /// Takes so many new variable numbers, and gives the first.
+    pub fn fresh(&mut self, count: u32) -> Result<u32, NoMemory>
+        ensures ok { OnOk result (self.new ≡ record self.old { store = with_numbers count self.old.store }) }
+        ensures first { IfOk result (λ first. first ≡ self.old.store.now.next) }
+        ensures stays { StaysStanding self.old self.new }
+        ensures err { OnErr result (self.new ≡ self.old) }
+    {
+        self.store.fresh(count)
+    }
+
+    /// Makes two values one by further bindings, or answers that none do. Where none do, or out of memory, some bindings may
+    /// be left: the newest choice point can be taken.
+    pub fn unify(&mut self, a: BindingCell, b: BindingCell) -> Result<bool, NoMemory>
+        requires left { IsValueIn self.old.store a }
+        requires right { IsValueIn self.old.store b }
+        ensures unified { IfOk result (IsUnified a b self.old.store self.new.store) }
+        ensures kept { OnlyBinds self.old.store self.new.store }
+        ensures stays { StaysStanding self.old self.new }
+    {
+        self.store.unify(a, b)
+    }
+
+    /// The same, of a goal and the head of a clause whose variables are numbered from `base` on and are in nothing that the
+    /// goal stands for.
+    pub fn unify_head(
+        &mut self,
+        goal: BindingCell,
+        head: BindingCell,
+        base: u32,
+    ) -> Result<bool, NoMemory>
+        requires goal { IsValueIn self.old.store goal }
+        requires head { IsValueIn self.old.store head }
+        requires older { var_bound (meaning self.old.store goal) ≤ base }
+        ensures unified { IfOk result (IsUnified goal head self.old.store self.new.store) }
+        ensures kept { OnlyBinds self.old.store self.new.store }
+        ensures stays { StaysStanding self.old self.new }
+    {
+        self.store.unify_head(goal, head, base)
     }
 }
 

@@ -114,3 +114,28 @@ fn results_are_kept(rt: HostRuntime) -> Result<(), Fail> {
     assert!(rt; region.is_findall(1) && !region.is_findall(0) && !region.is_findall(2));
     Ok(())
 }
+
+#[test]
+fn bindings_are_taken_back(rt: HostRuntime) -> Result<(), Fail> {
+    let mut region = Region::new(rt.alloc(), text(&rt, rt.alloc())?)?;
+    assert_eq!(rt; region.fresh(2)?, 0);
+    assert_eq!(rt; region.store().next(), 2);
+    push(&mut region, Alternatives::Elsewhere)?;
+    assert!(rt; region.store().next() > 1);
+    assert!(rt; region.unify(BindingCell::Var(0), BindingCell::Int(7))?);
+    assert!(rt; !region.unify(BindingCell::Int(7), BindingCell::Int(8))?);
+    assert!(rt; region.store().next() > 1);
+    assert_eq!(rt;
+        region.store().dereference(BindingCell::Var(0)),
+        BindingCell::Int(7)
+    );
+    assert!(rt; 0 < region.height());
+    let _newest = region.take_newest();
+    assert!(rt; region.store().next() > 1);
+    assert_eq!(rt;
+        region.store().dereference(BindingCell::Var(0)),
+        BindingCell::Var(0)
+    );
+    assert!(rt; region.unify_head(BindingCell::Int(7), BindingCell::Var(1), 1)?);
+    Ok(())
+}
