@@ -15,15 +15,15 @@ use Rattle.region_split.specs.StackOperations.{AddsFrame, AddsChoice, CutsTo, Ta
 use Rattle.region_split.specs.declared.choice.ChoicePoint.{ChoicePoint}
 use Rattle.region_split.specs.declared.frame.Frame.{Frame}
 use Rattle.region_split.specs.declared.frame.Position.{Position}
-use Rattle.region_split.proofs.FrameLemmas.{items_kept, items_pushed, items_taken}
+use Rattle.region_split.proofs.FrameLemmas.{items_kept, items_pushed, items_taken, frames_over-append, frames_over-take}
 use Rattle.region_split.proofs.ScopeLemmas.{same_heights, scoped_more}
 use Rattle.region_split.proofs.StandingLemmas.{standing-append, IsOver, is_over, IsMeasured, measured, lowest_entries, heights_kept, AreSameTo, same_continuation, standing_same, choices_same, as_many, choices-append, choices_below, choice_on_top, choices-take, kept-take, kept-append, choices_named}
 
-nothing_measured : IsMeasured nothing_standing 0
+pub nothing_measured : IsMeasured nothing_standing 0
 nothing_measured = record { before = []; is = refl; long = refl }
 
 -- what is left at a position stays where heights do up to so many choice points
-same_entry : (named : List NamedTerm) (r : RegionView) (hs ks : List ℕ) (cut next : ℕ) (p : Position) → ((n : ℕ) → n ≤ cut → height_of_cut hs n ≡ height_of_cut ks n) → AreCutWithin cut next (items_at r.text r.frames p)
+pub same_entry : (named : List NamedTerm) (r : RegionView) (hs ks : List ℕ) (cut next : ℕ) (p : Position) → ((n : ℕ) → n ≤ cut → height_of_cut hs n ≡ height_of_cut ks n) → AreCutWithin cut next (items_at r.text r.frames p)
     → continuation_at (region_setting named r) hs r.store.now p ≡ continuation_at (region_setting named r) ks r.store.now p
 same_entry named r hs ks cut next p same s = ap (λ items. resolve_continuation r.store.now.bound (record { items = items; named = named; next = r.store.now.next })) (same_heights hs ks cut next (items_at r.text r.frames p) same s)
 
@@ -39,7 +39,7 @@ module _ (r : RegionView) (k : IsConsistentRegion r) (f : Frame) (n : ℕ) (kept
   same_to p le = items_kept r.text (take n r.frames) (f ∷ []) p (let l = length-take-le n r.frames within in omega (arith, l, le)) ∙ items_taken r.text n r.frames p within le
 
   pub framed_region : IsConsistentRegion (record r { frames = framed })
-  framed_region = record { program = k.program; choices = choices_same (region_setting [] r) framed n 0 0 r.choices r.store.marks same_to k.choices kept; frames = let l = framed_long in omega (arith, l, kept) }
+  framed_region = record { program = k.program; older = frames_over-append 0 n (take n r.frames) f (frames_over-take 0 n r.frames k.older) (let l = length-take-le n r.frames within in omega (arith, l)) own; choices = choices_same (region_setting [] r) framed n 0 0 r.choices r.store.marks same_to k.choices kept; frames = let l = framed_long in omega (arith, l, kept) }
 
   stands : (named : List NamedTerm) → standing named (record r { frames = framed }) ≡ standing named r
   stands named = standing_same (region_setting named r) framed n 0 0 nothing_standing r.choices r.store.marks same_to (choices_named (region_setting [] r) named 0 0 r.choices r.store.marks k.choices) kept
@@ -67,6 +67,7 @@ module _ (r : RegionView) (k : IsConsistentRegion r) (c : ChoicePoint) (own : c.
   pub topped_region : IsConsistentRegion topped
   topped_region = record {
     program = k.program;
+    older = k.older;
     choices = choices-append (region_setting [] r) 0 0 (length r.choices) (frames_kept 0 r.choices) r.choices r.store.marks c r.store.now k.choices (omega arith) refl (record { own = own; older = older; scoped = position.scoped; values = values });
     frames = let e = kept-append 0 r.choices c in omega (arith, e, within);
   }
@@ -108,6 +109,7 @@ module _ (r : RegionView) (k : IsConsistentRegion r) (n : ℕ) (le : n ≤ lengt
   pub cut_region : IsConsistentRegion cut_down
   cut_region = record {
     program = k.program;
+    older = k.older;
     choices = choices-take (region_setting [] r) 0 0 n r.choices r.store.marks k.choices;
     frames = let a = kept-take (region_setting [] r) 0 0 n r.choices r.store.marks k.choices in let b = k.frames in omega (arith, a, b);
   }
@@ -126,8 +128,8 @@ module _ (r : RegionView) (k : IsConsistentRegion r) (n : ℕ) (le : n ≤ lengt
   pub cuts_to : CutsTo r cut_down n
   cuts_to = record {
     entries = λ named. lowest_entries (standing named cut_down) (standing named r) n (below named) (over named);
-    position = λ p in_frame scoped. record { frame = in_frame; scoped = subst (λ cut. AreCutWithin cut r.store.now.next (items_at r.text r.frames p)) (sym fewer) scoped };
-    same = λ named p in_frame scoped. ap PlainEntry (same_entry named r (heights_of named cut_down) (heights_of named r) n r.store.now.next p (λ i lt. sym (heights_kept (standing named cut_down) (standing named r) n i (below named) (over named) lt)) scoped);
+    position = λ p i. record { frame = i.frame; scoped = subst (λ cut. AreCutWithin cut r.store.now.next (items_at r.text r.frames p)) (sym fewer) i.scoped };
+    same = λ named p i. ap PlainEntry (same_entry named r (heights_of named cut_down) (heights_of named r) n r.store.now.next p (λ j lt. sym (heights_kept (standing named cut_down) (standing named r) n j (below named) (over named) lt)) i.scoped);
     text = refl;
     store = refl;
     frames = refl;
@@ -139,23 +141,24 @@ module _ (r : RegionView) (k : IsConsistentRegion r) (cs : List ChoicePoint) (c 
   abbrev lowered : RegionView
   lowered = record r { store = record r.store { now = now; marks = ms }; choices = cs }
 
-  stacked : AreChoicesOver (region_setting [] r) 0 0 (cs ++ c ∷ []) (ms ++ m ∷ [])
+  pub stacked : AreChoicesOver (region_setting [] r) 0 0 (cs ++ c ∷ []) (ms ++ m ∷ [])
   stacked = subst (AreChoicesOver (region_setting [] r) 0 0 (cs ++ c ∷ [])) marks (subst (λ xs. AreChoicesOver (region_setting [] r) 0 0 xs r.store.marks) choices k.choices)
 
-  pairs : length cs ≡ length ms
+  pub pairs : length cs ≡ length ms
   pairs =
       let whole = as_many (region_setting [] r) 0 0 (cs ++ c ∷ []) (ms ++ m ∷ []) stacked in
       let a = length-append cs (c ∷ []) in let b = length-append ms (m ∷ []) in omega (arith, whole, a, b)
 
-  newest : IsChoiceOver (region_setting [] r) (length cs) (frames_kept 0 cs) c m
+  pub newest : IsChoiceOver (region_setting [] r) (length cs) (frames_kept 0 cs) c m
   newest = choice_on_top (region_setting [] r) 0 0 (length cs) cs ms c m pairs (omega arith) stacked
 
-  last_kept : frames_kept 0 r.choices ≡ c.frames
+  pub last_kept : frames_kept 0 r.choices ≡ c.frames
   last_kept = ap (frames_kept 0) choices ∙ kept-append 0 cs c
 
   pub lowered_region : IsConsistentRegion lowered
   lowered_region = record {
     program = k.program;
+    older = k.older;
     choices = choices_below (region_setting [] r) 0 0 cs ms c m pairs stacked;
     frames = let o = newest.older in let e = last_kept in let f = k.frames in omega (arith, o, e, f);
   }

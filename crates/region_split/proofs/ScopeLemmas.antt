@@ -19,3 +19,11 @@ scoped_more cut more next (GoalItem t h ∷ items) le s = (omega (arith, le, s.0
 scoped_more cut more next (CatchMark h ∷ items) le s = (omega (arith, le, s.0), s.1)
 scoped_more cut more next (CollectMark t h ∷ items) le s = (omega (arith, le, s.0), s.1, s.2)
 scoped_more cut more next (RemovalItem number ∷ items) le s = scoped_more cut more next items le s
+
+-- more variables
+pub scoped_further : (cut next more : ℕ) (items : List (Item ℕ)) → next ≤ more → AreCutWithin cut next items → AreCutWithin cut more items
+scoped_further cut next more [] le s = tt
+scoped_further cut next more (GoalItem t h ∷ items) le s = (s.0, (let b = s.1 in omega (arith, le, b)), scoped_further h next more items le s.2)
+scoped_further cut next more (CatchMark h ∷ items) le s = (s.0, scoped_further h next more items le s.1)
+scoped_further cut next more (CollectMark t h ∷ items) le s = (s.0, (let b = s.1 in omega (arith, le, b)), scoped_further h next more items le s.2)
+scoped_further cut next more (RemovalItem number ∷ items) le s = scoped_further cut next more items le s

@@ -49,13 +49,18 @@ measured s below (c ∷ cs) (k ∷ ms) cut n e is m =
     let longer : length below.heights ≡ cut + 1 = ap length m.is ∙ (length-append m.before (length below.entries ∷ []) ∙ (let l = m.long in omega (arith, l))) in
     measured s (with_entries_on_top (choice_entries s below c k) below) cs ms (cut + 1) n (omega (arith, e)) (omega (arith, is)) (record { before = below.heights; is = refl; long = longer })
 
+-- the height over the older ones is how many entries they stand for
+pub own_height : (below above : Standing) (cut : ℕ) → IsMeasured below cut → IsOver below above → height_of_cut above.heights cut ≡ length below.entries
+own_height below above cut m o =
+    let n = length below.entries in
+    let seen : above.heights ≡ m.before ++ n ∷ o.heights = o.heights_are ∙ (ap (λ hs. hs ++ o.heights) m.is ∙ append_assoc m.before (n ∷ []) o.heights) in
+    ap (λ hs. get_or hs cut 0) seen ∙ (ap (λ i. get_or (m.before ++ n ∷ o.heights) i 0) (sym m.long) ∙ get_or-append_seam m.before n o.heights 0)
+
 -- the entries of the oldest ones are the lowest
 pub lowest_entries : (below above : Standing) (cut : ℕ) → IsMeasured below cut → IsOver below above → below.entries ≡ lowest (height_of_cut above.heights cut) above.entries
 lowest_entries below above cut m o =
-    let n = length below.entries in
-    let seen : above.heights ≡ m.before ++ n ∷ o.heights = o.heights_are ∙ (ap (λ hs. hs ++ o.heights) m.is ∙ append_assoc m.before (n ∷ []) o.heights) in
-    let height : height_of_cut above.heights cut ≡ n = ap (λ hs. get_or hs cut 0) seen ∙ (ap (λ i. get_or (m.before ++ n ∷ o.heights) i 0) (sym m.long) ∙ get_or-append_seam m.before n o.heights 0) in
-    let long : length above.entries ≡ length o.entries + n = ap length o.are ∙ length-append o.entries below.entries in
+    let height = own_height below above cut m o in
+    let long : length above.entries ≡ length o.entries + length below.entries = ap length o.are ∙ length-append o.entries below.entries in
     let over : length above.entries - height_of_cut above.heights cut ≡ length o.entries = omega (arith, long, height) in
     sym (ap (λ i. drop i above.entries) over ∙ (ap (drop (length o.entries)) o.are ∙ drop-append_seam o.entries below.entries))
 

@@ -1,5 +1,5 @@
 -- What a choice point stands for: entries of the sequential machine.
-use Rattle.std.specs.Prelude.{ℕ, ◌+◌, ◌≤◌, List, [], ◌∷◌, ◌++◌, length, map, get_or, None}
+use Rattle.std.specs.Prelude.{◌≡◌, ◌<◌, ℕ, ◌+◌, ◌≤◌, List, [], ◌∷◌, ◌++◌, length, map, get_or, None}
 use Rattle.std.specs.List.{slice_range}
 use Rattle.au_term.specs.Term.{Term}
 use Rattle.au_model.specs.Terms.Named.{NamedTerm}
@@ -14,23 +14,25 @@ use Rattle.cell_store.specs.StoreView.{Moment}
 use Rattle.cell_store.specs.Values.{IsValue}
 use Rattle.region_split.specs.Frames.{items_at, AreCutWithin}
 use Rattle.region_split.specs.Texts.{TextView}
+use Rattle.region_split.specs.ResultLists.{with_copy}
 use Rattle.region_split.specs.declared.choice.Alternatives.{Alternatives}
 use Rattle.region_split.specs.declared.choice.Alternatives.TheVariants.{Clauses, Elsewhere, Catch, Findall, QueryEnd}
 use Rattle.region_split.specs.declared.choice.ChoicePoint.{ChoicePoint}
 use Rattle.region_split.specs.declared.frame.Frame.{Frame}
 use Rattle.region_split.specs.declared.frame.Position.{Position}
 
--- what does not change while choice points come and go: the text, further names, the frames, and what the query's named
--- variables stand for before anything is bound
+-- what does not change while choice points come and go: the text, the store's own text and further names, the frames, and
+-- what the query's named variables stand for before anything is bound
 pub record RegionSetting : Type 0 where
   pub text : TextView
+  pub program : CodeView
   pub names : List (List ℕ)
   pub frames : List Frame
   pub named : List NamedTerm
 
 -- the text with the terms that were made at a moment
 abbrev pub code_at : RegionSetting → Moment → CodeView
-code_at s m = record { names = s.text.code.names ++ s.names; places = s.text.code.places ++ m.made }
+code_at s m = record { names = s.program.names ++ s.names; places = s.program.places ++ m.made }
 
 -- what a value stood for at a moment
 abbrev pub meant_at : RegionSetting → Moment → BindingCell → Term
@@ -58,7 +60,7 @@ abbrev pub alternative_entries : RegionSetting → Moment → ℕ → Continuati
 alternative_entries s m height f (Clauses goal first end) = solution_entries height f (alternatives_of (slice_range s.text.clauses first end) (meant_at s m goal) m.next)
 alternative_entries s m height f Elsewhere = PlainEntry f ∷ []
 alternative_entries s m height f (Catch catcher recovery) = CatchEntry (meant_at s m catcher) (meant_at s m recovery) f ∷ []
-alternative_entries s m height f (Findall list results) = FindallEntry results.terms (meant_at s m list) (with_next (f.next + results.taken) f) ∷ []
+alternative_entries s m height f (Findall list results) = FindallEntry results.terms (meant_at s m list) (with_next results.next f) ∷ []
 alternative_entries s m height f QueryEnd = EndEntry None ∷ []
 
 -- the entries of choice points, and how many those of none, of the oldest one, of the two oldest, and so on are
@@ -79,6 +81,36 @@ standing_over s below [] moments = below
 standing_over s below (c ∷ choices) [] = below
 standing_over s below (c ∷ choices) (m ∷ moments) = standing_over s (with_entries_on_top (choice_entries s below c m) below) choices moments
 
+-- what is still to be tried, but for the first clause
+pub record HasNextClause (old new : Alternatives) (goal : BindingCell) (clause : ℕ) : Type 0 where
+  pub end : ℕ
+  pub was : old ≡ Clauses goal clause end
+  pub some : clause < end
+  pub is : new ≡ Clauses goal (clause + 1) end
+
+-- alternatives that are no clauses, or none that is left
+abbrev pub HaveNoClause : Alternatives → Type 0
+HaveNoClause (Clauses goal first end) = end ≤ first
+HaveNoClause Elsewhere = Unit {0}
+HaveNoClause (Catch catcher recovery) = Unit {0}
+HaveNoClause (Findall list results) = Unit {0}
+HaveNoClause QueryEnd = Unit {0}
+
+abbrev pub IsCollecting : Alternatives → Type 0
+IsCollecting (Clauses goal first end) = ⊥
+IsCollecting Elsewhere = ⊥
+IsCollecting (Catch catcher recovery) = ⊥
+IsCollecting (Findall list results) = Unit {0}
+IsCollecting QueryEnd = ⊥
+
+-- a findall with one more result
+abbrev pub with_found : Term → Alternatives → Alternatives
+with_found t (Clauses goal first end) = Clauses goal first end
+with_found t Elsewhere = Elsewhere
+with_found t (Catch catcher recovery) = Catch catcher recovery
+with_found t (Findall list results) = Findall list (with_copy t results)
+with_found t QueryEnd = QueryEnd
+
 -- no choice point
 abbrev pub nothing_standing : Standing
 nothing_standing = record { entries = []; heights = 0 ∷ [] }
@@ -88,7 +120,7 @@ abbrev pub AreAlternativesAt : RegionSetting → Moment → Alternatives → Typ
 AreAlternativesAt s m (Clauses goal first end) = IsValue (code_at s m) m.next goal × (end ≤ length s.text.clauses)
 AreAlternativesAt s m Elsewhere = Unit {0}
 AreAlternativesAt s m (Catch catcher recovery) = IsValue (code_at s m) m.next catcher × IsValue (code_at s m) m.next recovery
-AreAlternativesAt s m (Findall list results) = IsValue (code_at s m) m.next list
+AreAlternativesAt s m (Findall list results) = IsValue (code_at s m) m.next list × (m.next ≤ results.next)
 AreAlternativesAt s m QueryEnd = Unit {0}
 
 -- a choice point over so many others, of which so many frames are kept: it keeps these and its own, and what it goes on

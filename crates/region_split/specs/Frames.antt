@@ -1,13 +1,15 @@
 -- Frames: bodies under way, each of which goes on in an older one (ISO/IEC 13211-1, 7.7.2; D. H. D. Warren, "An abstract
 -- Prolog instruction set", 1983). A frame cuts to a number of choice points.
-use Rattle.std.specs.Prelude.{ℕ, ◌-◌, ◌≤◌, List, [], ◌∷◌, ◌++◌, get_or, drop}
+use Rattle.std.specs.Prelude.{◌≡◌, ℕ, ◌+◌, ◌-◌, ◌<◌, ◌≤◌, List, [], ◌∷◌, ◌++◌, get_or, drop}
 use Rattle.au_term.specs.Term.{var_bound}
 use Rattle.au_term.specs.Shifted.{shifted}
 use Rattle.run_model.specs.Machine.Items.{Item, GoalItem, CatchMark, CollectMark, RemovalItem}
 use Rattle.clause_compile.specs.Places.{CodeView, meaning_in}
 use Rattle.region_split.specs.Texts.{TextView}
 use Rattle.region_split.specs.declared.text.BodyItem.{BodyItem}
-use Rattle.region_split.specs.declared.text.BodyItem.TheVariants.{Goal, CatchEnd, Collect, BodyEnd}
+use Rattle.region_split.specs.declared.text.BodyItem.TheVariants.{Goal as GoalPlace, CatchEnd as CatchEndPlace, Collect as CollectPlace, BodyEnd}
+use Rattle.region_split.specs.declared.frame.Left.{Left}
+use Rattle.region_split.specs.declared.frame.Left.TheVariants.{Nothing, Goal, CatchEnd, Collect, GoesOnAt}
 use Rattle.region_split.specs.declared.frame.Frame.{Frame}
 use Rattle.region_split.specs.declared.frame.Position.{Position}
 
@@ -15,9 +17,9 @@ use Rattle.region_split.specs.declared.frame.Position.{Position}
 -- point that a cut there would leave on top
 abbrev pub body_left : CodeView → ℕ → ℕ → List BodyItem → List (Item ℕ)
 body_left code base cut [] = []
-body_left code base cut (Goal place ∷ body) = GoalItem (shifted base (meaning_in code place)) cut ∷ body_left code base cut body
-body_left code base cut (CatchEnd ∷ body) = CatchMark (cut - 1) ∷ body_left code base cut body
-body_left code base cut (Collect place ∷ body) = CollectMark (shifted base (meaning_in code place)) (cut - 1) ∷ body_left code base cut body
+body_left code base cut (GoalPlace place ∷ body) = GoalItem (shifted base (meaning_in code place)) cut ∷ body_left code base cut body
+body_left code base cut (CatchEndPlace ∷ body) = CatchMark (cut - 1) ∷ body_left code base cut body
+body_left code base cut (CollectPlace place ∷ body) = CollectMark (shifted base (meaning_in code place)) (cut - 1) ∷ body_left code base cut body
 body_left code base cut (BodyEnd ∷ body) = []
 
 -- what is left to do at a position, by what is left in each frame from a place of the bodies on
@@ -44,3 +46,20 @@ AreCutWithin cut next (GoalItem t h ∷ items) = (h ≤ cut) × (var_bound t ≤
 AreCutWithin cut next (CatchMark h ∷ items) = (h ≤ cut) × AreCutWithin h next items
 AreCutWithin cut next (CollectMark t h ∷ items) = (h ≤ cut) × (var_bound t ≤ next) × AreCutWithin h next items
 AreCutWithin cut next (RemovalItem number ∷ items) = AreCutWithin cut next items
+
+-- the place after it in the same frame
+abbrev pub next_position : Position → Position
+next_position p = record { frame = p.frame; at = p.at + 1 }
+
+-- each frame goes on in an older one: no number after its own place, from one on
+abbrev pub AreFramesOver : ℕ → List Frame → Type 0
+AreFramesOver n [] = Unit {0}
+AreFramesOver n (f ∷ frames) = (f.after.frame ≤ n) × AreFramesOver (n + 1) frames
+
+-- what is left at a position, by its first item
+abbrev pub IsLeftAt : TextView → List Frame → Position → Left → Type 0
+IsLeftAt text frames p Nothing = items_at text frames p ≡ []
+IsLeftAt text frames p (Goal place base cut) = items_at text frames p ≡ GoalItem (shifted base (meaning_in text.code place)) cut ∷ items_at text frames (next_position p)
+IsLeftAt text frames p (CatchEnd cut) = items_at text frames p ≡ CatchMark (cut - 1) ∷ items_at text frames (next_position p)
+IsLeftAt text frames p (Collect place base cut) = items_at text frames p ≡ CollectMark (shifted base (meaning_in text.code place)) (cut - 1) ∷ items_at text frames (next_position p)
+IsLeftAt text frames p (GoesOnAt q) = (items_at text frames p ≡ items_at text frames q) × (q.frame < p.frame)

@@ -16,8 +16,8 @@ mod results;
 mod tests;
 mod text;
 
-pub use choice::{Alternatives, ChoicePoint};
-pub use frame::{Frame, Position};
+pub use choice::{Alternatives, ChoicePoint, Trial};
+pub use frame::{Frame, Left, Position};
 pub use region::Region;
 pub use results::Results;
 pub use text::{BodyItem, Text};

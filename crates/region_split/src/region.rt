@@ -1,15 +1,19 @@
 //! The region.
-ghost use Rattle.std.specs.Prelude.{◌≡◌, ◌<◌, ◌≤◌, IfOk, OnOk, OnErr, [], length};
+ghost use Rattle.std.specs.Prelude.{◌≡◌, ◌<◌, ◌≤◌, IfOk, OnOk, OnErr, MatchOption, IsTrue, ◌↔◌, [], length};
 ghost use Rattle.std.specs.Arc.{arc_value};
-ghost use Rattle.region_split.specs.Frames.{items_at};
+ghost use Rattle.au_term.specs.Term.{var_bound};
+ghost use Rattle.cell_store.specs.StoreView.{IsValueIn, meaning, with_numbers};
+ghost use Rattle.cell_store.specs.UnificationSteps.{IsUnified, OnlyBinds};
+ghost use Rattle.region_split.specs.Frames.{items_at, IsLeftAt};
 ghost use Rattle.region_split.specs.ChoicePoints.{frames_kept};
 ghost use Rattle.region_split.specs.Regions.{IsPositionIn, AreAlternativesIn};
-ghost use Rattle.region_split.specs.StackOperations.{new_region, AddsFrame, AddsChoice, CutsTo, TakesNewest, DropsNewest};
+ghost use Rattle.region_split.specs.StackOperations.{new_region, AddsFrame, AddsChoice, CutsTo, TakesNewest, DropsNewest, HasNoClauseOnTop, TakesClause, HasFindallAt, AddsResult, StaysStanding};
 
-use crate::choice::{Alternatives, ChoicePoint};
-use crate::frame::{Frame, Position};
-use crate::text::Text;
-use au_term::NoMemory;
+use crate::choice::{Alternatives, ChoicePoint, Trial};
+use crate::frame::{Frame, Left, Position};
+use crate::text::{BodyItem, Text};
+use au_term::{FlatTerm, NoMemory};
+use binding_array::BindingCell;
 use cell_store::Store;
 use std::alloc::Global;
 use std::marker::Model;
@@ -53,6 +57,31 @@ impl Region {
         })
     }
 
+    /// The program's text.
+    pub fn text(&self) -> &Text
+        ensures { result.now ≡ self.entry.now.text }
+    {
+        &self.text
+    }
+
+    /// The store. Its text is the program's.
+    pub fn store(&self) -> &Store
+        ensures store { result.now ≡ self.entry.now.store }
+        ensures program { result.now.program ≡ self.entry.now.text.code }
+    {
+        &self.store
+    }
+
+    /// Whether there is a findall over so many choice points.
+    pub fn is_findall(&self, over: usize) -> bool
+        ensures { IsTrue result ↔ HasFindallAt self.now over }
+    {
+        match self.choices.get(over) {
+            Some(choice) => choice.is_findall(),
+            None => false,
+        }
+    }
+
     /// How many choice points there are.
     pub fn height(&self) -> usize
         ensures { result ≡ length self.now.choices }
@@ -66,6 +95,24 @@ impl Region {
         ensures position { IsPositionIn self.now result }
     {
         Position { frame: 0, at: 0 }
+    }
+
+    /// What is left at a position, by its first item.
+    pub fn left_at(&self, position: Position) -> Left
+        requires { position.frame ≤ length self.now.frames }
+        ensures { IsLeftAt self.now.text self.now.frames position result }
+    {
+        if position.frame == 0 {
+            return Left::Nothing;
+        }
+        let frame = self.frames[position.frame as usize - 1];
+        match self.text.get(position.at) {
+            Some(BodyItem::Goal(place)) => Left::Goal(place, frame.base, frame.cut),
+            Some(BodyItem::CatchEnd) => Left::CatchEnd(frame.cut),
+            Some(BodyItem::Collect(place)) => Left::Collect(place, frame.base, frame.cut),
+            Some(BodyItem::BodyEnd) => Left::GoesOnAt(frame.after),
+            None => Left::GoesOnAt(frame.after),
+        }
     }
 
     /// Makes a frame, and gives its number. A frame that no choice point keeps, and that is younger than the one in which the
@@ -147,6 +194,81 @@ impl Region {
             Some(choice) => choice,
             None => unreachable!(),
         }
+    }
+
+    /// Takes the first clause that is left off the newest choice point, and undoes all that was bound and made since it came.
+    pub fn next_clause(&mut self) -> Option<Trial>
+        ensures { MatchOption result (HasNoClauseOnTop self.old × (self.new ≡ self.old)) (TakesClause self.old self.new) }
+    {
+        let count = self.choices.len();
+        if count == 0 {
+            return None;
+        }
+        let newest = &mut self.choices[count - 1];
+        let after = newest.after;
+        let Some((goal, clause)) = newest.alternatives.next_clause() else {
+            return None;
+        };
+        self.store.undo_to(count - 1);
+        Some(Trial {
+            goal,
+            clause,
+            after,
+        })
+    }
+
+    /// Adds a copy of a term to the results of the findall over so many choice points.
+    pub fn add_result(
+        &mut self,
+        alloc: Global,
+        over: usize,
+        term: &FlatTerm,
+    ) -> Result<(), NoMemory>
+        requires { HasFindallAt self.old over }
+        ensures ok { OnOk result (AddsResult self.old self.new over term.now) }
+        ensures err { OnErr result (self.new ≡ self.old) }
+    {
+        self.choices[over].alternatives.add_result(alloc, term)
+    }
+
+    /// Takes so many new variable numbers, and gives the first.
+    pub fn fresh(&mut self, count: u32) -> Result<u32, NoMemory>
+        ensures ok { OnOk result (self.new ≡ record self.old { store = with_numbers count self.old.store }) }
+        ensures first { IfOk result (λ first. first ≡ self.old.store.now.next) }
+        ensures stays { StaysStanding self.old self.new }
+        ensures err { OnErr result (self.new ≡ self.old) }
+    {
+        self.store.fresh(count)
+    }
+
+    /// Makes two values one by further bindings, or answers that none do. Where none do, or out of memory, some bindings may
+    /// be left: the newest choice point can be taken.
+    pub fn unify(&mut self, a: BindingCell, b: BindingCell) -> Result<bool, NoMemory>
+        requires left { IsValueIn self.old.store a }
+        requires right { IsValueIn self.old.store b }
+        ensures unified { IfOk result (IsUnified a b self.old.store self.new.store) }
+        ensures kept { OnlyBinds self.old.store self.new.store }
+        ensures stays { StaysStanding self.old self.new }
+    {
+        self.store.unify(a, b)
+    }
+
+    /// The same, of a goal and the head of a clause whose variables are numbered from `base` on and are in nothing that the
+    /// goal stands for.
+    pub fn unify_head(
+        &mut self,
+        goal: BindingCell,
+        head: BindingCell,
+        base: u32,
+    ) -> Result<bool, NoMemory>
+        requires goal { IsValueIn self.old.store goal }
+        requires head { IsValueIn self.old.store head }
+        requires older { var_bound (meaning self.old.store goal) ≤ base }
+        ensures unified { IfOk result (IsUnified goal head self.old.store self.new.store) }
+        ensures kept { OnlyBinds self.old.store self.new.store }
+        ensures stays { StaysStanding self.old self.new }
+    {
+        self.store.unify_head(goal, head, base)
     }
 }
 

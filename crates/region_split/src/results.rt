@@ -7,11 +7,11 @@ use au_term::{FlatTerm, NoMemory, VarNo};
 use std::alloc::Global;
 use std::marker::Model;
 
-/// The results of a findall, and how many variable numbers they took.
+/// The results of a findall, and the next variable number after theirs.
 #[derive(Drop)]
 pub struct Results {
     terms: Vec<FlatTerm>,
-    taken: u64,
+    next: VarNo,
 }
 
 impl Model for Results {
@@ -23,39 +23,31 @@ impl Model for Results {
 
     ghost coded = { Prim.hlevel (codes, term_code) };
 
-    ghost view = { λ r. record { terms = r.terms.items; taken = r.taken } };
+    ghost view = { λ r. record { terms = r.terms.items; next = r.next } };
 }
 
 impl Results {
-    /// No results.
-    pub fn new(alloc: Global) -> Results
-        ensures { result ≡ record { terms = []; taken = 0 } }
+    /// No results, before this number.
+    pub fn new(alloc: Global, next: VarNo) -> Results
+        ensures { result ≡ record { terms = []; next = next } }
     {
         Results {
             terms: Vec::new(alloc),
-            taken: 0,
+            next,
         }
     }
 
-    /// Adds a copy of a term, with numbers after those that were taken from `next` on.
-    pub(crate) fn push(
-        &mut self,
-        alloc: Global,
-        term: &FlatTerm,
-        next: VarNo,
-    ) -> Result<(), NoMemory>
-        ensures ok { OnOk result (self.new ≡ with_copy next term.now self.old) }
+    /// Adds a copy of a term, with the next numbers.
+    pub(crate) fn push(&mut self, alloc: Global, term: &FlatTerm) -> Result<(), NoMemory>
+        ensures ok { OnOk result (self.new ≡ with_copy term.now self.old) }
         ensures err { OnErr result (self.new ≡ self.old) }
     {
-        let Some(next) = next.checked_add(self.taken) else {
-            return Err(NoMemory);
-        };
-        let (copy, takes) = copy_term(alloc, term, next)?;
-        let Some(taken) = self.taken.checked_add(takes) else {
+        let (copy, takes) = copy_term(alloc, term, self.next)?;
+        let Some(next) = self.next.checked_add(takes) else {
             return Err(NoMemory);
         };
         self.terms.push(copy)?;
-        self.taken = taken;
+        self.next = next;
         Ok(())
     }
 }

@@ -1,5 +1,5 @@
 //! Program text: bodies as places, and clauses.
-ghost use Rattle.std.specs.Prelude.{◌≡◌, ◌∷◌, [], ◌++◌, ◌<◌, OnOk, OnErr, IfOk, length, slice_get, Some};
+ghost use Rattle.std.specs.Prelude.{◌≡◌, ◌∷◌, [], ◌++◌, OnOk, OnErr, IfOk, length, slice_get};
 ghost use Rattle.std.specs.Arc.{arc_value};
 
 use au_term::NoMemory;
@@ -78,11 +78,17 @@ impl Text {
         Ok(())
     }
 
-    /// The item at a place of the bodies.
-    pub fn item(&self, at: u32) -> BodyItem
-        requires { at < length self.now.bodies }
-        ensures { slice_get self.now.bodies at ≡ Some result }
+    /// How many clauses there are.
+    pub fn clauses(&self) -> usize
+        ensures { result ≡ length self.now.clauses }
     {
-        self.bodies[at as usize]
+        self.clauses.len()
+    }
+
+    /// The item at a place of the bodies, if it is there.
+    pub fn get(&self, at: u32) -> Option<BodyItem>
+        ensures { result ≡ slice_get self.now.bodies at }
+    {
+        self.bodies.get(at as usize).copied()
     }
 }
