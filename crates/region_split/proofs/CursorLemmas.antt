@@ -1,5 +1,5 @@
 -- A clause that is taken off a choice point.
-use Rattle.std.proofs.Common.{◌≡◌, ℕ, zero, suc, ◌+◌, ◌-◌, ◌<◌, ◌≤◌, List, [], ◌∷◌, ◌++◌, append_assoc, length, length-append, slice_set, slice_get, take, drop, get_or, Some, refl, sym, ap, ap₂, ◌∙◌, subst, arith}
+use Rattle.std.proofs.Common.{◌≡◌, ℕ, zero, suc, ◌+◌, ◌-◌, ◌<◌, List, [], ◌∷◌, ◌++◌, append_assoc, length, length-append, slice_set, slice_get, take, drop, Some, refl, sym, ap, ap₂, ◌∙◌, subst, arith}
 use Rattle.std.proofs.Math.Seq.{take-length}
 use Rattle.std.specs.List.{slice_range}
 use Rattle.au_model.specs.Terms.Named.{NamedTerm}
@@ -8,10 +8,10 @@ use Rattle.run_model.specs.Goals.Outcomes.{clause_solution, alternatives_of}
 use Rattle.run_model.specs.Machine.Items.{Continuation}
 use Rattle.run_model.specs.Machine.Entries.{Entry, solution_entry, solution_entries}
 use Rattle.binding_array.specs.declared.cell.BindingCell.{BindingCell}
-use Rattle.cell_store.specs.StoreView.{Moment, StoreView, taken_back, with_marks, meaning}
-use Rattle.region_split.specs.Frames.{items_at, AreCutWithin}
-use Rattle.region_split.specs.ChoicePoints.{RegionSetting, Standing, standing_over, nothing_standing, with_entries_on_top, choice_entries, alternative_entries, continuation_at, meant_at, height_of_cut, AreAlternativesAt, IsChoiceOver, AreChoicesOver, HasNextClause, frames_kept}
-use Rattle.region_split.specs.Regions.{RegionView, region_setting, standing, entries_of, heights_of, continuation_here, IsPositionIn, IsConsistentRegion}
+use Rattle.cell_store.specs.StoreView.{Moment, StoreView, taken_back, with_marks}
+use Rattle.region_split.specs.Frames.{items_at}
+use Rattle.region_split.specs.ChoicePoints.{RegionSetting, Standing, standing_over, nothing_standing, with_entries_on_top, choice_entries, alternative_entries, continuation_at, meant_at, height_of_cut, AreAlternativesAt, IsChoiceOver, HasNextClause, frames_kept}
+use Rattle.region_split.specs.Regions.{RegionView, region_setting, standing, heights_of, continuation_here, IsConsistentRegion}
 use Rattle.region_split.specs.StackOperations.{TakesClause}
 use Rattle.region_split.specs.declared.choice.Alternatives.{Alternatives}
 use Rattle.region_split.specs.declared.choice.Alternatives.TheVariants.{Clauses}
@@ -19,7 +19,7 @@ use Rattle.region_split.specs.declared.choice.ChoicePoint.{ChoicePoint}
 use Rattle.region_split.specs.declared.choice.Trial.{Trial}
 use Rattle.region_split.proofs.ScopeLemmas.{scoped_more}
 use Rattle.region_split.proofs.StandingLemmas.{standing-append, IsOver, is_over, IsMeasured, measured, own_height, heights_kept, choices-append, kept-append}
-use Rattle.region_split.proofs.RegionLemmas.{nothing_measured, same_entry, stacked, pairs, newest, last_kept, lowered_region, lowered_entries}
+use Rattle.region_split.proofs.RegionLemmas.{nothing_measured, same_entry, pairs, newest, last_kept, lowered_region, lowered_entries}
 
 -- an element that is there
 pub record IsThere {X : Type 0} (xs : List X) (i : ℕ) : Type 0 where

@@ -1,5 +1,5 @@
 -- A result that is added to a findall.
-use Rattle.std.proofs.Common.{◌≡◌, ℕ, zero, suc, ◌+◌, ◌-◌, ◌<◌, ◌≤◌, Bool, true, false, cond, nat_eq, List, [], ◌∷◌, ◌++◌, append_assoc, length, length-append, slice_set, slice_get, take, drop, get_or, Result, Ok, Err, OnOk, OnErr, IsSomeAnd, refl, sym, ap, ap₂, ◌∙◌, subst, arith}
+use Rattle.std.proofs.Common.{◌≡◌, ℕ, zero, suc, ◌+◌, ◌<◌, Bool, true, false, cond, nat_eq, List, [], ◌∷◌, ◌++◌, append_assoc, length, length-append, slice_set, slice_get, take, drop, get_or, Result, Ok, Err, OnOk, OnErr, IsSomeAnd, refl, sym, ap, ap₂, ◌∙◌, subst, arith}
 use Rattle.std.proofs.lemmas.Bool.Decides.{nat_tests}
 use Rattle.std.proofs.lemmas.List.{take-append-drop, length-take-le, set-get_or}
 use Rattle.cell_store.proofs.UndoingLemmas.{split_at}
@@ -9,13 +9,13 @@ use Rattle.au_model.specs.Terms.Named.{NamedTerm}
 use Rattle.run_model.specs.Machine.Items.{Continuation}
 use Rattle.run_model.specs.Machine.Entries.{Entry, with_result, collected}
 use Rattle.cell_store.specs.StoreView.{Moment}
-use Rattle.region_split.specs.ChoicePoints.{RegionSetting, Standing, standing_over, nothing_standing, with_entries_on_top, choice_entries, alternative_entries, continuation_at, height_of_cut, AreAlternativesAt, IsChoiceOver, AreChoicesOver, IsCollecting, with_found, frames_kept}
+use Rattle.region_split.specs.ChoicePoints.{RegionSetting, Standing, standing_over, nothing_standing, with_entries_on_top, choice_entries, alternative_entries, continuation_at, height_of_cut, AreAlternativesAt, AreChoicesOver, IsCollecting, with_found, frames_kept}
 use Rattle.region_split.specs.Regions.{RegionView, region_setting, standing, entries_of, heights_of, IsConsistentRegion}
 use Rattle.region_split.specs.StackOperations.{AddsResult, HasFindallAt}
 use Rattle.region_split.specs.declared.choice.Alternatives.{Alternatives}
 use Rattle.region_split.specs.declared.choice.Alternatives.TheVariants.{Clauses, Elsewhere, Catch, Findall, QueryEnd}
 use Rattle.region_split.specs.declared.choice.ChoicePoint.{ChoicePoint}
-use Rattle.region_split.proofs.StandingLemmas.{standing-append, as_many, is_over, IsMeasured, measured, own_height}
+use Rattle.region_split.proofs.StandingLemmas.{standing-append, as_many, is_over, measured, own_height}
 use Rattle.region_split.proofs.RegionLemmas.{nothing_measured}
 
 -- two stacks that differ in what is under them alone

@@ -1,5 +1,5 @@
 -- What is left at a position, as it is read.
-use Rattle.std.proofs.Common.{◌≡◌, ℕ, ◌+◌, ◌-◌, ◌<◌, ◌≤◌, List, [], ◌∷◌, ◌++◌, length, drop, get_or, slice_get, Some, None, refl, sym, ap, ◌∙◌, subst, arith}
+use Rattle.std.proofs.Common.{◌≡◌, ℕ, ◌+◌, ◌-◌, ◌<◌, ◌≤◌, List, ◌∷◌, ◌++◌, length, drop, get_or, slice_get, Some, None, sym, ap, ◌∙◌, subst, arith}
 use Rattle.au_term.specs.Shifted.{shifted}
 use Rattle.run_model.specs.Machine.Items.{Item, GoalItem, CatchMark, CollectMark}
 use Rattle.clause_compile.specs.Places.{meaning_in}

@@ -1,5 +1,5 @@
 -- A region whose store goes on.
-use Rattle.std.proofs.Common.{◌≡◌, ℕ, ◌+◌, length, refl, arith}
+use Rattle.std.proofs.Common.{ℕ, ◌+◌, length, refl, arith}
 use Rattle.cell_store.specs.StoreView.{with_numbers}
 use Rattle.region_split.specs.Frames.{items_at}
 use Rattle.region_split.specs.Regions.{RegionView}

@@ -7,7 +7,7 @@ use Rattle.run_model.specs.Goals.Outcomes.{clause_solution}
 use Rattle.run_model.specs.Machine.Entries.{Entry, lowest, solution_entry, collected}
 use Rattle.cell_store.specs.StoreView.{Moment, with_mark, with_marks, new_store, IsValueIn, meaning}
 use Rattle.region_split.specs.Texts.{TextView}
-use Rattle.region_split.specs.Frames.{body_left, items_at, AreCutWithin}
+use Rattle.region_split.specs.Frames.{body_left, items_at}
 use Rattle.region_split.specs.ChoicePoints.{height_of_cut, HaveNoClause, IsCollecting}
 use Rattle.region_split.specs.Regions.{RegionView, continuation_here, standing, entries_of, heights_of, position_entry, entries_on, IsPositionIn, IsPositionOver, AreAlternativesIn}
 use Rattle.region_split.specs.declared.choice.Alternatives.{Alternatives}

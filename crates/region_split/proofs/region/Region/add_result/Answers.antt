@@ -1,4 +1,4 @@
-use Rattle.std.proofs.Common.{◌≡◌, List, slice_set, OnOk, OnErr, sym, subst}
+use Rattle.std.proofs.Common.{◌≡◌, List, slice_set, sym, subst}
 use Rattle.std.specs.Arc.{arc_value}
 use Rattle.region_split.specs.ChoicePoints.{with_found}
 use Rattle.region_split.specs.Regions.{RegionView, IsConsistentRegion}

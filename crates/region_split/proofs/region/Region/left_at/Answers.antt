@@ -1,4 +1,4 @@
-use Rattle.std.proofs.Common.{◌≡◌, ◌<◌, Some, None, slice_get, sym, ap, ◌∙◌}
+use Rattle.std.proofs.Common.{◌≡◌, Some, slice_get, sym, ap, ◌∙◌}
 use Rattle.std.specs.Arc.{arc_value}
 use Rattle.region_split.specs.Regions.{RegionView}
 use Rattle.region_split.specs.Texts.{TextView}

@@ -1,11 +1,10 @@
-use Rattle.std.proofs.Common.{◌≡◌, ℕ, ◌+◌, ◌-◌, ◌<◌, ◌≤◌, List, [], ◌∷◌, ◌++◌, length, length-append, slice_set, get_or, refl, sym, ap, ◌∙◌, subst, arith}
+use Rattle.std.proofs.Common.{◌≡◌, ℕ, ◌+◌, ◌-◌, List, [], ◌∷◌, ◌++◌, length, slice_set, get_or, sym, ap, ◌∙◌, subst, arith}
 use Rattle.std.proofs.Math.Seq.{get_or-append_seam}
 use Rattle.std.specs.Arc.{arc_value}
-use Rattle.cell_store.specs.StoreView.{StoreView, with_marks}
+use Rattle.cell_store.specs.StoreView.{StoreView}
 use Rattle.region_split.specs.ChoicePoints.{HasNextClause}
 use Rattle.region_split.specs.Regions.{RegionView, IsConsistentRegion, region_setting}
 use Rattle.region_split.specs.StackOperations.{TakesClause}
-use Rattle.region_split.specs.declared.choice.Alternatives.{Alternatives}
 use Rattle.region_split.specs.declared.choice.ChoicePoint.{ChoicePoint}
 use Rattle.region_split.specs.declared.choice.Trial.{Trial}
 use Rattle.region_split.specs.declared.frame.Position.{Position}
