@@ -179,10 +179,11 @@ fn random_changes(rt: HostRuntime) -> Result<(), Fail> {
             .wrapping_mul(6364136223846793005)
             .wrapping_add(1442695040888963407);
         let seed = random >> 33;
+        assert!(rt; drawn > 0);
         let at = place(seed % drawn, ((seed / 64) % 4) as u32);
         let other = place((seed / 256) % drawn, ((seed / 16) % 4) as u32);
         let added = change(&rt, alloc, &mut nodes, at, seed / 1024)?;
-        drawn = drawn.saturating_add(added).max(1);
+        drawn = drawn.saturating_add(added);
         compare(&rt, &nodes, at, other, drawn)?;
     }
     assert!(rt; drawn > 40);

@@ -1,7 +1,7 @@
 -- The front through each change of a table.
-use Rattle.std.proofs.Common.{◌≡◌, ◌≢◌, ℕ, ◌+◌, ◌<◌, ◌≤◌, Bool, true, false, cond, List, [], ◌∷◌, ◌++◌, length, Option, Some, None}
+use Rattle.std.proofs.Common.{◌≡◌, ℕ, Bool, true, false, cond, List, [], ◌∷◌, ◌++◌, length, Option, Some, None}
 use Rattle.std.proofs.Common.{refl, sym, ap, ◌∙◌, arith, subst, inl, inr}
-use Rattle.std.specs.Prelude.{◌⊎◌, IsSome}
+use Rattle.std.specs.Prelude.{IsSome}
 use Rattle.tree_model.specs.Nodes.{Numbered, Status, Pending, Inner, Closed, nodes_below}
 use Rattle.tree_model.specs.Levels.{Place, place_at}
 use Rattle.tree_nodes.specs.declared.front.Front.{Front}
@@ -11,13 +11,13 @@ use Rattle.tree_nodes.specs.RowViews.{new_row, with_state}
 use Rattle.tree_nodes.specs.Gathering.{is_shut_at}
 use Rattle.tree_nodes.specs.TreeTables.{IsRoot, NodesView, IsTableOf, Stand}
 use Rattle.tree_nodes.specs.Changes.{Fits, CanHold, is_pending, root_after}
-use Rattle.tree_nodes.specs.Puts.{IsStatePut, IsLinked, IsLinkedAt}
+use Rattle.tree_nodes.specs.Puts.{IsStatePut, IsLinked}
 use Rattle.tree_nodes.specs.Fronts.{AreNext, IsLastOf, IsNextDown, Retreats, IsBeyond, KeepsFront, AreKept}
-use Rattle.tree_nodes.proofs.RowLemmas.{row_at_past, row_at_within}
+use Rattle.tree_nodes.proofs.RowLemmas.{row_at_within}
 use Rattle.tree_nodes.proofs.LocateLemmas.{located}
 use Rattle.tree_nodes.proofs.PutLemmas.{put_stand, rows_left, is_some_cell}
 use Rattle.tree_nodes.proofs.AddLemmas.{row_at-more}
-use Rattle.tree_nodes.proofs.FrontLemmas.{some_row, IsChanged, are_kept, next-front, next-snoc, next_same, next_at_first}
+use Rattle.tree_nodes.proofs.FrontLemmas.{some_row, IsChanged, are_kept, next-front, next-snoc, next_at_first}
 
 put_changed : (old new : NodesView) (a : Place) (cell : ℕ × AlternativeCell) → Stand old → IsSome (cell_at old.rows a)
     → IsStatePut old.rows old.live new.rows new.live a cell → new.first ≡ old.first → IsChanged old.rows new.rows a cell

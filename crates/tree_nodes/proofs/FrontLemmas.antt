@@ -1,22 +1,22 @@
 -- The front of a table that has changed.
-use Rattle.std.proofs.Common.{◌≡◌, ◌≢◌, ℕ, zero, suc, ◌+◌, ◌<◌, ◌≤◌, Bool, true, false, List, [], ◌∷◌, ◌++◌, length, take, Option, Some, None}
+use Rattle.std.proofs.Common.{◌≡◌, ◌≢◌, ℕ, zero, suc, ◌<◌, ◌≤◌, true, false, List, [], ◌∷◌, ◌++◌, take, Option, Some, None}
 use Rattle.std.proofs.Common.{refl, sym, ap, ◌∙◌, arith, subst, inl, inr}
 use Rattle.std.proofs.lemmas.Bool.{cases_lt, cases_eq}
-use Rattle.std.proofs.lemmas.List.{take-set-le, append-nil, append_assoc}
+use Rattle.std.proofs.lemmas.List.{take-set-le}
 use Rattle.std.specs.Option.{option_map}
-use Rattle.std.specs.Prelude.{◌⊎◌, ◌&&◌, slice_get, slice_set, IsSome, is_some}
+use Rattle.std.specs.Prelude.{slice_get, slice_set, IsSome, is_some}
 use Rattle.au_term.proofs.LogicLemmas.{both}
 use Rattle.tree_model.specs.Credits.{counted}
 use Rattle.tree_model.specs.Nodes.{Numbered, Status, Pending, Inner, Closed}
-use Rattle.tree_model.specs.Levels.{Level, plug, Place, place_at}
+use Rattle.tree_model.specs.Levels.{Level, Place, place_at}
 use Rattle.tree_nodes.specs.declared.front.Front.{Front}
 use Rattle.tree_nodes.specs.Bodies.{Branching}
 use Rattle.tree_nodes.specs.Rows.{AlternativeCell, PendingCell, InnerCell, ClosedCell, StoredNode, Rows, row_of_node, node_parent, alternatives_at, cell_at}
-use Rattle.tree_nodes.specs.RowViews.{with_state, with_cells, inner_of}
+use Rattle.tree_nodes.specs.RowViews.{with_state, inner_of}
 use Rattle.tree_nodes.specs.Puts.{inner_at}
 use Rattle.tree_nodes.specs.Gathering.{is_shut, is_shut_at, are_shut}
 use Rattle.tree_nodes.specs.Siblings.{counts_from}
-use Rattle.tree_nodes.specs.TreeTables.{cell_of, IsBelow, IsIn, NodesView, Stand, above_of}
+use Rattle.tree_nodes.specs.TreeTables.{cell_of, IsIn, NodesView, Stand, above_of}
 use Rattle.tree_nodes.specs.Fronts.{place_on, IsNextTo, IsNextDown, AreNext, IsLastOf, IsLastThere, IsBeyond, HasOpenLeft, KeepsFront}
 use Rattle.tree_nodes.proofs.PlaceLemmas.{AreRound, taken_out}
 use Rattle.tree_nodes.proofs.PutLemmas.{cell_there, is_some_cell}

@@ -1,4 +1,4 @@
-use Rattle.std.proofs.Common.{◌≡◌, ◌+◌, ◌≤◌, ◌<◌, ℕ, length, take, map, ap, ◌∙◌, arith}
+use Rattle.std.proofs.Common.{◌≡◌, ◌+◌, take, map, ap, ◌∙◌, arith}
 use Rattle.std.proofs.lemmas.List.{length-take-le, length-map, take_all}
 use Rattle.tree_nodes.specs.Siblings.{alternative_view, open_count}
 use Rattle.tree_nodes.proofs.SiblingLemmas.{open_count-le, open_count-more}

@@ -1,8 +1,6 @@
-use Rattle.std.proofs.Common.{◌≡◌, ◌+◌, ◌<◌, ℕ, Option, Some, refl, sym, ap, ◌∙◌, arith}
+use Rattle.std.proofs.Common.{◌≡◌, ℕ, Option, Some, sym, ap, ◌∙◌, arith}
 use Rattle.std.specs.Option.{option_map}
-use Rattle.tree_model.specs.EventViews.{place_view}
-use Rattle.tree_model.specs.Credits.{counted}
-use Rattle.tree_nodes.specs.Rows.{AlternativeCell, InnerCell, cell_at}
+use Rattle.tree_nodes.specs.Rows.{AlternativeCell, cell_at}
 use Rattle.tree_nodes.specs.Puts.{inner_at}
 use Rattle.tree_nodes.specs.Fronts.{place_on, counts_beside}
 use Rattle.tree_nodes.proofs.FrontLemmas.{inner_parent, inner_cell}

@@ -1,4 +1,4 @@
-use Rattle.std.proofs.Common.{◌≡◌, List, sym, subst}
+use Rattle.std.proofs.Common.{List, sym, subst}
 use Rattle.std.specs.Prelude.{is_ok}
 use Rattle.tree_nodes.specs.declared.front.Front.{Front}
 use Rattle.tree_nodes.specs.TreeTables.{NodesView}

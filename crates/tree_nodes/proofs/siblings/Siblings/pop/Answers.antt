@@ -1,4 +1,4 @@
-use Rattle.std.proofs.Common.{arith, length}
+use Rattle.std.proofs.Common.{arith}
 use Rattle.tree_nodes.proofs.SiblingLemmas.{popped_open, popped_passed, none_passed}
 use Rattle.tree_nodes.proofs.siblings.Siblings.pop.Goals as goal
 

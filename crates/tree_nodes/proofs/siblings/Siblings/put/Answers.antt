@@ -1,8 +1,7 @@
-use Rattle.std.proofs.Common.{◌≡◌, ◌<◌, ◌≤◌, ℕ, List, length, map, refl, sym, ap, ◌∙◌, arith, subst, get_or}
+use Rattle.std.proofs.Common.{◌≡◌, ◌<◌, ℕ, List, length, map, sym, ap, ◌∙◌, arith, subst, get_or}
 use Rattle.std.specs.Prelude.{slice_set}
 use Rattle.std.proofs.lemmas.List.{length-map, map-set}
 use Rattle.tree_nodes.specs.declared.siblings.Alternative.{Alternative}
-use Rattle.tree_nodes.specs.declared.siblings.Passed.{Passed}
 use Rattle.tree_nodes.specs.Siblings.{alternative_view, ArePassed}
 use Rattle.tree_nodes.proofs.SiblingLemmas.{put_below, put_open, put_bound, put_passed, none_passed}
 use Rattle.tree_nodes.proofs.siblings.Siblings.put.Goals as goal

@@ -1,8 +1,6 @@
-use Rattle.std.proofs.Common.{◌≡◌, ◌<◌, ◌==◌, ℕ, length, length, map, Some, sym, ap, ◌∙◌, arith}
-use Rattle.std.specs.Prelude.{slice_get}
+use Rattle.std.proofs.Common.{◌<◌, ◌==◌, ℕ, length, length, map, sym, ap, ◌∙◌, arith}
 use Rattle.std.proofs.lemmas.List.{length-map}
-use Rattle.tree_nodes.specs.Siblings.{alternative_view, one_open, open_count}
-use Rattle.tree_nodes.specs.Rows.{cell_view}
+use Rattle.tree_nodes.specs.Siblings.{alternative_view, open_count}
 use Rattle.tree_nodes.specs.Gathering.{shut_beside}
 use Rattle.tree_nodes.proofs.SiblingLemmas.{item_at, shut_beside-open}
 use Rattle.tree_nodes.proofs.siblings.Siblings.shut_beside.Goals as goal
