@@ -1,5 +1,5 @@
 -- What effects come to.
-use Rattle.std.proofs.Common.{◌≡◌, ◌∙◌, ℕ, ◌+◌, ◌≤◌, List, [], ◌∷◌, ◌++◌, map, Some, None, refl, sym, ap, ap₂, subst, arith}
+use Rattle.std.proofs.Common.{◌≡◌, ◌∙◌, ℕ, ◌+◌, ◌≤◌, List, [], ◌∷◌, map, Some, None, refl, sym, ap, ap₂, subst, arith}
 use Rattle.std.specs.Prelude.{Option, codes}
 use Rattle.au_term.specs.Term.{Term, Terms, end, more, count, arguments, argument_count, var_bound, all_bound}
 use Rattle.au_model.specs.Terms.Forms.{name_of}
@@ -18,8 +18,7 @@ use Rattle.run_model.proofs.OutcomeBoundLemmas.{arguments-below}
 use Rattle.clause_compile.specs.declared.event.Effect.{Effect}
 use Rattle.clause_compile.specs.declared.event.Effect.TheVariants as effect
 use Rattle.clause_compile.specs.declared.item.ClauseId.{ClauseId}
-use Rattle.clause_compile.specs.declared.item.Item.{Item}
-use Rattle.clause_compile.specs.declared.item.Item.TheVariants.{Remove, End}
+use Rattle.clause_compile.specs.declared.item.Item.TheVariants.{Remove}
 use Rattle.bind_store.specs.StoreView.{StoreView, IsValidStore, substitution}
 use Rattle.bind_store.proofs.ApplyLemmas.{resolve_none}
 use Rattle.bind_store.proofs.FurtherBindingLemmas.{resolved_stays}
@@ -30,7 +29,7 @@ use Rattle.engine_core.specs.declared.reduction.Reduction.TheVariants as reducti
 use Rattle.engine_core.proofs.BuiltinGoals.{arguments_fixed}
 use Rattle.effect_gate.specs.Effects.{effect_answer}
 use Rattle.stack_run.specs.Inferences.{removal_answer}
-use Rattle.stack_run.specs.EffectsTaken.{IsTermIn, IsEffectIn}
+use Rattle.stack_run.specs.EffectsTaken.{IsEffectIn}
 
 -- what is no effect
 abbrev pub IsNoGate : Reduction → Type 0

@@ -1,17 +1,16 @@
 -- What clauses and operators leave that an effect has found.
-use Rattle.std.proofs.Common.{◌≡◌, ℕ, suc, ◌+◌, ◌≤◌, Bool, true, false, cond, List, [], ◌∷◌, ◌++◌, length, map, filter, Option, Some, None, Result, Ok, Err, OnOk, IfOk, Vec, Global, refl, sym, ap, ◌∙◌, subst, arith}
+use Rattle.std.proofs.Common.{◌≡◌, ℕ, suc, ◌+◌, ◌≤◌, Bool, true, false, cond, List, [], ◌∷◌, ◌++◌, length, map, filter, Option, Some, None, Result, Ok, Err, OnOk, IfOk, refl, sym, ap, ◌∙◌, subst, arith}
 use Rattle.std.specs.Prelude.{codes}
 use Rattle.au_term.specs.Term.{Term, VarTerm, IntTerm, AtomTerm, Compound, end, more, var_bound}
 use Rattle.au_model.specs.Terms.Each.{Each}
 use Rattle.au_model.specs.Terms.Forms.{same_name, binary}
-use Rattle.au_model.specs.Terms.Named.{NamedTerm}
 use Rattle.au_model.specs.Terms.Substitutions.{resolve}
 use Rattle.au_model.specs.Terms.Unifier.{unifier}
 use Rattle.run_model.specs.Programs.Databases.{NumberedClause, plain_clauses}
 use Rattle.run_model.specs.Goals.DatabaseGoals.{head_in, body_in}
-use Rattle.run_model.specs.Goals.Outcomes.{Reply, Solutions, Ball, HaltNumber, Solution, clause_solution, alternatives_of}
+use Rattle.run_model.specs.Goals.Outcomes.{Reply, Solutions, HaltNumber, Solution, clause_solution, alternatives_of}
 use Rattle.run_model.specs.Goals.WorldConstructs.{holds_once}
-use Rattle.run_model.specs.Machine.Entries.{Entry, PlainEntry, unified, solution_entry, solution_entries}
+use Rattle.run_model.specs.Machine.Entries.{PlainEntry, unified, solution_entry, solution_entries}
 use Rattle.run_model.specs.Machine.Items.{Continuation, before, removing, with_next, goals_at}
 use Rattle.run_model.specs.Goals.WorldConstructs.{World as WorldTerms}
 use Rattle.run_model.specs.Machine.Heights.{after_reply}
@@ -23,11 +22,11 @@ use Rattle.clause_compile.specs.declared.item.Item.{Item}
 use Rattle.clause_compile.specs.declared.item.Scope.TheVariants.{Local}
 use Rattle.bind_store.specs.StoreView.{StoreView, IsValidStore, substitution}
 use Rattle.op_table.specs.declared.operator.OpRow.{OpRow}
-use Rattle.engine_core.specs.Branches.{AreSolved, none_left, one_fails, one_solves}
+use Rattle.engine_core.specs.Branches.{AreSolved}
 use Rattle.effect_gate.specs.Effects.{AreFound, AreFoundBy, AreRowsFor, effect_answer, statics_of, world_meant}
 use Rattle.effect_gate.specs.declared.world.World.{World}
 use Rattle.effect_gate.proofs.FoundClauseLemmas.{called_once}
-use Rattle.stack_run.specs.StackView.{continuation_view, entries_under}
+use Rattle.stack_run.specs.StackView.{entries_under}
 use Rattle.stack_run.specs.StackInvariant.{IsChoiceFit}
 use Rattle.stack_run.specs.Inferences.{IsWorking, HasEntries, LeavesReply, IsUnhalted, branch_entry, entries_below, following}
 use Rattle.stack_run.specs.EffectsTaken.{IsTermIn, IsHaltedBy, IsGatePassed}

@@ -13,4 +13,5 @@ pub mod FoundLemmas
 pub mod RowLemmas
 pub mod ReductionLemmas
 pub mod StepLemmas
+pub mod WaitingLemmas
 pub mod RunLemmas

@@ -26,7 +26,6 @@ use Rattle.clause_compile.specs.declared.item.Item.{Item}
 use Rattle.clause_compile.specs.declared.item.Item.TheVariants.{Goal, CatchEnd, Collect, Remove, End}
 use Rattle.clause_compile.specs.declared.event.Branch.{Branch as BranchTerms}
 use Rattle.clause_compile.specs.declared.event.Effect.{Effect}
-use Rattle.clause_compile.specs.declared.event.Effect.TheVariants as effect
 use Rattle.clause_compile.specs.declared.event.Opening.{Opening}
 use Rattle.clause_compile.specs.declared.event.Opening.TheVariants as opening
 use Rattle.bind_store.specs.StoreView.{StoreView, IsValidStore, substitution}

@@ -1,5 +1,5 @@
 -- The solutions of operators.
-use Rattle.std.proofs.Common.{◌≡◌, ℕ, ◌≤◌, List, [], ◌∷◌, ◌++◌, map, pos, None, refl, sym, ap, ◌∙◌, subst, arith}
+use Rattle.std.proofs.Common.{◌≡◌, List, [], ◌∷◌, ◌++◌, map, pos, None, refl, arith}
 use Rattle.au_term.specs.Term.{Term, IntTerm, AtomTerm}
 use Rattle.au_model.specs.Syntax.Operators.{OperatorRow}
 use Rattle.au_model.specs.Terms.Each.{Each}

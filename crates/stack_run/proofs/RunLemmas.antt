@@ -1,7 +1,5 @@
 -- A run so far, and how it ends.
-use Rattle.std.proofs.Common.{◌≡◌, ℕ, zero, suc, ◌||◌, Vec, Global, ◌+◌, ◌-◌, ◌<◌, ◌≤◌, List, [], ◌∷◌, ◌++◌, length, take, min, Option, Some, None, true, false, refl, sym, ap, ◌∙◌, subst, reverse, is_some, append_assoc, append-nil, length-append, arith}
-use Rattle.std.proofs.Math.Seq.{take-append_seam, take-append-add}
-use Rattle.std.proofs.lemmas.List.{take-append-le, take_min}
+use Rattle.std.proofs.Common.{◌≡◌, ◌≢◌, inl, inr, ℕ, zero, suc, ◌||◌, Vec, Global, ◌+◌, ◌-◌, ◌<◌, ◌≤◌, List, [], ◌∷◌, ◌++◌, length, Option, Some, None, true, false, refl, sym, ap, ◌∙◌, subst, reverse, is_some, append-nil, length-append, arith}
 use Rattle.run_model.specs.declared.ending.RunEnding.{RunEnding}
 use Rattle.run_model.specs.declared.ending.RunEnding.TheVariants.{Budget, WriteFault, NoMemory}
 use Rattle.run_model.specs.Machine.Entries.{Entry, PlainEntry, CatchEntry, FindallEntry, EndEntry}
@@ -35,6 +33,9 @@ use Rattle.stack_run.specs.Inferences.{HasEnd}
 use Rattle.stack_run.specs.MachineView.{stack_state, state_view, own_asked, HasStatics, IsReady}
 use Rattle.stack_run.specs.StackView.{stack_view, current_view, entries_under, frames_view, end_view}
 use Rattle.stack_run.specs.RunEnds.{IsRun, IsRunBy, IsWholeRun}
+use Rattle.stack_run.specs.Pieces.{PutsOut, IsClosedWith, write_failed}
+use Rattle.stack_run.proofs.WaitingLemmas.{all_in_front, all_out, front_of_more, front_out, nothing_out, put_more, waits}
+use Rattle.run_model.specs.declared.ending.RunEnd.{RunEnd}
 
 -- a run that was halted has nothing left
 abbrev IsEmptyIfHalted : Option ℕ → List Entry → Type 0
@@ -87,12 +88,12 @@ halts_empty job (suc n) =
     let next = free_empties (step job.clauses (seq job n)).halted (step job.clauses (seq job n)).entries (step_empties job.clauses (seq job n) (halts_empty job n)) in
     subst (λ (st : State). IsEmptyIfHalted st.halted st.entries) (sym (seq-suc job n)) next
 
--- after so many inferences the machine stands for the state of the run, whose text was put out
-pub record IsRunning (job : Job) (program : Program) (m : Machine) (taken : ℕ) (before now : Option (List ℕ)) (faults_before faults_now : ℕ) : Type 0 where
+-- after so many inferences the machine stands for the state of the run, whose text was put out but for what waits
+pub record IsRunning (job : Job) (program : Program) (m : Machine) (taken : ℕ) (waiting : List ℕ) (before now : Option (List ℕ)) (faults_before faults_now : ℕ) : Type 0 where
   pub clauses : arc_value program.procs ≡ job.clauses
   pub state : state_view program m (text_of job taken) taken ≡ seq job taken
   pub empty : m.world.out.items ≡ []
-  pub bytes : Appended before now (text_of job taken)
+  pub bytes : PutsOut before now (text_of job taken) waiting
   pub faults : faults_now ≡ faults_before
   pub ready : IsReady m.stack
   pub statics : HasStatics program m.world
@@ -117,36 +118,24 @@ statics_same old new h = ap (λ l (name : List ℕ) (arity : ℕ). is_reserved n
 pub statics_by : (program : Program) (job : Job) (w : KeptWorld) → arc_value program.procs ≡ job.clauses → AreStatics w.database.statics job.clauses → HasStatics program w
 statics_by program job w c h = fun_ext (λ name. fun_ext (λ arity. ap (λ b. is_reserved name arity || b) (h (record { name = name; arity = arity }) ∙ ap (λ cs. is_defined cs name arity) (sym c))))
 
-took_both : (a b c : Option (List ℕ)) (x y : List ℕ) → Appended a b x → Appended b c y → Appended a c (x ++ y)
-took_both None b c x y h k = tt
-took_both (Some old) None c x y h k = cc
-took_both (Some old) (Some new) c x y h k = k ∙ ap Some (ap (λ z. z ++ y) (inside h) ∙ append_assoc old x y)
-  where
-    inside : Some new ≡ Some (old ++ x) → new ≡ old ++ x
-    inside e = cc
-
 -- the parts of a job make it again
 pub parts_job : (job : Job) (parts : JobParts) → HasParts job parts → record { clauses = arc_value parts.procs; database = parts.database.kept; operators = parts.ops; queries = parts.queries.items } ≡ job
 parts_job job parts h = rw (h.clauses, h.database, h.operators, h.queries) refl
 
-pub begins : (job : Job) (program : Program) (m : Machine) (out : Option (List ℕ)) (faults : ℕ) → arc_value program.procs ≡ job.clauses → state_view program m [] 0 ≡ with_free_steps (opening job) → m.world.out.items ≡ [] → IsReady m.stack → HasStatics program m.world
-    → IsRunning job program m 0 out out faults faults
-begins job program m out faults c h z y k =
+pub begins : (job : Job) (program : Program) (m : Machine) (waiting : List ℕ) (out : Option (List ℕ)) (faults : ℕ) → waiting ≡ [] → arc_value program.procs ≡ job.clauses → state_view program m [] 0 ≡ with_free_steps (opening job) → m.world.out.items ≡ [] → IsReady m.stack → HasStatics program m.world
+    → IsRunning job program m 0 waiting out out faults faults
+begins job program m waiting out faults e c h z y k =
     let first : seq job 0 ≡ state_view program m [] 0 = seq-zero job ∙ sym h in
     let text : text_of job 0 ≡ [] = ap (λ (st : State). st.world.written) first ∙ z in
     record {
       clauses = c;
       state = ap (λ bytes. state_view program m bytes 0) text ∙ sym first;
       empty = z;
-      bytes = subst (Appended out out) (sym text) (none out);
+      bytes = nothing_out out (text_of job 0) waiting (text ∙ sym e);
       faults = refl;
       ready = y;
       statics = k;
     }
-  where
-    none : (o : Option (List ℕ)) → Appended o o []
-    none None = tt
-    none (Some old) = ap Some (sym (append-nil old))
 
 -- the state after one more inference
 next_state : (job : Job) (program : Program) (m new : Machine) (i : ℕ) → arc_value program.procs ≡ job.clauses → state_view program m (text_of job i) i ≡ seq job i → Steps program m new → state_view program new (text_of job i) (i + 1) ≡ seq job (i + 1)
@@ -155,23 +144,24 @@ next_state job program m new i c h k = k (text_of job i) i ∙ (ap (λ cs. with_
 next_text : (job : Job) (program : Program) (m new : Machine) (i : ℕ) → arc_value program.procs ≡ job.clauses → state_view program m (text_of job i) i ≡ seq job i → Steps program m new → text_of job i ++ new.world.out.items ≡ text_of job (i + 1)
 next_text job program m new i c h k = ap (λ (st : State). st.world.written) (next_state job program m new i c h k)
 
-pub goes_on : (job : Job) (program : Program) (m new : Machine) (out : Vec ℕ Global) (i : ℕ) (before now after : Option (List ℕ)) (fb fn fa : ℕ) → IsRunning job program m i before now fb fn → Steps program m new
-    → IsReady new.stack → new.world.database.statics ≡ m.world.database.statics → Appended now after new.world.out.items → fa ≡ fn → out.items ≡ [] → IsRunning job program (put_out new out) (i + 1) before after fb fa
-goes_on job program m new out i before now after fb fn fa r k y z t f e =
+pub goes_on : (job : Job) (program : Program) (m new : Machine) (out : Vec ℕ Global) (i : ℕ) (waiting left : List ℕ) (before now after : Option (List ℕ)) (fb fn fa : ℕ) → IsRunning job program m i waiting before now fb fn → Steps program m new
+    → IsReady new.stack → new.world.database.statics ≡ m.world.database.statics → PutsOut now after (waiting ++ new.world.out.items) left → fa ≡ fn → out.items ≡ [] → IsRunning job program (put_out new out) (i + 1) left before after fb fa
+goes_on job program m new out i waiting left before now after fb fn fa r k y z t f e =
     let text = next_text job program m new i r.clauses r.state k in
+    let written = subst (λ bytes. PutsOut before now bytes (waiting ++ new.world.out.items)) text (waits before now (text_of job i) waiting new.world.out.items r.bytes) in
     record {
       clauses = r.clauses;
       state = subst (λ bytes. state_view program (put_out new out) bytes (i + 1) ≡ seq job (i + 1)) text (seen_same program new out (text_of job i) (i + 1) e ∙ next_state job program m new i r.clauses r.state k);
       empty = e;
-      bytes = subst (Appended before after) text (took_both before now after (text_of job i) new.world.out.items r.bytes t);
+      bytes = put_more before now after (text_of job (i + 1)) (waiting ++ new.world.out.items) left written t;
       faults = f ∙ r.faults;
       ready = y;
       statics = statics_same m.world (put_out new out).world z ∙ r.statics;
     }
 
 -- so few answers have been counted
-pub few_answers : (job : Job) (program : Program) (m : Machine) (i : ℕ) (before now : Option (List ℕ)) (fb fn : ℕ) → IsRunning job program m i before now fb fn → m.answers ≤ i
-few_answers job program m i before now fb fn r =
+pub few_answers : (job : Job) (program : Program) (m : Machine) (i : ℕ) (waiting : List ℕ) (before now : Option (List ℕ)) (fb fn : ℕ) → IsRunning job program m i waiting before now fb fn → m.answers ≤ i
+few_answers job program m i waiting before now fb fn r =
     let s = is_stopped job i in
     let same : m.answers ≡ answers_of job i = ap (λ (st : State). st.answers) r.state in
     omega (arith, same, s.answered, s.within)
@@ -182,27 +172,32 @@ no_entries s y e own =
     ap (λ o. current_view own s.store o ++ entries_under own s.store s.frames.items s.end) none.0
     ∙ (ap (λ fs. frames_view own s.store (reverse fs) ++ end_view s.end) none.1 ∙ ap end_view e)
 
-entries_now : (job : Job) (program : Program) (m : Machine) (i : ℕ) (before now : Option (List ℕ)) (fb fn : ℕ) → IsRunning job program m i before now fb fn → (seq job i).entries ≡ stack_view (own_asked m.asked program.queries.items) m.stack
-entries_now job program m i before now fb fn r = sym (ap (λ (st : State). st.entries) r.state)
+entries_now : (job : Job) (program : Program) (m : Machine) (i : ℕ) (waiting : List ℕ) (before now : Option (List ℕ)) (fb fn : ℕ) → IsRunning job program m i waiting before now fb fn → (seq job i).entries ≡ stack_view (own_asked m.asked program.queries.items) m.stack
+entries_now job program m i waiting before now fb fn r = sym (ap (λ (st : State). st.entries) r.state)
 
-pub finished : (job : Job) (program : Program) (m : Machine) (i budget : ℕ) (before now : Option (List ℕ)) (fb fn : ℕ) (end : RunEnding) → IsRunning job program m i before now fb fn → i ≤ budget → m.stack.end ≡ None → end ≡ ending_by [] m.halted
-    → IsRun job budget before now (record { end = end; answers = m.answers; inferences = i })
-finished job program m i budget before now fb fn end r le e is =
-    let none : (seq job i).entries ≡ [] = entries_now job program m i before now fb fn r ∙ no_entries m.stack r.ready e (own_asked m.asked program.queries.items) in
+pub finished : (job : Job) (program : Program) (m : Machine) (i budget : ℕ) (waiting : List ℕ) (before now after : Option (List ℕ)) (fb fn : ℕ) (end : RunEnding) → IsRunning job program m i waiting before now fb fn → i ≤ budget → m.stack.end ≡ None
+    → end ≡ ending_by [] m.halted → Appended now after waiting → IsRun job budget before after (record { end = end; answers = m.answers; inferences = i })
+finished job program m i budget waiting before now after fb fn end r le e is out =
+    let none : (seq job i).entries ≡ [] = entries_now job program m i waiting before now fb fn r ∙ no_entries m.stack r.ready e (own_asked m.asked program.queries.items) in
     let sum : i + (budget - i) ≡ budget = omega arith in
     let same : seq job budget ≡ seq job i = ap (seq job) (sym sum) ∙ ended_run_stays job i (budget - i) none in
     let halted : (seq job i).halted ≡ m.halted = sym (ap (λ (st : State). st.halted) r.state) in
-    let whole : IsWholeRun job budget before now (record { end = end; answers = m.answers; inferences = i }) = record {
+    let whole : IsWholeRun job budget before after (record { end = end; answers = m.answers; inferences = i }) = record {
       ended = is ∙ sym (ap (λ (st : State). ending_by st.entries st.halted) same ∙ (ap (λ es. ending_by es (seq job i).halted) none ∙ ap (ending_by []) halted));
-      bytes = subst (λ (st : State). Appended before now st.world.written) (sym same) r.bytes;
+      bytes = subst (λ (st : State). Appended before after st.world.written) (sym same) (all_out before now after (text_of job i) waiting r.bytes out);
       answers = ap (λ (st : State). st.answers) (r.state ∙ sym same);
       inferences = ap (λ (st : State). st.inferences) (r.state ∙ sym same);
     } in
     by m.halted is whole
   where
-    by : (o : Option ℕ) → end ≡ ending_by [] o → IsWholeRun job budget before now (record { end = end; answers = m.answers; inferences = i }) → IsRun job budget before now (record { end = end; answers = m.answers; inferences = i })
-    by None x h = subst (λ x. IsRunBy x job budget before now (record { end = end; answers = m.answers; inferences = i })) (sym x) h
-    by (Some k) x h = subst (λ x. IsRunBy x job budget before now (record { end = end; answers = m.answers; inferences = i })) (sym x) h
+    by : (o : Option ℕ) → end ≡ ending_by [] o → IsWholeRun job budget before after (record { end = end; answers = m.answers; inferences = i }) → IsRun job budget before after (record { end = end; answers = m.answers; inferences = i })
+    by None x h = subst (λ x. IsRunBy x job budget before after (record { end = end; answers = m.answers; inferences = i })) (sym x) h
+    by (Some k) x h = subst (λ x. IsRunBy x job budget before after (record { end = end; answers = m.answers; inferences = i })) (sym x) h
+
+-- that is no failed write
+pub no_fault : (o : Option ℕ) → ending_by [] o ≢ WriteFault
+no_fault None h = cc
+no_fault (Some k) h = cc
 
 budget_by : (es : List Entry) (halted : Option ℕ) → 0 < length es → ending_by es halted ≡ Budget
 budget_by [] halted lt = absurd (omega arith)
@@ -215,38 +210,25 @@ has_entries : (own : List NamedTerm) (s : Stack) → HasEnd s → 0 < length (st
 has_entries own s some = some_there (current_view own s.store s.current) (frames_view own s.store (reverse s.frames.items)) (end_view s.end) (subst (λ o. 0 < length (end_view o)) (sym some.1) (omega arith))
 
 -- where something is left, nothing has halted
-pub not_halted : (job : Job) (program : Program) (m : Machine) (i : ℕ) (before now : Option (List ℕ)) (fb fn : ℕ) → IsRunning job program m i before now fb fn → HasEnd m.stack → m.halted ≡ None
-not_halted job program m i before now fb fn r some =
+pub not_halted : (job : Job) (program : Program) (m : Machine) (i : ℕ) (waiting : List ℕ) (before now : Option (List ℕ)) (fb fn : ℕ) → IsRunning job program m i waiting before now fb fn → HasEnd m.stack → m.halted ≡ None
+not_halted job program m i waiting before now fb fn r some =
     let many = has_entries (own_asked m.asked program.queries.items) m.stack some in
-    ap (λ (st : State). st.halted) r.state ∙ by (seq job i).halted (halts_empty job i) (omega (arith, many, ap length (entries_now job program m i before now fb fn r)))
+    ap (λ (st : State). st.halted) r.state ∙ by (seq job i).halted (halts_empty job i) (omega (arith, many, ap length (entries_now job program m i waiting before now fb fn r)))
   where
     by : (o : Option ℕ) → IsEmptyIfHalted o (seq job i).entries → 0 < length (seq job i).entries → o ≡ None
     by None h lt = refl
     by (Some k) h lt = absurd (omega (arith, ap length h))
 
-pub stopped : (job : Job) (program : Program) (m : Machine) (budget : ℕ) (before now : Option (List ℕ)) (fb fn : ℕ) → IsRunning job program m budget before now fb fn → HasEnd m.stack
-    → IsRun job budget before now (record { end = Budget; answers = m.answers; inferences = budget })
-stopped job program m budget before now fb fn r some =
+pub stopped : (job : Job) (program : Program) (m : Machine) (budget : ℕ) (waiting : List ℕ) (before now after : Option (List ℕ)) (fb fn : ℕ) → IsRunning job program m budget waiting before now fb fn → HasEnd m.stack
+    → Appended now after waiting → IsRun job budget before after (record { end = Budget; answers = m.answers; inferences = budget })
+stopped job program m budget waiting before now after fb fn r some out =
     let own = own_asked m.asked program.queries.items in
     record {
-      ended = sym (ap (λ es. ending_by es (seq job budget).halted) (entries_now job program m budget before now fb fn r) ∙ budget_by (stack_view own m.stack) (seq job budget).halted (has_entries own m.stack some));
-      bytes = r.bytes;
+      ended = sym (ap (λ es. ending_by es (seq job budget).halted) (entries_now job program m budget waiting before now fb fn r) ∙ budget_by (stack_view own m.stack) (seq job budget).halted (has_entries own m.stack some));
+      bytes = all_out before now after (text_of job budget) waiting r.bytes out;
       answers = ap (λ (st : State). st.answers) r.state;
       inferences = ap (λ (st : State). st.inferences) r.state;
     }
-
--- what is written so far is a front of the whole text
-took_front : (a b : Option (List ℕ)) (x y : List ℕ) → Appended a b x → AppendedPrefix a b (x ++ y)
-took_front None b x y h = tt
-took_front (Some old) b x y h = (length x, h ∙ ap (λ z. Some (old ++ z)) (sym (take-append_seam x y)))
-
-pub cut_short : (job : Job) (program : Program) (m : Machine) (i budget : ℕ) (before now : Option (List ℕ)) (fb fn : ℕ) → IsRunning job program m i before now fb fn → i ≤ budget
-    → IsRun job budget before now (record { end = NoMemory; answers = 0; inferences = 0 })
-cut_short job program m i budget before now fb fn r le =
-    let more = text_grows job i (budget - i) in
-    let sum : i + (budget - i) ≡ budget = omega arith in
-    let whole : text_of job budget ≡ text_of job i ++ more.rest = ap (text_of job) (sym sum) ∙ more.joined in
-    record { bytes = subst (AppendedPrefix before now) (sym whole) (took_front before now (text_of job i) more.rest r.bytes); answers = refl; inferences = refl }
 
 -- nothing is written before the run begins
 pub not_begun : (job : Job) (budget : ℕ) (out : Option (List ℕ)) → IsRun job budget out out (record { end = NoMemory; answers = 0; inferences = 0 })
@@ -256,34 +238,40 @@ not_begun job budget out = record { bytes = none out; answers = refl; inferences
     none None = tt
     none (Some old) = (0, ap Some (sym (append-nil old)))
 
-front_after : (a b c : Option (List ℕ)) (x y : List ℕ) → Appended a b x → AppendedPrefix b c y → (more : List ℕ) → AppendedPrefix a c ((x ++ y) ++ more)
-front_after None b c x y h k more = tt
-front_after (Some old) None c x y h k more = cc
-front_after (Some old) (Some new) c x y h k more =
-    (length x + min k.0 (length y), k.1 ∙ ap Some (ap (λ z. z ++ take k.0 y) (inside h) ∙ (append_assoc old x (take k.0 y) ∙ ap (λ z. old ++ z) (sym front))))
-  where
-    inside : Some new ≡ Some (old ++ x) → new ≡ old ++ x
-    inside e = cc
+-- a front of what the run writes is out
+front_of_run : (job : Job) (i budget : ℕ) (waiting : List ℕ) (before now after : Option (List ℕ)) → i ≤ budget → PutsOut before now (text_of job i) waiting → AppendedPrefix now after waiting → AppendedPrefix before after (text_of job budget)
+front_of_run job i budget waiting before now after le h k =
+    let more = text_grows job i (budget - i) in
+    let sum : i + (budget - i) ≡ budget = omega arith in
+    subst (AppendedPrefix before after) (sym (ap (text_of job) (sym sum) ∙ more.joined)) (front_of_more before after (text_of job i) more.rest (front_out before now after (text_of job i) waiting h k))
 
-    front : take (length x + min k.0 (length y)) ((x ++ y) ++ more) ≡ x ++ take k.0 y
-    front =
-        ap (take (length x + min k.0 (length y))) (append_assoc x y more)
-        ∙ (take-append-add x (y ++ more) (min k.0 (length y))
-        ∙ ap (λ z. x ++ z) (take-append-le (min k.0 (length y)) y more (omega arith) ∙ take_min k.0 y))
+-- a run that is cut short after so many inferences
+pub cut_short : (job : Job) (program : Program) (m : Machine) (i budget : ℕ) (waiting : List ℕ) (before now after : Option (List ℕ)) (fb fn : ℕ) → IsRunning job program m i waiting before now fb fn → i ≤ budget
+    → Appended now after waiting → IsRun job budget before after (record { end = NoMemory; answers = 0; inferences = 0 })
+cut_short job program m i budget waiting before now after fb fn r le out = record {
+  bytes = front_of_run job i budget waiting before now after le r.bytes (all_in_front now after waiting out);
+  answers = refl;
+  inferences = refl;
+}
 
--- a write failed
-pub write_failed : (job : Job) (program : Program) (m new : Machine) (i budget : ℕ) (before now after : Option (List ℕ)) (fb fn : ℕ) → IsRunning job program m i before now fb fn → i < budget → Steps program m new
-    → AppendedPrefix now after new.world.out.items → IsRun job budget before after (record { end = WriteFault; answers = 0; inferences = 0 })
-write_failed job program m new i budget before now after fb fn r lt k t =
+-- a write failed: of what waited, or with what the next inference has written
+pub unwritten : (job : Job) (program : Program) (m : Machine) (i budget : ℕ) (waiting : List ℕ) (before now after : Option (List ℕ)) (fb fn : ℕ) → IsRunning job program m i waiting before now fb fn → i ≤ budget
+    → AppendedPrefix now after waiting → IsRun job budget before after write_failed
+unwritten job program m i budget waiting before now after fb fn r le out =
+    record { bytes = front_of_run job i budget waiting before now after le r.bytes out; answers = refl; inferences = refl }
+
+pub unwritten_next : (job : Job) (program : Program) (m new : Machine) (i budget : ℕ) (waiting : List ℕ) (before now after : Option (List ℕ)) (fb fn : ℕ) → IsRunning job program m i waiting before now fb fn → i < budget → Steps program m new
+    → AppendedPrefix now after (waiting ++ new.world.out.items) → IsRun job budget before after write_failed
+unwritten_next job program m new i budget waiting before now after fb fn r lt k out =
     let text = next_text job program m new i r.clauses r.state k in
-    let more = text_grows job (i + 1) (budget - (i + 1)) in
-    let sum : i + 1 + (budget - (i + 1)) ≡ budget = omega arith in
-    let whole : text_of job budget ≡ (text_of job i ++ new.world.out.items) ++ more.rest = ap (text_of job) (sym sum) ∙ (more.joined ∙ ap (λ z. z ++ more.rest) (sym text)) in
-    record {
-      bytes = subst (AppendedPrefix before after) (sym whole) (front_after before now after (text_of job i) new.world.out.items r.bytes t more.rest);
-      answers = refl;
-      inferences = refl;
-    }
+    let written = subst (λ bytes. PutsOut before now bytes (waiting ++ new.world.out.items)) text (waits before now (text_of job i) waiting new.world.out.items r.bytes) in
+    record { bytes = front_of_run job (i + 1) budget (waiting ++ new.world.out.items) before now after (omega arith) written out; answers = refl; inferences = refl }
+
+-- a run that was to end so has put out what waited, or a write failed
+pub closed : (job : Job) (budget : ℕ) (waiting : List ℕ) (before now after : Option (List ℕ)) (end r : RunEnd) → IsClosedWith waiting now after end r → (Appended now after waiting → IsRun job budget before after end)
+    → (AppendedPrefix now after waiting → IsRun job budget before after write_failed) → IsRun job budget before after r
+closed job budget waiting before now after end r (inl h) whole cut = subst (IsRun job budget before after) (sym h.0) (whole h.1)
+closed job budget waiting before now after end r (inr h) whole cut = subst (IsRun job budget before after) (sym h.0) (cut h.1)
 
 -- whether a query is there
 pub no_query : (end : Option QueryEnd) → is_some end ≡ false → end ≡ None

@@ -15,9 +15,9 @@ use Rattle.au_model.specs.Terms.Named.{NamedTerm}
 use Rattle.au_model.specs.Writing.Lines.{answer_line, end_line}
 use Rattle.run_model.specs.Machine.Items.{Item as ItemTerms, GoalItem, CatchMark, CollectMark, RemovalItem, Continuation, goals_at, resolve_named}
 use Rattle.run_model.specs.Machine.Entries.{Entry, PlainEntry, EndEntry}
-use Rattle.run_model.specs.Goals.Outcomes.{Outcome, Replies, Solutions, Ball, HaltNumber, Controls, AskWorld}
+use Rattle.run_model.specs.Goals.Outcomes.{Outcome, Replies, Controls, AskWorld}
 use Rattle.run_model.specs.Goals.Worlds.{World as WorldTerms, static_among}
-use Rattle.run_model.specs.Machine.Heights.{after_control, after_reply}
+use Rattle.run_model.specs.Machine.Heights.{after_reply}
 use Rattle.run_model.specs.Machine.States.{State, opened, remaining_queries, halt_number, item_taken, goal_taken, removal_taken, with_free_steps, step}
 use Rattle.au_model.specs.Terms.Substitutions.{Substitution, resolve}
 use Rattle.au_model.specs.declared.types.VarName.{VarName}
@@ -37,7 +37,7 @@ use Rattle.effect_gate.specs.Effects.{clause_removed}
 use Rattle.stack_run.specs.StackView.{item_view, items_view, continuation_view, frames_view, end_view, entries_under, stack_view}
 use Rattle.stack_run.specs.StackInvariant.{IsFit, AreFit, IsCurrentFit}
 use Rattle.stack_run.specs.FreeStepsTaken.{IsResting, with_current}
-use Rattle.stack_run.specs.Inferences.{IsWorking, HasEnd, IsNoMark, TakesItem, following, item_entries, item_world, item_halt, outcome_entries, outcome_world, outcome_halt, entries_below}
+use Rattle.stack_run.specs.Inferences.{IsWorking, HasEnd, IsNoMark, TakesItem, item_entries, item_world, item_halt, outcome_entries, outcome_world, outcome_halt, entries_below}
 use Rattle.stack_run.specs.ItemsTaken.{BeginsWithNoMark, IsAtItem}
 use Rattle.stack_run.specs.MachineView.{names_asked, own_asked, with_front, stack_state, opened_state, ball_of, value_in, IsReady}
 use Rattle.stack_run.specs.declared.frame.Frame.{Frame}

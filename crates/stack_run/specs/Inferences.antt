@@ -7,7 +7,7 @@ use Rattle.au_model.specs.Terms.Named.{NamedTerm}
 use Rattle.run_model.specs.Programs.Clauses.{Clause}
 use Rattle.au_model.specs.Terms.Copies.{copied}
 use Rattle.run_model.specs.Goals.GoalOutcomes.{outcome_of}
-use Rattle.run_model.specs.Goals.Outcomes.{Outcome, Reply, Replies, Solutions, Ball, HaltNumber, Controls, AskWorld, ControlForm, TestOf, CatchOf, FindallOf}
+use Rattle.run_model.specs.Goals.Outcomes.{Outcome, Reply, Replies, Controls, AskWorld, ControlForm, TestOf, CatchOf, FindallOf}
 use Rattle.au_model.specs.Terms.Substitutions.{resolve}
 use Rattle.au_model.specs.Terms.Unifier.{unifier}
 use Rattle.run_model.specs.Goals.Worlds.{World, Statics, static_among, effect_on}

@@ -7,3 +7,4 @@ pub mod EffectsTaken
 pub mod MachineView
 pub mod ItemsTaken
 pub mod RunEnds
+pub mod Pieces

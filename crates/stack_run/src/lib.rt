@@ -2,6 +2,7 @@
 #![tactic(auto)]
 
 mod effects;
+mod ending;
 mod frame;
 mod free_steps;
 mod infer;
@@ -14,5 +15,6 @@ mod step;
 #[cfg(test)]
 mod tests;
 mod unwinding;
+mod waiting;
 
 pub use run::run_job;

@@ -1,11 +1,12 @@
 //! Whole runs.
-ghost use Rattle.std.specs.Prelude.{◌≡◌, ◌≢◌, ◌≤◌, []};
+ghost use Rattle.std.specs.Prelude.{◌≡◌, ◌≢◌, ◌≤◌};
 ghost use Rattle.au_io.specs.FaultCounts.{Increased};
 ghost use Rattle.stack_run.specs.RunEnds.{IsRun};
-ghost use Rattle.run_model.specs.Machine.Runs.{ending_by};
 
+use crate::ending::{ended, ending_by, failed};
 use crate::frame::Program;
 use crate::step::{opening, step};
+use crate::waiting::Waiting;
 use au_io::Sink;
 use effect_gate::World;
 use run_model::{RunEnd, RunEnding};
@@ -35,47 +36,25 @@ pub fn run_job<K: Sink>(alloc: Global, job: Job, budget: u64, out: &mut K) -> Ru
     let Ok(mut machine) = opening(alloc, &program, world) else {
         return failed(RunEnding::NoMemory);
     };
+    let mut waiting = Waiting::new(alloc);
     for taken in 0..budget {
         if machine.stack.end.is_none() {
-            return ended(ending_by(machine.halted), machine.answers, taken);
+            let end = ended(ending_by(machine.halted), machine.answers, taken);
+            return waiting.close(end, out);
         }
         let Ok(()) = step(alloc, &program, &mut machine) else {
-            return failed(RunEnding::NoMemory);
+            return waiting.close(failed(RunEnding::NoMemory), out);
         };
-        match out.write_all(&machine.world.out) {
+        match waiting.take(&machine.world.out, out) {
             Ok(()) => {}
             Err(_) => return failed(RunEnding::WriteFault),
         }
         machine.world.out.clear();
     }
     if machine.stack.end.is_none() {
-        return ended(ending_by(machine.halted), machine.answers, budget);
+        let end = ended(ending_by(machine.halted), machine.answers, budget);
+        return waiting.close(end, out);
     }
-    ended(RunEnding::Budget, machine.answers, budget)
-}
-
-/// The ending of a run of which nothing is left, by the status by which it was halted.
-fn ending_by(halted: Option<u8>) -> RunEnding
-    ensures { result ≡ ending_by [] halted }
-{
-    match halted {
-        Some(status) => RunEnding::Halted(status),
-        None => RunEnding::Finished,
-    }
-}
-
-fn ended(end: RunEnding, answers: u64, inferences: u64) -> RunEnd
-    ensures { result ≡ record { end = end; answers = answers; inferences = inferences } }
-{
-    RunEnd {
-        end,
-        answers,
-        inferences,
-    }
-}
-
-fn failed(end: RunEnding) -> RunEnd
-    ensures { result ≡ record { end = end; answers = 0; inferences = 0 } }
-{
-    ended(end, 0, 0)
+    let end = ended(RunEnding::Budget, machine.answers, budget);
+    waiting.close(end, out)
 }

@@ -2,6 +2,7 @@
 use crate::run_job;
 use au_io::MemorySink;
 use run_model::{RunEnd, RunEnding};
+use std::alloc::Global;
 use std::test::Fail;
 use text_load::load;
 
@@ -65,6 +66,53 @@ fn runs(rt: HostRuntime) -> Result<(), Fail> {
         };
         assert_eq!(&rt; run_job(alloc, job, *budget, &mut out), want, "{text}");
         assert!(&rt; out.taken() == lines.as_bytes(), "{text}");
+    }
+    Ok(())
+}
+
+/// How long the atom is that is written three times, the room for bytes, the ending, and how many bytes are taken.
+static PIECES: [(usize, usize, RunEnding, usize); 4] = [
+    (5_000, 99_999, RunEnding::Finished, 15_006),
+    (9_000, 99_999, RunEnding::Finished, 27_006),
+    (5_000, 12_000, RunEnding::WriteFault, 12_000),
+    (9_000, 12_000, RunEnding::WriteFault, 12_000),
+];
+
+/// A text that writes an atom of so many letters three times, and what it writes.
+fn writer(alloc: Global, letters: usize) -> Result<(String, String), Fail> {
+    let mut word = String::new(alloc);
+    for _ in 0..letters {
+        word.push('a')?;
+    }
+    let mut text = String::from_str(alloc, "p(1). p(2). p(3). ?- p(X), write(")?;
+    text.push_str(word.as_str())?;
+    text.push_str("), nl, fail.")?;
+    let mut lines = String::new(alloc);
+    for _ in 0..3 {
+        lines.push_str(word.as_str())?;
+        lines.push('\n')?;
+    }
+    lines.push_str("no\n")?;
+    Ok((text, lines))
+}
+
+#[test]
+fn pieces(rt: HostRuntime) -> Result<(), Fail> {
+    let alloc = rt.alloc();
+    for (letters, room, end, bytes) in &PIECES {
+        let (text, lines) = writer(alloc, *letters)?;
+        let Ok(job) = load(alloc, "", text.as_str()) else {
+            assert!(&rt; false, "{letters} letters");
+            return Ok(());
+        };
+        let mut out = MemorySink::new(alloc, *room)?;
+        let ended = run_job(alloc, job, 99, &mut out);
+        assert_eq!(&rt; ended.end, *end, "{letters} letters, room {room}");
+        assert_eq!(&rt; out.taken().len(), *bytes, "{letters} letters, room {room}");
+        assert!(&rt;
+            lines.as_bytes().starts_with(out.taken()),
+            "{letters} letters"
+        );
     }
     Ok(())
 }

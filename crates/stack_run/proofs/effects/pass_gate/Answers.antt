@@ -1,4 +1,4 @@
-use Rattle.std.proofs.Common.{◌≡◌, ◌∙◌, ap, map, refl, sym, subst, None, []}
+use Rattle.std.proofs.Common.{◌∙◌, map, refl, sym, subst, None, []}
 use Rattle.run_model.specs.Goals.Outcomes.{Solutions, Ball}
 use Rattle.run_model.specs.Goals.WorldConstructs.{holds_once}
 use Rattle.au_model.specs.Terms.ErrorTerms.{error_term}

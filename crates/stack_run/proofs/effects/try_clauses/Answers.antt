@@ -1,7 +1,7 @@
-use Rattle.std.proofs.Common.{◌≡◌, ◌∙◌, ◌+◌, ◌∷◌, [], ◌++◌, map, take, length, ap, ap₂, refl, sym, subst, true, false, None, Option, ℕ, arith}
-use Rattle.std.proofs.lemmas.Result.{on_ok_weaker, IfOk-weaker}
+use Rattle.std.proofs.Common.{map, sym, subst, true, false, arith}
+use Rattle.std.proofs.lemmas.Result.{on_ok_weaker}
 use Rattle.clause_compile.specs.CompiledClauses.{shown}
-use Rattle.run_model.specs.Goals.DatabaseGoals.{clause_match, head_in, body_in}
+use Rattle.run_model.specs.Goals.DatabaseGoals.{head_in, body_in}
 use Rattle.run_model.specs.Goals.Outcomes.{Solutions, alternatives_of, clause_solution}
 use Rattle.run_model.specs.Programs.Databases.{plain_clauses}
 use Rattle.engine_core.specs.Matches.{matches_of, match_of}

@@ -1,5 +1,5 @@
-use Rattle.std.proofs.Common.{◌≡◌, ◌∙◌, ◌+◌, ◌∷◌, [], ◌++◌, map, take, length, ap, ap₂, refl, sym, subst, None, Option, ℕ, arith}
-use Rattle.std.proofs.lemmas.Result.{on_ok_weaker, IfOk-weaker}
+use Rattle.std.proofs.Common.{map, length, refl}
+use Rattle.std.proofs.lemmas.Result.{on_ok_weaker}
 use Rattle.clause_compile.specs.CompiledClauses.{shown}
 use Rattle.clause_compile.specs.declared.item.Scope.TheVariants.{Local}
 use Rattle.engine_core.specs.Matches.{matches_of}

@@ -1,5 +1,5 @@
-use Rattle.std.proofs.Common.{◌≡◌, ◌∙◌, ◌+◌, ◌∷◌, [], ◌++◌, map, take, length, ap, ap₂, refl, sym, subst, None, Option, ℕ, arith}
-use Rattle.std.proofs.lemmas.Result.{on_ok_weaker, IfOk-weaker}
+use Rattle.std.proofs.Common.{◌≡◌, map, length, refl, subst}
+use Rattle.std.proofs.lemmas.Result.{on_ok_weaker}
 use Rattle.clause_compile.specs.declared.item.Scope.TheVariants.{Local}
 use Rattle.run_model.specs.Goals.OperatorGoals.{operator_solution}
 use Rattle.run_model.specs.Goals.Outcomes.{Solutions}

@@ -1,12 +1,12 @@
-use Rattle.std.proofs.Common.{◌≡◌, ◌∙◌, ap, sym, subst, None, refl, arith}
+use Rattle.std.proofs.Common.{◌∙◌, sym, subst, arith}
 use Rattle.std.proofs.lemmas.Result.{IfOk-weaker}
 use Rattle.au_model.specs.Terms.Each.{Each}
 use Rattle.clause_compile.specs.declared.item.Scope.TheVariants.{Local}
 use Rattle.engine_core.specs.Branches.{IsItemBelow}
 use Rattle.engine_core.specs.Reductions.{IsReduced}
-use Rattle.engine_core.specs.declared.reduction.Reduction.TheVariants.{Alternatives, Raise, Prune, Open, Gate}
+use Rattle.engine_core.specs.declared.reduction.Reduction.TheVariants.{Alternatives, Raise, Prune, Open}
 use Rattle.effect_gate.specs.Effects.{statics_of, world_meant}
-use Rattle.stack_run.specs.EffectsTaken.{IsEffectIn, IsGatePassed}
+use Rattle.stack_run.specs.EffectsTaken.{IsEffectIn}
 use Rattle.stack_run.specs.StackInvariant.{IsChoiceFit}
 use Rattle.stack_run.specs.Inferences.{IsOpeningBelow, TakesItem}
 use Rattle.stack_run.specs.declared.frame.Choice.TheVariants.{Branch}

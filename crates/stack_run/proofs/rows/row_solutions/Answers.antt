@@ -1,5 +1,4 @@
-use Rattle.std.proofs.Common.{◌≡◌, ◌∙◌, ◌+◌, ◌∷◌, [], ◌++◌, map, take, length, ap, ap₂, refl, sym, subst, None, Option, ℕ, arith}
-use Rattle.std.proofs.lemmas.Result.{on_ok_weaker, IfOk-weaker}
+use Rattle.std.proofs.Common.{◌∙◌, ◌∷◌, [], ◌++◌, map, take, ap, ap₂, sym}
 use Rattle.std.proofs.lemmas.List.{take_more, take_all, map-append}
 use Rattle.run_model.specs.Goals.OperatorGoals.{operator_solution}
 use Rattle.op_table.specs.OperatorView.{row_meant}

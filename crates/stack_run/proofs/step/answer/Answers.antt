@@ -1,6 +1,4 @@
-use Rattle.std.proofs.Common.{◌++◌, ap, ◌∙◌}
-use Rattle.au_model.specs.Writing.Lines.{answer_line}
-use Rattle.term_writer.specs.AnswerParts.{named_terms}
+use Rattle.std.proofs.Common.{ap, ◌∙◌}
 use Rattle.effect_gate.specs.Effects.{world_meant}
 use Rattle.stack_run.proofs.StepLemmas.{answers_so}
 use Rattle.stack_run.proofs.step.answer.Goals as goal

@@ -1,4 +1,4 @@
-use Rattle.std.proofs.Common.{◌++◌, arith}
+use Rattle.std.proofs.Common.{arith}
 use Rattle.effect_gate.specs.Effects.{world_meant}
 use Rattle.stack_run.specs.MachineView.{with_front}
 use Rattle.stack_run.proofs.StepLemmas.{query_opens}

@@ -1,8 +1,6 @@
-use Rattle.std.proofs.Common.{◌+◌, ◌++◌, ap, sym, ◌∙◌}
+use Rattle.std.proofs.Common.{◌+◌, ap, ◌∙◌}
 use Rattle.std.proofs.lemmas.Result.{on_ok_weaker}
-use Rattle.au_model.specs.Writing.Lines.{end_line}
 use Rattle.effect_gate.specs.Effects.{world_meant}
-use Rattle.stack_run.specs.MachineView.{ball_of, with_front, opened_state, stack_state}
 use Rattle.stack_run.proofs.StepLemmas.{query_ends}
 use Rattle.stack_run.proofs.step.end_query.Goals as goal
 
