@@ -1,5 +1,5 @@
 //! What no clause says: that calls succeed, and where chains of variables lead.
-use crate::{BindingArray, BindingCell};
+use binding_array::{BindingArray, BindingCell};
 use std::process::Abort;
 use std::test::Fail;
 

@@ -1,5 +1,5 @@
 //! What no clause gives: which clauses and goals certain terms make, and that long ones are made and dropped.
-use crate::{Clause, ClauseRefusal, Code, Goals, Item, Part, Place, Scope, body_goals, compile};
+use clause_compile::{Clause, ClauseRefusal, Code, Goals, Item, Part, Place, Scope, body_goals, compile};
 use au_term::{Atom, Cell, FlatTerm, Shared, TermBuilder};
 use std::alloc::Global;
 use std::process::Abort;

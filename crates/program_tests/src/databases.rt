@@ -1,5 +1,5 @@
 //! Calls one by one, thousands of them beside a list, and many facts found by their keys.
-use crate::{DataRefusal, Database, Gone, Indicator, Snapshot, Static};
+use dyn_clauses::{DataRefusal, Database, Gone, Indicator, Snapshot, Static};
 use au_model::build::{atom, compound, single};
 use au_term::{Atom, Cell, FlatTerm, NoMemory};
 use clause_compile::{Clause, ClauseId, compile};

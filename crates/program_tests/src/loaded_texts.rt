@@ -1,6 +1,6 @@
 //! Texts loaded: what no clause gives, which jobs certain texts make.
 
-use crate::{Job, LoadRefusal, load};
+use text_load::{Job, LoadRefusal, load};
 use au_model::FaultKind;
 use au_term::{Atom, Cell};
 use clause_compile::Clause;

@@ -1,5 +1,5 @@
 //! Whole runs of small texts: how they end, their answers and inferences, and their bytes.
-use crate::run_job;
+use stack_run::run_job;
 use au_io::MemorySink;
 use run_model::{RunEnd, RunEnding};
 use std::alloc::Global;

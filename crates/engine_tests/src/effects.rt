@@ -1,8 +1,8 @@
 //! What no clause says: that effects are applied where memory is there, and what they come to, as text.
-use crate::test_rows::{
+use crate::effect_rows::{
     ABOLISHED, ADDED, HALTS, Kind, LOOKED_AT, LOOKED_UP, OPERATORS, OUTPUT, Part, Row, WRITTEN,
 };
-use crate::{Applied, World, ball};
+use effect_gate::{Applied, World, ball};
 use Part::{A, F, I, V};
 use au_model::{Style, VarName};
 use au_term::{Atom, Cell, FlatTerm, NoMemory, TermBuilder};
