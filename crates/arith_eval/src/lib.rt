@@ -4,7 +4,5 @@
 pub mod evaluation;
 mod functions;
 mod integers;
-#[cfg(test)]
-mod tests;
 
 pub use evaluation::{EvalRefusal, eval};

@@ -8,8 +8,6 @@ pub mod memory;
 pub mod shelf;
 pub mod sink;
 pub mod stdout;
-#[cfg(test)]
-mod tests;
 
 pub use files::{FileShelf, Opener};
 pub use gate::{Gate, Moment, NoGate};

@@ -9,8 +9,6 @@ pub mod fault;
 pub mod laws;
 pub mod lists;
 pub mod names;
-#[cfg(test)]
-mod tests;
 pub mod types;
 
 pub use fault::{DomainName, EvalName, Fault, LimitName, PermissionName, TypeName};

@@ -10,8 +10,6 @@ pub mod segment;
 pub mod shared;
 mod sizes;
 pub mod steps;
-#[cfg(test)]
-mod tests;
 
 pub use arguments::Arguments;
 pub use atom::{Atom, is_text};

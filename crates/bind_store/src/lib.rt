@@ -5,8 +5,6 @@ mod bindings;
 pub mod laws;
 mod resolved;
 pub mod store;
-#[cfg(test)]
-mod tests;
 mod unify;
 mod walk;
 

@@ -7,8 +7,6 @@
 mod array;
 mod cell;
 pub mod laws;
-#[cfg(test)]
-mod tests;
 
 pub use array::BindingArray;
 pub use cell::BindingCell;

@@ -11,9 +11,13 @@ use Rattle.tree_nodes.specs.Rows.{AlternativeCell, node_parent, cell_at}
 use Rattle.tree_nodes.specs.TreeTables.{cell_of, cells_of, NodesView, IsTableOf, above_of}
 use Rattle.tree_nodes.proofs.PlaceLemmas.{left_cells, length-left_cells}
 use Rattle.tree_nodes.proofs.WalkLemmas.{cells_beside, cell_here, parent_here, one_level_up, no_level_up}
-use Rattle.branch_order.specs.LeftOf.{or_else, place_on}
-use Rattle.branch_order.specs.Clocks.{closed_counts, counts_in, counts_from, counts_beside, IsCountedFrom, IsCountedTo, Counts}
+use Rattle.branch_order.specs.LeftOf.{or_else}
+use Rattle.tree_nodes.specs.Fronts.{place_on}
+use Rattle.branch_order.specs.Clocks.{IsCountedFrom, IsCountedTo, Counts}
+use Rattle.tree_nodes.specs.Fronts.{counts_beside}
+use Rattle.tree_nodes.specs.Siblings.{closed_counts, counts_in, counts_from}
 use Rattle.tree_nodes.proofs.CreditLemmas.{counted-assoc}
+use Rattle.tree_nodes.proofs.SiblingLemmas.{counts-snoc}
 use Rattle.tree_nodes.proofs.FoldLemmas.{take-seam}
 use Rattle.branch_order.proofs.LeftLemmas.{drop-take-cons, first_open-level}
 
@@ -26,20 +30,15 @@ counted-whole a b = omega arith
 counted-first : (a b : ℕ) → counted a b ≡ counted 0 (counted a b)
 counted-first a b = omega arith
 
-both_none : (a b : Option Place) → or_else a b ≡ None → (a ≡ None) × (b ≡ None)
+pub both_none : (a b : Option Place) → or_else a b ≡ None → (a ≡ None) × (b ≡ None)
 both_none None b e = (refl, e)
 both_none (Some p) b e = absurd (cc e)
 
-counts-snoc : (n : ℕ × ℕ) (cells : List (ℕ × AlternativeCell)) (x : ℕ × AlternativeCell) → counts_from n (cells ++ x ∷ [])
-    ≡ (counted (counts_from n cells).0 (closed_counts x.1).0, counted (counts_from n cells).1 (closed_counts x.1).1)
-counts-snoc n [] x = refl
-counts-snoc n (y ∷ cells) x = counts-snoc (counted n.0 (closed_counts y.1).0, counted n.1 (closed_counts y.1).1) cells x
-
 -- at one level, where all to the left has closed
-abbrev credits_of : Status → Credit
+abbrev pub credits_of : Status → Credit
 credits_of s = credits_below s
 
-left_closed : (n : ℕ) (left : List (ℕ × Status)) → first_open_left n left ≡ None
+pub left_closed : (n : ℕ) (left : List (ℕ × Status)) → first_open_left n left ≡ None
     → ((credits_left left).answers ≡ (counts_from (0, 0) (left_cells left)).0) × ((credits_left left).inferences ≡ (counts_from (0, 0) (left_cells left)).1)
 left_closed n [] e = (refl, refl)
 left_closed n (a ∷ left) e = by_found (first_open_left n left) refl e (left_closed n left)
@@ -97,11 +96,11 @@ module _ (nodes : NodesView) (b : Place) (answers inferences spent : ℕ) (read 
       ∙ (ap (counts_beside nodes.rows) k.at ∙ sym is_beside) in
       (l.0 ∙ ap (λ (p : ℕ × ℕ). p.0) same, l.1 ∙ ap (λ (p : ℕ × ℕ). p.1) same)
 
-  given_more : answers_left (v ∷ up) ≡ counted (answers_left k.above) (counted beside.0 answers)
+  pub given_more : answers_left (v ∷ up) ≡ counted (answers_left k.above) (counted beside.0 answers)
   given_more = k.given ∙ (counted-assoc (answers_left k.above) (credits_left k.level.left).answers answers
       ∙ ap (λ (x : ℕ). counted (answers_left k.above) (counted x answers)) left_counts.0)
 
-  taken_more : clock_of (v ∷ up) ≡ counted (clock_of k.above) (counted (counted beside.1 spent) inferences)
+  pub taken_more : clock_of (v ∷ up) ≡ counted (clock_of k.above) (counted (counted beside.1 spent) inferences)
   taken_more = k.taken ∙ (counted-three (clock_of k.above) (credits_left k.level.left).inferences k.level.spent inferences
       ∙ (ap (λ (x : ℕ). counted (clock_of k.above) (counted (counted x k.level.spent) inferences)) left_counts.1
       ∙ ap (λ (x : ℕ). counted (clock_of k.above) (counted (counted beside.1 x) inferences)) (sym is_spent)))

@@ -14,7 +14,8 @@ use Rattle.tree_nodes.specs.Folds.{IsAbove}
 use Rattle.tree_nodes.proofs.PlaceLemmas.{left_cells, length-left_cells}
 use Rattle.tree_nodes.proofs.WalkLemmas.{cells_beside, parent_here, one_level_up, no_level_up}
 use Rattle.tree_nodes.proofs.FoldLemmas.{take-seam}
-use Rattle.branch_order.specs.LeftOf.{first_at, open_index, place_on, open_beside, or_else, if_below, below_scope}
+use Rattle.branch_order.specs.LeftOf.{first_at, open_index, open_beside, or_else, if_below, below_scope}
+use Rattle.tree_nodes.specs.Fronts.{place_on}
 use Rattle.branch_order.specs.Walks.{IsAtLevel, IsWalked, Walks}
 
 abbrev or_index : Option ℕ → Option ℕ → Option ℕ
@@ -116,7 +117,7 @@ walk_begins nodes a scope read v up was e s = by_test (is_node scope a.node) ref
 -- one level more
 module _ (nodes : NodesView) (scope : Option ℕ) (b : Place) (first : Option Place) (read : Reading) (v : Level) (up : List Level) (was : Status)
     (k : IsAtLevel v up was scope b first) (here : IsTableOf nodes read (plug (k.level ∷ k.above) k.status)) where
-  found_more : first_open (levels_below scope (v ∷ up)) ≡ or_else (first_open (levels_below scope k.above)) (or_else (open_beside nodes.rows b) first)
+  pub found_more : first_open (levels_below scope (v ∷ up)) ≡ or_else (first_open (levels_below scope k.above)) (or_else (open_beside nodes.rows b) first)
   found_more = k.found
       ∙ (ap (λ (ls : List Level). or_else (first_open ls) first) k.below
       ∙ (ap (λ (o : Option Place). or_else o first) (first_open-level k.level (levels_below scope k.above))

@@ -14,7 +14,8 @@ use Rattle.tree_nodes.specs.Puts.{inner_at}
 use Rattle.tree_nodes.specs.TreeTables.{node_number, cell_of, cells_of, IsIn, NodesView, IsRoot, IsTableOf}
 use Rattle.tree_nodes.proofs.PlaceLemmas.{taken_out}
 use Rattle.tree_nodes.proofs.WalkLemmas.{cell_here}
-use Rattle.branch_order.specs.LeftOf.{open_index, place_on, open_first}
+use Rattle.branch_order.specs.LeftOf.{open_index, open_first}
+use Rattle.tree_nodes.specs.Fronts.{place_on}
 use Rattle.branch_order.specs.Leftmosts.{IsLeftmost, IsDownTo, GoesDown}
 
 -- a live node has an entry below it

@@ -2,3 +2,4 @@ pub mod LeftLemmas
 pub mod ClockLemmas
 pub mod LeftmostLemmas
 pub mod MeetingLemmas
+pub mod FrontLemmas

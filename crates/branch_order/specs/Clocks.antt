@@ -5,25 +5,7 @@ use Rattle.tree_model.specs.Nodes.{Status}
 use Rattle.tree_model.specs.Levels.{Level, plug, Place, place_at}
 use Rattle.tree_model.specs.Orders.{first_open, clock_of, answers_left}
 use Rattle.tree_nodes.specs.Bodies.{Reading}
-use Rattle.tree_nodes.specs.Rows.{AlternativeCell, PendingCell, InnerCell, ClosedCell, Rows, row_of_node, alternatives_at}
 use Rattle.tree_nodes.specs.TreeTables.{NodesView, IsTableOf}
-
--- answers and inferences
-abbrev pub closed_counts : AlternativeCell → ℕ × ℕ
-closed_counts (PendingCell hold) = (0, 0)
-closed_counts (InnerCell n) = (0, 0)
-closed_counts (ClosedCell credit) = (credit.answers, credit.inferences)
-
-abbrev pub counts_in : Option (ℕ × AlternativeCell) → ℕ × ℕ
-counts_in None = (0, 0)
-counts_in (Some c) = closed_counts c.1
-
-abbrev pub counts_from : ℕ × ℕ → List (ℕ × AlternativeCell) → ℕ × ℕ
-counts_from n [] = n
-counts_from n (c ∷ cells) = counts_from (counted n.0 (closed_counts c.1).0, counted n.1 (closed_counts c.1).1) cells
-
-abbrev pub counts_beside : Rows → Place → ℕ × ℕ
-counts_beside rows a = counts_from (0, 0) (take a.index (alternatives_at (row_of_node rows a.node)))
 
 -- where all to the left has closed, these are the answers to the left of a place, and its clock
 abbrev pub CountsBranch : NodesView → Place → ℕ → ℕ → Type 0

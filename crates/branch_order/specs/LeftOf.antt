@@ -7,9 +7,11 @@ use Rattle.std.specs.Option.{option_map}
 use Rattle.tree_model.specs.Nodes.{Status}
 use Rattle.tree_model.specs.Levels.{Level, plug, Place, place_at}
 use Rattle.tree_model.specs.Orders.{is_node, levels_below, first_open}
+use Rattle.tree_nodes.specs.declared.front.Front.{Front}
 use Rattle.tree_nodes.specs.Bodies.{Reading}
 use Rattle.tree_nodes.specs.Rows.{AlternativeCell, Rows, row_of_node, alternatives_at, scope_number}
 use Rattle.tree_nodes.specs.Gathering.{is_shut}
+use Rattle.tree_nodes.specs.Fronts.{place_on}
 use Rattle.tree_nodes.specs.TreeTables.{NodesView, IsTableOf}
 
 -- the first of these that has not closed, by its index from this one on
@@ -20,9 +22,6 @@ first_at false i others = Some i
 abbrev pub open_index : ℕ → List (ℕ × AlternativeCell) → Option ℕ
 open_index i [] = None
 open_index i (c ∷ cells) = first_at (is_shut c.1) i (open_index (suc i) cells)
-
-abbrev pub place_on : ℕ → ℕ → Place
-place_on n i = record { node = n; index = i }
 
 -- the leftmost alternative left of a place at its node that has not closed
 abbrev pub open_beside : Rows → Place → Option Place
@@ -59,3 +58,8 @@ open_first rows n = option_map (place_on n) (open_index 0 (alternatives_at (row_
 abbrev pub IsOn : ℕ → Option Place → Type 0
 IsOn n None = Unit {0}
 IsOn n (Some a) = a.node ≡ n
+
+-- a front, where it is at a node
+abbrev pub IsAtFront : Option Front → ℕ → Option Front → Type 0
+IsAtFront front n None = Unit {0}
+IsAtFront front n (Some e) = (front ≡ Some e) × (e.node ≡ n)

@@ -1,5 +1,5 @@
 -- The leftmost entry of a tree.
-use Rattle.std.specs.Prelude.{◌≡◌, ℕ, List, [], Option}
+use Rattle.std.specs.Prelude.{◌≡◌, ℕ, List, [], Option, Some, None}
 use Rattle.std.specs.Option.{option_map}
 use Rattle.tree_model.specs.Nodes.{Kind, Numbered, Alternatives, Status, Inner}
 use Rattle.tree_model.specs.Levels.{Level, plug, Place, place_of_spot, pending_in, pending_of}
@@ -27,3 +27,8 @@ pub record IsDownTo (root : Status) (n : ℕ) : Type 0 where
 
 abbrev pub GoesDown : NodesView → ℕ → Type 0
 GoesDown nodes n = (read : Reading) (root : Status) → IsTableOf nodes read root → IsSound [] root → IsDownTo root n
+
+-- a node to go down from; none where no node is there
+abbrev pub IsTop : NodesView → Option ℕ → Type 0
+IsTop nodes None = nodes.first ≡ None
+IsTop nodes (Some n) = GoesDown nodes n

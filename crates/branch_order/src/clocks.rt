@@ -2,8 +2,11 @@
 ghost use Rattle.std.specs.Prelude.{◌≡◌, IsSome};
 ghost use Rattle.tree_model.specs.EventViews.{place_view};
 ghost use Rattle.tree_nodes.specs.Rows.{cell_at, alternatives_at, row_of_node};
-ghost use Rattle.branch_order.specs.Clocks.{CountsBranch, HasClock, counts_beside, counts_in};
+ghost use Rattle.branch_order.specs.Clocks.{CountsBranch, HasClock};
+ghost use Rattle.tree_nodes.specs.Fronts.{counts_beside};
+ghost use Rattle.tree_nodes.specs.Siblings.{counts_in};
 
+use crate::left::{at_front, passed_left};
 use tree_model::AltRef;
 use tree_nodes::{AltState, Nodes};
 
@@ -22,6 +25,7 @@ pub fn counts(nodes: &Nodes, at: AltRef) -> (u64, u64)
     requires { IsSome (cell_at nodes.now.rows (place_view at)) }
     ensures { CountsBranch nodes.now (place_view at) result.0 result.1 }
 {
+    let front = nodes.front();
     let mut next = Some(at);
     let mut answers = 0u64;
     let mut inferences = 0u64;
@@ -31,6 +35,12 @@ pub fn counts(nodes: &Nodes, at: AltRef) -> (u64, u64)
         inferences = taken
             .saturating_add(nodes.spent(here))
             .saturating_add(inferences);
+        if let Some(top) = at_front(front, here.node) {
+            return (
+                top.answers.saturating_add(answers),
+                top.inferences.saturating_add(inferences),
+            );
+        }
         next = nodes.parent(here.node);
     }
     (answers, inferences)
@@ -41,9 +51,10 @@ fn counts_left(nodes: &Nodes, at: AltRef) -> (u64, u64)
     requires { IsSome (cell_at nodes.now.rows (place_view at)) }
     ensures { result ≡ counts_beside nodes.now.rows (place_view at) }
 {
-    let mut answers = 0u64;
-    let mut inferences = 0u64;
-    for alternative in 0..at.alternative {
+    let passed = passed_left(nodes, at);
+    let mut answers = passed.answers;
+    let mut inferences = passed.inferences;
+    for alternative in passed.many as u32..at.alternative {
         let left = AltRef {
             node: at.node,
             alternative,

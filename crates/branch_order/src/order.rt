@@ -3,7 +3,7 @@ ghost use Rattle.std.specs.Prelude.{◌≡◌};
 ghost use Rattle.tree_nodes.specs.Puts.{IsPlaceIn};
 ghost use Rattle.tree_nodes.specs.RowViews.{parent_view};
 ghost use Rattle.branch_order.specs.LeftOf.{open_first, IsOn};
-ghost use Rattle.branch_order.specs.Leftmosts.{IsLeftmost};
+ghost use Rattle.branch_order.specs.Leftmosts.{IsLeftmost, IsTop};
 
 use tree_model::AltRef;
 use tree_nodes::Nodes;
@@ -12,10 +12,10 @@ use tree_nodes::Nodes;
 pub fn leftmost(nodes: &Nodes) -> Option<AltRef>
     ensures { IsLeftmost nodes.now (parent_view result) }
 {
-    let Some(first) = nodes.first() else {
+    let Some(top) = top(nodes) else {
         return None;
     };
-    let mut node = first;
+    let mut node = top;
     loop {
         let Some(at) = first_of(nodes, node) else {
             return None;
@@ -27,13 +27,25 @@ pub fn leftmost(nodes: &Nodes) -> Option<AltRef>
     }
 }
 
+// The lowest node that is known to have nothing open to its left, none where no node is there.
+fn top(nodes: &Nodes) -> Option<u64>
+    ensures { IsTop nodes.now result }
+{
+    match nodes.front() {
+        Some(front) => Some(front.node),
+        None => nodes.first(),
+    }
+}
+
 // The first alternative of a node that has not closed.
 fn first_of(nodes: &Nodes, node: u64) -> Option<AltRef>
     ensures first { parent_view result ≡ open_first nodes.now.rows node }
     ensures there { IsPlaceIn nodes.now.rows (parent_view result) }
     ensures on { IsOn node (parent_view result) }
 {
-    for alternative in 0..nodes.width(node) {
+    let width = nodes.width(node);
+    let passed = nodes.passed(node);
+    for alternative in passed.many as u32..width {
         let at = AltRef { node, alternative };
         if !nodes.is_closed(at) {
             return Some(at);

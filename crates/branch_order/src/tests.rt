@@ -1,66 +1,11 @@
 //! What no clause gives: that calls succeed, and what they say of one tree.
+use crate::trees::{add, close, credit, place};
 use crate::{before, cleared, clock, counts, first_open, leftmost};
-use au_term::{Bindings, NoMemory, Segment};
-use clause_compile::{Branch, Goals, Scope};
+use clause_compile::Scope;
 use std::alloc::Global;
 use std::process::Abort;
-use std::sync::Arc;
 use std::test::Fail;
-use tree_model::AltRef;
-use tree_nodes::{AltState, Credit, NodeBody, NodeKind, Nodes};
-
-fn segment(alloc: Global) -> Segment {
-    Segment {
-        base: 0,
-        vars: 0,
-        bindings: Bindings::new(alloc),
-    }
-}
-
-fn body(alloc: Global, branches: usize) -> Result<Arc<NodeBody>, NoMemory> {
-    let mut all = Vec::new(alloc);
-    for _i in 0..branches {
-        all.push(Branch {
-            goals: Goals::empty(),
-            segment: segment(alloc),
-        })?;
-    }
-    let segment = Arc::new(alloc, segment(alloc))?;
-    let body = NodeBody {
-        segment,
-        branches: all,
-        kind: NodeKind::Choice,
-    };
-    Ok(Arc::new(alloc, body)?)
-}
-
-fn place(node: u64, alternative: u32) -> AltRef {
-    AltRef { node, alternative }
-}
-
-/// Adds a node below a pending alternative, or the first node.
-fn add(
-    rt: &impl Abort,
-    alloc: Global,
-    nodes: &mut Nodes,
-    parent: Option<AltRef>,
-    branches: usize,
-) -> Result<(), Fail> {
-    let body = body(alloc, branches)?;
-    assert!(rt; body.is_whole());
-    match parent {
-        Some(at) => assert!(rt; nodes.is_pending(at)),
-        None => assert_eq!(rt; nodes.live(), 0),
-    }
-    let _number = nodes.add(parent, body)?;
-    Ok(())
-}
-
-fn close(rt: &impl Abort, nodes: &mut Nodes, at: AltRef, credit: Credit) -> Result<(), Fail> {
-    assert!(rt; nodes.has_alternative(at));
-    nodes.close(at, credit)?;
-    Ok(())
-}
+use tree_nodes::{AltState, Nodes};
 
 /// A node of three alternatives; below the second one of two, and below the second of these one of two. The first of the
 /// first node has closed with 2 inferences and an answer, 3 were spent on its second.
@@ -69,12 +14,7 @@ fn tree(rt: &impl Abort, alloc: Global) -> Result<Nodes, Fail> {
     add(rt, alloc, &mut nodes, None, 3)?;
     add(rt, alloc, &mut nodes, Some(place(0, 1)), 2)?;
     add(rt, alloc, &mut nodes, Some(place(1, 1)), 2)?;
-    let credit = Credit {
-        inferences: 2,
-        answers: 1,
-        records: Vec::new(alloc),
-    };
-    close(rt, &mut nodes, place(0, 0), credit)?;
+    close(rt, &mut nodes, place(0, 0), credit(alloc, 1, 2))?;
     let at = place(0, 1);
     assert!(rt; nodes.has_alternative(at));
     assert_eq!(rt; nodes.below(at), Some(1));

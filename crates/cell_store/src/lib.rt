@@ -20,8 +20,6 @@ mod mark;
 mod occurs;
 mod resolved;
 mod store;
-#[cfg(test)]
-mod tests;
 mod unify;
 
 pub use store::Store;

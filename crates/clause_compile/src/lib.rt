@@ -10,8 +10,6 @@ pub mod goal_list;
 pub mod item;
 pub mod names;
 mod place;
-#[cfg(test)]
-mod tests;
 
 pub use atom_numbers::AtomNumbers;
 pub use body::goal_places;

@@ -11,8 +11,6 @@ mod indicator;
 mod keys;
 mod place;
 mod procedure;
-#[cfg(test)]
-mod tests;
 
 pub use database::{DataRefusal, Database, Gone, Snapshot, Static};
 pub use indicator::Indicator;

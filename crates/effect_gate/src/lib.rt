@@ -12,10 +12,6 @@ mod output;
 mod refusal;
 mod statics;
 mod status;
-#[cfg(test)]
-mod test_rows;
-#[cfg(test)]
-mod tests;
 pub mod world;
 
 pub use balls::ball;

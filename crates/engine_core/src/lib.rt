@@ -11,8 +11,6 @@ mod matches;
 mod names;
 mod procedure;
 pub mod reduction;
-#[cfg(test)]
-mod tests;
 mod told_apart;
 mod world;
 

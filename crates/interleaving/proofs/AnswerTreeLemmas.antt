@@ -116,8 +116,8 @@ module _ (s : Spot) (around : IsAround (levels_of s) IsOpen) (clear : AreClear (
       (marks_without (dormant_on (levels_of s)) f.items m))
 
 module _ (t : TreeState) (i : IsSoundTree t) (q : IsCaughtTree t) (order : AreInOrder t.root) (few : answers_in t.root < greatest) where
-  abbrev Kept : Status → Type 0
-  Kept root = IsOrdered root (answers_in t.root + 0)
+  abbrev KeepsOrder : Status → Type 0
+  KeepsOrder root = IsOrdered root (answers_in t.root + 0)
 
   order_at : (s : Spot) → IsOpenSpot t.root s → AreInOrder (plug (levels_of s) (Pending s.hold s.entry))
   order_at s o = subst AreInOrder (sym o.inside) order
@@ -132,7 +132,7 @@ module _ (t : TreeState) (i : IsSoundTree t) (q : IsCaughtTree t) (order : AreIn
   -- what gives no answer, at some place or at none
   somewhere : (o : Option Spot) (new : Spot → TreeState) → ((s : Spot) → o ≡ Some s → IsOpenSpot t.root s)
       → ((s : Spot) → IsOpenSpot t.root s → o ≡ Some s
-      → IsOrdered (new s).root (answers_in (plug (levels_of s) (Pending s.hold s.entry)))) → Kept (where_some o t new).root
+      → IsOrdered (new s).root (answers_in (plug (levels_of s) (Pending s.hold s.entry)))) → KeepsOrder (where_some o t new).root
   somewhere None new f g = none_more t.root _ (order, refl)
   somewhere (Some s) new f g = let o = f s refl in at_root s o (new s).root 0 (none_more (new s).root _ (g s o refl))
 

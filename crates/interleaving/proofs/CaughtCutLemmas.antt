@@ -86,14 +86,14 @@ abbrev CutsAt : (ℕ → Type 0) → Level → List Level → Status → Status 
 CutsAt kept v up old new = (sleeps : ℕ → Bool) → ((r : ℕ) → kept r → sleeps r ≡ dormant_on (v ∷ up) r) → CaughtAt (v ∷ up) old
     → IsCaught sleeps (is_side v.kind (length v.left)) (under_of up) new
 
-abbrev Kept : ℕ → List Level → ℕ → Type 0
-Kept s levels r = is_on (way_of (levels_down levels s)) r ≡ true
+abbrev IsOnWay : ℕ → List Level → ℕ → Type 0
+IsOnWay s levels r = is_on (way_of (levels_down levels s)) r ≡ true
 
 abbrev below : Level → Status → Status
 below v new = Inner (level_node (record v { right = emptied v.right }) new)
 
 one_up : (s : ℕ) (v u : Level) (up : List Level) (old new : Status) → (v.number == s) ≡ false → is_on (way_of (u ∷ up)) v.number ≡ false
-    → AreShut v.left → CutsAt (Kept s (v ∷ u ∷ up)) v (u ∷ up) old new → CutsAt (Kept s (u ∷ up)) u up (Inner (level_node v old))
+    → AreShut v.left → CutsAt (IsOnWay s (v ∷ u ∷ up)) v (u ∷ up) old new → CutsAt (IsOnWay s (u ∷ up)) u up (Inner (level_node v old))
     (below v new)
 one_up s v u up old new e off k c sleeps agree = shut_put (dormant_on (u ∷ up)) sleeps (under_of (u ∷ up)) v.number v.kind v.left
     (alternative v.spent old v.right) (alternative v.spent new (emptied v.right)) k
@@ -103,7 +103,7 @@ one_up s v u up old new e off k c sleeps agree = shut_put (dormant_on (u ∷ up)
           v.kind (suc (length v.left)) v.right,
     ))
   where
-    agrees : (r : ℕ) → Kept s (v ∷ u ∷ up) r → with_catch v.number (catch_right (emptied v.right)) sleeps r ≡ dormant_on (v ∷ u ∷ up) r
+    agrees : (r : ℕ) → IsOnWay s (v ∷ u ∷ up) r → with_catch v.number (catch_right (emptied v.right)) sleeps r ≡ dormant_on (v ∷ u ∷ up) r
     agrees r h =
         let kept : is_on (way_of (levels_down (u ∷ up) s)) r
         ≡ true = subst (λ b. is_on (way_of (cond b (v ∷ u ∷ up) (levels_down (u ∷ up) s))) r ≡ true) e h in
@@ -113,7 +113,7 @@ one_up s v u up old new e off k c sleeps agree = shut_put (dormant_on (u ∷ up)
         ∙ (agree r kept ∙ sym (cond-false (v.number == r) (catch_right v.right) (dormant_on (u ∷ up) r) apart))
 
 pub cut_root : (s : ℕ) (v : Level) (up : List Level) (old new : Status) → is_on (way_of (v ∷ up)) s ≡ true → IsAround (v ∷ up) IsOpen
-    → AreClear (levels_below (Some s) (v ∷ up)) → CutsAt (Kept s (v ∷ up)) v up old new → SameRight old new → Rests old new
+    → AreClear (levels_below (Some s) (v ∷ up)) → CutsAt (IsOnWay s (v ∷ up)) v up old new → SameRight old new → Rests old new
     → ((sp : ℕ) → IsUnspent sp old → IsUnspent sp new) → IsCaughtRoot (plug (v ∷ up) old) → IsCaughtRoot (plug (pruned s (v ∷ up)) new)
 cut_root s v [] old new on a k c e r u h = go (v.number == s) refl on
   where
@@ -133,7 +133,7 @@ cut_root s v (w ∷ up) old new on a k c e r u h = go (v.number == s) refl on
 
     go : (b : Bool) → (v.number == s) ≡ b → cond b true (is_on (way_of (w ∷ up)) s) ≡ true
         → (is_on (way_of (w ∷ up)) s ≡ true → AreClear (levels_below (Some s) (w ∷ up))
-        → CutsAt (Kept s (w ∷ up)) w up (Inner (level_node v old)) (below v new)
+        → CutsAt (IsOnWay s (w ∷ up)) w up (Inner (level_node v old)) (below v new)
         → IsCaughtRoot (plug (pruned s (w ∷ up)) (below v new)))
         → IsCaughtRoot (plug (cond b (v ∷ w ∷ up) (record v { right = emptied v.right } ∷ pruned s (w ∷ up))) new)
     go true q o more = root_put (v ∷ w ∷ up) old new e (c (dormant_on (v ∷ w ∷ up)) (λ m z. refl)) r u h

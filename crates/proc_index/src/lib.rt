@@ -7,8 +7,6 @@ mod places;
 mod procedure;
 mod procs;
 mod taken;
-#[cfg(test)]
-mod tests;
 
 pub use key::{Key, cells_tell_apart};
 pub use procs::{Candidates, Procs};

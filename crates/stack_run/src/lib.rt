@@ -12,8 +12,6 @@ mod rows;
 mod run;
 mod stack;
 mod step;
-#[cfg(test)]
-mod tests;
 mod unwinding;
 mod waiting;
 

@@ -21,8 +21,6 @@ mod sorting;
 pub mod spelling;
 mod sub_atom;
 pub mod table;
-#[cfg(test)]
-mod tests;
 pub mod type_tests;
 mod unification;
 pub mod world_goals;

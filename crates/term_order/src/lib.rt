@@ -5,8 +5,6 @@ mod cells;
 pub mod comparison;
 pub mod laws;
 pub mod sorting;
-#[cfg(test)]
-mod tests;
 
 pub use comparison::compare;
 pub use sorting::{key_sort, sort_unique};

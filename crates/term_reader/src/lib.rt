@@ -18,5 +18,3 @@ mod variables;
 pub use place::line_and_column;
 pub use read::{ReadOutcome, ReadRefused, read_term};
 
-#[cfg(test)]
-mod tests;

@@ -12,5 +12,3 @@ mod write;
 pub use lines::{answer_line, ball_line};
 pub use write::write_into;
 
-#[cfg(test)]
-mod tests;

@@ -10,8 +10,6 @@ mod procedures;
 pub mod query;
 pub mod reading;
 mod sentence;
-#[cfg(test)]
-mod tests;
 
 pub use job::{Job, JobParts};
 pub use query::Query;

@@ -14,5 +14,3 @@ pub use scan::next_token;
 pub use token::{BadToken, Token, TokenKind};
 pub use values::{integer, spelling, value};
 
-#[cfg(test)]
-mod tests;

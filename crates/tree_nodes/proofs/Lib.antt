@@ -2,6 +2,7 @@ pub mod PlaceLemmas
 pub mod FrameLemmas
 pub mod LocateLemmas
 pub mod RowLemmas
+pub mod SiblingLemmas
 pub mod DropLemmas
 pub mod GoingLemmas
 pub mod DropStepLemmas
@@ -13,3 +14,5 @@ pub mod CreditLemmas
 pub mod FoldLemmas
 pub mod WalkLemmas
 pub mod MeetLemmas
+pub mod FrontLemmas
+pub mod FrontKeptLemmas

@@ -185,6 +185,31 @@ module _ (old new : NodesView) (read : Reading) (v : Level) (up : List Level) (w
   pub put_is_set : Fits (cell_at old.rows (place_at v)) cell.1 → IsSet new read (record v { spent = cell.0 } ∷ up) was cell.1
   put_is_set fit = by_cell cell.1 refl fit
 
+  abbrev IsLeft : ℕ → Type 0
+  IsLeft m = IsSome (row_of_node new.rows m) → row_of_node new.rows m ≡ row_of_node p.middle m
+
+  left_by : (now : Status) → IsTrimmed p.middle old.live new.rows new.live was now → ((m : ℕ) → count_below m now ≡ 0) → (m : ℕ) → IsLeft m
+  left_by now t leaf m there = elim (cases_lt 0 (count_below m was)) [
+    | inl l ↦ absurd (let z = t.gone m l (leaf m) in cc (z, there))
+    | inr not ↦ t.same m (omega (arith, not))
+  ]
+
+  same_left : (n : ℕ) (below : Option ℕ) → p.below ≡ below → inner_of cell.1 ≡ Some n → new.rows ≡ p.middle
+  same_left n None e f = (subst (λ (o : Option ℕ). IsDroppedBy None o p.middle old.live new.rows new.live) f
+      (subst (λ (o : Option ℕ). IsDroppedBy o (inner_of cell.1) p.middle old.live new.rows new.live) e p.dropped)).0
+  same_left n (Some m) e f = (subst (λ (o : Option ℕ). IsDroppedBy (Some m) o p.middle old.live new.rows new.live) f
+      (subst (λ (o : Option ℕ). IsDroppedBy o (inner_of cell.1) p.middle old.live new.rows new.live) e p.dropped)).0
+
+  -- rows that are left are those before anything went
+  pub rows_left : (c : AlternativeCell) → cell.1 ≡ c → (m : ℕ) → IsLeft m
+  rows_left (PendingCell hold) e m there =
+      let k = taken_out old.rows read (v ∷ up) was s.placed in
+      let now : Status = Pending hold (read k.way) in
+      left_by now (leaf_trimmed now (record { count = λ m. refl; nodes = refl; inner = refl }) e was refl) (λ m. refl) m there
+  rows_left (ClosedCell credit) e m there =
+      left_by (Closed credit) (leaf_trimmed (Closed credit) (record { count = λ m. refl; nodes = refl; inner = refl }) e was refl) (λ m. refl) m there
+  rows_left (InnerCell n) e m there = ap (λ (rows : Rows). row_of_node rows m) (same_left n p.below refl (ap inner_of e))
+
 pub put_set : (old new : NodesView) (a : Place) (cell : ℕ × AlternativeCell) → IsStatePut old.rows old.live new.rows new.live a cell → new.first ≡ old.first
     → Fits (cell_at old.rows a) cell.1 → SetsCell old new a cell.0 cell.1
 put_set old new a cell p f fit read v up was e s =

@@ -56,7 +56,7 @@ module _ (nodes : NodesView) (read : Reading) (root : Status) (a : Place) (s : I
       let h : IsIn nodes.rows read t.way (Some (place_at k.level)) (Inner (Numbered m kind others)) = subst (IsIn nodes.rows read t.way (Some (place_at k.level))) e t.inside in
       (ap is_some h.1.0, subst (λ (p : Place). p.node < m) k.at h.1.2)
 
-  cell_at_place : cell_at nodes.rows a ≡ Some (k.level.spent, cell_of k.status)
+  pub cell_at_place : cell_at nodes.rows a ≡ Some (k.level.spent, cell_of k.status)
   cell_at_place = ap (cell_at nodes.rows) (sym k.at) ∙ cell_here nodes read k.level k.above k.status (subst (IsTableOf nodes read) k.is s)
 
 pub below_there : (nodes : NodesView) (a : Place) → Stand nodes → IsSome (cell_at nodes.rows a) → IsDeeper nodes.rows a.node (inner_at (cell_at nodes.rows a))

@@ -5,5 +5,7 @@ pub mod TreeTables
 pub mod Changes
 pub mod Drops
 pub mod Gathering
+pub mod Siblings
 pub mod Puts
 pub mod Folds
+pub mod Fronts

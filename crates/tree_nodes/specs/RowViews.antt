@@ -1,28 +1,24 @@
 -- Rows as the code keeps them, and how one is changed.
-use Rattle.std.specs.Prelude.{◌≡◌, ◌<◌, ◌≤◌, ◌^◌, ℕ, zero, suc, length, List, [], ◌∷◌, ◌++◌, Option, Some, None, map, slice_set}
+use Rattle.std.specs.Prelude.{◌≡◌, ◌<◌, ◌≤◌, ◌^◌, ℕ, zero, suc, length, List, [], ◌∷◌, ◌++◌, Option, Some, None, slice_set}
 use Rattle.std.specs.Arc.{arc_value}
 use Rattle.std.specs.Global.{Global}
 use Rattle.std.specs.declared.boxed.Box.{Box}
 use Rattle.tree_model.specs.declared.places.AltRef.{AltRef}
 use Rattle.tree_model.specs.EventViews.{place_view}
 use Rattle.tree_model.specs.Levels.{Place}
-use Rattle.tree_nodes.specs.declared.row.Alternative.{Alternative}
 use Rattle.tree_nodes.specs.declared.row.Row.{Row}
 use Rattle.tree_nodes.specs.declared.row.Shortened.{Shortened}
 use Rattle.tree_nodes.specs.declared.row.Shortened.TheVariants as shortened
 use Rattle.clause_compile.specs.declared.event.Branch.{Branch}
 use Rattle.tree_nodes.specs.Bodies.{Body, BodyKind, body_view, first_hold}
-use Rattle.tree_nodes.specs.Rows.{AlternativeCell, PendingCell, InnerCell, ClosedCell, StoredNode, cell_view}
-
-abbrev pub alternative_view : Alternative → ℕ × AlternativeCell
-alternative_view a = (a.spent, cell_view a.state)
+use Rattle.tree_nodes.specs.Rows.{AlternativeCell, PendingCell, InnerCell, ClosedCell, StoredNode}
 
 abbrev pub parent_view : Option AltRef → Option Place
 parent_view None = None
 parent_view (Some at) = Some (place_view at)
 
 abbrev pub row_view : Row → StoredNode
-row_view r = record { parent = parent_view r.parent; body = body_view (arc_value r.body); cells = map alternative_view r.alternatives.items }
+row_view r = record { parent = parent_view r.parent; body = body_view (arc_value r.body); cells = r.alternatives }
 
 abbrev pub slot_view : Option (Box Row Global) → Option StoredNode
 slot_view None = None

@@ -2,11 +2,13 @@
 ghost use Rattle.std.specs.Prelude.{◌≡◌, IsSome};
 ghost use Rattle.tree_model.specs.EventViews.{place_view};
 ghost use Rattle.tree_nodes.specs.Rows.{cell_at};
-ghost use Rattle.tree_nodes.specs.RowViews.{alternative_view, parent_view};
+ghost use Rattle.tree_nodes.specs.RowViews.{parent_view};
+ghost use Rattle.tree_nodes.specs.Siblings.{alternative_view};
 ghost use Rattle.tree_nodes.specs.Puts.{IsReplaced, IsDroppedBy, IsStatePut, IsPlaceIn, IsLinked, IsLinkedAt};
 
 use crate::drops::drop_node;
-use crate::row::{Alternative, Slot};
+use crate::row::Slot;
+use crate::siblings::Alternative;
 use crate::state::AltState;
 use tree_model::AltRef;
 

@@ -1,5 +1,6 @@
 //! The table, and the tree for which it stands.
 ghost use Rattle.std.specs.Prelude.{◌≡◌, ◌<◌, ◌≤◌, ◌+◌, ◌-◌, max, IsSome, IsOk, IfOk, OnOk, OnErr, Some, None, [], length, is_some};
+ghost use Rattle.std.specs.Bool.{OnTrue};
 ghost use Rattle.std.specs.Option.{option_map, option_copied};
 ghost use Rattle.tree_model.specs.EventViews.{place_view};
 ghost use Rattle.tree_nodes.specs.Rows.{row_of_node, node_parent, cell_at, alternatives_at, cell_view, credit_view};
@@ -9,13 +10,17 @@ ghost use Rattle.std.specs.Arc.{arc_value};
 ghost use Rattle.tree_nodes.specs.Bodies.{body_view, IsWhole};
 ghost use Rattle.tree_nodes.specs.Changes.{SetsCell, Fits, KeepsNumbers, Adds, CanHold, IsLonger, ClosesAt, LowersSpare, AreGone, GivesBack, is_pending, root_after};
 ghost use Rattle.tree_nodes.specs.Folds.{FoldsUpTo, IsAbove, IsDeeper};
+ghost use Rattle.tree_nodes.specs.Fronts.{HasOpenLeft, KeepsFront, IsFront, IsNextOf};
+ghost use Rattle.tree_nodes.specs.Siblings.{ArePassed};
 ghost use Rattle.tree_nodes.specs.Puts.{inner_at};
 ghost use Rattle.tree_nodes.specs.Gathering.{IsFoldStep, Gathers, is_shut_at};
 
 use crate::body::NodeBody;
 use crate::cells::{link_cell, put_cell};
+use crate::front::{Front, last_of, retreat};
 use crate::gather::Gathered;
-use crate::row::{Alternative, Row, Slot};
+use crate::row::{Row, Slot};
+use crate::siblings::{Alternative, Passed};
 use crate::state::{AltState, Credit};
 use au_term::NoMemory;
 use std::alloc::Global;
@@ -30,6 +35,7 @@ pub struct Nodes {
     first: Option<u64>,
     live: u64,
     spare: u64,
+    front: Vec<Front>,
     alloc: Global,
 }
 
@@ -44,11 +50,11 @@ impl Model for Nodes {
 
     ghost coded = { Prim.hlevel (codes, term_code, flat.the_row.coded, shared.the_row.coded) };
 
-    ghost use Rattle.tree_nodes.specs.TreeTables.{Stand};
+    ghost use Rattle.tree_nodes.specs.Fronts.{AreKept};
 
     ghost view = { λ s. record { rows = s.slots.items; first = s.first; live = s.live; spare = s.spare } };
 
-    ghost invariant = { λ s. Stand (record { rows = s.slots.items; first = s.first; live = s.live; spare = s.spare }) };
+    ghost invariant = { λ s. AreKept (record { rows = s.slots.items; first = s.first; live = s.live; spare = s.spare }) s.front.items };
 }
 
 impl Nodes {
@@ -61,6 +67,7 @@ impl Nodes {
             first: None,
             live: 0,
             spare: 0,
+            front: Vec::new(alloc),
             alloc,
         }
     }
@@ -154,6 +161,16 @@ impl Nodes {
         }
     }
 
+    /// Alternatives at the left of a node that have closed, as far as they were passed.
+    pub fn passed(&self, node: u64) -> Passed
+        ensures { ArePassed (alternatives_at (row_of_node self.now.rows node)) result }
+    {
+        match self.row(node) {
+            Some(row) => row.alternatives.passed(),
+            None => Passed::NONE,
+        }
+    }
+
     /// Whether an alternative is there.
     pub fn has_alternative(&self, at: AltRef) -> bool
         ensures { result ≡ is_some (cell_at self.now.rows (place_view at)) }
@@ -191,7 +208,7 @@ impl Nodes {
         ensures { cell_at self.now.rows (place_view at) ≡ Some (result.now.spent, cell_view result.now.state) }
     {
         match self.row(at.node) {
-            Some(row) => &row.alternatives[at.alternative as usize],
+            Some(row) => row.alternatives.at(at.alternative as usize),
             None => unreachable!(),
         }
     }
@@ -219,12 +236,120 @@ impl Nodes {
         ensures set { SetsCell self.old self.new (place_view at) spent (cell_view state) }
         ensures numbers { KeepsNumbers self.old self.new }
     {
+        let limit = self.front_limit(at, &state);
         put_cell(
             &mut self.slots,
             &mut self.live,
             at,
             Alternative { state, spent },
         );
+        retreat(&self.slots, &mut self.front, limit);
+        self.advance_below(at.node, limit);
+    }
+
+    // The number past which the front may no longer be one where a state is put in place of another.
+    fn front_limit(&self, at: AltRef, state: &AltState) -> u64
+        requires { IsSome (cell_at self.now.rows (place_view at)) }
+        ensures { KeepsFront self.now.rows (place_view at) (cell_view state.now) result }
+    {
+        let near = self.is_closed(at) || matches!(state, AltState::Inner(_));
+        if near && !self.has_open_left(at) {
+            at.node
+        } else {
+            u64::MAX
+        }
+    }
+
+    // Whether an alternative to the left of one at its node is known to be open.
+    fn has_open_left(&self, at: AltRef) -> bool
+        requires { IsSome (cell_at self.now.rows (place_view at)) }
+        ensures { OnTrue result (HasOpenLeft self.now.rows (place_view at)) }
+    {
+        let passed = self.passed(at.node);
+        if at.alternative as usize <= passed.many {
+            return false;
+        }
+        !self.is_closed(AltRef {
+            node: at.node,
+            alternative: passed.many as u32,
+        })
+    }
+
+    /// The last node of the front: all to its left has closed.
+    pub fn front(&self) -> Option<Front>
+        ensures { IsFront self.now result }
+    {
+        last_of(&self.front)
+    }
+
+    // What is pruned one by one waits for the next change.
+    fn advance_below(&mut self, node: u64, limit: u64)
+        ensures { self.new ≡ self.old }
+    {
+        if node < limit {
+            self.advance();
+        }
+    }
+
+    // Goes down to the leftmost entry.
+    fn advance(&mut self)
+        ensures { self.new ≡ self.old }
+    {
+        for _i in 0..self.slots.len() {
+            if !self.go_down() {
+                return;
+            }
+        }
+    }
+
+    // One node further down. Where no memory is left for it, the front stays where it is.
+    fn go_down(&mut self) -> bool
+        ensures { self.new ≡ self.old }
+    {
+        let last = last_of(&self.front);
+        match self.next_front(last) {
+            Some(next) => self.front.push(next).is_ok(),
+            None => false,
+        }
+    }
+
+    fn next_front(&self, last: Option<Front>) -> Option<Front>
+        ensures { IsNextOf self.now last result }
+    {
+        match last {
+            Some(last) => self.front_below(last),
+            None => match self.first {
+                Some(node) => Some(Front {
+                    node,
+                    answers: 0,
+                    inferences: 0,
+                }),
+                None => None,
+            },
+        }
+    }
+
+    // The node below the first alternative that has not closed.
+    fn front_below(&self, last: Front) -> Option<Front>
+        ensures { IsNextOf self.now (Some last) result }
+    {
+        // The proof reads off that there is a tree.
+        let _live = self.live();
+        let passed = self.passed(last.node);
+        if self.width(last.node) as usize <= passed.many {
+            return None;
+        }
+        let at = AltRef {
+            node: last.node,
+            alternative: passed.many as u32,
+        };
+        let node = self.below(at)?;
+        let taken = passed.inferences.saturating_add(self.spent(at));
+        Some(Front {
+            node,
+            answers: last.answers.saturating_add(passed.answers),
+            inferences: last.inferences.saturating_add(taken),
+        })
     }
 
     /// Adds a node below an alternative that has an entry, or the first one, and gives its number.
@@ -243,8 +368,10 @@ impl Nodes {
         let number = self.slots.len() as u64;
         self.slots.push(slot)?;
         link_cell(&mut self.slots, parent, number);
+        retreat(&self.slots, &mut self.front, u64::MAX);
         self.first = first_after(self.first, parent, number);
         self.live = live;
+        self.advance();
         Ok(number)
     }
 
@@ -311,10 +438,10 @@ impl Nodes {
             unreachable!()
         };
         let index = at.alternative as usize;
-        if !row.shut_beside(index) {
+        if !row.alternatives.shut_beside(index) {
             return Ok(false);
         }
-        row.gather_beside(index, gathered)?;
+        row.alternatives.gather_beside(index, gathered)?;
         Ok(true)
     }
 }

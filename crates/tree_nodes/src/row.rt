@@ -1,97 +1,29 @@
 //! The rows of the table.
-ghost use Rattle.std.specs.Prelude.{◌≡◌, ◌<◌, ◌≤◌, List, None, Some, length, map, slice_get, vec_len, IfOk, OnOk, MatchOption};
+ghost use Rattle.std.specs.Prelude.{◌≡◌, ◌<◌, ◌≤◌, List, None, Some, length, map, slice_get, vec_len, IfOk, MatchOption};
 ghost use Rattle.std.specs.Arc.{arc_value};
 ghost use Rattle.tree_nodes.specs.Bodies.{body_view, kind_view, first_hold};
 ghost use Rattle.std.specs.Option.{option_map, option_copied};
 ghost use Rattle.tree_model.specs.EventViews.{place_view};
-ghost use Rattle.tree_nodes.specs.Rows.{PendingCell, cell_view, alternatives_at, credit_view};
-ghost use Rattle.tree_nodes.specs.Gathering.{closed_in, is_shut, are_shut, with_left, with_right_credits, shut_beside, with_beside};
-ghost use Rattle.tree_nodes.specs.Changes.{is_pending_cell};
+ghost use Rattle.tree_nodes.specs.Rows.{PendingCell, cell_view, alternatives_at};
+ghost use Rattle.tree_nodes.specs.Siblings.{alternative_view};
 ghost use Rattle.tree_nodes.specs.Puts.{inner_at};
-ghost use Rattle.tree_nodes.specs.RowViews.{row_view, parent_view, branches_at, alternative_view, new_cells, new_row, inner_of, with_state, IsShortened};
+ghost use Rattle.tree_nodes.specs.RowViews.{row_view, parent_view, branches_at, new_cells, new_row, with_state, IsShortened};
 
 use crate::body::{NodeBody, NodeKind};
-use crate::gather::Gathered;
-use crate::state::{AltState, Credit};
+use crate::siblings::{Alternative, Siblings, let_go};
+use crate::state::AltState;
 use au_term::NoMemory;
 use std::alloc::Global;
 use std::marker::Model;
-use std::mem;
 use std::sync::Arc;
 use tree_model::AltRef;
-
-/// An alternative, and the inferences spent on it.
-#[derive(Drop)]
-pub(crate) struct Alternative {
-    pub(crate) state: AltState,
-    pub(crate) spent: u64,
-}
-
-impl Alternative {
-    /// The node below it, if there is one.
-    pub(crate) fn inner(&self) -> Option<u64>
-        ensures { result ≡ inner_of (cell_view self.now.state) }
-    {
-        match &self.state {
-            AltState::Inner(node) => Some(*node),
-            _ => None,
-        }
-    }
-
-    /// What it has closed with, if it has.
-    pub(crate) fn credit(&self) -> Option<&Credit>
-        ensures { option_map credit_view (option_copied result) ≡ closed_in (cell_view self.now.state) }
-    {
-        match &self.state {
-            AltState::Closed(credit) => Some(credit),
-            _ => None,
-        }
-    }
-
-    /// Whether it has an entry.
-    pub(crate) fn is_pending(&self) -> bool
-        ensures { result ≡ is_pending_cell (cell_view self.now.state) }
-    {
-        !matches!(self.state, AltState::Inner(_) | AltState::Closed(_))
-    }
-
-    /// Whether it has closed.
-    pub(crate) fn is_closed(&self) -> bool
-        ensures { result ≡ is_shut (cell_view self.now.state) }
-    {
-        matches!(self.state, AltState::Closed(_))
-    }
-}
 
 /// A node: the alternative that it is below, what it was made from, and its alternatives.
 #[derive(Drop)]
 pub(crate) struct Row {
     pub(crate) parent: Option<AltRef>,
     pub(crate) body: Arc<NodeBody>,
-    pub(crate) alternatives: Vec<Alternative>,
-}
-
-impl Row {
-    /// Whether all alternatives but this one have closed.
-    pub(crate) fn shut_beside(&self, index: usize) -> bool
-        requires { index < length (row_view self.now).cells }
-        ensures { result ≡ shut_beside index (row_view self.now).cells }
-    {
-        are_shut(&self.alternatives[..index]) && are_shut(&self.alternatives[index + 1..])
-    }
-
-    /// Adds what is closed on both sides of an alternative to its credit.
-    pub(crate) fn gather_beside(
-        &self,
-        index: usize,
-        gathered: &mut Gathered,
-    ) -> Result<(), NoMemory>
-        requires { index < length (row_view self.now).cells }
-        ensures { OnOk result (gathered.new ≡ with_beside index (row_view self.now).cells gathered.old) }
-    {
-        gather_right(&self.alternatives[index + 1..], gathered)?;
-        gather_left(&self.alternatives[..index], gathered)
-    }
+    pub(crate) alternatives: Siblings,
 }
 
 fn first_state(kind: &NodeKind, index: usize) -> AltState
@@ -115,39 +47,6 @@ fn first_alternatives(alloc: Global, body: &NodeBody) -> Result<Vec<Alternative>
         alternatives.push(Alternative { state, spent: 0 })?;
     }
     Ok(alternatives)
-}
-
-fn are_shut(alternatives: &[Alternative]) -> bool
-    ensures { result ≡ are_shut (map alternative_view alternatives.now) }
-{
-    for alternative in alternatives {
-        if !alternative.is_closed() {
-            return false;
-        }
-    }
-    true
-}
-
-fn gather_left(alternatives: &[Alternative], gathered: &mut Gathered) -> Result<(), NoMemory>
-    ensures { OnOk result (gathered.new ≡ with_left (map alternative_view alternatives.now) gathered.old) }
-{
-    for i in 0..alternatives.len() {
-        if let Some(credit) = alternatives[alternatives.len() - 1 - i].credit() {
-            gathered.add_left(credit)?;
-        }
-    }
-    Ok(())
-}
-
-fn gather_right(alternatives: &[Alternative], gathered: &mut Gathered) -> Result<(), NoMemory>
-    ensures { OnOk result (gathered.new ≡ with_right_credits gathered.old (map alternative_view alternatives.now)) }
-{
-    for alternative in alternatives {
-        if let Some(credit) = alternative.credit() {
-            gathered.add_right(credit)?;
-        }
-    }
-    Ok(())
 }
 
 /// The place of a row, which is empty once the node is gone.
@@ -201,7 +100,7 @@ impl Slot {
         let row = Row {
             parent,
             body,
-            alternatives,
+            alternatives: Siblings::new(alternatives),
         };
         Ok(Slot {
             row: Some(Box::new(alloc, row)?),
@@ -235,7 +134,7 @@ impl Slot {
         ensures { result ≡ inner_at (slice_get (alternatives_at self.now) index) }
     {
         match &self.row {
-            Some(row) => row.alternatives[index].inner(),
+            Some(row) => row.alternatives.at(index).inner(),
             None => None,
         }
     }
@@ -246,7 +145,7 @@ impl Slot {
         ensures { option_map (λ c. c.0) (slice_get (alternatives_at self.now) index) ≡ Some result }
     {
         match &self.row {
-            Some(row) => row.alternatives[index].spent,
+            Some(row) => row.alternatives.at(index).spent,
             None => unreachable!(),
         }
     }
@@ -257,7 +156,7 @@ impl Slot {
         ensures { self.new ≡ with_state index (alternative_view alternative) self.old }
     {
         match &mut self.row {
-            Some(row) => let_go(mem::replace(&mut row.alternatives[index], alternative)),
+            Some(row) => row.alternatives.put(index, alternative),
             None => let_go(alternative),
         }
     }
@@ -283,6 +182,3 @@ impl Slot {
         }
     }
 }
-
-// A call of its own keeps the cases of a gate out of the proofs of its callers.
-fn let_go(_alternative: Alternative) {}

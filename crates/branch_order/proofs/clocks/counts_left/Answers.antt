@@ -2,10 +2,22 @@ use Rattle.std.proofs.Common.{◌≡◌, ℕ, suc, ◌<◌, ◌+◌, take, drop,
 use Rattle.std.specs.Prelude.{slice_get}
 use Rattle.tree_model.specs.Credits.{counted}
 use Rattle.tree_nodes.specs.Rows.{row_of_node, alternatives_at}
-use Rattle.branch_order.specs.Clocks.{counts_from, counts_in}
+use Rattle.tree_nodes.specs.Siblings.{counts_from, counts_in}
 use Rattle.branch_order.proofs.LeftLemmas.{some_before}
 use Rattle.branch_order.proofs.ClockLemmas.{counts_step}
+use Rattle.branch_order.proofs.FrontLemmas.{counts_passed}
 use Rattle.branch_order.proofs.clocks.counts_left.Goals as goal
+
+pub loop-alternative-init : goal.loop-alternative-init
+loop-alternative-init c =
+    let cells = take c.args.at.alternative (alternatives_at (row_of_node c.args.nodes.now.rows c.args.at.node)) in
+    let p = c.passed_left-passed.result in
+    counts_passed (0, 0) cells p.many ∙ ap (λ (x : ℕ × ℕ). counts_from x (drop p.many cells)) c.passed_left-passed.ensures.passed.counts
+
+pub counts_at-given-requires : goal.counts_at-given-requires
+counts_at-given-requires c =
+    let cells = alternatives_at (row_of_node c.args.nodes.now.rows c.args.at.node) in
+    some_before cells c.loop-alternative.alternative c.args.at.alternative (omega arith) c.requires
 
 pub loop-alternative-preserved : goal.loop-alternative-preserved
 loop-alternative-preserved c =

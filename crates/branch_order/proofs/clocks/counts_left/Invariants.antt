@@ -1,7 +1,8 @@
 use Rattle.std.proofs.Common.{◌≡◌, take, drop}
 use Rattle.tree_model.specs.EventViews.{place_view}
 use Rattle.tree_nodes.specs.Rows.{row_of_node, alternatives_at}
-use Rattle.branch_order.specs.Clocks.{counts_beside, counts_from}
+use Rattle.tree_nodes.specs.Fronts.{counts_beside}
+use Rattle.tree_nodes.specs.Siblings.{counts_from}
 use Rattle.branch_order.proofs.clocks.counts_left.Given as goal
 
 abbrev pub invariant-loop-alternative : goal.invariant-loop-alternative

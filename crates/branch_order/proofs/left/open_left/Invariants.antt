@@ -2,7 +2,8 @@ use Rattle.std.proofs.Common.{◌≡◌, take, drop}
 use Rattle.std.specs.Option.{option_map}
 use Rattle.tree_model.specs.EventViews.{place_view}
 use Rattle.tree_nodes.specs.Rows.{row_of_node, alternatives_at}
-use Rattle.branch_order.specs.LeftOf.{open_beside, open_index, place_on}
+use Rattle.branch_order.specs.LeftOf.{open_beside, open_index}
+use Rattle.tree_nodes.specs.Fronts.{place_on}
 use Rattle.branch_order.proofs.left.open_left.Given as goal
 
 abbrev pub invariant-loop-alternative : goal.invariant-loop-alternative

@@ -1,11 +1,14 @@
-use Rattle.std.proofs.Common.{sym, arith}
+use Rattle.std.proofs.Common.{sym, arith, subst}
 use Rattle.tree_model.specs.EventViews.{place_view}
 use Rattle.branch_order.proofs.LeftLemmas.{row_within}
-use Rattle.branch_order.proofs.LeftmostLemmas.{goes_down_from, goes_down, nothing_down, is_leftmost}
+use Rattle.branch_order.proofs.LeftmostLemmas.{no_first, goes_down, nothing_down, is_leftmost}
 use Rattle.branch_order.proofs.order.leftmost.Goals as goal
 
+pub returns-in_default : goal.returns-in_default
+returns-in_default c = no_first c.args.nodes.now c.in_default.ensures
+
 pub loop-at-init : goal.loop-at-init
-loop-at-init c = goes_down_from c.args.nodes.now c.in-Some.first (sym c.in-Some.ensures)
+loop-at-init c = c.in-Some.ensures
 
 pub returns-in_default-first_of : goal.returns-in_default-first_of
 returns-in_default-first_of c = nothing_down c.args.nodes.now c.loop-at.node c.loop-at.invariant (sym c.in_default-first_of.ensures.first)

@@ -8,6 +8,7 @@ use Rattle.tree_nodes.specs.TreeTables.{NodesView}
 use Rattle.tree_nodes.specs.Changes.{Adds, CanHold, root_after}
 use Rattle.tree_nodes.specs.Puts.{IsLinked}
 use Rattle.tree_nodes.proofs.AddLemmas.{adds, adds_stand}
+use Rattle.tree_nodes.proofs.FrontKeptLemmas.{add_kept}
 use Rattle.tree_nodes.proofs.nodes.Nodes.add.Goals as goal
 
 pub invariant_of-self-2 : goal.invariant_of-self-2
@@ -25,7 +26,8 @@ invariant_of-self-2 c =
     (subst (λ (rs : Rows). IsLinked rs new.rows parent c.len-number.result) items c.link_cell.ensures) in
     let first : new.first ≡ root_after old.first parent (length old.rows) = c.first_after-self-inside.ensures ∙ ap (root_after old.first parent) number in
     let live : new.live ≡ old.live + 1 = grind (arith, common_steps) in
-    adds_stand old new parent body c.self.invariant can (adds old new parent body linked first live can)
+    add_kept old new parent body _ c.self.inside.front.items c.retreat.new.front.items c.self.invariant can linked first
+    (adds_stand old new parent body c.self.invariant.tree can (adds old new parent body linked first live can)) c.retreat.ensures
 
 pub returns-clause-added : goal.returns-clause-added
 returns-clause-added c =
@@ -42,5 +44,5 @@ returns-clause-added c =
     (subst (λ (rs : Rows). IsLinked rs new.rows parent c.len-number.result) items c.link_cell.ensures) in
     let first : new.first ≡ root_after old.first parent (length old.rows) = c.first_after-self-inside.ensures ∙ ap (root_after old.first parent) number in
     let live : new.live ≡ old.live + 1 = grind (arith, common_steps) in
-    subst (λ (o : NodesView). Adds o new parent c.len-number.result body) c.self.view_is
-    (subst (λ (n : ℕ). Adds old new parent n body) (sym number) (adds old new parent body linked first live can))
+    subst (λ (o : NodesView). Adds o c.advance.new.self parent c.len-number.result body) c.self.view_is
+    (subst (λ (o : NodesView). Adds old o parent c.len-number.result body) (sym c.advance.ensures) (subst (λ (n : ℕ). Adds old new parent n body) (sym number) (adds old new parent body linked first live can)))

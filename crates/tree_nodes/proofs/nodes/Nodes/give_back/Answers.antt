@@ -1,9 +1,10 @@
-use Rattle.std.proofs.Common.{◌≡◌, ℕ, length, refl, sym, ap, ◌∙◌, subst, length-take}
+use Rattle.std.proofs.Common.{◌≡◌, ℕ, None, length, refl, sym, ap, ◌∙◌, subst, length-take}
 use Rattle.tree_nodes.specs.Rows.{Rows, row_of_node}
 use Rattle.tree_nodes.specs.TreeTables.{NodesView}
 use Rattle.tree_nodes.specs.Changes.{AreGone, GivesBack}
 use Rattle.tree_nodes.proofs.RowLemmas.{row_at-take}
 use Rattle.tree_nodes.proofs.PutLemmas.{same_rows}
+use Rattle.tree_nodes.proofs.FrontLemmas.{next_same}
 use Rattle.tree_nodes.proofs.nodes.Nodes.give_back.Goals as goal
 
 pub invariant_of-self : goal.invariant_of-self
@@ -12,10 +13,10 @@ invariant_of-self c =
     let new : NodesView = record { rows = c.truncate.new.self.items; first = c.self.inside.first; live = c.self.inside.live; spare = c.self.inside.spare } in
     let gone : AreGone old.rows c.args.next = subst (λ (o : NodesView). AreGone o.rows c.args.next) (sym c.self.view_is) c.requires in
     let rows : (m : ℕ) → row_of_node new.rows m ≡ row_of_node old.rows m = λ m. ap (λ (rs : Rows). row_of_node rs m) c.truncate.ensures.items ∙ row_at-take old.rows c.args.next m gone in
+    let st = c.self.invariant.tree in
     record {
-      read = c.self.invariant.read;
-      root = c.self.invariant.root;
-      stands = same_rows old new c.self.invariant.read c.self.invariant.root rows refl refl c.self.invariant.stands;
+      tree = record { read = st.read; root = st.root; stands = same_rows old new st.read st.root rows refl refl st.stands };
+      led = next_same old.rows new.rows old.first None c.self.inside.front.items rows c.self.invariant.led;
     }
 
 pub returns : goal.returns

@@ -6,6 +6,6 @@ use Rattle.tree_nodes.proofs.row.Slot.put.Goals.{in-Some, in-None}
 
 pub returns : goal.returns
 returns c = elim c.match-self.branch [
-  | in-Some w ↦ rw (w.self-inside-is, ← c.self.view_is, w.in-Some.is) (grind (arith, common_steps, map-set, w.in-Some.row-is, w.deref_mut.ensures.value, w.replace.ensures.after))
+  | in-Some w ↦ rw (w.self-inside-is, ← c.self.view_is, w.in-Some.is) (grind (arith, common_steps, map-set, w.in-Some.row-is, w.deref_mut.ensures.value, w.put.ensures))
   | in-None w ↦ rw (w.self-inside-is, ← c.self.view_is, w.in-None.is) refl
 ]

@@ -1,4 +1,0 @@
-use Rattle.au_term.proofs.tests.steps.Given as goal
-
-abbrev pub ghosts-count_one : goal.ghosts-count_one
-ghosts-count_one a = record { name = a.blank.name; parts = a.blank.parts }

@@ -1,0 +1,320 @@
+//! Texts loaded: what no clause gives, which jobs certain texts make.
+
+use text_load::{Job, LoadRefusal, load};
+use au_model::FaultKind;
+use au_term::{Atom, Cell};
+use clause_compile::Clause;
+use dyn_clauses::{Indicator, Snapshot};
+use proc_index::Key;
+use std::alloc::Global;
+use std::process::Abort;
+use std::sync::Arc;
+use std::test::Fail;
+
+/// What a procedure is in a job, with how many clauses it has.
+#[derive(Clone, Copy, Debug, PartialEq, Eq)]
+enum Standing {
+    Static(usize),
+    Dynamic(usize),
+    Unknown,
+}
+
+fn indicator(alloc: Global, name: &str, arity: u32) -> Result<Indicator, Fail> {
+    let name = Atom::new(alloc, name)?;
+    Ok(Indicator { name, arity })
+}
+
+/// How many static clauses a procedure has.
+fn static_count(alloc: Global, job: &Job, name: &str, arity: u32) -> Result<usize, Fail> {
+    let (name, key) = (Atom::new(alloc, name)?, Key::Any);
+    let Some(clauses) = job.procs().candidates(&name, arity, &key) else {
+        return Ok(0);
+    };
+    let mut count: usize = 0;
+    for _clause in clauses {
+        count = count.saturating_add(1);
+    }
+    Ok(count)
+}
+
+fn standing_of(alloc: Global, job: &Job, name: &str, arity: u32) -> Result<Standing, Fail> {
+    let procedure = indicator(alloc, name, arity)?;
+    Ok(match job.database().snapshot(&procedure)? {
+        Snapshot::Unknown => Standing::Unknown,
+        Snapshot::Static => Standing::Static(static_count(alloc, job, name, arity)?),
+        Snapshot::Clauses(clauses) => Standing::Dynamic(clauses.len()),
+    })
+}
+
+/// The procedures of the job of a library and a text.
+fn expect(
+    rt: &impl Abort,
+    alloc: Global,
+    library: &str,
+    text: &str,
+    procedures: &[(&str, u32, Standing)],
+) -> Result<(), Fail> {
+    let Ok(job) = load(alloc, library, text) else {
+        panic!(rt; "{text}");
+    };
+    for (name, arity, wanted) in procedures {
+        let found = standing_of(alloc, &job, name, *arity)?;
+        assert!(rt; found == *wanted, "{text} {name}/{arity}");
+    }
+    Ok(())
+}
+
+#[test]
+fn jobs(rt: HostRuntime) -> Result<(), Fail> {
+    let alloc = rt.alloc();
+    let text = "p(1). ?- p(X). p(2) :- q(_), X. ?- q(Y), p(Z), Y = _.";
+    let library = "q(a). q(b). p(z). p(y).";
+    let procedures = [
+        ("p", 1, Standing::Static(2)),
+        ("q", 1, Standing::Static(2)),
+        ("p", 0, Standing::Unknown),
+        ("r", 1, Standing::Unknown),
+    ];
+    expect(&rt, alloc, library, text, &procedures)?;
+    let job = load(alloc, library, text)?;
+    assert_eq!(rt; job.queries().len(), 2);
+    assert_eq!(rt; job.queries()[0].names().len(), 1);
+    assert_eq!(rt; job.queries()[1].names().len(), 2);
+    assert_eq!(rt; job.queries()[1].vars(), 3);
+    let parts = job.into_parts();
+    assert_eq!(rt; parts.queries.len(), 2);
+    Ok(())
+}
+
+#[test]
+fn dynamic_procedures(rt: HostRuntime) -> Result<(), Fail> {
+    let alloc = rt.alloc();
+    let library = ":- dynamic(m/1). a(1). a(2). b(1). m(1). m(2). n(1).";
+    for (text, name, arity, wanted) in [
+        ("", "a", 1, Standing::Static(2)),
+        ("", "m", 1, Standing::Dynamic(2)),
+        ("m(3).", "m", 1, Standing::Static(1)),
+        (":- dynamic(m/1).", "m", 1, Standing::Dynamic(0)),
+        (":- dynamic(a/1).", "a", 1, Standing::Dynamic(0)),
+        (":- dynamic(a/1). a(3).", "a", 1, Standing::Dynamic(1)),
+        (":- dynamic(a/1). a(3).", "b", 1, Standing::Static(1)),
+        (":- discontiguous(a/1).", "a", 1, Standing::Static(2)),
+        (
+            ":- dynamic((p/1, (q/0, r/2), s/1)).",
+            "r",
+            2,
+            Standing::Dynamic(0),
+        ),
+        (
+            ":- dynamic([p/1, q/0]). p(1). p(2).",
+            "p",
+            1,
+            Standing::Dynamic(2),
+        ),
+        (
+            ":- dynamic([p/1, q/0]). p(1). p(2).",
+            "q",
+            0,
+            Standing::Dynamic(0),
+        ),
+        (":- dynamic([]). p(1).", "p", 1, Standing::Static(1)),
+        (
+            ":- dynamic(p/1). p(1). :- dynamic(p/1).",
+            "p",
+            1,
+            Standing::Dynamic(1),
+        ),
+        (":- dynamic(call/9).", "call", 9, Standing::Dynamic(0)),
+        (":- dynamic(p/65535).", "p", 65535, Standing::Dynamic(0)),
+        (
+            ":- op(1150, fx, dynamic). :- dynamic c/1. ?- c(X).",
+            "c",
+            1,
+            Standing::Dynamic(0),
+        ),
+        (
+            ":- op(700, xfx, ===>). p(a ===> b).",
+            "p",
+            1,
+            Standing::Static(1),
+        ),
+        (":- op(0, fy, -). p(\\ -1).", "p", 1, Standing::Static(1)),
+        (
+            ":- op(700, xfx, [o, p]). a o b. a p b.",
+            "o",
+            2,
+            Standing::Static(1),
+        ),
+        (":- op(200, xfy, []). p.", "p", 0, Standing::Static(1)),
+    ] {
+        expect(&rt, alloc, library, text, &[(name, arity, wanted)])?;
+    }
+    Ok(())
+}
+
+#[test]
+fn refusals(rt: HostRuntime) -> Result<(), Fail> {
+    for (library, text, line, column, kind) in [
+        ("", "p. X.", 1, 4, FaultKind::BadClause),
+        ("", "p.\n % c\n :- q.", 3, 2, FaultKind::BadDirective),
+        ("", "p. ?- p, 1.", 1, 4, FaultKind::BadClause),
+        ("", "p. q(", 1, 6, FaultKind::UnexpectedEnd),
+        ("p(.", "1.", 1, 3, FaultKind::UnexpectedToken),
+        ("", ":- dynamic c/1.", 1, 12, FaultKind::UnexpectedToken),
+        ("", "p(1). :- dynamic(p/1).", 1, 7, FaultKind::StaticTwice),
+        (
+            "",
+            "p(1). :- dynamic([q/1, p/1]).",
+            1,
+            7,
+            FaultKind::StaticTwice,
+        ),
+        (
+            "",
+            "p(1). :- dynamic((p/1, q)).",
+            1,
+            7,
+            FaultKind::BadDirective,
+        ),
+        ("", ":- foo.", 1, 1, FaultKind::BadDirective),
+        ("", ":- dynamic(p/1, q/1).", 1, 1, FaultKind::BadDirective),
+        ("", ":- dynamic(X).", 1, 1, FaultKind::BadDirective),
+        ("", ":- dynamic(p/X).", 1, 1, FaultKind::BadDirective),
+        ("", ":- dynamic([p/1|q]).", 1, 1, FaultKind::BadDirective),
+        ("", ":- dynamic([p/1|X]).", 1, 1, FaultKind::BadDirective),
+        (
+            "",
+            ":- dynamic([(p/1, q/1)]).",
+            1,
+            1,
+            FaultKind::BadDirective,
+        ),
+        ("", ":- dynamic(p/65536).", 1, 1, FaultKind::BadDirective),
+        ("", ":- dynamic(p/ -1).", 1, 1, FaultKind::BadDirective),
+        ("", ":- dynamic(f(p)/1).", 1, 1, FaultKind::BadDirective),
+        ("", ":- dynamic(call/3).", 1, 1, FaultKind::BadDirective),
+        ("", ":- dynamic((',')/2).", 1, 1, FaultKind::BadDirective),
+        (
+            "",
+            ":- discontiguous(write/1).",
+            1,
+            1,
+            FaultKind::BadDirective,
+        ),
+        ("", ":- op(1201, xfx, a).", 1, 1, FaultKind::BadDirective),
+        (
+            "",
+            ":- op(700, xfx, [a, ',']).",
+            1,
+            1,
+            FaultKind::BadDirective,
+        ),
+        ("", ":- op(P, xfx, a).", 1, 1, FaultKind::BadDirective),
+        (
+            "",
+            ":- op(700, xfx, o). p(a o b). :- op(0, xfx, o). p(a o b).",
+            1,
+            53,
+            FaultKind::UnexpectedToken,
+        ),
+        (
+            ":- op(700, xfx, o). a o b.",
+            "a o b.",
+            1,
+            3,
+            FaultKind::UnexpectedToken,
+        ),
+        (
+            "",
+            ":- set_prolog_flag(double_quotes, foo).",
+            1,
+            1,
+            FaultKind::BadDirective,
+        ),
+        (
+            "",
+            ":- set_prolog_flag(bounded, true).",
+            1,
+            1,
+            FaultKind::BadDirective,
+        ),
+        (
+            "",
+            ":- set_prolog_flag(X, codes).",
+            1,
+            1,
+            FaultKind::BadDirective,
+        ),
+    ] {
+        let refused = load(rt.alloc(), library, text).err();
+        let wanted = LoadRefusal::Refused { line, column, kind };
+        assert!(rt; refused == Some(wanted), "{text}");
+    }
+    Ok(())
+}
+
+/// Whether the argument of a clause's head begins with this name.
+fn begins_with(clause: &Arc<Clause>, wanted: &str) -> bool {
+    match clause.head().cells().get(1) {
+        Some(Cell::Atom(name)) => name.text() == wanted,
+        Some(Cell::Functor(name, _)) => name.text() == wanted,
+        _ => false,
+    }
+}
+
+#[test]
+fn double_quotes(rt: HostRuntime) -> Result<(), Fail> {
+    let alloc = rt.alloc();
+    let text = "p(\"ab\"). :- set_prolog_flag(double_quotes, atom). p(\"ab\"). \
+        :- set_prolog_flag(double_quotes, chars). p(\"\"). p(\"a\").";
+    let job = load(alloc, "", text)?;
+    let name = Atom::new(alloc, "p")?;
+    let Some(clauses) = job.procs().candidates(&name, 1, &Key::Any) else {
+        panic!(rt; "no clauses");
+    };
+    for (clause, wanted) in clauses.zip([".", "ab", "[]", "."]) {
+        assert!(rt; begins_with(clause, wanted), "{wanted}");
+    }
+    Ok(())
+}
+
+/// A text of so many pieces, each between two words with its number.
+fn numbered(alloc: Global, count: u32, before: &str, after: &str) -> Result<String, Fail> {
+    let mut text = String::new(alloc);
+    for number in 0..count {
+        text.push_str(before)?;
+        text.push_str(&format!(in alloc; "{number}")?)?;
+        text.push_str(after)?;
+    }
+    Ok(text)
+}
+
+#[test]
+fn long_texts(rt: HostRuntime) -> Result<(), Fail> {
+    let alloc = rt.alloc();
+    let mut operators = numbered(alloc, 1_000, ":- op(700, xfx, o", "). ")?;
+    operators.push_str(&numbered(alloc, 1_000, "p(1 o", " 2). ")?)?;
+    expect(
+        &rt,
+        alloc,
+        "",
+        &operators,
+        &[("p", 1, Standing::Static(1_000))],
+    )?;
+    let mut clauses = format!(in alloc; ":- dynamic(p/1). ")?;
+    clauses.push_str(&numbered(alloc, 2_000, "p(", "). ")?)?;
+    expect(
+        &rt,
+        alloc,
+        "",
+        &clauses,
+        &[("p", 1, Standing::Dynamic(2_000))],
+    )?;
+    let mut procedures = numbered(alloc, 2_000, ":- dynamic(p", "/1). ")?;
+    procedures.push_str(&numbered(alloc, 2_000, "p", "(a). ")?)?;
+    let last = [
+        ("p0", 1, Standing::Dynamic(1)),
+        ("p1999", 1, Standing::Dynamic(1)),
+    ];
+    expect(&rt, alloc, "", &procedures, &last)
+}

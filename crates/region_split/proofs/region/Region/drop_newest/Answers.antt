@@ -1,0 +1,39 @@
+use Rattle.std.proofs.Common.{◌≡◌, ◌+◌, ◌-◌, [], ◌∷◌, length, length-append, sym, ap, ◌∙◌, subst, arith}
+use Rattle.std.specs.Arc.{arc_value}
+use Rattle.cell_store.specs.StoreView.{StoreView}
+use Rattle.region_split.specs.Regions.{RegionView, IsConsistentRegion, region_setting}
+use Rattle.region_split.specs.StackOperations.{DropsNewest}
+use Rattle.region_split.proofs.StandingLemmas.{as_many}
+use Rattle.region_split.proofs.RegionLemmas.{EndsWith, ends_with, without_newest, lowered_region, drops_newest}
+use Rattle.region_split.proofs.region.Region.drop_newest.Goals.{In-Some}
+use Rattle.region_split.proofs.region.Region.drop_newest.Goals as goal
+
+module _ (c : In-Some) where
+  abbrev before : RegionView
+  before = let s = c.self.inside in record { text = arc_value s.text; store = s.store; frames = s.frames.items; choices = s.choices.items }
+
+  many : length before.choices ≡ length before.store.marks
+  many = as_many (region_setting [] before) 0 0 before.choices before.store.marks c.self.invariant.choices
+
+  long : length before.store.marks ≡ length c.pop.new.self.items + 1
+  long = let a = ap length c.in-Some.ensures.items in let b = length-append c.pop.new.self.items (c.in-Some.choice ∷ []) in let m = many in omega (arith, a, b, m)
+
+  newest : c.len-newest.result - 1 ≡ length c.pop.new.self.items
+  newest = let count = c.len-newest.ensures in let l = c.in-Some.ensures.len in omega (arith, count, l)
+
+  marks : EndsWith before.store.marks (length c.pop.new.self.items)
+  marks = ends_with before.store.marks (length c.pop.new.self.items) long
+
+  store : c.keep_marks.new.self ≡ record before.store { marks = marks.before }
+  store = without_newest before.store c.keep_marks.new.self marks.before marks.last (c.len-newest.result - 1) marks.is (sym (newest ∙ sym marks.long)) c.keep_marks.ensures
+
+pub invariant_of-self : goal.invariant_of-self
+invariant_of-self c =
+    subst (λ (st : StoreView). IsConsistentRegion (record (before c) { store = st; choices = c.pop.new.self.items })) (sym (store c))
+    (lowered_region (before c) c.self.invariant c.pop.new.self.items c.in-Some.choice (marks c).before (marks c).last (before c).store.now c.in-Some.ensures.items (marks c).is)
+
+pub returns : goal.returns
+returns c =
+    subst (λ (x : RegionView). DropsNewest x (record (before c) { store = c.keep_marks.new.self; choices = c.pop.new.self.items }) c.in-Some.choice) c.self.view_is
+    (subst (λ (st : StoreView). DropsNewest (before c) (record (before c) { store = st; choices = c.pop.new.self.items }) c.in-Some.choice) (sym (store c))
+    (drops_newest (before c) c.self.invariant c.pop.new.self.items c.in-Some.choice (marks c).before (marks c).last c.in-Some.ensures.items (marks c).is))

@@ -1,0 +1,144 @@
+-- What a choice point stands for: entries of the sequential machine.
+use Rattle.std.specs.Prelude.{◌≡◌, ◌<◌, ℕ, ◌+◌, ◌≤◌, List, [], ◌∷◌, ◌++◌, length, map, get_or, None}
+use Rattle.std.specs.List.{slice_range}
+use Rattle.au_term.specs.Term.{Term}
+use Rattle.au_model.specs.Terms.Named.{NamedTerm}
+use Rattle.au_model.specs.Terms.Substitutions.{resolve}
+use Rattle.run_model.specs.Goals.Outcomes.{alternatives_of}
+use Rattle.run_model.specs.Machine.Items.{Item, GoalItem, CatchMark, CollectMark, RemovalItem, Continuation, with_next, resolve_continuation}
+use Rattle.run_model.specs.Machine.Entries.{Entry, PlainEntry, CatchEntry, FindallEntry, EndEntry, solution_entries}
+use Rattle.clause_compile.specs.Places.{CodeView}
+use Rattle.binding_array.specs.Represented.{cell_term}
+use Rattle.binding_array.specs.declared.cell.BindingCell.{BindingCell}
+use Rattle.cell_store.specs.StoreView.{Moment}
+use Rattle.cell_store.specs.Values.{IsValue}
+use Rattle.region_split.specs.Frames.{items_at, AreCutWithin}
+use Rattle.region_split.specs.Texts.{TextView}
+use Rattle.region_split.specs.ResultLists.{with_copy}
+use Rattle.region_split.specs.declared.choice.Alternatives.{Alternatives}
+use Rattle.region_split.specs.declared.choice.Alternatives.TheVariants.{Clauses, Elsewhere, Catch, Findall, QueryEnd}
+use Rattle.region_split.specs.declared.choice.ChoicePoint.{ChoicePoint}
+use Rattle.region_split.specs.declared.frame.Frame.{Frame}
+use Rattle.region_split.specs.declared.frame.Position.{Position}
+
+-- what does not change while choice points come and go: the text, the store's own text and further names, the frames, and
+-- what the query's named variables stand for before anything is bound
+pub record RegionSetting : Type 0 where
+  pub text : TextView
+  pub program : CodeView
+  pub names : List (List ℕ)
+  pub frames : List Frame
+  pub named : List NamedTerm
+
+-- the text with the terms that were made at a moment
+abbrev pub code_at : RegionSetting → Moment → CodeView
+code_at s m = record { names = s.program.names ++ s.names; places = s.program.places ++ m.made }
+
+-- what a value stood for at a moment
+abbrev pub meant_at : RegionSetting → Moment → BindingCell → Term
+meant_at s m c = resolve m.bound (cell_term (code_at s m) c)
+
+-- how many entries so many of the choice points stand for, the oldest ones
+abbrev pub height_of_cut : List ℕ → ℕ → ℕ
+height_of_cut heights cut = get_or heights cut 0
+
+-- an item with its scope by a height
+abbrev pub by_height : List ℕ → Item ℕ → Item ℕ
+by_height heights (GoalItem t cut) = GoalItem t (height_of_cut heights cut)
+by_height heights (CatchMark cut) = CatchMark (height_of_cut heights cut)
+by_height heights (CollectMark t cut) = CollectMark t (height_of_cut heights cut)
+by_height heights (RemovalItem number) = RemovalItem number
+
+-- what was left to do at a position at a moment
+abbrev pub continuation_at : RegionSetting → List ℕ → Moment → Position → Continuation ℕ
+continuation_at s heights m p =
+    resolve_continuation m.bound (record { items = map (by_height heights) (items_at s.text s.frames p); named = s.named; next = m.next })
+
+-- the entries of alternatives, over so many entries, before what follows: one for each clause that is left and whose head
+-- unifies with the goal; one for what goes on elsewhere, for a catch, for a findall and for the end of a query
+abbrev pub alternative_entries : RegionSetting → Moment → ℕ → Continuation ℕ → Alternatives → List Entry
+alternative_entries s m height f (Clauses goal first end) = solution_entries height f (alternatives_of (slice_range s.text.clauses first end) (meant_at s m goal) m.next)
+alternative_entries s m height f Elsewhere = PlainEntry f ∷ []
+alternative_entries s m height f (Catch catcher recovery) = CatchEntry (meant_at s m catcher) (meant_at s m recovery) f ∷ []
+alternative_entries s m height f (Findall list results) = FindallEntry results.terms (meant_at s m list) (with_next results.next f) ∷ []
+alternative_entries s m height f QueryEnd = EndEntry None ∷ []
+
+-- the entries of choice points, and how many those of none, of the oldest one, of the two oldest, and so on are
+pub record Standing : Type 0 where
+  pub entries : List Entry
+  pub heights : List ℕ
+
+-- the entries of a choice point that was made at a moment, over those of older ones
+abbrev pub choice_entries : RegionSetting → Standing → ChoicePoint → Moment → List Entry
+choice_entries s below c m = alternative_entries s m (length below.entries) (continuation_at s below.heights m c.after) c.alternatives
+
+abbrev pub with_entries_on_top : List Entry → Standing → Standing
+with_entries_on_top entries below = record { entries = entries ++ below.entries; heights = below.heights ++ length (entries ++ below.entries) ∷ [] }
+
+-- choice points over others, the oldest first, each with the moment at which it was made
+abbrev pub standing_over : RegionSetting → Standing → List ChoicePoint → List Moment → Standing
+standing_over s below [] moments = below
+standing_over s below (c ∷ choices) [] = below
+standing_over s below (c ∷ choices) (m ∷ moments) = standing_over s (with_entries_on_top (choice_entries s below c m) below) choices moments
+
+-- what is still to be tried, but for the first clause
+pub record HasNextClause (old new : Alternatives) (goal : BindingCell) (clause : ℕ) : Type 0 where
+  pub end : ℕ
+  pub was : old ≡ Clauses goal clause end
+  pub some : clause < end
+  pub is : new ≡ Clauses goal (clause + 1) end
+
+-- alternatives that are no clauses, or none that is left
+abbrev pub HaveNoClause : Alternatives → Type 0
+HaveNoClause (Clauses goal first end) = end ≤ first
+HaveNoClause Elsewhere = Unit {0}
+HaveNoClause (Catch catcher recovery) = Unit {0}
+HaveNoClause (Findall list results) = Unit {0}
+HaveNoClause QueryEnd = Unit {0}
+
+abbrev pub IsCollecting : Alternatives → Type 0
+IsCollecting (Clauses goal first end) = ⊥
+IsCollecting Elsewhere = ⊥
+IsCollecting (Catch catcher recovery) = ⊥
+IsCollecting (Findall list results) = Unit {0}
+IsCollecting QueryEnd = ⊥
+
+-- a findall with one more result
+abbrev pub with_found : Term → Alternatives → Alternatives
+with_found t (Clauses goal first end) = Clauses goal first end
+with_found t Elsewhere = Elsewhere
+with_found t (Catch catcher recovery) = Catch catcher recovery
+with_found t (Findall list results) = Findall list (with_copy t results)
+with_found t QueryEnd = QueryEnd
+
+-- no choice point
+abbrev pub nothing_standing : Standing
+nothing_standing = record { entries = []; heights = 0 ∷ [] }
+
+-- values that were there at a moment, and clauses of the text
+abbrev pub AreAlternativesAt : RegionSetting → Moment → Alternatives → Type 0
+AreAlternativesAt s m (Clauses goal first end) = IsValue (code_at s m) m.next goal × (end ≤ length s.text.clauses)
+AreAlternativesAt s m Elsewhere = Unit {0}
+AreAlternativesAt s m (Catch catcher recovery) = IsValue (code_at s m) m.next catcher × IsValue (code_at s m) m.next recovery
+AreAlternativesAt s m (Findall list results) = IsValue (code_at s m) m.next list × (m.next ≤ results.next)
+AreAlternativesAt s m QueryEnd = Unit {0}
+
+-- a choice point over so many others, of which so many frames are kept: it keeps these and its own, and what it goes on
+-- with cuts to those others alone
+pub record IsChoiceOver (s : RegionSetting) (cut frames : ℕ) (c : ChoicePoint) (m : Moment) : Type 0 where
+  pub own : c.after.frame ≤ c.frames
+  pub older : frames ≤ c.frames
+  pub scoped : AreCutWithin cut m.next (items_at s.text s.frames c.after)
+  pub values : AreAlternativesAt s m c.alternatives
+
+-- each choice point over those that are older, each with its moment
+abbrev pub AreChoicesOver : RegionSetting → ℕ → ℕ → List ChoicePoint → List Moment → Type 0
+AreChoicesOver s cut frames [] [] = Unit {0}
+AreChoicesOver s cut frames [] (m ∷ moments) = ⊥
+AreChoicesOver s cut frames (c ∷ choices) [] = ⊥
+AreChoicesOver s cut frames (c ∷ choices) (m ∷ moments) = IsChoiceOver s cut frames c m × AreChoicesOver s (cut + 1) c.frames choices moments
+
+-- how many frames choice points keep
+abbrev pub frames_kept : ℕ → List ChoicePoint → ℕ
+frames_kept frames [] = frames
+frames_kept frames (c ∷ choices) = frames_kept c.frames choices

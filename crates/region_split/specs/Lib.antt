@@ -1,0 +1,6 @@
+pub mod Texts
+pub mod ResultLists
+pub mod Frames
+pub mod ChoicePoints
+pub mod Regions
+pub mod StackOperations

@@ -1,0 +1,107 @@
+-- What each operation on the frames and choice points of a region leaves of the entries that it stands for.
+use Rattle.std.specs.Prelude.{◌≡◌, ℕ, ◌≤◌, List, [], ◌∷◌, ◌++◌, length, drop, ◌-◌, Some, slice_get, IsSomeAnd}
+use Rattle.au_model.specs.Terms.Named.{NamedTerm}
+use Rattle.au_term.specs.Term.{Term}
+use Rattle.run_model.specs.Programs.Clauses.{Clause}
+use Rattle.run_model.specs.Goals.Outcomes.{clause_solution}
+use Rattle.run_model.specs.Machine.Entries.{Entry, lowest, solution_entry, collected}
+use Rattle.cell_store.specs.StoreView.{Moment, with_mark, with_marks, new_store, IsValueIn, meaning}
+use Rattle.region_split.specs.Texts.{TextView}
+use Rattle.region_split.specs.Frames.{body_left, items_at}
+use Rattle.region_split.specs.ChoicePoints.{height_of_cut, HaveNoClause, IsCollecting}
+use Rattle.region_split.specs.Regions.{RegionView, continuation_here, standing, entries_of, heights_of, position_entry, entries_on, IsPositionIn, IsPositionOver, AreAlternativesIn}
+use Rattle.region_split.specs.declared.choice.Alternatives.{Alternatives}
+use Rattle.region_split.specs.declared.choice.ChoicePoint.{ChoicePoint}
+use Rattle.region_split.specs.declared.choice.Trial.{Trial}
+use Rattle.region_split.specs.declared.frame.Frame.{Frame}
+use Rattle.region_split.specs.declared.frame.Position.{Position}
+
+-- no frame and no choice point
+abbrev pub new_region : TextView → RegionView
+new_region text = record { text = text; store = new_store text.code; frames = []; choices = [] }
+
+-- what was left to do up to a frame is left there still, in each entry and at each position
+pub record KeepsPositions (old new : RegionView) (frame : ℕ) : Type 0 where
+  pub position : (p : Position) → p.frame ≤ frame → IsPositionIn old p → IsPositionIn new p
+  pub same : (named : List NamedTerm) (p : Position) → p.frame ≤ frame → IsPositionIn old p → position_entry named new p ≡ position_entry named old p
+
+-- a frame was made, in place of those in which nothing goes on: it has its own body and then what was left where it goes on
+pub record AddsFrame (old new : RegionView) (f : Frame) (number : ℕ) : Type 0 where
+  pub there : number ≤ length new.frames
+  pub items : (at : ℕ) → items_at new.text new.frames (record { frame = number; at = at }) ≡ body_left old.text.code f.base f.cut (drop at old.text.bodies) ++ items_at old.text old.frames f.after
+  pub stands : (named : List NamedTerm) → standing named new ≡ standing named old
+  pub keeps : KeepsPositions old new f.after.frame
+  pub others : new ≡ record old { frames = new.frames }
+
+-- a choice point came on top: its entries come over those that were there
+pub record AddsChoice (old new : RegionView) (alternatives : Alternatives) (after : Position) : Type 0 where
+  pub choice : ChoicePoint
+  pub is : (choice.alternatives ≡ alternatives) × (choice.after ≡ after)
+  pub entries : (named : List NamedTerm) → entries_of named new ≡ entries_on named old choice old.store.now ++ entries_of named old
+  pub keeps : KeepsPositions old new (length old.frames)
+  pub others : new ≡ record old { store = with_mark old.store; choices = old.choices ++ choice ∷ [] }
+
+-- choice points were cut down to so many: the entries of these are left, and nothing is undone
+pub record CutsTo (old new : RegionView) (kept : ℕ) : Type 0 where
+  pub entries : (named : List NamedTerm) → entries_of named new ≡ lowest (height_of_cut (heights_of named old) kept) (entries_of named old)
+  pub position : (p : Position) → IsPositionOver old kept p → IsPositionIn new p
+  pub same : (named : List NamedTerm) (p : Position) → IsPositionOver old kept p → position_entry named new p ≡ position_entry named old p
+  pub text : new.text ≡ old.text
+  pub store : new.store ≡ with_marks kept old.store
+  pub frames : new.frames ≡ old.frames
+  pub count : length new.choices ≡ kept
+
+-- the newest choice point was taken off, and all that was bound and made since was undone: its entries were the first, and
+-- it can go on
+pub record TakesNewest (old new : RegionView) (c : ChoicePoint) : Type 0 where
+  pub entries : (named : List NamedTerm) → entries_of named old ≡ entries_on named new c new.store.now ++ entries_of named new
+  pub position : IsPositionIn new c.after
+  pub alternatives : AreAlternativesIn new c.alternatives
+  pub choices : old.choices ≡ new.choices ++ c ∷ []
+  pub text : new.text ≡ old.text
+  pub frames : new.frames ≡ old.frames
+
+-- the newest choice point was taken off, and nothing was undone: its entries, of some moment, were the first
+pub record DropsNewest (old new : RegionView) (c : ChoicePoint) : Type 0 where
+  pub moment : Moment
+  pub entries : (named : List NamedTerm) → entries_of named old ≡ entries_on named new c moment ++ entries_of named new
+  pub choices : old.choices ≡ new.choices ++ c ∷ []
+  pub cuts : CutsTo old new (length new.choices)
+
+-- a choice point over clauses has none left, or it is of another kind, or there is none
+abbrev pub HasNoClauseOnTop : RegionView → Type 0
+HasNoClauseOnTop r = (cs : List ChoicePoint) (c : ChoicePoint) → r.choices ≡ cs ++ c ∷ [] → HaveNoClause c.alternatives
+
+-- the entry of a clause that is tried with the newest choice point's own height
+abbrev pub trial_entries : List NamedTerm → RegionView → Trial → Clause → List Entry
+trial_entries named r t clause =
+    solution_entry (height_of_cut (heights_of named r) (length r.choices - 1)) (continuation_here named r t.after) (clause_solution (meaning r.store t.goal) r.store.now.next clause)
+
+-- the first clause that was left was taken off the newest choice point, at the store of the time when it came: the entry of
+-- that clause, if its head unifies, was the first
+pub record TakesClause (old new : RegionView) (t : Trial) : Type 0 where
+  pub clause : Clause
+  pub is : slice_get old.text.clauses t.clause ≡ Some clause
+  pub position : IsPositionIn new t.after
+  pub goal : IsValueIn new.store t.goal
+  pub entries : (named : List NamedTerm) → entries_of named old ≡ trial_entries named new t clause ++ entries_of named new
+  pub many : length new.choices ≡ length old.choices
+  pub text : new.text ≡ old.text
+  pub frames : new.frames ≡ old.frames
+
+-- there is a findall over so many choice points
+abbrev pub HasFindallAt : RegionView → ℕ → Type 0
+HasFindallAt r over = IsSomeAnd (slice_get r.choices over) (λ c. IsCollecting c.alternatives)
+
+-- a result was added to the findall over so many choice points
+pub record AddsResult (old new : RegionView) (over : ℕ) (t : Term) : Type 0 where
+  pub entries : (named : List NamedTerm) → entries_of named new ≡ collected (height_of_cut (heights_of named old) over) t (entries_of named old)
+  pub heights : (named : List NamedTerm) → heights_of named new ≡ heights_of named old
+  pub many : length new.choices ≡ length old.choices
+  pub others : new ≡ record old { choices = new.choices }
+
+-- the store went on: the choice points stand for what they stood for, and positions stay
+pub record StaysStanding (old new : RegionView) : Type 0 where
+  pub stands : (named : List NamedTerm) → standing named new ≡ standing named old
+  pub position : (p : Position) → IsPositionIn old p → IsPositionIn new p
+  pub others : new ≡ record old { store = new.store }

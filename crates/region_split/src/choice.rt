@@ -1,0 +1,90 @@
+//! Choice points.
+ghost use Rattle.std.specs.Prelude.{◌≡◌, MatchOption, OnOk, OnErr, IsTrue, ◌↔◌};
+ghost use Rattle.region_split.specs.ChoicePoints.{HasNextClause, HaveNoClause, IsCollecting, with_found};
+
+use crate::frame::Position;
+use crate::results::Results;
+use au_term::{FlatTerm, NoMemory};
+use binding_array::BindingCell;
+use std::alloc::Global;
+
+/// What a choice point stands for.
+#[derive(Drop)]
+pub enum Alternatives {
+    /// The clauses that are still to be tried for a goal, by their places among the text's.
+    Clauses {
+        goal: BindingCell,
+        first: u32,
+        end: u32,
+    },
+    /// What is left to do at the choice point's position.
+    Elsewhere,
+    /// What is caught, and the recovery.
+    Catch {
+        catcher: BindingCell,
+        recovery: BindingCell,
+    },
+    /// What the list of results is unified with, and the results so far.
+    Findall {
+        list: BindingCell,
+        results: Results,
+    },
+    /// The end of a query.
+    QueryEnd,
+}
+
+/// A choice point: its alternatives, where they go on, and how many frames it keeps.
+#[derive(Drop)]
+pub struct ChoicePoint {
+    pub alternatives: Alternatives,
+    pub after: Position,
+    pub frames: u32,
+}
+
+/// A clause to be tried for a goal, and where its body goes on.
+#[derive(Clone, Copy, Debug)]
+pub struct Trial {
+    pub goal: BindingCell,
+    pub clause: u32,
+    pub after: Position,
+}
+
+impl Alternatives {
+    /// The goal and the first clause that is still to be tried for it, which is left out from then on.
+    pub(crate) fn next_clause(&mut self) -> Option<(BindingCell, u32)>
+        ensures { MatchOption result (HaveNoClause self.old × (self.new ≡ self.old)) (λ t. HasNextClause self.old self.new t.0 t.1) }
+    {
+        match self {
+            Alternatives::Clauses { goal, first, end } if *first < *end => {
+                let clause = *first;
+                *first = clause + 1;
+                Some((*goal, clause))
+            }
+            _ => None,
+        }
+    }
+
+    /// Adds a copy of a term to the results of a findall.
+    pub(crate) fn add_result(&mut self, alloc: Global, term: &FlatTerm) -> Result<(), NoMemory>
+        requires { IsCollecting self.old }
+        ensures ok { OnOk result (self.new ≡ with_found term.now self.old) }
+        ensures err { OnErr result (self.new ≡ self.old) }
+    {
+        match self {
+            Alternatives::Findall { list: _, results } => results.push(alloc, term),
+            _ => unreachable!(),
+        }
+    }
+}
+
+impl ChoicePoint {
+    /// Whether it is a findall.
+    pub(crate) fn is_findall(&self) -> bool
+        ensures { IsTrue result ↔ IsCollecting self.now.alternatives }
+    {
+        match &self.alternatives {
+            Alternatives::Findall { .. } => true,
+            _ => false,
+        }
+    }
+}

@@ -1,0 +1,23 @@
+//! A region: what one worker runs on its own, as frames and choice points over a store of cells (D. H. D. Warren, "An
+//! abstract Prolog instruction set", 1983, and "The SRI model for or-parallel execution of Prolog", 1987). A frame is a body
+//! under way, and goes on in an older frame, so no list of goals is made; a choice point keeps the frames that were there,
+//! and a younger frame that nothing goes on in is written over. A choice point over clauses is a place among them: it stands
+//! for one entry of the sequential machine for each clause that is left and whose head unifies.
+//!
+//! Each operation takes constant time, but for undoing, which takes as many steps as variables were bound that are older than
+//! the choice point, and for dropping choice points, which takes as many as are dropped.
+#![tactic(auto)]
+
+mod choice;
+mod frame;
+mod region;
+mod results;
+#[cfg(test)]
+mod tests;
+mod text;
+
+pub use choice::{Alternatives, ChoicePoint, Trial};
+pub use frame::{Frame, Left, Position};
+pub use region::Region;
+pub use results::Results;
+pub use text::{BodyItem, Text};

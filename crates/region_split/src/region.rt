@@ -1,0 +1,283 @@
+//! The region.
+ghost use Rattle.std.specs.Prelude.{◌≡◌, ◌<◌, ◌≤◌, IfOk, OnOk, OnErr, MatchOption, IsTrue, ◌↔◌, [], length};
+ghost use Rattle.std.specs.Arc.{arc_value};
+ghost use Rattle.au_term.specs.Term.{var_bound};
+ghost use Rattle.cell_store.specs.StoreView.{IsValueIn, meaning, with_numbers};
+ghost use Rattle.cell_store.specs.UnificationSteps.{IsUnified, OnlyBinds};
+ghost use Rattle.region_split.specs.Frames.{items_at, IsLeftAt};
+ghost use Rattle.region_split.specs.ChoicePoints.{frames_kept};
+ghost use Rattle.region_split.specs.Regions.{IsPositionIn, AreAlternativesIn};
+ghost use Rattle.region_split.specs.StackOperations.{new_region, AddsFrame, AddsChoice, CutsTo, TakesNewest, DropsNewest, HasNoClauseOnTop, TakesClause, HasFindallAt, AddsResult, StaysStanding};
+
+use crate::choice::{Alternatives, ChoicePoint, Trial};
+use crate::frame::{Frame, Left, Position};
+use crate::text::{BodyItem, Text};
+use au_term::{FlatTerm, NoMemory};
+use binding_array::BindingCell;
+use cell_store::Store;
+use std::alloc::Global;
+use std::marker::Model;
+use std::sync::Arc;
+
+/// Frames and choice points over a store, each choice point with its mark.
+#[derive(Drop)]
+pub struct Region {
+    text: Arc<Text>,
+    store: Store,
+    frames: Vec<Frame>,
+    choices: Vec<ChoicePoint>,
+}
+
+impl Model for Region {
+    ghost use Rattle.std.specs.Arc.{arc_value};
+    ghost use Rattle.std.specs.Coded.{codes};
+    ghost use Rattle.au_term.specs.PrefixOrder.{term_code};
+    ghost use Rattle.region_split.specs.Regions.{RegionView, IsConsistentRegion};
+
+    ghost Value = { RegionView };
+
+    ghost coded = { Prim.hlevel (codes, term_code) };
+
+    ghost view = { λ r. record { text = arc_value r.text; store = r.store; frames = r.frames.items; choices = r.choices.items } };
+
+    ghost invariant = { λ r. IsConsistentRegion (record { text = arc_value r.text; store = r.store; frames = r.frames.items; choices = r.choices.items }) };
+}
+
+impl Region {
+    /// No frame and no choice point.
+    pub fn new(alloc: Global, text: Arc<Text>) -> Result<Region, NoMemory>
+        ensures { IfOk result (λ r. r ≡ new_region (arc_value text)) }
+    {
+        let store = Store::new(alloc, text.code()?)?;
+        Ok(Region {
+            text,
+            store,
+            frames: Vec::new(alloc),
+            choices: Vec::new(alloc),
+        })
+    }
+
+    /// The program's text.
+    pub fn text(&self) -> &Text
+        ensures { result.now ≡ self.entry.now.text }
+    {
+        &self.text
+    }
+
+    /// The store. Its text is the program's.
+    pub fn store(&self) -> &Store
+        ensures store { result.now ≡ self.entry.now.store }
+        ensures program { result.now.program ≡ self.entry.now.text.code }
+    {
+        &self.store
+    }
+
+    /// Whether there is a findall over so many choice points.
+    pub fn is_findall(&self, over: usize) -> bool
+        ensures { IsTrue result ↔ HasFindallAt self.now over }
+    {
+        match self.choices.get(over) {
+            Some(choice) => choice.is_findall(),
+            None => false,
+        }
+    }
+
+    /// How many choice points there are.
+    pub fn height(&self) -> usize
+        ensures { result ≡ length self.now.choices }
+    {
+        self.choices.len()
+    }
+
+    /// The position at which nothing is left to do.
+    pub fn nothing_left(&self) -> Position
+        ensures items { items_at self.now.text self.now.frames result ≡ [] }
+        ensures position { IsPositionIn self.now result }
+    {
+        Position { frame: 0, at: 0 }
+    }
+
+    /// What is left at a position, by its first item.
+    pub fn left_at(&self, position: Position) -> Left
+        requires { position.frame ≤ length self.now.frames }
+        ensures { IsLeftAt self.now.text self.now.frames position result }
+    {
+        if position.frame == 0 {
+            return Left::Nothing;
+        }
+        let frame = self.frames[position.frame as usize - 1];
+        match self.text.get(position.at) {
+            Some(BodyItem::Goal(place)) => Left::Goal(place, frame.base, frame.cut),
+            Some(BodyItem::CatchEnd) => Left::CatchEnd(frame.cut),
+            Some(BodyItem::Collect(place)) => Left::Collect(place, frame.base, frame.cut),
+            Some(BodyItem::BodyEnd) => Left::GoesOnAt(frame.after),
+            None => Left::GoesOnAt(frame.after),
+        }
+    }
+
+    /// Makes a frame, and gives its number. A frame that no choice point keeps, and that is younger than the one in which the
+    /// new frame goes on, is written over.
+    pub fn push_frame(&mut self, frame: Frame) -> Result<u32, NoMemory>
+        requires { frame.after.frame ≤ length self.old.frames }
+        ensures ok { IfOk result (AddsFrame self.old self.new frame) }
+        ensures err { OnErr result (self.new ≡ self.old) }
+    {
+        let kept = frames_kept_by(&self.choices).max(frame.after.frame);
+        let Some(number) = kept.checked_add(1) else {
+            return Err(NoMemory);
+        };
+        let at = kept as usize;
+        if at < self.frames.len() {
+            self.frames[at] = frame;
+            self.frames.truncate(number as usize);
+        } else {
+            self.frames.push(frame)?;
+        }
+        Ok(number)
+    }
+
+    /// Puts a choice point on top, whose alternatives go on at a position.
+    pub fn push_choice(
+        &mut self,
+        alternatives: Alternatives,
+        after: Position,
+    ) -> Result<(), NoMemory>
+        requires position { IsPositionIn self.old after }
+        requires values { AreAlternativesIn self.old alternatives }
+        ensures ok { OnOk result (AddsChoice self.old self.new alternatives after) }
+        ensures err { OnErr result (self.new ≡ self.old) }
+    {
+        let frames = frames_kept_by(&self.choices).max(after.frame);
+        self.choices.reserve(1)?;
+        self.store.mark()?;
+        self.choices
+            .push(ChoicePoint {
+                alternatives,
+                after,
+                frames,
+            })
+            .unwrap();
+        Ok(())
+    }
+
+    /// Cuts down to so many choice points, the oldest. Nothing is undone.
+    pub fn cut_to(&mut self, count: usize)
+        requires { count ≤ length self.old.choices }
+        ensures { CutsTo self.old self.new count }
+    {
+        self.choices.truncate(count);
+        self.store.keep_marks(count);
+    }
+
+    /// Takes the newest choice point off, and undoes all that was bound and made since it came.
+    pub fn take_newest(&mut self) -> ChoicePoint
+        requires { 0 < length self.old.choices }
+        ensures { TakesNewest self.old self.new result }
+    {
+        let newest = self.choices.len() - 1;
+        self.store.undo_to(newest);
+        self.store.keep_marks(newest);
+        match self.choices.pop() {
+            Some(choice) => choice,
+            None => unreachable!(),
+        }
+    }
+
+    /// Takes the newest choice point off, and undoes nothing: a cursor with no clause left, or a catch at its end.
+    pub fn drop_newest(&mut self) -> ChoicePoint
+        requires { 0 < length self.old.choices }
+        ensures { DropsNewest self.old self.new result }
+    {
+        let newest = self.choices.len() - 1;
+        self.store.keep_marks(newest);
+        match self.choices.pop() {
+            Some(choice) => choice,
+            None => unreachable!(),
+        }
+    }
+
+    /// Takes the first clause that is left off the newest choice point, and undoes all that was bound and made since it came.
+    pub fn next_clause(&mut self) -> Option<Trial>
+        ensures { MatchOption result (HasNoClauseOnTop self.old × (self.new ≡ self.old)) (TakesClause self.old self.new) }
+    {
+        let count = self.choices.len();
+        if count == 0 {
+            return None;
+        }
+        let newest = &mut self.choices[count - 1];
+        let after = newest.after;
+        let Some((goal, clause)) = newest.alternatives.next_clause() else {
+            return None;
+        };
+        self.store.undo_to(count - 1);
+        Some(Trial {
+            goal,
+            clause,
+            after,
+        })
+    }
+
+    /// Adds a copy of a term to the results of the findall over so many choice points.
+    pub fn add_result(
+        &mut self,
+        alloc: Global,
+        over: usize,
+        term: &FlatTerm,
+    ) -> Result<(), NoMemory>
+        requires { HasFindallAt self.old over }
+        ensures ok { OnOk result (AddsResult self.old self.new over term.now) }
+        ensures err { OnErr result (self.new ≡ self.old) }
+    {
+        self.choices[over].alternatives.add_result(alloc, term)
+    }
+
+    /// Takes so many new variable numbers, and gives the first.
+    pub fn fresh(&mut self, count: u32) -> Result<u32, NoMemory>
+        ensures ok { OnOk result (self.new ≡ record self.old { store = with_numbers count self.old.store }) }
+        ensures first { IfOk result (λ first. first ≡ self.old.store.now.next) }
+        ensures stays { StaysStanding self.old self.new }
+        ensures err { OnErr result (self.new ≡ self.old) }
+    {
+        self.store.fresh(count)
+    }
+
+    /// Makes two values one by further bindings, or answers that none do. Where none do, or out of memory, some bindings may
+    /// be left: the newest choice point can be taken.
+    pub fn unify(&mut self, a: BindingCell, b: BindingCell) -> Result<bool, NoMemory>
+        requires left { IsValueIn self.old.store a }
+        requires right { IsValueIn self.old.store b }
+        ensures unified { IfOk result (IsUnified a b self.old.store self.new.store) }
+        ensures kept { OnlyBinds self.old.store self.new.store }
+        ensures stays { StaysStanding self.old self.new }
+    {
+        self.store.unify(a, b)
+    }
+
+    /// The same, of a goal and the head of a clause whose variables are numbered from `base` on and are in nothing that the
+    /// goal stands for.
+    pub fn unify_head(
+        &mut self,
+        goal: BindingCell,
+        head: BindingCell,
+        base: u32,
+    ) -> Result<bool, NoMemory>
+        requires goal { IsValueIn self.old.store goal }
+        requires head { IsValueIn self.old.store head }
+        requires older { var_bound (meaning self.old.store goal) ≤ base }
+        ensures unified { IfOk result (IsUnified goal head self.old.store self.new.store) }
+        ensures kept { OnlyBinds self.old.store self.new.store }
+        ensures stays { StaysStanding self.old self.new }
+    {
+        self.store.unify_head(goal, head, base)
+    }
+}
+
+/// How many frames the newest choice point keeps.
+fn frames_kept_by(choices: &[ChoicePoint]) -> u32
+    ensures { result ≡ frames_kept 0 choices.now }
+{
+    match choices.last() {
+        Some(choice) => choice.frames,
+        None => 0,
+    }
+}

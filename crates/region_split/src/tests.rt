@@ -1,0 +1,141 @@
+//! What no clause says: that calls succeed, and what comes back.
+ghost use Rattle.region_split.specs.Regions.{AreAlternativesIn};
+
+use crate::{Alternatives, BodyItem, Frame, Left, Region, Results, Text};
+use au_term::{Atom, Cell, FlatTerm, NoMemory, TermBuilder};
+use binding_array::BindingCell;
+use clause_compile::{Code, Place, compile};
+use std::alloc::Global;
+use std::process::Abort;
+use std::sync::Arc;
+use std::test::Fail;
+
+fn atom(rt: &impl Abort, alloc: Global, name: &str) -> Result<FlatTerm, Fail> {
+    let mut builder = TermBuilder::new(alloc);
+    assert!(rt; builder.missing() > 0);
+    builder.push(Cell::Atom(Atom::new(alloc, name)?))?;
+    assert_eq!(rt; builder.missing(), 0);
+    Ok(builder.finish())
+}
+
+/// A text with one body and two clauses.
+fn text(rt: &impl Abort, alloc: Global) -> Result<Arc<Text>, Fail> {
+    let mut text = Text::new(alloc, Arc::new(alloc, Code::new(alloc))?);
+    text.push_item(BodyItem::Goal(Place::Int(1)))?;
+    text.push_item(BodyItem::BodyEnd)?;
+    assert_eq!(rt; text.get(0), Some(BodyItem::Goal(Place::Int(1))));
+    assert_eq!(rt; text.get(2), None);
+    for name in ["p", "q"] {
+        let (head, body) = (atom(rt, alloc, name)?, atom(rt, alloc, "true")?);
+        match compile(alloc, &head, &body) {
+            Ok(clause) => text.push_clause(clause)?,
+            Err(_) => Err("a clause")?,
+        }
+    }
+    Ok(Arc::new(alloc, text)?)
+}
+
+fn push(region: &mut Region, alternatives: Alternatives) -> Result<(), NoMemory>
+    requires { AreAlternativesIn region.old alternatives }
+{
+    let after = region.nothing_left();
+    region.push_choice(alternatives, after)
+}
+
+#[test]
+fn frames_are_written_over(rt: HostRuntime) -> Result<(), Fail> {
+    let mut region = Region::new(rt.alloc(), text(&rt, rt.alloc())?)?;
+    let after = region.nothing_left();
+    let frame = Frame {
+        base: 0,
+        cut: 0,
+        after,
+    };
+    assert_eq!(rt; region.push_frame(frame)?, 1);
+    assert_eq!(rt; region.push_frame(frame)?, 1);
+    assert_eq!(rt; region.left_at(after), Left::Nothing);
+    Ok(())
+}
+
+#[test]
+fn choice_points_come_back(rt: HostRuntime) -> Result<(), Fail> {
+    let mut region = Region::new(rt.alloc(), text(&rt, rt.alloc())?)?;
+    push(&mut region, Alternatives::QueryEnd)?;
+    push(&mut region, Alternatives::Elsewhere)?;
+    push(&mut region, Alternatives::Elsewhere)?;
+    assert_eq!(rt; region.height(), 3);
+    assert!(rt; 0 < region.height());
+    let newest = region.take_newest();
+    assert!(rt; matches!(newest.alternatives, Alternatives::Elsewhere));
+    assert!(rt; 1 <= region.height());
+    region.cut_to(1);
+    assert!(rt; 0 < region.height());
+    let last = region.drop_newest();
+    assert!(rt; matches!(last.alternatives, Alternatives::QueryEnd));
+    assert_eq!(rt; region.height(), 0);
+    Ok(())
+}
+
+#[test]
+fn clauses_come_in_their_order(rt: HostRuntime) -> Result<(), Fail> {
+    let mut region = Region::new(rt.alloc(), text(&rt, rt.alloc())?)?;
+    assert!(rt; region.text().clauses() >= 2);
+    let clauses = Alternatives::Clauses {
+        goal: BindingCell::Int(7),
+        first: 0,
+        end: 2,
+    };
+    push(&mut region, clauses)?;
+    for clause in 0..2 {
+        let trial = region.next_clause().ok_or("a clause")?;
+        assert_eq!(rt; trial.clause, clause);
+        assert_eq!(rt; trial.goal, BindingCell::Int(7));
+    }
+    assert!(rt; region.next_clause().is_none());
+    assert_eq!(rt; region.height(), 1);
+    Ok(())
+}
+
+#[test]
+fn results_are_kept(rt: HostRuntime) -> Result<(), Fail> {
+    let alloc = rt.alloc();
+    let mut region = Region::new(alloc, text(&rt, alloc)?)?;
+    let next = u64::from(region.store().next());
+    let findall = Alternatives::Findall {
+        list: BindingCell::Int(0),
+        results: Results::new(alloc, next),
+    };
+    push(&mut region, Alternatives::QueryEnd)?;
+    let next_after = u64::from(region.store().next());
+    assert_eq!(rt; next_after, next);
+    push(&mut region, findall)?;
+    assert!(rt; region.is_findall(1));
+    region.add_result(alloc, 1, &atom(&rt, alloc, "a")?)?;
+    assert!(rt; region.is_findall(1) && !region.is_findall(0) && !region.is_findall(2));
+    Ok(())
+}
+
+#[test]
+fn bindings_are_taken_back(rt: HostRuntime) -> Result<(), Fail> {
+    let mut region = Region::new(rt.alloc(), text(&rt, rt.alloc())?)?;
+    assert_eq!(rt; region.fresh(2)?, 0);
+    assert_eq!(rt; region.store().next(), 2);
+    push(&mut region, Alternatives::Elsewhere)?;
+    assert!(rt; region.store().next() > 1);
+    assert!(rt; region.unify(BindingCell::Var(0), BindingCell::Int(7))?);
+    assert!(rt; !region.unify(BindingCell::Int(7), BindingCell::Int(8))?);
+    assert!(rt; region.store().next() > 1);
+    assert_eq!(rt;
+        region.store().dereference(BindingCell::Var(0)),
+        BindingCell::Int(7)
+    );
+    assert!(rt; 0 < region.height());
+    let _newest = region.take_newest();
+    assert!(rt; region.store().next() > 1);
+    assert_eq!(rt;
+        region.store().dereference(BindingCell::Var(0)),
+        BindingCell::Var(0)
+    );
+    assert!(rt; region.unify_head(BindingCell::Int(7), BindingCell::Var(1), 1)?);
+    Ok(())
+}

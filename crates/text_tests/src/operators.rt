@@ -1,0 +1,349 @@
+//! The standard's operators (ISO/IEC 13211-1, 6.3.4.4).
+
+use op_table::{OpKind, OpRefusal, OpRow, Operator, Ops};
+use au_model::build::{binary, list_of, single};
+use au_model::{DomainName, Fault, PermissionName, TypeName};
+use au_term::{Atom, Cell, FlatTerm, NoMemory};
+use std::alloc::Global;
+use std::process::Abort;
+use std::test::Fail;
+
+type Group = (u16, OpKind, &'static [&'static str]);
+
+/// Priorities, kinds and names.
+static GROUPS: [Group; 12] = [
+    (1200, OpKind::Xfx, &[":-", "-->"]),
+    (1200, OpKind::Fx, &[":-", "?-"]),
+    (1100, OpKind::Xfy, &[";"]),
+    (1050, OpKind::Xfy, &["->"]),
+    (1000, OpKind::Xfy, &[","]),
+    (900, OpKind::Fy, &["\\+"]),
+    (
+        700,
+        OpKind::Xfx,
+        &[
+            "=", "\\=", "==", "\\==", "@<", "@=<", "@>", "@>=", "=..", "is", "=:=", "=\\=", "<",
+            "=<", ">", ">=",
+        ],
+    ),
+    (500, OpKind::Yfx, &["+", "-", "/\\", "\\/"]),
+    (
+        400,
+        OpKind::Yfx,
+        &["*", "/", "//", "rem", "mod", "<<", ">>"],
+    ),
+    (200, OpKind::Xfx, &["**"]),
+    (200, OpKind::Xfy, &["^"]),
+    (200, OpKind::Fy, &["-", "\\"]),
+];
+
+type Classes = (&'static str, Option<u16>, Option<u16>, Option<u16>);
+
+/// Names, and the priorities of their prefix, infix and postfix operators.
+static NAMES: [Classes; 8] = [
+    ("-", Some(200), Some(500), None),
+    (":-", Some(1200), Some(1200), None),
+    ("\\", Some(200), None, None),
+    ("is", None, Some(700), None),
+    ("", None, None, None),
+    ("i", None, None, None),
+    ("dynamic", None, None, None),
+    ("~", None, None, None),
+];
+
+fn priority(operator: Option<Operator>) -> Option<u16> {
+    operator.map(|o| o.priority)
+}
+
+fn check_groups(rt: &impl Abort, ops: &Ops, groups: &[Group]) {
+    for (priority, kind, names) in groups {
+        let want = Operator {
+            priority: *priority,
+            kind: *kind,
+        };
+        for name in *names {
+            let found = match kind {
+                OpKind::Fy | OpKind::Fx => ops.prefix(name),
+                _ => ops.infix(name),
+            };
+            assert_eq!(rt; found, Some(want), "{name}");
+        }
+    }
+}
+
+fn check_names(rt: &impl Abort, ops: &Ops, names: &[Classes]) {
+    for (name, prefix, infix, postfix) in names {
+        assert_eq!(rt; priority(ops.prefix(name)), *prefix, "{name}");
+        assert_eq!(rt; priority(ops.infix(name)), *infix, "{name}");
+        assert_eq!(rt; priority(ops.postfix(name)), *postfix, "{name}");
+    }
+}
+
+#[test]
+fn initial_table(rt: HostRuntime) -> Result<(), Fail> {
+    let ops = Ops::initial(rt.alloc())?.copy()?;
+    check_groups(&rt, &ops, &GROUPS);
+    check_names(&rt, &ops, &NAMES);
+    Ok(())
+}
+
+#[test]
+fn rows_in_order(rt: HostRuntime) -> Result<(), Fail> {
+    let rows = Ops::initial(rt.alloc())?.rows()?;
+    assert_eq!(rt; rows.len(), 39);
+    let mut before = "";
+    let mut is_prefix = false;
+    for row in &rows {
+        let name = row.name.text();
+        assert!(rt; before < name || before == name && is_prefix, "{name}");
+        before = name;
+        is_prefix = matches!(row.operator.kind, OpKind::Fy | OpKind::Fx);
+    }
+    Ok(())
+}
+
+/// Operators of which each may be put into the table that those before it leave: of new names between the others, in
+/// front of them and after them, of a name that has an operator of another class, and in place of another.
+static PUT: [(&str, u16, OpKind); 6] = [
+    ("===>", 700, OpKind::Xfx),
+    ("~", 200, OpKind::Fy),
+    ("!", 100, OpKind::Yf),
+    ("is", 300, OpKind::Fx),
+    ("is", 699, OpKind::Xfy),
+    ("~", 1, OpKind::Fx),
+];
+
+#[test]
+fn operators_put(rt: HostRuntime) -> Result<(), Fail> {
+    let mut ops = Ops::initial(rt.alloc())?;
+    for (name, priority, kind) in PUT {
+        let name = Atom::new(rt.alloc(), name)?;
+        let operator = Operator { priority, kind };
+        let row = OpRow { name, operator };
+        assert!(rt; ops.may_put(&row));
+        ops.put(row)?;
+    }
+    assert_eq!(rt; priority(ops.infix("is")), Some(699));
+    assert_eq!(rt; priority(ops.prefix("is")), Some(300));
+    assert_eq!(rt; priority(ops.prefix("~")), Some(1));
+    assert_eq!(rt; priority(ops.postfix("!")), Some(100));
+    assert_eq!(rt; priority(ops.infix("===>")), Some(700));
+    assert_eq!(rt; priority(ops.infix("=")), Some(700));
+    assert_eq!(rt; ops.rows()?.len(), 43);
+    Ok(())
+}
+
+/// An argument of op/3.
+enum Arg {
+    Var,
+    Int(i64),
+    Name(&'static str),
+    List(&'static [Arg]),
+    /// A list with one item and a variable behind it.
+    Open(&'static str),
+}
+
+/// What op/3 is asked for, and its error.
+struct Case {
+    priority: Arg,
+    specifier: Arg,
+    names: Arg,
+    error: Want,
+}
+
+enum Want {
+    Instantiation,
+    Type(TypeName, Arg),
+    Domain(DomainName, Arg),
+    Permission(PermissionName, &'static str),
+}
+
+static CASES: [Case; 14] = [
+    Case {
+        priority: Arg::Name("p"),
+        specifier: Arg::Int(1),
+        names: Arg::List(&[Arg::Int(2), Arg::Var]),
+        error: Want::Instantiation,
+    },
+    Case {
+        priority: Arg::Int(1),
+        specifier: Arg::Name("xfx"),
+        names: Arg::Open("a"),
+        error: Want::Instantiation,
+    },
+    Case {
+        priority: Arg::Var,
+        specifier: Arg::Int(1),
+        names: Arg::Int(2),
+        error: Want::Instantiation,
+    },
+    Case {
+        priority: Arg::Name("p"),
+        specifier: Arg::Int(1),
+        names: Arg::Int(2),
+        error: Want::Type(TypeName::Integer, Arg::Name("p")),
+    },
+    Case {
+        priority: Arg::Int(1201),
+        specifier: Arg::Int(1),
+        names: Arg::Int(2),
+        error: Want::Type(TypeName::Atom, Arg::Int(1)),
+    },
+    Case {
+        priority: Arg::Int(1201),
+        specifier: Arg::Name("a"),
+        names: Arg::Int(2),
+        error: Want::Type(TypeName::ProperList, Arg::Int(2)),
+    },
+    Case {
+        priority: Arg::Int(1201),
+        specifier: Arg::Name("a"),
+        names: Arg::List(&[Arg::Name(","), Arg::Int(2)]),
+        error: Want::Type(TypeName::Atom, Arg::Int(2)),
+    },
+    Case {
+        priority: Arg::Int(1201),
+        specifier: Arg::Name("a"),
+        names: Arg::Name(","),
+        error: Want::Domain(DomainName::OperatorPriority, Arg::Int(1201)),
+    },
+    Case {
+        priority: Arg::Int(-1),
+        specifier: Arg::Name("a"),
+        names: Arg::Name(","),
+        error: Want::Domain(DomainName::OperatorPriority, Arg::Int(-1)),
+    },
+    Case {
+        priority: Arg::Int(1200),
+        specifier: Arg::Name("a"),
+        names: Arg::Name(","),
+        error: Want::Domain(DomainName::OperatorSpecifier, Arg::Name("a")),
+    },
+    Case {
+        priority: Arg::Int(700),
+        specifier: Arg::Name("xfx"),
+        names: Arg::List(&[Arg::Name("[]"), Arg::Name(",")]),
+        error: Want::Permission(PermissionName::ModifyOperator, ","),
+    },
+    Case {
+        priority: Arg::Int(700),
+        specifier: Arg::Name("xfx"),
+        names: Arg::List(&[Arg::Name("=="), Arg::Name("|")]),
+        error: Want::Permission(PermissionName::CreateOperator, "|"),
+    },
+    Case {
+        priority: Arg::Int(200),
+        specifier: Arg::Name("fy"),
+        names: Arg::Name("{}"),
+        error: Want::Permission(PermissionName::CreateOperator, "{}"),
+    },
+    Case {
+        priority: Arg::Int(0),
+        specifier: Arg::Name("xf"),
+        names: Arg::List(&[Arg::Name("~"), Arg::Name("is")]),
+        error: Want::Permission(PermissionName::CreateOperator, "is"),
+    },
+];
+
+fn name(alloc: Global, text: &str) -> Result<FlatTerm, NoMemory> {
+    single(alloc, Cell::Atom(Atom::new(alloc, text)?))
+}
+
+/// An argument that is no list.
+fn item(alloc: Global, arg: &Arg) -> Result<FlatTerm, NoMemory> {
+    match arg {
+        Arg::Int(value) => single(alloc, Cell::Int(*value)),
+        Arg::Name(text) => name(alloc, text),
+        _ => single(alloc, Cell::Var(0)),
+    }
+}
+
+fn term(alloc: Global, arg: &Arg) -> Result<FlatTerm, NoMemory> {
+    match arg {
+        Arg::List(args) => {
+            let mut items = Vec::new(alloc);
+            for arg in *args {
+                items.push(item(alloc, arg)?)?;
+            }
+            list_of(alloc, &items)
+        }
+        Arg::Open(first) => binary(
+            alloc,
+            ".",
+            &name(alloc, first)?,
+            &single(alloc, Cell::Var(0))?,
+        ),
+        _ => item(alloc, arg),
+    }
+}
+
+fn fault(alloc: Global, want: &Want) -> Result<Fault, NoMemory> {
+    Ok(match want {
+        Want::Instantiation => Fault::Instantiation,
+        Want::Type(name, culprit) => Fault::WrongType(*name, item(alloc, culprit)?),
+        Want::Domain(name, culprit) => Fault::Domain(*name, item(alloc, culprit)?),
+        Want::Permission(permission, culprit) => Fault::Permission(
+            *permission,
+            name(alloc, culprit)?,
+        ),
+    })
+}
+
+#[test]
+fn operators_refused(rt: HostRuntime) -> Result<(), Fail> {
+    let alloc = rt.alloc();
+    let op = Atom::new(alloc, "op")?;
+    let mut ops = Ops::initial(alloc)?;
+    for case in &CASES {
+        let (priority, specifier) = (term(alloc, &case.priority)?, term(alloc, &case.specifier)?);
+        match ops.add(&priority, &specifier, &term(alloc, &case.names)?) {
+            Err(OpRefusal::Fault(found)) => {
+                let want = fault(alloc, &case.error)?.term(alloc, &op, 3)?;
+                assert!(rt; found.term(alloc, &op, 3)?.cells() == want.cells());
+            }
+            _ => panic!(rt; "not refused"),
+        }
+    }
+    check_groups(&rt, &ops, &GROUPS);
+    assert_eq!(rt; ops.rows()?.len(), 39);
+    Ok(())
+}
+
+/// Operators added one after another, and how many rows the table then has.
+static ADDED: [(i64, &'static str, Arg, usize); 6] = [
+    (0, "xfx", Arg::Name("="), 38),
+    (0, "fy", Arg::Name("="), 38),
+    (700, "xfx", Arg::Name("[]"), 38),
+    (
+        200,
+        "xf",
+        Arg::List(&[Arg::Name("="), Arg::Name("~"), Arg::Name("=")]),
+        40,
+    ),
+    (
+        100,
+        "yf",
+        Arg::List(&[Arg::Name("é"), Arg::Name("~"), Arg::Name("z")]),
+        42,
+    ),
+    (0, "xf", Arg::List(&[Arg::Name("="), Arg::Name("é")]), 40),
+];
+
+#[test]
+fn operators_added(rt: HostRuntime) -> Result<(), Fail> {
+    let alloc = rt.alloc();
+    let first = Ops::initial(alloc)?;
+    let mut ops = first.copy()?;
+    for (priority, specifier, names, count) in &ADDED {
+        let (priority, specifier) = (
+            single(alloc, Cell::Int(*priority))?,
+            name(alloc, specifier)?,
+        );
+        assert!(rt; ops.add(&priority, &specifier, &term(alloc, names)?).is_ok());
+        assert_eq!(rt; ops.rows()?.len(), *count);
+    }
+    assert_eq!(rt; priority(ops.postfix("~")), Some(100));
+    assert_eq!(rt; priority(ops.infix("=")), None);
+    assert_eq!(rt; priority(first.infix("=")), Some(700));
+    Ok(())
+}

@@ -1,0 +1,92 @@
+use Rattle.std.proofs.Common.{◌≡◌, ◌<◌, ℕ, List, length, map, sym, ap, ◌∙◌, arith, subst, get_or}
+use Rattle.std.specs.Prelude.{slice_set}
+use Rattle.std.proofs.lemmas.List.{length-map, map-set}
+use Rattle.tree_nodes.specs.declared.siblings.Alternative.{Alternative}
+use Rattle.tree_nodes.specs.Siblings.{alternative_view, ArePassed}
+use Rattle.tree_nodes.proofs.SiblingLemmas.{put_below, put_open, put_bound, put_passed, none_passed}
+use Rattle.tree_nodes.proofs.siblings.Siblings.put.Goals as goal
+use Rattle.tree_nodes.proofs.siblings.Siblings.put.Goals.{then-index-self, else-index-self}
+
+read : (items : List Alternative) (i : ℕ) (was there : Alternative) → was ≡ there → there ≡ get_or items i there → was ≡ get_or items i was
+read items i was there e h = e ∙ (h ∙ ap (get_or items i) (sym e))
+
+pub overflow_sub-self : goal.overflow_sub-self
+overflow_sub-self c =
+    let items = c.self.inside.items.items in
+    let m = c.self.inside.many_open in
+    let p = c.self.inside.passed in
+    let was = c.replace-before.result in
+    let now = c.args.alternative in
+    let len = length-map items alternative_view in
+    let req : c.args.index < length (map alternative_view items) = rw (c.self.view_is) c.requires in
+    let l : c.args.index < length items = omega (arith, len, req) in
+    let e : was ≡ get_or items c.args.index was = read items c.args.index was c.index_mut.result.now c.replace-before.ensures.value c.index_mut.ensures.value in
+    let below = put_below items c.args.index was now m p l e c.self.invariant in
+    let one = c.open_one.ensures in
+    omega (arith, below, one)
+
+pub overflow_add-self : goal.overflow_add-self
+overflow_add-self c =
+    let items = c.self.inside.items.items in
+    let m = c.self.inside.many_open in
+    let p = c.self.inside.passed in
+    let was = c.replace-before.result in
+    let now = c.args.alternative in
+    let len = length-map items alternative_view in
+    let req : c.args.index < length (map alternative_view items) = rw (c.self.view_is) c.requires in
+    let l : c.args.index < length items = omega (arith, len, req) in
+    let e : was ≡ get_or items c.args.index was = read items c.args.index was c.index_mut.result.now c.replace-before.ensures.value c.index_mut.ensures.value in
+    let bound = put_bound items c.args.index was now m p l e c.self.invariant in
+    let one = c.open_one.ensures in
+    let two = c.open_one-now.ensures in
+    let fits = c.len-many.ensures in
+    omega (arith, bound, one, two, fits)
+
+pub pass-self-inside-requires : goal.pass-self-inside-requires
+pass-self-inside-requires c =
+    let items = c.self.inside.items.items in
+    let m = c.self.inside.many_open in
+    let p = c.self.inside.passed in
+    let was = c.replace-before.result in
+    let now = c.args.alternative in
+    let len = length-map items alternative_view in
+    let req : c.args.index < length (map alternative_view items) = rw (c.self.view_is) c.requires in
+    let l : c.args.index < length items = omega (arith, len, req) in
+    let e : was ≡ get_or items c.args.index was = read items c.args.index was c.index_mut.result.now c.replace-before.ensures.value c.index_mut.ensures.value in
+    let dest : c.deref.result.now ≡ slice_set items c.args.index now
+    = c.deref.ensures.value ∙ ap (slice_set items c.args.index) c.replace-before.ensures.after in
+    let from : ArePassed (map alternative_view (slice_set items c.args.index now)) c.if-index-self.from = elim c.if-index-self.branch [
+      | then-index-self w ↦ subst (ArePassed (map alternative_view (slice_set items c.args.index now))) (sym w.from-is) (none_passed _)
+      | else-index-self w ↦ subst (ArePassed (map alternative_view (slice_set items c.args.index now))) (sym w.from-is)
+          (put_passed items c.args.index was now m p l e c.self.invariant w.if-index-self.false)
+    ] in
+    subst (λ (x : List Alternative). ArePassed (map alternative_view x) c.if-index-self.from) (sym dest) from
+
+pub invariant_of-self : goal.invariant_of-self
+invariant_of-self c =
+    let items = c.self.inside.items.items in
+    let m = c.self.inside.many_open in
+    let p = c.self.inside.passed in
+    let was = c.replace-before.result in
+    let now = c.args.alternative in
+    let len = length-map items alternative_view in
+    let req : c.args.index < length (map alternative_view items) = rw (c.self.view_is) c.requires in
+    let l : c.args.index < length items = omega (arith, len, req) in
+    let e : was ≡ get_or items c.args.index was = read items c.args.index was c.index_mut.result.now c.replace-before.ensures.value c.index_mut.ensures.value in
+    let dest = c.replace-before.ensures.after in
+    let count = put_open items c.args.index was now m p l e c.self.invariant in
+    let one = c.open_one.ensures in
+    let two = c.open_one-now.ensures in
+    let same : map alternative_view (slice_set items c.args.index c.replace-before.new.dest) ≡ map alternative_view (slice_set items c.args.index now)
+    = ap (λ (x : Alternative). map alternative_view (slice_set items c.args.index x)) dest in
+    rw same (record {
+      open_are = omega (arith, count, one, two);
+      passed = subst (λ (x : List Alternative). ArePassed (map alternative_view x) c.pass-self-inside.result) (c.deref.ensures.value ∙ ap (slice_set items c.args.index) dest) c.pass-self-inside.ensures;
+    })
+
+pub returns : goal.returns
+returns c =
+    let items = c.self.inside.items.items in
+    map-set alternative_view items c.args.index c.replace-before.new.dest
+    ∙ (ap (λ (x : Alternative). slice_set (map alternative_view items) c.args.index (alternative_view x)) c.replace-before.ensures.after
+    ∙ ap (λ (x : _). slice_set x c.args.index (alternative_view c.args.alternative)) c.self.view_is)
