@@ -124,6 +124,9 @@ module _ (r : RegionView) (k : IsConsistentRegion r) (cs : List ChoicePoint) (c 
         ∙ (append_assoc (one h f) (choice_entries s (below named) left m) (below named).entries
         ∙ ap₂ (λ es fs. es ++ fs) (ap₂ one (height named) (following named)) (ap (λ (st : Standing). st.entries) (sym (on_top named)))));
     many = let a = ap length choices in let b = length-append cs (c ∷ []) in let l = length-append cs (left ∷ []) in omega (arith, a, b, l);
+    older = ms;
+    marked = marks;
+    store = ap (λ (ns : List Moment). record r.store { now = m; marks = ns }) (sym marks);
     text = refl;
     frames = refl;
   }

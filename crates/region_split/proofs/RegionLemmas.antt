@@ -174,6 +174,8 @@ module _ (r : RegionView) (k : IsConsistentRegion r) (cs : List ChoicePoint) (c 
     position = record { frame = let o = newest.own in let e = last_kept in let f = k.frames in omega (arith, o, e, f); scoped = subst (λ (x : Moment). AreCutWithin (length cs) x.next (items_at r.text r.frames c.after)) (sym e) newest.scoped };
     alternatives = subst (λ x. AreAlternativesAt (region_setting [] r) x c.alternatives) (sym e) newest.values;
     choices = choices;
+    marked = marks ∙ ap (λ x. ms ++ x ∷ []) (sym e);
+    store = refl;
     text = refl;
     frames = refl;
   }
@@ -229,6 +231,7 @@ module _ (r : RegionView) (k : IsConsistentRegion r) (cs : List ChoicePoint) (c 
   pub drops_newest : DropsNewest r dropped c
   drops_newest = record {
     moment = m;
+    marked = marks;
     entries = lowered_entries r k cs c ms m r.store.now choices marks;
     choices = choices;
     cuts = subst (λ x. CutsTo r x (length cs)) same_region (cuts_to r k (length cs) shorter);

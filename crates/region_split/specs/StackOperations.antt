@@ -58,12 +58,15 @@ pub record TakesNewest (old new : RegionView) (c : ChoicePoint) : Type 0 where
   pub position : IsPositionIn new c.after
   pub alternatives : AreAlternativesIn new c.alternatives
   pub choices : old.choices ≡ new.choices ++ c ∷ []
+  pub marked : old.store.marks ≡ new.store.marks ++ new.store.now ∷ []
+  pub store : new.store ≡ record old.store { now = new.store.now; marks = new.store.marks }
   pub text : new.text ≡ old.text
   pub frames : new.frames ≡ old.frames
 
 -- the newest choice point was taken off, and nothing was undone: its entries, of some moment, were the first
 pub record DropsNewest (old new : RegionView) (c : ChoicePoint) : Type 0 where
   pub moment : Moment
+  pub marked : old.store.marks ≡ new.store.marks ++ moment ∷ []
   pub entries : (named : List NamedTerm) → entries_of named old ≡ entries_on named new c moment ++ entries_of named new
   pub choices : old.choices ≡ new.choices ++ c ∷ []
   pub cuts : CutsTo old new (length new.choices)
@@ -85,6 +88,9 @@ pub record TakesClause (old new : RegionView) (t : Trial) : Type 0 where
   pub position : IsPositionIn new t.after
   pub goal : IsValueIn new.store t.goal
   pub entries : (named : List NamedTerm) → entries_of named old ≡ trial_entries named new t clause ++ entries_of named new
+  pub older : List Moment
+  pub marked : old.store.marks ≡ older ++ new.store.now ∷ []
+  pub store : new.store ≡ record old.store { now = new.store.now }
   pub many : length new.choices ≡ length old.choices
   pub text : new.text ≡ old.text
   pub frames : new.frames ≡ old.frames
