@@ -1,21 +1,20 @@
 -- What is known at the front.
-use Rattle.std.proofs.Common.{◌≡◌, ℕ, zero, suc, ◌+◌, ◌<◌, ◌≤◌, Bool, true, false, cond, List, [], ◌∷◌, ◌++◌, length, take, drop, Option, Some, None}
+use Rattle.std.proofs.Common.{◌≡◌, ℕ, zero, suc, ◌+◌, ◌<◌, Bool, true, false, cond, List, [], ◌∷◌, ◌++◌, length, take, drop, Option, Some, None}
 use Rattle.std.proofs.Common.{refl, sym, ap, ◌∙◌, arith, subst}
 use Rattle.std.specs.Option.{option_map}
-use Rattle.std.specs.Prelude.{◌&&◌, slice_get, IsSome, is_some}
+use Rattle.std.specs.Prelude.{slice_get, IsSome, is_some}
 use Rattle.au_term.proofs.LogicLemmas.{both}
 use Rattle.tree_model.specs.Credits.{counted}
 use Rattle.tree_model.specs.Nodes.{Numbered, Status, Pending, Inner, Closed}
-use Rattle.tree_model.specs.Levels.{Level, level_node, plug, Place, place_at}
+use Rattle.tree_model.specs.Levels.{Level, level_node, plug, Place}
 use Rattle.tree_model.specs.Orders.{is_node, levels_below, first_open_left, first_open, credits_left, clock_of, answers_left}
 use Rattle.tree_nodes.specs.declared.front.Front.{Front}
 use Rattle.tree_nodes.specs.Bodies.{Reading}
 use Rattle.tree_nodes.specs.Rows.{AlternativeCell, InnerCell, StoredNode, row_of_node, node_parent, alternatives_at, cell_at}
-use Rattle.tree_nodes.specs.RowViews.{inner_of}
 use Rattle.tree_nodes.specs.Puts.{inner_at}
 use Rattle.tree_nodes.specs.Gathering.{is_shut, are_shut}
 use Rattle.tree_nodes.specs.Siblings.{closed_counts, counts_from}
-use Rattle.tree_nodes.specs.TreeTables.{cell_of, cells_of, IsIn, IsRoot, NodesView, IsTableOf, above_of}
+use Rattle.tree_nodes.specs.TreeTables.{cell_of, cells_of, NodesView, IsTableOf}
 use Rattle.tree_nodes.specs.Fronts.{place_on, counts_beside, IsNextDown, AreNext, IsFront}
 use Rattle.tree_nodes.proofs.PlaceLemmas.{left_cells, length-left_cells}
 use Rattle.tree_nodes.proofs.FoldLemmas.{take-seam}
@@ -23,7 +22,7 @@ use Rattle.tree_nodes.proofs.WalkLemmas.{cells_beside, cell_here, parent_here, o
 use Rattle.branch_order.specs.LeftOf.{first_at, open_index, open_beside, or_else, IsFirstOpen, open_first, IsAtFront}
 use Rattle.branch_order.specs.Clocks.{CountsBranch, Counts}
 use Rattle.branch_order.specs.Walks.{Walks}
-use Rattle.branch_order.specs.Leftmosts.{GoesDown, IsTop}
+use Rattle.branch_order.specs.Leftmosts.{GoesDown}
 use Rattle.branch_order.proofs.LeftLemmas.{left_index, first_open-level, found_more}
 use Rattle.branch_order.proofs.LeftmostLemmas.{goes_down_from, goes_down}
 use Rattle.branch_order.proofs.ClockLemmas.{both_none, left_closed, given_more, taken_more}

@@ -1,9 +1,10 @@
 //! Left and right in the shared tree: which of two alternatives is further left, what is open to the left of one, the clock
 //! of a branch, and the leftmost entry.
 //!
-//! `before` walks from two alternatives up until they meet. `first_open`, `cleared`, `clock` and `counts` walk from an
-//! alternative up, and cost the alternatives to the left on the way. `leftmost` walks down, and costs the closed
-//! alternatives that it passes. None takes memory.
+//! `leftmost` costs the same however deep the entry is, and so do the clock of the leftmost entry and the test that it is
+//! cleared: they are read off the front that the nodes keep. Of another alternative `first_open`, `cleared`, `clock` and
+//! `counts` cost the nodes on the way up, to the scope, the front's last node or the top. `before` walks from two
+//! alternatives up until they meet. None takes memory.
 #![tactic(auto)]
 
 pub mod clocks;

@@ -96,6 +96,41 @@ fn what_is_pruned(rt: HostRuntime) -> Result<(), Fail> {
     Ok(())
 }
 
+/// A node of many alternatives, of which each other one has closed and each other one has a node below it. Below its first
+/// there is a long path, from whose tip all of them are pruned at once.
+#[test]
+fn many_are_pruned(rt: HostRuntime) -> Result<(), Fail> {
+    let (alternatives, length) = (20_000u32, 2_000u64);
+    let alloc = rt.alloc();
+    let mut nodes = Nodes::new(alloc);
+    add(&rt, alloc, &mut nodes, None, alternatives as usize)?;
+    add(&rt, alloc, &mut nodes, Some(place(0, 0)), 1)?;
+    for node in 1..length {
+        add(&rt, alloc, &mut nodes, Some(place(node, 0)), 1)?;
+    }
+    for alternative in 1..alternatives {
+        if alternative % 2 == 0 {
+            let credit = Credit {
+                inferences: 1,
+                answers: 0,
+                records: Vec::new(alloc),
+            };
+            close(&rt, &mut nodes, place(0, alternative), credit)?;
+        } else {
+            add(&rt, alloc, &mut nodes, Some(place(0, alternative)), 1)?;
+        }
+    }
+    let at = place(length, 0);
+    assert!(rt; nodes.has_alternative(at));
+    prune_right(&mut nodes, at, Scope::Node(alternatives.into()));
+    assert_eq!(rt; nodes.live(), length + 1);
+    for alternative in 1..alternatives {
+        assert!(rt; nodes.is_closed(place(0, alternative)));
+    }
+    assert!(rt; nodes.is_pending(at));
+    Ok(())
+}
+
 #[test]
 fn nearest_catch(rt: HostRuntime) -> Result<(), Fail> {
     let alloc = rt.alloc();

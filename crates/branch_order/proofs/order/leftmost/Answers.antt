@@ -1,4 +1,4 @@
-use Rattle.std.proofs.Common.{sym, arith, subst}
+use Rattle.std.proofs.Common.{sym, arith}
 use Rattle.tree_model.specs.EventViews.{place_view}
 use Rattle.branch_order.proofs.LeftLemmas.{row_within}
 use Rattle.branch_order.proofs.LeftmostLemmas.{no_first, goes_down, nothing_down, is_leftmost}

@@ -1,7 +1,5 @@
-use Rattle.std.proofs.Common.{◌≡◌, ℕ, Option, Some, None, refl, sym, subst}
-use Rattle.tree_nodes.specs.declared.front.Front.{Front}
+use Rattle.std.proofs.Common.{◌≡◌, ℕ, Option, Some, None, sym}
 use Rattle.tree_nodes.specs.TreeTables.{NodesView}
-use Rattle.tree_nodes.specs.Fronts.{IsFront}
 use Rattle.branch_order.specs.Leftmosts.{IsTop}
 use Rattle.branch_order.proofs.LeftmostLemmas.{goes_down_from}
 use Rattle.branch_order.proofs.FrontLemmas.{front_top}
