@@ -8,17 +8,9 @@
 #![tactic(auto)]
 
 pub mod clocks;
-#[cfg(test)]
-mod large;
 pub mod left;
 pub mod order;
-#[cfg(test)]
-mod random;
 pub mod sides;
-#[cfg(test)]
-mod tests;
-#[cfg(test)]
-mod trees;
 
 pub use clocks::{clock, counts};
 pub use left::{cleared, first_open};

@@ -21,4 +21,6 @@ mod ordered;
 #[cfg(test)]
 mod reductions;
 #[cfg(test)]
+mod regions;
+#[cfg(test)]
 mod runs;

@@ -4,7 +4,5 @@
 #![tactic(auto)]
 
 pub mod bag;
-#[cfg(test)]
-mod tests;
 
 pub use bag::bag_of;

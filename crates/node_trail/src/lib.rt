@@ -6,8 +6,6 @@
 
 pub mod legs;
 pub mod path;
-#[cfg(test)]
-mod tests;
 
 pub use legs::{Leg, Legs};
 pub use path::{Path, path_between};

@@ -6,8 +6,6 @@
 
 pub mod catches;
 pub mod prune;
-#[cfg(test)]
-mod tests;
 
 pub use catches::catch_at;
 pub use prune::prune_right;

@@ -12,8 +12,6 @@ mod choice;
 mod frame;
 mod region;
 mod results;
-#[cfg(test)]
-mod tests;
 mod text;
 
 pub use choice::{Alternatives, ChoicePoint, Trial};

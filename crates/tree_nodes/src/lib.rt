@@ -22,8 +22,6 @@ pub mod nodes;
 mod row;
 pub mod siblings;
 pub mod state;
-#[cfg(test)]
-mod tests;
 
 pub use body::{NodeBody, NodeKind};
 pub use front::Front;

@@ -1,5 +1,5 @@
 //! What no clause gives: that calls succeed, and how nodes look after some of them.
-use crate::{AltState, Credit, NodeBody, NodeKind, Nodes};
+use tree_nodes::{AltState, Credit, NodeBody, NodeKind, Nodes};
 use au_term::{Bindings, NoMemory, Segment};
 use clause_compile::{Branch, Goals};
 use std::alloc::Global;

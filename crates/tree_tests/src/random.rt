@@ -1,6 +1,6 @@
 //! Random changes, and the answers against those that go through the whole tree.
 use crate::trees::{add, close, credit, place};
-use crate::{before, counts, first_open, leftmost};
+use branch_order::{before, counts, first_open, leftmost};
 use std::alloc::Global;
 use std::process::Abort;
 use std::test::Fail;

@@ -1,6 +1,6 @@
 //! What no clause gives: that calls succeed, and what they say of one tree.
 use crate::trees::{add, close, credit, place};
-use crate::{before, cleared, clock, counts, first_open, leftmost};
+use branch_order::{before, cleared, clock, counts, first_open, leftmost};
 use clause_compile::Scope;
 use std::alloc::Global;
 use std::process::Abort;

@@ -1,6 +1,6 @@
 //! Large trees: time and memory have to be linear in the number of events. The sizes are raised for measurements.
 use crate::trees::{add, close, credit, place};
-use crate::{clock, leftmost};
+use branch_order::{clock, leftmost};
 use std::alloc::Global;
 use std::process::Abort;
 use std::test::Fail;

@@ -1,5 +1,5 @@
 //! What no clause gives: that calls succeed, and what they say of one tree.
-use crate::{Legs, path_between};
+use node_trail::{Legs, path_between};
 use au_term::{Bindings, NoMemory, Segment};
 use clause_compile::{Branch, Goals};
 use std::alloc::Global;

@@ -1,5 +1,5 @@
 //! What no clause gives: that a bag is gathered, and in which order.
-use crate::bag_of;
+use findall_tree::bag_of;
 use au_term::{Bindings, Cell, FlatTerm, NoMemory, Segment, TermBuilder};
 use clause_compile::{Branch, Goals};
 use std::alloc::Global;

@@ -1,5 +1,5 @@
 //! What no clause gives: that calls succeed, and what they leave of one tree.
-use crate::{catch_at, prune_right};
+use prune_ops::{catch_at, prune_right};
 use au_term::{Bindings, NoMemory, Segment};
 use clause_compile::{Branch, Goals, Item, Scope};
 use std::alloc::Global;

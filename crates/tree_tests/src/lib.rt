@@ -1,0 +1,20 @@
+//! Tests of the crates of the shared tree: what no clause says, outside examples, and each call that allocates once, with
+//! ample memory. They are in a crate of their own because a crate with tests is proved twice.
+#![tactic(auto)]
+
+#[cfg(test)]
+mod large;
+#[cfg(test)]
+mod nodes;
+#[cfg(test)]
+mod pruning;
+#[cfg(test)]
+mod random;
+#[cfg(test)]
+mod results;
+#[cfg(test)]
+mod sides;
+#[cfg(test)]
+mod trails;
+#[cfg(test)]
+mod trees;
