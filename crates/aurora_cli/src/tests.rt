@@ -1,6 +1,6 @@
 //! Texts run from words to bytes, by rows.
-use crate::note::note_line;
 use crate::faulty_texts::{Bad, FAULTS};
+use crate::note::note_line;
 use crate::rows::{CONTROL, ERRORS, FINISHED, PREDICATES};
 use crate::top::aurora;
 use au_io::{MemoryShelf, MemorySink, NoGate};

@@ -2,9 +2,9 @@
 ghost use Rattle.std.specs.Prelude.{◌≡◌, IfOk};
 ghost use Rattle.au_term.specs.Term.{VarTerm};
 
-use bind_store::Store;
 use au_model::build::{compound, unary};
 use au_term::{Atom, Cell, FlatTerm, NoMemory, Shared, VarNo};
+use bind_store::Store;
 use std::alloc::Global;
 use std::process::Abort;
 use std::test::Fail;

@@ -1,12 +1,12 @@
 //! Names of built-in predicates and control constructs; and each built-in called once with ample memory.
-use std_builtins::{
-    Builtin, BuiltinRefusal, Comparison, Control, Solution, Spelling, TypeTest, WorldGoal,
-    builtin_of, control_of, is_builtin, is_control, is_world_goal, world_goal_of,
-};
 use au_model::build::{atom, binary, list_of, single, unary};
 use au_term::{Cell, FlatTerm, NoMemory};
 use std::alloc::Global;
 use std::test::Fail;
+use std_builtins::{
+    Builtin, BuiltinRefusal, Comparison, Control, Solution, Spelling, TypeTest, WorldGoal,
+    builtin_of, control_of, is_builtin, is_control, is_world_goal, world_goal_of,
+};
 use term_order::compare;
 
 #[test]

@@ -4,10 +4,10 @@ ghost use Rattle.au_term.specs.Term.{VarTerm, var_bound};
 ghost use Rattle.cell_store.specs.StoreView.{AddsText, IsValueIn, with_numbers};
 ghost use Rattle.cell_store.specs.UnificationSteps.{OnlyBinds};
 
-use cell_store::Store;
 use au_model::build::{compound, unary};
 use au_term::{Atom, Cell, FlatTerm, NoMemory, Shared, VarNo};
 use binding_array::BindingCell;
+use cell_store::Store;
 use clause_compile::Code;
 use std::alloc::Global;
 use std::process::Abort;

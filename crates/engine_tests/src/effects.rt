@@ -2,12 +2,12 @@
 use crate::effect_rows::{
     ABOLISHED, ADDED, HALTS, Kind, LOOKED_AT, LOOKED_UP, OPERATORS, OUTPUT, Part, Row, WRITTEN,
 };
-use effect_gate::{Applied, World, ball};
 use Part::{A, F, I, V};
 use au_model::{Style, VarName};
 use au_term::{Atom, Cell, FlatTerm, NoMemory, TermBuilder};
 use clause_compile::{ClauseId, Effect};
 use dyn_clauses::{Database, Indicator};
+use effect_gate::{Applied, World, ball};
 use op_table::Ops;
 use std::alloc::Global;
 use std::process::Abort;

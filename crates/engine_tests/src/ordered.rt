@@ -1,9 +1,9 @@
 //! Orders from outside: terms of each kind in their order, and hostile sizes.
-use term_order::compare;
 use au_model::build::{atom, binary, single, unary};
 use au_term::{Atom, Cell, FlatTerm, TermBuilder};
 use std::cmp::Ordering;
 use std::test::Fail;
+use term_order::compare;
 
 /// Terms in the standard order, each against each.
 #[test]

@@ -1,9 +1,9 @@
 //! What no clause says: that reductions succeed, and what small goals come to.
-use engine_core::{Reduction, reduce};
 use au_model::build::compound;
 use au_term::{Atom, Cell, FlatTerm, NoMemory, Shared};
 use bind_store::Store;
 use clause_compile::{Effect, Goals, Item, Scope, compile};
+use engine_core::{Reduction, reduce};
 use proc_index::Procs;
 use std::alloc::Global;
 use std::process::Abort;

@@ -1,10 +1,10 @@
 //! What no clause says: that calls succeed, and what comes back.
 ghost use Rattle.region_split.specs.Regions.{AreAlternativesIn};
 
-use region_split::{Alternatives, BodyItem, Frame, Left, Region, Results, Text};
 use au_term::{Atom, Cell, FlatTerm, NoMemory, TermBuilder};
 use binding_array::BindingCell;
 use clause_compile::{Code, Place, compile};
+use region_split::{Alternatives, BodyItem, Frame, Left, Region, Results, Text};
 use std::alloc::Global;
 use std::process::Abort;
 use std::sync::Arc;

@@ -1,7 +1,7 @@
 //! Whole runs of small texts: how they end, their answers and inferences, and their bytes.
-use stack_run::run_job;
 use au_io::MemorySink;
 use run_model::{RunEnd, RunEnding};
+use stack_run::run_job;
 use std::alloc::Global;
 use std::test::Fail;
 use text_load::load;

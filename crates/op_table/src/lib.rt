@@ -15,4 +15,3 @@ mod table;
 pub use operator::{ARGUMENT_PRIORITY, MAX_PRIORITY, OpKind, OpRow, Operator};
 pub use refusal::OpRefusal;
 pub use table::Ops;
-

@@ -1,6 +1,8 @@
 //! What no clause gives: which clauses and goals certain terms make, and that long ones are made and dropped.
-use clause_compile::{Clause, ClauseRefusal, Code, Goals, Item, Part, Place, Scope, body_goals, compile};
 use au_term::{Atom, Cell, FlatTerm, Shared, TermBuilder};
+use clause_compile::{
+    Clause, ClauseRefusal, Code, Goals, Item, Part, Place, Scope, body_goals, compile,
+};
 use std::alloc::Global;
 use std::process::Abort;
 use std::sync::Arc;

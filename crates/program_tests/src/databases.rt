@@ -1,8 +1,8 @@
 //! Calls one by one, thousands of them beside a list, and many facts found by their keys.
-use dyn_clauses::{DataRefusal, Database, Gone, Indicator, Snapshot, Static};
 use au_model::build::{atom, compound, single};
 use au_term::{Atom, Cell, FlatTerm, NoMemory};
 use clause_compile::{Clause, ClauseId, compile};
+use dyn_clauses::{DataRefusal, Database, Gone, Indicator, Snapshot, Static};
 use proc_index::Key;
 use std::alloc::Global;
 use std::process::Abort;

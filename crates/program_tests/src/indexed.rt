@@ -1,9 +1,9 @@
 //! What no clause gives: the clauses that are found among those of certain heads.
 ghost use Rattle.std.specs.Prelude.{◌≡◌, ◌<◌};
 
-use proc_index::{Key, Procs};
 use au_term::{Atom, Cell, FlatTerm, Steps, TermBuilder};
 use clause_compile::compile;
+use proc_index::{Key, Procs};
 use std::alloc::Global;
 use std::marker::Brand;
 use std::process::Abort;

@@ -1,6 +1,5 @@
 //! Texts loaded: what no clause gives, which jobs certain texts make.
 
-use text_load::{Job, LoadRefusal, load};
 use au_model::FaultKind;
 use au_term::{Atom, Cell};
 use clause_compile::Clause;
@@ -10,6 +9,7 @@ use std::alloc::Global;
 use std::process::Abort;
 use std::sync::Arc;
 use std::test::Fail;
+use text_load::{Job, LoadRefusal, load};
 
 /// What a procedure is in a job, with how many clauses it has.
 #[derive(Clone, Copy, Debug, PartialEq, Eq)]

@@ -17,4 +17,3 @@ mod variables;
 
 pub use place::line_and_column;
 pub use read::{ReadOutcome, ReadRefused, read_term};
-

@@ -11,4 +11,3 @@ mod write;
 
 pub use lines::{answer_line, ball_line};
 pub use write::write_into;
-

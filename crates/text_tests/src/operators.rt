@@ -1,9 +1,9 @@
 //! The standard's operators (ISO/IEC 13211-1, 6.3.4.4).
 
-use op_table::{OpKind, OpRefusal, OpRow, Operator, Ops};
 use au_model::build::{binary, list_of, single};
 use au_model::{DomainName, Fault, PermissionName, TypeName};
 use au_term::{Atom, Cell, FlatTerm, NoMemory};
+use op_table::{OpKind, OpRefusal, OpRow, Operator, Ops};
 use std::alloc::Global;
 use std::process::Abort;
 use std::test::Fail;

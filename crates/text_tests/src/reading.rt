@@ -1,11 +1,11 @@
 //! Texts and their terms; places and kinds of faults.
 
-use term_reader::{ReadOutcome, ReadRefused, read_term};
 use au_model::{DoubleQuotes, FaultKind};
 use op_table::Ops;
 use std::alloc::Global;
 use std::process::Abort;
 use std::test::Fail;
+use term_reader::{ReadOutcome, ReadRefused, read_term};
 
 /// A text, the place from which it is read, its term in functional notation, and the place after it.
 type Case = (&'static str, usize, &'static str, usize);

@@ -2,11 +2,11 @@
 ghost use Rattle.std.specs.Prelude.{IfOk};
 ghost use Rattle.token_scan.specs.NextToken.{IsToken};
 
-use token_scan::{BadToken, Token, TokenKind, integer, next_token, spelling, value};
 use au_model::FaultKind;
 use std::alloc::Global;
 use std::process::Abort;
 use std::test::Fail;
+use token_scan::{BadToken, Token, TokenKind, integer, next_token, spelling, value};
 
 type Row = (&'static str, usize, TokenKind, usize, usize, bool);
 

@@ -1,12 +1,12 @@
 //! Written terms, by ISO/IEC 13211-1, 6.3.4 and 7.10.5.
 
-use term_writer::{answer_line, ball_line, write_into};
 use au_model::{Style, VarName};
 use au_term::{Atom, Cell, FlatTerm, NoMemory, TermBuilder};
 use op_table::Ops;
 use std::alloc::Global;
 use std::process::Abort;
 use std::test::Fail;
+use term_writer::{answer_line, ball_line, write_into};
 
 /// A cell of a term: a variable, an integer, an atom, or a compound's name and number of arguments.
 #[derive(Clone, Copy)]

@@ -13,4 +13,3 @@ mod values;
 pub use scan::next_token;
 pub use token::{BadToken, Token, TokenKind};
 pub use values::{integer, spelling, value};
-

@@ -1,5 +1,4 @@
 //! What no clause gives: that calls succeed, and how nodes look after some of them.
-use tree_nodes::{AltState, Credit, NodeBody, NodeKind, Nodes};
 use au_term::{Bindings, NoMemory, Segment};
 use clause_compile::{Branch, Goals};
 use std::alloc::Global;
@@ -7,6 +6,7 @@ use std::process::Abort;
 use std::sync::Arc;
 use std::test::Fail;
 use tree_model::AltRef;
+use tree_nodes::{AltState, Credit, NodeBody, NodeKind, Nodes};
 
 fn segment(alloc: Global) -> Segment {
     Segment {

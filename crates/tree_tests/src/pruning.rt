@@ -1,7 +1,7 @@
 //! What no clause gives: that calls succeed, and what they leave of one tree.
-use prune_ops::{catch_at, prune_right};
 use au_term::{Bindings, NoMemory, Segment};
 use clause_compile::{Branch, Goals, Item, Scope};
+use prune_ops::{catch_at, prune_right};
 use std::alloc::Global;
 use std::process::Abort;
 use std::sync::Arc;

@@ -1,7 +1,7 @@
 //! What no clause gives: that a bag is gathered, and in which order.
-use findall_tree::bag_of;
 use au_term::{Bindings, Cell, FlatTerm, NoMemory, Segment, TermBuilder};
 use clause_compile::{Branch, Goals};
+use findall_tree::bag_of;
 use std::alloc::Global;
 use std::process::Abort;
 use std::sync::Arc;

@@ -1,7 +1,7 @@
 //! What no clause gives: that calls succeed, and what they say of one tree.
-use node_trail::{Legs, path_between};
 use au_term::{Bindings, NoMemory, Segment};
 use clause_compile::{Branch, Goals};
+use node_trail::{Legs, path_between};
 use std::alloc::Global;
 use std::process::Abort;
 use std::sync::Arc;
