@@ -4,7 +4,7 @@ ghost use Rattle.region_split.specs.Regions.{AreAlternativesIn};
 use region_split::{Alternatives, BodyItem, Frame, Left, Region, Results, Text};
 use au_term::{Atom, Cell, FlatTerm, NoMemory, TermBuilder};
 use binding_array::BindingCell;
-use clause_compile::{Code, Place, compile};
+use clause_compile::{Place, compile};
 use std::alloc::Global;
 use std::process::Abort;
 use std::sync::Arc;
@@ -18,21 +18,44 @@ fn atom(rt: &impl Abort, alloc: Global, name: &str) -> Result<FlatTerm, Fail> {
     Ok(builder.finish())
 }
 
-/// A text with one body and two clauses.
+/// The text of `p :- q` and `q`.
 fn text(rt: &impl Abort, alloc: Global) -> Result<Arc<Text>, Fail> {
-    let mut text = Text::new(alloc, Arc::new(alloc, Code::new(alloc))?);
-    text.push_item(BodyItem::Goal(Place::Int(1)))?;
-    text.push_item(BodyItem::BodyEnd)?;
-    assert_eq!(rt; text.get(0), Some(BodyItem::Goal(Place::Int(1))));
-    assert_eq!(rt; text.get(2), None);
-    for name in ["p", "q"] {
-        let (head, body) = (atom(rt, alloc, name)?, atom(rt, alloc, "true")?);
+    let mut clauses = Vec::new(alloc);
+    for (name, goal) in [("p", "q"), ("q", "true")] {
+        let (head, body) = (atom(rt, alloc, name)?, atom(rt, alloc, goal)?);
         match compile(alloc, &head, &body) {
-            Ok(clause) => text.push_clause(clause)?,
+            Ok(clause) => clauses.push(clause)?,
             Err(_) => Err("a clause")?,
         }
     }
-    Ok(Arc::new(alloc, text)?)
+    Ok(Arc::new(alloc, Text::new(alloc, clauses)?)?)
+}
+
+#[test]
+fn clauses_are_where_the_text_says(rt: HostRuntime) -> Result<(), Fail> {
+    let text = text(&rt, rt.alloc())?;
+    assert_eq!(rt; text.clauses(), 2);
+    assert_eq!(rt; text.get(0), Some(BodyItem::Goal(Place::Atom(1))));
+    assert_eq!(rt; text.get(1), Some(BodyItem::BodyEnd));
+    assert_eq!(rt; text.get(3), None);
+    for (number, head, body) in [(0, 0, 0), (1, 1, 2)] {
+        assert!(rt; (number as usize) < text.clauses());
+        let placed = text.placed(number);
+        assert_eq!(rt; placed.head, Place::Atom(head));
+        assert_eq!(rt; placed.body, body);
+        assert_eq!(rt; placed.vars, 0);
+    }
+    Ok(())
+}
+
+#[test]
+fn items_come_behind_the_bodies(rt: HostRuntime) -> Result<(), Fail> {
+    let mut text = Text::new(rt.alloc(), Vec::new(rt.alloc()))?;
+    text.push_item(BodyItem::CatchEnd)?;
+    text.push_item(BodyItem::BodyEnd)?;
+    assert_eq!(rt; text.get(0), Some(BodyItem::CatchEnd));
+    assert_eq!(rt; text.get(1), Some(BodyItem::BodyEnd));
+    Ok(())
 }
 
 fn push(region: &mut Region, alternatives: Alternatives) -> Result<(), NoMemory>

@@ -6,3 +6,4 @@ pub mod CursorLemmas
 pub mod FindallLemmas
 pub mod LeftLemmas
 pub mod StoreLemmas
+pub mod TextLemmas

@@ -18,4 +18,4 @@ pub use choice::{Alternatives, ChoicePoint, Trial};
 pub use frame::{Frame, Left, Position};
 pub use region::Region;
 pub use results::Results;
-pub use text::{BodyItem, Text};
+pub use text::{BodyItem, PlacedClause, Text};
