@@ -7,3 +7,5 @@ pub mod FindallLemmas
 pub mod LeftLemmas
 pub mod StoreLemmas
 pub mod TextLemmas
+pub mod ClauseLemmas
+pub mod TrialLemmas

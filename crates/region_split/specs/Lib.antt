@@ -4,3 +4,4 @@ pub mod Frames
 pub mod ChoicePoints
 pub mod Regions
 pub mod StackOperations
+pub mod ClauseTrials

@@ -8,6 +8,7 @@
 //! the choice point, and for dropping choice points, which takes as many as are dropped.
 #![tactic(auto)]
 
+mod call;
 mod choice;
 mod frame;
 mod region;
