@@ -34,7 +34,7 @@ is_there (x ∷ xs) (suc i) lt =
     let k : suc i + 1 ≡ suc (i + 1) = omega arith in
     record { element = rest.element; is = rest.is; first = rest.first ∙ ap (λ n. rest.element ∷ drop n (x ∷ xs)) (sym k) }
 
-first_of_range : {X : Type 0} (xs : List X) (i end : ℕ) (x : X) → i < end → drop i xs ≡ x ∷ drop (i + 1) xs → slice_range xs i end ≡ x ∷ slice_range xs (i + 1) end
+pub first_of_range : {X : Type 0} (xs : List X) (i end : ℕ) (x : X) → i < end → drop i xs ≡ x ∷ drop (i + 1) xs → slice_range xs i end ≡ x ∷ slice_range xs (i + 1) end
 first_of_range xs i end x lt e = let n : end - i ≡ suc (end - (i + 1)) = omega (arith, lt) in ap (λ k. take k (drop i xs)) n ∙ ap (take (suc (end - (i + 1)))) e
 
 -- the entry of the first clause, and then those of the others

@@ -9,3 +9,4 @@ pub mod StoreLemmas
 pub mod TextLemmas
 pub mod ClauseLemmas
 pub mod TrialLemmas
+pub mod CallLemmas

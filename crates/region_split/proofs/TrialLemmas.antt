@@ -171,7 +171,7 @@ module _ (r : RegionView) (t : Trial) (cut : ℕ) (p : PlacedClause) (b : Begins
     with_bound now = record r { store = with_substitution now wide }
 
     pub not_unified : (now : Substitution) → unifier ((meaning wide t.goal, meaning wide head) ∷ []) ≡ None → TriesClause r (with_bound now) t cut None
-    not_unified now e = record { clause = c; is = b.is; entries = by_unifier None e; position = tt }
+    not_unified now e = record { clause = c; is = b.is; entries = by_unifier None e; position = tt; frames = λ _. refl }
 
     module _ (further now : Substitution) (is_unifier : unifier ((meaning wide t.goal, meaning wide head) ∷ []) ≡ Some further) (bound : IsComposition r.store.now.bound further now) (after : IsPositionOver r cut t.after) where
       abbrev own : List (Item ℕ)
@@ -216,6 +216,7 @@ module _ (r : RegionView) (t : Trial) (cut : ℕ) (p : PlacedClause) (b : Begins
               frame = a.there;
               scoped = subst (AreCutWithin cut new.store.now.next) (sym items) (subst (λ (m : Moment). AreCutWithin cut m.next (own ++ items_after)) (sym store) scoped);
             };
+            frames = λ e. absurd cc;
           }
 
       pub fact_tried : slice_get r.text.bodies p.body ≡ Some BodyEnd → TriesClause r (with_bound now) t cut (Some t.after)
@@ -226,6 +227,7 @@ module _ (r : RegionView) (t : Trial) (cut : ℕ) (p : PlacedClause) (b : Begins
             is = b.is;
             entries = λ named. is_entry named ∙ ap (λ xs. entry_by named (heights_of named r) (with_bound now).store.now (xs ++ items_after) ∷ []) none;
             position = record { frame = after.frame; scoped = scoped_further cut next (next + p.vars) items_after (omega arith) after.scoped };
+            frames = λ e. absurd cc;
           }
 
   -- the region as the calls leave it, one after another

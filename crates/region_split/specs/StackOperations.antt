@@ -38,6 +38,7 @@ pub record AddsChoice (old new : RegionView) (alternatives : Alternatives) (afte
   pub choice : ChoicePoint
   pub is : (choice.alternatives ≡ alternatives) × (choice.after ≡ after)
   pub entries : (named : List NamedTerm) → entries_of named new ≡ entries_on named old choice old.store.now ++ entries_of named old
+  pub heights : (named : List NamedTerm) → height_of_cut (heights_of named new) (length old.choices) ≡ length (entries_of named old)
   pub keeps : KeepsPositions old new (length old.frames)
   pub others : new ≡ record old { store = with_mark old.store; choices = old.choices ++ choice ∷ [] }
 
