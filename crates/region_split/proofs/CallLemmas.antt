@@ -7,11 +7,11 @@ use Rattle.run_model.specs.Goals.Outcomes.{clause_solution, alternatives_of}
 use Rattle.run_model.specs.Machine.Items.{Continuation}
 use Rattle.run_model.specs.Machine.Entries.{Entry, PlainEntry, solution_entry, solution_entries}
 use Rattle.binding_array.specs.declared.cell.BindingCell.{BindingCell}
-use Rattle.cell_store.specs.StoreView.{Moment, StoreView, IsValueIn, meaning, with_mark}
+use Rattle.cell_store.specs.StoreView.{Moment, StoreView, meaning, with_mark}
 use Rattle.region_split.specs.Frames.{items_at}
 use Rattle.region_split.specs.ChoicePoints.{Standing, alternative_entries, continuation_at, height_of_cut}
 use Rattle.region_split.specs.Texts.{TextView}
-use Rattle.region_split.specs.Regions.{RegionView, region_setting, entries_of, heights_of, continuation_here, position_entry, IsPositionIn, IsPositionOver, AreAlternativesIn}
+use Rattle.region_split.specs.Regions.{RegionView, region_setting, entries_of, heights_of, continuation_here, position_entry, IsPositionIn}
 use Rattle.region_split.specs.StackOperations.{AddsChoice, TakesNewest, trial_entries}
 use Rattle.region_split.specs.ClauseTrials.{TriesClause, KeepsChoices, TriesFirst, Calls, called_entries, entries_at, IsOptionalPosition}
 use Rattle.region_split.specs.declared.choice.Alternatives.TheVariants.{Clauses}
@@ -72,20 +72,12 @@ last_called r new t cut end reached some last within count height tried kept = r
       (ap (λ h. solution_entry h (continuation_here named r t.after) (clause_solution (meaning r.store t.goal) r.store.now.next tried.clause)) (sym (height named)) ∙ tried.entries named)
       (called_none named r t.goal (t.clause + 1) end t.after (omega (arith, last)) ∙ ap (λ (st : Standing). st.entries) (sym (kept.stands named)));
   position = subst (λ n. IsOptionalPosition new n reached) (count ∙ sym (ap (λ (x : RegionView). length x.choices) kept.others)) tried.position;
+  many = λ _. ap (λ (x : RegionView). length x.choices) kept.others;
   text = ap (λ (x : RegionView). x.text) kept.others;
 }
 
 -- a choice point for the other clauses
 module _ (r r1 : RegionView) (t : Trial) (end : ℕ) (a : AddsChoice r r1 (Clauses t.goal (t.clause + 1) end) t.after) (after : IsPositionIn r t.after) where
-  pub position_there : (cut : ℕ) → cut ≡ length r.choices → IsPositionOver r1 cut t.after
-  position_there cut e = subst (λ (x : RegionView). IsPositionOver x cut t.after) (sym a.others) (subst (λ n. IsPositionOver (record r { store = with_mark r.store; choices = r.choices ++ a.choice ∷ [] }) n t.after) (sym e) (record { frame = after.frame; scoped = after.scoped }))
-
-  pub value_there : IsValueIn r.store t.goal → IsValueIn r1.store t.goal
-  value_there v = subst (λ (x : RegionView). IsValueIn x.store t.goal) (sym a.others) v
-
-  pub clause_there : t.clause < end → end ≤ length r.text.clauses → t.clause < length r1.text.clauses
-  clause_there some within = subst (λ (x : RegionView). t.clause < length x.text.clauses) (sym a.others) (omega (arith, some, within))
-
   first_entries : (named : List NamedTerm) (c : Clause) (cut : ℕ) → cut ≡ length r.choices → trial_entries named r1 t cut c ≡ clause_entries named r t c
   first_entries named c cut e =
       let height : height_of_cut (heights_of named r1) cut ≡ length (entries_of named r) = ap (height_of_cut (heights_of named r1)) e ∙ a.heights named in
@@ -121,11 +113,9 @@ module _ (r r1 : RegionView) (t : Trial) (end : ℕ) (a : AddsChoice r r1 (Claus
         frame = tried.position.frame;
         scoped = scoped_more cut (length r2.choices) r2.store.now.next (items_at r2.text r2.frames p) (let l = ap length same_choices in let m = length-append r.choices (a.choice ∷ []) in omega (arith, l, m, count)) tried.position.scoped;
       };
+      many = λ e. absurd cc;
       text = ap (λ (x : RegionView). x.text) kept.others ∙ ap (λ (x : RegionView). x.text) a.others;
     }
-
-    pub choice_there : 0 < length r2.choices
-    choice_there = let l = ap length same_choices in let m = length-append r.choices (a.choice ∷ []) in omega (arith, l, m)
 
     -- the region after the clause was tried in vain, as it was but for what is bound
     module _ (tried : TriesClause r1 r2 t cut None) (back : RegionView) (c : ChoicePoint) (takes : TakesNewest r2 back c) where
@@ -162,9 +152,6 @@ module _ (r r1 : RegionView) (t : Trial) (end : ℕ) (a : AddsChoice r r1 (Claus
       pub fails_first : TriesFirst r back t end None
       fails_first = (as_before, λ named. in_turn None named tried)
 
-pub values_there : (r : RegionView) (t : Trial) (end : ℕ) → IsValueIn r.store t.goal → end ≤ length r.text.clauses → AreAlternativesIn r (Clauses t.goal (t.clause + 1) end)
-values_there r t end v le = (v, le)
-
 pub if_ok_then : {X E : Type 0} (P Q : X → Type 0) (r : Result X E) → ((x : X) → P x → Q x) → IfOk r P → IfOk r Q
 if_ok_then P Q (Ok x) f p = f x p
 if_ok_then P Q (Err e) f p = tt
@@ -175,5 +162,6 @@ pub called_from : (old r new : RegionView) (t : Trial) (first end : ℕ) (reache
 called_from old r new t first end reached same passed calls = record {
   entries = λ named. sym (passed named) ∙ (ap (λ (x : RegionView). called_entries named x t.goal t.clause end t.after) (sym same) ∙ calls.entries named);
   position = calls.position;
+  many = λ e. calls.many e ∙ ap (λ (x : RegionView). length x.choices) same;
   text = calls.text ∙ ap (λ (x : RegionView). x.text) same;
 }

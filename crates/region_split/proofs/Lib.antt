@@ -10,3 +10,4 @@ pub mod TextLemmas
 pub mod ClauseLemmas
 pub mod TrialLemmas
 pub mod CallLemmas
+pub mod BacktrackingLemmas

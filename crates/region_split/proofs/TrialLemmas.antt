@@ -20,7 +20,6 @@ use Rattle.binding_array.specs.declared.cell.BindingCell.{BindingCell}
 use Rattle.cell_store.specs.UnificationSteps.{OnlyBinds, AreUnified}
 use Rattle.cell_store.specs.StoreView.{Moment, StoreView, IsValidStore, IsValueIn, IsComposition, text_in, value_term, meaning, with_numbers, with_substitution}
 use Rattle.cell_store.proofs.CellMeaningLemmas.{term_below}
-use Rattle.cell_store.proofs.SubstitutionLemmas.{value_raised}
 use Rattle.region_split.specs.ChoicePoints.{height_of_cut, by_height}
 use Rattle.region_split.specs.Frames.{body_left, items_at, AreCutWithin}
 use Rattle.region_split.specs.Texts.{TextView, body_items, IsPlacedClause}
@@ -149,9 +148,6 @@ module _ (r : RegionView) (t : Trial) (cut : ℕ) (p : PlacedClause) (b : Begins
 
   pub head_below : var_bound (shifted next (meaning_in (text_in wide) p.head)) ≤ wide.now.next
   head_below = subst (λ u. var_bound (shifted next u) ≤ wide.now.next) (sym head_means) (shifted_within next p.vars c.head head_within)
-
-  pub goal_there : IsValueIn wide t.goal
-  goal_there = value_raised (text_in r.store) next (next + p.vars) t.goal (omega arith) b.goal
 
   pub goal_older : var_bound (meaning wide t.goal) ≤ next
   goal_older = apply-below (value_of r.store.now.bound) next next b.valid.below (value_term r.store t.goal) (term_below (text_in r.store) next t.goal b.goal)

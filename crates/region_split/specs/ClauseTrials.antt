@@ -45,6 +45,7 @@ called_entries named r goal first end after =
 pub record Calls (old new : RegionView) (goal : BindingCell) (first end : ℕ) (after : Position) (reached : Option Position) : Type 0 where
   pub entries : (named : List NamedTerm) → called_entries named old goal first end after ≡ entries_at named new reached ++ entries_of named new
   pub position : IsOptionalPosition new (length new.choices) reached
+  pub many : reached ≡ None → length new.choices ≡ length old.choices
   pub text : new.text ≡ old.text
 
 -- the first of some clauses was tried before the others: it goes on over these, or it has no entry

@@ -5,3 +5,4 @@ pub mod ChoicePoints
 pub mod Regions
 pub mod StackOperations
 pub mod ClauseTrials
+pub mod Backtracking
