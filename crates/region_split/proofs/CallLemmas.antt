@@ -4,8 +4,7 @@ use Rattle.std.specs.List.{slice_range}
 use Rattle.au_model.specs.Terms.Named.{NamedTerm}
 use Rattle.run_model.specs.Programs.Clauses.{Clause}
 use Rattle.run_model.specs.Goals.Outcomes.{clause_solution, alternatives_of}
-use Rattle.run_model.specs.Machine.Items.{Continuation}
-use Rattle.run_model.specs.Machine.Entries.{Entry, PlainEntry, solution_entry, solution_entries}
+use Rattle.run_model.specs.Machine.Entries.{Entry, solution_entry, solution_entries}
 use Rattle.binding_array.specs.declared.cell.BindingCell.{BindingCell}
 use Rattle.cell_store.specs.StoreView.{Moment, StoreView, meaning, with_mark}
 use Rattle.region_split.specs.Frames.{items_at}
@@ -21,9 +20,6 @@ use Rattle.region_split.specs.declared.frame.Frame.{Frame}
 use Rattle.region_split.specs.declared.frame.Position.{Position}
 use Rattle.region_split.proofs.CursorLemmas.{is_there, first_of_range}
 use Rattle.region_split.proofs.ScopeLemmas.{scoped_more}
-
-same_continued : (f g : Continuation ℕ) → PlainEntry f ≡ PlainEntry g → f ≡ g
-same_continued f g e = cc
 
 -- lists with the same end
 last_apart : {X : Type 0} (xs ys : List X) (x y : X) → xs ++ x ∷ [] ≡ ys ++ y ∷ [] → (xs ≡ ys) × (x ≡ y)
@@ -81,7 +77,7 @@ module _ (r r1 : RegionView) (t : Trial) (end : ℕ) (a : AddsChoice r r1 (Claus
   first_entries : (named : List NamedTerm) (c : Clause) (cut : ℕ) → cut ≡ length r.choices → trial_entries named r1 t cut c ≡ clause_entries named r t c
   first_entries named c cut e =
       let height : height_of_cut (heights_of named r1) cut ≡ length (entries_of named r) = ap (height_of_cut (heights_of named r1)) e ∙ a.heights named in
-      let follows : continuation_here named r1 t.after ≡ continuation_here named r t.after = same_continued (continuation_here named r1 t.after) (continuation_here named r t.after) (a.keeps.same named t.after after.frame after) in
+      let follows : continuation_here named r1 t.after ≡ continuation_here named r t.after = let same = a.keeps.same named t.after after.frame after in cc in
       let store : r1.store ≡ with_mark r.store = ap (λ (x : RegionView). x.store) a.others in
       ap₂ (λ h f. solution_entry h f (clause_solution (meaning r1.store t.goal) r1.store.now.next c)) height follows
       ∙ ap (λ (st : StoreView). solution_entry (length (entries_of named r)) (continuation_here named r t.after) (clause_solution (meaning st t.goal) st.now.next c)) store

@@ -1,8 +1,8 @@
 -- Clauses that are added to a text stay where they are.
-use Rattle.std.proofs.Common.{◌≡◌, ℕ, zero, suc, ◌+◌, ◌<◌, List, [], ◌∷◌, ◌++◌, append_assoc, length, map, drop, take, get_or, slice_get, Some, refl, sym, ap, ◌∙◌, subst, arith}
-use Rattle.au_model.specs.Terms.Each.{Each}
+use Rattle.std.proofs.Common.{◌≡◌, ℕ, zero, suc, List, [], ◌∷◌, ◌++◌, append_assoc, length, drop, get_or, slice_get, Some, refl, sym, ap, ◌∙◌, subst, arith}
 use Rattle.au_model.proofs.EachLemmas.{each-more}
 use Rattle.run_model.specs.Programs.Clauses.{Clause}
+use Rattle.cell_store.proofs.UndoingLemmas.{map-same}
 use Rattle.clause_compile.specs.Places.{CodeView, Keeps, IsPlaceOf, meaning_in}
 use Rattle.clause_compile.specs.declared.place.Place.{Place}
 use Rattle.region_split.specs.Texts.{body_items, IsPlacedClause, ArePlacedClauses, AddsClause}
@@ -16,10 +16,6 @@ followed [] more rest [] (suc at) e = absurd cc
 followed [] more rest (g ∷ goals) (suc at) e = absurd cc
 followed (b ∷ bodies) more rest goals (suc at) e = followed bodies more rest goals at e
 
-same_meanings : (old new : CodeView) (ps : List Place) → Keeps old new → Each (IsPlaceOf old) ps → map (meaning_in new) ps ≡ map (meaning_in old) ps
-same_meanings old new [] k there = refl
-same_meanings old new (p ∷ ps) k there = let same = (k.same p there.0).1 in let rest = same_meanings old new ps k there.1 in cc
-
 still_placed : (old new : CodeView) (bodies more : List BodyItem) (c : Clause) (p : PlacedClause) → Keeps old new → IsPlacedClause old bodies c p → IsPlacedClause new (bodies ++ more) c p
 still_placed old new bodies more c p k q = record {
   head_there = (k.same p.head q.head_there).0;
@@ -28,7 +24,7 @@ still_placed old new bodies more c p k q = record {
   following = q.following ++ more;
   body = followed bodies more q.following q.goals p.body q.body;
   goals_there = each-more (IsPlaceOf old) (IsPlaceOf new) (λ g there. (k.same g there).0) q.goals q.goals_there;
-  mean = same_meanings old new q.goals k q.goals_there ∙ q.mean;
+  mean = map-same (IsPlaceOf old) (meaning_in new) (meaning_in old) (λ g there. (k.same g there).1) q.goals q.goals_there ∙ q.mean;
   numbered = q.numbered;
   below = q.below;
 }
@@ -64,9 +60,3 @@ placed_at code bodies (d ∷ cs) (x ∷ ps) zero c p q e is = subst (λ y. IsPla
     some_same : (y z : Clause) → Some y ≡ Some z → y ≡ z
     some_same y z h = cc
 placed_at code bodies (d ∷ cs) (x ∷ ps) (suc n) c p q e is = placed_at code bodies cs ps n c p q.1 e is
-
--- one element more
-pub one_more_taken : {X Y : Type 0} (f : X → Y) (xs : List X) (i : ℕ) (x : X) → i < length xs → x ≡ get_or xs i x → map f (take (i + 1) xs) ≡ map f (take i xs) ++ f x ∷ []
-one_more_taken f [] i x lt e = absurd (omega (arith, lt))
-one_more_taken f (y ∷ xs) zero x lt e = ap (λ z. f z ∷ []) (sym e)
-one_more_taken f (y ∷ xs) (suc i) x lt e = let k : suc i + 1 ≡ suc (i + 1) = omega arith in rw k (ap (λ ys. f y ∷ ys) (one_more_taken f xs i x (omega (arith, lt)) e))
