@@ -1,10 +1,14 @@
 //! What no clause says: that calls succeed, and what comes back.
+ghost use Rattle.std.specs.Prelude.{◌<◌, ◌≤◌, length};
+ghost use Rattle.cell_store.specs.StoreView.{IsValueIn};
 ghost use Rattle.region_split.specs.Regions.{AreAlternativesIn};
 
 use au_term::{Atom, Cell, FlatTerm, NoMemory, TermBuilder};
 use binding_array::BindingCell;
-use clause_compile::{Code, Place, compile};
-use region_split::{Alternatives, BodyItem, Frame, Left, Region, Results, Text};
+use clause_compile::{Place, compile};
+use region_split::{
+    Alternatives, BodyItem, Frame, Left, Position, Region, Results, Resumed, Text, Trial,
+};
 use std::alloc::Global;
 use std::process::Abort;
 use std::sync::Arc;
@@ -18,21 +22,44 @@ fn atom(rt: &impl Abort, alloc: Global, name: &str) -> Result<FlatTerm, Fail> {
     Ok(builder.finish())
 }
 
-/// A text with one body and two clauses.
+/// The text of `p :- q` and `q`.
 fn text(rt: &impl Abort, alloc: Global) -> Result<Arc<Text>, Fail> {
-    let mut text = Text::new(alloc, Arc::new(alloc, Code::new(alloc))?);
-    text.push_item(BodyItem::Goal(Place::Int(1)))?;
-    text.push_item(BodyItem::BodyEnd)?;
-    assert_eq!(rt; text.get(0), Some(BodyItem::Goal(Place::Int(1))));
-    assert_eq!(rt; text.get(2), None);
-    for name in ["p", "q"] {
-        let (head, body) = (atom(rt, alloc, name)?, atom(rt, alloc, "true")?);
+    let mut clauses = Vec::new(alloc);
+    for (name, goal) in [("p", "q"), ("q", "true")] {
+        let (head, body) = (atom(rt, alloc, name)?, atom(rt, alloc, goal)?);
         match compile(alloc, &head, &body) {
-            Ok(clause) => text.push_clause(clause)?,
+            Ok(clause) => clauses.push(clause)?,
             Err(_) => Err("a clause")?,
         }
     }
-    Ok(Arc::new(alloc, text)?)
+    Ok(Arc::new(alloc, Text::new(alloc, clauses)?)?)
+}
+
+#[test]
+fn clauses_are_where_the_text_says(rt: HostRuntime) -> Result<(), Fail> {
+    let text = text(&rt, rt.alloc())?;
+    assert_eq!(rt; text.clauses(), 2);
+    assert_eq!(rt; text.get(0), Some(BodyItem::Goal(Place::Atom(1))));
+    assert_eq!(rt; text.get(1), Some(BodyItem::BodyEnd));
+    assert_eq!(rt; text.get(3), None);
+    for (number, head, body) in [(0, 0, 0), (1, 1, 2)] {
+        assert!(rt; (number as usize) < text.clauses());
+        let placed = text.placed(number);
+        assert_eq!(rt; placed.head, Place::Atom(head));
+        assert_eq!(rt; placed.body, body);
+        assert_eq!(rt; placed.vars, 0);
+    }
+    Ok(())
+}
+
+#[test]
+fn items_come_behind_the_bodies(rt: HostRuntime) -> Result<(), Fail> {
+    let mut text = Text::new(rt.alloc(), Vec::new(rt.alloc()))?;
+    text.push_item(BodyItem::CatchEnd)?;
+    text.push_item(BodyItem::BodyEnd)?;
+    assert_eq!(rt; text.get(0), Some(BodyItem::CatchEnd));
+    assert_eq!(rt; text.get(1), Some(BodyItem::BodyEnd));
+    Ok(())
 }
 
 fn push(region: &mut Region, alternatives: Alternatives) -> Result<(), NoMemory>
@@ -137,5 +164,141 @@ fn bindings_are_taken_back(rt: HostRuntime) -> Result<(), Fail> {
         BindingCell::Var(0)
     );
     assert!(rt; region.unify_head(BindingCell::Int(7), BindingCell::Var(1), 1)?);
+    Ok(())
+}
+
+fn try_clause(
+    region: &mut Region,
+    goal: BindingCell,
+    clause: u32,
+) -> Result<Option<Position>, NoMemory>
+    requires clause { clause < length region.old.text.clauses }
+    requires goal { IsValueIn region.old.store goal }
+{
+    let after = region.nothing_left();
+    let cut = region.scope()?;
+    let trial = Trial {
+        goal,
+        clause,
+        after,
+    };
+    region.try_clause(trial, cut)
+}
+
+fn call(
+    region: &mut Region,
+    goal: BindingCell,
+    first: u32,
+    end: u32,
+) -> Result<Option<Position>, NoMemory>
+    requires clauses { end ≤ length region.old.text.clauses }
+    requires goal { IsValueIn region.old.store goal }
+{
+    let after = region.nothing_left();
+    region.call(goal, first, end, after)
+}
+
+/// A region with one variable.
+fn region_of_one(rt: &impl Abort, alloc: Global) -> Result<Region, Fail> {
+    let mut region = Region::new(alloc, text(rt, alloc)?)?;
+    assert_eq!(rt; region.fresh(1)?, 0);
+    Ok(region)
+}
+
+const FIRST_BODY: Position = Position { frame: 1, at: 0 };
+
+const NOTHING: Position = Position { frame: 0, at: 0 };
+
+#[test]
+fn clauses_are_tried(rt: HostRuntime) -> Result<(), Fail> {
+    let mut region = region_of_one(&rt, rt.alloc())?;
+    assert_eq!(rt; region.scope()?, 0);
+    assert!(rt; region.text().clauses() >= 2 && region.store().next() > 0);
+    assert_eq!(rt; try_clause(&mut region, BindingCell::Int(7), 0)?, None);
+    assert!(rt; region.text().clauses() >= 2 && region.store().next() > 0);
+    assert_eq!(rt;
+        try_clause(&mut region, BindingCell::Var(0), 0)?,
+        Some(FIRST_BODY)
+    );
+    assert!(rt; region.text().clauses() >= 2 && region.store().next() > 0);
+    assert_eq!(rt;
+        region.store().dereference(BindingCell::Var(0)),
+        BindingCell::Atom(0)
+    );
+    assert_eq!(rt; try_clause(&mut region, BindingCell::Var(0), 1)?, None);
+    assert_eq!(rt; region.height(), 0);
+    Ok(())
+}
+
+#[test]
+fn clauses_are_left_to_a_choice_point(rt: HostRuntime) -> Result<(), Fail> {
+    let mut region = region_of_one(&rt, rt.alloc())?;
+    assert!(rt; region.text().clauses() >= 2 && region.store().next() > 0);
+    assert_eq!(rt;
+        call(&mut region, BindingCell::Var(0), 0, 2)?,
+        Some(FIRST_BODY)
+    );
+    assert_eq!(rt; region.height(), 1);
+    match region.backtrack()? {
+        Resumed::At(next) => assert_eq!(rt; next, NOTHING),
+        _ => Err("a position")?,
+    }
+    assert!(rt; region.store().next() > 0);
+    assert_eq!(rt;
+        region.store().dereference(BindingCell::Var(0)),
+        BindingCell::Atom(1)
+    );
+    assert_eq!(rt; region.height(), 0);
+    assert!(rt; matches!(region.backtrack()?, Resumed::AllDone));
+    Ok(())
+}
+
+#[test]
+fn calls_that_leave_nothing(rt: HostRuntime) -> Result<(), Fail> {
+    let mut region = region_of_one(&rt, rt.alloc())?;
+    assert!(rt; region.text().clauses() >= 2);
+    assert_eq!(rt; call(&mut region, BindingCell::Int(7), 0, 2)?, None);
+    assert_eq!(rt; region.height(), 0);
+    assert!(rt; region.text().clauses() >= 2 && region.store().next() > 0);
+    assert_eq!(rt; call(&mut region, BindingCell::Var(0), 1, 1)?, None);
+    assert!(rt; region.text().clauses() >= 2 && region.store().next() > 0);
+    assert_eq!(rt;
+        call(&mut region, BindingCell::Var(0), 1, 2)?,
+        Some(NOTHING)
+    );
+    assert_eq!(rt; region.height(), 0);
+    Ok(())
+}
+
+#[test]
+fn what_goes_on_by_kind(rt: HostRuntime) -> Result<(), Fail> {
+    let alloc = rt.alloc();
+    let mut region = Region::new(alloc, text(&rt, alloc)?)?;
+    push(&mut region, Alternatives::QueryEnd)?;
+    let findall = Alternatives::Findall {
+        list: BindingCell::Int(5),
+        results: Results::new(alloc, u64::from(region.store().next())),
+    };
+    push(&mut region, findall)?;
+    let catch = Alternatives::Catch {
+        catcher: BindingCell::Int(1),
+        recovery: BindingCell::Int(2),
+    };
+    push(&mut region, catch)?;
+    push(&mut region, Alternatives::Elsewhere)?;
+    assert!(rt; matches!(region.backtrack()?, Resumed::At(_)));
+    match region.backtrack()? {
+        Resumed::FindallDone {
+            list,
+            results: _,
+            after,
+        } => {
+            assert_eq!(rt; list, BindingCell::Int(5));
+            assert_eq!(rt; after, NOTHING);
+        }
+        _ => Err("a findall")?,
+    }
+    assert!(rt; matches!(region.backtrack()?, Resumed::QueryDone));
+    assert!(rt; matches!(region.backtrack()?, Resumed::AllDone));
     Ok(())
 }

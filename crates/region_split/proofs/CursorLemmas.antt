@@ -9,7 +9,7 @@ use Rattle.run_model.specs.Machine.Items.{Continuation}
 use Rattle.run_model.specs.Machine.Entries.{Entry, solution_entry, solution_entries}
 use Rattle.binding_array.specs.declared.cell.BindingCell.{BindingCell}
 use Rattle.cell_store.specs.StoreView.{Moment, StoreView, taken_back, with_marks}
-use Rattle.region_split.specs.Frames.{items_at}
+use Rattle.region_split.specs.Frames.{items_at, AreCutWithin}
 use Rattle.region_split.specs.ChoicePoints.{RegionSetting, Standing, standing_over, nothing_standing, with_entries_on_top, choice_entries, alternative_entries, continuation_at, meant_at, height_of_cut, AreAlternativesAt, IsChoiceOver, HasNextClause, frames_kept}
 use Rattle.region_split.specs.Regions.{RegionView, region_setting, standing, heights_of, continuation_here, IsConsistentRegion}
 use Rattle.region_split.specs.StackOperations.{TakesClause}
@@ -17,7 +17,6 @@ use Rattle.region_split.specs.declared.choice.Alternatives.{Alternatives}
 use Rattle.region_split.specs.declared.choice.Alternatives.TheVariants.{Clauses}
 use Rattle.region_split.specs.declared.choice.ChoicePoint.{ChoicePoint}
 use Rattle.region_split.specs.declared.choice.Trial.{Trial}
-use Rattle.region_split.proofs.ScopeLemmas.{scoped_more}
 use Rattle.region_split.proofs.StandingLemmas.{standing-append, IsOver, is_over, IsMeasured, measured, own_height, heights_kept, choices-append, kept-append}
 use Rattle.region_split.proofs.RegionLemmas.{nothing_measured, same_entry, pairs, newest, last_kept, lowered_region, lowered_entries}
 
@@ -35,7 +34,7 @@ is_there (x ∷ xs) (suc i) lt =
     let k : suc i + 1 ≡ suc (i + 1) = omega arith in
     record { element = rest.element; is = rest.is; first = rest.first ∙ ap (λ n. rest.element ∷ drop n (x ∷ xs)) (sym k) }
 
-first_of_range : {X : Type 0} (xs : List X) (i end : ℕ) (x : X) → i < end → drop i xs ≡ x ∷ drop (i + 1) xs → slice_range xs i end ≡ x ∷ slice_range xs (i + 1) end
+pub first_of_range : {X : Type 0} (xs : List X) (i end : ℕ) (x : X) → i < end → drop i xs ≡ x ∷ drop (i + 1) xs → slice_range xs i end ≡ x ∷ slice_range xs (i + 1) end
 first_of_range xs i end x lt e = let n : end - i ≡ suc (end - (i + 1)) = omega (arith, lt) in ap (λ k. take k (drop i xs)) n ∙ ap (take (suc (end - (i + 1)))) e
 
 -- the entry of the first clause, and then those of the others
@@ -111,7 +110,7 @@ module _ (r : RegionView) (k : IsConsistentRegion r) (cs : List ChoicePoint) (c 
     is = clause_there.is;
     position = record {
       frame = let o = top.own in let e = last_kept r k cs c ms m m choices marks in let f = k.frames in omega (arith, o, e, f);
-      scoped = scoped_more (length cs) (length moved.choices) m.next (items_at r.text r.frames c.after) (let l = length-append cs (left ∷ []) in omega (arith, l)) top.scoped;
+      scoped = subst (λ n. AreCutWithin n m.next (items_at r.text r.frames c.after)) (sym own_place) top.scoped;
     };
     goal = clauses_there.0;
     entries = λ named.

@@ -6,3 +6,8 @@ pub mod CursorLemmas
 pub mod FindallLemmas
 pub mod LeftLemmas
 pub mod StoreLemmas
+pub mod TextLemmas
+pub mod ClauseLemmas
+pub mod TrialLemmas
+pub mod CallLemmas
+pub mod BacktrackingLemmas

@@ -17,7 +17,7 @@ use Rattle.region_split.specs.declared.frame.Frame.{Frame}
 use Rattle.region_split.specs.declared.frame.Position.{Position}
 use Rattle.region_split.proofs.FrameLemmas.{items_kept, items_pushed, items_taken, frames_over-append, frames_over-take}
 use Rattle.region_split.proofs.ScopeLemmas.{same_heights, scoped_more}
-use Rattle.region_split.proofs.StandingLemmas.{standing-append, IsOver, is_over, IsMeasured, measured, lowest_entries, heights_kept, AreSameTo, same_continuation, standing_same, choices_same, as_many, choices-append, choices_below, choice_on_top, choices-take, kept-take, kept-append, choices_named}
+use Rattle.region_split.proofs.StandingLemmas.{standing-append, IsOver, is_over, IsMeasured, measured, own_height, lowest_entries, heights_kept, AreSameTo, same_continuation, standing_same, choices_same, as_many, choices-append, choices_below, choice_on_top, choices-take, kept-take, kept-append, choices_named}
 
 pub nothing_measured : IsMeasured nothing_standing 0
 nothing_measured = record { before = []; is = refl; long = refl }
@@ -56,6 +56,13 @@ module _ (r : RegionView) (k : IsConsistentRegion r) (f : Frame) (n : ℕ) (kept
     others = refl;
   }
 
+-- a cut to all choice points leaves all entries
+pub whole_height : (r : RegionView) (k : IsConsistentRegion r) (named : List NamedTerm) → height_of_cut (heights_of named r) (length r.choices) ≡ length (entries_of named r)
+whole_height r k named =
+    let s = region_setting named r in
+    let many = as_many (region_setting [] r) 0 0 r.choices r.store.marks k.choices in
+    own_height (standing named r) (standing named r) (length r.choices) (measured s nothing_standing r.choices r.store.marks 0 (length r.choices) many (omega arith) nothing_measured) (is_over s (standing named r) [] [])
+
 -- a choice point on top
 module _ (r : RegionView) (k : IsConsistentRegion r) (c : ChoicePoint) (own : c.after.frame ≤ c.frames) (older : frames_kept 0 r.choices ≤ c.frames) (within : c.frames ≤ length r.frames) (position : IsPositionIn r c.after) (values : AreAlternativesIn r c.alternatives) where
   abbrev topped : RegionView
@@ -85,6 +92,7 @@ module _ (r : RegionView) (k : IsConsistentRegion r) (c : ChoicePoint) (own : c.
     choice = c;
     is = (refl, refl);
     entries = λ named. ap (λ (st : Standing). st.entries) (on_top named);
+    heights = λ named. still named (length r.choices) (omega arith) ∙ whole_height r k named;
     keeps = record {
       position = λ p le i. record { frame = i.frame; scoped = scoped_more (length r.choices) (length (r.choices ++ c ∷ [])) r.store.now.next (items_at r.text r.frames p) (let l = length-append r.choices (c ∷ []) in omega (arith, l)) i.scoped };
       same = λ named p le i. ap PlainEntry (same_entry named r (heights_of named topped) (heights_of named r) (length r.choices) r.store.now.next p (still named) i.scoped);

@@ -4,3 +4,5 @@ pub mod Frames
 pub mod ChoicePoints
 pub mod Regions
 pub mod StackOperations
+pub mod ClauseTrials
+pub mod Backtracking

@@ -38,6 +38,7 @@ pub record AddsChoice (old new : RegionView) (alternatives : Alternatives) (afte
   pub choice : ChoicePoint
   pub is : (choice.alternatives ≡ alternatives) × (choice.after ≡ after)
   pub entries : (named : List NamedTerm) → entries_of named new ≡ entries_on named old choice old.store.now ++ entries_of named old
+  pub heights : (named : List NamedTerm) → height_of_cut (heights_of named new) (length old.choices) ≡ length (entries_of named old)
   pub keeps : KeepsPositions old new (length old.frames)
   pub others : new ≡ record old { store = with_mark old.store; choices = old.choices ++ choice ∷ [] }
 
@@ -75,19 +76,19 @@ pub record DropsNewest (old new : RegionView) (c : ChoicePoint) : Type 0 where
 abbrev pub HasNoClauseOnTop : RegionView → Type 0
 HasNoClauseOnTop r = (cs : List ChoicePoint) (c : ChoicePoint) → r.choices ≡ cs ++ c ∷ [] → HaveNoClause c.alternatives
 
--- the entry of a clause that is tried with the newest choice point's own height
-abbrev pub trial_entries : List NamedTerm → RegionView → Trial → Clause → List Entry
-trial_entries named r t clause =
-    solution_entry (height_of_cut (heights_of named r) (length r.choices - 1)) (continuation_here named r t.after) (clause_solution (meaning r.store t.goal) r.store.now.next clause)
+-- the entry of a clause that is tried, in whose body a cut leaves so many choice points
+abbrev pub trial_entries : List NamedTerm → RegionView → Trial → ℕ → Clause → List Entry
+trial_entries named r t cut clause =
+    solution_entry (height_of_cut (heights_of named r) cut) (continuation_here named r t.after) (clause_solution (meaning r.store t.goal) r.store.now.next clause)
 
 -- the first clause that was left was taken off the newest choice point, at the store of the time when it came: the entry of
 -- that clause, if its head unifies, was the first
 pub record TakesClause (old new : RegionView) (t : Trial) : Type 0 where
   pub clause : Clause
   pub is : slice_get old.text.clauses t.clause ≡ Some clause
-  pub position : IsPositionIn new t.after
+  pub position : IsPositionOver new (length new.choices - 1) t.after
   pub goal : IsValueIn new.store t.goal
-  pub entries : (named : List NamedTerm) → entries_of named old ≡ trial_entries named new t clause ++ entries_of named new
+  pub entries : (named : List NamedTerm) → entries_of named old ≡ trial_entries named new t (length new.choices - 1) clause ++ entries_of named new
   pub older : List Moment
   pub marked : old.store.marks ≡ older ++ new.store.now ∷ []
   pub store : new.store ≡ record old.store { now = new.store.now }

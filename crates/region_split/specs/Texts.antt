@@ -1,11 +1,49 @@
 -- A program's text.
-use Rattle.std.specs.Prelude.{List}
-use Rattle.run_model.specs.Programs.Clauses.{Clause}
-use Rattle.clause_compile.specs.Places.{CodeView}
+use Rattle.std.specs.Prelude.{◌≡◌, ◌≤◌, List, [], ◌∷◌, ◌++◌, map, drop}
+use Rattle.au_model.specs.Terms.Each.{Each}
+use Rattle.run_model.specs.Programs.Bodies.{clause_goals_of}
+use Rattle.run_model.specs.Programs.Clauses.{Clause, clause_variables}
+use Rattle.clause_compile.specs.ClauseInvariant.{numbers_from}
+use Rattle.clause_compile.specs.CompiledClauses.{clause_bound}
+use Rattle.clause_compile.specs.Places.{CodeView, Keeps, IsPlaceOf, meaning_in}
+use Rattle.clause_compile.specs.declared.place.Place.{Place}
 use Rattle.region_split.specs.declared.text.BodyItem.{BodyItem}
+use Rattle.region_split.specs.declared.text.BodyItem.TheVariants.{Goal, BodyEnd}
+use Rattle.region_split.specs.declared.text.PlacedClause.{PlacedClause}
 
 -- its places, its bodies one after another, and its clauses
 pub record TextView : Type 0 where
   pub code : CodeView
   pub bodies : List BodyItem
   pub clauses : List Clause
+
+-- a body of these goals
+abbrev pub body_items : List Place → List BodyItem
+body_items goals = map Goal goals ++ BodyEnd ∷ []
+
+-- where a clause is: a place means its head, places of the goals of its body stand one after another, and its variables are
+-- numbered from 0
+pub record IsPlacedClause (code : CodeView) (bodies : List BodyItem) (c : Clause) (p : PlacedClause) : Type 0 where
+  pub head_there : IsPlaceOf code p.head
+  pub head : meaning_in code p.head ≡ c.head
+  pub goals : List Place
+  pub following : List BodyItem
+  pub body : drop p.body bodies ≡ body_items goals ++ following
+  pub goals_there : Each (IsPlaceOf code) goals
+  pub mean : map (meaning_in code) goals ≡ clause_goals_of c.body
+  pub numbered : clause_variables c ≡ numbers_from 0 p.vars
+  pub below : clause_bound c ≤ p.vars
+
+-- each clause is where it is said to be
+abbrev pub ArePlacedClauses : CodeView → List BodyItem → List Clause → List PlacedClause → Type 0
+ArePlacedClauses code bodies [] [] = Unit {0}
+ArePlacedClauses code bodies [] (p ∷ ps) = ⊥
+ArePlacedClauses code bodies (c ∷ cs) [] = ⊥
+ArePlacedClauses code bodies (c ∷ cs) (p ∷ ps) = IsPlacedClause code bodies c p × ArePlacedClauses code bodies cs ps
+
+-- a clause was added to places and bodies
+pub record AddsClause (old new : CodeView) (before after : List BodyItem) (c : Clause) (p : PlacedClause) : Type 0 where
+  pub keeps : Keeps old new
+  pub more : List BodyItem
+  pub bodies : after ≡ before ++ more
+  pub placed : IsPlacedClause new after c p

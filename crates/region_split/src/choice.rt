@@ -49,6 +49,23 @@ pub struct Trial {
     pub after: Position,
 }
 
+/// What goes on where a branch has ended.
+#[derive(Drop)]
+pub enum Resumed {
+    /// What is left to do at a position.
+    At(Position),
+    /// A findall's goal has no solution left: the list is unified with the results, and what follows is at the position.
+    FindallDone {
+        list: BindingCell,
+        results: Results,
+        after: Position,
+    },
+    /// A query has ended.
+    QueryDone,
+    /// No choice point is left.
+    AllDone,
+}
+
 impl Alternatives {
     /// The goal and the first clause that is still to be tried for it, which is left out from then on.
     pub(crate) fn next_clause(&mut self) -> Option<(BindingCell, u32)>

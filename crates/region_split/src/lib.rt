@@ -8,14 +8,16 @@
 //! the choice point, and for dropping choice points, which takes as many as are dropped.
 #![tactic(auto)]
 
+mod backtrack;
+mod call;
 mod choice;
 mod frame;
 mod region;
 mod results;
 mod text;
 
-pub use choice::{Alternatives, ChoicePoint, Trial};
+pub use choice::{Alternatives, ChoicePoint, Resumed, Trial};
 pub use frame::{Frame, Left, Position};
 pub use region::Region;
 pub use results::Results;
-pub use text::{BodyItem, Text};
+pub use text::{BodyItem, PlacedClause, Text};

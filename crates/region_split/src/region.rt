@@ -1,12 +1,13 @@
 //! The region.
-ghost use Rattle.std.specs.Prelude.{◌≡◌, ◌<◌, ◌≤◌, IfOk, OnOk, OnErr, MatchOption, IsTrue, ◌↔◌, [], length};
+ghost use Rattle.std.specs.Prelude.{◌≡◌, ◌<◌, ◌≤◌, IfOk, OnOk, OnErr, MatchOption, IsTrue, ◌↔◌, List, [], length};
 ghost use Rattle.std.specs.Arc.{arc_value};
 ghost use Rattle.au_term.specs.Term.{var_bound};
 ghost use Rattle.cell_store.specs.StoreView.{IsValueIn, meaning, with_numbers};
 ghost use Rattle.cell_store.specs.UnificationSteps.{IsUnified, OnlyBinds};
 ghost use Rattle.region_split.specs.Frames.{items_at, IsLeftAt};
-ghost use Rattle.region_split.specs.ChoicePoints.{frames_kept};
-ghost use Rattle.region_split.specs.Regions.{IsPositionIn, AreAlternativesIn};
+ghost use Rattle.au_model.specs.Terms.Named.{NamedTerm};
+ghost use Rattle.region_split.specs.ChoicePoints.{frames_kept, height_of_cut};
+ghost use Rattle.region_split.specs.Regions.{entries_of, heights_of, IsPositionIn, AreAlternativesIn};
 ghost use Rattle.region_split.specs.StackOperations.{new_region, AddsFrame, AddsChoice, CutsTo, TakesNewest, DropsNewest, HasNoClauseOnTop, TakesClause, HasFindallAt, AddsResult, StaysStanding};
 
 use crate::choice::{Alternatives, ChoicePoint, Trial};
@@ -87,6 +88,17 @@ impl Region {
         ensures { result ≡ length self.now.choices }
     {
         self.choices.len()
+    }
+
+    /// How many choice points a cut in what is called now leaves: all.
+    pub fn scope(&self) -> Result<u32, NoMemory>
+        ensures count { IfOk result (λ cut. cut ≡ length self.now.choices) }
+        ensures height { IfOk result (λ cut. (named : List NamedTerm) → height_of_cut (heights_of named self.now) cut ≡ length (entries_of named self.now)) }
+    {
+        match u32::try_from(self.choices.len()) {
+            Ok(count) => Ok(count),
+            Err(_) => Err(NoMemory),
+        }
     }
 
     /// The position at which nothing is left to do.

@@ -1,0 +1,54 @@
+-- Clauses that are tried for goals (ISO/IEC 13211-1, 7.7.10).
+use Rattle.std.specs.Prelude.{◌≡◌, ℕ, ◌+◌, List, [], ◌∷◌, ◌++◌, length, Option, Some, None, slice_get}
+use Rattle.std.specs.List.{slice_range}
+use Rattle.au_model.specs.Terms.Named.{NamedTerm}
+use Rattle.run_model.specs.Programs.Clauses.{Clause}
+use Rattle.run_model.specs.Goals.Outcomes.{Solutions, alternatives_of}
+use Rattle.run_model.specs.Machine.Entries.{Entry}
+use Rattle.run_model.specs.Machine.Heights.{after_reply}
+use Rattle.binding_array.specs.declared.cell.BindingCell.{BindingCell}
+use Rattle.cell_store.specs.StoreView.{meaning}
+use Rattle.region_split.specs.Regions.{RegionView, standing, entries_of, continuation_here, position_entry, IsPositionOver}
+use Rattle.region_split.specs.StackOperations.{trial_entries}
+use Rattle.region_split.specs.declared.choice.Trial.{Trial}
+use Rattle.region_split.specs.declared.frame.Position.{Position}
+
+-- what goes on at a position, if there is one
+abbrev pub entries_at : List NamedTerm → RegionView → Option Position → List Entry
+entries_at named r None = []
+entries_at named r (Some p) = position_entry named r p ∷ []
+
+abbrev pub IsOptionalPosition : RegionView → ℕ → Option Position → Type 0
+IsOptionalPosition r cut None = Unit {0}
+IsOptionalPosition r cut (Some p) = IsPositionOver r cut p
+
+-- a clause was tried, in whose body a cut leaves so many choice points: where its head unifies, what goes on is its entry,
+-- and where it doesn't, there is none
+pub record TriesClause (old new : RegionView) (t : Trial) (cut : ℕ) (reached : Option Position) : Type 0 where
+  pub clause : Clause
+  pub is : slice_get old.text.clauses t.clause ≡ Some clause
+  pub entries : (named : List NamedTerm) → trial_entries named old t cut clause ≡ entries_at named new reached
+  pub position : IsOptionalPosition new cut reached
+  pub frames : reached ≡ None → new.frames ≡ old.frames
+
+-- the choice points are there, and stand for what they stood for
+pub record KeepsChoices (old new : RegionView) : Type 0 where
+  pub stands : (named : List NamedTerm) → standing named new ≡ standing named old
+  pub others : new ≡ record old { store = record old.store { now = new.store.now }; frames = new.frames }
+
+-- what takes the place of a goal for which clauses are tried, by their numbers, before what follows at a position
+abbrev pub called_entries : List NamedTerm → RegionView → BindingCell → ℕ → ℕ → Position → List Entry
+called_entries named r goal first end after =
+    after_reply (Solutions (alternatives_of (slice_range r.text.clauses first end) (meaning r.store goal) r.store.now.next)) (continuation_here named r after) (entries_of named r)
+
+-- a goal was called: what goes on, over what the choice points stand for, is what takes its place
+pub record Calls (old new : RegionView) (goal : BindingCell) (first end : ℕ) (after : Position) (reached : Option Position) : Type 0 where
+  pub entries : (named : List NamedTerm) → called_entries named old goal first end after ≡ entries_at named new reached ++ entries_of named new
+  pub position : IsOptionalPosition new (length new.choices) reached
+  pub many : reached ≡ None → length new.choices ≡ length old.choices
+  pub text : new.text ≡ old.text
+
+-- the first of some clauses was tried before the others: it goes on over these, or it has no entry
+abbrev pub TriesFirst : RegionView → RegionView → Trial → ℕ → Option Position → Type 0
+TriesFirst old new t end None = (new ≡ old) × ((named : List NamedTerm) → called_entries named old t.goal t.clause end t.after ≡ called_entries named old t.goal (t.clause + 1) end t.after)
+TriesFirst old new t end (Some p) = Calls old new t.goal t.clause end t.after (Some p)

@@ -1,0 +1,52 @@
+//! Backtracking.
+ghost use Rattle.std.specs.Prelude.{◌<◌, IfOk, length};
+ghost use Rattle.region_split.specs.Backtracking.{Resumes, TakesFreeSteps, TakesNext};
+
+use crate::choice::{Alternatives, ChoicePoint, Resumed};
+use crate::region::Region;
+use au_term::NoMemory;
+
+impl Region {
+    /// What goes on where a branch has ended: the first thing that a choice point has left, the newest first. What was bound
+    /// and made since that choice point came is undone.
+    pub fn backtrack(&mut self) -> Result<Resumed, NoMemory>
+        ensures resumes { IfOk result (Resumes self.old self.new) }
+        ensures steps { IfOk result (TakesFreeSteps self.old self.new) }
+    {
+        while self.height() > 0 {
+            match self.take_next()? {
+                Some(next) => return Ok(next),
+                None => {}
+            }
+        }
+        Ok(Resumed::AllDone)
+    }
+
+    /// Takes the newest choice point off, and gives what goes on there, if anything does.
+    fn take_next(&mut self) -> Result<Option<Resumed>, NoMemory>
+        requires { 0 < length self.old.choices }
+        ensures { IfOk result (TakesNext self.old self.new) }
+    {
+        let ChoicePoint {
+            alternatives,
+            after,
+            frames: _,
+        } = self.take_newest();
+        match alternatives {
+            Alternatives::Clauses { goal, first, end } => match self.call(
+                goal, first, end, after,
+            )? {
+                Some(position) => Ok(Some(Resumed::At(position))),
+                None => Ok(None),
+            },
+            Alternatives::Elsewhere => Ok(Some(Resumed::At(after))),
+            Alternatives::Catch { .. } => Ok(None),
+            Alternatives::Findall { list, results } => Ok(Some(Resumed::FindallDone {
+                list,
+                results,
+                after,
+            })),
+            Alternatives::QueryEnd => Ok(Some(Resumed::QueryDone)),
+        }
+    }
+}
