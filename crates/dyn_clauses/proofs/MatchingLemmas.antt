@@ -20,9 +20,9 @@ use Rattle.proc_index.specs.declared.key.Key.TheVariants.{Any, Int, Atom, Functo
 use Rattle.proc_index.specs.Keys.{head_key, is_any, may_match, same_key}
 use Rattle.proc_index.specs.ProcedureIndex.{key_cmp}
 use Rattle.proc_index.proofs.KeyLemmas.{all_match, key_tied, match_by_key}
-use Rattle.dyn_clauses.specs.declared.procedure.Kept.{Kept}
+use Rattle.dyn_clauses.specs.declared.procedure.KeyedClause.{KeyedClause}
 use Rattle.dyn_clauses.specs.PositionIndex.{Index, Placed, entry_at, is_in, is_noted, matching_clauses, picked}
-use Rattle.dyn_clauses.specs.KeptClauses.{IsProcedure, clause_kept, is_keyed, placed_clause, placed_entry}
+use Rattle.dyn_clauses.specs.KeyedClauses.{IsProcedure, clause_of_keyed, is_keyed, placed_clause, placed_entry}
 use Rattle.dyn_clauses.proofs.EntryLemmas.{all_found, lookup_mapped}
 use Rattle.dyn_clauses.proofs.ProcedureLemmas.{keys_placed, sorted_placed}
 
@@ -110,17 +110,17 @@ keyed_matches (Int z) key a = key_tied (Int z) key refl
 keyed_matches (Atom n) key a = key_tied (Atom n) key refl
 keyed_matches (Functor f n) key a = key_tied (Functor f n) key refl
 
-module _ (m : BTreeMap ℕ Kept) (i : Index) (key : Key) (h : IsProcedure m i) (a : is_any key ≡ false) where
+module _ (m : BTreeMap ℕ KeyedClause) (i : Index) (key : Key) (h : IsProcedure m i) (a : is_any key ≡ false) where
   may : ClauseTerms → Bool
   may c = may_match key c.head
 
-  by_kept : (o : Option Kept) → ((kept : Kept) → Some kept ≡ o → kept.key ≡ head_key (clause_kept kept).head) → (is_keyed o Any || is_keyed o key) ≡ passes may (option_map clause_kept o)
+  by_kept : (o : Option KeyedClause) → ((kept : KeyedClause) → Some kept ≡ o → kept.key ≡ head_key (clause_of_keyed kept).head) → (is_keyed o Any || is_keyed o key) ≡ passes may (option_map clause_of_keyed o)
   unfolding may
   by_kept None f = refl
   by_kept (Some kept) f =
-      keyed_matches kept.key key a ∙ (ap (λ k. is_any k || same_key key k) (f kept refl) ∙ (sym (match_by_key key (clause_kept kept).head a) ∙ filtered (may_match key (clause_kept kept).head)))
+      keyed_matches kept.key key a ∙ (ap (λ k. is_any k || same_key key k) (f kept refl) ∙ (sym (match_by_key key (clause_of_keyed kept).head a) ∙ filtered (may_match key (clause_of_keyed kept).head)))
     where
-      filtered : (b : Bool) → b ≡ is_some (cond b (Some (clause_kept kept)) None)
+      filtered : (b : Bool) → b ≡ is_some (cond b (Some (clause_of_keyed kept)) None)
       filtered true = refl
       filtered false = refl
 
@@ -129,7 +129,7 @@ module _ (m : BTreeMap ℕ Kept) (i : Index) (key : Key) (h : IsProcedure m i) (
   picked_matching ps s noted =
       picked_passing may (placed_clause m) ps (sorted_placed m h.ordered) s (λ q.
       noted q ∙ (ap₂ (λ x y. x || y) (h.indexed Any q) (h.indexed key q)
-      ∙ (by_kept (get nat_cmp m q) (λ kept e. all_found (λ k. k.key ≡ head_key (clause_kept k).head) (at q) m.entries kept h.keyed e) ∙ ap (passes may) (sym (lookup_mapped clause_kept (at q) m.entries)))))
+      ∙ (by_kept (get nat_cmp m q) (λ kept e. all_found (λ k. k.key ≡ head_key (clause_of_keyed k).head) (at q) m.entries kept h.keyed e) ∙ ap (passes may) (sym (lookup_mapped clause_of_keyed (at q) m.entries)))))
 
 -- ---- a copy
 
@@ -149,15 +149,15 @@ unfolding IsStrictlySortedBy
 sorted_front [] ys q s = tt
 sorted_front (x ∷ xs) ys q s = ((all_after (λ k. nat_cmp x k ≡ Less) xs (q ∷ ys) s.0).0, sorted_front xs ys q s.1)
 
-keys_append : (xs ys : List (ℕ × Kept)) → keys_of (xs ++ ys) ≡ keys_of xs ++ keys_of ys
+keys_append : (xs ys : List (ℕ × KeyedClause)) → keys_of (xs ++ ys) ≡ keys_of xs ++ keys_of ys
 keys_append [] ys = refl
 keys_append (x ∷ xs) ys = ap (λ ks. x.0 ∷ ks) (keys_append xs ys)
 
 -- the entries so far are below the next one
-pub below_next : (m : BTreeMap ℕ Kept) (done rest : List (ℕ × Kept)) (q : ℕ) (kept : Kept) → IsStrictlySortedBy nat_cmp (keys_of m.entries) → m.entries ≡ done ++ (q, kept) ∷ rest → AllByRecursion (λ k. nat_cmp k q ≡ Less) (keys_of (map placed_entry done))
+pub below_next : (m : BTreeMap ℕ KeyedClause) (done rest : List (ℕ × KeyedClause)) (q : ℕ) (kept : KeyedClause) → IsStrictlySortedBy nat_cmp (keys_of m.entries) → m.entries ≡ done ++ (q, kept) ∷ rest → AllByRecursion (λ k. nat_cmp k q ≡ Less) (keys_of (map placed_entry done))
 below_next m done rest q kept s e =
     subst (AllByRecursion (λ k. nat_cmp k q ≡ Less)) (sym (keys_placed done))
-    (sorted_front (keys_of done) (keys_of rest) q (subst (IsStrictlySortedBy nat_cmp) (keys_append done ((q, kept) ∷ rest)) (subst (λ (es : List (ℕ × Kept)). IsStrictlySortedBy nat_cmp (keys_of es)) e s)))
+    (sorted_front (keys_of done) (keys_of rest) q (subst (IsStrictlySortedBy nat_cmp) (keys_append done ((q, kept) ∷ rest)) (subst (λ (es : List (ℕ × KeyedClause)). IsStrictlySortedBy nat_cmp (keys_of es)) e s)))
 
 -- the positions that were found under a key, or none
 pub positions_found : (o : Option (Bor (BTreeSet ℕ))) (none r : Bor (BTreeSet ℕ)) (p : Option (BTreeSet ℕ)) → r ≡ unwrap_or o none → none.now.keys ≡ [] → option_copied o ≡ p → (q : ℕ) → contains nat_cmp r.now q ≡ is_in p q

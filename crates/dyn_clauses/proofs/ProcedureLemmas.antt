@@ -14,29 +14,29 @@ use Rattle.au_term.proofs.LogicLemmas.{same_number}
 use Rattle.proc_index.specs.declared.key.Key.{Key}
 use Rattle.proc_index.specs.Keys.{head_key}
 use Rattle.proc_index.specs.ProcedureIndex.{key_cmp}
-use Rattle.dyn_clauses.specs.declared.procedure.Kept.{Kept}
+use Rattle.dyn_clauses.specs.declared.procedure.KeyedClause.{KeyedClause}
 use Rattle.dyn_clauses.specs.PositionIndex.{Index, Placed, entry_at, is_noted, is_place, numbered_clauses, numbered_entry, picked, without_position}
-use Rattle.dyn_clauses.specs.KeptClauses.{IsProcedure, clause_kept, is_keyed, numbered_kept, placed_clause, placed_entry}
+use Rattle.dyn_clauses.specs.KeyedClauses.{IsProcedure, clause_of_keyed, is_keyed, numbered_keyed, placed_clause, placed_entry}
 use Rattle.dyn_clauses.proofs.EntryLemmas.{lookup_mapped, insert_mapped, remove_mapped, all_inserted, all_removed, none_mapped, some_mapped}
 
-abbrev Kepts : Type 0
-Kepts = BTreeMap ℕ Kept
+abbrev KeyedClauses : Type 0
+KeyedClauses = BTreeMap ℕ KeyedClause
 
-abbrev RightKey : Kept → Type 0
-RightKey kept = kept.key ≡ head_key (clause_kept kept).head
+abbrev RightKey : KeyedClause → Type 0
+RightKey kept = kept.key ≡ head_key (clause_of_keyed kept).head
 
 pub at_same : (p q : ℕ) → is_at (nat_cmp p) q ≡ true → p ≡ q
 at_same p q e = same_number p q (unsigned_ties p q ∙ e)
 
-pub absent_is : (m : Kepts) (q : ℕ) → lookup (is_at (nat_cmp q)) (placed_clause m) ≡ None → get nat_cmp m q ≡ None
-absent_is m q e = none_mapped clause_kept (get nat_cmp m q) (sym (lookup_mapped clause_kept (is_at (nat_cmp q)) m.entries) ∙ e)
+pub absent_is : (m : KeyedClauses) (q : ℕ) → lookup (is_at (nat_cmp q)) (placed_clause m) ≡ None → get nat_cmp m q ≡ None
+absent_is m q e = none_mapped clause_of_keyed (get nat_cmp m q) (sym (lookup_mapped clause_of_keyed (is_at (nat_cmp q)) m.entries) ∙ e)
 
-module _ (m n : Kepts) (i j : Index) (q : ℕ) (key : Key) (h : IsProcedure m i) where
-  pub put_is : (kept : Kept) → kept.key ≡ key → RightKey kept → get nat_cmp m q ≡ None → n.entries ≡ insert_entry nat_cmp m.entries q kept → ((p : ℕ) → get nat_cmp n p ≡ cond (is_at (nat_cmp q) p) (Some kept) (get nat_cmp m p))
+module _ (m n : KeyedClauses) (i j : Index) (q : ℕ) (key : Key) (h : IsProcedure m i) where
+  pub put_is : (kept : KeyedClause) → kept.key ≡ key → RightKey kept → get nat_cmp m q ≡ None → n.entries ≡ insert_entry nat_cmp m.entries q kept → ((p : ℕ) → get nat_cmp n p ≡ cond (is_at (nat_cmp q) p) (Some kept) (get nat_cmp m p))
       → IsOrdered nat_cmp n → ((k : Key) (p : ℕ) → is_noted j k p ≡ cond (is_place key q k p) true (is_noted i k p)) → IsProcedure n j
   put_is kept own right none entries updates ordered noted = record {
     ordered = ordered;
-    keyed = subst (AllByRecursion (λ (e : ℕ × Kept). RightKey e.1)) (sym entries) (all_inserted RightKey nat_cmp m.entries q kept h.keyed right);
+    keyed = subst (AllByRecursion (λ (e : ℕ × KeyedClause). RightKey e.1)) (sym entries) (all_inserted RightKey nat_cmp m.entries q kept h.keyed right);
     indexed = λ k p. noted k p ∙ (go k p (is_at (nat_cmp q) p) (is_at (key_cmp key) k) refl refl ∙ sym (ap (λ o. is_keyed o k) (updates p)));
   }
     where
@@ -46,11 +46,11 @@ module _ (m n : Kepts) (i j : Index) (q : ℕ) (key : Key) (h : IsProcedure m i)
       go k p false true e f = h.indexed k p
       go k p false false e f = h.indexed k p
 
-  pub take_is : (kept : Kept) → kept.key ≡ key → get nat_cmp m q ≡ Some kept → n.entries ≡ remove_entry (is_at (nat_cmp q)) m.entries → ((p : ℕ) → get nat_cmp n p ≡ cond (is_at (nat_cmp q) p) None (get nat_cmp m p))
+  pub take_is : (kept : KeyedClause) → kept.key ≡ key → get nat_cmp m q ≡ Some kept → n.entries ≡ remove_entry (is_at (nat_cmp q)) m.entries → ((p : ℕ) → get nat_cmp n p ≡ cond (is_at (nat_cmp q) p) None (get nat_cmp m p))
       → IsOrdered nat_cmp n → ((k : Key) (p : ℕ) → is_noted j k p ≡ cond (is_place key q k p) false (is_noted i k p)) → IsProcedure n j
   take_is kept own there entries updates ordered noted = record {
     ordered = ordered;
-    keyed = subst (AllByRecursion (λ (e : ℕ × Kept). RightKey e.1)) (sym entries) (all_removed RightKey (is_at (nat_cmp q)) m.entries h.keyed);
+    keyed = subst (AllByRecursion (λ (e : ℕ × KeyedClause). RightKey e.1)) (sym entries) (all_removed RightKey (is_at (nat_cmp q)) m.entries h.keyed);
     indexed = λ k p. noted k p ∙ (go k p (is_at (nat_cmp q) p) (is_at (key_cmp key) k) refl refl ∙ sym (ap (λ o. is_keyed o k) (updates p)));
   }
     where
@@ -71,15 +71,15 @@ module _ (m n : Kepts) (i j : Index) (q : ℕ) (key : Key) (h : IsProcedure m i)
       go false b e f = f
 
 -- the same clauses and notes
-pub procedure_kept : (m n : Kepts) (i j : Index) → IsProcedure m i → n.entries ≡ m.entries → ((k : Key) (p : ℕ) → is_noted j k p ≡ is_noted i k p) → IsProcedure n j
+pub procedure_kept : (m n : KeyedClauses) (i j : Index) → IsProcedure m i → n.entries ≡ m.entries → ((k : Key) (p : ℕ) → is_noted j k p ≡ is_noted i k p) → IsProcedure n j
 procedure_kept m n i j h same noted = record {
-  ordered = subst (λ (es : List (ℕ × Kept)). IsStrictlySortedBy nat_cmp (keys_of es)) (sym same) h.ordered;
-  keyed = subst (AllByRecursion (λ (e : ℕ × Kept). RightKey e.1)) (sym same) h.keyed;
-  indexed = λ k p. noted k p ∙ (h.indexed k p ∙ ap (λ (es : List (ℕ × Kept)). is_keyed (lookup (is_at (nat_cmp p)) es) k) (sym same));
+  ordered = subst (λ (es : List (ℕ × KeyedClause)). IsStrictlySortedBy nat_cmp (keys_of es)) (sym same) h.ordered;
+  keyed = subst (AllByRecursion (λ (e : ℕ × KeyedClause). RightKey e.1)) (sym same) h.keyed;
+  indexed = λ k p. noted k p ∙ (h.indexed k p ∙ ap (λ (es : List (ℕ × KeyedClause)). is_keyed (lookup (is_at (nat_cmp p)) es) k) (sym same));
 }
 
-pub put_placed : (m n : Kepts) (q : ℕ) (kept : Kept) → n.entries ≡ insert_entry nat_cmp m.entries q kept → placed_clause n ≡ insert_entry nat_cmp (placed_clause m) q (clause_kept kept)
-put_placed m n q kept e = ap (map placed_entry) e ∙ insert_mapped clause_kept nat_cmp m.entries q kept
+pub put_placed : (m n : KeyedClauses) (q : ℕ) (kept : KeyedClause) → n.entries ≡ insert_entry nat_cmp m.entries q kept → placed_clause n ≡ insert_entry nat_cmp (placed_clause m) q (clause_of_keyed kept)
+put_placed m n q kept e = ap (map placed_entry) e ∙ insert_mapped clause_of_keyed nat_cmp m.entries q kept
 
 none_at : (q : ℕ) (es : Placed) → AllByRecursion (λ k. nat_cmp q k ≡ Less) (keys_of es) → without_position q es ≡ es
 none_at q [] h = refl
@@ -95,29 +95,29 @@ removed_is q (e ∷ es) s = go (is_at (nat_cmp q) e.0) refl (removed_is q es s.1
     go true h k = sym (none_at q es (subst (λ p. AllByRecursion (λ k. nat_cmp p k ≡ Less) (keys_of es)) (sym (at_same q e.0 h)) s.0))
     go false h k = ap (λ (ds : Placed). e ∷ ds) k
 
-pub keys_placed : (es : List (ℕ × Kept)) → keys_of (map placed_entry es) ≡ keys_of es
+pub keys_placed : (es : List (ℕ × KeyedClause)) → keys_of (map placed_entry es) ≡ keys_of es
 keys_placed [] = refl
 keys_placed (e ∷ es) = ap (λ ks. e.0 ∷ ks) (keys_placed es)
 
-pub sorted_placed : (m : Kepts) → IsStrictlySortedBy nat_cmp (keys_of m.entries) → IsStrictlySortedBy nat_cmp (keys_of (placed_clause m))
+pub sorted_placed : (m : KeyedClauses) → IsStrictlySortedBy nat_cmp (keys_of m.entries) → IsStrictlySortedBy nat_cmp (keys_of (placed_clause m))
 sorted_placed m s = subst (IsStrictlySortedBy nat_cmp) (sym (keys_placed m.entries)) s
 
-pub take_placed : (m n : Kepts) (q : ℕ) → IsOrdered nat_cmp m → n.entries ≡ remove_entry (is_at (nat_cmp q)) m.entries → placed_clause n ≡ without_position q (placed_clause m)
-take_placed m n q s e = ap (map placed_entry) e ∙ (remove_mapped clause_kept (is_at (nat_cmp q)) m.entries ∙ removed_is q (placed_clause m) (sorted_placed m s))
+pub take_placed : (m n : KeyedClauses) (q : ℕ) → IsOrdered nat_cmp m → n.entries ≡ remove_entry (is_at (nat_cmp q)) m.entries → placed_clause n ≡ without_position q (placed_clause m)
+take_placed m n q s e = ap (map placed_entry) e ∙ (remove_mapped clause_of_keyed (is_at (nat_cmp q)) m.entries ∙ removed_is q (placed_clause m) (sorted_placed m s))
 
-pub found_placed : (m : Kepts) (q : ℕ) → is_some (lookup (is_at (nat_cmp q)) (placed_clause m)) ≡ is_some (get nat_cmp m q)
-found_placed m q = ap is_some (lookup_mapped clause_kept (is_at (nat_cmp q)) m.entries) ∙ some_mapped clause_kept (get nat_cmp m q)
+pub found_placed : (m : KeyedClauses) (q : ℕ) → is_some (lookup (is_at (nat_cmp q)) (placed_clause m)) ≡ is_some (get nat_cmp m q)
+found_placed m q = ap is_some (lookup_mapped clause_of_keyed (is_at (nat_cmp q)) m.entries) ∙ some_mapped clause_of_keyed (get nat_cmp m q)
 
 -- ---- clauses one after another
 
-pub numbered_push : (ys : List (Bor ℕ × Bor Kept)) (p : Bor ℕ) (kept : Bor Kept)
-    → numbered_clauses (map placed_entry (map deref_pair (ys ++ (p, kept) ∷ []))) ≡ numbered_clauses (map placed_entry (map deref_pair ys)) ++ numbered_kept p.now kept.now ∷ []
+pub numbered_push : (ys : List (Bor ℕ × Bor KeyedClause)) (p : Bor ℕ) (kept : Bor KeyedClause)
+    → numbered_clauses (map placed_entry (map deref_pair (ys ++ (p, kept) ∷ []))) ≡ numbered_clauses (map placed_entry (map deref_pair ys)) ++ numbered_keyed p.now kept.now ∷ []
 numbered_push [] p kept = refl
-numbered_push (y ∷ ys) p kept = ap (λ cs. numbered_kept y.0.now y.1.now ∷ cs) (numbered_push ys p kept)
+numbered_push (y ∷ ys) p kept = ap (λ cs. numbered_keyed y.0.now y.1.now ∷ cs) (numbered_push ys p kept)
 
-pub placed_push : (ys : List (Bor ℕ × Bor Kept)) (p : Bor ℕ) (kept : Bor Kept) → map placed_entry (map deref_pair (ys ++ (p, kept) ∷ [])) ≡ map placed_entry (map deref_pair ys) ++ (p.now, clause_kept kept.now) ∷ []
+pub placed_push : (ys : List (Bor ℕ × Bor KeyedClause)) (p : Bor ℕ) (kept : Bor KeyedClause) → map placed_entry (map deref_pair (ys ++ (p, kept) ∷ [])) ≡ map placed_entry (map deref_pair ys) ++ (p.now, clause_of_keyed kept.now) ∷ []
 placed_push [] p kept = refl
-placed_push (y ∷ ys) p kept = ap (λ (es : Placed). (y.0.now, clause_kept y.1.now) ∷ es) (placed_push ys p kept)
+placed_push (y ∷ ys) p kept = ap (λ (es : Placed). (y.0.now, clause_of_keyed y.1.now) ∷ es) (placed_push ys p kept)
 
 numbered_append : (xs ys : Placed) → numbered_clauses (xs ++ ys) ≡ numbered_clauses xs ++ numbered_clauses ys
 numbered_append [] ys = refl
@@ -136,8 +136,8 @@ picked_push ys p es =
     ap (λ ps. numbered_clauses (picked ps es)) (deref_push ys p)
     ∙ (ap numbered_clauses (picked_append (map deref ys) (p.now ∷ []) es) ∙ numbered_append (picked (map deref ys) es) (picked (p.now ∷ []) es))
 
-pub picked_one : (m : Kepts) (q : ℕ) (kept : Kept) → Some kept ≡ get nat_cmp m q → picked (q ∷ []) (placed_clause m) ≡ (q, clause_kept kept) ∷ []
-picked_one m q kept e = ap (λ o. entry_at q o ++ []) (lookup_mapped clause_kept (is_at (nat_cmp q)) m.entries ∙ ap (option_map clause_kept) (sym e))
+pub picked_one : (m : KeyedClauses) (q : ℕ) (kept : KeyedClause) → Some kept ≡ get nat_cmp m q → picked (q ∷ []) (placed_clause m) ≡ (q, clause_of_keyed kept) ∷ []
+picked_one m q kept e = ap (λ o. entry_at q o ++ []) (lookup_mapped clause_of_keyed (is_at (nat_cmp q)) m.entries ∙ ap (option_map clause_of_keyed) (sym e))
 
-pub picked_none : (m : Kepts) (q : ℕ) → None ≡ get nat_cmp m q → picked (q ∷ []) (placed_clause m) ≡ []
-picked_none m q e = ap (λ o. entry_at q o ++ []) (lookup_mapped clause_kept (is_at (nat_cmp q)) m.entries ∙ ap (option_map clause_kept) (sym e))
+pub picked_none : (m : KeyedClauses) (q : ℕ) → None ≡ get nat_cmp m q → picked (q ∷ []) (placed_clause m) ≡ []
+picked_none m q e = ap (λ o. entry_at q o ++ []) (lookup_mapped clause_of_keyed (is_at (nat_cmp q)) m.entries ∙ ap (option_map clause_of_keyed) (sym e))

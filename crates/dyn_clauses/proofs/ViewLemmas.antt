@@ -16,11 +16,11 @@ use Rattle.proc_index.specs.declared.key.Key.{Key}
 use Rattle.proc_index.specs.Keys.{may_match}
 use Rattle.dyn_clauses.specs.declared.indicator.Indicator.{Indicator}
 use Rattle.dyn_clauses.specs.declared.place.Place.{Place}
-use Rattle.dyn_clauses.specs.declared.procedure.Kept.{Kept}
+use Rattle.dyn_clauses.specs.declared.procedure.KeyedClause.{KeyedClause}
 use Rattle.dyn_clauses.specs.declared.database.End.{End}
 use Rattle.dyn_clauses.specs.declared.database.End.TheVariants.{First, Last}
 use Rattle.dyn_clauses.specs.PositionIndex.{Placed, first_position, has_numbered, last_position, matching_clauses, middle, position_number, numbered_clauses, numbered_entry}
-use Rattle.dyn_clauses.specs.KeptClauses.{placed_entry}
+use Rattle.dyn_clauses.specs.KeyedClauses.{placed_entry}
 use Rattle.dyn_clauses.specs.DatabaseView.{Entries, IsDatabase, KnownDatabase, clause_at, indicator_cmp, matching_numbered, procedures_meant, with_entry}
 use Rattle.dyn_clauses.specs.ClauseEnds.{end_position, with_clause_at}
 use Rattle.dyn_clauses.proofs.EntriesLemmas.{meant_with}
@@ -77,6 +77,6 @@ matching_meant key (d ∷ ps) = go (may_match key d.1.head) (matching_meant key 
     go true e = ap (λ cs. numbered_entry d ∷ cs) e
     go false e = e
 
-pub keys_numbered : (es : List (ℕ × Kept)) (n : ℕ) → list_any (λ q. position_number q == n) (keys_of es) ≡ has_numbered (map placed_entry es) n
+pub keys_numbered : (es : List (ℕ × KeyedClause)) (n : ℕ) → list_any (λ q. position_number q == n) (keys_of es) ≡ has_numbered (map placed_entry es) n
 keys_numbered [] n = refl
 keys_numbered (e ∷ es) n = ap (λ b. (position_number e.0 == n) || b) (keys_numbered es n)

@@ -1,4 +1,4 @@
 pub mod PositionIndex
-pub mod KeptClauses
+pub mod KeyedClauses
 pub mod DatabaseView
 pub mod ClauseEnds

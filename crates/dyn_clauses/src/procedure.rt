@@ -5,7 +5,7 @@ ghost use Rattle.std.specs.Map.{lookup};
 ghost use Rattle.std.specs.BTreeMap.{get, insert_entry, is_at};
 ghost use Rattle.std.specs.Arc.{arc_value};
 ghost use Rattle.dyn_clauses.specs.PositionIndex.{has_numbered, matching_clauses, position_number, numbered_clauses, picked, without_position};
-ghost use Rattle.dyn_clauses.specs.KeptClauses.{IsProcedure, numbered_kept, placed_clause};
+ghost use Rattle.dyn_clauses.specs.KeyedClauses.{IsProcedure, numbered_keyed, placed_clause};
 ghost use Rattle.clause_compile.specs.CompiledClauses.{shown};
 
 use crate::keys::{Index, forget, is_any, key_of_head, note};
@@ -26,19 +26,19 @@ pub(crate) const MIDDLE: u64 = 1 << 63;
 
 /// A clause, and the key of its head's first argument.
 #[derive(Drop)]
-pub(crate) struct Kept {
+pub(crate) struct KeyedClause {
     pub(crate) clause: Arc<Clause>,
     pub(crate) key: Key,
 }
 
 /// Clauses by their positions.
-type Kepts = BTreeMap<u64, Kept>;
+type KeyedClauses = BTreeMap<u64, KeyedClause>;
 
 /// The clauses of a procedure in the order of their positions. Contracts see the positions and the clauses.
 #[derive(Drop)]
 pub(crate) struct Procedure {
     alloc: Global,
-    clauses: Kepts,
+    clauses: KeyedClauses,
     index: Index,
 }
 
@@ -46,7 +46,7 @@ impl Model for Procedure {
     ghost use Rattle.std.specs.Coded.{codes};
     ghost use Rattle.au_term.specs.PrefixOrder.{term_code};
     ghost use Rattle.dyn_clauses.specs.PositionIndex.{Placed};
-    ghost use Rattle.dyn_clauses.specs.KeptClauses.{placed_clause, IsProcedure};
+    ghost use Rattle.dyn_clauses.specs.KeyedClauses.{placed_clause, IsProcedure};
 
     ghost Value = { Placed };
 
@@ -75,7 +75,7 @@ impl Procedure {
         ensures ok { OnOk result (self.new ≡ insert_entry nat_cmp self.old position (arc_value clause)) }
         ensures err { OnErr result (self.new ≡ self.old) }
     {
-        put_kept(
+        put_keyed(
             self.alloc,
             &mut self.clauses,
             &mut self.index,
@@ -89,7 +89,7 @@ impl Procedure {
         ensures found { result ≡ is_some (lookup (is_at (nat_cmp position)) self.old) }
         ensures taken { self.new ≡ without_position position self.old }
     {
-        take_kept(&mut self.clauses, &mut self.index, position)
+        take_keyed(&mut self.clauses, &mut self.index, position)
     }
 
     /// All clauses, with their numbers.
@@ -135,7 +135,7 @@ impl Procedure {
     {
         let mut copy = Procedure::new(self.alloc);
         for (position, kept) in &self.clauses {
-            copy.put(*position, kept.clause.clone()?)?;
+            copy.put(*position, keyed.clause.clone()?)?;
         }
         Ok(copy)
     }
@@ -153,9 +153,9 @@ impl Clone for Procedure {
 }
 
 /// Puts a clause at a position that has none.
-fn put_kept(
+fn put_keyed(
     alloc: Global,
-    clauses: &mut Kepts,
+    clauses: &mut KeyedClauses,
     index: &mut Index,
     position: u64,
     clause: Arc<Clause>,
@@ -168,7 +168,7 @@ fn put_kept(
 {
     let key = key_of_head(clause.head())?;
     note(alloc, index, &key, position)?;
-    if let Err(failed) = clauses.insert(position, Kept { clause, key }) {
+    if let Err(failed) = clauses.insert(position, KeyedClause { clause, key }) {
         let (_, kept) = failed.value;
         forget(index, &kept.key, position);
         return Err(NoMemory);
@@ -177,7 +177,7 @@ fn put_kept(
 }
 
 /// Takes the clause at a position, and says whether there was one.
-fn take_kept(clauses: &mut Kepts, index: &mut Index, position: u64) -> bool
+fn take_keyed(clauses: &mut KeyedClauses, index: &mut Index, position: u64) -> bool
     requires { IsProcedure clauses.old index.old }
     ensures kept { IsProcedure clauses.new index.new }
     ensures found { result ≡ is_some (lookup (is_at (nat_cmp position)) (placed_clause clauses.old)) }
@@ -191,20 +191,20 @@ fn take_kept(clauses: &mut Kepts, index: &mut Index, position: u64) -> bool
 }
 
 /// Puts what is at a position after others.
-fn push_at(found: &mut Vec<Numbered>, clauses: &Kepts, position: u64) -> Result<(), NoMemory>
+fn push_at(found: &mut Vec<Numbered>, clauses: &KeyedClauses, position: u64) -> Result<(), NoMemory>
     ensures { OnOk result (map shown found.new.items ≡ map shown found.old.items ++ numbered_clauses (picked (position ∷ []) (placed_clause clauses.now))) }
 {
     match clauses.get(&position) {
-        Some(kept) => push(found, position, kept),
+        Some(keyed) => push(found, position, keyed),
         None => Ok(()),
     }
 }
 
 /// Puts the clause at a position after others.
-fn push(found: &mut Vec<Numbered>, position: u64, kept: &Kept) -> Result<(), NoMemory>
-    ensures { OnOk result (map shown found.new.items ≡ map shown found.old.items ++ numbered_kept position kept.now ∷ []) }
+fn push(found: &mut Vec<Numbered>, position: u64, keyed: &KeyedClause) -> Result<(), NoMemory>
+    ensures { OnOk result (map shown found.new.items ≡ map shown found.old.items ++ numbered_keyed position keyed.now ∷ []) }
 {
-    found.push((ClauseId(number_of(position)), kept.clause.clone()?))?;
+    found.push((ClauseId(number_of(position)), keyed.clause.clone()?))?;
     Ok(())
 }
 

@@ -10,7 +10,7 @@ use Rattle.interleaving.specs.Segments.{IsActive, outer, found_in, search_in, pl
 use Rattle.interleaving.specs.Segments.{taken_alone, front_alone, run_alone, Private, private_none, private_drops, private_remains}
 use Rattle.interleaving.specs.Segments.{private_changes, private_infers}
 use Rattle.interleaving.proofs.RunFrontLemmas.{each-append, maps-append, map-seam, map-none, some-same}
-use Rattle.interleaving.proofs.RunFrontLemmas.{none-some, settle-map, PlaceOk, ActOk, LookOk, Closed, map-ok}
+use Rattle.interleaving.proofs.RunFrontLemmas.{none-some, take_free-map, PlaceOk, ActOk, LookOk, Closed, map-ok}
 use Rattle.interleaving.proofs.EarlyLemmas.{Ground, Runs}
 use Rattle.interleaving.proofs.JoinedLemmas.{runs-then, runs_step, resting, placed-within}
 use Rattle.interleaving.proofs.AppendLemmas.{append-assoc, append-nil}
@@ -72,9 +72,9 @@ module _ {W X Q R : Type 0} (m : Machine W X Q R) (inner : R → Bool) where
         go (Infers p) e next = stays rs (x ∷ xs) (gives m rs x ∷ map (gives m rs) xs) (λ k qs b h. h)
         go (AsksWorld p) e next = stays rs (x ∷ xs) (gives m rs x ∷ map (gives m rs) xs) (λ k qs b h. h)
 
-    settled : (k : ℕ) (a b : List X) (qs : List R) → Private m inner k qs (free_steps_alone m inner passes [] a).1 b
+    free_taken : (k : ℕ) (a b : List X) (qs : List R) → Private m inner k qs (free_steps_alone m inner passes [] a).1 b
         → Private m inner k ((free_steps_alone m inner passes [] a).0 ++ qs) a b
-    settled k a b qs h =
+    free_taken k a b qs h =
         let n = rest [] a in
         subst (λ l. Private m inner k (l ++ qs) a b) (sym n.joined)
         (subst (λ l. Private m inner k (n.out ++ qs) l b) (map-none m a) (n.private k qs b h))
@@ -122,11 +122,11 @@ module _ {W X Q R : Type 0} (m : Machine W X Q R) (inner : R → Bool) where
         let s = free_steps_alone m inner passes [] a in
         let both : s ≡ (rs, b) = some-same s (rs, b) e in
         subst (λ t. Private m inner zero t.0 a t.1) both
-        (subst (λ l. Private m inner zero l a s.1) (append-nil s.0) (settled zero a s.1 [] (private_none s.1)))
+        (subst (λ l. Private m inner zero l a s.1) (append-nil s.0) (free_taken zero a s.1 [] (private_none s.1)))
     private_of_alone (suc k) a b rs e =
         let s = free_steps_alone m inner passes [] a in
         let t = front k (private_of_alone k) s.0 rs b s.1 e in
-        subst (λ l. Private m inner (suc k) l a b) (sym t.joined) (settled (suc k) a b t.later t.private)
+        subst (λ l. Private m inner (suc k) l a b) (sym t.joined) (free_taken (suc k) a b t.later t.private)
 
   -- over what may be there
   module _ (g : Ground m) (kept : (r : R) → inner r ≡ true → (z : X) → g.Under z → m.give r z ≡ z)
@@ -148,7 +148,7 @@ module _ {W X Q R : Type 0} (m : Machine W X Q R) (inner : R → Bool) where
     private_runs k rs a b (private_none s) = λ zs z. ap (λ l. free_steps m [] (s ++ l)) (sym (map-none m zs))
     private_runs k rs a b (private_drops j x new qs xs s e r) =
         let first : Runs m g zero (outer inner new) (x ∷ xs) (map (gives m new) xs) = λ zs z.
-        ap (λ a. freed m a x (λ o. free_steps m o (xs ++ zs)) (map (gives m []) (xs ++ zs))) e ∙ settle-map m new (xs ++ zs)
+        ap (λ a. freed m a x (λ o. free_steps m o (xs ++ zs)) (map (gives m []) (xs ++ zs))) e ∙ take_free-map m new (xs ++ zs)
         ∙ ap (free_steps m []) (map-seam m new xs zs ∙ ap (λ l. map (gives m new) xs ++ l) (map-outer new zs z)) in
         runs-then m g zero j (outer inner new) qs (x ∷ xs) (map (gives m new) xs) s first (private_runs j qs (map (gives m new) xs) s r)
     private_runs k rs a b (private_remains j x new qs xs s e f r) =

@@ -99,10 +99,10 @@ module _ (clauses : List Clause) where
       go true e next = next e
       go false e next = absurd (false≢true e)
 
-  settles-none : (inner : Record → Bool) (rs : List Record) (xs : List Element) → all_inner inner rs ≡ true
+  takes_free-none : (inner : Record → Bool) (rs : List Record) (xs : List Element) → all_inner inner rs ≡ true
       → (free_steps_alone m inner (all_inner inner) rs xs).0 ≡ []
-  settles-none inner rs [] h = outer-none inner rs h
-  settles-none inner rs (x ∷ xs) h = go (m.act (gives m rs x)) (λ new k. settles-none inner (rs ++ new) xs (all-append inner rs new h k))
+  takes_free-none inner rs [] h = outer-none inner rs h
+  takes_free-none inner rs (x ∷ xs) h = go (m.act (gives m rs x)) (λ new k. takes_free-none inner (rs ++ new) xs (all-append inner rs new h k))
     where
       pick : (new : List Record) (t : Bool) → all_inner inner new ≡ t
           → (all_inner inner new ≡ true → (free_steps_alone m inner (all_inner inner) (rs ++ new) xs).0 ≡ [])
@@ -127,7 +127,7 @@ module _ (clauses : List Clause) where
       ≡ Some (rs, b) → rs ≡ []
   none-leave inner zero a b rs e =
       let whole = some-same (free_steps_alone m inner (all_inner inner) [] a) (rs, b) e in
-      sym (ap (λ s. s.0) whole) ∙ settles-none inner [] a refl
+      sym (ap (λ s. s.0) whole) ∙ takes_free-none inner [] a refl
   none-leave inner (suc k) a b rs e = front (free_steps_alone m inner (all_inner inner) [] a).1 e
       (λ ys t f. none-leave inner k ys t.1 t.0 f)
     where
@@ -143,7 +143,7 @@ module _ (clauses : List Clause) where
       taken (Some t) next h =
           let whole = some-same (ahead first t) (rs, b) h in
           let none : t.0 ≡ [] = next t refl in
-          sym (ap (λ s. s.0) whole) ∙ ap (λ l. first ++ l) none ∙ append-nil first ∙ settles-none inner [] a refl
+          sym (ap (λ s. s.0) whole) ∙ ap (λ l. first ++ l) none ∙ append-nil first ∙ takes_free-none inner [] a refl
 
       place : (o : Option (List Element))
           → option_map (ahead first) (go_on m inner (all_inner inner) o (run_alone m inner (all_inner inner) k)) ≡ Some (rs, b) → Later

@@ -4,7 +4,7 @@ use Rattle.au_model.specs.Terms.Each.{Each}
 use Rattle.interleaving.specs.Machine.{Machine, Act, Drops, Becomes, Infers, AsksWorld, On, Replacement, Put, gives, looked, search_for}
 use Rattle.interleaving.specs.Machine.{placed}
 use Rattle.interleaving.specs.Machine.{freed, free_steps, acted, step, run, is_finished, seen, Alike}
-use Rattle.interleaving.proofs.RunFrontLemmas.{maps-append, map-seam, map-none, settle-map, PlaceOk, ActOk, Closed}
+use Rattle.interleaving.proofs.RunFrontLemmas.{maps-append, map-seam, map-none, take_free-map, PlaceOk, ActOk, Closed}
 use Rattle.interleaving.proofs.RunFrontLemmas.{Unseen, gives-unseen, map-unseen, search-unseen, Freed, freed-found, placed-found}
 use Rattle.interleaving.proofs.AppendLemmas.{append-assoc}
 
@@ -38,7 +38,7 @@ module _ {W X Q R : Type 0} (m : Machine W X Q R) where
         ≡ (w, free_steps m [] (s ++ map (gives m first) zs))) × Runs k rest s b
 
     pub last : (rs : List R) (xs : List X) → free_steps m [] (g.credit zero rs ∷ xs) ≡ free_steps m [] (map (gives m rs) xs)
-    last rs xs = ap (λ a. freed m a (g.credit zero rs) (λ new. free_steps m new xs) (map (gives m []) xs)) (g.spent rs) ∙ settle-map m rs xs
+    last rs xs = ap (λ a. freed m a (g.credit zero rs) (λ new. free_steps m new xs) (map (gives m []) xs)) (g.spent rs) ∙ take_free-map m rs xs
 
     pub next_front : (k : ℕ) (rs : List R) (xs : List X) → free_steps m [] (g.credit (suc k) rs ∷ xs) ≡ g.credit (suc k) rs ∷ xs
     next_front k rs xs = ap (λ a. freed m a (g.credit (suc k) rs) (λ new. free_steps m new xs) (map (gives m []) xs)) (g.spends k rs)
@@ -126,11 +126,11 @@ module _ {W X Q R : Type 0} (m : Machine W X Q R) where
           where
             go : Freed m P K G [] pre → Same n w (free_steps m [] (pre ++ (a ++ zs))) (free_steps m [] (pre ++ later zs))
             go (qs, ok, inl f) =
-                ap (λ l. seen (run m n w l)) (f (a ++ zs) ∙ settle-map m qs (a ++ zs) ∙ ap (free_steps m []) (through qs zs ok))
+                ap (λ l. seen (run m n w l)) (f (a ++ zs) ∙ take_free-map m qs (a ++ zs) ∙ ap (free_steps m []) (through qs zs ok))
                 ∙ ap (λ l. seen (run m n w (free_steps m [] (a ++ l)))) (sym (map-none m (map (gives m qs) zs)))
                 ∙ front k n w [] rs a b (map (gives m qs) zs) e.runs (z-map qs zs z) e.own
                 ∙ sym (ap (λ l. seen (run m n w l))
-                (f (later zs) ∙ settle-map m qs (later zs) ∙ ap (free_steps m []) (past qs zs ok)))
+                (f (later zs) ∙ take_free-map m qs (later zs) ∙ ap (free_steps m []) (past qs zs ok)))
             go (qs, ok, inr f) =
                 ap (λ l. seen (run m n w l)) (f.4 (a ++ zs) ∙ ap (λ l. f.0 ∷ (f.1 ++ l)) (through qs zs ok))
                 ∙ on w f.0 f.1 (map (gives m qs) zs) f.2 f.3 (z-map qs zs z)

@@ -21,7 +21,7 @@ use Rattle.interleaving.specs.Readings.{has_ended}
 use Rattle.interleaving.specs.Follows.{lead}
 use Rattle.interleaving.proofs.ListRoundLemmas.{around}
 use Rattle.interleaving.proofs.ContextLemmas.{IsLevel, IsAround, put_profiles, level_profiles, taken_out}
-use Rattle.interleaving.proofs.RunFrontLemmas.{settle-map}
+use Rattle.interleaving.proofs.RunFrontLemmas.{take_free-map}
 use Rattle.interleaving.proofs.QuietCreditLemmas.{gives-fixed}
 use Rattle.interleaving.proofs.PassingLemmas.{credits_pass}
 use Rattle.interleaving.proofs.LeadLemmas.{IsParted, parted, goes_on}
@@ -82,22 +82,22 @@ freed_stays clauses (Becomes z) y go ys h = refl
 freed_stays clauses (Infers p) y go ys h = refl
 freed_stays clauses (AsksWorld g) y go ys h = refl
 
-pub settles_before : (clauses : List Clause) (rs : List Record) (xs : List Element) → has_end xs ≡ true
+pub steps_end_before : (clauses : List Clause) (rs : List Record) (xs : List Element) → has_end xs ≡ true
     → is_finished (free_steps (scoped clauses) rs xs) ≡ false
-settles_before clauses rs [] h = let no_way : ⊥ = cc in absurd no_way
-settles_before clauses rs (End p b ∷ xs) h = ap
+steps_end_before clauses rs [] h = let no_way : ⊥ = cc in absurd no_way
+steps_end_before clauses rs (End p b ∷ xs) h = ap
     (λ y. is_finished (freed (scoped clauses) ((scoped clauses).act y) y (λ new. free_steps (scoped clauses) (rs ++ new) xs)
     (map (gives (scoped clauses) rs) xs))) (gives-fixed clauses rs (End p b) tt)
-settles_before clauses rs (Credit k qs ∷ xs) h = freed_stays clauses _ _ (λ new. free_steps (scoped clauses) (rs ++ new) xs) _
-    (λ new. settles_before clauses (rs ++ new) xs h)
-settles_before clauses rs (Plain p f ∷ xs) h = freed_stays clauses _ _ (λ new. free_steps (scoped clauses) (rs ++ new) xs) _
-    (λ new. settles_before clauses (rs ++ new) xs h)
-settles_before clauses rs (EndOf s ∷ xs) h = freed_stays clauses _ _ (λ new. free_steps (scoped clauses) (rs ++ new) xs) _
-    (λ new. settles_before clauses (rs ++ new) xs h)
-settles_before clauses rs (Catch s u c r p f ∷ xs) h = freed_stays clauses _ _ (λ new. free_steps (scoped clauses) (rs ++ new) xs) _
-    (λ new. settles_before clauses (rs ++ new) xs h)
-settles_before clauses rs (Findall s u results list p f ∷ xs) h = freed_stays clauses _ _
-    (λ new. free_steps (scoped clauses) (rs ++ new) xs) _ (λ new. settles_before clauses (rs ++ new) xs h)
+steps_end_before clauses rs (Credit k qs ∷ xs) h = freed_stays clauses _ _ (λ new. free_steps (scoped clauses) (rs ++ new) xs) _
+    (λ new. steps_end_before clauses (rs ++ new) xs h)
+steps_end_before clauses rs (Plain p f ∷ xs) h = freed_stays clauses _ _ (λ new. free_steps (scoped clauses) (rs ++ new) xs) _
+    (λ new. steps_end_before clauses (rs ++ new) xs h)
+steps_end_before clauses rs (EndOf s ∷ xs) h = freed_stays clauses _ _ (λ new. free_steps (scoped clauses) (rs ++ new) xs) _
+    (λ new. steps_end_before clauses (rs ++ new) xs h)
+steps_end_before clauses rs (Catch s u c r p f ∷ xs) h = freed_stays clauses _ _ (λ new. free_steps (scoped clauses) (rs ++ new) xs) _
+    (λ new. steps_end_before clauses (rs ++ new) xs h)
+steps_end_before clauses rs (Findall s u results list p f ∷ xs) h = freed_stays clauses _ _
+    (λ new. free_steps (scoped clauses) (rs ++ new) xs) _ (λ new. steps_end_before clauses (rs ++ new) xs h)
 
 -- so a run is not over before it comes to it
 pub not_over : (clauses : List Clause) (xs : List Element) (n : ℕ) (w : Shared) → has_end xs ≡ true → n ≤ lead xs
@@ -114,7 +114,7 @@ not_over clauses xs n w e l = go (nat_le (lead xs) n) refl
     passed =
         ap (λ ys. has_ended clauses w ys (inferences h.front)) h.joined
         ∙ (ap (λ s. is_finished s.1) (credits_pass clauses h.front h.rest w h.quiet).passed
-        ∙ (ap is_finished (sym (settle-map (scoped clauses) (records h.front) h.rest)) ∙ settles_before clauses (records h.front) h.rest
+        ∙ (ap is_finished (sym (take_free-map (scoped clauses) (records h.front) h.rest)) ∙ steps_end_before clauses (records h.front) h.rest
         rest_end))
 
     go : (b : Bool) → nat_le (lead xs) n ≡ b → has_ended clauses w xs n ≡ false

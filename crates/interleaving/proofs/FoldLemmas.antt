@@ -25,7 +25,7 @@ use Rattle.interleaving.proofs.CreditLawLemmas.{as_many_credit, blind_none}
 use Rattle.interleaving.proofs.SoundEarlyLemmas.{sound_exchange, sound-after}
 use Rattle.interleaving.proofs.LeadLemmas.{lead-bounded, follows_then, follows_becoming, follows_itself}
 use Rattle.interleaving.proofs.ClockLemmas.{quiet-append, inferences-append}
-use Rattle.interleaving.proofs.EndLemmas.{has_end, settles_before}
+use Rattle.interleaving.proofs.EndLemmas.{has_end, steps_end_before}
 use Rattle.interleaving.proofs.ListScopeLemmas.{dormant_on}
 use Rattle.interleaving.proofs.ListsSoundLemmas.{under_of}
 use Rattle.interleaving.proofs.RunFrontLemmas.{some-same}
@@ -62,7 +62,7 @@ credit_counted clauses pre zs k rs end = record {
     go n w l true e = let same : k ≡ min greatest k = let low : k ≤ greatest = grind arith in omega (arith, low) in ap
         (λ j. seen (run (scoped clauses) n w (free_steps (scoped clauses) [] (pre ++ (Credit j rs ∷ zs))))) same
     go n w l false e = let high : greatest < k = grind arith in as_many_credit clauses k (min greatest k) rs rs n w pre zs
-        (omega (arith, l, high)) (omega (arith, l, high)) (λ us. settles_before clauses us zs end)
+        (omega (arith, l, high)) (omega (arith, l, high)) (λ us. steps_end_before clauses us zs end)
 
 -- records that no goal side of the node has
 abbrev pub LeftSides : Kind → List (ℕ × Status) → Type 0

@@ -17,7 +17,7 @@ use Rattle.interleaving.specs.HeightMachine.{HeightElement, HeightEntry, height_
 use Rattle.interleaving.specs.HeightMachine.{height_free_steps_within, height_at_rest}
 use Rattle.interleaving.specs.Erased.{element_count, height, with_height, continuation_heights, record_height, erased}
 use Rattle.interleaving.specs.Sound.{names, IsGathered, IsEntrySound, IsSound}
-use Rattle.interleaving.proofs.RunFrontLemmas.{map-none, settle-map}
+use Rattle.interleaving.proofs.RunFrontLemmas.{map-none, take_free-map}
 use Rattle.interleaving.proofs.NamingLemmas.{goals-heights, length-erased, sames, carried_rest}
 use Rattle.interleaving.proofs.GivenHeightLemmas.{gathered-gives, sound-gives, count-gives}
 use Rattle.interleaving.proofs.InsideStepLemmas.{goal-active}
@@ -106,33 +106,33 @@ module _ (clauses : List Clause) where
       let fine : IsFreed (free_steps m [] ys) (height_free_steps_within j (erased ys)) = ih ys (omega (arith, length-map (gives m rs) xs))
       (sound-gives clauses rs xs i) (omega (arith, count-gives clauses rs xs)) in
       subst (λ l. IsFreed l (height_free_steps_within j (height_collected_all (map (record_height xs) rs) (erased xs))))
-      (sym (settle-map m rs xs))
+      (sym (take_free-map m rs xs))
       (subst (λ hs. IsFreed (free_steps m [] ys) (height_free_steps_within j hs)) (gathered-gives clauses rs xs i g) fine)
 
-  settles : (n : ℕ) (xs : List Element) → length xs ≤ n → IsSound xs → (j : ℕ) → element_count xs ≤ j
+  takes_free : (n : ℕ) (xs : List Element) → length xs ≤ n → IsSound xs → (j : ℕ) → element_count xs ≤ j
       → IsFreed (free_steps m [] xs) (height_free_steps_within j (erased xs))
-  settles n [] h i zero c = (refl, tt, tt)
-  settles n [] h i (suc j) c = (refl, tt, tt)
-  settles zero (x ∷ xs) h i j c = absurd (omega arith)
-  settles (suc n) (EndOf e ∷ xs) h i j c = settles n xs (omega arith) i j c
-  settles (suc n) (Credit k rs ∷ xs) h i zero c = absurd (omega arith)
-  settles (suc n) (Credit zero rs ∷ xs) h i (suc j) c = later xs j (λ ys l s d. settles n ys (omega arith) s j d) i.1 (omega arith) rs i.0
-  settles (suc n) (Credit (suc k) rs ∷ xs) h i (suc j) c = stays (Credit (suc k) rs) xs _ refl i tt
-  settles (suc n) (Plain p f ∷ xs) h i zero c = absurd (omega arith)
-  settles (suc n) (Plain p f ∷ xs) h i (suc j) c =
+  takes_free n [] h i zero c = (refl, tt, tt)
+  takes_free n [] h i (suc j) c = (refl, tt, tt)
+  takes_free zero (x ∷ xs) h i j c = absurd (omega arith)
+  takes_free (suc n) (EndOf e ∷ xs) h i j c = takes_free n xs (omega arith) i j c
+  takes_free (suc n) (Credit k rs ∷ xs) h i zero c = absurd (omega arith)
+  takes_free (suc n) (Credit zero rs ∷ xs) h i (suc j) c = later xs j (λ ys l s d. takes_free n ys (omega arith) s j d) i.1 (omega arith) rs i.0
+  takes_free (suc n) (Credit (suc k) rs ∷ xs) h i (suc j) c = stays (Credit (suc k) rs) xs _ refl i tt
+  takes_free (suc n) (Plain p f ∷ xs) h i zero c = absurd (omega arith)
+  takes_free (suc n) (Plain p f ∷ xs) h i (suc j) c =
       let go : IsFreed (plain_free (without_marks f.items) p f xs)
       (height_plain_free_step (map (with_height (height xs)) (without_marks f.items)) (continuation_heights (height xs) f) (erased xs)
       (height_free_steps_within j)) = plain-freed f.items p f xs j
-      (later xs j (λ ys l s d. settles n ys (omega arith) s j d) i.1 (omega arith)) i.1 i.0 in
+      (later xs j (λ ys l s d. takes_free n ys (omega arith) s j d) i.1 (omega arith)) i.1 i.0 in
       subst (λ l. IsFreed l (height_free_steps_within (suc j) (erased (Plain p f ∷ xs)))) (sym (item-free f.items p f xs))
       (subst (λ is. IsFreed (plain_free (without_marks f.items) p f xs)
       (height_plain_free_step is (continuation_heights (height xs) f) (erased xs) (height_free_steps_within j)))
       (sym (marks-heights (height xs) f.items))
       go)
-  settles (suc n) (Catch s u t r p f ∷ xs) h i zero c = absurd (omega arith)
-  settles (suc n) (Catch s u t r p f ∷ xs) h i (suc j) c = settles n xs (omega arith) i.2 j (omega arith)
-  settles (suc n) (Findall s u results list p f ∷ xs) h i zero c = absurd (omega arith)
-  settles (suc n) (Findall s u results list p f ∷ xs) h i (suc j) c =
+  takes_free (suc n) (Catch s u t r p f ∷ xs) h i zero c = absurd (omega arith)
+  takes_free (suc n) (Catch s u t r p f ∷ xs) h i (suc j) c = takes_free n xs (omega arith) i.2 j (omega arith)
+  takes_free (suc n) (Findall s u results list p f ∷ xs) h i zero c = absurd (omega arith)
+  takes_free (suc n) (Findall s u results list p f ∷ xs) h i (suc j) c =
       let eq : Term = binary (codes "=") list (list_term results) in
       let woken : continuation_heights (height xs) (results_first results list u f) ≡ before (GoalItem eq (length (erased xs)) ∷ [])
       (continuation_heights (height xs) f) = goals-heights (height xs) (height xs) u (length (erased xs)) (eq ∷ []) f
@@ -143,13 +143,13 @@ module _ (clauses : List Clause) where
       (HeightEntry (height_findall_ends results list (continuation_heights (height xs) f) (erased xs)) ∷ erased xs)
       (ap (λ k. HeightEntry (PlainEntry k) ∷ erased xs) woken) (entry, i.3)
       (goal-active clauses (outcome_of clauses eq f.next) p u f)
-  settles (suc n) (End p b ∷ xs) h i zero c = absurd (omega arith)
-  settles (suc n) (End p b ∷ xs) h i (suc j) c = stays (End p b) xs _ refl i tt
+  takes_free (suc n) (End p b ∷ xs) h i zero c = absurd (omega arith)
+  takes_free (suc n) (End p b ∷ xs) h i (suc j) c = stays (End p b) xs _ refl i tt
 
   -- the free steps of a sound list by names and by heights
-  pub settle-height : (xs : List Element) (hs : List HeightElement) → erased xs ≡ hs → IsSound xs
+  pub take_free-height : (xs : List Element) (hs : List HeightElement) → erased xs ≡ hs → IsSound xs
       → IsFreed (free_steps m [] xs) (height_at_rest hs)
-  settle-height xs hs e i =
+  take_free-height xs hs e i =
       let size : element_count xs ≤ length hs = omega (arith, length-erased xs, ap length e) in
       subst (λ l. IsFreed (free_steps m [] xs) (height_free_steps_within (length hs) l)) e
-      (settles (length xs) xs (omega arith) i (length hs) size)
+      (takes_free (length xs) xs (omega arith) i (length hs) size)

@@ -6,7 +6,7 @@ use Rattle.interleaving.specs.Machine.{looked}
 use Rattle.interleaving.specs.Machine.{search_for, placed, freed, free_steps, acted, step, run, is_finished}
 use Rattle.interleaving.specs.Segments.{IsActive, found_in, search_in, placed_in}
 use Rattle.interleaving.proofs.RunFrontLemmas.{each-append, some-same, none-some, maps-append, map-seam, map-none}
-use Rattle.interleaving.proofs.RunFrontLemmas.{settle-map}
+use Rattle.interleaving.proofs.RunFrontLemmas.{take_free-map}
 use Rattle.interleaving.proofs.EarlyLemmas.{Ground, Runs, z-map, last, next_front, next_step}
 use Rattle.interleaving.proofs.AppendLemmas.{append-assoc}
 
@@ -19,16 +19,16 @@ module _ {W X Q R : Type 0} (m : Machine W X Q R) (g : Ground m) where
   pub all-z : (xs ys : List X) → Each g.Under xs → Each g.Under ys → Each g.Under (xs ++ ys)
   all-z xs ys h k = each-append g.Under xs ys h k
 
-  pub settle-seam : (a c zs : List X) (qs : List R) (b : List X)
+  pub take_free-seam : (a c zs : List X) (qs : List R) (b : List X)
       → ((zs : List X) → Each g.Under zs → free_steps m [] (a ++ zs) ≡ free_steps m [] (b ++ map (gives m qs) zs)) → Each g.Under c
       → Each g.Under zs → free_steps m [] ((a ++ c) ++ zs) ≡ free_steps m [] ((b ++ map (gives m qs) c) ++ map (gives m qs) zs)
-  settle-seam a c zs qs b h y z = ap (free_steps m []) (append-assoc a c zs) ∙ h (c ++ zs) (all-z c zs y z)
+  take_free-seam a c zs qs b h y z = ap (free_steps m []) (append-assoc a c zs) ∙ h (c ++ zs) (all-z c zs y z)
       ∙ ap (λ l. free_steps m [] (b ++ l)) (map-seam m qs c zs)
       ∙ ap (free_steps m []) (sym (append-assoc b (map (gives m qs) c) (map (gives m qs) zs)))
 
   pub runs-frame : (k : ℕ) (rs : List R) (a b c : List X) → Runs m g k rs a b → Each g.Under c
       → Runs m g k rs (a ++ c) (b ++ map (gives m rs) c)
-  runs-frame zero rs a b c h y = λ zs z. settle-seam a c zs rs b h y z
+  runs-frame zero rs a b c h y = λ zs z. take_free-seam a c zs rs b h y z
   runs-frame (suc k) rs a b c h y = (
     h.0 ++ map (gives m h.1) c,
     h.1,
@@ -85,7 +85,7 @@ module _ {W X Q R : Type 0} (m : Machine W X Q R) (g : Ground m) where
 
   -- an element that goes, and one that wakes
   pub runs_gone : (x : X) (qs : List R) → m.act x ≡ Drops qs → Runs m g zero qs (x ∷ []) []
-  runs_gone x qs e = λ zs z. ap (λ a. freed m a x (λ new. free_steps m new zs) (map (gives m []) zs)) e ∙ settle-map m qs zs
+  runs_gone x qs e = λ zs z. ap (λ a. freed m a x (λ new. free_steps m new zs) (map (gives m []) zs)) e ∙ take_free-map m qs zs
 
   pub resting : (x : X) → IsActive (m.act x) → (zs : List X) → free_steps m [] (x ∷ zs) ≡ x ∷ zs
   resting x h zs = go (m.act x) refl h ∙ ap (λ l. x ∷ l) (map-none m zs)

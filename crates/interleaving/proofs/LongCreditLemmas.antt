@@ -4,7 +4,7 @@ use Rattle.au_model.specs.Terms.Each.{Each}
 use Rattle.interleaving.specs.Machine.{Machine, Act, Drops, Becomes, Infers, AsksWorld, Replacement, gives, looked, search_for, placed}
 use Rattle.interleaving.specs.Machine.{free_steps}
 use Rattle.interleaving.specs.Machine.{acted, step, run, is_finished, seen}
-use Rattle.interleaving.proofs.RunFrontLemmas.{settle-map, settle-given, PlaceOk, ActOk, Closed, gives-unseen, Freed, freed-found}
+use Rattle.interleaving.proofs.RunFrontLemmas.{take_free-map, take_free-given, PlaceOk, ActOk, Closed, gives-unseen, Freed, freed-found}
 use Rattle.interleaving.proofs.RunFrontLemmas.{placed-found}
 use Rattle.interleaving.proofs.EarlyLemmas.{Ground, last, next_front, next_step, credit-unseen}
 
@@ -60,11 +60,11 @@ module _ {W X Q R : Type 0} (m : Machine W X Q R) (g : Ground m) (P : X → Type
           go : Freed m P K G [] pre → Agrees n w (free_steps m [] (pre ++ (g.credit j os ∷ zs)))
               (free_steps m [] (pre ++ (g.credit k rs ∷ zs)))
           go (qs, ok, inl f) =
-              ap (λ l. seen (run m n w l)) (f (g.credit j os ∷ zs) ∙ settle-map m qs (g.credit j os ∷ zs)
+              ap (λ l. seen (run m n w l)) (f (g.credit j os ∷ zs) ∙ take_free-map m qs (g.credit j os ∷ zs)
               ∙ ap (free_steps m []) (given_credit qs j os zs ok)) ∙ one_credit n w j os (map (gives m qs) zs) hj
               ∙ sym (one_credit n w k rs (map (gives m qs) zs) hk)
               ∙ sym (ap (λ l. seen (run m n w l))
-              (f (g.credit k rs ∷ zs) ∙ settle-map m qs (g.credit k rs ∷ zs) ∙ ap (free_steps m []) (given_credit qs k rs zs ok)))
+              (f (g.credit k rs ∷ zs) ∙ take_free-map m qs (g.credit k rs ∷ zs) ∙ ap (free_steps m []) (given_credit qs k rs zs ok)))
           go (qs, ok, inr f) =
               ap (λ l. seen (run m n w l)) (f.4 (g.credit j os ∷ zs) ∙ ap (λ l. f.0 ∷ (f.1 ++ l)) (given_credit qs j os zs ok))
               ∙ on w f.0 f.1 (map (gives m qs) zs) f.2 f.3
@@ -85,7 +85,7 @@ module _ {W X Q R : Type 0} (m : Machine W X Q R) (g : Ground m) (P : X → Type
       -- as many inferences as a credit has, where what is under it does not go
       whole_credit : (n : ℕ) (w : W) (i : ℕ) (us : List R) (zs : List X) → n ≤ i → is_finished (free_steps m us zs) ≡ false
           → seen (run m n w (free_steps m [] (g.credit i us ∷ zs))) ≡ (w, false)
-      whole_credit zero w zero us zs h e = ap (λ l. seen (w, l)) (last m g us zs ∙ sym (settle-map m us zs)) ∙ ap (λ b. (w, b)) e
+      whole_credit zero w zero us zs h e = ap (λ l. seen (w, l)) (last m g us zs ∙ sym (take_free-map m us zs)) ∙ ap (λ b. (w, b)) e
       whole_credit zero w (suc i) us zs h e = ap (λ l. seen (w, l)) (next_front m g i us zs)
       whole_credit (suc n) w zero us zs h e = absurd (omega arith)
       whole_credit (suc n) w (suc i) us zs h e = ap (λ l. seen (run m n (step m w l).0 (step m w l).1)) (next_front m g i us zs)
@@ -105,16 +105,16 @@ module _ {W X Q R : Type 0} (m : Machine W X Q R) (g : Ground m) (P : X → Type
       as_many n hj hk w pre zs h stays = go (freed-found m P K G c [] pre tt h)
         where
           given_stays : (qs us : List R) → is_finished (free_steps m us (map (gives m qs) zs)) ≡ false
-          given_stays qs us = ap is_finished (sym (settle-given m qs us zs)) ∙ stays (qs ++ us)
+          given_stays qs us = ap is_finished (sym (take_free-given m qs us zs)) ∙ stays (qs ++ us)
 
           go : Freed m P K G [] pre → Agrees n w (free_steps m [] (pre ++ (g.credit j os ∷ zs)))
               (free_steps m [] (pre ++ (g.credit k rs ∷ zs)))
           go (qs, ok, inl f) =
-              ap (λ l. seen (run m n w l)) (f (g.credit j os ∷ zs) ∙ settle-map m qs (g.credit j os ∷ zs)
+              ap (λ l. seen (run m n w l)) (f (g.credit j os ∷ zs) ∙ take_free-map m qs (g.credit j os ∷ zs)
               ∙ ap (free_steps m []) (given_credit qs j os zs ok)) ∙ whole_credit n w j os (map (gives m qs) zs) hj (given_stays qs os)
               ∙ sym (whole_credit n w k rs (map (gives m qs) zs) hk (given_stays qs rs))
               ∙ sym (ap (λ l. seen (run m n w l))
-              (f (g.credit k rs ∷ zs) ∙ settle-map m qs (g.credit k rs ∷ zs) ∙ ap (free_steps m []) (given_credit qs k rs zs ok)))
+              (f (g.credit k rs ∷ zs) ∙ take_free-map m qs (g.credit k rs ∷ zs) ∙ ap (free_steps m []) (given_credit qs k rs zs ok)))
           go (qs, ok, inr f) =
               ap (λ l. seen (run m n w l)) (f.4 (g.credit j os ∷ zs) ∙ ap (λ l. f.0 ∷ (f.1 ++ l)) (given_credit qs j os zs ok))
               ∙ after_step n hj hk w f.0 f.1 (map (gives m qs) zs) f.2 f.3

@@ -66,14 +66,14 @@ floor_numbered [] h = tt
 floor_numbered (v ∷ up) h = (renamed_numbered _ _ (right_entry v.right) (right_numbered v.right h.1), floor_numbered up h.2)
 
 -- the free steps
-own_settles_numbered : (items : List (Item ℕ)) (f : Continuation ℕ) (es floor : List Entry) (go : List Entry → List Entry)
+own_steps_numbered : (items : List (Item ℕ)) (f : Continuation ℕ) (es floor : List Entry) (go : List Entry → List Entry)
     → Each (AreItemTermsBelow f.next) items → Each (IsNamedBelow f.next) f.named → AreEntriesNumbered es
     → ((ds : List Entry) → AreEntriesNumbered ds → AreEntriesNumbered (go ds)) → AreEntriesNumbered (own_free_step items f es floor go)
-own_settles_numbered [] f es floor go i n e g = (record { items = i; named = n }, e)
-own_settles_numbered (GoalItem t s ∷ items) f es floor go i n e g = (record { items = i; named = n }, e)
-own_settles_numbered (CatchMark s ∷ items) f es floor go i n e g = (record { items = i; named = n }, e)
-own_settles_numbered (RemovalItem k ∷ items) f es floor go i n e g = (record { items = i; named = n }, e)
-own_settles_numbered (CollectMark t h ∷ items) f es floor go i n e g = pick (nat_lt h (length floor))
+own_steps_numbered [] f es floor go i n e g = (record { items = i; named = n }, e)
+own_steps_numbered (GoalItem t s ∷ items) f es floor go i n e g = (record { items = i; named = n }, e)
+own_steps_numbered (CatchMark s ∷ items) f es floor go i n e g = (record { items = i; named = n }, e)
+own_steps_numbered (RemovalItem k ∷ items) f es floor go i n e g = (record { items = i; named = n }, e)
+own_steps_numbered (CollectMark t h ∷ items) f es floor go i n e g = pick (nat_lt h (length floor))
   where
     pick : (b : Bool) → AreEntriesNumbered
         (cond b (PlainEntry (with_items (CollectMark t h ∷ items) f) ∷ es) (go (collected (h - length floor) t es)))
@@ -87,7 +87,7 @@ own_free_numbered floor (suc k) [] h = tt
 own_free_numbered floor (suc k) (CatchEntry c r f ∷ es) h = own_free_numbered floor k es h.1
 own_free_numbered floor (suc k) (FindallEntry results l f ∷ es) h =
     (findall-numbered results l f (es ++ floor) h.0.0 h.0.1 h.0.2, h.1)
-own_free_numbered floor (suc k) (PlainEntry f ∷ es) h = own_settles_numbered (without_marks f.items) f es floor (own_free_steps floor k)
+own_free_numbered floor (suc k) (PlainEntry f ∷ es) h = own_steps_numbered (without_marks f.items) f es floor (own_free_steps floor k)
     (marks-numbered f.next f.items h.0.items) h.0.named h.1 (own_free_numbered floor k)
 own_free_numbered floor (suc k) (EndEntry b ∷ es) h = h
 

@@ -39,7 +39,7 @@ use Rattle.interleaving.proofs.RunHeightLemmas.{reply-height}
 use Rattle.interleaving.proofs.SequentialHeightLemmas.{length-height, height-reply, height-control}
 use Rattle.interleaving.proofs.SeamLemmas.{Seam, seam}
 use Rattle.interleaving.proofs.SoundEarlyLemmas.{private-sound}
-use Rattle.interleaving.proofs.OwnRunStepLemmas.{floor_size, own_size, no_credit, head-is, later, own-settled}
+use Rattle.interleaving.proofs.OwnRunStepLemmas.{floor_size, own_size, no_credit, head-is, later, own-free_taken}
 use Rattle.interleaving.proofs.OwnInferenceLemmas.{part-joined, over-floor, floor-low, search-in-from, Split, split, Low, low}
 use Rattle.interleaving.proofs.AppendLemmas.{append-assoc}
 
@@ -251,7 +251,7 @@ module _ (clauses : List Clause) (inside : Name → Bool) (grown : IsGrown insid
   one_more k a b es after far r o (Some st) t e =
       let next = takes b es st (private-ok m (is_inner_record inside) (IsFar own) (IsSoughtFar clauses own) IsAnyRecord
       (far_closed clauses own) (far_stands clauses own) k [] a b r far) o t in
-      let rest = own-settled clauses inside grown zs floor fl next.0 (own_part floor st) next.2 in
+      let rest = own-free_taken clauses inside grown zs floor fl next.0 (own_part floor st) next.2 in
       let one : k + 1 ≡ suc k = omega arith in
       let none : (k + 1) + 0 ≡ suc k = omega arith in
       let two = private-then m (is_inner_record inside) 0 (k + 1) [] [] a next.0 rest.0
@@ -266,7 +266,7 @@ module _ (clauses : List Clause) (inside : Name → Bool) (grown : IsGrown insid
   pub runs_privately : (k : ℕ) (es after : List Entry) (a : List Element) → Each (IsFar own) a → Own a es → own_run clauses floor k es
       ≡ Some after → RunsPrivately clauses inside k a zs after floor
   runs_privately zero es after a far o e =
-      let r = own-settled clauses inside grown zs floor fl a es o in
+      let r = own-free_taken clauses inside grown zs floor fl a es o in
       record { left = r.0; private = r.1; stands = subst (λ l. Own r.0 l) (some-same _ after e) r.2 }
   runs_privately (suc k) es after a far o e = go (own_run clauses floor k es) e (λ ds f. runs_privately k es ds a far o f)
     where

@@ -223,50 +223,50 @@ module _ (clauses : List Clause) (inside : Name → Bool) (grown : IsGrown insid
         (sym k ∙ o.entries);
   }
 
-  settles : (n j : ℕ) (a : List Element) (es : List Entry) → length a ≤ n → length es ≤ j → Own a es
+  takes_free : (n j : ℕ) (a : List Element) (es : List Entry) → length a ≤ n → length es ≤ j → Own a es
       → IsSettledOwn a (own_free_steps floor j es)
-  settles n zero a es l c o = stays a es o
-  settles n (suc j) [] es l c o = none es (own_size [] es o) o
+  takes_free n zero a es l c o = stays a es o
+  takes_free n (suc j) [] es l c o = none es (own_size [] es o) o
     where
       none : (es : List Entry) → element_count zs ≡ length es + length floor → Own [] es → IsSettledOwn [] (own_free_steps floor (suc j) es)
       none [] s o = stays [] [] o
       none (e ∷ es) s o = absurd (omega (arith, s, floor_size))
-  settles zero (suc j) (x ∷ a) es l c o = absurd (omega arith)
-  settles (suc n) (suc j) (EndOf e ∷ a) es l c o =
+  takes_free zero (suc j) (x ∷ a) es l c o = absurd (omega arith)
+  takes_free (suc n) (suc j) (EndOf e ∷ a) es l c o =
       let rest : Own a es = record { sound = o.sound; inner = o.inner.1; entries = o.entries } in
-      let r = settles n (suc j) a es (omega arith) c rest in (
+      let r = takes_free n (suc j) a es (omega arith) c rest in (
         r.0,
         private_drops 0 (EndOf e) [] [] a r.0 refl
             (subst (λ l. Private m (is_inner_record inside) 0 [] l r.0) (sym (map-none m a)) r.1),
         r.2,
       )
-  settles (suc n) (suc j) (Credit k rs ∷ a) es l c o = no_credit k _ (erased (a ++ zs)) (es ++ floor) o.entries
-  settles (suc n) (suc j) (Plain p f ∷ a) [] l c o = no_first (Plain p f) a refl o
-  settles (suc n) (suc j) (Plain p f ∷ a) (e ∷ es) l c o =
+  takes_free (suc n) (suc j) (Credit k rs ∷ a) es l c o = no_credit k _ (erased (a ++ zs)) (es ++ floor) o.entries
+  takes_free (suc n) (suc j) (Plain p f ∷ a) [] l c o = no_first (Plain p f) a refl o
+  takes_free (suc n) (suc j) (Plain p f ∷ a) (e ∷ es) l c o =
       let d : Entry = PlainEntry (height_cont a f) in
       let same : e ≡ d = head-is d e (erased (a ++ zs)) (height_entries (es ++ floor)) o.entries in
       let rest : Own a es = later (Plain p f) a e d es o.sound.1 o refl in
       let whole : Own (Plain p f ∷ a) (d ∷ es) = subst (λ x. Own (Plain p f ∷ a) (x ∷ es)) same o in
-      let next : Next a es j = λ s t g. settles n j (map (give (s, t)) a) (collected (height (a ++ zs) s - 1 - length floor) t es)
+      let next : Next a es j = λ s t g. takes_free n j (map (give (s, t)) a) (collected (height (a ++ zs) s - 1 - length floor) t es)
       (omega (arith, length-map (give (s, t)) a)) (omega (arith, length-collected (height (a ++ zs) s - 1 - length floor) t es))
       g in
       subst (λ x. IsSettledOwn (Plain p f ∷ a) (own_free_steps floor (suc j) (x ∷ es))) (sym same)
       (subst (λ is. IsSettledOwn (Plain p f ∷ a) (own_free_step is (height_cont a f) es floor (own_free_steps floor j)))
       (sym (marks-heights (height (a ++ zs)) f.items)) (plain-own f.items p f a es j whole rest next))
-  settles (suc n) (suc j) (Catch s u t r p f ∷ a) [] l c o = no_first (Catch s u t r p f) a refl o
-  settles (suc n) (suc j) (Catch s u t r p f ∷ a) (e ∷ es) l c o =
+  takes_free (suc n) (suc j) (Catch s u t r p f ∷ a) [] l c o = no_first (Catch s u t r p f) a refl o
+  takes_free (suc n) (suc j) (Catch s u t r p f ∷ a) (e ∷ es) l c o =
       let d : Entry = CatchEntry t r (height_cont a f) in
       let same : e ≡ d = head-is d e (erased (a ++ zs)) (height_entries (es ++ floor)) o.entries in
       let rest : Own a es = later (Catch s u t r p f) a e d es o.sound.2 o refl in
-      let q = settles n j a es (omega arith) (omega arith) rest in
+      let q = takes_free n j a es (omega arith) (omega arith) rest in
       subst (λ x. IsSettledOwn (Catch s u t r p f ∷ a) (own_free_steps floor (suc j) (x ∷ es))) (sym same) (
         q.0,
         private_drops 0 (Catch s u t r p f) [] [] a q.0 refl
             (subst (λ l. Private m (is_inner_record inside) 0 [] l q.0) (sym (map-none m a)) q.1),
         q.2,
       )
-  settles (suc n) (suc j) (Findall s u results list p f ∷ a) [] l c o = no_first (Findall s u results list p f) a refl o
-  settles (suc n) (suc j) (Findall s u results list p f ∷ a) (e ∷ es) l c o =
+  takes_free (suc n) (suc j) (Findall s u results list p f ∷ a) [] l c o = no_first (Findall s u results list p f) a refl o
+  takes_free (suc n) (suc j) (Findall s u results list p f ∷ a) (e ∷ es) l c o =
       let d : Entry = FindallEntry results list (height_cont a f) in
       let same : e ≡ d = head-is d e (erased (a ++ zs)) (height_entries (es ++ floor)) o.entries in
       let rest : Own a es = later (Findall s u results list p f) a e d es o.sound.3 o refl in
@@ -287,12 +287,12 @@ module _ (clauses : List Clause) (inside : Name → Bool) (grown : IsGrown insid
       (wakes (Findall s u results list p f) (Plain p (results_first results list u f)) a (e ∷ es)
       (PlainEntry (before (GoalItem eq (length (es ++ floor)) ∷ []) (height_cont a f)) ∷ es) refl o (entry, o.sound.3) o.inner.0.1
       left)
-  settles (suc n) (suc j) (End p b ∷ a) [] l c o = no_first (End p b) a refl o
-  settles (suc n) (suc j) (End p b ∷ a) (e ∷ es) l c o =
+  takes_free (suc n) (suc j) (End p b ∷ a) [] l c o = no_first (End p b) a refl o
+  takes_free (suc n) (suc j) (End p b ∷ a) (e ∷ es) l c o =
       let d : Entry = EndEntry b in
       let same : e ≡ d = head-is d e (erased (a ++ zs)) (height_entries (es ++ floor)) o.entries in
       subst (λ x. IsSettledOwn (End p b ∷ a) (own_free_steps floor (suc j) (x ∷ es))) (sym same)
       (stays (End p b ∷ a) (d ∷ es) (subst (λ x. Own (End p b ∷ a) (x ∷ es)) same o))
 
-  pub own-settled : (a : List Element) (es : List Entry) → NamesEntries inside a zs es floor → IsSettledOwn a (own_at_rest floor es)
-  own-settled a es o = settles (length a) (length es) a es (omega arith) (omega arith) o
+  pub own-free_taken : (a : List Element) (es : List Entry) → NamesEntries inside a zs es floor → IsSettledOwn a (own_at_rest floor es)
+  own-free_taken a es o = takes_free (length a) (length es) a es (omega arith) (omega arith) o

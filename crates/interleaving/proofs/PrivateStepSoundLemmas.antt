@@ -65,26 +65,26 @@ collected_over w h t (e ∷ es) o = go (length es == h) (collected_over w h t es
     go true k = (with_result_over (stack_way es w) t e o.0, o.1)
     go false k = (subst (λ way. IsOver way e) (sym (collected_way h t es w)) o.0, k)
 
-settles_over : (w : Way) (floor es : List Entry) (items : List (Item ℕ)) (f : Continuation ℕ) (go : List Entry → List Entry)
+plain_step_over : (w : Way) (floor es : List Entry) (items : List (Item ℕ)) (f : Continuation ℕ) (go : List Entry → List Entry)
     → IsAsked (stack_way es w) (as_scopes items) → AreOver w es → ((ds : List Entry) → AreOver w ds → AreOver w (go ds))
     → AreOver w (own_free_step items f es floor go)
-settles_over w floor es [] f go i o g = (i, o)
-settles_over w floor es (GoalItem t h ∷ items) f go i o g = (i, o)
-settles_over w floor es (CatchMark h ∷ items) f go i o g = (i, o)
-settles_over w floor es (RemovalItem number ∷ items) f go i o g = (i, o)
-settles_over w floor es (CollectMark t h ∷ items) f go i o g = pick (nat_lt h (length floor))
+plain_step_over w floor es [] f go i o g = (i, o)
+plain_step_over w floor es (GoalItem t h ∷ items) f go i o g = (i, o)
+plain_step_over w floor es (CatchMark h ∷ items) f go i o g = (i, o)
+plain_step_over w floor es (RemovalItem number ∷ items) f go i o g = (i, o)
+plain_step_over w floor es (CollectMark t h ∷ items) f go i o g = pick (nat_lt h (length floor))
   where
     pick : (b : Bool) → AreOver w (cond b (PlainEntry (with_items (CollectMark t h ∷ items) f) ∷ es)
         (go (collected (h - length floor) t es)))
     pick true = (i, o)
     pick false = g (collected (h - length floor) t es) (collected_over w (h - length floor) t es o)
 
-pub settle_over : (w : Way) (floor : List Entry) → IsFloor w floor → (k : ℕ) (es : List Entry) → AreOver w es
+pub free_steps_over : (w : Way) (floor : List Entry) → IsFloor w floor → (k : ℕ) (es : List Entry) → AreOver w es
     → AreOver w (own_free_steps floor k es)
-settle_over w floor c zero es o = o
-settle_over w floor c (suc k) [] o = tt
-settle_over w floor c (suc k) (CatchEntry x r f ∷ es) o = settle_over w floor c k es o.1
-settle_over w floor c (suc k) (FindallEntry results l f ∷ es) o = (
+free_steps_over w floor c zero es o = o
+free_steps_over w floor c (suc k) [] o = tt
+free_steps_over w floor c (suc k) (CatchEntry x r f ∷ es) o = free_steps_over w floor c k es o.1
+free_steps_over w floor c (suc k) (FindallEntry results l f ∷ es) o = (
   record {
     asked = o.0.asked;
     scoped = top_goals (stack_way es w) (length (es ++ floor)) (counted_stack es w c.counted)
@@ -92,14 +92,14 @@ settle_over w floor c (suc k) (FindallEntry results l f ∷ es) o = (
   },
   o.1,
 )
-settle_over w floor c (suc k) (PlainEntry f ∷ es) o =
-    settles_over w floor es (without_marks f.items) f (own_free_steps floor k)
+free_steps_over w floor c (suc k) (PlainEntry f ∷ es) o =
+    plain_step_over w floor es (without_marks f.items) f (own_free_steps floor k)
     (record {
       asked = o.0.asked;
       scoped = marks_scopes (stack_way es w) f.items
           (counted_path (stack_way es w) (counted_stack es w c.counted)) o.0.scoped;
-    }) o.1 (settle_over w floor c k)
-settle_over w floor c (suc k) (EndEntry b ∷ es) o = o
+    }) o.1 (free_steps_over w floor c k)
+free_steps_over w floor c (suc k) (EndEntry b ∷ es) o = o
 
 -- the own part of a stack
 take-own : (xs ys : List Entry) → take (length xs) (xs ++ ys) ≡ xs
@@ -117,7 +117,7 @@ after_over : (w : Way) (floor result es : List Entry) → IsFloor w floor → Is
 after_over w floor result es k o e =
     let own : own_part floor result ≡ o.own = ap (own_part floor) o.joined ∙ own_part-join floor o.own in
     let same : own_at_rest floor (own_part floor result) ≡ es = some_same e in
-    subst (AreOver w) same (subst (λ xs. AreOver w (own_at_rest floor xs)) (sym own) (settle_over w floor k (length o.own) o.own o.over))
+    subst (AreOver w) same (subst (λ xs. AreOver w (own_at_rest floor xs)) (sym own) (free_steps_over w floor k (length o.own) o.own o.over))
   where
     some_same : {a b : List Entry} → Some a ≡ Some b → a ≡ b
     some_same h = cc

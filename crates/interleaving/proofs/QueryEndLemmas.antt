@@ -52,7 +52,7 @@ use Rattle.interleaving.proofs.FrontSoundLemmas.{ended_sound}
 use Rattle.interleaving.proofs.BaredLemmas.{bare_becomes}
 use Rattle.interleaving.proofs.PlacedNameLemmas.{bare}
 use Rattle.interleaving.proofs.FrontEntriesLemmas.{map-parts}
-use Rattle.interleaving.proofs.QueryLastLemmas.{RightsNone, rights_none, OnlyEnds, back_ends, ends_lead, ends_given, ends_settle}
+use Rattle.interleaving.proofs.QueryLastLemmas.{RightsNone, rights_none, OnlyEnds, back_ends, ends_lead, ends_given, ends_take_no_step}
 use Rattle.interleaving.proofs.QueryLastLemmas.{ends_erased, ends_quiet, closes_lead}
 use Rattle.interleaving.proofs.FrontStepLemmas.{front_asked, gate_moves}
 use Rattle.au_term.proofs.LogicLemmas.{number_same}
@@ -161,8 +161,8 @@ module _ (t : TreeState) (w : ℕ) (a : Place) (s : Spot) (b : Option Term) (e :
         (ended_sound (length s.level.left) s.level.number clauses levels s.level.spent 1 b back first.clear
         (subst IsSound old_list (lists_are_sound t i k))) in
         let m = scoped clauses in
-        let settled = closes_lead t.next levels one p.around first.clear rights caught.0 in
-        let less = settled.less in
+        let free_taken = closes_lead t.next levels one p.around first.clear rights caught.0 in
+        let less = free_taken.less in
         let quiet = front_quiet levels first.clear in
         let whole : lead (front ++ (Credit 1 [] ∷ back)) ≡ inferences front + (1 + lead back) = lead-quiet front (Credit 1 [] ∷ back)
         quiet in
@@ -187,12 +187,12 @@ module _ (t : TreeState) (w : ℕ) (a : Place) (s : Spot) (b : Option Term) (e :
             alike = λ n w x y. ap seen (credits_over clauses (front ++ (Credit 1 [] ∷ back)) n w
                 (quiet-append front (Credit 1 [] ∷ back) quiet (ends_quiet back ends))
                 (omega (arith, x, whole, count, zero_back, none_spent))
-                ∙ sym (credits_over clauses (pending_list new.root) n w settled.quiet
+                ∙ sym (credits_over clauses (pending_list new.root) n w free_taken.quiet
                 (omega (arith, x, less, whole, count, zero_back, none_spent, is_base))));
-            lead = λ x b l. settled.enough x b (omega (arith, is_base, l));
+            lead = λ x b l. free_taken.enough x b (omega (arith, is_base, l));
           };
           alike = λ n. ap (λ l. seen (run m n (shared_of answers new) l))
-              (sym (ap (free_steps m []) (ends_given clauses (records front) back ends) ∙ ends_settle clauses back ends));
+              (sym (ap (free_steps m []) (ends_given clauses (records front) back ends) ∙ ends_take_no_step clauses back ends));
           running = running;
         }) (λ l. omega (arith, less, whole, count, zero_back, is_base))
 

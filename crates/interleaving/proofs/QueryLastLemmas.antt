@@ -74,14 +74,14 @@ ends_given clauses rs (Catch s u c r p f ∷ xs) h = absurd h
 ends_given clauses rs (Findall s u results list p f ∷ xs) h = absurd h
 ends_given clauses rs (End p b ∷ xs) h = absurd h
 
-pub ends_settle : (clauses : List Clause) (xs : List Element) → OnlyEnds xs → free_steps (scoped clauses) [] xs ≡ []
-ends_settle clauses [] h = refl
-ends_settle clauses (EndOf s ∷ xs) h = ends_settle clauses xs h
-ends_settle clauses (Credit k qs ∷ xs) h = absurd h
-ends_settle clauses (Plain p f ∷ xs) h = absurd h
-ends_settle clauses (Catch s u c r p f ∷ xs) h = absurd h
-ends_settle clauses (Findall s u results list p f ∷ xs) h = absurd h
-ends_settle clauses (End p b ∷ xs) h = absurd h
+pub ends_take_no_step : (clauses : List Clause) (xs : List Element) → OnlyEnds xs → free_steps (scoped clauses) [] xs ≡ []
+ends_take_no_step clauses [] h = refl
+ends_take_no_step clauses (EndOf s ∷ xs) h = ends_take_no_step clauses xs h
+ends_take_no_step clauses (Credit k qs ∷ xs) h = absurd h
+ends_take_no_step clauses (Plain p f ∷ xs) h = absurd h
+ends_take_no_step clauses (Catch s u c r p f ∷ xs) h = absurd h
+ends_take_no_step clauses (Findall s u results list p f ∷ xs) h = absurd h
+ends_take_no_step clauses (End p b ∷ xs) h = absurd h
 
 pub ends_erased : (xs : List Element) → OnlyEnds xs → (erased xs ≡ []) × (element_count xs ≡ 0)
 ends_erased [] h = (refl, refl)

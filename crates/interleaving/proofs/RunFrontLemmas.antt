@@ -41,16 +41,16 @@ module _ {W X Q R : Type 0} (m : Machine W X Q R) where
   freed-same (AsksWorld p) y f g xs ys h e = ap (λ zs. y ∷ zs) e
 
   -- records that are under way, and records that were given
-  pub settle-given : (rs qs : List R) (xs : List X) → free_steps m (rs ++ qs) xs ≡ free_steps m qs (map (gives m rs) xs)
-  settle-given rs qs [] = refl
-  settle-given rs qs (x ∷ xs) =
+  pub take_free-given : (rs qs : List R) (xs : List X) → free_steps m (rs ++ qs) xs ≡ free_steps m qs (map (gives m rs) xs)
+  take_free-given rs qs [] = refl
+  take_free-given rs qs (x ∷ xs) =
       ap (λ y. freed m (m.act y) y (λ new. free_steps m ((rs ++ qs) ++ new) xs) (map (gives m (rs ++ qs)) xs)) (gives-append rs qs x)
       ∙ freed-same (m.act (gives m qs (gives m rs x))) (gives m qs (gives m rs x)) (λ new. free_steps m ((rs ++ qs) ++ new) xs)
       (λ new. free_steps m (qs ++ new) (map (gives m rs) xs)) (map (gives m (rs ++ qs)) xs) (map (gives m qs) (map (gives m rs) xs))
-      (λ new. ap (λ zs. free_steps m zs xs) (append-assoc rs qs new) ∙ settle-given rs (qs ++ new) xs) (maps-append rs qs xs)
+      (λ new. ap (λ zs. free_steps m zs xs) (append-assoc rs qs new) ∙ take_free-given rs (qs ++ new) xs) (maps-append rs qs xs)
 
-  pub settle-map : (rs : List R) (xs : List X) → free_steps m rs xs ≡ free_steps m [] (map (gives m rs) xs)
-  settle-map rs xs = ap (λ zs. free_steps m zs xs) (sym (append-nil rs)) ∙ settle-given rs [] xs
+  pub take_free-map : (rs : List R) (xs : List X) → free_steps m rs xs ≡ free_steps m [] (map (gives m rs) xs)
+  take_free-map rs xs = ap (λ zs. free_steps m zs xs) (sym (append-nil rs)) ∙ take_free-given rs [] xs
 
   -- elements that don't see what is under them, or see none of some elements
   module _ (P : X → Type 0) (K : Q → Type 0) (G : R → Type 0) where

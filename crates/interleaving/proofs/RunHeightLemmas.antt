@@ -32,7 +32,7 @@ use Rattle.interleaving.proofs.PlaceHeightLemmas.{solutions-height, control-heig
 use Rattle.interleaving.proofs.BallHeightLemmas.{unwound-height, mark-heights, mark-guarded}
 use Rattle.interleaving.proofs.CarriedLemmas.{entry_rest}
 use Rattle.interleaving.proofs.PreservedLemmas.{control-sound, reply-sound, opened-sound}
-use Rattle.interleaving.proofs.FreeStepHeightLemmas.{IsRested, IsFreed, settle-height}
+use Rattle.interleaving.proofs.FreeStepHeightLemmas.{IsRested, IsFreed, take_free-height}
 use Rattle.interleaving.proofs.SequentialHeightLemmas.{seq_height}
 
 pub goals-at : (h : Name → ℕ) (p : Name) (gs : List Term) → map (with_height h) (goals_at p gs) ≡ goals_at (h p) gs
@@ -59,7 +59,7 @@ module _ (clauses : List Clause) where
   -- an inference that leaves these, before the free steps
   leaves : (v : Shared) (ys : List Element) (t : HeightState) → v ≡ t.0 → erased ys ≡ t.1 → IsSound ys
       → Pending (v, free_steps m [] ys) (t.0, height_at_rest t.1)
-  leaves v ys t w e i = (w, settle-height clauses ys t.1 e i)
+  leaves v ys t w e i = (w, take_free-height clauses ys t.1 e i)
 
   pub reply-height : (r : Reply) (p : Name) (f : Continuation Name) (xs : List Element) → IsEntrySound p xs (names f.items) f.items
       → IsSound xs → erased (placed m (reply_place r p f) xs) ≡ height_reply r (continuation_heights (height xs) f) (erased xs)
@@ -161,7 +161,7 @@ module _ (clauses : List Clause) where
   heights_run xs i n w =
       let s = run m n w (free_steps m [] xs) in
       let t = height_run clauses n (w, height_at_rest (erased xs)) in
-      let a : Pending s t = runs-erase n w (free_steps m [] xs) (height_at_rest (erased xs)) (settle-height clauses xs (erased xs) refl i) in
+      let a : Pending s t = runs-erase n w (free_steps m [] xs) (height_at_rest (erased xs)) (take_free-height clauses xs (erased xs) refl i) in
       record {
         erases = ap (λ v. (v, erased s.1)) a.0 ∙ ap (λ l. (t.0, l)) a.1.0;
         over = sym (rested-over s.1 a.1.2)

@@ -21,7 +21,7 @@ use Rattle.interleaving.proofs.CollapseLemmas.{Collapses, nothing, kept, path-fr
 use Rattle.interleaving.proofs.CollapseLemmas.{as_scopes}
 use Rattle.interleaving.proofs.StackLemmas.{IsCounted, counted_path, IsOver, AreOver}
 use Rattle.interleaving.proofs.PrivateSoundLemmas.{IsFloor}
-use Rattle.interleaving.proofs.PrivateStepSoundLemmas.{settle_over, one_more_over}
+use Rattle.interleaving.proofs.PrivateStepSoundLemmas.{free_steps_over, one_more_over}
 use Rattle.run_model.proofs.FreeStepLemmas.{length-collected}
 use Rattle.au_term.proofs.LogicLemmas.{number_same}
 
@@ -125,13 +125,13 @@ abbrev pub IsAwakeTop : List Entry → Type 0
 IsAwakeTop [] = Unit {0}
 IsAwakeTop (e ∷ es) = IsAwake e
 
-settles_awake : (floor es : List Entry) (items : List (Item ℕ)) (f : Continuation ℕ) (go : List Entry → List Entry)
+plain_step_awake : (floor es : List Entry) (items : List (Item ℕ)) (f : Continuation ℕ) (go : List Entry → List Entry)
     → ((ds : List Entry) → length ds ≡ length es → IsAwakeTop (go ds)) → IsAwakeTop (own_free_step items f es floor go)
-settles_awake floor es [] f go g = tt
-settles_awake floor es (GoalItem t h ∷ items) f go g = tt
-settles_awake floor es (CatchMark h ∷ items) f go g = tt
-settles_awake floor es (RemovalItem number ∷ items) f go g = tt
-settles_awake floor es (CollectMark t h ∷ items) f go g = pick (nat_lt h (length floor))
+plain_step_awake floor es [] f go g = tt
+plain_step_awake floor es (GoalItem t h ∷ items) f go g = tt
+plain_step_awake floor es (CatchMark h ∷ items) f go g = tt
+plain_step_awake floor es (RemovalItem number ∷ items) f go g = tt
+plain_step_awake floor es (CollectMark t h ∷ items) f go g = pick (nat_lt h (length floor))
   where
     pick : (b : Bool) → IsAwakeTop (cond b
         (PlainEntry (record { items = CollectMark t h ∷ items; named = f.named; next = f.next }) ∷ es)
@@ -139,15 +139,15 @@ settles_awake floor es (CollectMark t h ∷ items) f go g = pick (nat_lt h (leng
     pick true = tt
     pick false = g (collected (h - length floor) t es) (length-collected (h - length floor) t es)
 
-settle_awake : (floor : List Entry) (k : ℕ) (es : List Entry) → length es ≤ k → IsAwakeTop (own_free_steps floor k es)
-settle_awake floor zero [] l = tt
-settle_awake floor zero (e ∷ es) l = let no_way : ⊥ = omega arith in absurd no_way
-settle_awake floor (suc k) [] l = tt
-settle_awake floor (suc k) (CatchEntry x r f ∷ es) l = settle_awake floor k es (omega arith)
-settle_awake floor (suc k) (FindallEntry results x f ∷ es) l = tt
-settle_awake floor (suc k) (PlainEntry f ∷ es) l = settles_awake floor es (without_marks f.items) f (own_free_steps floor k)
-    (λ ds e. settle_awake floor k ds (omega (arith, e)))
-settle_awake floor (suc k) (EndEntry b ∷ es) l = tt
+free_steps_awake : (floor : List Entry) (k : ℕ) (es : List Entry) → length es ≤ k → IsAwakeTop (own_free_steps floor k es)
+free_steps_awake floor zero [] l = tt
+free_steps_awake floor zero (e ∷ es) l = let no_way : ⊥ = omega arith in absurd no_way
+free_steps_awake floor (suc k) [] l = tt
+free_steps_awake floor (suc k) (CatchEntry x r f ∷ es) l = free_steps_awake floor k es (omega arith)
+free_steps_awake floor (suc k) (FindallEntry results x f ∷ es) l = tt
+free_steps_awake floor (suc k) (PlainEntry f ∷ es) l = plain_step_awake floor es (without_marks f.items) f (own_free_steps floor k)
+    (λ ds e. free_steps_awake floor k ds (omega (arith, e)))
+free_steps_awake floor (suc k) (EndEntry b ∷ es) l = tt
 
 pub record IsRun (levels : List Level) (es : List Entry) : Type 0 where
   pub over : AreOver (height_way levels) es
@@ -156,7 +156,7 @@ pub record IsRun (levels : List Level) (es : List Entry) : Type 0 where
 after_awake : (floor : List Entry) (o : Option (List Entry)) (ds : List Entry) → own_after floor o ≡ Some ds → IsAwakeTop ds
 after_awake floor None ds e = let no_way : ⊥ = cc in absurd no_way
 after_awake floor (Some es) ds e = subst IsAwakeTop (some_same e)
-    (settle_awake floor (length (own_part floor es)) (own_part floor es) (omega arith))
+    (free_steps_awake floor (length (own_part floor es)) (own_part floor es) (omega arith))
   where
     some_same : {a b : List Entry} → Some a ≡ Some b → a ≡ b
     some_same h = cc
@@ -174,8 +174,8 @@ run_sound clauses levels e zero es p a o h =
     let same : own_at_rest (floor_of levels) (with_heights levels e ∷ []) ≡ es = some_same h in
     record {
       over = subst (AreOver (height_way levels)) same
-          (settle_over (height_way levels) (floor_of levels) (floor_way levels) 1 (with_heights levels e ∷ []) first);
-      awake = subst IsAwakeTop same (settle_awake (floor_of levels) 1 (with_heights levels e ∷ []) (omega arith));
+          (free_steps_over (height_way levels) (floor_of levels) (floor_way levels) 1 (with_heights levels e ∷ []) first);
+      awake = subst IsAwakeTop same (free_steps_awake (floor_of levels) 1 (with_heights levels e ∷ []) (omega arith));
     }
   where
     some_same : {a b : List Entry} → Some a ≡ Some b → a ≡ b

@@ -86,31 +86,31 @@ marks_twice (GoalItem t m ∷ items) = refl
 marks_twice (CollectMark t m ∷ items) = refl
 marks_twice (RemovalItem n ∷ items) = refl
 
-settles_top : (floor es : List Entry) (items : List (Item ℕ)) (f : Continuation ℕ) (go : List Entry → List Entry)
+plain_step_top : (floor es : List Entry) (items : List (Item ℕ)) (f : Continuation ℕ) (go : List Entry → List Entry)
     → without_marks f.items ≡ items → ((ds : List Entry) → length ds ≡ length es → IsTop (go ds))
     → IsTop (own_free_step items f es floor go)
-settles_top floor es [] f go q g = inl refl
-settles_top floor es (GoalItem t m ∷ items) f go q g = inl refl
-settles_top floor es (CatchMark m ∷ items) f go q g = inl (sym (twice (sym q)))
+plain_step_top floor es [] f go q g = inl refl
+plain_step_top floor es (GoalItem t m ∷ items) f go q g = inl refl
+plain_step_top floor es (CatchMark m ∷ items) f go q g = inl (sym (twice (sym q)))
   where
     twice : CatchMark m ∷ items ≡ without_marks f.items → CatchMark m ∷ items ≡ without_marks (CatchMark m ∷ items)
     twice e = e ∙ (sym (marks_twice f.items) ∙ ap without_marks (sym e))
-settles_top floor es (RemovalItem n ∷ items) f go q g = inl refl
-settles_top floor es (CollectMark t m ∷ items) f go q g = pick (nat_lt m (length floor))
+plain_step_top floor es (RemovalItem n ∷ items) f go q g = inl refl
+plain_step_top floor es (CollectMark t m ∷ items) f go q g = pick (nat_lt m (length floor))
   where
     pick : (b : Bool) → IsTop (cond b (PlainEntry (with_items (CollectMark t m ∷ items) f) ∷ es) (go (collected (m - length floor) t es)))
     pick true = inr tt
     pick false = g (collected (m - length floor) t es) (length-collected (m - length floor) t es)
 
-settle_top : (floor : List Entry) (k : ℕ) (es : List Entry) → length es ≤ k → IsTop (own_free_steps floor k es)
-settle_top floor zero [] l = tt
-settle_top floor zero (e ∷ es) l = let no_way : ⊥ = omega arith in absurd no_way
-settle_top floor (suc k) [] l = tt
-settle_top floor (suc k) (CatchEntry x r f ∷ es) l = settle_top floor k es (omega arith)
-settle_top floor (suc k) (FindallEntry results x f ∷ es) l = inl refl
-settle_top floor (suc k) (PlainEntry f ∷ es) l = settles_top floor es (without_marks f.items) f (own_free_steps floor k) refl
-    (λ ds e. settle_top floor k ds (omega (arith, e)))
-settle_top floor (suc k) (EndEntry b ∷ es) l = tt
+free_steps_top : (floor : List Entry) (k : ℕ) (es : List Entry) → length es ≤ k → IsTop (own_free_steps floor k es)
+free_steps_top floor zero [] l = tt
+free_steps_top floor zero (e ∷ es) l = let no_way : ⊥ = omega arith in absurd no_way
+free_steps_top floor (suc k) [] l = tt
+free_steps_top floor (suc k) (CatchEntry x r f ∷ es) l = free_steps_top floor k es (omega arith)
+free_steps_top floor (suc k) (FindallEntry results x f ∷ es) l = inl refl
+free_steps_top floor (suc k) (PlainEntry f ∷ es) l = plain_step_top floor es (without_marks f.items) f (own_free_steps floor k) refl
+    (λ ds e. free_steps_top floor k ds (omega (arith, e)))
+free_steps_top floor (suc k) (EndEntry b ∷ es) l = tt
 
 -- one more inference
 collect_rests : (clauses : List Clause) (levels : List Level) (items : List (Item ℕ)) (f : Continuation ℕ) (es : List Entry)
@@ -161,7 +161,7 @@ IsTopOf (Some es) = IsTop es
 
 after_top : (floor : List Entry) (o : Option (List Entry)) → IsTopOf (own_after floor o)
 after_top floor None = tt
-after_top floor (Some es) = settle_top floor (length (own_part floor es)) (own_part floor es) (omega arith)
+after_top floor (Some es) = free_steps_top floor (length (own_part floor es)) (own_part floor es) (omega arith)
 
 more_top : (clauses : List Clause) (levels : List Level) (es : List Entry) → IsTopOf (one_more clauses levels es)
 more_top clauses levels [] = tt
@@ -179,7 +179,7 @@ any_same clauses levels (Some es) h = more_same clauses levels es h
 
 run_top : (clauses : List Clause) (levels : List Level) (e : Entry) (k : ℕ) → IsTopOf (private_run clauses levels e k)
 unfolding private_run
-run_top clauses levels e zero = settle_top (floor_of levels) 1 (e ∷ []) (omega arith)
+run_top clauses levels e zero = free_steps_top (floor_of levels) 1 (e ∷ []) (omega arith)
 run_top clauses levels e (suc k) = any_top clauses levels (private_run clauses levels e k)
 
 pub same_run : (clauses : List Clause) (levels : List Level) (e : Entry) (k : ℕ) → private_run clauses levels e k

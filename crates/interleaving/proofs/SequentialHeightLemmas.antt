@@ -20,7 +20,7 @@ use Rattle.run_model.specs.Programs.Jobs.{Job}
 use Rattle.run_model.specs.Machine.States.{State, opened, goal_taken, removal_taken, item_taken, entry_taken, step, with_free_steps}
 use Rattle.run_model.specs.Machine.Runs.{seq}
 use Rattle.run_model.proofs.StepLemmas.{step_is, no_step, seq-zero, seq-suc}
-use Rattle.run_model.proofs.RunLemmas.{run_settled, is_stopped}
+use Rattle.run_model.proofs.RunLemmas.{runs_have_no_free_step, is_stopped}
 use Rattle.interleaving.specs.Machine.{is_finished}
 use Rattle.interleaving.specs.Scopes.{shared}
 use Rattle.interleaving.specs.HeightMachine.{HeightEntry, HeightState, height_entries, height_recovered, height_unwound, height_reply}
@@ -92,15 +92,15 @@ height-collected h t (e ∷ es) = ap
     go true k = refl
     go false k = ap (λ xs. HeightEntry e ∷ xs) k
 
-height-settles : (items : List (Item ℕ)) (f : Continuation ℕ) (es : List Entry) (k : ℕ)
+height-takes_free : (items : List (Item ℕ)) (f : Continuation ℕ) (es : List Entry) (k : ℕ)
     → ((ds : List Entry) → height_free_steps_within k (height_entries ds) ≡ height_entries (free_steps_within k ds))
     → height_plain_free_step items f (height_entries es) (height_free_steps_within k)
     ≡ height_entries (plain_free_step items f es (free_steps_within k))
-height-settles [] f es k h = refl
-height-settles (GoalItem t n ∷ items) f es k h = refl
-height-settles (CatchMark n ∷ items) f es k h = refl
-height-settles (RemovalItem n ∷ items) f es k h = refl
-height-settles (CollectMark t n ∷ items) f es k h = ap (height_free_steps_within k) (height-collected n t es) ∙ h (collected n t es)
+height-takes_free [] f es k h = refl
+height-takes_free (GoalItem t n ∷ items) f es k h = refl
+height-takes_free (CatchMark n ∷ items) f es k h = refl
+height-takes_free (RemovalItem n ∷ items) f es k h = refl
+height-takes_free (CollectMark t n ∷ items) f es k h = ap (height_free_steps_within k) (height-collected n t es) ∙ h (collected n t es)
 
 height-free_steps_within : (k : ℕ) (es : List Entry) → height_free_steps_within k (height_entries es)
     ≡ height_entries (free_steps_within k es)
@@ -108,11 +108,11 @@ height-free_steps_within zero es = refl
 height-free_steps_within (suc k) [] = refl
 height-free_steps_within (suc k) (CatchEntry c r f ∷ es) = height-free_steps_within k es
 height-free_steps_within (suc k) (FindallEntry results l f ∷ es) = rw (length-height es)
-height-free_steps_within (suc k) (PlainEntry f ∷ es) = height-settles (without_marks f.items) f es k (height-free_steps_within k)
+height-free_steps_within (suc k) (PlainEntry f ∷ es) = height-takes_free (without_marks f.items) f es k (height-free_steps_within k)
 height-free_steps_within (suc k) (EndEntry b ∷ es) = refl
 
-height-settle : (es : List Entry) → height_at_rest (height_entries es) ≡ height_entries (take_free_steps es)
-height-settle es = ap (λ n. height_free_steps_within n (height_entries es)) (length-height es) ∙ height-free_steps_within (length es) es
+height-take_free : (es : List Entry) → height_at_rest (height_entries es) ≡ height_entries (take_free_steps es)
+height-take_free es = ap (λ n. height_free_steps_within n (height_entries es)) (length-height es) ∙ height-free_steps_within (length es) es
 
 -- one inference
 record Pending (s : HeightState) (st new : State) : Type 0 where
@@ -187,7 +187,7 @@ went job n s a (x ∷ es) h =
     let taken : step job.clauses st ≡ entry_taken job.clauses (x ∷ es) st = step_is job.clauses st
     ∙ ap (λ is. entry_taken job.clauses is st) h in
     let going : st.halted ≡ None = none_halted st.halted (λ k e. is_entry x es (sym h ∙ (is_stopped job n).halted k e)) in
-    let one = entry-erases job.clauses x es st (subst HasNoFreeStep h (run_settled job n)) going in
+    let one = entry-erases job.clauses x es st (subst HasNoFreeStep h (runs_have_no_free_step job n)) going in
     let new : seq job (suc n) ≡ with_free_steps (entry_taken job.clauses (x ∷ es) st) = seq-suc job n ∙ ap with_free_steps taken in
     let now : s ≡ (shared st, height_entries (x ∷ es)) = ap (λ w. (w, s.1)) a.state
     ∙ ap (λ xs. (shared st, xs)) (a.entries ∙ ap height_entries h) in
@@ -195,7 +195,7 @@ went job n s a (x ∷ es) h =
     (height_inference job.clauses) now in
     let next = entry_taken job.clauses (x ∷ es) st in
     let after : Agrees (height_inference job.clauses (shared st, height_entries (x ∷ es))) (with_free_steps next) = record
-    { state = one.state; entries = ap height_at_rest one.entries ∙ height-settle next.entries } in
+    { state = one.state; entries = ap height_at_rest one.entries ∙ height-take_free next.entries } in
     let on : cond (is_finished s.1) 0 1 ≡ 1 = ap (λ t. cond (is_finished t.1) 0 1) now in
     record {
       agrees = subst (λ t. Agrees t (seq job (suc n))) (sym moved)
@@ -210,7 +210,7 @@ height_run-suc clauses (suc n) s = height_run-suc clauses n (height_inference cl
 
 agrees : (job : Job) (n : ℕ) → Agrees (height_after job n) (seq job n)
 agrees job zero = subst (Agrees (height_opening job)) (sym (seq-zero job))
-    (record { state = refl; entries = height-settle (opened job.queries) })
+    (record { state = refl; entries = height-take_free (opened job.queries) })
 agrees job (suc n) = subst (λ t. Agrees t (seq job (suc n))) (sym (height_run-suc job.clauses n (height_opening job)))
     (went job n (height_after job n) (agrees job n) (seq job n).entries refl).agrees
 

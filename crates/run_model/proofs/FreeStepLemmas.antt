@@ -29,32 +29,32 @@ plain_ends (CatchMark m ∷ items) n f es go h = absurd (n m items refl)
 plain_ends (CollectMark t m ∷ items) n f es go h = h t m
 
 -- after the free steps none is left on top
-pub settles : (k : ℕ) (es : List Entry) → length es ≤ k → HasNoFreeStep (free_steps_within k es)
-settles zero [] h = tt
-settles zero (e ∷ es) h = absurd (omega arith)
-settles (suc k) [] h = tt
-settles (suc k) (CatchEntry c r f ∷ es) h = settles k es (omega arith)
-settles (suc k) (FindallEntry results l f ∷ es) h = tt
-settles (suc k) (PlainEntry f ∷ es) h = plain_ends (without_marks f.items) (λ m rest e. no_mark f.items m rest e) f es (free_steps_within k) (λ t m. settles k (collected m t es) (omega (arith, length-collected m t es)))
-settles (suc k) (EndEntry b ∷ es) h = tt
+pub no_step_left_within : (k : ℕ) (es : List Entry) → length es ≤ k → HasNoFreeStep (free_steps_within k es)
+no_step_left_within zero [] h = tt
+no_step_left_within zero (e ∷ es) h = absurd (omega arith)
+no_step_left_within (suc k) [] h = tt
+no_step_left_within (suc k) (CatchEntry c r f ∷ es) h = no_step_left_within k es (omega arith)
+no_step_left_within (suc k) (FindallEntry results l f ∷ es) h = tt
+no_step_left_within (suc k) (PlainEntry f ∷ es) h = plain_ends (without_marks f.items) (λ m rest e. no_mark f.items m rest e) f es (free_steps_within k) (λ t m. no_step_left_within k (collected m t es) (omega (arith, length-collected m t es)))
+no_step_left_within (suc k) (EndEntry b ∷ es) h = tt
 
-pub all_settle : (es : List Entry) → HasNoFreeStep (take_free_steps es)
-all_settle es = settles (length es) es (omega arith)
+pub no_step_left : (es : List Entry) → HasNoFreeStep (take_free_steps es)
+no_step_left es = no_step_left_within (length es) es (omega arith)
 
-settled_items : (items : List (Item ℕ)) (f : Continuation ℕ) (es : List Entry) (go : List Entry → List Entry) → HaveNoMarkFirst items → plain_free_step (without_marks items) f es go ≡ PlainEntry (with_items items f) ∷ es
-settled_items [] f es go h = refl
-settled_items (GoalItem t m ∷ items) f es go h = refl
-settled_items (RemovalItem m ∷ items) f es go h = refl
-settled_items (CatchMark m ∷ items) f es go h = absurd h
-settled_items (CollectMark t m ∷ items) f es go h = absurd h
+unmarked_items_stay : (items : List (Item ℕ)) (f : Continuation ℕ) (es : List Entry) (go : List Entry → List Entry) → HaveNoMarkFirst items → plain_free_step (without_marks items) f es go ≡ PlainEntry (with_items items f) ∷ es
+unmarked_items_stay [] f es go h = refl
+unmarked_items_stay (GoalItem t m ∷ items) f es go h = refl
+unmarked_items_stay (RemovalItem m ∷ items) f es go h = refl
+unmarked_items_stay (CatchMark m ∷ items) f es go h = absurd h
+unmarked_items_stay (CollectMark t m ∷ items) f es go h = absurd h
 
 -- where there is no free step, nothing changes
-pub settled_stays : (es : List Entry) → HasNoFreeStep es → take_free_steps es ≡ es
-settled_stays [] h = refl
-settled_stays (PlainEntry f ∷ es) h = settled_items f.items f es (free_steps_within (length es)) h
-settled_stays (CatchEntry c r f ∷ es) h = absurd h
-settled_stays (FindallEntry results l f ∷ es) h = absurd h
-settled_stays (EndEntry b ∷ es) h = refl
+pub nothing_is_taken : (es : List Entry) → HasNoFreeStep es → take_free_steps es ≡ es
+nothing_is_taken [] h = refl
+nothing_is_taken (PlainEntry f ∷ es) h = unmarked_items_stay f.items f es (free_steps_within (length es)) h
+nothing_is_taken (CatchEntry c r f ∷ es) h = absurd h
+nothing_is_taken (FindallEntry results l f ∷ es) h = absurd h
+nothing_is_taken (EndEntry b ∷ es) h = refl
 
 -- the free steps one by one
 pub catch_drops : (c r : Term) (f : Continuation ℕ) (es : List Entry) → take_free_steps (CatchEntry c r f ∷ es) ≡ take_free_steps es

@@ -28,7 +28,7 @@ use Rattle.run_model.specs.Programs.Jobs.{Job}
 use Rattle.run_model.specs.Machine.States.{State, with_entries, goal_taken, replied, removal_taken, item_taken, entry_taken, step, with_free_steps, opening}
 use Rattle.run_model.specs.Machine.Runs.{seq, text_of, ending_by}
 use Rattle.run_model.specs.Laws.RunLaws.{IsPrefixOf, IsStopped, EndedRunStays, TextGrows}
-use Rattle.run_model.proofs.FreeStepLemmas.{all_settle}
+use Rattle.run_model.proofs.FreeStepLemmas.{no_step_left}
 use Rattle.run_model.proofs.StepLemmas.{step_is, seq-zero, seq-suc}
 use Rattle.au_model.specs.Terms.Each.{Each}
 use Rattle.au_model.proofs.EachLemmas.{IfFound, found_row, each-append}
@@ -210,7 +210,7 @@ entry_took clauses (FindallEntry results l f) es st s = absurd s
 
 -- what is so after n inferences
 record Counted (n : ℕ) (st : State) : Type 0 where
-  settled_now : HasNoFreeStep st.entries
+  no_free_step : HasNoFreeStep st.entries
   inferences : st.entries ≢ [] → st.inferences ≡ n
   within : st.inferences ≤ n
   answers : st.answers ≤ st.inferences
@@ -224,7 +224,7 @@ counted_more n st new e es h c t =
     let going : st.entries ≢ [] = λ k. is_entry e es (sym h ∙ k) in
     let so_far : st.inferences ≡ n = c.inferences going in
     record {
-      settled_now = all_settle new.entries;
+      no_free_step = no_step_left new.entries;
       inferences = λ k. omega (arith, so_far, t.inferences);
       within = omega (arith, so_far, t.inferences);
       answers = omega (arith, t.inferences, t.answers, c.answers);
@@ -233,20 +233,20 @@ counted_more n st new e es h c t =
 
 counted_step : (clauses : List Clause) (n : ℕ) (st : State) (es : List Entry) → st.entries ≡ es → Counted n st → Counted (suc n) (with_free_steps (step clauses st))
 counted_step clauses n st [] h c =
-    subst (Counted (suc n)) (sym (ended_step clauses st h)) (record { settled_now = c.settled_now; inferences = λ k. absurd (k h); within = omega (arith, c.within); answers = c.answers; halted = c.halted })
+    subst (Counted (suc n)) (sym (ended_step clauses st h)) (record { no_free_step = c.no_free_step; inferences = λ k. absurd (k h); within = omega (arith, c.within); answers = c.answers; halted = c.halted })
 counted_step clauses n st (e ∷ es) h c =
     let taken : step clauses st ≡ entry_taken clauses (e ∷ es) st = step_is clauses st ∙ ap (λ is. entry_taken clauses is st) h in
-    subst (λ new. Counted (suc n) (with_free_steps new)) (sym taken) (counted_more n st (entry_taken clauses (e ∷ es) st) e es h c (entry_took clauses e es st (subst HasNoFreeStep h c.settled_now)))
+    subst (λ new. Counted (suc n) (with_free_steps new)) (sym taken) (counted_more n st (entry_taken clauses (e ∷ es) st) e es h c (entry_took clauses e es st (subst HasNoFreeStep h c.no_free_step)))
 
 counted : (job : Job) (n : ℕ) → Counted n (seq job n)
 counted job zero =
     let none : (k : ℕ) → None ≡ Some k → take_free_steps (opening job).entries ≡ [] = λ k h. cc in
-    subst (Counted zero) (sym (seq-zero job)) (record { settled_now = all_settle (opening job).entries; inferences = λ h. refl; within = omega arith; answers = omega arith; halted = none })
+    subst (Counted zero) (sym (seq-zero job)) (record { no_free_step = no_step_left (opening job).entries; inferences = λ h. refl; within = omega arith; answers = omega arith; halted = none })
 counted job (suc n) = subst (Counted (suc n)) (sym (seq-suc job n)) (counted_step job.clauses n (seq job n) (seq job n).entries refl (counted job n))
 
 -- no free step is left on top of a state of a run
-pub run_settled : (job : Job) (n : ℕ) → HasNoFreeStep (seq job n).entries
-run_settled job n = (counted job n).settled_now
+pub runs_have_no_free_step : (job : Job) (n : ℕ) → HasNoFreeStep (seq job n).entries
+runs_have_no_free_step job n = (counted job n).no_free_step
 
 budget_stops : (es : List Entry) (o : Option ℕ) → es ≢ [] → ending_by es o ≡ Budget
 budget_stops [] o h = absurd (h refl)

@@ -38,8 +38,8 @@ marks_drop f es = by_front (without_marks f.items) refl
         other (RemovalItem n ∷ is) = refl
 
 -- a findall goal without a solution left
-pub findall_settles : (results : List Term) (l : Term) (f : Continuation ℕ) (es : List Entry) → take_free_steps (FindallEntry results l f ∷ es) ≡ take_free_steps (findall_ends results l f es ∷ es)
-findall_settles results l f es = refl
+pub findall_takes_its_end : (results : List Term) (l : Term) (f : Continuation ℕ) (es : List Entry) → take_free_steps (FindallEntry results l f ∷ es) ≡ take_free_steps (findall_ends results l f es ∷ es)
+findall_takes_its_end results l f es = refl
 
 -- the findall entry at a place takes a result
 pub collects : (t : Term) (above : List Entry) (e : Entry) (es : List Entry) → collected (length es) t (above ++ e ∷ es) ≡ above ++ with_result t e ∷ es

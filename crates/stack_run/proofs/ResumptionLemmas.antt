@@ -105,14 +105,14 @@ unmarked (GoalItem t h ∷ is) = tt
 unmarked (CollectMark t h ∷ is) = tt
 unmarked (RemovalItem n ∷ is) = tt
 
-settled_by : (s : Substitution) (items : List Item) → IsUnmarked (map (item_view s) items) → result_in_front items ≡ None → HaveNoMarkFirst (map (item_view s) items)
+no_mark_first : (s : Substitution) (items : List Item) → IsUnmarked (map (item_view s) items) → result_in_front items ≡ None → HaveNoMarkFirst (map (item_view s) items)
 unfolding IsUnmarked
-settled_by s [] u e = tt
-settled_by s (Goal t h ∷ items) u e = tt
-settled_by s (CatchEnd h ∷ items) u e = absurd u
-settled_by s (Collect t h ∷ items) u e = absurd cc
-settled_by s (Remove n ∷ items) u e = tt
-settled_by s (End b ∷ items) u e = tt
+no_mark_first s [] u e = tt
+no_mark_first s (Goal t h ∷ items) u e = tt
+no_mark_first s (CatchEnd h ∷ items) u e = absurd u
+no_mark_first s (Collect t h ∷ items) u e = absurd cc
+no_mark_first s (Remove n ∷ items) u e = tt
+no_mark_first s (End b ∷ items) u e = tt
 
 pair_same : (s : Substitution) (u t : Term) (h scope : Scope) (is : List (ItemTerms ℕ)) → ◌≡◌ {A = Option (Term × Scope)} (Some (u, h)) (Some (t, scope)) → CollectMark (resolve s u) (scope_height h) ∷ is ≡ CollectMark (resolve s t) (scope_height scope) ∷ is
 pair_same s u t h scope is e = ap (λ o. mark_of o) e
@@ -136,7 +136,7 @@ alternative_rests old goals behind m b e h = record {
   view = λ own. marks_drop (continuation_view own old.store goals) (entries_under own old.store old.frames.items old.end)
       ∙ ap (λ is. take_free_steps (PlainEntry (with_items is (continuation_view own old.store goals)) ∷ entries_under own old.store old.frames.items old.end)) (sym (m (substitution old.store)));
   fit = record { sound = h.sound; current = b old.store.next h.current; frames = h.frames; ended = λ x. absurd (never (h.ended x).0) };
-  progress = (λ own. settled_by (substitution old.store) behind (subst IsUnmarked (sym (m (substitution old.store))) (unmarked (map (item_view (substitution old.store)) goals))) e, λ x. absurd (some x));
+  progress = (λ own. no_mark_first (substitution old.store) behind (subst IsUnmarked (sym (m (substitution old.store))) (unmarked (map (item_view (substitution old.store)) goals))) e, λ x. absurd (some x));
 }
   where
     never : Some goals ≡ None → ⊥

@@ -21,7 +21,7 @@ use Rattle.run_model.specs.Machine.Heights.{after_reply}
 use Rattle.run_model.specs.Machine.States.{State, opened, remaining_queries, halt_number, item_taken, goal_taken, removal_taken, with_free_steps, step}
 use Rattle.au_model.specs.Terms.Substitutions.{Substitution, resolve}
 use Rattle.au_model.specs.declared.types.VarName.{VarName}
-use Rattle.run_model.proofs.FreeStepLemmas.{all_settle}
+use Rattle.run_model.proofs.FreeStepLemmas.{no_step_left}
 use Rattle.run_model.proofs.StepLemmas.{plain_step, end_step}
 use Rattle.clause_compile.specs.CompiledClauses.{goal_items}
 use Rattle.clause_compile.specs.declared.item.Scope.{Scope}
@@ -234,12 +234,12 @@ infers_so program clauses asked answers s new goals rest i before after none hal
     ∙ ap (λ cs. step cs (stack_state program asked answers (with_current goals s) old none inferences)) p))))))
 
 -- free steps after it
-pub settles_so : (program : Program) (asked answers : ℕ) (s new : Stack) → ((own : List NamedTerm) → stack_view own new ≡ take_free_steps (stack_view own s)) → (w : WorldTerms) (halted : Option ℕ) (inferences : ℕ)
+pub steps_taken_so : (program : Program) (asked answers : ℕ) (s new : Stack) → ((own : List NamedTerm) → stack_view own new ≡ take_free_steps (stack_view own s)) → (w : WorldTerms) (halted : Option ℕ) (inferences : ℕ)
     → stack_state program asked answers new w halted inferences ≡ with_free_steps (stack_state program asked answers s w halted inferences)
-settles_so program asked answers s new h w halted inferences = ap (state_of w halted answers inferences (drop asked program.queries.items)) (h (own_asked asked program.queries.items))
+steps_taken_so program asked answers s new h w halted inferences = ap (state_of w halted answers inferences (drop asked program.queries.items)) (h (own_asked asked program.queries.items))
 
 pub ready : (s new : Stack) → ((own : List NamedTerm) → stack_view own new ≡ take_free_steps (stack_view own s)) → IsFit new → IsResting new → IsReady new
-ready s new h f r = record { fit = f; resting = r; settled = λ own. subst HasNoFreeStep (sym (h own)) (all_settle (stack_view own s)) }
+ready s new h f r = record { fit = f; resting = r; no_free_step = λ own. subst HasNoFreeStep (sym (h own)) (no_step_left (stack_view own s)) }
 
 -- the item in front of a stack that is ready is no mark
 front_by : (s : Substitution) (goals : List Item) → HaveNoMarkFirst (map (item_view s) goals) → BeginsWithNoMark goals
@@ -257,7 +257,7 @@ at_item s goals taken c t r e =
       fit = subst IsFit same r.fit;
       none = t;
       ending = e;
-      front = front_by (substitution s.store) goals (subst (λ u. HasNoFreeStep (stack_view [] u)) same (r.settled []));
+      front = front_by (substitution s.store) goals (subst (λ u. HasNoFreeStep (stack_view [] u)) same (r.no_free_step []));
     }
 
 -- what was taken stands for the stack as it was

@@ -63,7 +63,7 @@ HasStatics program w = statics_of w ≡ static_among (arc_value program.procs)
 pub record IsReady (s : Stack) : Type 0 where
   pub fit : IsFit s
   pub resting : IsResting s
-  pub settled : (own : List NamedTerm) → HasNoFreeStep (stack_view own s)
+  pub no_free_step : (own : List NamedTerm) → HasNoFreeStep (stack_view own s)
 
 -- what a query's variable stands for
 abbrev pub value_in : StoreView → VarName → Term

@@ -169,8 +169,8 @@ no_under (base ts) e = (ts, refl)
 no_under (level ts c ls) e = absurd (snoc-none (lower_levels_pending ls) (pending_compound c (suc (length ts))) e)
 
 -- no compound is open
-pub settles-over : (cells : List Cell) (stack : List Pending) (out whole : List Cell) → IsCompleting cells stack out whole → stack ≡ [] → IsReordering cells stack out whole
-settles-over cells stack out whole h e =
+pub completes-over : (cells : List Cell) (stack : List Pending) (out whole : List Cell) → IsCompleting cells stack out whole → stack ≡ [] → IsReordering cells stack out whole
+completes-over cells stack out whole h e =
     let k = no_under h.levels (sym h.opened ∙ e) in
     record {
       levels = base k.0;
@@ -194,9 +194,9 @@ inner (base ts) below p e = absurd (snoc-none below p (sym e))
 inner (level ts c ls) below p e = record { terms = ts; cell = c; outer = ls; is = refl; pending_is = sym (snoc-last _ _ _ _ e); below_is = sym (snoc-front _ _ _ _ e) }
 
 -- it waits for more
-pub settles-waits : (cells : List Cell) (below : List Pending) (c : Cell) (n : ℕ) (out whole : List Cell) → IsCompleting cells (below ++ pending_compound c n ∷ []) out whole → 1 < n
+pub completes-waits : (cells : List Cell) (below : List Pending) (c : Cell) (n : ℕ) (out whole : List Cell) → IsCompleting cells (below ++ pending_compound c n ∷ []) out whole → 1 < n
     → IsReordering cells (below ++ pending_compound c (n - 1) ∷ []) out whole
-settles-waits cells below c n out whole h lt =
+completes-waits cells below c n out whole h lt =
     let k = inner h.levels below (pending_compound c n) (sym h.opened) in
     let number : n ≡ suc (length k.terms) = ap (λ p. p.left) k.pending_is in
     let same : c ≡ k.cell = ap (λ p. p.cell) k.pending_is in
@@ -214,9 +214,9 @@ no_items [] e = refl
 no_items (x ∷ xs) e = absurd (omega arith)
 
 -- it is complete too
-pub settles-more : (cells : List Cell) (below : List Pending) (c : Cell) (n : ℕ) (out whole : List Cell) → IsCompleting cells (below ++ pending_compound c n ∷ []) out whole → n ≤ 1
+pub completes-more : (cells : List Cell) (below : List Pending) (c : Cell) (n : ℕ) (out whole : List Cell) → IsCompleting cells (below ++ pending_compound c n ∷ []) out whole → n ≤ 1
     → IsCompleting cells below (out ++ c ∷ []) whole
-settles-more cells below c n out whole h le =
+completes-more cells below c n out whole h le =
     let k = inner h.levels below (pending_compound c n) (sym h.opened) in
     let number : n ≡ suc (length k.terms) = ap (λ p. p.left) k.pending_is in
     let same : c ≡ k.cell = ap (λ p. p.cell) k.pending_is in

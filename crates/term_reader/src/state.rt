@@ -160,7 +160,7 @@ impl State {
         post_operator: PostOperator,
     ) -> Result<(u16, bool), NoMemory>
         ensures at { self.new.at ≡ self.old.at }
-        ensures settled { WhereOperand self.old priority (λ s k l n. IfOk result (λ r. IsReducedBefore s k l priority (post_operator_meant n post_operator) self.new r.0 r.1)) }
+        ensures reduced { WhereOperand self.old priority (λ s k l n. IfOk result (λ r. IsReducedBefore s k l priority (post_operator_meant n post_operator) self.new r.0 r.1)) }
     {
         let mut last = priority;
         'operators: loop {

@@ -17,7 +17,7 @@ use Rattle.dyn_clauses.specs.DatabaseView.{is_static}
 use Rattle.dyn_clauses.specs.ClauseEnds.{indicator_of}
 use Rattle.text_load.specs.JobView.{AreStatics}
 use Rattle.text_load.specs.LoadedTexts.{Loading, clauses_beside, defines, is_declared, procedures_beside}
-use Rattle.text_load.specs.LoadingView.{AreApart}
+use Rattle.text_load.specs.LoadingView.{AreByDeclaration}
 
 -- ---- elements that are kept
 
@@ -66,7 +66,7 @@ not_of text name arity d c k = go (is_clause_of name arity c) refl where
       let is : defines text (name_of c.head) (argument_count c.head) ≡ true = ap₂ (defines text) (same_text (name_of c.head) name (sym parts.0)) (same_number (argument_count c.head) arity parts.1) ∙ d in
       sym is ∙ not-true (defines text (name_of c.head) (argument_count c.head)) k
 
-module _ (library text : Loading) (l : AreApart library.declared library.statics library.dynamics) (t : AreApart text.declared text.statics text.dynamics) where
+module _ (library text : Loading) (l : AreByDeclaration library.declared library.statics library.dynamics) (t : AreByDeclaration text.declared text.statics text.dynamics) where
   abbrev all : List Clause
   all = clauses_beside text library.statics ++ text.statics
 

@@ -13,7 +13,7 @@ use Rattle.run_model.specs.Programs.Clauses.{Clause, is_clause_of, is_defined}
 use Rattle.dyn_clauses.specs.declared.indicator.Indicator.{Indicator}
 use Rattle.dyn_clauses.specs.DatabaseView.{is_static}
 use Rattle.text_load.specs.LoadedTexts.{is_declared}
-use Rattle.text_load.specs.LoadingView.{AreApart, AreProceduresOf}
+use Rattle.text_load.specs.LoadingView.{AreByDeclaration, AreProceduresOf}
 
 -- an indicator is that of a clause
 indicator_turned : (i j : Indicator) (c : Clause) → j.name ≡ name_of c.head → j.arity ≡ argument_count c.head → (same_name i.name j.name && i.arity == j.arity) ≡ is_clause_of i.name i.arity c
@@ -34,9 +34,9 @@ clause_added known new cs j c n a h set i =
 
 -- ---- static and dynamic procedures stay apart
 
-module _ (declared : List Indicator) (statics dynamics : List Clause) (h : AreApart declared statics dynamics) where
+module _ (declared : List Indicator) (statics dynamics : List Clause) (h : AreByDeclaration declared statics dynamics) where
   -- a clause of a procedure that is not dynamic
-  pub static_apart : (c : Clause) → is_declared declared (name_of c.head) (argument_count c.head) ≡ false → AreApart declared (statics ++ c ∷ []) dynamics
+  pub static_apart : (c : Clause) → is_declared declared (name_of c.head) (argument_count c.head) ≡ false → AreByDeclaration declared (statics ++ c ∷ []) dynamics
   static_apart c other = record { static = λ i e. defined_more statics c i.name i.arity ∙ none_true (is_defined statics i.name i.arity) (is_clause_of i.name i.arity c) (h.static i e) (not_its i e); dynamic = h.dynamic } where
     not_its : (i : Indicator) → is_declared declared i.name i.arity ≡ true → is_clause_of i.name i.arity c ≡ false
     not_its i e = go (is_clause_of i.name i.arity c) refl where
@@ -48,11 +48,11 @@ module _ (declared : List Indicator) (statics dynamics : List Clause) (h : AreAp
           sym e ∙ (sym is ∙ other)
 
   -- a clause of a dynamic procedure
-  pub dynamic_apart : (c : Clause) → is_declared declared (name_of c.head) (argument_count c.head) ≡ true → AreApart declared statics (dynamics ++ c ∷ [])
+  pub dynamic_apart : (c : Clause) → is_declared declared (name_of c.head) (argument_count c.head) ≡ true → AreByDeclaration declared statics (dynamics ++ c ∷ [])
   dynamic_apart c its = record { static = h.static; dynamic = each-append (λ d. is_declared declared (name_of d.head) (argument_count d.head) ≡ true) dynamics (c ∷ []) h.dynamic (its, tt) }
 
   -- procedures that have no static clauses
-  pub declared_apart : (is : List Indicator) → list_any (λ i. is_defined statics i.name i.arity) is ≡ false → AreApart (declared ++ is) statics dynamics
+  pub declared_apart : (is : List Indicator) → list_any (λ i. is_defined statics i.name i.arity) is ≡ false → AreByDeclaration (declared ++ is) statics dynamics
   declared_apart is none = record { static = without; dynamic = each-more (λ d. is_declared declared (name_of d.head) (argument_count d.head) ≡ true) (λ d. is_declared (declared ++ is) (name_of d.head) (argument_count d.head) ≡ true) (λ d e. more (name_of d.head) (argument_count d.head) e) dynamics h.dynamic } where
     either : (name : List ℕ) (arity : ℕ) → is_declared (declared ++ is) name arity ≡ (is_declared declared name arity || is_declared is name arity)
     either name arity = list_any-append (λ i. same_name name i.name && arity == i.arity) declared is

@@ -17,6 +17,6 @@ abbrev pub AreProceduresOf : List Indicator → List Clause → Type 0
 AreProceduresOf keys clauses = (i : Indicator) → is_static keys i ≡ is_defined clauses i.name i.arity
 
 -- no dynamic procedure has a static clause, and each dynamic clause is of a dynamic procedure
-pub record AreApart (declared : List Indicator) (statics dynamics : List Clause) : Type 0 where
+pub record AreByDeclaration (declared : List Indicator) (statics dynamics : List Clause) : Type 0 where
   pub static : (i : Indicator) → is_declared declared i.name i.arity ≡ true → is_defined statics i.name i.arity ≡ false
   pub dynamic : Each (λ c. is_declared declared (name_of c.head) (argument_count c.head) ≡ true) dynamics

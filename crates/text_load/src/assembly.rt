@@ -8,7 +8,7 @@ ghost use Rattle.dyn_clauses.specs.declared.indicator.Indicator.{Indicator as In
 ghost use Rattle.dyn_clauses.specs.DatabaseView.{is_static};
 ghost use Rattle.dyn_clauses.specs.ClauseEnds.{indicator_of};
 ghost use Rattle.text_load.specs.JobView.{AreStatics};
-ghost use Rattle.text_load.specs.LoadingView.{AreApart};
+ghost use Rattle.text_load.specs.LoadingView.{AreByDeclaration};
 ghost use Rattle.text_load.specs.LoadedTexts.{clauses_beside, database_of, job_of, procedures_beside};
 
 use crate::job::Job;
@@ -93,8 +93,8 @@ fn procedures_of(
     text: &Loading,
 ) -> Result<Vec<Indicator>, NoMemory>
     ensures procedures { IfOk result (λ procedures. procedures.items ≡ procedures_beside text.now library.now.declared ++ text.now.declared) }
-    ensures library { IfOk result (λ procedures. AreApart library.now.declared library.now.statics library.now.dynamics) }
-    ensures text { IfOk result (λ procedures. AreApart text.now.declared text.now.statics text.now.dynamics) }
+    ensures library { IfOk result (λ procedures. AreByDeclaration library.now.declared library.now.statics library.now.dynamics) }
+    ensures text { IfOk result (λ procedures. AreByDeclaration text.now.declared text.now.statics text.now.dynamics) }
 {
     let mut procedures = Vec::new(alloc);
     push_procedures_beside(library.declared_procedures(), text, &mut procedures)?;

@@ -8,7 +8,7 @@ ghost use Rattle.run_model.specs.Programs.Clauses.{is_defined};
 ghost use Rattle.text_load.specs.Directives.{MakesDynamic, ChangesOperators};
 ghost use Rattle.text_load.specs.LoadedTexts.{defines, directed, first_loading, is_declared, taken, with_clause};
 ghost use Rattle.text_load.specs.LoadedSentences.{IsTaken, directive_meant, sentence_meant};
-ghost use Rattle.text_load.specs.LoadingView.{AreApart};
+ghost use Rattle.text_load.specs.LoadingView.{AreByDeclaration};
 
 use crate::directive::Directive;
 use crate::procedures::{Declared, Statics};
@@ -68,7 +68,7 @@ impl Model for Loading {
     ghost use Rattle.std.specs.Coded.{codes};
     ghost use Rattle.au_term.specs.PrefixOrder.{term_code};
     ghost use Rattle.text_load.specs.LoadedTexts.{Loading as LoadingTerms};
-    ghost use Rattle.text_load.specs.LoadingView.{AreApart};
+    ghost use Rattle.text_load.specs.LoadingView.{AreByDeclaration};
 
     ghost Value = { LoadingTerms };
 
@@ -76,7 +76,7 @@ impl Model for Loading {
 
     ghost view = { λ l. record { setting = record { ops = l.ops; quotes = l.quotes }; declared = l.declared; statics = l.statics; dynamics = map arc_value l.dynamics.items; queries = l.queries.items } };
 
-    ghost invariant = { λ l. AreApart l.declared l.statics (map arc_value l.dynamics.items) };
+    ghost invariant = { λ l. AreByDeclaration l.declared l.statics (map arc_value l.dynamics.items) };
 }
 
 impl Loading {
@@ -196,7 +196,7 @@ impl Loading {
     /// The procedures that were made dynamic.
     pub(crate) fn declared_procedures(&self) -> &[Indicator]
         ensures are { result.now ≡ self.now.declared }
-        ensures apart { AreApart self.now.declared self.now.statics self.now.dynamics }
+        ensures apart { AreByDeclaration self.now.declared self.now.statics self.now.dynamics }
     {
         self.declared.procedures()
     }

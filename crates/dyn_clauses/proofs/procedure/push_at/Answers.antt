@@ -9,7 +9,7 @@ use Rattle.dyn_clauses.proofs.procedure.push_at.Goals as goal
 pub returns-in-Some : goal.returns-in-Some
 returns-in-Some c =
     subst (λ (cs : List NumberedClause). OnOk c.push.result (map shown c.push.new.found.items ≡ map shown c.args.found.now.items ++ cs))
-    (sym (ap numbered_clauses (picked_one c.args.clauses.now c.args.position c.in-Some.kept.now c.in-Some.ensures.value))) c.push.ensures
+    (sym (ap numbered_clauses (picked_one c.args.clauses.now c.args.position c.in-Some.keyed.now c.in-Some.ensures.value))) c.push.ensures
 
 pub returns-in-None : goal.returns-in-None
 returns-in-None c =

@@ -1,7 +1,7 @@
 use Rattle.std.proofs.Common.{◌≡◌, map}
 use Rattle.std.specs.Map.Iter.{deref_pair}
 use Rattle.dyn_clauses.specs.PositionIndex.{numbered_clauses}
-use Rattle.dyn_clauses.specs.KeptClauses.{placed_entry}
+use Rattle.dyn_clauses.specs.KeyedClauses.{placed_entry}
 use Rattle.clause_compile.specs.CompiledClauses.{shown}
 use Rattle.dyn_clauses.proofs.procedure.Procedure.all.Given as goal
 

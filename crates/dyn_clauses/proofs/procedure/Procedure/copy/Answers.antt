@@ -6,7 +6,7 @@ use Rattle.std.specs.BTreeMap.{insert_entry, is_at}
 use Rattle.std.proofs.lemmas.Map.Iter.{rest_more, rest_so_far}
 use Rattle.run_model.specs.Programs.Clauses.{Clause as ClauseTerms}
 use Rattle.dyn_clauses.specs.PositionIndex.{Placed}
-use Rattle.dyn_clauses.specs.KeptClauses.{clause_kept, placed_entry}
+use Rattle.dyn_clauses.specs.KeyedClauses.{clause_of_keyed, placed_entry}
 use Rattle.dyn_clauses.proofs.ProcedureLemmas.{placed_push}
 use Rattle.dyn_clauses.proofs.MatchingLemmas.{below_next, put_last}
 use Rattle.dyn_clauses.proofs.procedure.Procedure.copy.Goals as goal
@@ -15,13 +15,13 @@ use Rattle.dyn_clauses.proofs.procedure.Procedure.copy.Goals.{In_ok-clone}
 abbrev so_far : In_ok-clone → Placed
 so_far c = map placed_entry (map deref_pair c.loop-position.yielded)
 
-fits : (c : In_ok-clone) → (lookup (is_at (nat_cmp c.in-Some.position.now)) (so_far c) ≡ None) × (insert_entry nat_cmp (so_far c) c.in-Some.position.now (clause_kept c.in-Some.kept.now) ≡ so_far c ++ (c.in-Some.position.now, clause_kept c.in-Some.kept.now) ∷ [])
+fits : (c : In_ok-clone) → (lookup (is_at (nat_cmp c.in-Some.position.now)) (so_far c) ≡ None) × (insert_entry nat_cmp (so_far c) c.in-Some.position.now (clause_of_keyed c.in-Some.kept.now) ≡ so_far c ++ (c.in-Some.position.now, clause_of_keyed c.in-Some.kept.now) ∷ [])
 fits c =
     let done = map deref_pair c.loop-position.yielded in
     let whole : c.into_iter-position-iterator.result ≡ c.self.inside.clauses.entries = search rules in
     let split = rest_so_far deref_pair c.loop-position.yielded c.into_iter-position-iterator.result c.loop-position.position-iterator c.loop-position.yielded_by in
     let next = rest_more deref_pair c.loop-position.position-iterator c.next.new.self c.next.result (c.in-Some.position, c.in-Some.kept) c.in-Some.is c.next.ensures.steps in
-    put_last (map placed_entry done) c.in-Some.position.now (clause_kept c.in-Some.kept.now)
+    put_last (map placed_entry done) c.in-Some.position.now (clause_of_keyed c.in-Some.kept.now)
     (below_next c.self.inside.clauses done c.next.new.self c.in-Some.position.now c.in-Some.kept.now c.self.invariant.ordered (sym whole ∙ (split ∙ ap (λ es. done ++ es) next)))
 
 pub put-requires : goal.put-requires

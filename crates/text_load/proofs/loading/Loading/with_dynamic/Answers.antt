@@ -5,7 +5,7 @@ use Rattle.au_term.specs.Term.{argument_count}
 use Rattle.au_model.specs.Terms.Forms.{name_of}
 use Rattle.run_model.specs.Programs.Clauses.{Clause}
 use Rattle.text_load.specs.LoadedTexts.{Loading, is_declared}
-use Rattle.text_load.specs.LoadingView.{AreApart}
+use Rattle.text_load.specs.LoadingView.{AreByDeclaration}
 use Rattle.text_load.proofs.ProcedureLemmas.{dynamic_apart}
 use Rattle.text_load.proofs.loading.Loading.with_dynamic.Goals as goal
 
@@ -13,5 +13,5 @@ pub invariant_of-self : goal.invariant_of-self
 invariant_of-self c =
     let clause = arc_value c.args.clause in
     let its = ap (λ (l : Loading). is_declared l.declared (name_of clause.head) (argument_count clause.head)) c.self.view_is ∙ c.requires in
-    subst (λ (cs : List Clause). AreApart c.self.inside.declared c.self.inside.statics cs) (sym (ap (map arc_value) c.in_ok-push.ensures.items ∙ map-append arc_value c.self.inside.dynamics.items (c.args.clause ∷ [])))
+    subst (λ (cs : List Clause). AreByDeclaration c.self.inside.declared c.self.inside.statics cs) (sym (ap (map arc_value) c.in_ok-push.ensures.items ∙ map-append arc_value c.self.inside.dynamics.items (c.args.clause ∷ [])))
     (dynamic_apart c.self.inside.declared c.self.inside.statics (map arc_value c.self.inside.dynamics.items) c.self.invariant clause its)

@@ -1,7 +1,7 @@
 use Rattle.std.proofs.Common.{◌∙◌, ap, sym, refl}
 use Rattle.std.specs.Option.{is_some}
 use Rattle.dyn_clauses.proofs.ProcedureLemmas.{found_placed, take_is, take_placed}
-use Rattle.dyn_clauses.proofs.procedure.take_kept.Goals as goal
+use Rattle.dyn_clauses.proofs.procedure.take_keyed.Goals as goal
 
 pub returns-in_default-clause-found : goal.returns-in_default-clause-found
 returns-in_default-clause-found c = sym (found_placed c.args.clauses.now c.args.position ∙ ap is_some (sym c.in_default.ensures.value))
