@@ -15,13 +15,13 @@ places_above i j p (c ∷ cs) lt = by_test (p c) (places_above i (suc j) p cs (o
     by_test true h = (lt, h)
     by_test false h = h
 
-put_in_front : (v : ℕ) (ks : List ℕ) (rest : List ℕ → List ℕ) → Each (λ k. v < k) ks → put_in v ks rest ≡ v ∷ rest ks
+pub put_in_front : (v : ℕ) (ks : List ℕ) (rest : List ℕ → List ℕ) → Each (λ k. v < k) ks → put_in v ks rest ≡ v ∷ rest ks
 put_in_front v [] rest h = refl
 put_in_front v (k ∷ ks) rest h =
     let less : nat_lt v k ≡ true = let lt = h.0 in grind (arith, nat_tests) in
     ap (λ b. cond b (v ∷ rest (k ∷ ks)) (k ∷ put_in v ks rest)) less
 
-merged_front : (vs : List ℕ) (k : ℕ) (ks : List ℕ) → Each (λ v. k < v) vs → merged vs (k ∷ ks) ≡ k ∷ merged vs ks
+pub merged_front : (vs : List ℕ) (k : ℕ) (ks : List ℕ) → Each (λ v. k < v) vs → merged vs (k ∷ ks) ≡ k ∷ merged vs ks
 merged_front [] k ks h = refl
 merged_front (v ∷ vs) k ks h =
     let less : nat_lt v k ≡ false = let lt = h.0 in grind (arith, nat_tests) in
