@@ -135,7 +135,7 @@ impl Procedure {
     {
         let mut copy = Procedure::new(self.alloc);
         for (position, kept) in &self.clauses {
-            copy.put(*position, keyed.clause.clone()?)?;
+            copy.put(*position, kept.clause.clone()?)?;
         }
         Ok(copy)
     }
