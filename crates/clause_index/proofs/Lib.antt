@@ -1,0 +1,5 @@
+pub mod ClassLemmas
+pub mod NumberLemmas
+pub mod ChainLemmas
+pub mod HeadKeyLemmas
+pub mod PlaceLemmas

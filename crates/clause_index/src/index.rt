@@ -1,0 +1,183 @@
+//! The index.
+ghost use Rattle.std.specs.Prelude.{◌≡◌, ◌<◌, ◌∷◌, [], IfOk, OnOk, MatchOption, Some, length};
+ghost use Rattle.std.specs.List.{list_any};
+ghost use Rattle.clause_index.specs.Classes.{is_of, is_head_of, may_match, procedure_class, class_of};
+ghost use Rattle.clause_index.specs.Numbers.{first_from, numbers};
+ghost use Rattle.clause_index.specs.Cursors.{IsCursorOf, IsBelow, chain, numbers_left, TakesLeast};
+ghost use Rattle.clause_index.specs.declared.cursor.Cursor.{Cursor as CursorValue};
+ghost use Rattle.clause_index.specs.Chains.{IsLinked};
+
+use crate::cursor::Cursor;
+use crate::key::{Class, HeadKey, NumberKey};
+use au_term::NoMemory;
+use std::alloc::Global;
+use std::collections::BTreeMap;
+use std::marker::Model;
+
+/// The first clause of each class, by its number.
+type Firsts = BTreeMap<Class, u32>;
+
+/// An index of clauses. Contracts see the keys of their heads, in the order of the text.
+#[derive(Drop)]
+pub struct ClauseIndex {
+    heads: Vec<HeadKey>,
+    next_of_procedure: Vec<Option<u32>>,
+    next_of_class: Vec<Option<u32>>,
+    firsts: Firsts,
+}
+
+impl Model for ClauseIndex {
+    ghost use Rattle.std.specs.Prelude.{List};
+    ghost use Rattle.std.specs.Coded.{codes};
+    ghost use Rattle.au_term.specs.PrefixOrder.{term_code};
+    ghost use Rattle.clause_index.specs.declared.key.HeadKey.{HeadKey as HeadKeyValue};
+    ghost use Rattle.clause_index.specs.Chains.{IsIndexOf};
+
+    ghost Value = { List HeadKeyValue };
+
+    ghost coded = { Prim.hlevel (codes, term_code) };
+
+    ghost view = { λ i. i.heads.items };
+
+    ghost invariant = { λ i. IsIndexOf i.heads.items i.next_of_procedure.items i.next_of_class.items i.firsts };
+}
+
+impl ClauseIndex {
+    /// The index of clauses with these heads.
+    pub fn new(alloc: Global, heads: Vec<HeadKey>) -> Result<ClauseIndex, NoMemory>
+        ensures { IfOk result (λ index. index ≡ heads.items) }
+    {
+        if heads.len() > u32::MAX as usize {
+            return Err(NoMemory);
+        }
+        let mut next_of_procedure = Vec::new(alloc);
+        let mut next_of_class = Vec::new(alloc);
+        let mut firsts = BTreeMap::new(alloc);
+        let mut from = heads.len();
+        while from > 0 {
+            from -= 1;
+            let head = heads[from];
+            let procedure = Class::Procedure(head.name, head.arity);
+            link(from as u32, procedure, &mut firsts, &mut next_of_procedure)?;
+            link(from as u32, head.class(), &mut firsts, &mut next_of_class)?;
+        }
+        next_of_procedure.reverse();
+        next_of_class.reverse();
+        Ok(ClauseIndex {
+            heads,
+            next_of_procedure,
+            next_of_class,
+            firsts,
+        })
+    }
+
+    /// How many clauses there are.
+    pub fn len(&self) -> usize
+        ensures { result ≡ length self.now }
+    {
+        self.heads.len()
+    }
+
+    /// Whether a clause's head has this name and number of arguments.
+    pub fn is_defined(&self, name: u32, arity: u32) -> bool
+        ensures { result ≡ list_any (is_head_of name arity) self.now }
+    {
+        self.first(Class::Procedure(name, arity)).is_some()
+    }
+
+    /// The clauses that a goal with this name, number of arguments and first key may match. A goal whose first argument is a
+    /// variable, or that has none, has no key.
+    pub fn candidates(&self, name: u32, arity: u32, key: Option<NumberKey>) -> Cursor
+        ensures numbers { numbers_left self.now result ≡ numbers (may_match name arity key) self.now }
+        ensures cursor { IsCursorOf self.now result }
+    {
+        match key {
+            None => Cursor::All(self.first(Class::Procedure(name, arity))),
+            Some(key) => Cursor::ByKey(
+                self.first(Class::WithoutKey(name, arity)),
+                self.first(Class::WithKey(name, arity, key)),
+            ),
+        }
+    }
+
+    /// Takes the least number off those that a cursor has left.
+    pub fn take(&self, cursor: &mut Cursor) -> Option<u32>
+        requires { IsCursorOf self.now cursor.old }
+        ensures { MatchOption result ((numbers_left self.now cursor.old ≡ []) × (cursor.new ≡ cursor.old)) (TakesLeast self.now cursor.old cursor.new) }
+    {
+        match *cursor {
+            Cursor::All(None) => None,
+            Cursor::All(Some(number)) => {
+                *cursor = Cursor::All(self.next_in_procedure(number));
+                Some(number)
+            }
+            Cursor::ByKey(None, None) => None,
+            Cursor::ByKey(Some(number), None) => {
+                *cursor = Cursor::ByKey(self.next_in_class(number), None);
+                Some(number)
+            }
+            Cursor::ByKey(None, Some(number)) => {
+                *cursor = Cursor::ByKey(None, self.next_in_class(number));
+                Some(number)
+            }
+            Cursor::ByKey(Some(left), Some(right)) => {
+                let (number, rest) = self.least_of(left, right);
+                *cursor = rest;
+                Some(number)
+            }
+        }
+    }
+
+    /// The lesser of two clauses that are the first of their chains, and what is left after it.
+    fn least_of(&self, left: u32, right: u32) -> (u32, Cursor)
+        requires left { left < length self.now }
+        requires right { right < length self.now }
+        ensures { TakesLeast self.now (CursorValue.ByKey (Some left) (Some right)) result.1 result.0 }
+    {
+        if left < right {
+            let next = self.next_in_class(left);
+            return (left, Cursor::ByKey(next, Some(right)));
+        }
+        let next = self.next_in_class(right);
+        (right, Cursor::ByKey(Some(left), next))
+    }
+
+    /// The next clause of a clause's procedure.
+    fn next_in_procedure(&self, number: u32) -> Option<u32>
+        requires { number < length self.now }
+        ensures next { chain procedure_class self.now (Some number) ≡ number ∷ chain procedure_class self.now result }
+        ensures below { IsBelow (length self.now) result }
+    {
+        self.next_of_procedure[number as usize]
+    }
+
+    /// The next clause of a clause's class.
+    fn next_in_class(&self, number: u32) -> Option<u32>
+        requires { number < length self.now }
+        ensures next { chain class_of self.now (Some number) ≡ number ∷ chain class_of self.now result }
+        ensures below { IsBelow (length self.now) result }
+    {
+        self.next_of_class[number as usize]
+    }
+
+    /// The first clause of a class.
+    fn first(&self, class: Class) -> Option<u32>
+        ensures { result ≡ first_from 0 (is_of class) self.now }
+    {
+        self.firsts.get(&class).copied()
+    }
+}
+
+/// Puts a clause in front of those of a class, and links it to the one that was the first.
+fn link(
+    number: u32,
+    class: Class,
+    firsts: &mut Firsts,
+    links: &mut Vec<Option<u32>>,
+) -> Result<(), NoMemory>
+    ensures { OnOk result (IsLinked number class firsts.old firsts.new links.old.items links.new.items) }
+{
+    let next = firsts.insert(class, number)?;
+    links.push(next)?;
+    Ok(())
+}

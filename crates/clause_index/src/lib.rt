@@ -1,0 +1,16 @@
+//! The clauses of a program's text, found by the procedure of a goal and the key of its first argument. Names are numbers
+//! here, so that no characters are compared while a program runs.
+//!
+//! Each clause knows the next one of its procedure, and the next one whose head has the same first key. A look-up is one
+//! search in a map for each of at most two chains; taking a clause off is one step; and what is left to try is two numbers.
+#![tactic(auto)]
+
+mod cursor;
+mod heads;
+mod index;
+mod key;
+pub mod laws;
+
+pub use cursor::Cursor;
+pub use index::ClauseIndex;
+pub use key::{Class, HeadKey, NumberKey};
