@@ -23,7 +23,7 @@ pub enum EvalRefusal {
 
 /// An error without its term.
 #[derive(Drop)]
-pub(crate) enum Problem {
+pub enum Problem {
     Unbound,
     NotEvaluable(Atom, u32),
     Evaluation(EvalName),
@@ -31,7 +31,7 @@ pub(crate) enum Problem {
 
 impl Problem {
     /// The error.
-    fn fault(self, alloc: Global) -> Result<Fault, NoMemory>
+    pub fn fault(self, alloc: Global) -> Result<Fault, NoMemory>
         ensures { IfOk result (λ f. error_term_of f ≡ problem_term self) }
     {
         match self {
@@ -120,14 +120,15 @@ fn compound_value(
     not_evaluable(name, arity)
 }
 
-fn not_evaluable(name: &Atom, arity: u32) -> Result<Result<i64, Problem>, NoMemory>
+/// The error of a name with so many arguments that is no function.
+pub fn not_evaluable(name: &Atom, arity: u32) -> Result<Result<i64, Problem>, NoMemory>
     ensures { IfOk result (λ v. evaluated v ≡ not_evaluable name.now arity) }
 {
     Ok(Err(Problem::NotEvaluable(name.share()?, arity)))
 }
 
 /// The value of a function of one argument.
-fn unary_result(name: &Atom, x: Result<i64, Problem>) -> Result<Result<i64, Problem>, NoMemory>
+pub fn unary_result(name: &Atom, x: Result<i64, Problem>) -> Result<Result<i64, Problem>, NoMemory>
     ensures { IfOk result (λ v. evaluated v ≡ unary_value name.now (unary_function name.now) (evaluated x)) }
 {
     let Some(function) = unary_named(name) else {
@@ -140,7 +141,7 @@ fn unary_result(name: &Atom, x: Result<i64, Problem>) -> Result<Result<i64, Prob
 }
 
 /// The value of a function of two arguments. An error of the first comes before one of the second.
-fn binary_result(
+pub fn binary_result(
     name: &Atom,
     x: Result<i64, Problem>,
     y: Result<i64, Problem>,

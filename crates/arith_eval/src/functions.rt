@@ -14,7 +14,7 @@ use au_term::Atom;
 
 /// A function of one argument.
 #[derive(Clone, Copy, Debug, PartialEq, Eq)]
-pub(crate) enum Unary {
+pub enum Unary {
     Plus,
     Minus,
     Abs,
@@ -24,7 +24,7 @@ pub(crate) enum Unary {
 
 /// A function of two arguments.
 #[derive(Clone, Copy, Debug, PartialEq, Eq)]
-pub(crate) enum Binary {
+pub enum Binary {
     Add,
     Subtract,
     Multiply,
@@ -68,7 +68,7 @@ const BINARY: [(&str, Binary); 15] = [
 ];
 
 /// The function of one argument with this name, if there is one.
-pub(crate) fn unary_named(name: &Atom) -> Option<Unary>
+pub fn unary_named(name: &Atom) -> Option<Unary>
     ensures { option_map unary_meaning result ≡ option_map (λ f. f.value) (unary_function name.now) }
 {
     unary_among(&UNARY, name.text())
@@ -86,7 +86,7 @@ fn unary_among(rows: &[(&str, Unary)], name: &str) -> Option<Unary>
 }
 
 /// The function of two arguments with this name, if there is one.
-pub(crate) fn binary_named(name: &Atom) -> Option<Binary>
+pub fn binary_named(name: &Atom) -> Option<Binary>
     ensures { option_map binary_meaning result ≡ option_map (λ f. f.value) (binary_function name.now) }
 {
     binary_among(&BINARY, name.text())
@@ -112,7 +112,7 @@ fn is_named(row: &str, name: &str) -> bool
 
 impl Unary {
     /// Its value for this argument.
-    pub(crate) fn value(self, x: i64) -> Result<i64, EvalName>
+    pub fn value(self, x: i64) -> Result<i64, EvalName>
         ensures { outcome result ≡ unary_meaning self x }
     {
         match self {
@@ -127,7 +127,7 @@ impl Unary {
 
 impl Binary {
     /// Its value for these arguments.
-    pub(crate) fn value(self, x: i64, y: i64) -> Result<i64, EvalName>
+    pub fn value(self, x: i64, y: i64) -> Result<i64, EvalName>
         ensures { outcome result ≡ binary_meaning self x y }
     {
         match self {
