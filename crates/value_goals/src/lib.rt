@@ -1,0 +1,4 @@
+//! What goals ask of values, told where they are: nothing is copied.
+#![tactic(auto)]
+
+pub mod type_tests;
