@@ -1,4 +1,7 @@
 //! What goals ask of values, told where they are: nothing is copied.
 #![tactic(auto)]
 
+pub mod evaluation;
 pub mod type_tests;
+
+pub use evaluation::evaluate;

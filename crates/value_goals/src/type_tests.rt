@@ -1,5 +1,6 @@
 //! What the term that a value stands for is (ISO/IEC 13211-1, 8.3).
-ghost use Rattle.std.specs.Prelude.{◌≡◌};
+ghost use Rattle.std.specs.Prelude.{◌≡◌, false, MatchOption};
+ghost use Rattle.au_term.specs.Term.{IntTerm};
 ghost use Rattle.au_model.specs.Terms.Forms.{is_callable};
 ghost use Rattle.run_model.specs.Goals.TermTests.{is_variable, is_integer, is_atom, is_atomic, is_compound};
 ghost use Rattle.cell_store.specs.StoreView.{IsValueIn, meaning};
@@ -59,4 +60,15 @@ pub fn is_callable(store: &Store, value: BindingCell) -> bool
         store.dereference(value),
         BindingCell::Atom(_) | BindingCell::Compound(_, _)
     )
+}
+
+/// The integer that a value stands for, if it is one.
+pub fn integer_of(store: &Store, value: BindingCell) -> Option<i64>
+    requires { IsValueIn store.now value }
+    ensures { MatchOption result (is_integer (meaning store.now value) ≡ false) (λ z. meaning store.now value ≡ IntTerm z) }
+{
+    match store.dereference(value) {
+        BindingCell::Int(value) => Some(value),
+        _ => None,
+    }
 }
