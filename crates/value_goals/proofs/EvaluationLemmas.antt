@@ -1,7 +1,6 @@
 -- Expressions that are evaluated from the left.
-use Rattle.std.proofs.Common.{◌≡◌, ℕ, zero, suc, ◌+◌, ◌*◌, ◌<◌, ◌≤◌, ℤ, List, [], ◌∷◌, ◌++◌, Option, Some, None, option_map, Result, Ok, Err, reverse, refl, sym, ap, ap₂, ◌∙◌, subst, arith}
-use Rattle.au_term.specs.Term.{Term, IntTerm, Compound as CompoundTerm, Terms, end, more}
-use Rattle.au_model.specs.Terms.Faults.{error_term_of}
+use Rattle.std.proofs.Common.{◌≡◌, ℕ, ◌+◌, ◌<◌, ◌≤◌, ℤ, List, [], ◌∷◌, ◌++◌, Option, Some, None, option_map, Result, Ok, Err, reverse, refl, sym, ap, ap₂, ◌∙◌, subst, arith}
+use Rattle.au_term.specs.Term.{Term, IntTerm, Compound as CompoundTerm, end, more}
 use Rattle.au_model.specs.Terms.Lists.{terms_from}
 use Rattle.au_model.specs.Terms.Substitutions.{resolve, apply_all, value_of}
 use Rattle.au_model.specs.Terms.Unifier.{size}
@@ -20,7 +19,7 @@ use Rattle.cell_store.specs.Arguments.{HasFunctor, argument_at, arguments_from}
 use Rattle.cell_store.specs.StoreView.{StoreView, IsValueIn, meaning, value_term, substitution, text_in}
 use Rattle.cell_store.proofs.WalkLemmas.{turned}
 use Rattle.cell_store.proofs.WritingLemmas.{how_many}
-use Rattle.value_goals.specs.Evaluation.{value_in, with_first, resumed, resumed_all, value_of_next, steps_for, steps_of, steps_of_all, steps_of_next, IsWaitingIn, AllWaitingIn, IsNextIn, GoesOn, IsStep}
+use Rattle.value_goals.specs.Evaluation.{value_in, with_first, resumed, resumed_all, value_of_next, steps_for, steps_of, IsWaitingIn, GoesOn, IsStep}
 use Rattle.value_goals.specs.declared.evaluation.Waiting.{Waiting}
 use Rattle.value_goals.specs.declared.evaluation.Waiting.TheVariants.{One, First, Second}
 use Rattle.value_goals.specs.declared.evaluation.Next.{Next}

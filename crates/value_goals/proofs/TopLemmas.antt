@@ -1,5 +1,5 @@
 -- What a value that is no bound variable says of the term that it stands for.
-use Rattle.std.proofs.Common.{◌≡◌, ℕ, ℤ, Bool, List, refl, sym, ap, ◌∙◌}
+use Rattle.std.proofs.Common.{◌≡◌, ℕ, ℤ, List, refl, sym, ap, ◌∙◌}
 use Rattle.au_term.specs.Term.{Term, VarTerm, IntTerm, AtomTerm, Compound as CompoundTerm, Terms}
 use Rattle.clause_compile.specs.AtomNumbers.{name_at}
 use Rattle.binding_array.specs.declared.cell.BindingCell.{BindingCell}
@@ -17,8 +17,8 @@ integer_told st value z d = sym d.same
 pub atom_told : (st : StoreView) (value : BindingCell) (a : ℕ) → IsDereferenced st value (Atom a) → meaning st value ≡ AtomTerm (name_at (text_in st).names a)
 atom_told st value a d = sym d.same
 
--- a test of the kind of a term
-pub told : (st : StoreView) (p : Term → Bool) (b : Bool) (value c : BindingCell) → IsDereferenced st value c → ((v : ℕ) → c ≡ Var v → b ≡ p (VarTerm v)) → ((z : ℤ) → c ≡ Int z → b ≡ p (IntTerm z)) → ((a : ℕ) (name : List ℕ) → c ≡ Atom a → b ≡ p (AtomTerm name))
+-- what depends on the kind of a term alone
+pub told : {X : Type 0} (st : StoreView) (p : Term → X) (b : X) (value c : BindingCell) → IsDereferenced st value c → ((v : ℕ) → c ≡ Var v → b ≡ p (VarTerm v)) → ((z : ℤ) → c ≡ Int z → b ≡ p (IntTerm z)) → ((a : ℕ) (name : List ℕ) → c ≡ Atom a → b ≡ p (AtomTerm name))
     → ((at base : ℕ) (f : List ℕ) (ts : Terms) → c ≡ Compound at base → b ≡ p (CompoundTerm f ts)) → b ≡ p (meaning st value)
 told st p b value Free d var int atom comp = absurd d.there
 told st p b value (Var v) d var int atom comp = var v refl ∙ ap p (sym (variable_told st value v d))

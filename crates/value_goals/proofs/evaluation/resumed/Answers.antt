@@ -1,4 +1,4 @@
-use Rattle.std.proofs.Common.{Ok, reverse, sym, ap, ap₂, ◌∙◌, subst, arith, rules}
+use Rattle.std.proofs.Common.{Ok, reverse, sym, ap, ap₂, ◌∙◌, arith, rules}
 use Rattle.std.specs.Int.{w64}
 use Rattle.std.proofs.lemmas.Int.{to_z-of_z}
 use Rattle.arith_eval.specs.Functions.{unary_meaning, binary_meaning}

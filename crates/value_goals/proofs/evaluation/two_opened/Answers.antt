@@ -3,9 +3,8 @@ use Rattle.std.specs.Int.{w64}
 use Rattle.std.proofs.lemmas.Int.{to_z-of_z}
 use Rattle.std.proofs.lemmas.Result.{IfOk-weaker}
 use Rattle.run_model.specs.Goals.Arithmetic.{binary_function}
-use Rattle.arith_eval.specs.Functions.{binary_meaning}
 use Rattle.binding_array.specs.declared.cell.BindingCell.TheVariants.{Compound}
-use Rattle.value_goals.specs.Evaluation.{value_in, with_first, steps_for}
+use Rattle.value_goals.specs.Evaluation.{value_in, steps_for}
 use Rattle.value_goals.proofs.EvaluationLemmas.{first_known, first_waits, more_steps}
 use Rattle.value_goals.proofs.evaluation.two_opened.Goals as goal
 
