@@ -30,7 +30,7 @@ drop-values_of (suc n) (more t ts) = drop-values_of n ts
 pub stack_count : (values : List (Result ℤ Problem)) (ts : Terms) → Stacks values ts → count ts ≡ length values
 stack_count values ts h = sym (length-values_of ts) ∙ (ap length (sym h) ∙ (length-map (reverse values) evaluated ∙ length-reverse values))
 
-wide_compound : (name : List ℕ) (us : Terms) (n : ℕ) → count us ≡ n → (n ≡ 1 → ⊥) → (n ≡ 2 → ⊥) → expression_value (Compound name us) ≡ not_evaluable name n
+pub wide_compound : (name : List ℕ) (us : Terms) (n : ℕ) → count us ≡ n → (n ≡ 1 → ⊥) → (n ≡ 2 → ⊥) → expression_value (Compound name us) ≡ not_evaluable name n
 wide_compound name end n e h k = ap (not_evaluable name) e
 wide_compound name (more a end) n e h k = absurd (h (sym e))
 wide_compound name (more a (more b end)) n e h k = absurd (k (sym e))

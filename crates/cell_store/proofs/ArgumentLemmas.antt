@@ -106,3 +106,7 @@ not_functor code at (Sub i) b e h = subst (BeginsCompound (length code.names)) e
 
 pub compound_within : (code : CodeView) (at : ℕ) → IsPlaceOf code (Sub at) → at < length code.places
 compound_within code at p = p.0
+
+-- its arguments are within the text
+pub arguments_within : (code : CodeView) (at f n : ℕ) → IsPlaceOf code (Sub at) → drop at code.places ≡ Functor f n ∷ drop (at + 1) code.places → at + n < length code.places
+arguments_within code at f n p e = let begins = subst (BeginsCompound (length code.names)) e p.1 in let within = p.0 in omega (arith, begins.1, length-drop (at + 1) code.places)

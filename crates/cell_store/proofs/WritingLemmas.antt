@@ -26,7 +26,7 @@ all_cells_append (t ∷ ts) us = ap (λ cs. cells_of t ++ cs) (all_cells_append 
 same_arguments : {f g : List ℕ} {ts us : Terms} → CompoundTerm f ts ≡ CompoundTerm g us → (f ≡ g) × (ts ≡ us)
 same_arguments {f} {g} {ts} {us} e = let a : ts ≡ us = cc in let b : f ≡ g = cc in (b, a)
 
-how_many : (s : Substitution) (code : CodeView) (base n at : ℕ) → count (apply_all (value_of s) (terms_from (arguments_from code base n at))) ≡ n
+pub how_many : (s : Substitution) (code : CodeView) (base n at : ℕ) → count (apply_all (value_of s) (terms_from (arguments_from code base n at))) ≡ n
 how_many s code base zero at = refl
 how_many s code base (suc n) at = ap suc (how_many s code base n (at + 1))
 

@@ -14,7 +14,7 @@
 //! as many as it has, with the logarithm of the number of names for each name.
 #![tactic(auto)]
 
-mod arguments;
+pub mod arguments;
 mod heap;
 mod mark;
 mod occurs;

@@ -114,7 +114,7 @@ impl Store {
     /// The functor of the compound at a place: its name, by number, and how many arguments follow.
     pub fn functor(&self, at: u32) -> (u32, u32)
         requires { IsPlaceOf (text_in self.now) (Place.Sub at) }
-        ensures short { at < 2 ^ 32 - 1 }
+        ensures short { at + result.1 < 2 ^ 32 - 1 }
         ensures functor { (base : ℕ) → IsValueIn self.now (BindingCell.Compound at base) → HasFunctor (text_in self.now) self.now.now.next at base result.0 result.1 }
     {
         match self.heap.place(at as usize) {

@@ -1,5 +1,5 @@
 //! The unifier of two values (ISO/IEC 13211-1, 7.3.2).
-ghost use Rattle.std.specs.Prelude.{◌≡◌, ◌<◌, ◌+◌, ◌-◌, ◌^◌, IfOk, OnOk, Bool, true, ℕ, Option, List, length, nat_eq, reverse};
+ghost use Rattle.std.specs.Prelude.{◌≡◌, ◌<◌, ◌-◌, ◌^◌, IfOk, OnOk, Bool, true, ℕ, Option, List, length, nat_eq, reverse};
 ghost use Rattle.std.specs.Cmp.Lexicographic.{pointwise};
 ghost use Rattle.au_term.specs.Term.{VarTerm};
 ghost use Rattle.au_model.specs.Terms.Substitutions.{value_of};
@@ -11,7 +11,7 @@ ghost use Rattle.cell_store.specs.StoreView.{IsValueIn, compound_meaning, meanin
 ghost use Rattle.cell_store.specs.UnificationSteps.{IsUnified, OnlyBinds, TakesRule, IsBoundOr, KeepsRestEquations};
 ghost use Rattle.cell_store.specs.declared.arguments.Equations.{Equations as ArgumentEquations};
 
-use crate::arguments::{Arguments, Equations};
+use crate::arguments::{Equations, arguments_of, rest_of};
 use crate::occurs::occurs;
 use crate::store::Store;
 use au_term::NoMemory;
@@ -239,22 +239,10 @@ fn compounds_go(
         return Ok(false);
     }
     pending.push(Equations {
-        left: arguments(left, count),
-        right: arguments(right, count),
+        left: arguments_of(left, count),
+        right: arguments_of(right, count),
     })?;
     Ok(true)
-}
-
-/// The arguments of the compound at a place.
-fn arguments(compound: (u32, u32), count: u32) -> Arguments
-    requires { compound.0 < 2 ^ 32 - 1 }
-    ensures { result ≡ record { at = compound.0 + 1; base = compound.1; count = count } }
-{
-    Arguments {
-        at: compound.0 + 1,
-        base: compound.1,
-        count,
-    }
 }
 
 /// Puts equations but for the first on top.
@@ -270,17 +258,4 @@ fn push_rest(equations: Equations, pending: &mut Vec<Equations>) -> Result<(), N
         })?;
     }
     Ok(())
-}
-
-/// Arguments but for the first.
-fn rest_of(arguments: Arguments) -> Arguments
-    requires some { 0 < arguments.count }
-    requires short { arguments.at < 2 ^ 32 - 1 }
-    ensures { result ≡ record { at = arguments.at + 1; base = arguments.base; count = arguments.count - 1 } }
-{
-    Arguments {
-        at: arguments.at + 1,
-        base: arguments.base,
-        count: arguments.count - 1,
-    }
 }

@@ -1,0 +1,4 @@
+pub mod TopLemmas
+pub mod EvaluationLemmas
+pub mod ComparisonLemmas
+pub mod PartLemmas

@@ -1,0 +1,4 @@
+pub mod Evaluation
+pub mod Comparison
+pub mod Answers
+pub mod Parts
