@@ -1,5 +1,5 @@
 -- What is known at the front.
-use Rattle.std.proofs.Common.{◌≡◌, ℕ, zero, suc, ◌+◌, ◌<◌, Bool, true, false, cond, List, [], ◌∷◌, ◌++◌, length, take, drop, Option, Some, None}
+use Rattle.std.proofs.Common.{◌≡◌, ℕ, zero, suc, ◌+◌, ◌<◌, Bool, true, false, List, [], ◌∷◌, ◌++◌, length, take, drop, Option, Some, None}
 use Rattle.std.proofs.Common.{refl, sym, ap, ◌∙◌, arith, subst}
 use Rattle.std.specs.Option.{option_map}
 use Rattle.std.specs.Prelude.{slice_get, IsSome, is_some}
@@ -7,7 +7,8 @@ use Rattle.au_term.proofs.LogicLemmas.{both}
 use Rattle.tree_model.specs.Credits.{counted}
 use Rattle.tree_model.specs.Nodes.{Numbered, Status, Pending, Inner, Closed}
 use Rattle.tree_model.specs.Levels.{Level, level_node, plug, Place}
-use Rattle.tree_model.specs.Orders.{is_node, levels_below, first_open_left, first_open, credits_left, clock_of, answers_left}
+use Rattle.tree_model.proofs.OrderLemmas.{none_below}
+use Rattle.tree_model.specs.Orders.{first_open_left, first_open, credits_left, clock_of, answers_left}
 use Rattle.tree_nodes.specs.declared.front.Front.{Front}
 use Rattle.tree_nodes.specs.Bodies.{Reading}
 use Rattle.tree_nodes.specs.Rows.{AlternativeCell, InnerCell, StoredNode, row_of_node, node_parent, alternatives_at, cell_at}
@@ -25,7 +26,7 @@ use Rattle.branch_order.specs.Walks.{Walks}
 use Rattle.branch_order.specs.Leftmosts.{GoesDown}
 use Rattle.branch_order.proofs.LeftLemmas.{left_index, first_open-level, found_more}
 use Rattle.branch_order.proofs.LeftmostLemmas.{goes_down_from, goes_down}
-use Rattle.branch_order.proofs.ClockLemmas.{both_none, left_closed, given_more, taken_more}
+use Rattle.branch_order.proofs.ClockLemmas.{left_closed, given_more, taken_more}
 
 -- what has closed at the left is passed
 pub shut_passed : (cells : List (ℕ × AlternativeCell)) (i n : ℕ) → are_shut (take n cells) ≡ true → open_index i cells ≡ open_index (i + n) (drop n cells)
@@ -158,18 +159,6 @@ counts_all nodes before (d ∷ above) e h k = counts_all nodes (Some d) above e 
 
 pub front_counts : (nodes : NodesView) (e : Front) → IsFront nodes (Some e) → CountsAt nodes e
 front_counts nodes e h = counts_all nodes None h.0 e h.1 tt
-
--- nothing is open on fewer levels
-pub none_below : (scope : Option ℕ) (levels : List Level) → first_open levels ≡ None → first_open (levels_below scope levels) ≡ None
-none_below scope [] e = refl
-none_below scope (v ∷ up) e =
-    let parts = both_none (first_open up) (first_open_left v.number v.left) (sym (first_open-level v up) ∙ e) in
-    by_test (is_node scope v.number) parts.1 (none_below scope up parts.0)
-  where
-    by_test : (b : Bool) → first_open_left v.number v.left ≡ None → first_open (levels_below scope up) ≡ None
-        → first_open (cond b [] (v ∷ levels_below scope up)) ≡ None
-    by_test true l h = refl
-    by_test false l h = first_open-level v (levels_below scope up) ∙ (ap (λ (o : Option Place). or_else o (first_open_left v.number v.left)) h ∙ l)
 
 pub some_within : (cells : List (ℕ × AlternativeCell)) (i : ℕ) → i < length cells → IsSome (slice_get cells i)
 some_within [] i l = absurd (omega (arith, l))

@@ -3,3 +3,4 @@ pub mod ClockLemmas
 pub mod LeftmostLemmas
 pub mod MeetingLemmas
 pub mod FrontLemmas
+pub mod SoughtLemmas

@@ -3,3 +3,4 @@ pub mod Walks
 pub mod Clocks
 pub mod Leftmosts
 pub mod Meetings
+pub mod Sought

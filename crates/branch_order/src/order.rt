@@ -1,9 +1,11 @@
 //! The leftmost entry of the tree.
-ghost use Rattle.std.specs.Prelude.{◌≡◌};
+ghost use Rattle.std.specs.Prelude.{◌≡◌, Bool};
+ghost use Rattle.tree_model.specs.Levels.{Spot};
 ghost use Rattle.tree_nodes.specs.Puts.{IsPlaceIn};
 ghost use Rattle.tree_nodes.specs.RowViews.{parent_view};
 ghost use Rattle.branch_order.specs.LeftOf.{open_first, IsOn};
 ghost use Rattle.branch_order.specs.Leftmosts.{IsLeftmost, IsTop};
+ghost use Rattle.branch_order.specs.Sought.{IsStart};
 
 use tree_model::AltRef;
 use tree_nodes::Nodes;
@@ -28,9 +30,12 @@ pub fn leftmost(nodes: &Nodes) -> Option<AltRef>
 }
 
 // The lowest node that is known to have nothing open to its left, none where no node is there.
-fn top(nodes: &Nodes) -> Option<u64>
-    ensures { IsTop nodes.now result }
+pub(crate) fn top(nodes: &Nodes) -> Option<u64>
+    ensures down { IsTop nodes.now result }
+    ensures ahead { (test : Spot → Bool) → IsStart nodes.now test result }
 {
+    // The proof reads off that there is a tree.
+    let _live = nodes.live();
     match nodes.front() {
         Some(front) => Some(front.node),
         None => nodes.first(),

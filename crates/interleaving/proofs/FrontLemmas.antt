@@ -142,24 +142,6 @@ leftmost_front (Closed c) h s ss e = let no_way : ⊥ = cc in absurd no_way
 leftmost_front (Pending hold x) h s ss e = let no_way : ⊥ = cc in absurd no_way
 leftmost_front (Inner (Numbered n kind alternatives)) h s ss e = root_front n kind alternatives h s ss e
 
--- cleared to the whole tree is cleared to each scope
-clear_parts : (v : Level) (up : List Level) → first_open (v ∷ up) ≡ None → (first_open up ≡ None) × (first_open_left v.number v.left ≡ None)
-clear_parts v up h = go (first_open up) refl h
-  where
-    go : (o : Option Place) → first_open up ≡ o
-        → elim o as (λ q. Option Place) [ Some p ↦ Some p | None ↦ first_open_left v.number v.left ] ≡ None
-        → (first_open up ≡ None) × (first_open_left v.number v.left ≡ None)
-    go None e k = (e, k)
-    go (Some p) e k = let no_way : ⊥ = cc in absurd no_way
-
-pub cleared_below : (scope : Option ℕ) (levels : List Level) → first_open levels ≡ None → first_open (levels_below scope levels) ≡ None
-cleared_below scope [] h = refl
-cleared_below scope (v ∷ up) h = go (is_node scope v.number) (cleared_below scope up (clear_parts v up h).0)
-  where
-    go : (b : Bool) → first_open (levels_below scope up) ≡ None → first_open (cond b [] (v ∷ levels_below scope up)) ≡ None
-    go true k = refl
-    go false k = clear_level v (levels_below scope up) (clear_parts v up h).1 ∙ k
-
 -- a task that is out is found
 tasks_put : (n : ℕ) (left : List (ℕ × Status)) (others : Alternatives) → tasks_among n 0 (put_left left others) ≡ []
     → tasks_among n (length left) others ≡ []

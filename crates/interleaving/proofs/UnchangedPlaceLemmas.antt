@@ -19,7 +19,8 @@ use Rattle.tree_model.specs.Promises.{IsFrontAnswer, NoPrunedEffect, tasks_out, 
 use Rattle.tree_model.specs.SoundTrees.{IsOpen, profile, IsSoundTree}
 use Rattle.interleaving.proofs.WayLemmas.{cond-true}
 use Rattle.interleaving.proofs.PluggedLemmas.{IsIn, all_in}
-use Rattle.interleaving.proofs.FrontLemmas.{leftmost_front, cleared_below, tasks_plug}
+use Rattle.tree_model.proofs.OrderLemmas.{none_below}
+use Rattle.interleaving.proofs.FrontLemmas.{leftmost_front, tasks_plug}
 use Rattle.interleaving.proofs.LegalLemmas.{legal_sound}
 use Rattle.au_term.proofs.LogicLemmas.{and-right, and-left, number_same}
 
@@ -138,7 +139,7 @@ may_go t s ss Ready e p i c o k =
     let claim : claimable t ≡ Some s = ap (if_room t) ready ∙ room in
     inl (λ none. some_none s (sym claim ∙ none))
 may_go t s ss (Waiting g) e p i c o k =
-    let clear : is_cleared (scope_of g) (levels_of s) ≡ true = ap is_none (cleared_below (scope_of g) (levels_of s) c) in
+    let clear : is_cleared (scope_of g) (levels_of s) ≡ true = ap is_none (none_below (scope_of g) (levels_of s) c) in
     let goes : may_resume s s.hold ≡ true = ap (may_resume s) e ∙ clear in
     let found : resumable t ≡ Some s = first_found (λ r. may_resume r r.hold) (pending_spots t) s ss p goes in
     inr (λ none. some_none s (sym found ∙ none))

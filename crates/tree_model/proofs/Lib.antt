@@ -7,3 +7,4 @@ mod ResultHistories
 mod ClosingRows
 pub mod WorkedJobs
 pub mod CountLemmas
+pub mod OrderLemmas

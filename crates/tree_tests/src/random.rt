@@ -1,6 +1,6 @@
 //! Random changes, and the answers against those that go through the whole tree.
 use crate::trees::{add, close, credit, place};
-use branch_order::{before, counts, first_open, leftmost};
+use branch_order::{before, counts, first_open, leftmost, leftmost_ready};
 use std::alloc::Global;
 use std::process::Abort;
 use std::test::Fail;
@@ -43,12 +43,22 @@ fn places(nodes: &Nodes, drawn: u64) -> Result<Vec<AltRef>, Fail> {
     Ok(all)
 }
 
-/// The entry that no other is before.
-fn slow_leftmost(rt: &impl Abort, nodes: &Nodes, drawn: u64) -> Result<Option<AltRef>, Fail> {
+fn is_ready(rt: &impl Abort, nodes: &Nodes, at: AltRef) -> bool {
+    assert!(rt; nodes.has_alternative(at));
+    matches!(nodes.state(at), AltState::Ready)
+}
+
+/// The entry that no other is before, of all or of those that are ready.
+fn slow_leftmost(
+    rt: &impl Abort,
+    nodes: &Nodes,
+    ready: bool,
+    drawn: u64,
+) -> Result<Option<AltRef>, Fail> {
     let mut first: Option<AltRef> = None;
     let mut first_way = Vec::new(nodes.allocator());
     for at in &places(nodes, drawn)? {
-        if nodes.is_pending(*at) {
+        if nodes.is_pending(*at) && (!ready || is_ready(rt, nodes, *at)) {
             let way = path(rt, nodes, *at, drawn)?;
             if first.is_none() || parts_left(&way, &first_way) {
                 first = Some(*at);
@@ -111,8 +121,10 @@ fn compare(
     other: AltRef,
     drawn: u64,
 ) -> Result<(), Fail> {
-    let first = slow_leftmost(rt, nodes, drawn)?;
+    let first = slow_leftmost(rt, nodes, false, drawn)?;
     assert_eq!(rt; leftmost(nodes), first);
+    let ready = slow_leftmost(rt, nodes, true, drawn)?;
+    assert_eq!(rt; leftmost_ready(nodes), ready);
     if let Some(first) = first {
         assert!(rt; nodes.has_alternative(first));
         assert_eq!(rt; counts(nodes, first), slow_counts(rt, nodes, first, drawn)?);

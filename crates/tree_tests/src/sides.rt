@@ -1,7 +1,8 @@
 //! What no clause gives: that calls succeed, and what they say of one tree.
 use crate::trees::{add, close, credit, place};
-use branch_order::{before, cleared, clock, counts, first_open, leftmost};
-use clause_compile::Scope;
+use branch_order::{before, cleared, clock, counts, first_open};
+use branch_order::{leftmost, leftmost_cleared, leftmost_ready};
+use clause_compile::{GateKind, Scope};
 use std::alloc::Global;
 use std::process::Abort;
 use std::test::Fail;
@@ -61,5 +62,26 @@ fn what_is_left(rt: HostRuntime) -> Result<(), Fail> {
     assert!(rt; nodes.has_alternative(at));
     assert_eq!(rt; clock(&nodes, at), 5);
     assert_eq!(rt; counts(&nodes, at), (1, 5));
+    Ok(())
+}
+
+/// Of the ready ones the first is to the right of one that is with a worker; of those that wait, the first for a cut has
+/// something open to its left.
+#[test]
+fn what_can_be_taken(rt: HostRuntime) -> Result<(), Fail> {
+    let mut nodes = tree(&rt, rt.alloc())?;
+    assert_eq!(rt; leftmost_ready(&nodes), Some(place(1, 0)));
+    assert_eq!(rt; leftmost_cleared(&nodes), None);
+    for (node, alternative, state) in [
+        (1, 0, AltState::Taken(3)),
+        (2, 0, AltState::Waiting(GateKind::Cut(Scope::Node(0)))),
+        (2, 1, AltState::Waiting(GateKind::Cut(Scope::Node(2)))),
+    ] {
+        let at = place(node, alternative);
+        assert!(rt; nodes.is_pending(at));
+        nodes.set(at, state, 0);
+    }
+    assert_eq!(rt; leftmost_ready(&nodes), Some(place(0, 2)));
+    assert_eq!(rt; leftmost_cleared(&nodes), Some(place(2, 1)));
     Ok(())
 }

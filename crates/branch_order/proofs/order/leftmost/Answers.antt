@@ -5,10 +5,10 @@ use Rattle.branch_order.proofs.LeftmostLemmas.{no_first, goes_down, nothing_down
 use Rattle.branch_order.proofs.order.leftmost.Goals as goal
 
 pub returns-in_default : goal.returns-in_default
-returns-in_default c = no_first c.args.nodes.now c.in_default.ensures
+returns-in_default c = no_first c.args.nodes.now c.in_default.ensures.down
 
 pub loop-at-init : goal.loop-at-init
-loop-at-init c = c.in-Some.ensures
+loop-at-init c = c.in-Some.ensures.down
 
 pub returns-in_default-first_of : goal.returns-in_default-first_of
 returns-in_default-first_of c = nothing_down c.args.nodes.now c.loop-at.node c.loop-at.invariant (sym c.in_default-first_of.ensures.first)
