@@ -2,14 +2,15 @@
 use Rattle.std.proofs.Common.{append-nil, ◌≡◌, ℕ, ◌≤◌, List, [], ◌++◌, length, length-append, take, refl, sym, ap, ap₂, ◌∙◌, subst, arith}
 use Rattle.std.proofs.lemmas.List.{take-append-le}
 use Rattle.au_model.specs.Terms.Each.{Each}
-use Rattle.au_model.proofs.EachLemmas.{each-more}
+use Rattle.au_model.proofs.EachLemmas.{each-map, each-more}
 use Rattle.clause_compile.specs.Places.{CodeView, AreSound, Keeps}
+use Rattle.clause_compile.specs.declared.place.Place.{Place}
 use Rattle.clause_compile.proofs.PlaceMeaningLemmas.{added_keeps}
 use Rattle.clause_compile.proofs.CodeLemmas.{names_sound}
 use Rattle.binding_array.specs.declared.cell.BindingCell.{BindingCell}
 use Rattle.cell_store.specs.HeapView.{HeapView, heap_text, cut_heap, IsSoundHeap, GrowsHeap}
 use Rattle.cell_store.specs.Undoing.{undone, Parts, IsWithin}
-use Rattle.cell_store.specs.StoreView.{Moment, moment_at, view_of, IsConsistentAt, IsConsistent, AddsText}
+use Rattle.cell_store.specs.StoreView.{Moment, moment_at, view_of, IsConsistentAt, IsConsistent, AddsText, text_at}
 use Rattle.cell_store.specs.declared.mark.Mark.{Mark}
 use Rattle.cell_store.proofs.SubstitutionLemmas.{value_kept, substitution_kept, consistent_kept}
 use Rattle.cell_store.proofs.UndoingLemmas.{each-both, map-same}
@@ -74,6 +75,12 @@ module _ (h g : HeapView) (cs : List BindingCell) (t : List ℕ) (ms : List Mark
     distinct = grown.sound.distinct;
   }
 
+  kept_at : (m : Mark) → Seen m → Keeps (text_at (view_of before) (moment_at before m)) (text_at (view_of now) (moment_at before m))
+  kept_at m s =
+      let c = cut_keeps m.made s.0.older.made s.1.text in
+      let made : take m.made g.made ≡ take m.made h.made = ap (λ (u : HeapView). take m.made u.made) grown.is ∙ take-append-le m.made h.made grown.places s.0.older.made in
+      subst (λ (ps : List Place). Keeps (heap_text (cut_heap m.made h)) (record { names = g.program.names ++ g.names; places = g.program.places ++ ps })) made c.0
+
   pub added_view : AddsText (view_of before) (view_of now)
   added_view = record {
     keeps = keeps;
@@ -82,6 +89,7 @@ module _ (h g : HeapView) (cs : List BindingCell) (t : List ℕ) (ms : List Mark
     bound = substitution_kept (heap_text h) (heap_text g) cs keeps k.now.values;
     next = refl;
     marks = map-same Seen (moment_at now) (moment_at before) moment ms seen;
+    at_marks = each-map Seen (λ x. Keeps (text_at (view_of before) x) (text_at (view_of now) x)) (moment_at before) kept_at ms seen;
   }
 
 pub sound_heap : (p : Parts) → IsConsistent p → IsSoundHeap p.heap

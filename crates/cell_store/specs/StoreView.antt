@@ -28,9 +28,13 @@ pub record StoreView : Type 0 where
   pub now : Moment
   pub marks : List Moment
 
--- the program's text with the names and terms that were made behind it
+-- the program's text with the names that came behind it, and the terms that were made at a moment
+abbrev pub text_at : StoreView → Moment → CodeView
+text_at st m = record { names = st.program.names ++ st.names; places = st.program.places ++ m.made }
+
+-- and with the terms that are made now
 abbrev pub text_in : StoreView → CodeView
-text_in st = record { names = st.program.names ++ st.names; places = st.program.places ++ st.now.made }
+text_in st = text_at st st.now
 
 -- what each variable stands for
 abbrev pub substitution : StoreView → Substitution
@@ -140,7 +144,7 @@ pub record IsValidStore (st : StoreView) : Type 0 where
   pub below : (n : ℕ) → n < st.now.next → var_bound (value_of (substitution st) n) ≤ st.now.next
   pub final : (n : ℕ) → resolve (substitution st) (value_of (substitution st) n) ≡ value_of (substitution st) n
 
--- terms were made: what was there is there and means the same, and all else is as it was
+-- terms were made: what was there, also at the marks, is there and means the same, and all else is as it was
 pub record AddsText (old new : StoreView) : Type 0 where
   pub keeps : Keeps (text_in old) (text_in new)
   pub values : (c : BindingCell) → IsValueIn old c → IsValueIn new c × (value_term new c ≡ value_term old c)
@@ -148,3 +152,4 @@ pub record AddsText (old new : StoreView) : Type 0 where
   pub bound : substitution new ≡ substitution old
   pub next : new.now.next ≡ old.now.next
   pub marks : new.marks ≡ old.marks
+  pub at_marks : Each (λ m. Keeps (text_at old m) (text_at new m)) old.marks

@@ -7,7 +7,7 @@ use au_term::{Atom, Cell, FlatTerm, NoMemory, TermBuilder};
 use binding_array::BindingCell;
 use clause_compile::{Place, compile};
 use region_split::{
-    Alternatives, BodyItem, Frame, Left, Position, Region, Results, Resumed, Text, Trial,
+    Alternatives, BodyItem, Frame, FrameBody, Left, Position, Region, Results, Resumed, Text, Trial,
 };
 use std::alloc::Global;
 use std::process::Abort;
@@ -52,16 +52,6 @@ fn clauses_are_where_the_text_says(rt: HostRuntime) -> Result<(), Fail> {
     Ok(())
 }
 
-#[test]
-fn items_come_behind_the_bodies(rt: HostRuntime) -> Result<(), Fail> {
-    let mut text = Text::new(rt.alloc(), Vec::new(rt.alloc()))?;
-    text.push_item(BodyItem::CatchEnd)?;
-    text.push_item(BodyItem::BodyEnd)?;
-    assert_eq!(rt; text.get(0), Some(BodyItem::CatchEnd));
-    assert_eq!(rt; text.get(1), Some(BodyItem::BodyEnd));
-    Ok(())
-}
-
 fn push(region: &mut Region, alternatives: Alternatives) -> Result<(), NoMemory>
     requires { AreAlternativesIn region.old alternatives }
 {
@@ -73,14 +63,14 @@ fn push(region: &mut Region, alternatives: Alternatives) -> Result<(), NoMemory>
 fn frames_are_written_over(rt: HostRuntime) -> Result<(), Fail> {
     let mut region = Region::new(rt.alloc(), text(&rt, rt.alloc())?)?;
     let after = region.nothing_left();
+    assert_eq!(rt; region.left_at(after), Left::Nothing);
     let frame = Frame {
-        base: 0,
+        body: FrameBody::Text(0),
         cut: 0,
         after,
     };
     assert_eq!(rt; region.push_frame(frame)?, 1);
     assert_eq!(rt; region.push_frame(frame)?, 1);
-    assert_eq!(rt; region.left_at(after), Left::Nothing);
     Ok(())
 }
 

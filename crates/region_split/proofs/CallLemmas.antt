@@ -6,11 +6,10 @@ use Rattle.run_model.specs.Programs.Clauses.{Clause}
 use Rattle.run_model.specs.Goals.Outcomes.{clause_solution, alternatives_of}
 use Rattle.run_model.specs.Machine.Entries.{Entry, solution_entry, solution_entries}
 use Rattle.binding_array.specs.declared.cell.BindingCell.{BindingCell}
-use Rattle.cell_store.specs.StoreView.{Moment, StoreView, meaning, with_mark}
-use Rattle.region_split.specs.Frames.{items_at}
+use Rattle.cell_store.specs.StoreView.{Moment, StoreView, text_in, meaning, with_mark}
 use Rattle.region_split.specs.ChoicePoints.{Standing, alternative_entries, continuation_at, height_of_cut}
 use Rattle.region_split.specs.Texts.{TextView}
-use Rattle.region_split.specs.Regions.{RegionView, region_setting, entries_of, heights_of, continuation_here, position_entry, IsPositionIn}
+use Rattle.region_split.specs.Regions.{RegionView, left_here, region_setting, entries_of, heights_of, continuation_here, position_entry, IsPositionIn}
 use Rattle.region_split.specs.StackOperations.{AddsChoice, TakesNewest, trial_entries}
 use Rattle.region_split.specs.ClauseTrials.{TriesClause, KeepsChoices, TriesFirst, Calls, called_entries, entries_at, IsOptionalPosition}
 use Rattle.region_split.specs.declared.choice.Alternatives.TheVariants.{Clauses}
@@ -107,7 +106,7 @@ module _ (r r1 : RegionView) (t : Trial) (end : ℕ) (a : AddsChoice r r1 (Claus
       entries = λ named. in_turn (Some p) named tried ∙ ap (λ es. position_entry named r2 p ∷ es) (sym (ap (λ (st : Standing). st.entries) (kept.stands named) ∙ other_entries named));
       position = record {
         frame = tried.position.frame;
-        scoped = scoped_more cut (length r2.choices) r2.store.now.next (items_at r2.text r2.frames p) (let l = ap length same_choices in let m = length-append r.choices (a.choice ∷ []) in omega (arith, l, m, count)) tried.position.scoped;
+        scoped = scoped_more (text_in r2.store) r2.store.now.next cut (length r2.choices) (left_here r2 p) (let l = ap length same_choices in let m = length-append r.choices (a.choice ∷ []) in omega (arith, l, m, count)) tried.position.scoped;
       };
       many = λ e. absurd cc;
       text = ap (λ (x : RegionView). x.text) kept.others ∙ ap (λ (x : RegionView). x.text) a.others;

@@ -8,10 +8,10 @@ use Rattle.run_model.specs.Goals.Outcomes.{clause_solution, alternatives_of}
 use Rattle.run_model.specs.Machine.Items.{Continuation}
 use Rattle.run_model.specs.Machine.Entries.{Entry, solution_entry, solution_entries}
 use Rattle.binding_array.specs.declared.cell.BindingCell.{BindingCell}
-use Rattle.cell_store.specs.StoreView.{Moment, StoreView, taken_back, with_marks}
-use Rattle.region_split.specs.Frames.{items_at, AreCutWithin}
+use Rattle.cell_store.specs.StoreView.{Moment, StoreView, text_at, taken_back, with_marks}
+use Rattle.region_split.specs.Frames.{AreScoped}
 use Rattle.region_split.specs.ChoicePoints.{RegionSetting, Standing, standing_over, nothing_standing, with_entries_on_top, choice_entries, alternative_entries, continuation_at, meant_at, height_of_cut, AreAlternativesAt, IsChoiceOver, HasNextClause, frames_kept}
-use Rattle.region_split.specs.Regions.{RegionView, region_setting, standing, heights_of, continuation_here, IsConsistentRegion}
+use Rattle.region_split.specs.Regions.{RegionView, left_here, region_setting, standing, heights_of, continuation_here, IsConsistentRegion}
 use Rattle.region_split.specs.StackOperations.{TakesClause}
 use Rattle.region_split.specs.declared.choice.Alternatives.{Alternatives}
 use Rattle.region_split.specs.declared.choice.Alternatives.TheVariants.{Clauses}
@@ -110,7 +110,7 @@ module _ (r : RegionView) (k : IsConsistentRegion r) (cs : List ChoicePoint) (c 
     is = clause_there.is;
     position = record {
       frame = let o = top.own in let e = last_kept r k cs c ms m m choices marks in let f = k.frames in omega (arith, o, e, f);
-      scoped = subst (λ n. AreCutWithin n m.next (items_at r.text r.frames c.after)) (sym own_place) top.scoped;
+      scoped = subst (λ n. AreScoped (text_at r.store m) m.next n (left_here r c.after)) (sym own_place) top.scoped;
     };
     goal = clauses_there.0;
     entries = λ named.

@@ -2,67 +2,65 @@
 use Rattle.std.proofs.Common.{◌≡◌, ℕ, ◌+◌, ◌<◌, ◌≤◌, List, [], ◌∷◌, ◌++◌, length, length-append, take, drop, get_or, slice_get, zero, suc, Some, None, refl, sym, ap, ◌∙◌, arith}
 use Rattle.std.proofs.lemmas.List.{get_or_append_left, take-append-drop, length-take-le}
 use Rattle.std.proofs.Math.Seq.{get_or-append_seam}
-use Rattle.run_model.specs.Machine.Items.{Item}
-use Rattle.region_split.specs.Texts.{TextView}
 use Rattle.cell_store.proofs.UndoingLemmas.{front_at}
-use Rattle.region_split.specs.Frames.{body_left, left_in, left_over, items_at, AreFramesOver}
+use Rattle.region_split.specs.Frames.{LeftItem, own_left, left_in, left_over, left_items, AreFramesOver}
 use Rattle.region_split.specs.declared.text.BodyItem.{BodyItem}
 use Rattle.region_split.specs.declared.frame.Frame.{Frame}
 use Rattle.region_split.specs.declared.frame.Position.{Position}
 
 abbrev Left : Type 0
-Left = ℕ → List (Item ℕ)
+Left = ℕ → List LeftItem
 
 abbrev none : Left
 none at = []
 
-left_over-append : (text : TextView) (older : List Left) (fs gs : List Frame) → left_over text older (fs ++ gs) ≡ left_over text (left_over text older fs) gs
-left_over-append text older [] gs = refl
-left_over-append text older (f ∷ fs) gs = left_over-append text (older ++ left_in text older f ∷ []) fs gs
+left_over-append : (bodies : List BodyItem) (older : List Left) (fs gs : List Frame) → left_over bodies older (fs ++ gs) ≡ left_over bodies (left_over bodies older fs) gs
+left_over-append bodies older [] gs = refl
+left_over-append bodies older (f ∷ fs) gs = left_over-append bodies (older ++ left_in bodies older f ∷ []) fs gs
 
-length-left_over : (text : TextView) (older : List Left) (fs : List Frame) → length (left_over text older fs) ≡ length older + length fs
-length-left_over text older [] = omega arith
-length-left_over text older (f ∷ fs) =
-    let own = left_in text older f in
+length-left_over : (bodies : List BodyItem) (older : List Left) (fs : List Frame) → length (left_over bodies older fs) ≡ length older + length fs
+length-left_over bodies older [] = omega arith
+length-left_over bodies older (f ∷ fs) =
+    let own = left_in bodies older f in
     let more = length-append older (own ∷ []) in
-    let rest = length-left_over text (older ++ own ∷ []) fs in
+    let rest = length-left_over bodies (older ++ own ∷ []) fs in
     omega (arith, more, rest)
 
-left_kept : (text : TextView) (older : List Left) (fs : List Frame) (n : ℕ) → n < length older → get_or (left_over text older fs) n none ≡ get_or older n none
-left_kept text older [] n lt = refl
-left_kept text older (f ∷ fs) n lt =
-    let own = left_in text older f in
+left_kept : (bodies : List BodyItem) (older : List Left) (fs : List Frame) (n : ℕ) → n < length older → get_or (left_over bodies older fs) n none ≡ get_or older n none
+left_kept bodies older [] n lt = refl
+left_kept bodies older (f ∷ fs) n lt =
+    let own = left_in bodies older f in
     let more = length-append older (own ∷ []) in
-    left_kept text (older ++ own ∷ []) fs n (omega (arith, more, lt)) ∙ get_or_append_left older (own ∷ []) none n lt
+    left_kept bodies (older ++ own ∷ []) fs n (omega (arith, more, lt)) ∙ get_or_append_left older (own ∷ []) none n lt
 
 -- what is left at a position of the frames that stay
-pub items_kept : (text : TextView) (fs gs : List Frame) (p : Position) → p.frame ≤ length fs → items_at text (fs ++ gs) p ≡ items_at text fs p
-items_kept text fs gs p le =
-    let older = left_over text (none ∷ []) fs in
-    let long = length-left_over text (none ∷ []) fs in
-    let split = left_over-append text (none ∷ []) fs gs in
-    ap (λ (ls : List Left). get_or ls p.frame none p.at) split ∙ ap (λ (l : Left). l p.at) (left_kept text older gs p.frame (omega (arith, long, le)))
+pub kept_left : (bodies : List BodyItem) (fs gs : List Frame) (p : Position) → p.frame ≤ length fs → left_items bodies (fs ++ gs) p ≡ left_items bodies fs p
+kept_left bodies fs gs p le =
+    let older = left_over bodies (none ∷ []) fs in
+    let long = length-left_over bodies (none ∷ []) fs in
+    let split = left_over-append bodies (none ∷ []) fs gs in
+    ap (λ (ls : List Left). get_or ls p.frame none p.at) split ∙ ap (λ (l : Left). l p.at) (left_kept bodies older gs p.frame (omega (arith, long, le)))
 
 -- what is left in a new frame
-pub items_pushed : (text : TextView) (fs : List Frame) (f : Frame) (p : Position) → p.frame ≡ length fs + 1 → items_at text (fs ++ f ∷ []) p ≡ body_left text.code f.base f.cut (drop p.at text.bodies) ++ items_at text fs f.after
-items_pushed text fs f p e =
-    let older = left_over text (none ∷ []) fs in
-    let own = left_in text older f in
-    let long = length-left_over text (none ∷ []) fs in
-    let split = left_over-append text (none ∷ []) fs (f ∷ []) in
+pub pushed_left : (bodies : List BodyItem) (fs : List Frame) (f : Frame) (p : Position) → p.frame ≡ length fs + 1 → left_items bodies (fs ++ f ∷ []) p ≡ own_left bodies f.body f.cut p.at ++ left_items bodies fs f.after
+pushed_left bodies fs f p e =
+    let older = left_over bodies (none ∷ []) fs in
+    let own = left_in bodies older f in
+    let long = length-left_over bodies (none ∷ []) fs in
+    let split = left_over-append bodies (none ∷ []) fs (f ∷ []) in
     let place : p.frame ≡ length older = omega (arith, long, e) in
     ap (λ (ls : List Left). get_or ls p.frame none p.at) split
     ∙ (ap (λ n. get_or (older ++ own ∷ []) n none p.at) place ∙ ap (λ (l : Left). l p.at) (get_or-append_seam older own [] none))
 
 -- what is left where so many frames are kept
-pub items_taken : (text : TextView) (n : ℕ) (fs : List Frame) (p : Position) → n ≤ length fs → p.frame ≤ n → items_at text (take n fs) p ≡ items_at text fs p
-items_taken text n fs p le lt =
+pub taken_left : (bodies : List BodyItem) (n : ℕ) (fs : List Frame) (p : Position) → n ≤ length fs → p.frame ≤ n → left_items bodies (take n fs) p ≡ left_items bodies fs p
+taken_left bodies n fs p le lt =
     let long = length-take-le n fs le in
-    sym (items_kept text (take n fs) (drop n fs) p (omega (arith, long, lt))) ∙ ap (λ gs. items_at text gs p) (take-append-drop n fs)
+    sym (kept_left bodies (take n fs) (drop n fs) p (omega (arith, long, lt))) ∙ ap (λ gs. left_items bodies gs p) (take-append-drop n fs)
 
 -- nothing is left where there is no frame
-pub nothing_left : (text : TextView) (fs : List Frame) (p : Position) → p.frame ≡ 0 → items_at text fs p ≡ []
-nothing_left text fs p e = ap (λ n. get_or (left_over text (none ∷ []) fs) n none p.at) e ∙ ap (λ (l : Left). l p.at) (left_kept text (none ∷ []) fs 0 (omega arith))
+pub nothing_left : (bodies : List BodyItem) (fs : List Frame) (p : Position) → p.frame ≡ 0 → left_items bodies fs p ≡ []
+nothing_left bodies fs p e = ap (λ n. get_or (left_over bodies (none ∷ []) fs) n none p.at) e ∙ ap (λ (l : Left). l p.at) (left_kept bodies (none ∷ []) fs 0 (omega arith))
 
 pub frames_over-take : (cut n : ℕ) (fs : List Frame) → AreFramesOver cut fs → AreFramesOver cut (take n fs)
 frames_over-take cut zero fs k = tt
@@ -80,15 +78,15 @@ goes_on_before cut zero (g ∷ fs) f k lt e = let same : f.after.frame ≡ g.aft
 goes_on_before cut (suc i) (g ∷ fs) f k lt e = let rest = goes_on_before (cut + 1) i fs f k.1 (omega (arith, lt)) e in omega (arith, rest)
 
 -- what is left in a frame that is there
-pub items_in : (text : TextView) (fs : List Frame) (f : Frame) (i : ℕ) (p : Position) → AreFramesOver 0 fs → i < length fs → f ≡ get_or fs i f → p.frame ≡ i + 1 → items_at text fs p ≡ body_left text.code f.base f.cut (drop p.at text.bodies) ++ items_at text fs f.after
-items_in text fs f i p k lt e is =
+pub frame_left : (bodies : List BodyItem) (fs : List Frame) (f : Frame) (i : ℕ) (p : Position) → AreFramesOver 0 fs → i < length fs → f ≡ get_or fs i f → p.frame ≡ i + 1 → left_items bodies fs p ≡ own_left bodies f.body f.cut p.at ++ left_items bodies fs f.after
+frame_left bodies fs f i p k lt e is =
     let long = length-take-le i fs (omega (arith, lt)) in
     let more : take (i + 1) fs ≡ take i fs ++ f ∷ [] = front_at fs i f lt e in
     let before = goes_on_before 0 i fs f k lt e in
-    sym (items_taken text (i + 1) fs p (omega (arith, lt)) (omega (arith, is)))
-    ∙ (ap (λ gs. items_at text gs p) more
-    ∙ (items_pushed text (take i fs) f p (omega (arith, long, is))
-    ∙ ap (λ items. body_left text.code f.base f.cut (drop p.at text.bodies) ++ items) (items_taken text i fs f.after (omega (arith, lt)) (omega (arith, before)))))
+    sym (taken_left bodies (i + 1) fs p (omega (arith, lt)) (omega (arith, is)))
+    ∙ (ap (λ gs. left_items bodies gs p) more
+    ∙ (pushed_left bodies (take i fs) f p (omega (arith, long, is))
+    ∙ ap (λ items. own_left bodies f.body f.cut p.at ++ items) (taken_left bodies i fs f.after (omega (arith, lt)) (omega (arith, before)))))
 
 -- the place at which a body is read
 pub read_on : (bodies : List BodyItem) (at : ℕ) (item : BodyItem) → slice_get bodies at ≡ Some item → drop at bodies ≡ item ∷ drop (at + 1) bodies

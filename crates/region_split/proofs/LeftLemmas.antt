@@ -1,61 +1,94 @@
 -- What is left at a position, as it is read.
-use Rattle.std.proofs.Common.{◌≡◌, ℕ, ◌+◌, ◌-◌, ◌<◌, ◌≤◌, List, ◌∷◌, ◌++◌, length, drop, get_or, slice_get, Some, None, sym, ap, ◌∙◌, subst, arith}
+use Rattle.std.proofs.Common.{◌≡◌, ℕ, zero, suc, ◌+◌, ◌-◌, ◌<◌, ◌≤◌, List, [], ◌∷◌, ◌++◌, length, map, drop, get_or, slice_get, Some, None, refl, sym, ap, ap₂, ◌∙◌, subst, arith}
+use Rattle.au_term.specs.Term.{var_bound}
 use Rattle.au_term.specs.Shifted.{shifted}
-use Rattle.run_model.specs.Machine.Items.{Item, GoalItem, CatchMark, CollectMark}
-use Rattle.clause_compile.specs.Places.{meaning_in}
+use Rattle.run_model.specs.Machine.Items.{GoalItem}
+use Rattle.clause_compile.specs.Places.{IsPlaceOf, meaning_in}
 use Rattle.clause_compile.specs.declared.place.Place.{Place}
-use Rattle.region_split.specs.Frames.{body_left, items_at, next_position, IsLeftAt}
-use Rattle.region_split.specs.Regions.{RegionView, IsConsistentRegion}
+use Rattle.binding_array.specs.declared.cell.BindingCell.{BindingCell}
+use Rattle.cell_store.specs.StoreView.{IsValueIn, text_in, value_term}
+use Rattle.region_split.specs.Frames.{LeftItem, PlacedGoal, OwnItem, item_in, body_left, own_left, next_position, AreScoped}
+use Rattle.region_split.specs.Regions.{RegionView, IsConsistentRegion, left_here, items_here, IsPositionIn, IsLeftAt}
 use Rattle.region_split.specs.declared.frame.Frame.{Frame}
+use Rattle.region_split.specs.declared.frame.FrameBody.{FrameBody}
+use Rattle.region_split.specs.declared.frame.FrameBody.TheVariants.{Text, One}
+use Rattle.region_split.specs.declared.frame.FrameItem.{FrameItem}
+use Rattle.region_split.specs.declared.frame.FrameItem.TheVariants.{Goal}
 use Rattle.region_split.specs.declared.frame.Left.{Left}
-use Rattle.region_split.specs.declared.frame.Left.TheVariants.{Goal, CatchEnd, Collect, GoesOnAt}
+use Rattle.region_split.specs.declared.frame.Left.TheVariants.{First, GoesOnAt}
 use Rattle.region_split.specs.declared.frame.Position.{Position}
 use Rattle.region_split.specs.declared.text.BodyItem.{BodyItem}
-use Rattle.region_split.specs.declared.text.BodyItem.TheVariants.{Goal as GoalPlace, CatchEnd as CatchEndPlace, Collect as CollectPlace, BodyEnd}
-use Rattle.region_split.proofs.FrameLemmas.{items_in, goes_on_before, read_on, read_past}
+use Rattle.region_split.specs.declared.text.BodyItem.TheVariants.{Goal as GoalPlace, BodyEnd}
+use Rattle.region_split.proofs.FrameLemmas.{frame_left, goes_on_before, read_on, read_past}
 
-module _ (r old : RegionView) (seen : r ≡ old) (k : IsConsistentRegion r) (p : Position) (f : Frame) (there : p.frame ≤ length old.frames) (some : p.frame ≡ 0 → ⊥) (at : f ≡ get_or r.frames (p.frame - 1) f) where
-  within : p.frame ≤ length r.frames
-  within = subst (λ (x : RegionView). p.frame ≤ length x.frames) (sym seen) there
-
+-- a position whose frame is there
+module _ (r : RegionView) (k : IsConsistentRegion r) (p : Position) (f : Frame) (i : IsPositionIn r p) (some : p.frame ≡ 0 → ⊥) (at : f ≡ get_or r.frames (p.frame - 1) f) where
   place : p.frame ≡ (p.frame - 1) + 1
   place = omega (arith, some)
 
   frame_there : p.frame - 1 < length r.frames
-  frame_there = let a = within in let b = place in omega (arith, a, b)
+  frame_there = let a = i.frame in let b = place in omega (arith, a, b)
 
-  abbrev after : List (Item ℕ)
-  after = items_at r.text r.frames f.after
+  abbrev own : FrameBody → ℕ → List LeftItem
+  own body at = own_left r.text.bodies body f.cut at
 
-  abbrev own_body : List BodyItem → List (Item ℕ)
-  own_body bodies = body_left r.text.code f.base f.cut bodies
+  whole : left_here r p ≡ own f.body p.at ++ left_here r f.after
+  whole = frame_left r.text.bodies r.frames f (p.frame - 1) p k.older frame_there at place
 
-  whole : items_at r.text r.frames p ≡ own_body (drop p.at r.text.bodies) ++ after
-  whole = items_in r.text r.frames f (p.frame - 1) p k.older frame_there at place
-
-  rest : items_at r.text r.frames (next_position p) ≡ own_body (drop (p.at + 1) r.text.bodies) ++ after
-  rest = items_in r.text r.frames f (p.frame - 1) (next_position p) k.older frame_there at place
-
-  first : (item : BodyItem) → slice_get r.text.bodies p.at ≡ Some item → items_at r.text r.frames p ≡ own_body (item ∷ drop (p.at + 1) r.text.bodies) ++ after
-  first item e = whole ∙ ap (λ bodies. own_body bodies ++ after) (read_on r.text.bodies p.at item e)
+  rest : left_here r (next_position p) ≡ own f.body (p.at + 1) ++ left_here r f.after
+  rest = frame_left r.text.bodies r.frames f (p.frame - 1) (next_position p) k.older frame_there at place
 
   older_frame : f.after.frame < p.frame
   older_frame = let a = goes_on_before 0 (p.frame - 1) r.frames f k.older frame_there at in let b = place in omega (arith, a, b)
 
-  now : (left : Left) → IsLeftAt r.text r.frames p left → IsLeftAt old.text old.frames p left
-  now left h = subst (λ (x : RegionView). IsLeftAt x.text x.frames p left) seen h
+  next : (item : LeftItem) → own f.body p.at ≡ item ∷ own f.body (p.at + 1) → left_here r p ≡ item ∷ left_here r (next_position p)
+  next item e = whole ∙ (ap (λ is. is ++ left_here r f.after) e ∙ ap (λ is. item ∷ is) (sym rest))
 
-  pub goal_left : (t : Place) → slice_get r.text.bodies p.at ≡ Some (GoalPlace t) → IsLeftAt old.text old.frames p (Goal t f.base f.cut)
-  goal_left t e = now (Goal t f.base f.cut) (first (GoalPlace t) e ∙ ap (λ items. GoalItem (shifted f.base (meaning_in r.text.code t)) f.cut ∷ items) (sym rest))
+  pub ended : own f.body p.at ≡ [] → IsLeftAt r p (GoesOnAt f.after)
+  ended e =
+      let same : left_here r p ≡ left_here r f.after = whole ∙ ap (λ is. is ++ left_here r f.after) e in
+      record {
+        items = ap (map (item_in (text_in r.store))) same;
+        position = record { frame = let a = older_frame in let b = i.frame in omega (arith, a, b); scoped = subst (AreScoped (text_in r.store) r.store.now.next (length r.choices)) same i.scoped };
+        older = older_frame;
+      }
 
-  pub catch_end_left : slice_get r.text.bodies p.at ≡ Some CatchEndPlace → IsLeftAt old.text old.frames p (CatchEnd f.cut)
-  catch_end_left e = now (CatchEnd f.cut) (first CatchEndPlace e ∙ ap (λ items. CatchMark (f.cut - 1) ∷ items) (sym rest))
+  scoped_from : (item : LeftItem) → left_here r p ≡ item ∷ left_here r (next_position p) → AreScoped (text_in r.store) r.store.now.next (length r.choices) (item ∷ left_here r (next_position p))
+  scoped_from item e = subst (AreScoped (text_in r.store) r.store.now.next (length r.choices)) e i.scoped
 
-  pub collect_left : (t : Place) → slice_get r.text.bodies p.at ≡ Some (CollectPlace t) → IsLeftAt old.text old.frames p (Collect t f.base f.cut)
-  collect_left t e = now (Collect t f.base f.cut) (first (CollectPlace t) e ∙ ap (λ items. CollectMark (shifted f.base (meaning_in r.text.code t)) (f.cut - 1) ∷ items) (sym rest))
+  pub own_first : (item : FrameItem) → f.body ≡ One item → p.at ≡ 0 → IsLeftAt r p (First item f.cut)
+  own_first item e zero_at =
+      let first = next (OwnItem item f.cut) (ap₂ own e zero_at ∙ ap (λ is. OwnItem item f.cut ∷ is) (sym (ap₂ own e (ap (λ n. n + 1) zero_at)))) in
+      let s = scoped_from (OwnItem item f.cut) first in
+      record { items = ap (map (item_in (text_in r.store))) first; there = s.1; scope = s.0; after = record { frame = i.frame; scoped = s.2 } }
 
-  pub end_left : slice_get r.text.bodies p.at ≡ Some BodyEnd → IsLeftAt old.text old.frames p (GoesOnAt f.after)
-  end_left e = now (GoesOnAt f.after) (first BodyEnd e, older_frame)
+  own_past : (item : FrameItem) (n : ℕ) → (n ≡ 0 → ⊥) → own (One item) n ≡ []
+  own_past item zero h = absurd (h refl)
+  own_past item (suc n) h = refl
 
-  pub no_body_left : slice_get r.text.bodies p.at ≡ None → IsLeftAt old.text old.frames p (GoesOnAt f.after)
-  no_body_left e = now (GoesOnAt f.after) (whole ∙ ap (λ bodies. own_body bodies ++ after) (read_past r.text.bodies p.at e), older_frame)
+  pub own_ended : (item : FrameItem) → f.body ≡ One item → (p.at ≡ 0 → ⊥) → IsLeftAt r p (GoesOnAt f.after)
+  own_ended item e past = ended (ap (λ b. own b p.at) e ∙ own_past item p.at past)
+
+  module _ (base : ℕ) (text : f.body ≡ Text base) where
+    goal_next : (t : Place) → slice_get r.text.bodies p.at ≡ Some (GoalPlace t) → left_here r p ≡ PlacedGoal t base f.cut ∷ left_here r (next_position p)
+    goal_next t e = next (PlacedGoal t base f.cut) (ap (λ b. own b p.at) text ∙ (ap (body_left base f.cut) (read_on r.text.bodies p.at (GoalPlace t) e) ∙ ap (λ b. PlacedGoal t base f.cut ∷ own b (p.at + 1)) (sym text)))
+
+    pub goal_there : (t : Place) → slice_get r.text.bodies p.at ≡ Some (GoalPlace t) → IsPlaceOf (text_in r.store) t × (var_bound (shifted base (meaning_in (text_in r.store) t)) ≤ r.store.now.next)
+    goal_there t e = (scoped_from (PlacedGoal t base f.cut) (goal_next t e)).1
+
+    pub goal_first : (t : Place) (value : BindingCell) → slice_get r.text.bodies p.at ≡ Some (GoalPlace t) → value_term r.store value ≡ shifted base (meaning_in (text_in r.store) t) → IsValueIn r.store value → IsLeftAt r p (First (Goal value) f.cut)
+    goal_first t value e means there =
+        let first = goal_next t e in
+        let s = scoped_from (PlacedGoal t base f.cut) first in
+        record {
+          items = ap (map (item_in (text_in r.store))) first ∙ ap (λ t. GoalItem t f.cut ∷ items_here r (next_position p)) (sym means);
+          there = there;
+          scope = s.0;
+          after = record { frame = i.frame; scoped = s.2 };
+        }
+
+    pub end_reached : slice_get r.text.bodies p.at ≡ Some BodyEnd → IsLeftAt r p (GoesOnAt f.after)
+    end_reached e = ended (ap (λ b. own b p.at) text ∙ ap (body_left base f.cut) (read_on r.text.bodies p.at BodyEnd e))
+
+    pub no_body : slice_get r.text.bodies p.at ≡ None → IsLeftAt r p (GoesOnAt f.after)
+    no_body e = ended (ap (λ b. own b p.at) text ∙ ap (body_left base f.cut) (read_past r.text.bodies p.at e))

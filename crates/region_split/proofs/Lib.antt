@@ -5,6 +5,7 @@ pub mod RegionLemmas
 pub mod CursorLemmas
 pub mod FindallLemmas
 pub mod LeftLemmas
+pub mod ItemLemmas
 pub mod StoreLemmas
 pub mod TextLemmas
 pub mod ClauseLemmas

@@ -6,16 +6,16 @@ use Rattle.std.proofs.Math.Nat.{le-max_left, le-max_right, max-le}
 use Rattle.au_model.specs.Terms.Named.{NamedTerm}
 use Rattle.run_model.specs.Machine.Items.{resolve_continuation}
 use Rattle.run_model.specs.Machine.Entries.{PlainEntry}
-use Rattle.cell_store.specs.StoreView.{Moment, StoreView, taken_back, with_mark, with_marks}
+use Rattle.cell_store.specs.StoreView.{Moment, StoreView, text_at, text_in, taken_back, with_mark, with_marks}
 use Rattle.cell_store.proofs.UndoingLemmas.{take_within}
-use Rattle.region_split.specs.Frames.{body_left, items_at, AreCutWithin}
+use Rattle.region_split.specs.Frames.{own_left, AreScoped}
 use Rattle.region_split.specs.ChoicePoints.{Standing, standing_over, nothing_standing, with_entries_on_top, continuation_at, height_of_cut, IsChoiceOver, AreChoicesOver, AreAlternativesAt, frames_kept}
-use Rattle.region_split.specs.Regions.{RegionView, region_setting, standing, entries_of, heights_of, entries_on, IsPositionIn, AreAlternativesIn, IsConsistentRegion}
+use Rattle.region_split.specs.Regions.{RegionView, left_here, region_setting, standing, entries_of, heights_of, entries_on, IsPositionIn, AreAlternativesIn, IsConsistentRegion}
 use Rattle.region_split.specs.StackOperations.{AddsFrame, AddsChoice, CutsTo, TakesNewest, DropsNewest}
 use Rattle.region_split.specs.declared.choice.ChoicePoint.{ChoicePoint}
 use Rattle.region_split.specs.declared.frame.Frame.{Frame}
 use Rattle.region_split.specs.declared.frame.Position.{Position}
-use Rattle.region_split.proofs.FrameLemmas.{items_kept, items_pushed, items_taken, frames_over-append, frames_over-take}
+use Rattle.region_split.proofs.FrameLemmas.{kept_left, pushed_left, taken_left, frames_over-append, frames_over-take}
 use Rattle.region_split.proofs.ScopeLemmas.{same_heights, scoped_more}
 use Rattle.region_split.proofs.StandingLemmas.{standing-append, IsOver, is_over, IsMeasured, measured, own_height, lowest_entries, heights_kept, AreSameTo, same_continuation, standing_same, choices_same, as_many, choices-append, choices_below, choice_on_top, choices-take, kept-take, kept-append, choices_named}
 
@@ -23,9 +23,9 @@ pub nothing_measured : IsMeasured nothing_standing 0
 nothing_measured = record { before = []; is = refl; long = refl }
 
 -- what is left at a position stays where heights do up to so many choice points
-pub same_entry : (named : List NamedTerm) (r : RegionView) (hs ks : List ℕ) (cut next : ℕ) (p : Position) → ((n : ℕ) → n ≤ cut → height_of_cut hs n ≡ height_of_cut ks n) → AreCutWithin cut next (items_at r.text r.frames p)
+pub same_entry : (named : List NamedTerm) (r : RegionView) (hs ks : List ℕ) (cut next : ℕ) (p : Position) → ((n : ℕ) → n ≤ cut → height_of_cut hs n ≡ height_of_cut ks n) → AreScoped (text_in r.store) next cut (left_here r p)
     → continuation_at (region_setting named r) hs r.store.now p ≡ continuation_at (region_setting named r) ks r.store.now p
-same_entry named r hs ks cut next p same s = ap (λ items. resolve_continuation r.store.now.bound (record { items = items; named = named; next = r.store.now.next })) (same_heights hs ks cut next (items_at r.text r.frames p) same s)
+same_entry named r hs ks cut next p same s = ap (λ items. resolve_continuation r.store.now.bound (record { items = items; named = named; next = r.store.now.next })) (same_heights hs ks (text_in r.store) next cut (left_here r p) same s)
 
 -- a frame in place of those after so many
 module _ (r : RegionView) (k : IsConsistentRegion r) (f : Frame) (n : ℕ) (kept : frames_kept 0 r.choices ≤ n) (own : f.after.frame ≤ n) (within : n ≤ length r.frames) where
@@ -36,7 +36,7 @@ module _ (r : RegionView) (k : IsConsistentRegion r) (f : Frame) (n : ℕ) (kept
   framed_long = length-append (take n r.frames) (f ∷ []) ∙ (let l = length-take-le n r.frames within in omega (arith, l))
 
   same_to : AreSameTo (region_setting [] r) framed n
-  same_to p le = items_kept r.text (take n r.frames) (f ∷ []) p (let l = length-take-le n r.frames within in omega (arith, l, le)) ∙ items_taken r.text n r.frames p within le
+  same_to p le = kept_left r.text.bodies (take n r.frames) (f ∷ []) p (let l = length-take-le n r.frames within in omega (arith, l, le)) ∙ taken_left r.text.bodies n r.frames p within le
 
   pub framed_region : IsConsistentRegion (record r { frames = framed })
   framed_region = record { program = k.program; older = frames_over-append 0 n (take n r.frames) f (frames_over-take 0 n r.frames k.older) (let l = length-take-le n r.frames within in omega (arith, l)) own; choices = choices_same (region_setting [] r) framed n 0 0 r.choices r.store.marks same_to k.choices kept; frames = let l = framed_long in omega (arith, l, kept) }
@@ -47,10 +47,11 @@ module _ (r : RegionView) (k : IsConsistentRegion r) (f : Frame) (n : ℕ) (kept
   pub adds_frame : AddsFrame r (record r { frames = framed }) f (n + 1)
   adds_frame = record {
     there = let l = framed_long in omega (arith, l);
-    items = λ at. items_pushed r.text (take n r.frames) f (record { frame = n + 1; at = at }) (let l = length-take-le n r.frames within in omega (arith, l)) ∙ ap (λ is. body_left r.text.code f.base f.cut (drop at r.text.bodies) ++ is) (items_taken r.text n r.frames f.after within own);
+    younger = omega (arith, own);
+    left = λ at. pushed_left r.text.bodies (take n r.frames) f (record { frame = n + 1; at = at }) (let l = length-take-le n r.frames within in omega (arith, l)) ∙ ap (λ is. own_left r.text.bodies f.body f.cut at ++ is) (taken_left r.text.bodies n r.frames f.after within own);
     stands = stands;
     keeps = record {
-      position = λ p le i. record { frame = let l = framed_long in omega (arith, l, le, own); scoped = subst (AreCutWithin (length r.choices) r.store.now.next) (sym (same_to p (omega (arith, le, own)))) i.scoped };
+      position = λ cut p le i. record { frame = let l = framed_long in omega (arith, l, le, own); scoped = subst (AreScoped (text_in r.store) r.store.now.next cut) (sym (same_to p (omega (arith, le, own)))) i.scoped };
       same = λ named p le i. ap PlainEntry (ap (λ (st : Standing). continuation_at (region_setting named (record r { frames = framed })) st.heights r.store.now p) (stands named) ∙ same_continuation (region_setting named r) framed n (heights_of named r) r.store.now p same_to (omega (arith, le, own)));
     };
     others = refl;
@@ -93,8 +94,9 @@ module _ (r : RegionView) (k : IsConsistentRegion r) (c : ChoicePoint) (own : c.
     is = (refl, refl);
     entries = λ named. ap (λ (st : Standing). st.entries) (on_top named);
     heights = λ named. still named (length r.choices) (omega arith) ∙ whole_height r k named;
+    older = still;
     keeps = record {
-      position = λ p le i. record { frame = i.frame; scoped = scoped_more (length r.choices) (length (r.choices ++ c ∷ [])) r.store.now.next (items_at r.text r.frames p) (let l = length-append r.choices (c ∷ []) in omega (arith, l)) i.scoped };
+      position = λ cut p le i. record { frame = i.frame; scoped = i.scoped };
       same = λ named p le i. ap PlainEntry (same_entry named r (heights_of named topped) (heights_of named r) (length r.choices) r.store.now.next p (still named) i.scoped);
     };
     others = refl;
@@ -136,7 +138,7 @@ module _ (r : RegionView) (k : IsConsistentRegion r) (n : ℕ) (le : n ≤ lengt
   pub cuts_to : CutsTo r cut_down n
   cuts_to = record {
     entries = λ named. lowest_entries (standing named cut_down) (standing named r) n (below named) (over named);
-    position = λ p i. record { frame = i.frame; scoped = subst (λ cut. AreCutWithin cut r.store.now.next (items_at r.text r.frames p)) (sym fewer) i.scoped };
+    position = λ p i. record { frame = i.frame; scoped = subst (λ cut. AreScoped (text_in r.store) r.store.now.next cut (left_here r p)) (sym fewer) i.scoped };
     same = λ named p i. ap PlainEntry (same_entry named r (heights_of named cut_down) (heights_of named r) n r.store.now.next p (λ j lt. sym (heights_kept (standing named cut_down) (standing named r) n j (below named) (over named) lt)) i.scoped);
     text = refl;
     store = refl;
@@ -179,7 +181,7 @@ module _ (r : RegionView) (k : IsConsistentRegion r) (cs : List ChoicePoint) (c 
   pub takes_newest : now ≡ m → TakesNewest r lowered c
   takes_newest e = record {
     entries = λ named. lowered_entries named ∙ ap (λ x. entries_on named lowered c x ++ entries_of named lowered) (sym e);
-    position = record { frame = let o = newest.own in let e = last_kept in let f = k.frames in omega (arith, o, e, f); scoped = subst (λ (x : Moment). AreCutWithin (length cs) x.next (items_at r.text r.frames c.after)) (sym e) newest.scoped };
+    position = record { frame = let o = newest.own in let e = last_kept in let f = k.frames in omega (arith, o, e, f); scoped = subst (λ (x : Moment). AreScoped (text_at r.store x) x.next (length cs) (left_here r c.after)) (sym e) newest.scoped };
     alternatives = subst (λ x. AreAlternativesAt (region_setting [] r) x c.alternatives) (sym e) newest.values;
     choices = choices;
     marked = marks ∙ ap (λ x. ms ++ x ∷ []) (sym e);

@@ -6,8 +6,8 @@ use Rattle.au_model.specs.Terms.Named.{NamedTerm}
 use Rattle.run_model.specs.Machine.Items.{Continuation, resolve_continuation}
 use Rattle.run_model.specs.Machine.Entries.{Entry, lowest}
 use Rattle.cell_store.specs.StoreView.{Moment}
-use Rattle.region_split.specs.Frames.{items_at, AreCutWithin}
-use Rattle.region_split.specs.ChoicePoints.{RegionSetting, Standing, standing_over, with_entries_on_top, choice_entries, alternative_entries, continuation_at, AreAlternativesAt, IsChoiceOver, AreChoicesOver, frames_kept, height_of_cut, by_height}
+use Rattle.region_split.specs.Frames.{LeftItem, left_items, item_in, AreScoped}
+use Rattle.region_split.specs.ChoicePoints.{RegionSetting, code_at, Standing, standing_over, with_entries_on_top, choice_entries, alternative_entries, continuation_at, AreAlternativesAt, IsChoiceOver, AreChoicesOver, frames_kept, height_of_cut, by_height}
 use Rattle.region_split.specs.declared.choice.Alternatives.{Alternatives}
 use Rattle.region_split.specs.declared.choice.Alternatives.TheVariants.{Clauses, Elsewhere, Catch, Findall, QueryEnd}
 use Rattle.region_split.specs.declared.choice.ChoicePoint.{ChoicePoint}
@@ -75,7 +75,7 @@ abbrev pub with_frames : List Frame → RegionSetting → RegionSetting
 with_frames fs s = record s { frames = fs }
 
 abbrev pub AreSameTo : RegionSetting → List Frame → ℕ → Type 0
-AreSameTo s fs n = (p : Position) → p.frame ≤ n → items_at s.text fs p ≡ items_at s.text s.frames p
+AreSameTo s fs n = (p : Position) → p.frame ≤ n → left_items s.text.bodies fs p ≡ left_items s.text.bodies s.frames p
 
 same_alternatives : (s : RegionSetting) (fs : List Frame) (m : Moment) (h : ℕ) (f : Continuation ℕ) (a : Alternatives) → alternative_entries (with_frames fs s) m h f a ≡ alternative_entries s m h f a
 same_alternatives s fs m h f (Clauses goal first end) = refl
@@ -92,7 +92,7 @@ same_values s fs m (Findall list results) v = v
 same_values s fs m QueryEnd v = v
 
 pub same_continuation : (s : RegionSetting) (fs : List Frame) (n : ℕ) (hs : List ℕ) (m : Moment) (p : Position) → AreSameTo s fs n → p.frame ≤ n → continuation_at (with_frames fs s) hs m p ≡ continuation_at s hs m p
-same_continuation s fs n hs m p same le = ap (λ items. resolve_continuation m.bound (record { items = map (by_height hs) items; named = s.named; next = m.next })) (same p le)
+same_continuation s fs n hs m p same le = ap (λ left. resolve_continuation m.bound (record { items = map (by_height hs) (map (item_in (code_at s m)) left); named = s.named; next = m.next })) (same p le)
 
 same_choice : (s : RegionSetting) (fs : List Frame) (n : ℕ) (below : Standing) (c : ChoicePoint) (m : Moment) → AreSameTo s fs n → c.after.frame ≤ n → choice_entries (with_frames fs s) below c m ≡ choice_entries s below c m
 same_choice s fs n below c m same le =
@@ -119,7 +119,7 @@ choices_same s fs n cut frames [] (m ∷ ms) same k le = absurd k
 choices_same s fs n cut frames (c ∷ cs) [] same k le = absurd k
 choices_same s fs n cut frames (c ∷ cs) (m ∷ ms) same k le =
     let o = k.0.own in let more = kept_more s (cut + 1) c.frames cs ms k.1 in (
-      record { own = k.0.own; older = k.0.older; scoped = subst (AreCutWithin cut m.next) (sym (same c.after (omega (arith, o, more, le)))) k.0.scoped; values = same_values s fs m c.alternatives k.0.values },
+      record { own = k.0.own; older = k.0.older; scoped = subst (AreScoped (code_at s m) m.next cut) (sym (same c.after (omega (arith, o, more, le)))) k.0.scoped; values = same_values s fs m c.alternatives k.0.values },
       choices_same s fs n (cut + 1) c.frames cs ms same k.1 le,
     )
 

@@ -1,17 +1,119 @@
 -- A region whose store goes on.
-use Rattle.std.proofs.Common.{ℕ, ◌+◌, length, refl, arith}
-use Rattle.cell_store.specs.StoreView.{with_numbers}
-use Rattle.region_split.specs.Frames.{items_at}
-use Rattle.region_split.specs.Regions.{RegionView}
-use Rattle.region_split.specs.StackOperations.{StaysStanding}
-use Rattle.region_split.proofs.ScopeLemmas.{scoped_further}
+use Rattle.std.proofs.Common.{◌≡◌, ℕ, ◌+◌, List, [], ◌∷◌, length, map, refl, sym, ap, ap₂, ◌∙◌, subst, arith}
+use Rattle.std.specs.List.{slice_range}
+use Rattle.au_model.specs.Terms.Each.{Each}
+use Rattle.au_model.specs.Terms.Named.{NamedTerm}
+use Rattle.au_model.specs.Terms.Substitutions.{resolve}
+use Rattle.run_model.specs.Machine.Items.{Item, Continuation, resolve_continuation, with_next}
+use Rattle.run_model.specs.Machine.Entries.{Entry, PlainEntry, FindallEntry, CatchEntry, solution_entries}
+use Rattle.run_model.specs.Goals.Outcomes.{alternatives_of}
+use Rattle.clause_compile.specs.Places.{CodeView, Keeps}
+use Rattle.cell_store.specs.StoreView.{Moment, StoreView, AddsText, text_in, with_numbers}
+use Rattle.cell_store.proofs.SubstitutionLemmas.{value_kept}
+use Rattle.region_split.specs.Frames.{AreScoped, left_items, item_in}
+use Rattle.region_split.specs.ChoicePoints.{RegionSetting, Standing, code_at, meant_at, continuation_at, alternative_entries, choice_entries, standing_over, nothing_standing, with_entries_on_top, by_height, AreAlternativesAt, AreChoicesOver}
+use Rattle.region_split.specs.Regions.{RegionView, region_setting, left_here, heights_of, standing, IsConsistentRegion, IsPositionOver}
+use Rattle.region_split.specs.StackOperations.{KeepsPositions, StaysStanding}
+use Rattle.region_split.specs.declared.choice.Alternatives.{Alternatives}
+use Rattle.region_split.specs.declared.choice.Alternatives.TheVariants.{Clauses, Elsewhere, Catch, Findall, QueryEnd}
+use Rattle.region_split.specs.declared.choice.ChoicePoint.{ChoicePoint}
+use Rattle.region_split.specs.declared.frame.Position.{Position}
+use Rattle.region_split.proofs.ScopeLemmas.{scoped_further, scoped_kept, items_kept}
+use Rattle.region_split.proofs.StandingLemmas.{choices_named}
 
 pub stays_further : (r : RegionView) (n : ℕ) → StaysStanding r (record r { store = with_numbers n r.store })
 stays_further r n = record {
   stands = λ named. refl;
-  position = λ p i. record { frame = i.frame; scoped = scoped_further (length r.choices) r.store.now.next (r.store.now.next + n) (items_at r.text r.frames p) (omega arith) i.scoped };
+  position = λ cut p i. record { frame = i.frame; scoped = scoped_further (text_in r.store) r.store.now.next (r.store.now.next + n) cut (left_here r p) (omega arith) i.scoped };
   others = refl;
 }
 
 pub stays_same : (r : RegionView) → StaysStanding r r
-stays_same r = record { stands = λ named. refl; position = λ p i. i; others = refl }
+stays_same r = record { stands = λ named. refl; position = λ cut p i. i; others = refl }
+
+-- with further names
+abbrev with_text : CodeView → List (List ℕ) → RegionSetting → RegionSetting
+with_text program names s = record s { program = program; names = names }
+
+module _ (program : CodeView) (names : List (List ℕ)) (s : RegionSetting) where
+  abbrev now : RegionSetting
+  now = with_text program names s
+
+  abbrev IsKept : Moment → Type 0
+  IsKept m = Keeps (code_at s m) (code_at now m)
+
+  kept_values : (m : Moment) (a : Alternatives) → IsKept m → AreAlternativesAt s m a → AreAlternativesAt now m a
+  kept_values m (Clauses goal first end) k v = ((value_kept (code_at s m) (code_at now m) m.next goal k v.0).0, v.1)
+  kept_values m Elsewhere k v = tt
+  kept_values m (Catch catcher recovery) k v = ((value_kept (code_at s m) (code_at now m) m.next catcher k v.0).0, (value_kept (code_at s m) (code_at now m) m.next recovery k v.1).0)
+  kept_values m (Findall list results) k v = ((value_kept (code_at s m) (code_at now m) m.next list k v.0).0, v.1)
+  kept_values m QueryEnd k v = tt
+
+  kept_alternatives : (m : Moment) (h : ℕ) (f : Continuation ℕ) (a : Alternatives) → IsKept m → AreAlternativesAt s m a → alternative_entries now m h f a ≡ alternative_entries s m h f a
+  kept_alternatives m h f (Clauses goal first end) k v = ap (λ t. solution_entries h f (alternatives_of (slice_range s.text.clauses first end) (resolve m.bound t) m.next)) (value_kept (code_at s m) (code_at now m) m.next goal k v.0).1
+  kept_alternatives m h f Elsewhere k v = refl
+  kept_alternatives m h f (Catch catcher recovery) k v =
+      ap₂ (λ t u. CatchEntry (resolve m.bound t) (resolve m.bound u) f ∷ []) (value_kept (code_at s m) (code_at now m) m.next catcher k v.0).1 (value_kept (code_at s m) (code_at now m) m.next recovery k v.1).1
+  kept_alternatives m h f (Findall list results) k v = ap (λ t. FindallEntry results.terms (resolve m.bound t) (with_next results.next f) ∷ []) (value_kept (code_at s m) (code_at now m) m.next list k v.0).1
+  kept_alternatives m h f QueryEnd k v = refl
+
+  kept_continuation : (hs : List ℕ) (m : Moment) (cut : ℕ) (p : Position) → IsKept m → AreScoped (code_at s m) m.next cut (left_items s.text.bodies s.frames p) → continuation_at now hs m p ≡ continuation_at s hs m p
+  kept_continuation hs m cut p k scoped =
+      ap (λ items. resolve_continuation m.bound (record { items = map (by_height hs) items; named = s.named; next = m.next })) (items_kept (code_at s m) (code_at now m) m.next cut (left_items s.text.bodies s.frames p) k scoped)
+
+  pub kept_choices : (cut frames : ℕ) (cs : List ChoicePoint) (ms : List Moment) → Each IsKept ms → AreChoicesOver s cut frames cs ms → AreChoicesOver now cut frames cs ms
+  kept_choices cut frames [] [] ks k = tt
+  kept_choices cut frames [] (m ∷ ms) ks k = absurd k
+  kept_choices cut frames (c ∷ cs) [] ks k = absurd k
+  kept_choices cut frames (c ∷ cs) (m ∷ ms) ks k =
+      (record { own = k.0.own; older = k.0.older; scoped = scoped_kept (code_at s m) (code_at now m) m.next cut (left_items s.text.bodies s.frames c.after) ks.0 k.0.scoped; values = kept_values m c.alternatives ks.0 k.0.values }, kept_choices (cut + 1) c.frames cs ms ks.1 k.1)
+
+  pub kept_standing : (cut frames : ℕ) (below : Standing) (cs : List ChoicePoint) (ms : List Moment) → Each IsKept ms → AreChoicesOver s cut frames cs ms → standing_over now below cs ms ≡ standing_over s below cs ms
+  kept_standing cut frames below [] ms ks k = refl
+  kept_standing cut frames below (c ∷ cs) [] ks k = refl
+  kept_standing cut frames below (c ∷ cs) (m ∷ ms) ks k =
+      let h = length below.entries in
+      let own : choice_entries now below c m ≡ choice_entries s below c m =
+      kept_alternatives m h (continuation_at now below.heights m c.after) c.alternatives ks.0 k.0.values
+      ∙ ap (λ f. alternative_entries s m h f c.alternatives) (kept_continuation below.heights m cut c.after ks.0 k.0.scoped) in
+      ap (λ es. standing_over now (with_entries_on_top es below) cs ms) own ∙ kept_standing (cut + 1) c.frames (with_entries_on_top (choice_entries s below c m) below) cs ms ks.1 k.1
+
+-- terms are made behind the text
+module _ (r : RegionView) (k : IsConsistentRegion r) (new : StoreView) (adds : AddsText r.store new) where
+  abbrev added : RegionView
+  added = record r { store = new }
+
+  kept_marks : Each (IsKept new.program new.names (region_setting [] r)) r.store.marks
+  kept_marks = adds.at_marks
+
+  pub added_region : IsConsistentRegion added
+  added_region = record {
+    program = adds.program ∙ k.program;
+    choices = subst (AreChoicesOver (region_setting [] added) 0 0 r.choices) (sym adds.marks) (kept_choices new.program new.names (region_setting [] r) 0 0 r.choices r.store.marks kept_marks k.choices);
+    frames = k.frames;
+    older = k.older;
+  }
+
+  stands : (named : List NamedTerm) → standing named added ≡ standing named r
+  stands named =
+      ap (λ ms. standing_over (region_setting named added) nothing_standing r.choices ms) adds.marks
+      ∙ kept_standing new.program new.names (region_setting named r) 0 0 nothing_standing r.choices r.store.marks kept_marks (choices_named (region_setting [] r) named 0 0 r.choices r.store.marks k.choices)
+
+  position : (cut : ℕ) (p : Position) → IsPositionOver r cut p → IsPositionOver added cut p
+  position cut p i = record {
+    frame = i.frame;
+    scoped = subst (λ n. AreScoped (text_in new) n cut (left_here r p)) (sym adds.next) (scoped_kept (text_in r.store) (text_in new) r.store.now.next cut (left_here r p) adds.keeps i.scoped);
+  }
+
+  pub text_added : StaysStanding r added
+  text_added = record { stands = stands; position = position; others = refl }
+
+  pub positions_kept : KeepsPositions r added (length r.frames)
+  positions_kept = record {
+    position = λ cut p le i. position cut p i;
+    same = λ named p le i.
+        let entry_by : List ℕ → Moment → List (Item ℕ) → Entry = λ hs m items. PlainEntry (resolve_continuation m.bound (record { items = map (by_height hs) items; named = named; next = m.next })) in
+        ap (λ items. entry_by (heights_of named added) new.now items) (items_kept (text_in r.store) (text_in new) r.store.now.next (length r.choices) (left_here r p) adds.keeps i.scoped)
+        ∙ (ap (λ hs. entry_by hs new.now (map (item_in (text_in r.store)) (left_here r p))) (ap (λ (st : Standing). st.heights) (stands named))
+        ∙ ap₂ (λ b n. entry_by (heights_of named r) (record { made = []; bound = b; next = n }) (map (item_in (text_in r.store)) (left_here r p))) adds.bound adds.next);
+  }

@@ -6,6 +6,8 @@ use Rattle.au_term.specs.Shifted.{shifted}
 use Rattle.au_model.specs.Terms.Named.{NamedTerm}
 use Rattle.au_model.specs.Terms.Substitutions.{Substitution, apply, value_of, resolve}
 use Rattle.au_model.specs.Terms.Unifier.{unifier}
+use Rattle.au_model.specs.Terms.Each.{Each}
+use Rattle.au_model.proofs.EachLemmas.{each-more}
 use Rattle.au_model.proofs.ApplyLemmas.{apply-same, apply-apply}
 use Rattle.au_model.proofs.VariableBoundLemmas.{apply-below}
 use Rattle.run_model.specs.Programs.Bodies.{clause_goals_of}
@@ -20,14 +22,16 @@ use Rattle.binding_array.specs.declared.cell.BindingCell.{BindingCell}
 use Rattle.cell_store.specs.UnificationSteps.{OnlyBinds, AreUnified}
 use Rattle.cell_store.specs.StoreView.{Moment, StoreView, IsValidStore, IsValueIn, IsComposition, text_in, value_term, meaning, with_numbers, with_substitution}
 use Rattle.cell_store.proofs.CellMeaningLemmas.{term_below}
+use Rattle.cell_store.proofs.UndoingLemmas.{map-same}
 use Rattle.region_split.specs.ChoicePoints.{height_of_cut, by_height}
-use Rattle.region_split.specs.Frames.{body_left, items_at, AreCutWithin}
+use Rattle.region_split.specs.Frames.{LeftItem, PlacedGoal, item_in, body_left, own_left, AreScoped}
 use Rattle.region_split.specs.Texts.{TextView, body_items, IsPlacedClause}
-use Rattle.region_split.specs.Regions.{RegionView, heights_of, continuation_here, IsPositionOver}
+use Rattle.region_split.specs.Regions.{RegionView, left_here, items_here, heights_of, continuation_here, IsPositionOver}
 use Rattle.region_split.specs.StackOperations.{AddsFrame, StaysStanding, trial_entries}
 use Rattle.region_split.specs.ClauseTrials.{TriesClause}
 use Rattle.region_split.specs.declared.choice.Trial.{Trial}
 use Rattle.region_split.specs.declared.frame.Frame.{Frame}
+use Rattle.region_split.specs.declared.frame.FrameBody.TheVariants.{Text as FrameText}
 use Rattle.region_split.specs.declared.frame.Position.{Position}
 use Rattle.region_split.specs.declared.text.BodyItem.{BodyItem}
 use Rattle.region_split.specs.declared.text.BodyItem.TheVariants.{BodyEnd}
@@ -44,14 +48,23 @@ same_parts e f g = cc
 abbrev goals_from : ℕ → ℕ → List Term → List (Item ℕ)
 goals_from base cut ts = map (λ t. GoalItem (shifted base t) cut) ts
 
--- what is left of a body from its place on
-body_read : (code : CodeView) (base cut : ℕ) (goals : List Place) (following : List BodyItem) → body_left code base cut (body_items goals ++ following) ≡ goals_from base cut (map (meaning_in code) goals)
-body_read code base cut [] following = refl
-body_read code base cut (g ∷ goals) following = ap (λ is. GoalItem (shifted base (meaning_in code g)) cut ∷ is) (body_read code base cut goals following)
+-- the same as they are left of the text's bodies
+abbrev placed_from : ℕ → ℕ → List Place → List LeftItem
+placed_from base cut goals = map (λ g. PlacedGoal g base cut) goals
 
-goals_scoped : (base k cut n : ℕ) (ts : List Term) (items : List (Item ℕ)) → base + k ≤ n → AreBelow k ts → AreCutWithin cut n items → AreCutWithin cut n (goals_from base cut ts ++ items)
-goals_scoped base k cut n [] items le b s = s
-goals_scoped base k cut n (t ∷ ts) items le b s = (omega arith, (let w = shifted_within base k t b.0 in omega (arith, w, le)), goals_scoped base k cut n ts items le b.1 s)
+-- what is left of a body from its place on
+body_read : (base cut : ℕ) (goals : List Place) (following : List BodyItem) → body_left base cut (body_items goals ++ following) ≡ placed_from base cut goals
+body_read base cut [] following = refl
+body_read base cut (g ∷ goals) following = ap (λ is. PlacedGoal g base cut ∷ is) (body_read base cut goals following)
+
+placed_items : (code : CodeView) (base cut : ℕ) (goals : List Place) → map (item_in code) (placed_from base cut goals) ≡ goals_from base cut (map (meaning_in code) goals)
+placed_items code base cut [] = refl
+placed_items code base cut (g ∷ goals) = ap (λ is. GoalItem (shifted base (meaning_in code g)) cut ∷ is) (placed_items code base cut goals)
+
+goals_scoped : (code : CodeView) (base k cut n : ℕ) (goals : List Place) (left : List LeftItem) → base + k ≤ n → Each (IsPlaceOf code) goals → AreBelow k (map (meaning_in code) goals) → AreScoped code n cut left → AreScoped code n cut (placed_from base cut goals ++ left)
+goals_scoped code base k cut n [] left le there b s = s
+goals_scoped code base k cut n (g ∷ goals) left le there b s =
+    (omega arith, (there.0, (let w = shifted_within base k (meaning_in code g) b.0 in omega (arith, w, le))), goals_scoped code base k cut n goals left le there.1 b.1 s)
 
 -- bindings that come on top of others
 module _ (s further now : Substitution) (bound : IsComposition s further now) where
@@ -173,8 +186,19 @@ module _ (r : RegionView) (t : Trial) (cut : ℕ) (p : PlacedClause) (b : Begins
       abbrev own : List (Item ℕ)
       own = goals_from next cut (clause_goals_of c.body)
 
+      abbrev own_placed : List LeftItem
+      own_placed = placed_from next cut b.placed.goals
+
       abbrev items_after : List (Item ℕ)
-      items_after = items_at r.text r.frames t.after
+      items_after = items_here r t.after
+
+      own_means : map (meaning_in (text_in r.store)) b.placed.goals ≡ clause_goals_of c.body
+      own_means = map-same (IsPlaceOf r.text.code) (meaning_in (text_in r.store)) (meaning_in r.text.code) (λ g there. (keeps.same g there).1) b.placed.goals b.placed.goals_there ∙ b.placed.mean
+
+      all_items : map (item_in (text_in r.store)) (own_placed ++ left_here r t.after) ≡ own ++ items_after
+      all_items =
+          map-append (item_in (text_in r.store)) own_placed (left_here r t.after)
+          ∙ ap (λ is. is ++ items_after) (placed_items (text_in r.store) next cut b.placed.goals ∙ ap (goals_from next cut) own_means)
 
       takes : next + p.vars ≡ next + clause_takes c
       takes = ap (λ n. next + n) (sym (ap length b.placed.numbered ∙ length-numbers 0 p.vars))
@@ -189,16 +213,22 @@ module _ (r : RegionView) (t : Trial) (cut : ℕ) (p : PlacedClause) (b : Begins
           ∙ ap (λ f. PlainEntry f ∷ []) (sym (same_parts (all_resolved r.store.now.bound further now bound next p.vars c renames (heights_of named r) cut (clause_goals_of c.body) items_after (goals_within p.vars c.body body_within))
           (named_twice r.store.now.bound further now bound named) takes))
 
-      scoped : AreCutWithin cut (next + p.vars) (own ++ items_after)
-      scoped = goals_scoped next p.vars cut (next + p.vars) (clause_goals_of c.body) items_after (omega arith) (goals_within p.vars c.body body_within) (scoped_further cut next (next + p.vars) items_after (omega arith) after.scoped)
+      scoped : AreScoped (text_in r.store) (next + p.vars) cut (own_placed ++ left_here r t.after)
+      scoped =
+          goals_scoped (text_in r.store) next p.vars cut (next + p.vars) b.placed.goals (left_here r t.after) (omega arith)
+          (each-more (IsPlaceOf r.text.code) (IsPlaceOf (text_in r.store)) (λ g there. (keeps.same g there).0) b.placed.goals b.placed.goals_there)
+          (subst (AreBelow p.vars) (sym own_means) (goals_within p.vars c.body body_within))
+          (scoped_further (text_in r.store) next (next + p.vars) cut (left_here r t.after) (omega arith) after.scoped)
 
-      whole_body : body_left r.text.code next cut (drop p.body r.text.bodies) ≡ own
-      whole_body = ap (body_left r.text.code next cut) b.placed.body ∙ (body_read r.text.code next cut b.placed.goals b.placed.following ∙ ap (goals_from next cut) b.placed.mean)
+      whole_body : body_left next cut (drop p.body r.text.bodies) ≡ own_placed
+      whole_body = ap (body_left next cut) b.placed.body ∙ body_read next cut b.placed.goals b.placed.following
 
-      pub body_tried : (new : RegionView) (f : Frame) (number : ℕ) → f ≡ record { base = next; cut = cut; after = t.after } → AddsFrame (with_bound now) new f number → TriesClause r new t cut (Some (record { frame = number; at = p.body }))
+      pub body_tried : (new : RegionView) (f : Frame) (number : ℕ) → f ≡ record { body = FrameText next; cut = cut; after = t.after } → AddsFrame (with_bound now) new f number → TriesClause r new t cut (Some (record { frame = number; at = p.body }))
       body_tried new f number made a =
           let pos : Position = record { frame = number; at = p.body } in
-          let items : items_at new.text new.frames pos ≡ own ++ items_after = a.items p.body ∙ (ap (λ (g : Frame). body_left r.text.code g.base g.cut (drop p.body r.text.bodies) ++ items_at r.text r.frames g.after) made ∙ ap (λ xs. xs ++ items_after) whole_body) in
+          let left : left_here new pos ≡ own_placed ++ left_here r t.after = a.left p.body ∙ (ap (λ (g : Frame). own_left r.text.bodies g.body g.cut p.body ++ left_here r g.after) made ∙ ap (λ xs. xs ++ left_here r t.after) whole_body) in
+          let code : text_in new.store ≡ text_in r.store = ap (λ (x : RegionView). text_in x.store) a.others in
+          let items : items_here new pos ≡ own ++ items_after = ap (λ xs. map (item_in (text_in new.store)) xs) left ∙ (ap (λ x. map (item_in x) (own_placed ++ left_here r t.after)) code ∙ all_items) in
           let store : new.store.now ≡ (with_bound now).store.now = ap (λ (x : RegionView). x.store.now) a.others in
           record {
             clause = c;
@@ -210,7 +240,8 @@ module _ (r : RegionView) (t : Trial) (cut : ℕ) (p : PlacedClause) (b : Begins
                 ∙ ap (λ hs. entry_by named hs (with_bound now).store.now (own ++ items_after)) (ap (λ st. st.heights) (a.stands named)))));
             position = record {
               frame = a.there;
-              scoped = subst (AreCutWithin cut new.store.now.next) (sym items) (subst (λ (m : Moment). AreCutWithin cut m.next (own ++ items_after)) (sym store) scoped);
+              scoped = subst (AreScoped (text_in new.store) new.store.now.next cut) (sym left)
+                  (subst (λ (x : StoreView). AreScoped (text_in x) x.now.next cut (own_placed ++ left_here r t.after)) (sym (ap (λ (x : RegionView). x.store) a.others)) scoped);
             };
             frames = λ e. absurd cc;
           }
@@ -222,7 +253,7 @@ module _ (r : RegionView) (t : Trial) (cut : ℕ) (p : PlacedClause) (b : Begins
             clause = c;
             is = b.is;
             entries = λ named. is_entry named ∙ ap (λ xs. entry_by named (heights_of named r) (with_bound now).store.now (xs ++ items_after) ∷ []) none;
-            position = record { frame = after.frame; scoped = scoped_further cut next (next + p.vars) items_after (omega arith) after.scoped };
+            position = record { frame = after.frame; scoped = scoped_further (text_in r.store) next (next + p.vars) cut (left_here r t.after) (omega arith) after.scoped };
             frames = λ e. absurd cc;
           }
 
@@ -259,8 +290,8 @@ module _ (r : RegionView) (t : Trial) (cut : ℕ) (p : PlacedClause) (b : Begins
       pub enters_fact : slice_get r.text.bodies p.body ≡ Some BodyEnd → TriesClause r r2 t cut (Some t.after)
       enters_fact e = subst (λ (x : RegionView). TriesClause r x t cut (Some t.after)) (sym bound_is) (fact_tried head head_value u.further now is_unifier bindings after e)
 
-      pub enters_body : (new : RegionView) (number : ℕ) → AddsFrame r2 new (record { base = base; cut = cut; after = t.after }) number → TriesClause r new t cut (Some (record { frame = number; at = p.body }))
+      pub enters_body : (new : RegionView) (number : ℕ) → AddsFrame r2 new (record { body = FrameText base; cut = cut; after = t.after }) number → TriesClause r new t cut (Some (record { frame = number; at = p.body }))
       enters_body new number a =
-          let f : Frame = record { base = base; cut = cut; after = t.after } in
-          body_tried head head_value u.further now is_unifier bindings after new f number (ap (λ n. (let g : Frame = record { base = n; cut = cut; after = t.after } in g)) first)
+          let f : Frame = record { body = FrameText base; cut = cut; after = t.after } in
+          body_tried head head_value u.further now is_unifier bindings after new f number (ap (λ n. (let g : Frame = record { body = FrameText n; cut = cut; after = t.after } in g)) first)
           (subst (λ (x : RegionView). AddsFrame x new f number) bound_is a)

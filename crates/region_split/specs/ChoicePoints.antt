@@ -12,7 +12,7 @@ use Rattle.binding_array.specs.Represented.{cell_term}
 use Rattle.binding_array.specs.declared.cell.BindingCell.{BindingCell}
 use Rattle.cell_store.specs.StoreView.{Moment}
 use Rattle.cell_store.specs.Values.{IsValue}
-use Rattle.region_split.specs.Frames.{items_at, AreCutWithin}
+use Rattle.region_split.specs.Frames.{left_items, items_at, AreScoped}
 use Rattle.region_split.specs.Texts.{TextView}
 use Rattle.region_split.specs.ResultLists.{with_copy}
 use Rattle.region_split.specs.declared.choice.Alternatives.{Alternatives}
@@ -52,7 +52,7 @@ by_height heights (RemovalItem number) = RemovalItem number
 -- what was left to do at a position at a moment
 abbrev pub continuation_at : RegionSetting → List ℕ → Moment → Position → Continuation ℕ
 continuation_at s heights m p =
-    resolve_continuation m.bound (record { items = map (by_height heights) (items_at s.text s.frames p); named = s.named; next = m.next })
+    resolve_continuation m.bound (record { items = map (by_height heights) (items_at (code_at s m) s.text.bodies s.frames p); named = s.named; next = m.next })
 
 -- the entries of alternatives, over so many entries, before what follows: one for each clause that is left and whose head
 -- unifies with the goal; one for what goes on elsewhere, for a catch, for a findall and for the end of a query
@@ -128,7 +128,7 @@ AreAlternativesAt s m QueryEnd = Unit {0}
 pub record IsChoiceOver (s : RegionSetting) (cut frames : ℕ) (c : ChoicePoint) (m : Moment) : Type 0 where
   pub own : c.after.frame ≤ c.frames
   pub older : frames ≤ c.frames
-  pub scoped : AreCutWithin cut m.next (items_at s.text s.frames c.after)
+  pub scoped : AreScoped (code_at s m) m.next cut (left_items s.text.bodies s.frames c.after)
   pub values : AreAlternativesAt s m c.alternatives
 
 -- each choice point over those that are older, each with its moment

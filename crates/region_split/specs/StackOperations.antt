@@ -1,19 +1,21 @@
 -- What each operation on the frames and choice points of a region leaves of the entries that it stands for.
-use Rattle.std.specs.Prelude.{◌≡◌, ℕ, ◌≤◌, List, [], ◌∷◌, ◌++◌, length, drop, ◌-◌, Some, slice_get, IsSomeAnd}
+use Rattle.std.specs.Prelude.{◌≡◌, ℕ, ◌≤◌, ◌<◌, List, [], ◌∷◌, ◌++◌, length, ◌-◌, Some, slice_get, IsSomeAnd}
 use Rattle.au_model.specs.Terms.Named.{NamedTerm}
 use Rattle.au_term.specs.Term.{Term}
 use Rattle.run_model.specs.Programs.Clauses.{Clause}
 use Rattle.run_model.specs.Goals.Outcomes.{clause_solution}
+use Rattle.run_model.specs.Machine.Items.{Item, before, resolve_item}
 use Rattle.run_model.specs.Machine.Entries.{Entry, lowest, solution_entry, collected}
-use Rattle.cell_store.specs.StoreView.{Moment, with_mark, with_marks, new_store, IsValueIn, meaning}
+use Rattle.cell_store.specs.StoreView.{Moment, text_in, with_mark, with_marks, new_store, IsValueIn, meaning}
 use Rattle.region_split.specs.Texts.{TextView}
-use Rattle.region_split.specs.Frames.{body_left, items_at}
-use Rattle.region_split.specs.ChoicePoints.{height_of_cut, HaveNoClause, IsCollecting}
-use Rattle.region_split.specs.Regions.{RegionView, continuation_here, standing, entries_of, heights_of, position_entry, entries_on, IsPositionIn, IsPositionOver, AreAlternativesIn}
+use Rattle.region_split.specs.Frames.{own_left, scoped_item}
+use Rattle.region_split.specs.ChoicePoints.{height_of_cut, by_height, HaveNoClause, IsCollecting}
+use Rattle.region_split.specs.Regions.{RegionView, left_here, continuation_here, standing, entries_of, heights_of, position_entry, entries_on, IsPositionIn, IsPositionOver, AreAlternativesIn}
 use Rattle.region_split.specs.declared.choice.Alternatives.{Alternatives}
 use Rattle.region_split.specs.declared.choice.ChoicePoint.{ChoicePoint}
 use Rattle.region_split.specs.declared.choice.Trial.{Trial}
 use Rattle.region_split.specs.declared.frame.Frame.{Frame}
+use Rattle.region_split.specs.declared.frame.FrameItem.{FrameItem}
 use Rattle.region_split.specs.declared.frame.Position.{Position}
 
 -- no frame and no choice point
@@ -22,16 +24,30 @@ new_region text = record { text = text; store = new_store text.code; frames = []
 
 -- what was left to do up to a frame is left there still, in each entry and at each position
 pub record KeepsPositions (old new : RegionView) (frame : ℕ) : Type 0 where
-  pub position : (p : Position) → p.frame ≤ frame → IsPositionIn old p → IsPositionIn new p
+  pub position : (cut : ℕ) (p : Position) → p.frame ≤ frame → IsPositionOver old cut p → IsPositionOver new cut p
   pub same : (named : List NamedTerm) (p : Position) → p.frame ≤ frame → IsPositionIn old p → position_entry named new p ≡ position_entry named old p
 
 -- a frame was made, in place of those in which nothing goes on: it has its own body and then what was left where it goes on
 pub record AddsFrame (old new : RegionView) (f : Frame) (number : ℕ) : Type 0 where
   pub there : number ≤ length new.frames
-  pub items : (at : ℕ) → items_at new.text new.frames (record { frame = number; at = at }) ≡ body_left old.text.code f.base f.cut (drop at old.text.bodies) ++ items_at old.text old.frames f.after
+  pub younger : f.after.frame < number
+  pub left : (at : ℕ) → left_here new (record { frame = number; at = at }) ≡ own_left old.text.bodies f.body f.cut at ++ left_here old f.after
   pub stands : (named : List NamedTerm) → standing named new ≡ standing named old
   pub keeps : KeepsPositions old new f.after.frame
   pub others : new ≡ record old { frames = new.frames }
+
+-- items were put before what follows at a position, in frames of their own: what they are depends on the heights alone
+pub record PutsBefore (old new : RegionView) (items : List ℕ → List (Item ℕ)) (cut : ℕ) (after p : Position) : Type 0 where
+  pub position : IsPositionOver new cut p
+  pub goes_on : (named : List NamedTerm) → continuation_here named new p ≡ before (items (heights_of named old)) (continuation_here named old after)
+  pub stands : (named : List NamedTerm) → standing named new ≡ standing named old
+  pub older : after.frame ≤ p.frame
+  pub keeps : KeepsPositions old new after.frame
+  pub others : new ≡ record old { frames = new.frames }
+
+-- an item by the heights, as it is now
+abbrev pub item_here : RegionView → FrameItem → ℕ → List ℕ → List (Item ℕ)
+item_here r item cut heights = resolve_item r.store.now.bound (by_height heights (scoped_item (text_in r.store) item cut)) ∷ []
 
 -- a choice point came on top: its entries come over those that were there
 pub record AddsChoice (old new : RegionView) (alternatives : Alternatives) (after : Position) : Type 0 where
@@ -39,6 +55,7 @@ pub record AddsChoice (old new : RegionView) (alternatives : Alternatives) (afte
   pub is : (choice.alternatives ≡ alternatives) × (choice.after ≡ after)
   pub entries : (named : List NamedTerm) → entries_of named new ≡ entries_on named old choice old.store.now ++ entries_of named old
   pub heights : (named : List NamedTerm) → height_of_cut (heights_of named new) (length old.choices) ≡ length (entries_of named old)
+  pub older : (named : List NamedTerm) (n : ℕ) → n ≤ length old.choices → height_of_cut (heights_of named new) n ≡ height_of_cut (heights_of named old) n
   pub keeps : KeepsPositions old new (length old.frames)
   pub others : new ≡ record old { store = with_mark old.store; choices = old.choices ++ choice ∷ [] }
 
@@ -110,5 +127,5 @@ pub record AddsResult (old new : RegionView) (over : ℕ) (t : Term) : Type 0 wh
 -- the store went on: the choice points stand for what they stood for, and positions stay
 pub record StaysStanding (old new : RegionView) : Type 0 where
   pub stands : (named : List NamedTerm) → standing named new ≡ standing named old
-  pub position : (p : Position) → IsPositionIn old p → IsPositionIn new p
+  pub position : (cut : ℕ) (p : Position) → IsPositionOver old cut p → IsPositionOver new cut p
   pub others : new ≡ record old { store = new.store }

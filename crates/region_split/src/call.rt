@@ -5,7 +5,7 @@ ghost use Rattle.region_split.specs.Regions.{IsPositionIn, IsPositionOver};
 ghost use Rattle.region_split.specs.ClauseTrials.{TriesClause, KeepsChoices, TriesFirst, Calls};
 
 use crate::choice::{Alternatives, Trial};
-use crate::frame::{Frame, Position};
+use crate::frame::{Frame, FrameBody, Position};
 use crate::region::Region;
 use crate::text::BodyItem;
 use au_term::NoMemory;
@@ -34,7 +34,7 @@ impl Region {
             return Ok(Some(trial.after));
         }
         let number = self.push_frame(Frame {
-            base,
+            body: FrameBody::Text(base),
             cut,
             after: trial.after,
         })?;

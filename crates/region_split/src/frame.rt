@@ -1,30 +1,51 @@
 //! Frames.
-use clause_compile::Place;
+use binding_array::BindingCell;
 
-/// A place of the bodies, and the frame in which it is; 0 is no frame, where nothing is left to do.
+/// A place in a frame's body; frame 0 is no frame, where nothing is left to do.
 #[derive(Clone, Copy, Debug, PartialEq, Eq)]
 pub struct Position {
     pub frame: u32,
     pub at: u32,
 }
 
-/// A body under way: what is added to its variables, how many choice points a cut in it leaves, and where it goes on.
+/// An item but for its scope. Its terms are values.
+#[derive(Clone, Copy, Debug, PartialEq, Eq)]
+pub enum FrameItem {
+    Goal(BindingCell),
+    /// The goal `call(G)` of a value.
+    Call(BindingCell),
+    /// The goals `!`, `true` and `fail`.
+    Cut,
+    True,
+    Fail,
+    /// The end of what a catch guards, whose choice point is the newest that a cut there would leave.
+    CatchEnd,
+    /// What a findall collects, whose choice point is found likewise.
+    Collect(BindingCell),
+}
+
+/// What a frame does before it goes on.
+#[derive(Clone, Copy, Debug, PartialEq, Eq)]
+pub enum FrameBody {
+    /// A body of the text, by what is added to its variables.
+    Text(u32),
+    /// One item, at the place 0.
+    One(FrameItem),
+}
+
+/// A body under way, how many choice points a cut in it leaves, and where it goes on.
 #[derive(Clone, Copy, Debug, PartialEq, Eq)]
 pub struct Frame {
-    pub base: u32,
+    pub body: FrameBody,
     pub cut: u32,
     pub after: Position,
 }
 
-/// The first item of what is left at a position; all but the last two go on at the next place of its frame.
+/// What is left at a position, by its first item.
 #[derive(Clone, Copy, Debug, PartialEq, Eq)]
 pub enum Left {
-    /// A goal's place, what is added to its variables, and how many choice points a cut there leaves.
-    Goal(Place, u32, u32),
-    /// The end of what a catch guards, over all but one of so many choice points.
-    CatchEnd(u32),
-    /// What a findall collects, likewise.
-    Collect(Place, u32, u32),
+    /// An item and its scope; what follows is at the next place of the frame.
+    First(FrameItem, u32),
     /// The body has ended: what is left is what is left at a position of an older frame.
     GoesOnAt(Position),
     Nothing,

@@ -2,18 +2,17 @@
 ghost use Rattle.std.specs.Prelude.{◌≡◌, ◌<◌, ◌≤◌, IfOk, OnOk, OnErr, MatchOption, IsTrue, ◌↔◌, List, [], length};
 ghost use Rattle.std.specs.Arc.{arc_value};
 ghost use Rattle.au_term.specs.Term.{var_bound};
-ghost use Rattle.cell_store.specs.StoreView.{IsValueIn, meaning, with_numbers};
+ghost use Rattle.cell_store.specs.StoreView.{AddsText, IsValueIn, meaning, value_term, with_numbers};
 ghost use Rattle.cell_store.specs.UnificationSteps.{IsUnified, OnlyBinds};
-ghost use Rattle.region_split.specs.Frames.{items_at, IsLeftAt};
 ghost use Rattle.au_model.specs.Terms.Named.{NamedTerm};
 ghost use Rattle.region_split.specs.ChoicePoints.{frames_kept, height_of_cut};
-ghost use Rattle.region_split.specs.Regions.{entries_of, heights_of, IsPositionIn, AreAlternativesIn};
-ghost use Rattle.region_split.specs.StackOperations.{new_region, AddsFrame, AddsChoice, CutsTo, TakesNewest, DropsNewest, HasNoClauseOnTop, TakesClause, HasFindallAt, AddsResult, StaysStanding};
+ghost use Rattle.region_split.specs.Regions.{entries_of, heights_of, items_here, IsLeftAt, IsItemHere, IsPositionIn, IsPositionOver, AreAlternativesIn};
+ghost use Rattle.region_split.specs.StackOperations.{new_region, item_here, KeepsPositions, PutsBefore, AddsFrame, AddsChoice, CutsTo, TakesNewest, DropsNewest, HasNoClauseOnTop, TakesClause, HasFindallAt, AddsResult, StaysStanding};
 
 use crate::choice::{Alternatives, ChoicePoint, Trial};
-use crate::frame::{Frame, Left, Position};
+use crate::frame::{Frame, FrameBody, FrameItem, Left, Position};
 use crate::text::{BodyItem, Text};
-use au_term::{FlatTerm, NoMemory};
+use au_term::{FlatTerm, NoMemory, Shared};
 use binding_array::BindingCell;
 use cell_store::Store;
 use std::alloc::Global;
@@ -103,7 +102,7 @@ impl Region {
 
     /// The position at which nothing is left to do.
     pub fn nothing_left(&self) -> Position
-        ensures items { items_at self.now.text self.now.frames result ≡ [] }
+        ensures items { items_here self.now result ≡ [] }
         ensures position { IsPositionIn self.now result }
     {
         Position { frame: 0, at: 0 }
@@ -111,19 +110,28 @@ impl Region {
 
     /// What is left at a position, by its first item.
     pub fn left_at(&self, position: Position) -> Left
-        requires { position.frame ≤ length self.now.frames }
-        ensures { IsLeftAt self.now.text self.now.frames position result }
+        requires { IsPositionIn self.now position }
+        ensures { IsLeftAt self.now position result }
     {
         if position.frame == 0 {
             return Left::Nothing;
         }
         let frame = self.frames[position.frame as usize - 1];
-        match self.text.get(position.at) {
-            Some(BodyItem::Goal(place)) => Left::Goal(place, frame.base, frame.cut),
-            Some(BodyItem::CatchEnd) => Left::CatchEnd(frame.cut),
-            Some(BodyItem::Collect(place)) => Left::Collect(place, frame.base, frame.cut),
-            Some(BodyItem::BodyEnd) => Left::GoesOnAt(frame.after),
-            None => Left::GoesOnAt(frame.after),
+        match frame.body {
+            FrameBody::Text(base) => match self.text.get(position.at) {
+                Some(BodyItem::Goal(place)) => {
+                    let goal = self.store.value(place, base);
+                    Left::First(FrameItem::Goal(goal), frame.cut)
+                }
+                Some(BodyItem::BodyEnd) => Left::GoesOnAt(frame.after),
+                None => Left::GoesOnAt(frame.after),
+            },
+            FrameBody::One(item) => {
+                if position.at == 0 {
+                    return Left::First(item, frame.cut);
+                }
+                Left::GoesOnAt(frame.after)
+            }
         }
     }
 
@@ -146,6 +154,23 @@ impl Region {
             self.frames.push(frame)?;
         }
         Ok(number)
+    }
+
+    /// Puts an item with its scope before what follows at a position, and gives the position at which it is left.
+    pub fn push_item(
+        &mut self,
+        item: FrameItem,
+        cut: u32,
+        after: Position,
+    ) -> Result<Position, NoMemory>
+        requires item { IsItemHere self.old item }
+        requires after { IsPositionOver self.old cut after }
+        ensures ok { IfOk result (PutsBefore self.old self.new (item_here self.old item cut) cut after) }
+        ensures err { OnErr result (self.new ≡ self.old) }
+    {
+        let body = FrameBody::One(item);
+        let frame = self.push_frame(Frame { body, cut, after })?;
+        Ok(Position { frame, at: 0 })
     }
 
     /// Puts a choice point on top, whose alternatives go on at a position.
@@ -251,6 +276,18 @@ impl Region {
         ensures err { OnErr result (self.new ≡ self.old) }
     {
         self.store.fresh(count)
+    }
+
+    /// The value that a term is, whose variables are there: it is put behind the text.
+    pub fn copy_in(&mut self, term: &Shared) -> Result<BindingCell, NoMemory>
+        requires { var_bound term.now ≤ self.old.store.now.next }
+        ensures there { IfOk result (IsValueIn self.new.store) }
+        ensures term { IfOk result (λ value. value_term self.new.store value ≡ term.now) }
+        ensures text { AddsText self.old.store self.new.store }
+        ensures stays { StaysStanding self.old self.new }
+        ensures keeps { KeepsPositions self.old self.new (length self.old.frames) }
+    {
+        self.store.copy_in(term)
     }
 
     /// Makes two values one by further bindings, or answers that none do. Where none do, or out of memory, some bindings may

@@ -1,5 +1,5 @@
 //! Program text: bodies as places, and clauses.
-ghost use Rattle.std.specs.Prelude.{◌≡◌, ◌∷◌, ◌<◌, [], ◌++◌, OnOk, OnErr, IfOk, Some, length, map, slice_get};
+ghost use Rattle.std.specs.Prelude.{◌≡◌, ◌∷◌, ◌<◌, [], ◌++◌, OnOk, IfOk, Some, length, map, slice_get};
 ghost use Rattle.std.specs.Arc.{arc_value};
 ghost use Rattle.run_model.specs.Programs.Clauses.{Clause as ClauseTerms};
 ghost use Rattle.clause_compile.specs.Places.{AreSound};
@@ -15,10 +15,6 @@ use std::sync::Arc;
 #[derive(Clone, Copy, Debug, PartialEq, Eq)]
 pub enum BodyItem {
     Goal(Place),
-    /// The end of what a catch guards.
-    CatchEnd,
-    /// A solution of a findall goal, and the place of what is collected.
-    Collect(Place),
     BodyEnd,
 }
 
@@ -77,15 +73,6 @@ impl Text {
         ensures { IfOk result (λ code. arc_value code ≡ self.now.code) }
     {
         Ok(Arc::try_clone(&self.code)?)
-    }
-
-    /// Adds an item to the bodies.
-    pub fn push_item(&mut self, item: BodyItem) -> Result<(), NoMemory>
-        ensures ok { OnOk result (self.new ≡ record self.old { bodies = self.old.bodies ++ item ∷ [] }) }
-        ensures err { OnErr result (self.new ≡ self.old) }
-    {
-        self.bodies.push(item)?;
-        Ok(())
     }
 
     /// How many clauses there are.
