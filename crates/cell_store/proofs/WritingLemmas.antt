@@ -2,7 +2,7 @@
 use Rattle.std.proofs.Common.{zero, length, ◌≡◌, ℕ, suc, ◌+◌, ◌<◌, List, [], ◌∷◌, ◌++◌, reverse, refl, sym, ap, ap₂, ◌∙◌, subst, arith, append_assoc}
 use Rattle.std.proofs.lemmas.List.{map-append}
 use Rattle.au_term.specs.Term.{Term, Compound as CompoundTerm, Terms, count}
-use Rattle.au_term.specs.PrefixOrder.{cells_of, all_cells, term_of, term_of-cells_of, DueAfter, due_after}
+use Rattle.au_term.specs.PrefixOrder.{cells_of, all_cells, DueAfter, due_after}
 use Rattle.au_term.specs.declared.cell.Cell.{Cell}
 use Rattle.au_term.specs.declared.cell.Cell.TheVariants.{Functor as FunctorCell}
 use Rattle.au_term.proofs.WholeTermLemmas.{DueAfter-due, DueAfter-term}

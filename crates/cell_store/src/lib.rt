@@ -22,4 +22,5 @@ mod resolved;
 mod store;
 mod unify;
 
+pub use occurs::{push_arguments, push_rest};
 pub use store::Store;

@@ -55,7 +55,7 @@ fn is_found(
 }
 
 /// Puts the arguments of the compound at a place on top.
-pub(crate) fn push_arguments(
+pub fn push_arguments(
     at: u32,
     base: u32,
     store: &Store,
@@ -71,7 +71,7 @@ pub(crate) fn push_arguments(
 }
 
 /// Puts arguments but for the first on top.
-pub(crate) fn push_rest(arguments: Arguments, pending: &mut Vec<Arguments>) -> Result<(), NoMemory>
+pub fn push_rest(arguments: Arguments, pending: &mut Vec<Arguments>) -> Result<(), NoMemory>
     requires some { 0 < arguments.count }
     requires short { arguments.at < 2 ^ 32 - 1 }
     ensures { OnOk result (KeepsRest arguments (reverse pending.old.items) (reverse pending.new.items)) }

@@ -2,3 +2,4 @@ pub mod TopLemmas
 pub mod EvaluationLemmas
 pub mod ComparisonLemmas
 pub mod PartLemmas
+pub mod GroundLemmas

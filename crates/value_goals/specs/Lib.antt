@@ -2,3 +2,4 @@ pub mod Evaluation
 pub mod Comparison
 pub mod Answers
 pub mod Parts
+pub mod GroundTerms

@@ -8,10 +8,12 @@
 pub mod arithmetic;
 pub mod comparison;
 pub mod evaluation;
+pub mod ground;
 pub mod parts;
 pub mod type_tests;
 
 pub use arithmetic::{compared_values, is_value};
 pub use comparison::compare;
 pub use evaluation::evaluate;
+pub use ground::is_ground;
 pub use parts::{argument, functor};
