@@ -19,6 +19,8 @@ mod effects;
 #[cfg(test)]
 mod evaluated;
 #[cfg(test)]
+mod kinds;
+#[cfg(test)]
 mod ordered;
 #[cfg(test)]
 mod reductions;
