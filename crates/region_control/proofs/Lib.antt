@@ -1,2 +1,3 @@
 pub mod SideLemmas
 pub mod GoalLemmas
+pub mod ControlLemmas

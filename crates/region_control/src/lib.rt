@@ -4,7 +4,9 @@
 //! Goals are put in as many steps as the conjunctions have goals; the rest takes constant time.
 #![tactic(auto)]
 
+mod control;
 mod goals;
 mod sides;
 
+pub use control::{GoalPlace, call, catch, cut, disjunction, findall, if_then, not, once};
 pub use goals::{Goals, push_goals};
