@@ -1,0 +1,12 @@
+//! Goals and control constructs in a region: a term's goals are put before what follows at a position, and a construct opens
+//! the choice points and frames that the definition's entries come from. Terms stay where they are: no goal is copied.
+//!
+//! Goals are put in as many steps as the conjunctions have goals; the rest takes constant time.
+#![tactic(auto)]
+
+mod control;
+mod goals;
+mod sides;
+
+pub use control::{GoalPlace, call, catch, cut, disjunction, findall, if_then, not, once};
+pub use goals::{Goals, push_goals};
