@@ -24,3 +24,5 @@ mod reductions;
 mod regions;
 #[cfg(test)]
 mod runs;
+#[cfg(test)]
+mod values;
