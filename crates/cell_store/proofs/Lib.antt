@@ -14,3 +14,4 @@ pub mod UnificationLemmas
 pub mod FreshLemmas
 pub mod RuleLemmas
 pub mod WritingLemmas
+pub mod MadeBindingLemmas

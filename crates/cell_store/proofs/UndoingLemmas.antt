@@ -141,7 +141,7 @@ popped kept old rest v cells now e lt n h =
     front [] k = tt
     front (x ∷ xs) k = (k.0, front xs k.1)
 
-each_at : {X : Type 0} (P : X → Type 0) (xs : List X) (i : ℕ) (x : X) → Each P xs → i < length xs → x ≡ get_or xs i x → P x
+pub each_at : {X : Type 0} (P : X → Type 0) (xs : List X) (i : ℕ) (x : X) → Each P xs → i < length xs → x ≡ get_or xs i x → P x
 each_at P [] i x h lt e = absurd (omega arith)
 each_at P (y ∷ ys) zero x h lt e = subst P (sym e) h.0
 each_at P (y ∷ ys) (suc i) x h lt e = each_at P ys i x h.1 (omega arith) e

@@ -7,3 +7,4 @@ pub mod Arguments
 pub mod UnificationSteps
 pub mod WrittenTerms
 pub mod FreshVariables
+pub mod MadeBindings

@@ -16,6 +16,7 @@
 
 pub mod arguments;
 mod heap;
+mod made;
 mod mark;
 mod occurs;
 mod resolved;

@@ -9,11 +9,13 @@ ghost use Rattle.clause_compile.specs.Places.{IsPlaceOf, meaning_in};
 ghost use Rattle.cell_store.specs.Arguments.{HasFunctor, IsArgument, argument_at};
 ghost use Rattle.cell_store.specs.Undoing.{AreNested, freed};
 ghost use Rattle.cell_store.specs.FreshVariables.{IsOlder};
+ghost use Rattle.cell_store.specs.MadeBindings.{AreMadeSince};
 ghost use Rattle.cell_store.specs.UnificationSteps.{IsUnified, OnlyBinds};
 ghost use Rattle.cell_store.specs.StoreView.{Moment, IsValidStore, IsValueIn, IsDereferenced, CanBeBound, BindsFurther, AddsText, meaning, text_in, value_term, new_store, with_numbers, with_mark, with_marks, taken_back};
 
 use crate::arguments::Equations;
 use crate::heap::Heap;
+use crate::made::{bindings_of, variables_since};
 use crate::mark::Mark;
 use crate::resolved::resolved;
 use crate::unify::unify;
@@ -240,6 +242,18 @@ impl Store {
         ensures { IfOk result (λ t. t ≡ meaning self.now value) }
     {
         resolved(self.alloc, value, self)
+    }
+
+    /// The bindings that were made since a mark, by the number of marks before it: of each variable once, in the order of their
+    /// numbers, with the values that they have now.
+    pub fn made_since(&self, mark: usize) -> Result<Vec<(u32, BindingCell)>, NoMemory>
+        requires { mark < length self.now.marks }
+        ensures { IfOk result (λ bs. (before after : List Moment) (moment : Moment) → self.now.marks ≡ before ++ moment ∷ after → mark ≡ length before → AreMadeSince moment self.now bs.items) }
+    {
+        let at = self.marks[mark];
+        let trail = &self.trail[at.trail..];
+        let variables = variables_since(self.alloc, trail, at.variables, self.cells.len())?;
+        bindings_of(self.alloc, &variables, &self.cells)
     }
 
     /// Marks the state of the store, and gives the number of marks before.

@@ -28,3 +28,5 @@ mod reductions;
 mod regions;
 #[cfg(test)]
 mod runs;
+#[cfg(test)]
+mod values;

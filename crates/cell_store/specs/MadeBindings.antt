@@ -1,0 +1,47 @@
+-- The bindings that were made since a mark.
+use Rattle.std.specs.Prelude.{◌≡◌, ◌⊎◌, ℕ, ◌<◌, ◌≤◌, List, [], ◌∷◌, map}
+use Rattle.std.specs.List.{Contains}
+use Rattle.au_term.specs.Term.{VarTerm}
+use Rattle.au_model.specs.Terms.Each.{Each}
+use Rattle.au_model.specs.Terms.Substitutions.{Substitution, value_of}
+use Rattle.binding_array.specs.Represented.{variable_cell}
+use Rattle.binding_array.specs.declared.cell.BindingCell.{BindingCell}
+use Rattle.binding_array.specs.declared.cell.BindingCell.TheVariants.{Free, Var, Int, Atom, Compound}
+use Rattle.cell_store.specs.StoreView.{Moment, StoreView, substitution, meaning, IsValueIn, IsComposition}
+
+-- variables with what they are bound to
+abbrev pub Bindings : Type 0
+Bindings = List (ℕ × BindingCell)
+
+-- in front of others, where it is bound
+abbrev pub with_binding : BindingCell → ℕ → Bindings → Bindings
+with_binding Free v bs = bs
+with_binding (Var w) v bs = (v, Var w) ∷ bs
+with_binding (Int z) v bs = (v, Int z) ∷ bs
+with_binding (Atom a) v bs = (v, Atom a) ∷ bs
+with_binding (Compound at base) v bs = (v, Compound at base) ∷ bs
+
+-- of these variables
+abbrev pub bindings_of : List BindingCell → List ℕ → Bindings
+bindings_of cells [] = []
+bindings_of cells (v ∷ vs) = with_binding (variable_cell cells v) v (bindings_of cells vs)
+
+-- with the terms that the values stand for
+abbrev pub substitution_of : StoreView → Bindings → Substitution
+substitution_of st bs = map (λ b. (b.0, meaning st b.1)) bs
+
+-- each variable once
+abbrev pub AreRising : Bindings → Type 0
+AreRising [] = Unit {0}
+AreRising (b ∷ bs) = Each (λ d. b.0 < d.0) bs × AreRising bs
+
+-- one of a trail, or a new one
+abbrev pub IsSince : List ℕ → ℕ → ℕ → ℕ → Type 0
+IsSince trail below count v = Contains trail v ⊎ ((below ≤ v) × (v < count))
+
+-- variables that were free then, each once, with values that make what each variable stands for now of what it stood for
+pub record AreMadeSince (before : Moment) (st : StoreView) (bs : Bindings) : Type 0 where
+  pub rising : AreRising bs
+  pub free : Each (λ b. value_of before.bound b.0 ≡ VarTerm b.0) bs
+  pub there : Each (λ b. IsValueIn st b.1) bs
+  pub made : IsComposition before.bound (substitution_of st bs) (substitution st)

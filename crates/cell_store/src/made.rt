@@ -1,0 +1,49 @@
+//! The bindings that were made since a mark.
+ghost use Rattle.std.specs.Prelude.{◌≡◌, ◌<◌, ◌≤◌, ◌^◌, ℕ, IfOk, length};
+ghost use Rattle.std.specs.List.{Contains};
+ghost use Rattle.std.specs.List.Sorted.{IsStrictlyIncreasing};
+ghost use Rattle.cell_store.specs.MadeBindings.{IsSince, bindings_of};
+
+use au_term::NoMemory;
+use binding_array::{BindingArray, BindingCell};
+use std::alloc::Global;
+
+/// The variables of a trail and the new ones, each once, in the order of their numbers.
+pub(crate) fn variables_since(
+    alloc: Global,
+    trail: &[u32],
+    below: usize,
+    count: usize,
+) -> Result<Vec<u32>, NoMemory>
+    requires order { below ≤ count }
+    requires small { count < 2 ^ 32 }
+    ensures rising { IfOk result (λ vs. IsStrictlyIncreasing vs.items) }
+    ensures all { IfOk result (λ vs. (v : ℕ) → IsSince trail.now below count v → Contains vs.items v) }
+    ensures others { IfOk result (λ vs. (v : ℕ) → Contains vs.items v → IsSince trail.now below count v) }
+{
+    let mut variables = Vec::from_slice(alloc, trail)?;
+    for variable in below..count {
+        variables.push(variable as u32)?;
+    }
+    variables.sort_unstable();
+    variables.dedup();
+    Ok(variables)
+}
+
+/// The bindings of variables, where they are bound.
+pub(crate) fn bindings_of(
+    alloc: Global,
+    variables: &[u32],
+    cells: &BindingArray,
+) -> Result<Vec<(u32, BindingCell)>, NoMemory>
+    requires { (v : ℕ) → Contains variables.now v → v < length cells.now }
+    ensures { IfOk result (λ bs. bs.items ≡ bindings_of cells.now variables.now) }
+{
+    let mut bindings = Vec::new(alloc);
+    for variable in variables {
+        if let Some(value) = cells.get(*variable) {
+            bindings.push((*variable, value))?;
+        }
+    }
+    Ok(bindings)
+}
