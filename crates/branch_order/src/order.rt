@@ -12,7 +12,8 @@ use tree_nodes::Nodes;
 
 /// The leftmost alternative that has an entry, none where all have closed.
 pub fn leftmost(nodes: &Nodes) -> Option<AltRef>
-    ensures { IsLeftmost nodes.now (parent_view result) }
+    ensures first { IsLeftmost nodes.now (parent_view result) }
+    ensures there { IsPlaceIn nodes.now.rows (parent_view result) }
 {
     let Some(top) = top(nodes) else {
         return None;

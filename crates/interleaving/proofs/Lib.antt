@@ -6,7 +6,7 @@ mod AnswerPlaceLemmas
 mod AnswerTreeLemmas
 mod AnsweredMoveLemmas
 mod ApartLemmas
-mod AppendLemmas
+pub mod AppendLemmas
 mod BallFollowsLemmas
 mod BallHeightLemmas
 mod BallLemmas
@@ -58,7 +58,7 @@ mod FrontCloseLemmas
 mod FrontEntriesLemmas
 mod FrontHeightLemmas
 mod FrontLawLemmas
-mod FrontLemmas
+pub mod FrontLemmas
 mod FrontSoundLemmas
 mod FrontStepLemmas
 mod GatePrivateLemmas
@@ -75,7 +75,7 @@ mod JoinedLemmas
 mod LeadLemmas
 mod LeadNameLemmas
 mod LeadRunLemmas
-mod LegalLemmas
+pub mod LegalLemmas
 mod ListChangeLemmas
 mod ListEndLemmas
 mod ListMarkLemmas
@@ -94,7 +94,7 @@ mod NamedFloorLemmas
 mod NamingLemmas
 mod OnceEventLemmas
 mod OnceLemmas
-mod OpenSpotLemmas
+pub mod OpenSpotLemmas
 mod OpeningLemmas
 mod OthersMoveLemmas
 mod OwnEventLemmas
@@ -110,7 +110,7 @@ mod PlacedNameLemmas
 mod PlacedReadableLemmas
 mod PlacedRunLemmas
 mod PlacedSoundLemmas
-mod PluggedLemmas
+pub mod PluggedLemmas
 mod PreservedLemmas
 mod PrivateSoundLemmas
 mod PromisedLemmas
@@ -156,7 +156,7 @@ mod SpotsApartLemmas
 mod StackLemmas
 mod StepsTakenLemmas
 mod DistinctNameLemmas
-mod UnchangedPlaceLemmas
+pub mod UnchangedPlaceLemmas
 mod UpperBlindLemmas
 mod WakeLemmas
 mod WayLemmas

@@ -3,6 +3,8 @@
 #![tactic(auto)]
 
 #[cfg(test)]
+mod hand_outs;
+#[cfg(test)]
 mod large;
 #[cfg(test)]
 mod nodes;

@@ -1,7 +1,8 @@
 //! What no clause gives: that calls succeed, and what they say of one tree.
 use crate::trees::{add, close, credit, place};
-use branch_order::{before, cleared, clock, counts, first_open};
-use branch_order::{leftmost, leftmost_cleared, leftmost_ready};
+use branch_order::{
+    before, cleared, clock, counts, first_open, leftmost, leftmost_cleared, leftmost_ready,
+};
 use clause_compile::{GateKind, Scope};
 use std::alloc::Global;
 use std::process::Abort;

@@ -4,14 +4,14 @@ use Rattle.branch_order.proofs.LeftLemmas.{row_within}
 use Rattle.branch_order.proofs.LeftmostLemmas.{no_first, goes_down, nothing_down, is_leftmost}
 use Rattle.branch_order.proofs.order.leftmost.Goals as goal
 
-pub returns-in_default : goal.returns-in_default
-returns-in_default c = no_first c.args.nodes.now c.in_default.ensures.down
+pub returns-in_default-clause-first : goal.returns-in_default-clause-first
+returns-in_default-clause-first c = no_first c.args.nodes.now c.in_default.ensures.down
 
 pub loop-at-init : goal.loop-at-init
 loop-at-init c = c.in-Some.ensures.down
 
-pub returns-in_default-first_of : goal.returns-in_default-first_of
-returns-in_default-first_of c = nothing_down c.args.nodes.now c.loop-at.node c.loop-at.invariant (sym c.in_default-first_of.ensures.first)
+pub returns-in_default-first_of-clause-first : goal.returns-in_default-first_of-clause-first
+returns-in_default-first_of-clause-first c = nothing_down c.args.nodes.now c.loop-at.node c.loop-at.invariant (sym c.in_default-first_of.ensures.first)
 
 pub loop-at-smaller : goal.loop-at-smaller
 loop-at-smaller c =
@@ -24,6 +24,6 @@ pub loop-at-preserved : goal.loop-at-preserved
 loop-at-preserved c = goes_down c.args.nodes.now c.loop-at.node (place_view c.in-Some-first_of.at) c.in-Some-below.below c.loop-at.invariant
     (sym c.in-Some-first_of.ensures.first) (sym c.in-Some-below.ensures.below)
 
-pub returns-in-None : goal.returns-in-None
-returns-in-None c = is_leftmost c.args.nodes.now c.loop-at.node (place_view c.in-Some-first_of.at) c.loop-at.invariant
+pub returns-in-None-clause-first : goal.returns-in-None-clause-first
+returns-in-None-clause-first c = is_leftmost c.args.nodes.now c.loop-at.node (place_view c.in-Some-first_of.at) c.loop-at.invariant
     (sym c.in-Some-first_of.ensures.first) (sym c.in-None.ensures.below)

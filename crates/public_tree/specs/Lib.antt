@@ -1,0 +1,3 @@
+pub mod EventLogs
+pub mod PublicTrees
+pub mod LostTasks

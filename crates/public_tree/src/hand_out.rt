@@ -1,0 +1,122 @@
+//! What is handed out to workers.
+ghost use Rattle.std.specs.Prelude.{◌≡◌, ◌<◌, None, Some, false, length, IsSome, IfOk, OnErr};
+ghost use Rattle.std.specs.Option.{option_map};
+ghost use Rattle.tree_model.specs.EventViews.{place_view};
+ghost use Rattle.tree_model.specs.Events.{Claim, Resume};
+ghost use Rattle.tree_model.specs.Levels.{place_of_spot};
+ghost use Rattle.tree_model.specs.Nodes.{TakenBy};
+ghost use Rattle.tree_model.specs.TreeStates.{TreeState, leftmost};
+ghost use Rattle.tree_model.specs.Legality.{claimable, resumable, is_spot_at};
+ghost use Rattle.tree_nodes.specs.Puts.{IsPlaceIn};
+ghost use Rattle.tree_nodes.specs.Rows.{cell_at, gate_view};
+ghost use Rattle.tree_nodes.specs.RowViews.{parent_view};
+ghost use Rattle.public_tree.specs.PublicTrees.{Answers, IsSameTree, HandsOut, is_going, IsHeldAt, Offers, IsLeftmostAt, IsOut, IsItsGate, Suspends, is_frozen_gate};
+
+use crate::public::PublicTree;
+use au_term::NoMemory;
+use branch_order::{leftmost, leftmost_cleared, leftmost_ready};
+use clause_compile::GateKind;
+use tree_model::{AltRef, Event};
+use tree_nodes::{AltState, Nodes};
+
+impl PublicTree {
+    /// Hands the leftmost ready alternative out to a worker. None where the tree has ended or was stopped, where nothing
+    /// is ready, or where too many nodes are live and something that isn't ready is further left.
+    pub fn claim(&mut self, worker: u32) -> Result<Option<AltRef>, NoMemory>
+        ensures out { IfOk result (λ at. HandsOut (Claim worker) claimable self.old self.new (parent_view at)) }
+        ensures err { OnErr result (IsSameTree self.old self.new) }
+    {
+        if !self.is_going() {
+            return Ok(None);
+        }
+        let Some(at) = self.claimable() else {
+            return Ok(None);
+        };
+        self.log.reserve()?;
+        self.hold(worker, at);
+        self.log.note_out(Event::Claim { worker, at });
+        Ok(Some(at))
+    }
+
+    /// Hands the leftmost alternative that waits and is cleared to its scope out to a worker. None where there is none, or
+    /// the tree has ended or was stopped.
+    pub fn resume(&mut self, worker: u32) -> Result<Option<AltRef>, NoMemory>
+        ensures out { IfOk result (λ at. HandsOut (Resume worker) resumable self.old self.new (parent_view at)) }
+        ensures err { OnErr result (IsSameTree self.old self.new) }
+    {
+        if !self.is_going() {
+            return Ok(None);
+        }
+        let Some(at) = self.resumable() else {
+            return Ok(None);
+        };
+        self.log.reserve()?;
+        self.hold(worker, at);
+        self.log.note_out(Event::Resume { worker, at });
+        Ok(Some(at))
+    }
+
+    /// A worker gives an alternative that is out to it back, to wait for the gate of its next item, or frozen, because its
+    /// branch has reached the budget. Nothing happens where the tree has ended or was stopped.
+    pub fn suspend(&mut self, worker: u32, at: AltRef, gate: GateKind)
+        requires there { IsSome (cell_at self.old.nodes.rows (place_view at)) }
+        requires out { IsOut self.old worker (place_view at) }
+        requires gate { IsItsGate self.old worker (place_view at) (gate_view gate) }
+        requires promised { 0 < self.old.log.promised }
+        ensures { Suspends self.old self.new worker (place_view at) (gate_view gate) }
+    {
+        if !self.is_going() {
+            return;
+        }
+        let frozen = is_frozen(&gate);
+        let spent = self.nodes.spent(at);
+        self.nodes.set(at, AltState::Waiting(gate), spent);
+        self.log.note_back(Event::Suspend { worker, at, frozen });
+    }
+
+    fn claimable(&self) -> Option<AltRef>
+        ensures offer { Offers claimable self.now (parent_view result) }
+        ensures there { IsPlaceIn self.now.nodes.rows (parent_view result) }
+    {
+        let at = leftmost_ready(&self.nodes)?;
+        if self.nodes.live() < self.window || is_leftmost(&self.nodes, at) {
+            Some(at)
+        } else {
+            None
+        }
+    }
+
+    fn resumable(&self) -> Option<AltRef>
+        ensures offer { Offers resumable self.now (parent_view result) }
+        ensures there { IsPlaceIn self.now.nodes.rows (parent_view result) }
+    {
+        leftmost_cleared(&self.nodes)
+    }
+
+    // Has a worker hold an entry.
+    fn hold(&mut self, worker: u32, at: AltRef)
+        requires { IsSome (cell_at self.old.nodes.rows (place_view at)) }
+        ensures held { IsHeldAt self.old.nodes self.new.nodes (place_view at) (TakenBy worker) }
+        ensures numbers { length self.new.nodes.rows ≡ length self.old.nodes.rows }
+        ensures others { self.new ≡ record self.old { nodes = self.new.nodes } }
+    {
+        let spent = self.nodes.spent(at);
+        self.nodes.set(at, AltState::Taken(worker), spent);
+    }
+}
+
+// Whether an alternative is the leftmost entry.
+fn is_leftmost(nodes: &Nodes, at: AltRef) -> bool
+    ensures { IsLeftmostAt nodes.now (place_view at) result }
+{
+    match leftmost(nodes) {
+        Some(first) => first.node == at.node && first.alternative == at.alternative,
+        None => false,
+    }
+}
+
+fn is_frozen(gate: &GateKind) -> bool
+    ensures { result ≡ is_frozen_gate (gate_view gate.now) }
+{
+    matches!(gate, GateKind::Frozen)
+}

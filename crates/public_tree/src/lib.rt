@@ -1,0 +1,13 @@
+//! The public part of the tree that workers share: its nodes, who has what of it, and the events so far. Contracts speak of
+//! each tree of the definition for which it stands.
+//!
+//! `claim` and `resume` cost what `leftmost_ready` and `leftmost_cleared` of `branch_order` cost, and the rest does not
+//! depend on the size of the tree. A task that goes out has room in the log for the event by which it comes back, and a stop
+//! has room at any time: neither takes memory.
+#![tactic(auto)]
+
+mod event_log;
+mod hand_out;
+mod public;
+
+pub use public::PublicTree;
