@@ -1,8 +1,10 @@
 -- Classes of heads.
-use Rattle.std.proofs.Common.{◌≡◌, ℕ, Bool, true, false, ◌&&◌, ◌||◌, ◌==◌, Option, Some, None, refl, sym, ap, ◌∙◌, arith}
+use Rattle.std.proofs.Common.{◌≡◌, ℕ, Bool, true, false, ◌&&◌, ◌||◌, ◌==◌, Option, Some, None, refl, sym, ap, ◌∙◌}
 use Rattle.std.specs.BTreeMap.{is_at}
 use Rattle.std.proofs.lemmas.Bool.Decides.{Decides-int_eq}
-use Rattle.std.proofs.lemmas.Bool.{eqb-true, and_parts}
+use Rattle.std.proofs.lemmas.Bool.{and_parts}
+use Rattle.std.proofs.Math.Bool.{and-true, and_assoc}
+use Rattle.au_term.proofs.LogicLemmas.{same_number, number_same, or_false, and-false}
 use Rattle.clause_index.specs.contracts.key.ClassPartialEq.TheImpl as class_eq
 use Rattle.clause_index.specs.contracts.key.ClassOrd.TheImpl.Laws as order_laws
 use Rattle.clause_index.specs.contracts.key.ClassEq.TheImpl.Laws as equality_laws
@@ -11,16 +13,10 @@ use Rattle.clause_index.specs.declared.key.NumberKey.TheVariants.{Int, Atom, Fun
 use Rattle.clause_index.specs.declared.key.HeadKey.{HeadKey}
 use Rattle.clause_index.specs.declared.key.Class.{Class}
 use Rattle.clause_index.specs.declared.key.Class.TheVariants.{Procedure, WithoutKey, WithKey}
-use Rattle.clause_index.specs.Classes.{same_key, same_class, procedure_class, class_by, class_of, is_of, is_head_of, keys_match, may_match}
+use Rattle.clause_index.specs.Classes.{same_number_key, same_class, procedure_class, class_by, key_class, is_of, is_head_of, keys_match, can_match}
 use Rattle.clause_index.specs.Chains.{class_cmp}
 
-same_number : (m n : ℕ) → (m == n) ≡ true → m ≡ n
-same_number m n e = eqb-true m n e
-
-same_self_number : (n : ℕ) → (n == n) ≡ true
-same_self_number n = grind arith
-
-pub same_key_is : (k l : NumberKey) → same_key k l ≡ true → k ≡ l
+pub same_key_is : (k l : NumberKey) → same_number_key k l ≡ true → k ≡ l
 same_key_is (Int y) (Int z) e = ap Int ((Decides-int_eq y z).0 e)
 same_key_is (Int y) (Atom b) e = absurd cc
 same_key_is (Int y) (Functor g n) e = absurd cc
@@ -64,7 +60,7 @@ in_procedure f n h e = by_parts (h.name == f) (h.arity == n) (none h.first) refl
     none None = refl
     none (Some k) = refl
 
-    by_parts : (a b : Bool) → same_class (class_of h) (Procedure f n) ≡ false → (h.name == f) ≡ a → (h.arity == n) ≡ b → is_of (Procedure f n) h ≡ true → procedure_class h ≡ Procedure f n
+    by_parts : (a b : Bool) → same_class (key_class h) (Procedure f n) ≡ false → (h.name == f) ≡ a → (h.arity == n) ≡ b → is_of (Procedure f n) h ≡ true → procedure_class h ≡ Procedure f n
     by_parts true true z p q k = let names = same_number h.name f p in let arities = same_number h.arity n q in cc
     by_parts true false z p q k = absurd cc
     by_parts false b z p q k = absurd cc
@@ -79,20 +75,20 @@ without_by f n g m (Some k) e = absurd cc
 with_by : (f n g m : ℕ) (l : NumberKey) (o : Option NumberKey) → same_class (class_by f n o) (WithKey g m l) ≡ true → class_by f n o ≡ WithKey g m l
 with_by f n g m l None e = absurd cc
 with_by f n g m l (Some k) e =
-    let parts = and_parts (f == g) (n == m && same_key k l) e in
-    let further = and_parts (n == m) (same_key k l) parts.1 in
+    let parts = and_parts (f == g) (n == m && same_number_key k l) e in
+    let further = and_parts (n == m) (same_number_key k l) parts.1 in
     let names = same_number f g parts.0 in let arities = same_number n m further.0 in let keys = same_key_is k l further.1 in cc
 
-pub without_key : (f n : ℕ) (h : HeadKey) → is_of (WithoutKey f n) h ≡ true → class_of h ≡ WithoutKey f n
+pub without_key : (f n : ℕ) (h : HeadKey) → is_of (WithoutKey f n) h ≡ true → key_class h ≡ WithoutKey f n
 without_key f n h e = without_by h.name h.arity f n h.first e
 
-pub with_key : (f n : ℕ) (k : NumberKey) (h : HeadKey) → is_of (WithKey f n k) h ≡ true → class_of h ≡ WithKey f n k
+pub with_key : (f n : ℕ) (k : NumberKey) (h : HeadKey) → is_of (WithKey f n k) h ≡ true → key_class h ≡ WithKey f n k
 with_key f n k h e = with_by h.name h.arity f n k h.first e
 
-pub in_own : (h other : HeadKey) → is_of (class_of h) other ≡ true → class_of other ≡ class_of h
+pub in_own : (h other : HeadKey) → is_of (key_class h) other ≡ true → key_class other ≡ key_class h
 in_own h other e = by_key h.first e
   where
-    by_key : (o : Option NumberKey) → is_of (class_by h.name h.arity o) other ≡ true → class_of other ≡ class_by h.name h.arity o
+    by_key : (o : Option NumberKey) → is_of (class_by h.name h.arity o) other ≡ true → key_class other ≡ class_by h.name h.arity o
     by_key None k = without_key h.name h.arity other k
     by_key (Some l) k = with_key h.name h.arity l other k
 
@@ -104,30 +100,18 @@ or_true : (b : Bool) → (b || true) ≡ true
 or_true true = refl
 or_true false = refl
 
-pub of_own : (h : HeadKey) → is_of (class_of h) h ≡ true
-of_own h = ap (λ b. same_class (procedure_class h) (class_of h) || b) (same_self (class_of h)) ∙ or_true (same_class (procedure_class h) (class_of h))
+pub of_own : (h : HeadKey) → is_of (key_class h) h ≡ true
+of_own h = ap (λ b. same_class (procedure_class h) (key_class h) || b) (same_self (key_class h)) ∙ or_true (same_class (procedure_class h) (key_class h))
 
 pub of_procedure : (h : HeadKey) → is_of (procedure_class h) h ≡ true
-of_procedure h = ap (λ b. b || same_class (class_of h) (procedure_class h)) (same_self (procedure_class h))
+of_procedure h = ap (λ b. b || same_class (key_class h) (procedure_class h)) (same_self (procedure_class h))
 
-pub procedure_is_other : (h : HeadKey) → same_class (procedure_class h) (class_of h) ≡ false
+pub procedure_is_other : (h : HeadKey) → same_class (procedure_class h) (key_class h) ≡ false
 procedure_is_other h = by_key h.first
   where
     by_key : (o : Option NumberKey) → same_class (procedure_class h) (class_by h.name h.arity o) ≡ false
     by_key None = refl
     by_key (Some k) = refl
-
-or_false : (b : Bool) → (b || false) ≡ b
-or_false true = refl
-or_false false = refl
-
-and_true : (b : Bool) → b ≡ (b && true)
-and_true true = refl
-and_true false = refl
-
-and_twice : (a b c : Bool) → (a && (b && c)) ≡ ((a && b) && c)
-and_twice true b c = refl
-and_twice false b c = refl
 
 -- the classes that a goal may match
 pub head_test : (f n : ℕ) (h : HeadKey) → is_of (Procedure f n) h ≡ is_head_of f n h
@@ -137,29 +121,25 @@ head_test f n h = by_key h.first
     by_key None = or_false (is_head_of f n h)
     by_key (Some k) = or_false (is_head_of f n h)
 
-pub any_match : (f n : ℕ) (h : HeadKey) → is_of (Procedure f n) h ≡ may_match f n None h
-any_match f n h = head_test f n h ∙ and_true (is_head_of f n h)
+pub any_match : (f n : ℕ) (h : HeadKey) → is_of (Procedure f n) h ≡ can_match f n None h
+any_match f n h = head_test f n h ∙ sym (and-true (is_head_of f n h))
 
-pub key_match : (f n : ℕ) (k : NumberKey) (h : HeadKey) → (is_of (WithoutKey f n) h || is_of (WithKey f n k) h) ≡ may_match f n (Some k) h
+pub key_match : (f n : ℕ) (k : NumberKey) (h : HeadKey) → (is_of (WithoutKey f n) h || is_of (WithKey f n k) h) ≡ can_match f n (Some k) h
 key_match f n k h = by_key h.first
   where
     by_key : (o : Option NumberKey) → (same_class (class_by h.name h.arity o) (WithoutKey f n) || same_class (class_by h.name h.arity o) (WithKey f n k)) ≡ (is_head_of f n h && keys_match (Some k) o)
-    by_key None = or_false (is_head_of f n h) ∙ and_true (is_head_of f n h)
-    by_key (Some l) = and_twice (h.name == f) (h.arity == n) (same_key l k)
-
-and_false : (b : Bool) → (b && false) ≡ false
-and_false true = refl
-and_false false = refl
+    by_key None = or_false (is_head_of f n h) ∙ sym (and-true (is_head_of f n h))
+    by_key (Some l) = sym (and_assoc (h.name == f) (h.arity == n) (same_number_key l k))
 
 pub keys_disjoint : (f n : ℕ) (k : NumberKey) (h : HeadKey) → (is_of (WithoutKey f n) h && is_of (WithKey f n k) h) ≡ false
 keys_disjoint f n k h = by_key h.first
   where
     by_key : (o : Option NumberKey) → (same_class (class_by h.name h.arity o) (WithoutKey f n) && same_class (class_by h.name h.arity o) (WithKey f n k)) ≡ false
-    by_key None = and_false (is_head_of f n h)
+    by_key None = and-false (is_head_of f n h)
     by_key (Some l) = refl
 
 -- a key is the same as itself
-pub same_key_self : (k : NumberKey) → same_key k k ≡ true
+pub same_key_self : (k : NumberKey) → same_number_key k k ≡ true
 same_key_self (Int z) = (Decides-int_eq z z).1 refl
-same_key_self (Atom a) = same_self_number a
-same_key_self (Functor f n) = ap (λ b. b && (n == n)) (same_self_number f) ∙ same_self_number n
+same_key_self (Atom a) = number_same a
+same_key_self (Functor f n) = ap (λ b. b && (n == n)) (number_same f) ∙ number_same n

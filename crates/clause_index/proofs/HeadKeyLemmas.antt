@@ -5,31 +5,36 @@ use Rattle.au_model.specs.Terms.Forms.{name_of, is_callable}
 use Rattle.au_model.specs.Terms.Substitutions.{Substitution, apply, value_of}
 use Rattle.au_model.specs.Terms.Unifier.{unifier}
 use Rattle.au_model.specs.Terms.MostGeneral.{IsUnifierAnswer}
-use Rattle.au_model.proofs.UnifierRuleLemmas.{count-apply_all}
 use Rattle.au_model.proofs.UnifierLemmas.{unifier_answers}
 use Rattle.clause_compile.specs.AtomNumbers.{name_at, AreDistinct}
 use Rattle.proc_index.specs.Keys.{key_of, head_key, is_any, same_key as same_named}
 use Rattle.proc_index.proofs.KeyLemmas.{same_key_is as same_named_is}
-use Rattle.proc_index.proofs.LawLemmas.{told_apart}
-use Rattle.clause_index.specs.Classes.{same_key, keys_match}
+use Rattle.proc_index.proofs.LawLemmas.{kept_key, told_apart}
+use Rattle.clause_index.specs.Classes.{same_number_key, keys_match}
 use Rattle.clause_index.specs.HeadKeys.{named_key, IsKeyAmong, IsHeadKeyOf, NumbersTellApart}
 use Rattle.clause_index.specs.declared.key.NumberKey.{NumberKey}
 use Rattle.clause_index.specs.declared.key.NumberKey.TheVariants.{Int, Atom, Functor}
 use Rattle.clause_index.specs.declared.key.HeadKey.{HeadKey}
 use Rattle.clause_index.proofs.ClassLemmas.{same_key_self}
 
--- name and number of arguments are kept, whatever the variables stand for
-kept_name : (f : ℕ → Term) (t : Term) → is_callable t ≡ true → name_of (apply f t) ≡ name_of t
-kept_name f (VarTerm n) h = absurd cc
-kept_name f (IntTerm z) h = absurd cc
-kept_name f (AtomTerm a) h = refl
-kept_name f (Compound g ts) h = refl
+-- terms with one key have one name and one number of arguments
+same_top : (t u : Term) → is_callable t ≡ true → is_callable u ≡ true → key_of t ≡ key_of u → (name_of t ≡ name_of u) × (argument_count t ≡ argument_count u)
+same_top (VarTerm n) u h k e = absurd cc
+same_top (IntTerm z) u h k e = absurd cc
+same_top (AtomTerm a) (VarTerm m) h k e = absurd cc
+same_top (AtomTerm a) (IntTerm z) h k e = absurd cc
+same_top (AtomTerm a) (AtomTerm b) h k e = (cc, refl)
+same_top (AtomTerm a) (Compound g us) h k e = absurd cc
+same_top (Compound f ts) (VarTerm m) h k e = absurd cc
+same_top (Compound f ts) (IntTerm z) h k e = absurd cc
+same_top (Compound f ts) (AtomTerm b) h k e = absurd cc
+same_top (Compound f ts) (Compound g us) h k e = (cc, cc)
 
-kept_count : (f : ℕ → Term) (t : Term) → is_callable t ≡ true → argument_count (apply f t) ≡ argument_count t
-kept_count f (VarTerm n) h = absurd cc
-kept_count f (IntTerm z) h = absurd cc
-kept_count f (AtomTerm a) h = refl
-kept_count f (Compound g ts) h = count-apply_all f ts
+some_key : (t : Term) → is_callable t ≡ true → is_any (key_of t) ≡ false
+some_key (VarTerm n) h = absurd cc
+some_key (IntTerm z) h = absurd cc
+some_key (AtomTerm a) h = refl
+some_key (Compound f ts) h = refl
 
 other_by : (goal head : Term) (o : Option Substitution) → ((f : ℕ → Term) → apply f goal ≡ apply f head → ⊥) → IsUnifierAnswer o ((goal, head) ∷ []) → o ≡ None
 other_by goal head None never h = refl
@@ -69,12 +74,12 @@ module _ (names : List (List ℕ)) (distinct : AreDistinct names) where
       let numbers = distinct f g p q names_same in
       let arities : m ≡ n = cc in cc
 
-  other_keys : (k l : NumberKey) (b : Bool) → IsKeyAmong names (Some k) → IsKeyAmong names (Some l) → same_key l k ≡ false → same_named (named_key names (Some k)) (named_key names (Some l)) ≡ b → b ≡ false
+  other_keys : (k l : NumberKey) (b : Bool) → IsKeyAmong names (Some k) → IsKeyAmong names (Some l) → same_number_key l k ≡ false → same_named (named_key names (Some k)) (named_key names (Some l)) ≡ b → b ≡ false
   other_keys k l false p q e s = refl
   other_keys k l true p q e s =
       let numbers = same_numbers k l p q (same_named_is (named_key names (Some k)) (named_key names (Some l)) s) in
-      let self : same_key l l ≡ true = same_key_self l in
-      let clash : same_key l l ≡ false = subst (λ j. same_key l j ≡ false) (sym numbers) e in absurd cc
+      let self : same_number_key l l ≡ true = same_key_self l in
+      let clash : same_number_key l l ≡ false = subst (λ j. same_number_key l j ≡ false) (sym numbers) e in absurd cc
 
   apart : (a b c : Bool) → a ≡ false → b ≡ false → c ≡ false → (not a && (not b && not c)) ≡ true
   apart false false false p q r = refl
@@ -99,11 +104,14 @@ module _ (names : List (List ℕ)) (distinct : AreDistinct names) where
         subst (λ m. same_named m (key_of (argument 0 head)) ≡ false) (first ∙ sym one.1) (subst (λ m. same_named (named_key names (Some k)) m ≡ false) (second ∙ sym two.1) keys) in
         told_apart goal head 0 one.0 two.0 (apart (is_any (key_of (argument 0 goal))) (is_any (key_of (argument 0 head))) (same_named (key_of (argument 0 goal)) (key_of (argument 0 head))) left right other)
 
+    tops : (f : ℕ → Term) → apply f goal ≡ apply f head → (name_of goal ≡ name_of head) × (argument_count goal ≡ argument_count head)
+    tops f e = same_top goal head p.callable q.callable (sym (kept_key f goal (some_key goal p.callable)) ∙ (ap key_of e ∙ kept_key f head (some_key head q.callable)))
+
     same_name_number : (f : ℕ → Term) → apply f goal ≡ apply f head → h.name ≡ g.name
-    same_name_number f e = distinct h.name g.name q.name_there p.name_there (q.name ∙ (sym (kept_name f head q.callable) ∙ (ap name_of (sym e) ∙ (kept_name f goal p.callable ∙ sym p.name))))
+    same_name_number f e = distinct h.name g.name q.name_there p.name_there (q.name ∙ (sym (tops f e).0 ∙ sym p.name))
 
     same_arity : (f : ℕ → Term) → apply f goal ≡ apply f head → h.arity ≡ g.arity
-    same_arity f e = q.arity ∙ (sym (kept_count f head q.callable) ∙ (ap argument_count (sym e) ∙ (kept_count f goal p.callable ∙ sym p.arity)))
+    same_arity f e = q.arity ∙ (sym (tops f e).1 ∙ sym p.arity)
 
     by_tests : (a b : Bool) → (h.name == g.name) ≡ a → (h.arity == g.arity) ≡ b → ((a && b) && keys_match g.first h.first) ≡ false → unifier ((goal, head) ∷ []) ≡ None
     by_tests false b x y e = no_unifier goal head (λ f u. other_number h.name g.name x (same_name_number f u))

@@ -2,7 +2,7 @@
 use Rattle.std.specs.Prelude.{◌≡◌, ◌<◌, ◌^◌, ℕ, suc, List, [], ◌∷◌, ◌++◌, length, drop, reverse, cond, Option, Some}
 use Rattle.std.specs.BTreeMap.{BTreeMap, get, is_at}
 use Rattle.std.specs.declared.cmp.Ordering.{Ordering}
-use Rattle.clause_index.specs.Classes.{is_of, procedure_class, class_of}
+use Rattle.clause_index.specs.Classes.{is_of, procedure_class, key_class}
 use Rattle.clause_index.specs.Numbers.{first_from}
 use Rattle.clause_index.specs.contracts.key.ClassOrd.TheImpl as class_ord
 use Rattle.clause_index.specs.declared.key.HeadKey.{HeadKey}
@@ -21,19 +21,19 @@ abbrev pub links_from : (HeadKey → Class) → ℕ → List HeadKey → List (O
 links_from class i [] = []
 links_from class i (h ∷ hs) = first_from (suc i) (is_of (class h)) hs ∷ links_from class (suc i) hs
 
-pub record IsIndexOf (heads : List HeadKey) (procedures classes : List (Option ℕ)) (firsts : BTreeMap Class ℕ) : Type 0 where
+pub record IsClauseIndexOf (heads : List HeadKey) (procedures classes : List (Option ℕ)) (firsts : BTreeMap Class ℕ) : Type 0 where
   pub procedures_are : procedures ≡ links_from procedure_class 0 heads
-  pub classes_are : classes ≡ links_from class_of 0 heads
+  pub classes_are : classes ≡ links_from key_class 0 heads
   pub firsts_are : HasFirsts heads firsts 0
   pub few : length heads < 2 ^ 32
 
 -- the links of the heads from a number on were made, the last first
 pub record AreLinkedFrom (heads : List HeadKey) (procedures classes : List (Option ℕ)) (firsts : BTreeMap Class ℕ) (from : ℕ) : Type 0 where
   pub procedures_are : reverse procedures ≡ links_from procedure_class from (drop from heads)
-  pub classes_are : reverse classes ≡ links_from class_of from (drop from heads)
+  pub classes_are : reverse classes ≡ links_from key_class from (drop from heads)
   pub firsts_are : HasFirsts heads firsts from
 
 -- a head was put in front of those of a class, and linked to the one that was the first
-pub record IsLinked (number : ℕ) (class : Class) (old new : BTreeMap Class ℕ) (before after : List (Option ℕ)) : Type 0 where
+pub record IsChained (number : ℕ) (class : Class) (old new : BTreeMap Class ℕ) (before after : List (Option ℕ)) : Type 0 where
   pub links : after ≡ before ++ get class_cmp old class ∷ []
   pub firsts : (c : Class) → get class_cmp new c ≡ cond (is_at (class_cmp class) c) (Some number) (get class_cmp old c)

@@ -7,16 +7,16 @@ use Rattle.clause_index.specs.declared.key.HeadKey.{HeadKey}
 use Rattle.clause_index.specs.declared.key.Class.{Class}
 use Rattle.clause_index.specs.declared.key.Class.TheVariants.{Procedure, WithoutKey, WithKey}
 
-abbrev pub same_key : NumberKey → NumberKey → Bool
-same_key (Int y) (Int z) = int_eq y z
-same_key (Atom a) (Atom b) = a == b
-same_key (Functor f m) (Functor g n) = f == g && m == n
-same_key _ _ = false
+abbrev pub same_number_key : NumberKey → NumberKey → Bool
+same_number_key (Int y) (Int z) = int_eq y z
+same_number_key (Atom a) (Atom b) = a == b
+same_number_key (Functor f m) (Functor g n) = f == g && m == n
+same_number_key _ _ = false
 
 abbrev pub same_class : Class → Class → Bool
 same_class (Procedure f m) (Procedure g n) = f == g && m == n
 same_class (WithoutKey f m) (WithoutKey g n) = f == g && m == n
-same_class (WithKey f m k) (WithKey g n l) = f == g && (m == n && same_key k l)
+same_class (WithKey f m k) (WithKey g n l) = f == g && (m == n && same_number_key k l)
 same_class _ _ = false
 
 -- all heads with its name and number of arguments
@@ -28,12 +28,12 @@ class_by name arity None = WithoutKey name arity
 class_by name arity (Some k) = WithKey name arity k
 
 -- those of them with its first key
-abbrev pub class_of : HeadKey → Class
-class_of h = class_by h.name h.arity h.first
+abbrev pub key_class : HeadKey → Class
+key_class h = class_by h.name h.arity h.first
 
 -- a head is of the class of its procedure, and of its own
 abbrev pub is_of : Class → HeadKey → Bool
-is_of c h = same_class (procedure_class h) c || same_class (class_of h) c
+is_of c h = same_class (procedure_class h) c || same_class (key_class h) c
 
 abbrev pub is_head_of : ℕ → ℕ → HeadKey → Bool
 is_head_of name arity h = h.name == name && h.arity == arity
@@ -42,7 +42,7 @@ is_head_of name arity h = h.name == name && h.arity == arity
 abbrev pub keys_match : Option NumberKey → Option NumberKey → Bool
 keys_match None l = true
 keys_match (Some k) None = true
-keys_match (Some k) (Some l) = same_key l k
+keys_match (Some k) (Some l) = same_number_key l k
 
-abbrev pub may_match : ℕ → ℕ → Option NumberKey → HeadKey → Bool
-may_match name arity key h = is_head_of name arity h && keys_match key h.first
+abbrev pub can_match : ℕ → ℕ → Option NumberKey → HeadKey → Bool
+can_match name arity key h = is_head_of name arity h && keys_match key h.first

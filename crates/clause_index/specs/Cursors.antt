@@ -1,8 +1,8 @@
 -- What a cursor has left.
 use Rattle.std.specs.Prelude.{◌≡◌, ◌<◌, ℕ, List, [], ◌∷◌, length, drop, Option, Some, None, IfSome}
 use Rattle.proc_index.specs.Places.{merged}
-use Rattle.clause_index.specs.Classes.{is_of, procedure_class, class_of}
-use Rattle.clause_index.specs.Numbers.{numbers_from}
+use Rattle.clause_index.specs.Classes.{is_of, procedure_class, key_class}
+use Rattle.clause_index.specs.Numbers.{head_numbers_from}
 use Rattle.clause_index.specs.declared.key.HeadKey.{HeadKey}
 use Rattle.clause_index.specs.declared.key.Class.{Class}
 use Rattle.clause_index.specs.declared.cursor.Cursor.{Cursor}
@@ -11,7 +11,7 @@ use Rattle.clause_index.specs.declared.cursor.Cursor.TheVariants.{All, ByKey}
 -- the numbers of the heads in the first one's class
 abbrev pub chain_in : (HeadKey → Class) → ℕ → List HeadKey → List ℕ
 chain_in class i [] = []
-chain_in class i (h ∷ hs) = numbers_from i (is_of (class h)) (h ∷ hs)
+chain_in class i (h ∷ hs) = head_numbers_from i (is_of (class h)) (h ∷ hs)
 
 -- from a head on, the numbers of those in its class
 abbrev pub chain : (HeadKey → Class) → List HeadKey → Option ℕ → List ℕ
@@ -21,15 +21,15 @@ chain class heads (Some i) = chain_in class i (drop i heads)
 -- the numbers that are left, in rising order
 abbrev pub numbers_left : List HeadKey → Cursor → List ℕ
 numbers_left heads (All o) = chain procedure_class heads o
-numbers_left heads (ByKey o p) = merged (chain class_of heads o) (chain class_of heads p)
+numbers_left heads (ByKey o p) = merged (chain key_class heads o) (chain key_class heads p)
 
-abbrev pub IsBelow : ℕ → Option ℕ → Type 0
-IsBelow n o = IfSome o (λ i. i < n)
+abbrev pub IsNumberBelow : ℕ → Option ℕ → Type 0
+IsNumberBelow n o = IfSome o (λ i. i < n)
 
 -- its numbers are those of heads that are there
 abbrev pub IsCursorOf : List HeadKey → Cursor → Type 0
-IsCursorOf heads (All o) = IsBelow (length heads) o
-IsCursorOf heads (ByKey o p) = IsBelow (length heads) o × IsBelow (length heads) p
+IsCursorOf heads (All o) = IsNumberBelow (length heads) o
+IsCursorOf heads (ByKey o p) = IsNumberBelow (length heads) o × IsNumberBelow (length heads) p
 
 -- the least number was taken
 pub record TakesLeast (heads : List HeadKey) (old new : Cursor) (number : ℕ) : Type 0 where

@@ -7,7 +7,7 @@ use Rattle.clause_compile.specs.AtomNumbers.{name_at, AreDistinct}
 use Rattle.proc_index.specs.Keys.{head_key}
 use Rattle.proc_index.specs.declared.key.Key.{Key}
 use Rattle.proc_index.specs.declared.key.Key.TheVariants.{Any, Int as IntKey, Atom as AtomKey, Functor as FunctorKey}
-use Rattle.clause_index.specs.Classes.{may_match}
+use Rattle.clause_index.specs.Classes.{can_match}
 use Rattle.clause_index.specs.declared.key.NumberKey.{NumberKey}
 use Rattle.clause_index.specs.declared.key.NumberKey.TheVariants.{Int, Atom, Functor}
 use Rattle.clause_index.specs.declared.key.HeadKey.{HeadKey}
@@ -38,4 +38,4 @@ pub record IsHeadKeyOf (names : List (List ℕ)) (t : Term) (k : HeadKey) : Type
 -- where no two names are the same, a goal unifies with no head that it may not match
 abbrev pub NumbersTellApart : Type 0
 NumbersTellApart = (names : List (List ℕ)) → AreDistinct names → (goal head : Term) (g h : HeadKey) → IsHeadKeyOf names goal g → IsHeadKeyOf names head h
-    → may_match g.name g.arity g.first h ≡ false → unifier ((goal, head) ∷ []) ≡ None
+    → can_match g.name g.arity g.first h ≡ false → unifier ((goal, head) ∷ []) ≡ None

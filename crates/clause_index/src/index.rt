@@ -1,11 +1,11 @@
 //! The index.
 ghost use Rattle.std.specs.Prelude.{◌≡◌, ◌<◌, ◌∷◌, [], IfOk, OnOk, MatchOption, Some, length};
 ghost use Rattle.std.specs.List.{list_any};
-ghost use Rattle.clause_index.specs.Classes.{is_of, is_head_of, may_match, procedure_class, class_of};
+ghost use Rattle.clause_index.specs.Classes.{is_of, is_head_of, can_match, procedure_class, key_class};
 ghost use Rattle.clause_index.specs.Numbers.{first_from, numbers};
-ghost use Rattle.clause_index.specs.Cursors.{IsCursorOf, IsBelow, chain, numbers_left, TakesLeast};
+ghost use Rattle.clause_index.specs.Cursors.{IsCursorOf, IsNumberBelow, chain, numbers_left, TakesLeast};
 ghost use Rattle.clause_index.specs.declared.cursor.Cursor.{Cursor as CursorValue};
-ghost use Rattle.clause_index.specs.Chains.{IsLinked};
+ghost use Rattle.clause_index.specs.Chains.{IsChained};
 
 use crate::cursor::Cursor;
 use crate::key::{Class, HeadKey, NumberKey};
@@ -31,7 +31,7 @@ impl Model for ClauseIndex {
     ghost use Rattle.std.specs.Coded.{codes};
     ghost use Rattle.au_term.specs.PrefixOrder.{term_code};
     ghost use Rattle.clause_index.specs.declared.key.HeadKey.{HeadKey as HeadKeyValue};
-    ghost use Rattle.clause_index.specs.Chains.{IsIndexOf};
+    ghost use Rattle.clause_index.specs.Chains.{IsClauseIndexOf};
 
     ghost Value = { List HeadKeyValue };
 
@@ -39,7 +39,7 @@ impl Model for ClauseIndex {
 
     ghost view = { λ i. i.heads.items };
 
-    ghost invariant = { λ i. IsIndexOf i.heads.items i.next_of_procedure.items i.next_of_class.items i.firsts };
+    ghost invariant = { λ i. IsClauseIndexOf i.heads.items i.next_of_procedure.items i.next_of_class.items i.firsts };
 }
 
 impl ClauseIndex {
@@ -88,7 +88,7 @@ impl ClauseIndex {
     /// The clauses that a goal with this name, number of arguments and first key may match. A goal whose first argument is a
     /// variable, or that has none, has no key.
     pub fn candidates(&self, name: u32, arity: u32, key: Option<NumberKey>) -> Cursor
-        ensures numbers { numbers_left self.now result ≡ numbers (may_match name arity key) self.now }
+        ensures numbers { numbers_left self.now result ≡ numbers (can_match name arity key) self.now }
         ensures cursor { IsCursorOf self.now result }
     {
         match key {
@@ -146,7 +146,7 @@ impl ClauseIndex {
     fn next_in_procedure(&self, number: u32) -> Option<u32>
         requires { number < length self.now }
         ensures next { chain procedure_class self.now (Some number) ≡ number ∷ chain procedure_class self.now result }
-        ensures below { IsBelow (length self.now) result }
+        ensures below { IsNumberBelow (length self.now) result }
     {
         self.next_of_procedure[number as usize]
     }
@@ -154,8 +154,8 @@ impl ClauseIndex {
     /// The next clause of a clause's class.
     fn next_in_class(&self, number: u32) -> Option<u32>
         requires { number < length self.now }
-        ensures next { chain class_of self.now (Some number) ≡ number ∷ chain class_of self.now result }
-        ensures below { IsBelow (length self.now) result }
+        ensures next { chain key_class self.now (Some number) ≡ number ∷ chain key_class self.now result }
+        ensures below { IsNumberBelow (length self.now) result }
     {
         self.next_of_class[number as usize]
     }
@@ -175,7 +175,7 @@ fn link(
     firsts: &mut Firsts,
     links: &mut Vec<Option<u32>>,
 ) -> Result<(), NoMemory>
-    ensures { OnOk result (IsLinked number class firsts.old firsts.new links.old.items links.new.items) }
+    ensures { OnOk result (IsChained number class firsts.old firsts.new links.old.items links.new.items) }
 {
     let next = firsts.insert(class, number)?;
     links.push(next)?;

@@ -1,6 +1,6 @@
 //! What tells heads and goals apart, by numbers.
 ghost use Rattle.std.specs.Prelude.{◌≡◌};
-ghost use Rattle.clause_index.specs.Classes.{class_of};
+ghost use Rattle.clause_index.specs.Classes.{key_class};
 
 /// The key of a first argument: an integer, the number of an atom, or the number of a name and how many arguments follow.
 #[derive(Clone, Copy, Debug, PartialEq, Eq, PartialOrd, Ord)]
@@ -30,7 +30,7 @@ pub enum Class {
 impl HeadKey {
     /// The class of the heads with its name, number of arguments and first key.
     pub(crate) fn class(self) -> Class
-        ensures { result ≡ class_of self }
+        ensures { result ≡ key_class self }
     {
         match self.first {
             None => Class::WithoutKey(self.name, self.arity),

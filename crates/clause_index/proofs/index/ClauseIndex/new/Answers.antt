@@ -2,8 +2,8 @@ use Rattle.std.proofs.Common.{◌≡◌, ◌<◌, ℕ, suc, ◌+◌, ◌-◌, �
 use Rattle.std.proofs.lemmas.List.{drop_more}
 use Rattle.clause_index.specs.declared.key.Class.{Class}
 use Rattle.clause_index.specs.declared.key.HeadKey.{HeadKey}
-use Rattle.clause_index.specs.Classes.{class_of}
-use Rattle.clause_index.specs.Chains.{AreLinkedFrom, IsLinked}
+use Rattle.clause_index.specs.Classes.{key_class}
+use Rattle.clause_index.specs.Chains.{AreLinkedFrom, IsChained}
 use Rattle.clause_index.proofs.ChainLemmas.{linked_more}
 use Rattle.clause_index.proofs.index.ClauseIndex.new.Goals as goal
 
@@ -20,6 +20,6 @@ loop-from-preserved c =
     let here : drop from heads ≡ head ∷ drop (suc from) heads = drop_more heads from head within ∙ ap₂ (λ (h : HeadKey) (n : ℕ). h ∷ drop n heads) (sym c.index-head.ensures) next in
     let before : AreLinkedFrom heads c.loop-from.next_of_procedure.items c.loop-from.next_of_class.items c.loop-from.firsts (suc from) =
     subst (AreLinkedFrom heads c.loop-from.next_of_procedure.items c.loop-from.next_of_class.items c.loop-from.firsts) last c.loop-from.invariant.1 in
-    let own : IsLinked from (class_of head) c.link.new.firsts c.link-in-loop-from.new.firsts c.loop-from.next_of_class.items c.link-in-loop-from.new.links.items =
-    subst (λ (k : Class). IsLinked from k c.link.new.firsts c.link-in-loop-from.new.firsts c.loop-from.next_of_class.items c.link-in-loop-from.new.links.items) c.class.ensures c.in_ok-link-2.ensures in
+    let own : IsChained from (key_class head) c.link.new.firsts c.link-in-loop-from.new.firsts c.loop-from.next_of_class.items c.link-in-loop-from.new.links.items =
+    subst (λ (k : Class). IsChained from k c.link.new.firsts c.link-in-loop-from.new.firsts c.loop-from.next_of_class.items c.link-in-loop-from.new.links.items) c.class.ensures c.in_ok-link-2.ensures in
     (omega (arith, most), linked_more heads c.loop-from.next_of_procedure.items c.loop-from.next_of_class.items c.link.new.links.items c.link-in-loop-from.new.links.items c.loop-from.firsts c.link.new.firsts c.link-in-loop-from.new.firsts from head here before c.in_ok-link.ensures own)
