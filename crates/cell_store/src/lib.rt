@@ -5,7 +5,8 @@
 //!
 //! Reading a place, binding and marking take constant time, and so does taking new numbers, for each of them. Dereferencing
 //! takes as many steps as its chain has links. Undoing takes as many as variables older than the mark were bound since: a
-//! younger one is not put on the trail, since its cell is cut off. Dropping marks undoes nothing.
+//! younger one is not put on the trail, since its cell is cut off. Dropping marks undoes nothing. Listing what was
+//! bound since a mark takes as many steps as that, and as many as there are younger variables, with the logarithm of both.
 //!
 //! Unification takes as many steps as it comes to equations, and keeps the room in which they wait. A compound is not gone
 //! into beside itself, at the same place with the same number added. A variable that is bound to a

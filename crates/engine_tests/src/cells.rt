@@ -205,3 +205,21 @@ fn marks(rt: HostRuntime) -> Result<(), Fail> {
     }
     Ok(())
 }
+
+#[test]
+fn bindings_since_a_mark(rt: HostRuntime) -> Result<(), Fail> {
+    let alloc = rt.alloc();
+    let mut store = store(alloc)?;
+    let mark = store.mark()?;
+    let (left, right) = (
+        both(alloc, &[(false, 0), (false, 3)])?,
+        both(alloc, &[(true, 1), (false, 2)])?,
+    );
+    assert!(rt; unify(&rt, alloc, &mut store, left, right)?);
+    assert!(rt; mark < store.marks());
+    let made = store.made_since(mark)?;
+    assert_eq!(rt; made.len(), 2);
+    assert_eq!(rt; made[0].0, 0);
+    assert!(rt; made[1] == (3, BindingCell::Var(2)));
+    Ok(())
+}

@@ -4,7 +4,7 @@ ghost use Rattle.au_term.specs.Term.{var_bound};
 ghost use Rattle.cell_store.specs.StoreView.{IsValueIn};
 
 use arith_eval::EvalRefusal;
-use au_model::build::{binary, single, unary};
+use au_model::build::{binary, compound, single};
 use au_model::{EvalName, Fault};
 use au_term::{Atom, Cell, FlatTerm, NoMemory, Shared, TermBuilder, VarNo};
 use binding_array::BindingCell;
@@ -41,8 +41,11 @@ fn term(alloc: Global, small: Small) -> Result<FlatTerm, NoMemory> {
         }
         Small::Integer(value) => integer(alloc, value),
         Small::Atom(name) => single(alloc, Cell::Atom(Atom::new(alloc, name)?)),
-        Small::One(name, x) => unary(alloc, name, &integer(alloc, x)?),
-        Small::Two(name, x, y) => binary(alloc, name, &integer(alloc, x)?, &integer(alloc, y)?),
+        Small::One(name, x) => compound(alloc, Atom::new(alloc, name)?, &[&integer(alloc, x)?]),
+        Small::Two(name, x, y) => {
+            let name = Atom::new(alloc, name)?;
+            compound(alloc, name, &[&integer(alloc, x)?, &integer(alloc, y)?])
+        }
     }
 }
 

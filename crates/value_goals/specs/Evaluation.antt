@@ -77,3 +77,7 @@ pub record GoesOn (st : StoreView) (v : Evaluated) (steps : ℕ) (old new : List
 abbrev pub IsStep : StoreView → Evaluated → ℕ → List Waiting → List Waiting → Result Next Problem → Type 0
 IsStep st v steps old new (Ok next) = GoesOn st v steps old new next
 IsStep st v steps old new (Err problem) = v ≡ Err (problem_term problem)
+
+-- the expression that a value stands for was begun
+abbrev pub IsBegun : StoreView → BindingCell → List Waiting → List Waiting → Result Next Problem → Type 0
+IsBegun st c old new result = IsStep st (value_in st c) (steps_for st c) old new result

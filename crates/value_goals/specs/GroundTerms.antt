@@ -15,7 +15,7 @@ are_ground (t ∷ ts) = is_ground t && are_ground ts
 abbrev pub terms_left : StoreView → List Arguments → List Term
 terms_left st pending = resolved_terms (substitution st) (pending_terms (text_in st) pending)
 
--- a value is ground but for its arguments, which come on top
+-- a value has no variables but those of its arguments, which come on top
 pub record GoesPast (st : StoreView) (t : Term) (old new : List Arguments) : Type 0 where
   pub same : are_ground (terms_left st new) ≡ (is_ground t && are_ground (terms_left st old))
   pub fewer : sizes (terms_left st new) < size t + sizes (terms_left st old)

@@ -7,7 +7,7 @@ ghost use Rattle.arith_eval.specs.Functions.{binary_meaning};
 ghost use Rattle.arith_eval.specs.Integers.{outcome};
 ghost use Rattle.cell_store.specs.StoreView.{StoreView, IsValueIn, meaning, text_in};
 ghost use Rattle.cell_store.specs.Arguments.{HasFunctor};
-ghost use Rattle.value_goals.specs.Evaluation.{value_in, with_first, resumed, steps_for, steps_of, IsWaitingIn, IsStep};
+ghost use Rattle.value_goals.specs.Evaluation.{value_in, with_first, resumed, steps_for, steps_of, IsWaitingIn, IsBegun, IsStep};
 ghost use Rattle.value_goals.specs.declared.evaluation.Waiting.{Waiting as WaitingFunction};
 
 use crate::type_tests::integer_of;
@@ -85,7 +85,7 @@ fn opened(
     waiting: &mut Vec<Waiting>,
 ) -> Result<Result<Next, Problem>, NoMemory>
     requires { IsValueIn store.now value }
-    ensures { IfOk result (IsStep store.now (value_in store.now value) (steps_for store.now value) (reverse waiting.old.items) (reverse waiting.new.items)) }
+    ensures { IfOk result (IsBegun store.now value (reverse waiting.old.items) (reverse waiting.new.items)) }
 {
     match store.dereference(value) {
         BindingCell::Free => unreachable!(),
@@ -104,7 +104,7 @@ fn compound_opened(
     waiting: &mut Vec<Waiting>,
 ) -> Result<Result<Next, Problem>, NoMemory>
     requires { IsValueIn store.now (BindingCell.Compound at base) }
-    ensures { IfOk result (IsStep store.now (value_in store.now (BindingCell.Compound at base)) (steps_for store.now (BindingCell.Compound at base)) (reverse waiting.old.items) (reverse waiting.new.items)) }
+    ensures { IfOk result (IsBegun store.now (BindingCell.Compound at base) (reverse waiting.old.items) (reverse waiting.new.items)) }
 {
     let (name, count) = store.functor(at);
     if count == 1 {
@@ -126,7 +126,7 @@ fn one_opened(
 ) -> Result<Result<Next, Problem>, NoMemory>
     requires functor { HasFunctor (text_in store.now) store.now.now.next at base name 1 }
     requires short { at < 2 ^ 32 - 1 }
-    ensures { IfOk result (IsStep store.now (value_in store.now (BindingCell.Compound at base)) (steps_for store.now (BindingCell.Compound at base)) (reverse waiting.old.items) (reverse waiting.new.items)) }
+    ensures { IfOk result (IsBegun store.now (BindingCell.Compound at base) (reverse waiting.old.items) (reverse waiting.new.items)) }
 {
     let Some(function) = unary_named(store.name(name)) else {
         return Ok(Err(no_function(store, name, 1)?));
@@ -151,7 +151,7 @@ fn two_opened(
 ) -> Result<Result<Next, Problem>, NoMemory>
     requires functor { HasFunctor (text_in store.now) store.now.now.next at base name 2 }
     requires short { at < 2 ^ 32 - 1 }
-    ensures { IfOk result (IsStep store.now (value_in store.now (BindingCell.Compound at base)) (steps_for store.now (BindingCell.Compound at base)) (reverse waiting.old.items) (reverse waiting.new.items)) }
+    ensures { IfOk result (IsBegun store.now (BindingCell.Compound at base) (reverse waiting.old.items) (reverse waiting.new.items)) }
 {
     let Some(function) = binary_named(store.name(name)) else {
         return Ok(Err(no_function(store, name, 2)?));

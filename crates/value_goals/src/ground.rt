@@ -13,7 +13,7 @@ use std::alloc::Global;
 /// Whether a value stands for a term without variables.
 pub fn is_ground(alloc: Global, store: &Store, value: BindingCell) -> Result<bool, NoMemory>
     requires { IsValueIn store.now value }
-    ensures { IfOk result (λ ground. ground ≡ is_ground (meaning store.now value)) }
+    ensures { IfOk result (λ b. b ≡ is_ground (meaning store.now value)) }
 {
     let mut pending = Vec::new(alloc);
     if !goes_past(store, value, &mut pending)? {
