@@ -1,13 +1,14 @@
 -- What is handed out, in the tree for which the nodes stand.
 use Rattle.std.proofs.Common.{◌≡◌, ℕ, ◌<◌, ◌≤◌, Bool, true, false, cond, List, [], ◌∷◌, ◌++◌, length, Option, Some, None, refl, sym, ap, ◌∙◌, subst, arith}
+use Rattle.std.specs.List.{list_any}
 use Rattle.std.specs.Option.{option_map}
 use Rattle.std.specs.Prelude.{nat_le, ◌&&◌, not, is_none, is_some}
 use Rattle.run_model.specs.declared.ending.RunEnding.TheVariants.{Budget}
 use Rattle.run_model.specs.Machine.Entries.{Entry}
 use Rattle.au_term.proofs.LogicLemmas.{both}
-use Rattle.tree_model.specs.Events.{Event, Suspend, Stop}
-use Rattle.tree_model.specs.Effects.{gate_or_frozen, with_status, where_some, after_allowed, after_event}
-use Rattle.tree_model.specs.Legality.{is_spot_at, is_taken_by, taken_at, at_spot, gate_of, is_frozen, is_allowed, is_legal}
+use Rattle.tree_model.specs.Events.{Event, Lost, Suspend, Stop}
+use Rattle.tree_model.specs.Effects.{without_task, gate_or_frozen, with_status, where_some, after_allowed, after_event}
+use Rattle.tree_model.specs.Legality.{is_task, is_spot_at, is_taken_by, taken_at, at_spot, gate_of, is_frozen, is_allowed, is_legal}
 use Rattle.tree_model.specs.Nodes.{Gate, CutGate, BallGate, WorldGate, FrozenGate, Hold, TakenBy, Waiting, Status, Pending}
 use Rattle.tree_model.specs.Levels.{plug, Place, same_place, Spot, levels_of, place_of_spot, pending_of}
 use Rattle.tree_model.specs.Orders.{first_open, clock_of}
@@ -218,4 +219,27 @@ stops w old new going nodes others stopped events = record { noted = events; leg
       window = others.window ∙ h.window;
       stopped = stopped;
       sound = event_sound t (Stop w) h.sound (legal read t h);
+    }
+
+-- a task that was pruned is given back
+pub given_up : (w : ℕ) (old new : PublicView) (a : Place) → Answers old is_going true → list_any (is_task w a) old.lost ≡ true → new.nodes ≡ old.nodes
+    → new.lost ≡ without_task w a old.lost → new.halted ≡ old.halted → new.budget ≡ old.budget → new.window ≡ old.window
+    → new.log.stopped ≡ old.log.stopped → new.log.events ≡ old.log.events ++ Lost w a ∷ [] → Notes old new (Lost w a)
+unfolding after_event
+given_up w old new a going there nodes lost halted budget window stopped events =
+    record { noted = events; legal = λ read t h. legal read t h; stands = λ read t h. stands read t h }
+  where
+    legal : (read : Reading) (t : TreeState) → IsPublicOf old read t → is_legal t (Lost w a) ≡ true
+    legal read t h = legal_while_going t (Lost w a) (sym (going read t h)) (ap (list_any (is_task w a)) (sym h.lost) ∙ there)
+
+    stands : (read : Reading) (t : TreeState) → IsPublicOf old read t → IsPublicOf new read (after_event t (Lost w a))
+    stands read t h = record {
+      placed = subst (λ (x : NodesView). IsTableOf x read t.root) (sym nodes) h.placed;
+      next = ap (λ (x : NodesView). length x.rows) nodes ∙ h.next;
+      lost = lost ∙ ap (without_task w a) h.lost;
+      halted = halted ∙ h.halted;
+      budget = budget ∙ h.budget;
+      window = window ∙ h.window;
+      stopped = stopped ∙ h.stopped;
+      sound = event_sound t (Lost w a) h.sound (legal read t h);
     }

@@ -1,1 +1,3 @@
 pub mod HandOutLemmas
+pub mod FoundLemmas
+pub mod LostLemmas

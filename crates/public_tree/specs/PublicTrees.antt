@@ -4,13 +4,14 @@ use Rattle.std.specs.Option.{option_map}
 use Rattle.run_model.specs.Machine.Entries.{Entry}
 use Rattle.tree_model.specs.Nodes.{Gate, CutGate, BallGate, WorldGate, FrozenGate, Hold, Status, Pending}
 use Rattle.tree_model.specs.Levels.{Level, plug, Place, place_at, Spot, place_of_spot, pending_of}
-use Rattle.tree_model.specs.Events.{Event, Suspend, Stop}
+use Rattle.tree_model.specs.Events.{Event, Lost, Suspend, Stop}
 use Rattle.tree_model.specs.Pruning.{Task}
 use Rattle.tree_model.specs.TreeStates.{TreeState, first_spot, ended}
-use Rattle.tree_model.specs.Legality.{is_spot_at, taken_at, gate_of, is_frozen, is_legal}
+use Rattle.tree_model.specs.Legality.{is_spot_at, is_taken_by, taken_at, gate_of, is_frozen, is_legal}
 use Rattle.tree_model.specs.Effects.{after_event}
 use Rattle.tree_model.specs.SoundTrees.{IsSound, IsSoundTree}
 use Rattle.tree_nodes.specs.Bodies.{Reading}
+use Rattle.tree_nodes.specs.Rows.{AlternativeCell, PendingCell, InnerCell, ClosedCell}
 use Rattle.tree_nodes.specs.TreeTables.{NodesView, IsTableOf}
 use Rattle.public_tree.specs.EventLogs.{LogView}
 
@@ -105,4 +106,19 @@ IsItsGate p w a g = (read : Reading) (t : TreeState) (s : Spot) → IsPublicOf p
 -- it is given back to wait, or the tree had ended or been stopped
 abbrev pub Suspends : PublicView → PublicView → ℕ → Place → Gate → Type 0
 Suspends old new w a g = Notes old new (Suspend w a (is_frozen_gate g))
+    ⊎ (IsSameTree old new × ((read : Reading) (t : TreeState) → IsPublicOf old read t → is_going t ≡ false))
+
+-- whether a worker has what is here
+abbrev pub is_taken_cell : ℕ → AlternativeCell → Bool
+is_taken_cell w (PendingCell hold) = is_taken_by w hold
+is_taken_cell w (InnerCell n) = false
+is_taken_cell w (ClosedCell credit) = false
+
+abbrev pub is_taken_at : ℕ → Option (ℕ × AlternativeCell) → Bool
+is_taken_at w None = false
+is_taken_at w (Some c) = is_taken_cell w c.1
+
+-- a task that was pruned is given back, or the tree had ended or been stopped
+abbrev pub GivesUp : PublicView → PublicView → ℕ → Place → Type 0
+GivesUp old new w a = Notes old new (Lost w a)
     ⊎ (IsSameTree old new × ((read : Reading) (t : TreeState) → IsPublicOf old read t → is_going t ≡ false))

@@ -8,6 +8,7 @@
 
 mod event_log;
 mod hand_out;
+mod lost;
 mod public;
 
 pub use public::PublicTree;

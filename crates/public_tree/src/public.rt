@@ -6,20 +6,13 @@ ghost use Rattle.tree_model.specs.Events.{Stop};
 ghost use Rattle.public_tree.specs.PublicTrees.{Answers, Stops, is_going};
 
 use crate::event_log::EventLog;
+use crate::lost::LostTask;
 use au_term::NoMemory;
 use branch_order::{clock, leftmost};
 use run_model::RunEnding;
 use std::alloc::Global;
 use std::marker::Model;
-use tree_model::{AltRef, Event};
 use tree_nodes::Nodes;
-
-/// A task that is out and has been pruned.
-#[derive(Clone, Copy)]
-pub(crate) struct LostTask {
-    pub(crate) worker: u32,
-    pub(crate) at: AltRef,
-}
 
 /// The nodes of a tree, the tasks that are out and have been pruned, by what status it was halted, and its events.
 #[derive(Drop)]
