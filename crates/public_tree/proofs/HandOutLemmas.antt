@@ -9,8 +9,8 @@ use Rattle.au_term.proofs.LogicLemmas.{both}
 use Rattle.tree_model.specs.Events.{Event, Lost, Suspend, Stop}
 use Rattle.tree_model.specs.Effects.{without_task, gate_or_frozen, with_status, where_some, after_allowed, after_event}
 use Rattle.tree_model.specs.Legality.{is_task, is_spot_at, is_taken_by, taken_at, at_spot, gate_of, is_frozen, is_allowed, is_legal}
-use Rattle.tree_model.specs.Nodes.{Gate, CutGate, BallGate, WorldGate, FrozenGate, Hold, TakenBy, Waiting, Status, Pending}
-use Rattle.tree_model.specs.Levels.{plug, Place, same_place, Spot, levels_of, place_of_spot, pending_of}
+use Rattle.tree_model.specs.Nodes.{Gate, CutGate, BallGate, WorldGate, FrozenGate, Hold, TakenBy, Waiting, Status, Pending, Inner}
+use Rattle.tree_model.specs.Levels.{Level, level_node, plug, Place, same_place, Spot, levels_of, place_of_spot, pending_of}
 use Rattle.tree_model.specs.Orders.{first_open, clock_of}
 use Rattle.tree_model.specs.SoundTrees.{IsSound}
 use Rattle.tree_model.specs.TreeStates.{TreeState, first_spot, end_by, ended, leftmost}
@@ -28,7 +28,7 @@ use Rattle.branch_order.specs.Clocks.{HasClock}
 use Rattle.interleaving.proofs.FrontLemmas.{leftmost_front}
 use Rattle.interleaving.proofs.PluggedLemmas.{IsIn, all_in}
 use Rattle.au_model.specs.Terms.Each.{Each}
-use Rattle.public_tree.specs.PublicTrees.{PublicView, IsPublicOf, Answers, Offers, IsHeldAt, Notes, is_going, IsOut, is_frozen_gate, IsGateAt, IsItsGate}
+use Rattle.public_tree.specs.PublicTrees.{PublicView, IsRooted, IsPublicOf, Answers, Offers, IsHeldAt, Notes, is_going, IsOut, is_frozen_gate, IsGateAt, IsItsGate}
 
 -- the leftmost entry of a sound tree: all to its left has closed
 pub record IsFirstSpot (root : Status) (a : Place) : Type 0 where
@@ -110,6 +110,11 @@ pub record HoldsBy (old new : PublicView) (a : Place) (hold : Hold) : Type 0 whe
   pub others : KeepsOthers old new
   pub stopped : new.log.stopped ≡ old.log.stopped
 
+-- a place is in a node
+rooted_round : (v : Level) (up : List Level) (status : Status) → IsRooted (plug (v ∷ up) status)
+rooted_round v [] status = tt
+rooted_round v (u ∷ up) status = rooted_round u up (Inner (level_node v status))
+
 stands_held : (old new : PublicView) (a : Place) (hold : Hold) (e : Event) (read : Reading) (t : TreeState) (s : Spot) → HoldsBy old new a hold
     → IsPublicOf old read t → IsOpenSpot t.root s → place_of_spot s ≡ a → after_allowed t e ≡ with_status s (Pending hold s.entry) t
     → is_legal t e ≡ true → IsPublicOf new read (after_event t e)
@@ -127,6 +132,7 @@ stands_held old new a hold e read t s k h spot at is legal =
       window = k.others.window ∙ (h.window ∙ ap (λ (x : TreeState). x.window) (sym is));
       stopped = k.stopped ∙ (h.stopped ∙ ap (λ (x : TreeState). x.stopped) (sym is));
       sound = event_sound t e h.sound legal;
+      rooted = subst (λ (x : TreeState). IsRooted x.root) (sym is) (rooted_round s.level s.above (Pending hold s.entry));
     }
 
 -- what is offered is handed out
@@ -219,6 +225,7 @@ stops w old new going nodes others stopped events = record { noted = events; leg
       window = others.window ∙ h.window;
       stopped = stopped;
       sound = event_sound t (Stop w) h.sound (legal read t h);
+      rooted = h.rooted;
     }
 
 -- a task that was pruned is given back
@@ -242,4 +249,5 @@ given_up w old new a going there nodes lost halted budget window stopped events 
       window = window ∙ h.window;
       stopped = stopped ∙ h.stopped;
       sound = event_sound t (Lost w a) h.sound (legal read t h);
+      rooted = h.rooted;
     }

@@ -1,3 +1,4 @@
 pub mod HandOutLemmas
 pub mod FoundLemmas
 pub mod LostLemmas
+pub mod CountLemmas

@@ -2,7 +2,8 @@
 use Rattle.std.specs.Prelude.{◌≡◌, ◌⊎◌, ℕ, Bool, true, false, not, ◌&&◌, is_none, is_some, cond, List, [], ◌∷◌, ◌++◌, length, Option, Some, None}
 use Rattle.std.specs.Option.{option_map}
 use Rattle.run_model.specs.Machine.Entries.{Entry}
-use Rattle.tree_model.specs.Nodes.{Gate, CutGate, BallGate, WorldGate, FrozenGate, Hold, Status, Pending}
+use Rattle.tree_model.specs.Credits.{no_credit}
+use Rattle.tree_model.specs.Nodes.{Gate, CutGate, BallGate, WorldGate, FrozenGate, Hold, Status, Pending, Inner, Closed}
 use Rattle.tree_model.specs.Levels.{Level, plug, Place, place_at, Spot, place_of_spot, pending_of}
 use Rattle.tree_model.specs.Events.{Event, Lost, Suspend, Stop}
 use Rattle.tree_model.specs.Pruning.{Task}
@@ -24,6 +25,12 @@ pub record PublicView : Type 0 where
   pub window : ℕ
   pub log : LogView
 
+-- a tree without nodes has counted nothing
+abbrev pub IsRooted : Status → Type 0
+IsRooted (Closed credit) = credit ≡ no_credit
+IsRooted (Pending hold entry) = Unit {0}
+IsRooted (Inner node) = Unit {0}
+
 -- it stands for a sound tree
 pub record IsPublicOf (p : PublicView) (read : Reading) (t : TreeState) : Type 0 where
   pub placed : IsTableOf p.nodes read t.root
@@ -34,6 +41,7 @@ pub record IsPublicOf (p : PublicView) (read : Reading) (t : TreeState) : Type 0
   pub window : p.window ≡ t.window
   pub stopped : p.log.stopped ≡ t.stopped
   pub sound : IsSoundTree t
+  pub rooted : IsRooted t.root
 
 -- of each tree for which it stands, this is the answer
 abbrev pub Answers : {A : Type 0} → PublicView → (TreeState → A) → A → Type 0

@@ -1,14 +1,16 @@
 //! What all workers see.
-ghost use Rattle.std.specs.Prelude.{◌≡◌, [], None, Some, false, IfOk, OnOk, OnErr};
+ghost use Rattle.std.specs.Prelude.{◌≡◌, ℕ, [], None, Some, false, IfOk, OnOk, OnErr};
 ghost use Rattle.std.specs.Bool.{OnTrue};
 ghost use Rattle.tree_model.specs.TreeStates.{ended, counts};
 ghost use Rattle.tree_model.specs.Events.{Stop};
+ghost use Rattle.tree_nodes.specs.Rows.{row_of_node, alternatives_at};
+ghost use Rattle.tree_nodes.specs.Siblings.{counts_from};
 ghost use Rattle.public_tree.specs.PublicTrees.{Answers, Stops, is_going};
 
 use crate::event_log::EventLog;
 use crate::lost::LostTask;
 use au_term::NoMemory;
-use branch_order::{clock, leftmost};
+use branch_order::{clock, counts, counts_of, leftmost};
 use run_model::RunEnding;
 use std::alloc::Global;
 use std::marker::Model;
@@ -113,5 +115,25 @@ impl PublicTree {
         } else {
             None
         }
+    }
+
+    /// The answers and inferences of all to the left of the leftmost entry and on its branch, or of all where none is left.
+    pub fn counts(&self) -> (u64, u64)
+        ensures { Answers self.now counts result }
+    {
+        match leftmost(&self.nodes) {
+            Some(first) => counts(&self.nodes, first),
+            None => closed_counts(&self.nodes),
+        }
+    }
+}
+
+fn closed_counts(nodes: &Nodes) -> (u64, u64)
+    ensures first { (n : ℕ) → nodes.now.first ≡ Some n → result ≡ counts_from (0, 0) (alternatives_at (row_of_node nodes.now.rows n)) }
+    ensures empty { nodes.now.first ≡ None → result ≡ (0, 0) }
+{
+    match nodes.first() {
+        Some(node) => counts_of(nodes, node),
+        None => (0, 0),
     }
 }

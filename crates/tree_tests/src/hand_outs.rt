@@ -35,7 +35,11 @@ fn ends(rt: HostRuntime) -> Result<(), Fail> {
         close(&rt, &mut nodes, place(0, 0), credit(alloc, 0, 2))?;
         let mut tree = PublicTree::new(alloc, nodes, budget, 5)?;
         assert_eq!(rt; tree.ended(), end);
+        assert_eq!(rt; tree.counts(), (0, 2));
+        assert!(rt; !tree.is_out(1, place(0, 1)));
         assert_eq!(rt; tree.claim(1)?.is_none(), end.is_some());
+        assert_eq!(rt; tree.is_out(1, place(0, 1)), end.is_none());
+        assert!(rt; !tree.is_lost(1, place(0, 1)));
     }
     let nodes = Nodes::new(alloc);
     let tree = PublicTree::new(alloc, nodes, 1, 5)?;
