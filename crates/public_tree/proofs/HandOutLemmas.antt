@@ -142,7 +142,13 @@ pub handed : (event : Place → Event) (offer : TreeState → Option Spot) (w : 
     → ((t : TreeState) (s : Spot) → offer t ≡ Some s → IsOpenSpot t.root s) → Answers old is_going true → Offers offer old (Some a)
     → HoldsBy old new a (TakenBy w) → new.log.events ≡ old.log.events ++ event a ∷ [] → Notes old new (event a)
 handed event offer w old new a allows after opens going offers holds events =
-    record { noted = events; legal = λ read t h. legal read t h; stands = λ read t h. by_spot read t h (offer t) refl (offers read t h) }
+    record {
+      noted = events;
+      budget = holds.others.budget;
+      window = holds.others.window;
+      legal = λ read t h. legal read t h;
+      stands = λ read t h. by_spot read t h (offer t) refl (offers read t h);
+    }
   where
     allowed : (t : TreeState) (o : Option Spot) → offer t ≡ o → option_map place_of_spot o ≡ Some a → is_allowed t (event a) ≡ true
     allowed t None e f = absurd (cc f)
@@ -192,6 +198,8 @@ pub given_back : (w : ℕ) (old new : PublicView) (a : Place) (g : Gate) → Ans
 given_back w old new a g going out gates holds events =
     record {
       noted = events;
+      budget = holds.others.budget;
+      window = holds.others.window;
       legal = λ read t h. by_spot read t h (taken_at w a t) refl (out read t h) (λ s l k. l);
       stands = λ read t h. by_spot read t h (taken_at w a t) refl (out read t h) (λ s l k. k l);
     }
@@ -210,7 +218,7 @@ given_back w old new a g going out gates holds events =
 pub stops : (w : ℕ) (old new : PublicView) → Answers old is_going true → new.nodes ≡ old.nodes → KeepsOthers old new → new.log.stopped ≡ true
     → new.log.events ≡ old.log.events ++ Stop w ∷ [] → Notes old new (Stop w)
 unfolding after_event
-stops w old new going nodes others stopped events = record { noted = events; legal = λ read t h. legal read t h; stands = λ read t h. stands read t h }
+stops w old new going nodes others stopped events = record { noted = events; budget = others.budget; window = others.window; legal = λ read t h. legal read t h; stands = λ read t h. stands read t h }
   where
     legal : (read : Reading) (t : TreeState) → IsPublicOf old read t → is_legal t (Stop w) ≡ true
     legal read t h = legal_while_going t (Stop w) (sym (going read t h)) refl
@@ -234,7 +242,7 @@ pub given_up : (w : ℕ) (old new : PublicView) (a : Place) → Answers old is_g
     → new.log.stopped ≡ old.log.stopped → new.log.events ≡ old.log.events ++ Lost w a ∷ [] → Notes old new (Lost w a)
 unfolding after_event
 given_up w old new a going there nodes lost halted budget window stopped events =
-    record { noted = events; legal = λ read t h. legal read t h; stands = λ read t h. stands read t h }
+    record { noted = events; budget = budget; window = window; legal = λ read t h. legal read t h; stands = λ read t h. stands read t h }
   where
     legal : (read : Reading) (t : TreeState) → IsPublicOf old read t → is_legal t (Lost w a) ≡ true
     legal read t h = legal_while_going t (Lost w a) (sym (going read t h)) (ap (list_any (is_task w a)) (sym h.lost) ∙ there)

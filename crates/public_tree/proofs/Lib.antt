@@ -2,3 +2,4 @@ pub mod HandOutLemmas
 pub mod FoundLemmas
 pub mod LostLemmas
 pub mod CountLemmas
+pub mod FollowingLemmas

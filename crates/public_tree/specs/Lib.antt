@@ -1,3 +1,4 @@
 pub mod EventLogs
 pub mod PublicTrees
 pub mod LostTasks
+pub mod Following

@@ -50,12 +50,16 @@ Answers p of result = (read : Reading) (t : TreeState) → IsPublicOf p read t �
 -- an event that may happen has happened, and was noted
 pub record Notes (old new : PublicView) (e : Event) : Type 0 where
   pub noted : new.log.events ≡ old.log.events ++ e ∷ []
+  pub budget : new.budget ≡ old.budget
+  pub window : new.window ≡ old.window
   pub legal : (read : Reading) (t : TreeState) → IsPublicOf old read t → is_legal t e ≡ true
   pub stands : (read : Reading) (t : TreeState) → IsPublicOf old read t → IsPublicOf new read (after_event t e)
 
 -- nothing has happened
 pub record IsSameTree (old new : PublicView) : Type 0 where
   pub noted : new.log.events ≡ old.log.events
+  pub budget : new.budget ≡ old.budget
+  pub window : new.window ≡ old.window
   pub stands : (read : Reading) (t : TreeState) → IsPublicOf old read t → IsPublicOf new read t
 
 -- what is offered while the tree has neither ended nor been stopped

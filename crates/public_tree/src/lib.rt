@@ -8,6 +8,7 @@
 
 mod event_log;
 mod hand_out;
+pub mod laws;
 mod lost;
 mod public;
 
