@@ -1,5 +1,5 @@
 -- The public part of a tree: its nodes, who has what, and the events so far.
-use Rattle.std.specs.Prelude.{◌≡◌, ◌⊎◌, ℕ, Bool, true, false, not, ◌&&◌, is_none, is_some, cond, List, [], ◌∷◌, ◌++◌, length, Option, Some, None}
+use Rattle.std.specs.Prelude.{◌≡◌, ◌⊎◌, ℕ, Bool, true, false, not, ◌&&◌, is_none, is_some, cond, List, [], ◌∷◌, ◌++◌, ◌+◌, length, Option, Some, None}
 use Rattle.std.specs.Option.{option_map}
 use Rattle.run_model.specs.Machine.Entries.{Entry}
 use Rattle.tree_model.specs.Credits.{no_credit}
@@ -134,3 +134,8 @@ is_taken_at w (Some c) = is_taken_cell w c.1
 abbrev pub GivesUp : PublicView → PublicView → ℕ → Place → Type 0
 GivesUp old new w a = Notes old new (Lost w a)
     ⊎ (IsSameTree old new × ((read : Reading) (t : TreeState) → IsPublicOf old read t → is_going t ≡ false))
+
+-- one task more is promised to come back, where one went out
+abbrev pub promised_out : Option Place → ℕ → ℕ
+promised_out None n = n
+promised_out (Some a) n = n + 1

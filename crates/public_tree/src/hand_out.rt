@@ -1,5 +1,5 @@
 //! What is handed out to workers.
-ghost use Rattle.std.specs.Prelude.{◌≡◌, ◌<◌, None, Some, true, false, length, is_some, IsSome, IfOk, OnErr};
+ghost use Rattle.std.specs.Prelude.{◌≡◌, ◌+◌, ◌<◌, ◌≤◌, None, Some, true, false, length, is_some, IsSome, IfOk, OnErr};
 ghost use Rattle.std.specs.Bool.{OnTrue};
 ghost use Rattle.std.specs.List.{list_any};
 ghost use Rattle.std.specs.Option.{option_map};
@@ -12,7 +12,7 @@ ghost use Rattle.tree_model.specs.Legality.{is_task, taken_at, claimable, resuma
 ghost use Rattle.tree_nodes.specs.Puts.{IsPlaceIn};
 ghost use Rattle.tree_nodes.specs.Rows.{cell_at, cell_view, gate_view};
 ghost use Rattle.tree_nodes.specs.RowViews.{parent_view};
-ghost use Rattle.public_tree.specs.PublicTrees.{Answers, IsSameTree, HandsOut, is_going, IsHeldAt, Offers, IsLeftmostAt, IsOut, IsItsGate, Suspends, GivesUp, is_frozen_gate, is_taken_at, is_taken_cell};
+ghost use Rattle.public_tree.specs.PublicTrees.{promised_out, Answers, IsSameTree, HandsOut, is_going, IsHeldAt, Offers, IsLeftmostAt, IsOut, IsItsGate, Suspends, GivesUp, is_frozen_gate, is_taken_at, is_taken_cell};
 
 use crate::lost::{index_of, take_out};
 use crate::public::PublicTree;
@@ -27,7 +27,9 @@ impl PublicTree {
     /// is ready, or where too many nodes are live and something that isn't ready is further left.
     pub fn claim(&mut self, worker: u32) -> Result<Option<AltRef>, NoMemory>
         ensures out { IfOk result (λ at. HandsOut (Claim worker) claimable self.old self.new (parent_view at)) }
+        ensures promised { IfOk result (λ at. self.new.log.promised ≡ promised_out (parent_view at) self.old.log.promised) }
         ensures err { OnErr result (IsSameTree self.old self.new) }
+        ensures kept { OnErr result (self.new.log.promised ≡ self.old.log.promised) }
     {
         if !self.is_going() {
             return Ok(None);
@@ -45,7 +47,9 @@ impl PublicTree {
     /// the tree has ended or was stopped.
     pub fn resume(&mut self, worker: u32) -> Result<Option<AltRef>, NoMemory>
         ensures out { IfOk result (λ at. HandsOut (Resume worker) resumable self.old self.new (parent_view at)) }
+        ensures promised { IfOk result (λ at. self.new.log.promised ≡ promised_out (parent_view at) self.old.log.promised) }
         ensures err { OnErr result (IsSameTree self.old self.new) }
+        ensures kept { OnErr result (self.new.log.promised ≡ self.old.log.promised) }
     {
         if !self.is_going() {
             return Ok(None);
@@ -66,7 +70,8 @@ impl PublicTree {
         requires out { IsOut self.old worker (place_view at) }
         requires gate { IsItsGate self.old worker (place_view at) (gate_view gate) }
         requires promised { 0 < self.old.log.promised }
-        ensures { Suspends self.old self.new worker (place_view at) (gate_view gate) }
+        ensures suspends { Suspends self.old self.new worker (place_view at) (gate_view gate) }
+        ensures promised { self.old.log.promised ≤ self.new.log.promised + 1 }
     {
         if !self.is_going() {
             return;
@@ -96,7 +101,8 @@ impl PublicTree {
     pub fn give_up(&mut self, worker: u32, at: AltRef)
         requires lost { list_any (is_task worker (place_view at)) self.old.lost ≡ true }
         requires promised { 0 < self.old.log.promised }
-        ensures { GivesUp self.old self.new worker (place_view at) }
+        ensures gives_up { GivesUp self.old self.new worker (place_view at) }
+        ensures promised { self.old.log.promised ≤ self.new.log.promised + 1 }
     {
         if !self.is_going() {
             return;

@@ -58,6 +58,7 @@ impl PublicTree {
         ensures window { IfOk result (λ p. p.window ≡ window) }
         ensures events { IfOk result (λ p. p.log.events ≡ []) }
         ensures stopped { IfOk result (λ p. p.log.stopped ≡ false) }
+        ensures promised { IfOk result (λ p. p.log.promised ≡ 0) }
     {
         Ok(PublicTree {
             nodes,
@@ -93,7 +94,8 @@ impl PublicTree {
 
     /// Stops the tree: no event follows. A tree that has ended or was stopped stays as it is.
     pub fn stop(&mut self, worker: u32)
-        ensures { Stops self.old self.new worker }
+        ensures stops { Stops self.old self.new worker }
+        ensures promised { self.new.log.promised ≡ self.old.log.promised }
     {
         if self.is_going() {
             self.log.stop(worker);

@@ -6,8 +6,8 @@ use Rattle.public_tree.specs.PublicTrees.{PublicView, Answers, is_going}
 use Rattle.public_tree.proofs.HandOutLemmas.{given_up}
 use Rattle.public_tree.proofs.public.PublicTree.give_up.Goals as goal
 
-pub returns : goal.returns
-returns c =
+pub returns-clause-gives_up : goal.returns-clause-gives_up
+returns-clause-gives_up c =
     let old = c.args.self.now in
     let a = place_view c.args.at in
     let w = c.args.worker in
