@@ -3,3 +3,4 @@ pub mod FoundLemmas
 pub mod LostLemmas
 pub mod CountLemmas
 pub mod FollowingLemmas
+pub mod OpeningLemmas

@@ -2,3 +2,4 @@ pub mod EventLogs
 pub mod PublicTrees
 pub mod LostTasks
 pub mod Following
+pub mod Opening

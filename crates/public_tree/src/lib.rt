@@ -10,6 +10,7 @@ mod event_log;
 mod hand_out;
 pub mod laws;
 mod lost;
+mod open;
 mod public;
 
 pub use public::PublicTree;
