@@ -62,10 +62,11 @@ pub record IsSameTree (old new : PublicView) : Type 0 where
   pub window : new.window ≡ old.window
   pub stands : (read : Reading) (t : TreeState) → IsPublicOf old read t → IsPublicOf new read t
 
--- what is offered while the tree has neither ended nor been stopped
+-- whether the tree has neither ended nor been stopped
 abbrev pub is_going : TreeState → Bool
 is_going t = not t.stopped && is_none (ended t)
 
+-- what is offered as long as it goes on
 abbrev pub offered : TreeState → Option Spot → Option Spot
 offered t o = cond (is_going t) o None
 

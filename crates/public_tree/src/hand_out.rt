@@ -12,7 +12,8 @@ ghost use Rattle.tree_model.specs.Legality.{is_task, taken_at, claimable, resuma
 ghost use Rattle.tree_nodes.specs.Puts.{IsPlaceIn};
 ghost use Rattle.tree_nodes.specs.Rows.{cell_at, cell_view, gate_view};
 ghost use Rattle.tree_nodes.specs.RowViews.{parent_view};
-ghost use Rattle.public_tree.specs.PublicTrees.{promised_out, Answers, IsSameTree, HandsOut, is_going, IsHeldAt, Offers, IsLeftmostAt, IsOut, IsItsGate, Suspends, GivesUp, is_frozen_gate, is_taken_at, is_taken_cell};
+ghost use Rattle.public_tree.specs.PublicTrees.{promised_out, Answers, IsSameTree, HandsOut, is_going, IsHeldAt, Offers, IsLeftmostAt};
+ghost use Rattle.public_tree.specs.PublicTrees.{IsOut, IsItsGate, Suspends, GivesUp, is_frozen_gate, is_taken_at, is_taken_cell};
 
 use crate::lost::{index_of, take_out};
 use crate::public::PublicTree;
