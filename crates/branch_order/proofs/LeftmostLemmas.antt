@@ -32,7 +32,7 @@ some_back [] back h = h
 some_back (s ∷ front) back h = record { spot = s; others = front ++ back; are = refl }
 
 mutual
-  some_in : (up : List Level) (a : Step) (way : Way) (node : Node) → IsSoundNode (a ∷ way) node → IsSomeSpot (pending_in up node)
+  pub some_in : (up : List Level) (a : Step) (way : Way) (node : Node) → IsSoundNode (a ∷ way) node → IsSomeSpot (pending_in up node)
   some_in up a way (Numbered n kind others) h = some_among up (a ∷ way) n kind 0 [] others h.2 h.3
 
   some_among : (up : List Level) (way : Way) (n : ℕ) (kind : Kind) (i : ℕ) (left : List (ℕ × Status)) (others : Alternatives)

@@ -4,7 +4,7 @@ ghost use Rattle.tree_model.specs.EventViews.{place_view};
 ghost use Rattle.tree_nodes.specs.Rows.{cell_at, alternatives_at, row_of_node};
 ghost use Rattle.branch_order.specs.Clocks.{CountsBranch, HasClock};
 ghost use Rattle.tree_nodes.specs.Fronts.{counts_beside};
-ghost use Rattle.tree_nodes.specs.Siblings.{counts_in};
+ghost use Rattle.tree_nodes.specs.Siblings.{counts_in, counts_from};
 
 use crate::left::{at_front, passed_left};
 use tree_model::AltRef;
@@ -60,6 +60,22 @@ fn counts_left(nodes: &Nodes, at: AltRef) -> (u64, u64)
             alternative,
         };
         let (given, taken) = counts_at(nodes, left);
+        answers = answers.saturating_add(given);
+        inferences = inferences.saturating_add(taken);
+    }
+    (answers, inferences)
+}
+
+/// The answers and inferences of what has closed at a node.
+pub fn counts_of(nodes: &Nodes, node: u64) -> (u64, u64)
+    ensures { result ≡ counts_from (0, 0) (alternatives_at (row_of_node nodes.now.rows node)) }
+{
+    let width = nodes.width(node);
+    let passed = nodes.passed(node);
+    let mut answers = passed.answers;
+    let mut inferences = passed.inferences;
+    for alternative in passed.many as u32..width {
+        let (given, taken) = counts_at(nodes, AltRef { node, alternative });
         answers = answers.saturating_add(given);
         inferences = inferences.saturating_add(taken);
     }

@@ -15,7 +15,7 @@ pub mod order;
 pub mod sides;
 pub mod sought;
 
-pub use clocks::{clock, counts};
+pub use clocks::{clock, counts, counts_of};
 pub use left::{cleared, first_open};
 pub use order::leftmost;
 pub use sides::before;

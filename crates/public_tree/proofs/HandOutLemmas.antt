@@ -1,15 +1,16 @@
 -- What is handed out, in the tree for which the nodes stand.
 use Rattle.std.proofs.Common.{◌≡◌, ℕ, ◌<◌, ◌≤◌, Bool, true, false, cond, List, [], ◌∷◌, ◌++◌, length, Option, Some, None, refl, sym, ap, ◌∙◌, subst, arith}
+use Rattle.std.specs.List.{list_any}
 use Rattle.std.specs.Option.{option_map}
 use Rattle.std.specs.Prelude.{nat_le, ◌&&◌, not, is_none, is_some}
 use Rattle.run_model.specs.declared.ending.RunEnding.TheVariants.{Budget}
 use Rattle.run_model.specs.Machine.Entries.{Entry}
 use Rattle.au_term.proofs.LogicLemmas.{both}
-use Rattle.tree_model.specs.Events.{Event, Suspend, Stop}
-use Rattle.tree_model.specs.Effects.{gate_or_frozen, with_status, where_some, after_allowed, after_event}
-use Rattle.tree_model.specs.Legality.{is_spot_at, is_taken_by, taken_at, at_spot, gate_of, is_frozen, is_allowed, is_legal}
-use Rattle.tree_model.specs.Nodes.{Gate, CutGate, BallGate, WorldGate, FrozenGate, Hold, TakenBy, Waiting, Status, Pending}
-use Rattle.tree_model.specs.Levels.{plug, Place, same_place, Spot, levels_of, place_of_spot, pending_of}
+use Rattle.tree_model.specs.Events.{Event, Lost, Suspend, Stop}
+use Rattle.tree_model.specs.Effects.{without_task, gate_or_frozen, with_status, where_some, after_allowed, after_event}
+use Rattle.tree_model.specs.Legality.{is_task, is_spot_at, is_taken_by, taken_at, at_spot, gate_of, is_frozen, is_allowed, is_legal}
+use Rattle.tree_model.specs.Nodes.{Gate, CutGate, BallGate, WorldGate, FrozenGate, Hold, TakenBy, Waiting, Status, Pending, Inner}
+use Rattle.tree_model.specs.Levels.{Level, level_node, plug, Place, same_place, Spot, levels_of, place_of_spot, pending_of}
 use Rattle.tree_model.specs.Orders.{first_open, clock_of}
 use Rattle.tree_model.specs.SoundTrees.{IsSound}
 use Rattle.tree_model.specs.TreeStates.{TreeState, first_spot, end_by, ended, leftmost}
@@ -27,7 +28,7 @@ use Rattle.branch_order.specs.Clocks.{HasClock}
 use Rattle.interleaving.proofs.FrontLemmas.{leftmost_front}
 use Rattle.interleaving.proofs.PluggedLemmas.{IsIn, all_in}
 use Rattle.au_model.specs.Terms.Each.{Each}
-use Rattle.public_tree.specs.PublicTrees.{PublicView, IsPublicOf, Answers, Offers, IsHeldAt, Notes, is_going, IsOut, is_frozen_gate, IsGateAt, IsItsGate}
+use Rattle.public_tree.specs.PublicTrees.{PublicView, IsRooted, IsPublicOf, Answers, Offers, IsHeldAt, Notes, is_going, IsOut, is_frozen_gate, IsGateAt, IsItsGate}
 
 -- the leftmost entry of a sound tree: all to its left has closed
 pub record IsFirstSpot (root : Status) (a : Place) : Type 0 where
@@ -109,6 +110,11 @@ pub record HoldsBy (old new : PublicView) (a : Place) (hold : Hold) : Type 0 whe
   pub others : KeepsOthers old new
   pub stopped : new.log.stopped ≡ old.log.stopped
 
+-- a place is in a node
+rooted_round : (v : Level) (up : List Level) (status : Status) → IsRooted (plug (v ∷ up) status)
+rooted_round v [] status = tt
+rooted_round v (u ∷ up) status = rooted_round u up (Inner (level_node v status))
+
 stands_held : (old new : PublicView) (a : Place) (hold : Hold) (e : Event) (read : Reading) (t : TreeState) (s : Spot) → HoldsBy old new a hold
     → IsPublicOf old read t → IsOpenSpot t.root s → place_of_spot s ≡ a → after_allowed t e ≡ with_status s (Pending hold s.entry) t
     → is_legal t e ≡ true → IsPublicOf new read (after_event t e)
@@ -126,6 +132,7 @@ stands_held old new a hold e read t s k h spot at is legal =
       window = k.others.window ∙ (h.window ∙ ap (λ (x : TreeState). x.window) (sym is));
       stopped = k.stopped ∙ (h.stopped ∙ ap (λ (x : TreeState). x.stopped) (sym is));
       sound = event_sound t e h.sound legal;
+      rooted = subst (λ (x : TreeState). IsRooted x.root) (sym is) (rooted_round s.level s.above (Pending hold s.entry));
     }
 
 -- what is offered is handed out
@@ -135,7 +142,13 @@ pub handed : (event : Place → Event) (offer : TreeState → Option Spot) (w : 
     → ((t : TreeState) (s : Spot) → offer t ≡ Some s → IsOpenSpot t.root s) → Answers old is_going true → Offers offer old (Some a)
     → HoldsBy old new a (TakenBy w) → new.log.events ≡ old.log.events ++ event a ∷ [] → Notes old new (event a)
 handed event offer w old new a allows after opens going offers holds events =
-    record { noted = events; legal = λ read t h. legal read t h; stands = λ read t h. by_spot read t h (offer t) refl (offers read t h) }
+    record {
+      noted = events;
+      budget = holds.others.budget;
+      window = holds.others.window;
+      legal = λ read t h. legal read t h;
+      stands = λ read t h. by_spot read t h (offer t) refl (offers read t h);
+    }
   where
     allowed : (t : TreeState) (o : Option Spot) → offer t ≡ o → option_map place_of_spot o ≡ Some a → is_allowed t (event a) ≡ true
     allowed t None e f = absurd (cc f)
@@ -185,6 +198,8 @@ pub given_back : (w : ℕ) (old new : PublicView) (a : Place) (g : Gate) → Ans
 given_back w old new a g going out gates holds events =
     record {
       noted = events;
+      budget = holds.others.budget;
+      window = holds.others.window;
       legal = λ read t h. by_spot read t h (taken_at w a t) refl (out read t h) (λ s l k. l);
       stands = λ read t h. by_spot read t h (taken_at w a t) refl (out read t h) (λ s l k. k l);
     }
@@ -203,7 +218,7 @@ given_back w old new a g going out gates holds events =
 pub stops : (w : ℕ) (old new : PublicView) → Answers old is_going true → new.nodes ≡ old.nodes → KeepsOthers old new → new.log.stopped ≡ true
     → new.log.events ≡ old.log.events ++ Stop w ∷ [] → Notes old new (Stop w)
 unfolding after_event
-stops w old new going nodes others stopped events = record { noted = events; legal = λ read t h. legal read t h; stands = λ read t h. stands read t h }
+stops w old new going nodes others stopped events = record { noted = events; budget = others.budget; window = others.window; legal = λ read t h. legal read t h; stands = λ read t h. stands read t h }
   where
     legal : (read : Reading) (t : TreeState) → IsPublicOf old read t → is_legal t (Stop w) ≡ true
     legal read t h = legal_while_going t (Stop w) (sym (going read t h)) refl
@@ -218,4 +233,29 @@ stops w old new going nodes others stopped events = record { noted = events; leg
       window = others.window ∙ h.window;
       stopped = stopped;
       sound = event_sound t (Stop w) h.sound (legal read t h);
+      rooted = h.rooted;
+    }
+
+-- a task that was pruned is given back
+pub given_up : (w : ℕ) (old new : PublicView) (a : Place) → Answers old is_going true → list_any (is_task w a) old.lost ≡ true → new.nodes ≡ old.nodes
+    → new.lost ≡ without_task w a old.lost → new.halted ≡ old.halted → new.budget ≡ old.budget → new.window ≡ old.window
+    → new.log.stopped ≡ old.log.stopped → new.log.events ≡ old.log.events ++ Lost w a ∷ [] → Notes old new (Lost w a)
+unfolding after_event
+given_up w old new a going there nodes lost halted budget window stopped events =
+    record { noted = events; budget = budget; window = window; legal = λ read t h. legal read t h; stands = λ read t h. stands read t h }
+  where
+    legal : (read : Reading) (t : TreeState) → IsPublicOf old read t → is_legal t (Lost w a) ≡ true
+    legal read t h = legal_while_going t (Lost w a) (sym (going read t h)) (ap (list_any (is_task w a)) (sym h.lost) ∙ there)
+
+    stands : (read : Reading) (t : TreeState) → IsPublicOf old read t → IsPublicOf new read (after_event t (Lost w a))
+    stands read t h = record {
+      placed = subst (λ (x : NodesView). IsTableOf x read t.root) (sym nodes) h.placed;
+      next = ap (λ (x : NodesView). length x.rows) nodes ∙ h.next;
+      lost = lost ∙ ap (without_task w a) h.lost;
+      halted = halted ∙ h.halted;
+      budget = budget ∙ h.budget;
+      window = window ∙ h.window;
+      stopped = stopped ∙ h.stopped;
+      sound = event_sound t (Lost w a) h.sound (legal read t h);
+      rooted = h.rooted;
     }

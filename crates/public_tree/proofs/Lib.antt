@@ -1,1 +1,6 @@
 pub mod HandOutLemmas
+pub mod FoundLemmas
+pub mod LostLemmas
+pub mod CountLemmas
+pub mod FollowingLemmas
+pub mod OpeningLemmas

@@ -1,3 +1,5 @@
 pub mod EventLogs
 pub mod PublicTrees
 pub mod LostTasks
+pub mod Following
+pub mod Opening

@@ -1,16 +1,18 @@
 -- The public part of a tree: its nodes, who has what, and the events so far.
-use Rattle.std.specs.Prelude.{◌≡◌, ◌⊎◌, ℕ, Bool, true, false, not, ◌&&◌, is_none, is_some, cond, List, [], ◌∷◌, ◌++◌, length, Option, Some, None}
+use Rattle.std.specs.Prelude.{◌≡◌, ◌⊎◌, ℕ, Bool, true, false, not, ◌&&◌, is_none, is_some, cond, List, [], ◌∷◌, ◌++◌, ◌+◌, length, Option, Some, None}
 use Rattle.std.specs.Option.{option_map}
 use Rattle.run_model.specs.Machine.Entries.{Entry}
-use Rattle.tree_model.specs.Nodes.{Gate, CutGate, BallGate, WorldGate, FrozenGate, Hold, Status, Pending}
+use Rattle.tree_model.specs.Credits.{no_credit}
+use Rattle.tree_model.specs.Nodes.{Gate, CutGate, BallGate, WorldGate, FrozenGate, Hold, Status, Pending, Inner, Closed}
 use Rattle.tree_model.specs.Levels.{Level, plug, Place, place_at, Spot, place_of_spot, pending_of}
-use Rattle.tree_model.specs.Events.{Event, Suspend, Stop}
+use Rattle.tree_model.specs.Events.{Event, Lost, Suspend, Stop}
 use Rattle.tree_model.specs.Pruning.{Task}
 use Rattle.tree_model.specs.TreeStates.{TreeState, first_spot, ended}
-use Rattle.tree_model.specs.Legality.{is_spot_at, taken_at, gate_of, is_frozen, is_legal}
+use Rattle.tree_model.specs.Legality.{is_spot_at, is_taken_by, taken_at, gate_of, is_frozen, is_legal}
 use Rattle.tree_model.specs.Effects.{after_event}
 use Rattle.tree_model.specs.SoundTrees.{IsSound, IsSoundTree}
 use Rattle.tree_nodes.specs.Bodies.{Reading}
+use Rattle.tree_nodes.specs.Rows.{AlternativeCell, PendingCell, InnerCell, ClosedCell}
 use Rattle.tree_nodes.specs.TreeTables.{NodesView, IsTableOf}
 use Rattle.public_tree.specs.EventLogs.{LogView}
 
@@ -23,6 +25,12 @@ pub record PublicView : Type 0 where
   pub window : ℕ
   pub log : LogView
 
+-- a tree without nodes has counted nothing
+abbrev pub IsRooted : Status → Type 0
+IsRooted (Closed credit) = credit ≡ no_credit
+IsRooted (Pending hold entry) = Unit {0}
+IsRooted (Inner node) = Unit {0}
+
 -- it stands for a sound tree
 pub record IsPublicOf (p : PublicView) (read : Reading) (t : TreeState) : Type 0 where
   pub placed : IsTableOf p.nodes read t.root
@@ -33,6 +41,7 @@ pub record IsPublicOf (p : PublicView) (read : Reading) (t : TreeState) : Type 0
   pub window : p.window ≡ t.window
   pub stopped : p.log.stopped ≡ t.stopped
   pub sound : IsSoundTree t
+  pub rooted : IsRooted t.root
 
 -- of each tree for which it stands, this is the answer
 abbrev pub Answers : {A : Type 0} → PublicView → (TreeState → A) → A → Type 0
@@ -41,18 +50,23 @@ Answers p of result = (read : Reading) (t : TreeState) → IsPublicOf p read t �
 -- an event that may happen has happened, and was noted
 pub record Notes (old new : PublicView) (e : Event) : Type 0 where
   pub noted : new.log.events ≡ old.log.events ++ e ∷ []
+  pub budget : new.budget ≡ old.budget
+  pub window : new.window ≡ old.window
   pub legal : (read : Reading) (t : TreeState) → IsPublicOf old read t → is_legal t e ≡ true
   pub stands : (read : Reading) (t : TreeState) → IsPublicOf old read t → IsPublicOf new read (after_event t e)
 
 -- nothing has happened
 pub record IsSameTree (old new : PublicView) : Type 0 where
   pub noted : new.log.events ≡ old.log.events
+  pub budget : new.budget ≡ old.budget
+  pub window : new.window ≡ old.window
   pub stands : (read : Reading) (t : TreeState) → IsPublicOf old read t → IsPublicOf new read t
 
--- what is offered while the tree has neither ended nor been stopped
+-- whether the tree has neither ended nor been stopped
 abbrev pub is_going : TreeState → Bool
 is_going t = not t.stopped && is_none (ended t)
 
+-- what is offered as long as it goes on
 abbrev pub offered : TreeState → Option Spot → Option Spot
 offered t o = cond (is_going t) o None
 
@@ -106,3 +120,23 @@ IsItsGate p w a g = (read : Reading) (t : TreeState) (s : Spot) → IsPublicOf p
 abbrev pub Suspends : PublicView → PublicView → ℕ → Place → Gate → Type 0
 Suspends old new w a g = Notes old new (Suspend w a (is_frozen_gate g))
     ⊎ (IsSameTree old new × ((read : Reading) (t : TreeState) → IsPublicOf old read t → is_going t ≡ false))
+
+-- whether a worker has what is here
+abbrev pub is_taken_cell : ℕ → AlternativeCell → Bool
+is_taken_cell w (PendingCell hold) = is_taken_by w hold
+is_taken_cell w (InnerCell n) = false
+is_taken_cell w (ClosedCell credit) = false
+
+abbrev pub is_taken_at : ℕ → Option (ℕ × AlternativeCell) → Bool
+is_taken_at w None = false
+is_taken_at w (Some c) = is_taken_cell w c.1
+
+-- a task that was pruned is given back, or the tree had ended or been stopped
+abbrev pub GivesUp : PublicView → PublicView → ℕ → Place → Type 0
+GivesUp old new w a = Notes old new (Lost w a)
+    ⊎ (IsSameTree old new × ((read : Reading) (t : TreeState) → IsPublicOf old read t → is_going t ≡ false))
+
+-- one task more is promised to come back, where one went out
+abbrev pub promised_out : Option Place → ℕ → ℕ
+promised_out None n = n
+promised_out (Some a) n = n + 1

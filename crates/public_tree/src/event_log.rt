@@ -99,6 +99,7 @@ impl EventLog {
         requires { self.old.stopped ≡ false }
         ensures events { self.new.events ≡ self.old.events ++ Stop worker ∷ [] }
         ensures stopped { self.new.stopped ≡ true }
+        ensures promised { self.new.promised ≡ self.old.promised }
     {
         self.stopped = true;
         match self.events.push(Event::Stop { worker }) {

@@ -8,6 +8,9 @@
 
 mod event_log;
 mod hand_out;
+pub mod laws;
+mod lost;
+mod open;
 mod public;
 
 pub use public::PublicTree;

@@ -1,25 +1,20 @@
 //! What all workers see.
-ghost use Rattle.std.specs.Prelude.{◌≡◌, [], None, Some, false, IfOk, OnOk, OnErr};
+ghost use Rattle.std.specs.Prelude.{◌≡◌, ℕ, [], None, Some, false, IfOk, OnOk, OnErr};
 ghost use Rattle.std.specs.Bool.{OnTrue};
 ghost use Rattle.tree_model.specs.TreeStates.{ended, counts};
 ghost use Rattle.tree_model.specs.Events.{Stop};
+ghost use Rattle.tree_nodes.specs.Rows.{row_of_node, alternatives_at};
+ghost use Rattle.tree_nodes.specs.Siblings.{counts_from};
 ghost use Rattle.public_tree.specs.PublicTrees.{Answers, Stops, is_going};
 
 use crate::event_log::EventLog;
+use crate::lost::LostTask;
 use au_term::NoMemory;
-use branch_order::{clock, leftmost};
+use branch_order::{clock, counts, counts_of, leftmost};
 use run_model::RunEnding;
 use std::alloc::Global;
 use std::marker::Model;
-use tree_model::{AltRef, Event};
 use tree_nodes::Nodes;
-
-/// A task that is out and has been pruned.
-#[derive(Clone, Copy)]
-pub(crate) struct LostTask {
-    pub(crate) worker: u32,
-    pub(crate) at: AltRef,
-}
 
 /// The nodes of a tree, the tasks that are out and have been pruned, by what status it was halted, and its events.
 #[derive(Drop)]
@@ -63,6 +58,7 @@ impl PublicTree {
         ensures window { IfOk result (λ p. p.window ≡ window) }
         ensures events { IfOk result (λ p. p.log.events ≡ []) }
         ensures stopped { IfOk result (λ p. p.log.stopped ≡ false) }
+        ensures promised { IfOk result (λ p. p.log.promised ≡ 0) }
     {
         Ok(PublicTree {
             nodes,
@@ -98,7 +94,8 @@ impl PublicTree {
 
     /// Stops the tree: no event follows. A tree that has ended or was stopped stays as it is.
     pub fn stop(&mut self, worker: u32)
-        ensures { Stops self.old self.new worker }
+        ensures stops { Stops self.old self.new worker }
+        ensures promised { self.new.log.promised ≡ self.old.log.promised }
     {
         if self.is_going() {
             self.log.stop(worker);
@@ -120,5 +117,25 @@ impl PublicTree {
         } else {
             None
         }
+    }
+
+    /// The answers and inferences of all to the left of the leftmost entry and on its branch, or of all where none is left.
+    pub fn counts(&self) -> (u64, u64)
+        ensures { Answers self.now counts result }
+    {
+        match leftmost(&self.nodes) {
+            Some(first) => counts(&self.nodes, first),
+            None => closed_counts(&self.nodes),
+        }
+    }
+}
+
+fn closed_counts(nodes: &Nodes) -> (u64, u64)
+    ensures first { (n : ℕ) → nodes.now.first ≡ Some n → result ≡ counts_from (0, 0) (alternatives_at (row_of_node nodes.now.rows n)) }
+    ensures empty { nodes.now.first ≡ None → result ≡ (0, 0) }
+{
+    match nodes.first() {
+        Some(node) => counts_of(nodes, node),
+        None => (0, 0),
     }
 }

@@ -1,5 +1,5 @@
 //! What is handed out of a small tree.
-use crate::trees::{add, close, credit, place};
+use crate::trees::{add, body, close, credit, place};
 use public_tree::PublicTree;
 use run_model::RunEnding;
 use std::process::Abort;
@@ -35,10 +35,17 @@ fn ends(rt: HostRuntime) -> Result<(), Fail> {
         close(&rt, &mut nodes, place(0, 0), credit(alloc, 0, 2))?;
         let mut tree = PublicTree::new(alloc, nodes, budget, 5)?;
         assert_eq!(rt; tree.ended(), end);
+        assert_eq!(rt; tree.counts(), (0, 2));
+        assert!(rt; !tree.is_out(1, place(0, 1)));
         assert_eq!(rt; tree.claim(1)?.is_none(), end.is_some());
+        assert_eq!(rt; tree.is_out(1, place(0, 1)), end.is_none());
+        assert!(rt; !tree.is_lost(1, place(0, 1)));
     }
-    let nodes = Nodes::new(alloc);
-    let tree = PublicTree::new(alloc, nodes, 1, 5)?;
-    assert_eq!(rt; tree.ended(), Some(RunEnding::Finished));
+    let empty = PublicTree::open(alloc, None, 1, 5)?;
+    assert_eq!(rt; empty.ended(), Some(RunEnding::Finished));
+    let first = body(alloc, 2)?;
+    assert!(rt; first.is_whole());
+    let tree = PublicTree::open(alloc, Some(first), 1, 5)?;
+    assert_eq!(rt; tree.counts(), (0, 0));
     Ok(())
 }

@@ -16,7 +16,7 @@ fn segment(alloc: Global) -> Segment {
     }
 }
 
-fn body(alloc: Global, branches: usize) -> Result<Arc<NodeBody>, NoMemory> {
+pub(crate) fn body(alloc: Global, branches: usize) -> Result<Arc<NodeBody>, NoMemory> {
     let mut all = Vec::new(alloc);
     for _i in 0..branches {
         all.push(Branch {

@@ -10,8 +10,8 @@ stop-requires c =
     let room = subst (λ (b : Bool). OnTrue b (c.args.self.now.log.stopped ≡ false)) c.if-is_going.true c.is_going.ensures.room in
     ap (λ (p : PublicView). p.log.stopped) c.self.view_is ∙ room
 
-pub returns-then-is_going : goal.returns-then-is_going
-returns-then-is_going c =
+pub returns-then-is_going-clause-stops : goal.returns-then-is_going-clause-stops
+returns-then-is_going-clause-stops c =
     let old = c.args.self.now in
     let w = c.args.worker in
     let was = c.self.view_is in

@@ -7,8 +7,8 @@ use Rattle.public_tree.specs.PublicTrees.{PublicView, Answers, IsHeldAt, is_goin
 use Rattle.public_tree.proofs.HandOutLemmas.{KeepsOthers, held_at, given_back}
 use Rattle.public_tree.proofs.public.PublicTree.suspend.Goals as goal
 
-pub returns : goal.returns
-returns c =
+pub returns-clause-suspends : goal.returns-clause-suspends
+returns-clause-suspends c =
     let old = c.args.self.now in
     let a = place_view c.args.at in
     let w = c.args.worker in
