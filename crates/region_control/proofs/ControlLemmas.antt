@@ -103,10 +103,11 @@ at_end P (x ∷ xs) c (suc i) e p = at_end P xs c i (omega (arith, e)) p
 
 pub newest_is : (K : Alternatives → Type 0) (r r1 : RegionView) (alternatives : Alternatives) (other : Position) (inner : ℕ) → inner ≡ length r1.choices → AddsChoice r r1 alternatives other → K alternatives → (0 < inner) × IsSomeAnd (slice_get r1.choices (inner - 1)) (λ c. K c.alternatives)
 newest_is K r r1 alternatives other inner e a k =
-    let many = added_many r r1 alternatives other a in
-    (omega (arith, e, many),
-    subst (λ cs. IsSomeAnd (slice_get cs (inner - 1)) (λ c. K c.alternatives)) (sym (ap (λ (x : RegionView). x.choices) a.others))
-    (at_end (λ c. K c.alternatives) r.choices a.choice (inner - 1) (omega (arith, e, many)) (subst K (sym a.is.0) k)))
+    let many = added_many r r1 alternatives other a in (
+      omega (arith, e, many),
+      subst (λ cs. IsSomeAnd (slice_get cs (inner - 1)) (λ c. K c.alternatives)) (sym (ap (λ (x : RegionView). x.choices) a.others))
+          (at_end (λ c. K c.alternatives) r.choices a.choice (inner - 1) (omega (arith, e, many)) (subst K (sym a.is.0) k)),
+    )
 
 -- goals elsewhere, a choice point for them, and then others
 module _ (r0 r r1 last : RegionView) (is js : List ℕ → List (Item ℕ)) (more : ℕ) (g : GoalPlace) (other p : Position) (i : IsGoalPlace r0 g) (x : PutsBefore r0 r is g.cut g.after other) (a : AddsChoice r r1 Elsewhere other) (y : PutsBefore r1 last js more g.after p) where

@@ -4,9 +4,11 @@
 //! Goals are put in as many steps as the conjunctions have goals; the rest takes constant time.
 #![tactic(auto)]
 
+mod balls;
 mod control;
 mod goals;
 mod sides;
 
+pub use balls::throw;
 pub use control::{GoalPlace, call, catch, cut, disjunction, findall, if_then, not, once};
 pub use goals::{Goals, push_goals};

@@ -146,6 +146,8 @@ module _ (r : RegionView) (k : IsConsistentRegion r) (n : ℕ) (le : n ≤ lengt
     text = refl;
     store = refl;
     frames = refl;
+    choices = refl;
+    heights = λ named j lt. sym (heights_kept (standing named cut_down) (standing named r) n j (below named) (over named) lt);
     count = fewer;
   }
 
@@ -185,10 +187,18 @@ module _ (r : RegionView) (k : IsConsistentRegion r) (cs : List ChoicePoint) (c 
       let s = region_setting named r in
       ap (λ (st : Standing). st.entries) (ap₂ (λ xs ys. standing_over s nothing_standing xs ys) choices marks ∙ standing-append s nothing_standing cs (c ∷ []) ms (m ∷ []) pairs)
 
+  lowered_heights : (named : List NamedTerm) (n : ℕ) → n ≤ length cs → height_of_cut (heights_of named lowered) n ≡ height_of_cut (heights_of named r) n
+  lowered_heights named n le =
+      let s = region_setting named r in
+      let under = standing_over s nothing_standing cs ms in
+      let on_top : standing_over s under (c ∷ []) (m ∷ []) ≡ standing named r = sym (ap₂ (λ xs ys. standing_over s nothing_standing xs ys) choices marks ∙ standing-append s nothing_standing cs (c ∷ []) ms (m ∷ []) pairs) in
+      sym (heights_kept under (standing named r) (length cs) n (measured s nothing_standing cs ms 0 (length cs) pairs (omega arith) nothing_measured) (subst (IsOver under) on_top (is_over s under (c ∷ []) (m ∷ []))) le)
+
   pub takes_newest : now ≡ m → TakesNewest r lowered c
   takes_newest e = record {
     entries = λ named. lowered_entries named ∙ ap (λ x. entries_on named lowered c x ++ entries_of named lowered) (sym e);
     position = record { frame = let o = newest.own in let e = last_kept in let f = k.frames in omega (arith, o, e, f); scoped = subst (λ (x : Moment). AreScoped (text_at r.store x) x.next (length cs) (left_here r c.after)) (sym e) newest.scoped; marked = both_marked.1 };
+    heights = lowered_heights;
     alternatives = subst (λ x. AreAlternativesAt (region_setting [] r) x c.alternatives) (sym e) newest.values;
     choices = choices;
     marked = marks ∙ ap (λ x. ms ++ x ∷ []) (sym e);

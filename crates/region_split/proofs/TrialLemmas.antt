@@ -73,7 +73,7 @@ goals_marked choices base cut (g ∷ goals) left m = (tt, goals_marked choices b
 
 -- bindings that come on top of others
 module _ (s further now : Substitution) (bound : IsComposition s further now) where
-  resolved_twice : (t : Term) → resolve now t ≡ resolve further (resolve s t)
+  pub resolved_twice : (t : Term) → resolve now t ≡ resolve further (resolve s t)
   resolved_twice t = apply-same (value_of now) (λ n. resolve further (value_of s n)) bound t ∙ sym (apply-apply (value_of further) (value_of s) t)
 
   item_twice : (i : Item ℕ) → resolve_item now i ≡ resolve_item further (resolve_item s i)
@@ -82,11 +82,11 @@ module _ (s further now : Substitution) (bound : IsComposition s further now) wh
   item_twice (CollectMark t h) = ap (λ u. CollectMark u h) (resolved_twice t)
   item_twice (RemovalItem number) = refl
 
-  items_twice : (is : List (Item ℕ)) → map (resolve_item now) is ≡ map (resolve_item further) (map (resolve_item s) is)
+  pub items_twice : (is : List (Item ℕ)) → map (resolve_item now) is ≡ map (resolve_item further) (map (resolve_item s) is)
   items_twice [] = refl
   items_twice (i ∷ is) = ap₂ (λ j js. j ∷ js) (item_twice i) (items_twice is)
 
-  named_twice : (vs : List NamedTerm) → map (resolve_named now) vs ≡ map (resolve_named further) (map (resolve_named s) vs)
+  pub named_twice : (vs : List NamedTerm) → map (resolve_named now) vs ≡ map (resolve_named further) (map (resolve_named s) vs)
   named_twice [] = refl
   named_twice (v ∷ vs) = ap₂ (λ (t : Term) ws. (let w : NamedTerm = record v { term = t } in w) ∷ ws) (resolved_twice v.term) (named_twice vs)
 

@@ -1,5 +1,5 @@
 -- What each operation on the frames and choice points of a region leaves of the entries that it stands for.
-use Rattle.std.specs.Prelude.{◌≡◌, ℕ, ◌≤◌, ◌<◌, List, [], ◌∷◌, ◌++◌, length, ◌-◌, Some, slice_get}
+use Rattle.std.specs.Prelude.{◌≡◌, ℕ, ◌≤◌, ◌<◌, List, [], ◌∷◌, ◌++◌, length, take, ◌-◌, Some, slice_get}
 use Rattle.au_model.specs.Terms.Named.{NamedTerm}
 use Rattle.au_term.specs.Term.{Term}
 use Rattle.run_model.specs.Programs.Clauses.{Clause}
@@ -67,6 +67,8 @@ pub record CutsTo (old new : RegionView) (kept : ℕ) : Type 0 where
   pub text : new.text ≡ old.text
   pub store : new.store ≡ with_marks kept old.store
   pub frames : new.frames ≡ old.frames
+  pub choices : new.choices ≡ take kept old.choices
+  pub heights : (named : List NamedTerm) (n : ℕ) → n ≤ kept → height_of_cut (heights_of named new) n ≡ height_of_cut (heights_of named old) n
   pub count : length new.choices ≡ kept
 
 -- the newest choice point was taken off, and all that was bound and made since was undone: its entries were the first, and
@@ -75,6 +77,7 @@ pub record TakesNewest (old new : RegionView) (c : ChoicePoint) : Type 0 where
   pub entries : (named : List NamedTerm) → entries_of named old ≡ entries_on named new c new.store.now ++ entries_of named new
   pub position : IsPositionIn new c.after
   pub alternatives : AreAlternativesIn new c.alternatives
+  pub heights : (named : List NamedTerm) (n : ℕ) → n ≤ length new.choices → height_of_cut (heights_of named new) n ≡ height_of_cut (heights_of named old) n
   pub choices : old.choices ≡ new.choices ++ c ∷ []
   pub marked : old.store.marks ≡ new.store.marks ++ new.store.now ∷ []
   pub store : new.store ≡ record old.store { now = new.store.now; marks = new.store.marks }
