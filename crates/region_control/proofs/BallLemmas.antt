@@ -1,23 +1,21 @@
 -- Balls that go down from catch to catch.
-use Rattle.std.proofs.Common.{◌≡◌, ℕ, zero, suc, ◌+◌, ◌-◌, ◌<◌, ◌≤◌, Bool, true, false, cond, nat_eq, List, [], ◌∷◌, ◌++◌, append_assoc, length, length-append, map, take, drop, slice_get, IsSomeAnd, Option, Some, None, refl, sym, ap, ap₂, ◌∙◌, subst, arith}
+use Rattle.std.proofs.Common.{◌≡◌, ℕ, zero, suc, ◌+◌, ◌-◌, ◌<◌, ◌≤◌, Bool, true, false, cond, nat_eq, List, [], ◌∷◌, ◌++◌, length, length-append, map, take, slice_get, IsSomeAnd, Option, Some, None, refl, sym, ap, ap₂, ◌∙◌, subst, arith}
 use Rattle.std.proofs.lemmas.Bool.Decides.{nat_tests}
 use Rattle.std.proofs.lemmas.List.{take-append-drop}
-use Rattle.au_term.specs.Term.{Term, VarTerm}
-use Rattle.au_model.specs.Terms.Copies.{copied, copy_takes, place_of, renamed, seen_in}
+use Rattle.au_term.specs.Term.{Term}
+use Rattle.au_model.specs.Terms.Copies.{copied}
 use Rattle.au_model.specs.Terms.Named.{NamedTerm}
-use Rattle.au_model.specs.Terms.Substitutions.{Substitution, apply, value_of, resolve}
+use Rattle.au_model.specs.Terms.Substitutions.{Substitution}
 use Rattle.au_model.specs.Terms.Unifier.{unifier}
-use Rattle.au_model.proofs.ApplyLemmas.{apply-same, apply-apply}
 use Rattle.run_model.specs.Machine.Balls.{recovered, unwound}
 use Rattle.run_model.specs.Machine.Entries.{Entry, PlainEntry, CatchEntry, FindallEntry, EndEntry}
 use Rattle.run_model.specs.Machine.Items.{Item, Continuation, first_mark, resolve_item}
 use Rattle.cell_store.specs.StoreView.{text_in}
 use Rattle.clause_compile.specs.Places.{CodeView}
-use Rattle.region_split.specs.Frames.{item_in, scoped_item, next_position}
+use Rattle.region_split.specs.Frames.{scoped_item, next_position}
 use Rattle.region_split.specs.ChoicePoints.{height_of_cut, by_height, IsCatching, IsCatchAt, IsMarkOf, alternative_entries}
-use Rattle.region_split.specs.Regions.{RegionView, region_setting, entries_of, heights_of, entries_on, items_here, continuation_here, position_entry, AreAlternativesIn, IsPositionIn, IsFirstAt, GoesOnIn}
-use Rattle.region_split.specs.StackOperations.{CutsTo, TakesNewest, StaysStanding}
-use Rattle.region_split.specs.declared.choice.Alternatives.{Alternatives}
+use Rattle.region_split.specs.Regions.{RegionView, region_setting, entries_of, heights_of, items_here, continuation_here, AreAlternativesIn, IsPositionIn, IsFirstAt, GoesOnIn}
+use Rattle.region_split.specs.StackOperations.{CutsTo, TakesNewest}
 use Rattle.region_split.specs.declared.choice.Alternatives.TheVariants.{Catch as CatchPoint}
 use Rattle.region_split.specs.declared.choice.ChoicePoint.{ChoicePoint}
 use Rattle.region_split.specs.declared.frame.FrameItem.{FrameItem}
@@ -25,7 +23,7 @@ use Rattle.region_split.specs.declared.frame.FrameItem.TheVariants.{Goal, Call, 
 use Rattle.region_split.specs.declared.frame.Position.{Position}
 use Rattle.region_split.proofs.MarkLemmas.{cut_kinds}
 use Rattle.region_split.proofs.ItemLemmas.{position_more}
-use Rattle.region_control.specs.Balls.{is_end, mark_height, IsCatchOf, HasFirstCatch, TakesCatch}
+use Rattle.region_control.specs.Balls.{is_end, HasFirstCatch, TakesCatch}
 use Rattle.region_control.specs.declared.balls.Catch.{Catch}
 
 -- entries above the one whose mark is looked for

@@ -1,18 +1,17 @@
 -- Choice points that are opened below a position.
-use Rattle.std.proofs.Common.{◌≡◌, ℕ, zero, suc, ◌+◌, ◌-◌, ◌<◌, ◌≤◌, List, [], ◌∷◌, ◌++◌, length, length-append, slice_get, IsSomeAnd, refl, sym, ap, ap₂, ◌∙◌, subst, arith}
+use Rattle.std.proofs.Common.{◌≡◌, ℕ, zero, suc, ◌+◌, ◌-◌, ◌<◌, ◌≤◌, List, [], ◌∷◌, ◌++◌, length, length-append, slice_get, IsSomeAnd, sym, ap, ap₂, ◌∙◌, subst, arith}
 use Rattle.std.specs.Prelude.{codes}
 use Rattle.au_term.specs.Term.{Term, AtomTerm}
 use Rattle.au_model.specs.Terms.Named.{NamedTerm}
 use Rattle.run_model.specs.Programs.Bodies.{call_of}
-use Rattle.run_model.specs.Goals.Outcomes.{GoesOnWith, EitherOf, TestOf, CutToScope, CatchOf, FindallOf}
-use Rattle.run_model.specs.Machine.Items.{Item, GoalItem, CatchMark, CollectMark, Continuation, before, goals_at, with_next}
+use Rattle.run_model.specs.Goals.Outcomes.{EitherOf, TestOf, CatchOf, FindallOf}
+use Rattle.run_model.specs.Machine.Items.{Item, GoalItem, CatchMark, CollectMark, before, goals_at, with_next}
 use Rattle.run_model.specs.Machine.Entries.{Entry, PlainEntry, CatchEntry, FindallEntry}
-use Rattle.run_model.specs.Machine.Heights.{test_items}
 use Rattle.binding_array.specs.declared.cell.BindingCell.{BindingCell}
 use Rattle.cell_store.specs.StoreView.{StoreView, IsValueIn, meaning, with_mark}
 use Rattle.region_split.specs.ChoicePoints.{Standing, alternative_entries, continuation_at, height_of_cut}
-use Rattle.region_split.specs.Regions.{RegionView, region_setting, standing, entries_of, heights_of, continuation_here, position_entry, IsPositionIn, IsPositionOver}
-use Rattle.region_split.specs.StackOperations.{AddsChoice, PutsBefore, CutsTo, item_here}
+use Rattle.region_split.specs.Regions.{RegionView, region_setting, entries_of, heights_of, continuation_here, position_entry, IsPositionIn, IsPositionOver}
+use Rattle.region_split.specs.StackOperations.{AddsChoice, PutsBefore, item_here}
 use Rattle.region_split.specs.declared.choice.Alternatives.{Alternatives}
 use Rattle.region_split.specs.declared.choice.Alternatives.TheVariants.{Elsewhere, Catch, Findall}
 use Rattle.region_split.specs.declared.choice.ChoicePoint.{ChoicePoint}

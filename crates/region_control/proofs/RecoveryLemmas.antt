@@ -1,12 +1,11 @@
 -- A catch that takes a copy of a ball.
-use Rattle.std.proofs.Common.{◌≡◌, ℕ, ◌+◌, ◌≤◌, List, [], ◌∷◌, ◌++◌, length, map, Option, Some, None, refl, sym, ap, ap₂, ◌∙◌, subst, arith}
-use Rattle.au_term.specs.Term.{Term, VarTerm, var_bound}
+use Rattle.std.proofs.Common.{◌≡◌, ℕ, ◌+◌, ◌≤◌, List, [], ◌∷◌, length, map, Option, Some, refl, sym, ap, ap₂, ◌∙◌, subst, arith}
+use Rattle.au_term.specs.Term.{Term, VarTerm}
 use Rattle.au_model.specs.Terms.Copies.{copied, copy_takes, place_of, renamed, seen_in}
 use Rattle.au_model.specs.Terms.Named.{NamedTerm}
-use Rattle.au_model.specs.Terms.Substitutions.{Substitution, apply, value_of, resolve}
+use Rattle.au_model.specs.Terms.Substitutions.{Substitution, value_of, resolve}
 use Rattle.au_model.specs.Terms.Unifier.{unifier}
 use Rattle.au_model.proofs.ApplyLemmas.{apply-same, apply-apply}
-use Rattle.au_model.proofs.VariableBoundLemmas.{copied-below}
 use Rattle.run_model.specs.Programs.Bodies.{call_of}
 use Rattle.run_model.specs.Machine.Balls.{recovered}
 use Rattle.run_model.specs.Machine.Entries.{Entry, PlainEntry}
@@ -16,13 +15,13 @@ use Rattle.cell_store.specs.StoreView.{StoreView, IsValidStore, IsValueIn, AddsT
 use Rattle.cell_store.specs.UnificationSteps.{OnlyBinds, AreUnified}
 use Rattle.cell_store.proofs.SubstitutionLemmas.{value_raised}
 use Rattle.region_split.specs.ChoicePoints.{Standing, height_of_cut, by_height}
-use Rattle.region_split.specs.Regions.{RegionView, standing, entries_of, heights_of, items_here, continuation_here, position_entry, IsPositionIn, IsPositionOver}
+use Rattle.region_split.specs.Regions.{RegionView, standing, entries_of, heights_of, items_here, continuation_here, IsPositionIn, IsPositionOver}
 use Rattle.region_split.specs.StackOperations.{KeepsPositions, StaysStanding, PutsBefore, item_here}
 use Rattle.region_split.specs.declared.frame.FrameItem.TheVariants.{Call}
 use Rattle.region_split.specs.declared.frame.Position.{Position}
 use Rattle.region_split.proofs.ItemLemmas.{position_more}
 use Rattle.region_split.proofs.TrialLemmas.{resolved_twice, items_twice, named_twice}
-use Rattle.region_control.specs.Balls.{Recovers, RecoversOr}
+use Rattle.region_control.specs.Balls.{Recovers}
 use Rattle.region_control.specs.declared.balls.Catch.{Catch}
 
 -- a store that went on, and went on again

@@ -1,20 +1,19 @@
 -- A ball on its way down.
-use Rattle.std.proofs.Common.{◌≡◌, ℕ, ◌+◌, ◌-◌, ◌<◌, ◌≤◌, List, [], ◌∷◌, ◌++◌, length, map, Option, Some, None, refl, sym, ap, ap₂, ◌∙◌, subst, arith}
+use Rattle.std.proofs.Common.{◌≡◌, ℕ, ◌+◌, ◌<◌, ◌≤◌, List, [], ◌∷◌, length, map, Option, Some, None, refl, sym, ap, ap₂, ◌∙◌, subst, arith}
 use Rattle.au_term.specs.Term.{Term}
 use Rattle.au_model.specs.Terms.Copies.{copied}
 use Rattle.au_model.specs.Terms.Named.{NamedTerm}
 use Rattle.au_model.specs.Terms.Substitutions.{Substitution}
 use Rattle.au_model.specs.Terms.Unifier.{unifier}
 use Rattle.run_model.specs.Machine.Balls.{recovered, unwound}
-use Rattle.run_model.specs.Machine.Entries.{Entry, CatchEntry}
-use Rattle.run_model.specs.Machine.Items.{Item, first_mark, resolve_item}
+use Rattle.run_model.specs.Machine.Entries.{CatchEntry}
+use Rattle.run_model.specs.Machine.Items.{first_mark, resolve_item}
 use Rattle.clause_compile.specs.Places.{CodeView}
 use Rattle.cell_store.specs.StoreView.{text_in, meaning}
 use Rattle.region_split.specs.Frames.{LeftItem, PlacedGoal, OwnItem, item_in}
 use Rattle.region_split.specs.ChoicePoints.{Standing, height_of_cut, by_height}
-use Rattle.region_split.specs.Regions.{RegionView, left_here, entries_of, heights_of, continuation_here, position_entry, IsPositionIn, IsPositionOver}
+use Rattle.region_split.specs.Regions.{RegionView, left_here, entries_of, heights_of, continuation_here, IsPositionIn, IsPositionOver}
 use Rattle.region_split.specs.StackOperations.{CutsTo, StaysStanding}
-use Rattle.region_split.specs.declared.frame.FrameItem.{FrameItem}
 use Rattle.region_split.specs.declared.frame.FrameItem.TheVariants.{Goal, Call, Cut, True, Fail, CatchEnd, Collect}
 use Rattle.region_split.specs.declared.frame.Position.{Position}
 use Rattle.region_control.specs.Balls.{mark_height, IsCatchOf, HasFirstCatch, TakesCatch, Recovers, LandsAt, IsUncaught}

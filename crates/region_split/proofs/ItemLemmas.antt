@@ -2,13 +2,11 @@
 use Rattle.std.proofs.Common.{◌≡◌, ℕ, ◌≤◌, List, [], ◌∷◌, ◌++◌, append_assoc, length, map, refl, sym, ap, ap₂, ◌∙◌, subst, arith}
 use Rattle.au_model.specs.Terms.Named.{NamedTerm}
 use Rattle.run_model.specs.Machine.Items.{Item, Continuation, before, resolve_continuation}
-use Rattle.run_model.specs.Machine.Entries.{PlainEntry}
 use Rattle.cell_store.specs.StoreView.{StoreView, text_in}
 use Rattle.region_split.specs.Frames.{LeftItem, OwnItem, item_in, AreScoped}
 use Rattle.region_split.specs.ChoicePoints.{Standing, by_height, IsMarkOf, AreMarked}
-use Rattle.region_split.specs.Regions.{RegionView, left_here, heights_of, standing, continuation_here, IsPositionOver, IsItemHere}
-use Rattle.region_split.specs.StackOperations.{KeepsPositions, AddsFrame, PutsBefore, item_here}
-use Rattle.region_split.specs.declared.frame.Frame.{Frame}
+use Rattle.region_split.specs.Regions.{RegionView, left_here, heights_of, continuation_here, IsPositionOver, IsItemHere}
+use Rattle.region_split.specs.StackOperations.{AddsFrame, PutsBefore, item_here}
 use Rattle.region_split.specs.declared.frame.FrameBody.TheVariants.{One}
 use Rattle.region_split.specs.declared.frame.FrameItem.{FrameItem}
 use Rattle.region_split.specs.declared.frame.Position.{Position}
@@ -56,7 +54,7 @@ put_twice a b c is js cut more after p q x y = record {
       y.goes_on named
       ∙ (ap₂ (λ (s : Standing) f. before (js s.heights) f) (x.stands named) (x.goes_on named)
       ∙ ap (λ items. let f = continuation_here named a after in (let g : Continuation ℕ = record { items = items; named = f.named; next = f.next } in g))
-        (sym (append_assoc (js (heights_of named a)) (is (heights_of named a)) (continuation_here named a after).items)));
+      (sym (append_assoc (js (heights_of named a)) (is (heights_of named a)) (continuation_here named a after).items)));
   stands = λ named. y.stands named ∙ x.stands named;
   older = let k = x.older in let l = y.older in omega (arith, k, l);
   keeps = record {

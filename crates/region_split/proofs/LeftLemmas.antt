@@ -1,5 +1,5 @@
 -- What is left at a position, as it is read.
-use Rattle.std.proofs.Common.{◌≡◌, ℕ, zero, suc, ◌+◌, ◌-◌, ◌<◌, ◌≤◌, List, [], ◌∷◌, ◌++◌, length, map, drop, get_or, slice_get, Some, None, refl, sym, ap, ap₂, ◌∙◌, subst, arith}
+use Rattle.std.proofs.Common.{◌≡◌, ℕ, zero, suc, ◌+◌, ◌-◌, ◌<◌, ◌≤◌, List, [], ◌∷◌, ◌++◌, length, map, get_or, slice_get, Some, None, refl, sym, ap, ap₂, ◌∙◌, subst, arith}
 use Rattle.au_term.specs.Term.{var_bound}
 use Rattle.au_term.specs.Shifted.{shifted}
 use Rattle.run_model.specs.Machine.Items.{GoalItem}
@@ -15,10 +15,8 @@ use Rattle.region_split.specs.declared.frame.FrameBody.{FrameBody}
 use Rattle.region_split.specs.declared.frame.FrameBody.TheVariants.{Text, One}
 use Rattle.region_split.specs.declared.frame.FrameItem.{FrameItem}
 use Rattle.region_split.specs.declared.frame.FrameItem.TheVariants.{Goal}
-use Rattle.region_split.specs.declared.frame.Left.{Left}
 use Rattle.region_split.specs.declared.frame.Left.TheVariants.{First, GoesOnAt}
 use Rattle.region_split.specs.declared.frame.Position.{Position}
-use Rattle.region_split.specs.declared.text.BodyItem.{BodyItem}
 use Rattle.region_split.specs.declared.text.BodyItem.TheVariants.{Goal as GoalPlace, BodyEnd}
 use Rattle.region_split.proofs.FrameLemmas.{frame_left, goes_on_before, read_on, read_past}
 

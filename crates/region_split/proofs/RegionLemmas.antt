@@ -17,7 +17,7 @@ use Rattle.region_split.specs.declared.frame.Frame.{Frame}
 use Rattle.region_split.specs.declared.frame.Position.{Position}
 use Rattle.region_split.proofs.FrameLemmas.{kept_left, pushed_left, taken_left, frames_over-append, frames_over-take}
 use Rattle.region_split.proofs.MarkLemmas.{marked_kept, all_marked, more_kinds, cut_kinds, marked-append, marked_below, marked-take, marked_same}
-use Rattle.region_split.proofs.ScopeLemmas.{same_heights, scoped_more}
+use Rattle.region_split.proofs.ScopeLemmas.{same_heights}
 use Rattle.region_split.proofs.StandingLemmas.{standing-append, IsOver, is_over, IsMeasured, measured, own_height, lowest_entries, heights_kept, AreSameTo, same_continuation, standing_same, choices_same, as_many, choices-append, choices_below, choice_on_top, choices-take, kept-take, kept-append, choices_named}
 
 pub nothing_measured : IsMeasured nothing_standing 0

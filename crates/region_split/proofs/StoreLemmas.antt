@@ -11,7 +11,7 @@ use Rattle.clause_compile.specs.Places.{CodeView, Keeps}
 use Rattle.cell_store.specs.StoreView.{Moment, StoreView, AddsText, text_in, with_numbers}
 use Rattle.cell_store.proofs.SubstitutionLemmas.{value_kept}
 use Rattle.region_split.specs.Frames.{AreScoped, left_items, item_in}
-use Rattle.region_split.specs.ChoicePoints.{RegionSetting, Standing, code_at, meant_at, continuation_at, alternative_entries, choice_entries, standing_over, nothing_standing, with_entries_on_top, by_height, AreAlternativesAt, AreChoicesOver}
+use Rattle.region_split.specs.ChoicePoints.{RegionSetting, Standing, code_at, continuation_at, alternative_entries, choice_entries, standing_over, nothing_standing, with_entries_on_top, by_height, AreAlternativesAt, AreChoicesOver}
 use Rattle.region_split.specs.Regions.{RegionView, region_setting, left_here, heights_of, standing, IsConsistentRegion, IsPositionOver}
 use Rattle.region_split.specs.StackOperations.{KeepsPositions, StaysStanding}
 use Rattle.region_split.specs.declared.choice.Alternatives.{Alternatives}

@@ -1,4 +1,4 @@
-use Rattle.std.proofs.Common.{◌≡◌, sym, ap, ◌∙◌, subst}
+use Rattle.std.proofs.Common.{sym, ap, ◌∙◌, subst}
 use Rattle.region_split.specs.Regions.{IsLeftAt}
 use Rattle.region_split.specs.declared.frame.Position.{Position}
 use Rattle.region_control.proofs.BallLemmas.{walk_past, catch_found, walk_on, no_catch}

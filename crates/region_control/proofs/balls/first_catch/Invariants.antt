@@ -1,4 +1,4 @@
-use Rattle.std.proofs.Common.{ℕ, ◌+◌, length}
+use Rattle.std.proofs.Common.{◌+◌, length}
 use Rattle.region_split.specs.Regions.{items_here}
 use Rattle.region_control.proofs.BallLemmas.{IsWalking}
 use Rattle.region_control.proofs.balls.first_catch.Given as goal

@@ -2,7 +2,7 @@ use Rattle.std.proofs.Common.{◌≡◌, ◌≤◌, None, sym, ap, ◌∙◌, su
 use Rattle.au_term.specs.Term.{var_bound}
 use Rattle.au_model.specs.Terms.Copies.{copied, copy_takes}
 use Rattle.au_model.proofs.VariableBoundLemmas.{copied-below}
-use Rattle.cell_store.specs.StoreView.{StoreView, IsValidStore, value_term}
+use Rattle.cell_store.specs.StoreView.{StoreView, IsValidStore}
 use Rattle.cell_store.specs.UnificationSteps.{IsUnified}
 use Rattle.region_split.specs.Regions.{RegionView}
 use Rattle.region_control.proofs.RecoveryLemmas.{stays_twice, same_unifier, takes_ball}

@@ -1,4 +1,4 @@
-use Rattle.std.proofs.Common.{None, Some, subst}
+use Rattle.std.proofs.Common.{subst}
 use Rattle.region_control.specs.Balls.{IsCatchOf, RecoversOr}
 use Rattle.region_control.proofs.BallLemmas.{catch_within}
 use Rattle.region_control.proofs.ThrowLemmas.{lands, further_down, fewer_choices, none_takes}

@@ -1,4 +1,4 @@
-use Rattle.std.proofs.Common.{[], length, map, refl, sym, ap, subst, arith}
+use Rattle.std.proofs.Common.{length, map, refl, sym, ap, subst, arith}
 use Rattle.cell_store.specs.StoreView.{text_in}
 use Rattle.region_split.specs.Frames.{item_in, AreScoped}
 use Rattle.region_split.specs.ChoicePoints.{AreMarked}
