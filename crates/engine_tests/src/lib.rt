@@ -11,6 +11,8 @@ mod builtin_goals;
 #[cfg(test)]
 mod cells;
 #[cfg(test)]
+mod controls;
+#[cfg(test)]
 mod effect_rows;
 #[cfg(test)]
 mod effects;
