@@ -1,20 +1,20 @@
 -- Choice points that are opened below a position.
-use Rattle.std.proofs.Common.{◌≡◌, ℕ, suc, ◌+◌, ◌-◌, ◌≤◌, List, [], ◌∷◌, ◌++◌, length, length-append, refl, sym, ap, ap₂, ◌∙◌, subst, arith}
+use Rattle.std.proofs.Common.{◌≡◌, ℕ, zero, suc, ◌+◌, ◌-◌, ◌<◌, ◌≤◌, List, [], ◌∷◌, ◌++◌, length, length-append, slice_get, IsSomeAnd, sym, ap, ap₂, ◌∙◌, subst, arith}
 use Rattle.std.specs.Prelude.{codes}
 use Rattle.au_term.specs.Term.{Term, AtomTerm}
 use Rattle.au_model.specs.Terms.Named.{NamedTerm}
 use Rattle.run_model.specs.Programs.Bodies.{call_of}
-use Rattle.run_model.specs.Goals.Outcomes.{GoesOnWith, EitherOf, TestOf, CutToScope, CatchOf, FindallOf}
-use Rattle.run_model.specs.Machine.Items.{Item, GoalItem, CatchMark, CollectMark, Continuation, before, goals_at, with_next}
+use Rattle.run_model.specs.Goals.Outcomes.{EitherOf, TestOf, CatchOf, FindallOf}
+use Rattle.run_model.specs.Machine.Items.{Item, GoalItem, CatchMark, CollectMark, before, goals_at, with_next}
 use Rattle.run_model.specs.Machine.Entries.{Entry, PlainEntry, CatchEntry, FindallEntry}
-use Rattle.run_model.specs.Machine.Heights.{test_items}
 use Rattle.binding_array.specs.declared.cell.BindingCell.{BindingCell}
 use Rattle.cell_store.specs.StoreView.{StoreView, IsValueIn, meaning, with_mark}
 use Rattle.region_split.specs.ChoicePoints.{Standing, alternative_entries, continuation_at, height_of_cut}
-use Rattle.region_split.specs.Regions.{RegionView, region_setting, standing, entries_of, heights_of, continuation_here, position_entry, IsPositionIn, IsPositionOver}
-use Rattle.region_split.specs.StackOperations.{AddsChoice, PutsBefore, CutsTo, item_here}
+use Rattle.region_split.specs.Regions.{RegionView, region_setting, entries_of, heights_of, continuation_here, position_entry, IsPositionIn, IsPositionOver}
+use Rattle.region_split.specs.StackOperations.{AddsChoice, PutsBefore, item_here}
 use Rattle.region_split.specs.declared.choice.Alternatives.{Alternatives}
 use Rattle.region_split.specs.declared.choice.Alternatives.TheVariants.{Elsewhere, Catch, Findall}
+use Rattle.region_split.specs.declared.choice.ChoicePoint.{ChoicePoint}
 use Rattle.region_split.specs.ResultLists.{ResultsView}
 use Rattle.region_split.specs.declared.frame.FrameItem.{FrameItem}
 use Rattle.region_split.specs.declared.frame.FrameItem.TheVariants.{Call, Cut, CatchEnd, Collect}
@@ -92,6 +92,21 @@ module _ (r new : RegionView) (alternatives : Alternatives) (other : Position) (
 
     pub opened_text : last.text ≡ r.text
     opened_text = ap (λ (z : RegionView). z.text) y.others ∙ ap (λ (z : RegionView). z.text) a.others
+
+-- the newest choice point
+at_end : (P : ChoicePoint → Type 0) (xs : List ChoicePoint) (c : ChoicePoint) (i : ℕ) → i ≡ length xs → P c → IsSomeAnd (slice_get (xs ++ c ∷ []) i) P
+at_end P [] c zero e p = p
+at_end P [] c (suc i) e p = absurd (omega (arith, e))
+at_end P (x ∷ xs) c zero e p = absurd (omega (arith, e))
+at_end P (x ∷ xs) c (suc i) e p = at_end P xs c i (omega (arith, e)) p
+
+pub newest_is : (K : Alternatives → Type 0) (r r1 : RegionView) (alternatives : Alternatives) (other : Position) (inner : ℕ) → inner ≡ length r1.choices → AddsChoice r r1 alternatives other → K alternatives → (0 < inner) × IsSomeAnd (slice_get r1.choices (inner - 1)) (λ c. K c.alternatives)
+newest_is K r r1 alternatives other inner e a k =
+    let many = added_many r r1 alternatives other a in (
+      omega (arith, e, many),
+      subst (λ cs. IsSomeAnd (slice_get cs (inner - 1)) (λ c. K c.alternatives)) (sym (ap (λ (x : RegionView). x.choices) a.others))
+          (at_end (λ c. K c.alternatives) r.choices a.choice (inner - 1) (omega (arith, e, many)) (subst K (sym a.is.0) k)),
+    )
 
 -- goals elsewhere, a choice point for them, and then others
 module _ (r0 r r1 last : RegionView) (is js : List ℕ → List (Item ℕ)) (more : ℕ) (g : GoalPlace) (other p : Position) (i : IsGoalPlace r0 g) (x : PutsBefore r0 r is g.cut g.after other) (a : AddsChoice r r1 Elsewhere other) (y : PutsBefore r1 last js more g.after p) where

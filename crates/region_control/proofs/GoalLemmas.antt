@@ -1,10 +1,9 @@
 -- Goals that are put before what follows, while others are pending.
-use Rattle.std.proofs.Common.{◌≡◌, ℕ, ◌+◌, ◌<◌, ◌≤◌, List, [], ◌∷◌, ◌++◌, append_assoc, append-nil, length, map, refl, sym, ap, ap₂, ◌∙◌, subst, arith}
+use Rattle.std.proofs.Common.{◌≡◌, ℕ, ◌+◌, ◌<◌, List, [], ◌∷◌, ◌++◌, append_assoc, append-nil, length, map, refl, sym, ap, ◌∙◌, subst, arith}
 use Rattle.std.specs.Prelude.{codes}
 use Rattle.std.proofs.lemmas.List.{map-append}
 use Rattle.au_term.specs.Term.{Term}
 use Rattle.au_model.specs.Terms.Each.{Each}
-use Rattle.au_model.specs.Terms.Forms.{binary}
 use Rattle.au_model.specs.Terms.Unifier.{size}
 use Rattle.au_model.proofs.EachLemmas.{each-append}
 use Rattle.au_model.proofs.UnifierMeasureLemmas.{size_pos}

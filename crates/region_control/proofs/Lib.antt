@@ -1,3 +1,6 @@
 pub mod SideLemmas
 pub mod GoalLemmas
 pub mod ControlLemmas
+pub mod BallLemmas
+pub mod RecoveryLemmas
+pub mod ThrowLemmas

@@ -1,8 +1,8 @@
 -- The name and the arguments of the compound that a value stands for.
-use Rattle.std.proofs.Common.{◌≡◌, ℕ, zero, suc, ◌+◌, Bool, true, false, List, [], ◌∷◌, length, refl, sym, ap, ◌∙◌, subst, arith}
+use Rattle.std.proofs.Common.{◌≡◌, ℕ, zero, suc, ◌+◌, Bool, true, false, List, [], ◌∷◌, length, refl, sym, ap, ◌∙◌, arith}
 use Rattle.std.specs.Cmp.Lexicographic.{pointwise, same_text, other_text}
-use Rattle.std.specs.Prelude.{nat_eq, cond, codes}
-use Rattle.au_term.specs.Term.{Term, VarTerm, IntTerm, AtomTerm, Compound, Terms, end, more}
+use Rattle.std.specs.Prelude.{nat_eq, codes}
+use Rattle.au_term.specs.Term.{Term, VarTerm, IntTerm, AtomTerm, Compound, end, more}
 use Rattle.au_model.specs.Terms.Forms.{same_name, binary}
 use Rattle.au_model.specs.Terms.Lists.{terms_from}
 use Rattle.run_model.specs.Programs.Bodies.{goals_of}

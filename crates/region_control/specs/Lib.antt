@@ -1,3 +1,4 @@
 pub mod Sides
 pub mod Goals
 pub mod Controls
+pub mod Balls

@@ -122,14 +122,8 @@ pub fn not(
     requires place { IsGoalPlace region.old place }
     ensures { IfOk result (Controls region.old region.new (TestOf (call_of (meaning region.old.store goal) ∷ []) fail_goals true_goals) place) }
 {
-    test(
-        region,
-        alloc,
-        Goals::Call(goal),
-        Goals::Fail,
-        Goals::True,
-        place,
-    )
+    let provable = Goals::Call(goal);
+    test(region, alloc, provable, Goals::Fail, Goals::True, place)
 }
 
 /// The first solution of a goal alone.

@@ -107,6 +107,7 @@ module _ (r r1 : RegionView) (t : Trial) (end : ℕ) (a : AddsChoice r r1 (Claus
       position = record {
         frame = tried.position.frame;
         scoped = scoped_more (text_in r2.store) r2.store.now.next cut (length r2.choices) (left_here r2 p) (let l = ap length same_choices in let m = length-append r.choices (a.choice ∷ []) in omega (arith, l, m, count)) tried.position.scoped;
+        marked = tried.position.marked;
       };
       many = λ e. absurd cc;
       text = ap (λ (x : RegionView). x.text) kept.others ∙ ap (λ (x : RegionView). x.text) a.others;

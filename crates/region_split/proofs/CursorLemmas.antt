@@ -17,8 +17,9 @@ use Rattle.region_split.specs.declared.choice.Alternatives.{Alternatives}
 use Rattle.region_split.specs.declared.choice.Alternatives.TheVariants.{Clauses}
 use Rattle.region_split.specs.declared.choice.ChoicePoint.{ChoicePoint}
 use Rattle.region_split.specs.declared.choice.Trial.{Trial}
+use Rattle.region_split.proofs.MarkLemmas.{all_marked, more_kinds, marked-append}
 use Rattle.region_split.proofs.StandingLemmas.{standing-append, IsOver, is_over, IsMeasured, measured, own_height, heights_kept, choices-append, kept-append}
-use Rattle.region_split.proofs.RegionLemmas.{nothing_measured, same_entry, pairs, newest, last_kept, lowered_region, lowered_entries}
+use Rattle.region_split.proofs.RegionLemmas.{nothing_measured, both_marked, same_entry, pairs, newest, last_kept, lowered_region, lowered_entries}
 
 -- an element that is there
 pub record IsThere {X : Type 0} (xs : List X) (i : ℕ) : Type 0 where
@@ -80,6 +81,7 @@ module _ (r : RegionView) (k : IsConsistentRegion r) (cs : List ChoicePoint) (c 
     older = k.older;
     choices = choices-append (region_setting [] r) 0 0 (length cs) (frames_kept 0 cs) cs ms left m (lowered_region r k cs c ms m m choices marks).choices (omega arith) refl
         (record { own = top.own; older = top.older; scoped = top.scoped; values = subst (AreAlternativesAt (region_setting [] r) m) (sym takes.is) clauses_there });
+    marked = marked-append r.text.bodies r.frames [] cs left (both_marked r k cs c ms m m choices marks).0 (both_marked r k cs c ms m m choices marks).1;
     frames = let e = kept-append 0 cs left in let f = last_kept r k cs c ms m m choices marks in let g = k.frames in omega (arith, e, f, g);
   }
 
@@ -111,6 +113,7 @@ module _ (r : RegionView) (k : IsConsistentRegion r) (cs : List ChoicePoint) (c 
     position = record {
       frame = let o = top.own in let e = last_kept r k cs c ms m m choices marks in let f = k.frames in omega (arith, o, e, f);
       scoped = subst (λ n. AreScoped (text_at r.store m) m.next n (left_here r c.after)) (sym own_place) top.scoped;
+      marked = all_marked cs (cs ++ left ∷ []) (left_here r c.after) (more_kinds cs (left ∷ [])) (both_marked r k cs c ms m m choices marks).1;
     };
     goal = clauses_there.0;
     entries = λ named.

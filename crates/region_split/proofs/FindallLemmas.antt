@@ -9,12 +9,13 @@ use Rattle.au_model.specs.Terms.Named.{NamedTerm}
 use Rattle.run_model.specs.Machine.Items.{Continuation}
 use Rattle.run_model.specs.Machine.Entries.{Entry, with_result, collected}
 use Rattle.cell_store.specs.StoreView.{Moment}
-use Rattle.region_split.specs.ChoicePoints.{RegionSetting, Standing, standing_over, nothing_standing, with_entries_on_top, choice_entries, alternative_entries, continuation_at, height_of_cut, AreAlternativesAt, AreChoicesOver, IsCollecting, with_found, frames_kept}
-use Rattle.region_split.specs.Regions.{RegionView, region_setting, standing, entries_of, heights_of, IsConsistentRegion}
+use Rattle.region_split.specs.ChoicePoints.{RegionSetting, Standing, standing_over, nothing_standing, with_entries_on_top, choice_entries, alternative_entries, continuation_at, height_of_cut, AreAlternativesAt, AreChoicesOver, IsCollecting, with_found, frames_kept, AreMarked, AreMarkedOver}
+use Rattle.region_split.specs.Regions.{RegionView, left_here, region_setting, standing, entries_of, heights_of, IsConsistentRegion}
 use Rattle.region_split.specs.StackOperations.{AddsResult, HasFindallAt}
 use Rattle.region_split.specs.declared.choice.Alternatives.{Alternatives}
 use Rattle.region_split.specs.declared.choice.Alternatives.TheVariants.{Clauses, Elsewhere, Catch, Findall, QueryEnd}
 use Rattle.region_split.specs.declared.choice.ChoicePoint.{ChoicePoint}
+use Rattle.region_split.proofs.MarkLemmas.{IsAlike, all_marked, changed_kinds, marked_changed}
 use Rattle.region_split.proofs.StandingLemmas.{standing-append, as_many, is_over, measured, own_height}
 use Rattle.region_split.proofs.RegionLemmas.{nothing_measured}
 
@@ -61,6 +62,13 @@ found_values s m t (Catch catcher recovery) v = v
 found_values s m t (Findall list results) v = (v.0, let n = v.1 in omega (arith, n))
 found_values s m t QueryEnd v = v
 
+found_alike : (t : Term) (a : Alternatives) → IsAlike a (with_found t a)
+found_alike t (Clauses goal first end) = ((λ h. h), (λ h. h))
+found_alike t Elsewhere = ((λ h. h), (λ h. h))
+found_alike t (Catch catcher recovery) = ((λ h. h), (λ h. h))
+found_alike t (Findall list results) = ((λ h. h), (λ h. h))
+found_alike t QueryEnd = ((λ h. h), (λ h. h))
+
 collected_over : (h : ℕ) (t : Term) (above es : List Entry) (e : Entry) → length es ≡ h → collected h t (above ++ e ∷ es) ≡ above ++ with_result t e ∷ es
 collected_over h t [] es e l = by_test (nat_eq (length es) h) refl
   where
@@ -100,6 +108,7 @@ module _ (r : RegionView) (k : IsConsistentRegion r) (xs ys : List ChoicePoint) 
     program = k.program;
     older = k.older;
     choices = subst (AreChoicesOver (region_setting [] r) 0 0 (xs ++ found ∷ ys)) (sym marks) (choices_changed (region_setting [] r) t 0 0 xs ys ns ps c m places listed);
+    marked = marked_changed r.text.bodies r.frames [] xs ys c (with_found t c.alternatives) (found_alike t c.alternatives) (subst (AreMarkedOver r.text.bodies r.frames []) choices k.marked);
     frames = let e = kept_changed 0 xs ys c (with_found t c.alternatives) in let f = ap (frames_kept 0) choices in let g = k.frames in omega (arith, e, f, g);
   }
 
@@ -143,6 +152,7 @@ module _ (r : RegionView) (k : IsConsistentRegion r) (xs ys : List ChoicePoint) 
         let after : entries_of named with_one_more ≡ above ++ with_result t e ∷ es = ap (λ (st : Standing). st.entries) (is named) ∙ ((both named).second ∙ ap (λ (fs : List Entry). above ++ (fs ++ es)) (own named).is) in
         after ∙ sym (ap (λ n. collected n t (entries_of named r)) (sym (height named)) ∙ (ap (collected (length es) t) before ∙ collected_over (length es) t above es e refl));
     heights = λ named. ap (λ (st : Standing). st.heights) (is named) ∙ ((both named).heights ∙ sym (ap (λ (st : Standing). st.heights) (was named)));
+    position = λ cut p i. record { frame = i.frame; scoped = i.scoped; marked = all_marked (xs ++ c ∷ ys) (xs ++ found ∷ ys) (left_here r p) (changed_kinds xs ys c found (found_alike t c.alternatives)) (subst (λ cs. AreMarked cs (left_here r p)) choices i.marked) };
     many = let a = ap length choices in let b = length-append xs (c ∷ ys) in let d = length-append xs (found ∷ ys) in omega (arith, a, b, d);
     others = refl;
   }

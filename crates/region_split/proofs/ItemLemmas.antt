@@ -2,13 +2,11 @@
 use Rattle.std.proofs.Common.{◌≡◌, ℕ, ◌≤◌, List, [], ◌∷◌, ◌++◌, append_assoc, length, map, refl, sym, ap, ap₂, ◌∙◌, subst, arith}
 use Rattle.au_model.specs.Terms.Named.{NamedTerm}
 use Rattle.run_model.specs.Machine.Items.{Item, Continuation, before, resolve_continuation}
-use Rattle.run_model.specs.Machine.Entries.{PlainEntry}
 use Rattle.cell_store.specs.StoreView.{StoreView, text_in}
 use Rattle.region_split.specs.Frames.{LeftItem, OwnItem, item_in, AreScoped}
-use Rattle.region_split.specs.ChoicePoints.{Standing, by_height}
-use Rattle.region_split.specs.Regions.{RegionView, left_here, heights_of, standing, continuation_here, IsPositionOver, IsItemHere}
-use Rattle.region_split.specs.StackOperations.{KeepsPositions, AddsFrame, PutsBefore, item_here}
-use Rattle.region_split.specs.declared.frame.Frame.{Frame}
+use Rattle.region_split.specs.ChoicePoints.{Standing, by_height, IsMarkOf, AreMarked}
+use Rattle.region_split.specs.Regions.{RegionView, left_here, heights_of, continuation_here, IsPositionOver, IsItemHere}
+use Rattle.region_split.specs.StackOperations.{AddsFrame, PutsBefore, item_here}
 use Rattle.region_split.specs.declared.frame.FrameBody.TheVariants.{One}
 use Rattle.region_split.specs.declared.frame.FrameItem.{FrameItem}
 use Rattle.region_split.specs.declared.frame.Position.{Position}
@@ -20,12 +18,12 @@ left_by_heights named heights st left = resolve_continuation st.now.bound (recor
 
 -- a position in a wider scope
 pub position_more : (r : RegionView) (cut more : ℕ) (p : Position) → cut ≤ more → IsPositionOver r cut p → IsPositionOver r more p
-position_more r cut more p le i = record { frame = i.frame; scoped = scoped_more (text_in r.store) r.store.now.next cut more (left_here r p) le i.scoped }
+position_more r cut more p le i = record { frame = i.frame; scoped = scoped_more (text_in r.store) r.store.now.next cut more (left_here r p) le i.scoped; marked = i.marked }
 
 -- a frame of one item
-pub item_put : (r new : RegionView) (item : FrameItem) (cut number : ℕ) (after : Position) → IsItemHere r item → IsPositionOver r cut after → AddsFrame r new (record { body = One item; cut = cut; after = after }) number
+pub item_put : (r new : RegionView) (item : FrameItem) (cut number : ℕ) (after : Position) → IsItemHere r item → IsMarkOf r.choices cut item → IsPositionOver r cut after → AddsFrame r new (record { body = One item; cut = cut; after = after }) number
     → PutsBefore r new (item_here r item cut) cut after (record { frame = number; at = 0 })
-item_put r new item cut number after there position a =
+item_put r new item cut number after there mark position a =
     let p : Position = record { frame = number; at = 0 } in
     let store : new.store ≡ r.store = ap (λ (x : RegionView). x.store) a.others in
     let left : left_here new p ≡ OwnItem item cut ∷ left_here r after = a.left 0 in
@@ -33,6 +31,7 @@ item_put r new item cut number after there position a =
       position = record {
         frame = a.there;
         scoped = subst (AreScoped (text_in new.store) new.store.now.next cut) (sym left) (subst (λ (x : StoreView). AreScoped (text_in x) x.now.next cut (OwnItem item cut ∷ left_here r after)) (sym store) (omega arith, there, position.scoped));
+        marked = subst (AreMarked new.choices) (sym left) (subst (λ (x : RegionView). AreMarked x.choices (OwnItem item cut ∷ left_here r after)) (sym a.others) (mark, position.marked));
       };
       goes_on = λ named.
           ap₂ (λ hs (x : StoreView). left_by_heights named hs x (left_here new p)) (ap (λ (x : Standing). x.heights) (a.stands named)) store
@@ -55,7 +54,7 @@ put_twice a b c is js cut more after p q x y = record {
       y.goes_on named
       ∙ (ap₂ (λ (s : Standing) f. before (js s.heights) f) (x.stands named) (x.goes_on named)
       ∙ ap (λ items. let f = continuation_here named a after in (let g : Continuation ℕ = record { items = items; named = f.named; next = f.next } in g))
-        (sym (append_assoc (js (heights_of named a)) (is (heights_of named a)) (continuation_here named a after).items)));
+      (sym (append_assoc (js (heights_of named a)) (is (heights_of named a)) (continuation_here named a after).items)));
   stands = λ named. y.stands named ∙ x.stands named;
   older = let k = x.older in let l = y.older in omega (arith, k, l);
   keeps = record {

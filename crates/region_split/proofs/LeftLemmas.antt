@@ -1,5 +1,5 @@
 -- What is left at a position, as it is read.
-use Rattle.std.proofs.Common.{◌≡◌, ℕ, zero, suc, ◌+◌, ◌-◌, ◌<◌, ◌≤◌, List, [], ◌∷◌, ◌++◌, length, map, drop, get_or, slice_get, Some, None, refl, sym, ap, ap₂, ◌∙◌, subst, arith}
+use Rattle.std.proofs.Common.{◌≡◌, ℕ, zero, suc, ◌+◌, ◌-◌, ◌<◌, ◌≤◌, List, [], ◌∷◌, ◌++◌, length, map, get_or, slice_get, Some, None, refl, sym, ap, ap₂, ◌∙◌, subst, arith}
 use Rattle.au_term.specs.Term.{var_bound}
 use Rattle.au_term.specs.Shifted.{shifted}
 use Rattle.run_model.specs.Machine.Items.{GoalItem}
@@ -8,16 +8,15 @@ use Rattle.clause_compile.specs.declared.place.Place.{Place}
 use Rattle.binding_array.specs.declared.cell.BindingCell.{BindingCell}
 use Rattle.cell_store.specs.StoreView.{IsValueIn, text_in, value_term}
 use Rattle.region_split.specs.Frames.{LeftItem, PlacedGoal, OwnItem, item_in, body_left, own_left, next_position, AreScoped}
+use Rattle.region_split.specs.ChoicePoints.{AreMarked}
 use Rattle.region_split.specs.Regions.{RegionView, IsConsistentRegion, left_here, items_here, IsPositionIn, IsLeftAt}
 use Rattle.region_split.specs.declared.frame.Frame.{Frame}
 use Rattle.region_split.specs.declared.frame.FrameBody.{FrameBody}
 use Rattle.region_split.specs.declared.frame.FrameBody.TheVariants.{Text, One}
 use Rattle.region_split.specs.declared.frame.FrameItem.{FrameItem}
 use Rattle.region_split.specs.declared.frame.FrameItem.TheVariants.{Goal}
-use Rattle.region_split.specs.declared.frame.Left.{Left}
 use Rattle.region_split.specs.declared.frame.Left.TheVariants.{First, GoesOnAt}
 use Rattle.region_split.specs.declared.frame.Position.{Position}
-use Rattle.region_split.specs.declared.text.BodyItem.{BodyItem}
 use Rattle.region_split.specs.declared.text.BodyItem.TheVariants.{Goal as GoalPlace, BodyEnd}
 use Rattle.region_split.proofs.FrameLemmas.{frame_left, goes_on_before, read_on, read_past}
 
@@ -49,18 +48,21 @@ module _ (r : RegionView) (k : IsConsistentRegion r) (p : Position) (f : Frame) 
       let same : left_here r p ≡ left_here r f.after = whole ∙ ap (λ is. is ++ left_here r f.after) e in
       record {
         items = ap (map (item_in (text_in r.store))) same;
-        position = record { frame = let a = older_frame in let b = i.frame in omega (arith, a, b); scoped = subst (AreScoped (text_in r.store) r.store.now.next (length r.choices)) same i.scoped };
+        position = record { frame = let a = older_frame in let b = i.frame in omega (arith, a, b); scoped = subst (AreScoped (text_in r.store) r.store.now.next (length r.choices)) same i.scoped; marked = subst (AreMarked r.choices) same i.marked };
         older = older_frame;
       }
 
   scoped_from : (item : LeftItem) → left_here r p ≡ item ∷ left_here r (next_position p) → AreScoped (text_in r.store) r.store.now.next (length r.choices) (item ∷ left_here r (next_position p))
   scoped_from item e = subst (AreScoped (text_in r.store) r.store.now.next (length r.choices)) e i.scoped
 
+  marked_from : (item : LeftItem) → left_here r p ≡ item ∷ left_here r (next_position p) → AreMarked r.choices (item ∷ left_here r (next_position p))
+  marked_from item e = subst (AreMarked r.choices) e i.marked
+
   pub own_first : (item : FrameItem) → f.body ≡ One item → p.at ≡ 0 → IsLeftAt r p (First item f.cut)
   own_first item e zero_at =
       let first = next (OwnItem item f.cut) (ap₂ own e zero_at ∙ ap (λ is. OwnItem item f.cut ∷ is) (sym (ap₂ own e (ap (λ n. n + 1) zero_at)))) in
       let s = scoped_from (OwnItem item f.cut) first in
-      record { items = ap (map (item_in (text_in r.store))) first; there = s.1; scope = s.0; after = record { frame = i.frame; scoped = s.2 } }
+      record { items = ap (map (item_in (text_in r.store))) first; there = s.1; scope = s.0; mark = (marked_from (OwnItem item f.cut) first).0; after = record { frame = i.frame; scoped = s.2; marked = (marked_from (OwnItem item f.cut) first).1 } }
 
   own_past : (item : FrameItem) (n : ℕ) → (n ≡ 0 → ⊥) → own (One item) n ≡ []
   own_past item zero h = absurd (h refl)
@@ -84,7 +86,8 @@ module _ (r : RegionView) (k : IsConsistentRegion r) (p : Position) (f : Frame) 
           items = ap (map (item_in (text_in r.store))) first ∙ ap (λ t. GoalItem t f.cut ∷ items_here r (next_position p)) (sym means);
           there = there;
           scope = s.0;
-          after = record { frame = i.frame; scoped = s.2 };
+          mark = tt;
+          after = record { frame = i.frame; scoped = s.2; marked = (marked_from (PlacedGoal t base f.cut) first).1 };
         }
 
     pub end_reached : slice_get r.text.bodies p.at ≡ Some BodyEnd → IsLeftAt r p (GoesOnAt f.after)

@@ -1,6 +1,7 @@
 pub mod FrameLemmas
 pub mod ScopeLemmas
 pub mod StandingLemmas
+pub mod MarkLemmas
 pub mod RegionLemmas
 pub mod CursorLemmas
 pub mod FindallLemmas

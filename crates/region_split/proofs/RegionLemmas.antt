@@ -9,14 +9,15 @@ use Rattle.run_model.specs.Machine.Entries.{PlainEntry}
 use Rattle.cell_store.specs.StoreView.{Moment, StoreView, text_at, text_in, taken_back, with_mark, with_marks}
 use Rattle.cell_store.proofs.UndoingLemmas.{take_within}
 use Rattle.region_split.specs.Frames.{own_left, AreScoped}
-use Rattle.region_split.specs.ChoicePoints.{Standing, standing_over, nothing_standing, with_entries_on_top, continuation_at, height_of_cut, IsChoiceOver, AreChoicesOver, AreAlternativesAt, frames_kept}
+use Rattle.region_split.specs.ChoicePoints.{Standing, standing_over, nothing_standing, with_entries_on_top, continuation_at, height_of_cut, IsChoiceOver, AreChoicesOver, AreAlternativesAt, AreMarked, AreMarkedOver, frames_kept}
 use Rattle.region_split.specs.Regions.{RegionView, left_here, region_setting, standing, entries_of, heights_of, entries_on, IsPositionIn, AreAlternativesIn, IsConsistentRegion}
 use Rattle.region_split.specs.StackOperations.{AddsFrame, AddsChoice, CutsTo, TakesNewest, DropsNewest}
 use Rattle.region_split.specs.declared.choice.ChoicePoint.{ChoicePoint}
 use Rattle.region_split.specs.declared.frame.Frame.{Frame}
 use Rattle.region_split.specs.declared.frame.Position.{Position}
 use Rattle.region_split.proofs.FrameLemmas.{kept_left, pushed_left, taken_left, frames_over-append, frames_over-take}
-use Rattle.region_split.proofs.ScopeLemmas.{same_heights, scoped_more}
+use Rattle.region_split.proofs.MarkLemmas.{marked_kept, all_marked, more_kinds, cut_kinds, marked-append, marked_below, marked-take, marked_same}
+use Rattle.region_split.proofs.ScopeLemmas.{same_heights}
 use Rattle.region_split.proofs.StandingLemmas.{standing-append, IsOver, is_over, IsMeasured, measured, own_height, lowest_entries, heights_kept, AreSameTo, same_continuation, standing_same, choices_same, as_many, choices-append, choices_below, choice_on_top, choices-take, kept-take, kept-append, choices_named}
 
 pub nothing_measured : IsMeasured nothing_standing 0
@@ -39,7 +40,7 @@ module _ (r : RegionView) (k : IsConsistentRegion r) (f : Frame) (n : ℕ) (kept
   same_to p le = kept_left r.text.bodies (take n r.frames) (f ∷ []) p (let l = length-take-le n r.frames within in omega (arith, l, le)) ∙ taken_left r.text.bodies n r.frames p within le
 
   pub framed_region : IsConsistentRegion (record r { frames = framed })
-  framed_region = record { program = k.program; older = frames_over-append 0 n (take n r.frames) f (frames_over-take 0 n r.frames k.older) (let l = length-take-le n r.frames within in omega (arith, l)) own; choices = choices_same (region_setting [] r) framed n 0 0 r.choices r.store.marks same_to k.choices kept; frames = let l = framed_long in omega (arith, l, kept) }
+  framed_region = record { program = k.program; older = frames_over-append 0 n (take n r.frames) f (frames_over-take 0 n r.frames k.older) (let l = length-take-le n r.frames within in omega (arith, l)) own; choices = choices_same (region_setting [] r) framed n 0 0 r.choices r.store.marks same_to k.choices kept; frames = (let l = framed_long in omega (arith, l, kept)); marked = marked_same (region_setting [] r) framed n 0 0 [] r.choices r.store.marks same_to k.choices kept k.marked }
 
   stands : (named : List NamedTerm) → standing named (record r { frames = framed }) ≡ standing named r
   stands named = standing_same (region_setting named r) framed n 0 0 nothing_standing r.choices r.store.marks same_to (choices_named (region_setting [] r) named 0 0 r.choices r.store.marks k.choices) kept
@@ -51,7 +52,7 @@ module _ (r : RegionView) (k : IsConsistentRegion r) (f : Frame) (n : ℕ) (kept
     left = λ at. pushed_left r.text.bodies (take n r.frames) f (record { frame = n + 1; at = at }) (let l = length-take-le n r.frames within in omega (arith, l)) ∙ ap (λ is. own_left r.text.bodies f.body f.cut at ++ is) (taken_left r.text.bodies n r.frames f.after within own);
     stands = stands;
     keeps = record {
-      position = λ cut p le i. record { frame = let l = framed_long in omega (arith, l, le, own); scoped = subst (AreScoped (text_in r.store) r.store.now.next cut) (sym (same_to p (omega (arith, le, own)))) i.scoped };
+      position = λ cut p le i. record { frame = let l = framed_long in omega (arith, l, le, own); scoped = subst (AreScoped (text_in r.store) r.store.now.next cut) (sym (same_to p (omega (arith, le, own)))) i.scoped; marked = subst (AreMarked r.choices) (sym (same_to p (omega (arith, le, own)))) i.marked };
       same = λ named p le i. ap PlainEntry (ap (λ (st : Standing). continuation_at (region_setting named (record r { frames = framed })) st.heights r.store.now p) (stands named) ∙ same_continuation (region_setting named r) framed n (heights_of named r) r.store.now p same_to (omega (arith, le, own)));
     };
     others = refl;
@@ -78,6 +79,7 @@ module _ (r : RegionView) (k : IsConsistentRegion r) (c : ChoicePoint) (own : c.
     older = k.older;
     choices = choices-append (region_setting [] r) 0 0 (length r.choices) (frames_kept 0 r.choices) r.choices r.store.marks c r.store.now k.choices (omega arith) refl (record { own = own; older = older; scoped = position.scoped; values = values });
     frames = let e = kept-append 0 r.choices c in omega (arith, e, within);
+    marked = marked-append r.text.bodies r.frames [] r.choices c k.marked position.marked;
   }
 
   on_top : (named : List NamedTerm) → standing named topped ≡ with_entries_on_top (entries_on named r c r.store.now) (standing named r)
@@ -96,7 +98,7 @@ module _ (r : RegionView) (k : IsConsistentRegion r) (c : ChoicePoint) (own : c.
     heights = λ named. still named (length r.choices) (omega arith) ∙ whole_height r k named;
     older = still;
     keeps = record {
-      position = λ cut p le i. record { frame = i.frame; scoped = i.scoped };
+      position = λ cut p le i. record { frame = i.frame; scoped = i.scoped; marked = all_marked r.choices (r.choices ++ c ∷ []) (left_here r p) (more_kinds r.choices (c ∷ [])) i.marked };
       same = λ named p le i. ap PlainEntry (same_entry named r (heights_of named topped) (heights_of named r) (length r.choices) r.store.now.next p (still named) i.scoped);
     };
     others = refl;
@@ -122,6 +124,7 @@ module _ (r : RegionView) (k : IsConsistentRegion r) (n : ℕ) (le : n ≤ lengt
     older = k.older;
     choices = choices-take (region_setting [] r) 0 0 n r.choices r.store.marks k.choices;
     frames = let a = kept-take (region_setting [] r) 0 0 n r.choices r.store.marks k.choices in let b = k.frames in omega (arith, a, b);
+    marked = marked-take r.text.bodies r.frames n [] r.choices k.marked;
   }
 
   over : (named : List NamedTerm) → IsOver (standing named cut_down) (standing named r)
@@ -138,11 +141,13 @@ module _ (r : RegionView) (k : IsConsistentRegion r) (n : ℕ) (le : n ≤ lengt
   pub cuts_to : CutsTo r cut_down n
   cuts_to = record {
     entries = λ named. lowest_entries (standing named cut_down) (standing named r) n (below named) (over named);
-    position = λ p i. record { frame = i.frame; scoped = subst (λ cut. AreScoped (text_in r.store) r.store.now.next cut (left_here r p)) (sym fewer) i.scoped };
+    position = λ p i. record { frame = i.frame; scoped = subst (λ cut. AreScoped (text_in r.store) r.store.now.next cut (left_here r p)) (sym fewer) i.scoped; marked = marked_kept (text_in r.store) r.store.now.next n n r.choices (take n r.choices) (left_here r p) (cut_kinds n r.choices) (omega arith) i.scoped i.marked };
     same = λ named p i. ap PlainEntry (same_entry named r (heights_of named cut_down) (heights_of named r) n r.store.now.next p (λ j lt. sym (heights_kept (standing named cut_down) (standing named r) n j (below named) (over named) lt)) i.scoped);
     text = refl;
     store = refl;
     frames = refl;
+    choices = refl;
+    heights = λ named j lt. sym (heights_kept (standing named cut_down) (standing named r) n j (below named) (over named) lt);
     count = fewer;
   }
 
@@ -165,12 +170,16 @@ module _ (r : RegionView) (k : IsConsistentRegion r) (cs : List ChoicePoint) (c 
   pub last_kept : frames_kept 0 r.choices ≡ c.frames
   last_kept = ap (frames_kept 0) choices ∙ kept-append 0 cs c
 
+  pub both_marked : AreMarkedOver r.text.bodies r.frames [] cs × AreMarked cs (left_here r c.after)
+  both_marked = marked_below r.text.bodies r.frames [] cs c (subst (AreMarkedOver r.text.bodies r.frames []) choices k.marked)
+
   pub lowered_region : IsConsistentRegion lowered
   lowered_region = record {
     program = k.program;
     older = k.older;
     choices = choices_below (region_setting [] r) 0 0 cs ms c m pairs stacked;
     frames = let o = newest.older in let e = last_kept in let f = k.frames in omega (arith, o, e, f);
+    marked = both_marked.0;
   }
 
   pub lowered_entries : (named : List NamedTerm) → entries_of named r ≡ entries_on named lowered c m ++ entries_of named lowered
@@ -178,10 +187,18 @@ module _ (r : RegionView) (k : IsConsistentRegion r) (cs : List ChoicePoint) (c 
       let s = region_setting named r in
       ap (λ (st : Standing). st.entries) (ap₂ (λ xs ys. standing_over s nothing_standing xs ys) choices marks ∙ standing-append s nothing_standing cs (c ∷ []) ms (m ∷ []) pairs)
 
+  lowered_heights : (named : List NamedTerm) (n : ℕ) → n ≤ length cs → height_of_cut (heights_of named lowered) n ≡ height_of_cut (heights_of named r) n
+  lowered_heights named n le =
+      let s = region_setting named r in
+      let under = standing_over s nothing_standing cs ms in
+      let on_top : standing_over s under (c ∷ []) (m ∷ []) ≡ standing named r = sym (ap₂ (λ xs ys. standing_over s nothing_standing xs ys) choices marks ∙ standing-append s nothing_standing cs (c ∷ []) ms (m ∷ []) pairs) in
+      sym (heights_kept under (standing named r) (length cs) n (measured s nothing_standing cs ms 0 (length cs) pairs (omega arith) nothing_measured) (subst (IsOver under) on_top (is_over s under (c ∷ []) (m ∷ []))) le)
+
   pub takes_newest : now ≡ m → TakesNewest r lowered c
   takes_newest e = record {
     entries = λ named. lowered_entries named ∙ ap (λ x. entries_on named lowered c x ++ entries_of named lowered) (sym e);
-    position = record { frame = let o = newest.own in let e = last_kept in let f = k.frames in omega (arith, o, e, f); scoped = subst (λ (x : Moment). AreScoped (text_at r.store x) x.next (length cs) (left_here r c.after)) (sym e) newest.scoped };
+    position = record { frame = let o = newest.own in let e = last_kept in let f = k.frames in omega (arith, o, e, f); scoped = subst (λ (x : Moment). AreScoped (text_at r.store x) x.next (length cs) (left_here r c.after)) (sym e) newest.scoped; marked = both_marked.1 };
+    heights = lowered_heights;
     alternatives = subst (λ x. AreAlternativesAt (region_setting [] r) x c.alternatives) (sym e) newest.values;
     choices = choices;
     marked = marks ∙ ap (λ x. ms ++ x ∷ []) (sym e);

@@ -6,7 +6,7 @@ use Rattle.au_model.specs.Terms.Named.{NamedTerm}
 use Rattle.run_model.specs.Machine.Items.{Continuation, resolve_continuation}
 use Rattle.run_model.specs.Machine.Entries.{Entry, lowest}
 use Rattle.cell_store.specs.StoreView.{Moment}
-use Rattle.region_split.specs.Frames.{LeftItem, left_items, item_in, AreScoped}
+use Rattle.region_split.specs.Frames.{left_items, item_in, AreScoped}
 use Rattle.region_split.specs.ChoicePoints.{RegionSetting, code_at, Standing, standing_over, with_entries_on_top, choice_entries, alternative_entries, continuation_at, AreAlternativesAt, IsChoiceOver, AreChoicesOver, frames_kept, height_of_cut, by_height}
 use Rattle.region_split.specs.declared.choice.Alternatives.{Alternatives}
 use Rattle.region_split.specs.declared.choice.Alternatives.TheVariants.{Clauses, Elsewhere, Catch, Findall, QueryEnd}

@@ -11,7 +11,7 @@ use Rattle.clause_compile.specs.Places.{CodeView, Keeps}
 use Rattle.cell_store.specs.StoreView.{Moment, StoreView, AddsText, text_in, with_numbers}
 use Rattle.cell_store.proofs.SubstitutionLemmas.{value_kept}
 use Rattle.region_split.specs.Frames.{AreScoped, left_items, item_in}
-use Rattle.region_split.specs.ChoicePoints.{RegionSetting, Standing, code_at, meant_at, continuation_at, alternative_entries, choice_entries, standing_over, nothing_standing, with_entries_on_top, by_height, AreAlternativesAt, AreChoicesOver}
+use Rattle.region_split.specs.ChoicePoints.{RegionSetting, Standing, code_at, continuation_at, alternative_entries, choice_entries, standing_over, nothing_standing, with_entries_on_top, by_height, AreAlternativesAt, AreChoicesOver}
 use Rattle.region_split.specs.Regions.{RegionView, region_setting, left_here, heights_of, standing, IsConsistentRegion, IsPositionOver}
 use Rattle.region_split.specs.StackOperations.{KeepsPositions, StaysStanding}
 use Rattle.region_split.specs.declared.choice.Alternatives.{Alternatives}
@@ -24,7 +24,7 @@ use Rattle.region_split.proofs.StandingLemmas.{choices_named}
 pub stays_further : (r : RegionView) (n : ℕ) → StaysStanding r (record r { store = with_numbers n r.store })
 stays_further r n = record {
   stands = λ named. refl;
-  position = λ cut p i. record { frame = i.frame; scoped = scoped_further (text_in r.store) r.store.now.next (r.store.now.next + n) cut (left_here r p) (omega arith) i.scoped };
+  position = λ cut p i. record { frame = i.frame; scoped = scoped_further (text_in r.store) r.store.now.next (r.store.now.next + n) cut (left_here r p) (omega arith) i.scoped; marked = i.marked };
   others = refl;
 }
 
@@ -92,6 +92,7 @@ module _ (r : RegionView) (k : IsConsistentRegion r) (new : StoreView) (adds : A
     choices = subst (AreChoicesOver (region_setting [] added) 0 0 r.choices) (sym adds.marks) (kept_choices new.program new.names (region_setting [] r) 0 0 r.choices r.store.marks kept_marks k.choices);
     frames = k.frames;
     older = k.older;
+    marked = k.marked;
   }
 
   stands : (named : List NamedTerm) → standing named added ≡ standing named r
@@ -103,6 +104,7 @@ module _ (r : RegionView) (k : IsConsistentRegion r) (new : StoreView) (adds : A
   position cut p i = record {
     frame = i.frame;
     scoped = subst (λ n. AreScoped (text_in new) n cut (left_here r p)) (sym adds.next) (scoped_kept (text_in r.store) (text_in new) r.store.now.next cut (left_here r p) adds.keeps i.scoped);
+    marked = i.marked;
   }
 
   pub text_added : StaysStanding r added

@@ -23,12 +23,13 @@ use Rattle.cell_store.specs.UnificationSteps.{OnlyBinds, AreUnified}
 use Rattle.cell_store.specs.StoreView.{Moment, StoreView, IsValidStore, IsValueIn, IsComposition, text_in, value_term, meaning, with_numbers, with_substitution}
 use Rattle.cell_store.proofs.CellMeaningLemmas.{term_below}
 use Rattle.cell_store.proofs.UndoingLemmas.{map-same}
-use Rattle.region_split.specs.ChoicePoints.{height_of_cut, by_height}
+use Rattle.region_split.specs.ChoicePoints.{height_of_cut, by_height, AreMarked}
 use Rattle.region_split.specs.Frames.{LeftItem, PlacedGoal, item_in, body_left, own_left, AreScoped}
 use Rattle.region_split.specs.Texts.{TextView, body_items, IsPlacedClause}
 use Rattle.region_split.specs.Regions.{RegionView, left_here, items_here, heights_of, continuation_here, IsPositionOver}
 use Rattle.region_split.specs.StackOperations.{AddsFrame, StaysStanding, trial_entries}
 use Rattle.region_split.specs.ClauseTrials.{TriesClause}
+use Rattle.region_split.specs.declared.choice.ChoicePoint.{ChoicePoint}
 use Rattle.region_split.specs.declared.choice.Trial.{Trial}
 use Rattle.region_split.specs.declared.frame.Frame.{Frame}
 use Rattle.region_split.specs.declared.frame.FrameBody.TheVariants.{Text as FrameText}
@@ -66,9 +67,13 @@ goals_scoped code base k cut n [] left le there b s = s
 goals_scoped code base k cut n (g ∷ goals) left le there b s =
     (omega arith, (there.0, (let w = shifted_within base k (meaning_in code g) b.0 in omega (arith, w, le))), goals_scoped code base k cut n goals left le there.1 b.1 s)
 
+goals_marked : (choices : List ChoicePoint) (base cut : ℕ) (goals : List Place) (left : List LeftItem) → AreMarked choices left → AreMarked choices (placed_from base cut goals ++ left)
+goals_marked choices base cut [] left m = m
+goals_marked choices base cut (g ∷ goals) left m = (tt, goals_marked choices base cut goals left m)
+
 -- bindings that come on top of others
 module _ (s further now : Substitution) (bound : IsComposition s further now) where
-  resolved_twice : (t : Term) → resolve now t ≡ resolve further (resolve s t)
+  pub resolved_twice : (t : Term) → resolve now t ≡ resolve further (resolve s t)
   resolved_twice t = apply-same (value_of now) (λ n. resolve further (value_of s n)) bound t ∙ sym (apply-apply (value_of further) (value_of s) t)
 
   item_twice : (i : Item ℕ) → resolve_item now i ≡ resolve_item further (resolve_item s i)
@@ -77,11 +82,11 @@ module _ (s further now : Substitution) (bound : IsComposition s further now) wh
   item_twice (CollectMark t h) = ap (λ u. CollectMark u h) (resolved_twice t)
   item_twice (RemovalItem number) = refl
 
-  items_twice : (is : List (Item ℕ)) → map (resolve_item now) is ≡ map (resolve_item further) (map (resolve_item s) is)
+  pub items_twice : (is : List (Item ℕ)) → map (resolve_item now) is ≡ map (resolve_item further) (map (resolve_item s) is)
   items_twice [] = refl
   items_twice (i ∷ is) = ap₂ (λ j js. j ∷ js) (item_twice i) (items_twice is)
 
-  named_twice : (vs : List NamedTerm) → map (resolve_named now) vs ≡ map (resolve_named further) (map (resolve_named s) vs)
+  pub named_twice : (vs : List NamedTerm) → map (resolve_named now) vs ≡ map (resolve_named further) (map (resolve_named s) vs)
   named_twice [] = refl
   named_twice (v ∷ vs) = ap₂ (λ (t : Term) ws. (let w : NamedTerm = record v { term = t } in w) ∷ ws) (resolved_twice v.term) (named_twice vs)
 
@@ -242,6 +247,7 @@ module _ (r : RegionView) (t : Trial) (cut : ℕ) (p : PlacedClause) (b : Begins
               frame = a.there;
               scoped = subst (AreScoped (text_in new.store) new.store.now.next cut) (sym left)
                   (subst (λ (x : StoreView). AreScoped (text_in x) x.now.next cut (own_placed ++ left_here r t.after)) (sym (ap (λ (x : RegionView). x.store) a.others)) scoped);
+              marked = subst (AreMarked new.choices) (sym left) (subst (λ (x : RegionView). AreMarked x.choices (own_placed ++ left_here r t.after)) (sym a.others) (goals_marked r.choices next cut b.placed.goals (left_here r t.after) after.marked));
             };
             frames = λ e. absurd cc;
           }
@@ -253,7 +259,7 @@ module _ (r : RegionView) (t : Trial) (cut : ℕ) (p : PlacedClause) (b : Begins
             clause = c;
             is = b.is;
             entries = λ named. is_entry named ∙ ap (λ xs. entry_by named (heights_of named r) (with_bound now).store.now (xs ++ items_after) ∷ []) none;
-            position = record { frame = after.frame; scoped = scoped_further (text_in r.store) next (next + p.vars) cut (left_here r t.after) (omega arith) after.scoped };
+            position = record { frame = after.frame; scoped = scoped_further (text_in r.store) next (next + p.vars) cut (left_here r t.after) (omega arith) after.scoped; marked = after.marked };
             frames = λ e. absurd cc;
           }
 

@@ -1,5 +1,5 @@
 -- What a choice point stands for: entries of the sequential machine.
-use Rattle.std.specs.Prelude.{◌≡◌, ◌<◌, ℕ, ◌+◌, ◌≤◌, List, [], ◌∷◌, ◌++◌, length, map, get_or, None}
+use Rattle.std.specs.Prelude.{◌≡◌, ◌<◌, ℕ, ◌+◌, ◌-◌, ◌≤◌, List, [], ◌∷◌, ◌++◌, length, map, get_or, slice_get, IsSomeAnd, None}
 use Rattle.std.specs.List.{slice_range}
 use Rattle.au_term.specs.Term.{Term}
 use Rattle.au_model.specs.Terms.Named.{NamedTerm}
@@ -12,13 +12,16 @@ use Rattle.binding_array.specs.Represented.{cell_term}
 use Rattle.binding_array.specs.declared.cell.BindingCell.{BindingCell}
 use Rattle.cell_store.specs.StoreView.{Moment}
 use Rattle.cell_store.specs.Values.{IsValue}
-use Rattle.region_split.specs.Frames.{left_items, items_at, AreScoped}
+use Rattle.region_split.specs.Frames.{LeftItem, PlacedGoal, OwnItem, left_items, items_at, AreScoped}
 use Rattle.region_split.specs.Texts.{TextView}
 use Rattle.region_split.specs.ResultLists.{with_copy}
 use Rattle.region_split.specs.declared.choice.Alternatives.{Alternatives}
 use Rattle.region_split.specs.declared.choice.Alternatives.TheVariants.{Clauses, Elsewhere, Catch, Findall, QueryEnd}
 use Rattle.region_split.specs.declared.choice.ChoicePoint.{ChoicePoint}
 use Rattle.region_split.specs.declared.frame.Frame.{Frame}
+use Rattle.region_split.specs.declared.frame.FrameItem.{FrameItem}
+use Rattle.region_split.specs.declared.frame.FrameItem.TheVariants.{Goal, Call, Cut, True, Fail, CatchEnd, Collect}
+use Rattle.region_split.specs.declared.text.BodyItem.{BodyItem}
 use Rattle.region_split.specs.declared.frame.Position.{Position}
 
 -- what does not change while choice points come and go: the text, the store's own text and further names, the frames, and
@@ -102,6 +105,44 @@ IsCollecting Elsewhere = ⊥
 IsCollecting (Catch catcher recovery) = ⊥
 IsCollecting (Findall list results) = Unit {0}
 IsCollecting QueryEnd = ⊥
+
+abbrev pub IsCatching : Alternatives → Type 0
+IsCatching (Clauses goal first end) = ⊥
+IsCatching Elsewhere = ⊥
+IsCatching (Catch catcher recovery) = Unit {0}
+IsCatching (Findall list results) = ⊥
+IsCatching QueryEnd = ⊥
+
+-- there is a catch over so many choice points, or a findall
+abbrev pub IsCatchAt : List ChoicePoint → ℕ → Type 0
+IsCatchAt choices over = IsSomeAnd (slice_get choices over) (λ c. IsCatching c.alternatives)
+
+abbrev pub IsFindallAt : List ChoicePoint → ℕ → Type 0
+IsFindallAt choices over = IsSomeAnd (slice_get choices over) (λ c. IsCollecting c.alternatives)
+
+-- the choice point of a mark is there: the newest that a cut there would leave
+abbrev pub IsMarkOf : List ChoicePoint → ℕ → FrameItem → Type 0
+IsMarkOf choices cut (Goal value) = Unit {0}
+IsMarkOf choices cut (Call value) = Unit {0}
+IsMarkOf choices cut Cut = Unit {0}
+IsMarkOf choices cut True = Unit {0}
+IsMarkOf choices cut Fail = Unit {0}
+IsMarkOf choices cut CatchEnd = (0 < cut) × IsCatchAt choices (cut - 1)
+IsMarkOf choices cut (Collect value) = (0 < cut) × IsFindallAt choices (cut - 1)
+
+abbrev pub IsMarkedIn : List ChoicePoint → LeftItem → Type 0
+IsMarkedIn choices (PlacedGoal place base cut) = Unit {0}
+IsMarkedIn choices (OwnItem item cut) = IsMarkOf choices cut item
+
+-- each mark that is left has its choice point
+abbrev pub AreMarked : List ChoicePoint → List LeftItem → Type 0
+AreMarked choices [] = Unit {0}
+AreMarked choices (i ∷ left) = IsMarkedIn choices i × AreMarked choices left
+
+-- and so has each that is left where a choice point goes on, among those that are older
+abbrev pub AreMarkedOver : List BodyItem → List Frame → List ChoicePoint → List ChoicePoint → Type 0
+AreMarkedOver bodies frames below [] = Unit {0}
+AreMarkedOver bodies frames below (c ∷ choices) = AreMarked below (left_items bodies frames c.after) × AreMarkedOver bodies frames (below ++ c ∷ []) choices
 
 -- a findall with one more result
 abbrev pub with_found : Term → Alternatives → Alternatives

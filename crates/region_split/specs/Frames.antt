@@ -1,6 +1,6 @@
 -- Frames: bodies under way, each of which goes on in an older one (ISO/IEC 13211-1, 7.7.2; D. H. D. Warren, "An abstract
 -- Prolog instruction set", 1983). A frame cuts to a number of choice points.
-use Rattle.std.specs.Prelude.{◌≡◌, ℕ, zero, suc, ◌+◌, ◌-◌, ◌≤◌, List, [], ◌∷◌, ◌++◌, map, get_or, drop, codes}
+use Rattle.std.specs.Prelude.{ℕ, zero, suc, ◌+◌, ◌-◌, ◌≤◌, List, [], ◌∷◌, ◌++◌, map, get_or, drop, codes}
 use Rattle.au_term.specs.Term.{AtomTerm, var_bound}
 use Rattle.au_term.specs.Shifted.{shifted}
 use Rattle.run_model.specs.Programs.Bodies.{call_of}

@@ -6,7 +6,7 @@ use Rattle.run_model.specs.Machine.Entries.{Entry, PlainEntry}
 use Rattle.cell_store.specs.StoreView.{StoreView, Moment, text_in}
 use Rattle.region_split.specs.Frames.{LeftItem, left_items, items_at, scoped_item, next_position, IsItemIn, AreScoped, AreFramesOver}
 use Rattle.region_split.specs.Texts.{TextView}
-use Rattle.region_split.specs.ChoicePoints.{RegionSetting, Standing, standing_over, nothing_standing, continuation_at, choice_entries, AreChoicesOver, AreAlternativesAt, frames_kept}
+use Rattle.region_split.specs.ChoicePoints.{RegionSetting, Standing, standing_over, nothing_standing, continuation_at, choice_entries, AreChoicesOver, AreAlternativesAt, IsMarkOf, AreMarked, AreMarkedOver, frames_kept}
 use Rattle.region_split.specs.declared.choice.Alternatives.{Alternatives}
 use Rattle.region_split.specs.declared.choice.ChoicePoint.{ChoicePoint}
 use Rattle.region_split.specs.declared.frame.Frame.{Frame}
@@ -54,10 +54,11 @@ items_here r p = items_at (text_in r.store) r.text.bodies r.frames p
 abbrev pub entries_on : List NamedTerm → RegionView → ChoicePoint → Moment → List Entry
 entries_on named r c m = choice_entries (region_setting named r) (standing named r) c m
 
--- a position where the values of what is left are there, and nothing cuts to more than so many choice points
+-- a position where the values and the marks of what is left are there, and nothing cuts to more than so many choice points
 pub record IsPositionOver (r : RegionView) (cut : ℕ) (p : Position) : Type 0 where
   pub frame : p.frame ≤ length r.frames
   pub scoped : AreScoped (text_in r.store) r.store.now.next cut (left_here r p)
+  pub marked : AreMarked r.choices (left_here r p)
 
 -- a position at which the region can go on
 abbrev pub IsPositionIn : RegionView → Position → Type 0
@@ -72,6 +73,7 @@ pub record IsFirstAt (r : RegionView) (p : Position) (item : FrameItem) (cut : �
   pub items : items_here r p ≡ scoped_item (text_in r.store) item cut ∷ items_here r (next_position p)
   pub there : IsItemHere r item
   pub scope : cut ≤ length r.choices
+  pub mark : IsMarkOf r.choices cut item
   pub after : IsPositionOver r cut (next_position p)
 
 -- what is left at a position is left at one of an older frame
@@ -96,3 +98,4 @@ pub record IsConsistentRegion (r : RegionView) : Type 0 where
   pub choices : AreChoicesOver (region_setting [] r) 0 0 r.choices r.store.marks
   pub frames : frames_kept 0 r.choices ≤ length r.frames
   pub older : AreFramesOver 0 r.frames
+  pub marked : AreMarkedOver r.text.bodies r.frames [] r.choices

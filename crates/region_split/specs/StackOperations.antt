@@ -1,5 +1,5 @@
 -- What each operation on the frames and choice points of a region leaves of the entries that it stands for.
-use Rattle.std.specs.Prelude.{◌≡◌, ℕ, ◌≤◌, ◌<◌, List, [], ◌∷◌, ◌++◌, length, ◌-◌, Some, slice_get, IsSomeAnd}
+use Rattle.std.specs.Prelude.{◌≡◌, ℕ, ◌≤◌, ◌<◌, List, [], ◌∷◌, ◌++◌, length, take, ◌-◌, Some, slice_get}
 use Rattle.au_model.specs.Terms.Named.{NamedTerm}
 use Rattle.au_term.specs.Term.{Term}
 use Rattle.run_model.specs.Programs.Clauses.{Clause}
@@ -9,7 +9,7 @@ use Rattle.run_model.specs.Machine.Entries.{Entry, lowest, solution_entry, colle
 use Rattle.cell_store.specs.StoreView.{Moment, text_in, with_mark, with_marks, new_store, IsValueIn, meaning}
 use Rattle.region_split.specs.Texts.{TextView}
 use Rattle.region_split.specs.Frames.{own_left, scoped_item}
-use Rattle.region_split.specs.ChoicePoints.{height_of_cut, by_height, HaveNoClause, IsCollecting}
+use Rattle.region_split.specs.ChoicePoints.{height_of_cut, by_height, HaveNoClause, IsFindallAt}
 use Rattle.region_split.specs.Regions.{RegionView, left_here, continuation_here, standing, entries_of, heights_of, position_entry, entries_on, IsPositionIn, IsPositionOver, AreAlternativesIn}
 use Rattle.region_split.specs.declared.choice.Alternatives.{Alternatives}
 use Rattle.region_split.specs.declared.choice.ChoicePoint.{ChoicePoint}
@@ -67,6 +67,8 @@ pub record CutsTo (old new : RegionView) (kept : ℕ) : Type 0 where
   pub text : new.text ≡ old.text
   pub store : new.store ≡ with_marks kept old.store
   pub frames : new.frames ≡ old.frames
+  pub choices : new.choices ≡ take kept old.choices
+  pub heights : (named : List NamedTerm) (n : ℕ) → n ≤ kept → height_of_cut (heights_of named new) n ≡ height_of_cut (heights_of named old) n
   pub count : length new.choices ≡ kept
 
 -- the newest choice point was taken off, and all that was bound and made since was undone: its entries were the first, and
@@ -75,6 +77,7 @@ pub record TakesNewest (old new : RegionView) (c : ChoicePoint) : Type 0 where
   pub entries : (named : List NamedTerm) → entries_of named old ≡ entries_on named new c new.store.now ++ entries_of named new
   pub position : IsPositionIn new c.after
   pub alternatives : AreAlternativesIn new c.alternatives
+  pub heights : (named : List NamedTerm) (n : ℕ) → n ≤ length new.choices → height_of_cut (heights_of named new) n ≡ height_of_cut (heights_of named old) n
   pub choices : old.choices ≡ new.choices ++ c ∷ []
   pub marked : old.store.marks ≡ new.store.marks ++ new.store.now ∷ []
   pub store : new.store ≡ record old.store { now = new.store.now; marks = new.store.marks }
@@ -115,12 +118,13 @@ pub record TakesClause (old new : RegionView) (t : Trial) : Type 0 where
 
 -- there is a findall over so many choice points
 abbrev pub HasFindallAt : RegionView → ℕ → Type 0
-HasFindallAt r over = IsSomeAnd (slice_get r.choices over) (λ c. IsCollecting c.alternatives)
+HasFindallAt r over = IsFindallAt r.choices over
 
 -- a result was added to the findall over so many choice points
 pub record AddsResult (old new : RegionView) (over : ℕ) (t : Term) : Type 0 where
   pub entries : (named : List NamedTerm) → entries_of named new ≡ collected (height_of_cut (heights_of named old) over) t (entries_of named old)
   pub heights : (named : List NamedTerm) → heights_of named new ≡ heights_of named old
+  pub position : (cut : ℕ) (p : Position) → IsPositionOver old cut p → IsPositionOver new cut p
   pub many : length new.choices ≡ length old.choices
   pub others : new ≡ record old { choices = new.choices }
 

@@ -5,7 +5,7 @@ ghost use Rattle.au_term.specs.Term.{var_bound};
 ghost use Rattle.cell_store.specs.StoreView.{AddsText, IsValueIn, meaning, value_term, with_numbers};
 ghost use Rattle.cell_store.specs.UnificationSteps.{IsUnified, OnlyBinds};
 ghost use Rattle.au_model.specs.Terms.Named.{NamedTerm};
-ghost use Rattle.region_split.specs.ChoicePoints.{frames_kept, height_of_cut};
+ghost use Rattle.region_split.specs.ChoicePoints.{frames_kept, height_of_cut, IsMarkOf};
 ghost use Rattle.region_split.specs.Regions.{entries_of, heights_of, items_here, IsLeftAt, IsItemHere, IsPositionIn, IsPositionOver, AreAlternativesIn};
 ghost use Rattle.region_split.specs.StackOperations.{new_region, item_here, KeepsPositions, PutsBefore, AddsFrame, AddsChoice, CutsTo, TakesNewest, DropsNewest, HasNoClauseOnTop, TakesClause, HasFindallAt, AddsResult, StaysStanding};
 
@@ -164,6 +164,7 @@ impl Region {
         after: Position,
     ) -> Result<Position, NoMemory>
         requires item { IsItemHere self.old item }
+        requires mark { IsMarkOf self.old.choices cut item }
         requires after { IsPositionOver self.old cut after }
         ensures ok { IfOk result (PutsBefore self.old self.new (item_here self.old item cut) cut after) }
         ensures err { OnErr result (self.new ≡ self.old) }

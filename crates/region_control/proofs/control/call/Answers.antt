@@ -1,4 +1,4 @@
-use Rattle.std.proofs.Common.{length, sym, subst}
+use Rattle.std.proofs.Common.{sym, subst}
 use Rattle.region_split.specs.Regions.{IsPositionOver}
 use Rattle.region_control.proofs.ControlLemmas.{place_in}
 use Rattle.region_control.proofs.control.call.Goals as goal

@@ -2,13 +2,14 @@ use Rattle.std.proofs.Common.{◌≡◌, [], ap, ◌∙◌}
 use Rattle.cell_store.specs.StoreView.{StoreView, meaning}
 use Rattle.run_model.specs.Goals.Outcomes.{FindallOf}
 use Rattle.region_split.specs.ResultLists.{ResultsView}
+use Rattle.region_split.specs.ChoicePoints.{IsCollecting}
 use Rattle.region_split.specs.StackOperations.{PutsBefore, item_here}
 use Rattle.region_split.specs.declared.choice.Alternatives.TheVariants.{Findall}
 use Rattle.region_split.specs.declared.frame.FrameItem.TheVariants.{Call}
 use Rattle.region_split.specs.declared.frame.Position.{Position}
 use Rattle.region_split.proofs.CallLemmas.{if_ok_then}
 use Rattle.region_control.specs.Controls.{Controls}
-use Rattle.region_control.proofs.ControlLemmas.{place_in, place_over, all_found}
+use Rattle.region_control.proofs.ControlLemmas.{newest_is, place_in, place_over, all_found}
 use Rattle.region_control.proofs.control.findall.Goals as goal
 
 pub push_choice-requires-clause-position : goal.push_choice-requires-clause-position
@@ -16,6 +17,9 @@ push_choice-requires-clause-position c = place_in c.args.region.now c.args.place
 
 pub push_item-requires-clause-after : goal.push_item-requires-clause-after
 push_item-requires-clause-after c = place_over c.args.region.now c.push_choice.new.self (Findall c.args.list c.new-results.result) c.args.place c.in_ok-inner.inner c.requires.place c.in_ok-inner.ensures.count c.in_ok-push_choice.ensures.ok
+
+pub push_item-requires-clause-mark : goal.push_item-requires-clause-mark
+push_item-requires-clause-mark c = newest_is IsCollecting c.args.region.now c.push_choice.new.self (Findall c.args.list c.new-results.result) c.args.place.after c.in_ok-inner.inner c.in_ok-inner.ensures.count c.in_ok-push_choice.ensures.ok tt
 
 pub returns : goal.returns
 returns c =

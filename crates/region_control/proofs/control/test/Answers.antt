@@ -1,4 +1,4 @@
-use Rattle.std.proofs.Common.{◌≡◌, ◌≤◌, length, ◌∙◌, subst, arith}
+use Rattle.std.proofs.Common.{◌≡◌, ◌∙◌, subst, arith}
 use Rattle.run_model.specs.Goals.Outcomes.{TestOf}
 use Rattle.region_split.specs.StackOperations.{PutsBefore, item_here}
 use Rattle.region_split.specs.declared.choice.Alternatives.TheVariants.{Elsewhere}

@@ -2,9 +2,8 @@ use Rattle.std.proofs.Common.{◌≡◌, List, [], ◌∷◌, ◌++◌, sym, ap,
 use Rattle.std.specs.Prelude.{codes}
 use Rattle.binding_array.specs.declared.cell.BindingCell.{BindingCell}
 use Rattle.cell_store.specs.StoreView.{StoreView, IsValueIn}
-use Rattle.region_split.specs.Regions.{RegionView}
 use Rattle.region_control.specs.Sides.{HasSides, HasNoSides}
-use Rattle.region_control.proofs.GoalLemmas.{putting_begun, value_there, goal_put, goal_smaller, sides_pending, sides_smaller, all_put, choices_kept}
+use Rattle.region_control.proofs.GoalLemmas.{putting_begun, value_there, goal_put, goal_smaller, sides_pending, sides_smaller}
 use Rattle.region_control.proofs.goals.push_body.Goals.{In_ok-push-in-Some-sides-2}
 use Rattle.region_control.proofs.goals.push_body.Goals as goal
 

@@ -1,4 +1,3 @@
-use Rattle.std.proofs.Common.{ℕ}
 use Rattle.cell_store.specs.Arguments.{sizes}
 use Rattle.region_control.proofs.GoalLemmas.{ArePutting, pending_terms}
 use Rattle.region_control.proofs.goals.push_body.Given as goal
