@@ -11,11 +11,9 @@ mod builtin_goals;
 #[cfg(test)]
 mod cells;
 #[cfg(test)]
-<<<<<<< HEAD
 mod clause_indexes;
-=======
+#[cfg(test)]
 mod controls;
->>>>>>> 8d765a7d58989a81d3c22ac229004195e464576d
 #[cfg(test)]
 mod effect_rows;
 #[cfg(test)]
