@@ -24,7 +24,7 @@ use Rattle.tree_nodes.proofs.WalkLemmas.{cell_here, one_level_up, no_level_up}
 use Rattle.branch_order.specs.declared.sought.Sought.{Sought}
 use Rattle.branch_order.specs.declared.sought.Sought.TheVariants as sought
 use Rattle.branch_order.specs.LeftOf.{IsFirstOpen}
-use Rattle.branch_order.specs.Sought.{test_of, wants_ready, IsFirstEntry, passes, PassesAt, spots_right, nodes_right, IsAheadIn, IsAhead, IsEntered, IsPassed}
+use Rattle.branch_order.specs.Sought.{test_of, wants_ready, IsFirstEntry, passes_test, PassesAt, spots_right, nodes_right, IsAheadIn, IsAheadFrom, IsEntered, IsAlternativePassed}
 
 -- the node at which a walk is
 module _ (nodes : NodesView) (test : Spot → Bool) (n i most : ℕ) (read : Reading) (root : Status) (s : IsTableOf nodes read root)
@@ -81,20 +81,20 @@ ahead_at nodes test n i most read root s h l = by_right h.right refl
       nodes = subst (λ (x : Alternatives). nodes_among x + nodes_right h.up ≤ most) e h.nodes;
     }
 
--- an entry that passes is found
-pub entry_found : (nodes : NodesView) (test : Spot → Bool) (n i most : ℕ) → IsAhead nodes test n i most
+-- an entry that passes_test is found
+pub entry_found : (nodes : NodesView) (test : Spot → Bool) (n i most : ℕ) → IsAheadFrom nodes test n i most
     → i < length (alternatives_at (row_of_node nodes.rows n)) → PassesAt nodes (place_on n i) test true → IsFirstEntry test nodes (Some (place_on n i))
 entry_found nodes test n i most h l p read root s =
     let k = ahead_at nodes test n i most read root s (h read root s) l in
     ap (option_map place_of_spot) k.first ∙ by_status k (p read k.level k.up k.status k.at (subst (IsTableOf nodes read) k.same s))
   where
-    by_status : (k : IsAheadAt test root n i most) → true ≡ passes test k.level k.up k.status
+    by_status : (k : IsAheadAt test root n i most) → true ≡ passes_test test k.level k.up k.status
         → option_map place_of_spot (find test ((pending_below k.level k.up k.status
         ++ pending_among k.up k.level.number k.level.kind ((k.level.spent, k.status) ∷ k.level.left) k.level.right)
         ++ spots_right k.up (Inner (level_node k.level k.status)))) ≡ Some (place_on n i)
     by_status k e = go k.status e
       where
-        go : (t : Status) → true ≡ passes test k.level k.up t
+        go : (t : Status) → true ≡ passes_test test k.level k.up t
             → option_map place_of_spot (find test ((pending_below k.level k.up t
             ++ pending_among k.up k.level.number k.level.kind ((k.level.spent, t) ∷ k.level.left) k.level.right)
             ++ spots_right k.up (Inner (level_node k.level t)))) ≡ Some (place_on n i)
@@ -107,10 +107,10 @@ entry_found nodes test n i most h l p read root s =
             ++ spots_right k.up (Inner (level_node k.level (Pending hold entry))) in
             ap (λ (b : Bool). option_map place_of_spot (cond b (Some spot) (find test rest))) (sym e) ∙ ap Some k.at
 
--- what has no entry that passes and no node below it is left behind
-pub goes_right : (nodes : NodesView) (test : Spot → Bool) (n i most : ℕ) → IsAhead nodes test n i most
+-- what has no entry that passes_test and no node below it is left behind
+pub goes_right : (nodes : NodesView) (test : Spot → Bool) (n i most : ℕ) → IsAheadFrom nodes test n i most
     → i < length (alternatives_at (row_of_node nodes.rows n)) → PassesAt nodes (place_on n i) test false
-    → inner_at (cell_at nodes.rows (place_on n i)) ≡ None → IsAhead nodes test n (suc i) most
+    → inner_at (cell_at nodes.rows (place_on n i)) ≡ None → IsAheadFrom nodes test n (suc i) most
 goes_right nodes test n i most h l p below read root s =
     let k = ahead_at nodes test n i most read root s (h read root s) l in
     let here = subst (IsTableOf nodes read) k.same s in
@@ -142,7 +142,7 @@ goes_right nodes test n i most h l p below read root s =
           nodes = omega (arith, less, z);
         })
 
-    go : (k : IsAheadAt test root n i most) (t : Status) → k.status ≡ t → false ≡ passes test k.level k.up k.status
+    go : (k : IsAheadAt test root n i most) (t : Status) → k.status ≡ t → false ≡ passes_test test k.level k.up k.status
         → inner_of (cell_of k.status) ≡ None → IsAheadIn test root n (suc i) most
     go k (Closed credit) e f z = on k (Closed credit) e refl refl
     go k (Inner node) e f z = absurd (let no_way : Some (node_number node) ≡ None = ap (λ (x : Status). inner_of (cell_of x)) (sym e) ∙ z in cc no_way)
@@ -151,11 +151,11 @@ goes_right nodes test n i most h l p below read root s =
         let rest : List Spot
         = pending_among k.up k.level.number k.level.kind ((k.level.spent, Pending hold entry) ∷ k.level.left) k.level.right
         ++ spots_right k.up (Inner (level_node k.level (Pending hold entry))) in
-        let fails : test spot ≡ false = sym (f ∙ ap (passes test k.level k.up) e) in
+        let fails : test spot ≡ false = sym (f ∙ ap (passes_test test k.level k.up) e) in
         on k (Pending hold entry) e refl (ap (λ (b : Bool). cond b (Some spot) (find test rest)) fails)
 
 -- a node below is entered
-pub goes_down_at : (nodes : NodesView) (test : Spot → Bool) (n i m most : ℕ) → IsAhead nodes test n i most
+pub goes_down_at : (nodes : NodesView) (test : Spot → Bool) (n i m most : ℕ) → IsAheadFrom nodes test n i most
     → i < length (alternatives_at (row_of_node nodes.rows n)) → inner_at (cell_at nodes.rows (place_on n i)) ≡ Some m → IsEntered nodes test m most
 goes_down_at nodes test n i m most h l below read root s =
     let k = ahead_at nodes test n i most read root s (h read root s) l in
@@ -244,11 +244,11 @@ module _ (nodes : NodesView) (test : Spot → Bool) (n i most : ℕ) (read : Rea
         nodes = omega (arith, less, more);
       })
 
-pub goes_up : (nodes : NodesView) (test : Spot → Bool) (n most : ℕ) (b : Place) → IsPassed nodes test n most → node_parent nodes.rows n ≡ Some (Some b)
-    → IsAhead nodes test b.node (suc b.index) most
+pub goes_up : (nodes : NodesView) (test : Spot → Bool) (n most : ℕ) (b : Place) → IsAlternativePassed nodes test n most → node_parent nodes.rows n ≡ Some (Some b)
+    → IsAheadFrom nodes test b.node (suc b.index) most
 goes_up nodes test n most b p e read root s = goes_up_in nodes test n p.index most read root s (p.ahead read root s) p.last b e
 
-pub nothing_found : (nodes : NodesView) (test : Spot → Bool) (n most : ℕ) → IsPassed nodes test n most → node_parent nodes.rows n ≡ Some None
+pub nothing_found : (nodes : NodesView) (test : Spot → Bool) (n most : ℕ) → IsAlternativePassed nodes test n most → node_parent nodes.rows n ≡ Some None
     → IsFirstEntry test nodes None
 nothing_found nodes test n most p e read root s =
     ap (option_map place_of_spot) (no_more nodes test n p.index most read root s (p.ahead read root s) p.last e)
@@ -282,7 +282,7 @@ nil_of [] e = refl
 nil_of (x ∷ left) e = let z : suc (length left) ≡ 0 = e in absurd (omega (arith, z))
 
 pub closed_passed : (nodes : NodesView) (test : Spot → Bool) (n j most : ℕ) → are_shut (take j (alternatives_at (row_of_node nodes.rows n))) ≡ true
-    → j ≤ length (alternatives_at (row_of_node nodes.rows n)) → IsAhead nodes test n 0 most → IsAhead nodes test n j most
+    → j ≤ length (alternatives_at (row_of_node nodes.rows n)) → IsAheadFrom nodes test n 0 most → IsAheadFrom nodes test n j most
 closed_passed nodes test n j most shut l h read root s =
     let k = h read root s in
     let none_left : k.left ≡ [] = nil_of k.left k.index in
@@ -295,7 +295,7 @@ closed_passed nodes test n j most shut l h read root s =
     (ap (λ (x : List (ℕ × AlternativeCell)). are_shut (take j x)) (sym cells) ∙ shut) (omega (arith, l, many)))
 
 -- a walk begins at the first node
-pub from_first : (nodes : NodesView) (test : Spot → Bool) (n : ℕ) → nodes.first ≡ Some n → IsAhead nodes test n 0 nodes.live
+pub from_first : (nodes : NodesView) (test : Spot → Bool) (n : ℕ) → nodes.first ≡ Some n → IsAheadFrom nodes test n 0 nodes.live
 from_first nodes test n f read root s = by_root root s.rooted refl
   where
     by_root : (r : Status) → IsRoot nodes.first r → root ≡ r → IsAheadIn test root n 0 nodes.live
@@ -324,7 +324,7 @@ no_first_entry nodes test f read root s = by_root root s.rooted refl
     by_root (Inner node) h e = absurd (let z : Some (node_number node) ≡ None = sym h ∙ f in cc z)
 
 -- or at the front
-fewer : (nodes : NodesView) (test : Spot → Bool) (n i most : ℕ) → IsEntered nodes test n most → IsAhead nodes test n 0 most
+fewer : (nodes : NodesView) (test : Spot → Bool) (n i most : ℕ) → IsEntered nodes test n most → IsAheadFrom nodes test n 0 most
 fewer nodes test n i most h read root s =
     let k = (h read root s).1 in
     let less : nodes_among k.right + nodes_right k.up ≤ most - 1 = k.nodes in
@@ -332,7 +332,7 @@ fewer nodes test n i most h read root s =
 
 abbrev IsReached : NodesView → (Spot → Bool) → Option Front → Type 0
 IsReached nodes test None = Unit {0}
-IsReached nodes test (Some d) = IsAhead nodes test d.node 0 nodes.live
+IsReached nodes test (Some d) = IsAheadFrom nodes test d.node 0 nodes.live
 
 some_less : (cells : List (ℕ × AlternativeCell)) (i : ℕ) (c : ℕ × AlternativeCell) → slice_get cells i ≡ Some c → i < length cells
 some_less [] i c e = absurd (cc e)
@@ -340,7 +340,7 @@ some_less (x ∷ cells) zero c e = omega arith
 some_less (x ∷ cells) (suc i) c e = let l = some_less cells i c e in omega (arith, l)
 
 one_down : (nodes : NodesView) (test : Spot → Bool) (before : Option Front) (e : Front) → IsNextDown nodes.rows nodes.first before e
-    → IsReached nodes test before → IsAhead nodes test e.node 0 nodes.live
+    → IsReached nodes test before → IsAheadFrom nodes test e.node 0 nodes.live
 one_down nodes test None e h k = from_first nodes test e.node h.node
 one_down nodes test (Some d) e h k =
     let cells = alternatives_at (row_of_node nodes.rows d.node) in
@@ -350,23 +350,23 @@ one_down nodes test (Some d) e h k =
     (closed_passed nodes test d.node h.index nodes.live h.shut less k) l (ap inner_at h.cell))
 
 all_down : (nodes : NodesView) (test : Spot → Bool) (before : Option Front) (above : List Front) (e : Front)
-    → AreNext nodes.rows nodes.first before (above ++ e ∷ []) → IsReached nodes test before → IsAhead nodes test e.node 0 nodes.live
+    → AreNext nodes.rows nodes.first before (above ++ e ∷ []) → IsReached nodes test before → IsAheadFrom nodes test e.node 0 nodes.live
 all_down nodes test before [] e h k = one_down nodes test before e h.0 k
 all_down nodes test before (d ∷ above) e h k = all_down nodes test (Some d) above e h.1 (one_down nodes test before d h.0 k)
 
-pub from_front : (nodes : NodesView) (test : Spot → Bool) (e : Front) → IsFront nodes (Some e) → IsAhead nodes test e.node 0 nodes.live
+pub from_front : (nodes : NodesView) (test : Spot → Bool) (e : Front) → IsFront nodes (Some e) → IsAheadFrom nodes test e.node 0 nodes.live
 from_front nodes test e h = all_down nodes test None h.0 e h.1 tt
 
 -- the node of a walk is there
-pub is_there : (nodes : NodesView) (test : Spot → Bool) (n i most : ℕ) → Stand nodes → IsAhead nodes test n i most → IsSome (row_of_node nodes.rows n)
+pub is_there : (nodes : NodesView) (test : Spot → Bool) (n i most : ℕ) → Stand nodes → IsAheadFrom nodes test n i most → IsSome (row_of_node nodes.rows n)
 is_there nodes test n i most st h =
     ap is_some (row_ahead nodes test n i most st.read st.root st.stands (h st.read st.root st.stands)).1
 
--- how an alternative stands says whether it passes
+-- how an alternative stands says whether it passes_test
 abbrev AtCell : NodesView → Place → (Spot → Bool) → Bool → AlternativeCell → Type 0
 AtCell nodes a test result cell =
     (read : Reading) (v : Level) (up : List Level) (was : Status) → place_at v ≡ a → IsTableOf nodes read (plug (v ∷ up) was) → cell_of was ≡ cell
-    → result ≡ passes test v up was
+    → result ≡ passes_test test v up was
 
 passes_by : (nodes : NodesView) (a : Place) (test : Spot → Bool) (result : Bool) (cell : AlternativeCell)
     → option_map (λ c. c.1) (cell_at nodes.rows a) ≡ Some cell → AtCell nodes a test result cell → PassesAt nodes a test result
@@ -387,7 +387,7 @@ ready_passes nodes a which c = passes_by nodes a (test_of which) (wants_ready wh
     on_hold v up (Waiting g) entry x e = absurd (cc e)
     on_hold v up Dormant entry x e = absurd (cc e)
 
-    by_status : (v : Level) (up : List Level) (was : Status) → cell_of was ≡ PendingCell Ready → wants_ready which ≡ passes (test_of which) v up was
+    by_status : (v : Level) (up : List Level) (was : Status) → cell_of was ≡ PendingCell Ready → wants_ready which ≡ passes_test (test_of which) v up was
     by_status v up (Inner node) e = absurd (cc e)
     by_status v up (Closed credit) e = absurd (cc e)
     by_status v up (Pending hold entry) e = on_hold v up hold entry which (cc e)
@@ -402,7 +402,7 @@ waiting_fails nodes a g c = passes_by nodes a (test_of sought.Ready) false (Pend
     on_hold (Waiting h) e = refl
     on_hold Dormant e = refl
 
-    by_status : (v : Level) (up : List Level) (was : Status) → cell_of was ≡ PendingCell (Waiting g) → false ≡ passes (test_of sought.Ready) v up was
+    by_status : (v : Level) (up : List Level) (was : Status) → cell_of was ≡ PendingCell (Waiting g) → false ≡ passes_test (test_of sought.Ready) v up was
     by_status v up (Inner node) e = refl
     by_status v up (Closed credit) e = refl
     by_status v up (Pending hold entry) e = on_hold hold (cc e)
@@ -423,7 +423,7 @@ waiting_passes nodes a g first c f =
     on_hold v up Dormant entry z e = absurd (cc e)
 
     by_status : (v : Level) (up : List Level) (was : Status) → first ≡ first_open (levels_below (scope_of g) (v ∷ up)) → cell_of was ≡ PendingCell (Waiting g)
-        → is_none first ≡ passes (test_of sought.Cleared) v up was
+        → is_none first ≡ passes_test (test_of sought.Cleared) v up was
     by_status v up (Inner node) z e = absurd (cc e)
     by_status v up (Closed credit) z e = absurd (cc e)
     by_status v up (Pending hold entry) z e = on_hold v up hold entry z (cc e)
@@ -450,15 +450,10 @@ others_fail nodes a which cell n c = passes_by nodes a (test_of which) false cel
     on_hold v up Dormant entry sought.Ready e = refl
     on_hold v up Dormant entry sought.Cleared e = refl
 
-    by_status : (v : Level) (up : List Level) (was : Status) → passes_never (cell_of was) ≡ true → false ≡ passes (test_of which) v up was
+    by_status : (v : Level) (up : List Level) (was : Status) → passes_never (cell_of was) ≡ true → false ≡ passes_test (test_of which) v up was
     by_status v up (Inner node) e = refl
     by_status v up (Closed credit) e = refl
     by_status v up (Pending hold entry) e = on_hold v up hold entry which e
-
-pub some_at : (cells : List (ℕ × AlternativeCell)) (i : ℕ) → i < length cells → IsSome (slice_get cells i)
-some_at [] i l = absurd (omega (arith, l))
-some_at (x ∷ cells) zero l = refl
-some_at (x ∷ cells) (suc i) l = some_at cells i (omega (arith, l))
 
 -- one node less is ahead
 pub fewer_ahead : (left many m n : ℕ) → 0 < left → m < many → (left - 1) * (many + 1) + m < left * (many + 1) + n

@@ -1,4 +1,4 @@
--- The leftmost entry that passes a test.
+-- The leftmost entry that passes_test a test.
 use Rattle.std.specs.Prelude.{◌≡◌, ℕ, ◌+◌, ◌-◌, ◌<◌, ◌≤◌, Bool, true, false, List, [], ◌∷◌, ◌++◌, length, find, Option, Some, None, IsSome}
 use Rattle.std.specs.Option.{option_map}
 use Rattle.tree_model.specs.EventViews.{place_view}
@@ -26,15 +26,15 @@ IsFirstEntry test nodes result =
     (read : Reading) (root : Status) → IsTableOf nodes read root → option_map place_of_spot (find test (pending_of root)) ≡ result
 
 -- what is no entry doesn't pass
-abbrev pub passes : (Spot → Bool) → Level → List Level → Status → Bool
-passes test v up (Pending hold entry) = test (record { level = v; above = up; hold = hold; entry = entry })
-passes test v up (Inner node) = false
-passes test v up (Closed credit) = false
+abbrev pub passes_test : (Spot → Bool) → Level → List Level → Status → Bool
+passes_test test v up (Pending hold entry) = test (record { level = v; above = up; hold = hold; entry = entry })
+passes_test test v up (Inner node) = false
+passes_test test v up (Closed credit) = false
 
 abbrev pub PassesAt : NodesView → Place → (Spot → Bool) → Bool → Type 0
 PassesAt nodes a test result =
     (read : Reading) (v : Level) (up : List Level) (was : Status) → place_at v ≡ a → IsTableOf nodes read (plug (v ∷ up) was)
-    → result ≡ passes test v up was
+    → result ≡ passes_test test v up was
 
 -- the entries to the right of a place on these levels, and how many nodes there are
 abbrev pub spots_right : List Level → Status → List Spot
@@ -45,7 +45,7 @@ abbrev pub nodes_right : List Level → ℕ
 nodes_right [] = 0
 nodes_right (v ∷ up) = nodes_among v.right + nodes_right up
 
--- from an alternative of a node on: the first entry that passes is here or further right, where at most so many nodes are
+-- from an alternative of a node on: the first entry that passes_test is here or further right, where at most so many nodes are
 pub record IsAheadIn (test : Spot → Bool) (root : Status) (n i most : ℕ) : Type 0 where
   pub up : List Level
   pub kind : Kind
@@ -57,8 +57,8 @@ pub record IsAheadIn (test : Spot → Bool) (root : Status) (n i most : ℕ) : T
       ≡ find test (pending_among up n kind left right ++ spots_right up (Inner (Numbered n kind (put_left left right))))
   pub nodes : nodes_among right + nodes_right up ≤ most
 
-abbrev pub IsAhead : NodesView → (Spot → Bool) → ℕ → ℕ → ℕ → Type 0
-IsAhead nodes test n i most = (read : Reading) (root : Status) → IsTableOf nodes read root → IsAheadIn test root n i most
+abbrev pub IsAheadFrom : NodesView → (Spot → Bool) → ℕ → ℕ → ℕ → Type 0
+IsAheadFrom nodes test n i most = (read : Reading) (root : Status) → IsTableOf nodes read root → IsAheadIn test root n i most
 
 -- one node less is ahead below a node that is entered
 abbrev pub IsEntered : NodesView → (Spot → Bool) → ℕ → ℕ → Type 0
@@ -66,15 +66,15 @@ IsEntered nodes test n most =
     (read : Reading) (root : Status) → IsTableOf nodes read root → (0 < most) × IsAheadIn test root n 0 (most - 1)
 
 -- nothing is left of a node
-pub record IsPassed (nodes : NodesView) (test : Spot → Bool) (n most : ℕ) : Type 0 where
+pub record IsAlternativePassed (nodes : NodesView) (test : Spot → Bool) (n most : ℕ) : Type 0 where
   pub index : ℕ
   pub last : length (alternatives_at (row_of_node nodes.rows n)) ≤ index
-  pub ahead : IsAhead nodes test n index most
+  pub ahead : IsAheadFrom nodes test n index most
 
-abbrev pub LeadsTo : NodesView → (Spot → Bool) → ℕ → ℕ → Turn → Type 0
-LeadsTo nodes test n most (Found at) = IsFirstEntry test nodes (Some (place_view at))
-LeadsTo nodes test n most (Down below) = IsEntered nodes test below most
-LeadsTo nodes test n most Up = IsPassed nodes test n most
+abbrev pub TurnLeadsTo : NodesView → (Spot → Bool) → ℕ → ℕ → Turn → Type 0
+TurnLeadsTo nodes test n most (Found at) = IsFirstEntry test nodes (Some (place_view at))
+TurnLeadsTo nodes test n most (Down below) = IsEntered nodes test below most
+TurnLeadsTo nodes test n most Up = IsAlternativePassed nodes test n most
 
 -- what is found or entered is there, and further down
 abbrev pub IsTurnIn : Rows → ℕ → Turn → Type 0
@@ -83,6 +83,6 @@ IsTurnIn rows n (Down below) = IsSome (row_of_node rows below) × (n < below)
 IsTurnIn rows n Up = Unit {0}
 
 -- a node to begin at; none where no node is there
-abbrev pub IsStart : NodesView → (Spot → Bool) → Option ℕ → Type 0
-IsStart nodes test None = nodes.first ≡ None
-IsStart nodes test (Some n) = IsAhead nodes test n 0 nodes.live
+abbrev pub IsWalkStart : NodesView → (Spot → Bool) → Option ℕ → Type 0
+IsWalkStart nodes test None = nodes.first ≡ None
+IsWalkStart nodes test (Some n) = IsAheadFrom nodes test n 0 nodes.live

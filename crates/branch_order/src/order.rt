@@ -5,7 +5,7 @@ ghost use Rattle.tree_nodes.specs.Puts.{IsPlaceIn};
 ghost use Rattle.tree_nodes.specs.RowViews.{parent_view};
 ghost use Rattle.branch_order.specs.LeftOf.{open_first, IsOn};
 ghost use Rattle.branch_order.specs.Leftmosts.{IsLeftmost, IsTop};
-ghost use Rattle.branch_order.specs.Sought.{IsStart};
+ghost use Rattle.branch_order.specs.Sought.{IsWalkStart};
 
 use tree_model::AltRef;
 use tree_nodes::Nodes;
@@ -33,7 +33,7 @@ pub fn leftmost(nodes: &Nodes) -> Option<AltRef>
 // The lowest node that is known to have nothing open to its left, none where no node is there.
 pub(crate) fn top(nodes: &Nodes) -> Option<u64>
     ensures down { IsTop nodes.now result }
-    ensures ahead { (test : Spot → Bool) → IsStart nodes.now test result }
+    ensures ahead { (test : Spot → Bool) → IsWalkStart nodes.now test result }
 {
     // The proof reads off that there is a tree.
     let _live = nodes.live();

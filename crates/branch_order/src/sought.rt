@@ -7,7 +7,7 @@ ghost use Rattle.tree_model.specs.Legality.{is_ready, may_resume};
 ghost use Rattle.tree_nodes.specs.Rows.{row_of_node, cell_at, gate_view};
 ghost use Rattle.tree_nodes.specs.Puts.{IsPlaceIn};
 ghost use Rattle.tree_nodes.specs.RowViews.{parent_view};
-ghost use Rattle.branch_order.specs.Sought.{test_of, wants_ready, IsFirstEntry, PassesAt, IsAhead, LeadsTo, IsTurnIn};
+ghost use Rattle.branch_order.specs.Sought.{test_of, wants_ready, IsFirstEntry, PassesAt, IsAheadFrom, TurnLeadsTo, IsTurnIn};
 
 use crate::left::first_open;
 use crate::order::top;
@@ -84,7 +84,7 @@ fn leftmost_of(nodes: &Nodes, sought: Sought) -> Option<AltRef>
 // The alternative of a node after those at the left that have closed.
 fn begin(nodes: &Nodes, node: u64) -> AltRef
     ensures node { result.node ≡ node }
-    ensures ahead { (test : Spot → Bool) (most : ℕ) → IsAhead nodes.now test node 0 most → IsAhead nodes.now test node result.alternative most }
+    ensures ahead { (test : Spot → Bool) (most : ℕ) → IsAheadFrom nodes.now test node 0 most → IsAheadFrom nodes.now test node result.alternative most }
 {
     let _width = nodes.width(node);
     let passed = nodes.passed(node);
@@ -108,7 +108,7 @@ fn right_of(nodes: &Nodes, at: AltRef) -> AltRef
 
 // The first alternative of a node, from this one on, that is looked for or leads further down.
 fn next_turn(nodes: &Nodes, sought: Sought, from: AltRef) -> Turn
-    ensures leads { (most : ℕ) → IsAhead nodes.now (test_of sought) from.node from.alternative most → LeadsTo nodes.now (test_of sought) from.node most result }
+    ensures leads { (most : ℕ) → IsAheadFrom nodes.now (test_of sought) from.node from.alternative most → TurnLeadsTo nodes.now (test_of sought) from.node most result }
     ensures there { IsTurnIn nodes.now.rows from.node result }
 {
     let node = from.node;

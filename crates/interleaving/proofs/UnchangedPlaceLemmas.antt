@@ -25,7 +25,7 @@ use Rattle.interleaving.proofs.LegalLemmas.{legal_sound}
 use Rattle.au_term.proofs.LogicLemmas.{and-right, and-left, number_same}
 
 -- a history with one event more
-after-last : (t : TreeState) (es : List Event) (e : Event) → after_events t (es ++ e ∷ []) ≡ after_event (after_events t es) e
+pub after-last : (t : TreeState) (es : List Event) (e : Event) → after_events t (es ++ e ∷ []) ≡ after_event (after_events t es) e
 after-last t [] e = refl
 after-last t (d ∷ es) e = after-last (after_event t d) es e
 

@@ -11,10 +11,7 @@ use Rattle.tree_model.specs.Histories.{after_events, are_legal, tree_after, IsLe
 use Rattle.public_tree.specs.PublicTrees.{IsRooted, IsPublicOf}
 use Rattle.public_tree.specs.Following.{tree_of, EventsFollow, NothingFollows, OpeningFollows}
 use Rattle.interleaving.proofs.LegalLemmas.{opening_sound}
-
-after_one_more : (t : TreeState) (es : List Event) (e : Event) → after_events t (es ++ e ∷ []) ≡ after_event (after_events t es) e
-after_one_more t [] e = refl
-after_one_more t (d ∷ es) e = after_one_more (after_event t d) es e
+use Rattle.interleaving.proofs.UnchangedPlaceLemmas.{after-last}
 
 one_more_legal : (t : TreeState) (es : List Event) (e : Event) → are_legal t es ≡ true → is_legal (after_events t es) e ≡ true
     → are_legal t (es ++ e ∷ []) ≡ true
@@ -42,7 +39,7 @@ events_follow job read old new e h n =
     let es = old.log.events in
     let legal : is_legal (tree_of job old) e ≡ true = n.legal read (tree_of job old) h.stands in
     let tree : tree_of job new ≡ after_event (tree_of job old) e
-    = same_tree job new.budget old.budget new.window old.window new.log.events (es ++ e ∷ []) n.budget n.window n.noted ∙ after_one_more t es e in
+    = same_tree job new.budget old.budget new.window old.window new.log.events (es ++ e ∷ []) n.budget n.window n.noted ∙ after-last t es e in
     record {
       legal = same_legal job new.budget old.budget new.window old.window new.log.events (es ++ e ∷ []) n.budget n.window n.noted
           (one_more_legal t es e h.legal legal);

@@ -18,17 +18,17 @@ use Rattle.public_tree.specs.PublicTrees.{PublicView, IsPublicOf, Notes, IsSameT
 abbrev pub tree_of : Job → PublicView → TreeState
 tree_of job p = tree_after job p.budget p.window p.log.events
 
-pub record Follows (job : Job) (read : Reading) (p : PublicView) : Type 0 where
+pub record HistoryFollows (job : Job) (read : Reading) (p : PublicView) : Type 0 where
   pub legal : IsLegalHistory job p.budget p.window p.log.events
   pub stands : IsPublicOf p read (tree_of job p)
 
 -- one event more
 abbrev pub EventsFollow : Type 0
-EventsFollow = (job : Job) (read : Reading) (old new : PublicView) (e : Event) → Follows job read old → Notes old new e → Follows job read new
+EventsFollow = (job : Job) (read : Reading) (old new : PublicView) (e : Event) → HistoryFollows job read old → Notes old new e → HistoryFollows job read new
 
 -- or none
 abbrev pub NothingFollows : Type 0
-NothingFollows = (job : Job) (read : Reading) (old new : PublicView) → Follows job read old → IsSameTree old new → Follows job read new
+NothingFollows = (job : Job) (read : Reading) (old new : PublicView) → HistoryFollows job read old → IsSameTree old new → HistoryFollows job read new
 
 -- a tree that was opened for a job
 pub record IsOpened (job : Job) (read : Reading) (p : PublicView) : Type 0 where
@@ -40,21 +40,21 @@ pub record IsOpened (job : Job) (read : Reading) (p : PublicView) : Type 0 where
   pub events : p.log.events ≡ []
 
 abbrev pub OpeningFollows : Type 0
-OpeningFollows = (job : Job) (read : Reading) (p : PublicView) → IsOpened job read p → Follows job read p
+OpeningFollows = (job : Job) (read : Reading) (p : PublicView) → IsOpened job read p → HistoryFollows job read p
 
 -- no alternative was claimed twice, or out to two workers
 abbrev pub IsOnce : Type 0
-IsOnce = (job : Job) (read : Reading) (p : PublicView) (a : Place) → Follows job read p → handed_after a p.log.events Never ≢ None
+IsOnce = (job : Job) (read : Reading) (p : PublicView) (a : Place) → HistoryFollows job read p → handed_after a p.log.events Never ≢ None
 
 -- while the tree goes on and nobody has a task, there is one to take
 abbrev pub GoesOn : Type 0
-GoesOn = (job : Job) (read : Reading) (p : PublicView) → Follows job read p → is_going (tree_of job p) ≡ true → tasks_out (tree_of job p) ≡ []
+GoesOn = (job : Job) (read : Reading) (p : PublicView) → HistoryFollows job read p → is_going (tree_of job p) ≡ true → tasks_out (tree_of job p) ≡ []
     → claimable (tree_of job p) ≢ None ⊎ resumable (tree_of job p) ≢ None
 
 -- what was written is a front of the sequential text
 abbrev pub IsPrefix : Type 0
-IsPrefix = (job : Job) (read : Reading) (p : PublicView) → Follows job read p → p.budget ≤ greatest → KeepsPrefix job p.budget (tree_of job p)
+IsPrefix = (job : Job) (read : Reading) (p : PublicView) → HistoryFollows job read p → p.budget ≤ greatest → KeepsPrefix job p.budget (tree_of job p)
 
 -- a tree that has ended has the sequential text, ending and counts
 abbrev pub IsRightEnd : Type 0
-IsRightEnd = (job : Job) (read : Reading) (p : PublicView) → Follows job read p → p.budget ≤ greatest → EndsRight job p.budget (tree_of job p)
+IsRightEnd = (job : Job) (read : Reading) (p : PublicView) → HistoryFollows job read p → p.budget ≤ greatest → EndsRight job p.budget (tree_of job p)

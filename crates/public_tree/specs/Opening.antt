@@ -13,9 +13,9 @@ use Rattle.tree_nodes.specs.TreeTables.{NodesView, IsTableOf}
 use Rattle.public_tree.specs.PublicTrees.{PublicView}
 use Rattle.public_tree.specs.Following.{IsOpened}
 
-abbrev pub body_of : Option (Arc NodeBody Global) → Option Body
-body_of None = None
-body_of (Some b) = Some (body_view (arc_value b))
+abbrev pub opening_body : Option (Arc NodeBody Global) → Option Body
+opening_body None = None
+opening_body (Some b) = Some (body_view (arc_value b))
 
 abbrev pub IsWholeBody : Option Body → Type 0
 IsWholeBody None = Unit {0}

@@ -2,7 +2,7 @@
 ghost use Rattle.std.specs.Prelude.{◌≡◌, [], None, Some, false, length, IfOk};
 ghost use Rattle.std.specs.Arc.{arc_value};
 ghost use Rattle.tree_nodes.specs.Bodies.{IsWhole, body_view};
-ghost use Rattle.public_tree.specs.Opening.{body_of, IsWholeBody, StandsFirst, Opens};
+ghost use Rattle.public_tree.specs.Opening.{opening_body, IsWholeBody, StandsFirst, Opens};
 
 use crate::public::PublicTree;
 use au_term::NoMemory;
@@ -18,8 +18,8 @@ impl PublicTree {
         budget: u64,
         window: u64,
     ) -> Result<PublicTree, NoMemory>
-        requires { IsWholeBody (body_of first) }
-        ensures opens { IfOk result (λ p. Opens (body_of first) p) }
+        requires { IsWholeBody (opening_body first) }
+        ensures opens { IfOk result (λ p. Opens (opening_body first) p) }
         ensures budget { IfOk result (λ p. p.budget ≡ budget) }
         ensures window { IfOk result (λ p. p.window ≡ window) }
         ensures promised { IfOk result (λ p. p.log.promised ≡ 0) }
@@ -31,8 +31,8 @@ impl PublicTree {
 }
 
 fn first_nodes(alloc: Global, first: Option<Arc<NodeBody>>) -> Result<Nodes, NoMemory>
-    requires { IsWholeBody (body_of first) }
-    ensures { IfOk result (λ nodes. StandsFirst (body_of first) nodes) }
+    requires { IsWholeBody (opening_body first) }
+    ensures { IfOk result (λ nodes. StandsFirst (opening_body first) nodes) }
 {
     let mut nodes = Nodes::new(alloc);
     match first {

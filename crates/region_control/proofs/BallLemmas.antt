@@ -23,7 +23,7 @@ use Rattle.region_split.specs.declared.frame.FrameItem.TheVariants.{Goal, Call, 
 use Rattle.region_split.specs.declared.frame.Position.{Position}
 use Rattle.region_split.proofs.MarkLemmas.{cut_kinds}
 use Rattle.region_split.proofs.ItemLemmas.{position_more}
-use Rattle.region_control.specs.Balls.{is_end, HasFirstCatch, TakesCatch}
+use Rattle.region_control.specs.Balls.{is_catch_end, HasFirstCatch, TakesCatch}
 use Rattle.region_control.specs.declared.balls.Catch.{Catch}
 
 -- entries above the one whose mark is looked for
@@ -57,7 +57,7 @@ uncaught ball (EndEntry b ∷ es) = uncaught ball es
 abbrev mark_of : Substitution → List ℕ → List (Item ℕ) → Option ℕ
 mark_of s heights items = first_mark (map (resolve_item s) (map (by_height heights) items))
 
-no_end : (s : Substitution) (heights : List ℕ) (code : CodeView) (item : FrameItem) (cut : ℕ) (items : List (Item ℕ)) → is_end item ≡ false → mark_of s heights (scoped_item code item cut ∷ items) ≡ mark_of s heights items
+no_end : (s : Substitution) (heights : List ℕ) (code : CodeView) (item : FrameItem) (cut : ℕ) (items : List (Item ℕ)) → is_catch_end item ≡ false → mark_of s heights (scoped_item code item cut ∷ items) ≡ mark_of s heights items
 no_end s heights code (Goal value) cut items e = refl
 no_end s heights code (Call value) cut items e = refl
 no_end s heights code Cut cut items e = refl
@@ -66,7 +66,7 @@ no_end s heights code Fail cut items e = refl
 no_end s heights code CatchEnd cut items e = absurd cc
 no_end s heights code (Collect value) cut items e = refl
 
-an_end : (s : Substitution) (heights : List ℕ) (code : CodeView) (item : FrameItem) (cut : ℕ) (items : List (Item ℕ)) → is_end item ≡ true → mark_of s heights (scoped_item code item cut ∷ items) ≡ Some (height_of_cut heights (cut - 1))
+an_end : (s : Substitution) (heights : List ℕ) (code : CodeView) (item : FrameItem) (cut : ℕ) (items : List (Item ℕ)) → is_catch_end item ≡ true → mark_of s heights (scoped_item code item cut ∷ items) ≡ Some (height_of_cut heights (cut - 1))
 an_end s heights code (Goal value) cut items e = absurd cc
 an_end s heights code (Call value) cut items e = absurd cc
 an_end s heights code Cut cut items e = absurd cc
@@ -75,7 +75,7 @@ an_end s heights code Fail cut items e = absurd cc
 an_end s heights code CatchEnd cut items e = refl
 an_end s heights code (Collect value) cut items e = absurd cc
 
-pub end_marked : (choices : List ChoicePoint) (item : FrameItem) (cut : ℕ) → is_end item ≡ true → IsMarkOf choices cut item → (0 < cut) × IsCatchAt choices (cut - 1)
+pub end_marked : (choices : List ChoicePoint) (item : FrameItem) (cut : ℕ) → is_catch_end item ≡ true → IsMarkOf choices cut item → (0 < cut) × IsCatchAt choices (cut - 1)
 end_marked choices (Goal value) cut e m = absurd cc
 end_marked choices (Call value) cut e m = absurd cc
 end_marked choices Cut cut e m = absurd cc
@@ -94,7 +94,7 @@ walk_begun r p i = record { position = i; same = λ named. refl }
 
 module _ (r : RegionView) (start p : Position) (w : IsWalking r start p) where
   module _ (item : FrameItem) (cut : ℕ) (first : IsFirstAt r p item cut) where
-    pub walk_past : (q : Position) → q ≡ next_position p → is_end item ≡ false → IsWalking r start q
+    pub walk_past : (q : Position) → q ≡ next_position p → is_catch_end item ≡ false → IsWalking r start q
     walk_past q is e = subst (IsWalking r start) (sym is) (record {
       position = position_more r cut (length r.choices) (next_position p) first.scope first.after;
       same = λ named.
@@ -106,7 +106,7 @@ module _ (r : RegionView) (start p : Position) (w : IsWalking r start p) where
     pub fewer_left : (q : Position) → q ≡ next_position p → length (items_here r q) + q.frame < length (items_here r p) + p.frame
     fewer_left q is = let a = ap length first.items in let b = ap (λ (x : Position). length (items_here r x) + x.frame) is in omega (arith, a, b)
 
-    pub catch_found : is_end item ≡ true → HasFirstCatch r start (Some (cut - 1))
+    pub catch_found : is_catch_end item ≡ true → HasFirstCatch r start (Some (cut - 1))
     catch_found e = record {
       is = λ named. w.same named ∙ (ap (mark_of r.store.now.bound (heights_of named r)) first.items ∙ an_end r.store.now.bound (heights_of named r) (text_in r.store) item cut (items_here r (next_position p)) e);
       there = (end_marked r.choices item cut e first.mark).1;

@@ -14,6 +14,7 @@ use Rattle.binding_array.specs.declared.cell.BindingCell.{BindingCell}
 use Rattle.cell_store.specs.StoreView.{StoreView, IsValidStore, IsValueIn, AddsText, text_in, value_term, meaning, with_numbers, with_substitution}
 use Rattle.cell_store.specs.UnificationSteps.{OnlyBinds, AreUnified}
 use Rattle.cell_store.proofs.SubstitutionLemmas.{value_raised}
+use Rattle.region_split.proofs.TrialLemmas.{same_parts}
 use Rattle.region_split.specs.ChoicePoints.{Standing, height_of_cut, by_height}
 use Rattle.region_split.specs.Regions.{RegionView, standing, entries_of, heights_of, items_here, continuation_here, IsPositionIn, IsPositionOver}
 use Rattle.region_split.specs.StackOperations.{KeepsPositions, StaysStanding, PutsBefore, item_here}
@@ -37,9 +38,6 @@ copy_unbound : (s : Substitution) (t : Term) (next : ℕ) → ((n : ℕ) → nex
 copy_unbound s t next free =
     apply-apply (value_of s) (renamed (seen_in t []) next) t
     ∙ apply-same (λ n. value_of s (next + place_of (seen_in t []) n)) (renamed (seen_in t []) next) (λ n. free (next + place_of (seen_in t []) n) (omega arith)) t
-
-same_parts : {is js : List (Item ℕ)} {vs ws : List NamedTerm} {m n : ℕ} → is ≡ js → vs ≡ ws → m ≡ n → (let f : Continuation ℕ = record { items = is; named = vs; next = m } in f) ≡ record { items = js; named = ws; next = n }
-same_parts e f g = cc
 
 -- the copy is put behind the text
 module _ (r r1 r2 : RegionView) (ball : Term) (c : Catch) (copy : BindingCell) (takes : ℕ) (valid : IsValidStore r.store) (takes_is : takes ≡ copy_takes ball) (widened : r1 ≡ record r { store = with_numbers takes r.store })

@@ -16,7 +16,7 @@ use Rattle.region_split.specs.Regions.{RegionView, left_here, entries_of, height
 use Rattle.region_split.specs.StackOperations.{CutsTo, StaysStanding}
 use Rattle.region_split.specs.declared.frame.FrameItem.TheVariants.{Goal, Call, Cut, True, Fail, CatchEnd, Collect}
 use Rattle.region_split.specs.declared.frame.Position.{Position}
-use Rattle.region_control.specs.Balls.{mark_height, IsCatchOf, HasFirstCatch, TakesCatch, Recovers, LandsAt, IsUncaught}
+use Rattle.region_control.specs.Balls.{mark_height, IsCatchOver, HasFirstCatch, TakesCatch, Recovers, LandsAt, IsUncaught}
 use Rattle.region_control.specs.declared.balls.Catch.{Catch}
 use Rattle.region_control.proofs.BallLemmas.{unwound_past, unwound_at, uncaught}
 
@@ -43,7 +43,7 @@ mark_stays r new p stays named =
 -- a ball was thrown, and goes further down to a mark
 pub record IsUnwinding (old now : RegionView) (ball : Term) (thrown : Position) (mark : Option ℕ) : Type 0 where
   pub same : (named : List NamedTerm) → unwound ball (first_mark (continuation_here named old thrown).items) (entries_of named old) ≡ unwound ball (mark_height (heights_of named now) mark) (entries_of named now)
-  pub there : IsCatchOf now.choices mark
+  pub there : IsCatchOver now.choices mark
 
 pub unwinding_begun : (r : RegionView) (ball : Term) (thrown : Position) (mark : Option ℕ) → HasFirstCatch r thrown mark → IsUnwinding r r ball thrown mark
 unwinding_begun r ball thrown mark h = record { same = λ named. ap (λ m. unwound ball m (entries_of named r)) (h.is named); there = h.there }

@@ -18,28 +18,28 @@ use Rattle.region_split.specs.declared.frame.Position.{Position}
 use Rattle.region_control.specs.declared.balls.Catch.{Catch}
 
 -- the end of what a catch guards
-abbrev pub is_end : FrameItem → Bool
-is_end (Goal value) = false
-is_end (Call value) = false
-is_end Cut = false
-is_end True = false
-is_end Fail = false
-is_end CatchEnd = true
-is_end (Collect value) = false
+abbrev pub is_catch_end : FrameItem → Bool
+is_catch_end (Goal value) = false
+is_catch_end (Call value) = false
+is_catch_end Cut = false
+is_catch_end True = false
+is_catch_end Fail = false
+is_catch_end CatchEnd = true
+is_catch_end (Collect value) = false
 
 -- the height of a catch that is over so many choice points
 abbrev pub mark_height : List ℕ → Option ℕ → Option ℕ
 mark_height heights None = None
 mark_height heights (Some over) = Some (height_of_cut heights over)
 
-abbrev pub IsCatchOf : List ChoicePoint → Option ℕ → Type 0
-IsCatchOf choices None = Unit {0}
-IsCatchOf choices (Some over) = IsCatchAt choices over
+abbrev pub IsCatchOver : List ChoicePoint → Option ℕ → Type 0
+IsCatchOver choices None = Unit {0}
+IsCatchOver choices (Some over) = IsCatchAt choices over
 
 -- the catch whose mark comes first at a position
 pub record HasFirstCatch (r : RegionView) (p : Position) (mark : Option ℕ) : Type 0 where
   pub is : (named : List NamedTerm) → first_mark (continuation_here named r p).items ≡ mark_height (heights_of named r) mark
-  pub there : IsCatchOf r.choices mark
+  pub there : IsCatchOver r.choices mark
 
 -- the catch over so many choice points was taken off, with all above it, at the store of the time when it came
 pub record TakesCatch (old new : RegionView) (over : ℕ) (c : Catch) : Type 0 where

@@ -3,7 +3,7 @@ ghost use Rattle.std.specs.Prelude.{◌≡◌, IfOk};
 ghost use Rattle.cell_store.specs.StoreView.{IsValueIn};
 ghost use Rattle.region_split.specs.ChoicePoints.{IsCatchAt};
 ghost use Rattle.region_split.specs.Regions.{IsPositionIn};
-ghost use Rattle.region_control.specs.Balls.{is_end, HasFirstCatch, TakesCatch, RecoversOr, Lands};
+ghost use Rattle.region_control.specs.Balls.{is_catch_end, HasFirstCatch, TakesCatch, RecoversOr, Lands};
 
 use au_model::copies::copy_term;
 use au_term::{FlatTerm, NoMemory, Shared, VarNo};
@@ -67,7 +67,7 @@ fn first_catch(region: &Region, position: Position) -> Result<Option<u32>, NoMem
 
 /// Whether an item is the end of what a catch guards.
 fn ends_catch(item: FrameItem) -> bool
-    ensures { result ≡ is_end item }
+    ensures { result ≡ is_catch_end item }
 {
     match item {
         FrameItem::CatchEnd => true,

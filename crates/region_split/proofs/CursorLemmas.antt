@@ -9,7 +9,7 @@ use Rattle.run_model.specs.Machine.Items.{Continuation}
 use Rattle.run_model.specs.Machine.Entries.{Entry, solution_entry, solution_entries}
 use Rattle.binding_array.specs.declared.cell.BindingCell.{BindingCell}
 use Rattle.cell_store.specs.StoreView.{Moment, StoreView, text_at, taken_back, with_marks}
-use Rattle.region_split.specs.Frames.{AreScoped}
+use Rattle.region_split.specs.Frames.{AreLeftScoped}
 use Rattle.region_split.specs.ChoicePoints.{RegionSetting, Standing, standing_over, nothing_standing, with_entries_on_top, choice_entries, alternative_entries, continuation_at, meant_at, height_of_cut, AreAlternativesAt, IsChoiceOver, HasNextClause, frames_kept}
 use Rattle.region_split.specs.Regions.{RegionView, left_here, region_setting, standing, heights_of, continuation_here, IsConsistentRegion}
 use Rattle.region_split.specs.StackOperations.{TakesClause}
@@ -112,7 +112,7 @@ module _ (r : RegionView) (k : IsConsistentRegion r) (cs : List ChoicePoint) (c 
     is = clause_there.is;
     position = record {
       frame = let o = top.own in let e = last_kept r k cs c ms m m choices marks in let f = k.frames in omega (arith, o, e, f);
-      scoped = subst (λ n. AreScoped (text_at r.store m) m.next n (left_here r c.after)) (sym own_place) top.scoped;
+      scoped = subst (λ n. AreLeftScoped (text_at r.store m) m.next n (left_here r c.after)) (sym own_place) top.scoped;
       marked = all_marked cs (cs ++ left ∷ []) (left_here r c.after) (more_kinds cs (left ∷ [])) (both_marked r k cs c ms m m choices marks).1;
     };
     goal = clauses_there.0;

@@ -3,7 +3,7 @@ use Rattle.std.proofs.Common.{◌≡◌, ℕ, ◌+◌, ◌<◌, ◌≤◌, List,
 use Rattle.std.proofs.lemmas.List.{get_or_append_left, take-append-drop, length-take-le}
 use Rattle.std.proofs.Math.Seq.{get_or-append_seam}
 use Rattle.cell_store.proofs.UndoingLemmas.{front_at}
-use Rattle.region_split.specs.Frames.{LeftItem, own_left, left_in, left_over, left_items, AreFramesOver}
+use Rattle.region_split.specs.Frames.{LeftItem, own_body_left, left_in, left_over, left_items, AreFramesOver}
 use Rattle.region_split.specs.declared.text.BodyItem.{BodyItem}
 use Rattle.region_split.specs.declared.frame.Frame.{Frame}
 use Rattle.region_split.specs.declared.frame.Position.{Position}
@@ -42,7 +42,7 @@ kept_left bodies fs gs p le =
     ap (λ (ls : List Left). get_or ls p.frame none p.at) split ∙ ap (λ (l : Left). l p.at) (left_kept bodies older gs p.frame (omega (arith, long, le)))
 
 -- what is left in a new frame
-pub pushed_left : (bodies : List BodyItem) (fs : List Frame) (f : Frame) (p : Position) → p.frame ≡ length fs + 1 → left_items bodies (fs ++ f ∷ []) p ≡ own_left bodies f.body f.cut p.at ++ left_items bodies fs f.after
+pub pushed_left : (bodies : List BodyItem) (fs : List Frame) (f : Frame) (p : Position) → p.frame ≡ length fs + 1 → left_items bodies (fs ++ f ∷ []) p ≡ own_body_left bodies f.body f.cut p.at ++ left_items bodies fs f.after
 pushed_left bodies fs f p e =
     let older = left_over bodies (none ∷ []) fs in
     let own = left_in bodies older f in
@@ -78,7 +78,7 @@ goes_on_before cut zero (g ∷ fs) f k lt e = let same : f.after.frame ≡ g.aft
 goes_on_before cut (suc i) (g ∷ fs) f k lt e = let rest = goes_on_before (cut + 1) i fs f k.1 (omega (arith, lt)) e in omega (arith, rest)
 
 -- what is left in a frame that is there
-pub frame_left : (bodies : List BodyItem) (fs : List Frame) (f : Frame) (i : ℕ) (p : Position) → AreFramesOver 0 fs → i < length fs → f ≡ get_or fs i f → p.frame ≡ i + 1 → left_items bodies fs p ≡ own_left bodies f.body f.cut p.at ++ left_items bodies fs f.after
+pub frame_left : (bodies : List BodyItem) (fs : List Frame) (f : Frame) (i : ℕ) (p : Position) → AreFramesOver 0 fs → i < length fs → f ≡ get_or fs i f → p.frame ≡ i + 1 → left_items bodies fs p ≡ own_body_left bodies f.body f.cut p.at ++ left_items bodies fs f.after
 frame_left bodies fs f i p k lt e is =
     let long = length-take-le i fs (omega (arith, lt)) in
     let more : take (i + 1) fs ≡ take i fs ++ f ∷ [] = front_at fs i f lt e in
@@ -86,7 +86,7 @@ frame_left bodies fs f i p k lt e is =
     sym (taken_left bodies (i + 1) fs p (omega (arith, lt)) (omega (arith, is)))
     ∙ (ap (λ gs. left_items bodies gs p) more
     ∙ (pushed_left bodies (take i fs) f p (omega (arith, long, is))
-    ∙ ap (λ items. own_left bodies f.body f.cut p.at ++ items) (taken_left bodies i fs f.after (omega (arith, lt)) (omega (arith, before)))))
+    ∙ ap (λ items. own_body_left bodies f.body f.cut p.at ++ items) (taken_left bodies i fs f.after (omega (arith, lt)) (omega (arith, before)))))
 
 -- the place at which a body is read
 pub read_on : (bodies : List BodyItem) (at : ℕ) (item : BodyItem) → slice_get bodies at ≡ Some item → drop at bodies ≡ item ∷ drop (at + 1) bodies

@@ -3,7 +3,7 @@ use Rattle.std.proofs.Common.{◌≡◌, ℕ, ◌≤◌, List, [], ◌∷◌, �
 use Rattle.au_model.specs.Terms.Named.{NamedTerm}
 use Rattle.run_model.specs.Machine.Items.{Item, Continuation, before, resolve_continuation}
 use Rattle.cell_store.specs.StoreView.{StoreView, text_in}
-use Rattle.region_split.specs.Frames.{LeftItem, OwnItem, item_in, AreScoped}
+use Rattle.region_split.specs.Frames.{LeftItem, OwnItem, item_in, AreLeftScoped}
 use Rattle.region_split.specs.ChoicePoints.{Standing, by_height, IsMarkOf, AreMarked}
 use Rattle.region_split.specs.Regions.{RegionView, left_here, heights_of, continuation_here, IsPositionOver, IsItemHere}
 use Rattle.region_split.specs.StackOperations.{AddsFrame, PutsBefore, item_here}
@@ -30,7 +30,7 @@ item_put r new item cut number after there mark position a =
     record {
       position = record {
         frame = a.there;
-        scoped = subst (AreScoped (text_in new.store) new.store.now.next cut) (sym left) (subst (λ (x : StoreView). AreScoped (text_in x) x.now.next cut (OwnItem item cut ∷ left_here r after)) (sym store) (omega arith, there, position.scoped));
+        scoped = subst (AreLeftScoped (text_in new.store) new.store.now.next cut) (sym left) (subst (λ (x : StoreView). AreLeftScoped (text_in x) x.now.next cut (OwnItem item cut ∷ left_here r after)) (sym store) (omega arith, there, position.scoped));
         marked = subst (AreMarked new.choices) (sym left) (subst (λ (x : RegionView). AreMarked x.choices (OwnItem item cut ∷ left_here r after)) (sym a.others) (mark, position.marked));
       };
       goes_on = λ named.

@@ -7,7 +7,7 @@ use Rattle.clause_compile.specs.Places.{IsPlaceOf, meaning_in}
 use Rattle.clause_compile.specs.declared.place.Place.{Place}
 use Rattle.binding_array.specs.declared.cell.BindingCell.{BindingCell}
 use Rattle.cell_store.specs.StoreView.{IsValueIn, text_in, value_term}
-use Rattle.region_split.specs.Frames.{LeftItem, PlacedGoal, OwnItem, item_in, body_left, own_left, next_position, AreScoped}
+use Rattle.region_split.specs.Frames.{LeftItem, PlacedGoal, OwnItem, item_in, body_left, own_body_left, next_position, AreLeftScoped}
 use Rattle.region_split.specs.ChoicePoints.{AreMarked}
 use Rattle.region_split.specs.Regions.{RegionView, IsConsistentRegion, left_here, items_here, IsPositionIn, IsLeftAt}
 use Rattle.region_split.specs.declared.frame.Frame.{Frame}
@@ -29,7 +29,7 @@ module _ (r : RegionView) (k : IsConsistentRegion r) (p : Position) (f : Frame) 
   frame_there = let a = i.frame in let b = place in omega (arith, a, b)
 
   abbrev own : FrameBody → ℕ → List LeftItem
-  own body at = own_left r.text.bodies body f.cut at
+  own body at = own_body_left r.text.bodies body f.cut at
 
   whole : left_here r p ≡ own f.body p.at ++ left_here r f.after
   whole = frame_left r.text.bodies r.frames f (p.frame - 1) p k.older frame_there at place
@@ -48,12 +48,12 @@ module _ (r : RegionView) (k : IsConsistentRegion r) (p : Position) (f : Frame) 
       let same : left_here r p ≡ left_here r f.after = whole ∙ ap (λ is. is ++ left_here r f.after) e in
       record {
         items = ap (map (item_in (text_in r.store))) same;
-        position = record { frame = let a = older_frame in let b = i.frame in omega (arith, a, b); scoped = subst (AreScoped (text_in r.store) r.store.now.next (length r.choices)) same i.scoped; marked = subst (AreMarked r.choices) same i.marked };
+        position = record { frame = let a = older_frame in let b = i.frame in omega (arith, a, b); scoped = subst (AreLeftScoped (text_in r.store) r.store.now.next (length r.choices)) same i.scoped; marked = subst (AreMarked r.choices) same i.marked };
         older = older_frame;
       }
 
-  scoped_from : (item : LeftItem) → left_here r p ≡ item ∷ left_here r (next_position p) → AreScoped (text_in r.store) r.store.now.next (length r.choices) (item ∷ left_here r (next_position p))
-  scoped_from item e = subst (AreScoped (text_in r.store) r.store.now.next (length r.choices)) e i.scoped
+  scoped_from : (item : LeftItem) → left_here r p ≡ item ∷ left_here r (next_position p) → AreLeftScoped (text_in r.store) r.store.now.next (length r.choices) (item ∷ left_here r (next_position p))
+  scoped_from item e = subst (AreLeftScoped (text_in r.store) r.store.now.next (length r.choices)) e i.scoped
 
   marked_from : (item : LeftItem) → left_here r p ≡ item ∷ left_here r (next_position p) → AreMarked r.choices (item ∷ left_here r (next_position p))
   marked_from item e = subst (AreMarked r.choices) e i.marked

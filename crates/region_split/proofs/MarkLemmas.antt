@@ -2,7 +2,7 @@
 use Rattle.std.proofs.Common.{◌≡◌, ℕ, zero, suc, ◌+◌, ◌-◌, ◌<◌, ◌≤◌, List, [], ◌∷◌, ◌++◌, append_assoc, append-nil, length, length-append, take, slice_get, IsSomeAnd, refl, sym, subst, arith}
 use Rattle.cell_store.specs.StoreView.{Moment}
 use Rattle.clause_compile.specs.Places.{CodeView}
-use Rattle.region_split.specs.Frames.{LeftItem, PlacedGoal, OwnItem, left_items, scope_of, AreScoped}
+use Rattle.region_split.specs.Frames.{LeftItem, PlacedGoal, OwnItem, left_items, left_scope, AreLeftScoped}
 use Rattle.region_split.specs.ChoicePoints.{RegionSetting, AreChoicesOver, IsCatching, IsCollecting, IsCatchAt, IsFindallAt, IsMarkOf, IsMarkedIn, AreMarked, AreMarkedOver, frames_kept}
 use Rattle.region_split.specs.declared.choice.Alternatives.{Alternatives}
 use Rattle.region_split.specs.declared.choice.ChoicePoint.{ChoicePoint}
@@ -25,13 +25,13 @@ mark_kept n xs ys Fail cut k le m = tt
 mark_kept n xs ys CatchEnd cut k le m = let some = m.0 in (m.0, (k (cut - 1) (omega (arith, some, le))).0 m.1)
 mark_kept n xs ys (Collect value) cut k le m = let some = m.0 in (m.0, (k (cut - 1) (omega (arith, some, le))).1 m.1)
 
-marked_in_kept : (n : ℕ) (xs ys : List ChoicePoint) (i : LeftItem) → KeepsKinds n xs ys → scope_of i ≤ n → IsMarkedIn xs i → IsMarkedIn ys i
+marked_in_kept : (n : ℕ) (xs ys : List ChoicePoint) (i : LeftItem) → KeepsKinds n xs ys → left_scope i ≤ n → IsMarkedIn xs i → IsMarkedIn ys i
 marked_in_kept n xs ys (PlacedGoal place base cut) k le m = tt
 marked_in_kept n xs ys (OwnItem item cut) k le m = mark_kept n xs ys item cut k le m
 
-pub marked_kept : (code : CodeView) (next n cut : ℕ) (xs ys : List ChoicePoint) (left : List LeftItem) → KeepsKinds n xs ys → cut ≤ n → AreScoped code next cut left → AreMarked xs left → AreMarked ys left
+pub marked_kept : (code : CodeView) (next n cut : ℕ) (xs ys : List ChoicePoint) (left : List LeftItem) → KeepsKinds n xs ys → cut ≤ n → AreLeftScoped code next cut left → AreMarked xs left → AreMarked ys left
 marked_kept code next n cut xs ys [] k le s m = tt
-marked_kept code next n cut xs ys (i ∷ left) k le s m = (marked_in_kept n xs ys i k (omega (arith, le, s.0)) m.0, marked_kept code next n (scope_of i) xs ys left k (omega (arith, le, s.0)) s.2 m.1)
+marked_kept code next n cut xs ys (i ∷ left) k le s m = (marked_in_kept n xs ys i k (omega (arith, le, s.0)) m.0, marked_kept code next n (left_scope i) xs ys left k (omega (arith, le, s.0)) s.2 m.1)
 
 -- the same without scopes, where all are kept
 abbrev pub KeepsAllKinds : List ChoicePoint → List ChoicePoint → Type 0
@@ -39,7 +39,7 @@ KeepsAllKinds xs ys = (i : ℕ) → (IsCatchAt xs i → IsCatchAt ys i) × (IsFi
 
 pub all_marked : (xs ys : List ChoicePoint) (left : List LeftItem) → KeepsAllKinds xs ys → AreMarked xs left → AreMarked ys left
 all_marked xs ys [] k m = tt
-all_marked xs ys (i ∷ left) k m = (marked_in_kept (scope_of i) xs ys i (λ j lt. k j) (omega arith) m.0, all_marked xs ys left k m.1)
+all_marked xs ys (i ∷ left) k m = (marked_in_kept (left_scope i) xs ys i (λ j lt. k j) (omega arith) m.0, all_marked xs ys left k m.1)
 
 there_still : (P : ChoicePoint → Type 0) (xs zs : List ChoicePoint) (i : ℕ) → IsSomeAnd (slice_get xs i) P → IsSomeAnd (slice_get (xs ++ zs) i) P
 there_still P [] zs i h = absurd h

@@ -8,7 +8,7 @@ use Rattle.run_model.specs.Machine.Items.{resolve_continuation}
 use Rattle.run_model.specs.Machine.Entries.{PlainEntry}
 use Rattle.cell_store.specs.StoreView.{Moment, StoreView, text_at, text_in, taken_back, with_mark, with_marks}
 use Rattle.cell_store.proofs.UndoingLemmas.{take_within}
-use Rattle.region_split.specs.Frames.{own_left, AreScoped}
+use Rattle.region_split.specs.Frames.{own_body_left, AreLeftScoped}
 use Rattle.region_split.specs.ChoicePoints.{Standing, standing_over, nothing_standing, with_entries_on_top, continuation_at, height_of_cut, IsChoiceOver, AreChoicesOver, AreAlternativesAt, AreMarked, AreMarkedOver, frames_kept}
 use Rattle.region_split.specs.Regions.{RegionView, left_here, region_setting, standing, entries_of, heights_of, entries_on, IsPositionIn, AreAlternativesIn, IsConsistentRegion}
 use Rattle.region_split.specs.StackOperations.{AddsFrame, AddsChoice, CutsTo, TakesNewest, DropsNewest}
@@ -24,7 +24,7 @@ pub nothing_measured : IsMeasured nothing_standing 0
 nothing_measured = record { before = []; is = refl; long = refl }
 
 -- what is left at a position stays where heights do up to so many choice points
-pub same_entry : (named : List NamedTerm) (r : RegionView) (hs ks : List ℕ) (cut next : ℕ) (p : Position) → ((n : ℕ) → n ≤ cut → height_of_cut hs n ≡ height_of_cut ks n) → AreScoped (text_in r.store) next cut (left_here r p)
+pub same_entry : (named : List NamedTerm) (r : RegionView) (hs ks : List ℕ) (cut next : ℕ) (p : Position) → ((n : ℕ) → n ≤ cut → height_of_cut hs n ≡ height_of_cut ks n) → AreLeftScoped (text_in r.store) next cut (left_here r p)
     → continuation_at (region_setting named r) hs r.store.now p ≡ continuation_at (region_setting named r) ks r.store.now p
 same_entry named r hs ks cut next p same s = ap (λ items. resolve_continuation r.store.now.bound (record { items = items; named = named; next = r.store.now.next })) (same_heights hs ks (text_in r.store) next cut (left_here r p) same s)
 
@@ -49,10 +49,10 @@ module _ (r : RegionView) (k : IsConsistentRegion r) (f : Frame) (n : ℕ) (kept
   adds_frame = record {
     there = let l = framed_long in omega (arith, l);
     younger = omega (arith, own);
-    left = λ at. pushed_left r.text.bodies (take n r.frames) f (record { frame = n + 1; at = at }) (let l = length-take-le n r.frames within in omega (arith, l)) ∙ ap (λ is. own_left r.text.bodies f.body f.cut at ++ is) (taken_left r.text.bodies n r.frames f.after within own);
+    left = λ at. pushed_left r.text.bodies (take n r.frames) f (record { frame = n + 1; at = at }) (let l = length-take-le n r.frames within in omega (arith, l)) ∙ ap (λ is. own_body_left r.text.bodies f.body f.cut at ++ is) (taken_left r.text.bodies n r.frames f.after within own);
     stands = stands;
     keeps = record {
-      position = λ cut p le i. record { frame = let l = framed_long in omega (arith, l, le, own); scoped = subst (AreScoped (text_in r.store) r.store.now.next cut) (sym (same_to p (omega (arith, le, own)))) i.scoped; marked = subst (AreMarked r.choices) (sym (same_to p (omega (arith, le, own)))) i.marked };
+      position = λ cut p le i. record { frame = let l = framed_long in omega (arith, l, le, own); scoped = subst (AreLeftScoped (text_in r.store) r.store.now.next cut) (sym (same_to p (omega (arith, le, own)))) i.scoped; marked = subst (AreMarked r.choices) (sym (same_to p (omega (arith, le, own)))) i.marked };
       same = λ named p le i. ap PlainEntry (ap (λ (st : Standing). continuation_at (region_setting named (record r { frames = framed })) st.heights r.store.now p) (stands named) ∙ same_continuation (region_setting named r) framed n (heights_of named r) r.store.now p same_to (omega (arith, le, own)));
     };
     others = refl;
@@ -141,7 +141,7 @@ module _ (r : RegionView) (k : IsConsistentRegion r) (n : ℕ) (le : n ≤ lengt
   pub cuts_to : CutsTo r cut_down n
   cuts_to = record {
     entries = λ named. lowest_entries (standing named cut_down) (standing named r) n (below named) (over named);
-    position = λ p i. record { frame = i.frame; scoped = subst (λ cut. AreScoped (text_in r.store) r.store.now.next cut (left_here r p)) (sym fewer) i.scoped; marked = marked_kept (text_in r.store) r.store.now.next n n r.choices (take n r.choices) (left_here r p) (cut_kinds n r.choices) (omega arith) i.scoped i.marked };
+    position = λ p i. record { frame = i.frame; scoped = subst (λ cut. AreLeftScoped (text_in r.store) r.store.now.next cut (left_here r p)) (sym fewer) i.scoped; marked = marked_kept (text_in r.store) r.store.now.next n n r.choices (take n r.choices) (left_here r p) (cut_kinds n r.choices) (omega arith) i.scoped i.marked };
     same = λ named p i. ap PlainEntry (same_entry named r (heights_of named cut_down) (heights_of named r) n r.store.now.next p (λ j lt. sym (heights_kept (standing named cut_down) (standing named r) n j (below named) (over named) lt)) i.scoped);
     text = refl;
     store = refl;
@@ -197,7 +197,7 @@ module _ (r : RegionView) (k : IsConsistentRegion r) (cs : List ChoicePoint) (c 
   pub takes_newest : now ≡ m → TakesNewest r lowered c
   takes_newest e = record {
     entries = λ named. lowered_entries named ∙ ap (λ x. entries_on named lowered c x ++ entries_of named lowered) (sym e);
-    position = record { frame = let o = newest.own in let e = last_kept in let f = k.frames in omega (arith, o, e, f); scoped = subst (λ (x : Moment). AreScoped (text_at r.store x) x.next (length cs) (left_here r c.after)) (sym e) newest.scoped; marked = both_marked.1 };
+    position = record { frame = let o = newest.own in let e = last_kept in let f = k.frames in omega (arith, o, e, f); scoped = subst (λ (x : Moment). AreLeftScoped (text_at r.store x) x.next (length cs) (left_here r c.after)) (sym e) newest.scoped; marked = both_marked.1 };
     heights = lowered_heights;
     alternatives = subst (λ x. AreAlternativesAt (region_setting [] r) x c.alternatives) (sym e) newest.values;
     choices = choices;

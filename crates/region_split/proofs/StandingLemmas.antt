@@ -6,7 +6,7 @@ use Rattle.au_model.specs.Terms.Named.{NamedTerm}
 use Rattle.run_model.specs.Machine.Items.{Continuation, resolve_continuation}
 use Rattle.run_model.specs.Machine.Entries.{Entry, lowest}
 use Rattle.cell_store.specs.StoreView.{Moment}
-use Rattle.region_split.specs.Frames.{left_items, item_in, AreScoped}
+use Rattle.region_split.specs.Frames.{left_items, item_in, AreLeftScoped}
 use Rattle.region_split.specs.ChoicePoints.{RegionSetting, code_at, Standing, standing_over, with_entries_on_top, choice_entries, alternative_entries, continuation_at, AreAlternativesAt, IsChoiceOver, AreChoicesOver, frames_kept, height_of_cut, by_height}
 use Rattle.region_split.specs.declared.choice.Alternatives.{Alternatives}
 use Rattle.region_split.specs.declared.choice.Alternatives.TheVariants.{Clauses, Elsewhere, Catch, Findall, QueryEnd}
@@ -119,7 +119,7 @@ choices_same s fs n cut frames [] (m ∷ ms) same k le = absurd k
 choices_same s fs n cut frames (c ∷ cs) [] same k le = absurd k
 choices_same s fs n cut frames (c ∷ cs) (m ∷ ms) same k le =
     let o = k.0.own in let more = kept_more s (cut + 1) c.frames cs ms k.1 in (
-      record { own = k.0.own; older = k.0.older; scoped = subst (AreScoped (code_at s m) m.next cut) (sym (same c.after (omega (arith, o, more, le)))) k.0.scoped; values = same_values s fs m c.alternatives k.0.values },
+      record { own = k.0.own; older = k.0.older; scoped = subst (AreLeftScoped (code_at s m) m.next cut) (sym (same c.after (omega (arith, o, more, le)))) k.0.scoped; values = same_values s fs m c.alternatives k.0.values },
       choices_same s fs n (cut + 1) c.frames cs ms same k.1 le,
     )
 

@@ -10,7 +10,7 @@ use Rattle.run_model.specs.Goals.Outcomes.{alternatives_of}
 use Rattle.clause_compile.specs.Places.{CodeView, Keeps}
 use Rattle.cell_store.specs.StoreView.{Moment, StoreView, AddsText, text_in, with_numbers}
 use Rattle.cell_store.proofs.SubstitutionLemmas.{value_kept}
-use Rattle.region_split.specs.Frames.{AreScoped, left_items, item_in}
+use Rattle.region_split.specs.Frames.{AreLeftScoped, left_items, item_in}
 use Rattle.region_split.specs.ChoicePoints.{RegionSetting, Standing, code_at, continuation_at, alternative_entries, choice_entries, standing_over, nothing_standing, with_entries_on_top, by_height, AreAlternativesAt, AreChoicesOver}
 use Rattle.region_split.specs.Regions.{RegionView, region_setting, left_here, heights_of, standing, IsConsistentRegion, IsPositionOver}
 use Rattle.region_split.specs.StackOperations.{KeepsPositions, StaysStanding}
@@ -57,7 +57,7 @@ module _ (program : CodeView) (names : List (List ℕ)) (s : RegionSetting) wher
   kept_alternatives m h f (Findall list results) k v = ap (λ t. FindallEntry results.terms (resolve m.bound t) (with_next results.next f) ∷ []) (value_kept (code_at s m) (code_at now m) m.next list k v.0).1
   kept_alternatives m h f QueryEnd k v = refl
 
-  kept_continuation : (hs : List ℕ) (m : Moment) (cut : ℕ) (p : Position) → IsKept m → AreScoped (code_at s m) m.next cut (left_items s.text.bodies s.frames p) → continuation_at now hs m p ≡ continuation_at s hs m p
+  kept_continuation : (hs : List ℕ) (m : Moment) (cut : ℕ) (p : Position) → IsKept m → AreLeftScoped (code_at s m) m.next cut (left_items s.text.bodies s.frames p) → continuation_at now hs m p ≡ continuation_at s hs m p
   kept_continuation hs m cut p k scoped =
       ap (λ items. resolve_continuation m.bound (record { items = map (by_height hs) items; named = s.named; next = m.next })) (items_kept (code_at s m) (code_at now m) m.next cut (left_items s.text.bodies s.frames p) k scoped)
 
@@ -103,7 +103,7 @@ module _ (r : RegionView) (k : IsConsistentRegion r) (new : StoreView) (adds : A
   position : (cut : ℕ) (p : Position) → IsPositionOver r cut p → IsPositionOver added cut p
   position cut p i = record {
     frame = i.frame;
-    scoped = subst (λ n. AreScoped (text_in new) n cut (left_here r p)) (sym adds.next) (scoped_kept (text_in r.store) (text_in new) r.store.now.next cut (left_here r p) adds.keeps i.scoped);
+    scoped = subst (λ n. AreLeftScoped (text_in new) n cut (left_here r p)) (sym adds.next) (scoped_kept (text_in r.store) (text_in new) r.store.now.next cut (left_here r p) adds.keeps i.scoped);
     marked = i.marked;
   }
 

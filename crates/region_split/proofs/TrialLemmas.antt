@@ -24,7 +24,7 @@ use Rattle.cell_store.specs.StoreView.{Moment, StoreView, IsValidStore, IsValueI
 use Rattle.cell_store.proofs.CellMeaningLemmas.{term_below}
 use Rattle.cell_store.proofs.UndoingLemmas.{map-same}
 use Rattle.region_split.specs.ChoicePoints.{height_of_cut, by_height, AreMarked}
-use Rattle.region_split.specs.Frames.{LeftItem, PlacedGoal, item_in, body_left, own_left, AreScoped}
+use Rattle.region_split.specs.Frames.{LeftItem, PlacedGoal, item_in, body_left, own_body_left, AreLeftScoped}
 use Rattle.region_split.specs.Texts.{TextView, body_items, IsPlacedClause}
 use Rattle.region_split.specs.Regions.{RegionView, left_here, items_here, heights_of, continuation_here, IsPositionOver}
 use Rattle.region_split.specs.StackOperations.{AddsFrame, StaysStanding, trial_entries}
@@ -42,7 +42,7 @@ use Rattle.region_split.proofs.CursorLemmas.{is_there}
 use Rattle.region_split.proofs.FrameLemmas.{read_on}
 use Rattle.region_split.proofs.ScopeLemmas.{scoped_further}
 
-same_parts : {is js : List (Item ℕ)} {vs ws : List NamedTerm} {m n : ℕ} → is ≡ js → vs ≡ ws → m ≡ n → (let f : Continuation ℕ = record { items = is; named = vs; next = m } in f) ≡ record { items = js; named = ws; next = n }
+pub same_parts : {is js : List (Item ℕ)} {vs ws : List NamedTerm} {m n : ℕ} → is ≡ js → vs ≡ ws → m ≡ n → (let f : Continuation ℕ = record { items = is; named = vs; next = m } in f) ≡ record { items = js; named = ws; next = n }
 same_parts e f g = cc
 
 -- goals whose variables begin further up, in one scope
@@ -62,7 +62,7 @@ placed_items : (code : CodeView) (base cut : ℕ) (goals : List Place) → map (
 placed_items code base cut [] = refl
 placed_items code base cut (g ∷ goals) = ap (λ is. GoalItem (shifted base (meaning_in code g)) cut ∷ is) (placed_items code base cut goals)
 
-goals_scoped : (code : CodeView) (base k cut n : ℕ) (goals : List Place) (left : List LeftItem) → base + k ≤ n → Each (IsPlaceOf code) goals → AreBelow k (map (meaning_in code) goals) → AreScoped code n cut left → AreScoped code n cut (placed_from base cut goals ++ left)
+goals_scoped : (code : CodeView) (base k cut n : ℕ) (goals : List Place) (left : List LeftItem) → base + k ≤ n → Each (IsPlaceOf code) goals → AreBelow k (map (meaning_in code) goals) → AreLeftScoped code n cut left → AreLeftScoped code n cut (placed_from base cut goals ++ left)
 goals_scoped code base k cut n [] left le there b s = s
 goals_scoped code base k cut n (g ∷ goals) left le there b s =
     (omega arith, (there.0, (let w = shifted_within base k (meaning_in code g) b.0 in omega (arith, w, le))), goals_scoped code base k cut n goals left le there.1 b.1 s)
@@ -218,7 +218,7 @@ module _ (r : RegionView) (t : Trial) (cut : ℕ) (p : PlacedClause) (b : Begins
           ∙ ap (λ f. PlainEntry f ∷ []) (sym (same_parts (all_resolved r.store.now.bound further now bound next p.vars c renames (heights_of named r) cut (clause_goals_of c.body) items_after (goals_within p.vars c.body body_within))
           (named_twice r.store.now.bound further now bound named) takes))
 
-      scoped : AreScoped (text_in r.store) (next + p.vars) cut (own_placed ++ left_here r t.after)
+      scoped : AreLeftScoped (text_in r.store) (next + p.vars) cut (own_placed ++ left_here r t.after)
       scoped =
           goals_scoped (text_in r.store) next p.vars cut (next + p.vars) b.placed.goals (left_here r t.after) (omega arith)
           (each-more (IsPlaceOf r.text.code) (IsPlaceOf (text_in r.store)) (λ g there. (keeps.same g there).0) b.placed.goals b.placed.goals_there)
@@ -231,7 +231,7 @@ module _ (r : RegionView) (t : Trial) (cut : ℕ) (p : PlacedClause) (b : Begins
       pub body_tried : (new : RegionView) (f : Frame) (number : ℕ) → f ≡ record { body = FrameText next; cut = cut; after = t.after } → AddsFrame (with_bound now) new f number → TriesClause r new t cut (Some (record { frame = number; at = p.body }))
       body_tried new f number made a =
           let pos : Position = record { frame = number; at = p.body } in
-          let left : left_here new pos ≡ own_placed ++ left_here r t.after = a.left p.body ∙ (ap (λ (g : Frame). own_left r.text.bodies g.body g.cut p.body ++ left_here r g.after) made ∙ ap (λ xs. xs ++ left_here r t.after) whole_body) in
+          let left : left_here new pos ≡ own_placed ++ left_here r t.after = a.left p.body ∙ (ap (λ (g : Frame). own_body_left r.text.bodies g.body g.cut p.body ++ left_here r g.after) made ∙ ap (λ xs. xs ++ left_here r t.after) whole_body) in
           let code : text_in new.store ≡ text_in r.store = ap (λ (x : RegionView). text_in x.store) a.others in
           let items : items_here new pos ≡ own ++ items_after = ap (λ xs. map (item_in (text_in new.store)) xs) left ∙ (ap (λ x. map (item_in x) (own_placed ++ left_here r t.after)) code ∙ all_items) in
           let store : new.store.now ≡ (with_bound now).store.now = ap (λ (x : RegionView). x.store.now) a.others in
@@ -245,8 +245,8 @@ module _ (r : RegionView) (t : Trial) (cut : ℕ) (p : PlacedClause) (b : Begins
                 ∙ ap (λ hs. entry_by named hs (with_bound now).store.now (own ++ items_after)) (ap (λ st. st.heights) (a.stands named)))));
             position = record {
               frame = a.there;
-              scoped = subst (AreScoped (text_in new.store) new.store.now.next cut) (sym left)
-                  (subst (λ (x : StoreView). AreScoped (text_in x) x.now.next cut (own_placed ++ left_here r t.after)) (sym (ap (λ (x : RegionView). x.store) a.others)) scoped);
+              scoped = subst (AreLeftScoped (text_in new.store) new.store.now.next cut) (sym left)
+                  (subst (λ (x : StoreView). AreLeftScoped (text_in x) x.now.next cut (own_placed ++ left_here r t.after)) (sym (ap (λ (x : RegionView). x.store) a.others)) scoped);
               marked = subst (AreMarked new.choices) (sym left) (subst (λ (x : RegionView). AreMarked x.choices (own_placed ++ left_here r t.after)) (sym a.others) (goals_marked r.choices next cut b.placed.goals (left_here r t.after) after.marked));
             };
             frames = λ e. absurd cc;

@@ -12,7 +12,7 @@ use Rattle.binding_array.specs.Represented.{cell_term}
 use Rattle.binding_array.specs.declared.cell.BindingCell.{BindingCell}
 use Rattle.cell_store.specs.StoreView.{Moment}
 use Rattle.cell_store.specs.Values.{IsValue}
-use Rattle.region_split.specs.Frames.{LeftItem, PlacedGoal, OwnItem, left_items, items_at, AreScoped}
+use Rattle.region_split.specs.Frames.{LeftItem, PlacedGoal, OwnItem, left_items, items_at, AreLeftScoped}
 use Rattle.region_split.specs.Texts.{TextView}
 use Rattle.region_split.specs.ResultLists.{with_copy}
 use Rattle.region_split.specs.declared.choice.Alternatives.{Alternatives}
@@ -169,7 +169,7 @@ AreAlternativesAt s m QueryEnd = Unit {0}
 pub record IsChoiceOver (s : RegionSetting) (cut frames : ℕ) (c : ChoicePoint) (m : Moment) : Type 0 where
   pub own : c.after.frame ≤ c.frames
   pub older : frames ≤ c.frames
-  pub scoped : AreScoped (code_at s m) m.next cut (left_items s.text.bodies s.frames c.after)
+  pub scoped : AreLeftScoped (code_at s m) m.next cut (left_items s.text.bodies s.frames c.after)
   pub values : AreAlternativesAt s m c.alternatives
 
 -- each choice point over those that are older, each with its moment

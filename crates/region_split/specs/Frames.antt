@@ -49,17 +49,17 @@ one_left item cut zero = OwnItem item cut ∷ []
 one_left item cut (suc at) = []
 
 -- what is left of a frame's own body from a place on
-abbrev pub own_left : List BodyItem → FrameBody → ℕ → ℕ → List LeftItem
-own_left bodies (Text base) cut at = body_left base cut (drop at bodies)
-own_left bodies (One item) cut at = one_left item cut at
+abbrev pub own_body_left : List BodyItem → FrameBody → ℕ → ℕ → List LeftItem
+own_body_left bodies (Text base) cut at = body_left base cut (drop at bodies)
+own_body_left bodies (One item) cut at = one_left item cut at
 
 -- what is left to do at a position, by what is left in each frame from a place on
-abbrev pub left_by : List (ℕ → List LeftItem) → Position → List LeftItem
-left_by frames p = get_or frames p.frame (λ at. []) p.at
+abbrev pub left_in_frames : List (ℕ → List LeftItem) → Position → List LeftItem
+left_in_frames frames p = get_or frames p.frame (λ at. []) p.at
 
 -- what is left in a frame: of its body, and then where it goes on
 abbrev pub left_in : List BodyItem → List (ℕ → List LeftItem) → Frame → ℕ → List LeftItem
-left_in bodies older f at = own_left bodies f.body f.cut at ++ left_by older f.after
+left_in bodies older f at = own_body_left bodies f.body f.cut at ++ left_in_frames older f.after
 
 -- what is left in each frame, the oldest first
 abbrev pub left_over : List BodyItem → List (ℕ → List LeftItem) → List Frame → List (ℕ → List LeftItem)
@@ -68,7 +68,7 @@ left_over bodies older (f ∷ frames) = left_over bodies (older ++ left_in bodie
 
 -- what is left to do at a position: nothing where it is in no frame, which has the number 0
 abbrev pub left_items : List BodyItem → List Frame → Position → List LeftItem
-left_items bodies frames p = left_by (left_over bodies ((λ at. []) ∷ []) frames) p
+left_items bodies frames p = left_in_frames (left_over bodies ((λ at. []) ∷ []) frames) p
 
 -- the same as items
 abbrev pub items_at : CodeView → List BodyItem → List Frame → Position → List (Item ℕ)
@@ -88,14 +88,14 @@ abbrev pub IsLeftIn : CodeView → ℕ → LeftItem → Type 0
 IsLeftIn code next (PlacedGoal place base cut) = IsPlaceOf code place × (var_bound (shifted base (meaning_in code place)) ≤ next)
 IsLeftIn code next (OwnItem item cut) = IsItemIn code next item
 
-abbrev pub scope_of : LeftItem → ℕ
-scope_of (PlacedGoal place base cut) = cut
-scope_of (OwnItem item cut) = cut
+abbrev pub left_scope : LeftItem → ℕ
+left_scope (PlacedGoal place base cut) = cut
+left_scope (OwnItem item cut) = cut
 
 -- values are there, and scopes are so many choice points at most, none above that of an item before
-abbrev pub AreScoped : CodeView → ℕ → ℕ → List LeftItem → Type 0
-AreScoped code next cut [] = Unit {0}
-AreScoped code next cut (i ∷ left) = (scope_of i ≤ cut) × IsLeftIn code next i × AreScoped code next (scope_of i) left
+abbrev pub AreLeftScoped : CodeView → ℕ → ℕ → List LeftItem → Type 0
+AreLeftScoped code next cut [] = Unit {0}
+AreLeftScoped code next cut (i ∷ left) = (left_scope i ≤ cut) × IsLeftIn code next i × AreLeftScoped code next (left_scope i) left
 
 -- the place after it in the same frame
 abbrev pub next_position : Position → Position

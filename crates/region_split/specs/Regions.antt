@@ -4,7 +4,7 @@ use Rattle.au_model.specs.Terms.Named.{NamedTerm}
 use Rattle.run_model.specs.Machine.Items.{Item, Continuation}
 use Rattle.run_model.specs.Machine.Entries.{Entry, PlainEntry}
 use Rattle.cell_store.specs.StoreView.{StoreView, Moment, text_in}
-use Rattle.region_split.specs.Frames.{LeftItem, left_items, items_at, scoped_item, next_position, IsItemIn, AreScoped, AreFramesOver}
+use Rattle.region_split.specs.Frames.{LeftItem, left_items, items_at, scoped_item, next_position, IsItemIn, AreLeftScoped, AreFramesOver}
 use Rattle.region_split.specs.Texts.{TextView}
 use Rattle.region_split.specs.ChoicePoints.{RegionSetting, Standing, standing_over, nothing_standing, continuation_at, choice_entries, AreChoicesOver, AreAlternativesAt, IsMarkOf, AreMarked, AreMarkedOver, frames_kept}
 use Rattle.region_split.specs.declared.choice.Alternatives.{Alternatives}
@@ -57,7 +57,7 @@ entries_on named r c m = choice_entries (region_setting named r) (standing named
 -- a position where the values and the marks of what is left are there, and nothing cuts to more than so many choice points
 pub record IsPositionOver (r : RegionView) (cut : ℕ) (p : Position) : Type 0 where
   pub frame : p.frame ≤ length r.frames
-  pub scoped : AreScoped (text_in r.store) r.store.now.next cut (left_here r p)
+  pub scoped : AreLeftScoped (text_in r.store) r.store.now.next cut (left_here r p)
   pub marked : AreMarked r.choices (left_here r p)
 
 -- a position at which the region can go on

@@ -8,7 +8,7 @@ use Rattle.run_model.specs.Machine.Items.{Item, before, resolve_item}
 use Rattle.run_model.specs.Machine.Entries.{Entry, lowest, solution_entry, collected}
 use Rattle.cell_store.specs.StoreView.{Moment, text_in, with_mark, with_marks, new_store, IsValueIn, meaning}
 use Rattle.region_split.specs.Texts.{TextView}
-use Rattle.region_split.specs.Frames.{own_left, scoped_item}
+use Rattle.region_split.specs.Frames.{own_body_left, scoped_item}
 use Rattle.region_split.specs.ChoicePoints.{height_of_cut, by_height, HaveNoClause, IsFindallAt}
 use Rattle.region_split.specs.Regions.{RegionView, left_here, continuation_here, standing, entries_of, heights_of, position_entry, entries_on, IsPositionIn, IsPositionOver, AreAlternativesIn}
 use Rattle.region_split.specs.declared.choice.Alternatives.{Alternatives}
@@ -31,7 +31,7 @@ pub record KeepsPositions (old new : RegionView) (frame : ℕ) : Type 0 where
 pub record AddsFrame (old new : RegionView) (f : Frame) (number : ℕ) : Type 0 where
   pub there : number ≤ length new.frames
   pub younger : f.after.frame < number
-  pub left : (at : ℕ) → left_here new (record { frame = number; at = at }) ≡ own_left old.text.bodies f.body f.cut at ++ left_here old f.after
+  pub left : (at : ℕ) → left_here new (record { frame = number; at = at }) ≡ own_body_left old.text.bodies f.body f.cut at ++ left_here old f.after
   pub stands : (named : List NamedTerm) → standing named new ≡ standing named old
   pub keeps : KeepsPositions old new f.after.frame
   pub others : new ≡ record old { frames = new.frames }

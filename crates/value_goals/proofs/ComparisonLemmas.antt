@@ -25,7 +25,7 @@ use Rattle.cell_store.specs.UnificationSteps.{AllEquations, equations_in, paired
 use Rattle.cell_store.specs.declared.arguments.Arguments.{Arguments}
 use Rattle.cell_store.specs.declared.arguments.Equations.{Equations}
 use Rattle.cell_store.proofs.WritingLemmas.{how_many}
-use Rattle.value_goals.specs.Comparison.{order_of_pairs, left_size, pairs_of, size_of_all, AreSides, kind_of, OpensInto, Enters}
+use Rattle.value_goals.specs.Comparison.{order_of_pairs, left_size, argument_pairs, size_of_all, AreSides, kind_number, OpensInto, Enters}
 use Rattle.value_goals.proofs.TopLemmas.{told}
 
 -- terms of different kinds
@@ -54,51 +54,51 @@ kinds_differ (CompoundTerm f ts) (IntTerm z) h = refl
 kinds_differ (CompoundTerm f ts) (AtomTerm b) h = refl
 kinds_differ (CompoundTerm f ts) (CompoundTerm g us) h = absurd (h refl)
 
-kind_told : (st : StoreView) (value c : BindingCell) → IsDereferenced st value c → kind_of c ≡ term_kind (meaning st value)
+kind_told : (st : StoreView) (value c : BindingCell) → IsDereferenced st value c → kind_number c ≡ term_kind (meaning st value)
 unfolding term_kind
-kind_told st value c d = told st term_kind (kind_of c) value c d (λ v e. ap kind_of e) (λ z e. ap kind_of e) (λ a name e. ap kind_of e) (λ at base f ts e. ap kind_of e)
+kind_told st value c d = told st term_kind (kind_number c) value c d (λ v e. ap kind_number e) (λ z e. ap kind_number e) (λ a name e. ap kind_number e) (λ at base f ts e. ap kind_number e)
 
-pub by_kind : (st : StoreView) (v w l r : BindingCell) → IsDereferenced st v l → IsDereferenced st w r → (kind_of l ≡ kind_of r → ⊥) → nat_cmp (kind_of l) (kind_of r) ≡ order (meaning st v) (meaning st w)
+pub by_kind : (st : StoreView) (v w l r : BindingCell) → IsDereferenced st v l → IsDereferenced st w r → (kind_number l ≡ kind_number r → ⊥) → nat_cmp (kind_number l) (kind_number r) ≡ order (meaning st v) (meaning st w)
 by_kind st v w l r d e h =
     let k = kind_told st v l d in
     let j = kind_told st w r e in
     ap₂ nat_cmp k j ∙ kinds_differ (meaning st v) (meaning st w) (λ q. h (k ∙ (q ∙ sym j)))
 
 -- values of which the left one alone is of a kind
-pub not_variable : (m : ℕ) (l r : BindingCell) → l ≡ Var m → ((n : ℕ) → r ≡ Var n → ⊥) → kind_of l ≡ kind_of r → ⊥
-not_variable m l r e h k = by r h (ap kind_of (sym e) ∙ k)
+pub not_variable : (m : ℕ) (l r : BindingCell) → l ≡ Var m → ((n : ℕ) → r ≡ Var n → ⊥) → kind_number l ≡ kind_number r → ⊥
+not_variable m l r e h k = by r h (ap kind_number (sym e) ∙ k)
   where
-    by : (c : BindingCell) → ((n : ℕ) → c ≡ Var n → ⊥) → 0 ≡ kind_of c → ⊥
+    by : (c : BindingCell) → ((n : ℕ) → c ≡ Var n → ⊥) → 0 ≡ kind_number c → ⊥
     by Free h k = absurd (omega arith)
     by (Var n) h k = h n refl
     by (Int z) h k = absurd (omega arith)
     by (Atom a) h k = absurd (omega arith)
     by (Compound at base) h k = absurd (omega arith)
 
-pub not_integer : (y : ℤ) (l r : BindingCell) → l ≡ Int y → ((z : ℤ) → r ≡ Int z → ⊥) → kind_of l ≡ kind_of r → ⊥
-not_integer y l r e h k = by r h (ap kind_of (sym e) ∙ k)
+pub not_integer : (y : ℤ) (l r : BindingCell) → l ≡ Int y → ((z : ℤ) → r ≡ Int z → ⊥) → kind_number l ≡ kind_number r → ⊥
+not_integer y l r e h k = by r h (ap kind_number (sym e) ∙ k)
   where
-    by : (c : BindingCell) → ((z : ℤ) → c ≡ Int z → ⊥) → 1 ≡ kind_of c → ⊥
+    by : (c : BindingCell) → ((z : ℤ) → c ≡ Int z → ⊥) → 1 ≡ kind_number c → ⊥
     by Free h k = absurd (omega arith)
     by (Var n) h k = absurd (omega arith)
     by (Int z) h k = h z refl
     by (Atom a) h k = absurd (omega arith)
     by (Compound at base) h k = absurd (omega arith)
 
-pub not_atom : (a : ℕ) (l r : BindingCell) → l ≡ Atom a → ((b : ℕ) → r ≡ Atom b → ⊥) → kind_of l ≡ kind_of r → ⊥
-not_atom a l r e h k = by r h (ap kind_of (sym e) ∙ k)
+pub not_atom : (a : ℕ) (l r : BindingCell) → l ≡ Atom a → ((b : ℕ) → r ≡ Atom b → ⊥) → kind_number l ≡ kind_number r → ⊥
+not_atom a l r e h k = by r h (ap kind_number (sym e) ∙ k)
   where
-    by : (c : BindingCell) → ((b : ℕ) → c ≡ Atom b → ⊥) → 2 ≡ kind_of c → ⊥
+    by : (c : BindingCell) → ((b : ℕ) → c ≡ Atom b → ⊥) → 2 ≡ kind_number c → ⊥
     by Free h k = absurd (omega arith)
     by (Var n) h k = absurd (omega arith)
     by (Int z) h k = absurd (omega arith)
     by (Atom b) h k = h b refl
     by (Compound at base) h k = absurd (omega arith)
 
-pub not_compound : (at base : ℕ) (l r : BindingCell) → l ≡ Compound at base → ((to over : ℕ) → r ≡ Compound to over → ⊥) → kind_of l ≡ kind_of r → ⊥
-not_compound at base l r e h k = by r h (ap kind_of (sym e) ∙ k)
+pub not_compound : (at base : ℕ) (l r : BindingCell) → l ≡ Compound at base → ((to over : ℕ) → r ≡ Compound to over → ⊥) → kind_number l ≡ kind_number r → ⊥
+not_compound at base l r e h k = by r h (ap kind_number (sym e) ∙ k)
   where
-    by : (c : BindingCell) → ((to over : ℕ) → c ≡ Compound to over → ⊥) → 3 ≡ kind_of c → ⊥
+    by : (c : BindingCell) → ((to over : ℕ) → c ≡ Compound to over → ⊥) → 3 ≡ kind_number c → ⊥
     by Free h k = absurd (omega arith)
     by (Var n) h k = absurd (omega arith)
     by (Int z) h k = absurd (omega arith)
@@ -200,7 +200,7 @@ first_there st e p h = (by_count e.left.base e.left.at e.left.count p h.left, by
 -- the first arguments and the others
 module _ (st : StoreView) (e f : Equations) (l r : BindingCell) (some : 0 < e.left.count) (sides : AreSides st e) (fl : f.left ≡ record { at = e.left.at + 1; base = e.left.base; count = e.left.count - 1 }) (fr : f.right ≡ record { at = e.right.at + 1; base = e.right.base; count = e.right.count - 1 })
     (tl : value_term st l ≡ argument_at (text_in st) e.left.base e.left.at) (tr : value_term st r ≡ argument_at (text_in st) e.right.base e.right.at) where
-  first_pair : (n : ℕ) → e.left.count ≡ n → (pairs_of st e ≡ (meaning st l, meaning st r) ∷ pairs_of st f) × AreSides st f
+  first_pair : (n : ℕ) → e.left.count ≡ n → (argument_pairs st e ≡ (meaning st l, meaning st r) ∷ argument_pairs st f) × AreSides st f
   first_pair zero q = absurd (omega arith)
   first_pair (suc n) q =
       let right_count : e.right.count ≡ suc n = sym sides.as_many ∙ q in
@@ -219,22 +219,22 @@ module _ (st : StoreView) (e f : Equations) (l r : BindingCell) (some : 0 < e.le
       )
 
   -- they were compared
-  module _ (ps : Pairs) (same : order_of_pairs (pairs_of st e) ≡ order_of_pairs ps) (fewer : left_size (pairs_of st e) ≤ left_size ps) where
-    split : (pairs_of st e ≡ (meaning st l, meaning st r) ∷ pairs_of st f) × AreSides st f
+  module _ (ps : Pairs) (same : order_of_pairs (argument_pairs st e) ≡ order_of_pairs ps) (fewer : left_size (argument_pairs st e) ≤ left_size ps) where
+    split : (argument_pairs st e ≡ (meaning st l, meaning st r) ∷ argument_pairs st f) × AreSides st f
     split = first_pair e.left.count refl
 
-    turned_out : ordering_then (order (meaning st l) (meaning st r)) (order_of_pairs (pairs_of st f)) ≡ order_of_pairs ps
+    turned_out : ordering_then (order (meaning st l) (meaning st r)) (order_of_pairs (argument_pairs st f)) ≡ order_of_pairs ps
     turned_out = sym (ap order_of_pairs split.0) ∙ same
 
-    pub pair_equal : Equal ≡ order (meaning st l) (meaning st r) → (order_of_pairs (pairs_of st f) ≡ order_of_pairs ps) × AreSides st f × (left_size (pairs_of st f) ≤ left_size ps)
-    pair_equal h = (ap (λ o. ordering_then o (order_of_pairs (pairs_of st f))) h ∙ turned_out, split.1, omega (arith, ap left_size split.0))
+    pub pair_equal : Equal ≡ order (meaning st l) (meaning st r) → (order_of_pairs (argument_pairs st f) ≡ order_of_pairs ps) × AreSides st f × (left_size (argument_pairs st f) ≤ left_size ps)
+    pair_equal h = (ap (λ o. ordering_then o (order_of_pairs (argument_pairs st f))) h ∙ turned_out, split.1, omega (arith, ap left_size split.0))
 
     pub pair_differs : (o : Ordering) → o ≡ order (meaning st l) (meaning st r) → (o ≡ Equal → ⊥) → o ≡ order_of_pairs ps
-    pair_differs o h d = sym (first_decides o (order_of_pairs (pairs_of st f)) d) ∙ (ap (λ p. ordering_then p (order_of_pairs (pairs_of st f))) h ∙ turned_out)
+    pair_differs o h d = sym (first_decides o (order_of_pairs (argument_pairs st f)) d) ∙ (ap (λ p. ordering_then p (order_of_pairs (argument_pairs st f))) h ∙ turned_out)
 
     pub pair_enters : (d : Equations) → OpensInto st (order (meaning st l) (meaning st r)) (size (meaning st l)) d → Enters st ps d f
     pair_enters d h = record {
-      same = ap (λ o. ordering_then o (order_of_pairs (pairs_of st f))) h.same ∙ turned_out;
+      same = ap (λ o. ordering_then o (order_of_pairs (argument_pairs st f))) h.same ∙ turned_out;
       there = h.there;
       rest_there = split.1;
       fewer = omega (arith, h.fewer, ap left_size split.0);

@@ -28,17 +28,17 @@ left_size [] = 0
 left_size (p ∷ ps) = size p.0 + left_size ps
 
 -- what the arguments on either side stand for
-abbrev pub pairs_of : StoreView → Equations → Pairs
-pairs_of st e = resolved_equations (substitution st) (equations_in (text_in st) e)
+abbrev pub argument_pairs : StoreView → Equations → Pairs
+argument_pairs st e = resolved_equations (substitution st) (equations_in (text_in st) e)
 
 -- the top ones first
 abbrev pub order_of_all : StoreView → List Equations → Ordering
 order_of_all st [] = Equal
-order_of_all st (e ∷ es) = ordering_then (order_of_pairs (pairs_of st e)) (order_of_all st es)
+order_of_all st (e ∷ es) = ordering_then (order_of_pairs (argument_pairs st e)) (order_of_all st es)
 
 abbrev pub size_of_all : StoreView → List Equations → ℕ
 size_of_all st [] = 0
-size_of_all st (e ∷ es) = left_size (pairs_of st e) + size_of_all st es
+size_of_all st (e ∷ es) = left_size (argument_pairs st e) + size_of_all st es
 
 -- as many arguments on the one side as on the other, and maybe none
 pub record AreSides (st : StoreView) (e : Equations) : Type 0 where
@@ -47,18 +47,18 @@ pub record AreSides (st : StoreView) (e : Equations) : Type 0 where
   pub as_many : e.left.count ≡ e.right.count
 
 -- variables, integers, atoms, compounds
-abbrev pub kind_of : BindingCell → ℕ
-kind_of Free = 4
-kind_of (Var v) = 0
-kind_of (Int z) = 1
-kind_of (Atom a) = 2
-kind_of (Compound at base) = 3
+abbrev pub kind_number : BindingCell → ℕ
+kind_number Free = 4
+kind_number (Var v) = 0
+kind_number (Int z) = 1
+kind_number (Atom a) = 2
+kind_number (Compound at base) = 3
 
 -- the order of two compounds is that of their arguments
 pub record OpensInto (st : StoreView) (o : Ordering) (n : ℕ) (e : Equations) : Type 0 where
-  pub same : order_of_pairs (pairs_of st e) ≡ o
+  pub same : order_of_pairs (argument_pairs st e) ≡ o
   pub there : AreEquations (text_in st) st.now.next e
-  pub fewer : left_size (pairs_of st e) < n
+  pub fewer : left_size (argument_pairs st e) < n
 
 -- two terms with this order, the left one of this size, were compared
 abbrev pub IsCompared : StoreView → Ordering → ℕ → Compared → Type 0
@@ -67,11 +67,11 @@ IsCompared st o n (Inside e) = OpensInto st o n e
 
 -- the pairs up to the arguments of two compounds are equal, and then come the others
 pub record Enters (st : StoreView) (ps : Pairs) (e rest : Equations) : Type 0 where
-  pub same : ordering_then (order_of_pairs (pairs_of st e)) (order_of_pairs (pairs_of st rest)) ≡ order_of_pairs ps
+  pub same : ordering_then (order_of_pairs (argument_pairs st e)) (order_of_pairs (argument_pairs st rest)) ≡ order_of_pairs ps
   pub there : AreEquations (text_in st) st.now.next e
   pub rest_there : AreSides st rest
-  pub fewer : left_size (pairs_of st e) + left_size (pairs_of st rest) < left_size ps
+  pub fewer : left_size (argument_pairs st e) + left_size (argument_pairs st rest) < left_size ps
 
-abbrev pub IsWalked : StoreView → Pairs → Walked → Type 0
-IsWalked st ps (Ended found) = found ≡ order_of_pairs ps
-IsWalked st ps (Entered e rest) = Enters st ps e rest
+abbrev pub IsPairWalk : StoreView → Pairs → Walked → Type 0
+IsPairWalk st ps (Ended found) = found ≡ order_of_pairs ps
+IsPairWalk st ps (Entered e rest) = Enters st ps e rest

@@ -13,26 +13,26 @@ use Rattle.value_goals.specs.declared.evaluation.Next.{Next}
 use Rattle.value_goals.specs.declared.evaluation.Next.TheVariants.{Expression, Value}
 
 -- what a value stands for, evaluated
-abbrev pub value_in : StoreView → BindingCell → Evaluated
-value_in st c = expression_value (meaning st c)
+abbrev pub evaluated_in : StoreView → BindingCell → Evaluated
+evaluated_in st c = expression_value (meaning st c)
 
 -- the second argument, with the value of the first one
 abbrev pub with_first : StoreView → (ℤ → ℤ → Evaluated) → ℤ → BindingCell → Evaluated
-with_first st f x c = then_value (value_in st c) (f x)
+with_first st f x c = then_value (evaluated_in st c) (f x)
 
 -- what a function makes of the value for which it waits
-abbrev pub resumed : StoreView → Waiting → Evaluated → Evaluated
-resumed st (One f) v = then_value v (unary_meaning f)
-resumed st (First f c) v = then_value v (λ x. with_first st (binary_meaning f) x c)
-resumed st (Second f x) v = then_value v (binary_meaning f x)
+abbrev pub function_resumed : StoreView → Waiting → Evaluated → Evaluated
+function_resumed st (One f) v = then_value v (unary_meaning f)
+function_resumed st (First f c) v = then_value v (λ x. with_first st (binary_meaning f) x c)
+function_resumed st (Second f x) v = then_value v (binary_meaning f x)
 
 -- what all that wait make of it, the last one first
-abbrev pub resumed_all : StoreView → List Waiting → Evaluated → Evaluated
-resumed_all st [] v = v
-resumed_all st (w ∷ ws) v = resumed_all st ws (resumed st w v)
+abbrev pub functions_resumed : StoreView → List Waiting → Evaluated → Evaluated
+functions_resumed st [] v = v
+functions_resumed st (w ∷ ws) v = functions_resumed st ws (function_resumed st w v)
 
 abbrev pub value_of_next : StoreView → Next → Evaluated
-value_of_next st (Expression c) = value_in st c
+value_of_next st (Expression c) = evaluated_in st c
 value_of_next st (Value z) = Ok z
 
 -- the expressions are values of the store
@@ -50,34 +50,34 @@ AllWaitingIn st [] = Unit {0}
 AllWaitingIn st (w ∷ ws) = IsWaitingIn st w × AllWaitingIn st ws
 
 -- more than the steps that are left
-abbrev pub steps_for : StoreView → BindingCell → ℕ
-steps_for st c = 3 * size (meaning st c)
+abbrev pub evaluation_steps : StoreView → BindingCell → ℕ
+evaluation_steps st c = 3 * size (meaning st c)
 
 abbrev pub steps_of_next : StoreView → Next → ℕ
-steps_of_next st (Expression c) = steps_for st c
+steps_of_next st (Expression c) = evaluation_steps st c
 steps_of_next st (Value z) = 0
 
-abbrev pub steps_of : StoreView → Waiting → ℕ
-steps_of st (One f) = 1
-steps_of st (First f c) = steps_for st c + 2
-steps_of st (Second f x) = 1
+abbrev pub waiting_steps : StoreView → Waiting → ℕ
+waiting_steps st (One f) = 1
+waiting_steps st (First f c) = evaluation_steps st c + 2
+waiting_steps st (Second f x) = 1
 
 abbrev pub steps_of_all : StoreView → List Waiting → ℕ
 steps_of_all st [] = 0
-steps_of_all st (w ∷ ws) = steps_of st w + steps_of_all st ws
+steps_of_all st (w ∷ ws) = waiting_steps st w + steps_of_all st ws
 
 -- in the place of what has this value something comes that leads to the same, by fewer steps
-pub record GoesOn (st : StoreView) (v : Evaluated) (steps : ℕ) (old new : List Waiting) (next : Next) : Type 0 where
-  pub same : resumed_all st new (value_of_next st next) ≡ resumed_all st old v
+pub record StepsOn (st : StoreView) (v : Evaluated) (steps : ℕ) (old new : List Waiting) (next : Next) : Type 0 where
+  pub same : functions_resumed st new (value_of_next st next) ≡ functions_resumed st old v
   pub fewer : steps_of_next st next + steps_of_all st new < steps + steps_of_all st old
   pub next_there : IsNextIn st next
   pub there : AllWaitingIn st old → AllWaitingIn st new
 
 -- it goes on, or the value is an error
-abbrev pub IsStep : StoreView → Evaluated → ℕ → List Waiting → List Waiting → Result Next Problem → Type 0
-IsStep st v steps old new (Ok next) = GoesOn st v steps old new next
-IsStep st v steps old new (Err problem) = v ≡ Err (problem_term problem)
+abbrev pub EvaluatesOn : StoreView → Evaluated → ℕ → List Waiting → List Waiting → Result Next Problem → Type 0
+EvaluatesOn st v steps old new (Ok next) = StepsOn st v steps old new next
+EvaluatesOn st v steps old new (Err problem) = v ≡ Err (problem_term problem)
 
 -- the expression that a value stands for was begun
 abbrev pub IsBegun : StoreView → BindingCell → List Waiting → List Waiting → Result Next Problem → Type 0
-IsBegun st c old new result = IsStep st (value_in st c) (steps_for st c) old new result
+IsBegun st c old new result = EvaluatesOn st (evaluated_in st c) (evaluation_steps st c) old new result

@@ -7,7 +7,7 @@ ghost use Rattle.clause_compile.specs.AtomNumbers.{name_at};
 ghost use Rattle.run_model.specs.Goals.StandardOrder.{order};
 ghost use Rattle.cell_store.specs.StoreView.{IsValueIn, meaning, text_in, compound_meaning};
 ghost use Rattle.cell_store.specs.UnificationSteps.{AreEquations};
-ghost use Rattle.value_goals.specs.Comparison.{IsCompared, IsWalked, kind_of, pairs_of};
+ghost use Rattle.value_goals.specs.Comparison.{IsCompared, IsPairWalk, kind_number, argument_pairs};
 
 use au_term::NoMemory;
 use binding_array::BindingCell;
@@ -71,7 +71,7 @@ pub fn compare(
 /// Goes over arguments from the left, up to the first two that differ or have arguments themselves.
 fn walk(store: &Store, equations: Equations) -> Walked
     requires { AreEquations (text_in store.now) store.now.now.next equations }
-    ensures { IsWalked store.now (pairs_of store.now equations) result }
+    ensures { IsPairWalk store.now (argument_pairs store.now equations) result }
 {
     let mut rest = equations;
     while rest.left.count > 0 {
@@ -108,13 +108,13 @@ fn compare_tops(store: &Store, left: BindingCell, right: BindingCell) -> Compare
         (BindingCell::Compound(at, base), BindingCell::Compound(to, on)) => {
             compounds(store, (at, base), (to, on))
         }
-        _ => Compared::Decided(kind_of(left).cmp(&kind_of(right))),
+        _ => Compared::Decided(kind_number(left).cmp(&kind_number(right))),
     }
 }
 
 /// Values of different kinds are ordered by these numbers.
-fn kind_of(value: BindingCell) -> u32
-    ensures { result ≡ kind_of value }
+fn kind_number(value: BindingCell) -> u32
+    ensures { result ≡ kind_number value }
 {
     match value {
         BindingCell::Free => 4,

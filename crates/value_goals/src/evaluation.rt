@@ -7,7 +7,7 @@ ghost use Rattle.arith_eval.specs.Functions.{binary_meaning};
 ghost use Rattle.arith_eval.specs.Integers.{outcome};
 ghost use Rattle.cell_store.specs.StoreView.{StoreView, IsValueIn, meaning, text_in};
 ghost use Rattle.cell_store.specs.Arguments.{HasFunctor};
-ghost use Rattle.value_goals.specs.Evaluation.{value_in, with_first, resumed, steps_for, steps_of, IsWaitingIn, IsBegun, IsStep};
+ghost use Rattle.value_goals.specs.Evaluation.{evaluated_in, with_first, function_resumed, evaluation_steps, waiting_steps, IsWaitingIn, IsBegun, EvaluatesOn};
 ghost use Rattle.value_goals.specs.declared.evaluation.Waiting.{Waiting as WaitingFunction};
 
 use crate::type_tests::integer_of;
@@ -59,7 +59,7 @@ fn evaluated(
     value: BindingCell,
 ) -> Result<Result<i64, Problem>, NoMemory>
     requires { IsValueIn store.now value }
-    ensures { IfOk result (λ v. evaluated v ≡ value_in store.now value) }
+    ensures { IfOk result (λ v. evaluated v ≡ evaluated_in store.now value) }
 {
     let mut waiting = Vec::new(alloc);
     let mut next = Next::Expression(value);
@@ -67,7 +67,7 @@ fn evaluated(
         let step = match next {
             Next::Expression(value) => opened(store, value, &mut waiting)?,
             Next::Value(value) => match waiting.pop() {
-                Some(function) => resumed(store, function, value, &mut waiting)?,
+                Some(function) => function_resumed(store, function, value, &mut waiting)?,
                 None => return Ok(Ok(value)),
             },
         };
@@ -176,7 +176,7 @@ fn second_opened(
     waiting: &mut Vec<Waiting>,
 ) -> Result<Result<Next, Problem>, NoMemory>
     requires { IsValueIn store.now second }
-    ensures { IfOk result (IsStep store.now (with_first store.now (binary_meaning function) x second) (steps_for store.now second + 2) (reverse waiting.old.items) (reverse waiting.new.items)) }
+    ensures { IfOk result (EvaluatesOn store.now (with_first store.now (binary_meaning function) x second) (evaluation_steps store.now second + 2) (reverse waiting.old.items) (reverse waiting.new.items)) }
 {
     match integer_of(store, second) {
         Some(y) => Ok(computed(function.value(x, y))),
@@ -188,14 +188,14 @@ fn second_opened(
 }
 
 /// Goes on with a function that waited for a value.
-fn resumed(
+fn function_resumed(
     store: &Store,
     function: Waiting,
     value: i64,
     waiting: &mut Vec<Waiting>,
 ) -> Result<Result<Next, Problem>, NoMemory>
     requires { IsWaitingIn store.now function }
-    ensures { IfOk result (IsStep store.now (resumed store.now function (Ok value)) (steps_of store.now function) (reverse waiting.old.items) (reverse waiting.new.items)) }
+    ensures { IfOk result (EvaluatesOn store.now (function_resumed store.now function (Ok value)) (waiting_steps store.now function) (reverse waiting.old.items) (reverse waiting.new.items)) }
 {
     match function {
         Waiting::One(function) => Ok(computed(function.value(value))),
@@ -208,7 +208,7 @@ fn resumed(
 
 /// What a function answered.
 fn computed(answer: Result<i64, EvalName>) -> Result<Next, Problem>
-    ensures { (st : StoreView) (steps : ℕ) (ws : List WaitingFunction) → 0 < steps → IsStep st (outcome answer) steps ws ws result }
+    ensures { (st : StoreView) (steps : ℕ) (ws : List WaitingFunction) → 0 < steps → EvaluatesOn st (outcome answer) steps ws ws result }
 {
     match answer {
         Ok(value) => Ok(Next::Value(value)),

@@ -2,7 +2,7 @@ use Rattle.std.proofs.Common.{◌≡◌, ℕ, Bool, Option, Some, None, sym}
 use Rattle.tree_model.specs.Levels.{Spot}
 use Rattle.tree_nodes.specs.TreeTables.{NodesView}
 use Rattle.branch_order.specs.Leftmosts.{IsTop}
-use Rattle.branch_order.specs.Sought.{IsStart}
+use Rattle.branch_order.specs.Sought.{IsWalkStart}
 use Rattle.branch_order.proofs.LeftmostLemmas.{goes_down_from}
 use Rattle.branch_order.proofs.FrontLemmas.{front_top}
 use Rattle.branch_order.proofs.SoughtLemmas.{from_first, from_front}
@@ -12,7 +12,7 @@ first_top : (nodes : NodesView) (o : Option ℕ) → o ≡ nodes.first → IsTop
 first_top nodes None e = sym e
 first_top nodes (Some n) e = goes_down_from nodes n (sym e)
 
-first_start : (nodes : NodesView) (o : Option ℕ) → o ≡ nodes.first → (test : Spot → Bool) → IsStart nodes test o
+first_start : (nodes : NodesView) (o : Option ℕ) → o ≡ nodes.first → (test : Spot → Bool) → IsWalkStart nodes test o
 first_start nodes None e test = sym e
 first_start nodes (Some n) e test = from_first nodes test n (sym e)
 

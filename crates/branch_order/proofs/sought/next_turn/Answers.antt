@@ -1,8 +1,9 @@
 use Rattle.std.proofs.Common.{◌≡◌, ◌+◌, ◌<◌, ℕ, suc, length, sym, subst, arith}
 use Rattle.tree_nodes.specs.Rows.{row_of_node, alternatives_at}
 use Rattle.tree_nodes.specs.Fronts.{place_on}
-use Rattle.branch_order.specs.Sought.{test_of, PassesAt, IsAhead}
-use Rattle.branch_order.proofs.SoughtLemmas.{some_at, entry_found, goes_right, goes_down_at}
+use Rattle.branch_order.specs.Sought.{test_of, PassesAt, IsAheadFrom}
+use Rattle.branch_order.proofs.FrontLemmas.{some_within}
+use Rattle.branch_order.proofs.SoughtLemmas.{entry_found, goes_right, goes_down_at}
 use Rattle.branch_order.proofs.sought.next_turn.Goals as goal
 
 pub returns-then-is_sought-clause-leads : goal.returns-then-is_sought-clause-leads
@@ -18,13 +19,13 @@ pub returns-then-is_sought-clause-there : goal.returns-then-is_sought-clause-the
 returns-then-is_sought-clause-there c =
     let cells = alternatives_at (row_of_node c.args.nodes.now.rows c.args.from.node) in
     let l : c.loop-alternative.alternative < length cells = (let w = c.width-alternative-end.ensures in omega (arith, w)) in
-    some_at cells c.loop-alternative.alternative l
+    some_within cells c.loop-alternative.alternative l
 
 pub below-requires : goal.below-requires
 below-requires c =
     let cells = alternatives_at (row_of_node c.args.nodes.now.rows c.args.from.node) in
     let l : c.loop-alternative.alternative < length cells = (let w = c.width-alternative-end.ensures in omega (arith, w)) in
-    some_at cells c.loop-alternative.alternative l
+    some_within cells c.loop-alternative.alternative l
 
 pub returns-in-Some-clause-leads : goal.returns-in-Some-clause-leads
 returns-in-Some-clause-leads c =
@@ -41,7 +42,7 @@ loop-alternative-preserved c =
     let i = c.loop-alternative.alternative in
     let l : i < length (alternatives_at (row_of_node nodes.rows n)) = (let w = c.width-alternative-end.ensures in omega (arith, w)) in
     let one : suc i ≡ i + 1 = omega arith in
-    λ most h. subst (λ (k : ℕ). IsAhead nodes (test_of c.args.sought) n k most) one
+    λ most h. subst (λ (k : ℕ). IsAheadFrom nodes (test_of c.args.sought) n k most) one
     (goes_right nodes (test_of c.args.sought) n i most (c.loop-alternative.invariant most h) l
     (subst (PassesAt nodes (place_on n i) (test_of c.args.sought)) c.if-is_sought.false c.is_sought.ensures)
     (sym c.in_default.ensures.below))

@@ -1,7 +1,7 @@
 use Rattle.std.proofs.Common.{ℕ}
-use Rattle.branch_order.specs.Sought.{test_of, IsAhead}
+use Rattle.branch_order.specs.Sought.{test_of, IsAheadFrom}
 use Rattle.branch_order.proofs.sought.next_turn.Given as goal
 
 abbrev pub invariant-loop-alternative : goal.invariant-loop-alternative
-invariant-loop-alternative l = (most : ℕ) → IsAhead l.nodes (test_of l.sought) l.fn.from.node l.fn.from.alternative most
-    → IsAhead l.nodes (test_of l.sought) l.node l.alternative most
+invariant-loop-alternative l = (most : ℕ) → IsAheadFrom l.nodes (test_of l.sought) l.fn.from.node l.fn.from.alternative most
+    → IsAheadFrom l.nodes (test_of l.sought) l.node l.alternative most

@@ -6,7 +6,7 @@ use Rattle.tree_nodes.specs.declared.body.NodeBody.{NodeBody}
 use Rattle.tree_nodes.specs.Bodies.{body_view}
 use Rattle.tree_nodes.specs.Changes.{AddsFirst}
 use Rattle.tree_nodes.specs.TreeTables.{NodesView}
-use Rattle.public_tree.specs.Opening.{body_of, HasNoNode, StandsFirst}
+use Rattle.public_tree.specs.Opening.{opening_body, HasNoNode, StandsFirst}
 use Rattle.public_tree.proofs.OpeningLemmas.{has_no_node, first_node}
 use Rattle.public_tree.proofs.open.first_nodes.Goals as goal
 
@@ -20,9 +20,9 @@ returns-in_ok-_number-in-Some c =
     let number : n ≡ 0 = k.number ∙ ap (λ (x : NodesView). length x.rows) was in
     let adds : AddsFirst (record { rows = []; first = None; live = 0; spare = 0 }) new n body = subst (λ (x : NodesView). AddsFirst x new n body) was k.added in
     let longer : length new.rows ≡ 1 = (let e = k.grown.length in let f : length c.new-nodes.result.rows ≡ 0 = ap (λ (x : NodesView). length x.rows) was in omega (arith, e, f)) in
-    subst (λ (o : Option (Arc NodeBody Global)). StandsFirst (body_of o) new) (sym c.in-Some.is) (first_node new n body number adds longer)
+    subst (λ (o : Option (Arc NodeBody Global)). StandsFirst (opening_body o) new) (sym c.in-Some.is) (first_node new n body number adds longer)
 
 pub returns-in-None : goal.returns-in-None
 returns-in-None c =
-    subst (λ (o : Option (Arc NodeBody Global)). StandsFirst (body_of o) c.new-nodes.result) (sym c.in-None.is)
+    subst (λ (o : Option (Arc NodeBody Global)). StandsFirst (opening_body o) c.new-nodes.result) (sym c.in-None.is)
     (subst HasNoNode (sym c.new-nodes.ensures) has_no_node)

@@ -1,10 +1,10 @@
 use Rattle.std.proofs.Common.{◌≡◌, ◌+◌, reverse}
-use Rattle.value_goals.specs.Evaluation.{value_in, resumed_all, value_of_next, steps_of_next, steps_of_all, AllWaitingIn, IsNextIn}
+use Rattle.value_goals.specs.Evaluation.{evaluated_in, functions_resumed, value_of_next, steps_of_next, steps_of_all, AllWaitingIn, IsNextIn}
 use Rattle.value_goals.proofs.evaluation.evaluated.Given as goal
 
 abbrev pub invariant-loop-next : goal.invariant-loop-next
 invariant-loop-next l = record {
-  same : resumed_all l.store (reverse l.waiting.items) (value_of_next l.store l.next) ≡ value_in l.store l.fn.value;
+  same : functions_resumed l.store (reverse l.waiting.items) (value_of_next l.store l.next) ≡ evaluated_in l.store l.fn.value;
   next_there : IsNextIn l.store l.next;
   there : AllWaitingIn l.store (reverse l.waiting.items);
 }

@@ -5,7 +5,7 @@ use Rattle.run_model.specs.Goals.Arithmetic.{unary_function}
 use Rattle.arith_eval.specs.Functions.{unary_meaning}
 use Rattle.arith_eval.specs.Integers.{outcome}
 use Rattle.binding_array.specs.declared.cell.BindingCell.TheVariants.{Compound}
-use Rattle.value_goals.specs.Evaluation.{value_in, steps_for}
+use Rattle.value_goals.specs.Evaluation.{evaluated_in, evaluation_steps}
 use Rattle.value_goals.proofs.EvaluationLemmas.{one_known, one_waits, computed_step, some_steps}
 use Rattle.value_goals.proofs.evaluation.one_opened.Goals as goal
 
@@ -17,7 +17,7 @@ returns-in-Some-integer_of c =
     let x = c.in-Some-integer_of.x in
     let found = c.in-Some.ensures ∙ ap (λ n. option_map (λ k. k.value) (unary_function n)) c.name.ensures in
     let known = one_known st c.args.at c.args.base c.args.name g c.argument-argument.result x c.requires.functor c.argument-argument.ensures.term found c.in-Some-integer_of.ensures in
-    computed_step st (outcome c.value.result) (value_in st all) (steps_for st all) (reverse c.args.waiting.now.items) c.computed.result (c.value.ensures ∙ (ap (unary_meaning g) (to_z-of_z w64 x (search rules)) ∙ known)) (some_steps st all) c.computed.ensures
+    computed_step st (outcome c.value.result) (evaluated_in st all) (evaluation_steps st all) (reverse c.args.waiting.now.items) c.computed.result (c.value.ensures ∙ (ap (unary_meaning g) (to_z-of_z w64 x (search rules)) ∙ known)) (some_steps st all) c.computed.ensures
 
 pub returns-in_ok-push-in-None : goal.returns-in_ok-push-in-None
 returns-in_ok-push-in-None c =

@@ -4,7 +4,7 @@ use Rattle.std.proofs.lemmas.Int.{to_z-of_z}
 use Rattle.std.proofs.lemmas.Result.{IfOk-weaker}
 use Rattle.run_model.specs.Goals.Arithmetic.{binary_function}
 use Rattle.binding_array.specs.declared.cell.BindingCell.TheVariants.{Compound}
-use Rattle.value_goals.specs.Evaluation.{value_in, steps_for}
+use Rattle.value_goals.specs.Evaluation.{evaluated_in, evaluation_steps}
 use Rattle.value_goals.proofs.EvaluationLemmas.{first_known, first_waits, more_steps}
 use Rattle.value_goals.proofs.evaluation.two_opened.Goals as goal
 
@@ -16,7 +16,7 @@ returns-in-Some-integer_of c =
     let x = c.in-Some-integer_of.x in
     let found = c.in-Some.ensures ∙ ap (λ n. option_map (λ k. k.value) (binary_function n)) c.name.ensures in
     let known = first_known st c.args.at c.args.base c.args.name g c.argument-first.result c.argument-second.result x _ c.requires.functor c.argument-first.ensures.term c.argument-second.ensures.term found c.in-Some-integer_of.ensures (to_z-of_z w64 x (search rules)) in
-    IfOk-weaker c.second_opened.result _ _ (λ r h. more_steps st _ (value_in st all) _ (steps_for st all) (reverse c.args.waiting.now.items) (reverse c.second_opened.new.waiting.items) r known.0 known.1 h) c.second_opened.ensures
+    IfOk-weaker c.second_opened.result _ _ (λ r h. more_steps st _ (evaluated_in st all) _ (evaluation_steps st all) (reverse c.args.waiting.now.items) (reverse c.second_opened.new.waiting.items) r known.0 known.1 h) c.second_opened.ensures
 
 pub returns-in_ok-push-in-None : goal.returns-in_ok-push-in-None
 returns-in_ok-push-in-None c =
