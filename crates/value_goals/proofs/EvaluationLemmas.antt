@@ -19,7 +19,7 @@ use Rattle.cell_store.specs.Arguments.{HasFunctor, argument_at, arguments_from}
 use Rattle.cell_store.specs.StoreView.{StoreView, IsValueIn, meaning, value_term, substitution, text_in}
 use Rattle.cell_store.proofs.WalkLemmas.{turned}
 use Rattle.cell_store.proofs.WritingLemmas.{how_many}
-use Rattle.value_goals.specs.Evaluation.{evaluated_in, with_first, function_resumed, functions_resumed, value_of_next, evaluation_steps, waiting_steps, IsWaitingIn, StepsOn, EvaluatesOn}
+use Rattle.value_goals.specs.Evaluation.{evaluated_in, with_first, function_resumed, functions_resumed, value_of_next, evaluation_steps, waiting_steps, IsWaitingIn, StepsOn, StepsTo}
 use Rattle.value_goals.specs.declared.evaluation.Waiting.{Waiting}
 use Rattle.value_goals.specs.declared.evaluation.Waiting.TheVariants.{One, First, Second}
 use Rattle.value_goals.specs.declared.evaluation.Next.{Next}
@@ -91,12 +91,12 @@ pub second_waits : (st : StoreView) (g : Binary) (x y : ℤ) (d : BindingCell) (
 second_waits st g x y d old new there same is = waits st (with_first st (binary_meaning g) x d) (evaluation_steps st d + 2) old new (Second g y) d is (ap (λ z. with_first st (binary_meaning g) z d) same) (omega arith) there tt
 
 -- the same value, with more steps
-pub more_steps : (st : StoreView) (v u : Evaluated) (m n : ℕ) (old new : List Waiting) (r : Result Next Problem) → v ≡ u → m ≤ n → EvaluatesOn st v m old new r → EvaluatesOn st u n old new r
+pub more_steps : (st : StoreView) (v u : Evaluated) (m n : ℕ) (old new : List Waiting) (r : Result Next Problem) → v ≡ u → m ≤ n → StepsTo st v m old new r → StepsTo st u n old new r
 more_steps st v u m n old new (Ok next) e le h = record { same = h.same ∙ ap (functions_resumed st old) e; fewer = omega (arith, h.fewer); next_there = h.next_there; there = h.there }
 more_steps st v u m n old new (Err problem) e le h = sym e ∙ h
 
 -- what was computed
-pub computed_step : (st : StoreView) (v u : Evaluated) (n : ℕ) (ws : List Waiting) (r : Result Next Problem) → v ≡ u → 0 < n → ((view : StoreView) (steps : ℕ) (all : List Waiting) → 0 < steps → EvaluatesOn view v steps all all r) → EvaluatesOn st u n ws ws r
+pub computed_step : (st : StoreView) (v u : Evaluated) (n : ℕ) (ws : List Waiting) (r : Result Next Problem) → v ≡ u → 0 < n → ((view : StoreView) (steps : ℕ) (all : List Waiting) → 0 < steps → StepsTo view v steps all all r) → StepsTo st u n ws ws r
 computed_step st v u n ws r e p h = more_steps st v u n n ws ws r e (omega arith) (h st n ws p)
 
 pub some_steps : (st : StoreView) (c : BindingCell) → 0 < evaluation_steps st c
@@ -112,12 +112,12 @@ error_of_all st (w ∷ ws) t = ap (functions_resumed st ws) (by w) ∙ error_of_
     by (First f c) = refl
     by (Second f x) = refl
 
-pub error_of_step : (st : StoreView) (v w : Evaluated) (n : ℕ) (old new : List Waiting) (r : Result Next Problem) (p : Problem) → r ≡ Err p → EvaluatesOn st v n old new r → functions_resumed st old v ≡ w → Err (problem_term p) ≡ w
+pub error_of_step : (st : StoreView) (v w : Evaluated) (n : ℕ) (old new : List Waiting) (r : Result Next Problem) (p : Problem) → r ≡ Err p → StepsTo st v n old new r → functions_resumed st old v ≡ w → Err (problem_term p) ≡ w
 error_of_step st v w n old new r p e h k =
-    let is : v ≡ Err (problem_term p) = subst (EvaluatesOn st v n old new) e h in
+    let is : v ≡ Err (problem_term p) = subst (StepsTo st v n old new) e h in
     sym (error_of_all st old (problem_term p)) ∙ (ap (functions_resumed st old) (sym is) ∙ k)
 
-pub error_of_popped : (st : StoreView) (w : Evaluated) (n : ℕ) (all rest new : List Waiting) (f : Waiting) (next : Next) (y z : ℤ) (r : Result Next Problem) (p : Problem) → all ≡ rest ++ f ∷ [] → next ≡ Value z → y ≡ z → r ≡ Err p → EvaluatesOn st (function_resumed st f (Ok y)) n (reverse rest) new r
+pub error_of_popped : (st : StoreView) (w : Evaluated) (n : ℕ) (all rest new : List Waiting) (f : Waiting) (next : Next) (y z : ℤ) (r : Result Next Problem) (p : Problem) → all ≡ rest ++ f ∷ [] → next ≡ Value z → y ≡ z → r ≡ Err p → StepsTo st (function_resumed st f (Ok y)) n (reverse rest) new r
     → functions_resumed st (reverse all) (value_of_next st next) ≡ w → Err (problem_term p) ≡ w
 error_of_popped st w n all rest new f next y z r p e is same bad h k =
     let popped : functions_resumed st (reverse all) (Ok z) ≡ functions_resumed st (reverse rest) (function_resumed st f (Ok z)) = ap (λ ws. functions_resumed st ws (Ok z)) (ap reverse e ∙ turned rest f) in

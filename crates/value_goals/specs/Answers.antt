@@ -6,6 +6,6 @@ use Rattle.arith_eval.specs.declared.evaluation.EvalRefusal.{EvalRefusal}
 use Rattle.arith_eval.specs.declared.evaluation.EvalRefusal.TheVariants.{Fault, NoMemory}
 
 -- why there are no values
-abbrev pub HasRefusal : Answer → EvalRefusal → Type 0
-HasRefusal answer (Fault fault) = answer ≡ Err (error_term_of fault)
-HasRefusal answer NoMemory = Unit {0}
+abbrev pub IsRefusedAnswer : Answer → EvalRefusal → Type 0
+IsRefusedAnswer answer (Fault fault) = answer ≡ Err (error_term_of fault)
+IsRefusedAnswer answer NoMemory = Unit {0}

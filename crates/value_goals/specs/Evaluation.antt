@@ -74,10 +74,10 @@ pub record StepsOn (st : StoreView) (v : Evaluated) (steps : ℕ) (old new : Lis
   pub there : AllWaitingIn st old → AllWaitingIn st new
 
 -- it goes on, or the value is an error
-abbrev pub EvaluatesOn : StoreView → Evaluated → ℕ → List Waiting → List Waiting → Result Next Problem → Type 0
-EvaluatesOn st v steps old new (Ok next) = StepsOn st v steps old new next
-EvaluatesOn st v steps old new (Err problem) = v ≡ Err (problem_term problem)
+abbrev pub StepsTo : StoreView → Evaluated → ℕ → List Waiting → List Waiting → Result Next Problem → Type 0
+StepsTo st v steps old new (Ok next) = StepsOn st v steps old new next
+StepsTo st v steps old new (Err problem) = v ≡ Err (problem_term problem)
 
 -- the expression that a value stands for was begun
 abbrev pub IsBegun : StoreView → BindingCell → List Waiting → List Waiting → Result Next Problem → Type 0
-IsBegun st c old new result = EvaluatesOn st (evaluated_in st c) (evaluation_steps st c) old new result
+IsBegun st c old new result = StepsTo st (evaluated_in st c) (evaluation_steps st c) old new result

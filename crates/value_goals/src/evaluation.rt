@@ -7,7 +7,7 @@ ghost use Rattle.arith_eval.specs.Functions.{binary_meaning};
 ghost use Rattle.arith_eval.specs.Integers.{outcome};
 ghost use Rattle.cell_store.specs.StoreView.{StoreView, IsValueIn, meaning, text_in};
 ghost use Rattle.cell_store.specs.Arguments.{HasFunctor};
-ghost use Rattle.value_goals.specs.Evaluation.{evaluated_in, with_first, function_resumed, evaluation_steps, waiting_steps, IsWaitingIn, IsBegun, EvaluatesOn};
+ghost use Rattle.value_goals.specs.Evaluation.{evaluated_in, with_first, function_resumed, evaluation_steps, waiting_steps, IsWaitingIn, IsBegun, StepsTo};
 ghost use Rattle.value_goals.specs.declared.evaluation.Waiting.{Waiting as WaitingFunction};
 
 use crate::type_tests::integer_of;
@@ -176,7 +176,7 @@ fn second_opened(
     waiting: &mut Vec<Waiting>,
 ) -> Result<Result<Next, Problem>, NoMemory>
     requires { IsValueIn store.now second }
-    ensures { IfOk result (EvaluatesOn store.now (with_first store.now (binary_meaning function) x second) (evaluation_steps store.now second + 2) (reverse waiting.old.items) (reverse waiting.new.items)) }
+    ensures { IfOk result (StepsTo store.now (with_first store.now (binary_meaning function) x second) (evaluation_steps store.now second + 2) (reverse waiting.old.items) (reverse waiting.new.items)) }
 {
     match integer_of(store, second) {
         Some(y) => Ok(computed(function.value(x, y))),
@@ -195,7 +195,7 @@ fn function_resumed(
     waiting: &mut Vec<Waiting>,
 ) -> Result<Result<Next, Problem>, NoMemory>
     requires { IsWaitingIn store.now function }
-    ensures { IfOk result (EvaluatesOn store.now (function_resumed store.now function (Ok value)) (waiting_steps store.now function) (reverse waiting.old.items) (reverse waiting.new.items)) }
+    ensures { IfOk result (StepsTo store.now (function_resumed store.now function (Ok value)) (waiting_steps store.now function) (reverse waiting.old.items) (reverse waiting.new.items)) }
 {
     match function {
         Waiting::One(function) => Ok(computed(function.value(value))),
@@ -208,7 +208,7 @@ fn function_resumed(
 
 /// What a function answered.
 fn computed(answer: Result<i64, EvalName>) -> Result<Next, Problem>
-    ensures { (st : StoreView) (steps : ℕ) (ws : List WaitingFunction) → 0 < steps → EvaluatesOn st (outcome answer) steps ws ws result }
+    ensures { (st : StoreView) (steps : ℕ) (ws : List WaitingFunction) → 0 < steps → StepsTo st (outcome answer) steps ws ws result }
 {
     match answer {
         Ok(value) => Ok(Next::Value(value)),
