@@ -45,7 +45,11 @@ pub fn leftmost_ready(nodes: &Nodes) -> Option<AltRef>
     ensures first { IsFirstEntry (λ s. is_ready s.hold) nodes.now (parent_view result) }
     ensures there { IsPlaceIn nodes.now.rows (parent_view result) }
 {
-    leftmost_of(nodes, Sought::Ready)
+    if nodes.may_have_ready() {
+        leftmost_of(nodes, Sought::Ready)
+    } else {
+        None
+    }
 }
 
 /// The leftmost alternative that waits for its gate and is cleared to the gate's scope.
@@ -53,7 +57,11 @@ pub fn leftmost_cleared(nodes: &Nodes) -> Option<AltRef>
     ensures first { IsFirstEntry (λ s. may_resume s s.hold) nodes.now (parent_view result) }
     ensures there { IsPlaceIn nodes.now.rows (parent_view result) }
 {
-    leftmost_of(nodes, Sought::Cleared)
+    if nodes.may_have_waiting() {
+        leftmost_of(nodes, Sought::Cleared)
+    } else {
+        None
+    }
 }
 
 // Each node to the right of the front is entered and left once.

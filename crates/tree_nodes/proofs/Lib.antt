@@ -2,6 +2,7 @@ pub mod PlaceLemmas
 pub mod FrameLemmas
 pub mod LocateLemmas
 pub mod RowLemmas
+pub mod HeldLemmas
 pub mod SiblingLemmas
 pub mod DropLemmas
 pub mod GoingLemmas

@@ -156,13 +156,16 @@ pub item_at : (items : List Alternative) (i : ℕ) (x : Alternative) → i < len
     → slice_get (map alternative_view items) i ≡ Some (alternative_view x)
 item_at items i x l e = slice_get-map alternative_view items i ∙ ap (option_map alternative_view) (slice_get_read items (length items) i x refl l e)
 
+pub taken_more : (items : List Alternative) (i : ℕ) (x : Alternative) → i < length items → x ≡ get_or items i x
+    → map alternative_view (take (i + 1) items) ≡ map alternative_view (take i items) ++ alternative_view x ∷ []
+taken_more items i x l e =
+    let more : take (i + 1) items ≡ take i items ++ x ∷ [] = take_more items i x l ∙ ap (λ (y : Alternative). take i items ++ y ∷ []) (sym e) in
+    ap (map alternative_view) more ∙ map-append alternative_view (take i items) (x ∷ [])
+
 pub open_count-more : (items : List Alternative) (i : ℕ) (x : Alternative) → i < length items → x ≡ get_or items i x
     → open_count (map alternative_view (take (i + 1) items)) ≡ open_count (map alternative_view (take i items)) + one_open (cell_view x.state)
 open_count-more items i x l e =
-    let more : take (i + 1) items ≡ take i items ++ x ∷ [] = take_more items i x l ∙ ap (λ (y : Alternative). take i items ++ y ∷ []) (sym e) in
-    let cells : map alternative_view (take (i + 1) items) ≡ map alternative_view (take i items) ++ alternative_view x ∷ []
-    = ap (map alternative_view) more ∙ map-append alternative_view (take i items) (x ∷ []) in
-    let a = ap open_count cells in
+    let a = ap open_count (taken_more items i x l e) in
     let b = open_count-append (map alternative_view (take i items)) (alternative_view x ∷ []) in
     omega (arith, a, b)
 

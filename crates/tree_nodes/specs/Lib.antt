@@ -9,3 +9,4 @@ pub mod Siblings
 pub mod Puts
 pub mod Folds
 pub mod Fronts
+pub mod Held

@@ -3,7 +3,7 @@
 //!
 //! A node is found by its number at once, and numbers are never used again; of a node that is gone a place of eight bytes
 //! is left. Beside its alternatives a node keeps how many of them are open, and how far they have closed from the left,
-//! with the sums of what they closed with. The nodes keep the front: the way from the first node down to the leftmost
+//! with the sums of what they closed with. The nodes keep how many alternatives are ready and how many wait, and the front: the way from the first node down to the leftmost
 //! entry, with the sums of what was counted to its left and above.
 //!
 //! `add` costs the node's alternatives. `set` and `close` cost what they drop, and `close` besides the alternatives of
@@ -18,10 +18,12 @@ mod cells;
 mod drops;
 pub mod front;
 mod gather;
+mod held;
 pub mod nodes;
 mod row;
 pub mod siblings;
 pub mod state;
+mod table;
 
 pub use body::{NodeBody, NodeKind};
 pub use front::Front;

@@ -5,9 +5,11 @@ ghost use Rattle.tree_nodes.specs.Rows.{cell_view, credit_view};
 ghost use Rattle.tree_nodes.specs.RowViews.{inner_of};
 ghost use Rattle.tree_nodes.specs.Changes.{is_pending_cell};
 ghost use Rattle.tree_nodes.specs.Gathering.{closed_in, is_shut, with_left, with_right_credits, shut_beside, with_beside};
+ghost use Rattle.tree_nodes.specs.Held.{AreHeldAmong};
 ghost use Rattle.tree_nodes.specs.Siblings.{alternative_view, closed_counts, one_open, open_count, ArePassed};
 
 use crate::gather::Gathered;
+use crate::held::Held;
 use crate::state::{AltState, Credit};
 use au_term::NoMemory;
 use std::marker::Model;
@@ -152,6 +154,13 @@ impl Siblings {
         self.passed
     }
 
+    /// What they count for.
+    pub(crate) fn held(&self) -> Held
+        ensures { AreHeldAmong result self.now }
+    {
+        held_by(&self.items)
+    }
+
     /// Whether all but this one have closed.
     pub(crate) fn shut_beside(&self, index: usize) -> bool
         requires { index < length self.now }
@@ -214,6 +223,16 @@ fn open_count(items: &[Alternative]) -> usize
         open += alternative.open_one();
     }
     open
+}
+
+fn held_by(items: &[Alternative]) -> Held
+    ensures { AreHeldAmong result (map alternative_view items.now) }
+{
+    let mut held = Held::NONE;
+    for alternative in items {
+        held = held.with(Held::of(&alternative.state));
+    }
+    held
 }
 
 // Passes what has closed, from here on.
