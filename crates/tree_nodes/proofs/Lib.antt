@@ -3,6 +3,7 @@ pub mod FrameLemmas
 pub mod LocateLemmas
 pub mod RowLemmas
 pub mod HeldLemmas
+pub mod PieceLemmas
 pub mod SiblingLemmas
 pub mod DropLemmas
 pub mod GoingLemmas

@@ -10,3 +10,4 @@ pub mod Puts
 pub mod Folds
 pub mod Fronts
 pub mod Held
+pub mod Pieces

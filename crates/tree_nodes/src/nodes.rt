@@ -421,7 +421,7 @@ impl Nodes {
         while let Some(above) = self.fold_step(end, &mut gathered)? {
             end = above;
         }
-        let total = gathered.finish()?;
+        let total = gathered.finish(self.alloc)?;
         Ok((end, total))
     }
 
