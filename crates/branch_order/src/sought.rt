@@ -120,7 +120,9 @@ fn next_turn(nodes: &Nodes, sought: Sought, from: AltRef) -> Turn
     ensures there { IsTurnIn nodes.now.rows from.node result }
 {
     let node = from.node;
-    for alternative in from.alternative..nodes.width(node) {
+    let width = nodes.width(node);
+    let mut alternative = from.alternative;
+    while alternative < width {
         let at = AltRef { node, alternative };
         if is_sought(nodes, sought, at) {
             return Turn::Found(at);
@@ -128,6 +130,7 @@ fn next_turn(nodes: &Nodes, sought: Sought, from: AltRef) -> Turn
         if let Some(below) = nodes.below(at) {
             return Turn::Down(below);
         }
+        alternative = nodes.after(at);
     }
     Turn::Up
 }

@@ -3,7 +3,8 @@ pub mod FrameLemmas
 pub mod LocateLemmas
 pub mod RowLemmas
 pub mod HeldLemmas
-pub mod PieceLemmas
+pub mod BatchLemmas
+pub mod GapLemmas
 pub mod SiblingLemmas
 pub mod DropLemmas
 pub mod GoingLemmas

@@ -134,11 +134,15 @@ passed-more cells p now c h e l shut many answers inferences =
           ∙ (ap (λ (n : ℕ). (n, counted p.inferences (closed_counts c.1).1)) (sym answers) ∙ ap (λ (n : ℕ). (now.answers, n)) (sym inferences))));
     }
 
+pub popped_cells : (items front : List Alternative) (last : Alternative) → items ≡ front ++ last ∷ []
+    → map alternative_view items ≡ map alternative_view front ++ alternative_view last ∷ []
+popped_cells items front last e = ap (map alternative_view) e ∙ map-append alternative_view front (last ∷ [])
+
 -- alternatives as the code keeps them
 module _ (items front : List Alternative) (last : Alternative) (m : ℕ) (p : Passed) (e : items ≡ front ++ last ∷ [])
     (k : AreCounted m p (map alternative_view items)) where
   cells : map alternative_view items ≡ map alternative_view front ++ alternative_view last ∷ []
-  cells = ap (map alternative_view) e ∙ map-append alternative_view front (last ∷ [])
+  cells = popped_cells items front last e
 
   pub popped_open : m ≡ open_count (map alternative_view front) + one_open (cell_view last.state)
   popped_open =

@@ -10,4 +10,5 @@ pub mod Puts
 pub mod Folds
 pub mod Fronts
 pub mod Held
-pub mod Pieces
+pub mod Batches
+pub mod Gaps

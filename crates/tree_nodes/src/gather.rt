@@ -5,24 +5,24 @@ ghost use Rattle.tree_model.specs.Credits.{added, credit_of};
 ghost use Rattle.tree_nodes.specs.Rows.{credit_view};
 
 use crate::merging::merged;
-use crate::records::{Piece, Records};
+use crate::records::{Batch, Records};
 use crate::state::Credit;
 use au_term::NoMemory;
 use std::alloc::Global;
 use std::marker::Model;
 
-/// A sum of credits that grows at both ends: the pieces of records on the left of the first are kept backwards.
+/// A sum of credits that grows at both ends: the batches of records on the left of the first are kept backwards.
 #[derive(Drop)]
 pub(crate) struct Gathered {
     inferences: u64,
     answers: u64,
-    before: Vec<Piece>,
-    behind: Vec<Piece>,
+    before: Vec<Batch>,
+    behind: Vec<Batch>,
 }
 
 impl Model for Gathered {
     ghost use Rattle.std.specs.Prelude.{◌++◌, reverse};
-    ghost use Rattle.tree_nodes.specs.Pieces.{joined};
+    ghost use Rattle.tree_nodes.specs.Batches.{joined};
     ghost use Rattle.std.specs.Coded.{codes};
     ghost use Rattle.au_term.specs.PrefixOrder.{term_code};
     ghost use Rattle.tree_model.specs.Credits.{Credit};
@@ -48,7 +48,7 @@ impl Gathered {
             inferences,
             answers,
             before: Vec::new(alloc),
-            behind: records.into_pieces(),
+            behind: records.into_batches(),
         }
     }
 
@@ -64,7 +64,7 @@ impl Gathered {
     pub(crate) fn add_left(&mut self, credit: &Credit) -> Result<(), NoMemory>
         ensures { OnOk result (self.new ≡ added (credit_view credit.now) self.old) }
     {
-        share_backwards(credit.records.pieces(), &mut self.before)?;
+        share_backwards(credit.records.batches(), &mut self.before)?;
         self.inferences = credit.inferences.saturating_add(self.inferences);
         self.answers = credit.answers.saturating_add(self.answers);
         Ok(())
@@ -74,7 +74,7 @@ impl Gathered {
     pub(crate) fn add_right(&mut self, credit: &Credit) -> Result<(), NoMemory>
         ensures { OnOk result (self.new ≡ added self.old (credit_view credit.now)) }
     {
-        share_behind(credit.records.pieces(), &mut self.behind)?;
+        share_behind(credit.records.batches(), &mut self.behind)?;
         self.inferences = self.inferences.saturating_add(credit.inferences);
         self.answers = self.answers.saturating_add(credit.answers);
         Ok(())
@@ -97,25 +97,25 @@ impl Gathered {
         Ok(Credit {
             inferences,
             answers,
-            records: Records::of_pieces(merged(alloc, all)?),
+            records: Records::of_batches(merged(alloc, all)?),
         })
     }
 }
 
-fn share_behind(pieces: &[Piece], out: &mut Vec<Piece>) -> Result<(), NoMemory>
-    ensures { OnOk result (out.new.items ≡ out.old.items ++ pieces.now) }
+fn share_behind(batches: &[Batch], out: &mut Vec<Batch>) -> Result<(), NoMemory>
+    ensures { OnOk result (out.new.items ≡ out.old.items ++ batches.now) }
 {
-    for piece in pieces {
-        out.push(piece.share()?)?;
+    for batch in batches {
+        out.push(batch.share()?)?;
     }
     Ok(())
 }
 
-fn share_backwards(pieces: &[Piece], out: &mut Vec<Piece>) -> Result<(), NoMemory>
-    ensures { OnOk result (out.new.items ≡ out.old.items ++ reverse pieces.now) }
+fn share_backwards(batches: &[Batch], out: &mut Vec<Batch>) -> Result<(), NoMemory>
+    ensures { OnOk result (out.new.items ≡ out.old.items ++ reverse batches.now) }
 {
-    for i in 0..pieces.len() {
-        out.push(pieces[pieces.len() - 1 - i].share()?)?;
+    for i in 0..batches.len() {
+        out.push(batches[batches.len() - 1 - i].share()?)?;
     }
     Ok(())
 }

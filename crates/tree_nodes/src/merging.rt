@@ -1,13 +1,13 @@
-//! Pieces beside each other made one, so that few are left: a record is copied only where its piece grows in proportion, or
+//! Batches beside each other made one, so that few are left: a record is copied only where its batch grows in proportion, or
 //! once where it is between greater ones.
 ghost use Rattle.std.specs.Prelude.{◌≡◌, ◌++◌, IfOk, OnOk};
-ghost use Rattle.tree_nodes.specs.Pieces.{joined, IsMergeStep};
+ghost use Rattle.tree_nodes.specs.Batches.{joined, IsMergeStep};
 
-use crate::records::Piece;
+use crate::records::Batch;
 use au_term::NoMemory;
 use std::alloc::Global;
 
-/// What is to be made one before a piece is put behind others.
+/// What is to be made one before a batch is put behind others.
 #[derive(Clone, Copy)]
 enum Merge {
     Nothing,
@@ -17,30 +17,30 @@ enum Merge {
     Last,
 }
 
-/// The same records in fewer pieces.
-pub(crate) fn merged(alloc: Global, pieces: Vec<Piece>) -> Result<Vec<Piece>, NoMemory>
-    ensures { IfOk result (λ all. joined all.items ≡ joined pieces.items) }
+/// The same records in fewer batches.
+pub(crate) fn merged(alloc: Global, batches: Vec<Batch>) -> Result<Vec<Batch>, NoMemory>
+    ensures { IfOk result (λ all. joined all.items ≡ joined batches.items) }
 {
-    if pieces.len() <= 1 {
-        return Ok(pieces);
+    if batches.len() <= 1 {
+        return Ok(batches);
     }
-    all_merged(alloc, &pieces)
+    all_merged(alloc, &batches)
 }
 
-fn all_merged(alloc: Global, pieces: &[Piece]) -> Result<Vec<Piece>, NoMemory>
-    ensures { IfOk result (λ all. joined all.items ≡ joined pieces.now) }
+fn all_merged(alloc: Global, batches: &[Batch]) -> Result<Vec<Batch>, NoMemory>
+    ensures { IfOk result (λ all. joined all.items ≡ joined batches.now) }
 {
     let mut all = Vec::new(alloc);
-    for piece in pieces {
-        push_merged(alloc, &mut all, piece.share()?)?;
+    for batch in batches {
+        push_merged(alloc, &mut all, batch.share()?)?;
     }
     Ok(all)
 }
 
-fn push_merged(alloc: Global, all: &mut Vec<Piece>, piece: Piece) -> Result<(), NoMemory>
-    ensures { OnOk result (joined all.new.items ≡ joined all.old.items ++ piece) }
+fn push_merged(alloc: Global, all: &mut Vec<Batch>, batch: Batch) -> Result<(), NoMemory>
+    ensures { OnOk result (joined all.new.items ≡ joined all.old.items ++ batch) }
 {
-    let mut last = piece;
+    let mut last = batch;
     loop {
         match merge_step(alloc, all, &last)? {
             Some(next) => last = next,
@@ -52,8 +52,8 @@ fn push_merged(alloc: Global, all: &mut Vec<Piece>, piece: Piece) -> Result<(), 
     }
 }
 
-// Makes two pieces one, where that is due, and gives what is then to be put behind the others.
-fn merge_step(alloc: Global, all: &mut Vec<Piece>, last: &Piece) -> Result<Option<Piece>, NoMemory>
+// Makes two batches one, where that is due, and gives what is then to be put behind the others.
+fn merge_step(alloc: Global, all: &mut Vec<Batch>, last: &Batch) -> Result<Option<Batch>, NoMemory>
     ensures { IfOk result (λ next. IsMergeStep all.old.items all.new.items last.now next) }
 {
     match merge_of(all, last.len()) {
@@ -65,9 +65,9 @@ fn merge_step(alloc: Global, all: &mut Vec<Piece>, last: &Piece) -> Result<Optio
 
 fn merge_before(
     alloc: Global,
-    all: &mut Vec<Piece>,
-    last: &Piece,
-) -> Result<Option<Piece>, NoMemory>
+    all: &mut Vec<Batch>,
+    last: &Batch,
+) -> Result<Option<Batch>, NoMemory>
     ensures { IfOk result (λ next. IsMergeStep all.old.items all.new.items last.now next) }
 {
     let Some(left) = all.pop() else {
@@ -80,7 +80,7 @@ fn merge_before(
     Ok(Some(last.share()?))
 }
 
-fn merge_last(alloc: Global, all: &mut Vec<Piece>, last: &Piece) -> Result<Option<Piece>, NoMemory>
+fn merge_last(alloc: Global, all: &mut Vec<Batch>, last: &Batch) -> Result<Option<Batch>, NoMemory>
     ensures { IfOk result (λ next. IsMergeStep all.old.items all.new.items last.now next) }
 {
     let Some(left) = all.pop() else {
@@ -89,7 +89,7 @@ fn merge_last(alloc: Global, all: &mut Vec<Piece>, last: &Piece) -> Result<Optio
     Ok(Some(left.with(alloc, last)?))
 }
 
-fn merge_of(all: &[Piece], many: usize) -> Merge {
+fn merge_of(all: &[Batch], many: usize) -> Merge {
     let Some(last) = all.last() else {
         return Merge::Nothing;
     };

@@ -4,6 +4,7 @@ ghost use Rattle.std.specs.Bool.{OnTrue, OnFalse};
 ghost use Rattle.std.specs.Option.{option_map, option_copied};
 ghost use Rattle.tree_model.specs.EventViews.{place_view};
 ghost use Rattle.tree_model.specs.Legality.{is_ready};
+ghost use Rattle.tree_nodes.specs.Gaps.{IsNextAfter};
 ghost use Rattle.tree_nodes.specs.Held.{is_waiting, HasNone};
 ghost use Rattle.tree_nodes.specs.Rows.{row_of_node, node_parent, cell_at, alternatives_at, cell_view, credit_view};
 ghost use Rattle.tree_nodes.specs.RowViews.{row_view, parent_view, branches_at};
@@ -166,6 +167,15 @@ impl Nodes {
             Some(row) => row.alternatives.passed(),
             None => Passed::NONE,
         }
+    }
+
+    /// The next alternative of a node that may be open; those between have closed.
+    pub fn after(&self, at: AltRef) -> u32
+        requires { IsSome (cell_at self.now.rows (place_view at)) }
+        ensures next { IsNextAfter (alternatives_at (row_of_node self.now.rows at.node)) at.alternative result }
+        ensures within { result ≤ length (alternatives_at (row_of_node self.now.rows at.node)) }
+    {
+        self.table.after(at)
     }
 
     /// Whether an alternative may be ready; none is where not.

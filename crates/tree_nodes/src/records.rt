@@ -1,6 +1,6 @@
-//! Records in their order, in pieces that credits share.
+//! Records in their order, in batches that credits share.
 ghost use Rattle.std.specs.Prelude.{◌≡◌, ◌++◌, [], IfOk, OnOk, length};
-ghost use Rattle.tree_nodes.specs.Pieces.{joined};
+ghost use Rattle.tree_nodes.specs.Batches.{joined};
 
 use au_term::{FlatTerm, NoMemory};
 use std::alloc::Global;
@@ -9,11 +9,11 @@ use std::sync::Arc;
 
 /// Records that are shared as a whole. Contracts see their list.
 #[derive(Drop)]
-pub(crate) struct Piece {
+pub(crate) struct Batch {
     records: Arc<Vec<FlatTerm>>,
 }
 
-impl Model for Piece {
+impl Model for Batch {
     ghost use Rattle.std.specs.Prelude.{List};
     ghost use Rattle.std.specs.Arc.{arc_value};
     ghost use Rattle.std.specs.Coded.{codes};
@@ -27,12 +27,12 @@ impl Model for Piece {
     ghost view = { λ p. (arc_value p.records).items };
 }
 
-impl Piece {
+impl Batch {
     /// These records.
-    pub(crate) fn new(alloc: Global, records: Vec<FlatTerm>) -> Result<Piece, NoMemory>
-        ensures { IfOk result (λ piece. piece ≡ records.items) }
+    pub(crate) fn new(alloc: Global, records: Vec<FlatTerm>) -> Result<Batch, NoMemory>
+        ensures { IfOk result (λ batch. batch ≡ records.items) }
     {
-        Ok(Piece {
+        Ok(Batch {
             records: Arc::new(alloc, records)?,
         })
     }
@@ -45,22 +45,22 @@ impl Piece {
     }
 
     /// The same, shared.
-    pub(crate) fn share(&self) -> Result<Piece, NoMemory>
-        ensures { IfOk result (λ piece. piece ≡ self.now) }
+    pub(crate) fn share(&self) -> Result<Batch, NoMemory>
+        ensures { IfOk result (λ batch. batch ≡ self.now) }
     {
-        Ok(Piece {
+        Ok(Batch {
             records: Arc::clone(&self.records)?,
         })
     }
 
-    /// Copies of these and of the records behind them, as one piece.
-    pub(crate) fn with(&self, alloc: Global, behind: &Piece) -> Result<Piece, NoMemory>
-        ensures { IfOk result (λ piece. piece ≡ self.now ++ behind.now) }
+    /// Copies of these and of the records behind them, as one batch.
+    pub(crate) fn with(&self, alloc: Global, behind: &Batch) -> Result<Batch, NoMemory>
+        ensures { IfOk result (λ batch. batch ≡ self.now ++ behind.now) }
     {
         let mut all = Vec::new(alloc);
         self.copy_to(&mut all)?;
         behind.copy_to(&mut all)?;
-        Piece::new(alloc, all)
+        Batch::new(alloc, all)
     }
 
     fn copy_to(&self, out: &mut Vec<FlatTerm>) -> Result<(), NoMemory>
@@ -73,7 +73,7 @@ impl Piece {
 /// Records in their order. What was collected once is shared where credits are added up. Contracts see their list.
 #[derive(Drop)]
 pub struct Records {
-    pieces: Vec<Piece>,
+    batches: Vec<Batch>,
 }
 
 impl Model for Records {
@@ -86,9 +86,9 @@ impl Model for Records {
 
     ghost coded = { Prim.hlevel (codes, term_code) };
 
-    ghost use Rattle.tree_nodes.specs.Pieces.{joined};
+    ghost use Rattle.tree_nodes.specs.Batches.{joined};
 
-    ghost view = { λ r. joined r.pieces.items };
+    ghost view = { λ r. joined r.batches.items };
 }
 
 impl Records {
@@ -97,7 +97,7 @@ impl Records {
         ensures { result ≡ [] }
     {
         Records {
-            pieces: Vec::new(alloc),
+            batches: Vec::new(alloc),
         }
     }
 
@@ -105,44 +105,44 @@ impl Records {
     pub fn of(alloc: Global, records: Vec<FlatTerm>) -> Result<Records, NoMemory>
         ensures { IfOk result (λ all. all ≡ records.items) }
     {
-        let mut pieces = Vec::new(alloc);
-        pieces.push(Piece::new(alloc, records)?)?;
-        Ok(Records { pieces })
+        let mut batches = Vec::new(alloc);
+        batches.push(Batch::new(alloc, records)?)?;
+        Ok(Records { batches })
     }
 
-    pub(crate) fn of_pieces(pieces: Vec<Piece>) -> Records
-        ensures { result ≡ joined pieces.items }
+    pub(crate) fn of_batches(batches: Vec<Batch>) -> Records
+        ensures { result ≡ joined batches.items }
     {
-        Records { pieces }
+        Records { batches }
     }
 
-    pub(crate) fn pieces(&self) -> &[Piece]
+    pub(crate) fn batches(&self) -> &[Batch]
         ensures { joined result.now ≡ self.now }
     {
-        &self.pieces
+        &self.batches
     }
 
-    pub(crate) fn into_pieces(self) -> Vec<Piece>
+    pub(crate) fn into_batches(self) -> Vec<Batch>
         ensures { joined result.items ≡ self }
     {
-        let Records { pieces } = self;
-        pieces
+        let Records { batches } = self;
+        batches
     }
 
     /// Copies of all records.
     pub fn copied(&self, alloc: Global) -> Result<Vec<FlatTerm>, NoMemory>
         ensures { IfOk result (λ all. all.items ≡ self.now) }
     {
-        copied(alloc, &self.pieces)
+        copied(alloc, &self.batches)
     }
 }
 
-fn copied(alloc: Global, pieces: &[Piece]) -> Result<Vec<FlatTerm>, NoMemory>
-    ensures { IfOk result (λ all. all.items ≡ joined pieces.now) }
+fn copied(alloc: Global, batches: &[Batch]) -> Result<Vec<FlatTerm>, NoMemory>
+    ensures { IfOk result (λ all. all.items ≡ joined batches.now) }
 {
     let mut all = Vec::new(alloc);
-    for piece in pieces {
-        piece.copy_to(&mut all)?;
+    for batch in batches {
+        batch.copy_to(&mut all)?;
     }
     Ok(all)
 }

@@ -5,6 +5,7 @@ ghost use Rattle.tree_nodes.specs.Bodies.{body_view, kind_view, first_hold};
 ghost use Rattle.std.specs.Option.{option_map, option_copied};
 ghost use Rattle.tree_model.specs.EventViews.{place_view};
 ghost use Rattle.tree_model.specs.Legality.{is_ready};
+ghost use Rattle.tree_nodes.specs.Gaps.{IsNextAfter};
 ghost use Rattle.tree_nodes.specs.Held.{is_waiting, held_at, held_among, AreHeldAmong};
 ghost use Rattle.tree_nodes.specs.Rows.{PendingCell, cell_view, alternatives_at};
 ghost use Rattle.tree_nodes.specs.Siblings.{alternative_view};
@@ -100,10 +101,11 @@ impl Slot {
             return Err(NoMemory);
         }
         let alternatives = first_alternatives(alloc, &body)?;
+        let siblings = Siblings::new(alloc, alternatives)?;
         let row = Row {
             parent,
             body,
-            alternatives: Siblings::new(alternatives),
+            alternatives: siblings,
         };
         Ok(Slot {
             row: Some(Box::new(alloc, row)?),
@@ -149,6 +151,18 @@ impl Slot {
     {
         match &self.row {
             Some(row) => row.alternatives.at(index).spent,
+            None => unreachable!(),
+        }
+    }
+
+    /// The next alternative that may be open; those between have closed.
+    pub(crate) fn after(&self, index: usize) -> u32
+        requires { index < length (alternatives_at self.now) }
+        ensures next { IsNextAfter (alternatives_at self.now) index result }
+        ensures within { result ≤ length (alternatives_at self.now) }
+    {
+        match &self.row {
+            Some(row) => row.alternatives.after(index) as u32,
             None => unreachable!(),
         }
     }

@@ -9,6 +9,7 @@ ghost use Rattle.tree_nodes.specs.RowViews.{row_view, branches_at};
 ghost use Rattle.tree_nodes.specs.Siblings.{alternative_view};
 ghost use Rattle.tree_nodes.specs.Changes.{AreGone};
 ghost use Rattle.tree_nodes.specs.Drops.{IsShortenedAt};
+ghost use Rattle.tree_nodes.specs.Gaps.{IsNextAfter};
 ghost use Rattle.tree_nodes.specs.Held.{is_waiting, HasNone};
 ghost use Rattle.tree_nodes.specs.Puts.{IsReplaced};
 
@@ -91,6 +92,15 @@ impl Table {
         ensures { option_map (λ c. c.0) (cell_at self.now (place_view at)) ≡ Some result }
     {
         self.slots[at.node as usize].spent(at.alternative as usize)
+    }
+
+    /// The next alternative that may be open; those between have closed.
+    pub(crate) fn after(&self, at: AltRef) -> u32
+        requires { IsSome (cell_at self.now (place_view at)) }
+        ensures next { IsNextAfter (alternatives_at (row_of_node self.now at.node)) at.alternative result }
+        ensures within { result ≤ length (alternatives_at (row_of_node self.now at.node)) }
+    {
+        self.slots[at.node as usize].after(at.alternative as usize)
     }
 
     /// Whether an alternative may be ready.

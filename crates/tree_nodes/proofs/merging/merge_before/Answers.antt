@@ -1,4 +1,4 @@
-use Rattle.tree_nodes.proofs.PieceLemmas.{merged_before}
+use Rattle.tree_nodes.proofs.BatchLemmas.{merged_before}
 use Rattle.tree_nodes.proofs.merging.merge_before.Goals as goal
 
 pub returns : goal.returns

@@ -1,4 +1,4 @@
-use Rattle.tree_nodes.proofs.PieceLemmas.{merged_last}
+use Rattle.tree_nodes.proofs.BatchLemmas.{merged_last}
 use Rattle.tree_nodes.proofs.merging.merge_last.Goals as goal
 
 pub returns : goal.returns

@@ -1,7 +1,7 @@
 use Rattle.std.proofs.Common.{◌≡◌, List, Option, ◌++◌, ◌∙◌, ap, subst}
 use Rattle.au_term.specs.Term.{Term}
-use Rattle.tree_nodes.specs.Pieces.{joined, IsMergeStep}
-use Rattle.tree_nodes.proofs.PieceLemmas.{joined-last}
+use Rattle.tree_nodes.specs.Batches.{joined, IsMergeStep}
+use Rattle.tree_nodes.proofs.BatchLemmas.{joined-last}
 use Rattle.tree_nodes.proofs.merging.push_merged.Goals as goal
 
 pub returns-in-None : goal.returns-in-None

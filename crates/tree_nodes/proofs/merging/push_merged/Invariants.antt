@@ -1,5 +1,5 @@
 use Rattle.std.proofs.Common.{◌≡◌, ◌++◌, length}
-use Rattle.tree_nodes.specs.Pieces.{joined}
+use Rattle.tree_nodes.specs.Batches.{joined}
 use Rattle.tree_nodes.proofs.merging.push_merged.Given as goal
 
 abbrev pub invariant-loop-last : goal.invariant-loop-last
