@@ -4,8 +4,8 @@
 //! A node is found by its number at once, and numbers are never used again; of a node that is gone a place of eight bytes
 //! is left. Beside its alternatives a node keeps how many of them are open, and how far they have closed from the left,
 //! with the sums of what they closed with, and for each alternative how many next to it, without a break, have closed. The
-//! nodes keep how many alternatives are ready and how many wait, and the
-//! front: the way from the first node down to the leftmost entry, with the sums of what was counted to its left and above.
+//! nodes keep how many alternatives are ready and how many wait, and the front: the way from the first node down to the
+//! leftmost entry, with the sums of what was counted to its left and above.
 //! Records are kept in batches that credits share. Batches of about the same size are made one, and a batch between two
 //! greater ones is made one with the smaller: so few are left, and each record is copied a few times, however often what
 //! it is part of folds.
@@ -20,9 +20,9 @@
 //! | `give_back` | the numbers that are given back |
 //!
 //! Where one that had closed is opened again, what was known of the breaks at its node is forgotten, and a walk goes over
-//! what has closed there. Each node comes to the front once, and leaves it when it goes; where what was spent on a node's alternative changes, or
-//! what had closed to the left of the front, the front is walked anew from there. Nothing recurses, and each call takes its
-//! memory before it changes anything.
+//! what has closed there. Each node comes to the front once, and leaves it when it goes; where what was spent on a node's
+//! alternative changes, or what had closed to the left of the front, the front is walked anew from there. Nothing recurses,
+//! and each call takes its memory before it changes anything.
 #![tactic(auto)]
 
 pub mod body;
