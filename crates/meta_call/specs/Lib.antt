@@ -1,0 +1,2 @@
+pub mod OwnBodies
+pub mod CalledTerms
