@@ -4,6 +4,7 @@ pub mod StandingLemmas
 pub mod MarkLemmas
 pub mod RegionLemmas
 pub mod CursorLemmas
+pub mod ResultLemmas
 pub mod FindallLemmas
 pub mod LeftLemmas
 pub mod ItemLemmas
