@@ -1,6 +1,5 @@
 -- Bodies of values, part by part.
-use Rattle.std.proofs.Common.{◌≡◌, ℕ, zero, suc, ◌+◌, ◌<◌, Bool, true, false, cond, List, [], ◌∷◌, ◌++◌, length, map, reverse, Option, Some, None, refl, sym, ap, ◌∙◌, subst, arith, append_assoc, append-nil, length-append}
-use Rattle.std.proofs.lemmas.List.{reverse-append}
+use Rattle.std.proofs.Common.{◌≡◌, ℕ, zero, suc, ◌+◌, ◌<◌, true, false, cond, List, [], ◌∷◌, ◌++◌, length, map, reverse, Option, Some, None, refl, sym, ap, ◌∙◌, subst, arith, append_assoc, append-nil, length-append}
 use Rattle.std.specs.Option.{option_map}
 use Rattle.au_term.specs.Term.{Term, Terms, Compound, end, more}
 use Rattle.au_term.specs.PrefixOrder.{cells_of, due_after, term_of, term_of-cells_of}
@@ -13,14 +12,14 @@ use Rattle.au_model.specs.Terms.Lists.{terms_from}
 use Rattle.au_model.specs.Terms.Unifier.{size}
 use Rattle.au_model.proofs.EachLemmas.{each-append}
 use Rattle.au_model.proofs.UnifierMeasureLemmas.{size_pos}
-use Rattle.run_model.specs.Programs.Bodies.{body_of, call_of, is_junction, junction}
+use Rattle.run_model.specs.Programs.Bodies.{body_of, is_junction, junction}
 use Rattle.clause_compile.specs.AtomNumbers.{name_at}
 use Rattle.clause_compile.specs.NormalBodies.{joined_cells, bodies_cells}
 use Rattle.clause_compile.proofs.NormalBodyLemmas.{junction_body}
 use Rattle.binding_array.specs.declared.cell.BindingCell.{BindingCell}
 use Rattle.cell_store.specs.Arguments.{sizes, arguments_from, HasFunctor, resolved_terms}
 use Rattle.cell_store.specs.StoreView.{StoreView, IsValueIn, meaning, substitution, text_in}
-use Rattle.cell_store.proofs.WalkLemmas.{opened_term}
+use Rattle.cell_store.proofs.WalkLemmas.{opened_term, turned}
 use Rattle.meta_call.specs.OwnBodies.{IsOwnBody, IsJunctionOf, pending_meanings, pending_bodies, KeepsPart}
 
 -- the parts of a body that are its own are those of a junction
@@ -86,9 +85,6 @@ pub record IsOwnWith (st : StoreView) (t : Term) (next : Option BindingCell) (pe
 
 pub own_begun : (st : StoreView) (value : BindingCell) (pending : List BindingCell) → pending ≡ [] → IsValueIn st value → IsOwnWith st (meaning st value) (Some value) pending
 own_begun st value pending e v = subst (IsOwnWith st (meaning st value) (Some value)) (sym e) (record { all = λ h. h.0; each = λ h. (h, tt); there = (v, tt) })
-
-turned : {X : Type 0} (xs : List X) (x : X) → reverse (xs ++ x ∷ []) ≡ x ∷ reverse xs
-turned xs x = reverse-append xs (x ∷ [])
 
 -- both sides of a junction
 module _ (st : StoreView) (t : Term) (value : BindingCell) (pending more : List BindingCell) (name : ℕ) (left right : BindingCell) (w : IsOwnWith st t (Some value) pending) (j : IsJunctionOf st value name left right) (pushed : more ≡ pending ++ right ∷ []) where

@@ -1,5 +1,5 @@
 -- Terms with further arguments.
-use Rattle.std.proofs.Common.{◌≡◌, ℕ, zero, suc, ◌+◌, ◌<◌, List, [], ◌∷◌, ◌++◌, append-nil, length, map, reverse, refl, sym, ap, ap₂, ◌∙◌, subst, arith}
+use Rattle.std.proofs.Common.{◌≡◌, ℕ, zero, suc, ◌+◌, ◌<◌, List, [], ◌∷◌, ◌++◌, append-nil, reverse, refl, sym, ap, ap₂, ◌∙◌, subst, arith}
 use Rattle.au_term.specs.Term.{Term, AtomTerm, Compound, Terms, end, more, count, argument_count}
 use Rattle.au_term.specs.PrefixOrder.{cells_of, all_cells, append_terms}
 use Rattle.au_term.specs.declared.cell.Cell.{Cell}
@@ -30,7 +30,7 @@ listed-append : (ts us : List Term) → terms_from (ts ++ us) ≡ append_terms (
 listed-append [] us = refl
 listed-append (t ∷ ts) us = ap (more t) (listed-append ts us)
 
-count-append : (ts us : Terms) → count (append_terms ts us) ≡ count ts + count us
+pub count-append : (ts us : Terms) → count (append_terms ts us) ≡ count ts + count us
 count-append end us = omega arith
 count-append (more t ts) us = omega (arith, count-append ts us)
 

@@ -1,5 +1,5 @@
 -- Terms with further arguments, as they stand in the text.
-use Rattle.std.specs.Prelude.{◌≡◌, ℕ, ◌+◌, ◌<◌, length, List, [], ◌∷◌, ◌++◌, reverse}
+use Rattle.std.specs.Prelude.{◌≡◌, ℕ, ◌+◌, ◌<◌, length, List, [], ◌++◌, reverse}
 use Rattle.au_term.specs.PrefixOrder.{cells_of}
 use Rattle.au_term.specs.declared.cell.Cell.{Cell}
 use Rattle.au_term.specs.Term.{AtomTerm, Terms}
@@ -9,7 +9,7 @@ use Rattle.run_model.specs.Goals.Control.{with_arguments}
 use Rattle.clause_compile.specs.AtomNumbers.{name_at}
 use Rattle.clause_compile.specs.Places.{CodeView, IsArity}
 use Rattle.binding_array.specs.declared.cell.BindingCell.{BindingCell}
-use Rattle.cell_store.specs.StoreView.{StoreView, substitution, text_in, meaning, value_term}
+use Rattle.cell_store.specs.StoreView.{StoreView, substitution, text_in, value_term}
 use Rattle.cell_store.specs.Arguments.{arguments_in, pending_terms, AreArguments, AllThere}
 use Rattle.cell_store.specs.WrittenTerms.{cells_left, GoesOnWriting}
 use Rattle.cell_store.specs.declared.arguments.Arguments.{Arguments}

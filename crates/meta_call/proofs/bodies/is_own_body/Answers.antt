@@ -1,6 +1,6 @@
-use Rattle.std.proofs.Common.{subst, sym}
+use Rattle.std.proofs.Common.{subst}
 use Rattle.cell_store.specs.StoreView.{meaning}
-use Rattle.meta_call.proofs.BodyLemmas.{own_begun, own_sides, IsOwnWith}
+use Rattle.meta_call.proofs.BodyLemmas.{own_sides, IsOwnWith}
 use Rattle.meta_call.proofs.bodies.is_own_body.Goals as goal
 
 pub loop-next-preserved-in-Junction : goal.loop-next-preserved-in-Junction

@@ -15,4 +15,4 @@ returns-in_ok-push-in-Compound c =
     let functor = c.functor-name.ensures.functor base (subst (IsValueIn st) c.in-Compound.is c.requires.there) in
     let wrote = c.in_ok-push-in-Compound.ensures.ok in
     on_ok_weaker c.push_arguments.result (λ h. opened_writes [] (text_in st) st.now.next at base c.functor-name.result.0 c.functor-name.result.1 (value_term st c.args.value) c.args.builder.now c.push-in-Compound.new.self (reverse c.args.pending.now.items) (reverse c.push_arguments.new.pending.items) here functor h
-        (wrote ∙ ap (λ name. c.args.builder.now ++ FunctorCell name c.functor-name.result.1 ∷ []) (c.in_ok-share-in-Compound.ensures ∙ c.name-in-Compound.ensures))) c.push_arguments.ensures
+    (wrote ∙ ap (λ name. c.args.builder.now ++ FunctorCell name c.functor-name.result.1 ∷ []) (c.in_ok-share-in-Compound.ensures ∙ c.name-in-Compound.ensures))) c.push_arguments.ensures
