@@ -5,6 +5,7 @@ pub mod MarkLemmas
 pub mod RegionLemmas
 pub mod CursorLemmas
 pub mod ResultLemmas
+pub mod NextClauseLemmas
 pub mod FindallLemmas
 pub mod LeftLemmas
 pub mod ItemLemmas
@@ -14,3 +15,6 @@ pub mod ClauseLemmas
 pub mod TrialLemmas
 pub mod CallLemmas
 pub mod BacktrackingLemmas
+pub mod HeadLemmas
+pub mod CandidateLemmas
+pub mod KeyLemmas
