@@ -4,3 +4,4 @@ pub mod ControlLemmas
 pub mod BallLemmas
 pub mod RecoveryLemmas
 pub mod ThrowLemmas
+pub mod FormLemmas

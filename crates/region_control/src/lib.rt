@@ -7,9 +7,13 @@
 
 mod balls;
 mod control;
+mod forms;
 mod goals;
+mod replies;
 mod sides;
 
 pub use balls::throw;
 pub use control::{GoalPlace, call, catch, cut, disjunction, findall, if_then, not, once};
+pub use forms::{GoalForm, argument, form_of};
 pub use goals::{Goals, push_goals};
+pub use replies::{AfterGoal, raise, raise_fault};

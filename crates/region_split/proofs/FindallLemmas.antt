@@ -16,6 +16,7 @@ use Rattle.region_split.specs.StackOperations.{AddsResult, HasFindallAt}
 use Rattle.region_split.specs.declared.choice.Alternatives.{Alternatives}
 use Rattle.region_split.specs.declared.choice.Alternatives.TheVariants.{Clauses, Elsewhere, Catch, Findall, QueryEnd}
 use Rattle.region_split.specs.declared.choice.ChoicePoint.{ChoicePoint}
+use Rattle.region_split.proofs.ResultLemmas.{more_results}
 use Rattle.region_split.proofs.MarkLemmas.{IsAlike, all_marked, changed_kinds, marked_changed}
 use Rattle.region_split.proofs.StandingLemmas.{standing-append, as_many, is_over, measured, own_height}
 use Rattle.region_split.proofs.RegionLemmas.{nothing_measured}
@@ -60,7 +61,7 @@ found_values : (s : RegionSetting) (m : Moment) (t : Term) (a : Alternatives) â†
 found_values s m t (Clauses goal clause left) v = v
 found_values s m t Elsewhere v = v
 found_values s m t (Catch catcher recovery) v = v
-found_values s m t (Findall list results) v = (v.0, let n = v.1 in omega (arith, n))
+found_values s m t (Findall list results) v = (v.0, more_results m.next t results v.1)
 found_values s m t QueryEnd v = v
 
 found_alike : (t : Term) (a : Alternatives) â†’ IsAlike a (with_found t a)

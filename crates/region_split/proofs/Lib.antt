@@ -5,6 +5,7 @@ pub mod MarkLemmas
 pub mod RegionLemmas
 pub mod CursorLemmas
 pub mod NextClauseLemmas
+pub mod ResultLemmas
 pub mod FindallLemmas
 pub mod LeftLemmas
 pub mod ItemLemmas

@@ -15,7 +15,7 @@ use Rattle.clause_index.specs.Cursors.{IsCursorOf, numbers_left}
 use Rattle.clause_index.specs.declared.key.HeadKey.{HeadKey}
 use Rattle.region_split.specs.Texts.{TextView}
 use Rattle.region_split.specs.Candidates.{entries_of_clauses}
-use Rattle.region_split.specs.ResultLists.{with_copy}
+use Rattle.region_split.specs.ResultLists.{with_copy, AreResultsFrom}
 use Rattle.region_split.specs.declared.choice.Alternatives.{Alternatives}
 use Rattle.region_split.specs.declared.choice.Alternatives.TheVariants.{Clauses, Elsewhere, Catch, Findall, QueryEnd}
 use Rattle.region_split.specs.declared.choice.ChoicePoint.{ChoicePoint}
@@ -167,7 +167,7 @@ abbrev pub AreAlternativesAt : RegionSetting → Moment → Alternatives → Typ
 AreAlternativesAt s m (Clauses goal clause left) = IsValue (code_at s m) m.next goal × (clause < length s.text.clauses) × IsCursorOf s.text.heads left
 AreAlternativesAt s m Elsewhere = Unit {0}
 AreAlternativesAt s m (Catch catcher recovery) = IsValue (code_at s m) m.next catcher × IsValue (code_at s m) m.next recovery
-AreAlternativesAt s m (Findall list results) = IsValue (code_at s m) m.next list × (m.next ≤ results.next)
+AreAlternativesAt s m (Findall list results) = IsValue (code_at s m) m.next list × AreResultsFrom m.next results
 AreAlternativesAt s m QueryEnd = Unit {0}
 
 -- a choice point over so many others, of which so many frames are kept: it keeps these and its own, and what it goes on
