@@ -18,3 +18,4 @@ pub mod BacktrackingLemmas
 pub mod HeadLemmas
 pub mod CandidateLemmas
 pub mod KeyLemmas
+pub mod ToldApartLemmas
