@@ -1,5 +1,5 @@
 -- Clauses that are passed over have no entry.
-use Rattle.std.proofs.Common.{◌≡◌, ℕ, zero, suc, ◌+◌, ◌<◌, Bool, true, false, cond, List, [], ◌∷◌, ◌++◌, length, take, drop, Option, Some, None, slice_get, refl, sym, ap, ap₂, ◌∙◌, subst, arith}
+use Rattle.std.proofs.Common.{◌≡◌, ℕ, zero, suc, ◌+◌, ◌<◌, ◌≤◌, Bool, true, false, cond, List, [], ◌∷◌, ◌++◌, length, take, drop, Option, Some, None, slice_get, refl, sym, ap, ap₂, ◌∙◌, subst, arith}
 use Rattle.au_term.specs.Term.{Term}
 use Rattle.au_model.specs.Terms.Unifier.{unifier}
 use Rattle.run_model.specs.Programs.Clauses.{Clause, renamed_head, clause_variables}
@@ -19,7 +19,7 @@ use Rattle.clause_index.proofs.ChainLemmas.{drop_next}
 use Rattle.clause_index.proofs.HeadKeyLemmas.{numbers_apart}
 use Rattle.cell_store.specs.StoreView.{StoreView, IsValidStore, text_in}
 use Rattle.region_split.specs.Texts.{TextView, AreHeadKeys}
-use Rattle.region_split.specs.Candidates.{entries_of_clauses, AreCandidates, FindsClause, HaveNoEntry}
+use Rattle.region_split.specs.Candidates.{entries_of_clauses, AreCandidates, FindsClause, HaveNoEntry, AreToldApart}
 use Rattle.region_split.proofs.HeadLemmas.{keys_further, renamed_numbers}
 
 -- an entry of a clause that does not unify
@@ -91,3 +91,36 @@ found text goal next n old new many t = record {
 
 pub none_found : (text : TextView) (goal : Term) (next : ℕ) (left : Cursor) → numbers_left text.heads left ≡ [] → HaveNoEntry text goal next left
 none_found text goal next left e h f = ap (entries_of_clauses text goal next h f) e
+
+-- clauses were taken off a cursor that have no entry
+pub record IsPassing (text : TextView) (goal : Term) (next : ℕ) (old new : Cursor) : Type 0 where
+  pub cursor : IsCursorOf text.heads new
+  pub entries : (height : ℕ) (f : Continuation ℕ) → entries_of_clauses text goal next height f (numbers_left text.heads old) ≡ entries_of_clauses text goal next height f (numbers_left text.heads new)
+  pub fewer : length (numbers_left text.heads new) ≤ length (numbers_left text.heads old)
+
+pub none_passed : (text : TextView) (goal : Term) (next : ℕ) (old : Cursor) → IsCursorOf text.heads old → IsPassing text goal next old old
+none_passed text goal next old i = record { cursor = i; entries = λ h f. refl; fewer = omega arith }
+
+module _ (text : TextView) (goal : Term) (next : ℕ) (old mid : Cursor) (passing : IsPassing text goal next old mid) where
+  pub none_after : numbers_left text.heads mid ≡ [] → HaveNoEntry text goal next old
+  none_after e h f = passing.entries h f ∙ none_found text goal next mid e h f
+
+  module _ (new : Cursor) (n : ℕ) (many : length text.heads ≡ length text.clauses) (t : TakesLeast text.heads mid new n) where
+    pub found_after : FindsClause text goal next old new n
+    found_after =
+        let here = found text goal next n mid new many t in
+        record { there = here.there; cursor = here.cursor; entries = λ h f. passing.entries h f ∙ here.entries h f; fewer = let a = here.fewer in let b = passing.fewer in omega (arith, a, b) }
+
+    pub passed_on : AreToldApart text goal n → IsPassing text goal next old new
+    passed_on apart =
+        let here = found text goal next n mid new many t in
+        let there = is_there text.clauses n here.there in
+        record {
+          cursor = here.cursor;
+          entries = λ h f.
+              passing.entries h f
+              ∙ (here.entries h f
+              ∙ (clause_first text goal next h f n (numbers_left text.heads new) there.element there.first
+              ∙ ap (λ es. es ++ entries_of_clauses text goal next h f (numbers_left text.heads new)) (no_entry h f goal next there.element (apart next there.element there.is))));
+          fewer = let a = here.fewer in let b = passing.fewer in omega (arith, a, b);
+        }

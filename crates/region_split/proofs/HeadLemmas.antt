@@ -30,7 +30,7 @@ module _ (names more_names : List (List ℕ)) where
   below_all : (n : ℕ) → n < length names → n < length all
   below_all n lt = omega (arith, lt, length-append names more_names)
 
-  among : (o : Option NumberKey) → IsKeyAmong names o → IsKeyAmong all o
+  pub among : (o : Option NumberKey) → IsKeyAmong names o → IsKeyAmong all o
   among None k = tt
   among (Some (Int z)) k = tt
   among (Some (Atom a)) k = below_all a k
@@ -76,7 +76,7 @@ as_many_heads names (c ∷ cs) [] i = absurd i
 as_many_heads names (c ∷ cs) (k ∷ ks) i = let rest = as_many_heads names cs ks i.1 in omega (arith, rest)
 
 -- a head has the same numbers where its variables are renamed
-renamed_key : (vs : List ℕ) (next : ℕ) (t : Term) → key_of (apply (renamed vs next) t) ≡ key_of t
+pub renamed_key : (vs : List ℕ) (next : ℕ) (t : Term) → key_of (apply (renamed vs next) t) ≡ key_of t
 renamed_key vs next (VarTerm n) = refl
 renamed_key vs next (IntTerm z) = refl
 renamed_key vs next (AtomTerm a) = refl
@@ -105,7 +105,7 @@ module _ (names : List (List ℕ)) (distinct : AreDistinct names) (name arity : 
   abbrev called : List ℕ
   called = name_at names name
 
-  same_number : (n : ℕ) (b : Bool) → n < length names → same_name (name_at names n) called ≡ b → (n == name) ≡ b
+  pub same_number : (n : ℕ) (b : Bool) → n < length names → same_name (name_at names n) called ≡ b → (n == name) ≡ b
   same_number n true lt e = let same : n ≡ name = distinct n name lt there (same_text (name_at names n) called (sym e)) in grind (arith, nat_tests)
   same_number n false lt e = by_test (n == name) refl
     where

@@ -4,8 +4,8 @@ pub mod StandingLemmas
 pub mod MarkLemmas
 pub mod RegionLemmas
 pub mod CursorLemmas
-pub mod ResultLemmas
 pub mod NextClauseLemmas
+pub mod ResultLemmas
 pub mod FindallLemmas
 pub mod LeftLemmas
 pub mod ItemLemmas
@@ -18,3 +18,4 @@ pub mod BacktrackingLemmas
 pub mod HeadLemmas
 pub mod CandidateLemmas
 pub mod KeyLemmas
+pub mod ToldApartLemmas

@@ -5,8 +5,8 @@ use Rattle.run_model.specs.Machine.Items.{with_next}
 use Rattle.run_model.specs.Machine.Entries.{Entry, PlainEntry, CatchEntry, FindallEntry, EndEntry}
 use Rattle.run_model.specs.Machine.FreeSteps.{take_free_steps}
 use Rattle.cell_store.specs.StoreView.{IsValueIn, meaning}
-use Rattle.region_split.specs.ResultLists.{AreResultsFrom}
 use Rattle.region_split.specs.ChoicePoints.{all_takes_left}
+use Rattle.region_split.specs.ResultLists.{AreResultsFrom}
 use Rattle.region_split.specs.Regions.{RegionView, entries_of, continuation_here, position_entry, IsPositionIn}
 use Rattle.region_split.specs.declared.choice.Resumed.{Resumed}
 use Rattle.region_split.specs.declared.choice.Resumed.TheVariants.{At, FindallDone, QueryDone, AllDone}

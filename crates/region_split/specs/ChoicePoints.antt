@@ -14,8 +14,8 @@ use Rattle.region_split.specs.Frames.{LeftItem, PlacedGoal, OwnItem, left_items,
 use Rattle.clause_index.specs.Cursors.{IsCursorOf, numbers_left}
 use Rattle.clause_index.specs.declared.key.HeadKey.{HeadKey}
 use Rattle.region_split.specs.Texts.{TextView}
-use Rattle.region_split.specs.ResultLists.{with_copy, AreResultsFrom}
 use Rattle.region_split.specs.Candidates.{entries_of_clauses}
+use Rattle.region_split.specs.ResultLists.{with_copy, AreResultsFrom}
 use Rattle.region_split.specs.declared.choice.Alternatives.{Alternatives}
 use Rattle.region_split.specs.declared.choice.Alternatives.TheVariants.{Clauses, Elsewhere, Catch, Findall, QueryEnd}
 use Rattle.region_split.specs.declared.choice.ChoicePoint.{ChoicePoint}

@@ -2,7 +2,10 @@
 ghost use Rattle.std.specs.Prelude.{◌≡◌, ◌∷◌, ◌<◌, [], ◌++◌, OnOk, IfOk, MatchOption, Some, length, map, slice_get};
 ghost use Rattle.std.specs.Arc.{arc_value};
 ghost use Rattle.run_model.specs.Programs.Clauses.{Clause as ClauseTerms};
-ghost use Rattle.clause_compile.specs.Places.{AreSound};
+ghost use Rattle.au_term.specs.Term.{argument};
+ghost use Rattle.proc_index.specs.Keys.{key_of};
+ghost use Rattle.clause_index.specs.HeadKeys.{IsKeyAmong, named_key};
+ghost use Rattle.clause_compile.specs.Places.{AreSound, IsPlaceOf, meaning_in};
 ghost use Rattle.std.specs.List.{list_any};
 ghost use Rattle.clause_index.specs.Classes.{can_match, is_head_of};
 ghost use Rattle.clause_index.specs.Cursors.{IsCursorOf, numbers_left, TakesLeast};
@@ -128,6 +131,15 @@ impl Text {
         self.index.take(left)
     }
 
+    /// The key of an argument of a clause's head, counted from 0; none for a variable, and where there is no such argument.
+    pub(crate) fn argument_key(&self, clause: u32, i: u32) -> Option<NumberKey>
+        requires { clause < length self.now.clauses }
+        ensures there { IsKeyAmong self.now.code.names result }
+        ensures key { (c : ClauseTerms) → slice_get self.now.clauses clause ≡ Some c → named_key self.now.code.names result ≡ key_of (argument i c.head) }
+    {
+        argument_key(&self.code, self.placed(clause).head, i)
+    }
+
     /// The item at a place of the bodies, if it is there.
     pub fn get(&self, at: u32) -> Option<BodyItem>
         ensures { result ≡ slice_get self.now.bodies at }
@@ -190,4 +202,22 @@ fn push_body(goals: &[Place], bodies: &mut Vec<BodyItem>) -> Result<(), NoMemory
     }
     bodies.push(BodyItem::BodyEnd)?;
     Ok(())
+}
+
+/// The key of an argument of the term at a place, counted from 0; none for a variable, and where there is no such argument.
+fn argument_key(code: &Code, term: Place, i: u32) -> Option<NumberKey>
+    requires { IsPlaceOf code.now term }
+    ensures there { IsKeyAmong code.now.names result }
+    ensures key { named_key code.now.names result ≡ key_of (argument i (meaning_in code.now term)) }
+{
+    // The proof reads off that the arguments of compounds stand before them.
+    let _places = code.len();
+    let Place::Sub(at) = term else { return None };
+    let Place::Functor(_, count) = code.place(at) else {
+        unreachable!()
+    };
+    if i >= count {
+        return None;
+    }
+    NumberKey::of_place(code, code.place(at + 1 + i as usize))
 }

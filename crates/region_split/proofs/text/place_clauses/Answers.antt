@@ -21,13 +21,12 @@ loop-clause-preserved c =
     ∙ (map-append arc_value (take c.loop-clause.clause-index c.args.clauses.now) (c.clause-item.result ∷ [])
     ∙ ap (λ x. map arc_value (take c.loop-clause.clause-index c.args.clauses.now) ++ x ∷ []) (sym c.deref.ensures)) in
     let before = map arc_value (take c.loop-clause.clause-index c.args.clauses.now) in
-    let clause = c.deref.result.now in
-    (
+    let clause = c.deref.result.now in (
       subst (λ (cs : List Clause). ArePlacedClauses code bodies cs c.push-in-loop-clause.new.self.items) (sym whole)
-      (subst (λ (ps : List PlacedClause). ArePlacedClauses code bodies (before ++ clause ∷ []) ps) (sym c.in_ok-push-2.ensures.items)
-      (one_more_clause c.loop-clause.code code c.loop-clause.bodies.items bodies before c.loop-clause.placed.items clause c.in_ok-place.place c.loop-clause.invariant.0 c.in_ok-place.ensures)),
+          (subst (λ (ps : List PlacedClause). ArePlacedClauses code bodies (before ++ clause ∷ []) ps) (sym c.in_ok-push-2.ensures.items)
+          (one_more_clause c.loop-clause.code code c.loop-clause.bodies.items bodies before c.loop-clause.placed.items clause c.in_ok-place.place c.loop-clause.invariant.0 c.in_ok-place.ensures)),
       subst (λ (cs : List Clause). AreHeadKeys code.names cs c.push.new.self.items) (sym whole)
-      (subst (λ (ks : List HeadKey). AreHeadKeys code.names (before ++ clause ∷ []) ks) (sym c.in_ok-push.ensures.items)
-      (one_more_head c.loop-clause.code code before c.loop-clause.heads.items clause c.of_head.result c.in_ok-place.ensures.keeps c.loop-clause.invariant.1
-      (subst (λ (t : Term). IsHeadKeyOf code.names t c.of_head.result) c.in_ok-place.ensures.placed.head c.of_head.ensures))),
+          (subst (λ (ks : List HeadKey). AreHeadKeys code.names (before ++ clause ∷ []) ks) (sym c.in_ok-push.ensures.items)
+          (one_more_head c.loop-clause.code code before c.loop-clause.heads.items clause c.of_head.result c.in_ok-place.ensures.keeps c.loop-clause.invariant.1
+          (subst (λ (t : Term). IsHeadKeyOf code.names t c.of_head.result) c.in_ok-place.ensures.placed.head c.of_head.ensures))),
     )
