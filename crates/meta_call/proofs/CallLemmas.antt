@@ -1,9 +1,9 @@
 -- What calls come to.
-use Rattle.std.proofs.Common.{◌≡◌, ℕ, zero, suc, ◌+◌, ◌<◌, ◌≤◌, Bool, true, false, cond, List, length, Option, Some, None, refl, sym, ap, ap₂, ◌∙◌, subst, arith}
+use Rattle.std.proofs.Common.{◌≡◌, ℕ, zero, suc, ◌+◌, ◌-◌, ◌<◌, ◌≤◌, Bool, true, false, cond, List, length, Option, Some, None, refl, sym, ap, ap₂, ◌∙◌, subst, arith}
 use Rattle.std.specs.Prelude.{codes, nat_lt}
 use Rattle.std.specs.Option.{option_map}
 use Rattle.au_term.proofs.LogicLemmas.{less, not_less}
-use Rattle.au_term.specs.Term.{Term, VarTerm, IntTerm, AtomTerm, Compound, Terms, end, more, count, argument_count, var_bound, all_bound}
+use Rattle.au_term.specs.Term.{Term, VarTerm, IntTerm, AtomTerm, Compound, Terms, end, more, count, argument_count, var_bound, all_bound, term_at, drop_terms}
 use Rattle.au_term.specs.PrefixOrder.{append_terms}
 use Rattle.au_model.specs.Terms.ErrorTerms.{error_term, type_error, representation_error}
 use Rattle.au_model.specs.Terms.Faults.{error_term_of}
@@ -35,7 +35,8 @@ use Rattle.region_control.specs.declared.control.GoalPlace.{GoalPlace}
 use Rattle.region_control.specs.declared.replies.AfterGoal.{AfterGoal}
 use Rattle.region_control.specs.declared.replies.AfterGoal.TheVariants.{At, Failed, Uncaught, AsksWorld}
 use Rattle.region_control.proofs.ControlLemmas.{place_in}
-use Rattle.meta_call.specs.CalledTerms.{AreFurther, further_terms, further_meanings}
+use Rattle.region_control.specs.GoalForms.{argument_terms, AreArgumentsIn}
+use Rattle.meta_call.specs.CalledTerms.{further_terms}
 use Rattle.meta_call.specs.Calls.{CanTake, IsRefused, MakesTerms}
 use Rattle.meta_call.proofs.CalledTermLemmas.{count_from, count-append}
 
@@ -66,7 +67,7 @@ listed_below : (st : StoreView) (base n at : ℕ) → AreArguments (text_in st) 
 listed_below st base zero at h = omega arith
 listed_below st base (suc n) at h = omega (arith, h.0.below, listed_below st base n (at + 1) h.1)
 
-pub goal_below : (st : StoreView) (callee : BindingCell) (further : Arguments) → IsValueIn st callee → AreFurther st further → var_bound (with_arguments (value_term st callee) (further_terms st further)) ≤ st.now.next
+pub goal_below : (st : StoreView) (callee : BindingCell) (further : Arguments) → IsValueIn st callee → AreArgumentsIn st further → var_bound (with_arguments (value_term st callee) (further_terms st further)) ≤ st.now.next
 goal_below st callee further v h = added_below st.now.next (value_term st callee) (further_terms st further) (term_below (text_in st) st.now.next callee v) (listed_below st further.base further.count further.at h.there)
 
 -- errors before the goal is made
@@ -214,20 +215,37 @@ refused_above st callee further h lt us e =
 
 -- the goal with further arguments
 pub goal_means : (st new : StoreView) (callee goal : BindingCell) (further : Arguments) (term : Term) → is_callable (value_term st callee) ≡ true → substitution new ≡ substitution st → value_term new goal ≡ term → term ≡ with_arguments (value_term st callee) (further_terms st further)
-    → meaning new goal ≡ with_arguments (meaning st callee) (further_meanings st further)
+    → meaning new goal ≡ with_arguments (meaning st callee) (argument_terms st further)
 goal_means st new callee goal further term h s t e = ap₂ resolve s (t ∙ e) ∙ added_resolved (value_of (substitution st)) (value_term st callee) (further_terms st further) h
 
 pub call_refused : (st : StoreView) (callee reached : BindingCell) (further : Arguments) (fault : Fault) → meaning st reached ≡ meaning st callee → IsRefused st reached further.count fault
-    → call_outcome (further.count + 1) (meaning st callee) (further_meanings st further) ≡ raises (error_term_of fault) (codes "call") (further.count + 1)
+    → call_outcome (further.count + 1) (meaning st callee) (argument_terms st further) ≡ raises (error_term_of fault) (codes "call") (further.count + 1)
 call_refused st callee reached further fault same r =
-    ap (λ t. call_outcome (further.count + 1) t (further_meanings st further)) (sym same) ∙ r (further_meanings st further) (how_many (substitution st) (text_in st) further.base further.count further.at)
+    ap (λ t. call_outcome (further.count + 1) t (argument_terms st further)) (sym same) ∙ r (argument_terms st further) (how_many (substitution st) (text_in st) further.base further.count further.at)
 
-pub call_taken : (st : StoreView) (callee reached : BindingCell) (further : Arguments) (t : Term) → meaning st reached ≡ meaning st callee → CanTake st reached further.count → t ≡ with_arguments (meaning st reached) (further_meanings st further)
-    → call_outcome (further.count + 1) (meaning st callee) (further_meanings st further) ≡ called (further.count + 1) t (called_goals t)
+pub call_taken : (st : StoreView) (callee reached : BindingCell) (further : Arguments) (t : Term) → meaning st reached ≡ meaning st callee → CanTake st reached further.count → t ≡ with_arguments (meaning st reached) (argument_terms st further)
+    → call_outcome (further.count + 1) (meaning st callee) (argument_terms st further) ≡ called (further.count + 1) t (called_goals t)
 call_taken st callee reached further t same k e =
-    let us = further_meanings st further in
+    let us = argument_terms st further in
     let r = resolved_callable (value_of (substitution st)) (value_term st reached) k.callable in
     let many = how_many (substitution st) (text_in st) further.base further.count further.at in
     let most = k.most in
     ap (λ u. call_outcome (further.count + 1) u us) (sym same)
     ∙ (not_too_many (further.count + 1) (meaning st reached) us r.0 (omega (arith, most, many, r.1)) ∙ ap (λ u. called (further.count + 1) u (called_goals u)) (sym e))
+
+-- all arguments but the first
+pub further_dropped : (st : StoreView) (a : Arguments) → 0 < a.count → argument_terms st (record { at = a.at + 1; base = a.base; count = a.count - 1 }) ≡ drop_terms 1 (argument_terms st a)
+further_dropped st a some = by_count a.count refl
+  where
+    by_count : (n : ℕ) → a.count ≡ n → argument_terms st (record { at = a.at + 1; base = a.base; count = a.count - 1 }) ≡ drop_terms 1 (argument_terms st a)
+    by_count zero e = absurd (omega (arith, some, e))
+    by_count (suc n) e =
+        let fewer : a.count - 1 ≡ n = omega (arith, e) in
+        ap (λ m. apply_all (value_of (substitution st)) (terms_from (arguments_from (text_in st) a.base m (a.at + 1)))) fewer ∙ sym (ap (λ m. drop_terms 1 (apply_all (value_of (substitution st)) (terms_from (arguments_from (text_in st) a.base m a.at)))) e)
+
+pub call_by_arguments : (st : StoreView) (a rest : Arguments) (callee : BindingCell) → 0 < a.count → rest ≡ record { at = a.at + 1; base = a.base; count = a.count - 1 } → meaning st callee ≡ term_at 0 (argument_terms st a)
+    → call_outcome (rest.count + 1) (meaning st callee) (argument_terms st rest) ≡ call_outcome a.count (term_at 0 (argument_terms st a)) (drop_terms 1 (argument_terms st a))
+call_by_arguments st a rest callee some r e =
+    let number : rest.count + 1 ≡ a.count = omega (arith, ap (λ (b : Arguments). b.count) r, some) in
+    ap (λ n. call_outcome n (meaning st callee) (argument_terms st rest)) number
+    ∙ ap₂ (call_outcome a.count) e (ap (argument_terms st) r ∙ further_dropped st a some)

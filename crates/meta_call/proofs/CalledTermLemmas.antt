@@ -13,7 +13,8 @@ use Rattle.binding_array.specs.declared.cell.BindingCell.{BindingCell}
 use Rattle.cell_store.specs.Arguments.{arguments_in, arguments_from, pending_terms, resolved_terms}
 use Rattle.cell_store.specs.StoreView.{StoreView, text_in, value_term}
 use Rattle.cell_store.specs.declared.arguments.Arguments.{Arguments}
-use Rattle.meta_call.specs.CalledTerms.{AreFurther, further_terms, HasBegun, HasParts, PutsArguments}
+use Rattle.region_control.specs.GoalForms.{AreArgumentsIn}
+use Rattle.meta_call.specs.CalledTerms.{further_terms, HasBegun, HasParts, PutsArguments}
 
 pub count_from : (code : CodeView) (base n at : ℕ) → count (terms_from (arguments_from code base n at)) ≡ n
 count_from code base zero at = refl
@@ -44,7 +45,7 @@ added_twice a us end lt = absurd (omega arith)
 added_twice a end (more v vs) lt = refl
 added_twice a (more u us) (more v vs) lt = refl
 
-pub has_begun : (st : StoreView) (callee : BindingCell) (further own : Arguments) (name : ℕ) (built : List Cell) (first second third : List Arguments) → HasParts st callee name own → AreFurther st further → 0 < further.count → first ≡ [] → PutsArguments further (reverse first) (reverse second) → PutsArguments own (reverse second) (reverse third)
+pub has_begun : (st : StoreView) (callee : BindingCell) (further own : Arguments) (name : ℕ) (built : List Cell) (first second third : List Arguments) → HasParts st callee name own → AreArgumentsIn st further → 0 < further.count → first ≡ [] → PutsArguments further (reverse first) (reverse second) → PutsArguments own (reverse second) (reverse third)
     → built ≡ Functor (name_at (text_in st).names name) (own.count + further.count) ∷ [] → HasBegun st callee further built third
 has_begun st callee further own name built first second third h f some none p q b =
     let code = text_in st in

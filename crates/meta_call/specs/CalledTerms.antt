@@ -1,31 +1,21 @@
 -- Terms with further arguments, as they stand in the text.
-use Rattle.std.specs.Prelude.{◌≡◌, ℕ, ◌+◌, ◌<◌, length, List, [], ◌++◌, reverse}
+use Rattle.std.specs.Prelude.{◌≡◌, ℕ, ◌<◌, length, List, [], ◌++◌, reverse}
 use Rattle.au_term.specs.PrefixOrder.{cells_of}
 use Rattle.au_term.specs.declared.cell.Cell.{Cell}
 use Rattle.au_term.specs.Term.{AtomTerm, Terms}
 use Rattle.au_model.specs.Terms.Lists.{terms_from}
-use Rattle.au_model.specs.Terms.Substitutions.{apply_all, value_of}
 use Rattle.run_model.specs.Goals.Control.{with_arguments}
 use Rattle.clause_compile.specs.AtomNumbers.{name_at}
-use Rattle.clause_compile.specs.Places.{CodeView, IsArity}
+use Rattle.clause_compile.specs.Places.{CodeView}
 use Rattle.binding_array.specs.declared.cell.BindingCell.{BindingCell}
-use Rattle.cell_store.specs.StoreView.{StoreView, substitution, text_in, value_term}
+use Rattle.cell_store.specs.StoreView.{StoreView, text_in, value_term}
 use Rattle.cell_store.specs.Arguments.{arguments_in, pending_terms, AreArguments, AllThere}
 use Rattle.cell_store.specs.WrittenTerms.{cells_left, GoesOnWriting}
 use Rattle.cell_store.specs.declared.arguments.Arguments.{Arguments}
 
--- arguments that are there, fewer than a goal may have
-pub record AreFurther (st : StoreView) (further : Arguments) : Type 0 where
-  pub there : AreArguments (text_in st) st.now.next further.base further.count further.at
-  pub few : IsArity (further.count + 1)
-
 -- the arguments as they stand
 abbrev pub further_terms : StoreView → Arguments → Terms
 further_terms st further = terms_from (arguments_in (text_in st) further)
-
--- and what they stand for
-abbrev pub further_meanings : StoreView → Arguments → Terms
-further_meanings st further = apply_all (value_of (substitution st)) (further_terms st further)
 
 -- the term with further arguments is begun: with the arguments that are left it is whole
 pub record HasBegun (st : StoreView) (callee : BindingCell) (further : Arguments) (built : List Cell) (pending : List Arguments) : Type 0 where

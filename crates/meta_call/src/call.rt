@@ -1,13 +1,14 @@
 //! What calls come to (ISO/IEC 13211-1, 7.8.3, and 8.15.4 of its second corrigendum).
 ghost use Rattle.std.specs.Prelude.{◌≡◌, ◌+◌, ◌<◌, true, IfOk, OnOk, MatchOption, codes};
+ghost use Rattle.au_term.specs.Term.{term_at, drop_terms};
 ghost use Rattle.au_model.specs.Terms.Faults.{error_term_of};
 ghost use Rattle.run_model.specs.Programs.Bodies.{called_goals};
 ghost use Rattle.run_model.specs.Goals.Control.{call_outcome, called, raises, with_arguments};
 ghost use Rattle.clause_compile.specs.Places.{IsArity};
 ghost use Rattle.cell_store.specs.StoreView.{IsUnbound, IsValueIn, meaning, substitution};
 ghost use Rattle.region_control.specs.Controls.{IsGoalPlace};
+ghost use Rattle.region_control.specs.GoalForms.{argument_terms, AreArgumentsIn};
 ghost use Rattle.region_control.specs.Replies.{ComesTo};
-ghost use Rattle.meta_call.specs.CalledTerms.{AreFurther, further_meanings};
 ghost use Rattle.meta_call.specs.Calls.{CanTake, IsRefused, MakesTerms};
 
 use crate::bodies::{is_own_body, made_body};
@@ -16,8 +17,8 @@ use au_model::{Fault, LimitName, TypeName};
 use au_term::{Atom, MAX_ARITY, NoMemory, Shared};
 use binding_array::BindingCell;
 use cell_store::Store;
-use cell_store::arguments::Arguments;
-use region_control::{AfterGoal, GoalPlace, call, raise_fault};
+use cell_store::arguments::{Arguments, rest_of};
+use region_control::{AfterGoal, GoalPlace, argument, call, raise_fault};
 use region_split::Region;
 use std::alloc::Global;
 
@@ -31,10 +32,11 @@ pub fn call_goal(
     place: GoalPlace,
 ) -> Result<AfterGoal, NoMemory>
     requires callee { IsValueIn region.old.store callee }
-    requires further { AreFurther region.old.store further }
+    requires further { AreArgumentsIn region.old.store further }
+    requires few { IsArity (further.count + 1) }
     requires place { IsGoalPlace region.old place }
     ensures comes { IfOk result (ComesTo region.old region.new
-        (call_outcome (further.count + 1) (meaning region.old.store callee) (further_meanings region.old.store further)) place) }
+        (call_outcome (further.count + 1) (meaning region.old.store callee) (argument_terms region.old.store further)) place) }
     ensures text { OnOk result (region.new.text ≡ region.old.text) }
 {
     let callee = region.store().dereference(callee);
@@ -46,6 +48,24 @@ pub fn call_goal(
             called(region, alloc, goal, arity, place)
         }
     }
+}
+
+/// The goal `call(G, A1..)`, by its arguments.
+pub fn call_arguments(
+    region: &mut Region,
+    alloc: Global,
+    arguments: Arguments,
+    place: GoalPlace,
+) -> Result<AfterGoal, NoMemory>
+    requires arguments { AreArgumentsIn region.old.store arguments }
+    requires arity { IsArity arguments.count }
+    requires place { IsGoalPlace region.old place }
+    ensures comes { IfOk result (ComesTo region.old region.new
+        (call_outcome arguments.count (term_at 0 (argument_terms region.old.store arguments)) (drop_terms 1 (argument_terms region.old.store arguments))) place) }
+    ensures text { OnOk result (region.new.text ≡ region.old.text) }
+{
+    let callee = argument(region.store(), arguments, 0);
+    call_goal(region, alloc, callee, rest_of(arguments), place)
 }
 
 /// The error of a call that is refused before its goal is made, with so many further arguments.
@@ -82,9 +102,9 @@ fn goal_value(
 ) -> Result<BindingCell, NoMemory>
     requires callee { IsValueIn region.old.store callee }
     requires room { CanTake region.old.store callee further.count }
-    requires further { AreFurther region.old.store further }
+    requires further { AreArgumentsIn region.old.store further }
     ensures there { IfOk result (IsValueIn region.new.store) }
-    ensures goal { IfOk result (λ goal. meaning region.new.store goal ≡ with_arguments (meaning region.old.store callee) (further_meanings region.old.store further)) }
+    ensures goal { IfOk result (λ goal. meaning region.new.store goal ≡ with_arguments (meaning region.old.store callee) (argument_terms region.old.store further)) }
     ensures made { OnOk result (MakesTerms region.old region.new) }
 {
     if further.count == 0 {

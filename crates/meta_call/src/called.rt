@@ -5,7 +5,8 @@ ghost use Rattle.au_term.specs.PrefixOrder.{due_after};
 ghost use Rattle.au_model.specs.Terms.Forms.{is_callable};
 ghost use Rattle.run_model.specs.Goals.Control.{with_arguments};
 ghost use Rattle.cell_store.specs.StoreView.{IsValueIn, value_term};
-ghost use Rattle.meta_call.specs.CalledTerms.{AreFurther, further_terms, HasBegun, HasParts, PutsArguments, IsFirstTaken};
+ghost use Rattle.region_control.specs.GoalForms.{AreArgumentsIn};
+ghost use Rattle.meta_call.specs.CalledTerms.{further_terms, HasBegun, HasParts, PutsArguments, IsFirstTaken};
 
 use au_term::{Cell, FlatTerm, NoMemory, TermBuilder};
 use binding_array::BindingCell;
@@ -22,7 +23,7 @@ pub(crate) fn called_term(
 ) -> Result<FlatTerm, NoMemory>
     requires callee { IsValueIn store.now callee }
     requires callable { is_callable (value_term store.now callee) ≡ true }
-    requires further { AreFurther store.now further }
+    requires further { AreArgumentsIn store.now further }
     requires some { 0 < further.count }
     requires most { argument_count (value_term store.now callee) + further.count ≤ 65535 }
     ensures { IfOk result (λ t. t ≡ with_arguments (value_term store.now callee) (further_terms store.now further)) }
@@ -45,7 +46,7 @@ fn begin(
 ) -> Result<(TermBuilder, Vec<Arguments>), NoMemory>
     requires callee { IsValueIn store.now callee }
     requires callable { is_callable (value_term store.now callee) ≡ true }
-    requires further { AreFurther store.now further }
+    requires further { AreArgumentsIn store.now further }
     requires some { 0 < further.count }
     requires most { argument_count (value_term store.now callee) + further.count ≤ 65535 }
     ensures { IfOk result (λ w. HasBegun store.now callee further w.0 w.1.items) }

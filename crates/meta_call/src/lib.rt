@@ -8,4 +8,4 @@ mod bodies;
 mod call;
 mod called;
 
-pub use call::call_goal;
+pub use call::{call_arguments, call_goal};
