@@ -4,3 +4,6 @@ pub mod ControlLemmas
 pub mod BallLemmas
 pub mod RecoveryLemmas
 pub mod ThrowLemmas
+pub mod FormLemmas
+pub mod AheadLemmas
+pub mod FindallEndLemmas

@@ -1,15 +1,14 @@
 -- A catch that takes a copy of a ball.
-use Rattle.std.proofs.Common.{◌≡◌, ℕ, ◌+◌, ◌≤◌, List, [], ◌∷◌, length, map, Option, Some, refl, sym, ap, ap₂, ◌∙◌, subst, arith}
-use Rattle.au_term.specs.Term.{Term, VarTerm}
-use Rattle.au_model.specs.Terms.Copies.{copied, copy_takes, place_of, renamed, seen_in}
+use Rattle.std.proofs.Common.{◌≡◌, ℕ, ◌+◌, List, [], ◌∷◌, length, map, Option, Some, refl, sym, ap, ap₂, ◌∙◌, subst, arith}
+use Rattle.au_term.specs.Term.{Term}
+use Rattle.au_model.specs.Terms.Copies.{copied, copy_takes}
 use Rattle.au_model.specs.Terms.Named.{NamedTerm}
-use Rattle.au_model.specs.Terms.Substitutions.{Substitution, value_of, resolve}
+use Rattle.au_model.specs.Terms.Substitutions.{Substitution, resolve}
 use Rattle.au_model.specs.Terms.Unifier.{unifier}
-use Rattle.au_model.proofs.ApplyLemmas.{apply-same, apply-apply}
 use Rattle.run_model.specs.Programs.Bodies.{call_of}
 use Rattle.run_model.specs.Machine.Balls.{recovered}
 use Rattle.run_model.specs.Machine.Entries.{Entry, PlainEntry}
-use Rattle.run_model.specs.Machine.Items.{Item, GoalItem, Continuation, before, with_next, resolve_continuation}
+use Rattle.run_model.specs.Machine.Items.{GoalItem, Continuation, before, with_next, resolve_continuation}
 use Rattle.binding_array.specs.declared.cell.BindingCell.{BindingCell}
 use Rattle.cell_store.specs.StoreView.{StoreView, IsValidStore, IsValueIn, AddsText, text_in, value_term, meaning, with_numbers, with_substitution}
 use Rattle.cell_store.specs.UnificationSteps.{OnlyBinds, AreUnified}
@@ -21,6 +20,7 @@ use Rattle.region_split.specs.StackOperations.{KeepsPositions, StaysStanding, Pu
 use Rattle.region_split.specs.declared.frame.FrameItem.TheVariants.{Call}
 use Rattle.region_split.specs.declared.frame.Position.{Position}
 use Rattle.region_split.proofs.ItemLemmas.{position_more}
+use Rattle.region_split.proofs.ResultLemmas.{copy_unbound}
 use Rattle.region_split.proofs.TrialLemmas.{resolved_twice, items_twice, named_twice}
 use Rattle.region_control.specs.Balls.{Recovers}
 use Rattle.region_control.specs.declared.balls.Catch.{Catch}
@@ -32,12 +32,6 @@ stays_twice a b c x y = record {
   position = λ cut p i. y.position cut p (x.position cut p i);
   others = y.others ∙ ap (λ (z : RegionView). record z { store = c.store }) x.others;
 }
-
--- new variables are not bound
-copy_unbound : (s : Substitution) (t : Term) (next : ℕ) → ((n : ℕ) → next ≤ n → value_of s n ≡ VarTerm n) → resolve s (copied t next) ≡ copied t next
-copy_unbound s t next free =
-    apply-apply (value_of s) (renamed (seen_in t []) next) t
-    ∙ apply-same (λ n. value_of s (next + place_of (seen_in t []) n)) (renamed (seen_in t []) next) (λ n. free (next + place_of (seen_in t []) n) (omega arith)) t
 
 -- the copy is put behind the text
 module _ (r r1 r2 : RegionView) (ball : Term) (c : Catch) (copy : BindingCell) (takes : ℕ) (valid : IsValidStore r.store) (takes_is : takes ≡ copy_takes ball) (widened : r1 ≡ record r { store = with_numbers takes r.store })

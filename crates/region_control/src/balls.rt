@@ -1,5 +1,5 @@
 //! Balls: a thrown ball goes down from catch to catch, to one that takes a copy of it (ISO/IEC 13211-1, 7.8.9 and 7.8.10).
-ghost use Rattle.std.specs.Prelude.{◌≡◌, IfOk};
+ghost use Rattle.std.specs.Prelude.{◌≡◌, IfOk, OnOk};
 ghost use Rattle.cell_store.specs.StoreView.{IsValueIn};
 ghost use Rattle.region_split.specs.ChoicePoints.{IsCatchAt};
 ghost use Rattle.region_split.specs.Regions.{IsPositionIn};
@@ -28,7 +28,8 @@ pub fn throw(
     position: Position,
 ) -> Result<Option<Position>, NoMemory>
     requires { IsPositionIn region.old position }
-    ensures { IfOk result (Lands region.old region.new ball.now position) }
+    ensures lands { IfOk result (Lands region.old region.new ball.now position) }
+    ensures text { OnOk result (region.new.text ≡ region.old.text) }
 {
     let mut mark = first_catch(region, position)?;
     while let Some(over) = mark {
@@ -78,7 +79,8 @@ fn ends_catch(item: FrameItem) -> bool
 /// Takes a catch off, and all choice points above it.
 fn take_catch(region: &mut Region, over: u32) -> Result<Catch, NoMemory>
     requires { IsCatchAt region.old.choices over }
-    ensures { IfOk result (TakesCatch region.old region.new over) }
+    ensures taken { IfOk result (TakesCatch region.old region.new over) }
+    ensures text { OnOk result (region.new.text ≡ region.old.text) }
 {
     region.cut_to(over as usize + 1);
     let ChoicePoint {
@@ -107,7 +109,8 @@ fn recover(
     requires catcher { IsValueIn region.old.store catch.catcher }
     requires recovery { IsValueIn region.old.store catch.recovery }
     requires after { IsPositionIn region.old catch.after }
-    ensures { IfOk result (RecoversOr region.old region.new ball.now catch) }
+    ensures recovers { IfOk result (RecoversOr region.old region.new ball.now catch) }
+    ensures text { OnOk result (region.new.text ≡ region.old.text) }
 {
     let (copy, takes) = copy_term(alloc, ball, VarNo::from(region.store().next()))?;
     let Ok(takes) = u32::try_from(takes) else {

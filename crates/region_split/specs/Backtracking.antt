@@ -1,10 +1,12 @@
 -- What goes on where a branch has ended (ISO/IEC 13211-1, 7.7.6 and 7.7.8).
-use Rattle.std.specs.Prelude.{◌≡◌, ◌≤◌, ◌<◌, List, [], ◌∷◌, length, Option, Some, None}
+use Rattle.std.specs.Prelude.{◌≡◌, ◌<◌, List, [], ◌∷◌, length, Option, Some, None}
 use Rattle.au_model.specs.Terms.Named.{NamedTerm}
 use Rattle.run_model.specs.Machine.Items.{with_next}
 use Rattle.run_model.specs.Machine.Entries.{Entry, PlainEntry, CatchEntry, FindallEntry, EndEntry}
 use Rattle.run_model.specs.Machine.FreeSteps.{take_free_steps}
 use Rattle.cell_store.specs.StoreView.{IsValueIn, meaning}
+use Rattle.region_split.specs.ChoicePoints.{all_takes_left}
+use Rattle.region_split.specs.ResultLists.{AreResultsFrom}
 use Rattle.region_split.specs.Regions.{RegionView, entries_of, continuation_here, position_entry, IsPositionIn}
 use Rattle.region_split.specs.declared.choice.Resumed.{Resumed}
 use Rattle.region_split.specs.declared.choice.Resumed.TheVariants.{At, FindallDone, QueryDone, AllDone}
@@ -27,7 +29,7 @@ resumed_entries named r AllDone = []
 -- positions and values are there
 abbrev pub IsResumed : RegionView → Resumed → Type 0
 IsResumed r (At p) = IsPositionIn r p
-IsResumed r (FindallDone list results after) = IsPositionIn r after × IsValueIn r.store list × (r.store.now.next ≤ results.next)
+IsResumed r (FindallDone list results after) = IsPositionIn r after × IsValueIn r.store list × AreResultsFrom r.store.now.next results
 IsResumed r QueryDone = Unit {0}
 IsResumed r AllDone = length r.choices ≡ 0
 
@@ -40,7 +42,7 @@ pub record Resumes (old new : RegionView) (next : Resumed) : Type 0 where
 abbrev pub TakesFreeSteps : RegionView → RegionView → Resumed → Type 0
 TakesFreeSteps old new next = (named : List NamedTerm) → take_free_steps (entries_of named old) ≡ take_free_steps (resumed_entries named new next)
 
--- the newest choice point was taken: it goes on, or it stood for no entry that does
+-- what the newest choice point has next was taken: it goes on, or it stood for no entry that does
 abbrev pub TakesNext : RegionView → RegionView → Option Resumed → Type 0
-TakesNext old new None = (length new.choices < length old.choices) × ((named : List NamedTerm) → without_catches (entries_of named old) ≡ without_catches (entries_of named new))
+TakesNext old new None = (all_takes_left new.text.heads new.choices < all_takes_left old.text.heads old.choices) × ((named : List NamedTerm) → without_catches (entries_of named old) ≡ without_catches (entries_of named new))
 TakesNext old new (Some next) = Resumes old new next

@@ -37,6 +37,20 @@ impl Results {
         }
     }
 
+    /// The results, in the order in which they came.
+    pub fn terms(&self) -> &[FlatTerm]
+        ensures { result.now ≡ self.entry.now.terms }
+    {
+        &self.terms
+    }
+
+    /// The next number after theirs.
+    pub fn next(&self) -> VarNo
+        ensures { result ≡ self.now.next }
+    {
+        self.next
+    }
+
     /// Adds a copy of a term, with the next numbers.
     pub(crate) fn push(&mut self, alloc: Global, term: &FlatTerm) -> Result<(), NoMemory>
         ensures ok { OnOk result (self.new ≡ with_copy term.now self.old) }

@@ -18,8 +18,8 @@ copy_in-requires c =
     let e = ap var_bound term_is in
     subst (λ (x : RegionView). var_bound c.in_ok-term.term ≤ x.store.now.next) (sym c.in_ok-fresh.ensures.ok) (omega (arith, b, e, takes))
 
-pub returns-then-not-branch : goal.returns-then-not-branch
-returns-then-not-branch c =
+pub returns-then-not-branch-clause-recovers : goal.returns-then-not-branch-clause-recovers
+returns-then-not-branch-clause-recovers c =
     let r = c.args.region.now in
     let r1 = c.fresh.new.self in
     let r2 = c.copy_in.new.self in
@@ -33,8 +33,8 @@ returns-then-not-branch c =
       stays_twice r r2 r3 (stays_twice r r1 r2 c.in_ok-fresh.ensures.stays c.in_ok-value.ensures.stays) c.in_ok-unify.ensures.stays,
     )
 
-pub returns : goal.returns
-returns c =
+pub returns-clause-recovers : goal.returns-clause-recovers
+returns-clause-recovers c =
     let r = c.args.region.now in
     let r1 = c.fresh.new.self in
     let r2 = c.copy_in.new.self in

@@ -5,8 +5,8 @@ use Rattle.region_control.specs.declared.balls.Catch.{Catch}
 use Rattle.region_control.proofs.BallLemmas.{catch_taken}
 use Rattle.region_control.proofs.balls.take_catch.Goals as goal
 
-pub returns : goal.returns
-returns c =
+pub returns-clause-taken : goal.returns-clause-taken
+returns-clause-taken c =
     let new = c.take_newest-alternatives.new.self in
     let k : Catch = record { catcher = c.in-Catch.catcher; recovery = c.in-Catch.recovery; after = c.take_newest-alternatives.result.after } in
     catch_taken c.args.region.now c.cut_to.new.self new c.args.over c.take_newest-alternatives.result c.requires c.cut_to.ensures c.take_newest-alternatives.ensures k c.in-Catch.is refl
