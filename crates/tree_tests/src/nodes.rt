@@ -6,7 +6,7 @@ use std::process::Abort;
 use std::sync::Arc;
 use std::test::Fail;
 use tree_model::AltRef;
-use tree_nodes::{AltState, Credit, NodeBody, NodeKind, Nodes};
+use tree_nodes::{AltState, Credit, NodeBody, NodeKind, Nodes, Records};
 
 fn segment(alloc: Global) -> Segment {
     Segment {
@@ -37,7 +37,7 @@ fn credit(alloc: Global, inferences: u64) -> Credit {
     Credit {
         inferences,
         answers: 0,
-        records: Vec::new(alloc),
+        records: Records::new(alloc),
     }
 }
 

@@ -7,7 +7,7 @@ use std::process::Abort;
 use std::sync::Arc;
 use std::test::Fail;
 use tree_model::AltRef;
-use tree_nodes::{AltState, Credit, NodeBody, NodeKind, Nodes};
+use tree_nodes::{AltState, Credit, NodeBody, NodeKind, Nodes, Records};
 
 fn segment(alloc: Global) -> Segment {
     Segment {
@@ -76,7 +76,7 @@ fn what_is_pruned(rt: HostRuntime) -> Result<(), Fail> {
         let credit = Credit {
             inferences: 7,
             answers: 0,
-            records: Vec::new(alloc),
+            records: Records::new(alloc),
         };
         close(&rt, &mut nodes, place(1, 2), credit)?;
         let at = place(2, 0);
@@ -113,7 +113,7 @@ fn many_are_pruned(rt: HostRuntime) -> Result<(), Fail> {
             let credit = Credit {
                 inferences: 1,
                 answers: 0,
-                records: Vec::new(alloc),
+                records: Records::new(alloc),
             };
             close(&rt, &mut nodes, place(0, alternative), credit)?;
         } else {

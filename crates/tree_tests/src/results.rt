@@ -7,7 +7,7 @@ use std::process::Abort;
 use std::sync::Arc;
 use std::test::Fail;
 use tree_model::AltRef;
-use tree_nodes::{Credit, NodeBody, NodeKind, Nodes};
+use tree_nodes::{Credit, NodeBody, NodeKind, Nodes, Records};
 
 fn segment(alloc: Global) -> Segment {
     Segment {
@@ -82,7 +82,7 @@ fn records_in_order(rt: HostRuntime) -> Result<(), Fail> {
         let credit = Credit {
             inferences: 1,
             answers: 0,
-            records,
+            records: Records::of(alloc, records)?,
         };
         close(&rt, &mut nodes, place(1, alternative), credit)?;
     }

@@ -1,12 +1,12 @@
 //! Trees for tests.
-use au_term::{Bindings, NoMemory, Segment};
+use au_term::{Bindings, Cell, NoMemory, Segment, TermBuilder};
 use clause_compile::{Branch, Goals};
 use std::alloc::Global;
 use std::process::Abort;
 use std::sync::Arc;
 use std::test::Fail;
 use tree_model::AltRef;
-use tree_nodes::{Credit, NodeBody, NodeKind, Nodes};
+use tree_nodes::{Credit, NodeBody, NodeKind, Nodes, Records};
 
 fn segment(alloc: Global) -> Segment {
     Segment {
@@ -70,6 +70,20 @@ pub(crate) fn credit(alloc: Global, answers: u64, inferences: u64) -> Credit {
     Credit {
         inferences,
         answers,
-        records: Vec::new(alloc),
+        records: Records::new(alloc),
     }
+}
+
+/// What an alternative has left that has collected a number.
+pub(crate) fn recorded(rt: &impl Abort, alloc: Global, number: i64) -> Result<Credit, Fail> {
+    let mut builder = TermBuilder::new(alloc);
+    builder.push(Cell::Int(number))?;
+    assert_eq!(rt; builder.missing(), 0);
+    let mut records = Vec::new(alloc);
+    records.push(builder.finish())?;
+    Ok(Credit {
+        inferences: 1,
+        answers: 0,
+        records: Records::of(alloc, records)?,
+    })
 }
