@@ -6,6 +6,7 @@ use findall_tree::bag_of;
 use std::alloc::Global;
 use std::process::Abort;
 use std::test::Fail;
+use tree_model::AltRef;
 use tree_nodes::{AltState, Nodes};
 
 const NODES: u64 = 20_000;
@@ -118,7 +119,12 @@ fn folding(rt: &impl Abort, alloc: Global, side: u32) -> Result<(), Fail> {
         let record = recorded(rt, alloc, node as i64)?;
         close(rt, &mut nodes, place(node, 1 - side.min(1)), record)?;
     }
-    assert!(rt; nodes.is_closed(place(0, 0)));
+    let side_of_goal = AltRef {
+        node: 0,
+        alternative: 0,
+    };
+    assert!(rt; nodes.has_alternative(side_of_goal));
+    assert!(rt; nodes.is_closed(side_of_goal));
     let bag = bag_of(&nodes, 0)?;
     assert_eq!(rt; bag.len() as u64, NODES + 1);
     for (index, record) in bag.iter().enumerate() {

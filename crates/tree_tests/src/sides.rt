@@ -73,14 +73,13 @@ fn what_can_be_taken(rt: HostRuntime) -> Result<(), Fail> {
     let mut nodes = tree(&rt, rt.alloc())?;
     assert_eq!(rt; leftmost_ready(&nodes), Some(place(1, 0)));
     assert_eq!(rt; leftmost_cleared(&nodes), None);
-    for (node, alternative, state) in [
-        (1, 0, AltState::Taken(3)),
-        (2, 0, AltState::Waiting(GateKind::Cut(Scope::Node(0)))),
-        (2, 1, AltState::Waiting(GateKind::Cut(Scope::Node(2)))),
-    ] {
-        let at = place(node, alternative);
+    let taken = place(1, 0);
+    assert!(rt; nodes.is_pending(taken));
+    nodes.set(taken, AltState::Taken(3), 0);
+    for (alternative, scope) in [(0, 0), (1, 2)] {
+        let at = place(2, alternative);
         assert!(rt; nodes.is_pending(at));
-        nodes.set(at, state, 0);
+        nodes.set(at, AltState::Waiting(GateKind::Cut(Scope::Node(scope))), 0);
     }
     assert_eq!(rt; leftmost_ready(&nodes), Some(place(0, 2)));
     assert_eq!(rt; leftmost_cleared(&nodes), Some(place(2, 1)));
