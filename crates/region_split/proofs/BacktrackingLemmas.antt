@@ -1,15 +1,25 @@
 -- Backtracking in the steps of the sequential machine.
-use Rattle.std.proofs.Common.{◌≡◌, List, [], ◌∷◌, length, refl, ap, ◌∙◌, arith}
+use Rattle.std.proofs.Common.{◌≡◌, ℕ, suc, ◌+◌, ◌-◌, ◌<◌, ◌≤◌, List, [], ◌∷◌, ◌++◌, length, Option, Some, None, slice_get, refl, sym, ap, ap₂, ◌∙◌, subst, arith}
 use Rattle.au_model.specs.Terms.Named.{NamedTerm}
 use Rattle.run_model.specs.Machine.Entries.{Entry, PlainEntry, CatchEntry, FindallEntry, EndEntry}
 use Rattle.run_model.specs.Machine.FreeSteps.{take_free_steps}
 use Rattle.cell_store.specs.StoreView.{Moment}
-use Rattle.region_split.specs.ChoicePoints.{RegionSetting, standing_over, nothing_standing}
-use Rattle.region_split.specs.Regions.{RegionView, region_setting, entries_of}
-use Rattle.region_split.specs.Backtracking.{without_catches, Resumes, TakesFreeSteps}
+use Rattle.run_model.specs.Programs.Clauses.{Clause}
+use Rattle.region_split.specs.Texts.{TextView}
+use Rattle.region_split.specs.ChoicePoints.{RegionSetting, Standing, standing_over, nothing_standing, all_takes_left, takes_left}
+use Rattle.region_split.specs.Regions.{RegionView, region_setting, entries_of, entries_on}
+use Rattle.region_split.specs.StackOperations.{TakesNewest, TakesClause, trial_entries}
+use Rattle.region_split.specs.ClauseTrials.{TriesClause, KeepsChoices, entries_at}
+use Rattle.region_split.specs.Backtracking.{without_catches, Resumes, TakesFreeSteps, TakesNext}
+use Rattle.binding_array.specs.declared.cell.BindingCell.{BindingCell}
+use Rattle.region_split.specs.declared.choice.Alternatives.TheVariants.{Catch}
 use Rattle.region_split.specs.declared.choice.ChoicePoint.{ChoicePoint}
 use Rattle.region_split.specs.declared.choice.Resumed.{Resumed}
-use Rattle.region_split.specs.declared.choice.Resumed.TheVariants.{AllDone}
+use Rattle.region_split.specs.declared.choice.Resumed.TheVariants.{At, AllDone}
+use Rattle.region_split.specs.declared.choice.Trial.{Trial}
+use Rattle.region_split.specs.declared.frame.Position.{Position}
+use Rattle.region_split.proofs.CallLemmas.{position_over}
+use Rattle.region_split.proofs.CursorLemmas.{takes-append}
 
 -- catches on top are dropped by free steps
 past_catches : (es : List Entry) → take_free_steps es ≡ take_free_steps (without_catches es)
@@ -28,3 +38,47 @@ nothing_stands s (c ∷ cs) ms e = absurd (omega (arith, e))
 
 pub all_done : (r : RegionView) → length r.choices ≡ 0 → Resumes r r AllDone
 all_done r e = record { entries = λ named. ap without_catches (nothing_stands (region_setting named r) r.choices r.store.marks e); there = e }
+
+-- a clause that was taken and tried
+module _ (old r new : RegionView) (t : Trial) (cut : ℕ) (took : TakesClause old r t) (count : cut ≡ length old.choices - 1) (kept : KeepsChoices r new) where
+  some_same : (x y : Clause) → Some x ≡ Some y → x ≡ y
+  some_same x y e = cc
+
+  same_clause : (reached : Option Position) (tried : TriesClause r new t cut reached) → took.clause ≡ tried.clause
+  same_clause reached tried = some_same took.clause tried.clause (sym took.is ∙ (ap (λ (x : TextView). slice_get x.clauses t.clause) (sym took.text) ∙ tried.is))
+
+  entries : (reached : Option Position) → TriesClause r new t cut reached → (named : List NamedTerm) → entries_of named old ≡ entries_at named new reached ++ entries_of named new
+  entries reached tried named =
+      took.entries named
+      ∙ ap₂ (λ es fs. es ++ fs)
+      (ap₂ (λ n c. trial_entries named r t n c) (sym count) (same_clause reached tried) ∙ tried.entries named)
+      (ap (λ (st : Standing). st.entries) (sym (kept.stands named)))
+
+  same_choices : new.choices ≡ r.choices
+  same_choices = ap (λ (x : RegionView). x.choices) kept.others
+
+  pub clause_resumes : (p : Position) → TriesClause r new t cut (Some p) → Resumes old new (At p)
+  clause_resumes p tried = record {
+    entries = λ named. ap without_catches (entries (Some p) tried named);
+    there = position_over new cut (length new.choices) (Some p) (let m = took.many in let l = ap length same_choices in omega (arith, m, l, count)) tried.position;
+  }
+
+  pub clause_fails : TriesClause r new t cut None → TakesNext old new None
+  clause_fails tried = (
+    subst (λ (x : RegionView). all_takes_left x.text.heads x.choices < all_takes_left old.text.heads old.choices) (sym kept.others) took.fewer,
+    λ named. ap without_catches (entries None tried named),
+  )
+
+-- what was taken off is less
+pub newest_fewer : (old new : RegionView) (c : ChoicePoint) → TakesNewest old new c → all_takes_left new.text.heads new.choices < all_takes_left old.text.heads old.choices
+newest_fewer old new c t =
+    let long = ap (all_takes_left old.text.heads) t.choices ∙ takes-append old.text.heads new.choices (c ∷ []) in
+    subst (λ x. all_takes_left x new.choices < all_takes_left old.text.heads old.choices) (sym (ap (λ (x : TextView). x.heads) t.text)) (omega (arith, long))
+
+-- a catch whose goal has no solution left
+pub catch_passed : (old r new : RegionView) (c : ChoicePoint) (catcher recovery : BindingCell) → r ≡ old → TakesNewest r new c → c.alternatives ≡ Catch catcher recovery → TakesNext old new None
+catch_passed old r new c catcher recovery same t is =
+    subst (λ x. TakesNext x new None) same (
+      newest_fewer r new c t,
+      λ named. ap without_catches (t.entries named ∙ ap (λ a. entries_on named new (record c { alternatives = a }) new.store.now ++ entries_of named new) is),
+    )

@@ -3,7 +3,8 @@ use Rattle.std.proofs.Common.{◌≡◌, ℕ, zero, suc, ◌+◌, ◌<◌, Bool,
 use Rattle.std.proofs.lemmas.Bool.Decides.{nat_tests}
 use Rattle.std.proofs.lemmas.List.{take-append-drop, length-take-le, set-get_or}
 use Rattle.cell_store.proofs.UndoingLemmas.{split_at}
-use Rattle.region_split.proofs.CursorLemmas.{IsThere, is_there, replaced}
+use Rattle.region_split.proofs.CandidateLemmas.{IsThere, is_there}
+use Rattle.region_split.proofs.CursorLemmas.{replaced}
 use Rattle.au_term.specs.Term.{Term}
 use Rattle.au_model.specs.Terms.Named.{NamedTerm}
 use Rattle.run_model.specs.Machine.Items.{Continuation}
@@ -50,21 +51,21 @@ record IsFindallEntry (s : RegionSetting) (m : Moment) (h : ℕ) (f : Continuati
   is : alternative_entries s m h f (with_found t a) ≡ with_result t entry ∷ []
 
 findall_entry : (s : RegionSetting) (m : Moment) (h : ℕ) (f : Continuation ℕ) (t : Term) (a : Alternatives) → IsCollecting a → IsFindallEntry s m h f t a
-findall_entry s m h f t (Clauses goal first end) k = absurd k
+findall_entry s m h f t (Clauses goal clause left) k = absurd k
 findall_entry s m h f t Elsewhere k = absurd k
 findall_entry s m h f t (Catch catcher recovery) k = absurd k
 findall_entry s m h f t (Findall list results) k = record { entry = _; was = refl; is = refl }
 findall_entry s m h f t QueryEnd k = absurd k
 
 found_values : (s : RegionSetting) (m : Moment) (t : Term) (a : Alternatives) → AreAlternativesAt s m a → AreAlternativesAt s m (with_found t a)
-found_values s m t (Clauses goal first end) v = v
+found_values s m t (Clauses goal clause left) v = v
 found_values s m t Elsewhere v = v
 found_values s m t (Catch catcher recovery) v = v
 found_values s m t (Findall list results) v = (v.0, more_results m.next t results v.1)
 found_values s m t QueryEnd v = v
 
 found_alike : (t : Term) (a : Alternatives) → IsAlike a (with_found t a)
-found_alike t (Clauses goal first end) = ((λ h. h), (λ h. h))
+found_alike t (Clauses goal clause left) = ((λ h. h), (λ h. h))
 found_alike t Elsewhere = ((λ h. h), (λ h. h))
 found_alike t (Catch catcher recovery) = ((λ h. h), (λ h. h))
 found_alike t (Findall list results) = ((λ h. h), (λ h. h))

@@ -4,6 +4,7 @@ pub mod StandingLemmas
 pub mod MarkLemmas
 pub mod RegionLemmas
 pub mod CursorLemmas
+pub mod NextClauseLemmas
 pub mod ResultLemmas
 pub mod FindallLemmas
 pub mod LeftLemmas
@@ -14,3 +15,7 @@ pub mod ClauseLemmas
 pub mod TrialLemmas
 pub mod CallLemmas
 pub mod BacktrackingLemmas
+pub mod HeadLemmas
+pub mod CandidateLemmas
+pub mod KeyLemmas
+pub mod ToldApartLemmas

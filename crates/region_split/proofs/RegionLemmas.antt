@@ -153,7 +153,7 @@ module _ (r : RegionView) (k : IsConsistentRegion r) (n : ℕ) (le : n ≤ lengt
 
 -- the newest choice point is taken off
 module _ (r : RegionView) (k : IsConsistentRegion r) (cs : List ChoicePoint) (c : ChoicePoint) (ms : List Moment) (m now : Moment) (choices : r.choices ≡ cs ++ c ∷ []) (marks : r.store.marks ≡ ms ++ m ∷ []) where
-  abbrev lowered : RegionView
+  abbrev pub lowered : RegionView
   lowered = record r { store = record r.store { now = now; marks = ms }; choices = cs }
 
   pub stacked : AreChoicesOver (region_setting [] r) 0 0 (cs ++ c ∷ []) (ms ++ m ∷ [])

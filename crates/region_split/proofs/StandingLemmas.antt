@@ -78,14 +78,14 @@ abbrev pub AreSameTo : RegionSetting → List Frame → ℕ → Type 0
 AreSameTo s fs n = (p : Position) → p.frame ≤ n → left_items s.text.bodies fs p ≡ left_items s.text.bodies s.frames p
 
 same_alternatives : (s : RegionSetting) (fs : List Frame) (m : Moment) (h : ℕ) (f : Continuation ℕ) (a : Alternatives) → alternative_entries (with_frames fs s) m h f a ≡ alternative_entries s m h f a
-same_alternatives s fs m h f (Clauses goal first end) = refl
+same_alternatives s fs m h f (Clauses goal clause left) = refl
 same_alternatives s fs m h f Elsewhere = refl
 same_alternatives s fs m h f (Catch catcher recovery) = refl
 same_alternatives s fs m h f (Findall list results) = refl
 same_alternatives s fs m h f QueryEnd = refl
 
 pub same_values : (s : RegionSetting) (fs : List Frame) (m : Moment) (a : Alternatives) → AreAlternativesAt s m a → AreAlternativesAt (with_frames fs s) m a
-same_values s fs m (Clauses goal first end) v = v
+same_values s fs m (Clauses goal clause left) v = v
 same_values s fs m Elsewhere v = v
 same_values s fs m (Catch catcher recovery) v = v
 same_values s fs m (Findall list results) v = v
@@ -177,7 +177,7 @@ newest_keeps frames (d ∷ b ∷ cs) (suc i) c l e = newest_keeps d.frames (b �
 
 -- what the named variables are does not matter
 named_values : (s : RegionSetting) (named : List NamedTerm) (m : Moment) (a : Alternatives) → AreAlternativesAt s m a → AreAlternativesAt (record s { named = named }) m a
-named_values s named m (Clauses goal first end) v = v
+named_values s named m (Clauses goal clause left) v = v
 named_values s named m Elsewhere v = v
 named_values s named m (Catch catcher recovery) v = v
 named_values s named m (Findall list results) v = v

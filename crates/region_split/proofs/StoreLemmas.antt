@@ -1,15 +1,15 @@
 -- A region whose store goes on.
 use Rattle.std.proofs.Common.{◌≡◌, ℕ, ◌+◌, List, [], ◌∷◌, length, map, refl, sym, ap, ap₂, ◌∙◌, subst, arith}
-use Rattle.std.specs.List.{slice_range}
 use Rattle.au_model.specs.Terms.Each.{Each}
 use Rattle.au_model.specs.Terms.Named.{NamedTerm}
 use Rattle.au_model.specs.Terms.Substitutions.{resolve}
 use Rattle.run_model.specs.Machine.Items.{Item, Continuation, resolve_continuation, with_next}
-use Rattle.run_model.specs.Machine.Entries.{Entry, PlainEntry, FindallEntry, CatchEntry, solution_entries}
-use Rattle.run_model.specs.Goals.Outcomes.{alternatives_of}
+use Rattle.run_model.specs.Machine.Entries.{Entry, PlainEntry, FindallEntry, CatchEntry}
 use Rattle.clause_compile.specs.Places.{CodeView, Keeps}
 use Rattle.cell_store.specs.StoreView.{Moment, StoreView, AddsText, text_in, with_numbers}
 use Rattle.cell_store.proofs.SubstitutionLemmas.{value_kept}
+use Rattle.clause_index.specs.Cursors.{numbers_left}
+use Rattle.region_split.specs.Candidates.{entries_of_clauses}
 use Rattle.region_split.specs.Frames.{AreLeftScoped, left_items, item_in}
 use Rattle.region_split.specs.ChoicePoints.{RegionSetting, Standing, code_at, continuation_at, alternative_entries, choice_entries, standing_over, nothing_standing, with_entries_on_top, by_height, AreAlternativesAt, AreChoicesOver}
 use Rattle.region_split.specs.Regions.{RegionView, region_setting, left_here, heights_of, standing, IsConsistentRegion, IsPositionOver}
@@ -43,14 +43,14 @@ module _ (program : CodeView) (names : List (List ℕ)) (s : RegionSetting) wher
   IsKept m = Keeps (code_at s m) (code_at now m)
 
   kept_values : (m : Moment) (a : Alternatives) → IsKept m → AreAlternativesAt s m a → AreAlternativesAt now m a
-  kept_values m (Clauses goal first end) k v = ((value_kept (code_at s m) (code_at now m) m.next goal k v.0).0, v.1)
+  kept_values m (Clauses goal clause left) k v = ((value_kept (code_at s m) (code_at now m) m.next goal k v.0).0, v.1, v.2)
   kept_values m Elsewhere k v = tt
   kept_values m (Catch catcher recovery) k v = ((value_kept (code_at s m) (code_at now m) m.next catcher k v.0).0, (value_kept (code_at s m) (code_at now m) m.next recovery k v.1).0)
   kept_values m (Findall list results) k v = ((value_kept (code_at s m) (code_at now m) m.next list k v.0).0, v.1)
   kept_values m QueryEnd k v = tt
 
   kept_alternatives : (m : Moment) (h : ℕ) (f : Continuation ℕ) (a : Alternatives) → IsKept m → AreAlternativesAt s m a → alternative_entries now m h f a ≡ alternative_entries s m h f a
-  kept_alternatives m h f (Clauses goal first end) k v = ap (λ t. solution_entries h f (alternatives_of (slice_range s.text.clauses first end) (resolve m.bound t) m.next)) (value_kept (code_at s m) (code_at now m) m.next goal k v.0).1
+  kept_alternatives m h f (Clauses goal clause left) k v = ap (λ t. entries_of_clauses s.text (resolve m.bound t) m.next h f (clause ∷ numbers_left s.text.heads left)) (value_kept (code_at s m) (code_at now m) m.next goal k v.0).1
   kept_alternatives m h f Elsewhere k v = refl
   kept_alternatives m h f (Catch catcher recovery) k v =
       ap₂ (λ t u. CatchEntry (resolve m.bound t) (resolve m.bound u) f ∷ []) (value_kept (code_at s m) (code_at now m) m.next catcher k v.0).1 (value_kept (code_at s m) (code_at now m) m.next recovery k v.1).1

@@ -20,6 +20,7 @@ still_placed : (old new : CodeView) (bodies more : List BodyItem) (c : Clause) (
 still_placed old new bodies more c p k q = record {
   head_there = (k.same p.head q.head_there).0;
   head = (k.same p.head q.head_there).1 ∙ q.head;
+  callable = q.callable;
   goals = q.goals;
   following = q.following ++ more;
   body = followed bodies more q.following q.goals p.body q.body;

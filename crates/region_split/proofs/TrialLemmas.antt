@@ -38,7 +38,7 @@ use Rattle.region_split.specs.declared.text.BodyItem.{BodyItem}
 use Rattle.region_split.specs.declared.text.BodyItem.TheVariants.{BodyEnd}
 use Rattle.region_split.specs.declared.text.PlacedClause.{PlacedClause}
 use Rattle.region_split.proofs.ClauseLemmas.{AreBelow, shifted_within, part_renamed, goals_within}
-use Rattle.region_split.proofs.CursorLemmas.{is_there}
+use Rattle.region_split.proofs.CandidateLemmas.{is_there}
 use Rattle.region_split.proofs.FrameLemmas.{read_on}
 use Rattle.region_split.proofs.ScopeLemmas.{scoped_further}
 

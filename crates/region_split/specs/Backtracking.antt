@@ -5,6 +5,7 @@ use Rattle.run_model.specs.Machine.Items.{with_next}
 use Rattle.run_model.specs.Machine.Entries.{Entry, PlainEntry, CatchEntry, FindallEntry, EndEntry}
 use Rattle.run_model.specs.Machine.FreeSteps.{take_free_steps}
 use Rattle.cell_store.specs.StoreView.{IsValueIn, meaning}
+use Rattle.region_split.specs.ChoicePoints.{all_takes_left}
 use Rattle.region_split.specs.ResultLists.{AreResultsFrom}
 use Rattle.region_split.specs.Regions.{RegionView, entries_of, continuation_here, position_entry, IsPositionIn}
 use Rattle.region_split.specs.declared.choice.Resumed.{Resumed}
@@ -41,7 +42,7 @@ pub record Resumes (old new : RegionView) (next : Resumed) : Type 0 where
 abbrev pub TakesFreeSteps : RegionView → RegionView → Resumed → Type 0
 TakesFreeSteps old new next = (named : List NamedTerm) → take_free_steps (entries_of named old) ≡ take_free_steps (resumed_entries named new next)
 
--- the newest choice point was taken: it goes on, or it stood for no entry that does
+-- what the newest choice point has next was taken: it goes on, or it stood for no entry that does
 abbrev pub TakesNext : RegionView → RegionView → Option Resumed → Type 0
-TakesNext old new None = (length new.choices < length old.choices) × ((named : List NamedTerm) → without_catches (entries_of named old) ≡ without_catches (entries_of named new))
+TakesNext old new None = (all_takes_left new.text.heads new.choices < all_takes_left old.text.heads old.choices) × ((named : List NamedTerm) → without_catches (entries_of named old) ≡ without_catches (entries_of named new))
 TakesNext old new (Some next) = Resumes old new next

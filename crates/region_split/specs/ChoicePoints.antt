@@ -1,19 +1,20 @@
 -- What a choice point stands for: entries of the sequential machine.
-use Rattle.std.specs.Prelude.{◌≡◌, ◌<◌, ℕ, ◌+◌, ◌-◌, ◌≤◌, List, [], ◌∷◌, ◌++◌, length, map, get_or, slice_get, IsSomeAnd, None}
-use Rattle.std.specs.List.{slice_range}
+use Rattle.std.specs.Prelude.{◌≡◌, ◌<◌, ℕ, suc, ◌+◌, ◌-◌, ◌≤◌, List, [], ◌∷◌, ◌++◌, length, map, get_or, slice_get, IsSomeAnd, None}
 use Rattle.au_term.specs.Term.{Term}
 use Rattle.au_model.specs.Terms.Named.{NamedTerm}
 use Rattle.au_model.specs.Terms.Substitutions.{resolve}
-use Rattle.run_model.specs.Goals.Outcomes.{alternatives_of}
 use Rattle.run_model.specs.Machine.Items.{Item, GoalItem, CatchMark, CollectMark, RemovalItem, Continuation, with_next, resolve_continuation}
-use Rattle.run_model.specs.Machine.Entries.{Entry, PlainEntry, CatchEntry, FindallEntry, EndEntry, solution_entries}
+use Rattle.run_model.specs.Machine.Entries.{Entry, PlainEntry, CatchEntry, FindallEntry, EndEntry}
 use Rattle.clause_compile.specs.Places.{CodeView}
 use Rattle.binding_array.specs.Represented.{cell_term}
 use Rattle.binding_array.specs.declared.cell.BindingCell.{BindingCell}
 use Rattle.cell_store.specs.StoreView.{Moment}
 use Rattle.cell_store.specs.Values.{IsValue}
 use Rattle.region_split.specs.Frames.{LeftItem, PlacedGoal, OwnItem, left_items, items_at, AreLeftScoped}
+use Rattle.clause_index.specs.Cursors.{IsCursorOf, numbers_left}
+use Rattle.clause_index.specs.declared.key.HeadKey.{HeadKey}
 use Rattle.region_split.specs.Texts.{TextView}
+use Rattle.region_split.specs.Candidates.{entries_of_clauses}
 use Rattle.region_split.specs.ResultLists.{with_copy, AreResultsFrom}
 use Rattle.region_split.specs.declared.choice.Alternatives.{Alternatives}
 use Rattle.region_split.specs.declared.choice.Alternatives.TheVariants.{Clauses, Elsewhere, Catch, Findall, QueryEnd}
@@ -57,10 +58,10 @@ abbrev pub continuation_at : RegionSetting → List ℕ → Moment → Position 
 continuation_at s heights m p =
     resolve_continuation m.bound (record { items = map (by_height heights) (items_at (code_at s m) s.text.bodies s.frames p); named = s.named; next = m.next })
 
--- the entries of alternatives, over so many entries, before what follows: one for each clause that is left and whose head
--- unifies with the goal; one for what goes on elsewhere, for a catch, for a findall and for the end of a query
+-- the entries of alternatives, over so many entries, before what follows: one for each clause that is to be tried and whose
+-- head unifies with the goal; one for what goes on elsewhere, for a catch, for a findall and for the end of a query
 abbrev pub alternative_entries : RegionSetting → Moment → ℕ → Continuation ℕ → Alternatives → List Entry
-alternative_entries s m height f (Clauses goal first end) = solution_entries height f (alternatives_of (slice_range s.text.clauses first end) (meant_at s m goal) m.next)
+alternative_entries s m height f (Clauses goal clause left) = entries_of_clauses s.text (meant_at s m goal) m.next height f (clause ∷ numbers_left s.text.heads left)
 alternative_entries s m height f Elsewhere = PlainEntry f ∷ []
 alternative_entries s m height f (Catch catcher recovery) = CatchEntry (meant_at s m catcher) (meant_at s m recovery) f ∷ []
 alternative_entries s m height f (Findall list results) = FindallEntry results.terms (meant_at s m list) (with_next results.next f) ∷ []
@@ -84,30 +85,35 @@ standing_over s below [] moments = below
 standing_over s below (c ∷ choices) [] = below
 standing_over s below (c ∷ choices) (m ∷ moments) = standing_over s (with_entries_on_top (choice_entries s below c m) below) choices moments
 
--- what is still to be tried, but for the first clause
-pub record HasNextClause (old new : Alternatives) (goal : BindingCell) (clause : ℕ) : Type 0 where
-  pub end : ℕ
-  pub was : old ≡ Clauses goal clause end
-  pub some : clause < end
-  pub is : new ≡ Clauses goal (clause + 1) end
-
--- alternatives that are no clauses, or none that is left
+-- alternatives that are no clauses
 abbrev pub HaveNoClause : Alternatives → Type 0
-HaveNoClause (Clauses goal first end) = end ≤ first
+HaveNoClause (Clauses goal clause left) = ⊥
 HaveNoClause Elsewhere = Unit {0}
 HaveNoClause (Catch catcher recovery) = Unit {0}
 HaveNoClause (Findall list results) = Unit {0}
 HaveNoClause QueryEnd = Unit {0}
 
+-- how often alternatives can be taken, and how often all choice points can
+abbrev pub takes_left : List HeadKey → Alternatives → ℕ
+takes_left heads (Clauses goal clause left) = suc (length (numbers_left heads left))
+takes_left heads Elsewhere = 0
+takes_left heads (Catch catcher recovery) = 0
+takes_left heads (Findall list results) = 0
+takes_left heads QueryEnd = 0
+
+abbrev pub all_takes_left : List HeadKey → List ChoicePoint → ℕ
+all_takes_left heads [] = 0
+all_takes_left heads (c ∷ choices) = suc (takes_left heads c.alternatives) + all_takes_left heads choices
+
 abbrev pub IsCollecting : Alternatives → Type 0
-IsCollecting (Clauses goal first end) = ⊥
+IsCollecting (Clauses goal clause left) = ⊥
 IsCollecting Elsewhere = ⊥
 IsCollecting (Catch catcher recovery) = ⊥
 IsCollecting (Findall list results) = Unit {0}
 IsCollecting QueryEnd = ⊥
 
 abbrev pub IsCatching : Alternatives → Type 0
-IsCatching (Clauses goal first end) = ⊥
+IsCatching (Clauses goal clause left) = ⊥
 IsCatching Elsewhere = ⊥
 IsCatching (Catch catcher recovery) = Unit {0}
 IsCatching (Findall list results) = ⊥
@@ -146,7 +152,7 @@ AreMarkedOver bodies frames below (c ∷ choices) = AreMarked below (left_items 
 
 -- a findall with one more result
 abbrev pub with_found : Term → Alternatives → Alternatives
-with_found t (Clauses goal first end) = Clauses goal first end
+with_found t (Clauses goal clause left) = Clauses goal clause left
 with_found t Elsewhere = Elsewhere
 with_found t (Catch catcher recovery) = Catch catcher recovery
 with_found t (Findall list results) = Findall list (with_copy t results)
@@ -158,7 +164,7 @@ nothing_standing = record { entries = []; heights = 0 ∷ [] }
 
 -- values that were there at a moment, and clauses of the text
 abbrev pub AreAlternativesAt : RegionSetting → Moment → Alternatives → Type 0
-AreAlternativesAt s m (Clauses goal first end) = IsValue (code_at s m) m.next goal × (end ≤ length s.text.clauses)
+AreAlternativesAt s m (Clauses goal clause left) = IsValue (code_at s m) m.next goal × (clause < length s.text.clauses) × IsCursorOf s.text.heads left
 AreAlternativesAt s m Elsewhere = Unit {0}
 AreAlternativesAt s m (Catch catcher recovery) = IsValue (code_at s m) m.next catcher × IsValue (code_at s m) m.next recovery
 AreAlternativesAt s m (Findall list results) = IsValue (code_at s m) m.next list × AreResultsFrom m.next results

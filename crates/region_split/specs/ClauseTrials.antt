@@ -1,6 +1,5 @@
 -- Clauses that are tried for goals (ISO/IEC 13211-1, 7.7.10).
 use Rattle.std.specs.Prelude.{◌≡◌, ℕ, ◌+◌, List, [], ◌∷◌, ◌++◌, length, Option, Some, None, slice_get}
-use Rattle.std.specs.List.{slice_range}
 use Rattle.au_model.specs.Terms.Named.{NamedTerm}
 use Rattle.run_model.specs.Programs.Clauses.{Clause}
 use Rattle.run_model.specs.Goals.Outcomes.{Solutions, alternatives_of}
@@ -36,19 +35,13 @@ pub record KeepsChoices (old new : RegionView) : Type 0 where
   pub stands : (named : List NamedTerm) → standing named new ≡ standing named old
   pub others : new ≡ record old { store = record old.store { now = new.store.now }; frames = new.frames }
 
--- what takes the place of a goal for which clauses are tried, by their numbers, before what follows at a position
-abbrev pub called_entries : List NamedTerm → RegionView → BindingCell → ℕ → ℕ → Position → List Entry
-called_entries named r goal first end after =
-    after_reply (Solutions (alternatives_of (slice_range r.text.clauses first end) (meaning r.store goal) r.store.now.next)) (continuation_here named r after) (entries_of named r)
+-- what takes the place of a goal for which all clauses of the text are tried, before what follows at a position
+abbrev pub called_entries : List NamedTerm → RegionView → BindingCell → Position → List Entry
+called_entries named r goal after =
+    after_reply (Solutions (alternatives_of r.text.clauses (meaning r.store goal) r.store.now.next)) (continuation_here named r after) (entries_of named r)
 
 -- a goal was called: what goes on, over what the choice points stand for, is what takes its place
-pub record Calls (old new : RegionView) (goal : BindingCell) (first end : ℕ) (after : Position) (reached : Option Position) : Type 0 where
-  pub entries : (named : List NamedTerm) → called_entries named old goal first end after ≡ entries_at named new reached ++ entries_of named new
+pub record Calls (old new : RegionView) (goal : BindingCell) (after : Position) (reached : Option Position) : Type 0 where
+  pub entries : (named : List NamedTerm) → called_entries named old goal after ≡ entries_at named new reached ++ entries_of named new
   pub position : IsOptionalPosition new (length new.choices) reached
-  pub many : reached ≡ None → length new.choices ≡ length old.choices
   pub text : new.text ≡ old.text
-
--- the first of some clauses was tried before the others: it goes on over these, or it has no entry
-abbrev pub TriesFirst : RegionView → RegionView → Trial → ℕ → Option Position → Type 0
-TriesFirst old new t end None = (new ≡ old) × ((named : List NamedTerm) → called_entries named old t.goal t.clause end t.after ≡ called_entries named old t.goal (t.clause + 1) end t.after)
-TriesFirst old new t end (Some p) = Calls old new t.goal t.clause end t.after (Some p)

@@ -1,4 +1,5 @@
 pub mod Texts
+pub mod Candidates
 pub mod ResultLists
 pub mod Frames
 pub mod ChoicePoints

@@ -9,7 +9,7 @@ use Rattle.run_model.specs.Machine.Entries.{Entry, lowest, solution_entry, colle
 use Rattle.cell_store.specs.StoreView.{Moment, text_in, with_mark, with_marks, new_store, IsValueIn, meaning}
 use Rattle.region_split.specs.Texts.{TextView}
 use Rattle.region_split.specs.Frames.{own_body_left, scoped_item}
-use Rattle.region_split.specs.ChoicePoints.{height_of_cut, by_height, HaveNoClause, IsFindallAt}
+use Rattle.region_split.specs.ChoicePoints.{height_of_cut, by_height, HaveNoClause, IsFindallAt, all_takes_left}
 use Rattle.region_split.specs.Regions.{RegionView, left_here, continuation_here, standing, entries_of, heights_of, position_entry, entries_on, IsPositionIn, IsPositionOver, AreAlternativesIn}
 use Rattle.region_split.specs.declared.choice.Alternatives.{Alternatives}
 use Rattle.region_split.specs.declared.choice.ChoicePoint.{ChoicePoint}
@@ -92,7 +92,7 @@ pub record DropsNewest (old new : RegionView) (c : ChoicePoint) : Type 0 where
   pub choices : old.choices ≡ new.choices ++ c ∷ []
   pub cuts : CutsTo old new (length new.choices)
 
--- a choice point over clauses has none left, or it is of another kind, or there is none
+-- the newest choice point is none over clauses, or there is none
 abbrev pub HasNoClauseOnTop : RegionView → Type 0
 HasNoClauseOnTop r = (cs : List ChoicePoint) (c : ChoicePoint) → r.choices ≡ cs ++ c ∷ [] → HaveNoClause c.alternatives
 
@@ -101,18 +101,19 @@ abbrev pub trial_entries : List NamedTerm → RegionView → Trial → ℕ → C
 trial_entries named r t cut clause =
     solution_entry (height_of_cut (heights_of named r) cut) (continuation_here named r t.after) (clause_solution (meaning r.store t.goal) r.store.now.next clause)
 
--- the first clause that was left was taken off the newest choice point, at the store of the time when it came: the entry of
--- that clause, if its head unifies, was the first
+-- the clause that was next was taken off the newest choice point, at the store of the time when it came: the entry of that
+-- clause, if its head unifies, was the first. Where none after it may match, the choice point is gone
 pub record TakesClause (old new : RegionView) (t : Trial) : Type 0 where
   pub clause : Clause
   pub is : slice_get old.text.clauses t.clause ≡ Some clause
-  pub position : IsPositionOver new (length new.choices - 1) t.after
+  pub position : IsPositionOver new (length old.choices - 1) t.after
   pub goal : IsValueIn new.store t.goal
-  pub entries : (named : List NamedTerm) → entries_of named old ≡ trial_entries named new t (length new.choices - 1) clause ++ entries_of named new
+  pub entries : (named : List NamedTerm) → entries_of named old ≡ trial_entries named new t (length old.choices - 1) clause ++ entries_of named new
   pub older : List Moment
   pub marked : old.store.marks ≡ older ++ new.store.now ∷ []
-  pub store : new.store ≡ record old.store { now = new.store.now }
-  pub many : length new.choices ≡ length old.choices
+  pub store : new.store ≡ record old.store { now = new.store.now; marks = new.store.marks }
+  pub many : length old.choices - 1 ≤ length new.choices
+  pub fewer : all_takes_left new.text.heads new.choices < all_takes_left old.text.heads old.choices
   pub text : new.text ≡ old.text
   pub frames : new.frames ≡ old.frames
 

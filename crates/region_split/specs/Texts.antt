@@ -1,5 +1,7 @@
 -- A program's text.
-use Rattle.std.specs.Prelude.{◌≡◌, ◌≤◌, List, [], ◌∷◌, ◌++◌, map, drop}
+use Rattle.std.specs.Prelude.{◌≡◌, ◌≤◌, ◌<◌, ℕ, true, List, [], ◌∷◌, ◌++◌, map, drop, length, Option, Some, None}
+use Rattle.au_term.specs.Term.{Term}
+use Rattle.au_model.specs.Terms.Forms.{is_callable}
 use Rattle.au_model.specs.Terms.Each.{Each}
 use Rattle.run_model.specs.Programs.Bodies.{clause_goals_of}
 use Rattle.run_model.specs.Programs.Clauses.{Clause, clause_variables}
@@ -7,15 +9,18 @@ use Rattle.clause_compile.specs.ClauseInvariant.{numbers_from}
 use Rattle.clause_compile.specs.CompiledClauses.{clause_bound}
 use Rattle.clause_compile.specs.Places.{CodeView, Keeps, IsPlaceOf, meaning_in}
 use Rattle.clause_compile.specs.declared.place.Place.{Place}
+use Rattle.clause_index.specs.HeadKeys.{IsHeadKeyOf}
+use Rattle.clause_index.specs.declared.key.HeadKey.{HeadKey}
 use Rattle.region_split.specs.declared.text.BodyItem.{BodyItem}
 use Rattle.region_split.specs.declared.text.BodyItem.TheVariants.{Goal, BodyEnd}
 use Rattle.region_split.specs.declared.text.PlacedClause.{PlacedClause}
 
--- its places, its bodies one after another, and its clauses
+-- its places, its bodies one after another, its clauses, and the numbers of their heads
 pub record TextView : Type 0 where
   pub code : CodeView
   pub bodies : List BodyItem
   pub clauses : List Clause
+  pub heads : List HeadKey
 
 -- a body of these goals
 abbrev pub body_items : List Place → List BodyItem
@@ -26,6 +31,7 @@ body_items goals = map Goal goals ++ BodyEnd ∷ []
 pub record IsPlacedClause (code : CodeView) (bodies : List BodyItem) (c : Clause) (p : PlacedClause) : Type 0 where
   pub head_there : IsPlaceOf code p.head
   pub head : meaning_in code p.head ≡ c.head
+  pub callable : is_callable c.head ≡ true
   pub goals : List Place
   pub following : List BodyItem
   pub body : drop p.body bodies ≡ body_items goals ++ following
@@ -40,6 +46,13 @@ ArePlacedClauses code bodies [] [] = Unit {0}
 ArePlacedClauses code bodies [] (p ∷ ps) = ⊥
 ArePlacedClauses code bodies (c ∷ cs) [] = ⊥
 ArePlacedClauses code bodies (c ∷ cs) (p ∷ ps) = IsPlacedClause code bodies c p × ArePlacedClauses code bodies cs ps
+
+-- each clause's head has these numbers
+abbrev pub AreHeadKeys : List (List ℕ) → List Clause → List HeadKey → Type 0
+AreHeadKeys names [] [] = Unit {0}
+AreHeadKeys names [] (k ∷ ks) = ⊥
+AreHeadKeys names (c ∷ cs) [] = ⊥
+AreHeadKeys names (c ∷ cs) (k ∷ ks) = IsHeadKeyOf names c.head k × AreHeadKeys names cs ks
 
 -- a clause was added to places and bodies
 pub record AddsClause (old new : CodeView) (before after : List BodyItem) (c : Clause) (p : PlacedClause) : Type 0 where

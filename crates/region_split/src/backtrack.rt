@@ -1,5 +1,5 @@
 //! Backtracking.
-ghost use Rattle.std.specs.Prelude.{◌<◌, IfOk, length};
+ghost use Rattle.std.specs.Prelude.{◌≡◌, ◌<◌, IfOk, OnOk, length};
 ghost use Rattle.region_split.specs.Backtracking.{Resumes, TakesFreeSteps, TakesNext};
 
 use crate::choice::{Alternatives, ChoicePoint, Resumed};
@@ -12,6 +12,7 @@ impl Region {
     pub fn backtrack(&mut self) -> Result<Resumed, NoMemory>
         ensures resumes { IfOk result (Resumes self.old self.new) }
         ensures steps { IfOk result (TakesFreeSteps self.old self.new) }
+        ensures text { OnOk result (self.new.text ≡ self.old.text) }
     {
         while self.height() > 0 {
             match self.take_next()? {
@@ -22,23 +23,26 @@ impl Region {
         Ok(Resumed::AllDone)
     }
 
-    /// Takes the newest choice point off, and gives what goes on there, if anything does.
+    /// Takes what the newest choice point has next, and gives what goes on there, if anything does.
     fn take_next(&mut self) -> Result<Option<Resumed>, NoMemory>
         requires { 0 < length self.old.choices }
-        ensures { IfOk result (TakesNext self.old self.new) }
+        ensures takes { IfOk result (TakesNext self.old self.new) }
+        ensures text { OnOk result (self.new.text ≡ self.old.text) }
     {
+        let cut = self.scope()? - 1;
+        if let Some(trial) = self.next_clause() {
+            return match self.try_clause(trial, cut)? {
+                Some(position) => Ok(Some(Resumed::At(position))),
+                None => Ok(None),
+            };
+        }
         let ChoicePoint {
             alternatives,
             after,
             frames: _,
         } = self.take_newest();
         match alternatives {
-            Alternatives::Clauses { goal, first, end } => match self.call(
-                goal, first, end, after,
-            )? {
-                Some(position) => Ok(Some(Resumed::At(position))),
-                None => Ok(None),
-            },
+            Alternatives::Clauses { .. } => unreachable!(),
             Alternatives::Elsewhere => Ok(Some(Resumed::At(after))),
             Alternatives::Catch { .. } => Ok(None),
             Alternatives::Findall { list, results } => Ok(Some(Resumed::FindallDone {

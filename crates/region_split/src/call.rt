@@ -1,9 +1,11 @@
 //! Calls of goals: their clauses are tried, one after another.
-ghost use Rattle.std.specs.Prelude.{◌≡◌, ◌<◌, ◌≤◌, IfOk, length};
-ghost use Rattle.cell_store.specs.StoreView.{IsValueIn};
+ghost use Rattle.std.specs.Prelude.{◌≡◌, ◌<◌, IfOk, length, true};
+ghost use Rattle.cell_store.specs.StoreView.{IsValueIn, meaning};
+ghost use Rattle.au_model.specs.Terms.Forms.{is_callable};
 ghost use Rattle.region_split.specs.Regions.{IsPositionIn, IsPositionOver};
-ghost use Rattle.region_split.specs.ClauseTrials.{TriesClause, KeepsChoices, TriesFirst, Calls};
+ghost use Rattle.region_split.specs.ClauseTrials.{TriesClause, KeepsChoices, Calls};
 
+use crate::candidates::{candidates, next_match};
 use crate::choice::{Alternatives, Trial};
 use crate::frame::{Frame, FrameBody, Position};
 use crate::region::Region;
@@ -44,60 +46,28 @@ impl Region {
         }))
     }
 
-    /// Calls a goal for which clauses are tried, by their numbers, and gives the position at which the first one goes on whose
-    /// head unifies. The others are left to a choice point, but for the last one there is none.
-    pub fn call(
-        &mut self,
-        goal: BindingCell,
-        first: u32,
-        end: u32,
-        after: Position,
-    ) -> Result<Option<Position>, NoMemory>
-        requires clauses { end ≤ length self.old.text.clauses }
+    /// Calls a goal whose clauses are tried, and gives the position at which the first one goes on whose head unifies: that
+    /// is the first that may match, if any. The others are left to a choice point; for no others there is none.
+    pub fn call(&mut self, goal: BindingCell, after: Position) -> Result<Option<Position>, NoMemory>
+        requires callable { is_callable (meaning self.old.store goal) ≡ true }
         requires goal { IsValueIn self.old.store goal }
         requires after { IsPositionIn self.old after }
-        ensures { IfOk result (Calls self.old self.new goal first end after) }
+        ensures { IfOk result (Calls self.old self.new goal after) }
     {
         let cut = self.scope()?;
-        for clause in first..end {
-            let trial = Trial {
-                goal,
-                clause,
-                after,
-            };
-            if clause + 1 == end {
-                return self.try_clause(trial, cut);
-            }
-            match self.try_first(trial, end, cut)? {
-                Some(position) => return Ok(Some(position)),
-                None => {}
-            }
-        }
-        Ok(None)
-    }
-
-    /// Tries a clause before others up to `end`, which are left to a choice point, unless its head doesn't unify: then
-    /// nothing has changed.
-    fn try_first(&mut self, trial: Trial, end: u32, cut: u32) -> Result<Option<Position>, NoMemory>
-        requires some { trial.clause < end }
-        requires clauses { end ≤ length self.old.text.clauses }
-        requires goal { IsValueIn self.old.store trial.goal }
-        requires after { IsPositionIn self.old trial.after }
-        requires cut { cut ≡ length self.old.choices }
-        ensures { IfOk result (TriesFirst self.old self.new trial end) }
-    {
-        let others = Alternatives::Clauses {
-            goal: trial.goal,
-            first: trial.clause + 1,
-            end,
+        let mut left = candidates(self.text(), self.store(), goal);
+        let Some(clause) = next_match(self.text(), self.store(), goal, &mut left) else {
+            return Ok(None);
         };
-        self.push_choice(others, trial.after)?;
-        match self.try_clause(trial, cut)? {
-            Some(position) => Ok(Some(position)),
-            None => {
-                let _failed = self.take_newest();
-                Ok(None)
-            }
-        }
+        let trial = Trial {
+            goal,
+            clause,
+            after,
+        };
+        let Some(clause) = next_match(self.text(), self.store(), goal, &mut left) else {
+            return self.try_clause(trial, cut);
+        };
+        self.push_choice(Alternatives::Clauses { goal, clause, left }, after)?;
+        self.try_clause(trial, cut)
     }
 }

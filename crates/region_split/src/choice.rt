@@ -1,21 +1,22 @@
 //! Choice points.
 ghost use Rattle.std.specs.Prelude.{◌≡◌, MatchOption, OnOk, OnErr, IsTrue, ◌↔◌};
-ghost use Rattle.region_split.specs.ChoicePoints.{HasNextClause, HaveNoClause, IsCollecting, with_found};
+ghost use Rattle.region_split.specs.ChoicePoints.{HaveNoClause, IsCollecting, with_found};
 
 use crate::frame::Position;
 use crate::results::Results;
 use au_term::{FlatTerm, NoMemory};
 use binding_array::BindingCell;
+use clause_index::Cursor;
 use std::alloc::Global;
 
 /// What a choice point stands for.
 #[derive(Drop)]
 pub enum Alternatives {
-    /// The clauses that are still to be tried for a goal, by their places among the text's.
+    /// The clause that is to be tried next for a goal, by its number in the text, and those that are left after it.
     Clauses {
         goal: BindingCell,
-        first: u32,
-        end: u32,
+        clause: u32,
+        left: Cursor,
     },
     /// What is left to do at the choice point's position.
     Elsewhere,
@@ -67,16 +68,12 @@ pub enum Resumed {
 }
 
 impl Alternatives {
-    /// The goal and the first clause that is still to be tried for it, which is left out from then on.
-    pub(crate) fn next_clause(&mut self) -> Option<(BindingCell, u32)>
-        ensures { MatchOption result (HaveNoClause self.old × (self.new ≡ self.old)) (λ t. HasNextClause self.old self.new t.0 t.1) }
+    /// The goal, the clause that is to be tried next for it and those that are left, if they are clauses.
+    pub(crate) fn clauses(&self) -> Option<(BindingCell, u32, Cursor)>
+        ensures { MatchOption result (HaveNoClause self.now) (λ c. self.now ≡ Alternatives.Clauses c.0 c.1 c.2) }
     {
         match self {
-            Alternatives::Clauses { goal, first, end } if *first < *end => {
-                let clause = *first;
-                *first = clause + 1;
-                Some((*goal, clause))
-            }
+            Alternatives::Clauses { goal, clause, left } => Some((*goal, *clause, *left)),
             _ => None,
         }
     }

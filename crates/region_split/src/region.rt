@@ -2,13 +2,16 @@
 ghost use Rattle.std.specs.Prelude.{◌≡◌, ◌<◌, ◌≤◌, IfOk, OnOk, OnErr, MatchOption, IsTrue, ◌↔◌, List, [], length};
 ghost use Rattle.std.specs.Arc.{arc_value};
 ghost use Rattle.au_term.specs.Term.{var_bound};
-ghost use Rattle.cell_store.specs.StoreView.{AddsText, IsValueIn, meaning, value_term, with_numbers};
+ghost use Rattle.cell_store.specs.StoreView.{AddsText, IsValueIn, meaning, text_in, value_term, with_numbers};
+ghost use Rattle.run_model.specs.Programs.Clauses.{is_defined};
+ghost use Rattle.clause_compile.specs.AtomNumbers.{name_at};
 ghost use Rattle.cell_store.specs.UnificationSteps.{IsUnified, OnlyBinds};
 ghost use Rattle.au_model.specs.Terms.Named.{NamedTerm};
 ghost use Rattle.region_split.specs.ChoicePoints.{frames_kept, height_of_cut, IsMarkOf};
 ghost use Rattle.region_split.specs.Regions.{entries_of, heights_of, items_here, IsLeftAt, IsItemHere, IsPositionIn, IsPositionOver, AreAlternativesIn};
 ghost use Rattle.region_split.specs.StackOperations.{new_region, item_here, KeepsPositions, PutsBefore, AddsFrame, AddsChoice, CutsTo, TakesNewest, DropsNewest, HasNoClauseOnTop, TakesClause, HasFindallAt, AddsResult, StaysStanding};
 
+use crate::candidates::next_match;
 use crate::choice::{Alternatives, ChoicePoint, Trial};
 use crate::frame::{Frame, FrameBody, FrameItem, Left, Position};
 use crate::text::{BodyItem, Text};
@@ -234,7 +237,8 @@ impl Region {
         }
     }
 
-    /// Takes the first clause that is left off the newest choice point, and undoes all that was bound and made since it came.
+    /// Takes the clause that is next off the newest choice point, and undoes all that was bound and made since that came. Where
+    /// no further clause may match, the choice point is dropped.
     pub fn next_clause(&mut self) -> Option<Trial>
         ensures { MatchOption result (HasNoClauseOnTop self.old × (self.new ≡ self.old)) (TakesClause self.old self.new) }
     {
@@ -242,17 +246,33 @@ impl Region {
         if count == 0 {
             return None;
         }
-        let newest = &mut self.choices[count - 1];
+        let newest = &self.choices[count - 1];
         let after = newest.after;
-        let Some((goal, clause)) = newest.alternatives.next_clause() else {
+        let Some((goal, clause, mut left)) = newest.alternatives.clauses() else {
             return None;
         };
-        self.store.undo_to(count - 1);
-        Some(Trial {
+        let trial = Trial {
             goal,
             clause,
             after,
-        })
+        };
+        self.store.undo_to(count - 1);
+        let Some(clause) = next_match(&self.text, &self.store, goal, &mut left) else {
+            let _last = self.take_newest();
+            return Some(trial);
+        };
+        self.choices[count - 1].alternatives = Alternatives::Clauses { goal, clause, left };
+        Some(trial)
+    }
+
+    /// Whether a procedure has a clause in the text, by the number of its name in the store.
+    pub fn is_defined(&self, name: u32, arity: u32) -> bool
+        requires { name < length (text_in self.now.store).names }
+        ensures { result ≡ is_defined self.now.text.clauses (name_at (text_in self.now.store).names name) arity }
+    {
+        // The proof reads off that no two names are the same.
+        let _next = self.store.next();
+        self.text.has_head(name, arity)
     }
 
     /// Adds a copy of a term to the results of the findall over so many choice points.

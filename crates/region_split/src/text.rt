@@ -1,12 +1,20 @@
 //! Program text: bodies as places, and clauses.
-ghost use Rattle.std.specs.Prelude.{◌≡◌, ◌∷◌, ◌<◌, [], ◌++◌, OnOk, IfOk, Some, length, map, slice_get};
+ghost use Rattle.std.specs.Prelude.{◌≡◌, ◌∷◌, ◌<◌, [], ◌++◌, OnOk, IfOk, MatchOption, Some, length, map, slice_get};
 ghost use Rattle.std.specs.Arc.{arc_value};
 ghost use Rattle.run_model.specs.Programs.Clauses.{Clause as ClauseTerms};
-ghost use Rattle.clause_compile.specs.Places.{AreSound};
-ghost use Rattle.region_split.specs.Texts.{body_items, IsPlacedClause, ArePlacedClauses, AddsClause};
+ghost use Rattle.au_term.specs.Term.{argument};
+ghost use Rattle.proc_index.specs.Keys.{key_of};
+ghost use Rattle.clause_index.specs.HeadKeys.{IsKeyAmong, named_key};
+ghost use Rattle.clause_compile.specs.Places.{AreSound, IsPlaceOf, meaning_in};
+ghost use Rattle.std.specs.List.{list_any};
+ghost use Rattle.clause_index.specs.Classes.{can_match, is_head_of};
+ghost use Rattle.clause_index.specs.Cursors.{IsCursorOf, numbers_left, TakesLeast};
+ghost use Rattle.clause_index.specs.Numbers.{numbers};
+ghost use Rattle.region_split.specs.Texts.{body_items, IsPlacedClause, ArePlacedClauses, AreHeadKeys, AddsClause};
 
 use au_term::NoMemory;
 use clause_compile::{Clause, Code, Place};
+use clause_index::{ClauseIndex, Cursor, HeadKey, NumberKey};
 use std::alloc::Global;
 use std::marker::Model;
 use std::sync::Arc;
@@ -26,14 +34,15 @@ pub struct PlacedClause {
     pub vars: u32,
 }
 
-/// A program's text: its places, its bodies, and its clauses, where those that are tried one after another stand together.
-/// It knows where each clause is.
+/// A program's text: its places, its bodies, and its clauses. It knows where each clause is, and finds those that a goal may
+/// match.
 #[derive(Drop)]
 pub struct Text {
     code: Arc<Code>,
     bodies: Vec<BodyItem>,
     clauses: Vec<Arc<Clause>>,
     placed: Vec<PlacedClause>,
+    index: ClauseIndex,
 }
 
 impl Model for Text {
@@ -41,15 +50,15 @@ impl Model for Text {
     ghost use Rattle.std.specs.Arc.{arc_value};
     ghost use Rattle.std.specs.Coded.{codes};
     ghost use Rattle.au_term.specs.PrefixOrder.{term_code};
-    ghost use Rattle.region_split.specs.Texts.{TextView, ArePlacedClauses};
+    ghost use Rattle.region_split.specs.Texts.{TextView, ArePlacedClauses, AreHeadKeys};
 
     ghost Value = { TextView };
 
     ghost coded = { Prim.hlevel (codes, term_code) };
 
-    ghost view = { λ t. record { code = arc_value t.code; bodies = t.bodies.items; clauses = map arc_value t.clauses.items } };
+    ghost view = { λ t. record { code = arc_value t.code; bodies = t.bodies.items; clauses = map arc_value t.clauses.items; heads = t.index } };
 
-    ghost invariant = { λ t. ArePlacedClauses (arc_value t.code) t.bodies.items (map arc_value t.clauses.items) t.placed.items };
+    ghost invariant = { λ t. ArePlacedClauses (arc_value t.code) t.bodies.items (map arc_value t.clauses.items) t.placed.items × AreHeadKeys (arc_value t.code).names (map arc_value t.clauses.items) t.index };
 }
 
 impl Text {
@@ -59,12 +68,15 @@ impl Text {
     {
         let mut code = Code::new(alloc);
         let mut bodies = Vec::new(alloc);
-        let placed = place_clauses(alloc, &clauses, &mut code, &mut bodies)?;
+        let mut heads = Vec::new(alloc);
+        let placed = place_clauses(alloc, &clauses, &mut code, &mut bodies, &mut heads)?;
+        let index = ClauseIndex::new(alloc, heads)?;
         Ok(Text {
             code: Arc::new(alloc, code)?,
             bodies,
             clauses,
             placed,
+            index,
         })
     }
 
@@ -93,6 +105,41 @@ impl Text {
         self.placed[number as usize]
     }
 
+    /// Whether a clause's head has this name and number of arguments.
+    pub(crate) fn has_head(&self, name: u32, arity: u32) -> bool
+        ensures any { result ≡ list_any (is_head_of name arity) self.now.heads }
+        ensures heads { AreHeadKeys self.now.code.names self.now.clauses self.now.heads }
+    {
+        self.index.is_defined(name, arity)
+    }
+
+    /// The clauses that a goal with this name, number of arguments and first key may match.
+    pub(crate) fn candidates(&self, name: u32, arity: u32, key: Option<NumberKey>) -> Cursor
+        ensures numbers { numbers_left self.now.heads result ≡ numbers (can_match name arity key) self.now.heads }
+        ensures cursor { IsCursorOf self.now.heads result }
+        ensures heads { AreHeadKeys self.now.code.names self.now.clauses self.now.heads }
+    {
+        self.index.candidates(name, arity, key)
+    }
+
+    /// Takes the first clause off those that a cursor has left.
+    pub(crate) fn take(&self, left: &mut Cursor) -> Option<u32>
+        requires { IsCursorOf self.now.heads left.old }
+        ensures taken { MatchOption result ((numbers_left self.now.heads left.old ≡ []) × (left.new ≡ left.old)) (TakesLeast self.now.heads left.old left.new) }
+        ensures many { length self.now.heads ≡ length self.now.clauses }
+    {
+        self.index.take(left)
+    }
+
+    /// The key of an argument of a clause's head, counted from 0; none for a variable, and where there is no such argument.
+    pub(crate) fn argument_key(&self, clause: u32, i: u32) -> Option<NumberKey>
+        requires { clause < length self.now.clauses }
+        ensures there { IsKeyAmong self.now.code.names result }
+        ensures key { (c : ClauseTerms) → slice_get self.now.clauses clause ≡ Some c → named_key self.now.code.names result ≡ key_of (argument i c.head) }
+    {
+        argument_key(&self.code, self.placed(clause).head, i)
+    }
+
     /// The item at a place of the bodies, if it is there.
     pub fn get(&self, at: u32) -> Option<BodyItem>
         ensures { result ≡ slice_get self.now.bodies at }
@@ -101,18 +148,22 @@ impl Text {
     }
 }
 
-/// Adds clauses, and gives where each is.
+/// Adds clauses with the numbers of their heads, and gives where each is.
 fn place_clauses(
     alloc: Global,
     clauses: &[Arc<Clause>],
     code: &mut Code,
     bodies: &mut Vec<BodyItem>,
+    heads: &mut Vec<HeadKey>,
 ) -> Result<Vec<PlacedClause>, NoMemory>
-    ensures { IfOk result (λ placed. ArePlacedClauses code.new bodies.new.items (map arc_value clauses.now) placed.items) }
+    requires { heads.old.items ≡ [] }
+    ensures placed { IfOk result (λ placed. ArePlacedClauses code.new bodies.new.items (map arc_value clauses.now) placed.items) }
+    ensures heads { OnOk result (AreHeadKeys code.new.names (map arc_value clauses.now) heads.new.items) }
 {
     let mut placed = Vec::new(alloc);
     for clause in clauses {
         let place = place_clause(alloc, clause, code, bodies)?;
+        heads.push(HeadKey::of_head(code, place.head))?;
         placed.push(place)?;
     }
     Ok(placed)
@@ -128,6 +179,8 @@ fn place_clause(
     ensures { IfOk result (AddsClause code.old code.new bodies.old.items bodies.new.items clause.now) }
 {
     let body = bodies.len();
+    // The proof reads off that a head is callable.
+    let _head = clause.head();
     let places = code.push_clause(alloc, clause)?;
     if body > u32::MAX as usize || places.vars > u32::MAX as u64 {
         return Err(NoMemory);
@@ -149,4 +202,22 @@ fn push_body(goals: &[Place], bodies: &mut Vec<BodyItem>) -> Result<(), NoMemory
     }
     bodies.push(BodyItem::BodyEnd)?;
     Ok(())
+}
+
+/// The key of an argument of the term at a place, counted from 0; none for a variable, and where there is no such argument.
+fn argument_key(code: &Code, term: Place, i: u32) -> Option<NumberKey>
+    requires { IsPlaceOf code.now term }
+    ensures there { IsKeyAmong code.now.names result }
+    ensures key { named_key code.now.names result ≡ key_of (argument i (meaning_in code.now term)) }
+{
+    // The proof reads off that the arguments of compounds stand before them.
+    let _places = code.len();
+    let Place::Sub(at) = term else { return None };
+    let Place::Functor(_, count) = code.place(at) else {
+        unreachable!()
+    };
+    if i >= count {
+        return None;
+    }
+    NumberKey::of_place(code, code.place(at + 1 + i as usize))
 }

@@ -1,38 +1,30 @@
-use Rattle.std.proofs.Common.{◌≡◌, ◌≤◌, ◌+◌, List, length, Some, None, sym, ◌∙◌, subst}
-use Rattle.au_model.specs.Terms.Named.{NamedTerm}
-use Rattle.region_split.specs.ChoicePoints.{height_of_cut}
-use Rattle.region_split.specs.Regions.{RegionView, entries_of, heights_of}
-use Rattle.region_split.specs.ClauseTrials.{TriesClause, TriesFirst, Calls, called_entries}
+use Rattle.std.proofs.Common.{Result, Ok, Err, IfOk, subst}
+use Rattle.cell_store.specs.StoreView.{StoreView, meaning}
+use Rattle.region_split.specs.Candidates.{AreCandidates, FindsClause, HaveNoEntry}
+use Rattle.region_split.specs.Texts.{TextView}
+use Rattle.region_split.specs.ClauseTrials.{TriesClause, Calls}
 use Rattle.region_split.specs.declared.choice.Trial.{Trial}
-use Rattle.region_split.proofs.CallLemmas.{last_called, called_from, if_ok_then}
+use Rattle.region_split.proofs.CallLemmas.{last_called, others_left, if_ok_then}
 use Rattle.region_split.proofs.region.Region.call.Goals as goal
 
-pub returns-then-clause-end : goal.returns-then-clause-end
-returns-then-clause-end c =
-    let old = c.args.self.now in
-    let r = c.loop-clause.self in
-    let new = c.try_clause.new.self in
-    let t : Trial = record { goal = c.args.goal; clause = c.loop-clause.clause; after = c.args.after } in
-    let same : r ≡ old = c.loop-clause.invariant.0 in
-    let within : c.args.end ≤ length r.text.clauses = subst (λ (x : RegionView). c.args.end ≤ length x.text.clauses) (sym same) c.requires.clauses in
-    let count : c.in_ok-cut.cut ≡ length r.choices = subst (λ (x : RegionView). c.in_ok-cut.cut ≡ length x.choices) (sym same) c.in_ok-cut.ensures.count in
-    let height : (named : List NamedTerm) → height_of_cut (heights_of named r) c.in_ok-cut.cut ≡ length (entries_of named r) = λ named. subst (λ (x : RegionView). height_of_cut (heights_of named x) c.in_ok-cut.cut ≡ length (entries_of named x)) (sym same) (c.in_ok-cut.ensures.height named) in
-    if_ok_then (TriesClause r new t c.in_ok-cut.cut) (Calls old new c.args.goal c.args.first c.args.end c.args.after) c.try_clause.result
-    (λ reached tried. called_from old r new t c.args.first c.args.end reached same c.loop-clause.invariant.1
-    (last_called r new t c.in_ok-cut.cut c.args.end reached c.loop-clause-test.true c.if-clause-end.true within count height tried c.try_clause.ensures.kept))
+pub returns-in_default-next_match : goal.returns-in_default-next_match
+returns-in_default-next_match c =
+    let r = c.args.self.now in
+    let trial : Trial = record { goal = c.args.goal; clause = c.in-Some.clause; after = c.args.after } in
+    let all = subst (λ (x : TextView). AreCandidates x (meaning c.args.self.now.store c.args.goal) c.args.self.now.store.now.next c.candidates-left.result) c.text.ensures (subst (λ (y : StoreView). AreCandidates c.text.result.now (meaning y c.args.goal) y.now.next c.candidates-left.result) c.store.ensures.store c.candidates-left.ensures) in
+    let finds = subst (λ (x : TextView). FindsClause x (meaning c.args.self.now.store c.args.goal) c.args.self.now.store.now.next c.candidates-left.result c.next_match.new.left c.in-Some.clause) c.text-2.ensures (subst (λ (y : StoreView). FindsClause c.text-2.result.now (meaning y c.args.goal) y.now.next c.candidates-left.result c.next_match.new.left c.in-Some.clause) c.store-2.ensures.store c.in-Some.ensures) in
+    let none = subst (λ (x : TextView). HaveNoEntry x (meaning c.args.self.now.store c.args.goal) c.args.self.now.store.now.next c.next_match.new.left) c.text-3.ensures (subst (λ (y : StoreView). HaveNoEntry c.text-3.result.now (meaning y c.args.goal) y.now.next c.next_match.new.left) c.store-3.ensures.store c.in_default-next_match.ensures) in
+    if_ok_then (TriesClause r c.try_clause.new.self trial c.in_ok-cut.cut) (Calls r c.try_clause.new.self c.args.goal c.args.after) c.try_clause.result
+    (λ reached tried. last_called r c.args.goal c.args.after c.candidates-left.result c.next_match.new.left all c.in-Some.clause finds c.try_clause.new.self c.in_ok-cut.cut reached none c.in_ok-cut.ensures.count c.in_ok-cut.ensures.height tried c.try_clause.ensures.kept)
     c.try_clause.ensures.tried
 
-pub returns-in-Some : goal.returns-in-Some
-returns-in-Some c =
-    let t : Trial = record { goal = c.args.goal; clause = c.loop-clause.clause; after = c.args.after } in
-    called_from c.args.self.now c.loop-clause.self c.try_first.new.self t c.args.first c.args.end (Some c.in-Some.position) c.loop-clause.invariant.0 c.loop-clause.invariant.1
-    (subst (TriesFirst c.loop-clause.self c.try_first.new.self t c.args.end) c.in-Some.is c.in_ok-position.ensures)
-
-pub loop-clause-preserved : goal.loop-clause-preserved
-loop-clause-preserved c =
-    let t : Trial = record { goal = c.args.goal; clause = c.loop-clause.clause; after = c.args.after } in
-    let same : c.loop-clause.self ≡ c.args.self.now = c.loop-clause.invariant.0 in
-    let first : TriesFirst c.loop-clause.self c.try_first.new.self t c.args.end None = subst (TriesFirst c.loop-clause.self c.try_first.new.self t c.args.end) c.in-None.is c.in_ok-position.ensures in (
-      first.0 ∙ same,
-      λ named. sym (subst (λ (x : RegionView). called_entries named x t.goal t.clause c.args.end t.after ≡ called_entries named x t.goal (t.clause + 1) c.args.end t.after) same (first.1 named)) ∙ c.loop-clause.invariant.1 named,
-    )
+pub returns : goal.returns
+returns c =
+    let r = c.args.self.now in
+    let trial : Trial = record { goal = c.args.goal; clause = c.in-Some.clause; after = c.args.after } in
+    let all = subst (λ (x : TextView). AreCandidates x (meaning c.args.self.now.store c.args.goal) c.args.self.now.store.now.next c.candidates-left.result) c.text.ensures (subst (λ (y : StoreView). AreCandidates c.text.result.now (meaning y c.args.goal) y.now.next c.candidates-left.result) c.store.ensures.store c.candidates-left.ensures) in
+    let finds = subst (λ (x : TextView). FindsClause x (meaning c.args.self.now.store c.args.goal) c.args.self.now.store.now.next c.candidates-left.result c.next_match.new.left c.in-Some.clause) c.text-2.ensures (subst (λ (y : StoreView). FindsClause c.text-2.result.now (meaning y c.args.goal) y.now.next c.candidates-left.result c.next_match.new.left c.in-Some.clause) c.store-2.ensures.store c.in-Some.ensures) in
+    let others = subst (λ (x : TextView). FindsClause x (meaning c.args.self.now.store c.args.goal) c.args.self.now.store.now.next c.next_match.new.left c.next_match-2.new.left c.in-Some-next_match.clause) c.text-3.ensures (subst (λ (y : StoreView). FindsClause c.text-3.result.now (meaning y c.args.goal) y.now.next c.next_match.new.left c.next_match-2.new.left c.in-Some-next_match.clause) c.store-3.ensures.store c.in-Some-next_match.ensures) in
+    if_ok_then (TriesClause c.push_choice.new.self c.try_clause-2.new.self trial c.in_ok-cut.cut) (Calls r c.try_clause-2.new.self c.args.goal c.args.after) c.try_clause-2.result
+    (λ reached tried. others_left r c.args.goal c.args.after c.candidates-left.result c.next_match.new.left all c.in-Some.clause finds c.in-Some-next_match.clause c.next_match-2.new.left others c.push_choice.new.self c.try_clause-2.new.self c.in_ok-push_choice.ensures.ok c.requires.after c.in_ok-cut.cut c.in_ok-cut.ensures.count c.try_clause-2.ensures.kept reached tried)
+    c.try_clause-2.ensures.tried

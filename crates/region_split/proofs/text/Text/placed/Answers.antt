@@ -7,7 +7,7 @@ use Rattle.region_split.proofs.text.Text.placed.Goals as goal
 pub index-requires : goal.index-requires
 index-requires c =
     let s = c.self.inside in
-    let many = as_many_placed (arc_value s.code) s.bodies.items (map arc_value s.clauses.items) s.placed.items c.self.invariant in
+    let many = as_many_placed (arc_value s.code) s.bodies.items (map arc_value s.clauses.items) s.placed.items c.self.invariant.0 in
     let lt : c.args.number < length (map arc_value s.clauses.items) = subst (λ (t : TextView). c.args.number < length t.clauses) (sym c.self.view_is) c.requires in
     omega (arith, many, lt)
 
@@ -16,4 +16,4 @@ returns-clause-clause c clause e =
     let s = c.self.inside in
     let there : slice_get (map arc_value s.clauses.items) c.args.number ≡ Some clause = ap (λ (t : TextView). slice_get t.clauses c.args.number) c.self.view_is ∙ e in
     subst (λ (t : TextView). IsPlacedClause t.code t.bodies clause c.index.result.now) c.self.view_is
-    (placed_at (arc_value s.code) s.bodies.items (map arc_value s.clauses.items) s.placed.items c.args.number clause c.index.result.now c.self.invariant there c.index.ensures)
+    (placed_at (arc_value s.code) s.bodies.items (map arc_value s.clauses.items) s.placed.items c.args.number clause c.index.result.now c.self.invariant.0 there c.index.ensures)

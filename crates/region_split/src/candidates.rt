@@ -1,0 +1,77 @@
+//! The clauses that a goal may match.
+ghost use Rattle.std.specs.Prelude.{◌≡◌, ◌<◌, MatchOption, length, true};
+ghost use Rattle.au_model.specs.Terms.Forms.{is_callable};
+ghost use Rattle.cell_store.specs.StoreView.{IsValueIn, meaning};
+ghost use Rattle.clause_index.specs.Cursors.{IsCursorOf};
+ghost use Rattle.region_split.specs.Candidates.{AreCandidates, FindsClause, HaveNoEntry, AreToldApart, numbers_differ};
+
+use crate::keys::{goal_numbers, key_of_value};
+use crate::text::Text;
+use binding_array::BindingCell;
+use cell_store::Store;
+use clause_index::{Cursor, HeadKey, NumberKey};
+
+/// The clauses that a goal may match, by its name, its number of arguments and the key of the first one.
+pub(crate) fn candidates(text: &Text, store: &Store, goal: BindingCell) -> Cursor
+    requires program { store.now.program ≡ text.now.code }
+    requires there { IsValueIn store.now goal }
+    requires callable { is_callable (meaning store.now goal) ≡ true }
+    ensures { AreCandidates text.now (meaning store.now goal) store.now.now.next result }
+{
+    // The proof reads off that no two names are the same.
+    let _next = store.next();
+    let HeadKey { name, arity, first } = goal_numbers(store, goal);
+    text.candidates(name, arity, first)
+}
+
+/// Takes the first clause off those that are left which may match a goal.
+pub(crate) fn next_match(
+    text: &Text,
+    store: &Store,
+    goal: BindingCell,
+    left: &mut Cursor,
+) -> Option<u32>
+    requires program { store.now.program ≡ text.now.code }
+    requires there { IsValueIn store.now goal }
+    requires cursor { IsCursorOf text.now.heads left.old }
+    ensures { MatchOption result (HaveNoEntry text.now (meaning store.now goal) store.now.now.next left.old) (FindsClause text.now (meaning store.now goal) store.now.now.next left.old left.new) }
+{
+    while let Some(clause) = text.take(left) {
+        if !are_apart(text, store, goal, clause) {
+            return Some(clause);
+        }
+    }
+    None
+}
+
+/// Whether a goal's second, third or fourth argument tells it apart from a clause's head, so that they don't unify.
+fn are_apart(text: &Text, store: &Store, goal: BindingCell, clause: u32) -> bool
+    requires program { store.now.program ≡ text.now.code }
+    requires there { IsValueIn store.now goal }
+    requires clause { clause < length text.now.clauses }
+    ensures { result ≡ true → AreToldApart text.now (meaning store.now goal) clause }
+{
+    // The proof reads off that no two names are the same.
+    let _next = store.next();
+    let BindingCell::Compound(at, base) = store.dereference(goal) else {
+        return false;
+    };
+    let (_name, count) = store.functor(at);
+    for i in 1..count.min(4) {
+        let own = key_of_value(store, store.argument(at + 1 + i, base));
+        if tell_apart(own, text.argument_key(clause, i)) {
+            return true;
+        }
+    }
+    false
+}
+
+/// Whether two keys differ.
+fn tell_apart(a: Option<NumberKey>, b: Option<NumberKey>) -> bool
+    ensures { result ≡ numbers_differ a b }
+{
+    match (a, b) {
+        (Some(a), Some(b)) => a != b,
+        _ => false,
+    }
+}
