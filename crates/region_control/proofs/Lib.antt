@@ -5,3 +5,5 @@ pub mod BallLemmas
 pub mod RecoveryLemmas
 pub mod ThrowLemmas
 pub mod FormLemmas
+pub mod AheadLemmas
+pub mod FindallEndLemmas

@@ -4,3 +4,4 @@ pub mod Controls
 pub mod Balls
 pub mod Replies
 pub mod GoalForms
+pub mod Ahead

@@ -5,6 +5,7 @@
 //! it, and takes off the choice points above. The rest takes constant time.
 #![tactic(auto)]
 
+mod ahead;
 mod balls;
 mod control;
 mod forms;
@@ -12,6 +13,7 @@ mod goals;
 mod replies;
 mod sides;
 
+pub use ahead::{Ahead, look_ahead};
 pub use balls::throw;
 pub use control::{GoalPlace, call, catch, cut, disjunction, findall, if_then, not, once};
 pub use forms::{GoalForm, argument, form_of};

@@ -1,5 +1,5 @@
 //! Backtracking.
-ghost use Rattle.std.specs.Prelude.{◌≡◌, ◌<◌, IfOk, length, option_map};
+ghost use Rattle.std.specs.Prelude.{◌≡◌, ◌<◌, IfOk, OnOk, length, option_map};
 ghost use Rattle.region_split.specs.declared.choice.Resumed.TheVariants.{At};
 ghost use Rattle.region_split.specs.Backtracking.{Resumes, TakesFreeSteps, TakesNext};
 
@@ -14,6 +14,7 @@ impl Region {
     pub fn backtrack(&mut self) -> Result<Resumed, NoMemory>
         ensures resumes { IfOk result (Resumes self.old self.new) }
         ensures steps { IfOk result (TakesFreeSteps self.old self.new) }
+        ensures text { OnOk result (self.new.text ≡ self.old.text) }
     {
         while self.height() > 0 {
             match self.take_next()? {
@@ -27,7 +28,8 @@ impl Region {
     /// Takes what the newest choice point has next, and gives what goes on there, if anything does.
     fn take_next(&mut self) -> Result<Option<Resumed>, NoMemory>
         requires { 0 < length self.old.choices }
-        ensures { IfOk result (TakesNext self.old self.new) }
+        ensures takes { IfOk result (TakesNext self.old self.new) }
+        ensures text { OnOk result (self.new.text ≡ self.old.text) }
     {
         let cut = self.scope()? - 1;
         if let Some(trial) = self.next_clause() {

@@ -1,0 +1,18 @@
+use Rattle.std.proofs.Common.{◌∙◌, ◌++◌, ◌∷◌, [], reverse, sym, ap, subst}
+use Rattle.std.proofs.lemmas.Result.{on_ok_weaker}
+use Rattle.au_term.specs.declared.cell.Cell.TheVariants.{Functor as FunctorCell}
+use Rattle.au_model.proofs.EquationsInTurnLemmas.{resolve-nothing}
+use Rattle.cell_store.specs.StoreView.{IsValueIn, value_term, text_in}
+use Rattle.cell_store.proofs.WritingLemmas.{opened_writes}
+use Rattle.meta_call.proofs.called.take_first.Goals as goal
+
+pub returns-in_ok-push-in-Compound : goal.returns-in_ok-push-in-Compound
+returns-in_ok-push-in-Compound c =
+    let st = c.args.store.now in
+    let at = c.in-Compound.at in
+    let base = c.in-Compound.base in
+    let here = resolve-nothing _ ∙ ap (value_term st) (sym c.in-Compound.is) in
+    let functor = c.functor-name.ensures.functor base (subst (IsValueIn st) c.in-Compound.is c.requires.there) in
+    let wrote = c.in_ok-push-in-Compound.ensures.ok in
+    on_ok_weaker c.push_arguments.result (λ h. opened_writes [] (text_in st) st.now.next at base c.functor-name.result.0 c.functor-name.result.1 (value_term st c.args.value) c.args.builder.now c.push-in-Compound.new.self (reverse c.args.pending.now.items) (reverse c.push_arguments.new.pending.items) here functor h
+    (wrote ∙ ap (λ name. c.args.builder.now ++ FunctorCell name c.functor-name.result.1 ∷ []) (c.in_ok-share-in-Compound.ensures ∙ c.name-in-Compound.ensures))) c.push_arguments.ensures

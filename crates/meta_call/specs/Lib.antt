@@ -1,0 +1,3 @@
+pub mod OwnBodies
+pub mod CalledTerms
+pub mod Calls

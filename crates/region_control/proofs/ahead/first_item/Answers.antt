@@ -1,0 +1,39 @@
+use Rattle.std.proofs.Common.{sym, ap, ◌∙◌, subst}
+use Rattle.region_split.specs.Regions.{IsLeftAt, IsFirstAt}
+use Rattle.region_split.specs.declared.frame.Position.{Position}
+use Rattle.region_control.proofs.AheadLemmas.{end_passed, goal_found, result_found, older_found, nothing_found}
+use Rattle.region_control.proofs.ahead.first_item.Goals as goal
+
+pub returns-then-is_goal : goal.returns-then-is_goal
+returns-then-is_goal c =
+    let r = c.args.region.now in
+    let p = c.loop-item.next in
+    let q : Position = record { frame = p.frame; at = c.in-Some.at } in
+    goal_found r c.args.position p c.loop-item.invariant c.in-First.cut q (ap (λ n. (let x : Position = record { frame = p.frame; at = n } in x)) c.in-Some.ensures.1)
+    c.in-First.item (subst (IsLeftAt r p) c.in-First.is c.left_at.ensures) (sym c.is_goal.ensures ∙ c.if-is_goal.true)
+
+pub loop-item-preserved-in-CatchEnd : goal.loop-item-preserved-in-CatchEnd
+loop-item-preserved-in-CatchEnd c =
+    let r = c.args.region.now in
+    let p = c.loop-item.next in
+    let q : Position = record { frame = p.frame; at = c.in-Some.at } in
+    end_passed r c.args.position p c.loop-item.invariant c.in-First.cut q (ap (λ n. (let x : Position = record { frame = p.frame; at = n } in x)) c.in-Some.ensures.1)
+    (subst (λ i. IsFirstAt r p i c.in-First.cut) c.in-CatchEnd.is (subst (IsLeftAt r p) c.in-First.is c.left_at.ensures))
+
+pub returns-in-Collect : goal.returns-in-Collect
+returns-in-Collect c =
+    let r = c.args.region.now in
+    let p = c.loop-item.next in
+    let q : Position = record { frame = p.frame; at = c.in-Some.at } in
+    result_found r c.args.position p c.loop-item.invariant c.in-First.cut q (ap (λ n. (let x : Position = record { frame = p.frame; at = n } in x)) c.in-Some.ensures.1)
+    c.in-Collect.value (subst (λ i. IsFirstAt r p i c.in-First.cut) c.in-Collect.is (subst (IsLeftAt r p) c.in-First.is c.left_at.ensures))
+
+pub loop-item-preserved : goal.loop-item-preserved
+loop-item-preserved c =
+    let r = c.args.region.now in
+    older_found r c.args.position c.loop-item.next c.loop-item.invariant c.in-GoesOnAt.older (subst (IsLeftAt r c.loop-item.next) c.in-GoesOnAt.is c.left_at.ensures)
+
+pub returns-in-Nothing : goal.returns-in-Nothing
+returns-in-Nothing c =
+    let r = c.args.region.now in
+    nothing_found r c.args.position c.loop-item.next c.loop-item.invariant (subst (IsLeftAt r c.loop-item.next) c.in-Nothing.is c.left_at.ensures)

@@ -1,0 +1,157 @@
+//! What lies ahead where no free step is left (ISO/IEC 13211-1, 7.8.9 and 8.10.1).
+ghost use Rattle.std.specs.Prelude.{◌≡◌, IfOk, OnOk, length};
+ghost use Rattle.cell_store.specs.StoreView.{IsValueIn};
+ghost use Rattle.region_split.specs.Regions.{IsPositionIn};
+ghost use Rattle.region_split.specs.ChoicePoints.{IsFindallAt};
+ghost use Rattle.region_split.specs.Backtracking.{IsResumed};
+ghost use Rattle.region_split.specs.ClauseTrials.{IsOptionalPosition};
+ghost use Rattle.region_split.specs.declared.choice.Resumed.{Resumed as ResumedValue};
+ghost use Rattle.region_control.specs.Ahead.{is_goal_item, HasFirst, LiesAhead, EndsFindall, CollectsResult};
+
+use crate::control::GoalPlace;
+use au_model::build::{binary, list_of};
+use au_term::{NoMemory, Shared, VarNo};
+use binding_array::BindingCell;
+use region_split::{FrameItem, Left, Position, Region, Results, Resumed};
+use std::alloc::Global;
+
+/// What comes first at a position, past the ends of catches.
+#[derive(Clone, Copy, Debug)]
+pub(crate) enum FirstItem {
+    /// A goal, and where it stands.
+    Goal(FrameItem, GoalPlace),
+    /// A result, and over how many choice points its findall is.
+    Result(BindingCell, u32),
+    /// Nothing, and the position at which that is so.
+    Nothing(Position),
+}
+
+/// What lies ahead of a region.
+#[derive(Clone, Copy, Debug)]
+pub enum Ahead {
+    /// A goal or the removal of a clause, and where it stands.
+    Goal(FrameItem, GoalPlace),
+    /// Nothing is left to do at a position: the query holds there.
+    Answer(Position),
+    /// A query has no solution left.
+    QueryDone,
+    /// No choice point is left.
+    AllDone,
+}
+
+/// Goes on at a position, or with what the choice points have left, as far as that costs no inference.
+pub fn look_ahead(
+    region: &mut Region,
+    alloc: Global,
+    start: Option<Position>,
+) -> Result<Ahead, NoMemory>
+    requires { IsOptionalPosition region.old (length region.old.choices) start }
+    ensures ahead { IfOk result (LiesAhead region.old region.new start) }
+    ensures text { OnOk result (region.new.text ≡ region.old.text) }
+{
+    let mut now = match start {
+        Some(position) => Resumed::At(position),
+        None => region.backtrack()?,
+    };
+    loop {
+        let position = match now {
+            Resumed::At(position) => position,
+            Resumed::FindallDone {
+                list,
+                results,
+                after,
+            } => return end_findall(region, alloc, list, &results, after),
+            Resumed::QueryDone => return Ok(Ahead::QueryDone),
+            Resumed::AllDone => return Ok(Ahead::AllDone),
+        };
+        match first_item(region, position)? {
+            FirstItem::Goal(item, place) => return Ok(Ahead::Goal(item, place)),
+            FirstItem::Nothing(position) => return Ok(Ahead::Answer(position)),
+            FirstItem::Result(value, over) => {
+                collect(region, alloc, value, over)?;
+                now = region.backtrack()?;
+            }
+        }
+    }
+}
+
+/// What comes first at a position.
+fn first_item(region: &Region, position: Position) -> Result<FirstItem, NoMemory>
+    requires { IsPositionIn region.now position }
+    ensures { IfOk result (HasFirst region.now position) }
+{
+    let mut next = position;
+    loop {
+        match region.left_at(next) {
+            Left::First(item, cut) => {
+                let Some(at) = next.at.checked_add(1) else {
+                    return Err(NoMemory);
+                };
+                next.at = at;
+                if is_goal(item) {
+                    let after = next;
+                    return Ok(FirstItem::Goal(item, GoalPlace { cut, after }));
+                }
+                match item {
+                    FrameItem::CatchEnd => {}
+                    FrameItem::Collect(value) => return Ok(FirstItem::Result(value, cut - 1)),
+                    _ => unreachable!(),
+                }
+            }
+            Left::GoesOnAt(older) => next = older,
+            Left::Nothing => return Ok(FirstItem::Nothing(next)),
+        }
+    }
+}
+
+/// Whether an item takes an inference.
+fn is_goal(item: FrameItem) -> bool
+    ensures { result ≡ is_goal_item item }
+{
+    match item {
+        FrameItem::CatchEnd => false,
+        FrameItem::Collect(_) => false,
+        _ => true,
+    }
+}
+
+/// Adds a result to its findall.
+fn collect(
+    region: &mut Region,
+    alloc: Global,
+    value: BindingCell,
+    over: u32,
+) -> Result<(), NoMemory>
+    requires value { IsValueIn region.old.store value }
+    requires findall { IsFindallAt region.old.choices over }
+    ensures collects { OnOk result (CollectsResult region.old region.new value over) }
+{
+    let term = region.store().resolve(value)?;
+    region.add_result(alloc, over as usize, &term)
+}
+
+/// A findall has no solution left: its list is unified with the results, by a goal.
+fn end_findall(
+    region: &mut Region,
+    alloc: Global,
+    list: BindingCell,
+    results: &Results,
+    after: Position,
+) -> Result<Ahead, NoMemory>
+    requires { IsResumed region.old (ResumedValue.FindallDone list results.now after) }
+    ensures ends { IfOk result (EndsFindall region.old region.new list results.now after) }
+    ensures text { OnOk result (region.new.text ≡ region.old.text) }
+{
+    let next = VarNo::from(region.store().next());
+    let Ok(taken) = u32::try_from(results.next() - next) else {
+        return Err(NoMemory);
+    };
+    region.fresh(taken)?;
+    let left = region.store().resolve(list)?;
+    let right = list_of(alloc, results.terms())?;
+    let goal = Shared::from_term(alloc, binary(alloc, "=", &left, &right)?)?;
+    let value = region.copy_in(&goal)?;
+    let cut = region.scope()?;
+    let place = GoalPlace { cut, after };
+    Ok(Ahead::Goal(FrameItem::Goal(value), place))
+}
