@@ -6,3 +6,5 @@
 mod controls;
 #[cfg(test)]
 mod regions;
+#[cfg(test)]
+mod solutions;
