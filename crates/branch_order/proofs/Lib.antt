@@ -4,3 +4,4 @@ pub mod LeftmostLemmas
 pub mod MeetingLemmas
 pub mod FrontLemmas
 pub mod SoughtLemmas
+mod NoneLemmas

@@ -17,6 +17,8 @@ use Rattle.tree_nodes.specs.Rows.{AlternativeCell, PendingCell, InnerCell, Close
 use Rattle.tree_nodes.specs.RowViews.{inner_of}
 use Rattle.tree_nodes.specs.Puts.{inner_at}
 use Rattle.tree_nodes.specs.Gathering.{are_shut}
+use Rattle.tree_nodes.specs.Gaps.{shut_or_past, IsShutAt, IsNextAfter}
+use Rattle.branch_order.proofs.FrontLemmas.{some_within}
 use Rattle.tree_nodes.specs.Fronts.{place_on, IsNextDown, AreNext, IsFront}
 use Rattle.tree_nodes.specs.TreeTables.{node_number, cell_of, cells_of, IsIn, NodesView, IsRoot, IsTableOf, Stand, above_of}
 use Rattle.tree_nodes.proofs.PlaceLemmas.{left_cells, length-left_cells, cells_of-put, taken_out}
@@ -454,6 +456,36 @@ others_fail nodes a which cell n c = passes_by nodes a (test_of which) false cel
     by_status v up (Inner node) e = refl
     by_status v up (Closed credit) e = refl
     by_status v up (Pending hold entry) e = on_hold v up hold entry which e
+
+-- what has closed beside an alternative is passed at once
+module _ (nodes : NodesView) (which : Sought) (n most : ℕ) where
+  abbrev Cells : List (ℕ × AlternativeCell)
+  Cells = alternatives_at (row_of_node nodes.rows n)
+
+  past_one : (j : ℕ) (o : Option (ℕ × AlternativeCell)) → slice_get Cells j ≡ o → shut_or_past o ≡ true → j < length Cells
+      → IsAheadFrom nodes (test_of which) n j most → IsAheadFrom nodes (test_of which) n (suc j) most
+  past_one j None e s l h = absurd (let z : IsSome {T = ℕ × AlternativeCell} None = subst IsSome e (some_within Cells j l) in cc z)
+  past_one j (Some (spent, PendingCell hold)) e s l h = absurd (cc s)
+  past_one j (Some (spent, InnerCell m)) e s l h = absurd (cc s)
+  past_one j (Some (spent, ClosedCell credit)) e s l h =
+      goes_right nodes (test_of which) n j most h l
+      (others_fail nodes (place_on n j) which (ClosedCell credit) refl (ap (λ (o : Option (ℕ × AlternativeCell)). option_map (λ c. c.1) o) e)) (ap inner_at e)
+
+  past_all : (i k : ℕ) → i + k ≤ length Cells → ((j : ℕ) → i ≤ j → j < i + k → IsShutAt Cells j) → IsAheadFrom nodes (test_of which) n i most
+      → IsAheadFrom nodes (test_of which) n (i + k) most
+  past_all i zero l s h = subst (λ (x : ℕ). IsAheadFrom nodes (test_of which) n x most) (let z : i ≡ i + 0 = omega arith in z) h
+  past_all i (suc k) l s h =
+      let before = past_all i k (omega (arith, l)) (λ j a b. s j a (omega (arith, b))) h in
+      subst (λ (x : ℕ). IsAheadFrom nodes (test_of which) n x most) (let z : suc (i + k) ≡ i + suc k = omega arith in z)
+      (past_one (i + k) (slice_get Cells (i + k)) refl (s (i + k) (omega arith) (omega arith)) (omega (arith, l)) before)
+
+  pub jumped : (i m : ℕ) → IsNextAfter Cells i m → m ≤ length Cells → IsAheadFrom nodes (test_of which) n (suc i) most
+      → IsAheadFrom nodes (test_of which) n m most
+  jumped i m next l h =
+      let f = next.further in
+      let z : suc i + (m - suc i) ≡ m = omega (arith, f) in
+      subst (λ (x : ℕ). IsAheadFrom nodes (test_of which) n x most) z
+      (past_all (suc i) (m - suc i) (omega (arith, f, l)) (λ j a b. next.shut j (omega (arith, a)) (omega (arith, f, b))) h)
 
 -- one node less is ahead
 pub fewer_ahead : (left many m n : ℕ) → 0 < left → m < many → (left - 1) * (many + 1) + m < left * (many + 1) + n

@@ -4,9 +4,10 @@
 //! `leftmost` costs the same however deep the entry is, and so do the clock of the leftmost entry and the test that it is
 //! cleared: they are read off the front that the nodes keep. Of another alternative `first_open`, `cleared`, `clock` and
 //! `counts` cost the nodes on the way up, to the scope, the front's last node or the top. `before` walks from two
-//! alternatives up until they meet. `leftmost_ready` and `leftmost_cleared` walk from the front to the right, over all that is
-//! there up to what they find: the entries that are with workers, wait or sleep, the nodes above them, and what has closed
-//! between them; the second asks besides for each entry that waits whether it is cleared. None takes memory.
+//! alternatives up until they meet. `leftmost_ready` and `leftmost_cleared` answer none at once where nothing is ready, or
+//! nothing waits, which the nodes count. Else they walk from the front to the right up to what they find, over the entries
+//! that are with workers, wait or sleep, and the nodes above them; what has closed beside an alternative is passed at once.
+//! The second asks besides for each entry that waits whether it is cleared. None takes memory.
 #![tactic(auto)]
 
 pub mod clocks;

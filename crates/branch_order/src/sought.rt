@@ -45,7 +45,11 @@ pub fn leftmost_ready(nodes: &Nodes) -> Option<AltRef>
     ensures first { IsFirstEntry (λ s. is_ready s.hold) nodes.now (parent_view result) }
     ensures there { IsPlaceIn nodes.now.rows (parent_view result) }
 {
-    leftmost_of(nodes, Sought::Ready)
+    if nodes.may_have_ready() {
+        leftmost_of(nodes, Sought::Ready)
+    } else {
+        None
+    }
 }
 
 /// The leftmost alternative that waits for its gate and is cleared to the gate's scope.
@@ -53,7 +57,11 @@ pub fn leftmost_cleared(nodes: &Nodes) -> Option<AltRef>
     ensures first { IsFirstEntry (λ s. may_resume s s.hold) nodes.now (parent_view result) }
     ensures there { IsPlaceIn nodes.now.rows (parent_view result) }
 {
-    leftmost_of(nodes, Sought::Cleared)
+    if nodes.may_have_waiting() {
+        leftmost_of(nodes, Sought::Cleared)
+    } else {
+        None
+    }
 }
 
 // Each node to the right of the front is entered and left once.
@@ -112,7 +120,9 @@ fn next_turn(nodes: &Nodes, sought: Sought, from: AltRef) -> Turn
     ensures there { IsTurnIn nodes.now.rows from.node result }
 {
     let node = from.node;
-    for alternative in from.alternative..nodes.width(node) {
+    let width = nodes.width(node);
+    let mut alternative = from.alternative;
+    while alternative < width {
         let at = AltRef { node, alternative };
         if is_sought(nodes, sought, at) {
             return Turn::Found(at);
@@ -120,6 +130,7 @@ fn next_turn(nodes: &Nodes, sought: Sought, from: AltRef) -> Turn
         if let Some(below) = nodes.below(at) {
             return Turn::Down(below);
         }
+        alternative = nodes.after(at);
     }
     Turn::Up
 }

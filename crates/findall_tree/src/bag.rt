@@ -5,7 +5,6 @@ ghost use Rattle.tree_nodes.specs.Rows.{cell_at};
 ghost use Rattle.findall_tree.specs.Bags.{goal_side, IsBagOf};
 
 use au_term::{FlatTerm, NoMemory};
-use std::alloc::Global;
 use tree_model::AltRef;
 use tree_nodes::{AltState, Nodes};
 
@@ -19,17 +18,7 @@ pub fn bag_of(nodes: &Nodes, node: u64) -> Result<Vec<FlatTerm>, NoMemory>
         alternative: 0,
     };
     match nodes.state(side) {
-        AltState::Closed(credit) => copied(nodes.allocator(), &credit.records),
+        AltState::Closed(credit) => credit.records.copied(nodes.allocator()),
         _ => unreachable!(),
     }
-}
-
-fn copied(alloc: Global, records: &[FlatTerm]) -> Result<Vec<FlatTerm>, NoMemory>
-    ensures { IfOk result (λ all. all.items ≡ records.now) }
-{
-    let mut all = Vec::new(alloc);
-    for record in records {
-        all.push(record.copy()?)?;
-    }
-    Ok(all)
 }

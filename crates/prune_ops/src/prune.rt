@@ -10,7 +10,7 @@ ghost use Rattle.prune_ops.specs.Prunes.{PrunesRight, PrunesLevel, within_scope}
 use clause_compile::Scope;
 use std::alloc::Global;
 use tree_model::AltRef;
-use tree_nodes::{AltState, Credit, Nodes};
+use tree_nodes::{AltState, Credit, Nodes, Records};
 
 /// Closes every alternative to the right of one at the nodes on its way up, below a node, and drops what stood there.
 pub fn prune_right(nodes: &mut Nodes, at: AltRef, scope: Scope)
@@ -61,6 +61,6 @@ fn nothing(alloc: Global) -> Credit
     Credit {
         inferences: 0,
         answers: 0,
-        records: Vec::new(alloc),
+        records: Records::new(alloc),
     }
 }

@@ -8,3 +8,5 @@ mod calls;
 mod controls;
 #[cfg(test)]
 mod regions;
+#[cfg(test)]
+mod solutions;

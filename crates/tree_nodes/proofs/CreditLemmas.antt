@@ -14,7 +14,7 @@ use Rattle.tree_nodes.specs.TreeTables.{cell_of, cells_of}
 use Rattle.tree_nodes.specs.Gathering.{closed_in, is_shut, are_shut, add_left, with_left, with_right_credits}
 use Rattle.tree_nodes.proofs.PlaceLemmas.{left_cells}
 
-same_credit : (i j a b : ℕ) (rs ts : List Term) → i ≡ j → a ≡ b → rs ≡ ts
+pub same_credit : (i j a b : ℕ) (rs ts : List Term) → i ≡ j → a ≡ b → rs ≡ ts
     → ◌≡◌ {A = Credit} (record { inferences = i; answers = a; records = rs }) (record { inferences = j; answers = b; records = ts })
 same_credit i j a b rs ts e f g =
     ap (λ (k : ℕ). record { inferences = k; answers = a; records = rs }) e

@@ -2,6 +2,9 @@ pub mod PlaceLemmas
 pub mod FrameLemmas
 pub mod LocateLemmas
 pub mod RowLemmas
+pub mod HeldLemmas
+pub mod BatchLemmas
+pub mod GapLemmas
 pub mod SiblingLemmas
 pub mod DropLemmas
 pub mod GoingLemmas

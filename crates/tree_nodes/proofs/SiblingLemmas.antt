@@ -134,11 +134,15 @@ passed-more cells p now c h e l shut many answers inferences =
           ∙ (ap (λ (n : ℕ). (n, counted p.inferences (closed_counts c.1).1)) (sym answers) ∙ ap (λ (n : ℕ). (now.answers, n)) (sym inferences))));
     }
 
+pub popped_cells : (items front : List Alternative) (last : Alternative) → items ≡ front ++ last ∷ []
+    → map alternative_view items ≡ map alternative_view front ++ alternative_view last ∷ []
+popped_cells items front last e = ap (map alternative_view) e ∙ map-append alternative_view front (last ∷ [])
+
 -- alternatives as the code keeps them
 module _ (items front : List Alternative) (last : Alternative) (m : ℕ) (p : Passed) (e : items ≡ front ++ last ∷ [])
     (k : AreCounted m p (map alternative_view items)) where
   cells : map alternative_view items ≡ map alternative_view front ++ alternative_view last ∷ []
-  cells = ap (map alternative_view) e ∙ map-append alternative_view front (last ∷ [])
+  cells = popped_cells items front last e
 
   pub popped_open : m ≡ open_count (map alternative_view front) + one_open (cell_view last.state)
   popped_open =
@@ -156,13 +160,16 @@ pub item_at : (items : List Alternative) (i : ℕ) (x : Alternative) → i < len
     → slice_get (map alternative_view items) i ≡ Some (alternative_view x)
 item_at items i x l e = slice_get-map alternative_view items i ∙ ap (option_map alternative_view) (slice_get_read items (length items) i x refl l e)
 
+pub taken_more : (items : List Alternative) (i : ℕ) (x : Alternative) → i < length items → x ≡ get_or items i x
+    → map alternative_view (take (i + 1) items) ≡ map alternative_view (take i items) ++ alternative_view x ∷ []
+taken_more items i x l e =
+    let more : take (i + 1) items ≡ take i items ++ x ∷ [] = take_more items i x l ∙ ap (λ (y : Alternative). take i items ++ y ∷ []) (sym e) in
+    ap (map alternative_view) more ∙ map-append alternative_view (take i items) (x ∷ [])
+
 pub open_count-more : (items : List Alternative) (i : ℕ) (x : Alternative) → i < length items → x ≡ get_or items i x
     → open_count (map alternative_view (take (i + 1) items)) ≡ open_count (map alternative_view (take i items)) + one_open (cell_view x.state)
 open_count-more items i x l e =
-    let more : take (i + 1) items ≡ take i items ++ x ∷ [] = take_more items i x l ∙ ap (λ (y : Alternative). take i items ++ y ∷ []) (sym e) in
-    let cells : map alternative_view (take (i + 1) items) ≡ map alternative_view (take i items) ++ alternative_view x ∷ []
-    = ap (map alternative_view) more ∙ map-append alternative_view (take i items) (x ∷ []) in
-    let a = ap open_count cells in
+    let a = ap open_count (taken_more items i x l e) in
     let b = open_count-append (map alternative_view (take i items)) (alternative_view x ∷ []) in
     omega (arith, a, b)
 

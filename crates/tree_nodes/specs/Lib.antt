@@ -9,3 +9,6 @@ pub mod Siblings
 pub mod Puts
 pub mod Folds
 pub mod Fronts
+pub mod Held
+pub mod Batches
+pub mod Gaps

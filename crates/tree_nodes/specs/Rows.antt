@@ -50,7 +50,7 @@ abbrev pub cell_at : Rows → Place → Option (ℕ × AlternativeCell)
 cell_at rows a = slice_get (alternatives_at (row_of_node rows a.node)) a.index
 
 abbrev pub credit_view : CreditData → Credit
-credit_view c = record { inferences = c.inferences; answers = c.answers; records = c.records.items }
+credit_view c = record { inferences = c.inferences; answers = c.answers; records = c.records }
 
 -- no scope of the tree is local to a region
 abbrev pub scope_number : Scope → ℕ

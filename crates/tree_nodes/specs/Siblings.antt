@@ -5,6 +5,8 @@ use Rattle.tree_nodes.specs.declared.siblings.Alternative.{Alternative}
 use Rattle.tree_nodes.specs.declared.siblings.Passed.{Passed}
 use Rattle.tree_nodes.specs.Rows.{AlternativeCell, PendingCell, InnerCell, ClosedCell, cell_view}
 use Rattle.tree_nodes.specs.Gathering.{is_shut, are_shut}
+use Rattle.tree_nodes.specs.declared.gaps.Gap.{Gap}
+use Rattle.tree_nodes.specs.Gaps.{AreGaps}
 
 abbrev pub alternative_view : Alternative → ℕ × AlternativeCell
 alternative_view a = (a.spent, cell_view a.state)
@@ -41,3 +43,8 @@ pub record ArePassed (cells : List (ℕ × AlternativeCell)) (p : Passed) : Type
 pub record AreCounted (many_open : ℕ) (p : Passed) (cells : List (ℕ × AlternativeCell)) : Type 0 where
   pub open_are : many_open ≡ open_count cells
   pub passed : ArePassed cells p
+
+-- what is kept of all
+pub record AreTold (many_open : ℕ) (p : Passed) (gaps : List Gap) (cells : List (ℕ × AlternativeCell)) : Type 0 where
+  pub counted : AreCounted many_open p cells
+  pub beside : AreGaps gaps cells

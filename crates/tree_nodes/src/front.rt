@@ -3,7 +3,7 @@ ghost use Rattle.std.specs.Prelude.{◌≡◌, is_some};
 ghost use Rattle.tree_nodes.specs.Rows.{row_of_node};
 ghost use Rattle.tree_nodes.specs.Fronts.{IsLastOf, IsLastTest, Retreats};
 
-use crate::row::Slot;
+use crate::table::Table;
 
 /// A node to the left of which all has closed, after so many answers and inferences to its left and above it.
 #[derive(Clone, Copy)]
@@ -23,28 +23,25 @@ pub(crate) fn last_of(front: &[Front]) -> Option<Front>
 }
 
 /// Takes off nodes that are gone, and those past a number, from the last one on.
-pub(crate) fn retreat(slots: &Vec<Slot>, front: &mut Vec<Front>, limit: u64)
-    ensures { Retreats slots.now.items limit front.old.items front.new.items }
+pub(crate) fn retreat(table: &Table, front: &mut Vec<Front>, limit: u64)
+    ensures { Retreats table.now limit front.old.items front.new.items }
 {
-    while !is_last_there(slots, front, limit) {
+    while !is_last_there(table, front, limit) {
         let _past = front.pop();
     }
 }
 
-fn is_last_there(slots: &Vec<Slot>, front: &[Front], limit: u64) -> bool
-    ensures { IsLastTest slots.now.items limit front.now result }
+fn is_last_there(table: &Table, front: &[Front], limit: u64) -> bool
+    ensures { IsLastTest table.now limit front.now result }
 {
     match last_of(front) {
-        Some(last) => last.node <= limit && is_there(slots, last.node),
+        Some(last) => last.node <= limit && is_there(table, last.node),
         None => true,
     }
 }
 
-fn is_there(slots: &Vec<Slot>, node: u64) -> bool
-    ensures { result ≡ is_some (row_of_node slots.now.items node) }
+fn is_there(table: &Table, node: u64) -> bool
+    ensures { result ≡ is_some (row_of_node table.now node) }
 {
-    match slots.get(node as usize) {
-        Some(slot) => slot.row().is_some(),
-        None => false,
-    }
+    table.row(node).is_some()
 }

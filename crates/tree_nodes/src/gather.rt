@@ -4,22 +4,25 @@ ghost use Rattle.au_term.specs.Term.{Term};
 ghost use Rattle.tree_model.specs.Credits.{added, credit_of};
 ghost use Rattle.tree_nodes.specs.Rows.{credit_view};
 
+use crate::merging::merged;
+use crate::records::{Batch, Records};
 use crate::state::Credit;
-use au_term::{FlatTerm, NoMemory};
+use au_term::NoMemory;
 use std::alloc::Global;
 use std::marker::Model;
 
-/// A sum of credits that grows at both ends: the records on the left of the first are kept backwards.
+/// A sum of credits that grows at both ends: the batches of records on the left of the first are kept backwards.
 #[derive(Drop)]
 pub(crate) struct Gathered {
     inferences: u64,
     answers: u64,
-    before: Vec<FlatTerm>,
-    records: Vec<FlatTerm>,
+    before: Vec<Batch>,
+    behind: Vec<Batch>,
 }
 
 impl Model for Gathered {
     ghost use Rattle.std.specs.Prelude.{◌++◌, reverse};
+    ghost use Rattle.tree_nodes.specs.Batches.{joined};
     ghost use Rattle.std.specs.Coded.{codes};
     ghost use Rattle.au_term.specs.PrefixOrder.{term_code};
     ghost use Rattle.tree_model.specs.Credits.{Credit};
@@ -28,7 +31,7 @@ impl Model for Gathered {
 
     ghost coded = { Prim.hlevel (codes, term_code) };
 
-    ghost view = { λ g. record { inferences = g.inferences; answers = g.answers; records = reverse g.before.items ++ g.records.items } };
+    ghost view = { λ g. record { inferences = g.inferences; answers = g.answers; records = joined (reverse g.before.items) ++ joined g.behind.items } };
 }
 
 impl Gathered {
@@ -45,7 +48,7 @@ impl Gathered {
             inferences,
             answers,
             before: Vec::new(alloc),
-            records,
+            behind: records.into_batches(),
         }
     }
 
@@ -61,7 +64,7 @@ impl Gathered {
     pub(crate) fn add_left(&mut self, credit: &Credit) -> Result<(), NoMemory>
         ensures { OnOk result (self.new ≡ added (credit_view credit.now) self.old) }
     {
-        copy_backwards(&credit.records, &mut self.before)?;
+        share_backwards(credit.records.batches(), &mut self.before)?;
         self.inferences = credit.inferences.saturating_add(self.inferences);
         self.answers = credit.answers.saturating_add(self.answers);
         Ok(())
@@ -71,48 +74,48 @@ impl Gathered {
     pub(crate) fn add_right(&mut self, credit: &Credit) -> Result<(), NoMemory>
         ensures { OnOk result (self.new ≡ added self.old (credit_view credit.now)) }
     {
-        copy_behind(&credit.records, &mut self.records)?;
+        share_behind(credit.records.batches(), &mut self.behind)?;
         self.inferences = self.inferences.saturating_add(credit.inferences);
         self.answers = self.answers.saturating_add(credit.answers);
         Ok(())
     }
 
     /// The sum.
-    pub(crate) fn finish(self) -> Result<Credit, NoMemory>
+    pub(crate) fn finish(self, alloc: Global) -> Result<Credit, NoMemory>
         ensures { IfOk result (λ credit. credit_view credit ≡ self) }
     {
         let Gathered {
             inferences,
             answers,
             before,
-            records,
+            behind,
         } = self;
         let mut all = before;
-        let mut rest = records;
+        let mut rest = behind;
         all.reverse();
         all.append(&mut rest)?;
         Ok(Credit {
             inferences,
             answers,
-            records: all,
+            records: Records::of_batches(merged(alloc, all)?),
         })
     }
 }
 
-fn copy_behind(records: &[FlatTerm], out: &mut Vec<FlatTerm>) -> Result<(), NoMemory>
-    ensures { OnOk result (out.new.items ≡ out.old.items ++ records.now) }
+fn share_behind(batches: &[Batch], out: &mut Vec<Batch>) -> Result<(), NoMemory>
+    ensures { OnOk result (out.new.items ≡ out.old.items ++ batches.now) }
 {
-    for record in records {
-        out.push(record.copy()?)?;
+    for batch in batches {
+        out.push(batch.share()?)?;
     }
     Ok(())
 }
 
-fn copy_backwards(records: &[FlatTerm], out: &mut Vec<FlatTerm>) -> Result<(), NoMemory>
-    ensures { OnOk result (out.new.items ≡ out.old.items ++ reverse records.now) }
+fn share_backwards(batches: &[Batch], out: &mut Vec<Batch>) -> Result<(), NoMemory>
+    ensures { OnOk result (out.new.items ≡ out.old.items ++ reverse batches.now) }
 {
-    for i in 0..records.len() {
-        out.push(records[records.len() - 1 - i].copy()?)?;
+    for i in 0..batches.len() {
+        out.push(batches[batches.len() - 1 - i].share()?)?;
     }
     Ok(())
 }

@@ -1,8 +1,11 @@
 //! The table, and the tree for which it stands.
 ghost use Rattle.std.specs.Prelude.{◌≡◌, ◌<◌, ◌≤◌, ◌+◌, ◌-◌, max, IsSome, IsOk, IfOk, OnOk, OnErr, Some, None, [], length, is_some};
-ghost use Rattle.std.specs.Bool.{OnTrue};
+ghost use Rattle.std.specs.Bool.{OnTrue, OnFalse};
 ghost use Rattle.std.specs.Option.{option_map, option_copied};
 ghost use Rattle.tree_model.specs.EventViews.{place_view};
+ghost use Rattle.tree_model.specs.Legality.{is_ready};
+ghost use Rattle.tree_nodes.specs.Gaps.{IsNextAfter};
+ghost use Rattle.tree_nodes.specs.Held.{is_waiting, HasNone};
 ghost use Rattle.tree_nodes.specs.Rows.{row_of_node, node_parent, cell_at, alternatives_at, cell_view, credit_view};
 ghost use Rattle.tree_nodes.specs.RowViews.{row_view, parent_view, branches_at};
 ghost use Rattle.tree_nodes.specs.TreeTables.{NodesView, Stand};
@@ -22,6 +25,7 @@ use crate::gather::Gathered;
 use crate::row::{Row, Slot};
 use crate::siblings::{Alternative, Passed};
 use crate::state::{AltState, Credit};
+use crate::table::Table;
 use au_term::NoMemory;
 use std::alloc::Global;
 use std::marker::Model;
@@ -31,7 +35,7 @@ use tree_model::AltRef;
 /// The nodes of a tree. Contracts see the table, and speak of the tree for which it stands.
 #[derive(Drop)]
 pub struct Nodes {
-    slots: Vec<Slot>,
+    table: Table,
     first: Option<u64>,
     live: u64,
     spare: u64,
@@ -52,9 +56,9 @@ impl Model for Nodes {
 
     ghost use Rattle.tree_nodes.specs.Fronts.{AreKept};
 
-    ghost view = { λ s. record { rows = s.slots.items; first = s.first; live = s.live; spare = s.spare } };
+    ghost view = { λ s. record { rows = s.table; first = s.first; live = s.live; spare = s.spare } };
 
-    ghost invariant = { λ s. AreKept (record { rows = s.slots.items; first = s.first; live = s.live; spare = s.spare }) s.front.items };
+    ghost invariant = { λ s. AreKept (record { rows = s.table; first = s.first; live = s.live; spare = s.spare }) s.front.items };
 }
 
 impl Nodes {
@@ -63,7 +67,7 @@ impl Nodes {
         ensures { result ≡ record { rows = []; first = None; live = 0; spare = 0 } }
     {
         Nodes {
-            slots: Vec::new(alloc),
+            table: Table::new(alloc),
             first: None,
             live: 0,
             spare: 0,
@@ -112,10 +116,7 @@ impl Nodes {
         ensures row { option_map row_view (option_copied result) ≡ row_of_node self.now.rows node }
         ensures branches { length (alternatives_at (row_of_node self.now.rows node)) ≤ length (branches_at (row_of_node self.now.rows node)) }
     {
-        match self.slots.get(node as usize) {
-            Some(slot) => slot.row(),
-            None => None,
-        }
+        self.table.row(node)
     }
 
     /// Whether a node is there.
@@ -155,10 +156,7 @@ impl Nodes {
     pub fn width(&self, node: u64) -> u32
         ensures { result ≡ length (alternatives_at (row_of_node self.now.rows node)) }
     {
-        match self.slots.get(node as usize) {
-            Some(slot) => slot.width(),
-            None => 0,
-        }
+        self.table.width(node)
     }
 
     /// Alternatives at the left of a node that have closed, as far as they were passed.
@@ -169,6 +167,29 @@ impl Nodes {
             Some(row) => row.alternatives.passed(),
             None => Passed::NONE,
         }
+    }
+
+    /// The next alternative of a node that may be open; those between have closed.
+    pub fn after(&self, at: AltRef) -> u32
+        requires { IsSome (cell_at self.now.rows (place_view at)) }
+        ensures next { IsNextAfter (alternatives_at (row_of_node self.now.rows at.node)) at.alternative result }
+        ensures within { result ≤ length (alternatives_at (row_of_node self.now.rows at.node)) }
+    {
+        self.table.after(at)
+    }
+
+    /// Whether an alternative may be ready; none is where not.
+    pub fn may_have_ready(&self) -> bool
+        ensures { OnFalse result (HasNone is_ready self.now.rows) }
+    {
+        self.table.may_have_ready()
+    }
+
+    /// Whether an alternative may wait; none does where not.
+    pub fn may_have_waiting(&self) -> bool
+        ensures { OnFalse result (HasNone is_waiting self.now.rows) }
+    {
+        self.table.may_have_waiting()
     }
 
     /// Whether an alternative is there.
@@ -238,12 +259,12 @@ impl Nodes {
     {
         let limit = self.front_limit(at, &state);
         put_cell(
-            &mut self.slots,
+            &mut self.table,
             &mut self.live,
             at,
             Alternative { state, spent },
         );
-        retreat(&self.slots, &mut self.front, limit);
+        retreat(&self.table, &mut self.front, limit);
         self.advance_below(at.node, limit);
     }
 
@@ -295,7 +316,7 @@ impl Nodes {
     fn advance(&mut self)
         ensures { self.new ≡ self.old }
     {
-        for _i in 0..self.slots.len() {
+        for _i in 0..self.table.len() {
             if !self.go_down() {
                 return;
             }
@@ -365,10 +386,10 @@ impl Nodes {
         let Some(live) = self.live.checked_add(1) else {
             return Err(NoMemory);
         };
-        let number = self.slots.len() as u64;
-        self.slots.push(slot)?;
-        link_cell(&mut self.slots, parent, number);
-        retreat(&self.slots, &mut self.front, u64::MAX);
+        let number = self.table.len() as u64;
+        self.table.push(slot)?;
+        link_cell(&mut self.table, parent, number);
+        retreat(&self.table, &mut self.front, u64::MAX);
         self.first = first_after(self.first, parent, number);
         self.live = live;
         self.advance();
@@ -381,7 +402,7 @@ impl Nodes {
         requires { AreGone self.old.rows next }
         ensures { GivesBack self.old self.new next }
     {
-        self.slots.truncate(next as usize);
+        self.table.truncate(next);
     }
 
     /// Closes an alternative, and drops what stood below it. Where all alternatives of a node below another have then
@@ -410,7 +431,7 @@ impl Nodes {
         while let Some(above) = self.fold_step(end, &mut gathered)? {
             end = above;
         }
-        let total = gathered.finish()?;
+        let total = gathered.finish(self.alloc)?;
         Ok((end, total))
     }
 

@@ -1,15 +1,19 @@
 //! The rows of the table.
-ghost use Rattle.std.specs.Prelude.{◌≡◌, ◌<◌, ◌≤◌, List, None, Some, length, map, slice_get, vec_len, IfOk, MatchOption};
+ghost use Rattle.std.specs.Prelude.{◌≡◌, ◌<◌, ◌≤◌, ◌+◌, List, None, Some, length, map, slice_get, vec_len, IfOk, MatchOption};
 ghost use Rattle.std.specs.Arc.{arc_value};
 ghost use Rattle.tree_nodes.specs.Bodies.{body_view, kind_view, first_hold};
 ghost use Rattle.std.specs.Option.{option_map, option_copied};
 ghost use Rattle.tree_model.specs.EventViews.{place_view};
+ghost use Rattle.tree_model.specs.Legality.{is_ready};
+ghost use Rattle.tree_nodes.specs.Gaps.{IsNextAfter};
+ghost use Rattle.tree_nodes.specs.Held.{is_waiting, held_at, held_among, AreHeldAmong};
 ghost use Rattle.tree_nodes.specs.Rows.{PendingCell, cell_view, alternatives_at};
 ghost use Rattle.tree_nodes.specs.Siblings.{alternative_view};
 ghost use Rattle.tree_nodes.specs.Puts.{inner_at};
 ghost use Rattle.tree_nodes.specs.RowViews.{row_view, parent_view, branches_at, new_cells, new_row, with_state, IsShortened};
 
 use crate::body::{NodeBody, NodeKind};
+use crate::held::Held;
 use crate::siblings::{Alternative, Siblings, let_go};
 use crate::state::AltState;
 use au_term::NoMemory;
@@ -97,10 +101,11 @@ impl Slot {
             return Err(NoMemory);
         }
         let alternatives = first_alternatives(alloc, &body)?;
+        let siblings = Siblings::new(alloc, alternatives)?;
         let row = Row {
             parent,
             body,
-            alternatives: Siblings::new(alternatives),
+            alternatives: siblings,
         };
         Ok(Slot {
             row: Some(Box::new(alloc, row)?),
@@ -150,6 +155,40 @@ impl Slot {
         }
     }
 
+    /// The next alternative that may be open; those between have closed.
+    pub(crate) fn after(&self, index: usize) -> u32
+        requires { index < length (alternatives_at self.now) }
+        ensures next { IsNextAfter (alternatives_at self.now) index result }
+        ensures within { result ≤ length (alternatives_at self.now) }
+    {
+        match &self.row {
+            Some(row) => row.alternatives.after(index) as u32,
+            None => unreachable!(),
+        }
+    }
+
+    /// What an alternative counts for.
+    pub(crate) fn held_at(&self, index: usize) -> Held
+        requires { index < length (alternatives_at self.now) }
+        ensures ready { result.ready ≡ held_at is_ready (slice_get (alternatives_at self.now) index) }
+        ensures waiting { result.waiting ≡ held_at is_waiting (slice_get (alternatives_at self.now) index) }
+    {
+        match &self.row {
+            Some(row) => Held::of(&row.alternatives.at(index).state),
+            None => unreachable!(),
+        }
+    }
+
+    /// What all alternatives count for.
+    pub(crate) fn held(&self) -> Held
+        ensures { AreHeldAmong result (alternatives_at self.now) }
+    {
+        match &self.row {
+            Some(row) => row.alternatives.held(),
+            None => Held::NONE,
+        }
+    }
+
     /// Puts another in place of an alternative.
     pub(crate) fn put(&mut self, index: usize, alternative: Alternative)
         requires { index < length (alternatives_at self.old) }
@@ -161,23 +200,26 @@ impl Slot {
         }
     }
 
-    /// Takes off the last alternative, or the row where none is left.
-    pub(crate) fn shorten(&mut self) -> Shortened
-        ensures { IsShortened self.old self.new result }
+    /// Takes off the last alternative, or the row where none is left; and what was taken off counted for.
+    pub(crate) fn shorten(&mut self) -> (Shortened, Held)
+        ensures shortened { IsShortened self.old self.new result.0 }
+        ensures ready { held_among is_ready (alternatives_at self.old) ≡ held_among is_ready (alternatives_at self.new) + result.1.ready }
+        ensures waiting { held_among is_waiting (alternatives_at self.old) ≡ held_among is_waiting (alternatives_at self.new) + result.1.waiting }
     {
         let Some(row) = &mut self.row else {
-            return Shortened::Nothing;
+            return (Shortened::Nothing, Held::NONE);
         };
         match row.alternatives.pop() {
             Some(alternative) => {
                 let inner = alternative.inner();
+                let held = Held::of(&alternative.state);
                 let_go(alternative);
-                Shortened::Alternative(inner)
+                (Shortened::Alternative(inner), held)
             }
             None => {
                 let parent = row.parent;
                 self.row = None;
-                Shortened::Row(parent)
+                (Shortened::Row(parent), Held::NONE)
             }
         }
     }

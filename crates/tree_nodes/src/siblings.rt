@@ -1,15 +1,20 @@
 //! The alternatives of a node, from left to right.
-ghost use Rattle.std.specs.Prelude.{◌≡◌, ◌<◌, ◌≤◌, ◌+◌, ◌++◌, ◌∷◌, [], length, map, slice_get, slice_set, Some, OnOk, MatchOption};
+ghost use Rattle.std.specs.Prelude.{◌≡◌, ◌<◌, ◌≤◌, ◌+◌, ◌++◌, ◌∷◌, [], length, map, slice_get, slice_set, Some, IfOk, OnOk, MatchOption};
 ghost use Rattle.std.specs.Option.{option_map, option_copied};
 ghost use Rattle.tree_nodes.specs.Rows.{cell_view, credit_view};
 ghost use Rattle.tree_nodes.specs.RowViews.{inner_of};
 ghost use Rattle.tree_nodes.specs.Changes.{is_pending_cell};
 ghost use Rattle.tree_nodes.specs.Gathering.{closed_in, is_shut, with_left, with_right_credits, shut_beside, with_beside};
+ghost use Rattle.tree_nodes.specs.Gaps.{IsNextAfter};
+ghost use Rattle.tree_nodes.specs.Held.{AreHeldAmong};
 ghost use Rattle.tree_nodes.specs.Siblings.{alternative_view, closed_counts, one_open, open_count, ArePassed};
 
+use crate::gaps::{Gap, no_gaps, regap, right_gap};
 use crate::gather::Gathered;
+use crate::held::Held;
 use crate::state::{AltState, Credit};
 use au_term::NoMemory;
+use std::alloc::Global;
 use std::marker::Model;
 use std::mem;
 
@@ -97,6 +102,7 @@ pub(crate) struct Siblings {
     items: Vec<Alternative>,
     many_open: usize,
     passed: Passed,
+    gaps: Vec<Gap>,
 }
 
 impl Model for Siblings {
@@ -109,25 +115,27 @@ impl Model for Siblings {
 
     ghost coded = { Prim.hlevel (codes, term_code) };
 
-    ghost use Rattle.tree_nodes.specs.Siblings.{alternative_view, AreCounted};
+    ghost use Rattle.tree_nodes.specs.Siblings.{alternative_view, AreTold};
 
     ghost view = { λ s. map alternative_view s.items.items };
 
-    ghost invariant = { λ s. AreCounted s.many_open s.passed (map alternative_view s.items.items) };
+    ghost invariant = { λ s. AreTold s.many_open s.passed s.gaps.items (map alternative_view s.items.items) };
 }
 
 impl Siblings {
     /// These alternatives.
-    pub(crate) fn new(items: Vec<Alternative>) -> Siblings
-        ensures { result ≡ map alternative_view items.items }
+    pub(crate) fn new(alloc: Global, items: Vec<Alternative>) -> Result<Siblings, NoMemory>
+        ensures { IfOk result (λ all. all ≡ map alternative_view items.items) }
     {
+        let gaps = no_gaps(alloc, items.len())?;
         let many_open = open_count(&items);
         let passed = pass(&items, Passed::NONE);
-        Siblings {
+        Ok(Siblings {
             items,
             many_open,
             passed,
-        }
+            gaps,
+        })
     }
 
     /// How many there are.
@@ -150,6 +158,23 @@ impl Siblings {
         ensures { ArePassed self.now result }
     {
         self.passed
+    }
+
+    /// What they count for.
+    pub(crate) fn held(&self) -> Held
+        ensures { AreHeldAmong result self.now }
+    {
+        held_by(&self.items)
+    }
+
+    /// The next one that may be open; those between have closed.
+    pub(crate) fn after(&self, index: usize) -> usize
+        requires { index < length self.now }
+        ensures next { IsNextAfter self.now index result }
+        ensures within { result ≤ length self.now }
+    {
+        let right = right_gap(&self.gaps, index);
+        right.saturating_add(index + 1).min(self.items.len())
     }
 
     /// Whether all but this one have closed.
@@ -181,6 +206,7 @@ impl Siblings {
         // The proof reads off that the number of the open ones fits.
         let _many = self.items.len();
         let now = alternative.open_one();
+        let shut = alternative.is_closed();
         let before = mem::replace(&mut self.items[index], alternative);
         self.many_open = self.many_open - before.open_one() + now;
         let from = if index < self.passed.many {
@@ -189,6 +215,7 @@ impl Siblings {
             self.passed
         };
         self.passed = pass(&self.items, from);
+        regap(&mut self.gaps, index, before.is_closed(), shut);
         let_go(before);
     }
 
@@ -214,6 +241,16 @@ fn open_count(items: &[Alternative]) -> usize
         open += alternative.open_one();
     }
     open
+}
+
+fn held_by(items: &[Alternative]) -> Held
+    ensures { AreHeldAmong result (map alternative_view items.now) }
+{
+    let mut held = Held::NONE;
+    for alternative in items {
+        held = held.with(Held::of(&alternative.state));
+    }
+    held
 }
 
 // Passes what has closed, from here on.

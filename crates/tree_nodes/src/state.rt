@@ -1,5 +1,5 @@
 //! How an alternative stands.
-use au_term::FlatTerm;
+use crate::records::Records;
 use clause_compile::GateKind;
 
 /// What a closed alternative has left: inferences and answers, which stop at the greatest number, and what was collected
@@ -8,7 +8,7 @@ use clause_compile::GateKind;
 pub struct Credit {
     pub inferences: u64,
     pub answers: u64,
-    pub records: Vec<FlatTerm>,
+    pub records: Records,
 }
 
 /// Who has an alternative, or what has become of it.

@@ -8,6 +8,6 @@ use Rattle.findall_tree.proofs.bag.bag_of.Goals as goal
 
 pub returns : goal.returns
 returns c =
-    IfOk-weaker c.copied.result (λ bag. bag.items ≡ c.deref.result.now) (λ bag. IsBagOf c.args.nodes.now c.args.node bag.items)
+    IfOk-weaker c.copied.result (λ bag. bag.items ≡ c.in-Closed.credit.records) (λ bag. IsBagOf c.args.nodes.now c.args.node bag.items)
     (λ bag p. bag_is c.args.nodes.now c.args.node (credit_view c.in-Closed.credit) bag.items
-    (c.state.ensures ∙ ap (λ (s : AltState). Some (cell_view s)) c.in-Closed.is) (p ∙ c.deref.ensures.value)) c.copied.ensures
+    (c.state.ensures ∙ ap (λ (s : AltState). Some (cell_view s)) c.in-Closed.is) p) c.copied.ensures

@@ -6,7 +6,7 @@ use Rattle.tree_nodes.proofs.drops.drop_node.Goals as goal
 
 pub loop-next-init : goal.loop-next-init
 loop-next-init c =
-    let rows = c.args.slots.now.items in
+    let rows = c.args.table.now in
     let live = c.args.live.now in
     record {
       length = refl;
@@ -20,8 +20,8 @@ loop-next-preserved c =
     record {
       length = d.shortened.length ∙ k.length;
       going = λ read way parent node e h once.
-          stepped c.args.slots.now.items c.args.live.now c.loop-next.slots.items c.loop-next.live c.loop-next.at c.args.top node once
-          (k.going read way parent node e h once) read way parent h e c.drop_step.new.slots.items d.shortened.same d.taken c.drop_step.new.live
+          stepped c.args.table.now c.args.live.now c.loop-next.table c.loop-next.live c.loop-next.at c.args.top node once
+          (k.going read way parent node e h once) read way parent h e c.drop_step.new.table d.shortened.same d.taken c.drop_step.new.live
           c.in-Some.next d.shortened.here d.next d.counted;
     }
 
@@ -32,7 +32,7 @@ returns c =
     record {
       length = d.shortened.length ∙ k.length;
       drops = λ read way parent node e h once.
-          ended c.args.slots.now.items c.args.live.now c.loop-next.slots.items c.loop-next.live c.loop-next.at c.args.top node once
-          (k.going read way parent node e h once) read way parent h e c.drop_step.new.slots.items d.shortened.same d.taken c.drop_step.new.live
+          ended c.args.table.now c.args.live.now c.loop-next.table c.loop-next.live c.loop-next.at c.args.top node once
+          (k.going read way parent node e h once) read way parent h e c.drop_step.new.table d.shortened.same d.taken c.drop_step.new.live
           d.shortened.here d.next d.counted;
     }

@@ -9,11 +9,11 @@ use Rattle.tree_nodes.proofs.drops.drop_node.Given as goal
 
 abbrev pub invariant-loop-next : goal.invariant-loop-next
 invariant-loop-next l = record {
-  length : length l.slots.items ≡ length l.initial.slots.items;
+  length : length l.table ≡ length l.initial.table;
   going : (read : Reading) (way : Branching) (parent : Option Place) (node : Node) → node_number node ≡ l.top
-      → IsNodeIn l.initial.slots.items read way parent node → IsOnce (Inner node)
-      → IsGoing l.initial.slots.items l.initial.live l.slots.items l.live l.at (Inner node);
+      → IsNodeIn l.initial.table read way parent node → IsOnce (Inner node)
+      → IsGoing l.initial.table l.initial.live l.table l.live l.at (Inner node);
 }
 
 abbrev pub decreases-loop-next : goal.decreases-loop-next
-decreases-loop-next l = drop_weight l.slots.items
+decreases-loop-next l = drop_weight l.table

@@ -10,7 +10,7 @@ loop-front-init c = ([], sym (append-nil c.args.front.now.items))
 pub loop-front-smaller : goal.loop-front-smaller
 loop-front-smaller c =
     let items = c.loop-front.front.items in
-    let test = subst (IsLastTest c.args.slots.now.items c.args.limit c.deref.result.now) c.loop-front-test.true c.is_last_there.ensures in
+    let test = subst (IsLastTest c.args.table.now c.args.limit c.deref.result.now) c.loop-front-test.true c.is_last_there.ensures in
     let parts = length-append test.1.0 (test.0 ∷ []) in
     let whole = ap length test.1.1 in
     let same = ap length c.deref.ensures.value in
@@ -28,6 +28,6 @@ loop-front-preserved c =
 
 pub returns : goal.returns
 returns c =
-    let rows = c.args.slots.now.items in
+    let rows = c.args.table.now in
     let test : IsLastThere rows c.args.limit c.deref.result.now = subst (IsLastTest rows c.args.limit c.deref.result.now) c.loop-front-test.false c.is_last_there.ensures in
     (c.loop-front.invariant, subst (IsLastThere rows c.args.limit) c.deref.ensures.value test)

@@ -13,14 +13,14 @@ use Rattle.tree_nodes.proofs.nodes.Nodes.add.Goals as goal
 
 pub invariant_of-self-2 : goal.invariant_of-self-2
 invariant_of-self-2 c =
-    let old : NodesView = record { rows = c.self.inside.slots.items; first = c.self.inside.first; live = c.self.inside.live; spare = c.self.inside.spare } in
-    let new : NodesView = record { rows = c.link_cell.new.slots.items; first = c.first_after-self-inside.result; live = c.in-Some.live; spare = c.self.inside.spare } in
+    let old : NodesView = record { rows = c.self.inside.table; first = c.self.inside.first; live = c.self.inside.live; spare = c.self.inside.spare } in
+    let new : NodesView = record { rows = c.link_cell.new.table; first = c.first_after-self-inside.result; live = c.in-Some.live; spare = c.self.inside.spare } in
     let parent = parent_view c.args.parent in
     let body = body_view (arc_value c.args.body) in
     let can : CanHold old parent = subst (λ (o : NodesView). CanHold o parent) (sym c.self.view_is) c.requires.open in
     let number : c.len-number.result ≡ length old.rows = grind (arith, common_steps) in
-    let items : c.push.new.self.items ≡ old.rows ++ Some (new_row parent body) ∷ []
-    = c.in_ok-push.ensures.items ∙ ap (λ (r : Option StoredNode). old.rows ++ r ∷ []) c.in_ok-slot.ensures in
+    let items : c.push.new.self ≡ old.rows ++ Some (new_row parent body) ∷ []
+    = c.in_ok-push.ensures.ok ∙ ap (λ (r : Option StoredNode). old.rows ++ r ∷ []) c.in_ok-slot.ensures in
     let linked : IsLinked (old.rows ++ Some (new_row parent body) ∷ []) new.rows parent (length old.rows)
     = subst (λ (n : ℕ). IsLinked (old.rows ++ Some (new_row parent body) ∷ []) new.rows parent n) number
     (subst (λ (rs : Rows). IsLinked rs new.rows parent c.len-number.result) items c.link_cell.ensures) in
@@ -31,14 +31,14 @@ invariant_of-self-2 c =
 
 pub returns-clause-added : goal.returns-clause-added
 returns-clause-added c =
-    let old : NodesView = record { rows = c.self.inside.slots.items; first = c.self.inside.first; live = c.self.inside.live; spare = c.self.inside.spare } in
-    let new : NodesView = record { rows = c.link_cell.new.slots.items; first = c.first_after-self-inside.result; live = c.in-Some.live; spare = c.self.inside.spare } in
+    let old : NodesView = record { rows = c.self.inside.table; first = c.self.inside.first; live = c.self.inside.live; spare = c.self.inside.spare } in
+    let new : NodesView = record { rows = c.link_cell.new.table; first = c.first_after-self-inside.result; live = c.in-Some.live; spare = c.self.inside.spare } in
     let parent = parent_view c.args.parent in
     let body = body_view (arc_value c.args.body) in
     let can : CanHold old parent = subst (λ (o : NodesView). CanHold o parent) (sym c.self.view_is) c.requires.open in
     let number : c.len-number.result ≡ length old.rows = grind (arith, common_steps) in
-    let items : c.push.new.self.items ≡ old.rows ++ Some (new_row parent body) ∷ []
-    = c.in_ok-push.ensures.items ∙ ap (λ (r : Option StoredNode). old.rows ++ r ∷ []) c.in_ok-slot.ensures in
+    let items : c.push.new.self ≡ old.rows ++ Some (new_row parent body) ∷ []
+    = c.in_ok-push.ensures.ok ∙ ap (λ (r : Option StoredNode). old.rows ++ r ∷ []) c.in_ok-slot.ensures in
     let linked : IsLinked (old.rows ++ Some (new_row parent body) ∷ []) new.rows parent (length old.rows)
     = subst (λ (n : ℕ). IsLinked (old.rows ++ Some (new_row parent body) ∷ []) new.rows parent n) number
     (subst (λ (rs : Rows). IsLinked rs new.rows parent c.len-number.result) items c.link_cell.ensures) in

@@ -10,7 +10,7 @@ pub returns-clause-closed : goal.returns-clause-closed
 returns-clause-closed c =
     let old = c.args.self.now in
     let middle = c.set.new.self in
-    let new : NodesView = record { rows = c.self.inside.slots.items; first = c.self.inside.first; live = c.self.inside.live; spare = c.saturating_sub-self-inside.result } in
+    let new : NodesView = record { rows = c.self.inside.table; first = c.self.inside.first; live = c.self.inside.live; spare = c.saturating_sub-self-inside.result } in
     let a = place_view c.args.at in
     let b = place_view c.in_ok-end.end in
     let spent : (cell : AlternativeCell) (there : ℕ) → cell_at old.rows b ≡ Some (there, cell) → c.spent-spent.result ≡ there

@@ -9,10 +9,10 @@ use Rattle.tree_nodes.proofs.nodes.Nodes.give_back.Goals as goal
 
 pub invariant_of-self : goal.invariant_of-self
 invariant_of-self c =
-    let old : NodesView = record { rows = c.self.inside.slots.items; first = c.self.inside.first; live = c.self.inside.live; spare = c.self.inside.spare } in
-    let new : NodesView = record { rows = c.truncate.new.self.items; first = c.self.inside.first; live = c.self.inside.live; spare = c.self.inside.spare } in
+    let old : NodesView = record { rows = c.self.inside.table; first = c.self.inside.first; live = c.self.inside.live; spare = c.self.inside.spare } in
+    let new : NodesView = record { rows = c.truncate.new.self; first = c.self.inside.first; live = c.self.inside.live; spare = c.self.inside.spare } in
     let gone : AreGone old.rows c.args.next = subst (λ (o : NodesView). AreGone o.rows c.args.next) (sym c.self.view_is) c.requires in
-    let rows : (m : ℕ) → row_of_node new.rows m ≡ row_of_node old.rows m = λ m. ap (λ (rs : Rows). row_of_node rs m) c.truncate.ensures.items ∙ row_at-take old.rows c.args.next m gone in
+    let rows : (m : ℕ) → row_of_node new.rows m ≡ row_of_node old.rows m = λ m. ap (λ (rs : Rows). row_of_node rs m) c.truncate.ensures ∙ row_at-take old.rows c.args.next m gone in
     let st = c.self.invariant.tree in
     record {
       tree = record { read = st.read; root = st.root; stands = same_rows old new st.read st.root rows refl refl st.stands };
@@ -21,12 +21,12 @@ invariant_of-self c =
 
 pub returns : goal.returns
 returns c =
-    let old : NodesView = record { rows = c.self.inside.slots.items; first = c.self.inside.first; live = c.self.inside.live; spare = c.self.inside.spare } in
-    let new : NodesView = record { rows = c.truncate.new.self.items; first = c.self.inside.first; live = c.self.inside.live; spare = c.self.inside.spare } in
+    let old : NodesView = record { rows = c.self.inside.table; first = c.self.inside.first; live = c.self.inside.live; spare = c.self.inside.spare } in
+    let new : NodesView = record { rows = c.truncate.new.self; first = c.self.inside.first; live = c.self.inside.live; spare = c.self.inside.spare } in
     let gone : AreGone old.rows c.args.next = subst (λ (o : NodesView). AreGone o.rows c.args.next) (sym c.self.view_is) c.requires in
-    let rows : (m : ℕ) → row_of_node new.rows m ≡ row_of_node old.rows m = λ m. ap (λ (rs : Rows). row_of_node rs m) c.truncate.ensures.items ∙ row_at-take old.rows c.args.next m gone in
+    let rows : (m : ℕ) → row_of_node new.rows m ≡ row_of_node old.rows m = λ m. ap (λ (rs : Rows). row_of_node rs m) c.truncate.ensures ∙ row_at-take old.rows c.args.next m gone in
     let given : GivesBack old new c.args.next = record {
-      length = ap length c.truncate.ensures.items ∙ length-take c.args.next old.rows;
+      length = ap length c.truncate.ensures ∙ length-take c.args.next old.rows;
       spare = refl;
       same = λ read root s. same_rows old new read root rows refl refl s;
     } in

@@ -8,7 +8,7 @@ use Rattle.tree_nodes.proofs.nodes.Nodes.go_down.Goals as goal
 
 pub invariant_of-self : goal.invariant_of-self
 invariant_of-self c =
-    let nodes : NodesView = record { rows = c.self.inside.slots.items; first = c.self.inside.first; live = c.self.inside.live; spare = c.self.inside.spare } in
+    let nodes : NodesView = record { rows = c.self.inside.table; first = c.self.inside.first; live = c.self.inside.live; spare = c.self.inside.spare } in
     let last = c.last_of-last.result in
     let is_last : IsLastOf c.self.inside.front.items last = subst (λ (x : List Front). IsLastOf x last) c.deref.ensures.value c.last_of-last.ensures in
     let next : IsNextDown nodes.rows nodes.first last c.in-Some.next

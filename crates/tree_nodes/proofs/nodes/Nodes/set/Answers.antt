@@ -11,8 +11,8 @@ use Rattle.tree_nodes.proofs.nodes.Nodes.set.Goals as goal
 
 pub invariant_of-self : goal.invariant_of-self
 invariant_of-self c =
-    let old : NodesView = record { rows = c.self.inside.slots.items; first = c.self.inside.first; live = c.self.inside.live; spare = c.self.inside.spare } in
-    let new : NodesView = record { rows = c.put_cell.new.slots.items; first = c.self.inside.first; live = c.put_cell.new.live; spare = c.self.inside.spare } in
+    let old : NodesView = record { rows = c.self.inside.table; first = c.self.inside.first; live = c.self.inside.live; spare = c.self.inside.spare } in
+    let new : NodesView = record { rows = c.put_cell.new.table; first = c.self.inside.first; live = c.put_cell.new.live; spare = c.self.inside.spare } in
     let a = place_view c.args.at in
     let cell = cell_view c.args.state in
     let there : IsSome (cell_at old.rows a) = subst (λ (o : NodesView). IsSome (cell_at o.rows a)) (sym c.self.view_is) c.requires.there in
@@ -23,8 +23,8 @@ invariant_of-self c =
 
 pub returns-clause-set : goal.returns-clause-set
 returns-clause-set c =
-    let old : NodesView = record { rows = c.self.inside.slots.items; first = c.self.inside.first; live = c.self.inside.live; spare = c.self.inside.spare } in
-    let new : NodesView = record { rows = c.put_cell.new.slots.items; first = c.self.inside.first; live = c.put_cell.new.live; spare = c.self.inside.spare } in
+    let old : NodesView = record { rows = c.self.inside.table; first = c.self.inside.first; live = c.self.inside.live; spare = c.self.inside.spare } in
+    let new : NodesView = record { rows = c.put_cell.new.table; first = c.self.inside.first; live = c.put_cell.new.live; spare = c.self.inside.spare } in
     let a = place_view c.args.at in
     let fits : Fits (cell_at old.rows a) (cell_view c.args.state) = subst (λ (o : NodesView). Fits (cell_at o.rows a) (cell_view c.args.state)) (sym c.self.view_is) c.requires.fits in
     subst (λ (o : NodesView). SetsCell o c.advance_below.new.self a c.args.spent (cell_view c.args.state)) c.self.view_is

@@ -1,5 +1,7 @@
 use Rattle.std.proofs.Common.{◌≡◌, ◌<◌, ℕ, List, length, map, sym, ap, ◌∙◌, arith, subst, get_or}
-use Rattle.std.specs.Prelude.{slice_set}
+use Rattle.std.specs.Prelude.{slice_get, slice_set}
+use Rattle.tree_nodes.specs.Gaps.{shut_or_past, AreGaps}
+use Rattle.tree_nodes.proofs.SiblingLemmas.{item_at}
 use Rattle.std.proofs.lemmas.List.{length-map, map-set}
 use Rattle.tree_nodes.specs.declared.siblings.Alternative.{Alternative}
 use Rattle.tree_nodes.specs.Siblings.{alternative_view, ArePassed}
@@ -21,7 +23,7 @@ overflow_sub-self c =
     let req : c.args.index < length (map alternative_view items) = rw (c.self.view_is) c.requires in
     let l : c.args.index < length items = omega (arith, len, req) in
     let e : was ≡ get_or items c.args.index was = read items c.args.index was c.index_mut.result.now c.replace-before.ensures.value c.index_mut.ensures.value in
-    let below = put_below items c.args.index was now m p l e c.self.invariant in
+    let below = put_below items c.args.index was now m p l e c.self.invariant.counted in
     let one = c.open_one.ensures in
     omega (arith, below, one)
 
@@ -36,7 +38,7 @@ overflow_add-self c =
     let req : c.args.index < length (map alternative_view items) = rw (c.self.view_is) c.requires in
     let l : c.args.index < length items = omega (arith, len, req) in
     let e : was ≡ get_or items c.args.index was = read items c.args.index was c.index_mut.result.now c.replace-before.ensures.value c.index_mut.ensures.value in
-    let bound = put_bound items c.args.index was now m p l e c.self.invariant in
+    let bound = put_bound items c.args.index was now m p l e c.self.invariant.counted in
     let one = c.open_one.ensures in
     let two = c.open_one-now.ensures in
     let fits = c.len-many.ensures in
@@ -58,7 +60,7 @@ pass-self-inside-requires c =
     let from : ArePassed (map alternative_view (slice_set items c.args.index now)) c.if-index-self.from = elim c.if-index-self.branch [
       | then-index-self w ↦ subst (ArePassed (map alternative_view (slice_set items c.args.index now))) (sym w.from-is) (none_passed _)
       | else-index-self w ↦ subst (ArePassed (map alternative_view (slice_set items c.args.index now))) (sym w.from-is)
-          (put_passed items c.args.index was now m p l e c.self.invariant w.if-index-self.false)
+          (put_passed items c.args.index was now m p l e c.self.invariant.counted w.if-index-self.false)
     ] in
     subst (λ (x : List Alternative). ArePassed (map alternative_view x) c.if-index-self.from) (sym dest) from
 
@@ -74,14 +76,20 @@ invariant_of-self c =
     let l : c.args.index < length items = omega (arith, len, req) in
     let e : was ≡ get_or items c.args.index was = read items c.args.index was c.index_mut.result.now c.replace-before.ensures.value c.index_mut.ensures.value in
     let dest = c.replace-before.ensures.after in
-    let count = put_open items c.args.index was now m p l e c.self.invariant in
+    let count = put_open items c.args.index was now m p l e c.self.invariant.counted in
     let one = c.open_one.ensures in
     let two = c.open_one-now.ensures in
     let same : map alternative_view (slice_set items c.args.index c.replace-before.new.dest) ≡ map alternative_view (slice_set items c.args.index now)
     = ap (λ (x : Alternative). map alternative_view (slice_set items c.args.index x)) dest in
+    let here = item_at items c.args.index was l e in
+    let was_shut : shut_or_past (slice_get (map alternative_view items) c.args.index) ≡ c.is_closed.result = ap shut_or_past here ∙ sym c.is_closed.ensures in
     rw same (record {
-      open_are = omega (arith, count, one, two);
-      passed = subst (λ (x : List Alternative). ArePassed (map alternative_view x) c.pass-self-inside.result) (c.deref.ensures.value ∙ ap (slice_set items c.args.index) dest) c.pass-self-inside.ensures;
+      counted = record {
+        open_are = omega (arith, count, one, two);
+        passed = subst (λ (x : List Alternative). ArePassed (map alternative_view x) c.pass-self-inside.result) (c.deref.ensures.value ∙ ap (slice_set items c.args.index) dest) c.pass-self-inside.ensures;
+      };
+      beside = subst (AreGaps c.regap.new.gaps.items) (sym (map-set alternative_view items c.args.index now))
+          (c.regap.ensures (map alternative_view items) (alternative_view now) (omega (arith, len, l)) was_shut (sym c.is_closed-shut.ensures) c.self.invariant.beside);
     })
 
 pub returns : goal.returns

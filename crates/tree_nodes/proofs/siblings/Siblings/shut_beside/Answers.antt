@@ -12,7 +12,7 @@ returns c =
     let req : c.args.index < length (map alternative_view items) = rw (c.self.view_is) c.requires in
     let l : c.args.index < length items = omega (arith, len, req) in
     let here = item_at items c.args.index c.index.result.now l c.index.ensures in
-    ap (λ (n : ℕ). n == c.open_one.result) c.self.invariant.open_are
+    ap (λ (n : ℕ). n == c.open_one.result) c.self.invariant.counted.open_are
     ∙ (ap (λ (n : ℕ). open_count (map alternative_view items) == n) c.open_one.ensures
     ∙ (sym (shut_beside-open (map alternative_view items) c.args.index (alternative_view c.index.result.now) here)
     ∙ ap (shut_beside c.args.index) c.self.view_is))

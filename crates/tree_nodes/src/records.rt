@@ -1,0 +1,157 @@
+//! Records in their order, in batches that credits share.
+ghost use Rattle.std.specs.Prelude.{◌≡◌, ◌++◌, [], IfOk, OnOk, length};
+ghost use Rattle.tree_nodes.specs.Batches.{joined};
+
+use au_term::{FlatTerm, NoMemory};
+use std::alloc::Global;
+use std::marker::Model;
+use std::sync::Arc;
+
+/// Records that are shared as a whole. Contracts see their list.
+#[derive(Drop)]
+pub(crate) struct Batch {
+    records: Arc<Vec<FlatTerm>>,
+}
+
+impl Model for Batch {
+    ghost use Rattle.std.specs.Prelude.{List};
+    ghost use Rattle.std.specs.Arc.{arc_value};
+    ghost use Rattle.std.specs.Coded.{codes};
+    ghost use Rattle.au_term.specs.Term.{Term};
+    ghost use Rattle.au_term.specs.PrefixOrder.{term_code};
+
+    ghost Value = { List Term };
+
+    ghost coded = { Prim.hlevel (codes, term_code) };
+
+    ghost view = { λ p. (arc_value p.records).items };
+}
+
+impl Batch {
+    /// These records.
+    pub(crate) fn new(alloc: Global, records: Vec<FlatTerm>) -> Result<Batch, NoMemory>
+        ensures { IfOk result (λ batch. batch ≡ records.items) }
+    {
+        Ok(Batch {
+            records: Arc::new(alloc, records)?,
+        })
+    }
+
+    /// How many there are.
+    pub(crate) fn len(&self) -> usize
+        ensures { result ≡ length self.now }
+    {
+        self.records.len()
+    }
+
+    /// The same, shared.
+    pub(crate) fn share(&self) -> Result<Batch, NoMemory>
+        ensures { IfOk result (λ batch. batch ≡ self.now) }
+    {
+        Ok(Batch {
+            records: Arc::clone(&self.records)?,
+        })
+    }
+
+    /// Copies of these and of the records behind them, as one batch.
+    pub(crate) fn with(&self, alloc: Global, behind: &Batch) -> Result<Batch, NoMemory>
+        ensures { IfOk result (λ batch. batch ≡ self.now ++ behind.now) }
+    {
+        let mut all = Vec::new(alloc);
+        self.copy_to(&mut all)?;
+        behind.copy_to(&mut all)?;
+        Batch::new(alloc, all)
+    }
+
+    fn copy_to(&self, out: &mut Vec<FlatTerm>) -> Result<(), NoMemory>
+        ensures { OnOk result (out.new.items ≡ out.old.items ++ self.now) }
+    {
+        copy_behind(&self.records, out)
+    }
+}
+
+/// Records in their order. What was collected once is shared where credits are added up. Contracts see their list.
+#[derive(Drop)]
+pub struct Records {
+    batches: Vec<Batch>,
+}
+
+impl Model for Records {
+    ghost use Rattle.std.specs.Prelude.{List};
+    ghost use Rattle.std.specs.Coded.{codes};
+    ghost use Rattle.au_term.specs.Term.{Term};
+    ghost use Rattle.au_term.specs.PrefixOrder.{term_code};
+
+    ghost Value = { List Term };
+
+    ghost coded = { Prim.hlevel (codes, term_code) };
+
+    ghost use Rattle.tree_nodes.specs.Batches.{joined};
+
+    ghost view = { λ r. joined r.batches.items };
+}
+
+impl Records {
+    /// No records.
+    pub fn new(alloc: Global) -> Records
+        ensures { result ≡ [] }
+    {
+        Records {
+            batches: Vec::new(alloc),
+        }
+    }
+
+    /// These records.
+    pub fn of(alloc: Global, records: Vec<FlatTerm>) -> Result<Records, NoMemory>
+        ensures { IfOk result (λ all. all ≡ records.items) }
+    {
+        let mut batches = Vec::new(alloc);
+        batches.push(Batch::new(alloc, records)?)?;
+        Ok(Records { batches })
+    }
+
+    pub(crate) fn of_batches(batches: Vec<Batch>) -> Records
+        ensures { result ≡ joined batches.items }
+    {
+        Records { batches }
+    }
+
+    pub(crate) fn batches(&self) -> &[Batch]
+        ensures { joined result.now ≡ self.now }
+    {
+        &self.batches
+    }
+
+    pub(crate) fn into_batches(self) -> Vec<Batch>
+        ensures { joined result.items ≡ self }
+    {
+        let Records { batches } = self;
+        batches
+    }
+
+    /// Copies of all records.
+    pub fn copied(&self, alloc: Global) -> Result<Vec<FlatTerm>, NoMemory>
+        ensures { IfOk result (λ all. all.items ≡ self.now) }
+    {
+        copied(alloc, &self.batches)
+    }
+}
+
+fn copied(alloc: Global, batches: &[Batch]) -> Result<Vec<FlatTerm>, NoMemory>
+    ensures { IfOk result (λ all. all.items ≡ joined batches.now) }
+{
+    let mut all = Vec::new(alloc);
+    for batch in batches {
+        batch.copy_to(&mut all)?;
+    }
+    Ok(all)
+}
+
+fn copy_behind(records: &[FlatTerm], out: &mut Vec<FlatTerm>) -> Result<(), NoMemory>
+    ensures { OnOk result (out.new.items ≡ out.old.items ++ records.now) }
+{
+    for record in records {
+        out.push(record.copy()?)?;
+    }
+    Ok(())
+}
