@@ -57,11 +57,14 @@ same_continuation f = same_parts (items_same f.items) (named_same f.named) refl
 module _ (r : RegionView) (place : GoalPlace) (at : IsGoalPlace r place) where
   -- a test
   pub holds : AnswersIn r r (holds_if true) place (At place.after)
-  holds name arity = ((λ named.
-      let f = continuation_here named r place.after in
-      let es = entries_of named r in
-      ap (λ o. (unified o (with_next (f.next + 0) f) ++ []) ++ es) nothing_unified
-      ∙ ap (λ g. PlainEntry g ∷ es) (ap (resolve_continuation []) (same_next f) ∙ same_continuation f)), place_in r place at)
+  holds name arity = (
+    (λ named.
+        let f = continuation_here named r place.after in
+        let es = entries_of named r in
+        ap (λ o. (unified o (with_next (f.next + 0) f) ++ []) ++ es) nothing_unified
+        ∙ ap (λ g. PlainEntry g ∷ es) (ap (resolve_continuation []) (same_next f) ∙ same_continuation f)),
+    place_in r place at,
+  )
 
   pub fails : AnswersIn r r (holds_if false) place Failed
   fails name arity = λ named. refl
@@ -85,13 +88,15 @@ module _ (r : RegionView) (place : GoalPlace) (at : IsGoalPlace r place) where
           ∙ same_parts (items_twice r.store.now.bound u.further new.store.now.bound u.binds.bound (map (by_height (heights_of named r)) (items_here r place.after))) (named_twice r.store.now.bound u.further new.store.now.bound u.binds.bound named) refl
 
       pub unified_goes_on : AnswersIn r new (equal (meaning r.store a) (meaning r.store b)) place (At place.after)
-      unified_goes_on name arity = ((λ named.
-          let f = continuation_here named r place.after in
-          let es = entries_of named r in
-          ap (λ o. (unified o (with_next (f.next + 0) f) ++ []) ++ es) u.unified
-          ∙ (ap (λ g. PlainEntry (resolve_continuation u.further g) ∷ es) (same_next f)
-          ∙ sym (ap₂ (λ g xs. PlainEntry g ∷ xs) (follows named) (same_entries named)))),
-          subst (λ n. IsPositionOver new n place.after) (sym (ap (λ (x : RegionView). length x.choices) stays.others)) (stays.position (length r.choices) place.after (place_in r place at)))
+      unified_goes_on name arity = (
+        (λ named.
+            let f = continuation_here named r place.after in
+            let es = entries_of named r in
+            ap (λ o. (unified o (with_next (f.next + 0) f) ++ []) ++ es) u.unified
+            ∙ (ap (λ g. PlainEntry (resolve_continuation u.further g) ∷ es) (same_next f)
+            ∙ sym (ap₂ (λ g xs. PlainEntry g ∷ xs) (follows named) (same_entries named)))),
+        subst (λ n. IsPositionOver new n place.after) (sym (ap (λ (x : RegionView). length x.choices) stays.others)) (stays.position (length r.choices) place.after (place_in r place at)),
+      )
 
 -- an answer as the store showed it
 pub quick_seen : (r : RegionView) (st : StoreView) (b : Builtin) (a : Arguments) (q : QuickAnswer) → st ≡ r.store → ((next : ℕ) → IsQuickAnswer st (answer_of b (argument_terms st a) next) q) → IsQuickAnswer r.store (answer_of b (argument_terms r.store a) r.store.now.next) q

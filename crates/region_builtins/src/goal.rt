@@ -56,14 +56,7 @@ fn raise_error(
     ensures text { OnOk result (region.new.text ≡ region.old.text) }
 {
     let name = region.store().name(form.name).share()?;
-    raise_fault(
-        region,
-        alloc,
-        fault,
-        &name,
-        form.arguments.count,
-        place,
-    )
+    raise_fault(region, alloc, fault, &name, form.arguments.count, place)
 }
 
 /// Takes a goal of a built-in predicate.

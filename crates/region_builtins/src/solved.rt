@@ -52,10 +52,7 @@ fn solution_of(alloc: Global, found: &Found) -> Result<Solution, NoMemory>
 }
 
 /// Equations whose sides are copied in.
-fn equations_of(
-    alloc: Global,
-    found: &[(FlatTerm, FlatTerm)],
-) -> Result<Vec<Equation>, NoMemory>
+fn equations_of(alloc: Global, found: &[(FlatTerm, FlatTerm)]) -> Result<Vec<Equation>, NoMemory>
     ensures { IfOk result (λ equations. equations.items ≡ map copied_equation found.now) }
 {
     let mut equations = Vec::new(alloc);

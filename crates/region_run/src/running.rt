@@ -62,7 +62,10 @@ pub fn run(
                     AfterGoal::Failed => None,
                     AfterGoal::Uncaught(ball) => {
                         let stop = Stop::QueryDone(Some(ball));
-                        return Ok(Ran { taken: taken + 1, stop });
+                        return Ok(Ran {
+                            taken: taken + 1,
+                            stop,
+                        });
                     }
                     AfterGoal::AsksWorld => {
                         let stop = Stop::World(item, place);

@@ -99,7 +99,7 @@ module _ (old r new : RegionView) (solution : SolutionView) (after : Position) (
   pub solution_fails : TriesSolution r new solution after cut None → TakesNext old new None
   solution_fails tried = (
     subst (λ (x : TextView). all_takes_left x.heads new.choices < all_takes_left old.text.heads old.choices) (sym tried.text)
-    (subst (λ cs. all_takes_left r.text.heads cs < all_takes_left old.text.heads old.choices) (sym tried.choices) took.fewer),
+        (subst (λ cs. all_takes_left r.text.heads cs < all_takes_left old.text.heads old.choices) (sym tried.choices) took.fewer),
     λ named. ap without_catches (solution_entries_are None tried named),
   )
 

@@ -3,7 +3,6 @@ use Rattle.std.proofs.lemmas.List.{take_more, take_all, map-append}
 use Rattle.region_split.specs.declared.solution.Equation.{Equation}
 use Rattle.region_split.specs.declared.solution.EquationSide.TheVariants.{Copied}
 use Rattle.region_builtins.specs.CopiedSolutions.{copied_equation}
-
 use Rattle.region_builtins.proofs.solved.equations_of.Goals as goal
 
 pub loop-sides-preserved : goal.loop-sides-preserved
