@@ -40,7 +40,7 @@ use Rattle.region_split.specs.declared.solution.EquationSide.{EquationSide}
 use Rattle.region_control.specs.GoalForms.{argument_terms, AreArgumentsIn}
 use Rattle.region_control.specs.declared.control.GoalPlace.{GoalPlace}
 use Rattle.region_control.specs.declared.forms.GoalForm.{GoalForm}
-use Rattle.region_control.specs.Replies.{Leaves, ComesTo}
+use Rattle.region_control.specs.Replies.{Leaves, LeavesOutcome}
 use Rattle.region_control.specs.declared.replies.AfterGoal.{AfterGoal}
 use Rattle.region_control.specs.declared.replies.AfterGoal.TheVariants.{At, Failed}
 use Rattle.region_control.proofs.FindallEndLemmas.{resolved_stays}
@@ -140,11 +140,11 @@ module _ (r : RegionView) (form : GoalForm) (b : Builtin) (name : List ℕ) (row
       entries : (named : List NamedTerm) → after_reply (Solutions (map solution_meant found)) (continuation_here named r place.after) (entries_of named r) ≡ entries_at named new p ++ entries_of named new
       entries named = ap (λ ss. after_reply (Solutions ss) (continuation_here named r place.after) (entries_of named r)) (sym (all_same found (rows_fixed (map solution_meant found) known))) ∙ solves.entries named
 
-      by_answer : (after : AfterGoal) → Leaves (λ named. after_reply (Solutions (map solution_meant found)) (continuation_here named r place.after) (entries_of named r)) new after → ComesTo r new (Replies (reply_of name form.arguments.count answer)) place after
-      by_answer after k = subst (λ a. ComesTo r new (Replies (reply_of name form.arguments.count a)) place after) (sym known) k
+      by_answer : (after : AfterGoal) → Leaves (λ named. after_reply (Solutions (map solution_meant found)) (continuation_here named r place.after) (entries_of named r)) new after → LeavesOutcome r new (Replies (reply_of name form.arguments.count answer)) place after
+      by_answer after k = subst (λ a. LeavesOutcome r new (Replies (reply_of name form.arguments.count a)) place after) (sym known) k
 
-      pub solved_at : (q : Position) → p ≡ Some q → ComesTo r new (Replies (reply_of name form.arguments.count answer)) place (At q)
+      pub solved_at : (q : Position) → p ≡ Some q → LeavesOutcome r new (Replies (reply_of name form.arguments.count answer)) place (At q)
       solved_at q e = by_answer (At q) ((λ named. entries named ∙ ap (λ o. entries_at named new o ++ entries_of named new) e), subst (IsOptionalPosition new (length new.choices)) e solves.position)
 
-      pub solved_none : p ≡ None → ComesTo r new (Replies (reply_of name form.arguments.count answer)) place Failed
+      pub solved_none : p ≡ None → LeavesOutcome r new (Replies (reply_of name form.arguments.count answer)) place Failed
       solved_none e = by_answer Failed (λ named. entries named ∙ ap (λ o. entries_at named new o ++ entries_of named new) e)

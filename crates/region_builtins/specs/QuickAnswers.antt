@@ -7,7 +7,7 @@ use Rattle.clause_compile.specs.AtomNumbers.{name_at}
 use Rattle.arith_eval.specs.declared.evaluation.EvalRefusal.{EvalRefusal}
 use Rattle.cell_store.specs.StoreView.{StoreView, IsValueIn, meaning, text_in}
 use Rattle.region_split.specs.Regions.{RegionView}
-use Rattle.region_control.specs.Replies.{ComesTo}
+use Rattle.region_control.specs.Replies.{LeavesOutcome}
 use Rattle.region_control.specs.declared.control.GoalPlace.{GoalPlace}
 use Rattle.region_control.specs.declared.forms.GoalForm.{GoalForm}
 use Rattle.region_control.specs.declared.replies.AfterGoal.{AfterGoal}
@@ -28,8 +28,8 @@ IsRefusedBy refusal q = (st : StoreView) (answer : Answer) → IsRefusedAnswer a
 
 -- a goal, of any name, comes to an answer
 abbrev pub AnswersIn : RegionView → RegionView → Answer → GoalPlace → AfterGoal → Type 0
-AnswersIn old new answer g after = (name : List ℕ) (arity : ℕ) → ComesTo old new (Replies (reply_of name arity answer)) g after
+AnswersIn old new answer g after = (name : List ℕ) (arity : ℕ) → LeavesOutcome old new (Replies (reply_of name arity answer)) g after
 
 -- a goal with a form comes to an answer
 abbrev pub AnswersFor : RegionView → RegionView → GoalForm → Answer → GoalPlace → AfterGoal → Type 0
-AnswersFor old new form answer g after = ComesTo old new (Replies (reply_of (name_at (text_in old.store).names form.name) form.arguments.count answer)) g after
+AnswersFor old new form answer g after = LeavesOutcome old new (Replies (reply_of (name_at (text_in old.store).names form.name) form.arguments.count answer)) g after

@@ -9,7 +9,7 @@ ghost use Rattle.std_builtins.specs.Meanings.{answer_of};
 ghost use Rattle.std_builtins.specs.Rows.{IsRowOf};
 ghost use Rattle.region_control.specs.Controls.{IsGoalPlace};
 ghost use Rattle.region_control.specs.GoalForms.{argument_terms, AreArgumentsIn};
-ghost use Rattle.region_control.specs.Replies.{ComesTo};
+ghost use Rattle.region_control.specs.Replies.{LeavesOutcome};
 ghost use Rattle.region_builtins.specs.QuickAnswers.{AnswersIn, AnswersFor};
 
 use crate::quick::{QuickAnswer, quick_answer};

@@ -22,7 +22,7 @@ use Rattle.region_split.specs.declared.frame.FrameItem.{FrameItem}
 use Rattle.region_split.specs.declared.frame.FrameItem.TheVariants.{Goal, Call, Cut, True, Fail, CatchEnd, Collect, Removal}
 use Rattle.region_split.specs.declared.frame.Position.{Position}
 use Rattle.region_split.proofs.ItemLemmas.{position_more}
-use Rattle.region_control.specs.Ahead.{is_goal_item, goal_items, goal_entry, HasGoalFirst, HasResultFirst, HasRemovalFirst, HasNothingFirst, LiesAhead, CollectsResult, EndsFindall}
+use Rattle.region_control.specs.Ahead.{is_goal_item, items_with_goal, goal_entry, HasGoalFirst, HasResultFirst, HasRemovalFirst, HasNothingFirst, LiesAhead, CollectsResult, EndsFindall}
 use Rattle.region_control.specs.declared.ahead.Ahead.{Ahead}
 use Rattle.region_control.specs.declared.ahead.Ahead.TheVariants as Ahead
 use Rattle.region_control.specs.declared.control.GoalPlace.{GoalPlace}
@@ -105,7 +105,7 @@ going_at r start p e i = record { same = λ named. ap (λ o. take_free_steps (en
 pub going_back : (old r : RegionView) (start : Option Position) (now : Resumed) → start ≡ None → HasResumed old r now → TakesFreeSteps old r now → r.text ≡ old.text → IsGoingAhead old r start now
 going_back old r start now e resumes steps text = record { same = λ named. ap (λ o. take_free_steps (entries_at named old o ++ entries_of named old)) e ∙ steps named; there = resumes.there; text = text }
 
-by_item : (named : List NamedTerm) (r : RegionView) (p : Position) (item : FrameItem) (g : GoalPlace) → is_goal_item item ≡ true → without_marks (continuation_here named r p).items ≡ goal_items named r item g → take_free_steps (position_entry named r p ∷ entries_of named r) ≡ goal_entry named r item g ∷ entries_of named r
+by_item : (named : List NamedTerm) (r : RegionView) (p : Position) (item : FrameItem) (g : GoalPlace) → is_goal_item item ≡ true → without_marks (continuation_here named r p).items ≡ items_with_goal named r item g → take_free_steps (position_entry named r p ∷ entries_of named r) ≡ goal_entry named r item g ∷ entries_of named r
 by_item named r p (Goal value) g k e = ap (λ is. plain_free_step is (continuation_here named r p) (entries_of named r) (free_steps_within (length (entries_of named r)))) e
 by_item named r p (Call value) g k e = ap (λ is. plain_free_step is (continuation_here named r p) (entries_of named r) (free_steps_within (length (entries_of named r)))) e
 by_item named r p Cut g k e = ap (λ is. plain_free_step is (continuation_here named r p) (entries_of named r) (free_steps_within (length (entries_of named r)))) e

@@ -39,15 +39,15 @@ pub record IsGoalThere (r : RegionView) (item : FrameItem) (g : GoalPlace) : Typ
   pub place : IsGoalPlace r g
 
 -- a goal before what follows it
-abbrev pub goal_items : List NamedTerm → RegionView → FrameItem → GoalPlace → List (Item ℕ)
-goal_items named r item g = item_here r item g.cut (heights_of named r) ++ (continuation_here named r g.after).items
+abbrev pub items_with_goal : List NamedTerm → RegionView → FrameItem → GoalPlace → List (Item ℕ)
+items_with_goal named r item g = item_here r item g.cut (heights_of named r) ++ (continuation_here named r g.after).items
 
 abbrev pub goal_entry : List NamedTerm → RegionView → FrameItem → GoalPlace → Entry
 goal_entry named r item g = PlainEntry (before (item_here r item g.cut (heights_of named r)) (continuation_here named r g.after))
 
 -- what comes first at a position after the ends of catches
 pub record HasGoalFirst (r : RegionView) (p : Position) (item : FrameItem) (g : GoalPlace) : Type 0 where
-  pub items : (named : List NamedTerm) → without_marks (continuation_here named r p).items ≡ goal_items named r item g
+  pub items : (named : List NamedTerm) → without_marks (continuation_here named r p).items ≡ items_with_goal named r item g
   pub there : IsGoalThere r item g
 
 pub record HasResultFirst (r : RegionView) (p : Position) (value : BindingCell) (over : ℕ) : Type 0 where

@@ -27,7 +27,7 @@ use Rattle.std_builtins.specs.declared.world_goals.WorldGoal.TheVariants.{Write,
 use Rattle.au_model.specs.declared.types.Style.TheVariants.{Plain, Quoted, Canonical}
 use Rattle.region_control.specs.Controls.{Controls as HasControlled, IsGoalPlace}
 use Rattle.region_control.specs.GoalForms.{argument_terms, IsFormOf}
-use Rattle.region_control.specs.Replies.{ComesTo}
+use Rattle.region_control.specs.Replies.{LeavesOutcome}
 use Rattle.region_control.specs.declared.control.GoalPlace.{GoalPlace}
 use Rattle.region_control.specs.declared.forms.GoalForm.{GoalForm}
 use Rattle.region_control.specs.declared.replies.AfterGoal.{AfterGoal}
@@ -74,11 +74,11 @@ call_named (suc (suc (suc (suc (suc (suc (suc (suc zero)))))))) h k = refl
 call_named (suc (suc (suc (suc (suc (suc (suc (suc (suc n))))))))) h k = absurd (omega arith)
 
 -- a construct that was opened at a position
-goes_on_at : (r new : RegionView) (form : ControlForm) (g : GoalPlace) (p : Position) → HasControlled r new form g p → ComesTo r new (Controls form) g (At p)
+goes_on_at : (r new : RegionView) (form : ControlForm) (g : GoalPlace) (p : Position) → HasControlled r new form g p → LeavesOutcome r new (Controls form) g (At p)
 goes_on_at r new form g p c = ((λ named. sym (c.entries named)), c.position)
 
-pub opened : (r new : RegionView) (form other : ControlForm) (g : GoalPlace) (p : Position) → form ≡ other → HasControlled r new form g p → ComesTo r new (Controls other) g (At p)
-opened r new form other g p e c = subst (λ (x : ControlForm). ComesTo r new (Controls x) g (At p)) e (goes_on_at r new form g p c)
+pub opened : (r new : RegionView) (form other : ControlForm) (g : GoalPlace) (p : Position) → form ≡ other → HasControlled r new form g p → LeavesOutcome r new (Controls other) g (At p)
+opened r new form other g p e c = subst (λ (x : ControlForm). LeavesOutcome r new (Controls x) g (At p)) e (goes_on_at r new form g p c)
 
 -- an argument as it was read
 pub argument_read : (seen st : StoreView) (value : BindingCell) (a : Arguments) (i : ℕ) → seen ≡ st → meaning seen value ≡ term_at i (argument_terms seen a) → meaning st value ≡ term_at i (argument_terms st a)
@@ -88,22 +88,22 @@ argument_read seen st value a i e h = subst (λ (x : StoreView). meaning x value
 module _ (r : RegionView) (goal : BindingCell) (form : GoalForm) (is : IsFormOf r.store goal form) where
   pub infers_by : (name : List ℕ) (arity : ℕ) (outcome : Terms → Outcome) → name_of (meaning r.store goal) ≡ name → argument_count (meaning r.store goal) ≡ arity
       → ((clauses : List Clause) (next : ℕ) (g : Term) → by_construct (construct_of control_constructs name arity) clauses g next ≡ outcome (arguments g))
-      → (new : RegionView) (place : GoalPlace) (after : AfterGoal) → ComesTo r new (outcome (argument_terms r.store form.arguments)) place after → Infers r new (meaning r.store goal) place after
+      → (new : RegionView) (place : GoalPlace) (after : AfterGoal) → LeavesOutcome r new (outcome (argument_terms r.store form.arguments)) place after → Infers r new (meaning r.store goal) place after
   infers_by name arity outcome n a row new place after c =
       let t = meaning r.store goal in
-      subst (λ o. ComesTo r new o place after) (sym (construct_taken r.text.clauses t r.store.now.next name arity is.callable n a ∙ (row r.text.clauses r.store.now.next t ∙ ap outcome is.arguments))) c
+      subst (λ o. LeavesOutcome r new o place after) (sym (construct_taken r.text.clauses t r.store.now.next name arity is.callable n a ∙ (row r.text.clauses r.store.now.next t ∙ ap outcome is.arguments))) c
 
   pub so_many : (arity : ℕ) → argument_count (meaning r.store goal) ≡ arity → form.arguments.count ≡ arity
   so_many arity a = sym is.count ∙ a
 
 -- `true`, `fail` and the cut
-pub succeeds : (r : RegionView) (place : GoalPlace) → IsGoalPlace r place → ComesTo r r (Controls (GoesOnWith [])) place (At place.after)
+pub succeeds : (r : RegionView) (place : GoalPlace) → IsGoalPlace r place → LeavesOutcome r r (Controls (GoesOnWith [])) place (At place.after)
 succeeds r place at = ((λ named. refl), place_in r place at)
 
-pub fails : (r : RegionView) (place : GoalPlace) → ComesTo r r (Replies (Solutions [])) place Failed
+pub fails : (r : RegionView) (place : GoalPlace) → LeavesOutcome r r (Replies (Solutions [])) place Failed
 fails r place = λ named. refl
 
-pub cuts : (r new : RegionView) (place : GoalPlace) → HasControlled r new CutToScope place place.after → ComesTo r new (Controls CutToScope) place (At place.after)
+pub cuts : (r new : RegionView) (place : GoalPlace) → HasControlled r new CutToScope place place.after → LeavesOutcome r new (Controls CutToScope) place (At place.after)
 cuts r new place c = goes_on_at r new CutToScope place place.after c
 
 pub fail_named : (name : List ℕ) (clauses : List Clause) (next : ℕ) (g : Term) → (name ≡ codes "fail") ⊎ (name ≡ codes "false") → by_construct (construct_of control_constructs name 0) clauses g next ≡ Replies (Solutions [])
@@ -140,14 +140,14 @@ is_of_world HaltWith name arity h = ap₂ is_world_goal h.0 h.1
 
 module _ (r : RegionView) (t : Term) (place : GoalPlace) (callable : is_callable t ≡ true) where
   pub asks_world : (asked : WorldGoal) → is_some (construct_of control_constructs (name_of t) (argument_count t)) ≡ false → construct_of builtins (name_of t) (argument_count t) ≡ None → IsWorldGoal asked (name_of t) (argument_count t) → Infers r r t place AsksWorld
-  asks_world asked control none is = subst (λ o. ComesTo r r o place AsksWorld) (sym (world_goal r.text.clauses t r.store.now.next callable control none (is_of_world asked (name_of t) (argument_count t) is))) (refl, refl)
+  asks_world asked control none is = subst (λ o. LeavesOutcome r r o place AsksWorld) (sym (world_goal r.text.clauses t r.store.now.next callable control none (is_of_world asked (name_of t) (argument_count t) is))) (refl, refl)
 
   pub asks_procedure : has_row (name_of t) (argument_count t) ≡ false → is_defined r.text.clauses (name_of t) (argument_count t) ≡ false → Infers r r t place AsksWorld
-  asks_procedure row none = subst (λ o. ComesTo r r o place AsksWorld) (sym (other_call r.text.clauses t r.store.now.next callable row none)) (refl, refl)
+  asks_procedure row none = subst (λ o. LeavesOutcome r r o place AsksWorld) (sym (other_call r.text.clauses t r.store.now.next callable row none)) (refl, refl)
 
   module _ (row : has_row (name_of t) (argument_count t) ≡ false) (defined : is_defined r.text.clauses (name_of t) (argument_count t) ≡ true) (new : RegionView) (goal : BindingCell) (is : meaning r.store goal ≡ t) where
-    comes_to : (after : AfterGoal) → ComesTo r new (Replies (Solutions (alternatives_of r.text.clauses (meaning r.store goal) r.store.now.next))) place after → Infers r new t place after
-    comes_to after k = subst (λ o. ComesTo r new o place after) (sym (static_call r.text.clauses t r.store.now.next callable row defined)) (subst (λ u. ComesTo r new (Replies (Solutions (alternatives_of r.text.clauses u r.store.now.next))) place after) is k)
+    comes_to : (after : AfterGoal) → LeavesOutcome r new (Replies (Solutions (alternatives_of r.text.clauses (meaning r.store goal) r.store.now.next))) place after → Infers r new t place after
+    comes_to after k = subst (λ o. LeavesOutcome r new o place after) (sym (static_call r.text.clauses t r.store.now.next callable row defined)) (subst (λ u. LeavesOutcome r new (Replies (Solutions (alternatives_of r.text.clauses u r.store.now.next))) place after) is k)
 
     pub called_at : (p : Position) → Calls r new goal place.after (Some p) → Infers r new t place (At p)
     called_at p calls = comes_to (At p) (calls.entries, calls.position)
@@ -176,7 +176,7 @@ module _ (r : RegionView) (goal : BindingCell) (form : GoalForm) (is : IsFormOf 
       builtin_taken r.text.clauses t r.store.now.next b is.callable here.0 here.1
       ∙ (ap (λ us. Replies (reply_of (name_of t) (argument_count t) (answer_of b us r.store.now.next))) is.arguments
       ∙ ap₂ (λ n m. Replies (reply_of n m (answer_of b (argument_terms r.store form.arguments) r.store.now.next))) is.name is.count) in
-      subst (λ o. ComesTo r new o place after) (sym known) answers
+      subst (λ o. LeavesOutcome r new o place after) (sym known) answers
 
   pub world_infers : (asked : WorldGoal) (place : GoalPlace) → IsKindOf named form.arguments.count (kind.World asked) → Infers r r (meaning r.store goal) place AsksWorld
   world_infers asked place k =
@@ -191,16 +191,16 @@ some_same t u e = cc
 pub item_infers : (r new : RegionView) (i : FrameItem) (place : GoalPlace) (after : AfterGoal) (t : Term) → item_goal r.store i ≡ Some t → Infers r new t place after → InfersItem r new i place after
 item_infers r new i place after t e k = λ goal h. subst (λ u. Infers r new u place after) (some_same t goal (sym e ∙ h)) k
 
-pub call_infers : (r new : RegionView) (value : BindingCell) (place : GoalPlace) (after : AfterGoal) → ComesTo r new (call_outcome 1 (meaning r.store value) end) place after → Infers r new (call_of (meaning r.store value)) place after
+pub call_infers : (r new : RegionView) (value : BindingCell) (place : GoalPlace) (after : AfterGoal) → LeavesOutcome r new (call_outcome 1 (meaning r.store value) end) place after → Infers r new (call_of (meaning r.store value)) place after
 call_infers r new value place after k =
     let t = call_of (meaning r.store value) in
-    subst (λ o. ComesTo r new o place after) (sym (construct_taken r.text.clauses t r.store.now.next (codes "call") 1 refl refl refl ∙ call_taken 1 r.text.clauses r.store.now.next t (omega arith) (omega arith))) k
+    subst (λ o. LeavesOutcome r new o place after) (sym (construct_taken r.text.clauses t r.store.now.next (codes "call") 1 refl refl refl ∙ call_taken 1 r.text.clauses r.store.now.next t (omega arith) (omega arith))) k
 
 pub cut_infers : (r new : RegionView) (place : GoalPlace) → HasControlled r new CutToScope place place.after → Infers r new (AtomTerm (codes "!")) place (At place.after)
-cut_infers r new place c = subst (λ o. ComesTo r new o place (At place.after)) (sym (construct_taken r.text.clauses (AtomTerm (codes "!")) r.store.now.next (codes "!") 0 refl refl refl)) (cuts r new place c)
+cut_infers r new place c = subst (λ o. LeavesOutcome r new o place (At place.after)) (sym (construct_taken r.text.clauses (AtomTerm (codes "!")) r.store.now.next (codes "!") 0 refl refl refl)) (cuts r new place c)
 
 pub true_infers : (r : RegionView) (place : GoalPlace) → IsGoalPlace r place → Infers r r (AtomTerm (codes "true")) place (At place.after)
-true_infers r place at = subst (λ o. ComesTo r r o place (At place.after)) (sym (construct_taken r.text.clauses (AtomTerm (codes "true")) r.store.now.next (codes "true") 0 refl refl refl)) (succeeds r place at)
+true_infers r place at = subst (λ o. LeavesOutcome r r o place (At place.after)) (sym (construct_taken r.text.clauses (AtomTerm (codes "true")) r.store.now.next (codes "true") 0 refl refl refl)) (succeeds r place at)
 
 pub fail_infers : (r : RegionView) (place : GoalPlace) → Infers r r (AtomTerm (codes "fail")) place Failed
-fail_infers r place = subst (λ o. ComesTo r r o place Failed) (sym (construct_taken r.text.clauses (AtomTerm (codes "fail")) r.store.now.next (codes "fail") 0 refl refl refl)) (fails r place)
+fail_infers r place = subst (λ o. LeavesOutcome r r o place Failed) (sym (construct_taken r.text.clauses (AtomTerm (codes "fail")) r.store.now.next (codes "fail") 0 refl refl refl)) (fails r place)

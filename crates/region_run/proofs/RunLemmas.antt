@@ -19,7 +19,7 @@ use Rattle.region_split.specs.declared.frame.FrameItem.TheVariants as item
 use Rattle.region_split.specs.declared.frame.Position.{Position}
 use Rattle.region_control.specs.Ahead.{is_goal_item, goal_entry, ahead_entries, IsGoalThere, LiesAhead}
 use Rattle.region_control.specs.declared.ahead.Ahead.{Ahead}
-use Rattle.region_control.specs.Replies.{Leaves, ComesTo}
+use Rattle.region_control.specs.Replies.{Leaves, LeavesOutcome}
 use Rattle.region_control.specs.declared.ahead.Ahead.TheVariants as ahead
 use Rattle.region_control.specs.declared.control.GoalPlace.{GoalPlace}
 use Rattle.region_control.specs.declared.replies.AfterGoal.{AfterGoal}
@@ -69,7 +69,7 @@ module _ (r r1 : RegionView) (g : GoalPlace) (after : AfterGoal) (taken : IsTake
   abbrev f : Continuation ℕ
   f = continuation_here named r g.after
 
-  by_outcome : (clauses : List Clause) (o : Outcome) → ComesTo r r1 o g after → goal_taken clauses o h f (entries_of named r) st ≡ went_on (after_entries named r1 after) st
+  by_outcome : (clauses : List Clause) (o : Outcome) → LeavesOutcome r r1 o g after → goal_taken clauses o h f (entries_of named r) st ≡ went_on (after_entries named r1 after) st
   by_outcome clauses (Replies (Solutions ss)) c = unhalted_same _ st running ∙ ap (λ es. went_on es st) (left_so _ r1 after c named)
   by_outcome clauses (Replies (Ball b)) c = unhalted_same _ st running ∙ ap (λ es. went_on es st) (left_so _ r1 after c named)
   by_outcome clauses (Replies (HaltNumber k)) c = absurd c
@@ -91,7 +91,7 @@ module _ (r r1 : RegionView) (g : GoalPlace) (after : AfterGoal) (taken : IsTake
   goal_stepped i k x e = step_is r.text.clauses st ∙ (ap (λ es. entry_taken r.text.clauses es st) e ∙ by_item i k x)
 
 -- where the world is asked
-asked_of : (r r1 : RegionView) (o : Outcome) (g : GoalPlace) → ComesTo r r1 o g AsksWorld → (t : Term) × (o ≡ AskWorld t) × (r1 ≡ r)
+asked_of : (r r1 : RegionView) (o : Outcome) (g : GoalPlace) → LeavesOutcome r r1 o g AsksWorld → (t : Term) × (o ≡ AskWorld t) × (r1 ≡ r)
 asked_of r r1 (Replies (Solutions ss)) g c = absurd c
 asked_of r r1 (Replies (Ball b)) g c = absurd c
 asked_of r r1 (Replies (HaltNumber k)) g c = absurd c
@@ -99,7 +99,7 @@ asked_of r r1 (Controls form) g c = absurd c
 asked_of r r1 (AskWorld t) g c = (t, refl, c.1)
 
 -- a position that goes on is there
-outcome_there : (r r1 : RegionView) (o : Outcome) (g : GoalPlace) (p : Position) → ComesTo r r1 o g (At p) → IsPositionIn r1 p
+outcome_there : (r r1 : RegionView) (o : Outcome) (g : GoalPlace) (p : Position) → LeavesOutcome r r1 o g (At p) → IsPositionIn r1 p
 outcome_there r r1 (Replies (Solutions ss)) g p c = c.1
 outcome_there r r1 (Replies (Ball b)) g p c = c.1
 outcome_there r r1 (Replies (HaltNumber k)) g p c = absurd c

@@ -7,7 +7,7 @@ use Rattle.cell_store.specs.StoreView.{StoreView, meaning}
 use Rattle.region_split.specs.Regions.{RegionView}
 use Rattle.region_split.specs.declared.frame.FrameItem.{FrameItem}
 use Rattle.region_split.specs.declared.frame.FrameItem.TheVariants.{Goal, Call, Cut, True, Fail, CatchEnd, Collect, Removal}
-use Rattle.region_control.specs.Replies.{ComesTo}
+use Rattle.region_control.specs.Replies.{LeavesOutcome}
 use Rattle.region_control.specs.declared.control.GoalPlace.{GoalPlace}
 use Rattle.region_control.specs.declared.replies.AfterGoal.{AfterGoal}
 
@@ -24,7 +24,7 @@ item_goal st (Removal number) = None
 
 -- a goal was taken: what takes its place is what it comes to
 abbrev pub Infers : RegionView → RegionView → Term → GoalPlace → AfterGoal → Type 0
-Infers old new goal g after = ComesTo old new (outcome_of old.text.clauses goal old.store.now.next) g after
+Infers old new goal g after = LeavesOutcome old new (outcome_of old.text.clauses goal old.store.now.next) g after
 
 -- the same of the goal that an item is
 abbrev pub InfersItem : RegionView → RegionView → FrameItem → GoalPlace → AfterGoal → Type 0

@@ -8,7 +8,7 @@ ghost use Rattle.cell_store.specs.StoreView.{IsValueIn, meaning};
 ghost use Rattle.region_control.specs.Controls.{IsGoalPlace};
 ghost use Rattle.region_control.specs.Ahead.{IsGoalThere};
 ghost use Rattle.region_control.specs.GoalForms.{IsFormOf};
-ghost use Rattle.region_control.specs.Replies.{ComesTo};
+ghost use Rattle.region_control.specs.Replies.{LeavesOutcome};
 ghost use Rattle.region_run.specs.Inferences.{Infers, InfersItem};
 
 use crate::constructs::construct_taken;
@@ -83,7 +83,7 @@ fn called(
 ) -> Result<AfterGoal, NoMemory>
     requires goal { IsValueIn region.old.store goal }
     requires place { IsGoalPlace region.old place }
-    ensures comes { IfOk result (ComesTo region.old region.new (call_outcome 1 (meaning region.old.store goal) end) place) }
+    ensures comes { IfOk result (LeavesOutcome region.old region.new (call_outcome 1 (meaning region.old.store goal) end) place) }
     ensures text { OnOk result (region.new.text ≡ region.old.text) }
 {
     let none = Arguments {

@@ -6,7 +6,7 @@ ghost use Rattle.run_model.specs.Goals.Control.{either_form, fail_goals, true_go
 ghost use Rattle.run_model.specs.Goals.Outcomes.{Controls, TestOf, CatchOf, FindallOf};
 ghost use Rattle.region_control.specs.Controls.{IsGoalPlace};
 ghost use Rattle.region_control.specs.GoalForms.{argument_terms, AreArgumentsIn};
-ghost use Rattle.region_control.specs.Replies.{ComesTo};
+ghost use Rattle.region_control.specs.Replies.{LeavesOutcome};
 
 use au_term::NoMemory;
 use cell_store::arguments::Arguments;
@@ -26,7 +26,7 @@ pub(crate) fn either_taken(
     requires there { AreArgumentsIn region.old.store arguments }
     requires count { arguments.count ≡ 2 }
     requires place { IsGoalPlace region.old place }
-    ensures comes { IfOk result (ComesTo region.old region.new
+    ensures comes { IfOk result (LeavesOutcome region.old region.new
         (Controls (either_form (term_at 0 (argument_terms region.old.store arguments)) (term_at 1 (argument_terms region.old.store arguments)))) place) }
     ensures text { OnOk result (region.new.text ≡ region.old.text) }
 {
@@ -46,7 +46,7 @@ pub(crate) fn then_taken(
     requires there { AreArgumentsIn region.old.store arguments }
     requires count { arguments.count ≡ 2 }
     requires place { IsGoalPlace region.old place }
-    ensures comes { IfOk result (ComesTo region.old region.new
+    ensures comes { IfOk result (LeavesOutcome region.old region.new
         (Controls (TestOf (goals_of (term_at 0 (argument_terms region.old.store arguments))) (goals_of (term_at 1 (argument_terms region.old.store arguments))) fail_goals)) place) }
     ensures text { OnOk result (region.new.text ≡ region.old.text) }
 {
@@ -66,7 +66,7 @@ pub(crate) fn not_taken(
     requires there { AreArgumentsIn region.old.store arguments }
     requires count { arguments.count ≡ 1 }
     requires place { IsGoalPlace region.old place }
-    ensures comes { IfOk result (ComesTo region.old region.new
+    ensures comes { IfOk result (LeavesOutcome region.old region.new
         (Controls (TestOf (call_of (term_at 0 (argument_terms region.old.store arguments)) ∷ []) fail_goals true_goals)) place) }
     ensures text { OnOk result (region.new.text ≡ region.old.text) }
 {
@@ -85,7 +85,7 @@ pub(crate) fn once_taken(
     requires there { AreArgumentsIn region.old.store arguments }
     requires count { arguments.count ≡ 1 }
     requires place { IsGoalPlace region.old place }
-    ensures comes { IfOk result (ComesTo region.old region.new
+    ensures comes { IfOk result (LeavesOutcome region.old region.new
         (Controls (TestOf (call_of (term_at 0 (argument_terms region.old.store arguments)) ∷ []) true_goals fail_goals)) place) }
     ensures text { OnOk result (region.new.text ≡ region.old.text) }
 {
@@ -103,7 +103,7 @@ pub(crate) fn catch_taken(
     requires there { AreArgumentsIn region.old.store arguments }
     requires count { arguments.count ≡ 3 }
     requires place { IsGoalPlace region.old place }
-    ensures comes { IfOk result (ComesTo region.old region.new
+    ensures comes { IfOk result (LeavesOutcome region.old region.new
         (Controls (CatchOf (term_at 0 (argument_terms region.old.store arguments)) (term_at 1 (argument_terms region.old.store arguments)) (term_at 2 (argument_terms region.old.store arguments)))) place) }
     ensures text { OnOk result (region.new.text ≡ region.old.text) }
 {
@@ -124,7 +124,7 @@ pub(crate) fn findall_taken(
     requires there { AreArgumentsIn region.old.store arguments }
     requires count { arguments.count ≡ 3 }
     requires place { IsGoalPlace region.old place }
-    ensures comes { IfOk result (ComesTo region.old region.new
+    ensures comes { IfOk result (LeavesOutcome region.old region.new
         (Controls (FindallOf (term_at 0 (argument_terms region.old.store arguments)) (term_at 1 (argument_terms region.old.store arguments)) (term_at 2 (argument_terms region.old.store arguments)))) place) }
     ensures text { OnOk result (region.new.text ≡ region.old.text) }
 {

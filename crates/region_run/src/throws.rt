@@ -3,7 +3,7 @@ ghost use Rattle.std.specs.Prelude.{◌≡◌, IfOk, OnOk};
 ghost use Rattle.run_model.specs.Goals.Control.{throw_outcome};
 ghost use Rattle.cell_store.specs.StoreView.{IsValueIn, meaning};
 ghost use Rattle.region_control.specs.Controls.{IsGoalPlace};
-ghost use Rattle.region_control.specs.Replies.{ComesTo};
+ghost use Rattle.region_control.specs.Replies.{LeavesOutcome};
 
 use au_model::Fault;
 use au_term::{Atom, NoMemory};
@@ -22,7 +22,7 @@ pub(crate) fn throw_value(
 ) -> Result<AfterGoal, NoMemory>
     requires ball { IsValueIn region.old.store ball }
     requires place { IsGoalPlace region.old place }
-    ensures comes { IfOk result (ComesTo region.old region.new (throw_outcome (meaning region.old.store ball)) place) }
+    ensures comes { IfOk result (LeavesOutcome region.old region.new (throw_outcome (meaning region.old.store ball)) place) }
     ensures text { OnOk result (region.new.text ≡ region.old.text) }
 {
     if is_variable(region.store(), ball) {

@@ -8,7 +8,7 @@ use Rattle.au_model.proofs.EachLemmas.{each-more}
 use Rattle.run_model.specs.Goals.Outcomes.{Solution}
 use Rattle.clause_compile.specs.Places.{CodeView, Keeps}
 use Rattle.cell_store.proofs.SubstitutionLemmas.{value_kept}
-use Rattle.region_split.specs.Solutions.{SolutionView, side_term, equation_meant, solution_meant, IsSideAt, IsEquationAt, IsSolutionAt}
+use Rattle.region_split.specs.Solutions.{SolutionView, side_term, equation_meant, solution_at, IsSideAt, IsEquationAt, IsSolutionAt}
 use Rattle.region_split.specs.declared.solution.EquationSide.{EquationSide}
 use Rattle.region_split.specs.declared.solution.EquationSide.TheVariants.{Value, Copied}
 use Rattle.region_split.specs.declared.solution.Equation.{Equation}
@@ -32,7 +32,7 @@ module _ (old new : CodeView) (next : ℕ) (keeps : Keeps old new) where
   same_equations s more (e ∷ es) v =
       ap₂ (λ (p : Term × Term) ps. p ∷ ps) (ap₂ (λ t u. (resolve s t, resolve s u)) (same_side more e.left v.0.0) (same_side more e.right v.0.1)) (same_equations s more es v.1)
 
-  pub solutions_same : (s : Substitution) (left : List SolutionView) → Each (IsSolutionAt old next) left → map (solution_meant new s) left ≡ map (solution_meant old s) left
+  pub solutions_same : (s : Substitution) (left : List SolutionView) → Each (IsSolutionAt old next) left → map (solution_at new s) left ≡ map (solution_at old s) left
   solutions_same s [] v = refl
   solutions_same s (x ∷ left) v =
       ap₂ (λ (es : Equations) xs. (let y : Solution = record { equations = es; goals = []; removes = x.removes; variables = x.variables } in y) ∷ xs) (same_equations s (next + x.variables) x.equations v.0) (solutions_same s left v.1)

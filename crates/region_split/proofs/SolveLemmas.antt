@@ -6,7 +6,7 @@ use Rattle.au_model.specs.Terms.Unifier.{unifier}
 use Rattle.run_model.specs.Machine.Items.{Item, Continuation, RemovalItem, before, removing, with_next, resolve_continuation, resolve_named, resolve_item}
 use Rattle.run_model.specs.Machine.Entries.{Entry, PlainEntry, unified, solution_entry, solution_entries}
 use Rattle.cell_store.specs.StoreView.{StoreView, text_in, with_numbers, with_mark}
-use Rattle.region_split.specs.Solutions.{SolutionView, solution_meant}
+use Rattle.region_split.specs.Solutions.{SolutionView, solution_at}
 use Rattle.region_split.specs.SolutionTrials.{AreAllSolved, equations_here, TriesSolution, Solves}
 use Rattle.region_split.specs.Frames.{item_in}
 use Rattle.region_split.specs.ChoicePoints.{Standing, by_height, alternative_entries, continuation_at}
@@ -136,7 +136,7 @@ module _ (r : RegionView) (after : Position) where
 
         same_entry : (named : List NamedTerm) → solved_entries named r first after ≡ solved_entries named r1 first after
         same_entry named =
-            ap₂ (λ f (x : StoreView). solution_entry 0 f (solution_meant (text_in x) x.now.bound first)) (sym (follows named)) (sym store)
+            ap₂ (λ f (x : StoreView). solution_entry 0 f (solution_at (text_in x) x.now.bound first)) (sym (follows named)) (sym store)
 
         other_entries : (named : List NamedTerm) → entries_of named r1 ≡ others named ++ entries_of named r
         other_entries named =

@@ -25,6 +25,7 @@ use Rattle.region_split.specs.declared.solution.EquationSide.TheVariants.{Value,
 use Rattle.region_split.proofs.StoreLemmas.{stays_same}
 use Rattle.region_split.proofs.TrialLemmas.{resolved_twice}
 
+-- a store that went on, and went on again
 pub stays_twice : (a b c : RegionView) → StaysStanding a b → StaysStanding b c → StaysStanding a c
 stays_twice a b c p q = record {
   stands = λ named. q.stands named ∙ p.stands named;

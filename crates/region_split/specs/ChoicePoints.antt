@@ -16,7 +16,7 @@ use Rattle.clause_index.specs.declared.key.HeadKey.{HeadKey}
 use Rattle.region_split.specs.Texts.{TextView}
 use Rattle.region_split.specs.Candidates.{entries_of_clauses}
 use Rattle.au_model.specs.Terms.Each.{Each}
-use Rattle.region_split.specs.Solutions.{SolutionView, solution_meant, IsSolutionAt}
+use Rattle.region_split.specs.Solutions.{SolutionView, solution_at, IsSolutionAt}
 use Rattle.region_split.specs.ResultLists.{with_copy, AreResultsFrom}
 use Rattle.region_split.specs.declared.choice.Alternatives.{Alternatives}
 use Rattle.region_split.specs.declared.choice.Alternatives.TheVariants.{Clauses, Solutions, Elsewhere, Catch, Findall, QueryEnd}
@@ -65,7 +65,7 @@ continuation_at s heights m p =
 -- and for the end of a query
 abbrev pub alternative_entries : RegionSetting → Moment → ℕ → Continuation ℕ → Alternatives → List Entry
 alternative_entries s m height f (Clauses goal clause left) = entries_of_clauses s.text (meant_at s m goal) m.next height f (clause ∷ numbers_left s.text.heads left)
-alternative_entries s m height f (Solutions left) = solution_entries height f (map (solution_meant (code_at s m) m.bound) left)
+alternative_entries s m height f (Solutions left) = solution_entries height f (map (solution_at (code_at s m) m.bound) left)
 alternative_entries s m height f Elsewhere = PlainEntry f ∷ []
 alternative_entries s m height f (Catch catcher recovery) = CatchEntry (meant_at s m catcher) (meant_at s m recovery) f ∷ []
 alternative_entries s m height f (Findall list results) = FindallEntry results.terms (meant_at s m list) (with_next results.next f) ∷ []

@@ -25,8 +25,8 @@ side_term code (Copied term) = term
 abbrev pub equation_meant : CodeView → Substitution → Equation → Term × Term
 equation_meant code s e = (resolve s (side_term code e.left), resolve s (side_term code e.right))
 
-abbrev pub solution_meant : CodeView → Substitution → SolutionView → Solution
-solution_meant code s solution = record { equations = map (equation_meant code s) solution.equations; goals = []; removes = solution.removes; variables = solution.variables }
+abbrev pub solution_at : CodeView → Substitution → SolutionView → Solution
+solution_at code s solution = record { equations = map (equation_meant code s) solution.equations; goals = []; removes = solution.removes; variables = solution.variables }
 
 -- values are there, and terms have no variables but those and the new ones
 abbrev pub IsSideAt : CodeView → ℕ → ℕ → EquationSide → Type 0

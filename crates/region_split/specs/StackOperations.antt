@@ -8,7 +8,7 @@ use Rattle.run_model.specs.Machine.Items.{Item, before, resolve_item}
 use Rattle.run_model.specs.Machine.Entries.{Entry, lowest, solution_entry, collected}
 use Rattle.cell_store.specs.StoreView.{Moment, text_in, with_mark, with_marks, new_store, IsValueIn, meaning}
 use Rattle.region_split.specs.Texts.{TextView}
-use Rattle.region_split.specs.Solutions.{SolutionView, solution_meant, IsSolutionAt}
+use Rattle.region_split.specs.Solutions.{SolutionView, solution_at, IsSolutionAt}
 use Rattle.region_split.specs.Frames.{own_body_left, scoped_item}
 use Rattle.region_split.specs.ChoicePoints.{height_of_cut, by_height, HaveNoClause, HaveNoSolution, IsFindallAt, all_takes_left}
 use Rattle.region_split.specs.Regions.{RegionView, left_here, continuation_here, standing, entries_of, heights_of, position_entry, entries_on, IsPositionIn, IsPositionOver, AreAlternativesIn}
@@ -128,7 +128,7 @@ IsSolutionHere r solution = IsSolutionAt (text_in r.store) r.store.now.next solu
 
 -- what it stands for now
 abbrev pub solution_here : RegionView → SolutionView → Solution
-solution_here r solution = solution_meant (text_in r.store) r.store.now.bound solution
+solution_here r solution = solution_at (text_in r.store) r.store.now.bound solution
 
 -- the entry of a solution before what follows at a position: it has no goals, so no height matters
 abbrev pub solved_entries : List NamedTerm → RegionView → SolutionView → Position → List Entry

@@ -8,7 +8,7 @@ use Rattle.run_model.specs.Goals.Outcomes.{Replies, Solutions, Controls, GoesOnW
 use Rattle.run_model.specs.Programs.Bodies.{goals_of, call_of}
 use Rattle.cell_store.specs.StoreView.{StoreView, meaning}
 use Rattle.region_control.specs.GoalForms.{argument_terms}
-use Rattle.region_control.specs.Replies.{ComesTo}
+use Rattle.region_control.specs.Replies.{LeavesOutcome}
 use Rattle.region_control.specs.declared.replies.AfterGoal.TheVariants.{At, Failed}
 use Rattle.std_builtins.specs.Controls.{IsControl}
 use Rattle.region_run.proofs.InferenceLemmas.{infers_by, so_many, succeeds, fails, cuts, fail_named, call_taken, argument_read}
@@ -127,7 +127,7 @@ returns-in-Throw-clause-infers c =
     let named = subst (λ k. IsControl k (name_of t) (argument_count t)) c.in-Throw.is c.requires.control in
     let thrown = argument_read c.store.result.now r.store c.argument-ball.result c.args.form.arguments 0 c.store.ensures.store c.argument-ball.ensures.term in
     IfOk-weaker c.throw_value.result _ _ (λ after k. infers_by r c.args.goal c.args.form c.requires.form (codes "throw") 1 (λ ts. throw_outcome (term_at 0 ts)) named.0 named.1 (λ clauses next g. refl) c.throw_value.new.region c.args.place after
-    (subst (λ u. ComesTo r c.throw_value.new.region (throw_outcome u) c.args.place after) thrown k)) c.throw_value.ensures.comes
+    (subst (λ u. LeavesOutcome r c.throw_value.new.region (throw_outcome u) c.args.place after) thrown k)) c.throw_value.ensures.comes
 
 pub call_arguments-requires-clause-arity : goal.call_arguments-requires-clause-arity
 call_arguments-requires-clause-arity c =

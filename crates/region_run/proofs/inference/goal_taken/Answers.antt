@@ -5,7 +5,7 @@ use Rattle.clause_compile.specs.AtomNumbers.{name_at}
 use Rattle.cell_store.specs.StoreView.{StoreView, meaning, text_in}
 use Rattle.goal_kinds.specs.Kinds.{IsKindOf}
 use Rattle.region_control.specs.GoalForms.{IsFormOf}
-use Rattle.region_control.specs.Replies.{ComesTo}
+use Rattle.region_control.specs.Replies.{LeavesOutcome}
 use Rattle.region_run.proofs.InferenceLemmas.{uncallable, builtin_infers, world_infers}
 use Rattle.region_run.proofs.inference.goal_taken.Goals as goal
 
@@ -13,7 +13,7 @@ pub returns-in_default-clause-infers : goal.returns-in_default-clause-infers
 returns-in_default-clause-infers c =
     let r = c.args.region.now in
     let no : is_callable (meaning r.store c.args.goal) ≡ false = subst (λ (st : StoreView). is_callable (meaning st c.args.goal) ≡ false) c.store.ensures.store c.in_default.ensures in
-    IfOk-weaker c.called.result _ _ (λ after k. subst (λ o. ComesTo r c.called.new.region o c.args.place after) (sym (uncallable r.text.clauses (meaning r.store c.args.goal) r.store.now.next no)) k) c.called.ensures.comes
+    IfOk-weaker c.called.result _ _ (λ after k. subst (λ o. LeavesOutcome r c.called.new.region o c.args.place after) (sym (uncallable r.text.clauses (meaning r.store c.args.goal) r.store.now.next no)) k) c.called.ensures.comes
 
 pub returns-in-Builtin-clause-infers : goal.returns-in-Builtin-clause-infers
 returns-in-Builtin-clause-infers c =
