@@ -55,6 +55,13 @@ impl GoalKinds {
         Ok(GoalKinds { names, known })
     }
 
+    /// How many names there are.
+    pub fn names(&self) -> usize
+        ensures { result ≡ length self.now }
+    {
+        self.names.len()
+    }
+
     /// What goals with this name, by its number, and number of arguments are.
     pub fn kind(&self, name: u32, arity: u32) -> GoalKind
         requires { name < length self.now }

@@ -20,6 +20,7 @@ use Rattle.binding_array.specs.declared.cell.BindingCell.{BindingCell}
 use Rattle.cell_store.specs.Arguments.{sizes, arguments_from, HasFunctor, resolved_terms}
 use Rattle.cell_store.specs.StoreView.{StoreView, IsValueIn, meaning, substitution, text_in}
 use Rattle.cell_store.proofs.WalkLemmas.{opened_term, turned}
+use Rattle.region_control.proofs.GoalLemmas.{last_there}
 use Rattle.meta_call.specs.OwnBodies.{IsOwnBody, IsJunctionOf, pending_meanings, pending_bodies, KeepsPart}
 
 -- the parts of a body that are its own are those of a junction
@@ -131,10 +132,6 @@ kept_begun st value built pending b p v =
       all = joined-start (bodies_cells (more (meaning st value) end)) ∙ joined-end (body_of (meaning st value));
       there = (v, tt);
     }))
-
-last_there : (st : StoreView) (rest : List BindingCell) (value : BindingCell) → Each (IsValueIn st) (rest ++ value ∷ []) → Each (IsValueIn st) rest × IsValueIn st value
-last_there st [] value k = (tt, k.0)
-last_there st (v ∷ rest) value k = let more = last_there st rest value k.1 in ((k.0, more.0), more.1)
 
 -- the last of what is pending is taken
 module _ (st : StoreView) (t : Term) (built : List Cell) (pending rest : List BindingCell) (value : BindingCell) (popped : pending ≡ rest ++ value ∷ []) (k : AreKept st t built pending) where

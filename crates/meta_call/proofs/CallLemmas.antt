@@ -30,14 +30,15 @@ use Rattle.region_split.specs.ChoicePoints.{Standing, height_of_cut}
 use Rattle.region_split.specs.Regions.{RegionView, entries_of, heights_of, continuation_here}
 use Rattle.region_split.specs.declared.frame.Position.{Position}
 use Rattle.region_control.specs.Controls.{IsGoalPlace, Controls as TakesPlace}
-use Rattle.region_control.specs.Replies.{Leaves, ComesTo}
+use Rattle.region_control.specs.Replies.{Leaves, LeavesOutcome}
 use Rattle.region_control.specs.declared.control.GoalPlace.{GoalPlace}
 use Rattle.region_control.specs.declared.replies.AfterGoal.{AfterGoal}
 use Rattle.region_control.specs.declared.replies.AfterGoal.TheVariants.{At, Failed, Uncaught, AsksWorld}
 use Rattle.region_control.proofs.ControlLemmas.{place_in}
 use Rattle.region_control.specs.GoalForms.{argument_terms, AreArgumentsIn}
+use Rattle.region_control.proofs.FindallEndLemmas.{meaning_below, resolved_stays}
 use Rattle.meta_call.specs.CalledTerms.{further_terms}
-use Rattle.meta_call.specs.Calls.{CanTake, IsRefused, MakesTerms}
+use Rattle.meta_call.specs.Calls.{CanTake, IsCallRefused, MakesTerms}
 use Rattle.meta_call.proofs.CalledTermLemmas.{count_from, count-append}
 
 -- a term with further arguments, resolved
@@ -130,7 +131,7 @@ module _ (old mid : RegionView) (g : GoalPlace) (m : MakesTerms old mid) (i : Is
     after = m.stays.position g.cut g.after i.after;
   }
 
-  pub comes_after : (new : RegionView) (arity : ℕ) (t : Term) (goals : Option (List Term)) (after : AfterGoal) → ComesTo mid new (called arity t goals) g after → ComesTo old new (called arity t goals) g after
+  pub comes_after : (new : RegionView) (arity : ℕ) (t : Term) (goals : Option (List Term)) (after : AfterGoal) → LeavesOutcome mid new (called arity t goals) g after → LeavesOutcome old new (called arity t goals) g after
   comes_after new arity t (Some gs) after h =
       leaves_same (λ named. after_control (GoesOnWith gs) (height_of_cut (heights_of named mid) g.cut) (continuation_here named mid g.after) (entries_of named mid)) (λ named. after_control (GoesOnWith gs) (height_of_cut (heights_of named old) g.cut) (continuation_here named old g.after) (entries_of named old)) new after
       (λ named. ap₂ (λ k es. after_control (GoesOnWith gs) (height_of_cut (heights_of named old) g.cut) k es) (sym (same_after named)) (sym (same_entries named)) ∙ ap (λ k. after_control (GoesOnWith gs) k (continuation_here named mid g.after) (entries_of named mid)) (sym (same_height named))) h
@@ -139,12 +140,12 @@ module _ (old mid : RegionView) (g : GoalPlace) (m : MakesTerms old mid) (i : Is
       (λ named. ap₂ (after_reply (Ball (error_term (type_error (codes "callable") t) (codes "call") arity))) (sym (same_after named)) (sym (same_entries named))) h
 
 -- a body that is called
-pub body_called : (old new : RegionView) (g : GoalPlace) (p : Position) (arity : ℕ) (t u : Term) → body_of t ≡ Some u → TakesPlace old new (GoesOnWith (goals_of u)) g p → ComesTo old new (called arity t (called_goals t)) g (At p)
+pub body_called : (old new : RegionView) (g : GoalPlace) (p : Position) (arity : ℕ) (t u : Term) → body_of t ≡ Some u → TakesPlace old new (GoesOnWith (goals_of u)) g p → LeavesOutcome old new (called arity t (called_goals t)) g (At p)
 body_called old new g p arity t u b k =
-    subst (λ o. ComesTo old new (called arity t (option_map goals_of o)) g (At p)) (sym b) ((λ named. sym (k.entries named)), k.position)
+    subst (λ o. LeavesOutcome old new (called arity t (option_map goals_of o)) g (At p)) (sym b) ((λ named. sym (k.entries named)), k.position)
 
-pub none_called : (old new : RegionView) (g : GoalPlace) (arity : ℕ) (t : Term) (after : AfterGoal) → body_of t ≡ None → ComesTo old new (raises (type_error (codes "callable") t) (codes "call") arity) g after → ComesTo old new (called arity t (called_goals t)) g after
-none_called old new g arity t after b h = subst (λ o. ComesTo old new (called arity t (option_map goals_of o)) g after) (sym b) h
+pub none_called : (old new : RegionView) (g : GoalPlace) (arity : ℕ) (t : Term) (after : AfterGoal) → body_of t ≡ None → LeavesOutcome old new (raises (type_error (codes "callable") t) (codes "call") arity) g after → LeavesOutcome old new (called arity t (called_goals t)) g after
+none_called old new g arity t after b h = subst (λ o. LeavesOutcome old new (called arity t (option_map goals_of o)) g after) (sym b) h
 
 -- the body of a term that no binding changes is not changed either, and has no other variables
 abbrev KeptBelow : ℕ → Option Term → Type 0
@@ -189,11 +190,8 @@ body_stays f (Compound g (more x (more y end))) h =
 body_stays f (Compound g (more x (more y (more z ts)))) h = h
 
 -- what a value stands for
-pub meaning_below : (st : StoreView) (value : BindingCell) → IsValidStore st → IsValueIn st value → var_bound (meaning st value) ≤ st.now.next
-meaning_below st value k v = apply-below (value_of (substitution st)) st.now.next st.now.next k.below (value_term st value) (term_below (text_in st) st.now.next value v)
-
 meaning_stays : (st : StoreView) (value : BindingCell) → IsValidStore st → resolve (substitution st) (meaning st value) ≡ meaning st value
-meaning_stays st value k = let s = substitution st in apply-apply (value_of s) (value_of s) (value_term st value) ∙ apply-same (λ n. apply (value_of s) (value_of s n)) (value_of s) k.final (value_term st value)
+meaning_stays st value k = resolved_stays st (value_term st value) k
 
 pub kept_below : (st : StoreView) (value : BindingCell) (u : Term) → IsValidStore st → IsValueIn st value → Some u ≡ body_of (meaning st value) → var_bound u ≤ st.now.next
 kept_below st value u k v e = subst (KeptBelow st.now.next) (sym e) (body_below st.now.next (meaning st value) (meaning_below st value k v))
@@ -218,7 +216,7 @@ pub goal_means : (st new : StoreView) (callee goal : BindingCell) (further : Arg
     → meaning new goal ≡ with_arguments (meaning st callee) (argument_terms st further)
 goal_means st new callee goal further term h s t e = ap₂ resolve s (t ∙ e) ∙ added_resolved (value_of (substitution st)) (value_term st callee) (further_terms st further) h
 
-pub call_refused : (st : StoreView) (callee reached : BindingCell) (further : Arguments) (fault : Fault) → meaning st reached ≡ meaning st callee → IsRefused st reached further.count fault
+pub call_refused : (st : StoreView) (callee reached : BindingCell) (further : Arguments) (fault : Fault) → meaning st reached ≡ meaning st callee → IsCallRefused st reached further.count fault
     → call_outcome (further.count + 1) (meaning st callee) (argument_terms st further) ≡ raises (error_term_of fault) (codes "call") (further.count + 1)
 call_refused st callee reached further fault same r =
     ap (λ t. call_outcome (further.count + 1) t (argument_terms st further)) (sym same) ∙ r (argument_terms st further) (how_many (substitution st) (text_in st) further.base further.count further.at)

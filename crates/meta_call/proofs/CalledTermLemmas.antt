@@ -14,7 +14,7 @@ use Rattle.cell_store.specs.Arguments.{arguments_in, arguments_from, pending_ter
 use Rattle.cell_store.specs.StoreView.{StoreView, text_in, value_term}
 use Rattle.cell_store.specs.declared.arguments.Arguments.{Arguments}
 use Rattle.region_control.specs.GoalForms.{AreArgumentsIn}
-use Rattle.meta_call.specs.CalledTerms.{further_terms, HasBegun, HasParts, PutsArguments}
+use Rattle.meta_call.specs.CalledTerms.{further_terms, HasBegun, HasNameAndArguments, PutsArguments}
 
 pub count_from : (code : CodeView) (base n at : ℕ) → count (terms_from (arguments_from code base n at)) ≡ n
 count_from code base zero at = refl
@@ -24,7 +24,7 @@ atom_count : (a : List ℕ) (us : Terms) → argument_count (with_arguments (Ato
 atom_count a end = refl
 atom_count a (more u us) = refl
 
-pub own_count : (st : StoreView) (callee : BindingCell) (name : ℕ) (own : Arguments) → HasParts st callee name own → argument_count (value_term st callee) ≡ own.count
+pub own_count : (st : StoreView) (callee : BindingCell) (name : ℕ) (own : Arguments) → HasNameAndArguments st callee name own → argument_count (value_term st callee) ≡ own.count
 own_count st callee name own h = ap argument_count h.term ∙ (atom_count _ (terms_from (arguments_in (text_in st) own)) ∙ count_from (text_in st) own.base own.count own.at)
 
 listed-append : (ts us : List Term) → terms_from (ts ++ us) ≡ append_terms (terms_from ts) (terms_from us)
@@ -45,7 +45,7 @@ added_twice a us end lt = absurd (omega arith)
 added_twice a end (more v vs) lt = refl
 added_twice a (more u us) (more v vs) lt = refl
 
-pub has_begun : (st : StoreView) (callee : BindingCell) (further own : Arguments) (name : ℕ) (built : List Cell) (first second third : List Arguments) → HasParts st callee name own → AreArgumentsIn st further → 0 < further.count → first ≡ [] → PutsArguments further (reverse first) (reverse second) → PutsArguments own (reverse second) (reverse third)
+pub has_begun : (st : StoreView) (callee : BindingCell) (further own : Arguments) (name : ℕ) (built : List Cell) (first second third : List Arguments) → HasNameAndArguments st callee name own → AreArgumentsIn st further → 0 < further.count → first ≡ [] → PutsArguments further (reverse first) (reverse second) → PutsArguments own (reverse second) (reverse third)
     → built ≡ Functor (name_at (text_in st).names name) (own.count + further.count) ∷ [] → HasBegun st callee further built third
 has_begun st callee further own name built first second third h f some none p q b =
     let code = text_in st in

@@ -27,7 +27,7 @@ abbrev pub IsFirstTaken : StoreView → BindingCell → List Cell → List Cell 
 IsFirstTaken st c before after old new = GoesOnWriting [] (text_in st) st.now.next (value_term st c) before after old new
 
 -- an atom, or a compound: the atom of its name with its arguments
-pub record HasParts (st : StoreView) (callee : BindingCell) (name : ℕ) (own : Arguments) : Type 0 where
+pub record HasNameAndArguments (st : StoreView) (callee : BindingCell) (name : ℕ) (own : Arguments) : Type 0 where
   pub named : name < length (text_in st).names
   pub term : value_term st callee ≡ with_arguments (AtomTerm (name_at (text_in st).names name)) (terms_from (arguments_in (text_in st) own))
   pub there : AreArguments (text_in st) st.now.next own.base own.count own.at

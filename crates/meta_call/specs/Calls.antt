@@ -16,8 +16,8 @@ pub record CanTake (st : StoreView) (callee : BindingCell) (further : ℕ) : Typ
   pub most : argument_count (value_term st callee) + further ≤ 65535
 
 -- a call with so many further arguments comes to an error, whichever they are
-abbrev pub IsRefused : StoreView → BindingCell → ℕ → Fault → Type 0
-IsRefused st callee further fault = (us : Terms) → count us ≡ further → call_outcome (further + 1) (meaning st callee) us ≡ raises (error_term_of fault) (codes "call") (further + 1)
+abbrev pub IsCallRefused : StoreView → BindingCell → ℕ → Fault → Type 0
+IsCallRefused st callee further fault = (us : Terms) → count us ≡ further → call_outcome (further + 1) (meaning st callee) us ≡ raises (error_term_of fault) (codes "call") (further + 1)
 
 -- terms were made, and what was left to do is left as it was
 pub record MakesTerms (old new : RegionView) : Type 0 where

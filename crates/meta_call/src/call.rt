@@ -8,8 +8,8 @@ ghost use Rattle.clause_compile.specs.Places.{IsArity};
 ghost use Rattle.cell_store.specs.StoreView.{IsUnbound, IsValueIn, meaning, substitution};
 ghost use Rattle.region_control.specs.Controls.{IsGoalPlace};
 ghost use Rattle.region_control.specs.GoalForms.{argument_terms, AreArgumentsIn};
-ghost use Rattle.region_control.specs.Replies.{ComesTo};
-ghost use Rattle.meta_call.specs.Calls.{CanTake, IsRefused, MakesTerms};
+ghost use Rattle.region_control.specs.Replies.{LeavesOutcome};
+ghost use Rattle.meta_call.specs.Calls.{CanTake, IsCallRefused, MakesTerms};
 
 use crate::bodies::{is_own_body, made_body};
 use crate::called::called_term;
@@ -35,7 +35,7 @@ pub fn call_goal(
     requires further { AreArgumentsIn region.old.store further }
     requires few { IsArity (further.count + 1) }
     requires place { IsGoalPlace region.old place }
-    ensures comes { IfOk result (ComesTo region.old region.new
+    ensures comes { IfOk result (LeavesOutcome region.old region.new
         (call_outcome (further.count + 1) (meaning region.old.store callee) (argument_terms region.old.store further)) place) }
     ensures text { OnOk result (region.new.text ≡ region.old.text) }
 {
@@ -60,7 +60,7 @@ pub fn call_arguments(
     requires arguments { AreArgumentsIn region.old.store arguments }
     requires arity { IsArity arguments.count }
     requires place { IsGoalPlace region.old place }
-    ensures comes { IfOk result (ComesTo region.old region.new
+    ensures comes { IfOk result (LeavesOutcome region.old region.new
         (call_outcome arguments.count (term_at 0 (argument_terms region.old.store arguments)) (drop_terms 1 (argument_terms region.old.store arguments))) place) }
     ensures text { OnOk result (region.new.text ≡ region.old.text) }
 {
@@ -73,7 +73,7 @@ fn refusal(store: &Store, callee: BindingCell, further: u32) -> Result<Option<Fa
     requires there { IsValueIn store.now callee }
     requires unbound { IsUnbound (substitution store.now) callee }
     requires few { IsArity (further + 1) }
-    ensures { IfOk result (λ refused. MatchOption refused (CanTake store.now callee further) (IsRefused store.now callee further)) }
+    ensures { IfOk result (λ refused. MatchOption refused (CanTake store.now callee further) (IsCallRefused store.now callee further)) }
 {
     match callee {
         BindingCell::Free => unreachable!(),
@@ -125,7 +125,7 @@ fn called(
 ) -> Result<AfterGoal, NoMemory>
     requires goal { IsValueIn region.old.store goal }
     requires place { IsGoalPlace region.old place }
-    ensures comes { IfOk result (ComesTo region.old region.new (called arity (meaning region.old.store goal) (called_goals (meaning region.old.store goal))) place) }
+    ensures comes { IfOk result (LeavesOutcome region.old region.new (called arity (meaning region.old.store goal) (called_goals (meaning region.old.store goal))) place) }
     ensures text { OnOk result (region.new.text ≡ region.old.text) }
 {
     if is_own_body(alloc, region.store(), goal)? {
@@ -145,7 +145,7 @@ fn called_other(
 ) -> Result<AfterGoal, NoMemory>
     requires goal { IsValueIn region.old.store goal }
     requires place { IsGoalPlace region.old place }
-    ensures comes { IfOk result (ComesTo region.old region.new (called arity (meaning region.old.store goal) (called_goals (meaning region.old.store goal))) place) }
+    ensures comes { IfOk result (LeavesOutcome region.old region.new (called arity (meaning region.old.store goal) (called_goals (meaning region.old.store goal))) place) }
     ensures text { OnOk result (region.new.text ≡ region.old.text) }
 {
     // The proof reads off that no binding changes the goal again.
@@ -174,7 +174,7 @@ fn raise_call(
     place: GoalPlace,
 ) -> Result<AfterGoal, NoMemory>
     requires { IsGoalPlace region.old place }
-    ensures comes { IfOk result (ComesTo region.old region.new (raises (error_term_of fault.now) (codes "call") arity) place) }
+    ensures comes { IfOk result (LeavesOutcome region.old region.new (raises (error_term_of fault.now) (codes "call") arity) place) }
     ensures text { OnOk result (region.new.text ≡ region.old.text) }
 {
     let name = Atom::ascii(alloc, "call")?;

@@ -6,7 +6,7 @@ ghost use Rattle.au_model.specs.Terms.Forms.{is_callable};
 ghost use Rattle.run_model.specs.Goals.Control.{with_arguments};
 ghost use Rattle.cell_store.specs.StoreView.{IsValueIn, value_term};
 ghost use Rattle.region_control.specs.GoalForms.{AreArgumentsIn};
-ghost use Rattle.meta_call.specs.CalledTerms.{further_terms, HasBegun, HasParts, PutsArguments, IsFirstTaken};
+ghost use Rattle.meta_call.specs.CalledTerms.{further_terms, HasBegun, HasNameAndArguments, PutsArguments, IsFirstTaken};
 
 use au_term::{Cell, FlatTerm, NoMemory, TermBuilder};
 use binding_array::BindingCell;
@@ -65,7 +65,7 @@ fn begin(
 fn parts(store: &Store, callee: BindingCell) -> (u32, Arguments)
     requires callee { IsValueIn store.now callee }
     requires callable { is_callable (value_term store.now callee) ≡ true }
-    ensures { HasParts store.now callee result.0 result.1 }
+    ensures { HasNameAndArguments store.now callee result.0 result.1 }
 {
     match callee {
         BindingCell::Atom(name) => {

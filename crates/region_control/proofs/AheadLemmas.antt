@@ -5,7 +5,7 @@ use Rattle.au_model.specs.Terms.Named.{NamedTerm}
 use Rattle.au_model.specs.Terms.Substitutions.{Substitution}
 use Rattle.run_model.specs.Machine.Entries.{Entry, PlainEntry, CatchEntry, FindallEntry, EndEntry}
 use Rattle.run_model.specs.Machine.FreeSteps.{take_free_steps, free_steps_within, plain_free_step}
-use Rattle.run_model.specs.Machine.Items.{Item, GoalItem, CollectMark, Continuation, before, with_items, resolve_item, without_marks}
+use Rattle.run_model.specs.Machine.Items.{Item, GoalItem, CollectMark, RemovalItem, Continuation, before, with_items, resolve_item, without_marks}
 use Rattle.run_model.proofs.FreeStepLemmas.{length-collected, result_collects}
 use Rattle.clause_compile.specs.Places.{CodeView}
 use Rattle.binding_array.specs.declared.cell.BindingCell.{BindingCell}
@@ -19,10 +19,10 @@ use Rattle.region_split.specs.ResultLists.{ResultsView}
 use Rattle.region_split.specs.declared.choice.Resumed.{Resumed}
 use Rattle.region_split.specs.declared.choice.Resumed.TheVariants as Resumes
 use Rattle.region_split.specs.declared.frame.FrameItem.{FrameItem}
-use Rattle.region_split.specs.declared.frame.FrameItem.TheVariants.{Goal, Call, Cut, True, Fail, CatchEnd, Collect}
+use Rattle.region_split.specs.declared.frame.FrameItem.TheVariants.{Goal, Call, Cut, True, Fail, CatchEnd, Collect, Removal}
 use Rattle.region_split.specs.declared.frame.Position.{Position}
 use Rattle.region_split.proofs.ItemLemmas.{position_more}
-use Rattle.region_control.specs.Ahead.{is_goal_item, goal_items, goal_entry, HasGoalFirst, HasResultFirst, HasNothingFirst, LiesAhead, CollectsResult, EndsFindall}
+use Rattle.region_control.specs.Ahead.{is_goal_item, items_with_goal, goal_entry, HasGoalFirst, HasResultFirst, HasRemovalFirst, HasNothingFirst, LiesAhead, CollectsResult, EndsFindall}
 use Rattle.region_control.specs.declared.ahead.Ahead.{Ahead}
 use Rattle.region_control.specs.declared.ahead.Ahead.TheVariants as Ahead
 use Rattle.region_control.specs.declared.control.GoalPlace.{GoalPlace}
@@ -40,6 +40,7 @@ goal_stays s heights code True cut items e = refl
 goal_stays s heights code Fail cut items e = refl
 goal_stays s heights code CatchEnd cut items e = absurd cc
 goal_stays s heights code (Collect value) cut items e = absurd cc
+goal_stays s heights code (Removal number) cut items e = absurd cc
 
 -- the ends of catches alone were passed on the way from one position to another
 pub record IsPassing (r : RegionView) (start next : Position) : Type 0 where
@@ -71,6 +72,12 @@ module _ (r : RegionView) (start p : Position) (w : IsPassing r start p) where
       findall = first.mark.1;
     }
 
+    pub removal_found : (number : ℕ) → IsFirstAt r p (Removal number) cut → HasRemovalFirst r start number q
+    removal_found number first = subst (HasRemovalFirst r start number) (sym is) (record {
+      items = λ named. w.same named ∙ ap (unmarked r.store.now.bound (heights_of named r)) first.items;
+      there = position_more r cut (length r.choices) (next_position p) first.scope first.after;
+    })
+
     pub fewer_items : (item : FrameItem) → IsFirstAt r p item cut → length (items_here r q) + q.frame < length (items_here r p) + p.frame
     fewer_items item first = let a = ap length first.items in let b = ap (λ (x : Position). length (items_here r x) + x.frame) is in omega (arith, a, b)
 
@@ -98,7 +105,7 @@ going_at r start p e i = record { same = λ named. ap (λ o. take_free_steps (en
 pub going_back : (old r : RegionView) (start : Option Position) (now : Resumed) → start ≡ None → HasResumed old r now → TakesFreeSteps old r now → r.text ≡ old.text → IsGoingAhead old r start now
 going_back old r start now e resumes steps text = record { same = λ named. ap (λ o. take_free_steps (entries_at named old o ++ entries_of named old)) e ∙ steps named; there = resumes.there; text = text }
 
-by_item : (named : List NamedTerm) (r : RegionView) (p : Position) (item : FrameItem) (g : GoalPlace) → is_goal_item item ≡ true → without_marks (continuation_here named r p).items ≡ goal_items named r item g → take_free_steps (position_entry named r p ∷ entries_of named r) ≡ goal_entry named r item g ∷ entries_of named r
+by_item : (named : List NamedTerm) (r : RegionView) (p : Position) (item : FrameItem) (g : GoalPlace) → is_goal_item item ≡ true → without_marks (continuation_here named r p).items ≡ items_with_goal named r item g → take_free_steps (position_entry named r p ∷ entries_of named r) ≡ goal_entry named r item g ∷ entries_of named r
 by_item named r p (Goal value) g k e = ap (λ is. plain_free_step is (continuation_here named r p) (entries_of named r) (free_steps_within (length (entries_of named r)))) e
 by_item named r p (Call value) g k e = ap (λ is. plain_free_step is (continuation_here named r p) (entries_of named r) (free_steps_within (length (entries_of named r)))) e
 by_item named r p Cut g k e = ap (λ is. plain_free_step is (continuation_here named r p) (entries_of named r) (free_steps_within (length (entries_of named r)))) e
@@ -106,6 +113,7 @@ by_item named r p True g k e = ap (λ is. plain_free_step is (continuation_here 
 by_item named r p Fail g k e = ap (λ is. plain_free_step is (continuation_here named r p) (entries_of named r) (free_steps_within (length (entries_of named r)))) e
 by_item named r p CatchEnd g k e = absurd cc
 by_item named r p (Collect value) g k e = absurd cc
+by_item named r p (Removal number) g k e = absurd cc
 
 without_catches-length : (es : List Entry) → length (without_catches es) ≤ length es
 without_catches-length [] = omega arith
@@ -119,6 +127,18 @@ module _ (old r : RegionView) (start : Option Position) (now : Resumed) (w : IsG
   pub goal_ahead : (p : Position) (item : FrameItem) (g : GoalPlace) → now ≡ Resumes.At p → HasGoalFirst r p item g → LiesAhead old r start (Ahead.Goal item g)
   goal_ahead p item g e h = record {
     entries = λ named. w.same named ∙ (ap (λ n. take_free_steps (resumed_entries named r n)) e ∙ by_item named r p item g h.there.goal (h.items named));
+    there = h.there;
+  }
+
+  -- the removal of a clause
+  pub removal_ahead : (p after : Position) (number : ℕ) → now ≡ Resumes.At p → HasRemovalFirst r p number after → LiesAhead old r start (Ahead.Removal number after)
+  removal_ahead p after number e h = record {
+    entries = λ named.
+        let f = continuation_here named r p in
+        let es = entries_of named r in
+        w.same named
+        ∙ (ap (λ n. take_free_steps (resumed_entries named r n)) e
+        ∙ ap (λ is. plain_free_step is f es (free_steps_within (length es))) (h.items named));
     there = h.there;
   }
 

@@ -19,7 +19,7 @@ use Rattle.region_split.specs.StackOperations.{CutsTo, TakesNewest}
 use Rattle.region_split.specs.declared.choice.Alternatives.TheVariants.{Catch as CatchPoint}
 use Rattle.region_split.specs.declared.choice.ChoicePoint.{ChoicePoint}
 use Rattle.region_split.specs.declared.frame.FrameItem.{FrameItem}
-use Rattle.region_split.specs.declared.frame.FrameItem.TheVariants.{Goal, Call, Cut, True, Fail, CatchEnd, Collect}
+use Rattle.region_split.specs.declared.frame.FrameItem.TheVariants.{Goal, Call, Cut, True, Fail, CatchEnd, Collect, Removal}
 use Rattle.region_split.specs.declared.frame.Position.{Position}
 use Rattle.region_split.proofs.MarkLemmas.{cut_kinds}
 use Rattle.region_split.proofs.ItemLemmas.{position_more}
@@ -65,6 +65,7 @@ no_end s heights code True cut items e = refl
 no_end s heights code Fail cut items e = refl
 no_end s heights code CatchEnd cut items e = absurd cc
 no_end s heights code (Collect value) cut items e = refl
+no_end s heights code (Removal number) cut items e = refl
 
 an_end : (s : Substitution) (heights : List ℕ) (code : CodeView) (item : FrameItem) (cut : ℕ) (items : List (Item ℕ)) → is_catch_end item ≡ true → mark_of s heights (scoped_item code item cut ∷ items) ≡ Some (height_of_cut heights (cut - 1))
 an_end s heights code (Goal value) cut items e = absurd cc
@@ -74,6 +75,7 @@ an_end s heights code True cut items e = absurd cc
 an_end s heights code Fail cut items e = absurd cc
 an_end s heights code CatchEnd cut items e = refl
 an_end s heights code (Collect value) cut items e = absurd cc
+an_end s heights code (Removal number) cut items e = absurd cc
 
 pub end_marked : (choices : List ChoicePoint) (item : FrameItem) (cut : ℕ) → is_catch_end item ≡ true → IsMarkOf choices cut item → (0 < cut) × IsCatchAt choices (cut - 1)
 end_marked choices (Goal value) cut e m = absurd cc
@@ -83,6 +85,7 @@ end_marked choices True cut e m = absurd cc
 end_marked choices Fail cut e m = absurd cc
 end_marked choices CatchEnd cut e m = m
 end_marked choices (Collect value) cut e m = absurd cc
+end_marked choices (Removal number) cut e m = absurd cc
 
 -- no mark was passed on the way from one position to another
 pub record IsWalking (r : RegionView) (start next : Position) : Type 0 where

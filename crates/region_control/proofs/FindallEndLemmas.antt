@@ -16,7 +16,7 @@ use Rattle.cell_store.specs.StoreView.{StoreView, IsValidStore, IsValueIn, AddsT
 use Rattle.cell_store.proofs.CellMeaningLemmas.{term_below}
 use Rattle.region_split.specs.ChoicePoints.{Standing, height_of_cut}
 use Rattle.region_split.specs.Regions.{RegionView, entries_of, heights_of, continuation_here, IsPositionIn, IsPositionOver}
-use Rattle.region_split.specs.ResultLists.{ResultsView, IsAbove, AreResultsFrom}
+use Rattle.region_split.specs.ResultLists.{ResultsView, IsNumberedFrom, AreResultsFrom}
 use Rattle.region_split.specs.StackOperations.{KeepsPositions, StaysStanding}
 use Rattle.region_split.specs.declared.frame.FrameItem.TheVariants.{Goal as ValueGoal}
 use Rattle.region_split.specs.declared.frame.Position.{Position}
@@ -64,7 +64,7 @@ module _ (r r1 : RegionView) (list : BindingCell) (results : ResultsView) (after
     goal_means =
         ap₂ resolve bound_same (means ∙ (e ∙ ap (λ u. binary (codes "=") u (list_term results.terms)) (l ∙ same_list)))
         ∙ ap₂ (λ u us. binary (codes "=") u us) (resolved_stays r.store (value_term r.store list) valid)
-        (list_stays r.store.now.bound results.terms (each-more (IsAbove r.store.now.next) (λ u. resolve r.store.now.bound u ≡ u) (λ u a. a r.store.now.bound valid.new) results.terms from.above))
+        (list_stays r.store.now.bound results.terms (each-more (IsNumberedFrom r.store.now.next) (λ u. resolve r.store.now.bound u ≡ u) (λ u a. a r.store.now.bound valid.new) results.terms from.above))
 
     many : length r2.choices ≡ length r.choices
     many = ap (λ (x : RegionView). length x.choices) stays2.others ∙ ap (λ (x : RegionView). length x.choices) stays1.others

@@ -51,7 +51,7 @@ putting_begun r body cut after pending e v i = record {
   there = subst (Each (IsValueIn r.store)) (sym e) (v, tt);
 }
 
-last_there : (st : StoreView) (rest : List BindingCell) (value : BindingCell) → Each (IsValueIn st) (rest ++ value ∷ []) → Each (IsValueIn st) rest × IsValueIn st value
+pub last_there : (st : StoreView) (rest : List BindingCell) (value : BindingCell) → Each (IsValueIn st) (rest ++ value ∷ []) → Each (IsValueIn st) rest × IsValueIn st value
 last_there st [] value k = (tt, k.0)
 last_there st (v ∷ rest) value k = let more = last_there st rest value k.1 in ((k.0, more.0), more.1)
 

@@ -21,17 +21,10 @@ use Rattle.region_split.specs.declared.frame.FrameItem.TheVariants.{Call}
 use Rattle.region_split.specs.declared.frame.Position.{Position}
 use Rattle.region_split.proofs.ItemLemmas.{position_more}
 use Rattle.region_split.proofs.ResultLemmas.{copy_unbound}
+use Rattle.region_split.proofs.SolvedLemmas.{stays_twice}
 use Rattle.region_split.proofs.TrialLemmas.{resolved_twice, items_twice, named_twice}
 use Rattle.region_control.specs.Balls.{Recovers}
 use Rattle.region_control.specs.declared.balls.Catch.{Catch}
-
--- a store that went on, and went on again
-pub stays_twice : (a b c : RegionView) → StaysStanding a b → StaysStanding b c → StaysStanding a c
-stays_twice a b c x y = record {
-  stands = λ named. y.stands named ∙ x.stands named;
-  position = λ cut p i. y.position cut p (x.position cut p i);
-  others = y.others ∙ ap (λ (z : RegionView). record z { store = c.store }) x.others;
-}
 
 -- the copy is put behind the text
 module _ (r r1 r2 : RegionView) (ball : Term) (c : Catch) (copy : BindingCell) (takes : ℕ) (valid : IsValidStore r.store) (takes_is : takes ≡ copy_takes ball) (widened : r1 ≡ record r { store = with_numbers takes r.store })

@@ -14,7 +14,7 @@ use Rattle.region_split.specs.Frames.{LeftItem, PlacedGoal, OwnItem, item_in}
 use Rattle.region_split.specs.ChoicePoints.{Standing, height_of_cut, by_height}
 use Rattle.region_split.specs.Regions.{RegionView, left_here, entries_of, heights_of, continuation_here, IsPositionIn, IsPositionOver}
 use Rattle.region_split.specs.StackOperations.{CutsTo, StaysStanding}
-use Rattle.region_split.specs.declared.frame.FrameItem.TheVariants.{Goal, Call, Cut, True, Fail, CatchEnd, Collect}
+use Rattle.region_split.specs.declared.frame.FrameItem.TheVariants.{Goal, Call, Cut, True, Fail, CatchEnd, Collect, Removal}
 use Rattle.region_split.specs.declared.frame.Position.{Position}
 use Rattle.region_control.specs.Balls.{mark_height, IsCatchOver, HasFirstCatch, TakesCatch, Recovers, LandsAt, IsUncaught}
 use Rattle.region_control.specs.declared.balls.Catch.{Catch}
@@ -34,6 +34,7 @@ same_left s t code text heights (OwnItem True cut ∷ left) = same_left s t code
 same_left s t code text heights (OwnItem Fail cut ∷ left) = same_left s t code text heights left
 same_left s t code text heights (OwnItem CatchEnd cut ∷ left) = refl
 same_left s t code text heights (OwnItem (Collect value) cut ∷ left) = same_left s t code text heights left
+same_left s t code text heights (OwnItem (Removal number) cut ∷ left) = same_left s t code text heights left
 
 mark_stays : (r new : RegionView) (p : Position) → StaysStanding r new → (named : List NamedTerm) → first_mark (continuation_here named new p).items ≡ first_mark (continuation_here named r p).items
 mark_stays r new p stays named =

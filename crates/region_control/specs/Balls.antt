@@ -13,7 +13,7 @@ use Rattle.region_split.specs.Regions.{RegionView, entries_of, heights_of, conti
 use Rattle.region_split.specs.StackOperations.{StaysStanding}
 use Rattle.region_split.specs.declared.choice.ChoicePoint.{ChoicePoint}
 use Rattle.region_split.specs.declared.frame.FrameItem.{FrameItem}
-use Rattle.region_split.specs.declared.frame.FrameItem.TheVariants.{Goal, Call, Cut, True, Fail, CatchEnd, Collect}
+use Rattle.region_split.specs.declared.frame.FrameItem.TheVariants.{Goal, Call, Cut, True, Fail, CatchEnd, Collect, Removal}
 use Rattle.region_split.specs.declared.frame.Position.{Position}
 use Rattle.region_control.specs.declared.balls.Catch.{Catch}
 
@@ -26,6 +26,7 @@ is_catch_end True = false
 is_catch_end Fail = false
 is_catch_end CatchEnd = true
 is_catch_end (Collect value) = false
+is_catch_end (Removal number) = false
 
 -- the height of a catch that is over so many choice points
 abbrev pub mark_height : List ℕ → Option ℕ → Option ℕ

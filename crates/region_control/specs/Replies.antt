@@ -18,9 +18,9 @@ Leaves entries new (Uncaught ball) = (named : List NamedTerm) → entries named 
 Leaves entries new AsksWorld = ⊥
 
 -- what takes the place of a goal is what it comes to; where it asks the world, nothing has changed, and the world alone halts
-abbrev pub ComesTo : RegionView → RegionView → Outcome → GoalPlace → AfterGoal → Type 0
-ComesTo old new (Replies (Solutions ss)) g after = Leaves (λ named. after_reply (Solutions ss) (continuation_here named old g.after) (entries_of named old)) new after
-ComesTo old new (Replies (Ball ball)) g after = Leaves (λ named. after_reply (Ball ball) (continuation_here named old g.after) (entries_of named old)) new after
-ComesTo old new (Replies (HaltNumber k)) g after = ⊥
-ComesTo old new (Controls form) g after = Leaves (λ named. after_control form (height_of_cut (heights_of named old) g.cut) (continuation_here named old g.after) (entries_of named old)) new after
-ComesTo old new (AskWorld goal) g after = (after ≡ AsksWorld) × (new ≡ old)
+abbrev pub LeavesOutcome : RegionView → RegionView → Outcome → GoalPlace → AfterGoal → Type 0
+LeavesOutcome old new (Replies (Solutions ss)) g after = Leaves (λ named. after_reply (Solutions ss) (continuation_here named old g.after) (entries_of named old)) new after
+LeavesOutcome old new (Replies (Ball ball)) g after = Leaves (λ named. after_reply (Ball ball) (continuation_here named old g.after) (entries_of named old)) new after
+LeavesOutcome old new (Replies (HaltNumber k)) g after = ⊥
+LeavesOutcome old new (Controls form) g after = Leaves (λ named. after_control form (height_of_cut (heights_of named old) g.cut) (continuation_here named old g.after) (entries_of named old)) new after
+LeavesOutcome old new (AskWorld goal) g after = (after ≡ AsksWorld) × (new ≡ old)

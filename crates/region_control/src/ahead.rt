@@ -22,6 +22,8 @@ pub(crate) enum FirstItem {
     Goal(FrameItem, GoalPlace),
     /// A result, and over how many choice points its findall is.
     Result(BindingCell, u32),
+    /// The removal of the clause with a number, and where it goes on.
+    Removal(u64, Position),
     /// Nothing, and the position at which that is so.
     Nothing(Position),
 }
@@ -31,6 +33,8 @@ pub(crate) enum FirstItem {
 pub enum Ahead {
     /// A goal, and where it stands.
     Goal(FrameItem, GoalPlace),
+    /// The removal of the clause with a number, and where it goes on.
+    Removal(u64, Position),
     /// Nothing is left to do at a position: the query holds there.
     Answer(Position),
     /// A query has no solution left.
@@ -66,6 +70,7 @@ pub fn look_ahead(
         };
         match first_item(region, position)? {
             FirstItem::Goal(item, place) => return Ok(Ahead::Goal(item, place)),
+            FirstItem::Removal(number, after) => return Ok(Ahead::Removal(number, after)),
             FirstItem::Nothing(position) => return Ok(Ahead::Answer(position)),
             FirstItem::Result(value, over) => {
                 collect(region, alloc, value, over)?;
@@ -95,6 +100,7 @@ fn first_item(region: &Region, position: Position) -> Result<FirstItem, NoMemory
                 match item {
                     FrameItem::CatchEnd => {}
                     FrameItem::Collect(value) => return Ok(FirstItem::Result(value, cut - 1)),
+                    FrameItem::Removal(number) => return Ok(FirstItem::Removal(number, next)),
                     _ => unreachable!(),
                 }
             }
@@ -111,6 +117,7 @@ fn is_goal(item: FrameItem) -> bool
     match item {
         FrameItem::CatchEnd => false,
         FrameItem::Collect(_) => false,
+        FrameItem::Removal(_) => false,
         _ => true,
     }
 }

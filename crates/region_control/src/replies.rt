@@ -4,7 +4,7 @@ ghost use Rattle.au_model.specs.Terms.ErrorTerms.{error_term};
 ghost use Rattle.au_model.specs.Terms.Faults.{error_term_of};
 ghost use Rattle.run_model.specs.Goals.Outcomes.{Replies, Ball};
 ghost use Rattle.region_control.specs.Controls.{IsGoalPlace};
-ghost use Rattle.region_control.specs.Replies.{ComesTo};
+ghost use Rattle.region_control.specs.Replies.{LeavesOutcome};
 
 use crate::balls::throw;
 use crate::control::GoalPlace;
@@ -35,7 +35,7 @@ pub fn raise(
     place: GoalPlace,
 ) -> Result<AfterGoal, NoMemory>
     requires { IsGoalPlace region.old place }
-    ensures comes { IfOk result (ComesTo region.old region.new (Replies (Ball ball.now)) place) }
+    ensures comes { IfOk result (LeavesOutcome region.old region.new (Replies (Ball ball.now)) place) }
     ensures text { OnOk result (region.new.text ≡ region.old.text) }
 {
     match throw(region, alloc, ball, place.after)? {
@@ -57,7 +57,7 @@ pub fn raise_fault(
     place: GoalPlace,
 ) -> Result<AfterGoal, NoMemory>
     requires { IsGoalPlace region.old place }
-    ensures comes { IfOk result (ComesTo region.old region.new (Replies (Ball (error_term (error_term_of fault.now) name.now arity))) place) }
+    ensures comes { IfOk result (LeavesOutcome region.old region.new (Replies (Ball (error_term (error_term_of fault.now) name.now arity))) place) }
     ensures text { OnOk result (region.new.text ≡ region.old.text) }
 {
     let ball = fault.term(alloc, name, arity)?;

@@ -1,18 +1,20 @@
 -- Backtracking in the steps of the sequential machine.
-use Rattle.std.proofs.Common.{◌≡◌, ℕ, suc, ◌+◌, ◌-◌, ◌<◌, ◌≤◌, List, [], ◌∷◌, ◌++◌, length, Option, Some, None, slice_get, refl, sym, ap, ap₂, ◌∙◌, subst, arith}
+use Rattle.std.proofs.Common.{◌≡◌, ℕ, suc, ◌+◌, ◌-◌, ◌<◌, ◌≤◌, List, [], ◌∷◌, ◌++◌, length, Option, Some, None, slice_get, option_map, refl, sym, ap, ap₂, ◌∙◌, subst, arith}
 use Rattle.au_model.specs.Terms.Named.{NamedTerm}
 use Rattle.run_model.specs.Machine.Entries.{Entry, PlainEntry, CatchEntry, FindallEntry, EndEntry}
 use Rattle.run_model.specs.Machine.FreeSteps.{take_free_steps}
 use Rattle.cell_store.specs.StoreView.{Moment}
 use Rattle.run_model.specs.Programs.Clauses.{Clause}
 use Rattle.region_split.specs.Texts.{TextView}
-use Rattle.region_split.specs.ChoicePoints.{RegionSetting, Standing, standing_over, nothing_standing, all_takes_left, takes_left}
+use Rattle.region_split.specs.ChoicePoints.{RegionSetting, Standing, standing_over, nothing_standing, all_takes_left, HaveNoSolution}
 use Rattle.region_split.specs.Regions.{RegionView, region_setting, entries_of, entries_on}
-use Rattle.region_split.specs.StackOperations.{TakesNewest, TakesClause, trial_entries}
+use Rattle.region_split.specs.StackOperations.{TakesNewest, TakesClause, TakesSolution, HasNoSolutionOnTop, trial_entries}
+use Rattle.region_split.specs.Solutions.{SolutionView}
+use Rattle.region_split.specs.SolutionTrials.{TriesSolution}
 use Rattle.region_split.specs.ClauseTrials.{TriesClause, KeepsChoices, entries_at}
 use Rattle.region_split.specs.Backtracking.{without_catches, Resumes, TakesFreeSteps, TakesNext}
 use Rattle.binding_array.specs.declared.cell.BindingCell.{BindingCell}
-use Rattle.region_split.specs.declared.choice.Alternatives.TheVariants.{Catch}
+use Rattle.region_split.specs.declared.choice.Alternatives.TheVariants.{Catch, Solutions}
 use Rattle.region_split.specs.declared.choice.ChoicePoint.{ChoicePoint}
 use Rattle.region_split.specs.declared.choice.Resumed.{Resumed}
 use Rattle.region_split.specs.declared.choice.Resumed.TheVariants.{At, AllDone}
@@ -82,3 +84,39 @@ catch_passed old r new c catcher recovery same t is =
       newest_fewer r new c t,
       λ named. ap without_catches (t.entries named ∙ ap (λ a. entries_on named new (record c { alternatives = a }) new.store.now ++ entries_of named new) is),
     )
+
+-- a solution that was taken and tried
+module _ (old r new : RegionView) (solution : SolutionView) (after : Position) (cut : ℕ) (took : TakesSolution old r solution after) (count : cut ≡ length old.choices - 1) where
+  solution_entries_are : (reached : Option Position) → TriesSolution r new solution after cut reached → (named : List NamedTerm) → entries_of named old ≡ entries_at named new reached ++ entries_of named new
+  solution_entries_are reached tried named = took.entries named ∙ ap₂ (λ es fs. es ++ fs) (tried.entries named) (ap (λ (st : Standing). st.entries) (sym (tried.stands named)))
+
+  pub solution_resumes : (p : Position) → TriesSolution r new solution after cut (Some p) → Resumes old new (At p)
+  solution_resumes p tried = record {
+    entries = λ named. ap without_catches (solution_entries_are (Some p) tried named);
+    there = position_over new cut (length new.choices) (Some p) (let m = took.many in let l = ap length tried.choices in omega (arith, m, l, count)) tried.position;
+  }
+
+  pub solution_fails : TriesSolution r new solution after cut None → TakesNext old new None
+  solution_fails tried = (
+    subst (λ (x : TextView). all_takes_left x.heads new.choices < all_takes_left old.text.heads old.choices) (sym tried.text)
+        (subst (λ cs. all_takes_left r.text.heads cs < all_takes_left old.text.heads old.choices) (sym tried.choices) took.fewer),
+    λ named. ap without_catches (solution_entries_are None tried named),
+  )
+
+-- solutions of which none is left
+pub no_solution : (old mid r new : RegionView) (c : ChoicePoint) (left : List SolutionView) → mid ≡ old → HasNoSolutionOnTop mid → r ≡ mid → TakesNewest r new c → c.alternatives ≡ Solutions left → TakesNext old new None
+no_solution old mid r new c left same none again t is =
+    let empty : left ≡ [] = subst HaveNoSolution is (none new.choices c (ap (λ (x : RegionView). x.choices) (sym again) ∙ t.choices)) in
+    subst (λ x. TakesNext x new None) (again ∙ same) (
+      newest_fewer r new c t,
+      λ named. ap without_catches (t.entries named ∙ ap (λ a. entries_on named new (record c { alternatives = a }) new.store.now ++ entries_of named new) (is ∙ ap Solutions empty)),
+    )
+
+-- what was reached, if anything was
+pub clause_next : (old r new : RegionView) (t : Trial) (cut : ℕ) (reached : Option Position) (next : Option Resumed) → TakesClause old r t → cut ≡ length old.choices - 1 → KeepsChoices r new → TriesClause r new t cut reached → next ≡ option_map At reached → TakesNext old new next
+clause_next old r new t cut None next took count kept tried e = subst (TakesNext old new) (sym e) (clause_fails old r new t cut took count kept tried)
+clause_next old r new t cut (Some p) next took count kept tried e = subst (TakesNext old new) (sym e) (clause_resumes old r new t cut took count kept p tried)
+
+pub solution_next : (old r new : RegionView) (solution : SolutionView) (after : Position) (cut : ℕ) (reached : Option Position) (next : Option Resumed) → TakesSolution old r solution after → cut ≡ length old.choices - 1 → TriesSolution r new solution after cut reached → next ≡ option_map At reached → TakesNext old new next
+solution_next old r new solution after cut None next took count tried e = subst (TakesNext old new) (sym e) (solution_fails old r new solution after cut took count tried)
+solution_next old r new solution after cut (Some p) next took count tried e = subst (TakesNext old new) (sym e) (solution_resumes old r new solution after cut took count p tried)

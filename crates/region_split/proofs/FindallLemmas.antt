@@ -14,7 +14,7 @@ use Rattle.region_split.specs.ChoicePoints.{RegionSetting, Standing, standing_ov
 use Rattle.region_split.specs.Regions.{RegionView, left_here, region_setting, standing, entries_of, heights_of, IsConsistentRegion}
 use Rattle.region_split.specs.StackOperations.{AddsResult, HasFindallAt}
 use Rattle.region_split.specs.declared.choice.Alternatives.{Alternatives}
-use Rattle.region_split.specs.declared.choice.Alternatives.TheVariants.{Clauses, Elsewhere, Catch, Findall, QueryEnd}
+use Rattle.region_split.specs.declared.choice.Alternatives.TheVariants.{Clauses, Solutions, Elsewhere, Catch, Findall, QueryEnd}
 use Rattle.region_split.specs.declared.choice.ChoicePoint.{ChoicePoint}
 use Rattle.region_split.proofs.ResultLemmas.{more_results}
 use Rattle.region_split.proofs.MarkLemmas.{IsAlike, all_marked, changed_kinds, marked_changed}
@@ -52,6 +52,7 @@ record IsFindallEntry (s : RegionSetting) (m : Moment) (h : ℕ) (f : Continuati
 
 findall_entry : (s : RegionSetting) (m : Moment) (h : ℕ) (f : Continuation ℕ) (t : Term) (a : Alternatives) → IsCollecting a → IsFindallEntry s m h f t a
 findall_entry s m h f t (Clauses goal clause left) k = absurd k
+findall_entry s m h f t (Solutions left) k = absurd k
 findall_entry s m h f t Elsewhere k = absurd k
 findall_entry s m h f t (Catch catcher recovery) k = absurd k
 findall_entry s m h f t (Findall list results) k = record { entry = _; was = refl; is = refl }
@@ -59,6 +60,7 @@ findall_entry s m h f t QueryEnd k = absurd k
 
 found_values : (s : RegionSetting) (m : Moment) (t : Term) (a : Alternatives) → AreAlternativesAt s m a → AreAlternativesAt s m (with_found t a)
 found_values s m t (Clauses goal clause left) v = v
+found_values s m t (Solutions left) v = v
 found_values s m t Elsewhere v = v
 found_values s m t (Catch catcher recovery) v = v
 found_values s m t (Findall list results) v = (v.0, more_results m.next t results v.1)
@@ -66,6 +68,7 @@ found_values s m t QueryEnd v = v
 
 found_alike : (t : Term) (a : Alternatives) → IsAlike a (with_found t a)
 found_alike t (Clauses goal clause left) = ((λ h. h), (λ h. h))
+found_alike t (Solutions left) = ((λ h. h), (λ h. h))
 found_alike t Elsewhere = ((λ h. h), (λ h. h))
 found_alike t (Catch catcher recovery) = ((λ h. h), (λ h. h))
 found_alike t (Findall list results) = ((λ h. h), (λ h. h))

@@ -9,6 +9,7 @@ pub mod ResultLemmas
 pub mod FindallLemmas
 pub mod LeftLemmas
 pub mod ItemLemmas
+pub mod SolutionLemmas
 pub mod StoreLemmas
 pub mod TextLemmas
 pub mod ClauseLemmas
@@ -19,3 +20,5 @@ pub mod HeadLemmas
 pub mod CandidateLemmas
 pub mod KeyLemmas
 pub mod ToldApartLemmas
+pub mod SolvedLemmas
+pub mod SolveLemmas

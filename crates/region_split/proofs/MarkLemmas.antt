@@ -8,7 +8,7 @@ use Rattle.region_split.specs.declared.choice.Alternatives.{Alternatives}
 use Rattle.region_split.specs.declared.choice.ChoicePoint.{ChoicePoint}
 use Rattle.region_split.specs.declared.frame.Frame.{Frame}
 use Rattle.region_split.specs.declared.frame.FrameItem.{FrameItem}
-use Rattle.region_split.specs.declared.frame.FrameItem.TheVariants.{Goal, Call, Cut, True, Fail, CatchEnd, Collect}
+use Rattle.region_split.specs.declared.frame.FrameItem.TheVariants.{Goal, Call, Cut, True, Fail, CatchEnd, Collect, Removal}
 use Rattle.region_split.specs.declared.text.BodyItem.{BodyItem}
 use Rattle.region_split.proofs.StandingLemmas.{AreSameTo, kept_more}
 
@@ -24,6 +24,7 @@ mark_kept n xs ys True cut k le m = tt
 mark_kept n xs ys Fail cut k le m = tt
 mark_kept n xs ys CatchEnd cut k le m = let some = m.0 in (m.0, (k (cut - 1) (omega (arith, some, le))).0 m.1)
 mark_kept n xs ys (Collect value) cut k le m = let some = m.0 in (m.0, (k (cut - 1) (omega (arith, some, le))).1 m.1)
+mark_kept n xs ys (Removal number) cut k le m = tt
 
 marked_in_kept : (n : ℕ) (xs ys : List ChoicePoint) (i : LeftItem) → KeepsKinds n xs ys → left_scope i ≤ n → IsMarkedIn xs i → IsMarkedIn ys i
 marked_in_kept n xs ys (PlacedGoal place base cut) k le m = tt

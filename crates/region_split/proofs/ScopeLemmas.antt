@@ -11,7 +11,7 @@ use Rattle.cell_store.proofs.SubstitutionLemmas.{value_kept, value_raised}
 use Rattle.region_split.specs.Frames.{LeftItem, PlacedGoal, OwnItem, item_in, scoped_item, left_scope, IsItemIn, IsLeftIn, AreLeftScoped}
 use Rattle.region_split.specs.ChoicePoints.{height_of_cut, by_height}
 use Rattle.region_split.specs.declared.frame.FrameItem.{FrameItem}
-use Rattle.region_split.specs.declared.frame.FrameItem.TheVariants.{Goal, Call, Cut, True, Fail, CatchEnd, Collect}
+use Rattle.region_split.specs.declared.frame.FrameItem.TheVariants.{Goal, Call, Cut, True, Fail, CatchEnd, Collect, Removal}
 
 -- heights that agree at an item's scope
 same_own_height : (hs ks : List ℕ) (code : CodeView) (item : FrameItem) (cut : ℕ) → ((n : ℕ) → n ≤ cut → height_of_cut hs n ≡ height_of_cut ks n) → by_height hs (scoped_item code item cut) ≡ by_height ks (scoped_item code item cut)
@@ -22,6 +22,7 @@ same_own_height hs ks code True cut same = ap (GoalItem (AtomTerm (codes "true")
 same_own_height hs ks code Fail cut same = ap (GoalItem (AtomTerm (codes "fail"))) (same cut (omega arith))
 same_own_height hs ks code CatchEnd cut same = ap CatchMark (same (cut - 1) (omega arith))
 same_own_height hs ks code (Collect value) cut same = ap (CollectMark (cell_term code value)) (same (cut - 1) (omega arith))
+same_own_height hs ks code (Removal number) cut same = refl
 
 same_height : (hs ks : List ℕ) (code : CodeView) (i : LeftItem) → ((n : ℕ) → n ≤ left_scope i → height_of_cut hs n ≡ height_of_cut ks n) → by_height hs (item_in code i) ≡ by_height ks (item_in code i)
 same_height hs ks code (PlacedGoal place base cut) same = ap (GoalItem (shifted base (meaning_in code place))) (same cut (omega arith))
@@ -46,6 +47,7 @@ item_further code next more True le v = tt
 item_further code next more Fail le v = tt
 item_further code next more CatchEnd le v = tt
 item_further code next more (Collect value) le v = value_raised code next more value le v
+item_further code next more (Removal number) le v = tt
 
 left_further : (code : CodeView) (next more : ℕ) (i : LeftItem) → next ≤ more → IsLeftIn code next i → IsLeftIn code more i
 left_further code next more (PlacedGoal place base cut) le v = (v.0, (let b = v.1 in omega (arith, le, b)))
@@ -67,6 +69,7 @@ item_kept old new next True k v = (tt, λ cut. refl)
 item_kept old new next Fail k v = (tt, λ cut. refl)
 item_kept old new next CatchEnd k v = (tt, λ cut. refl)
 item_kept old new next (Collect value) k v = let same = value_kept old new next value k v in (same.0, λ cut. ap (λ t. CollectMark t (cut - 1)) same.1)
+item_kept old new next (Removal number) k v = (tt, λ cut. refl)
 
 left_kept : (old new : CodeView) (next : ℕ) (i : LeftItem) → Keeps old new → IsLeftIn old next i → IsLeftIn new next i × (item_in new i ≡ item_in old i)
 left_kept old new next (PlacedGoal place base cut) k v =

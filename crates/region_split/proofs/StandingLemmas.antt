@@ -9,7 +9,7 @@ use Rattle.cell_store.specs.StoreView.{Moment}
 use Rattle.region_split.specs.Frames.{left_items, item_in, AreLeftScoped}
 use Rattle.region_split.specs.ChoicePoints.{RegionSetting, code_at, Standing, standing_over, with_entries_on_top, choice_entries, alternative_entries, continuation_at, AreAlternativesAt, IsChoiceOver, AreChoicesOver, frames_kept, height_of_cut, by_height}
 use Rattle.region_split.specs.declared.choice.Alternatives.{Alternatives}
-use Rattle.region_split.specs.declared.choice.Alternatives.TheVariants.{Clauses, Elsewhere, Catch, Findall, QueryEnd}
+use Rattle.region_split.specs.declared.choice.Alternatives.TheVariants.{Clauses, Solutions, Elsewhere, Catch, Findall, QueryEnd}
 use Rattle.region_split.specs.declared.choice.ChoicePoint.{ChoicePoint}
 use Rattle.region_split.specs.declared.frame.Frame.{Frame}
 use Rattle.region_split.specs.declared.frame.Position.{Position}
@@ -79,6 +79,7 @@ AreSameTo s fs n = (p : Position) → p.frame ≤ n → left_items s.text.bodies
 
 same_alternatives : (s : RegionSetting) (fs : List Frame) (m : Moment) (h : ℕ) (f : Continuation ℕ) (a : Alternatives) → alternative_entries (with_frames fs s) m h f a ≡ alternative_entries s m h f a
 same_alternatives s fs m h f (Clauses goal clause left) = refl
+same_alternatives s fs m h f (Solutions left) = refl
 same_alternatives s fs m h f Elsewhere = refl
 same_alternatives s fs m h f (Catch catcher recovery) = refl
 same_alternatives s fs m h f (Findall list results) = refl
@@ -86,6 +87,7 @@ same_alternatives s fs m h f QueryEnd = refl
 
 pub same_values : (s : RegionSetting) (fs : List Frame) (m : Moment) (a : Alternatives) → AreAlternativesAt s m a → AreAlternativesAt (with_frames fs s) m a
 same_values s fs m (Clauses goal clause left) v = v
+same_values s fs m (Solutions left) v = v
 same_values s fs m Elsewhere v = v
 same_values s fs m (Catch catcher recovery) v = v
 same_values s fs m (Findall list results) v = v
@@ -178,6 +180,7 @@ newest_keeps frames (d ∷ b ∷ cs) (suc i) c l e = newest_keeps d.frames (b �
 -- what the named variables are does not matter
 named_values : (s : RegionSetting) (named : List NamedTerm) (m : Moment) (a : Alternatives) → AreAlternativesAt s m a → AreAlternativesAt (record s { named = named }) m a
 named_values s named m (Clauses goal clause left) v = v
+named_values s named m (Solutions left) v = v
 named_values s named m Elsewhere v = v
 named_values s named m (Catch catcher recovery) v = v
 named_values s named m (Findall list results) v = v

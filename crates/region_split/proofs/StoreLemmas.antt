@@ -4,7 +4,7 @@ use Rattle.au_model.specs.Terms.Each.{Each}
 use Rattle.au_model.specs.Terms.Named.{NamedTerm}
 use Rattle.au_model.specs.Terms.Substitutions.{resolve}
 use Rattle.run_model.specs.Machine.Items.{Item, Continuation, resolve_continuation, with_next}
-use Rattle.run_model.specs.Machine.Entries.{Entry, PlainEntry, FindallEntry, CatchEntry}
+use Rattle.run_model.specs.Machine.Entries.{Entry, PlainEntry, FindallEntry, CatchEntry, solution_entries}
 use Rattle.clause_compile.specs.Places.{CodeView, Keeps}
 use Rattle.cell_store.specs.StoreView.{Moment, StoreView, AddsText, text_in, with_numbers}
 use Rattle.cell_store.proofs.SubstitutionLemmas.{value_kept}
@@ -15,9 +15,12 @@ use Rattle.region_split.specs.ChoicePoints.{RegionSetting, Standing, code_at, co
 use Rattle.region_split.specs.Regions.{RegionView, region_setting, left_here, heights_of, standing, IsConsistentRegion, IsPositionOver}
 use Rattle.region_split.specs.StackOperations.{KeepsPositions, StaysStanding}
 use Rattle.region_split.specs.declared.choice.Alternatives.{Alternatives}
-use Rattle.region_split.specs.declared.choice.Alternatives.TheVariants.{Clauses, Elsewhere, Catch, Findall, QueryEnd}
+use Rattle.region_split.specs.declared.choice.Alternatives.TheVariants.{Clauses, Solutions, Elsewhere, Catch, Findall, QueryEnd}
 use Rattle.region_split.specs.declared.choice.ChoicePoint.{ChoicePoint}
 use Rattle.region_split.specs.declared.frame.Position.{Position}
+use Rattle.au_model.proofs.EachLemmas.{each-more}
+use Rattle.region_split.specs.Solutions.{IsSolutionAt}
+use Rattle.region_split.proofs.SolutionLemmas.{solution_there, solutions_same}
 use Rattle.region_split.proofs.ScopeLemmas.{scoped_further, scoped_kept, items_kept}
 use Rattle.region_split.proofs.StandingLemmas.{choices_named}
 
@@ -44,6 +47,7 @@ module _ (program : CodeView) (names : List (List ℕ)) (s : RegionSetting) wher
 
   kept_values : (m : Moment) (a : Alternatives) → IsKept m → AreAlternativesAt s m a → AreAlternativesAt now m a
   kept_values m (Clauses goal clause left) k v = ((value_kept (code_at s m) (code_at now m) m.next goal k v.0).0, v.1, v.2)
+  kept_values m (Solutions left) k v = each-more (IsSolutionAt (code_at s m) m.next) (IsSolutionAt (code_at now m) m.next) (λ solution there. solution_there (code_at s m) (code_at now m) m.next k solution there) left v
   kept_values m Elsewhere k v = tt
   kept_values m (Catch catcher recovery) k v = ((value_kept (code_at s m) (code_at now m) m.next catcher k v.0).0, (value_kept (code_at s m) (code_at now m) m.next recovery k v.1).0)
   kept_values m (Findall list results) k v = ((value_kept (code_at s m) (code_at now m) m.next list k v.0).0, v.1)
@@ -51,6 +55,7 @@ module _ (program : CodeView) (names : List (List ℕ)) (s : RegionSetting) wher
 
   kept_alternatives : (m : Moment) (h : ℕ) (f : Continuation ℕ) (a : Alternatives) → IsKept m → AreAlternativesAt s m a → alternative_entries now m h f a ≡ alternative_entries s m h f a
   kept_alternatives m h f (Clauses goal clause left) k v = ap (λ t. entries_of_clauses s.text (resolve m.bound t) m.next h f (clause ∷ numbers_left s.text.heads left)) (value_kept (code_at s m) (code_at now m) m.next goal k v.0).1
+  kept_alternatives m h f (Solutions left) k v = ap (solution_entries h f) (solutions_same (code_at s m) (code_at now m) m.next k m.bound left v)
   kept_alternatives m h f Elsewhere k v = refl
   kept_alternatives m h f (Catch catcher recovery) k v =
       ap₂ (λ t u. CatchEntry (resolve m.bound t) (resolve m.bound u) f ∷ []) (value_kept (code_at s m) (code_at now m) m.next catcher k v.0).1 (value_kept (code_at s m) (code_at now m) m.next recovery k v.1).1

@@ -1,10 +1,10 @@
 -- What a choice point stands for: entries of the sequential machine.
-use Rattle.std.specs.Prelude.{◌≡◌, ◌<◌, ℕ, suc, ◌+◌, ◌-◌, ◌≤◌, List, [], ◌∷◌, ◌++◌, length, map, get_or, slice_get, IsSomeAnd, None}
+use Rattle.std.specs.Prelude.{◌≡◌, ◌<◌, ℕ, Bool, true, suc, ◌+◌, ◌-◌, ◌≤◌, List, [], ◌∷◌, ◌++◌, length, map, get_or, slice_get, IsSomeAnd, None}
 use Rattle.au_term.specs.Term.{Term}
 use Rattle.au_model.specs.Terms.Named.{NamedTerm}
 use Rattle.au_model.specs.Terms.Substitutions.{resolve}
 use Rattle.run_model.specs.Machine.Items.{Item, GoalItem, CatchMark, CollectMark, RemovalItem, Continuation, with_next, resolve_continuation}
-use Rattle.run_model.specs.Machine.Entries.{Entry, PlainEntry, CatchEntry, FindallEntry, EndEntry}
+use Rattle.run_model.specs.Machine.Entries.{Entry, PlainEntry, CatchEntry, FindallEntry, EndEntry, solution_entries}
 use Rattle.clause_compile.specs.Places.{CodeView}
 use Rattle.binding_array.specs.Represented.{cell_term}
 use Rattle.binding_array.specs.declared.cell.BindingCell.{BindingCell}
@@ -15,13 +15,15 @@ use Rattle.clause_index.specs.Cursors.{IsCursorOf, numbers_left}
 use Rattle.clause_index.specs.declared.key.HeadKey.{HeadKey}
 use Rattle.region_split.specs.Texts.{TextView}
 use Rattle.region_split.specs.Candidates.{entries_of_clauses}
+use Rattle.au_model.specs.Terms.Each.{Each}
+use Rattle.region_split.specs.Solutions.{SolutionView, solution_at, IsSolutionAt}
 use Rattle.region_split.specs.ResultLists.{with_copy, AreResultsFrom}
 use Rattle.region_split.specs.declared.choice.Alternatives.{Alternatives}
-use Rattle.region_split.specs.declared.choice.Alternatives.TheVariants.{Clauses, Elsewhere, Catch, Findall, QueryEnd}
+use Rattle.region_split.specs.declared.choice.Alternatives.TheVariants.{Clauses, Solutions, Elsewhere, Catch, Findall, QueryEnd}
 use Rattle.region_split.specs.declared.choice.ChoicePoint.{ChoicePoint}
 use Rattle.region_split.specs.declared.frame.Frame.{Frame}
 use Rattle.region_split.specs.declared.frame.FrameItem.{FrameItem}
-use Rattle.region_split.specs.declared.frame.FrameItem.TheVariants.{Goal, Call, Cut, True, Fail, CatchEnd, Collect}
+use Rattle.region_split.specs.declared.frame.FrameItem.TheVariants.{Goal, Call, Cut, True, Fail, CatchEnd, Collect, Removal}
 use Rattle.region_split.specs.declared.text.BodyItem.{BodyItem}
 use Rattle.region_split.specs.declared.frame.Position.{Position}
 
@@ -59,9 +61,11 @@ continuation_at s heights m p =
     resolve_continuation m.bound (record { items = map (by_height heights) (items_at (code_at s m) s.text.bodies s.frames p); named = s.named; next = m.next })
 
 -- the entries of alternatives, over so many entries, before what follows: one for each clause that is to be tried and whose
--- head unifies with the goal; one for what goes on elsewhere, for a catch, for a findall and for the end of a query
+-- head unifies with the goal, and for each solution whose equations unify; one for what goes on elsewhere, for a catch, for a findall
+-- and for the end of a query
 abbrev pub alternative_entries : RegionSetting → Moment → ℕ → Continuation ℕ → Alternatives → List Entry
 alternative_entries s m height f (Clauses goal clause left) = entries_of_clauses s.text (meant_at s m goal) m.next height f (clause ∷ numbers_left s.text.heads left)
+alternative_entries s m height f (Solutions left) = solution_entries height f (map (solution_at (code_at s m) m.bound) left)
 alternative_entries s m height f Elsewhere = PlainEntry f ∷ []
 alternative_entries s m height f (Catch catcher recovery) = CatchEntry (meant_at s m catcher) (meant_at s m recovery) f ∷ []
 alternative_entries s m height f (Findall list results) = FindallEntry results.terms (meant_at s m list) (with_next results.next f) ∷ []
@@ -88,14 +92,32 @@ standing_over s below (c ∷ choices) (m ∷ moments) = standing_over s (with_en
 -- alternatives that are no clauses
 abbrev pub HaveNoClause : Alternatives → Type 0
 HaveNoClause (Clauses goal clause left) = ⊥
+HaveNoClause (Solutions left) = Unit {0}
 HaveNoClause Elsewhere = Unit {0}
 HaveNoClause (Catch catcher recovery) = Unit {0}
 HaveNoClause (Findall list results) = Unit {0}
 HaveNoClause QueryEnd = Unit {0}
 
+-- alternatives of which no solution is left
+abbrev pub HaveNoSolution : Alternatives → Type 0
+HaveNoSolution (Clauses goal clause left) = Unit {0}
+HaveNoSolution (Solutions left) = left ≡ []
+HaveNoSolution Elsewhere = Unit {0}
+HaveNoSolution (Catch catcher recovery) = Unit {0}
+HaveNoSolution (Findall list results) = Unit {0}
+HaveNoSolution QueryEnd = Unit {0}
+
+-- the first solution was taken off, and it is said to be the last only where none is left
+pub record HaveSolution (old new : Alternatives) (solution : SolutionView) (is_last : Bool) : Type 0 where
+  pub rest : List SolutionView
+  pub was : old ≡ Solutions (solution ∷ rest)
+  pub is : new ≡ Solutions rest
+  pub last : is_last ≡ true → rest ≡ []
+
 -- how often alternatives can be taken, and how often all choice points can
 abbrev pub takes_left : List HeadKey → Alternatives → ℕ
 takes_left heads (Clauses goal clause left) = suc (length (numbers_left heads left))
+takes_left heads (Solutions left) = length left
 takes_left heads Elsewhere = 0
 takes_left heads (Catch catcher recovery) = 0
 takes_left heads (Findall list results) = 0
@@ -107,6 +129,7 @@ all_takes_left heads (c ∷ choices) = suc (takes_left heads c.alternatives) + a
 
 abbrev pub IsCollecting : Alternatives → Type 0
 IsCollecting (Clauses goal clause left) = ⊥
+IsCollecting (Solutions left) = ⊥
 IsCollecting Elsewhere = ⊥
 IsCollecting (Catch catcher recovery) = ⊥
 IsCollecting (Findall list results) = Unit {0}
@@ -114,6 +137,7 @@ IsCollecting QueryEnd = ⊥
 
 abbrev pub IsCatching : Alternatives → Type 0
 IsCatching (Clauses goal clause left) = ⊥
+IsCatching (Solutions left) = ⊥
 IsCatching Elsewhere = ⊥
 IsCatching (Catch catcher recovery) = Unit {0}
 IsCatching (Findall list results) = ⊥
@@ -135,6 +159,7 @@ IsMarkOf choices cut True = Unit {0}
 IsMarkOf choices cut Fail = Unit {0}
 IsMarkOf choices cut CatchEnd = (0 < cut) × IsCatchAt choices (cut - 1)
 IsMarkOf choices cut (Collect value) = (0 < cut) × IsFindallAt choices (cut - 1)
+IsMarkOf choices cut (Removal number) = Unit {0}
 
 abbrev pub IsMarkedIn : List ChoicePoint → LeftItem → Type 0
 IsMarkedIn choices (PlacedGoal place base cut) = Unit {0}
@@ -153,6 +178,7 @@ AreMarkedOver bodies frames below (c ∷ choices) = AreMarked below (left_items 
 -- a findall with one more result
 abbrev pub with_found : Term → Alternatives → Alternatives
 with_found t (Clauses goal clause left) = Clauses goal clause left
+with_found t (Solutions left) = Solutions left
 with_found t Elsewhere = Elsewhere
 with_found t (Catch catcher recovery) = Catch catcher recovery
 with_found t (Findall list results) = Findall list (with_copy t results)
@@ -165,6 +191,7 @@ nothing_standing = record { entries = []; heights = 0 ∷ [] }
 -- values that were there at a moment, and clauses of the text
 abbrev pub AreAlternativesAt : RegionSetting → Moment → Alternatives → Type 0
 AreAlternativesAt s m (Clauses goal clause left) = IsValue (code_at s m) m.next goal × (clause < length s.text.clauses) × IsCursorOf s.text.heads left
+AreAlternativesAt s m (Solutions left) = Each (IsSolutionAt (code_at s m) m.next) left
 AreAlternativesAt s m Elsewhere = Unit {0}
 AreAlternativesAt s m (Catch catcher recovery) = IsValue (code_at s m) m.next catcher × IsValue (code_at s m) m.next recovery
 AreAlternativesAt s m (Findall list results) = IsValue (code_at s m) m.next list × AreResultsFrom m.next results

@@ -4,7 +4,7 @@ use Rattle.std.specs.Prelude.{ℕ, zero, suc, ◌+◌, ◌-◌, ◌≤◌, List,
 use Rattle.au_term.specs.Term.{AtomTerm, var_bound}
 use Rattle.au_term.specs.Shifted.{shifted}
 use Rattle.run_model.specs.Programs.Bodies.{call_of}
-use Rattle.run_model.specs.Machine.Items.{Item, GoalItem, CatchMark, CollectMark}
+use Rattle.run_model.specs.Machine.Items.{Item, GoalItem, CatchMark, CollectMark, RemovalItem}
 use Rattle.clause_compile.specs.Places.{CodeView, IsPlaceOf, meaning_in}
 use Rattle.clause_compile.specs.declared.place.Place.{Place}
 use Rattle.binding_array.specs.Represented.{cell_term}
@@ -12,7 +12,7 @@ use Rattle.cell_store.specs.Values.{IsValue}
 use Rattle.region_split.specs.declared.text.BodyItem.{BodyItem}
 use Rattle.region_split.specs.declared.text.BodyItem.TheVariants.{Goal as GoalPlace, BodyEnd}
 use Rattle.region_split.specs.declared.frame.FrameItem.{FrameItem}
-use Rattle.region_split.specs.declared.frame.FrameItem.TheVariants.{Goal, Call, Cut, True, Fail, CatchEnd, Collect}
+use Rattle.region_split.specs.declared.frame.FrameItem.TheVariants.{Goal, Call, Cut, True, Fail, CatchEnd, Collect, Removal}
 use Rattle.region_split.specs.declared.frame.FrameBody.{FrameBody}
 use Rattle.region_split.specs.declared.frame.FrameBody.TheVariants.{Text, One}
 use Rattle.region_split.specs.declared.frame.Frame.{Frame}
@@ -33,6 +33,7 @@ scoped_item code True cut = GoalItem (AtomTerm (codes "true")) cut
 scoped_item code Fail cut = GoalItem (AtomTerm (codes "fail")) cut
 scoped_item code CatchEnd cut = CatchMark (cut - 1)
 scoped_item code (Collect value) cut = CollectMark (cell_term code value) (cut - 1)
+scoped_item code (Removal number) cut = RemovalItem number
 
 abbrev pub item_in : CodeView → LeftItem → Item ℕ
 item_in code (PlacedGoal place base cut) = GoalItem (shifted base (meaning_in code place)) cut
@@ -83,6 +84,7 @@ IsItemIn code next True = Unit {0}
 IsItemIn code next Fail = Unit {0}
 IsItemIn code next CatchEnd = Unit {0}
 IsItemIn code next (Collect value) = IsValue code next value
+IsItemIn code next (Removal number) = Unit {0}
 
 abbrev pub IsLeftIn : CodeView → ℕ → LeftItem → Type 0
 IsLeftIn code next (PlacedGoal place base cut) = IsPlaceOf code place × (var_bound (shifted base (meaning_in code place)) ≤ next)

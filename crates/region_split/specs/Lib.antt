@@ -1,5 +1,6 @@
 pub mod Texts
 pub mod Candidates
+pub mod Solutions
 pub mod ResultLists
 pub mod Frames
 pub mod ChoicePoints
@@ -7,3 +8,4 @@ pub mod Regions
 pub mod StackOperations
 pub mod ClauseTrials
 pub mod Backtracking
+pub mod SolutionTrials

@@ -15,11 +15,11 @@ abbrev pub with_copy : Term → ResultsView → ResultsView
 with_copy t r = record { terms = r.terms ++ copied t r.next ∷ []; next = r.next + copy_takes t }
 
 -- a term that nothing changes which leaves the numbers from this one on unbound
-abbrev pub IsAbove : ℕ → Term → Type 0
-IsAbove first t = (s : Substitution) → ((n : ℕ) → first ≤ n → value_of s n ≡ VarTerm n) → resolve s t ≡ t
+abbrev pub IsNumberedFrom : ℕ → Term → Type 0
+IsNumberedFrom first t = (s : Substitution) → ((n : ℕ) → first ≤ n → value_of s n ≡ VarTerm n) → resolve s t ≡ t
 
 -- results with numbers from this one on, all before their next
 pub record AreResultsFrom (first : ℕ) (r : ResultsView) : Type 0 where
   pub next : first ≤ r.next
-  pub above : Each (IsAbove first) r.terms
+  pub above : Each (IsNumberedFrom first) r.terms
   pub below : Each (λ t. var_bound t ≤ r.next) r.terms

@@ -3,13 +3,14 @@ use Rattle.std.specs.Prelude.{◌≡◌, ℕ, ◌≤◌, ◌<◌, List, [], ◌�
 use Rattle.au_model.specs.Terms.Named.{NamedTerm}
 use Rattle.au_term.specs.Term.{Term}
 use Rattle.run_model.specs.Programs.Clauses.{Clause}
-use Rattle.run_model.specs.Goals.Outcomes.{clause_solution}
+use Rattle.run_model.specs.Goals.Outcomes.{Solution, clause_solution}
 use Rattle.run_model.specs.Machine.Items.{Item, before, resolve_item}
 use Rattle.run_model.specs.Machine.Entries.{Entry, lowest, solution_entry, collected}
 use Rattle.cell_store.specs.StoreView.{Moment, text_in, with_mark, with_marks, new_store, IsValueIn, meaning}
 use Rattle.region_split.specs.Texts.{TextView}
+use Rattle.region_split.specs.Solutions.{SolutionView, solution_at, IsSolutionAt}
 use Rattle.region_split.specs.Frames.{own_body_left, scoped_item}
-use Rattle.region_split.specs.ChoicePoints.{height_of_cut, by_height, HaveNoClause, IsFindallAt, all_takes_left}
+use Rattle.region_split.specs.ChoicePoints.{height_of_cut, by_height, HaveNoClause, HaveNoSolution, IsFindallAt, all_takes_left}
 use Rattle.region_split.specs.Regions.{RegionView, left_here, continuation_here, standing, entries_of, heights_of, position_entry, entries_on, IsPositionIn, IsPositionOver, AreAlternativesIn}
 use Rattle.region_split.specs.declared.choice.Alternatives.{Alternatives}
 use Rattle.region_split.specs.declared.choice.ChoicePoint.{ChoicePoint}
@@ -116,6 +117,32 @@ pub record TakesClause (old new : RegionView) (t : Trial) : Type 0 where
   pub fewer : all_takes_left new.text.heads new.choices < all_takes_left old.text.heads old.choices
   pub text : new.text ≡ old.text
   pub frames : new.frames ≡ old.frames
+
+-- the newest choice point has no solution, or there is none
+abbrev pub HasNoSolutionOnTop : RegionView → Type 0
+HasNoSolutionOnTop r = (cs : List ChoicePoint) (c : ChoicePoint) → r.choices ≡ cs ++ c ∷ [] → HaveNoSolution c.alternatives
+
+-- a solution whose values are there now
+abbrev pub IsSolutionHere : RegionView → SolutionView → Type 0
+IsSolutionHere r solution = IsSolutionAt (text_in r.store) r.store.now.next solution
+
+-- what it stands for now
+abbrev pub solution_here : RegionView → SolutionView → Solution
+solution_here r solution = solution_at (text_in r.store) r.store.now.bound solution
+
+-- the entry of a solution before what follows at a position: it has no goals, so no height matters
+abbrev pub solved_entries : List NamedTerm → RegionView → SolutionView → Position → List Entry
+solved_entries named r solution after = solution_entry 0 (continuation_here named r after) (solution_here r solution)
+
+-- the first solution that was left was taken off the newest choice point, at the store of the time when it came: the entry of
+-- that solution, if its equations unify, was the first. Where none is left, the choice point is gone
+pub record TakesSolution (old new : RegionView) (solution : SolutionView) (after : Position) : Type 0 where
+  pub position : IsPositionOver new (length old.choices - 1) after
+  pub there : IsSolutionHere new solution
+  pub entries : (named : List NamedTerm) → entries_of named old ≡ solved_entries named new solution after ++ entries_of named new
+  pub many : length old.choices - 1 ≤ length new.choices
+  pub fewer : all_takes_left new.text.heads new.choices < all_takes_left old.text.heads old.choices
+  pub text : new.text ≡ old.text
 
 -- there is a findall over so many choice points
 abbrev pub HasFindallAt : RegionView → ℕ → Type 0

@@ -1,8 +1,10 @@
 //! Backtracking.
-ghost use Rattle.std.specs.Prelude.{◌≡◌, ◌<◌, IfOk, OnOk, length};
+ghost use Rattle.std.specs.Prelude.{◌≡◌, ◌<◌, IfOk, OnOk, length, option_map};
+ghost use Rattle.region_split.specs.declared.choice.Resumed.TheVariants.{At};
 ghost use Rattle.region_split.specs.Backtracking.{Resumes, TakesFreeSteps, TakesNext};
 
 use crate::choice::{Alternatives, ChoicePoint, Resumed};
+use crate::frame::Position;
 use crate::region::Region;
 use au_term::NoMemory;
 
@@ -31,10 +33,12 @@ impl Region {
     {
         let cut = self.scope()? - 1;
         if let Some(trial) = self.next_clause() {
-            return match self.try_clause(trial, cut)? {
-                Some(position) => Ok(Some(Resumed::At(position))),
-                None => Ok(None),
-            };
+            let reached = self.try_clause(trial, cut)?;
+            return Ok(resumed_at(reached));
+        }
+        if let Some((solution, after)) = self.next_solution() {
+            let reached = self.try_solution(&solution, after, cut)?;
+            return Ok(resumed_at(reached));
         }
         let ChoicePoint {
             alternatives,
@@ -43,6 +47,7 @@ impl Region {
         } = self.take_newest();
         match alternatives {
             Alternatives::Clauses { .. } => unreachable!(),
+            Alternatives::Solutions(_) => Ok(None),
             Alternatives::Elsewhere => Ok(Some(Resumed::At(after))),
             Alternatives::Catch { .. } => Ok(None),
             Alternatives::Findall { list, results } => Ok(Some(Resumed::FindallDone {
@@ -52,5 +57,15 @@ impl Region {
             })),
             Alternatives::QueryEnd => Ok(Some(Resumed::QueryDone)),
         }
+    }
+}
+
+/// A position at which what is left goes on, if there is one.
+fn resumed_at(reached: Option<Position>) -> Option<Resumed>
+    ensures { result ≡ option_map At reached }
+{
+    match reached {
+        Some(position) => Some(Resumed::At(position)),
+        None => None,
     }
 }

@@ -1,9 +1,10 @@
 //! Choice points.
 ghost use Rattle.std.specs.Prelude.{◌≡◌, MatchOption, OnOk, OnErr, IsTrue, ◌↔◌};
-ghost use Rattle.region_split.specs.ChoicePoints.{HaveNoClause, IsCollecting, with_found};
+ghost use Rattle.region_split.specs.ChoicePoints.{HaveNoClause, HaveNoSolution, HaveSolution, IsCollecting, with_found};
 
 use crate::frame::Position;
 use crate::results::Results;
+use crate::solution::{Solution, Solutions};
 use au_term::{FlatTerm, NoMemory};
 use binding_array::BindingCell;
 use clause_index::Cursor;
@@ -18,6 +19,8 @@ pub enum Alternatives {
         clause: u32,
         left: Cursor,
     },
+    /// The solutions that are still to be tried.
+    Solutions(Solutions),
     /// What is left to do at the choice point's position.
     Elsewhere,
     /// What is caught, and the recovery.
@@ -74,6 +77,20 @@ impl Alternatives {
     {
         match self {
             Alternatives::Clauses { goal, clause, left } => Some((*goal, *clause, *left)),
+            _ => None,
+        }
+    }
+
+    /// Takes the first solution off, if they are solutions, and says whether it was the last.
+    pub(crate) fn next_solution(&mut self) -> Option<(Solution, bool)>
+        ensures { MatchOption result (HaveNoSolution self.old × (self.new ≡ self.old)) (λ t. HaveSolution self.old self.new t.0 t.1) }
+    {
+        match self {
+            Alternatives::Solutions(left) => {
+                let solution = left.take()?;
+                let is_last = left.is_empty();
+                Some((solution, is_last))
+            }
             _ => None,
         }
     }

@@ -22,6 +22,8 @@ pub enum FrameItem {
     CatchEnd,
     /// What a findall collects, whose choice point is found likewise.
     Collect(BindingCell),
+    /// The removal of the clause with a number.
+    Removal(u64),
 }
 
 /// What a frame does before it goes on.

@@ -20,10 +20,13 @@ mod frame;
 pub mod keys;
 mod region;
 mod results;
+mod solution;
+mod solve;
 mod text;
 
 pub use choice::{Alternatives, ChoicePoint, Resumed, Trial};
 pub use frame::{Frame, FrameBody, FrameItem, Left, Position};
 pub use region::Region;
 pub use results::Results;
+pub use solution::{Equation, EquationSide, Solution, Solutions};
 pub use text::{BodyItem, PlacedClause, Text};

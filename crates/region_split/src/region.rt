@@ -9,11 +9,12 @@ ghost use Rattle.cell_store.specs.UnificationSteps.{IsUnified, OnlyBinds};
 ghost use Rattle.au_model.specs.Terms.Named.{NamedTerm};
 ghost use Rattle.region_split.specs.ChoicePoints.{frames_kept, height_of_cut, IsMarkOf};
 ghost use Rattle.region_split.specs.Regions.{entries_of, heights_of, items_here, IsLeftAt, IsItemHere, IsPositionIn, IsPositionOver, AreAlternativesIn};
-ghost use Rattle.region_split.specs.StackOperations.{new_region, item_here, KeepsPositions, PutsBefore, AddsFrame, AddsChoice, CutsTo, TakesNewest, DropsNewest, HasNoClauseOnTop, TakesClause, HasFindallAt, AddsResult, StaysStanding};
+ghost use Rattle.region_split.specs.StackOperations.{new_region, item_here, KeepsPositions, PutsBefore, AddsFrame, AddsChoice, CutsTo, TakesNewest, DropsNewest, HasNoClauseOnTop, TakesClause, HasNoSolutionOnTop, TakesSolution, HasFindallAt, AddsResult, StaysStanding};
 
 use crate::candidates::next_match;
 use crate::choice::{Alternatives, ChoicePoint, Trial};
 use crate::frame::{Frame, FrameBody, FrameItem, Left, Position};
+use crate::solution::Solution;
 use crate::text::{BodyItem, Text};
 use au_term::{FlatTerm, NoMemory, Shared};
 use binding_array::BindingCell;
@@ -263,6 +264,28 @@ impl Region {
         };
         self.choices[count - 1].alternatives = Alternatives::Clauses { goal, clause, left };
         Some(trial)
+    }
+
+    /// Takes the first solution that is left off the newest choice point, and undoes all that was bound and made since that
+    /// came. Where it was the last, the choice point is dropped.
+    pub fn next_solution(&mut self) -> Option<(Solution, Position)>
+        ensures { MatchOption result (HasNoSolutionOnTop self.old × (self.new ≡ self.old)) (λ t. TakesSolution self.old self.new t.0 t.1) }
+    {
+        let count = self.choices.len();
+        if count == 0 {
+            return None;
+        }
+        let newest = &mut self.choices[count - 1];
+        let after = newest.after;
+        let Some((solution, is_last)) = newest.alternatives.next_solution() else {
+            return None;
+        };
+        self.store.undo_to(count - 1);
+        if is_last {
+            let _last = self.take_newest();
+            return Some((solution, after));
+        }
+        Some((solution, after))
     }
 
     /// Whether a procedure has a clause in the text, by the number of its name in the store.

@@ -17,13 +17,13 @@ use std::process::Abort;
 use std::sync::Arc;
 use std::test::Fail;
 
-fn region(alloc: Global) -> Result<Region, Fail> {
+pub(crate) fn region(alloc: Global) -> Result<Region, Fail> {
     let text = Text::new(alloc, Vec::new(alloc))?;
     Ok(Region::new(alloc, Arc::new(alloc, text)?)?)
 }
 
 /// A goal after which nothing follows.
-fn last(region: &Region) -> Result<GoalPlace, NoMemory>
+pub(crate) fn last(region: &Region) -> Result<GoalPlace, NoMemory>
     ensures { IfOk result (IsGoalPlace region.now) }
 {
     let cut = region.scope()?;

@@ -3,9 +3,11 @@ ghost use Rattle.std.specs.Prelude.{◌<◌, ◌≤◌, length};
 ghost use Rattle.cell_store.specs.StoreView.{IsValueIn};
 ghost use Rattle.region_split.specs.Regions.{AreAlternativesIn};
 
-use au_term::{Atom, Cell, FlatTerm, NoMemory, TermBuilder};
+use au_model::build::binary;
+use au_term::{Atom, Cell, FlatTerm, NoMemory, Shared, TermBuilder, VarNo};
 use binding_array::BindingCell;
 use clause_compile::{Place, compile};
+use clause_index::Cursor;
 use region_split::{
     Alternatives, BodyItem, Frame, FrameBody, Left, Position, Region, Results, Resumed, Text, Trial,
 };
@@ -13,6 +15,7 @@ use std::alloc::Global;
 use std::process::Abort;
 use std::sync::Arc;
 use std::test::Fail;
+use value_goals::type_tests::is_callable;
 
 fn atom(rt: &impl Abort, alloc: Global, name: &str) -> Result<FlatTerm, Fail> {
     let mut builder = TermBuilder::new(alloc);
@@ -94,22 +97,20 @@ fn choice_points_come_back(rt: HostRuntime) -> Result<(), Fail> {
 }
 
 #[test]
-fn clauses_come_in_their_order(rt: HostRuntime) -> Result<(), Fail> {
+fn last_clause_takes_its_choice_point(rt: HostRuntime) -> Result<(), Fail> {
     let mut region = Region::new(rt.alloc(), text(&rt, rt.alloc())?)?;
     assert!(rt; region.text().clauses() >= 2);
     let clauses = Alternatives::Clauses {
         goal: BindingCell::Int(7),
-        first: 0,
-        end: 2,
+        clause: 1,
+        left: Cursor::All(None),
     };
     push(&mut region, clauses)?;
-    for clause in 0..2 {
-        let trial = region.next_clause().ok_or("a clause")?;
-        assert_eq!(rt; trial.clause, clause);
-        assert_eq!(rt; trial.goal, BindingCell::Int(7));
-    }
+    let trial = region.next_clause().ok_or("a clause")?;
+    assert_eq!(rt; trial.clause, 1);
+    assert_eq!(rt; trial.goal, BindingCell::Int(7));
+    assert_eq!(rt; region.height(), 0);
     assert!(rt; region.next_clause().is_none());
-    assert_eq!(rt; region.height(), 1);
     Ok(())
 }
 
@@ -175,17 +176,12 @@ fn try_clause(
     region.try_clause(trial, cut)
 }
 
-fn call(
-    region: &mut Region,
-    goal: BindingCell,
-    first: u32,
-    end: u32,
-) -> Result<Option<Position>, NoMemory>
-    requires clauses { end ≤ length region.old.text.clauses }
-    requires goal { IsValueIn region.old.store goal }
+fn call(rt: &impl Abort, region: &mut Region, goal: BindingCell) -> Result<Option<Position>, Fail>
+    requires { IsValueIn region.old.store goal }
 {
+    assert!(rt; is_callable(region.store(), goal));
     let after = region.nothing_left();
-    region.call(goal, first, end, after)
+    Ok(region.call(goal, after)?)
 }
 
 /// A region with one variable.
@@ -221,40 +217,117 @@ fn clauses_are_tried(rt: HostRuntime) -> Result<(), Fail> {
 }
 
 #[test]
-fn clauses_are_left_to_a_choice_point(rt: HostRuntime) -> Result<(), Fail> {
-    let mut region = region_of_one(&rt, rt.alloc())?;
-    assert!(rt; region.text().clauses() >= 2 && region.store().next() > 0);
-    assert_eq!(rt;
-        call(&mut region, BindingCell::Var(0), 0, 2)?,
-        Some(FIRST_BODY)
-    );
-    assert_eq!(rt; region.height(), 1);
-    match region.backtrack()? {
-        Resumed::At(next) => assert_eq!(rt; next, NOTHING),
-        _ => Err("a position")?,
+fn one_clause_leaves_no_choice_point(rt: HostRuntime) -> Result<(), Fail> {
+    let alloc = rt.alloc();
+    let mut region = region_of_one(&rt, alloc)?;
+    let goal = Shared::from_term(alloc, atom(&rt, alloc, "p")?)?;
+    assert!(rt; goal.to_term(alloc)?.bound() <= VarNo::from(region.store().next()));
+    let goal = region.copy_in(&goal)?;
+    match region.store().dereference(goal) {
+        BindingCell::Atom(name) => {
+            assert!(rt; region.is_defined(name, 0) && !region.is_defined(name, 1));
+        }
+        _ => Err("an atom")?,
     }
+    assert_eq!(rt; call(&rt, &mut region, goal)?, Some(FIRST_BODY));
+    assert_eq!(rt; region.height(), 0);
+    Ok(())
+}
+
+fn integer(alloc: Global, value: i64) -> Result<FlatTerm, Fail> {
+    Ok(FlatTerm::from_slice(alloc, &[Cell::Int(value)])?)
+}
+
+/// A region over the facts `f(0,1)`, `f(1,0)`, `f(2,1)` and so on, with one variable.
+fn facts(rt: &impl Abort, alloc: Global, count: i64) -> Result<Region, Fail> {
+    let mut clauses = Vec::new(alloc);
+    let body = atom(rt, alloc, "true")?;
+    for number in 0..count {
+        let first = integer(alloc, number)?;
+        let second = integer(alloc, 1 - number % 2)?;
+        match compile(alloc, &binary(alloc, "f", &first, &second)?, &body) {
+            Ok(clause) => clauses.push(clause)?,
+            Err(_) => Err("a clause")?,
+        }
+    }
+    let text = Text::new(alloc, clauses)?;
+    let mut region = Region::new(alloc, Arc::new(alloc, text)?)?;
+    region.fresh(1)?;
+    Ok(region)
+}
+
+/// Calls `f` with two arguments.
+fn call_fact(
+    rt: &impl Abort,
+    alloc: Global,
+    region: &mut Region,
+    first: &FlatTerm,
+    second: &FlatTerm,
+) -> Result<Option<Position>, Fail> {
+    let goal = Shared::from_term(alloc, binary(alloc, "f", first, second)?)?;
+    assert!(rt; goal.to_term(alloc)?.bound() <= VarNo::from(region.store().next()));
+    let goal = region.copy_in(&goal)?;
+    call(rt, region, goal)
+}
+
+fn assert_bound(rt: &impl Abort, region: &Region, value: i64) {
     assert!(rt; region.store().next() > 0);
     assert_eq!(rt;
         region.store().dereference(BindingCell::Var(0)),
-        BindingCell::Atom(1)
+        BindingCell::Int(value)
     );
-    assert_eq!(rt; region.height(), 0);
+}
+
+#[test]
+fn one_of_many_facts(rt: HostRuntime) -> Result<(), Fail> {
+    let alloc = rt.alloc();
+    let mut region = facts(&rt, alloc, 100_000)?;
+    let free = FlatTerm::from_slice(alloc, &[Cell::Var(0)])?;
+    let (key, zero, one) = (
+        integer(alloc, 77_777)?,
+        integer(alloc, 0)?,
+        integer(alloc, 1)?,
+    );
+    for _turn in 0..1_000 {
+        let reached = call_fact(&rt, alloc, &mut region, &key, &zero)?;
+        assert_eq!(rt; reached, Some(NOTHING));
+        assert_eq!(rt; region.height(), 0);
+        let reached = call_fact(&rt, alloc, &mut region, &free, &one)?;
+        assert_eq!(rt; reached, Some(NOTHING));
+        assert_bound(&rt, &region, 0);
+        assert!(rt; 0 < region.height());
+        let _newest = region.take_newest();
+    }
+    Ok(())
+}
+
+#[test]
+fn facts_in_their_order(rt: HostRuntime) -> Result<(), Fail> {
+    let alloc = rt.alloc();
+    let mut region = facts(&rt, alloc, 6)?;
+    let free = FlatTerm::from_slice(alloc, &[Cell::Var(0)])?;
+    let reached = call_fact(&rt, alloc, &mut region, &free, &integer(alloc, 0)?)?;
+    assert_eq!(rt; reached, Some(NOTHING));
+    assert_bound(&rt, &region, 1);
+    for (value, height) in [(3, 1), (5, 0)] {
+        assert_eq!(rt; region.height(), 1);
+        assert!(rt; matches!(region.backtrack()?, Resumed::At(NOTHING)));
+        assert_bound(&rt, &region, value);
+        assert_eq!(rt; region.height(), height);
+    }
     assert!(rt; matches!(region.backtrack()?, Resumed::AllDone));
     Ok(())
 }
 
 #[test]
 fn calls_that_leave_nothing(rt: HostRuntime) -> Result<(), Fail> {
-    let mut region = region_of_one(&rt, rt.alloc())?;
-    assert!(rt; region.text().clauses() >= 2);
-    assert_eq!(rt; call(&mut region, BindingCell::Int(7), 0, 2)?, None);
-    assert_eq!(rt; region.height(), 0);
-    assert!(rt; region.text().clauses() >= 2 && region.store().next() > 0);
-    assert_eq!(rt; call(&mut region, BindingCell::Var(0), 1, 1)?, None);
-    assert!(rt; region.text().clauses() >= 2 && region.store().next() > 0);
+    let alloc = rt.alloc();
+    let mut region = facts(&rt, alloc, 6)?;
+    let (key, other) = (integer(alloc, 3)?, integer(alloc, 1)?);
+    assert_eq!(rt; call_fact(&rt, alloc, &mut region, &key, &other)?, None);
     assert_eq!(rt;
-        call(&mut region, BindingCell::Var(0), 1, 2)?,
-        Some(NOTHING)
+        call_fact(&rt, alloc, &mut region, &integer(alloc, 9)?, &other)?,
+        None
     );
     assert_eq!(rt; region.height(), 0);
     Ok(())

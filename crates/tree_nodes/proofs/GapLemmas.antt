@@ -6,7 +6,7 @@ use Rattle.std.specs.Prelude.{slice_get, slice_set}
 use Rattle.tree_nodes.specs.declared.gaps.Gap.{Gap}
 use Rattle.tree_nodes.specs.Rows.{AlternativeCell}
 use Rattle.tree_nodes.specs.Gathering.{is_shut}
-use Rattle.tree_nodes.specs.Gaps.{right_in, left_in, right_at, left_at, shut_or_past, IsShutAt, AreGaps, IsFlat, IsRightSet, IsLeftSet, Regaps, ShutsGap, IsNextAfter}
+use Rattle.tree_nodes.specs.Gaps.{right_of_gap, left_of_gap, right_of_gap_at, left_of_gap_at, shut_or_past, IsShutAt, AreGaps, IsFlat, IsRightSet, IsLeftSet, Regaps, ShutsGap, IsNextAfter}
 
 abbrev Cell : Type 0
 Cell = ℕ × AlternativeCell
@@ -38,32 +38,32 @@ flat_gaps gaps cells h = record {
   left = λ i j l m. absurd (let z = (h i).1 in omega (arith, l, m, z));
 }
 
-pub right_set : (gaps : List Gap) (at : ℕ) (g : Gap) (right : ℕ) → at < length gaps → g.left ≡ left_at gaps at → g.right ≡ right → IsRightSet gaps (slice_set gaps at g) at right
+pub right_set : (gaps : List Gap) (at : ℕ) (g : Gap) (right : ℕ) → at < length gaps → g.left ≡ left_of_gap_at gaps at → g.right ≡ right → IsRightSet gaps (slice_set gaps at g) at right
 right_set gaps at g right l e f = record {
   rights = λ i. elim (cases_eq i at) [
-    | inl z ↦ inr (z, ap (right_at (slice_set gaps at g)) z ∙ (ap right_in (get-set_same gaps at g l) ∙ f))
-    | inr ne ↦ inl (ap right_in (get-set_other gaps at i g ne))
+    | inl z ↦ inr (z, ap (right_of_gap_at (slice_set gaps at g)) z ∙ (ap right_of_gap (get-set_same gaps at g l) ∙ f))
+    | inr ne ↦ inl (ap right_of_gap (get-set_other gaps at i g ne))
   ];
   lefts = λ i. elim (cases_eq i at) [
-    | inl z ↦ ap (left_at (slice_set gaps at g)) z ∙ (ap left_in (get-set_same gaps at g l) ∙ (e ∙ ap (left_at gaps) (sym z)))
-    | inr ne ↦ ap left_in (get-set_other gaps at i g ne)
+    | inl z ↦ ap (left_of_gap_at (slice_set gaps at g)) z ∙ (ap left_of_gap (get-set_same gaps at g l) ∙ (e ∙ ap (left_of_gap_at gaps) (sym z)))
+    | inr ne ↦ ap left_of_gap (get-set_other gaps at i g ne)
   ];
 }
 
-pub left_set : (gaps : List Gap) (at : ℕ) (g : Gap) (left : ℕ) → at < length gaps → g.right ≡ right_at gaps at → g.left ≡ left → IsLeftSet gaps (slice_set gaps at g) at left
+pub left_set : (gaps : List Gap) (at : ℕ) (g : Gap) (left : ℕ) → at < length gaps → g.right ≡ right_of_gap_at gaps at → g.left ≡ left → IsLeftSet gaps (slice_set gaps at g) at left
 left_set gaps at g left l e f = record {
   rights = λ i. elim (cases_eq i at) [
-    | inl z ↦ ap (right_at (slice_set gaps at g)) z ∙ (ap right_in (get-set_same gaps at g l) ∙ (e ∙ ap (right_at gaps) (sym z)))
-    | inr ne ↦ ap right_in (get-set_other gaps at i g ne)
+    | inl z ↦ ap (right_of_gap_at (slice_set gaps at g)) z ∙ (ap right_of_gap (get-set_same gaps at g l) ∙ (e ∙ ap (right_of_gap_at gaps) (sym z)))
+    | inr ne ↦ ap right_of_gap (get-set_other gaps at i g ne)
   ];
   lefts = λ i. elim (cases_eq i at) [
-    | inl z ↦ inr (z, ap (left_at (slice_set gaps at g)) z ∙ (ap left_in (get-set_same gaps at g l) ∙ f))
-    | inr ne ↦ inl (ap left_in (get-set_other gaps at i g ne))
+    | inl z ↦ inr (z, ap (left_of_gap_at (slice_set gaps at g)) z ∙ (ap left_of_gap (get-set_same gaps at g l) ∙ f))
+    | inr ne ↦ inl (ap left_of_gap (get-set_other gaps at i g ne))
   ];
 }
 
 -- what lies between the ends of the gaps on both sides of an alternative that has closed
-between : (gaps : List Gap) (cells : List Cell) (i j : ℕ) → IsShutAt cells i → AreGaps gaps cells → i ≤ j + left_at gaps i → j ≤ i + right_at gaps i → IsShutAt cells j
+between : (gaps : List Gap) (cells : List Cell) (i j : ℕ) → IsShutAt cells i → AreGaps gaps cells → i ≤ j + left_of_gap_at gaps i → j ≤ i + right_of_gap_at gaps i → IsShutAt cells j
 between gaps cells i j shut h l m = elim (cases_lt j i) [
   | inl k ↦ h.left i j k l
   | inr k ↦ elim (cases_eq j i) [
@@ -72,7 +72,7 @@ between gaps cells i j shut h l m = elim (cases_lt j i) [
   ]
 ]
 
-pub right_joined : (old new : List Gap) (i at many : ℕ) → left_at old i < i → at ≡ (i - 1) - left_at old i → many ≤ (left_at old i + right_at old i) + 1
+pub right_joined : (old new : List Gap) (i at many : ℕ) → left_of_gap_at old i < i → at ≡ (i - 1) - left_of_gap_at old i → many ≤ (left_of_gap_at old i + right_of_gap_at old i) + 1
     → IsRightSet old new at many → ShutsGap old new i
 right_joined old new i at many less place most set cells shut h = record {
   right = λ a j l m. elim (set.rights a) [
@@ -83,7 +83,7 @@ right_joined old new i at many less place most set cells shut h = record {
 }
 
 pub left_joined : (old middle new : List Gap) (i at many : ℕ) (cells : List Cell) → IsShutAt cells i → AreGaps old cells → AreGaps middle cells
-    → at ≡ (i + 1) + right_at old i → many ≤ (left_at old i + right_at old i) + 1 → IsLeftSet middle new at many → AreGaps new cells
+    → at ≡ (i + 1) + right_of_gap_at old i → many ≤ (left_of_gap_at old i + right_of_gap_at old i) + 1 → IsLeftSet middle new at many → AreGaps new cells
 left_joined old middle new i at many cells shut h k place most set = record {
   right = λ a j l m. k.right a j l (let e = set.rights a in omega (arith, m, e));
   left = λ a j l m. elim (set.lefts a) [
@@ -134,5 +134,5 @@ pub popped_gaps : (gaps : List Gap) (cells front : List Cell) (last : Cell) → 
 popped_gaps gaps cells front last e h = all_kept gaps cells front (λ j s. front_shut front last j (subst (λ (x : List Cell). IsShutAt x j) e s)) h
 
 -- the next one
-pub next_after : (gaps : List Gap) (cells : List Cell) (i n : ℕ) → AreGaps gaps cells → i < n → n ≤ (i + 1) + right_at gaps i → IsNextAfter cells i n
+pub next_after : (gaps : List Gap) (cells : List Cell) (i n : ℕ) → AreGaps gaps cells → i < n → n ≤ (i + 1) + right_of_gap_at gaps i → IsNextAfter cells i n
 next_after gaps cells i n h l m = record { further = l; shut = λ j a b. h.right i j a (omega (arith, m, b)) }

@@ -4,20 +4,20 @@ use Rattle.tree_nodes.specs.declared.gaps.Gap.{Gap}
 use Rattle.tree_nodes.specs.Rows.{AlternativeCell}
 use Rattle.tree_nodes.specs.Gathering.{is_shut}
 
-abbrev pub right_in : Option Gap → ℕ
-right_in None = 0
-right_in (Some g) = g.right
+abbrev pub right_of_gap : Option Gap → ℕ
+right_of_gap None = 0
+right_of_gap (Some g) = g.right
 
-abbrev pub left_in : Option Gap → ℕ
-left_in None = 0
-left_in (Some g) = g.left
+abbrev pub left_of_gap : Option Gap → ℕ
+left_of_gap None = 0
+left_of_gap (Some g) = g.left
 
 -- so many to the right of an alternative, and to its left
-abbrev pub right_at : List Gap → ℕ → ℕ
-right_at gaps i = right_in (slice_get gaps i)
+abbrev pub right_of_gap_at : List Gap → ℕ → ℕ
+right_of_gap_at gaps i = right_of_gap (slice_get gaps i)
 
-abbrev pub left_at : List Gap → ℕ → ℕ
-left_at gaps i = left_in (slice_get gaps i)
+abbrev pub left_of_gap_at : List Gap → ℕ → ℕ
+left_of_gap_at gaps i = left_of_gap (slice_get gaps i)
 
 -- an alternative that has closed, or none
 abbrev pub shut_or_past : Option (ℕ × AlternativeCell) → Bool
@@ -28,21 +28,21 @@ abbrev pub IsShutAt : List (ℕ × AlternativeCell) → ℕ → Type 0
 IsShutAt cells j = shut_or_past (slice_get cells j) ≡ true
 
 pub record AreGaps (gaps : List Gap) (cells : List (ℕ × AlternativeCell)) : Type 0 where
-  pub right : (i j : ℕ) → i < j → j ≤ i + right_at gaps i → IsShutAt cells j
-  pub left : (i j : ℕ) → j < i → i ≤ j + left_at gaps i → IsShutAt cells j
+  pub right : (i j : ℕ) → i < j → j ≤ i + right_of_gap_at gaps i → IsShutAt cells j
+  pub left : (i j : ℕ) → j < i → i ≤ j + left_of_gap_at gaps i → IsShutAt cells j
 
 -- nothing is said of any alternative
 abbrev pub IsFlat : List Gap → Type 0
-IsFlat gaps = (i : ℕ) → (right_at gaps i ≡ 0) × (left_at gaps i ≡ 0)
+IsFlat gaps = (i : ℕ) → (right_of_gap_at gaps i ≡ 0) × (left_of_gap_at gaps i ≡ 0)
 
 -- at one alternative there is another number on this side, if anything
 pub record IsRightSet (old new : List Gap) (at right : ℕ) : Type 0 where
-  pub rights : (i : ℕ) → (right_at new i ≡ right_at old i) ⊎ ((i ≡ at) × (right_at new i ≡ right))
-  pub lefts : (i : ℕ) → left_at new i ≡ left_at old i
+  pub rights : (i : ℕ) → (right_of_gap_at new i ≡ right_of_gap_at old i) ⊎ ((i ≡ at) × (right_of_gap_at new i ≡ right))
+  pub lefts : (i : ℕ) → left_of_gap_at new i ≡ left_of_gap_at old i
 
 pub record IsLeftSet (old new : List Gap) (at left : ℕ) : Type 0 where
-  pub rights : (i : ℕ) → right_at new i ≡ right_at old i
-  pub lefts : (i : ℕ) → (left_at new i ≡ left_at old i) ⊎ ((i ≡ at) × (left_at new i ≡ left))
+  pub rights : (i : ℕ) → right_of_gap_at new i ≡ right_of_gap_at old i
+  pub lefts : (i : ℕ) → (left_of_gap_at new i ≡ left_of_gap_at old i) ⊎ ((i ≡ at) × (left_of_gap_at new i ≡ left))
 
 -- where an alternative has closed, what is said then holds
 abbrev pub ShutsGap : List Gap → List Gap → ℕ → Type 0

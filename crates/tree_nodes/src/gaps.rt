@@ -1,6 +1,6 @@
 //! Where the next open alternative is.
 ghost use Rattle.std.specs.Prelude.{◌≡◌, ◌≤◌, ◌+◌, IfOk};
-ghost use Rattle.tree_nodes.specs.Gaps.{right_at, left_at, IsFlat, IsRightSet, IsLeftSet, Regaps, ShutsGap};
+ghost use Rattle.tree_nodes.specs.Gaps.{right_of_gap_at, left_of_gap_at, IsFlat, IsRightSet, IsLeftSet, Regaps, ShutsGap};
 
 use au_term::NoMemory;
 use std::alloc::Global;
@@ -38,8 +38,8 @@ fn shut_gap(gaps: &mut Vec<Gap>, index: usize)
 }
 
 fn join_left(gaps: &mut Vec<Gap>, index: usize, left: usize, many: usize)
-    requires left { left ≡ left_at gaps.old.items index }
-    requires many { many ≤ (left + right_at gaps.old.items index) + 1 }
+    requires left { left ≡ left_of_gap_at gaps.old.items index }
+    requires many { many ≤ (left + right_of_gap_at gaps.old.items index) + 1 }
     ensures { ShutsGap gaps.old.items gaps.new.items index }
 {
     if left >= index {
@@ -62,7 +62,7 @@ pub(crate) fn regap(gaps: &mut Vec<Gap>, index: usize, was: bool, now: bool)
 
 /// So many to the right of an alternative, without a break, are known to have closed.
 pub(crate) fn right_gap(gaps: &[Gap], index: usize) -> usize
-    ensures { result ≡ right_at gaps.now index }
+    ensures { result ≡ right_of_gap_at gaps.now index }
 {
     match gaps.get(index) {
         Some(gap) => gap.right,
@@ -71,7 +71,7 @@ pub(crate) fn right_gap(gaps: &[Gap], index: usize) -> usize
 }
 
 fn left_gap(gaps: &[Gap], index: usize) -> usize
-    ensures { result ≡ left_at gaps.now index }
+    ensures { result ≡ left_of_gap_at gaps.now index }
 {
     match gaps.get(index) {
         Some(gap) => gap.left,

@@ -22,7 +22,7 @@ pub(crate) struct Gathered {
 
 impl Model for Gathered {
     ghost use Rattle.std.specs.Prelude.{◌++◌, reverse};
-    ghost use Rattle.tree_nodes.specs.Batches.{joined};
+    ghost use Rattle.tree_nodes.specs.Batches.{batched_terms};
     ghost use Rattle.std.specs.Coded.{codes};
     ghost use Rattle.au_term.specs.PrefixOrder.{term_code};
     ghost use Rattle.tree_model.specs.Credits.{Credit};
@@ -31,7 +31,7 @@ impl Model for Gathered {
 
     ghost coded = { Prim.hlevel (codes, term_code) };
 
-    ghost view = { λ g. record { inferences = g.inferences; answers = g.answers; records = joined (reverse g.before.items) ++ joined g.behind.items } };
+    ghost view = { λ g. record { inferences = g.inferences; answers = g.answers; records = batched_terms (reverse g.before.items) ++ batched_terms g.behind.items } };
 }
 
 impl Gathered {

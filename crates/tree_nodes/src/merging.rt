@@ -1,7 +1,7 @@
 //! Batches beside each other made one, so that few are left: a record is copied only where its batch grows in proportion, or
 //! once where it is between greater ones.
 ghost use Rattle.std.specs.Prelude.{◌≡◌, ◌++◌, IfOk, OnOk};
-ghost use Rattle.tree_nodes.specs.Batches.{joined, IsMergeStep};
+ghost use Rattle.tree_nodes.specs.Batches.{batched_terms, IsMergeStep};
 
 use crate::records::Batch;
 use au_term::NoMemory;
@@ -19,7 +19,7 @@ enum Merge {
 
 /// The same records in fewer batches.
 pub(crate) fn merged(alloc: Global, batches: Vec<Batch>) -> Result<Vec<Batch>, NoMemory>
-    ensures { IfOk result (λ all. joined all.items ≡ joined batches.items) }
+    ensures { IfOk result (λ all. batched_terms all.items ≡ batched_terms batches.items) }
 {
     if batches.len() <= 1 {
         return Ok(batches);
@@ -28,7 +28,7 @@ pub(crate) fn merged(alloc: Global, batches: Vec<Batch>) -> Result<Vec<Batch>, N
 }
 
 fn all_merged(alloc: Global, batches: &[Batch]) -> Result<Vec<Batch>, NoMemory>
-    ensures { IfOk result (λ all. joined all.items ≡ joined batches.now) }
+    ensures { IfOk result (λ all. batched_terms all.items ≡ batched_terms batches.now) }
 {
     let mut all = Vec::new(alloc);
     for batch in batches {
@@ -38,7 +38,7 @@ fn all_merged(alloc: Global, batches: &[Batch]) -> Result<Vec<Batch>, NoMemory>
 }
 
 fn push_merged(alloc: Global, all: &mut Vec<Batch>, batch: Batch) -> Result<(), NoMemory>
-    ensures { OnOk result (joined all.new.items ≡ joined all.old.items ++ batch) }
+    ensures { OnOk result (batched_terms all.new.items ≡ batched_terms all.old.items ++ batch) }
 {
     let mut last = batch;
     loop {

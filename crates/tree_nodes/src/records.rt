@@ -1,6 +1,6 @@
 //! Records in their order, in batches that credits share.
 ghost use Rattle.std.specs.Prelude.{◌≡◌, ◌++◌, [], IfOk, OnOk, length};
-ghost use Rattle.tree_nodes.specs.Batches.{joined};
+ghost use Rattle.tree_nodes.specs.Batches.{batched_terms};
 
 use au_term::{FlatTerm, NoMemory};
 use std::alloc::Global;
@@ -86,9 +86,9 @@ impl Model for Records {
 
     ghost coded = { Prim.hlevel (codes, term_code) };
 
-    ghost use Rattle.tree_nodes.specs.Batches.{joined};
+    ghost use Rattle.tree_nodes.specs.Batches.{batched_terms};
 
-    ghost view = { λ r. joined r.batches.items };
+    ghost view = { λ r. batched_terms r.batches.items };
 }
 
 impl Records {
@@ -111,19 +111,19 @@ impl Records {
     }
 
     pub(crate) fn of_batches(batches: Vec<Batch>) -> Records
-        ensures { result ≡ joined batches.items }
+        ensures { result ≡ batched_terms batches.items }
     {
         Records { batches }
     }
 
     pub(crate) fn batches(&self) -> &[Batch]
-        ensures { joined result.now ≡ self.now }
+        ensures { batched_terms result.now ≡ self.now }
     {
         &self.batches
     }
 
     pub(crate) fn into_batches(self) -> Vec<Batch>
-        ensures { joined result.items ≡ self }
+        ensures { batched_terms result.items ≡ self }
     {
         let Records { batches } = self;
         batches
@@ -138,7 +138,7 @@ impl Records {
 }
 
 fn copied(alloc: Global, batches: &[Batch]) -> Result<Vec<FlatTerm>, NoMemory>
-    ensures { IfOk result (λ all. all.items ≡ joined batches.now) }
+    ensures { IfOk result (λ all. all.items ≡ batched_terms batches.now) }
 {
     let mut all = Vec::new(alloc);
     for batch in batches {

@@ -1,7 +1,7 @@
 use Rattle.std.proofs.Common.{sym, ap, ◌∙◌, subst}
 use Rattle.region_split.specs.Regions.{IsLeftAt, IsFirstAt}
 use Rattle.region_split.specs.declared.frame.Position.{Position}
-use Rattle.region_control.proofs.AheadLemmas.{end_passed, goal_found, result_found, older_found, nothing_found}
+use Rattle.region_control.proofs.AheadLemmas.{end_passed, goal_found, result_found, removal_found, older_found, nothing_found}
 use Rattle.region_control.proofs.ahead.first_item.Goals as goal
 
 pub returns-then-is_goal : goal.returns-then-is_goal
@@ -37,3 +37,11 @@ pub returns-in-Nothing : goal.returns-in-Nothing
 returns-in-Nothing c =
     let r = c.args.region.now in
     nothing_found r c.args.position c.loop-item.next c.loop-item.invariant (subst (IsLeftAt r c.loop-item.next) c.in-Nothing.is c.left_at.ensures)
+
+pub returns-in-Removal : goal.returns-in-Removal
+returns-in-Removal c =
+    let r = c.args.region.now in
+    let p = c.loop-item.next in
+    let q : Position = record { frame = p.frame; at = c.in-Some.at } in
+    removal_found r c.args.position p c.loop-item.invariant c.in-First.cut q (ap (λ n. (let x : Position = record { frame = p.frame; at = n } in x)) c.in-Some.ensures.1)
+    c.in-Removal.number (subst (λ i. IsFirstAt r p i c.in-First.cut) c.in-Removal.is (subst (IsLeftAt r p) c.in-First.is c.left_at.ensures))

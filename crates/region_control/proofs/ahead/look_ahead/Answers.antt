@@ -1,7 +1,7 @@
 use Rattle.std.proofs.Common.{length, subst}
 use Rattle.region_split.specs.ClauseTrials.{IsOptionalPosition}
 use Rattle.region_control.specs.Ahead.{HasFirst}
-use Rattle.region_control.proofs.AheadLemmas.{IsGoingAhead, going_at, going_back, answer_ahead, collected_on, fewer_entries}
+use Rattle.region_control.proofs.AheadLemmas.{IsGoingAhead, going_at, going_back, removal_ahead, answer_ahead, collected_on, fewer_entries}
 use Rattle.region_control.proofs.ahead.look_ahead.Goals.{in-Some, in-None+in_ok-now-in-None}
 use Rattle.region_control.proofs.ahead.look_ahead.Goals as goal
 
@@ -30,3 +30,8 @@ loop-now-preserved c =
     let r = c.loop-now.region in
     collected_on c.args.region.now r c.args.start c.loop-now.now c.loop-now.invariant c.in-At.position c.in-Result.value c.in-Result.over c.in-At.is (subst (HasFirst r c.in-At.position) c.in-Result.is c.in_ok-item.ensures)
     c.collect.new.region c.backtrack-in-Result.new.self c.in_ok-collect-in-Result.ensures.collects c.in_ok-now-in-Result.now c.in_ok-now-in-Result.ensures.resumes c.in_ok-now-in-Result.ensures.steps c.in_ok-now-in-Result.ensures.text
+
+pub returns-in-Removal-clause-ahead : goal.returns-in-Removal-clause-ahead
+returns-in-Removal-clause-ahead c =
+    let r = c.loop-now.region in
+    removal_ahead c.args.region.now r c.args.start c.loop-now.now c.loop-now.invariant c.in-At.position c.in-Removal.after c.in-Removal.number c.in-At.is (subst (HasFirst r c.in-At.position) c.in-Removal.is c.in_ok-item.ensures)

@@ -5,7 +5,8 @@ use Rattle.au_model.proofs.VariableBoundLemmas.{copied-below}
 use Rattle.cell_store.specs.StoreView.{StoreView, IsValidStore}
 use Rattle.cell_store.specs.UnificationSteps.{IsUnified}
 use Rattle.region_split.specs.Regions.{RegionView}
-use Rattle.region_control.proofs.RecoveryLemmas.{stays_twice, same_unifier, takes_ball}
+use Rattle.region_split.proofs.SolvedLemmas.{stays_twice}
+use Rattle.region_control.proofs.RecoveryLemmas.{same_unifier, takes_ball}
 use Rattle.region_control.proofs.balls.recover.Goals as goal
 
 pub copy_in-requires : goal.copy_in-requires

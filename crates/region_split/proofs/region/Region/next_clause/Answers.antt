@@ -24,28 +24,28 @@ next_match-requires-clause-program c =
     let s = c.self.inside in
     let r : RegionView = record { text = arc_value s.text; store = s.store; frames = s.frames.items; choices = s.choices.items } in
     let many : c.len-count.result ≡ length s.choices.items = let e = c.len-count.ensures in omega (arith, e) in
-    program_is r c.self.invariant c.len-count.result many c.if-count-eq0.false c.index-newest.result.now c.index-newest.ensures c.in-Some.goal c.in-Some.clause c.in-Some.left c.in-Some.ensures c.undo_to.new.self c.undo_to.ensures ∙ ap (λ (t : TextView). t.code) (sym c.deref.ensures)
+    program_is r c.self.invariant c.len-count.result many c.if-count-eq0.false c.undo_to.new.self c.undo_to.ensures ∙ ap (λ (t : TextView). t.code) (sym c.deref.ensures)
 
 pub next_match-requires-clause-there : goal.next_match-requires-clause-there
 next_match-requires-clause-there c =
     let s = c.self.inside in
     let r : RegionView = record { text = arc_value s.text; store = s.store; frames = s.frames.items; choices = s.choices.items } in
     let many : c.len-count.result ≡ length s.choices.items = let e = c.len-count.ensures in omega (arith, e) in
-    goal_there r c.self.invariant c.len-count.result many c.if-count-eq0.false c.index-newest.result.now c.index-newest.ensures c.in-Some.goal c.in-Some.clause c.in-Some.left c.in-Some.ensures c.undo_to.new.self c.undo_to.ensures
+    goal_there r c.self.invariant c.len-count.result many c.if-count-eq0.false c.undo_to.new.self c.undo_to.ensures c.index-newest.result.now c.index-newest.ensures c.in-Some.goal c.in-Some.clause c.in-Some.left c.in-Some.ensures
 
 pub next_match-requires-clause-cursor : goal.next_match-requires-clause-cursor
 next_match-requires-clause-cursor c =
     let s = c.self.inside in
     let r : RegionView = record { text = arc_value s.text; store = s.store; frames = s.frames.items; choices = s.choices.items } in
     let many : c.len-count.result ≡ length s.choices.items = let e = c.len-count.ensures in omega (arith, e) in
-    subst (λ (t : TextView). IsCursorOf t.heads c.in-Some.left) (sym c.deref.ensures) (cursor_there r c.self.invariant c.len-count.result many c.if-count-eq0.false c.index-newest.result.now c.index-newest.ensures c.in-Some.goal c.in-Some.clause c.in-Some.left c.in-Some.ensures c.undo_to.new.self c.undo_to.ensures)
+    subst (λ (t : TextView). IsCursorOf t.heads c.in-Some.left) (sym c.deref.ensures) (cursor_there r c.self.invariant c.len-count.result many c.if-count-eq0.false c.undo_to.new.self c.undo_to.ensures c.index-newest.result.now c.index-newest.ensures c.in-Some.goal c.in-Some.clause c.in-Some.left c.in-Some.ensures)
 
 pub invariant_of-self : goal.invariant_of-self
 invariant_of-self c =
     let s = c.self.inside in
     let r : RegionView = record { text = arc_value s.text; store = s.store; frames = s.frames.items; choices = s.choices.items } in
     let many : c.len-count.result ≡ length s.choices.items = let e = c.len-count.ensures in omega (arith, e) in
-    undone_is r c.self.invariant c.len-count.result many c.if-count-eq0.false c.index-newest.result.now c.index-newest.ensures c.in-Some.goal c.in-Some.clause c.in-Some.left c.in-Some.ensures c.undo_to.new.self c.undo_to.ensures
+    undone_is r c.self.invariant c.len-count.result many c.if-count-eq0.false c.undo_to.new.self c.undo_to.ensures
 
 pub returns-in_default-next_match : goal.returns-in_default-next_match
 returns-in_default-next_match c =
@@ -55,14 +55,14 @@ returns-in_default-next_match c =
     let trial : Trial = record { goal = c.in-Some.goal; clause = c.in-Some.clause; after = c.index-newest.result.now.after } in
     let none = subst (λ (t : TextView). HaveNoEntry t (meaning c.undo_to.new.self c.in-Some.goal) c.undo_to.new.self.now.next c.in-Some.left) c.deref.ensures c.in_default-next_match.ensures in
     subst (λ (x : RegionView). TakesClause x c.take_newest-last.new.self trial) c.self.view_is
-    (none_left r c.self.invariant c.len-count.result many c.if-count-eq0.false c.index-newest.result.now c.index-newest.ensures c.in-Some.goal c.in-Some.clause c.in-Some.left c.in-Some.ensures c.undo_to.new.self c.undo_to.ensures none c.take_newest-last.new.self c.take_newest-last.result c.take_newest-last.ensures)
+    (none_left r c.self.invariant c.len-count.result many c.if-count-eq0.false c.undo_to.new.self c.undo_to.ensures c.index-newest.result.now c.index-newest.ensures c.in-Some.goal c.in-Some.clause c.in-Some.left c.in-Some.ensures none c.take_newest-last.new.self c.take_newest-last.result c.take_newest-last.ensures)
 
 pub invariant_of-self-2 : goal.invariant_of-self-2
 invariant_of-self-2 c =
     let s = c.self.inside in
     let r : RegionView = record { text = arc_value s.text; store = s.store; frames = s.frames.items; choices = s.choices.items } in
     let many : c.len-count.result ≡ length s.choices.items = let e = c.len-count.ensures in omega (arith, e) in
-    changed_is r c.self.invariant c.len-count.result many c.if-count-eq0.false c.index-newest.result.now c.index-newest.ensures c.in-Some.goal c.in-Some.clause c.in-Some.left c.in-Some.ensures c.undo_to.new.self c.undo_to.ensures c.in-Some-next_match.clause c.next_match.new.left
+    changed_is r c.self.invariant c.len-count.result many c.if-count-eq0.false c.undo_to.new.self c.undo_to.ensures c.index-newest.result.now c.index-newest.ensures c.in-Some.goal c.in-Some.clause c.in-Some.left c.in-Some.ensures c.in-Some-next_match.clause c.next_match.new.left
     (subst (λ (t : TextView). FindsClause t (meaning c.undo_to.new.self c.in-Some.goal) c.undo_to.new.self.now.next c.in-Some.left c.next_match.new.left c.in-Some-next_match.clause) c.deref.ensures c.in-Some-next_match.ensures)
     c.index_mut.result.now c.index_mut.ensures.value
 
@@ -75,6 +75,6 @@ returns c =
     let newest : ChoicePoint = record { alternatives = Clauses c.in-Some.goal c.in-Some-next_match.clause c.next_match.new.left; after = c.index_mut.result.now.after; frames = c.index_mut.result.now.frames } in
     let new : RegionView = record r { store = c.undo_to.new.self; choices = slice_set s.choices.items (c.len-count.result - 1) newest } in
     subst (λ (x : RegionView). TakesClause x new trial) c.self.view_is
-    (others_left r c.self.invariant c.len-count.result many c.if-count-eq0.false c.index-newest.result.now c.index-newest.ensures c.in-Some.goal c.in-Some.clause c.in-Some.left c.in-Some.ensures c.undo_to.new.self c.undo_to.ensures c.in-Some-next_match.clause c.next_match.new.left
+    (others_left r c.self.invariant c.len-count.result many c.if-count-eq0.false c.undo_to.new.self c.undo_to.ensures c.index-newest.result.now c.index-newest.ensures c.in-Some.goal c.in-Some.clause c.in-Some.left c.in-Some.ensures c.in-Some-next_match.clause c.next_match.new.left
     (subst (λ (t : TextView). FindsClause t (meaning c.undo_to.new.self c.in-Some.goal) c.undo_to.new.self.now.next c.in-Some.left c.next_match.new.left c.in-Some-next_match.clause) c.deref.ensures c.in-Some-next_match.ensures)
     c.index_mut.result.now c.index_mut.ensures.value)

@@ -1,0 +1,107 @@
+-- What goes on after a goal that holds once or fails.
+use Rattle.std.proofs.Common.{◌≡◌, ℕ, ◌+◌, Bool, true, false, List, [], ◌∷◌, ◌++◌, length, map, Some, None, refl, sym, ap, ap₂, ◌∙◌, subst, arith}
+use Rattle.au_model.specs.Terms.Named.{NamedTerm}
+use Rattle.au_model.specs.Terms.Substitutions.{Substitution, resolve}
+use Rattle.au_model.specs.Terms.Unifier.{unifier}
+use Rattle.au_model.proofs.EquationsInTurnLemmas.{resolve-nothing}
+use Rattle.run_model.specs.Goals.BuiltinAnswers.{Answer, equal, holds_if}
+use Rattle.run_model.specs.Machine.Items.{Item, GoalItem, CatchMark, CollectMark, RemovalItem, Continuation, with_next, resolve_item, resolve_named, resolve_continuation}
+use Rattle.run_model.specs.Machine.Entries.{Entry, PlainEntry, unified}
+use Rattle.binding_array.specs.declared.cell.BindingCell.{BindingCell}
+use Rattle.cell_store.specs.StoreView.{StoreView, substitution, meaning, with_substitution}
+use Rattle.cell_store.specs.UnificationSteps.{AreUnified, OnlyBinds}
+use Rattle.cell_store.specs.declared.arguments.Arguments.{Arguments}
+use Rattle.std_builtins.specs.Meanings.{answer_of}
+use Rattle.std_builtins.specs.declared.table.Builtin.{Builtin}
+use Rattle.region_split.specs.ChoicePoints.{Standing, by_height}
+use Rattle.region_split.specs.Regions.{RegionView, entries_of, heights_of, items_here, continuation_here, IsPositionIn, IsPositionOver}
+use Rattle.region_split.specs.StackOperations.{StaysStanding}
+use Rattle.region_split.proofs.TrialLemmas.{same_parts, items_twice, named_twice}
+use Rattle.region_control.specs.Controls.{IsGoalPlace}
+use Rattle.region_control.specs.GoalForms.{argument_terms}
+use Rattle.region_control.specs.declared.control.GoalPlace.{GoalPlace}
+use Rattle.region_control.specs.declared.forms.GoalForm.{GoalForm}
+use Rattle.region_control.specs.declared.replies.AfterGoal.{AfterGoal}
+use Rattle.region_control.specs.declared.replies.AfterGoal.TheVariants.{At, Failed}
+use Rattle.region_control.proofs.ControlLemmas.{place_in}
+use Rattle.region_builtins.specs.QuickAnswers.{IsQuickAnswer, AnswersIn, AnswersFor}
+use Rattle.region_builtins.specs.declared.quick.QuickAnswer.{QuickAnswer}
+
+-- no numbers are taken
+same_next : (f : Continuation ℕ) → with_next (f.next + 0) f ≡ f
+same_next f = ap (λ n. with_next n f) (let e : f.next + 0 ≡ f.next = omega arith in e)
+
+-- no equations
+nothing_unified : unifier [] ≡ Some []
+unfolding unifier
+nothing_unified = refl
+
+-- nothing is bound
+item_same : (i : Item ℕ) → resolve_item [] i ≡ i
+item_same (GoalItem t h) = ap (λ u. GoalItem u h) (resolve-nothing t)
+item_same (CatchMark h) = refl
+item_same (CollectMark t h) = ap (λ u. CollectMark u h) (resolve-nothing t)
+item_same (RemovalItem number) = refl
+
+items_same : (is : List (Item ℕ)) → map (resolve_item []) is ≡ is
+items_same [] = refl
+items_same (i ∷ is) = ap₂ (λ j js. j ∷ js) (item_same i) (items_same is)
+
+named_same : (vs : List NamedTerm) → map (resolve_named []) vs ≡ vs
+named_same [] = refl
+named_same (v ∷ vs) = ap₂ (λ t ws. (let w : NamedTerm = record v { term = t } in w) ∷ ws) (resolve-nothing v.term) (named_same vs)
+
+same_continuation : (f : Continuation ℕ) → resolve_continuation [] f ≡ f
+same_continuation f = same_parts (items_same f.items) (named_same f.named) refl
+
+module _ (r : RegionView) (place : GoalPlace) (at : IsGoalPlace r place) where
+  -- a test
+  pub holds : AnswersIn r r (holds_if true) place (At place.after)
+  holds name arity = (
+    (λ named.
+        let f = continuation_here named r place.after in
+        let es = entries_of named r in
+        ap (λ o. (unified o (with_next (f.next + 0) f) ++ []) ++ es) nothing_unified
+        ∙ ap (λ g. PlainEntry g ∷ es) (ap (resolve_continuation []) (same_next f) ∙ same_continuation f)),
+    place_in r place at,
+  )
+
+  pub fails : AnswersIn r r (holds_if false) place Failed
+  fails name arity = λ named. refl
+
+  module _ (new : RegionView) (a b : BindingCell) (stays : StaysStanding r new) where
+    same_entries : (named : List NamedTerm) → entries_of named new ≡ entries_of named r
+    same_entries named = ap (λ (s : Standing). s.entries) (stays.stands named)
+
+    pub not_unified : unifier ((meaning r.store a, meaning r.store b) ∷ []) ≡ None → AnswersIn r new (equal (meaning r.store a) (meaning r.store b)) place Failed
+    not_unified none name arity = λ named.
+        let f = continuation_here named r place.after in
+        ap (λ o. (unified o (with_next (f.next + 0) f) ++ []) ++ entries_of named r) none ∙ sym (same_entries named)
+
+    module _ (u : AreUnified a b r.store new.store) (kept : OnlyBinds r.store new.store) where
+      bound_is : new ≡ record r { store = with_substitution (substitution new.store) r.store }
+      bound_is = stays.others ∙ ap (λ (x : StoreView). record r { store = x }) kept.others
+
+      follows : (named : List NamedTerm) → continuation_here named new place.after ≡ resolve_continuation u.further (continuation_here named r place.after)
+      follows named =
+          ap (λ (x : RegionView). continuation_here named x place.after) bound_is
+          ∙ same_parts (items_twice r.store.now.bound u.further new.store.now.bound u.binds.bound (map (by_height (heights_of named r)) (items_here r place.after))) (named_twice r.store.now.bound u.further new.store.now.bound u.binds.bound named) refl
+
+      pub unified_goes_on : AnswersIn r new (equal (meaning r.store a) (meaning r.store b)) place (At place.after)
+      unified_goes_on name arity = (
+        (λ named.
+            let f = continuation_here named r place.after in
+            let es = entries_of named r in
+            ap (λ o. (unified o (with_next (f.next + 0) f) ++ []) ++ es) u.unified
+            ∙ (ap (λ g. PlainEntry (resolve_continuation u.further g) ∷ es) (same_next f)
+            ∙ sym (ap₂ (λ g xs. PlainEntry g ∷ xs) (follows named) (same_entries named)))),
+        subst (λ n. IsPositionOver new n place.after) (sym (ap (λ (x : RegionView). length x.choices) stays.others)) (stays.position (length r.choices) place.after (place_in r place at)),
+      )
+
+-- an answer as the store showed it
+pub quick_seen : (r : RegionView) (st : StoreView) (b : Builtin) (a : Arguments) (q : QuickAnswer) → st ≡ r.store → ((next : ℕ) → IsQuickAnswer st (answer_of b (argument_terms st a) next) q) → IsQuickAnswer r.store (answer_of b (argument_terms r.store a) r.store.now.next) q
+quick_seen r st b a q e h = subst (λ (x : StoreView). IsQuickAnswer x (answer_of b (argument_terms x a) r.store.now.next) q) e (h r.store.now.next)
+
+-- the same answer
+pub answers_same : (r new : RegionView) (form : GoalForm) (answer other : Answer) (place : GoalPlace) (after : AfterGoal) → answer ≡ other → AnswersFor r new form other place after → AnswersFor r new form answer place after
+answers_same r new form answer other place after e k = subst (λ x. AnswersFor r new form x place after) (sym e) k

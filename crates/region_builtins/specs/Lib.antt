@@ -1,0 +1,2 @@
+pub mod CopiedSolutions
+pub mod QuickAnswers

@@ -1,0 +1,35 @@
+-- Answers of built-in predicates by the values of their arguments.
+use Rattle.std.specs.Prelude.{◌≡◌, ℕ, List, Err}
+use Rattle.au_model.specs.Terms.Faults.{error_term_of}
+use Rattle.run_model.specs.Goals.BuiltinAnswers.{Answer, equal, holds_if, reply_of}
+use Rattle.run_model.specs.Goals.Outcomes.{Replies}
+use Rattle.clause_compile.specs.AtomNumbers.{name_at}
+use Rattle.arith_eval.specs.declared.evaluation.EvalRefusal.{EvalRefusal}
+use Rattle.cell_store.specs.StoreView.{StoreView, IsValueIn, meaning, text_in}
+use Rattle.region_split.specs.Regions.{RegionView}
+use Rattle.region_control.specs.Replies.{LeavesOutcome}
+use Rattle.region_control.specs.declared.control.GoalPlace.{GoalPlace}
+use Rattle.region_control.specs.declared.forms.GoalForm.{GoalForm}
+use Rattle.region_control.specs.declared.replies.AfterGoal.{AfterGoal}
+use Rattle.value_goals.specs.Answers.{IsRefusedAnswer}
+use Rattle.region_builtins.specs.declared.quick.QuickAnswer.{QuickAnswer}
+use Rattle.region_builtins.specs.declared.quick.QuickAnswer.TheVariants.{Holds, Equal, Raises, Unknown}
+
+-- it holds or fails, it makes two values one, or it raises an error; where none of these is known, it may be anything
+abbrev pub IsQuickAnswer : StoreView → Answer → QuickAnswer → Type 0
+IsQuickAnswer st answer (Holds b) = answer ≡ holds_if b
+IsQuickAnswer st answer (Equal a b) = IsValueIn st a × IsValueIn st b × (answer ≡ equal (meaning st a) (meaning st b))
+IsQuickAnswer st answer (Raises fault) = answer ≡ Err (error_term_of fault)
+IsQuickAnswer st answer Unknown = Unit {0}
+
+-- what is not evaluated raises its error
+abbrev pub IsRefusedBy : EvalRefusal → QuickAnswer → Type 0
+IsRefusedBy refusal q = (st : StoreView) (answer : Answer) → IsRefusedAnswer answer refusal → IsQuickAnswer st answer q
+
+-- a goal, of any name, comes to an answer
+abbrev pub AnswersIn : RegionView → RegionView → Answer → GoalPlace → AfterGoal → Type 0
+AnswersIn old new answer g after = (name : List ℕ) (arity : ℕ) → LeavesOutcome old new (Replies (reply_of name arity answer)) g after
+
+-- a goal with a form comes to an answer
+abbrev pub AnswersFor : RegionView → RegionView → GoalForm → Answer → GoalPlace → AfterGoal → Type 0
+AnswersFor old new form answer g after = LeavesOutcome old new (Replies (reply_of (name_at (text_in old.store).names form.name) form.arguments.count answer)) g after

@@ -1,0 +1,114 @@
+//! Goals of built-in predicates (ISO/IEC 13211-1, 7.7.7).
+ghost use Rattle.std.specs.Prelude.{◌≡◌, ◌<◌, IfOk, OnOk, Err, length};
+ghost use Rattle.au_model.specs.Terms.Faults.{error_term_of};
+ghost use Rattle.run_model.specs.Goals.BuiltinAnswers.{equal, reply_of};
+ghost use Rattle.run_model.specs.Goals.Outcomes.{Replies};
+ghost use Rattle.clause_compile.specs.AtomNumbers.{name_at};
+ghost use Rattle.cell_store.specs.StoreView.{IsValueIn, meaning, text_in};
+ghost use Rattle.std_builtins.specs.Meanings.{answer_of};
+ghost use Rattle.std_builtins.specs.Rows.{IsRowOf};
+ghost use Rattle.region_control.specs.Controls.{IsGoalPlace};
+ghost use Rattle.region_control.specs.GoalForms.{argument_terms, AreArgumentsIn};
+ghost use Rattle.region_control.specs.Replies.{LeavesOutcome};
+ghost use Rattle.region_builtins.specs.QuickAnswers.{AnswersIn, AnswersFor};
+
+use crate::quick::{QuickAnswer, quick_answer};
+use crate::solved::{resolved_arguments, solutions_of};
+use au_model::Fault;
+use au_term::{NoMemory, VarNo};
+use binding_array::BindingCell;
+use region_control::{AfterGoal, GoalForm, GoalPlace, raise_fault};
+use region_split::Region;
+use std::alloc::Global;
+use std_builtins::{Builtin, BuiltinRefusal};
+
+/// Makes two values one in the place of a goal.
+fn equate(
+    region: &mut Region,
+    left: BindingCell,
+    right: BindingCell,
+    place: GoalPlace,
+) -> Result<AfterGoal, NoMemory>
+    requires left { IsValueIn region.old.store left }
+    requires right { IsValueIn region.old.store right }
+    requires place { IsGoalPlace region.old place }
+    ensures comes { IfOk result (AnswersIn region.old region.new (equal (meaning region.old.store left) (meaning region.old.store right)) place) }
+    ensures text { OnOk result (region.new.text ≡ region.old.text) }
+{
+    if region.unify(left, right)? {
+        Ok(AfterGoal::At(place.after))
+    } else {
+        Ok(AfterGoal::Failed)
+    }
+}
+
+/// The error of a goal.
+fn raise_error(
+    region: &mut Region,
+    alloc: Global,
+    fault: &Fault,
+    form: GoalForm,
+    place: GoalPlace,
+) -> Result<AfterGoal, NoMemory>
+    requires name { form.name < length (text_in region.old.store).names }
+    requires place { IsGoalPlace region.old place }
+    ensures comes { IfOk result (AnswersFor region.old region.new form (Err (error_term_of fault.now)) place) }
+    ensures text { OnOk result (region.new.text ≡ region.old.text) }
+{
+    let name = region.store().name(form.name).share()?;
+    raise_fault(region, alloc, fault, &name, form.arguments.count, place)
+}
+
+/// Takes a goal of a built-in predicate.
+pub fn builtin_goal(
+    region: &mut Region,
+    alloc: Global,
+    builtin: Builtin,
+    form: GoalForm,
+    place: GoalPlace,
+) -> Result<AfterGoal, NoMemory>
+    requires name { form.name < length (text_in region.old.store).names }
+    requires there { AreArgumentsIn region.old.store form.arguments }
+    requires row { IsRowOf (name_at (text_in region.old.store).names form.name) form.arguments.count builtin }
+    requires place { IsGoalPlace region.old place }
+    ensures comes { IfOk result (AnswersFor region.old region.new form (answer_of builtin (argument_terms region.old.store form.arguments) region.old.store.now.next) place) }
+    ensures text { OnOk result (region.new.text ≡ region.old.text) }
+{
+    match quick_answer(alloc, region.store(), builtin, form.arguments)? {
+        QuickAnswer::Holds(true) => Ok(AfterGoal::At(place.after)),
+        QuickAnswer::Holds(false) => Ok(AfterGoal::Failed),
+        QuickAnswer::Equal(left, right) => equate(region, left, right, place),
+        QuickAnswer::Raises(fault) => raise_error(region, alloc, &fault, form, place),
+        QuickAnswer::Unknown => resolved_goal(region, alloc, builtin, form, place),
+    }
+}
+
+/// The same by its arguments as terms.
+fn resolved_goal(
+    region: &mut Region,
+    alloc: Global,
+    builtin: Builtin,
+    form: GoalForm,
+    place: GoalPlace,
+) -> Result<AfterGoal, NoMemory>
+    requires name { form.name < length (text_in region.old.store).names }
+    requires there { AreArgumentsIn region.old.store form.arguments }
+    requires row { IsRowOf (name_at (text_in region.old.store).names form.name) form.arguments.count builtin }
+    requires place { IsGoalPlace region.old place }
+    ensures comes { IfOk result (AnswersFor region.old region.new form (answer_of builtin (argument_terms region.old.store form.arguments) region.old.store.now.next) place) }
+    ensures text { OnOk result (region.new.text ≡ region.old.text) }
+{
+    let arguments = resolved_arguments(alloc, region.store(), form.arguments)?;
+    let next = VarNo::from(region.store().next());
+    match builtin.call(alloc, &arguments, next) {
+        Ok(found) => {
+            let solutions = solutions_of(alloc, &found)?;
+            match region.solve(solutions, place.after)? {
+                Some(position) => Ok(AfterGoal::At(position)),
+                None => Ok(AfterGoal::Failed),
+            }
+        }
+        Err(BuiltinRefusal::Fault(fault)) => raise_error(region, alloc, &fault, form, place),
+        Err(BuiltinRefusal::NoMemory) => Err(NoMemory),
+    }
+}

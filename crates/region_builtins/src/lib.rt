@@ -1,0 +1,9 @@
+//! Built-in predicates in a region. Unification, tests, comparisons, arithmetic and arguments by their numbers look at terms
+//! where they are, and for terms of usual size take no memory; all others have their arguments resolved.
+#![tactic(auto)]
+
+mod goal;
+mod quick;
+mod solved;
+
+pub use goal::builtin_goal;

@@ -1,0 +1,170 @@
+//! What built-in predicates answer by the values of their arguments (ISO/IEC 13211-1, 8.2 to 8.7).
+ghost use Rattle.std.specs.Prelude.{◌≡◌, ℕ, IfOk};
+ghost use Rattle.run_model.specs.Goals.ArithmeticGoals.{is_answer, comparison_answer};
+ghost use Rattle.run_model.specs.Goals.TermParts.{argument_answer};
+ghost use Rattle.cell_store.specs.StoreView.{IsValueIn, meaning};
+ghost use Rattle.std_builtins.specs.Meanings.{answer_of, arguments_of, type_test, value_test};
+ghost use Rattle.region_control.specs.GoalForms.{argument_terms, AreArgumentsIn};
+ghost use Rattle.region_builtins.specs.QuickAnswers.{IsQuickAnswer, IsRefusedBy};
+
+use arith_eval::EvalRefusal;
+use au_model::Fault;
+use au_term::NoMemory;
+use binding_array::BindingCell;
+use cell_store::Store;
+use cell_store::arguments::Arguments;
+use region_control::argument;
+use std::alloc::Global;
+use std_builtins::{Builtin, Comparison, TypeTest};
+use value_goals::type_tests::{
+    integer_of, is_atom, is_atomic, is_callable, is_compound, is_integer, is_variable,
+};
+use value_goals::{argument as numbered_argument, compare, compared_values, is_ground, is_value};
+
+/// What a goal answers by the values of its arguments.
+#[derive(Drop)]
+pub(crate) enum QuickAnswer {
+    /// It holds once or fails.
+    Holds(bool),
+    /// It holds where two values are made one.
+    Equal(BindingCell, BindingCell),
+    Raises(Fault),
+    /// Its arguments are to be resolved.
+    Unknown,
+}
+
+/// What a built-in predicate answers, where its values tell.
+pub(crate) fn quick_answer(
+    alloc: Global,
+    store: &Store,
+    builtin: Builtin,
+    arguments: Arguments,
+) -> Result<QuickAnswer, NoMemory>
+    requires there { AreArgumentsIn store.now arguments }
+    requires count { arguments.count ≡ arguments_of builtin }
+    ensures { IfOk result (λ q. (next : ℕ) → IsQuickAnswer store.now (answer_of builtin (argument_terms store.now arguments) next) q) }
+{
+    match builtin {
+        Builtin::Unify => {
+            let left = argument(store, arguments, 0);
+            Ok(QuickAnswer::Equal(left, argument(store, arguments, 1)))
+        }
+        Builtin::Type(test) => {
+            let holds = type_holds(alloc, store, test, argument(store, arguments, 0))?;
+            Ok(QuickAnswer::Holds(holds))
+        }
+        Builtin::Order(test) => {
+            let left = argument(store, arguments, 0);
+            let ordering = compare(alloc, store, left, argument(store, arguments, 1))?;
+            Ok(QuickAnswer::Holds(test.holds_of(ordering)))
+        }
+        Builtin::Is => {
+            let left = argument(store, arguments, 0);
+            is(alloc, store, left, argument(store, arguments, 1))
+        }
+        Builtin::Value(test) => {
+            let left = argument(store, arguments, 0);
+            values_compared(alloc, store, test, left, argument(store, arguments, 1))
+        }
+        Builtin::Argument => {
+            let number = argument(store, arguments, 0);
+            let term = argument(store, arguments, 1);
+            Ok(argument_found(store, number, term, argument(store, arguments, 2)))
+        }
+        _ => Ok(QuickAnswer::Unknown),
+    }
+}
+
+/// Whether a value stands for a term that passes a test.
+fn type_holds(
+    alloc: Global,
+    store: &Store,
+    test: TypeTest,
+    value: BindingCell,
+) -> Result<bool, NoMemory>
+    requires { IsValueIn store.now value }
+    ensures { IfOk result (λ b. b ≡ type_test test (meaning store.now value)) }
+{
+    match test {
+        TypeTest::Variable => Ok(is_variable(store, value)),
+        TypeTest::Nonvariable => Ok(!is_variable(store, value)),
+        TypeTest::Atom => Ok(is_atom(store, value)),
+        TypeTest::Integer => Ok(is_integer(store, value)),
+        TypeTest::Atomic => Ok(is_atomic(store, value)),
+        TypeTest::Compound => Ok(is_compound(store, value)),
+        TypeTest::Callable => Ok(is_callable(store, value)),
+        TypeTest::Ground => is_ground(alloc, store, value),
+    }
+}
+
+/// What `is/2` answers.
+fn is(
+    alloc: Global,
+    store: &Store,
+    left: BindingCell,
+    expression: BindingCell,
+) -> Result<QuickAnswer, NoMemory>
+    requires left { IsValueIn store.now left }
+    requires expression { IsValueIn store.now expression }
+    ensures { IfOk result (IsQuickAnswer store.now (is_answer (meaning store.now left) (meaning store.now expression))) }
+{
+    match is_value(alloc, store, expression) {
+        Ok(value) => Ok(QuickAnswer::Equal(left, value)),
+        Err(refusal) => refused(refusal),
+    }
+}
+
+/// What a comparison of values answers.
+fn values_compared(
+    alloc: Global,
+    store: &Store,
+    test: Comparison,
+    left: BindingCell,
+    right: BindingCell,
+) -> Result<QuickAnswer, NoMemory>
+    requires left { IsValueIn store.now left }
+    requires right { IsValueIn store.now right }
+    ensures { IfOk result (IsQuickAnswer store.now (comparison_answer (value_test test) (meaning store.now left) (meaning store.now right))) }
+{
+    match compared_values(alloc, store, left, right) {
+        Ok((left, right)) => Ok(QuickAnswer::Holds(test.holds(left, right))),
+        Err(refusal) => refused(refusal),
+    }
+}
+
+/// The answer where there are no values.
+fn refused(refusal: EvalRefusal) -> Result<QuickAnswer, NoMemory>
+    ensures { IfOk result (IsRefusedBy refusal) }
+{
+    match refusal {
+        EvalRefusal::Fault(fault) => Ok(QuickAnswer::Raises(fault)),
+        EvalRefusal::NoMemory => Err(NoMemory),
+    }
+}
+
+/// What `arg/3` answers with a number and a compound.
+fn argument_found(
+    store: &Store,
+    number: BindingCell,
+    term: BindingCell,
+    found: BindingCell,
+) -> QuickAnswer
+    requires number { IsValueIn store.now number }
+    requires term { IsValueIn store.now term }
+    requires found { IsValueIn store.now found }
+    ensures { IsQuickAnswer store.now (argument_answer (meaning store.now number) (meaning store.now term) (meaning store.now found)) result }
+{
+    let Some(number) = integer_of(store, number) else {
+        return QuickAnswer::Unknown;
+    };
+    let Ok(number) = u64::try_from(number) else {
+        return QuickAnswer::Unknown;
+    };
+    if !is_compound(store, term) {
+        return QuickAnswer::Unknown;
+    }
+    match numbered_argument(store, number, term) {
+        Some(argument) => QuickAnswer::Equal(found, argument),
+        None => QuickAnswer::Holds(false),
+    }
+}

@@ -1,0 +1,2 @@
+pub mod InferenceLemmas
+pub mod RunLemmas

@@ -1,0 +1,31 @@
+-- One inference in a region (ISO/IEC 13211-1, 7.7 and 7.8).
+use Rattle.std.specs.Prelude.{◌≡◌, List, Option, Some, None, codes}
+use Rattle.au_term.specs.Term.{Term, AtomTerm}
+use Rattle.run_model.specs.Goals.GoalOutcomes.{outcome_of}
+use Rattle.run_model.specs.Programs.Bodies.{call_of}
+use Rattle.cell_store.specs.StoreView.{StoreView, meaning}
+use Rattle.region_split.specs.Regions.{RegionView}
+use Rattle.region_split.specs.declared.frame.FrameItem.{FrameItem}
+use Rattle.region_split.specs.declared.frame.FrameItem.TheVariants.{Goal, Call, Cut, True, Fail, CatchEnd, Collect, Removal}
+use Rattle.region_control.specs.Replies.{LeavesOutcome}
+use Rattle.region_control.specs.declared.control.GoalPlace.{GoalPlace}
+use Rattle.region_control.specs.declared.replies.AfterGoal.{AfterGoal}
+
+-- the goal that an item is; marks and removals are none
+abbrev pub item_goal : StoreView → FrameItem → Option Term
+item_goal st (Goal value) = Some (meaning st value)
+item_goal st (Call value) = Some (call_of (meaning st value))
+item_goal st Cut = Some (AtomTerm (codes "!"))
+item_goal st True = Some (AtomTerm (codes "true"))
+item_goal st Fail = Some (AtomTerm (codes "fail"))
+item_goal st CatchEnd = None
+item_goal st (Collect value) = None
+item_goal st (Removal number) = None
+
+-- a goal was taken: what takes its place is what it comes to
+abbrev pub Infers : RegionView → RegionView → Term → GoalPlace → AfterGoal → Type 0
+Infers old new goal g after = LeavesOutcome old new (outcome_of old.text.clauses goal old.store.now.next) g after
+
+-- the same of the goal that an item is
+abbrev pub InfersItem : RegionView → RegionView → FrameItem → GoalPlace → AfterGoal → Type 0
+InfersItem old new item g after = (goal : Term) → item_goal old.store item ≡ Some goal → Infers old new goal g after
