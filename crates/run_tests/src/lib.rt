@@ -1,0 +1,6 @@
+//! Tests of runs in a region: what no clause says, outside examples, and each call that allocates once, with ample memory.
+//! They are in a crate of their own because a crate with tests is proved twice.
+#![tactic(auto)]
+
+#[cfg(test)]
+mod runs;
