@@ -11,7 +11,7 @@ mod control;
 mod forms;
 mod goals;
 mod replies;
-mod sides;
+pub mod sides;
 
 pub use ahead::{Ahead, look_ahead};
 pub use balls::throw;

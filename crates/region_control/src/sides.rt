@@ -8,7 +8,7 @@ use binding_array::BindingCell;
 use cell_store::Store;
 
 /// The two arguments of the compound that a value stands for, if it has this name.
-pub(crate) fn sides(
+pub fn sides(
     store: &Store,
     value: BindingCell,
     name: &str,
