@@ -1,5 +1,5 @@
 -- Backtracking in the steps of the sequential machine.
-use Rattle.std.proofs.Common.{◌≡◌, ℕ, suc, ◌+◌, ◌-◌, ◌<◌, ◌≤◌, List, [], ◌∷◌, ◌++◌, length, Option, Some, None, slice_get, option_map, refl, sym, ap, ap₂, ◌∙◌, subst, arith}
+use Rattle.std.proofs.Common.{◌≡◌, ℕ, ◌-◌, ◌<◌, List, [], ◌∷◌, ◌++◌, length, Option, Some, None, slice_get, option_map, refl, sym, ap, ap₂, ◌∙◌, subst, arith}
 use Rattle.au_model.specs.Terms.Named.{NamedTerm}
 use Rattle.run_model.specs.Machine.Entries.{Entry, PlainEntry, CatchEntry, FindallEntry, EndEntry}
 use Rattle.run_model.specs.Machine.FreeSteps.{take_free_steps}
@@ -8,7 +8,7 @@ use Rattle.run_model.specs.Programs.Clauses.{Clause}
 use Rattle.region_split.specs.Texts.{TextView}
 use Rattle.region_split.specs.ChoicePoints.{RegionSetting, Standing, standing_over, nothing_standing, all_takes_left, HaveNoSolution}
 use Rattle.region_split.specs.Regions.{RegionView, region_setting, entries_of, entries_on}
-use Rattle.region_split.specs.StackOperations.{TakesNewest, TakesClause, TakesSolution, HasNoSolutionOnTop, trial_entries}
+use Rattle.region_split.specs.StackOperations.{TakesNewest, TakesClause, TakesSolution, HasNoSolutionOnTop, trial_entries, solved_entries}
 use Rattle.region_split.specs.Solutions.{SolutionView}
 use Rattle.region_split.specs.SolutionTrials.{TriesSolution}
 use Rattle.region_split.specs.ClauseTrials.{TriesClause, KeepsChoices, entries_at}
@@ -88,7 +88,7 @@ catch_passed old r new c catcher recovery same t is =
 -- a solution that was taken and tried
 module _ (old r new : RegionView) (solution : SolutionView) (after : Position) (cut : ℕ) (took : TakesSolution old r solution after) (count : cut ≡ length old.choices - 1) where
   solution_entries_are : (reached : Option Position) → TriesSolution r new solution after cut reached → (named : List NamedTerm) → entries_of named old ≡ entries_at named new reached ++ entries_of named new
-  solution_entries_are reached tried named = took.entries named ∙ ap₂ (λ es fs. es ++ fs) (tried.entries named) (ap (λ (st : Standing). st.entries) (sym (tried.stands named)))
+  solution_entries_are reached tried named = took.entries named ∙ ap₂ (λ es fs. es ++ fs) (ap (λ n. solved_entries named r solution n after) (sym count) ∙ tried.entries named) (ap (λ (st : Standing). st.entries) (sym (tried.stands named)))
 
   pub solution_resumes : (p : Position) → TriesSolution r new solution after cut (Some p) → Resumes old new (At p)
   solution_resumes p tried = record {

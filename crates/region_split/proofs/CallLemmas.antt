@@ -1,9 +1,8 @@
 -- What calling a goal leaves.
-use Rattle.std.proofs.Common.{◌≡◌, ℕ, ◌+◌, ◌<◌, ◌≤◌, List, [], ◌∷◌, ◌++◌, append_assoc, append-nil, length, length-append, slice_get, Option, Some, None, Result, Ok, Err, IfOk, refl, sym, ap, ap₂, ◌∙◌, subst, arith}
+use Rattle.std.proofs.Common.{◌≡◌, ℕ, ◌≤◌, List, [], ◌∷◌, ◌++◌, append_assoc, append-nil, length, length-append, slice_get, Option, Some, None, Result, Ok, Err, IfOk, refl, sym, ap, ap₂, ◌∙◌, subst, arith}
 use Rattle.au_model.specs.Terms.Named.{NamedTerm}
 use Rattle.run_model.specs.Programs.Clauses.{Clause}
 use Rattle.run_model.specs.Goals.Outcomes.{clause_solution}
-use Rattle.run_model.specs.Machine.Items.{Continuation}
 use Rattle.run_model.specs.Machine.Entries.{Entry, solution_entry}
 use Rattle.clause_index.specs.Cursors.{numbers_left}
 use Rattle.clause_index.specs.declared.cursor.Cursor.{Cursor}
@@ -11,14 +10,13 @@ use Rattle.binding_array.specs.declared.cell.BindingCell.{BindingCell}
 use Rattle.cell_store.specs.StoreView.{StoreView, text_in, meaning, with_mark}
 use Rattle.region_split.specs.ChoicePoints.{Standing, alternative_entries, continuation_at, height_of_cut}
 use Rattle.region_split.specs.Candidates.{entries_of_clauses, AreCandidates, FindsClause, HaveNoEntry}
-use Rattle.region_split.specs.Regions.{RegionView, left_here, region_setting, entries_of, heights_of, continuation_here, position_entry, IsPositionIn}
+use Rattle.region_split.specs.Regions.{RegionView, left_here, region_setting, entries_of, heights_of, continuation_here, IsPositionIn}
 use Rattle.region_split.specs.StackOperations.{AddsChoice, trial_entries}
-use Rattle.region_split.specs.ClauseTrials.{TriesClause, KeepsChoices, Calls, called_entries, entries_at, IsOptionalPosition}
+use Rattle.region_split.specs.ClauseTrials.{TriesClause, KeepsChoices, Calls, called_entries, IsOptionalPosition}
 use Rattle.region_split.specs.declared.choice.Alternatives.TheVariants.{Clauses}
-use Rattle.region_split.specs.declared.choice.ChoicePoint.{ChoicePoint}
 use Rattle.region_split.specs.declared.choice.Trial.{Trial}
 use Rattle.region_split.specs.declared.frame.Position.{Position}
-use Rattle.region_split.proofs.CandidateLemmas.{IsThere, is_there, clause_first}
+use Rattle.region_split.proofs.CandidateLemmas.{is_there, clause_first}
 use Rattle.region_split.proofs.ScopeLemmas.{scoped_more}
 
 -- a position where more may be cut

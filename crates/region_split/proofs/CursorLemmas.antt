@@ -1,5 +1,5 @@
 -- A clause that is taken off a choice point.
-use Rattle.std.proofs.Common.{◌≡◌, ℕ, zero, suc, ◌+◌, ◌-◌, ◌<◌, ◌≤◌, Bool, true, List, [], ◌∷◌, ◌++◌, append_assoc, append-nil, length, length-append, slice_set, slice_get, take, drop, Some, refl, sym, ap, ap₂, ◌∙◌, subst, arith}
+use Rattle.std.proofs.Common.{◌≡◌, ℕ, zero, suc, ◌+◌, ◌-◌, ◌<◌, ◌≤◌, Bool, true, List, [], ◌∷◌, ◌++◌, append_assoc, append-nil, length, length-append, slice_set, take, refl, sym, ap, ap₂, ◌∙◌, subst, arith}
 use Rattle.std.proofs.Math.Seq.{take-length}
 use Rattle.au_model.specs.Terms.Named.{NamedTerm}
 use Rattle.run_model.specs.Goals.Outcomes.{clause_solution}
@@ -9,12 +9,12 @@ use Rattle.clause_index.specs.Cursors.{numbers_left}
 use Rattle.clause_index.specs.declared.cursor.Cursor.{Cursor}
 use Rattle.clause_index.specs.declared.key.HeadKey.{HeadKey}
 use Rattle.binding_array.specs.declared.cell.BindingCell.{BindingCell}
-use Rattle.cell_store.specs.StoreView.{Moment, StoreView, IsValueIn, text_at, meaning, taken_back, with_marks}
+use Rattle.cell_store.specs.StoreView.{Moment, StoreView, text_at, meaning, taken_back, with_marks}
 use Rattle.region_split.specs.Texts.{TextView}
 use Rattle.region_split.specs.Candidates.{entries_of_clauses, FindsClause, HaveNoEntry}
 use Rattle.region_split.specs.Solutions.{SolutionView, solution_at}
 use Rattle.region_split.specs.Frames.{AreLeftScoped}
-use Rattle.region_split.specs.ChoicePoints.{RegionSetting, Standing, standing_over, nothing_standing, with_entries_on_top, choice_entries, alternative_entries, continuation_at, height_of_cut, AreAlternativesAt, AreChoicesOver, IsChoiceOver, frames_kept, takes_left, all_takes_left, HaveSolution}
+use Rattle.region_split.specs.ChoicePoints.{Standing, standing_over, nothing_standing, with_entries_on_top, choice_entries, alternative_entries, continuation_at, height_of_cut, AreAlternativesAt, AreChoicesOver, IsChoiceOver, frames_kept, takes_left, all_takes_left, HaveSolution}
 use Rattle.region_split.specs.Regions.{RegionView, left_here, region_setting, standing, entries_of, heights_of, continuation_here, IsConsistentRegion, IsPositionOver}
 use Rattle.region_split.specs.StackOperations.{TakesNewest, TakesClause, TakesSolution}
 use Rattle.region_split.specs.declared.choice.Alternatives.{Alternatives}
@@ -228,7 +228,7 @@ module _ (r : RegionView) (k : IsConsistentRegion r) (cs : List ChoicePoint) (c 
   -- solutions
   module _ (after : Alternatives) (solution : SolutionView) (is_last : Bool) (takes : HaveSolution c.alternatives after solution is_last) where
     abbrev own_entry : ℕ → Continuation ℕ → List Entry
-    own_entry h f = solution_entry 0 f (solution_at (text_at r.store m) m.bound solution)
+    own_entry h f = solution_entry h f (solution_at (text_at r.store m) m.bound solution)
 
     all_there : AreAlternativesAt (region_setting [] r) m (Solutions (solution ∷ takes.rest))
     all_there = subst (AreAlternativesAt (region_setting [] r) m) takes.was top.values

@@ -1,18 +1,18 @@
 -- The numbers of clauses' heads.
-use Rattle.std.proofs.Common.{◌≡◌, ℕ, ◌+◌, ◌<◌, ◌≤◌, ◌==◌, ◌&&◌, ◌||◌, nat_eq, Bool, true, false, List, [], ◌∷◌, ◌++◌, length, length-append, Option, Some, None, refl, sym, ap, ap₂, ◌∙◌, subst, arith}
+use Rattle.std.proofs.Common.{◌≡◌, ℕ, ◌<◌, ◌==◌, ◌&&◌, ◌||◌, nat_eq, Bool, true, false, List, [], ◌∷◌, ◌++◌, length, length-append, Option, Some, None, refl, sym, ap, ap₂, ◌∙◌, subst, arith}
 use Rattle.std.proofs.lemmas.Bool.Decides.{nat_tests}
 use Rattle.std.specs.Cmp.Lexicographic.{same_text}
 use Rattle.std.specs.List.{list_any}
 use Rattle.au_term.specs.Term.{Term, VarTerm, IntTerm, AtomTerm, Compound, end, more, argument_count}
 use Rattle.au_model.specs.Terms.Copies.{renamed}
-use Rattle.au_model.specs.Terms.Forms.{same_name, name_of, is_callable}
+use Rattle.au_model.specs.Terms.Forms.{same_name}
 use Rattle.au_model.specs.Terms.Substitutions.{apply}
 use Rattle.au_model.proofs.UnifierRuleLemmas.{count-apply_all}
 use Rattle.run_model.specs.Programs.Clauses.{Clause, is_clause_of, is_defined}
 use Rattle.clause_compile.specs.AtomNumbers.{name_at, AreDistinct}
 use Rattle.clause_compile.specs.Places.{CodeView, Keeps}
 use Rattle.clause_compile.proofs.AtomNumberLemmas.{name_at-front}
-use Rattle.proc_index.specs.Keys.{key_of, head_key}
+use Rattle.proc_index.specs.Keys.{key_of}
 use Rattle.proc_index.specs.declared.key.Key.TheVariants.{Atom as AtomKey, Functor as FunctorKey}
 use Rattle.clause_index.specs.Classes.{is_head_of}
 use Rattle.clause_index.specs.HeadKeys.{IsHeadKeyOf, IsKeyAmong, named_key}

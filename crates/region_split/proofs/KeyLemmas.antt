@@ -1,6 +1,6 @@
 -- Numbers of goals that are values.
-use Rattle.std.proofs.Common.{◌≡◌, ℕ, zero, suc, ◌+◌, ◌<◌, true, Option, Some, None, refl, sym, ap, ◌∙◌, subst, arith}
-use Rattle.au_term.specs.Term.{Term, Compound as CompoundTerm, Terms, count, term_at, argument, argument_count}
+use Rattle.std.proofs.Common.{◌≡◌, ℕ, zero, suc, ◌+◌, ◌<◌, Option, None, refl, sym, ap, ◌∙◌, subst, arith}
+use Rattle.au_term.specs.Term.{Compound as CompoundTerm, Terms, count, term_at, argument, argument_count}
 use Rattle.au_model.specs.Terms.Forms.{name_of, is_callable}
 use Rattle.au_model.specs.Terms.Lists.{terms_from}
 use Rattle.au_model.specs.Terms.Substitutions.{resolve, apply_all, value_of}
@@ -9,9 +9,8 @@ use Rattle.proc_index.specs.Keys.{key_of, head_key, first_key_of}
 use Rattle.proc_index.specs.declared.key.Key.TheVariants.{Functor as FunctorKey}
 use Rattle.clause_index.specs.HeadKeys.{IsHeadKeyOf, IsKeyAmong, named_key}
 use Rattle.clause_index.specs.declared.key.NumberKey.{NumberKey}
-use Rattle.clause_index.specs.declared.key.HeadKey.{HeadKey}
 use Rattle.binding_array.specs.declared.cell.BindingCell.{BindingCell}
-use Rattle.binding_array.specs.declared.cell.BindingCell.TheVariants.{Var, Int, Atom, Compound}
+use Rattle.binding_array.specs.declared.cell.BindingCell.TheVariants.{Var, Atom, Compound}
 use Rattle.cell_store.specs.Arguments.{HasFunctor, IsArgument, AreArguments, argument_at, arguments_from}
 use Rattle.cell_store.specs.StoreView.{StoreView, IsDereferenced, meaning, value_term, substitution, text_in}
 use Rattle.cell_store.proofs.WritingLemmas.{how_many}

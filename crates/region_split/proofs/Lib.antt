@@ -21,4 +21,5 @@ pub mod CandidateLemmas
 pub mod KeyLemmas
 pub mod ToldApartLemmas
 pub mod SolvedLemmas
+pub mod PutGoalLemmas
 pub mod SolveLemmas

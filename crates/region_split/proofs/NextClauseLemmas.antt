@@ -1,5 +1,5 @@
 -- The newest choice point, as it is read and changed.
-use Rattle.std.proofs.Common.{◌≡◌, ℕ, Bool, true, ◌+◌, ◌-◌, ◌<◌, List, [], ◌∷◌, ◌++◌, length, slice_set, get_or, refl, sym, ap, ap₂, ◌∙◌, subst, arith}
+use Rattle.std.proofs.Common.{◌≡◌, ℕ, Bool, true, ◌+◌, ◌-◌, ◌<◌, List, [], ◌∷◌, ◌++◌, length, slice_set, get_or, sym, ap, ap₂, ◌∙◌, subst, arith}
 use Rattle.std.proofs.Math.Seq.{get_or-append_seam}
 use Rattle.clause_index.specs.Cursors.{IsCursorOf}
 use Rattle.clause_index.specs.declared.cursor.Cursor.{Cursor}
@@ -16,7 +16,7 @@ use Rattle.region_split.specs.declared.choice.ChoicePoint.{ChoicePoint}
 use Rattle.region_split.specs.declared.choice.Trial.{Trial}
 use Rattle.region_split.proofs.StandingLemmas.{as_many}
 use Rattle.region_split.proofs.RegionLemmas.{EndsWith, ends_with}
-use Rattle.region_split.proofs.CursorLemmas.{replaced, undone_at, undone_region, clauses_there, next_there, moved, moved_region, takes_clause, takes_last, rest_there, takes_solution, takes_last_solution}
+use Rattle.region_split.proofs.CursorLemmas.{replaced, undone_at, undone_region, clauses_there, next_there, moved_region, takes_clause, takes_last, rest_there, takes_solution, takes_last_solution}
 
 module _ (before : RegionView) (k : IsConsistentRegion before) (count : ℕ) (many : count ≡ length before.choices) (some : count ≡ 0 → ⊥) where
   abbrev place : ℕ

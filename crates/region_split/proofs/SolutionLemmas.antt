@@ -1,5 +1,5 @@
 -- Solutions where terms are made later.
-use Rattle.std.proofs.Common.{◌≡◌, ℕ, ◌+◌, List, [], ◌∷◌, map, refl, sym, ap, ap₂, ◌∙◌}
+use Rattle.std.proofs.Common.{◌≡◌, ℕ, ◌+◌, List, [], ◌∷◌, map, refl, ap₂}
 use Rattle.au_term.specs.Term.{Term}
 use Rattle.au_model.specs.Terms.Each.{Each}
 use Rattle.au_model.specs.Terms.Substitutions.{Substitution, resolve}
@@ -25,7 +25,7 @@ module _ (old new : CodeView) (next : ℕ) (keeps : Keeps old new) where
   pub solution_there : (solution : SolutionView) → IsSolutionAt old next solution → IsSolutionAt new next solution
   solution_there solution v =
       let more = next + solution.variables in
-      each-more (IsEquationAt old next more) (IsEquationAt new next more) (λ e there. (side_there more e.left there.0, side_there more e.right there.1)) solution.equations v
+      (each-more (IsEquationAt old next more) (IsEquationAt new next more) (λ e there. (side_there more e.left there.0, side_there more e.right there.1)) solution.equations v.0, v.1)
 
   pub same_equations : (s : Substitution) (more : ℕ) (es : List Equation) → Each (IsEquationAt old next more) es → map (equation_meant new s) es ≡ map (equation_meant old s) es
   same_equations s more [] v = refl
@@ -35,4 +35,4 @@ module _ (old new : CodeView) (next : ℕ) (keeps : Keeps old new) where
   pub solutions_same : (s : Substitution) (left : List SolutionView) → Each (IsSolutionAt old next) left → map (solution_at new s) left ≡ map (solution_at old s) left
   solutions_same s [] v = refl
   solutions_same s (x ∷ left) v =
-      ap₂ (λ (es : Equations) xs. (let y : Solution = record { equations = es; goals = []; removes = x.removes; variables = x.variables } in y) ∷ xs) (same_equations s (next + x.variables) x.equations v.0) (solutions_same s left v.1)
+      ap₂ (λ (es : Equations) xs. (let y : Solution = record { equations = es; goals = map (resolve s) x.goals; removes = x.removes; variables = x.variables } in y) ∷ xs) (same_equations s (next + x.variables) x.equations v.0.0) (solutions_same s left v.1)

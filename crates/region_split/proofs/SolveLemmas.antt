@@ -1,26 +1,38 @@
 -- What trying a solution leaves.
-use Rattle.std.proofs.Common.{◌≡◌, ℕ, ◌+◌, ◌≤◌, List, [], ◌∷◌, ◌++◌, append_assoc, length, length-append, map, Option, Some, None, refl, sym, ap, ap₂, ◌∙◌, subst, arith}
+use Rattle.std.proofs.Common.{◌≡◌, ℕ, ◌+◌, List, [], ◌∷◌, ◌++◌, append_assoc, length, length-append, map, Option, Some, None, refl, sym, ap, ap₂, ◌∙◌, subst, arith}
+use Rattle.std.proofs.lemmas.List.{map-append}
+use Rattle.au_term.specs.Term.{Term}
 use Rattle.au_model.specs.Terms.Named.{NamedTerm}
-use Rattle.au_model.specs.Terms.Substitutions.{Substitution}
+use Rattle.au_model.specs.Terms.Substitutions.{Substitution, resolve}
 use Rattle.au_model.specs.Terms.Unifier.{unifier}
-use Rattle.run_model.specs.Machine.Items.{Item, Continuation, RemovalItem, before, removing, with_next, resolve_continuation, resolve_named, resolve_item}
+use Rattle.run_model.specs.Machine.Items.{Item, GoalItem, Continuation, before, goals_at, removal_items, removing, with_items, with_next, resolve_continuation, resolve_item}
 use Rattle.run_model.specs.Machine.Entries.{Entry, PlainEntry, unified, solution_entry, solution_entries}
 use Rattle.cell_store.specs.StoreView.{StoreView, text_in, with_numbers, with_mark}
 use Rattle.region_split.specs.Solutions.{SolutionView, solution_at}
 use Rattle.region_split.specs.SolutionTrials.{AreAllSolved, equations_here, TriesSolution, Solves}
 use Rattle.region_split.specs.Frames.{item_in}
-use Rattle.region_split.specs.ChoicePoints.{Standing, by_height, alternative_entries, continuation_at}
-use Rattle.region_split.specs.Regions.{RegionView, left_here, region_setting, standing, entries_of, heights_of, continuation_here, position_entry, IsPositionIn, IsPositionOver}
-use Rattle.region_split.specs.StackOperations.{StaysStanding, PutsBefore, AddsChoice, item_here, solution_here, solved_entries}
-use Rattle.region_split.specs.ClauseTrials.{entries_at, IsOptionalPosition}
+use Rattle.region_split.specs.ChoicePoints.{Standing, height_of_cut, by_height, alternative_entries, continuation_at}
+use Rattle.region_split.specs.Regions.{RegionView, left_here, region_setting, entries_of, heights_of, continuation_here, IsPositionIn, IsPositionOver}
+use Rattle.region_split.specs.StackOperations.{StaysStanding, PutsBefore, PutsGoals, AddsChoice, solution_here, solved_entries}
 use Rattle.region_split.specs.declared.choice.Alternatives.TheVariants.{Solutions}
-use Rattle.region_split.specs.declared.frame.FrameItem.TheVariants.{Removal}
 use Rattle.region_split.specs.declared.frame.Position.{Position}
 use Rattle.region_split.proofs.CallLemmas.{position_over}
 use Rattle.region_split.proofs.ScopeLemmas.{items_kept}
 use Rattle.region_split.proofs.StoreLemmas.{stays_further}
 use Rattle.region_split.proofs.SolvedLemmas.{stays_twice}
 use Rattle.region_split.proofs.TrialLemmas.{items_twice, named_twice}
+
+-- items with bindings applied
+resolved_before : (s : Substitution) (is : List (Item ℕ)) (f : Continuation ℕ) → resolve_continuation s (before is f) ≡ before (map (resolve_item s) is) (resolve_continuation s f)
+resolved_before s is f = ap (λ items. with_items items (resolve_continuation s f)) (map-append (resolve_item s) is f.items)
+
+goals_resolved : (s : Substitution) (height : ℕ) (goals : List Term) → goals_at height (map (resolve s) goals) ≡ map (resolve_item s) (goals_at height goals)
+goals_resolved s height [] = refl
+goals_resolved s height (t ∷ goals) = ap (λ is. GoalItem (resolve s t) height ∷ is) (goals_resolved s height goals)
+
+removal_resolved : (s : Substitution) (removes : Option ℕ) → ◌≡◌ {A = List (Item ℕ)} (map (resolve_item s) (removal_items removes)) (removal_items removes)
+removal_resolved s None = refl
+removal_resolved s (Some number) = refl
 
 module _ (r r1 r2 : RegionView) (solution : SolutionView) (after : Position) (cut : ℕ) (position : IsPositionOver r cut after) (widened : r1 ≡ record r { store = with_numbers solution.variables r.store }) where
   abbrev wide : RegionView
@@ -35,7 +47,10 @@ module _ (r r1 r2 : RegionView) (solution : SolutionView) (after : Position) (cu
       let here : unifier (equations_here r solution.equations) ≡ None = subst (λ (x : RegionView). unifier (equations_here x solution.equations) ≡ None) widened none in
       let all = stays_twice r wide r2 (stays_further r solution.variables) (subst (λ (x : RegionView). StaysStanding x r2) widened stays) in
       record {
-        entries = λ named. (let f = continuation_here named r after in ap (λ o. unified o (with_next (f.next + solution.variables) (before [] (removing solution.removes f)))) here);
+        entries = λ named.
+            let f = continuation_here named r after in
+            let meant = goals_at (height_of_cut (heights_of named r) cut) (map (resolve r.store.now.bound) solution.goals) in
+            ap (λ o. unified o (with_next (f.next + solution.variables) (before meant (removing solution.removes f)))) here;
         position = tt;
         stands = all.stands;
         choices = ap (λ (x : RegionView). x.choices) all.others;
@@ -66,34 +81,36 @@ module _ (r r1 r2 : RegionView) (solution : SolutionView) (after : Position) (cu
         same_parts : {is js : List (Item ℕ)} {vs ws : List NamedTerm} {n : ℕ} → is ≡ js → vs ≡ ws → (let f : Continuation ℕ = record { items = is; named = vs; next = n } in f) ≡ record { items = js; named = ws; next = n }
         same_parts p q = cc
 
-    entry_is : (named : List NamedTerm) → solved_entries named r solution after ≡ PlainEntry (resolve_continuation here.further (removing solution.removes (following named))) ∷ []
-    entry_is named = let f = continuation_here named r after in ap (λ o. unified o (with_next (f.next + solution.variables) (before [] (removing solution.removes f)))) here.unified
+    -- its goals and the removal by the heights
+    abbrev own : List NamedTerm → List (Item ℕ)
+    own named = goals_at (height_of_cut (heights_of named r) cut) solution.goals
 
-    -- nothing is removed
-    pub goes_on : solution.removes ≡ None → TriesSolution r r2 solution after cut (Some after)
-    goes_on e = record {
-      entries = λ named. entry_is named ∙ (ap (λ o. PlainEntry (resolve_continuation here.further (removing o (following named))) ∷ []) e ∙ ap (λ f. PlainEntry f ∷ []) (sym (continued named)));
-      position = all.position cut after position;
-      stands = all.stands;
-      choices = ap (λ (x : RegionView). x.choices) all.others;
-      text = ap (λ (x : RegionView). x.text) all.others;
-    }
+    entry_is : (named : List NamedTerm) → solved_entries named r solution cut after ≡ PlainEntry (before (map (resolve_item r2.store.now.bound) (own named)) (removing solution.removes (resolve_continuation here.further (following named)))) ∷ []
+    entry_is named =
+        let f = continuation_here named r after in
+        let s = r.store.now.bound in
+        let meant = goals_at (height_of_cut (heights_of named r) cut) (map (resolve s) solution.goals) in
+        ap (λ o. unified o (with_next (f.next + solution.variables) (before meant (removing solution.removes f)))) here.unified
+        ∙ ap (λ g. PlainEntry g ∷ []) (resolved_before here.further meant (removing solution.removes (following named))
+        ∙ ap₂ (λ is g. before is g)
+        (ap (map (resolve_item here.further)) (goals_resolved s (height_of_cut (heights_of named r) cut) solution.goals) ∙ sym (items_twice s here.further r2.store.now.bound here.bound (own named)))
+        (resolved_before here.further (removal_items solution.removes) (following named) ∙ ap (λ is. before is (resolve_continuation here.further (following named))) (removal_resolved here.further solution.removes)))
 
-    -- a clause is removed first
-    pub removes_first : (number : ℕ) (r3 : RegionView) (p : Position) → solution.removes ≡ Some number → PutsBefore r2 r3 (item_here r2 (Removal number) cut) cut after p → TriesSolution r r3 solution after cut (Some p)
-    removes_first number r3 p e puts = record {
-      entries = λ named.
-          entry_is named
-          ∙ (ap (λ o. PlainEntry (resolve_continuation here.further (removing o (following named))) ∷ []) e
-          ∙ ap (λ f. PlainEntry f ∷ []) (ap (before (RemovalItem number ∷ [])) (sym (continued named)) ∙ sym (puts.goes_on named)));
-      position = puts.position;
-      stands = λ named. puts.stands named ∙ all.stands named;
-      choices = ap (λ (x : RegionView). x.choices) puts.others ∙ ap (λ (x : RegionView). x.choices) all.others;
-      text = ap (λ (x : RegionView). x.text) puts.others ∙ ap (λ (x : RegionView). x.text) all.others;
-    }
-
-    pub here_after : IsPositionOver r2 cut after
-    here_after = all.position cut after position
+    module _ (r3 : RegionView) (next : Position) (removal : PutsBefore r2 r3 (λ heights. removal_items solution.removes) cut after next) where
+      -- its goals are put before the removal
+      pub goes_on : (r4 : RegionView) (p : Position) → PutsGoals r3 r4 solution.goals cut next p → TriesSolution r r4 solution after cut (Some p)
+      goes_on r4 p put = record {
+        entries = λ named.
+            entry_is named
+            ∙ ap (λ f. PlainEntry f ∷ []) (sym (put.goes_on named
+            ∙ ap₂ (λ is f. before is f)
+            (ap₂ (λ (x : RegionView) (st : Standing). map (resolve_item x.store.now.bound) (goals_at (height_of_cut st.heights cut) solution.goals)) removal.others (removal.stands named ∙ all.stands named))
+            (removal.goes_on named ∙ ap (removing solution.removes) (continued named))));
+        position = put.position;
+        stands = λ named. put.stands named ∙ (removal.stands named ∙ all.stands named);
+        choices = ap (λ (x : RegionView). x.choices) put.others ∙ (ap (λ (x : RegionView). x.choices) removal.others ∙ ap (λ (x : RegionView). x.choices) all.others);
+        text = ap (λ (x : RegionView). x.text) put.others ∙ (ap (λ (x : RegionView). x.text) removal.others ∙ ap (λ (x : RegionView). x.text) all.others);
+      }
 
 -- solutions in the place of a goal
 module _ (r : RegionView) (after : Position) where
@@ -101,19 +118,22 @@ module _ (r : RegionView) (after : Position) where
   none_solves solutions e = record { entries = λ named. ap (λ ss. solution_entries (length (entries_of named r)) (continuation_here named r after) (map (solution_here r) ss) ++ entries_of named r) e; position = tt; text = refl }
 
   module _ (solutions : List SolutionView) (first : SolutionView) (rest : List SolutionView) (is : solutions ≡ first ∷ rest) (cut : ℕ) (count : cut ≡ length r.choices) where
+    abbrev own_entry : List NamedTerm → List Entry
+    own_entry named = solution_entry (length (entries_of named r)) (continuation_here named r after) (solution_here r first)
+
     abbrev others : List NamedTerm → List Entry
     others named = solution_entries (length (entries_of named r)) (continuation_here named r after) (map (solution_here r) rest)
 
-    whole : (named : List NamedTerm) → solution_entries (length (entries_of named r)) (continuation_here named r after) (map (solution_here r) solutions) ++ entries_of named r ≡ solved_entries named r first after ++ (others named ++ entries_of named r)
+    whole : (named : List NamedTerm) → solution_entries (length (entries_of named r)) (continuation_here named r after) (map (solution_here r) solutions) ++ entries_of named r ≡ own_entry named ++ (others named ++ entries_of named r)
     whole named =
         ap (λ ss. solution_entries (length (entries_of named r)) (continuation_here named r after) (map (solution_here r) ss) ++ entries_of named r) is
-        ∙ append_assoc (solved_entries named r first after) (others named) (entries_of named r)
+        ∙ append_assoc (own_entry named) (others named) (entries_of named r)
 
-    pub last_solves : (new : RegionView) (reached : Option Position) → rest ≡ [] → TriesSolution r new first after cut reached → Solves r new solutions after reached
-    last_solves new reached e tried = record {
+    pub last_solves : (new : RegionView) (reached : Option Position) → rest ≡ [] → ((named : List NamedTerm) → height_of_cut (heights_of named r) cut ≡ length (entries_of named r)) → TriesSolution r new first after cut reached → Solves r new solutions after reached
+    last_solves new reached e height tried = record {
       entries = λ named.
           whole named
-          ∙ ap₂ (λ es fs. es ++ fs) (tried.entries named)
+          ∙ ap₂ (λ es fs. es ++ fs) (ap (λ h. solution_entry h (continuation_here named r after) (solution_here r first)) (sym (height named)) ∙ tried.entries named)
           (ap (λ ss. solution_entries (length (entries_of named r)) (continuation_here named r after) (map (solution_here r) ss) ++ entries_of named r) e ∙ ap (λ (st : Standing). st.entries) (sym (tried.stands named)));
       position = position_over new cut (length new.choices) reached (let l = ap length tried.choices in omega (arith, l, count)) tried.position;
       text = tried.text;
@@ -134,9 +154,13 @@ module _ (r : RegionView) (after : Position) where
         follows : (named : List NamedTerm) → continuation_here named r1 after ≡ continuation_here named r after
         follows named = let same = a.keeps.same named after there.frame there in cc
 
-        same_entry : (named : List NamedTerm) → solved_entries named r first after ≡ solved_entries named r1 first after
-        same_entry named =
-            ap₂ (λ f (x : StoreView). solution_entry 0 f (solution_at (text_in x) x.now.bound first)) (sym (follows named)) (sym store)
+        own_height : (named : List NamedTerm) → height_of_cut (heights_of named r1) cut ≡ length (entries_of named r)
+        own_height named = ap (height_of_cut (heights_of named r1)) count ∙ a.heights named
+
+        same_entry : (named : List NamedTerm) → own_entry named ≡ solved_entries named r1 first cut after
+        same_entry named = sym
+            (ap₂ (λ h f. solution_entry h f (solution_here r1 first)) (own_height named) (follows named)
+            ∙ ap (λ (x : StoreView). solution_entry (length (entries_of named r)) (continuation_here named r after) (solution_at (text_in x) x.now.bound first)) store)
 
         other_entries : (named : List NamedTerm) → entries_of named r1 ≡ others named ++ entries_of named r
         other_entries named =

@@ -1,24 +1,24 @@
 -- Equations that are solved one after another.
-use Rattle.std.proofs.Common.{◌≡◌, ℕ, zero, suc, ◌+◌, ◌<◌, ◌≤◌, get_or, List, [], ◌∷◌, ◌++◌, append_assoc, append-nil, length, map, take, drop, Option, Some, None, refl, sym, ap, ap₂, ◌∙◌, subst, arith}
+use Rattle.std.proofs.Common.{◌≡◌, ℕ, ◌+◌, ◌<◌, get_or, List, [], ◌∷◌, ◌++◌, append-nil, length, map, take, drop, Option, Some, None, refl, sym, ap, ap₂, ◌∙◌, subst, arith}
 use Rattle.std.specs.Option.{option_map}
 use Rattle.std.proofs.lemmas.List.{map-append, take-append-drop}
 use Rattle.au_model.specs.Terms.Each.{Each}
 use Rattle.cell_store.proofs.UndoingLemmas.{front_at}
 use Rattle.au_term.specs.Term.{Term}
-use Rattle.au_model.specs.Terms.EquationsInTurn.{after as both, further_unified, resolved_equations}
+use Rattle.au_model.specs.Terms.EquationsInTurn.{after as both, further_unified}
 use Rattle.au_model.specs.Terms.Substitutions.{Substitution, resolve, value_of}
 use Rattle.au_model.specs.Terms.Unifier.{Equations, unifier}
 use Rattle.au_model.proofs.EquationsInTurnLemmas.{front_first, resolve-after, resolve-nothing}
 use Rattle.au_model.proofs.UnifierLemmas.{unifier_goes}
 use Rattle.clause_compile.specs.Places.{CodeView, Keeps}
+use Rattle.clause_compile.proofs.CodeLemmas.{keeps_twice}
 use Rattle.binding_array.specs.declared.cell.BindingCell.{BindingCell}
-use Rattle.cell_store.specs.StoreView.{Moment, StoreView, text_at, AddsText, IsComposition, IsValueIn, meaning, substitution, text_in, value_term, with_substitution}
-use Rattle.cell_store.specs.UnificationSteps.{AreUnified, IsUnified, OnlyBinds}
+use Rattle.cell_store.specs.StoreView.{Moment, StoreView, text_at, AddsText, IsValueIn, meaning, text_in, value_term}
+use Rattle.cell_store.specs.UnificationSteps.{AreUnified, OnlyBinds}
 use Rattle.region_split.specs.Solutions.{side_term, equation_meant, IsSideAt, IsEquationAt}
-use Rattle.region_split.specs.SolutionTrials.{AreAllSolved, equations_here}
-use Rattle.region_split.specs.Regions.{RegionView, IsPositionOver, standing}
+use Rattle.region_split.specs.SolutionTrials.{AreAllSolved}
+use Rattle.region_split.specs.Regions.{RegionView}
 use Rattle.region_split.specs.StackOperations.{StaysStanding}
-use Rattle.region_split.specs.declared.frame.Position.{Position}
 use Rattle.region_split.specs.declared.solution.Equation.{Equation}
 use Rattle.region_split.specs.declared.solution.EquationSide.{EquationSide}
 use Rattle.region_split.specs.declared.solution.EquationSide.TheVariants.{Value, Copied}
@@ -31,15 +31,6 @@ stays_twice a b c p q = record {
   stands = λ named. q.stands named ∙ p.stands named;
   position = λ cut x i. q.position cut x (p.position cut x i);
   others = q.others ∙ ap (λ (x : RegionView). record x { store = c.store }) p.others;
-}
-
-keeps_twice : (a b c : CodeView) → Keeps a b → Keeps b c → Keeps a c
-keeps_twice a b c p q = record {
-  names = p.names ++ q.names;
-  names_are = q.names_are ∙ (ap (λ ns. ns ++ q.names) p.names_are ∙ append_assoc a.names p.names q.names);
-  places = p.places ++ q.places;
-  places_are = q.places_are ∙ (ap (λ ns. ns ++ q.places) p.places_are ∙ append_assoc a.places p.places q.places);
-  same = λ x there. (let one = p.same x there in let two = q.same x one.0 in (two.0, two.1 ∙ one.1));
 }
 
 -- a side where text was added
@@ -135,6 +126,22 @@ nothing_added st = record { keeps = nothing_kept (text_in st); values = λ value
     all_kept : (ms : List Moment) → Each (λ m. Keeps (text_at st m) (text_at st m)) ms
     all_kept [] = tt
     all_kept (m ∷ ms) = (nothing_kept (text_at st m), all_kept ms)
+
+-- text that was added twice
+pub adds_twice : (a b c : StoreView) → AddsText a b → AddsText b c → AddsText a c
+adds_twice a b c p q = record {
+  keeps = keeps_twice (text_in a) (text_in b) (text_in c) p.keeps q.keeps;
+  values = λ value there. (let one = p.values value there in let two = q.values value one.0 in (two.0, two.1 ∙ one.1));
+  program = q.program ∙ p.program;
+  bound = q.bound ∙ p.bound;
+  next = q.next ∙ p.next;
+  marks = q.marks ∙ p.marks;
+  at_marks = all_twice a.marks p.at_marks (subst (Each (λ m. Keeps (text_at b m) (text_at c m))) p.marks q.at_marks);
+}
+  where
+    all_twice : (ms : List Moment) → Each (λ m. Keeps (text_at a m) (text_at b m)) ms → Each (λ m. Keeps (text_at b m) (text_at c m)) ms → Each (λ m. Keeps (text_at a m) (text_at c m)) ms
+    all_twice [] one two = tt
+    all_twice (m ∷ ms) one two = (keeps_twice (text_at a m) (text_at b m) (text_at c m) one.0 two.0, all_twice ms one.1 two.1)
 
 -- equations that were read one after another
 pub front_equations : (f : Equation → Term × Term) (es : List Equation) (i : ℕ) (e : Equation) → i < length es → e ≡ get_or es i e → map f (take (i + 1) es) ≡ map f (take i es) ++ f e ∷ []

@@ -2,9 +2,9 @@
 use Rattle.std.proofs.Common.{◌≡◌, ℕ, ◌+◌, List, [], ◌∷◌, length, map, refl, sym, ap, ap₂, ◌∙◌, subst, arith}
 use Rattle.au_model.specs.Terms.Each.{Each}
 use Rattle.au_model.specs.Terms.Named.{NamedTerm}
-use Rattle.au_model.specs.Terms.Substitutions.{resolve}
+use Rattle.au_model.specs.Terms.Substitutions.{Substitution, resolve}
 use Rattle.run_model.specs.Machine.Items.{Item, Continuation, resolve_continuation, with_next}
-use Rattle.run_model.specs.Machine.Entries.{Entry, PlainEntry, FindallEntry, CatchEntry, solution_entries}
+use Rattle.run_model.specs.Machine.Entries.{PlainEntry, FindallEntry, CatchEntry, solution_entries}
 use Rattle.clause_compile.specs.Places.{CodeView, Keeps}
 use Rattle.cell_store.specs.StoreView.{Moment, StoreView, AddsText, text_in, with_numbers}
 use Rattle.cell_store.proofs.SubstitutionLemmas.{value_kept}
@@ -12,7 +12,7 @@ use Rattle.clause_index.specs.Cursors.{numbers_left}
 use Rattle.region_split.specs.Candidates.{entries_of_clauses}
 use Rattle.region_split.specs.Frames.{AreLeftScoped, left_items, item_in}
 use Rattle.region_split.specs.ChoicePoints.{RegionSetting, Standing, code_at, continuation_at, alternative_entries, choice_entries, standing_over, nothing_standing, with_entries_on_top, by_height, AreAlternativesAt, AreChoicesOver}
-use Rattle.region_split.specs.Regions.{RegionView, region_setting, left_here, heights_of, standing, IsConsistentRegion, IsPositionOver}
+use Rattle.region_split.specs.Regions.{RegionView, region_setting, left_here, heights_of, continuation_here, standing, IsConsistentRegion, IsPositionOver}
 use Rattle.region_split.specs.StackOperations.{KeepsPositions, StaysStanding}
 use Rattle.region_split.specs.declared.choice.Alternatives.{Alternatives}
 use Rattle.region_split.specs.declared.choice.Alternatives.TheVariants.{Clauses, Solutions, Elsewhere, Catch, Findall, QueryEnd}
@@ -33,6 +33,16 @@ stays_further r n = record {
 
 pub stays_same : (r : RegionView) → StaysStanding r r
 stays_same r = record { stands = λ named. refl; position = λ cut p i. i; others = refl }
+
+-- what is left at a position stays where text was added
+pub goes_on_there : (r new : RegionView) → AddsText r.store new.store → StaysStanding r new → (cut : ℕ) (p : Position) → IsPositionOver r cut p → (named : List NamedTerm) → continuation_here named new p ≡ continuation_here named r p
+goes_on_there r new adds stays cut p i named =
+    let by : List ℕ → Substitution → ℕ → List (Item ℕ) → Continuation ℕ = λ hs s n items. resolve_continuation s (record { items = map (by_height hs) items; named = named; next = n }) in
+    let items = map (item_in (text_in r.store)) (left_here r p) in
+    ap (λ left. by (heights_of named new) new.store.now.bound new.store.now.next (map (item_in (text_in new.store)) left)) (ap (λ (x : RegionView). left_here x p) stays.others)
+    ∙ (ap (by (heights_of named new) new.store.now.bound new.store.now.next) (items_kept (text_in r.store) (text_in new.store) r.store.now.next cut (left_here r p) adds.keeps i.scoped)
+    ∙ (ap (λ (st : Standing). by st.heights new.store.now.bound new.store.now.next items) (stays.stands named)
+    ∙ ap₂ (λ s n. by (heights_of named r) s n items) adds.bound adds.next))
 
 -- with further names
 abbrev with_text : CodeView → List (List ℕ) → RegionSetting → RegionSetting
@@ -118,9 +128,5 @@ module _ (r : RegionView) (k : IsConsistentRegion r) (new : StoreView) (adds : A
   pub positions_kept : KeepsPositions r added (length r.frames)
   positions_kept = record {
     position = λ cut p le i. position cut p i;
-    same = λ named p le i.
-        let entry_by : List ℕ → Moment → List (Item ℕ) → Entry = λ hs m items. PlainEntry (resolve_continuation m.bound (record { items = map (by_height hs) items; named = named; next = m.next })) in
-        ap (λ items. entry_by (heights_of named added) new.now items) (items_kept (text_in r.store) (text_in new) r.store.now.next (length r.choices) (left_here r p) adds.keeps i.scoped)
-        ∙ (ap (λ hs. entry_by hs new.now (map (item_in (text_in r.store)) (left_here r p))) (ap (λ (st : Standing). st.heights) (stands named))
-        ∙ ap₂ (λ b n. entry_by (heights_of named r) (record { made = []; bound = b; next = n }) (map (item_in (text_in r.store)) (left_here r p))) adds.bound adds.next);
+    same = λ named p le i. ap PlainEntry (goes_on_there r added adds text_added (length r.choices) p i named);
   }

@@ -1,17 +1,15 @@
 -- Solutions that are tried for goals (ISO/IEC 13211-1, 7.8 and 7.10).
-use Rattle.std.specs.Prelude.{◌≡◌, ◌≤◌, ℕ, List, [], ◌∷◌, ◌++◌, length, map, Bool, true, false, Option, Some, None}
-use Rattle.au_term.specs.Term.{Term}
+use Rattle.std.specs.Prelude.{◌≡◌, ℕ, List, ◌++◌, length, map, Bool, true, false, Option, Some, None}
 use Rattle.au_model.specs.Terms.Each.{Each}
 use Rattle.au_model.specs.Terms.Named.{NamedTerm}
 use Rattle.au_model.specs.Terms.Substitutions.{Substitution}
 use Rattle.au_model.specs.Terms.Unifier.{Equations, unifier}
 use Rattle.run_model.specs.Goals.Outcomes.{Solutions}
-use Rattle.run_model.specs.Machine.Entries.{Entry}
 use Rattle.run_model.specs.Machine.Heights.{after_reply}
 use Rattle.clause_compile.specs.Places.{Keeps}
-use Rattle.cell_store.specs.StoreView.{StoreView, IsValueIn, IsComposition, text_in, value_term}
+use Rattle.cell_store.specs.StoreView.{IsValueIn, IsComposition, text_in, value_term}
 use Rattle.binding_array.specs.declared.cell.BindingCell.{BindingCell}
-use Rattle.region_split.specs.Solutions.{SolutionView, side_term, equation_meant, IsSideAt, IsEquationAt}
+use Rattle.region_split.specs.Solutions.{SolutionView, equation_meant, IsSideAt, IsEquationAt}
 use Rattle.region_split.specs.Regions.{RegionView, standing, entries_of, continuation_here}
 use Rattle.region_split.specs.StackOperations.{StaysStanding, IsSolutionHere, solution_here, solved_entries}
 use Rattle.region_split.specs.ClauseTrials.{entries_at, IsOptionalPosition}
@@ -45,9 +43,10 @@ abbrev pub AreSolvedOr : RegionView → RegionView → Equations → Bool → Ty
 AreSolvedOr old new es true = AreAllSolved old new es
 AreSolvedOr old new es false = (unifier es ≡ None) × StaysStanding old new
 
--- a solution was tried: where its equations unify, what goes on is its entry, and where they don't, there is none
+-- a solution was tried, in whose goals a cut leaves so many choice points: where its equations unify, what goes on is its
+-- entry, and where they don't, there is none
 pub record TriesSolution (old new : RegionView) (solution : SolutionView) (after : Position) (cut : ℕ) (reached : Option Position) : Type 0 where
-  pub entries : (named : List NamedTerm) → solved_entries named old solution after ≡ entries_at named new reached
+  pub entries : (named : List NamedTerm) → solved_entries named old solution cut after ≡ entries_at named new reached
   pub position : IsOptionalPosition new cut reached
   pub stands : (named : List NamedTerm) → standing named new ≡ standing named old
   pub choices : new.choices ≡ old.choices

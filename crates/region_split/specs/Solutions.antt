@@ -1,5 +1,5 @@
 -- Solutions of goals for which no clauses of the text are tried, as values and terms.
-use Rattle.std.specs.Prelude.{◌≤◌, ℕ, ◌+◌, List, [], ◌∷◌, map, Option, None}
+use Rattle.std.specs.Prelude.{◌≤◌, ℕ, ◌+◌, List, map, Option}
 use Rattle.au_term.specs.Term.{Term, var_bound}
 use Rattle.au_model.specs.Terms.Each.{Each}
 use Rattle.au_model.specs.Terms.Substitutions.{Substitution, resolve}
@@ -11,9 +11,10 @@ use Rattle.region_split.specs.declared.solution.EquationSide.{EquationSide}
 use Rattle.region_split.specs.declared.solution.EquationSide.TheVariants.{Value, Copied}
 use Rattle.region_split.specs.declared.solution.Equation.{Equation}
 
--- its equations, the clause that is removed, and how many new variables it takes
+-- its equations, the goals that are left, the clause that is removed, and how many new variables it takes
 pub record SolutionView : Type 0 where
   pub equations : List Equation
+  pub goals : List Term
   pub removes : Option ℕ
   pub variables : ℕ
 
@@ -26,7 +27,7 @@ abbrev pub equation_meant : CodeView → Substitution → Equation → Term × T
 equation_meant code s e = (resolve s (side_term code e.left), resolve s (side_term code e.right))
 
 abbrev pub solution_at : CodeView → Substitution → SolutionView → Solution
-solution_at code s solution = record { equations = map (equation_meant code s) solution.equations; goals = []; removes = solution.removes; variables = solution.variables }
+solution_at code s solution = record { equations = map (equation_meant code s) solution.equations; goals = map (resolve s) solution.goals; removes = solution.removes; variables = solution.variables }
 
 -- values are there, and terms have no variables but those and the new ones
 abbrev pub IsSideAt : CodeView → ℕ → ℕ → EquationSide → Type 0
@@ -37,4 +38,4 @@ abbrev pub IsEquationAt : CodeView → ℕ → ℕ → Equation → Type 0
 IsEquationAt code next more e = IsSideAt code next more e.left × IsSideAt code next more e.right
 
 abbrev pub IsSolutionAt : CodeView → ℕ → SolutionView → Type 0
-IsSolutionAt code next solution = Each (IsEquationAt code next (next + solution.variables)) solution.equations
+IsSolutionAt code next solution = Each (IsEquationAt code next (next + solution.variables)) solution.equations × Each (λ t. var_bound t ≤ next + solution.variables) solution.goals

@@ -1,12 +1,12 @@
 -- What each operation on the frames and choice points of a region leaves of the entries that it stands for.
-use Rattle.std.specs.Prelude.{◌≡◌, ℕ, ◌≤◌, ◌<◌, List, [], ◌∷◌, ◌++◌, length, take, ◌-◌, Some, slice_get}
+use Rattle.std.specs.Prelude.{◌≡◌, ℕ, ◌≤◌, ◌<◌, List, [], ◌∷◌, ◌++◌, length, take, ◌-◌, Some, slice_get, map}
 use Rattle.au_model.specs.Terms.Named.{NamedTerm}
 use Rattle.au_term.specs.Term.{Term}
 use Rattle.run_model.specs.Programs.Clauses.{Clause}
 use Rattle.run_model.specs.Goals.Outcomes.{Solution, clause_solution}
-use Rattle.run_model.specs.Machine.Items.{Item, before, resolve_item}
+use Rattle.run_model.specs.Machine.Items.{Item, before, goals_at, resolve_item}
 use Rattle.run_model.specs.Machine.Entries.{Entry, lowest, solution_entry, collected}
-use Rattle.cell_store.specs.StoreView.{Moment, text_in, with_mark, with_marks, new_store, IsValueIn, meaning}
+use Rattle.cell_store.specs.StoreView.{Moment, AddsText, text_in, with_mark, with_marks, new_store, IsValueIn, meaning}
 use Rattle.region_split.specs.Texts.{TextView}
 use Rattle.region_split.specs.Solutions.{SolutionView, solution_at, IsSolutionAt}
 use Rattle.region_split.specs.Frames.{own_body_left, scoped_item}
@@ -45,6 +45,20 @@ pub record PutsBefore (old new : RegionView) (items : List ℕ → List (Item �
   pub older : after.frame ≤ p.frame
   pub keeps : KeepsPositions old new after.frame
   pub others : new ≡ record old { frames = new.frames }
+
+-- goals in one scope by the heights, as they are now
+abbrev pub goals_here : RegionView → List Term → ℕ → List ℕ → List (Item ℕ)
+goals_here r goals cut heights = map (resolve_item r.store.now.bound) (goals_at (height_of_cut heights cut) goals)
+
+-- goals were copied in and put before what follows at a position; no variable was bound or taken
+pub record PutsGoals (old new : RegionView) (goals : List Term) (cut : ℕ) (after p : Position) : Type 0 where
+  pub position : IsPositionOver new cut p
+  pub goes_on : (named : List NamedTerm) → continuation_here named new p ≡ before (goals_here old goals cut (heights_of named old)) (continuation_here named old after)
+  pub stands : (named : List NamedTerm) → standing named new ≡ standing named old
+  pub older : after.frame ≤ p.frame
+  pub keeps : KeepsPositions old new after.frame
+  pub adds : AddsText old.store new.store
+  pub others : new ≡ record old { store = new.store; frames = new.frames }
 
 -- an item by the heights, as it is now
 abbrev pub item_here : RegionView → FrameItem → ℕ → List ℕ → List (Item ℕ)
@@ -130,16 +144,16 @@ IsSolutionHere r solution = IsSolutionAt (text_in r.store) r.store.now.next solu
 abbrev pub solution_here : RegionView → SolutionView → Solution
 solution_here r solution = solution_at (text_in r.store) r.store.now.bound solution
 
--- the entry of a solution before what follows at a position: it has no goals, so no height matters
-abbrev pub solved_entries : List NamedTerm → RegionView → SolutionView → Position → List Entry
-solved_entries named r solution after = solution_entry 0 (continuation_here named r after) (solution_here r solution)
+-- the entry of a solution before what follows at a position, in whose goals a cut leaves so many choice points
+abbrev pub solved_entries : List NamedTerm → RegionView → SolutionView → ℕ → Position → List Entry
+solved_entries named r solution cut after = solution_entry (height_of_cut (heights_of named r) cut) (continuation_here named r after) (solution_here r solution)
 
 -- the first solution that was left was taken off the newest choice point, at the store of the time when it came: the entry of
 -- that solution, if its equations unify, was the first. Where none is left, the choice point is gone
 pub record TakesSolution (old new : RegionView) (solution : SolutionView) (after : Position) : Type 0 where
   pub position : IsPositionOver new (length old.choices - 1) after
   pub there : IsSolutionHere new solution
-  pub entries : (named : List NamedTerm) → entries_of named old ≡ solved_entries named new solution after ++ entries_of named new
+  pub entries : (named : List NamedTerm) → entries_of named old ≡ solved_entries named new solution (length old.choices - 1) after ++ entries_of named new
   pub many : length old.choices - 1 ≤ length new.choices
   pub fewer : all_takes_left new.text.heads new.choices < all_takes_left old.text.heads old.choices
   pub text : new.text ≡ old.text

@@ -1,6 +1,5 @@
 -- A program's text.
-use Rattle.std.specs.Prelude.{◌≡◌, ◌≤◌, ◌<◌, ℕ, true, List, [], ◌∷◌, ◌++◌, map, drop, length, Option, Some, None}
-use Rattle.au_term.specs.Term.{Term}
+use Rattle.std.specs.Prelude.{◌≡◌, ◌≤◌, ℕ, true, List, [], ◌∷◌, ◌++◌, map, drop}
 use Rattle.au_model.specs.Terms.Forms.{is_callable}
 use Rattle.au_model.specs.Terms.Each.{Each}
 use Rattle.run_model.specs.Programs.Bodies.{clause_goals_of}

@@ -17,6 +17,7 @@ mod call;
 mod candidates;
 mod choice;
 mod frame;
+mod goals;
 pub mod keys;
 mod region;
 mod results;

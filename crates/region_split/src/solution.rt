@@ -21,11 +21,13 @@ pub struct Equation {
     pub right: EquationSide,
 }
 
-/// A way for a goal to hold: where its equations unify, the clause with a number is removed, if one is named, before what
-/// follows. It takes so many new variables, numbered from the next one on.
+/// A way for a goal to hold: where its equations unify, its goals are left, which are copied in when it is taken; then the
+/// clause with a number is removed, if one is named, before what follows. It takes so many new variables, numbered from the
+/// next one on.
 #[derive(Drop)]
 pub struct Solution {
     equations: Vec<Equation>,
+    goals: Vec<Shared>,
     removes: Option<u64>,
     variables: u32,
 }
@@ -39,16 +41,22 @@ impl Model for Solution {
 
     ghost coded = { Prim.hlevel (codes, term_code) };
 
-    ghost view = { λ s. record { equations = s.equations.items; removes = s.removes; variables = s.variables } };
+    ghost view = { λ s. record { equations = s.equations.items; goals = s.goals.items; removes = s.removes; variables = s.variables } };
 }
 
 impl Solution {
-    /// The solution with these equations.
-    pub fn new(equations: Vec<Equation>, removes: Option<u64>, variables: u32) -> Solution
-        ensures { result ≡ record { equations = equations.items; removes = removes; variables = variables } }
+    /// The solution with these equations and goals.
+    pub fn new(
+        equations: Vec<Equation>,
+        goals: Vec<Shared>,
+        removes: Option<u64>,
+        variables: u32,
+    ) -> Solution
+        ensures { result ≡ record { equations = equations.items; goals = goals.items; removes = removes; variables = variables } }
     {
         Solution {
             equations,
+            goals,
             removes,
             variables,
         }
@@ -59,6 +67,13 @@ impl Solution {
         ensures { result.now ≡ self.entry.now.equations }
     {
         &self.equations
+    }
+
+    /// Its goals.
+    pub fn goals(&self) -> &[Shared]
+        ensures { result.now ≡ self.entry.now.goals }
+    {
+        &self.goals
     }
 
     /// The number of the clause that is removed.

@@ -3,7 +3,8 @@ ghost use Rattle.std.specs.Prelude.{◌≡◌, IfOk, length};
 ghost use Rattle.cell_store.specs.StoreView.{AddsText, IsValueIn, value_term, text_in};
 ghost use Rattle.region_split.specs.Regions.{IsPositionIn, IsPositionOver};
 ghost use Rattle.region_split.specs.Solutions.{side_term};
-ghost use Rattle.region_split.specs.StackOperations.{StaysStanding, IsSolutionHere};
+ghost use Rattle.run_model.specs.Machine.Items.{removal_items};
+ghost use Rattle.region_split.specs.StackOperations.{PutsBefore, StaysStanding, IsSolutionHere};
 ghost use Rattle.region_split.specs.SolutionTrials.{IsSideHere, AreEquationsHere, equations_here, AreSolvedOr, TriesSolution, AreSolutionsHere, Solves};
 
 use crate::choice::Alternatives;
@@ -37,9 +38,9 @@ impl Region {
         self.try_solution(&first, after, cut)
     }
 
-    /// Tries a solution before what follows at a position, in which a cut leaves so many choice points, and gives the position
-    /// at which it goes on, if its equations unify. Where they don't, or out of memory, some bindings may be left: the newest
-    /// choice point can be taken.
+    /// Tries a solution before what follows at a position, in whose goals a cut leaves so many choice points, and gives the
+    /// position at which it goes on, if its equations unify. Where they don't, or out of memory, some bindings may be left: the
+    /// newest choice point can be taken.
     pub fn try_solution(
         &mut self,
         solution: &Solution,
@@ -54,12 +55,24 @@ impl Region {
         if !self.solve_all(solution.equations())? {
             return Ok(None);
         }
-        match solution.removes() {
-            Some(number) => {
-                let position = self.push_item(FrameItem::Removal(number), cut, after)?;
-                Ok(Some(position))
-            }
-            None => Ok(Some(after)),
+        let following = self.push_removal(solution.removes(), cut, after)?;
+        let position = self.push_goals(solution.goals(), cut, following)?;
+        Ok(Some(position))
+    }
+
+    /// Puts the removal of a clause before what follows at a position, if one is named.
+    fn push_removal(
+        &mut self,
+        removes: Option<u64>,
+        cut: u32,
+        after: Position,
+    ) -> Result<Position, NoMemory>
+        requires { IsPositionOver self.old cut after }
+        ensures { IfOk result (PutsBefore self.old self.new (λ heights. removal_items removes) cut after) }
+    {
+        match removes {
+            Some(number) => self.push_item(FrameItem::Removal(number), cut, after),
+            None => Ok(after),
         }
     }
 

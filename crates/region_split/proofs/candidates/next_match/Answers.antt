@@ -1,4 +1,3 @@
-use Rattle.std.proofs.Common.{refl}
 use Rattle.region_split.proofs.CandidateLemmas.{passed_on}
 use Rattle.region_split.proofs.candidates.next_match.Goals as goal
 

@@ -1,4 +1,4 @@
-use Rattle.std.proofs.Common.{◌≡◌, ◌+◌, ◌<◌, sym, ap, ◌∙◌, subst, arith}
+use Rattle.std.proofs.Common.{◌≡◌, ◌<◌, sym, ap, ◌∙◌, subst, arith}
 use Rattle.clause_compile.specs.Places.{meaning_in}
 use Rattle.proc_index.specs.declared.key.Key.TheVariants.{Any}
 use Rattle.proc_index.specs.Keys.{key_of}

@@ -1,4 +1,4 @@
-use Rattle.std.proofs.Common.{Result, Ok, Err, IfOk, subst}
+use Rattle.std.proofs.Common.{subst}
 use Rattle.cell_store.specs.StoreView.{StoreView, meaning}
 use Rattle.region_split.specs.Candidates.{AreCandidates, FindsClause, HaveNoEntry}
 use Rattle.region_split.specs.Texts.{TextView}

@@ -1,5 +1,5 @@
-use Rattle.std.proofs.Common.{◌≡◌, ◌+◌, None, drop, map, take, sym, ap, ◌∙◌, subst}
-use Rattle.au_model.specs.Terms.Unifier.{Equations, unifier}
+use Rattle.std.proofs.Common.{◌+◌, drop, take, sym, ap, ◌∙◌, subst}
+use Rattle.au_model.specs.Terms.Unifier.{unifier}
 use Rattle.cell_store.specs.StoreView.{text_in}
 use Rattle.cell_store.specs.UnificationSteps.{IsUnified}
 use Rattle.cell_store.proofs.UndoingLemmas.{each_at}

@@ -1,4 +1,4 @@
-use Rattle.std.proofs.Common.{◌≡◌, ◌-◌, length, ap, ◌∙◌, subst}
+use Rattle.std.proofs.Common.{◌-◌, ap, ◌∙◌, subst}
 use Rattle.region_split.specs.Regions.{RegionView}
 use Rattle.region_split.specs.StackOperations.{TakesSolution}
 use Rattle.region_split.proofs.BacktrackingLemmas.{clause_next, solution_next, no_solution, catch_passed}

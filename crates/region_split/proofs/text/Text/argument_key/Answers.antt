@@ -1,5 +1,4 @@
-use Rattle.std.proofs.Common.{◌≡◌, Some, slice_get, sym, ap, ◌∙◌, subst}
-use Rattle.std.specs.Arc.{arc_value}
+use Rattle.std.proofs.Common.{◌≡◌, sym, ap, ◌∙◌, subst}
 use Rattle.au_term.specs.Term.{argument}
 use Rattle.clause_compile.specs.Places.{CodeView, IsPlaceOf, meaning_in}
 use Rattle.proc_index.specs.Keys.{key_of}
