@@ -1,0 +1,7 @@
+pub mod AskedGoalLemmas
+pub mod AskedEffectLemmas
+pub mod FoundEffectLemmas
+pub mod FoundLemmas
+pub mod ReplyLemmas
+pub mod RowLemmas
+pub mod RemovalLemmas

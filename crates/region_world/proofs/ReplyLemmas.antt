@@ -1,0 +1,93 @@
+-- What goes on after a goal of the world.
+use Rattle.std.proofs.Common.{◌≡◌, ℕ, ◌+◌, Bool, true, false, cond, List, [], ◌∷◌, ◌++◌, length, map, filter, Option, Some, None, refl, sym, ap, ap₂, ◌∙◌, subst, arith}
+use Rattle.au_model.specs.Terms.Named.{NamedTerm}
+use Rattle.au_model.specs.Terms.Unifier.{unifier}
+use Rattle.au_model.proofs.EquationsInTurnLemmas.{resolve-nothing}
+use Rattle.run_model.specs.Goals.Outcomes.{Reply, Replies, Solutions, Solution}
+use Rattle.run_model.specs.Goals.WorldConstructs.{holds_once}
+use Rattle.run_model.specs.Machine.Entries.{Entry, PlainEntry, unified, solution_entry, solution_entries}
+use Rattle.run_model.specs.Machine.Heights.{after_reply}
+use Rattle.run_model.specs.Machine.Items.{Item, GoalItem, CatchMark, CollectMark, RemovalItem, Continuation, before, removing, with_next, goals_at, resolve_item, resolve_named, resolve_continuation}
+use Rattle.run_model.specs.Programs.Databases.{NumberedClause}
+use Rattle.effect_gate.specs.Effects.{AreFound}
+use Rattle.region_split.specs.ClauseTrials.{entries_at, IsOptionalPosition}
+use Rattle.region_split.specs.Regions.{RegionView, entries_of, continuation_here}
+use Rattle.region_split.specs.Solutions.{SolutionView}
+use Rattle.region_split.specs.SolutionTrials.{Solves}
+use Rattle.region_split.specs.StackOperations.{solution_here}
+use Rattle.region_split.specs.declared.frame.Position.{Position}
+use Rattle.region_split.proofs.TrialLemmas.{same_parts}
+use Rattle.region_control.specs.Controls.{IsGoalPlace}
+use Rattle.region_control.specs.Replies.{Leaves, LeavesOutcome}
+use Rattle.region_control.specs.declared.control.GoalPlace.{GoalPlace}
+use Rattle.region_control.specs.declared.replies.AfterGoal.{AfterGoal}
+use Rattle.region_control.specs.declared.replies.AfterGoal.TheVariants.{At, Failed, Uncaught, AsksWorld}
+use Rattle.region_control.proofs.ControlLemmas.{place_in}
+
+-- nothing is bound
+item_same : (i : Item ℕ) → resolve_item [] i ≡ i
+item_same (GoalItem t h) = ap (λ u. GoalItem u h) (resolve-nothing t)
+item_same (CatchMark h) = refl
+item_same (CollectMark t h) = ap (λ u. CollectMark u h) (resolve-nothing t)
+item_same (RemovalItem number) = refl
+
+items_same : (is : List (Item ℕ)) → map (resolve_item []) is ≡ is
+items_same [] = refl
+items_same (i ∷ is) = ap₂ (λ j js. j ∷ js) (item_same i) (items_same is)
+
+named_same : (vs : List NamedTerm) → map (resolve_named []) vs ≡ vs
+named_same [] = refl
+named_same (v ∷ vs) = ap₂ (λ t ws. (let w : NamedTerm = record v { term = t } in w) ∷ ws) (resolve-nothing v.term) (named_same vs)
+
+-- to hold once is to go on
+once_goes_on : (f : Continuation ℕ) (es : List Entry) → after_reply holds_once f es ≡ PlainEntry f ∷ es
+unfolding unifier
+once_goes_on f es = ap (λ g. PlainEntry g ∷ es) (same_parts (items_same f.items) (named_same f.named) (let e : f.next + 0 ≡ f.next = omega arith in e))
+
+module _ (r : RegionView) (place : GoalPlace) where
+  -- the same reply
+  pub replied_as : (new : RegionView) (reply other : Reply) (after : AfterGoal) → reply ≡ other → LeavesOutcome r new (Replies other) place after → LeavesOutcome r new (Replies reply) place after
+  replied_as new reply other after e l = subst (λ x. LeavesOutcome r new (Replies x) place after) (sym e) l
+
+  pub once : (at : IsGoalPlace r place) (reply : Reply) → reply ≡ holds_once → LeavesOutcome r r (Replies reply) place (At place.after)
+  once at reply e = replied_as r reply holds_once (At place.after) e ((λ named. once_goes_on (continuation_here named r place.after) (entries_of named r)), place_in r place at)
+
+  pub none : (reply : Reply) → reply ≡ Solutions [] → LeavesOutcome r r (Replies reply) place Failed
+  none reply e = replied_as r reply (Solutions []) Failed e (λ named. refl)
+
+  module _ (new : RegionView) where
+    -- solutions that were tried
+    module _ (solutions : List SolutionView) (p : Option Position) (solves : Solves r new solutions place.after p) where
+      pub solved_at : (q : Position) → p ≡ Some q → LeavesOutcome r new (Replies (Solutions (map (solution_here r) solutions))) place (At q)
+      solved_at q e = ((λ named. solves.entries named ∙ ap (λ o. entries_at named new o ++ entries_of named new) e), subst (IsOptionalPosition new (length new.choices)) e solves.position)
+
+      pub solved_none : p ≡ None → LeavesOutcome r new (Replies (Solutions (map (solution_here r) solutions))) place Failed
+      solved_none e = λ named. solves.entries named ∙ ap (λ o. entries_at named new o ++ entries_of named new) e
+
+    leaves_equal : (p q : List NamedTerm → List Entry) (after : AfterGoal) → ((named : List NamedTerm) → p named ≡ q named) → Leaves q new after → Leaves p new after
+    leaves_equal p q (At x) e l = ((λ named. e named ∙ l.0 named), l.1)
+    leaves_equal p q Failed e l = λ named. e named ∙ l named
+    leaves_equal p q (Uncaught ball) e l = λ named. e named ∙ l named
+    leaves_equal p q AsksWorld e l = absurd l
+
+    -- clauses that were left out leave nothing
+    left_out : (k : ℕ) (f : Continuation ℕ) (solution : NumberedClause → Solution) (p : NumberedClause → Bool) → ((c : NumberedClause) → p c ≡ false → unifier (solution c).equations ≡ None)
+        → (all : List NumberedClause) → solution_entries k f (map solution (filter p all)) ≡ solution_entries k f (map solution all)
+    left_out k f solution p others [] = refl
+    left_out k f solution p others (c ∷ cs) = by (p c) refl (left_out k f solution p others cs)
+      where
+        by : (b : Bool) → p c ≡ b → solution_entries k f (map solution (filter p cs)) ≡ solution_entries k f (map solution cs) → solution_entries k f (map solution (cond b (c ∷ filter p cs) (filter p cs))) ≡ solution_entries k f (map solution (c ∷ cs))
+        by true e h = ap (λ es. solution_entry k f (solution c) ++ es) h
+        by false e h =
+            h
+            ∙ ap (λ o. unified o (with_next (f.next + (solution c).variables) (before (goals_at k (solution c).goals) (removing (solution c).removes f))) ++ solution_entries k f (map solution cs)) (sym (others c e))
+
+    pub found_leaves : (solution : NumberedClause → Solution) (reply : Reply) (found : List NumberedClause) (after : AfterGoal) → AreFound solution reply found → LeavesOutcome r new (Replies (Solutions (map solution found))) place after → LeavesOutcome r new (Replies reply) place after
+    found_leaves solution reply found after h l =
+        replied_as new reply (Solutions (map solution h.all)) after h.replies
+        (leaves_equal (λ named. after_reply (Solutions (map solution h.all)) (continuation_here named r place.after) (entries_of named r)) (λ named. after_reply (Solutions (map solution found)) (continuation_here named r place.after) (entries_of named r)) after
+        (λ named.
+        let f = continuation_here named r place.after in
+        let es = entries_of named r in
+        ap (λ xs. xs ++ es) (sym (ap (λ cs. solution_entries (length es) f (map solution cs)) h.kept ∙ left_out (length es) f solution h.may_unify h.others h.all)))
+        l)

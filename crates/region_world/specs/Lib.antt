@@ -1,0 +1,4 @@
+pub mod AskedEffects
+pub mod FoundSolutions
+pub mod RowSolutions
+pub mod WorldGoals
