@@ -1,10 +1,10 @@
 -- The effects for which goals ask, and what these come to.
-use Rattle.std.proofs.Common.{◌≡◌, ◌∙◌, ℕ, false, List, Option, Some, None, refl, sym, ap, ap₂, subst, arith}
+use Rattle.std.proofs.Common.{◌≡◌, ◌∙◌, ℕ, List, Option, Some, None, refl, sym, ap, ap₂, arith}
 use Rattle.std.specs.Prelude.{codes}
 use Rattle.au_term.specs.Term.{Term, Terms, end, more, count, term_at, arguments, argument_count}
 use Rattle.au_model.specs.Terms.Forms.{name_of}
 use Rattle.run_model.specs.Goals.Outcomes.{Reply}
-use Rattle.run_model.specs.Goals.Worlds.{World, WorldConstruct, Statics, by_world_construct, dynamic_call, effect_on, world_construct_of, is_world_goal, static_among, world_step}
+use Rattle.run_model.specs.Goals.Worlds.{World, WorldConstruct, Statics, by_world_construct, dynamic_call, effect_on, world_construct_of, static_among, world_step}
 use Rattle.run_model.specs.Programs.Clauses.{Clause as ClauseTerms}
 use Rattle.run_model.specs.Programs.Databases.{clauses_of}
 use Rattle.run_model.proofs.ConstructLemmas.{none_of}

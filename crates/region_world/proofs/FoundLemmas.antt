@@ -1,5 +1,5 @@
 -- The solutions of clauses that were found.
-use Rattle.std.proofs.Common.{◌≡◌, ℕ, ◌+◌, ◌≤◌, Bool, true, false, List, [], ◌∷◌, ◌++◌, length, map, Option, Some, None, refl, sym, ap, ap₂, ◌∙◌, arith}
+use Rattle.std.proofs.Common.{◌≡◌, ℕ, ◌+◌, ◌≤◌, Bool, true, false, List, [], ◌∷◌, ◌++◌, length, map, Option, None, refl, sym, ap, ap₂, ◌∙◌, arith}
 use Rattle.std.specs.Prelude.{codes}
 use Rattle.std.specs.Cmp.Lexicographic.{same_text}
 use Rattle.au_term.specs.Term.{Term, VarTerm, IntTerm, AtomTerm, Compound, end, more, var_bound}
@@ -25,7 +25,7 @@ use Rattle.clause_compile.specs.declared.item.Item.{Item}
 use Rattle.clause_compile.specs.declared.item.Item.TheVariants.{Goal as ItemGoal, CatchEnd, Collect, Remove, End}
 use Rattle.clause_compile.specs.declared.item.Scope.{Scope}
 use Rattle.binding_array.specs.declared.cell.BindingCell.{BindingCell}
-use Rattle.cell_store.specs.StoreView.{StoreView, IsValidStore, meaning, text_in}
+use Rattle.cell_store.specs.StoreView.{IsValidStore, meaning, text_in}
 use Rattle.region_split.specs.Regions.{RegionView}
 use Rattle.region_split.specs.Solutions.{SolutionView, IsSideAt}
 use Rattle.region_split.specs.SolutionTrials.{AreSolutionsHere}

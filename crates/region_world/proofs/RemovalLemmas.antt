@@ -1,5 +1,5 @@
 -- Removals of clauses by their numbers.
-use Rattle.std.proofs.Common.{◌≡◌, ℕ, true, false, [], Option, Some, None, refl, subst}
+use Rattle.std.proofs.Common.{◌≡◌, true, false, [], Option, Some, None, refl, subst}
 use Rattle.run_model.specs.Goals.Outcomes.{Solutions}
 use Rattle.run_model.specs.Goals.WorldConstructs.{World as WorldTerms, holds_once}
 use Rattle.run_model.specs.Programs.Databases.{Database, without_clause}

@@ -7,7 +7,7 @@ use Rattle.run_model.specs.Goals.Outcomes.{Reply, Replies, Solutions, Solution}
 use Rattle.run_model.specs.Goals.WorldConstructs.{holds_once}
 use Rattle.run_model.specs.Machine.Entries.{Entry, PlainEntry, unified, solution_entry, solution_entries}
 use Rattle.run_model.specs.Machine.Heights.{after_reply}
-use Rattle.run_model.specs.Machine.Items.{Item, GoalItem, CatchMark, CollectMark, RemovalItem, Continuation, before, removing, with_next, goals_at, resolve_item, resolve_named, resolve_continuation}
+use Rattle.run_model.specs.Machine.Items.{Item, GoalItem, CatchMark, CollectMark, RemovalItem, Continuation, before, removing, with_next, goals_at, resolve_item, resolve_named}
 use Rattle.run_model.specs.Programs.Databases.{NumberedClause}
 use Rattle.effect_gate.specs.Effects.{AreFound}
 use Rattle.region_split.specs.ClauseTrials.{entries_at, IsOptionalPosition}

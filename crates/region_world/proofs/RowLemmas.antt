@@ -1,6 +1,5 @@
 -- The solutions of operators.
-use Rattle.std.proofs.Common.{◌≡◌, List, [], ◌∷◌, ◌++◌, map, pos, None, refl, ap, arith}
-use Rattle.au_term.specs.Term.{Term, IntTerm, AtomTerm}
+use Rattle.std.proofs.Common.{◌≡◌, List, [], ◌∷◌, map, refl, ap, arith}
 use Rattle.au_model.specs.Syntax.Operators.{OperatorRow}
 use Rattle.region_split.specs.Regions.{RegionView}
 use Rattle.region_split.specs.SolutionTrials.{AreSolutionsHere}

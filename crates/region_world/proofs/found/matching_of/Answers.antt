@@ -1,5 +1,4 @@
-use Rattle.std.proofs.Common.{subst, arith}
-use Rattle.region_world.proofs.FoundEffectLemmas.{called_found, removal_count, look_count, removal_found, look_found, never_found}
+use Rattle.region_world.proofs.FoundEffectLemmas.{never_found}
 use Rattle.region_world.proofs.found.matching_of.Goals as goal
 
 pub unreachable-requires : goal.unreachable-requires

@@ -1,4 +1,4 @@
-use Rattle.std.proofs.Common.{◌≡◌, ◌∙◌, ◌++◌, ◌∷◌, [], map, sym, ap, ap₂}
+use Rattle.std.proofs.Common.{◌∙◌, ◌++◌, map, ap, ap₂}
 use Rattle.au_term.specs.Shifted.{shifted}
 use Rattle.clause_compile.specs.CompiledClauses.{goal_items}
 use Rattle.run_model.specs.Programs.Bodies.{clause_goals_of}

@@ -1,4 +1,4 @@
-use Rattle.std.proofs.Common.{◌≡◌, ◌∙◌, List, map, sym, ap, subst}
+use Rattle.std.proofs.Common.{◌∙◌, List, map, sym, ap, subst}
 use Rattle.std.proofs.lemmas.Result.{IfOk-weaker}
 use Rattle.run_model.specs.Goals.Outcomes.{Solution}
 use Rattle.clause_compile.specs.CompiledClauses.{shown}

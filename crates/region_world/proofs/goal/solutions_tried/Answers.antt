@@ -1,5 +1,4 @@
 use Rattle.region_control.proofs.ControlLemmas.{place_in}
-use Rattle.region_world.proofs.ReplyLemmas.{solved_at, solved_none}
 use Rattle.region_world.proofs.goal.solutions_tried.Goals as goal
 
 pub solve-requires-clause-after : goal.solve-requires-clause-after

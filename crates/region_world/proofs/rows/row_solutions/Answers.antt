@@ -1,6 +1,7 @@
-use Rattle.std.proofs.Common.{◌∙◌, ◌∷◌, [], ◌++◌, map, take, ap, ap₂, sym}
+use Rattle.std.proofs.Common.{◌∙◌, ◌∷◌, List, [], ◌++◌, map, take, ap, ap₂, sym}
 use Rattle.std.proofs.lemmas.List.{take_more, take_all, map-append}
 use Rattle.op_table.specs.OperatorView.{row_meant}
+use Rattle.region_split.specs.Solutions.{SolutionView}
 use Rattle.region_world.specs.RowSolutions.{row_solution}
 use Rattle.region_world.proofs.rows.row_solutions.Goals as goal
 
@@ -12,7 +13,7 @@ loop-row-preserved c =
     let f = row_solution c.args.asked in
     let more = take_more xs i x c.loop-row-test.true ∙ ap (λ y. take i xs ++ y ∷ []) (sym c.row-item.is) in
     let all = ap (λ l. map f (map row_meant l)) more ∙ (ap (map f) (map-append row_meant (take i xs) (x ∷ [])) ∙ map-append f (map row_meant (take i xs)) (row_meant x ∷ [])) in
-    c.in_ok-push.ensures.items ∙ (ap₂ (λ a b. a ++ b ∷ []) c.loop-row.invariant c.in_ok-solution_of.ensures ∙ sym all)
+    ◌∙◌ {A = List SolutionView} c.in_ok-push.ensures.items (ap₂ (λ a b. a ++ b ∷ []) c.loop-row.invariant c.in_ok-solution_of.ensures ∙ sym all)
 
 pub returns : goal.returns
 returns c = c.new.ensures ∙ (c.loop-row.invariant ∙ ap (λ l. map (row_solution c.args.asked) (map row_meant l)) (take_all c.loop-row.row-index c.args.rows.now c.loop-row-test.false))
