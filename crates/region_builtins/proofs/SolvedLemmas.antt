@@ -116,7 +116,7 @@ module _ (r : RegionView) (form : GoalForm) (b : Builtin) (name : List ℕ) (row
 
   all_here : (found : List Found) → Each (IsSolutionBelow r.store.now.next) (map solution_meant found) → AreSolutionsHere r (map copied_solution (map solution_meant found))
   all_here [] h = tt
-  all_here (s ∷ found) h = (sides_here (text_in r.store) r.store.now.next (r.store.now.next + s.vars) s.equations.items h.0.0, all_here found h.1)
+  all_here (s ∷ found) h = ((sides_here (text_in r.store) r.store.now.next (r.store.now.next + s.vars) s.equations.items h.0.0, tt), all_here found h.1)
 
   all_same : (found : List Found) → Each (IsFixed (value_of (substitution r.store))) (map solution_meant found) → map (solution_here r) (map copied_solution (map solution_meant found)) ≡ map solution_meant found
   all_same [] h = refl

@@ -10,4 +10,4 @@ abbrev pub copied_equation : Term × Term → Equation
 copied_equation e = record { left = Copied e.0; right = Copied e.1 }
 
 abbrev pub copied_solution : Solution → SolutionView
-copied_solution s = record { equations = map copied_equation s.equations; removes = s.removes; variables = s.variables }
+copied_solution s = record { equations = map copied_equation s.equations; goals = s.goals; removes = s.removes; variables = s.variables }

@@ -48,7 +48,7 @@ fn solution_of(alloc: Global, found: &Found) -> Result<Solution, NoMemory>
         return Err(NoMemory);
     };
     let equations = equations_of(alloc, &found.equations)?;
-    Ok(Solution::new(equations, None, variables))
+    Ok(Solution::new(equations, Vec::new(alloc), None, variables))
 }
 
 /// Equations whose sides are copied in.

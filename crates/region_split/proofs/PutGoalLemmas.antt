@@ -23,40 +23,40 @@ no_goals_put r goals cut after none i =
     (record { position = i; goes_on = λ named. refl; stands = λ named. refl; older = omega arith; keeps = record { position = λ more p le j. j; same = λ named p le j. refl }; adds = nothing_added r.store; others = refl })
 
 -- one more goal is put before those that are
-module _ (old r r1 new : RegionView) (done : List Term) (goal : Term) (value : BindingCell) (cut : ℕ) (after q p : Position) (put : PutsGoals old r done cut after q) (adds : AddsText r.store r1.store) (stays : StaysStanding r r1) where
-  module _ (is : value_term r1.store value ≡ goal) (item : PutsBefore r1 new (item_here r1 (Goal value) cut) cut q p) where
-    store : new.store ≡ r1.store
-    store = ap (λ (x : RegionView). x.store) item.others
+module _ (old r r1 new : RegionView) (done : List Term) (goal : Term) (value : BindingCell) (cut : ℕ) (after q p : Position) (put : PutsGoals old r done cut after q) (adds : AddsText r.store r1.store) (stays : StaysStanding r r1)
+    (is : value_term r1.store value ≡ goal) (item : PutsBefore r1 new (item_here r1 (Goal value) cut) cut q p) where
+  store : new.store ≡ r1.store
+  store = ap (λ (x : RegionView). x.store) item.others
 
-    own_item : (named : List NamedTerm) → (let i : Item ℕ = GoalItem (resolve r1.store.now.bound (value_term r1.store value)) (height_of_cut (heights_of named r1) cut) in i) ≡ GoalItem (resolve old.store.now.bound goal) (height_of_cut (heights_of named old) cut)
-    own_item named =
-        ap₂ (λ (t : Term) (st : Standing). (let i : Item ℕ = GoalItem t (height_of_cut st.heights cut) in i)) (ap₂ resolve (adds.bound ∙ put.adds.bound) is) (stays.stands named ∙ put.stands named)
+  own_item : (named : List NamedTerm) → (let i : Item ℕ = GoalItem (resolve r1.store.now.bound (value_term r1.store value)) (height_of_cut (heights_of named r1) cut) in i) ≡ GoalItem (resolve old.store.now.bound goal) (height_of_cut (heights_of named old) cut)
+  own_item named =
+      ap₂ (λ (t : Term) (st : Standing). (let i : Item ℕ = GoalItem t (height_of_cut st.heights cut) in i)) (ap₂ resolve (adds.bound ∙ put.adds.bound) is) (stays.stands named ∙ put.stands named)
 
-    there : (x : Position) → x.frame ≤ after.frame → IsPositionIn old x → IsPositionIn r x
-    there x le i = subst (λ n. IsPositionOver r n x) (sym (ap (λ (z : RegionView). length z.choices) put.others)) (put.keeps.position (length old.choices) x le i)
+  there : (x : Position) → x.frame ≤ after.frame → IsPositionIn old x → IsPositionIn r x
+  there x le i = subst (λ n. IsPositionOver r n x) (sym (ap (λ (z : RegionView). length z.choices) put.others)) (put.keeps.position (length old.choices) x le i)
 
-    there_still : (x : Position) → IsPositionIn r x → IsPositionIn r1 x
-    there_still x i = subst (λ n. IsPositionOver r1 n x) (sym (ap (λ (z : RegionView). length z.choices) stays.others)) (stays.position (length r.choices) x i)
+  there_still : (x : Position) → IsPositionIn r x → IsPositionIn r1 x
+  there_still x i = subst (λ n. IsPositionOver r1 n x) (sym (ap (λ (z : RegionView). length z.choices) stays.others)) (stays.position (length r.choices) x i)
 
-    pub goal_put : PutsGoals old new (goal ∷ done) cut after p
-    goal_put = record {
-      position = item.position;
-      goes_on = λ named. item.goes_on named ∙ ap₂ (λ i f. before (i ∷ []) f) (own_item named) (goes_on_there r r1 adds stays cut q put.position named ∙ put.goes_on named);
-      stands = λ named. item.stands named ∙ (stays.stands named ∙ put.stands named);
-      older = let m = put.older in let n = item.older in omega (arith, m, n);
-      keeps = record {
-        position = λ more x le i. item.keeps.position more x (let m = put.older in omega (arith, m, le)) (stays.position more x (put.keeps.position more x le i));
-        same = λ named x le i.
-            item.keeps.same named x (let m = put.older in omega (arith, m, le)) (there_still x (there x le i))
-            ∙ (ap PlainEntry (goes_on_there r r1 adds stays (length r.choices) x (there x le i) named) ∙ put.keeps.same named x le i);
-      };
-      adds = subst (AddsText old.store) (sym store) (adds_twice old.store r.store r1.store put.adds adds);
-      others =
-          item.others
-          ∙ (ap (λ (x : RegionView). record x { frames = new.frames }) stays.others
-          ∙ (ap (λ (x : RegionView). record x { store = r1.store; frames = new.frames }) put.others
-          ∙ ap (λ (x : StoreView). record old { store = x; frames = new.frames }) (sym store)));
-    }
+  pub goal_put : PutsGoals old new (goal ∷ done) cut after p
+  goal_put = record {
+    position = item.position;
+    goes_on = λ named. item.goes_on named ∙ ap₂ (λ i f. before (i ∷ []) f) (own_item named) (goes_on_there r r1 adds stays cut q put.position named ∙ put.goes_on named);
+    stands = λ named. item.stands named ∙ (stays.stands named ∙ put.stands named);
+    older = let m = put.older in let n = item.older in omega (arith, m, n);
+    keeps = record {
+      position = λ more x le i. item.keeps.position more x (let m = put.older in omega (arith, m, le)) (stays.position more x (put.keeps.position more x le i));
+      same = λ named x le i.
+          item.keeps.same named x (let m = put.older in omega (arith, m, le)) (there_still x (there x le i))
+          ∙ (ap PlainEntry (goes_on_there r r1 adds stays (length r.choices) x (there x le i) named) ∙ put.keeps.same named x le i);
+    };
+    adds = subst (AddsText old.store) (sym store) (adds_twice old.store r.store r1.store put.adds adds);
+    others =
+        item.others
+        ∙ (ap (λ (x : RegionView). record x { frames = new.frames }) stays.others
+        ∙ (ap (λ (x : RegionView). record x { store = r1.store; frames = new.frames }) put.others
+        ∙ ap (λ (x : StoreView). record old { store = x; frames = new.frames }) (sym store)));
+  }
 
 -- goals that are read from the last to the first
 pub goal_first : (goals : List Term) (i : ℕ) (goal : Term) → i < length goals → goal ≡ get_or goals i goal → drop i goals ≡ goal ∷ drop (i + 1) goals

@@ -81,7 +81,7 @@ module _ (r r1 r2 : RegionView) (solution : SolutionView) (after : Position) (cu
         same_parts : {is js : List (Item ℕ)} {vs ws : List NamedTerm} {n : ℕ} → is ≡ js → vs ≡ ws → (let f : Continuation ℕ = record { items = is; named = vs; next = n } in f) ≡ record { items = js; named = ws; next = n }
         same_parts p q = cc
 
-    -- its goals and the removal by the heights
+    -- its goals by the heights
     abbrev own : List NamedTerm → List (Item ℕ)
     own named = goals_at (height_of_cut (heights_of named r) cut) solution.goals
 
