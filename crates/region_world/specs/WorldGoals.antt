@@ -2,11 +2,11 @@
 use Rattle.std.specs.Prelude.{◌≡◌, ℕ, Bool, true, false, List, Some, None}
 use Rattle.au_term.specs.Term.{Term}
 use Rattle.clause_compile.specs.declared.event.Effect.{Effect}
-use Rattle.effect_gate.specs.Effects.{IsReplied}
+use Rattle.effect_gate.specs.Effects.{AreFound, IsReplied}
 use Rattle.effect_gate.specs.declared.world.Applied.{Applied}
 use Rattle.run_model.specs.Goals.Outcomes.{Reply, Replies, HaltNumber, Solution, Solutions}
 use Rattle.run_model.specs.Goals.Worlds.{World, world_step}
-use Rattle.run_model.specs.Programs.Databases.{Database, without_clause}
+use Rattle.run_model.specs.Programs.Databases.{Database, NumberedClause, without_clause}
 use Rattle.region_split.specs.Regions.{RegionView}
 use Rattle.region_control.specs.Replies.{LeavesOutcome}
 use Rattle.region_control.specs.declared.control.GoalPlace.{GoalPlace}
@@ -17,6 +17,10 @@ use Rattle.region_world.specs.declared.goal.WorldReply.TheVariants.{Goes, Halted
 -- solutions take the place of their goal
 abbrev pub LeavesSolutions : RegionView → RegionView → List Solution → GoalPlace → AfterGoal → Type 0
 LeavesSolutions old new solutions g after = LeavesOutcome old new (Replies (Solutions solutions)) g after
+
+-- whatever the reply is for which these clauses were found, it takes the place of its goal
+abbrev pub LeavesFound : RegionView → RegionView → (NumberedClause → Solution) → List NumberedClause → GoalPlace → AfterGoal → Type 0
+LeavesFound old new solution found g after = (reply : Reply) → AreFound solution reply found → LeavesOutcome old new (Replies reply) g after
 
 -- a reply takes the place of its goal, or it ends the run
 abbrev pub LeavesReply : RegionView → RegionView → Reply → GoalPlace → WorldReply → Type 0

@@ -7,7 +7,7 @@ ghost use Rattle.run_model.specs.Goals.Worlds.{static_among};
 ghost use Rattle.clause_compile.specs.CompiledClauses.{shown};
 ghost use Rattle.op_table.specs.OperatorView.{row_meant};
 ghost use Rattle.cell_store.specs.StoreView.{IsValueIn, meaning};
-ghost use Rattle.effect_gate.specs.Effects.{AreFound, IsReplied, effect_arity, effect_name, statics_of, world_meant};
+ghost use Rattle.effect_gate.specs.Effects.{IsReplied, effect_arity, effect_name, statics_of, world_meant};
 ghost use Rattle.region_split.specs.StackOperations.{solution_here};
 ghost use Rattle.region_split.specs.SolutionTrials.{AreSolutionsHere};
 ghost use Rattle.region_control.specs.Controls.{IsGoalPlace};
@@ -16,7 +16,7 @@ ghost use Rattle.region_control.specs.Replies.{LeavesOutcome};
 ghost use Rattle.region_world.specs.AskedEffects.{AsksWorld, AsksWorldIn};
 ghost use Rattle.region_world.specs.FoundSolutions.{IsMatchingIn, clause_unified};
 ghost use Rattle.region_world.specs.RowSolutions.{AreAskedIn, operator_unified};
-ghost use Rattle.region_world.specs.WorldGoals.{HasReply, LeavesReply, LeavesSolutions, TakesWorldGoal};
+ghost use Rattle.region_world.specs.WorldGoals.{HasReply, LeavesFound, LeavesReply, LeavesSolutions, TakesWorldGoal};
 
 use crate::effect::effect_of;
 use crate::found::{Matching, found_solutions, matching_of};
@@ -130,7 +130,7 @@ fn clauses_tried(
 ) -> Result<AfterGoal, NoMemory>
     requires matching { IsMatchingIn region.old.store matching.now }
     requires place { IsGoalPlace region.old place }
-    ensures comes { IfOk result (λ after. (reply : Reply) → AreFound (clause_unified region.old.store matching.now) reply (map shown found.now) → LeavesOutcome region.old region.new (Replies reply) place after) }
+    ensures comes { IfOk result (LeavesFound region.old region.new (clause_unified region.old.store matching.now) (map shown found.now) place) }
     ensures text { OnOk result (region.new.text ≡ region.old.text) }
 {
     let base = region.store().next();
