@@ -9,6 +9,4 @@ mod effect_rows;
 #[cfg(test)]
 mod effects;
 #[cfg(test)]
-mod reductions;
-#[cfg(test)]
 mod runs;

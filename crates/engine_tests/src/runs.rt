@@ -9,7 +9,7 @@ use text_load::load;
 /// A text, the budget, the room for bytes, the ending, the answers, the inferences, and the bytes.
 type Row = (&'static str, u64, usize, RunEnding, u64, u64, &'static str);
 
-static ROWS: [Row; 6] = [
+static ROWS: [Row; 8] = [
     ("", 9, 9, RunEnding::Finished, 0, 0, ""),
     (
         "p(1). p(2). ?- p(X).",
@@ -46,6 +46,24 @@ static ROWS: [Row; 6] = [
         1,
         5,
         "no\nX = f(_1,_1), Y = _1\nno\n",
+    ),
+    (
+        ":- dynamic(q/1). q(X) :- r(X), !. q(3). r(1). r(2). ?- q(X).",
+        9,
+        99,
+        RunEnding::Finished,
+        1,
+        5,
+        "X = 1\nno\n",
+    ),
+    (
+        ":- dynamic(p/1). p(1). p(2). ?- retract(p(X)), p(Y). ?- halt(7).",
+        9,
+        99,
+        RunEnding::Halted(7),
+        1,
+        8,
+        "X = 1, Y = 2\nno\n",
     ),
     ("?- X = 1.", 9, 3, RunEnding::WriteFault, 0, 0, "X ="),
 ];

@@ -1,10 +1,10 @@
 //! Texts loaded: what no clause gives, which jobs certain texts make.
 
 use au_model::FaultKind;
+use au_model::names::name_of;
 use au_term::{Atom, Cell};
 use clause_compile::Clause;
 use dyn_clauses::{Indicator, Snapshot};
-use proc_index::Key;
 use std::alloc::Global;
 use std::process::Abort;
 use std::sync::Arc;
@@ -26,13 +26,13 @@ fn indicator(alloc: Global, name: &str, arity: u32) -> Result<Indicator, Fail> {
 
 /// How many static clauses a procedure has.
 fn static_count(alloc: Global, job: &Job, name: &str, arity: u32) -> Result<usize, Fail> {
-    let (name, key) = (Atom::new(alloc, name)?, Key::Any);
-    let Some(clauses) = job.procs().candidates(&name, arity, &key) else {
-        return Ok(0);
-    };
+    let name = Atom::new(alloc, name)?;
     let mut count: usize = 0;
-    for _clause in clauses {
-        count = count.saturating_add(1);
+    for clause in job.clauses() {
+        let head = clause.head();
+        if head.arity() == arity && name_of(head) == &name {
+            count = count.saturating_add(1);
+        }
     }
     Ok(count)
 }
@@ -268,11 +268,8 @@ fn double_quotes(rt: HostRuntime) -> Result<(), Fail> {
     let text = "p(\"ab\"). :- set_prolog_flag(double_quotes, atom). p(\"ab\"). \
         :- set_prolog_flag(double_quotes, chars). p(\"\"). p(\"a\").";
     let job = load(alloc, "", text)?;
-    let name = Atom::new(alloc, "p")?;
-    let Some(clauses) = job.procs().candidates(&name, 1, &Key::Any) else {
-        panic!(rt; "no clauses");
-    };
-    for (clause, wanted) in clauses.zip([".", "ab", "[]", "."]) {
+    assert_eq!(rt; job.clauses().len(), 4);
+    for (clause, wanted) in job.clauses().iter().zip([".", "ab", "[]", "."]) {
         assert!(rt; begins_with(clause, wanted), "{wanted}");
     }
     Ok(())

@@ -23,7 +23,7 @@ called_never arity g goal true o e = cc
 called_never arity g goal false (Some gs) e = cc
 called_never arity g goal false None e = cc
 
-call_never : (arity : ℕ) (t : Term) (us : Terms) (goal : Term) → call_outcome arity t us ≡ AskWorld goal → ⊥
+pub call_never : (arity : ℕ) (t : Term) (us : Terms) (goal : Term) → call_outcome arity t us ≡ AskWorld goal → ⊥
 call_never arity (VarTerm n) us goal e = cc
 call_never arity (IntTerm z) us goal e = cc
 call_never arity (AtomTerm a) us goal e =

@@ -1,41 +1,44 @@
 -- A run so far, and how it ends.
-use Rattle.std.proofs.Common.{◌≡◌, ◌≢◌, inl, inr, ℕ, zero, suc, ◌||◌, Vec, Global, ◌+◌, ◌-◌, ◌<◌, ◌≤◌, List, [], ◌∷◌, ◌++◌, length, Option, Some, None, true, false, refl, sym, ap, ◌∙◌, subst, reverse, is_some, append-nil, length-append, arith}
+use Rattle.std.proofs.Common.{◌≡◌, ◌≢◌, inl, inr, ℕ, zero, suc, ◌||◌, Vec, Global, ◌+◌, ◌-◌, ◌<◌, ◌≤◌, List, [], ◌∷◌, ◌++◌, length, Option, Some, None, true, false, refl, sym, ap, ◌∙◌, subst, append-nil, arith}
+use Rattle.std.specs.Prelude.{Bool}
+use Rattle.std.specs.Arc.{arc_value}
+use Rattle.std.proofs.Math.Path.{fun_ext}
+use Rattle.au_io.specs.FaultCounts.{Appended, AppendedPrefix}
+use Rattle.au_model.specs.Terms.Named.{NamedTerm}
 use Rattle.run_model.specs.declared.ending.RunEnding.{RunEnding}
 use Rattle.run_model.specs.declared.ending.RunEnding.TheVariants.{Budget, WriteFault, NoMemory}
-use Rattle.run_model.specs.Machine.Entries.{Entry, PlainEntry, CatchEntry, FindallEntry, EndEntry}
+use Rattle.run_model.specs.declared.ending.RunEnd.{RunEnd}
+use Rattle.run_model.specs.Programs.Clauses.{Clause, is_defined}
+use Rattle.run_model.specs.Programs.Databases.{Database, without_clause}
 use Rattle.run_model.specs.Programs.Jobs.{Job}
-use Rattle.run_model.specs.Machine.States.{State, halt_number, goal_taken, removal_taken, item_taken, entry_taken, step, with_free_steps, opening}
+use Rattle.run_model.specs.Goals.Worlds.{is_reserved, static_among, world_step}
+use Rattle.run_model.specs.Goals.Outcomes.{Reply, Solutions, Ball, HaltNumber, Outcome, Replies, Controls, AskWorld}
+use Rattle.run_model.specs.Goals.GoalOutcomes.{outcome_of}
+use Rattle.run_model.specs.Machine.Entries.{Entry, PlainEntry, CatchEntry, FindallEntry, EndEntry}
+use Rattle.run_model.specs.Machine.FreeSteps.{take_free_steps}
+use Rattle.run_model.specs.Machine.Heights.{after_reply}
+use Rattle.run_model.specs.Machine.Items.{Item, GoalItem, CatchMark, CollectMark, RemovalItem, Continuation, with_items}
+use Rattle.run_model.specs.Machine.States.{State, opened, remaining_queries, halt_number, goal_taken, removal_taken, item_taken, entry_taken, step, with_free_steps, opening}
 use Rattle.run_model.specs.Machine.Runs.{seq, text_of, ending_by, answers_of}
 use Rattle.run_model.proofs.RunLemmas.{ended_run_stays, text_grows, is_stopped}
-use Rattle.au_io.specs.FaultCounts.{Appended, AppendedPrefix}
-use Rattle.std.specs.Arc.{arc_value}
 use Rattle.run_model.proofs.StepLemmas.{seq-zero, seq-suc, seq-next}
-use Rattle.std.proofs.Math.Path.{fun_ext}
 use Rattle.text_load.specs.JobView.{AreStatics, HasParts}
 use Rattle.text_load.specs.declared.job.JobParts.{JobParts}
 use Rattle.dyn_clauses.specs.DatabaseView.{is_static}
-use Rattle.effect_gate.specs.Effects.{statics_of}
+use Rattle.effect_gate.specs.Effects.{statics_of, world_meant}
 use Rattle.effect_gate.specs.declared.world.World.{World as KeptWorld}
-use Rattle.run_model.specs.Programs.Clauses.{Clause, is_defined}
-use Rattle.run_model.specs.Programs.Databases.{Database, without_clause}
-use Rattle.run_model.specs.Goals.Worlds.{is_reserved, world_step}
-use Rattle.run_model.specs.Goals.Outcomes.{Reply, Solutions, Ball, HaltNumber, Outcome, Replies, Controls, AskWorld}
-use Rattle.run_model.specs.Goals.GoalOutcomes.{outcome_of}
-use Rattle.run_model.specs.Machine.Heights.{after_reply}
-use Rattle.run_model.specs.Machine.Items.{Item, GoalItem, CatchMark, CollectMark, RemovalItem, Continuation, with_items}
-use Rattle.run_model.specs.Machine.FreeSteps.{take_free_steps}
-use Rattle.au_model.specs.Terms.Named.{NamedTerm}
-use Rattle.stack_run.specs.declared.frame.Program.{Program}
-use Rattle.stack_run.specs.declared.frame.Machine.{Machine}
-use Rattle.stack_run.specs.declared.frame.QueryEnd.{QueryEnd}
-use Rattle.stack_run.specs.declared.frame.Stack.{Stack}
-use Rattle.stack_run.specs.Inferences.{HasEnd}
-use Rattle.stack_run.specs.MachineView.{stack_state, state_view, own_asked, HasStatics, IsReady}
-use Rattle.stack_run.specs.StackView.{stack_view, current_view, entries_under, frames_view, end_view}
+use Rattle.region_split.specs.Regions.{RegionView}
+use Rattle.region_run.specs.Runs.{run_on, stop_entries}
+use Rattle.region_run.specs.declared.running.Ran.{Ran}
+use Rattle.region_run.specs.declared.running.Stop.{Stop}
+use Rattle.region_run.specs.declared.running.Stop.TheVariants as stop
+use Rattle.stack_run.specs.declared.machine.Program.{Program}
+use Rattle.stack_run.specs.declared.machine.Machine.{Machine}
+use Rattle.stack_run.specs.declared.machine.Next.{Next}
+use Rattle.stack_run.specs.MachineView.{clauses_in, own_asked, next_halt, next_state, stop_state, program_job, Begins, ComesTo, KeepsOthers, StopsAt, IsTakenNext, HasStatics, IsNextIn, Opens, StepsTo}
 use Rattle.stack_run.specs.RunEnds.{IsRun, IsRunBy, IsWholeRun}
 use Rattle.stack_run.specs.Pieces.{PutsOut, IsClosedWith, write_failed}
 use Rattle.stack_run.proofs.WaitingLemmas.{all_in_front, all_out, front_of_more, front_out, nothing_out, put_more, waits}
-use Rattle.run_model.specs.declared.ending.RunEnd.{RunEnd}
 
 -- a run that was halted has nothing left
 abbrev IsEmptyIfHalted : Option ℕ → List Entry → Type 0
@@ -88,107 +91,164 @@ halts_empty job (suc n) =
     let next = free_empties (step job.clauses (seq job n)).halted (step job.clauses (seq job n)).entries (step_empties job.clauses (seq job n) (halts_empty job n)) in
     subst (λ (st : State). IsEmptyIfHalted st.halted st.entries) (sym (seq-suc job n)) next
 
--- after so many inferences the machine stands for the state of the run, whose text was put out but for what waits
-pub record IsRunning (job : Job) (program : Program) (m : Machine) (taken : ℕ) (waiting : List ℕ) (before now : Option (List ℕ)) (faults_before faults_now : ℕ) : Type 0 where
-  pub clauses : arc_value program.procs ≡ job.clauses
-  pub state : state_view program m (text_of job taken) taken ≡ seq job taken
+-- a front of what the run writes is out
+front_of_run : (job : Job) (i budget : ℕ) (waiting : List ℕ) (before now after : Option (List ℕ)) → i ≤ budget → PutsOut before now (text_of job i) waiting → AppendedPrefix now after waiting → AppendedPrefix before after (text_of job budget)
+front_of_run job i budget waiting before now after le h k =
+    let more = text_grows job i (budget - i) in
+    let sum : i + (budget - i) ≡ budget = omega arith in
+    subst (AppendedPrefix before after) (sym (ap (text_of job) (sym sum) ∙ more.joined)) (front_of_more before after (text_of job i) more.rest (front_out before now after (text_of job i) waiting h k))
+
+-- what has been put out of a run, and what it stands on
+pub record IsOut (job : Job) (program : Program) (m : Machine) (taken : ℕ) (waiting : List ℕ) (before now : Option (List ℕ)) (faults_before faults_now : ℕ) : Type 0 where
+  pub clauses : clauses_in program ≡ job.clauses
   pub empty : m.world.out.items ≡ []
   pub bytes : PutsOut before now (text_of job taken) waiting
   pub faults : faults_now ≡ faults_before
-  pub ready : IsReady m.stack
-  pub statics : HasStatics program m.world
+  pub text : m.region.text ≡ arc_value program.text
+  pub statics : HasStatics m.region m.world
 
--- what a step of the machine does
-abbrev pub Steps : Program → Machine → Machine → Type 0
-Steps program m new = (written : List ℕ) (inferences : ℕ) → state_view program new written (inferences + 1) ≡ with_free_steps (step (arc_value program.procs) (state_view program m written inferences))
+-- after so many inferences the run goes on so, and its text was put out but for what waits
+pub record IsRunning (job : Job) (program : Program) (m : Machine) (next : Next) (taken : ℕ) (waiting : List ℕ) (before now : Option (List ℕ)) (faults_before faults_now : ℕ) : Type 0 where
+  pub state : with_free_steps (next_state program m next (text_of job taken) taken) ≡ seq job taken
+  pub out : IsOut job program m taken waiting before now faults_before faults_now
+  pub there : IsNextIn m.region next
+
+-- after so many inferences its region has stopped so
+pub record HasStopped (job : Job) (program : Program) (m : Machine) (halted : Option ℕ) (s : Stop) (taken : ℕ) (waiting : List ℕ) (before now : Option (List ℕ)) (faults_before faults_now : ℕ) : Type 0 where
+  pub state : stop_state program m halted s (text_of job taken) taken ≡ seq job taken
+  pub out : IsOut job program m taken waiting before now faults_before faults_now
+
+-- the statics of a world by those of its database
+statics_same : (old new : KeptWorld) → new.database.statics ≡ old.database.statics → statics_of new ≡ statics_of old
+statics_same old new h = ap (λ l (name : List ℕ) (arity : ℕ). is_reserved name arity || is_static l (record { name = name; arity = arity })) h
+
+pub statics_by : (r : RegionView) (job : Job) (w : KeptWorld) → r.text.clauses ≡ job.clauses → AreStatics w.database.statics job.clauses → HasStatics r w
+statics_by r job w c h = fun_ext (λ name. fun_ext (λ arity. ap (λ b. is_reserved name arity || b) (h (record { name = name; arity = arity }) ∙ ap (λ cs. is_defined cs name arity) (sym c))))
+
+pub begins_so : (program : Program) (r0 : RegionView) (w : KeptWorld) (new : Machine) (next : Next) → w.out.items ≡ [] → Opens program (record { region = r0; asked = 0; answers = 0; world = w }) new next → new.world ≡ w → IsNextIn new.region next → new.region.text ≡ arc_value program.text → Begins program new next
+begins_so program r0 w new next e o same there text =
+    let qs = program.queries.items in
+    let state : List ℕ → State = λ bs. record { entries = opened qs; world = record (world_meant w) { written = bs }; queries = remaining_queries qs; answers = 0; inferences = 0; halted = None } in
+    record {
+      state = o (λ named. []) [] 0 ∙ (ap state e ∙ ap (λ x. opening (program_job program (world_meant x))) (sym same));
+      there = there;
+      text = text;
+      empty = ap (λ (x : KeptWorld). x.out.items) same ∙ e;
+    }
+
+pub begun : (program : Program) (m : Machine) (next : Next) (waiting : List ℕ) (out : Option (List ℕ)) (faults : ℕ) → waiting ≡ [] → Begins program m next → HasStatics m.region m.world → IsRunning (program_job program (world_meant m.world)) program m next 0 waiting out out faults faults
+begun program m next waiting out faults e b k =
+    let job = program_job program (world_meant m.world) in
+    let first : seq job 0 ≡ with_free_steps (next_state program m next [] 0) = seq-zero job ∙ ap with_free_steps (sym b.state) in
+    let text : text_of job 0 ≡ [] = ap (λ (st : State). st.world.written) first ∙ b.empty in
+    record {
+      state = ap (λ bytes. with_free_steps (next_state program m next bytes 0)) text ∙ sym first;
+      out = record {
+        clauses = refl;
+        empty = b.empty;
+        bytes = nothing_out out (text_of job 0) waiting (text ∙ sym e);
+        faults = refl;
+        text = b.text;
+        statics = k;
+      };
+      there = b.there;
+    }
+
+-- so many inferences more
+run_further : (job : Job) (n k : ℕ) → run_on job.clauses k (seq job n) ≡ seq job (n + k)
+run_further job n zero = ap (seq job) (let z : n ≡ n + 0 = omega arith in z)
+run_further job n (suc k) =
+    ap (λ st. with_free_steps (step job.clauses st)) (run_further job n k) ∙ (sym (seq-next job (n + k)) ∙ ap (seq job) (let z : n + k + 1 ≡ n + suc k = omega arith in z))
+
+pub comes_to : (job : Job) (program : Program) (m new : Machine) (next : Next) (taken limit : ℕ) (ran : Ran) (waiting : List ℕ) (before now : Option (List ℕ)) (fb fn : ℕ) → IsRunning job program m next taken waiting before now fb fn → ComesTo m new next limit ran → KeepsOthers m new
+    → HasStopped job program new (next_halt next) ran.stop (taken + ran.taken) waiting before now fb fn
+comes_to job program m new next taken limit ran waiting before now fb fn r h k =
+    let o = r.out in
+    let clauses : m.region.text.clauses ≡ job.clauses = ap (λ t. t.clauses) o.text ∙ o.clauses in
+    let at : stop_state program new (next_halt next) ran.stop (text_of job taken) (taken + ran.taken) ≡ seq job (taken + ran.taken) =
+    sym (h.run program (text_of job taken) taken)
+    ∙ (ap (λ cs. run_on cs ran.taken (with_free_steps (next_state program m next (text_of job taken) taken))) clauses
+    ∙ (ap (run_on job.clauses ran.taken) r.state ∙ run_further job taken ran.taken)) in
+    let world : new.world ≡ m.world = ap (λ (x : Machine). x.world) k.0 in
+    let none : new.world.out.items ≡ [] = ap (λ (w : KeptWorld). w.out.items) world ∙ o.empty in
+    let same : text_of job taken ≡ text_of job (taken + ran.taken) =
+    sym (append-nil (text_of job taken)) ∙ (ap (λ bs. text_of job taken ++ bs) (sym none) ∙ ap (λ (st : State). st.world.written) at) in
+    record {
+      state = ap (λ bytes. stop_state program new (next_halt next) ran.stop bytes (taken + ran.taken)) (sym same) ∙ at;
+      out = record {
+        clauses = o.clauses;
+        empty = none;
+        bytes = subst (λ bytes. PutsOut before now bytes waiting) same o.bytes;
+        faults = o.faults;
+        text = k.1 ∙ o.text;
+        statics = statics_same m.world new.world (ap (λ (w : KeptWorld). w.database.statics) world) ∙ (o.statics ∙ ap (λ t. static_among t.clauses) (sym k.1));
+      };
+    }
 
 -- what is put out does not change the state
 abbrev pub put_out : Machine → Vec ℕ Global → Machine
 put_out m out = record m { world = record m.world { out = out } }
 
-seen_same : (program : Program) (m : Machine) (out : Vec ℕ Global) (written : List ℕ) (inferences : ℕ) → out.items ≡ [] → state_view program (put_out m out) (written ++ m.world.out.items) inferences ≡ state_view program m written inferences
-seen_same program m out written inferences e =
-    ap (λ bs. stack_state program m.asked m.answers m.stack (record { written = bs; database = m.world.database.kept; operators = m.world.ops }) m.halted inferences)
+seen_same : (program : Program) (m : Machine) (next : Next) (out : Vec ℕ Global) (written : List ℕ) (inferences : ℕ) → out.items ≡ [] → next_state program (put_out m out) next (written ++ m.world.out.items) inferences ≡ next_state program m next written inferences
+seen_same program m next out written inferences e =
+    ap (λ bs. (let st : State = record (next_state program m next written inferences) { world = record (world_meant m.world) { written = bs } } in st))
     (ap (λ bs. (written ++ m.world.out.items) ++ bs) e ∙ append-nil (written ++ m.world.out.items))
 
--- the statics of a world by those of its database
-pub statics_same : (old new : KeptWorld) → new.database.statics ≡ old.database.statics → statics_of new ≡ statics_of old
-statics_same old new h = ap (λ l (name : List ℕ) (arity : ℕ). is_reserved name arity || is_static l (record { name = name; arity = arity })) h
+module _ (job : Job) (program : Program) (m new : Machine) (s : Stop) (next : Next) (i : ℕ) (waiting : List ℕ) (before now : Option (List ℕ)) (fb fn : ℕ) (h : HasStopped job program m None s i waiting before now fb fn) (k : StepsTo program m s new next) where
+  -- the state after one more inference
+  next_is : with_free_steps (next_state program new next (text_of job i) (i + 1)) ≡ seq job (i + 1)
+  next_is =
+      ap with_free_steps (k (text_of job i) i)
+      ∙ (ap (λ cs. with_free_steps (step cs (stop_state program m None s (text_of job i) i))) (ap (λ t. t.clauses) h.out.text ∙ h.out.clauses)
+      ∙ (ap (λ st. with_free_steps (step job.clauses st)) h.state ∙ sym (seq-next job i)))
 
-pub statics_by : (program : Program) (job : Job) (w : KeptWorld) → arc_value program.procs ≡ job.clauses → AreStatics w.database.statics job.clauses → HasStatics program w
-statics_by program job w c h = fun_ext (λ name. fun_ext (λ arity. ap (λ b. is_reserved name arity || b) (h (record { name = name; arity = arity }) ∙ ap (λ cs. is_defined cs name arity) (sym c))))
+  next_text : text_of job i ++ new.world.out.items ≡ text_of job (i + 1)
+  next_text = ap (λ (st : State). st.world.written) next_is
 
--- the parts of a job make it again
-pub parts_job : (job : Job) (parts : JobParts) → HasParts job parts → record { clauses = arc_value parts.procs; database = parts.database.kept; operators = parts.ops; queries = parts.queries.items } ≡ job
-parts_job job parts h = rw (h.clauses, h.database, h.operators, h.queries) refl
+  waits_more : PutsOut before now (text_of job (i + 1)) (waiting ++ new.world.out.items)
+  waits_more = subst (λ bytes. PutsOut before now bytes (waiting ++ new.world.out.items)) next_text (waits before now (text_of job i) waiting new.world.out.items h.out.bytes)
 
-pub begins : (job : Job) (program : Program) (m : Machine) (waiting : List ℕ) (out : Option (List ℕ)) (faults : ℕ) → waiting ≡ [] → arc_value program.procs ≡ job.clauses → state_view program m [] 0 ≡ with_free_steps (opening job) → m.world.out.items ≡ [] → IsReady m.stack → HasStatics program m.world
-    → IsRunning job program m 0 waiting out out faults faults
-begins job program m waiting out faults e c h z y k =
-    let first : seq job 0 ≡ state_view program m [] 0 = seq-zero job ∙ sym h in
-    let text : text_of job 0 ≡ [] = ap (λ (st : State). st.world.written) first ∙ z in
-    record {
-      clauses = c;
-      state = ap (λ bytes. state_view program m bytes 0) text ∙ sym first;
-      empty = z;
-      bytes = nothing_out out (text_of job 0) waiting (text ∙ sym e);
-      faults = refl;
-      ready = y;
-      statics = k;
-    }
-
--- the state after one more inference
-next_state : (job : Job) (program : Program) (m new : Machine) (i : ℕ) → arc_value program.procs ≡ job.clauses → state_view program m (text_of job i) i ≡ seq job i → Steps program m new → state_view program new (text_of job i) (i + 1) ≡ seq job (i + 1)
-next_state job program m new i c h k = k (text_of job i) i ∙ (ap (λ cs. with_free_steps (step cs (state_view program m (text_of job i) i))) c ∙ (ap (λ st. with_free_steps (step job.clauses st)) h ∙ sym (seq-next job i)))
-
-next_text : (job : Job) (program : Program) (m new : Machine) (i : ℕ) → arc_value program.procs ≡ job.clauses → state_view program m (text_of job i) i ≡ seq job i → Steps program m new → text_of job i ++ new.world.out.items ≡ text_of job (i + 1)
-next_text job program m new i c h k = ap (λ (st : State). st.world.written) (next_state job program m new i c h k)
-
-pub goes_on : (job : Job) (program : Program) (m new : Machine) (out : Vec ℕ Global) (i : ℕ) (waiting left : List ℕ) (before now after : Option (List ℕ)) (fb fn fa : ℕ) → IsRunning job program m i waiting before now fb fn → Steps program m new
-    → IsReady new.stack → new.world.database.statics ≡ m.world.database.statics → PutsOut now after (waiting ++ new.world.out.items) left → fa ≡ fn → out.items ≡ [] → IsRunning job program (put_out new out) (i + 1) left before after fb fa
-goes_on job program m new out i waiting left before now after fb fn fa r k y z t f e =
-    let text = next_text job program m new i r.clauses r.state k in
-    let written = subst (λ bytes. PutsOut before now bytes (waiting ++ new.world.out.items)) text (waits before now (text_of job i) waiting new.world.out.items r.bytes) in
-    record {
-      clauses = r.clauses;
-      state = subst (λ bytes. state_view program (put_out new out) bytes (i + 1) ≡ seq job (i + 1)) text (seen_same program new out (text_of job i) (i + 1) e ∙ next_state job program m new i r.clauses r.state k);
+  pub goes_on : (out : Vec ℕ Global) (left : List ℕ) (after : Option (List ℕ)) (fa : ℕ) → IsNextIn new.region next → new.region.text ≡ arc_value program.text → new.world.database.statics ≡ m.world.database.statics
+      → PutsOut now after (waiting ++ new.world.out.items) left → fa ≡ fn → out.items ≡ [] → IsRunning job program (put_out new out) next (i + 1) left before after fb fa
+  goes_on out left after fa y x z t f e = record {
+    state = subst (λ bytes. with_free_steps (next_state program (put_out new out) next bytes (i + 1)) ≡ seq job (i + 1)) next_text (ap with_free_steps (seen_same program new next out (text_of job i) (i + 1) e) ∙ next_is);
+    out = record {
+      clauses = h.out.clauses;
       empty = e;
-      bytes = put_more before now after (text_of job (i + 1)) (waiting ++ new.world.out.items) left written t;
-      faults = f ∙ r.faults;
-      ready = y;
-      statics = statics_same m.world (put_out new out).world z ∙ r.statics;
-    }
+      bytes = put_more before now after (text_of job (i + 1)) (waiting ++ new.world.out.items) left waits_more t;
+      faults = f ∙ h.out.faults;
+      text = x;
+      statics = statics_same m.world (put_out new out).world z ∙ (h.out.statics ∙ ap (λ t. static_among t.clauses) (h.out.text ∙ sym x));
+    };
+    there = y;
+  }
+
+  -- a write failed of what waited and what this inference has written
+  pub unwritten_next : (budget : ℕ) (after : Option (List ℕ)) → i < budget → AppendedPrefix now after (waiting ++ new.world.out.items) → IsRun job budget before after write_failed
+  unwritten_next budget after lt out = record { bytes = front_of_run job (i + 1) budget (waiting ++ new.world.out.items) before now after (omega arith) waits_more out; answers = refl; inferences = refl }
 
 -- so few answers have been counted
-pub few_answers : (job : Job) (program : Program) (m : Machine) (i : ℕ) (waiting : List ℕ) (before now : Option (List ℕ)) (fb fn : ℕ) → IsRunning job program m i waiting before now fb fn → m.answers ≤ i
-few_answers job program m i waiting before now fb fn r =
-    let s = is_stopped job i in
+pub few_answers : (job : Job) (program : Program) (m : Machine) (halted : Option ℕ) (s : Stop) (i : ℕ) (waiting : List ℕ) (before now : Option (List ℕ)) (fb fn : ℕ) → HasStopped job program m halted s i waiting before now fb fn → m.answers ≤ i
+few_answers job program m halted s i waiting before now fb fn r =
+    let k = is_stopped job i in
     let same : m.answers ≡ answers_of job i = ap (λ (st : State). st.answers) r.state in
-    omega (arith, same, s.answered, s.within)
+    omega (arith, same, k.answered, k.within)
 
-no_entries : (s : Stack) → IsReady s → s.end ≡ None → (own : List _) → stack_view own s ≡ []
-no_entries s y e own =
-    let none = y.fit.ended e in
-    ap (λ o. current_view own s.store o ++ entries_under own s.store s.frames.items s.end) none.0
-    ∙ (ap (λ fs. frames_view own s.store (reverse fs) ++ end_view s.end) none.1 ∙ ap end_view e)
-
-entries_now : (job : Job) (program : Program) (m : Machine) (i : ℕ) (waiting : List ℕ) (before now : Option (List ℕ)) (fb fn : ℕ) → IsRunning job program m i waiting before now fb fn → (seq job i).entries ≡ stack_view (own_asked m.asked program.queries.items) m.stack
-entries_now job program m i waiting before now fb fn r = sym (ap (λ (st : State). st.entries) r.state)
-
-pub finished : (job : Job) (program : Program) (m : Machine) (i budget : ℕ) (waiting : List ℕ) (before now after : Option (List ℕ)) (fb fn : ℕ) (end : RunEnding) → IsRunning job program m i waiting before now fb fn → i ≤ budget → m.stack.end ≡ None
-    → end ≡ ending_by [] m.halted → Appended now after waiting → IsRun job budget before after (record { end = end; answers = m.answers; inferences = i })
-finished job program m i budget waiting before now after fb fn end r le e is out =
-    let none : (seq job i).entries ≡ [] = entries_now job program m i waiting before now fb fn r ∙ no_entries m.stack r.ready e (own_asked m.asked program.queries.items) in
+-- a run of which nothing is left
+pub finished : (job : Job) (program : Program) (m : Machine) (halted : Option ℕ) (s : Stop) (i budget : ℕ) (waiting : List ℕ) (before now after : Option (List ℕ)) (fb fn : ℕ) (end : RunEnding) → HasStopped job program m halted s i waiting before now fb fn → i ≤ budget → s ≡ stop.AllDone
+    → end ≡ ending_by [] halted → Appended now after waiting → IsRun job budget before after (record { end = end; answers = m.answers; inferences = i })
+finished job program m halted s i budget waiting before now after fb fn end r le e is out =
+    let none : (seq job i).entries ≡ [] = sym (ap (λ (st : State). st.entries) r.state) ∙ ap (stop_entries (own_asked m.asked program.queries.items) m.region) e in
     let sum : i + (budget - i) ≡ budget = omega arith in
     let same : seq job budget ≡ seq job i = ap (seq job) (sym sum) ∙ ended_run_stays job i (budget - i) none in
-    let halted : (seq job i).halted ≡ m.halted = sym (ap (λ (st : State). st.halted) r.state) in
+    let stays : (seq job i).halted ≡ halted = sym (ap (λ (st : State). st.halted) r.state) in
     let whole : IsWholeRun job budget before after (record { end = end; answers = m.answers; inferences = i }) = record {
-      ended = is ∙ sym (ap (λ (st : State). ending_by st.entries st.halted) same ∙ (ap (λ es. ending_by es (seq job i).halted) none ∙ ap (ending_by []) halted));
-      bytes = subst (λ (st : State). Appended before after st.world.written) (sym same) (all_out before now after (text_of job i) waiting r.bytes out);
+      ended = is ∙ sym (ap (λ (st : State). ending_by st.entries st.halted) same ∙ (ap (λ es. ending_by es (seq job i).halted) none ∙ ap (ending_by []) stays));
+      bytes = subst (λ (st : State). Appended before after st.world.written) (sym same) (all_out before now after (text_of job i) waiting r.out.bytes out);
       answers = ap (λ (st : State). st.answers) (r.state ∙ sym same);
       inferences = ap (λ (st : State). st.inferences) (r.state ∙ sym same);
     } in
-    by m.halted is whole
+    by halted is whole
   where
     by : (o : Option ℕ) → end ≡ ending_by [] o → IsWholeRun job budget before after (record { end = end; answers = m.answers; inferences = i }) → IsRun job budget before after (record { end = end; answers = m.answers; inferences = i })
     by None x h = subst (λ x. IsRunBy x job budget before after (record { end = end; answers = m.answers; inferences = i })) (sym x) h
@@ -199,36 +259,64 @@ pub no_fault : (o : Option ℕ) → ending_by [] o ≢ WriteFault
 no_fault None h = cc
 no_fault (Some k) h = cc
 
+-- where a region stops with something left
+abbrev pub IsLeft : Stop → Type 0
+IsLeft (stop.Limit item g) = Unit {0}
+IsLeft (stop.World item g) = Unit {0}
+IsLeft (stop.Removal number after) = Unit {0}
+IsLeft (stop.Answer p) = Unit {0}
+IsLeft (stop.QueryDone ball) = Unit {0}
+IsLeft stop.AllDone = ⊥
+
+pub is_left : (s : Stop) → (s ≡ stop.AllDone → ⊥) → IsLeft s
+is_left (stop.Limit item g) h = tt
+is_left (stop.World item g) h = tt
+is_left (stop.Removal number after) h = tt
+is_left (stop.Answer p) h = tt
+is_left (stop.QueryDone ball) h = tt
+is_left stop.AllDone h = h refl
+
+some_entries : (named : List NamedTerm) (r : RegionView) (s : Stop) → IsLeft s → 0 < length (stop_entries named r s)
+some_entries named r (stop.Limit item g) h = omega arith
+some_entries named r (stop.World item g) h = omega arith
+some_entries named r (stop.Removal number after) h = omega arith
+some_entries named r (stop.Answer p) h = omega arith
+some_entries named r (stop.QueryDone None) h = omega arith
+some_entries named r (stop.QueryDone (Some ball)) h = omega arith
+some_entries named r stop.AllDone h = absurd h
+
 budget_by : (es : List Entry) (halted : Option ℕ) → 0 < length es → ending_by es halted ≡ Budget
 budget_by [] halted lt = absurd (omega arith)
 budget_by (e ∷ es) halted lt = refl
 
-some_there : {X : Type 0} (xs ys zs : List X) → 0 < length zs → 0 < length (xs ++ (ys ++ zs))
-some_there xs ys zs lt = omega (arith, length-append xs (ys ++ zs), length-append ys zs)
+module _ (job : Job) (program : Program) (m : Machine) (halted : Option ℕ) (s : Stop) (i : ℕ) (waiting : List ℕ) (before now : Option (List ℕ)) (fb fn : ℕ) (r : HasStopped job program m halted s i waiting before now fb fn) where
+  abbrev entries_now : List Entry
+  entries_now = stop_entries (own_asked m.asked program.queries.items) m.region s
 
-has_entries : (own : List NamedTerm) (s : Stack) → HasEnd s → 0 < length (stack_view own s)
-has_entries own s some = some_there (current_view own s.store s.current) (frames_view own s.store (reverse s.frames.items)) (end_view s.end) (subst (λ o. 0 < length (end_view o)) (sym some.1) (omega arith))
+  same_entries : (seq job i).entries ≡ entries_now
+  same_entries = sym (ap (λ (st : State). st.entries) r.state)
 
--- where something is left, nothing has halted
-pub not_halted : (job : Job) (program : Program) (m : Machine) (i : ℕ) (waiting : List ℕ) (before now : Option (List ℕ)) (fb fn : ℕ) → IsRunning job program m i waiting before now fb fn → HasEnd m.stack → m.halted ≡ None
-not_halted job program m i waiting before now fb fn r some =
-    let many = has_entries (own_asked m.asked program.queries.items) m.stack some in
-    ap (λ (st : State). st.halted) r.state ∙ by (seq job i).halted (halts_empty job i) (omega (arith, many, ap length (entries_now job program m i waiting before now fb fn r)))
-  where
-    by : (o : Option ℕ) → IsEmptyIfHalted o (seq job i).entries → 0 < length (seq job i).entries → o ≡ None
-    by None h lt = refl
-    by (Some k) h lt = absurd (omega (arith, ap length h))
+  -- where something is left, nothing has halted
+  pub not_halted : IsLeft s → halted ≡ None
+  not_halted left =
+      let many = some_entries (own_asked m.asked program.queries.items) m.region s left in
+      ap (λ (st : State). st.halted) r.state ∙ by (seq job i).halted (halts_empty job i) (omega (arith, many, ap length same_entries))
+    where
+      by : (o : Option ℕ) → IsEmptyIfHalted o (seq job i).entries → 0 < length (seq job i).entries → o ≡ None
+      by None h lt = refl
+      by (Some k) h lt = absurd (omega (arith, ap length h))
 
-pub stopped : (job : Job) (program : Program) (m : Machine) (budget : ℕ) (waiting : List ℕ) (before now after : Option (List ℕ)) (fb fn : ℕ) → IsRunning job program m budget waiting before now fb fn → HasEnd m.stack
-    → Appended now after waiting → IsRun job budget before after (record { end = Budget; answers = m.answers; inferences = budget })
-stopped job program m budget waiting before now after fb fn r some out =
-    let own = own_asked m.asked program.queries.items in
-    record {
-      ended = sym (ap (λ es. ending_by es (seq job budget).halted) (entries_now job program m budget waiting before now fb fn r) ∙ budget_by (stack_view own m.stack) (seq job budget).halted (has_entries own m.stack some));
-      bytes = all_out before now after (text_of job budget) waiting r.bytes out;
-      answers = ap (λ (st : State). st.answers) r.state;
-      inferences = ap (λ (st : State). st.inferences) r.state;
-    }
+  -- the budget is used up
+  pub stopped : (budget : ℕ) (after : Option (List ℕ)) → IsLeft s → i ≡ budget → Appended now after waiting → IsRun job budget before after (record { end = Budget; answers = m.answers; inferences = budget })
+  stopped budget after left e out = subst (λ n. IsRun job n before after (record { end = Budget; answers = m.answers; inferences = n })) e here
+    where
+      here : IsRun job i before after (record { end = Budget; answers = m.answers; inferences = i })
+      here = record {
+        ended = sym (ap (λ es. ending_by es (seq job i).halted) same_entries ∙ budget_by entries_now (seq job i).halted (some_entries (own_asked m.asked program.queries.items) m.region s left));
+        bytes = all_out before now after (text_of job i) waiting r.out.bytes out;
+        answers = ap (λ (st : State). st.answers) r.state;
+        inferences = ap (λ (st : State). st.inferences) r.state;
+      }
 
 -- nothing is written before the run begins
 pub not_begun : (job : Job) (budget : ℕ) (out : Option (List ℕ)) → IsRun job budget out out (record { end = NoMemory; answers = 0; inferences = 0 })
@@ -238,34 +326,17 @@ not_begun job budget out = record { bytes = none out; answers = refl; inferences
     none None = tt
     none (Some old) = (0, ap Some (sym (append-nil old)))
 
--- a front of what the run writes is out
-front_of_run : (job : Job) (i budget : ℕ) (waiting : List ℕ) (before now after : Option (List ℕ)) → i ≤ budget → PutsOut before now (text_of job i) waiting → AppendedPrefix now after waiting → AppendedPrefix before after (text_of job budget)
-front_of_run job i budget waiting before now after le h k =
-    let more = text_grows job i (budget - i) in
-    let sum : i + (budget - i) ≡ budget = omega arith in
-    subst (AppendedPrefix before after) (sym (ap (text_of job) (sym sum) ∙ more.joined)) (front_of_more before after (text_of job i) more.rest (front_out before now after (text_of job i) waiting h k))
+-- a run that is cut short after so many inferences: what waited is out, or a write of it failed
+module _ (job : Job) (program : Program) (m : Machine) (i budget : ℕ) (waiting : List ℕ) (before now after : Option (List ℕ)) (fb fn : ℕ) (r : IsOut job program m i waiting before now fb fn) (le : i ≤ budget) where
+  pub cut_short : Appended now after waiting → IsRun job budget before after (record { end = NoMemory; answers = 0; inferences = 0 })
+  cut_short out = record {
+    bytes = front_of_run job i budget waiting before now after le r.bytes (all_in_front now after waiting out);
+    answers = refl;
+    inferences = refl;
+  }
 
--- a run that is cut short after so many inferences
-pub cut_short : (job : Job) (program : Program) (m : Machine) (i budget : ℕ) (waiting : List ℕ) (before now after : Option (List ℕ)) (fb fn : ℕ) → IsRunning job program m i waiting before now fb fn → i ≤ budget
-    → Appended now after waiting → IsRun job budget before after (record { end = NoMemory; answers = 0; inferences = 0 })
-cut_short job program m i budget waiting before now after fb fn r le out = record {
-  bytes = front_of_run job i budget waiting before now after le r.bytes (all_in_front now after waiting out);
-  answers = refl;
-  inferences = refl;
-}
-
--- a write failed: of what waited, or with what the next inference has written
-pub unwritten : (job : Job) (program : Program) (m : Machine) (i budget : ℕ) (waiting : List ℕ) (before now after : Option (List ℕ)) (fb fn : ℕ) → IsRunning job program m i waiting before now fb fn → i ≤ budget
-    → AppendedPrefix now after waiting → IsRun job budget before after write_failed
-unwritten job program m i budget waiting before now after fb fn r le out =
-    record { bytes = front_of_run job i budget waiting before now after le r.bytes out; answers = refl; inferences = refl }
-
-pub unwritten_next : (job : Job) (program : Program) (m new : Machine) (i budget : ℕ) (waiting : List ℕ) (before now after : Option (List ℕ)) (fb fn : ℕ) → IsRunning job program m i waiting before now fb fn → i < budget → Steps program m new
-    → AppendedPrefix now after (waiting ++ new.world.out.items) → IsRun job budget before after write_failed
-unwritten_next job program m new i budget waiting before now after fb fn r lt k out =
-    let text = next_text job program m new i r.clauses r.state k in
-    let written = subst (λ bytes. PutsOut before now bytes (waiting ++ new.world.out.items)) text (waits before now (text_of job i) waiting new.world.out.items r.bytes) in
-    record { bytes = front_of_run job (i + 1) budget (waiting ++ new.world.out.items) before now after (omega arith) written out; answers = refl; inferences = refl }
+  pub unwritten : AppendedPrefix now after waiting → IsRun job budget before after write_failed
+  unwritten out = record { bytes = front_of_run job i budget waiting before now after le r.bytes out; answers = refl; inferences = refl }
 
 -- a run that was to end so has put out what waited, or a write failed
 pub closed : (job : Job) (budget : ℕ) (waiting : List ℕ) (before now after : Option (List ℕ)) (end r : RunEnd) → IsClosedWith waiting now after end r → (Appended now after waiting → IsRun job budget before after end)
@@ -273,11 +344,15 @@ pub closed : (job : Job) (budget : ℕ) (waiting : List ℕ) (before now after :
 closed job budget waiting before now after end r (inl h) whole cut = subst (IsRun job budget before after) (sym h.0) (whole h.1)
 closed job budget waiting before now after end r (inr h) whole cut = subst (IsRun job budget before after) (sym h.0) (cut h.1)
 
--- whether a query is there
-pub no_query : (end : Option QueryEnd) → is_some end ≡ false → end ≡ None
-no_query None h = refl
-no_query (Some e) h = absurd cc
+-- what comes next below the budget is taken by the run
+pub taken_next : (r : RegionView) (limit : ℕ) (ran : Ran) (s : Stop) → StopsAt r limit ran s → ran.taken < limit → IsLeft s → IsTakenNext r s
+taken_next r limit ran (stop.Limit item g) h lt left = absurd (omega (arith, h))
+taken_next r limit ran (stop.World item g) h lt left = h
+taken_next r limit ran (stop.Removal number after) h lt left = h
+taken_next r limit ran (stop.Answer p) h lt left = h
+taken_next r limit ran (stop.QueryDone ball) h lt left = tt
+taken_next r limit ran stop.AllDone h lt left = absurd left
 
-pub some_query : (end : Option QueryEnd) → is_some end ≡ true → (e : QueryEnd) × (end ≡ Some e)
-some_query None h = absurd cc
-some_query (Some e) h = (e, refl)
+-- the parts of a job make it again
+pub parts_job : (job : Job) (parts : JobParts) (program : Program) (w : KeptWorld) → HasParts job parts → clauses_in program ≡ job.clauses → program.queries.items ≡ parts.queries.items → w.database.kept ≡ parts.database.kept → w.ops ≡ parts.ops → program_job program (world_meant w) ≡ job
+parts_job job parts program w h c q d o = rw (c, q ∙ h.queries, d ∙ h.database, o ∙ h.operators) refl

@@ -1,10 +1,3 @@
-pub mod StackView
-pub mod StackInvariant
-pub mod ChoicePoints
-pub mod FreeStepsTaken
-pub mod Inferences
-pub mod EffectsTaken
-pub mod MachineView
-pub mod ItemsTaken
 pub mod RunEnds
 pub mod Pieces
+pub mod MachineView

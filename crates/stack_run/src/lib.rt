@@ -1,18 +1,14 @@
-//! The sequential machine: one path of the search at a time, with a stack of what is still to be done.
+//! The sequential machine: a region runs to the next goal of the world, answer or end, and the run goes on from there, query
+//! after query. What is written is put out in pieces.
 #![tactic(auto)]
 
-mod effects;
+mod answering;
 mod ending;
-mod frame;
-mod free_steps;
-mod infer;
-mod list;
-mod open;
-mod rows;
+mod machine;
+mod query;
 mod run;
-mod stack;
 mod step;
-mod unwinding;
 mod waiting;
+mod world;
 
 pub use run::run_job;

@@ -1,5 +1,5 @@
 -- What is kept of a job.
-use Rattle.std.specs.Prelude.{◌≡◌, List}
+use Rattle.std.specs.Prelude.{◌≡◌, List, map}
 use Rattle.std.specs.Arc.{arc_value}
 use Rattle.run_model.specs.Programs.Clauses.{Clause, is_defined}
 use Rattle.run_model.specs.Programs.Jobs.{Job as JobTerms}
@@ -13,7 +13,7 @@ abbrev pub AreStatics : List Indicator → List Clause → Type 0
 AreStatics statics clauses = (i : Indicator) → is_static statics i ≡ is_defined clauses i.name i.arity
 
 pub record HasParts (job : JobTerms) (parts : JobParts) : Type 0 where
-  pub clauses : arc_value parts.procs ≡ job.clauses
+  pub clauses : map arc_value parts.clauses.items ≡ job.clauses
   pub database : parts.database.kept ≡ job.database
   pub operators : parts.ops ≡ job.operators
   pub queries : parts.queries.items ≡ job.queries

@@ -16,7 +16,6 @@ use crate::loading::Loading;
 use au_term::NoMemory;
 use clause_compile::Clause;
 use dyn_clauses::{DataRefusal, Database, Indicator};
-use proc_index::Procs;
 use std::alloc::Global;
 use std::sync::Arc;
 
@@ -28,8 +27,7 @@ pub(crate) fn job_from(alloc: Global, library: Loading, text: Loading) -> Result
     let database = database_of(alloc, &clauses, &library, &text)?;
     let (mut queries, mut own) = (library.queries, text.queries);
     queries.append(&mut own)?;
-    let procs = Arc::new(alloc, Procs::new(alloc, clauses)?)?;
-    Ok(Job::new(procs, database, text.ops, queries))
+    Ok(Job::new(clauses, database, text.ops, queries))
 }
 
 /// The static clauses of a library beside a text, and those of the text.

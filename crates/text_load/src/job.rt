@@ -1,21 +1,20 @@
 //! What a text loads to.
-ghost use Rattle.std.specs.Prelude.{◌≡◌};
+ghost use Rattle.std.specs.Prelude.{◌≡◌, map};
 ghost use Rattle.std.specs.Arc.{arc_value};
 ghost use Rattle.text_load.specs.JobView.{AreStatics, HasParts};
 
 use crate::query::Query;
+use clause_compile::Clause;
 use dyn_clauses::Database;
 use op_table::Ops;
-use proc_index::Procs;
 use std::marker::Model;
 use std::sync::Arc;
 
-/// The static procedures, the dynamic ones and the operators to begin with, and the queries, which are run one after
-/// another. Contracts see the clauses, the dynamic procedures, the operators and the queries; the database has the
-/// static procedures as such.
+/// The clauses of the static procedures, the dynamic procedures and the operators to begin with, and the queries, which are
+/// run one after another. Contracts see all four; the database has the static procedures as such.
 #[derive(Drop)]
 pub struct Job {
-    procs: Arc<Procs>,
+    clauses: Vec<Arc<Clause>>,
     database: Database,
     ops: Ops,
     queries: Vec<Query>,
@@ -24,13 +23,14 @@ pub struct Job {
 /// What a job is made of.
 #[derive(Drop)]
 pub struct JobParts {
-    pub procs: Arc<Procs>,
+    pub clauses: Vec<Arc<Clause>>,
     pub database: Database,
     pub ops: Ops,
     pub queries: Vec<Query>,
 }
 
 impl Model for Job {
+    ghost use Rattle.std.specs.Prelude.{map};
     ghost use Rattle.std.specs.Arc.{arc_value};
     ghost use Rattle.std.specs.Coded.{codes};
     ghost use Rattle.au_term.specs.PrefixOrder.{term_code};
@@ -41,30 +41,35 @@ impl Model for Job {
 
     ghost coded = { Prim.hlevel (codes, term_code) };
 
-    ghost view = { λ j. record { clauses = arc_value j.procs; database = j.database.kept; operators = j.ops; queries = j.queries.items } };
+    ghost view = { λ j. record { clauses = map arc_value j.clauses.items; database = j.database.kept; operators = j.ops; queries = j.queries.items } };
 
-    ghost invariant = { λ j. AreStatics j.database.statics (arc_value j.procs) };
+    ghost invariant = { λ j. AreStatics j.database.statics (map arc_value j.clauses.items) };
 }
 
 impl Job {
     /// The job of these parts.
-    pub(crate) fn new(procs: Arc<Procs>, database: Database, ops: Ops, queries: Vec<Query>) -> Job
-        requires { AreStatics database.statics (arc_value procs) }
-        ensures { result ≡ record { clauses = arc_value procs; database = database.kept; operators = ops; queries = queries.items } }
+    pub(crate) fn new(
+        clauses: Vec<Arc<Clause>>,
+        database: Database,
+        ops: Ops,
+        queries: Vec<Query>,
+    ) -> Job
+        requires { AreStatics database.statics (map arc_value clauses.items) }
+        ensures { result ≡ record { clauses = map arc_value clauses.items; database = database.kept; operators = ops; queries = queries.items } }
     {
         Job {
-            procs,
+            clauses,
             database,
             ops,
             queries,
         }
     }
 
-    /// The static procedures.
-    pub fn procs(&self) -> &Arc<Procs>
-        ensures { arc_value result.now ≡ self.now.clauses }
+    /// The clauses of the static procedures, in the order of the text.
+    pub fn clauses(&self) -> &[Arc<Clause>]
+        ensures { map arc_value result.now ≡ self.now.clauses }
     {
-        &self.procs
+        &self.clauses
     }
 
     /// The dynamic procedures.
@@ -95,7 +100,7 @@ impl Job {
         ensures statics { AreStatics result.database.statics self.clauses }
     {
         JobParts {
-            procs: self.procs,
+            clauses: self.clauses,
             database: self.database,
             ops: self.ops,
             queries: self.queries,

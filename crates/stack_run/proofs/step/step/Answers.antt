@@ -1,20 +1,22 @@
-use Rattle.std.proofs.Common.{◌+◌, ap, ◌∙◌}
-use Rattle.std.proofs.lemmas.Result.{on_ok_weaker}
-use Rattle.run_model.specs.Machine.States.{with_free_steps}
-use Rattle.effect_gate.specs.Effects.{world_meant}
-use Rattle.stack_run.specs.StackInvariant.{IsFit}
-use Rattle.stack_run.specs.FreeStepsTaken.{IsResting}
-use Rattle.stack_run.specs.MachineView.{with_front}
-use Rattle.stack_run.proofs.StepLemmas.{steps_taken_so, ready, both_ok}
+use Rattle.std.proofs.Common.{sym, subst}
+use Rattle.region_run.specs.declared.running.Stop.TheVariants.{World, Removal}
+use Rattle.region_split.proofs.CallLemmas.{if_ok_then}
+use Rattle.stack_run.specs.MachineView.{StepsTo}
+use Rattle.stack_run.specs.declared.machine.Program.{Program}
 use Rattle.stack_run.proofs.step.step.Goals as goal
 
-pub returns-clause-state : goal.returns-clause-state
-returns-clause-state c =
-    let m = c.inference.new.machine in
-    on_ok_weaker c.take_free_steps.result (λ h. λ written inferences.
-    steps_taken_so c.args.program.now m.asked m.answers m.stack c.take_free_steps.new.stack h (with_front written (world_meant m.world)) m.halted (inferences + 1) ∙ ap with_free_steps (c.in_ok-inference.ensures.state written inferences)) c.take_free_steps.ensures.view
+pub returns-in-World-clause-steps : goal.returns-in-World-clause-steps
+returns-in-World-clause-steps c =
+    let program = c.args.program.now in
+    let m = c.args.machine.now in
+    let new = c.take_world_goal.new.machine in
+    if_ok_then (λ next. (p : Program) → StepsTo p m (World c.in-World.item c.in-World.place) new next) (StepsTo program m c.args.stop new) c.take_world_goal.result
+    (λ next h. subst (λ s. StepsTo program m s new next) (sym c.in-World.is) (h program)) c.take_world_goal.ensures.steps
 
-pub returns-clause-ready : goal.returns-clause-ready
-returns-clause-ready c =
-    let s = c.inference.new.machine.stack in
-    both_ok c.take_free_steps.result (λ h (k : IsFit c.take_free_steps.new.stack × IsResting c.take_free_steps.new.stack). ready s c.take_free_steps.new.stack h k.0 k.1) c.take_free_steps.ensures.view (both_ok c.take_free_steps.result (λ f r. (f, r)) c.take_free_steps.ensures.fit c.take_free_steps.ensures.resting)
+pub returns-in-Removal-clause-steps : goal.returns-in-Removal-clause-steps
+returns-in-Removal-clause-steps c =
+    let program = c.args.program.now in
+    let m = c.args.machine.now in
+    let new = c.take_removal.new.machine in
+    if_ok_then (λ next. (p : Program) → StepsTo p m (Removal c.in-Removal.number c.in-Removal.after) new next) (StepsTo program m c.args.stop new) c.take_removal.result
+    (λ next h. subst (λ s. StepsTo program m s new next) (sym c.in-Removal.is) (h program)) c.take_removal.ensures.steps

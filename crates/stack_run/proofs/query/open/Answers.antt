@@ -1,0 +1,21 @@
+use Rattle.std.proofs.Common.{ap, ◌∙◌}
+use Rattle.cell_store.specs.StoreView.{with_numbers}
+use Rattle.region_split.specs.Regions.{RegionView}
+use Rattle.text_load.specs.QueryView.{goal_terms}
+use Rattle.std.specs.Arc.{arc_value}
+use Rattle.stack_run.proofs.QueryLemmas.{goals_there, query_begun, terms_again}
+use Rattle.stack_run.proofs.query.open.Goals as goal
+
+pub push_goals-requires-clause-goals : goal.push_goals-requires-clause-goals
+push_goals-requires-clause-goals c =
+    let q = c.args.query.now in
+    goals_there (arc_value c.args.text) q c.in-Ok.variables c.fresh.new.self c.push_choice.new.self c.push_choice.new.self c.nothing_left-end.result
+    (c.in_ok-fresh.ensures.ok ∙ ap (λ (r : RegionView). record r { store = with_numbers c.in-Ok.variables r.store }) c.in_ok-region.ensures) (c.in-Ok.ensures.1 ∙ c.vars.ensures) c.in_ok-push_choice.ensures.ok
+    c.deref.result.now (c.deref.ensures.value ∙ (c.in_ok-goals.ensures ∙ (ap goal_terms c.goals.ensures ∙ terms_again q.goals)))
+
+pub returns : goal.returns
+returns c =
+    let q = c.args.query.now in
+    query_begun (arc_value c.args.text) q c.in-Ok.variables c.fresh.new.self c.push_choice.new.self c.push_goals.new.self c.nothing_left-end.result
+    (c.in_ok-fresh.ensures.ok ∙ ap (λ (r : RegionView). record r { store = with_numbers c.in-Ok.variables r.store }) c.in_ok-region.ensures) (c.in-Ok.ensures.1 ∙ c.vars.ensures) c.in_ok-push_choice.ensures.ok
+    c.nothing_left-after.result c.deref.result.now c.in_ok-cut.cut c.in_ok-position.position (c.deref.ensures.value ∙ (c.in_ok-goals.ensures ∙ (ap goal_terms c.goals.ensures ∙ terms_again q.goals))) c.nothing_left-after.ensures.items c.in_ok-cut.ensures.height c.in_ok-cut.ensures.count c.in_ok-position.ensures
