@@ -8,11 +8,7 @@ use binding_array::BindingCell;
 use cell_store::Store;
 
 /// The two arguments of the compound that a value stands for, if it has this name.
-pub fn sides(
-    store: &Store,
-    value: BindingCell,
-    name: &str,
-) -> Option<(BindingCell, BindingCell)>
+pub fn sides(store: &Store, value: BindingCell, name: &str) -> Option<(BindingCell, BindingCell)>
     requires value { IsValueIn store.now value }
     requires name { IsAscii name.now }
     ensures { MatchOption result (HasNoSides store.now value name.now) (HasSides store.now value name.now) }
