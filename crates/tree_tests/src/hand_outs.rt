@@ -4,7 +4,7 @@ use public_tree::PublicTree;
 use run_model::RunEnding;
 use std::process::Abort;
 use std::test::Fail;
-use tree_nodes::Nodes;
+use tree_nodes::{NodeKind, Nodes};
 
 /// Two of three alternatives are claimed. Where too many nodes are live, only the leftmost entry is handed out; nothing waits;
 /// and nothing is handed out once the tree was stopped.
@@ -43,7 +43,7 @@ fn ends(rt: HostRuntime) -> Result<(), Fail> {
     }
     let empty = PublicTree::open(alloc, None, 1, 5)?;
     assert_eq!(rt; empty.ended(), Some(RunEnding::Finished));
-    let first = body(alloc, 2)?;
+    let first = body(alloc, 0, 2, NodeKind::Choice)?;
     assert!(rt; first.is_whole());
     let tree = PublicTree::open(alloc, Some(first), 1, 5)?;
     assert_eq!(rt; tree.counts(), (0, 0));

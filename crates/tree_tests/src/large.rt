@@ -2,7 +2,9 @@
 use crate::trees::{add, close, credit, place, recorded};
 use au_term::Cell;
 use branch_order::{clock, leftmost, leftmost_cleared, leftmost_ready};
+use clause_compile::Scope;
 use findall_tree::bag_of;
+use prune_ops::prune_right;
 use std::alloc::Global;
 use std::process::Abort;
 use std::test::Fail;
@@ -39,8 +41,16 @@ fn events_at_the_tip(rt: HostRuntime) -> Result<(), Fail> {
     Ok(())
 }
 
-/// The alternatives of one node close, by this step from this one on.
-fn closing(rt: &impl Abort, alloc: Global, first: u32, step: u32) -> Result<(), Fail> {
+/// The alternatives of one node close, in the order of a number that is multiplied by one, grows by another, and begins
+/// again at a bound; what is no alternative is passed over.
+fn closing(
+    rt: &impl Abort,
+    alloc: Global,
+    first: u32,
+    factor: u32,
+    step: u32,
+    bound: u32,
+) -> Result<(), Fail> {
     let mut nodes = Nodes::new(alloc);
     add(rt, alloc, &mut nodes, None, 1)?;
     add(
@@ -50,13 +60,15 @@ fn closing(rt: &impl Abort, alloc: Global, first: u32, step: u32) -> Result<(), 
         Some(place(0, 0)),
         ALTERNATIVES as usize,
     )?;
-    let mut alternative = first;
-    for _event in 0..ALTERNATIVES {
-        let at = leftmost(&nodes).ok_or("no entry")?;
-        assert!(rt; nodes.has_alternative(at));
-        let _inferences = clock(&nodes, at);
-        close(rt, &mut nodes, place(1, alternative), credit(alloc, 0, 1))?;
-        alternative = ((alternative as u64 + step as u64) % ALTERNATIVES as u64) as u32;
+    let mut next = first;
+    for _event in 0..bound {
+        if next < ALTERNATIVES {
+            let at = leftmost(&nodes).ok_or("no entry")?;
+            assert!(rt; nodes.has_alternative(at));
+            let _inferences = clock(&nodes, at);
+            close(rt, &mut nodes, place(1, next), credit(alloc, 0, 1))?;
+        }
+        next = next.wrapping_mul(factor).wrapping_add(step) % bound;
     }
     assert_eq!(rt; leftmost(&nodes), None);
     assert_eq!(rt; nodes.live(), 1);
@@ -65,18 +77,48 @@ fn closing(rt: &impl Abort, alloc: Global, first: u32, step: u32) -> Result<(), 
 
 #[test]
 fn closed_from_the_left(rt: HostRuntime) -> Result<(), Fail> {
-    closing(&rt, rt.alloc(), 0, 1)
+    closing(&rt, rt.alloc(), 0, 1, 1, ALTERNATIVES)
 }
 
 #[test]
 fn closed_from_the_right(rt: HostRuntime) -> Result<(), Fail> {
-    closing(&rt, rt.alloc(), ALTERNATIVES - 1, ALTERNATIVES - 1)
+    let last = ALTERNATIVES - 1;
+    closing(&rt, rt.alloc(), last, 1, last, ALTERNATIVES)
 }
 
-// The step has no factor in common with the number of alternatives.
+/// A random order: below a power of two each number comes once.
 #[test]
 fn closed_in_any_order(rt: HostRuntime) -> Result<(), Fail> {
-    closing(&rt, rt.alloc(), 0, 7_919)
+    closing(&rt, rt.alloc(), 1, 1_664_525, 1_013_904_223, 1 << 17)
+}
+
+/// A node of many alternatives, of which each other one has closed and each other one has a node below it. Below its first
+/// there is a long path, from whose tip all of them are pruned at once.
+#[test]
+fn pruned_at_once(rt: HostRuntime) -> Result<(), Fail> {
+    let alloc = rt.alloc();
+    let mut nodes = Nodes::new(alloc);
+    add(&rt, alloc, &mut nodes, None, ALTERNATIVES as usize)?;
+    let mut at = place(0, 0);
+    for _node in 0..ALTERNATIVES {
+        at = place(add(&rt, alloc, &mut nodes, Some(at), 1)?, 0);
+    }
+    for alternative in 1..ALTERNATIVES {
+        let right = place(0, alternative);
+        if alternative % 2 == 0 {
+            close(&rt, &mut nodes, right, credit(alloc, 0, 1))?;
+        } else {
+            add(&rt, alloc, &mut nodes, Some(right), 1)?;
+        }
+    }
+    assert!(rt; nodes.has_alternative(at));
+    prune_right(&mut nodes, at, Scope::Node(u64::MAX));
+    assert_eq!(rt; nodes.live(), u64::from(ALTERNATIVES) + 1);
+    for alternative in 1..ALTERNATIVES {
+        assert!(rt; nodes.is_closed(place(0, alternative)));
+    }
+    assert!(rt; nodes.is_pending(at));
+    Ok(())
 }
 
 /// All alternatives of a node are with workers, who ask for another one before each closes its own.

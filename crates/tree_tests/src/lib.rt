@@ -17,6 +17,8 @@ mod results;
 #[cfg(test)]
 mod sides;
 #[cfg(test)]
+mod slow;
+#[cfg(test)]
 mod trails;
 #[cfg(test)]
 mod trees;

@@ -1,98 +1,12 @@
 //! What no clause gives: that calls succeed, and how nodes look after some of them.
-use au_term::{Bindings, NoMemory, Segment};
-use clause_compile::{Branch, Goals};
+use crate::slow::{Look, next_random, seen};
+use crate::trees::{add, close, credit, place};
+use au_term::NoMemory;
 use std::alloc::Global;
 use std::process::Abort;
-use std::sync::Arc;
 use std::test::Fail;
 use tree_model::AltRef;
-use tree_nodes::{AltState, Credit, NodeBody, NodeKind, Nodes, Records};
-
-fn segment(alloc: Global) -> Segment {
-    Segment {
-        base: 0,
-        vars: 0,
-        bindings: Bindings::new(alloc),
-    }
-}
-
-fn body(alloc: Global, branches: usize, kind: NodeKind) -> Result<Arc<NodeBody>, NoMemory> {
-    let mut all = Vec::new(alloc);
-    for _i in 0..branches {
-        all.push(Branch {
-            goals: Goals::empty(),
-            segment: segment(alloc),
-        })?;
-    }
-    let segment = Arc::new(alloc, segment(alloc))?;
-    let body = NodeBody {
-        segment,
-        branches: all,
-        kind,
-    };
-    Ok(Arc::new(alloc, body)?)
-}
-
-fn credit(alloc: Global, inferences: u64) -> Credit {
-    Credit {
-        inferences,
-        answers: 0,
-        records: Records::new(alloc),
-    }
-}
-
-fn place(node: u64, alternative: u32) -> AltRef {
-    AltRef { node, alternative }
-}
-
-/// Adds a node of plain branches below a pending alternative, or the first node.
-fn add(
-    rt: &impl Abort,
-    alloc: Global,
-    nodes: &mut Nodes,
-    parent: Option<AltRef>,
-    branches: usize,
-) -> Result<u64, Fail> {
-    let body = body(alloc, branches, NodeKind::Choice)?;
-    assert!(rt; body.is_whole());
-    match parent {
-        Some(at) => assert!(rt; nodes.is_pending(at)),
-        None => assert_eq!(rt; nodes.live(), 0),
-    }
-    Ok(nodes.add(parent, body)?)
-}
-
-fn close(
-    rt: &impl Abort,
-    alloc: Global,
-    nodes: &mut Nodes,
-    at: AltRef,
-    inferences: u64,
-) -> Result<(), Fail> {
-    assert!(rt; nodes.has_alternative(at));
-    nodes.close(at, credit(alloc, inferences))?;
-    Ok(())
-}
-
-/// How an alternative looks: it has an entry, a node is below it, or it has closed after so many inferences.
-#[derive(Clone, Copy, Debug, PartialEq, Eq)]
-enum Look {
-    Entry,
-    Node(u64),
-    Closed(u64),
-    Gone,
-}
-
-fn seen(nodes: &Nodes, at: AltRef) -> Look {
-    if !nodes.has_alternative(at) {
-        return Look::Gone;
-    }
-    match nodes.state(at) {
-        AltState::Inner(node) => Look::Node(*node),
-        AltState::Closed(credit) => Look::Closed(credit.inferences),
-        _ => Look::Entry,
-    }
-}
+use tree_nodes::Nodes;
 
 #[test]
 fn two_closings_fold(rt: HostRuntime) -> Result<(), Fail> {
@@ -102,9 +16,9 @@ fn two_closings_fold(rt: HostRuntime) -> Result<(), Fail> {
     let upper = add(&rt, alloc, &mut nodes, None, 1)?;
     let lower = add(&rt, alloc, &mut nodes, Some(place(upper, 0)), 2)?;
     assert_eq!(rt; nodes.live(), 2);
-    close(&rt, alloc, &mut nodes, place(lower, 0), 2)?;
+    close(&rt, &mut nodes, place(lower, 0), credit(alloc, 0, 2))?;
     assert_eq!(rt; nodes.spare(), 0);
-    close(&rt, alloc, &mut nodes, place(lower, 1), 3)?;
+    close(&rt, &mut nodes, place(lower, 1), credit(alloc, 0, 3))?;
     assert!(rt; nodes.has(upper) && !nodes.has(lower));
     assert_eq!(rt; seen(&nodes, place(upper, 0)), Look::Closed(5));
     assert_eq!(rt; nodes.width(upper), 1);
@@ -241,32 +155,35 @@ fn step(
         Look::Node(_) if choice % 32 > 0 || at.node < 4 => {}
         Look::Closed(_) | Look::Gone => {}
         _ => {
-            close(rt, alloc, nodes, at, choice % 5)?;
+            close(rt, nodes, at, credit(alloc, 0, choice % 5))?;
             slow_close(all, at, choice % 5);
         }
     }
     Ok(())
 }
 
+/// Some trees that are added to and close anywhere, compared after each call.
 #[test]
 fn random_calls(rt: HostRuntime) -> Result<(), Fail> {
     let alloc = rt.alloc();
-    let mut nodes = Nodes::new(alloc);
-    let mut all = Vec::new(alloc);
-    add(&rt, alloc, &mut nodes, None, 4)?;
-    slow_add(alloc, &mut all, None, 4)?;
     let mut random = 1u64;
-    for _i in 0..400 {
-        random = random
-            .wrapping_mul(6364136223846793005)
-            .wrapping_add(1442695040888963407);
-        let seed = random >> 33;
-        let count = all.len() as u64;
-        assert!(rt; count > 0);
-        let at = place(seed % count, ((seed / 64) % 4) as u32);
-        step(&rt, alloc, &mut nodes, &mut all, at, seed / 1024)?;
-        compare(&rt, &nodes, &all);
+    let mut drawn = 0usize;
+    for _round in 0..10 {
+        let mut nodes = Nodes::new(alloc);
+        let mut all = Vec::new(alloc);
+        add(&rt, alloc, &mut nodes, None, 4)?;
+        slow_add(alloc, &mut all, None, 4)?;
+        for _i in 0..400 {
+            random = next_random(random);
+            let seed = random >> 33;
+            let count = all.len() as u64;
+            assert!(rt; count > 0);
+            let at = place(seed % count, ((seed / 64) % 4) as u32);
+            step(&rt, alloc, &mut nodes, &mut all, at, seed / 1024)?;
+            compare(&rt, &nodes, &all);
+        }
+        drawn = drawn.saturating_add(all.len());
     }
-    assert!(rt; all.len() > 40);
+    assert!(rt; drawn > 400);
     Ok(())
 }

@@ -1,4 +1,5 @@
 //! Random changes, and the answers against those that go through the whole tree.
+use crate::slow::{next_random, parts_left, path, places};
 use crate::trees::{add, close, credit, place};
 use branch_order::{before, counts, first_open, leftmost, leftmost_ready};
 use std::alloc::Global;
@@ -6,42 +7,6 @@ use std::process::Abort;
 use std::test::Fail;
 use tree_model::AltRef;
 use tree_nodes::{AltState, Nodes};
-
-/// The way down to an alternative.
-fn path(rt: &impl Abort, nodes: &Nodes, at: AltRef, drawn: u64) -> Result<Vec<AltRef>, Fail> {
-    let mut way = Vec::new(nodes.allocator());
-    let mut next = Some(at);
-    for _i in 0..drawn {
-        if let Some(here) = next {
-            assert!(rt; nodes.has(here.node));
-            way.push(here)?;
-            next = nodes.parent(here.node);
-        }
-    }
-    assert_eq!(rt; next, None);
-    way.reverse();
-    Ok(way)
-}
-
-fn parts_left(one: &[AltRef], other: &[AltRef]) -> bool {
-    for i in 0..one.len().min(other.len()) {
-        if one[i].alternative != other[i].alternative {
-            return one[i].alternative < other[i].alternative;
-        }
-    }
-    false
-}
-
-/// All alternatives there are.
-fn places(nodes: &Nodes, drawn: u64) -> Result<Vec<AltRef>, Fail> {
-    let mut all = Vec::new(nodes.allocator());
-    for node in 0..drawn {
-        for alternative in 0..nodes.width(node) {
-            all.push(place(node, alternative))?;
-        }
-    }
-    Ok(all)
-}
 
 fn is_ready(rt: &impl Abort, nodes: &Nodes, at: AltRef) -> bool {
     assert!(rt; nodes.has_alternative(at));
@@ -143,7 +108,7 @@ fn compare(
 
 /// One change, chosen by a number: a node is added, something closes, or the inferences spent are others. What has closed
 /// may close with something else.
-fn change(
+pub(crate) fn change(
     rt: &impl Abort,
     alloc: Global,
     nodes: &mut Nodes,
@@ -179,25 +144,28 @@ fn change(
     Ok(0)
 }
 
+/// Some trees that change anywhere, with the answers after each change.
 #[test]
 fn random_changes(rt: HostRuntime) -> Result<(), Fail> {
     let alloc = rt.alloc();
-    let mut nodes = Nodes::new(alloc);
-    add(&rt, alloc, &mut nodes, None, 4)?;
-    let mut drawn = 1u64;
     let mut random = 7u64;
-    for _i in 0..1500 {
-        random = random
-            .wrapping_mul(6364136223846793005)
-            .wrapping_add(1442695040888963407);
-        let seed = random >> 33;
-        assert!(rt; drawn > 0);
-        let at = place(seed % drawn, ((seed / 64) % 4) as u32);
-        let other = place((seed / 256) % drawn, ((seed / 16) % 4) as u32);
-        let added = change(&rt, alloc, &mut nodes, at, seed / 1024)?;
-        drawn = drawn.saturating_add(added);
-        compare(&rt, &nodes, at, other, drawn)?;
+    let mut added = 0u64;
+    for _round in 0..10 {
+        let mut nodes = Nodes::new(alloc);
+        add(&rt, alloc, &mut nodes, None, 4)?;
+        let mut drawn = 1u64;
+        for _i in 0..400 {
+            random = next_random(random);
+            let seed = random >> 33;
+            assert!(rt; drawn > 0);
+            let at = place(seed % drawn, ((seed / 64) % 4) as u32);
+            let other = place((seed / 256) % drawn, ((seed / 16) % 4) as u32);
+            let more = change(&rt, alloc, &mut nodes, at, seed / 1024)?;
+            drawn = drawn.saturating_add(more);
+            added = added.saturating_add(more);
+            compare(&rt, &nodes, at, other, drawn)?;
+        }
     }
-    assert!(rt; drawn > 40);
+    assert!(rt; added > 300);
     Ok(())
 }

@@ -1,99 +1,122 @@
 //! What no clause gives: that a bag is gathered, and in which order.
-use au_term::{Bindings, Cell, FlatTerm, NoMemory, Segment, TermBuilder};
-use clause_compile::{Branch, Goals};
+use crate::slow::{next_random, parts_left, path, places};
+use crate::trees::{add, add_body, body, close, number, place, recorded};
+use au_term::{Cell, Shared};
 use findall_tree::bag_of;
 use std::alloc::Global;
 use std::process::Abort;
-use std::sync::Arc;
 use std::test::Fail;
 use tree_model::AltRef;
-use tree_nodes::{Credit, NodeBody, NodeKind, Nodes, Records};
+use tree_nodes::{NodeKind, Nodes};
 
-fn segment(alloc: Global) -> Segment {
-    Segment {
-        base: 0,
-        vars: 0,
-        bindings: Bindings::new(alloc),
-    }
-}
-
-fn body(alloc: Global, branches: usize) -> Result<Arc<NodeBody>, NoMemory> {
-    let mut all = Vec::new(alloc);
-    for _i in 0..branches {
-        all.push(Branch {
-            goals: Goals::empty(),
-            segment: segment(alloc),
-        })?;
-    }
-    let segment = Arc::new(alloc, segment(alloc))?;
-    let body = NodeBody {
-        segment,
-        branches: all,
-        kind: NodeKind::Choice,
-    };
-    Ok(Arc::new(alloc, body)?)
-}
-
-fn place(node: u64, alternative: u32) -> AltRef {
-    AltRef { node, alternative }
-}
-
-/// Adds a node below a pending alternative, or the first node.
-fn add(
-    rt: &impl Abort,
-    alloc: Global,
-    nodes: &mut Nodes,
-    parent: Option<AltRef>,
-    branches: usize,
-) -> Result<(), Fail> {
-    let body = body(alloc, branches)?;
-    assert!(rt; body.is_whole());
-    match parent {
-        Some(at) => assert!(rt; nodes.is_pending(at)),
-        None => assert_eq!(rt; nodes.live(), 0),
-    }
-    let _number = nodes.add(parent, body)?;
-    Ok(())
-}
-
-fn close(rt: &impl Abort, nodes: &mut Nodes, at: AltRef, credit: Credit) -> Result<(), Fail> {
-    assert!(rt; nodes.has_alternative(at));
-    nodes.close(at, credit)?;
-    Ok(())
-}
-
-fn number(rt: &impl Abort, alloc: Global, value: i64) -> Result<FlatTerm, Fail> {
-    let mut builder = TermBuilder::new(alloc);
-    builder.push(Cell::Int(value))?;
-    assert_eq!(rt; builder.missing(), 0);
-    Ok(builder.finish())
-}
-
-/// The right one of two branches below a goal side closes first.
-#[test]
-fn records_in_order(rt: HostRuntime) -> Result<(), Fail> {
-    let alloc = rt.alloc();
+/// The node of a findall, and one of two branches below its goal side.
+fn findall(rt: &impl Abort, alloc: Global) -> Result<Nodes, Fail> {
     let mut nodes = Nodes::new(alloc);
-    add(&rt, alloc, &mut nodes, None, 2)?;
-    add(&rt, alloc, &mut nodes, Some(place(0, 0)), 2)?;
-    for alternative in [1, 0] {
-        let mut records = Vec::new(alloc);
-        records.push(number(&rt, alloc, i64::from(alternative) + 1)?)?;
-        let credit = Credit {
-            inferences: 1,
-            answers: 0,
-            records: Records::of(alloc, records)?,
-        };
-        close(&rt, &mut nodes, place(1, alternative), credit)?;
-    }
+    let list = Shared::from_term(alloc, number(rt, alloc, 0)?)?;
+    let kind = NodeKind::Findall {
+        results: Vec::new(alloc),
+        list,
+    };
+    add_body(rt, &mut nodes, None, body(alloc, 0, 2, kind)?)?;
+    add(rt, alloc, &mut nodes, Some(place(0, 0)), 2)?;
+    Ok(nodes)
+}
+
+/// The numbers that were collected.
+fn bag(rt: &impl Abort, nodes: &Nodes) -> Result<Vec<usize>, Fail> {
     let side = AltRef {
         node: 0,
         alternative: 0,
     };
     assert!(rt; nodes.has_alternative(side));
     assert!(rt; nodes.is_closed(side));
-    let bag = bag_of(&nodes, 0)?;
-    assert_eq!(rt; bag.len(), 2);
-    assert!(rt; *bag[0].top() == Cell::Int(1) && *bag[1].top() == Cell::Int(2));
+    let mut numbers = Vec::new(nodes.allocator());
+    for record in &bag_of(nodes, 0)? {
+        match record.top() {
+            Cell::Int(value) if *value >= 0 => numbers.push(*value as usize)?,
+            _ => {}
+        }
+    }
+    Ok(numbers)
+}
+
+/// The right one of the two branches closes first.
+#[test]
+fn records_in_order(rt: HostRuntime) -> Result<(), Fail> {
+    let alloc = rt.alloc();
+    let mut nodes = findall(&rt, alloc)?;
+    for alternative in [1, 0] {
+        let record = recorded(&rt, alloc, i64::from(alternative) + 1)?;
+        close(&rt, &mut nodes, place(1, alternative), record)?;
+    }
+    let numbers = bag(&rt, &nodes)?;
+    assert!(rt; numbers.len() == 2 && numbers[0] == 1 && numbers[1] == 2);
+    Ok(())
+}
+
+/// The ways to all entries below the goal side.
+fn entries(rt: &impl Abort, nodes: &Nodes, drawn: u64) -> Result<Vec<Vec<AltRef>>, Fail> {
+    let mut ways = Vec::new(nodes.allocator());
+    for at in &places(nodes, drawn)? {
+        if at.node > 0 && nodes.is_pending(*at) {
+            ways.push(path(rt, nodes, *at, drawn)?)?;
+        }
+    }
+    Ok(ways)
+}
+
+/// Closes what is left of some entries from a place on, each with its place as a record, in an order by this step.
+fn close_all(
+    rt: &impl Abort,
+    nodes: &mut Nodes,
+    ways: &[Vec<AltRef>],
+    step: usize,
+) -> Result<(), Fail> {
+    let mut i = 0usize;
+    for _event in 0..ways.len() {
+        assert!(rt; i < ways.len() && i < 10_000);
+        if let Some(at) = ways[i].last() {
+            let record = recorded(rt, nodes.allocator(), i as i64)?;
+            close(rt, nodes, *at, record)?;
+        }
+        i = i.wrapping_add(step) % ways.len();
+    }
+    Ok(())
+}
+
+/// Each record is of an entry to the left of that of the next one.
+fn go_right(rt: &impl Abort, ways: &[Vec<AltRef>], numbers: &[usize]) {
+    assert_eq!(rt; numbers.len(), ways.len());
+    for i in 1..numbers.len() {
+        let (left, right) = (numbers[i - 1], numbers[i]);
+        assert!(rt; left < ways.len() && right < ways.len());
+        assert!(rt; parts_left(&ways[left], &ways[right]));
+    }
+}
+
+/// Trees below a goal side that grow anywhere and close in any order: the step is a prime number greater than the number
+/// of entries.
+#[test]
+fn random_records(rt: HostRuntime) -> Result<(), Fail> {
+    let alloc = rt.alloc();
+    let mut random = 5u64;
+    for _round in 0..20 {
+        let mut nodes = findall(&rt, alloc)?;
+        let mut drawn = 2u64;
+        for _i in 0..150 {
+            random = next_random(random);
+            let seed = random >> 33;
+            assert!(rt; drawn > 0);
+            let at = place(seed % drawn, ((seed / 64) % 4) as u32);
+            if at.node > 0 && nodes.is_pending(at) {
+                let branches = ((seed / 256) % 5) as usize;
+                add(&rt, alloc, &mut nodes, Some(at), branches.clamp(1, 4))?;
+                drawn = drawn.saturating_add(1);
+            }
+        }
+        let ways = entries(&rt, &nodes, drawn)?;
+        close_all(&rt, &mut nodes, &ways, 7_919)?;
+        go_right(&rt, &ways, &bag(&rt, &nodes)?);
+    }
     Ok(())
 }

@@ -1,61 +1,23 @@
-//! What no clause gives: that calls succeed, and what they say of one tree.
-use au_term::{Bindings, NoMemory, Segment};
-use clause_compile::{Branch, Goals};
+//! What no clause gives: that calls succeed, and what they say of small trees.
+use crate::slow::{Look, common, next_random, path, seen};
+use crate::trees::{add_body, body, place};
 use node_trail::{Legs, path_between};
 use std::alloc::Global;
 use std::process::Abort;
-use std::sync::Arc;
 use std::test::Fail;
 use tree_model::AltRef;
-use tree_nodes::{NodeBody, NodeKind, Nodes};
+use tree_nodes::{NodeKind, Nodes};
 
-fn segment(alloc: Global, base: u64) -> Segment {
-    Segment {
-        base,
-        vars: 0,
-        bindings: Bindings::new(alloc),
-    }
-}
-
-/// A node that begins at a number, and its branches at those that follow.
-fn body(alloc: Global, base: u64, branches: u32) -> Result<Arc<NodeBody>, NoMemory> {
-    let mut all = Vec::new(alloc);
-    for i in 0..branches {
-        all.push(Branch {
-            goals: Goals::empty(),
-            segment: segment(alloc, base.wrapping_add(i as u64).wrapping_add(1)),
-        })?;
-    }
-    let segment = Arc::new(alloc, segment(alloc, base))?;
-    let body = NodeBody {
-        segment,
-        branches: all,
-        kind: NodeKind::Choice,
-    };
-    Ok(Arc::new(alloc, body)?)
-}
-
-fn place(node: u64, alternative: u32) -> AltRef {
-    AltRef { node, alternative }
-}
-
-/// Adds a node below a pending alternative, or the first node.
+/// Adds a node whose segment begins at ten times a number.
 fn add(
     rt: &impl Abort,
     alloc: Global,
     nodes: &mut Nodes,
     parent: Option<AltRef>,
-    base: u64,
-    branches: u32,
-) -> Result<(), Fail> {
-    let body = body(alloc, base, branches)?;
-    assert!(rt; body.is_whole());
-    match parent {
-        Some(at) => assert!(rt; nodes.is_pending(at)),
-        None => assert_eq!(rt; nodes.live(), 0),
-    }
-    let _number = nodes.add(parent, body)?;
-    Ok(())
+    number: u64,
+) -> Result<u64, Fail> {
+    let base = number.wrapping_mul(10);
+    add_body(rt, nodes, parent, body(alloc, base, 3, NodeKind::Choice)?)
 }
 
 /// Whether segments begin at these numbers.
@@ -73,42 +35,6 @@ fn begin_at(legs: &Legs, bases: &[u64]) -> bool {
     true
 }
 
-#[test]
-fn ways(rt: HostRuntime) -> Result<(), Fail> {
-    let alloc = rt.alloc();
-    let mut nodes = Nodes::new(alloc);
-    add(&rt, alloc, &mut nodes, None, 0, 3)?;
-    add(&rt, alloc, &mut nodes, Some(place(0, 1)), 10, 2)?;
-    add(&rt, alloc, &mut nodes, Some(place(1, 1)), 20, 2)?;
-    way(&rt, &nodes, place(1, 0), place(1, 0), &[], &[])?;
-    way(&rt, &nodes, place(1, 0), place(1, 1), &[11], &[12])?;
-    way(&rt, &nodes, place(1, 0), place(2, 1), &[11], &[12, 20, 22])?;
-    way(
-        &rt,
-        &nodes,
-        place(2, 1),
-        place(0, 1),
-        &[22, 20, 12, 10],
-        &[],
-    )?;
-    way(
-        &rt,
-        &nodes,
-        place(0, 1),
-        place(2, 0),
-        &[],
-        &[10, 12, 20, 21],
-    )?;
-    way(
-        &rt,
-        &nodes,
-        place(2, 0),
-        place(0, 2),
-        &[21, 20, 12, 10, 2],
-        &[3],
-    )
-}
-
 fn way(
     rt: &impl Abort,
     nodes: &Nodes,
@@ -121,5 +47,83 @@ fn way(
     let path = path_between(nodes, from, to)?;
     assert!(rt; begin_at(&path.leave, leave));
     assert!(rt; begin_at(&path.enter, enter));
+    Ok(())
+}
+
+/// Siblings have one segment up and one down between them.
+#[test]
+fn ways(rt: HostRuntime) -> Result<(), Fail> {
+    let alloc = rt.alloc();
+    let mut nodes = Nodes::new(alloc);
+    add(&rt, alloc, &mut nodes, None, 0)?;
+    add(&rt, alloc, &mut nodes, Some(place(0, 1)), 1)?;
+    add(&rt, alloc, &mut nodes, Some(place(1, 1)), 2)?;
+    let none: &[u64] = &[];
+    for (from, to, leave, enter) in [
+        ((1, 0), (1, 0), none, none),
+        ((1, 0), (1, 1), &[11], &[12]),
+        ((1, 0), (2, 1), &[11], &[12, 20, 22]),
+        ((2, 1), (0, 1), &[22, 20, 12, 10], none),
+        ((0, 1), (2, 0), none, &[10, 12, 20, 21]),
+        ((2, 0), (0, 2), &[21, 20, 12, 10, 2], &[3]),
+    ] {
+        let (from, to) = (place(from.0, from.1), place(to.0, to.1));
+        way(&rt, &nodes, from, to, leave, enter)?;
+    }
+    Ok(())
+}
+
+/// Where the segments begin on a way, from a place on: at the first place its node counts only where the way has not yet
+/// come to it.
+fn bases(alloc: Global, way: &[AltRef], from: usize, parts: bool) -> Result<Vec<u64>, Fail> {
+    let mut all = Vec::new(alloc);
+    for i in from..way.len() {
+        let base = way[i].node.wrapping_mul(10);
+        if i > from || !parts {
+            all.push(base)?;
+        }
+        all.push(base.wrapping_add(way[i].alternative.into()).wrapping_add(1))?;
+    }
+    Ok(all)
+}
+
+fn slow_way(
+    rt: &impl Abort,
+    nodes: &Nodes,
+    from: AltRef,
+    to: AltRef,
+    drawn: u64,
+) -> Result<(), Fail> {
+    let alloc = nodes.allocator();
+    let (one, other) = (path(rt, nodes, from, drawn)?, path(rt, nodes, to, drawn)?);
+    let same = common(&one, &other);
+    let parts = same < one.len() && same < other.len();
+    let mut leave = bases(alloc, &one, same, parts)?;
+    leave.reverse();
+    let enter = bases(alloc, &other, same, parts)?;
+    way(rt, nodes, from, to, &leave, &enter)
+}
+
+/// Ways between any two alternatives of a tree that grows.
+#[test]
+fn random_ways(rt: HostRuntime) -> Result<(), Fail> {
+    let alloc = rt.alloc();
+    let mut nodes = Nodes::new(alloc);
+    add(&rt, alloc, &mut nodes, None, 0)?;
+    let mut drawn = 1u64;
+    let mut random = 3u64;
+    for step in 0..3000 {
+        random = next_random(random);
+        let seed = random >> 33;
+        assert!(rt; drawn > 0);
+        let from = place(seed % drawn, ((seed / 64) % 3) as u32);
+        let to = place((seed / 256) % drawn, ((seed / 1024) % 3) as u32);
+        if step % 50 == 0 && seen(&nodes, from) == Look::Entry {
+            add(&rt, alloc, &mut nodes, Some(from), drawn)?;
+            drawn = drawn.saturating_add(1);
+        }
+        slow_way(&rt, &nodes, from, to, drawn)?;
+    }
+    assert!(rt; drawn > 20);
     Ok(())
 }

@@ -1,5 +1,5 @@
 //! Trees for tests.
-use au_term::{Bindings, Cell, NoMemory, Segment, TermBuilder};
+use au_term::{Bindings, Cell, FlatTerm, NoMemory, Segment, TermBuilder};
 use clause_compile::{Branch, Goals};
 use std::alloc::Global;
 use std::process::Abort;
@@ -8,27 +8,33 @@ use std::test::Fail;
 use tree_model::AltRef;
 use tree_nodes::{Credit, NodeBody, NodeKind, Nodes, Records};
 
-fn segment(alloc: Global) -> Segment {
+fn segment(alloc: Global, base: u64) -> Segment {
     Segment {
-        base: 0,
+        base,
         vars: 0,
         bindings: Bindings::new(alloc),
     }
 }
 
-pub(crate) fn body(alloc: Global, branches: usize) -> Result<Arc<NodeBody>, NoMemory> {
+/// The body of a node whose segment begins at a number, and its branches at those that follow.
+pub(crate) fn body(
+    alloc: Global,
+    base: u64,
+    branches: usize,
+    kind: NodeKind,
+) -> Result<Arc<NodeBody>, NoMemory> {
     let mut all = Vec::new(alloc);
-    for _i in 0..branches {
+    for i in 0..branches {
+        let base = base.wrapping_add(i as u64).wrapping_add(1);
         all.push(Branch {
             goals: Goals::empty(),
-            segment: segment(alloc),
+            segment: segment(alloc, base),
         })?;
     }
-    let segment = Arc::new(alloc, segment(alloc))?;
     let body = NodeBody {
-        segment,
+        segment: Arc::new(alloc, segment(alloc, base))?,
         branches: all,
-        kind: NodeKind::Choice,
+        kind,
     };
     Ok(Arc::new(alloc, body)?)
 }
@@ -38,21 +44,34 @@ pub(crate) fn place(node: u64, alternative: u32) -> AltRef {
 }
 
 /// Adds a node below a pending alternative, or the first node.
+pub(crate) fn add_body(
+    rt: &impl Abort,
+    nodes: &mut Nodes,
+    parent: Option<AltRef>,
+    body: Arc<NodeBody>,
+) -> Result<u64, Fail> {
+    assert!(rt; body.is_whole());
+    match parent {
+        Some(at) => assert!(rt; nodes.is_pending(at)),
+        None => assert_eq!(rt; nodes.live(), 0),
+    }
+    Ok(nodes.add(parent, body)?)
+}
+
+/// Adds a choice of so many branches.
 pub(crate) fn add(
     rt: &impl Abort,
     alloc: Global,
     nodes: &mut Nodes,
     parent: Option<AltRef>,
     branches: usize,
-) -> Result<(), Fail> {
-    let body = body(alloc, branches)?;
-    assert!(rt; body.is_whole());
-    match parent {
-        Some(at) => assert!(rt; nodes.is_pending(at)),
-        None => assert_eq!(rt; nodes.live(), 0),
-    }
-    let _number = nodes.add(parent, body)?;
-    Ok(())
+) -> Result<u64, Fail> {
+    add_body(
+        rt,
+        nodes,
+        parent,
+        body(alloc, 0, branches, NodeKind::Choice)?,
+    )
 }
 
 pub(crate) fn close(
@@ -74,13 +93,18 @@ pub(crate) fn credit(alloc: Global, answers: u64, inferences: u64) -> Credit {
     }
 }
 
-/// What an alternative has left that has collected a number.
-pub(crate) fn recorded(rt: &impl Abort, alloc: Global, number: i64) -> Result<Credit, Fail> {
+/// A number as a term.
+pub(crate) fn number(rt: &impl Abort, alloc: Global, value: i64) -> Result<FlatTerm, Fail> {
     let mut builder = TermBuilder::new(alloc);
-    builder.push(Cell::Int(number))?;
+    builder.push(Cell::Int(value))?;
     assert_eq!(rt; builder.missing(), 0);
+    Ok(builder.finish())
+}
+
+/// What an alternative has left that has collected a number.
+pub(crate) fn recorded(rt: &impl Abort, alloc: Global, value: i64) -> Result<Credit, Fail> {
     let mut records = Vec::new(alloc);
-    records.push(builder.finish())?;
+    records.push(number(rt, alloc, value)?)?;
     Ok(Credit {
         inferences: 1,
         answers: 0,
