@@ -221,7 +221,7 @@ pub(crate) static CONTROL: [Row; 51] = [
 ];
 
 /// Texts of built-in predicates and of the library, which end, and their lines.
-pub(crate) static PREDICATES: [(&'static str, &'static str); 29] = [
+pub(crate) static PREDICATES: [(&'static str, &'static str); 34] = [
     ("?- X is 2 + 3 * 4 - 10 // 3.", "X = 11\nno\n"),
     (
         "?- X is 7 mod -2, Y is -7 // 2, Z is 7 rem -2.",
@@ -314,10 +314,27 @@ pub(crate) static PREDICATES: [(&'static str, &'static str); 29] = [
         "?- atom_concat(X, Y, Z).",
         "error: error(instantiation_error,atom_concat/3)\n",
     ),
+    (
+        "?- copy_term(f(X, Y), Z).",
+        "X = _0, Y = _1, Z = f(_3,_4)\nno\n",
+    ),
+    ("?- atom_codes('\u{e9}', L).", "L = [233]\nno\n"),
+    (
+        "?- sort([b,1,a,b], S), keysort([2-a,1-b,2-c], K).",
+        "S = [1,a,b], K = [1-b,2-a,2-c]\nno\n",
+    ),
+    (
+        "?- msort([b,a], L).",
+        "error: error(existence_error(procedure,msort/2),msort/2)\n",
+    ),
+    (
+        "?- atom_chars(X, ['1',a]), number_codes(Y, \" 12\").",
+        "X = '1a', Y = 12\nno\n",
+    ),
 ];
 
 /// Goals with their errors, and the indicators in them.
-pub(crate) static ERRORS: [(&'static str, &'static str); 56] = [
+pub(crate) static ERRORS: [(&'static str, &'static str); 65] = [
     ("compare(1, a, b)", "type_error(atom,1),compare/3"),
     ("compare(x, a, b)", "domain_error(order,x),compare/3"),
     ("functor(T, N, 2)", "instantiation_error,functor/3"),
@@ -410,4 +427,22 @@ pub(crate) static ERRORS: [(&'static str, &'static str); 56] = [
     ("a < 1 // 0", "type_error(evaluable,a/0),(<)/2"),
     ("call(1, a)", "type_error(callable,1),call/2"),
     ("throw(_)", "instantiation_error,throw/1"),
+    ("functor(T, f, A)", "instantiation_error,functor/3"),
+    ("arg(1, T, X)", "instantiation_error,arg/3"),
+    ("T =.. [X,a]", "instantiation_error,(=..)/2"),
+    ("keysort([k-v|L], S)", "instantiation_error,keysort/2"),
+    ("keysort(a, S)", "type_error(list,a),keysort/2"),
+    ("keysort([], a)", "type_error(list,a),keysort/2"),
+    (
+        "number_chars(N, [1])",
+        "type_error(character,1),number_chars/2",
+    ),
+    (
+        "number_codes(N, [a])",
+        "type_error(integer,a),number_codes/2",
+    ),
+    (
+        "number_codes(N, [-1])",
+        "representation_error(character_code),number_codes/2",
+    ),
 ];

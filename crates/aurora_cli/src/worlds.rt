@@ -4,7 +4,7 @@ use crate::tests::{ends, is_in_error};
 use run_model::Ending;
 use std::test::Fail;
 
-static ROWS: [Row; 27] = [
+static ROWS: [Row; 29] = [
     ("?- (write(a) ; write(b)), fail.", "99", FINISHED, "abno\n"),
     (
         "t :- write(x). t :- write(y). ?- once(t).",
@@ -145,10 +145,26 @@ static ROWS: [Row; 27] = [
         FINISHED,
         "V = 1548008755920\nno\n",
     ),
+    (
+        "?- writeq([a|b]), nl, writeq(-(1)), nl, writeq(1 - -1), nl, writeq('hello world'), nl, writeq(f(',',(a,b))), nl, fail.",
+        "99",
+        FINISHED,
+        "[a|b]\n- 1\n1- -1\n'hello world'\nf(',',(a,b))\nno\n",
+    ),
+    (
+        "queens(N, Q) :- range(1, N, Ns), place(Ns, [], Q). range(N, N, [N]) :- !.
+         range(I, N, [I|T]) :- I < N, J is I + 1, range(J, N, T). place([], _, []).
+         place(Ns, P, [X|Q]) :- select(X, Ns, R), safe(X, 1, P), place(R, [X|P], Q). safe(_, _, []).
+         safe(X, D, [Y|Ys]) :- X =\\= Y + D, X =\\= Y - D, E is D + 1, safe(X, E, Ys).
+         ?- queens(8, Q), !. ?- findall(Q, queens(8, Q), L), length(L, N), write(N), nl, fail.",
+        "9999999",
+        FINISHED,
+        "Q = [1,5,8,6,3,7,2,4]\nno\n92\nno\n",
+    ),
 ];
 
 /// Goals with their errors, and the indicators in them.
-static ERRORS: [(&'static str, &'static str); 36] = [
+static ERRORS: [(&'static str, &'static str); 42] = [
     ("asserta(X)", "instantiation_error,asserta/1"),
     ("assertz((foo :- 4))", "type_error(callable,4),assertz/1"),
     ("assertz((4 :- true))", "type_error(callable,4),assertz/1"),
@@ -230,6 +246,12 @@ static ERRORS: [(&'static str, &'static str); 36] = [
     ("halt(a)", "type_error(integer,a),halt/1"),
     ("halt(64)", "domain_error(exit_status,64),halt/1"),
     ("halt(-1)", "domain_error(exit_status,-1),halt/1"),
+    ("op(30, xfy, [a|L])", "instantiation_error,op/3"),
+    ("op(30, xfy, [X])", "instantiation_error,op/3"),
+    ("op(30, 1, ++)", "type_error(atom,1),op/3"),
+    ("op(30, xfy, 1)", "type_error(list,1),op/3"),
+    ("op(30, xfy, [1])", "type_error(atom,1),op/3"),
+    ("op(200, yf, +)", "permission_error(create,operator,+),op/3"),
 ];
 
 #[test]

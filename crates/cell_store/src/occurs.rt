@@ -8,26 +8,26 @@ use crate::arguments::Arguments;
 use crate::store::Store;
 use au_term::NoMemory;
 use binding_array::BindingCell;
-use std::alloc::Global;
 
-/// Whether a variable that is free occurs in what a value stands for.
+/// Whether a variable that is free occurs in what a value stands for. The list takes the arguments that are still to be
+/// looked at.
 pub(crate) fn occurs(
-    alloc: Global,
     variable: u32,
     value: BindingCell,
     store: &Store,
+    pending: &mut Vec<Arguments>,
 ) -> Result<bool, NoMemory>
     requires { IsValueIn store.now value }
     ensures { IfOk result (λ b. b ≡ occurs variable (meaning store.now value)) }
 {
-    let mut pending = Vec::new(alloc);
-    if is_found(variable, value, store, &mut pending)? {
+    pending.clear();
+    if is_found(variable, value, store, pending)? {
         return Ok(true);
     }
     while let Some(arguments) = pending.pop() {
         let value = store.argument(arguments.at, arguments.base);
-        push_rest(arguments, &mut pending)?;
-        if is_found(variable, value, store, &mut pending)? {
+        push_rest(arguments, pending)?;
+        if is_found(variable, value, store, pending)? {
             return Ok(true);
         }
     }

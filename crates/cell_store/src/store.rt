@@ -13,7 +13,7 @@ ghost use Rattle.cell_store.specs.MadeBindings.{AreMadeSince};
 ghost use Rattle.cell_store.specs.UnificationSteps.{IsUnified, OnlyBinds};
 ghost use Rattle.cell_store.specs.StoreView.{Moment, IsValidStore, IsValueIn, IsDereferenced, CanBeBound, BindsFurther, AddsText, meaning, text_in, value_term, new_store, with_numbers, with_mark, with_marks, taken_back};
 
-use crate::arguments::Equations;
+use crate::arguments::{Arguments, Equations};
 use crate::heap::Heap;
 use crate::made::{bindings_of, variables_since};
 use crate::mark::Mark;
@@ -35,8 +35,9 @@ pub struct Store {
     /// Variables that were there at the newest mark of their time and were bound since.
     trail: Vec<u32>,
     marks: Vec<Mark>,
-    /// Room for the equations of a unification.
+    /// Room for the equations of a unification, and for the arguments that its occurs check looks at.
     pending: Vec<Equations>,
+    walked: Vec<Arguments>,
     alloc: Global,
 }
 
@@ -72,6 +73,7 @@ impl Store {
             trail: Vec::new(alloc),
             marks: Vec::new(alloc),
             pending: Vec::new(alloc),
+            walked: Vec::new(alloc),
             alloc,
         })
     }
@@ -220,8 +222,10 @@ impl Store {
         ensures kept { OnlyBinds self.old self.new }
     {
         let mut pending = mem::replace(&mut self.pending, Vec::new(self.alloc));
-        let answer = unify(self.alloc, a, b, fresh, self, &mut pending);
+        let mut walked = mem::replace(&mut self.walked, Vec::new(self.alloc));
+        let answer = unify(a, b, fresh, self, &mut pending, &mut walked);
         self.pending = pending;
+        self.walked = walked;
         answer
     }
 

@@ -11,23 +11,23 @@ ghost use Rattle.cell_store.specs.StoreView.{IsValueIn, compound_meaning, meanin
 ghost use Rattle.cell_store.specs.UnificationSteps.{IsUnified, OnlyBinds, TakesRule, IsBoundOr, KeepsRestEquations};
 ghost use Rattle.cell_store.specs.declared.arguments.Equations.{Equations as ArgumentEquations};
 
-use crate::arguments::{Equations, arguments_of, rest_of};
+use crate::arguments::{Arguments, Equations, arguments_of, rest_of};
 use crate::occurs::occurs;
 use crate::store::Store;
 use au_term::NoMemory;
 use binding_array::BindingCell;
-use std::alloc::Global;
 
 /// Makes two values one by further bindings, or answers that none do. Where the second is the head of a clause and the
 /// first one older than the clause, `fresh` is the clause's first variable: such a variable is bound to what is older
-/// without the search for it there. The list takes the equations that are still to be solved.
+/// without the search for it there. The lists take the equations that are still to be solved, and the arguments that such a
+/// search is still to look at.
 pub(crate) fn unify(
-    alloc: Global,
     a: BindingCell,
     b: BindingCell,
     fresh: Option<u32>,
     store: &mut Store,
     pending: &mut Vec<Equations>,
+    walked: &mut Vec<Arguments>,
 ) -> Result<bool, NoMemory>
     requires left { IsValueIn store.old a }
     requires right { IsValueIn store.old b }
@@ -37,14 +37,14 @@ pub(crate) fn unify(
 {
     let mut fresh = fresh;
     pending.clear();
-    if !pair_goes(alloc, a, b, &mut fresh, store, pending)? {
+    if !pair_goes(a, b, &mut fresh, store, pending, walked)? {
         return Ok(false);
     }
     while let Some(equations) = pending.pop() {
         let left = store.argument(equations.left.at, equations.left.base);
         let right = store.argument(equations.right.at, equations.right.base);
         push_rest(equations, pending)?;
-        if !pair_goes(alloc, left, right, &mut fresh, store, pending)? {
+        if !pair_goes(left, right, &mut fresh, store, pending, walked)? {
             return Ok(false);
         }
     }
@@ -53,12 +53,12 @@ pub(crate) fn unify(
 
 /// Goes by the rule for an equation, and answers whether it is no clash.
 fn pair_goes(
-    alloc: Global,
     left: BindingCell,
     right: BindingCell,
     fresh: &mut Option<u32>,
     store: &mut Store,
     pending: &mut Vec<Equations>,
+    walked: &mut Vec<Arguments>,
 ) -> Result<bool, NoMemory>
     requires left { IsValueIn store.old left }
     requires right { IsValueIn store.old right }
@@ -72,10 +72,10 @@ fn pair_goes(
     match left {
         BindingCell::Var(m) => match right {
             BindingCell::Var(n) => variables_go(m, n, store),
-            _ => bind_left(alloc, m, right, fresh, store),
+            _ => bind_left(m, right, fresh, store, walked),
         },
         _ => match right {
-            BindingCell::Var(n) => bind_right(alloc, n, left, *fresh, store),
+            BindingCell::Var(n) => bind_right(n, left, *fresh, store, walked),
             _ => values_go(left, right, store, pending),
         },
     }
@@ -101,10 +101,10 @@ fn variables_go(m: u32, n: u32, store: &mut Store) -> Result<bool, NoMemory>
 
 /// Binds a free variable to a value, and answers whether it doesn't occur there.
 fn bind_checked(
-    alloc: Global,
     variable: u32,
     value: BindingCell,
     store: &mut Store,
+    walked: &mut Vec<Arguments>,
 ) -> Result<bool, NoMemory>
     requires there { IsValueIn store.old (BindingCell.Var variable) }
     requires free { value_of (substitution store.old) variable ≡ VarTerm variable }
@@ -113,7 +113,7 @@ fn bind_checked(
     ensures bound { IfOk result (IsBoundOr variable (meaning store.old value) store.old store.new) }
     ensures kept { OnlyBinds store.old store.new }
 {
-    if occurs(alloc, variable, value, store)? {
+    if occurs(variable, value, store, walked)? {
         return Ok(false);
     }
     store.bind(variable, value)?;
@@ -122,11 +122,11 @@ fn bind_checked(
 
 /// Binds a free variable of something older. Where it is bound to a compound, a clause's variables are no longer fresh.
 fn bind_left(
-    alloc: Global,
     variable: u32,
     value: BindingCell,
     fresh: &mut Option<u32>,
     store: &mut Store,
+    walked: &mut Vec<Arguments>,
 ) -> Result<bool, NoMemory>
     requires there { IsValueIn store.old (BindingCell.Var variable) }
     requires free { value_of (substitution store.old) variable ≡ VarTerm variable }
@@ -136,7 +136,7 @@ fn bind_left(
     ensures stays { IfOk result (λ goes. goes ≡ true → StaysOlder store.old store.new fresh.old fresh.new) }
     ensures kept { OnlyBinds store.old store.new }
 {
-    let goes = bind_checked(alloc, variable, value, store)?;
+    let goes = bind_checked(variable, value, store, walked)?;
     *fresh = fresh_after(*fresh, value);
     Ok(goes)
 }
@@ -153,11 +153,11 @@ fn fresh_after(fresh: Option<u32>, value: BindingCell) -> Option<u32>
 
 /// Binds a free variable to a value that is older than a clause.
 fn bind_right(
-    alloc: Global,
     variable: u32,
     value: BindingCell,
     fresh: Option<u32>,
     store: &mut Store,
+    walked: &mut Vec<Arguments>,
 ) -> Result<bool, NoMemory>
     requires there { IsValueIn store.old (BindingCell.Var variable) }
     requires free { value_of (substitution store.old) variable ≡ VarTerm variable }
@@ -172,7 +172,7 @@ fn bind_right(
         store.bind(variable, value)?;
         return Ok(true);
     }
-    bind_checked(alloc, variable, value, store)
+    bind_checked(variable, value, store, walked)
 }
 
 /// Whether a variable is one of a clause of which this is the first one.

@@ -1,5 +1,5 @@
 -- The chains of an index: the first head of each class, and after each head the next one of its class.
-use Rattle.std.specs.Prelude.{◌≡◌, ◌<◌, ◌^◌, ℕ, suc, List, [], ◌∷◌, ◌++◌, length, drop, reverse, cond, Option, Some}
+use Rattle.std.specs.Prelude.{◌≡◌, ◌<◌, ◌^◌, ℕ, suc, List, [], ◌∷◌, ◌++◌, length, drop, reverse, cond, Option, Some, IfSome, slice_get}
 use Rattle.std.specs.BTreeMap.{BTreeMap, get, is_at}
 use Rattle.std.specs.declared.cmp.Ordering.{Ordering}
 use Rattle.clause_index.specs.Classes.{is_of, procedure_class, key_class}
@@ -7,6 +7,8 @@ use Rattle.clause_index.specs.Numbers.{first_from}
 use Rattle.clause_index.specs.contracts.key.ClassOrd.TheImpl as class_ord
 use Rattle.clause_index.specs.declared.key.HeadKey.{HeadKey}
 use Rattle.clause_index.specs.declared.key.Class.{Class}
+use Rattle.clause_index.specs.declared.key.Class.TheVariants.{Procedure, WithoutKey}
+use Rattle.clause_index.specs.declared.index.NamedFirsts.{NamedFirsts}
 
 -- the order of classes in the map
 abbrev pub class_cmp : Class → Class → Ordering
@@ -21,10 +23,20 @@ abbrev pub links_from : (HeadKey → Class) → ℕ → List HeadKey → List (O
 links_from class i [] = []
 links_from class i (h ∷ hs) = first_from (suc i) (is_of (class h)) hs ∷ links_from class (suc i) hs
 
-pub record IsClauseIndexOf (heads : List HeadKey) (procedures classes : List (Option ℕ)) (firsts : BTreeMap Class ℕ) : Type 0 where
+-- what the map has of a procedure with this name
+pub record AreFirstsOf (firsts : BTreeMap Class ℕ) (name : ℕ) (f : NamedFirsts) : Type 0 where
+  pub all : f.all ≡ get class_cmp firsts (Procedure name f.arity)
+  pub without_key : f.without_key ≡ get class_cmp firsts (WithoutKey name f.arity)
+
+-- of each name that has an entry, what the map has of one of its procedures
+abbrev pub AreNamedFirsts : BTreeMap Class ℕ → List NamedFirsts → Type 0
+AreNamedFirsts firsts named = (name : ℕ) → IfSome (slice_get named name) (AreFirstsOf firsts name)
+
+pub record IsClauseIndexOf (heads : List HeadKey) (procedures classes : List (Option ℕ)) (firsts : BTreeMap Class ℕ) (named : List NamedFirsts) : Type 0 where
   pub procedures_are : procedures ≡ links_from procedure_class 0 heads
   pub classes_are : classes ≡ links_from key_class 0 heads
   pub firsts_are : HasFirsts heads firsts 0
+  pub named_are : AreNamedFirsts firsts named
   pub few : length heads < 2 ^ 32
 
 -- the links of the heads from a number on were made, the last first

@@ -1,5 +1,5 @@
 -- What a cursor has left.
-use Rattle.std.specs.Prelude.{◌≡◌, ◌<◌, ℕ, List, [], ◌∷◌, length, drop, Option, Some, None, IfSome}
+use Rattle.std.specs.Prelude.{◌≡◌, ◌<◌, ℕ, Bool, true, false, List, [], ◌∷◌, length, drop, Option, Some, None, IfSome}
 use Rattle.proc_index.specs.Places.{merged}
 use Rattle.clause_index.specs.Classes.{is_of, procedure_class, key_class}
 use Rattle.clause_index.specs.Numbers.{head_numbers_from}
@@ -22,6 +22,12 @@ chain class heads (Some i) = chain_in class i (drop i heads)
 abbrev pub numbers_left : List HeadKey → Cursor → List ℕ
 numbers_left heads (All o) = chain procedure_class heads o
 numbers_left heads (ByKey o p) = merged (chain key_class heads o) (chain key_class heads p)
+
+-- a cursor with no number left, of whatever heads
+abbrev pub is_used_up : Cursor → Bool
+is_used_up (All None) = true
+is_used_up (ByKey None None) = true
+is_used_up _ = false
 
 abbrev pub IsNumberBelow : ℕ → Option ℕ → Type 0
 IsNumberBelow n o = IfSome o (λ i. i < n)

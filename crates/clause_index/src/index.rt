@@ -5,7 +5,7 @@ ghost use Rattle.clause_index.specs.Classes.{is_of, is_head_of, can_match, proce
 ghost use Rattle.clause_index.specs.Numbers.{first_from, numbers};
 ghost use Rattle.clause_index.specs.Cursors.{IsCursorOf, IsNumberBelow, chain, numbers_left, TakesLeast};
 ghost use Rattle.clause_index.specs.declared.cursor.Cursor.{Cursor as CursorValue};
-ghost use Rattle.clause_index.specs.Chains.{IsChained};
+ghost use Rattle.clause_index.specs.Chains.{IsChained, AreFirstsOf, AreNamedFirsts};
 
 use crate::cursor::Cursor;
 use crate::key::{Class, HeadKey, NumberKey};
@@ -17,6 +17,14 @@ use std::marker::Model;
 /// The first clause of each class, by its number.
 type Firsts = BTreeMap<Class, u32>;
 
+/// The first clauses of a procedure of a name, with so many arguments: of all, and of those without a first key.
+#[derive(Clone, Copy, Debug)]
+pub(crate) struct NamedFirsts {
+    pub(crate) arity: u32,
+    pub(crate) all: Option<u32>,
+    pub(crate) without_key: Option<u32>,
+}
+
 /// An index of clauses. Contracts see the keys of their heads, in the order of the text.
 #[derive(Drop)]
 pub struct ClauseIndex {
@@ -24,6 +32,8 @@ pub struct ClauseIndex {
     next_of_procedure: Vec<Option<u32>>,
     next_of_class: Vec<Option<u32>>,
     firsts: Firsts,
+    /// For each name by its number one of its procedures, which is looked at before the map is searched.
+    named: Vec<NamedFirsts>,
 }
 
 impl Model for ClauseIndex {
@@ -39,7 +49,7 @@ impl Model for ClauseIndex {
 
     ghost view = { λ i. i.heads.items };
 
-    ghost invariant = { λ i. IsClauseIndexOf i.heads.items i.next_of_procedure.items i.next_of_class.items i.firsts };
+    ghost invariant = { λ i. IsClauseIndexOf i.heads.items i.next_of_procedure.items i.next_of_class.items i.firsts i.named.items };
 }
 
 impl ClauseIndex {
@@ -63,11 +73,13 @@ impl ClauseIndex {
         }
         next_of_procedure.reverse();
         next_of_class.reverse();
+        let named = named_firsts(alloc, &heads, &firsts)?;
         Ok(ClauseIndex {
             heads,
             next_of_procedure,
             next_of_class,
             firsts,
+            named,
         })
     }
 
@@ -82,7 +94,7 @@ impl ClauseIndex {
     pub fn is_defined(&self, name: u32, arity: u32) -> bool
         ensures { result ≡ list_any (is_head_of name arity) self.now }
     {
-        self.first(Class::Procedure(name, arity)).is_some()
+        self.first_of_procedure(name, arity).is_some()
     }
 
     /// The clauses that a goal with this name, number of arguments and first key may match. A goal whose first argument is a
@@ -92,9 +104,9 @@ impl ClauseIndex {
         ensures cursor { IsCursorOf self.now result }
     {
         match key {
-            None => Cursor::All(self.first(Class::Procedure(name, arity))),
+            None => Cursor::All(self.first_of_procedure(name, arity)),
             Some(key) => Cursor::ByKey(
-                self.first(Class::WithoutKey(name, arity)),
+                self.first_without_key(name, arity),
                 self.first(Class::WithKey(name, arity, key)),
             ),
         }
@@ -160,6 +172,26 @@ impl ClauseIndex {
         self.next_of_class[number as usize]
     }
 
+    /// The first clause of a procedure.
+    fn first_of_procedure(&self, name: u32, arity: u32) -> Option<u32>
+        ensures { result ≡ first_from 0 (is_of (Class.Procedure name arity)) self.now }
+    {
+        match self.named.get(name as usize) {
+            Some(firsts) if firsts.arity == arity => firsts.all,
+            _ => self.first(Class::Procedure(name, arity)),
+        }
+    }
+
+    /// The first clause of a procedure whose head has no first key.
+    fn first_without_key(&self, name: u32, arity: u32) -> Option<u32>
+        ensures { result ≡ first_from 0 (is_of (Class.WithoutKey name arity)) self.now }
+    {
+        match self.named.get(name as usize) {
+            Some(firsts) if firsts.arity == arity => firsts.without_key,
+            _ => self.first(Class::WithoutKey(name, arity)),
+        }
+    }
+
     /// The first clause of a class.
     fn first(&self, class: Class) -> Option<u32>
         ensures { result ≡ first_from 0 (is_of class) self.now }
@@ -180,4 +212,53 @@ fn link(
     let next = firsts.insert(class, number)?;
     links.push(next)?;
     Ok(())
+}
+
+/// The first clauses of one procedure of each name, up to the greatest number of a head's.
+fn named_firsts(
+    alloc: Global,
+    heads: &[HeadKey],
+    firsts: &Firsts,
+) -> Result<Vec<NamedFirsts>, NoMemory>
+    ensures { IfOk result (λ named. AreNamedFirsts firsts.now named.items) }
+{
+    let mut named = firsts_of_atoms(alloc, names_among(heads), firsts)?;
+    for head in heads {
+        let at = head.name as usize;
+        if at < named.len() {
+            named[at] = firsts_of(head.name, head.arity, firsts);
+        }
+    }
+    Ok(named)
+}
+
+/// A number that is greater than those of all heads' names, if there is one.
+fn names_among(heads: &[HeadKey]) -> u32 {
+    let mut names = 0;
+    for head in heads {
+        names = names.max(head.name.saturating_add(1));
+    }
+    names
+}
+
+/// The first clauses of the procedures without arguments.
+fn firsts_of_atoms(alloc: Global, names: u32, firsts: &Firsts) -> Result<Vec<NamedFirsts>, NoMemory>
+    ensures { IfOk result (λ named. AreNamedFirsts firsts.now named.items) }
+{
+    let mut named = Vec::new(alloc);
+    for name in 0..names {
+        named.push(firsts_of(name, 0, firsts))?;
+    }
+    Ok(named)
+}
+
+/// The first clauses of a procedure.
+fn firsts_of(name: u32, arity: u32, firsts: &Firsts) -> NamedFirsts
+    ensures { AreFirstsOf firsts.now name result }
+{
+    NamedFirsts {
+        arity,
+        all: firsts.get(&Class::Procedure(name, arity)).copied(),
+        without_key: firsts.get(&Class::WithoutKey(name, arity)).copied(),
+    }
 }

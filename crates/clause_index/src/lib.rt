@@ -1,8 +1,10 @@
 //! The clauses of a program's text, found by the procedure of a goal and the key of its first argument. Names are numbers
 //! here, so that no characters are compared while a program runs.
 //!
-//! Each clause knows the next one of its procedure, and the next one whose head has the same first key. A look-up is one
-//! search in a map for each of at most two chains; taking a clause off is one step; and what is left to try is two numbers.
+//! Each clause knows the next one of its procedure, and the next one whose head has the same first key. The first clause of
+//! a procedure, and the first one without a key, are read at the number of its name, or are searched in a map where another
+//! procedure of that name stands there; the first one with a key is searched. Taking a clause off is one step, and what is
+//! left to try is two numbers.
 #![tactic(auto)]
 
 mod cursor;

@@ -3,8 +3,6 @@
 #![tactic(auto)]
 
 #[cfg(test)]
-mod bindings;
-#[cfg(test)]
 mod effect_rows;
 #[cfg(test)]
 mod effects;

@@ -1,5 +1,5 @@
 -- What goals of a name and number of arguments are.
-use Rattle.std.specs.Prelude.{◌≡◌, ◌<◌, ℕ, false, List, length, None, IfSome}
+use Rattle.std.specs.Prelude.{◌≡◌, ◌<◌, ℕ, false, List, length, None, IfSome, slice_get}
 use Rattle.std.specs.Option.{is_some}
 use Rattle.std.specs.BTreeMap.{BTreeMap, get}
 use Rattle.std.specs.declared.cmp.Ordering.{Ordering}
@@ -13,6 +13,7 @@ use Rattle.std_builtins.specs.WorldGoals.{IsWorldGoal}
 use Rattle.goal_kinds.specs.declared.kind.GoalKind.{GoalKind}
 use Rattle.goal_kinds.specs.declared.kind.GoalKind.TheVariants.{Control, Builtin, World, Call}
 use Rattle.goal_kinds.specs.declared.kinds.GoalName.{GoalName}
+use Rattle.goal_kinds.specs.declared.kinds.KnownKind.{KnownKind}
 use Rattle.goal_kinds.specs.contracts.kinds.GoalNameOrd.TheImpl as name_ord
 
 abbrev pub IsNoControl : List ℕ → ℕ → Type 0
@@ -35,3 +36,7 @@ name_cmp = (name_ord.ghosts).cmp
 -- what the map knows is so, of names that are there
 abbrev pub AreKindsFor : List (List ℕ) → BTreeMap GoalName GoalKind → Type 0
 AreKindsFor names known = (g : GoalName) → IfSome (get name_cmp known g) (λ k. (g.name < length names) × IsKindOf (name_at names g.name) g.arity k)
+
+-- of each name that has an entry, what goals with so many arguments are
+abbrev pub AreFirstKinds : List (List ℕ) → List KnownKind → Type 0
+AreFirstKinds names first = (name : ℕ) → IfSome (slice_get first name) (λ k. IsKindOf (name_at names name) k.arity k.kind)

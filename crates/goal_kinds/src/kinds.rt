@@ -2,7 +2,7 @@
 ghost use Rattle.std.specs.Prelude.{◌≡◌, ◌<◌, IfOk, OnOk, length};
 ghost use Rattle.std.specs.Arc.{arc_value};
 ghost use Rattle.clause_compile.specs.AtomNumbers.{name_at};
-ghost use Rattle.goal_kinds.specs.Kinds.{IsKindOf, AreKindsFor};
+ghost use Rattle.goal_kinds.specs.Kinds.{IsKindOf, AreFirstKinds, AreKindsFor};
 
 use crate::kind::{GoalKind, kind_of_name};
 use au_term::{Atom, NoMemory};
@@ -18,6 +18,13 @@ pub(crate) struct GoalName {
     pub(crate) arity: u32,
 }
 
+/// What goals with a name and so many arguments are.
+#[derive(Clone, Copy)]
+pub(crate) struct KnownKind {
+    pub(crate) arity: u32,
+    pub(crate) kind: GoalKind,
+}
+
 /// Kinds by names and numbers of arguments.
 type Known = BTreeMap<GoalName, GoalKind>;
 
@@ -25,13 +32,15 @@ type Known = BTreeMap<GoalName, GoalKind>;
 #[derive(Drop)]
 pub struct GoalKinds {
     names: Vec<Atom>,
+    /// The kind of each name with one number of arguments, which is looked at first.
+    first: Vec<KnownKind>,
     known: Known,
 }
 
 impl Model for GoalKinds {
     ghost use Rattle.std.specs.Prelude.{ℕ, List};
     ghost use Rattle.std.specs.Coded.{coded_list, coded_ℕ};
-    ghost use Rattle.goal_kinds.specs.Kinds.{AreKindsFor};
+    ghost use Rattle.goal_kinds.specs.Kinds.{AreFirstKinds, AreKindsFor};
 
     ghost Value = { List (List ℕ) };
 
@@ -39,7 +48,7 @@ impl Model for GoalKinds {
 
     ghost view = { λ k. k.names.items };
 
-    ghost invariant = { λ k. AreKindsFor k.names.items k.known };
+    ghost invariant = { λ k. AreFirstKinds k.names.items k.first.items × AreKindsFor k.names.items k.known };
 }
 
 impl GoalKinds {
@@ -48,11 +57,16 @@ impl GoalKinds {
         ensures { IfOk result (λ kinds. kinds ≡ code.now.names) }
     {
         let names = names_of(alloc, code)?;
+        let mut first = kinds_of_atoms(alloc, &names)?;
         let mut known = BTreeMap::new(alloc);
         for at in 0..code.len() {
-            learn(code.place(at), &names, &mut known)?;
+            learn(code.place(at), &names, &mut first, &mut known)?;
         }
-        Ok(GoalKinds { names, known })
+        Ok(GoalKinds {
+            names,
+            first,
+            known,
+        })
     }
 
     /// How many names there are.
@@ -64,6 +78,17 @@ impl GoalKinds {
 
     /// What goals with this name, by its number, and number of arguments are.
     pub fn kind(&self, name: u32, arity: u32) -> GoalKind
+        requires { name < length self.now }
+        ensures { IsKindOf (name_at self.now name) arity result }
+    {
+        match self.first.get(name as usize) {
+            Some(first) if first.arity == arity => first.kind,
+            _ => self.further_kind(name, arity),
+        }
+    }
+
+    /// The same, but for the number of arguments that is looked at first.
+    fn further_kind(&self, name: u32, arity: u32) -> GoalKind
         requires { name < length self.now }
         ensures { IsKindOf (name_at self.now name) arity result }
     {
@@ -88,20 +113,39 @@ fn names_of(alloc: Global, code: &Code) -> Result<Vec<Atom>, NoMemory>
     Ok(names)
 }
 
-/// Notes what goals with the functor or atom at a place are.
-fn learn(place: Place, names: &[Atom], known: &mut Known) -> Result<(), NoMemory>
-    requires { AreKindsFor names.now known.old }
-    ensures { OnOk result (AreKindsFor names.now known.new) }
+/// What goals without arguments are, by the numbers of their names.
+fn kinds_of_atoms(alloc: Global, names: &[Atom]) -> Result<Vec<KnownKind>, NoMemory>
+    ensures { IfOk result (λ kinds. AreFirstKinds names.now kinds.items) }
 {
-    let (name, arity) = match place {
-        Place::Functor(name, arity) => (name, arity),
-        Place::Atom(name) => (name, 0),
-        _ => return Ok(()),
-    };
-    let goal = GoalName { name, arity };
-    if (name as usize) < names.len() && !known.contains_key(&goal) {
-        let kind = kind_of_name(names[name as usize].text(), arity);
-        known.insert(goal, kind)?;
+    let mut kinds = Vec::new(alloc);
+    for number in 0..names.len() {
+        let kind = kind_of_name(names[number].text(), 0);
+        kinds.push(KnownKind { arity: 0, kind })?;
     }
+    Ok(kinds)
+}
+
+/// Notes what goals with the functor at a place are.
+fn learn(
+    place: Place,
+    names: &[Atom],
+    first: &mut [KnownKind],
+    known: &mut Known,
+) -> Result<(), NoMemory>
+    requires first { AreFirstKinds names.now first.old }
+    requires known { AreKindsFor names.now known.old }
+    ensures first { AreFirstKinds names.now first.new }
+    ensures known { OnOk result (AreKindsFor names.now known.new) }
+{
+    let Place::Functor(name, arity) = place else {
+        return Ok(());
+    };
+    let at = name as usize;
+    if at >= names.len() || at >= first.len() {
+        return Ok(());
+    }
+    let kind = kind_of_name(names[at].text(), arity);
+    first[at] = KnownKind { arity, kind };
+    known.insert(GoalName { name, arity }, kind)?;
     Ok(())
 }

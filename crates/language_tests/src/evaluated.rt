@@ -1,12 +1,10 @@
 //! Values from outside: the examples of ISO/IEC 13211-1, 9.1, 9.3 and 9.4, and the limits of 64 bits.
-ghost use Rattle.std.specs.Prelude.{◌≡◌};
-
+use crate::common::Part::{self, A, F, I, V};
+use crate::common::{expect, nested, term};
 use arith_eval::{EvalRefusal, eval};
-use au_model::build::{binary, unary};
 use au_model::{EvalName, Fault, TypeName};
-use au_term::{Atom, Cell, FlatTerm, NoMemory, TermBuilder};
+use au_term::NoMemory;
 use std::alloc::Global;
-use std::process::Abort;
 use std::test::Fail;
 
 /// What is seen of an evaluation.
@@ -29,17 +27,13 @@ fn seen_of(answer: Result<i64, EvalRefusal>) -> Seen {
     }
 }
 
-fn integer(alloc: Global, value: i64) -> Result<FlatTerm, NoMemory> {
-    FlatTerm::from_slice(alloc, &[Cell::Int(value)])
-}
-
 const OVERFLOW: Seen = Seen::Error(EvalName::IntOverflow);
 
 const ZERO: Seen = Seen::Error(EvalName::ZeroDivisor);
 
 const UNDEFINED: Seen = Seen::Error(EvalName::Undefined);
 
-const BINARY: [(i64, &str, i64, Seen); 40] = [
+const BINARY: [(i64, &str, i64, Seen); 62] = [
     (7, "+", 35, Seen::Value(42)),
     (0, "-", 11, Seen::Value(-11)),
     (7, "*", 35, Seen::Value(245)),
@@ -80,9 +74,31 @@ const BINARY: [(i64, &str, i64, Seen); 40] = [
     (10, "/\\", 12, Seen::Value(8)),
     (10, "\\/", 12, Seen::Value(14)),
     (1, "foo", 2, Seen::NotEvaluable),
+    (i64::MIN, "+", -1, OVERFLOW),
+    (i64::MAX, "-", -1, OVERFLOW),
+    (i64::MIN, "*", -1, OVERFLOW),
+    (i64::MAX, "*", -1, Seen::Value(-i64::MAX)),
+    (i64::MIN, "/", -1, OVERFLOW),
+    (7, "/", 0, ZERO),
+    (7, "mod", 2, Seen::Value(1)),
+    (7, "mod", 0, ZERO),
+    (7, "rem", 2, Seen::Value(1)),
+    (-7, "rem", -2, Seen::Value(-1)),
+    (i64::MIN, "rem", -1, Seen::Value(0)),
+    (i64::MIN, "min", i64::MAX, Seen::Value(i64::MIN)),
+    (i64::MIN, "max", i64::MAX, Seen::Value(i64::MAX)),
+    (1, "^", i64::MIN, Seen::Value(1)),
+    (-1, "^", i64::MIN, Seen::Value(1)),
+    (1, "<<", 63, OVERFLOW),
+    (5, "<<", -1, Seen::Value(2)),
+    (-1, "<<", i64::MIN, Seen::Value(-1)),
+    (i64::MIN, ">>", 63, Seen::Value(-1)),
+    (i64::MAX, ">>", 64, Seen::Value(0)),
+    (8, ">>", -1, Seen::Value(16)),
+    (0, ">>", i64::MIN, Seen::Value(0)),
 ];
 
-const UNARY: [(&str, i64, Seen); 7] = [
+const UNARY: [(&str, i64, Seen); 11] = [
     ("-", i64::MIN, OVERFLOW),
     ("+", -1, Seen::Value(-1)),
     ("abs", i64::MIN, OVERFLOW),
@@ -90,81 +106,53 @@ const UNARY: [(&str, i64, Seen); 7] = [
     ("sign", -7, Seen::Value(-1)),
     ("\\", 10, Seen::Value(-11)),
     ("foo", 1, Seen::NotEvaluable),
+    ("-", i64::MAX, Seen::Value(-i64::MAX)),
+    ("sign", i64::MIN, Seen::Value(-1)),
+    ("sign", 0, Seen::Value(0)),
+    ("\\", i64::MIN, Seen::Value(i64::MAX)),
 ];
+
+fn value(alloc: Global, parts: &[Part]) -> Result<Seen, NoMemory> {
+    Ok(seen_of(eval(alloc, &term(alloc, parts)?)))
+}
 
 #[test]
 fn functions(rt: HostRuntime) -> Result<(), Fail> {
-    let alloc = rt.alloc();
     for (x, name, y, expected) in BINARY {
-        let term = FlatTerm::from_slice(alloc, &[Cell::Int(x)])?;
-        let term = pair(alloc, name, &term, &integer(alloc, y)?)?;
-        assert_eq!(rt; seen_of(eval(alloc, &term)), expected, "{x} {name} {y}");
+        let found = value(rt.alloc(), &[F(name, 2), I(x), I(y)])?;
+        expect(&rt, found, expected, name);
     }
     for (name, x, expected) in UNARY {
-        let term = single(alloc, name, &integer(alloc, x)?)?;
-        assert_eq!(rt; seen_of(eval(alloc, &term)), expected, "{name} {x}");
+        expect(&rt, value(rt.alloc(), &[F(name, 1), I(x)])?, expected, name);
     }
     Ok(())
 }
 
-fn pair(alloc: Global, name: &str, x: &FlatTerm, y: &FlatTerm) -> Result<FlatTerm, NoMemory> {
-    au_model::build::compound(alloc, Atom::new(alloc, name)?, &[x, y])
-}
-
-fn single(alloc: Global, name: &str, x: &FlatTerm) -> Result<FlatTerm, NoMemory> {
-    au_model::build::compound(alloc, Atom::new(alloc, name)?, &[x])
-}
+/// Terms with errors, and which of them is seen.
+static ERRORS: [(&[Part], Seen); 5] = [
+    (&[V(0)], Seen::Unbound),
+    (&[F("+", 2), V(0), A("foo")], Seen::Unbound),
+    (&[F("+", 2), A("foo"), V(0)], Seen::NotEvaluable),
+    (&[F("foo", 1), V(0)], Seen::NotEvaluable),
+    (&[F("+", 2), F("//", 2), I(1), I(0), A("foo")], ZERO),
+];
 
 #[test]
 fn errors(rt: HostRuntime) -> Result<(), Fail> {
-    let alloc = rt.alloc();
-    let variable = FlatTerm::from_slice(alloc, &[Cell::Var(0)])?;
-    let atom = FlatTerm::from_slice(alloc, &[Cell::Atom(Atom::new(alloc, "foo")?)])?;
-    let divided = binary(alloc, "//", &integer(alloc, 1)?, &integer(alloc, 0)?)?;
-    assert_eq!(rt; seen_of(eval(alloc, &variable)), Seen::Unbound);
-    assert_eq!(rt;
-        seen_of(eval(alloc, &binary(alloc, "+", &variable, &atom)?)),
-        Seen::Unbound
-    );
-    assert_eq!(rt;
-        seen_of(eval(alloc, &binary(alloc, "+", &atom, &variable)?)),
-        Seen::NotEvaluable
-    );
-    assert_eq!(rt;
-        seen_of(eval(alloc, &unary(alloc, "foo", &variable)?)),
-        Seen::NotEvaluable
-    );
-    assert_eq!(rt;
-        seen_of(eval(alloc, &binary(alloc, "+", &divided, &atom)?)),
-        ZERO
-    );
+    for (parts, expected) in &ERRORS {
+        expect(&rt, value(rt.alloc(), parts)?, *expected, "errors");
+    }
     Ok(())
 }
 
 /// `1 + (1 + ..)` and `(.. + 1) + 1`, nested a million times.
 #[test]
 fn deep(rt: HostRuntime) -> Result<(), Fail> {
-    let plus = Atom::new(rt.alloc(), "+")?;
-    for left in [true, false] {
-        let mut builder = TermBuilder::new(rt.alloc());
-        for _depth in 0..1_000_000u32 {
-            if builder.missing() > 0 {
-                builder.push(Cell::Functor(plus.share()?, 2))?;
-            }
-            if !left && builder.missing() > 0 {
-                builder.push(Cell::Int(1))?;
-            }
-        }
-        for _rest in 0..1_000_001u32 {
-            if builder.missing() > 0 {
-                builder.push(Cell::Int(1))?;
-            }
-        }
-        assert_eq!(rt; builder.missing(), 0);
-        assert_eq!(rt;
-            seen_of(eval(rt.alloc(), &builder.finish())),
-            Seen::Value(1_000_001)
-        );
-    }
+    let alloc = rt.alloc();
+    let right = nested(alloc, 1_000_000, &[F("+", 2), I(1)], 1, I(1))?;
+    let million = Seen::Value(1_000_001);
+    expect(&rt, seen_of(eval(alloc, &right)), million, "right");
+    let left = nested(alloc, 1_000_000, &[F("+", 2)], 1_000_001, I(1))?;
+    expect(&rt, seen_of(eval(alloc, &left)), million, "left");
     Ok(())
 }

@@ -1,31 +1,66 @@
 //! What goals are, by their names.
-use au_term::{Atom, Cell, TermBuilder};
+use crate::common::Part::A;
+use crate::common::{expect, term};
+use au_term::NoMemory;
 use clause_compile::Code;
 use goal_kinds::{GoalKind, GoalKinds, kind_of_name};
+use std::alloc::Global;
+use std::process::Abort;
 use std::test::Fail;
 use std_builtins::{Builtin, Control, WorldGoal};
 
+/// What a goal is.
+#[derive(Clone, Copy, Debug, PartialEq, Eq)]
+enum Seen {
+    Control(Control),
+    Builtin(Builtin),
+    World(WorldGoal),
+    Call,
+}
+
+fn seen_of(kind: GoalKind) -> Seen {
+    match kind {
+        GoalKind::Control(control) => Seen::Control(control),
+        GoalKind::Builtin(builtin) => Seen::Builtin(builtin),
+        GoalKind::World(goal) => Seen::World(goal),
+        GoalKind::Call => Seen::Call,
+    }
+}
+
+const NAMES: [(&str, u32, Seen); 4] = [
+    ("!", 0, Seen::Control(Control::Cut)),
+    ("is", 2, Seen::Builtin(Builtin::Is)),
+    ("nl", 0, Seen::World(WorldGoal::Nl)),
+    ("is", 3, Seen::Call),
+];
+
 #[test]
-fn goals_are_told_by_name_and_number_of_arguments(rt: HostRuntime) -> Result<(), Fail> {
-    assert!(rt; matches!(kind_of_name("!", 0), GoalKind::Control(Control::Cut)));
-    assert!(rt; matches!(kind_of_name("is", 2), GoalKind::Builtin(Builtin::Is)));
-    assert!(rt; matches!(kind_of_name("nl", 0), GoalKind::World(WorldGoal::Nl)));
-    assert!(rt; matches!(kind_of_name("is", 3), GoalKind::Call));
-    Ok(())
+fn goals_are_told_by_name_and_number_of_arguments(rt: HostRuntime) {
+    for (name, arity, wanted) in NAMES {
+        expect(&rt, seen_of(kind_of_name(name, arity)), wanted, name);
+    }
+}
+
+/// A text of one name.
+fn named(alloc: Global, name: &'static str) -> Result<Code, NoMemory> {
+    let mut code = Code::new(alloc);
+    code.push_term(alloc, &term(alloc, &[A(name)])?)?;
+    Ok(code)
+}
+
+/// What the first name of a text is as a goal with so many arguments.
+fn first_kind(rt: &impl Abort, alloc: Global, code: &Code, arity: u32) -> Result<Seen, NoMemory> {
+    assert!(rt; code.names() > 0);
+    let kinds = GoalKinds::new(alloc, code)?;
+    Ok(seen_of(kinds.kind(0, arity)))
 }
 
 #[test]
 fn the_names_of_a_text_are_known(rt: HostRuntime) -> Result<(), Fail> {
     let alloc = rt.alloc();
-    let mut builder = TermBuilder::new(alloc);
-    assert!(rt; builder.missing() > 0);
-    builder.push(Cell::Atom(Atom::new(alloc, "fail")?))?;
-    assert_eq!(rt; builder.missing(), 0);
-    let mut code = Code::new(alloc);
-    code.push_term(alloc, &builder.finish())?;
-    assert!(rt; code.names() > 0);
-    let kinds = GoalKinds::new(alloc, &code)?;
-    assert!(rt; matches!(kinds.kind(0, 0), GoalKind::Control(Control::Fail)));
-    assert!(rt; matches!(kinds.kind(0, 1), GoalKind::Call));
+    let code = named(alloc, "fail")?;
+    for (arity, wanted) in [(0, Seen::Control(Control::Fail)), (1, Seen::Call)] {
+        expect(&rt, first_kind(&rt, alloc, &code, arity)?, wanted, "fail");
+    }
     Ok(())
 }

@@ -5,6 +5,8 @@
 #[cfg(test)]
 mod builtin_goals;
 #[cfg(test)]
+mod common;
+#[cfg(test)]
 mod evaluated;
 #[cfg(test)]
 mod kinds;

@@ -1,5 +1,8 @@
 //! What no clause gives: which clauses and goals certain terms make, and that long ones are made and dropped.
-use au_term::{Atom, Cell, FlatTerm, Shared, TermBuilder};
+use crate::common::{expect, hold};
+use crate::terms::Piece::{self, Name, Number, Variable};
+use crate::terms::{cell, finish, push, term};
+use au_term::{Cell, FlatTerm, NoMemory, Shared, TermBuilder};
 use clause_compile::{
     Clause, ClauseRefusal, Code, Goals, Item, Part, Place, Scope, body_goals, compile,
 };
@@ -8,248 +11,261 @@ use std::process::Abort;
 use std::sync::Arc;
 use std::test::Fail;
 
-/// A cell of a term that a test writes down.
-#[derive(Clone, Copy)]
-enum Piece {
-    Name(&'static str, u32),
-    Variable(u64),
-    Number(i64),
+fn compiled(alloc: Global, head: &[Piece], body: &[Piece]) -> Result<Arc<Clause>, ClauseRefusal> {
+    compile(alloc, &term(alloc, head)?, &term(alloc, body)?)
 }
 
-use Piece::{Name, Number, Variable};
+const CUT: Scope = Scope::Local(3);
 
-fn put(
-    rt: &impl Abort,
-    alloc: Global,
-    builder: &mut TermBuilder,
-    piece: Piece,
-) -> Result<(), Fail> {
-    assert!(rt; builder.missing() > 0);
-    match piece {
-        Name(name, arity) => {
-            let name = Atom::new(alloc, name)?;
-            assert!(rt; arity < 65536);
-            builder.push(if arity == 0 {
-                Cell::Atom(name)
-            } else {
-                Cell::Functor(name, arity)
-            })?;
-        }
-        Variable(number) => {
-            assert!(rt; number < 100);
-            builder.push(Cell::Var(number))?;
-        }
-        Number(value) => builder.push(Cell::Int(value))?,
-    }
-    Ok(())
-}
-
-fn term(rt: &impl Abort, alloc: Global, pieces: &[Piece]) -> Result<FlatTerm, Fail> {
-    let mut builder = TermBuilder::new(alloc);
-    for piece in pieces {
-        put(rt, alloc, &mut builder, *piece)?;
-    }
-    assert_eq!(rt; builder.missing(), 0);
-    Ok(builder.finish())
-}
-
-fn compiled(
-    rt: &impl Abort,
-    alloc: Global,
-    head: &[Piece],
-    body: &[Piece],
-) -> Result<Result<Arc<Clause>, ClauseRefusal>, Fail> {
-    let (head, body) = (term(rt, alloc, head)?, term(rt, alloc, body)?);
-    Ok(compile(alloc, &head, &body))
-}
-
-fn expect_goal(
-    rt: &impl Abort,
-    alloc: Global,
-    item: &Item,
-    expected: &[Piece],
-) -> Result<(), Fail> {
+fn is_goal(alloc: Global, item: &Item, expected: &[Piece]) -> Result<bool, NoMemory> {
     match item {
         Item::Goal { term: goal, cut } => {
-            assert_eq!(rt; *cut, Scope::Local(3));
-            let (goal, wanted) = (goal.to_term(alloc)?, term(rt, alloc, expected)?);
-            assert!(rt; goal.cells() == wanted.cells());
+            let same = goal.to_term(alloc)?.cells() == term(alloc, expected)?.cells();
+            Ok(same && *cut == CUT)
         }
-        _ => assert!(rt; false, "no goal"),
+        _ => Ok(false),
     }
-    Ok(())
 }
 
-fn expect_goals(
-    rt: &impl Abort,
-    alloc: Global,
-    goals: &Goals,
-    expected: &[&[Piece]],
-) -> Result<(), Fail> {
-    let mut found = 0;
+fn are_goals(alloc: Global, goals: &Goals, expected: &[&[Piece]]) -> Result<bool, NoMemory> {
+    let mut left = expected.iter();
     for item in goals.items() {
-        assert!(rt; found < expected.len());
-        expect_goal(rt, alloc, item, expected[found])?;
-        found += 1;
+        match left.next() {
+            Some(wanted) => {
+                if !is_goal(alloc, item, wanted)? {
+                    return Ok(false);
+                }
+            }
+            None => return Ok(false),
+        }
     }
-    assert_eq!(rt; found, expected.len());
-    Ok(())
+    Ok(left.next().is_none())
+}
+
+/// A clause's head and body, the head that is kept, how many variables it has, and its goals.
+struct Row {
+    head: &'static [Piece],
+    body: &'static [Piece],
+    kept: &'static [Piece],
+    vars: u64,
+    goals: &'static [&'static [Piece]],
+}
+
+static ROWS: [Row; 5] = [
+    Row {
+        head: &[Name("p", 1), Variable(0)],
+        body: &[Name(",", 2), Name("q", 1), Variable(0), Variable(1)],
+        kept: &[Name("p", 1), Variable(0)],
+        vars: 2,
+        goals: &[
+            &[Name("q", 1), Variable(0)],
+            &[Name("call", 1), Variable(1)],
+        ],
+    },
+    Row {
+        head: &[Name("p", 0)],
+        body: &[Name("true", 0)],
+        kept: &[Name("p", 0)],
+        vars: 0,
+        goals: &[],
+    },
+    Row {
+        head: &[Name("p", 0)],
+        body: &[
+            Name(",", 2),
+            Name(",", 2),
+            Name("a", 0),
+            Name("b", 0),
+            Name("c", 0),
+        ],
+        kept: &[Name("p", 0)],
+        vars: 0,
+        goals: &[&[Name("a", 0)], &[Name("b", 0)], &[Name("c", 0)]],
+    },
+    Row {
+        head: &[Name("p", 0)],
+        body: &[
+            Name(";", 2),
+            Name("->", 2),
+            Variable(0),
+            Variable(1),
+            Name("f", 1),
+            Variable(2),
+        ],
+        kept: &[Name("p", 0)],
+        vars: 3,
+        goals: &[&[
+            Name(";", 2),
+            Name("->", 2),
+            Name("call", 1),
+            Variable(0),
+            Name("call", 1),
+            Variable(1),
+            Name("f", 1),
+            Variable(2),
+        ]],
+    },
+    // `p(_5)` with the body `q(_3, _5)` is kept as `p(_0)` with the goal `q(_1, _0)`.
+    Row {
+        head: &[Name("p", 1), Variable(5)],
+        body: &[Name("q", 2), Variable(3), Variable(5)],
+        kept: &[Name("p", 1), Variable(0)],
+        vars: 2,
+        goals: &[&[Name("q", 2), Variable(1), Variable(0)]],
+    },
+];
+
+/// Whether a clause has this head, also as it is shared.
+fn has_head(alloc: Global, clause: &Clause, kept: &[Piece]) -> Result<bool, NoMemory> {
+    // The proof reads off that the numbers of its variables are small.
+    let _vars = clause.vars();
+    let wanted = term(alloc, kept)?;
+    let shifted = clause.shifted_head(0)?.to_term(alloc)?;
+    Ok(clause.head().cells() == wanted.cells() && shifted.cells() == wanted.cells())
 }
 
 /// The goals of a clause, none of which is before others.
-fn expect_clause(
-    rt: &impl Abort,
-    alloc: Global,
-    head: &[Piece],
-    body: &[Piece],
-    vars: u64,
-    expected: &[&[Piece]],
-) -> Result<(), Fail> {
-    let clause = compiled(rt, alloc, head, body)??;
-    assert_eq!(rt; clause.vars(), vars);
-    let wanted = term(rt, alloc, head)?;
-    assert!(rt; clause.shifted_head(0)?.to_term(alloc)?.cells() == wanted.cells());
-    let goals = clause.goals(alloc, 0, Scope::Local(3), &Goals::empty())?;
-    expect_goals(rt, alloc, &goals, expected)
+fn goals(alloc: Global, clause: &Clause) -> Result<Goals, NoMemory> {
+    // The proof reads off that the numbers of its variables are small.
+    let _vars = clause.vars();
+    clause.goals(alloc, 0, CUT, &Goals::empty())
+}
+
+fn is_compiled(alloc: Global, row: &Row) -> Result<bool, Fail> {
+    let clause = compiled(alloc, row.head, row.body)?;
+    let same = clause.vars() == row.vars && has_head(alloc, &clause, row.kept)?;
+    Ok(same && are_goals(alloc, &goals(alloc, &clause)?, row.goals)?)
 }
 
 #[test]
 fn clauses(rt: HostRuntime) -> Result<(), Fail> {
-    let alloc = rt.alloc();
-    let head = [Name("p", 1), Variable(0)];
-    let body = [Name(",", 2), Name("q", 1), Variable(0), Variable(1)];
-    let goals: [&[Piece]; 2] = [
-        &[Name("q", 1), Variable(0)],
-        &[Name("call", 1), Variable(1)],
-    ];
-    expect_clause(&rt, alloc, &head, &body, 2, &goals)?;
-    expect_clause(&rt, alloc, &[Name("p", 0)], &[Name("true", 0)], 0, &[])?;
-    let inner = [
-        Name(",", 2),
-        Name(",", 2),
-        Name("a", 0),
-        Name("b", 0),
-        Name("c", 0),
-    ];
-    let goals: [&[Piece]; 3] = [&[Name("a", 0)], &[Name("b", 0)], &[Name("c", 0)]];
-    expect_clause(&rt, alloc, &[Name("p", 0)], &inner, 0, &goals)?;
-    let body = [
-        Name(";", 2),
-        Name("->", 2),
-        Variable(0),
-        Variable(1),
-        Name("f", 1),
-        Variable(2),
-    ];
-    let kept = [
-        Name(";", 2),
-        Name("->", 2),
-        Name("call", 1),
-        Variable(0),
-        Name("call", 1),
-        Variable(1),
-        Name("f", 1),
-        Variable(2),
-    ];
-    expect_clause(&rt, alloc, &[Name("p", 0)], &body, 3, &[&kept])
-}
-
-/// `p(_5)` with the body `q(_3, _5)` has two variables, and is kept as `p(_0)` with the goal `q(_1, _0)`.
-#[test]
-fn numbered(rt: HostRuntime) -> Result<(), Fail> {
-    let alloc = rt.alloc();
-    let head = [Name("p", 1), Variable(5)];
-    let body = [Name("q", 2), Variable(3), Variable(5)];
-    let clause = compiled(&rt, alloc, &head, &body)??;
-    assert_eq!(rt; clause.vars(), 2);
-    let wanted = term(&rt, alloc, &[Name("p", 1), Variable(0)])?;
-    assert!(rt; clause.head().cells() == wanted.cells());
-    let goals = clause.goals(alloc, 0, Scope::Local(3), &Goals::empty())?;
-    let goal = [Name("q", 2), Variable(1), Variable(0)];
-    expect_goals(&rt, alloc, &goals, &[&goal])
-}
-
-#[test]
-fn refusals(rt: HostRuntime) -> Result<(), Fail> {
-    let alloc = rt.alloc();
-    let (p, one) = ([Name("p", 0)], [Number(1)]);
-    let either = [Name(";", 2), Name("a", 0), Number(1)];
-    let rows: [(&[Piece], &[Piece], ClauseRefusal); 4] = [
-        (&[Variable(0)], &[Name("true", 0)], ClauseRefusal::NoHead),
-        (
-            &one,
-            &[Name("true", 0)],
-            ClauseRefusal::NotCallable(Part::Head),
-        ),
-        (&p, &one, ClauseRefusal::NotCallable(Part::Body)),
-        (&p, &either, ClauseRefusal::NotCallable(Part::Body)),
-    ];
-    for (head, body, refusal) in rows {
-        assert!(rt; compiled(&rt, alloc, head, body)?.err() == Some(refusal));
+    for (at, row) in ROWS.iter().enumerate() {
+        expect(&rt, (at, is_compiled(rt.alloc(), row)?), (at, true), "row");
     }
     Ok(())
 }
+
+static REFUSALS: [(&[Piece], &[Piece], ClauseRefusal); 4] = [
+    (&[Variable(0)], &[Name("true", 0)], ClauseRefusal::NoHead),
+    (
+        &[Number(1)],
+        &[Name("true", 0)],
+        ClauseRefusal::NotCallable(Part::Head),
+    ),
+    (
+        &[Name("p", 0)],
+        &[Number(1)],
+        ClauseRefusal::NotCallable(Part::Body),
+    ),
+    (
+        &[Name("p", 0)],
+        &[Name(";", 2), Name("a", 0), Number(1)],
+        ClauseRefusal::NotCallable(Part::Body),
+    ),
+];
+
+#[test]
+fn refusals(rt: HostRuntime) {
+    for (head, body, refusal) in &REFUSALS {
+        let found = compiled(rt.alloc(), head, body).err();
+        hold(&rt, found == Some(*refusal), "refused");
+    }
+}
+
+fn shared(alloc: Global, pieces: &[Piece]) -> Result<Shared, NoMemory> {
+    Shared::from_term(alloc, term(alloc, pieces)?)
+}
+
+/// The goals of a body before others.
+fn before(alloc: Global, body: &[Piece], following: &Goals) -> Result<Goals, ClauseRefusal> {
+    body_goals(alloc, &shared(alloc, body)?, CUT, following)
+}
+
+/// The goal `c`.
+fn last_goal(alloc: Global) -> Result<Goals, NoMemory> {
+    let term = shared(alloc, &[Name("c", 0)])?;
+    Goals::empty().push(alloc, Item::Goal { term, cut: CUT })
+}
+
+fn rest(rt: &impl Abort, goals: &Goals) -> Result<Goals, NoMemory> {
+    assert!(rt; goals.first().is_some());
+    goals.rest()?.share()
+}
+
+static THREE: [&[Piece]; 3] = [&[Name("a", 0)], &[Name("b", 0)], &[Name("c", 0)]];
 
 #[test]
 fn goals_in_front(rt: HostRuntime) -> Result<(), Fail> {
     let alloc = rt.alloc();
-    let cut = Scope::Local(3);
-    let following = Shared::from_term(alloc, term(&rt, alloc, &[Name("c", 0)])?)?;
-    let following = Goals::empty().push(
-        alloc,
-        Item::Goal {
-            term: following,
-            cut,
-        },
-    )?;
-    let called = Shared::from_term(
-        alloc,
-        term(&rt, alloc, &[Name(",", 2), Name("a", 0), Name("b", 0)])?,
-    )?;
-    let goals = body_goals(alloc, &called, cut, &following)?;
-    let expected: [&[Piece]; 3] = [&[Name("a", 0)], &[Name("b", 0)], &[Name("c", 0)]];
-    expect_goals(&rt, alloc, &goals, &expected)?;
-    let first = Shared::from_term(alloc, term(&rt, alloc, &[Name("d", 0)])?)?;
-    let longer = body_goals(alloc, &first, cut, &goals)?;
-    assert!(rt; longer.first().is_some());
-    expect_goals(&rt, alloc, &longer.rest()?.share()?, &expected)?;
-    let number = Shared::from_term(alloc, term(&rt, alloc, &[Number(1)])?)?;
-    assert!(rt;
-        body_goals(alloc, &number, cut, &goals).err()
-            == Some(ClauseRefusal::NotCallable(Part::Body))
-    );
+    let called = [Name(",", 2), Name("a", 0), Name("b", 0)];
+    let goals = before(alloc, &called, &last_goal(alloc)?)?;
+    hold(&rt, are_goals(alloc, &goals, &THREE)?, "in front");
+    let longer = before(alloc, &[Name("d", 0)], &goals)?;
+    hold(&rt, are_goals(alloc, &rest(&rt, &longer)?, &THREE)?, "rest");
     Ok(())
 }
 
+#[test]
+fn no_goals_of_numbers(rt: HostRuntime) {
+    let refused = before(rt.alloc(), &[Number(1)], &Goals::empty()).err();
+    let wanted = ClauseRefusal::NotCallable(Part::Body);
+    hold(&rt, refused == Some(wanted), "a number");
+}
+
 /// `a, a, .., a, b` with a million commas.
-fn long_body(rt: &impl Abort, alloc: Global) -> Result<FlatTerm, Fail> {
+fn long_body(alloc: Global) -> Result<FlatTerm, NoMemory> {
+    let (comma, a) = (cell(alloc, Name(",", 2))?, cell(alloc, Name("a", 0))?);
     let mut builder = TermBuilder::new(alloc);
     for _comma in 0..1_000_000u32 {
-        put(rt, alloc, &mut builder, Name(",", 2))?;
-        put(rt, alloc, &mut builder, Name("a", 0))?;
+        push_both(&mut builder, &comma, &a)?;
     }
-    put(rt, alloc, &mut builder, Name("b", 0))?;
-    assert_eq!(rt; builder.missing(), 0);
-    Ok(builder.finish())
+    push(&mut builder, cell(alloc, Name("b", 0))?)?;
+    finish(builder)
+}
+
+fn push_both(builder: &mut TermBuilder, first: &Cell, second: &Cell) -> Result<(), NoMemory> {
+    push(builder, first.share()?)?;
+    push(builder, second.share()?)
+}
+
+fn count(goals: &Goals) -> u64 {
+    let mut found = 0u64;
+    for _item in goals.items() {
+        found = found.saturating_add(1);
+    }
+    found
 }
 
 #[test]
 fn long(rt: HostRuntime) -> Result<(), Fail> {
     let alloc = rt.alloc();
-    let head = term(&rt, alloc, &[Name("p", 0)])?;
-    let clause = compile(alloc, &head, &long_body(&rt, alloc)?)?;
-    assert_eq!(rt; clause.vars(), 0);
-    let goals = clause.goals(alloc, 0, Scope::Local(3), &Goals::empty())?;
-    let mut found = 0u64;
-    for _item in goals.items() {
-        found = found.saturating_add(1);
-    }
-    assert_eq!(rt; found, 1_000_001);
+    let head = term(alloc, &[Name("p", 0)])?;
+    let clause = compile(alloc, &head, &long_body(alloc)?)?;
+    expect(&rt, clause.vars(), 0, "variables");
+    let goals = goals(alloc, &clause)?;
+    expect(&rt, count(&goals), 1_000_001, "goals");
     Ok(())
 }
 
-/// The places of `p(f(X, a), X) :- q(X, a), r.`, where `a`, `f`, `p`, `q` and `r` are met in this order.
-const PLACES: [Place; 9] = [
+/// `p(f(X, a), X) :- q(X, a), r.`
+static HEAD: [Piece; 5] = [
+    Name("p", 2),
+    Name("f", 2),
+    Variable(7),
+    Name("a", 0),
+    Variable(7),
+];
+
+static BODY: [Piece; 5] = [
+    Name(",", 2),
+    Name("q", 2),
+    Variable(7),
+    Name("a", 0),
+    Name("r", 0),
+];
+
+/// Its places, where `a`, `f`, `p`, `q` and `r` are met in this order.
+static PLACES: [Place; 9] = [
     Place::Functor(1, 2),
     Place::Var(0),
     Place::Atom(0),
@@ -261,40 +277,28 @@ const PLACES: [Place; 9] = [
     Place::Atom(0),
 ];
 
+/// Whether a clause's head and goals are at these places.
+fn is_placed(alloc: Global, code: &mut Code, head: Place, goals: &[Place]) -> Result<bool, Fail> {
+    let clause = compiled(alloc, &HEAD, &BODY)?;
+    let made = code.push_clause(alloc, &clause)?;
+    Ok(made.head == head && made.goals.as_slice() == goals)
+}
+
+fn place(rt: &impl Abort, code: &Code, at: usize) -> Place {
+    assert!(rt; at < code.len());
+    code.place(at)
+}
+
 #[test]
 fn places(rt: HostRuntime) -> Result<(), Fail> {
     let alloc = rt.alloc();
-    let head = term(
-        &rt,
-        alloc,
-        &[
-            Name("p", 2),
-            Name("f", 2),
-            Variable(7),
-            Name("a", 0),
-            Variable(7),
-        ],
-    )?;
-    let body = term(
-        &rt,
-        alloc,
-        &[
-            Name(",", 2),
-            Name("q", 2),
-            Variable(7),
-            Name("a", 0),
-            Name("r", 0),
-        ],
-    )?;
-    let clause = compile(alloc, &head, &body)?;
     let mut code = Code::new(alloc);
-    let made = code.push_clause(alloc, &clause)?;
-    assert_eq!(rt; made.head, Place::Sub(3));
-    assert!(rt; made.goals.as_slice() == [Place::Sub(6), Place::Atom(4)].as_slice());
-    assert_eq!(rt; code.len(), PLACES.len());
-    for (at, place) in PLACES.iter().enumerate() {
-        assert!(rt; at < code.len());
-        assert_eq!(rt; code.place(at), *place);
+    let goals = [Place::Sub(6), Place::Atom(4)];
+    let placed = is_placed(alloc, &mut code, Place::Sub(3), &goals)?;
+    hold(&rt, placed, "clause");
+    expect(&rt, code.len(), PLACES.len(), "length");
+    for (at, wanted) in PLACES.iter().enumerate() {
+        expect(&rt, place(&rt, &code, at), *wanted, "place");
     }
     Ok(())
 }

@@ -1,4 +1,5 @@
 //! Calls one by one, thousands of them beside a list, and many facts found by their keys.
+use crate::common::{expect, hold};
 use au_model::build::{atom, compound, single};
 use au_term::{Atom, Cell, FlatTerm, NoMemory};
 use clause_compile::{Clause, ClauseId, compile};
@@ -27,199 +28,383 @@ fn fact(alloc: Global, name: &str, first: First) -> Result<Arc<Clause>, Fail> {
     Ok(compile(alloc, &head(alloc, name, first)?, &atom(alloc, "true")?)?)
 }
 
-fn procedure(alloc: Global, name: &str, arity: u32) -> Result<Indicator, NoMemory> {
-    Ok(Indicator {
-        name: Atom::new(alloc, name)?,
-        arity,
-    })
+/// The procedure of this name with one argument.
+fn procedure(alloc: Global, name: &str) -> Result<Indicator, NoMemory> {
+    let name = Atom::new(alloc, name)?;
+    Ok(Indicator { name, arity: 1 })
 }
 
-/// The clauses are these facts.
-fn expect(
-    rt: &impl Abort,
+/// What a procedure has.
+#[derive(Clone, Copy)]
+enum Kept<'a> {
+    Unknown,
+    Static,
+    Facts(&'a [Fact]),
+}
+
+fn is_fact(alloc: Global, name: &str, clause: &Clause, first: First) -> Result<bool, NoMemory> {
+    Ok(clause.head().cells() == head(alloc, name, first)?.cells())
+}
+
+fn are_facts(
+    alloc: Global,
+    name: &str,
+    found: &[(ClauseId, Arc<Clause>)],
+    facts: &[Fact],
+) -> Result<bool, NoMemory> {
+    let mut same = found.len() == facts.len();
+    for ((id, clause), (number, first)) in found.iter().zip(facts) {
+        same = same && id.0 == *number && is_fact(alloc, name, clause, *first)?;
+    }
+    Ok(same)
+}
+
+fn is_kept(
     alloc: Global,
     name: &str,
     snapshot: &Snapshot,
-    facts: &[Fact],
+    wanted: Kept<'_>,
+) -> Result<bool, NoMemory> {
+    match (snapshot, wanted) {
+        (Snapshot::Unknown, Kept::Unknown) => Ok(true),
+        (Snapshot::Static, Kept::Static) => Ok(true),
+        (Snapshot::Clauses(found), Kept::Facts(facts)) => are_facts(alloc, name, found, facts),
+        _ => Ok(false),
+    }
+}
+
+/// What is done with a database, with its answer; of a fact that is added its number.
+#[derive(Clone, Copy)]
+enum Step {
+    Declare(&'static str, Result<(), DataRefusal>),
+    AddFirst(&'static str, First, Option<u64>),
+    AddLast(&'static str, First, Option<u64>),
+    Remove(u64, Result<(), Gone>),
+    Abolish(&'static str, Result<(), Static>),
+    /// What a procedure has.
+    All(&'static str, Kept<'static>),
+    /// What it has for a number.
+    Matching(&'static str, i64, Kept<'static>),
+}
+
+fn declare(
+    alloc: Global,
+    database: &mut Database,
+    name: &str,
+    wanted: Result<(), DataRefusal>,
+) -> Result<bool, NoMemory> {
+    Ok(database.declare(&procedure(alloc, name)?) == wanted)
+}
+
+fn abolish(
+    alloc: Global,
+    database: &mut Database,
+    name: &str,
+    wanted: Result<(), Static>,
+) -> Result<bool, NoMemory> {
+    Ok(database.abolish(&procedure(alloc, name)?) == wanted)
+}
+
+fn remove(database: &mut Database, number: u64) -> Result<(), Gone> {
+    database.remove(ClauseId(number))
+}
+
+/// The number of a fact that is added.
+fn add_first(
+    alloc: Global,
+    database: &mut Database,
+    name: &str,
+    first: First,
+) -> Result<Option<u64>, Fail> {
+    match database.add_first(fact(alloc, name, first)?) {
+        Ok(id) => Ok(Some(id.0)),
+        Err(_) => Ok(None),
+    }
+}
+
+fn add_last(
+    alloc: Global,
+    database: &mut Database,
+    name: &str,
+    first: First,
+) -> Result<Option<u64>, Fail> {
+    match database.add_last(fact(alloc, name, first)?) {
+        Ok(id) => Ok(Some(id.0)),
+        Err(_) => Ok(None),
+    }
+}
+
+fn has_all(
+    alloc: Global,
+    database: &Database,
+    name: &str,
+    wanted: Kept<'_>,
+) -> Result<bool, NoMemory> {
+    let found = database.snapshot(&procedure(alloc, name)?)?;
+    is_kept(alloc, name, &found, wanted)
+}
+
+fn has_matching(
+    alloc: Global,
+    database: &Database,
+    name: &str,
+    key: i64,
+    wanted: Kept<'_>,
+) -> Result<bool, NoMemory> {
+    let found = database.matching(&procedure(alloc, name)?, &Key::Int(key))?;
+    is_kept(alloc, name, &found, wanted)
+}
+
+/// Takes a step, and says whether it comes to what it should.
+fn run(alloc: Global, database: &mut Database, step: Step) -> Result<bool, Fail> {
+    match step {
+        Step::Declare(name, wanted) => Ok(declare(alloc, database, name, wanted)?),
+        Step::AddFirst(name, first, id) => Ok(add_first(alloc, database, name, first)? == id),
+        Step::AddLast(name, first, id) => Ok(add_last(alloc, database, name, first)? == id),
+        Step::Remove(number, wanted) => Ok(remove(database, number) == wanted),
+        Step::Abolish(name, wanted) => Ok(abolish(alloc, database, name, wanted)?),
+        Step::All(name, wanted) => Ok(has_all(alloc, database, name, wanted)?),
+        Step::Matching(name, key, wanted) => {
+            Ok(has_matching(alloc, database, name, key, wanted)?)
+        }
+    }
+}
+
+fn run_all(
+    rt: &impl Abort,
+    alloc: Global,
+    database: &mut Database,
+    steps: &[Step],
 ) -> Result<(), Fail> {
-    let Snapshot::Clauses(found) = snapshot else {
-        panic!(rt; "no clauses");
-    };
-    assert_eq!(rt; found.len(), facts.len());
-    for ((id, clause), (number, first)) in found.iter().zip(facts) {
-        assert_eq!(rt; id.0, *number);
-        assert!(rt; clause.head().cells() == head(alloc, name, *first)?.cells());
+    for (at, step) in steps.iter().enumerate() {
+        expect(rt, (at, run(alloc, database, *step)?), (at, true), "step");
     }
     Ok(())
-}
-
-fn is_unknown(snapshot: &Snapshot) -> bool {
-    match snapshot {
-        Snapshot::Unknown => true,
-        _ => false,
-    }
-}
-
-fn is_static(snapshot: &Snapshot) -> bool {
-    match snapshot {
-        Snapshot::Static => true,
-        _ => false,
-    }
 }
 
 /// A database beside the static procedure `p/1`.
 fn beside_p(alloc: Global) -> Result<Database, Fail> {
     let mut statics = Vec::new(alloc);
-    statics.push(procedure(alloc, "p", 1)?)?;
+    statics.push(procedure(alloc, "p")?)?;
     Ok(Database::new(alloc, statics)?)
+}
+
+const BOTH: Kept<'static> = Kept::Facts(&[(1, Some(0)), (0, Some(1))]);
+
+static BEFORE: [Step; 3] = [
+    Step::Declare("q", Ok(())),
+    Step::All("q", Kept::Facts(&[])),
+    Step::AddLast("q", Some(1), Some(0)),
+];
+
+static AFTER: [Step; 2] = [Step::AddFirst("q", Some(0), Some(1)), Step::All("q", BOTH)];
+
+static REMOVED: [Step; 4] = [
+    Step::Declare("q", Ok(())),
+    Step::Remove(0, Ok(())),
+    Step::Remove(0, Err(Gone)),
+    Step::All("q", Kept::Facts(&[(1, Some(0))])),
+];
+
+fn snapshot(alloc: Global, database: &Database, name: &str) -> Result<Snapshot, NoMemory> {
+    database.snapshot(&procedure(alloc, name)?)
 }
 
 #[test]
 fn snapshots(rt: HostRuntime) -> Result<(), Fail> {
     let alloc = rt.alloc();
-    let q = procedure(alloc, "q", 1)?;
     let mut database = beside_p(alloc)?;
-    database.declare(&q)?;
-    expect(&rt, alloc, "q", &database.snapshot(&q)?, &[])?;
-    database.add_last(fact(alloc, "q", Some(1))?)?;
-    let before = database.snapshot(&q)?;
-    database.add_first(fact(alloc, "q", Some(0))?)?;
-    let both = [(1, Some(0)), (0, Some(1))];
-    expect(&rt, alloc, "q", &database.snapshot(&q)?, &both)?;
-    let copy = database.copy()?;
-    database.declare(&q)?;
-    assert!(rt; database.remove(ClauseId(0)) == Ok(()));
-    assert!(rt; database.remove(ClauseId(0)) == Err(Gone));
-    expect(&rt, alloc, "q", &database.snapshot(&q)?, &[(1, Some(0))])?;
-    expect(&rt, alloc, "q", &before, &[(0, Some(1))])?;
-    expect(&rt, alloc, "q", &copy.snapshot(&q)?, &both)
-}
-
-#[test]
-fn static_procedures(rt: HostRuntime) -> Result<(), Fail> {
-    let alloc = rt.alloc();
-    let p = procedure(alloc, "p", 1)?;
-    let mut database = beside_p(alloc)?;
-    assert!(rt; database.add_last(fact(alloc, "p", Some(1))?).is_err());
-    assert!(rt; database.add_first(fact(alloc, "p", Some(1))?).is_err());
-    assert!(rt; database.declare(&p) == Err(DataRefusal::Static));
-    assert!(rt; database.abolish(&p) == Err(Static));
-    assert!(rt; is_static(&database.snapshot(&p)?));
-    assert!(rt; is_static(&database.matching(&p, &Key::Any)?));
+    run_all(&rt, alloc, &mut database, &BEFORE)?;
+    let before = snapshot(alloc, &database, "q")?;
+    run_all(&rt, alloc, &mut database, &AFTER)?;
+    run_all(&rt, alloc, &mut database, &REMOVED)?;
+    let first = Kept::Facts(&[(0, Some(1))]);
+    hold(&rt, is_kept(alloc, "q", &before, first)?, "before");
     Ok(())
 }
 
 #[test]
-fn abolished_procedures(rt: HostRuntime) -> Result<(), Fail> {
+fn copies(rt: HostRuntime) -> Result<(), Fail> {
     let alloc = rt.alloc();
-    let q = procedure(alloc, "q", 1)?;
     let mut database = beside_p(alloc)?;
-    assert!(rt; is_unknown(&database.snapshot(&q)?));
-    database.add_last(fact(alloc, "q", Some(1))?)?;
-    assert!(rt; database.abolish(&q) == Ok(()));
-    assert!(rt; database.abolish(&q) == Ok(()));
-    assert!(rt; is_unknown(&database.snapshot(&q)?));
-    assert!(rt; is_unknown(&database.matching(&q, &Key::Int(1))?));
-    assert!(rt; database.remove(ClauseId(0)) == Err(Gone));
-    assert_eq!(rt; database.add_last(fact(alloc, "q", None)?)?.0, 1);
-    expect(&rt, alloc, "q", &database.snapshot(&q)?, &[(1, None)])
+    run_all(&rt, alloc, &mut database, &BEFORE)?;
+    run_all(&rt, alloc, &mut database, &AFTER)?;
+    let copy = database.copy()?;
+    run_all(&rt, alloc, &mut database, &REMOVED)?;
+    hold(&rt, has_all(alloc, &copy, "q", BOTH)?, "copy");
+    Ok(())
+}
+
+static STATICS: [Step; 6] = [
+    Step::AddLast("p", Some(1), None),
+    Step::AddFirst("p", Some(1), None),
+    Step::Declare("p", Err(DataRefusal::Static)),
+    Step::Abolish("p", Err(Static)),
+    Step::All("p", Kept::Static),
+    Step::Matching("p", 0, Kept::Static),
+];
+
+static ABOLISHED: [Step; 9] = [
+    Step::All("q", Kept::Unknown),
+    Step::AddLast("q", Some(1), Some(0)),
+    Step::Abolish("q", Ok(())),
+    Step::Abolish("q", Ok(())),
+    Step::All("q", Kept::Unknown),
+    Step::Matching("q", 1, Kept::Unknown),
+    Step::Remove(0, Err(Gone)),
+    Step::AddLast("q", None, Some(1)),
+    Step::All("q", Kept::Facts(&[(1, None)])),
+];
+
+#[test]
+fn static_and_abolished_procedures(rt: HostRuntime) -> Result<(), Fail> {
+    for steps in [STATICS.as_slice(), &ABOLISHED] {
+        let mut database = beside_p(rt.alloc())?;
+        run_all(&rt, rt.alloc(), &mut database, steps)?;
+    }
+    Ok(())
+}
+
+/// A database, and the facts of `p` that it should have.
+#[derive(Drop)]
+struct Beside {
+    database: Database,
+    facts: Vec<Fact>,
+}
+
+impl Beside {
+    /// A database with a fact of `q`, and an empty `p`.
+    fn new(alloc: Global) -> Result<Beside, Fail> {
+        let mut database = Database::new(alloc, Vec::new(alloc))?;
+        add_first(alloc, &mut database, "q", None)?;
+        declare(alloc, &mut database, "p", Ok(()))?;
+        Ok(Beside {
+            database,
+            facts: Vec::new(alloc),
+        })
+    }
+
+    fn add_first(&mut self, alloc: Global, first: First) -> Result<bool, Fail> {
+        let Some(number) = add_first(alloc, &mut self.database, "p", first)? else {
+            return Ok(false);
+        };
+        self.facts.insert(0, (number, first))?;
+        Ok(true)
+    }
+
+    fn add_last(&mut self, alloc: Global, first: First) -> Result<bool, Fail> {
+        let Some(number) = add_last(alloc, &mut self.database, "p", first)? else {
+            return Ok(false);
+        };
+        self.facts.push((number, first))?;
+        Ok(true)
+    }
+
+    fn start_anew(&mut self, alloc: Global) -> Result<bool, Fail> {
+        self.facts = Vec::new(alloc);
+        let abolished = abolish(alloc, &mut self.database, "p", Ok(()))?;
+        Ok(abolished && declare(alloc, &mut self.database, "p", Ok(()))?)
+    }
+
+    fn remove(&mut self, alloc: Global, number: u64) -> Result<bool, Fail> {
+        let mut others = Vec::new(alloc);
+        let mut count = 0u32;
+        for fact in &self.facts {
+            if fact.0 == number {
+                count = count.saturating_add(1);
+            } else {
+                others.push(*fact)?;
+            }
+        }
+        self.facts = others;
+        Ok(remove(&mut self.database, number).is_ok() == (count == 1))
+    }
+
+    fn matches(&self, alloc: Global, key: i64) -> Result<bool, Fail> {
+        let mut allowed = Vec::new(alloc);
+        for fact in &self.facts {
+            if fact.1.is_none() || fact.1 == Some(key) {
+                allowed.push(*fact)?;
+            }
+        }
+        let wanted = Kept::Facts(&allowed);
+        Ok(has_matching(alloc, &self.database, "p", key, wanted)?)
+    }
+
+    fn has_all(&self, alloc: Global) -> Result<bool, Fail> {
+        let wanted = Kept::Facts(&self.facts);
+        Ok(has_all(alloc, &self.database, "p", wanted)?)
+    }
+
+    /// Whether more than two thousand facts were added.
+    fn has_many(&mut self, alloc: Global) -> Result<bool, Fail> {
+        Ok(add_last(alloc, &mut self.database, "p", None)? > Some(2000))
+    }
+
+    /// Takes the step that a random number says, and says whether database and list come to the same.
+    fn step(&mut self, alloc: Global, seed: u32) -> Result<bool, Fail> {
+        let key = i64::from(seed >> 28);
+        let first = if key == 0 { None } else { Some(key) };
+        match (seed >> 16) % 16 {
+            0..=2 => self.add_first(alloc, first),
+            3..=5 => self.add_last(alloc, first),
+            6 if key < 2 => self.start_anew(alloc),
+            7..=9 => self.remove(alloc, u64::from(seed >> 20)),
+            10..=12 => self.matches(alloc, key),
+            _ => self.has_all(alloc),
+        }
+    }
 }
 
 #[test]
 fn beside_a_list(rt: HostRuntime) -> Result<(), Fail> {
     let alloc = rt.alloc();
-    let (p, q) = (procedure(alloc, "p", 1)?, procedure(alloc, "q", 1)?);
-    let mut database = Database::new(alloc, Vec::new(alloc))?;
-    let mut next = database.add_first(fact(alloc, "q", None)?)?.0;
-    let mut facts: Vec<Fact> = Vec::new(alloc);
+    let mut both = Beside::new(alloc)?;
     let mut seed = 1u32;
-    database.declare(&p)?;
     for _ in 0..6000u32 {
         seed = seed.wrapping_mul(1_664_525).wrapping_add(1_013_904_223);
-        let number = u64::from(seed >> 20);
-        let key = i64::from(seed >> 28);
-        let first = if key == 0 { None } else { Some(key) };
-        match (seed >> 16) % 16 {
-            0..=2 => {
-                next = database.add_first(fact(alloc, "p", first)?)?.0;
-                let mut longer = Vec::new(alloc);
-                longer.push((next, first))?;
-                for old in facts {
-                    longer.push(old)?;
-                }
-                facts = longer;
-            }
-            3..=5 => {
-                next = database.add_last(fact(alloc, "p", first)?)?.0;
-                facts.push((next, first))?;
-            }
-            6 if key < 2 => {
-                assert!(rt; database.abolish(&p) == Ok(()));
-                database.declare(&p)?;
-                facts = Vec::new(alloc);
-            }
-            7..=9 => {
-                let mut others = Vec::new(alloc);
-                let mut count = 0u32;
-                for old in facts {
-                    if old.0 == number {
-                        count = count.saturating_add(1);
-                    } else {
-                        others.push(old)?;
-                    }
-                }
-                facts = others;
-                assert_eq!(rt; database.remove(ClauseId(number)).is_ok(), count == 1);
-            }
-            10..=12 => {
-                let mut allowed = Vec::new(alloc);
-                for old in &facts {
-                    if old.1.is_none() || old.1 == Some(key) {
-                        allowed.push(*old)?;
-                    }
-                }
-                expect(
-                    &rt,
-                    alloc,
-                    "p",
-                    &database.matching(&p, &Key::Int(key))?,
-                    &allowed,
-                )?;
-            }
-            _ => expect(&rt, alloc, "p", &database.snapshot(&p)?, &facts)?,
-        }
+        hold(&rt, both.step(alloc, seed)?, "beside a list");
     }
-    assert!(rt; next > 2000);
-    expect(&rt, alloc, "p", &database.copy()?.snapshot(&p)?, &facts)?;
-    expect(
-        &rt,
-        alloc,
-        "q",
-        &database.matching(&q, &Key::Int(0))?,
-        &[(0, None)],
-    )?;
+    hold(&rt, has_copied(alloc, &both)?, "copy");
+    hold(&rt, both.has_many(alloc)?, "many");
     Ok(())
+}
+
+/// Whether a copy has the same.
+fn has_copied(alloc: Global, both: &Beside) -> Result<bool, Fail> {
+    let copy = both.database.copy()?;
+    let all = has_all(alloc, &copy, "p", Kept::Facts(&both.facts))?;
+    Ok(all && has_matching(alloc, &copy, "q", 0, Kept::Facts(&[(0, None)]))?)
+}
+
+/// Facts of `p`, each with its number, the first one last.
+fn many(alloc: Global, count: i64) -> Result<Database, Fail> {
+    let mut database = Database::new(alloc, Vec::new(alloc))?;
+    for number in 0..count {
+        add_first(alloc, &mut database, "p", Some(number))?;
+    }
+    Ok(database)
+}
+
+/// Finds a fact by its key, and removes it.
+fn takes(alloc: Global, database: &mut Database, number: u64, key: i64) -> Result<bool, NoMemory> {
+    let fact = [(number, Some(key))];
+    let found = has_matching(alloc, database, "p", key, Kept::Facts(&fact))?;
+    Ok(found && remove(database, number).is_ok())
 }
 
 #[test]
 fn found_by_their_keys(rt: HostRuntime) -> Result<(), Fail> {
     let alloc = rt.alloc();
-    let p = procedure(alloc, "p", 1)?;
-    let mut database = Database::new(alloc, Vec::new(alloc))?;
-    for number in 0..100_000i64 {
-        database.add_first(fact(alloc, "p", Some(number))?)?;
+    let mut database = many(alloc, 100_000)?;
+    for number in 0..100_000u32 {
+        let found = takes(alloc, &mut database, u64::from(number), i64::from(number))?;
+        hold(&rt, found, "by its key");
     }
-    for number in 0..100_000u64 {
-        let key = i64::try_from(number)?;
-        expect(
-            &rt,
-            alloc,
-            "p",
-            &database.matching(&p, &Key::Int(key))?,
-            &[(number, Some(key))],
-        )?;
-        assert!(rt; database.remove(ClauseId(number)) == Ok(()));
-    }
-    expect(&rt, alloc, "p", &database.snapshot(&p)?, &[])?;
+    hold(
+        &rt,
+        has_all(alloc, &database, "p", Kept::Facts(&[]))?,
+        "none",
+    );
     Ok(())
 }

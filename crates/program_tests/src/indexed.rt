@@ -1,100 +1,109 @@
 //! What no clause gives: the clauses that are found among those of certain heads.
 ghost use Rattle.std.specs.Prelude.{◌≡◌, ◌<◌};
 
-use au_term::{Atom, Cell, FlatTerm, Steps, TermBuilder};
-use clause_compile::compile;
-use proc_index::{Key, Procs};
+use crate::common::{expect, hold};
+use crate::terms::Piece::{self, Name, Number, Variable};
+use crate::terms::term;
+use au_term::{Atom, NoMemory, Steps};
+use clause_compile::{Clause, compile};
+use proc_index::{Key, Procs, Taken};
 use std::alloc::Global;
 use std::marker::Brand;
 use std::process::Abort;
 use std::sync::ledger::{Blank, Ledger};
 use std::test::Fail;
 
-/// The first argument of a head that a test writes down.
-#[derive(Clone, Copy)]
-enum First {
-    None,
-    Variable,
-    Number(i64),
-    Name(&'static str),
-    /// Of this name, around a number.
-    Around(&'static str),
-}
-
-fn put(rt: &impl Abort, builder: &mut TermBuilder, cell: Cell) -> Result<(), Fail> {
-    assert!(rt; builder.missing() > 0);
-    match cell {
-        Cell::Functor(name, _) => builder.push(Cell::Functor(name, 1))?,
-        Cell::Var(_) => builder.push(Cell::Var(0))?,
-        other => builder.push(other)?,
-    }
-    Ok(())
-}
-
-fn head(rt: &impl Abort, alloc: Global, name: &str, first: First) -> Result<FlatTerm, Fail> {
-    let mut builder = TermBuilder::new(alloc);
-    let name = Atom::new(alloc, name)?;
-    let top = match first {
-        First::None => Cell::Atom(name),
-        _ => Cell::Functor(name, 1),
-    };
-    put(rt, &mut builder, top)?;
-    match first {
-        First::None => {}
-        First::Variable => put(rt, &mut builder, Cell::Var(0))?,
-        First::Number(value) => put(rt, &mut builder, Cell::Int(value))?,
-        First::Name(name) => put(rt, &mut builder, Cell::Atom(Atom::new(alloc, name)?))?,
-        First::Around(name) => {
-            put(rt, &mut builder, Cell::Functor(Atom::new(alloc, name)?, 1))?;
-            put(rt, &mut builder, Cell::Int(0))?;
-        }
-    }
-    assert_eq!(rt; builder.missing(), 0);
-    Ok(builder.finish())
-}
-
-const HEADS: [(&str, First); 9] = [
-    ("p", First::Number(1)),
-    ("r", First::Around("f")),
-    ("p", First::Variable),
-    ("r", First::Around("g")),
-    ("p", First::Number(2)),
-    ("s", First::None),
-    ("p", First::None),
-    ("r", First::Name("f")),
-    ("s", First::None),
+static HEADS: [&[Piece]; 9] = [
+    &[Name("p", 1), Number(1)],
+    &[Name("r", 1), Name("f", 1), Number(0)],
+    &[Name("p", 1), Variable(0)],
+    &[Name("r", 1), Name("g", 1), Number(0)],
+    &[Name("p", 1), Number(2)],
+    &[Name("s", 0)],
+    &[Name("p", 0)],
+    &[Name("r", 1), Name("f", 0)],
+    &[Name("s", 0)],
 ];
 
-fn procs(rt: &impl Abort, alloc: Global) -> Result<Procs, Fail> {
+fn procs(alloc: Global) -> Result<Procs, Fail> {
     let mut clauses = Vec::new(alloc);
-    let body = head(rt, alloc, "true", First::None)?;
-    for (name, first) in HEADS {
-        clauses.push(compile(alloc, &head(rt, alloc, name, first)?, &body)?)?;
+    let body = term(alloc, &[Name("true", 0)])?;
+    for head in HEADS {
+        clauses.push(compile(alloc, &term(alloc, head)?, &body)?)?;
     }
     Ok(Procs::new(alloc, clauses)?)
 }
 
-/// The candidates are the clauses with these of the heads.
-fn expect(
-    rt: &impl Abort,
+/// Whether a clause has one of the heads.
+fn is_clause(alloc: Global, clause: &Clause, place: usize) -> Result<bool, NoMemory> {
+    match HEADS.get(place) {
+        Some(head) => Ok(clause.head().cells() == term(alloc, head)?.cells()),
+        None => Ok(false),
+    }
+}
+
+/// Whether the candidates are the clauses with these of the heads; none where the procedure is undefined.
+fn are_candidates(
     alloc: Global,
     procs: &Procs,
     name: &str,
     arity: u32,
     key: &Key,
-    places: &[usize],
-) -> Result<(), Fail> {
+    places: Option<&[usize]>,
+) -> Result<bool, NoMemory> {
     let name = Atom::new(alloc, name)?;
-    let mut found = 0;
-    for clause in procs.candidates(&name, arity, key).ok_or("undefined")? {
-        assert!(rt; found < places.len());
-        assert!(rt; places[found] < HEADS.len());
-        let (name, first) = HEADS[places[found]];
-        assert!(rt; clause.head().cells() == head(rt, alloc, name, first)?.cells());
-        found += 1;
+    match (procs.candidates(&name, arity, key), places) {
+        (Some(found), Some(places)) => {
+            let mut left = places.iter();
+            for clause in found {
+                match left.next() {
+                    Some(place) => {
+                        if !is_clause(alloc, clause, *place)? {
+                            return Ok(false);
+                        }
+                    }
+                    None => return Ok(false),
+                }
+            }
+            Ok(left.next().is_none())
+        }
+        (None, None) => Ok(true),
+        _ => Ok(false),
     }
-    assert_eq!(rt; found, places.len());
-    Ok(())
+}
+
+fn take<L: Ledger>(
+    alloc: Global,
+    procs: &Procs,
+    arity: u32,
+    steps: &mut Steps<L>,
+) -> Result<Option<Taken>, NoMemory> {
+    let name = Atom::new(alloc, "p")?;
+    procs.take_candidates(alloc, &name, arity, &Key::Int(2), steps)
+}
+
+fn is_taken(
+    alloc: Global,
+    taken: &Option<Taken>,
+    at: usize,
+    place: usize,
+) -> Result<bool, NoMemory> {
+    match taken {
+        Some(taken) => {
+            if at >= taken.len() {
+                return Ok(false);
+            }
+            is_clause(alloc, taken.get(at), place)
+        }
+        None => Ok(false),
+    }
+}
+
+fn count(taken: &Option<Taken>) -> Option<usize> {
+    match taken {
+        Some(taken) => Some(taken.len()),
+        None => None,
+    }
 }
 
 /// Those that are taken are the candidates.
@@ -109,58 +118,64 @@ fn take_two<L: Ledger>(
     requires some { 0 < blank.parts }
 {
     let mut steps = Steps::<L>::new(blank);
-    let name = Atom::new(alloc, "p")?;
-    let taken = procs
-        .take_candidates(alloc, &name, 1, &Key::Int(2), &mut steps)?
-        .ok_or("undefined")?;
-    assert_eq!(rt; taken.len(), 2);
-    for (place, at) in [(0, 2), (1, 4)] {
-        assert!(rt; place < taken.len());
-        let (name, first) = HEADS[at];
-        assert!(rt; taken.get(place).head().cells() == head(rt, alloc, name, first)?.cells());
+    let found = take(alloc, procs, 1, &mut steps)?;
+    expect(rt, count(&found), Some(2), "two");
+    for (at, place) in [(0, 2), (1, 4)] {
+        hold(rt, is_taken(alloc, &found, at, place)?, "taken");
     }
-    let none = procs.take_candidates(alloc, &name, 2, &Key::Int(2), &mut steps)?;
-    assert!(rt; none.is_none());
+    let none = take(alloc, procs, 2, &mut steps)?;
+    expect(rt, count(&none), None, "none");
     Ok(())
 }
 
 #[test]
 fn taken(rt: HostRuntime) -> Result<(), Fail> {
-    let alloc = rt.alloc();
-    let procs = procs(&rt, alloc)?;
-    take_two::<Brand>(&rt, alloc, &procs, Blank::new(1))
+    let procs = procs(rt.alloc())?;
+    take_two::<Brand>(&rt, rt.alloc(), &procs, Blank::new(1))
 }
+
+/// A key of a first argument.
+#[derive(Clone, Copy)]
+enum First {
+    Any,
+    Number(i64),
+    Atom(&'static str),
+    Functor(&'static str, u32),
+}
+
+fn key(alloc: Global, first: First) -> Result<Key, NoMemory> {
+    Ok(match first {
+        First::Any => Key::Any,
+        First::Number(value) => Key::Int(value),
+        First::Atom(name) => Key::Atom(Atom::new(alloc, name)?),
+        First::Functor(name, arity) => Key::Functor(Atom::new(alloc, name)?, arity),
+    })
+}
+
+/// A procedure, a key, and the places of its candidates.
+type Row = (&'static str, u32, First, Option<&'static [usize]>);
+
+static CANDIDATES: [Row; 10] = [
+    ("p", 1, First::Number(2), Some(&[2, 4])),
+    ("p", 1, First::Any, Some(&[0, 2, 4])),
+    ("p", 1, First::Atom("a"), Some(&[2])),
+    ("r", 1, First::Functor("f", 1), Some(&[1])),
+    ("r", 1, First::Functor("f", 2), Some(&[])),
+    ("r", 1, First::Atom("f"), Some(&[7])),
+    ("p", 0, First::Any, Some(&[6])),
+    ("s", 0, First::Number(1), Some(&[5, 8])),
+    ("q", 1, First::Any, None),
+    ("p", 2, First::Any, None),
+];
 
 #[test]
 fn candidates(rt: HostRuntime) -> Result<(), Fail> {
     let alloc = rt.alloc();
-    let procs = procs(&rt, alloc)?;
-    let named = |name| Atom::new(alloc, name);
-    expect(&rt, alloc, &procs, "p", 1, &Key::Int(2), &[2, 4])?;
-    expect(&rt, alloc, &procs, "p", 1, &Key::Any, &[0, 2, 4])?;
-    expect(&rt, alloc, &procs, "p", 1, &Key::Atom(named("a")?), &[2])?;
-    expect(
-        &rt,
-        alloc,
-        &procs,
-        "r",
-        1,
-        &Key::Functor(named("f")?, 1),
-        &[1],
-    )?;
-    expect(
-        &rt,
-        alloc,
-        &procs,
-        "r",
-        1,
-        &Key::Functor(named("f")?, 2),
-        &[],
-    )?;
-    expect(&rt, alloc, &procs, "r", 1, &Key::Atom(named("f")?), &[7])?;
-    expect(&rt, alloc, &procs, "p", 0, &Key::Any, &[6])?;
-    expect(&rt, alloc, &procs, "s", 0, &Key::Int(1), &[5, 8])?;
-    assert!(rt; procs.candidates(&named("q")?, 1, &Key::Any).is_none());
-    assert!(rt; procs.candidates(&named("p")?, 2, &Key::Any).is_none());
+    let procs = procs(alloc)?;
+    for (name, arity, first, places) in &CANDIDATES {
+        let key = key(alloc, *first)?;
+        let same = are_candidates(alloc, &procs, name, *arity, &key, *places)?;
+        hold(&rt, same, name);
+    }
     Ok(())
 }

@@ -5,8 +5,12 @@
 #[cfg(test)]
 mod clauses;
 #[cfg(test)]
+mod common;
+#[cfg(test)]
 mod databases;
 #[cfg(test)]
 mod indexed;
 #[cfg(test)]
 mod loaded_texts;
+#[cfg(test)]
+mod terms;

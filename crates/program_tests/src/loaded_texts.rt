@@ -1,15 +1,16 @@
 //! Texts loaded: what no clause gives, which jobs certain texts make.
 
+use crate::common::{expect as same, hold};
 use au_model::FaultKind;
 use au_model::names::name_of;
-use au_term::{Atom, Cell};
+use au_term::{Atom, Cell, NoMemory};
 use clause_compile::Clause;
 use dyn_clauses::{Indicator, Snapshot};
 use std::alloc::Global;
 use std::process::Abort;
 use std::sync::Arc;
 use std::test::Fail;
-use text_load::{Job, LoadRefusal, load};
+use text_load::{Job, LoadRefusal, Query, load};
 
 /// What a procedure is in a job, with how many clauses it has.
 #[derive(Clone, Copy, Debug, PartialEq, Eq)]
@@ -55,202 +56,227 @@ fn expect(
     procedures: &[(&str, u32, Standing)],
 ) -> Result<(), Fail> {
     let Ok(job) = load(alloc, library, text) else {
-        panic!(rt; "{text}");
+        hold(rt, false, text);
+        return Ok(());
     };
     for (name, arity, wanted) in procedures {
         let found = standing_of(alloc, &job, name, *arity)?;
-        assert!(rt; found == *wanted, "{text} {name}/{arity}");
+        same(rt, (*name, *arity, found), (*name, *arity, *wanted), text);
     }
     Ok(())
+}
+
+const LIBRARY: &str = "q(a). q(b). p(z). p(y).";
+
+const TEXT: &str = "p(1). ?- p(X). p(2) :- q(_), X. ?- q(Y), p(Z), Y = _.";
+
+static PROCEDURES: [(&str, u32, Standing); 4] = [
+    ("p", 1, Standing::Static(2)),
+    ("q", 1, Standing::Static(2)),
+    ("p", 0, Standing::Unknown),
+    ("r", 1, Standing::Unknown),
+];
+
+/// How many names and variables each query of a job has.
+fn sizes(alloc: Global, queries: &[Query]) -> Result<Vec<(usize, u64)>, NoMemory> {
+    let mut sizes = Vec::new(alloc);
+    for query in queries {
+        sizes.push((query.names().len(), query.vars()))?;
+    }
+    Ok(sizes)
 }
 
 #[test]
 fn jobs(rt: HostRuntime) -> Result<(), Fail> {
-    let alloc = rt.alloc();
-    let text = "p(1). ?- p(X). p(2) :- q(_), X. ?- q(Y), p(Z), Y = _.";
-    let library = "q(a). q(b). p(z). p(y).";
-    let procedures = [
-        ("p", 1, Standing::Static(2)),
-        ("q", 1, Standing::Static(2)),
-        ("p", 0, Standing::Unknown),
-        ("r", 1, Standing::Unknown),
-    ];
-    expect(&rt, alloc, library, text, &procedures)?;
-    let job = load(alloc, library, text)?;
-    assert_eq!(rt; job.queries().len(), 2);
-    assert_eq!(rt; job.queries()[0].names().len(), 1);
-    assert_eq!(rt; job.queries()[1].names().len(), 2);
-    assert_eq!(rt; job.queries()[1].vars(), 3);
-    let parts = job.into_parts();
-    assert_eq!(rt; parts.queries.len(), 2);
+    expect(&rt, rt.alloc(), LIBRARY, TEXT, &PROCEDURES)?;
     Ok(())
 }
+
+#[test]
+fn queries(rt: HostRuntime) -> Result<(), Fail> {
+    let job = load(rt.alloc(), LIBRARY, TEXT)?;
+    let found = sizes(rt.alloc(), job.queries())?;
+    hold(&rt, found.as_slice() == [(1, 1), (2, 3)].as_slice(), TEXT);
+    let parts = job.into_parts();
+    same(&rt, parts.queries.len(), 2, TEXT);
+    Ok(())
+}
+
+/// A library whose procedures a text replaces.
+const REPLACED: &str = ":- dynamic(m/1). a(1). a(2). b(1). m(1). m(2). n(1).";
+
+/// A text over that library, and what a procedure is in their job.
+static DYNAMIC: [(&str, &str, u32, Standing); 20] = [
+    ("", "a", 1, Standing::Static(2)),
+    ("", "m", 1, Standing::Dynamic(2)),
+    ("m(3).", "m", 1, Standing::Static(1)),
+    (":- dynamic(m/1).", "m", 1, Standing::Dynamic(0)),
+    (":- dynamic(a/1).", "a", 1, Standing::Dynamic(0)),
+    (":- dynamic(a/1). a(3).", "a", 1, Standing::Dynamic(1)),
+    (":- dynamic(a/1). a(3).", "b", 1, Standing::Static(1)),
+    (":- discontiguous(a/1).", "a", 1, Standing::Static(2)),
+    (
+        ":- dynamic((p/1, (q/0, r/2), s/1)).",
+        "r",
+        2,
+        Standing::Dynamic(0),
+    ),
+    (
+        ":- dynamic([p/1, q/0]). p(1). p(2).",
+        "p",
+        1,
+        Standing::Dynamic(2),
+    ),
+    (
+        ":- dynamic([p/1, q/0]). p(1). p(2).",
+        "q",
+        0,
+        Standing::Dynamic(0),
+    ),
+    (":- dynamic([]). p(1).", "p", 1, Standing::Static(1)),
+    (
+        ":- dynamic(p/1). p(1). :- dynamic(p/1).",
+        "p",
+        1,
+        Standing::Dynamic(1),
+    ),
+    (":- dynamic(call/9).", "call", 9, Standing::Dynamic(0)),
+    (":- dynamic(p/65535).", "p", 65535, Standing::Dynamic(0)),
+    (
+        ":- op(1150, fx, dynamic). :- dynamic c/1. ?- c(X).",
+        "c",
+        1,
+        Standing::Dynamic(0),
+    ),
+    (
+        ":- op(700, xfx, ===>). p(a ===> b).",
+        "p",
+        1,
+        Standing::Static(1),
+    ),
+    (":- op(0, fy, -). p(\\ -1).", "p", 1, Standing::Static(1)),
+    (
+        ":- op(700, xfx, [o, p]). a o b. a p b.",
+        "o",
+        2,
+        Standing::Static(1),
+    ),
+    (":- op(200, xfy, []). p.", "p", 0, Standing::Static(1)),
+];
 
 #[test]
 fn dynamic_procedures(rt: HostRuntime) -> Result<(), Fail> {
-    let alloc = rt.alloc();
-    let library = ":- dynamic(m/1). a(1). a(2). b(1). m(1). m(2). n(1).";
-    for (text, name, arity, wanted) in [
-        ("", "a", 1, Standing::Static(2)),
-        ("", "m", 1, Standing::Dynamic(2)),
-        ("m(3).", "m", 1, Standing::Static(1)),
-        (":- dynamic(m/1).", "m", 1, Standing::Dynamic(0)),
-        (":- dynamic(a/1).", "a", 1, Standing::Dynamic(0)),
-        (":- dynamic(a/1). a(3).", "a", 1, Standing::Dynamic(1)),
-        (":- dynamic(a/1). a(3).", "b", 1, Standing::Static(1)),
-        (":- discontiguous(a/1).", "a", 1, Standing::Static(2)),
-        (
-            ":- dynamic((p/1, (q/0, r/2), s/1)).",
-            "r",
-            2,
-            Standing::Dynamic(0),
-        ),
-        (
-            ":- dynamic([p/1, q/0]). p(1). p(2).",
-            "p",
-            1,
-            Standing::Dynamic(2),
-        ),
-        (
-            ":- dynamic([p/1, q/0]). p(1). p(2).",
-            "q",
-            0,
-            Standing::Dynamic(0),
-        ),
-        (":- dynamic([]). p(1).", "p", 1, Standing::Static(1)),
-        (
-            ":- dynamic(p/1). p(1). :- dynamic(p/1).",
-            "p",
-            1,
-            Standing::Dynamic(1),
-        ),
-        (":- dynamic(call/9).", "call", 9, Standing::Dynamic(0)),
-        (":- dynamic(p/65535).", "p", 65535, Standing::Dynamic(0)),
-        (
-            ":- op(1150, fx, dynamic). :- dynamic c/1. ?- c(X).",
-            "c",
-            1,
-            Standing::Dynamic(0),
-        ),
-        (
-            ":- op(700, xfx, ===>). p(a ===> b).",
-            "p",
-            1,
-            Standing::Static(1),
-        ),
-        (":- op(0, fy, -). p(\\ -1).", "p", 1, Standing::Static(1)),
-        (
-            ":- op(700, xfx, [o, p]). a o b. a p b.",
-            "o",
-            2,
-            Standing::Static(1),
-        ),
-        (":- op(200, xfy, []). p.", "p", 0, Standing::Static(1)),
-    ] {
-        expect(&rt, alloc, library, text, &[(name, arity, wanted)])?;
+    for (text, name, arity, wanted) in &DYNAMIC {
+        expect(&rt, rt.alloc(), REPLACED, text, &[(*name, *arity, *wanted)])?;
     }
     Ok(())
 }
 
+/// A library, a text, and the line, column and kind of its fault.
+static REFUSALS: [(&str, &str, u32, u32, FaultKind); 30] = [
+    ("", "p. X.", 1, 4, FaultKind::BadClause),
+    ("", "p.\n % c\n :- q.", 3, 2, FaultKind::BadDirective),
+    ("", "p. ?- p, 1.", 1, 4, FaultKind::BadClause),
+    ("", "p. q(", 1, 6, FaultKind::UnexpectedEnd),
+    ("p(.", "1.", 1, 3, FaultKind::UnexpectedToken),
+    ("", ":- dynamic c/1.", 1, 12, FaultKind::UnexpectedToken),
+    ("", "p(1). :- dynamic(p/1).", 1, 7, FaultKind::StaticTwice),
+    (
+        "",
+        "p(1). :- dynamic([q/1, p/1]).",
+        1,
+        7,
+        FaultKind::StaticTwice,
+    ),
+    (
+        "",
+        "p(1). :- dynamic((p/1, q)).",
+        1,
+        7,
+        FaultKind::BadDirective,
+    ),
+    ("", ":- foo.", 1, 1, FaultKind::BadDirective),
+    ("", ":- dynamic(p/1, q/1).", 1, 1, FaultKind::BadDirective),
+    ("", ":- dynamic(X).", 1, 1, FaultKind::BadDirective),
+    ("", ":- dynamic(p/X).", 1, 1, FaultKind::BadDirective),
+    ("", ":- dynamic([p/1|q]).", 1, 1, FaultKind::BadDirective),
+    ("", ":- dynamic([p/1|X]).", 1, 1, FaultKind::BadDirective),
+    (
+        "",
+        ":- dynamic([(p/1, q/1)]).",
+        1,
+        1,
+        FaultKind::BadDirective,
+    ),
+    ("", ":- dynamic(p/65536).", 1, 1, FaultKind::BadDirective),
+    ("", ":- dynamic(p/ -1).", 1, 1, FaultKind::BadDirective),
+    ("", ":- dynamic(f(p)/1).", 1, 1, FaultKind::BadDirective),
+    ("", ":- dynamic(call/3).", 1, 1, FaultKind::BadDirective),
+    ("", ":- dynamic((',')/2).", 1, 1, FaultKind::BadDirective),
+    (
+        "",
+        ":- discontiguous(write/1).",
+        1,
+        1,
+        FaultKind::BadDirective,
+    ),
+    ("", ":- op(1201, xfx, a).", 1, 1, FaultKind::BadDirective),
+    (
+        "",
+        ":- op(700, xfx, [a, ',']).",
+        1,
+        1,
+        FaultKind::BadDirective,
+    ),
+    ("", ":- op(P, xfx, a).", 1, 1, FaultKind::BadDirective),
+    (
+        "",
+        ":- op(700, xfx, o). p(a o b). :- op(0, xfx, o). p(a o b).",
+        1,
+        53,
+        FaultKind::UnexpectedToken,
+    ),
+    (
+        ":- op(700, xfx, o). a o b.",
+        "a o b.",
+        1,
+        3,
+        FaultKind::UnexpectedToken,
+    ),
+    (
+        "",
+        ":- set_prolog_flag(double_quotes, foo).",
+        1,
+        1,
+        FaultKind::BadDirective,
+    ),
+    (
+        "",
+        ":- set_prolog_flag(bounded, true).",
+        1,
+        1,
+        FaultKind::BadDirective,
+    ),
+    (
+        "",
+        ":- set_prolog_flag(X, codes).",
+        1,
+        1,
+        FaultKind::BadDirective,
+    ),
+];
+
 #[test]
-fn refusals(rt: HostRuntime) -> Result<(), Fail> {
-    for (library, text, line, column, kind) in [
-        ("", "p. X.", 1, 4, FaultKind::BadClause),
-        ("", "p.\n % c\n :- q.", 3, 2, FaultKind::BadDirective),
-        ("", "p. ?- p, 1.", 1, 4, FaultKind::BadClause),
-        ("", "p. q(", 1, 6, FaultKind::UnexpectedEnd),
-        ("p(.", "1.", 1, 3, FaultKind::UnexpectedToken),
-        ("", ":- dynamic c/1.", 1, 12, FaultKind::UnexpectedToken),
-        ("", "p(1). :- dynamic(p/1).", 1, 7, FaultKind::StaticTwice),
-        (
-            "",
-            "p(1). :- dynamic([q/1, p/1]).",
-            1,
-            7,
-            FaultKind::StaticTwice,
-        ),
-        (
-            "",
-            "p(1). :- dynamic((p/1, q)).",
-            1,
-            7,
-            FaultKind::BadDirective,
-        ),
-        ("", ":- foo.", 1, 1, FaultKind::BadDirective),
-        ("", ":- dynamic(p/1, q/1).", 1, 1, FaultKind::BadDirective),
-        ("", ":- dynamic(X).", 1, 1, FaultKind::BadDirective),
-        ("", ":- dynamic(p/X).", 1, 1, FaultKind::BadDirective),
-        ("", ":- dynamic([p/1|q]).", 1, 1, FaultKind::BadDirective),
-        ("", ":- dynamic([p/1|X]).", 1, 1, FaultKind::BadDirective),
-        (
-            "",
-            ":- dynamic([(p/1, q/1)]).",
-            1,
-            1,
-            FaultKind::BadDirective,
-        ),
-        ("", ":- dynamic(p/65536).", 1, 1, FaultKind::BadDirective),
-        ("", ":- dynamic(p/ -1).", 1, 1, FaultKind::BadDirective),
-        ("", ":- dynamic(f(p)/1).", 1, 1, FaultKind::BadDirective),
-        ("", ":- dynamic(call/3).", 1, 1, FaultKind::BadDirective),
-        ("", ":- dynamic((',')/2).", 1, 1, FaultKind::BadDirective),
-        (
-            "",
-            ":- discontiguous(write/1).",
-            1,
-            1,
-            FaultKind::BadDirective,
-        ),
-        ("", ":- op(1201, xfx, a).", 1, 1, FaultKind::BadDirective),
-        (
-            "",
-            ":- op(700, xfx, [a, ',']).",
-            1,
-            1,
-            FaultKind::BadDirective,
-        ),
-        ("", ":- op(P, xfx, a).", 1, 1, FaultKind::BadDirective),
-        (
-            "",
-            ":- op(700, xfx, o). p(a o b). :- op(0, xfx, o). p(a o b).",
-            1,
-            53,
-            FaultKind::UnexpectedToken,
-        ),
-        (
-            ":- op(700, xfx, o). a o b.",
-            "a o b.",
-            1,
-            3,
-            FaultKind::UnexpectedToken,
-        ),
-        (
-            "",
-            ":- set_prolog_flag(double_quotes, foo).",
-            1,
-            1,
-            FaultKind::BadDirective,
-        ),
-        (
-            "",
-            ":- set_prolog_flag(bounded, true).",
-            1,
-            1,
-            FaultKind::BadDirective,
-        ),
-        (
-            "",
-            ":- set_prolog_flag(X, codes).",
-            1,
-            1,
-            FaultKind::BadDirective,
-        ),
-    ] {
+fn refusals(rt: HostRuntime) {
+    for (library, text, line, column, kind) in &REFUSALS {
         let refused = load(rt.alloc(), library, text).err();
-        let wanted = LoadRefusal::Refused { line, column, kind };
-        assert!(rt; refused == Some(wanted), "{text}");
+        let wanted = LoadRefusal::Refused {
+            line: *line,
+            column: *column,
+            kind: *kind,
+        };
+        hold(&rt, refused == Some(wanted), text);
     }
-    Ok(())
 }
 
 /// Whether the argument of a clause's head begins with this name.
@@ -262,15 +288,15 @@ fn begins_with(clause: &Arc<Clause>, wanted: &str) -> bool {
     }
 }
 
+const QUOTES: &str = "p(\"ab\"). :- set_prolog_flag(double_quotes, atom). p(\"ab\"). \
+    :- set_prolog_flag(double_quotes, chars). p(\"\"). p(\"a\").";
+
 #[test]
 fn double_quotes(rt: HostRuntime) -> Result<(), Fail> {
-    let alloc = rt.alloc();
-    let text = "p(\"ab\"). :- set_prolog_flag(double_quotes, atom). p(\"ab\"). \
-        :- set_prolog_flag(double_quotes, chars). p(\"\"). p(\"a\").";
-    let job = load(alloc, "", text)?;
-    assert_eq!(rt; job.clauses().len(), 4);
+    let job = load(rt.alloc(), "", QUOTES)?;
+    same(&rt, job.clauses().len(), 4, QUOTES);
     for (clause, wanted) in job.clauses().iter().zip([".", "ab", "[]", "."]) {
-        assert!(rt; begins_with(clause, wanted), "{wanted}");
+        hold(&rt, begins_with(clause, wanted), wanted);
     }
     Ok(())
 }
@@ -286,32 +312,51 @@ fn numbered(alloc: Global, count: u32, before: &str, after: &str) -> Result<Stri
     Ok(text)
 }
 
+/// Two runs of so many pieces, each between two words.
+fn twice(
+    alloc: Global,
+    count: u32,
+    first: (&str, &str),
+    second: (&str, &str),
+) -> Result<String, Fail> {
+    let mut text = numbered(alloc, count, first.0, first.1)?;
+    text.push_str(&numbered(alloc, count, second.0, second.1)?)?;
+    Ok(text)
+}
+
 #[test]
 fn long_texts(rt: HostRuntime) -> Result<(), Fail> {
     let alloc = rt.alloc();
-    let mut operators = numbered(alloc, 1_000, ":- op(700, xfx, o", "). ")?;
-    operators.push_str(&numbered(alloc, 1_000, "p(1 o", " 2). ")?)?;
-    expect(
-        &rt,
+    let operators = twice(
         alloc,
-        "",
-        &operators,
-        &[("p", 1, Standing::Static(1_000))],
+        1_000,
+        (":- op(700, xfx, o", "). "),
+        ("p(1 o", " 2). "),
     )?;
-    let mut clauses = format!(in alloc; ":- dynamic(p/1). ")?;
-    clauses.push_str(&numbered(alloc, 2_000, "p(", "). ")?)?;
-    expect(
-        &rt,
-        alloc,
-        "",
-        &clauses,
-        &[("p", 1, Standing::Dynamic(2_000))],
-    )?;
-    let mut procedures = numbered(alloc, 2_000, ":- dynamic(p", "/1). ")?;
-    procedures.push_str(&numbered(alloc, 2_000, "p", "(a). ")?)?;
-    let last = [
+    let wanted = [("p", 1, Standing::Static(1_000))];
+    expect(&rt, alloc, "", &operators, &wanted)
+}
+
+fn dynamic_facts(alloc: Global, count: u32) -> Result<String, Fail> {
+    let mut text = String::from_str(alloc, ":- dynamic(p/1). ")?;
+    text.push_str(&numbered(alloc, count, "p(", "). ")?)?;
+    Ok(text)
+}
+
+#[test]
+fn many_clauses(rt: HostRuntime) -> Result<(), Fail> {
+    let facts = dynamic_facts(rt.alloc(), 2_000)?;
+    let wanted = [("p", 1, Standing::Dynamic(2_000))];
+    expect(&rt, rt.alloc(), "", &facts, &wanted)
+}
+
+#[test]
+fn many_procedures(rt: HostRuntime) -> Result<(), Fail> {
+    let alloc = rt.alloc();
+    let procedures = twice(alloc, 2_000, (":- dynamic(p", "/1). "), ("p", "(a). "))?;
+    let wanted = [
         ("p0", 1, Standing::Dynamic(1)),
         ("p1999", 1, Standing::Dynamic(1)),
     ];
-    expect(&rt, alloc, "", &procedures, &last)
+    expect(&rt, alloc, "", &procedures, &wanted)
 }

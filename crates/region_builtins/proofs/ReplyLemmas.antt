@@ -1,12 +1,11 @@
 -- What goes on after a goal that holds once or fails.
-use Rattle.std.proofs.Common.{◌≡◌, ℕ, ◌+◌, Bool, true, false, List, [], ◌∷◌, ◌++◌, length, map, Some, None, refl, sym, ap, ap₂, ◌∙◌, subst, arith}
+use Rattle.std.proofs.Common.{◌≡◌, ℕ, ◌+◌, true, false, List, [], ◌∷◌, ◌++◌, length, map, Some, None, refl, sym, ap, ap₂, ◌∙◌, subst, arith}
 use Rattle.au_model.specs.Terms.Named.{NamedTerm}
-use Rattle.au_model.specs.Terms.Substitutions.{Substitution, resolve}
 use Rattle.au_model.specs.Terms.Unifier.{unifier}
 use Rattle.au_model.proofs.EquationsInTurnLemmas.{resolve-nothing}
 use Rattle.run_model.specs.Goals.BuiltinAnswers.{Answer, equal, holds_if}
 use Rattle.run_model.specs.Machine.Items.{Item, GoalItem, CatchMark, CollectMark, RemovalItem, Continuation, with_next, resolve_item, resolve_named, resolve_continuation}
-use Rattle.run_model.specs.Machine.Entries.{Entry, PlainEntry, unified}
+use Rattle.run_model.specs.Machine.Entries.{PlainEntry, unified}
 use Rattle.binding_array.specs.declared.cell.BindingCell.{BindingCell}
 use Rattle.cell_store.specs.StoreView.{StoreView, substitution, meaning, with_substitution}
 use Rattle.cell_store.specs.UnificationSteps.{AreUnified, OnlyBinds}
@@ -14,7 +13,7 @@ use Rattle.cell_store.specs.declared.arguments.Arguments.{Arguments}
 use Rattle.std_builtins.specs.Meanings.{answer_of}
 use Rattle.std_builtins.specs.declared.table.Builtin.{Builtin}
 use Rattle.region_split.specs.ChoicePoints.{Standing, by_height}
-use Rattle.region_split.specs.Regions.{RegionView, entries_of, heights_of, items_here, continuation_here, IsPositionIn, IsPositionOver}
+use Rattle.region_split.specs.Regions.{RegionView, entries_of, heights_of, items_here, continuation_here, IsPositionOver}
 use Rattle.region_split.specs.StackOperations.{StaysStanding}
 use Rattle.region_split.proofs.TrialLemmas.{same_parts, items_twice, named_twice}
 use Rattle.region_control.specs.Controls.{IsGoalPlace}

@@ -1,8 +1,7 @@
 -- Solutions of a built-in predicate in a region.
-use Rattle.std.proofs.Common.{◌≡◌, ℕ, zero, suc, ◌+◌, ◌≤◌, true, max, List, [], ◌∷◌, ◌++◌, length, map, Option, Some, None, Ok, refl, sym, ap, ap₂, ◌∙◌, subst, arith}
+use Rattle.std.proofs.Common.{◌≡◌, ℕ, zero, suc, ◌+◌, ◌≤◌, true, List, [], ◌∷◌, ◌++◌, length, map, Option, Some, None, Ok, refl, sym, ap, ap₂, ◌∙◌, subst, arith}
 use Rattle.std.proofs.lemmas.List.{map-append}
-use Rattle.au_term.specs.Term.{Term, Terms, end, more, count, var_bound, all_bound}
-use Rattle.au_term.specs.Shifted.{shifted}
+use Rattle.au_term.specs.Term.{Term, Terms, more, count, all_bound}
 use Rattle.au_model.specs.Terms.Each.{Each}
 use Rattle.au_model.specs.Terms.Lists.{terms_from}
 use Rattle.au_model.specs.Terms.Named.{NamedTerm}
@@ -31,12 +30,10 @@ use Rattle.std_builtins.specs.declared.table.Builtin.{Builtin}
 use Rattle.std_builtins.proofs.Fixed.{IsFixed, IsAnswerFixed, answer_fixed}
 use Rattle.region_split.specs.ClauseTrials.{entries_at, IsOptionalPosition}
 use Rattle.region_split.specs.Regions.{RegionView, entries_of, continuation_here}
-use Rattle.region_split.specs.Solutions.{SolutionView, equation_meant, IsEquationAt}
-use Rattle.region_split.specs.StackOperations.{IsSolutionHere, solution_here}
+use Rattle.region_split.specs.Solutions.{equation_meant, IsEquationAt}
+use Rattle.region_split.specs.StackOperations.{solution_here}
 use Rattle.region_split.specs.SolutionTrials.{AreSolutionsHere, Solves}
 use Rattle.region_split.specs.declared.frame.Position.{Position}
-use Rattle.region_split.specs.declared.solution.Equation.{Equation}
-use Rattle.region_split.specs.declared.solution.EquationSide.{EquationSide}
 use Rattle.region_control.specs.GoalForms.{argument_terms, AreArgumentsIn}
 use Rattle.region_control.specs.declared.control.GoalPlace.{GoalPlace}
 use Rattle.region_control.specs.declared.forms.GoalForm.{GoalForm}
@@ -45,7 +42,6 @@ use Rattle.region_control.specs.declared.replies.AfterGoal.{AfterGoal}
 use Rattle.region_control.specs.declared.replies.AfterGoal.TheVariants.{At, Failed}
 use Rattle.region_control.proofs.FindallEndLemmas.{resolved_stays}
 use Rattle.region_builtins.specs.CopiedSolutions.{copied_equation, copied_solution}
-use Rattle.region_builtins.specs.QuickAnswers.{AnswersFor}
 
 -- arguments one after another
 from_more : (code : CodeView) (base i at : ℕ) → arguments_from code base (suc i) at ≡ arguments_from code base i at ++ argument_at code base (at + i) ∷ []

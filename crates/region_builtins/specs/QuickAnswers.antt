@@ -3,6 +3,7 @@ use Rattle.std.specs.Prelude.{◌≡◌, ℕ, List, Err}
 use Rattle.au_model.specs.Terms.Faults.{error_term_of}
 use Rattle.run_model.specs.Goals.BuiltinAnswers.{Answer, equal, holds_if, reply_of}
 use Rattle.run_model.specs.Goals.Outcomes.{Replies}
+use Rattle.run_model.specs.Goals.UnificationGoals.{apart_answer}
 use Rattle.clause_compile.specs.AtomNumbers.{name_at}
 use Rattle.arith_eval.specs.declared.evaluation.EvalRefusal.{EvalRefusal}
 use Rattle.cell_store.specs.StoreView.{StoreView, IsValueIn, meaning, text_in}
@@ -13,12 +14,13 @@ use Rattle.region_control.specs.declared.forms.GoalForm.{GoalForm}
 use Rattle.region_control.specs.declared.replies.AfterGoal.{AfterGoal}
 use Rattle.value_goals.specs.Answers.{IsRefusedAnswer}
 use Rattle.region_builtins.specs.declared.quick.QuickAnswer.{QuickAnswer}
-use Rattle.region_builtins.specs.declared.quick.QuickAnswer.TheVariants.{Holds, Equal, Raises, Unknown}
+use Rattle.region_builtins.specs.declared.quick.QuickAnswer.TheVariants.{Holds, Equal, Apart, Raises, Unknown}
 
--- it holds or fails, it makes two values one, or it raises an error; where none of these is known, it may be anything
+-- it holds or fails, it makes two values one, it holds where none makes them one, or it raises an error; where none of these is known, it may be anything
 abbrev pub IsQuickAnswer : StoreView → Answer → QuickAnswer → Type 0
 IsQuickAnswer st answer (Holds b) = answer ≡ holds_if b
 IsQuickAnswer st answer (Equal a b) = IsValueIn st a × IsValueIn st b × (answer ≡ equal (meaning st a) (meaning st b))
+IsQuickAnswer st answer (Apart a b) = IsValueIn st a × IsValueIn st b × (answer ≡ apart_answer (meaning st a) (meaning st b))
 IsQuickAnswer st answer (Raises fault) = answer ≡ Err (error_term_of fault)
 IsQuickAnswer st answer Unknown = Unit {0}
 

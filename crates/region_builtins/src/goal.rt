@@ -1,12 +1,15 @@
 //! Goals of built-in predicates (ISO/IEC 13211-1, 7.7.7).
-ghost use Rattle.std.specs.Prelude.{◌≡◌, ◌<◌, IfOk, OnOk, Err, length};
+ghost use Rattle.std.specs.Prelude.{◌≡◌, ◌<◌, ◌∷◌, [], IfOk, OnOk, Err, is_none, length};
 ghost use Rattle.au_model.specs.Terms.Faults.{error_term_of};
+ghost use Rattle.au_model.specs.Terms.Unifier.{unifier};
 ghost use Rattle.run_model.specs.Goals.BuiltinAnswers.{equal, reply_of};
 ghost use Rattle.run_model.specs.Goals.Outcomes.{Replies};
+ghost use Rattle.run_model.specs.Goals.UnificationGoals.{apart_answer};
 ghost use Rattle.clause_compile.specs.AtomNumbers.{name_at};
 ghost use Rattle.cell_store.specs.StoreView.{IsValueIn, meaning, text_in};
 ghost use Rattle.std_builtins.specs.Meanings.{answer_of};
 ghost use Rattle.std_builtins.specs.Rows.{IsRowOf};
+ghost use Rattle.region_split.specs.Regions.{IsPositionIn};
 ghost use Rattle.region_control.specs.Controls.{IsGoalPlace};
 ghost use Rattle.region_control.specs.GoalForms.{argument_terms, AreArgumentsIn};
 ghost use Rattle.region_control.specs.Replies.{LeavesOutcome};
@@ -18,7 +21,7 @@ use au_model::Fault;
 use au_term::{NoMemory, VarNo};
 use binding_array::BindingCell;
 use region_control::{AfterGoal, GoalForm, GoalPlace, raise_fault};
-use region_split::Region;
+use region_split::{Alternatives, Position, Region};
 use std::alloc::Global;
 use std_builtins::{Builtin, BuiltinRefusal};
 
@@ -36,6 +39,45 @@ fn equate(
     ensures text { OnOk result (region.new.text ≡ region.old.text) }
 {
     if region.unify(left, right)? {
+        Ok(AfterGoal::At(place.after))
+    } else {
+        Ok(AfterGoal::Failed)
+    }
+}
+
+/// Whether two values have no unifier. What is bound while one is looked for is undone.
+fn are_apart(
+    region: &mut Region,
+    left: BindingCell,
+    right: BindingCell,
+    after: Position,
+) -> Result<bool, NoMemory>
+    requires left { IsValueIn region.old.store left }
+    requires right { IsValueIn region.old.store right }
+    requires after { IsPositionIn region.old after }
+    ensures apart { IfOk result (λ apart. apart ≡ is_none (unifier ((meaning region.old.store left, meaning region.old.store right) ∷ []))) }
+    ensures same { OnOk result (region.new ≡ region.old) }
+{
+    region.push_choice(Alternatives::Elsewhere, after)?;
+    let unified = region.unify(left, right)?;
+    region.take_newest();
+    Ok(!unified)
+}
+
+/// Goes on in the place of a goal where two values have no unifier.
+fn differ(
+    region: &mut Region,
+    left: BindingCell,
+    right: BindingCell,
+    place: GoalPlace,
+) -> Result<AfterGoal, NoMemory>
+    requires left { IsValueIn region.old.store left }
+    requires right { IsValueIn region.old.store right }
+    requires place { IsGoalPlace region.old place }
+    ensures comes { IfOk result (AnswersIn region.old region.new (apart_answer (meaning region.old.store left) (meaning region.old.store right)) place) }
+    ensures text { OnOk result (region.new.text ≡ region.old.text) }
+{
+    if are_apart(region, left, right, place.after)? {
         Ok(AfterGoal::At(place.after))
     } else {
         Ok(AfterGoal::Failed)
@@ -78,6 +120,7 @@ pub fn builtin_goal(
         QuickAnswer::Holds(true) => Ok(AfterGoal::At(place.after)),
         QuickAnswer::Holds(false) => Ok(AfterGoal::Failed),
         QuickAnswer::Equal(left, right) => equate(region, left, right, place),
+        QuickAnswer::Apart(left, right) => differ(region, left, right, place),
         QuickAnswer::Raises(fault) => raise_error(region, alloc, &fault, form, place),
         QuickAnswer::Unknown => resolved_goal(region, alloc, builtin, form, place),
     }

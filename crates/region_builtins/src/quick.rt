@@ -28,6 +28,8 @@ pub(crate) enum QuickAnswer {
     Holds(bool),
     /// It holds where two values are made one.
     Equal(BindingCell, BindingCell),
+    /// It holds where two values have no unifier.
+    Apart(BindingCell, BindingCell),
     Raises(Fault),
     /// Its arguments are to be resolved.
     Unknown,
@@ -48,6 +50,10 @@ pub(crate) fn quick_answer(
         Builtin::Unify => {
             let left = argument(store, arguments, 0);
             Ok(QuickAnswer::Equal(left, argument(store, arguments, 1)))
+        }
+        Builtin::Differ => {
+            let left = argument(store, arguments, 0);
+            Ok(QuickAnswer::Apart(left, argument(store, arguments, 1)))
         }
         Builtin::Type(test) => {
             let holds = type_holds(alloc, store, test, argument(store, arguments, 0))?;

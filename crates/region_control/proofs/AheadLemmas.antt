@@ -1,20 +1,20 @@
 -- The way to what comes first at a position, and free steps.
-use Rattle.std.proofs.Common.{◌≡◌, ℕ, ◌+◌, ◌-◌, ◌<◌, ◌≤◌, true, false, List, [], ◌∷◌, ◌++◌, length, map, Option, Some, None, refl, sym, ap, ap₂, ◌∙◌, subst, arith}
-use Rattle.au_term.specs.Term.{Term}
+use Rattle.std.proofs.Common.{◌≡◌, ℕ, ◌+◌, ◌-◌, ◌<◌, ◌≤◌, true, List, [], ◌∷◌, ◌++◌, length, map, Option, Some, None, refl, sym, ap, ◌∙◌, subst, arith}
 use Rattle.au_model.specs.Terms.Named.{NamedTerm}
 use Rattle.au_model.specs.Terms.Substitutions.{Substitution}
 use Rattle.run_model.specs.Machine.Entries.{Entry, PlainEntry, CatchEntry, FindallEntry, EndEntry}
 use Rattle.run_model.specs.Machine.FreeSteps.{take_free_steps, free_steps_within, plain_free_step}
-use Rattle.run_model.specs.Machine.Items.{Item, GoalItem, CollectMark, RemovalItem, Continuation, before, with_items, resolve_item, without_marks}
+use Rattle.run_model.specs.Machine.Items.{Item, with_items, resolve_item, without_marks}
 use Rattle.run_model.proofs.FreeStepLemmas.{length-collected, result_collects}
 use Rattle.clause_compile.specs.Places.{CodeView}
 use Rattle.binding_array.specs.declared.cell.BindingCell.{BindingCell}
 use Rattle.cell_store.specs.StoreView.{text_in, meaning}
 use Rattle.region_split.specs.Backtracking.{resumed_entries, without_catches, IsResumed, TakesFreeSteps, Resumes as HasResumed}
 use Rattle.region_split.specs.ClauseTrials.{entries_at}
+use Rattle.region_split.specs.StackOperations.{item_here}
 use Rattle.region_split.specs.Frames.{scoped_item, next_position}
 use Rattle.region_split.specs.ChoicePoints.{height_of_cut, by_height}
-use Rattle.region_split.specs.Regions.{RegionView, entries_of, heights_of, items_here, continuation_here, position_entry, IsPositionIn, IsFirstAt, GoesOnIn}
+use Rattle.region_split.specs.Regions.{RegionView, entries_of, heights_of, items_here, continuation_here, position_entry, IsPositionIn, IsPositionOver, IsFirstAt, GoesOnIn}
 use Rattle.region_split.specs.ResultLists.{ResultsView}
 use Rattle.region_split.specs.declared.choice.Resumed.{Resumed}
 use Rattle.region_split.specs.declared.choice.Resumed.TheVariants as Resumes
@@ -24,7 +24,6 @@ use Rattle.region_split.specs.declared.frame.Position.{Position}
 use Rattle.region_split.proofs.ItemLemmas.{position_more}
 use Rattle.region_control.specs.Ahead.{is_goal_item, items_with_goal, goal_entry, HasGoalFirst, HasResultFirst, HasRemovalFirst, HasNothingFirst, LiesAhead, CollectsResult, EndsFindall}
 use Rattle.region_control.specs.declared.ahead.Ahead.{Ahead}
-use Rattle.region_control.specs.declared.ahead.Ahead.TheVariants as Ahead
 use Rattle.region_control.specs.declared.control.GoalPlace.{GoalPlace}
 
 -- items but for the ends of catches in front, as they are with bindings and heights
@@ -63,6 +62,15 @@ module _ (r : RegionView) (start p : Position) (w : IsPassing r start p) where
       items = λ named. w.same named ∙ (ap (unmarked r.store.now.bound (heights_of named r)) first.items ∙ goal_stays r.store.now.bound (heights_of named r) (text_in r.store) item cut (items_here r (next_position p)) e);
       there = record { goal = e; there = first.there; place = record { scope = first.scope; after = first.after } };
     })
+
+    -- where it goes on at a position at which the same is left
+    pub goal_further : (item : FrameItem) (q1 : Position) → IsFirstAt r p item cut → is_goal_item item ≡ true → IsPositionOver r cut q1 → items_here r q1 ≡ items_here r q → HasGoalFirst r start item (record { cut = cut; after = q1 })
+    goal_further item q1 first e over same =
+        let h = goal_found item first e in
+        record {
+          items = λ named. h.items named ∙ ap (λ is. item_here r item cut (heights_of named r) ++ map (resolve_item r.store.now.bound) (map (by_height (heights_of named r)) is)) (sym same);
+          there = record { goal = e; there = first.there; place = record { scope = first.scope; after = over } };
+        }
 
     pub result_found : (value : _) → IsFirstAt r p (Collect value) cut → HasResultFirst r start value (cut - 1)
     result_found value first = record {

@@ -1,11 +1,11 @@
 -- A findall whose goal has no solution left: its list is unified with the results next.
-use Rattle.std.proofs.Common.{◌≡◌, ℕ, ◌+◌, ◌<◌, ◌≤◌, true, max, List, [], ◌∷◌, length, map, refl, sym, ap, ap₂, ◌∙◌, subst, arith}
+use Rattle.std.proofs.Common.{◌≡◌, ℕ, ◌+◌, ◌≤◌, List, [], ◌∷◌, length, refl, sym, ap, ap₂, ◌∙◌, subst, arith}
 use Rattle.std.specs.Prelude.{codes}
-use Rattle.au_term.specs.Term.{Term, VarTerm, Terms, end, more, var_bound}
+use Rattle.au_term.specs.Term.{Term, var_bound}
 use Rattle.au_model.specs.Terms.Each.{Each}
 use Rattle.au_model.specs.Terms.Forms.{binary, list_term}
 use Rattle.au_model.specs.Terms.Named.{NamedTerm}
-use Rattle.au_model.specs.Terms.Substitutions.{Substitution, apply, value_of, resolve}
+use Rattle.au_model.specs.Terms.Substitutions.{Substitution, value_of, resolve}
 use Rattle.au_model.proofs.ApplyLemmas.{apply-same, apply-apply}
 use Rattle.au_model.proofs.EachLemmas.{each-more}
 use Rattle.au_model.proofs.VariableBoundLemmas.{apply-below}

@@ -21,7 +21,6 @@ use Rattle.region_split.specs.declared.frame.FrameItem.TheVariants.{Call}
 use Rattle.region_split.specs.declared.frame.Position.{Position}
 use Rattle.region_split.proofs.ItemLemmas.{position_more}
 use Rattle.region_split.proofs.ResultLemmas.{copy_unbound}
-use Rattle.region_split.proofs.SolvedLemmas.{stays_twice}
 use Rattle.region_split.proofs.TrialLemmas.{resolved_twice, items_twice, named_twice}
 use Rattle.region_control.specs.Balls.{Recovers}
 use Rattle.region_control.specs.declared.balls.Catch.{Catch}

@@ -1,7 +1,7 @@
 //! What lies ahead where no free step is left (ISO/IEC 13211-1, 7.8.9 and 8.10.1).
-ghost use Rattle.std.specs.Prelude.{◌≡◌, IfOk, OnOk, length};
+ghost use Rattle.std.specs.Prelude.{◌≡◌, ◌≤◌, IfOk, OnOk, length};
 ghost use Rattle.cell_store.specs.StoreView.{IsValueIn};
-ghost use Rattle.region_split.specs.Regions.{IsPositionIn};
+ghost use Rattle.region_split.specs.Regions.{items_here, IsPositionIn, IsPositionOver};
 ghost use Rattle.region_split.specs.ChoicePoints.{IsFindallAt};
 ghost use Rattle.region_split.specs.Backtracking.{IsResumed};
 ghost use Rattle.region_split.specs.ClauseTrials.{IsOptionalPosition};
@@ -94,7 +94,7 @@ fn first_item(region: &Region, position: Position) -> Result<FirstItem, NoMemory
                 };
                 next.at = at;
                 if is_goal(item) {
-                    let after = next;
+                    let after = past_end(region, next, cut);
                     return Ok(FirstItem::Goal(item, GoalPlace { cut, after }));
                 }
                 match item {
@@ -107,6 +107,23 @@ fn first_item(region: &Region, position: Position) -> Result<FirstItem, NoMemory
             Left::GoesOnAt(older) => next = older,
             Left::Nothing => return Ok(FirstItem::Nothing(next)),
         }
+    }
+}
+
+/// Where a goal goes on: at this position, or, if its frame has come to its end, where that goes on. So the frame of a last
+/// goal is not kept, and no later goal walks over it. Frames over which choice points stand are left as they are.
+fn past_end(region: &Region, position: Position, cut: u32) -> Position
+    requires scope { cut ≤ length region.now.choices }
+    requires over { IsPositionOver region.now cut position }
+    ensures over { IsPositionOver region.now cut result }
+    ensures same { items_here region.now result ≡ items_here region.now position }
+{
+    if region.height() > cut as usize {
+        return position;
+    }
+    match region.left_at(position) {
+        Left::GoesOnAt(older) => older,
+        _ => position,
     }
 }
 

@@ -1,5 +1,5 @@
 -- Clauses that are passed over have no entry.
-use Rattle.std.proofs.Common.{◌≡◌, ℕ, zero, suc, ◌+◌, ◌<◌, ◌≤◌, Bool, true, false, cond, List, [], ◌∷◌, ◌++◌, length, take, drop, Some, None, slice_get, refl, sym, ap, ◌∙◌, subst, arith}
+use Rattle.std.proofs.Common.{◌≡◌, ℕ, zero, suc, ◌+◌, ◌<◌, ◌≤◌, Bool, true, false, cond, List, [], ◌∷◌, ◌++◌, length, take, drop, Option, Some, None, MatchOption, slice_get, refl, sym, ap, ◌∙◌, subst, arith}
 use Rattle.au_term.specs.Term.{Term}
 use Rattle.au_model.specs.Terms.Unifier.{unifier}
 use Rattle.run_model.specs.Programs.Clauses.{Clause, renamed_head, clause_variables}
@@ -105,11 +105,20 @@ module _ (text : TextView) (goal : Term) (next : ℕ) (old mid : Cursor) (passin
   pub none_after : numbers_left text.heads mid ≡ [] → HaveNoEntry text goal next old
   none_after e h f = passing.entries h f ∙ none_found text goal next mid e h f
 
+  pub none_further : HaveNoEntry text goal next mid → HaveNoEntry text goal next old
+  none_further e h f = passing.entries h f ∙ e h f
+
+  pub found_further : (new : Cursor) (n : ℕ) → FindsClause text goal next mid new n → FindsClause text goal next old new n
+  found_further new n here =
+      record { there = here.there; cursor = here.cursor; entries = λ h f. passing.entries h f ∙ here.entries h f; fewer = let a = here.fewer in let b = passing.fewer in omega (arith, a, b) }
+
+  pub either_further : (result : Option ℕ) (new : Cursor) → MatchOption result (HaveNoEntry text goal next mid) (FindsClause text goal next mid new) → MatchOption result (HaveNoEntry text goal next old) (FindsClause text goal next old new)
+  either_further None new h = none_further h
+  either_further (Some n) new h = found_further new n h
+
   module _ (new : Cursor) (n : ℕ) (many : length text.heads ≡ length text.clauses) (t : TakesLeast text.heads mid new n) where
     pub found_after : FindsClause text goal next old new n
-    found_after =
-        let here = found text goal next n mid new many t in
-        record { there = here.there; cursor = here.cursor; entries = λ h f. passing.entries h f ∙ here.entries h f; fewer = let a = here.fewer in let b = passing.fewer in omega (arith, a, b) }
+    found_after = found_further new n (found text goal next n mid new many t)
 
     pub passed_on : AreToldApart text goal n → IsPassing text goal next old new
     passed_on apart =

@@ -5,7 +5,7 @@ ghost use Rattle.au_model.specs.Terms.Forms.{is_callable};
 ghost use Rattle.region_split.specs.Regions.{IsPositionIn, IsPositionOver};
 ghost use Rattle.region_split.specs.ClauseTrials.{TriesClause, KeepsChoices, Calls};
 
-use crate::candidates::{candidates, next_match};
+use crate::candidates::{candidates, first_match, next_match};
 use crate::choice::{Alternatives, Trial};
 use crate::frame::{Frame, FrameBody, Position};
 use crate::region::Region;
@@ -56,7 +56,7 @@ impl Region {
     {
         let cut = self.scope()?;
         let mut left = candidates(self.text(), self.store(), goal);
-        let Some(clause) = next_match(self.text(), self.store(), goal, &mut left) else {
+        let Some(clause) = first_match(self.text(), self.store(), goal, &mut left) else {
             return Ok(None);
         };
         let trial = Trial {

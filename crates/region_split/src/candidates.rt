@@ -44,6 +44,25 @@ pub(crate) fn next_match(
     None
 }
 
+/// The same, where the clause that is the only one left need not be told apart: it is tried.
+pub(crate) fn first_match(
+    text: &Text,
+    store: &Store,
+    goal: BindingCell,
+    left: &mut Cursor,
+) -> Option<u32>
+    requires program { store.now.program ≡ text.now.code }
+    requires there { IsValueIn store.now goal }
+    requires cursor { IsCursorOf text.now.heads left.old }
+    ensures { MatchOption result (HaveNoEntry text.now (meaning store.now goal) store.now.now.next left.old) (FindsClause text.now (meaning store.now goal) store.now.now.next left.old left.new) }
+{
+    let clause = text.take(left)?;
+    if left.is_empty() || !are_apart(text, store, goal, clause) {
+        return Some(clause);
+    }
+    next_match(text, store, goal, left)
+}
+
 /// Whether a goal's second, third or fourth argument tells it apart from a clause's head, so that they don't unify.
 fn are_apart(text: &Text, store: &Store, goal: BindingCell, clause: u32) -> bool
     requires program { store.now.program ≡ text.now.code }

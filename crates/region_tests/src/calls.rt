@@ -1,10 +1,9 @@
 //! Calls: that they succeed, and their time.
-ghost use Rattle.std.specs.Prelude.{IfOk};
 ghost use Rattle.cell_store.specs.StoreView.{IsValueIn};
 
-use crate::controls::{last, region};
-use au_model::build::{binary, unary};
-use au_term::{Cell, FlatTerm, MAX_ARITY, Shared, VarNo};
+use crate::common::{expect, last, region, value};
+use au_model::build::{binary, single, unary};
+use au_term::{Cell, FlatTerm, MAX_ARITY, NoMemory, VarNo};
 use binding_array::BindingCell;
 use meta_call::call_arguments;
 use region_control::{AfterGoal, form_of};
@@ -13,60 +12,69 @@ use std::alloc::Global;
 use std::process::Abort;
 use std::test::Fail;
 
-/// The value of a term.
-fn value(
+/// Whether a goal of `call` goes on at a position.
+fn goes_on(
     rt: &impl Abort,
     alloc: Global,
     region: &mut Region,
-    term: FlatTerm,
-) -> Result<BindingCell, Fail>
-    ensures { IfOk result (IsValueIn region.new.store) }
+    goal: BindingCell,
+) -> Result<bool, NoMemory>
+    requires { IsValueIn region.old.store goal }
 {
-    let term = Shared::from_term(alloc, term)?;
-    assert!(rt; term.to_term(alloc)?.bound() <= VarNo::from(region.store().next()));
-    Ok(region.copy_in(&term)?)
+    let Some(form) = form_of(region.store(), goal) else {
+        return Ok(false);
+    };
+    let arguments = form.arguments;
+    assert!(rt; arguments.count > 0 && arguments.count <= MAX_ARITY);
+    let place = last(region)?;
+    Ok(is_position(&call_arguments(region, alloc, arguments, place)?))
 }
 
-/// What a goal of `call` comes to.
-fn called(
-    rt: &impl Abort,
-    alloc: Global,
-    region: &mut Region,
-    goal: FlatTerm,
-) -> Result<AfterGoal, Fail> {
-    let goal = value(rt, alloc, region, goal)?;
-    match form_of(region.store(), goal) {
-        Some(form) => {
-            let arguments = form.arguments;
-            assert!(rt; arguments.count > 0 && arguments.count <= MAX_ARITY);
-            let place = last(region)?;
-            Ok(call_arguments(region, alloc, arguments, place)?)
-        }
-        None => Err("a goal")?,
+fn is_position(after: &AfterGoal) -> bool {
+    match after {
+        AfterGoal::At(_) => true,
+        _ => false,
     }
 }
 
-/// A goal of `call` goes on.
-fn assert_called(
+/// `call(foo(X), X)`.
+fn goal(alloc: Global) -> Result<FlatTerm, NoMemory> {
+    let variable = single(alloc, Cell::Var(0))?;
+    binary(alloc, "call", &unary(alloc, "foo", &variable)?, &variable)
+}
+
+fn call_goes_on(rt: &impl Abort, alloc: Global, region: &mut Region) -> Result<bool, Fail> {
+    let goal = value(rt, alloc, region, goal(alloc)?)?;
+    Ok(goes_on(rt, alloc, region, goal)?)
+}
+
+/// `s` of a new variable.
+fn successor(alloc: Global, region: &mut Region) -> Result<FlatTerm, NoMemory> {
+    let next = region.fresh(1)?;
+    unary(alloc, "s", &single(alloc, Cell::Var(VarNo::from(next)))?)
+}
+
+fn bind(
     rt: &impl Abort,
-    alloc: Global,
     region: &mut Region,
-    goal: FlatTerm,
-) -> Result<(), Fail> {
-    match called(rt, alloc, region, goal)? {
-        AfterGoal::At(_) => Ok(()),
-        _ => Err("a position")?,
-    }
+    variable: u32,
+    term: BindingCell,
+) -> Result<bool, NoMemory>
+    requires { IsValueIn region.old.store term }
+{
+    assert!(rt; variable < region.store().next());
+    region.unify(BindingCell::Var(variable), term)
 }
 
 /// Binds a variable to a compound of the next variable.
-fn grow(rt: &impl Abort, alloc: Global, region: &mut Region, variable: u32) -> Result<(), Fail> {
-    let next = region.fresh(1)?;
-    let next = FlatTerm::from_slice(alloc, &[Cell::Var(VarNo::from(next))])?;
-    let term = value(rt, alloc, region, unary(alloc, "s", &next)?)?;
-    assert!(rt; variable < region.store().next());
-    assert!(rt; region.unify(BindingCell::Var(variable), term)?);
-    Ok(())
+fn grow(rt: &impl Abort, alloc: Global, region: &mut Region, variable: u32) -> Result<bool, Fail> {
+    let term = successor(alloc, region)?;
+    let term = value(rt, alloc, region, term)?;
+    Ok(bind(rt, region, variable, term)?)
+}
+
+fn fresh(region: &mut Region) -> Result<u32, NoMemory> {
+    region.fresh(1)
 }
 
 /// A call copies nothing of what variables are bound to: else this would take ten thousand times as long.
@@ -74,12 +82,10 @@ fn grow(rt: &impl Abort, alloc: Global, region: &mut Region, variable: u32) -> R
 fn calls_with_a_growing_term(rt: HostRuntime) -> Result<(), Fail> {
     let alloc = rt.alloc();
     let mut region = region(alloc)?;
-    let _first = region.fresh(1)?;
-    let term = FlatTerm::from_slice(alloc, &[Cell::Var(0)])?;
+    expect(&rt, fresh(&mut region)?, 0);
     for variable in 0..100_000 {
-        grow(&rt, alloc, &mut region, variable)?;
-        let goal = binary(alloc, "call", &unary(alloc, "foo", &term)?, &term)?;
-        assert_called(&rt, alloc, &mut region, goal)?;
+        expect(&rt, grow(&rt, alloc, &mut region, variable)?, true);
+        expect(&rt, call_goes_on(&rt, alloc, &mut region)?, true);
     }
     Ok(())
 }

@@ -5,6 +5,10 @@
 #[cfg(test)]
 mod calls;
 #[cfg(test)]
+mod choices;
+#[cfg(test)]
+mod common;
+#[cfg(test)]
 mod controls;
 #[cfg(test)]
 mod regions;

@@ -1,5 +1,6 @@
 pub mod RowLemmas
 pub mod AnswerLemmas
+pub mod UnificationLemmas
 pub mod Fixed
 pub mod ControlLemmas
 pub mod PartLemmas
@@ -8,3 +9,4 @@ pub mod TextLemmas
 pub mod NumberTextLemmas
 pub mod SortGoalLemmas
 pub mod AskedPartLemmas
+pub mod AgreementLemmas

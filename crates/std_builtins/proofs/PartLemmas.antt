@@ -1,19 +1,17 @@
 -- Terms made of parts, and taken apart.
-use Rattle.std.proofs.Common.{◌≡◌, ℕ, zero, suc, ◌+◌, ◌-◌, ◌<◌, ◌≤◌, ◌&&◌, ◌==◌, Bool, true, false, cond, List, [], ◌∷◌, ◌++◌, length, Result, Ok, refl, sym, ap, ap₂, ◌∙◌, subst, append_assoc, arith}
-use Rattle.std.specs.Prelude.{codes, nat_lt, Vec, None}
+use Rattle.std.proofs.Common.{◌≡◌, ℕ, zero, suc, ◌+◌, ◌-◌, ◌<◌, ◌≤◌, true, false, List, [], ◌∷◌, ◌++◌, length, Result, Ok, refl, sym, ap, ap₂, ◌∙◌, subst, append_assoc, arith}
+use Rattle.std.specs.Prelude.{nat_lt, Vec, None}
 use Rattle.std.specs.Global.{Global}
 use Rattle.std.proofs.lemmas.Bool.Decides.{nat_tests}
-use Rattle.au_term.specs.Term.{Term, VarTerm, IntTerm, AtomTerm, Compound, Terms, end, more, count, argument, argument_count, term_at}
+use Rattle.au_term.specs.Term.{Term, VarTerm, IntTerm, AtomTerm, Compound, Terms, count, term_at}
 use Rattle.au_term.specs.PrefixOrder.{cells_of, all_cells, top_of, DueAfter, due_after}
 use Rattle.au_term.specs.declared.cell.Cell.{Cell}
 use Rattle.au_term.specs.declared.cell.Cell.TheVariants.{Var as VarCell, Atom as AtomCell, Functor}
 use Rattle.au_term.proofs.WholeTermLemmas.{DueAfter-term, DueAfter-due}
-use Rattle.au_model.specs.Terms.Forms.{same_name}
 use Rattle.au_model.specs.Terms.Lists.{terms_from}
-use Rattle.run_model.specs.Goals.ListForms.{ListForm, ProperList, PartialList, NoList, item_before, list_form}
+use Rattle.run_model.specs.Goals.ListForms.{list_form}
 use Rattle.run_model.specs.Goals.BuiltinAnswers.{equal}
 use Rattle.run_model.specs.Goals.TermParts.{made_term, new_variables, numbered_argument, compound_of, parts_answer, built_from, taken_apart}
-use Rattle.au_model.specs.Terms.Unifier.{size}
 use Rattle.std_builtins.specs.Answers.{IsAnswer}
 use Rattle.std_builtins.specs.declared.answer.Solution.{Solution}
 use Rattle.std_builtins.specs.declared.answer.BuiltinRefusal.{BuiltinRefusal}

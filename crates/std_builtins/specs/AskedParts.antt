@@ -1,10 +1,11 @@
 -- What arguments ask of the parts of an atom.
-use Rattle.std.specs.Prelude.{◌≡◌, ◌-◌, ◌≤◌, ℕ, Bool, true, List, length, map, Option, Some, None, Vec, MatchOption}
+use Rattle.std.specs.Prelude.{◌≡◌, ◌-◌, ◌≤◌, ◌++◌, ℕ, Bool, true, List, length, map, Option, Some, None, Vec, MatchOption}
 use Rattle.std.specs.Global.{Global}
 use Rattle.au_term.specs.Term.{Term}
 use Rattle.au_model.specs.Terms.Forms.{same_name}
 use Rattle.run_model.specs.Goals.Outcomes.{Solution}
 use Rattle.run_model.specs.Goals.AtomParts.{PartArguments, split_solution, splits_for, admits_atom, admits_count, fits_part, part_at}
+use Rattle.std_builtins.specs.Agreements.{AreAgreements}
 use Rattle.std_builtins.specs.declared.asked.Asked.{Asked}
 use Rattle.std_builtins.specs.declared.sub_atom.PartsAsked.{PartsAsked}
 
@@ -15,6 +16,10 @@ admits_characters (Some characters) cs = same_name characters.items cs
 -- the characters are those that the term asks for
 abbrev pub IsAskedText : Asked → Type 0
 IsAskedText asked = (cs : List ℕ) → admits_characters asked.characters cs ≡ admits_atom asked.term.now cs
+
+-- how far a bound part, put before a text, agrees with what stands at each of the text's places
+abbrev pub AreFound : Option (Vec ℕ Global) → List ℕ → List ℕ → Type 0
+AreFound o cs ks = MatchOption o (Unit {0}) (λ part. AreAgreements (part.items ++ cs) ks)
 
 -- no other number is admitted
 abbrev pub IsOnlyCount : Term → Option ℕ → Type 0

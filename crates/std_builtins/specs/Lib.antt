@@ -7,3 +7,4 @@ pub mod Characters
 pub mod Checks
 pub mod Texts
 pub mod AskedParts
+pub mod Agreements

@@ -1,11 +1,12 @@
 //! What the arguments of goals on parts of atoms ask for, and the terms of parts (ISO/IEC 13211-1, 8.16.2 and 8.16.3).
-ghost use Rattle.std.specs.Prelude.{◌≡◌, pos, IfOk, MatchOption};
+ghost use Rattle.std.specs.Prelude.{◌≡◌, ◌+◌, ◌≤◌, true, length, take, drop, pos, IfOk, MatchOption};
 ghost use Rattle.std.specs.Str.{chars};
 ghost use Rattle.au_term.specs.Term.{AtomTerm, IntTerm};
 ghost use Rattle.au_model.specs.Terms.Forms.{same_name};
 ghost use Rattle.run_model.specs.Goals.AtomParts.{admits_atom, admits_count};
-ghost use Rattle.std_builtins.specs.AskedParts.{IsAskedText, IsOnlyCount};
+ghost use Rattle.std_builtins.specs.AskedParts.{AreFound, IsAskedText, IsOnlyCount};
 
+use crate::agreement::agreements;
 use crate::characters::{atom_term, put};
 use crate::integers::integer;
 use au_term::{Cell, FlatTerm, NoMemory};
@@ -39,6 +40,52 @@ impl Asked<'_> {
         match &self.characters {
             Some(characters) => is_same(characters, part),
             None => true,
+        }
+    }
+
+    /// How far the part, if it is bound, agrees with what stands at each place of a text that is put after it.
+    pub(crate) fn found_in(&self, alloc: Global, text: &[char]) -> Result<Vec<usize>, NoMemory>
+        ensures { IfOk result (λ found. AreFound self.now.characters text.now found.items) }
+    {
+        match &self.characters {
+            Some(part) => {
+                let mut joined = Vec::new(alloc);
+                joined.extend_from_slice(part)?;
+                joined.extend_from_slice(text)?;
+                agreements(alloc, &joined)
+            }
+            None => Ok(Vec::new(alloc)),
+        }
+    }
+
+    /// Whether so many characters from a place of a text on can be the part. What was found tells it, and the text
+    /// itself is not read.
+    pub(crate) fn admits_at(
+        &self,
+        text: &[char],
+        found: &[usize],
+        start: usize,
+        count: usize,
+    ) -> bool
+        requires asked { IsAskedText self.now }
+        requires found { AreFound self.now.characters text.now found.now }
+        requires within { start + count ≤ length text.now }
+        ensures { result ≡ admits_atom self.now.term.now (take count (drop start text.now)) }
+    {
+        match &self.characters {
+            Some(part) => count == part.len() && (count == 0 || found[count + start] >= count),
+            None => true,
+        }
+    }
+
+    /// The atom of a part that is admitted, which shares the characters of a bound one.
+    pub(crate) fn part_found(&self, alloc: Global, part: &[char]) -> Result<FlatTerm, NoMemory>
+        requires { admits_atom self.now.term.now part.now ≡ true }
+        ensures { IfOk result (λ t. t ≡ AtomTerm part.now) }
+    {
+        match self.term.top() {
+            Cell::Atom(_) => self.term.copy(),
+            _ => atom_of(alloc, part),
         }
     }
 }

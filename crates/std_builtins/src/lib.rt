@@ -1,6 +1,7 @@
 //! The built-in predicates that look at their arguments alone.
 #![tactic(auto)]
 
+mod agreement;
 pub mod answer;
 mod argument;
 mod arithmetic;

@@ -1,17 +1,15 @@
 //! Parts of atoms (ISO/IEC 13211-1, 8.16.3). Where one argument decides how long a part is, its places are gone through
 //! once.
-ghost use Rattle.std.specs.Prelude.{◌≡◌, ◌++◌, ◌∷◌, ◌+◌, ◌-◌, ◌≤◌, [], filter, length, map, IfOk, OnOk};
+ghost use Rattle.std.specs.Prelude.{◌≡◌, ◌++◌, ◌∷◌, ◌+◌, ◌-◌, ◌≤◌, [], true, filter, length, map, IfOk, OnOk};
 ghost use Rattle.std.specs.Str.{chars};
 ghost use Rattle.au_model.specs.Terms.ErrorTerms.{type_error};
 ghost use Rattle.run_model.specs.Goals.AtomGoals.{is_open_atom, with_counts, with_each};
-ghost use Rattle.run_model.specs.Goals.AtomParts.{fits_part, part_at, part_solution, part_term, found_parts_answer, parts_from, atom_parts, sub_atom_answer};
+ghost use Rattle.run_model.specs.Goals.AtomParts.{admits_atom, fits_part, part_at, part_solution, part_term, found_parts_answer, parts_from, atom_parts, sub_atom_answer};
 ghost use Rattle.std_builtins.specs.Answers.{IsAnswer, solution_meant};
-ghost use Rattle.std_builtins.specs.AskedParts.{IsAskedText, IsOnlyLength, asked_meant};
+ghost use Rattle.std_builtins.specs.AskedParts.{AreFound, IsAskedText, IsOnlyLength, asked_meant};
 
 use crate::answer::{BuiltinRefusal, Solution, failed};
-use crate::asked::{
-    Asked, admits_count, asked_for, atom_of, characters_of, count_term, only_count,
-};
+use crate::asked::{Asked, admits_count, asked_for, characters_of, count_term, only_count};
 use crate::checks::{Check, check_all};
 use au_model::build::compound;
 use au_model::{Fault, TypeName};
@@ -64,11 +62,12 @@ impl PartsAsked<'_> {
         requires { IsAskedText self.now.text }
         ensures { IfOk result (λ solutions. map solution_meant solutions.items ≡ map (part_solution (asked_meant self.now)) (filter (fits_part (asked_meant self.now)) (atom_parts characters.now))) }
     {
+        let found = self.text.found_in(alloc, characters)?;
         let mut solutions = Vec::new(alloc);
         for start in 0..characters.len() {
-            self.push_from(alloc, characters, start, &mut solutions)?;
+            self.push_from(alloc, characters, &found, start, &mut solutions)?;
         }
-        self.push_from(alloc, characters, characters.len(), &mut solutions)?;
+        self.push_from(alloc, characters, &found, characters.len(), &mut solutions)?;
         Ok(solutions)
     }
 
@@ -77,10 +76,12 @@ impl PartsAsked<'_> {
         &self,
         alloc: Global,
         characters: &[char],
+        found: &[usize],
         start: usize,
         solutions: &mut Vec<Solution>,
     ) -> Result<(), NoMemory>
         requires asked { IsAskedText self.now.text }
+        requires found { AreFound self.now.text.characters characters.now found.now }
         requires start { start ≤ length characters.now }
         ensures { OnOk result (map solution_meant solutions.new.items ≡ map solution_meant solutions.old.items
             ++ map (part_solution (asked_meant self.now)) (filter (fits_part (asked_meant self.now)) (parts_from characters.now start))) }
@@ -90,9 +91,11 @@ impl PartsAsked<'_> {
         }
         let rest = characters.len() - start;
         match self.only_length(rest) {
-            Some(count) if count <= rest => self.push(alloc, characters, start, count, solutions),
+            Some(count) if count <= rest => self.push(
+                alloc, characters, found, start, count, solutions,
+            ),
             Some(_) => Ok(()),
-            None => self.push_all_from(alloc, characters, start, solutions),
+            None => self.push_all_from(alloc, characters, found, start, solutions),
         }
     }
 
@@ -116,19 +119,21 @@ impl PartsAsked<'_> {
         &self,
         alloc: Global,
         characters: &[char],
+        found: &[usize],
         start: usize,
         solutions: &mut Vec<Solution>,
     ) -> Result<(), NoMemory>
         requires asked { IsAskedText self.now.text }
+        requires found { AreFound self.now.text.characters characters.now found.now }
         requires start { start ≤ length characters.now }
         ensures { OnOk result (map solution_meant solutions.new.items ≡ map solution_meant solutions.old.items
             ++ map (part_solution (asked_meant self.now)) (filter (fits_part (asked_meant self.now)) (parts_from characters.now start))) }
     {
         let rest = characters.len() - start;
         for count in 0..rest {
-            self.push(alloc, characters, start, count, solutions)?;
+            self.push(alloc, characters, found, start, count, solutions)?;
         }
-        self.push(alloc, characters, start, rest, solutions)
+        self.push(alloc, characters, found, start, rest, solutions)
     }
 
     /// Puts the solution of a part after others, where it fits.
@@ -136,22 +141,24 @@ impl PartsAsked<'_> {
         &self,
         alloc: Global,
         characters: &[char],
+        found: &[usize],
         start: usize,
         count: usize,
         solutions: &mut Vec<Solution>,
     ) -> Result<(), NoMemory>
         requires asked { IsAskedText self.now.text }
+        requires found { AreFound self.now.text.characters characters.now found.now }
         requires within { start + count ≤ length characters.now }
         ensures { OnOk result (map solution_meant solutions.new.items ≡ map solution_meant solutions.old.items
             ++ map (part_solution (asked_meant self.now)) (filter (fits_part (asked_meant self.now)) (part_at characters.now start count ∷ []))) }
     {
         let after = characters.len() - start - count;
-        let text = &characters[start..start + count];
         let fits = admits_count(self.before, start)
             && admits_count(self.length, count)
             && admits_count(self.after, after)
-            && self.text.admits(text);
+            && self.text.admits_at(characters, found, start, count);
         if fits {
+            let text = &characters[start..start + count];
             solutions.push(self.solution(alloc, start, count, after, text)?)?;
         }
         Ok(())
@@ -166,12 +173,13 @@ impl PartsAsked<'_> {
         after: usize,
         text: &[char],
     ) -> Result<Solution, NoMemory>
+        requires { admits_atom self.now.text.term.now text.now ≡ true }
         ensures { IfOk result (λ s. solution_meant s ≡ part_solution (asked_meant self.now) (record { before = before; length = length; after = after; text = text.now })) }
     {
         let before = count_term(alloc, before)?;
         let length = count_term(alloc, length)?;
         let after = count_term(alloc, after)?;
-        let text = atom_of(alloc, text)?;
+        let text = self.text.part_found(alloc, text)?;
         let asked = part_term(alloc, self.before, self.length, self.after, self.text.term)?;
         let found = part_term(alloc, &before, &length, &after, &text)?;
         let mut equations = Vec::new(alloc);

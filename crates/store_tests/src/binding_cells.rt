@@ -1,7 +1,13 @@
 //! What no clause says: that calls succeed, and where chains of variables lead.
+use crate::common::expect;
+use au_term::NoMemory;
 use binding_array::{BindingArray, BindingCell};
 use std::process::Abort;
 use std::test::Fail;
+
+fn grow(array: &mut BindingArray, to: usize) -> Result<(), NoMemory> {
+    array.grow(to)
+}
 
 /// Binds a free variable to no variable.
 fn bind(rt: &impl Abort, array: &mut BindingArray, variable: u32, value: i64) -> Result<(), Fail> {
@@ -24,33 +30,35 @@ fn link(rt: &impl Abort, array: &mut BindingArray, variable: u32, older: u32) ->
     Ok(())
 }
 
-/// The chain that each of the variables begins ends here.
-fn expect(rt: &impl Abort, array: &BindingArray, ends: &[BindingCell]) {
-    let mut variable = 0;
-    for end in ends {
-        assert!(rt; variable < 4);
-        assert!(rt; (variable as usize) < array.len());
-        assert!(rt; array.follow(variable) == *end);
-        variable += 1;
+fn free(rt: &impl Abort, array: &mut BindingArray, variable: u32) {
+    assert!(rt; (variable as usize) < array.len());
+    array.free(variable);
+}
+
+fn end(rt: &impl Abort, array: &BindingArray, variable: u32) -> BindingCell {
+    assert!(rt; (variable as usize) < array.len());
+    array.follow(variable)
+}
+
+/// The chain that each of the first four variables begins ends here.
+fn expect_ends(rt: &impl Abort, array: &BindingArray, ends: [BindingCell; 4]) {
+    for variable in 0..4 {
+        expect(rt, end(rt, array, variable), ends[variable as usize]);
     }
 }
 
 #[test]
 fn chains(rt: HostRuntime) -> Result<(), Fail> {
     let mut array = BindingArray::new(rt.alloc());
-    array.grow(4)?;
-    array.grow(2)?;
+    grow(&mut array, 4)?;
+    grow(&mut array, 2)?;
     link(&rt, &mut array, 3, 2)?;
     link(&rt, &mut array, 2, 0)?;
     bind(&rt, &mut array, 1, 7)?;
-    let (free, seven) = (BindingCell::Var(0), BindingCell::Int(7));
-    expect(&rt, &array, &[free, seven, free, free]);
-    assert!(rt; 2 < array.len());
-    array.free(2);
-    expect(
-        &rt,
-        &array,
-        &[free, seven, BindingCell::Var(2), BindingCell::Var(2)],
-    );
+    let (first, seven) = (BindingCell::Var(0), BindingCell::Int(7));
+    expect_ends(&rt, &array, [first, seven, first, first]);
+    free(&rt, &mut array, 2);
+    let second = BindingCell::Var(2);
+    expect_ends(&rt, &array, [first, seven, second, second]);
     Ok(())
 }

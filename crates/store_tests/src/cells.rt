@@ -1,11 +1,11 @@
 //! What no clause says: that calls succeed, and what small terms come to.
-ghost use Rattle.std.specs.Prelude.{◌≡◌, ◌+◌, ◌≤◌, IfOk, OnOk, length};
-ghost use Rattle.au_term.specs.Term.{VarTerm, var_bound};
-ghost use Rattle.cell_store.specs.StoreView.{AddsText, IsValueIn, with_numbers};
-ghost use Rattle.cell_store.specs.UnificationSteps.{OnlyBinds};
+ghost use Rattle.std.specs.Prelude.{◌≡◌, IfOk};
+ghost use Rattle.au_term.specs.Term.{VarTerm};
+ghost use Rattle.cell_store.specs.StoreView.{IsValueIn};
 
+use crate::common::{expect, values};
 use au_model::build::{compound, unary};
-use au_term::{Atom, Cell, FlatTerm, NoMemory, Shared, VarNo};
+use au_term::{Atom, Cell, FlatTerm, NoMemory, VarNo};
 use binding_array::BindingCell;
 use cell_store::Store;
 use clause_compile::Code;
@@ -51,6 +51,24 @@ fn store(alloc: Global) -> Result<Store, Fail> {
     Ok(store)
 }
 
+/// Whether two values unify.
+fn unify_values(store: &mut Store, left: BindingCell, right: BindingCell) -> Result<bool, NoMemory>
+    requires left { IsValueIn store.old left }
+    requires right { IsValueIn store.old right }
+    ensures left { IsValueIn store.new left }
+    ensures right { IsValueIn store.new right }
+{
+    store.unify(left, right)
+}
+
+/// Whether two values stand for the same.
+fn are_same(store: &Store, left: BindingCell, right: BindingCell) -> Result<bool, NoMemory>
+    requires left { IsValueIn store.now left }
+    requires right { IsValueIn store.now right }
+{
+    Ok(store.resolve(left)?.cells() == store.resolve(right)?.cells())
+}
+
 /// Whether two terms unify. Where they do they stand for the same.
 fn unify(
     rt: &impl Abort,
@@ -59,15 +77,9 @@ fn unify(
     a: FlatTerm,
     b: FlatTerm,
 ) -> Result<bool, Fail> {
-    let (a, b) = (Shared::from_term(alloc, a)?, Shared::from_term(alloc, b)?);
-    assert!(rt; a.to_term(alloc)?.bound() <= VarNo::from(store.next()));
-    let left = store.copy_in(&a)?;
-    assert!(rt; b.to_term(alloc)?.bound() <= VarNo::from(store.next()));
-    let right = store.copy_in(&b)?;
-    let unified = store.unify(left, right)?;
-    if unified {
-        assert!(rt; store.resolve(left)?.cells() == store.resolve(right)?.cells());
-    }
+    let (left, right) = values(rt, alloc, store, a, b)?;
+    let unified = unify_values(store, left, right)?;
+    expect(rt, !unified || are_same(store, left, right)?, true);
     Ok(unified)
 }
 
@@ -82,13 +94,15 @@ const ROWS: [([Side; 2], [Side; 2], bool); 7] = [
     ([(true, 0), (true, 1)], [(true, 0), (true, 1)], true),
 ];
 
+fn row_unifies(rt: &impl Abort, alloc: Global, a: &[Side; 2], b: &[Side; 2]) -> Result<bool, Fail> {
+    let mut store = store(alloc)?;
+    unify(rt, alloc, &mut store, both(alloc, a)?, both(alloc, b)?)
+}
+
 #[test]
 fn unification(rt: HostRuntime) -> Result<(), Fail> {
-    let alloc = rt.alloc();
     for (a, b, unifies) in ROWS {
-        let mut store = store(alloc)?;
-        let unified = unify(&rt, alloc, &mut store, both(alloc, &a)?, both(alloc, &b)?)?;
-        assert_eq!(rt; unified, unifies);
+        expect(&rt, row_unifies(&rt, rt.alloc(), &a, &b)?, unifies);
     }
     Ok(())
 }
@@ -108,34 +122,37 @@ const HEADS: [([Side; 2], [Side; 2], bool); 6] = [
 fn unify_head(
     rt: &impl Abort,
     store: &mut Store,
-    goal: &Shared,
-    head: &Shared,
-    bound: VarNo,
-) -> Result<bool, Fail>
-    requires goal { var_bound goal.now ≤ store.old.now.next }
-    requires bound { var_bound head.now ≤ bound }
+    goal: BindingCell,
+    head: BindingCell,
+) -> Result<bool, NoMemory>
+    requires goal { IsValueIn store.old goal }
+    requires head { IsValueIn store.old head }
 {
-    let goal = store.copy_in(goal)?;
-    assert!(rt; bound <= VarNo::from(store.next()));
-    let head = store.copy_in(head)?;
     assert!(rt; store.resolve(goal)?.bound() <= 2);
-    Ok(store.unify_head(goal, head, 2)?)
+    store.unify_head(goal, head, 2)
+}
+
+fn head_unifies(
+    rt: &impl Abort,
+    alloc: Global,
+    goal: &[Side; 2],
+    head: &[Side; 2],
+) -> Result<bool, Fail> {
+    let mut store = store(alloc)?;
+    let (goal, head) = values(
+        rt,
+        alloc,
+        &mut store,
+        both(alloc, goal)?,
+        both(alloc, head)?,
+    )?;
+    Ok(unify_head(rt, &mut store, goal, head)?)
 }
 
 #[test]
 fn heads(rt: HostRuntime) -> Result<(), Fail> {
-    let alloc = rt.alloc();
     for (goal, head, unifies) in HEADS {
-        let mut store = store(alloc)?;
-        let (goal, head) = (both(alloc, &goal)?, both(alloc, &head)?);
-        let bound = head.bound();
-        assert!(rt; goal.bound() <= VarNo::from(store.next()));
-        let (goal, head) = (
-            Shared::from_term(alloc, goal)?,
-            Shared::from_term(alloc, head)?,
-        );
-        let unified = unify_head(&rt, &mut store, &goal, &head, bound)?;
-        assert_eq!(rt; unified, unifies);
+        expect(&rt, head_unifies(&rt, rt.alloc(), &goal, &head)?, unifies);
     }
     Ok(())
 }
@@ -151,30 +168,64 @@ enum Step {
     Expect(u32, Side),
 }
 
-fn run(rt: &impl Abort, alloc: Global, store: &mut Store, step: Step) -> Result<(), Fail> {
+fn unifies(
+    rt: &impl Abort,
+    alloc: Global,
+    store: &mut Store,
+    a: &[Side; 2],
+    b: &[Side; 2],
+) -> Result<bool, Fail> {
+    unify(rt, alloc, store, both(alloc, a)?, both(alloc, b)?)
+}
+
+fn undo_to(rt: &impl Abort, store: &mut Store, mark: usize) {
+    assert!(rt; mark < store.marks());
+    store.undo_to(mark);
+}
+
+/// Whether a variable stands for this.
+fn stands_for(
+    rt: &impl Abort,
+    alloc: Global,
+    store: &Store,
+    number: u32,
+    value: Side,
+) -> Result<bool, NoMemory> {
+    assert!(rt; number < store.next());
+    let term = store.resolve(BindingCell::Var(number))?;
+    Ok(term.cells() == side(alloc, value)?.cells())
+}
+
+fn mark(store: &mut Store) -> Result<usize, NoMemory> {
+    store.mark()
+}
+
+fn fresh(store: &mut Store) -> Result<u32, NoMemory> {
+    store.fresh(2)
+}
+
+/// Takes a step, and says whether what was to hold does.
+fn run(rt: &impl Abort, alloc: Global, store: &mut Store, step: &Step) -> Result<bool, Fail> {
     match step {
         Step::Mark => {
-            store.mark()?;
+            mark(store)?;
+            Ok(true)
         }
         Step::Fresh => {
-            store.fresh(2)?;
+            fresh(store)?;
+            Ok(true)
         }
-        Step::Unify(a, b) => {
-            let (a, b) = (both(alloc, &a)?, both(alloc, &b)?);
-            assert!(rt; unify(rt, alloc, store, a, b)?);
-        }
+        Step::Unify(a, b) => unifies(rt, alloc, store, a, b),
         Step::UndoTo(mark) => {
-            assert!(rt; mark < store.marks());
-            store.undo_to(mark);
+            undo_to(rt, store, *mark);
+            Ok(true)
         }
-        Step::KeepMarks(count) => store.keep_marks(count),
-        Step::Expect(number, value) => {
-            assert!(rt; number < store.next());
-            let term = store.resolve(BindingCell::Var(number))?;
-            assert!(rt; term.cells() == side(alloc, value)?.cells());
+        Step::KeepMarks(count) => {
+            store.keep_marks(*count);
+            Ok(true)
         }
+        Step::Expect(number, value) => Ok(stands_for(rt, alloc, store, *number, *value)?),
     }
-    Ok(())
 }
 
 /// Bindings between two marks and after them, and what is left once they are undone.
@@ -198,28 +249,35 @@ const STEPS: [Step; 15] = [
 
 #[test]
 fn marks(rt: HostRuntime) -> Result<(), Fail> {
-    let alloc = rt.alloc();
-    let mut store = store(alloc)?;
-    for step in STEPS {
-        run(&rt, alloc, &mut store, step)?;
+    let mut store = store(rt.alloc())?;
+    for step in &STEPS {
+        expect(&rt, run(&rt, rt.alloc(), &mut store, step)?, true);
     }
     Ok(())
 }
 
+fn made_since(
+    rt: &impl Abort,
+    store: &Store,
+    mark: usize,
+) -> Result<Vec<(u32, BindingCell)>, NoMemory> {
+    assert!(rt; mark < store.marks());
+    store.made_since(mark)
+}
+
 #[test]
 fn bindings_since_a_mark(rt: HostRuntime) -> Result<(), Fail> {
-    let alloc = rt.alloc();
-    let mut store = store(alloc)?;
-    let mark = store.mark()?;
-    let (left, right) = (
-        both(alloc, &[(false, 0), (false, 3)])?,
-        both(alloc, &[(true, 1), (false, 2)])?,
-    );
-    assert!(rt; unify(&rt, alloc, &mut store, left, right)?);
-    assert!(rt; mark < store.marks());
-    let made = store.made_since(mark)?;
-    assert_eq!(rt; made.len(), 2);
-    assert_eq!(rt; made[0].0, 0);
-    assert!(rt; made[1] == (3, BindingCell::Var(2)));
+    let mut store = store(rt.alloc())?;
+    let mark = mark(&mut store)?;
+    let (left, right) = ([(false, 0), (false, 3)], [(true, 1), (false, 2)]);
+    let unified = unifies(&rt, rt.alloc(), &mut store, &left, &right)?;
+    expect(&rt, unified, true);
+    match made_since(&rt, &store, mark)?.as_slice() {
+        [(first, _), second] => {
+            expect(&rt, *first, 0);
+            expect(&rt, *second, (3, BindingCell::Var(2)));
+        }
+        _ => Err("two bindings")?,
+    }
     Ok(())
 }

@@ -9,4 +9,6 @@ mod cells;
 #[cfg(test)]
 mod clause_indexes;
 #[cfg(test)]
+mod common;
+#[cfg(test)]
 mod values;

@@ -1,12 +1,9 @@
 //! What no clause says of goals on values: that calls succeed, the order of the standard's examples, and deep values.
-ghost use Rattle.std.specs.Prelude.{◌≡◌, ◌≤◌, IfOk};
-ghost use Rattle.au_term.specs.Term.{var_bound};
-ghost use Rattle.cell_store.specs.StoreView.{IsValueIn};
-
+use crate::common::{expect, value, values};
 use arith_eval::EvalRefusal;
-use au_model::build::{binary, compound, single};
+use au_model::build::{compound, single};
 use au_model::{EvalName, Fault};
-use au_term::{Atom, Cell, FlatTerm, NoMemory, Shared, TermBuilder, VarNo};
+use au_term::{Atom, Cell, FlatTerm, NoMemory, TermBuilder, VarNo};
 use binding_array::BindingCell;
 use cell_store::Store;
 use clause_compile::Code;
@@ -56,28 +53,6 @@ fn store(alloc: Global) -> Result<Store, Fail> {
     Ok(store)
 }
 
-/// The values of two terms.
-fn values(
-    rt: &impl Abort,
-    alloc: Global,
-    store: &mut Store,
-    left: FlatTerm,
-    right: FlatTerm,
-) -> Result<(BindingCell, BindingCell), Fail>
-    ensures left { IfOk result (λ v. IsValueIn store.new v.0) }
-    ensures right { IfOk result (λ v. IsValueIn store.new v.1) }
-{
-    let (left, right) = (
-        Shared::from_term(alloc, left)?,
-        Shared::from_term(alloc, right)?,
-    );
-    assert!(rt; left.to_term(alloc)?.bound() <= VarNo::from(store.next()));
-    let left = store.copy_in(&left)?;
-    assert!(rt; right.to_term(alloc)?.bound() <= VarNo::from(store.next()));
-    let right = store.copy_in(&right)?;
-    Ok((left, right))
-}
-
 /// Terms in the standard order (ISO/IEC 13211-1, 7.2).
 const ORDERED: [Small; 11] = [
     Small::Variable(1),
@@ -93,96 +68,162 @@ const ORDERED: [Small; 11] = [
     Small::Two("a", 1, 2),
 ];
 
+fn ordering(
+    rt: &impl Abort,
+    alloc: Global,
+    store: &mut Store,
+    left: FlatTerm,
+    right: FlatTerm,
+) -> Result<Ordering, Fail> {
+    let (left, right) = values(rt, alloc, store, left, right)?;
+    Ok(compare(alloc, store, left, right)?)
+}
+
 #[test]
 fn order(rt: HostRuntime) -> Result<(), Fail> {
     let alloc = rt.alloc();
     let mut store = store(alloc)?;
-    for i in 0..ORDERED.len() {
-        for j in 0..ORDERED.len() {
-            let (left, right) = (term(alloc, ORDERED[i])?, term(alloc, ORDERED[j])?);
-            let (left, right) = values(&rt, alloc, &mut store, left, right)?;
-            assert!(rt; compare(alloc, &store, left, right)? == i.cmp(&j));
+    for (i, left) in ORDERED.iter().enumerate() {
+        for (j, right) in ORDERED.iter().enumerate() {
+            let (left, right) = (term(alloc, *left)?, term(alloc, *right)?);
+            let found = ordering(&rt, alloc, &mut store, left, right)?;
+            expect(&rt, found, i.cmp(&j));
         }
     }
     Ok(())
 }
 
-/// The value, if there is one.
-fn value_of(answer: Result<i64, EvalRefusal>) -> Option<i64> {
+/// What is seen of an evaluation.
+#[derive(Clone, Copy, Debug, PartialEq, Eq)]
+enum Seen {
+    Value(i64),
+    Error(EvalName),
+    Other,
+}
+
+fn seen_of(answer: Result<i64, EvalRefusal>) -> Seen {
     match answer {
-        Ok(value) => Some(value),
-        Err(_) => None,
+        Ok(value) => Seen::Value(value),
+        Err(EvalRefusal::Fault(Fault::Evaluation(error))) => Seen::Error(error),
+        Err(_) => Seen::Other,
     }
+}
+
+fn evaluated(
+    rt: &impl Abort,
+    alloc: Global,
+    store: &mut Store,
+    term: FlatTerm,
+) -> Result<Seen, Fail> {
+    let term = value(rt, alloc, store, term)?;
+    Ok(seen_of(evaluate(alloc, store, term)))
+}
+
+/// The value that `is` gives for an expression.
+fn value_by_is(
+    rt: &impl Abort,
+    alloc: Global,
+    store: &mut Store,
+    term: FlatTerm,
+) -> Result<Option<BindingCell>, Fail> {
+    let term = value(rt, alloc, store, term)?;
+    Ok(is_value(alloc, store, term).ok())
+}
+
+/// The values of an expression that is compared with itself.
+fn compared(
+    rt: &impl Abort,
+    alloc: Global,
+    store: &mut Store,
+    term: FlatTerm,
+) -> Result<Option<(i64, i64)>, Fail> {
+    let term = value(rt, alloc, store, term)?;
+    Ok(compared_values(alloc, store, term, term).ok())
+}
+
+fn ground(rt: &impl Abort, alloc: Global, store: &mut Store, term: FlatTerm) -> Result<bool, Fail> {
+    let term = value(rt, alloc, store, term)?;
+    Ok(is_ground(alloc, store, term)?)
+}
+
+/// A function of 42, as a product, and a number.
+fn of_product(alloc: Global, name: &str, value: i64) -> Result<FlatTerm, NoMemory> {
+    let product = term(alloc, Small::Two("*", 6, 7))?;
+    let name = Atom::new(alloc, name)?;
+    compound(alloc, name, &[&product, &integer(alloc, value)?])
+}
+
+fn sum(alloc: Global) -> Result<FlatTerm, NoMemory> {
+    of_product(alloc, "+", -2)
 }
 
 #[test]
 fn small_goals(rt: HostRuntime) -> Result<(), Fail> {
     let alloc = rt.alloc();
     let mut store = store(alloc)?;
-    let product = term(alloc, Small::Two("*", 6, 7))?;
-    let (sum, quotient) = (
-        binary(alloc, "+", &product, &term(alloc, Small::Integer(-2))?)?,
-        binary(alloc, "//", &product, &term(alloc, Small::Integer(0))?)?,
-    );
-    let (sum, quotient) = values(&rt, alloc, &mut store, sum, quotient)?;
-    assert_eq!(rt; value_of(evaluate(alloc, &store, sum)), Some(40));
-    match evaluate(alloc, &store, quotient) {
-        Err(EvalRefusal::Fault(Fault::Evaluation(error))) => {
-            assert_eq!(rt; error, EvalName::ZeroDivisor);
-        }
-        _ => assert!(rt; false),
-    }
-    match is_value(alloc, &store, sum) {
-        Ok(value) => assert!(rt; value == BindingCell::Int(40)),
-        Err(_) => assert!(rt; false),
-    }
-    match compared_values(alloc, &store, sum, sum) {
-        Ok(pair) => assert!(rt; pair == (40, 40)),
-        Err(_) => assert!(rt; false),
-    }
-    assert!(rt; is_ground(alloc, &store, sum)?);
+    let found = evaluated(&rt, alloc, &mut store, sum(alloc)?)?;
+    expect(&rt, found, Seen::Value(40));
+    let found = evaluated(&rt, alloc, &mut store, of_product(alloc, "//", 0)?)?;
+    expect(&rt, found, Seen::Error(EvalName::ZeroDivisor));
+    let found = value_by_is(&rt, alloc, &mut store, sum(alloc)?)?;
+    expect(&rt, found, Some(BindingCell::Int(40)));
+    let found = compared(&rt, alloc, &mut store, sum(alloc)?)?;
+    expect(&rt, found, Some((40, 40)));
+    let found = ground(&rt, alloc, &mut store, sum(alloc)?)?;
+    expect(&rt, found, true);
     Ok(())
 }
 
-/// `plus` nested to a depth, to the left or to the right.
-fn nested(alloc: Global, depth: u32, left: bool) -> Result<Option<FlatTerm>, Fail> {
+fn push(builder: &mut TermBuilder, cell: Cell) -> Result<(), NoMemory> {
+    let is_sound = match &cell {
+        Cell::Functor(_, arity) => *arity == 2,
+        Cell::Int(_) => true,
+        _ => false,
+    };
+    if builder.missing() == 0 || !is_sound {
+        return Err(NoMemory);
+    }
+    builder.push(cell)
+}
+
+const DEPTH: u32 = 100_000;
+
+/// `plus` nested, to the left or to the right.
+fn nested(alloc: Global, left: bool) -> Result<FlatTerm, NoMemory> {
     let plus = Atom::new(alloc, "+")?;
     let mut builder = TermBuilder::new(alloc);
-    for _depth in 0..depth {
-        if builder.missing() > 0 {
-            builder.push(Cell::Functor(plus.share()?, 2))?;
-        }
-        if !left && builder.missing() > 0 {
-            builder.push(Cell::Int(1))?;
+    for _depth in 0..DEPTH {
+        push(&mut builder, Cell::Functor(plus.share()?, 2))?;
+        if !left {
+            push(&mut builder, Cell::Int(1))?;
         }
     }
-    for _rest in 0..u64::from(depth) + 1 {
-        if builder.missing() > 0 {
-            builder.push(Cell::Int(1))?;
-        }
+    let rest = if left { DEPTH + 1 } else { 1 };
+    for _rest in 0..rest {
+        push(&mut builder, Cell::Int(1))?;
     }
+    finish(builder)
+}
+
+fn finish(builder: TermBuilder) -> Result<FlatTerm, NoMemory> {
     if builder.missing() > 0 {
-        return Ok(None);
+        return Err(NoMemory);
     }
-    Ok(Some(builder.finish()))
+    Ok(builder.finish())
 }
 
 #[test]
 fn deep(rt: HostRuntime) -> Result<(), Fail> {
     let alloc = rt.alloc();
+    let mut store = store(alloc)?;
     for left in [true, false] {
-        let (Some(first), Some(second)) = (
-            nested(alloc, 100_000, left)?,
-            nested(alloc, 100_000, left)?,
-        ) else {
-            assert!(rt; false);
-            return Ok(());
-        };
-        let mut store = store(alloc)?;
-        let (first, second) = values(&rt, alloc, &mut store, first, second)?;
-        assert_eq!(rt; value_of(evaluate(alloc, &store, first)), Some(100_001));
-        assert!(rt; compare(alloc, &store, first, second)?.is_eq());
-        assert!(rt; is_ground(alloc, &store, first)?);
+        let found = evaluated(&rt, alloc, &mut store, nested(alloc, left)?)?;
+        expect(&rt, found, Seen::Value(100_001));
+        let (first, second) = (nested(alloc, left)?, nested(alloc, left)?);
+        let found = ordering(&rt, alloc, &mut store, first, second)?;
+        expect(&rt, found, Ordering::Equal);
+        let found = ground(&rt, alloc, &mut store, nested(alloc, left)?)?;
+        expect(&rt, found, true);
     }
     Ok(())
 }

@@ -1,5 +1,6 @@
 //! The standard's operators (ISO/IEC 13211-1, 6.3.4.4).
 
+use crate::common::{expect, hold};
 use au_model::build::{binary, list_of, single};
 use au_model::{DomainName, Fault, PermissionName, TypeName};
 use au_term::{Atom, Cell, FlatTerm, NoMemory};
@@ -52,7 +53,26 @@ static NAMES: [Classes; 8] = [
 ];
 
 fn priority(operator: Option<Operator>) -> Option<u16> {
-    operator.map(|o| o.priority)
+    match operator {
+        Some(operator) => Some(operator.priority),
+        None => None,
+    }
+}
+
+/// The prefix or the infix operator of a name.
+fn operator_of(ops: &Ops, kind: OpKind, name: &str) -> Option<Operator> {
+    match kind {
+        OpKind::Fy | OpKind::Fx => ops.prefix(name),
+        _ => ops.infix(name),
+    }
+}
+
+/// The priorities of the prefix, infix and postfix operator of a name.
+fn priorities(ops: &Ops, name: &str) -> (Option<u16>, Option<u16>, Option<u16>) {
+    let prefix = priority(ops.prefix(name));
+    let infix = priority(ops.infix(name));
+    let postfix = priority(ops.postfix(name));
+    (prefix, infix, postfix)
 }
 
 fn check_groups(rt: &impl Abort, ops: &Ops, groups: &[Group]) {
@@ -62,20 +82,14 @@ fn check_groups(rt: &impl Abort, ops: &Ops, groups: &[Group]) {
             kind: *kind,
         };
         for name in *names {
-            let found = match kind {
-                OpKind::Fy | OpKind::Fx => ops.prefix(name),
-                _ => ops.infix(name),
-            };
-            assert_eq!(rt; found, Some(want), "{name}");
+            expect(rt, operator_of(ops, *kind, name), Some(want), name);
         }
     }
 }
 
 fn check_names(rt: &impl Abort, ops: &Ops, names: &[Classes]) {
     for (name, prefix, infix, postfix) in names {
-        assert_eq!(rt; priority(ops.prefix(name)), *prefix, "{name}");
-        assert_eq!(rt; priority(ops.infix(name)), *infix, "{name}");
-        assert_eq!(rt; priority(ops.postfix(name)), *postfix, "{name}");
+        expect(rt, priorities(ops, name), (*prefix, *infix, *postfix), name);
     }
 }
 
@@ -87,18 +101,36 @@ fn initial_table(rt: HostRuntime) -> Result<(), Fail> {
     Ok(())
 }
 
+fn row_count(ops: &Ops) -> Result<usize, NoMemory> {
+    Ok(ops.rows()?.len())
+}
+
+/// Whether names go up, and one name twice is a prefix operator first.
+fn are_in_order(rows: &[OpRow]) -> bool {
+    let mut before = "";
+    let mut is_prefix = false;
+    let mut in_order = true;
+    for row in rows {
+        let name = row.name.text();
+        in_order = in_order && (before < name || before == name && is_prefix);
+        before = name;
+        is_prefix = is_prefix_kind(row.operator.kind);
+    }
+    in_order
+}
+
+fn is_prefix_kind(kind: OpKind) -> bool {
+    match kind {
+        OpKind::Fy | OpKind::Fx => true,
+        _ => false,
+    }
+}
+
 #[test]
 fn rows_in_order(rt: HostRuntime) -> Result<(), Fail> {
     let rows = Ops::initial(rt.alloc())?.rows()?;
-    assert_eq!(rt; rows.len(), 39);
-    let mut before = "";
-    let mut is_prefix = false;
-    for row in &rows {
-        let name = row.name.text();
-        assert!(rt; before < name || before == name && is_prefix, "{name}");
-        before = name;
-        is_prefix = matches!(row.operator.kind, OpKind::Fy | OpKind::Fx);
-    }
+    expect(&rt, rows.len(), 39, "rows");
+    hold(&rt, are_in_order(&rows), "order");
     Ok(())
 }
 
@@ -113,23 +145,36 @@ static PUT: [(&str, u16, OpKind); 6] = [
     ("~", 1, OpKind::Fx),
 ];
 
+/// The priorities of names after these.
+static PUT_NAMES: [Classes; 5] = [
+    ("is", Some(300), Some(699), None),
+    ("~", Some(1), None, None),
+    ("!", None, None, Some(100)),
+    ("===>", None, Some(700), None),
+    ("=", None, Some(700), None),
+];
+
+fn put(
+    rt: &impl Abort,
+    alloc: Global,
+    ops: &mut Ops,
+    name: &str,
+    operator: Operator,
+) -> Result<(), NoMemory> {
+    let name = Atom::new(alloc, name)?;
+    let row = OpRow { name, operator };
+    assert!(rt; ops.may_put(&row));
+    ops.put(row)
+}
+
 #[test]
 fn operators_put(rt: HostRuntime) -> Result<(), Fail> {
     let mut ops = Ops::initial(rt.alloc())?;
     for (name, priority, kind) in PUT {
-        let name = Atom::new(rt.alloc(), name)?;
-        let operator = Operator { priority, kind };
-        let row = OpRow { name, operator };
-        assert!(rt; ops.may_put(&row));
-        ops.put(row)?;
+        put(&rt, rt.alloc(), &mut ops, name, Operator { priority, kind })?;
     }
-    assert_eq!(rt; priority(ops.infix("is")), Some(699));
-    assert_eq!(rt; priority(ops.prefix("is")), Some(300));
-    assert_eq!(rt; priority(ops.prefix("~")), Some(1));
-    assert_eq!(rt; priority(ops.postfix("!")), Some(100));
-    assert_eq!(rt; priority(ops.infix("===>")), Some(700));
-    assert_eq!(rt; priority(ops.infix("=")), Some(700));
-    assert_eq!(rt; ops.rows()?.len(), 43);
+    check_names(&rt, &ops, &PUT_NAMES);
+    expect(&rt, row_count(&ops)?, 43, "rows");
     Ok(())
 }
 
@@ -289,45 +334,73 @@ fn fault(alloc: Global, want: &Want) -> Result<Fault, NoMemory> {
     })
 }
 
+/// Adds what op/3 is asked for.
+fn add(
+    alloc: Global,
+    ops: &mut Ops,
+    priority: &Arg,
+    specifier: &Arg,
+    names: &Arg,
+) -> Result<(), OpRefusal> {
+    let (priority, specifier) = (term(alloc, priority)?, term(alloc, specifier)?);
+    ops.add(&priority, &specifier, &term(alloc, names)?)
+}
+
+/// Whether a refusal is this error.
+fn is_error(alloc: Global, refusal: &OpRefusal, want: &Want) -> Result<bool, NoMemory> {
+    let OpRefusal::Fault(found) = refusal else {
+        return Ok(false);
+    };
+    let op = Atom::new(alloc, "op")?;
+    let want = fault(alloc, want)?.term(alloc, &op, 3)?;
+    Ok(found.term(alloc, &op, 3)?.cells() == want.cells())
+}
+
+fn is_refused(alloc: Global, ops: &mut Ops, case: &Case) -> Result<bool, NoMemory> {
+    match add(alloc, ops, &case.priority, &case.specifier, &case.names) {
+        Ok(()) => Ok(false),
+        Err(refusal) => is_error(alloc, &refusal, &case.error),
+    }
+}
+
 #[test]
 fn operators_refused(rt: HostRuntime) -> Result<(), Fail> {
-    let alloc = rt.alloc();
-    let op = Atom::new(alloc, "op")?;
-    let mut ops = Ops::initial(alloc)?;
+    let mut ops = Ops::initial(rt.alloc())?;
     for case in &CASES {
-        let (priority, specifier) = (term(alloc, &case.priority)?, term(alloc, &case.specifier)?);
-        match ops.add(&priority, &specifier, &term(alloc, &case.names)?) {
-            Err(OpRefusal::Fault(found)) => {
-                let want = fault(alloc, &case.error)?.term(alloc, &op, 3)?;
-                assert!(rt; found.term(alloc, &op, 3)?.cells() == want.cells());
-            }
-            _ => panic!(rt; "not refused"),
-        }
+        hold(&rt, is_refused(rt.alloc(), &mut ops, case)?, "refused");
     }
     check_groups(&rt, &ops, &GROUPS);
-    assert_eq!(rt; ops.rows()?.len(), 39);
+    expect(&rt, row_count(&ops)?, 39, "rows");
     Ok(())
 }
 
 /// Operators added one after another, and how many rows the table then has.
-static ADDED: [(i64, &'static str, Arg, usize); 6] = [
-    (0, "xfx", Arg::Name("="), 38),
-    (0, "fy", Arg::Name("="), 38),
-    (700, "xfx", Arg::Name("[]"), 38),
+static ADDED: [(Arg, Arg, Arg, usize); 6] = [
+    (Arg::Int(0), Arg::Name("xfx"), Arg::Name("="), 38),
+    (Arg::Int(0), Arg::Name("fy"), Arg::Name("="), 38),
+    (Arg::Int(700), Arg::Name("xfx"), Arg::Name("[]"), 38),
     (
-        200,
-        "xf",
+        Arg::Int(200),
+        Arg::Name("xf"),
         Arg::List(&[Arg::Name("="), Arg::Name("~"), Arg::Name("=")]),
         40,
     ),
     (
-        100,
-        "yf",
+        Arg::Int(100),
+        Arg::Name("yf"),
         Arg::List(&[Arg::Name("é"), Arg::Name("~"), Arg::Name("z")]),
         42,
     ),
-    (0, "xf", Arg::List(&[Arg::Name("="), Arg::Name("é")]), 40),
+    (
+        Arg::Int(0),
+        Arg::Name("xf"),
+        Arg::List(&[Arg::Name("="), Arg::Name("é")]),
+        40,
+    ),
 ];
+
+/// The priorities of names after these.
+static ADDED_NAMES: [Classes; 2] = [("~", None, None, Some(100)), ("=", None, None, None)];
 
 #[test]
 fn operators_added(rt: HostRuntime) -> Result<(), Fail> {
@@ -335,15 +408,11 @@ fn operators_added(rt: HostRuntime) -> Result<(), Fail> {
     let first = Ops::initial(alloc)?;
     let mut ops = first.copy()?;
     for (priority, specifier, names, count) in &ADDED {
-        let (priority, specifier) = (
-            single(alloc, Cell::Int(*priority))?,
-            name(alloc, specifier)?,
-        );
-        assert!(rt; ops.add(&priority, &specifier, &term(alloc, names)?).is_ok());
-        assert_eq!(rt; ops.rows()?.len(), *count);
+        let added = add(alloc, &mut ops, priority, specifier, names);
+        hold(&rt, added.is_ok(), "added");
+        expect(&rt, row_count(&ops)?, *count, "rows");
     }
-    assert_eq!(rt; priority(ops.postfix("~")), Some(100));
-    assert_eq!(rt; priority(ops.infix("=")), None);
-    assert_eq!(rt; priority(first.infix("=")), Some(700));
+    check_names(&rt, &ops, &ADDED_NAMES);
+    check_groups(&rt, &first, &GROUPS);
     Ok(())
 }

@@ -2,59 +2,97 @@
 ghost use Rattle.std.specs.Prelude.{Some, None, cond, nat_eq, not};
 ghost use Rattle.std.specs.Cmp.Lexicographic.{pointwise};
 
+use crate::common::{expect, hold};
 use au_io::{
     FileShelf, Gate, MemoryShelf, MemorySink, Moment, NoGate, Opener, Output, ReadRefusal, Shelf,
     Sink, StdoutSink, WriteFault,
 };
 use std::alloc::Global;
 use std::io::{ErrorKind, Read, Write};
+use std::process::Abort;
 use std::test::Fail;
 use std::{fs, io};
 
-#[test]
-fn memory_shelf(rt: HostRuntime) -> Result<(), Fail> {
-    let alloc = rt.alloc();
+/// Reads names, with so many bytes at most, and compares what comes.
+fn check<S: Shelf>(
+    rt: &impl Abort,
+    alloc: Global,
+    shelf: &mut S,
+    rows: &[(&str, usize, Result<&[u8], ReadRefusal>)],
+) {
+    for (name, most, wanted) in rows {
+        hold(
+            rt,
+            is_wanted(shelf.read_all(alloc, name, *most), *wanted),
+            name,
+        );
+    }
+}
+
+fn is_wanted(found: Result<Vec<u8>, ReadRefusal>, wanted: Result<&[u8], ReadRefusal>) -> bool {
+    match (found, wanted) {
+        (Ok(bytes), Ok(wanted)) => bytes.as_slice() == wanted,
+        (Err(refusal), Err(wanted)) => refusal == wanted,
+        _ => false,
+    }
+}
+
+/// Two files, of which the first reading fails.
+fn memory(alloc: Global) -> Result<MemoryShelf, Fail> {
     let mut files = Vec::new(alloc);
-    files.push((
-        String::from_str(alloc, "a")?,
-        Vec::from_slice(alloc, b"abc")?,
-    ))?;
-    files.push((
-        String::from_str(alloc, "b")?,
-        Vec::from_slice(alloc, b"abcd")?,
-    ))?;
-    let mut shelf = MemoryShelf {
+    for (name, bytes) in [("a", b"abc".as_slice()), ("b", b"abcd".as_slice())] {
+        files.push((
+            String::from_str(alloc, name)?,
+            Vec::from_slice(alloc, bytes)?,
+        ))?;
+    }
+    Ok(MemoryShelf {
         files,
         failing: Vec::from_slice(alloc, &[0])?,
         calls: 0,
         faults: 0,
         drawn: 0,
-    };
-    assert!(rt; shelf.read_all(alloc, "a", 3) == Err(ReadRefusal::ReadFault));
-    assert!(rt; shelf.read_all(alloc, "a", 3)?.as_slice() == b"abc".as_slice());
-    assert!(rt; shelf.read_all(alloc, "b", 3) == Err(ReadRefusal::TooLong));
-    assert!(rt; shelf.read_all(alloc, "c", 3) == Err(ReadRefusal::ReadFault));
-    assert_eq!(rt; (shelf.calls, shelf.faults, shelf.drawn), (4, 2, 7));
+    })
+}
+
+#[test]
+fn memory_shelf(rt: HostRuntime) -> Result<(), Fail> {
+    let mut shelf = memory(rt.alloc())?;
+    let rows = [
+        ("a", 3, Err(ReadRefusal::ReadFault)),
+        ("a", 3, Ok(b"abc".as_slice())),
+        ("b", 3, Err(ReadRefusal::TooLong)),
+        ("c", 3, Err(ReadRefusal::ReadFault)),
+    ];
+    check(&rt, rt.alloc(), &mut shelf, &rows);
+    let counts = (shelf.calls, shelf.faults, shelf.drawn);
+    expect(&rt, counts, (4, 2, 7), "counts");
     Ok(())
+}
+
+fn write<S: Sink>(sink: &mut S, bytes: &[u8]) -> Result<(), WriteFault> {
+    sink.write_all(bytes)
 }
 
 #[test]
 fn memory_sink(rt: HostRuntime) -> Result<(), Fail> {
     let mut sink = MemorySink::new(rt.alloc(), 2)?;
-    assert_eq!(rt; sink.write_all(b"abc"), Err(WriteFault));
-    assert!(rt; sink.taken() == b"ab".as_slice());
-    assert_eq!(rt; sink.write_all(b""), Ok(()));
+    expect(&rt, write(&mut sink, b"abc"), Err(WriteFault), "abc");
+    hold(&rt, sink.taken() == b"ab".as_slice(), "ab");
+    expect(&rt, write(&mut sink, b""), Ok(()), "nothing");
     Ok(())
 }
 
 #[test]
 fn file_shelf(rt: HostRuntime) -> Result<(), Fail> {
-    let alloc = rt.alloc();
     fs::write(&rt, "three", b"abc")?;
     let mut shelf = FileShelf::new(&rt);
-    assert!(rt; shelf.read_all(alloc, "three", 3)?.as_slice() == b"abc".as_slice());
-    assert!(rt; shelf.read_all(alloc, "three", 2) == Err(ReadRefusal::TooLong));
-    assert!(rt; shelf.read_all(alloc, "none", 2) == Err(ReadRefusal::ReadFault));
+    let rows = [
+        ("three", 3, Ok(b"abc".as_slice())),
+        ("three", 2, Err(ReadRefusal::TooLong)),
+        ("none", 2, Err(ReadRefusal::ReadFault)),
+    ];
+    check(&rt, rt.alloc(), &mut shelf, &rows);
     fs::remove_file(&rt, "three")?;
     Ok(())
 }
@@ -97,17 +135,22 @@ impl Opener for Kept {
 }
 
 #[test]
-fn opened_names(rt: HostRuntime) -> Result<(), Fail> {
-    let alloc = rt.alloc();
+fn opened_names(rt: HostRuntime) {
     let kept = Kept {
         name: "a",
         bytes: b"abc",
     };
     let mut shelf = FileShelf::new(kept);
-    assert!(rt; shelf.read_all(alloc, "a", 3)?.as_slice() == b"abc".as_slice());
-    assert!(rt; shelf.read_all(alloc, "a", 2) == Err(ReadRefusal::TooLong));
-    assert!(rt; shelf.read_all(alloc, "b", 3) == Err(ReadRefusal::ReadFault));
-    Ok(())
+    let whole = shelf.read_all(rt.alloc(), "a", 3);
+    hold(&rt, is_wanted(whole, Ok(b"abc".as_slice())), "whole");
+    let long = shelf.read_all(rt.alloc(), "a", 2);
+    hold(&rt, is_wanted(long, Err(ReadRefusal::TooLong)), "too long");
+    let missing = shelf.read_all(rt.alloc(), "b", 3);
+    hold(
+        &rt,
+        is_wanted(missing, Err(ReadRefusal::ReadFault)),
+        "missing",
+    );
 }
 
 /// It takes a byte at a time, and nothing once it is full. The first writes are interrupted, and where it leaks no
@@ -154,11 +197,7 @@ impl Output for Narrow {
 }
 
 /// What a narrow writer answers to three bytes, and how many of them it has then.
-fn write_three(
-    alloc: Global,
-    room: usize,
-    leaks: bool,
-) -> Result<(Result<(), WriteFault>, usize), Fail> {
+fn write_three(alloc: Global, room: usize, leaks: bool) -> (Result<(), WriteFault>, usize) {
     let mut narrow = Narrow {
         bytes: Vec::new(alloc),
         room,
@@ -166,18 +205,24 @@ fn write_three(
         leaks,
         flushed: false,
     };
-    let answer = StdoutSink::new(&mut narrow).write_all(b"abc");
-    Ok((answer, narrow.bytes.len()))
+    let answer = write(&mut StdoutSink::new(&mut narrow), b"abc");
+    (answer, narrow.bytes.len())
 }
 
+/// The room of a narrow writer, whether it leaks, its answer and how many bytes it has.
+const NARROW: [(usize, bool, (Result<(), WriteFault>, usize)); 4] = [
+    (3, false, (Ok(()), 3)),
+    (2, false, (Err(WriteFault), 2)),
+    (0, false, (Err(WriteFault), 0)),
+    (3, true, (Err(WriteFault), 3)),
+];
+
 #[test]
-fn standard_output(rt: HostRuntime) -> Result<(), Fail> {
-    let alloc = rt.alloc();
-    assert_eq!(rt; StdoutSink::new(rt.stdout()).write_all(b"abc\n"), Ok(()));
-    assert_eq!(rt; write_three(alloc, 3, false)?, (Ok(()), 3));
-    assert_eq!(rt; write_three(alloc, 2, false)?, (Err(WriteFault), 2));
-    assert_eq!(rt; write_three(alloc, 0, false)?, (Err(WriteFault), 0));
-    assert_eq!(rt; write_three(alloc, 3, true)?, (Err(WriteFault), 3));
+fn standard_output(rt: HostRuntime) {
+    let written = write(&mut StdoutSink::new(rt.stdout()), b"abc\n");
+    expect(&rt, written, Ok(()), "output");
+    for (room, leaks, wanted) in NARROW {
+        expect(&rt, write_three(rt.alloc(), room, leaks), wanted, "narrow");
+    }
     NoGate.at(&rt, 0, Moment::Idle);
-    Ok(())
 }

@@ -1,6 +1,8 @@
 //! Texts and their terms; places and kinds of faults.
 
+use crate::common::{expect, hold};
 use au_model::{DoubleQuotes, FaultKind};
+use au_term::FlatTerm;
 use op_table::Ops;
 use std::alloc::Global;
 use std::process::Abort;
@@ -127,28 +129,31 @@ fn read_from(
     read_term(alloc, text, at, ops, quotes)
 }
 
+/// The term that is read, how many names it has, and the place after it.
+fn read(
+    rt: &impl Abort,
+    alloc: Global,
+    text: &str,
+    at: usize,
+    ops: &Ops,
+    quotes: DoubleQuotes,
+) -> Option<(FlatTerm, usize, usize)> {
+    match read_from(rt, alloc, text, at, ops, quotes) {
+        Ok(ReadOutcome::Read { term, names, end }) => Some((term, names.len(), end)),
+        _ => None,
+    }
+}
+
 fn check(rt: &impl Abort, alloc: Global, ops: &Ops, quotes: DoubleQuotes, case: &Case) {
     let (text, at, same, place) = case;
-    let Ok(ReadOutcome::Read { term, names, end }) = read_from(rt, alloc, text, *at, ops, quotes)
-    else {
-        assert!(rt; false, "{text}");
-        return;
-    };
-    let other = read_from(rt, alloc, same, 0, ops, quotes);
-    let Ok(
-        ReadOutcome::Read {
-            term: want,
-            names: others,
-            end: _last,
-        },
-    ) = other
-    else {
-        assert!(rt; false, "{same}");
-        return;
-    };
-    assert!(rt; term.cells() == want.cells(), "{text}");
-    assert!(rt; names.len() <= others.len(), "{text}");
-    assert_eq!(rt; end, *place, "{text}");
+    let found = read(rt, alloc, text, *at, ops, quotes);
+    match (found, read(rt, alloc, same, 0, ops, quotes)) {
+        (Some((term, names, end)), Some((wanted, others, _))) => {
+            hold(rt, term.cells() == wanted.cells() && names <= others, text);
+            expect(rt, end, *place, text);
+        }
+        _ => hold(rt, false, text),
+    }
 }
 
 fn check_all(rt: &impl Abort, alloc: Global, ops: &Ops, cases: &[Case]) {
@@ -165,7 +170,7 @@ fn check_faults(rt: &impl Abort, alloc: Global, ops: &Ops, faults: &[Bad]) {
             kind: *kind,
         };
         let found = read_from(rt, alloc, text, *at, ops, DoubleQuotes::Codes);
-        assert_eq!(rt; found.err(), Some(want), "{text}");
+        expect(rt, found.err(), Some(want), text);
     }
 }
 
@@ -183,45 +188,35 @@ fn faults(rt: HostRuntime) -> Result<(), Fail> {
     Ok(())
 }
 
+/// What a text in double quotes is.
+const QUOTES: [(DoubleQuotes, &str); 3] = [
+    (DoubleQuotes::Codes, "[97,98]."),
+    (DoubleQuotes::Chars, "[a,b]."),
+    (DoubleQuotes::Atom, "ab."),
+];
+
 #[test]
 fn quotes(rt: HostRuntime) -> Result<(), Fail> {
     let ops = Ops::initial(rt.alloc())?;
-    let alloc = rt.alloc();
-    check(
-        &rt,
-        alloc,
-        &ops,
-        DoubleQuotes::Codes,
-        &("\"ab\".", 0, "[97,98].", 5),
-    );
-    check(
-        &rt,
-        alloc,
-        &ops,
-        DoubleQuotes::Chars,
-        &("\"ab\".", 0, "[a,b].", 5),
-    );
-    check(
-        &rt,
-        alloc,
-        &ops,
-        DoubleQuotes::Atom,
-        &("\"ab\".", 0, "ab.", 5),
-    );
+    for (quotes, same) in QUOTES {
+        check(&rt, rt.alloc(), &ops, quotes, &("\"ab\".", 0, same, 5));
+    }
     Ok(())
+}
+
+fn is_end(outcome: &Result<ReadOutcome, ReadRefused>) -> bool {
+    match outcome {
+        Ok(ReadOutcome::EndOfText) => true,
+        _ => false,
+    }
 }
 
 #[test]
 fn end_of_text(rt: HostRuntime) -> Result<(), Fail> {
     let ops = Ops::initial(rt.alloc())?;
-    let outcome = read_term(
-        rt.alloc(),
-        "a. % b\n /* c */ ",
-        2,
-        &ops,
-        DoubleQuotes::Chars,
-    );
-    assert!(rt; matches!(outcome, Ok(ReadOutcome::EndOfText)));
+    let text = "a. % b\n /* c */ ";
+    let outcome = read_from(&rt, rt.alloc(), text, 2, &ops, DoubleQuotes::Chars);
+    hold(&rt, is_end(&outcome), text);
     Ok(())
 }
 
@@ -257,7 +252,7 @@ fn too_many_arguments(rt: HostRuntime) -> Result<(), Fail> {
             kind,
         };
         let found = refusal_of_many(&rt, rt.alloc(), beginning)?;
-        assert_eq!(&rt; found, Some(want), "{beginning}");
+        expect(&rt, found, Some(want), beginning);
     }
     Ok(())
 }

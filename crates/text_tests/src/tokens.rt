@@ -2,6 +2,7 @@
 ghost use Rattle.std.specs.Prelude.{IfOk};
 ghost use Rattle.token_scan.specs.NextToken.{IsToken};
 
+use crate::common::{expect, hold};
 use au_model::FaultKind;
 use std::alloc::Global;
 use std::process::Abort;
@@ -136,7 +137,7 @@ fn check_tokens(rt: &impl Abort, rows: &[Row]) {
             end: *end,
             layout_before: *layout_before,
         };
-        assert_eq!(rt; token_from(rt, text, *at), Ok(want), "{text} from {at}");
+        expect(rt, token_from(rt, text, *at), Ok(want), text);
     }
 }
 
@@ -146,7 +147,7 @@ fn check_faults(rt: &impl Abort, rows: &[Faulty]) {
             at: *place,
             kind: *kind,
         };
-        assert_eq!(rt; token_from(rt, text, *at), Err(want), "{text} from {at}");
+        expect(rt, token_from(rt, text, *at), Err(want), text);
     }
 }
 
@@ -198,12 +199,12 @@ fn check_values(rt: &impl Abort, alloc: Global, rows: &[(&str, &str)]) -> Result
         let token = token_from(rt, text, 0)?;
         match token.kind {
             TokenKind::QuotedName | TokenKind::DoubleQuoted => {
-                assert_eq!(rt; value(alloc, text, &token)?.as_str(), *want, "{text}");
+                hold(rt, value(alloc, text, &token)?.as_str() == *want, text);
             }
             TokenKind::Name | TokenKind::Variable | TokenKind::Punctuation => {
-                assert_eq!(rt; spelling(text, &token), *want, "{text}");
+                hold(rt, spelling(text, &token) == *want, text);
             }
-            _ => panic!(rt; "{text}"),
+            _ => hold(rt, false, text),
         }
     }
     Ok(())
@@ -213,8 +214,8 @@ fn check_integers(rt: &impl Abort, rows: &[(&str, u64)]) -> Result<(), Fail> {
     for (text, want) in rows {
         let token = token_from(rt, text, 0)?;
         match token.kind {
-            TokenKind::Integer => assert_eq!(rt; integer(text, &token), *want, "{text}"),
-            _ => panic!(rt; "{text}"),
+            TokenKind::Integer => expect(rt, integer(text, &token), *want, text),
+            _ => hold(rt, false, text),
         }
     }
     Ok(())

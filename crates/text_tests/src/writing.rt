@@ -1,5 +1,6 @@
 //! Written terms, by ISO/IEC 13211-1, 6.3.4 and 7.10.5.
 
+use crate::common::{expect, hold};
 use au_model::{Style, VarName};
 use au_term::{Atom, Cell, FlatTerm, NoMemory, TermBuilder};
 use op_table::Ops;
@@ -173,24 +174,35 @@ fn finish(builder: TermBuilder) -> Result<FlatTerm, NoMemory> {
     Ok(builder.finish())
 }
 
+/// Whether a term is written so, behind what was there.
+fn is_written(
+    alloc: Global,
+    parts: &[Part],
+    ops: &Ops,
+    style: Style,
+    text: &str,
+) -> Result<bool, NoMemory> {
+    let mut out = Vec::new(alloc);
+    out.push(b'>')?;
+    write_into(alloc, &mut out, &term(alloc, parts)?, ops, style)?;
+    Ok(&out[1..] == text.as_bytes())
+}
+
 fn check(rt: &impl Abort, alloc: Global, rows: &[Row], style: Style) -> Result<(), NoMemory> {
     let ops = Ops::initial(alloc)?;
     for (parts, text) in rows {
-        let mut out = Vec::new(alloc);
-        out.push(b'>')?;
-        write_into(alloc, &mut out, &term(alloc, parts)?, &ops, style)?;
-        assert_eq!(rt; &out[1..], text.as_bytes(), "{text}");
+        hold(rt, is_written(alloc, parts, &ops, style, text)?, text);
     }
     Ok(())
 }
 
-fn answer(
-    rt: &impl Abort,
+/// Whether the line of an answer is this, where each name has the same value.
+fn is_answer(
     alloc: Global,
     names: &[VarName],
     parts: &[Part],
     text: &str,
-) -> Result<(), NoMemory> {
+) -> Result<bool, NoMemory> {
     let ops = Ops::initial(alloc)?;
     let mut values = Vec::new(alloc);
     for _ in names {
@@ -198,8 +210,15 @@ fn answer(
     }
     let mut out = Vec::new(alloc);
     answer_line(alloc, &mut out, names, &values, &ops)?;
-    assert_eq!(rt; out.as_slice(), text.as_bytes(), "{text}");
-    Ok(())
+    Ok(out.as_slice() == text.as_bytes())
+}
+
+fn names(alloc: Global, texts: &[&str]) -> Result<Vec<VarName>, NoMemory> {
+    let mut names = Vec::new(alloc);
+    for text in texts {
+        names.push(name(alloc, text)?)?;
+    }
+    Ok(names)
 }
 
 fn name(alloc: Global, text: &str) -> Result<VarName, NoMemory> {
@@ -217,53 +236,91 @@ fn terms_in_each_style(rt: HostRuntime) -> Result<(), Fail> {
     Ok(())
 }
 
+fn check_answer(
+    rt: &impl Abort,
+    alloc: Global,
+    texts: &[&str],
+    parts: &[Part],
+    text: &str,
+) -> Result<(), NoMemory> {
+    let names = names(alloc, texts)?;
+    hold(rt, is_answer(alloc, &names, parts, text)?, text);
+    Ok(())
+}
+
 #[test]
-fn lines_of_answers_and_balls(rt: HostRuntime) -> Result<(), Fail> {
+fn lines_of_answers(rt: HostRuntime) -> Result<(), Fail> {
     let alloc = rt.alloc();
-    let mut names = Vec::new(alloc);
-    answer(&rt, alloc, &names, &[A("a")], "true\n")?;
-    names.push(name(alloc, "X")?)?;
+    check_answer(&rt, alloc, &[], &[A("a")], "true\n")?;
     for (parts, text) in &VALUES {
-        answer(&rt, alloc, &names, parts, text)?;
+        check_answer(&rt, alloc, &["X"], parts, text)?;
     }
-    names.push(name(alloc, "Y")?)?;
-    answer(&rt, alloc, &names, &[A("=")], "X = (=), Y = (=)\n")?;
+    check_answer(&rt, alloc, &["X", "Y"], &[A("=")], "X = (=), Y = (=)\n")?;
+    Ok(())
+}
+
+/// Whether the line of a ball is this, behind that of another.
+fn is_second_ball(alloc: Global, parts: &[Part], lines: &str) -> Result<bool, NoMemory> {
     let ops = Ops::initial(alloc)?;
     let mut out = Vec::new(alloc);
     ball_line(alloc, &mut out, &term(alloc, &[A("b")])?, &ops)?;
-    ball_line(alloc, &mut out, &term(alloc, &[A("-")])?, &ops)?;
-    assert_eq!(rt; out.as_slice(), b"error: b\nerror: -\n".as_slice());
+    ball_line(alloc, &mut out, &term(alloc, parts)?, &ops)?;
+    Ok(out.as_slice() == lines.as_bytes())
+}
+
+#[test]
+fn lines_of_balls(rt: HostRuntime) -> Result<(), Fail> {
+    let lines = "error: b\nerror: -\n";
+    hold(&rt, is_second_ball(rt.alloc(), &[A("-")], lines)?, lines);
+    Ok(())
+}
+
+/// Adds cells that others share.
+fn push_shared(builder: &mut TermBuilder, cells: &[Cell]) -> Result<(), NoMemory> {
+    for cell in cells {
+        push(builder, cell.share()?)?;
+    }
     Ok(())
 }
 
 /// A list of so many items, or so many compounds one in another, with its end.
 fn long(alloc: Global, count: u32, parts: &[Part], end: Part) -> Result<FlatTerm, NoMemory> {
+    let mut cells = Vec::new(alloc);
+    for part in parts {
+        cells.push(cell(alloc, *part)?)?;
+    }
     let mut builder = TermBuilder::new(alloc);
     for _ in 0..count {
-        for part in parts {
-            let cell = cell(alloc, *part)?;
-            push(&mut builder, cell)?;
-        }
+        push_shared(&mut builder, &cells)?;
     }
-    let last = cell(alloc, end)?;
-    push(&mut builder, last)?;
+    push(&mut builder, cell(alloc, end)?)?;
     finish(builder)
 }
 
-fn length(alloc: Global, term: &FlatTerm) -> Result<usize, NoMemory> {
+/// How many bytes such a term is written in.
+fn length(alloc: Global, count: u32, parts: &[Part], end: Part) -> Result<usize, NoMemory> {
+    let term = long(alloc, count, parts, end)?;
     let mut out = Vec::new(alloc);
-    write_into(alloc, &mut out, term, &Ops::initial(alloc)?, Style::Quoted)?;
+    write_into(alloc, &mut out, &term, &Ops::initial(alloc)?, Style::Quoted)?;
     Ok(out.len())
 }
 
+/// Long and deep terms, and how many bytes they are written in.
+static LONG: [(u32, &[Part], Part, usize); 3] = [
+    (1_000_000, &[F(".", 2), I(1)], A("[]"), 2_000_001),
+    (1_000_000, &[F("f", 1)], A("a"), 3_000_001),
+    (100_000, &[F("-", 1)], A("a"), 200_000),
+];
+
 #[test]
 fn deep_and_long_terms(rt: HostRuntime) -> Result<(), Fail> {
-    let alloc = rt.alloc();
-    let list = long(alloc, 1_000_000, &[F(".", 2), I(1)], A("[]"))?;
-    assert_eq!(rt; length(alloc, &list)?, 2_000_001);
-    let nested = long(alloc, 1_000_000, &[F("f", 1)], A("a"))?;
-    assert_eq!(rt; length(alloc, &nested)?, 3_000_001);
-    let minuses = long(alloc, 100_000, &[F("-", 1)], A("a"))?;
-    assert_eq!(rt; length(alloc, &minuses)?, 200_000);
+    for (count, parts, end, bytes) in &LONG {
+        expect(
+            &rt,
+            length(rt.alloc(), *count, parts, *end)?,
+            *bytes,
+            "long",
+        );
+    }
     Ok(())
 }

@@ -1,13 +1,12 @@
-use Rattle.std.proofs.Common.{◌≡◌, true, false, sym, ap, ◌∙◌, subst}
+use Rattle.std.proofs.Common.{ap, ◌∙◌, subst}
 use Rattle.std.proofs.lemmas.Result.{IfOk-weaker}
 use Rattle.clause_compile.specs.AtomNumbers.{name_at}
-use Rattle.cell_store.specs.StoreView.{StoreView, text_in}
+use Rattle.cell_store.specs.StoreView.{text_in}
 use Rattle.std_builtins.specs.Meanings.{answer_of}
 use Rattle.run_model.specs.Goals.BuiltinAnswers.{Answer, holds_if}
 use Rattle.region_control.specs.GoalForms.{argument_terms}
 use Rattle.region_control.specs.declared.replies.AfterGoal.TheVariants.{At, Failed}
-use Rattle.region_builtins.specs.QuickAnswers.{IsQuickAnswer, AnswersFor}
-use Rattle.region_builtins.specs.declared.quick.QuickAnswer.TheVariants.{Holds, Equal, Raises}
+use Rattle.region_builtins.specs.QuickAnswers.{IsQuickAnswer}
 use Rattle.region_builtins.proofs.ReplyLemmas.{holds, fails, quick_seen, answers_same}
 use Rattle.region_builtins.proofs.goal.builtin_goal.Goals as goal
 
@@ -43,6 +42,25 @@ returns-in-Equal-clause-comes c =
     let answer : Answer = answer_of c.args.builtin (argument_terms r.store c.args.form.arguments) r.store.now.next in
     let known = subst (IsQuickAnswer r.store answer) c.in-Equal.is (quick_seen r c.store.result.now c.args.builtin c.args.form.arguments _ c.store.ensures.store c.in_ok-quick_answer.ensures) in
     IfOk-weaker c.equate.result _ _ (λ after k. answers_same r c.equate.new.region c.args.form answer _ c.args.place after known.2 (k (name_at (text_in r.store).names c.args.form.name) c.args.form.arguments.count)) c.equate.ensures.comes
+
+pub differ-requires-clause-left : goal.differ-requires-clause-left
+differ-requires-clause-left c =
+    let r = c.args.region.now in
+    let answer : Answer = answer_of c.args.builtin (argument_terms r.store c.args.form.arguments) r.store.now.next in
+    (subst (IsQuickAnswer r.store answer) c.in-Apart.is (quick_seen r c.store.result.now c.args.builtin c.args.form.arguments _ c.store.ensures.store c.in_ok-quick_answer.ensures)).0
+
+pub differ-requires-clause-right : goal.differ-requires-clause-right
+differ-requires-clause-right c =
+    let r = c.args.region.now in
+    let answer : Answer = answer_of c.args.builtin (argument_terms r.store c.args.form.arguments) r.store.now.next in
+    (subst (IsQuickAnswer r.store answer) c.in-Apart.is (quick_seen r c.store.result.now c.args.builtin c.args.form.arguments _ c.store.ensures.store c.in_ok-quick_answer.ensures)).1
+
+pub returns-in-Apart-clause-comes : goal.returns-in-Apart-clause-comes
+returns-in-Apart-clause-comes c =
+    let r = c.args.region.now in
+    let answer : Answer = answer_of c.args.builtin (argument_terms r.store c.args.form.arguments) r.store.now.next in
+    let known = subst (IsQuickAnswer r.store answer) c.in-Apart.is (quick_seen r c.store.result.now c.args.builtin c.args.form.arguments _ c.store.ensures.store c.in_ok-quick_answer.ensures) in
+    IfOk-weaker c.differ.result _ _ (λ after k. answers_same r c.differ.new.region c.args.form answer _ c.args.place after known.2 (k (name_at (text_in r.store).names c.args.form.name) c.args.form.arguments.count)) c.differ.ensures.comes
 
 pub returns-in-Raises-clause-comes : goal.returns-in-Raises-clause-comes
 returns-in-Raises-clause-comes c =

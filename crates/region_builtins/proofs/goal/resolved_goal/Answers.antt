@@ -1,11 +1,10 @@
-use Rattle.std.proofs.Common.{◌≡◌, List, length, map, sym, ap, ◌∙◌, subst}
-use Rattle.au_term.specs.Term.{Terms, count}
+use Rattle.std.proofs.Common.{◌≡◌, List, map, sym, ap, ◌∙◌, subst}
+use Rattle.au_term.specs.Term.{count}
 use Rattle.au_model.specs.Terms.Lists.{terms_from}
 use Rattle.au_model.proofs.ListTermLemmas.{count-terms_from}
 use Rattle.clause_compile.specs.AtomNumbers.{name_at}
 use Rattle.cell_store.specs.StoreView.{StoreView, IsValidStore, substitution, text_in}
 use Rattle.cell_store.proofs.WritingLemmas.{how_many}
-use Rattle.region_split.specs.Regions.{RegionView}
 use Rattle.region_split.specs.SolutionTrials.{AreSolutionsHere, Solves}
 use Rattle.region_control.specs.GoalForms.{argument_terms}
 use Rattle.region_control.proofs.ControlLemmas.{place_in}

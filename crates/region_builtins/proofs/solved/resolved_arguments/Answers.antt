@@ -1,4 +1,4 @@
-use Rattle.std.proofs.Common.{◌≡◌, ap, ◌∙◌, arith}
+use Rattle.std.proofs.Common.{arith}
 use Rattle.region_control.proofs.FormLemmas.{argument_there}
 use Rattle.region_builtins.proofs.SolvedLemmas.{one_more, all_resolved}
 use Rattle.region_builtins.proofs.solved.resolved_arguments.Goals as goal

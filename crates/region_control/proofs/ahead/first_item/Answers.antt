@@ -1,16 +1,29 @@
 use Rattle.std.proofs.Common.{sym, ap, ◌∙◌, subst}
-use Rattle.region_split.specs.Regions.{IsLeftAt, IsFirstAt}
+use Rattle.region_split.specs.Regions.{IsLeftAt, IsFirstAt, IsPositionOver}
 use Rattle.region_split.specs.declared.frame.Position.{Position}
-use Rattle.region_control.proofs.AheadLemmas.{end_passed, goal_found, result_found, removal_found, older_found, nothing_found}
+use Rattle.region_control.proofs.AheadLemmas.{end_passed, goal_further, result_found, removal_found, older_found, nothing_found}
 use Rattle.region_control.proofs.ahead.first_item.Goals as goal
+
+pub past_end-after-requires-clause-over : goal.past_end-after-requires-clause-over
+past_end-after-requires-clause-over c =
+    let r = c.args.region.now in
+    let p = c.loop-item.next in
+    let q : Position = record { frame = p.frame; at = c.in-Some.at } in
+    let first : IsFirstAt r p c.in-First.item c.in-First.cut = subst (IsLeftAt r p) c.in-First.is c.left_at.ensures in
+    subst (IsPositionOver r c.in-First.cut) (sym (ap (λ n. (let x : Position = record { frame = p.frame; at = n } in x)) c.in-Some.ensures.1)) first.after
+
+pub past_end-after-requires-clause-scope : goal.past_end-after-requires-clause-scope
+past_end-after-requires-clause-scope c =
+    let first : IsFirstAt c.args.region.now c.loop-item.next c.in-First.item c.in-First.cut = subst (IsLeftAt c.args.region.now c.loop-item.next) c.in-First.is c.left_at.ensures in
+    first.scope
 
 pub returns-then-is_goal : goal.returns-then-is_goal
 returns-then-is_goal c =
     let r = c.args.region.now in
     let p = c.loop-item.next in
     let q : Position = record { frame = p.frame; at = c.in-Some.at } in
-    goal_found r c.args.position p c.loop-item.invariant c.in-First.cut q (ap (λ n. (let x : Position = record { frame = p.frame; at = n } in x)) c.in-Some.ensures.1)
-    c.in-First.item (subst (IsLeftAt r p) c.in-First.is c.left_at.ensures) (sym c.is_goal.ensures ∙ c.if-is_goal.true)
+    goal_further r c.args.position p c.loop-item.invariant c.in-First.cut q (ap (λ n. (let x : Position = record { frame = p.frame; at = n } in x)) c.in-Some.ensures.1)
+    c.in-First.item c.past_end-after.result (subst (IsLeftAt r p) c.in-First.is c.left_at.ensures) (sym c.is_goal.ensures ∙ c.if-is_goal.true) c.past_end-after.ensures.over c.past_end-after.ensures.same
 
 pub loop-item-preserved-in-CatchEnd : goal.loop-item-preserved-in-CatchEnd
 loop-item-preserved-in-CatchEnd c =

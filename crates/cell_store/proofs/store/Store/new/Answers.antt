@@ -4,7 +4,7 @@ use Rattle.clause_compile.specs.AtomNumbers.{AreDistinct}
 use Rattle.clause_compile.specs.Places.{CodeView, AreSound}
 use Rattle.cell_store.specs.StoreView.{IsConsistent, view_of, new_store}
 use Rattle.cell_store.proofs.StoreLemmas.{parts, new_parts, new_heap, new_view}
-use Rattle.cell_store.proofs.store.Store.new.Goals.{After-new-5}
+use Rattle.cell_store.proofs.store.Store.new.Goals.{After-new-6}
 use Rattle.cell_store.proofs.store.Store.new.Goals as goal
 
 pub invariant_of-result : goal.invariant_of-result
@@ -18,7 +18,7 @@ invariant_of-result c =
     (subst (λ t. IsConsistent (parts c.new.result c.new-2.result t [])) (sym c.new-3.ensures.items)
     (subst (λ cs. IsConsistent (parts c.new.result cs [] [])) (sym c.new-2.ensures) (new_parts program text few apart c.new.result (new_heap program c.new.result c.new.ensures))))
 
-whole : (c : After-new-5) → view_of (parts c.new.result c.new-2.result c.new-3.result.items c.new-4.result.items) ≡ new_store (arc_value c.args.program)
+whole : (c : After-new-6) → view_of (parts c.new.result c.new-2.result c.new-3.result.items c.new-4.result.items) ≡ new_store (arc_value c.args.program)
 whole c = new_view (arc_value c.args.program) c.new.result c.new-2.result c.new-3.result.items c.new-4.result.items c.new.ensures c.new-2.ensures c.new-3.ensures.items c.new-4.ensures.items
 
 pub returns-clause-new : goal.returns-clause-new

@@ -12,14 +12,14 @@ use Rattle.clause_index.proofs.index.ClauseIndex.candidates.Goals as goal
 pub returns-in-None-clause-numbers : goal.returns-in-None-clause-numbers
 returns-in-None-clause-numbers c =
     let heads = c.args.self.now in
-    ap (chain procedure_class heads) c.first.ensures
+    ap (chain procedure_class heads) c.first_of_procedure.ensures
     ∙ (chain_found procedure_class (Procedure c.args.name c.args.arity) heads heads 0 (in_procedure c.args.name c.args.arity) refl
     ∙ (same_numbers 0 (is_of (Procedure c.args.name c.args.arity)) (can_match c.args.name c.args.arity None) heads (any_match c.args.name c.args.arity)
     ∙ ap (λ k. numbers (can_match c.args.name c.args.arity k) heads) (sym c.in-None.is)))
 
 pub returns-in-None-clause-cursor : goal.returns-in-None-clause-cursor
 returns-in-None-clause-cursor c =
-    subst (IsNumberBelow (length c.args.self.now)) (sym c.first.ensures) (first_below 0 (is_of (Procedure c.args.name c.args.arity)) c.args.self.now (length c.args.self.now) (omega arith))
+    subst (IsNumberBelow (length c.args.self.now)) (sym c.first_of_procedure.ensures) (first_below 0 (is_of (Procedure c.args.name c.args.arity)) c.args.self.now (length c.args.self.now) (omega arith))
 
 pub returns-in-Some-clause-numbers : goal.returns-in-Some-clause-numbers
 returns-in-Some-clause-numbers c =
@@ -28,8 +28,8 @@ returns-in-Some-clause-numbers c =
     let n = c.args.arity in
     let k = c.in-Some.key in
     ap₂ merged
-    (ap (chain key_class heads) c.first-in-Some.ensures ∙ chain_found key_class (WithoutKey f n) heads heads 0 (without_key f n) refl)
-    (ap (chain key_class heads) c.first-in-Some-2.ensures ∙ chain_found key_class (WithKey f n k) heads heads 0 (with_key f n k) refl)
+    (ap (chain key_class heads) c.first_without_key.ensures ∙ chain_found key_class (WithoutKey f n) heads heads 0 (without_key f n) refl)
+    (ap (chain key_class heads) c.first.ensures ∙ chain_found key_class (WithKey f n k) heads heads 0 (with_key f n k) refl)
     ∙ (merged_numbers 0 (is_of (WithoutKey f n)) (is_of (WithKey f n k)) heads (keys_disjoint f n k)
     ∙ (same_numbers 0 (λ h. is_of (WithoutKey f n) h || is_of (WithKey f n k) h) (can_match f n (Some k)) heads (key_match f n k)
     ∙ ap (λ l. numbers (can_match f n l) heads) (sym c.in-Some.is)))
@@ -37,6 +37,6 @@ returns-in-Some-clause-numbers c =
 pub returns-in-Some-clause-cursor : goal.returns-in-Some-clause-cursor
 returns-in-Some-clause-cursor c =
     let heads = c.args.self.now in (
-      subst (IsNumberBelow (length heads)) (sym c.first-in-Some.ensures) (first_below 0 (is_of (WithoutKey c.args.name c.args.arity)) heads (length heads) (omega arith)),
-      subst (IsNumberBelow (length heads)) (sym c.first-in-Some-2.ensures) (first_below 0 (is_of (WithKey c.args.name c.args.arity c.in-Some.key)) heads (length heads) (omega arith)),
+      subst (IsNumberBelow (length heads)) (sym c.first_without_key.ensures) (first_below 0 (is_of (WithoutKey c.args.name c.args.arity)) heads (length heads) (omega arith)),
+      subst (IsNumberBelow (length heads)) (sym c.first.ensures) (first_below 0 (is_of (WithKey c.args.name c.args.arity c.in-Some.key)) heads (length heads) (omega arith)),
     )

@@ -8,5 +8,5 @@ use Rattle.clause_index.proofs.index.ClauseIndex.is_defined.Goals as goal
 
 pub returns : goal.returns
 returns c =
-    c.is_some.ensures ∙ (ap is_some c.first.ensures
+    c.is_some.ensures ∙ (ap is_some c.first_of_procedure.ensures
     ∙ some_first 0 (is_of (Procedure c.args.name c.args.arity)) (is_head_of c.args.name c.args.arity) c.args.self.now (head_test c.args.name c.args.arity))

@@ -1,5 +1,5 @@
-use Rattle.goal_kinds.specs.Kinds.{AreKindsFor}
+use Rattle.goal_kinds.specs.Kinds.{AreFirstKinds, AreKindsFor}
 use Rattle.goal_kinds.proofs.kinds.GoalKinds.new.Given as goal
 
 abbrev pub invariant-loop-at : goal.invariant-loop-at
-invariant-loop-at l = AreKindsFor l.names.items l.known
+invariant-loop-at l = AreFirstKinds l.names.items l.first.items × AreKindsFor l.names.items l.known
