@@ -38,7 +38,7 @@ use Rattle.effect_gate.specs.declared.world.World.{World as KeptWorld}
 use Rattle.region_world.specs.WorldGoals.{TakesWorldGoal, RemovesClause}
 use Rattle.region_world.specs.declared.goal.WorldReply.{WorldReply}
 use Rattle.region_world.specs.declared.goal.WorldReply.TheVariants.{Goes, Halted}
-use Rattle.stack_run.specs.MachineView.{names_asked, own_asked, with_front, next_entries, next_halt, next_after, IsTaken, IsNextIn, run_state, next_state, stop_state, StepsTo, Opens, OpensQuery, opened_state, value_in}
+use Rattle.stack_run.specs.MachineView.{names_asked, own_asked, with_front, next_entries, next_halt, next_after, AsksNoWorld, IsNextOf, run_state, next_state, stop_state, IsOneStep, OpensNext, OpensQuery, opened_state, value_in}
 use Rattle.stack_run.specs.declared.machine.Machine.{Machine}
 use Rattle.stack_run.specs.declared.machine.Next.{Next}
 use Rattle.stack_run.specs.declared.machine.Next.TheVariants.{Runs, Uncaught, Over}
@@ -54,7 +54,7 @@ abbrev own_of : Program → Machine → List NamedTerm
 own_of program m = own_asked m.asked program.queries.items
 
 -- what a reply leaves a region with
-pub reply_taken : (r r1 : RegionView) (reply : Reply) (g : GoalPlace) (after : AfterGoal) → LeavesOutcome r r1 (Replies reply) g after → IsTaken after
+pub reply_taken : (r r1 : RegionView) (reply : Reply) (g : GoalPlace) (after : AfterGoal) → LeavesOutcome r r1 (Replies reply) g after → AsksNoWorld after
 reply_taken r r1 (Solutions ss) g (after_goal.At p) l = tt
 reply_taken r r1 (Solutions ss) g after_goal.Failed l = tt
 reply_taken r r1 (Solutions ss) g (after_goal.Uncaught ball) l = tt
@@ -88,7 +88,7 @@ reply_halts r r1 (Ball b) g (after_goal.Uncaught ball) l = refl
 reply_halts r r1 (Ball b) g after_goal.AsksWorld l = refl
 reply_halts r r1 (HaltNumber k) g after l = absurd l
 
-pub reply_there : (r r1 : RegionView) (reply : Reply) (g : GoalPlace) (after : AfterGoal) → LeavesOutcome r r1 (Replies reply) g after → IsNextIn r1 (next_after after)
+pub reply_there : (r r1 : RegionView) (reply : Reply) (g : GoalPlace) (after : AfterGoal) → LeavesOutcome r r1 (Replies reply) g after → IsNextOf r1 (next_after after)
 reply_there r r1 (Solutions ss) g (after_goal.At p) l = l.1
 reply_there r r1 (Solutions ss) g after_goal.Failed l = tt
 reply_there r r1 (Solutions ss) g (after_goal.Uncaught ball) l = tt
@@ -115,7 +115,7 @@ module _ (m : Machine) (r1 : RegionView) (w1 : KeptWorld) (value : BindingCell) 
 
   -- the world and its reply take the goal's place
   stepped : (next : Next) → world_meant w1 ≡ answer_now.0 → next_halt next ≡ halt_number answer_now.1 → ((named : List NamedTerm) → next_entries named r1 next ≡ after_reply answer_now.1 (continuation_here named r g.after) (entries_of named r))
-      → (program : Program) → StepsTo program m (stop.World (item.Goal value) g) changed next
+      → (program : Program) → IsOneStep program m (stop.World (item.Goal value) g) changed next
   stepped next world halts entries program written inferences =
       let own = own_of program m in
       let f = continuation_here own r g.after in
@@ -131,12 +131,12 @@ module _ (m : Machine) (r1 : RegionView) (w1 : KeptWorld) (value : BindingCell) 
       ∙ (ap (λ (o : Outcome). goal_taken r.text.clauses o h f es st) (sym asks)
       ∙ sym (plain_step r.text.clauses st _ es refl)))))
 
-  pub goal_steps : (reply : WorldReply) (after : AfterGoal) → reply ≡ Goes after → TakesWorldGoal r r1 goal g (world_meant m.world) (world_meant w1) reply → (program : Program) → StepsTo program m (stop.World (item.Goal value) g) changed (next_after after)
+  pub goal_steps : (reply : WorldReply) (after : AfterGoal) → reply ≡ Goes after → TakesWorldGoal r r1 goal g (world_meant m.world) (world_meant w1) reply → (program : Program) → IsOneStep program m (stop.World (item.Goal value) g) changed (next_after after)
   goal_steps reply after is t =
       let l : LeavesOutcome r r1 (Replies answer_now.1) g after = (subst (λ x. TakesWorldGoal r r1 goal g (world_meant m.world) (world_meant w1) x) is t).reply in
       stepped (next_after after) t.world (reply_halts r r1 answer_now.1 g after l) (reply_entries r r1 answer_now.1 g after l)
 
-  pub goal_halts : (reply : WorldReply) (status : ℕ) → reply ≡ Halted status → TakesWorldGoal r r1 goal g (world_meant m.world) (world_meant w1) reply → (program : Program) → StepsTo program m (stop.World (item.Goal value) g) changed (Over (Some status))
+  pub goal_halts : (reply : WorldReply) (status : ℕ) → reply ≡ Halted status → TakesWorldGoal r r1 goal g (world_meant m.world) (world_meant w1) reply → (program : Program) → IsOneStep program m (stop.World (item.Goal value) g) changed (Over (Some status))
   goal_halts reply status is t =
       let l : answer_now.1 ≡ HaltNumber status = (subst (λ x. TakesWorldGoal r r1 goal g (world_meant m.world) (world_meant w1) x) is t).reply in
       stepped (Over (Some status)) t.world (sym (ap halt_number l)) (λ named. sym (ap (λ x. after_reply x (continuation_here named r g.after) (entries_of named r)) l))
@@ -149,24 +149,24 @@ module _ (m : Machine) (r1 : RegionView) (w1 : KeptWorld) (i : FrameItem) (value
   replied_so : (after : AfterGoal) → left ≡ Goes after → LeavesOutcome m.region r1 (Replies (world_step m.region.text.clauses (meaning m.region.store value) m.region.store.now.next (world_meant m.world)).1) g after
   replied_so after e = (subst (λ x. TakesWorldGoal m.region r1 (meaning m.region.store value) g (world_meant m.world) (world_meant w1) x) e t).reply
 
-  pub goes_taken : (after : AfterGoal) → left ≡ Goes after → IsTaken after
+  pub goes_taken : (after : AfterGoal) → left ≡ Goes after → AsksNoWorld after
   goes_taken after e = reply_taken m.region r1 _ g after (replied_so after e)
 
-  pub goes_there : (after : AfterGoal) (next : Next) → left ≡ Goes after → next ≡ next_after after → IsNextIn r1 next
-  goes_there after next e n = subst (IsNextIn r1) (sym n) (reply_there m.region r1 _ g after (replied_so after e))
+  pub goes_there : (after : AfterGoal) (next : Next) → left ≡ Goes after → next ≡ next_after after → IsNextOf r1 next
+  goes_there after next e n = subst (IsNextOf r1) (sym n) (reply_there m.region r1 _ g after (replied_so after e))
 
-  pub goes_so : (after : AfterGoal) (next : Next) → left ≡ Goes after → next ≡ next_after after → (program : Program) → StepsTo program m (stop.World i g) (record m { region = r1; world = w1 }) next
+  pub goes_so : (after : AfterGoal) (next : Next) → left ≡ Goes after → next ≡ next_after after → (program : Program) → IsOneStep program m (stop.World i g) (record m { region = r1; world = w1 }) next
   goes_so after next e n program =
-      subst (λ x. StepsTo program m (stop.World x g) (record m { region = r1; world = w1 }) next) (sym is)
-      (subst (StepsTo program m (stop.World (item.Goal value) g) (record m { region = r1; world = w1 })) (sym n) (goal_steps m r1 w1 value g asks_itself left after e t program))
+      subst (λ x. IsOneStep program m (stop.World x g) (record m { region = r1; world = w1 }) next) (sym is)
+      (subst (IsOneStep program m (stop.World (item.Goal value) g) (record m { region = r1; world = w1 })) (sym n) (goal_steps m r1 w1 value g asks_itself left after e t program))
 
-  pub halts_so : (status : ℕ) → left ≡ Halted status → (program : Program) → StepsTo program m (stop.World i g) (record m { region = r1; world = w1 }) (Over (Some status))
+  pub halts_so : (status : ℕ) → left ≡ Halted status → (program : Program) → IsOneStep program m (stop.World i g) (record m { region = r1; world = w1 }) (Over (Some status))
   halts_so status e program =
-      subst (λ x. StepsTo program m (stop.World x g) (record m { region = r1; world = w1 }) (Over (Some status))) (sym is) (goal_halts m r1 w1 value g asks_itself left status e t program)
+      subst (λ x. IsOneStep program m (stop.World x g) (record m { region = r1; world = w1 }) (Over (Some status))) (sym is) (goal_halts m r1 w1 value g asks_itself left status e t program)
 
 -- the removal of a clause
 module _ (m : Machine) (w1 : KeptWorld) (number : ℕ) (p : Position) where
-  pub clause_removed : RemovesClause number (world_meant m.world) (world_meant w1) true → (program : Program) → StepsTo program m (stop.Removal number p) (record m { world = w1 }) (Runs (Some p))
+  pub clause_removed : RemovesClause number (world_meant m.world) (world_meant w1) true → (program : Program) → IsOneStep program m (stop.Removal number p) (record m { world = w1 }) (Runs (Some p))
   clause_removed t program written inferences =
       let own = own_of program m in
       let es = entries_of own m.region in
@@ -175,7 +175,7 @@ module _ (m : Machine) (w1 : KeptWorld) (number : ℕ) (p : Position) where
       ∙ (ap (λ o. removal_taken o (continuation_here own m.region p) es st) (sym t.1)
       ∙ sym (plain_step m.region.text.clauses st _ es refl))
 
-  pub clause_gone : RemovesClause number (world_meant m.world) (world_meant w1) false → (program : Program) → StepsTo program m (stop.Removal number p) (record m { world = w1 }) (Runs None)
+  pub clause_gone : RemovesClause number (world_meant m.world) (world_meant w1) false → (program : Program) → IsOneStep program m (stop.Removal number p) (record m { world = w1 }) (Runs None)
   clause_gone t program written inferences =
       let own = own_of program m in
       let es = entries_of own m.region in
@@ -191,7 +191,7 @@ values_named st (v ∷ names) = ap (λ ns. named_term v (value_in st v) ∷ ns) 
 
 pub answers_so : (program : Program) (m : Machine) (p : Position) (w1 : KeptWorld) (names : List VarName) (values : List Term) → IsNothingLeft m.region p → map variable_meant names ≡ names_asked m.asked program.queries.items → values ≡ map (value_in m.region.store) names
     → world_meant w1 ≡ record (world_meant m.world) { written = (world_meant m.world).written ++ answer_line (world_meant m.world).operators (named_terms names values) }
-    → StepsTo program m (stop.Answer p) (record m { world = w1; answers = m.answers + 1 }) (Runs None)
+    → IsOneStep program m (stop.Answer p) (record m { world = w1; answers = m.answers + 1 }) (Runs None)
 answers_so program m p w1 names values left are v l written inferences =
     let own = own_of program m in
     let r = m.region in
@@ -227,7 +227,7 @@ names_at (suc (suc n)) (p ∷ qs) q lt le e =
 
 -- the next query
 pub query_opens : (program : Program) (m : Machine) (q : Query) (r1 : RegionView) (p : Position) → m.asked < length program.queries.items → q ≡ get_or program.queries.items m.asked q
-    → position_entry (own_terms q.names) r1 p ∷ entries_of (own_terms q.names) r1 ≡ opened (q ∷ []) → Opens program m (record m { region = r1; asked = m.asked + 1 }) (Runs (Some p))
+    → position_entry (own_terms q.names) r1 p ∷ entries_of (own_terms q.names) r1 ≡ opened (q ∷ []) → OpensNext program m (record m { region = r1; asked = m.asked + 1 }) (Runs (Some p))
 query_opens program m q r1 p lt is view entries written inferences =
     let qs = program.queries.items in
     let w = with_front written (world_meant m.world) in
@@ -238,7 +238,7 @@ query_opens program m q r1 p lt is view entries written inferences =
     let begun : position_entry (own_asked (m.asked + 1) qs) r1 p ∷ entries_of (own_asked (m.asked + 1) qs) r1 ≡ opened (drop m.asked qs) = ap (λ ns. position_entry (own_terms ns) r1 p ∷ entries_of (own_terms ns) r1) named ∙ (view ∙ ap opened (sym split)) in
     ap (λ es. state es (drop (m.asked + 1) qs)) begun ∙ ap (state (opened (drop m.asked qs))) (ap remaining_queries (sym split))
 
-pub none_opens : (program : Program) (m : Machine) → length program.queries.items ≤ m.asked → Opens program m m (Over None)
+pub none_opens : (program : Program) (m : Machine) → length program.queries.items ≤ m.asked → OpensNext program m m (Over None)
 none_opens program m le entries written inferences =
     let none : drop m.asked program.queries.items ≡ [] = all_dropped m.asked program.queries.items le in
     let state : List Entry → List Query → State = λ es left. record { entries = es; world = with_front written (world_meant m.world); queries = left; answers = m.answers; inferences = inferences; halted = None } in
@@ -271,5 +271,5 @@ module _ (program : Program) (m : Machine) (written : List ℕ) (inferences : �
       ∙ end_taken ball)
 
 pub query_ends : (program : Program) (m new : Machine) (w1 : KeptWorld) (ball : Option Term) (next : Next) → world_meant w1 ≡ record (world_meant m.world) { written = (world_meant m.world).written ++ end_line (world_meant m.world).operators ball }
-    → Opens program (record m { world = w1 }) new next → StepsTo program m (stop.QueryDone ball) new next
+    → OpensNext program (record m { world = w1 }) new next → IsOneStep program m (stop.QueryDone ball) new next
 query_ends program m new w1 ball next l o written inferences = o (λ named. []) written (inferences + 1) ∙ end_written program m written inferences ball w1 l

@@ -60,10 +60,10 @@ next_halt (Runs start) = None
 next_halt (Uncaught ball) = None
 next_halt (Over halted) = halted
 
-abbrev pub IsNextIn : RegionView → Next → Type 0
-IsNextIn r (Runs start) = IsOptionalPosition r (length r.choices) start
-IsNextIn r (Uncaught ball) = Unit {0}
-IsNextIn r (Over halted) = Unit {0}
+abbrev pub IsNextOf : RegionView → Next → Type 0
+IsNextOf r (Runs start) = IsOptionalPosition r (length r.choices) start
+IsNextOf r (Uncaught ball) = Unit {0}
+IsNextOf r (Over halted) = Unit {0}
 
 -- the state of a run that has put out these bytes, after so many inferences, with these entries
 abbrev pub run_state : Program → Machine → (List NamedTerm → List Entry) → Option ℕ → List ℕ → ℕ → State
@@ -117,8 +117,8 @@ abbrev pub HasStatics : RegionView → KeptWorld → Type 0
 HasStatics r w = statics_of w ≡ static_among r.text.clauses
 
 -- one inference where a region has stopped, whatever was put out and inferred before
-abbrev pub StepsTo : Program → Machine → Stop → Machine → Next → Type 0
-StepsTo program old s new next =
+abbrev pub IsOneStep : Program → Machine → Stop → Machine → Next → Type 0
+IsOneStep program old s new next =
     (written : List ℕ) (inferences : ℕ) → next_state program new next written (inferences + 1) ≡ step old.region.text.clauses (stop_state program old None s written inferences)
 
 -- what a query's variable stands for
@@ -130,8 +130,8 @@ abbrev pub opened_state : State → State
 opened_state st = record st { entries = opened st.queries; queries = remaining_queries st.queries }
 
 -- a query is opened, or none is left
-abbrev pub Opens : Program → Machine → Machine → Next → Type 0
-Opens program old new next =
+abbrev pub OpensNext : Program → Machine → Machine → Next → Type 0
+OpensNext program old new next =
     (entries : List NamedTerm → List Entry) (written : List ℕ) (inferences : ℕ) → next_state program new next written inferences ≡ opened_state (run_state program old entries None written inferences)
 
 -- the job of a program that begins in this world
@@ -141,7 +141,7 @@ program_job program w = record { clauses = clauses_in program; database = w.data
 -- a run before its first inference
 pub record Begins (program : Program) (m : Machine) (next : Next) : Type 0 where
   pub state : next_state program m next [] 0 ≡ opening (program_job program (world_meant m.world))
-  pub there : IsNextIn m.region next
+  pub there : IsNextOf m.region next
   pub text : m.region.text ≡ arc_value program.text
   pub empty : m.world.out.items ≡ []
 
@@ -152,11 +152,11 @@ pub record OpensQuery (text : TextView) (q : Query) (r : RegionView) (p : Positi
   pub of_text : r.text ≡ text
 
 -- what a goal of the world leaves a region with
-abbrev pub IsTaken : AfterGoal → Type 0
-IsTaken (At p) = Unit {0}
-IsTaken Failed = Unit {0}
-IsTaken (UncaughtBall ball) = Unit {0}
-IsTaken AsksWorld = ⊥
+abbrev pub AsksNoWorld : AfterGoal → Type 0
+AsksNoWorld (At p) = Unit {0}
+AsksNoWorld Failed = Unit {0}
+AsksNoWorld (UncaughtBall ball) = Unit {0}
+AsksNoWorld AsksWorld = ⊥
 
 abbrev pub next_after : AfterGoal → Next
 next_after (At p) = Runs (Some p)

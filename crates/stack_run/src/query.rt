@@ -2,7 +2,7 @@
 ghost use Rattle.std.specs.Prelude.{◌≡◌, IfOk, OnOk};
 ghost use Rattle.std.specs.Arc.{arc_value};
 ghost use Rattle.text_load.specs.QueryView.{goal_terms};
-ghost use Rattle.stack_run.specs.MachineView.{IsNextIn, Opens, OpensQuery};
+ghost use Rattle.stack_run.specs.MachineView.{IsNextOf, OpensNext, OpensQuery};
 
 use crate::machine::{Machine, Next, Program};
 use au_term::{NoMemory, Shared};
@@ -19,8 +19,8 @@ pub(crate) fn ask_next(
     machine: &mut Machine,
 ) -> Result<Next, NoMemory>
     requires text { machine.old.region.text ≡ arc_value program.now.text }
-    ensures opens { IfOk result (Opens program.now machine.old machine.new) }
-    ensures there { IfOk result (IsNextIn machine.new.region) }
+    ensures opens { IfOk result (OpensNext program.now machine.old machine.new) }
+    ensures there { IfOk result (IsNextOf machine.new.region) }
     ensures text { machine.new.region.text ≡ arc_value program.now.text }
     ensures world { machine.new.world ≡ machine.old.world }
 {

@@ -5,19 +5,19 @@ use Rattle.std.proofs.lemmas.Bool.Decides.{leb_tells}
 use Rattle.std.proofs.lemmas.List.{ext_get_or, get_or_append_left, get_or-append_right, get_or-drop, get_or-take, length-append, length-drop, length-take-le}
 use Rattle.std.specs.Cmp.Lexicographic.{other_text, same_text}
 use Rattle.au_model.specs.Terms.Forms.{same_name}
-use Rattle.std_builtins.specs.Agreements.{AgreeFor, AreKnown, IsAgreement, IsWindow}
-use Rattle.std_builtins.specs.declared.agreement.Window.{Window}
+use Rattle.std_builtins.specs.Agreements.{AgreeFor, AreKnown, IsAgreement, IsStretch}
+use Rattle.std_builtins.specs.declared.agreement.Stretch.{Stretch}
 
--- what agrees in the window agrees with what was found at the beginning
-pub window_agrees : (cs ks : List ℕ) (place k : ℕ) (w : Window) → IsWindow cs place w → AreKnown cs place ks → (0 < k → (place + k ≤ w.to) × (k ≤ get_or ks (place - w.from) 0)) → AgreeFor cs place k
-window_agrees cs ks place k w is known h j lt =
+-- what agrees in the stretch agrees with what was found at the beginning
+pub stretch_agrees : (cs ks : List ℕ) (place k : ℕ) (w : Stretch) → IsStretch cs place w → AreKnown cs place ks → (0 < k → (place + k ≤ w.to) × (k ≤ get_or ks (place - w.from) 0)) → AgreeFor cs place k
+stretch_agrees cs ks place k w is known h j lt =
     let bound = h (omega arith) in
     let inside : place + j ≡ w.from + (place - w.from + j) = omega (arith, is.before) in
     ap (λ i. get_or cs i 0) inside
     ∙ (is.agree (place - w.from + j) (omega (arith, lt, bound.0, is.before)) ∙ known.1 (place - w.from) (omega (arith, is.before, is.later, lt, bound.0, is.within)) j (omega (arith, lt, bound.1)))
 
 -- and it reaches no further than the text
-pub known_within : (cs ks : List ℕ) (place k : ℕ) (w : Window) → IsWindow cs place w → place < length cs → (0 < k → (place + k ≤ w.to) × (k ≤ get_or ks (place - w.from) 0)) → place + k ≤ length cs
+pub known_within : (cs ks : List ℕ) (place k : ℕ) (w : Stretch) → IsStretch cs place w → place < length cs → (0 < k → (place + k ≤ w.to) × (k ≤ get_or ks (place - w.from) 0)) → place + k ≤ length cs
 known_within cs ks place zero w is lt h = omega (arith, lt)
 known_within cs ks place (suc k) w is lt h = let bound = h (omega arith) in omega (arith, bound.0, is.within)
 

@@ -1,6 +1,6 @@
 -- How far a text agrees, from a place on, with its beginning.
 use Rattle.std.specs.Prelude.{◌≡◌, ◌+◌, ◌-◌, ◌<◌, ◌≤◌, ℕ, List, length, get_or}
-use Rattle.std_builtins.specs.declared.agreement.Window.{Window}
+use Rattle.std_builtins.specs.declared.agreement.Stretch.{Stretch}
 
 -- the first so many characters are those of the beginning
 abbrev pub AgreeFor : List ℕ → ℕ → ℕ → Type 0
@@ -20,7 +20,7 @@ AreAgreements cs ks = (length cs ≤ length ks) × ((i : ℕ) → 1 ≤ i → i 
 abbrev pub AreKnown : List ℕ → ℕ → List ℕ → Type 0
 AreKnown cs place ks = (length ks ≡ place) × ((i : ℕ) → i < place → AgreeFor cs i (get_or ks i 0))
 
-pub record IsWindow (cs : List ℕ) (place : ℕ) (w : Window) : Type 0 where
+pub record IsStretch (cs : List ℕ) (place : ℕ) (w : Stretch) : Type 0 where
   pub later : 1 ≤ w.from
   pub before : w.from ≤ place
   pub within : w.to ≤ length cs

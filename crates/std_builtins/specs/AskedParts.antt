@@ -18,8 +18,8 @@ abbrev pub IsAskedText : Asked → Type 0
 IsAskedText asked = (cs : List ℕ) → admits_characters asked.characters cs ≡ admits_atom asked.term.now cs
 
 -- how far a bound part, put before a text, agrees with what stands at each of the text's places
-abbrev pub AreFound : Option (Vec ℕ Global) → List ℕ → List ℕ → Type 0
-AreFound o cs ks = MatchOption o (Unit {0}) (λ part. AreAgreements (part.items ++ cs) ks)
+abbrev pub AreAskedAgreements : Option (Vec ℕ Global) → List ℕ → List ℕ → Type 0
+AreAskedAgreements o cs ks = MatchOption o (Unit {0}) (λ part. AreAgreements (part.items ++ cs) ks)
 
 -- no other number is admitted
 abbrev pub IsOnlyCount : Term → Option ℕ → Type 0

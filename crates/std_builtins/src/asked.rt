@@ -4,7 +4,7 @@ ghost use Rattle.std.specs.Str.{chars};
 ghost use Rattle.au_term.specs.Term.{AtomTerm, IntTerm};
 ghost use Rattle.au_model.specs.Terms.Forms.{same_name};
 ghost use Rattle.run_model.specs.Goals.AtomParts.{admits_atom, admits_count};
-ghost use Rattle.std_builtins.specs.AskedParts.{AreFound, IsAskedText, IsOnlyCount};
+ghost use Rattle.std_builtins.specs.AskedParts.{AreAskedAgreements, IsAskedText, IsOnlyCount};
 
 use crate::agreement::agreements;
 use crate::characters::{atom_term, put};
@@ -45,7 +45,7 @@ impl Asked<'_> {
 
     /// How far the part, if it is bound, agrees with what stands at each place of a text that is put after it.
     pub(crate) fn found_in(&self, alloc: Global, text: &[char]) -> Result<Vec<usize>, NoMemory>
-        ensures { IfOk result (λ found. AreFound self.now.characters text.now found.items) }
+        ensures { IfOk result (λ found. AreAskedAgreements self.now.characters text.now found.items) }
     {
         match &self.characters {
             Some(part) => {
@@ -68,7 +68,7 @@ impl Asked<'_> {
         count: usize,
     ) -> bool
         requires asked { IsAskedText self.now }
-        requires found { AreFound self.now.characters text.now found.now }
+        requires found { AreAskedAgreements self.now.characters text.now found.now }
         requires within { start + count ≤ length text.now }
         ensures { result ≡ admits_atom self.now.term.now (take count (drop start text.now)) }
     {

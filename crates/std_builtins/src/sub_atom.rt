@@ -6,7 +6,7 @@ ghost use Rattle.au_model.specs.Terms.ErrorTerms.{type_error};
 ghost use Rattle.run_model.specs.Goals.AtomGoals.{is_open_atom, with_counts, with_each};
 ghost use Rattle.run_model.specs.Goals.AtomParts.{admits_atom, fits_part, part_at, part_solution, part_term, found_parts_answer, parts_from, atom_parts, sub_atom_answer};
 ghost use Rattle.std_builtins.specs.Answers.{IsAnswer, solution_meant};
-ghost use Rattle.std_builtins.specs.AskedParts.{AreFound, IsAskedText, IsOnlyLength, asked_meant};
+ghost use Rattle.std_builtins.specs.AskedParts.{AreAskedAgreements, IsAskedText, IsOnlyLength, asked_meant};
 
 use crate::answer::{BuiltinRefusal, Solution, failed};
 use crate::asked::{Asked, admits_count, asked_for, characters_of, count_term, only_count};
@@ -81,7 +81,7 @@ impl PartsAsked<'_> {
         solutions: &mut Vec<Solution>,
     ) -> Result<(), NoMemory>
         requires asked { IsAskedText self.now.text }
-        requires found { AreFound self.now.text.characters characters.now found.now }
+        requires found { AreAskedAgreements self.now.text.characters characters.now found.now }
         requires start { start ≤ length characters.now }
         ensures { OnOk result (map solution_meant solutions.new.items ≡ map solution_meant solutions.old.items
             ++ map (part_solution (asked_meant self.now)) (filter (fits_part (asked_meant self.now)) (parts_from characters.now start))) }
@@ -124,7 +124,7 @@ impl PartsAsked<'_> {
         solutions: &mut Vec<Solution>,
     ) -> Result<(), NoMemory>
         requires asked { IsAskedText self.now.text }
-        requires found { AreFound self.now.text.characters characters.now found.now }
+        requires found { AreAskedAgreements self.now.text.characters characters.now found.now }
         requires start { start ≤ length characters.now }
         ensures { OnOk result (map solution_meant solutions.new.items ≡ map solution_meant solutions.old.items
             ++ map (part_solution (asked_meant self.now)) (filter (fits_part (asked_meant self.now)) (parts_from characters.now start))) }
@@ -147,7 +147,7 @@ impl PartsAsked<'_> {
         solutions: &mut Vec<Solution>,
     ) -> Result<(), NoMemory>
         requires asked { IsAskedText self.now.text }
-        requires found { AreFound self.now.text.characters characters.now found.now }
+        requires found { AreAskedAgreements self.now.text.characters characters.now found.now }
         requires within { start + count ≤ length characters.now }
         ensures { OnOk result (map solution_meant solutions.new.items ≡ map solution_meant solutions.old.items
             ++ map (part_solution (asked_meant self.now)) (filter (fits_part (asked_meant self.now)) (part_at characters.now start count ∷ []))) }
