@@ -3,3 +3,4 @@ pub mod NumberLemmas
 pub mod ChainLemmas
 pub mod HeadKeyLemmas
 pub mod PlaceLemmas
+pub mod NamedLemmas

@@ -1,11 +1,11 @@
 //! The index.
-ghost use Rattle.std.specs.Prelude.{◌≡◌, ◌<◌, ◌∷◌, [], IfOk, OnOk, MatchOption, Some, length};
+ghost use Rattle.std.specs.Prelude.{◌≡◌, ◌<◌, ◌∷◌, [], IfOk, IfSome, OnOk, MatchOption, Some, length};
 ghost use Rattle.std.specs.List.{list_any};
 ghost use Rattle.clause_index.specs.Classes.{is_of, is_head_of, can_match, procedure_class, key_class};
 ghost use Rattle.clause_index.specs.Numbers.{first_from, numbers};
 ghost use Rattle.clause_index.specs.Cursors.{IsCursorOf, IsNumberBelow, chain, numbers_left, TakesLeast};
 ghost use Rattle.clause_index.specs.declared.cursor.Cursor.{Cursor as CursorValue};
-ghost use Rattle.clause_index.specs.Chains.{IsChained, AreFirstsOf, AreNamedFirsts};
+ghost use Rattle.clause_index.specs.Chains.{IsChained, AreFirstsOf, AreNamedFirsts, HasKeyed, PutsFirsts};
 
 use crate::cursor::Cursor;
 use crate::key::{Class, HeadKey, NumberKey};
@@ -17,12 +17,45 @@ use std::marker::Model;
 /// The first clause of each class, by its number.
 type Firsts = BTreeMap<Class, u32>;
 
-/// The first clauses of a procedure of a name, with so many arguments: of all, and of those without a first key.
+/// The first clauses of a procedure of a name, with so many arguments: of all, of those without a first key, and of those
+/// with two of its keys.
 #[derive(Clone, Copy, Debug)]
 pub(crate) struct NamedFirsts {
     pub(crate) arity: u32,
     pub(crate) all: Option<u32>,
     pub(crate) without_key: Option<u32>,
+    pub(crate) one: Option<(NumberKey, u32)>,
+    pub(crate) other: Option<(NumberKey, u32)>,
+}
+
+impl NamedFirsts {
+    /// The first clause with a key, where the key is one of the two.
+    fn with_key(self, key: NumberKey) -> Option<u32>
+        ensures { IfSome result (λ number. HasKeyed self (key, number)) }
+    {
+        match (self.one, self.other) {
+            (Some((known, number)), _) if known == key => Some(number),
+            (_, Some((known, number))) if known == key => Some(number),
+            _ => None,
+        }
+    }
+
+    /// The same, with one key more if fewer than two are known.
+    fn and_key(self, name: u32, key: NumberKey, firsts: &Firsts) -> NamedFirsts
+        requires { AreFirstsOf firsts.now name self }
+        ensures { AreFirstsOf firsts.now name result }
+    {
+        let Some(number) = firsts.get(&Class::WithKey(name, self.arity, key)).copied() else {
+            return self;
+        };
+        let mut more = self;
+        match (self.one, self.other) {
+            (None, _) => more.one = Some((key, number)),
+            (Some((known, _)), None) if known != key => more.other = Some((key, number)),
+            _ => {}
+        }
+        more
+    }
 }
 
 /// An index of clauses. Contracts see the keys of their heads, in the order of the text.
@@ -107,7 +140,7 @@ impl ClauseIndex {
             None => Cursor::All(self.first_of_procedure(name, arity)),
             Some(key) => Cursor::ByKey(
                 self.first_without_key(name, arity),
-                self.first(Class::WithKey(name, arity, key)),
+                self.first_with_key(name, arity, key),
             ),
         }
     }
@@ -192,6 +225,20 @@ impl ClauseIndex {
         }
     }
 
+    /// The first clause of a procedure whose head has a key.
+    fn first_with_key(&self, name: u32, arity: u32, key: NumberKey) -> Option<u32>
+        ensures { result ≡ first_from 0 (is_of (Class.WithKey name arity key)) self.now }
+    {
+        let known = match self.named.get(name as usize) {
+            Some(firsts) if firsts.arity == arity => firsts.with_key(key),
+            _ => None,
+        };
+        match known {
+            Some(number) => Some(number),
+            None => self.first(Class::WithKey(name, arity, key)),
+        }
+    }
+
     /// The first clause of a class.
     fn first(&self, class: Class) -> Option<u32>
         ensures { result ≡ first_from 0 (is_of class) self.now }
@@ -224,12 +271,50 @@ fn named_firsts(
 {
     let mut named = firsts_of_atoms(alloc, names_among(heads), firsts)?;
     for head in heads {
-        let at = head.name as usize;
-        if at < named.len() {
-            named[at] = firsts_of(head.name, head.arity, firsts);
-        }
+        put_firsts(
+            head.name,
+            firsts_of(head.name, head.arity, firsts),
+            &mut named,
+        );
     }
+    put_keys(heads, firsts, &mut named);
     Ok(named)
+}
+
+/// Puts these in place of those of a name, if it has an entry.
+fn put_firsts(name: u32, firsts: NamedFirsts, named: &mut Vec<NamedFirsts>)
+    ensures { PutsFirsts name firsts named.old.items named.new.items }
+{
+    let at = name as usize;
+    if at < named.len() {
+        named[at] = firsts;
+    }
+}
+
+/// Puts the first keys of procedures beside them.
+fn put_keys(heads: &[HeadKey], firsts: &Firsts, named: &mut Vec<NamedFirsts>)
+    requires { AreNamedFirsts firsts.now named.old.items }
+    ensures { AreNamedFirsts firsts.now named.new.items }
+{
+    for head in heads {
+        put_key(*head, firsts, named);
+    }
+}
+
+/// Puts the first key of a head beside those of its procedure, if that has an entry.
+fn put_key(head: HeadKey, firsts: &Firsts, named: &mut Vec<NamedFirsts>)
+    requires { AreNamedFirsts firsts.now named.old.items }
+    ensures { AreNamedFirsts firsts.now named.new.items }
+{
+    let Some(key) = head.first else {
+        return;
+    };
+    match named.get(head.name as usize).copied() {
+        Some(known) if known.arity == head.arity => {
+            put_firsts(head.name, known.and_key(head.name, key, firsts), named);
+        }
+        _ => {}
+    }
 }
 
 /// A number that is greater than those of all heads' names, if there is one.
@@ -260,5 +345,7 @@ fn firsts_of(name: u32, arity: u32, firsts: &Firsts) -> NamedFirsts
         arity,
         all: firsts.get(&Class::Procedure(name, arity)).copied(),
         without_key: firsts.get(&Class::WithoutKey(name, arity)).copied(),
+        one: None,
+        other: None,
     }
 }

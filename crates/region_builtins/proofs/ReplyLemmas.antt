@@ -15,7 +15,7 @@ use Rattle.std_builtins.specs.declared.table.Builtin.{Builtin}
 use Rattle.region_split.specs.ChoicePoints.{Standing, by_height}
 use Rattle.region_split.specs.Regions.{RegionView, entries_of, heights_of, items_here, continuation_here, IsPositionOver}
 use Rattle.region_split.specs.StackOperations.{StaysStanding}
-use Rattle.region_split.proofs.TrialLemmas.{same_parts, items_twice, named_twice}
+use Rattle.region_split.proofs.TrialLemmas.{same_parts, items_same, named_same, items_twice, named_twice}
 use Rattle.region_control.specs.Controls.{IsGoalPlace}
 use Rattle.region_control.specs.GoalForms.{argument_terms}
 use Rattle.region_control.specs.declared.control.GoalPlace.{GoalPlace}
@@ -34,21 +34,6 @@ same_next f = ap (λ n. with_next n f) (let e : f.next + 0 ≡ f.next = omega ar
 nothing_unified : unifier [] ≡ Some []
 unfolding unifier
 nothing_unified = refl
-
--- nothing is bound
-item_same : (i : Item ℕ) → resolve_item [] i ≡ i
-item_same (GoalItem t h) = ap (λ u. GoalItem u h) (resolve-nothing t)
-item_same (CatchMark h) = refl
-item_same (CollectMark t h) = ap (λ u. CollectMark u h) (resolve-nothing t)
-item_same (RemovalItem number) = refl
-
-items_same : (is : List (Item ℕ)) → map (resolve_item []) is ≡ is
-items_same [] = refl
-items_same (i ∷ is) = ap₂ (λ j js. j ∷ js) (item_same i) (items_same is)
-
-named_same : (vs : List NamedTerm) → map (resolve_named []) vs ≡ vs
-named_same [] = refl
-named_same (v ∷ vs) = ap₂ (λ t ws. (let w : NamedTerm = record v { term = t } in w) ∷ ws) (resolve-nothing v.term) (named_same vs)
 
 same_continuation : (f : Continuation ℕ) → resolve_continuation [] f ≡ f
 same_continuation f = same_parts (items_same f.items) (named_same f.named) refl

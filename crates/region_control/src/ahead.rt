@@ -110,17 +110,14 @@ fn first_item(region: &Region, position: Position) -> Result<FirstItem, NoMemory
     }
 }
 
-/// Where a goal goes on: at this position, or, if its frame has come to its end, where that goes on. So the frame of a last
-/// goal is not kept, and no later goal walks over it. Frames over which choice points stand are left as they are.
+/// Where a goal goes on: at this position, or, if its frame has come to its end, where that goes on. So no later goal walks
+/// over the frame of a last goal, which is kept for choice points alone.
 fn past_end(region: &Region, position: Position, cut: u32) -> Position
     requires scope { cut ≤ length region.now.choices }
     requires over { IsPositionOver region.now cut position }
     ensures over { IsPositionOver region.now cut result }
     ensures same { items_here region.now result ≡ items_here region.now position }
 {
-    if region.height() > cut as usize {
-        return position;
-    }
     match region.left_at(position) {
         Left::GoesOnAt(older) => older,
         _ => position,

@@ -9,7 +9,7 @@ use Rattle.binding_array.specs.declared.cell.BindingCell.{BindingCell}
 use Rattle.cell_store.specs.StoreView.{IsValueIn, text_in, value_term}
 use Rattle.region_split.specs.Frames.{LeftItem, PlacedGoal, OwnItem, item_in, body_left, own_body_left, next_position, AreLeftScoped}
 use Rattle.region_split.specs.ChoicePoints.{AreMarked}
-use Rattle.region_split.specs.Regions.{RegionView, IsConsistentRegion, left_here, items_here, IsPositionIn, IsLeftAt}
+use Rattle.region_split.specs.Regions.{RegionView, IsConsistentRegion, left_here, items_here, IsPositionIn, IsPositionOver, IsLeftAt}
 use Rattle.region_split.specs.declared.frame.Frame.{Frame}
 use Rattle.region_split.specs.declared.frame.FrameBody.{FrameBody}
 use Rattle.region_split.specs.declared.frame.FrameBody.TheVariants.{Text, One}
@@ -46,11 +46,9 @@ module _ (r : RegionView) (k : IsConsistentRegion r) (p : Position) (f : Frame) 
   pub ended : own f.body p.at ≡ [] → IsLeftAt r p (GoesOnAt f.after)
   ended e =
       let same : left_here r p ≡ left_here r f.after = whole ∙ ap (λ is. is ++ left_here r f.after) e in
-      record {
-        items = ap (map (item_in (text_in r.store))) same;
-        position = record { frame = let a = older_frame in let b = i.frame in omega (arith, a, b); scoped = subst (AreLeftScoped (text_in r.store) r.store.now.next (length r.choices)) same i.scoped; marked = subst (AreMarked r.choices) same i.marked };
-        older = older_frame;
-      }
+      let over : (cut : ℕ) → IsPositionOver r cut p → IsPositionOver r cut f.after
+      = λ cut h. record { frame = let a = older_frame in let b = i.frame in omega (arith, a, b); scoped = subst (AreLeftScoped (text_in r.store) r.store.now.next cut) same h.scoped; marked = subst (AreMarked r.choices) same h.marked } in
+      record { items = ap (map (item_in (text_in r.store))) same; over = over; position = over (length r.choices) i; older = older_frame }
 
   scoped_from : (item : LeftItem) → left_here r p ≡ item ∷ left_here r (next_position p) → AreLeftScoped (text_in r.store) r.store.now.next (length r.choices) (item ∷ left_here r (next_position p))
   scoped_from item e = subst (AreLeftScoped (text_in r.store) r.store.now.next (length r.choices)) e i.scoped

@@ -1,5 +1,5 @@
 -- Equations that are solved one after another.
-use Rattle.std.proofs.Common.{◌≡◌, ℕ, ◌+◌, ◌<◌, get_or, List, [], ◌∷◌, ◌++◌, append-nil, length, map, take, drop, Option, Some, None, refl, sym, ap, ap₂, ◌∙◌, subst, arith}
+use Rattle.std.proofs.Common.{◌≡◌, ℕ, ◌+◌, ◌<◌, get_or, List, [], ◌∷◌, ◌++◌, length, map, take, drop, Option, Some, None, refl, sym, ap, ap₂, ◌∙◌, subst, arith}
 use Rattle.std.specs.Option.{option_map}
 use Rattle.std.proofs.lemmas.List.{map-append, take-append-drop}
 use Rattle.au_model.specs.Terms.Each.{Each}
@@ -10,8 +10,8 @@ use Rattle.au_model.specs.Terms.Substitutions.{Substitution, resolve, value_of}
 use Rattle.au_model.specs.Terms.Unifier.{Equations, unifier}
 use Rattle.au_model.proofs.EquationsInTurnLemmas.{front_first, resolve-after, resolve-nothing}
 use Rattle.au_model.proofs.UnifierLemmas.{unifier_goes}
-use Rattle.clause_compile.specs.Places.{CodeView, Keeps}
-use Rattle.clause_compile.proofs.CodeLemmas.{keeps_twice}
+use Rattle.clause_compile.specs.Places.{Keeps}
+use Rattle.clause_compile.proofs.CodeLemmas.{keeps_same, keeps_twice}
 use Rattle.binding_array.specs.declared.cell.BindingCell.{BindingCell}
 use Rattle.cell_store.specs.StoreView.{Moment, StoreView, text_at, AddsText, IsValueIn, meaning, text_in, value_term}
 use Rattle.cell_store.specs.UnificationSteps.{AreUnified, OnlyBinds}
@@ -45,7 +45,7 @@ none_solved r = record {
   unified = unifier_goes.none_left;
   bound = λ n. sym (resolve-nothing (value_of r.store.now.bound n));
   next = refl;
-  keeps = record { names = []; names_are = sym (append-nil (text_in r.store).names); places = []; places_are = sym (append-nil (text_in r.store).places); same = λ p there. (there, refl) };
+  keeps = keeps_same (text_in r.store);
   values = λ value there. (there, refl);
   stays = stays_same r;
 }
@@ -116,16 +116,13 @@ module _ (r0 r : RegionView) (done : Equations) (solved : AreAllSolved r0 r done
       pub no_more : (rest : Equations) → unifier ((meaning r2.store a, meaning r2.store b) ∷ []) ≡ None → (unifier ((done ++ own ∷ []) ++ rest) ≡ None) × StaysStanding r0 r3
       no_more rest none = (front_first (done ++ own ∷ []) rest ∙ ap (λ f. further_unified f rest) (in_turn None none), all_stays third)
 
-nothing_kept : (code : CodeView) → Keeps code code
-nothing_kept code = record { names = []; names_are = sym (append-nil code.names); places = []; places_are = sym (append-nil code.places); same = λ p there. (there, refl) }
-
 -- no text was added
 pub nothing_added : (st : StoreView) → AddsText st st
-nothing_added st = record { keeps = nothing_kept (text_in st); values = λ value there. (there, refl); program = refl; bound = refl; next = refl; marks = refl; at_marks = all_kept st.marks }
+nothing_added st = record { keeps = keeps_same (text_in st); values = λ value there. (there, refl); program = refl; bound = refl; next = refl; marks = refl; at_marks = all_kept st.marks }
   where
     all_kept : (ms : List Moment) → Each (λ m. Keeps (text_at st m) (text_at st m)) ms
     all_kept [] = tt
-    all_kept (m ∷ ms) = (nothing_kept (text_at st m), all_kept ms)
+    all_kept (m ∷ ms) = (keeps_same (text_at st m), all_kept ms)
 
 -- text that was added twice
 pub adds_twice : (a b c : StoreView) → AddsText a b → AddsText b c → AddsText a c

@@ -9,6 +9,7 @@ use Rattle.au_model.specs.Terms.Unifier.{unifier}
 use Rattle.au_model.specs.Terms.Each.{Each}
 use Rattle.au_model.proofs.EachLemmas.{each-more}
 use Rattle.au_model.proofs.ApplyLemmas.{apply-same, apply-apply}
+use Rattle.au_model.proofs.EquationsInTurnLemmas.{resolve-nothing}
 use Rattle.au_model.proofs.VariableBoundLemmas.{apply-below}
 use Rattle.run_model.specs.Programs.Bodies.{clause_goals_of}
 use Rattle.run_model.specs.Programs.Clauses.{Clause, clause_renaming, clause_takes, renamed_head, renamed_goals}
@@ -44,6 +45,21 @@ use Rattle.region_split.proofs.ScopeLemmas.{scoped_further}
 
 pub same_parts : {is js : List (Item ℕ)} {vs ws : List NamedTerm} {m n : ℕ} → is ≡ js → vs ≡ ws → m ≡ n → (let f : Continuation ℕ = record { items = is; named = vs; next = m } in f) ≡ record { items = js; named = ws; next = n }
 same_parts e f g = cc
+
+-- nothing is bound
+item_same : (i : Item ℕ) → resolve_item [] i ≡ i
+item_same (GoalItem t h) = ap (λ u. GoalItem u h) (resolve-nothing t)
+item_same (CatchMark h) = refl
+item_same (CollectMark t h) = ap (λ u. CollectMark u h) (resolve-nothing t)
+item_same (RemovalItem number) = refl
+
+pub items_same : (is : List (Item ℕ)) → map (resolve_item []) is ≡ is
+items_same [] = refl
+items_same (i ∷ is) = ap₂ (λ j js. j ∷ js) (item_same i) (items_same is)
+
+pub named_same : (vs : List NamedTerm) → map (resolve_named []) vs ≡ vs
+named_same [] = refl
+named_same (v ∷ vs) = ap₂ (λ t ws. (let w : NamedTerm = record v { term = t } in w) ∷ ws) (resolve-nothing v.term) (named_same vs)
 
 -- goals whose variables begin further up, in one scope
 abbrev goals_from : ℕ → ℕ → List Term → List (Item ℕ)

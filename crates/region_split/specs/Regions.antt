@@ -79,6 +79,7 @@ pub record IsFirstAt (r : RegionView) (p : Position) (item : FrameItem) (cut : �
 -- what is left at a position is left at one of an older frame
 pub record GoesOnIn (r : RegionView) (p q : Position) : Type 0 where
   pub items : items_here r p ≡ items_here r q
+  pub over : (cut : ℕ) → IsPositionOver r cut p → IsPositionOver r cut q
   pub position : IsPositionIn r q
   pub older : q.frame < p.frame
 

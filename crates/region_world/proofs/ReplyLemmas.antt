@@ -16,28 +16,13 @@ use Rattle.region_split.specs.Solutions.{SolutionView}
 use Rattle.region_split.specs.SolutionTrials.{Solves}
 use Rattle.region_split.specs.StackOperations.{solution_here}
 use Rattle.region_split.specs.declared.frame.Position.{Position}
-use Rattle.region_split.proofs.TrialLemmas.{same_parts}
+use Rattle.region_split.proofs.TrialLemmas.{same_parts, items_same, named_same}
 use Rattle.region_control.specs.Controls.{IsGoalPlace}
 use Rattle.region_control.specs.Replies.{Leaves, LeavesOutcome}
 use Rattle.region_control.specs.declared.control.GoalPlace.{GoalPlace}
 use Rattle.region_control.specs.declared.replies.AfterGoal.{AfterGoal}
 use Rattle.region_control.specs.declared.replies.AfterGoal.TheVariants.{At, Failed, Uncaught, AsksWorld}
 use Rattle.region_control.proofs.ControlLemmas.{place_in}
-
--- nothing is bound
-item_same : (i : Item ℕ) → resolve_item [] i ≡ i
-item_same (GoalItem t h) = ap (λ u. GoalItem u h) (resolve-nothing t)
-item_same (CatchMark h) = refl
-item_same (CollectMark t h) = ap (λ u. CollectMark u h) (resolve-nothing t)
-item_same (RemovalItem number) = refl
-
-items_same : (is : List (Item ℕ)) → map (resolve_item []) is ≡ is
-items_same [] = refl
-items_same (i ∷ is) = ap₂ (λ j js. j ∷ js) (item_same i) (items_same is)
-
-named_same : (vs : List NamedTerm) → map (resolve_named []) vs ≡ vs
-named_same [] = refl
-named_same (v ∷ vs) = ap₂ (λ t ws. (let w : NamedTerm = record v { term = t } in w) ∷ ws) (resolve-nothing v.term) (named_same vs)
 
 -- to hold once is to go on
 once_goes_on : (f : Continuation ℕ) (es : List Entry) → after_reply holds_once f es ≡ PlainEntry f ∷ es

@@ -29,7 +29,7 @@ returns-in-Some-clause-numbers c =
     let k = c.in-Some.key in
     ap₂ merged
     (ap (chain key_class heads) c.first_without_key.ensures ∙ chain_found key_class (WithoutKey f n) heads heads 0 (without_key f n) refl)
-    (ap (chain key_class heads) c.first.ensures ∙ chain_found key_class (WithKey f n k) heads heads 0 (with_key f n k) refl)
+    (ap (chain key_class heads) c.first_with_key.ensures ∙ chain_found key_class (WithKey f n k) heads heads 0 (with_key f n k) refl)
     ∙ (merged_numbers 0 (is_of (WithoutKey f n)) (is_of (WithKey f n k)) heads (keys_disjoint f n k)
     ∙ (same_numbers 0 (λ h. is_of (WithoutKey f n) h || is_of (WithKey f n k) h) (can_match f n (Some k)) heads (key_match f n k)
     ∙ ap (λ l. numbers (can_match f n l) heads) (sym c.in-Some.is)))
@@ -38,5 +38,5 @@ pub returns-in-Some-clause-cursor : goal.returns-in-Some-clause-cursor
 returns-in-Some-clause-cursor c =
     let heads = c.args.self.now in (
       subst (IsNumberBelow (length heads)) (sym c.first_without_key.ensures) (first_below 0 (is_of (WithoutKey c.args.name c.args.arity)) heads (length heads) (omega arith)),
-      subst (IsNumberBelow (length heads)) (sym c.first.ensures) (first_below 0 (is_of (WithKey c.args.name c.args.arity c.in-Some.key)) heads (length heads) (omega arith)),
+      subst (IsNumberBelow (length heads)) (sym c.first_with_key.ensures) (first_below 0 (is_of (WithKey c.args.name c.args.arity c.in-Some.key)) heads (length heads) (omega arith)),
     )
