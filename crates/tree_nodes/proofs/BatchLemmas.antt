@@ -1,7 +1,7 @@
 -- Records in batches.
-use Rattle.std.proofs.Common.{◌≡◌, ℕ, ◌+◌, ◌<◌, List, [], ◌∷◌, ◌++◌, length, take, refl, sym, ap, ◌∙◌, arith, append_assoc, get_or}
+use Rattle.std.proofs.Common.{◌≡◌, ◌≢◌, ℕ, ◌+◌, ◌<◌, List, [], ◌∷◌, ◌++◌, Some, None, length, take, refl, sym, ap, ◌∙◌, arith, subst, append_assoc, get_or}
 use Rattle.std.proofs.lemmas.List.{append-nil, length-append, reverse-append, reverse-reverse, take_more}
-use Rattle.std.specs.Prelude.{reverse}
+use Rattle.std.specs.Prelude.{reverse, slice_get}
 use Rattle.au_term.specs.Term.{Term}
 use Rattle.tree_nodes.specs.Batches.{batched_terms, AreMerged}
 
@@ -54,3 +54,22 @@ right_records before behind ps new records e f =
     ap (λ (x : Batches). batched_terms (reverse before) ++ batched_terms x) e
     ∙ (ap (λ (x : List Term). batched_terms (reverse before) ++ x) (batched_terms-append behind ps)
     ∙ (sym (append_assoc (batched_terms (reverse before)) (batched_terms behind) (batched_terms ps)) ∙ ap (λ (x : List Term). (batched_terms (reverse before) ++ batched_terms behind) ++ x) f))
+
+-- where there are some, there are some in all
+pub some-before : (xs ys : List Term) → xs ≢ [] → xs ++ ys ≢ []
+some-before [] ys h e = h refl
+some-before (x ∷ xs) ys h e = absurd (cc e)
+
+pub some-behind : (xs ys : List Term) → ys ≢ [] → xs ++ ys ≢ []
+some-behind [] ys h e = h e
+some-behind (x ∷ xs) ys h e = absurd (cc e)
+
+pub batched_terms-some : (items : Batches) (x : List Term) → slice_get items 0 ≡ Some x → x ≢ [] → batched_terms items ≢ []
+batched_terms-some [] x e h = absurd (cc e)
+batched_terms-some (y ∷ items) x e h =
+    let same : y ≡ x = cc e in
+    some-before y (batched_terms items) (subst (λ (z : List Term). z ≢ []) (sym same) h)
+
+pub none_first : (items : Batches) → slice_get items 0 ≡ None → items ≡ []
+none_first [] e = refl
+none_first (y ∷ items) e = absurd (cc e)

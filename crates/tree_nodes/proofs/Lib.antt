@@ -15,6 +15,8 @@ pub mod NewRowLemmas
 pub mod AddLemmas
 pub mod CreditLemmas
 pub mod FoldLemmas
+pub mod SomeLemmas
+pub mod NoneLemmas
 pub mod WalkLemmas
 pub mod MeetLemmas
 pub mod FrontLemmas

@@ -1,5 +1,5 @@
 -- The credits beside an alternative, added up.
-use Rattle.std.specs.Prelude.{◌≡◌, ℕ, suc, ◌&&◌, Bool, true, false, List, [], ◌∷◌, Option, Some, None, take, drop}
+use Rattle.std.specs.Prelude.{◌≡◌, ◌≢◌, ℕ, suc, ◌&&◌, Bool, true, false, List, [], ◌∷◌, Option, Some, None, take, drop}
 use Rattle.tree_model.specs.Credits.{Credit, added, credit_of}
 use Rattle.tree_model.specs.Levels.{Place}
 use Rattle.tree_nodes.specs.Rows.{AlternativeCell, PendingCell, InnerCell, ClosedCell, StoredNode, Rows, row_of_node, cell_at}
@@ -57,6 +57,13 @@ pub record IsFolding (rows : Rows) (at above : Place) (c total : Credit) : Type 
   pub there : cell_at rows above ≡ Some (spent, cell)
   pub sum : total ≡ added (credit_of spent) (with_beside at.index row.cells c)
 
+-- it folds, and the sum has records
+pub record FoldsWithRecords (rows : Rows) (at : Place) (c : Credit) : Type 0 where
+  pub above : Place
+  pub total : Credit
+  pub folds : IsFolding rows at above c total
+  pub some : total.records ≢ []
+
 abbrev pub StaysIn : Option Place → ℕ → List (ℕ × AlternativeCell) → Type 0
 StaysIn None i cells = Unit {0}
 StaysIn (Some above) i cells = shut_beside i cells ≡ false
@@ -76,3 +83,8 @@ abbrev pub Gathers : Option StoredNode → ℕ → Bool → Credit → Credit �
 Gathers None i shut c total = ⊥
 Gathers (Some r) i true c total = (shut_beside i r.cells ≡ true) × (total ≡ with_beside i r.cells c)
 Gathers (Some r) i false c total = (shut_beside i r.cells ≡ false) × (total ≡ c)
+
+-- all beside an alternative is closed, and the sum has records
+abbrev pub GathersRecords : Option StoredNode → ℕ → Credit → Type 0
+GathersRecords None i c = ⊥
+GathersRecords (Some r) i c = (shut_beside i r.cells ≡ true) × ((with_beside i r.cells c).records ≢ [])

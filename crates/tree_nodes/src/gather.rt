@@ -1,11 +1,12 @@
 //! Credits added up.
-ghost use Rattle.std.specs.Prelude.{◌≡◌, ◌++◌, List, IfOk, OnOk, reverse};
+ghost use Rattle.std.specs.Prelude.{◌≡◌, ◌≢◌, ◌++◌, [], List, IfOk, OnOk, OnErr, reverse};
 ghost use Rattle.au_term.specs.Term.{Term};
 ghost use Rattle.tree_model.specs.Credits.{added, credit_of};
+ghost use Rattle.tree_nodes.specs.Batches.{batched_terms};
 ghost use Rattle.tree_nodes.specs.Rows.{credit_view};
 
 use crate::merging::merged;
-use crate::records::{Batch, Records};
+use crate::records::{Batch, Records, are_none};
 use crate::state::Credit;
 use au_term::NoMemory;
 use std::alloc::Global;
@@ -62,7 +63,8 @@ impl Gathered {
 
     /// A credit on the left.
     pub(crate) fn add_left(&mut self, credit: &Credit) -> Result<(), NoMemory>
-        ensures { OnOk result (self.new ≡ added (credit_view credit.now) self.old) }
+        ensures sum { OnOk result (self.new ≡ added (credit_view credit.now) self.old) }
+        ensures some { OnErr result ((credit_view credit.now).records ≢ []) }
     {
         share_backwards(credit.records.batches(), &mut self.before)?;
         self.inferences = credit.inferences.saturating_add(self.inferences);
@@ -72,7 +74,8 @@ impl Gathered {
 
     /// A credit on the right.
     pub(crate) fn add_right(&mut self, credit: &Credit) -> Result<(), NoMemory>
-        ensures { OnOk result (self.new ≡ added self.old (credit_view credit.now)) }
+        ensures sum { OnOk result (self.new ≡ added self.old (credit_view credit.now)) }
+        ensures some { OnErr result ((credit_view credit.now).records ≢ []) }
     {
         share_behind(credit.records.batches(), &mut self.behind)?;
         self.inferences = self.inferences.saturating_add(credit.inferences);
@@ -82,7 +85,8 @@ impl Gathered {
 
     /// The sum.
     pub(crate) fn finish(self, alloc: Global) -> Result<Credit, NoMemory>
-        ensures { IfOk result (λ credit. credit_view credit ≡ self) }
+        ensures sum { IfOk result (λ credit. credit_view credit ≡ self) }
+        ensures some { OnErr result (self.records ≢ []) }
     {
         let Gathered {
             inferences,
@@ -90,20 +94,42 @@ impl Gathered {
             before,
             behind,
         } = self;
-        let mut all = before;
-        let mut rest = behind;
-        all.reverse();
-        all.append(&mut rest)?;
         Ok(Credit {
             inferences,
             answers,
-            records: Records::of_batches(merged(alloc, all)?),
+            records: joined(alloc, before, behind)?,
         })
     }
 }
 
+// The records of both, those before backwards.
+fn joined(alloc: Global, before: Vec<Batch>, behind: Vec<Batch>) -> Result<Records, NoMemory>
+    ensures records { IfOk result (λ all. all ≡ batched_terms (reverse before.items) ++ batched_terms behind.items) }
+    ensures some { OnErr result (batched_terms (reverse before.items) ++ batched_terms behind.items ≢ []) }
+{
+    let mut all = before;
+    let mut rest = behind;
+    all.reverse();
+    if are_none(&rest) {
+        return all_of(alloc, all);
+    }
+    all.append(&mut rest)?;
+    all_of(alloc, all)
+}
+
+fn all_of(alloc: Global, batches: Vec<Batch>) -> Result<Records, NoMemory>
+    ensures records { IfOk result (λ all. all ≡ batched_terms batches.items) }
+    ensures some { OnErr result (batched_terms batches.items ≢ []) }
+{
+    if are_none(&batches) {
+        return Ok(Records::new(alloc));
+    }
+    Ok(Records::of_batches(merged(alloc, batches)?))
+}
+
 fn share_behind(batches: &[Batch], out: &mut Vec<Batch>) -> Result<(), NoMemory>
-    ensures { OnOk result (out.new.items ≡ out.old.items ++ batches.now) }
+    ensures shared { OnOk result (out.new.items ≡ out.old.items ++ batches.now) }
+    ensures some { OnErr result (batches.now ≢ []) }
 {
     for batch in batches {
         out.push(batch.share()?)?;
@@ -112,7 +138,8 @@ fn share_behind(batches: &[Batch], out: &mut Vec<Batch>) -> Result<(), NoMemory>
 }
 
 fn share_backwards(batches: &[Batch], out: &mut Vec<Batch>) -> Result<(), NoMemory>
-    ensures { OnOk result (out.new.items ≡ out.old.items ++ reverse batches.now) }
+    ensures shared { OnOk result (out.new.items ≡ out.old.items ++ reverse batches.now) }
+    ensures some { OnErr result (batches.now ≢ []) }
 {
     for i in 0..batches.len() {
         out.push(batches[batches.len() - 1 - i].share()?)?;

@@ -12,11 +12,11 @@ ghost use Rattle.tree_nodes.specs.TreeTables.{NodesView, Stand};
 ghost use Rattle.std.specs.Arc.{arc_value};
 ghost use Rattle.tree_nodes.specs.Bodies.{body_view, IsWhole};
 ghost use Rattle.tree_nodes.specs.Changes.{SetsCell, Fits, KeepsNumbers, Adds, CanHold, IsLonger, ClosesAt, LowersSpare, AreGone, GivesBack, is_pending, root_after};
-ghost use Rattle.tree_nodes.specs.Folds.{FoldsUpTo, IsAbove, IsDeeper};
+ghost use Rattle.tree_nodes.specs.Folds.{FoldsUpTo, ClosesWithRecords, AreWithoutRecords, IsAbove, IsDeeper};
 ghost use Rattle.tree_nodes.specs.Fronts.{HasOpenLeft, KeepsFront, IsFront, IsNextOf};
 ghost use Rattle.tree_nodes.specs.Siblings.{ArePassed};
 ghost use Rattle.tree_nodes.specs.Puts.{inner_at};
-ghost use Rattle.tree_nodes.specs.Gathering.{IsFoldStep, Gathers, is_shut_at};
+ghost use Rattle.tree_nodes.specs.Gathering.{IsFoldStep, FoldsWithRecords, Gathers, GathersRecords, is_shut_at};
 
 use crate::body::NodeBody;
 use crate::cells::{link_cell, put_cell};
@@ -406,12 +406,15 @@ impl Nodes {
     }
 
     /// Closes an alternative, and drops what stood below it. Where all alternatives of a node below another have then
-    /// closed, it folds into the alternative that it is below, and so on.
+    /// closed, it folds into the alternative that it is below, and so on. It fails only where the credit with which it closes
+    /// in the end has records.
     pub fn close(&mut self, at: AltRef, credit: Credit) -> Result<(), NoMemory>
         requires there { IsSome (cell_at self.old.rows (place_view at)) }
         ensures closed { OnOk result (ClosesAt self.old self.new (place_view at) (credit_view credit)) }
         ensures numbers { OnOk result (LowersSpare self.old self.new) }
         ensures err { OnErr result (self.new ≡ self.old) }
+        ensures provided { OnErr result (ClosesWithRecords self.old (place_view at) (credit_view credit)) }
+        ensures without { AreWithoutRecords self.old.rows → (credit_view credit).records ≡ [] → IsOk result }
     {
         let (end, total) = self.folded(at, credit)?;
         let spent = self.spent(end);
@@ -425,6 +428,8 @@ impl Nodes {
         requires { IsSome (cell_at self.now.rows (place_view at)) }
         ensures folds { IfOk result (λ f. FoldsUpTo self.now (place_view at) (credit_view credit) (place_view f.0) (credit_view f.1)) }
         ensures there { IfOk result (λ f. IsSome (cell_at self.now.rows (place_view f.0))) }
+        ensures provided { OnErr result (ClosesWithRecords self.now (place_view at) (credit_view credit)) }
+        ensures without { AreWithoutRecords self.now.rows → (credit_view credit).records ≡ [] → IsOk result }
     {
         let mut gathered = Gathered::new(self.alloc, credit);
         let mut end = at;
@@ -440,6 +445,7 @@ impl Nodes {
         requires { IsSome (cell_at self.now.rows (place_view at)) }
         ensures step { IfOk result (λ above. IsFoldStep self.now.rows (place_view at) gathered.old (parent_view above) gathered.new) }
         ensures above { IfOk result (λ above. IsAbove self.now.rows (parent_view above) at.node) }
+        ensures some { OnErr result (FoldsWithRecords self.now.rows (place_view at) gathered.old) }
     {
         let Some(above) = self.parent(at.node) else {
             return Ok(None);
@@ -453,7 +459,8 @@ impl Nodes {
 
     fn gather(&self, at: AltRef, gathered: &mut Gathered) -> Result<bool, NoMemory>
         requires { IsSome (cell_at self.now.rows (place_view at)) }
-        ensures { IfOk result (λ shut. Gathers (row_of_node self.now.rows at.node) at.alternative shut gathered.old gathered.new) }
+        ensures sum { IfOk result (λ shut. Gathers (row_of_node self.now.rows at.node) at.alternative shut gathered.old gathered.new) }
+        ensures some { OnErr result (GathersRecords (row_of_node self.now.rows at.node) at.alternative gathered.old) }
     {
         let Some(row) = self.row(at.node) else {
             unreachable!()

@@ -1,5 +1,6 @@
 //! Records in their order, in batches that credits share.
-ghost use Rattle.std.specs.Prelude.{◌≡◌, ◌++◌, [], IfOk, OnOk, length};
+ghost use Rattle.std.specs.Prelude.{◌≡◌, ◌≢◌, ◌++◌, [], IfOk, OnOk, OnErr, length};
+ghost use Rattle.std.specs.Bool.{OnTrue, OnFalse};
 ghost use Rattle.tree_nodes.specs.Batches.{batched_terms};
 
 use au_term::{FlatTerm, NoMemory};
@@ -7,14 +8,14 @@ use std::alloc::Global;
 use std::marker::Model;
 use std::sync::Arc;
 
-/// Records that are shared as a whole. Contracts see their list.
+/// Records that are shared as a whole, one at least. Contracts see their list.
 #[derive(Drop)]
 pub(crate) struct Batch {
     records: Arc<Vec<FlatTerm>>,
 }
 
 impl Model for Batch {
-    ghost use Rattle.std.specs.Prelude.{List};
+    ghost use Rattle.std.specs.Prelude.{◌≢◌, [], List};
     ghost use Rattle.std.specs.Arc.{arc_value};
     ghost use Rattle.std.specs.Coded.{codes};
     ghost use Rattle.au_term.specs.Term.{Term};
@@ -25,11 +26,14 @@ impl Model for Batch {
     ghost coded = { Prim.hlevel (codes, term_code) };
 
     ghost view = { λ p. (arc_value p.records).items };
+
+    ghost invariant = { λ p. (arc_value p.records).items ≢ [] };
 }
 
 impl Batch {
     /// These records.
     pub(crate) fn new(alloc: Global, records: Vec<FlatTerm>) -> Result<Batch, NoMemory>
+        requires { records.items ≢ [] }
         ensures { IfOk result (λ batch. batch ≡ records.items) }
     {
         Ok(Batch {
@@ -39,7 +43,8 @@ impl Batch {
 
     /// How many there are.
     pub(crate) fn len(&self) -> usize
-        ensures { result ≡ length self.now }
+        ensures length { result ≡ length self.now }
+        ensures some { self.now ≢ [] }
     {
         self.records.len()
     }
@@ -57,6 +62,8 @@ impl Batch {
     pub(crate) fn with(&self, alloc: Global, behind: &Batch) -> Result<Batch, NoMemory>
         ensures { IfOk result (λ batch. batch ≡ self.now ++ behind.now) }
     {
+        // The proof reads off that there are some.
+        let _many = self.len();
         let mut all = Vec::new(alloc);
         self.copy_to(&mut all)?;
         behind.copy_to(&mut all)?;
@@ -103,8 +110,12 @@ impl Records {
 
     /// These records.
     pub fn of(alloc: Global, records: Vec<FlatTerm>) -> Result<Records, NoMemory>
-        ensures { IfOk result (λ all. all ≡ records.items) }
+        ensures records { IfOk result (λ all. all ≡ records.items) }
+        ensures some { OnErr result (records.items ≢ []) }
     {
+        if records.is_empty() {
+            return Ok(Records::new(alloc));
+        }
         let mut batches = Vec::new(alloc);
         batches.push(Batch::new(alloc, records)?)?;
         Ok(Records { batches })
@@ -117,8 +128,11 @@ impl Records {
     }
 
     pub(crate) fn batches(&self) -> &[Batch]
-        ensures { batched_terms result.now ≡ self.now }
+        ensures terms { batched_terms result.now ≡ self.now }
+        ensures none { self.now ≡ [] → result.now ≡ [] }
     {
+        // The proof reads off that no batch is empty.
+        let _none = are_none(&self.batches);
         &self.batches
     }
 
@@ -134,6 +148,21 @@ impl Records {
         ensures { IfOk result (λ all. all.items ≡ self.now) }
     {
         copied(alloc, &self.batches)
+    }
+}
+
+/// Whether there are no records.
+pub(crate) fn are_none(batches: &[Batch]) -> bool
+    ensures none { OnTrue result (batches.now ≡ []) }
+    ensures some { OnFalse result (batched_terms batches.now ≢ []) }
+{
+    match batches.first() {
+        Some(first) => {
+            // The proof reads off that it is not empty.
+            let _many = first.len();
+            false
+        }
+        None => true,
     }
 }
 

@@ -1,5 +1,5 @@
 //! The alternatives of a node, from left to right.
-ghost use Rattle.std.specs.Prelude.{◌≡◌, ◌<◌, ◌≤◌, ◌+◌, ◌++◌, ◌∷◌, [], length, map, slice_get, slice_set, Some, IfOk, OnOk, MatchOption};
+ghost use Rattle.std.specs.Prelude.{◌≡◌, ◌≢◌, ◌<◌, ◌≤◌, ◌+◌, ◌++◌, ◌∷◌, [], length, map, slice_get, slice_set, Some, IfOk, OnOk, OnErr, MatchOption};
 ghost use Rattle.std.specs.Option.{option_map, option_copied};
 ghost use Rattle.tree_nodes.specs.Rows.{cell_view, credit_view};
 ghost use Rattle.tree_nodes.specs.RowViews.{inner_of};
@@ -192,7 +192,8 @@ impl Siblings {
         gathered: &mut Gathered,
     ) -> Result<(), NoMemory>
         requires { index < length self.now }
-        ensures { OnOk result (gathered.new ≡ with_beside index self.now gathered.old) }
+        ensures sum { OnOk result (gathered.new ≡ with_beside index self.now gathered.old) }
+        ensures some { OnErr result ((with_beside index self.now gathered.old).records ≢ []) }
     {
         gather_right(&self.items[index + 1..], gathered)?;
         gather_left(&self.items[..index], gathered)
@@ -271,7 +272,8 @@ fn pass(items: &[Alternative], from: Passed) -> Passed
 }
 
 fn gather_left(alternatives: &[Alternative], gathered: &mut Gathered) -> Result<(), NoMemory>
-    ensures { OnOk result (gathered.new ≡ with_left (map alternative_view alternatives.now) gathered.old) }
+    ensures sum { OnOk result (gathered.new ≡ with_left (map alternative_view alternatives.now) gathered.old) }
+    ensures some { OnErr result ((with_left (map alternative_view alternatives.now) gathered.old).records ≢ []) }
 {
     for i in 0..alternatives.len() {
         if let Some(credit) = alternatives[alternatives.len() - 1 - i].credit() {
@@ -282,7 +284,8 @@ fn gather_left(alternatives: &[Alternative], gathered: &mut Gathered) -> Result<
 }
 
 fn gather_right(alternatives: &[Alternative], gathered: &mut Gathered) -> Result<(), NoMemory>
-    ensures { OnOk result (gathered.new ≡ with_right_credits gathered.old (map alternative_view alternatives.now)) }
+    ensures sum { OnOk result (gathered.new ≡ with_right_credits gathered.old (map alternative_view alternatives.now)) }
+    ensures some { OnErr result ((with_right_credits gathered.old (map alternative_view alternatives.now)).records ≢ []) }
 {
     for alternative in alternatives {
         if let Some(credit) = alternative.credit() {
