@@ -1,3 +1,5 @@
 pub mod ReplyLemmas
+pub mod PairLemmas
+pub mod QuickLemmas
 pub mod UndoneLemmas
 pub mod SolvedLemmas

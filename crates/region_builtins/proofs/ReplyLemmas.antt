@@ -1,13 +1,14 @@
 -- What goes on after a goal that holds once or fails.
 use Rattle.std.proofs.Common.{◌≡◌, ℕ, ◌+◌, true, false, List, [], ◌∷◌, ◌++◌, length, map, Some, None, refl, sym, ap, ap₂, ◌∙◌, subst, arith}
 use Rattle.au_model.specs.Terms.Named.{NamedTerm}
-use Rattle.au_model.specs.Terms.Unifier.{unifier}
+use Rattle.au_model.specs.Terms.Substitutions.{Substitution}
+use Rattle.au_model.specs.Terms.Unifier.{Equations, unifier}
 use Rattle.au_model.proofs.EquationsInTurnLemmas.{resolve-nothing}
-use Rattle.run_model.specs.Goals.BuiltinAnswers.{Answer, equal, holds_if}
+use Rattle.run_model.specs.Goals.BuiltinAnswers.{Answer, equal, holds_if, one_solution}
 use Rattle.run_model.specs.Machine.Items.{Item, GoalItem, CatchMark, CollectMark, RemovalItem, Continuation, with_next, resolve_item, resolve_named, resolve_continuation}
 use Rattle.run_model.specs.Machine.Entries.{PlainEntry, unified}
 use Rattle.binding_array.specs.declared.cell.BindingCell.{BindingCell}
-use Rattle.cell_store.specs.StoreView.{StoreView, substitution, meaning, with_substitution}
+use Rattle.cell_store.specs.StoreView.{StoreView, IsComposition, substitution, meaning, with_substitution}
 use Rattle.cell_store.specs.UnificationSteps.{AreUnified, OnlyBinds}
 use Rattle.cell_store.specs.declared.arguments.Arguments.{Arguments}
 use Rattle.std_builtins.specs.Meanings.{answer_of}
@@ -53,34 +54,41 @@ module _ (r : RegionView) (place : GoalPlace) (at : IsGoalPlace r place) where
   pub fails : AnswersIn r r (holds_if false) place Failed
   fails name arity = λ named. refl
 
-  module _ (new : RegionView) (a b : BindingCell) (stays : StaysStanding r new) where
+  module _ (new : RegionView) (stays : StaysStanding r new) (es : Equations) where
     same_entries : (named : List NamedTerm) → entries_of named new ≡ entries_of named r
     same_entries named = ap (λ (s : Standing). s.entries) (stays.stands named)
 
-    pub not_unified : unifier ((meaning r.store a, meaning r.store b) ∷ []) ≡ None → AnswersIn r new (equal (meaning r.store a) (meaning r.store b)) place Failed
-    not_unified none name arity = λ named.
+    pub no_unifier : unifier es ≡ None → AnswersIn r new (one_solution es) place Failed
+    no_unifier none name arity = λ named.
         let f = continuation_here named r place.after in
         ap (λ o. (unified o (with_next (f.next + 0) f) ++ []) ++ entries_of named r) none ∙ sym (same_entries named)
 
-    module _ (u : AreUnified a b r.store new.store) (kept : OnlyBinds r.store new.store) where
+    module _ (further : Substitution) (is : unifier es ≡ Some further) (bound : IsComposition r.store.now.bound further new.store.now.bound) (kept : OnlyBinds r.store new.store) where
       bound_is : new ≡ record r { store = with_substitution (substitution new.store) r.store }
       bound_is = stays.others ∙ ap (λ (x : StoreView). record r { store = x }) kept.others
 
-      follows : (named : List NamedTerm) → continuation_here named new place.after ≡ resolve_continuation u.further (continuation_here named r place.after)
+      follows : (named : List NamedTerm) → continuation_here named new place.after ≡ resolve_continuation further (continuation_here named r place.after)
       follows named =
           ap (λ (x : RegionView). continuation_here named x place.after) bound_is
-          ∙ same_parts (items_twice r.store.now.bound u.further new.store.now.bound u.binds.bound (map (by_height (heights_of named r)) (items_here r place.after))) (named_twice r.store.now.bound u.further new.store.now.bound u.binds.bound named) refl
+          ∙ same_parts (items_twice r.store.now.bound further new.store.now.bound bound (map (by_height (heights_of named r)) (items_here r place.after))) (named_twice r.store.now.bound further new.store.now.bound bound named) refl
 
-      pub unified_goes_on : AnswersIn r new (equal (meaning r.store a) (meaning r.store b)) place (At place.after)
-      unified_goes_on name arity = (
+      pub all_unified : AnswersIn r new (one_solution es) place (At place.after)
+      all_unified name arity = (
         (λ named.
             let f = continuation_here named r place.after in
-            let es = entries_of named r in
-            ap (λ o. (unified o (with_next (f.next + 0) f) ++ []) ++ es) u.unified
-            ∙ (ap (λ g. PlainEntry (resolve_continuation u.further g) ∷ es) (same_next f)
+            let others = entries_of named r in
+            ap (λ o. (unified o (with_next (f.next + 0) f) ++ []) ++ others) is
+            ∙ (ap (λ g. PlainEntry (resolve_continuation further g) ∷ others) (same_next f)
             ∙ sym (ap₂ (λ g xs. PlainEntry g ∷ xs) (follows named) (same_entries named)))),
         subst (λ n. IsPositionOver new n place.after) (sym (ap (λ (x : RegionView). length x.choices) stays.others)) (stays.position (length r.choices) place.after (place_in r place at)),
       )
+
+  module _ (new : RegionView) (a b : BindingCell) (stays : StaysStanding r new) where
+    pub not_unified : unifier ((meaning r.store a, meaning r.store b) ∷ []) ≡ None → AnswersIn r new (equal (meaning r.store a) (meaning r.store b)) place Failed
+    not_unified none = no_unifier new stays ((meaning r.store a, meaning r.store b) ∷ []) none
+
+    pub unified_goes_on : AreUnified a b r.store new.store → OnlyBinds r.store new.store → AnswersIn r new (equal (meaning r.store a) (meaning r.store b)) place (At place.after)
+    unified_goes_on u kept = all_unified new stays ((meaning r.store a, meaning r.store b) ∷ []) u.further u.unified u.binds.bound kept
 
 -- an answer as the store showed it
 pub quick_seen : (r : RegionView) (st : StoreView) (b : Builtin) (a : Arguments) (q : QuickAnswer) → st ≡ r.store → ((next : ℕ) → IsQuickAnswer st (answer_of b (argument_terms st a) next) q) → IsQuickAnswer r.store (answer_of b (argument_terms r.store a) r.store.now.next) q

@@ -2,7 +2,7 @@
 ghost use Rattle.std.specs.Prelude.{◌≡◌, ◌<◌, ◌∷◌, [], IfOk, OnOk, Err, is_none, length};
 ghost use Rattle.au_model.specs.Terms.Faults.{error_term_of};
 ghost use Rattle.au_model.specs.Terms.Unifier.{unifier};
-ghost use Rattle.run_model.specs.Goals.BuiltinAnswers.{equal, reply_of};
+ghost use Rattle.run_model.specs.Goals.BuiltinAnswers.{equal, one_solution, reply_of};
 ghost use Rattle.run_model.specs.Goals.Outcomes.{Replies};
 ghost use Rattle.run_model.specs.Goals.UnificationGoals.{apart_answer};
 ghost use Rattle.clause_compile.specs.AtomNumbers.{name_at};
@@ -13,7 +13,7 @@ ghost use Rattle.region_split.specs.Regions.{IsPositionIn};
 ghost use Rattle.region_control.specs.Controls.{IsGoalPlace};
 ghost use Rattle.region_control.specs.GoalForms.{argument_terms, AreArgumentsIn};
 ghost use Rattle.region_control.specs.Replies.{LeavesOutcome};
-ghost use Rattle.region_builtins.specs.QuickAnswers.{AnswersIn, AnswersFor};
+ghost use Rattle.region_builtins.specs.QuickAnswers.{AnswersIn, AnswersFor, IsPairIn, pair_meant};
 
 use crate::quick::{QuickAnswer, quick_answer};
 use crate::solved::{resolved_arguments, solutions_of};
@@ -43,6 +43,28 @@ fn equate(
     } else {
         Ok(AfterGoal::Failed)
     }
+}
+
+/// Makes two values one, and then two others, in the place of a goal.
+fn equate_both(
+    region: &mut Region,
+    first: (BindingCell, BindingCell),
+    second: (BindingCell, BindingCell),
+    place: GoalPlace,
+) -> Result<AfterGoal, NoMemory>
+    requires first { IsPairIn region.old.store first }
+    requires second { IsPairIn region.old.store second }
+    requires place { IsGoalPlace region.old place }
+    ensures comes { IfOk result (AnswersIn region.old region.new (one_solution (pair_meant region.old.store first ∷ pair_meant region.old.store second ∷ [])) place) }
+    ensures text { OnOk result (region.new.text ≡ region.old.text) }
+{
+    if !region.unify(first.0, first.1)? {
+        return Ok(AfterGoal::Failed);
+    }
+    if !region.unify(second.0, second.1)? {
+        return Ok(AfterGoal::Failed);
+    }
+    Ok(AfterGoal::At(place.after))
 }
 
 /// Whether two values have no unifier. What is bound while one is looked for is undone.
@@ -120,6 +142,7 @@ pub fn builtin_goal(
         QuickAnswer::Holds(true) => Ok(AfterGoal::At(place.after)),
         QuickAnswer::Holds(false) => Ok(AfterGoal::Failed),
         QuickAnswer::Equal(left, right) => equate(region, left, right, place),
+        QuickAnswer::BothEqual(first, second) => equate_both(region, first, second, place),
         QuickAnswer::Apart(left, right) => differ(region, left, right, place),
         QuickAnswer::Raises(fault) => raise_error(region, alloc, &fault, form, place),
         QuickAnswer::Unknown => resolved_goal(region, alloc, builtin, form, place),

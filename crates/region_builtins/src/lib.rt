@@ -1,5 +1,6 @@
-//! Built-in predicates in a region. Unification, tests, comparisons, arithmetic and arguments by their numbers look at terms
-//! where they are, and for terms of usual size take no memory; all others have their arguments resolved.
+//! Built-in predicates in a region. Unification, tests, comparisons, arithmetic, arguments by their numbers, and the names of
+//! terms and how many arguments they have look at terms where they are, and for terms of usual size take no memory; all others
+//! have their arguments resolved.
 #![tactic(auto)]
 
 mod goal;

@@ -1,7 +1,7 @@
 //! What built-in predicates answer by the values of their arguments (ISO/IEC 13211-1, 8.2 to 8.7).
 ghost use Rattle.std.specs.Prelude.{◌≡◌, ℕ, IfOk};
 ghost use Rattle.run_model.specs.Goals.ArithmeticGoals.{is_answer, comparison_answer};
-ghost use Rattle.run_model.specs.Goals.TermParts.{argument_answer};
+ghost use Rattle.run_model.specs.Goals.TermParts.{argument_answer, functor_answer};
 ghost use Rattle.cell_store.specs.StoreView.{IsValueIn, meaning};
 ghost use Rattle.std_builtins.specs.Meanings.{answer_of, arguments_of, type_test, value_test};
 ghost use Rattle.region_control.specs.GoalForms.{argument_terms, AreArgumentsIn};
@@ -19,7 +19,9 @@ use std_builtins::{Builtin, Comparison, TypeTest};
 use value_goals::type_tests::{
     integer_of, is_atom, is_atomic, is_callable, is_compound, is_integer, is_variable,
 };
-use value_goals::{argument as numbered_argument, compare, compared_values, is_ground, is_value};
+use value_goals::{
+    argument as numbered_argument, compare, compared_values, functor, is_ground, is_value,
+};
 
 /// What a goal answers by the values of its arguments.
 #[derive(Drop)]
@@ -28,6 +30,8 @@ pub(crate) enum QuickAnswer {
     Holds(bool),
     /// It holds where two values are made one.
     Equal(BindingCell, BindingCell),
+    /// It holds where two values are made one, and then two others.
+    BothEqual((BindingCell, BindingCell), (BindingCell, BindingCell)),
     /// It holds where two values have no unifier.
     Apart(BindingCell, BindingCell),
     Raises(Fault),
@@ -71,6 +75,11 @@ pub(crate) fn quick_answer(
         Builtin::Value(test) => {
             let left = argument(store, arguments, 0);
             values_compared(alloc, store, test, left, argument(store, arguments, 1))
+        }
+        Builtin::Functor => {
+            let term = argument(store, arguments, 0);
+            let name = argument(store, arguments, 1);
+            Ok(functor_found(store, term, name, argument(store, arguments, 2)))
         }
         Builtin::Argument => {
             let number = argument(store, arguments, 0);
@@ -145,6 +154,28 @@ fn refused(refusal: EvalRefusal) -> Result<QuickAnswer, NoMemory>
     match refusal {
         EvalRefusal::Fault(fault) => Ok(QuickAnswer::Raises(fault)),
         EvalRefusal::NoMemory => Err(NoMemory),
+    }
+}
+
+/// What `functor/3` answers with a term that is no variable (8.5.1).
+#[tactic(auto, using(crate::proofs::QuickLemmas::functor_known))]
+fn functor_found(
+    store: &Store,
+    term: BindingCell,
+    name: BindingCell,
+    arity: BindingCell,
+) -> QuickAnswer
+    requires term { IsValueIn store.now term }
+    requires name { IsValueIn store.now name }
+    requires arity { IsValueIn store.now arity }
+    ensures { (next : ℕ) → IsQuickAnswer store.now (functor_answer (meaning store.now term) (meaning store.now name) (meaning store.now arity) next) result }
+{
+    match functor(store, term) {
+        Some((found, count)) => {
+            let count = BindingCell::Int(i64::from(count));
+            QuickAnswer::BothEqual((name, found), (arity, count))
+        }
+        None => QuickAnswer::Unknown,
     }
 }
 

@@ -68,3 +68,24 @@ returns-in-Raises-clause-comes c =
     let answer : Answer = answer_of c.args.builtin (argument_terms r.store c.args.form.arguments) r.store.now.next in
     let known = subst (IsQuickAnswer r.store answer) c.in-Raises.is (quick_seen r c.store.result.now c.args.builtin c.args.form.arguments _ c.store.ensures.store c.in_ok-quick_answer.ensures) in
     IfOk-weaker c.raise_error.result _ _ (λ after k. answers_same r c.raise_error.new.region c.args.form answer _ c.args.place after known k) c.raise_error.ensures.comes
+
+pub equate_both-requires-clause-first : goal.equate_both-requires-clause-first
+equate_both-requires-clause-first c =
+    let r = c.args.region.now in
+    let answer : Answer = answer_of c.args.builtin (argument_terms r.store c.args.form.arguments) r.store.now.next in
+    let known = subst (IsQuickAnswer r.store answer) c.in-BothEqual.is (quick_seen r c.store.result.now c.args.builtin c.args.form.arguments _ c.store.ensures.store c.in_ok-quick_answer.ensures) in
+    known.0
+
+pub equate_both-requires-clause-second : goal.equate_both-requires-clause-second
+equate_both-requires-clause-second c =
+    let r = c.args.region.now in
+    let answer : Answer = answer_of c.args.builtin (argument_terms r.store c.args.form.arguments) r.store.now.next in
+    let known = subst (IsQuickAnswer r.store answer) c.in-BothEqual.is (quick_seen r c.store.result.now c.args.builtin c.args.form.arguments _ c.store.ensures.store c.in_ok-quick_answer.ensures) in
+    known.1
+
+pub returns-in-BothEqual-clause-comes : goal.returns-in-BothEqual-clause-comes
+returns-in-BothEqual-clause-comes c =
+    let r = c.args.region.now in
+    let answer : Answer = answer_of c.args.builtin (argument_terms r.store c.args.form.arguments) r.store.now.next in
+    let known = subst (IsQuickAnswer r.store answer) c.in-BothEqual.is (quick_seen r c.store.result.now c.args.builtin c.args.form.arguments _ c.store.ensures.store c.in_ok-quick_answer.ensures) in
+    IfOk-weaker c.equate_both.result _ _ (λ after k. answers_same r c.equate_both.new.region c.args.form answer _ c.args.place after known.2 (k (name_at (text_in r.store).names c.args.form.name) c.args.form.arguments.count)) c.equate_both.ensures.comes
