@@ -41,15 +41,18 @@ same_continuation f = same_parts (items_same f.items) (named_same f.named) refl
 
 module _ (r : RegionView) (place : GoalPlace) (at : IsGoalPlace r place) where
   -- a test
-  pub holds : AnswersIn r r (holds_if true) place (At place.after)
-  holds name arity = (
+  pub nothing_bound : (es : Equations) → unifier es ≡ Some [] → AnswersIn r r (one_solution es) place (At place.after)
+  nothing_bound es is name arity = (
     (λ named.
         let f = continuation_here named r place.after in
-        let es = entries_of named r in
-        ap (λ o. (unified o (with_next (f.next + 0) f) ++ []) ++ es) nothing_unified
-        ∙ ap (λ g. PlainEntry g ∷ es) (ap (resolve_continuation []) (same_next f) ∙ same_continuation f)),
+        let others = entries_of named r in
+        ap (λ o. (unified o (with_next (f.next + 0) f) ++ []) ++ others) is
+        ∙ ap (λ g. PlainEntry g ∷ others) (ap (resolve_continuation []) (same_next f) ∙ same_continuation f)),
     place_in r place at,
   )
+
+  pub holds : AnswersIn r r (holds_if true) place (At place.after)
+  holds = nothing_bound [] nothing_unified
 
   pub fails : AnswersIn r r (holds_if false) place Failed
   fails name arity = λ named. refl

@@ -1,9 +1,12 @@
 -- Answers of built-in predicates by the values of their arguments.
-use Rattle.std.specs.Prelude.{◌≡◌, ℕ, List, [], ◌∷◌, Err}
-use Rattle.au_term.specs.Term.{Term}
+use Rattle.std.specs.Prelude.{◌≡◌, ℕ, Bool, List, [], ◌∷◌, Err}
+use Rattle.std.specs.declared.cmp.Ordering.{Ordering}
+use Rattle.au_term.specs.Term.{Term, AtomTerm}
+use Rattle.au_model.specs.Terms.Forms.{same_name}
 use Rattle.au_model.specs.Terms.Faults.{error_term_of}
 use Rattle.run_model.specs.Goals.BuiltinAnswers.{Answer, equal, holds_if, one_solution, reply_of}
 use Rattle.run_model.specs.Goals.Outcomes.{Replies}
+use Rattle.run_model.specs.Goals.TermTests.{order_symbol}
 use Rattle.run_model.specs.Goals.UnificationGoals.{apart_answer}
 use Rattle.clause_compile.specs.AtomNumbers.{name_at}
 use Rattle.binding_array.specs.declared.cell.BindingCell.{BindingCell}
@@ -16,7 +19,7 @@ use Rattle.region_control.specs.declared.forms.GoalForm.{GoalForm}
 use Rattle.region_control.specs.declared.replies.AfterGoal.{AfterGoal}
 use Rattle.value_goals.specs.Answers.{IsRefusedAnswer}
 use Rattle.region_builtins.specs.declared.quick.QuickAnswer.{QuickAnswer}
-use Rattle.region_builtins.specs.declared.quick.QuickAnswer.TheVariants.{Holds, Equal, BothEqual, Apart, Raises, Unknown}
+use Rattle.region_builtins.specs.declared.quick.QuickAnswer.TheVariants.{Holds, Equal, BothEqual, Ordered, Alike, Apart, Raises, Unknown}
 
 -- two values that are there, and what they stand for
 abbrev pub IsPairIn : StoreView → BindingCell × BindingCell → Type 0
@@ -25,11 +28,21 @@ IsPairIn st p = IsValueIn st p.0 × IsValueIn st p.1
 abbrev pub pair_meant : StoreView → BindingCell × BindingCell → Term × Term
 pair_meant st p = (meaning st p.0, meaning st p.1)
 
--- it holds or fails, it makes two values one, or two and then two others, it holds where none makes them one, or it raises an error; where none of these is known, it may be anything
+-- it makes two atoms one, which are the same or not
+pub record AreAtoms (answer : Answer) (alike : Bool) : Type 0 where
+  pub left : List ℕ
+  pub right : List ℕ
+  pub is : answer ≡ equal (AtomTerm left) (AtomTerm right)
+  pub same : alike ≡ same_name left right
+
+-- it holds or fails; it makes one of two values, of two and then of two others, of a value and the symbol of an order, or of two
+-- atoms; it holds where two values have no unifier; or it raises an error; where none of these is known, it may be anything
 abbrev pub IsQuickAnswer : StoreView → Answer → QuickAnswer → Type 0
 IsQuickAnswer st answer (Holds b) = answer ≡ holds_if b
 IsQuickAnswer st answer (Equal a b) = IsValueIn st a × IsValueIn st b × (answer ≡ equal (meaning st a) (meaning st b))
 IsQuickAnswer st answer (BothEqual p q) = IsPairIn st p × IsPairIn st q × (answer ≡ one_solution (pair_meant st p ∷ pair_meant st q ∷ []))
+IsQuickAnswer st answer (Ordered a o) = IsValueIn st a × (answer ≡ equal (meaning st a) (AtomTerm (order_symbol o)))
+IsQuickAnswer st answer (Alike b) = AreAtoms answer b
 IsQuickAnswer st answer (Apart a b) = IsValueIn st a × IsValueIn st b × (answer ≡ apart_answer (meaning st a) (meaning st b))
 IsQuickAnswer st answer (Raises fault) = answer ≡ Err (error_term_of fault)
 IsQuickAnswer st answer Unknown = Unit {0}

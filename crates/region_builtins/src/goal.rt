@@ -1,9 +1,11 @@
 //! Goals of built-in predicates (ISO/IEC 13211-1, 7.7.7).
 ghost use Rattle.std.specs.Prelude.{◌≡◌, ◌<◌, ◌∷◌, [], IfOk, OnOk, Err, is_none, length};
+ghost use Rattle.au_term.specs.Term.{AtomTerm};
 ghost use Rattle.au_model.specs.Terms.Faults.{error_term_of};
 ghost use Rattle.au_model.specs.Terms.Unifier.{unifier};
 ghost use Rattle.run_model.specs.Goals.BuiltinAnswers.{equal, one_solution, reply_of};
 ghost use Rattle.run_model.specs.Goals.Outcomes.{Replies};
+ghost use Rattle.run_model.specs.Goals.TermTests.{order_symbol};
 ghost use Rattle.run_model.specs.Goals.UnificationGoals.{apart_answer};
 ghost use Rattle.clause_compile.specs.AtomNumbers.{name_at};
 ghost use Rattle.cell_store.specs.StoreView.{IsValueIn, meaning, text_in};
@@ -15,14 +17,16 @@ ghost use Rattle.region_control.specs.GoalForms.{argument_terms, AreArgumentsIn}
 ghost use Rattle.region_control.specs.Replies.{LeavesOutcome};
 ghost use Rattle.region_builtins.specs.QuickAnswers.{AnswersIn, AnswersFor, IsPairIn, pair_meant};
 
-use crate::quick::{QuickAnswer, quick_answer};
+use crate::quick::{QuickAnswer, quick_answer, symbol_of};
 use crate::solved::{resolved_arguments, solutions_of};
 use au_model::Fault;
-use au_term::{NoMemory, VarNo};
+use au_model::build::atom;
+use au_term::{NoMemory, Shared, VarNo};
 use binding_array::BindingCell;
 use region_control::{AfterGoal, GoalForm, GoalPlace, raise_fault};
 use region_split::{Alternatives, Position, Region};
 use std::alloc::Global;
+use std::cmp::Ordering;
 use std_builtins::{Builtin, BuiltinRefusal};
 
 /// Makes two values one in the place of a goal.
@@ -65,6 +69,24 @@ fn equate_both(
         return Ok(AfterGoal::Failed);
     }
     Ok(AfterGoal::At(place.after))
+}
+
+/// Makes a value one with the symbol of an order, which is copied in, in the place of a goal.
+fn equate_ordered(
+    region: &mut Region,
+    alloc: Global,
+    value: BindingCell,
+    ordering: Ordering,
+    place: GoalPlace,
+) -> Result<AfterGoal, NoMemory>
+    requires value { IsValueIn region.old.store value }
+    requires place { IsGoalPlace region.old place }
+    ensures comes { IfOk result (AnswersIn region.old region.new (equal (meaning region.old.store value) (AtomTerm (order_symbol ordering))) place) }
+    ensures text { OnOk result (region.new.text ≡ region.old.text) }
+{
+    let term = Shared::from_term(alloc, atom(alloc, symbol_of(ordering))?)?;
+    let symbol = region.copy_in(&term)?;
+    equate(region, value, symbol, place)
 }
 
 /// Whether two values have no unifier. What is bound while one is looked for is undone.
@@ -143,6 +165,11 @@ pub fn builtin_goal(
         QuickAnswer::Holds(false) => Ok(AfterGoal::Failed),
         QuickAnswer::Equal(left, right) => equate(region, left, right, place),
         QuickAnswer::BothEqual(first, second) => equate_both(region, first, second, place),
+        QuickAnswer::Ordered(value, ordering) => {
+            equate_ordered(region, alloc, value, ordering, place)
+        }
+        QuickAnswer::Alike(true) => Ok(AfterGoal::At(place.after)),
+        QuickAnswer::Alike(false) => Ok(AfterGoal::Failed),
         QuickAnswer::Apart(left, right) => differ(region, left, right, place),
         QuickAnswer::Raises(fault) => raise_error(region, alloc, &fault, form, place),
         QuickAnswer::Unknown => resolved_goal(region, alloc, builtin, form, place),

@@ -1,7 +1,10 @@
 //! What built-in predicates answer by the values of their arguments (ISO/IEC 13211-1, 8.2 to 8.7).
 ghost use Rattle.std.specs.Prelude.{◌≡◌, ℕ, IfOk};
+ghost use Rattle.std.specs.Str.{IsAscii};
+ghost use Rattle.au_term.specs.Term.{AtomTerm};
 ghost use Rattle.run_model.specs.Goals.ArithmeticGoals.{is_answer, comparison_answer};
 ghost use Rattle.run_model.specs.Goals.TermParts.{argument_answer, functor_answer};
+ghost use Rattle.run_model.specs.Goals.TermTests.{compare_answer, is_order_symbol, order_symbol};
 ghost use Rattle.cell_store.specs.StoreView.{IsValueIn, meaning};
 ghost use Rattle.std_builtins.specs.Meanings.{answer_of, arguments_of, type_test, value_test};
 ghost use Rattle.region_control.specs.GoalForms.{argument_terms, AreArgumentsIn};
@@ -9,12 +12,13 @@ ghost use Rattle.region_builtins.specs.QuickAnswers.{IsQuickAnswer, IsRefusedBy}
 
 use arith_eval::EvalRefusal;
 use au_model::Fault;
-use au_term::NoMemory;
+use au_term::{Atom, NoMemory};
 use binding_array::BindingCell;
 use cell_store::Store;
 use cell_store::arguments::Arguments;
 use region_control::argument;
 use std::alloc::Global;
+use std::cmp::Ordering;
 use std_builtins::{Builtin, Comparison, TypeTest};
 use value_goals::type_tests::{
     integer_of, is_atom, is_atomic, is_callable, is_compound, is_integer, is_variable,
@@ -32,6 +36,10 @@ pub(crate) enum QuickAnswer {
     Equal(BindingCell, BindingCell),
     /// It holds where two values are made one, and then two others.
     BothEqual((BindingCell, BindingCell), (BindingCell, BindingCell)),
+    /// It holds where a value is made one with the symbol of an order.
+    Ordered(BindingCell, Ordering),
+    /// It holds where two atoms are the same.
+    Alike(bool),
     /// It holds where two values have no unifier.
     Apart(BindingCell, BindingCell),
     Raises(Fault),
@@ -67,6 +75,11 @@ pub(crate) fn quick_answer(
             let left = argument(store, arguments, 0);
             let ordering = compare(alloc, store, left, argument(store, arguments, 1))?;
             Ok(QuickAnswer::Holds(test.holds_of(ordering)))
+        }
+        Builtin::Compare => {
+            let symbol = argument(store, arguments, 0);
+            let left = argument(store, arguments, 1);
+            ordered(alloc, store, symbol, left, argument(store, arguments, 2))
         }
         Builtin::Is => {
             let left = argument(store, arguments, 0);
@@ -109,6 +122,67 @@ fn type_holds(
         TypeTest::Compound => Ok(is_compound(store, value)),
         TypeTest::Callable => Ok(is_callable(store, value)),
         TypeTest::Ground => is_ground(alloc, store, value),
+    }
+}
+
+/// What `compare/3` answers, where a variable or a symbol stands for the order (Cor.2, 8.4.2).
+fn ordered(
+    alloc: Global,
+    store: &Store,
+    symbol: BindingCell,
+    left: BindingCell,
+    right: BindingCell,
+) -> Result<QuickAnswer, NoMemory>
+    requires symbol { IsValueIn store.now symbol }
+    requires left { IsValueIn store.now left }
+    requires right { IsValueIn store.now right }
+    ensures { IfOk result (IsQuickAnswer store.now (compare_answer (meaning store.now symbol) (meaning store.now left) (meaning store.now right))) }
+{
+    match store.dereference(symbol) {
+        BindingCell::Var(_) => {
+            let ordering = compare(alloc, store, left, right)?;
+            Ok(QuickAnswer::Ordered(symbol, ordering))
+        }
+        BindingCell::Atom(number) => atom_ordered(alloc, store, store.name(number), left, right),
+        _ => Ok(QuickAnswer::Unknown),
+    }
+}
+
+/// The same with the name of an atom.
+fn atom_ordered(
+    alloc: Global,
+    store: &Store,
+    name: &Atom,
+    left: BindingCell,
+    right: BindingCell,
+) -> Result<QuickAnswer, NoMemory>
+    requires left { IsValueIn store.now left }
+    requires right { IsValueIn store.now right }
+    ensures { IfOk result (IsQuickAnswer store.now (compare_answer (AtomTerm name.now) (meaning store.now left) (meaning store.now right))) }
+{
+    if !is_symbol(name) {
+        return Ok(QuickAnswer::Unknown);
+    }
+    let ordering = compare(alloc, store, left, right)?;
+    Ok(QuickAnswer::Alike(name.is_text(symbol_of(ordering))))
+}
+
+/// Whether a name is the symbol of an order.
+fn is_symbol(name: &Atom) -> bool
+    ensures { result ≡ is_order_symbol name.now }
+{
+    name.is_text("<") || name.is_text("=") || name.is_text(">")
+}
+
+/// The symbol of an order.
+pub(crate) fn symbol_of(ordering: Ordering) -> &'static str
+    ensures text { result.now ≡ order_symbol ordering }
+    ensures ascii { IsAscii result.now }
+{
+    match ordering {
+        Ordering::Less => "<",
+        Ordering::Equal => "=",
+        Ordering::Greater => ">",
     }
 }
 

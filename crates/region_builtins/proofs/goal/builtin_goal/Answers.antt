@@ -1,4 +1,4 @@
-use Rattle.std.proofs.Common.{ap, ◌∙◌, subst}
+use Rattle.std.proofs.Common.{sym, ap, ◌∙◌, subst}
 use Rattle.std.proofs.lemmas.Result.{IfOk-weaker}
 use Rattle.clause_compile.specs.AtomNumbers.{name_at}
 use Rattle.cell_store.specs.StoreView.{text_in}
@@ -6,8 +6,10 @@ use Rattle.std_builtins.specs.Meanings.{answer_of}
 use Rattle.run_model.specs.Goals.BuiltinAnswers.{Answer, holds_if}
 use Rattle.region_control.specs.GoalForms.{argument_terms}
 use Rattle.region_control.specs.declared.replies.AfterGoal.TheVariants.{At, Failed}
+use Rattle.region_split.proofs.StoreLemmas.{stays_same}
 use Rattle.region_builtins.specs.QuickAnswers.{IsQuickAnswer}
-use Rattle.region_builtins.proofs.ReplyLemmas.{holds, fails, quick_seen, answers_same}
+use Rattle.region_builtins.proofs.ReplyLemmas.{holds, fails, nothing_bound, no_unifier, quick_seen, answers_same}
+use Rattle.region_builtins.proofs.OrderLemmas.{same_atoms, other_atoms}
 use Rattle.region_builtins.proofs.goal.builtin_goal.Goals as goal
 
 pub equate-requires-clause-left : goal.equate-requires-clause-left
@@ -89,3 +91,31 @@ returns-in-BothEqual-clause-comes c =
     let answer : Answer = answer_of c.args.builtin (argument_terms r.store c.args.form.arguments) r.store.now.next in
     let known = subst (IsQuickAnswer r.store answer) c.in-BothEqual.is (quick_seen r c.store.result.now c.args.builtin c.args.form.arguments _ c.store.ensures.store c.in_ok-quick_answer.ensures) in
     IfOk-weaker c.equate_both.result _ _ (λ after k. answers_same r c.equate_both.new.region c.args.form answer _ c.args.place after known.2 (k (name_at (text_in r.store).names c.args.form.name) c.args.form.arguments.count)) c.equate_both.ensures.comes
+
+pub equate_ordered-requires-clause-value : goal.equate_ordered-requires-clause-value
+equate_ordered-requires-clause-value c =
+    let r = c.args.region.now in
+    let answer : Answer = answer_of c.args.builtin (argument_terms r.store c.args.form.arguments) r.store.now.next in
+    let known = subst (IsQuickAnswer r.store answer) c.in-Ordered.is (quick_seen r c.store.result.now c.args.builtin c.args.form.arguments _ c.store.ensures.store c.in_ok-quick_answer.ensures) in
+    known.0
+
+pub returns-in-Ordered-clause-comes : goal.returns-in-Ordered-clause-comes
+returns-in-Ordered-clause-comes c =
+    let r = c.args.region.now in
+    let answer : Answer = answer_of c.args.builtin (argument_terms r.store c.args.form.arguments) r.store.now.next in
+    let known = subst (IsQuickAnswer r.store answer) c.in-Ordered.is (quick_seen r c.store.result.now c.args.builtin c.args.form.arguments _ c.store.ensures.store c.in_ok-quick_answer.ensures) in
+    IfOk-weaker c.equate_ordered.result _ _ (λ after k. answers_same r c.equate_ordered.new.region c.args.form answer _ c.args.place after known.1 (k (name_at (text_in r.store).names c.args.form.name) c.args.form.arguments.count)) c.equate_ordered.ensures.comes
+
+pub returns-in-Alike-true-clause-comes : goal.returns-in-Alike-true-clause-comes
+returns-in-Alike-true-clause-comes c =
+    let r = c.args.region.now in
+    let answer : Answer = answer_of c.args.builtin (argument_terms r.store c.args.form.arguments) r.store.now.next in
+    let known = subst (IsQuickAnswer r.store answer) c.in-Alike-true.is (quick_seen r c.store.result.now c.args.builtin c.args.form.arguments _ c.store.ensures.store c.in_ok-quick_answer.ensures) in
+    answers_same r r c.args.form answer _ c.args.place (At c.args.place.after) known.is (nothing_bound r c.args.place c.requires.place _ (same_atoms known.left known.right (sym c.in-Alike-true.field-0-test ∙ known.same)) (name_at (text_in r.store).names c.args.form.name) c.args.form.arguments.count)
+
+pub returns-in-Alike-false-clause-comes : goal.returns-in-Alike-false-clause-comes
+returns-in-Alike-false-clause-comes c =
+    let r = c.args.region.now in
+    let answer : Answer = answer_of c.args.builtin (argument_terms r.store c.args.form.arguments) r.store.now.next in
+    let known = subst (IsQuickAnswer r.store answer) c.in-Alike-false.is (quick_seen r c.store.result.now c.args.builtin c.args.form.arguments _ c.store.ensures.store c.in_ok-quick_answer.ensures) in
+    answers_same r r c.args.form answer _ c.args.place Failed known.is (no_unifier r c.args.place c.requires.place r (stays_same r) _ (other_atoms known.left known.right (sym c.in-Alike-false.field-0-test ∙ known.same)) (name_at (text_in r.store).names c.args.form.name) c.args.form.arguments.count)
