@@ -3,9 +3,8 @@ use Rattle.std.proofs.Common.{◌≡◌, ℕ, ◌+◌, true, false, List, [], �
 use Rattle.au_model.specs.Terms.Named.{NamedTerm}
 use Rattle.au_model.specs.Terms.Substitutions.{Substitution}
 use Rattle.au_model.specs.Terms.Unifier.{Equations, unifier}
-use Rattle.au_model.proofs.EquationsInTurnLemmas.{resolve-nothing}
 use Rattle.run_model.specs.Goals.BuiltinAnswers.{Answer, equal, holds_if, one_solution}
-use Rattle.run_model.specs.Machine.Items.{Item, GoalItem, CatchMark, CollectMark, RemovalItem, Continuation, with_next, resolve_item, resolve_named, resolve_continuation}
+use Rattle.run_model.specs.Machine.Items.{Continuation, with_next, resolve_continuation}
 use Rattle.run_model.specs.Machine.Entries.{PlainEntry, unified}
 use Rattle.binding_array.specs.declared.cell.BindingCell.{BindingCell}
 use Rattle.cell_store.specs.StoreView.{StoreView, IsComposition, substitution, meaning, with_substitution}

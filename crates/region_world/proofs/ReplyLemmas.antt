@@ -1,13 +1,12 @@
 -- What goes on after a goal of the world.
-use Rattle.std.proofs.Common.{◌≡◌, ℕ, ◌+◌, Bool, true, false, cond, List, [], ◌∷◌, ◌++◌, length, map, filter, Option, Some, None, refl, sym, ap, ap₂, ◌∙◌, subst, arith}
+use Rattle.std.proofs.Common.{◌≡◌, ℕ, ◌+◌, Bool, true, false, cond, List, [], ◌∷◌, ◌++◌, length, map, filter, Option, Some, None, refl, sym, ap, ◌∙◌, subst, arith}
 use Rattle.au_model.specs.Terms.Named.{NamedTerm}
 use Rattle.au_model.specs.Terms.Unifier.{unifier}
-use Rattle.au_model.proofs.EquationsInTurnLemmas.{resolve-nothing}
 use Rattle.run_model.specs.Goals.Outcomes.{Reply, Replies, Solutions, Solution}
 use Rattle.run_model.specs.Goals.WorldConstructs.{holds_once}
 use Rattle.run_model.specs.Machine.Entries.{Entry, PlainEntry, unified, solution_entry, solution_entries}
 use Rattle.run_model.specs.Machine.Heights.{after_reply}
-use Rattle.run_model.specs.Machine.Items.{Item, GoalItem, CatchMark, CollectMark, RemovalItem, Continuation, before, removing, with_next, goals_at, resolve_item, resolve_named}
+use Rattle.run_model.specs.Machine.Items.{Continuation, before, removing, with_next, goals_at}
 use Rattle.run_model.specs.Programs.Databases.{NumberedClause}
 use Rattle.effect_gate.specs.Effects.{AreFound}
 use Rattle.region_split.specs.ClauseTrials.{entries_at, IsOptionalPosition}
