@@ -1,5 +1,5 @@
 -- Atoms for an order.
-use Rattle.std.proofs.Common.{◌≡◌, ℕ, Bool, true, false, cond, List, [], ◌∷◌, Some, None, Err, sym, ap, ◌∙◌}
+use Rattle.std.proofs.Common.{◌≡◌, ℕ, true, false, cond, List, [], ◌∷◌, Some, None, Err, sym, ap, ◌∙◌}
 use Rattle.std.specs.Prelude.{codes}
 use Rattle.au_term.specs.Term.{Term, AtomTerm}
 use Rattle.au_model.specs.Terms.ErrorTerms.{domain_error}

@@ -1,6 +1,5 @@
 -- Answers of built-in predicates by the values of their arguments.
 use Rattle.std.specs.Prelude.{◌≡◌, ℕ, Bool, List, [], ◌∷◌, Err}
-use Rattle.std.specs.declared.cmp.Ordering.{Ordering}
 use Rattle.au_term.specs.Term.{Term, AtomTerm}
 use Rattle.au_model.specs.Terms.Forms.{same_name}
 use Rattle.au_model.specs.Terms.Faults.{error_term_of}
