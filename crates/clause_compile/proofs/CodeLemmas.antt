@@ -1,5 +1,6 @@
 -- Terms added to program text.
 use Rattle.std.proofs.Common.{◌≡◌, ℕ, ℤ, zero, suc, ◌+◌, ◌-◌, ◌<◌, ◌≤◌, Bool, true, false, nat_le, List, [], ◌∷◌, ◌++◌, length, length-append, map, get_or, take, drop, reverse, refl, sym, ap, ap₂, ◌∙◌, subst, append-nil, append_assoc, arith}
+use Rattle.std.specs.List.{list_all}
 use Rattle.std.proofs.Math.Seq.{drop-append_seam, take-append_seam}
 use Rattle.std.proofs.lemmas.Bool.Decides.{nat_tests}
 use Rattle.std.proofs.lemmas.List.{map-append, drop-append-le, take-append-le, take_all, reverse-append, length-reverse, length-map}
@@ -14,10 +15,11 @@ use Rattle.au_model.specs.Terms.Lists.{terms_from}
 use Rattle.au_model.proofs.EachLemmas.{each-append, each-drop}
 use Rattle.clause_compile.specs.AtomNumbers.{name_at, IsNumbered}
 use Rattle.clause_compile.specs.GoalPlaces.{subterms_at}
-use Rattle.clause_compile.specs.Places.{place_meaning, compound_here, compound_to, meaning_of, BeginsCompound, IsPlaceBefore, StandBefore, IsArity, AreSound, CodeView, IsPlaceOf, meaning_in, Keeps, IsPlaced, AreAllPlaced, meanings, ArePlacesOf, AddsCell, HasMorePlaces}
+use Rattle.clause_compile.specs.Places.{place_meaning, compound_here, compound_to, meaning_of, is_ground_place, BeginsCompound, BeginsGround, compound_place, IsPlaceBefore, StandBefore, IsArity, AreSound, CodeView, IsPlaceOf, meaning_in, Keeps, IsPlaced, AreAllPlaced, meanings, ArePlacesOf, AddsCell, HasMorePlaces}
 use Rattle.clause_compile.specs.declared.place.Place.{Place}
-use Rattle.clause_compile.specs.declared.place.Place.TheVariants.{Functor, Var, Int, Atom, Sub}
+use Rattle.clause_compile.specs.declared.place.Place.TheVariants.{Functor, Var, Int, Atom, Sub, Ground}
 use Rattle.clause_compile.proofs.PlaceMeaningLemmas.{all_before_still, all_mean_still, added_keeps}
+use Rattle.clause_compile.proofs.GroundPlaceLemmas.{compound_place-means, compound_place-before}
 
 drop_past : {X : Type 0} (n m : ℕ) (xs ys : List X) → n ≡ m + length xs → drop n (xs ++ ys) ≡ drop m ys
 drop_past n m [] ys e = let same : n ≡ m = omega arith in ap (λ k. drop k ys) same
@@ -33,6 +35,7 @@ stands_still k m at places added (Var v ∷ ps) le lt s = tt
 stands_still k m at places added (Int z ∷ ps) le lt s = tt
 stands_still k m at places added (Atom a ∷ ps) le lt s = tt
 stands_still k m at places added (Sub i ∷ ps) le lt s = tt
+stands_still k m at places added (Ground i ∷ ps) le lt s = tt
 
 argument_stands : (k m l at i : ℕ) (places all args : List Place) → Each (IsPlaceBefore k places l) args → StandBefore m all at (drop i args)
 argument_stands k m l at zero places all [] b = tt
@@ -42,6 +45,7 @@ argument_stands k m l at zero places all (Var v ∷ ps) b = tt
 argument_stands k m l at zero places all (Int z ∷ ps) b = tt
 argument_stands k m l at zero places all (Atom a ∷ ps) b = tt
 argument_stands k m l at zero places all (Sub j ∷ ps) b = tt
+argument_stands k m l at zero places all (Ground j ∷ ps) b = tt
 argument_stands k m l at (suc i) places all (p ∷ ps) b = argument_stands k m l at i places all ps b.1
 
 pub block_sound : (k m f n : ℕ) (places args : List Place) → IsArity n → AreSound k places → k ≤ m → n ≡ length args → Each (IsPlaceBefore k places (length places)) args → AreSound m (places ++ Functor f n ∷ args)
@@ -81,6 +85,7 @@ names_sound k m places s le at = by_part (drop at places) (s at)
     by_part (Int z ∷ ps) h = tt
     by_part (Atom a ∷ ps) h = tt
     by_part (Sub i ∷ ps) h = tt
+    by_part (Ground i ∷ ps) h = tt
 
 -- what the new compound means
 pub block_means : (names further : List (List ℕ)) (places args : List Place) (f n : ℕ) → AreSound (length names) places → n ≡ length args → Each (IsPlaceBefore (length names) places (length places)) args
@@ -170,19 +175,28 @@ module _ (names further : List (List ℕ)) (places before : List Place) (f n : �
   pub compound_sound : IsArity n → AreSound (length (names ++ further)) (places ++ Functor f n ∷ args)
   compound_sound r = block_sound (length names) (length (names ++ further)) f n places args r sound (omega (arith, length-append names further)) number those
 
-  pub adds_compound : (name : List ℕ) (left after : List Place) → f < length (names ++ further) → name_at (names ++ further) f ≡ name → reverse left ≡ drop n (reverse before) → after ≡ left ++ Sub (length places) ∷ [] → AddsCell old new (FunctorCell name n) before after
+  abbrev place : Place
+  place = compound_place (length places) args
+
+  own : f < length (names ++ further) → IsPlaceOf new place
+  own known =
+      let here = sym (drop-append_seam places (Functor f n ∷ args)) in
+      let all : take n args ≡ args = take_all n args (omega (arith, number)) in
+      compound_place-before (length (names ++ further)) (places ++ Functor f n ∷ args) (length (places ++ Functor f n ∷ args)) (length places) args (omega (arith, length-append places (Functor f n ∷ args)))
+      (subst (BeginsCompound (length (names ++ further))) here (known, omega (arith, number))) (λ e. subst BeginsGround here (ap (list_all is_ground_place) all ∙ e))
+
+  pub adds_compound : (name : List ℕ) (left after : List Place) → f < length (names ++ further) → name_at (names ++ further) f ≡ name → reverse left ≡ drop n (reverse before) → after ≡ left ++ compound_place (length places) args ∷ [] → AddsCell old new (FunctorCell name n) before after
   adds_compound name left after known named rest is =
       let k = added_keeps names further places (Functor f n ∷ args) sound in
-      let front : reverse after ≡ Sub (length places) ∷ drop n (reverse before) = ap reverse is ∙ (turned left (Sub (length places)) ∙ ap (λ ps. Sub (length places) ∷ ps) rest) in
-      let own : IsPlaceOf new (Sub (length places)) =
-      (omega (arith, length-append places (Functor f n ∷ args)), subst (BeginsCompound (length (names ++ further))) (sym (drop-append_seam places (Functor f n ∷ args))) (known, omega (arith, number))) in
+      let front : reverse after ≡ place ∷ drop n (reverse before) = ap reverse is ∙ (turned left place ∙ ap (λ ps. place ∷ ps) rest) in
       let others = each-drop (IsPlaceOf old) n (reverse before) stand in
-      let term : meaning_in new (Sub (length places)) ≡ Compound name (take_terms n (meanings old before)) =
-      block_means names further places args f n sound number those
-      ∙ (ap (λ m. Compound m (terms_from (map (meaning_in old) args))) named ∙ ap (Compound name) (sym (take_map (meaning_in old) n (reverse before)))) in
+      let term : meaning_in new place ≡ Compound name (take_terms n (meanings old before)) =
+      compound_place-means (names ++ further) (compound_to (length (places ++ Functor f n ∷ args)) (names ++ further) (places ++ Functor f n ∷ args)) (length places) args
+      ∙ (block_means names further places args f n sound number those
+      ∙ (ap (λ m. Compound m (terms_from (map (meaning_in old) args))) named ∙ ap (Compound name) (sym (take_map (meaning_in old) n (reverse before))))) in
       record {
         keeps = k;
-        stand = subst (Each (IsPlaceOf new)) (sym front) (own, all_there old new (drop n (reverse before)) k others);
+        stand = subst (Each (IsPlaceOf new)) (sym front) (own known, all_there old new (drop n (reverse before)) k others);
         means = ap (λ ps. terms_from (map (meaning_in new) ps)) front
             ∙ ap₂ more term (ap terms_from (all_mean old new (drop n (reverse before)) k others) ∙ sym (drop_map (meaning_in old) n (reverse before)));
       }
@@ -259,7 +273,7 @@ module _ (names now : List (List ℕ)) (places : List Place) (old : CodeView) (n
   still_sound r now_places e =
       subst (λ ns. AreSound (length ns) now_places) (sym k.is) (subst (AreSound (length (names ++ k.more))) (sym e) (compound_sound names k.more places before f n s standing few r))
 
-  pub compound_added : (view : CodeView) (now_places left after : List Place) → view ≡ record { names = now; places = now_places } → now_places ≡ places ++ Functor f n ∷ take n (reverse before) → reverse left ≡ drop n (reverse before) → after ≡ left ++ Sub (length places) ∷ []
+  pub compound_added : (view : CodeView) (now_places left after : List Place) → view ≡ record { names = now; places = now_places } → now_places ≡ places ++ Functor f n ∷ take n (reverse before) → reverse left ≡ drop n (reverse before) → after ≡ left ++ compound_place (length places) (take n (reverse before)) ∷ []
       → AddsCell old view (FunctorCell name n) before after
   compound_added view now_places left after v e r a =
       let known : f < length (names ++ k.more) = subst (λ ns. f < length ns) k.is k.within in

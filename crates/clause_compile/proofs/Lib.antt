@@ -4,4 +4,5 @@ pub mod CompiledClauseLemmas
 pub mod RenumberingLemmas
 pub mod AtomNumberLemmas
 pub mod PlaceMeaningLemmas
+pub mod GroundPlaceLemmas
 pub mod CodeLemmas

@@ -1,13 +1,14 @@
 -- What places mean, as text is added.
 use Rattle.std.proofs.Common.{◌≡◌, ℕ, zero, suc, ◌<◌, ◌≤◌, List, [], ◌∷◌, ◌++◌, length, length-append, map, take, drop, refl, sym, ap, ap₂, ◌∙◌, subst, append-nil, arith}
 use Rattle.std.proofs.lemmas.List.{drop-append-le, take-append-le}
+use Rattle.std.specs.List.{list_all}
 use Rattle.au_term.specs.Term.{Term, AtomTerm, Compound}
 use Rattle.au_model.specs.Terms.Each.{Each}
 use Rattle.au_model.specs.Terms.Lists.{terms_from}
 use Rattle.clause_compile.specs.AtomNumbers.{name_at}
-use Rattle.clause_compile.specs.Places.{place_meaning, compound_here, compound_to, meaning_of, BeginsCompound, IsPlaceBefore, StandBefore, AreSound, Keeps}
+use Rattle.clause_compile.specs.Places.{place_meaning, compound_here, compound_to, meaning_of, is_ground_place, BeginsCompound, BeginsGround, IsPlaceBefore, StandBefore, AreSound, Keeps}
 use Rattle.clause_compile.specs.declared.place.Place.{Place}
-use Rattle.clause_compile.specs.declared.place.Place.TheVariants.{Functor, Var, Int, Atom, Sub}
+use Rattle.clause_compile.specs.declared.place.Place.TheVariants.{Functor, Var, Int, Atom, Sub, Ground}
 use Rattle.clause_compile.proofs.AtomNumberLemmas.{name_at-front}
 
 -- a compound begins within
@@ -25,6 +26,7 @@ module _ (k : ℕ) (names all : List (List ℕ)) (places : List Place) (at : ℕ
   same_place (Int z) b = refl
   same_place (Atom a) b = ap (λ m. AtomTerm m) (known a b)
   same_place (Sub i) b = same i b.0 b.1
+  same_place (Ground i) b = same i b.0 b.1
 
   same_places : (ps : List Place) → Each (IsPlaceBefore k places at) ps → map (place_meaning all g) ps ≡ map (place_meaning names h) ps
   same_places [] b = refl
@@ -41,6 +43,7 @@ module _ (k : ℕ) (names all : List (List ℕ)) (places : List Place) (at : ℕ
   same_here (Int z ∷ ps) es more e b s = absurd b
   same_here (Atom a ∷ ps) es more e b s = absurd b
   same_here (Sub i ∷ ps) es more e b s = absurd b
+  same_here (Ground i ∷ ps) es more e b s = absurd b
 
 -- deep enough is deep enough
 pub deep_same : (k : ℕ) (names : List (List ℕ)) (places : List Place) → AreSound k places → (n m at : ℕ) → at < n → at < m → BeginsCompound k (drop at places) → compound_to n names places at ≡ compound_to m names places at
@@ -63,6 +66,17 @@ begins_still k m (Var v ∷ ps) more le b = absurd b
 begins_still k m (Int z ∷ ps) more le b = absurd b
 begins_still k m (Atom a ∷ ps) more le b = absurd b
 begins_still k m (Sub i ∷ ps) more le b = absurd b
+begins_still k m (Ground i ∷ ps) more le b = absurd b
+
+-- there are so many places after the functor
+ground_still : (k : ℕ) (ds more : List Place) → BeginsCompound k ds → BeginsGround ds → BeginsGround (ds ++ more)
+ground_still k [] more b g = absurd b
+ground_still k (Functor f n ∷ ps) more b g = ap (list_all is_ground_place) (take-append-le n ps more b.1) ∙ g
+ground_still k (Var v ∷ ps) more b g = absurd b
+ground_still k (Int z ∷ ps) more b g = absurd b
+ground_still k (Atom a ∷ ps) more b g = absurd b
+ground_still k (Sub i ∷ ps) more b g = absurd b
+ground_still k (Ground i ∷ ps) more b g = absurd b
 
 pub before_still : (k m : ℕ) (places more : List Place) (at next : ℕ) (p : Place) → k ≤ m → at ≤ next → IsPlaceBefore k places at p → IsPlaceBefore m (places ++ more) next p
 before_still k m places more at next (Functor f n) lk la b = absurd b
@@ -72,6 +86,10 @@ before_still k m places more at next (Atom a) lk la b = omega (arith, b)
 before_still k m places more at next (Sub i) lk la b =
     let lt = begins_within k places i b.1 in
     (omega (arith, b.0), subst (BeginsCompound m) (sym (drop-append-le i places more (omega arith))) (begins_still k m (drop i places) more lk b.1))
+before_still k m places more at next (Ground i) lk la b =
+    let lt = begins_within k places i b.1 in
+    let there = sym (drop-append-le i places more (omega arith)) in
+    (omega (arith, b.0), subst (BeginsCompound m) there (begins_still k m (drop i places) more lk b.1), subst BeginsGround there (ground_still k (drop i places) more b.1 b.2))
 
 pub all_before_still : (k m : ℕ) (places more : List Place) (at next : ℕ) (ps : List Place) → k ≤ m → at ≤ next → Each (IsPlaceBefore k places at) ps → Each (IsPlaceBefore m (places ++ more) next) ps
 all_before_still k m places more at next [] lk la b = tt
@@ -85,6 +103,8 @@ means_still names further places more n (Var v) s le b = refl
 means_still names further places more n (Int z) s le b = refl
 means_still names further places more n (Atom a) s le b = ap (λ m. AtomTerm m) (name_at-front names further a b)
 means_still names further places more n (Sub i) s le b =
+    added_same (length names) names further places more refl s n i b.1 ∙ deep_same (length names) names places s n (length places) i (omega (arith, b.0)) b.0 b.1
+means_still names further places more n (Ground i) s le b =
     added_same (length names) names further places more refl s n i b.1 ∙ deep_same (length names) names places s n (length places) i (omega (arith, b.0)) b.0 b.1
 
 pub all_mean_still : (names further : List (List ℕ)) (places more : List Place) (n : ℕ) (ps : List Place) → AreSound (length names) places → length places ≤ n → Each (IsPlaceBefore (length names) places (length places)) ps

@@ -1,5 +1,6 @@
 -- Terms as places: a compound is its functor's place, followed by one place for each argument.
-use Rattle.std.specs.Prelude.{◌≡◌, ℕ, zero, suc, ◌<◌, ◌≤◌, List, [], ◌∷◌, ◌++◌, length, map, take, drop, reverse}
+use Rattle.std.specs.Prelude.{◌≡◌, ℕ, zero, suc, ◌<◌, ◌≤◌, Bool, true, false, if◌then◌else◌, List, [], ◌∷◌, ◌++◌, length, map, take, drop, reverse}
+use Rattle.std.specs.List.{list_all}
 use Rattle.au_term.specs.Term.{Term, VarTerm, IntTerm, AtomTerm, Compound, Terms}
 use Rattle.au_term.specs.PrefixOrder.{with_cell}
 use Rattle.au_term.specs.declared.cell.Cell.{Cell}
@@ -7,7 +8,7 @@ use Rattle.au_model.specs.Terms.Each.{Each}
 use Rattle.au_model.specs.Terms.Lists.{terms_from}
 use Rattle.clause_compile.specs.AtomNumbers.{name_at}
 use Rattle.clause_compile.specs.declared.place.Place.{Place}
-use Rattle.clause_compile.specs.declared.place.Place.TheVariants.{Functor, Var, Int, Atom, Sub}
+use Rattle.clause_compile.specs.declared.place.Place.TheVariants.{Functor, Var, Int, Atom, Sub, Ground}
 
 -- what a place means, by what its compounds mean
 abbrev pub place_meaning : List (List ℕ) → (ℕ → Term) → Place → Term
@@ -16,6 +17,7 @@ place_meaning names compound (Var v) = VarTerm v
 place_meaning names compound (Int z) = IntTerm z
 place_meaning names compound (Atom a) = AtomTerm (name_at names a)
 place_meaning names compound (Sub at) = compound at
+place_meaning names compound (Ground at) = compound at
 
 -- the compound whose functor's place is the first
 abbrev pub compound_here : List (List ℕ) → (ℕ → Term) → List Place → Term
@@ -38,6 +40,25 @@ BeginsCompound k [] = ⊥
 BeginsCompound k (Functor f n ∷ ps) = (f < k) × (n ≤ length ps)
 BeginsCompound k (p ∷ ps) = ⊥
 
+-- a place that says that its term has no variables
+abbrev pub is_ground_place : Place → Bool
+is_ground_place (Functor f n) = false
+is_ground_place (Var v) = false
+is_ground_place (Int z) = true
+is_ground_place (Atom a) = true
+is_ground_place (Sub at) = false
+is_ground_place (Ground at) = true
+
+-- the arguments of the compound that begins here have no variables
+abbrev pub BeginsGround : List Place → Type 0
+BeginsGround [] = ⊥
+BeginsGround (Functor f n ∷ ps) = list_all is_ground_place (take n ps) ≡ true
+BeginsGround (p ∷ ps) = ⊥
+
+-- the place of a compound with these arguments
+abbrev pub compound_place : ℕ → List Place → Place
+compound_place at args = if list_all is_ground_place args then Ground at else Sub at
+
 -- names have numbers below k, and a compound stands before this place
 abbrev pub IsPlaceBefore : ℕ → List Place → ℕ → Place → Type 0
 IsPlaceBefore k places at (Functor f n) = ⊥
@@ -45,6 +66,7 @@ IsPlaceBefore k places at (Var v) = Unit {0}
 IsPlaceBefore k places at (Int z) = Unit {0}
 IsPlaceBefore k places at (Atom a) = a < k
 IsPlaceBefore k places at (Sub i) = (i < at) × BeginsCompound k (drop i places)
+IsPlaceBefore k places at (Ground i) = (i < at) × BeginsCompound k (drop i places) × BeginsGround (drop i places)
 
 -- how many arguments a compound may have
 abbrev pub IsArity : ℕ → Type 0

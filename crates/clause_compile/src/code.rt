@@ -1,10 +1,11 @@
 //! Program text as places.
 ghost use Rattle.std.specs.Prelude.{◌≡◌, ◌+◌, ◌<◌, ◌≤◌, ◌∷◌, [], ◌++◌, IfOk, OnOk, length, take, drop, reverse};
+ghost use Rattle.std.specs.List.{list_all};
 ghost use Rattle.au_term.specs.PrefixOrder.{cells_of, term_of, arity, IsValidCell, AreValidCells};
 ghost use Rattle.run_model.specs.Programs.Bodies.{clause_goals_of};
 ghost use Rattle.clause_compile.specs.AtomNumbers.{AreDistinct, name_at, number_of_name};
 ghost use Rattle.clause_compile.specs.PlacedClauses.{IsClausePlaced};
-ghost use Rattle.clause_compile.specs.Places.{CodeView, AreSound, IsArity, IsPlaced, AreAllPlaced, ArePlacesOf, AddsCell, HasMorePlaces};
+ghost use Rattle.clause_compile.specs.Places.{CodeView, AreSound, IsArity, IsPlaced, AreAllPlaced, ArePlacesOf, AddsCell, HasMorePlaces, is_ground_place, compound_place};
 
 use crate::atom_numbers::AtomNumbers;
 use crate::clause::Clause;
@@ -174,12 +175,12 @@ impl Code {
     {
         let number = self.names.number(name)?;
         let at = self.places.len();
+        let place = compound_place(at, count, stack);
         if let Err(error) = push_block(number, count, stack, &mut self.places) {
             self.places.truncate(at);
             return Err(error);
         }
-        stack.push(Place::Sub(at))?;
-        Ok(())
+        put(place, stack)
     }
 }
 
@@ -196,6 +197,31 @@ fn put(place: Place, stack: &mut Vec<Place>) -> Result<(), NoMemory>
 {
     stack.push(place)?;
     Ok(())
+}
+
+/// The place of a compound that begins at `at`, and whose arguments are so many places of the stack, the topmost first.
+pub fn compound_place(at: usize, count: u32, stack: &[Place]) -> Place
+    requires { count ≤ length stack.now }
+    ensures { result ≡ compound_place at (take count (reverse stack.now)) }
+{
+    if are_ground(count, stack) {
+        Place::Ground(at)
+    } else {
+        Place::Sub(at)
+    }
+}
+
+/// Whether so many places of the stack, the topmost first, say that their terms have no variables.
+fn are_ground(count: u32, stack: &[Place]) -> bool
+    requires { count ≤ length stack.now }
+    ensures { result ≡ list_all is_ground_place (take count (reverse stack.now)) }
+{
+    for argument in 0..count as usize {
+        if !stack[stack.len() - 1 - argument].is_ground() {
+            return false;
+        }
+    }
+    true
 }
 
 /// Adds a functor and so many places of the stack, the topmost first.

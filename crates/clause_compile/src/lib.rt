@@ -14,7 +14,7 @@ mod place;
 pub use atom_numbers::AtomNumbers;
 pub use body::goal_places;
 pub use clause::{Clause, ClauseRefusal, Part, body_goals, compile};
-pub use code::{ClausePlaces, Code, push_block};
+pub use code::{ClausePlaces, Code, compound_place, push_block};
 pub use event::{Branch, Effect, GateKind, Opening};
 pub use goal_list::{GoalItems, Goals};
 pub use item::{ClauseId, Item, Scope};

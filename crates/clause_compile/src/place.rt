@@ -1,4 +1,7 @@
 //! Places of program text.
+ghost use Rattle.std.specs.Prelude.{◌≡◌};
+ghost use Rattle.clause_compile.specs.Places.{is_ground_place};
+
 use au_term::VarNo;
 
 /// A place of program text. A compound is its functor's place, followed by one place for each argument.
@@ -13,4 +16,18 @@ pub enum Place {
     Atom(u32),
     /// The compound whose functor is at this place.
     Sub(usize),
+    /// The compound whose functor is at this place, where it has no variables.
+    Ground(usize),
+}
+
+impl Place {
+    /// Whether it says that its term has no variables.
+    pub fn is_ground(&self) -> bool
+        ensures { result ≡ is_ground_place self.now }
+    {
+        match self {
+            Place::Int(_) | Place::Atom(_) | Place::Ground(_) => true,
+            Place::Functor(_, _) | Place::Var(_) | Place::Sub(_) => false,
+        }
+    }
 }

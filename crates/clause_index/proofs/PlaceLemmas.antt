@@ -11,7 +11,7 @@ use Rattle.clause_index.specs.declared.key.NumberKey.{NumberKey}
 use Rattle.proc_index.specs.Keys.{key_of, head_key}
 use Rattle.proc_index.specs.declared.key.Key.TheVariants.{Functor as FunctorKey}
 use Rattle.clause_compile.specs.declared.place.Place.{Place}
-use Rattle.clause_compile.specs.declared.place.Place.TheVariants.{Functor, Var, Int, Atom, Sub}
+use Rattle.clause_compile.specs.declared.place.Place.TheVariants.{Functor, Var, Int, Atom, Sub, Ground}
 use Rattle.clause_compile.proofs.PlaceMeaningLemmas.{begins_within, deep_same}
 
 module _ (names : List (List ℕ)) (places : List Place) (s : AreSound (length names) places) where
@@ -22,6 +22,7 @@ module _ (names : List (List ℕ)) (places : List Place) (s : AreSound (length n
   one_less m at (Int z) e lt b = refl
   one_less m at (Atom a) e lt b = refl
   one_less m at (Sub i) e lt b = deep_same (length names) names places s m (length places) i (omega (arith, b.0)) (omega (arith, b.0)) b.1
+  one_less m at (Ground i) e lt b = deep_same (length names) names places s m (length places) i (omega (arith, b.0)) (omega (arith, b.0)) b.1
 
   all_less : (m at : ℕ) (ps : List Place) → length places ≡ suc m → at < suc m → Each (IsPlaceBefore (length names) places at) ps → map (place_meaning names (compound_to m names places)) ps ≡ map (meaning_of names places) ps
   all_less m at [] e lt b = refl
@@ -48,6 +49,7 @@ place_there k places at (Var v) lt b = tt
 place_there k places at (Int z) lt b = tt
 place_there k places at (Atom a) lt b = b
 place_there k places at (Sub i) lt b = (omega (arith, b.0), b.1)
+place_there k places at (Ground i) lt b = (omega (arith, b.0), b.1, b.2)
 
 pub count_from : (n : ℕ) (f : Place → Term) (ps : List Place) → n ≤ length ps → count (terms_from (map f (take n ps))) ≡ n
 count_from zero f ps le = refl

@@ -20,7 +20,7 @@ impl NumberKey {
             Place::Var(_) => None,
             Place::Int(value) => Some(NumberKey::Int(value)),
             Place::Atom(name) => Some(NumberKey::Atom(name)),
-            Place::Sub(at) => {
+            Place::Sub(at) | Place::Ground(at) => {
                 let (name, arity) = functor_at(code, at);
                 Some(NumberKey::Functor(name, arity))
             }
@@ -42,7 +42,7 @@ impl HeadKey {
                 arity: 0,
                 first: None,
             },
-            Place::Sub(at) => {
+            Place::Sub(at) | Place::Ground(at) => {
                 let (name, arity) = functor_at(code, at);
                 let first = NumberKey::of_place(code, code.place(at + 1));
                 HeadKey { name, arity, first }

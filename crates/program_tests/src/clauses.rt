@@ -247,7 +247,7 @@ fn long(rt: HostRuntime) -> Result<(), Fail> {
     Ok(())
 }
 
-/// `p(f(X, a), X) :- q(X, a), r.`
+/// `p(f(X, a), X) :- q(X, g(a)), r.`
 static HEAD: [Piece; 5] = [
     Name("p", 2),
     Name("f", 2),
@@ -256,25 +256,28 @@ static HEAD: [Piece; 5] = [
     Variable(7),
 ];
 
-static BODY: [Piece; 5] = [
+static BODY: [Piece; 6] = [
     Name(",", 2),
     Name("q", 2),
     Variable(7),
+    Name("g", 1),
     Name("a", 0),
     Name("r", 0),
 ];
 
-/// Its places, where `a`, `f`, `p`, `q` and `r` are met in this order.
-static PLACES: [Place; 9] = [
+/// Its places, where `a`, `f`, `p`, `g`, `q` and `r` are met in this order.
+static PLACES: [Place; 11] = [
     Place::Functor(1, 2),
     Place::Var(0),
     Place::Atom(0),
     Place::Functor(2, 2),
     Place::Sub(0),
     Place::Var(0),
-    Place::Functor(3, 2),
-    Place::Var(0),
+    Place::Functor(3, 1),
     Place::Atom(0),
+    Place::Functor(4, 2),
+    Place::Var(0),
+    Place::Ground(6),
 ];
 
 /// Whether a clause's head and goals are at these places.
@@ -293,7 +296,7 @@ fn place(rt: &impl Abort, code: &Code, at: usize) -> Place {
 fn places(rt: HostRuntime) -> Result<(), Fail> {
     let alloc = rt.alloc();
     let mut code = Code::new(alloc);
-    let goals = [Place::Sub(6), Place::Atom(4)];
+    let goals = [Place::Sub(8), Place::Atom(5)];
     let placed = is_placed(alloc, &mut code, Place::Sub(3), &goals)?;
     hold(&rt, placed, "clause");
     expect(&rt, code.len(), PLACES.len(), "length");

@@ -1,6 +1,5 @@
 use Rattle.std.proofs.Common.{length-drop, sym, subst, arith, ◌+◌}
-use Rattle.clause_compile.specs.declared.place.Place.{Place}
-use Rattle.clause_compile.specs.Places.{meaning_in}
+use Rattle.clause_compile.proofs.GroundPlaceLemmas.{compound_at}
 use Rattle.clause_index.specs.HeadKeys.{IsHeadKeyOf}
 use Rattle.clause_index.proofs.PlaceLemmas.{first_there, compound_numbers}
 use Rattle.clause_index.proofs.key.HeadKey.of_head.Goals as goal
@@ -16,5 +15,5 @@ of_place-first-requires c =
 
 pub returns-in-Sub : goal.returns-in-Sub
 returns-in-Sub c =
-    subst (λ (p : Place). IsHeadKeyOf c.args.code.now.names (meaning_in c.args.code.now p) (record { name = c.functor_at-name.result.0; arity = c.functor_at-name.result.1; first = c.of_place-first.result })) (sym c.in-Sub.is)
+    subst (λ t. IsHeadKeyOf c.args.code.now.names t (record { name = c.functor_at-name.result.0; arity = c.functor_at-name.result.1; first = c.of_place-first.result })) (sym (compound_at c.args.code.now c.args.head c.in-Sub.at c.in-Sub.is c.requires.there).1)
     (compound_numbers c.args.code.now c.in-Sub.at c.functor_at-name.result.0 c.functor_at-name.result.1 c.place.result _ c.of_place-first.result c.functor_at-name.ensures.functor c.place.ensures c.of_place-first.ensures.there c.of_place-first.ensures.key)
