@@ -1,5 +1,5 @@
 -- Older terms stay older.
-use Rattle.std.proofs.Common.{◌≡◌, ◌⊎◌, inl, inr, ℕ, ◌<◌, ◌≤◌, Bool, true, false, cond, ◌==◌, List, [], ◌∷◌, reverse, Option, Some, None, refl, sym, ap, ◌∙◌, subst, arith}
+use Rattle.std.proofs.Common.{◌≡◌, ◌⊎◌, inl, inr, ℕ, ◌<◌, ◌≤◌, Bool, true, false, cond, ◌==◌, List, [], ◌∷◌, ◌++◌, Option, Some, None, refl, sym, ap, ◌∙◌, subst, arith}
 use Rattle.std.proofs.lemmas.Bool.Decides.{nat_tests}
 use Rattle.au_term.specs.Term.{Term, VarTerm, Compound as CompoundTerm, Terms, end, more, var_bound, all_bound}
 use Rattle.au_term.proofs.LogicLemmas.{true_false}
@@ -17,8 +17,9 @@ use Rattle.cell_store.specs.Values.{IsNoVariable}
 use Rattle.cell_store.specs.StoreView.{StoreView, substitution, meaning, text_in, with_substitution, BindsFurther}
 use Rattle.cell_store.specs.UnificationSteps.{equations_in, pending_equations, FollowsRule, after_same, after_binding, after_opening, IsBoundOr}
 use Rattle.cell_store.specs.declared.arguments.Equations.{Equations as ArgumentEquations}
+use Rattle.cell_store.specs.declared.unify.Outcome.{Outcome}
+use Rattle.cell_store.specs.declared.unify.Outcome.TheVariants.{Clash, Solved, Inside}
 use Rattle.cell_store.proofs.OccurrenceLemmas.{kept_below, occurs_below}
-use Rattle.cell_store.proofs.WalkLemmas.{turned}
 use Rattle.cell_store.proofs.UnificationLemmas.{left_in, resolved_binding, resolved_append}
 
 -- a fresh variable is not in an older term
@@ -55,19 +56,19 @@ no_variables : (from : Option ℕ) (t : Term) → var_bound t ≡ 0 → IsOlder 
 no_variables None t e = tt
 no_variables (Some base) t e = omega (arith, e)
 
--- of a binding of an older variable
-pub left_stays : (old new : StoreView) (from to : Option ℕ) (x : ℕ) (c : BindingCell) (goes : Bool) → IsNoVariable c → to ≡ fresh_after from c → IsBoundOr x (meaning old c) old new goes → goes ≡ true → StaysOlder old new from to
-left_stays old new from to x c false n e h g = absurd (true_false (sym g))
-left_stays old new from to x Free true n e h g = absurd n
-left_stays old new from to x (Var v) true n e h g = absurd n
-left_stays old new from to x (Int z) true n e h g = subst (StaysOlder old new from) (sym e) (binding_stays old new from x (meaning old (Int z)) h.1 (no_variables from (meaning old (Int z)) refl))
-left_stays old new from to x (Atom a) true n e h g = subst (StaysOlder old new from) (sym e) (binding_stays old new from x (meaning old (Atom a)) h.1 (no_variables from (meaning old (Atom a)) refl))
-left_stays old new from to x (Compound at base) true n e h g = subst (StaysOlder old new from) (sym e) (ended_stays old new from)
-
 -- of a binding to something older
-pub right_stays : (old new : StoreView) (from : Option ℕ) (x : ℕ) (t : Term) (goes : Bool) → IsOlder from t → IsBoundOr x t old new goes → goes ≡ true → StaysOlder old new from from
-right_stays old new from x t false o h g = absurd (true_false (sym g))
-right_stays old new from x t true o h g = binding_stays old new from x t h.1 o
+pub right_stays : (old new : StoreView) (from : Option ℕ) (x : ℕ) (t : Term) (outcome : Outcome) → IsOlder from t → IsBoundOr x t old new outcome → StaysOlder old new from from
+right_stays old new from x t Clash o h = nothing_stays old new from h.1
+right_stays old new from x t Solved o h = binding_stays old new from x t h.1 o
+right_stays old new from x t (Inside e) o h = absurd h
+
+-- of a binding of an older variable
+pub left_stays : (old new : StoreView) (from to : Option ℕ) (x : ℕ) (c : BindingCell) (outcome : Outcome) → IsNoVariable c → to ≡ fresh_after from c → IsBoundOr x (meaning old c) old new outcome → StaysOlder old new from to
+left_stays old new from to x Free outcome n e h = absurd n
+left_stays old new from to x (Var v) outcome n e h = absurd n
+left_stays old new from to x (Int z) outcome n e h = subst (StaysOlder old new from) (sym e) (right_stays old new from x (meaning old (Int z)) outcome (no_variables from (meaning old (Int z)) refl) h)
+left_stays old new from to x (Atom a) outcome n e h = subst (StaysOlder old new from) (sym e) (right_stays old new from x (meaning old (Atom a)) outcome (no_variables from (meaning old (Atom a)) refl) h)
+left_stays old new from to x (Compound at base) outcome n e h = subst (StaysOlder old new from) (sym e) (ended_stays old new from)
 
 -- the equations that are left, with the older side on the left
 abbrev pub AllOlder : Option ℕ → Equations → Type 0
@@ -108,15 +109,15 @@ opened_older from a b es r o =
     let says = subst (Says a b) r (rule_says a b) in
     subst (AllOlder from) (sym says.es_are) (inside from says.left says.right (arguments_older from says.name says.left (subst (IsOlder from) says.a_is o)))
 
-pub older_follows : (from to : Option ℕ) (st new : StoreView) (a b : Term) (es fs : List ArgumentEquations) → AllOlder from ((a, b) ∷ left_in st (reverse es)) → new ≡ with_substitution (substitution new) st → FollowsRule st new a b es fs → StaysOlder st new from to → AllOlder to (left_in new (reverse fs))
-older_follows from to st new a b es fs o others f s = subst (λ c. AllOlder to (resolved_equations (substitution new) (pending_equations c (reverse fs)))) (sym (ap text_in others)) (all_stay st new from to (pending_equations (text_in st) (reverse fs)) s (by_rule f))
+pub older_follows : (from to : Option ℕ) (st new : StoreView) (a b : Term) (es opened : List ArgumentEquations) → AllOlder from ((a, b) ∷ left_in st es) → new ≡ with_substitution (substitution new) st → FollowsRule st new a b opened → StaysOlder st new from to → AllOlder to (left_in new (opened ++ es))
+older_follows from to st new a b es opened o others f s = subst (λ c. AllOlder to (resolved_equations (substitution new) (pending_equations c (opened ++ es)))) (sym (ap text_in others)) (all_stay st new from to (pending_equations (text_in st) (opened ++ es)) s (by_rule f))
   where
-    by_rule : FollowsRule st new a b es fs → AllOlder from (left_in st (reverse fs))
-    by_rule (after_same e n g) = subst (λ gs. AllOlder from (left_in st (reverse gs))) (sym g) o.1
-    by_rule (after_binding x t k h g) = subst (λ gs. AllOlder from (left_in st (reverse gs))) (sym g) o.1
+    by_rule : FollowsRule st new a b opened → AllOlder from (left_in st (opened ++ es))
+    by_rule (after_same e n g) = subst (λ gs. AllOlder from (left_in st (gs ++ es))) (sym g) o.1
+    by_rule (after_binding x t k h g) = subst (λ gs. AllOlder from (left_in st (gs ++ es))) (sym g) o.1
     by_rule (after_opening e k t n g) =
-        subst (λ gs. AllOlder from (left_in st gs)) (sym (ap reverse g ∙ turned es e))
-        (subst (AllOlder from) (sym (resolved_append (substitution st) (equations_in (text_in st) e) (pending_equations (text_in st) (reverse es)))) (each-append (λ q. IsOlder from q.0) (resolved_equations (substitution st) (equations_in (text_in st) e)) (left_in st (reverse es)) (opened_older from a b _ k o.0) o.1))
+        subst (λ gs. AllOlder from (left_in st (gs ++ es))) (sym g)
+        (subst (AllOlder from) (sym (resolved_append (substitution st) (equations_in (text_in st) e) (pending_equations (text_in st) es))) (each-append (λ q. IsOlder from q.0) (resolved_equations (substitution st) (equations_in (text_in st) e)) (left_in st es) (opened_older from a b _ k o.0) o.1))
 
 pub smaller_older : (from : Option ℕ) (n m : ℕ) → n < m → IsOlder from (VarTerm m) → IsOlder from (VarTerm n)
 smaller_older None n m lt o = tt

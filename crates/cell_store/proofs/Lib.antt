@@ -13,5 +13,6 @@ pub mod WalkLemmas
 pub mod UnificationLemmas
 pub mod FreshLemmas
 pub mod RuleLemmas
+pub mod SolvingLemmas
 pub mod WritingLemmas
 pub mod MadeBindingLemmas

@@ -1,5 +1,5 @@
 -- The rule for two values.
-use Rattle.std.proofs.Common.{◌≡◌, ℕ, ℤ, zero, suc, ◌+◌, ◌-◌, ◌<◌, List, [], ◌∷◌, ◌++◌, Bool, true, false, ◌&&◌, cond, ◌==◌, nat_eq, nat_lt, reverse, refl, sym, ap, ap₂, ◌∙◌, subst, arith}
+use Rattle.std.proofs.Common.{◌≡◌, ℕ, ℤ, zero, suc, ◌+◌, ◌-◌, ◌<◌, ◌≤◌, List, [], ◌∷◌, ◌++◌, Bool, true, false, ◌&&◌, cond, ◌==◌, nat_eq, nat_lt, reverse, refl, sym, ap, ap₂, ◌∙◌, subst, arith}
 use Rattle.std.specs.Cmp.Lexicographic.{pointwise}
 use Rattle.std.proofs.lemmas.Bool.Decides.{nat_tests}
 use Rattle.au_term.specs.Term.{Term, VarTerm, IntTerm, AtomTerm, Terms, count}
@@ -18,6 +18,8 @@ use Rattle.cell_store.specs.Arguments.{argument_at, arguments_from, arguments_in
 use Rattle.cell_store.specs.UnificationSteps.{paired, equations_in, AreEquations, pending_equations, AllEquations, FollowsRule, after_binding, after_opening, TakesRule, IsBoundOr, HasRestEquations, KeepsRestEquations}
 use Rattle.cell_store.specs.declared.arguments.Arguments.{Arguments}
 use Rattle.cell_store.specs.declared.arguments.Equations.{Equations as ArgumentEquations}
+use Rattle.cell_store.specs.declared.unify.Outcome.{Outcome}
+use Rattle.cell_store.specs.declared.unify.Outcome.TheVariants.{Clash as ClashOutcome, Solved, Inside}
 use Rattle.cell_store.proofs.CellMeaningLemmas.{IsCompound, compound, means_compound}
 use Rattle.cell_store.proofs.SubstitutionLemmas.{resolved_compound}
 use Rattle.cell_store.proofs.WalkLemmas.{opened_term}
@@ -31,8 +33,8 @@ left_bound m n lt =
     ap (λ b. cond b Dropped (cond (nat_lt m n) (Replaced n (VarTerm m)) (Replaced m (VarTerm n)))) (number_turned m n ∙ not_equal n m lt)
     ∙ ap (λ b. cond b (Replaced n (VarTerm m)) (Replaced m (VarTerm n))) (not_less m n (omega arith))
 
-pub variable_binding : (old new : StoreView) (a b t u : Term) (x : ℕ) (es : List ArgumentEquations) → rule a b ≡ Replaced x t → u ≡ t → BindsFurther old new ((x, u) ∷ []) → FollowsRule old new a b es es
-variable_binding old new a b t u x es r e f = after_binding x t r (subst (λ v. BindsFurther old new ((x, v) ∷ [])) e f) refl
+pub variable_binding : (old new : StoreView) (a b t u : Term) (x : ℕ) → rule a b ≡ Replaced x t → u ≡ t → BindsFurther old new ((x, u) ∷ []) → FollowsRule old new a b []
+variable_binding old new a b t u x r e f = after_binding x t r (subst (λ v. BindsFurther old new ((x, v) ∷ [])) e f) refl
 
 -- of a variable and another value
 compound_left : (m : ℕ) (t : Term) → IsCompound t → rule (VarTerm m) t ≡ variable_rule m t
@@ -62,12 +64,13 @@ no_variable st (Int z) v h = tt
 no_variable st (Atom a) v h = tt
 no_variable st (Compound at base) v h = tt
 
-pub bound_or : (old new : StoreView) (a b t : Term) (x : ℕ) (es : List ArgumentEquations) (goes : Bool) → rule a b ≡ variable_rule x t → IsBoundOr x t old new goes → TakesRule old new a b es es goes
-bound_or old new a b t x es true r h = after_binding x t (r ∙ ap (λ c. cond c Clash (Replaced x t)) h.0) h.1 refl
-bound_or old new a b t x es false r h = r ∙ ap (λ c. cond c Clash (Replaced x t)) h.0
+pub bound_or : (old new : StoreView) (a b t : Term) (x : ℕ) (outcome : Outcome) → rule a b ≡ variable_rule x t → IsBoundOr x t old new outcome → TakesRule old new a b outcome
+bound_or old new a b t x ClashOutcome r h = r ∙ ap (λ c. cond c Clash (Replaced x t)) h.0
+bound_or old new a b t x Solved r h = after_binding x t (r ∙ ap (λ c. cond c Clash (Replaced x t)) h.0) h.1 refl
+bound_or old new a b t x (Inside e) r h = absurd h
 
-pub sides_same : (old new : StoreView) (a b c d : Term) (es fs : List ArgumentEquations) (goes : Bool) → a ≡ c → b ≡ d → TakesRule old new a b es fs goes → TakesRule old new c d es fs goes
-sides_same old new a b c d es fs goes e f h = subst (λ t. TakesRule old new t d es fs goes) e (subst (λ t. TakesRule old new a t es fs goes) f h)
+pub sides_same : (old new : StoreView) (a b c d : Term) (outcome : Outcome) → a ≡ c → b ≡ d → TakesRule old new a b outcome → TakesRule old new c d outcome
+sides_same old new a b c d outcome e f h = subst (λ t. TakesRule old new t d outcome) e (subst (λ t. TakesRule old new a t outcome) f h)
 
 -- of constants and other values
 int_compound : (y : ℤ) (t : Term) → IsCompound t → rule (IntTerm y) t ≡ Clash
@@ -145,9 +148,8 @@ module _ (st : StoreView) (at base f m to over g n : ℕ) (left : HasFunctor (te
       same : (count ts == count us) ≡ true
       same = let l = how_many s code base m (at + 1) in let r = how_many s code over n (to + 1) in grind (arith, nat_tests)
 
-  pub opened_some : (x y : Arguments) (e : ArgumentEquations) (es fs : List ArgumentEquations) → pointwise nat_eq (name_at code.names f) (name_at code.names g) ≡ true → m ≡ n → x ≡ record { at = at + 1; base = base; count = m } → y ≡ record { at = to + 1; base = over; count = n } → e ≡ record { left = x; right = y } → fs ≡ es ++ e ∷ []
-      → FollowsRule st st a b es fs
-  opened_some x y e es fs h q l r k j =
+  pub opened_some : (x y : Arguments) (e : ArgumentEquations) → pointwise nat_eq (name_at code.names f) (name_at code.names g) ≡ true → m ≡ n → x ≡ record { at = at + 1; base = base; count = m } → y ≡ record { at = to + 1; base = over; count = n } → e ≡ record { left = x; right = y } → FollowsRule st st a b (e ∷ [])
+  opened_some x y e h q l r k =
       let p = left.arity.0 in
       let lefts : e.left ≡ record { at = at + 1; base = base; count = m } = ap (λ (z : ArgumentEquations). z.left) k ∙ l in
       let rights : e.right ≡ record { at = to + 1; base = over; count = n } = ap (λ (z : ArgumentEquations). z.right) k ∙ r in
@@ -157,7 +159,7 @@ module _ (st : StoreView) (at base f m to over g n : ℕ) (left : HasFunctor (te
         left = subst (AreThere code st.now.next) (sym lefts) (p, left.arguments);
         right = subst (AreThere code st.now.next) (sym rights) (omega arith, right.arguments);
         as_many = ap (λ (z : Arguments). z.count) lefts ∙ (q ∙ sym (ap (λ (z : Arguments). z.count) rights));
-      }) refl j
+      }) refl refl
 
 -- all but the first equation
 pub rest_equations : (e f : ArgumentEquations) (old : List ArgumentEquations) → 1 < e.left.count → f.left ≡ record { at = e.left.at + 1; base = e.left.base; count = e.left.count - 1 } → f.right ≡ record { at = e.right.at + 1; base = e.right.base; count = e.right.count - 1 } → KeepsRestEquations e old (f ∷ old)
@@ -185,5 +187,26 @@ rest_equations e f old p l r code next h k = by_count e.left.count refl
           );
         }
 
-pub top_equations : (code : CodeView) (next : ℕ) (old rest : List ArgumentEquations) (e : ArgumentEquations) → reverse old ≡ e ∷ reverse rest → AllEquations code next (reverse old) → AreEquations code next e × AllEquations code next (reverse rest)
-top_equations code next old rest e r h = subst (AllEquations code next) r h
+-- there is no other
+pub no_other_equation : (e : ArgumentEquations) (old : List ArgumentEquations) → 0 < e.left.count → e.left.count ≤ 1 → KeepsRestEquations e old old
+no_other_equation e old p le code next h k =
+    let one : e.left.count ≡ 1 = omega arith in
+    let right_one : e.right.count ≡ 1 = sym h.as_many ∙ one in
+    record { equations = sym (ap₂ (λ m n. paired (arguments_from code e.left.base m e.left.at) (arguments_from code e.right.base n e.right.at) ++ pending_equations code old) one right_one); there = k }
+
+-- one way or the other
+pub record OtherEquations (e : ArgumentEquations) (old : List ArgumentEquations) : Type 0 where
+  pub others : List ArgumentEquations
+  pub kept : KeepsRestEquations e old others
+
+pub other_equations : (e : ArgumentEquations) (old : List ArgumentEquations) → 0 < e.left.count → OtherEquations e old
+other_equations e old p = by_count e.left.count refl
+  where
+    by_count : (n : ℕ) → e.left.count ≡ n → OtherEquations e old
+    by_count zero q = absurd (omega arith)
+    by_count (suc zero) q = record { others = old; kept = no_other_equation e old p (omega arith) }
+    by_count (suc (suc n)) q =
+        let l : Arguments = record { at = e.left.at + 1; base = e.left.base; count = e.left.count - 1 } in
+        let r : Arguments = record { at = e.right.at + 1; base = e.right.base; count = e.right.count - 1 } in
+        let f : ArgumentEquations = record { left = l; right = r } in
+        record { others = f ∷ old; kept = rest_equations e f old (omega arith) refl refl }

@@ -1,5 +1,5 @@
 -- Solving equations, rule by rule.
-use Rattle.std.proofs.Common.{nat_eq, nat_lt, ℤ, ◌≡◌, ℕ, ◌<◌, List, [], ◌∷◌, ◌++◌, Bool, true, false, cond, ◌==◌, Option, Some, None, reverse, refl, sym, ap, ap₂, ◌∙◌, subst}
+use Rattle.std.proofs.Common.{nat_eq, nat_lt, ℤ, ◌≡◌, ℕ, ◌<◌, List, [], ◌∷◌, ◌++◌, Bool, true, false, cond, ◌==◌, Option, Some, None, refl, sym, ap, ap₂, ◌∙◌, subst}
 use Rattle.std.proofs.lemmas.List.{map-append}
 use Rattle.std.specs.Option.{option_map}
 use Rattle.std.specs.Ordering.{int_eq}
@@ -20,7 +20,6 @@ use Rattle.cell_store.specs.Arguments.{argument_at}
 use Rattle.cell_store.specs.StoreView.{StoreView, substitution, meaning, value_term, text_in, with_substitution, IsComposition, BindsFurther}
 use Rattle.cell_store.specs.UnificationSteps.{equations_in, AreEquations, pending_equations, AllEquations, FollowsRule, after_same, after_binding, after_opening, HasRestEquations, KeepsRestEquations, AreUnified}
 use Rattle.cell_store.specs.declared.arguments.Equations.{Equations as ArgumentEquations}
-use Rattle.cell_store.proofs.WalkLemmas.{turned}
 
 -- the first binding holds first, and the rest of what it leaves
 abbrev pub composed : List (ℕ × Term) → Substitution
@@ -156,9 +155,9 @@ pub record GoesOn (eqs : Equations) (first old new : StoreView) (work_before : �
   pub others : new ≡ with_substitution (substitution new) first
   pub less : left_work eqs (left_in new es) < work_before
 
-module _ (eqs : Equations) (first st : StoreView) (a b : Term) (es : List ArgumentEquations) (u : Unifying eqs (substitution first) (substitution st) ((a, b) ∷ left_in st (reverse es))) (there : AllEquations (text_in st) st.now.next (reverse es)) (others : st ≡ with_substitution (substitution st) first) where
+module _ (eqs : Equations) (first st : StoreView) (a b : Term) (es : List ArgumentEquations) (u : Unifying eqs (substitution first) (substitution st) ((a, b) ∷ left_in st es)) (there : AllEquations (text_in st) st.now.next es) (others : st ≡ with_substitution (substitution st) first) where
   abbrev rest : Equations
-  rest = left_in st (reverse es)
+  rest = left_in st es
 
   abbrev before : ℕ
   before = left_work eqs ((a, b) ∷ rest)
@@ -171,32 +170,29 @@ module _ (eqs : Equations) (first st : StoreView) (a b : Term) (es : List Argume
     less = subst (λ k. left_work eqs k < before) e g.1;
   }
 
-  rebound : (new : StoreView) (x : ℕ) (t : Term) → rule a b ≡ Replaced x t → BindsFurther st new ((x, t) ∷ []) → GoesOn eqs first st new before (reverse es)
+  rebound : (new : StoreView) (x : ℕ) (t : Term) → rule a b ≡ Replaced x t → BindsFurther st new ((x, t) ∷ []) → GoesOn eqs first st new before es
   rebound new x t k f =
       let g = binding_goes eqs (substitution first) (substitution st) a b rest u x t (substitution new) k f.bound in
       let text : text_in new ≡ text_in st = ap text_in f.others in
       let next : new.now.next ≡ st.now.next = ap (λ (v : StoreView). v.now.next) f.others in
-      let left : replace x t rest ≡ left_in new (reverse es) =
-      sym (replaced (substitution st) (substitution new) x t (pending_equations (text_in st) (reverse es)) f.bound) ∙ ap (λ c. resolved_equations (substitution new) (pending_equations c (reverse es))) (sym text) in
+      let left : replace x t rest ≡ left_in new es =
+      sym (replaced (substitution st) (substitution new) x t (pending_equations (text_in st) es) f.bound) ∙ ap (λ c. resolved_equations (substitution new) (pending_equations c es)) (sym text) in
       record {
         unifying = subst (Unifying eqs (substitution first) (substitution new)) left g.0;
-        there = subst (λ c. AllEquations c new.now.next (reverse es)) (sym text) (subst (λ n. AllEquations (text_in st) n (reverse es)) (sym next) there);
+        there = subst (λ c. AllEquations c new.now.next es) (sym text) (subst (λ n. AllEquations (text_in st) n es) (sym next) there);
         others = f.others ∙ ap (λ v. with_substitution (substitution new) v) others;
         less = subst (λ k. left_work eqs k < before) left g.1;
       }
 
-  pub follows : (new : StoreView) (fs : List ArgumentEquations) → FollowsRule st new a b es fs → GoesOn eqs first st new before (reverse fs)
-  follows new fs (after_same e n f) =
-      subst (λ v. GoesOn eqs first st v before (reverse fs)) (sym n) (subst (λ gs. GoesOn eqs first st st before (reverse gs)) (sym f) (unchanged rest (reverse es) (same_goes eqs (substitution first) (substitution st) a b rest u e) refl there))
-  follows new fs (after_binding x t k f g) = subst (λ gs. GoesOn eqs first st new before (reverse gs)) (sym g) (rebound new x t k f)
-  follows new fs (after_opening e k t n f) =
-      let opened = resolved_equations (substitution st) (equations_in (text_in st) e) in
-      subst (λ v. GoesOn eqs first st v before (reverse fs)) (sym n)
-      (subst (λ gs. GoesOn eqs first st st before gs) (sym (ap reverse f ∙ turned es e))
-      (unchanged (opened ++ rest) (e ∷ reverse es) (opening_goes eqs (substitution first) (substitution st) a b rest u opened k) (sym (resolved_append (substitution st) (equations_in (text_in st) e) (pending_equations (text_in st) (reverse es)))) (t, there)))
-
-  pub clashed : rule a b ≡ Clash → unifier eqs ≡ None
-  clashed k = clash_ends eqs (substitution first) (substitution st) a b rest u k
+  pub follows : (new : StoreView) (opened : List ArgumentEquations) → FollowsRule st new a b opened → GoesOn eqs first st new before (opened ++ es)
+  follows new opened (after_same e n f) =
+      subst (λ v. GoesOn eqs first st v before (opened ++ es)) (sym n) (subst (λ gs. GoesOn eqs first st st before (gs ++ es)) (sym f) (unchanged rest es (same_goes eqs (substitution first) (substitution st) a b rest u e) refl there))
+  follows new opened (after_binding x t k f g) = subst (λ gs. GoesOn eqs first st new before (gs ++ es)) (sym g) (rebound new x t k f)
+  follows new opened (after_opening e k t n f) =
+      let inner = resolved_equations (substitution st) (equations_in (text_in st) e) in
+      subst (λ v. GoesOn eqs first st v before (opened ++ es)) (sym n)
+      (subst (λ gs. GoesOn eqs first st st before (gs ++ es)) (sym f)
+      (unchanged (inner ++ rest) (e ∷ es) (opening_goes eqs (substitution first) (substitution st) a b rest u inner k) (sym (resolved_append (substitution st) (equations_in (text_in st) e) (pending_equations (text_in st) es))) (t, there)))
 
 -- the first equation
 pub begun : (a b : Term) (s : Substitution) (left : Equations) → left ≡ (a, b) ∷ [] → Unifying ((a, b) ∷ []) s s left
@@ -223,39 +219,30 @@ ended a b first now left u e others = record {
 pub unified : (a b : BindingCell) (first now : StoreView) → Ended (meaning first a) (meaning first b) first now → AreUnified a b first now
 unified a b first now h = record { further = h.further; unified = h.unified; binds = h.binds }
 
--- the equation on top is the first one that is left
-module _ (eqs : Equations) (first st : StoreView) (old rest between : List ArgumentEquations) (e : ArgumentEquations) (left right : BindingCell) (popped : old ≡ rest ++ e ∷ []) (u : Unifying eqs (substitution first) (substitution st) (left_in st (reverse old))) (there : AllEquations (text_in st) st.now.next (reverse old))
-    (kept : KeepsRestEquations e (reverse rest) (reverse between)) (left_is : value_term st left ≡ argument_at (text_in st) e.left.base e.left.at) (right_is : value_term st right ≡ argument_at (text_in st) e.right.base e.right.at) where
-  turned_old : reverse old ≡ e ∷ reverse rest
-  turned_old = ap reverse popped ∙ turned rest e
+-- the first of the equations that are gone through is the first one that is left
+module _ (eqs : Equations) (first st : StoreView) (waiting others : List ArgumentEquations) (e : ArgumentEquations) (left right : BindingCell) (u : Unifying eqs (substitution first) (substitution st) (left_in st (e ∷ waiting))) (there : AllEquations (text_in st) st.now.next (e ∷ waiting))
+    (kept : KeepsRestEquations e waiting others) (left_is : value_term st left ≡ argument_at (text_in st) e.left.base e.left.at) (right_is : value_term st right ≡ argument_at (text_in st) e.right.base e.right.at) where
+  rest_kept : HasRestEquations (text_in st) st.now.next e waiting others
+  rest_kept = kept (text_in st) st.now.next there.0 there.1
 
-  both : AreEquations (text_in st) st.now.next e × AllEquations (text_in st) st.now.next (reverse rest)
-  both = subst (AllEquations (text_in st) st.now.next) turned_old there
-
-  rest_kept : HasRestEquations (text_in st) st.now.next e (reverse rest) (reverse between)
-  rest_kept = kept (text_in st) st.now.next both.0 both.1
-
-  pub first_is : left_in st (reverse old) ≡ (meaning st left, meaning st right) ∷ left_in st (reverse between)
+  pub first_is : left_in st (e ∷ waiting) ≡ (meaning st left, meaning st right) ∷ left_in st others
   first_is =
-      ap (left_in st) turned_old
-      ∙ (ap (resolved_equations (substitution st)) (sym rest_kept.equations)
-      ∙ ap₂ (λ t v. (resolve (substitution st) t, resolve (substitution st) v) ∷ left_in st (reverse between)) (sym left_is) (sym right_is))
+      ap (resolved_equations (substitution st)) (sym rest_kept.equations)
+      ∙ ap₂ (λ t v. (resolve (substitution st) t, resolve (substitution st) v) ∷ left_in st others) (sym left_is) (sym right_is)
 
-  now_unifying : Unifying eqs (substitution first) (substitution st) ((meaning st left, meaning st right) ∷ left_in st (reverse between))
+  now_unifying : Unifying eqs (substitution first) (substitution st) ((meaning st left, meaning st right) ∷ left_in st others)
   now_unifying = subst (Unifying eqs (substitution first) (substitution st)) first_is u
 
-  pub top_follows : (others : st ≡ with_substitution (substitution st) first) (new : StoreView) (fs : List ArgumentEquations) → FollowsRule st new (meaning st left) (meaning st right) between fs → GoesOn eqs first st new (left_work eqs (left_in st (reverse old))) (reverse fs)
-  top_follows others new fs f =
-      subst (λ k. GoesOn eqs first st new (left_work eqs k) (reverse fs)) (sym first_is) (follows eqs first st (meaning st left) (meaning st right) between now_unifying rest_kept.there others new fs f)
+  pub first_follows : (same : st ≡ with_substitution (substitution st) first) (new : StoreView) (opened : List ArgumentEquations) → FollowsRule st new (meaning st left) (meaning st right) opened → GoesOn eqs first st new (left_work eqs (left_in st (e ∷ waiting))) (opened ++ others)
+  first_follows same new opened f =
+      subst (λ k. GoesOn eqs first st new (left_work eqs k) (opened ++ others)) (sym first_is) (follows eqs first st (meaning st left) (meaning st right) others now_unifying rest_kept.there same new opened f)
 
-  pub top_clashes : rule (meaning st left) (meaning st right) ≡ Clash → unifier eqs ≡ None
-  top_clashes k = clash_ends eqs (substitution first) (substitution st) (meaning st left) (meaning st right) (left_in st (reverse between)) now_unifying k
+  pub first_clashes : rule (meaning st left) (meaning st right) ≡ Clash → unifier eqs ≡ None
+  first_clashes k = clash_ends eqs (substitution first) (substitution st) (meaning st left) (meaning st right) (left_in st others) now_unifying k
 
 -- and at the beginning
-pub start_follows : (first new : StoreView) (a b : Term) (es fs : List ArgumentEquations) → es ≡ [] → FollowsRule first new a b es fs → GoesOn ((a, b) ∷ []) first first new (left_work ((a, b) ∷ []) ((a, b) ∷ left_in first (reverse es))) (reverse fs)
-start_follows first new a b es fs e f =
-    let none : left_in first (reverse es) ≡ [] = ap (λ gs. left_in first (reverse gs)) e in
-    follows ((a, b) ∷ []) first first a b es (begun a b (substitution first) ((a, b) ∷ left_in first (reverse es)) (ap (λ r. (a, b) ∷ r) none)) (subst (AllEquations (text_in first) first.now.next) (sym (ap reverse e)) tt) refl new fs f
+pub start_follows : (first new : StoreView) (a b : Term) (opened : List ArgumentEquations) → FollowsRule first new a b opened → GoesOn ((a, b) ∷ []) first first new (left_work ((a, b) ∷ []) ((a, b) ∷ [])) (opened ++ [])
+start_follows first new a b opened f = follows ((a, b) ∷ []) first first a b [] (begun a b (substitution first) ((a, b) ∷ []) refl) tt refl new opened f
 
 pub start_clashes : (first : StoreView) (a b : Term) → rule a b ≡ Clash → unifier ((a, b) ∷ []) ≡ None
 start_clashes first a b k = clash_ends ((a, b) ∷ []) (substitution first) (substitution first) a b [] (begun a b (substitution first) ((a, b) ∷ []) refl) k

@@ -1,16 +1,18 @@
 -- Going over the arguments of what a value stands for.
-use Rattle.std.proofs.Common.{◌≡◌, ℕ, zero, suc, ◌+◌, ◌-◌, ◌<◌, ◌||◌, Bool, true, false, List, [], ◌∷◌, ◌++◌, reverse, refl, sym, ap, ◌∙◌, subst, arith}
+use Rattle.std.proofs.Common.{◌≡◌, ℕ, zero, suc, ◌+◌, ◌-◌, ◌<◌, ◌||◌, Bool, true, false, List, [], ◌∷◌, ◌++◌, reverse, refl, sym, ap, ◌∙◌, subst, append-nil, arith}
 use Rattle.std.proofs.Math.Bool.{or_assoc}
 use Rattle.std.proofs.lemmas.List.{map-append, reverse-append}
-use Rattle.au_term.specs.Term.{Term, Compound as CompoundTerm, more}
+use Rattle.au_term.specs.Term.{Term, VarTerm, IntTerm, AtomTerm, Compound as CompoundTerm, more}
 use Rattle.au_model.specs.Terms.Lists.{terms_from}
 use Rattle.au_model.specs.Terms.Substitutions.{Substitution, apply_all, value_of, resolve, occurs, occurs_in}
 use Rattle.au_model.specs.Terms.Unifier.{size, size_all}
 use Rattle.clause_compile.specs.AtomNumbers.{name_at}
 use Rattle.clause_compile.specs.Places.{CodeView}
 use Rattle.binding_array.specs.Represented.{cell_term}
+use Rattle.binding_array.specs.declared.cell.BindingCell.{BindingCell}
 use Rattle.binding_array.specs.declared.cell.BindingCell.TheVariants.{Compound}
-use Rattle.cell_store.specs.Arguments.{argument_at, arguments_from, arguments_in, IsArgument, AreArguments, HasFunctor, AreThere, AllThere, pending_terms, resolved_terms, occurs_in_any, sizes, GoesInto, IsFoundOr, HasOpened, HasRest, KeepsRest}
+use Rattle.cell_store.specs.Arguments.{argument_at, arguments_from, arguments_in, IsArgument, AreArguments, HasFunctor, AreThere, AllThere, pending_terms, resolved_terms, occurs_in_any, sizes, AreInside, HasOpened, HasRest, KeepsRest}
+use Rattle.cell_store.specs.StoreView.{StoreView, substitution, text_in, value_term, meaning}
 use Rattle.cell_store.specs.declared.arguments.Arguments.{Arguments}
 
 pub turned : {X : Type 0} (xs : List X) (x : X) → reverse (xs ++ x ∷ []) ≡ x ∷ reverse xs
@@ -41,25 +43,19 @@ sizes_append (t ∷ ts) us = omega (arith, sizes_append ts us)
 pub opened_term : (s : Substitution) (name : List ℕ) (ts : List Term) (t : Term) → t ≡ CompoundTerm name (terms_from ts) → resolve s t ≡ CompoundTerm name (terms_from (resolved_terms s ts))
 opened_term s name ts t e = ap (resolve s) e ∙ ap (CompoundTerm name) (resolved_list s ts)
 
-pub goes_into : (x : ℕ) (s : Substitution) (code : CodeView) (next at base : ℕ) (t : Term) (old new : List Arguments) → resolve s (cell_term code (Compound at base)) ≡ t → HasOpened code next at base old new → GoesInto x s code next t old new
-goes_into x s code next at base t old new e h =
-    let args = resolved_terms s h.arguments in
-    let whole : t ≡ CompoundTerm h.name (terms_from args) = sym e ∙ opened_term s h.name h.arguments (cell_term code (Compound at base)) h.term in
-    let pending : resolved_terms s (pending_terms code new) ≡ args ++ resolved_terms s (pending_terms code old) = ap (resolved_terms s) h.pending ∙ map-append (resolve s) h.arguments (pending_terms code old) in
+-- the arguments of a compound that was come to
+pub inside : (st : StoreView) (x at base f n : ℕ) (t : Term) (a : Arguments) → meaning st (Compound at base) ≡ t → a ≡ record { at = at + 1; base = base; count = n } → HasFunctor (text_in st) st.now.next at base f n → AreInside st x t a
+inside st x at base f n t a e k h =
+    let s = substitution st in
+    let args = resolved_terms s (arguments_from (text_in st) base n (at + 1)) in
+    let listed : resolved_terms s (arguments_in (text_in st) a) ≡ args = ap (λ (b : Arguments). resolved_terms s (arguments_in (text_in st) b)) k in
+    let whole : t ≡ CompoundTerm (name_at (text_in st).names f) (terms_from args) = sym e ∙ opened_term s (name_at (text_in st).names f) (arguments_from (text_in st) base n (at + 1)) (value_term st (Compound at base)) h.term in
     let count : size t ≡ suc (sizes args) = ap size whole ∙ ap suc (size_list args) in
     record {
-      same = ap (occurs_in_any x) pending ∙ (any_append x args (resolved_terms s (pending_terms code old)) ∙ ap (λ b. b || occurs_in_any x (resolved_terms s (pending_terms code old))) (sym (ap (occurs x) whole ∙ any_list x args)));
-      fewer = omega (arith, ap sizes pending, sizes_append args (resolved_terms s (pending_terms code old)), count);
-      there = h.there;
+      same = ap (occurs_in_any x) listed ∙ sym (ap (occurs x) whole ∙ any_list x args);
+      fewer = omega (arith, ap sizes listed, count);
+      there = subst (AreThere (text_in st) st.now.next) (sym k) (h.arity.0, h.arguments);
     }
-
--- nothing is in a value that is no variable and no compound
-pub goes_past : (x : ℕ) (s : Substitution) (code : CodeView) (next : ℕ) (t : Term) (pending now : List Arguments) → occurs x t ≡ false → 0 < size t → now ≡ pending → GoesInto x s code next t pending now
-goes_past x s code next t pending now o p e = record {
-  same = ap (λ bs. occurs_in_any x (resolved_terms s (pending_terms code bs))) e ∙ sym (ap (λ b. b || occurs_in_any x (resolved_terms s (pending_terms code pending))) o);
-  fewer = omega (arith, p, ap (λ bs. sizes (resolved_terms s (pending_terms code bs))) e);
-  there = λ h. subst (AllThere code next) (sym e) h;
-}
 
 -- arguments on top
 pub opened_some : (code : CodeView) (next at base f n : ℕ) (a : Arguments) (old : List Arguments) → a ≡ record { at = at + 1; base = base; count = n } → HasFunctor code next at base f n → HasOpened code next at base old (a ∷ old)
@@ -88,6 +84,21 @@ rest_some a b old p e code next h k = by_count a.count refl
 pub rest_none : (a : Arguments) (old : List Arguments) → a.count ≡ 1 → KeepsRest a old old
 rest_none a old e code next h k = record { terms = sym (ap (λ m. arguments_from code a.base m a.at ++ pending_terms code old) e); there = k }
 
+-- one way or the other
+pub record OtherArguments (a : Arguments) (old : List Arguments) : Type 0 where
+  pub others : List Arguments
+  pub kept : KeepsRest a old others
+
+pub other_arguments : (a : Arguments) (old : List Arguments) → 0 < a.count → OtherArguments a old
+other_arguments a old p = by_count a.count refl
+  where
+    by_count : (n : ℕ) → a.count ≡ n → OtherArguments a old
+    by_count zero q = absurd (omega arith)
+    by_count (suc zero) q = record { others = old; kept = rest_none a old (omega arith) }
+    by_count (suc (suc n)) q =
+        let b : Arguments = record { at = a.at + 1; base = a.base; count = a.count - 1 } in
+        record { others = b ∷ old; kept = rest_some a b old (omega arith) refl }
+
 -- the arguments that are taken from the top
 pub first_there : (code : CodeView) (next : ℕ) (a : Arguments) → AreThere code next a → IsArgument code next a.base a.at
 first_there code next a h = by_count a.count h.0 h.1
@@ -99,20 +110,56 @@ first_there code next a h = by_count a.count h.0 h.1
 pub top_there : (code : CodeView) (next : ℕ) (old rest : List Arguments) (a : Arguments) → old ≡ rest ++ a ∷ [] → AllThere code next (reverse old) → AreThere code next a × AllThere code next (reverse rest)
 top_there code next old rest a e h = subst (AllThere code next) (ap reverse e ∙ turned rest a) h
 
--- one argument was gone over
-abbrev pub Walked : ℕ → Substitution → CodeView → ℕ → List Arguments → List Arguments → Bool → Type 0
-Walked x s code next old new true = occurs_in_any x (resolved_terms s (pending_terms code old)) ≡ true
-Walked x s code next old new false = (occurs_in_any x (resolved_terms s (pending_terms code new)) ≡ occurs_in_any x (resolved_terms s (pending_terms code old))) × (sizes (resolved_terms s (pending_terms code new)) < sizes (resolved_terms s (pending_terms code old))) × AllThere code next new
+-- a variable occurs in what arguments stand for, as it does in a term
+pub record IsSearching (st : StoreView) (x : ℕ) (t : Term) (list : List Arguments) : Type 0 where
+  pub same : occurs_in_any x (resolved_terms (substitution st) (pending_terms (text_in st) list)) ≡ occurs x t
+  pub there : AllThere (text_in st) st.now.next list
 
-pub walked : (x : ℕ) (s : Substitution) (code : CodeView) (next : ℕ) (old rest between new : List Arguments) (a : Arguments) (t u : Term) (found : Bool) → old ≡ rest ++ a ∷ [] → AllThere code next (reverse old) → KeepsRest a (reverse rest) (reverse between) → t ≡ argument_at code a.base a.at → resolve s t ≡ u → IsFoundOr found x s code next u (reverse between) (reverse new)
-    → Walked x s code next (reverse old) (reverse new) found
-walked x s code next old rest between new a t u found e h k ta tu f =
-    let top = top_there code next old rest a e h in
-    let r = k code next top.0 top.1 in
-    let all : u ∷ resolved_terms s (pending_terms code (reverse between)) ≡ resolved_terms s (pending_terms code (reverse old)) =
-    ap (λ v. v ∷ resolved_terms s (pending_terms code (reverse between))) (sym tu ∙ ap (resolve s) ta) ∙ (ap (resolved_terms s) r.terms ∙ ap (λ bs. resolved_terms s (pending_terms code bs)) (sym (ap reverse e ∙ turned rest a))) in
-    by_found found f all r.there
-  where
-    by_found : (b : Bool) → IsFoundOr b x s code next u (reverse between) (reverse new) → u ∷ resolved_terms s (pending_terms code (reverse between)) ≡ resolved_terms s (pending_terms code (reverse old)) → AllThere code next (reverse between) → Walked x s code next (reverse old) (reverse new) b
-    by_found true o q w = sym (ap (occurs_in_any x) q) ∙ ap (λ b. b || occurs_in_any x (resolved_terms s (pending_terms code (reverse between)))) o
-    by_found false g q w = (g.same ∙ ap (occurs_in_any x) q, omega (arith, g.fewer, ap sizes q), g.there w)
+abbrev pub searching_work : StoreView → List Arguments → ℕ
+searching_work st list = sizes (resolved_terms (substitution st) (pending_terms (text_in st) list))
+
+pub search_starts : (st : StoreView) (x : ℕ) (t : Term) (a : Arguments) → AreInside st x t a → IsSearching st x t (a ∷ [])
+search_starts st x t a h = record {
+  same = ap (λ ts. occurs_in_any x (resolved_terms (substitution st) ts)) (append-nil (arguments_in (text_in st) a)) ∙ h.same;
+  there = (h.there, tt);
+}
+
+some_size : (t : Term) → 0 < size t
+some_size (VarTerm n) = omega arith
+some_size (IntTerm z) = omega arith
+some_size (AtomTerm a) = omega arith
+some_size (CompoundTerm f ts) = omega arith
+
+module _ (st : StoreView) (x : ℕ) (t : Term) (a : Arguments) (waiting : List Arguments) (c : BindingCell) (h : IsSearching st x t (a ∷ waiting)) (c_is : value_term st c ≡ argument_at (text_in st) a.base a.at) where
+  listed : (others : List Arguments) → KeepsRest a waiting others → meaning st c ∷ resolved_terms (substitution st) (pending_terms (text_in st) others) ≡ resolved_terms (substitution st) (pending_terms (text_in st) (a ∷ waiting))
+  listed others kept =
+      ap (λ u. u ∷ resolved_terms (substitution st) (pending_terms (text_in st) others)) (ap (resolve (substitution st)) c_is) ∙ ap (resolved_terms (substitution st)) (kept (text_in st) st.now.next h.there.0 h.there.1).terms
+
+  pub search_ends : occurs x (meaning st c) ≡ true → true ≡ occurs x t
+  search_ends o =
+      let r = other_arguments a waiting h.there.0.0 in
+      sym (ap (λ b. b || occurs_in_any x (resolved_terms (substitution st) (pending_terms (text_in st) r.others))) o) ∙ (ap (occurs_in_any x) (listed r.others r.kept) ∙ h.same)
+
+  pub search_goes_past : (others : List Arguments) → KeepsRest a waiting others → occurs x (meaning st c) ≡ false → IsSearching st x t others × (searching_work st others < searching_work st (a ∷ waiting))
+  search_goes_past others kept o = (
+    record {
+      same = sym (ap (λ b. b || occurs_in_any x (resolved_terms (substitution st) (pending_terms (text_in st) others))) o) ∙ (ap (occurs_in_any x) (listed others kept) ∙ h.same);
+      there = (kept (text_in st) st.now.next h.there.0 h.there.1).there;
+    },
+    omega (arith, ap sizes (listed others kept), some_size (meaning st c)),
+  )
+
+  pub search_goes_inside : (others : List Arguments) → KeepsRest a waiting others → (b : Arguments) → AreInside st x (meaning st c) b → IsSearching st x t (b ∷ others) × (searching_work st (b ∷ others) < searching_work st (a ∷ waiting))
+  search_goes_inside others kept b i =
+      let inner = resolved_terms (substitution st) (arguments_in (text_in st) b) in
+      let rest = resolved_terms (substitution st) (pending_terms (text_in st) others) in
+      let all : resolved_terms (substitution st) (pending_terms (text_in st) (b ∷ others)) ≡ inner ++ rest = map-append (resolve (substitution st)) (arguments_in (text_in st) b) (pending_terms (text_in st) others) in (
+        record {
+          same = ap (occurs_in_any x) all ∙ (any_append x inner rest ∙ (ap (λ b. b || occurs_in_any x rest) i.same ∙ (ap (occurs_in_any x) (listed others kept) ∙ h.same)));
+          there = (i.there, (kept (text_in st) st.now.next h.there.0 h.there.1).there);
+        },
+        omega (arith, ap sizes all, sizes_append inner rest, i.fewer, ap sizes (listed others kept)),
+      )
+
+pub search_over : (st : StoreView) (x : ℕ) (t : Term) → IsSearching st x t [] → false ≡ occurs x t
+search_over st x t h = h.same

@@ -1,5 +1,5 @@
 -- The arguments of compounds, by their places.
-use Rattle.std.specs.Prelude.{◌≡◌, ℕ, zero, suc, ◌+◌, ◌<◌, ◌≤◌, ◌||◌, Bool, true, false, List, [], ◌∷◌, ◌++◌, length, map, get_or}
+use Rattle.std.specs.Prelude.{◌≡◌, ℕ, zero, suc, ◌+◌, ◌<◌, ◌≤◌, ◌||◌, Bool, true, false, List, [], ◌∷◌, ◌++◌, length, map, get_or, Option, Some, None}
 use Rattle.au_term.specs.Term.{Term, Compound as CompoundTerm, var_bound}
 use Rattle.au_term.specs.Shifted.{shifted}
 use Rattle.au_model.specs.Terms.Lists.{terms_from}
@@ -10,10 +10,11 @@ use Rattle.clause_compile.specs.Places.{CodeView, IsArity, IsPlaceOf, meaning_in
 use Rattle.clause_compile.specs.declared.place.Place.{Place}
 use Rattle.clause_compile.specs.declared.place.Place.TheVariants.{Var as VarPlace}
 use Rattle.binding_array.specs.Represented.{cell_term}
-use Rattle.binding_array.specs.declared.cell.BindingCell.{BindingCell}
 use Rattle.binding_array.specs.declared.cell.BindingCell.TheVariants.{Compound}
-use Rattle.cell_store.specs.StoreView.{StoreView, substitution, meaning, text_in}
+use Rattle.cell_store.specs.StoreView.{StoreView, substitution, text_in}
 use Rattle.cell_store.specs.declared.arguments.Arguments.{Arguments}
+use Rattle.cell_store.specs.declared.occurs.Searched.{Searched}
+use Rattle.cell_store.specs.declared.occurs.Searched.TheVariants.{Found, Past, Inside}
 
 abbrev pub code_place : CodeView → ℕ → Place
 code_place code at = get_or code.places at (VarPlace 0)
@@ -71,16 +72,17 @@ abbrev pub sizes : List Term → ℕ
 sizes [] = 0
 sizes (t ∷ ts) = size t + sizes ts
 
--- a value is the variable, or the arguments of a compound come on top
-pub record GoesInto (x : ℕ) (s : Substitution) (code : CodeView) (next : ℕ) (t : Term) (old new : List Arguments) : Type 0 where
-  pub same : occurs_in_any x (resolved_terms s (pending_terms code new)) ≡ (occurs x t || occurs_in_any x (resolved_terms s (pending_terms code old)))
-  pub fewer : sizes (resolved_terms s (pending_terms code new)) < size t + sizes (resolved_terms s (pending_terms code old))
-  pub there : AllThere code next old → AllThere code next new
+-- the arguments of a compound, in which a variable occurs where it occurs in this
+pub record AreInside (st : StoreView) (x : ℕ) (t : Term) (a : Arguments) : Type 0 where
+  pub same : occurs_in_any x (resolved_terms (substitution st) (arguments_in (text_in st) a)) ≡ occurs x t
+  pub fewer : sizes (resolved_terms (substitution st) (arguments_in (text_in st) a)) < size t
+  pub there : AreThere (text_in st) st.now.next a
 
--- whether the variable is what a value stands for
-abbrev pub IsFoundOr : Bool → ℕ → Substitution → CodeView → ℕ → Term → List Arguments → List Arguments → Type 0
-IsFoundOr true x s code next t old new = occurs x t ≡ true
-IsFoundOr false x s code next t old new = GoesInto x s code next t old new
+-- whether a variable occurs in a term, or that it is to be searched in these arguments
+abbrev pub IsSearched : StoreView → ℕ → Term → Searched → Type 0
+IsSearched st x t Found = occurs x t ≡ true
+IsSearched st x t Past = occurs x t ≡ false
+IsSearched st x t (Inside a) = AreInside st x t a
 
 -- the arguments of a compound came on top
 pub record HasOpened (code : CodeView) (next at base : ℕ) (old new : List Arguments) : Type 0 where
@@ -98,6 +100,7 @@ pub record HasRest (code : CodeView) (next : ℕ) (a : Arguments) (old new : Lis
 abbrev pub KeepsRest : Arguments → List Arguments → List Arguments → Type 0
 KeepsRest a old new = (code : CodeView) (next : ℕ) → AreThere code next a → AllThere code next old → HasRest code next a old new
 
--- whether the variable is what a value of a store stands for
-abbrev pub IsFoundAt : StoreView → Bool → ℕ → BindingCell → List Arguments → List Arguments → Type 0
-IsFoundAt st found x c old new = IsFoundOr found x (substitution st) (text_in st) st.now.next (meaning st c) old new
+-- arguments with those that wait behind them
+abbrev pub with_others : Option Arguments → List Arguments → List Arguments
+with_others None waiting = []
+with_others (Some a) waiting = a ∷ waiting

@@ -1,5 +1,5 @@
 -- Equations between the arguments of compounds, and how they are solved one after another (ISO/IEC 13211-1, 7.3.2).
-use Rattle.std.specs.Prelude.{◌≡◌, ℕ, Bool, true, false, List, [], ◌∷◌, ◌++◌, Some, None}
+use Rattle.std.specs.Prelude.{◌≡◌, ℕ, Bool, true, false, List, [], ◌∷◌, ◌++◌, Option, Some, None}
 use Rattle.au_term.specs.Term.{Term}
 use Rattle.au_model.specs.Terms.Substitutions.{Substitution, occurs}
 use Rattle.au_model.specs.Terms.Unifier.{Equations, Replaced, Opened, Clash, rule, unifier}
@@ -9,6 +9,8 @@ use Rattle.binding_array.specs.declared.cell.BindingCell.{BindingCell}
 use Rattle.cell_store.specs.StoreView.{StoreView, substitution, meaning, text_in, with_substitution, BindsFurther}
 use Rattle.cell_store.specs.Arguments.{argument_at, arguments_in, AreThere}
 use Rattle.cell_store.specs.declared.arguments.Equations.{Equations as ArgumentEquations}
+use Rattle.cell_store.specs.declared.unify.Outcome.{Outcome}
+use Rattle.cell_store.specs.declared.unify.Outcome.TheVariants.{Clash as ClashOutcome, Solved, Inside}
 
 abbrev pub paired : List Term → List Term → Equations
 paired [] us = []
@@ -33,18 +35,29 @@ abbrev pub AllEquations : CodeView → ℕ → List ArgumentEquations → Type 0
 AllEquations code next [] = Unit {0}
 AllEquations code next (e ∷ es) = AreEquations code next e × AllEquations code next es
 
--- the rule for two sides was gone by, and equations may have been put on top
-pub data FollowsRule (old new : StoreView) (a b : Term) (es fs : List ArgumentEquations) : Type 0 where
-  after_same : a ≡ b → new ≡ old → fs ≡ es → FollowsRule old new a b es fs
-  after_binding : (x : ℕ) (t : Term) → rule a b ≡ Replaced x t → BindsFurther old new ((x, t) ∷ []) → fs ≡ es → FollowsRule old new a b es fs
-  after_opening : (e : ArgumentEquations) → rule a b ≡ Opened (resolved_equations (substitution old) (equations_in (text_in old) e)) → AreEquations (text_in old) old.now.next e → new ≡ old → fs ≡ es ++ e ∷ [] → FollowsRule old new a b es fs
+-- the rule for two sides was gone by, and these equations were opened
+pub data FollowsRule (old new : StoreView) (a b : Term) (opened : List ArgumentEquations) : Type 0 where
+  after_same : a ≡ b → new ≡ old → opened ≡ [] → FollowsRule old new a b opened
+  after_binding : (x : ℕ) (t : Term) → rule a b ≡ Replaced x t → BindsFurther old new ((x, t) ∷ []) → opened ≡ [] → FollowsRule old new a b opened
+  after_opening : (e : ArgumentEquations) → rule a b ≡ Opened (resolved_equations (substitution old) (equations_in (text_in old) e)) → AreEquations (text_in old) old.now.next e → new ≡ old → opened ≡ e ∷ [] → FollowsRule old new a b opened
+
+-- a rule was gone by, or there is none
+abbrev pub TakesRule : StoreView → StoreView → Term → Term → Outcome → Type 0
+TakesRule old new a b ClashOutcome = rule a b ≡ Clash
+TakesRule old new a b Solved = FollowsRule old new a b []
+TakesRule old new a b (Inside e) = FollowsRule old new a b (e ∷ [])
+
+abbrev pub solved_if : Bool → Outcome
+solved_if true = Solved
+solved_if false = ClashOutcome
 
 -- a variable was bound to a term, unless it occurs in it
-abbrev pub IsBoundOr : ℕ → Term → StoreView → StoreView → Bool → Type 0
-IsBoundOr x t old new true = (occurs x t ≡ false) × BindsFurther old new ((x, t) ∷ [])
-IsBoundOr x t old new false = (occurs x t ≡ true) × (new ≡ old)
+abbrev pub IsBoundOr : ℕ → Term → StoreView → StoreView → Outcome → Type 0
+IsBoundOr x t old new ClashOutcome = (occurs x t ≡ true) × (new ≡ old)
+IsBoundOr x t old new Solved = (occurs x t ≡ false) × BindsFurther old new ((x, t) ∷ [])
+IsBoundOr x t old new (Inside e) = ⊥
 
--- all but the first equation came on top
+-- the others are all but the first equation, before those that wait
 pub record HasRestEquations (code : CodeView) (next : ℕ) (e : ArgumentEquations) (old new : List ArgumentEquations) : Type 0 where
   pub equations : (argument_at code e.left.base e.left.at, argument_at code e.right.base e.right.at) ∷ pending_equations code new ≡ equations_in code e ++ pending_equations code old
   pub there : AllEquations code next new
@@ -52,10 +65,10 @@ pub record HasRestEquations (code : CodeView) (next : ℕ) (e : ArgumentEquation
 abbrev pub KeepsRestEquations : ArgumentEquations → List ArgumentEquations → List ArgumentEquations → Type 0
 KeepsRestEquations e old new = (code : CodeView) (next : ℕ) → AreEquations code next e → AllEquations code next old → HasRestEquations code next e old new
 
--- a rule was gone by, or there is none
-abbrev pub TakesRule : StoreView → StoreView → Term → Term → List ArgumentEquations → List ArgumentEquations → Bool → Type 0
-TakesRule old new a b es fs true = FollowsRule old new a b es fs
-TakesRule old new a b es fs false = rule a b ≡ Clash
+-- equations with those that wait behind them
+abbrev pub with_waiting : Option ArgumentEquations → List ArgumentEquations → List ArgumentEquations
+with_waiting None waiting = []
+with_waiting (Some e) waiting = e ∷ waiting
 
 -- all but what is bound is as it was
 pub record OnlyBinds (old new : StoreView) : Type 0 where

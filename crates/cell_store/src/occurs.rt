@@ -2,15 +2,23 @@
 ghost use Rattle.std.specs.Prelude.{◌≡◌, ◌<◌, ◌-◌, ◌^◌, ◌∷◌, IfOk, OnOk, reverse};
 ghost use Rattle.au_model.specs.Terms.Substitutions.{occurs};
 ghost use Rattle.cell_store.specs.StoreView.{IsValueIn, meaning, text_in};
-ghost use Rattle.cell_store.specs.Arguments.{IsFoundAt, HasOpened, KeepsRest};
+ghost use Rattle.cell_store.specs.Arguments.{IsSearched, HasOpened, KeepsRest, with_others};
 
-use crate::arguments::Arguments;
+use crate::arguments::{Arguments, arguments_of, rest_of};
 use crate::store::Store;
 use au_term::NoMemory;
 use binding_array::BindingCell;
 
-/// Whether a variable that is free occurs in what a value stands for. The list takes the arguments that are still to be
-/// looked at.
+/// What a variable is searched in: it is found, it is not there, or the arguments of a compound are to be looked at.
+#[derive(Clone, Copy, Debug)]
+pub(crate) enum Searched {
+    Found,
+    Past,
+    Inside(Arguments),
+}
+
+/// Whether a variable that is free occurs in what a value stands for. The list takes the arguments that wait behind those
+/// that are looked at.
 pub(crate) fn occurs(
     variable: u32,
     value: BindingCell,
@@ -20,38 +28,59 @@ pub(crate) fn occurs(
     requires { IsValueIn store.now value }
     ensures { IfOk result (λ b. b ≡ occurs variable (meaning store.now value)) }
 {
+    let mut open = match look_at(variable, value, store) {
+        Searched::Found => return Ok(true),
+        Searched::Past => return Ok(false),
+        Searched::Inside(arguments) => arguments,
+    };
     pending.clear();
-    if is_found(variable, value, store, pending)? {
-        return Ok(true);
-    }
-    while let Some(arguments) = pending.pop() {
-        let value = store.argument(arguments.at, arguments.base);
-        push_rest(arguments, pending)?;
-        if is_found(variable, value, store, pending)? {
-            return Ok(true);
+    loop {
+        let argument = store.argument(open.at, open.base);
+        match look_at(variable, argument, store) {
+            Searched::Found => return Ok(true),
+            Searched::Past => match next_arguments(open, pending) {
+                Some(next) => open = next,
+                None => return Ok(false),
+            },
+            Searched::Inside(inner) => {
+                push_rest(open, pending)?;
+                open = inner;
+            }
         }
     }
-    Ok(false)
 }
 
-/// Whether a value stands for the variable; the arguments of a compound are put on top.
-fn is_found(
-    variable: u32,
-    value: BindingCell,
-    store: &Store,
-    pending: &mut Vec<Arguments>,
-) -> Result<bool, NoMemory>
+/// Looks for a variable at what a value stands for.
+fn look_at(variable: u32, value: BindingCell, store: &Store) -> Searched
     requires { IsValueIn store.now value }
-    ensures { IfOk result (λ found. IsFoundAt store.now found variable value (reverse pending.old.items) (reverse pending.new.items)) }
+    ensures { IsSearched store.now variable (meaning store.now value) result }
 {
     match store.dereference(value) {
-        BindingCell::Var(number) => Ok(number == variable),
-        BindingCell::Compound(at, base) => {
-            push_arguments(at, base, store, pending)?;
-            Ok(false)
+        BindingCell::Var(number) => {
+            if number == variable {
+                Searched::Found
+            } else {
+                Searched::Past
+            }
         }
-        _ => Ok(false),
+        BindingCell::Compound(at, base) => {
+            let (_name, count) = store.functor(at);
+            Searched::Inside(arguments_of((at, base), count))
+        }
+        _ => Searched::Past,
     }
+}
+
+/// The arguments that are next, once the first of these was looked at.
+fn next_arguments(arguments: Arguments, pending: &mut Vec<Arguments>) -> Option<Arguments>
+    requires some { 0 < arguments.count }
+    requires short { arguments.at < 2 ^ 32 - 1 }
+    ensures { KeepsRest arguments (reverse pending.old.items) (with_others result (reverse pending.new.items)) }
+{
+    if arguments.count == 1 {
+        return pending.pop();
+    }
+    Some(rest_of(arguments))
 }
 
 /// Puts the arguments of the compound at a place on top.
@@ -77,11 +106,7 @@ pub fn push_rest(arguments: Arguments, pending: &mut Vec<Arguments>) -> Result<(
     ensures { OnOk result (KeepsRest arguments (reverse pending.old.items) (reverse pending.new.items)) }
 {
     if arguments.count > 1 {
-        pending.push(Arguments {
-            at: arguments.at + 1,
-            base: arguments.base,
-            count: arguments.count - 1,
-        })?;
+        pending.push(rest_of(arguments))?;
     }
     Ok(())
 }

@@ -1,5 +1,5 @@
 //! The unifier of two values (ISO/IEC 13211-1, 7.3.2).
-ghost use Rattle.std.specs.Prelude.{◌≡◌, ◌<◌, ◌-◌, ◌^◌, IfOk, OnOk, Bool, true, ℕ, Option, List, length, nat_eq, reverse};
+ghost use Rattle.std.specs.Prelude.{◌≡◌, ◌<◌, ◌-◌, ◌^◌, ◌∷◌, IfOk, OnOk, ℕ, Option, List, length, nat_eq, reverse};
 ghost use Rattle.std.specs.Cmp.Lexicographic.{pointwise};
 ghost use Rattle.au_term.specs.Term.{VarTerm};
 ghost use Rattle.au_model.specs.Terms.Substitutions.{value_of};
@@ -8,7 +8,7 @@ ghost use Rattle.clause_compile.specs.AtomNumbers.{name_at};
 ghost use Rattle.cell_store.specs.FreshVariables.{IsOlder, StaysOlder, fresh_after, is_fresh};
 ghost use Rattle.cell_store.specs.Values.{IsNoVariable};
 ghost use Rattle.cell_store.specs.StoreView.{IsValueIn, compound_meaning, meaning, substitution, text_in};
-ghost use Rattle.cell_store.specs.UnificationSteps.{IsUnified, OnlyBinds, TakesRule, IsBoundOr, KeepsRestEquations};
+ghost use Rattle.cell_store.specs.UnificationSteps.{IsUnified, OnlyBinds, TakesRule, IsBoundOr, KeepsRestEquations, solved_if, with_waiting};
 ghost use Rattle.cell_store.specs.declared.arguments.Equations.{Equations as ArgumentEquations};
 
 use crate::arguments::{Arguments, Equations, arguments_of, rest_of};
@@ -17,10 +17,18 @@ use crate::store::Store;
 use au_term::NoMemory;
 use binding_array::BindingCell;
 
+/// How two values unify: none unifies them, they are one now, or their arguments are still to be made one.
+#[derive(Clone, Copy, Debug)]
+pub(crate) enum Outcome {
+    Clash,
+    Solved,
+    Inside(Equations),
+}
+
 /// Makes two values one by further bindings, or answers that none do. Where the second is the head of a clause and the
 /// first one older than the clause, `fresh` is the clause's first variable: such a variable is bound to what is older
-/// without the search for it there. The lists take the equations that are still to be solved, and the arguments that such a
-/// search is still to look at.
+/// without the search for it there. The lists take the equations that wait behind those that are gone through, and the
+/// arguments that such a search is still to look at.
 pub(crate) fn unify(
     a: BindingCell,
     b: BindingCell,
@@ -36,35 +44,42 @@ pub(crate) fn unify(
     ensures kept { OnlyBinds store.old store.new }
 {
     let mut fresh = fresh;
+    let mut open = match pair_goes(a, b, &mut fresh, store, walked)? {
+        Outcome::Clash => return Ok(false),
+        Outcome::Solved => return Ok(true),
+        Outcome::Inside(equations) => equations,
+    };
     pending.clear();
-    if !pair_goes(a, b, &mut fresh, store, pending, walked)? {
-        return Ok(false);
-    }
-    while let Some(equations) = pending.pop() {
-        let left = store.argument(equations.left.at, equations.left.base);
-        let right = store.argument(equations.right.at, equations.right.base);
-        push_rest(equations, pending)?;
-        if !pair_goes(left, right, &mut fresh, store, pending, walked)? {
-            return Ok(false);
+    loop {
+        let left = store.argument(open.left.at, open.left.base);
+        let right = store.argument(open.right.at, open.right.base);
+        match pair_goes(left, right, &mut fresh, store, walked)? {
+            Outcome::Clash => return Ok(false),
+            Outcome::Solved => match next_equations(open, pending) {
+                Some(next) => open = next,
+                None => return Ok(true),
+            },
+            Outcome::Inside(inner) => {
+                push_rest(open, pending)?;
+                open = inner;
+            }
         }
     }
-    Ok(true)
 }
 
-/// Goes by the rule for an equation, and answers whether it is no clash.
+/// Goes by the rule for an equation.
 fn pair_goes(
     left: BindingCell,
     right: BindingCell,
     fresh: &mut Option<u32>,
     store: &mut Store,
-    pending: &mut Vec<Equations>,
     walked: &mut Vec<Arguments>,
-) -> Result<bool, NoMemory>
+) -> Result<Outcome, NoMemory>
     requires left { IsValueIn store.old left }
     requires right { IsValueIn store.old right }
     requires older { IsOlder fresh.old (meaning store.old left) }
-    ensures goes { IfOk result (TakesRule store.old store.new (meaning store.old left) (meaning store.old right) pending.old.items pending.new.items) }
-    ensures stays { IfOk result (λ goes. goes ≡ true → StaysOlder store.old store.new fresh.old fresh.new) }
+    ensures goes { IfOk result (TakesRule store.old store.new (meaning store.old left) (meaning store.old right)) }
+    ensures stays { OnOk result (StaysOlder store.old store.new fresh.old fresh.new) }
     ensures kept { OnlyBinds store.old store.new }
 {
     let left = store.dereference(left);
@@ -76,18 +91,18 @@ fn pair_goes(
         },
         _ => match right {
             BindingCell::Var(n) => bind_right(n, left, *fresh, store, walked),
-            _ => values_go(left, right, store, pending),
+            _ => Ok(values_go(left, right, store)),
         },
     }
 }
 
 /// Of two free variables the one with the greater number is bound to the other.
-fn variables_go(m: u32, n: u32, store: &mut Store) -> Result<bool, NoMemory>
+fn variables_go(m: u32, n: u32, store: &mut Store) -> Result<Outcome, NoMemory>
     requires left { IsValueIn store.old (BindingCell.Var m) }
     requires right { IsValueIn store.old (BindingCell.Var n) }
     requires left_free { value_of (substitution store.old) m ≡ VarTerm m }
     requires right_free { value_of (substitution store.old) n ≡ VarTerm n }
-    ensures goes { IfOk result (λ goes. (es : List ArgumentEquations) → TakesRule store.old store.new (VarTerm m) (VarTerm n) es es goes) }
+    ensures goes { IfOk result (TakesRule store.old store.new (VarTerm m) (VarTerm n)) }
     ensures stays { OnOk result ((fresh : Option ℕ) → IsOlder fresh (VarTerm m) → StaysOlder store.old store.new fresh fresh) }
     ensures kept { OnlyBinds store.old store.new }
 {
@@ -96,16 +111,16 @@ fn variables_go(m: u32, n: u32, store: &mut Store) -> Result<bool, NoMemory>
     } else if n < m {
         store.bind(m, BindingCell::Var(n))?;
     }
-    Ok(true)
+    Ok(Outcome::Solved)
 }
 
-/// Binds a free variable to a value, and answers whether it doesn't occur there.
+/// Binds a free variable to a value, unless it occurs there.
 fn bind_checked(
     variable: u32,
     value: BindingCell,
     store: &mut Store,
     walked: &mut Vec<Arguments>,
-) -> Result<bool, NoMemory>
+) -> Result<Outcome, NoMemory>
     requires there { IsValueIn store.old (BindingCell.Var variable) }
     requires free { value_of (substitution store.old) variable ≡ VarTerm variable }
     requires value { IsValueIn store.old value }
@@ -114,10 +129,10 @@ fn bind_checked(
     ensures kept { OnlyBinds store.old store.new }
 {
     if occurs(variable, value, store, walked)? {
-        return Ok(false);
+        return Ok(Outcome::Clash);
     }
     store.bind(variable, value)?;
-    Ok(true)
+    Ok(Outcome::Solved)
 }
 
 /// Binds a free variable of something older. Where it is bound to a compound, a clause's variables are no longer fresh.
@@ -127,18 +142,18 @@ fn bind_left(
     fresh: &mut Option<u32>,
     store: &mut Store,
     walked: &mut Vec<Arguments>,
-) -> Result<bool, NoMemory>
+) -> Result<Outcome, NoMemory>
     requires there { IsValueIn store.old (BindingCell.Var variable) }
     requires free { value_of (substitution store.old) variable ≡ VarTerm variable }
     requires value { IsValueIn store.old value }
     requires no_variable { IsNoVariable value }
     ensures bound { IfOk result (IsBoundOr variable (meaning store.old value) store.old store.new) }
-    ensures stays { IfOk result (λ goes. goes ≡ true → StaysOlder store.old store.new fresh.old fresh.new) }
+    ensures stays { OnOk result (StaysOlder store.old store.new fresh.old fresh.new) }
     ensures kept { OnlyBinds store.old store.new }
 {
-    let goes = bind_checked(variable, value, store, walked)?;
+    let outcome = bind_checked(variable, value, store, walked)?;
     *fresh = fresh_after(*fresh, value);
-    Ok(goes)
+    Ok(outcome)
 }
 
 /// What is fresh after an older variable was bound to a value.
@@ -158,19 +173,19 @@ fn bind_right(
     fresh: Option<u32>,
     store: &mut Store,
     walked: &mut Vec<Arguments>,
-) -> Result<bool, NoMemory>
+) -> Result<Outcome, NoMemory>
     requires there { IsValueIn store.old (BindingCell.Var variable) }
     requires free { value_of (substitution store.old) variable ≡ VarTerm variable }
     requires value { IsValueIn store.old value }
     requires no_variable { IsNoVariable value }
     requires older { IsOlder fresh (meaning store.old value) }
     ensures bound { IfOk result (IsBoundOr variable (meaning store.old value) store.old store.new) }
-    ensures stays { IfOk result (λ goes. goes ≡ true → StaysOlder store.old store.new fresh fresh) }
+    ensures stays { OnOk result (StaysOlder store.old store.new fresh fresh) }
     ensures kept { OnlyBinds store.old store.new }
 {
     if is_fresh(variable, fresh) {
         store.bind(variable, value)?;
-        return Ok(true);
+        return Ok(Outcome::Solved);
     }
     bind_checked(variable, value, store, walked)
 }
@@ -186,25 +201,31 @@ fn is_fresh(variable: u32, fresh: Option<u32>) -> bool
 }
 
 /// Goes by the rule for two values that are no variables.
-fn values_go(
-    left: BindingCell,
-    right: BindingCell,
-    store: &Store,
-    pending: &mut Vec<Equations>,
-) -> Result<bool, NoMemory>
+fn values_go(left: BindingCell, right: BindingCell, store: &Store) -> Outcome
     requires left { IsValueIn store.now left }
     requires right { IsValueIn store.now right }
     requires left_no_variable { IsNoVariable left }
     requires right_no_variable { IsNoVariable right }
-    ensures { IfOk result (TakesRule store.now store.now (meaning store.now left) (meaning store.now right) pending.old.items pending.new.items) }
+    ensures { TakesRule store.now store.now (meaning store.now left) (meaning store.now right) result }
 {
     match (left, right) {
-        (BindingCell::Int(y), BindingCell::Int(z)) => Ok(y == z),
-        (BindingCell::Atom(a), BindingCell::Atom(b)) => Ok(are_same(a, b, store)),
+        (BindingCell::Int(y), BindingCell::Int(z)) => solved_if(y == z),
+        (BindingCell::Atom(a), BindingCell::Atom(b)) => solved_if(are_same(a, b, store)),
         (BindingCell::Compound(at, base), BindingCell::Compound(to, on)) => {
-            compounds_go((at, base), (to, on), store, pending)
+            compounds_go((at, base), (to, on), store)
         }
-        _ => Ok(false),
+        _ => Outcome::Clash,
+    }
+}
+
+/// How two constants unify, by whether they are the same.
+fn solved_if(same: bool) -> Outcome
+    ensures { result ≡ solved_if same }
+{
+    if same {
+        Outcome::Solved
+    } else {
+        Outcome::Clash
     }
 }
 
@@ -219,30 +240,48 @@ fn are_same(a: u32, b: u32, store: &Store) -> bool
     a == b
 }
 
-/// Puts the equations of two compounds' arguments on top, where their functors are the same.
-fn compounds_go(
-    left: (u32, u32),
-    right: (u32, u32),
-    store: &Store,
-    pending: &mut Vec<Equations>,
-) -> Result<bool, NoMemory>
+/// Goes by the rule for two compounds: their arguments are to be made one, where their functors are the same.
+fn compounds_go(left: (u32, u32), right: (u32, u32), store: &Store) -> Outcome
     requires left { IsValueIn store.now (BindingCell.Compound left.0 left.1) }
     requires right { IsValueIn store.now (BindingCell.Compound right.0 right.1) }
-    ensures { IfOk result (TakesRule store.now store.now (compound_meaning store.now left) (compound_meaning store.now right) pending.old.items pending.new.items) }
+    ensures { TakesRule store.now store.now (compound_meaning store.now left) (compound_meaning store.now right) result }
 {
     if left == right {
-        return Ok(true);
+        return Outcome::Solved;
     }
     let (name, count) = store.functor(left.0);
     let (other, others) = store.functor(right.0);
     if count != others || !are_same(name, other, store) {
-        return Ok(false);
+        return Outcome::Clash;
     }
-    pending.push(Equations {
+    Outcome::Inside(Equations {
         left: arguments_of(left, count),
         right: arguments_of(right, count),
-    })?;
-    Ok(true)
+    })
+}
+
+/// Equations but for the first.
+fn rest(equations: Equations) -> Equations
+    requires some { (1 < equations.left.count) × (0 < equations.right.count) }
+    requires short { (equations.left.at < 2 ^ 32 - 1) × (equations.right.at < 2 ^ 32 - 1) }
+    ensures { (es : List ArgumentEquations) → KeepsRestEquations equations es (result ∷ es) }
+{
+    Equations {
+        left: rest_of(equations.left),
+        right: rest_of(equations.right),
+    }
+}
+
+/// The equations that are next, once the first of these is solved.
+fn next_equations(equations: Equations, pending: &mut Vec<Equations>) -> Option<Equations>
+    requires some { (0 < equations.left.count) × (0 < equations.right.count) }
+    requires short { (equations.left.at < 2 ^ 32 - 1) × (equations.right.at < 2 ^ 32 - 1) }
+    ensures { KeepsRestEquations equations (reverse pending.old.items) (with_waiting result (reverse pending.new.items)) }
+{
+    if equations.left.count == 1 {
+        return pending.pop();
+    }
+    Some(rest(equations))
 }
 
 /// Puts equations but for the first on top.
@@ -252,10 +291,7 @@ fn push_rest(equations: Equations, pending: &mut Vec<Equations>) -> Result<(), N
     ensures { OnOk result (KeepsRestEquations equations (reverse pending.old.items) (reverse pending.new.items)) }
 {
     if equations.left.count > 1 {
-        pending.push(Equations {
-            left: rest_of(equations.left),
-            right: rest_of(equations.right),
-        })?;
+        pending.push(rest(equations))?;
     }
     Ok(())
 }

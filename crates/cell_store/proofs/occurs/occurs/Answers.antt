@@ -1,8 +1,24 @@
-use Rattle.cell_store.specs.StoreView.{text_in}
-use Rattle.cell_store.proofs.WalkLemmas.{first_there, top_there}
+use Rattle.std.proofs.Common.{reverse}
+use Rattle.cell_store.specs.StoreView.{meaning, text_in}
+use Rattle.cell_store.proofs.WalkLemmas.{first_there, search_goes_past, search_goes_inside}
 use Rattle.cell_store.proofs.occurs.occurs.Goals as goal
 
-pub argument-value-requires : goal.argument-value-requires
-argument-value-requires c =
+pub argument-argument-requires : goal.argument-argument-requires
+argument-argument-requires c =
     let st = c.args.store.now in
-    first_there (text_in st) st.now.next c.in-Some.arguments (top_there (text_in st) st.now.next c.loop-arguments.pending.items c.pop.new.self.items c.in-Some.arguments c.in-Some.ensures.items c.loop-arguments.invariant.there).0
+    first_there (text_in st) st.now.next c.loop-pending.open c.loop-pending.invariant.there.0
+
+pub loop-pending-smaller-in-Some : goal.loop-pending-smaller-in-Some
+loop-pending-smaller-in-Some c =
+    let st = c.args.store.now in
+    (search_goes_past st c.args.variable (meaning st c.args.value) c.loop-pending.open (reverse c.loop-pending.pending.items) c.argument-argument.result c.loop-pending.invariant c.argument-argument.ensures.term _ c.in-Some.ensures c.in-Past-look_at.ensures).1
+
+pub loop-pending-smaller : goal.loop-pending-smaller
+loop-pending-smaller c =
+    let st = c.args.store.now in
+    (search_goes_inside st c.args.variable (meaning st c.args.value) c.loop-pending.open (reverse c.loop-pending.pending.items) c.argument-argument.result c.loop-pending.invariant c.argument-argument.ensures.term _ c.in_ok-push_rest-in-Inside-look_at.ensures c.in-Inside-look_at.inner c.in-Inside-look_at.ensures).1
+
+pub loop-pending-preserved : goal.loop-pending-preserved
+loop-pending-preserved c =
+    let st = c.args.store.now in
+    (search_goes_inside st c.args.variable (meaning st c.args.value) c.loop-pending.open (reverse c.loop-pending.pending.items) c.argument-argument.result c.loop-pending.invariant c.argument-argument.ensures.term _ c.in_ok-push_rest-in-Inside-look_at.ensures c.in-Inside-look_at.inner c.in-Inside-look_at.ensures).0

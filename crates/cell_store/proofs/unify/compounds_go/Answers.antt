@@ -22,4 +22,4 @@ returns c =
     let right = c.functor-other.ensures.functor c.args.right.1 c.requires.right in
     let e : ArgumentEquations = record { left = c.arguments_of.result; right = c.arguments_of-2.result } in
     let right_is = c.arguments_of-2.ensures ∙ ap (λ n. (let x : Arguments = record { at = c.args.right.0 + 1; base = c.args.right.1; count = n } in x)) c.if-count-others.false in
-    opened_some st c.args.left.0 c.args.left.1 _ _ c.args.right.0 c.args.right.1 _ _ left right c.arguments_of.result c.arguments_of-2.result e c.args.pending.now.items c.push.new.self.items (sym c.are_same.ensures ∙ c.if-not-are_same.false) c.if-count-others.false c.arguments_of.ensures right_is refl c.in_ok-push.ensures.items
+    opened_some st c.args.left.0 c.args.left.1 _ _ c.args.right.0 c.args.right.1 _ _ left right c.arguments_of.result c.arguments_of-2.result e (sym c.are_same.ensures ∙ c.if-not-are_same.false) c.if-count-others.false c.arguments_of.ensures right_is refl

@@ -8,14 +8,14 @@ use Rattle.cell_store.proofs.RuleLemmas.{right_bound, left_bound, variable_bindi
 use Rattle.cell_store.proofs.unify.variables_go.Goals as goal
 
 pub returns-in_ok-bind-clause-goes : goal.returns-in_ok-bind-clause-goes
-returns-in_ok-bind-clause-goes c = λ es.
+returns-in_ok-bind-clause-goes c =
     let st = c.args.store.now in
-    variable_binding st c.bind.new.self (VarTerm c.args.m) (VarTerm c.args.n) (VarTerm c.args.m) (meaning st (Var c.args.m)) c.args.n es (right_bound c.args.m c.args.n c.if-m-n.true) c.requires.left_free c.in_ok-bind.ensures.ok
+    variable_binding st c.bind.new.self (VarTerm c.args.m) (VarTerm c.args.n) (VarTerm c.args.m) (meaning st (Var c.args.m)) c.args.n (right_bound c.args.m c.args.n c.if-m-n.true) c.requires.left_free c.in_ok-bind.ensures.ok
 
 pub returns-in_ok-bind-2-clause-goes : goal.returns-in_ok-bind-2-clause-goes
-returns-in_ok-bind-2-clause-goes c = λ es.
+returns-in_ok-bind-2-clause-goes c =
     let st = c.args.store.now in
-    variable_binding st c.bind-then-n-m.new.self (VarTerm c.args.m) (VarTerm c.args.n) (VarTerm c.args.n) (meaning st (Var c.args.n)) c.args.m es (left_bound c.args.m c.args.n c.if-n-m.true) c.requires.right_free c.in_ok-bind-2.ensures.ok
+    variable_binding st c.bind-then-n-m.new.self (VarTerm c.args.m) (VarTerm c.args.n) (VarTerm c.args.n) (meaning st (Var c.args.n)) c.args.m (left_bound c.args.m c.args.n c.if-n-m.true) c.requires.right_free c.in_ok-bind-2.ensures.ok
 
 pub returns-in_ok-bind-clause-stays : goal.returns-in_ok-bind-clause-stays
 returns-in_ok-bind-clause-stays c = λ fresh o.
