@@ -13,7 +13,7 @@ use Rattle.clause_compile.specs.AtomNumbers.{name_at, number_of_name, AreDistinc
 pub at_name : (n q : List ℕ) → is_at (slice_cmp nat_cmp n) q ≡ same_name n q
 at_name n q = sym (texts_ties n q)
 
-self_same : (a : List ℕ) → same_name a a ≡ true
+pub self_same : (a : List ℕ) → same_name a a ≡ true
 self_same [] = refl
 self_same (n ∷ ns) = let first : nat_eq n n ≡ true = grind (arith, nat_tests) in rw first (self_same ns)
 

@@ -22,11 +22,11 @@ stands_first t at stop e = ap terms_of e.rest ∙ terms_of-cells_of (subterm at 
 pub goes_forward : (t : Term) (at stop : ℕ) → Ends t at stop → at < stop
 goes_forward t at stop e = omega (arith, e.end, some_cell (subterm at t))
 
-joined-twice : (cs ds : List Cell) (o : Option (List Cell)) → joined_cells (Some (cs ++ ds)) o ≡ joined_cells (Some cs) (joined_cells (Some ds) o)
+pub joined-twice : (cs ds : List Cell) (o : Option (List Cell)) → joined_cells (Some (cs ++ ds)) o ≡ joined_cells (Some cs) (joined_cells (Some ds) o)
 joined-twice cs ds None = refl
 joined-twice cs ds (Some es) = ap Some (append_assoc cs ds es)
 
-due_after_term : (t : Term) (n : ℕ) → due_after (suc n) (cells_of t) ≡ n
+pub due_after_term : (t : Term) (n : ℕ) → due_after (suc n) (cells_of t) ≡ n
 due_after_term t n = due_after-is (suc n) (cells_of t) n (rw (← append-nil (cells_of t)) (DueAfter-cells_of t [] n n refl))
 
 -- a goal that is at a place is kept as it is, or as a call
@@ -82,7 +82,7 @@ junction_sides (IntTerm m) h = absurd cc
 junction_sides (AtomTerm m) h = absurd cc
 
 -- the bodies of both sides of a junction come one after the other
-junction-cells : (f : List ℕ) (a b : Option Term) (o : Option (List Cell)) → joined_cells (option_map cells_of (junction f a b)) o ≡ joined_cells (Some (Functor f 2 ∷ [])) (joined_cells (option_map cells_of a) (joined_cells (option_map cells_of b) o))
+pub junction-cells : (f : List ℕ) (a b : Option Term) (o : Option (List Cell)) → joined_cells (option_map cells_of (junction f a b)) o ≡ joined_cells (Some (Functor f 2 ∷ [])) (joined_cells (option_map cells_of a) (joined_cells (option_map cells_of b) o))
 junction-cells f (Some a) (Some b) (Some cs) =
     ap (λ ds. Some (Functor f 2 ∷ ds)) (append_assoc (cells_of a) (cells_of b ++ []) cs ∙ ap (λ ds. cells_of a ++ (ds ++ cs)) (append-nil (cells_of b)))
 junction-cells f (Some a) (Some b) None = refl
@@ -143,11 +143,11 @@ pub record Keeping (t : Term) (at : ℕ) (built : List Cell) : Type 0 where
   pub due : due_after 1 built ≡ count (terms_of (drop at (cells_of t)))
   pub all : joined_cells (Some built) (bodies_cells (terms_of (drop at (cells_of t)))) ≡ option_map cells_of (body_of t)
 
-joined-end : (o : Option Term) → joined_cells (option_map cells_of o) (Some []) ≡ option_map cells_of o
+pub joined-end : (o : Option Term) → joined_cells (option_map cells_of o) (Some []) ≡ option_map cells_of o
 joined-end (Some t) = ap Some (append-nil (cells_of t))
 joined-end None = refl
 
-joined-start : (o : Option (List Cell)) → joined_cells (Some []) o ≡ o
+pub joined-start : (o : Option (List Cell)) → joined_cells (Some []) o ≡ o
 joined-start (Some cs) = refl
 joined-start None = refl
 
@@ -163,7 +163,7 @@ starts t =
 pub goes_on : (t : Term) (at next : ℕ) (built now : List Cell) → Keeping t at built → NormalizesGoal (cells_of t) at next built now → Keeping t next now
 goes_on t at next built now k s = record { within = s.within; due = s.due; all = s.same ∙ k.all }
 
-no_cells : (o : Option Term) → None ≡ option_map cells_of o → None ≡ o
+pub no_cells : (o : Option Term) → None ≡ option_map cells_of o → None ≡ o
 no_cells None e = refl
 no_cells (Some t) e = absurd cc
 
@@ -173,7 +173,7 @@ no_body t at built k e = no_cells (body_of t) (ap (joined_cells (Some built)) (s
 pub nothing_due : (t : Term) (at : ℕ) (built : List Cell) → Keeping t at built → length (cells_of t) ≤ at → due_after 1 built ≡ 0
 nothing_due t at built k h = k.due ∙ ap (λ cs. count (terms_of cs)) (drop_all at (cells_of t) h)
 
-same_body : (u : Term) (o : Option Term) → Some (cells_of u) ≡ option_map cells_of o → Some u ≡ o
+pub same_body : (u : Term) (o : Option Term) → Some (cells_of u) ≡ option_map cells_of o → Some u ≡ o
 same_body u (Some t) e = let same : cells_of u ≡ cells_of t = cc in ap Some (sym (term_of-cells_of u) ∙ (ap term_of same ∙ term_of-cells_of t))
 same_body u None e = absurd cc
 

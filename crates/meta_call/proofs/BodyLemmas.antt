@@ -2,10 +2,10 @@
 use Rattle.std.proofs.Common.{◌≡◌, ℕ, zero, suc, ◌+◌, ◌<◌, true, false, cond, List, [], ◌∷◌, ◌++◌, length, map, reverse, Option, Some, None, refl, sym, ap, ◌∙◌, subst, arith, append_assoc, append-nil, length-append}
 use Rattle.std.specs.Option.{option_map}
 use Rattle.au_term.specs.Term.{Term, Terms, Compound, end, more}
-use Rattle.au_term.specs.PrefixOrder.{cells_of, due_after, term_of, term_of-cells_of}
+use Rattle.au_term.specs.PrefixOrder.{cells_of, due_after}
 use Rattle.au_term.specs.declared.cell.Cell.{Cell}
 use Rattle.au_term.specs.declared.cell.Cell.TheVariants.{Functor}
-use Rattle.au_term.proofs.WholeTermLemmas.{due_after-is, DueAfter-cells_of, due_after-append}
+use Rattle.au_term.proofs.WholeTermLemmas.{due_after-append}
 use Rattle.au_model.specs.Terms.Each.{Each}
 use Rattle.au_model.specs.Terms.Forms.{binary}
 use Rattle.au_model.specs.Terms.Lists.{terms_from}
@@ -15,7 +15,7 @@ use Rattle.au_model.proofs.UnifierMeasureLemmas.{size_pos}
 use Rattle.run_model.specs.Programs.Bodies.{body_of, is_junction, junction}
 use Rattle.clause_compile.specs.AtomNumbers.{name_at}
 use Rattle.clause_compile.specs.NormalBodies.{joined_cells, bodies_cells}
-use Rattle.clause_compile.proofs.NormalBodyLemmas.{junction_body}
+use Rattle.clause_compile.proofs.NormalBodyLemmas.{junction_body, junction-cells, joined-end, joined-start, joined-twice, due_after_term, same_body, no_cells}
 use Rattle.binding_array.specs.declared.cell.BindingCell.{BindingCell}
 use Rattle.cell_store.specs.Arguments.{sizes, arguments_from, HasFunctor, resolved_terms}
 use Rattle.cell_store.specs.StoreView.{StoreView, IsValueIn, meaning, substitution, text_in}
@@ -110,21 +110,6 @@ pub record AreKept (st : StoreView) (t : Term) (built : List Cell) (pending : Li
   pub all : joined_cells (Some built) (pending_bodies st pending) ≡ option_map cells_of (body_of t)
   pub there : Each (IsValueIn st) pending
 
-joined-end : (o : Option Term) → joined_cells (option_map cells_of o) (Some []) ≡ option_map cells_of o
-joined-end (Some t) = ap Some (append-nil (cells_of t))
-joined-end None = refl
-
-joined-start : (o : Option (List Cell)) → joined_cells (Some []) o ≡ o
-joined-start (Some cs) = refl
-joined-start None = refl
-
-joined-twice : (cs ds : List Cell) (o : Option (List Cell)) → joined_cells (Some (cs ++ ds)) o ≡ joined_cells (Some cs) (joined_cells (Some ds) o)
-joined-twice cs ds None = refl
-joined-twice cs ds (Some es) = ap Some (append_assoc cs ds es)
-
-due_after_term : (t : Term) (n : ℕ) → due_after (suc n) (cells_of t) ≡ n
-due_after_term t n = due_after-is (suc n) (cells_of t) n (rw (← append-nil (cells_of t)) (DueAfter-cells_of t [] n n refl))
-
 pub kept_begun : (st : StoreView) (value : BindingCell) (built : List Cell) (pending : List BindingCell) → built ≡ [] → pending ≡ value ∷ [] → IsValueIn st value → AreKept st (meaning st value) built pending
 kept_begun st value built pending b p v =
     subst (λ cs. AreKept st (meaning st value) cs pending) (sym b) (subst (AreKept st (meaning st value) []) (sym p) (record {
@@ -156,16 +141,8 @@ module _ (st : StoreView) (t : Term) (built : List Cell) (pending rest : List Bi
   pub kept_smaller : (now : List Cell) (new : List BindingCell) → KeepsPart st value built now rest new → sizes (pending_meanings st new) < sizes (pending_meanings st pending)
   kept_smaller now new s = omega (arith, s.fewer, ap sizes top_first)
 
-  no_cells : (o : Option Term) → None ≡ option_map cells_of o → None ≡ o
-  no_cells None e = refl
-  no_cells (Some u) e = absurd cc
-
   pub no_whole : body_of (meaning st value) ≡ None → None ≡ body_of t
   no_whole e = no_cells (body_of t) (sym (ap (λ o. joined_cells (Some built) (joined_cells (option_map cells_of o) (pending_bodies st rest))) e) ∙ here)
-
-same_body : (u : Term) (o : Option Term) → Some (cells_of u) ≡ option_map cells_of o → Some u ≡ o
-same_body u (Some t) e = let same : cells_of u ≡ cells_of t = cc in ap Some (sym (term_of-cells_of u) ∙ (ap term_of same ∙ term_of-cells_of t))
-same_body u None e = absurd cc
 
 pub all_kept : (st : StoreView) (t u : Term) (built : List Cell) (pending : List BindingCell) → AreKept st t built pending → pending ≡ [] → cells_of u ≡ built → Some u ≡ body_of t
 all_kept st t u built pending k none e =
@@ -179,14 +156,6 @@ keeps_one st value kept built now old new b n e = subst (KeepsPart st value buil
   fewer = omega (arith, size_pos (meaning st value));
   there = λ h. h;
 })
-
--- the bodies of both sides of a junction come one after the other
-junction-cells : (f : List ℕ) (a b : Option Term) (o : Option (List Cell)) → joined_cells (option_map cells_of (junction f a b)) o ≡ joined_cells (Some (Functor f 2 ∷ [])) (joined_cells (option_map cells_of a) (joined_cells (option_map cells_of b) o))
-junction-cells f (Some a) (Some b) (Some cs) =
-    ap (λ ds. Some (Functor f 2 ∷ ds)) (append_assoc (cells_of a) (cells_of b ++ []) cs ∙ ap (λ ds. cells_of a ++ (ds ++ cs)) (append-nil (cells_of b)))
-junction-cells f (Some a) (Some b) None = refl
-junction-cells f (Some a) None o = refl
-junction-cells f None b o = refl
 
 pub keeps_sides : (st : StoreView) (value : BindingCell) (name : ℕ) (left right : BindingCell) (built now : List Cell) (old new : List BindingCell) → IsJunctionOf st value name left right → now ≡ built ++ Functor (name_at (text_in st).names name) 2 ∷ [] → new ≡ (old ++ right ∷ []) ++ left ∷ []
     → KeepsPart st value built now old new

@@ -33,8 +33,9 @@ use Rattle.region_control.specs.Controls.{IsGoalPlace, Controls as TakesPlace}
 use Rattle.region_control.specs.Replies.{Leaves, LeavesOutcome}
 use Rattle.region_control.specs.declared.control.GoalPlace.{GoalPlace}
 use Rattle.region_control.specs.declared.replies.AfterGoal.{AfterGoal}
-use Rattle.region_control.specs.declared.replies.AfterGoal.TheVariants.{At, Failed, Uncaught, AsksWorld}
+use Rattle.region_control.specs.declared.replies.AfterGoal.TheVariants.{At}
 use Rattle.region_control.proofs.ControlLemmas.{place_in}
+use Rattle.region_control.proofs.ReplyLemmas.{leaves_same}
 use Rattle.region_control.specs.GoalForms.{argument_terms, AreArgumentsIn}
 use Rattle.region_control.proofs.FindallEndLemmas.{meaning_below, resolved_stays}
 use Rattle.meta_call.specs.CalledTerms.{further_terms}
@@ -106,13 +107,6 @@ pub not_too_many : (arity : ℕ) (t : Term) (us : Terms) → is_callable t ≡ t
 not_too_many arity t us h le =
     let within : nat_lt 65535 (argument_count (with_arguments t us)) ≡ false = not_less 65535 (argument_count (with_arguments t us)) (omega (arith, le, added_count t us h)) in
     call_form arity t us h ∙ rw within refl
-
--- entries that are the same
-leaves_same : (e f : List NamedTerm → List Entry) (new : RegionView) (after : AfterGoal) → ((named : List NamedTerm) → f named ≡ e named) → Leaves e new after → Leaves f new after
-leaves_same e f new (At p) same h = ((λ named. same named ∙ h.0 named), h.1)
-leaves_same e f new Failed same h = λ named. same named ∙ h named
-leaves_same e f new (Uncaught ball) same h = λ named. same named ∙ h named
-leaves_same e f new AsksWorld same h = h
 
 -- terms were made, and then a call took the place of its goal
 module _ (old mid : RegionView) (g : GoalPlace) (m : MakesTerms old mid) (i : IsGoalPlace old g) where

@@ -18,15 +18,8 @@ use Rattle.region_control.specs.Controls.{IsGoalPlace}
 use Rattle.region_control.specs.Replies.{Leaves}
 use Rattle.region_control.specs.declared.control.GoalPlace.{GoalPlace}
 use Rattle.region_control.specs.declared.replies.AfterGoal.{AfterGoal}
-use Rattle.region_control.specs.declared.replies.AfterGoal.TheVariants.{At, Failed, Uncaught, AsksWorld}
+use Rattle.region_control.proofs.ReplyLemmas.{leaves_same}
 use Rattle.region_builtins.specs.QuickAnswers.{AnswersIn}
-
--- the same entries
-same_leaves : (f g : List NamedTerm → List Entry) (new : RegionView) (after : AfterGoal) → ((named : List NamedTerm) → g named ≡ f named) → Leaves f new after → Leaves g new after
-same_leaves f g new (At p) e k = ((λ named. e named ∙ k.0 named), k.1)
-same_leaves f g new Failed e k = λ named. e named ∙ k named
-same_leaves f g new (Uncaught ball) e k = λ named. e named ∙ k named
-same_leaves f g new AsksWorld e k = k
 
 -- what comes after two terms that are made one
 abbrev after_equal : Term → Term → Continuation ℕ → List Entry → List Entry
@@ -45,7 +38,7 @@ module _ (r r1 : RegionView) (place : GoalPlace) (at : IsGoalPlace r place) (add
   -- then two terms were made one
   pub equal_after : (r2 : RegionView) (a b t u : Term) (after : AfterGoal) → a ≡ t → b ≡ u → AnswersIn r1 r2 (equal a b) place after → AnswersIn r r2 (equal t u) place after
   equal_after r2 a b t u after left right k name arity =
-      same_leaves (λ named. after_equal a b (continuation_here named r1 place.after) (entries_of named r1)) (λ named. after_equal t u (continuation_here named r place.after) (entries_of named r)) r2 after same (k name arity)
+      leaves_same (λ named. after_equal a b (continuation_here named r1 place.after) (entries_of named r1)) (λ named. after_equal t u (continuation_here named r place.after) (entries_of named r)) r2 after same (k name arity)
     where
       same : (named : List NamedTerm) → after_equal t u (continuation_here named r place.after) (entries_of named r) ≡ after_equal a b (continuation_here named r1 place.after) (entries_of named r1)
       same named =

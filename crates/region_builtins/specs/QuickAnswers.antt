@@ -28,7 +28,7 @@ abbrev pub pair_meant : StoreView → BindingCell × BindingCell → Term × Ter
 pair_meant st p = (meaning st p.0, meaning st p.1)
 
 -- it makes two atoms one, which are the same or not
-pub record AreAtoms (answer : Answer) (alike : Bool) : Type 0 where
+pub record AreTwoAtoms (answer : Answer) (alike : Bool) : Type 0 where
   pub left : List ℕ
   pub right : List ℕ
   pub is : answer ≡ equal (AtomTerm left) (AtomTerm right)
@@ -41,7 +41,7 @@ IsQuickAnswer st answer (Holds b) = answer ≡ holds_if b
 IsQuickAnswer st answer (Equal a b) = IsValueIn st a × IsValueIn st b × (answer ≡ equal (meaning st a) (meaning st b))
 IsQuickAnswer st answer (BothEqual p q) = IsPairIn st p × IsPairIn st q × (answer ≡ one_solution (pair_meant st p ∷ pair_meant st q ∷ []))
 IsQuickAnswer st answer (Ordered a o) = IsValueIn st a × (answer ≡ equal (meaning st a) (AtomTerm (order_symbol o)))
-IsQuickAnswer st answer (Alike b) = AreAtoms answer b
+IsQuickAnswer st answer (Alike b) = AreTwoAtoms answer b
 IsQuickAnswer st answer (Apart a b) = IsValueIn st a × IsValueIn st b × (answer ≡ apart_answer (meaning st a) (meaning st b))
 IsQuickAnswer st answer (Raises fault) = answer ≡ Err (error_term_of fault)
 IsQuickAnswer st answer Unknown = Unit {0}

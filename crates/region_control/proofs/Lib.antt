@@ -7,3 +7,4 @@ pub mod ThrowLemmas
 pub mod FormLemmas
 pub mod AheadLemmas
 pub mod FindallEndLemmas
+pub mod ReplyLemmas

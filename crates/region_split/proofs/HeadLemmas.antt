@@ -11,7 +11,7 @@ use Rattle.au_model.proofs.UnifierRuleLemmas.{count-apply_all}
 use Rattle.run_model.specs.Programs.Clauses.{Clause, is_clause_of, is_defined}
 use Rattle.clause_compile.specs.AtomNumbers.{name_at, AreDistinct}
 use Rattle.clause_compile.specs.Places.{CodeView, Keeps}
-use Rattle.clause_compile.proofs.AtomNumberLemmas.{name_at-front}
+use Rattle.clause_compile.proofs.AtomNumberLemmas.{name_at-front, self_same}
 use Rattle.proc_index.specs.Keys.{key_of}
 use Rattle.proc_index.specs.declared.key.Key.TheVariants.{Atom as AtomKey, Functor as FunctorKey}
 use Rattle.clause_index.specs.Classes.{is_head_of}
@@ -97,10 +97,6 @@ renamed_numbers names vs next (Compound f (more t ts)) k i = record {
 }
 
 -- a procedure by the number of its name
-self_same : (a : List ℕ) → same_name a a ≡ true
-self_same [] = refl
-self_same (n ∷ ns) = let first : nat_eq n n ≡ true = grind (arith, nat_tests) in rw first (self_same ns)
-
 module _ (names : List (List ℕ)) (distinct : AreDistinct names) (name arity : ℕ) (there : name < length names) where
   abbrev called : List ℕ
   called = name_at names name

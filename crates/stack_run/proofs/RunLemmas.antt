@@ -35,7 +35,7 @@ use Rattle.region_run.specs.declared.running.Stop.TheVariants as stop
 use Rattle.stack_run.specs.declared.machine.Program.{Program}
 use Rattle.stack_run.specs.declared.machine.Machine.{Machine}
 use Rattle.stack_run.specs.declared.machine.Next.{Next}
-use Rattle.stack_run.specs.MachineView.{clauses_in, own_asked, next_halt, next_state, stop_state, program_job, Begins, ComesTo, KeepsOthers, StopsAt, IsTakenNext, HasStatics, IsNextOf, OpensNext, IsOneStep}
+use Rattle.stack_run.specs.MachineView.{clauses_in, own_asked, next_halt, next_state, stop_state, program_job, Begins, ComesTo, KeepsOthers, StopsAt, IsTakenNext, HasStatics, IsNextHeld, OpensNext, IsOneStep}
 use Rattle.stack_run.specs.RunEnds.{IsRun, IsRunBy, IsWholeRun}
 use Rattle.stack_run.specs.Pieces.{PutsOut, IsClosedWith, write_failed}
 use Rattle.stack_run.proofs.WaitingLemmas.{all_in_front, all_out, front_of_more, front_out, nothing_out, put_more, waits}
@@ -111,7 +111,7 @@ pub record IsOut (job : Job) (program : Program) (m : Machine) (taken : ℕ) (wa
 pub record IsRunning (job : Job) (program : Program) (m : Machine) (next : Next) (taken : ℕ) (waiting : List ℕ) (before now : Option (List ℕ)) (faults_before faults_now : ℕ) : Type 0 where
   pub state : with_free_steps (next_state program m next (text_of job taken) taken) ≡ seq job taken
   pub out : IsOut job program m taken waiting before now faults_before faults_now
-  pub there : IsNextOf m.region next
+  pub there : IsNextHeld m.region next
 
 -- after so many inferences its region has stopped so
 pub record HasStopped (job : Job) (program : Program) (m : Machine) (halted : Option ℕ) (s : Stop) (taken : ℕ) (waiting : List ℕ) (before now : Option (List ℕ)) (faults_before faults_now : ℕ) : Type 0 where
@@ -125,7 +125,7 @@ statics_same old new h = ap (λ l (name : List ℕ) (arity : ℕ). is_reserved n
 pub statics_by : (r : RegionView) (job : Job) (w : KeptWorld) → r.text.clauses ≡ job.clauses → AreStatics w.database.statics job.clauses → HasStatics r w
 statics_by r job w c h = fun_ext (λ name. fun_ext (λ arity. ap (λ b. is_reserved name arity || b) (h (record { name = name; arity = arity }) ∙ ap (λ cs. is_defined cs name arity) (sym c))))
 
-pub begins_so : (program : Program) (r0 : RegionView) (w : KeptWorld) (new : Machine) (next : Next) → w.out.items ≡ [] → OpensNext program (record { region = r0; asked = 0; answers = 0; world = w }) new next → new.world ≡ w → IsNextOf new.region next → new.region.text ≡ arc_value program.text → Begins program new next
+pub begins_so : (program : Program) (r0 : RegionView) (w : KeptWorld) (new : Machine) (next : Next) → w.out.items ≡ [] → OpensNext program (record { region = r0; asked = 0; answers = 0; world = w }) new next → new.world ≡ w → IsNextHeld new.region next → new.region.text ≡ arc_value program.text → Begins program new next
 begins_so program r0 w new next e o same there text =
     let qs = program.queries.items in
     let state : List ℕ → State = λ bs. record { entries = opened qs; world = record (world_meant w) { written = bs }; queries = remaining_queries qs; answers = 0; inferences = 0; halted = None } in
@@ -208,7 +208,7 @@ module _ (job : Job) (program : Program) (m new : Machine) (s : Stop) (next : Ne
   waits_more : PutsOut before now (text_of job (i + 1)) (waiting ++ new.world.out.items)
   waits_more = subst (λ bytes. PutsOut before now bytes (waiting ++ new.world.out.items)) next_text (waits before now (text_of job i) waiting new.world.out.items h.out.bytes)
 
-  pub goes_on : (out : Vec ℕ Global) (left : List ℕ) (after : Option (List ℕ)) (fa : ℕ) → IsNextOf new.region next → new.region.text ≡ arc_value program.text → new.world.database.statics ≡ m.world.database.statics
+  pub goes_on : (out : Vec ℕ Global) (left : List ℕ) (after : Option (List ℕ)) (fa : ℕ) → IsNextHeld new.region next → new.region.text ≡ arc_value program.text → new.world.database.statics ≡ m.world.database.statics
       → PutsOut now after (waiting ++ new.world.out.items) left → fa ≡ fn → out.items ≡ [] → IsRunning job program (put_out new out) next (i + 1) left before after fb fa
   goes_on out left after fa y x z t f e = record {
     state = subst (λ bytes. with_free_steps (next_state program (put_out new out) next bytes (i + 1)) ≡ seq job (i + 1)) next_text (ap with_free_steps (seen_same program new next out (text_of job i) (i + 1) e) ∙ next_is);

@@ -38,7 +38,7 @@ use Rattle.effect_gate.specs.declared.world.World.{World as KeptWorld}
 use Rattle.region_world.specs.WorldGoals.{TakesWorldGoal, RemovesClause}
 use Rattle.region_world.specs.declared.goal.WorldReply.{WorldReply}
 use Rattle.region_world.specs.declared.goal.WorldReply.TheVariants.{Goes, Halted}
-use Rattle.stack_run.specs.MachineView.{names_asked, own_asked, with_front, next_entries, next_halt, next_after, AsksNoWorld, IsNextOf, run_state, next_state, stop_state, IsOneStep, OpensNext, OpensQuery, opened_state, value_in}
+use Rattle.stack_run.specs.MachineView.{names_asked, own_asked, with_front, next_entries, next_halt, next_after, AsksNoWorld, IsNextHeld, run_state, next_state, stop_state, IsOneStep, OpensNext, OpensQuery, opened_state, value_in}
 use Rattle.stack_run.specs.declared.machine.Machine.{Machine}
 use Rattle.stack_run.specs.declared.machine.Next.{Next}
 use Rattle.stack_run.specs.declared.machine.Next.TheVariants.{Runs, Uncaught, Over}
@@ -88,7 +88,7 @@ reply_halts r r1 (Ball b) g (after_goal.Uncaught ball) l = refl
 reply_halts r r1 (Ball b) g after_goal.AsksWorld l = refl
 reply_halts r r1 (HaltNumber k) g after l = absurd l
 
-pub reply_there : (r r1 : RegionView) (reply : Reply) (g : GoalPlace) (after : AfterGoal) → LeavesOutcome r r1 (Replies reply) g after → IsNextOf r1 (next_after after)
+pub reply_there : (r r1 : RegionView) (reply : Reply) (g : GoalPlace) (after : AfterGoal) → LeavesOutcome r r1 (Replies reply) g after → IsNextHeld r1 (next_after after)
 reply_there r r1 (Solutions ss) g (after_goal.At p) l = l.1
 reply_there r r1 (Solutions ss) g after_goal.Failed l = tt
 reply_there r r1 (Solutions ss) g (after_goal.Uncaught ball) l = tt
@@ -152,8 +152,8 @@ module _ (m : Machine) (r1 : RegionView) (w1 : KeptWorld) (i : FrameItem) (value
   pub goes_taken : (after : AfterGoal) → left ≡ Goes after → AsksNoWorld after
   goes_taken after e = reply_taken m.region r1 _ g after (replied_so after e)
 
-  pub goes_there : (after : AfterGoal) (next : Next) → left ≡ Goes after → next ≡ next_after after → IsNextOf r1 next
-  goes_there after next e n = subst (IsNextOf r1) (sym n) (reply_there m.region r1 _ g after (replied_so after e))
+  pub goes_there : (after : AfterGoal) (next : Next) → left ≡ Goes after → next ≡ next_after after → IsNextHeld r1 next
+  goes_there after next e n = subst (IsNextHeld r1) (sym n) (reply_there m.region r1 _ g after (replied_so after e))
 
   pub goes_so : (after : AfterGoal) (next : Next) → left ≡ Goes after → next ≡ next_after after → (program : Program) → IsOneStep program m (stop.World i g) (record m { region = r1; world = w1 }) next
   goes_so after next e n program =

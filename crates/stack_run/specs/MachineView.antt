@@ -60,10 +60,10 @@ next_halt (Runs start) = None
 next_halt (Uncaught ball) = None
 next_halt (Over halted) = halted
 
-abbrev pub IsNextOf : RegionView → Next → Type 0
-IsNextOf r (Runs start) = IsOptionalPosition r (length r.choices) start
-IsNextOf r (Uncaught ball) = Unit {0}
-IsNextOf r (Over halted) = Unit {0}
+abbrev pub IsNextHeld : RegionView → Next → Type 0
+IsNextHeld r (Runs start) = IsOptionalPosition r (length r.choices) start
+IsNextHeld r (Uncaught ball) = Unit {0}
+IsNextHeld r (Over halted) = Unit {0}
 
 -- the state of a run that has put out these bytes, after so many inferences, with these entries
 abbrev pub run_state : Program → Machine → (List NamedTerm → List Entry) → Option ℕ → List ℕ → ℕ → State
@@ -141,7 +141,7 @@ program_job program w = record { clauses = clauses_in program; database = w.data
 -- a run before its first inference
 pub record Begins (program : Program) (m : Machine) (next : Next) : Type 0 where
   pub state : next_state program m next [] 0 ≡ opening (program_job program (world_meant m.world))
-  pub there : IsNextOf m.region next
+  pub there : IsNextHeld m.region next
   pub text : m.region.text ≡ arc_value program.text
   pub empty : m.world.out.items ≡ []
 

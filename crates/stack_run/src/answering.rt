@@ -8,7 +8,7 @@ ghost use Rattle.au_model.specs.Terms.Substitutions.{resolve};
 ghost use Rattle.cell_store.specs.StoreView.{substitution};
 ghost use Rattle.region_control.specs.Ahead.{IsNothingLeft};
 ghost use Rattle.region_run.specs.declared.running.Stop.{Stop as StopTerms};
-ghost use Rattle.stack_run.specs.MachineView.{names_asked, value_in, IsNextOf, IsOneStep};
+ghost use Rattle.stack_run.specs.MachineView.{names_asked, value_in, IsNextHeld, IsOneStep};
 
 use crate::machine::{Machine, Next, Program};
 use crate::query::ask_next;
@@ -31,7 +31,7 @@ pub(crate) fn answer(
     requires left { IsNothingLeft machine.old.region position }
     requires few { machine.old.answers < 2 ^ 64 - 1 }
     ensures steps { IfOk result (IsOneStep program.now machine.old (StopTerms.Answer position) machine.new) }
-    ensures there { IfOk result (IsNextOf machine.new.region) }
+    ensures there { IfOk result (IsNextHeld machine.new.region) }
     ensures statics { machine.new.world.database.statics ≡ machine.old.world.database.statics }
     ensures region { machine.new.region ≡ machine.old.region }
 {
@@ -94,7 +94,7 @@ pub(crate) fn end_query(
 ) -> Result<Next, NoMemory>
     requires text { machine.old.region.text ≡ arc_value program.now.text }
     ensures steps { IfOk result (IsOneStep program.now machine.old (StopTerms.QueryDone ball) machine.new) }
-    ensures there { IfOk result (IsNextOf machine.new.region) }
+    ensures there { IfOk result (IsNextHeld machine.new.region) }
     ensures statics { machine.new.world.database.statics ≡ machine.old.world.database.statics }
     ensures text { machine.new.region.text ≡ arc_value program.now.text }
 {

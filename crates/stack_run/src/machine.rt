@@ -1,7 +1,7 @@
 //! A run, between two inferences.
 ghost use Rattle.std.specs.Prelude.{◌≡◌, IfOk, OnOk, map};
 ghost use Rattle.std.specs.Arc.{arc_value};
-ghost use Rattle.stack_run.specs.MachineView.{next_halt, IsNextOf, ComesTo, KeepsOthers};
+ghost use Rattle.stack_run.specs.MachineView.{next_halt, IsNextHeld, ComesTo, KeepsOthers};
 
 use au_term::{FlatTerm, NoMemory};
 use clause_compile::Clause;
@@ -85,7 +85,7 @@ impl Machine {
         next: Next,
         limit: u64,
     ) -> Result<Ran, NoMemory>
-        requires next { IsNextOf self.old.region next }
+        requires next { IsNextHeld self.old.region next }
         requires kinds { kinds.now ≡ self.old.region.text.code.names }
         ensures comes { IfOk result (ComesTo self.old self.new next limit) }
         ensures others { OnOk result (KeepsOthers self.old self.new) }

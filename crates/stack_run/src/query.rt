@@ -2,7 +2,7 @@
 ghost use Rattle.std.specs.Prelude.{◌≡◌, IfOk, OnOk};
 ghost use Rattle.std.specs.Arc.{arc_value};
 ghost use Rattle.text_load.specs.QueryView.{goal_terms};
-ghost use Rattle.stack_run.specs.MachineView.{IsNextOf, OpensNext, OpensQuery};
+ghost use Rattle.stack_run.specs.MachineView.{IsNextHeld, OpensNext, OpensQuery};
 
 use crate::machine::{Machine, Next, Program};
 use au_term::{NoMemory, Shared};
@@ -20,7 +20,7 @@ pub(crate) fn ask_next(
 ) -> Result<Next, NoMemory>
     requires text { machine.old.region.text ≡ arc_value program.now.text }
     ensures opens { IfOk result (OpensNext program.now machine.old machine.new) }
-    ensures there { IfOk result (IsNextOf machine.new.region) }
+    ensures there { IfOk result (IsNextHeld machine.new.region) }
     ensures text { machine.new.region.text ≡ arc_value program.now.text }
     ensures world { machine.new.world ≡ machine.old.world }
 {

@@ -1,7 +1,7 @@
 //! One inference that a region can't take by itself (ISO/IEC 13211-1, 7.7).
 ghost use Rattle.std.specs.Prelude.{◌≡◌, ◌<◌, ◌^◌, ◌-◌, IfOk, OnOk};
 ghost use Rattle.std.specs.Arc.{arc_value};
-ghost use Rattle.stack_run.specs.MachineView.{HasStatics, IsNextOf, IsTakenNext, IsOneStep};
+ghost use Rattle.stack_run.specs.MachineView.{HasStatics, IsNextHeld, IsTakenNext, IsOneStep};
 
 use crate::answering::{answer, end_query};
 use crate::machine::{Machine, Next, Program};
@@ -22,7 +22,7 @@ pub(crate) fn step(
     requires statics { HasStatics machine.old.region machine.old.world }
     requires few { machine.old.answers < 2 ^ 64 - 1 }
     ensures steps { IfOk result (IsOneStep program.now machine.old stop machine.new) }
-    ensures there { IfOk result (IsNextOf machine.new.region) }
+    ensures there { IfOk result (IsNextHeld machine.new.region) }
     ensures statics { machine.new.world.database.statics ≡ machine.old.world.database.statics }
     ensures text { OnOk result (machine.new.region.text ≡ arc_value program.now.text) }
 {

@@ -4,7 +4,7 @@ ghost use Rattle.region_split.specs.Regions.{IsPositionIn};
 ghost use Rattle.region_run.specs.Runs.{AsksWorldNext};
 ghost use Rattle.region_run.specs.declared.running.Stop.{Stop as StopTerms};
 ghost use Rattle.stack_run.specs.declared.machine.Program.{Program as ProgramTerms};
-ghost use Rattle.stack_run.specs.MachineView.{HasStatics, IsNextOf, AsksNoWorld, IsOneStep, next_after};
+ghost use Rattle.stack_run.specs.MachineView.{HasStatics, IsNextHeld, AsksNoWorld, IsOneStep, next_after};
 
 use crate::machine::{Machine, Next};
 use au_term::NoMemory;
@@ -23,7 +23,7 @@ pub(crate) fn take_world_goal(
     requires asks { AsksWorldNext machine.old.region item place }
     requires statics { HasStatics machine.old.region machine.old.world }
     ensures steps { IfOk result (λ next. (program : ProgramTerms) → IsOneStep program machine.old (StopTerms.World item place) machine.new next) }
-    ensures there { IfOk result (IsNextOf machine.new.region) }
+    ensures there { IfOk result (IsNextHeld machine.new.region) }
     ensures statics { machine.new.world.database.statics ≡ machine.old.world.database.statics }
     ensures text { OnOk result (machine.new.region.text ≡ machine.old.region.text) }
 {
@@ -58,7 +58,7 @@ pub(crate) fn take_removal(
 ) -> Result<Next, NoMemory>
     requires { IsPositionIn machine.old.region after }
     ensures steps { IfOk result (λ next. (program : ProgramTerms) → IsOneStep program machine.old (StopTerms.Removal number after) machine.new next) }
-    ensures there { IfOk result (IsNextOf machine.new.region) }
+    ensures there { IfOk result (IsNextHeld machine.new.region) }
     ensures statics { machine.new.world.database.statics ≡ machine.old.world.database.statics }
     ensures region { machine.new.region ≡ machine.old.region }
 {

@@ -19,6 +19,7 @@ use Rattle.tree_nodes.specs.Siblings.{counts_from}
 use Rattle.tree_nodes.specs.TreeTables.{cell_of, IsIn, NodesView, Stand, above_of}
 use Rattle.tree_nodes.specs.Fronts.{place_on, IsNextTo, IsNextDown, AreNext, IsLastOf, IsLastThere, IsBeyond, HasOpenLeft, KeepsFront}
 use Rattle.tree_nodes.proofs.PlaceLemmas.{AreRound, taken_out}
+use Rattle.tree_nodes.proofs.HeldLemmas.{state_cells}
 use Rattle.tree_nodes.proofs.PutLemmas.{cell_there, is_some_cell}
 use Rattle.tree_nodes.proofs.LocateLemmas.{IsAt, located, found, present}
 use Rattle.tree_nodes.proofs.FoldLemmas.{parent_above}
@@ -118,10 +119,6 @@ shut_before (x ∷ cells) (suc n) zero c h l e =
     ap (λ (y : Cell). is_shut y.1) (sym same) ∙ (both (is_shut x.1) (are_shut (take n cells)) h).0
 shut_before (x ∷ cells) (suc n) (suc i) c h l e = shut_before cells n i c (both (is_shut x.1) (are_shut (take n cells)) h).1 (omega (arith, l)) e
 
-cells-with_state : (i : ℕ) (c : Cell) (o : Option StoredNode) → alternatives_at (with_state i c o) ≡ slice_set (alternatives_at o) i c
-cells-with_state i c None = refl
-cells-with_state i c (Some r) = refl
-
 some_cell_row : (rows : Rows) (p : Place) (c : Cell) → cell_at rows p ≡ Some c → IsSome (row_of_node rows p.node)
 some_cell_row rows p c e = by_row (row_of_node rows p.node) e
   where
@@ -190,7 +187,7 @@ module _ (old new : NodesView) (a : Place) (cell : Cell) (limit : ℕ) (was : St
     cells_are : alternatives_at (row_of_node new.rows d.node) ≡ slice_set (alternatives_at (row_of_node old.rows d.node)) a.index cell
     cells_are = subst (λ (k : ℕ). alternatives_at (row_of_node new.rows k) ≡ slice_set (alternatives_at (row_of_node old.rows k)) a.index cell) (sym same)
         (ap alternatives_at (c.here (subst (λ (k : ℕ). IsSome (row_of_node old.rows k)) same (some_cell_row old.rows (place_on d.node h.index) (h.spent, InnerCell e.node) h.cell))
-        (subst (λ (k : ℕ). IsSome (row_of_node new.rows k)) same row_there)) ∙ cells-with_state a.index cell (row_of_node old.rows a.node))
+        (subst (λ (k : ℕ). IsSome (row_of_node new.rows k)) same row_there)) ∙ state_cells a.index cell (row_of_node old.rows a.node))
 
     at_right : HasOpenLeft old.rows a → IsNextTo new.rows d e
     at_right o = elim (cases_lt h.index a.index) [

@@ -67,7 +67,7 @@ held_in-take sort (r ∷ rows) (suc n) h =
     let k = held_in-take sort rows n (λ m l. h (suc m) (omega (arith, l))) in
     omega (arith, k)
 
-state_cells : (i : ℕ) (cell : Cell) (slot : Option StoredNode) → alternatives_at (with_state i cell slot) ≡ slice_set (alternatives_at slot) i cell
+pub state_cells : (i : ℕ) (cell : Cell) (slot : Option StoredNode) → alternatives_at (with_state i cell slot) ≡ slice_set (alternatives_at slot) i cell
 state_cells i cell None = refl
 state_cells i cell (Some r) = refl
 
