@@ -428,6 +428,7 @@ impl Nodes {
         requires { IsSome (cell_at self.now.rows (place_view at)) }
         ensures folds { IfOk result (λ f. FoldsUpTo self.now (place_view at) (credit_view credit) (place_view f.0) (credit_view f.1)) }
         ensures there { IfOk result (λ f. IsSome (cell_at self.now.rows (place_view f.0))) }
+        ensures above { IfOk result (λ f. f.0.node ≤ at.node) }
         ensures provided { OnErr result (ClosesWithRecords self.now (place_view at) (credit_view credit)) }
         ensures without { AreWithoutRecords self.now.rows → (credit_view credit).records ≡ [] → IsOk result }
     {

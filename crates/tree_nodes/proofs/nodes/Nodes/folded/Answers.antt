@@ -1,4 +1,4 @@
-use Rattle.std.proofs.Common.{◌≢◌, [], Option, sym, ap, ◌∙◌, subst}
+use Rattle.std.proofs.Common.{◌≢◌, [], Option, sym, ap, ◌∙◌, subst, arith}
 use Rattle.tree_model.specs.Credits.{Credit}
 use Rattle.tree_model.specs.EventViews.{place_view}
 use Rattle.tree_model.specs.declared.places.AltRef.{AltRef}
@@ -21,6 +21,7 @@ loop-gathered-preserved c =
       there = above.0;
       folds = folds_more nodes (place_view c.args.at) (credit_view c.args.credit) end c.loop-gathered.gathered (place_view c.in-Some.above) c.fold_step.new.gathered
           c.loop-gathered.invariant.folds step;
+      above = let lower = above.1 in let before = c.loop-gathered.invariant.above in omega (arith, lower, before);
       none = λ h e. step_none nodes.rows end (place_view c.in-Some.above) c.loop-gathered.gathered c.fold_step.new.gathered h step (c.loop-gathered.invariant.none h e);
     }
 
