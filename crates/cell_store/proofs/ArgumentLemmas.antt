@@ -1,19 +1,20 @@
 -- What compounds' places hold.
-use Rattle.std.proofs.Common.{◌≡◌, ℕ, zero, suc, ◌+◌, ◌<◌, ◌≤◌, List, [], ◌∷◌, length, take, drop, get_or, map, refl, sym, ap, ap₂, ◌∙◌, subst, arith}
+use Rattle.std.proofs.Common.{◌≡◌, ℕ, zero, suc, ◌+◌, ◌<◌, ◌≤◌, true, List, [], ◌∷◌, length, take, drop, get_or, map, refl, sym, ap, ap₂, ◌∙◌, subst, arith}
 use Rattle.std.proofs.lemmas.List.{length-drop}
 use Rattle.au_term.specs.Term.{Term, Compound as CompoundTerm, more, var_bound, all_bound}
 use Rattle.au_term.specs.Shifted.{shifted, all_shifted}
 use Rattle.au_model.specs.Terms.Each.{Each}
 use Rattle.au_model.specs.Terms.Lists.{terms_from}
 use Rattle.clause_compile.specs.AtomNumbers.{name_at}
-use Rattle.clause_compile.specs.Places.{CodeView, AreSound, StandBefore, BeginsCompound, IsPlaceBefore, IsPlaceOf, place_meaning, compound_to, compound_here, meaning_in}
+use Rattle.clause_compile.specs.Places.{CodeView, AreSound, StandBefore, BeginsCompound, IsPlaceBefore, IsPlaceOf, place_meaning, compound_to, compound_here, meaning_in, is_ground_place}
 use Rattle.clause_compile.specs.declared.place.Place.{Place}
-use Rattle.clause_compile.specs.declared.place.Place.TheVariants.{Functor, Var as VarPlace, Int as IntPlace, Atom as AtomPlace, Sub}
+use Rattle.clause_compile.specs.declared.place.Place.TheVariants.{Functor, Var as VarPlace, Int as IntPlace, Atom as AtomPlace, Sub, Ground}
 use Rattle.clause_compile.proofs.PlaceMeaningLemmas.{deep_same}
+use Rattle.clause_compile.proofs.GroundPlaceLemmas.{ground_bound, ground_shifted}
 use Rattle.binding_array.specs.Represented.{cell_term}
 use Rattle.binding_array.specs.declared.cell.BindingCell.TheVariants.{Compound}
 use Rattle.cell_store.specs.Values.{IsValue}
-use Rattle.cell_store.specs.Arguments.{code_place, arguments_from, AreArguments, HasFunctor}
+use Rattle.cell_store.specs.Arguments.{code_place, argument_at, arguments_from, AreArguments, HasFunctor}
 
 -- a place that was read
 pub place_read : (code : CodeView) (at : ℕ) (p : Place) → drop at code.places ≡ p ∷ drop (at + 1) code.places → code_place code at ≡ p
@@ -46,6 +47,7 @@ place_of code at (VarPlace v) le b = tt
 place_of code at (IntPlace z) le b = tt
 place_of code at (AtomPlace a) le b = b
 place_of code at (Sub i) le b = (omega (arith, b.0), b.1)
+place_of code at (Ground i) le b = (omega (arith, b.0), b.1, b.2)
 
 -- deeper is the same
 deeper : (code : CodeView) (m at : ℕ) (p : Place) → AreSound (length code.names) code.places → at ≤ m → IsPlaceBefore (length code.names) code.places at p → place_meaning code.names (compound_to m code.names code.places) p ≡ place_meaning code.names (compound_to (suc m) code.names code.places) p
@@ -54,6 +56,7 @@ deeper code m at (VarPlace v) s le b = refl
 deeper code m at (IntPlace z) s le b = refl
 deeper code m at (AtomPlace a) s le b = refl
 deeper code m at (Sub i) s le b = deep_same (length code.names) code.names code.places s m (suc m) i (omega (arith, b.0)) (omega (arith, b.0)) b.1
+deeper code m at (Ground i) s le b = deep_same (length code.names) code.names code.places s m (suc m) i (omega (arith, b.0)) (omega (arith, b.0)) b.1
 
 all_deeper : (code : CodeView) (m at : ℕ) (ps : List Place) → AreSound (length code.names) code.places → at ≤ m → Each (IsPlaceBefore (length code.names) code.places at) ps
     → map (place_meaning code.names (compound_to m code.names code.places)) ps ≡ map (place_meaning code.names (compound_to (suc m) code.names code.places)) ps
@@ -103,6 +106,20 @@ not_functor code at (VarPlace v) b e h = subst (BeginsCompound (length code.name
 not_functor code at (IntPlace z) b e h = subst (BeginsCompound (length code.names)) e b
 not_functor code at (AtomPlace a) b e h = subst (BeginsCompound (length code.names)) e b
 not_functor code at (Sub i) b e h = subst (BeginsCompound (length code.names)) e b
+not_functor code at (Ground i) b e h = subst (BeginsCompound (length code.names)) e b
+
+-- a compound without variables is the same value whatever is added to them
+pub ground_term : (code : CodeView) (at base : ℕ) → AreSound (length code.names) code.places → IsPlaceOf code (Ground at) → cell_term code (Compound at 0) ≡ shifted base (meaning_in code (Ground at))
+ground_term code at base s b = ground_shifted code (Ground at) 0 s b refl ∙ sym (ground_shifted code (Ground at) base s b refl)
+
+pub ground_there : (code : CodeView) (next at : ℕ) → AreSound (length code.names) code.places → IsPlaceOf code (Ground at) → IsValue code next (Compound at 0)
+ground_there code next at s b =
+    let bound : var_bound (shifted 0 (meaning_in code (Ground at))) ≡ 0 = ap var_bound (ground_shifted code (Ground at) 0 s b refl) ∙ ground_bound code (Ground at) s b refl in
+    ((b.0, b.1), omega (arith, bound))
+
+-- nothing occurs in an argument without variables
+pub ground_argument : (code : CodeView) (base at : ℕ) → AreSound (length code.names) code.places → IsPlaceOf code (code_place code at) → is_ground_place (code_place code at) ≡ true → var_bound (argument_at code base at) ≡ 0
+ground_argument code base at s b e = ap var_bound (ground_shifted code (code_place code at) base s b e) ∙ ground_bound code (code_place code at) s b e
 
 pub compound_within : (code : CodeView) (at : ℕ) → IsPlaceOf code (Sub at) → at < length code.places
 compound_within code at p = p.0

@@ -8,7 +8,7 @@ use Rattle.au_model.specs.Terms.Unifier.{size}
 use Rattle.au_model.proofs.ApplyLemmas.{apply-apply, size_all-occurs}
 use Rattle.clause_compile.specs.Places.{CodeView, BeginsCompound, IsPlaceOf, compound_here, compound_to, meaning_in}
 use Rattle.clause_compile.specs.declared.place.Place.{Place}
-use Rattle.clause_compile.specs.declared.place.Place.TheVariants.{Functor, Var as VarPlace, Int as IntPlace, Atom as AtomPlace, Sub}
+use Rattle.clause_compile.specs.declared.place.Place.TheVariants.{Functor, Var as VarPlace, Int as IntPlace, Atom as AtomPlace, Sub, Ground}
 use Rattle.binding_array.specs.Represented.{variable_cell, cell_term, IsBoundCell, IsFalling, AreFalling, CellStandsFor, Represents}
 use Rattle.binding_array.specs.declared.cell.BindingCell.{BindingCell}
 use Rattle.binding_array.specs.declared.cell.BindingCell.TheVariants.{Free, Var, Int, Atom, Compound}
@@ -29,6 +29,7 @@ begins_compound k names g (VarPlace v ∷ ps) b = absurd b
 begins_compound k names g (IntPlace z ∷ ps) b = absurd b
 begins_compound k names g (AtomPlace a ∷ ps) b = absurd b
 begins_compound k names g (Sub i ∷ ps) b = absurd b
+begins_compound k names g (Ground i ∷ ps) b = absurd b
 
 shifted_compound : (base : ℕ) (t : Term) → IsCompound t → IsCompound (shifted base t)
 shifted_compound base t (compound f ts) = compound f (all_shifted base ts)

@@ -8,9 +8,9 @@ use Rattle.au_term.specs.Shifted.{shifted_cell}
 use Rattle.au_term.specs.declared.cell.Cell.{Cell}
 use Rattle.au_term.specs.declared.cell.Cell.TheVariants.{Var as VarCell, Int as IntCell, Atom as AtomCell, Functor as FunctorCell}
 use Rattle.clause_compile.specs.AtomNumbers.{name_at, number_of_name, AreDistinct, IsNumbered}
-use Rattle.clause_compile.specs.Places.{CodeView, AreSound, IsArity, Keeps, ArePlacesOf, AddsCell, HasMorePlaces}
+use Rattle.clause_compile.specs.Places.{CodeView, AreSound, IsArity, Keeps, ArePlacesOf, AddsCell, HasMorePlaces, compound_place}
 use Rattle.clause_compile.specs.declared.place.Place.{Place}
-use Rattle.clause_compile.specs.declared.place.Place.TheVariants.{Functor, Sub}
+use Rattle.clause_compile.specs.declared.place.Place.TheVariants.{Functor}
 use Rattle.clause_compile.proofs.AtomNumberLemmas.{stands_there, stands_nowhere, name_at-front}
 use Rattle.clause_compile.proofs.PlaceMeaningLemmas.{added_keeps}
 use Rattle.clause_compile.proofs.CodeLemmas.{names_sound, still_sound, compound_added}
@@ -155,9 +155,9 @@ module _ (h named now : HeapView) (name : List ℕ) (f n at : ℕ) (before left 
   whole : heap_text now ≡ code_of (heap_text named).names (heap_text now).places
   whole = ap (λ ns. code_of ns (heap_text now).places) names_same
 
-  pub compound_adds : reverse left ≡ drop n (reverse before) → after ≡ left ++ Sub at ∷ [] → at ≡ length (heap_text h).places → AddsCell (heap_text h) (heap_text now) (FunctorCell name n) before after
+  pub compound_adds : reverse left ≡ drop n (reverse before) → after ≡ left ++ compound_place at (take n (reverse before)) ∷ [] → at ≡ length (heap_text h).places → AddsCell (heap_text h) (heap_text now) (FunctorCell name n) before after
   compound_adds r a e =
-      compound_added (heap_text h).names (heap_text named).names (heap_text h).places (heap_text h) name f n before refl s.text k.numbered stand enough (heap_text now) (heap_text now).places left after whole places_now r (a ∙ ap (λ i. left ++ Sub i ∷ []) e)
+      compound_added (heap_text h).names (heap_text named).names (heap_text h).places (heap_text h) name f n before refl s.text k.numbered stand enough (heap_text now) (heap_text now).places left after whole places_now r (a ∙ ap (λ i. left ++ compound_place i (take n (reverse before)) ∷ []) e)
 
   few_places : length (heap_text h).places + suc n < 2 ^ 32 → length (heap_text now).places < 2 ^ 32
   few_places room = omega (arith, room, ap length places_now, length-append (heap_text h).places block, length-take-le n (reverse before) (omega (arith, enough, length-reverse before)))

@@ -1,5 +1,5 @@
 -- The variables that occur in a term decide what it becomes.
-use Rattle.std.proofs.Common.{◌≡◌, ℕ, ◌<◌, ◌≤◌, true, inl, inr, refl, ap, arith}
+use Rattle.std.proofs.Common.{◌≡◌, ℕ, ◌<◌, ◌≤◌, true, false, inl, inr, refl, ap, arith}
 use Rattle.std.proofs.lemmas.Bool.{eqb-true}
 use Rattle.au_term.specs.Term.{Term, VarTerm, IntTerm, AtomTerm, Compound, Terms, end, more, var_bound, all_bound}
 use Rattle.au_model.specs.Terms.Substitutions.{apply, apply_all, occurs, occurs_in}
@@ -31,6 +31,18 @@ mutual
   all_kept_below f b end h = omega arith
   all_kept_below f b (more t ts) h =
       omega (arith, kept_below f b t (λ w o. h w (or_left (occurs w t) (occurs_in w ts) o)), all_kept_below f b ts (λ w o. h w (or_right (occurs w t) (occurs_in w ts) o)))
+
+-- nothing occurs in what a term without variables becomes
+mutual
+  pub none_occurs : (f : ℕ → Term) (x : ℕ) (t : Term) → var_bound t ≡ 0 → occurs x (apply f t) ≡ false
+  none_occurs f x (VarTerm n) h = absurd (omega arith)
+  none_occurs f x (IntTerm z) h = refl
+  none_occurs f x (AtomTerm a) h = refl
+  none_occurs f x (Compound a ts) h = none_occurs_in f x ts h
+
+  none_occurs_in : (f : ℕ → Term) (x : ℕ) (ts : Terms) → all_bound ts ≡ 0 → occurs_in x (apply_all f ts) ≡ false
+  none_occurs_in f x end h = refl
+  none_occurs_in f x (more t ts) h = rw (none_occurs f x t (omega arith), none_occurs_in f x ts (omega arith)) refl
 
 -- a variable that occurs is below the bound
 mutual

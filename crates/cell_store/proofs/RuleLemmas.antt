@@ -1,5 +1,5 @@
 -- The rule for two values.
-use Rattle.std.proofs.Common.{◌≡◌, ℕ, ℤ, zero, suc, ◌+◌, ◌-◌, ◌<◌, ◌≤◌, List, [], ◌∷◌, ◌++◌, Bool, true, false, ◌&&◌, cond, ◌==◌, nat_eq, nat_lt, reverse, refl, sym, ap, ap₂, ◌∙◌, subst, arith}
+use Rattle.std.proofs.Common.{◌≡◌, ℕ, ℤ, zero, suc, ◌+◌, ◌-◌, ◌<◌, ◌≤◌, List, [], ◌∷◌, ◌++◌, true, false, ◌&&◌, cond, ◌==◌, nat_eq, nat_lt, refl, sym, ap, ap₂, ◌∙◌, subst, arith}
 use Rattle.std.specs.Cmp.Lexicographic.{pointwise}
 use Rattle.std.proofs.lemmas.Bool.Decides.{nat_tests}
 use Rattle.au_term.specs.Term.{Term, VarTerm, IntTerm, AtomTerm, Terms, count}
@@ -15,7 +15,7 @@ use Rattle.binding_array.specs.declared.cell.BindingCell.TheVariants.{Free, Var,
 use Rattle.cell_store.specs.Values.{IsNoVariable}
 use Rattle.cell_store.specs.StoreView.{StoreView, substitution, meaning, value_term, text_in, IsValueIn, BindsFurther}
 use Rattle.cell_store.specs.Arguments.{argument_at, arguments_from, arguments_in, AreArguments, HasFunctor, AreThere, resolved_terms}
-use Rattle.cell_store.specs.UnificationSteps.{paired, equations_in, AreEquations, pending_equations, AllEquations, FollowsRule, after_binding, after_opening, TakesRule, IsBoundOr, HasRestEquations, KeepsRestEquations}
+use Rattle.cell_store.specs.UnificationSteps.{paired, equations_in, pending_equations, FollowsRule, after_binding, after_opening, TakesRule, IsBoundOr, HasRestEquations, KeepsRestEquations}
 use Rattle.cell_store.specs.declared.arguments.Arguments.{Arguments}
 use Rattle.cell_store.specs.declared.arguments.Equations.{Equations as ArgumentEquations}
 use Rattle.cell_store.specs.declared.unify.Outcome.{Outcome}

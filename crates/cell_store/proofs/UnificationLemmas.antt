@@ -18,7 +18,7 @@ use Rattle.au_term.proofs.LogicLemmas.{number_same, and-both}
 use Rattle.binding_array.specs.declared.cell.BindingCell.{BindingCell}
 use Rattle.cell_store.specs.Arguments.{argument_at}
 use Rattle.cell_store.specs.StoreView.{StoreView, substitution, meaning, value_term, text_in, with_substitution, IsComposition, BindsFurther}
-use Rattle.cell_store.specs.UnificationSteps.{equations_in, AreEquations, pending_equations, AllEquations, FollowsRule, after_same, after_binding, after_opening, HasRestEquations, KeepsRestEquations, AreUnified}
+use Rattle.cell_store.specs.UnificationSteps.{equations_in, pending_equations, AllEquations, FollowsRule, after_same, after_binding, after_opening, HasRestEquations, KeepsRestEquations, AreUnified}
 use Rattle.cell_store.specs.declared.arguments.Equations.{Equations as ArgumentEquations}
 
 -- the first binding holds first, and the rest of what it leaves

@@ -1,5 +1,5 @@
 -- Going over the arguments of what a value stands for.
-use Rattle.std.proofs.Common.{◌≡◌, ℕ, zero, suc, ◌+◌, ◌-◌, ◌<◌, ◌||◌, Bool, true, false, List, [], ◌∷◌, ◌++◌, reverse, refl, sym, ap, ◌∙◌, subst, append-nil, arith}
+use Rattle.std.proofs.Common.{◌≡◌, ℕ, zero, suc, ◌+◌, ◌-◌, ◌<◌, ◌||◌, true, false, List, [], ◌∷◌, ◌++◌, reverse, refl, sym, ap, ◌∙◌, subst, append-nil, arith}
 use Rattle.std.proofs.Math.Bool.{or_assoc}
 use Rattle.std.proofs.lemmas.List.{map-append, reverse-append}
 use Rattle.au_term.specs.Term.{Term, VarTerm, IntTerm, AtomTerm, Compound as CompoundTerm, more}
@@ -8,10 +8,8 @@ use Rattle.au_model.specs.Terms.Substitutions.{Substitution, apply_all, value_of
 use Rattle.au_model.specs.Terms.Unifier.{size, size_all}
 use Rattle.clause_compile.specs.AtomNumbers.{name_at}
 use Rattle.clause_compile.specs.Places.{CodeView}
-use Rattle.binding_array.specs.Represented.{cell_term}
-use Rattle.binding_array.specs.declared.cell.BindingCell.{BindingCell}
 use Rattle.binding_array.specs.declared.cell.BindingCell.TheVariants.{Compound}
-use Rattle.cell_store.specs.Arguments.{argument_at, arguments_from, arguments_in, IsArgument, AreArguments, HasFunctor, AreThere, AllThere, pending_terms, resolved_terms, occurs_in_any, sizes, AreInside, HasOpened, HasRest, KeepsRest}
+use Rattle.cell_store.specs.Arguments.{argument_at, argument_meaning, arguments_from, arguments_in, IsArgument, AreArguments, HasFunctor, AreThere, AllThere, pending_terms, resolved_terms, occurs_in_any, sizes, AreInside, HasOpened, HasRest, KeepsRest}
 use Rattle.cell_store.specs.StoreView.{StoreView, substitution, text_in, value_term, meaning}
 use Rattle.cell_store.specs.declared.arguments.Arguments.{Arguments}
 
@@ -130,26 +128,28 @@ some_size (IntTerm z) = omega arith
 some_size (AtomTerm a) = omega arith
 some_size (CompoundTerm f ts) = omega arith
 
-module _ (st : StoreView) (x : ℕ) (t : Term) (a : Arguments) (waiting : List Arguments) (c : BindingCell) (h : IsSearching st x t (a ∷ waiting)) (c_is : value_term st c ≡ argument_at (text_in st) a.base a.at) where
-  listed : (others : List Arguments) → KeepsRest a waiting others → meaning st c ∷ resolved_terms (substitution st) (pending_terms (text_in st) others) ≡ resolved_terms (substitution st) (pending_terms (text_in st) (a ∷ waiting))
-  listed others kept =
-      ap (λ u. u ∷ resolved_terms (substitution st) (pending_terms (text_in st) others)) (ap (resolve (substitution st)) c_is) ∙ ap (resolved_terms (substitution st)) (kept (text_in st) st.now.next h.there.0 h.there.1).terms
+module _ (st : StoreView) (x : ℕ) (t : Term) (a : Arguments) (waiting : List Arguments) (h : IsSearching st x t (a ∷ waiting)) where
+  abbrev first : Term
+  first = argument_meaning st a.base a.at
 
-  pub search_ends : occurs x (meaning st c) ≡ true → true ≡ occurs x t
+  listed : (others : List Arguments) → KeepsRest a waiting others → first ∷ resolved_terms (substitution st) (pending_terms (text_in st) others) ≡ resolved_terms (substitution st) (pending_terms (text_in st) (a ∷ waiting))
+  listed others kept = ap (resolved_terms (substitution st)) (kept (text_in st) st.now.next h.there.0 h.there.1).terms
+
+  pub search_ends : occurs x (first) ≡ true → true ≡ occurs x t
   search_ends o =
       let r = other_arguments a waiting h.there.0.0 in
       sym (ap (λ b. b || occurs_in_any x (resolved_terms (substitution st) (pending_terms (text_in st) r.others))) o) ∙ (ap (occurs_in_any x) (listed r.others r.kept) ∙ h.same)
 
-  pub search_goes_past : (others : List Arguments) → KeepsRest a waiting others → occurs x (meaning st c) ≡ false → IsSearching st x t others × (searching_work st others < searching_work st (a ∷ waiting))
+  pub search_goes_past : (others : List Arguments) → KeepsRest a waiting others → occurs x (first) ≡ false → IsSearching st x t others × (searching_work st others < searching_work st (a ∷ waiting))
   search_goes_past others kept o = (
     record {
       same = sym (ap (λ b. b || occurs_in_any x (resolved_terms (substitution st) (pending_terms (text_in st) others))) o) ∙ (ap (occurs_in_any x) (listed others kept) ∙ h.same);
       there = (kept (text_in st) st.now.next h.there.0 h.there.1).there;
     },
-    omega (arith, ap sizes (listed others kept), some_size (meaning st c)),
+    omega (arith, ap sizes (listed others kept), some_size (first)),
   )
 
-  pub search_goes_inside : (others : List Arguments) → KeepsRest a waiting others → (b : Arguments) → AreInside st x (meaning st c) b → IsSearching st x t (b ∷ others) × (searching_work st (b ∷ others) < searching_work st (a ∷ waiting))
+  pub search_goes_inside : (others : List Arguments) → KeepsRest a waiting others → (b : Arguments) → AreInside st x (first) b → IsSearching st x t (b ∷ others) × (searching_work st (b ∷ others) < searching_work st (a ∷ waiting))
   search_goes_inside others kept b i =
       let inner = resolved_terms (substitution st) (arguments_in (text_in st) b) in
       let rest = resolved_terms (substitution st) (pending_terms (text_in st) others) in

@@ -10,8 +10,9 @@ use Rattle.clause_compile.specs.Places.{CodeView, IsArity, IsPlaceOf, meaning_in
 use Rattle.clause_compile.specs.declared.place.Place.{Place}
 use Rattle.clause_compile.specs.declared.place.Place.TheVariants.{Var as VarPlace}
 use Rattle.binding_array.specs.Represented.{cell_term}
+use Rattle.binding_array.specs.declared.cell.BindingCell.{BindingCell}
 use Rattle.binding_array.specs.declared.cell.BindingCell.TheVariants.{Compound}
-use Rattle.cell_store.specs.StoreView.{StoreView, substitution, text_in}
+use Rattle.cell_store.specs.StoreView.{StoreView, substitution, text_in, value_term, IsValueIn}
 use Rattle.cell_store.specs.declared.arguments.Arguments.{Arguments}
 use Rattle.cell_store.specs.declared.occurs.Searched.{Searched}
 use Rattle.cell_store.specs.declared.occurs.Searched.TheVariants.{Found, Past, Inside}
@@ -33,6 +34,15 @@ pub record IsArgument (code : CodeView) (next base at : ℕ) : Type 0 where
   pub within : at < length code.places
   pub place : IsPlaceOf code (code_place code at)
   pub below : var_bound (argument_at code base at) ≤ next
+
+-- the value of an argument
+pub record IsArgumentValue (st : StoreView) (base at : ℕ) (value : BindingCell) : Type 0 where
+  pub term : value_term st value ≡ argument_at (text_in st) base at
+  pub there : IsValueIn st value
+
+-- what an argument stands for
+abbrev pub argument_meaning : StoreView → ℕ → ℕ → Term
+argument_meaning st base at = resolve (substitution st) (argument_at (text_in st) base at)
 
 abbrev pub AreArguments : CodeView → ℕ → ℕ → ℕ → ℕ → Type 0
 AreArguments code next base zero at = Unit {0}

@@ -8,7 +8,7 @@ ghost use Rattle.clause_compile.specs.Places.{IsArity, IsPlaced, AddsCell, ArePl
 ghost use Rattle.cell_store.specs.HeapView.{heap_text, cut_heap, IsSoundHeap, GrowsHeap, IsNumberedIn};
 
 use au_term::{Atom, Cell, NoMemory, Shared, VarNo};
-use clause_compile::{AtomNumbers, Code, Place, push_block};
+use clause_compile::{AtomNumbers, Code, Place, compound_place, push_block};
 use std::alloc::Global;
 use std::marker::Model;
 use std::sync::Arc;
@@ -141,11 +141,12 @@ impl Heap {
         if at + count as usize >= u32::MAX as usize {
             return Err(NoMemory);
         }
+        let place = compound_place(at, count, stack);
         if let Err(error) = push_block(number, count, stack, &mut self.made) {
             self.made.truncate(made);
             return Err(error);
         }
-        put(Place::Sub(at), stack)
+        put(place, stack)
     }
 
     /// The number of a name, which gets the next one where it has none.

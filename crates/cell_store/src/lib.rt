@@ -9,8 +9,9 @@
 //! bound since a mark takes as many steps as that, and as many as there are younger variables, with the logarithm of both.
 //!
 //! Unification takes as many steps as it comes to equations, and keeps the room in which they wait. A compound is not gone
-//! into beside itself, at the same place with the same number added. A variable that is bound to a
-//! compound is searched in all that this stands for, as long as it is written out; a head's own variables are not, until an
+//! into beside itself, at the same place with the same number added; one that is written without variables is the same
+//! value whatever the number. A variable that is bound to a compound is searched in all that this stands for, as long as it
+//! is written out, but for arguments that are written without variables; a head's own variables are not searched, until an
 //! older variable is bound to a compound. Resolving a value takes as many steps as the term has cells, and copying a term in
 //! as many as it has, with the logarithm of the number of names for each name.
 #![tactic(auto)]

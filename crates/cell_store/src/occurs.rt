@@ -2,7 +2,7 @@
 ghost use Rattle.std.specs.Prelude.{◌≡◌, ◌<◌, ◌-◌, ◌^◌, ◌∷◌, IfOk, OnOk, reverse};
 ghost use Rattle.au_model.specs.Terms.Substitutions.{occurs};
 ghost use Rattle.cell_store.specs.StoreView.{IsValueIn, meaning, text_in};
-ghost use Rattle.cell_store.specs.Arguments.{IsSearched, HasOpened, KeepsRest, with_others};
+ghost use Rattle.cell_store.specs.Arguments.{IsArgument, argument_meaning, IsSearched, HasOpened, KeepsRest, with_others};
 
 use crate::arguments::{Arguments, arguments_of, rest_of};
 use crate::store::Store;
@@ -35,8 +35,7 @@ pub(crate) fn occurs(
     };
     pending.clear();
     loop {
-        let argument = store.argument(open.at, open.base);
-        match look_at(variable, argument, store) {
+        match look_at_first(variable, open, store) {
             Searched::Found => return Ok(true),
             Searched::Past => match next_arguments(open, pending) {
                 Some(next) => open = next,
@@ -68,6 +67,18 @@ fn look_at(variable: u32, value: BindingCell, store: &Store) -> Searched
             Searched::Inside(arguments_of((at, base), count))
         }
         _ => Searched::Past,
+    }
+}
+
+/// Looks for a variable at what the first of these arguments stands for. One without variables is passed over.
+fn look_at_first(variable: u32, arguments: Arguments, store: &Store) -> Searched
+    requires { IsArgument (text_in store.now) store.now.now.next arguments.base arguments.at }
+    ensures searched { IsSearched store.now variable (argument_meaning store.now arguments.base arguments.at) result }
+    ensures short { arguments.at < 2 ^ 32 - 1 }
+{
+    match store.argument_unless_ground(arguments.at, arguments.base) {
+        Some(value) => look_at(variable, value, store),
+        None => Searched::Past,
     }
 }
 

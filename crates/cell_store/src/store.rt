@@ -1,12 +1,12 @@
 //! The store.
-ghost use Rattle.std.specs.Prelude.{◌≡◌, ◌-◌, ◌^◌, ◌<◌, ◌≤◌, ◌+◌, ◌++◌, ◌∷◌, [], ℕ, List, length, take, drop, IfOk, OnOk, OnErr};
+ghost use Rattle.std.specs.Prelude.{◌≡◌, ◌-◌, ◌^◌, ◌<◌, ◌≤◌, ◌+◌, ◌++◌, ◌∷◌, [], ℕ, List, length, take, drop, IfOk, OnOk, OnErr, MatchOption};
 ghost use Rattle.std.specs.Arc.{arc_value};
 ghost use Rattle.au_model.specs.Terms.Each.{Each};
 ghost use Rattle.au_term.specs.Term.{var_bound};
 ghost use Rattle.au_term.specs.Shifted.{shifted};
 ghost use Rattle.clause_compile.specs.AtomNumbers.{name_at};
 ghost use Rattle.clause_compile.specs.Places.{IsPlaceOf, meaning_in};
-ghost use Rattle.cell_store.specs.Arguments.{HasFunctor, IsArgument, argument_at};
+ghost use Rattle.cell_store.specs.Arguments.{HasFunctor, IsArgument, IsArgumentValue, argument_at};
 ghost use Rattle.cell_store.specs.Undoing.{AreNested, freed};
 ghost use Rattle.cell_store.specs.FreshVariables.{IsOlder};
 ghost use Rattle.cell_store.specs.MadeBindings.{AreMadeSince};
@@ -142,6 +142,8 @@ impl Store {
             Place::Int(value) => BindingCell::Int(value),
             Place::Atom(number) => BindingCell::Atom(number),
             Place::Sub(at) => BindingCell::Compound(at as u32, base),
+            // The same value, whatever the number.
+            Place::Ground(at) => BindingCell::Compound(at as u32, 0),
         }
     }
 
@@ -153,6 +155,19 @@ impl Store {
         ensures short { at < 2 ^ 32 - 1 }
     {
         self.value(self.heap.place(at as usize), base)
+    }
+
+    /// The same, or nothing where its place says that it has no variables.
+    pub(crate) fn argument_unless_ground(&self, at: u32, base: u32) -> Option<BindingCell>
+        requires { IsArgument (text_in self.now) self.now.now.next base at }
+        ensures argument { MatchOption result (var_bound (argument_at (text_in self.now) base at) ≡ 0) (IsArgumentValue self.now base at) }
+        ensures short { at < 2 ^ 32 - 1 }
+    {
+        let place = self.heap.place(at as usize);
+        if place.is_ground() {
+            return None;
+        }
+        Some(self.value(place, base))
     }
 
     /// A value that stands for the same and is no bound variable.

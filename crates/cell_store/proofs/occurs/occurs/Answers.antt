@@ -3,22 +3,22 @@ use Rattle.cell_store.specs.StoreView.{meaning, text_in}
 use Rattle.cell_store.proofs.WalkLemmas.{first_there, search_goes_past, search_goes_inside}
 use Rattle.cell_store.proofs.occurs.occurs.Goals as goal
 
-pub argument-argument-requires : goal.argument-argument-requires
-argument-argument-requires c =
+pub look_at_first-requires : goal.look_at_first-requires
+look_at_first-requires c =
     let st = c.args.store.now in
     first_there (text_in st) st.now.next c.loop-pending.open c.loop-pending.invariant.there.0
 
 pub loop-pending-smaller-in-Some : goal.loop-pending-smaller-in-Some
 loop-pending-smaller-in-Some c =
     let st = c.args.store.now in
-    (search_goes_past st c.args.variable (meaning st c.args.value) c.loop-pending.open (reverse c.loop-pending.pending.items) c.argument-argument.result c.loop-pending.invariant c.argument-argument.ensures.term _ c.in-Some.ensures c.in-Past-look_at.ensures).1
+    (search_goes_past st c.args.variable (meaning st c.args.value) c.loop-pending.open (reverse c.loop-pending.pending.items) c.loop-pending.invariant _ c.in-Some.ensures c.in-Past-look_at_first.ensures.searched).1
 
 pub loop-pending-smaller : goal.loop-pending-smaller
 loop-pending-smaller c =
     let st = c.args.store.now in
-    (search_goes_inside st c.args.variable (meaning st c.args.value) c.loop-pending.open (reverse c.loop-pending.pending.items) c.argument-argument.result c.loop-pending.invariant c.argument-argument.ensures.term _ c.in_ok-push_rest-in-Inside-look_at.ensures c.in-Inside-look_at.inner c.in-Inside-look_at.ensures).1
+    (search_goes_inside st c.args.variable (meaning st c.args.value) c.loop-pending.open (reverse c.loop-pending.pending.items) c.loop-pending.invariant _ c.in_ok-push_rest-in-Inside-look_at_first.ensures c.in-Inside-look_at_first.inner c.in-Inside-look_at_first.ensures.searched).1
 
 pub loop-pending-preserved : goal.loop-pending-preserved
 loop-pending-preserved c =
     let st = c.args.store.now in
-    (search_goes_inside st c.args.variable (meaning st c.args.value) c.loop-pending.open (reverse c.loop-pending.pending.items) c.argument-argument.result c.loop-pending.invariant c.argument-argument.ensures.term _ c.in_ok-push_rest-in-Inside-look_at.ensures c.in-Inside-look_at.inner c.in-Inside-look_at.ensures).0
+    (search_goes_inside st c.args.variable (meaning st c.args.value) c.loop-pending.open (reverse c.loop-pending.pending.items) c.loop-pending.invariant _ c.in_ok-push_rest-in-Inside-look_at_first.ensures c.in-Inside-look_at_first.inner c.in-Inside-look_at_first.ensures.searched).0

@@ -1,8 +1,8 @@
 use Rattle.std.proofs.Common.{◌≡◌, ◌+◌, ◌∷◌, [], ◌++◌, length, take, reverse, ap, ◌∙◌, arith}
 use Rattle.std.proofs.lemmas.Result.{on_ok_weaker}
 use Rattle.std.specs.Arc.{arc_value}
-use Rattle.clause_compile.specs.Places.{CodeView}
-use Rattle.clause_compile.specs.declared.place.Place.TheVariants.{Functor, Sub}
+use Rattle.clause_compile.specs.Places.{CodeView, compound_place}
+use Rattle.clause_compile.specs.declared.place.Place.TheVariants.{Functor}
 use Rattle.cell_store.specs.HeapView.{HeapView, heap_text}
 use Rattle.cell_store.proofs.HeapGrowthLemmas.{heap_of, places_counted, compound_adds, compound_grows}
 use Rattle.cell_store.proofs.heap.Heap.push_compound.Goals as goal
@@ -23,7 +23,11 @@ returns-clause-added c =
     let made_is = c.len-made.ensures in
     let at = c.len.result + c.len-made.result in
     let place : at ≡ length (heap_text h).places = omega (arith, counted, length_is, made_is, s.made.ok.0) in
-    on_ok_weaker c.put.result (λ (a : c.put.new.stack.items ≡ c.push_block.new.stack.items ++ Sub at ∷ []). compound_adds h named now c.args.name.now f c.args.count at c.args.stack.now.items c.push_block.new.stack.items c.put.new.stack.items c.requires.heap c.in_ok-number.ensures.grown k c.requires.arity c.requires.stand c.requires.enough now_is c.in_default.ensures.left a place) c.put.ensures
+    let args = take c.args.count (reverse c.args.stack.now.items) in
+    let put : c.compound_place-place.result ≡ compound_place at args = c.compound_place-place.ensures ∙ ap (λ ps. compound_place at (take c.args.count (reverse ps))) c.deref-2.ensures.value in
+    on_ok_weaker c.put.result (λ (a : c.put.new.stack.items ≡ c.push_block.new.stack.items ++ c.compound_place-place.result ∷ []).
+    compound_adds h named now c.args.name.now f c.args.count at c.args.stack.now.items c.push_block.new.stack.items c.put.new.stack.items c.requires.heap c.in_ok-number.ensures.grown k c.requires.arity c.requires.stand c.requires.enough now_is c.in_default.ensures.left
+    (a ∙ ap (λ p. c.push_block.new.stack.items ++ p ∷ []) put) place) c.put.ensures
 
 pub returns-clause-grown : goal.returns-clause-grown
 returns-clause-grown c =
