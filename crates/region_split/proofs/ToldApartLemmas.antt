@@ -11,7 +11,7 @@ use Rattle.au_model.specs.Terms.Unifier.{unifier}
 use Rattle.clause_compile.specs.AtomNumbers.{name_at, AreDistinct}
 use Rattle.clause_compile.specs.Places.{CodeView, AreSound, IsPlaceOf, IsPlaceBefore, meaning_in}
 use Rattle.clause_compile.specs.declared.place.Place.{Place}
-use Rattle.clause_compile.specs.declared.place.Place.TheVariants.{Functor as FunctorPlace, Var as VarPlace, Int as IntPlace, Atom as AtomPlace, Sub}
+use Rattle.clause_compile.specs.declared.place.Place.TheVariants.{Functor as FunctorPlace, Sub}
 use Rattle.proc_index.specs.Keys.{key_of, is_any}
 use Rattle.proc_index.specs.Laws.{tell_apart}
 use Rattle.proc_index.specs.declared.key.Key.TheVariants.{Any}
@@ -119,18 +119,10 @@ module _ (code : CodeView) (at f n i : ℕ) (h : IsFunctorAt code at f n) where
   pub no_argument : n ≤ i → Any ≡ key_of (argument i (meaning_in code (Sub at)))
   no_argument le = sym (ap (λ t. key_of (argument i t)) h.meaning ∙ past (meaning_in code) after n i le)
 
--- no compound
-pub no_compound : (code : CodeView) (p : Place) (i : ℕ) → IsPlaceOf code p → ((at : ℕ) → p ≡ Sub at → ⊥) → Any ≡ key_of (argument i (meaning_in code p))
-no_compound code (FunctorPlace f n) i h none = absurd h
-no_compound code (VarPlace v) i h none = sym (no_arguments i)
-no_compound code (IntPlace z) i h none = sym (no_arguments i)
-no_compound code (AtomPlace a) i h none = sym (no_arguments i)
-no_compound code (Sub at) i h none = absurd (none at refl)
-
 -- a functor that was read
-pub functor_read : (code : CodeView) (term p : Place) (at f n : ℕ) → IsPlaceOf code term → term ≡ Sub at → AreSound (length code.names) code.places → drop at code.places ≡ p ∷ drop (at + 1) code.places → p ≡ FunctorPlace f n → IsFunctorAt code at f n
-functor_read code term p at f n there is sound read functor =
-    functor_is code at f n sound (subst (IsPlaceOf code) is there).1 (read ∙ ap (λ q. q ∷ drop (at + 1) code.places) functor)
+pub functor_read : (code : CodeView) (p : Place) (at f n : ℕ) → IsPlaceOf code (Sub at) → AreSound (length code.names) code.places → drop at code.places ≡ p ∷ drop (at + 1) code.places → p ≡ FunctorPlace f n → IsFunctorAt code at f n
+functor_read code p at f n there sound read functor =
+    functor_is code at f n sound there.1 (read ∙ ap (λ q. q ∷ drop (at + 1) code.places) functor)
 
 -- a clause whose head has another key where the goal has one
 pub told_here : (st : StoreView) (text : TextView) (goal : Term) (c : Clause) (i next : ℕ) (k l : Option NumberKey) → st.program ≡ text.code → IsValidStore st → IsKeyAmong (text_in st).names k → named_key (text_in st).names k ≡ key_of (argument i goal)

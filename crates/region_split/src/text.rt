@@ -210,9 +210,20 @@ fn argument_key(code: &Code, term: Place, i: u32) -> Option<NumberKey>
     ensures there { IsKeyAmong code.now.names result }
     ensures key { named_key code.now.names result ≡ key_of (argument i (meaning_in code.now term)) }
 {
+    match term {
+        Place::Sub(at) | Place::Ground(at) => argument_key_in(code, at, i),
+        _ => None,
+    }
+}
+
+/// The key of an argument of the compound at a place.
+fn argument_key_in(code: &Code, at: usize, i: u32) -> Option<NumberKey>
+    requires { IsPlaceOf code.now (Place.Sub at) }
+    ensures there { IsKeyAmong code.now.names result }
+    ensures key { named_key code.now.names result ≡ key_of (argument i (meaning_in code.now (Place.Sub at))) }
+{
     // The proof reads off that the arguments of compounds stand before them.
     let _places = code.len();
-    let Place::Sub(at) = term else { return None };
     let Place::Functor(_, count) = code.place(at) else {
         unreachable!()
     };

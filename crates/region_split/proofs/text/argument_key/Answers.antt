@@ -1,29 +1,11 @@
-use Rattle.std.proofs.Common.{◌≡◌, ◌<◌, sym, ap, ◌∙◌, subst, arith}
-use Rattle.clause_compile.specs.Places.{meaning_in}
-use Rattle.proc_index.specs.declared.key.Key.TheVariants.{Any}
-use Rattle.proc_index.specs.Keys.{key_of}
+use Rattle.std.proofs.Common.{sym, ap, ◌∙◌}
 use Rattle.au_term.specs.Term.{argument}
-use Rattle.region_split.proofs.ToldApartLemmas.{functor_read, place_of_argument, argument_is, no_argument}
+use Rattle.clause_compile.proofs.GroundPlaceLemmas.{compound_at}
+use Rattle.proc_index.specs.Keys.{key_of}
 use Rattle.region_split.proofs.text.argument_key.Goals as goal
 
-pub returns-then-i-count-clause-key : goal.returns-then-i-count-clause-key
-returns-then-i-count-clause-key c =
-    let code = c.args.code.now in
-    let h = functor_read code c.args.term c.place.result c.in-Sub.at c.in-Functor.field-0 c.in-Functor.count c.requires c.in-Sub.is c.len-places.ensures.sound c.place.ensures c.in-Functor.is in
-    let e = no_argument code c.in-Sub.at c.in-Functor.field-0 c.in-Functor.count c.args.i h c.if-i-count.true in
-    subst (λ t. Any ≡ key_of (argument c.args.i (meaning_in code t))) (sym c.in-Sub.is) e
+pub argument_key_in-requires : goal.argument_key_in-requires
+argument_key_in-requires c = (compound_at c.args.code.now c.args.term c.in-Sub.at c.in-Sub.is c.requires).0
 
-pub of_place-requires : goal.of_place-requires
-of_place-requires c =
-    let code = c.args.code.now in
-    let h = functor_read code c.args.term c.place.result c.in-Sub.at c.in-Functor.field-0 c.in-Functor.count c.requires c.in-Sub.is c.len-places.ensures.sound c.place.ensures c.in-Functor.is in
-    let lt : c.args.i < c.in-Functor.count = let no = c.if-i-count.false in omega (arith, no) in
-    place_of_argument code c.in-Sub.at c.in-Functor.field-0 c.in-Functor.count c.args.i h c.place-2.result _ lt c.place-2.ensures
-
-pub returns-clause-key : goal.returns-clause-key
-returns-clause-key c =
-    let code = c.args.code.now in
-    let h = functor_read code c.args.term c.place.result c.in-Sub.at c.in-Functor.field-0 c.in-Functor.count c.requires c.in-Sub.is c.len-places.ensures.sound c.place.ensures c.in-Functor.is in
-    let lt : c.args.i < c.in-Functor.count = let no = c.if-i-count.false in omega (arith, no) in
-    let e = argument_is code c.in-Sub.at c.in-Functor.field-0 c.in-Functor.count c.args.i h c.place-2.result _ lt c.place-2.ensures in
-    c.of_place.ensures.key ∙ ap key_of (sym e ∙ ap (λ t. argument c.args.i (meaning_in code t)) (sym c.in-Sub.is))
+pub returns-in-Sub-clause-key : goal.returns-in-Sub-clause-key
+returns-in-Sub-clause-key c = c.argument_key_in.ensures.key ∙ ap (λ t. key_of (argument c.args.i t)) (sym (compound_at c.args.code.now c.args.term c.in-Sub.at c.in-Sub.is c.requires).1)
