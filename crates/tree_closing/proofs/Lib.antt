@@ -1,0 +1,3 @@
+pub mod ReachedLemmas
+pub mod SleeperLemmas
+pub mod ChangeLemmas
