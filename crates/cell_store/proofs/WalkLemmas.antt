@@ -1,20 +1,28 @@
 -- Going over the arguments of what a value stands for.
-use Rattle.std.proofs.Common.{◌≡◌, ℕ, zero, suc, ◌+◌, ◌-◌, ◌<◌, ◌||◌, true, false, List, [], ◌∷◌, ◌++◌, reverse, refl, sym, ap, ◌∙◌, subst, append-nil, arith}
+use Rattle.std.proofs.Common.{◌≡◌, ℕ, zero, suc, ◌+◌, ◌-◌, ◌<◌, ◌||◌, Bool, true, false, List, [], ◌∷◌, ◌++◌, length, Option, Some, None, MatchOption, reverse, refl, sym, ap, ◌∙◌, subst, append-nil, arith}
 use Rattle.std.proofs.Math.Bool.{or_assoc}
-use Rattle.std.proofs.lemmas.List.{map-append, reverse-append}
+use Rattle.std.specs.Option.{option_to_list}
+use Rattle.std.proofs.lemmas.List.{map-append, nil_from_length, reverse-append}
 use Rattle.au_term.specs.Term.{Term, VarTerm, IntTerm, AtomTerm, Compound as CompoundTerm, more}
 use Rattle.au_model.specs.Terms.Lists.{terms_from}
 use Rattle.au_model.specs.Terms.Substitutions.{Substitution, apply_all, value_of, resolve, occurs, occurs_in}
 use Rattle.au_model.specs.Terms.Unifier.{size, size_all}
 use Rattle.clause_compile.specs.AtomNumbers.{name_at}
 use Rattle.clause_compile.specs.Places.{CodeView}
-use Rattle.binding_array.specs.declared.cell.BindingCell.TheVariants.{Compound}
-use Rattle.cell_store.specs.Arguments.{argument_at, argument_meaning, arguments_from, arguments_in, IsArgument, AreArguments, HasFunctor, AreThere, AllThere, pending_terms, resolved_terms, occurs_in_any, sizes, AreInside, HasOpened, HasRest, KeepsRest}
-use Rattle.cell_store.specs.StoreView.{StoreView, substitution, text_in, value_term, meaning}
+use Rattle.binding_array.specs.declared.cell.BindingCell.{BindingCell}
+use Rattle.binding_array.specs.declared.cell.BindingCell.TheVariants.{Free, Var, Int, Atom, Compound}
+use Rattle.cell_store.specs.Arguments.{argument_at, argument_meaning, arguments_from, arguments_in, IsArgument, AreArguments, HasFunctor, AreThere, AllThere, pending_terms, resolved_terms, occurs_in_any, sizes, is_in_any, with_waiting, AreInside, HasOpened, HasRest, KeepsRest}
+use Rattle.cell_store.specs.Values.{IsNoVariable}
+use Rattle.cell_store.specs.StoreView.{StoreView, IsValueIn, substitution, text_in, value_term, meaning}
 use Rattle.cell_store.specs.declared.arguments.Arguments.{Arguments}
 
 pub turned : {X : Type 0} (xs : List X) (x : X) → reverse (xs ++ x ∷ []) ≡ x ∷ reverse xs
 turned xs x = reverse-append xs (x ∷ [])
+
+-- what is taken from the top
+pub popped : {X : Type 0} (old new : List X) (o : Option X) (n m : ℕ) → old ≡ new ++ option_to_list o → n ≡ length old → MatchOption o ((n ≡ 0) × (m ≡ 0)) (λ _. m + 1 ≡ n) → with_waiting o (reverse new) ≡ reverse old
+popped old new None n m e l h = sym (ap reverse (nil_from_length old (omega (arith, h.0))))
+popped old new (Some x) n m e l h = sym (ap reverse e ∙ turned new x)
 
 -- terms one after another
 pub resolved_list : (s : Substitution) (ts : List Term) → apply_all (value_of s) (terms_from ts) ≡ terms_from (resolved_terms s ts)
@@ -65,6 +73,14 @@ opened_some code next at base f n a old e h = record {
   there = λ k. (subst (AreThere code next) (sym e) (h.arity.0, h.arguments), k);
 }
 
+-- a value that is no variable and no compound
+pub constant_apart : (st : StoreView) (x : ℕ) (c : BindingCell) → IsNoVariable c → IsValueIn st c → ((at base : ℕ) → c ≡ Compound at base → ⊥) → false ≡ occurs x (meaning st c)
+constant_apart st x Free n v h = absurd n
+constant_apart st x (Var w) n v h = absurd n
+constant_apart st x (Int z) n v h = refl
+constant_apart st x (Atom a) n v h = refl
+constant_apart st x (Compound at base) n v h = absurd (h at base refl)
+
 -- all but the first
 pub rest_some : (a b : Arguments) (old : List Arguments) → 1 < a.count → b ≡ record { at = a.at + 1; base = a.base; count = a.count - 1 } → KeepsRest a old (b ∷ old)
 rest_some a b old p e code next h k = by_count a.count refl
@@ -108,19 +124,16 @@ first_there code next a h = by_count a.count h.0 h.1
 pub top_there : (code : CodeView) (next : ℕ) (old rest : List Arguments) (a : Arguments) → old ≡ rest ++ a ∷ [] → AllThere code next (reverse old) → AreThere code next a × AllThere code next (reverse rest)
 top_there code next old rest a e h = subst (AllThere code next) (ap reverse e ∙ turned rest a) h
 
--- a variable occurs in what arguments stand for, as it does in a term
-pub record IsSearching (st : StoreView) (x : ℕ) (t : Term) (list : List Arguments) : Type 0 where
-  pub same : occurs_in_any x (resolved_terms (substitution st) (pending_terms (text_in st) list)) ≡ occurs x t
+-- whether a variable occurs in what is left to be looked at is the answer
+pub record IsSearching (st : StoreView) (x : ℕ) (answer : Bool) (list : List Arguments) : Type 0 where
+  pub same : occurs_in_any x (resolved_terms (substitution st) (pending_terms (text_in st) list)) ≡ answer
   pub there : AllThere (text_in st) st.now.next list
 
 abbrev pub searching_work : StoreView → List Arguments → ℕ
 searching_work st list = sizes (resolved_terms (substitution st) (pending_terms (text_in st) list))
 
-pub search_starts : (st : StoreView) (x : ℕ) (t : Term) (a : Arguments) → AreInside st x t a → IsSearching st x t (a ∷ [])
-search_starts st x t a h = record {
-  same = ap (λ ts. occurs_in_any x (resolved_terms (substitution st) ts)) (append-nil (arguments_in (text_in st) a)) ∙ h.same;
-  there = (h.there, tt);
-}
+pub search_starts : (st : StoreView) (x : ℕ) (a : Arguments) → AreThere (text_in st) st.now.next a → IsSearching st x (is_in_any st x a) (a ∷ [])
+search_starts st x a h = record { same = ap (λ ts. occurs_in_any x (resolved_terms (substitution st) ts)) (append-nil (arguments_in (text_in st) a)); there = (h, tt) }
 
 some_size : (t : Term) → 0 < size t
 some_size (VarTerm n) = omega arith
@@ -128,19 +141,19 @@ some_size (IntTerm z) = omega arith
 some_size (AtomTerm a) = omega arith
 some_size (CompoundTerm f ts) = omega arith
 
-module _ (st : StoreView) (x : ℕ) (t : Term) (a : Arguments) (waiting : List Arguments) (h : IsSearching st x t (a ∷ waiting)) where
+module _ (st : StoreView) (x : ℕ) (answer : Bool) (a : Arguments) (waiting : List Arguments) (h : IsSearching st x answer (a ∷ waiting)) where
   abbrev first : Term
   first = argument_meaning st a.base a.at
 
   listed : (others : List Arguments) → KeepsRest a waiting others → first ∷ resolved_terms (substitution st) (pending_terms (text_in st) others) ≡ resolved_terms (substitution st) (pending_terms (text_in st) (a ∷ waiting))
   listed others kept = ap (resolved_terms (substitution st)) (kept (text_in st) st.now.next h.there.0 h.there.1).terms
 
-  pub search_ends : occurs x (first) ≡ true → true ≡ occurs x t
+  pub search_ends : occurs x (first) ≡ true → true ≡ answer
   search_ends o =
       let r = other_arguments a waiting h.there.0.0 in
       sym (ap (λ b. b || occurs_in_any x (resolved_terms (substitution st) (pending_terms (text_in st) r.others))) o) ∙ (ap (occurs_in_any x) (listed r.others r.kept) ∙ h.same)
 
-  pub search_goes_past : (others : List Arguments) → KeepsRest a waiting others → occurs x (first) ≡ false → IsSearching st x t others × (searching_work st others < searching_work st (a ∷ waiting))
+  pub search_goes_past : (others : List Arguments) → KeepsRest a waiting others → occurs x (first) ≡ false → IsSearching st x answer others × (searching_work st others < searching_work st (a ∷ waiting))
   search_goes_past others kept o = (
     record {
       same = sym (ap (λ b. b || occurs_in_any x (resolved_terms (substitution st) (pending_terms (text_in st) others))) o) ∙ (ap (occurs_in_any x) (listed others kept) ∙ h.same);
@@ -149,7 +162,7 @@ module _ (st : StoreView) (x : ℕ) (t : Term) (a : Arguments) (waiting : List A
     omega (arith, ap sizes (listed others kept), some_size (first)),
   )
 
-  pub search_goes_inside : (others : List Arguments) → KeepsRest a waiting others → (b : Arguments) → AreInside st x (first) b → IsSearching st x t (b ∷ others) × (searching_work st (b ∷ others) < searching_work st (a ∷ waiting))
+  pub search_goes_inside : (others : List Arguments) → KeepsRest a waiting others → (b : Arguments) → AreInside st x (first) b → IsSearching st x answer (b ∷ others) × (searching_work st (b ∷ others) < searching_work st (a ∷ waiting))
   search_goes_inside others kept b i =
       let inner = resolved_terms (substitution st) (arguments_in (text_in st) b) in
       let rest = resolved_terms (substitution st) (pending_terms (text_in st) others) in
@@ -161,5 +174,5 @@ module _ (st : StoreView) (x : ℕ) (t : Term) (a : Arguments) (waiting : List A
         omega (arith, ap sizes all, sizes_append inner rest, i.fewer, ap sizes (listed others kept)),
       )
 
-pub search_over : (st : StoreView) (x : ℕ) (t : Term) → IsSearching st x t [] → false ≡ occurs x t
-search_over st x t h = h.same
+pub search_over : (st : StoreView) (x : ℕ) (answer : Bool) → IsSearching st x answer [] → false ≡ answer
+search_over st x answer h = h.same

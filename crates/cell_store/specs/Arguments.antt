@@ -82,9 +82,13 @@ abbrev pub sizes : List Term → ℕ
 sizes [] = 0
 sizes (t ∷ ts) = size t + sizes ts
 
+-- whether a variable occurs in what one of these stands for
+abbrev pub is_in_any : StoreView → ℕ → Arguments → Bool
+is_in_any st x a = occurs_in_any x (resolved_terms (substitution st) (arguments_in (text_in st) a))
+
 -- the arguments of a compound, in which a variable occurs where it occurs in this
 pub record AreInside (st : StoreView) (x : ℕ) (t : Term) (a : Arguments) : Type 0 where
-  pub same : occurs_in_any x (resolved_terms (substitution st) (arguments_in (text_in st) a)) ≡ occurs x t
+  pub same : is_in_any st x a ≡ occurs x t
   pub fewer : sizes (resolved_terms (substitution st) (arguments_in (text_in st) a)) < size t
   pub there : AreThere (text_in st) st.now.next a
 
@@ -110,7 +114,7 @@ pub record HasRest (code : CodeView) (next : ℕ) (a : Arguments) (old new : Lis
 abbrev pub KeepsRest : Arguments → List Arguments → List Arguments → Type 0
 KeepsRest a old new = (code : CodeView) (next : ℕ) → AreThere code next a → AllThere code next old → HasRest code next a old new
 
--- arguments with those that wait behind them
-abbrev pub with_others : Option Arguments → List Arguments → List Arguments
-with_others None waiting = []
-with_others (Some a) waiting = a ∷ waiting
+-- what is next, with what waits behind it
+abbrev pub with_waiting : {X : Type 0} → Option X → List X → List X
+with_waiting None waiting = []
+with_waiting (Some next) waiting = next ∷ waiting

@@ -1,5 +1,5 @@
 -- Equations between the arguments of compounds, and how they are solved one after another (ISO/IEC 13211-1, 7.3.2).
-use Rattle.std.specs.Prelude.{◌≡◌, ℕ, Bool, true, false, List, [], ◌∷◌, ◌++◌, Option, Some, None}
+use Rattle.std.specs.Prelude.{◌≡◌, ℕ, Bool, true, false, List, [], ◌∷◌, ◌++◌, Some, None}
 use Rattle.au_term.specs.Term.{Term}
 use Rattle.au_model.specs.Terms.Substitutions.{Substitution, occurs}
 use Rattle.au_model.specs.Terms.Unifier.{Equations, Replaced, Opened, Clash, rule, unifier}
@@ -64,11 +64,6 @@ pub record HasRestEquations (code : CodeView) (next : ℕ) (e : ArgumentEquation
 
 abbrev pub KeepsRestEquations : ArgumentEquations → List ArgumentEquations → List ArgumentEquations → Type 0
 KeepsRestEquations e old new = (code : CodeView) (next : ℕ) → AreEquations code next e → AllEquations code next old → HasRestEquations code next e old new
-
--- equations with those that wait behind them
-abbrev pub with_waiting : Option ArgumentEquations → List ArgumentEquations → List ArgumentEquations
-with_waiting None waiting = []
-with_waiting (Some e) waiting = e ∷ waiting
 
 -- all but what is bound is as it was
 pub record OnlyBinds (old new : StoreView) : Type 0 where

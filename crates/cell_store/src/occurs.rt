@@ -1,8 +1,9 @@
 //! Whether a variable occurs in what a value stands for.
-ghost use Rattle.std.specs.Prelude.{◌≡◌, ◌<◌, ◌-◌, ◌^◌, ◌∷◌, IfOk, OnOk, reverse};
+ghost use Rattle.std.specs.Prelude.{◌≡◌, ◌<◌, ◌-◌, ◌^◌, ◌∷◌, ℕ, IfOk, OnOk, reverse};
 ghost use Rattle.au_model.specs.Terms.Substitutions.{occurs};
-ghost use Rattle.cell_store.specs.StoreView.{IsValueIn, meaning, text_in};
-ghost use Rattle.cell_store.specs.Arguments.{IsArgument, argument_meaning, IsSearched, HasOpened, KeepsRest, with_others};
+ghost use Rattle.cell_store.specs.Values.{IsNoVariable};
+ghost use Rattle.cell_store.specs.StoreView.{IsValueIn, compound_meaning, meaning, text_in};
+ghost use Rattle.cell_store.specs.Arguments.{IsArgument, argument_meaning, AreThere, AreInside, IsSearched, HasOpened, KeepsRest, is_in_any, with_waiting};
 
 use crate::arguments::{Arguments, arguments_of, rest_of};
 use crate::store::Store;
@@ -25,14 +26,29 @@ pub(crate) fn occurs(
     store: &Store,
     pending: &mut Vec<Arguments>,
 ) -> Result<bool, NoMemory>
-    requires { IsValueIn store.now value }
+    requires there { IsValueIn store.now value }
+    requires no_variable { IsNoVariable value }
     ensures { IfOk result (λ b. b ≡ occurs variable (meaning store.now value)) }
 {
-    let mut open = match look_at(variable, value, store) {
-        Searched::Found => return Ok(true),
-        Searched::Past => return Ok(false),
-        Searched::Inside(arguments) => arguments,
-    };
+    match value {
+        BindingCell::Compound(at, base) => {
+            occurs_inside(variable, opened((at, base), store), store, pending)
+        }
+        _ => Ok(false),
+    }
+}
+
+/// Whether a variable occurs in what one of these arguments stands for.
+fn occurs_inside(
+    variable: u32,
+    arguments: Arguments,
+    store: &Store,
+    pending: &mut Vec<Arguments>,
+) -> Result<bool, NoMemory>
+    requires { AreThere (text_in store.now) store.now.now.next arguments }
+    ensures { IfOk result (λ b. b ≡ is_in_any store.now variable arguments) }
+{
+    let mut open = arguments;
     pending.clear();
     loop {
         match look_at_first(variable, open, store) {
@@ -62,10 +78,7 @@ fn look_at(variable: u32, value: BindingCell, store: &Store) -> Searched
                 Searched::Past
             }
         }
-        BindingCell::Compound(at, base) => {
-            let (_name, count) = store.functor(at);
-            Searched::Inside(arguments_of((at, base), count))
-        }
+        BindingCell::Compound(at, base) => Searched::Inside(opened((at, base), store)),
         _ => Searched::Past,
     }
 }
@@ -82,11 +95,20 @@ fn look_at_first(variable: u32, arguments: Arguments, store: &Store) -> Searched
     }
 }
 
+/// The arguments of a compound.
+fn opened(compound: (u32, u32), store: &Store) -> Arguments
+    requires { IsValueIn store.now (BindingCell.Compound compound.0 compound.1) }
+    ensures { (x : ℕ) → AreInside store.now x (compound_meaning store.now compound) result }
+{
+    let (_name, count) = store.functor(compound.0);
+    arguments_of(compound, count)
+}
+
 /// The arguments that are next, once the first of these was looked at.
 fn next_arguments(arguments: Arguments, pending: &mut Vec<Arguments>) -> Option<Arguments>
     requires some { 0 < arguments.count }
     requires short { arguments.at < 2 ^ 32 - 1 }
-    ensures { KeepsRest arguments (reverse pending.old.items) (with_others result (reverse pending.new.items)) }
+    ensures { KeepsRest arguments (reverse pending.old.items) (with_waiting result (reverse pending.new.items)) }
 {
     if arguments.count == 1 {
         return pending.pop();

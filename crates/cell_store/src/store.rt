@@ -35,7 +35,7 @@ pub struct Store {
     /// Variables that were there at the newest mark of their time and were bound since.
     trail: Vec<u32>,
     marks: Vec<Mark>,
-    /// Room for the equations of a unification, and for the arguments that its occurs check looks at.
+    /// Room for the equations that wait in a unification, and for the arguments that wait in its occurs check.
     pending: Vec<Equations>,
     walked: Vec<Arguments>,
     alloc: Global,

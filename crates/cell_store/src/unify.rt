@@ -3,12 +3,12 @@ ghost use Rattle.std.specs.Prelude.{◌≡◌, ◌<◌, ◌-◌, ◌^◌, ◌∷
 ghost use Rattle.std.specs.Cmp.Lexicographic.{pointwise};
 ghost use Rattle.au_term.specs.Term.{VarTerm};
 ghost use Rattle.au_model.specs.Terms.Substitutions.{value_of};
-ghost use Rattle.binding_array.specs.Represented.{IsFalling};
 ghost use Rattle.clause_compile.specs.AtomNumbers.{name_at};
 ghost use Rattle.cell_store.specs.FreshVariables.{IsOlder, StaysOlder, fresh_after, is_fresh};
 ghost use Rattle.cell_store.specs.Values.{IsNoVariable};
 ghost use Rattle.cell_store.specs.StoreView.{IsValueIn, compound_meaning, meaning, substitution, text_in};
-ghost use Rattle.cell_store.specs.UnificationSteps.{IsUnified, OnlyBinds, TakesRule, IsBoundOr, KeepsRestEquations, solved_if, with_waiting};
+ghost use Rattle.cell_store.specs.UnificationSteps.{IsUnified, OnlyBinds, TakesRule, IsBoundOr, KeepsRestEquations, solved_if};
+ghost use Rattle.cell_store.specs.Arguments.{with_waiting};
 ghost use Rattle.cell_store.specs.declared.arguments.Equations.{Equations as ArgumentEquations};
 
 use crate::arguments::{Arguments, Equations, arguments_of, rest_of};
@@ -17,7 +17,7 @@ use crate::store::Store;
 use au_term::NoMemory;
 use binding_array::BindingCell;
 
-/// How two values unify: none unifies them, they are one now, or their arguments are still to be made one.
+/// How two values unify: nothing makes them one, they are one now, or their arguments are still to be made one.
 #[derive(Clone, Copy, Debug)]
 pub(crate) enum Outcome {
     Clash,
@@ -28,7 +28,7 @@ pub(crate) enum Outcome {
 /// Makes two values one by further bindings, or answers that none do. Where the second is the head of a clause and the
 /// first one older than the clause, `fresh` is the clause's first variable: such a variable is bound to what is older
 /// without the search for it there. The lists take the equations that wait behind those that are gone through, and the
-/// arguments that such a search is still to look at.
+/// arguments that wait behind those that such a search looks at.
 pub(crate) fn unify(
     a: BindingCell,
     b: BindingCell,
@@ -124,7 +124,7 @@ fn bind_checked(
     requires there { IsValueIn store.old (BindingCell.Var variable) }
     requires free { value_of (substitution store.old) variable ≡ VarTerm variable }
     requires value { IsValueIn store.old value }
-    requires falling { IsFalling variable value }
+    requires no_variable { IsNoVariable value }
     ensures bound { IfOk result (IsBoundOr variable (meaning store.old value) store.old store.new) }
     ensures kept { OnlyBinds store.old store.new }
 {

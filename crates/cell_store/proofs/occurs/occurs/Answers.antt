@@ -1,24 +1,8 @@
-use Rattle.std.proofs.Common.{reverse}
-use Rattle.cell_store.specs.StoreView.{meaning, text_in}
-use Rattle.cell_store.proofs.WalkLemmas.{first_there, search_goes_past, search_goes_inside}
+use Rattle.cell_store.proofs.WalkLemmas.{constant_apart}
 use Rattle.cell_store.proofs.occurs.occurs.Goals as goal
 
-pub look_at_first-requires : goal.look_at_first-requires
-look_at_first-requires c =
-    let st = c.args.store.now in
-    first_there (text_in st) st.now.next c.loop-pending.open c.loop-pending.invariant.there.0
+pub occurs_inside-requires : goal.occurs_inside-requires
+occurs_inside-requires c = (c.opened.ensures c.args.variable).there
 
-pub loop-pending-smaller-in-Some : goal.loop-pending-smaller-in-Some
-loop-pending-smaller-in-Some c =
-    let st = c.args.store.now in
-    (search_goes_past st c.args.variable (meaning st c.args.value) c.loop-pending.open (reverse c.loop-pending.pending.items) c.loop-pending.invariant _ c.in-Some.ensures c.in-Past-look_at_first.ensures.searched).1
-
-pub loop-pending-smaller : goal.loop-pending-smaller
-loop-pending-smaller c =
-    let st = c.args.store.now in
-    (search_goes_inside st c.args.variable (meaning st c.args.value) c.loop-pending.open (reverse c.loop-pending.pending.items) c.loop-pending.invariant _ c.in_ok-push_rest-in-Inside-look_at_first.ensures c.in-Inside-look_at_first.inner c.in-Inside-look_at_first.ensures.searched).1
-
-pub loop-pending-preserved : goal.loop-pending-preserved
-loop-pending-preserved c =
-    let st = c.args.store.now in
-    (search_goes_inside st c.args.variable (meaning st c.args.value) c.loop-pending.open (reverse c.loop-pending.pending.items) c.loop-pending.invariant _ c.in_ok-push_rest-in-Inside-look_at_first.ensures c.in-Inside-look_at_first.inner c.in-Inside-look_at_first.ensures.searched).0
+pub returns-in_default : goal.returns-in_default
+returns-in_default c = constant_apart c.args.store.now c.args.variable c.args.value c.requires.no_variable c.requires.there c.in_default.not-Compound
