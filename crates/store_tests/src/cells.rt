@@ -4,7 +4,7 @@ ghost use Rattle.au_term.specs.Term.{VarTerm};
 ghost use Rattle.cell_store.specs.StoreView.{IsValueIn};
 
 use crate::common::{expect, values};
-use au_model::build::{compound, unary};
+use au_model::build::{atom, compound, unary};
 use au_term::{Atom, Cell, FlatTerm, NoMemory, VarNo};
 use binding_array::BindingCell;
 use cell_store::Store;
@@ -103,6 +103,48 @@ fn row_unifies(rt: &impl Abort, alloc: Global, a: &[Side; 2], b: &[Side; 2]) -> 
 fn unification(rt: HostRuntime) -> Result<(), Fail> {
     for (a, b, unifies) in ROWS {
         expect(&rt, row_unifies(&rt, rt.alloc(), &a, &b)?, unifies);
+    }
+    Ok(())
+}
+
+/// What `V0` is unified with, whose arguments are `g(a)` or `V0`, and whether they unify.
+const ARGUMENTS: [(bool, bool, bool); 4] = [
+    (true, true, true),
+    (true, false, false),
+    (false, true, false),
+    (false, false, false),
+];
+
+fn argument(alloc: Global, is_ground: bool) -> Result<FlatTerm, NoMemory> {
+    if is_ground {
+        unary(alloc, "g", &atom(alloc, "a")?)
+    } else {
+        variable(alloc, 0)
+    }
+}
+
+fn pair(alloc: Global, first: bool, second: bool) -> Result<FlatTerm, NoMemory> {
+    let first = argument(alloc, first)?;
+    let second = argument(alloc, second)?;
+    compound(alloc, Atom::ascii(alloc, "p")?, &[&first, &second])
+}
+
+fn variable_unifies(
+    rt: &impl Abort,
+    alloc: Global,
+    first: bool,
+    second: bool,
+) -> Result<bool, Fail> {
+    let mut store = store(alloc)?;
+    let left = variable(alloc, 0)?;
+    unify(rt, alloc, &mut store, left, pair(alloc, first, second)?)
+}
+
+#[test]
+fn ground_arguments(rt: HostRuntime) -> Result<(), Fail> {
+    for (first, second, unifies) in ARGUMENTS {
+        let unified = variable_unifies(&rt, rt.alloc(), first, second)?;
+        expect(&rt, unified, unifies);
     }
     Ok(())
 }
