@@ -22,7 +22,12 @@ fn nested(rt: &impl Abort, alloc: Global) -> Result<Nodes, Fail> {
         results: Vec::new(alloc),
         list: Shared::from_term(alloc, number(rt, alloc, 3)?)?,
     };
-    add_body(rt, &mut nodes, Some(place(1, 0)), body(alloc, 0, 2, findall)?)?;
+    add_body(
+        rt,
+        &mut nodes,
+        Some(place(1, 0)),
+        body(alloc, 0, 2, findall)?,
+    )?;
     Ok(nodes)
 }
 
