@@ -58,6 +58,11 @@ fn close(
     Ok((end, beside))
 }
 
+fn below(rt: &impl Abort, nodes: &Nodes, at: AltRef) -> Option<u64> {
+    assert!(rt; nodes.has_alternative(at));
+    nodes.below(at)
+}
+
 /// The findall's list is next when its goal has closed; when that has, the recovery goes and the query's end is next.
 #[test]
 fn from_the_inside(rt: HostRuntime) -> Result<(), Fail> {
@@ -66,8 +71,7 @@ fn from_the_inside(rt: HostRuntime) -> Result<(), Fail> {
     let record = recorded(&rt, alloc, 7)?;
     let rested = close(&rt, alloc, &mut nodes, place(2, 0), record)?;
     assert_eq!(rt; rested, (place(2, 0), Beside::Gathers));
-    assert!(rt; nodes.has_alternative(place(2, 1)));
-    assert_eq!(rt; nodes.below(place(2, 1)), Some(3));
+    assert_eq!(rt; below(&rt, &nodes, place(2, 1)), Some(3));
     let rested = close(&rt, alloc, &mut nodes, place(3, 0), credit(alloc, 0, 1))?;
     assert_eq!(rt; rested, (place(0, 0), Beside::Ends));
     assert!(rt; !nodes.has(1) && !nodes.has(2) && !nodes.has(3));
