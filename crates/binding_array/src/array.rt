@@ -39,6 +39,7 @@ impl BindingArray {
     }
 
     /// How many variables there are cells for.
+    #[inline(always)]
     pub fn len(&self) -> usize
         ensures { result ≡ length self.now }
     {
@@ -46,6 +47,7 @@ impl BindingArray {
     }
 
     /// Makes cells for at least so many variables; new ones are free.
+    #[inline]
     pub fn grow(&mut self, to: usize) -> Result<(), NoMemory>
         ensures long { OnOk result (length self.new ≡ max (length self.old) to) }
         ensures same { (v : ℕ) → variable_cell self.new v ≡ variable_cell self.old v }
@@ -58,6 +60,7 @@ impl BindingArray {
     }
 
     /// Takes away the cells after so many.
+    #[inline]
     pub fn cut_to(&mut self, count: usize)
         ensures { self.new ≡ take count self.old }
     {
@@ -65,6 +68,7 @@ impl BindingArray {
     }
 
     /// What a variable is bound to, if it is bound.
+    #[inline(always)]
     pub fn get(&self, variable: u32) -> Option<BindingCell>
         requires { variable < length self.now }
         ensures { MatchOption result (variable_cell self.now variable ≡ BindingCell.Free) (λ c. (variable_cell self.now variable ≡ c) × IsBoundCell c) }
@@ -76,6 +80,7 @@ impl BindingArray {
     }
 
     /// Binds a variable.
+    #[inline(always)]
     pub fn bind(&mut self, variable: u32, value: BindingCell)
         requires there { variable < length self.old }
         requires free { variable_cell self.old variable ≡ BindingCell.Free }
@@ -86,6 +91,7 @@ impl BindingArray {
     }
 
     /// Frees a variable.
+    #[inline(always)]
     pub fn free(&mut self, variable: u32)
         requires { variable < length self.old }
         ensures { self.new ≡ slice_set self.old variable BindingCell.Free }
@@ -94,6 +100,7 @@ impl BindingArray {
     }
 
     /// What is at the end of the chain of variables that one begins: a free variable, or what is none.
+    #[inline]
     pub fn follow(&self, variable: u32) -> BindingCell
         requires { variable < length self.now }
         ensures end { IsFollowed self.now result }

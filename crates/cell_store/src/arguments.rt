@@ -17,6 +17,7 @@ pub struct Equations {
 }
 
 /// The arguments of the compound at a place.
+#[inline(always)]
 pub fn arguments_of(compound: (u32, u32), count: u32) -> Arguments
     requires { compound.0 < 2 ^ 32 - 1 }
     ensures { result ≡ record { at = compound.0 + 1; base = compound.1; count = count } }
@@ -29,6 +30,7 @@ pub fn arguments_of(compound: (u32, u32), count: u32) -> Arguments
 }
 
 /// Arguments but for the first.
+#[inline(always)]
 pub fn rest_of(arguments: Arguments) -> Arguments
     requires some { 0 < arguments.count }
     requires short { arguments.at < 2 ^ 32 - 1 }

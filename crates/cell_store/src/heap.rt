@@ -43,6 +43,7 @@ impl Heap {
     }
 
     /// How many places were added.
+    #[inline(always)]
     pub(crate) fn made(&self) -> usize
         ensures { result ≡ length self.now.made }
     {
@@ -50,6 +51,7 @@ impl Heap {
     }
 
     /// The place with a number.
+    #[inline(always)]
     pub(crate) fn place(&self, at: usize) -> Place
         requires { at < length (heap_text self.now).places }
         ensures { drop at (heap_text self.now).places ≡ result ∷ drop (at + 1) (heap_text self.now).places }
@@ -171,6 +173,7 @@ impl Heap {
     }
 
     /// Takes away the places that were added after so many.
+    #[inline]
     pub(crate) fn cut_to(&mut self, made: usize)
         ensures { self.new ≡ cut_heap made self.old }
     {

@@ -20,6 +20,7 @@ pub(crate) enum Searched {
 
 /// Whether a variable that is free occurs in what a value stands for. The list takes the arguments that wait behind those
 /// that are looked at.
+#[inline(always)]
 pub(crate) fn occurs(
     variable: u32,
     value: BindingCell,
@@ -66,6 +67,7 @@ fn occurs_inside(
 }
 
 /// Looks for a variable at what a value stands for.
+#[inline(always)]
 fn look_at(variable: u32, value: BindingCell, store: &Store) -> Searched
     requires { IsValueIn store.now value }
     ensures { IsSearched store.now variable (meaning store.now value) result }
@@ -84,6 +86,7 @@ fn look_at(variable: u32, value: BindingCell, store: &Store) -> Searched
 }
 
 /// Looks for a variable at what the first of these arguments stands for. One without variables is passed over.
+#[inline(always)]
 fn look_at_first(variable: u32, arguments: Arguments, store: &Store) -> Searched
     requires { IsArgument (text_in store.now) store.now.now.next arguments.base arguments.at }
     ensures searched { IsSearched store.now variable (argument_meaning store.now arguments.base arguments.at) result }
@@ -96,6 +99,7 @@ fn look_at_first(variable: u32, arguments: Arguments, store: &Store) -> Searched
 }
 
 /// The arguments of a compound.
+#[inline(always)]
 fn opened(compound: (u32, u32), store: &Store) -> Arguments
     requires { IsValueIn store.now (BindingCell.Compound compound.0 compound.1) }
     ensures { (x : ℕ) → AreInside store.now x (compound_meaning store.now compound) result }
@@ -105,6 +109,7 @@ fn opened(compound: (u32, u32), store: &Store) -> Arguments
 }
 
 /// The arguments that are next, once the first of these was looked at.
+#[inline(always)]
 fn next_arguments(arguments: Arguments, pending: &mut Vec<Arguments>) -> Option<Arguments>
     requires some { 0 < arguments.count }
     requires short { arguments.at < 2 ^ 32 - 1 }
@@ -133,6 +138,7 @@ pub fn push_arguments(
 }
 
 /// Puts arguments but for the first on top.
+#[inline(always)]
 pub fn push_rest(arguments: Arguments, pending: &mut Vec<Arguments>) -> Result<(), NoMemory>
     requires some { 0 < arguments.count }
     requires short { arguments.at < 2 ^ 32 - 1 }

@@ -79,6 +79,7 @@ impl Store {
     }
 
     /// The next variable number.
+    #[inline(always)]
     pub fn next(&self) -> u32
         ensures next { result ≡ self.now.now.next }
         ensures sound { IsValidStore self.now }
@@ -87,6 +88,7 @@ impl Store {
     }
 
     /// How many marks there are.
+    #[inline(always)]
     pub fn marks(&self) -> usize
         ensures { result ≡ length self.now.marks }
     {
@@ -94,6 +96,7 @@ impl Store {
     }
 
     /// Takes so many new numbers, and gives the first.
+    #[inline]
     pub fn fresh(&mut self, count: u32) -> Result<u32, NoMemory>
         ensures ok { OnOk result (self.new ≡ with_numbers count self.old) }
         ensures first { IfOk result (λ first. first ≡ self.old.now.next) }
@@ -116,6 +119,7 @@ impl Store {
     }
 
     /// The functor of the compound at a place: its name, by number, and how many arguments follow.
+    #[inline(always)]
     pub fn functor(&self, at: u32) -> (u32, u32)
         requires { IsPlaceOf (text_in self.now) (Place.Sub at) }
         ensures short { at + result.1 < 2 ^ 32 - 1 }
@@ -128,6 +132,7 @@ impl Store {
     }
 
     /// What a place of the text means, with a number added to its variables.
+    #[inline(always)]
     pub fn value(&self, place: Place, base: u32) -> BindingCell
         requires there { IsPlaceOf (text_in self.now) place }
         requires below { var_bound (shifted base (meaning_in (text_in self.now) place)) ≤ self.now.now.next }
@@ -148,6 +153,7 @@ impl Store {
     }
 
     /// The argument at a place, with a number added to its variables.
+    #[inline(always)]
     pub fn argument(&self, at: u32, base: u32) -> BindingCell
         requires { IsArgument (text_in self.now) self.now.now.next base at }
         ensures term { value_term self.now result ≡ argument_at (text_in self.now) base at }
@@ -158,6 +164,7 @@ impl Store {
     }
 
     /// The same, or nothing where its place says that it has no variables.
+    #[inline(always)]
     pub(crate) fn argument_unless_ground(&self, at: u32, base: u32) -> Option<BindingCell>
         requires { IsArgument (text_in self.now) self.now.now.next base at }
         ensures argument { MatchOption result (var_bound (argument_at (text_in self.now) base at) ≡ 0) (IsArgumentValue self.now base at) }
@@ -171,6 +178,7 @@ impl Store {
     }
 
     /// A value that stands for the same and is no bound variable.
+    #[inline(always)]
     pub fn dereference(&self, value: BindingCell) -> BindingCell
         requires { IsValueIn self.now value }
         ensures { IsDereferenced self.now value result }
@@ -182,6 +190,7 @@ impl Store {
     }
 
     /// Binds a free variable.
+    #[inline(always)]
     pub fn bind(&mut self, variable: u32, value: BindingCell) -> Result<(), NoMemory>
         requires { CanBeBound self.old variable value }
         ensures ok { OnOk result (BindsFurther self.old self.new ((variable, meaning self.old value) ∷ [])) }
@@ -208,6 +217,7 @@ impl Store {
     /// The same, of a goal and the head of a clause whose variables are numbered from `base` on and are in nothing that the
     /// goal stands for: one of them is bound without the search for it in its value, until an older variable is bound to a
     /// compound of the head.
+    #[inline]
     pub fn unify_head(
         &mut self,
         goal: BindingCell,
@@ -224,6 +234,7 @@ impl Store {
     }
 
     /// The same, where with a number it is of a head.
+    #[inline]
     fn unify_from(
         &mut self,
         a: BindingCell,
@@ -276,6 +287,7 @@ impl Store {
     }
 
     /// Marks the state of the store, and gives the number of marks before.
+    #[inline]
     pub fn mark(&mut self) -> Result<usize, NoMemory>
         ensures ok { OnOk result (self.new ≡ with_mark self.old) }
         ensures count { IfOk result (λ count. count ≡ length self.old.marks) }
@@ -291,6 +303,7 @@ impl Store {
     }
 
     /// Drops all marks after the oldest ones; what is bound and made stays.
+    #[inline]
     pub fn keep_marks(&mut self, count: usize)
         ensures { self.new ≡ with_marks count self.old }
     {
@@ -298,6 +311,7 @@ impl Store {
     }
 
     /// Takes the store back to a mark, by the number of marks before it. The mark stays, and those after it are dropped.
+    #[inline]
     pub fn undo_to(&mut self, mark: usize)
         requires { mark < length self.old.marks }
         ensures { (before after : List Moment) (moment : Moment) → self.old.marks ≡ before ++ moment ∷ after → mark ≡ length before → self.new ≡ taken_back moment (with_marks (mark + 1) self.old) }
@@ -311,6 +325,7 @@ impl Store {
 }
 
 /// How many variables there were at the newest mark.
+#[inline(always)]
 fn protected(marks: &[Mark]) -> usize
     requires { AreNested marks.now }
     ensures { Each (λ m. m.variables ≤ result) marks.now }
@@ -322,6 +337,7 @@ fn protected(marks: &[Mark]) -> usize
 }
 
 /// Frees the variables of the trail after the first ones, the last first, and takes them from it.
+#[inline]
 fn free_after(kept: usize, trail: &mut Vec<u32>, cells: &mut BindingArray)
     requires { Each (λ v. v < length cells.old) trail.old.items }
     ensures trail { trail.new.items ≡ take kept trail.old.items }

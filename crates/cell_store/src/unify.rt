@@ -68,6 +68,7 @@ pub(crate) fn unify(
 }
 
 /// Goes by the rule for an equation.
+#[inline(always)]
 fn pair_goes(
     left: BindingCell,
     right: BindingCell,
@@ -97,6 +98,7 @@ fn pair_goes(
 }
 
 /// Of two free variables the one with the greater number is bound to the other.
+#[inline(always)]
 fn variables_go(m: u32, n: u32, store: &mut Store) -> Result<Outcome, NoMemory>
     requires left { IsValueIn store.old (BindingCell.Var m) }
     requires right { IsValueIn store.old (BindingCell.Var n) }
@@ -136,6 +138,7 @@ fn bind_checked(
 }
 
 /// Binds a free variable of something older. Where it is bound to a compound, a clause's variables are no longer fresh.
+#[inline(always)]
 fn bind_left(
     variable: u32,
     value: BindingCell,
@@ -157,6 +160,7 @@ fn bind_left(
 }
 
 /// What is fresh after an older variable was bound to a value.
+#[inline(always)]
 fn fresh_after(fresh: Option<u32>, value: BindingCell) -> Option<u32>
     ensures { result ≡ fresh_after fresh value }
 {
@@ -167,6 +171,7 @@ fn fresh_after(fresh: Option<u32>, value: BindingCell) -> Option<u32>
 }
 
 /// Binds a free variable to a value that is older than a clause.
+#[inline(always)]
 fn bind_right(
     variable: u32,
     value: BindingCell,
@@ -191,6 +196,7 @@ fn bind_right(
 }
 
 /// Whether a variable is one of a clause of which this is the first one.
+#[inline(always)]
 fn is_fresh(variable: u32, fresh: Option<u32>) -> bool
     ensures { result ≡ is_fresh variable fresh }
 {
@@ -201,6 +207,7 @@ fn is_fresh(variable: u32, fresh: Option<u32>) -> bool
 }
 
 /// Goes by the rule for two values that are no variables.
+#[inline(always)]
 fn values_go(left: BindingCell, right: BindingCell, store: &Store) -> Outcome
     requires left { IsValueIn store.now left }
     requires right { IsValueIn store.now right }
@@ -219,6 +226,7 @@ fn values_go(left: BindingCell, right: BindingCell, store: &Store) -> Outcome
 }
 
 /// How two constants unify, by whether they are the same.
+#[inline(always)]
 fn solved_if(same: bool) -> Outcome
     ensures { result ≡ solved_if same }
 {
@@ -230,6 +238,7 @@ fn solved_if(same: bool) -> Outcome
 }
 
 /// Whether two numbers are those of the same name.
+#[inline(always)]
 fn are_same(a: u32, b: u32, store: &Store) -> bool
     requires left { a < length (text_in store.now).names }
     requires right { b < length (text_in store.now).names }
@@ -241,6 +250,7 @@ fn are_same(a: u32, b: u32, store: &Store) -> bool
 }
 
 /// Goes by the rule for two compounds: their arguments are to be made one, where their functors are the same.
+#[inline(always)]
 fn compounds_go(left: (u32, u32), right: (u32, u32), store: &Store) -> Outcome
     requires left { IsValueIn store.now (BindingCell.Compound left.0 left.1) }
     requires right { IsValueIn store.now (BindingCell.Compound right.0 right.1) }
@@ -261,6 +271,7 @@ fn compounds_go(left: (u32, u32), right: (u32, u32), store: &Store) -> Outcome
 }
 
 /// Equations but for the first.
+#[inline(always)]
 fn rest(equations: Equations) -> Equations
     requires some { (1 < equations.left.count) × (0 < equations.right.count) }
     requires short { (equations.left.at < 2 ^ 32 - 1) × (equations.right.at < 2 ^ 32 - 1) }
@@ -273,6 +284,7 @@ fn rest(equations: Equations) -> Equations
 }
 
 /// The equations that are next, once the first of these is solved.
+#[inline(always)]
 fn next_equations(equations: Equations, pending: &mut Vec<Equations>) -> Option<Equations>
     requires some { (0 < equations.left.count) × (0 < equations.right.count) }
     requires short { (equations.left.at < 2 ^ 32 - 1) × (equations.right.at < 2 ^ 32 - 1) }
@@ -285,6 +297,7 @@ fn next_equations(equations: Equations, pending: &mut Vec<Equations>) -> Option<
 }
 
 /// Puts equations but for the first on top.
+#[inline(always)]
 fn push_rest(equations: Equations, pending: &mut Vec<Equations>) -> Result<(), NoMemory>
     requires some { (0 < equations.left.count) × (0 < equations.right.count) }
     requires short { (equations.left.at < 2 ^ 32 - 1) × (equations.right.at < 2 ^ 32 - 1) }

@@ -53,6 +53,7 @@ impl Code {
     }
 
     /// How many places there are. Each compound's arguments stand before it.
+    #[inline(always)]
     pub fn len(&self) -> usize
         ensures count { result ≡ length self.now.places }
         ensures sound { AreSound (length self.now.names) self.now.places }
@@ -61,6 +62,7 @@ impl Code {
     }
 
     /// How many names there are. No two are the same.
+    #[inline(always)]
     pub fn names(&self) -> usize
         ensures count { result ≡ length self.now.names }
         ensures distinct { AreDistinct self.now.names }
@@ -69,6 +71,7 @@ impl Code {
     }
 
     /// The place with a number.
+    #[inline(always)]
     pub fn place(&self, at: usize) -> Place
         requires { at < length self.now.places }
         ensures { drop at self.now.places ≡ result ∷ drop (at + 1) self.now.places }

@@ -22,6 +22,7 @@ pub enum Place {
 
 impl Place {
     /// Whether it says that its term has no variables.
+    #[inline(always)]
     pub fn is_ground(&self) -> bool
         ensures { result ≡ is_ground_place self.now }
     {
