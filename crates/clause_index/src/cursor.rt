@@ -14,6 +14,7 @@ pub enum Cursor {
 
 impl Cursor {
     /// Whether no clause is left.
+    #[inline(always)]
     pub fn is_empty(self) -> bool
         ensures { result ≡ is_used_up self }
     {

@@ -30,6 +30,7 @@ pub(crate) struct NamedFirsts {
 
 impl NamedFirsts {
     /// The first clause with a key, where the key is one of the two.
+    #[inline(always)]
     fn with_key(self, key: NumberKey) -> Option<u32>
         ensures { IfSome result (λ number. HasKeyed self (key, number)) }
     {
@@ -124,6 +125,7 @@ impl ClauseIndex {
     }
 
     /// Whether a clause's head has this name and number of arguments.
+    #[inline]
     pub fn is_defined(&self, name: u32, arity: u32) -> bool
         ensures { result ≡ list_any (is_head_of name arity) self.now }
     {
@@ -132,6 +134,7 @@ impl ClauseIndex {
 
     /// The clauses that a goal with this name, number of arguments and first key may match. A goal whose first argument is a
     /// variable, or that has none, has no key.
+    #[inline]
     pub fn candidates(&self, name: u32, arity: u32, key: Option<NumberKey>) -> Cursor
         ensures numbers { numbers_left self.now result ≡ numbers (can_match name arity key) self.now }
         ensures cursor { IsCursorOf self.now result }
@@ -146,6 +149,7 @@ impl ClauseIndex {
     }
 
     /// Takes the least number off those that a cursor has left.
+    #[inline]
     pub fn take(&self, cursor: &mut Cursor) -> Option<u32>
         requires { IsCursorOf self.now cursor.old }
         ensures { MatchOption result ((numbers_left self.now cursor.old ≡ []) × (cursor.new ≡ cursor.old)) (TakesLeast self.now cursor.old cursor.new) }
@@ -188,6 +192,7 @@ impl ClauseIndex {
     }
 
     /// The next clause of a clause's procedure.
+    #[inline(always)]
     fn next_in_procedure(&self, number: u32) -> Option<u32>
         requires { number < length self.now }
         ensures next { chain procedure_class self.now (Some number) ≡ number ∷ chain procedure_class self.now result }
@@ -197,6 +202,7 @@ impl ClauseIndex {
     }
 
     /// The next clause of a clause's class.
+    #[inline(always)]
     fn next_in_class(&self, number: u32) -> Option<u32>
         requires { number < length self.now }
         ensures next { chain key_class self.now (Some number) ≡ number ∷ chain key_class self.now result }
@@ -206,6 +212,7 @@ impl ClauseIndex {
     }
 
     /// The first clause of a procedure.
+    #[inline]
     fn first_of_procedure(&self, name: u32, arity: u32) -> Option<u32>
         ensures { result ≡ first_from 0 (is_of (Class.Procedure name arity)) self.now }
     {
@@ -216,6 +223,7 @@ impl ClauseIndex {
     }
 
     /// The first clause of a procedure whose head has no first key.
+    #[inline]
     fn first_without_key(&self, name: u32, arity: u32) -> Option<u32>
         ensures { result ≡ first_from 0 (is_of (Class.WithoutKey name arity)) self.now }
     {
@@ -226,6 +234,7 @@ impl ClauseIndex {
     }
 
     /// The first clause of a procedure whose head has a key.
+    #[inline]
     fn first_with_key(&self, name: u32, arity: u32, key: NumberKey) -> Option<u32>
         ensures { result ≡ first_from 0 (is_of (Class.WithKey name arity key)) self.now }
     {

@@ -70,6 +70,7 @@ impl GoalKinds {
     }
 
     /// How many names there are.
+    #[inline(always)]
     pub fn names(&self) -> usize
         ensures { result ≡ length self.now }
     {
@@ -77,6 +78,7 @@ impl GoalKinds {
     }
 
     /// What goals with this name, by its number, and number of arguments are.
+    #[inline]
     pub fn kind(&self, name: u32, arity: u32) -> GoalKind
         requires { name < length self.now }
         ensures { IsKindOf (name_at self.now name) arity result }

@@ -17,6 +17,7 @@ pub struct GoalForm {
 }
 
 /// The name and the arguments of a value that can be called; none of a variable or an integer.
+#[inline]
 pub fn form_of(store: &Store, value: BindingCell) -> Option<GoalForm>
     requires { IsValueIn store.now value }
     ensures { MatchOption result (is_callable (meaning store.now value) ≡ false) (IsFormOf store.now value) }
@@ -42,6 +43,7 @@ pub fn form_of(store: &Store, value: BindingCell) -> Option<GoalForm>
 }
 
 /// An argument by its number, counted from 0.
+#[inline(always)]
 pub fn argument(store: &Store, arguments: Arguments, number: u32) -> BindingCell
     requires there { AreArgumentsIn store.now arguments }
     requires some { number < arguments.count }

@@ -12,6 +12,7 @@ use cell_store::Store;
 use clause_index::{Cursor, HeadKey, NumberKey};
 
 /// The clauses that a goal may match, by its name, its number of arguments and the key of the first one.
+#[inline]
 pub(crate) fn candidates(text: &Text, store: &Store, goal: BindingCell) -> Cursor
     requires program { store.now.program ≡ text.now.code }
     requires there { IsValueIn store.now goal }
@@ -25,6 +26,7 @@ pub(crate) fn candidates(text: &Text, store: &Store, goal: BindingCell) -> Curso
 }
 
 /// Takes the first clause off those that are left which may match a goal.
+#[inline]
 pub(crate) fn next_match(
     text: &Text,
     store: &Store,
@@ -45,6 +47,7 @@ pub(crate) fn next_match(
 }
 
 /// The same, where the clause that is the only one left need not be told apart: it is tried.
+#[inline]
 pub(crate) fn first_match(
     text: &Text,
     store: &Store,
@@ -64,6 +67,7 @@ pub(crate) fn first_match(
 }
 
 /// Whether a goal's second, third or fourth argument tells it apart from a clause's head, so that they don't unify.
+#[inline]
 fn are_apart(text: &Text, store: &Store, goal: BindingCell, clause: u32) -> bool
     requires program { store.now.program ≡ text.now.code }
     requires there { IsValueIn store.now goal }
@@ -86,6 +90,7 @@ fn are_apart(text: &Text, store: &Store, goal: BindingCell, clause: u32) -> bool
 }
 
 /// Whether two keys differ.
+#[inline(always)]
 fn tell_apart(a: Option<NumberKey>, b: Option<NumberKey>) -> bool
     ensures { result ≡ numbers_differ a b }
 {

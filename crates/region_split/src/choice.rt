@@ -72,6 +72,7 @@ pub enum Resumed {
 
 impl Alternatives {
     /// The goal, the clause that is to be tried next for it and those that are left, if they are clauses.
+    #[inline(always)]
     pub(crate) fn clauses(&self) -> Option<(BindingCell, u32, Cursor)>
         ensures { MatchOption result (HaveNoClause self.now) (λ c. self.now ≡ Alternatives.Clauses c.0 c.1 c.2) }
     {
@@ -110,6 +111,7 @@ impl Alternatives {
 
 impl ChoicePoint {
     /// Whether it is a findall.
+    #[inline]
     pub(crate) fn is_findall(&self) -> bool
         ensures { IsTrue result ↔ IsCollecting self.now.alternatives }
     {

@@ -10,6 +10,7 @@ use cell_store::Store;
 use clause_index::{HeadKey, NumberKey};
 
 /// The key of what a value stands for; none for a variable.
+#[inline(always)]
 pub fn key_of_value(store: &Store, value: BindingCell) -> Option<NumberKey>
     requires { IsValueIn store.now value }
     ensures there { IsKeyAmong (text_in store.now).names result }
@@ -28,6 +29,7 @@ pub fn key_of_value(store: &Store, value: BindingCell) -> Option<NumberKey>
 }
 
 /// The name, the number of arguments and the first key of a goal.
+#[inline]
 pub fn goal_numbers(store: &Store, goal: BindingCell) -> HeadKey
     requires there { IsValueIn store.now goal }
     requires callable { is_callable (meaning store.now goal) ≡ true }

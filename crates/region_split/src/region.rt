@@ -62,6 +62,7 @@ impl Region {
     }
 
     /// The program's text.
+    #[inline(always)]
     pub fn text(&self) -> &Text
         ensures { result.now ≡ self.entry.now.text }
     {
@@ -69,6 +70,7 @@ impl Region {
     }
 
     /// The store. Its text is the program's.
+    #[inline(always)]
     pub fn store(&self) -> &Store
         ensures store { result.now ≡ self.entry.now.store }
         ensures program { result.now.program ≡ self.entry.now.text.code }
@@ -87,6 +89,7 @@ impl Region {
     }
 
     /// How many choice points there are.
+    #[inline(always)]
     pub fn height(&self) -> usize
         ensures { result ≡ length self.now.choices }
     {
@@ -94,6 +97,7 @@ impl Region {
     }
 
     /// How many choice points a cut in what is called now leaves: all.
+    #[inline(always)]
     pub fn scope(&self) -> Result<u32, NoMemory>
         ensures count { IfOk result (λ cut. cut ≡ length self.now.choices) }
         ensures height { IfOk result (λ cut. (named : List NamedTerm) → height_of_cut (heights_of named self.now) cut ≡ length (entries_of named self.now)) }
@@ -113,6 +117,7 @@ impl Region {
     }
 
     /// What is left at a position, by its first item.
+    #[inline]
     pub fn left_at(&self, position: Position) -> Left
         requires { IsPositionIn self.now position }
         ensures { IsLeftAt self.now position result }
@@ -141,6 +146,7 @@ impl Region {
 
     /// Makes a frame, and gives its number. A frame that no choice point keeps, and that is younger than the one in which the
     /// new frame goes on, is written over.
+    #[inline]
     pub fn push_frame(&mut self, frame: Frame) -> Result<u32, NoMemory>
         requires { frame.after.frame ≤ length self.old.frames }
         ensures ok { IfOk result (AddsFrame self.old self.new frame) }
@@ -161,6 +167,7 @@ impl Region {
     }
 
     /// Puts an item with its scope before what follows at a position, and gives the position at which it is left.
+    #[inline]
     pub fn push_item(
         &mut self,
         item: FrameItem,
@@ -179,6 +186,7 @@ impl Region {
     }
 
     /// Puts a choice point on top, whose alternatives go on at a position.
+    #[inline]
     pub fn push_choice(
         &mut self,
         alternatives: Alternatives,
@@ -203,6 +211,7 @@ impl Region {
     }
 
     /// Cuts down to so many choice points, the oldest. Nothing is undone.
+    #[inline]
     pub fn cut_to(&mut self, count: usize)
         requires { count ≤ length self.old.choices }
         ensures { CutsTo self.old self.new count }
@@ -240,6 +249,7 @@ impl Region {
 
     /// Takes the clause that is next off the newest choice point, and undoes all that was bound and made since that came. Where
     /// no further clause may match, the choice point is dropped.
+    #[inline]
     pub fn next_clause(&mut self) -> Option<Trial>
         ensures { MatchOption result (HasNoClauseOnTop self.old × (self.new ≡ self.old)) (TakesClause self.old self.new) }
     {
@@ -289,6 +299,7 @@ impl Region {
     }
 
     /// Whether a procedure has a clause in the text, by the number of its name in the store.
+    #[inline]
     pub fn is_defined(&self, name: u32, arity: u32) -> bool
         requires { name < length (text_in self.now.store).names }
         ensures { result ≡ is_defined self.now.text.clauses (name_at (text_in self.now.store).names name) arity }
@@ -313,6 +324,7 @@ impl Region {
     }
 
     /// Takes so many new variable numbers, and gives the first.
+    #[inline]
     pub fn fresh(&mut self, count: u32) -> Result<u32, NoMemory>
         ensures ok { OnOk result (self.new ≡ record self.old { store = with_numbers count self.old.store }) }
         ensures first { IfOk result (λ first. first ≡ self.old.store.now.next) }
@@ -348,6 +360,7 @@ impl Region {
 
     /// The same, of a goal and the head of a clause whose variables are numbered from `base` on and are in nothing that the
     /// goal stands for.
+    #[inline]
     pub fn unify_head(
         &mut self,
         goal: BindingCell,
@@ -366,6 +379,7 @@ impl Region {
 }
 
 /// How many frames the newest choice point keeps.
+#[inline(always)]
 fn frames_kept_by(choices: &[ChoicePoint]) -> u32
     ensures { result ≡ frames_kept 0 choices.now }
 {

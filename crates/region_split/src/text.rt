@@ -95,6 +95,7 @@ impl Text {
     }
 
     /// Where a clause is, by its number. Each compound's arguments stand before it.
+    #[inline(always)]
     pub fn placed(&self, number: u32) -> PlacedClause
         requires { number < length self.now.clauses }
         ensures clause { (c : ClauseTerms) → slice_get self.now.clauses number ≡ Some c → IsPlacedClause self.now.code self.now.bodies c result }
@@ -106,6 +107,7 @@ impl Text {
     }
 
     /// Whether a clause's head has this name and number of arguments.
+    #[inline]
     pub(crate) fn has_head(&self, name: u32, arity: u32) -> bool
         ensures any { result ≡ list_any (is_head_of name arity) self.now.heads }
         ensures heads { AreHeadKeys self.now.code.names self.now.clauses self.now.heads }
@@ -114,6 +116,7 @@ impl Text {
     }
 
     /// The clauses that a goal with this name, number of arguments and first key may match.
+    #[inline]
     pub(crate) fn candidates(&self, name: u32, arity: u32, key: Option<NumberKey>) -> Cursor
         ensures numbers { numbers_left self.now.heads result ≡ numbers (can_match name arity key) self.now.heads }
         ensures cursor { IsCursorOf self.now.heads result }
@@ -123,6 +126,7 @@ impl Text {
     }
 
     /// Takes the first clause off those that a cursor has left.
+    #[inline]
     pub(crate) fn take(&self, left: &mut Cursor) -> Option<u32>
         requires { IsCursorOf self.now.heads left.old }
         ensures taken { MatchOption result ((numbers_left self.now.heads left.old ≡ []) × (left.new ≡ left.old)) (TakesLeast self.now.heads left.old left.new) }
@@ -132,6 +136,7 @@ impl Text {
     }
 
     /// The key of an argument of a clause's head, counted from 0; none for a variable, and where there is no such argument.
+    #[inline]
     pub(crate) fn argument_key(&self, clause: u32, i: u32) -> Option<NumberKey>
         requires { clause < length self.now.clauses }
         ensures there { IsKeyAmong self.now.code.names result }
@@ -141,6 +146,7 @@ impl Text {
     }
 
     /// The item at a place of the bodies, if it is there.
+    #[inline(always)]
     pub fn get(&self, at: u32) -> Option<BodyItem>
         ensures { result ≡ slice_get self.now.bodies at }
     {
@@ -205,6 +211,7 @@ fn push_body(goals: &[Place], bodies: &mut Vec<BodyItem>) -> Result<(), NoMemory
 }
 
 /// The key of an argument of the term at a place, counted from 0; none for a variable, and where there is no such argument.
+#[inline]
 fn argument_key(code: &Code, term: Place, i: u32) -> Option<NumberKey>
     requires { IsPlaceOf code.now term }
     ensures there { IsKeyAmong code.now.names result }
@@ -217,6 +224,7 @@ fn argument_key(code: &Code, term: Place, i: u32) -> Option<NumberKey>
 }
 
 /// The key of an argument of the compound at a place.
+#[inline]
 fn argument_key_in(code: &Code, at: usize, i: u32) -> Option<NumberKey>
     requires { IsPlaceOf code.now (Place.Sub at) }
     ensures there { IsKeyAmong code.now.names result }
