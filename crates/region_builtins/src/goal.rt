@@ -146,6 +146,7 @@ fn raise_error(
 }
 
 /// Takes a goal of a built-in predicate.
+#[inline(never)]
 pub fn builtin_goal(
     region: &mut Region,
     alloc: Global,

@@ -137,6 +137,7 @@ fn is_goal(item: FrameItem) -> bool
 }
 
 /// Adds a result to its findall.
+#[inline(never)]
 fn collect(
     region: &mut Region,
     alloc: Global,
@@ -152,6 +153,7 @@ fn collect(
 }
 
 /// A findall has no solution left: its list is unified with the results, by a goal.
+#[inline(never)]
 fn end_findall(
     region: &mut Region,
     alloc: Global,

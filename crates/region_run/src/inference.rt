@@ -75,6 +75,7 @@ fn goal_taken(
 }
 
 /// Calls what a value stands for.
+#[inline(never)]
 fn called(
     region: &mut Region,
     alloc: Global,
