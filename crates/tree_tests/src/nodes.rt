@@ -1,5 +1,6 @@
 //! What no clause gives: that calls succeed, and how nodes look after some of them.
-use crate::slow::{Look, next_random, seen};
+use crate::asks::{expect, has, live};
+use crate::slow::{Look, drawn_node, next_random, seen};
 use crate::trees::{add, close, credit, place};
 use au_term::NoMemory;
 use std::alloc::Global;
@@ -8,22 +9,43 @@ use std::test::Fail;
 use tree_model::AltRef;
 use tree_nodes::Nodes;
 
+fn reserve(nodes: &mut Nodes, closings: u64) -> Result<(), Fail> {
+    Ok(nodes.reserve(closings)?)
+}
+
+fn spare(nodes: &Nodes) -> u64 {
+    nodes.spare()
+}
+
+fn width(nodes: &Nodes, node: u64) -> u32 {
+    nodes.width(node)
+}
+
+fn first(nodes: &Nodes) -> Option<u64> {
+    nodes.first()
+}
+
+fn fold(rt: &impl Abort, alloc: Global, nodes: &mut Nodes) -> Result<(), Fail> {
+    let upper = add(rt, alloc, nodes, None, 1)?;
+    let lower = add(rt, alloc, nodes, Some(place(upper, 0)), 2)?;
+    expect(rt, live(nodes), 2);
+    close(rt, nodes, place(lower, 0), credit(alloc, 0, 2))?;
+    expect(rt, spare(nodes), 0);
+    close(rt, nodes, place(lower, 1), credit(alloc, 0, 3))?;
+    expect(rt, has(nodes, upper), true);
+    expect(rt, has(nodes, lower), false);
+    expect(rt, seen(nodes, place(upper, 0)), Look::Closed(5));
+    expect(rt, width(nodes, upper), 1);
+    expect(rt, first(nodes), Some(upper));
+    Ok(())
+}
+
 #[test]
 fn two_closings_fold(rt: HostRuntime) -> Result<(), Fail> {
     let alloc = rt.alloc();
     let mut nodes = Nodes::new(alloc);
-    nodes.reserve(1)?;
-    let upper = add(&rt, alloc, &mut nodes, None, 1)?;
-    let lower = add(&rt, alloc, &mut nodes, Some(place(upper, 0)), 2)?;
-    assert_eq!(rt; nodes.live(), 2);
-    close(&rt, &mut nodes, place(lower, 0), credit(alloc, 0, 2))?;
-    assert_eq!(rt; nodes.spare(), 0);
-    close(&rt, &mut nodes, place(lower, 1), credit(alloc, 0, 3))?;
-    assert!(rt; nodes.has(upper) && !nodes.has(lower));
-    assert_eq!(rt; seen(&nodes, place(upper, 0)), Look::Closed(5));
-    assert_eq!(rt; nodes.width(upper), 1);
-    assert_eq!(rt; nodes.first(), Some(upper));
-    Ok(())
+    reserve(&mut nodes, 1)?;
+    fold(&rt, alloc, &mut nodes)
 }
 
 /// A node of the slow model: where it is, and its alternatives.
@@ -115,25 +137,31 @@ fn slow_add(
     Ok(())
 }
 
+/// A node looks as that of the slow model does: whether it is there.
+fn compare_node(rt: &impl Abort, nodes: &Nodes, all: &[Slow], node: u64) -> bool {
+    let there = slow_has(all, node);
+    expect(rt, has(nodes, node), there);
+    for alternative in 0..4 {
+        let at = place(node, alternative);
+        let slow = if there {
+            slow_look(all, at)
+        } else {
+            Look::Gone
+        };
+        expect(rt, seen(nodes, at), slow);
+    }
+    there
+}
+
 /// The nodes look as the slow model does.
 fn compare(rt: &impl Abort, nodes: &Nodes, all: &[Slow]) {
-    let mut live = 0u64;
+    let mut there = 0u64;
     for (node, slow) in all.iter().enumerate() {
-        let there = slow_has(all, node as u64);
-        live = live.wrapping_add(u64::from(there));
-        assert_eq!(rt; nodes.has(node as u64), there);
-        for alternative in 0..4 {
-            let at = place(node as u64, alternative);
-            let slow = if there {
-                slow_look(all, at)
-            } else {
-                Look::Gone
-            };
-            assert_eq!(rt; seen(nodes, at), slow);
-        }
+        let more = compare_node(rt, nodes, all, node as u64);
+        there = there.wrapping_add(u64::from(more));
         assert!(rt; slow.looks.len() > 0);
     }
-    assert_eq!(rt; nodes.live(), live);
+    expect(rt, live(nodes), there);
 }
 
 /// One call, chosen by a number: a node is added, or an alternative closes, one with a node below it too.
@@ -162,6 +190,27 @@ fn step(
     Ok(())
 }
 
+fn random_calls_of(
+    rt: &impl Abort,
+    alloc: Global,
+    nodes: &mut Nodes,
+    all: &mut Vec<Slow>,
+    first: u64,
+) -> Result<u64, Fail> {
+    add(rt, alloc, nodes, None, 4)?;
+    slow_add(alloc, all, None, 4)?;
+    let mut random = first;
+    for _i in 0..400 {
+        random = next_random(random);
+        let seed = random >> 33;
+        let node = drawn_node(rt, seed, all.len() as u64);
+        let at = place(node, ((seed / 64) % 4) as u32);
+        step(rt, alloc, nodes, all, at, seed / 1024)?;
+        compare(rt, nodes, all);
+    }
+    Ok(random)
+}
+
 /// Some trees that are added to and close anywhere, compared after each call.
 #[test]
 fn random_calls(rt: HostRuntime) -> Result<(), Fail> {
@@ -171,17 +220,7 @@ fn random_calls(rt: HostRuntime) -> Result<(), Fail> {
     for _round in 0..10 {
         let mut nodes = Nodes::new(alloc);
         let mut all = Vec::new(alloc);
-        add(&rt, alloc, &mut nodes, None, 4)?;
-        slow_add(alloc, &mut all, None, 4)?;
-        for _i in 0..400 {
-            random = next_random(random);
-            let seed = random >> 33;
-            let count = all.len() as u64;
-            assert!(rt; count > 0);
-            let at = place(seed % count, ((seed / 64) % 4) as u32);
-            step(&rt, alloc, &mut nodes, &mut all, at, seed / 1024)?;
-            compare(&rt, &nodes, &all);
-        }
+        random = random_calls_of(&rt, alloc, &mut nodes, &mut all, random)?;
         drawn = drawn.saturating_add(all.len());
     }
     assert!(rt; drawn > 400);

@@ -1,9 +1,11 @@
 //! What no clause gives: that calls succeed, and what they leave of a tree.
+use crate::asks::{expect, has_alternative, is_pending, live, prune_right};
 use crate::random::change;
-use crate::slow::{Look, common, next_random, path, places, seen};
-use crate::trees::{add, close, credit, place};
+use crate::slow::{Look, common, drawn_node, next_random, path, places, seen};
+use crate::trees::{choices, close, credit, place};
 use clause_compile::{Goals, Item, Scope};
-use prune_ops::{catch_at, prune_right};
+use prune_ops::catch_at;
+use std::alloc::Global;
 use std::process::Abort;
 use std::test::Fail;
 use tree_model::AltRef;
@@ -11,22 +13,27 @@ use tree_nodes::Nodes;
 
 /// A node of three alternatives; below the second one of three, and below the second of these one of two, of which the
 /// first is the current one. The last of the second node has closed.
+fn pruned_below(
+    rt: &impl Abort,
+    alloc: Global,
+    scope: u64,
+    left_live: u64,
+    left: u64,
+) -> Result<(), Fail> {
+    let mut nodes = choices(rt, alloc, 3, &[(0, 1, 3), (1, 1, 2), (2, 1, 1)])?;
+    close(rt, &mut nodes, place(1, 2), credit(alloc, 0, 7))?;
+    prune_right(rt, &mut nodes, place(2, 0), scope);
+    expect(rt, live(&nodes), left_live);
+    expect(rt, is_pending(&nodes, place(0, 2)), true);
+    expect(rt, is_pending(&nodes, place(1, 0)), true);
+    expect(rt, seen(&nodes, place(1, 2)), Look::Closed(left));
+    Ok(())
+}
+
 #[test]
 fn what_is_pruned(rt: HostRuntime) -> Result<(), Fail> {
-    let alloc = rt.alloc();
-    for (scope, live, left) in [(0, 3, 0), (1, 3, 7), (2, 4, 7)] {
-        let mut nodes = Nodes::new(alloc);
-        add(&rt, alloc, &mut nodes, None, 3)?;
-        add(&rt, alloc, &mut nodes, Some(place(0, 1)), 3)?;
-        add(&rt, alloc, &mut nodes, Some(place(1, 1)), 2)?;
-        add(&rt, alloc, &mut nodes, Some(place(2, 1)), 1)?;
-        close(&rt, &mut nodes, place(1, 2), credit(alloc, 0, 7))?;
-        let at = place(2, 0);
-        assert!(rt; nodes.has_alternative(at));
-        prune_right(&mut nodes, at, Scope::Node(scope));
-        assert_eq!(rt; nodes.live(), live);
-        assert!(rt; nodes.is_pending(place(0, 2)) && nodes.is_pending(place(1, 0)));
-        assert_eq!(rt; seen(&nodes, place(1, 2)), Look::Closed(left));
+    for (scope, left_live, left) in [(0, 3, 0), (1, 3, 7), (2, 4, 7)] {
+        pruned_below(&rt, rt.alloc(), scope, left_live, left)?;
     }
     Ok(())
 }
@@ -56,6 +63,23 @@ fn pruned(way: &[AltRef], scope: u64, other: &[AltRef], look: Look) -> Look {
     }
 }
 
+/// How each alternative has to look once all to the right of a way was pruned.
+fn wanted(
+    rt: &impl Abort,
+    nodes: &Nodes,
+    way: &[AltRef],
+    scope: u64,
+    all: &[AltRef],
+    drawn: u64,
+) -> Result<Vec<Look>, Fail> {
+    let mut looks = Vec::new(nodes.allocator());
+    for other in all {
+        let other_way = path(rt, nodes, *other, drawn)?;
+        looks.push(pruned(way, scope, &other_way, seen(nodes, *other)))?;
+    }
+    Ok(looks)
+}
+
 /// Prunes, and compares each alternative there was with what has to be left of it.
 fn prune(
     rt: &impl Abort,
@@ -66,51 +90,60 @@ fn prune(
 ) -> Result<(), Fail> {
     let way = path(rt, nodes, at, drawn)?;
     let all = places(nodes, drawn)?;
-    let mut wanted = Vec::new(nodes.allocator());
-    for other in &all {
-        let look = seen(nodes, *other);
-        wanted.push(pruned(&way, scope, &path(rt, nodes, *other, drawn)?, look))?;
-    }
-    assert!(rt; nodes.has_alternative(at));
-    prune_right(nodes, at, Scope::Node(scope));
-    for i in 0..all.len().min(wanted.len()) {
-        assert_eq!(rt; seen(nodes, all[i]), wanted[i]);
+    let wanted = wanted(rt, nodes, &way, scope, &all, drawn)?;
+    prune_right(rt, nodes, at, scope);
+    for (other, look) in all.iter().zip(&wanted) {
+        expect(rt, seen(nodes, *other), *look);
     }
     Ok(())
+}
+
+/// A change anywhere in a tree, or a pruning: how many nodes were added.
+fn step(
+    rt: &impl Abort,
+    nodes: &mut Nodes,
+    seed: u64,
+    prunes: bool,
+    drawn: u64,
+) -> Result<u64, Fail> {
+    let at = place(drawn_node(rt, seed, drawn), ((seed / 64) % 4) as u32);
+    if prunes && has_alternative(nodes, at) {
+        prune(rt, nodes, at, drawn_node(rt, seed / 256, drawn), drawn)?;
+        return Ok(0);
+    }
+    change(rt, nodes.allocator(), nodes, at, seed / 1024)
 }
 
 /// Some trees that change anywhere, and are pruned at times.
 #[test]
 fn random_prunes(rt: HostRuntime) -> Result<(), Fail> {
-    let alloc = rt.alloc();
     let mut random = 11u64;
     for _round in 0..20 {
-        let mut nodes = Nodes::new(alloc);
-        add(&rt, alloc, &mut nodes, None, 4)?;
+        let mut nodes = choices(&rt, rt.alloc(), 4, &[])?;
         let mut drawn = 1u64;
-        for step in 0..200 {
+        for turn in 0..200 {
             random = next_random(random);
-            let seed = random >> 33;
-            assert!(rt; drawn > 0);
-            let at = place(seed % drawn, ((seed / 64) % 4) as u32);
-            if step % 8 == 7 && nodes.has_alternative(at) {
-                prune(&rt, &mut nodes, at, (seed / 256) % drawn, drawn)?;
-            } else {
-                let added = change(&rt, alloc, &mut nodes, at, seed / 1024)?;
-                drawn = drawn.saturating_add(added);
-            }
+            let added = step(&rt, &mut nodes, random >> 33, turn % 8 == 7, drawn)?;
+            drawn = drawn.saturating_add(added);
         }
     }
     Ok(())
 }
 
+fn catch_node(goals: &Goals) -> Option<Scope> {
+    catch_at(goals)
+}
+
+fn with_catch_end(alloc: Global, goals: &Goals, node: u64) -> Result<Goals, Fail> {
+    Ok(goals.push(alloc, Item::CatchEnd(Scope::Node(node)))?)
+}
+
 #[test]
 fn nearest_catch(rt: HostRuntime) -> Result<(), Fail> {
-    let alloc = rt.alloc();
-    let end = Goals::empty().push(alloc, Item::CatchEnd(Scope::Node(4)))?;
-    let goals = end.push(alloc, Item::CatchEnd(Scope::Node(9)))?;
-    assert_eq!(rt; catch_at(&Goals::empty()), None);
-    assert_eq!(rt; catch_at(&end), Some(Scope::Node(4)));
-    assert_eq!(rt; catch_at(&goals), Some(Scope::Node(9)));
+    let end = with_catch_end(rt.alloc(), &Goals::empty(), 4)?;
+    let goals = with_catch_end(rt.alloc(), &end, 9)?;
+    expect(&rt, catch_node(&Goals::empty()), None);
+    expect(&rt, catch_node(&end), Some(Scope::Node(4)));
+    expect(&rt, catch_node(&goals), Some(Scope::Node(9)));
     Ok(())
 }

@@ -1,17 +1,15 @@
 //! Random changes, and the answers against those that go through the whole tree.
-use crate::slow::{next_random, parts_left, path, places};
-use crate::trees::{add, close, credit, place};
-use branch_order::{before, counts, first_open, leftmost, leftmost_ready};
+use crate::asks::{
+    before, below, counts, expect, first_open, has_alternative, is_closed, is_pending, is_ready,
+    leftmost, leftmost_ready, set,
+};
+use crate::slow::{drawn_node, next_random, parts_left, path, places};
+use crate::trees::{add, choices, close, credit, place};
 use std::alloc::Global;
 use std::process::Abort;
 use std::test::Fail;
 use tree_model::AltRef;
 use tree_nodes::{AltState, Nodes};
-
-fn is_ready(rt: &impl Abort, nodes: &Nodes, at: AltRef) -> bool {
-    assert!(rt; nodes.has_alternative(at));
-    matches!(nodes.state(at), AltState::Ready)
-}
 
 /// The entry that no other is before, of all or of those that are ready.
 fn slow_leftmost(
@@ -23,7 +21,7 @@ fn slow_leftmost(
     let mut first: Option<AltRef> = None;
     let mut first_way = Vec::new(nodes.allocator());
     for at in &places(nodes, drawn)? {
-        if nodes.is_pending(*at) && (!ready || is_ready(rt, nodes, *at)) {
+        if is_pending(nodes, *at) && (!ready || is_ready(rt, nodes, *at)) {
             let way = path(rt, nodes, *at, drawn)?;
             if first.is_none() || parts_left(&way, &first_way) {
                 first = Some(*at);
@@ -34,21 +32,34 @@ fn slow_leftmost(
     Ok(first)
 }
 
-/// The sums of what has closed before an alternative, and of what was spent above it.
-fn slow_counts(rt: &impl Abort, nodes: &Nodes, at: AltRef, drawn: u64) -> Result<(u64, u64), Fail> {
-    let way = path(rt, nodes, at, drawn)?;
-    let mut answers = 0u64;
+/// What was spent above an alternative.
+fn slow_spent(rt: &impl Abort, nodes: &Nodes, way: &[AltRef]) -> u64 {
     let mut inferences = 0u64;
-    for here in &way {
+    for here in way {
         assert!(rt; nodes.has_alternative(*here));
         inferences = inferences.wrapping_add(nodes.spent(*here));
     }
+    inferences
+}
+
+/// The answers and the inferences of what has closed.
+fn closed_with(rt: &impl Abort, nodes: &Nodes, at: AltRef) -> Option<(u64, u64)> {
+    assert!(rt; nodes.has_alternative(at));
+    match nodes.state(at) {
+        AltState::Closed(credit) => Some((credit.answers, credit.inferences)),
+        _ => None,
+    }
+}
+
+/// The sums of what has closed before an alternative, and of what was spent above it.
+fn slow_counts(rt: &impl Abort, nodes: &Nodes, at: AltRef, drawn: u64) -> Result<(u64, u64), Fail> {
+    let way = path(rt, nodes, at, drawn)?;
+    let (mut answers, mut inferences) = (0u64, slow_spent(rt, nodes, &way));
     for other in &places(nodes, drawn)? {
-        assert!(rt; nodes.has_alternative(*other));
-        if let AltState::Closed(credit) = nodes.state(*other) {
+        if let Some(more) = closed_with(rt, nodes, *other) {
             if parts_left(&path(rt, nodes, *other, drawn)?, &way) {
-                answers = answers.wrapping_add(credit.answers);
-                inferences = inferences.wrapping_add(credit.inferences);
+                answers = answers.wrapping_add(more.0);
+                inferences = inferences.wrapping_add(more.1);
             }
         }
     }
@@ -70,7 +81,7 @@ fn slow_first_open(
         } else {
             for alternative in 0..here.alternative {
                 let left = place(here.node, alternative);
-                if found.is_none() && !nodes.is_closed(left) {
+                if found.is_none() && !is_closed(nodes, left) {
                     found = Some(left);
                 }
             }
@@ -79,30 +90,32 @@ fn slow_first_open(
     Ok(found)
 }
 
-fn compare(
+fn compare_firsts(rt: &impl Abort, nodes: &Nodes, drawn: u64) -> Result<(), Fail> {
+    let first = slow_leftmost(rt, nodes, false, drawn)?;
+    expect(rt, leftmost(nodes), first);
+    let ready = slow_leftmost(rt, nodes, true, drawn)?;
+    expect(rt, leftmost_ready(nodes), ready);
+    if let Some(first) = first {
+        let wanted = slow_counts(rt, nodes, first, drawn)?;
+        expect(rt, counts(rt, nodes, first), wanted);
+    }
+    Ok(())
+}
+
+fn compare_sides(
     rt: &impl Abort,
     nodes: &Nodes,
     at: AltRef,
     other: AltRef,
     drawn: u64,
 ) -> Result<(), Fail> {
-    let first = slow_leftmost(rt, nodes, false, drawn)?;
-    assert_eq!(rt; leftmost(nodes), first);
-    let ready = slow_leftmost(rt, nodes, true, drawn)?;
-    assert_eq!(rt; leftmost_ready(nodes), ready);
-    if let Some(first) = first {
-        assert!(rt; nodes.has_alternative(first));
-        assert_eq!(rt; counts(nodes, first), slow_counts(rt, nodes, first, drawn)?);
+    for scope in [None, Some(other.node)] {
+        let left = slow_first_open(rt, nodes, at, scope, drawn)?;
+        expect(rt, first_open(rt, nodes, at, scope), left);
     }
-    if nodes.has_alternative(at) && nodes.has_alternative(other) {
-        for scope in [None, Some(other.node)] {
-            let left = slow_first_open(rt, nodes, at, scope, drawn)?;
-            assert_eq!(rt; first_open(nodes, at, scope), left);
-        }
-        let way = path(rt, nodes, at, drawn)?;
-        let other_way = path(rt, nodes, other, drawn)?;
-        assert_eq!(rt; before(nodes, at, other), parts_left(&way, &other_way));
-    }
+    let way = path(rt, nodes, at, drawn)?;
+    let left = parts_left(&way, &path(rt, nodes, other, drawn)?);
+    expect(rt, before(rt, nodes, at, other), left);
     Ok(())
 }
 
@@ -115,57 +128,60 @@ pub(crate) fn change(
     at: AltRef,
     choice: u64,
 ) -> Result<u64, Fail> {
-    if !nodes.has_alternative(at) {
+    if !has_alternative(nodes, at) {
         return Ok(0);
     }
     let spent = choice % 3;
     let closing = credit(alloc, choice % 2, choice % 5);
-    let below = nodes.below(at);
-    if nodes.is_pending(at) {
-        if choice % 4 < 2 {
-            let branches = (choice % 5) as usize;
-            add(rt, alloc, nodes, Some(at), branches.clamp(1, 4))?;
-            return Ok(1);
+    if is_pending(nodes, at) {
+        match choice % 4 {
+            0 | 1 => {
+                let branches = (choice % 5) as usize;
+                add(rt, alloc, nodes, Some(at), branches.clamp(1, 4))?;
+                return Ok(1);
+            }
+            2 => set(rt, nodes, at, AltState::Taken(1), spent),
+            _ => close(rt, nodes, at, closing)?,
         }
-        if choice % 4 == 2 {
-            nodes.set(at, AltState::Taken(1), spent);
-        } else {
-            close(rt, nodes, at, closing)?;
-        }
-    } else if let Some(node) = below {
+    } else if let Some(node) = below(rt, nodes, at) {
         if choice % 16 == 0 && at.node > 2 {
             close(rt, nodes, at, closing)?;
         } else if choice % 16 < 4 {
-            nodes.set(at, AltState::Inner(node), spent);
+            set(rt, nodes, at, AltState::Inner(node), spent);
         }
     } else if choice % 8 == 0 {
-        nodes.set(at, AltState::Closed(closing), spent);
+        set(rt, nodes, at, AltState::Closed(closing), spent);
     }
     Ok(0)
+}
+
+/// A change, and the answers after it: how many nodes were added.
+fn step(rt: &impl Abort, nodes: &mut Nodes, seed: u64, drawn: u64) -> Result<u64, Fail> {
+    let at = place(drawn_node(rt, seed, drawn), ((seed / 64) % 4) as u32);
+    let other = place(drawn_node(rt, seed / 256, drawn), ((seed / 16) % 4) as u32);
+    let added = change(rt, nodes.allocator(), nodes, at, seed / 1024)?;
+    let drawn = drawn.saturating_add(added);
+    compare_firsts(rt, nodes, drawn)?;
+    if has_alternative(nodes, at) && has_alternative(nodes, other) {
+        compare_sides(rt, nodes, at, other, drawn)?;
+    }
+    Ok(added)
 }
 
 /// Some trees that change anywhere, with the answers after each change.
 #[test]
 fn random_changes(rt: HostRuntime) -> Result<(), Fail> {
-    let alloc = rt.alloc();
-    let mut random = 7u64;
-    let mut added = 0u64;
+    let (mut random, mut all_added) = (7u64, 0u64);
     for _round in 0..10 {
-        let mut nodes = Nodes::new(alloc);
-        add(&rt, alloc, &mut nodes, None, 4)?;
+        let mut nodes = choices(&rt, rt.alloc(), 4, &[])?;
         let mut drawn = 1u64;
         for _i in 0..400 {
             random = next_random(random);
-            let seed = random >> 33;
-            assert!(rt; drawn > 0);
-            let at = place(seed % drawn, ((seed / 64) % 4) as u32);
-            let other = place((seed / 256) % drawn, ((seed / 16) % 4) as u32);
-            let more = change(&rt, alloc, &mut nodes, at, seed / 1024)?;
-            drawn = drawn.saturating_add(more);
-            added = added.saturating_add(more);
-            compare(&rt, &nodes, at, other, drawn)?;
+            let added = step(&rt, &mut nodes, random >> 33, drawn)?;
+            drawn = drawn.saturating_add(added);
+            all_added = all_added.saturating_add(added);
         }
     }
-    assert!(rt; added > 300);
+    assert!(rt; all_added > 300);
     Ok(())
 }

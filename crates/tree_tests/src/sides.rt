@@ -1,33 +1,48 @@
 //! What no clause gives: that calls succeed, and what they say of one tree.
-use crate::trees::{add, close, credit, place};
-use branch_order::{
-    before, cleared, clock, counts, first_open, leftmost, leftmost_cleared, leftmost_ready,
+use crate::asks::{
+    before, clock, counts, expect, first_open, is_pending, leftmost, leftmost_cleared,
+    leftmost_ready, set,
 };
+use crate::trees::{choices, close, credit, place};
+use branch_order::cleared;
 use clause_compile::{GateKind, Scope};
 use std::alloc::Global;
 use std::process::Abort;
 use std::test::Fail;
+use tree_model::AltRef;
 use tree_nodes::{AltState, Nodes};
 
 /// A node of three alternatives; below the second one of two, and below the second of these one of two. The first of the
 /// first node has closed with 2 inferences and an answer, 3 were spent on its second.
 fn tree(rt: &impl Abort, alloc: Global) -> Result<Nodes, Fail> {
-    let mut nodes = Nodes::new(alloc);
-    add(rt, alloc, &mut nodes, None, 3)?;
-    add(rt, alloc, &mut nodes, Some(place(0, 1)), 2)?;
-    add(rt, alloc, &mut nodes, Some(place(1, 1)), 2)?;
+    let mut nodes = choices(rt, alloc, 3, &[(0, 1, 2), (1, 1, 2)])?;
     close(rt, &mut nodes, place(0, 0), credit(alloc, 1, 2))?;
-    let at = place(0, 1);
-    assert!(rt; nodes.has_alternative(at));
-    assert_eq!(rt; nodes.below(at), Some(1));
-    nodes.set(at, AltState::Inner(1), 3);
+    set(rt, &mut nodes, place(0, 1), AltState::Inner(1), 3);
     Ok(nodes)
 }
 
+fn cleared_left(rt: &impl Abort, nodes: &Nodes, at: AltRef, scope: u64) -> Option<AltRef> {
+    assert!(rt; nodes.has_alternative(at));
+    cleared(nodes, at, Scope::Node(scope)).err()
+}
+
+fn expect_left(
+    rt: &impl Abort,
+    nodes: &Nodes,
+    at: AltRef,
+    scope: Option<u64>,
+    left: Option<AltRef>,
+) {
+    expect(rt, first_open(rt, nodes, at, scope), left);
+    if let Some(scope) = scope {
+        expect(rt, cleared_left(rt, nodes, at, scope), left);
+    }
+}
+
 #[test]
-fn what_is_left(rt: HostRuntime) -> Result<(), Fail> {
+fn what_is_open_to_the_left(rt: HostRuntime) -> Result<(), Fail> {
     let nodes = tree(&rt, rt.alloc())?;
-    assert_eq!(rt; leftmost(&nodes), Some(place(1, 0)));
+    expect(&rt, leftmost(&nodes), Some(place(1, 0)));
     let none = None;
     for (node, alternative, scope, left) in [
         (1, 0, None, none),
@@ -39,13 +54,14 @@ fn what_is_left(rt: HostRuntime) -> Result<(), Fail> {
         (2, 1, Some(2), none),
         (0, 2, None, Some(place(0, 1))),
     ] {
-        let at = place(node, alternative);
-        assert!(rt; nodes.has_alternative(at));
-        assert_eq!(rt; first_open(&nodes, at, scope), left);
-        if let Some(scope) = scope {
-            assert_eq!(rt; cleared(&nodes, at, Scope::Node(scope)).err(), left);
-        }
+        expect_left(&rt, &nodes, place(node, alternative), scope, left);
     }
+    Ok(())
+}
+
+#[test]
+fn what_is_left(rt: HostRuntime) -> Result<(), Fail> {
+    let nodes = tree(&rt, rt.alloc())?;
     for (a, b, left) in [
         ((1, 0), (1, 1), true),
         ((1, 1), (1, 0), false),
@@ -56,14 +72,16 @@ fn what_is_left(rt: HostRuntime) -> Result<(), Fail> {
         ((2, 1), (2, 1), false),
     ] {
         let (one, other) = (place(a.0, a.1), place(b.0, b.1));
-        assert!(rt; nodes.has_alternative(one) && nodes.has_alternative(other));
-        assert_eq!(rt; before(&nodes, one, other), left);
+        expect(&rt, before(&rt, &nodes, one, other), left);
     }
-    let at = place(1, 0);
-    assert!(rt; nodes.has_alternative(at));
-    assert_eq!(rt; clock(&nodes, at), 5);
-    assert_eq!(rt; counts(&nodes, at), (1, 5));
+    expect(&rt, clock(&rt, &nodes, place(1, 0)), 5);
+    expect(&rt, counts(&rt, &nodes, place(1, 0)), (1, 5));
     Ok(())
+}
+
+fn hold(rt: &impl Abort, nodes: &mut Nodes, at: AltRef, state: AltState) {
+    expect(rt, is_pending(nodes, at), true);
+    set(rt, nodes, at, state, 0);
 }
 
 /// Of the ready ones the first is to the right of one that is with a worker; of those that wait, the first for a cut has
@@ -71,17 +89,14 @@ fn what_is_left(rt: HostRuntime) -> Result<(), Fail> {
 #[test]
 fn what_can_be_taken(rt: HostRuntime) -> Result<(), Fail> {
     let mut nodes = tree(&rt, rt.alloc())?;
-    assert_eq!(rt; leftmost_ready(&nodes), Some(place(1, 0)));
-    assert_eq!(rt; leftmost_cleared(&nodes), None);
-    let taken = place(1, 0);
-    assert!(rt; nodes.is_pending(taken));
-    nodes.set(taken, AltState::Taken(3), 0);
+    expect(&rt, leftmost_ready(&nodes), Some(place(1, 0)));
+    expect(&rt, leftmost_cleared(&nodes), None);
+    hold(&rt, &mut nodes, place(1, 0), AltState::Taken(3));
     for (alternative, scope) in [(0, 0), (1, 2)] {
-        let at = place(2, alternative);
-        assert!(rt; nodes.is_pending(at));
-        nodes.set(at, AltState::Waiting(GateKind::Cut(Scope::Node(scope))), 0);
+        let state = AltState::Waiting(GateKind::Cut(Scope::Node(scope)));
+        hold(&rt, &mut nodes, place(2, alternative), state);
     }
-    assert_eq!(rt; leftmost_ready(&nodes), Some(place(0, 2)));
-    assert_eq!(rt; leftmost_cleared(&nodes), Some(place(2, 1)));
+    expect(&rt, leftmost_ready(&nodes), Some(place(0, 2)));
+    expect(&rt, leftmost_cleared(&nodes), Some(place(2, 1)));
     Ok(())
 }

@@ -78,3 +78,9 @@ pub(crate) fn next_random(random: u64) -> u64 {
         .wrapping_mul(6364136223846793005)
         .wrapping_add(1442695040888963407)
 }
+
+/// One of so many numbers that were drawn.
+pub(crate) fn drawn_node(rt: &impl Abort, seed: u64, drawn: u64) -> u64 {
+    assert!(rt; drawn > 0);
+    seed % drawn
+}

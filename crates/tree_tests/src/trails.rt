@@ -1,5 +1,5 @@
 //! What no clause gives: that calls succeed, and what they say of small trees.
-use crate::slow::{Look, common, next_random, path, seen};
+use crate::slow::{Look, common, drawn_node, next_random, path, seen};
 use crate::trees::{add_body, body, place};
 use node_trail::{Legs, path_between};
 use std::alloc::Global;
@@ -50,14 +50,18 @@ fn way(
     Ok(())
 }
 
+fn chain(rt: &impl Abort, alloc: Global) -> Result<Nodes, Fail> {
+    let mut nodes = Nodes::new(alloc);
+    add(rt, alloc, &mut nodes, None, 0)?;
+    add(rt, alloc, &mut nodes, Some(place(0, 1)), 1)?;
+    add(rt, alloc, &mut nodes, Some(place(1, 1)), 2)?;
+    Ok(nodes)
+}
+
 /// Siblings have one segment up and one down between them.
 #[test]
 fn ways(rt: HostRuntime) -> Result<(), Fail> {
-    let alloc = rt.alloc();
-    let mut nodes = Nodes::new(alloc);
-    add(&rt, alloc, &mut nodes, None, 0)?;
-    add(&rt, alloc, &mut nodes, Some(place(0, 1)), 1)?;
-    add(&rt, alloc, &mut nodes, Some(place(1, 1)), 2)?;
+    let nodes = chain(&rt, rt.alloc())?;
     let none: &[u64] = &[];
     for (from, to, leave, enter) in [
         ((1, 0), (1, 0), none, none),
@@ -104,25 +108,39 @@ fn slow_way(
     way(rt, nodes, from, to, &leave, &enter)
 }
 
+/// A way between two alternatives, of which the first may get a node below it before: how many nodes were added.
+fn step(
+    rt: &impl Abort,
+    nodes: &mut Nodes,
+    seed: u64,
+    grows: bool,
+    drawn: u64,
+) -> Result<u64, Fail> {
+    let from = place(drawn_node(rt, seed, drawn), ((seed / 64) % 3) as u32);
+    let to = place(
+        drawn_node(rt, seed / 256, drawn),
+        ((seed / 1024) % 3) as u32,
+    );
+    let grows = grows && seen(nodes, from) == Look::Entry;
+    if grows {
+        add(rt, nodes.allocator(), nodes, Some(from), drawn)?;
+    }
+    let added = u64::from(grows);
+    slow_way(rt, nodes, from, to, drawn.saturating_add(added))?;
+    Ok(added)
+}
+
 /// Ways between any two alternatives of a tree that grows.
 #[test]
 fn random_ways(rt: HostRuntime) -> Result<(), Fail> {
-    let alloc = rt.alloc();
-    let mut nodes = Nodes::new(alloc);
-    add(&rt, alloc, &mut nodes, None, 0)?;
+    let mut nodes = Nodes::new(rt.alloc());
+    add(&rt, rt.alloc(), &mut nodes, None, 0)?;
     let mut drawn = 1u64;
     let mut random = 3u64;
-    for step in 0..3000 {
+    for turn in 0..3000 {
         random = next_random(random);
-        let seed = random >> 33;
-        assert!(rt; drawn > 0);
-        let from = place(seed % drawn, ((seed / 64) % 3) as u32);
-        let to = place((seed / 256) % drawn, ((seed / 1024) % 3) as u32);
-        if step % 50 == 0 && seen(&nodes, from) == Look::Entry {
-            add(&rt, alloc, &mut nodes, Some(from), drawn)?;
-            drawn = drawn.saturating_add(1);
-        }
-        slow_way(&rt, &nodes, from, to, drawn)?;
+        let added = step(&rt, &mut nodes, random >> 33, turn % 50 == 0, drawn)?;
+        drawn = drawn.saturating_add(added);
     }
     assert!(rt; drawn > 20);
     Ok(())

@@ -1,5 +1,5 @@
 //! Trees for tests.
-use au_term::{Bindings, Cell, FlatTerm, NoMemory, Segment, TermBuilder};
+use au_term::{Bindings, Cell, FlatTerm, NoMemory, Segment, Shared, TermBuilder};
 use clause_compile::{Branch, Goals};
 use std::alloc::Global;
 use std::process::Abort;
@@ -74,6 +74,22 @@ pub(crate) fn add(
     )
 }
 
+/// A first node, and choices below alternatives of what is there: each by its node and place, with how many branches.
+pub(crate) fn choices(
+    rt: &impl Abort,
+    alloc: Global,
+    first: usize,
+    others: &[(u64, u32, usize)],
+) -> Result<Nodes, Fail> {
+    let mut nodes = Nodes::new(alloc);
+    add(rt, alloc, &mut nodes, None, first)?;
+    for (node, alternative, branches) in others {
+        let at = place(*node, *alternative);
+        add(rt, alloc, &mut nodes, Some(at), *branches)?;
+    }
+    Ok(nodes)
+}
+
 pub(crate) fn close(
     rt: &impl Abort,
     nodes: &mut Nodes,
@@ -99,6 +115,19 @@ pub(crate) fn number(rt: &impl Abort, alloc: Global, value: i64) -> Result<FlatT
     builder.push(Cell::Int(value))?;
     assert_eq!(rt; builder.missing(), 0);
     Ok(builder.finish())
+}
+
+/// A number that terms share.
+pub(crate) fn shared(rt: &impl Abort, alloc: Global, value: i64) -> Result<Shared, Fail> {
+    Ok(Shared::from_term(alloc, number(rt, alloc, value)?)?)
+}
+
+/// A findall whose list is a number.
+pub(crate) fn findall(rt: &impl Abort, alloc: Global, list: i64) -> Result<NodeKind, Fail> {
+    Ok(NodeKind::Findall {
+        results: Vec::new(alloc),
+        list: shared(rt, alloc, list)?,
+    })
 }
 
 /// What an alternative has left that has collected a number.
