@@ -111,7 +111,7 @@ pub record HoldsBy (old new : PublicView) (a : Place) (hold : Hold) : Type 0 whe
   pub stopped : new.log.stopped ≡ old.log.stopped
 
 -- a place is in a node
-rooted_round : (v : Level) (up : List Level) (status : Status) → IsRooted (plug (v ∷ up) status)
+pub rooted_round : (v : Level) (up : List Level) (status : Status) → IsRooted (plug (v ∷ up) status)
 rooted_round v [] status = tt
 rooted_round v (u ∷ up) status = rooted_round u up (Inner (level_node v status))
 
@@ -168,7 +168,7 @@ handed event offer w old new a allows after opens going offers holds events =
         stands_held old new a (TakenBy w) (event a) read t s holds h (opens t s e) (cc f) is (legal read t h)
 
 -- what is out to a worker is given back to wait
-taken_place : (w : ℕ) (a : Place) (t : TreeState) (s : Spot) → taken_at w a t ≡ Some s → place_of_spot s ≡ a
+pub taken_place : (w : ℕ) (a : Place) (t : TreeState) (s : Spot) → taken_at w a t ≡ Some s → place_of_spot s ≡ a
 taken_place w a t s e =
     let f = found (IsIn t.root) (λ r. is_taken_by w r.hold && same_place a (place_of_spot r)) (pending_of t.root) s (all_in t.root) e in
     sym (same_place-is a (place_of_spot s) (both (is_taken_by w s.hold) (same_place a (place_of_spot s)) f.passes).1)

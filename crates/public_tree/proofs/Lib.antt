@@ -4,3 +4,5 @@ pub mod LostLemmas
 pub mod CountLemmas
 pub mod FollowingLemmas
 pub mod OpeningLemmas
+mod GrownLemmas
+mod PublicClosingLemmas

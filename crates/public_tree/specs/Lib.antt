@@ -3,3 +3,4 @@ pub mod PublicTrees
 pub mod LostTasks
 pub mod Following
 pub mod Opening
+pub mod PublicClosing

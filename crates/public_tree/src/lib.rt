@@ -1,11 +1,12 @@
 //! The public part of the tree that workers share: its nodes, who has what of it, and the events so far. Contracts speak of
 //! each tree of the definition for which it stands.
 //!
-//! `claim` and `resume` cost what `leftmost_ready` and `leftmost_cleared` of `branch_order` cost, and the rest does not
-//! depend on the size of the tree. A task that goes out has room in the log for the event by which it comes back, and a stop
+//! `claim` and `resume` cost what `leftmost_ready` and `leftmost_cleared` of `branch_order` cost, `rest_of` what folds, and
+//! `close` what it drops; the rest does not depend on the size of the tree. A task that goes out has room in the log for the event by which it comes back, and a stop
 //! has room at any time: neither takes memory.
 #![tactic(auto)]
 
+mod closing;
 mod event_log;
 mod hand_out;
 pub mod laws;
@@ -13,4 +14,5 @@ mod lost;
 mod open;
 mod public;
 
+pub use closing::TaskEnd;
 pub use public::PublicTree;

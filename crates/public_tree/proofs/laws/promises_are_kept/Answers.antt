@@ -1,4 +1,4 @@
-use Rattle.std.proofs.Common.{◌≡◌, Bool, true, false, Option, Some, None, refl}
+use Rattle.std.proofs.Common.{◌≡◌, true, Option, Some, None, refl}
 use Rattle.std.specs.Prelude.{not, is_none}
 use Rattle.au_term.proofs.LogicLemmas.{both, not-true}
 use Rattle.run_model.specs.declared.ending.RunEnding.{RunEnding}

@@ -1,0 +1,86 @@
+-- An alternative that is out closes, once its private run has come to an end.
+use Rattle.std.specs.Prelude.{◌≡◌, ◌⊎◌, ℕ, Bool, true, false, List, [], ◌∷◌, length, Option, Some, None}
+use Rattle.au_term.specs.Term.{Term}
+use Rattle.run_model.specs.Machine.Entries.{Entry}
+use Rattle.tree_model.specs.Closing.{Grown, closes}
+use Rattle.tree_model.specs.Credits.{Credit, credit_of, credit_with}
+use Rattle.tree_model.specs.Effects.{results_of}
+use Rattle.tree_model.specs.Events.{Event, Empty, Collected}
+use Rattle.tree_model.specs.Legality.{taken_at, run_of, run_is_empty, run_gives_result}
+use Rattle.tree_model.specs.Levels.{Level, plug, Place, place_at, Spot}
+use Rattle.tree_model.specs.Nodes.{Status}
+use Rattle.tree_model.specs.SoundTrees.{IsSound}
+use Rattle.tree_model.specs.TreeStates.{TreeState}
+use Rattle.tree_nodes.specs.Bodies.{Body, Reading}
+use Rattle.tree_nodes.specs.Rows.{Rows}
+use Rattle.tree_nodes.specs.TreeTables.{NodesView, IsTableOf}
+use Rattle.tree_closing.specs.Closings.{ComesToRest, IsSingle, ReadsWoken, is_waking}
+use Rattle.tree_closing.specs.declared.way_up.Beside.{Beside}
+use Rattle.public_tree.specs.PublicTrees.{PublicView, IsPublicOf, Notes, IsSameTree, IsRooted, is_going}
+use Rattle.public_tree.specs.declared.closing.TaskEnd.{TaskEnd}
+use Rattle.public_tree.specs.declared.closing.TaskEnd.TheVariants.{Nothing, Result}
+
+-- so many inferences, with a record or none
+abbrev pub record_credit : ℕ → Option Term → Credit
+record_credit k None = credit_of k
+record_credit k (Some t) = credit_with k t
+
+abbrev pub closing_event : TaskEnd → ℕ → Place → ℕ → Event
+closing_event Nothing w a k = Empty w a k
+closing_event Result w a k = Collected w a k
+
+-- whether own entries are an end
+abbrev pub is_end : TaskEnd → Option (List Entry) → Bool
+is_end Nothing run = run_is_empty run
+is_end Result run = run_gives_result run
+
+-- with which credit they close
+abbrev pub end_credit : TaskEnd → ℕ → Option (List Entry) → Credit
+end_credit Nothing k run = credit_of k
+end_credit Result k run = record { inferences = k; answers = 0; records = results_of run }
+
+-- of each tree for which it stands, the private run of what is out has come to an end after so many inferences
+abbrev pub EndsItsRun : PublicView → ℕ → Place → ℕ → TaskEnd → Type 0
+EndsItsRun p w a k e = (read : Reading) (t : TreeState) (s : Spot) → IsPublicOf p read t → taken_at w a t ≡ Some s → is_end e (run_of t s k) ≡ true
+
+-- and what closes with its credit comes to rest there
+abbrev pub RestsByRun : PublicView → ℕ → Place → ℕ → TaskEnd → Place → Credit → Beside → Type 0
+RestsByRun p w a k e b total beside =
+    (read : Reading) (t : TreeState) (s : Spot) → IsPublicOf p read t → taken_at w a t ≡ Some s
+    → ComesToRest p.nodes a (end_credit e k (run_of t s k)) b total beside
+
+-- a body of one branch is given where something wakes
+abbrev pub HasSingle : Bool → Option Body → Type 0
+HasSingle false body = Unit {0}
+HasSingle true None = ⊥
+HasSingle true (Some body) = IsSingle body
+
+abbrev pub IsBodyGiven : Beside → Option Body → Type 0
+IsBodyGiven beside body = HasSingle (is_waking beside) body
+
+-- it reads as what wakes
+abbrev pub ReadsAs : Reading → Rows → Place → List Term → Bool → Option Body → Type 0
+ReadsAs read rows b records false body = Unit {0}
+ReadsAs read rows b records true None = ⊥
+ReadsAs read rows b records true (Some body) = ReadsWoken read rows b records body
+
+abbrev pub IsGiven : PublicView → Place → Credit → Beside → Option Body → Type 0
+IsGiven p b total beside body =
+    (read : Reading) (t : TreeState) → IsPublicOf p read t → ReadsAs read p.nodes.rows b total.records (is_waking beside) body
+
+-- the nodes stand for a tree, and draw its next number next
+pub record IsGrownTo (nodes : NodesView) (read : Reading) (g : Grown) : Type 0 where
+  pub placed : IsTableOf nodes read g.root
+  pub next : length nodes.rows ≡ g.next
+  pub rooted : IsRooted g.root
+
+-- what began to close, and rests there, has closed
+abbrev pub RestsIn : NodesView → NodesView → Place → Credit → Beside → Option Body → Type 0
+RestsIn old new b total beside body =
+    (a : Place) (c : Credit) (read : Reading) (v : Level) (up : List Level) (was : Status) → ComesToRest old a c b total beside → place_at v ≡ a
+    → IsTableOf old read (plug (v ∷ up) was) → IsSound [] (plug (v ∷ up) was) → ReadsAs read old.rows b total.records (is_waking beside) body
+    → IsGrownTo new read (closes (length old.rows) (v ∷ up) c)
+
+-- it closes, or the tree had ended or been stopped
+abbrev pub Closes : PublicView → PublicView → Event → Type 0
+Closes old new e = Notes old new e ⊎ (IsSameTree old new × ((read : Reading) (t : TreeState) → IsPublicOf old read t → is_going t ≡ false))
