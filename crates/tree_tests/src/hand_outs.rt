@@ -1,11 +1,12 @@
 //! What is handed out of a small tree.
 use crate::asks::expect;
-use crate::trees::{body, choices, close, credit, place};
+use crate::trees::{body, choices, close, credit, number, place};
 use public_tree::PublicTree;
 use run_model::RunEnding;
 use std::alloc::Global;
 use std::process::Abort;
 use std::test::Fail;
+use tree_closing::{Beside, Closing};
 use tree_model::AltRef;
 use tree_nodes::NodeKind;
 
@@ -102,5 +103,30 @@ fn opens(rt: HostRuntime) -> Result<(), Fail> {
     let empty = PublicTree::open(rt.alloc(), None, 1, 5)?;
     expect(&rt, ended(&empty), Some(RunEnding::Finished));
     expect(&rt, counts(&opened(&rt, rt.alloc())?), (0, 0));
+    Ok(())
+}
+
+/// Where what is out to a worker comes to rest after three inferences, with a record.
+fn rest(rt: &impl Abort, alloc: Global, tree: &PublicTree, at: AltRef) -> Result<Closing, Fail> {
+    let record = number(rt, alloc, 7)?;
+    assert!(rt; tree.is_out(1, at));
+    Ok(tree.rest_of(at, 3, Some(record))?)
+}
+
+fn records(alloc: Global, closing: &Closing) -> Result<usize, Fail> {
+    Ok(closing.credit.records.copied(alloc)?.len())
+}
+
+/// It is where it was, with its inferences and its record.
+#[test]
+fn rests(rt: HostRuntime) -> Result<(), Fail> {
+    let alloc = rt.alloc();
+    let nodes = choices(&rt, alloc, 2, &[])?;
+    let mut tree = PublicTree::new(alloc, nodes, 9, 5)?;
+    expect(&rt, claim(&mut tree, 1)?, Some(place(0, 0)));
+    let closing = rest(&rt, alloc, &tree, place(0, 0))?;
+    expect(&rt, (closing.end, closing.beside), (place(0, 0), Beside::Same));
+    expect(&rt, closing.credit.inferences, 3);
+    expect(&rt, records(alloc, &closing)?, 1);
     Ok(())
 }
