@@ -80,7 +80,7 @@ way_to rows read [] way cell h = h
 way_to rows read (v ∷ up) way cell h =
     (_, (h.1.0, (h.1.1.1.row, h.1.1.0, way_to rows read up h.1.0 (InnerCell v.number) h.1.1.2)))
 
-way_same : (rows : Rows) (read : Reading) (levels : List Level) (way other : Branching) (cell : AlternativeCell) → AreRound rows read levels way cell
+pub way_same : (rows : Rows) (read : Reading) (levels : List Level) (way other : Branching) (cell : AlternativeCell) → AreRound rows read levels way cell
     → IsWayTo rows levels other → way ≡ other
 way_same rows read [] way other cell h k = h ∙ sym k
 way_same rows read (v ∷ up) way other cell h k =

@@ -21,3 +21,4 @@ pub mod WalkLemmas
 pub mod MeetLemmas
 pub mod FrontLemmas
 pub mod FrontKeptLemmas
+pub mod TakeBackLemmas

@@ -5,7 +5,7 @@ use Rattle.std.specs.Prelude.{slice_get, IsSome}
 use Rattle.std.proofs.lemmas.Bool.{cases_lt}
 use Rattle.run_model.specs.Machine.Entries.{EndEntry}
 use Rattle.tree_model.specs.Credits.{no_credit}
-use Rattle.tree_model.specs.Nodes.{Node, Status, Pending, Inner, Closed, nodes_below}
+use Rattle.tree_model.specs.Nodes.{Hold, Node, Status, Pending, Inner, Closed, nodes_below}
 use Rattle.tree_model.specs.Levels.{Level, plug, Place, place_at}
 use Rattle.tree_model.specs.SoundTrees.{count_in, count_below}
 use Rattle.tree_model.proofs.CountLemmas.{count_around, count_plug, one_if-same}
@@ -174,6 +174,12 @@ module _ (old new : NodesView) (read : Reading) (v : Level) (up : List Level) (w
       (same_trimmed p.middle new.rows old.live new.live was d.0 d.1) first_same
       (below_kept old.rows new.rows read k.way (Some (place_at v)) was
       (λ m l. ap (λ (rows : Rows). row_of_node rows m) d.0 ∙ p.replaced.same m (apart_was m l)) k.inside)
+
+  -- the entry of a branch, by the way down to it
+  pub entry_back : (hold : Hold) → cell.1 ≡ PendingCell hold
+      → IsTableOf new read (plug (record v { spent = cell.0 } ∷ up) (Pending hold (read (taken_out old.rows read (v ∷ up) was s.placed).way)))
+  entry_back hold e =
+      leaf_set (Pending hold (read (taken_out old.rows read (v ∷ up) was s.placed).way)) (record { count = λ m. refl; nodes = refl; inner = refl }) e refl
 
   by_cell : (c : AlternativeCell) → cell.1 ≡ c → Fits (cell_at old.rows (place_at v)) c → IsSet new read (record v { spent = cell.0 } ∷ up) was c
   by_cell (PendingCell hold) e fit =

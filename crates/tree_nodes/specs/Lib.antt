@@ -12,3 +12,4 @@ pub mod Fronts
 pub mod Held
 pub mod Batches
 pub mod Gaps
+pub mod TakingBack

@@ -4,6 +4,7 @@ ghost use Rattle.tree_model.specs.EventViews.{place_view};
 ghost use Rattle.tree_nodes.specs.Rows.{cell_at};
 ghost use Rattle.tree_nodes.specs.RowViews.{parent_view};
 ghost use Rattle.tree_nodes.specs.Siblings.{alternative_view};
+ghost use Rattle.tree_nodes.specs.Changes.{root_after};
 ghost use Rattle.tree_nodes.specs.Puts.{IsDroppedBy, IsStatePut, IsPlaceIn, IsLinked, IsLinkedAt};
 
 use crate::drops::drop_node;
@@ -29,6 +30,16 @@ pub(crate) fn link_cell(table: &mut Table, parent: Option<AltRef>, node: u64)
 {
     if let Some(at) = parent {
         link_below(table, at, node);
+    }
+}
+
+/// The first node once a new one is below this alternative.
+pub(crate) fn first_after(first: Option<u64>, parent: Option<AltRef>, node: u64) -> Option<u64>
+    ensures { result ≡ root_after first (parent_view parent) node }
+{
+    match parent {
+        Some(_) => first,
+        None => Some(node),
     }
 }
 

@@ -12,9 +12,9 @@
 //!
 //! | call | what it costs |
 //! | --- | --- |
-//! | `state`, `spent`, `parent`, `below`, `body`, `width`, `passed`, `after`, `front`, `live`, the tests | the same always |
+//! | `state`, `spent`, `parent`, `below`, `body`, `width`, `passed`, `after`, `front`, `live`, `drawn`, the tests | the same always |
 //! | `add` | the node's alternatives |
-//! | `set` | what it drops |
+//! | `set`, `take_back` | what they drop |
 //! | `close`, where no node folds | what it drops: the same for a node of any width, at any depth |
 //! | `close`, where nodes fold | besides their alternatives, and the batches of the records beside each other there |
 //! | `give_back` | the numbers that are given back |

@@ -11,15 +11,16 @@ ghost use Rattle.tree_nodes.specs.RowViews.{row_view, parent_view, branches_at};
 ghost use Rattle.tree_nodes.specs.TreeTables.{NodesView, Stand};
 ghost use Rattle.std.specs.Arc.{arc_value};
 ghost use Rattle.tree_nodes.specs.Bodies.{body_view, IsWhole};
-ghost use Rattle.tree_nodes.specs.Changes.{SetsCell, Fits, KeepsNumbers, Adds, CanHold, IsLonger, ClosesAt, LowersSpare, AreGone, GivesBack, is_pending, root_after};
+ghost use Rattle.tree_nodes.specs.Changes.{SetsCell, Fits, KeepsNumbers, Adds, CanHold, IsLonger, ClosesAt, LowersSpare, AreGone, GivesBack, is_pending};
 ghost use Rattle.tree_nodes.specs.Folds.{FoldsUpTo, ClosesWithRecords, AreWithoutRecords, IsAbove, IsDeeper};
 ghost use Rattle.tree_nodes.specs.Fronts.{HasOpenLeft, KeepsFront, IsFront, IsNextOf};
-ghost use Rattle.tree_nodes.specs.Siblings.{ArePassed};
+ghost use Rattle.tree_nodes.specs.Siblings.{ArePassed, alternative_view};
 ghost use Rattle.tree_nodes.specs.Puts.{inner_at};
+ghost use Rattle.tree_nodes.specs.TakingBack.{IsPut, TakesBack};
 ghost use Rattle.tree_nodes.specs.Gathering.{IsFoldStep, FoldsWithRecords, Gathers, GathersRecords, is_shut_at};
 
 use crate::body::NodeBody;
-use crate::cells::{link_cell, put_cell};
+use crate::cells::{first_after, link_cell, put_cell};
 use crate::front::{Front, last_of, retreat};
 use crate::gather::Gathered;
 use crate::row::{Row, Slot};
@@ -87,6 +88,13 @@ impl Nodes {
         ensures sound { Stand self.now }
     {
         self.live
+    }
+
+    /// How many numbers have been drawn.
+    pub fn drawn(&self) -> u64
+        ensures { result ≡ length self.now.rows }
+    {
+        self.table.len() as u64
     }
 
     /// How many closings are provided for.
@@ -257,13 +265,28 @@ impl Nodes {
         ensures set { SetsCell self.old self.new (place_view at) spent (cell_view state) }
         ensures numbers { KeepsNumbers self.old self.new }
     {
-        let limit = self.front_limit(at, &state);
-        put_cell(
-            &mut self.table,
-            &mut self.live,
-            at,
-            Alternative { state, spent },
-        );
+        self.put(at, Alternative { state, spent });
+    }
+
+    /// Gives an alternative the entry of its branch back, for a worker, in place of what is below it.
+    pub fn take_back(&mut self, at: AltRef, worker: u32, spent: u64)
+        requires { IsSome (cell_at self.old.rows (place_view at)) }
+        ensures entry { TakesBack self.old self.new (place_view at) worker spent }
+        ensures numbers { KeepsNumbers self.old self.new }
+    {
+        let state = AltState::Taken(worker);
+        self.put(at, Alternative { state, spent });
+    }
+
+    // Puts another in place of an alternative.
+    fn put(&mut self, at: AltRef, alternative: Alternative)
+        requires there { IsSome (cell_at self.old.rows (place_view at)) }
+        requires fits { Fits (cell_at self.old.rows (place_view at)) (cell_view alternative.state) }
+        ensures put { IsPut self.old self.new (place_view at) (alternative_view alternative) }
+        ensures numbers { KeepsNumbers self.old self.new }
+    {
+        let limit = self.front_limit(at, &alternative.state);
+        put_cell(&mut self.table, &mut self.live, at, alternative);
         retreat(&self.table, &mut self.front, limit);
         self.advance_below(at.node, limit);
     }
@@ -472,14 +495,5 @@ impl Nodes {
         }
         row.alternatives.gather_beside(index, gathered)?;
         Ok(true)
-    }
-}
-
-fn first_after(first: Option<u64>, parent: Option<AltRef>, node: u64) -> Option<u64>
-    ensures { result ≡ root_after first (parent_view parent) node }
-{
-    match parent {
-        Some(_) => first,
-        None => Some(node),
     }
 }
