@@ -6,3 +6,8 @@ pub mod FollowingLemmas
 pub mod OpeningLemmas
 mod GrownLemmas
 mod PublicClosingLemmas
+mod WayLemmas
+mod AddedLemmas
+mod BodyLemmas
+mod MakeLemmas
+mod PublishingLemmas

@@ -4,3 +4,4 @@ pub mod LostTasks
 pub mod Following
 pub mod Opening
 pub mod PublicClosing
+pub mod Publishing

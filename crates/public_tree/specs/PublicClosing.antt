@@ -81,6 +81,6 @@ RestsIn old new b total beside body =
     → IsTableOf old read (plug (v ∷ up) was) → IsSound [] (plug (v ∷ up) was) → ReadsAs read old.rows b total.records (is_waking beside) body
     → IsGrownTo new read (closes (length old.rows) (v ∷ up) c)
 
--- it closes, or the tree had ended or been stopped
-abbrev pub Closes : PublicView → PublicView → Event → Type 0
-Closes old new e = Notes old new e ⊎ (IsSameTree old new × ((read : Reading) (t : TreeState) → IsPublicOf old read t → is_going t ≡ false))
+-- an event happens, or the tree had ended or been stopped
+abbrev pub Happens : PublicView → PublicView → Event → Type 0
+Happens old new e = Notes old new e ⊎ (IsSameTree old new × ((read : Reading) (t : TreeState) → IsPublicOf old read t → is_going t ≡ false))

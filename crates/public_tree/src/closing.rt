@@ -5,7 +5,7 @@ ghost use Rattle.tree_nodes.specs.Rows.{cell_at, credit_view};
 ghost use Rattle.tree_closing.specs.Closings.{ComesToRest, HasSleeper};
 ghost use Rattle.public_tree.specs.Opening.{opening_body};
 ghost use Rattle.public_tree.specs.PublicTrees.{IsSameTree, IsOut};
-ghost use Rattle.public_tree.specs.PublicClosing.{record_credit, closing_event, EndsItsRun, RestsByRun, IsGiven, IsBodyGiven, RestsIn, Closes};
+ghost use Rattle.public_tree.specs.PublicClosing.{record_credit, closing_event, EndsItsRun, RestsByRun, IsGiven, IsBodyGiven, RestsIn, Happens};
 
 use crate::public::PublicTree;
 use au_term::{FlatTerm, NoMemory};
@@ -58,7 +58,7 @@ impl PublicTree {
         requires rests { RestsByRun self.old worker (place_view at) inferences end (place_view closing.end) (credit_view closing.credit) closing.beside }
         requires given { IsGiven self.old (place_view closing.end) (credit_view closing.credit) closing.beside (opening_body woken) }
         requires promised { 0 < self.old.log.promised }
-        ensures closes { OnOk result (Closes self.old self.new (closing_event end worker (place_view at) inferences)) }
+        ensures closes { OnOk result (Happens self.old self.new (closing_event end worker (place_view at) inferences)) }
         ensures err { OnErr result (IsSameTree self.old self.new) }
         ensures promised { self.old.log.promised ≤ self.new.log.promised + 1 }
         ensures kept { OnErr result (self.new.log.promised ≡ self.old.log.promised) }

@@ -1,9 +1,10 @@
 //! The public part of the tree that workers share: its nodes, who has what of it, and the events so far. Contracts speak of
 //! each tree of the definition for which it stands.
 //!
-//! `claim` and `resume` cost what `leftmost_ready` and `leftmost_cleared` of `branch_order` cost, `rest_of` what folds, and
-//! `close` what it drops; the rest does not depend on the size of the tree. A task that goes out has room in the log for the event by which it comes back, and a stop
-//! has room at any time: neither takes memory.
+//! `claim` and `resume` cost what `leftmost_ready` and `leftmost_cleared` of `branch_order` cost, `rest_of` what folds,
+//! `close` what it drops, and `publish` the alternatives of its nodes; the rest does not depend on the size of the tree. A
+//! task that goes out has room in the log for the event by which it comes back, and a stop has room at any time: neither
+//! takes memory.
 #![tactic(auto)]
 
 mod closing;
@@ -13,6 +14,7 @@ pub mod laws;
 mod lost;
 mod open;
 mod public;
+mod publishing;
 
 pub use closing::TaskEnd;
 pub use public::PublicTree;
