@@ -5,7 +5,9 @@
 #![tactic(auto)]
 
 pub mod catches;
+pub mod cuts;
 pub mod prune;
 
 pub use catches::catch_at;
+pub use cuts::cut;
 pub use prune::prune_right;

@@ -11,3 +11,5 @@ mod AddedLemmas
 mod BodyLemmas
 mod MakeLemmas
 mod PublishingLemmas
+pub mod PrunedTaskLemmas
+pub mod PruningLemmas

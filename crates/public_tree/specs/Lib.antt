@@ -5,3 +5,5 @@ pub mod Following
 pub mod Opening
 pub mod PublicClosing
 pub mod Publishing
+pub mod PrunedTasks
+pub mod PublicPruning

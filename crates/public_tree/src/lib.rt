@@ -13,8 +13,11 @@ mod hand_out;
 pub mod laws;
 mod lost;
 mod open;
+mod prune;
+mod pruned_tasks;
 mod public;
 mod publishing;
 
 pub use closing::TaskEnd;
+pub use prune::Pruning;
 pub use public::PublicTree;
