@@ -1,2 +1,4 @@
 pub mod PruneLemmas
 pub mod CutLemmas
+pub mod FallLemmas
+pub mod LandLemmas

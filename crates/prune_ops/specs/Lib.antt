@@ -1,3 +1,4 @@
 pub mod Marks
 pub mod Prunes
 pub mod Cuts
+pub mod Falls

@@ -6,8 +6,13 @@
 
 pub mod catches;
 pub mod cuts;
+pub mod landed;
+pub mod landing;
 pub mod prune;
+mod sum;
 
 pub use catches::catch_at;
 pub use cuts::cut;
+pub use landed::land;
+pub use landing::{Landing, find_landing};
 pub use prune::prune_right;
