@@ -228,6 +228,7 @@ module _ (nodes : NodesView) (a b : Place) (scope : ℕ) (old : Credit) (h : Ris
         status = k.status;
         same = k.same;
         at = k.at;
+        on = on;
         down = k.down ∙ ap (λ (x : Bool). cond x (k.level ∷ k.above) (down_to scope k.above)) at_scope;
         lands = λ next e. k.falls next e
             ∙ (ap (λ (x : Bool). cond x (wakes next k.level k.above (left_after k.level old) e) (ball_closes next scope k.above (left_after k.level old) e)) at_scope

@@ -33,6 +33,7 @@ pub record IsLanding (scope : ℕ) (v : Level) (up : List Level) (was : Status) 
   pub status : Status
   pub same : plug (v ∷ up) was ≡ plug (level ∷ above) status
   pub at : place_at level ≡ b
+  pub on : b.node ≡ scope
   pub down : down_to scope (v ∷ up) ≡ level ∷ above
   pub lands : (next : ℕ) (e : Entry) → ball_closes next scope (v ∷ up) (credit_of 1) e ≡ wakes next level above total e
 

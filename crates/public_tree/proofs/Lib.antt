@@ -13,3 +13,5 @@ mod MakeLemmas
 mod PublishingLemmas
 pub mod PrunedTaskLemmas
 pub mod PruningLemmas
+pub mod BallGateLemmas
+pub mod FallingLemmas

@@ -71,7 +71,7 @@ not_cleared p w a n going out gates cleared read t h =
     (sym (going read t h), by_out p w a out read t h (λ s e. cut_allowed p w a n false gates cleared read t s h e))
 
 -- the levels that are pruned are round a place
-round : (v : Level) (up : List Level) (status : Status) → IsRooted (plug (v ∷ up) status)
+pub round : (v : Level) (up : List Level) (status : Status) → IsRooted (plug (v ∷ up) status)
 round v [] status = tt
 round v (u ∷ up) status = round u up (Inner (level_node v status))
 

@@ -11,7 +11,9 @@ use Rattle.tree_model.specs.TreeStates.{TreeState}
 use Rattle.tree_model.specs.Legality.{taken_at, is_allowed}
 use Rattle.tree_model.specs.Effects.{or_none, spot_stack}
 use Rattle.tree_nodes.specs.Bodies.{Body, Branching, Reading, new_node}
+use Rattle.tree_nodes.specs.Rows.{Rows}
 use Rattle.tree_nodes.specs.TreeTables.{NodesView, IsTableOf, IsWayTo}
+use Rattle.prune_ops.specs.Falls.{ReadsBeside}
 use Rattle.public_tree.specs.declared.prune.Pruning.{Pruning}
 use Rattle.public_tree.specs.declared.prune.Pruning.TheVariants.{Taken, NotCleared, HasEnded}
 use Rattle.public_tree.specs.PublicTrees.{PublicView, IsPublicOf, Notes, IsSameTree, is_going}
@@ -35,6 +37,18 @@ ReadsCut p w a body =
     (read : Reading) (t : TreeState) (s : Spot) (way : Branching) → IsPublicOf p read t → taken_at w a t ≡ Some s
     → IsWayTo p.nodes.rows (levels_of s) way
     → ReadsAsTop read way body (levels_of s) (or_none (taken_alone t.job.clauses (spot_stack s)))
+
+-- below what sleeps at the scope of a ball a body reads as what the ball leaves
+pub record ReadsAsFallen (read : Reading) (rows : Rows) (n : ℕ) (body : Body) (levels : List Level) (stack : List Entry) : Type 0 where
+  pub entry : Entry
+  pub under : List Entry
+  pub top : stack ≡ entry ∷ under
+  pub beside : ReadsBeside read rows (record { node = n; index = 0 }) body (with_nodes (node_of levels) entry)
+
+abbrev pub ReadsFall : PublicView → ℕ → Place → ℕ → Body → Type 0
+ReadsFall p w a n body =
+    (read : Reading) (t : TreeState) (s : Spot) → IsPublicOf p read t → taken_at w a t ≡ Some s
+    → ReadsAsFallen read p.nodes.rows n body (levels_of s) (or_none (taken_alone t.job.clauses (spot_stack s)))
 
 -- it is taken, or may not be taken yet, or the tree had ended or been stopped
 abbrev pub Prunes : PublicView → PublicView → ℕ → Place → Pruning → Type 0

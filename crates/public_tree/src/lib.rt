@@ -2,8 +2,10 @@
 //! each tree of the definition for which it stands.
 //!
 //! `claim` and `resume` cost what `leftmost_ready` and `leftmost_cleared` of `branch_order` cost, `rest_of` what folds,
-//! `close` what it drops, and `publish` the alternatives of its nodes; the rest does not depend on the size of the tree. A
-//! task that goes out has room in the log for the event by which it comes back, and a stop has room at any time: neither
+//! `close` what it drops, and `publish` the alternatives of its nodes. `cut` and `fall` cost what `prune_ops` says, the test
+//! that the alternative is cleared, and a walk over what they take away, which gathers the tasks that are out there; they take
+//! their memory before they change anything. The rest does not depend on the size of the tree. A task that goes out has room
+//! in the log for the event by which it comes back, and a stop has room at any time: neither
 //! takes memory.
 #![tactic(auto)]
 

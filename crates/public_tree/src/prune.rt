@@ -1,16 +1,16 @@
-//! Cuts that are taken.
+//! Cuts and balls that are taken.
 ghost use Rattle.std.specs.Prelude.{◌≡◌, ◌<◌, true, IsSome, IfOk, OnErr, map};
 ghost use Rattle.std.specs.Bool.{OnTrue};
 ghost use Rattle.std.specs.Arc.{arc_value};
 ghost use Rattle.tree_model.specs.EventViews.{place_view};
-ghost use Rattle.tree_model.specs.Nodes.{CutGate};
+ghost use Rattle.tree_model.specs.Nodes.{CutGate, BallGate};
 ghost use Rattle.tree_nodes.specs.Bodies.{IsWhole, body_view};
 ghost use Rattle.tree_nodes.specs.Changes.{IsOpenCell};
 ghost use Rattle.tree_nodes.specs.Rows.{cell_at, scope_number};
 ghost use Rattle.public_tree.specs.LostTasks.{task_view};
 ghost use Rattle.public_tree.specs.PrunedTasks.{FindsTasks};
 ghost use Rattle.public_tree.specs.PublicTrees.{IsSameTree, IsOut, IsItsGate};
-ghost use Rattle.public_tree.specs.PublicPruning.{IsClearedAt, ReadsCut, Prunes, promised_after};
+ghost use Rattle.public_tree.specs.PublicPruning.{IsClearedAt, ReadsCut, ReadsFall, Prunes, promised_after};
 
 use crate::lost::LostTask;
 use crate::pruned_tasks::gather;
@@ -18,6 +18,7 @@ use crate::public::PublicTree;
 use au_term::NoMemory;
 use branch_order::cleared;
 use clause_compile::Scope;
+use prune_ops::{find_landing, land};
 use std::sync::Arc;
 use tree_model::{AltRef, Event};
 use tree_nodes::{NodeBody, Nodes};
@@ -62,6 +63,43 @@ impl PublicTree {
         }
         let lost = self.lost_with(at, scope)?;
         prune_ops::cut(&mut self.nodes, at, scope, body)?;
+        self.lost = lost;
+        self.log.note_back(Event::Prune { worker, at });
+        Ok(Pruning::Taken)
+    }
+
+    /// A worker lets the ball of an alternative that is out to it fall to its scope: everything below closes, what was out
+    /// there is lost, and what the ball leaves is ready below a new node in place of what slept beside it. Nothing happens
+    /// where the alternative is not cleared to the scope, or where the tree has ended or was stopped.
+    pub fn fall(
+        &mut self,
+        worker: u32,
+        at: AltRef,
+        scope: Scope,
+        body: Arc<NodeBody>,
+    ) -> Result<Pruning, NoMemory>
+        requires out { IsOut self.old worker (place_view at) }
+        requires gate { IsItsGate self.old worker (place_view at) (BallGate (scope_number scope)) }
+        requires whole { IsWhole (body_view (arc_value body)) }
+        requires reads { ReadsFall self.old worker (place_view at) (scope_number scope) (body_view (arc_value body)) }
+        requires promised { 0 < self.old.log.promised }
+        ensures prunes { IfOk result (λ p. Prunes self.old self.new worker (place_view at) p) }
+        ensures promised { IfOk result (λ p. self.new.log.promised ≡ promised_after p self.old.log.promised) }
+        ensures err { OnErr result (IsSameTree self.old self.new) }
+        ensures kept { OnErr result (self.new.log.promised ≡ self.old.log.promised) }
+    {
+        if !self.is_going() {
+            return Ok(Pruning::HasEnded);
+        }
+        if !is_cleared(&self.nodes, at, scope) {
+            return Ok(Pruning::NotCleared);
+        }
+        // At the scope of a ball something sleeps.
+        let Some(landing) = find_landing(&self.nodes, at, scope)? else {
+            return Ok(Pruning::NotCleared);
+        };
+        let lost = self.lost_with(at, scope)?;
+        land(&mut self.nodes, landing, body)?;
         self.lost = lost;
         self.log.note_back(Event::Prune { worker, at });
         Ok(Pruning::Taken)
