@@ -29,7 +29,7 @@ fn add(
 }
 
 /// A findall in the goal of a catch, which is the goal of a query.
-fn nest(rt: &impl Abort, alloc: Global, nodes: &mut Nodes) -> Result<(), Fail> {
+pub(crate) fn nest(rt: &impl Abort, alloc: Global, nodes: &mut Nodes) -> Result<(), Fail> {
     add(rt, alloc, nodes, None, NodeKind::Query)?;
     add(rt, alloc, nodes, Some(place(0, 0)), catch(rt, alloc)?)?;
     add(rt, alloc, nodes, Some(place(1, 0)), findall(rt, alloc, 3)?)?;

@@ -125,7 +125,11 @@ fn rests(rt: HostRuntime) -> Result<(), Fail> {
     let mut tree = PublicTree::new(alloc, nodes, 9, 5)?;
     expect(&rt, claim(&mut tree, 1)?, Some(place(0, 0)));
     let closing = rest(&rt, alloc, &tree, place(0, 0))?;
-    expect(&rt, (closing.end, closing.beside), (place(0, 0), Beside::Same));
+    expect(
+        &rt,
+        (closing.end, closing.beside),
+        (place(0, 0), Beside::Same),
+    );
     expect(&rt, closing.credit.inferences, 3);
     expect(&rt, records(alloc, &closing)?, 1);
     Ok(())

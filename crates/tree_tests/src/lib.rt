@@ -7,6 +7,8 @@ mod asks;
 #[cfg(test)]
 mod closings;
 #[cfg(test)]
+mod falls;
+#[cfg(test)]
 mod hand_outs;
 #[cfg(test)]
 mod large;
@@ -16,6 +18,8 @@ mod nodes;
 mod pruning;
 #[cfg(test)]
 mod random;
+#[cfg(test)]
+mod readings;
 #[cfg(test)]
 mod results;
 #[cfg(test)]
