@@ -2,6 +2,7 @@
 ghost use Rattle.cell_store.specs.StoreView.{IsValueIn};
 
 use crate::common::{expect, last, region, value};
+use crate::regions::expect_fresh;
 use au_model::build::{binary, single, unary};
 use au_term::{Cell, FlatTerm, MAX_ARITY, NoMemory, VarNo};
 use binding_array::BindingCell;
@@ -73,19 +74,29 @@ fn grow(rt: &impl Abort, alloc: Global, region: &mut Region, variable: u32) -> R
     Ok(bind(rt, region, variable, term)?)
 }
 
-fn fresh(region: &mut Region) -> Result<u32, NoMemory> {
-    region.fresh(1)
+/// The variable of a number gets a longer term, and the goal is called.
+fn grow_and_call(
+    rt: &impl Abort,
+    alloc: Global,
+    region: &mut Region,
+    variable: u32,
+) -> Result<(), Fail> {
+    expect(rt, grow(rt, alloc, region, variable)?, true);
+    expect(rt, call_goes_on(rt, alloc, region)?, true);
+    Ok(())
 }
 
 /// A call copies nothing of what variables are bound to: else this would take ten thousand times as long.
-#[test]
-fn calls_with_a_growing_term(rt: HostRuntime) -> Result<(), Fail> {
-    let alloc = rt.alloc();
-    let mut region = region(alloc)?;
-    expect(&rt, fresh(&mut region)?, 0);
+fn grow_and_call_all(rt: &impl Abort, alloc: Global, region: &mut Region) -> Result<(), Fail> {
+    expect_fresh(rt, region, 1, 0)?;
     for variable in 0..100_000 {
-        expect(&rt, grow(&rt, alloc, &mut region, variable)?, true);
-        expect(&rt, call_goes_on(&rt, alloc, &mut region)?, true);
+        grow_and_call(rt, alloc, region, variable)?;
     }
     Ok(())
+}
+
+#[test]
+fn calls_with_a_growing_term(rt: HostRuntime) -> Result<(), Fail> {
+    let mut region = region(rt.alloc())?;
+    grow_and_call_all(&rt, rt.alloc(), &mut region)
 }

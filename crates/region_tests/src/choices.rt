@@ -1,8 +1,10 @@
 //! What no clause says of choice points: that calls succeed, and what comes back.
 ghost use Rattle.region_split.specs.Regions.{AreAlternativesIn};
 
-use crate::common::{Back, NOTHING, atom, backtrack, expect, height, reached};
-use crate::regions::region;
+use crate::common::{
+    Back, NOTHING, atom, expect, expect_back, expect_back_at_nothing, expect_height, expect_reached,
+};
+use crate::regions::{expect_fresh, region};
 use au_term::NoMemory;
 use binding_array::BindingCell;
 use clause_index::Cursor;
@@ -13,7 +15,7 @@ use std::test::Fail;
 
 /// What a choice point stands for.
 #[derive(Clone, Copy, Debug, PartialEq, Eq)]
-pub(crate) enum Kind {
+enum Kind {
     Clauses,
     Solutions,
     Elsewhere,
@@ -72,15 +74,19 @@ fn push_clause(rt: &impl Abort, region: &mut Region) -> Result<(), NoMemory> {
     push(region, clauses)
 }
 
-/// Takes the newest choice point, and undoes what was bound.
-pub(crate) fn take_newest(rt: &impl Abort, region: &mut Region) -> Kind {
+/// Takes the newest choice point, which is one of these, and undoes what was bound.
+fn expect_newest(rt: &impl Abort, region: &mut Region, wanted: Kind) {
     assert!(rt; region.height() > 0);
-    kind_of(&region.take_newest().alternatives)
+    expect(rt, kind_of(&region.take_newest().alternatives), wanted);
 }
 
-fn drop_newest(rt: &impl Abort, region: &mut Region) -> Kind {
+pub(crate) fn expect_clauses(rt: &impl Abort, region: &mut Region) {
+    expect_newest(rt, region, Kind::Clauses);
+}
+
+fn expect_dropped(rt: &impl Abort, region: &mut Region, wanted: Kind) {
     assert!(rt; region.height() > 0);
-    kind_of(&region.drop_newest().alternatives)
+    expect(rt, kind_of(&region.drop_newest().alternatives), wanted);
 }
 
 fn cut_to(rt: &impl Abort, region: &mut Region, count: usize) {
@@ -88,41 +94,52 @@ fn cut_to(rt: &impl Abort, region: &mut Region, count: usize) {
     region.cut_to(count);
 }
 
-#[test]
-fn choice_points_come_back(rt: HostRuntime) -> Result<(), Fail> {
-    let mut region = region(rt.alloc())?;
-    push_query_end(&mut region)?;
-    push_elsewhere(&mut region)?;
-    push_elsewhere(&mut region)?;
-    expect(&rt, height(&region), 3);
-    expect(&rt, take_newest(&rt, &mut region), Kind::Elsewhere);
-    cut_to(&rt, &mut region, 1);
-    expect(&rt, drop_newest(&rt, &mut region), Kind::QueryEnd);
-    expect(&rt, height(&region), 0);
+fn take_choice_points(rt: &impl Abort, region: &mut Region) -> Result<(), Fail> {
+    push_query_end(region)?;
+    push_elsewhere(region)?;
+    push_elsewhere(region)?;
+    expect_height(rt, region, 3);
+    expect_newest(rt, region, Kind::Elsewhere);
+    cut_to(rt, region, 1);
+    expect_dropped(rt, region, Kind::QueryEnd);
+    expect_height(rt, region, 0);
     Ok(())
 }
 
-/// The next clause's number and goal.
-fn next_clause(region: &mut Region) -> Option<(u32, BindingCell)> {
+#[test]
+fn choice_points_come_back(rt: HostRuntime) -> Result<(), Fail> {
+    let mut region = region(rt.alloc())?;
+    take_choice_points(&rt, &mut region)
+}
+
+/// The next clause has this number, and its goal is 7.
+fn expect_clause(rt: &impl Abort, region: &mut Region, wanted: Option<u32>) {
     match region.next_clause() {
-        Some(trial) => Some((trial.clause, trial.goal)),
-        None => None,
+        Some(trial) => {
+            expect(rt, Some(trial.clause), wanted);
+            expect(rt, trial.goal, BindingCell::Int(7));
+        }
+        None => expect(rt, None, wanted),
     }
+}
+
+fn take_last_clause(rt: &impl Abort, region: &mut Region) -> Result<(), NoMemory> {
+    push_clause(rt, region)?;
+    expect_clause(rt, region, Some(1));
+    expect_height(rt, region, 0);
+    expect_clause(rt, region, None);
+    Ok(())
 }
 
 #[test]
 fn last_clause_takes_its_choice_point(rt: HostRuntime) -> Result<(), Fail> {
     let mut region = region(rt.alloc())?;
-    push_clause(&rt, &mut region)?;
-    let seven = BindingCell::Int(7);
-    expect(&rt, next_clause(&mut region), Some((1, seven)));
-    expect(&rt, height(&region), 0);
-    expect(&rt, next_clause(&mut region), None);
+    take_last_clause(&rt, &mut region)?;
     Ok(())
 }
 
-pub(crate) fn is_findall(region: &Region, over: usize) -> bool {
-    region.is_findall(over)
+pub(crate) fn expect_findall(rt: &impl Abort, region: &Region, over: usize, wanted: bool) {
+    expect(rt, region.is_findall(over), wanted);
 }
 
 fn add_result(
@@ -136,75 +153,97 @@ fn add_result(
     region.add_result(alloc, over, &term)
 }
 
-#[test]
-fn results_are_kept(rt: HostRuntime) -> Result<(), Fail> {
-    let alloc = rt.alloc();
-    let mut region = region(alloc)?;
-    push_query_end(&mut region)?;
-    push_findall(alloc, &mut region)?;
-    add_result(&rt, alloc, &mut region, 1)?;
+fn keep_results(rt: &impl Abort, alloc: Global, region: &mut Region) -> Result<(), Fail> {
+    push_query_end(region)?;
+    push_findall(alloc, region)?;
+    add_result(rt, alloc, region, 1)?;
     for (over, wanted) in [(0, false), (1, true), (2, false)] {
-        expect(&rt, is_findall(&region, over), wanted);
+        expect_findall(rt, region, over, wanted);
     }
     Ok(())
 }
 
-fn fresh(region: &mut Region, count: u32) -> Result<u32, NoMemory> {
-    region.fresh(count)
+#[test]
+fn results_are_kept(rt: HostRuntime) -> Result<(), Fail> {
+    let mut region = region(rt.alloc())?;
+    keep_results(&rt, rt.alloc(), &mut region)
 }
 
-/// Whether a variable and an integer unify.
-fn bind(rt: &impl Abort, region: &mut Region, variable: u32, value: i64) -> Result<bool, NoMemory> {
+/// A variable is bound to an integer.
+fn bind(rt: &impl Abort, region: &mut Region, variable: u32, value: i64) -> Result<(), NoMemory> {
     assert!(rt; variable < region.store().next());
-    region.unify(BindingCell::Var(variable), BindingCell::Int(value))
+    let unified = region.unify(BindingCell::Var(variable), BindingCell::Int(value))?;
+    expect(rt, unified, true);
+    Ok(())
 }
 
-/// Whether two integers unify.
-fn unify(region: &mut Region, left: i64, right: i64) -> Result<bool, NoMemory> {
-    region.unify(BindingCell::Int(left), BindingCell::Int(right))
+/// Two integers do not unify.
+fn do_not_unify(
+    rt: &impl Abort,
+    region: &mut Region,
+    left: i64,
+    right: i64,
+) -> Result<(), NoMemory> {
+    let unified = region.unify(BindingCell::Int(left), BindingCell::Int(right))?;
+    expect(rt, unified, false);
+    Ok(())
 }
 
-/// Whether an integer unifies with a variable as the head of a clause.
+/// An integer unifies with a variable as the head of a clause.
 fn bind_head(
     rt: &impl Abort,
     region: &mut Region,
     value: i64,
     variable: u32,
-) -> Result<bool, NoMemory> {
+) -> Result<(), NoMemory> {
     assert!(rt; variable < region.store().next());
-    region.unify_head(BindingCell::Int(value), BindingCell::Var(variable), 1)
+    let head = BindingCell::Var(variable);
+    let unified = region.unify_head(BindingCell::Int(value), head, 1)?;
+    expect(rt, unified, true);
+    Ok(())
+}
+
+fn bind_and_take_back(rt: &impl Abort, region: &mut Region) -> Result<(), Fail> {
+    push_elsewhere(region)?;
+    bind(rt, region, 0, 7)?;
+    do_not_unify(rt, region, 7, 8)?;
+    expect_reached(rt, region, 0, BindingCell::Int(7));
+    expect_newest(rt, region, Kind::Elsewhere);
+    expect_reached(rt, region, 0, BindingCell::Var(0));
+    Ok(())
+}
+
+fn bind_all(rt: &impl Abort, region: &mut Region) -> Result<(), Fail> {
+    expect_fresh(rt, region, 2, 0)?;
+    expect_fresh(rt, region, 0, 2)?;
+    bind_and_take_back(rt, region)?;
+    bind_head(rt, region, 7, 1)?;
+    Ok(())
 }
 
 #[test]
 fn bindings_are_taken_back(rt: HostRuntime) -> Result<(), Fail> {
     let mut region = region(rt.alloc())?;
-    expect(&rt, fresh(&mut region, 2)?, 0);
-    expect(&rt, fresh(&mut region, 0)?, 2);
-    push_elsewhere(&mut region)?;
-    expect(&rt, bind(&rt, &mut region, 0, 7)?, true);
-    expect(&rt, unify(&mut region, 7, 8)?, false);
-    expect(&rt, reached(&rt, &region, 0), BindingCell::Int(7));
-    expect(&rt, take_newest(&rt, &mut region), Kind::Elsewhere);
-    expect(&rt, reached(&rt, &region, 0), BindingCell::Var(0));
-    expect(&rt, bind_head(&rt, &mut region, 7, 1)?, true);
-    Ok(())
+    bind_all(&rt, &mut region)
+}
+
+fn push_each(alloc: Global, region: &mut Region) -> Result<(), NoMemory> {
+    push_query_end(region)?;
+    push_findall(alloc, region)?;
+    push_catch(region)?;
+    push_elsewhere(region)
+}
+
+fn take_each(rt: &impl Abort, alloc: Global, region: &mut Region) -> Result<(), Fail> {
+    push_each(alloc, region)?;
+    expect_back_at_nothing(rt, region)?;
+    expect_back(rt, region, Back::Findall(BindingCell::Int(5), NOTHING))?;
+    expect_back(rt, region, Back::QueryDone)?;
+    expect_back(rt, region, Back::AllDone)
 }
 
 #[test]
 fn what_goes_on_by_kind(rt: HostRuntime) -> Result<(), Fail> {
-    let alloc = rt.alloc();
-    let mut region = region(alloc)?;
-    push_query_end(&mut region)?;
-    push_findall(alloc, &mut region)?;
-    push_catch(&mut region)?;
-    push_elsewhere(&mut region)?;
-    for wanted in [
-        Back::Left(NOTHING, Left::Nothing),
-        Back::Findall(BindingCell::Int(5), NOTHING),
-        Back::QueryDone,
-        Back::AllDone,
-    ] {
-        expect(&rt, backtrack(&mut region)?, wanted);
-    }
-    Ok(())
+    let mut region = region(rt.alloc())?;
+    take_each(&rt, rt.alloc(), &mut region)
 }

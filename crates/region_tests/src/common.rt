@@ -22,14 +22,19 @@ pub(crate) fn expect<T: PartialEq + Debug + Drop>(rt: &impl Abort, found: T, wan
     assert_eq!(rt; found, wanted);
 }
 
-/// A region without clauses.
-pub(crate) fn region(alloc: Global) -> Result<Region, Fail> {
-    let text = Text::new(alloc, Vec::new(alloc))?;
+/// The region of a text.
+pub(crate) fn region_of(alloc: Global, text: Text) -> Result<Region, Fail> {
     Ok(Region::new(alloc, Arc::new(alloc, text)?)?)
 }
 
-pub(crate) fn height(region: &Region) -> usize {
-    region.height()
+/// A region without clauses.
+pub(crate) fn region(alloc: Global) -> Result<Region, Fail> {
+    region_of(alloc, Text::new(alloc, Vec::new(alloc))?)
+}
+
+/// There are so many choice points.
+pub(crate) fn expect_height(rt: &impl Abort, region: &Region, wanted: usize) {
+    expect(rt, region.height(), wanted);
 }
 
 pub(crate) fn integer(alloc: Global, value: i64) -> Result<FlatTerm, NoMemory> {
@@ -54,10 +59,19 @@ pub(crate) fn value(
     Ok(region.copy_in(&term)?)
 }
 
-/// What a variable leads to.
-pub(crate) fn reached(rt: &impl Abort, region: &Region, variable: u32) -> BindingCell {
+/// A variable leads to this.
+pub(crate) fn expect_reached(rt: &impl Abort, region: &Region, variable: u32, wanted: BindingCell) {
     assert!(rt; variable < region.store().next());
-    region.store().dereference(BindingCell::Var(variable))
+    expect(
+        rt,
+        region.store().dereference(BindingCell::Var(variable)),
+        wanted,
+    );
+}
+
+/// What is gone on with is that nothing is left.
+pub(crate) fn expect_nothing_left(rt: &impl Abort, found: Option<Position>) {
+    expect(rt, found, Some(NOTHING));
 }
 
 /// A goal after which nothing follows.
@@ -91,4 +105,15 @@ pub(crate) fn backtrack(region: &mut Region) -> Result<Back, NoMemory> {
         Resumed::QueryDone => Back::QueryDone,
         Resumed::AllDone => Back::AllDone,
     })
+}
+
+/// The newest choice point comes back as this.
+pub(crate) fn expect_back(rt: &impl Abort, region: &mut Region, wanted: Back) -> Result<(), Fail> {
+    expect(rt, backtrack(region)?, wanted);
+    Ok(())
+}
+
+/// Nothing is left at the newest choice point.
+pub(crate) fn expect_back_at_nothing(rt: &impl Abort, region: &mut Region) -> Result<(), Fail> {
+    expect_back(rt, region, Back::Left(NOTHING, Left::Nothing))
 }

@@ -3,8 +3,8 @@ ghost use Rattle.std.specs.Prelude.{IfOk};
 ghost use Rattle.std.specs.Str.{IsAscii};
 ghost use Rattle.cell_store.specs.StoreView.{IsValueIn};
 
-use crate::choices::is_findall;
-use crate::common::{Back, backtrack, expect, height, integer, last, region, value};
+use crate::choices::expect_findall;
+use crate::common::{Back, backtrack, expect, expect_height, integer, last, region, value};
 use au_model::build::binary;
 use au_term::NoMemory;
 use binding_array::BindingCell;
@@ -36,16 +36,18 @@ fn pair(
     value(rt, alloc, region, term)
 }
 
-/// Takes the newest choice point, and gives what comes first there.
-fn next(region: &mut Region) -> Result<Left, Fail> {
-    match backtrack(region)? {
-        Back::Left(_, left) => Ok(left),
-        _ => Err("a position")?,
-    }
+/// What comes first is a goal, with so many choice points at a cut there.
+fn expect_first(rt: &impl Abort, found: Left, item: FrameItem, cut: u32) {
+    expect(rt, found, Left::First(item, cut));
 }
 
-fn first(goal: FrameItem, cut: u32) -> Left {
-    Left::First(goal, cut)
+/// Takes the newest choice point, where this comes first.
+fn expect_next(rt: &impl Abort, region: &mut Region, item: FrameItem) -> Result<(), Fail> {
+    match backtrack(region)? {
+        Back::Left(_, left) => expect_first(rt, left, item, 0),
+        _ => Err("a position")?,
+    }
+    Ok(())
 }
 
 fn goal(number: i64) -> FrameItem {
@@ -67,85 +69,89 @@ fn conjunctions_are_taken_apart(rt: HostRuntime) -> Result<(), Fail> {
     Ok(())
 }
 
-/// What comes first of a disjunction of a compound and 3.
-fn first_of_two(
+/// What comes first of a disjunction of a compound and 3: the goal 1, with so many choice points at a cut there.
+fn expect_first_of_two(
     rt: &impl Abort,
     alloc: Global,
     region: &mut Region,
     name: &str,
-) -> Result<Left, Fail>
+    cut: u32,
+) -> Result<(), Fail>
     requires { IsAscii name.now }
 {
     let left = pair(rt, alloc, region, name)?;
     let place = last(region)?;
     let position = disjunction(region, alloc, left, THREE, place)?;
-    Ok(region.left_at(position))
-}
-
-/// Conjunctions, and conditions with an else: by their name, how many choice points a cut in the first goal leaves.
-#[test]
-fn branches_in_their_order(rt: HostRuntime) -> Result<(), Fail> {
-    let alloc = rt.alloc();
-    let mut region = region(alloc)?;
-    let left = first_of_two(&rt, alloc, &mut region, ",")?;
-    expect(&rt, left, first(goal(1), 0));
-    expect(&rt, next(&mut region)?, first(goal(3), 0));
-    let left = first_of_two(&rt, alloc, &mut region, "->")?;
-    expect(&rt, left, first(goal(1), 1));
-    expect(&rt, next(&mut region)?, first(goal(3), 0));
+    expect_first(rt, region.left_at(position), goal(1), cut);
     Ok(())
 }
 
-fn first_of_condition(alloc: Global, region: &mut Region) -> Result<Left, NoMemory> {
+/// Conjunctions, and conditions with an else: by their name, how many choice points a cut in the first goal leaves.
+fn take_branches(rt: &impl Abort, alloc: Global, region: &mut Region) -> Result<(), Fail> {
+    expect_first_of_two(rt, alloc, region, ",", 0)?;
+    expect_next(rt, region, goal(3))?;
+    expect_first_of_two(rt, alloc, region, "->", 1)?;
+    expect_next(rt, region, goal(3))
+}
+
+#[test]
+fn branches_in_their_order(rt: HostRuntime) -> Result<(), Fail> {
+    let mut region = region(rt.alloc())?;
+    take_branches(&rt, rt.alloc(), &mut region)
+}
+
+fn check_condition(rt: &impl Abort, alloc: Global, region: &mut Region) -> Result<(), Fail> {
     let place = last(region)?;
     let position = if_then(region, alloc, ONE, TWO, place)?;
-    Ok(region.left_at(position))
+    expect_first(rt, region.left_at(position), goal(1), 1);
+    expect_next(rt, region, FrameItem::Fail)
 }
 
-fn first_of_not(alloc: Global, region: &mut Region) -> Result<Left, NoMemory> {
+fn check_not(rt: &impl Abort, alloc: Global, region: &mut Region) -> Result<(), Fail> {
     let place = last(region)?;
     let position = not(region, alloc, ONE, place)?;
-    Ok(region.left_at(position))
+    expect_first(rt, region.left_at(position), FrameItem::Call(ONE), 1);
+    expect_next(rt, region, FrameItem::True)
 }
 
-fn first_of_once(alloc: Global, region: &mut Region) -> Result<Left, NoMemory> {
+fn check_once(rt: &impl Abort, alloc: Global, region: &mut Region) -> Result<(), Fail> {
     let place = last(region)?;
     let position = once(region, alloc, ONE, place)?;
-    Ok(region.left_at(position))
+    expect_first(rt, region.left_at(position), FrameItem::Call(ONE), 1);
+    expect_next(rt, region, FrameItem::Fail)
+}
+
+fn check_conditions(rt: &impl Abort, alloc: Global, region: &mut Region) -> Result<(), Fail> {
+    check_condition(rt, alloc, region)?;
+    check_not(rt, alloc, region)?;
+    check_once(rt, alloc, region)
 }
 
 #[test]
 fn conditions_without_an_else(rt: HostRuntime) -> Result<(), Fail> {
-    let alloc = rt.alloc();
-    let mut region = region(alloc)?;
-    let left = first_of_condition(alloc, &mut region)?;
-    expect(&rt, left, first(goal(1), 1));
-    expect(&rt, next(&mut region)?, first(FrameItem::Fail, 0));
-    let left = first_of_not(alloc, &mut region)?;
-    expect(&rt, left, first(FrameItem::Call(ONE), 1));
-    expect(&rt, next(&mut region)?, first(FrameItem::True, 0));
-    let left = first_of_once(alloc, &mut region)?;
-    expect(&rt, left, first(FrameItem::Call(ONE), 1));
-    expect(&rt, next(&mut region)?, first(FrameItem::Fail, 0));
+    let mut region = region(rt.alloc())?;
+    check_conditions(&rt, rt.alloc(), &mut region)
+}
+
+fn check_catch(rt: &impl Abort, region: &mut Region) -> Result<(), Fail> {
+    let place = last(region)?;
+    let position = catch(region, ONE, TWO, TWO, place)?;
+    expect_first(rt, region.left_at(position), FrameItem::Call(ONE), 1);
     Ok(())
 }
 
-fn first_of_catch(region: &mut Region) -> Result<Left, NoMemory> {
-    let place = last(region)?;
-    let position = catch(region, ONE, TWO, TWO, place)?;
-    Ok(region.left_at(position))
-}
-
-fn first_of_findall(alloc: Global, region: &mut Region) -> Result<Left, NoMemory> {
+fn check_findall(rt: &impl Abort, alloc: Global, region: &mut Region) -> Result<(), Fail> {
     let place = last(region)?;
     let position = findall(region, alloc, TWO, ONE, TWO, place)?;
-    Ok(region.left_at(position))
+    expect_first(rt, region.left_at(position), FrameItem::Call(ONE), 2);
+    Ok(())
 }
 
-fn first_of_call(alloc: Global, region: &mut Region) -> Result<Left, NoMemory> {
+fn check_call(rt: &impl Abort, alloc: Global, region: &mut Region) -> Result<(), Fail> {
     let place = last(region)?;
     let position = call(region, alloc, ONE, place)?;
-    Ok(region.left_at(position))
+    expect_first(rt, region.left_at(position), goal(1), 2);
+    Ok(())
 }
 
 /// Cuts to the choice points that are there.
@@ -155,41 +161,52 @@ fn cut_nothing(region: &mut Region) -> Result<(), NoMemory> {
     Ok(())
 }
 
-#[test]
-fn goals_are_guarded(rt: HostRuntime) -> Result<(), Fail> {
-    let alloc = rt.alloc();
-    let mut region = region(alloc)?;
-    let left = first_of_catch(&mut region)?;
-    expect(&rt, left, first(FrameItem::Call(ONE), 1));
-    let left = first_of_findall(alloc, &mut region)?;
-    expect(&rt, left, first(FrameItem::Call(ONE), 2));
-    let left = first_of_call(alloc, &mut region)?;
-    expect(&rt, left, first(goal(1), 2));
-    cut_nothing(&mut region)?;
-    expect(&rt, height(&region), 2);
-    expect(&rt, is_findall(&region, 1), true);
+fn guard_goals(rt: &impl Abort, alloc: Global, region: &mut Region) -> Result<(), Fail> {
+    check_catch(rt, region)?;
+    check_findall(rt, alloc, region)?;
+    check_call(rt, alloc, region)?;
+    cut_nothing(region)?;
+    expect_height(rt, region, 2);
+    expect_findall(rt, region, 1, true);
     Ok(())
 }
 
-/// Throws 1 in a goal whose balls are caught, and gives what comes first of the recovery.
-fn recovered(alloc: Global, region: &mut Region, catcher: i64) -> Result<Option<Left>, NoMemory> {
+#[test]
+fn goals_are_guarded(rt: HostRuntime) -> Result<(), Fail> {
+    let mut region = region(rt.alloc())?;
+    guard_goals(&rt, rt.alloc(), &mut region)
+}
+
+/// Throws 1 in a goal whose balls are caught: what comes first of the recovery.
+fn expect_recovered(
+    rt: &impl Abort,
+    alloc: Global,
+    region: &mut Region,
+    catcher: i64,
+    caught: bool,
+) -> Result<(), NoMemory> {
     let ball = integer(alloc, 1)?;
     let place = last(region)?;
     let position = catch(region, TWO, BindingCell::Int(catcher), THREE, place)?;
     match throw(region, alloc, &ball, position)? {
-        Some(next) => Ok(Some(region.left_at(next))),
-        None => Ok(None),
+        Some(next) => {
+            expect_first(rt, region.left_at(next), FrameItem::Call(THREE), 0);
+            expect(rt, true, caught);
+        }
+        None => expect(rt, false, caught),
     }
+    expect_height(rt, region, 0);
+    Ok(())
+}
+
+fn catch_balls(rt: &impl Abort, alloc: Global, region: &mut Region) -> Result<(), Fail> {
+    expect_recovered(rt, alloc, region, 1, true)?;
+    expect_recovered(rt, alloc, region, 4, false)?;
+    Ok(())
 }
 
 #[test]
 fn balls_are_caught(rt: HostRuntime) -> Result<(), Fail> {
-    let alloc = rt.alloc();
-    let mut region = region(alloc)?;
-    let recovery = first(FrameItem::Call(THREE), 0);
-    for (catcher, wanted) in [(1, Some(recovery)), (4, None)] {
-        expect(&rt, recovered(alloc, &mut region, catcher)?, wanted);
-        expect(&rt, height(&region), 0);
-    }
-    Ok(())
+    let mut region = region(rt.alloc())?;
+    catch_balls(&rt, rt.alloc(), &mut region)
 }

@@ -1,12 +1,15 @@
 //! What no clause says of texts and of goals that are called: that calls succeed, and what comes back.
 ghost use Rattle.cell_store.specs.StoreView.{IsValueIn};
 
-use crate::choices::{Kind, take_newest};
-use crate::common::{Back, NOTHING, atom, backtrack, expect, height, integer, reached, value};
+use crate::choices::expect_clauses;
+use crate::common::{
+    Back, atom, expect, expect_back, expect_back_at_nothing, expect_height, expect_nothing_left,
+    expect_reached, integer, region_of, value,
+};
 use au_model::build::{binary, single};
 use au_term::{Cell, FlatTerm, NoMemory};
 use binding_array::BindingCell;
-use clause_compile::{Place, compile};
+use clause_compile::{Clause, Place, compile};
 use region_split::{BodyItem, Frame, FrameBody, Left, Position, Region, Text, Trial};
 use std::alloc::Global;
 use std::process::Abort;
@@ -14,41 +17,46 @@ use std::sync::Arc;
 use std::test::Fail;
 use value_goals::type_tests::is_callable;
 
+/// A clause of a name and a goal.
+fn rule(alloc: Global, name: &str, goal: &str) -> Result<Arc<Clause>, Fail> {
+    Ok(compile(alloc, &atom(alloc, name)?, &atom(alloc, goal)?)?)
+}
+
 /// The text of `p :- q` and `q`.
 fn text(alloc: Global) -> Result<Text, Fail> {
     let mut clauses = Vec::new(alloc);
-    for (name, goal) in [("p", "q"), ("q", "true")] {
-        clauses.push(compile(alloc, &atom(alloc, name)?, &atom(alloc, goal)?)?)?;
-    }
+    clauses.push(rule(alloc, "p", "q")?)?;
+    clauses.push(rule(alloc, "q", "true")?)?;
     Ok(Text::new(alloc, clauses)?)
 }
 
 /// A region over that text.
 pub(crate) fn region(alloc: Global) -> Result<Region, Fail> {
-    Ok(Region::new(alloc, Arc::new(alloc, text(alloc)?)?)?)
+    region_of(alloc, text(alloc)?)
 }
 
-/// Where a clause is: its head, its body and how many variables it has.
-fn placed(rt: &impl Abort, text: &Text, number: u32) -> (Place, u32, u32) {
+/// A clause is here: its head and its body. It has no variables.
+fn expect_placed(rt: &impl Abort, text: &Text, number: u32, head: Place, body: u32) {
     assert!(rt; (number as usize) < text.clauses());
     let placed = text.placed(number);
-    (placed.head, placed.body, placed.vars)
+    expect(rt, (placed.head, placed.body, placed.vars), (head, body, 0));
+}
+
+fn expect_item(rt: &impl Abort, text: &Text, at: u32, wanted: Option<BodyItem>) {
+    expect(rt, text.get(at), wanted);
 }
 
 #[test]
 fn clauses_are_where_the_text_says(rt: HostRuntime) -> Result<(), Fail> {
     let text = text(rt.alloc())?;
     expect(&rt, text.clauses(), 2);
-    expect(&rt, text.get(0), Some(BodyItem::Goal(Place::Atom(1))));
-    expect(&rt, text.get(1), Some(BodyItem::BodyEnd));
-    expect(&rt, text.get(3), None);
-    expect(&rt, placed(&rt, &text, 0), (Place::Atom(0), 0, 0));
-    expect(&rt, placed(&rt, &text, 1), (Place::Atom(1), 2, 0));
+    let goal = BodyItem::Goal(Place::Atom(1));
+    for (at, wanted) in [(0, Some(goal)), (1, Some(BodyItem::BodyEnd)), (3, None)] {
+        expect_item(&rt, &text, at, wanted);
+    }
+    expect_placed(&rt, &text, 0, Place::Atom(0), 0);
+    expect_placed(&rt, &text, 1, Place::Atom(1), 2);
     Ok(())
-}
-
-fn last_left(region: &Region) -> Left {
-    region.left_at(region.nothing_left())
 }
 
 /// Makes a frame that goes on where nothing is left.
@@ -61,17 +69,22 @@ fn push_frame(region: &mut Region) -> Result<u32, NoMemory> {
     })
 }
 
-#[test]
-fn frames_are_written_over(rt: HostRuntime) -> Result<(), Fail> {
-    let mut region = region(rt.alloc())?;
-    expect(&rt, last_left(&region), Left::Nothing);
-    expect(&rt, push_frame(&mut region)?, 1);
-    expect(&rt, push_frame(&mut region)?, 1);
+fn last_left(region: &Region) -> Left {
+    region.left_at(region.nothing_left())
+}
+
+fn write_over(rt: &impl Abort, region: &mut Region) -> Result<(), Fail> {
+    expect(rt, last_left(region), Left::Nothing);
+    for frame in [1, 1] {
+        expect(rt, push_frame(region)?, frame);
+    }
     Ok(())
 }
 
-fn scope(region: &Region) -> Result<u32, NoMemory> {
-    region.scope()
+#[test]
+fn frames_are_written_over(rt: HostRuntime) -> Result<(), Fail> {
+    let mut region = region(rt.alloc())?;
+    write_over(&rt, &mut region)
 }
 
 /// Tries a clause for a goal.
@@ -96,46 +109,62 @@ fn try_for(
     )
 }
 
-fn try_for_integer(
+fn expect_no_trial(
     rt: &impl Abort,
     region: &mut Region,
     value: i64,
     clause: u32,
-) -> Result<Option<Position>, NoMemory> {
-    try_for(rt, region, BindingCell::Int(value), clause)
+) -> Result<(), NoMemory> {
+    let found = try_for(rt, region, BindingCell::Int(value), clause)?;
+    expect(rt, found, None);
+    Ok(())
 }
 
-fn try_for_variable(
+/// Tries a clause for the first variable.
+fn expect_trial(
     rt: &impl Abort,
     region: &mut Region,
-    variable: u32,
     clause: u32,
-) -> Result<Option<Position>, NoMemory> {
-    assert!(rt; variable < region.store().next());
-    try_for(rt, region, BindingCell::Var(variable), clause)
+    wanted: Option<Position>,
+) -> Result<(), NoMemory> {
+    assert!(rt; 0 < region.store().next());
+    let found = try_for(rt, region, BindingCell::Var(0), clause)?;
+    expect(rt, found, wanted);
+    Ok(())
 }
 
-fn fresh(region: &mut Region, count: u32) -> Result<u32, NoMemory> {
-    region.fresh(count)
+pub(crate) fn expect_fresh(
+    rt: &impl Abort,
+    region: &mut Region,
+    count: u32,
+    first: u32,
+) -> Result<(), NoMemory> {
+    expect(rt, region.fresh(count)?, first);
+    Ok(())
+}
+
+fn expect_scope(rt: &impl Abort, region: &Region) -> Result<(), NoMemory> {
+    expect(rt, region.scope()?, 0);
+    Ok(())
 }
 
 const FIRST_BODY: Position = Position { frame: 1, at: 0 };
 
+fn try_clauses(rt: &impl Abort, region: &mut Region) -> Result<(), Fail> {
+    expect_fresh(rt, region, 1, 0)?;
+    expect_scope(rt, region)?;
+    expect_no_trial(rt, region, 7, 0)?;
+    expect_trial(rt, region, 0, Some(FIRST_BODY))?;
+    expect_reached(rt, region, 0, BindingCell::Atom(0));
+    expect_trial(rt, region, 1, None)?;
+    expect_height(rt, region, 0);
+    Ok(())
+}
+
 #[test]
 fn clauses_are_tried(rt: HostRuntime) -> Result<(), Fail> {
     let mut region = region(rt.alloc())?;
-    expect(&rt, fresh(&mut region, 1)?, 0);
-    expect(&rt, scope(&region)?, 0);
-    expect(&rt, try_for_integer(&rt, &mut region, 7, 0)?, None);
-    expect(
-        &rt,
-        try_for_variable(&rt, &mut region, 0, 0)?,
-        Some(FIRST_BODY),
-    );
-    expect(&rt, reached(&rt, &region, 0), BindingCell::Atom(0));
-    expect(&rt, try_for_variable(&rt, &mut region, 0, 1)?, None);
-    expect(&rt, height(&region), 0);
-    Ok(())
+    try_clauses(&rt, &mut region)
 }
 
 /// Calls a goal after which nothing follows.
@@ -162,30 +191,35 @@ fn call(
 }
 
 /// Whether an atom has a clause as a goal with so many arguments.
-fn is_defined(
+fn expect_defined(
     rt: &impl Abort,
     alloc: Global,
     region: &mut Region,
-    name: &str,
     arity: u32,
-) -> Result<bool, Fail> {
-    let name = value(rt, alloc, region, atom(alloc, name)?)?;
+    wanted: bool,
+) -> Result<(), Fail> {
+    let name = value(rt, alloc, region, atom(alloc, "p")?)?;
     match region.store().dereference(name) {
-        BindingCell::Atom(name) => Ok(region.is_defined(name, arity)),
+        BindingCell::Atom(name) => expect(rt, region.is_defined(name, arity), wanted),
         _ => Err("an atom")?,
     }
+    Ok(())
+}
+
+fn call_one_clause(rt: &impl Abort, alloc: Global, region: &mut Region) -> Result<(), Fail> {
+    for (arity, wanted) in [(0, true), (1, false)] {
+        expect_defined(rt, alloc, region, arity, wanted)?;
+    }
+    let body = call(rt, alloc, region, atom(alloc, "p")?)?;
+    expect(rt, body, Some(FIRST_BODY));
+    expect_height(rt, region, 0);
+    Ok(())
 }
 
 #[test]
 fn one_clause_leaves_no_choice_point(rt: HostRuntime) -> Result<(), Fail> {
-    let alloc = rt.alloc();
-    let mut region = region(alloc)?;
-    expect(&rt, is_defined(&rt, alloc, &mut region, "p", 0)?, true);
-    expect(&rt, is_defined(&rt, alloc, &mut region, "p", 1)?, false);
-    let body = call(&rt, alloc, &mut region, atom(alloc, "p")?)?;
-    expect(&rt, body, Some(FIRST_BODY));
-    expect(&rt, height(&region), 0);
-    Ok(())
+    let mut region = region(rt.alloc())?;
+    call_one_clause(&rt, rt.alloc(), &mut region)
 }
 
 /// `f` with two arguments.
@@ -198,17 +232,24 @@ fn fact(alloc: Global, first: i64, second: i64) -> Result<FlatTerm, NoMemory> {
     )
 }
 
-/// A region over the facts `f(0,1)`, `f(1,0)`, `f(2,1)` and so on, with one variable.
-fn facts(alloc: Global, count: i64) -> Result<Region, Fail> {
+/// The clause of a fact.
+fn fact_clause(alloc: Global, first: i64, second: i64) -> Result<Arc<Clause>, Fail> {
+    Ok(compile(alloc, &fact(alloc, first, second)?, &atom(alloc, "true")?)?)
+}
+
+/// The text of the facts `f(0,1)`, `f(1,0)`, `f(2,1)` and so on.
+fn facts_text(alloc: Global, count: i64) -> Result<Text, Fail> {
     let mut clauses = Vec::new(alloc);
-    let body = atom(alloc, "true")?;
     for number in 0..count {
-        let head = fact(alloc, number, 1 - number % 2)?;
-        clauses.push(compile(alloc, &head, &body)?)?;
+        clauses.push(fact_clause(alloc, number, 1 - number % 2)?)?;
     }
-    let text = Text::new(alloc, clauses)?;
-    let mut region = Region::new(alloc, Arc::new(alloc, text)?)?;
-    fresh(&mut region, 1)?;
+    Ok(Text::new(alloc, clauses)?)
+}
+
+/// A region over that text, with one variable.
+fn facts(alloc: Global, count: i64) -> Result<Region, Fail> {
+    let mut region = region_of(alloc, facts_text(alloc, count)?)?;
+    region.fresh(1)?;
     Ok(region)
 }
 
@@ -223,66 +264,83 @@ fn call_fact(
     call(rt, alloc, region, fact(alloc, first, second)?)
 }
 
-/// Calls `f` with the variable and an integer.
-fn call_free(
-    rt: &impl Abort,
-    alloc: Global,
-    region: &mut Region,
-    second: i64,
-) -> Result<Option<Position>, Fail> {
-    let free = single(alloc, Cell::Var(0))?;
-    let goal = binary(alloc, "f", &free, &integer(alloc, second)?)?;
-    call(rt, alloc, region, goal)
+/// `f` with the variable and an integer.
+fn free(alloc: Global, second: i64) -> Result<FlatTerm, NoMemory> {
+    binary(
+        alloc,
+        "f",
+        &single(alloc, Cell::Var(0))?,
+        &integer(alloc, second)?,
+    )
+}
+
+/// Calls it.
+fn call_free(rt: &impl Abort, alloc: Global, region: &mut Region, second: i64) -> Result<(), Fail> {
+    let found = call(rt, alloc, region, free(alloc, second)?)?;
+    expect_nothing_left(rt, found);
+    Ok(())
 }
 
 /// The variable is bound to an integer, with so many choice points.
 fn expect_bound(rt: &impl Abort, region: &Region, value: i64, choices: usize) {
-    expect(rt, reached(rt, region, 0), BindingCell::Int(value));
-    expect(rt, height(region), choices);
+    expect_reached(rt, region, 0, BindingCell::Int(value));
+    expect_height(rt, region, choices);
+}
+
+/// One fact by its key, and then the first of many.
+fn call_both(rt: &impl Abort, alloc: Global, region: &mut Region) -> Result<(), Fail> {
+    let key = call_fact(rt, alloc, region, 77_777, 0)?;
+    expect_nothing_left(rt, key);
+    expect_height(rt, region, 0);
+    call_free(rt, alloc, region, 1)?;
+    expect_bound(rt, region, 0, 1);
+    expect_clauses(rt, region);
+    Ok(())
+}
+
+fn find_facts(rt: &impl Abort, alloc: Global, region: &mut Region) -> Result<(), Fail> {
+    for _turn in 0..1_000 {
+        call_both(rt, alloc, region)?;
+    }
+    Ok(())
 }
 
 #[test]
 fn one_of_many_facts(rt: HostRuntime) -> Result<(), Fail> {
-    let alloc = rt.alloc();
-    let mut region = facts(alloc, 100_000)?;
-    for _turn in 0..1_000 {
-        let key = call_fact(&rt, alloc, &mut region, 77_777, 0)?;
-        expect(&rt, key, Some(NOTHING));
-        expect(&rt, height(&region), 0);
-        let free = call_free(&rt, alloc, &mut region, 1)?;
-        expect(&rt, free, Some(NOTHING));
-        expect_bound(&rt, &region, 0, 1);
-        expect(&rt, take_newest(&rt, &mut region), Kind::Clauses);
+    let mut region = facts(rt.alloc(), 100_000)?;
+    find_facts(&rt, rt.alloc(), &mut region)
+}
+
+fn call_in_order(rt: &impl Abort, alloc: Global, region: &mut Region) -> Result<(), Fail> {
+    call_free(rt, alloc, region, 0)?;
+    expect_bound(rt, region, 1, 1);
+    for (value, choices) in [(3, 1), (5, 0)] {
+        expect_back_at_nothing(rt, region)?;
+        expect_bound(rt, region, value, choices);
     }
-    Ok(())
+    expect_back(rt, region, Back::AllDone)
 }
 
 #[test]
 fn facts_in_their_order(rt: HostRuntime) -> Result<(), Fail> {
-    let alloc = rt.alloc();
-    let mut region = facts(alloc, 6)?;
-    let first = call_free(&rt, alloc, &mut region, 0)?;
-    expect(&rt, first, Some(NOTHING));
-    expect_bound(&rt, &region, 1, 1);
-    for (value, choices) in [(3, 1), (5, 0)] {
-        expect(
-            &rt,
-            backtrack(&mut region)?,
-            Back::Left(NOTHING, Left::Nothing),
-        );
-        expect_bound(&rt, &region, value, choices);
-    }
-    expect(&rt, backtrack(&mut region)?, Back::AllDone);
+    let mut region = facts(rt.alloc(), 6)?;
+    call_in_order(&rt, rt.alloc(), &mut region)
+}
+
+/// Calls `f` with an integer for which there is no fact.
+fn call_in_vain(rt: &impl Abort, alloc: Global, region: &mut Region, key: i64) -> Result<(), Fail> {
+    expect(rt, call_fact(rt, alloc, region, key, 1)?, None);
+    expect_height(rt, region, 0);
     Ok(())
+}
+
+fn leave_nothing(rt: &impl Abort, alloc: Global, region: &mut Region) -> Result<(), Fail> {
+    call_in_vain(rt, alloc, region, 3)?;
+    call_in_vain(rt, alloc, region, 9)
 }
 
 #[test]
 fn calls_that_leave_nothing(rt: HostRuntime) -> Result<(), Fail> {
-    let alloc = rt.alloc();
-    let mut region = facts(alloc, 6)?;
-    for key in [3, 9] {
-        expect(&rt, call_fact(&rt, alloc, &mut region, key, 1)?, None);
-    }
-    expect(&rt, height(&region), 0);
-    Ok(())
+    let mut region = facts(rt.alloc(), 6)?;
+    leave_nothing(&rt, rt.alloc(), &mut region)
 }

@@ -7,7 +7,11 @@ ghost use Rattle.region_split.specs.Regions.{IsPositionIn};
 ghost use Rattle.region_split.specs.declared.solution.EquationSide.TheVariants.{Value};
 ghost use Rattle.binding_array.specs.declared.cell.BindingCell.TheVariants.{Var as VarCell, Int as IntCell};
 
-use crate::common::{Back, NOTHING, backtrack, expect, height, reached};
+use crate::common::{
+    Back, NOTHING, expect, expect_back, expect_back_at_nothing, expect_height, expect_nothing_left,
+    expect_reached,
+};
+use crate::regions::expect_fresh;
 use au_model::build::atom;
 use au_term::{Cell, FlatTerm, NoMemory, Shared};
 use binding_array::BindingCell;
@@ -67,11 +71,11 @@ fn solve_removal(
 
 #[test]
 fn removal_comes_first(rt: HostRuntime) -> Result<(), Fail> {
-    let alloc = rt.alloc();
-    let mut region = region(alloc)?;
+    let mut region = region(rt.alloc())?;
     let removal = Left::First(FrameItem::Removal(7), 0);
-    expect(&rt, solve_removal(&rt, alloc, &mut region)?, Some(removal));
-    expect(&rt, height(&region), 0);
+    let found = solve_removal(&rt, rt.alloc(), &mut region)?;
+    expect(&rt, found, Some(removal));
+    expect_height(&rt, &region, 0);
     Ok(())
 }
 
@@ -92,34 +96,32 @@ fn two(
     Ok(solutions)
 }
 
-fn solve_two(
-    rt: &impl Abort,
-    alloc: Global,
-    region: &mut Region,
-) -> Result<Option<Position>, NoMemory> {
+fn solve_two(rt: &impl Abort, alloc: Global, region: &mut Region) -> Result<(), NoMemory> {
     let solutions = two(alloc, 1, 2, no_goals(alloc)?)?;
     assert!(rt; region.store().next() > 0);
     let after = region.nothing_left();
-    region.solve(Solutions::new(solutions), after)
+    let first = region.solve(Solutions::new(solutions), after)?;
+    expect_nothing_left(rt, first);
+    Ok(())
+}
+
+fn expect_solution(rt: &impl Abort, region: &Region, value: i64, choices: usize) {
+    expect_reached(rt, region, 0, BindingCell::Int(value));
+    expect_height(rt, region, choices);
+}
+
+fn take_solutions(rt: &impl Abort, alloc: Global, region: &mut Region) -> Result<(), Fail> {
+    solve_two(rt, alloc, region)?;
+    expect_solution(rt, region, 1, 1);
+    expect_back_at_nothing(rt, region)?;
+    expect_solution(rt, region, 2, 0);
+    expect_back(rt, region, Back::AllDone)
 }
 
 #[test]
 fn solutions_come_in_their_order(rt: HostRuntime) -> Result<(), Fail> {
-    let alloc = rt.alloc();
-    let mut region = region(alloc)?;
-    let first = solve_two(&rt, alloc, &mut region)?;
-    expect(&rt, first, Some(NOTHING));
-    expect(&rt, reached(&rt, &region, 0), BindingCell::Int(1));
-    expect(&rt, height(&region), 1);
-    expect(
-        &rt,
-        backtrack(&mut region)?,
-        Back::Left(NOTHING, Left::Nothing),
-    );
-    expect(&rt, reached(&rt, &region, 0), BindingCell::Int(2));
-    expect(&rt, height(&region), 0);
-    expect(&rt, backtrack(&mut region)?, Back::AllDone);
-    Ok(())
+    let mut region = region(rt.alloc())?;
+    take_solutions(&rt, rt.alloc(), &mut region)
 }
 
 /// The cut, as a goal.
@@ -204,21 +206,26 @@ fn ahead(alloc: Global, region: &mut Region, start: Position) -> Result<Next, No
     })
 }
 
-/// How many choice points there are at the cut, and what comes after it.
-fn behind_cut(rt: &impl Abort, alloc: Global, region: &mut Region) -> Result<(usize, Next), Fail> {
+/// A choice point is left at the cut. What comes after it is this.
+fn expect_behind_cut(
+    rt: &impl Abort,
+    alloc: Global,
+    region: &mut Region,
+    wanted: Next,
+) -> Result<(), Fail> {
     let start = solve_cut(rt, alloc, region)?;
-    let height = height(region);
+    expect_height(rt, region, 1);
     let after = take_cut(alloc, region, start)?;
-    Ok((height, ahead(alloc, region, after)?))
+    expect(rt, ahead(alloc, region, after)?, wanted);
+    Ok(())
 }
 
 #[test]
 fn cut_among_goals_takes_other_solutions(rt: HostRuntime) -> Result<(), Fail> {
-    let alloc = rt.alloc();
-    let mut region = region(alloc)?;
+    let mut region = region(rt.alloc())?;
     let five = Next::Goal(FrameItem::Goal(BindingCell::Int(5)), 0);
-    expect(&rt, behind_cut(&rt, alloc, &mut region)?, (1, five));
-    expect(&rt, height(&region), 0);
+    expect_behind_cut(&rt, rt.alloc(), &mut region, five)?;
+    expect_height(&rt, &region, 0);
     Ok(())
 }
 
@@ -230,19 +237,15 @@ fn behind_cut_alone(rt: &impl Abort, alloc: Global, region: &mut Region) -> Resu
 
 #[test]
 fn removal_comes_behind_goals(rt: HostRuntime) -> Result<(), Fail> {
-    let alloc = rt.alloc();
-    let mut region = region(alloc)?;
+    let mut region = region(rt.alloc())?;
     let removal = Next::Removal(7, Left::GoesOnAt(NOTHING));
-    expect(&rt, behind_cut_alone(&rt, alloc, &mut region)?, removal);
+    let found = behind_cut_alone(&rt, rt.alloc(), &mut region)?;
+    expect(&rt, found, removal);
     Ok(())
 }
 
 /// Solves with a copied term for the variable, and takes three new ones.
-fn solve_copied(
-    rt: &impl Abort,
-    alloc: Global,
-    region: &mut Region,
-) -> Result<Option<Position>, NoMemory> {
+fn solve_copied(rt: &impl Abort, alloc: Global, region: &mut Region) -> Result<(), NoMemory> {
     let term = FlatTerm::from_slice(alloc, &[Cell::Int(5)])?;
     let mut equations = Vec::new(alloc);
     equations.push(Equation {
@@ -253,21 +256,20 @@ fn solve_copied(
     solutions.push(Solution::new(equations, Vec::new(alloc), None, 3))?;
     assert!(rt; region.store().next() > 0);
     let after = region.nothing_left();
-    region.solve(Solutions::new(solutions), after)
+    expect_nothing_left(rt, region.solve(Solutions::new(solutions), after)?);
+    Ok(())
 }
 
-fn next_variable(region: &mut Region) -> Result<u32, NoMemory> {
-    region.fresh(0)
+fn copy_in(rt: &impl Abort, alloc: Global, region: &mut Region) -> Result<(), Fail> {
+    expect_fresh(rt, region, 0, 1)?;
+    solve_copied(rt, alloc, region)?;
+    expect_reached(rt, region, 0, BindingCell::Int(5));
+    expect_fresh(rt, region, 0, 4)?;
+    Ok(())
 }
 
 #[test]
 fn terms_are_copied_in(rt: HostRuntime) -> Result<(), Fail> {
-    let alloc = rt.alloc();
-    let mut region = region(alloc)?;
-    expect(&rt, next_variable(&mut region)?, 1);
-    let first = solve_copied(&rt, alloc, &mut region)?;
-    expect(&rt, first, Some(NOTHING));
-    expect(&rt, reached(&rt, &region, 0), BindingCell::Int(5));
-    expect(&rt, next_variable(&mut region)?, 4);
-    Ok(())
+    let mut region = region(rt.alloc())?;
+    copy_in(&rt, rt.alloc(), &mut region)
 }
