@@ -47,14 +47,18 @@ fn expect_ends(rt: &impl Abort, array: &BindingArray, ends: [BindingCell; 4]) {
     }
 }
 
+fn chain(rt: &impl Abort, array: &mut BindingArray) -> Result<(), Fail> {
+    grow(array, 4)?;
+    grow(array, 2)?;
+    link(rt, array, 3, 2)?;
+    link(rt, array, 2, 0)?;
+    bind(rt, array, 1, 7)
+}
+
 #[test]
 fn chains(rt: HostRuntime) -> Result<(), Fail> {
     let mut array = BindingArray::new(rt.alloc());
-    grow(&mut array, 4)?;
-    grow(&mut array, 2)?;
-    link(&rt, &mut array, 3, 2)?;
-    link(&rt, &mut array, 2, 0)?;
-    bind(&rt, &mut array, 1, 7)?;
+    chain(&rt, &mut array)?;
     let (first, seven) = (BindingCell::Var(0), BindingCell::Int(7));
     expect_ends(&rt, &array, [first, seven, first, first]);
     free(&rt, &mut array, 2);

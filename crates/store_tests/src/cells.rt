@@ -4,8 +4,8 @@ ghost use Rattle.au_term.specs.Term.{VarTerm};
 ghost use Rattle.cell_store.specs.StoreView.{IsValueIn};
 
 use crate::common::{expect, values};
-use au_model::build::{atom, compound, unary};
-use au_term::{Atom, Cell, FlatTerm, NoMemory, VarNo};
+use au_model::build::{atom, binary, unary};
+use au_term::{Cell, FlatTerm, NoMemory, VarNo};
 use binding_array::BindingCell;
 use cell_store::Store;
 use clause_compile::Code;
@@ -36,17 +36,19 @@ fn side(alloc: Global, side: Side) -> Result<FlatTerm, NoMemory> {
 }
 
 fn both(alloc: Global, sides: &[Side; 2]) -> Result<FlatTerm, NoMemory> {
-    let name = Atom::ascii(alloc, "p")?;
-    let first = side(alloc, sides[0])?;
-    let second = side(alloc, sides[1])?;
-    compound(alloc, name, &[&first, &second])
+    binary(alloc, "p", &side(alloc, sides[0])?, &side(alloc, sides[1])?)
 }
 
-/// A store over the text of `p(g(V0), V1)`, with four variables.
-fn store(alloc: Global) -> Result<Store, Fail> {
+/// The code of `p(g(V0), V1)`.
+fn code(alloc: Global) -> Result<Code, Fail> {
     let mut code = Code::new(alloc);
     code.push_term(alloc, &both(alloc, &[(true, 0), (false, 1)])?)?;
-    let mut store = Store::new(alloc, Arc::new(alloc, code)?)?;
+    Ok(code)
+}
+
+/// A store over that text, with four variables.
+fn store(alloc: Global) -> Result<Store, Fail> {
+    let mut store = Store::new(alloc, Arc::new(alloc, code(alloc)?)?)?;
     store.fresh(4)?;
     Ok(store)
 }
@@ -83,6 +85,16 @@ fn unify(
     Ok(unified)
 }
 
+fn unifies(
+    rt: &impl Abort,
+    alloc: Global,
+    store: &mut Store,
+    a: &[Side; 2],
+    b: &[Side; 2],
+) -> Result<bool, Fail> {
+    unify(rt, alloc, store, both(alloc, a)?, both(alloc, b)?)
+}
+
 /// Terms over four variables, and whether they unify.
 const ROWS: [([Side; 2], [Side; 2], bool); 7] = [
     ([(false, 0), (false, 1)], [(false, 2), (false, 2)], true),
@@ -96,7 +108,7 @@ const ROWS: [([Side; 2], [Side; 2], bool); 7] = [
 
 fn row_unifies(rt: &impl Abort, alloc: Global, a: &[Side; 2], b: &[Side; 2]) -> Result<bool, Fail> {
     let mut store = store(alloc)?;
-    unify(rt, alloc, &mut store, both(alloc, a)?, both(alloc, b)?)
+    unifies(rt, alloc, &mut store, a, b)
 }
 
 #[test]
@@ -108,7 +120,7 @@ fn unification(rt: HostRuntime) -> Result<(), Fail> {
 }
 
 /// What `V0` is unified with, whose arguments are `g(a)` or `V0`, and whether they unify.
-const ARGUMENTS: [(bool, bool, bool); 4] = [
+static ARGUMENTS: [(bool, bool, bool); 4] = [
     (true, true, true),
     (true, false, false),
     (false, true, false),
@@ -124,9 +136,28 @@ fn argument(alloc: Global, is_ground: bool) -> Result<FlatTerm, NoMemory> {
 }
 
 fn pair(alloc: Global, first: bool, second: bool) -> Result<FlatTerm, NoMemory> {
-    let first = argument(alloc, first)?;
-    let second = argument(alloc, second)?;
-    compound(alloc, Atom::ascii(alloc, "p")?, &[&first, &second])
+    binary(
+        alloc,
+        "p",
+        &argument(alloc, first)?,
+        &argument(alloc, second)?,
+    )
+}
+
+fn unify_pair(
+    rt: &impl Abort,
+    alloc: Global,
+    store: &mut Store,
+    first: bool,
+    second: bool,
+) -> Result<bool, Fail> {
+    unify(
+        rt,
+        alloc,
+        store,
+        variable(alloc, 0)?,
+        pair(alloc, first, second)?,
+    )
 }
 
 fn variable_unifies(
@@ -136,15 +167,14 @@ fn variable_unifies(
     second: bool,
 ) -> Result<bool, Fail> {
     let mut store = store(alloc)?;
-    let left = variable(alloc, 0)?;
-    unify(rt, alloc, &mut store, left, pair(alloc, first, second)?)
+    unify_pair(rt, alloc, &mut store, first, second)
 }
 
 #[test]
 fn ground_arguments(rt: HostRuntime) -> Result<(), Fail> {
-    for (first, second, unifies) in ARGUMENTS {
-        let unified = variable_unifies(&rt, rt.alloc(), first, second)?;
-        expect(&rt, unified, unifies);
+    for (first, second, unifies) in &ARGUMENTS {
+        let unified = variable_unifies(&rt, rt.alloc(), *first, *second)?;
+        expect(&rt, unified, *unifies);
     }
     Ok(())
 }
@@ -174,6 +204,17 @@ fn unify_head(
     store.unify_head(goal, head, 2)
 }
 
+fn unify_both(
+    rt: &impl Abort,
+    alloc: Global,
+    store: &mut Store,
+    goal: &[Side; 2],
+    head: &[Side; 2],
+) -> Result<bool, Fail> {
+    let (goal, head) = values(rt, alloc, store, both(alloc, goal)?, both(alloc, head)?)?;
+    Ok(unify_head(rt, store, goal, head)?)
+}
+
 fn head_unifies(
     rt: &impl Abort,
     alloc: Global,
@@ -181,14 +222,7 @@ fn head_unifies(
     head: &[Side; 2],
 ) -> Result<bool, Fail> {
     let mut store = store(alloc)?;
-    let (goal, head) = values(
-        rt,
-        alloc,
-        &mut store,
-        both(alloc, goal)?,
-        both(alloc, head)?,
-    )?;
-    Ok(unify_head(rt, &mut store, goal, head)?)
+    unify_both(rt, alloc, &mut store, goal, head)
 }
 
 #[test]
@@ -208,16 +242,6 @@ enum Step {
     UndoTo(usize),
     KeepMarks(usize),
     Expect(u32, Side),
-}
-
-fn unifies(
-    rt: &impl Abort,
-    alloc: Global,
-    store: &mut Store,
-    a: &[Side; 2],
-    b: &[Side; 2],
-) -> Result<bool, Fail> {
-    unify(rt, alloc, store, both(alloc, a)?, both(alloc, b)?)
 }
 
 fn undo_to(rt: &impl Abort, store: &mut Store, mark: usize) {
@@ -289,13 +313,17 @@ const STEPS: [Step; 15] = [
     Step::Expect(3, (false, 3)),
 ];
 
+fn run_all(rt: &impl Abort, alloc: Global, store: &mut Store) -> Result<(), Fail> {
+    for step in &STEPS {
+        expect(rt, run(rt, alloc, store, step)?, true);
+    }
+    Ok(())
+}
+
 #[test]
 fn marks(rt: HostRuntime) -> Result<(), Fail> {
     let mut store = store(rt.alloc())?;
-    for step in &STEPS {
-        expect(&rt, run(&rt, rt.alloc(), &mut store, step)?, true);
-    }
-    Ok(())
+    run_all(&rt, rt.alloc(), &mut store)
 }
 
 fn made_since(
@@ -307,19 +335,27 @@ fn made_since(
     store.made_since(mark)
 }
 
-#[test]
-fn bindings_since_a_mark(rt: HostRuntime) -> Result<(), Fail> {
-    let mut store = store(rt.alloc())?;
-    let mark = mark(&mut store)?;
-    let (left, right) = ([(false, 0), (false, 3)], [(true, 1), (false, 2)]);
-    let unified = unifies(&rt, rt.alloc(), &mut store, &left, &right)?;
-    expect(&rt, unified, true);
-    match made_since(&rt, &store, mark)?.as_slice() {
+/// Two bindings since a mark: that of the first variable, and that of the last one to the third.
+fn expect_two(rt: &impl Abort, store: &Store, mark: usize) -> Result<(), Fail> {
+    match made_since(rt, store, mark)?.as_slice() {
         [(first, _), second] => {
-            expect(&rt, *first, 0);
-            expect(&rt, *second, (3, BindingCell::Var(2)));
+            expect(rt, *first, 0);
+            expect(rt, *second, (3, BindingCell::Var(2)));
         }
         _ => Err("two bindings")?,
     }
     Ok(())
+}
+
+fn bind_two(rt: &impl Abort, alloc: Global, store: &mut Store) -> Result<(), Fail> {
+    let mark = mark(store)?;
+    let (left, right) = ([(false, 0), (false, 3)], [(true, 1), (false, 2)]);
+    expect(rt, unifies(rt, alloc, store, &left, &right)?, true);
+    expect_two(rt, store, mark)
+}
+
+#[test]
+fn bindings_since_a_mark(rt: HostRuntime) -> Result<(), Fail> {
+    let mut store = store(rt.alloc())?;
+    bind_two(&rt, rt.alloc(), &mut store)
 }

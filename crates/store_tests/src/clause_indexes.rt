@@ -7,7 +7,7 @@ use std::test::Fail;
 type Key = Option<NumberKey>;
 
 /// `p(a)`, `q`, `p(X)`, `p(7)` and `p(a)`, where `p` has the number 0, `a` 1 and `q` 2.
-const HEADS: [(u32, u32, Key); 5] = [
+static HEADS: [(u32, u32, Key); 5] = [
     (0, 1, Some(NumberKey::Atom(1))),
     (2, 0, None),
     (0, 1, None),
@@ -17,8 +17,12 @@ const HEADS: [(u32, u32, Key); 5] = [
 
 fn index(alloc: Global) -> Result<ClauseIndex, Fail> {
     let mut heads = Vec::new(alloc);
-    for (name, arity, first) in HEADS {
-        heads.push(HeadKey { name, arity, first })?;
+    for (name, arity, first) in &HEADS {
+        heads.push(HeadKey {
+            name: *name,
+            arity: *arity,
+            first: *first,
+        })?;
     }
     Ok(ClauseIndex::new(alloc, heads)?)
 }

@@ -38,12 +38,17 @@ fn term(alloc: Global, small: Small) -> Result<FlatTerm, NoMemory> {
         }
         Small::Integer(value) => integer(alloc, value),
         Small::Atom(name) => single(alloc, Cell::Atom(Atom::new(alloc, name)?)),
-        Small::One(name, x) => compound(alloc, Atom::new(alloc, name)?, &[&integer(alloc, x)?]),
-        Small::Two(name, x, y) => {
-            let name = Atom::new(alloc, name)?;
-            compound(alloc, name, &[&integer(alloc, x)?, &integer(alloc, y)?])
-        }
+        Small::One(name, x) => one(alloc, name, x),
+        Small::Two(name, x, y) => two(alloc, name, &integer(alloc, x)?, y),
     }
+}
+
+fn one(alloc: Global, name: &str, x: i64) -> Result<FlatTerm, NoMemory> {
+    compound(alloc, Atom::new(alloc, name)?, &[&integer(alloc, x)?])
+}
+
+fn two(alloc: Global, name: &str, x: &FlatTerm, y: i64) -> Result<FlatTerm, NoMemory> {
+    compound(alloc, Atom::new(alloc, name)?, &[x, &integer(alloc, y)?])
 }
 
 /// A store with four variables.
@@ -54,7 +59,7 @@ fn store(alloc: Global) -> Result<Store, Fail> {
 }
 
 /// Terms in the standard order (ISO/IEC 13211-1, 7.2).
-const ORDERED: [Small; 11] = [
+static ORDERED: [Small; 11] = [
     Small::Variable(1),
     Small::Variable(2),
     Small::Integer(-3),
@@ -68,29 +73,33 @@ const ORDERED: [Small; 11] = [
     Small::Two("a", 1, 2),
 ];
 
-fn ordering(
+fn expect_ordering(
     rt: &impl Abort,
     alloc: Global,
     store: &mut Store,
     left: FlatTerm,
     right: FlatTerm,
-) -> Result<Ordering, Fail> {
+    wanted: Ordering,
+) -> Result<(), Fail> {
     let (left, right) = values(rt, alloc, store, left, right)?;
-    Ok(compare(alloc, store, left, right)?)
+    expect(rt, compare(alloc, store, left, right)?, wanted);
+    Ok(())
+}
+
+fn expect_order(rt: &impl Abort, alloc: Global, store: &mut Store) -> Result<(), Fail> {
+    for (i, left) in ORDERED.iter().enumerate() {
+        for (j, right) in ORDERED.iter().enumerate() {
+            let (left, right) = (term(alloc, *left)?, term(alloc, *right)?);
+            expect_ordering(rt, alloc, store, left, right, i.cmp(&j))?;
+        }
+    }
+    Ok(())
 }
 
 #[test]
 fn order(rt: HostRuntime) -> Result<(), Fail> {
-    let alloc = rt.alloc();
-    let mut store = store(alloc)?;
-    for (i, left) in ORDERED.iter().enumerate() {
-        for (j, right) in ORDERED.iter().enumerate() {
-            let (left, right) = (term(alloc, *left)?, term(alloc, *right)?);
-            let found = ordering(&rt, alloc, &mut store, left, right)?;
-            expect(&rt, found, i.cmp(&j));
-        }
-    }
-    Ok(())
+    let mut store = store(rt.alloc())?;
+    expect_order(&rt, rt.alloc(), &mut store)
 }
 
 /// What is seen of an evaluation.
@@ -109,69 +118,79 @@ fn seen_of(answer: Result<i64, EvalRefusal>) -> Seen {
     }
 }
 
-fn evaluated(
+fn expect_evaluated(
     rt: &impl Abort,
     alloc: Global,
     store: &mut Store,
     term: FlatTerm,
-) -> Result<Seen, Fail> {
+    wanted: Seen,
+) -> Result<(), Fail> {
     let term = value(rt, alloc, store, term)?;
-    Ok(seen_of(evaluate(alloc, store, term)))
+    expect(rt, seen_of(evaluate(alloc, store, term)), wanted);
+    Ok(())
 }
 
 /// The value that `is` gives for an expression.
-fn value_by_is(
+fn expect_value_by_is(
     rt: &impl Abort,
     alloc: Global,
     store: &mut Store,
     term: FlatTerm,
-) -> Result<Option<BindingCell>, Fail> {
+    wanted: i64,
+) -> Result<(), Fail> {
     let term = value(rt, alloc, store, term)?;
-    Ok(is_value(alloc, store, term).ok())
+    let found = is_value(alloc, store, term).ok();
+    expect(rt, found, Some(BindingCell::Int(wanted)));
+    Ok(())
 }
 
 /// The values of an expression that is compared with itself.
-fn compared(
+fn expect_compared(
     rt: &impl Abort,
     alloc: Global,
     store: &mut Store,
     term: FlatTerm,
-) -> Result<Option<(i64, i64)>, Fail> {
+    wanted: i64,
+) -> Result<(), Fail> {
     let term = value(rt, alloc, store, term)?;
-    Ok(compared_values(alloc, store, term, term).ok())
+    let found = compared_values(alloc, store, term, term).ok();
+    expect(rt, found, Some((wanted, wanted)));
+    Ok(())
 }
 
-fn ground(rt: &impl Abort, alloc: Global, store: &mut Store, term: FlatTerm) -> Result<bool, Fail> {
+fn expect_ground(
+    rt: &impl Abort,
+    alloc: Global,
+    store: &mut Store,
+    term: FlatTerm,
+) -> Result<(), Fail> {
     let term = value(rt, alloc, store, term)?;
-    Ok(is_ground(alloc, store, term)?)
+    expect(rt, is_ground(alloc, store, term)?, true);
+    Ok(())
 }
 
 /// A function of 42, as a product, and a number.
 fn of_product(alloc: Global, name: &str, value: i64) -> Result<FlatTerm, NoMemory> {
-    let product = term(alloc, Small::Two("*", 6, 7))?;
-    let name = Atom::new(alloc, name)?;
-    compound(alloc, name, &[&product, &integer(alloc, value)?])
+    two(alloc, name, &term(alloc, Small::Two("*", 6, 7))?, value)
 }
 
 fn sum(alloc: Global) -> Result<FlatTerm, NoMemory> {
     of_product(alloc, "+", -2)
 }
 
+fn expect_small(rt: &impl Abort, alloc: Global, store: &mut Store) -> Result<(), Fail> {
+    expect_evaluated(rt, alloc, store, sum(alloc)?, Seen::Value(40))?;
+    let error = Seen::Error(EvalName::ZeroDivisor);
+    expect_evaluated(rt, alloc, store, of_product(alloc, "//", 0)?, error)?;
+    expect_value_by_is(rt, alloc, store, sum(alloc)?, 40)?;
+    expect_compared(rt, alloc, store, sum(alloc)?, 40)?;
+    expect_ground(rt, alloc, store, sum(alloc)?)
+}
+
 #[test]
 fn small_goals(rt: HostRuntime) -> Result<(), Fail> {
-    let alloc = rt.alloc();
-    let mut store = store(alloc)?;
-    let found = evaluated(&rt, alloc, &mut store, sum(alloc)?)?;
-    expect(&rt, found, Seen::Value(40));
-    let found = evaluated(&rt, alloc, &mut store, of_product(alloc, "//", 0)?)?;
-    expect(&rt, found, Seen::Error(EvalName::ZeroDivisor));
-    let found = value_by_is(&rt, alloc, &mut store, sum(alloc)?)?;
-    expect(&rt, found, Some(BindingCell::Int(40)));
-    let found = compared(&rt, alloc, &mut store, sum(alloc)?)?;
-    expect(&rt, found, Some((40, 40)));
-    let found = ground(&rt, alloc, &mut store, sum(alloc)?)?;
-    expect(&rt, found, true);
-    Ok(())
+    let mut store = store(rt.alloc())?;
+    expect_small(&rt, rt.alloc(), &mut store)
 }
 
 fn push(builder: &mut TermBuilder, cell: Cell) -> Result<(), NoMemory> {
@@ -189,19 +208,23 @@ fn push(builder: &mut TermBuilder, cell: Cell) -> Result<(), NoMemory> {
 const DEPTH: u32 = 100_000;
 
 /// `plus` nested, to the left or to the right.
-fn nested(alloc: Global, left: bool) -> Result<FlatTerm, NoMemory> {
-    let plus = Atom::new(alloc, "+")?;
-    let mut builder = TermBuilder::new(alloc);
+fn push_nested(builder: &mut TermBuilder, plus: &Atom, left: bool) -> Result<(), NoMemory> {
     for _depth in 0..DEPTH {
-        push(&mut builder, Cell::Functor(plus.share()?, 2))?;
+        push(builder, Cell::Functor(plus.share()?, 2))?;
         if !left {
-            push(&mut builder, Cell::Int(1))?;
+            push(builder, Cell::Int(1))?;
         }
     }
     let rest = if left { DEPTH + 1 } else { 1 };
     for _rest in 0..rest {
-        push(&mut builder, Cell::Int(1))?;
+        push(builder, Cell::Int(1))?;
     }
+    Ok(())
+}
+
+fn nested(alloc: Global, left: bool) -> Result<FlatTerm, NoMemory> {
+    let mut builder = TermBuilder::new(alloc);
+    push_nested(&mut builder, &Atom::new(alloc, "+")?, left)?;
     finish(builder)
 }
 
@@ -212,18 +235,21 @@ fn finish(builder: TermBuilder) -> Result<FlatTerm, NoMemory> {
     Ok(builder.finish())
 }
 
+fn expect_deep(rt: &impl Abort, alloc: Global, store: &mut Store, left: bool) -> Result<(), Fail> {
+    let wanted = Seen::Value(100_001);
+    expect_evaluated(rt, alloc, store, nested(alloc, left)?, wanted)?;
+    let (first, second) = (nested(alloc, left)?, nested(alloc, left)?);
+    expect_ordering(rt, alloc, store, first, second, Ordering::Equal)?;
+    expect_ground(rt, alloc, store, nested(alloc, left)?)
+}
+
+fn expect_both_deep(rt: &impl Abort, alloc: Global, store: &mut Store) -> Result<(), Fail> {
+    expect_deep(rt, alloc, store, true)?;
+    expect_deep(rt, alloc, store, false)
+}
+
 #[test]
 fn deep(rt: HostRuntime) -> Result<(), Fail> {
-    let alloc = rt.alloc();
-    let mut store = store(alloc)?;
-    for left in [true, false] {
-        let found = evaluated(&rt, alloc, &mut store, nested(alloc, left)?)?;
-        expect(&rt, found, Seen::Value(100_001));
-        let (first, second) = (nested(alloc, left)?, nested(alloc, left)?);
-        let found = ordering(&rt, alloc, &mut store, first, second)?;
-        expect(&rt, found, Ordering::Equal);
-        let found = ground(&rt, alloc, &mut store, nested(alloc, left)?)?;
-        expect(&rt, found, true);
-    }
-    Ok(())
+    let mut store = store(rt.alloc())?;
+    expect_both_deep(&rt, rt.alloc(), &mut store)
 }
