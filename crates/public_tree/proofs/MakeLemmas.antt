@@ -23,10 +23,6 @@ abbrev pub cell_or : AlternativeCell → Option (ℕ × AlternativeCell) → Alt
 cell_or other None = other
 cell_or other (Some c) = c.1
 
-abbrev pub spent_or : ℕ → Option (ℕ × AlternativeCell) → ℕ
-spent_or other None = other
-spent_or other (Some c) = c.0
-
 -- an entry that another cell says to be pending
 pending_is : (status : Status) (hold : Hold) → cell_of status ≡ PendingCell hold → (entry : Entry) × (status ≡ Pending hold entry)
 pending_is (Pending other entry) hold e = let same : other ≡ hold = cc e in (entry, ap (λ (h : Hold). Pending h entry) same)
