@@ -300,7 +300,15 @@ scope_sleeps levels es h asked (Caught k) =
     = ap (ball_scope levels) k.is ∙ (ap (λ (x : ℕ). node_of levels (suc x)) (length-floor k.above) ∙ k.number) in
     (k.slept, ap (λ (x : ℕ). sleeper_on (down_to x levels)) scope ∙ (ap sleeper_on k.down ∙ k.sleeps))
 
--- of a sound tree
+-- of a sound tree, wherever a ball is thrown
+pub ball_sleeps : (levels : List Level) (hold : Hold) (f : Continuation ℕ) (ball : Term) (mark : Option ℕ) → IsSound [] (plug levels (Pending hold (PlainEntry f)))
+    → profile (Pending hold (PlainEntry f)) ≡ IsOpen → (slept : Entry) × (sleeper_on (down_to (ball_scope levels (unwound ball mark (floor_of levels))) levels) ≡ Some slept)
+ball_sleeps levels hold f ball mark s p =
+    let k = sound_round levels (Pending hold (PlainEntry f)) s in
+    let around : AreLevels levels IsOpen = subst (AreLevels levels) p k.0 in
+    scope_sleeps levels (unwound ball mark (floor_of levels)) around k.1.0.asked (falls_down ball mark levels around)
+
+-- and where one is a gate
 pub record FallsIn (clauses : List Clause) (levels : List Level) (e : Entry) (n : ℕ) : Type 0 where
   pub ball : Term
   pub mark : Option ℕ
@@ -315,10 +323,8 @@ falls_in clauses levels hold (EndEntry b) n s p g = absurd (cc g)
 falls_in clauses levels hold (CatchEntry c r f) n s p g = absurd (cc g)
 falls_in clauses levels hold (FindallEntry results l f) n s p g = absurd (cc g)
 falls_in clauses levels hold (PlainEntry f) n s p g =
-    let k = sound_round levels (Pending hold (PlainEntry f)) s in
-    let around : AreLevels levels IsOpen = subst (AreLevels levels) p k.0 in
     let x = item_ball clauses levels _ _ (floor_of levels) n g in
-    let slept = scope_sleeps levels (unwound x.ball x.mark (floor_of levels)) around k.1.0.asked (falls_down x.ball x.mark levels around) in
+    let slept = ball_sleeps levels hold f x.ball x.mark s p in
     record {
       ball = x.ball;
       mark = x.mark;

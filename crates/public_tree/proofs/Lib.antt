@@ -15,3 +15,4 @@ pub mod PrunedTaskLemmas
 pub mod PruningLemmas
 pub mod BallGateLemmas
 pub mod FallingLemmas
+mod AnsweringLemmas

@@ -95,6 +95,11 @@ taken_hold w Ready e = absurd (cc e)
 taken_hold w (Waiting g) e = absurd (cc e)
 taken_hold w Dormant e = absurd (cc e)
 
+pub hold_out : (w : ℕ) (a : Place) (t : TreeState) (s : Spot) → taken_at w a t ≡ Some s → s.hold ≡ TakenBy w
+hold_out w a t s e =
+    let spot = found (IsIn t.root) (λ r. is_taken_by w r.hold && same_place a (place_of_spot r)) (pending_of t.root) s (all_in t.root) e in
+    taken_hold w s.hold (both (is_taken_by w s.hold) (same_place a (place_of_spot s)) spot.passes).0
+
 -- nothing has happened where the nodes are the same with what is out
 pub same_out : (w : ℕ) (old new : PublicView) (a : Place) → IsOut old w a → IsSameWith old.nodes new.nodes w a → KeepsOthers old new → new.log.stopped ≡ old.log.stopped
     → new.log.events ≡ old.log.events → IsSameTree old new
@@ -108,8 +113,7 @@ same_out w old new a out same others stopped events = record {
     stands : (read : Reading) (t : TreeState) → IsPublicOf old read t → (o : Option Spot) → taken_at w a t ≡ o → is_some o ≡ true → IsPublicOf new read t
     stands read t h None is f = absurd (cc f)
     stands read t h (Some s) is f =
-        let spot = found (IsIn t.root) (λ r. is_taken_by w r.hold && same_place a (place_of_spot r)) (pending_of t.root) s (all_in t.root) is in
-        let hold : s.hold ≡ TakenBy w = taken_hold w s.hold (both (is_taken_by w s.hold) (same_place a (place_of_spot s)) spot.passes).0 in
+        let hold : s.hold ≡ TakenBy w = hold_out w a t s is in
         let root : plug (levels_of s) (Pending (TakenBy w) s.entry) ≡ t.root
         = ap (λ (x : Hold). plug (levels_of s) (Pending x s.entry)) (sym hold) ∙ (taken_at_open w a t s is).inside in
         let table : IsTableOf old.nodes read (plug (levels_of s) (Pending (TakenBy w) s.entry)) = subst (IsTableOf old.nodes read) (sym root) h.placed in

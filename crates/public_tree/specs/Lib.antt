@@ -7,3 +7,4 @@ pub mod PublicClosing
 pub mod Publishing
 pub mod PrunedTasks
 pub mod PublicPruning
+pub mod Answering

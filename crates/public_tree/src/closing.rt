@@ -72,8 +72,12 @@ impl PublicTree {
     }
 }
 
-// Closes the alternative in which a closing rests. What wakes by that goes on in a node of the body.
-fn rest(nodes: &mut Nodes, closing: Closing, woken: Option<Arc<NodeBody>>) -> Result<(), NoMemory>
+/// Closes the alternative in which a closing rests. What wakes by that goes on in a node of the body.
+pub(crate) fn rest(
+    nodes: &mut Nodes,
+    closing: Closing,
+    woken: Option<Arc<NodeBody>>,
+) -> Result<(), NoMemory>
     requires there { IsSome (cell_at nodes.old.rows (place_view closing.end)) }
     requires sleeper { HasSleeper closing.beside nodes.old.rows (place_view closing.end) }
     requires body { IsBodyGiven closing.beside (opening_body woken) }

@@ -143,8 +143,8 @@ impl PublicTree {
     }
 }
 
-// Whether an alternative is the leftmost entry.
-fn is_leftmost(nodes: &Nodes, at: AltRef) -> bool
+/// Whether an alternative is the leftmost entry.
+pub(crate) fn is_leftmost(nodes: &Nodes, at: AltRef) -> bool
     ensures { IsLeftmostAt nodes.now (place_view at) result }
 {
     match leftmost(nodes) {

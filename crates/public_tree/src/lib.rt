@@ -9,6 +9,7 @@
 //! takes memory.
 #![tactic(auto)]
 
+mod answering;
 mod closing;
 mod event_log;
 mod hand_out;
@@ -20,6 +21,7 @@ mod pruned_tasks;
 mod public;
 mod publishing;
 
+pub use answering::Answering;
 pub use closing::TaskEnd;
 pub use prune::Pruning;
 pub use public::PublicTree;

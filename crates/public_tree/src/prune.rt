@@ -105,8 +105,8 @@ impl PublicTree {
         Ok(Pruning::Taken)
     }
 
-    // The lost tasks, and those that are pruned with an alternative.
-    fn lost_with(&self, at: AltRef, scope: Scope) -> Result<Vec<LostTask>, NoMemory>
+    /// The lost tasks, and those that are pruned with an alternative.
+    pub(crate) fn lost_with(&self, at: AltRef, scope: Scope) -> Result<Vec<LostTask>, NoMemory>
         requires { IsSome (cell_at self.now.nodes.rows (place_view at)) }
         ensures { IfOk result (λ lost. FindsTasks self.now.nodes (place_view at) (scope_number scope) self.now.lost (map task_view lost.items)) }
     {

@@ -1,0 +1,117 @@
+-- How the world goal, the answer or the end of a query of the leftmost entry is taken in the public tree.
+use Rattle.std.specs.Prelude.{◌≡◌, ℕ, ◌-◌, ◌+◌, Bool, true, false, List, [], ◌∷◌, length, map, Option, Some, None}
+use Rattle.run_model.specs.Machine.Entries.{Entry}
+use Rattle.run_model.specs.Programs.Jobs.{Query}
+use Rattle.tree_model.specs.Credits.{Credit, credit_of}
+use Rattle.tree_model.specs.Effects.{spending, spot_stack}
+use Rattle.tree_model.specs.Events.{Answer}
+use Rattle.tree_model.specs.Floors.{node_of, with_nodes}
+use Rattle.tree_model.specs.FrontGates.{Taken, Continues, Answered, Raises, Halts, QueryEnds, taken_at_front}
+use Rattle.tree_model.specs.Legality.{taken_at, is_allowed, is_spot_at}
+use Rattle.tree_model.specs.Levels.{Level, plug, Place, place_at, Spot, levels_of}
+use Rattle.tree_model.specs.Nodes.{ChoiceNode, Hold, Ready, TakenBy, Numbered, Status, Pending, Inner, entry_alternatives}
+use Rattle.tree_model.specs.TreeStates.{TreeState, leftmost, opened_node}
+use Rattle.tree_nodes.specs.Bodies.{Body, Branching, Reading, new_node}
+use Rattle.tree_nodes.specs.TreeTables.{NodesView, IsTableOf, IsWayTo}
+use Rattle.tree_closing.specs.Closings.{ComesToRest}
+use Rattle.tree_closing.specs.declared.way_up.Beside.{Beside}
+use Rattle.public_tree.specs.declared.answering.Answering.{Answering}
+use Rattle.public_tree.specs.declared.answering.Answering.TheVariants as answering
+use Rattle.public_tree.specs.PublicTrees.{PublicView, IsPublicOf, Answers, Notes, IsSameTree, is_going}
+
+-- what an alternative is taken as at the front
+abbrev pub taken_as : TreeState → Spot → Taken
+taken_as t s = (taken_at_front t.job.clauses (spot_stack s) t.world).1
+
+-- whether the leftmost entry is here
+abbrev pub is_first_at : Place → TreeState → Bool
+is_first_at a t = is_spot_at a (leftmost t)
+
+-- why an alternative may not be taken at the front, if something keeps it from that
+abbrev pub IsBarred : PublicView → Place → Option Answering → Type 0
+IsBarred p a None = Answers p is_going true × Answers p (is_first_at a) true
+IsBarred p a (Some answering.Taken) = ⊥
+IsBarred p a (Some answering.NotLeftmost) = Answers p is_going true × Answers p (is_first_at a) false
+IsBarred p a (Some answering.HasEnded) = Answers p is_going false
+
+-- it is taken, or is not the leftmost entry, or the tree had ended or been stopped
+abbrev pub TakesFront : PublicView → PublicView → ℕ → Place → Answering → Type 0
+TakesFront old new w a answering.Taken = Notes old new (Answer w a false)
+TakesFront old new w a answering.NotLeftmost = IsSameTree old new
+    × ((read : Reading) (t : TreeState) → IsPublicOf old read t → (is_going t ≡ true) × (is_allowed t (Answer w a false) ≡ false))
+TakesFront old new w a answering.HasEnded =
+    IsSameTree old new × ((read : Reading) (t : TreeState) → IsPublicOf old read t → is_going t ≡ false)
+
+-- so many tasks are promised to come back
+abbrev pub promised_by : Answering → ℕ → ℕ
+promised_by answering.Taken n = n - 1
+promised_by answering.NotLeftmost n = n
+promised_by answering.HasEnded n = n
+
+-- below a place, a new node of a body has the entries with which the front goes on
+pub record ReadsAsLeft (read : Reading) (way : Branching) (body : Body) (levels : List Level) (front : Taken) : Type 0 where
+  pub entry : Entry
+  pub under : List Entry
+  pub goes_on : front ≡ Continues (entry ∷ under)
+  pub node : (n : ℕ) → new_node read way n body ≡ Numbered n ChoiceNode (entry_alternatives Ready (map (with_nodes (node_of levels)) (entry ∷ under)))
+
+-- below what is out to a worker
+abbrev pub ReadsFront : PublicView → ℕ → Place → Body → Type 0
+ReadsFront p w a body =
+    (read : Reading) (t : TreeState) (s : Spot) (way : Branching) → IsPublicOf p read t → taken_at w a t ≡ Some s
+    → IsWayTo p.nodes.rows (levels_of s) way → ReadsAsLeft read way body (levels_of s) (taken_as t s)
+
+-- below a place, a new node of a body is that of the next query
+pub record ReadsAsNext (read : Reading) (way : Branching) (body : Body) (front : Taken) (queries : List Query) : Type 0 where
+  pub query : Query
+  pub further : List Query
+  pub ends : front ≡ QueryEnds
+  pub next : queries ≡ query ∷ further
+  pub node : (n : ℕ) → new_node read way n body ≡ opened_node n query
+
+abbrev pub ReadsQuery : PublicView → ℕ → Place → Body → Type 0
+ReadsQuery p w a body =
+    (read : Reading) (t : TreeState) (s : Spot) (way : Branching) → IsPublicOf p read t → taken_at w a t ≡ Some s
+    → IsWayTo p.nodes.rows (levels_of s) way → ReadsAsNext read way body (taken_as t s) t.queries
+
+-- of each tree for which it stands, what is out halts with this status
+abbrev pub HaltsWith : PublicView → ℕ → Place → ℕ → Type 0
+HaltsWith p w a k = (read : Reading) (t : TreeState) (s : Spot) → IsPublicOf p read t → taken_at w a t ≡ Some s → taken_as t s ≡ Halts k
+
+-- the credit with which an answer closes
+abbrev pub answer_credit : Credit
+answer_credit = record { inferences = 1; answers = 1; records = [] }
+
+-- the credit with which the front closes, where it does
+abbrev pub front_credit : Taken → List Query → Option Credit
+front_credit (Continues []) qs = Some (credit_of 1)
+front_credit (Continues (e ∷ es)) qs = None
+front_credit Answered qs = Some answer_credit
+front_credit (Raises es) qs = None
+front_credit (Halts k) qs = None
+front_credit QueryEnds [] = Some (credit_of 1)
+front_credit QueryEnds (q ∷ qs) = None
+
+-- what closes at a place comes to rest at another
+pub record ClosesAs (nodes : NodesView) (a b : Place) (total : Credit) (beside : Beside) (closing : Option Credit) : Type 0 where
+  pub credit : Credit
+  pub closes : closing ≡ Some credit
+  pub rests : ComesToRest nodes a credit b total beside
+
+-- of each tree for which it stands, what is out closes there
+abbrev pub RestsByFront : PublicView → ℕ → Place → Place → Credit → Beside → Type 0
+RestsByFront p w a b total beside =
+    (read : Reading) (t : TreeState) (s : Spot) → IsPublicOf p read t → taken_at w a t ≡ Some s
+    → ClosesAs p.nodes a b total beside (front_credit (taken_as t s) t.queries)
+
+-- a node is below a place, with one inference more
+abbrev pub GrowsAt : NodesView → NodesView → Place → Body → Type 0
+GrowsAt old new a body =
+    (read : Reading) (v : Level) (up : List Level) (was : Status) (way : Branching) → place_at v ≡ a → IsTableOf old read (plug (v ∷ up) was)
+    → IsWayTo old.rows (v ∷ up) way → IsTableOf new read (plug (spending 1 (v ∷ up)) (Inner (new_node read way (length old.rows) body)))
+
+-- what is out to a worker has one inference more
+abbrev pub SpendsAt : NodesView → NodesView → ℕ → Place → Type 0
+SpendsAt old new w a =
+    (read : Reading) (v : Level) (up : List Level) (was : Hold) (entry : Entry) → place_at v ≡ a → IsTableOf old read (plug (v ∷ up) (Pending was entry))
+    → IsTableOf new read (plug (spending 1 (v ∷ up)) (Pending (TakenBy w) entry))
