@@ -16,3 +16,4 @@ pub mod PruningLemmas
 pub mod BallGateLemmas
 pub mod FallingLemmas
 mod AnsweringLemmas
+mod AnswerBallLemmas

@@ -7,14 +7,17 @@ use Rattle.tree_model.specs.Effects.{spending, spot_stack}
 use Rattle.tree_model.specs.Events.{Answer}
 use Rattle.tree_model.specs.Floors.{node_of, with_nodes}
 use Rattle.tree_model.specs.FrontGates.{Taken, Continues, Answered, Raises, Halts, QueryEnds, taken_at_front}
+use Rattle.tree_model.specs.Gates.{ball_scope}
 use Rattle.tree_model.specs.Legality.{taken_at, is_allowed, is_spot_at}
 use Rattle.tree_model.specs.Levels.{Level, plug, Place, place_at, Spot, levels_of}
 use Rattle.tree_model.specs.Nodes.{ChoiceNode, Hold, Ready, TakenBy, Numbered, Status, Pending, Inner, entry_alternatives}
 use Rattle.tree_model.specs.TreeStates.{TreeState, leftmost, opened_node}
 use Rattle.tree_nodes.specs.Bodies.{Body, Branching, Reading, new_node}
+use Rattle.tree_nodes.specs.Rows.{Rows}
 use Rattle.tree_nodes.specs.TreeTables.{NodesView, IsTableOf, IsWayTo}
 use Rattle.tree_closing.specs.Closings.{ComesToRest}
 use Rattle.tree_closing.specs.declared.way_up.Beside.{Beside}
+use Rattle.prune_ops.specs.Falls.{ReadsBeside}
 use Rattle.public_tree.specs.declared.answering.Answering.{Answering}
 use Rattle.public_tree.specs.declared.answering.Answering.TheVariants as answering
 use Rattle.public_tree.specs.PublicTrees.{PublicView, IsPublicOf, Answers, Notes, IsSameTree, is_going}
@@ -73,6 +76,18 @@ abbrev pub ReadsQuery : PublicView → ℕ → Place → Body → Type 0
 ReadsQuery p w a body =
     (read : Reading) (t : TreeState) (s : Spot) (way : Branching) → IsPublicOf p read t → taken_at w a t ≡ Some s
     → IsWayTo p.nodes.rows (levels_of s) way → ReadsAsNext read way body (taken_as t s) t.queries
+
+-- below what sleeps at the scope of a ball, a body reads as what the ball leaves
+pub record ReadsAsRaised (read : Reading) (rows : Rows) (n : ℕ) (body : Body) (levels : List Level) (front : Taken) : Type 0 where
+  pub entry : Entry
+  pub under : List Entry
+  pub raises : front ≡ Raises (entry ∷ under)
+  pub scope : ball_scope levels (entry ∷ under) ≡ n
+  pub beside : ReadsBeside read rows (record { node = n; index = 0 }) body (with_nodes (node_of levels) entry)
+
+abbrev pub ReadsRaised : PublicView → ℕ → Place → ℕ → Body → Type 0
+ReadsRaised p w a n body =
+    (read : Reading) (t : TreeState) (s : Spot) → IsPublicOf p read t → taken_at w a t ≡ Some s → ReadsAsRaised read p.nodes.rows n body (levels_of s) (taken_as t s)
 
 -- of each tree for which it stands, what is out halts with this status
 abbrev pub HaltsWith : PublicView → ℕ → Place → ℕ → Type 0

@@ -7,18 +7,20 @@ ghost use Rattle.tree_model.specs.Events.{Answer};
 ghost use Rattle.tree_model.specs.Nodes.{WorldGate};
 ghost use Rattle.tree_nodes.specs.Bodies.{IsWhole, body_view};
 ghost use Rattle.tree_nodes.specs.Changes.{IsOpenCell, IsLonger, KeepsNumbers};
-ghost use Rattle.tree_nodes.specs.Rows.{cell_at, credit_view};
+ghost use Rattle.tree_nodes.specs.Rows.{cell_at, credit_view, scope_number};
 ghost use Rattle.tree_closing.specs.Closings.{ComesToRest, HasSleeper};
 ghost use Rattle.public_tree.specs.Opening.{opening_body};
 ghost use Rattle.public_tree.specs.PublicTrees.{Answers, IsSameTree, IsOut, IsItsGate, IsLeftmostAt};
 ghost use Rattle.public_tree.specs.PublicClosing.{IsGiven, IsBodyGiven};
 ghost use Rattle.public_tree.specs.Answering.{answer_credit, is_first_at, IsBarred, TakesFront, promised_by};
-ghost use Rattle.public_tree.specs.Answering.{ReadsFront, RestsByFront, ReadsQuery, HaltsWith, GrowsAt, SpendsAt};
+ghost use Rattle.public_tree.specs.Answering.{ReadsFront, RestsByFront, ReadsQuery, HaltsWith, ReadsRaised, GrowsAt, SpendsAt};
 
 use crate::closing::rest;
 use crate::hand_out::is_leftmost;
 use crate::public::PublicTree;
 use au_term::NoMemory;
+use clause_compile::Scope;
+use prune_ops::{find_landing, land};
 use std::sync::Arc;
 use tree_closing::{Closing, find_rest};
 use tree_model::{AltRef, Event};
@@ -161,6 +163,41 @@ impl PublicTree {
         }
         spend(&mut self.nodes, worker, at)?;
         self.halted = Some(status);
+        self.log.note_back(answer(worker, at));
+        Ok(Answering::Taken)
+    }
+
+    /// A worker takes the goal of an alternative that is out to it, where the world answers with a ball, which falls to its
+    /// scope: everything below closes, what was out there is lost, and what the ball leaves is ready below a new node in place
+    /// of what slept beside it. Nothing happens where the alternative is not the leftmost entry, or where the tree has ended
+    /// or was stopped.
+    pub fn fall_at_front(
+        &mut self,
+        worker: u32,
+        at: AltRef,
+        scope: Scope,
+        body: Arc<NodeBody>,
+    ) -> Result<Answering, NoMemory>
+        requires out { IsOut self.old worker (place_view at) }
+        requires gate { IsItsGate self.old worker (place_view at) WorldGate }
+        requires whole { IsWhole (body_view (arc_value body)) }
+        requires reads { ReadsRaised self.old worker (place_view at) (scope_number scope) (body_view (arc_value body)) }
+        requires promised { 0 < self.old.log.promised }
+        ensures takes { IfOk result (λ r. TakesFront self.old self.new worker (place_view at) r) }
+        ensures promised { IfOk result (λ r. self.new.log.promised ≡ promised_by r self.old.log.promised) }
+        ensures err { OnErr result (IsSameTree self.old self.new) }
+        ensures kept { OnErr result (self.new.log.promised ≡ self.old.log.promised) }
+    {
+        if let Some(barred) = self.barred(at) {
+            return Ok(barred);
+        }
+        // At the scope of a ball something sleeps.
+        let Some(landing) = find_landing(&self.nodes, at, scope)? else {
+            return Ok(Answering::NotLeftmost);
+        };
+        let lost = self.lost_with(at, scope)?;
+        land(&mut self.nodes, landing, body)?;
+        self.lost = lost;
         self.log.note_back(answer(worker, at));
         Ok(Answering::Taken)
     }
