@@ -1,0 +1,3 @@
+mod MadeUnifierLemmas
+mod SameUnifierLemmas
+mod CellEquationLemmas

@@ -1,0 +1,2 @@
+pub mod BindingEquations
+pub mod CellEquations
