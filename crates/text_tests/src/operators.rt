@@ -167,15 +167,23 @@ fn put(
     ops.put(row)
 }
 
+fn put_all(rt: &impl Abort, alloc: Global, ops: &mut Ops) -> Result<(), Fail> {
+    for (name, priority, kind) in &PUT {
+        let operator = Operator {
+            priority: *priority,
+            kind: *kind,
+        };
+        put(rt, alloc, ops, name, operator)?;
+    }
+    check_names(rt, ops, &PUT_NAMES);
+    expect(rt, row_count(ops)?, 43, "rows");
+    Ok(())
+}
+
 #[test]
 fn operators_put(rt: HostRuntime) -> Result<(), Fail> {
     let mut ops = Ops::initial(rt.alloc())?;
-    for (name, priority, kind) in PUT {
-        put(&rt, rt.alloc(), &mut ops, name, Operator { priority, kind })?;
-    }
-    check_names(&rt, &ops, &PUT_NAMES);
-    expect(&rt, row_count(&ops)?, 43, "rows");
-    Ok(())
+    put_all(&rt, rt.alloc(), &mut ops)
 }
 
 /// An argument of op/3.
@@ -363,15 +371,19 @@ fn is_refused(alloc: Global, ops: &mut Ops, case: &Case) -> Result<bool, NoMemor
     }
 }
 
+fn refuse_all(rt: &impl Abort, alloc: Global, ops: &mut Ops) -> Result<(), Fail> {
+    for case in &CASES {
+        hold(rt, is_refused(alloc, ops, case)?, "refused");
+    }
+    check_groups(rt, ops, &GROUPS);
+    expect(rt, row_count(ops)?, 39, "rows");
+    Ok(())
+}
+
 #[test]
 fn operators_refused(rt: HostRuntime) -> Result<(), Fail> {
     let mut ops = Ops::initial(rt.alloc())?;
-    for case in &CASES {
-        hold(&rt, is_refused(rt.alloc(), &mut ops, case)?, "refused");
-    }
-    check_groups(&rt, &ops, &GROUPS);
-    expect(&rt, row_count(&ops)?, 39, "rows");
-    Ok(())
+    refuse_all(&rt, rt.alloc(), &mut ops)
 }
 
 /// Operators added one after another, and how many rows the table then has.
@@ -402,17 +414,21 @@ static ADDED: [(Arg, Arg, Arg, usize); 6] = [
 /// The priorities of names after these.
 static ADDED_NAMES: [Classes; 2] = [("~", None, None, Some(100)), ("=", None, None, None)];
 
+fn add_all(rt: &impl Abort, alloc: Global, ops: &mut Ops) -> Result<(), Fail> {
+    for (priority, specifier, names, count) in &ADDED {
+        let added = add(alloc, ops, priority, specifier, names);
+        hold(rt, added.is_ok(), "added");
+        expect(rt, row_count(ops)?, *count, "rows");
+    }
+    check_names(rt, ops, &ADDED_NAMES);
+    Ok(())
+}
+
 #[test]
 fn operators_added(rt: HostRuntime) -> Result<(), Fail> {
-    let alloc = rt.alloc();
-    let first = Ops::initial(alloc)?;
+    let first = Ops::initial(rt.alloc())?;
     let mut ops = first.copy()?;
-    for (priority, specifier, names, count) in &ADDED {
-        let added = add(alloc, &mut ops, priority, specifier, names);
-        hold(&rt, added.is_ok(), "added");
-        expect(&rt, row_count(&ops)?, *count, "rows");
-    }
-    check_names(&rt, &ops, &ADDED_NAMES);
+    add_all(&rt, rt.alloc(), &mut ops)?;
     check_groups(&rt, &first, &GROUPS);
     Ok(())
 }

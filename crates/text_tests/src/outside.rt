@@ -37,17 +37,25 @@ fn is_wanted(found: Result<Vec<u8>, ReadRefusal>, wanted: Result<&[u8], ReadRefu
     }
 }
 
+/// A name, and what it holds.
+fn file(alloc: Global, name: &str, bytes: &[u8]) -> Result<(String, Vec<u8>), Fail> {
+    Ok((
+        String::from_str(alloc, name)?,
+        Vec::from_slice(alloc, bytes)?,
+    ))
+}
+
+fn two_files(alloc: Global) -> Result<Vec<(String, Vec<u8>)>, Fail> {
+    let mut files = Vec::new(alloc);
+    files.push(file(alloc, "a", b"abc")?)?;
+    files.push(file(alloc, "b", b"abcd")?)?;
+    Ok(files)
+}
+
 /// Two files, of which the first reading fails.
 fn memory(alloc: Global) -> Result<MemoryShelf, Fail> {
-    let mut files = Vec::new(alloc);
-    for (name, bytes) in [("a", b"abc".as_slice()), ("b", b"abcd".as_slice())] {
-        files.push((
-            String::from_str(alloc, name)?,
-            Vec::from_slice(alloc, bytes)?,
-        ))?;
-    }
     Ok(MemoryShelf {
-        files,
+        files: two_files(alloc)?,
         failing: Vec::from_slice(alloc, &[0])?,
         calls: 0,
         faults: 0,

@@ -130,6 +130,8 @@ fn read_from(
 }
 
 /// The term that is read, how many names it has, and the place after it.
+type Found = Option<(FlatTerm, usize, usize)>;
+
 fn read(
     rt: &impl Abort,
     alloc: Global,
@@ -137,9 +139,23 @@ fn read(
     at: usize,
     ops: &Ops,
     quotes: DoubleQuotes,
-) -> Option<(FlatTerm, usize, usize)> {
+) -> Found {
     match read_from(rt, alloc, text, at, ops, quotes) {
         Ok(ReadOutcome::Read { term, names, end }) => Some((term, names.len(), end)),
+        _ => None,
+    }
+}
+
+/// Whether the same term is read, with no more names, and where it ends.
+fn are_same(found: &Found, wanted: &Found) -> Option<usize> {
+    match (found, wanted) {
+        (Some(found), Some(wanted)) => {
+            if found.0.cells() == wanted.0.cells() && found.1 <= wanted.1 {
+                Some(found.2)
+            } else {
+                None
+            }
+        }
         _ => None,
     }
 }
@@ -147,13 +163,8 @@ fn read(
 fn check(rt: &impl Abort, alloc: Global, ops: &Ops, quotes: DoubleQuotes, case: &Case) {
     let (text, at, same, place) = case;
     let found = read(rt, alloc, text, *at, ops, quotes);
-    match (found, read(rt, alloc, same, 0, ops, quotes)) {
-        (Some((term, names, end)), Some((wanted, others, _))) => {
-            hold(rt, term.cells() == wanted.cells() && names <= others, text);
-            expect(rt, end, *place, text);
-        }
-        _ => hold(rt, false, text),
-    }
+    let wanted = read(rt, alloc, same, 0, ops, quotes);
+    expect(rt, are_same(&found, &wanted), Some(*place), text);
 }
 
 fn check_all(rt: &impl Abort, alloc: Global, ops: &Ops, cases: &[Case]) {
@@ -162,15 +173,26 @@ fn check_all(rt: &impl Abort, alloc: Global, ops: &Ops, cases: &[Case]) {
     }
 }
 
+fn check_fault(
+    rt: &impl Abort,
+    alloc: Global,
+    ops: &Ops,
+    text: &str,
+    at: usize,
+    wanted: ReadRefused,
+) {
+    let found = read_from(rt, alloc, text, at, ops, DoubleQuotes::Codes);
+    expect(rt, found.err(), Some(wanted), text);
+}
+
 fn check_faults(rt: &impl Abort, alloc: Global, ops: &Ops, faults: &[Bad]) {
     for (text, at, line, column, kind) in faults {
-        let want = ReadRefused::Syntax {
+        let wanted = ReadRefused::Syntax {
             line: *line,
             column: *column,
             kind: *kind,
         };
-        let found = read_from(rt, alloc, text, *at, ops, DoubleQuotes::Codes);
-        expect(rt, found.err(), Some(want), text);
+        check_fault(rt, alloc, ops, text, *at, wanted);
     }
 }
 
@@ -220,39 +242,40 @@ fn end_of_text(rt: HostRuntime) -> Result<(), Fail> {
     Ok(())
 }
 
-/// The refusal of a text that begins so and goes on with 65,535 atoms, a comma after each.
-fn refusal_of_many(
-    rt: &impl Abort,
-    alloc: Global,
-    beginning: &str,
-) -> Result<Option<ReadRefused>, Fail> {
-    let ops = Ops::initial(alloc)?;
+/// A text that begins so and goes on with 65,535 atoms, a comma after each.
+fn many(alloc: Global, beginning: &str) -> Result<String, Fail> {
     let mut text = String::from_str(alloc, beginning)?;
     for _ in 0..65535 {
         text.push_str("a,")?;
     }
-    let found = read_from(rt, alloc, text.as_str(), 0, &ops, DoubleQuotes::Codes);
-    Ok(found.err())
+    Ok(text)
+}
+
+/// The beginning of such a text, and the column and kind of its fault. Round brackets after an operator hold one term,
+/// however many commas it has.
+static MANY: [(&str, u32, FaultKind); 5] = [
+    ("g- f(", 4, FaultKind::TooManyArguments),
+    ("h(b,'f'(", 5, FaultKind::TooManyArguments),
+    ("h([ ](", 3, FaultKind::TooManyArguments),
+    ("b-(", 131_074, FaultKind::UnexpectedEnd),
+    ("[", 131_072, FaultKind::UnexpectedEnd),
+];
+
+fn check_many(rt: &impl Abort, alloc: Global, ops: &Ops) -> Result<(), Fail> {
+    for (beginning, column, kind) in &MANY {
+        let text = many(alloc, beginning)?;
+        let wanted = ReadRefused::Syntax {
+            line: 1,
+            column: *column,
+            kind: *kind,
+        };
+        check_fault(rt, alloc, ops, text.as_str(), 0, wanted);
+    }
+    Ok(())
 }
 
 #[test]
 fn too_many_arguments(rt: HostRuntime) -> Result<(), Fail> {
-    // Round brackets after an operator hold one term, however many commas it has.
-    let cases = [
-        ("g- f(", 4, FaultKind::TooManyArguments),
-        ("h(b,'f'(", 5, FaultKind::TooManyArguments),
-        ("h([ ](", 3, FaultKind::TooManyArguments),
-        ("b-(", 131_074, FaultKind::UnexpectedEnd),
-        ("[", 131_072, FaultKind::UnexpectedEnd),
-    ];
-    for (beginning, column, kind) in cases {
-        let want = ReadRefused::Syntax {
-            line: 1,
-            column,
-            kind,
-        };
-        let found = refusal_of_many(&rt, rt.alloc(), beginning)?;
-        expect(&rt, found, Some(want), beginning);
-    }
-    Ok(())
+    let ops = Ops::initial(rt.alloc())?;
+    check_many(&rt, rt.alloc(), &ops)
 }

@@ -78,17 +78,20 @@ fn missing_behind(alloc: Global, term: &FlatTerm) -> Result<u64, NoMemory> {
     Ok(builder.missing())
 }
 
+fn expect_pair(rt: &impl Abort, alloc: Global, term: &FlatTerm) -> Result<(), Fail> {
+    hold(rt, are_cells_of_pair(alloc, term.cells())?, "cells");
+    hold(rt, has_arguments_of_pair(term), "arguments");
+    let sizes = (term.bound(), term.arity(), term.top().arity());
+    expect(rt, sizes, (1, 2, 2), "sizes");
+    let again = FlatTerm::from_slice(alloc, term.cells())?;
+    expect(rt, missing_behind(alloc, &again)?, 0, "missing");
+    Ok(())
+}
+
 #[test]
 fn terms(rt: HostRuntime) -> Result<(), Fail> {
-    let alloc = rt.alloc();
-    let term = pair(alloc)?.copy()?;
-    hold(&rt, are_cells_of_pair(alloc, term.cells())?, "cells");
-    hold(&rt, has_arguments_of_pair(&term), "arguments");
-    let sizes = (term.bound(), term.arity(), term.top().arity());
-    expect(&rt, sizes, (1, 2, 2), "sizes");
-    let again = FlatTerm::from_slice(alloc, term.cells())?;
-    expect(&rt, missing_behind(alloc, &again)?, 0, "missing");
-    Ok(())
+    let term = pair(rt.alloc())?.copy()?;
+    expect_pair(&rt, rt.alloc(), &term)
 }
 
 /// Whether a term is the pair, once it has cells of its own.
@@ -114,17 +117,21 @@ fn is_variable_at(rt: &impl Abort, shared: &Shared, at: usize) -> Result<bool, N
     Ok(shared.subterm(at)?.top()? == Cell::Var(0))
 }
 
+fn expect_shared(rt: &impl Abort, alloc: Global, shared: &Shared) -> Result<(), Fail> {
+    hold(rt, is_pair(alloc, shared)?, "pair");
+    expect(rt, (shared.len(), shared.arity()), (3, 2), "sizes");
+    hold(rt, is_integer_at(rt, shared, 1, 1), "first");
+    hold(rt, is_variable_at(rt, shared, 2)?, "second");
+    for (at, end) in [(0, 3), (1, 2)] {
+        expect(rt, term_end(rt, shared, at), end, "end");
+    }
+    Ok(())
+}
+
 #[test]
 fn shared(rt: HostRuntime) -> Result<(), Fail> {
     let shared = Shared::from_term(rt.alloc(), pair(rt.alloc())?)?;
-    hold(&rt, is_pair(rt.alloc(), &shared)?, "pair");
-    expect(&rt, (shared.len(), shared.arity()), (3, 2), "sizes");
-    hold(&rt, is_integer_at(&rt, &shared, 1, 1), "first");
-    hold(&rt, is_variable_at(&rt, &shared, 2)?, "second");
-    for (at, end) in [(0, 3), (1, 2)] {
-        expect(&rt, term_end(&rt, &shared, at), end, "end");
-    }
-    Ok(())
+    expect_shared(&rt, rt.alloc(), &shared)
 }
 
 /// The bindings of a variable to the second argument of a term.
@@ -182,14 +189,17 @@ fn push(builder: &mut TermBuilder, cell: Cell) -> Result<(), NoMemory> {
     builder.push(cell)
 }
 
+fn push_deep(builder: &mut TermBuilder, name: &Atom) -> Result<(), NoMemory> {
+    for _depth in 0..1_000_000u32 {
+        push(builder, Cell::Functor(name.share()?, 1))?;
+    }
+    push(builder, Cell::Int(0))
+}
+
 /// How many cells the term has that is nested a million deep.
 fn deep_cells(rt: &impl Abort, alloc: Global) -> Result<usize, NoMemory> {
-    let name = Atom::new(alloc, "s")?;
     let mut builder = TermBuilder::new(alloc);
-    for _depth in 0..1_000_000u32 {
-        push(&mut builder, Cell::Functor(name.share()?, 1))?;
-    }
-    push(&mut builder, Cell::Int(0))?;
+    push_deep(&mut builder, &Atom::new(alloc, "s")?)?;
     assert!(rt; builder.missing() == 0);
     Ok(builder.finish().cells().len())
 }

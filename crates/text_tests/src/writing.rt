@@ -196,6 +196,15 @@ fn check(rt: &impl Abort, alloc: Global, rows: &[Row], style: Style) -> Result<(
     Ok(())
 }
 
+/// A term for each name.
+fn values(alloc: Global, names: &[VarName], parts: &[Part]) -> Result<Vec<FlatTerm>, NoMemory> {
+    let mut values = Vec::new(alloc);
+    for _ in names {
+        values.push(term(alloc, parts)?)?;
+    }
+    Ok(values)
+}
+
 /// Whether the line of an answer is this, where each name has the same value.
 fn is_answer(
     alloc: Global,
@@ -203,13 +212,9 @@ fn is_answer(
     parts: &[Part],
     text: &str,
 ) -> Result<bool, NoMemory> {
-    let ops = Ops::initial(alloc)?;
-    let mut values = Vec::new(alloc);
-    for _ in names {
-        values.push(term(alloc, parts)?)?;
-    }
+    let values = values(alloc, names, parts)?;
     let mut out = Vec::new(alloc);
-    answer_line(alloc, &mut out, names, &values, &ops)?;
+    answer_line(alloc, &mut out, names, &values, &Ops::initial(alloc)?)?;
     Ok(out.as_slice() == text.as_bytes())
 }
 
@@ -259,12 +264,15 @@ fn lines_of_answers(rt: HostRuntime) -> Result<(), Fail> {
     Ok(())
 }
 
+fn push_ball(alloc: Global, out: &mut Vec<u8>, parts: &[Part]) -> Result<(), NoMemory> {
+    ball_line(alloc, out, &term(alloc, parts)?, &Ops::initial(alloc)?)
+}
+
 /// Whether the line of a ball is this, behind that of another.
 fn is_second_ball(alloc: Global, parts: &[Part], lines: &str) -> Result<bool, NoMemory> {
-    let ops = Ops::initial(alloc)?;
     let mut out = Vec::new(alloc);
-    ball_line(alloc, &mut out, &term(alloc, &[A("b")])?, &ops)?;
-    ball_line(alloc, &mut out, &term(alloc, parts)?, &ops)?;
+    push_ball(alloc, &mut out, &[A("b")])?;
+    push_ball(alloc, &mut out, parts)?;
     Ok(out.as_slice() == lines.as_bytes())
 }
 
@@ -283,16 +291,26 @@ fn push_shared(builder: &mut TermBuilder, cells: &[Cell]) -> Result<(), NoMemory
     Ok(())
 }
 
-/// A list of so many items, or so many compounds one in another, with its end.
-fn long(alloc: Global, count: u32, parts: &[Part], end: Part) -> Result<FlatTerm, NoMemory> {
+/// Adds cells that others share so many times.
+fn push_many(builder: &mut TermBuilder, count: u32, cells: &[Cell]) -> Result<(), NoMemory> {
+    for _ in 0..count {
+        push_shared(builder, cells)?;
+    }
+    Ok(())
+}
+
+fn cells(alloc: Global, parts: &[Part]) -> Result<Vec<Cell>, NoMemory> {
     let mut cells = Vec::new(alloc);
     for part in parts {
         cells.push(cell(alloc, *part)?)?;
     }
+    Ok(cells)
+}
+
+/// A list of so many items, or so many compounds one in another, with its end.
+fn long(alloc: Global, count: u32, parts: &[Part], end: Part) -> Result<FlatTerm, NoMemory> {
     let mut builder = TermBuilder::new(alloc);
-    for _ in 0..count {
-        push_shared(&mut builder, &cells)?;
-    }
+    push_many(&mut builder, count, &cells(alloc, parts)?)?;
     push(&mut builder, cell(alloc, end)?)?;
     finish(builder)
 }
