@@ -36,8 +36,8 @@ use Rattle.interleaving.proofs.UnchangedPlaceLemmas.{same_place-is, place_self}
 use Rattle.public_tree.specs.PublicTrees.{PublicView, IsRooted, IsPublicOf, is_going, IsOut}
 use Rattle.public_tree.specs.PrunedTasks.{FindsTasks}
 use Rattle.public_tree.specs.Answering.{taken_as, IsBarred, ReadsAsRaised, ReadsRaised}
-use Rattle.public_tree.proofs.HandOutLemmas.{first_spot_at}
-use Rattle.public_tree.proofs.PruningLemmas.{place_out, table_out, by_out, round}
+use Rattle.public_tree.proofs.HandOutLemmas.{first_spot_at, rooted_round, taken_place}
+use Rattle.public_tree.proofs.PruningLemmas.{table_out, by_out}
 use Rattle.public_tree.proofs.MakeLemmas.{cell_or}
 use Rattle.public_tree.proofs.PublishingLemmas.{hold_out}
 use Rattle.public_tree.proofs.BallGateLemmas.{ball_sleeps}
@@ -127,7 +127,7 @@ first_out p w a read t s h e l =
     let r = first.spot in
     let there : cell_at p.nodes.rows a ≡ Some (r.level.spent, PendingCell r.hold) = ap (cell_at p.nodes.rows) (sym first.at)
     ∙ cell_here p.nodes read r.level r.above (Pending r.hold r.entry) (subst (IsTableOf p.nodes read) first.plugged h.placed) in
-    let here : cell_at p.nodes.rows a ≡ Some (s.level.spent, PendingCell s.hold) = ap (cell_at p.nodes.rows) (sym (place_out w a t s e))
+    let here : cell_at p.nodes.rows a ≡ Some (s.level.spent, PendingCell s.hold) = ap (cell_at p.nodes.rows) (sym (taken_place w a t s e))
     ∙ cell_here p.nodes read s.level s.above (Pending s.hold s.entry) (table_out p.nodes w a read t s h.placed e) in
     let cells : PendingCell r.hold ≡ PendingCell s.hold = ap (cell_or (InnerCell 0)) (sym there ∙ here) in
     let holds : r.hold ≡ s.hold = cc cells in
@@ -152,7 +152,7 @@ no_landing p w a n body free out reads nowhere read t h = by_out p w a out read 
         let k = raised_sleeps w a t s (x.entry ∷ x.under) h.sound e x.raises in
         let sleeps : sleeper_on (down_to n (levels_of s)) ≡ Some k.0 = ap (λ (m : ℕ). sleeper_on (down_to m (levels_of s))) (sym x.scope) ∙ k.1 in
         let z : Some k.0 ≡ None = sym sleeps
-        ∙ nowhere read s.level s.above (Pending s.hold s.entry) (place_out w a t s e) table (first_cleared w p a n free read t s h e) in
+        ∙ nowhere read s.level s.above (Pending s.hold s.entry) (taken_place w a t s e) table (first_cleared w p a n free read t s h e) in
         cc z
 
 -- it is thrown, and lands
@@ -165,7 +165,7 @@ module _ (w : ℕ) (old new : PublicView) (a b : Place) (n : ℕ) (total : Credi
     table = table_out old.nodes w a read t s h.placed e
 
     landing : IsLanding n s.level s.above (Pending s.hold s.entry) b total
-    landing = lands read s.level s.above (Pending s.hold s.entry) (place_out w a t s e) table (first_cleared w old a n free read t s h e)
+    landing = lands read s.level s.above (Pending s.hold s.entry) (taken_place w a t s e) table (first_cleared w old a n free read t s h e)
 
     raised : ReadsAsRaised read old.nodes.rows n body (levels_of s) (taken_as t s)
     raised = reads read t s h e
@@ -202,12 +202,12 @@ module _ (w : ℕ) (old new : PublicView) (a b : Place) (n : ℕ) (total : Credi
         (record {
           placed = fall_table;
           next = more ∙ ap (λ (g : Grown). g.next) (sym closes);
-          lost = lost read s.level s.above (Pending s.hold s.entry) (place_out w a t s e) table ∙ ap (λ (ts : List Task). ts ++ tasks_pruned n (levels_of s)) h.lost;
+          lost = lost read s.level s.above (Pending s.hold s.entry) (taken_place w a t s e) table ∙ ap (λ (ts : List Task). ts ++ tasks_pruned n (levels_of s)) h.lost;
           halted = halted ∙ h.halted;
           budget = budget ∙ h.budget;
           window = window ∙ h.window;
           stopped = stopped ∙ h.stopped;
-          rooted = subst (λ (g : Grown). IsRooted g.root) (sym closes) (round (with_right (Inner (single t.next woken)) landing.level) landing.above _);
+          rooted = subst (λ (g : Grown). IsRooted g.root) (sym closes) (rooted_round (with_right (Inner (single t.next woken)) landing.level) landing.above _);
         })
 
   pub falls_after : StandsAfter old new w a

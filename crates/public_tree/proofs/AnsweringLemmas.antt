@@ -29,8 +29,8 @@ use Rattle.interleaving.proofs.UnchangedPlaceLemmas.{same_place-is}
 use Rattle.public_tree.specs.PublicTrees.{PublicView, IsRooted, IsPublicOf, Answers, Notes, is_going, IsOut, IsItsGate, IsLeftmostAt}
 use Rattle.public_tree.specs.PublicClosing.{IsGiven, IsGrownTo, RestsIn}
 use Rattle.public_tree.specs.Answering.{taken_as, is_first_at, IsBarred, TakesFront, ReadsFront, ReadsQuery, HaltsWith, front_credit, RestsByFront, GrowsAt, SpendsAt}
-use Rattle.public_tree.proofs.HandOutLemmas.{KeepsOthers, first_spot_at, legal_while_going, rooted_round}
-use Rattle.public_tree.proofs.PruningLemmas.{same_tree, place_out, table_out, by_out}
+use Rattle.public_tree.proofs.HandOutLemmas.{KeepsOthers, first_spot_at, legal_while_going, rooted_round, taken_place}
+use Rattle.public_tree.proofs.PruningLemmas.{same_tree, table_out, by_out}
 use Rattle.public_tree.proofs.PublishingLemmas.{hold_out}
 
 -- what has no entry is not the leftmost one
@@ -135,7 +135,7 @@ module _ (w : ℕ) (old new : PublicView) (a : Place) (body : Body) (grows : Gro
       → IsAfter new read (with_node s (made t.next) qs (moved t s))
   node_after read t s h e way down made same qs =
       let table = table_out old.nodes w a read t s h.placed e in
-      let now = grows read s.level s.above (Pending s.hold s.entry) way (place_out w a t s e) table down in
+      let now = grows read s.level s.above (Pending s.hold s.entry) way (taken_place w a t s e) table down in
       let more : length new.nodes.rows ≡ suc t.next = (let z = h.next in omega (arith, rows, z)) in
       record {
         placed = subst (λ (m : ℕ). IsTableOf new.nodes read (plug (spending 1 (levels_of s)) (Inner (made m)))) h.next
@@ -191,7 +191,7 @@ closes_after w old new a b total beside body rests given closed others stopped r
     let table = table_out old.nodes w a read t s h.placed e in
     let sound : IsSound [] (plug (levels_of s) (Pending s.hold s.entry)) = subst (IsSound []) (sym spot.inside) h.sound.sound in
     let r = rests read t s h e in
-    let now = closed a r.credit read s.level s.above (Pending s.hold s.entry) r.rests (place_out w a t s e) table sound (given read t h) in
+    let now = closed a r.credit read s.level s.above (Pending s.hold s.entry) r.rests (taken_place w a t s e) table sound (given read t h) in
     let g : IsGrownTo new.nodes read (closes t.next (levels_of s) r.credit) = subst (λ (n : ℕ). IsGrownTo new.nodes read (closes n (levels_of s) r.credit)) h.next now in
     subst (IsAfter new read) (sym (front_closes s (taken_as t s) (moved t s) r.credit r.closes))
     (record {
@@ -221,7 +221,7 @@ pub halts_after : (w : ℕ) (old new : PublicView) (a : Place) (k : ℕ) → Hal
     → new.log.stopped ≡ old.log.stopped → StandsAfter old new w a
 halts_after w old new a k halts spends rows halted lost budget window stopped read t s h e =
     let table = table_out old.nodes w a read t s h.placed e in
-    let now = spends read s.level s.above s.hold s.entry (place_out w a t s e) table in
+    let now = spends read s.level s.above s.hold s.entry (taken_place w a t s e) table in
     let is = ap (λ (y : Taken). front_taken s y (moved t s)) (halts read t s h e) in
     subst (IsAfter new read) (sym is)
     (record {

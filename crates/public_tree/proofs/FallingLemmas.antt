@@ -22,8 +22,8 @@ use Rattle.interleaving.proofs.OpenSpotLemmas.{taken_at_open}
 use Rattle.public_tree.specs.PublicTrees.{PublicView, IsRooted, IsPublicOf, Answers, Notes, is_going, IsOut, IsItsGate}
 use Rattle.public_tree.specs.PrunedTasks.{FindsTasks}
 use Rattle.public_tree.specs.PublicPruning.{IsClearedAt, ReadsAsFallen, ReadsFall}
-use Rattle.public_tree.proofs.HandOutLemmas.{legal_while_going}
-use Rattle.public_tree.proofs.PruningLemmas.{place_out, table_out, by_out, round}
+use Rattle.public_tree.proofs.HandOutLemmas.{legal_while_going, rooted_round, taken_place}
+use Rattle.public_tree.proofs.PruningLemmas.{table_out, by_out}
 use Rattle.public_tree.proofs.BallGateLemmas.{FallsIn, falls_in}
 
 -- what a ball leaves, and that something sleeps at its scope
@@ -39,7 +39,7 @@ fall_allowed : (p : PublicView) (w : ℕ) (a : Place) (n : ℕ) (result : Bool) 
 fall_allowed p w a n result gates cleared read t s h e =
     let table = table_out p.nodes w a read t s h.placed e in
     ap (λ (o : Option Spot). at_spot o (λ r. may_prune (levels_of r) (gate_of t r))) e
-    ∙ (ap (may_prune (levels_of s)) (gates read t s h e) ∙ sym (cleared read s.level s.above s.hold s.entry (place_out w a t s e) table))
+    ∙ (ap (may_prune (levels_of s)) (gates read t s h e) ∙ sym (cleared read s.level s.above s.hold s.entry (taken_place w a t s e) table))
 
 pub not_cleared : (p : PublicView) (w : ℕ) (a : Place) (n : ℕ) → Answers p is_going true → IsOut p w a → IsItsGate p w a (BallGate n)
     → IsClearedAt p.nodes a n false → (read : Reading) (t : TreeState) → IsPublicOf p read t → (is_going t ≡ true) × (is_allowed t (Prune w a) ≡ false)
@@ -54,7 +54,7 @@ no_landing p w a n out gates cleared nowhere read t h = by_out p w a out read t 
     lands : (s : Spot) → taken_at w a t ≡ Some s → ⊥
     lands s e =
         let table = table_out p.nodes w a read t s h.placed e in
-        let at = place_out w a t s e in
+        let at = taken_place w a t s e in
         let clear = sym (cleared read s.level s.above s.hold s.entry at table) in
         let f = falls_at p w a n gates read t s h e in
         let z : Some f.slept ≡ None = sym f.sleeps ∙ nowhere read s.level s.above (Pending s.hold s.entry) at table clear in
@@ -76,8 +76,8 @@ module _ (w : ℕ) (old new : PublicView) (a b : Place) (n : ℕ) (total : Credi
     table = table_out old.nodes w a read t s h.placed e
 
     landing : IsLanding n s.level s.above (Pending s.hold s.entry) b total
-    landing = lands read s.level s.above (Pending s.hold s.entry) (place_out w a t s e) table
-        (sym (cleared read s.level s.above s.hold s.entry (place_out w a t s e) table))
+    landing = lands read s.level s.above (Pending s.hold s.entry) (taken_place w a t s e) table
+        (sym (cleared read s.level s.above s.hold s.entry (taken_place w a t s e) table))
 
     fallen : ReadsAsFallen read old.nodes.rows n body (levels_of s) (or_none (taken_alone t.job.clauses (spot_stack s)))
     fallen = reads read t s h e
@@ -120,7 +120,7 @@ module _ (w : ℕ) (old new : PublicView) (a b : Place) (n : ℕ) (total : Credi
         record {
           placed = subst (λ (x : TreeState). IsTableOf new.nodes read x.root) (sym is) fall_table;
           next = more ∙ (ap (λ (g : Grown). g.next) (sym closes) ∙ ap (λ (x : TreeState). x.next) (sym is));
-          lost = lost read s.level s.above (Pending s.hold s.entry) (place_out w a t s e) table
+          lost = lost read s.level s.above (Pending s.hold s.entry) (taken_place w a t s e) table
               ∙ (ap (λ (ts : List Task). ts ++ tasks_pruned n (levels_of s)) h.lost ∙ ap (λ (x : TreeState). x.lost) (sym is));
           halted = halted ∙ (h.halted ∙ ap (λ (x : TreeState). x.halted) (sym is));
           budget = budget ∙ (h.budget ∙ ap (λ (x : TreeState). x.budget) (sym is));
@@ -128,7 +128,7 @@ module _ (w : ℕ) (old new : PublicView) (a b : Place) (n : ℕ) (total : Credi
           stopped = stopped ∙ (h.stopped ∙ ap (λ (x : TreeState). x.stopped) (sym is));
           sound = event_sound t (Prune w a) h.sound (legal read t h);
           rooted = subst (λ (x : TreeState). IsRooted x.root) (sym is)
-              (subst (λ (g : Grown). IsRooted g.root) (sym closes) (round (with_right (Inner (single t.next woken)) landing.level) landing.above _));
+              (subst (λ (g : Grown). IsRooted g.root) (sym closes) (rooted_round (with_right (Inner (single t.next woken)) landing.level) landing.above _));
         }
 
   pub ball_taken : Notes old new (Prune w a)

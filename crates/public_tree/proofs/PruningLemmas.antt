@@ -28,7 +28,7 @@ use Rattle.interleaving.proofs.UnchangedPlaceLemmas.{same_place-is}
 use Rattle.public_tree.specs.PublicTrees.{PublicView, IsRooted, IsPublicOf, Answers, Notes, IsSameTree, is_going, IsOut, IsItsGate}
 use Rattle.public_tree.specs.PrunedTasks.{FindsTasks}
 use Rattle.public_tree.specs.PublicPruning.{IsClearedAt, ReadsAsTop, ReadsCut}
-use Rattle.public_tree.proofs.HandOutLemmas.{legal_while_going}
+use Rattle.public_tree.proofs.HandOutLemmas.{legal_while_going, rooted_round, taken_place}
 
 pub same_tree : (p : PublicView) → IsSameTree p p
 same_tree p = record { noted = refl; budget = refl; window = refl; stands = λ read t h. h }
@@ -40,11 +40,6 @@ not_pending nodes a scope none_there read v up hold entry at s =
     absurd (let z : true ≡ false = sym (ap is_pending here) ∙ none_there in cc z)
 
 -- what is out to a worker
-pub place_out : (w : ℕ) (a : Place) (t : TreeState) (s : Spot) → taken_at w a t ≡ Some s → place_of_spot s ≡ a
-place_out w a t s e =
-    let f = found (IsIn t.root) (λ r. is_taken_by w r.hold && same_place a (place_of_spot r)) (pending_of t.root) s (all_in t.root) e in
-    sym (same_place-is a (place_of_spot s) (both (is_taken_by w s.hold) (same_place a (place_of_spot s)) f.passes).1)
-
 pub table_out : (nodes : NodesView) (w : ℕ) (a : Place) (read : Reading) (t : TreeState) (s : Spot) → IsTableOf nodes read t.root → taken_at w a t ≡ Some s
     → IsTableOf nodes read (plug (levels_of s) (Pending s.hold s.entry))
 table_out nodes w a read t s h e = subst (IsTableOf nodes read) (sym (taken_at_open w a t s e).inside) h
@@ -55,7 +50,7 @@ cut_allowed : (p : PublicView) (w : ℕ) (a : Place) (n : ℕ) (result : Bool) �
 cut_allowed p w a n result gates cleared read t s h e =
     let table = table_out p.nodes w a read t s h.placed e in
     ap (λ (o : Option Spot). at_spot o (λ r. may_prune (levels_of r) (gate_of t r))) e
-    ∙ (ap (may_prune (levels_of s)) (gates read t s h e) ∙ sym (cleared read s.level s.above s.hold s.entry (place_out w a t s e) table))
+    ∙ (ap (may_prune (levels_of s)) (gates read t s h e) ∙ sym (cleared read s.level s.above s.hold s.entry (taken_place w a t s e) table))
 
 pub by_out : {A : Type 0} → (p : PublicView) (w : ℕ) (a : Place) → IsOut p w a → (read : Reading) (t : TreeState) → IsPublicOf p read t
     → ((s : Spot) → taken_at w a t ≡ Some s → A) → A
@@ -71,16 +66,12 @@ not_cleared p w a n going out gates cleared read t h =
     (sym (going read t h), by_out p w a out read t h (λ s e. cut_allowed p w a n false gates cleared read t s h e))
 
 -- the levels that are pruned are round a place
-pub round : (v : Level) (up : List Level) (status : Status) → IsRooted (plug (v ∷ up) status)
-round v [] status = tt
-round v (u ∷ up) status = round u up (Inner (level_node v status))
-
 rooted_pruned : (scope : ℕ) (v : Level) (up : List Level) (status : Status) → IsRooted (plug (pruned scope (v ∷ up)) status)
 rooted_pruned scope v up status = by_test (v.number == scope)
   where
     by_test : (b : Bool) → IsRooted (plug (cond b (v ∷ up) (record v { right = emptied v.right } ∷ pruned scope up)) status)
-    by_test true = round v up status
-    by_test false = round (record v { right = emptied v.right }) (pruned scope up) status
+    by_test true = rooted_round v up status
+    by_test false = rooted_round (record v { right = emptied v.right }) (pruned scope up) status
 
 -- a cut is taken
 module _ (w : ℕ) (old new : PublicView) (a : Place) (n : ℕ) (body : Body) (going : Answers old is_going true) (out : IsOut old w a)
@@ -102,7 +93,7 @@ module _ (w : ℕ) (old new : PublicView) (a : Place) (n : ℕ) (body : Body) (g
         → IsTableOf new.nodes read (plug (pruned n (spending 1 (levels_of s))) (Inner (single t.next (with_nodes (node_of (levels_of s)) x.entry))))
     cut_table x =
         let k = taken_out old.nodes.rows read (levels_of s) (Pending s.hold s.entry) table.placed in
-        let now = cuts read s.level s.above (Pending s.hold s.entry) k.way (place_out w a t s e) table
+        let now = cuts read s.level s.above (Pending s.hold s.entry) k.way (taken_place w a t s e) table
         (way_to old.nodes.rows read (levels_of s) k.way _ k.around) in
         subst (λ (m : ℕ). IsTableOf new.nodes read (plug (pruned n (spending 1 (levels_of s))) (Inner (single m (with_nodes (node_of (levels_of s)) x.entry))))) h.next
         (subst (λ (y : Node). IsTableOf new.nodes read (plug (pruned n (spending 1 (levels_of s))) (Inner y))) (x.node (length old.nodes.rows)) now)
@@ -128,7 +119,7 @@ module _ (w : ℕ) (old new : PublicView) (a : Place) (n : ℕ) (body : Body) (g
         record {
           placed = subst (λ (x : TreeState). IsTableOf new.nodes read x.root) (sym is) (cut_table top);
           next = more ∙ ap (λ (x : TreeState). x.next) (sym is);
-          lost = lost read s.level s.above (Pending s.hold s.entry) (place_out w a t s e) table
+          lost = lost read s.level s.above (Pending s.hold s.entry) (taken_place w a t s e) table
               ∙ (ap (λ (ts : List Task). ts ++ tasks_pruned n (levels_of s)) h.lost ∙ ap (λ (x : TreeState). x.lost) (sym is));
           halted = halted ∙ (h.halted ∙ ap (λ (x : TreeState). x.halted) (sym is));
           budget = budget ∙ (h.budget ∙ ap (λ (x : TreeState). x.budget) (sym is));
