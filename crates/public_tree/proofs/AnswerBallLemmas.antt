@@ -17,7 +17,7 @@ use Rattle.tree_model.specs.Credits.{Credit, credit_of}
 use Rattle.tree_model.specs.Effects.{grown, front_taken}
 use Rattle.tree_model.specs.Events.{Answer}
 use Rattle.tree_model.specs.Floors.{node_of, with_heights, with_nodes, floor_of}
-use Rattle.tree_model.specs.FrontGates.{Taken, Continues, Raises, reply_taken, goal_at_front, removal_at_front, item_at_front, taken_at_front}
+use Rattle.tree_model.specs.FrontGates.{Taken, Raises, reply_taken, goal_at_front, removal_at_front, item_at_front, taken_at_front}
 use Rattle.tree_model.specs.Gates.{ball_scope}
 use Rattle.tree_model.specs.Legality.{is_taken_by, is_spot_at, taken_at, is_allowed}
 use Rattle.tree_model.specs.Levels.{Level, plug, Place, same_place, Spot, levels_of, place_of_spot, pending_of}
@@ -35,13 +35,13 @@ use Rattle.interleaving.proofs.OpenSpotLemmas.{taken_at_open}
 use Rattle.interleaving.proofs.UnchangedPlaceLemmas.{same_place-is, place_self}
 use Rattle.public_tree.specs.PublicTrees.{PublicView, IsRooted, IsPublicOf, is_going, IsOut}
 use Rattle.public_tree.specs.PrunedTasks.{FindsTasks}
-use Rattle.public_tree.specs.Answering.{taken_as, IsBarred, ReadsAsRaised, ReadsRaised}
+use Rattle.public_tree.specs.Answering.{taken_as, IsBarred, ReadsAsRaised, FallsAs}
 use Rattle.public_tree.proofs.HandOutLemmas.{first_spot_at, rooted_round, taken_place}
 use Rattle.public_tree.proofs.PruningLemmas.{table_out, by_out}
 use Rattle.public_tree.proofs.MakeLemmas.{cell_or}
 use Rattle.public_tree.proofs.PublishingLemmas.{hold_out}
 use Rattle.public_tree.proofs.BallGateLemmas.{ball_sleeps}
-use Rattle.public_tree.proofs.AnsweringLemmas.{IsAfter, moved, StandsAfter}
+use Rattle.public_tree.proofs.AnsweringLemmas.{IsAfter, moved}
 
 -- what a ball leaves of the stack that is below its top
 record IsThrown (floor es : List Entry) : Type 0 where
@@ -141,14 +141,15 @@ first_cleared : (w : ℕ) (p : PublicView) (a : Place) (n : ℕ) → IsBarred p 
 first_cleared w p a n free read t s h e = ap is_none (clear_below (Some n) (levels_of s) (first_out p w a read t s h e (sym (free.1 read t h))))
 
 -- it lands somewhere
-pub no_landing : (p : PublicView) (w : ℕ) (a : Place) (n : ℕ) (body : Body) → IsBarred p a None → IsOut p w a → ReadsRaised p w a n body → LandsNowhere p.nodes a n
-    → (read : Reading) (t : TreeState) → IsPublicOf p read t → (is_going t ≡ true) × (is_allowed t (Answer w a false) ≡ false)
-no_landing p w a n body free out reads nowhere read t h = by_out p w a out read t h (λ s e. absurd (lands s e))
+pub no_landing : (p : PublicView) (w : ℕ) (a : Place) (n : ℕ) (body : Body) → IsBarred p a None → IsOut p w a → LandsNowhere p.nodes a n
+    → (read : Reading) (t : TreeState) → IsPublicOf p read t → FallsAs p.nodes.rows n body w a read t
+    → (is_going t ≡ true) × (is_allowed t (Answer w a false) ≡ false)
+no_landing p w a n body free out nowhere read t h falls = by_out p w a out read t h (λ s e. absurd (lands s e))
   where
     lands : (s : Spot) → taken_at w a t ≡ Some s → ⊥
     lands s e =
         let table = table_out p.nodes w a read t s h.placed e in
-        let x = reads read t s h e in
+        let x = (falls s e).1 in
         let k = raised_sleeps w a t s (x.entry ∷ x.under) h.sound e x.raises in
         let sleeps : sleeper_on (down_to n (levels_of s)) ≡ Some k.0 = ap (λ (m : ℕ). sleeper_on (down_to m (levels_of s))) (sym x.scope) ∙ k.1 in
         let z : Some k.0 ≡ None = sym sleeps
@@ -156,19 +157,17 @@ no_landing p w a n body free out reads nowhere read t h = by_out p w a out read 
         cc z
 
 -- it is thrown, and lands
-module _ (w : ℕ) (old new : PublicView) (a b : Place) (n : ℕ) (total : Credit) (body : Body) (free : IsBarred old a None) (reads : ReadsRaised old w a n body)
+module _ (w : ℕ) (old new : PublicView) (a b : Place) (n : ℕ) (total : Credit) (body : Body) (free : IsBarred old a None)
     (lands : LandsAt old.nodes a n b total) (beside : LandsBeside old.nodes new.nodes b total body) (rows : length new.nodes.rows ≡ length old.nodes.rows + 1)
     (lost : FindsTasks old.nodes a n old.lost new.lost) (halted : new.halted ≡ old.halted) (budget : new.budget ≡ old.budget)
     (window : new.window ≡ old.window) (stopped : new.log.stopped ≡ old.log.stopped) where
-  module _ (read : Reading) (t : TreeState) (s : Spot) (h : IsPublicOf old read t) (e : taken_at w a t ≡ Some s) where
+  module _ (read : Reading) (t : TreeState) (s : Spot) (h : IsPublicOf old read t) (e : taken_at w a t ≡ Some s)
+      (raised : ReadsAsRaised read old.nodes.rows n body (levels_of s) (taken_as t s)) where
     table : IsTableOf old.nodes read (plug (levels_of s) (Pending s.hold s.entry))
     table = table_out old.nodes w a read t s h.placed e
 
     landing : IsLanding n s.level s.above (Pending s.hold s.entry) b total
     landing = lands read s.level s.above (Pending s.hold s.entry) (taken_place w a t s e) table (first_cleared w old a n free read t s h e)
-
-    raised : ReadsAsRaised read old.nodes.rows n body (levels_of s) (taken_as t s)
-    raised = reads read t s h e
 
     abbrev woken : Entry
     woken = with_nodes (node_of (levels_of s)) raised.entry
@@ -195,8 +194,8 @@ module _ (w : ℕ) (old new : PublicView) (a b : Place) (n : ℕ) (total : Credi
         ap (λ (y : Taken). front_taken s y (moved t s)) raised.raises
         ∙ ap (λ (m : ℕ). grown (ball_closes t.next m (levels_of s) (credit_of 1) woken) (record (moved t s) { lost = t.lost ++ tasks_pruned m (levels_of s) })) raised.scope
 
-    stands : IsAfter new read (front_taken s (taken_as t s) (moved t s))
-    stands =
+    pub falls_after : IsAfter new read (front_taken s (taken_as t s) (moved t s))
+    falls_after =
         let more : length new.nodes.rows ≡ suc t.next = (let z = h.next in omega (arith, rows, z)) in
         subst (IsAfter new read) (sym after)
         (record {
@@ -209,6 +208,3 @@ module _ (w : ℕ) (old new : PublicView) (a b : Place) (n : ℕ) (total : Credi
           stopped = stopped ∙ h.stopped;
           rooted = subst (λ (g : Grown). IsRooted g.root) (sym closes) (rooted_round (with_right (Inner (single t.next woken)) landing.level) landing.above _);
         })
-
-  pub falls_after : StandsAfter old new w a
-  falls_after read t s h e = stands read t s h e

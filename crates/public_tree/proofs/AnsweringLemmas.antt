@@ -8,29 +8,30 @@ use Rattle.tree_model.specs.Closing.{closes}
 use Rattle.tree_model.specs.Credits.{Credit, credit_of}
 use Rattle.tree_model.specs.Effects.{spending, closed_with, query_opens, front_taken, spot_stack, world_moved, where_some, after_allowed, after_event}
 use Rattle.tree_model.specs.Events.{Answer}
+use Rattle.tree_model.specs.EventViews.{place_view}
 use Rattle.tree_model.specs.FrontGates.{Taken, Continues, Answered, Raises, Halts, QueryEnds, taken_at_front}
 use Rattle.tree_model.specs.Legality.{taken_at, at_spot, gate_of, is_world_gate, is_spot_at, is_allowed, is_legal}
-use Rattle.tree_model.specs.Levels.{Level, plug, Place, place_at, same_place, Spot, levels_of, place_of_spot, pending_of}
+use Rattle.tree_model.specs.Levels.{plug, Place, same_place, Spot, levels_of, place_of_spot, pending_of}
 use Rattle.tree_model.specs.Nodes.{Gate, WorldGate, TakenBy, Hold, Node, Status, Pending, Inner}
-use Rattle.tree_model.specs.Pruning.{Task}
 use Rattle.tree_model.specs.SoundTrees.{IsSound}
 use Rattle.tree_model.specs.TreeStates.{TreeState, first_spot, leftmost, opened_node}
 use Rattle.tree_nodes.specs.Bodies.{Body, Branching, Reading, new_node}
 use Rattle.tree_nodes.specs.Changes.{SetsCell, Adds, is_pending}
-use Rattle.tree_nodes.specs.Rows.{AlternativeCell, PendingCell, InnerCell, cell_at}
+use Rattle.tree_nodes.specs.Rows.{AlternativeCell, PendingCell, InnerCell, cell_at, credit_view}
 use Rattle.tree_nodes.specs.TreeTables.{cell_of, NodesView, IsTableOf, IsWayTo}
 use Rattle.tree_nodes.proofs.AddLemmas.{way_to}
 use Rattle.tree_nodes.proofs.PlaceLemmas.{taken_out}
 use Rattle.tree_nodes.proofs.WalkLemmas.{cell_here}
-use Rattle.tree_closing.specs.declared.way_up.Beside.{Beside}
+use Rattle.tree_closing.specs.Closings.{is_waking}
+use Rattle.tree_closing.specs.declared.way_up.Closing.{Closing}
 use Rattle.interleaving.proofs.LegalLemmas.{event_sound}
 use Rattle.interleaving.proofs.OpenSpotLemmas.{taken_at_open}
 use Rattle.interleaving.proofs.UnchangedPlaceLemmas.{same_place-is}
-use Rattle.public_tree.specs.PublicTrees.{PublicView, IsRooted, IsPublicOf, Answers, Notes, is_going, IsOut, IsItsGate, IsLeftmostAt}
-use Rattle.public_tree.specs.PublicClosing.{IsGiven, IsGrownTo, RestsIn}
-use Rattle.public_tree.specs.Answering.{taken_as, is_first_at, IsBarred, TakesFront, ReadsFront, ReadsQuery, HaltsWith, front_credit, RestsByFront, GrowsAt, SpendsAt}
+use Rattle.public_tree.specs.PublicTrees.{PublicView, IsRooted, IsPublicOf, NotesIn, IsOut, IsLeftmostAt}
+use Rattle.public_tree.specs.PublicClosing.{ReadsAs, IsGrownTo, RestsIn}
+use Rattle.public_tree.specs.Answering.{taken_as, is_first_at, IsBarred, ReadsAsLeft, ReadsAsNext, front_credit, ClosesAs, GrowsAt, SpendsAt}
 use Rattle.public_tree.proofs.HandOutLemmas.{KeepsOthers, first_spot_at, legal_while_going, rooted_round, taken_place}
-use Rattle.public_tree.proofs.PruningLemmas.{same_tree, table_out, by_out}
+use Rattle.public_tree.proofs.PruningLemmas.{table_out, by_out}
 use Rattle.public_tree.proofs.PublishingLemmas.{hold_out}
 
 -- what has no entry is not the leftmost one
@@ -51,11 +52,11 @@ not_open nodes a none_there read root table sound = by_first (first_spot (pendin
             absurd (let z : true ≡ false = sym (ap is_pending here) ∙ none_there in cc z)
 
 -- whether it is allowed to take what is out at the front
-answer_allowed : (p : PublicView) (w : ℕ) (a : Place) (result : Bool) → IsItsGate p w a WorldGate → Answers p (is_first_at a) result
-    → (read : Reading) (t : TreeState) (s : Spot) → IsPublicOf p read t → taken_at w a t ≡ Some s → is_allowed t (Answer w a false) ≡ result
-answer_allowed p w a result gates first read t s h e =
+answer_allowed : (w : ℕ) (a : Place) (result : Bool) (t : TreeState) (s : Spot) → taken_at w a t ≡ Some s → gate_of t s ≡ Some WorldGate
+    → result ≡ is_first_at a t → is_allowed t (Answer w a false) ≡ result
+answer_allowed w a result t s e gate first =
     ap (λ (o : Option Spot). at_spot o (λ r. is_world_gate (gate_of t r) && is_spot_at a (leftmost t))) e
-    ∙ (ap (λ (g : Option Gate). is_world_gate g && is_spot_at a (leftmost t)) (gates read t s h e) ∙ sym (first read t h))
+    ∙ (ap (λ (g : Option Gate). is_world_gate g && is_spot_at a (leftmost t)) gate ∙ sym first)
 
 -- the parts of a tree for which the public part stands
 pub record IsAfter (new : PublicView) (read : Reading) (x : TreeState) : Type 0 where
@@ -72,20 +73,15 @@ pub record IsAfter (new : PublicView) (read : Reading) (x : TreeState) : Type 0 
 abbrev pub moved : TreeState → Spot → TreeState
 moved t s = record t { world = (taken_at_front t.job.clauses (spot_stack s) t.world).0 }
 
--- of each tree, what is out is taken at the front
-abbrev pub StandsAfter : PublicView → PublicView → ℕ → Place → Type 0
-StandsAfter old new w a =
-    (read : Reading) (t : TreeState) (s : Spot) → IsPublicOf old read t → taken_at w a t ≡ Some s → IsAfter new read (front_taken s (taken_as t s) (moved t s))
+-- what is out is taken at the front
+module _ (w : ℕ) (old new : PublicView) (a : Place) (free : IsBarred old a None) (out : IsOut old w a) (read : Reading) (t : TreeState) (h : IsPublicOf old read t) where
+  legal : (s : Spot) → taken_at w a t ≡ Some s → gate_of t s ≡ Some WorldGate → is_legal t (Answer w a false) ≡ true
+  legal s e gate = legal_while_going t (Answer w a false) (sym (free.0 read t h)) (answer_allowed w a true t s e gate (free.1 read t h))
 
-module _ (w : ℕ) (old new : PublicView) (a : Place) (free : IsBarred old a None) (out : IsOut old w a) (gates : IsItsGate old w a WorldGate) where
-  legal : (read : Reading) (t : TreeState) → IsPublicOf old read t → is_legal t (Answer w a false) ≡ true
-  legal read t h = by_out old w a out read t h
-      (λ s e. legal_while_going t (Answer w a false) (sym (free.0 read t h)) (answer_allowed old w a true gates free.1 read t s h e))
-
-  stands : (read : Reading) (t : TreeState) (s : Spot) → IsPublicOf old read t → taken_at w a t ≡ Some s → IsAfter new read (front_taken s (taken_as t s) (moved t s))
+  stands : (s : Spot) → taken_at w a t ≡ Some s → gate_of t s ≡ Some WorldGate → IsAfter new read (front_taken s (taken_as t s) (moved t s))
       → IsPublicOf new read (after_event t (Answer w a false))
   unfolding after_event
-  stands read t s h e k =
+  stands s e gate k =
       let is : after_allowed t (Answer w a false) ≡ front_taken s (taken_as t s) (moved t s)
       = ap (λ (o : Option Spot). where_some o t (λ r. world_moved r (taken_at_front t.job.clauses (spot_stack r) t.world) t)) e in
       record {
@@ -96,18 +92,19 @@ module _ (w : ℕ) (old new : PublicView) (a : Place) (free : IsBarred old a Non
         budget = k.budget ∙ ap (λ (x : TreeState). x.budget) (sym is);
         window = k.window ∙ ap (λ (x : TreeState). x.window) (sym is);
         stopped = k.stopped ∙ ap (λ (x : TreeState). x.stopped) (sym is);
-        sound = event_sound t (Answer w a false) h.sound (legal read t h);
+        sound = event_sound t (Answer w a false) h.sound (legal s e gate);
         rooted = subst (λ (x : TreeState). IsRooted x.root) (sym is) k.rooted;
       }
 
-  pub front_noted : new.budget ≡ old.budget → new.window ≡ old.window → StandsAfter old new w a
-      → new.log.events ≡ old.log.events ++ Answer w a false ∷ [] → Notes old new (Answer w a false)
-  front_noted budget window after events = record {
+  pub front_noted : new.budget ≡ old.budget → new.window ≡ old.window → new.log.events ≡ old.log.events ++ Answer w a false ∷ []
+      → ((s : Spot) → taken_at w a t ≡ Some s → (gate_of t s ≡ Some WorldGate) × IsAfter new read (front_taken s (taken_as t s) (moved t s)))
+      → NotesIn old new (Answer w a false) read t
+  front_noted budget window events after = record {
     noted = events;
     budget = budget;
     window = window;
-    legal = legal;
-    stands = λ read t h. by_out old w a out read t h (λ s e. stands read t s h e (after read t s h e));
+    legal = by_out old w a out read t h (λ s e. legal s e (after s e).0);
+    stands = by_out old w a out read t h (λ s e. stands s e (after s e).0 (after s e).1);
   }
 
 -- a new node is below the place, with one inference more
@@ -157,15 +154,19 @@ module _ (w : ℕ) (old new : PublicView) (a : Place) (body : Body) (grows : Gro
       let k = taken_out old.nodes.rows read (levels_of s) (Pending s.hold s.entry) table.placed in
       go k.way (way_to old.nodes.rows read (levels_of s) k.way (PendingCell s.hold) k.around)
 
-  pub goes_on_after : ReadsFront old w a body → StandsAfter old new w a
-  goes_on_after reads read t s h e = by_way read t s h e (λ way down.
-      let x = reads read t s way h e down in
+  pub goes_on_after : (read : Reading) (t : TreeState) (s : Spot) → IsPublicOf old read t → taken_at w a t ≡ Some s
+      → ((way : Branching) → IsWayTo old.nodes.rows (levels_of s) way → ReadsAsLeft read way body (levels_of s) (taken_as t s))
+      → IsAfter new read (front_taken s (taken_as t s) (moved t s))
+  goes_on_after read t s h e reads = by_way read t s h e (λ way down.
+      let x = reads way down in
       let is = ap (λ (y : Taken). front_taken s y (moved t s)) x.goes_on in
       subst (IsAfter new read) (sym is) (node_after read t s h e way down _ x.node t.queries))
 
-  pub query_after : ReadsQuery old w a body → StandsAfter old new w a
-  query_after reads read t s h e = by_way read t s h e (λ way down.
-      let x = reads read t s way h e down in
+  pub query_after : (read : Reading) (t : TreeState) (s : Spot) → IsPublicOf old read t → taken_at w a t ≡ Some s
+      → ((way : Branching) → IsWayTo old.nodes.rows (levels_of s) way → ReadsAsNext read way body (taken_as t s) t.queries)
+      → IsAfter new read (front_taken s (taken_as t s) (moved t s))
+  query_after read t s h e reads = by_way read t s h e (λ way down.
+      let x = reads way down in
       let is : front_taken s (taken_as t s) (moved t s) ≡ query_opens s (x.query ∷ x.further) (moved t s)
       = ap (λ (y : Taken). front_taken s y (moved t s)) x.ends ∙ ap (λ (qs : List Query). query_opens s qs (moved t s)) x.next in
       subst (IsAfter new read) (sym is) (node_after read t s h e way down (λ n. opened_node n x.query) x.node x.further))
@@ -183,15 +184,16 @@ front_closes s QueryEnds x c e = by_queries x.queries e
     by_queries [] f = let same : credit_of 1 ≡ c = cc f in ap (λ (y : Credit). closed_with s y x) same
     by_queries (q ∷ qs) f = absurd (cc f)
 
-pub closes_after : (w : ℕ) (old new : PublicView) (a b : Place) (total : Credit) (beside : Beside) (body : Option Body) → RestsByFront old w a b total beside
-    → IsGiven old b total beside body → RestsIn old.nodes new.nodes b total beside body → KeepsOthers old new → new.log.stopped ≡ old.log.stopped
-    → StandsAfter old new w a
-closes_after w old new a b total beside body rests given closed others stopped read t s h e =
+pub closes_after : (w : ℕ) (old new : PublicView) (a : Place) (closing : Closing) (body : Option Body)
+    → RestsIn old.nodes new.nodes (place_view closing.end) (credit_view closing.credit) closing.beside body → KeepsOthers old new
+    → new.log.stopped ≡ old.log.stopped → (read : Reading) (t : TreeState) (s : Spot) → IsPublicOf old read t → taken_at w a t ≡ Some s
+    → ReadsAs read old.nodes.rows (place_view closing.end) (credit_view closing.credit).records (is_waking closing.beside) body
+    → ClosesAs old.nodes a closing (front_credit (taken_as t s) t.queries) → IsAfter new read (front_taken s (taken_as t s) (moved t s))
+closes_after w old new a closing body closed others stopped read t s h e given r =
     let spot = taken_at_open w a t s e in
     let table = table_out old.nodes w a read t s h.placed e in
     let sound : IsSound [] (plug (levels_of s) (Pending s.hold s.entry)) = subst (IsSound []) (sym spot.inside) h.sound.sound in
-    let r = rests read t s h e in
-    let now = closed a r.credit read s.level s.above (Pending s.hold s.entry) r.rests (taken_place w a t s e) table sound (given read t h) in
+    let now = closed a r.credit read s.level s.above (Pending s.hold s.entry) r.rests (taken_place w a t s e) table sound given in
     let g : IsGrownTo new.nodes read (closes t.next (levels_of s) r.credit) = subst (λ (n : ℕ). IsGrownTo new.nodes read (closes n (levels_of s) r.credit)) h.next now in
     subst (IsAfter new read) (sym (front_closes s (taken_as t s) (moved t s) r.credit r.closes))
     (record {
@@ -216,13 +218,14 @@ spends_at old new w a spent there set read v up was entry at s =
     subst (λ (n : ℕ). IsTableOf new read (plug (record v { spent = n + 1 } ∷ up) (Pending (TakenBy w) entry))) spends
     (subst (λ (y : Entry). IsTableOf new read (plug (record v { spent = spent + 1 } ∷ up) (Pending (TakenBy w) y))) k.1.0 k.1.1)
 
-pub halts_after : (w : ℕ) (old new : PublicView) (a : Place) (k : ℕ) → HaltsWith old w a k → SpendsAt old.nodes new.nodes w a
+pub halts_after : (w : ℕ) (old new : PublicView) (a : Place) (k : ℕ) → SpendsAt old.nodes new.nodes w a
     → length new.nodes.rows ≡ length old.nodes.rows → new.halted ≡ Some k → new.lost ≡ old.lost → new.budget ≡ old.budget → new.window ≡ old.window
-    → new.log.stopped ≡ old.log.stopped → StandsAfter old new w a
-halts_after w old new a k halts spends rows halted lost budget window stopped read t s h e =
+    → new.log.stopped ≡ old.log.stopped → (read : Reading) (t : TreeState) (s : Spot) → IsPublicOf old read t → taken_at w a t ≡ Some s
+    → taken_as t s ≡ Halts k → IsAfter new read (front_taken s (taken_as t s) (moved t s))
+halts_after w old new a k spends rows halted lost budget window stopped read t s h e halts =
     let table = table_out old.nodes w a read t s h.placed e in
     let now = spends read s.level s.above s.hold s.entry (taken_place w a t s e) table in
-    let is = ap (λ (y : Taken). front_taken s y (moved t s)) (halts read t s h e) in
+    let is = ap (λ (y : Taken). front_taken s y (moved t s)) halts in
     subst (IsAfter new read) (sym is)
     (record {
       placed = subst (λ (x : Hold). IsTableOf new.nodes read (plug (spending 1 (levels_of s)) (Pending x s.entry))) (sym (hold_out w a t s e)) now;

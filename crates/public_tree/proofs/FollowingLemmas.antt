@@ -9,7 +9,7 @@ use Rattle.tree_model.specs.Legality.{is_legal}
 use Rattle.tree_model.specs.Effects.{after_event}
 use Rattle.tree_model.specs.Histories.{after_events, are_legal, tree_after, IsLegalHistory}
 use Rattle.public_tree.specs.PublicTrees.{IsRooted, IsPublicOf}
-use Rattle.public_tree.specs.Following.{tree_of, EventsFollow, NothingFollows, OpeningFollows}
+use Rattle.public_tree.specs.Following.{tree_of, EventsFollow, KnownEventsFollow, NothingFollows, OpeningFollows}
 use Rattle.interleaving.proofs.LegalLemmas.{opening_sound}
 use Rattle.interleaving.proofs.UnchangedPlaceLemmas.{after-last}
 
@@ -33,18 +33,26 @@ same_tree : (job : Job) (b c v w : ℕ) (es ds : List Event) → b ≡ c → v �
 same_tree job b c v w es ds e f g =
     ap (λ (x : ℕ). tree_after job x v es) e ∙ (ap (λ (x : ℕ). tree_after job c x es) f ∙ ap (λ (x : List Event). tree_after job c w x) g)
 
-pub events_follow : EventsFollow
-events_follow job read old new e h n =
+pub known_follow : KnownEventsFollow
+known_follow job read old new e h n =
     let t = opening_tree job old.budget old.window in
     let es = old.log.events in
-    let legal : is_legal (tree_of job old) e ≡ true = n.legal read (tree_of job old) h.stands in
     let tree : tree_of job new ≡ after_event (tree_of job old) e
     = same_tree job new.budget old.budget new.window old.window new.log.events (es ++ e ∷ []) n.budget n.window n.noted ∙ after-last t es e in
     record {
       legal = same_legal job new.budget old.budget new.window old.window new.log.events (es ++ e ∷ []) n.budget n.window n.noted
-          (one_more_legal t es e h.legal legal);
-      stands = subst (IsPublicOf new read) (sym tree) (n.stands read (tree_of job old) h.stands);
+          (one_more_legal t es e h.legal n.legal);
+      stands = subst (IsPublicOf new read) (sym tree) n.stands;
     }
+
+pub events_follow : EventsFollow
+events_follow job read old new e h n = known_follow job read old new e h (record {
+  noted = n.noted;
+  budget = n.budget;
+  window = n.window;
+  legal = n.legal read (tree_of job old) h.stands;
+  stands = n.stands read (tree_of job old) h.stands;
+})
 
 pub nothing_follows : NothingFollows
 nothing_follows job read old new h n =

@@ -12,7 +12,7 @@ use Rattle.tree_model.specs.Events.{Event}
 use Rattle.tree_nodes.specs.TreeTables.{IsTableOf}
 use Rattle.tree_model.specs.Histories.{tree_after, IsLegalHistory}
 use Rattle.tree_nodes.specs.Bodies.{Reading}
-use Rattle.public_tree.specs.PublicTrees.{PublicView, IsPublicOf, Notes, IsSameTree, is_going}
+use Rattle.public_tree.specs.PublicTrees.{PublicView, IsPublicOf, Notes, NotesIn, IsSameTree, is_going}
 
 -- the tree of a job after the events that were noted
 abbrev pub tree_of : Job → PublicView → TreeState
@@ -25,6 +25,11 @@ pub record HistoryFollows (job : Job) (read : Reading) (p : PublicView) : Type 0
 -- one event more
 abbrev pub EventsFollow : Type 0
 EventsFollow = (job : Job) (read : Reading) (old new : PublicView) (e : Event) → HistoryFollows job read old → Notes old new e → HistoryFollows job read new
+
+-- one that may happen in the job's tree
+abbrev pub KnownEventsFollow : Type 0
+KnownEventsFollow = (job : Job) (read : Reading) (old new : PublicView) (e : Event) → HistoryFollows job read old
+    → NotesIn old new e read (tree_of job old) → HistoryFollows job read new
 
 -- or none
 abbrev pub NothingFollows : Type 0

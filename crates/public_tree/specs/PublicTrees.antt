@@ -55,6 +55,14 @@ pub record Notes (old new : PublicView) (e : Event) : Type 0 where
   pub legal : (read : Reading) (t : TreeState) → IsPublicOf old read t → is_legal t e ≡ true
   pub stands : (read : Reading) (t : TreeState) → IsPublicOf old read t → IsPublicOf new read (after_event t e)
 
+-- an event that may happen in this tree has happened, and was noted
+pub record NotesIn (old new : PublicView) (e : Event) (read : Reading) (t : TreeState) : Type 0 where
+  pub noted : new.log.events ≡ old.log.events ++ e ∷ []
+  pub budget : new.budget ≡ old.budget
+  pub window : new.window ≡ old.window
+  pub legal : is_legal t e ≡ true
+  pub stands : IsPublicOf new read (after_event t e)
+
 -- nothing has happened
 pub record IsSameTree (old new : PublicView) : Type 0 where
   pub noted : new.log.events ≡ old.log.events

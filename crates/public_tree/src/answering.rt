@@ -1,19 +1,19 @@
-//! World goals, answers and ends of queries that are taken at the front.
+//! World goals, answers and ends of queries that are taken at the front. What each comes to there, in its world and with its
+//! queries, is the caller's to know: contracts speak of the trees of which that holds.
 ghost use Rattle.std.specs.Prelude.{◌≡◌, ◌<◌, None, false, IsSome, IfOk, OnOk, OnErr};
 ghost use Rattle.std.specs.Arc.{arc_value};
 ghost use Rattle.std.specs.Bool.{OnTrue};
 ghost use Rattle.tree_model.specs.EventViews.{event_view, place_view};
 ghost use Rattle.tree_model.specs.Events.{Answer};
-ghost use Rattle.tree_model.specs.Nodes.{WorldGate};
 ghost use Rattle.tree_nodes.specs.Bodies.{IsWhole, body_view};
 ghost use Rattle.tree_nodes.specs.Changes.{IsOpenCell, IsLonger, KeepsNumbers};
 ghost use Rattle.tree_nodes.specs.Rows.{cell_at, credit_view, scope_number};
 ghost use Rattle.tree_closing.specs.Closings.{ComesToRest, HasSleeper};
 ghost use Rattle.public_tree.specs.Opening.{opening_body};
-ghost use Rattle.public_tree.specs.PublicTrees.{Answers, IsSameTree, IsOut, IsItsGate, IsLeftmostAt};
-ghost use Rattle.public_tree.specs.PublicClosing.{IsGiven, IsBodyGiven};
+ghost use Rattle.public_tree.specs.PublicTrees.{Answers, IsSameTree, IsOut, IsLeftmostAt};
+ghost use Rattle.public_tree.specs.PublicClosing.{IsBodyGiven};
 ghost use Rattle.public_tree.specs.Answering.{answer_credit, is_first_at, IsBarred, TakesFront, promised_by};
-ghost use Rattle.public_tree.specs.Answering.{ReadsFront, RestsByFront, ReadsQuery, HaltsWith, ReadsRaised, GrowsAt, SpendsAt};
+ghost use Rattle.public_tree.specs.Answering.{GoesOnAs, EndsAs, OpensAs, HaltsAs, FallsAs, GrowsAt, SpendsAt};
 
 use crate::closing::rest;
 use crate::hand_out::is_leftmost;
@@ -45,9 +45,9 @@ impl PublicTree {
         is_leftmost(&self.nodes, at)
     }
 
-    /// A worker takes the world goal of an alternative that is out to it, where that goes on: what is left is ready below a
-    /// new node of the body. Nothing happens where the alternative is not the leftmost entry, or where the tree has ended or
-    /// was stopped.
+    /// A worker takes the world goal or the removal of an alternative that is out to it, where that goes on: what is left is
+    /// ready below a new node of the body. Nothing happens where the alternative is not the leftmost entry, or where the tree
+    /// has ended or was stopped.
     pub fn go_on_at_front(
         &mut self,
         worker: u32,
@@ -55,11 +55,9 @@ impl PublicTree {
         body: Arc<NodeBody>,
     ) -> Result<Answering, NoMemory>
         requires out { IsOut self.old worker (place_view at) }
-        requires gate { IsItsGate self.old worker (place_view at) WorldGate }
         requires whole { IsWhole (body_view (arc_value body)) }
-        requires reads { ReadsFront self.old worker (place_view at) (body_view (arc_value body)) }
         requires promised { 0 < self.old.log.promised }
-        ensures takes { IfOk result (λ r. TakesFront self.old self.new worker (place_view at) r) }
+        ensures takes { IfOk result (λ r. TakesFront self.old self.new worker (place_view at) (GoesOnAs self.old.nodes.rows (body_view (arc_value body))) r) }
         ensures promised { IfOk result (λ r. self.new.log.promised ≡ promised_by r self.old.log.promised) }
         ensures err { OnErr result (IsSameTree self.old self.new) }
         ensures kept { OnErr result (self.new.log.promised ≡ self.old.log.promised) }
@@ -102,11 +100,8 @@ impl PublicTree {
         requires sleeper { HasSleeper closing.beside self.old.nodes.rows (place_view closing.end) }
         requires body { IsBodyGiven closing.beside (opening_body woken) }
         requires out { IsOut self.old worker (place_view at) }
-        requires gate { IsItsGate self.old worker (place_view at) WorldGate }
-        requires rests { RestsByFront self.old worker (place_view at) (place_view closing.end) (credit_view closing.credit) closing.beside }
-        requires given { IsGiven self.old (place_view closing.end) (credit_view closing.credit) closing.beside (opening_body woken) }
         requires promised { 0 < self.old.log.promised }
-        ensures takes { IfOk result (λ r. TakesFront self.old self.new worker (place_view at) r) }
+        ensures takes { IfOk result (λ r. TakesFront self.old self.new worker (place_view at) (EndsAs self.old.nodes closing (opening_body woken)) r) }
         ensures promised { IfOk result (λ r. self.new.log.promised ≡ promised_by r self.old.log.promised) }
         ensures err { OnErr result (IsSameTree self.old self.new) }
         ensures kept { OnErr result (self.new.log.promised ≡ self.old.log.promised) }
@@ -129,11 +124,9 @@ impl PublicTree {
         body: Arc<NodeBody>,
     ) -> Result<Answering, NoMemory>
         requires out { IsOut self.old worker (place_view at) }
-        requires gate { IsItsGate self.old worker (place_view at) WorldGate }
         requires whole { IsWhole (body_view (arc_value body)) }
-        requires reads { ReadsQuery self.old worker (place_view at) (body_view (arc_value body)) }
         requires promised { 0 < self.old.log.promised }
-        ensures takes { IfOk result (λ r. TakesFront self.old self.new worker (place_view at) r) }
+        ensures takes { IfOk result (λ r. TakesFront self.old self.new worker (place_view at) (OpensAs self.old.nodes.rows (body_view (arc_value body))) r) }
         ensures promised { IfOk result (λ r. self.new.log.promised ≡ promised_by r self.old.log.promised) }
         ensures err { OnErr result (IsSameTree self.old self.new) }
         ensures kept { OnErr result (self.new.log.promised ≡ self.old.log.promised) }
@@ -150,10 +143,8 @@ impl PublicTree {
     /// alternative is not the leftmost entry, or where the tree has ended or was stopped.
     pub fn halt(&mut self, worker: u32, at: AltRef, status: u8) -> Result<Answering, NoMemory>
         requires out { IsOut self.old worker (place_view at) }
-        requires gate { IsItsGate self.old worker (place_view at) WorldGate }
-        requires halts { HaltsWith self.old worker (place_view at) status }
         requires promised { 0 < self.old.log.promised }
-        ensures takes { IfOk result (λ r. TakesFront self.old self.new worker (place_view at) r) }
+        ensures takes { IfOk result (λ r. TakesFront self.old self.new worker (place_view at) (HaltsAs status) r) }
         ensures promised { IfOk result (λ r. self.new.log.promised ≡ promised_by r self.old.log.promised) }
         ensures err { OnErr result (IsSameTree self.old self.new) }
         ensures kept { OnErr result (self.new.log.promised ≡ self.old.log.promised) }
@@ -179,11 +170,9 @@ impl PublicTree {
         body: Arc<NodeBody>,
     ) -> Result<Answering, NoMemory>
         requires out { IsOut self.old worker (place_view at) }
-        requires gate { IsItsGate self.old worker (place_view at) WorldGate }
         requires whole { IsWhole (body_view (arc_value body)) }
-        requires reads { ReadsRaised self.old worker (place_view at) (scope_number scope) (body_view (arc_value body)) }
         requires promised { 0 < self.old.log.promised }
-        ensures takes { IfOk result (λ r. TakesFront self.old self.new worker (place_view at) r) }
+        ensures takes { IfOk result (λ r. TakesFront self.old self.new worker (place_view at) (FallsAs self.old.nodes.rows (scope_number scope) (body_view (arc_value body))) r) }
         ensures promised { IfOk result (λ r. self.new.log.promised ≡ promised_by r self.old.log.promised) }
         ensures err { OnErr result (IsSameTree self.old self.new) }
         ensures kept { OnErr result (self.new.log.promised ≡ self.old.log.promised) }

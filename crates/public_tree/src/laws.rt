@@ -1,5 +1,5 @@
 //! Laws of public trees: each function does nothing, and its contract is the law.
-ghost use Rattle.public_tree.specs.Following.{EventsFollow, NothingFollows, OpeningFollows, IsOnce, GoesOn, IsPrefix, IsRightEnd};
+ghost use Rattle.public_tree.specs.Following.{EventsFollow, KnownEventsFollow, NothingFollows, OpeningFollows, IsOnce, GoesOn, IsPrefix, IsRightEnd};
 
 use interleaving::laws::histories::{histories_end_right, histories_keep_prefixes};
 use interleaving::laws::trees::{handed_out_once, never_stuck};
@@ -9,6 +9,7 @@ use interleaving::laws::trees::{handed_out_once, never_stuck};
 pub fn histories_stay_legal()
     ensures opening { OpeningFollows }
     ensures event { EventsFollow }
+    ensures known { KnownEventsFollow }
     ensures nothing { NothingFollows }
 {}
 

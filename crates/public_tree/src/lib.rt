@@ -1,12 +1,12 @@
 //! The public part of the tree that workers share: its nodes, who has what of it, and the events so far. Contracts speak of
 //! each tree of the definition for which it stands.
 //!
-//! `claim` and `resume` cost what `leftmost_ready` and `leftmost_cleared` of `branch_order` cost, `rest_of` what folds,
-//! `close` what it drops, and `publish` the alternatives of its nodes. `cut` and `fall` cost what `prune_ops` says, the test
-//! that the alternative is cleared, and a walk over what they take away, which gathers the tasks that are out there; they take
+//! `claim` and `resume` cost what `leftmost_ready` and `leftmost_cleared` of `branch_order` cost, `rest_of` and
+//! `rest_of_answer` what folds, `close` and `close_at_front` what they drop, and `publish`, `go_on_at_front` and `open_query`
+//! the alternatives of their nodes. `cut`, `fall` and `fall_at_front` cost what `prune_ops` says, the test that the alternative
+//! is cleared or the leftmost entry, and a walk over what they take away, which gathers the tasks that are out there; they take
 //! their memory before they change anything. The rest does not depend on the size of the tree. A task that goes out has room
-//! in the log for the event by which it comes back, and a stop has room at any time: neither
-//! takes memory.
+//! in the log for the event by which it comes back, and a stop has room at any time: neither takes memory.
 #![tactic(auto)]
 
 mod answering;

@@ -1,4 +1,4 @@
-use Rattle.std.proofs.Common.{◌≡◌, ◌∷◌, [], ◌++◌, false, None, List, Option, ap, ◌∙◌, subst}
+use Rattle.std.proofs.Common.{◌≡◌, ◌∷◌, [], ◌++◌, false, None, List, ap, ◌∙◌, subst}
 use Rattle.tree_model.specs.EventViews.{event_view, place_view}
 use Rattle.tree_model.specs.Events.{Event, Answer}
 use Rattle.tree_nodes.specs.Rows.{credit_view}
@@ -34,5 +34,5 @@ returns-clause-takes c =
     = c.note_back.ensures.events
     ∙ (ap (λ (es : List Event). es ++ event_view c.answer.result ∷ []) (ap (λ (p : PublicView). p.log.events) was)
     ∙ ap (λ (e : Event). old.log.events ++ e ∷ []) c.answer.ensures) in
-    front_noted w old _ a free c.requires.out c.requires.gate others.budget others.window
-    (closes_after w old _ a b total beside body c.requires.rests c.requires.given closed others stopped) events
+    λ read t h known. front_noted w old _ a free c.requires.out read t h others.budget others.window events
+    (λ s e. ((known.rests s e).0, closes_after w old _ a c.args.closing body closed others stopped read t s h e known.given (known.rests s e).1))

@@ -24,7 +24,7 @@ returns-in_default-2-clause-takes c =
     let nowhere : LandsNowhere old.nodes a n
     = subst (λ (p : PublicView). LandsNowhere p.nodes a n) c.self.view_is
     (subst (λ (o : Option Landing). FindsLanding c.self.inside.nodes a n o) c.in_default-2.is c.in_ok-landing.ensures.finds) in
-    (same_tree old, no_landing old c.args.worker a n (body_view (arc_value c.args.body)) free c.requires.out c.requires.reads nowhere)
+    (same_tree old, no_landing old c.args.worker a n (body_view (arc_value c.args.body)) free c.requires.out nowhere)
 
 pub returns-clause-takes : goal.returns-clause-takes
 returns-clause-takes c =
@@ -53,5 +53,5 @@ returns-clause-takes c =
     = c.note_back.ensures.events
     ∙ (ap (λ (es : List Event). es ++ event_view c.answer.result ∷ []) (ap (λ (p : PublicView). p.log.events) was)
     ∙ ap (λ (e : Event). old.log.events ++ e ∷ []) c.answer.ensures) in
-    front_noted w old _ a free c.requires.out c.requires.gate budget window
-    (falls_after w old _ a b n total body free c.requires.reads lands beside rows lost halted budget window stopped) events
+    λ read t h known. front_noted w old _ a free c.requires.out read t h budget window events
+    (λ s e. ((known s e).0, falls_after w old _ a b n total body free lands beside rows lost halted budget window stopped read t s h e (known s e).1))

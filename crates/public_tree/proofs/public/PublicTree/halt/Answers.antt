@@ -23,5 +23,5 @@ returns-clause-takes c =
     = c.note_back.ensures.events
     ∙ (ap (λ (es : List Event). es ++ event_view c.answer.result ∷ []) (ap (λ (p : PublicView). p.log.events) was)
     ∙ ap (λ (e : Event). old.log.events ++ e ∷ []) c.answer.ensures) in
-    front_noted w old _ a free c.requires.out c.requires.gate budget window
-    (halts_after w old _ a c.args.status c.requires.halts spends rows refl lost budget window stopped) events
+    λ read t h known. front_noted w old _ a free c.requires.out read t h budget window events
+    (λ s e. ((known s e).0, halts_after w old _ a c.args.status spends rows refl lost budget window stopped read t s h e (known s e).1))

@@ -1,4 +1,4 @@
-use Rattle.std.proofs.Common.{◌≡◌, ◌+◌, ◌∷◌, [], ◌++◌, false, None, List, Option, length, ap, ◌∙◌, subst}
+use Rattle.std.proofs.Common.{◌≡◌, ◌+◌, ◌∷◌, [], ◌++◌, false, None, List, length, ap, ◌∙◌, subst}
 use Rattle.std.specs.Arc.{arc_value}
 use Rattle.tree_model.specs.EventViews.{event_view, place_view}
 use Rattle.tree_model.specs.Events.{Event, Answer}
@@ -31,5 +31,5 @@ returns-clause-takes c =
     = c.note_back.ensures.events
     ∙ (ap (λ (es : List Event). es ++ event_view c.answer.result ∷ []) (ap (λ (p : PublicView). p.log.events) was)
     ∙ ap (λ (e : Event). old.log.events ++ e ∷ []) c.answer.ensures) in
-    front_noted w old _ a free c.requires.out c.requires.gate others.budget others.window
-    (query_after w old _ a body grows rows others stopped c.requires.reads) events
+    λ read t h known. front_noted w old _ a free c.requires.out read t h others.budget others.window events
+    (λ s e. ((known s e).0, query_after w old _ a body grows rows others stopped read t s h e (known s e).1))
