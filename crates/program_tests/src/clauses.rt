@@ -116,10 +116,9 @@ static ROWS: [Row; 5] = [
 ];
 
 /// Whether a clause has this head, also as it is shared.
-fn has_head(alloc: Global, clause: &Clause, kept: &[Piece]) -> Result<bool, NoMemory> {
+fn has_head(alloc: Global, clause: &Clause, wanted: &FlatTerm) -> Result<bool, NoMemory> {
     // The proof reads off that the numbers of its variables are small.
     let _vars = clause.vars();
-    let wanted = term(alloc, kept)?;
     let shifted = clause.shifted_head(0)?.to_term(alloc)?;
     Ok(clause.head().cells() == wanted.cells() && shifted.cells() == wanted.cells())
 }
@@ -131,10 +130,16 @@ fn goals(alloc: Global, clause: &Clause) -> Result<Goals, NoMemory> {
     clause.goals(alloc, 0, CUT, &Goals::empty())
 }
 
+fn is_clause(alloc: Global, clause: &Clause, row: &Row) -> Result<bool, NoMemory> {
+    let kept = term(alloc, row.kept)?;
+    let goals = goals(alloc, clause)?;
+    let same = clause.vars() == row.vars && has_head(alloc, clause, &kept)?;
+    Ok(same && are_goals(alloc, &goals, row.goals)?)
+}
+
 fn is_compiled(alloc: Global, row: &Row) -> Result<bool, Fail> {
     let clause = compiled(alloc, row.head, row.body)?;
-    let same = clause.vars() == row.vars && has_head(alloc, &clause, row.kept)?;
-    Ok(same && are_goals(alloc, &goals(alloc, &clause)?, row.goals)?)
+    Ok(is_clause(alloc, &clause, row)?)
 }
 
 #[test]
@@ -194,14 +199,23 @@ fn rest(rt: &impl Abort, goals: &Goals) -> Result<Goals, NoMemory> {
 
 static THREE: [&[Piece]; 3] = [&[Name("a", 0)], &[Name("b", 0)], &[Name("c", 0)]];
 
+/// Whether the goals that follow a goal in front of these are the three.
+fn are_rest(rt: &impl Abort, alloc: Global, goals: &Goals) -> Result<bool, Fail> {
+    let longer = before(alloc, &[Name("d", 0)], goals)?;
+    Ok(are_goals(alloc, &rest(rt, &longer)?, &THREE)?)
+}
+
+/// The goals `a`, `b` and `c`.
+fn three(alloc: Global) -> Result<Goals, Fail> {
+    let called = [Name(",", 2), Name("a", 0), Name("b", 0)];
+    Ok(before(alloc, &called, &last_goal(alloc)?)?)
+}
+
 #[test]
 fn goals_in_front(rt: HostRuntime) -> Result<(), Fail> {
-    let alloc = rt.alloc();
-    let called = [Name(",", 2), Name("a", 0), Name("b", 0)];
-    let goals = before(alloc, &called, &last_goal(alloc)?)?;
-    hold(&rt, are_goals(alloc, &goals, &THREE)?, "in front");
-    let longer = before(alloc, &[Name("d", 0)], &goals)?;
-    hold(&rt, are_goals(alloc, &rest(&rt, &longer)?, &THREE)?, "rest");
+    let goals = three(rt.alloc())?;
+    hold(&rt, are_goals(rt.alloc(), &goals, &THREE)?, "in front");
+    hold(&rt, are_rest(&rt, rt.alloc(), &goals)?, "rest");
     Ok(())
 }
 
@@ -212,13 +226,22 @@ fn no_goals_of_numbers(rt: HostRuntime) {
     hold(&rt, refused == Some(wanted), "a number");
 }
 
+/// Adds `a` a million times, a comma in front of each.
+fn push_long(builder: &mut TermBuilder, comma: &Cell, a: &Cell) -> Result<(), NoMemory> {
+    for _comma in 0..1_000_000u32 {
+        push_both(builder, comma, a)?;
+    }
+    Ok(())
+}
+
 /// `a, a, .., a, b` with a million commas.
 fn long_body(alloc: Global) -> Result<FlatTerm, NoMemory> {
-    let (comma, a) = (cell(alloc, Name(",", 2))?, cell(alloc, Name("a", 0))?);
     let mut builder = TermBuilder::new(alloc);
-    for _comma in 0..1_000_000u32 {
-        push_both(&mut builder, &comma, &a)?;
-    }
+    push_long(
+        &mut builder,
+        &cell(alloc, Name(",", 2))?,
+        &cell(alloc, Name("a", 0))?,
+    )?;
     push(&mut builder, cell(alloc, Name("b", 0))?)?;
     finish(builder)
 }
@@ -236,14 +259,15 @@ fn count(goals: &Goals) -> u64 {
     found
 }
 
+fn long_clause(alloc: Global) -> Result<Arc<Clause>, Fail> {
+    Ok(compile(alloc, &term(alloc, &[Name("p", 0)])?, &long_body(alloc)?)?)
+}
+
 #[test]
 fn long(rt: HostRuntime) -> Result<(), Fail> {
-    let alloc = rt.alloc();
-    let head = term(alloc, &[Name("p", 0)])?;
-    let clause = compile(alloc, &head, &long_body(alloc)?)?;
+    let clause = long_clause(rt.alloc())?;
     expect(&rt, clause.vars(), 0, "variables");
-    let goals = goals(alloc, &clause)?;
-    expect(&rt, count(&goals), 1_000_001, "goals");
+    expect(&rt, count(&goals(rt.alloc(), &clause)?), 1_000_001, "goals");
     Ok(())
 }
 
@@ -287,21 +311,23 @@ fn is_placed(alloc: Global, code: &mut Code, head: Place, goals: &[Place]) -> Re
     Ok(made.head == head && made.goals.as_slice() == goals)
 }
 
-fn place(rt: &impl Abort, code: &Code, at: usize) -> Place {
+fn expect_place(rt: &impl Abort, code: &Code, at: usize, wanted: Place) {
     assert!(rt; at < code.len());
-    code.place(at)
+    expect(rt, code.place(at), wanted, "place");
+}
+
+fn expect_places(rt: &impl Abort, alloc: Global, code: &mut Code) -> Result<(), Fail> {
+    let goals = [Place::Sub(8), Place::Atom(5)];
+    hold(rt, is_placed(alloc, code, Place::Sub(3), &goals)?, "clause");
+    expect(rt, code.len(), PLACES.len(), "length");
+    for (at, wanted) in PLACES.iter().enumerate() {
+        expect_place(rt, code, at, *wanted);
+    }
+    Ok(())
 }
 
 #[test]
 fn places(rt: HostRuntime) -> Result<(), Fail> {
-    let alloc = rt.alloc();
-    let mut code = Code::new(alloc);
-    let goals = [Place::Sub(8), Place::Atom(5)];
-    let placed = is_placed(alloc, &mut code, Place::Sub(3), &goals)?;
-    hold(&rt, placed, "clause");
-    expect(&rt, code.len(), PLACES.len(), "length");
-    for (at, wanted) in PLACES.iter().enumerate() {
-        expect(&rt, place(&rt, &code, at), *wanted, "place");
-    }
-    Ok(())
+    let mut code = Code::new(rt.alloc());
+    expect_places(&rt, rt.alloc(), &mut code)
 }

@@ -210,29 +210,36 @@ fn snapshot(alloc: Global, database: &Database, name: &str) -> Result<Snapshot, 
     database.snapshot(&procedure(alloc, name)?)
 }
 
+/// What a procedure had before stays as it was.
+fn keep_snapshot(rt: &impl Abort, alloc: Global, database: &mut Database) -> Result<(), Fail> {
+    run_all(rt, alloc, database, &BEFORE)?;
+    let before = snapshot(alloc, database, "q")?;
+    run_all(rt, alloc, database, &AFTER)?;
+    run_all(rt, alloc, database, &REMOVED)?;
+    let first = Kept::Facts(&[(0, Some(1))]);
+    hold(rt, is_kept(alloc, "q", &before, first)?, "before");
+    Ok(())
+}
+
 #[test]
 fn snapshots(rt: HostRuntime) -> Result<(), Fail> {
-    let alloc = rt.alloc();
-    let mut database = beside_p(alloc)?;
-    run_all(&rt, alloc, &mut database, &BEFORE)?;
-    let before = snapshot(alloc, &database, "q")?;
-    run_all(&rt, alloc, &mut database, &AFTER)?;
-    run_all(&rt, alloc, &mut database, &REMOVED)?;
-    let first = Kept::Facts(&[(0, Some(1))]);
-    hold(&rt, is_kept(alloc, "q", &before, first)?, "before");
+    let mut database = beside_p(rt.alloc())?;
+    keep_snapshot(&rt, rt.alloc(), &mut database)
+}
+
+fn keep_copy(rt: &impl Abort, alloc: Global, database: &mut Database) -> Result<(), Fail> {
+    run_all(rt, alloc, database, &BEFORE)?;
+    run_all(rt, alloc, database, &AFTER)?;
+    let copy = database.copy()?;
+    run_all(rt, alloc, database, &REMOVED)?;
+    hold(rt, has_all(alloc, &copy, "q", BOTH)?, "copy");
     Ok(())
 }
 
 #[test]
 fn copies(rt: HostRuntime) -> Result<(), Fail> {
-    let alloc = rt.alloc();
-    let mut database = beside_p(alloc)?;
-    run_all(&rt, alloc, &mut database, &BEFORE)?;
-    run_all(&rt, alloc, &mut database, &AFTER)?;
-    let copy = database.copy()?;
-    run_all(&rt, alloc, &mut database, &REMOVED)?;
-    hold(&rt, has_all(alloc, &copy, "q", BOTH)?, "copy");
-    Ok(())
+    let mut database = beside_p(rt.alloc())?;
+    keep_copy(&rt, rt.alloc(), &mut database)
 }
 
 static STATICS: [Step; 6] = [
@@ -256,13 +263,37 @@ static ABOLISHED: [Step; 9] = [
     Step::All("q", Kept::Facts(&[(1, None)])),
 ];
 
+fn run_anew(rt: &impl Abort, alloc: Global, steps: &[Step]) -> Result<(), Fail> {
+    let mut database = beside_p(alloc)?;
+    run_all(rt, alloc, &mut database, steps)
+}
+
 #[test]
 fn static_and_abolished_procedures(rt: HostRuntime) -> Result<(), Fail> {
-    for steps in [STATICS.as_slice(), &ABOLISHED] {
-        let mut database = beside_p(rt.alloc())?;
-        run_all(&rt, rt.alloc(), &mut database, steps)?;
+    run_anew(&rt, rt.alloc(), &STATICS)?;
+    run_anew(&rt, rt.alloc(), &ABOLISHED)
+}
+
+/// The facts with other numbers.
+fn others(alloc: Global, facts: &[Fact], number: u64) -> Result<Vec<Fact>, NoMemory> {
+    let mut others = Vec::new(alloc);
+    for fact in facts {
+        if fact.0 != number {
+            others.push(*fact)?;
+        }
     }
-    Ok(())
+    Ok(others)
+}
+
+/// The facts that a key allows.
+fn allowed(alloc: Global, facts: &[Fact], key: i64) -> Result<Vec<Fact>, NoMemory> {
+    let mut allowed = Vec::new(alloc);
+    for fact in facts {
+        if fact.1.is_none() || fact.1 == Some(key) {
+            allowed.push(*fact)?;
+        }
+    }
+    Ok(allowed)
 }
 
 /// A database, and the facts of `p` that it should have.
@@ -307,26 +338,14 @@ impl Beside {
     }
 
     fn remove(&mut self, alloc: Global, number: u64) -> Result<bool, Fail> {
-        let mut others = Vec::new(alloc);
-        let mut count = 0u32;
-        for fact in &self.facts {
-            if fact.0 == number {
-                count = count.saturating_add(1);
-            } else {
-                others.push(*fact)?;
-            }
-        }
-        self.facts = others;
-        Ok(remove(&mut self.database, number).is_ok() == (count == 1))
+        let before = self.facts.len();
+        self.facts = others(alloc, &self.facts, number)?;
+        let removed = remove(&mut self.database, number).is_ok();
+        Ok(removed == (self.facts.len().saturating_add(1) == before))
     }
 
     fn matches(&self, alloc: Global, key: i64) -> Result<bool, Fail> {
-        let mut allowed = Vec::new(alloc);
-        for fact in &self.facts {
-            if fact.1.is_none() || fact.1 == Some(key) {
-                allowed.push(*fact)?;
-            }
-        }
+        let allowed = allowed(alloc, &self.facts, key)?;
         let wanted = Kept::Facts(&allowed);
         Ok(has_matching(alloc, &self.database, "p", key, wanted)?)
     }
@@ -356,18 +375,21 @@ impl Beside {
     }
 }
 
-#[test]
-fn beside_a_list(rt: HostRuntime) -> Result<(), Fail> {
-    let alloc = rt.alloc();
-    let mut both = Beside::new(alloc)?;
+fn take_steps(rt: &impl Abort, alloc: Global, both: &mut Beside) -> Result<(), Fail> {
     let mut seed = 1u32;
     for _ in 0..6000u32 {
         seed = seed.wrapping_mul(1_664_525).wrapping_add(1_013_904_223);
-        hold(&rt, both.step(alloc, seed)?, "beside a list");
+        hold(rt, both.step(alloc, seed)?, "beside a list");
     }
-    hold(&rt, has_copied(alloc, &both)?, "copy");
-    hold(&rt, both.has_many(alloc)?, "many");
+    hold(rt, has_copied(alloc, both)?, "copy");
+    hold(rt, both.has_many(alloc)?, "many");
     Ok(())
+}
+
+#[test]
+fn beside_a_list(rt: HostRuntime) -> Result<(), Fail> {
+    let mut both = Beside::new(rt.alloc())?;
+    take_steps(&rt, rt.alloc(), &mut both)
 }
 
 /// Whether a copy has the same.
@@ -393,18 +415,18 @@ fn takes(alloc: Global, database: &mut Database, number: u64, key: i64) -> Resul
     Ok(found && remove(database, number).is_ok())
 }
 
+fn take_all(rt: &impl Abort, alloc: Global, database: &mut Database) -> Result<(), Fail> {
+    for number in 0..100_000u32 {
+        let found = takes(alloc, database, u64::from(number), i64::from(number))?;
+        hold(rt, found, "by its key");
+    }
+    let none = has_all(alloc, database, "p", Kept::Facts(&[]))?;
+    hold(rt, none, "none");
+    Ok(())
+}
+
 #[test]
 fn found_by_their_keys(rt: HostRuntime) -> Result<(), Fail> {
-    let alloc = rt.alloc();
-    let mut database = many(alloc, 100_000)?;
-    for number in 0..100_000u32 {
-        let found = takes(alloc, &mut database, u64::from(number), i64::from(number))?;
-        hold(&rt, found, "by its key");
-    }
-    hold(
-        &rt,
-        has_all(alloc, &database, "p", Kept::Facts(&[]))?,
-        "none",
-    );
-    Ok(())
+    let mut database = many(rt.alloc(), 100_000)?;
+    take_all(&rt, rt.alloc(), &mut database)
 }

@@ -6,10 +6,11 @@ use crate::terms::Piece::{self, Name, Number, Variable};
 use crate::terms::term;
 use au_term::{Atom, NoMemory, Steps};
 use clause_compile::{Clause, compile};
-use proc_index::{Key, Procs, Taken};
+use proc_index::{Candidates, Key, Procs, Taken};
 use std::alloc::Global;
 use std::marker::Brand;
 use std::process::Abort;
+use std::sync::Arc;
 use std::sync::ledger::{Blank, Ledger};
 use std::test::Fail;
 
@@ -25,11 +26,18 @@ static HEADS: [&[Piece]; 9] = [
     &[Name("s", 0)],
 ];
 
+fn fact(alloc: Global, head: &[Piece]) -> Result<Arc<Clause>, Fail> {
+    Ok(compile(
+        alloc,
+        &term(alloc, head)?,
+        &term(alloc, &[Name("true", 0)])?,
+    )?)
+}
+
 fn procs(alloc: Global) -> Result<Procs, Fail> {
     let mut clauses = Vec::new(alloc);
-    let body = term(alloc, &[Name("true", 0)])?;
     for head in HEADS {
-        clauses.push(compile(alloc, &term(alloc, head)?, &body)?)?;
+        clauses.push(fact(alloc, head)?)?;
     }
     Ok(Procs::new(alloc, clauses)?)
 }
@@ -42,31 +50,33 @@ fn is_clause(alloc: Global, clause: &Clause, place: usize) -> Result<bool, NoMem
     }
 }
 
+/// Whether clauses are those with these of the heads.
+fn are_clauses(alloc: Global, found: Candidates<'_>, places: &[usize]) -> Result<bool, NoMemory> {
+    let mut left = places.iter();
+    for clause in found {
+        match left.next() {
+            Some(place) => {
+                if !is_clause(alloc, clause, *place)? {
+                    return Ok(false);
+                }
+            }
+            None => return Ok(false),
+        }
+    }
+    Ok(left.next().is_none())
+}
+
 /// Whether the candidates are the clauses with these of the heads; none where the procedure is undefined.
 fn are_candidates(
     alloc: Global,
     procs: &Procs,
-    name: &str,
+    name: &Atom,
     arity: u32,
     key: &Key,
     places: Option<&[usize]>,
 ) -> Result<bool, NoMemory> {
-    let name = Atom::new(alloc, name)?;
-    match (procs.candidates(&name, arity, key), places) {
-        (Some(found), Some(places)) => {
-            let mut left = places.iter();
-            for clause in found {
-                match left.next() {
-                    Some(place) => {
-                        if !is_clause(alloc, clause, *place)? {
-                            return Ok(false);
-                        }
-                    }
-                    None => return Ok(false),
-                }
-            }
-            Ok(left.next().is_none())
-        }
+    match (procs.candidates(name, arity, key), places) {
+        (Some(found), Some(places)) => are_clauses(alloc, found, places),
         (None, None) => Ok(true),
         _ => Ok(false),
     }
@@ -168,14 +178,23 @@ static CANDIDATES: [Row; 10] = [
     ("p", 2, First::Any, None),
 ];
 
-#[test]
-fn candidates(rt: HostRuntime) -> Result<(), Fail> {
-    let alloc = rt.alloc();
-    let procs = procs(alloc)?;
-    for (name, arity, first, places) in &CANDIDATES {
-        let key = key(alloc, *first)?;
-        let same = are_candidates(alloc, &procs, name, *arity, &key, *places)?;
-        hold(&rt, same, name);
+fn expect_candidates(rt: &impl Abort, alloc: Global, procs: &Procs, row: &Row) -> Result<(), Fail> {
+    let (name, arity, first, places) = row;
+    let (procedure, key) = (Atom::new(alloc, name)?, key(alloc, *first)?);
+    let same = are_candidates(alloc, procs, &procedure, *arity, &key, *places)?;
+    hold(rt, same, name);
+    Ok(())
+}
+
+fn expect_all_candidates(rt: &impl Abort, alloc: Global, procs: &Procs) -> Result<(), Fail> {
+    for row in &CANDIDATES {
+        expect_candidates(rt, alloc, procs, row)?;
     }
     Ok(())
+}
+
+#[test]
+fn candidates(rt: HostRuntime) -> Result<(), Fail> {
+    let procs = procs(rt.alloc())?;
+    expect_all_candidates(&rt, rt.alloc(), &procs)
 }

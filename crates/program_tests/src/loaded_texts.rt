@@ -47,6 +47,20 @@ fn standing_of(alloc: Global, job: &Job, name: &str, arity: u32) -> Result<Stand
     })
 }
 
+fn expect_all(
+    rt: &impl Abort,
+    alloc: Global,
+    job: &Job,
+    text: &str,
+    procedures: &[(&str, u32, Standing)],
+) -> Result<(), Fail> {
+    for (name, arity, wanted) in procedures {
+        let found = standing_of(alloc, job, name, *arity)?;
+        same(rt, (*name, *arity, found), (*name, *arity, *wanted), text);
+    }
+    Ok(())
+}
+
 /// The procedures of the job of a library and a text.
 fn expect(
     rt: &impl Abort,
@@ -55,15 +69,13 @@ fn expect(
     text: &str,
     procedures: &[(&str, u32, Standing)],
 ) -> Result<(), Fail> {
-    let Ok(job) = load(alloc, library, text) else {
-        hold(rt, false, text);
-        return Ok(());
-    };
-    for (name, arity, wanted) in procedures {
-        let found = standing_of(alloc, &job, name, *arity)?;
-        same(rt, (*name, *arity, found), (*name, *arity, *wanted), text);
+    match load(alloc, library, text) {
+        Ok(job) => expect_all(rt, alloc, &job, text, procedures),
+        Err(_) => {
+            hold(rt, false, text);
+            Ok(())
+        }
     }
-    Ok(())
 }
 
 const LIBRARY: &str = "q(a). q(b). p(z). p(y).";
@@ -92,11 +104,16 @@ fn jobs(rt: HostRuntime) -> Result<(), Fail> {
     Ok(())
 }
 
+fn expect_sizes(rt: &impl Abort, alloc: Global, job: &Job) -> Result<(), Fail> {
+    let found = sizes(alloc, job.queries())?;
+    hold(rt, found.as_slice() == [(1, 1), (2, 3)].as_slice(), TEXT);
+    Ok(())
+}
+
 #[test]
 fn queries(rt: HostRuntime) -> Result<(), Fail> {
     let job = load(rt.alloc(), LIBRARY, TEXT)?;
-    let found = sizes(rt.alloc(), job.queries())?;
-    hold(&rt, found.as_slice() == [(1, 1), (2, 3)].as_slice(), TEXT);
+    expect_sizes(&rt, rt.alloc(), &job)?;
     let parts = job.into_parts();
     same(&rt, parts.queries.len(), 2, TEXT);
     Ok(())
@@ -266,16 +283,19 @@ static REFUSALS: [(&str, &str, u32, u32, FaultKind); 30] = [
     ),
 ];
 
+fn expect_refusal(rt: &impl Abort, alloc: Global, library: &str, text: &str, wanted: LoadRefusal) {
+    hold(rt, load(alloc, library, text).err() == Some(wanted), text);
+}
+
 #[test]
 fn refusals(rt: HostRuntime) {
     for (library, text, line, column, kind) in &REFUSALS {
-        let refused = load(rt.alloc(), library, text).err();
         let wanted = LoadRefusal::Refused {
             line: *line,
             column: *column,
             kind: *kind,
         };
-        hold(&rt, refused == Some(wanted), text);
+        expect_refusal(&rt, rt.alloc(), library, text, wanted);
     }
 }
 
@@ -291,25 +311,33 @@ fn begins_with(clause: &Arc<Clause>, wanted: &str) -> bool {
 const QUOTES: &str = "p(\"ab\"). :- set_prolog_flag(double_quotes, atom). p(\"ab\"). \
     :- set_prolog_flag(double_quotes, chars). p(\"\"). p(\"a\").";
 
+fn expect_beginnings(rt: &impl Abort, clauses: &[Arc<Clause>]) {
+    same(rt, clauses.len(), 4, QUOTES);
+    for (clause, wanted) in clauses.iter().zip([".", "ab", "[]", "."]) {
+        hold(rt, begins_with(clause, wanted), wanted);
+    }
+}
+
 #[test]
 fn double_quotes(rt: HostRuntime) -> Result<(), Fail> {
     let job = load(rt.alloc(), "", QUOTES)?;
-    same(&rt, job.clauses().len(), 4, QUOTES);
-    for (clause, wanted) in job.clauses().iter().zip([".", "ab", "[]", "."]) {
-        hold(&rt, begins_with(clause, wanted), wanted);
-    }
+    expect_beginnings(&rt, job.clauses());
     Ok(())
 }
 
-/// A text of so many pieces, each between two words with its number.
-fn numbered(alloc: Global, count: u32, before: &str, after: &str) -> Result<String, Fail> {
-    let mut text = String::new(alloc);
+/// Adds so many pieces to a text, each between two words with its number.
+fn push_numbered(
+    text: &mut String,
+    alloc: Global,
+    count: u32,
+    words: (&str, &str),
+) -> Result<(), Fail> {
     for number in 0..count {
-        text.push_str(before)?;
+        text.push_str(words.0)?;
         text.push_str(&format!(in alloc; "{number}")?)?;
-        text.push_str(after)?;
+        text.push_str(words.1)?;
     }
-    Ok(text)
+    Ok(())
 }
 
 /// Two runs of so many pieces, each between two words.
@@ -319,8 +347,9 @@ fn twice(
     first: (&str, &str),
     second: (&str, &str),
 ) -> Result<String, Fail> {
-    let mut text = numbered(alloc, count, first.0, first.1)?;
-    text.push_str(&numbered(alloc, count, second.0, second.1)?)?;
+    let mut text = String::new(alloc);
+    push_numbered(&mut text, alloc, count, first)?;
+    push_numbered(&mut text, alloc, count, second)?;
     Ok(text)
 }
 
@@ -339,7 +368,7 @@ fn long_texts(rt: HostRuntime) -> Result<(), Fail> {
 
 fn dynamic_facts(alloc: Global, count: u32) -> Result<String, Fail> {
     let mut text = String::from_str(alloc, ":- dynamic(p/1). ")?;
-    text.push_str(&numbered(alloc, count, "p(", "). ")?)?;
+    push_numbered(&mut text, alloc, count, ("p(", "). "))?;
     Ok(text)
 }
 
