@@ -12,20 +12,20 @@ use std_builtins::{
 };
 use term_order::compare;
 
-const BUILTINS: [(&str, u32, Option<Builtin>); 3] = [
+static BUILTINS: [(&str, u32, Option<Builtin>); 3] = [
     ("=", 2, Some(Builtin::Unify)),
     ("is", 2, Some(Builtin::Is)),
     ("=", 1, None),
 ];
 
-const CONTROLS: [(&str, u32, Option<Control>); 4] = [
+static CONTROLS: [(&str, u32, Option<Control>); 4] = [
     ("call", 8, Some(Control::Call)),
     ("findall", 3, Some(Control::Findall)),
     ("call", 9, None),
     ("=", 2, None),
 ];
 
-const WORLD_GOALS: [(&str, u32, Option<WorldGoal>); 3] = [
+static WORLD_GOALS: [(&str, u32, Option<WorldGoal>); 3] = [
     ("nl", 0, Some(WorldGoal::Nl)),
     ("write", 1, Some(WorldGoal::Write(Style::Plain))),
     ("write", 2, None),
@@ -33,25 +33,25 @@ const WORLD_GOALS: [(&str, u32, Option<WorldGoal>); 3] = [
 
 #[test]
 fn names(rt: HostRuntime) {
-    for (name, arity, wanted) in BUILTINS {
-        expect(&rt, builtin_of(name, arity), wanted, name);
-        expect(&rt, is_builtin(name, arity), wanted.is_some(), name);
+    for (name, arity, wanted) in &BUILTINS {
+        expect(&rt, builtin_of(name, *arity), *wanted, name);
+        expect(&rt, is_builtin(name, *arity), wanted.is_some(), name);
     }
 }
 
 #[test]
 fn names_of_control(rt: HostRuntime) {
-    for (name, arity, wanted) in CONTROLS {
-        expect(&rt, control_of(name, arity), wanted, name);
-        expect(&rt, is_control(name, arity), wanted.is_some(), name);
+    for (name, arity, wanted) in &CONTROLS {
+        expect(&rt, control_of(name, *arity), *wanted, name);
+        expect(&rt, is_control(name, *arity), wanted.is_some(), name);
     }
 }
 
 #[test]
 fn names_of_goals_on_the_world(rt: HostRuntime) {
-    for (name, arity, wanted) in WORLD_GOALS {
-        expect(&rt, world_goal_of(name, arity), wanted, name);
-        expect(&rt, is_world_goal(name, arity), wanted.is_some(), name);
+    for (name, arity, wanted) in &WORLD_GOALS {
+        expect(&rt, world_goal_of(name, *arity), *wanted, name);
+        expect(&rt, is_world_goal(name, *arity), wanted.is_some(), name);
     }
 }
 

@@ -79,6 +79,31 @@ fn push_shared(builder: &mut TermBuilder, cells: &[Cell]) -> Result<(), NoMemory
     Ok(())
 }
 
+fn cells(alloc: Global, parts: &[Part]) -> Result<Vec<Cell>, NoMemory> {
+    let mut cells = Vec::new(alloc);
+    for part in parts {
+        cells.push(cell(alloc, *part)?)?;
+    }
+    Ok(cells)
+}
+
+fn push_nested(
+    alloc: Global,
+    builder: &mut TermBuilder,
+    depth: u32,
+    cells: &[Cell],
+    ends: u32,
+    end: Part,
+) -> Result<(), NoMemory> {
+    for _depth in 0..depth {
+        push_shared(builder, cells)?;
+    }
+    for _end in 0..ends {
+        push_part(alloc, builder, end)?;
+    }
+    Ok(())
+}
+
 /// A term that begins with so many times these cells, and goes on with so many of another.
 pub(crate) fn nested(
     alloc: Global,
@@ -87,17 +112,8 @@ pub(crate) fn nested(
     ends: u32,
     end: Part,
 ) -> Result<FlatTerm, NoMemory> {
-    let mut cells = Vec::new(alloc);
-    for part in parts {
-        cells.push(cell(alloc, *part)?)?;
-    }
     let mut builder = TermBuilder::new(alloc);
-    for _depth in 0..depth {
-        push_shared(&mut builder, &cells)?;
-    }
-    for _end in 0..ends {
-        push_part(alloc, &mut builder, end)?;
-    }
+    push_nested(alloc, &mut builder, depth, &cells(alloc, parts)?, ends, end)?;
     finish(builder)
 }
 

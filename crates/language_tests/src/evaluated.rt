@@ -5,6 +5,7 @@ use arith_eval::{EvalRefusal, eval};
 use au_model::{EvalName, Fault, TypeName};
 use au_term::NoMemory;
 use std::alloc::Global;
+use std::process::Abort;
 use std::test::Fail;
 
 /// What is seen of an evaluation.
@@ -33,7 +34,7 @@ const ZERO: Seen = Seen::Error(EvalName::ZeroDivisor);
 
 const UNDEFINED: Seen = Seen::Error(EvalName::Undefined);
 
-const BINARY: [(i64, &str, i64, Seen); 62] = [
+static BINARY: [(i64, &str, i64, Seen); 62] = [
     (7, "+", 35, Seen::Value(42)),
     (0, "-", 11, Seen::Value(-11)),
     (7, "*", 35, Seen::Value(245)),
@@ -98,7 +99,7 @@ const BINARY: [(i64, &str, i64, Seen); 62] = [
     (0, ">>", i64::MIN, Seen::Value(0)),
 ];
 
-const UNARY: [(&str, i64, Seen); 11] = [
+static UNARY: [(&str, i64, Seen); 11] = [
     ("-", i64::MIN, OVERFLOW),
     ("+", -1, Seen::Value(-1)),
     ("abs", i64::MIN, OVERFLOW),
@@ -116,14 +117,25 @@ fn value(alloc: Global, parts: &[Part]) -> Result<Seen, NoMemory> {
     Ok(seen_of(eval(alloc, &term(alloc, parts)?)))
 }
 
+fn check(
+    rt: &impl Abort,
+    alloc: Global,
+    parts: &[Part],
+    wanted: Seen,
+    name: &str,
+) -> Result<(), Fail> {
+    expect(rt, value(alloc, parts)?, wanted, name);
+    Ok(())
+}
+
 #[test]
 fn functions(rt: HostRuntime) -> Result<(), Fail> {
-    for (x, name, y, expected) in BINARY {
-        let found = value(rt.alloc(), &[F(name, 2), I(x), I(y)])?;
-        expect(&rt, found, expected, name);
+    for (x, name, y, wanted) in &BINARY {
+        let parts = [F(name, 2), I(*x), I(*y)];
+        check(&rt, rt.alloc(), &parts, *wanted, name)?;
     }
-    for (name, x, expected) in UNARY {
-        expect(&rt, value(rt.alloc(), &[F(name, 1), I(x)])?, expected, name);
+    for (name, x, wanted) in &UNARY {
+        check(&rt, rt.alloc(), &[F(name, 1), I(*x)], *wanted, name)?;
     }
     Ok(())
 }
@@ -139,20 +151,29 @@ static ERRORS: [(&[Part], Seen); 5] = [
 
 #[test]
 fn errors(rt: HostRuntime) -> Result<(), Fail> {
-    for (parts, expected) in &ERRORS {
-        expect(&rt, value(rt.alloc(), parts)?, *expected, "errors");
+    for (parts, wanted) in &ERRORS {
+        check(&rt, rt.alloc(), parts, *wanted, "errors")?;
     }
     Ok(())
 }
 
-/// `1 + (1 + ..)` and `(.. + 1) + 1`, nested a million times.
+/// A sum that is nested a million times.
+fn check_deep(
+    rt: &impl Abort,
+    alloc: Global,
+    parts: &[Part],
+    ends: u32,
+    name: &str,
+) -> Result<(), Fail> {
+    let sum = nested(alloc, 1_000_000, parts, ends, I(1))?;
+    let found = seen_of(eval(alloc, &sum));
+    expect(rt, found, Seen::Value(1_000_001), name);
+    Ok(())
+}
+
+/// `1 + (1 + ..)` and `(.. + 1) + 1`.
 #[test]
 fn deep(rt: HostRuntime) -> Result<(), Fail> {
-    let alloc = rt.alloc();
-    let right = nested(alloc, 1_000_000, &[F("+", 2), I(1)], 1, I(1))?;
-    let million = Seen::Value(1_000_001);
-    expect(&rt, seen_of(eval(alloc, &right)), million, "right");
-    let left = nested(alloc, 1_000_000, &[F("+", 2)], 1_000_001, I(1))?;
-    expect(&rt, seen_of(eval(alloc, &left)), million, "left");
-    Ok(())
+    check_deep(&rt, rt.alloc(), &[F("+", 2), I(1)], 1, "right")?;
+    check_deep(&rt, rt.alloc(), &[F("+", 2)], 1_000_001, "left")
 }

@@ -27,7 +27,7 @@ fn seen_of(kind: GoalKind) -> Seen {
     }
 }
 
-const NAMES: [(&str, u32, Seen); 4] = [
+static NAMES: [(&str, u32, Seen); 4] = [
     ("!", 0, Seen::Control(Control::Cut)),
     ("is", 2, Seen::Builtin(Builtin::Is)),
     ("nl", 0, Seen::World(WorldGoal::Nl)),
@@ -36,8 +36,8 @@ const NAMES: [(&str, u32, Seen); 4] = [
 
 #[test]
 fn goals_are_told_by_name_and_number_of_arguments(rt: HostRuntime) {
-    for (name, arity, wanted) in NAMES {
-        expect(&rt, seen_of(kind_of_name(name, arity)), wanted, name);
+    for (name, arity, wanted) in &NAMES {
+        expect(&rt, seen_of(kind_of_name(name, *arity)), *wanted, name);
     }
 }
 
@@ -55,12 +55,15 @@ fn first_kind(rt: &impl Abort, alloc: Global, code: &Code, arity: u32) -> Result
     Ok(seen_of(kinds.kind(0, arity)))
 }
 
-#[test]
-fn the_names_of_a_text_are_known(rt: HostRuntime) -> Result<(), Fail> {
-    let alloc = rt.alloc();
-    let code = named(alloc, "fail")?;
+fn check_first(rt: &impl Abort, alloc: Global, code: &Code) -> Result<(), Fail> {
     for (arity, wanted) in [(0, Seen::Control(Control::Fail)), (1, Seen::Call)] {
-        expect(&rt, first_kind(&rt, alloc, &code, arity)?, wanted, "fail");
+        expect(rt, first_kind(rt, alloc, code, arity)?, wanted, "fail");
     }
     Ok(())
+}
+
+#[test]
+fn the_names_of_a_text_are_known(rt: HostRuntime) -> Result<(), Fail> {
+    let code = named(rt.alloc(), "fail")?;
+    check_first(&rt, rt.alloc(), &code)
 }
