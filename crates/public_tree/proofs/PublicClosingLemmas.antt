@@ -6,6 +6,7 @@ use Rattle.tree_model.specs.Closing.{Grown, with_right, wakes, closes}
 use Rattle.tree_model.specs.Credits.{Credit, no_credit, credit_of, without_records}
 use Rattle.tree_model.specs.Effects.{closed_with, results_of, where_some, after_allowed, after_event}
 use Rattle.tree_model.specs.Events.{Event}
+use Rattle.tree_model.specs.EventViews.{place_view}
 use Rattle.tree_model.specs.Legality.{taken_at, at_spot, run_of, run_is_empty, run_gives_result, is_allowed, is_legal}
 use Rattle.tree_model.specs.Levels.{Level, plug, Place, Spot, levels_of}
 use Rattle.tree_model.specs.Nodes.{Pending, Inner, Closed, single}
@@ -13,13 +14,15 @@ use Rattle.tree_model.specs.SoundTrees.{IsSound}
 use Rattle.tree_model.specs.TreeStates.{TreeState}
 use Rattle.tree_nodes.specs.Bodies.{Body, Reading}
 use Rattle.tree_nodes.specs.Changes.{KeepsNumbers, IsLonger}
+use Rattle.tree_nodes.specs.Rows.{credit_view}
 use Rattle.tree_nodes.specs.TreeTables.{NodesView, IsTableOf}
 use Rattle.tree_closing.specs.Closings.{RestsAs, Rests, RestsWoken, is_waking, woken_entry}
 use Rattle.tree_closing.specs.declared.way_up.Beside.{Beside}
 use Rattle.tree_closing.specs.declared.way_up.Beside.TheVariants.{Same, Closes, Gathers, Ends}
+use Rattle.tree_closing.specs.declared.way_up.Closing.{Closing}
 use Rattle.interleaving.proofs.OpenSpotLemmas.{taken_at_open}
-use Rattle.public_tree.specs.PublicTrees.{PublicView, IsRooted, IsPublicOf, Answers, Notes, is_going, IsOut}
-use Rattle.public_tree.specs.PublicClosing.{closing_event, is_end, end_credit, EndsItsRun, RestsByRun, ReadsAs, IsGiven, IsGrownTo, RestsIn}
+use Rattle.public_tree.specs.PublicTrees.{PublicView, IsRooted, IsPublicOf, Answers, NotesIn, is_going, IsOut}
+use Rattle.public_tree.specs.PublicClosing.{closing_event, is_end, end_credit, ReadsAs, RunEndsAs, IsGrownTo, RestsIn}
 use Rattle.public_tree.specs.declared.closing.TaskEnd.{TaskEnd}
 use Rattle.public_tree.specs.declared.closing.TaskEnd.TheVariants.{Nothing, Result}
 use Rattle.public_tree.proofs.HandOutLemmas.{KeepsOthers, legal_while_going, rooted_round, taken_place}
@@ -90,36 +93,35 @@ module _ (w : ℕ) (a : Place) (k : ℕ) (t : TreeState) (s : Spot) (at : taken_
       ap (λ (o : Option Spot). where_some o t (λ r. closed_with r (record { inferences = k; answers = 0; records = results_of (run_of t r k) }) t)) at
 
 -- what is out to a worker closes
-module _ (w : ℕ) (old new : PublicView) (a : Place) (k : ℕ) (e : TaskEnd) (b : Place) (total : Credit) (beside : Beside) (body : Option Body)
-    (going : Answers old is_going true) (out : IsOut old w a) (ends : EndsItsRun old w a k e) (rests : RestsByRun old w a k e b total beside)
-    (given : IsGiven old b total beside body) (closed : RestsIn old.nodes new.nodes b total beside body) (others : KeepsOthers old new)
-    (stopped : new.log.stopped ≡ old.log.stopped) where
+module _ (w : ℕ) (old new : PublicView) (a : Place) (k : ℕ) (e : TaskEnd) (closing : Closing) (body : Option Body) (going : Answers old is_going true)
+    (out : IsOut old w a) (closed : RestsIn old.nodes new.nodes (place_view closing.end) (credit_view closing.credit) closing.beside body)
+    (others : KeepsOthers old new) (stopped : new.log.stopped ≡ old.log.stopped) (read : Reading) (t : TreeState) (h : IsPublicOf old read t)
+    (known : RunEndsAs old.nodes e closing body w a k read t) where
   abbrev event : Event
   event = closing_event e w a k
 
-  module _ (read : Reading) (t : TreeState) (h : IsPublicOf old read t) where
-    legal_at : (s : Spot) → taken_at w a t ≡ Some s → is_legal t event ≡ true
-    legal_at s at = legal_while_going t event (sym (going read t h)) (end_allowed w a k t s at e (ends read t s h at))
+  legal_at : (s : Spot) → taken_at w a t ≡ Some s → is_legal t event ≡ true
+  legal_at s at = legal_while_going t event (sym (going read t h)) (end_allowed w a k t s at e (known.ends s at))
 
-    stands_at : (s : Spot) → taken_at w a t ≡ Some s → IsPublicOf new read (after_event t event)
-    stands_at s at =
-        let spot = taken_at_open w a t s at in
-        let table : IsTableOf old.nodes read (plug (levels_of s) (Pending s.hold s.entry)) = subst (IsTableOf old.nodes read) (sym spot.inside) h.placed in
-        let sound : IsSound [] (plug (levels_of s) (Pending s.hold s.entry)) = subst (IsSound []) (sym spot.inside) h.sound.sound in
-        let c = end_credit e k (run_of t s k) in
-        let now = closed a c read s.level s.above (Pending s.hold s.entry) (rests read t s h at) (taken_place w a t s at) table sound (given read t h) in
-        stands_grown old new event read t (closes t.next (levels_of s) c) others stopped
-        (subst (λ (n : ℕ). IsGrownTo new.nodes read (closes n (levels_of s) c)) h.next now) h (end_after w a k t s at e) (legal_at s at)
+  stands_at : (s : Spot) → taken_at w a t ≡ Some s → IsPublicOf new read (after_event t event)
+  stands_at s at =
+      let spot = taken_at_open w a t s at in
+      let table : IsTableOf old.nodes read (plug (levels_of s) (Pending s.hold s.entry)) = subst (IsTableOf old.nodes read) (sym spot.inside) h.placed in
+      let sound : IsSound [] (plug (levels_of s) (Pending s.hold s.entry)) = subst (IsSound []) (sym spot.inside) h.sound.sound in
+      let c = end_credit e k (run_of t s k) in
+      let now = closed a c read s.level s.above (Pending s.hold s.entry) (known.rests s at) (taken_place w a t s at) table sound known.given in
+      stands_grown old new event read t (closes t.next (levels_of s) c) others stopped
+      (subst (λ (n : ℕ). IsGrownTo new.nodes read (closes n (levels_of s) c)) h.next now) h (end_after w a k t s at e) (legal_at s at)
 
-    by_spot : {A : Type 0} → (o : Option Spot) → taken_at w a t ≡ o → is_some o ≡ true → ((s : Spot) → taken_at w a t ≡ Some s → A) → A
-    by_spot None is f go = absurd (cc f)
-    by_spot (Some s) is f go = go s is
+  by_spot : {A : Type 0} → (o : Option Spot) → taken_at w a t ≡ o → is_some o ≡ true → ((s : Spot) → taken_at w a t ≡ Some s → A) → A
+  by_spot None is f go = absurd (cc f)
+  by_spot (Some s) is f go = go s is
 
-  pub closed_out : new.log.events ≡ old.log.events ++ event ∷ [] → Notes old new event
+  pub closed_out : new.log.events ≡ old.log.events ++ event ∷ [] → NotesIn old new event read t
   closed_out events = record {
     noted = events;
     budget = others.budget;
     window = others.window;
-    legal = λ read t h. by_spot read t h (taken_at w a t) refl (out read t h) (legal_at read t h);
-    stands = λ read t h. by_spot read t h (taken_at w a t) refl (out read t h) (stands_at read t h);
+    legal = by_spot (taken_at w a t) refl (out read t h) legal_at;
+    stands = by_spot (taken_at w a t) refl (out read t h) stands_at;
   }

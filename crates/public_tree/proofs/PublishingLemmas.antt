@@ -19,8 +19,8 @@ use Rattle.tree_nodes.proofs.PlaceLemmas.{taken_out}
 use Rattle.interleaving.proofs.AppendLemmas.{found}
 use Rattle.interleaving.proofs.OpenSpotLemmas.{taken_at_open}
 use Rattle.interleaving.proofs.PluggedLemmas.{IsIn, all_in}
-use Rattle.public_tree.specs.PublicTrees.{PublicView, IsPublicOf, Answers, Notes, IsSameTree, is_going, IsOut}
-use Rattle.public_tree.specs.Publishing.{body_sizes, nest, FitsRun, ReadsAsRun, MakesNodes, IsSameWith}
+use Rattle.public_tree.specs.PublicTrees.{PublicView, IsPublicOf, Answers, NotesIn, IsSameTree, is_going, IsOut}
+use Rattle.public_tree.specs.Publishing.{body_sizes, nest, RunReadsAs, MakesNodes, IsSameWith}
 use Rattle.public_tree.proofs.HandOutLemmas.{KeepsOthers, legal_while_going, rooted_round, taken_place}
 use Rattle.public_tree.proofs.GrownLemmas.{stands_grown}
 
@@ -38,54 +38,53 @@ abbrev nodes_made : TreeState → Spot → ℕ → List ℕ → List Entry → G
 nodes_made t s k sizes es = record { root = plug (spending k (levels_of s)) (placed t.next sizes (levels_of s) es); next = t.next + length sizes }
 
 module _ (w : ℕ) (old new : PublicView) (a : Place) (k : ℕ) (bodies : List Body) (going : Answers old is_going true) (out : IsOut old w a) (one : 1 ≤ k)
-    (fits : FitsRun old w a k (body_sizes bodies)) (reads : ReadsAsRun old w a k bodies) (made : MakesNodes old.nodes new.nodes a k bodies) (others : KeepsOthers old new)
-    (stopped : new.log.stopped ≡ old.log.stopped) where
+    (made : MakesNodes old.nodes new.nodes a k bodies) (others : KeepsOthers old new) (stopped : new.log.stopped ≡ old.log.stopped)
+    (read : Reading) (t : TreeState) (h : IsPublicOf old read t) (known : RunReadsAs old.nodes.rows bodies w a k read t) where
   abbrev sizes : List ℕ
   sizes = body_sizes bodies
 
   abbrev event : Event
   event = Nodes w a k sizes
 
-  module _ (read : Reading) (t : TreeState) (h : IsPublicOf old read t) where
-    legal_at : (s : Spot) → taken_at w a t ≡ Some s → is_legal t event ≡ true
-    legal_at s at =
-        let some : nat_le 1 k ≡ true = grind (arith, one) in
-        legal_while_going t event (sym (going read t h))
-        (ap (λ (o : Option Spot). at_spot o (λ r. nat_le 1 k && run_fits (length (levels_of r)) sizes (run_of t r k))) at
-        ∙ (ap (λ (b : Bool). b && run_fits (length (levels_of s)) sizes (run_of t s k)) some ∙ fits read t s h at))
+  legal_at : (s : Spot) → taken_at w a t ≡ Some s → is_legal t event ≡ true
+  legal_at s at =
+      let some : nat_le 1 k ≡ true = grind (arith, one) in
+      legal_while_going t event (sym (going read t h))
+      (ap (λ (o : Option Spot). at_spot o (λ r. nat_le 1 k && run_fits (length (levels_of r)) sizes (run_of t r k))) at
+      ∙ (ap (λ (b : Bool). b && run_fits (length (levels_of s)) sizes (run_of t s k)) some ∙ known.fits s at))
 
-    stands_at : (s : Spot) → taken_at w a t ≡ Some s → IsPublicOf new read (after_event t event)
-    stands_at s at =
-        let e = entries_of (length (levels_of s)) sizes (run_of t s k) (fits read t s h at) in
-        let after : after_allowed t event ≡ grown (nodes_made t s k sizes e.0) t
-        = ap (λ (o : Option Spot). where_some o t (λ r. run_placed r k sizes (run_of t r k) t)) at ∙ ap (λ (run : Option (List Entry)). run_placed s k sizes run t) e.1 in
-        let spot = taken_at_open w a t s at in
-        let table : IsTableOf old.nodes read (plug (levels_of s) (Pending s.hold s.entry)) = subst (IsTableOf old.nodes read) (sym spot.inside) h.placed in
-        let way = taken_out old.nodes.rows read (levels_of s) (Pending s.hold s.entry) table.placed in
-        let down = way_to old.nodes.rows read (levels_of s) way.way (PendingCell s.hold) way.around in
-        let now = made.placed read s.level s.above s.hold s.entry way.way (taken_place w a t s at) table down in
-        let named : IsTableOf new.nodes read (plug (spending k (levels_of s)) (nest read way.way t.next bodies))
-        = subst (λ (n : ℕ). IsTableOf new.nodes read (plug (spending k (levels_of s)) (nest read way.way n bodies))) h.next now in
-        let lengths : length sizes ≡ length bodies = as_many bodies in
-        stands_grown old new event read t (nodes_made t s k sizes e.0) others stopped
-        (record {
-          placed = subst (λ (x : Status). IsTableOf new.nodes read (plug (spending k (levels_of s)) x)) (reads read t s way.way e.0 h at down e.1) named;
-          next = made.numbers ∙ (ap (λ (n : ℕ). n + length bodies) h.next ∙ ap (λ (n : ℕ). t.next + n) (sym lengths));
-          rooted = rooted_round (record s.level { spent = s.level.spent + k }) s.above (placed t.next sizes (levels_of s) e.0);
-        })
-        h after (legal_at s at)
+  stands_at : (s : Spot) → taken_at w a t ≡ Some s → IsPublicOf new read (after_event t event)
+  stands_at s at =
+      let e = entries_of (length (levels_of s)) sizes (run_of t s k) (known.fits s at) in
+      let after : after_allowed t event ≡ grown (nodes_made t s k sizes e.0) t
+      = ap (λ (o : Option Spot). where_some o t (λ r. run_placed r k sizes (run_of t r k) t)) at ∙ ap (λ (run : Option (List Entry)). run_placed s k sizes run t) e.1 in
+      let spot = taken_at_open w a t s at in
+      let table : IsTableOf old.nodes read (plug (levels_of s) (Pending s.hold s.entry)) = subst (IsTableOf old.nodes read) (sym spot.inside) h.placed in
+      let way = taken_out old.nodes.rows read (levels_of s) (Pending s.hold s.entry) table.placed in
+      let down = way_to old.nodes.rows read (levels_of s) way.way (PendingCell s.hold) way.around in
+      let now = made.placed read s.level s.above s.hold s.entry way.way (taken_place w a t s at) table down in
+      let named : IsTableOf new.nodes read (plug (spending k (levels_of s)) (nest read way.way t.next bodies))
+      = subst (λ (n : ℕ). IsTableOf new.nodes read (plug (spending k (levels_of s)) (nest read way.way n bodies))) h.next now in
+      let lengths : length sizes ≡ length bodies = as_many bodies in
+      stands_grown old new event read t (nodes_made t s k sizes e.0) others stopped
+      (record {
+        placed = subst (λ (x : Status). IsTableOf new.nodes read (plug (spending k (levels_of s)) x)) (known.reads s way.way e.0 at down e.1) named;
+        next = made.numbers ∙ (ap (λ (n : ℕ). n + length bodies) h.next ∙ ap (λ (n : ℕ). t.next + n) (sym lengths));
+        rooted = rooted_round (record s.level { spent = s.level.spent + k }) s.above (placed t.next sizes (levels_of s) e.0);
+      })
+      h after (legal_at s at)
 
-    by_spot : {A : Type 0} → (o : Option Spot) → taken_at w a t ≡ o → is_some o ≡ true → ((s : Spot) → taken_at w a t ≡ Some s → A) → A
-    by_spot None is f go = absurd (cc f)
-    by_spot (Some s) is f go = go s is
+  by_spot : {A : Type 0} → (o : Option Spot) → taken_at w a t ≡ o → is_some o ≡ true → ((s : Spot) → taken_at w a t ≡ Some s → A) → A
+  by_spot None is f go = absurd (cc f)
+  by_spot (Some s) is f go = go s is
 
-  pub published_out : new.log.events ≡ old.log.events ++ event ∷ [] → Notes old new event
+  pub published_out : new.log.events ≡ old.log.events ++ event ∷ [] → NotesIn old new event read t
   published_out events = record {
     noted = events;
     budget = others.budget;
     window = others.window;
-    legal = λ read t h. by_spot read t h (taken_at w a t) refl (out read t h) (legal_at read t h);
-    stands = λ read t h. by_spot read t h (taken_at w a t) refl (out read t h) (stands_at read t h);
+    legal = by_spot (taken_at w a t) refl (out read t h) legal_at;
+    stands = by_spot (taken_at w a t) refl (out read t h) stands_at;
   }
 
 -- what is out to a worker is in its hands

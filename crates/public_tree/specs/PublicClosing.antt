@@ -6,17 +6,19 @@ use Rattle.tree_model.specs.Closing.{Grown, closes}
 use Rattle.tree_model.specs.Credits.{Credit, credit_of, credit_with}
 use Rattle.tree_model.specs.Effects.{results_of}
 use Rattle.tree_model.specs.Events.{Event, Empty, Collected}
+use Rattle.tree_model.specs.EventViews.{place_view}
 use Rattle.tree_model.specs.Legality.{taken_at, run_of, run_is_empty, run_gives_result}
 use Rattle.tree_model.specs.Levels.{Level, plug, Place, place_at, Spot}
 use Rattle.tree_model.specs.Nodes.{Status}
 use Rattle.tree_model.specs.SoundTrees.{IsSound}
 use Rattle.tree_model.specs.TreeStates.{TreeState}
 use Rattle.tree_nodes.specs.Bodies.{Body, Reading}
-use Rattle.tree_nodes.specs.Rows.{Rows}
+use Rattle.tree_nodes.specs.Rows.{Rows, credit_view}
 use Rattle.tree_nodes.specs.TreeTables.{NodesView, IsTableOf}
 use Rattle.tree_closing.specs.Closings.{ComesToRest, IsSingle, ReadsWoken, is_waking}
 use Rattle.tree_closing.specs.declared.way_up.Beside.{Beside}
-use Rattle.public_tree.specs.PublicTrees.{PublicView, IsPublicOf, Notes, IsSameTree, IsRooted, is_going}
+use Rattle.tree_closing.specs.declared.way_up.Closing.{Closing}
+use Rattle.public_tree.specs.PublicTrees.{PublicView, IsPublicOf, NotesIn, IsSameTree, IsRooted, is_going}
 use Rattle.public_tree.specs.declared.closing.TaskEnd.{TaskEnd}
 use Rattle.public_tree.specs.declared.closing.TaskEnd.TheVariants.{Nothing, Result}
 
@@ -39,16 +41,6 @@ abbrev pub end_credit : TaskEnd → ℕ → Option (List Entry) → Credit
 end_credit Nothing k run = credit_of k
 end_credit Result k run = record { inferences = k; answers = 0; records = results_of run }
 
--- of each tree for which it stands, the private run of what is out has come to an end after so many inferences
-abbrev pub EndsItsRun : PublicView → ℕ → Place → ℕ → TaskEnd → Type 0
-EndsItsRun p w a k e = (read : Reading) (t : TreeState) (s : Spot) → IsPublicOf p read t → taken_at w a t ≡ Some s → is_end e (run_of t s k) ≡ true
-
--- and what closes with its credit comes to rest there
-abbrev pub RestsByRun : PublicView → ℕ → Place → ℕ → TaskEnd → Place → Credit → Beside → Type 0
-RestsByRun p w a k e b total beside =
-    (read : Reading) (t : TreeState) (s : Spot) → IsPublicOf p read t → taken_at w a t ≡ Some s
-    → ComesToRest p.nodes a (end_credit e k (run_of t s k)) b total beside
-
 -- a body of one branch is given where something wakes
 abbrev pub HasSingle : Bool → Option Body → Type 0
 HasSingle false body = Unit {0}
@@ -64,9 +56,14 @@ ReadsAs read rows b records false body = Unit {0}
 ReadsAs read rows b records true None = ⊥
 ReadsAs read rows b records true (Some body) = ReadsWoken read rows b records body
 
-abbrev pub IsGiven : PublicView → Place → Credit → Beside → Option Body → Type 0
-IsGiven p b total beside body =
-    (read : Reading) (t : TreeState) → IsPublicOf p read t → ReadsAs read p.nodes.rows b total.records (is_waking beside) body
+-- in this tree, the private run of what is out has come to an end after so many inferences, what closes with its credit comes
+-- to rest there, and what wakes by that reads as the body that is given
+pub record RunEndsAs (nodes : NodesView) (e : TaskEnd) (closing : Closing) (body : Option Body)
+    (w : ℕ) (a : Place) (k : ℕ) (read : Reading) (t : TreeState) : Type 0 where
+  pub ends : (s : Spot) → taken_at w a t ≡ Some s → is_end e (run_of t s k) ≡ true
+  pub rests : (s : Spot) → taken_at w a t ≡ Some s
+      → ComesToRest nodes a (end_credit e k (run_of t s k)) (place_view closing.end) (credit_view closing.credit) closing.beside
+  pub given : ReadsAs read nodes.rows (place_view closing.end) (credit_view closing.credit).records (is_waking closing.beside) body
 
 -- the nodes stand for a tree, and draw its next number next
 pub record IsGrownTo (nodes : NodesView) (read : Reading) (g : Grown) : Type 0 where
@@ -81,6 +78,9 @@ RestsIn old new b total beside body =
     → IsTableOf old read (plug (v ∷ up) was) → IsSound [] (plug (v ∷ up) was) → ReadsAs read old.rows b total.records (is_waking beside) body
     → IsGrownTo new read (closes (length old.rows) (v ∷ up) c)
 
--- an event happens, or the tree had ended or been stopped
-abbrev pub Happens : PublicView → PublicView → Event → Type 0
-Happens old new e = Notes old new e ⊎ (IsSameTree old new × ((read : Reading) (t : TreeState) → IsPublicOf old read t → is_going t ≡ false))
+-- after so many inferences an event happens in each tree for which it stands and of which this holds; or the tree had ended or
+-- been stopped
+abbrev pub HappensIn : PublicView → PublicView → ℕ → Place → ℕ → (ℕ → Place → ℕ → Reading → TreeState → Type 0) → (ℕ → Place → ℕ → Event) → Type 0
+HappensIn old new w a k Known event =
+    ((read : Reading) (t : TreeState) → IsPublicOf old read t → Known w a k read t → NotesIn old new (event w a k) read t)
+    ⊎ (IsSameTree old new × ((read : Reading) (t : TreeState) → IsPublicOf old read t → is_going t ≡ false))

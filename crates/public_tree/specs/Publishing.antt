@@ -15,7 +15,6 @@ use Rattle.tree_nodes.specs.declared.body.NodeBody.{NodeBody}
 use Rattle.tree_nodes.specs.Bodies.{Body, Branching, Reading, IsWhole, body_view, node_kind, new_alternatives}
 use Rattle.tree_nodes.specs.Rows.{PendingCell, Rows, cell_at}
 use Rattle.tree_nodes.specs.TreeTables.{NodesView, IsTableOf, IsWayTo}
-use Rattle.public_tree.specs.PublicTrees.{PublicView, IsPublicOf}
 
 abbrev pub bodies_view : List (Arc NodeBody Global) → List Body
 bodies_view bodies = map (λ b. body_view (arc_value b)) bodies
@@ -29,8 +28,8 @@ abbrev pub body_sizes : List Body → List ℕ
 body_sizes bodies = map (λ b. length b.branches) bodies
 
 -- the event by which they come to be after so many inferences
-abbrev pub publishing_event : ℕ → Place → ℕ → List Body → Event
-publishing_event w a k bodies = Nodes w a k (body_sizes bodies)
+abbrev pub publishing_event : List Body → ℕ → Place → ℕ → Event
+publishing_event bodies w a k = Nodes w a k (body_sizes bodies)
 
 -- nodes of these bodies, numbered from here on, the outermost first: each is the first alternative of the one before
 abbrev pub nest : Reading → Branching → ℕ → List Body → Status
@@ -38,16 +37,12 @@ nest read way n [] = Pending Ready (read way)
 nest read way n (b ∷ bs) = Inner (Numbered n (node_kind b.kind)
     (alternative 0 (nest read ((b, 0) ∷ way) (suc n) bs) (new_alternatives read way b 1 (drop 1 b.branches))))
 
--- of each tree for which it stands, the private run of what is out has come to entries that become nodes of these sizes
-abbrev pub FitsRun : PublicView → ℕ → Place → ℕ → List ℕ → Type 0
-FitsRun p w a k sizes =
-    (read : Reading) (t : TreeState) (s : Spot) → IsPublicOf p read t → taken_at w a t ≡ Some s → run_fits (length (levels_of s)) sizes (run_of t s k) ≡ true
-
--- and nodes of the bodies, below the place, read as those
-abbrev pub ReadsAsRun : PublicView → ℕ → Place → ℕ → List Body → Type 0
-ReadsAsRun p w a k bodies =
-    (read : Reading) (t : TreeState) (s : Spot) (way : Branching) (es : List Entry) → IsPublicOf p read t → taken_at w a t ≡ Some s
-    → IsWayTo p.nodes.rows (levels_of s) way → run_of t s k ≡ Some es → nest read way t.next bodies ≡ placed t.next (body_sizes bodies) (levels_of s) es
+-- in this tree, the private run of what is out has come after so many inferences to entries that become nodes of the bodies'
+-- sizes, and nodes of the bodies, below the place, read as those
+pub record RunReadsAs (rows : Rows) (bodies : List Body) (w : ℕ) (a : Place) (k : ℕ) (read : Reading) (t : TreeState) : Type 0 where
+  pub fits : (s : Spot) → taken_at w a t ≡ Some s → run_fits (length (levels_of s)) (body_sizes bodies) (run_of t s k) ≡ true
+  pub reads : (s : Spot) (way : Branching) (es : List Entry) → taken_at w a t ≡ Some s → IsWayTo rows (levels_of s) way → run_of t s k ≡ Some es
+      → nest read way t.next bodies ≡ placed t.next (body_sizes bodies) (levels_of s) es
 
 abbrev pub IsReadyAt : Rows → Place → Type 0
 IsReadyAt rows a = option_map (λ c. c.1) (cell_at rows a) ≡ Some (PendingCell Ready)

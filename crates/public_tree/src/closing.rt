@@ -1,11 +1,12 @@
-//! How what is out closes.
+//! How what is out closes. To what its private run comes is the caller's to know: contracts speak of the trees of which that
+//! holds.
 ghost use Rattle.std.specs.Prelude.{◌≡◌, ◌+◌, ◌<◌, ◌≤◌, IsSome, IfOk, OnOk, OnErr};
 ghost use Rattle.tree_model.specs.EventViews.{event_view, place_view};
 ghost use Rattle.tree_nodes.specs.Rows.{cell_at, credit_view};
 ghost use Rattle.tree_closing.specs.Closings.{ComesToRest, HasSleeper};
 ghost use Rattle.public_tree.specs.Opening.{opening_body};
 ghost use Rattle.public_tree.specs.PublicTrees.{IsSameTree, IsOut};
-ghost use Rattle.public_tree.specs.PublicClosing.{record_credit, closing_event, EndsItsRun, RestsByRun, IsGiven, IsBodyGiven, RestsIn, Happens};
+ghost use Rattle.public_tree.specs.PublicClosing.{record_credit, closing_event, RunEndsAs, IsBodyGiven, RestsIn, HappensIn};
 
 use crate::public::PublicTree;
 use au_term::{FlatTerm, NoMemory};
@@ -54,11 +55,8 @@ impl PublicTree {
         requires sleeper { HasSleeper closing.beside self.old.nodes.rows (place_view closing.end) }
         requires body { IsBodyGiven closing.beside (opening_body woken) }
         requires out { IsOut self.old worker (place_view at) }
-        requires ends { EndsItsRun self.old worker (place_view at) inferences end }
-        requires rests { RestsByRun self.old worker (place_view at) inferences end (place_view closing.end) (credit_view closing.credit) closing.beside }
-        requires given { IsGiven self.old (place_view closing.end) (credit_view closing.credit) closing.beside (opening_body woken) }
         requires promised { 0 < self.old.log.promised }
-        ensures closes { OnOk result (Happens self.old self.new (closing_event end worker (place_view at) inferences)) }
+        ensures closes { OnOk result (HappensIn self.old self.new worker (place_view at) inferences (RunEndsAs self.old.nodes end closing (opening_body woken)) (closing_event end)) }
         ensures err { OnErr result (IsSameTree self.old self.new) }
         ensures promised { self.old.log.promised ≤ self.new.log.promised + 1 }
         ensures kept { OnErr result (self.new.log.promised ≡ self.old.log.promised) }

@@ -1,10 +1,11 @@
-//! How what is out becomes nodes.
+//! How what is out becomes nodes. To what its private run comes is the caller's to know: contracts speak of the trees of which
+//! that holds.
 ghost use Rattle.std.specs.Prelude.{◌≡◌, ◌+◌, ◌<◌, ◌≤◌, IsSome, IfOk, OnOk, OnErr, map, length};
 ghost use Rattle.tree_model.specs.EventViews.{place_view};
 ghost use Rattle.tree_nodes.specs.Rows.{cell_at};
 ghost use Rattle.public_tree.specs.PublicTrees.{IsSameTree, IsOut};
-ghost use Rattle.public_tree.specs.PublicClosing.{Happens};
-ghost use Rattle.public_tree.specs.Publishing.{bodies_view, body_sizes, publishing_event, AreWhole, FitsRun, ReadsAsRun, IsReadyAt, AddsBelow, AddsSome, MakesNodes, IsSameWith};
+ghost use Rattle.public_tree.specs.PublicClosing.{HappensIn};
+ghost use Rattle.public_tree.specs.Publishing.{bodies_view, body_sizes, publishing_event, AreWhole, RunReadsAs, IsReadyAt, AddsBelow, AddsSome, MakesNodes, IsSameWith};
 
 use crate::public::PublicTree;
 use au_term::NoMemory;
@@ -26,10 +27,8 @@ impl PublicTree {
         requires out { IsOut self.old worker (place_view at) }
         requires some { 1 ≤ inferences }
         requires whole { AreWhole (bodies_view bodies.now) }
-        requires fits { FitsRun self.old worker (place_view at) inferences (body_sizes (bodies_view bodies.now)) }
-        requires reads { ReadsAsRun self.old worker (place_view at) inferences (bodies_view bodies.now) }
         requires promised { 0 < self.old.log.promised }
-        ensures publishes { OnOk result (Happens self.old self.new (publishing_event worker (place_view at) inferences (bodies_view bodies.now))) }
+        ensures publishes { OnOk result (HappensIn self.old self.new worker (place_view at) inferences (RunReadsAs self.old.nodes.rows (bodies_view bodies.now)) (publishing_event (bodies_view bodies.now))) }
         ensures err { OnErr result (IsSameTree self.old self.new) }
         ensures promised { self.old.log.promised ≤ self.new.log.promised + 1 }
         ensures kept { OnErr result (self.new.log.promised ≡ self.old.log.promised) }

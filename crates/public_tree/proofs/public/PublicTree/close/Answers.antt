@@ -34,4 +34,4 @@ returns-clause-closes c =
     = c.note_back.ensures.events
     ∙ (ap (λ (es : List Event). es ++ event_view c.event_of.result ∷ []) (ap (λ (p : PublicView). p.log.events) was)
     ∙ ap (λ (e : Event). old.log.events ++ e ∷ []) c.event_of.ensures) in
-    inl (closed_out w old _ a k c.args.end b total beside body going c.requires.out c.requires.ends c.requires.rests c.requires.given closed others stopped events)
+    inl (λ read t h known. closed_out w old _ a k c.args.end c.args.closing body going c.requires.out closed others stopped read t h known events)

@@ -48,4 +48,4 @@ returns-clause-publishes c =
     = c.note_back.ensures.events
     ∙ (ap (λ (es : List Event). es ++ Nodes w a k c.of.result ∷ []) (ap (λ (p : PublicView). p.log.events) was)
     ∙ ap (λ (x : List ℕ). old.log.events ++ Nodes w a k x ∷ []) sizes) in
-    inl (published_out w old _ a k bodies going c.requires.out c.requires.some c.requires.fits c.requires.reads made others stopped events)
+    inl (λ read t h known. published_out w old _ a k bodies going c.requires.out c.requires.some made others stopped read t h known events)
