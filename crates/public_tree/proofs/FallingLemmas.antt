@@ -19,59 +19,63 @@ use Rattle.tree_nodes.specs.TreeTables.{IsTableOf}
 use Rattle.prune_ops.specs.Falls.{IsLanding, LandsAt, LandsNowhere, ReadsBeside, LandsBeside}
 use Rattle.interleaving.proofs.LegalLemmas.{event_sound}
 use Rattle.interleaving.proofs.OpenSpotLemmas.{taken_at_open}
-use Rattle.public_tree.specs.PublicTrees.{PublicView, IsRooted, IsPublicOf, Answers, Notes, is_going, IsOut, IsItsGate}
+use Rattle.public_tree.specs.PublicTrees.{PublicView, IsRooted, IsPublicOf, Answers, NotesIn, is_going, IsOut}
 use Rattle.public_tree.specs.PrunedTasks.{FindsTasks}
-use Rattle.public_tree.specs.PublicPruning.{IsClearedAt, ReadsAsFallen, ReadsFall}
+use Rattle.public_tree.specs.PublicPruning.{IsClearedAt, ReadsAsFallen, LandsAs}
 use Rattle.public_tree.proofs.HandOutLemmas.{legal_while_going, rooted_round, taken_place}
 use Rattle.public_tree.proofs.PruningLemmas.{table_out, by_out}
 use Rattle.public_tree.proofs.BallGateLemmas.{FallsIn, falls_in}
 
 -- what a ball leaves, and that something sleeps at its scope
-falls_at : (p : PublicView) (w : ℕ) (a : Place) (n : ℕ) → IsItsGate p w a (BallGate n) → (read : Reading) (t : TreeState) (s : Spot) → IsPublicOf p read t
-    → taken_at w a t ≡ Some s → FallsIn t.job.clauses (levels_of s) s.entry n
+falls_at : (p : PublicView) (w : ℕ) (a : Place) (n : ℕ) (read : Reading) (t : TreeState) (s : Spot) → IsPublicOf p read t
+    → taken_at w a t ≡ Some s → gate_of t s ≡ Some (BallGate n) → FallsIn t.job.clauses (levels_of s) s.entry n
 unfolding gate_of
-falls_at p w a n gates read t s h e =
+falls_at p w a n read t s h e gate =
     let o = taken_at_open w a t s e in
-    falls_in t.job.clauses (levels_of s) s.hold s.entry n (subst (IsSound []) (sym o.inside) h.sound.sound) o.opened (gates read t s h e)
+    falls_in t.job.clauses (levels_of s) s.hold s.entry n (subst (IsSound []) (sym o.inside) h.sound.sound) o.opened gate
 
-fall_allowed : (p : PublicView) (w : ℕ) (a : Place) (n : ℕ) (result : Bool) → IsItsGate p w a (BallGate n) → IsClearedAt p.nodes a n result
-    → (read : Reading) (t : TreeState) (s : Spot) → IsPublicOf p read t → taken_at w a t ≡ Some s → is_allowed t (Prune w a) ≡ result
-fall_allowed p w a n result gates cleared read t s h e =
+fall_allowed : (p : PublicView) (w : ℕ) (a : Place) (n : ℕ) (result : Bool) → IsClearedAt p.nodes a n result
+    → (read : Reading) (t : TreeState) (s : Spot) → IsPublicOf p read t → taken_at w a t ≡ Some s → gate_of t s ≡ Some (BallGate n)
+    → is_allowed t (Prune w a) ≡ result
+fall_allowed p w a n result cleared read t s h e gate =
     let table = table_out p.nodes w a read t s h.placed e in
     ap (λ (o : Option Spot). at_spot o (λ r. may_prune (levels_of r) (gate_of t r))) e
-    ∙ (ap (may_prune (levels_of s)) (gates read t s h e) ∙ sym (cleared read s.level s.above s.hold s.entry (taken_place w a t s e) table))
+    ∙ (ap (may_prune (levels_of s)) gate ∙ sym (cleared read s.level s.above s.hold s.entry (taken_place w a t s e) table))
 
-pub not_cleared : (p : PublicView) (w : ℕ) (a : Place) (n : ℕ) → Answers p is_going true → IsOut p w a → IsItsGate p w a (BallGate n)
-    → IsClearedAt p.nodes a n false → (read : Reading) (t : TreeState) → IsPublicOf p read t → (is_going t ≡ true) × (is_allowed t (Prune w a) ≡ false)
-not_cleared p w a n going out gates cleared read t h =
-    (sym (going read t h), by_out p w a out read t h (λ s e. fall_allowed p w a n false gates cleared read t s h e))
+pub not_cleared : (p : PublicView) (w : ℕ) (a : Place) (n : ℕ) (body : Body) → Answers p is_going true → IsOut p w a → IsClearedAt p.nodes a n false
+    → (read : Reading) (t : TreeState) → IsPublicOf p read t → LandsAs p.nodes.rows n body w a read t
+    → (is_going t ≡ true) × (is_allowed t (Prune w a) ≡ false)
+not_cleared p w a n body going out cleared read t h known =
+    (sym (going read t h), by_out p w a out read t h (λ s e. fall_allowed p w a n false cleared read t s h e (known s e).0))
 
 -- it lands somewhere
-pub no_landing : (p : PublicView) (w : ℕ) (a : Place) (n : ℕ) → IsOut p w a → IsItsGate p w a (BallGate n) → IsClearedAt p.nodes a n true
-    → LandsNowhere p.nodes a n → (read : Reading) (t : TreeState) → IsPublicOf p read t → (is_going t ≡ true) × (is_allowed t (Prune w a) ≡ false)
-no_landing p w a n out gates cleared nowhere read t h = by_out p w a out read t h (λ s e. absurd (lands s e))
+pub no_landing : (p : PublicView) (w : ℕ) (a : Place) (n : ℕ) (body : Body) → IsOut p w a → IsClearedAt p.nodes a n true → LandsNowhere p.nodes a n
+    → (read : Reading) (t : TreeState) → IsPublicOf p read t → LandsAs p.nodes.rows n body w a read t
+    → (is_going t ≡ true) × (is_allowed t (Prune w a) ≡ false)
+no_landing p w a n body out cleared nowhere read t h known = by_out p w a out read t h (λ s e. absurd (lands s e))
   where
     lands : (s : Spot) → taken_at w a t ≡ Some s → ⊥
     lands s e =
         let table = table_out p.nodes w a read t s h.placed e in
         let at = taken_place w a t s e in
         let clear = sym (cleared read s.level s.above s.hold s.entry at table) in
-        let f = falls_at p w a n gates read t s h e in
+        let f = falls_at p w a n read t s h e (known s e).0 in
         let z : Some f.slept ≡ None = sym f.sleeps ∙ nowhere read s.level s.above (Pending s.hold s.entry) at table clear in
         cc z
 
 -- a ball is taken
 module _ (w : ℕ) (old new : PublicView) (a b : Place) (n : ℕ) (total : Credit) (body : Body) (going : Answers old is_going true) (out : IsOut old w a)
-    (gates : IsItsGate old w a (BallGate n)) (reads : ReadsFall old w a n body) (cleared : IsClearedAt old.nodes a n true)
+    (cleared : IsClearedAt old.nodes a n true)
     (lands : LandsAt old.nodes a n b total) (beside : LandsBeside old.nodes new.nodes b total body) (rows : length new.nodes.rows ≡ length old.nodes.rows + 1)
     (lost : FindsTasks old.nodes a n old.lost new.lost) (halted : new.halted ≡ old.halted) (budget : new.budget ≡ old.budget)
     (window : new.window ≡ old.window) (stopped : new.log.stopped ≡ old.log.stopped)
     (events : new.log.events ≡ old.log.events ++ Prune w a ∷ []) where
-  legal : (read : Reading) (t : TreeState) → IsPublicOf old read t → is_legal t (Prune w a) ≡ true
-  legal read t h = by_out old w a out read t h
-      (λ s e. legal_while_going t (Prune w a) (sym (going read t h)) (fall_allowed old w a n true gates cleared read t s h e))
+  legal : (read : Reading) (t : TreeState) → IsPublicOf old read t → LandsAs old.nodes.rows n body w a read t → is_legal t (Prune w a) ≡ true
+  legal read t h known = by_out old w a out read t h
+      (λ s e. legal_while_going t (Prune w a) (sym (going read t h)) (fall_allowed old w a n true cleared read t s h e (known s e).0))
 
-  module _ (read : Reading) (t : TreeState) (h : IsPublicOf old read t) (s : Spot) (e : taken_at w a t ≡ Some s) where
+  module _ (read : Reading) (t : TreeState) (h : IsPublicOf old read t) (known : LandsAs old.nodes.rows n body w a read t) (s : Spot)
+      (e : taken_at w a t ≡ Some s) where
     table : IsTableOf old.nodes read (plug (levels_of s) (Pending s.hold s.entry))
     table = table_out old.nodes w a read t s h.placed e
 
@@ -80,7 +84,7 @@ module _ (w : ℕ) (old new : PublicView) (a b : Place) (n : ℕ) (total : Credi
         (sym (cleared read s.level s.above s.hold s.entry (taken_place w a t s e) table))
 
     fallen : ReadsAsFallen read old.nodes.rows n body (levels_of s) (or_none (taken_alone t.job.clauses (spot_stack s)))
-    fallen = reads read t s h e
+    fallen = (known s e).1
 
     abbrev woken : Entry
     woken = with_nodes (node_of (levels_of s)) fallen.entry
@@ -104,11 +108,11 @@ module _ (w : ℕ) (old new : PublicView) (a b : Place) (n : ℕ) (total : Credi
 
     after : after_allowed t (Prune w a) ≡ grown after_fall (record t { lost = t.lost ++ tasks_pruned n (levels_of s) })
     after =
-        let f = falls_at old w a n gates read t s h e in
+        let f = falls_at old w a n read t s h e (known s e).0 in
         let scope : ball_scope (levels_of s) (fallen.entry ∷ fallen.under) ≡ n
         = ap (ball_scope (levels_of s)) (sym fallen.top ∙ ap or_none f.taken) ∙ f.scope in
         ap (λ (o : Option Spot). where_some o t (λ r. gate_pruned r (gate_of t r) (or_none (taken_alone t.job.clauses (spot_stack r))) t)) e
-        ∙ (ap (λ (g : Option Gate). gate_pruned s g (or_none (taken_alone t.job.clauses (spot_stack s))) t) (gates read t s h e)
+        ∙ (ap (λ (g : Option Gate). gate_pruned s g (or_none (taken_alone t.job.clauses (spot_stack s))) t) (known s e).0
         ∙ (ap (λ (es : List Entry). ball_falls s es t) fallen.top
         ∙ ap (λ (m : ℕ). grown (ball_closes t.next m (levels_of s) (credit_of 1) woken) (record t { lost = t.lost ++ tasks_pruned m (levels_of s) })) scope))
 
@@ -126,16 +130,16 @@ module _ (w : ℕ) (old new : PublicView) (a b : Place) (n : ℕ) (total : Credi
           budget = budget ∙ (h.budget ∙ ap (λ (x : TreeState). x.budget) (sym is));
           window = window ∙ (h.window ∙ ap (λ (x : TreeState). x.window) (sym is));
           stopped = stopped ∙ (h.stopped ∙ ap (λ (x : TreeState). x.stopped) (sym is));
-          sound = event_sound t (Prune w a) h.sound (legal read t h);
+          sound = event_sound t (Prune w a) h.sound (legal read t h known);
           rooted = subst (λ (x : TreeState). IsRooted x.root) (sym is)
               (subst (λ (g : Grown). IsRooted g.root) (sym closes) (rooted_round (with_right (Inner (single t.next woken)) landing.level) landing.above _));
         }
 
-  pub ball_taken : Notes old new (Prune w a)
-  ball_taken = record {
+  pub ball_taken : (read : Reading) (t : TreeState) → IsPublicOf old read t → LandsAs old.nodes.rows n body w a read t → NotesIn old new (Prune w a) read t
+  ball_taken read t h known = record {
     noted = events;
     budget = budget;
     window = window;
-    legal = legal;
-    stands = λ read t h. by_out old w a out read t h (λ s e. stands read t h s e);
+    legal = legal read t h known;
+    stands = by_out old w a out read t h (λ s e. stands read t h known s e);
   }

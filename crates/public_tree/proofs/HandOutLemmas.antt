@@ -28,7 +28,7 @@ use Rattle.branch_order.specs.Clocks.{HasClock}
 use Rattle.interleaving.proofs.FrontLemmas.{leftmost_front}
 use Rattle.interleaving.proofs.PluggedLemmas.{IsIn, all_in}
 use Rattle.au_model.specs.Terms.Each.{Each}
-use Rattle.public_tree.specs.PublicTrees.{PublicView, IsRooted, IsPublicOf, Answers, Offers, IsHeldAt, Notes, is_going, IsOut, is_frozen_gate, IsGateAt, IsItsGate}
+use Rattle.public_tree.specs.PublicTrees.{PublicView, IsRooted, IsPublicOf, Answers, Offers, IsHeldAt, Notes, NotesIn, is_going, IsOut, is_frozen_gate, IsGateAt, IsItsGate}
 
 -- the leftmost entry of a sound tree: all to its left has closed
 pub record IsFirstSpot (root : Status) (a : Place) : Type 0 where
@@ -192,27 +192,25 @@ gate_after t w a s g e h =
     by_gate (BallGate n) h = ap (gate_or_frozen false) h
     by_gate WorldGate h = ap (gate_or_frozen false) h
 
-pub given_back : (w : ℕ) (old new : PublicView) (a : Place) (g : Gate) → Answers old is_going true → IsOut old w a → IsItsGate old w a g
+pub given_back : (w : ℕ) (old new : PublicView) (a : Place) (g : Gate) → Answers old is_going true → IsOut old w a
     → HoldsBy old new a (Waiting g) → new.log.events ≡ old.log.events ++ Suspend w a (is_frozen_gate g) ∷ []
-    → Notes old new (Suspend w a (is_frozen_gate g))
-given_back w old new a g going out gates holds events =
-    record {
-      noted = events;
-      budget = holds.others.budget;
-      window = holds.others.window;
-      legal = λ read t h. by_spot read t h (taken_at w a t) refl (out read t h) (λ s l k. l);
-      stands = λ read t h. by_spot read t h (taken_at w a t) refl (out read t h) (λ s l k. k l);
-    }
+    → (read : Reading) (t : TreeState) → IsPublicOf old read t → IsItsGate g w a t → NotesIn old new (Suspend w a (is_frozen_gate g)) read t
+given_back w old new a g going out holds events read t h gates = by_spot (taken_at w a t) refl (out read t h)
   where
-    by_spot : {A : Type 0} → (read : Reading) (t : TreeState) → IsPublicOf old read t → (o : Option Spot) → taken_at w a t ≡ o → is_some o ≡ true
-        → (Spot → is_legal t (Suspend w a (is_frozen_gate g)) ≡ true
-        → (is_legal t (Suspend w a (is_frozen_gate g)) ≡ true → IsPublicOf new read (after_event t (Suspend w a (is_frozen_gate g)))) → A) → A
-    by_spot read t h None e f go = absurd (cc f)
-    by_spot read t h (Some s) e f go =
-        let gate : IsGateAt t s g = gates read t s h e in
-        go s (legal_while_going t (Suspend w a (is_frozen_gate g)) (sym (going read t h)) (gate_allowed t w a s g e gate))
-        (λ l. stands_held old new a (Waiting g) (Suspend w a (is_frozen_gate g)) read t s holds h (taken_at_open w a t s e) (taken_place w a t s e)
-        (gate_after t w a s g e gate) l)
+    by_spot : (o : Option Spot) → taken_at w a t ≡ o → is_some o ≡ true → NotesIn old new (Suspend w a (is_frozen_gate g)) read t
+    by_spot None e f = absurd (cc f)
+    by_spot (Some s) e f =
+        let gate : IsGateAt t s g = gates s e in
+        let legal : is_legal t (Suspend w a (is_frozen_gate g)) ≡ true
+        = legal_while_going t (Suspend w a (is_frozen_gate g)) (sym (going read t h)) (gate_allowed t w a s g e gate) in
+        record {
+          noted = events;
+          budget = holds.others.budget;
+          window = holds.others.window;
+          legal = legal;
+          stands = stands_held old new a (Waiting g) (Suspend w a (is_frozen_gate g)) read t s holds h (taken_at_open w a t s e) (taken_place w a t s e)
+              (gate_after t w a s g e gate) legal;
+        }
 
 -- the tree stops
 pub stops : (w : ℕ) (old new : PublicView) → Answers old is_going true → new.nodes ≡ old.nodes → KeepsOthers old new → new.log.stopped ≡ true

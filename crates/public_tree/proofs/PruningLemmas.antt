@@ -1,13 +1,12 @@
 -- A cut that is taken, in the tree for which the nodes stand.
 use Rattle.std.proofs.Common.{◌≡◌, ℕ, suc, ◌+◌, ◌==◌, Bool, true, false, cond, List, [], ◌∷◌, ◌++◌, length, Option, Some, None, refl, sym, ap, ◌∙◌, subst, arith}
-use Rattle.std.specs.Prelude.{is_some, ◌&&◌}
+use Rattle.std.specs.Prelude.{is_some}
 use Rattle.run_model.specs.Machine.Entries.{Entry}
-use Rattle.au_term.proofs.LogicLemmas.{both}
 use Rattle.tree_model.specs.Events.{Prune}
 use Rattle.tree_model.specs.Effects.{or_none, where_some, spending, cut_at, gate_pruned, spot_stack, after_allowed, after_event}
-use Rattle.tree_model.specs.Legality.{is_taken_by, taken_at, at_spot, gate_of, may_prune, is_allowed, is_legal}
+use Rattle.tree_model.specs.Legality.{taken_at, at_spot, gate_of, may_prune, is_allowed, is_legal}
 use Rattle.tree_model.specs.Nodes.{Gate, CutGate, Node, Status, Pending, Inner, single}
-use Rattle.tree_model.specs.Levels.{Level, level_node, plug, Place, same_place, Spot, levels_of, place_of_spot, pending_of}
+use Rattle.tree_model.specs.Levels.{Level, plug, Place, Spot, levels_of}
 use Rattle.tree_model.specs.Floors.{node_of, with_nodes}
 use Rattle.tree_model.specs.PrivateRuns.{taken_alone}
 use Rattle.tree_model.specs.Pruning.{Task, emptied, pruned, tasks_pruned}
@@ -20,14 +19,11 @@ use Rattle.tree_nodes.proofs.AddLemmas.{way_to}
 use Rattle.tree_nodes.proofs.PlaceLemmas.{taken_out}
 use Rattle.tree_nodes.proofs.WalkLemmas.{cell_here}
 use Rattle.prune_ops.specs.Cuts.{CutsAt}
-use Rattle.interleaving.proofs.AppendLemmas.{found}
 use Rattle.interleaving.proofs.LegalLemmas.{event_sound}
 use Rattle.interleaving.proofs.OpenSpotLemmas.{taken_at_open}
-use Rattle.interleaving.proofs.PluggedLemmas.{IsIn, all_in}
-use Rattle.interleaving.proofs.UnchangedPlaceLemmas.{same_place-is}
-use Rattle.public_tree.specs.PublicTrees.{PublicView, IsRooted, IsPublicOf, Answers, Notes, IsSameTree, is_going, IsOut, IsItsGate}
+use Rattle.public_tree.specs.PublicTrees.{PublicView, IsRooted, IsPublicOf, Answers, NotesIn, IsSameTree, is_going, IsOut}
 use Rattle.public_tree.specs.PrunedTasks.{FindsTasks}
-use Rattle.public_tree.specs.PublicPruning.{IsClearedAt, ReadsAsTop, ReadsCut}
+use Rattle.public_tree.specs.PublicPruning.{IsClearedAt, ReadsAsTop, CutsAs}
 use Rattle.public_tree.proofs.HandOutLemmas.{legal_while_going, rooted_round, taken_place}
 
 pub same_tree : (p : PublicView) → IsSameTree p p
@@ -45,12 +41,13 @@ pub table_out : (nodes : NodesView) (w : ℕ) (a : Place) (read : Reading) (t : 
 table_out nodes w a read t s h e = subst (IsTableOf nodes read) (sym (taken_at_open w a t s e).inside) h
 
 -- whether a cut is allowed
-cut_allowed : (p : PublicView) (w : ℕ) (a : Place) (n : ℕ) (result : Bool) → IsItsGate p w a (CutGate n) → IsClearedAt p.nodes a n result
-    → (read : Reading) (t : TreeState) (s : Spot) → IsPublicOf p read t → taken_at w a t ≡ Some s → is_allowed t (Prune w a) ≡ result
-cut_allowed p w a n result gates cleared read t s h e =
+cut_allowed : (p : PublicView) (w : ℕ) (a : Place) (n : ℕ) (result : Bool) → IsClearedAt p.nodes a n result
+    → (read : Reading) (t : TreeState) (s : Spot) → IsPublicOf p read t → taken_at w a t ≡ Some s → gate_of t s ≡ Some (CutGate n)
+    → is_allowed t (Prune w a) ≡ result
+cut_allowed p w a n result cleared read t s h e gate =
     let table = table_out p.nodes w a read t s h.placed e in
     ap (λ (o : Option Spot). at_spot o (λ r. may_prune (levels_of r) (gate_of t r))) e
-    ∙ (ap (may_prune (levels_of s)) (gates read t s h e) ∙ sym (cleared read s.level s.above s.hold s.entry (taken_place w a t s e) table))
+    ∙ (ap (may_prune (levels_of s)) gate ∙ sym (cleared read s.level s.above s.hold s.entry (taken_place w a t s e) table))
 
 pub by_out : {A : Type 0} → (p : PublicView) (w : ℕ) (a : Place) → IsOut p w a → (read : Reading) (t : TreeState) → IsPublicOf p read t
     → ((s : Spot) → taken_at w a t ≡ Some s → A) → A
@@ -60,10 +57,11 @@ by_out {A = A} p w a out read t h go = by_spot (taken_at w a t) refl (out read t
     by_spot None e f = absurd (cc f)
     by_spot (Some s) e f = go s e
 
-pub not_cleared : (p : PublicView) (w : ℕ) (a : Place) (n : ℕ) → Answers p is_going true → IsOut p w a → IsItsGate p w a (CutGate n)
-    → IsClearedAt p.nodes a n false → (read : Reading) (t : TreeState) → IsPublicOf p read t → (is_going t ≡ true) × (is_allowed t (Prune w a) ≡ false)
-not_cleared p w a n going out gates cleared read t h =
-    (sym (going read t h), by_out p w a out read t h (λ s e. cut_allowed p w a n false gates cleared read t s h e))
+pub not_cleared : (p : PublicView) (w : ℕ) (a : Place) (n : ℕ) (body : Body) → Answers p is_going true → IsOut p w a → IsClearedAt p.nodes a n false
+    → (read : Reading) (t : TreeState) → IsPublicOf p read t → CutsAs p.nodes.rows n body w a read t
+    → (is_going t ≡ true) × (is_allowed t (Prune w a) ≡ false)
+not_cleared p w a n body going out cleared read t h known =
+    (sym (going read t h), by_out p w a out read t h (λ s e. cut_allowed p w a n false cleared read t s h e (known s e).0))
 
 -- the levels that are pruned are round a place
 rooted_pruned : (scope : ℕ) (v : Level) (up : List Level) (status : Status) → IsRooted (plug (pruned scope (v ∷ up)) status)
@@ -75,16 +73,17 @@ rooted_pruned scope v up status = by_test (v.number == scope)
 
 -- a cut is taken
 module _ (w : ℕ) (old new : PublicView) (a : Place) (n : ℕ) (body : Body) (going : Answers old is_going true) (out : IsOut old w a)
-    (gates : IsItsGate old w a (CutGate n)) (reads : ReadsCut old w a body) (cleared : IsClearedAt old.nodes a n true)
+    (cleared : IsClearedAt old.nodes a n true)
     (cuts : CutsAt old.nodes new.nodes a n body) (rows : length new.nodes.rows ≡ length old.nodes.rows + 1)
     (lost : FindsTasks old.nodes a n old.lost new.lost) (halted : new.halted ≡ old.halted) (budget : new.budget ≡ old.budget)
     (window : new.window ≡ old.window) (stopped : new.log.stopped ≡ old.log.stopped)
     (events : new.log.events ≡ old.log.events ++ Prune w a ∷ []) where
-  legal : (read : Reading) (t : TreeState) → IsPublicOf old read t → is_legal t (Prune w a) ≡ true
-  legal read t h = by_out old w a out read t h
-      (λ s e. legal_while_going t (Prune w a) (sym (going read t h)) (cut_allowed old w a n true gates cleared read t s h e))
+  legal : (read : Reading) (t : TreeState) → IsPublicOf old read t → CutsAs old.nodes.rows n body w a read t → is_legal t (Prune w a) ≡ true
+  legal read t h known = by_out old w a out read t h
+      (λ s e. legal_while_going t (Prune w a) (sym (going read t h)) (cut_allowed old w a n true cleared read t s h e (known s e).0))
 
-  module _ (read : Reading) (t : TreeState) (h : IsPublicOf old read t) (s : Spot) (e : taken_at w a t ≡ Some s) where
+  module _ (read : Reading) (t : TreeState) (h : IsPublicOf old read t) (known : CutsAs old.nodes.rows n body w a read t) (s : Spot)
+      (e : taken_at w a t ≡ Some s) where
     table : IsTableOf old.nodes read (plug (levels_of s) (Pending s.hold s.entry))
     table = table_out old.nodes w a read t s h.placed e
 
@@ -102,14 +101,14 @@ module _ (w : ℕ) (old new : PublicView) (a : Place) (n : ℕ) (body : Body) (g
         (or_none (taken_alone t.job.clauses (spot_stack s)))) → after_allowed t (Prune w a) ≡ cut_at s n (x.entry ∷ x.under) t
     after x =
         ap (λ (o : Option Spot). where_some o t (λ r. gate_pruned r (gate_of t r) (or_none (taken_alone t.job.clauses (spot_stack r))) t)) e
-        ∙ (ap (λ (g : Option Gate). gate_pruned s g (or_none (taken_alone t.job.clauses (spot_stack s))) t) (gates read t s h e)
+        ∙ (ap (λ (g : Option Gate). gate_pruned s g (or_none (taken_alone t.job.clauses (spot_stack s))) t) (known s e).0
         ∙ ap (λ (es : List Entry). cut_at s n es t) x.top)
 
     top : ReadsAsTop read (taken_out old.nodes.rows read (levels_of s) (Pending s.hold s.entry) table.placed).way body (levels_of s)
         (or_none (taken_alone t.job.clauses (spot_stack s)))
     top =
         let k = taken_out old.nodes.rows read (levels_of s) (Pending s.hold s.entry) table.placed in
-        reads read t s k.way h e (way_to old.nodes.rows read (levels_of s) k.way _ k.around)
+        (known s e).1 k.way (way_to old.nodes.rows read (levels_of s) k.way _ k.around)
 
     stands : IsPublicOf new read (after_event t (Prune w a))
     unfolding after_event
@@ -125,16 +124,16 @@ module _ (w : ℕ) (old new : PublicView) (a : Place) (n : ℕ) (body : Body) (g
           budget = budget ∙ (h.budget ∙ ap (λ (x : TreeState). x.budget) (sym is));
           window = window ∙ (h.window ∙ ap (λ (x : TreeState). x.window) (sym is));
           stopped = stopped ∙ (h.stopped ∙ ap (λ (x : TreeState). x.stopped) (sym is));
-          sound = event_sound t (Prune w a) h.sound (legal read t h);
+          sound = event_sound t (Prune w a) h.sound (legal read t h known);
           rooted = subst (λ (x : TreeState). IsRooted x.root) (sym is)
               (rooted_pruned n (record (s.level) { spent = s.level.spent + 1 }) s.above (Inner (single t.next (with_nodes (node_of (levels_of s)) top.entry))));
         }
 
-  pub cut_taken : Notes old new (Prune w a)
-  cut_taken = record {
+  pub cut_taken : (read : Reading) (t : TreeState) → IsPublicOf old read t → CutsAs old.nodes.rows n body w a read t → NotesIn old new (Prune w a) read t
+  cut_taken read t h known = record {
     noted = events;
     budget = budget;
     window = window;
-    legal = legal;
-    stands = λ read t h. by_out old w a out read t h (λ s e. stands read t h s e);
+    legal = legal read t h known;
+    stands = by_out old w a out read t h (λ s e. stands read t h known s e);
   }

@@ -121,12 +121,14 @@ IsGateAt t s (CutGate n) = gate_of t s ≡ Some (CutGate n)
 IsGateAt t s (BallGate n) = gate_of t s ≡ Some (BallGate n)
 IsGateAt t s WorldGate = gate_of t s ≡ Some WorldGate
 
-abbrev pub IsItsGate : PublicView → ℕ → Place → Gate → Type 0
-IsItsGate p w a g = (read : Reading) (t : TreeState) (s : Spot) → IsPublicOf p read t → taken_at w a t ≡ Some s → IsGateAt t s g
+-- in this tree, the gate of what is out to a worker
+abbrev pub IsItsGate : Gate → ℕ → Place → TreeState → Type 0
+IsItsGate g w a t = (s : Spot) → taken_at w a t ≡ Some s → IsGateAt t s g
 
--- it is given back to wait, or the tree had ended or been stopped
+-- in each tree for which it stands and of which this is the gate it is given back to wait; or the tree had ended or been stopped
 abbrev pub Suspends : PublicView → PublicView → ℕ → Place → Gate → Type 0
-Suspends old new w a g = Notes old new (Suspend w a (is_frozen_gate g))
+Suspends old new w a g =
+    ((read : Reading) (t : TreeState) → IsPublicOf old read t → IsItsGate g w a t → NotesIn old new (Suspend w a (is_frozen_gate g)) read t)
     ⊎ (IsSameTree old new × ((read : Reading) (t : TreeState) → IsPublicOf old read t → is_going t ≡ false))
 
 -- whether a worker has what is here

@@ -1,4 +1,5 @@
-//! What is handed out to workers.
+//! What is handed out to workers. The gate for which a worker gives something back is its to know: the contract speaks of the
+//! trees of which that is the gate.
 ghost use Rattle.std.specs.Prelude.{◌≡◌, ◌+◌, ◌<◌, ◌≤◌, None, Some, true, false, length, is_some, IsSome, IfOk, OnErr};
 ghost use Rattle.std.specs.Bool.{OnTrue};
 ghost use Rattle.std.specs.List.{list_any};
@@ -13,7 +14,7 @@ ghost use Rattle.tree_nodes.specs.Puts.{IsPlaceIn};
 ghost use Rattle.tree_nodes.specs.Rows.{cell_at, cell_view, gate_view};
 ghost use Rattle.tree_nodes.specs.RowViews.{parent_view};
 ghost use Rattle.public_tree.specs.PublicTrees.{promised_out, Answers, IsSameTree, HandsOut, is_going, IsHeldAt, Offers, IsLeftmostAt};
-ghost use Rattle.public_tree.specs.PublicTrees.{IsOut, IsItsGate, Suspends, GivesUp, is_frozen_gate, is_taken_at, is_taken_cell};
+ghost use Rattle.public_tree.specs.PublicTrees.{IsOut, Suspends, GivesUp, is_frozen_gate, is_taken_at, is_taken_cell};
 
 use crate::lost::{index_of, take_out};
 use crate::public::PublicTree;
@@ -69,7 +70,6 @@ impl PublicTree {
     pub fn suspend(&mut self, worker: u32, at: AltRef, gate: GateKind)
         requires there { IsSome (cell_at self.old.nodes.rows (place_view at)) }
         requires out { IsOut self.old worker (place_view at) }
-        requires gate { IsItsGate self.old worker (place_view at) (gate_view gate) }
         requires promised { 0 < self.old.log.promised }
         ensures suspends { Suspends self.old self.new worker (place_view at) (gate_view gate) }
         ensures promised { self.old.log.promised ≤ self.new.log.promised + 1 }

@@ -1,16 +1,16 @@
-//! Cuts and balls that are taken.
+//! Cuts and balls that are taken. What each leaves, by the clauses of the job, is the caller's to know: contracts speak of the
+//! trees of which that holds.
 ghost use Rattle.std.specs.Prelude.{◌≡◌, ◌<◌, true, IsSome, IfOk, OnErr, map};
 ghost use Rattle.std.specs.Bool.{OnTrue};
 ghost use Rattle.std.specs.Arc.{arc_value};
 ghost use Rattle.tree_model.specs.EventViews.{place_view};
-ghost use Rattle.tree_model.specs.Nodes.{CutGate, BallGate};
 ghost use Rattle.tree_nodes.specs.Bodies.{IsWhole, body_view};
 ghost use Rattle.tree_nodes.specs.Changes.{IsOpenCell};
 ghost use Rattle.tree_nodes.specs.Rows.{cell_at, scope_number};
 ghost use Rattle.public_tree.specs.LostTasks.{task_view};
 ghost use Rattle.public_tree.specs.PrunedTasks.{FindsTasks};
-ghost use Rattle.public_tree.specs.PublicTrees.{IsSameTree, IsOut, IsItsGate};
-ghost use Rattle.public_tree.specs.PublicPruning.{IsClearedAt, ReadsCut, ReadsFall, Prunes, promised_after};
+ghost use Rattle.public_tree.specs.PublicTrees.{IsSameTree, IsOut};
+ghost use Rattle.public_tree.specs.PublicPruning.{IsClearedAt, CutsAs, LandsAs, Prunes, promised_after};
 
 use crate::lost::LostTask;
 use crate::pruned_tasks::gather;
@@ -46,11 +46,9 @@ impl PublicTree {
         body: Arc<NodeBody>,
     ) -> Result<Pruning, NoMemory>
         requires out { IsOut self.old worker (place_view at) }
-        requires gate { IsItsGate self.old worker (place_view at) (CutGate (scope_number scope)) }
         requires whole { IsWhole (body_view (arc_value body)) }
-        requires reads { ReadsCut self.old worker (place_view at) (body_view (arc_value body)) }
         requires promised { 0 < self.old.log.promised }
-        ensures prunes { IfOk result (λ p. Prunes self.old self.new worker (place_view at) p) }
+        ensures prunes { IfOk result (λ p. Prunes self.old self.new worker (place_view at) (CutsAs self.old.nodes.rows (scope_number scope) (body_view (arc_value body))) p) }
         ensures promised { IfOk result (λ p. self.new.log.promised ≡ promised_after p self.old.log.promised) }
         ensures err { OnErr result (IsSameTree self.old self.new) }
         ensures kept { OnErr result (self.new.log.promised ≡ self.old.log.promised) }
@@ -79,11 +77,9 @@ impl PublicTree {
         body: Arc<NodeBody>,
     ) -> Result<Pruning, NoMemory>
         requires out { IsOut self.old worker (place_view at) }
-        requires gate { IsItsGate self.old worker (place_view at) (BallGate (scope_number scope)) }
         requires whole { IsWhole (body_view (arc_value body)) }
-        requires reads { ReadsFall self.old worker (place_view at) (scope_number scope) (body_view (arc_value body)) }
         requires promised { 0 < self.old.log.promised }
-        ensures prunes { IfOk result (λ p. Prunes self.old self.new worker (place_view at) p) }
+        ensures prunes { IfOk result (λ p. Prunes self.old self.new worker (place_view at) (LandsAs self.old.nodes.rows (scope_number scope) (body_view (arc_value body))) p) }
         ensures promised { IfOk result (λ p. self.new.log.promised ≡ promised_after p self.old.log.promised) }
         ensures err { OnErr result (IsSameTree self.old self.new) }
         ensures kept { OnErr result (self.new.log.promised ≡ self.old.log.promised) }

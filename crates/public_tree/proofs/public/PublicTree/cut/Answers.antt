@@ -21,7 +21,7 @@ returns-then-not-is_cleared-clause-prunes c =
     let cleared : IsClearedAt old.nodes a n false
     = subst (λ (p : PublicView). IsClearedAt p.nodes a n false) c.self.view_is
     (subst (IsClearedAt c.self.inside.nodes a n) c.if-not-is_cleared.true c.is_cleared.ensures.cleared) in
-    (same_tree old, not_cleared old c.args.worker a n going c.requires.out c.requires.gate cleared)
+    (same_tree old, not_cleared old c.args.worker a n (body_view (arc_value c.args.body)) going c.requires.out cleared)
 
 pub returns-clause-prunes : goal.returns-clause-prunes
 returns-clause-prunes c =
@@ -43,5 +43,5 @@ returns-clause-prunes c =
     let stopped : c.note_back.new.self.stopped ≡ old.log.stopped = c.note_back.ensures.stopped ∙ ap (λ (p : PublicView). p.log.stopped) was in
     let events : c.note_back.new.self.events ≡ old.log.events ++ Prune w a ∷ []
     = c.note_back.ensures.events ∙ ap (λ (es : List Event). es ++ Prune w a ∷ []) (ap (λ (p : PublicView). p.log.events) was) in
-    cut_taken w old _ a n body going c.requires.out c.requires.gate c.requires.reads cleared cuts rows lost (ap (λ (p : PublicView). p.halted) was)
+    cut_taken w old _ a n body going c.requires.out cleared cuts rows lost (ap (λ (p : PublicView). p.halted) was)
     (ap (λ (p : PublicView). p.budget) was) (ap (λ (p : PublicView). p.window) was) stopped events

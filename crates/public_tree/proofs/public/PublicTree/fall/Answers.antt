@@ -23,7 +23,7 @@ returns-then-not-is_cleared-clause-prunes c =
     let cleared : IsClearedAt old.nodes a n false
     = subst (λ (p : PublicView). IsClearedAt p.nodes a n false) c.self.view_is
     (subst (IsClearedAt c.self.inside.nodes a n) c.if-not-is_cleared.true c.is_cleared.ensures.cleared) in
-    (same_tree old, not_cleared old c.args.worker a n going c.requires.out c.requires.gate cleared)
+    (same_tree old, not_cleared old c.args.worker a n (body_view (arc_value c.args.body)) going c.requires.out cleared)
 
 pub returns-in_default-clause-prunes : goal.returns-in_default-clause-prunes
 returns-in_default-clause-prunes c =
@@ -36,7 +36,7 @@ returns-in_default-clause-prunes c =
     let nowhere : LandsNowhere old.nodes a n
     = subst (λ (p : PublicView). LandsNowhere p.nodes a n) c.self.view_is
     (subst (λ (o : Option Landing). FindsLanding c.self.inside.nodes a n o) c.in_default.is c.in_ok-landing.ensures.finds) in
-    (same_tree old, no_landing old c.args.worker a n c.requires.out c.requires.gate cleared nowhere)
+    (same_tree old, no_landing old c.args.worker a n (body_view (arc_value c.args.body)) c.requires.out cleared nowhere)
 
 pub returns-clause-prunes : goal.returns-clause-prunes
 returns-clause-prunes c =
@@ -63,5 +63,5 @@ returns-clause-prunes c =
     let stopped : c.note_back.new.self.stopped ≡ old.log.stopped = c.note_back.ensures.stopped ∙ ap (λ (p : PublicView). p.log.stopped) was in
     let events : c.note_back.new.self.events ≡ old.log.events ++ Prune w a ∷ []
     = c.note_back.ensures.events ∙ ap (λ (es : List Event). es ++ Prune w a ∷ []) (ap (λ (p : PublicView). p.log.events) was) in
-    ball_taken w old _ a b n total body going c.requires.out c.requires.gate c.requires.reads cleared lands beside rows lost
+    ball_taken w old _ a b n total body going c.requires.out cleared lands beside rows lost
     (ap (λ (p : PublicView). p.halted) was) (ap (λ (p : PublicView). p.budget) was) (ap (λ (p : PublicView). p.window) was) stopped events

@@ -30,4 +30,4 @@ returns-clause-suspends c =
     = c.note_back.ensures.events
     ∙ (ap (λ (es : List Event). es ++ Suspend w a c.is_frozen-frozen.result ∷ []) (ap (λ (p : PublicView). p.log.events) was)
     ∙ ap (λ (b : Bool). old.log.events ++ Suspend w a b ∷ []) c.is_frozen-frozen.ensures) in
-    inl (given_back w old _ a g going c.requires.out c.requires.gate (record { held = held; rows = rows; others = others; stopped = stopped }) events)
+    inl (given_back w old _ a g going c.requires.out (record { held = held; rows = rows; others = others; stopped = stopped }) events)
