@@ -21,64 +21,64 @@ fn variable(alloc: Global) -> Result<FlatTerm, Fail> {
     Ok(FlatTerm::from_slice(alloc, &[Cell::Var(0)])?)
 }
 
-/// Adds a clause.
-fn push(
-    alloc: Global,
-    clauses: &mut Vec<Arc<Clause>>,
-    head: &FlatTerm,
-    body: &FlatTerm,
-) -> Result<(), Fail> {
+fn clause(alloc: Global, head: &FlatTerm, body: &FlatTerm) -> Result<Arc<Clause>, Fail> {
     match compile(alloc, head, body) {
-        Ok(clause) => clauses.push(clause)?,
+        Ok(clause) => Ok(clause),
         Err(_) => Err("a clause")?,
     }
-    Ok(())
 }
 
-/// Adds the fact `p(N)`.
-fn push_fact(alloc: Global, clauses: &mut Vec<Arc<Clause>>, value: i64) -> Result<(), Fail> {
+/// The fact `p(N)`.
+fn fact(alloc: Global, value: i64) -> Result<Arc<Clause>, Fail> {
     let head = unary(alloc, "p", &number(alloc, value)?)?;
-    push(alloc, clauses, &head, &atom(alloc, "true")?)
+    clause(alloc, &head, &atom(alloc, "true")?)
 }
 
-/// Adds `q(X) :- p(X), X > 1`.
-fn push_rule(alloc: Global, clauses: &mut Vec<Arc<Clause>>) -> Result<(), Fail> {
+/// `p(X), X > 1`.
+fn body(alloc: Global, x: &FlatTerm) -> Result<FlatTerm, Fail> {
+    let test = binary(alloc, ">", x, &number(alloc, 1)?)?;
+    Ok(binary(alloc, ",", &unary(alloc, "p", x)?, &test)?)
+}
+
+/// `q(X) :- p(X), X > 1`.
+fn rule(alloc: Global) -> Result<Arc<Clause>, Fail> {
     let x = variable(alloc)?;
-    let call = unary(alloc, "p", &x)?;
-    let test = binary(alloc, ">", &x, &number(alloc, 1)?)?;
-    let body = binary(alloc, ",", &call, &test)?;
-    push(alloc, clauses, &unary(alloc, "q", &x)?, &body)
+    clause(alloc, &unary(alloc, "q", &x)?, &body(alloc, &x)?)
 }
 
 /// The text of `p(1)`, `p(2)` and `q(X) :- p(X), X > 1`.
 fn text(alloc: Global) -> Result<Arc<Text>, Fail> {
     let mut clauses = Vec::new(alloc);
-    push_fact(alloc, &mut clauses, 1)?;
-    push_fact(alloc, &mut clauses, 2)?;
-    push_rule(alloc, &mut clauses)?;
+    clauses.push(fact(alloc, 1)?)?;
+    clauses.push(fact(alloc, 2)?)?;
+    clauses.push(rule(alloc)?)?;
     Ok(Arc::new(alloc, Text::new(alloc, clauses)?)?)
 }
 
-/// A region in which a goal is to be taken, whose variables are so many.
-fn region_of(
+/// Puts a goal into a region of as many variables as it has: where it is taken.
+fn put(
     rt: &impl Abort,
     alloc: Global,
+    region: &mut Region,
     goal: FlatTerm,
-    variables: u32,
-) -> Result<(Region, Option<Position>), Fail>
-    ensures { IfOk result (λ start. IsOptionalPosition start.0 (length start.0.choices) start.1) }
+) -> Result<Option<Position>, Fail>
+    ensures { IfOk result (IsOptionalPosition region.new (length region.new.choices)) }
 {
-    let mut region = Region::new(alloc, text(alloc)?)?;
-    region.fresh(variables)?;
-    let nothing = region.nothing_left();
-    region.push_choice(Alternatives::QueryEnd, nothing)?;
     let goal = Shared::from_term(alloc, goal)?;
     assert!(rt; goal.to_term(alloc)?.bound() <= VarNo::from(region.store().next()));
     let value = region.copy_in(&goal)?;
     let cut = region.scope()?;
     let after = region.nothing_left();
-    let position = region.push_item(FrameItem::Goal(value), cut, after)?;
-    Ok((region, Some(position)))
+    Ok(Some(region.push_item(FrameItem::Goal(value), cut, after)?))
+}
+
+/// A region with so many variables, in which a query ends.
+fn region(alloc: Global, variables: u32) -> Result<Region, Fail> {
+    let mut region = Region::new(alloc, text(alloc)?)?;
+    region.fresh(variables)?;
+    let nothing = region.nothing_left();
+    region.push_choice(Alternatives::QueryEnd, nothing)?;
+    Ok(region)
 }
 
 /// Runs on.
@@ -95,46 +95,76 @@ fn go_on(
     run(region, alloc, &kinds, start, limit)
 }
 
+/// Why a run stopped.
+#[derive(Clone, Copy, Debug, PartialEq, Eq)]
+enum Why {
+    Answer,
+    Limit,
+    Uncaught,
+    World,
+    Other,
+}
+
+fn reason(stop: &Stop) -> Why {
+    match stop {
+        Stop::Answer(_) => Why::Answer,
+        Stop::Limit(_, _) => Why::Limit,
+        Stop::QueryDone(Some(_)) => Why::Uncaught,
+        Stop::World(_, _) => Why::World,
+        _ => Why::Other,
+    }
+}
+
+/// A goal is run to a limit: it takes so many steps, and stops so.
+fn check_in(
+    rt: &impl Abort,
+    alloc: Global,
+    region: &mut Region,
+    goal: FlatTerm,
+    limit: u64,
+    taken: u64,
+    wanted: Why,
+) -> Result<(), Fail> {
+    let start = put(rt, alloc, region, goal)?;
+    let ran = go_on(alloc, region, start, limit)?;
+    assert_eq!(rt; ran.taken, taken);
+    assert_eq!(rt; reason(&ran.stop), wanted);
+    Ok(())
+}
+
+fn check(
+    rt: &impl Abort,
+    alloc: Global,
+    goal: FlatTerm,
+    limit: u64,
+    taken: u64,
+    wanted: Why,
+) -> Result<(), Fail> {
+    let variables = if goal.bound() == 0 { 0 } else { 1 };
+    let mut region = region(alloc, variables)?;
+    check_in(rt, alloc, &mut region, goal, limit, taken, wanted)
+}
+
 #[test]
 fn second_clause_answers(rt: HostRuntime) -> Result<(), Fail> {
-    let alloc = rt.alloc();
-    let goal = unary(alloc, "q", &variable(alloc)?)?;
-    let (mut region, start) = region_of(&rt, alloc, goal, 1)?;
-    let ran = go_on(alloc, &mut region, start, 100)?;
-    assert_eq!(rt; ran.taken, 4);
-    assert!(rt; matches!(ran.stop, Stop::Answer(_)));
-    Ok(())
+    let goal = unary(rt.alloc(), "q", &variable(rt.alloc())?)?;
+    check(&rt, rt.alloc(), goal, 100, 4, Why::Answer)
 }
 
 #[test]
 fn limit_stops_before_the_next_goal(rt: HostRuntime) -> Result<(), Fail> {
-    let alloc = rt.alloc();
-    let goal = unary(alloc, "q", &variable(alloc)?)?;
-    let (mut region, start) = region_of(&rt, alloc, goal, 1)?;
-    let ran = go_on(alloc, &mut region, start, 3)?;
-    assert_eq!(rt; ran.taken, 3);
-    assert!(rt; matches!(ran.stop, Stop::Limit(_, _)));
-    Ok(())
+    let goal = unary(rt.alloc(), "q", &variable(rt.alloc())?)?;
+    check(&rt, rt.alloc(), goal, 3, 3, Why::Limit)
 }
 
 #[test]
 fn uncaught_ball_ends_the_query(rt: HostRuntime) -> Result<(), Fail> {
-    let alloc = rt.alloc();
-    let goal = unary(alloc, "throw", &atom(alloc, "oops")?)?;
-    let (mut region, start) = region_of(&rt, alloc, goal, 0)?;
-    let ran = go_on(alloc, &mut region, start, 100)?;
-    assert_eq!(rt; ran.taken, 1);
-    assert!(rt; matches!(ran.stop, Stop::QueryDone(Some(_))));
-    Ok(())
+    let goal = unary(rt.alloc(), "throw", &atom(rt.alloc(), "oops")?)?;
+    check(&rt, rt.alloc(), goal, 100, 1, Why::Uncaught)
 }
 
 #[test]
 fn unknown_procedures_are_the_worlds(rt: HostRuntime) -> Result<(), Fail> {
-    let alloc = rt.alloc();
-    let goal = unary(alloc, "unknown", &number(alloc, 1)?)?;
-    let (mut region, start) = region_of(&rt, alloc, goal, 0)?;
-    let ran = go_on(alloc, &mut region, start, 100)?;
-    assert_eq!(rt; ran.taken, 0);
-    assert!(rt; matches!(ran.stop, Stop::World(_, _)));
-    Ok(())
+    let goal = unary(rt.alloc(), "unknown", &number(rt.alloc(), 1)?)?;
+    check(&rt, rt.alloc(), goal, 100, 0, Why::World)
 }
