@@ -24,7 +24,7 @@ IsClearedAt nodes a scope result =
     (read : Reading) (v : Level) (up : List Level) (hold : Hold) (entry : Entry) → place_at v ≡ a
     → IsTableOf nodes read (plug (v ∷ up) (Pending hold entry)) → result ≡ is_cleared (Some scope) (v ∷ up)
 
--- in this tree, what is out to a worker has come to this gate, where something is left of it
+-- in this tree, what is out to a worker has come to this gate, and this holds of what is left there
 abbrev pub AtGate : Gate → ℕ → Place → (Spot → List Entry → Type 0) → TreeState → Type 0
 AtGate g w a Left t =
     (s : Spot) → taken_at w a t ≡ Some s → (gate_of t s ≡ Some g) × Left s (or_none (taken_alone t.job.clauses (spot_stack s)))
