@@ -30,7 +30,7 @@ abbrev pub IsAround : List Level → Profile → Type 0
 IsAround [] p = Unit {0}
 IsAround (v ∷ up) p = IsLevel up v p × IsAround up IsOpen
 
-profiles-put : (left : List (ℕ × Status)) (others : Alternatives) → profiles (put_left left others) ≡ put_profiles left (profiles others)
+pub profiles-put : (left : List (ℕ × Status)) (others : Alternatives) → profiles (put_left left others) ≡ put_profiles left (profiles others)
 profiles-put [] others = refl
 profiles-put (a ∷ left) others = profiles-put left (alternative a.0 a.1 others)
 

@@ -34,7 +34,7 @@ mod ClosingListLemmas
 mod ClosingSoundLemmas
 mod CollapseLemmas
 mod CollectedRunLemmas
-mod ContextLemmas
+pub mod ContextLemmas
 mod CreditLawLemmas
 mod CutFollowsLemmas
 mod CutSegmentLemmas
@@ -43,7 +43,7 @@ mod EarlyLemmas
 mod EmptyRunLemmas
 mod EndLemmas
 mod LongCreditLemmas
-mod EntryLemmas
+pub mod EntryLemmas
 mod CatchingLemmas
 mod FarNameLemmas
 mod FieldLemmas
@@ -65,7 +65,7 @@ mod GatePrivateLemmas
 mod GivenHeightLemmas
 mod GivenRecordLemmas
 mod GoingLemmas
-mod GrowingLemmas
+pub mod GrowingLemmas
 mod HaltMoveLemmas
 mod HandOutCountLemmas
 mod HistoryTheorems
@@ -159,7 +159,7 @@ mod DistinctNameLemmas
 pub mod UnchangedPlaceLemmas
 mod UpperBlindLemmas
 mod WakeLemmas
-mod WayLemmas
+pub mod WayLemmas
 mod WorldGoalLemmas
 mod LegalTreeLemmas
 mod PlacedShapeLemmas

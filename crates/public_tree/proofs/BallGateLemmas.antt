@@ -17,34 +17,15 @@ use Rattle.tree_model.specs.Floors.{renamed_continuation, height_of, node_of, wi
 use Rattle.tree_model.specs.Gates.{ball_scope, is_caught_above, goal_gate, item_gate, gate_on}
 use Rattle.tree_model.specs.PendingLists.{Way, way_of}
 use Rattle.tree_model.specs.PrivateRuns.{goal_alone, item_alone, taken_alone}
-use Rattle.tree_model.specs.SoundTrees.{Profile, IsOpen, IsDormant, IsShut, guards, profile, profiles, none_dormant, are_pair, is_shape, AreSound, IsSound}
+use Rattle.tree_model.specs.SoundTrees.{Profile, IsOpen, IsDormant, guards, profile, profiles, are_pair, is_shape, AreSound, IsSound}
 use Rattle.tree_model.specs.Ways.{is_on, is_query, under_query}
+use Rattle.interleaving.proofs.ContextLemmas.{put_profiles, profiles-put}
+use Rattle.interleaving.proofs.EntryLemmas.{length-floor}
+use Rattle.interleaving.proofs.GrowingLemmas.{none_dormant-of}
+use Rattle.interleaving.proofs.WayLemmas.{cond-true, cond-false, other_number}
 use Rattle.prune_ops.specs.Falls.{down_to, sleeper_on}
 
--- a test whose value is known
-cond-true : {A : Type 0} → (b : Bool) (x y : A) → b ≡ true → cond b x y ≡ x
-cond-true true x y h = refl
-cond-true false x y h = absurd cc
-
-cond-false : {A : Type 0} → (b : Bool) (x y : A) → b ≡ false → cond b x y ≡ y
-cond-false false x y h = refl
-cond-false true x y h = absurd cc
-
-length-floor : (levels : List Level) → length (floor_of levels) ≡ length levels
-length-floor [] = refl
-length-floor (v ∷ up) = ap suc (length-floor up)
-
-other_number : (way : Way) (n s : ℕ) → is_on way n ≡ false → is_on way s ≡ true → (b : Bool) → (n == s) ≡ b → b ≡ false
-other_number way n s h k false e = refl
-other_number way n s h k true e =
-    let same : n ≡ s = grind arith in
-    absurd (let z : false ≡ true = sym h ∙ (ap (is_on way) same ∙ k) in cc z)
-
 -- the levels of a place of a sound tree: no number comes twice, and each node has its shape
-abbrev put_profiles : List (ℕ × Status) → List Profile → List Profile
-put_profiles [] ps = ps
-put_profiles (a ∷ left) ps = put_profiles left (profile a.1 ∷ ps)
-
 record IsLevel (up : List Level) (v : Level) (p : Profile) : Type 0 where
   new : is_on (way_of up) v.number ≡ false
   shape : is_shape v.kind (put_profiles v.left (p ∷ profiles v.right)) ≡ true
@@ -52,10 +33,6 @@ record IsLevel (up : List Level) (v : Level) (p : Profile) : Type 0 where
 abbrev AreLevels : List Level → Profile → Type 0
 AreLevels [] p = Unit {0}
 AreLevels (v ∷ up) p = IsLevel up v p × AreLevels up IsOpen
-
-profiles-put : (left : List (ℕ × Status)) (others : Alternatives) → profiles (put_left left others) ≡ put_profiles left (profiles others)
-profiles-put [] others = refl
-profiles-put (a ∷ left) others = profiles-put left (alternative a.0 a.1 others)
 
 sound_from : (way : Way) (n : ℕ) (kind : Kind) (left : List (ℕ × Status)) (others : Alternatives) → AreSound way n kind 0 (put_left left others)
     → AreSound way n kind (length left) others
@@ -89,19 +66,10 @@ no_three k left a b c ps h =
     let z : false ≡ true = ap (are_pair k) (sym t.is) ∙ h in
     cc z
 
-none_after : (left : List (ℕ × Status)) (ps : List Profile) → none_dormant (put_profiles left ps) ≡ true → none_dormant ps ≡ true
-none_after [] ps h = h
-none_after (x ∷ left) ps h = by_profile (profile x.1) (none_after left (profile x.1 ∷ ps) h)
-  where
-    by_profile : (p : Profile) → none_dormant (p ∷ ps) ≡ true → none_dormant ps ≡ true
-    by_profile IsOpen k = k
-    by_profile IsShut k = k
-    by_profile (IsDormant j) k = absurd (cc k)
-
 dormant_first : (kind : Kind) (left : List (ℕ × Status)) (k : Kind) (ps : List Profile) → is_shape kind (put_profiles left (IsOpen ∷ (IsDormant k ∷ ps))) ≡ true
     → length left ≡ 0
 dormant_first kind [] k ps h = refl
-dormant_first ChoiceNode (a ∷ left) k ps h = absurd (let z : false ≡ true = none_after (a ∷ left) (IsOpen ∷ (IsDormant k ∷ ps)) h in cc z)
+dormant_first ChoiceNode (a ∷ left) k ps h = absurd (let z : false ≡ true = none_dormant-of (a ∷ left) (IsOpen ∷ (IsDormant k ∷ ps)) h in cc z)
 dormant_first CatchNode (a ∷ left) k ps h = absurd (no_three CatchNode left (profile a.1) IsOpen (IsDormant k) ps h)
 dormant_first FindallNode (a ∷ left) k ps h = absurd (no_three FindallNode left (profile a.1) IsOpen (IsDormant k) ps h)
 dormant_first QueryNode (a ∷ left) k ps h = absurd (no_three QueryNode left (profile a.1) IsOpen (IsDormant k) ps h)
