@@ -3,4 +3,4 @@ tree(0) :- !.
 tree(N) :- M is N - 1, branch(M).
 branch(N) :- tree(N).
 branch(N) :- tree(N).
-?- tree(17), fail.
+?- tree(20), fail.

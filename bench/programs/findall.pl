@@ -5,4 +5,4 @@ count([], 0).
 count([_|T], N) :- count(T, M), N is M + 1.
 rounds(0) :- !.
 rounds(N) :- findall(L, (digit(_), rows(L)), Ls), count(Ls, 10), M is N - 1, rounds(M).
-?- rounds(50).
+?- rounds(250).

@@ -1,4 +1,4 @@
-% Maps of six regions coloured with four colours, all ways, two hundred times.
+% Maps of six regions coloured with four colours, all ways, two thousand times.
 colour(red). colour(green). colour(blue). colour(yellow).
 other(A, B) :- A \== B.
 map([A,B,C,D,E,F]) :-
@@ -8,4 +8,4 @@ rounds(0) :- !.
 rounds(N) :- count, M is N - 1, rounds(M).
 count :- map(_), fail.
 count.
-?- rounds(200).
+?- rounds(2000).

@@ -5,4 +5,4 @@ tak(X, Y, Z, A) :-
     Y1 is Y - 1, tak(Y1, Z, X, A2),
     Z1 is Z - 1, tak(Z1, X, Y, A3),
     tak(A1, A2, A3, A).
-?- tak(18, 12, 6, 7).
+?- tak(24, 16, 8, 9).

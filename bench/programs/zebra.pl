@@ -1,4 +1,4 @@
-% Who owns the zebra? Five houses and fifteen hints, twenty times.
+% Who owns the zebra? Five houses and fifteen hints, a hundred times.
 right_of(X, Y, [Y,X|_]).
 right_of(X, Y, [_|T]) :- right_of(X, Y, T).
 beside(X, Y, L) :- right_of(X, Y, L).
@@ -23,4 +23,4 @@ zebra(Owner) :-
     among(h(_,water,_,_,_), Hs).
 rounds(0) :- !.
 rounds(N) :- zebra(_), !, M is N - 1, rounds(M).
-?- rounds(20).
+?- rounds(100).
