@@ -15,7 +15,7 @@ use Rattle.clause_compile.specs.declared.item.Item.TheVariants.{End}
 use Rattle.tree_model.specs.Nodes.{QueryNode, Ready, Dormant, Numbered, none, alternative, Pending}
 use Rattle.tree_nodes.specs.Bodies.{Body, QueryBody}
 use Rattle.branch_reading.specs.Readings.{items_meant, entry_meant, entry_bound, queries_on, named_of, bound_by, or_nothing}
-use Rattle.branch_reading.specs.QueryNodes.{goals_in, OpensQuery}
+use Rattle.branch_reading.specs.QueryNodes.{goals_in, MakesQueryNode}
 
 items_of_goals : (n : ℕ) (gs : List Term) → items_meant (goals_in n gs) ≡ goals_at n gs
 items_of_goals n [] = refl
@@ -67,7 +67,7 @@ first_begins n q =
 three : {A B C D : Type 0} (f : A → B → C → D) {a b : A} {c d : B} {e g : C} → a ≡ b → c ≡ d → e ≡ g → f a c e ≡ f b d g
 three f h i j = cc
 
-made_opens : (goals : List BranchItem) (vars : ℕ) (end : Branch) → end.goals ≡ End None ∷ [] → OpensQuery goals vars (query_made goals vars end)
+made_opens : (goals : List BranchItem) (vars : ℕ) (end : Branch) → end.goals ≡ End None ∷ [] → MakesQueryNode goals vars (query_made goals vars end)
 made_opens goals vars end ends job way n q here gs vs =
     ap₂ (λ a b. Numbered n QueryNode (alternative 0 (Pending Ready a) (alternative 0 (Pending Dormant b) none)))
     (three first_read gs here (let e : 0 + vars ≡ query_bound q = omega (vs, arith) in e) ∙ first_begins n q)
@@ -76,7 +76,7 @@ made_opens goals vars end ends job way n q here gs vs =
     (or_nothing (bound_by (end.segment ∷ taking 0 ∷ []))))) ends)
 
 pub opens : (goals : List BranchItem) (vars : ℕ) (end : Branch) (body : Body) → end.goals ≡ End None ∷ []
-    → body.segment ≡ taking 0 → body.branches ≡ record { goals = goals; segment = taking vars } ∷ end ∷ [] → body.kind ≡ QueryBody → OpensQuery goals vars body
+    → body.segment ≡ taking 0 → body.branches ≡ record { goals = goals; segment = taking vars } ∷ end ∷ [] → body.kind ≡ QueryBody → MakesQueryNode goals vars body
 opens goals vars end body ends s bs k =
     let same : query_made goals vars end ≡ body = three (λ s bs k. record { segment = s; branches = bs; kind = k }) (sym s) (sym bs) (sym k) in
-    subst (OpensQuery goals vars) same (made_opens goals vars end ends)
+    subst (MakesQueryNode goals vars) same (made_opens goals vars end ends)

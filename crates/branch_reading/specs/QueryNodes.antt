@@ -17,8 +17,8 @@ abbrev pub goals_in : ℕ → List Term → List BranchItem
 goals_in n gs = map (λ g. Goal g (Node n)) gs
 
 -- below a branch on which all queries before it have ended, a node of these goals and so many variables is that of its query
-abbrev pub OpensQuery : List BranchItem → ℕ → Body → Type 0
-OpensQuery goals vars body =
+abbrev pub MakesQueryNode : List BranchItem → ℕ → Body → Type 0
+MakesQueryNode goals vars body =
     (job : Job) (way : Branching) (n : ℕ) (q : Query) → slice_get job.queries (queries_on way) ≡ Some q
     → goals ≡ goals_in n q.goals → vars ≡ query_bound q → new_node (reading job) way n body ≡ opened_node n q
 

@@ -47,9 +47,9 @@ abbrev pub bound_by : List Segment → Option Substitution
 bound_by segments = unifier (segment_equations segments)
 
 -- the next variable number after those that a branch took
-abbrev pub next_after : List Segment → ℕ
-next_after [] = 0
-next_after (s ∷ above) = s.base + s.vars
+abbrev pub next_number : List Segment → ℕ
+next_number [] = 0
+next_number (s ∷ above) = s.base + s.vars
 
 -- the queries that have been opened on a branch
 abbrev pub query_count : BodyKind → ℕ
@@ -118,7 +118,7 @@ branch_items None = []
 branch_items (Some b) = b.goals
 
 abbrev pub continuation_on : Job → Branching → List BranchItem → Continuation ℕ
-continuation_on job way items = record { items = items_meant items; named = named_of (query_on job way); next = next_after (segments_on way) }
+continuation_on job way items = record { items = items_meant items; named = named_of (query_on job way); next = next_number (segments_on way) }
 
 abbrev pub reading : Job → Reading
 reading job [] = EndEntry None

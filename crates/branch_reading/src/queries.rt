@@ -4,7 +4,7 @@ ghost use Rattle.std.specs.Arc.{arc_value};
 ghost use Rattle.clause_compile.specs.declared.item.Item.TheVariants.{End};
 ghost use Rattle.tree_closing.specs.Closings.{IsSingle};
 ghost use Rattle.tree_nodes.specs.Bodies.{IsWhole, body_view};
-ghost use Rattle.branch_reading.specs.QueryNodes.{OpensQuery, IsQueryBody, ReadsAsEnd};
+ghost use Rattle.branch_reading.specs.QueryNodes.{MakesQueryNode, IsQueryBody, ReadsAsEnd};
 
 use au_term::{Bindings, NoMemory, Segment};
 use clause_compile::{Branch, Goals, Item};
@@ -15,7 +15,7 @@ use tree_nodes::{NodeBody, NodeKind};
 
 /// What the node of a query is made from: its goals, whose cuts cut to the node, and the number of its variables.
 pub fn query_body(alloc: Global, goals: Goals, vars: u64) -> Result<Arc<NodeBody>, NoMemory>
-    ensures opens { IfOk result (λ body. OpensQuery goals vars (body_view (arc_value body))) }
+    ensures opens { IfOk result (λ body. MakesQueryNode goals vars (body_view (arc_value body))) }
     ensures query { IfOk result (λ body. IsQueryBody (body_view (arc_value body))) }
     ensures whole { IfOk result (λ body. IsWhole (body_view (arc_value body))) }
 {

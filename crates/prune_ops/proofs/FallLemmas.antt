@@ -22,7 +22,7 @@ use Rattle.tree_nodes.proofs.PlaceLemmas.{left_cells, length-left_cells}
 use Rattle.tree_nodes.proofs.WalkLemmas.{cells_beside, cell_here, parent_here, one_level_up, no_level_up}
 use Rattle.tree_closing.specs.Sleeping.{right_of, is_asleep_at}
 use Rattle.tree_closing.proofs.SleeperLemmas.{none_beside, kind_here}
-use Rattle.prune_ops.specs.Falls.{closed_at, down_to, sleeper_on, RisesTo, LandsAt, LandsNowhere, LeavesAfter, LeavesRecords, IsGoalSide, HasNoSleeper}
+use Rattle.prune_ops.specs.Falls.{closed_at, down_to, sleeper_on, RisesTo, LandsBelow, LandsNowhere, LeavesAfter, LeavesRecords, IsGoalSide, HasNoSleeper}
 
 -- the number of a scope
 pub number_is : (s : Scope) (n m : ℕ) → (s ≡ scope.Node n) ⊎ (s ≡ scope.Local n) → m ≡ n → m ≡ scope_number s
@@ -216,7 +216,7 @@ module _ (nodes : NodesView) (a b : Place) (scope : ℕ) (old : Credit) (h : Ris
       ∙ (ap (λ (x : Bool). sleeper_on (cond x (k.level ∷ k.above) (down_to scope k.above))) (on_scope k.level k.at)
       ∙ none read k.level k.above k.status k.at table)
 
-  pub lands : (new : Credit) → LeavesAfter nodes b old new → b.index ≡ 0 → LandsAt nodes a scope b new
+  pub lands : (new : Credit) → LeavesAfter nodes b old new → b.index ≡ 0 → LandsBelow nodes a scope b new
   lands new leaves first read v up was p s c =
       let k = h read v up was p s c in
       let table = subst (IsTableOf nodes read) k.same s in

@@ -53,8 +53,8 @@ RisesTo nodes a scope b now =
     (read : Reading) (v : Level) (up : List Level) (was : Status) → place_at v ≡ a → IsTableOf nodes read (plug (v ∷ up) was)
     → is_cleared (Some scope) (v ∷ up) ≡ true → IsRisen scope v up was b now
 
-abbrev pub LandsAt : NodesView → Place → ℕ → Place → Credit → Type 0
-LandsAt nodes a scope b total =
+abbrev pub LandsBelow : NodesView → Place → ℕ → Place → Credit → Type 0
+LandsBelow nodes a scope b total =
     (read : Reading) (v : Level) (up : List Level) (was : Status) → place_at v ≡ a → IsTableOf nodes read (plug (v ∷ up) was)
     → is_cleared (Some scope) (v ∷ up) ≡ true → IsLanding scope v up was b total
 
@@ -65,7 +65,7 @@ LandsNowhere nodes a scope =
     → is_cleared (Some scope) (v ∷ up) ≡ true → sleeper_on (down_to scope (v ∷ up)) ≡ None
 
 abbrev pub FindsLanding : NodesView → Place → ℕ → Option Landing → Type 0
-FindsLanding nodes a scope (Some l) = LandsAt nodes a scope (place_view l.end) (credit_view l.credit)
+FindsLanding nodes a scope (Some l) = LandsBelow nodes a scope (place_view l.end) (credit_view l.credit)
 FindsLanding nodes a scope None = LandsNowhere nodes a scope
 
 abbrev pub IsLandingIn : Rows → Option Landing → Type 0

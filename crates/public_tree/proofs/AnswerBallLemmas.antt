@@ -30,7 +30,7 @@ use Rattle.tree_nodes.specs.Bodies.{Body, Reading}
 use Rattle.tree_nodes.specs.Rows.{PendingCell, InnerCell, cell_at}
 use Rattle.tree_nodes.specs.TreeTables.{IsTableOf}
 use Rattle.tree_nodes.proofs.WalkLemmas.{cell_here}
-use Rattle.prune_ops.specs.Falls.{down_to, sleeper_on, IsLanding, LandsAt, LandsNowhere, ReadsBeside, LandsBeside}
+use Rattle.prune_ops.specs.Falls.{down_to, sleeper_on, IsLanding, LandsBelow, LandsNowhere, ReadsBeside, LandsBeside}
 use Rattle.interleaving.proofs.OpenSpotLemmas.{taken_at_open}
 use Rattle.interleaving.proofs.UnchangedPlaceLemmas.{same_place-is, place_self}
 use Rattle.public_tree.specs.PublicTrees.{PublicView, IsRooted, IsPublicOf, is_going, IsOut}
@@ -158,7 +158,7 @@ no_landing p w a n body free out nowhere read t h falls = by_out p w a out read 
 
 -- it is thrown, and lands
 module _ (w : ℕ) (old new : PublicView) (a b : Place) (n : ℕ) (total : Credit) (body : Body) (free : IsBarred old a None)
-    (lands : LandsAt old.nodes a n b total) (beside : LandsBeside old.nodes new.nodes b total body) (rows : length new.nodes.rows ≡ length old.nodes.rows + 1)
+    (lands : LandsBelow old.nodes a n b total) (beside : LandsBeside old.nodes new.nodes b total body) (rows : length new.nodes.rows ≡ length old.nodes.rows + 1)
     (lost : FindsTasks old.nodes a n old.lost new.lost) (halted : new.halted ≡ old.halted) (budget : new.budget ≡ old.budget)
     (window : new.window ≡ old.window) (stopped : new.log.stopped ≡ old.log.stopped) where
   module _ (read : Reading) (t : TreeState) (s : Spot) (h : IsPublicOf old read t) (e : taken_at w a t ≡ Some s)

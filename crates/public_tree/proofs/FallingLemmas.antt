@@ -16,7 +16,7 @@ use Rattle.tree_model.specs.SoundTrees.{IsSound}
 use Rattle.tree_model.specs.TreeStates.{TreeState}
 use Rattle.tree_nodes.specs.Bodies.{Body, Reading}
 use Rattle.tree_nodes.specs.TreeTables.{IsTableOf}
-use Rattle.prune_ops.specs.Falls.{IsLanding, LandsAt, LandsNowhere, ReadsBeside, LandsBeside}
+use Rattle.prune_ops.specs.Falls.{IsLanding, LandsBelow, LandsNowhere, ReadsBeside, LandsBeside}
 use Rattle.interleaving.proofs.LegalLemmas.{event_sound}
 use Rattle.interleaving.proofs.OpenSpotLemmas.{taken_at_open}
 use Rattle.public_tree.specs.PublicTrees.{PublicView, IsRooted, IsPublicOf, Answers, NotesIn, is_going, IsOut}
@@ -66,7 +66,7 @@ no_landing p w a n body out cleared nowhere read t h known = by_out p w a out re
 -- a ball is taken
 module _ (w : ℕ) (old new : PublicView) (a b : Place) (n : ℕ) (total : Credit) (body : Body) (going : Answers old is_going true) (out : IsOut old w a)
     (cleared : IsClearedAt old.nodes a n true)
-    (lands : LandsAt old.nodes a n b total) (beside : LandsBeside old.nodes new.nodes b total body) (rows : length new.nodes.rows ≡ length old.nodes.rows + 1)
+    (lands : LandsBelow old.nodes a n b total) (beside : LandsBeside old.nodes new.nodes b total body) (rows : length new.nodes.rows ≡ length old.nodes.rows + 1)
     (lost : FindsTasks old.nodes a n old.lost new.lost) (halted : new.halted ≡ old.halted) (budget : new.budget ≡ old.budget)
     (window : new.window ≡ old.window) (stopped : new.log.stopped ≡ old.log.stopped)
     (events : new.log.events ≡ old.log.events ++ Prune w a ∷ []) where

@@ -22,7 +22,7 @@ use Rattle.tree_closing.specs.declared.way_up.Beside.TheVariants.{Same, Closes, 
 use Rattle.tree_closing.specs.declared.way_up.Closing.{Closing}
 use Rattle.interleaving.proofs.OpenSpotLemmas.{taken_at_open}
 use Rattle.public_tree.specs.PublicTrees.{PublicView, IsRooted, IsPublicOf, Answers, NotesIn, is_going, IsOut}
-use Rattle.public_tree.specs.PublicClosing.{closing_event, is_end, end_credit, ReadsAs, RunEndsAs, IsGrownTo, RestsIn}
+use Rattle.public_tree.specs.PublicClosing.{closing_event, ends_run, end_credit, ReadsAs, RunEndsAs, IsGrownTo, RestsIn}
 use Rattle.public_tree.specs.declared.closing.TaskEnd.{TaskEnd}
 use Rattle.public_tree.specs.declared.closing.TaskEnd.TheVariants.{Nothing, Result}
 use Rattle.public_tree.proofs.HandOutLemmas.{KeepsOthers, legal_while_going, rooted_round, taken_place}
@@ -83,7 +83,7 @@ rests_waking old new b total beside body n waking number rests longer = λ a c r
 
 -- the event by which it closes
 module _ (w : ℕ) (a : Place) (k : ℕ) (t : TreeState) (s : Spot) (at : taken_at w a t ≡ Some s) where
-  end_allowed : (e : TaskEnd) → is_end e (run_of t s k) ≡ true → is_allowed t (closing_event e w a k) ≡ true
+  end_allowed : (e : TaskEnd) → ends_run e (run_of t s k) ≡ true → is_allowed t (closing_event e w a k) ≡ true
   end_allowed Nothing h = ap (λ (o : Option Spot). at_spot o (λ r. run_is_empty (run_of t r k))) at ∙ h
   end_allowed Result h = ap (λ (o : Option Spot). at_spot o (λ r. run_gives_result (run_of t r k))) at ∙ h
 

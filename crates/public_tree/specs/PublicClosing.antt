@@ -32,9 +32,9 @@ closing_event Nothing w a k = Empty w a k
 closing_event Result w a k = Collected w a k
 
 -- whether own entries are an end
-abbrev pub is_end : TaskEnd → Option (List Entry) → Bool
-is_end Nothing run = run_is_empty run
-is_end Result run = run_gives_result run
+abbrev pub ends_run : TaskEnd → Option (List Entry) → Bool
+ends_run Nothing run = run_is_empty run
+ends_run Result run = run_gives_result run
 
 -- with which credit they close
 abbrev pub end_credit : TaskEnd → ℕ → Option (List Entry) → Credit
@@ -60,7 +60,7 @@ ReadsAs read rows b records true (Some body) = ReadsWoken read rows b records bo
 -- to rest there, and what wakes by that reads as the body that is given
 pub record RunEndsAs (nodes : NodesView) (e : TaskEnd) (closing : Closing) (body : Option Body)
     (w : ℕ) (a : Place) (k : ℕ) (read : Reading) (t : TreeState) : Type 0 where
-  pub ends : (s : Spot) → taken_at w a t ≡ Some s → is_end e (run_of t s k) ≡ true
+  pub ends : (s : Spot) → taken_at w a t ≡ Some s → ends_run e (run_of t s k) ≡ true
   pub rests : (s : Spot) → taken_at w a t ≡ Some s
       → ComesToRest nodes a (end_credit e k (run_of t s k)) (place_view closing.end) (credit_view closing.credit) closing.beside
   pub given : ReadsAs read nodes.rows (place_view closing.end) (credit_view closing.credit).records (is_waking closing.beside) body

@@ -2,7 +2,7 @@ use Rattle.std.proofs.Common.{◌≡◌, ℕ, sym, subst}
 use Rattle.tree_model.specs.Credits.{Credit}
 use Rattle.tree_model.specs.EventViews.{place_view}
 use Rattle.tree_nodes.specs.Rows.{scope_number, credit_view}
-use Rattle.prune_ops.specs.Falls.{LandsNowhere, LandsAt}
+use Rattle.prune_ops.specs.Falls.{LandsNowhere, LandsBelow}
 use Rattle.prune_ops.proofs.FallLemmas.{number_is, rises, nowhere, lands}
 use Rattle.prune_ops.proofs.landing.find_landing.Goals.{in-Node, in-Node-2}
 use Rattle.prune_ops.proofs.landing.find_landing.Goals as goal
@@ -43,6 +43,6 @@ returns-clause-finds c =
       | in-Node-2 w ↦ number_is c.args.scope w.in-Node.number c.match-scope.number w.in-Node.is w.number-is
     ] in
     let beside = c.if-not-is_beside_sleeper.ensures.beside in
-    subst (λ (n : ℕ). LandsAt nodes a n b (credit_view c.in_ok-finish.field-0)) number
-    (subst (λ (x : Credit). LandsAt nodes a c.match-scope.number b x) (sym c.in_ok-finish.ensures)
+    subst (λ (n : ℕ). LandsBelow nodes a n b (credit_view c.in_ok-finish.field-0)) number
+    (subst (λ (x : Credit). LandsBelow nodes a c.match-scope.number b x) (sym c.in_ok-finish.ensures)
     (lands nodes a b c.match-scope.number l.sum l.invariant.rises c.loop-here-test.false c.rise-2.new.sum c.in_ok-rise-2.ensures beside.first))

@@ -5,7 +5,7 @@ use Rattle.tree_model.specs.Events.{Event, Prune}
 use Rattle.tree_nodes.specs.Bodies.{body_view}
 use Rattle.tree_nodes.specs.Rows.{credit_view, scope_number}
 use Rattle.prune_ops.specs.declared.landing.Landing.{Landing}
-use Rattle.prune_ops.specs.Falls.{FindsLanding, LandsAt, LandsNowhere, LandsBeside}
+use Rattle.prune_ops.specs.Falls.{FindsLanding, LandsBelow, LandsNowhere, LandsBeside}
 use Rattle.public_tree.specs.LostTasks.{task_view}
 use Rattle.public_tree.specs.PrunedTasks.{FindsTasks}
 use Rattle.public_tree.specs.PublicTrees.{PublicView, Answers, is_going}
@@ -52,8 +52,8 @@ returns-clause-prunes c =
     let cleared : IsClearedAt old.nodes a n true
     = subst (λ (p : PublicView). IsClearedAt p.nodes a n true) was
     (subst (IsClearedAt c.self.inside.nodes a n) c.if-not-is_cleared.false c.is_cleared.ensures.cleared) in
-    let lands : LandsAt old.nodes a n b total
-    = subst (λ (p : PublicView). LandsAt p.nodes a n b total) was
+    let lands : LandsBelow old.nodes a n b total
+    = subst (λ (p : PublicView). LandsBelow p.nodes a n b total) was
     (subst (λ (o : Option Landing). FindsLanding c.self.inside.nodes a n o) c.in-Some.is c.in_ok-landing.ensures.finds) in
     let beside : LandsBeside old.nodes c.land.new.nodes b total body
     = subst (λ (p : PublicView). LandsBeside p.nodes c.land.new.nodes b total body) was c.in_ok-land.ensures.lands in
