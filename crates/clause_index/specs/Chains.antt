@@ -1,8 +1,9 @@
 -- The chains of an index: the first head of each class, and after each head the next one of its class.
-use Rattle.std.specs.Prelude.{◌≡◌, ◌<◌, ◌^◌, ◌⊎◌, ℕ, suc, List, [], ◌∷◌, ◌++◌, length, drop, reverse, cond, Option, Some, IfSome, slice_get}
+use Rattle.std.specs.Prelude.{◌≡◌, ◌<◌, ◌^◌, ◌⊎◌, ℕ, suc, Bool, true, false, ◌||◌, List, [], ◌∷◌, ◌++◌, length, drop, reverse, cond, Option, Some, None, IfSome, slice_get}
+use Rattle.std.specs.List.{list_any}
 use Rattle.std.specs.BTreeMap.{BTreeMap, get, is_at}
 use Rattle.std.specs.declared.cmp.Ordering.{Ordering}
-use Rattle.clause_index.specs.Classes.{is_of, procedure_class, key_class}
+use Rattle.clause_index.specs.Classes.{is_of, procedure_class, key_class, same_number_key}
 use Rattle.clause_index.specs.Numbers.{first_from}
 use Rattle.clause_index.specs.contracts.key.ClassOrd.TheImpl as class_ord
 use Rattle.clause_index.specs.declared.key.HeadKey.{HeadKey}
@@ -39,15 +40,41 @@ pub record AreFirstsOf (firsts : BTreeMap Class ℕ) (name : ℕ) (f : NamedFirs
 abbrev pub AreNamedFirsts : BTreeMap Class ℕ → List NamedFirsts → Type 0
 AreNamedFirsts firsts named = (name : ℕ) → IfSome (slice_get named name) (AreFirstsOf firsts name)
 
--- those of one name were put in place of others, of whatever map
-abbrev pub PutsFirsts : ℕ → NamedFirsts → List NamedFirsts → List NamedFirsts → Type 0
-PutsFirsts name f old new = (firsts : BTreeMap Class ℕ) → AreFirstsOf firsts name f → AreNamedFirsts firsts old → AreNamedFirsts firsts new
+-- a key is one of the two, or there are more
+abbrev pub is_key_of : Option (NumberKey × ℕ) → NumberKey → Bool
+is_key_of None key = false
+is_key_of (Some keyed) key = same_number_key keyed.0 key
+
+abbrev pub is_one_of_two : NamedFirsts → NumberKey → Bool
+is_one_of_two f key = is_key_of f.one key || is_key_of f.other key
+
+abbrev pub knows_key : NamedFirsts → NumberKey → Bool
+knows_key f key = f.has_more || is_one_of_two f key
+
+-- no head of a procedure of this name has a key that is not known
+abbrev pub KnowsKeysOf : List HeadKey → ℕ → NamedFirsts → Type 0
+KnowsKeysOf heads name f = (key : NumberKey) → knows_key f key ≡ false → list_any (is_of (WithKey name f.arity key)) heads ≡ false
+
+-- of each name that has an entry
+abbrev pub KnowKeysOf : List HeadKey → List NamedFirsts → Type 0
+KnowKeysOf heads named = (name : ℕ) → IfSome (slice_get named name) (KnowsKeysOf heads name)
+
+-- a key is known beside those that were
+pub record LearnsKey (old : NamedFirsts) (key : NumberKey) (new : NamedFirsts) : Type 0 where
+  pub arity : new.arity ≡ old.arity
+  pub learned : knows_key new key ≡ true
+  pub kept : (other : NumberKey) → knows_key old other ≡ true → knows_key new other ≡ true
+
+-- the key of one head more is known, whatever the heads before it
+abbrev pub LearnKeyOf : HeadKey → List NamedFirsts → List NamedFirsts → Type 0
+LearnKeyOf h old new = (heads : List HeadKey) → KnowKeysOf heads old → KnowKeysOf (heads ++ h ∷ []) new
 
 pub record IsClauseIndexOf (heads : List HeadKey) (procedures classes : List (Option ℕ)) (firsts : BTreeMap Class ℕ) (named : List NamedFirsts) : Type 0 where
   pub procedures_are : procedures ≡ links_from procedure_class 0 heads
   pub classes_are : classes ≡ links_from key_class 0 heads
   pub firsts_are : HasFirsts heads firsts 0
   pub named_are : AreNamedFirsts firsts named
+  pub keys_are : KnowKeysOf heads named
   pub few : length heads < 2 ^ 32
 
 -- the links of the heads from a number on were made, the last first

@@ -1,11 +1,11 @@
 //! The index.
-ghost use Rattle.std.specs.Prelude.{◌≡◌, ◌<◌, ◌∷◌, [], IfOk, IfSome, OnOk, MatchOption, Some, length};
+ghost use Rattle.std.specs.Prelude.{◌≡◌, ◌<◌, ◌∷◌, [], IfOk, IfSome, OnOk, MatchOption, Some, None, false, length, slice_get, slice_set};
 ghost use Rattle.std.specs.List.{list_any};
 ghost use Rattle.clause_index.specs.Classes.{is_of, is_head_of, can_match, procedure_class, key_class};
 ghost use Rattle.clause_index.specs.Numbers.{first_from, numbers};
 ghost use Rattle.clause_index.specs.Cursors.{IsCursorOf, IsNumberBelow, chain, numbers_left, TakesLeast};
 ghost use Rattle.clause_index.specs.declared.cursor.Cursor.{Cursor as CursorValue};
-ghost use Rattle.clause_index.specs.Chains.{IsChained, AreFirstsOf, AreNamedFirsts, HasKeyed, PutsFirsts};
+ghost use Rattle.clause_index.specs.Chains.{IsChained, AreFirstsOf, AreNamedFirsts, HasKeyed, is_one_of_two, LearnsKey, KnowKeysOf, LearnKeyOf};
 
 use crate::cursor::Cursor;
 use crate::key::{Class, HeadKey, NumberKey};
@@ -18,7 +18,7 @@ use std::marker::Model;
 type Firsts = BTreeMap<Class, u32>;
 
 /// The first clauses of a procedure of a name, with so many arguments: of all, of those without a first key, and of those
-/// with two of its keys.
+/// with two of its keys; and whether it has other keys than these.
 #[derive(Clone, Copy, Debug)]
 pub(crate) struct NamedFirsts {
     pub(crate) arity: u32,
@@ -26,13 +26,15 @@ pub(crate) struct NamedFirsts {
     pub(crate) without_key: Option<u32>,
     pub(crate) one: Option<(NumberKey, u32)>,
     pub(crate) other: Option<(NumberKey, u32)>,
+    pub(crate) has_more: bool,
 }
 
 impl NamedFirsts {
     /// The first clause with a key, where the key is one of the two.
     #[inline(always)]
     fn with_key(self, key: NumberKey) -> Option<u32>
-        ensures { IfSome result (λ number. HasKeyed self (key, number)) }
+        ensures some { IfSome result (λ number. HasKeyed self (key, number)) }
+        ensures none { result ≡ None → is_one_of_two self key ≡ false }
     {
         match (self.one, self.other) {
             (Some((known, number)), _) if known == key => Some(number),
@@ -41,19 +43,21 @@ impl NamedFirsts {
         }
     }
 
-    /// The same, with one key more if fewer than two are known.
+    /// The same, with a key of the procedure's: as one of the two, or it has more.
     fn and_key(self, name: u32, key: NumberKey, firsts: &Firsts) -> NamedFirsts
         requires { AreFirstsOf firsts.now name self }
-        ensures { AreFirstsOf firsts.now name result }
+        ensures firsts { AreFirstsOf firsts.now name result }
+        ensures key { LearnsKey self key result }
     {
-        let Some(number) = firsts.get(&Class::WithKey(name, self.arity, key)).copied() else {
+        if self.with_key(key).is_some() {
             return self;
-        };
+        }
+        let first = firsts.get(&Class::WithKey(name, self.arity, key)).copied();
         let mut more = self;
-        match (self.one, self.other) {
-            (None, _) => more.one = Some((key, number)),
-            (Some((known, _)), None) if known != key => more.other = Some((key, number)),
-            _ => {}
+        match (self.one, self.other, first) {
+            (None, _, Some(number)) => more.one = Some((key, number)),
+            (_, None, Some(number)) => more.other = Some((key, number)),
+            _ => more.has_more = true,
         }
         more
     }
@@ -216,7 +220,7 @@ impl ClauseIndex {
     fn first_of_procedure(&self, name: u32, arity: u32) -> Option<u32>
         ensures { result ≡ first_from 0 (is_of (Class.Procedure name arity)) self.now }
     {
-        match self.named.get(name as usize) {
+        match firsts_at(&self.named, name) {
             Some(firsts) if firsts.arity == arity => firsts.all,
             _ => self.first(Class::Procedure(name, arity)),
         }
@@ -227,7 +231,7 @@ impl ClauseIndex {
     fn first_without_key(&self, name: u32, arity: u32) -> Option<u32>
         ensures { result ≡ first_from 0 (is_of (Class.WithoutKey name arity)) self.now }
     {
-        match self.named.get(name as usize) {
+        match firsts_at(&self.named, name) {
             Some(firsts) if firsts.arity == arity => firsts.without_key,
             _ => self.first(Class::WithoutKey(name, arity)),
         }
@@ -238,13 +242,13 @@ impl ClauseIndex {
     fn first_with_key(&self, name: u32, arity: u32, key: NumberKey) -> Option<u32>
         ensures { result ≡ first_from 0 (is_of (Class.WithKey name arity key)) self.now }
     {
-        let known = match self.named.get(name as usize) {
-            Some(firsts) if firsts.arity == arity => firsts.with_key(key),
-            _ => None,
-        };
-        match known {
-            Some(number) => Some(number),
-            None => self.first(Class::WithKey(name, arity, key)),
+        match firsts_at(&self.named, name) {
+            Some(firsts) if firsts.arity == arity => match firsts.with_key(key) {
+                Some(number) => Some(number),
+                None if firsts.has_more => self.first(Class::WithKey(name, arity, key)),
+                None => None,
+            },
+            _ => self.first(Class::WithKey(name, arity, key)),
         }
     }
 
@@ -276,7 +280,8 @@ fn named_firsts(
     heads: &[HeadKey],
     firsts: &Firsts,
 ) -> Result<Vec<NamedFirsts>, NoMemory>
-    ensures { IfOk result (λ named. AreNamedFirsts firsts.now named.items) }
+    ensures firsts { IfOk result (λ named. AreNamedFirsts firsts.now named.items) }
+    ensures keys { IfOk result (λ named. KnowKeysOf heads.now named.items) }
 {
     let mut named = firsts_of_atoms(alloc, names_among(heads), firsts)?;
     for head in heads {
@@ -290,9 +295,17 @@ fn named_firsts(
     Ok(named)
 }
 
+/// Those of a name, if it has an entry.
+#[inline(always)]
+fn firsts_at(named: &[NamedFirsts], name: u32) -> Option<NamedFirsts>
+    ensures { result ≡ slice_get named.now name }
+{
+    named.get(name as usize).copied()
+}
+
 /// Puts these in place of those of a name, if it has an entry.
 fn put_firsts(name: u32, firsts: NamedFirsts, named: &mut Vec<NamedFirsts>)
-    ensures { PutsFirsts name firsts named.old.items named.new.items }
+    ensures { named.new.items ≡ slice_set named.old.items name firsts }
 {
     let at = name as usize;
     if at < named.len() {
@@ -303,7 +316,8 @@ fn put_firsts(name: u32, firsts: NamedFirsts, named: &mut Vec<NamedFirsts>)
 /// Puts the first keys of procedures beside them.
 fn put_keys(heads: &[HeadKey], firsts: &Firsts, named: &mut Vec<NamedFirsts>)
     requires { AreNamedFirsts firsts.now named.old.items }
-    ensures { AreNamedFirsts firsts.now named.new.items }
+    ensures firsts { AreNamedFirsts firsts.now named.new.items }
+    ensures keys { KnowKeysOf heads.now named.new.items }
 {
     for head in heads {
         put_key(*head, firsts, named);
@@ -313,16 +327,17 @@ fn put_keys(heads: &[HeadKey], firsts: &Firsts, named: &mut Vec<NamedFirsts>)
 /// Puts the first key of a head beside those of its procedure, if that has an entry.
 fn put_key(head: HeadKey, firsts: &Firsts, named: &mut Vec<NamedFirsts>)
     requires { AreNamedFirsts firsts.now named.old.items }
-    ensures { AreNamedFirsts firsts.now named.new.items }
+    ensures firsts { AreNamedFirsts firsts.now named.new.items }
+    ensures key { LearnKeyOf head named.old.items named.new.items }
 {
     let Some(key) = head.first else {
         return;
     };
-    match named.get(head.name as usize).copied() {
-        Some(known) if known.arity == head.arity => {
-            put_firsts(head.name, known.and_key(head.name, key, firsts), named);
-        }
-        _ => {}
+    let Some(known) = firsts_at(named, head.name) else {
+        return;
+    };
+    if known.arity == head.arity {
+        put_firsts(head.name, known.and_key(head.name, key, firsts), named);
     }
 }
 
@@ -356,5 +371,6 @@ fn firsts_of(name: u32, arity: u32, firsts: &Firsts) -> NamedFirsts
         without_key: firsts.get(&Class::WithoutKey(name, arity)).copied(),
         one: None,
         other: None,
+        has_more: false,
     }
 }

@@ -3,8 +3,8 @@
 //!
 //! Each clause knows the next one of its procedure, and the next one whose head has the same first key. The first clause of
 //! a procedure, the first one without a key and those with its first two keys are read at the number of its name, or are
-//! searched in a map where another procedure of that name stands there, as those with any other key are. Taking a clause off
-//! is one step, and what is left to try is two numbers.
+//! searched in a map where another procedure of that name stands there. Those with any other key are searched only where the
+//! procedure has more than these two. Taking a clause off is one step, and what is left to try is two numbers.
 #![tactic(auto)]
 
 mod cursor;
