@@ -1,7 +1,9 @@
 -- What calling a goal leaves.
-use Rattle.std.proofs.Common.{◌≡◌, ℕ, ◌≤◌, List, [], ◌∷◌, ◌++◌, append_assoc, append-nil, length, length-append, slice_get, Option, Some, None, Result, Ok, Err, IfOk, refl, sym, ap, ap₂, ◌∙◌, subst, arith}
+use Rattle.std.proofs.Common.{◌≡◌, ℕ, ◌≤◌, false, List, [], ◌∷◌, ◌++◌, append_assoc, append-nil, length, length-append, slice_get, Option, Some, None, Result, Ok, Err, IfOk, refl, sym, ap, ap₂, ◌∙◌, subst, arith}
+use Rattle.au_term.specs.Term.{argument_count}
+use Rattle.au_model.specs.Terms.Forms.{name_of}
 use Rattle.au_model.specs.Terms.Named.{NamedTerm}
-use Rattle.run_model.specs.Programs.Clauses.{Clause}
+use Rattle.run_model.specs.Programs.Clauses.{Clause, is_defined}
 use Rattle.run_model.specs.Goals.Outcomes.{clause_solution}
 use Rattle.run_model.specs.Machine.Entries.{Entry, solution_entry}
 use Rattle.clause_index.specs.Cursors.{numbers_left}
@@ -37,6 +39,7 @@ module _ (r : RegionView) (goal : BindingCell) (after : Position) (whole left : 
     entries = λ named. called named ∙ ap (λ es. es ++ entries_of named r) (none (length (entries_of named r)) (continuation_here named r after));
     position = tt;
     text = refl;
+    undefined = λ e. (refl, refl);
   }
 
   module _ (n : ℕ) (finds : FindsClause r.text (meaning r.store goal) r.store.now.next whole left n) where
@@ -45,6 +48,10 @@ module _ (r : RegionView) (goal : BindingCell) (after : Position) (whole left : 
 
     abbrev clause_entries : List NamedTerm → Clause → List Entry
     clause_entries named c = solution_entry (length (entries_of named r)) (continuation_here named r after) (clause_solution (meaning r.store goal) r.store.now.next c)
+
+    -- its procedure has that clause
+    is_found : is_defined r.text.clauses (name_of (meaning r.store goal)) (argument_count (meaning r.store goal)) ≡ false → ⊥
+    is_found e = let none = ap length (all.undefined e) in let fewer = finds.fewer in omega (arith, none, fewer)
 
     some_same : (x y : Clause) → Some x ≡ Some y → x ≡ y
     some_same x y e = cc
@@ -71,6 +78,7 @@ module _ (r : RegionView) (goal : BindingCell) (after : Position) (whole left : 
           (ap (λ (st : Standing). st.entries) (sym (kept.stands named)));
       position = subst (λ i. IsOptionalPosition new i reached) (count ∙ sym (ap (λ (x : RegionView). length x.choices) kept.others)) tried.position;
       text = ap (λ (x : RegionView). x.text) kept.others;
+      undefined = λ e. absurd (is_found e);
     }
 
     -- a choice point for the others
@@ -104,6 +112,7 @@ module _ (r : RegionView) (goal : BindingCell) (after : Position) (whole left : 
             (ap (λ es. es ++ entries_of named r) (others.entries (length (entries_of named r)) (continuation_here named r after)) ∙ sym (ap (λ (st : Standing). st.entries) (kept.stands named) ∙ other_entries named)));
         position = position_over r2 cut (length r2.choices) reached (let l = ap length same_choices in let m = length-append r.choices (a.choice ∷ []) in omega (arith, l, m, count)) tried.position;
         text = ap (λ (x : RegionView). x.text) kept.others ∙ ap (λ (x : RegionView). x.text) a.others;
+        undefined = λ e. absurd (is_found e);
       }
 
 pub if_ok_then : {X E : Type 0} (P Q : X → Type 0) (r : Result X E) → ((x : X) → P x → Q x) → IfOk r P → IfOk r Q

@@ -1,26 +1,28 @@
 -- Clauses that are passed over have no entry.
-use Rattle.std.proofs.Common.{◌≡◌, ℕ, zero, suc, ◌+◌, ◌<◌, ◌≤◌, Bool, true, false, cond, List, [], ◌∷◌, ◌++◌, length, take, drop, Option, Some, None, MatchOption, slice_get, refl, sym, ap, ◌∙◌, subst, arith}
+use Rattle.std.proofs.Common.{◌≡◌, ℕ, zero, suc, ◌+◌, ◌<◌, ◌≤◌, Bool, true, false, cond, ◌&&◌, ◌||◌, List, [], ◌∷◌, ◌++◌, length, take, drop, Option, Some, None, MatchOption, slice_get, refl, sym, ap, ap₂, ◌∙◌, subst, arith}
+use Rattle.std.specs.List.{list_any}
 use Rattle.au_term.specs.Term.{Term}
 use Rattle.au_model.specs.Terms.Unifier.{unifier}
-use Rattle.run_model.specs.Programs.Clauses.{Clause, renamed_head, clause_variables}
+use Rattle.run_model.specs.Programs.Clauses.{Clause, renamed_head, clause_variables, is_defined}
 use Rattle.run_model.specs.Goals.Outcomes.{clause_solution, alternatives_of}
 use Rattle.run_model.specs.Machine.Items.{Continuation, before, removing, with_next, goals_at}
 use Rattle.run_model.specs.Machine.Entries.{Entry, solution_entry, solution_entries, unified}
 use Rattle.clause_compile.specs.AtomNumbers.{AreDistinct}
 use Rattle.clause_compile.specs.Places.{CodeView}
 use Rattle.proc_index.specs.Places.{clauses_at}
-use Rattle.clause_index.specs.Classes.{can_match}
+use Rattle.clause_index.specs.Classes.{can_match, is_head_of, keys_match}
 use Rattle.clause_index.specs.Cursors.{IsCursorOf, numbers_left, TakesLeast}
 use Rattle.clause_index.specs.Numbers.{head_numbers_from, numbers}
 use Rattle.clause_index.specs.HeadKeys.{IsHeadKeyOf}
 use Rattle.clause_index.specs.declared.cursor.Cursor.{Cursor}
 use Rattle.clause_index.specs.declared.key.HeadKey.{HeadKey}
+use Rattle.clause_index.specs.declared.key.NumberKey.{NumberKey}
 use Rattle.clause_index.proofs.ChainLemmas.{drop_next}
 use Rattle.clause_index.proofs.HeadKeyLemmas.{numbers_apart}
 use Rattle.cell_store.specs.StoreView.{StoreView, IsValidStore, text_in}
 use Rattle.region_split.specs.Texts.{TextView, AreHeadKeys}
 use Rattle.region_split.specs.Candidates.{entries_of_clauses, AreCandidates, FindsClause, HaveNoEntry, AreToldApart}
-use Rattle.region_split.proofs.HeadLemmas.{keys_further, renamed_numbers}
+use Rattle.region_split.proofs.HeadLemmas.{keys_further, renamed_numbers, defined}
 
 -- an entry of a clause that does not unify
 pub no_entry : (h : ℕ) (f : Continuation ℕ) (goal : Term) (next : ℕ) (c : Clause) → unifier ((goal, renamed_head c next) ∷ []) ≡ None → solution_entry h f (clause_solution goal next c) ≡ []
@@ -51,6 +53,16 @@ module _ (names : List (List ℕ)) (distinct : AreDistinct names) (goal : Term) 
       by_test true t rest = ap (λ ds. entries (take 1 ds ++ clauses_at whole (head_numbers_from (suc i) can hs))) e ∙ ap (λ es. one c ++ es) rest
       by_test false t rest = rest ∙ ap (λ es. es ++ entries cs) (sym (apart c x k.0 t))
 
+-- no clause is left where no head has the name and the number of arguments
+none_left : (name arity : ℕ) (key : Option NumberKey) (hs : List HeadKey) (i : ℕ) → list_any (is_head_of name arity) hs ≡ false → head_numbers_from i (can_match name arity key) hs ≡ []
+none_left name arity key [] i e = refl
+none_left name arity key (h ∷ hs) i e = by_test (is_head_of name arity h) e (λ t. none_left name arity key hs (suc i) t)
+  where
+    by_test : (b : Bool) → (b || list_any (is_head_of name arity) hs) ≡ false → (list_any (is_head_of name arity) hs ≡ false → head_numbers_from (suc i) (can_match name arity key) hs ≡ [])
+        → cond (b && keys_match key h.first) (i ∷ head_numbers_from (suc i) (can_match name arity key) hs) (head_numbers_from (suc i) (can_match name arity key) hs) ≡ []
+    by_test true t rest = absurd cc
+    by_test false t rest = rest t
+
 pub are_candidates : (text : TextView) (st : StoreView) (goal : Term) (g : HeadKey) (next : ℕ) (left : Cursor) → st.program ≡ text.code → IsValidStore st → IsHeadKeyOf (text_in st).names goal g → AreHeadKeys text.code.names text.clauses text.heads
     → numbers_left text.heads left ≡ numbers (can_match g.name g.arity g.first) text.heads → IsCursorOf text.heads left → AreCandidates text goal next left
 are_candidates text st goal g next left program valid numbered heads is cursor = record {
@@ -58,8 +70,14 @@ are_candidates text st goal g next left program valid numbered heads is cursor =
   entries = λ h f.
       ap (entries_of_clauses text goal next h f) is
       ∙ matching_from (text_in st).names valid.distinct goal g numbered next h f text.clauses text.clauses text.heads 0 refl
-      (subst (λ (code : CodeView). AreHeadKeys (code.names ++ st.names) text.clauses text.heads) (sym program) (keys_further text.code.names st.names text.clauses text.heads heads));
+      all;
+  undefined = λ e. is ∙ none_left g.name g.arity g.first text.heads 0
+      (defined (text_in st).names valid.distinct g.name g.arity numbered.name_there text.clauses text.heads all
+      ∙ (ap₂ (is_defined text.clauses) numbered.name numbered.arity ∙ e));
 }
+  where
+    all : AreHeadKeys (text_in st).names text.clauses text.heads
+    all = subst (λ (code : CodeView). AreHeadKeys (code.names ++ st.names) text.clauses text.heads) (sym program) (keys_further text.code.names st.names text.clauses text.heads heads)
 
 -- an element that is there
 pub record IsThere {X : Type 0} (xs : List X) (i : ℕ) : Type 0 where

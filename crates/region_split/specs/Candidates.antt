@@ -1,8 +1,9 @@
 -- Clauses that a goal may match, by their numbers. The others have no entry, so they need not be tried.
 use Rattle.std.specs.Prelude.{◌≡◌, ◌<◌, ℕ, Bool, false, not, List, [], ◌∷◌, length, Option, Some, None, slice_get}
-use Rattle.au_term.specs.Term.{Term}
+use Rattle.au_term.specs.Term.{Term, argument_count}
+use Rattle.au_model.specs.Terms.Forms.{name_of}
 use Rattle.au_model.specs.Terms.Unifier.{unifier}
-use Rattle.run_model.specs.Programs.Clauses.{Clause, renamed_head}
+use Rattle.run_model.specs.Programs.Clauses.{Clause, renamed_head, is_defined}
 use Rattle.run_model.specs.Goals.Outcomes.{alternatives_of}
 use Rattle.run_model.specs.Machine.Items.{Continuation}
 use Rattle.run_model.specs.Machine.Entries.{Entry, solution_entries}
@@ -17,10 +18,11 @@ use Rattle.region_split.specs.Texts.{TextView}
 abbrev pub entries_of_clauses : TextView → Term → ℕ → ℕ → Continuation ℕ → List ℕ → List Entry
 entries_of_clauses text goal next height f numbers = solution_entries height f (alternatives_of (clauses_at text.clauses numbers) goal next)
 
--- those that a cursor has left stand for all clauses of the text
+-- those that a cursor has left stand for all clauses of the text, and are none where the goal's procedure has no clause
 pub record AreCandidates (text : TextView) (goal : Term) (next : ℕ) (left : Cursor) : Type 0 where
   pub cursor : IsCursorOf text.heads left
   pub entries : (height : ℕ) (f : Continuation ℕ) → entries_of_clauses text goal next height f (numbers_left text.heads left) ≡ solution_entries height f (alternatives_of text.clauses goal next)
+  pub undefined : is_defined text.clauses (name_of goal) (argument_count goal) ≡ false → numbers_left text.heads left ≡ []
 
 -- none that is left has an entry
 abbrev pub HaveNoEntry : TextView → Term → ℕ → Cursor → Type 0

@@ -1,7 +1,9 @@
 -- Clauses that are tried for goals (ISO/IEC 13211-1, 7.7.10).
-use Rattle.std.specs.Prelude.{◌≡◌, ℕ, List, [], ◌∷◌, ◌++◌, length, Option, Some, None, slice_get}
+use Rattle.std.specs.Prelude.{◌≡◌, ℕ, false, List, [], ◌∷◌, ◌++◌, length, Option, Some, None, slice_get}
+use Rattle.au_term.specs.Term.{argument_count}
+use Rattle.au_model.specs.Terms.Forms.{name_of}
 use Rattle.au_model.specs.Terms.Named.{NamedTerm}
-use Rattle.run_model.specs.Programs.Clauses.{Clause}
+use Rattle.run_model.specs.Programs.Clauses.{Clause, is_defined}
 use Rattle.run_model.specs.Goals.Outcomes.{Solutions, alternatives_of}
 use Rattle.run_model.specs.Machine.Entries.{Entry}
 use Rattle.run_model.specs.Machine.Heights.{after_reply}
@@ -40,8 +42,10 @@ abbrev pub called_entries : List NamedTerm → RegionView → BindingCell → Po
 called_entries named r goal after =
     after_reply (Solutions (alternatives_of r.text.clauses (meaning r.store goal) r.store.now.next)) (continuation_here named r after) (entries_of named r)
 
--- a goal was called: what goes on, over what the choice points stand for, is what takes its place
+-- a goal was called: what goes on, over what the choice points stand for, is what takes its place; nothing has changed where
+-- its procedure has no clause in the text
 pub record Calls (old new : RegionView) (goal : BindingCell) (after : Position) (reached : Option Position) : Type 0 where
   pub entries : (named : List NamedTerm) → called_entries named old goal after ≡ entries_at named new reached ++ entries_of named new
   pub position : IsOptionalPosition new (length new.choices) reached
   pub text : new.text ≡ old.text
+  pub undefined : is_defined old.text.clauses (name_of (meaning old.store goal)) (argument_count (meaning old.store goal)) ≡ false → (reached ≡ None) × (new ≡ old)

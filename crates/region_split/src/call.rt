@@ -47,7 +47,8 @@ impl Region {
     }
 
     /// Calls a goal whose clauses are tried, and gives the position at which the first one goes on whose head unifies: that
-    /// is the first that may match, if any. The others are left to a choice point; for no others there is none.
+    /// is the first that may match, if any. The others are left to a choice point; for no others there is none. A goal whose
+    /// procedure has no clause in the text leaves the region as it was.
     pub fn call(&mut self, goal: BindingCell, after: Position) -> Result<Option<Position>, NoMemory>
         requires callable { is_callable (meaning self.old.store goal) ≡ true }
         requires goal { IsValueIn self.old.store goal }

@@ -66,7 +66,8 @@ pub(crate) fn first_match(
     next_match(text, store, goal, left)
 }
 
-/// Whether a goal's second, third or fourth argument tells it apart from a clause's head, so that they don't unify.
+/// Whether a goal's second, third or fourth argument tells it apart from a clause's head, so that they don't unify. Nothing is
+/// read of the goal where none of these has a key in the head.
 #[inline]
 fn are_apart(text: &Text, store: &Store, goal: BindingCell, clause: u32) -> bool
     requires program { store.now.program ≡ text.now.code }
@@ -76,11 +77,15 @@ fn are_apart(text: &Text, store: &Store, goal: BindingCell, clause: u32) -> bool
 {
     // The proof reads off that no two names are the same.
     let _next = store.next();
+    let placed = text.placed(clause);
+    if placed.keyed_from >= placed.keyed_to {
+        return false;
+    }
     let BindingCell::Compound(at, base) = store.dereference(goal) else {
         return false;
     };
     let (_name, count) = store.functor(at);
-    for i in 1..count.min(4) {
+    for i in placed.keyed_from..placed.keyed_to.min(count) {
         let own = key_of_value(store, store.argument(at + 1 + i, base));
         if tell_apart(own, text.argument_key(clause, i)) {
             return true;

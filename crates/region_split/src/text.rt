@@ -26,12 +26,16 @@ pub enum BodyItem {
     BodyEnd,
 }
 
-/// Where a clause is: the place of its head, and where its body begins among the bodies; and how many variables it has.
+/// Where a clause is: the place of its head, and where its body begins among the bodies; and how many variables it has. Only
+/// arguments of the head from `keyed_from` on and before `keyed_to` are looked at to tell a goal apart, counted from 0; of the
+/// second to the fourth the others have no key.
 #[derive(Clone, Copy, Debug, PartialEq, Eq)]
 pub struct PlacedClause {
     pub head: Place,
     pub body: u32,
     pub vars: u32,
+    pub keyed_from: u32,
+    pub keyed_to: u32,
 }
 
 /// A program's text: its places, its bodies, and its clauses. It knows where each clause is, and finds those that a goal may
@@ -192,11 +196,29 @@ fn place_clause(
         return Err(NoMemory);
     }
     push_body(&places.goals, bodies)?;
+    let (keyed_from, keyed_to) = keyed_arguments(code, places.head);
     Ok(PlacedClause {
         head: places.head,
         body: body as u32,
         vars: places.vars as u32,
+        keyed_from,
+        keyed_to,
     })
+}
+
+/// The first of a head's second to fourth arguments that has a key, counted from 0, and the one after the last that has.
+fn keyed_arguments(code: &Code, head: Place) -> (u32, u32)
+    requires { IsPlaceOf code.now head }
+{
+    let mut from = 4;
+    let mut to = 0;
+    for i in 1..4 {
+        if argument_key(code, head, i).is_some() {
+            from = from.min(i);
+            to = i + 1;
+        }
+    }
+    (from, to)
 }
 
 /// Adds the body of these goals.
