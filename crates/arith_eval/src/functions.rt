@@ -1,5 +1,5 @@
 //! The functions of expressions, told by name (ISO/IEC 13211-1, 9.1, 9.3 and 9.4).
-ghost use Rattle.std.specs.Prelude.{◌≡◌, map, option_map};
+ghost use Rattle.std.specs.Prelude.{◌≡◌, Some, map, option_map, MatchOption};
 ghost use Rattle.std.specs.Str.{chars};
 ghost use Rattle.run_model.specs.Goals.Arithmetic.{unary_function, binary_function};
 ghost use Rattle.au_model.specs.Terms.Forms.{same_name};
@@ -71,7 +71,26 @@ const BINARY: [(&str, Binary); 15] = [
 pub fn unary_named(name: &Atom) -> Option<Unary>
     ensures { option_map unary_meaning result ≡ option_map (λ f. f.value) (unary_function name.now) }
 {
-    unary_among(&UNARY, name.text())
+    let name = name.text();
+    match unary_sign(name) {
+        Some(function) => Some(function),
+        None => unary_among(&UNARY, name),
+    }
+}
+
+/// The function that the only character of a name tells, without a look at the others.
+#[inline]
+fn unary_sign(name: &str) -> Option<Unary>
+    ensures { MatchOption result (Unit {0}) (λ f. Some (unary_meaning f) ≡ option_map (λ g. g.value) (unary_function (chars name.now))) }
+{
+    let [sign] = name.as_bytes() else {
+        return None;
+    };
+    match *sign {
+        b'+' => Some(Unary::Plus),
+        b'-' => Some(Unary::Minus),
+        _ => None,
+    }
 }
 
 fn unary_among(rows: &[(&str, Unary)], name: &str) -> Option<Unary>
@@ -89,7 +108,27 @@ fn unary_among(rows: &[(&str, Unary)], name: &str) -> Option<Unary>
 pub fn binary_named(name: &Atom) -> Option<Binary>
     ensures { option_map binary_meaning result ≡ option_map (λ f. f.value) (binary_function name.now) }
 {
-    binary_among(&BINARY, name.text())
+    let name = name.text();
+    match binary_sign(name) {
+        Some(function) => Some(function),
+        None => binary_among(&BINARY, name),
+    }
+}
+
+/// The function that the only character of a name tells, without a look at the others.
+#[inline]
+fn binary_sign(name: &str) -> Option<Binary>
+    ensures { MatchOption result (Unit {0}) (λ f. Some (binary_meaning f) ≡ option_map (λ g. g.value) (binary_function (chars name.now))) }
+{
+    let [sign] = name.as_bytes() else {
+        return None;
+    };
+    match *sign {
+        b'+' => Some(Binary::Add),
+        b'-' => Some(Binary::Subtract),
+        b'*' => Some(Binary::Multiply),
+        _ => None,
+    }
 }
 
 fn binary_among(rows: &[(&str, Binary)], name: &str) -> Option<Binary>
