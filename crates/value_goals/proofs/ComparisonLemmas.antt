@@ -1,8 +1,8 @@
 -- Terms compared pair by pair.
-use Rattle.std.proofs.Common.{◌≡◌, ℕ, zero, suc, ◌+◌, ◌-◌, ◌<◌, ◌≤◌, ℤ, List, ◌∷◌, true, ◌&&◌, eqb, refl, sym, ap, ap₂, ◌∙◌, subst, arith}
+use Rattle.std.proofs.Common.{◌≡◌, ℕ, zero, suc, ◌+◌, ◌-◌, ◌<◌, ◌≤◌, ℤ, List, ◌∷◌, Bool, true, false, ◌&&◌, eqb, nat_eq, length, refl, sym, ap, ap₂, ◌∙◌, subst, arith}
 use Rattle.std.specs.declared.cmp.Ordering.{Ordering}
 use Rattle.std.specs.declared.cmp.Ordering.TheVariants.{Less, Equal, Greater}
-use Rattle.std.specs.Ordering.{nat_cmp, ordering_then, is_ne}
+use Rattle.std.specs.Ordering.{nat_cmp, ordering_then, is_eq, is_ne}
 use Rattle.std.specs.Cmp.Lexicographic.{slice_cmp}
 use Rattle.std.proofs.lemmas.Bool.Decides.{nat_tests}
 use Rattle.std.proofs.lemmas.Cmp.{tied_itself, nat_cmp_total, nat_list_cmp_total}
@@ -14,8 +14,8 @@ use Rattle.au_model.specs.Terms.Unifier.{Equations as Pairs, size, size_all}
 use Rattle.au_model.proofs.UnifierMeasureLemmas.{size_pos}
 use Rattle.run_model.specs.Goals.StandardOrder.{order, order_all}
 use Rattle.term_order.proofs.CellOrder.{same_number}
-use Rattle.term_order.proofs.TermOrder.{terms_total}
-use Rattle.clause_compile.specs.AtomNumbers.{name_at}
+use Rattle.term_order.proofs.TermOrder.{terms_total, same_term}
+use Rattle.clause_compile.specs.AtomNumbers.{name_at, AreDistinct}
 use Rattle.clause_compile.specs.Places.{CodeView}
 use Rattle.binding_array.specs.declared.cell.BindingCell.{BindingCell}
 use Rattle.binding_array.specs.declared.cell.BindingCell.TheVariants.{Free, Var, Int, Atom, Compound}
@@ -188,6 +188,25 @@ module _ (st : StoreView) (at base f m to over g n : ℕ) (left : HasFunctor (te
 
 pub same_names : (names : List (List ℕ)) (a b : ℕ) → a ≡ b → Equal ≡ slice_cmp nat_cmp (name_at names a) (name_at names b)
 same_names names a b e = sym (tied_itself nat_list_cmp_total (name_at names a)) ∙ ap (λ i. slice_cmp nat_cmp (name_at names a) (name_at names i)) e
+
+equal_numbers : (a b : ℕ) → nat_eq a b ≡ true → a ≡ b
+equal_numbers a b h = grind (arith, nat_tests)
+
+numbers_equal : (a b : ℕ) → a ≡ b → nat_eq a b ≡ true
+numbers_equal a b e = grind (arith, nat_tests)
+
+-- names that are distinct are told apart by their numbers
+pub one_name : (names : List (List ℕ)) (a b : ℕ) → AreDistinct names → a < length names → b < length names → nat_eq a b ≡ is_eq (slice_cmp nat_cmp (name_at names a) (name_at names b))
+one_name names a b distinct p q = by (nat_eq a b) (slice_cmp nat_cmp (name_at names a) (name_at names b)) refl refl
+  where
+    by : (t : Bool) (o : Ordering) → nat_eq a b ≡ t → slice_cmp nat_cmp (name_at names a) (name_at names b) ≡ o → t ≡ is_eq o
+    by true o e h = ap is_eq (same_names names a b (equal_numbers a b e) ∙ h)
+    by false Less e h = refl
+    by false Equal e h =
+        let terms : AtomTerm (name_at names a) ≡ AtomTerm (name_at names b) = same_term (AtomTerm (name_at names a)) (AtomTerm (name_at names b)) h in
+        let texts : name_at names a ≡ name_at names b = cc in
+        sym e ∙ numbers_equal a b (distinct a b p q texts)
+    by false Greater e h = refl
 
 -- arguments one after another
 pub first_there : (st : StoreView) (e : Equations) → 0 < e.left.count → AreSides st e → IsArgument (text_in st) st.now.next e.left.base e.left.at × IsArgument (text_in st) st.now.next e.right.base e.right.at

@@ -1,5 +1,9 @@
 -- Expressions that are evaluated from the left.
 use Rattle.std.proofs.Common.{◌≡◌, ℕ, ◌+◌, ◌<◌, ◌≤◌, ℤ, List, [], ◌∷◌, ◌++◌, Option, Some, None, option_map, Result, Ok, Err, reverse, refl, sym, ap, ap₂, ◌∙◌, subst, arith}
+use Rattle.std.specs.Prelude.{MatchOption}
+use Rattle.std.specs.Result.{result_ok}
+use Rattle.au_model.specs.declared.fault.EvalName.{EvalName}
+use Rattle.arith_eval.specs.Integers.{outcome}
 use Rattle.au_term.specs.Term.{Term, IntTerm, Compound as CompoundTerm, end, more}
 use Rattle.au_model.specs.Terms.Lists.{terms_from}
 use Rattle.au_model.specs.Terms.Substitutions.{resolve, apply_all, value_of}
@@ -68,6 +72,18 @@ module _ (st : StoreView) (at base f : ℕ) where
       → (with_first st (binary_meaning g) y d ≡ evaluated_in st (Compound at base)) × (evaluation_steps st d + 2 ≤ evaluation_steps st (Compound at base))
   first_known g c d x y h e k found is same =
       (ap (λ z. with_first st (binary_meaning g) z d) same ∙ (ap (λ t. then_value (expression_value t) (λ z. with_first st (binary_meaning g) z d)) (sym is) ∙ two_values g c d h e k found), omega (arith, ap size (two_arguments c d h e k)))
+
+  pub both_known : (g : Binary) (c d : BindingCell) (x y : ℤ) → HasFunctor (text_in st) st.now.next at base f 2 → value_term st c ≡ argument_at (text_in st) base (at + 1) → value_term st d ≡ argument_at (text_in st) base (at + 2) → option_map binary_meaning (Some g) ≡ option_map (λ k. k.value) (binary_function (name_at (text_in st).names f)) → meaning st c ≡ IntTerm x → meaning st d ≡ IntTerm y
+      → binary_meaning g x y ≡ evaluated_in st (Compound at base)
+  both_known g c d x y h e k found is other = ap (λ t. then_value (expression_value t) (binary_meaning g x)) (sym other) ∙ (first_known g c d x x h e k found is refl).0
+
+-- the value that was computed, where there is one
+pub value_found : (r : Result ℤ EvalName) (o : Option ℤ) (v w : Evaluated) → o ≡ result_ok r → outcome r ≡ v → v ≡ w → MatchOption o (Unit {0}) (λ z. w ≡ Ok z)
+value_found r o v w e h k = subst (λ x. MatchOption x (Unit {0}) (λ z. w ≡ Ok z)) (sym e) (by r (h ∙ k))
+  where
+    by : (q : Result ℤ EvalName) → outcome q ≡ w → MatchOption (result_ok q) (Unit {0}) (λ z. w ≡ Ok z)
+    by (Ok z) h = sym h
+    by (Err error) h = tt
 
 -- a function waits
 waits : (st : StoreView) (v : Evaluated) (steps : ℕ) (old new : List Waiting) (w : Waiting) (c : BindingCell) → new ≡ old ++ w ∷ [] → function_resumed st w (evaluated_in st c) ≡ v → evaluation_steps st c + waiting_steps st w < steps → IsValueIn st c → IsWaitingIn st w → StepsOn st v steps (reverse old) (reverse new) (Expression c)

@@ -1,7 +1,7 @@
 //! Values compared in the standard order of what they stand for (ISO/IEC 13211-1, 7.2).
 ghost use Rattle.std.specs.Prelude.{◌≡◌, ◌<◌, IfOk, length};
 ghost use Rattle.std.specs.Cmp.Lexicographic.{slice_cmp};
-ghost use Rattle.std.specs.Ordering.{nat_cmp};
+ghost use Rattle.std.specs.Ordering.{nat_cmp, is_eq};
 ghost use Rattle.au_model.specs.Terms.Unifier.{size};
 ghost use Rattle.clause_compile.specs.AtomNumbers.{name_at};
 ghost use Rattle.run_model.specs.Goals.StandardOrder.{order};
@@ -66,6 +66,38 @@ pub fn compare(
             }
         }
     }
+}
+
+/// Whether two values stand for the same term. Names are told apart by their numbers.
+#[inline]
+pub fn are_identical(
+    alloc: Global,
+    store: &Store,
+    left: BindingCell,
+    right: BindingCell,
+) -> Result<bool, NoMemory>
+    requires left { IsValueIn store.now left }
+    requires right { IsValueIn store.now right }
+    ensures { IfOk result (λ b. b ≡ is_eq (order (meaning store.now left) (meaning store.now right))) }
+{
+    let left = store.dereference(left);
+    let right = store.dereference(right);
+    match (left, right) {
+        (BindingCell::Atom(a), BindingCell::Atom(b)) => Ok(are_one_name(store, a, b)),
+        _ => Ok(compare(alloc, store, left, right)?.is_eq()),
+    }
+}
+
+/// Whether two names are the same.
+#[inline]
+fn are_one_name(store: &Store, a: u32, b: u32) -> bool
+    requires left { a < length (text_in store.now).names }
+    requires right { b < length (text_in store.now).names }
+    ensures { result ≡ is_eq (slice_cmp nat_cmp (name_at (text_in store.now).names a) (name_at (text_in store.now).names b)) }
+{
+    // The proof reads off that no two names are the same.
+    let _next = store.next();
+    a == b
 }
 
 /// Goes over arguments from the left, up to the first two that differ or have arguments themselves.

@@ -10,6 +10,7 @@ ghost use Rattle.cell_store.specs.Arguments.{HasFunctor};
 ghost use Rattle.value_goals.specs.Evaluation.{evaluated_in, with_first, function_resumed, evaluation_steps, waiting_steps, IsWaitingIn, IsBegun, StepsTo};
 ghost use Rattle.value_goals.specs.declared.evaluation.Waiting.{Waiting as WaitingFunction};
 
+use crate::short::short_value;
 use crate::type_tests::integer_of;
 use arith_eval::{Binary, EvalRefusal, Problem, Unary, binary_named, unary_named};
 use au_model::EvalName;
@@ -37,7 +38,21 @@ pub(crate) enum Next {
 }
 
 /// The value of the expression that a value stands for, or the first error that evaluating it comes to.
+#[inline]
 pub fn evaluate(alloc: Global, store: &Store, value: BindingCell) -> Result<i64, EvalRefusal>
+    requires { IsValueIn store.now value }
+    ensures value { IfOk result (λ z. expression_value (meaning store.now value) ≡ Ok z) }
+    ensures error { IfErr result (IsRefusal (expression_value (meaning store.now value))) }
+{
+    match short_value(store, value) {
+        Some(value) => Ok(value),
+        None => evaluate_by_parts(alloc, store, value),
+    }
+}
+
+/// The same of any expression.
+#[inline(never)]
+fn evaluate_by_parts(alloc: Global, store: &Store, value: BindingCell) -> Result<i64, EvalRefusal>
     requires { IsValueIn store.now value }
     ensures value { IfOk result (λ z. expression_value (meaning store.now value) ≡ Ok z) }
     ensures error { IfErr result (IsRefusal (expression_value (meaning store.now value))) }

@@ -10,10 +10,12 @@ pub mod comparison;
 pub mod evaluation;
 pub mod ground;
 pub mod parts;
+pub mod short;
 pub mod type_tests;
 
 pub use arithmetic::{compared_values, is_value};
-pub use comparison::compare;
+pub use comparison::{are_identical, compare};
 pub use evaluation::evaluate;
 pub use ground::is_ground;
 pub use parts::{argument, functor};
+pub use short::short_value;

@@ -63,6 +63,7 @@ pub fn is_callable(store: &Store, value: BindingCell) -> bool
 }
 
 /// The integer that a value stands for, if it is one.
+#[inline]
 pub fn integer_of(store: &Store, value: BindingCell) -> Option<i64>
     requires { IsValueIn store.now value }
     ensures { MatchOption result (is_integer (meaning store.now value) ≡ false) (λ z. meaning store.now value ≡ IntTerm z) }
