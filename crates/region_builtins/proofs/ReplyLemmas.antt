@@ -1,5 +1,5 @@
 -- What goes on after a goal that holds once or fails.
-use Rattle.std.proofs.Common.{◌≡◌, ℕ, ◌+◌, true, false, List, [], ◌∷◌, ◌++◌, length, map, Some, None, refl, sym, ap, ap₂, ◌∙◌, subst, arith}
+use Rattle.std.proofs.Common.{◌≡◌, ℕ, ◌+◌, Bool, true, false, List, [], ◌∷◌, ◌++◌, length, map, Some, None, refl, sym, ap, ap₂, ◌∙◌, subst, arith}
 use Rattle.au_model.specs.Terms.Named.{NamedTerm}
 use Rattle.au_model.specs.Terms.Substitutions.{Substitution}
 use Rattle.au_model.specs.Terms.Unifier.{Equations, unifier}
@@ -23,7 +23,7 @@ use Rattle.region_control.specs.declared.forms.GoalForm.{GoalForm}
 use Rattle.region_control.specs.declared.replies.AfterGoal.{AfterGoal}
 use Rattle.region_control.specs.declared.replies.AfterGoal.TheVariants.{At, Failed}
 use Rattle.region_control.proofs.ControlLemmas.{place_in}
-use Rattle.region_builtins.specs.QuickAnswers.{IsQuickAnswer, AnswersIn, AnswersFor}
+use Rattle.region_builtins.specs.QuickAnswers.{IsQuickAnswer, MakesOne, AnswersIn, AnswersFor}
 use Rattle.region_builtins.specs.declared.quick.QuickAnswer.{QuickAnswer}
 
 -- no numbers are taken
@@ -95,6 +95,13 @@ module _ (r : RegionView) (place : GoalPlace) (at : IsGoalPlace r place) where
 -- an answer as the store showed it
 pub quick_seen : (r : RegionView) (st : StoreView) (b : Builtin) (a : Arguments) (q : QuickAnswer) → st ≡ r.store → ((next : ℕ) → IsQuickAnswer st (answer_of b (argument_terms st a) next) q) → IsQuickAnswer r.store (answer_of b (argument_terms r.store a) r.store.now.next) q
 quick_seen r st b a q e h = subst (λ (x : StoreView). IsQuickAnswer x (answer_of b (argument_terms x a) r.store.now.next) q) e (h r.store.now.next)
+
+-- and what it says of values that become one, and of a test
+pub pair_seen : (r : RegionView) (st : StoreView) (b : Builtin) (a : Arguments) (p : BindingCell × BindingCell) → st ≡ r.store → ((next : ℕ) → MakesOne st p (answer_of b (argument_terms st a) next)) → MakesOne r.store p (answer_of b (argument_terms r.store a) r.store.now.next)
+pair_seen r st b a p e h = subst (λ (x : StoreView). MakesOne x p (answer_of b (argument_terms x a) r.store.now.next)) e (h r.store.now.next)
+
+pub test_seen : (r : RegionView) (st : StoreView) (b : Builtin) (a : Arguments) (holds : Bool) → st ≡ r.store → ((next : ℕ) → answer_of b (argument_terms st a) next ≡ holds_if holds) → answer_of b (argument_terms r.store a) r.store.now.next ≡ holds_if holds
+test_seen r st b a holds e h = subst (λ (x : StoreView). answer_of b (argument_terms x a) r.store.now.next ≡ holds_if holds) e (h r.store.now.next)
 
 -- the same answer
 pub answers_same : (r new : RegionView) (form : GoalForm) (answer other : Answer) (place : GoalPlace) (after : AfterGoal) → answer ≡ other → AnswersFor r new form other place after → AnswersFor r new form answer place after

@@ -27,6 +27,10 @@ IsPairIn st p = IsValueIn st p.0 × IsValueIn st p.1
 abbrev pub pair_meant : StoreView → BindingCell × BindingCell → Term × Term
 pair_meant st p = (meaning st p.0, meaning st p.1)
 
+-- an answer makes two values one
+abbrev pub MakesOne : StoreView → BindingCell × BindingCell → Answer → Type 0
+MakesOne st p answer = IsPairIn st p × (answer ≡ equal (meaning st p.0) (meaning st p.1))
+
 -- it makes two atoms one, which are the same or not
 pub record AreTwoAtoms (answer : Answer) (alike : Bool) : Type 0 where
   pub left : List ℕ

@@ -17,7 +17,7 @@ ghost use Rattle.region_control.specs.GoalForms.{argument_terms, AreArgumentsIn}
 ghost use Rattle.region_control.specs.Replies.{LeavesOutcome};
 ghost use Rattle.region_builtins.specs.QuickAnswers.{AnswersIn, AnswersFor, IsPairIn, pair_meant};
 
-use crate::quick::{QuickAnswer, quick_answer, symbol_of};
+use crate::quick::{QuickAnswer, quick_answer, symbol_of, test_holds, values_made_one};
 use crate::solved::{resolved_arguments, solutions_of};
 use au_model::Fault;
 use au_model::build::atom;
@@ -148,6 +148,32 @@ fn raise_error(
 /// Takes a goal of a built-in predicate.
 #[inline(never)]
 pub fn builtin_goal(
+    region: &mut Region,
+    alloc: Global,
+    builtin: Builtin,
+    form: GoalForm,
+    place: GoalPlace,
+) -> Result<AfterGoal, NoMemory>
+    requires name { form.name < length (text_in region.old.store).names }
+    requires there { AreArgumentsIn region.old.store form.arguments }
+    requires row { IsRowOf (name_at (text_in region.old.store).names form.name) form.arguments.count builtin }
+    requires place { IsGoalPlace region.old place }
+    ensures comes { IfOk result (AnswersFor region.old region.new form (answer_of builtin (argument_terms region.old.store form.arguments) region.old.store.now.next) place) }
+    ensures text { OnOk result (region.new.text ≡ region.old.text) }
+{
+    if let Some((left, right)) = values_made_one(region.store(), builtin, form.arguments) {
+        return equate(region, left, right, place);
+    }
+    match test_holds(alloc, region.store(), builtin, form.arguments)? {
+        Some(true) => Ok(AfterGoal::At(place.after)),
+        Some(false) => Ok(AfterGoal::Failed),
+        None => answered_goal(region, alloc, builtin, form, place),
+    }
+}
+
+/// The same by its answer.
+#[inline(never)]
+fn answered_goal(
     region: &mut Region,
     alloc: Global,
     builtin: Builtin,

@@ -1,14 +1,16 @@
 //! What built-in predicates answer by the values of their arguments (ISO/IEC 13211-1, 8.2 to 8.7).
-ghost use Rattle.std.specs.Prelude.{◌≡◌, ℕ, IfOk};
+ghost use Rattle.std.specs.Prelude.{◌≡◌, ℕ, IfOk, MatchOption};
 ghost use Rattle.std.specs.Str.{IsAscii};
 ghost use Rattle.au_term.specs.Term.{AtomTerm};
 ghost use Rattle.run_model.specs.Goals.ArithmeticGoals.{is_answer, comparison_answer};
+ghost use Rattle.run_model.specs.Goals.BuiltinAnswers.{holds_if};
+ghost use Rattle.run_model.specs.Goals.StandardOrder.{order};
 ghost use Rattle.run_model.specs.Goals.TermParts.{argument_answer, functor_answer};
 ghost use Rattle.run_model.specs.Goals.TermTests.{compare_answer, is_order_symbol, order_symbol};
 ghost use Rattle.cell_store.specs.StoreView.{IsValueIn, meaning};
-ghost use Rattle.std_builtins.specs.Meanings.{answer_of, arguments_of, type_test, value_test};
+ghost use Rattle.std_builtins.specs.Meanings.{answer_of, arguments_of, order_test, type_test, value_test};
 ghost use Rattle.region_control.specs.GoalForms.{argument_terms, AreArgumentsIn};
-ghost use Rattle.region_builtins.specs.QuickAnswers.{IsQuickAnswer, IsRefusedBy};
+ghost use Rattle.region_builtins.specs.QuickAnswers.{IsQuickAnswer, IsRefusedBy, MakesOne};
 
 use arith_eval::EvalRefusal;
 use au_model::Fault;
@@ -24,7 +26,8 @@ use value_goals::type_tests::{
     integer_of, is_atom, is_atomic, is_callable, is_compound, is_integer, is_variable,
 };
 use value_goals::{
-    argument as numbered_argument, compare, compared_values, functor, is_ground, is_value,
+    are_identical, argument as numbered_argument, compare, compared_values, functor, is_ground,
+    is_value, short_value,
 };
 
 /// What a goal answers by the values of its arguments.
@@ -47,6 +50,97 @@ pub(crate) enum QuickAnswer {
     Unknown,
 }
 
+/// The values that a goal makes one, where it does no more and they are known at once.
+#[inline]
+pub(crate) fn values_made_one(
+    store: &Store,
+    builtin: Builtin,
+    arguments: Arguments,
+) -> Option<(BindingCell, BindingCell)>
+    requires there { AreArgumentsIn store.now arguments }
+    requires count { arguments.count ≡ arguments_of builtin }
+    ensures { MatchOption result (Unit {0}) (λ p. (next : ℕ) → MakesOne store.now p (answer_of builtin (argument_terms store.now arguments) next)) }
+{
+    match builtin {
+        Builtin::Unify => {
+            let left = argument(store, arguments, 0);
+            Some((left, argument(store, arguments, 1)))
+        }
+        Builtin::Is => {
+            let value = short_value(store, argument(store, arguments, 1))?;
+            Some((argument(store, arguments, 0), BindingCell::Int(value)))
+        }
+        _ => None,
+    }
+}
+
+/// Whether a goal holds, where it is a test and what it looks at tells at once.
+#[inline]
+pub(crate) fn test_holds(
+    alloc: Global,
+    store: &Store,
+    builtin: Builtin,
+    arguments: Arguments,
+) -> Result<Option<bool>, NoMemory>
+    requires there { AreArgumentsIn store.now arguments }
+    requires count { arguments.count ≡ arguments_of builtin }
+    ensures { IfOk result (λ o. MatchOption o (Unit {0}) (λ b. (next : ℕ) → answer_of builtin (argument_terms store.now arguments) next ≡ holds_if b)) }
+{
+    match builtin {
+        Builtin::Value(test) => {
+            let left = argument(store, arguments, 0);
+            Ok(short_values_hold(store, test, left, argument(store, arguments, 1)))
+        }
+        Builtin::Order(test) => {
+            let left = argument(store, arguments, 0);
+            let holds = order_holds(alloc, store, test, left, argument(store, arguments, 1))?;
+            Ok(Some(holds))
+        }
+        Builtin::Type(test) => {
+            let holds = type_holds(alloc, store, test, argument(store, arguments, 0))?;
+            Ok(Some(holds))
+        }
+        _ => Ok(None),
+    }
+}
+
+/// Whether two expressions stand to one another in a way, where their values are known at once.
+#[inline]
+fn short_values_hold(
+    store: &Store,
+    test: Comparison,
+    left: BindingCell,
+    right: BindingCell,
+) -> Option<bool>
+    requires left { IsValueIn store.now left }
+    requires right { IsValueIn store.now right }
+    ensures { MatchOption result (Unit {0}) (λ b. comparison_answer (value_test test) (meaning store.now left) (meaning store.now right) ≡ holds_if b) }
+{
+    let left = short_value(store, left)?;
+    let right = short_value(store, right)?;
+    Some(test.holds(left, right))
+}
+
+/// Whether two terms stand to one another in a way. Whether they are the same needs no look at names.
+#[inline]
+fn order_holds(
+    alloc: Global,
+    store: &Store,
+    test: Comparison,
+    left: BindingCell,
+    right: BindingCell,
+) -> Result<bool, NoMemory>
+    requires left { IsValueIn store.now left }
+    requires right { IsValueIn store.now right }
+    ensures { IfOk result (λ b. b ≡ order_test test (order (meaning store.now left) (meaning store.now right))) }
+{
+    match test {
+        Comparison::Equal => are_identical(alloc, store, left, right),
+        Comparison::NotEqual => Ok(!are_identical(alloc, store, left, right)?),
+        _ => Ok(test.holds_of(compare(alloc, store, left, right)?)),
+    }
+}
+
 /// What a built-in predicate answers, where its values tell.
 pub(crate) fn quick_answer(
     alloc: Global,
@@ -59,22 +153,9 @@ pub(crate) fn quick_answer(
     ensures { IfOk result (λ q. (next : ℕ) → IsQuickAnswer store.now (answer_of builtin (argument_terms store.now arguments) next) q) }
 {
     match builtin {
-        Builtin::Unify => {
-            let left = argument(store, arguments, 0);
-            Ok(QuickAnswer::Equal(left, argument(store, arguments, 1)))
-        }
         Builtin::Differ => {
             let left = argument(store, arguments, 0);
             Ok(QuickAnswer::Apart(left, argument(store, arguments, 1)))
-        }
-        Builtin::Type(test) => {
-            let holds = type_holds(alloc, store, test, argument(store, arguments, 0))?;
-            Ok(QuickAnswer::Holds(holds))
-        }
-        Builtin::Order(test) => {
-            let left = argument(store, arguments, 0);
-            let ordering = compare(alloc, store, left, argument(store, arguments, 1))?;
-            Ok(QuickAnswer::Holds(test.holds_of(ordering)))
         }
         Builtin::Compare => {
             let symbol = argument(store, arguments, 0);
