@@ -1,12 +1,12 @@
 -- Older terms stay older.
-use Rattle.std.proofs.Common.{◌≡◌, ◌⊎◌, inl, inr, ℕ, ◌<◌, ◌≤◌, Bool, true, false, cond, ◌==◌, List, [], ◌∷◌, ◌++◌, Option, Some, None, refl, sym, ap, subst, arith}
+use Rattle.std.proofs.Common.{◌≡◌, ◌⊎◌, inl, inr, ℕ, ◌<◌, ◌≤◌, Bool, true, false, cond, ◌==◌, List, [], ◌∷◌, ◌++◌, Option, Some, None, refl, sym, ap, ◌∙◌, subst, arith}
 use Rattle.std.proofs.lemmas.Bool.Decides.{nat_tests}
 use Rattle.au_term.specs.Term.{Term, VarTerm, Compound as CompoundTerm, Terms, end, more, var_bound, all_bound}
 use Rattle.au_term.proofs.LogicLemmas.{true_false}
 use Rattle.au_model.specs.Terms.Each.{Each}
 use Rattle.au_model.proofs.EachLemmas.{each-append}
 use Rattle.au_model.specs.Terms.Substitutions.{apply, resolve, only, occurs}
-use Rattle.au_model.specs.Terms.Unifier.{Equations, Opened, rule, pairs}
+use Rattle.au_model.specs.Terms.Unifier.{Equations, Clash, Opened, Replaced, rule, variable_rule, pairs}
 use Rattle.au_model.specs.Terms.EquationsInTurn.{resolved_equations}
 use Rattle.au_model.proofs.UnifierRuleLemmas.{Says, rule_says}
 use Rattle.binding_array.specs.declared.cell.BindingCell.{BindingCell}
@@ -14,12 +14,13 @@ use Rattle.binding_array.specs.declared.cell.BindingCell.TheVariants.{Free, Var,
 use Rattle.binding_array.specs.Represented.{IsFalling}
 use Rattle.cell_store.specs.FreshVariables.{IsOlder, is_fresh, fresh_after, StaysOlder}
 use Rattle.cell_store.specs.Values.{IsNoVariable}
-use Rattle.cell_store.specs.StoreView.{StoreView, substitution, meaning, text_in, with_substitution, BindsFurther}
+use Rattle.cell_store.specs.StoreView.{StoreView, substitution, meaning, text_in, with_substitution, BindsFurther, IsUnbound, IsValueIn}
 use Rattle.cell_store.specs.UnificationSteps.{equations_in, pending_equations, FollowsRule, after_same, after_binding, after_opening, IsBoundOr}
 use Rattle.cell_store.specs.declared.arguments.Equations.{Equations as ArgumentEquations}
 use Rattle.cell_store.specs.declared.unify.Outcome.{Outcome}
-use Rattle.cell_store.specs.declared.unify.Outcome.TheVariants.{Clash, Solved, Inside}
+use Rattle.cell_store.specs.declared.unify.Outcome.TheVariants.{Clash as ClashOutcome, Solved, Inside}
 use Rattle.cell_store.proofs.OccurrenceLemmas.{kept_below, occurs_below}
+use Rattle.cell_store.proofs.RuleLemmas.{right_bound, rule_right}
 use Rattle.cell_store.proofs.UnificationLemmas.{left_in, resolved_binding, resolved_append}
 
 -- a fresh variable is not in an older term
@@ -30,6 +31,9 @@ fresh_apart x (Some base) t f o = by_test (occurs x t) refl
     by_test : (b : Bool) → occurs x t ≡ b → b ≡ false
     by_test true e = let lt = occurs_below x t e in let le : base ≤ x = grind (arith, nat_tests) in absurd (omega arith)
     by_test false e = refl
+
+not_inside : (x : ℕ) (t : Term) → occurs x t ≡ false → variable_rule x t ≡ Replaced x t
+not_inside x t e = ap (λ b. cond b Clash (Replaced x t)) e
 
 -- an older term put in a variable's place
 pub older_put : (from : Option ℕ) (x : ℕ) (t u : Term) → IsOlder from t → IsOlder from u → IsOlder from (apply (only x t) u)
@@ -58,7 +62,7 @@ no_variables (Some base) t e = omega (arith, e)
 
 -- of a binding to something older
 pub right_stays : (old new : StoreView) (from : Option ℕ) (x : ℕ) (t : Term) (outcome : Outcome) → IsOlder from t → IsBoundOr x t old new outcome → StaysOlder old new from from
-right_stays old new from x t Clash o h = nothing_stays old new from h.1
+right_stays old new from x t ClashOutcome o h = nothing_stays old new from h.1
 right_stays old new from x t Solved o h = binding_stays old new from x t h.1 o
 right_stays old new from x t (Inside e) o h = absurd h
 
@@ -129,3 +133,25 @@ falls x (Var v) n = absurd n
 falls x (Int z) n = tt
 falls x (Atom a) n = tt
 falls x (Compound at base) n = tt
+
+-- what is older than a clause is, or is below, none of the clause's variables
+pub falls_below : (st : StoreView) (x : ℕ) (fresh : Option ℕ) (c : BindingCell) → is_fresh x fresh ≡ true → IsUnbound (substitution st) c → IsOlder fresh (meaning st c) → IsFalling x c
+falls_below st x None c f u o = absurd (true_false (sym f))
+falls_below st x (Some base) Free f u o = tt
+falls_below st x (Some base) (Var w) f u o =
+    let below : var_bound (VarTerm w) ≤ base = subst (λ t. var_bound t ≤ base) u o in
+    let le : base ≤ x = grind (arith, nat_tests) in
+    omega (arith, below, le)
+falls_below st x (Some base) (Int z) f u o = tt
+falls_below st x (Some base) (Atom a) f u o = tt
+falls_below st x (Some base) (Compound at to) f u o = tt
+
+-- a clause's variable takes what is older
+pub rule_fresh : (st : StoreView) (x : ℕ) (fresh : Option ℕ) (c : BindingCell) → is_fresh x fresh ≡ true → IsUnbound (substitution st) c → IsValueIn st c → IsOlder fresh (meaning st c)
+    → rule (meaning st c) (VarTerm x) ≡ Replaced x (meaning st c)
+rule_fresh st x fresh Free f u v o = absurd v
+rule_fresh st x fresh (Var w) f u v o = subst (λ t. rule t (VarTerm x) ≡ Replaced x t) (sym u) (right_bound w x (falls_below st x fresh (Var w) f u o))
+rule_fresh st x fresh (Int z) f u v o = rule_right st x (Int z) tt v ∙ not_inside x (meaning st (Int z)) (fresh_apart x fresh (meaning st (Int z)) f o)
+rule_fresh st x fresh (Atom a) f u v o = rule_right st x (Atom a) tt v ∙ not_inside x (meaning st (Atom a)) (fresh_apart x fresh (meaning st (Atom a)) f o)
+rule_fresh st x fresh (Compound at base) f u v o =
+    rule_right st x (Compound at base) tt v ∙ not_inside x (meaning st (Compound at base)) (fresh_apart x fresh (meaning st (Compound at base)) f o)

@@ -1,8 +1,9 @@
 //! The store.
-ghost use Rattle.std.specs.Prelude.{◌≡◌, ◌-◌, ◌^◌, ◌<◌, ◌≤◌, ◌+◌, ◌++◌, ◌∷◌, [], ℕ, List, length, take, drop, IfOk, OnOk, OnErr, MatchOption};
+ghost use Rattle.std.specs.Prelude.{◌≡◌, ◌-◌, ◌^◌, ◌<◌, ◌≤◌, ◌+◌, ◌++◌, ◌∷◌, [], ℕ, List, length, take, drop, IfOk, IfSome, OnOk, OnErr, MatchOption};
 ghost use Rattle.std.specs.Arc.{arc_value};
 ghost use Rattle.au_model.specs.Terms.Each.{Each};
-ghost use Rattle.au_term.specs.Term.{var_bound};
+ghost use Rattle.au_model.specs.Terms.Substitutions.{value_of};
+ghost use Rattle.au_term.specs.Term.{VarTerm, var_bound};
 ghost use Rattle.au_term.specs.Shifted.{shifted};
 ghost use Rattle.clause_compile.specs.AtomNumbers.{name_at};
 ghost use Rattle.clause_compile.specs.Places.{IsPlaceOf, meaning_in};
@@ -11,7 +12,7 @@ ghost use Rattle.cell_store.specs.Undoing.{AreNested, freed};
 ghost use Rattle.cell_store.specs.FreshVariables.{IsOlder};
 ghost use Rattle.cell_store.specs.MadeBindings.{AreMadeSince};
 ghost use Rattle.cell_store.specs.UnificationSteps.{IsUnified, OnlyBinds};
-ghost use Rattle.cell_store.specs.StoreView.{Moment, IsValidStore, IsValueIn, IsDereferenced, CanBeBound, BindsFurther, AddsText, meaning, text_in, value_term, new_store, with_numbers, with_mark, with_marks, taken_back};
+ghost use Rattle.cell_store.specs.StoreView.{Moment, IsValidStore, IsValueIn, IsDereferenced, CanBeBound, BindsFurther, AddsText, meaning, substitution, text_in, value_term, new_store, with_numbers, with_mark, with_marks, taken_back};
 
 use crate::arguments::{Arguments, Equations};
 use crate::heap::Heap;
@@ -186,6 +187,21 @@ impl Store {
         match value {
             BindingCell::Var(variable) => self.cells.follow(variable),
             value => value,
+        }
+    }
+
+    /// The number of a variable that is free, where a value is that.
+    #[inline(always)]
+    pub(crate) fn free_variable(&self, value: BindingCell) -> Option<u32>
+        requires { IsValueIn self.now value }
+        ensures { IfSome result (λ v. (value ≡ BindingCell.Var v) × (value_of (substitution self.now) v ≡ VarTerm v)) }
+    {
+        match value {
+            BindingCell::Var(variable) => match self.cells.get(variable) {
+                Some(_) => None,
+                None => Some(variable),
+            },
+            _ => None,
         }
     }
 

@@ -1,5 +1,6 @@
 //! The unifier of two values (ISO/IEC 13211-1, 7.3.2).
-ghost use Rattle.std.specs.Prelude.{◌≡◌, ◌<◌, ◌-◌, ◌^◌, ◌∷◌, IfOk, OnOk, ℕ, Option, List, length, nat_eq, reverse};
+ghost use Rattle.std.specs.Bool.{OnTrue, OnFalse};
+ghost use Rattle.std.specs.Prelude.{◌≡◌, ◌<◌, ◌-◌, ◌^◌, ◌∷◌, [], IfOk, OnOk, ℕ, Option, List, length, nat_eq, reverse};
 ghost use Rattle.std.specs.Cmp.Lexicographic.{pointwise};
 ghost use Rattle.au_term.specs.Term.{VarTerm};
 ghost use Rattle.au_model.specs.Terms.Substitutions.{value_of};
@@ -7,7 +8,7 @@ ghost use Rattle.clause_compile.specs.AtomNumbers.{name_at};
 ghost use Rattle.cell_store.specs.FreshVariables.{IsOlder, StaysOlder, fresh_after, is_fresh};
 ghost use Rattle.cell_store.specs.Values.{IsNoVariable};
 ghost use Rattle.cell_store.specs.StoreView.{IsValueIn, compound_meaning, meaning, substitution, text_in};
-ghost use Rattle.cell_store.specs.UnificationSteps.{IsUnified, OnlyBinds, TakesRule, IsBoundOr, KeepsRestEquations, solved_if};
+ghost use Rattle.cell_store.specs.UnificationSteps.{IsUnified, OnlyBinds, FollowsRule, TakesRule, IsBoundOr, KeepsRestEquations, solved_if};
 ghost use Rattle.cell_store.specs.Arguments.{with_waiting};
 ghost use Rattle.cell_store.specs.declared.arguments.Equations.{Equations as ArgumentEquations};
 
@@ -53,7 +54,7 @@ pub(crate) fn unify(
     loop {
         let left = store.argument(open.left.at, open.left.base);
         let right = store.argument(open.right.at, open.right.base);
-        match pair_goes(left, right, &mut fresh, store, walked)? {
+        match argument_goes(left, right, &mut fresh, store, walked)? {
             Outcome::Clash => return Ok(false),
             Outcome::Solved => match next_equations(open, pending) {
                 Some(next) => open = next,
@@ -65,6 +66,56 @@ pub(crate) fn unify(
             }
         }
     }
+}
+
+/// Goes by the rule for an equation of two arguments. On the right there are mostly variables of a clause that were met for
+/// the first time.
+#[inline(always)]
+fn argument_goes(
+    left: BindingCell,
+    right: BindingCell,
+    fresh: &mut Option<u32>,
+    store: &mut Store,
+    walked: &mut Vec<Arguments>,
+) -> Result<Outcome, NoMemory>
+    requires left { IsValueIn store.old left }
+    requires right { IsValueIn store.old right }
+    requires older { IsOlder fresh.old (meaning store.old left) }
+    ensures goes { IfOk result (TakesRule store.old store.new (meaning store.old left) (meaning store.old right)) }
+    ensures stays { OnOk result (StaysOlder store.old store.new fresh.old fresh.new) }
+    ensures kept { OnlyBinds store.old store.new }
+{
+    if takes_value(left, right, *fresh, store)? {
+        return Ok(Outcome::Solved);
+    }
+    pair_goes(left, right, fresh, store, walked)
+}
+
+/// Binds the second of two values to the first one, where it is a variable of the clause and free, and says whether it is.
+#[inline(always)]
+fn takes_value(
+    left: BindingCell,
+    right: BindingCell,
+    fresh: Option<u32>,
+    store: &mut Store,
+) -> Result<bool, NoMemory>
+    requires left { IsValueIn store.old left }
+    requires right { IsValueIn store.old right }
+    requires older { IsOlder fresh (meaning store.old left) }
+    ensures taken { IfOk result (λ b. OnTrue b (FollowsRule store.old store.new (meaning store.old left) (meaning store.old right) [])) }
+    ensures stays { IfOk result (λ b. OnTrue b (StaysOlder store.old store.new fresh fresh)) }
+    ensures others { IfOk result (λ b. OnFalse b (store.new ≡ store.old)) }
+    ensures kept { OnlyBinds store.old store.new }
+{
+    let Some(variable) = store.free_variable(right) else {
+        return Ok(false);
+    };
+    if !is_fresh(variable, fresh) {
+        return Ok(false);
+    }
+    let value = store.dereference(left);
+    store.bind(variable, value)?;
+    Ok(true)
 }
 
 /// Goes by the rule for an equation.

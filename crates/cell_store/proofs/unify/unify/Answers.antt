@@ -43,54 +43,54 @@ returns-in-Clash-2-clause-unified c =
     let left = c.argument-left.result in
     let right = c.argument-right.result in
     clashes c.args.a c.args.b c.args.store.now st c.loop-pending.fresh c.loop-pending.open (reverse c.loop-pending.pending.items) left right c.loop-pending.invariant c.argument-left.ensures.term c.argument-right.ensures.term
-    (subst (TakesRule st c.pair_goes-in-loop-pending.new.store (meaning st left) (meaning st right)) c.in-Clash-2.is c.in_ok-pair_goes-2.ensures.goes)
+    (subst (TakesRule st c.argument_goes.new.store (meaning st left) (meaning st right)) c.in-Clash-2.is c.in_ok-argument_goes.ensures.goes)
 
 pub loop-pending-smaller-in-Some : goal.loop-pending-smaller-in-Some
 loop-pending-smaller-in-Some c =
     let st = c.loop-pending.store in
-    let new = c.pair_goes-in-loop-pending.new.store in
+    let new = c.argument_goes.new.store in
     let left = c.argument-left.result in
     let right = c.argument-right.result in
-    let follows = subst (TakesRule st new (meaning st left) (meaning st right)) c.in-Solved-2.is c.in_ok-pair_goes-2.ensures.goes in
+    let follows = subst (TakesRule st new (meaning st left) (meaning st right)) c.in-Solved-2.is c.in_ok-argument_goes.ensures.goes in
     (goes_on c.args.a c.args.b c.args.store.now st c.loop-pending.fresh c.loop-pending.open (reverse c.loop-pending.pending.items) left right c.loop-pending.invariant c.argument-left.ensures.term c.argument-right.ensures.term (c.in-Some.next ∷ reverse c.next_equations.new.pending.items)
-    c.in-Some.ensures new c.pair_goes-in-loop-pending.new.fresh [] follows c.in_ok-pair_goes-2.ensures.kept.others c.in_ok-pair_goes-2.ensures.stays).1
+    c.in-Some.ensures new c.argument_goes.new.fresh [] follows c.in_ok-argument_goes.ensures.kept.others c.in_ok-argument_goes.ensures.stays).1
 
 pub loop-pending-preserved-in-Some : goal.loop-pending-preserved-in-Some
 loop-pending-preserved-in-Some c =
     let st = c.loop-pending.store in
-    let new = c.pair_goes-in-loop-pending.new.store in
+    let new = c.argument_goes.new.store in
     let left = c.argument-left.result in
     let right = c.argument-right.result in
-    let follows = subst (TakesRule st new (meaning st left) (meaning st right)) c.in-Solved-2.is c.in_ok-pair_goes-2.ensures.goes in
+    let follows = subst (TakesRule st new (meaning st left) (meaning st right)) c.in-Solved-2.is c.in_ok-argument_goes.ensures.goes in
     (goes_on c.args.a c.args.b c.args.store.now st c.loop-pending.fresh c.loop-pending.open (reverse c.loop-pending.pending.items) left right c.loop-pending.invariant c.argument-left.ensures.term c.argument-right.ensures.term (c.in-Some.next ∷ reverse c.next_equations.new.pending.items)
-    c.in-Some.ensures new c.pair_goes-in-loop-pending.new.fresh [] follows c.in_ok-pair_goes-2.ensures.kept.others c.in_ok-pair_goes-2.ensures.stays).0
+    c.in-Some.ensures new c.argument_goes.new.fresh [] follows c.in_ok-argument_goes.ensures.kept.others c.in_ok-argument_goes.ensures.stays).0
 
 pub loop-pending-smaller : goal.loop-pending-smaller
 loop-pending-smaller c =
     let st = c.loop-pending.store in
-    let new = c.pair_goes-in-loop-pending.new.store in
+    let new = c.argument_goes.new.store in
     let left = c.argument-left.result in
     let right = c.argument-right.result in
-    let follows = subst (TakesRule st new (meaning st left) (meaning st right)) c.in-Inside-2.is c.in_ok-pair_goes-2.ensures.goes in
+    let follows = subst (TakesRule st new (meaning st left) (meaning st right)) c.in-Inside-2.is c.in_ok-argument_goes.ensures.goes in
     (goes_on c.args.a c.args.b c.args.store.now st c.loop-pending.fresh c.loop-pending.open (reverse c.loop-pending.pending.items) left right c.loop-pending.invariant c.argument-left.ensures.term c.argument-right.ensures.term (reverse c.push_rest.new.pending.items)
-    c.in_ok-push_rest-in-Inside-2.ensures new c.pair_goes-in-loop-pending.new.fresh (c.in-Inside-2.inner ∷ []) follows c.in_ok-pair_goes-2.ensures.kept.others c.in_ok-pair_goes-2.ensures.stays).1
+    c.in_ok-push_rest-in-Inside-2.ensures new c.argument_goes.new.fresh (c.in-Inside-2.inner ∷ []) follows c.in_ok-argument_goes.ensures.kept.others c.in_ok-argument_goes.ensures.stays).1
 
 pub loop-pending-preserved : goal.loop-pending-preserved
 loop-pending-preserved c =
     let st = c.loop-pending.store in
-    let new = c.pair_goes-in-loop-pending.new.store in
+    let new = c.argument_goes.new.store in
     let left = c.argument-left.result in
     let right = c.argument-right.result in
-    let follows = subst (TakesRule st new (meaning st left) (meaning st right)) c.in-Inside-2.is c.in_ok-pair_goes-2.ensures.goes in
+    let follows = subst (TakesRule st new (meaning st left) (meaning st right)) c.in-Inside-2.is c.in_ok-argument_goes.ensures.goes in
     (goes_on c.args.a c.args.b c.args.store.now st c.loop-pending.fresh c.loop-pending.open (reverse c.loop-pending.pending.items) left right c.loop-pending.invariant c.argument-left.ensures.term c.argument-right.ensures.term (reverse c.push_rest.new.pending.items)
-    c.in_ok-push_rest-in-Inside-2.ensures new c.pair_goes-in-loop-pending.new.fresh (c.in-Inside-2.inner ∷ []) follows c.in_ok-pair_goes-2.ensures.kept.others c.in_ok-pair_goes-2.ensures.stays).0
+    c.in_ok-push_rest-in-Inside-2.ensures new c.argument_goes.new.fresh (c.in-Inside-2.inner ∷ []) follows c.in_ok-argument_goes.ensures.kept.others c.in_ok-argument_goes.ensures.stays).0
 
 pub returns-in-None-clause-unified : goal.returns-in-None-clause-unified
 returns-in-None-clause-unified c =
     let st = c.loop-pending.store in
-    let new = c.pair_goes-in-loop-pending.new.store in
+    let new = c.argument_goes.new.store in
     let left = c.argument-left.result in
     let right = c.argument-right.result in
-    let follows = subst (TakesRule st new (meaning st left) (meaning st right)) c.in-Solved-2.is c.in_ok-pair_goes-2.ensures.goes in
-    solved c.args.a c.args.b c.args.store.now new c.pair_goes-in-loop-pending.new.fresh (goes_on c.args.a c.args.b c.args.store.now st c.loop-pending.fresh c.loop-pending.open (reverse c.loop-pending.pending.items) left right c.loop-pending.invariant c.argument-left.ensures.term c.argument-right.ensures.term []
-    c.in-None.ensures new c.pair_goes-in-loop-pending.new.fresh [] follows c.in_ok-pair_goes-2.ensures.kept.others c.in_ok-pair_goes-2.ensures.stays).0
+    let follows = subst (TakesRule st new (meaning st left) (meaning st right)) c.in-Solved-2.is c.in_ok-argument_goes.ensures.goes in
+    solved c.args.a c.args.b c.args.store.now new c.argument_goes.new.fresh (goes_on c.args.a c.args.b c.args.store.now st c.loop-pending.fresh c.loop-pending.open (reverse c.loop-pending.pending.items) left right c.loop-pending.invariant c.argument-left.ensures.term c.argument-right.ensures.term []
+    c.in-None.ensures new c.argument_goes.new.fresh [] follows c.in_ok-argument_goes.ensures.kept.others c.in_ok-argument_goes.ensures.stays).0
