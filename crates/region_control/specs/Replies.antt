@@ -14,7 +14,7 @@ use Rattle.region_control.specs.declared.replies.AfterGoal.TheVariants.{At, Fail
 abbrev pub Leaves : (List NamedTerm → List Entry) → RegionView → AfterGoal → Type 0
 Leaves entries new (At p) = ((named : List NamedTerm) → entries named ≡ position_entry named new p ∷ entries_of named new) × IsPositionIn new p
 Leaves entries new Failed = (named : List NamedTerm) → entries named ≡ entries_of named new
-Leaves entries new (Uncaught ball) = (named : List NamedTerm) → entries named ≡ EndEntry (Some ball) ∷ []
+Leaves entries new (Uncaught ball) = (named : List NamedTerm) → entries named ≡ EndEntry (Some ball.value) ∷ []
 Leaves entries new AsksWorld = ⊥
 
 -- what takes the place of a goal is what it comes to; where it asks the world, nothing has changed, and the world alone halts

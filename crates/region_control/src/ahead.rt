@@ -1,11 +1,12 @@
 //! What lies ahead where no free step is left (ISO/IEC 13211-1, 7.8.9 and 8.10.1).
-ghost use Rattle.std.specs.Prelude.{◌≡◌, ◌≤◌, IfOk, OnOk, length};
+ghost use Rattle.std.specs.Prelude.{◌≡◌, ◌≤◌, IfOk, IfSome, OnOk, length};
 ghost use Rattle.cell_store.specs.StoreView.{IsValueIn};
 ghost use Rattle.region_split.specs.Regions.{items_here, IsPositionIn, IsPositionOver};
 ghost use Rattle.region_split.specs.ChoicePoints.{IsFindallAt};
 ghost use Rattle.region_split.specs.Backtracking.{IsResumed};
 ghost use Rattle.region_split.specs.ClauseTrials.{IsOptionalPosition};
 ghost use Rattle.region_split.specs.declared.choice.Resumed.{Resumed as ResumedValue};
+ghost use Rattle.region_control.specs.declared.ahead.Ahead.{Ahead as AheadValue};
 ghost use Rattle.region_control.specs.Ahead.{is_goal_item, HasFirst, LiesAhead, EndsFindall, CollectsResult};
 
 use crate::control::GoalPlace;
@@ -44,7 +45,51 @@ pub enum Ahead {
 }
 
 /// Goes on at a position, or with what the choice points have left, as far as that costs no inference.
+#[inline]
 pub fn look_ahead(
+    region: &mut Region,
+    alloc: Global,
+    start: Option<Position>,
+) -> Result<Ahead, NoMemory>
+    requires { IsOptionalPosition region.old (length region.old.choices) start }
+    ensures ahead { IfOk result (LiesAhead region.old region.new start) }
+    ensures text { OnOk result (region.new.text ≡ region.old.text) }
+{
+    match goal_at(region, start)? {
+        Some((item, place)) => Ok(Ahead::Goal(item, place)),
+        None => look_further(region, alloc, start),
+    }
+}
+
+/// The goal that stands first at a position, if one does.
+#[inline]
+fn goal_at(
+    region: &Region,
+    start: Option<Position>,
+) -> Result<Option<(FrameItem, GoalPlace)>, NoMemory>
+    requires { IsOptionalPosition region.now (length region.now.choices) start }
+    ensures { IfOk result (λ found. IfSome found (λ g. LiesAhead region.now region.now start (AheadValue.Goal g.0 g.1))) }
+{
+    let Some(position) = start else {
+        return Ok(None);
+    };
+    let Left::First(item, cut) = region.left_at(position) else {
+        return Ok(None);
+    };
+    if !is_goal(item) {
+        return Ok(None);
+    }
+    let Some(at) = position.at.checked_add(1) else {
+        return Err(NoMemory);
+    };
+    let frame = position.frame;
+    let after = past_end(region, Position { frame, at }, cut);
+    Ok(Some((item, GoalPlace { cut, after })))
+}
+
+/// The same where no goal need stand first.
+#[inline(never)]
+fn look_further(
     region: &mut Region,
     alloc: Global,
     start: Option<Position>,

@@ -22,7 +22,7 @@ pub enum AfterGoal {
     /// What the choice points have left.
     Failed,
     /// Nothing: no catch took the ball, whose variables are numbered from 0.
-    Uncaught(FlatTerm),
+    Uncaught(Box<FlatTerm>),
     /// The goal looks at the world or changes it; nothing has changed.
     AsksWorld,
 }
@@ -42,7 +42,7 @@ pub fn raise(
         Some(position) => Ok(AfterGoal::At(position)),
         None => {
             let (copy, _takes) = copy_term(alloc, ball, VarNo::from(0u32))?;
-            Ok(AfterGoal::Uncaught(copy))
+            Ok(AfterGoal::Uncaught(Box::new(alloc, copy)?))
         }
     }
 }

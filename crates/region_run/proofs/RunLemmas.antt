@@ -1,13 +1,15 @@
 -- Inferences of a region one after another.
-use Rattle.std.proofs.Common.{◌≡◌, ℕ, suc, ◌+◌, ◌<◌, ◌≤◌, true, false, List, [], ◌∷◌, ◌++◌, length, map, Option, Some, None, refl, sym, ap, ap₂, ◌∙◌, subst, arith}
+use Rattle.std.proofs.Common.{Box}
+use Rattle.std.specs.Global.{Global}
+use Rattle.au_term.specs.declared.flat.FlatTerm.{FlatTerm}
+use Rattle.std.proofs.Common.{◌≡◌, ℕ, suc, ◌+◌, ◌<◌, ◌≤◌, true, List, [], ◌∷◌, ◌++◌, length, Option, Some, None, refl, sym, ap, ap₂, ◌∙◌, subst, arith}
 use Rattle.au_term.specs.Term.{Term}
 use Rattle.au_model.specs.Terms.Named.{NamedTerm}
 use Rattle.run_model.specs.Goals.GoalOutcomes.{outcome_of}
-use Rattle.run_model.specs.Goals.Outcomes.{Reply, Solutions, Ball, HaltNumber, Outcome, Replies, Controls, AskWorld}
-use Rattle.run_model.specs.Machine.Entries.{Entry, PlainEntry, EndEntry}
-use Rattle.run_model.specs.Machine.FreeSteps.{take_free_steps}
-use Rattle.run_model.specs.Machine.Items.{Item, Continuation, before}
-use Rattle.run_model.specs.Machine.States.{State, step, with_free_steps, entry_taken, item_taken, goal_taken, with_entries}
+use Rattle.run_model.specs.Goals.Outcomes.{Solutions, Ball, HaltNumber, Outcome, Replies, Controls, AskWorld}
+use Rattle.run_model.specs.Machine.Entries.{Entry, EndEntry}
+use Rattle.run_model.specs.Machine.Items.{Continuation}
+use Rattle.run_model.specs.Machine.States.{State, step, with_free_steps, entry_taken, goal_taken, with_entries}
 use Rattle.run_model.specs.Programs.Clauses.{Clause}
 use Rattle.run_model.proofs.StepLemmas.{step_is}
 use Rattle.region_split.specs.ChoicePoints.{height_of_cut}
@@ -26,7 +28,6 @@ use Rattle.region_control.specs.declared.replies.AfterGoal.{AfterGoal}
 use Rattle.region_control.specs.declared.replies.AfterGoal.TheVariants.{At, Failed, Uncaught, AsksWorld}
 use Rattle.region_run.specs.Inferences.{item_goal, InfersItem}
 use Rattle.region_run.specs.Runs.{run_on, AsksWorldNext, IsStop, Runs, stop_entries}
-use Rattle.region_run.specs.declared.running.Ran.{Ran}
 use Rattle.region_run.specs.declared.running.Stop.{Stop}
 use Rattle.region_run.specs.declared.running.Stop.TheVariants as stop
 
@@ -34,7 +35,7 @@ use Rattle.region_run.specs.declared.running.Stop.TheVariants as stop
 abbrev after_entries : List NamedTerm → RegionView → AfterGoal → List Entry
 after_entries named r (At p) = position_entry named r p ∷ entries_of named r
 after_entries named r Failed = entries_of named r
-after_entries named r (Uncaught ball) = EndEntry (Some ball) ∷ []
+after_entries named r (Uncaught ball) = EndEntry (Some ball.value) ∷ []
 after_entries named r AsksWorld = []
 
 left_so : (entries : List NamedTerm → List Entry) (r : RegionView) (after : AfterGoal) → Leaves entries r after → (named : List NamedTerm) → entries named ≡ after_entries named r after
@@ -193,7 +194,7 @@ module _ (old r r1 : RegionView) (start next : Option Position) (taken : ℕ) (w
       text = text2 ∙ (text1 ∙ w.text);
     }
 
-    pub ends_uncaught : (limit : ℕ) (ball : Term) → taken < limit → after ≡ Uncaught ball → Runs old r2 start limit (record { taken = taken + 1; stop = stop.QueryDone (Some ball) })
+    pub ends_uncaught : (limit : ℕ) (ball : Box FlatTerm Global) → taken < limit → after ≡ Uncaught ball → Runs old r2 start limit (record { taken = taken + 1; stop = stop.QueryDone (Some ball.value) })
     ends_uncaught limit ball lt e = record {
       run = λ named st e1 k.
           let n : taken + 1 ≡ suc taken = omega arith in

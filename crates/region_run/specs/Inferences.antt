@@ -1,5 +1,5 @@
 -- One inference in a region (ISO/IEC 13211-1, 7.7 and 7.8).
-use Rattle.std.specs.Prelude.{◌≡◌, List, Option, Some, None, codes}
+use Rattle.std.specs.Prelude.{◌≡◌, Option, Some, None, codes}
 use Rattle.au_term.specs.Term.{Term, AtomTerm}
 use Rattle.run_model.specs.Goals.GoalOutcomes.{outcome_of}
 use Rattle.run_model.specs.Programs.Bodies.{call_of}

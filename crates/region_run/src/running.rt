@@ -61,7 +61,7 @@ pub fn run(
                     AfterGoal::At(position) => Some(position),
                     AfterGoal::Failed => None,
                     AfterGoal::Uncaught(ball) => {
-                        let stop = Stop::QueryDone(Some(ball));
+                        let stop = Stop::QueryDone(Some(Box::into_inner(ball)));
                         return Ok(Ran {
                             taken: taken + 1,
                             stop,

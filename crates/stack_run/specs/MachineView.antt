@@ -161,5 +161,5 @@ AsksNoWorld AsksWorld = ⊥
 abbrev pub next_after : AfterGoal → Next
 next_after (At p) = Runs (Some p)
 next_after Failed = Runs None
-next_after (UncaughtBall ball) = Uncaught ball
+next_after (UncaughtBall ball) = Uncaught ball.value
 next_after AsksWorld = Runs None

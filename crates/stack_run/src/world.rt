@@ -44,7 +44,7 @@ fn next_after(after: AfterGoal) -> Next
     match after {
         AfterGoal::At(position) => Next::Runs(Some(position)),
         AfterGoal::Failed => Next::Runs(None),
-        AfterGoal::Uncaught(ball) => Next::Uncaught(ball),
+        AfterGoal::Uncaught(ball) => Next::Uncaught(Box::into_inner(ball)),
         AfterGoal::AsksWorld => unreachable!(),
     }
 }

@@ -1,4 +1,4 @@
-use Rattle.std.proofs.Common.{◌≡◌, ◌∷◌, [], length, refl, sym, ap, ◌∙◌, subst, arith}
+use Rattle.std.proofs.Common.{◌∷◌, [], refl, sym, subst, arith}
 use Rattle.std.specs.Prelude.{codes}
 use Rattle.std.proofs.lemmas.Result.{IfOk-weaker}
 use Rattle.au_term.specs.Term.{argument_count, term_at, drop_terms}
@@ -6,8 +6,7 @@ use Rattle.au_model.specs.Terms.Forms.{name_of}
 use Rattle.run_model.specs.Goals.Control.{call_outcome, either_form, throw_outcome, fail_goals, true_goals}
 use Rattle.run_model.specs.Goals.Outcomes.{Replies, Solutions, Controls, GoesOnWith, TestOf, CutToScope, CatchOf, FindallOf}
 use Rattle.run_model.specs.Programs.Bodies.{goals_of, call_of}
-use Rattle.cell_store.specs.StoreView.{StoreView, meaning}
-use Rattle.region_control.specs.GoalForms.{argument_terms}
+use Rattle.cell_store.specs.StoreView.{meaning}
 use Rattle.region_control.specs.Replies.{LeavesOutcome}
 use Rattle.region_control.specs.declared.replies.AfterGoal.TheVariants.{At, Failed}
 use Rattle.std_builtins.specs.Controls.{IsControl}

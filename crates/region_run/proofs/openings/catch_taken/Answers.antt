@@ -1,5 +1,5 @@
 use Rattle.std.proofs.Common.{◌∙◌, ap, ap₂}
-use Rattle.run_model.specs.Goals.Outcomes.{CatchOf, ControlForm}
+use Rattle.run_model.specs.Goals.Outcomes.{CatchOf}
 use Rattle.au_term.specs.Term.{term_at}
 use Rattle.cell_store.specs.StoreView.{meaning}
 use Rattle.region_control.specs.GoalForms.{argument_terms}

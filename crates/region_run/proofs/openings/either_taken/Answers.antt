@@ -1,4 +1,4 @@
-use Rattle.std.proofs.Common.{◌∷◌, [], ap, ap₂}
+use Rattle.std.proofs.Common.{ap₂}
 use Rattle.run_model.specs.Goals.Control.{either_form}
 use Rattle.region_run.proofs.InferenceLemmas.{opened, argument_read}
 use Rattle.region_run.proofs.openings.either_taken.Goals as goal

@@ -1,4 +1,4 @@
-use Rattle.std.proofs.Common.{◌∷◌, [], ap, ap₂}
+use Rattle.std.proofs.Common.{◌∷◌, [], ap}
 use Rattle.run_model.specs.Goals.Control.{fail_goals, true_goals}
 use Rattle.run_model.specs.Goals.Outcomes.{TestOf}
 use Rattle.run_model.specs.Programs.Bodies.{call_of}

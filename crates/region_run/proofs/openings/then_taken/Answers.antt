@@ -1,4 +1,4 @@
-use Rattle.std.proofs.Common.{◌∷◌, [], ap, ap₂}
+use Rattle.std.proofs.Common.{ap₂}
 use Rattle.run_model.specs.Goals.Control.{fail_goals}
 use Rattle.run_model.specs.Goals.Outcomes.{TestOf}
 use Rattle.run_model.specs.Programs.Bodies.{goals_of}

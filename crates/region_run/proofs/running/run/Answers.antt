@@ -1,7 +1,8 @@
-use Rattle.std.proofs.Common.{◌<◌, Some, None, refl, subst, arith}
+use Rattle.std.proofs.Common.{◌+◌, ◌<◌, Some, None, refl, sym, subst, arith}
 use Rattle.region_control.specs.Ahead.{LiesAhead}
 use Rattle.region_control.specs.declared.ahead.Ahead.TheVariants as ahead
 use Rattle.region_run.specs.declared.running.Stop.TheVariants as stop
+use Rattle.region_run.specs.Runs.{Runs}
 use Rattle.region_run.proofs.RunLemmas.{runs_up_to, goes_on_at, fails_on, ends_uncaught, world_next}
 use Rattle.region_run.proofs.running.run.Goals.{in-At, in-Failed}
 use Rattle.region_run.proofs.running.run.Goals as goal
@@ -65,7 +66,8 @@ returns-in-Uncaught-clause-runs c =
     let le = c.loop-item.invariant.1 in
     let l = subst (LiesAhead r r1 c.loop-item.next) c.in-Goal.is c.in_ok-item.ensures.ahead in
     let few : c.loop-item.taken < c.args.limit = let other = c.if-taken-limit.false in omega (arith, le, other) in
-    ends_uncaught old r r1 c.args.start c.loop-item.next c.loop-item.taken w (ahead.Goal c.in-Goal.item c.in-Goal.place) l c.in-Goal.item c.in-Goal.place refl l.there c.in_ok-item.ensures.text c.infer.new.region c.in_ok-position-in-Goal.field-0 c.in_ok-position-in-Goal.ensures.infers c.args.limit c.in-Uncaught.ball few c.in-Uncaught.is
+    subst (λ ball. Runs old c.infer.new.region c.args.start c.args.limit (record { taken = c.loop-item.taken + 1; stop = stop.QueryDone (Some ball) })) (sym c.into_inner.ensures)
+    (ends_uncaught old r r1 c.args.start c.loop-item.next c.loop-item.taken w (ahead.Goal c.in-Goal.item c.in-Goal.place) l c.in-Goal.item c.in-Goal.place refl l.there c.in_ok-item.ensures.text c.infer.new.region c.in_ok-position-in-Goal.field-0 c.in_ok-position-in-Goal.ensures.infers c.args.limit c.in-Uncaught.ball few c.in-Uncaught.is)
 
 pub returns-in-AsksWorld-clause-runs : goal.returns-in-AsksWorld-clause-runs
 returns-in-AsksWorld-clause-runs c =

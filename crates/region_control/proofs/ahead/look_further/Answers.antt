@@ -2,8 +2,8 @@ use Rattle.std.proofs.Common.{length, subst}
 use Rattle.region_split.specs.ClauseTrials.{IsOptionalPosition}
 use Rattle.region_control.specs.Ahead.{HasFirst}
 use Rattle.region_control.proofs.AheadLemmas.{going_at, going_back, removal_ahead, answer_ahead, collected_on, fewer_entries}
-use Rattle.region_control.proofs.ahead.look_ahead.Goals.{in-Some, in-None+in_ok-now-in-None}
-use Rattle.region_control.proofs.ahead.look_ahead.Goals as goal
+use Rattle.region_control.proofs.ahead.look_further.Goals.{in-Some, in-None+in_ok-now-in-None}
+use Rattle.region_control.proofs.ahead.look_further.Goals as goal
 
 pub loop-now-init : goal.loop-now-init
 loop-now-init c =
