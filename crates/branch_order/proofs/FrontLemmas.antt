@@ -1,8 +1,8 @@
 -- What is known at the front.
-use Rattle.std.proofs.Common.{◌≡◌, ℕ, zero, suc, ◌+◌, ◌<◌, Bool, true, false, List, [], ◌∷◌, ◌++◌, length, take, drop, Option, Some, None}
+use Rattle.std.proofs.Common.{◌≡◌, ℕ, zero, suc, ◌+◌, Bool, true, false, List, [], ◌∷◌, ◌++◌, length, take, drop, Option, Some, None}
 use Rattle.std.proofs.Common.{refl, sym, ap, ◌∙◌, arith, subst}
 use Rattle.std.specs.Option.{option_map}
-use Rattle.std.specs.Prelude.{slice_get, IsSome, is_some}
+use Rattle.std.specs.Prelude.{slice_get, is_some}
 use Rattle.au_term.proofs.LogicLemmas.{both}
 use Rattle.tree_model.specs.Credits.{counted}
 use Rattle.tree_model.specs.Nodes.{Numbered, Status, Pending, Inner, Closed}
@@ -159,11 +159,6 @@ counts_all nodes before (d ∷ above) e h k = counts_all nodes (Some d) above e 
 
 pub front_counts : (nodes : NodesView) (e : Front) → IsFront nodes (Some e) → CountsAt nodes e
 front_counts nodes e h = counts_all nodes None h.0 e h.1 tt
-
-pub some_within : (cells : List (ℕ × AlternativeCell)) (i : ℕ) → i < length cells → IsSome (slice_get cells i)
-some_within [] i l = absurd (omega (arith, l))
-some_within (x ∷ cells) zero l = refl
-some_within (x ∷ cells) (suc i) l = some_within cells i (omega (arith, l))
 
 -- a walk up ends at the front
 pub counts_end : (nodes : NodesView) (a b : Place) (answers inferences spent : ℕ) (beside : ℕ × ℕ) (e : Front) → Counts nodes a (Some b) answers inferences

@@ -46,7 +46,7 @@ mutual
       some_among up way n kind (suc i) ((spent, Closed credit) ∷ left) others o h.1
 
 -- what is sound to the right of alternatives
-sound-right : (way : Way) (n : ℕ) (kind : Kind) (left : List (ℕ × Status)) (others : Alternatives) → AreSound way n kind 0 (put_left left others)
+pub sound-right : (way : Way) (n : ℕ) (kind : Kind) (left : List (ℕ × Status)) (others : Alternatives) → AreSound way n kind 0 (put_left left others)
     → AreSound way n kind (length left) others
 sound-right way n kind [] others h = h
 sound-right way n kind (a ∷ left) others h = (sound-right way n kind left (alternative a.0 a.1 others) h).1

@@ -1,7 +1,7 @@
 -- The walk to the right over the entries of a tree, a node at a time.
 use Rattle.std.proofs.Common.{◌≡◌, ℕ, zero, suc, ◌+◌, ◌-◌, ◌*◌, ◌<◌, ◌≤◌, Bool, true, false, cond, List, [], ◌∷◌, ◌++◌, length, take, Option, Some, None}
 use Rattle.std.proofs.Common.{refl, sym, ap, ◌∙◌, arith, subst, append_assoc, length-append}
-use Rattle.std.proofs.lemmas.List.{append-nil}
+use Rattle.std.proofs.lemmas.List.{append-nil, nil_from_length}
 use Rattle.std.specs.Option.{option_map}
 use Rattle.std.specs.Prelude.{find, slice_get, IsSome, is_some, is_none}
 use Rattle.run_model.specs.Machine.Entries.{Entry}
@@ -18,7 +18,7 @@ use Rattle.tree_nodes.specs.RowViews.{inner_of}
 use Rattle.tree_nodes.specs.Puts.{inner_at}
 use Rattle.tree_nodes.specs.Gathering.{are_shut}
 use Rattle.tree_nodes.specs.Gaps.{shut_or_past, IsShutAt, IsNextAfter}
-use Rattle.branch_order.proofs.FrontLemmas.{some_within}
+use Rattle.tree_nodes.proofs.CellLemmas.{some_within}
 use Rattle.tree_nodes.specs.Fronts.{place_on, IsNextDown, AreNext, IsFront}
 use Rattle.tree_nodes.specs.TreeTables.{node_number, cell_of, cells_of, IsIn, NodesView, IsRoot, IsTableOf, Stand, above_of}
 use Rattle.tree_nodes.proofs.PlaceLemmas.{left_cells, length-left_cells, cells_of-put, taken_out}
@@ -279,15 +279,11 @@ close_passed test root n most up kind left (alternative spent (Closed credit) ot
 close_passed test root n most up kind left (alternative spent (Pending hold entry) others) (suc j) e f g h l = absurd (cc h)
 close_passed test root n most up kind left (alternative spent (Inner node) others) (suc j) e f g h l = absurd (cc h)
 
-nil_of : (left : List (ℕ × Status)) → length left ≡ 0 → left ≡ []
-nil_of [] e = refl
-nil_of (x ∷ left) e = let z : suc (length left) ≡ 0 = e in absurd (omega (arith, z))
-
 pub closed_passed : (nodes : NodesView) (test : Spot → Bool) (n j most : ℕ) → are_shut (take j (alternatives_at (row_of_node nodes.rows n))) ≡ true
     → j ≤ length (alternatives_at (row_of_node nodes.rows n)) → IsAheadFrom nodes test n 0 most → IsAheadFrom nodes test n j most
 closed_passed nodes test n j most shut l h read root s =
     let k = h read root s in
-    let none_left : k.left ≡ [] = nil_of k.left k.index in
+    let none_left : k.left ≡ [] = nil_from_length k.left k.index in
     let cells : alternatives_at (row_of_node nodes.rows n) ≡ cells_of k.right
     = cells_ahead nodes test n 0 most read root s k ∙ ap (λ (x : List (ℕ × Status)). left_cells x ++ cells_of k.right) none_left in
     let many : length (alternatives_at (row_of_node nodes.rows n)) ≡ length (cells_of k.right) = ap length cells in

@@ -17,7 +17,8 @@ use Rattle.tree_nodes.specs.Bodies.{Body, node_kind}
 use Rattle.tree_nodes.specs.Gathering.{closed_in, add_left, with_left}
 use Rattle.tree_nodes.specs.Rows.{AlternativeCell, row_of_node, node_parent, alternatives_at, cell_at, scope_number}
 use Rattle.tree_nodes.specs.TreeTables.{cell_of, cells_of, NodesView, IsTableOf}
-use Rattle.tree_nodes.proofs.CreditLemmas.{same_credit, added-assoc}
+use Rattle.tree_nodes.proofs.CellLemmas.{some_within}
+use Rattle.tree_nodes.proofs.CreditLemmas.{same_credit, added-assoc, with_left-snoc}
 use Rattle.tree_nodes.proofs.PlaceLemmas.{left_cells, length-left_cells}
 use Rattle.tree_nodes.proofs.WalkLemmas.{cells_beside, cell_here, parent_here, one_level_up, no_level_up}
 use Rattle.tree_closing.specs.Sleeping.{right_of, is_asleep_at}
@@ -53,23 +54,14 @@ with_left-last (y ∷ cells) zero x c e =
     ap (λ (z : ℕ × AlternativeCell). add_left (closed_in z.1) c) is
 with_left-last (y ∷ cells) (suc k) x c e = ap (add_left (closed_in y.1)) (with_left-last cells k x c e)
 
-pub some_at : (cells : List (ℕ × AlternativeCell)) (i : ℕ) → i < length cells → IsSome (slice_get cells i)
-some_at [] i l = absurd (omega (arith, l))
-some_at (x ∷ cells) zero l = refl
-some_at (x ∷ cells) (suc i) l = some_at cells i (omega (arith, l))
-
 pub left_step : (cells : List (ℕ × AlternativeCell)) (k : ℕ) (old new : Credit) → k < length cells → new ≡ add_left (closed_at (slice_get cells k)) old
     → with_left (take k cells) new ≡ with_left (take (suc k) cells) old
-left_step cells k old new l f = by_cell (slice_get cells k) refl (some_at cells k l) f
+left_step cells k old new l f = by_cell (slice_get cells k) refl (some_within cells k l) f
   where
     by_cell : (o : Option (ℕ × AlternativeCell)) → slice_get cells k ≡ o → IsSome o → new ≡ add_left (closed_at o) old
         → with_left (take k cells) new ≡ with_left (take (suc k) cells) old
     by_cell None g h e = absurd (cc h)
     by_cell (Some x) g h e = ap (with_left (take k cells)) e ∙ sym (with_left-last cells k x old g)
-
-with_left-snoc : (cells : List (ℕ × AlternativeCell)) (x : ℕ × AlternativeCell) (c : Credit) → with_left (cells ++ x ∷ []) c ≡ with_left cells (add_left (closed_in x.1) c)
-with_left-snoc [] x c = refl
-with_left-snoc (y ∷ cells) x c = ap (add_left (closed_in y.1)) (with_left-snoc cells x c)
 
 take_front : (xs ys : List (ℕ × AlternativeCell)) (n : ℕ) → n ≡ length xs → take n (xs ++ ys) ≡ xs
 take_front [] ys n e = ap (λ (k : ℕ). take k ys) e

@@ -1,7 +1,7 @@
 -- Pruning, alternative by alternative and level by level.
-use Rattle.std.proofs.Common.{◌≡◌, ℕ, zero, suc, ◌+◌, ◌<◌, ◌≤◌, ◌==◌, Bool, true, false, cond, List, [], ◌∷◌, ◌++◌, length, Option, Some, None, refl, sym, ap, ◌∙◌, arith, subst, length-append}
+use Rattle.std.proofs.Common.{◌≡◌, ℕ, suc, ◌+◌, ◌<◌, ◌≤◌, ◌==◌, Bool, true, false, cond, List, ◌∷◌, ◌++◌, length, Option, Some, None, refl, sym, ap, ◌∙◌, arith, subst, length-append}
 use Rattle.std.proofs.lemmas.Option.{slice_get_within}
-use Rattle.std.specs.Prelude.{IsSome, slice_get}
+use Rattle.std.specs.Prelude.{IsSome}
 use Rattle.tree_model.specs.Credits.{no_credit}
 use Rattle.tree_model.specs.Nodes.{Numbered, Alternatives, none, alternative, Status, Inner, Closed}
 use Rattle.tree_model.specs.Levels.{Level, put_left, level_node, plug, Place, place_at}
@@ -12,6 +12,7 @@ use Rattle.tree_nodes.specs.TreeTables.{cell_of, cells_of, NodesView, IsTableOf,
 use Rattle.tree_nodes.specs.Changes.{SetsCell, KeepsNumbers}
 use Rattle.tree_nodes.specs.Puts.{IsPlaceIn}
 use Rattle.tree_nodes.specs.Folds.{IsAbove}
+use Rattle.tree_nodes.proofs.CellLemmas.{some_within}
 use Rattle.tree_nodes.proofs.PlaceLemmas.{left_cells, length-left_cells, cells_of-put, taken_out}
 use Rattle.tree_nodes.proofs.LocateLemmas.{located}
 use Rattle.tree_nodes.proofs.PutLemmas.{is_some_cell}
@@ -117,11 +118,6 @@ place_stays old nodes a j i st there p l =
     let w : length (alternatives_at (row_of_node nodes.rows a.node)) ≡ length (alternatives_at (row_of_node nodes.rows k.level.number)) = ap (λ (n : ℕ). length (alternatives_at (row_of_node nodes.rows n))) (sym node) in
     let z : length (alternatives_at (row_of_node old.rows k.level.number)) ≡ length (alternatives_at (row_of_node old.rows a.node)) = ap (λ (n : ℕ). length (alternatives_at (row_of_node old.rows n))) node in
     some_within (alternatives_at (row_of_node nodes.rows a.node)) i (omega (arith, l, width, same, w, z))
-  where
-    some_within : (cells : List (ℕ × AlternativeCell)) (i : ℕ) → i < length cells → IsSome (slice_get cells i)
-    some_within [] i l = absurd (omega (arith, l))
-    some_within (x ∷ cells) zero l = refl
-    some_within (x ∷ cells) (suc i) l = some_within cells i (omega (arith, l))
 
 pub within_some : (rows : Rows) (a : Place) → IsSome (cell_at rows a) → a.index < length (alternatives_at (row_of_node rows a.node))
 within_some rows a h = let c = is_some_cell (cell_at rows a) h in slice_get_within (alternatives_at (row_of_node rows a.node)) a.index c.0 c.1

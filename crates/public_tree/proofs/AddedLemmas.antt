@@ -1,6 +1,6 @@
 -- Nodes that are added one below the other.
 use Rattle.std.proofs.Common.{◌≡◌, ℕ, suc, ◌+◌, Bool, true, false, cond, List, [], ◌∷◌, ◌++◌, length, drop, Option, Some, None, refl, sym, ap, ◌∙◌, subst, arith}
-use Rattle.std.proofs.Common.{append_assoc, append-nil, Result, Ok, Err, OnErr}
+use Rattle.std.proofs.Common.{append_assoc, append-nil}
 use Rattle.std.specs.Option.{option_map}
 use Rattle.std.specs.Prelude.{◌==◌, nat_le}
 use Rattle.clause_compile.specs.declared.event.Branch.{Branch}
@@ -159,7 +159,3 @@ pub goes_on : (old now more : NodesView) (a p : Place) (done : List Body) (body 
     → length more.rows ≡ length now.rows + 1 → GoesOn old now a p done → GoesOn old more a (record { node = n; index = 0 }) (done ++ body ∷ [])
 goes_on old now more a p done body n adds whole number longer h = λ final bodies k.
     subst (AddsBelow old final a) (sym (append_assoc done (body ∷ []) bodies)) (h final (body ∷ bodies) (one_below now more p n body adds whole number longer final bodies k))
-
-pub on_error : {T E : Type 0} (r : Result T E) (P : Type 0) → P → OnErr r P
-on_error (Ok x) P p = tt
-on_error (Err e) P p = p

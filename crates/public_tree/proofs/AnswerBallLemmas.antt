@@ -1,5 +1,5 @@
 -- A ball that is thrown at the front, in the tree for which the nodes stand.
-use Rattle.std.proofs.Common.{◌≡◌, ℕ, suc, ◌+◌, Bool, true, false, cond, List, [], ◌∷◌, ◌++◌, length, Option, Some, None, refl, sym, ap, ◌∙◌, subst, arith}
+use Rattle.std.proofs.Common.{◌≡◌, ℕ, suc, ◌+◌, Bool, true, false, cond, List, [], ◌∷◌, ◌++◌, length, Option, Some, None, sym, ap, ◌∙◌, subst, arith}
 use Rattle.std.specs.Option.{option_map}
 use Rattle.std.specs.Prelude.{find, is_none, ◌&&◌}
 use Rattle.au_term.specs.Term.{Term}
@@ -22,10 +22,11 @@ use Rattle.tree_model.specs.Gates.{ball_scope}
 use Rattle.tree_model.specs.Legality.{is_taken_by, is_spot_at, taken_at, is_allowed}
 use Rattle.tree_model.specs.Levels.{Level, plug, Place, same_place, Spot, levels_of, place_of_spot, pending_of}
 use Rattle.tree_model.specs.Nodes.{Hold, Pending, Inner, single}
-use Rattle.tree_model.specs.Orders.{is_node, levels_below, first_open_left, first_open, is_cleared}
+use Rattle.tree_model.specs.Orders.{first_open, is_cleared}
 use Rattle.tree_model.specs.Pruning.{Task, tasks_pruned, ball_closes}
 use Rattle.tree_model.specs.SoundTrees.{IsOpen, profile, IsSound, IsSoundTree}
 use Rattle.tree_model.specs.TreeStates.{TreeState, first_spot, leftmost}
+use Rattle.tree_model.proofs.OrderLemmas.{none_below}
 use Rattle.tree_nodes.specs.Bodies.{Body, Reading}
 use Rattle.tree_nodes.specs.Rows.{PendingCell, InnerCell, cell_at}
 use Rattle.tree_nodes.specs.TreeTables.{IsTableOf}
@@ -90,23 +91,6 @@ raised_sleeps w a t s es sound e raises =
     let o = taken_at_open w a t s e in
     front_sleeps t.job.clauses (levels_of s) s.hold s.entry es t.world (subst (IsSound []) (sym o.inside) sound.sound) o.opened raises
 
--- where all to the left has closed, it has below any scope
-abbrev or_left : Level → Option Place → Option Place
-or_left v o = elim o as (λ p. Option Place) [ Some p ↦ Some p | None ↦ first_open_left v.number v.left ]
-
-clear_below : (scope : Option ℕ) (levels : List Level) → first_open levels ≡ None → first_open (levels_below scope levels) ≡ None
-clear_below scope [] h = refl
-clear_below scope (v ∷ up) h = by_above (first_open up) refl h (clear_below scope up)
-  where
-    by_test : (b : Bool) → or_left v (first_open (levels_below scope up)) ≡ None → first_open (cond b [] (v ∷ levels_below scope up)) ≡ None
-    by_test true k = refl
-    by_test false k = k
-
-    by_above : (o : Option Place) → first_open up ≡ o → or_left v o ≡ None → (first_open up ≡ None → first_open (levels_below scope up) ≡ None)
-        → first_open (cond (is_node scope v.number) [] (v ∷ levels_below scope up)) ≡ None
-    by_above None e k below = by_test (is_node scope v.number) (ap (or_left v) (below e) ∙ k)
-    by_above (Some p) e k below = absurd (cc k)
-
 -- what is out, where it is at the place of the leftmost entry, is that entry
 found_first : (p : Spot → Bool) (ss : List Spot) (r s : Spot) → first_spot ss ≡ Some r → p r ≡ true → find p ss ≡ Some s → r ≡ s
 found_first p [] r s f k e = absurd (cc f)
@@ -138,7 +122,7 @@ first_out p w a read t s h e l =
 
 first_cleared : (w : ℕ) (p : PublicView) (a : Place) (n : ℕ) → IsBarred p a None → (read : Reading) (t : TreeState) (s : Spot) → IsPublicOf p read t
     → taken_at w a t ≡ Some s → is_cleared (Some n) (levels_of s) ≡ true
-first_cleared w p a n free read t s h e = ap is_none (clear_below (Some n) (levels_of s) (first_out p w a read t s h e (sym (free.1 read t h))))
+first_cleared w p a n free read t s h e = ap is_none (none_below (Some n) (levels_of s) (first_out p w a read t s h e (sym (free.1 read t h))))
 
 -- it lands somewhere
 pub no_landing : (p : PublicView) (w : ℕ) (a : Place) (n : ℕ) (body : Body) → IsBarred p a None → IsOut p w a → LandsNowhere p.nodes a n

@@ -11,19 +11,20 @@ use Rattle.run_model.specs.Machine.Balls.{taken_by, next_mark, recovered, unwoun
 use Rattle.run_model.specs.Machine.Items.{Item, GoalItem, CatchMark, CollectMark, RemovalItem, Continuation, with_items, first_mark}
 use Rattle.run_model.specs.Machine.Entries.{Entry, PlainEntry, CatchEntry, FindallEntry, EndEntry}
 use Rattle.tree_model.specs.Nodes.{CutGate, BallGate, Hold, Ready, TakenBy, Waiting, Dormant, Kind, ChoiceNode, CatchNode, FindallNode, QueryNode, Alternatives, none, alternative, Status, Pending, Inner, Closed}
-use Rattle.tree_model.specs.Levels.{Level, put_left, level_node, plug}
+use Rattle.tree_model.specs.Levels.{Level, level_node, plug}
 use Rattle.tree_model.specs.Closing.{dormant_right, guarded}
 use Rattle.tree_model.specs.Floors.{renamed_continuation, height_of, node_of, with_heights, right_entry, floor_of, query_kind, query_node}
 use Rattle.tree_model.specs.Gates.{ball_scope, is_caught_above, goal_gate, item_gate, gate_on}
-use Rattle.tree_model.specs.PendingLists.{Way, way_of}
+use Rattle.tree_model.specs.PendingLists.{way_of}
 use Rattle.tree_model.specs.PrivateRuns.{goal_alone, item_alone, taken_alone}
-use Rattle.tree_model.specs.SoundTrees.{Profile, IsOpen, IsDormant, guards, profile, profiles, are_pair, is_shape, AreSound, IsSound}
+use Rattle.tree_model.specs.SoundTrees.{Profile, IsOpen, IsDormant, guards, profile, profiles, are_pair, is_shape, IsSound}
 use Rattle.tree_model.specs.Ways.{is_on, is_query, under_query}
 use Rattle.interleaving.proofs.ContextLemmas.{put_profiles, profiles-put}
 use Rattle.interleaving.proofs.EntryLemmas.{length-floor}
 use Rattle.interleaving.proofs.GrowingLemmas.{none_dormant-of}
 use Rattle.interleaving.proofs.WayLemmas.{cond-true, cond-false, other_number}
 use Rattle.prune_ops.specs.Falls.{down_to, sleeper_on}
+use Rattle.branch_order.proofs.LeftmostLemmas.{sound-right}
 
 -- the levels of a place of a sound tree: no number comes twice, and each node has its shape
 record IsLevel (up : List Level) (v : Level) (p : Profile) : Type 0 where
@@ -34,16 +35,11 @@ abbrev AreLevels : List Level → Profile → Type 0
 AreLevels [] p = Unit {0}
 AreLevels (v ∷ up) p = IsLevel up v p × AreLevels up IsOpen
 
-sound_from : (way : Way) (n : ℕ) (kind : Kind) (left : List (ℕ × Status)) (others : Alternatives) → AreSound way n kind 0 (put_left left others)
-    → AreSound way n kind (length left) others
-sound_from way n kind [] others h = h
-sound_from way n kind (a ∷ left) others h = (sound_from way n kind left (alternative a.0 a.1 others) h).1
-
 sound_round : (levels : List Level) (status : Status) → IsSound [] (plug levels status) → AreLevels levels (profile status) × IsSound (way_of levels) status
 sound_round [] status h = (tt, h)
 sound_round (v ∷ up) status h =
     let k = sound_round up (Inner (level_node v status)) h in
-    let part = sound_from (way_of up) v.number v.kind v.left (alternative v.spent status v.right) k.1.3 in
+    let part = sound-right (way_of up) v.number v.kind v.left (alternative v.spent status v.right) k.1.3 in
     let shape : is_shape v.kind (put_profiles v.left (profile status ∷ profiles v.right)) ≡ true
     = ap (is_shape v.kind) (sym (profiles-put v.left (alternative v.spent status v.right))) ∙ k.1.1 in
     ((record { new = k.1.0; shape = shape }, k.0), part.0)

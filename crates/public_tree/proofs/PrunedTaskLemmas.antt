@@ -1,16 +1,14 @@
 -- The walk that gathers the tasks that a cut or a ball takes away.
-use Rattle.std.proofs.Common.{◌≡◌, ◌≢◌, ◌⊎◌, inl, inr, ℕ, zero, suc, ◌+◌, ◌-◌, ◌<◌, ◌≤◌, ◌==◌, Bool, true, false, cond, List, [], ◌∷◌, ◌++◌, length, Option, Some, None}
+use Rattle.std.proofs.Common.{◌≡◌, ◌≢◌, ℕ, zero, suc, ◌+◌, ◌-◌, ◌<◌, ◌≤◌, ◌==◌, Bool, true, false, cond, List, [], ◌∷◌, ◌++◌, length, Option, Some, None}
 use Rattle.std.proofs.Common.{refl, sym, ap, ◌∙◌, arith, subst, append_assoc, length-append}
 use Rattle.std.proofs.lemmas.List.{append-nil}
 use Rattle.std.specs.Option.{option_map}
 use Rattle.std.specs.Prelude.{IsSome, is_some}
-use Rattle.clause_compile.specs.declared.item.Scope.{Scope}
-use Rattle.clause_compile.specs.declared.item.Scope.TheVariants as scope
 use Rattle.tree_model.specs.Nodes.{Numbered, Alternatives, none, alternative, Status, Pending, Inner, Closed, nodes_among, nodes_below}
 use Rattle.tree_model.specs.Levels.{Level, put_left, plug, Place, place_at}
 use Rattle.tree_model.specs.Pruning.{Task, tasks_among, tasks_below, tasks_pruned}
 use Rattle.tree_nodes.specs.Bodies.{Body, Reading}
-use Rattle.tree_nodes.specs.Rows.{AlternativeCell, StoredNode, Rows, row_of_node, node_parent, alternatives_at, cell_at, scope_number}
+use Rattle.tree_nodes.specs.Rows.{AlternativeCell, StoredNode, Rows, row_of_node, node_parent, alternatives_at, cell_at}
 use Rattle.tree_nodes.specs.RowViews.{inner_of}
 use Rattle.tree_nodes.specs.Puts.{inner_at}
 use Rattle.tree_nodes.specs.Folds.{IsAbove}
@@ -328,11 +326,6 @@ begins nodes a scope before other read v up was at s =
           ∙ ap (λ (x : ℕ). before ++ (tasks_among v.number x v.right ++ tasks_pruned scope up)) (ap suc index ∙ one);
       nodes = omega (arith, live, less);
     })
-
--- the number of a scope
-pub number_is : (s : Scope) (n m : ℕ) → (s ≡ scope.Node n) ⊎ (s ≡ scope.Local n) → m ≡ n → m ≡ scope_number s
-number_is s n m (inl e) p = p ∙ sym (ap scope_number e)
-number_is s n m (inr e) p = p ∙ sym (ap scope_number e)
 
 -- the node of a walk is there
 module _ (nodes : NodesView) (a : Place) (scope : ℕ) (before : List Task) (n i depth most : ℕ) (found : List Task) (st : Stand nodes)

@@ -18,7 +18,7 @@ use Rattle.tree_nodes.specs.Rows.{AlternativeCell, node_parent, cell_at}
 use Rattle.tree_nodes.proofs.WalkLemmas.{cell_here, parent_here, one_level_up, no_level_up}
 use Rattle.tree_closing.proofs.SleeperLemmas.{Guards, one_beside}
 use Rattle.tree_closing.specs.Sleeping.{Sleeps, IsBesideSleeper}
-use Rattle.tree_closing.specs.Closings.{IsReached, Reaches, ComesToRest, woken_entry}
+use Rattle.tree_closing.specs.Closings.{IsReached, ClosesUpTo, ComesToRest, woken_entry}
 use Rattle.tree_closing.specs.declared.sleeping.Sleeping.TheVariants.{Nothing, Recovery, Following, QueryEnd}
 use Rattle.tree_closing.specs.declared.way_up.Beside.TheVariants.{Same, Closes, Gathers, Ends}
 
@@ -132,7 +132,7 @@ pub end_wakes : (next : ℕ) (v : Level) (up : List Level) (c : Credit) (b : Opt
 end_wakes next v up c b g = ap (λ (o : Option Entry). goal_side_closes next v up c o (closes next up)) g
 
 -- the way up, step by step
-pub reaches_begun : (nodes : NodesView) (a : Place) (c : Credit) → Reaches nodes a c a c
+pub reaches_begun : (nodes : NodesView) (a : Place) (c : Credit) → ClosesUpTo nodes a c a c
 reaches_begun nodes a c read v up was next p s h = record { level = v; above = up; status = was; same = refl; at = p; closes = refl }
 
 -- once what folds has folded, no more does
@@ -140,7 +140,7 @@ abbrev IsEnd : (next : ℕ) (v : Level) (up : List Level) (was : Status) (c : Cr
 IsEnd next v up was c e total = (r : IsReached next v up was c e total) × (folded_up (r.level ∷ r.above) total ≡ record { levels = r.level ∷ r.above; credit = total })
 
 -- where a closing has come to, all that folds has folded
-module _ (nodes : NodesView) (a : Place) (c : Credit) (b : Place) (now : Credit) (e : Place) (total : Credit) (h : Reaches nodes a c b now) (f : FoldsUpTo nodes b now e total) where
+module _ (nodes : NodesView) (a : Place) (c : Credit) (b : Place) (now : Credit) (e : Place) (total : Credit) (h : ClosesUpTo nodes a c b now) (f : FoldsUpTo nodes b now e total) where
   at_end : (read : Reading) (v : Level) (up : List Level) (was : Status) (next : ℕ) → place_at v ≡ a → IsTableOf nodes read (plug (v ∷ up) was) → IsSound [] (plug (v ∷ up) was) → IsEnd next v up was c e total
   at_end read v up was next p s snd =
       let k = h read v up was next p s snd in
@@ -207,7 +207,7 @@ module _ (nodes : NodesView) (a : Place) (c : Credit) (b : Place) (now : Credit)
         }
 
     pub reaches_above : (above : Place) (spent : ℕ) (more : Credit) → node_parent nodes.rows e.node ≡ Some (Some above) → option_map (λ k. k.0) (cell_at nodes.rows above) ≡ Some spent
-        → more ≡ added (credit_of spent) total → Reaches nodes a c above more
+        → more ≡ added (credit_of spent) total → ClosesUpTo nodes a c above more
     reaches_above above spent more parent sp sum read v up was next p s snd =
         let r = at_end read v up was next p s snd in
         let table = subst (IsTableOf nodes read) r.0.same s in

@@ -1,5 +1,6 @@
 -- What sleeps beside an alternative, in the table and in the tree.
 use Rattle.std.proofs.Common.{◌≡◌, ◌≢◌, ℕ, suc, Bool, true, false, List, [], ◌∷◌, ◌++◌, length, Option, Some, None, refl, sym, ap, ◌∙◌, subst}
+use Rattle.std.proofs.lemmas.List.{nil_from_length}
 use Rattle.std.specs.Option.{option_map}
 use Rattle.std.specs.Prelude.{slice_get}
 use Rattle.run_model.specs.Machine.Entries.{Entry, PlainEntry, CatchEntry, FindallEntry, EndEntry}
@@ -102,10 +103,6 @@ one_asleep (alternative sp (Pending (TakenBy w) e) others) h = absurd cc
 one_asleep (alternative sp (Pending (Waiting g) e) others) h = absurd cc
 one_asleep (alternative sp (Pending Dormant e) others) h = record { spent = sp; entry = e; others = others; is = refl }
 
-no_left : (left : List (ℕ × Status)) → length left ≡ 0 → left ≡ []
-no_left [] e = refl
-no_left (a ∷ left) e = absurd cc
-
 -- by the alternatives to the left
 abbrev by_left : (left : List (ℕ × Status)) (right : Alternatives) → Option Entry
 by_left left right = elim left as (λ l. Option Entry) [ [] ↦ dormant_right right | a ∷ rest ↦ None ]
@@ -145,7 +142,7 @@ module _ (nodes : NodesView) (a : Place) (read : Reading) (v : Level) (up : List
 
   pub one_beside : a.index ≡ 0 → is_asleep_at (cell_at nodes.rows (right_of a)) ≡ true → IsSound [] (plug (v ∷ up) was) → IsSleeper v
   one_beside first asleep snd =
-      let l : v.left ≡ [] = no_left v.left (ap (λ (q : Place). q.index) p ∙ first) in
+      let l : v.left ≡ [] = nil_from_length v.left (ap (λ (q : Place). q.index) p ∙ first) in
       let r = one_asleep v.right (ap is_asleep_at (sym (right_cell l)) ∙ asleep) in
       let shape : is_shape v.kind (profile was ∷ IsDormant (guards r.entry) ∷ profiles r.others) ≡ true =
       ap (λ (x : Alternatives). is_shape v.kind (profile was ∷ profiles x)) (sym r.is)

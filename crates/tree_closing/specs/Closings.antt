@@ -53,8 +53,8 @@ pub record IsRest (next : ℕ) (v : Level) (up : List Level) (was : Status) (c :
   pub reached : IsReached next v up was c b total
   pub rests : RestsAs beside next reached.level reached.above total (closes next (v ∷ up) c)
 
-abbrev pub Reaches : NodesView → Place → Credit → Place → Credit → Type 0
-Reaches nodes a c b now =
+abbrev pub ClosesUpTo : NodesView → Place → Credit → Place → Credit → Type 0
+ClosesUpTo nodes a c b now =
     (read : Reading) (v : Level) (up : List Level) (was : Status) (next : ℕ) → place_at v ≡ a → IsTableOf nodes read (plug (v ∷ up) was)
     → IsSound [] (plug (v ∷ up) was) → IsReached next v up was c b now
 

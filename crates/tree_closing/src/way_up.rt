@@ -3,7 +3,7 @@ ghost use Rattle.std.specs.Prelude.{◌≡◌, IsSome, IfOk};
 ghost use Rattle.tree_model.specs.EventViews.{place_view};
 ghost use Rattle.tree_model.specs.Credits.{added, credit_of};
 ghost use Rattle.tree_nodes.specs.Rows.{cell_at, credit_view};
-ghost use Rattle.tree_closing.specs.Closings.{Reaches, ComesToRest, HasSleeper};
+ghost use Rattle.tree_closing.specs.Closings.{ClosesUpTo, ComesToRest, HasSleeper};
 
 use crate::sleeping::{Sleeping, sleeper_beside};
 use au_term::NoMemory;

@@ -49,7 +49,7 @@ are_shut-snoc (y ∷ cells) x = ap (λ (b : Bool). is_shut y.1 && b) (are_shut-s
     and-assoc true b c = refl
     and-assoc false b c = refl
 
-with_left-snoc : (cells : List (ℕ × AlternativeCell)) (x : ℕ × AlternativeCell) (c : Credit) → with_left (cells ++ x ∷ []) c ≡ with_left cells (add_left (closed_in x.1) c)
+pub with_left-snoc : (cells : List (ℕ × AlternativeCell)) (x : ℕ × AlternativeCell) (c : Credit) → with_left (cells ++ x ∷ []) c ≡ with_left cells (add_left (closed_in x.1) c)
 with_left-snoc [] x c = refl
 with_left-snoc (y ∷ cells) x c = ap (add_left (closed_in y.1)) (with_left-snoc cells x c)
 

@@ -22,3 +22,4 @@ pub mod MeetLemmas
 pub mod FrontLemmas
 pub mod FrontKeptLemmas
 pub mod TakeBackLemmas
+pub mod CellLemmas

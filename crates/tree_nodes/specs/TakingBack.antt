@@ -8,7 +8,7 @@ use Rattle.tree_nodes.specs.Rows.{AlternativeCell}
 use Rattle.tree_nodes.specs.TreeTables.{NodesView, IsTableOf, IsWayTo}
 
 -- another cell is at a place
-pub record IsPut (old new : NodesView) (a : Place) (cell : ℕ × AlternativeCell) : Type 0 where
+pub record IsTakenBack (old new : NodesView) (a : Place) (cell : ℕ × AlternativeCell) : Type 0 where
   pub state : IsStatePut old.rows old.live new.rows new.live a cell
   pub first : new.first ≡ old.first
 

@@ -16,7 +16,7 @@ ghost use Rattle.tree_nodes.specs.Folds.{FoldsUpTo, ClosesWithRecords, AreWithou
 ghost use Rattle.tree_nodes.specs.Fronts.{HasOpenLeft, KeepsFront, IsFront, IsNextOf};
 ghost use Rattle.tree_nodes.specs.Siblings.{ArePassed, alternative_view};
 ghost use Rattle.tree_nodes.specs.Puts.{inner_at};
-ghost use Rattle.tree_nodes.specs.TakingBack.{IsPut, TakesBack};
+ghost use Rattle.tree_nodes.specs.TakingBack.{IsTakenBack, TakesBack};
 ghost use Rattle.tree_nodes.specs.Gathering.{IsFoldStep, FoldsWithRecords, Gathers, GathersRecords, is_shut_at};
 
 use crate::body::NodeBody;
@@ -282,7 +282,7 @@ impl Nodes {
     fn put(&mut self, at: AltRef, alternative: Alternative)
         requires there { IsSome (cell_at self.old.rows (place_view at)) }
         requires fits { Fits (cell_at self.old.rows (place_view at)) (cell_view alternative.state) }
-        ensures put { IsPut self.old self.new (place_view at) (alternative_view alternative) }
+        ensures put { IsTakenBack self.old self.new (place_view at) (alternative_view alternative) }
         ensures numbers { KeepsNumbers self.old self.new }
     {
         let limit = self.front_limit(at, &alternative.state);

@@ -3,7 +3,8 @@ use Rattle.std.specs.Prelude.{slice_get}
 use Rattle.tree_model.specs.Credits.{counted}
 use Rattle.tree_nodes.specs.Rows.{AlternativeCell, row_of_node, alternatives_at}
 use Rattle.tree_nodes.specs.Siblings.{counts_from, counts_in}
-use Rattle.branch_order.proofs.FrontLemmas.{counts_passed, some_within}
+use Rattle.tree_nodes.proofs.CellLemmas.{some_within}
+use Rattle.branch_order.proofs.FrontLemmas.{counts_passed}
 use Rattle.branch_order.proofs.clocks.counts_of.Goals as goal
 
 one_more : (cells : List (ℕ × AlternativeCell)) (i : ℕ) (n : ℕ × ℕ) → i < length cells → counts_from n (drop i cells)

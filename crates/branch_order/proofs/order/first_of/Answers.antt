@@ -6,7 +6,8 @@ use Rattle.tree_nodes.specs.Gathering.{is_shut_at}
 use Rattle.branch_order.specs.LeftOf.{open_index}
 use Rattle.tree_nodes.specs.Fronts.{place_on}
 use Rattle.branch_order.proofs.LeftLemmas.{open_more}
-use Rattle.branch_order.proofs.FrontLemmas.{shut_passed, some_within}
+use Rattle.tree_nodes.proofs.CellLemmas.{some_within}
+use Rattle.branch_order.proofs.FrontLemmas.{shut_passed}
 use Rattle.branch_order.proofs.order.first_of.Goals as goal
 
 pub loop-alternative-init : goal.loop-alternative-init

@@ -2,7 +2,7 @@ use Rattle.std.proofs.Common.{◌<◌, length, sym, subst, arith}
 use Rattle.tree_nodes.specs.Rows.{row_of_node, alternatives_at}
 use Rattle.tree_nodes.specs.Fronts.{place_on}
 use Rattle.branch_order.specs.Sought.{test_of, PassesAt}
-use Rattle.branch_order.proofs.FrontLemmas.{some_within}
+use Rattle.tree_nodes.proofs.CellLemmas.{some_within}
 use Rattle.branch_order.proofs.SoughtLemmas.{entry_found, goes_right, goes_down_at, jumped}
 use Rattle.branch_order.proofs.sought.next_turn.Goals as goal
 

@@ -7,7 +7,8 @@ use Rattle.branch_order.proofs.LeftLemmas.{row_within}
 use Rattle.branch_order.proofs.SoughtLemmas.{fewer_ahead}
 use Rattle.public_tree.specs.LostTasks.{task_view}
 use Rattle.public_tree.specs.PrunedTasks.{FindsTasks, GathersTo, TurnsTo, going_up}
-use Rattle.public_tree.proofs.PrunedTaskLemmas.{begins, row_there, some_nodes, down_from, up_from, ends_at, number_is}
+use Rattle.prune_ops.proofs.FallLemmas.{number_is}
+use Rattle.public_tree.proofs.PrunedTaskLemmas.{begins, row_there, some_nodes, down_from, up_from, ends_at}
 use Rattle.public_tree.proofs.pruned_tasks.gather.Goals.{in-Node, in-Node-2}
 use Rattle.public_tree.proofs.pruned_tasks.gather.Goals as goal
 

@@ -1,6 +1,6 @@
 use Rattle.std.proofs.Common.{◌+◌, ◌<◌, ◌≤◌, length, map, sym, arith}
 use Rattle.tree_nodes.specs.Rows.{row_of_node, alternatives_at}
-use Rattle.branch_order.proofs.FrontLemmas.{some_within}
+use Rattle.tree_nodes.proofs.CellLemmas.{some_within}
 use Rattle.public_tree.specs.LostTasks.{task_view}
 use Rattle.public_tree.proofs.PrunedTaskLemmas.{goes_right, on_and_on, goes_down, passes}
 use Rattle.public_tree.proofs.pruned_tasks.push_tasks.Goals as goal

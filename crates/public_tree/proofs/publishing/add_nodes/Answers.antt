@@ -7,7 +7,8 @@ use Rattle.tree_model.specs.EventViews.{place_view}
 use Rattle.tree_nodes.specs.Bodies.{IsWhole, body_view}
 use Rattle.tree_nodes.specs.TreeTables.{NodesView}
 use Rattle.public_tree.specs.Publishing.{bodies_view, AddsBelow, AddsSome}
-use Rattle.public_tree.proofs.AddedLemmas.{GoesOn, added_so_far, goes_on, ready_open, ready_below, on_error}
+use Rattle.tree_nodes.proofs.SomeLemmas.{on_err}
+use Rattle.public_tree.proofs.AddedLemmas.{GoesOn, added_so_far, goes_on, ready_open, ready_below}
 use Rattle.public_tree.proofs.BodyLemmas.{whole_at, next_bodies}
 use Rattle.public_tree.proofs.publishing.add_nodes.Goals as goal
 use Rattle.tree_nodes.specs.declared.body.NodeBody.{NodeBody}
@@ -16,7 +17,7 @@ pub returns-in_err-clone-clause-some : goal.returns-in_err-clone-clause-some
 returns-in_err-clone-clause-some c =
     let a = place_view c.args.at in
     let done = bodies_view (take c.loop-body.body-index c.args.bodies.now) in
-    on_error c.from_residual.result (AddsSome c.args.nodes.now c.loop-body.nodes a)
+    on_err c.from_residual.result (AddsSome c.args.nodes.now c.loop-body.nodes a)
     (done, added_so_far c.args.nodes.now c.loop-body.nodes a (place_view c.loop-body.at) done c.loop-body.invariant.ready c.loop-body.invariant.more)
 
 pub add-requires-clause-whole : goal.add-requires-clause-whole
@@ -30,7 +31,7 @@ pub returns-in_err-node-clause-some : goal.returns-in_err-node-clause-some
 returns-in_err-node-clause-some c =
     let a = place_view c.args.at in
     let done = bodies_view (take c.loop-body.body-index c.args.bodies.now) in
-    on_error c.from_residual-in_err-node.result (AddsSome c.args.nodes.now c.add.new.self a) (
+    on_err c.from_residual-in_err-node.result (AddsSome c.args.nodes.now c.add.new.self a) (
       done,
       subst (λ (n : NodesView). AddsBelow c.args.nodes.now n a done) (sym c.in_err-node.ensures.err)
           (added_so_far c.args.nodes.now c.loop-body.nodes a (place_view c.loop-body.at) done c.loop-body.invariant.ready c.loop-body.invariant.more),

@@ -3,7 +3,7 @@ use Rattle.tree_model.specs.EventViews.{place_view}
 use Rattle.tree_model.specs.Events.{Event, Nodes}
 use Rattle.public_tree.specs.PublicTrees.{PublicView, Answers, IsSameTree, is_going}
 use Rattle.public_tree.specs.Publishing.{bodies_view, body_sizes, MakesNodes, IsSameWith}
-use Rattle.public_tree.proofs.AddedLemmas.{on_error}
+use Rattle.tree_nodes.proofs.SomeLemmas.{on_err}
 use Rattle.public_tree.proofs.HandOutLemmas.{KeepsOthers}
 use Rattle.public_tree.proofs.PublishingLemmas.{published_out, same_out}
 use Rattle.public_tree.proofs.public.PublicTree.publish.Goals as goal
@@ -22,7 +22,7 @@ returns-in_err-make_nodes-clause-err c =
       budget = ap (λ (p : PublicView). p.budget) was;
       window = ap (λ (p : PublicView). p.window) was;
     } in
-    on_error c.from_residual-in_err-make_nodes.result (IsSameTree old _)
+    on_err c.from_residual-in_err-make_nodes.result (IsSameTree old _)
     (same_out w old _ a c.requires.out same others (ap (λ (p : PublicView). p.log.stopped) was) (ap (λ (p : PublicView). p.log.events) was))
 
 pub returns-clause-publishes : goal.returns-clause-publishes

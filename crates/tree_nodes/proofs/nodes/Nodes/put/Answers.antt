@@ -6,7 +6,7 @@ use Rattle.tree_nodes.specs.Siblings.{alternative_view}
 use Rattle.tree_nodes.specs.TreeTables.{NodesView}
 use Rattle.tree_nodes.specs.Changes.{Fits}
 use Rattle.tree_nodes.specs.Fronts.{KeepsFront}
-use Rattle.tree_nodes.specs.TakingBack.{IsPut}
+use Rattle.tree_nodes.specs.TakingBack.{IsTakenBack}
 use Rattle.tree_nodes.proofs.FrontKeptLemmas.{put_kept}
 use Rattle.tree_nodes.proofs.nodes.Nodes.put.Goals as goal
 
@@ -28,5 +28,5 @@ returns-clause-put c =
     let new : NodesView = record { rows = c.put_cell.new.table; first = c.self.inside.first; live = c.put_cell.new.live; spare = c.self.inside.spare } in
     let a = place_view c.args.at in
     let cell = alternative_view c.args.alternative in
-    subst (λ (o : NodesView). IsPut o c.advance_below.new.self a cell) c.self.view_is
-    (subst (λ (o : NodesView). IsPut old o a cell) (sym c.advance_below.ensures) (record { state = c.put_cell.ensures; first = refl }))
+    subst (λ (o : NodesView). IsTakenBack o c.advance_below.new.self a cell) c.self.view_is
+    (subst (λ (o : NodesView). IsTakenBack old o a cell) (sym c.advance_below.ensures) (record { state = c.put_cell.ensures; first = refl }))
