@@ -13,7 +13,7 @@ use Rattle.public_tree.specs.Following.{tree_of, EventsFollow, KnownEventsFollow
 use Rattle.interleaving.proofs.LegalLemmas.{opening_sound}
 use Rattle.interleaving.proofs.UnchangedPlaceLemmas.{after-last}
 
-one_more_legal : (t : TreeState) (es : List Event) (e : Event) → are_legal t es ≡ true → is_legal (after_events t es) e ≡ true
+pub one_more_legal : (t : TreeState) (es : List Event) (e : Event) → are_legal t es ≡ true → is_legal (after_events t es) e ≡ true
     → are_legal t (es ++ e ∷ []) ≡ true
 one_more_legal t [] e h l = ap (λ (b : Bool). b && true) l
 one_more_legal t (d ∷ es) e h l =

@@ -1,0 +1,6 @@
+mod TasksOutLemmas
+mod MoveLemmas
+mod HandedLemmas
+mod ReturnedLemmas
+mod OpenLemmas
+mod PromiseLemmas

@@ -1,0 +1,6 @@
+pub mod Brands
+pub mod TasksOut
+pub mod Histories
+pub mod HandOuts
+pub mod Openings
+pub mod KeptPromises

@@ -1,0 +1,14 @@
+//! The tree of a job: the public tree whose events are a legal history of that job. Contracts see the job, with what budget and
+//! window the tree was opened, and the events since; the tree of the definition after these is what each call speaks of.
+//!
+//! The job itself is no part of a tree at run time: its type says which one it is.
+#![tactic(auto)]
+
+mod brand;
+mod hand_out;
+mod query;
+mod tree;
+
+pub use brand::JobBrand;
+pub use query::QueryGoals;
+pub use tree::Tree;
