@@ -1,6 +1,6 @@
 -- What is handed out of a job's tree, and what is out.
-use Rattle.std.proofs.Common.{◌≡◌, ◌≢◌, ℕ, ◌+◌, ◌≤◌, Bool, true, false, cond, List, [], ◌∷◌, ◌++◌, length, Option, Some, None, inl, inr, refl, sym, ap, ◌∙◌, subst, arith}
-use Rattle.std.specs.Prelude.{◌⊎◌, Result, Ok, Err, IfOk, OnErr}
+use Rattle.std.proofs.Common.{◌≡◌, ◌≢◌, ℕ, ◌+◌, ◌≤◌, Bool, true, false, cond, List, [], ◌∷◌, ◌++◌, length, Option, Some, None, refl, sym, ap, ◌∙◌, subst, arith}
+use Rattle.std.specs.Prelude.{Result, Ok, Err, IfOk, OnErr}
 use Rattle.std.specs.Option.{option_map}
 use Rattle.run_model.specs.Programs.Jobs.{Job}
 use Rattle.tree_model.specs.declared.places.AltRef.{AltRef}
@@ -8,7 +8,6 @@ use Rattle.tree_model.specs.Events.{Event, Claim, Resume}
 use Rattle.tree_model.specs.HandOuts.{Handed, Never, Out, Away, Over, claimed, resumed, handed_by, and_so_on, handed_after}
 use Rattle.tree_model.specs.Legality.{is_spot_at, is_allowed, is_legal}
 use Rattle.tree_model.specs.Levels.{Place, same_place, Spot, place_of_spot}
-use Rattle.tree_model.specs.Promises.{tasks_out}
 use Rattle.tree_model.specs.TreeStates.{TreeState}
 use Rattle.tree_nodes.specs.RowViews.{parent_view}
 use Rattle.interleaving.proofs.UnchangedPlaceLemmas.{same_place-is, place_self}
@@ -18,7 +17,7 @@ use Rattle.public_tree.specs.Following.{tree_of, IsOnce}
 use Rattle.public_tree.proofs.FollowingLemmas.{known_follow}
 use Rattle.tree_core.specs.TasksOut.{out_by, out_after}
 use Rattle.tree_core.specs.Histories.{history_of, IsTreeOf}
-use Rattle.tree_core.specs.HandOuts.{offered_at, handing_out, WasHanded, LeavesOther}
+use Rattle.tree_core.specs.HandOuts.{offered_at, handing_out, WasHanded}
 use Rattle.tree_core.proofs.TasksOutLemmas.{after_more}
 use Rattle.tree_core.proofs.MoveLemmas.{Moves, legal_parts, noted, nothing, here}
 
@@ -99,20 +98,3 @@ module _ (job : Job) (event : Place → Event) (offer : TreeState → Option Spo
       → IfOk r (λ at. WasHanded before (parent_view at) (history_of job old))
   before_handed once before only (Ok at) k = handed_once once before only (parent_view at) k
   before_handed once before only (Err x) k = tt
-
-  -- where nothing was offered, the tree goes on and nobody has a task
-  pub leaves_other : (other : TreeState → Option Spot) → (is_going t ≡ true → tasks_out t ≡ [] → offer t ≢ None ⊎ other t ≢ None)
-      → (at : Option Place) → HandsOut event offer old new at → LeavesOther other at t
-  leaves_other other one (Some a) k = tt
-  leaves_other other one None k = λ going idle. by_one going (one going idle)
-    where
-      none_offered : is_going t ≡ true → offer t ≡ None
-      none_offered going = sym (ap (λ (b : Bool). cond b (offer t) None) going) ∙ k.1 (reading job) t h.follows.stands
-
-      by_one : is_going t ≡ true → offer t ≢ None ⊎ other t ≢ None → other t ≢ None
-      by_one going (inl n) = absurd (n (none_offered going))
-      by_one going (inr n) = n
-
-pub swapped : {A B : Type 0} → A ⊎ B → B ⊎ A
-swapped (inl a) = inr a
-swapped (inr b) = inl b

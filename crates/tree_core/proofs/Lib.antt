@@ -2,5 +2,6 @@ mod TasksOutLemmas
 mod MoveLemmas
 mod HandedLemmas
 mod ReturnedLemmas
+mod TurnLemmas
 mod OpenLemmas
 mod PromiseLemmas

@@ -4,7 +4,7 @@ use Rattle.std.specs.Prelude.{◌⊎◌, ◌&&◌, not, is_none}
 use Rattle.au_term.proofs.LogicLemmas.{both}
 use Rattle.run_model.specs.Programs.Jobs.{Job}
 use Rattle.tree_model.specs.Credits.{greatest}
-use Rattle.tree_model.specs.Events.{Event, Suspend, Lost, Stop}
+use Rattle.tree_model.specs.Events.{Event, Nodes, Suspend, Lost, Prune, Answer, Stop}
 use Rattle.tree_model.specs.HandOuts.{Handed, Never, Out, Away, Over, given_back, if_here, and_so_on, handed_after}
 use Rattle.tree_model.specs.Levels.{Place}
 use Rattle.tree_model.specs.Promises.{Once}
@@ -14,6 +14,9 @@ use Rattle.interleaving.proofs.UnchangedPlaceLemmas.{place_self}
 use Rattle.branch_reading.specs.Readings.{reading}
 use Rattle.public_tree.specs.PublicTrees.{PublicView, Notes, NotesIn, IsSameTree, Stops, is_going}
 use Rattle.public_tree.specs.Following.{tree_of}
+use Rattle.public_tree.specs.declared.closing.TaskEnd.{TaskEnd}
+use Rattle.public_tree.specs.declared.closing.TaskEnd.TheVariants.{Nothing, Result}
+use Rattle.public_tree.specs.PublicClosing.{closing_event}
 use Rattle.public_tree.proofs.FollowingLemmas.{one_more_legal, known_follow, nothing_follows}
 use Rattle.tree_core.specs.TasksOut.{without_place, out_by, out_after}
 use Rattle.tree_core.specs.Histories.{History, with_event, while_going, history_of, IsTreeOf}
@@ -120,6 +123,19 @@ suspend_back w a frozen = record { drops = λ places. refl; returns = was_out Aw
 pub lost_back : (w : ℕ) (a : Place) → TakesBack (Lost w a) w a
 lost_back w a = record { drops = λ places. refl; returns = was_out Over w a }
 
+pub nodes_back : (w : ℕ) (a : Place) (k : ℕ) (sizes : List ℕ) → TakesBack (Nodes w a k sizes) w a
+nodes_back w a k sizes = record { drops = λ places. refl; returns = was_out Over w a }
+
+pub closing_back : (end : TaskEnd) (w : ℕ) (a : Place) (k : ℕ) → TakesBack (closing_event end w a k) w a
+closing_back Nothing w a k = record { drops = λ places. refl; returns = was_out Over w a }
+closing_back Result w a k = record { drops = λ places. refl; returns = was_out Over w a }
+
+pub prune_back : (w : ℕ) (a : Place) → TakesBack (Prune w a) w a
+prune_back w a = record { drops = λ places. refl; returns = was_out Over w a }
+
+pub answer_back : (w : ℕ) (a : Place) → TakesBack (Answer w a false) w a
+answer_back w a = record { drops = λ places. refl; returns = was_out Over w a }
+
 module _ (once : Once) (job : Job) (p : PublicView) (h : IsTreeOf job p) (e : Event) (w : ℕ) (a : Place) (back : TakesBack e w a)
     (legal : is_legal (tree_of job p) e ≡ true) where
   -- what may come back is out
@@ -141,7 +157,14 @@ module _ (once : Once) (job : Job) (p : PublicView) (h : IsTreeOf job p) (e : Ev
   pub room_to_come_back : 0 < p.log.promised
   room_to_come_back = let f = fewer in let r = h.room in omega (arith, f, r)
 
+  room_after : (n : ℕ) → p.log.promised ≤ n + 1 → length (out_by e (out_after p.log.events [])) ≤ n
+  room_after n l = let f = fewer in let r = h.room in omega (arith, f, r, l)
+
   -- and then there is room for the others
+  pub came_back : (new : PublicView) → NotesIn p new e (reading job) (tree_of job p) → p.log.promised ≤ new.log.promised + 1
+      → Moves job new (with_event e (history_of job p))
+  came_back new n l = noted job p new h e n (room_after new.log.promised l)
+
   pub comes_back : (new : PublicView) → is_going (tree_of job p) ≡ true → NotesIn p new e (reading job) (tree_of job p)
       → p.log.promised ≤ new.log.promised + 1 → Moves job new (while_going e (history_of job p))
-  comes_back new g n l = happened job p new h e g n (let f = fewer in let r = h.room in omega (arith, f, r, l))
+  comes_back new g n l = happened job p new h e g n (room_after new.log.promised l)

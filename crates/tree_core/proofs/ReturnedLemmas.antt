@@ -32,7 +32,7 @@ out_is_there job p w a h out = by_cell (cell_at p.nodes.rows a) (out_is p.nodes 
     by_cell (Some c) e = refl
 
 -- what holds of what is out
-at_out : (t : TreeState) (w : ℕ) (a : Place) (test : Spot → Bool) → is_some (taken_at w a t) ≡ true → ((s : Spot) → taken_at w a t ≡ Some s → test s ≡ true)
+pub at_out : (t : TreeState) (w : ℕ) (a : Place) (test : Spot → Bool) → is_some (taken_at w a t) ≡ true → ((s : Spot) → taken_at w a t ≡ Some s → test s ≡ true)
     → at_spot (taken_at w a t) test ≡ true
 at_out t w a test out holds = by_spot (taken_at w a t) refl out
   where

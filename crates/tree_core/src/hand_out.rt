@@ -8,7 +8,6 @@ ghost use Rattle.tree_model.specs.Legality.{is_task, taken_at, claimable, resuma
 ghost use Rattle.tree_nodes.specs.Rows.{gate_view};
 ghost use Rattle.tree_nodes.specs.RowViews.{parent_view};
 ghost use Rattle.public_tree.specs.PublicTrees.{IsItsGate, is_frozen_gate};
-ghost use Rattle.public_tree.specs.Answering.{is_first_at};
 ghost use Rattle.tree_core.specs.Histories.{state_of, while_going};
 ghost use Rattle.tree_core.specs.HandOuts.{offered_at, handing_out, WasHanded, LeavesOther};
 
@@ -83,12 +82,5 @@ impl<J: JobBrand> Tree<J> {
         if self.is_going() {
             self.public.give_up(worker, at);
         }
-    }
-
-    /// Whether an alternative is the leftmost entry.
-    pub fn is_front(&self, at: AltRef) -> bool
-        ensures { result ≡ is_first_at (place_view at) (state_of self.now.history) }
-    {
-        self.public.is_front(at)
     }
 }

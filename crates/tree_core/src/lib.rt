@@ -5,7 +5,10 @@
 #![tactic(auto)]
 
 mod brand;
+mod closing;
+mod front;
 mod hand_out;
+mod pruning;
 mod query;
 mod tree;
 
