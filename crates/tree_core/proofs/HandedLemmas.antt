@@ -1,13 +1,13 @@
 -- What is handed out of a job's tree, and what is out.
-use Rattle.std.proofs.Common.{◌≡◌, ◌≢◌, ℕ, ◌+◌, ◌≤◌, Bool, true, false, cond, List, [], ◌∷◌, ◌++◌, length, Option, Some, None, refl, sym, ap, ◌∙◌, subst, arith}
+use Rattle.std.proofs.Common.{◌≡◌, ◌≢◌, ℕ, Bool, true, cond, List, [], ◌∷◌, ◌++◌, length, Option, Some, None, refl, sym, ap, ◌∙◌, subst, arith}
 use Rattle.std.specs.Prelude.{Result, Ok, Err, IfOk, OnErr}
 use Rattle.std.specs.Option.{option_map}
 use Rattle.run_model.specs.Programs.Jobs.{Job}
 use Rattle.tree_model.specs.declared.places.AltRef.{AltRef}
 use Rattle.tree_model.specs.Events.{Event, Claim, Resume}
-use Rattle.tree_model.specs.HandOuts.{Handed, Never, Out, Away, Over, claimed, resumed, handed_by, and_so_on, handed_after}
+use Rattle.tree_model.specs.HandOuts.{Handed, Never, Out, Away, Over, claimed, resumed, and_so_on, handed_after}
 use Rattle.tree_model.specs.Legality.{is_spot_at, is_allowed, is_legal}
-use Rattle.tree_model.specs.Levels.{Place, same_place, Spot, place_of_spot}
+use Rattle.tree_model.specs.Levels.{Place, Spot, place_of_spot}
 use Rattle.tree_model.specs.TreeStates.{TreeState}
 use Rattle.tree_nodes.specs.RowViews.{parent_view}
 use Rattle.interleaving.proofs.UnchangedPlaceLemmas.{same_place-is, place_self}

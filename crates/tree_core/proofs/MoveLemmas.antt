@@ -1,6 +1,6 @@
 -- What a call has done to a job's tree.
 use Rattle.std.proofs.Common.{◌≡◌, ◌≢◌, ℕ, ◌+◌, ◌<◌, ◌≤◌, ◌==◌, Bool, true, false, cond, List, [], ◌∷◌, ◌++◌, length, Option, Some, None, inl, inr, refl, sym, ap, ◌∙◌, subst, arith}
-use Rattle.std.specs.Prelude.{◌⊎◌, ◌&&◌, not, is_none}
+use Rattle.std.specs.Prelude.{◌&&◌, not, is_none}
 use Rattle.au_term.proofs.LogicLemmas.{both}
 use Rattle.run_model.specs.Programs.Jobs.{Job}
 use Rattle.tree_model.specs.Credits.{greatest}

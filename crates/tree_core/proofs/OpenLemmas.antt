@@ -1,5 +1,5 @@
 -- A tree that was opened for a job.
-use Rattle.std.proofs.Common.{◌≡◌, ℕ, ◌≤◌, List, [], ◌∷◌, length, Option, Some, None, refl, sym, ap, ◌∙◌, subst}
+use Rattle.std.proofs.Common.{◌≡◌, ℕ, ◌≤◌, List, [], ◌∷◌, length, Option, Some, None, refl, sym, ap, subst}
 use Rattle.std.specs.Prelude.{slice_get}
 use Rattle.run_model.specs.Programs.Jobs.{Query, Job}
 use Rattle.tree_model.specs.Credits.{greatest}
@@ -12,7 +12,6 @@ use Rattle.public_tree.specs.Opening.{Opens}
 use Rattle.public_tree.proofs.FollowingLemmas.{opening_follows}
 use Rattle.tree_core.specs.declared.query.QueryGoals.{QueryGoals}
 use Rattle.tree_core.specs.TasksOut.{out_after}
-use Rattle.tree_core.specs.Histories.{History, history_of, IsTreeOf}
 use Rattle.tree_core.specs.Openings.{IsFirstOf, IsMadeFirst}
 use Rattle.tree_core.proofs.MoveLemmas.{Moves}
 

@@ -1,11 +1,11 @@
 -- What a history has handed out, and not taken back, is among what is out.
-use Rattle.std.proofs.Common.{◌≡◌, ◌≢◌, ℕ, ◌+◌, ◌<◌, ◌==◌, Bool, true, false, cond, List, [], ◌∷◌, ◌++◌, length, Option, Some, None, refl, sym, ap, ◌∙◌, subst, arith}
+use Rattle.std.proofs.Common.{◌≡◌, ℕ, ◌+◌, ◌==◌, Bool, true, false, cond, List, [], ◌∷◌, ◌++◌, length, Option, Some, None, refl, sym, ap, ◌∙◌, subst, arith}
 use Rattle.std.specs.Prelude.{◌||◌}
 use Rattle.std.specs.List.{list_any}
 use Rattle.tree_model.specs.Events.{Event, Claim, Nodes, Empty, Collected, Lost, Suspend, Resume, Prune, Answer, Stop}
 use Rattle.tree_model.specs.HandOuts.{Handed, Never, Out, Away, Over, claimed, resumed, given_back, handed_by, and_so_on, handed_after}
 use Rattle.tree_model.specs.Levels.{Place, same_place}
-use Rattle.interleaving.proofs.UnchangedPlaceLemmas.{same_place-is, place_self}
+use Rattle.interleaving.proofs.UnchangedPlaceLemmas.{same_place-is}
 use Rattle.tree_core.specs.TasksOut.{without_place, out_by, out_after}
 
 abbrev IsOutAs : Handed → Type 0

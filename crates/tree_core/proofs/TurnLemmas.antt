@@ -1,22 +1,20 @@
 -- What becomes of what is out in a job's tree.
-use Rattle.std.proofs.Common.{◌≡◌, ℕ, ◌+◌, ◌-◌, ◌≤◌, ◌<◌, Bool, true, false, cond, List, length, Some, inl, inr, refl, sym, ap, ◌∙◌, subst, arith}
-use Rattle.std.specs.Prelude.{◌⊎◌, ◌&&◌, nat_le, is_some, Result, Ok, Err, IfOk, OnOk, OnErr}
+use Rattle.std.proofs.Common.{◌≡◌, ℕ, ◌+◌, ◌≤◌, Bool, true, false, cond, List, length, Some, inl, inr, refl, sym, ap, ◌∙◌, subst, arith}
+use Rattle.std.specs.Prelude.{◌&&◌, nat_le, is_some, Result, Ok, Err, IfOk, OnOk, OnErr}
 use Rattle.run_model.specs.Programs.Jobs.{Job}
-use Rattle.tree_model.specs.Events.{Event, Empty, Collected, Prune, Answer}
+use Rattle.tree_model.specs.Events.{Event, Prune, Answer}
 use Rattle.tree_model.specs.Legality.{taken_at, run_of, run_fits, run_is_empty, run_gives_result, is_allowed, is_legal}
 use Rattle.tree_model.specs.Levels.{Place, Spot, levels_of}
 use Rattle.tree_model.specs.Promises.{Once}
 use Rattle.tree_model.specs.TreeStates.{TreeState}
 use Rattle.tree_nodes.specs.Bodies.{Body, Reading}
 use Rattle.tree_nodes.specs.Rows.{Rows}
-use Rattle.tree_nodes.specs.TreeTables.{NodesView}
-use Rattle.tree_closing.specs.declared.way_up.Closing.{Closing}
 use Rattle.branch_reading.specs.Readings.{reading}
-use Rattle.public_tree.specs.PublicTrees.{PublicView, IsPublicOf, NotesIn, IsSameTree, is_going}
+use Rattle.public_tree.specs.PublicTrees.{PublicView, NotesIn, IsSameTree, is_going}
 use Rattle.public_tree.specs.Following.{tree_of}
 use Rattle.public_tree.specs.declared.closing.TaskEnd.{TaskEnd}
 use Rattle.public_tree.specs.declared.closing.TaskEnd.TheVariants.{Nothing, Result as ResultEnd}
-use Rattle.public_tree.specs.PublicClosing.{closing_event, ends_run, RunEndsAs, HappensIn}
+use Rattle.public_tree.specs.PublicClosing.{closing_event, ends_run, HappensIn}
 use Rattle.public_tree.specs.Publishing.{body_sizes, publishing_event, RunReadsAs}
 use Rattle.public_tree.specs.declared.prune.Pruning.{Pruning}
 use Rattle.public_tree.specs.declared.prune.Pruning.TheVariants as pruning
@@ -27,7 +25,7 @@ use Rattle.public_tree.specs.Answering.{TakesFront, promised_by}
 use Rattle.public_tree.proofs.HandOutLemmas.{legal_while_going}
 use Rattle.tree_core.specs.Histories.{History, state_of, with_event, while_going, history_of, IsTreeOf}
 use Rattle.tree_core.specs.Turns.{where_legal, pruning_of, answering_of}
-use Rattle.tree_core.proofs.MoveLemmas.{Moves, TakesBack, legal_parts, nothing, came_back, closing_back, prune_back, answer_back}
+use Rattle.tree_core.proofs.MoveLemmas.{Moves, TakesBack, legal_parts, nothing, came_back, prune_back, answer_back}
 use Rattle.tree_core.proofs.ReturnedLemmas.{at_out}
 
 -- a run that has ended may close, and one that is published may become nodes

@@ -1,5 +1,5 @@
 -- What is handed out of a job's tree.
-use Rattle.std.specs.Prelude.{◌≡◌, ◌≢◌, true, List, [], Option, Some, None}
+use Rattle.std.specs.Prelude.{◌≡◌, ◌≢◌, true, [], Option, Some, None}
 use Rattle.std.specs.Option.{option_map}
 use Rattle.tree_model.specs.Events.{Event}
 use Rattle.tree_model.specs.HandOuts.{Handed, Never, handed_after}
@@ -7,7 +7,7 @@ use Rattle.tree_model.specs.Levels.{Place, Spot, place_of_spot}
 use Rattle.tree_model.specs.Promises.{tasks_out}
 use Rattle.tree_model.specs.TreeStates.{TreeState}
 use Rattle.public_tree.specs.PublicTrees.{offered, is_going}
-use Rattle.tree_core.specs.Histories.{History, state_of, with_event}
+use Rattle.tree_core.specs.Histories.{History, with_event}
 
 -- where it is, as long as the tree goes on
 abbrev pub offered_at : (TreeState → Option Spot) → TreeState → Option Place

@@ -2,6 +2,9 @@
 //! window the tree was opened, and the events since; the tree of the definition after these is what each call speaks of.
 //!
 //! The job itself is no part of a tree at run time: its type says which one it is.
+//!
+//! A call by which something comes back costs what it costs in `public_tree`, and what `ended` costs: it asks first whether the
+//! tree goes on, since nothing has to come back after that.
 #![tactic(auto)]
 
 mod brand;

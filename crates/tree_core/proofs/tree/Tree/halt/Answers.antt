@@ -1,18 +1,14 @@
-use Rattle.std.proofs.Common.{◌≡◌, true, refl, sym, ap, ◌∙◌, subst, false}
-use Rattle.std.specs.Prelude.{is_some, IfOk, OnOk}
-use Rattle.std.specs.Arc.{arc_value}
+use Rattle.std.proofs.Common.{◌≡◌, true, sym, ◌∙◌, subst, false}
+use Rattle.std.specs.Prelude.{is_some, IfOk}
 use Rattle.tree_model.specs.EventViews.{place_view}
-use Rattle.tree_model.specs.Events.{Event, Prune, Answer}
+use Rattle.tree_model.specs.Events.{Answer}
 use Rattle.tree_model.specs.Legality.{taken_at}
-use Rattle.tree_model.specs.Nodes.{CutGate, BallGate, WorldGate}
-use Rattle.tree_nodes.specs.Bodies.{body_view}
-use Rattle.tree_nodes.specs.Rows.{scope_number}
+use Rattle.tree_model.specs.Nodes.{WorldGate}
 use Rattle.branch_reading.specs.Readings.{reading}
 use Rattle.public_tree.specs.PublicTrees.{is_going}
-use Rattle.public_tree.specs.Opening.{opening_body}
 use Rattle.public_tree.specs.Answering.{HaltsAs}
-use Rattle.tree_core.specs.Histories.{TreeView, state_of, while_going, history_of}
-use Rattle.tree_core.specs.Turns.{where_legal, pruning_of, answering_of}
+use Rattle.tree_core.specs.Histories.{TreeView, state_of, history_of}
+use Rattle.tree_core.specs.Turns.{where_legal, answering_of}
 use Rattle.tree_core.proofs.ReturnedLemmas.{out_of_each, room_to_suspend}
 use Rattle.tree_core.proofs.TurnLemmas.{no_turn, no_answering, takes_kept, takes_noted}
 use Rattle.tree_core.proofs.tree.Tree.halt.Goals as goal

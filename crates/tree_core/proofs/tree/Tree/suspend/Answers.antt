@@ -1,10 +1,9 @@
-use Rattle.std.proofs.Common.{◌≡◌, true, refl, sym, ◌∙◌, subst}
+use Rattle.std.proofs.Common.{◌≡◌, true, sym, ◌∙◌, subst}
 use Rattle.std.specs.Prelude.{is_some}
 use Rattle.tree_model.specs.EventViews.{place_view}
 use Rattle.tree_model.specs.Legality.{taken_at}
 use Rattle.tree_nodes.specs.Rows.{gate_view}
 use Rattle.public_tree.specs.PublicTrees.{is_going, IsItsGate}
-use Rattle.public_tree.specs.Following.{tree_of}
 use Rattle.tree_core.specs.Histories.{TreeView, state_of}
 use Rattle.tree_core.proofs.ReturnedLemmas.{out_is_there, out_of_each, room_to_suspend, suspended}
 use Rattle.tree_core.proofs.tree.Tree.suspend.Goals as goal
