@@ -3,14 +3,15 @@ use crate::effect_rows::{
     ABOLISHED, ADDED, HALTS, Kind, LOOKED_AT, LOOKED_UP, OPERATORS, OUTPUT, Part, Row, WRITTEN,
 };
 use Part::{A, F, I, V};
-use au_model::{Style, VarName};
+use au_model::{Fault, Style, VarName};
 use au_term::{Atom, Cell, FlatTerm, NoMemory, TermBuilder};
-use clause_compile::{ClauseId, Effect};
+use clause_compile::{Clause, ClauseId, Effect};
 use dyn_clauses::{Database, Indicator};
 use effect_gate::{Applied, World, ball};
 use op_table::Ops;
 use std::alloc::Global;
 use std::process::Abort;
+use std::sync::Arc;
 use std::test::Fail;
 use term_writer::write_into;
 
@@ -98,60 +99,113 @@ fn effect(alloc: Global, kind: Kind, arguments: &[&[Part]]) -> Result<Effect, No
     })
 }
 
-/// What an effect came to, as text: the clauses by their numbers, the number of operators, or the ball.
-fn shown(alloc: Global, effect: &Effect, applied: &Applied) -> Result<Vec<u8>, Fail> {
-    let mut text = Vec::new(alloc);
-    match applied {
-        Applied::Went => text.extend_from_slice(b"true")?,
-        Applied::Fails => text.extend_from_slice(b"false")?,
-        Applied::Halt(status) => {
-            text.extend_from_slice(format!(in alloc; "halt {status}")?.as_bytes())?
-        }
-        Applied::Rows(rows) => {
-            let count = rows.len();
-            text.extend_from_slice(format!(in alloc; "rows {count}")?.as_bytes())?
-        }
-        Applied::Clauses(clauses) => {
-            text.extend_from_slice(b"clauses")?;
-            for (id, _) in clauses {
-                let number = id.0;
-                text.extend_from_slice(format!(in alloc; " {number}")?.as_bytes())?;
-            }
-        }
-        Applied::Raise(fault) => {
-            let ops = Ops::initial(alloc)?;
-            let ball = ball(alloc, effect, fault)?;
-            write_into(alloc, &mut text, &ball, &ops, Style::Quoted)?;
-        }
+/// Puts a word and a number behind a text.
+fn put(alloc: Global, text: &mut Vec<u8>, word: &str, number: u64) -> Result<(), NoMemory> {
+    text.extend_from_slice(format!(in alloc; "{word} {number}")?.as_bytes())?;
+    Ok(())
+}
+
+fn put_clauses(
+    alloc: Global,
+    text: &mut Vec<u8>,
+    clauses: &[(ClauseId, Arc<Clause>)],
+) -> Result<(), NoMemory> {
+    text.extend_from_slice(b"clauses")?;
+    for clause in clauses {
+        put(alloc, text, "", clause.0.0)?;
     }
-    Ok(text)
+    Ok(())
+}
+
+fn put_ball(
+    alloc: Global,
+    text: &mut Vec<u8>,
+    effect: &Effect,
+    fault: &Fault,
+) -> Result<(), NoMemory> {
+    let ball = ball(alloc, effect, fault)?;
+    let ops = Ops::initial(alloc)?;
+    write_into(alloc, text, &ball, &ops, Style::Quoted)
+}
+
+/// Puts what an effect came to behind a text: the clauses by their numbers, the number of operators, or the ball.
+fn put_shown(
+    alloc: Global,
+    text: &mut Vec<u8>,
+    effect: &Effect,
+    applied: &Applied,
+) -> Result<(), NoMemory> {
+    match applied {
+        Applied::Went => Ok(text.extend_from_slice(b"true")?),
+        Applied::Fails => Ok(text.extend_from_slice(b"false")?),
+        Applied::Halt(status) => put(alloc, text, "halt", u64::from(*status)),
+        Applied::Rows(rows) => put(alloc, text, "rows", rows.len() as u64),
+        Applied::Clauses(clauses) => put_clauses(alloc, text, clauses),
+        Applied::Raise(fault) => put_ball(alloc, text, effect, fault),
+    }
+}
+
+fn statics(alloc: Global) -> Result<Vec<Indicator>, Fail> {
+    let name = Atom::new(alloc, "p")?;
+    let mut statics = Vec::new(alloc);
+    statics.push(Indicator { name, arity: 1 })?;
+    Ok(statics)
 }
 
 /// A world where `p/1` is static.
 fn world(alloc: Global) -> Result<World, Fail> {
-    let mut statics = Vec::new(alloc);
-    statics.push(Indicator {
-        name: Atom::new(alloc, "p")?,
-        arity: 1,
-    })?;
     Ok(World {
         out: Vec::new(alloc),
-        database: Database::new(alloc, statics)?,
+        database: Database::new(alloc, statics(alloc)?)?,
         ops: Ops::initial(alloc)?,
     })
 }
 
+/// What an effect comes to.
+fn applied(alloc: Global, world: &mut World, effect: &Effect) -> Result<Applied, NoMemory> {
+    world.apply(alloc, effect)
+}
+
+/// The same as text.
+fn put_applied(
+    alloc: Global,
+    world: &mut World,
+    effect: &Effect,
+    text: &mut Vec<u8>,
+) -> Result<(), NoMemory> {
+    let applied = applied(alloc, world, effect)?;
+    put_shown(alloc, text, effect, &applied)
+}
+
+/// Applies the effect of a row, and compares what it comes to.
+fn expect_row(rt: &impl Abort, alloc: Global, world: &mut World, row: &Row) -> Result<(), Fail> {
+    let (kind, arguments, expected) = row;
+    let effect = effect(alloc, *kind, arguments)?;
+    let mut text = Vec::new(alloc);
+    put_applied(alloc, world, &effect, &mut text)?;
+    assert!(rt; text.as_slice() == expected.as_bytes(), "{expected}");
+    Ok(())
+}
+
 /// Applies effects in turn, and compares what they come to and what is written then.
+fn expect_rows(
+    rt: &impl Abort,
+    alloc: Global,
+    world: &mut World,
+    rows: &[Row],
+    written: &str,
+) -> Result<(), Fail> {
+    for row in rows {
+        expect_row(rt, alloc, world, row)?;
+    }
+    assert!(rt; world.out.as_slice() == written.as_bytes(), "{written}");
+    Ok(())
+}
+
+/// The same in a world of its own.
 fn expect(rt: &impl Abort, alloc: Global, rows: &[Row], written: &str) -> Result<(), Fail> {
     let mut world = world(alloc)?;
-    for (kind, arguments, expected) in rows {
-        let effect = effect(alloc, *kind, arguments)?;
-        let applied = world.apply(alloc, &effect)?;
-        let text = shown(alloc, &effect, &applied)?;
-        assert_eq!(rt; text.as_slice(), expected.as_bytes(), "{expected}");
-    }
-    assert_eq!(rt; world.out.as_slice(), written.as_bytes());
-    Ok(())
+    expect_rows(rt, alloc, &mut world, rows, written)
 }
 
 #[test]

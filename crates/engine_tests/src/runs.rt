@@ -3,6 +3,7 @@ use au_io::MemorySink;
 use run_model::{RunEnd, RunEnding};
 use stack_run::run_job;
 use std::alloc::Global;
+use std::process::Abort;
 use std::test::Fail;
 use text_load::load;
 
@@ -68,22 +69,36 @@ static ROWS: [Row; 8] = [
     ("?- X = 1.", 9, 3, RunEnding::WriteFault, 0, 0, "X ="),
 ];
 
+/// How the run of a text ends, if the text loads.
+fn end_of(alloc: Global, text: &str, budget: u64, out: &mut MemorySink) -> Option<RunEnd> {
+    match load(alloc, "", text) {
+        Ok(job) => Some(run_job(alloc, job, budget, out)),
+        Err(_) => None,
+    }
+}
+
+fn has_taken(out: &MemorySink, bytes: &[u8]) -> bool {
+    out.taken() == bytes
+}
+
+/// Runs the text of a row, and compares how it ends and what it writes.
+fn expect(rt: &impl Abort, alloc: Global, row: &Row, out: &mut MemorySink) {
+    let (text, budget, _, end, answers, inferences, lines) = row;
+    let want = RunEnd {
+        end: *end,
+        answers: *answers,
+        inferences: *inferences,
+    };
+    let ended = end_of(alloc, text, *budget, out);
+    assert!(rt; ended == Some(want), "{text}");
+    assert!(rt; has_taken(out, lines.as_bytes()), "{text}");
+}
+
 #[test]
 fn runs(rt: HostRuntime) -> Result<(), Fail> {
-    let alloc = rt.alloc();
-    for (text, budget, room, end, answers, inferences, lines) in &ROWS {
-        let Ok(job) = load(alloc, "", text) else {
-            assert!(&rt; false, "{text}");
-            return Ok(());
-        };
-        let mut out = MemorySink::new(alloc, *room)?;
-        let want = RunEnd {
-            end: *end,
-            answers: *answers,
-            inferences: *inferences,
-        };
-        assert_eq!(&rt; run_job(alloc, job, *budget, &mut out), want, "{text}");
-        assert!(&rt; out.taken() == lines.as_bytes(), "{text}");
+    for row in &ROWS {
+        let mut out = MemorySink::new(rt.alloc(), row.2)?;
+        expect(&rt, rt.alloc(), row, &mut out);
     }
     Ok(())
 }
@@ -114,23 +129,37 @@ fn writer(alloc: Global, letters: usize) -> Result<(String, String), Fail> {
     Ok((text, lines))
 }
 
+/// Whether so many bytes were taken, and are the front of these lines.
+fn has_taken_front(out: &MemorySink, lines: &str, bytes: usize) -> bool {
+    out.taken().len() == bytes && lines.as_bytes().starts_with(out.taken())
+}
+
+/// Runs the text of a row, and compares how it ends and what is taken.
+fn expect_pieces(
+    rt: &impl Abort,
+    alloc: Global,
+    row: &(usize, usize, RunEnding, usize),
+    out: &mut MemorySink,
+) -> Result<(), Fail> {
+    let (letters, room, end, bytes) = row;
+    let (text, lines) = writer(alloc, *letters)?;
+    let is_ended = match end_of(alloc, text.as_str(), 99, out) {
+        Some(ended) => ended.end == *end,
+        None => false,
+    };
+    assert!(rt; is_ended, "{letters} letters, room {room}");
+    assert!(rt;
+        has_taken_front(out, lines.as_str(), *bytes),
+        "{letters} letters, room {room}"
+    );
+    Ok(())
+}
+
 #[test]
 fn pieces(rt: HostRuntime) -> Result<(), Fail> {
-    let alloc = rt.alloc();
-    for (letters, room, end, bytes) in &PIECES {
-        let (text, lines) = writer(alloc, *letters)?;
-        let Ok(job) = load(alloc, "", text.as_str()) else {
-            assert!(&rt; false, "{letters} letters");
-            return Ok(());
-        };
-        let mut out = MemorySink::new(alloc, *room)?;
-        let ended = run_job(alloc, job, 99, &mut out);
-        assert_eq!(&rt; ended.end, *end, "{letters} letters, room {room}");
-        assert_eq!(&rt; out.taken().len(), *bytes, "{letters} letters, room {room}");
-        assert!(&rt;
-            lines.as_bytes().starts_with(out.taken()),
-            "{letters} letters"
-        );
+    for row in &PIECES {
+        let mut out = MemorySink::new(rt.alloc(), row.1)?;
+        expect_pieces(&rt, rt.alloc(), row, &mut out)?;
     }
     Ok(())
 }
