@@ -128,22 +128,22 @@ with_node s node qs x = record x { root = plug (spending 1 (levels_of s)) (Inner
 module _ (w : ℕ) (old new : PublicView) (a : Place) (body : Body) (grows : GrowsAt old.nodes new.nodes a body)
     (rows : length new.nodes.rows ≡ length old.nodes.rows + 1) (others : KeepsOthers old new) (stopped : new.log.stopped ≡ old.log.stopped) where
   node_after : (read : Reading) (t : TreeState) (s : Spot) → IsPublicOf old read t → taken_at w a t ≡ Some s → (way : Branching)
-      → IsWayTo old.nodes.rows (levels_of s) way → (made : ℕ → Node) → ((n : ℕ) → new_node read way n body ≡ made n) → (qs : List Query)
-      → IsAfter new read (with_node s (made t.next) qs (moved t s))
+      → IsWayTo old.nodes.rows (levels_of s) way → (made : Node) → new_node read way t.next body ≡ made → (qs : List Query)
+      → IsAfter new read (with_node s made qs (moved t s))
   node_after read t s h e way down made same qs =
       let table = table_out old.nodes w a read t s h.placed e in
       let now = grows read s.level s.above (Pending s.hold s.entry) way (taken_place w a t s e) table down in
       let more : length new.nodes.rows ≡ suc t.next = (let z = h.next in omega (arith, rows, z)) in
       record {
-        placed = subst (λ (m : ℕ). IsTableOf new.nodes read (plug (spending 1 (levels_of s)) (Inner (made m)))) h.next
-            (subst (λ (y : Node). IsTableOf new.nodes read (plug (spending 1 (levels_of s)) (Inner y))) (same (length old.nodes.rows)) now);
+        placed = subst (λ (y : Node). IsTableOf new.nodes read (plug (spending 1 (levels_of s)) (Inner y)))
+            (ap (λ (m : ℕ). new_node read way m body) h.next ∙ same) now;
         next = more;
         lost = others.lost ∙ h.lost;
         halted = others.halted ∙ h.halted;
         budget = others.budget ∙ h.budget;
         window = others.window ∙ h.window;
         stopped = stopped ∙ h.stopped;
-        rooted = rooted_round (record s.level { spent = s.level.spent + 1 }) s.above (Inner (made t.next));
+        rooted = rooted_round (record s.level { spent = s.level.spent + 1 }) s.above (Inner made);
       }
 
   -- the branches on the way down to what is out
@@ -160,16 +160,16 @@ module _ (w : ℕ) (old new : PublicView) (a : Place) (body : Body) (grows : Gro
   goes_on_after read t s h e reads = by_way read t s h e (λ way down.
       let x = reads way down in
       let is = ap (λ (y : Taken). front_taken s y (moved t s)) x.goes_on in
-      subst (IsAfter new read) (sym is) (node_after read t s h e way down _ x.node t.queries))
+      subst (IsAfter new read) (sym is) (node_after read t s h e way down _ (x.node t.next) t.queries))
 
   pub query_after : (read : Reading) (t : TreeState) (s : Spot) → IsPublicOf old read t → taken_at w a t ≡ Some s
-      → ((way : Branching) → IsWayTo old.nodes.rows (levels_of s) way → ReadsAsNext read way body (taken_as t s) t.queries)
+      → ((way : Branching) → IsWayTo old.nodes.rows (levels_of s) way → ReadsAsNext read way body t.next (taken_as t s) t.queries)
       → IsAfter new read (front_taken s (taken_as t s) (moved t s))
   query_after read t s h e reads = by_way read t s h e (λ way down.
       let x = reads way down in
       let is : front_taken s (taken_as t s) (moved t s) ≡ query_opens s (x.query ∷ x.further) (moved t s)
       = ap (λ (y : Taken). front_taken s y (moved t s)) x.ends ∙ ap (λ (qs : List Query). query_opens s qs (moved t s)) x.next in
-      subst (IsAfter new read) (sym is) (node_after read t s h e way down (λ n. opened_node n x.query) x.node x.further))
+      subst (IsAfter new read) (sym is) (node_after read t s h e way down (opened_node t.next x.query) x.node x.further))
 
 -- the front closes with its credit
 front_closes : (s : Spot) (front : Taken) (x : TreeState) (c : Credit) → front_credit front x.queries ≡ Some c → front_taken s front x ≡ closed_with s c x

@@ -71,18 +71,18 @@ abbrev pub GoesOnAs : Rows → Body → ℕ → Place → Reading → TreeState 
 GoesOnAs rows body w a read t =
     AtFront w a (λ s front. (way : Branching) → IsWayTo rows (levels_of s) way → ReadsAsLeft read way body (levels_of s) front) t
 
--- below a place, a new node of a body is that of the next query
-pub record ReadsAsNext (read : Reading) (way : Branching) (body : Body) (front : Taken) (queries : List Query) : Type 0 where
+-- below a place, the node of a body that gets this number is that of the next query
+pub record ReadsAsNext (read : Reading) (way : Branching) (body : Body) (n : ℕ) (front : Taken) (queries : List Query) : Type 0 where
   pub query : Query
   pub further : List Query
   pub ends : front ≡ QueryEnds
   pub next : queries ≡ query ∷ further
-  pub node : (n : ℕ) → new_node read way n body ≡ opened_node n query
+  pub node : new_node read way n body ≡ opened_node n query
 
 -- what is out ends a query, and the next one opens there
 abbrev pub OpensAs : Rows → Body → ℕ → Place → Reading → TreeState → Type 0
 OpensAs rows body w a read t =
-    AtFront w a (λ s front. (way : Branching) → IsWayTo rows (levels_of s) way → ReadsAsNext read way body front t.queries) t
+    AtFront w a (λ s front. (way : Branching) → IsWayTo rows (levels_of s) way → ReadsAsNext read way body t.next front t.queries) t
 
 -- below what sleeps at the scope of a ball, a body reads as what the ball leaves
 pub record ReadsAsRaised (read : Reading) (rows : Rows) (n : ℕ) (body : Body) (levels : List Level) (front : Taken) : Type 0 where
