@@ -1,0 +1,2 @@
+pub mod Deferred
+pub mod BareFloors
