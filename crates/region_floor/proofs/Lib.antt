@@ -1,1 +1,4 @@
 mod JoinedLemmas
+mod FloorSizeLemmas
+mod CollectedLemmas
+mod OwnRestLemmas
