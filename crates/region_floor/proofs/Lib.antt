@@ -2,3 +2,6 @@ mod JoinedLemmas
 mod FloorSizeLemmas
 mod CollectedLemmas
 mod OwnRestLemmas
+mod KeptAnswerLemmas
+mod KeptClauseLemmas
+mod OwnGoalLemmas

@@ -1,2 +1,3 @@
 pub mod Deferred
 pub mod BareFloors
+pub mod PrivateLaws
