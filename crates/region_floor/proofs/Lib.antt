@@ -5,3 +5,4 @@ mod OwnRestLemmas
 mod KeptAnswerLemmas
 mod KeptClauseLemmas
 mod OwnGoalLemmas
+mod OwnBallLemmas

@@ -61,7 +61,7 @@ test-own : (n m h : ℕ) (condition thens : List Term) (items : List (Item ℕ))
 test-own n m h [] thens items o = goals-own n h thens items o
 test-own n m h (c ∷ condition) thens items o = test-own n m h condition thens items o
 
-resolved-own : (n : ℕ) (s : Substitution) (items : List (Item ℕ)) → AreOwnItems n items → AreOwnItems n (map (resolve_item s) items)
+pub resolved-own : (n : ℕ) (s : Substitution) (items : List (Item ℕ)) → AreOwnItems n items → AreOwnItems n (map (resolve_item s) items)
 resolved-own n s [] o = tt
 resolved-own n s (GoalItem t h ∷ items) o = resolved-own n s items o
 resolved-own n s (CatchMark h ∷ items) o = (o.0, resolved-own n s items o.1)

@@ -1,3 +1,4 @@
 pub mod Deferred
 pub mod BareFloors
 pub mod PrivateLaws
+pub mod BallLaws

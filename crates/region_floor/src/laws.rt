@@ -10,6 +10,7 @@ ghost use Rattle.run_model.specs.Machine.FreeSteps.{take_free_steps};
 ghost use Rattle.tree_model.specs.Levels.{Level};
 ghost use Rattle.region_floor.specs.Deferred.{Deferred, joined, all_deferred, deferring};
 ghost use Rattle.region_floor.specs.BareFloors.{AreOwn, bare_stack, RestsPrivately};
+ghost use Rattle.region_floor.specs.BallLaws.{BallsArePrivate, BallsAreGates};
 ghost use Rattle.region_floor.specs.PrivateLaws.{KeepsClauses, ControlsArePrivate, SolutionsArePrivate};
 
 /// Where all that is left to do is deferred, it is what the region stands for, and bindings reach what is deferred.
@@ -33,4 +34,10 @@ pub fn solutions_remove_nothing()
 pub fn goals_are_private()
     ensures controls { ControlsArePrivate }
     ensures solutions { SolutionsArePrivate }
+{}
+
+/// A ball that lands above a bare floor is one inference of the private run, and one that does not is a gate.
+pub fn balls_land_alike()
+    ensures above { BallsArePrivate }
+    ensures below { BallsAreGates }
 {}
