@@ -6,3 +6,5 @@ mod KeptAnswerLemmas
 mod KeptClauseLemmas
 mod OwnGoalLemmas
 mod OwnBallLemmas
+mod GateTopLemmas
+mod RunLemmas

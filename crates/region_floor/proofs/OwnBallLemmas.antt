@@ -26,7 +26,7 @@ use Rattle.tree_model.specs.Gates.{ball_scope, is_caught_above, goal_gate}
 use Rattle.region_floor.specs.Deferred.{Deferred, with_term, items_now, deferred_now, joined_items, joined, joined_entry}
 use Rattle.region_floor.specs.BareFloors.{bare_floor, AreOwnItems, AreOwn, IsOuterMark, TopGoal, goal_entries, bare_stack, true_stack, InfersPrivately}
 use Rattle.region_floor.specs.PrivateLaws.{HasOutcome}
-use Rattle.region_floor.specs.BallLaws.{Throws, BallsArePrivate, BallsAreGates}
+use Rattle.region_floor.specs.BallLaws.{Throws, BallsArePrivate, IsBallGate, BallsAreGates}
 use Rattle.region_floor.proofs.FloorSizeLemmas.{bare-size, floor-size, stack-size}
 use Rattle.region_floor.proofs.JoinedLemmas.{joined-resolved}
 use Rattle.region_floor.proofs.OwnGoalLemmas.{Leaves, inferred, resolved-own}
@@ -178,9 +178,6 @@ balls_are_private clauses d levels t b h r es e =
     go (landing d levels b h.outer t.below h.outcome.are_own.1 (first_mark t.after.items) (first_mark (joined d t.after).items)
     (marks-fit d levels b h.outer t.after h.outcome.are_own.0))
   where
-    below : List Entry
-    below = true_stack d levels t.below
-
     high : (left : List Entry) → nat_le (length levels) (length (true_stack d levels left)) ≡ true
     high left = test (nat_le (length levels) (length (true_stack d levels left))) refl
       where
@@ -207,14 +204,14 @@ balls_are_gates clauses d levels t b h c e =
     go (landing d levels b h.outer t.below h.outcome.are_own.1 (first_mark t.after.items) (first_mark (joined d t.after).items)
     (marks-fit d levels b h.outer t.after h.outcome.are_own.0))
   where
-    others : List Entry
-    others = after_reply (Ball b) (joined d t.after) (true_stack d levels t.below)
-
     go : Lands d levels b h.outer (after_reply (Ball b) t.after (bare_stack levels t.below)) (after_reply (Ball b) (joined d t.after) (true_stack d levels t.below))
         ⊎ Falls d levels b h.outer (after_reply (Ball b) t.after (bare_stack levels t.below)) (after_reply (Ball b) (joined d t.after) (true_stack d levels t.below))
-        → goal_gate levels (outcome_of clauses t.goal t.after.next) t.height (joined d t.after) (true_stack d levels t.below)
-        ≡ Some (BallGate (ball_scope levels (after_reply (Ball b) (joined d t.after) (true_stack d levels t.below))))
+        → IsBallGate clauses d levels t b c
     go (inl k) = let both : ◌≡◌ {A = List Entry} (EndEntry c ∷ []) (bare_stack levels (PlainEntry k.after ∷ k.left)) = sym e ∙ k.entries in absurd cc
     go (inr k) =
-        ap (λ o. goal_gate levels o t.height (joined d t.after) (true_stack d levels t.below)) h.outcome.outcome
-        ∙ ap (λ x. cond x None (Some (BallGate (ball_scope levels (after_reply (Ball b) (joined d t.after) (true_stack d levels t.below)))))) k.falls
+        let both : ◌≡◌ {A = List Entry} (EndEntry c ∷ []) (EndEntry (Some (copied b 0)) ∷ []) = sym e ∙ k.entries in
+        record {
+          ball = cc;
+          gate = ap (λ o. goal_gate levels o t.height (joined d t.after) (true_stack d levels t.below)) h.outcome.outcome
+              ∙ ap (λ x. cond x None (Some (BallGate (ball_scope levels (after_reply (Ball b) (joined d t.after) (true_stack d levels t.below)))))) k.falls;
+        }

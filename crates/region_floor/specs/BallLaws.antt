@@ -1,6 +1,7 @@
 -- Where a ball lands over a bare floor, and over the true one.
 use Rattle.std.specs.Prelude.{◌≡◌, ℕ, List, [], ◌∷◌, Option, Some, length}
 use Rattle.au_term.specs.Term.{Term}
+use Rattle.au_model.specs.Terms.Copies.{copied}
 use Rattle.au_model.specs.Terms.Each.{Each}
 use Rattle.run_model.specs.Programs.Clauses.{Clause}
 use Rattle.run_model.specs.Goals.Outcomes.{Ball, Replies}
@@ -26,10 +27,13 @@ BallsArePrivate =
     → (r : Continuation ℕ) (es : List Entry) → after_reply (Ball b) t.after (bare_stack levels t.below) ≡ PlainEntry r ∷ es
     → InfersPrivately clauses d levels (goal_entries t) (PlainEntry r ∷ es)
 
--- where none is left over the bare floor, the ball is a gate
+-- a ball that no own entry takes is a gate; it is left as a copy
+pub record IsBallGate (clauses : List Clause) (d : Deferred) (levels : List Level) (t : TopGoal) (b : Term) (c : Option Term) : Type 0 where
+  pub ball : c ≡ Some (copied b 0)
+  pub gate : gate_on clauses levels (true_stack d levels (goal_entries t))
+      ≡ Some (BallGate (ball_scope levels (after_reply (Ball b) (joined d t.after) (true_stack d levels t.below))))
+
 abbrev pub BallsAreGates : Type 0
 BallsAreGates =
     (clauses : List Clause) (d : Deferred) (levels : List Level) (t : TopGoal) (b : Term) → Throws clauses d levels t b
-    → (c : Option Term) → after_reply (Ball b) t.after (bare_stack levels t.below) ≡ EndEntry c ∷ []
-    → gate_on clauses levels (true_stack d levels (goal_entries t))
-    ≡ Some (BallGate (ball_scope levels (after_reply (Ball b) (joined d t.after) (true_stack d levels t.below))))
+    → (c : Option Term) → after_reply (Ball b) t.after (bare_stack levels t.below) ≡ EndEntry c ∷ [] → IsBallGate clauses d levels t b c

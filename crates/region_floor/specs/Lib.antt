@@ -2,3 +2,5 @@ pub mod Deferred
 pub mod BareFloors
 pub mod PrivateLaws
 pub mod BallLaws
+pub mod GateLaws
+pub mod RunLaws

@@ -11,6 +11,9 @@ ghost use Rattle.tree_model.specs.Levels.{Level};
 ghost use Rattle.region_floor.specs.Deferred.{Deferred, joined, all_deferred, deferring};
 ghost use Rattle.region_floor.specs.BareFloors.{AreOwn, bare_stack, RestsPrivately};
 ghost use Rattle.region_floor.specs.BallLaws.{BallsArePrivate, BallsAreGates};
+ghost use Rattle.region_floor.specs.GateLaws.{WorldGoalsAreGates, HaltsAreGates, CutsAreGates, AnswersAreGates, RemovalsAreGates, GoalsLoad};
+ghost use Rattle.region_floor.specs.GateLaws.{CatchMarksSkip, ResultsAreGiven};
+ghost use Rattle.region_floor.specs.RunLaws.{RunStarts, GoalsRest, RunGoesOn, TopsAreOwn, EndsAreBare, NothingIsBare};
 ghost use Rattle.region_floor.specs.PrivateLaws.{KeepsClauses, ControlsArePrivate, SolutionsArePrivate};
 
 /// Where all that is left to do is deferred, it is what the region stands for, and bindings reach what is deferred.
@@ -40,4 +43,35 @@ pub fn goals_are_private()
 pub fn balls_land_alike()
     ensures above { BallsArePrivate }
     ensures below { BallsAreGates }
+{}
+
+/// A goal of the world, one that halts and a cut to the floor are gates.
+pub fn goals_are_gates()
+    ensures world { WorldGoalsAreGates }
+    ensures halt { HaltsAreGates }
+    ensures cut { CutsAreGates }
+{}
+
+/// Where nothing but what is deferred is left on top: an answer or a removal is a gate, a goal is loaded, the end of what
+/// a catch guards is skipped, and a result is given to its findall.
+pub fn deferred_items_come_next()
+    ensures answer { AnswersAreGates }
+    ensures removal { RemovalsAreGates }
+    ensures goal { GoalsLoad }
+    ensures mark { CatchMarksSkip }
+    ensures result { ResultsAreGiven }
+{}
+
+/// The private run starts with all deferred, rests where a goal is on top, and goes on by each inference.
+pub fn regions_run_privately()
+    ensures start { RunStarts }
+    ensures rest { GoalsRest }
+    ensures next { RunGoesOn }
+{}
+
+/// What is on top of a bare stack is an own entry, or the end that is there where no own entry is left.
+pub fn tops_are_own()
+    ensures top { TopsAreOwn }
+    ensures end { EndsAreBare }
+    ensures none { NothingIsBare }
 {}

@@ -1,0 +1,43 @@
+-- The private run, from its start and by one inference after another.
+use Rattle.std.proofs.Common.{◌≡◌, ℕ, zero, suc, List, [], ◌∷◌, ◌++◌, map, length, Option, Some, None, refl, sym, ap, ◌∙◌, subst}
+use Rattle.au_model.specs.Terms.Substitutions.{Substitution}
+use Rattle.run_model.specs.Machine.Items.{Continuation, resolve_continuation}
+use Rattle.run_model.specs.Machine.Entries.{Entry, PlainEntry, EndEntry}
+use Rattle.tree_model.specs.Levels.{Level}
+use Rattle.tree_model.specs.Floors.{floor_of}
+use Rattle.tree_model.specs.PrivateRuns.{own_at_rest, one_more, if_any, private_run}
+use Rattle.region_floor.specs.Deferred.{Deferred, joined, all_deferred, deferring}
+use Rattle.region_floor.specs.BareFloors.{bare_floor, IsOwnEntry, bare_stack}
+use Rattle.region_floor.specs.RunLaws.{RunStarts, GoalsRest, RunGoesOn, IsOwnTop, TopsAreOwn, EndsAreBare, NothingIsBare}
+use Rattle.region_floor.proofs.JoinedLemmas.{joined-resolved, all_is_left}
+
+pub run_starts : RunStarts
+unfolding private_run
+run_starts clauses levels s f =
+    let same : resolve_continuation s f ≡ joined (all_deferred f) (resolve_continuation s (deferring f)) =
+        ap (resolve_continuation s) (sym (all_is_left f)) ∙ joined-resolved s (all_deferred f) (deferring f) in
+    ap (λ c. Some (own_at_rest (floor_of levels) (PlainEntry c ∷ []))) same
+
+pub goals_rest : GoalsRest
+goals_rest d levels t = refl
+
+pub run_goes_on : RunGoesOn
+unfolding private_run
+run_goes_on clauses d levels e k t stack h i = ap (λ o. if_any o (one_more clauses levels)) h ∙ i.inferred
+
+-- no plain entry is one of a bare floor
+no_top : (n : ℕ) (f : Continuation ℕ) (es : List Entry) → bare_floor n ≡ PlainEntry f ∷ es → ⊥
+no_top zero f es e = cc
+no_top (suc n) f es e = cc
+
+pub tops_are_own : TopsAreOwn
+tops_are_own levels [] f es e = absurd (no_top (length levels) f es e)
+tops_are_own levels (x ∷ own) f es e = record { below = own; own_is = cc; entries = cc }
+
+pub ends_are_bare : EndsAreBare
+ends_are_bare levels [] b es o e = refl
+ends_are_bare levels (x ∷ own) b es o e = let end : x ≡ EndEntry b = cc in absurd (subst (IsOwnEntry (length levels)) end o.0)
+
+pub nothing_is_bare : NothingIsBare
+nothing_is_bare levels [] e = refl
+nothing_is_bare levels (x ∷ own) e = absurd cc
