@@ -106,16 +106,22 @@ module _ (d : Deferred) (levels : List Level) (k : ℕ) (f : Continuation ℕ) (
         ∙ ap stepped (sym (items-after (CatchMark n) l e));
   }
 
+  -- where no free step is left
+  abbrev is_rest : List (Item ℕ) → Type 0
+  is_rest l = stepped l ≡ PlainEntry (with_items l (joined d f)) ∷ rest
+
+  at-rest : is_rest items → true_rest d levels (deferred_entries k f es) ≡ map (joined_entry d) (deferred_entries k f es)
+  at-rest e = ap stepped items-are ∙ e ∙ sym (ap (λ j. PlainEntry (with_items j (joined d f)) ∷ rest) items-are)
+
   result-gives : (clauses : List Clause) (t : Term) (n : ℕ) (l : List (Item ℕ)) → items ≡ CollectMark t n ∷ l → n < length levels
       → GivesResult clauses d levels k f es
   result-gives clauses t n l e low =
       let here : joined_items now (RemovalItem k ∷ f.items) ≡ CollectMark t n ∷ l = items-are ∙ e in
       let under : nat_lt n (length floor) ≡ true = ap (nat_lt n) (floor-size levels) ∙ low-test n (length levels) low in
       let stays : true_rest d levels (deferred_entries k f es) ≡ map (joined_entry d) (deferred_entries k f es) =
-          ap stepped here
-          ∙ ap (λ b. cond b (PlainEntry (with_items (CollectMark t n ∷ l) (joined d f)) ∷ rest)
-          (own_free_steps floor (length rest) (collected (n - length floor) t rest))) under
-          ∙ sym (ap (λ j. PlainEntry (with_items j (joined d f)) ∷ rest) here) in
+          at-rest (subst is_rest (sym e)
+          (ap (λ b. cond b (PlainEntry (with_items (CollectMark t n ∷ l) (joined d f)) ∷ rest)
+          (own_free_steps floor (length rest) (collected (n - length floor) t rest))) under)) in
       record {
         rest = stays;
         last = ap (λ j. one_more clauses levels (PlainEntry (with_items j (joined d f)) ∷ rest)) here;
@@ -126,6 +132,15 @@ module _ (d : Deferred) (levels : List Level) (k : ℕ) (f : Continuation ℕ) (
 
 pub answers_are_gates : AnswersAreGates
 answers_are_gates clauses d levels k f es h = gate-is d levels k f es [] h clauses
+
+pub answers_rest : (d : Deferred) (levels : List Level) (k : ℕ) (f : Continuation ℕ) (es : List Entry) → HasDeferred d levels k f es []
+    → true_rest d levels (deferred_entries k f es) ≡ map (joined_entry d) (deferred_entries k f es)
+answers_rest d levels k f es h = at-rest d levels k f es [] h refl
+
+pub removals_rest : (d : Deferred) (levels : List Level) (k number : ℕ) (f : Continuation ℕ) (es : List Entry) (items : List (Item ℕ))
+    → HasDeferred d levels k f es (RemovalItem number ∷ items)
+    → true_rest d levels (deferred_entries k f es) ≡ map (joined_entry d) (deferred_entries k f es)
+removals_rest d levels k number f es items h = at-rest d levels k f es (RemovalItem number ∷ items) h refl
 
 pub removals_are_gates : RemovalsAreGates
 removals_are_gates clauses d levels k number f es items h = gate-is d levels k f es (RemovalItem number ∷ items) h clauses

@@ -8,3 +8,4 @@ mod OwnGoalLemmas
 mod OwnBallLemmas
 mod GateTopLemmas
 mod RunLemmas
+mod RegionRunLemmas

@@ -1,6 +1,7 @@
 -- The private run, from its start and by one inference after another.
 use Rattle.std.proofs.Common.{◌≡◌, ℕ, zero, suc, List, [], ◌∷◌, ◌++◌, map, length, Option, Some, None, refl, sym, ap, ◌∙◌, subst}
 use Rattle.au_model.specs.Terms.Substitutions.{Substitution}
+use Rattle.run_model.specs.Programs.Clauses.{Clause}
 use Rattle.run_model.specs.Machine.Items.{Continuation, resolve_continuation}
 use Rattle.run_model.specs.Machine.Entries.{Entry, PlainEntry, EndEntry}
 use Rattle.tree_model.specs.Levels.{Level}
@@ -24,6 +25,12 @@ goals_rest d levels t = refl
 pub run_goes_on : RunGoesOn
 unfolding private_run
 run_goes_on clauses d levels e k t stack h i = ap (λ o. if_any o (one_more clauses levels)) h ∙ i.inferred
+
+-- where there is no next inference
+pub run_ends : (clauses : List Clause) (levels : List Level) (e : Entry) (k : ℕ) (left : List Entry) → private_run clauses levels e k ≡ Some left
+    → one_more clauses levels left ≡ None → private_run clauses levels e (suc k) ≡ None
+unfolding private_run
+run_ends clauses levels e k left h n = ap (λ o. if_any o (one_more clauses levels)) h ∙ n
 
 -- no plain entry is one of a bare floor
 no_top : (n : ℕ) (f : Continuation ℕ) (es : List Entry) → bare_floor n ≡ PlainEntry f ∷ es → ⊥

@@ -4,3 +4,4 @@ pub mod PrivateLaws
 pub mod BallLaws
 pub mod GateLaws
 pub mod RunLaws
+pub mod RegionRuns

@@ -1,5 +1,5 @@
 use Rattle.region_floor.proofs.KeptClauseLemmas.{outcome-kept}
-use Rattle.region_floor.proofs.laws.solutions_remove_nothing.Goals as goal
+use Rattle.region_floor.proofs.laws.steps.solutions_remove_nothing.Goals as goal
 
 pub returns : goal.returns
 returns c = outcome-kept
