@@ -2,9 +2,10 @@
 use Rattle.std.proofs.Common.{◌≡◌, ℕ, zero, suc, ◌-◌, ◌<◌, ◌≤◌, ◌==◌, Bool, true, false, cond, List, [], ◌∷◌, ◌++◌, map, length, drop, Option, Some, None, refl, sym, ap, ◌∙◌, subst, arith}
 use Rattle.au_term.specs.Term.{Term}
 use Rattle.au_model.specs.Terms.Each.{Each}
+use Rattle.au_model.specs.Terms.Substitutions.{Substitution, resolve}
 use Rattle.run_model.specs.Goals.Outcomes.{Solution, Solutions, Ball, HaltNumber, ControlForm, CutToScope, Outcome, Replies, Controls, AskWorld}
 use Rattle.run_model.specs.Goals.GoalOutcomes.{outcome_of}
-use Rattle.run_model.specs.Machine.Items.{Item, GoalItem, CatchMark, CollectMark, RemovalItem, Continuation, with_items, without_marks, before, resolve_continuation}
+use Rattle.run_model.specs.Machine.Items.{Item, GoalItem, CatchMark, CollectMark, RemovalItem, Continuation, with_items, without_marks, before, resolve_item, resolve_named, resolve_continuation}
 use Rattle.run_model.specs.Machine.Entries.{Entry, PlainEntry, EndEntry}
 use Rattle.run_model.specs.Machine.FreeSteps.{take_free_steps}
 use Rattle.run_model.specs.Machine.Heights.{after_reply, after_control}
@@ -20,7 +21,7 @@ use Rattle.region_floor.specs.PrivateLaws.{HasOutcome}
 use Rattle.region_floor.specs.BallLaws.{Throws}
 use Rattle.region_floor.specs.GateLaws.{deferred_entries, HasDeferred}
 use Rattle.region_floor.specs.RegionRuns.{RegionRun, run_after, StandsAfter, StopsAt, ComesToResult, run_from, RegionStarts, FreeStepsStand, TakesGoal, ControlsStand, SolutionsStand, AreOuter, BallsStand}
-use Rattle.region_floor.specs.RegionRuns.{FallsAt, BallsStop, WorldGoalsStop, HaltsStop, CutsStop, TakesDeferred, GoalsLoaded, MarksSkipped, AnswersStop, RemovalsStop, ResultsStop, NothingStops, EndsAreEmpty, NothingIsEmpty, MarksAreOuter}
+use Rattle.region_floor.specs.RegionRuns.{FallsAt, BallsStop, WorldGoalsStop, HaltsStop, CutsStop, TakesDeferred, GoalsLoaded, MarksSkipped, AnswersStop, RemovalsStop, ResultsStop, NothingStops, EndsAreEmpty, NothingIsEmpty, EntriesByHeights, MarksAreOuter}
 use Rattle.region_floor.proofs.OwnRestLemmas.{rests_privately}
 use Rattle.region_floor.proofs.OwnGoalLemmas.{controls_are_private, solutions_are_private}
 use Rattle.region_floor.proofs.OwnBallLemmas.{balls_are_private, balls_are_gates}
@@ -267,9 +268,26 @@ height-low (v ∷ up) s = go (v.number == s) (height-low up s)
     go true h = omega arith
     go false h = omega arith
 
+items_outer : (v : Level) (up : List Level) (items : List (Item ℕ))
+    → Each (IsOuterMark (length (v ∷ up))) (map (renamed_item (height_of (v ∷ up)) (λ s. height_of (v ∷ up) s - 1)) items)
+items_outer v up [] = tt
+items_outer v up (GoalItem t s ∷ items) = (tt, items_outer v up items)
+items_outer v up (CatchMark s ∷ items) = (omega (arith, height-low (v ∷ up) s), items_outer v up items)
+items_outer v up (CollectMark t s ∷ items) = (omega (arith, height-low (v ∷ up) s), items_outer v up items)
+items_outer v up (RemovalItem n ∷ items) = (tt, items_outer v up items)
+
 pub marks_are_outer : MarksAreOuter
-marks_are_outer scope v up [] = tt
-marks_are_outer scope v up (GoalItem t s ∷ items) = (tt, marks_are_outer scope v up items)
-marks_are_outer scope v up (CatchMark s ∷ items) = (omega (arith, height-low (v ∷ up) s), marks_are_outer scope v up items)
-marks_are_outer scope v up (CollectMark t s ∷ items) = (omega (arith, height-low (v ∷ up) s), marks_are_outer scope v up items)
-marks_are_outer scope v up (RemovalItem n ∷ items) = (tt, marks_are_outer scope v up items)
+marks_are_outer clauses v up s f = items_outer v up f.items
+
+renamed_resolved : (scope mark : ℕ → ℕ) (s : Substitution) (items : List (Item ℕ))
+    → map (renamed_item scope mark) (map (resolve_item s) items) ≡ map (resolve_item s) (map (renamed_item scope mark) items)
+renamed_resolved scope mark s [] = refl
+renamed_resolved scope mark s (GoalItem t h ∷ items) = ap (λ l. GoalItem (resolve s t) (scope h) ∷ l) (renamed_resolved scope mark s items)
+renamed_resolved scope mark s (CatchMark h ∷ items) = ap (λ l. CatchMark (mark h) ∷ l) (renamed_resolved scope mark s items)
+renamed_resolved scope mark s (CollectMark t h ∷ items) = ap (λ l. CollectMark (resolve s t) (mark h) ∷ l) (renamed_resolved scope mark s items)
+renamed_resolved scope mark s (RemovalItem n ∷ items) = ap (λ l. RemovalItem n ∷ l) (renamed_resolved scope mark s items)
+
+pub entries_by_heights : EntriesByHeights
+entries_by_heights levels s f =
+    ap (λ l. PlainEntry (let c : Continuation ℕ = record { items = l; named = map (resolve_named s) f.named; next = f.next } in c))
+    (renamed_resolved (height_of levels) (λ n. height_of levels n - 1) s f.items)

@@ -1,5 +1,6 @@
 -- The private run, from its start and by one inference after another.
-use Rattle.std.proofs.Common.{◌≡◌, ℕ, zero, suc, List, [], ◌∷◌, ◌++◌, map, length, Option, Some, None, refl, sym, ap, ◌∙◌, subst}
+use Rattle.std.proofs.Common.{◌≡◌, ℕ, zero, suc, ◌+◌, List, [], ◌∷◌, ◌++◌, map, length, Option, Some, None, refl, sym, ap, ◌∙◌, subst}
+use Rattle.std.proofs.lemmas.List.{length-append}
 use Rattle.au_model.specs.Terms.Substitutions.{Substitution}
 use Rattle.run_model.specs.Programs.Clauses.{Clause}
 use Rattle.run_model.specs.Machine.Items.{Continuation, resolve_continuation}
@@ -9,7 +10,8 @@ use Rattle.tree_model.specs.Floors.{floor_of}
 use Rattle.tree_model.specs.PrivateRuns.{own_at_rest, one_more, if_any, private_run}
 use Rattle.region_floor.specs.Deferred.{Deferred, joined, all_deferred, deferring}
 use Rattle.region_floor.specs.BareFloors.{bare_floor, IsOwnEntry, bare_stack}
-use Rattle.region_floor.specs.RunLaws.{RunStarts, GoalsRest, RunGoesOn, IsOwnTop, TopsAreOwn, EndsAreBare, NothingIsBare}
+use Rattle.region_floor.specs.RunLaws.{RunStarts, GoalsRest, RunGoesOn, IsOwnTop, TopsAreOwn, EndsAreBare, NothingIsBare, OwnAreOver, OwnAreCounted}
+use Rattle.region_floor.proofs.FloorSizeLemmas.{bare-size, part-over}
 use Rattle.region_floor.proofs.JoinedLemmas.{joined-resolved, all_is_left}
 
 pub run_starts : RunStarts
@@ -48,3 +50,9 @@ ends_are_bare levels (x ∷ own) b es o e = let end : x ≡ EndEntry b = cc in a
 pub nothing_is_bare : NothingIsBare
 nothing_is_bare levels [] e = refl
 nothing_is_bare levels (x ∷ own) e = absurd cc
+
+pub own_are_over : OwnAreOver
+own_are_over levels own = part-over own (bare_floor (length levels))
+
+pub own_are_counted : OwnAreCounted
+own_are_counted levels own = length-append own (bare_floor (length levels)) ∙ ap (λ n. length own + n) (bare-size (length levels))

@@ -13,7 +13,7 @@ use Rattle.run_model.specs.Machine.FreeSteps.{take_free_steps}
 use Rattle.run_model.specs.Machine.Heights.{after_reply, after_control}
 use Rattle.tree_model.specs.Nodes.{Gate, CutGate, BallGate, WorldGate}
 use Rattle.tree_model.specs.Levels.{Level}
-use Rattle.tree_model.specs.Floors.{renamed_item, height_of, node_of}
+use Rattle.tree_model.specs.Floors.{renamed_continuation, height_of, node_of, with_heights}
 use Rattle.tree_model.specs.Gates.{control_gate, gate_on}
 use Rattle.tree_model.specs.Legality.{gives_result}
 use Rattle.tree_model.specs.PrivateRuns.{private_run}
@@ -27,6 +27,10 @@ pub record RegionRun : Type 0 where
   pub levels : List Level
   pub entry : Entry
   pub deferred : Deferred
+
+-- the marks of what is deferred are those of the floor
+abbrev pub AreOuter : RegionRun → Type 0
+AreOuter r = Each (IsOuterMark (length r.levels)) r.deferred.items
 
 abbrev pub run_after : RegionRun → ℕ → Option (List Entry)
 run_after r k = private_run r.clauses r.levels r.entry k
@@ -66,6 +70,21 @@ RegionStarts =
     (clauses : List Clause) (levels : List Level) (s : Substitution) (f : Continuation ℕ)
     → StandsAfter (run_from clauses levels s f) 0 (bare_stack levels (PlainEntry (resolve_continuation s (deferring f)) ∷ []))
 
+-- what is left to do, by heights over some levels
+abbrev pub by_heights : List Level → Continuation ℕ → Continuation ℕ
+by_heights levels f = renamed_continuation (height_of levels) (λ s. height_of levels s - 1) f
+
+-- so may the run of an alternative of the tree that reads as this after bindings: all of its marks are those of the floor
+abbrev pub EntriesByHeights : Type 0
+EntriesByHeights =
+    (levels : List Level) (s : Substitution) (f : Continuation ℕ)
+    → with_heights levels (PlainEntry (resolve_continuation s f)) ≡ PlainEntry (resolve_continuation s (by_heights levels f))
+
+abbrev pub MarksAreOuter : Type 0
+MarksAreOuter =
+    (clauses : List Clause) (v : Level) (up : List Level) (s : Substitution) (f : Continuation ℕ)
+    → AreOuter (run_from clauses (v ∷ up) s (by_heights (v ∷ up) f))
+
 abbrev pub FreeStepsStand : Type 0
 FreeStepsStand = (r : RegionRun) (k : ℕ) (stack : List Entry) → StandsAfter r k stack → StandsAfter r k (take_free_steps stack)
 
@@ -83,10 +102,6 @@ abbrev pub SolutionsStand : Type 0
 SolutionsStand =
     (r : RegionRun) (k : ℕ) (t : TopGoal) (ss : List Solution) → TakesGoal r k t (Replies (Solutions ss))
     → StandsAfter r (suc k) (after_reply (Solutions ss) t.after t.below)
-
--- the marks of what is deferred are those of the floor
-abbrev pub AreOuter : RegionRun → Type 0
-AreOuter r = Each (IsOuterMark (length r.levels)) r.deferred.items
 
 abbrev pub BallsStand : Type 0
 BallsStand =
@@ -156,9 +171,3 @@ EndsAreEmpty = (r : RegionRun) (k : ℕ) (b : Option Term) (es : List Entry) →
 
 abbrev pub NothingIsEmpty : Type 0
 NothingIsEmpty = (r : RegionRun) (k : ℕ) → StandsAfter r k [] → run_after r k ≡ Some []
-
--- the marks of what is left to do by heights over some levels
-abbrev pub MarksAreOuter : Type 0
-MarksAreOuter =
-    (scope : ℕ → ℕ) (v : Level) (up : List Level) (items : List (Item ℕ))
-    → Each (IsOuterMark (length (v ∷ up))) (map (renamed_item scope (λ s. height_of (v ∷ up) s - 1)) items)

@@ -1,14 +1,14 @@
 -- The private run of a branch, by what a region over its bare floor does.
-use Rattle.std.specs.Prelude.{◌≡◌, ℕ, suc, List, [], ◌∷◌, Option, Some, map, length}
+use Rattle.std.specs.Prelude.{◌≡◌, ℕ, suc, ◌+◌, List, [], ◌∷◌, Option, Some, map, length}
 use Rattle.au_term.specs.Term.{Term}
 use Rattle.au_model.specs.Terms.Substitutions.{Substitution}
 use Rattle.run_model.specs.Programs.Clauses.{Clause}
 use Rattle.run_model.specs.Machine.Items.{Continuation, resolve_continuation}
 use Rattle.run_model.specs.Machine.Entries.{Entry, PlainEntry, EndEntry}
 use Rattle.tree_model.specs.Levels.{Level}
-use Rattle.tree_model.specs.PrivateRuns.{private_run}
+use Rattle.tree_model.specs.PrivateRuns.{own_part, private_run}
 use Rattle.region_floor.specs.Deferred.{Deferred, joined_entry, all_deferred, deferring}
-use Rattle.region_floor.specs.BareFloors.{AreOwn, TopGoal, goal_entries, bare_stack, true_rest, InfersPrivately}
+use Rattle.region_floor.specs.BareFloors.{bare_floor, AreOwn, TopGoal, goal_entries, bare_stack, true_rest, InfersPrivately}
 
 -- at the start all is deferred, whatever was bound before
 abbrev pub RunStarts : Type 0
@@ -46,3 +46,10 @@ EndsAreBare =
 
 abbrev pub NothingIsBare : Type 0
 NothingIsBare = (levels : List Level) (own : List Entry) → bare_stack levels own ≡ [] → own ≡ []
+
+-- own entries are those over the bare floor
+abbrev pub OwnAreOver : Type 0
+OwnAreOver = (levels : List Level) (own : List Entry) → own_part (bare_floor (length levels)) (bare_stack levels own) ≡ own
+
+abbrev pub OwnAreCounted : Type 0
+OwnAreCounted = (levels : List Level) (own : List Entry) → length (bare_stack levels own) ≡ length own + length levels

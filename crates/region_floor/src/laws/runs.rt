@@ -1,13 +1,12 @@
 //! A region over a bare floor runs as the private run of its branch, from its start to its stop.
 ghost use Rattle.region_floor.specs.RegionRuns.{RegionStarts, FreeStepsStand, ControlsStand, SolutionsStand, BallsStand, BallsStop};
 ghost use Rattle.region_floor.specs.RegionRuns.{WorldGoalsStop, HaltsStop, CutsStop, GoalsLoaded, MarksSkipped, AnswersStop};
-ghost use Rattle.region_floor.specs.RegionRuns.{RemovalsStop, ResultsStop, NothingStops, EndsAreEmpty, NothingIsEmpty, MarksAreOuter};
+ghost use Rattle.region_floor.specs.RegionRuns.{RemovalsStop, ResultsStop, NothingStops, EndsAreEmpty, NothingIsEmpty, EntriesByHeights, MarksAreOuter};
 
 /// A region that defers all that is left to do stands at the start of the private run; free steps leave it where it is.
 pub fn region_stands_at_start()
     ensures start { RegionStarts }
     ensures free { FreeStepsStand }
-    ensures outer { MarksAreOuter }
 {}
 
 /// What takes the place of a goal on top stands where the run is one inference later.
@@ -39,4 +38,10 @@ pub fn region_ends()
     ensures nothing { NothingStops }
     ensures end { EndsAreEmpty }
     ensures none { NothingIsEmpty }
+{}
+
+/// So may the run of an alternative of the tree, whose marks by heights are all those of the floor.
+pub fn alternatives_start_regions()
+    ensures entry { EntriesByHeights }
+    ensures outer { MarksAreOuter }
 {}

@@ -14,6 +14,7 @@ ghost use Rattle.region_floor.specs.BallLaws.{BallsArePrivate, BallsAreGates};
 ghost use Rattle.region_floor.specs.GateLaws.{WorldGoalsAreGates, HaltsAreGates, CutsAreGates, AnswersAreGates, RemovalsAreGates, GoalsLoad};
 ghost use Rattle.region_floor.specs.GateLaws.{CatchMarksSkip, ResultsAreGiven};
 ghost use Rattle.region_floor.specs.RunLaws.{RunStarts, GoalsRest, RunGoesOn, TopsAreOwn, EndsAreBare, NothingIsBare};
+ghost use Rattle.region_floor.specs.RunLaws.{OwnAreOver, OwnAreCounted};
 ghost use Rattle.region_floor.specs.PrivateLaws.{KeepsClauses, ControlsArePrivate, SolutionsArePrivate};
 
 /// Where all that is left to do is deferred, it is what the region stands for, and bindings reach what is deferred.
@@ -69,9 +70,12 @@ pub fn regions_run_privately()
     ensures next { RunGoesOn }
 {}
 
-/// What is on top of a bare stack is an own entry, or the end that is there where no own entry is left.
+/// What is on top of a bare stack is an own entry, or the end that is there where no own entry is left; the own entries are
+/// those over the bare floor.
 pub fn tops_are_own()
     ensures top { TopsAreOwn }
     ensures end { EndsAreBare }
     ensures none { NothingIsBare }
+    ensures over { OwnAreOver }
+    ensures count { OwnAreCounted }
 {}
