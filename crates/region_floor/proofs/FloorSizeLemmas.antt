@@ -1,5 +1,6 @@
 -- A bare floor has the heights of the floor for which it stands.
 use Rattle.std.proofs.Common.{◌≡◌, ℕ, zero, suc, ◌+◌, ◌-◌, List, [], ◌∷◌, ◌++◌, map, length, take, refl, sym, ap, ap₂, ◌∙◌, arith}
+use Rattle.std.proofs.Math.Seq.{take-append_seam}
 use Rattle.std.proofs.lemmas.List.{length-append, length-map}
 use Rattle.run_model.specs.Machine.Entries.{Entry}
 use Rattle.tree_model.specs.Levels.{Level}
@@ -22,12 +23,8 @@ stack-size d levels own =
     ∙ ap₂ ◌+◌ (length-map own (joined_entry d)) (floor-size levels ∙ sym (bare-size (length levels)))
     ∙ sym (length-append own (bare_floor (length levels)))
 
-take-front : {A : Type 0} (xs ys : List A) → take (length xs) (xs ++ ys) ≡ xs
-take-front [] ys = refl
-take-front (x ∷ xs) ys = ap (λ l. x ∷ l) (take-front xs ys)
-
 -- what is over a floor
 pub part-over : (xs floor : List Entry) → own_part floor (xs ++ floor) ≡ xs
 part-over xs floor =
     let many : length (xs ++ floor) - length floor ≡ length xs = omega (arith, length-append xs floor) in
-    ap (λ n. take n (xs ++ floor)) many ∙ take-front xs floor
+    ap (λ n. take n (xs ++ floor)) many ∙ take-append_seam xs floor

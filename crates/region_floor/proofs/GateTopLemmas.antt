@@ -1,29 +1,22 @@
 -- What is on top of own entries, and what is deferred there.
-use Rattle.std.proofs.Common.{◌≡◌, ℕ, zero, suc, ◌+◌, ◌-◌, ◌<◌, ◌≤◌, Bool, true, false, cond, List, [], ◌∷◌, ◌++◌, map, length, drop, Some, None, refl, sym, ap, ◌∙◌, subst, arith}
-use Rattle.std.proofs.lemmas.Bool.Decides.{nat_tests}
+use Rattle.std.proofs.Common.{◌≡◌, ℕ, zero, suc, ◌-◌, ◌<◌, true, cond, List, [], ◌∷◌, ◌++◌, map, length, drop, Some, None, refl, sym, ap, ◌∙◌, subst}
+use Rattle.std.proofs.lemmas.List.{append-nil}
 use Rattle.std.specs.Prelude.{nat_lt}
 use Rattle.au_term.specs.Term.{Term}
+use Rattle.au_term.proofs.LogicLemmas.{less}
 use Rattle.run_model.specs.Programs.Clauses.{Clause}
-use Rattle.run_model.specs.Goals.Outcomes.{HaltNumber, CutToScope, Replies, Controls, AskWorld}
 use Rattle.run_model.specs.Machine.Items.{Item, GoalItem, CatchMark, CollectMark, RemovalItem, Continuation, with_items, without_marks, before}
 use Rattle.run_model.specs.Machine.Entries.{Entry, PlainEntry, collected}
-use Rattle.tree_model.specs.Nodes.{CutGate, WorldGate}
+use Rattle.tree_model.specs.Nodes.{CutGate}
 use Rattle.tree_model.specs.Levels.{Level}
 use Rattle.tree_model.specs.Floors.{floor_of, node_of}
 use Rattle.tree_model.specs.Gates.{goal_gate, item_gate, gate_on}
 use Rattle.tree_model.specs.Legality.{gives_result}
-use Rattle.tree_model.specs.PrivateRuns.{own_free_step, own_free_steps, own_after, if_no_gate, item_alone, one_more}
+use Rattle.tree_model.specs.PrivateRuns.{own_free_step, own_free_steps, one_more}
 use Rattle.region_floor.specs.Deferred.{Deferred, deferred_now, joined_items, joined, joined_entry}
-use Rattle.region_floor.specs.BareFloors.{AreOwn, TopGoal, true_stack, true_rest, bare_stack, RestsPrivately}
+use Rattle.region_floor.specs.BareFloors.{true_stack, true_rest, bare_stack, RestsPrivately}
 use Rattle.region_floor.specs.GateLaws.{WorldGoalsAreGates, HaltsAreGates, CutsAreGates, deferred_entries, HasDeferred, AnswersAreGates, RemovalsAreGates, GoalsLoad, CatchMarksSkip, GivesResult, ResultsAreGiven}
 use Rattle.region_floor.proofs.FloorSizeLemmas.{floor-size}
-
-pub low-test : (h n : ℕ) → h < n → nat_lt h n ≡ true
-low-test h n l = go (nat_lt h n) refl
-  where
-    go : (b : Bool) → nat_lt h n ≡ b → b ≡ true
-    go true e = refl
-    go false e = absurd (grind (arith, nat_tests))
 
 -- goals
 pub world_goals_are_gates : WorldGoalsAreGates
@@ -36,13 +29,9 @@ halts_are_gates clauses d levels t k e = ap (λ o. goal_gate levels o t.height (
 pub cuts_are_gates : CutsAreGates
 cuts_are_gates clauses d levels t e l =
     ap (λ o. goal_gate levels o t.height (joined d t.after) (true_stack d levels t.below)) e
-    ∙ ap (λ b. cond b (Some (CutGate (node_of levels t.height))) None) (low-test t.height (length levels) l)
+    ∙ ap (λ b. cond b (Some (CutGate (node_of levels t.height))) None) (less t.height (length levels) l)
 
 -- what is deferred
-append-none : {A : Type 0} (xs : List A) → xs ++ [] ≡ xs
-append-none [] = refl
-append-none (x ∷ xs) = ap (λ l. x ∷ l) (append-none xs)
-
 dropped : {A : Type 0} (k : ℕ) (xs : List A) (x : A) (ys : List A) → drop k xs ≡ x ∷ ys → drop (suc k) xs ≡ ys
 dropped zero [] x ys e = absurd cc
 dropped zero (y ∷ xs) x ys e = cc
@@ -73,12 +62,12 @@ module _ (d : Deferred) (levels : List Level) (k : ℕ) (f : Continuation ℕ) (
   stepped l = own_free_step (without_marks l) (with_items l (joined d f)) rest floor (own_free_steps floor (length rest))
 
   items-are : joined_items now (RemovalItem k ∷ f.items) ≡ items
-  items-are = ap (λ l. drop k now ++ joined_items now l) h.are_own.0 ∙ append-none (drop k now) ∙ h.deferred
+  items-are = ap (λ l. drop k now ++ joined_items now l) h.are_own.0 ∙ append-nil (drop k now) ∙ h.deferred
 
   -- and of what is deferred from the next number on
   items-after : (i : Item ℕ) (l : List (Item ℕ)) → items ≡ i ∷ l → joined_items now (RemovalItem (suc k) ∷ f.items) ≡ l
   items-after i l e =
-      ap (λ j. drop (suc k) now ++ joined_items now j) h.are_own.0 ∙ append-none (drop (suc k) now) ∙ dropped k now i l (h.deferred ∙ e)
+      ap (λ j. drop (suc k) now ++ joined_items now j) h.are_own.0 ∙ append-nil (drop (suc k) now) ∙ dropped k now i l (h.deferred ∙ e)
 
   gate-is : (clauses : List Clause) → gate_on clauses levels (true_stack d levels (deferred_entries k f es))
       ≡ item_gate clauses levels (without_marks items) (joined d (before (RemovalItem k ∷ []) f)) (true_stack d levels es)
@@ -117,11 +106,11 @@ module _ (d : Deferred) (levels : List Level) (k : ℕ) (f : Continuation ℕ) (
       → GivesResult clauses d levels k f es
   result-gives clauses t n l e low =
       let here : joined_items now (RemovalItem k ∷ f.items) ≡ CollectMark t n ∷ l = items-are ∙ e in
-      let under : nat_lt n (length floor) ≡ true = ap (nat_lt n) (floor-size levels) ∙ low-test n (length levels) low in
+      let under : nat_lt n (length floor) ≡ true = ap (nat_lt n) (floor-size levels) ∙ less n (length levels) low in
       let stays : true_rest d levels (deferred_entries k f es) ≡ map (joined_entry d) (deferred_entries k f es) =
-          at-rest (subst is_rest (sym e)
-          (ap (λ b. cond b (PlainEntry (with_items (CollectMark t n ∷ l) (joined d f)) ∷ rest)
-          (own_free_steps floor (length rest) (collected (n - length floor) t rest))) under)) in
+      at-rest (subst is_rest (sym e)
+      (ap (λ b. cond b (PlainEntry (with_items (CollectMark t n ∷ l) (joined d f)) ∷ rest)
+      (own_free_steps floor (length rest) (collected (n - length floor) t rest))) under)) in
       record {
         rest = stays;
         last = ap (λ j. one_more clauses levels (PlainEntry (with_items j (joined d f)) ∷ rest)) here;

@@ -1,6 +1,7 @@
 -- What is deferred, put into its place: goals in front, bindings, and all of it.
-use Rattle.std.proofs.Common.{◌≡◌, ℕ, zero, suc, List, [], ◌∷◌, ◌++◌, map, length, take, drop, refl, sym, ap, ap₂, ◌∙◌}
-use Rattle.std.proofs.lemmas.List.{map-append, drop-map, take-map}
+use Rattle.std.proofs.Common.{◌≡◌, ℕ, suc, List, [], ◌∷◌, ◌++◌, map, take, drop, refl, sym, ap, ap₂, ◌∙◌}
+use Rattle.std.proofs.Math.Seq.{take-append_seam, drop-append_seam}
+use Rattle.std.proofs.lemmas.List.{append-nil, map-append, drop-map, take-map}
 use Rattle.std.specs.Prelude.{codes}
 use Rattle.au_term.specs.Term.{Term, AtomTerm}
 use Rattle.au_model.specs.Terms.Named.{NamedTerm}
@@ -19,9 +20,6 @@ pub test-joined : (now : List (Item ℕ)) (n h : ℕ) (condition thens : List Te
     → joined_items now (test_items n h condition thens ++ items) ≡ test_items n h condition thens ++ joined_items now items
 test-joined now n h condition thens items = go condition
   where
-    cut : Item ℕ
-    cut = GoalItem (AtomTerm (codes "!")) n
-
     go : (cs : List Term) → joined_items now ((goals_at (suc n) cs ++ GoalItem (AtomTerm (codes "!")) n ∷ goals_at h thens) ++ items)
         ≡ (goals_at (suc n) cs ++ GoalItem (AtomTerm (codes "!")) n ∷ goals_at h thens) ++ joined_items now items
     go [] = ap (λ l. GoalItem (AtomTerm (codes "!")) n ∷ l) (goals-joined now h thens items)
@@ -60,7 +58,7 @@ pub joined-resolved : (s : Substitution) (d : Deferred) (f : Continuation ℕ)
     → resolve_continuation s (joined d f) ≡ joined d (resolve_continuation s f)
 joined-resolved s d f =
     let now : map (resolve_item s) (deferred_now d f) ≡ deferred_now d (resolve_continuation s f) =
-        items-resolved s d.items (drop d.named f.named) ∙ ap (items_now d.items) (sym (drop-map (resolve_named s) d.named f.named)) in
+    items-resolved s d.items (drop d.named f.named) ∙ ap (items_now d.items) (sym (drop-map (resolve_named s) d.named f.named)) in
     ap₂ (λ l vs. let c : Continuation ℕ = record { items = l; named = vs; next = f.next } in c)
     (now-resolved s (deferred_now d f) f.items ∙ ap (λ l. joined_items l (map (resolve_item s) f.items)) now)
     (sym (take-map (resolve_named s) d.named f.named))
@@ -73,24 +71,12 @@ all_items (CatchMark h ∷ items) = ap (λ l. CatchMark h ∷ l) (all_items item
 all_items (CollectMark t h ∷ items) = ap (λ l. CollectMark t h ∷ l) (all_items items)
 all_items (RemovalItem n ∷ items) = ap (λ l. RemovalItem n ∷ l) (all_items items)
 
-drop-front : {A : Type 0} (xs ys : List A) → drop (length xs) (xs ++ ys) ≡ ys
-drop-front [] ys = refl
-drop-front (x ∷ xs) ys = drop-front xs ys
-
-take-front : {A : Type 0} (xs ys : List A) → take (length xs) (xs ++ ys) ≡ xs
-take-front [] ys = refl
-take-front (x ∷ xs) ys = ap (λ l. x ∷ l) (take-front xs ys)
-
-append-none : {A : Type 0} (xs : List A) → xs ++ [] ≡ xs
-append-none [] = refl
-append-none (x ∷ xs) = ap (λ l. x ∷ l) (append-none xs)
-
 pub all_is_left : (f : Continuation ℕ) → joined (all_deferred f) (deferring f) ≡ f
 all_is_left f =
     ap₂ (λ l vs. let c : Continuation ℕ = record { items = l; named = vs; next = f.next } in c)
-    (append-none (deferred_now (all_deferred f) (deferring f))
-    ∙ ap (items_now f.items) (drop-front f.named (map carried_term f.items)) ∙ all_items f.items)
-    (take-front f.named (map carried_term f.items))
+    (append-nil (deferred_now (all_deferred f) (deferring f))
+    ∙ ap (items_now f.items) (drop-append_seam f.named (map carried_term f.items)) ∙ all_items f.items)
+    (take-append_seam f.named (map carried_term f.items))
 
 -- the catch marks in front are left out
 pub marks-joined : (now items : List (Item ℕ))

@@ -8,13 +8,14 @@ use Rattle.au_model.specs.Terms.ErrorTerms.{representation_error}
 use Rattle.au_model.proofs.EachLemmas.{IfFound, found_row}
 use Rattle.run_model.specs.Programs.Bodies.{called_goals}
 use Rattle.run_model.specs.Programs.Clauses.{Clause, is_defined}
-use Rattle.run_model.specs.Goals.Outcomes.{Outcome, Replies, Controls, alternatives_of, clause_solution}
+use Rattle.run_model.specs.Goals.Outcomes.{alternatives_of}
 use Rattle.run_model.specs.Goals.Control.{Construct, is_named, construct_of, raises, with_arguments, called, call_outcome, throw_outcome, call_row, control_constructs}
 use Rattle.run_model.specs.Goals.Builtins.{builtins}
 use Rattle.run_model.specs.Goals.Worlds.{is_world_goal}
 use Rattle.run_model.specs.Goals.GoalOutcomes.{by_procedure, by_world_goal, by_builtin, by_construct, named_outcome, outcome_of}
 use Rattle.region_floor.specs.PrivateLaws.{RemovesNothing, KeepsClauses}
-use Rattle.region_floor.proofs.KeptAnswerLemmas.{IsRowKept, builtins_kept}
+use Rattle.region_floor.proofs.KeptAnswerLemmas.{IsRowKept}
+use Rattle.region_floor.proofs.KeptBuiltinLemmas.{builtins_kept}
 
 called-kept : (arity : ℕ) (g : Term) (o : Option (List Term)) → KeepsClauses (called arity g o)
 called-kept arity g None = tt

@@ -3,6 +3,8 @@ mod FloorSizeLemmas
 mod CollectedLemmas
 mod OwnRestLemmas
 mod KeptAnswerLemmas
+mod KeptTermLemmas
+mod KeptBuiltinLemmas
 mod KeptClauseLemmas
 mod OwnGoalLemmas
 mod OwnBallLemmas

@@ -1,10 +1,10 @@
 -- A ball that is thrown over own entries lands at one of them over both floors, or at none.
 use Rattle.std.proofs.Common.{◌≡◌, ◌⊎◌, inl, inr, ℕ, zero, suc, ◌+◌, ◌<◌, ◌≤◌, ◌==◌, Bool, true, false, cond, List, [], ◌∷◌, ◌++◌, map, length, drop, Option, Some, None, refl, sym, ap, ◌∙◌, subst, arith}
 use Rattle.std.proofs.lemmas.List.{length-append}
-use Rattle.std.proofs.lemmas.Bool.{eqb-true}
 use Rattle.std.proofs.lemmas.Bool.Decides.{nat_tests}
 use Rattle.std.specs.Prelude.{nat_le}
 use Rattle.au_term.specs.Term.{Term}
+use Rattle.au_term.proofs.LogicLemmas.{not_equal}
 use Rattle.au_model.specs.Terms.Each.{Each}
 use Rattle.au_model.specs.Terms.Named.{NamedTerm}
 use Rattle.au_model.specs.Terms.Substitutions.{Substitution}
@@ -12,24 +12,21 @@ use Rattle.au_model.specs.Terms.Unifier.{unifier}
 use Rattle.au_model.specs.Terms.Copies.{copied, copy_takes}
 use Rattle.au_model.proofs.EachLemmas.{each-append, each-drop}
 use Rattle.run_model.specs.Programs.Bodies.{call_of}
-use Rattle.run_model.specs.Programs.Clauses.{Clause}
-use Rattle.run_model.specs.Goals.Outcomes.{Ball, Replies, Outcome}
-use Rattle.run_model.specs.Goals.GoalOutcomes.{outcome_of}
+use Rattle.run_model.specs.Goals.Outcomes.{Ball, Replies}
 use Rattle.run_model.specs.Machine.Items.{Item, GoalItem, CatchMark, CollectMark, RemovalItem, Continuation, first_mark, before, with_next, resolve_continuation}
 use Rattle.run_model.specs.Machine.Entries.{Entry, PlainEntry, CatchEntry, FindallEntry, EndEntry}
 use Rattle.run_model.specs.Machine.Balls.{is_height, taken_by, next_mark, recovered, unwound}
 use Rattle.run_model.specs.Machine.Heights.{after_reply}
-use Rattle.tree_model.specs.Nodes.{Gate, BallGate}
+use Rattle.tree_model.specs.Nodes.{BallGate}
 use Rattle.tree_model.specs.Levels.{Level}
 use Rattle.tree_model.specs.Floors.{floor_of}
 use Rattle.tree_model.specs.Gates.{ball_scope, is_caught_above, goal_gate}
 use Rattle.region_floor.specs.Deferred.{Deferred, with_term, items_now, deferred_now, joined_items, joined, joined_entry}
-use Rattle.region_floor.specs.BareFloors.{bare_floor, AreOwnItems, AreOwn, IsOuterMark, TopGoal, goal_entries, bare_stack, true_stack, InfersPrivately}
-use Rattle.region_floor.specs.PrivateLaws.{HasOutcome}
-use Rattle.region_floor.specs.BallLaws.{Throws, BallsArePrivate, IsBallGate, BallsAreGates}
+use Rattle.region_floor.specs.BareFloors.{bare_floor, AreOwnItems, AreOwn, IsOuterMark, goal_entries, bare_stack, true_stack, InfersPrivately}
+use Rattle.region_floor.specs.BallLaws.{BallsArePrivate, IsBallGate, BallsAreGates}
 use Rattle.region_floor.proofs.FloorSizeLemmas.{bare-size, floor-size, stack-size}
 use Rattle.region_floor.proofs.JoinedLemmas.{joined-resolved}
-use Rattle.region_floor.proofs.OwnGoalLemmas.{Leaves, inferred, resolved-own}
+use Rattle.region_floor.proofs.OwnGoalLemmas.{inferred, resolved-own}
 
 -- the marks that are looked for: one is of the floor where there is none over the bare one
 abbrev MarksFit : ℕ → Option ℕ → Option ℕ → Type 0
@@ -70,11 +67,7 @@ height-fit : (n k : ℕ) (a b : Option ℕ) → n ≤ k → MarksFit n a b → i
 height-fit n k None None l f = refl
 height-fit n k (Some i) None l f = absurd f
 height-fit n k (Some i) (Some h) l f = ap (λ m. m == k) f
-height-fit n k None (Some h) l f = go (h == k) refl
-  where
-    go : (b : Bool) → (h == k) ≡ b → b ≡ false
-    go false e = refl
-    go true e = let equal = eqb-true h k e in absurd (omega (arith, equal, l, f))
+height-fit n k None (Some h) l f = not_equal h k (omega (arith, l, f))
 
 -- a ball that reaches the floor lands there or nowhere
 below-floor : (levels : List Level) (b : Term) (mark : Option ℕ) (es : List Entry) → length es ≤ length levels

@@ -1,9 +1,9 @@
 -- What takes the place of a goal on top of own entries, over a bare floor and over the true one.
-use Rattle.std.proofs.Common.{◌≡◌, ℕ, zero, suc, ◌-◌, ◌+◌, ◌≤◌, Bool, true, false, cond, List, [], ◌∷◌, ◌++◌, map, length, drop, Option, Some, None, refl, sym, ap, ap₂, ◌∙◌, subst, arith}
-use Rattle.std.proofs.lemmas.List.{length-map, drop-map, drop-append-le, map-append, length-append}
-use Rattle.std.proofs.lemmas.Bool.Decides.{nat_tests}
-use Rattle.std.specs.Prelude.{nat_lt, codes}
-use Rattle.au_term.specs.Term.{Term, AtomTerm}
+use Rattle.std.proofs.Common.{◌≡◌, ℕ, ◌-◌, ◌+◌, ◌≤◌, Bool, true, false, cond, List, [], ◌∷◌, ◌++◌, map, length, drop, Option, Some, None, refl, sym, ap, ap₂, ◌∙◌, subst, arith}
+use Rattle.std.proofs.lemmas.List.{append_assoc, length-map, drop-map, drop-append-le, map-append, length-append}
+use Rattle.std.specs.Prelude.{nat_lt}
+use Rattle.au_term.specs.Term.{Term}
+use Rattle.au_term.proofs.LogicLemmas.{not_lt_by}
 use Rattle.au_model.specs.Terms.Each.{Each}
 use Rattle.au_model.specs.Terms.Substitutions.{Substitution}
 use Rattle.au_model.specs.Terms.Unifier.{unifier}
@@ -11,18 +11,18 @@ use Rattle.au_model.proofs.EachLemmas.{each-append, each-drop}
 use Rattle.run_model.specs.Programs.Clauses.{Clause}
 use Rattle.run_model.specs.Goals.Outcomes.{Solution, Solutions, ControlForm, GoesOnWith, EitherOf, TestOf, CutToScope, CatchOf, FindallOf, Outcome, Replies, Controls}
 use Rattle.run_model.specs.Goals.GoalOutcomes.{outcome_of}
-use Rattle.run_model.specs.Machine.Items.{Item, GoalItem, CatchMark, CollectMark, RemovalItem, Continuation, resolve_item, resolve_continuation, goals_at, before, with_next, removing}
-use Rattle.run_model.specs.Machine.Entries.{Entry, PlainEntry, CatchEntry, FindallEntry, EndEntry, unified, solution_entry, solution_entries}
+use Rattle.run_model.specs.Machine.Items.{Item, GoalItem, CatchMark, CollectMark, RemovalItem, Continuation, resolve_item, goals_at, before, with_next, removing}
+use Rattle.run_model.specs.Machine.Entries.{Entry, PlainEntry, CatchEntry, FindallEntry, unified, solution_entry, solution_entries}
 use Rattle.run_model.specs.Machine.Heights.{goals_entry, test_items, guarded_goal, after_reply, after_control}
-use Rattle.tree_model.specs.Nodes.{Gate, CutGate}
+use Rattle.tree_model.specs.Nodes.{CutGate}
 use Rattle.tree_model.specs.Levels.{Level}
 use Rattle.tree_model.specs.Floors.{floor_of, node_of}
 use Rattle.tree_model.specs.Gates.{control_gate, goal_gate}
 use Rattle.tree_model.specs.PrivateRuns.{own_at_rest, own_part, own_after, if_no_gate, goal_alone}
 use Rattle.region_floor.specs.Deferred.{Deferred, deferred_now, joined, joined_entry}
 use Rattle.region_floor.specs.BareFloors.{bare_floor, AreOwnItems, AreOwn, IsOwnEntry, TopGoal, goal_entries, bare_stack, true_stack, InfersPrivately}
-use Rattle.region_floor.specs.PrivateLaws.{RemovesNothing, KeepsClauses, HasOutcome, ControlsArePrivate, SolutionsArePrivate}
-use Rattle.region_floor.proofs.FloorSizeLemmas.{bare-size, floor-size, stack-size, part-over}
+use Rattle.region_floor.specs.PrivateLaws.{RemovesNothing, KeepsClauses, ControlsArePrivate, SolutionsArePrivate}
+use Rattle.region_floor.proofs.FloorSizeLemmas.{bare-size, stack-size, part-over}
 use Rattle.region_floor.proofs.JoinedLemmas.{before-joined, test-joined, joined-resolved}
 use Rattle.region_floor.proofs.KeptClauseLemmas.{outcome-kept}
 
@@ -90,7 +90,7 @@ module _ (d : Deferred) (levels : List Level) where
       → Leaves d levels (after_control CutToScope h f (bare own)) (after_control CutToScope h (joined d f) (whole own))
   cut_taken h f own i o true e g = absurd cc
   cut_taken h f own i o false e g =
-      let high : n ≤ h = grind (arith, nat_tests) in
+      let high : n ≤ h = not_lt_by h n e in
       let over : length (bare own) ≡ length own + n = length-append own (bare_floor n) ∙ ap (λ k. length own + k) (bare-size n) in
       let few : length (bare own) - h ≤ length own = omega (arith, high, over) in
       let k : ℕ = length (bare own) - h in
@@ -187,10 +187,6 @@ module _ (d : Deferred) (levels : List Level) where
       (unified-own (unifier s.equations) (going m f s) (goals-own n m s.goals f.items i)))
       (solutions-own m f ss h.1 i)
 
-  over : (xs ys zs : List Entry) → xs ++ (ys ++ zs) ≡ (xs ++ ys) ++ zs
-  over [] ys zs = refl
-  over (x ∷ xs) ys zs = ap (λ l. x ∷ l) (over xs ys zs)
-
   solutions_taken : (ss : List Solution) (f : Continuation ℕ) (own : List Entry) → Each RemovesNothing ss → AreOwnItems n f.items → AreOwn n own
       → Leaves d levels (after_reply (Solutions ss) f (bare own)) (after_reply (Solutions ss) (joined d f) (whole own))
   solutions_taken ss f own h i o =
@@ -198,11 +194,11 @@ module _ (d : Deferred) (levels : List Level) where
       let new = solution_entries m f ss in
       record {
         left = new ++ own;
-        entries = over new own (bare_floor n);
+        entries = sym (append_assoc new own (bare_floor n));
         are_own = each-append (IsOwnEntry n) new own (solutions-own m f ss h i) o;
         stands = ap (λ k. solution_entries k (joined d f) ss ++ whole own) (stack-size d levels own)
             ∙ ap (λ l. l ++ whole own) (solutions-joined m f ss h)
-            ∙ over (map (joined_entry d) new) (map (joined_entry d) own) (floor_of levels)
+            ∙ sym (append_assoc (map (joined_entry d) new) (map (joined_entry d) own) (floor_of levels))
             ∙ ap (λ l. l ++ floor_of levels) (sym (map-append (joined_entry d) new own));
       }
 

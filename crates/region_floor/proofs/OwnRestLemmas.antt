@@ -1,9 +1,9 @@
 -- The free steps of own entries over a bare floor, and of what they stand for.
-use Rattle.std.proofs.Common.{◌≡◌, ℕ, zero, suc, ◌-◌, ◌+◌, ◌≤◌, ◌==◌, Bool, true, false, cond, List, [], ◌∷◌, ◌++◌, map, length, refl, sym, ap, ap₂, ◌∙◌, subst, arith}
+use Rattle.std.proofs.Common.{◌≡◌, ℕ, zero, suc, ◌-◌, ◌≤◌, false, cond, List, [], ◌∷◌, ◌++◌, map, length, refl, sym, ap, ap₂, ◌∙◌, subst, arith}
 use Rattle.std.specs.Prelude.{nat_lt, codes}
 use Rattle.std.proofs.lemmas.List.{length-map}
-use Rattle.std.proofs.lemmas.Bool.Decides.{nat_tests}
 use Rattle.au_term.specs.Term.{Term}
+use Rattle.au_term.proofs.LogicLemmas.{not_less}
 use Rattle.au_model.specs.Terms.Forms.{binary, list_term}
 use Rattle.run_model.specs.Machine.Items.{Item, GoalItem, CatchMark, CollectMark, RemovalItem, Continuation, with_items, before, without_marks}
 use Rattle.run_model.specs.Machine.Entries.{Entry, PlainEntry, CatchEntry, FindallEntry, EndEntry, collected}
@@ -11,9 +11,9 @@ use Rattle.run_model.specs.Machine.FreeSteps.{findall_ends, plain_free_step, fre
 use Rattle.run_model.proofs.FreeStepLemmas.{length-collected, result_collects}
 use Rattle.tree_model.specs.Levels.{Level}
 use Rattle.tree_model.specs.Floors.{floor_of}
-use Rattle.tree_model.specs.PrivateRuns.{own_free_step, own_free_steps, own_at_rest}
+use Rattle.tree_model.specs.PrivateRuns.{own_free_step, own_free_steps}
 use Rattle.region_floor.specs.Deferred.{Deferred, deferred_now, joined_items, joined, joined_entry}
-use Rattle.region_floor.specs.BareFloors.{bare_floor, AreOwnItems, AreOwn, bare_stack, true_stack, true_rest, RestsPrivately}
+use Rattle.region_floor.specs.BareFloors.{bare_floor, AreOwnItems, AreOwn, bare_stack, true_rest, RestsPrivately}
 use Rattle.region_floor.proofs.FloorSizeLemmas.{bare-size, floor-size, stack-size}
 use Rattle.region_floor.proofs.CollectedLemmas.{collected-over, collected-joined, collected-own}
 use Rattle.region_floor.proofs.JoinedLemmas.{marks-joined}
@@ -24,13 +24,6 @@ marks-own n (CatchMark h ∷ items) o = marks-own n items o.1
 marks-own n (GoalItem t h ∷ items) o = o
 marks-own n (CollectMark t h ∷ items) o = o
 marks-own n (RemovalItem k ∷ items) o = o
-
-pub not-low : (h n : ℕ) → n ≤ h → nat_lt h n ≡ false
-not-low h n l = go (nat_lt h n) refl
-  where
-    go : (b : Bool) → nat_lt h n ≡ b → nat_lt h n ≡ false
-    go false e = e
-    go true e = absurd (grind (arith, nat_tests))
 
 floor_rests : (n : ℕ) → take_free_steps (bare_floor n) ≡ bare_floor n
 floor_rests zero = refl
@@ -107,7 +100,7 @@ module _ (d : Deferred) (levels : List Level) where
       }
     where
       low : nat_lt h (length floor) ≡ false
-      low = ap (nat_lt h) (floor-size levels) ∙ not-low h n l
+      low = ap (nat_lt h) (floor-size levels) ∙ not_less h n l
 
       sizes : length (map (joined_entry d) own) ≡ length (map (joined_entry d) (collected (h - n) t own))
       sizes = length-map own (joined_entry d) ∙ sym (length-collected (h - n) t own) ∙ sym (length-map (collected (h - n) t own) (joined_entry d))

@@ -1,10 +1,9 @@
 -- A region's stack stands for the private run after each inference, and tells where the run stops.
-use Rattle.std.proofs.Common.{◌≡◌, ℕ, zero, suc, ◌-◌, ◌<◌, ◌≤◌, ◌==◌, Bool, true, false, cond, List, [], ◌∷◌, ◌++◌, map, length, drop, Option, Some, None, refl, sym, ap, ◌∙◌, subst, arith}
+use Rattle.std.proofs.Common.{◌≡◌, ℕ, suc, ◌-◌, ◌<◌, ◌≤◌, ◌==◌, Bool, true, false, cond, List, [], ◌∷◌, map, length, Option, Some, None, refl, sym, ap, ◌∙◌, subst, arith}
 use Rattle.au_term.specs.Term.{Term}
 use Rattle.au_model.specs.Terms.Each.{Each}
 use Rattle.au_model.specs.Terms.Substitutions.{Substitution, resolve}
 use Rattle.run_model.specs.Goals.Outcomes.{Solution, Solutions, Ball, HaltNumber, ControlForm, CutToScope, Outcome, Replies, Controls, AskWorld}
-use Rattle.run_model.specs.Goals.GoalOutcomes.{outcome_of}
 use Rattle.run_model.specs.Machine.Items.{Item, GoalItem, CatchMark, CollectMark, RemovalItem, Continuation, with_items, without_marks, before, resolve_item, resolve_named, resolve_continuation}
 use Rattle.run_model.specs.Machine.Entries.{Entry, PlainEntry, EndEntry}
 use Rattle.run_model.specs.Machine.FreeSteps.{take_free_steps}
@@ -14,14 +13,12 @@ use Rattle.tree_model.specs.Levels.{Level}
 use Rattle.tree_model.specs.Floors.{renamed_item, height_of, node_of}
 use Rattle.tree_model.specs.Gates.{ball_scope, control_gate, item_gate, gate_on}
 use Rattle.tree_model.specs.Legality.{gives_result}
-use Rattle.tree_model.specs.PrivateRuns.{one_more, if_any, private_run}
-use Rattle.region_floor.specs.Deferred.{Deferred, deferred_now, joined_items, joined, joined_entry, all_deferred, deferring}
+use Rattle.region_floor.specs.Deferred.{deferred_now, joined_items, joined, joined_entry, deferring}
 use Rattle.region_floor.specs.BareFloors.{AreOwn, IsOuterMark, TopGoal, goal_entries, bare_stack, true_stack, true_rest, RestsPrivately, InfersPrivately}
 use Rattle.region_floor.specs.PrivateLaws.{HasOutcome}
-use Rattle.region_floor.specs.BallLaws.{Throws}
 use Rattle.region_floor.specs.GateLaws.{deferred_entries, HasDeferred}
-use Rattle.region_floor.specs.RegionRuns.{RegionRun, run_after, StandsAfter, StopsAt, ComesToResult, run_from, RegionStarts, FreeStepsStand, TakesGoal, ControlsStand, SolutionsStand, AreOuter, BallsStand}
-use Rattle.region_floor.specs.RegionRuns.{FallsAt, BallsStop, WorldGoalsStop, HaltsStop, CutsStop, TakesDeferred, GoalsLoaded, MarksSkipped, AnswersStop, RemovalsStop, ResultsStop, NothingStops, EndsAreEmpty, NothingIsEmpty, EntriesByHeights, MarksAreOuter}
+use Rattle.region_floor.specs.RegionRuns.{RegionRun, run_after, StandsAfter, StopsAt, ComesToResult, RegionStarts, TakesGoal, AreOuter}
+use Rattle.region_floor.specs.RegionRuns.{FallsAt, TakesDeferred, EntriesByHeights, MarksAreOuter}
 use Rattle.region_floor.proofs.OwnRestLemmas.{rests_privately}
 use Rattle.region_floor.proofs.OwnGoalLemmas.{controls_are_private, solutions_are_private}
 use Rattle.region_floor.proofs.OwnBallLemmas.{balls_are_private, balls_are_gates}
@@ -138,7 +135,7 @@ module _ (r : RegionRun) (k : ℕ) where
       let o = Replies (Ball b) in
       let x = own_goal t o h in
       let g = balls_are_gates r.clauses r.deferred r.levels x b (record { outcome = has t o h; outer = outer }) left
-          (thrown t b h (EndEntry left ∷ []) e) in
+      (thrown t b h (EndEntry left ∷ []) e) in
       let scope = ball_scope r.levels (after_reply (Ball b) (joined r.deferred t.after) (true_stack r.deferred r.levels x.below)) in
       record { ball = g.ball; scope = scope; stops = stops t o h (BallGate scope) g.gate }
 

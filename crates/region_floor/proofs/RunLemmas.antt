@@ -1,16 +1,15 @@
 -- The private run, from its start and by one inference after another.
-use Rattle.std.proofs.Common.{◌≡◌, ℕ, zero, suc, ◌+◌, List, [], ◌∷◌, ◌++◌, map, length, Option, Some, None, refl, sym, ap, ◌∙◌, subst}
+use Rattle.std.proofs.Common.{◌≡◌, ℕ, zero, suc, ◌+◌, List, [], ◌∷◌, length, Some, None, refl, sym, ap, ◌∙◌, subst}
 use Rattle.std.proofs.lemmas.List.{length-append}
-use Rattle.au_model.specs.Terms.Substitutions.{Substitution}
 use Rattle.run_model.specs.Programs.Clauses.{Clause}
 use Rattle.run_model.specs.Machine.Items.{Continuation, resolve_continuation}
 use Rattle.run_model.specs.Machine.Entries.{Entry, PlainEntry, EndEntry}
 use Rattle.tree_model.specs.Levels.{Level}
 use Rattle.tree_model.specs.Floors.{floor_of}
 use Rattle.tree_model.specs.PrivateRuns.{own_at_rest, one_more, if_any, private_run}
-use Rattle.region_floor.specs.Deferred.{Deferred, joined, all_deferred, deferring}
-use Rattle.region_floor.specs.BareFloors.{bare_floor, IsOwnEntry, bare_stack}
-use Rattle.region_floor.specs.RunLaws.{RunStarts, GoalsRest, RunGoesOn, IsOwnTop, TopsAreOwn, EndsAreBare, NothingIsBare, OwnAreOver, OwnAreCounted}
+use Rattle.region_floor.specs.Deferred.{joined, all_deferred, deferring}
+use Rattle.region_floor.specs.BareFloors.{bare_floor, IsOwnEntry}
+use Rattle.region_floor.specs.RunLaws.{RunStarts, GoalsRest, RunGoesOn, TopsAreOwn, EndsAreBare, NothingIsBare, OwnAreOver, OwnAreCounted}
 use Rattle.region_floor.proofs.FloorSizeLemmas.{bare-size, part-over}
 use Rattle.region_floor.proofs.JoinedLemmas.{joined-resolved, all_is_left}
 
@@ -18,7 +17,7 @@ pub run_starts : RunStarts
 unfolding private_run
 run_starts clauses levels s f =
     let same : resolve_continuation s f ≡ joined (all_deferred f) (resolve_continuation s (deferring f)) =
-        ap (resolve_continuation s) (sym (all_is_left f)) ∙ joined-resolved s (all_deferred f) (deferring f) in
+    ap (resolve_continuation s) (sym (all_is_left f)) ∙ joined-resolved s (all_deferred f) (deferring f) in
     ap (λ c. Some (own_at_rest (floor_of levels) (PlainEntry c ∷ []))) same
 
 pub goals_rest : GoalsRest

@@ -2,7 +2,7 @@
 use Rattle.std.specs.Prelude.{◌≡◌, ℕ, suc, ◌<◌, true, List, [], ◌∷◌, Some, None, map, drop, length}
 use Rattle.au_term.specs.Term.{Term}
 use Rattle.run_model.specs.Programs.Clauses.{Clause}
-use Rattle.run_model.specs.Goals.Outcomes.{HaltNumber, CutToScope, Outcome, Replies, Controls, AskWorld}
+use Rattle.run_model.specs.Goals.Outcomes.{HaltNumber, CutToScope, Replies, Controls, AskWorld}
 use Rattle.run_model.specs.Goals.GoalOutcomes.{outcome_of}
 use Rattle.run_model.specs.Machine.Items.{Item, GoalItem, CatchMark, CollectMark, RemovalItem, Continuation, before}
 use Rattle.run_model.specs.Machine.Entries.{Entry, PlainEntry}

@@ -1,5 +1,5 @@
 -- What takes the place of a goal in a region is one inference of the private run.
-use Rattle.std.specs.Prelude.{◌≡◌, ℕ, List, None, length}
+use Rattle.std.specs.Prelude.{◌≡◌, List, None, length}
 use Rattle.au_model.specs.Terms.Each.{Each}
 use Rattle.run_model.specs.Programs.Clauses.{Clause}
 use Rattle.run_model.specs.Goals.Outcomes.{Solution, Solutions, Ball, HaltNumber, ControlForm, Outcome, Replies, Controls, AskWorld}
