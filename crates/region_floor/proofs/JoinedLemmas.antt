@@ -1,5 +1,5 @@
 -- What is deferred, put into its place: goals in front, bindings, and all of it.
-use Rattle.std.proofs.Common.{◌≡◌, ℕ, suc, List, [], ◌∷◌, ◌++◌, map, take, drop, refl, sym, ap, ap₂, ◌∙◌}
+use Rattle.std.proofs.Common.{◌≡◌, ℕ, suc, List, [], ◌∷◌, ◌++◌, length, map, take, drop, refl, sym, ap, ap₂, ◌∙◌}
 use Rattle.std.proofs.Math.Seq.{take-append_seam, drop-append_seam}
 use Rattle.std.proofs.lemmas.List.{append-nil, map-append, drop-map, take-map}
 use Rattle.std.specs.Prelude.{codes}
@@ -8,7 +8,7 @@ use Rattle.au_model.specs.Terms.Named.{NamedTerm}
 use Rattle.au_model.specs.Terms.Substitutions.{Substitution}
 use Rattle.run_model.specs.Machine.Items.{Item, GoalItem, CatchMark, CollectMark, RemovalItem, Continuation, resolve_item, resolve_named, resolve_continuation, goals_at, without_marks, before}
 use Rattle.run_model.specs.Machine.Heights.{test_items}
-use Rattle.region_floor.specs.Deferred.{Deferred, with_term, items_now, deferred_now, joined_items, joined, carried_term, all_deferred, deferring}
+use Rattle.region_floor.specs.Deferred.{Deferred, with_term, items_now, deferred_now, joined_items, joined, carried_term, all_deferred, deferring, IsBoundNow}
 
 -- goals in front stay there
 pub goals-joined : (now : List (Item ℕ)) (h : ℕ) (gs : List Term) (items : List (Item ℕ))
@@ -77,6 +77,14 @@ all_is_left f =
     (append-nil (deferred_now (all_deferred f) (deferring f))
     ∙ ap (items_now f.items) (drop-append_seam f.named (map carried_term f.items)) ∙ all_items f.items)
     (take-append_seam f.named (map carried_term f.items))
+
+pub bound_now : IsBoundNow
+bound_now s start f e =
+    let carried = map carried_term start.items in
+    ap (λ vs. items_now start.items (drop (length start.named) vs)) e
+    ∙ ap (items_now start.items) (drop-map (resolve_named s) (length start.named) (start.named ++ carried)
+    ∙ ap (map (resolve_named s)) (drop-append_seam start.named carried))
+    ∙ sym (items-resolved s start.items carried) ∙ ap (map (resolve_item s)) (all_items start.items)
 
 -- the catch marks in front are left out
 pub marks-joined : (now items : List (Item ℕ))

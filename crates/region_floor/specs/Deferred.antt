@@ -1,9 +1,10 @@
 -- What a region defers: the items that its alternative had at the start are not loaded. One item stands for all of them
 -- from a number on, and their terms are carried as further named terms, so that every binding reaches them.
-use Rattle.std.specs.Prelude.{ℕ, List, [], ◌∷◌, ◌++◌, map, length, take, drop}
+use Rattle.std.specs.Prelude.{◌≡◌, ℕ, List, [], ◌∷◌, ◌++◌, map, length, take, drop}
 use Rattle.au_term.specs.Term.{Term, AtomTerm}
 use Rattle.au_model.specs.Terms.Named.{NamedTerm}
-use Rattle.run_model.specs.Machine.Items.{Item, GoalItem, CatchMark, CollectMark, RemovalItem, Continuation}
+use Rattle.au_model.specs.Terms.Substitutions.{Substitution}
+use Rattle.run_model.specs.Machine.Items.{Item, GoalItem, CatchMark, CollectMark, RemovalItem, Continuation, resolve_item, resolve_named}
 use Rattle.run_model.specs.Machine.Entries.{Entry, PlainEntry, CatchEntry, FindallEntry, EndEntry}
 
 -- the items that are deferred, and how many of the named terms are the query's
@@ -59,3 +60,9 @@ all_deferred f = record { named = length f.named; items = f.items }
 
 abbrev pub deferring : Continuation ℕ → Continuation ℕ
 deferring f = record { items = RemovalItem 0 ∷ []; named = f.named ++ map carried_term f.items; next = f.next }
+
+-- what is deferred at the start, once its terms are bound
+abbrev pub IsBoundNow : Type 0
+IsBoundNow =
+    (s : Substitution) (start f : Continuation ℕ) → f.named ≡ map (resolve_named s) (deferring start).named
+    → deferred_now (all_deferred start) f ≡ map (resolve_item s) start.items
