@@ -1,13 +1,13 @@
-mod JoinedLemmas
-mod FloorSizeLemmas
+pub mod JoinedLemmas
+pub mod FloorSizeLemmas
 mod CollectedLemmas
-mod OwnRestLemmas
+pub mod OwnRestLemmas
 mod KeptAnswerLemmas
 mod KeptTermLemmas
 mod KeptBuiltinLemmas
-mod KeptClauseLemmas
-mod OwnGoalLemmas
-mod OwnBallLemmas
-mod GateTopLemmas
-mod RunLemmas
-mod RegionRunLemmas
+pub mod KeptClauseLemmas
+pub mod OwnGoalLemmas
+pub mod OwnBallLemmas
+pub mod GateTopLemmas
+pub mod RunLemmas
+pub mod RegionRunLemmas

@@ -23,7 +23,7 @@ use Rattle.tree_model.specs.Floors.{floor_of}
 use Rattle.tree_model.specs.Gates.{ball_scope, is_caught_above, goal_gate}
 use Rattle.region_floor.specs.Deferred.{Deferred, with_term, items_now, deferred_now, joined_items, joined, joined_entry}
 use Rattle.region_floor.specs.BareFloors.{bare_floor, AreOwnItems, AreOwn, IsOuterMark, goal_entries, bare_stack, true_stack, InfersPrivately}
-use Rattle.region_floor.specs.BallLaws.{BallsArePrivate, IsBallGate, BallsAreGates}
+use Rattle.region_floor.specs.BallLaws.{BallsArePrivate, IsBallGate, BallsAreGates, BallsLand}
 use Rattle.region_floor.proofs.FloorSizeLemmas.{bare-size, floor-size, stack-size}
 use Rattle.region_floor.proofs.JoinedLemmas.{joined-resolved}
 use Rattle.region_floor.proofs.OwnGoalLemmas.{inferred, resolved-own}
@@ -68,6 +68,23 @@ height-fit n k None None l f = refl
 height-fit n k (Some i) None l f = absurd f
 height-fit n k (Some i) (Some h) l f = ap (λ m. m == k) f
 height-fit n k None (Some h) l f = not_equal h k (omega (arith, l, f))
+
+-- it lands at an entry or nowhere
+pub balls_land : BallsLand
+balls_land b mark [] = inr refl
+balls_land b mark (PlainEntry f ∷ es) = balls_land b mark es
+balls_land b mark (FindallEntry results g f ∷ es) = balls_land b mark es
+balls_land b mark (EndEntry e ∷ es) = balls_land b mark es
+balls_land b mark (CatchEntry c r f ∷ es) =
+    go (taken_by mark (length es) b c f) (balls_land b (next_mark mark (length es) f) es)
+  where
+    go : (o : Option Substitution)
+        → ((g : Continuation ℕ) × (ds : List Entry) × (unwound b (next_mark mark (length es) f) es ≡ PlainEntry g ∷ ds))
+        ⊎ (unwound b (next_mark mark (length es) f) es ≡ EndEntry (Some (copied b 0)) ∷ [])
+        → ((g : Continuation ℕ) × (ds : List Entry) × (recovered o b r f es (unwound b (next_mark mark (length es) f) es) ≡ PlainEntry g ∷ ds))
+        ⊎ (recovered o b r f es (unwound b (next_mark mark (length es) f) es) ≡ EndEntry (Some (copied b 0)) ∷ [])
+    go None k = k
+    go (Some s) k = inl (_, _, refl)
 
 -- a ball that reaches the floor lands there or nowhere
 below-floor : (levels : List Level) (b : Term) (mark : Option ℕ) (es : List Entry) → length es ≤ length levels

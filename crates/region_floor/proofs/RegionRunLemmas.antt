@@ -1,5 +1,5 @@
 -- A region's stack stands for the private run after each inference, and tells where the run stops.
-use Rattle.std.proofs.Common.{◌≡◌, ℕ, suc, ◌-◌, ◌<◌, ◌≤◌, ◌==◌, Bool, true, false, cond, List, [], ◌∷◌, map, length, Option, Some, None, refl, sym, ap, ◌∙◌, subst, arith}
+use Rattle.std.proofs.Common.{◌≡◌, ℕ, zero, suc, ◌-◌, ◌<◌, ◌≤◌, ◌==◌, Bool, true, false, cond, List, [], ◌∷◌, map, length, Option, Some, None, refl, sym, ap, ◌∙◌, subst, arith}
 use Rattle.au_term.specs.Term.{Term}
 use Rattle.au_model.specs.Terms.Each.{Each}
 use Rattle.au_model.specs.Terms.Substitutions.{Substitution, resolve}
@@ -14,11 +14,11 @@ use Rattle.tree_model.specs.Floors.{renamed_item, height_of, node_of}
 use Rattle.tree_model.specs.Gates.{ball_scope, control_gate, item_gate, gate_on}
 use Rattle.tree_model.specs.Legality.{gives_result}
 use Rattle.region_floor.specs.Deferred.{deferred_now, joined_items, joined, joined_entry, deferring}
-use Rattle.region_floor.specs.BareFloors.{AreOwn, IsOuterMark, TopGoal, goal_entries, bare_stack, true_stack, true_rest, RestsPrivately, InfersPrivately}
+use Rattle.region_floor.specs.BareFloors.{bare_floor, AreOwn, IsOuterMark, TopGoal, goal_entries, bare_stack, true_stack, true_rest, RestsPrivately, InfersPrivately}
 use Rattle.region_floor.specs.PrivateLaws.{HasOutcome}
 use Rattle.region_floor.specs.GateLaws.{deferred_entries, HasDeferred}
 use Rattle.region_floor.specs.RegionRuns.{RegionRun, run_after, StandsAfter, StopsAt, ComesToResult, RegionStarts, TakesGoal, AreOuter}
-use Rattle.region_floor.specs.RegionRuns.{FallsAt, TakesDeferred, EntriesByHeights, MarksAreOuter}
+use Rattle.region_floor.specs.RegionRuns.{FallsAt, TakesDeferred, EntriesByHeights, MarksAreOuter, NoBallIsLeft}
 use Rattle.region_floor.proofs.OwnRestLemmas.{rests_privately}
 use Rattle.region_floor.proofs.OwnGoalLemmas.{controls_are_private, solutions_are_private}
 use Rattle.region_floor.proofs.OwnBallLemmas.{balls_are_private, balls_are_gates}
@@ -255,6 +255,16 @@ module _ (r : RegionRun) (k : ℕ) where
 
   pub none_is_empty : StandsAfter r k [] → run_after r k ≡ Some []
   none_is_empty h = h.run ∙ ap (λ l. Some (true_rest r.deferred r.levels l)) (nothing_is_bare r.levels h.own (sym h.entries))
+
+-- the ends of a bare floor have no ball
+no_ball : (n : ℕ) (b : Term) (es : List Entry) → bare_floor n ≡ EndEntry (Some b) ∷ es → ⊥
+no_ball zero b es e = cc
+no_ball (suc n) b es e = cc
+
+pub no_ball_is_left : NoBallIsLeft
+no_ball_is_left r k b es h =
+    let none = ends_are_bare r.levels h.own (Some b) es h.are_own (sym h.entries) in
+    no_ball (length r.levels) b es (ap (bare_stack r.levels) (sym none) ∙ sym h.entries)
 
 -- marks by heights
 height-low : (levels : List Level) (s : ℕ) → height_of levels s ≤ length levels

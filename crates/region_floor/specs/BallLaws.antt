@@ -1,5 +1,5 @@
 -- Where a ball lands over a bare floor, and over the true one.
-use Rattle.std.specs.Prelude.{◌≡◌, ℕ, List, [], ◌∷◌, Option, Some, length}
+use Rattle.std.specs.Prelude.{◌≡◌, ◌⊎◌, ℕ, List, [], ◌∷◌, Option, Some, length}
 use Rattle.au_term.specs.Term.{Term}
 use Rattle.au_model.specs.Terms.Copies.{copied}
 use Rattle.au_model.specs.Terms.Each.{Each}
@@ -7,6 +7,7 @@ use Rattle.run_model.specs.Programs.Clauses.{Clause}
 use Rattle.run_model.specs.Goals.Outcomes.{Ball, Replies}
 use Rattle.run_model.specs.Machine.Items.{Continuation}
 use Rattle.run_model.specs.Machine.Entries.{Entry, PlainEntry, EndEntry}
+use Rattle.run_model.specs.Machine.Balls.{unwound}
 use Rattle.run_model.specs.Machine.Heights.{after_reply}
 use Rattle.tree_model.specs.Nodes.{BallGate}
 use Rattle.tree_model.specs.Levels.{Level}
@@ -37,3 +38,9 @@ abbrev pub BallsAreGates : Type 0
 BallsAreGates =
     (clauses : List Clause) (d : Deferred) (levels : List Level) (t : TopGoal) (b : Term) → Throws clauses d levels t b
     → (c : Option Term) → after_reply (Ball b) t.after (bare_stack levels t.below) ≡ EndEntry c ∷ [] → IsBallGate clauses d levels t b c
+
+-- over any entries, a recovery goes on or the ball alone is left
+abbrev pub BallsLand : Type 0
+BallsLand =
+    (b : Term) (mark : Option ℕ) (es : List Entry) → ((f : Continuation ℕ) × (ds : List Entry) × (unwound b mark es ≡ PlainEntry f ∷ ds))
+    ⊎ (unwound b mark es ≡ EndEntry (Some (copied b 0)) ∷ [])

@@ -171,3 +171,7 @@ EndsAreEmpty = (r : RegionRun) (k : ℕ) (b : Option Term) (es : List Entry) →
 
 abbrev pub NothingIsEmpty : Type 0
 NothingIsEmpty = (r : RegionRun) (k : ℕ) → StandsAfter r k [] → run_after r k ≡ Some []
+
+-- and no end with a ball comes to be on top
+abbrev pub NoBallIsLeft : Type 0
+NoBallIsLeft = (r : RegionRun) (k : ℕ) (b : Term) (es : List Entry) → StandsAfter r k (EndEntry (Some b) ∷ es) → ⊥

@@ -2,6 +2,7 @@
 ghost use Rattle.region_floor.specs.RegionRuns.{RegionStarts, FreeStepsStand, ControlsStand, SolutionsStand, BallsStand, BallsStop};
 ghost use Rattle.region_floor.specs.RegionRuns.{WorldGoalsStop, HaltsStop, CutsStop, GoalsLoaded, MarksSkipped, AnswersStop};
 ghost use Rattle.region_floor.specs.RegionRuns.{RemovalsStop, ResultsStop, NothingStops, EndsAreEmpty, NothingIsEmpty, EntriesByHeights, MarksAreOuter};
+ghost use Rattle.region_floor.specs.RegionRuns.{NoBallIsLeft};
 
 /// A region that defers all that is left to do stands at the start of the private run; free steps leave it where it is.
 pub fn region_stands_at_start()
@@ -33,11 +34,12 @@ pub fn region_takes_deferred_items()
     ensures result { ResultsStop }
 {}
 
-/// With no item on top the run stops, and with no own entry nothing is left of it.
+/// With no item on top the run stops, and with no own entry nothing is left of it; no end with a ball is ever on top.
 pub fn region_ends()
     ensures nothing { NothingStops }
     ensures end { EndsAreEmpty }
     ensures none { NothingIsEmpty }
+    ensures ball { NoBallIsLeft }
 {}
 
 /// So may the run of an alternative of the tree, whose marks by heights are all those of the floor.

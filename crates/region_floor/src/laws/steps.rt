@@ -10,7 +10,7 @@ ghost use Rattle.run_model.specs.Machine.FreeSteps.{take_free_steps};
 ghost use Rattle.tree_model.specs.Levels.{Level};
 ghost use Rattle.region_floor.specs.Deferred.{Deferred, joined, all_deferred, deferring, IsBoundNow};
 ghost use Rattle.region_floor.specs.BareFloors.{AreOwn, bare_stack, RestsPrivately};
-ghost use Rattle.region_floor.specs.BallLaws.{BallsArePrivate, BallsAreGates};
+ghost use Rattle.region_floor.specs.BallLaws.{BallsArePrivate, BallsAreGates, BallsLand};
 ghost use Rattle.region_floor.specs.GateLaws.{WorldGoalsAreGates, HaltsAreGates, CutsAreGates, AnswersAreGates, RemovalsAreGates, GoalsLoad};
 ghost use Rattle.region_floor.specs.GateLaws.{CatchMarksSkip, ResultsAreGiven};
 ghost use Rattle.region_floor.specs.RunLaws.{RunStarts, GoalsRest, RunGoesOn, TopsAreOwn, EndsAreBare, NothingIsBare};
@@ -41,10 +41,12 @@ pub fn goals_are_private()
     ensures solutions { SolutionsArePrivate }
 {}
 
-/// A ball that lands above a bare floor is one inference of the private run, and one that does not is a gate.
+/// A ball that lands above a bare floor is one inference of the private run, and one that does not is a gate; it does one
+/// or the other.
 pub fn balls_land_alike()
     ensures above { BallsArePrivate }
     ensures below { BallsAreGates }
+    ensures either { BallsLand }
 {}
 
 /// A goal of the world, one that halts and a cut to the floor are gates.
