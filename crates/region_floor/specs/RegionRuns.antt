@@ -74,7 +74,7 @@ RegionStarts =
 abbrev pub by_heights : List Level → Continuation ℕ → Continuation ℕ
 by_heights levels f = renamed_continuation (height_of levels) (λ s. height_of levels s - 1) f
 
--- so may the run of an alternative of the tree that reads as this after bindings: all of its marks are those of the floor
+-- an alternative of the tree that reads as this after bindings: heights commute with bindings, and all marks are of the floor
 abbrev pub EntriesByHeights : Type 0
 EntriesByHeights =
     (levels : List Level) (s : Substitution) (f : Continuation ℕ)
@@ -159,7 +159,7 @@ ResultsStop =
     (r : RegionRun) (k n h : ℕ) (result : Term) (f : Continuation ℕ) (es : List Entry) (items : List (Item ℕ))
     → TakesDeferred r k n f es (CollectMark result h ∷ items) → h < length r.levels → ComesToResult r k (deferred_entries n f es)
 
--- where nothing is left to do, which no region comes to that defers something
+-- no item on top: a region that keeps what stands for deferred items never comes to this
 abbrev pub NothingStops : Type 0
 NothingStops =
     (r : RegionRun) (k : ℕ) (f : Continuation ℕ) (es : List Entry) → f.items ≡ [] → StandsAfter r k (PlainEntry f ∷ es)

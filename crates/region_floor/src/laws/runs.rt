@@ -42,7 +42,7 @@ pub fn region_ends()
     ensures ball { NoBallIsLeft }
 {}
 
-/// So may the run of an alternative of the tree, whose marks by heights are all those of the floor.
+/// What an alternative of the tree reads as is, by heights, what a region may start with: its marks are those of the floor.
 pub fn alternatives_start_regions()
     ensures entry { EntriesByHeights }
     ensures outer { MarksAreOuter }
