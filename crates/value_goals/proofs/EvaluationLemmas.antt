@@ -23,6 +23,7 @@ use Rattle.cell_store.specs.Arguments.{HasFunctor, argument_at, arguments_from}
 use Rattle.cell_store.specs.StoreView.{StoreView, IsValueIn, meaning, value_term, substitution, text_in}
 use Rattle.cell_store.proofs.WalkLemmas.{turned}
 use Rattle.cell_store.proofs.WritingLemmas.{how_many}
+use Rattle.value_goals.specs.ShortValues.{HasNoShortValue}
 use Rattle.value_goals.specs.Evaluation.{evaluated_in, with_first, function_resumed, functions_resumed, value_of_next, evaluation_steps, waiting_steps, IsWaitingIn, StepsOn, StepsTo}
 use Rattle.value_goals.specs.declared.evaluation.Waiting.{Waiting}
 use Rattle.value_goals.specs.declared.evaluation.Waiting.TheVariants.{One, First, Second}
@@ -78,12 +79,12 @@ module _ (st : StoreView) (at base f : ℕ) where
   both_known g c d x y h e k found is other = ap (λ t. then_value (expression_value t) (binary_meaning g x)) (sym other) ∙ (first_known g c d x x h e k found is refl).0
 
 -- the value that was computed, where there is one
-pub value_found : (r : Result ℤ EvalName) (o : Option ℤ) (v w : Evaluated) → o ≡ result_ok r → outcome r ≡ v → v ≡ w → MatchOption o (Unit {0}) (λ z. w ≡ Ok z)
-value_found r o v w e h k = subst (λ x. MatchOption x (Unit {0}) (λ z. w ≡ Ok z)) (sym e) (by r (h ∙ k))
+pub value_found : (r : Result ℤ EvalName) (o : Option ℤ) (v : Evaluated) (t : Term) → o ≡ result_ok r → outcome r ≡ v → v ≡ expression_value t → MatchOption o (HasNoShortValue t) (λ z. expression_value t ≡ Ok z)
+value_found r o v t e h k = subst (λ x. MatchOption x (HasNoShortValue t) (λ z. expression_value t ≡ Ok z)) (sym e) (by r (h ∙ k))
   where
-    by : (q : Result ℤ EvalName) → outcome q ≡ w → MatchOption (result_ok q) (Unit {0}) (λ z. w ≡ Ok z)
+    by : (q : Result ℤ EvalName) → outcome q ≡ expression_value t → MatchOption (result_ok q) (HasNoShortValue t) (λ z. expression_value t ≡ Ok z)
     by (Ok z) h = sym h
-    by (Err error) h = tt
+    by (Err error) h = λ s z is. absurd (let no : Err _ ≡ Ok z = h ∙ is in cc)
 
 -- a function waits
 waits : (st : StoreView) (v : Evaluated) (steps : ℕ) (old new : List Waiting) (w : Waiting) (c : BindingCell) → new ≡ old ++ w ∷ [] → function_resumed st w (evaluated_in st c) ≡ v → evaluation_steps st c + waiting_steps st w < steps → IsValueIn st c → IsWaitingIn st w → StepsOn st v steps (reverse old) (reverse new) (Expression c)

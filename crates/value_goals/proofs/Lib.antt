@@ -3,3 +3,4 @@ pub mod EvaluationLemmas
 pub mod ComparisonLemmas
 pub mod PartLemmas
 pub mod GroundLemmas
+pub mod ShortLemmas

@@ -3,3 +3,4 @@ pub mod Comparison
 pub mod Answers
 pub mod Parts
 pub mod GroundTerms
+pub mod ShortValues

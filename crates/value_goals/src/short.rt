@@ -4,17 +4,18 @@ ghost use Rattle.run_model.specs.Goals.Arithmetic.{expression_value};
 ghost use Rattle.cell_store.specs.StoreView.{IsValueIn, meaning, text_in};
 ghost use Rattle.cell_store.specs.Arguments.{HasFunctor};
 ghost use Rattle.value_goals.specs.Evaluation.{evaluated_in};
+ghost use Rattle.value_goals.specs.ShortValues.{HasNoShortValue};
 
 use crate::type_tests::integer_of;
 use arith_eval::{binary_named, unary_named};
 use binding_array::BindingCell;
 use cell_store::Store;
 
-/// The value of an integer, or of a function of integers, where it has one.
+/// The value of an integer, or of a function of one or two integers, where it has one; none of other expressions.
 #[inline]
 pub fn short_value(store: &Store, value: BindingCell) -> Option<i64>
     requires { IsValueIn store.now value }
-    ensures { MatchOption result (Unit {0}) (λ z. expression_value (meaning store.now value) ≡ Ok z) }
+    ensures { MatchOption result (HasNoShortValue (meaning store.now value)) (λ z. expression_value (meaning store.now value) ≡ Ok z) }
 {
     match store.dereference(value) {
         BindingCell::Int(value) => Some(value),
@@ -27,7 +28,7 @@ pub fn short_value(store: &Store, value: BindingCell) -> Option<i64>
 #[inline]
 fn value_of_integers(store: &Store, at: u32, base: u32) -> Option<i64>
     requires { IsValueIn store.now (BindingCell.Compound at base) }
-    ensures { MatchOption result (Unit {0}) (λ z. evaluated_in store.now (BindingCell.Compound at base) ≡ Ok z) }
+    ensures { MatchOption result (HasNoShortValue (meaning store.now (BindingCell.Compound at base))) (λ z. evaluated_in store.now (BindingCell.Compound at base) ≡ Ok z) }
 {
     let (name, count) = store.functor(at);
     if count == 2 {
@@ -43,7 +44,7 @@ fn value_of_integers(store: &Store, at: u32, base: u32) -> Option<i64>
 fn value_of_one(store: &Store, name: u32, at: u32, base: u32) -> Option<i64>
     requires functor { HasFunctor (text_in store.now) store.now.now.next at base name 1 }
     requires short { at < 2 ^ 32 - 1 }
-    ensures { MatchOption result (Unit {0}) (λ z. evaluated_in store.now (BindingCell.Compound at base) ≡ Ok z) }
+    ensures { MatchOption result (HasNoShortValue (meaning store.now (BindingCell.Compound at base))) (λ z. evaluated_in store.now (BindingCell.Compound at base) ≡ Ok z) }
 {
     let x = integer_of(store, store.argument(at + 1, base))?;
     let function = unary_named(store.name(name))?;
@@ -55,7 +56,7 @@ fn value_of_one(store: &Store, name: u32, at: u32, base: u32) -> Option<i64>
 fn value_of_two(store: &Store, name: u32, at: u32, base: u32) -> Option<i64>
     requires functor { HasFunctor (text_in store.now) store.now.now.next at base name 2 }
     requires short { at < 2 ^ 32 - 1 }
-    ensures { MatchOption result (Unit {0}) (λ z. evaluated_in store.now (BindingCell.Compound at base) ≡ Ok z) }
+    ensures { MatchOption result (HasNoShortValue (meaning store.now (BindingCell.Compound at base))) (λ z. evaluated_in store.now (BindingCell.Compound at base) ≡ Ok z) }
 {
     let x = integer_of(store, store.argument(at + 1, base))?;
     let y = integer_of(store, store.argument(at + 2, base))?;
