@@ -117,6 +117,14 @@ ground_there code next at s b =
     let bound : var_bound (shifted 0 (meaning_in code (Ground at))) ≡ 0 = ap var_bound (ground_shifted code (Ground at) 0 s b refl) ∙ ground_bound code (Ground at) s b refl in
     ((b.0, b.1), omega (arith, bound))
 
+pub other_ground : (code : CodeView) (p : Place) → IsPlaceOf code p → ((v : ℕ) → p ≡ VarPlace v → ⊥) → ((i : ℕ) → p ≡ Sub i → ⊥) → is_ground_place p ≡ true
+other_ground code (Functor f n) b v s = absurd b
+other_ground code (VarPlace w) b v s = absurd (v w refl)
+other_ground code (IntPlace z) b v s = refl
+other_ground code (AtomPlace a) b v s = refl
+other_ground code (Sub i) b v s = absurd (s i refl)
+other_ground code (Ground i) b v s = refl
+
 -- nothing occurs in an argument without variables
 pub ground_argument : (code : CodeView) (base at : ℕ) → AreSound (length code.names) code.places → IsPlaceOf code (code_place code at) → is_ground_place (code_place code at) ≡ true → var_bound (argument_at code base at) ≡ 0
 ground_argument code base at s b e = ap var_bound (ground_shifted code (code_place code at) base s b e) ∙ ground_bound code (code_place code at) s b e

@@ -13,6 +13,7 @@ use Rattle.clause_compile.specs.Places.{CodeView}
 use Rattle.binding_array.specs.declared.cell.BindingCell.{BindingCell}
 use Rattle.binding_array.specs.declared.cell.BindingCell.TheVariants.{Free, Var, Int, Atom, Compound}
 use Rattle.cell_store.specs.Values.{IsNoVariable}
+use Rattle.cell_store.specs.ArgumentSteps.{IsConstant}
 use Rattle.cell_store.specs.StoreView.{StoreView, substitution, meaning, value_term, text_in, IsValueIn, BindsFurther}
 use Rattle.cell_store.specs.Arguments.{argument_at, arguments_from, arguments_in, AreArguments, HasFunctor, AreThere, resolved_terms}
 use Rattle.cell_store.specs.UnificationSteps.{paired, equations_in, pending_equations, FollowsRule, after_binding, after_opening, TakesRule, IsBoundOr, HasRestEquations, KeepsRestEquations}
@@ -99,6 +100,43 @@ atom_clash st a left c e n v h = ap (λ d. rule (meaning st d) (meaning st c)) e
     other (Atom b) n v h = absurd (h b refl)
     other (Compound at base) n v h = atom_compound (name_at (text_in st).names a) (meaning st (Compound at base)) (resolved_compound (substitution st) (value_term st (Compound at base)) (means_compound (text_in st) at base v.0))
 
+compound_int : (t : Term) (z : ℤ) → IsCompound t → rule t (IntTerm z) ≡ Clash
+compound_int t z (compound f ts) = refl
+
+compound_atom : (t : Term) (b : List ℕ) → IsCompound t → rule t (AtomTerm b) ≡ Clash
+compound_atom t b (compound f ts) = refl
+
+pub constant : (st : StoreView) (c : BindingCell) → IsValueIn st c → ((v : ℕ) → c ≡ Var v → ⊥) → ((at base : ℕ) → c ≡ Compound at base → ⊥) → IsConstant c
+constant st Free v h k = absurd v
+constant st (Var w) v h k = absurd (h w refl)
+constant st (Int z) v h k = tt
+constant st (Atom a) v h k = tt
+constant st (Compound at base) v h k = absurd (k at base refl)
+
+pub no_variable_constant : (c : BindingCell) → IsConstant c → IsNoVariable c
+no_variable_constant Free h = absurd h
+no_variable_constant (Var w) h = absurd h
+no_variable_constant (Int z) h = tt
+no_variable_constant (Atom a) h = tt
+no_variable_constant (Compound at base) h = absurd h
+
+pub compound_clash : (st : StoreView) (left c : BindingCell) → IsNoVariable left → IsValueIn st left → ((z : ℤ) → left ≡ Int z → ⊥) → ((a : ℕ) → left ≡ Atom a → ⊥) → IsConstant c → rule (meaning st left) (meaning st c) ≡ Clash
+compound_clash st Free c n v h k o = absurd n
+compound_clash st (Var w) c n v h k o = absurd n
+compound_clash st (Int z) c n v h k o = absurd (h z refl)
+compound_clash st (Atom a) c n v h k o = absurd (k a refl)
+compound_clash st (Compound at base) c n v h k o = by_constant c o
+  where
+    is : IsCompound (meaning st (Compound at base))
+    is = resolved_compound (substitution st) (value_term st (Compound at base)) (means_compound (text_in st) at base v.0)
+
+    by_constant : (d : BindingCell) → IsConstant d → rule (meaning st (Compound at base)) (meaning st d) ≡ Clash
+    by_constant Free o = absurd o
+    by_constant (Var w) o = absurd o
+    by_constant (Int z) o = compound_int (meaning st (Compound at base)) z is
+    by_constant (Atom a) o = compound_atom (meaning st (Compound at base)) (name_at (text_in st).names a) is
+    by_constant (Compound to over) o = absurd o
+
 -- of two compounds
 resolved_pairs : (s : Substitution) (ts us : List Term) → pairs (terms_from (resolved_terms s ts)) (terms_from (resolved_terms s us)) ≡ resolved_equations s (paired ts us)
 resolved_pairs s [] us = refl
@@ -162,7 +200,7 @@ module _ (st : StoreView) (at base f m to over g n : ℕ) (left : HasFunctor (te
       }) refl refl
 
 -- all but the first equation
-pub rest_equations : (e f : ArgumentEquations) (old : List ArgumentEquations) → 1 < e.left.count → f.left ≡ record { at = e.left.at + 1; base = e.left.base; count = e.left.count - 1 } → f.right ≡ record { at = e.right.at + 1; base = e.right.base; count = e.right.count - 1 } → KeepsRestEquations e old (f ∷ old)
+pub rest_equations : (e f : ArgumentEquations) (old : List ArgumentEquations) → 1 < e.left.count → f.left ≡ record { at = e.left.at + 1; base = e.left.base; count = e.left.count - 1 } → f.right ≡ record { at = e.right.at + 1; base = e.right.base; count = f.left.count } → KeepsRestEquations e old (f ∷ old)
 rest_equations e f old p l r code next h k = by_count e.left.count refl
   where
     by_count : (n : ℕ) → e.left.count ≡ n → HasRestEquations code next e old (f ∷ old)
@@ -172,7 +210,7 @@ rest_equations e f old p l r code next h k = by_count e.left.count refl
         let left_args = subst (λ m. AreArguments code next e.left.base m e.left.at) q h.left.1 in
         let right_args = subst (λ m. AreArguments code next e.right.base m e.right.at) right_count h.right.1 in
         let left_is : f.left ≡ record { at = e.left.at + 1; base = e.left.base; count = n } = l ∙ ap (λ m. (let x : Arguments = record { at = e.left.at + 1; base = e.left.base; count = m } in x)) (omega arith) in
-        let right_is : f.right ≡ record { at = e.right.at + 1; base = e.right.base; count = n } = r ∙ ap (λ m. (let x : Arguments = record { at = e.right.at + 1; base = e.right.base; count = m } in x)) (omega arith) in
+        let right_is : f.right ≡ record { at = e.right.at + 1; base = e.right.base; count = n } = r ∙ ap (λ m. (let x : Arguments = record { at = e.right.at + 1; base = e.right.base; count = m } in x)) (ap (λ (x : Arguments). x.count) left_is) in
         let here : equations_in code f ≡ paired (arguments_from code e.left.base n (e.left.at + 1)) (arguments_from code e.right.base n (e.right.at + 1)) = ap₂ (λ u v. paired (arguments_in code u) (arguments_in code v)) left_is right_is in
         let whole : equations_in code e ≡ paired (arguments_from code e.left.base (suc n) e.left.at) (arguments_from code e.right.base (suc n) e.right.at) = ap₂ (λ u v. paired (arguments_from code e.left.base u e.left.at) (arguments_from code e.right.base v e.right.at)) q right_count in
         record {
@@ -207,6 +245,6 @@ other_equations e old p = by_count e.left.count refl
     by_count (suc zero) q = record { others = old; kept = no_other_equation e old p (omega arith) }
     by_count (suc (suc n)) q =
         let l : Arguments = record { at = e.left.at + 1; base = e.left.base; count = e.left.count - 1 } in
-        let r : Arguments = record { at = e.right.at + 1; base = e.right.base; count = e.right.count - 1 } in
+        let r : Arguments = record { at = e.right.at + 1; base = e.right.base; count = e.left.count - 1 } in
         let f : ArgumentEquations = record { left = l; right = r } in
         record { others = f ∷ old; kept = rest_equations e f old (omega arith) refl refl }

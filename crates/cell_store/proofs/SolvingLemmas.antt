@@ -1,10 +1,11 @@
 -- Equations solved one after another, until none is left.
 use Rattle.std.proofs.Common.{◌≡◌, ℕ, ◌<◌, List, [], ◌∷◌, ◌++◌, Option, None, refl, subst}
+use Rattle.au_term.specs.Term.{Term}
 use Rattle.au_model.specs.Terms.Unifier.{Equations, Clash, rule, unifier}
 use Rattle.binding_array.specs.declared.cell.BindingCell.{BindingCell}
-use Rattle.cell_store.specs.Arguments.{argument_at}
+use Rattle.cell_store.specs.Arguments.{argument_meaning}
 use Rattle.cell_store.specs.FreshVariables.{IsOlder, StaysOlder}
-use Rattle.cell_store.specs.StoreView.{StoreView, substitution, meaning, value_term, text_in, with_substitution}
+use Rattle.cell_store.specs.StoreView.{StoreView, substitution, meaning, text_in, with_substitution}
 use Rattle.cell_store.specs.UnificationSteps.{AllEquations, FollowsRule, KeepsRestEquations, AreUnified}
 use Rattle.cell_store.specs.declared.arguments.Equations.{Equations as ArgumentEquations}
 use Rattle.cell_store.proofs.RuleLemmas.{other_equations}
@@ -30,18 +31,28 @@ starts a b first new from to opened o f k s =
     let h = start_follows first new (meaning first a) (meaning first b) opened f in
     record { unifying = h.unifying; there = h.there; older = older_follows from to first new (meaning first a) (meaning first b) [] opened (o, tt) k f s; others = h.others }
 
-module _ (a b : BindingCell) (first st : StoreView) (from : Option ℕ) (e : ArgumentEquations) (waiting : List ArgumentEquations) (left right : BindingCell) (h : IsSolving a b first st from (e ∷ waiting)) (left_is : value_term st left ≡ argument_at (text_in st) e.left.base e.left.at) (right_is : value_term st right ≡ argument_at (text_in st) e.right.base e.right.at) where
-  pub clashes : rule (meaning st left) (meaning st right) ≡ Clash → unifier (whole a b first) ≡ None
-  clashes k =
-      let r = other_equations e waiting h.there.0.left.0 in
-      first_clashes (whole a b first) first st waiting r.others e left right h.unifying h.there r.kept left_is right_is k
+module _ (a b : BindingCell) (first st : StoreView) (from : Option ℕ) (e : ArgumentEquations) (waiting : List ArgumentEquations) (h : IsSolving a b first st from (e ∷ waiting)) where
+  abbrev left : Term
+  left = argument_meaning st e.left.base e.left.at
 
-  pub goes_on : (others : List ArgumentEquations) → KeepsRestEquations e waiting others → (new : StoreView) (to : Option ℕ) (opened : List ArgumentEquations) → FollowsRule st new (meaning st left) (meaning st right) opened → new ≡ with_substitution (substitution new) st → StaysOlder st new from to
+  abbrev right : Term
+  right = argument_meaning st e.right.base e.right.at
+
+  -- the first side is older
+  pub first_older : IsOlder from left
+  first_older =
+      let r = other_equations e waiting h.there.0.left.0 in
+      (subst (AllOlder from) (first_is (whole a b first) first st waiting r.others e h.unifying h.there r.kept) h.older).0
+
+  pub clashes : rule left right ≡ Clash → unifier (whole a b first) ≡ None
+  clashes k = let r = other_equations e waiting h.there.0.left.0 in first_clashes (whole a b first) first st waiting r.others e h.unifying h.there r.kept k
+
+  pub goes_on : (others : List ArgumentEquations) → KeepsRestEquations e waiting others → (new : StoreView) (to : Option ℕ) (opened : List ArgumentEquations) → FollowsRule st new left right opened → new ≡ with_substitution (substitution new) st → StaysOlder st new from to
       → IsSolving a b first new to (opened ++ others) × (solving_work a b first new (opened ++ others) < solving_work a b first st (e ∷ waiting))
   goes_on others kept new to opened f k s =
-      let g = first_follows (whole a b first) first st waiting others e left right h.unifying h.there kept left_is right_is h.others new opened f in
-      let older = subst (AllOlder from) (first_is (whole a b first) first st waiting others e left right h.unifying h.there kept left_is right_is) h.older in
-      (record { unifying = g.unifying; there = g.there; older = older_follows from to st new (meaning st left) (meaning st right) others opened older k f s; others = g.others }, g.less)
+      let g = first_follows (whole a b first) first st waiting others e h.unifying h.there kept h.others new opened f in
+      let older = subst (AllOlder from) (first_is (whole a b first) first st waiting others e h.unifying h.there kept) h.older in
+      (record { unifying = g.unifying; there = g.there; older = older_follows from to st new left right others opened older k f s; others = g.others }, g.less)
 
 -- none is left
 pub solved : (a b : BindingCell) (first now : StoreView) (fresh : Option ℕ) → IsSolving a b first now fresh [] → AreUnified a b first now

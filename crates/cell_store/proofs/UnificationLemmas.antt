@@ -1,5 +1,5 @@
 -- Solving equations, rule by rule.
-use Rattle.std.proofs.Common.{nat_eq, nat_lt, ℤ, ◌≡◌, ℕ, ◌<◌, List, [], ◌∷◌, ◌++◌, Bool, true, false, cond, ◌==◌, Option, Some, None, refl, sym, ap, ap₂, ◌∙◌, subst}
+use Rattle.std.proofs.Common.{nat_eq, nat_lt, ℤ, ◌≡◌, ℕ, ◌<◌, List, [], ◌∷◌, ◌++◌, Bool, true, false, cond, ◌==◌, Option, Some, None, refl, sym, ap, ◌∙◌, subst}
 use Rattle.std.proofs.lemmas.List.{map-append}
 use Rattle.std.specs.Option.{option_map}
 use Rattle.std.specs.Ordering.{int_eq}
@@ -16,8 +16,8 @@ use Rattle.au_model.proofs.UnifierMeasureLemmas.{AllBelow, work, less_dropped, l
 use Rattle.au_model.proofs.UnifierLemmas.{unifier-first, unifier_goes, all_below, bound_first}
 use Rattle.au_term.proofs.LogicLemmas.{number_same, and-both}
 use Rattle.binding_array.specs.declared.cell.BindingCell.{BindingCell}
-use Rattle.cell_store.specs.Arguments.{argument_at}
-use Rattle.cell_store.specs.StoreView.{StoreView, substitution, meaning, value_term, text_in, with_substitution, IsComposition, BindsFurther}
+use Rattle.cell_store.specs.Arguments.{argument_meaning}
+use Rattle.cell_store.specs.StoreView.{StoreView, substitution, meaning, text_in, with_substitution, IsComposition, BindsFurther}
 use Rattle.cell_store.specs.UnificationSteps.{equations_in, pending_equations, AllEquations, FollowsRule, after_same, after_binding, after_opening, HasRestEquations, KeepsRestEquations, AreUnified}
 use Rattle.cell_store.specs.declared.arguments.Equations.{Equations as ArgumentEquations}
 
@@ -220,25 +220,27 @@ pub unified : (a b : BindingCell) (first now : StoreView) → Ended (meaning fir
 unified a b first now h = record { further = h.further; unified = h.unified; binds = h.binds }
 
 -- the first of the equations that are gone through is the first one that is left
-module _ (eqs : Equations) (first st : StoreView) (waiting others : List ArgumentEquations) (e : ArgumentEquations) (left right : BindingCell) (u : Unifying eqs (substitution first) (substitution st) (left_in st (e ∷ waiting))) (there : AllEquations (text_in st) st.now.next (e ∷ waiting))
-    (kept : KeepsRestEquations e waiting others) (left_is : value_term st left ≡ argument_at (text_in st) e.left.base e.left.at) (right_is : value_term st right ≡ argument_at (text_in st) e.right.base e.right.at) where
+module _ (eqs : Equations) (first st : StoreView) (waiting others : List ArgumentEquations) (e : ArgumentEquations) (u : Unifying eqs (substitution first) (substitution st) (left_in st (e ∷ waiting))) (there : AllEquations (text_in st) st.now.next (e ∷ waiting)) (kept : KeepsRestEquations e waiting others) where
+  abbrev left : Term
+  left = argument_meaning st e.left.base e.left.at
+
+  abbrev right : Term
+  right = argument_meaning st e.right.base e.right.at
+
   rest_kept : HasRestEquations (text_in st) st.now.next e waiting others
   rest_kept = kept (text_in st) st.now.next there.0 there.1
 
-  pub first_is : left_in st (e ∷ waiting) ≡ (meaning st left, meaning st right) ∷ left_in st others
-  first_is =
-      ap (resolved_equations (substitution st)) (sym rest_kept.equations)
-      ∙ ap₂ (λ t v. (resolve (substitution st) t, resolve (substitution st) v) ∷ left_in st others) (sym left_is) (sym right_is)
+  pub first_is : left_in st (e ∷ waiting) ≡ (left, right) ∷ left_in st others
+  first_is = ap (resolved_equations (substitution st)) (sym rest_kept.equations)
 
-  now_unifying : Unifying eqs (substitution first) (substitution st) ((meaning st left, meaning st right) ∷ left_in st others)
+  now_unifying : Unifying eqs (substitution first) (substitution st) ((left, right) ∷ left_in st others)
   now_unifying = subst (Unifying eqs (substitution first) (substitution st)) first_is u
 
-  pub first_follows : (same : st ≡ with_substitution (substitution st) first) (new : StoreView) (opened : List ArgumentEquations) → FollowsRule st new (meaning st left) (meaning st right) opened → GoesOn eqs first st new (left_work eqs (left_in st (e ∷ waiting))) (opened ++ others)
-  first_follows same new opened f =
-      subst (λ k. GoesOn eqs first st new (left_work eqs k) (opened ++ others)) (sym first_is) (follows eqs first st (meaning st left) (meaning st right) others now_unifying rest_kept.there same new opened f)
+  pub first_follows : (same : st ≡ with_substitution (substitution st) first) (new : StoreView) (opened : List ArgumentEquations) → FollowsRule st new left right opened → GoesOn eqs first st new (left_work eqs (left_in st (e ∷ waiting))) (opened ++ others)
+  first_follows same new opened f = subst (λ k. GoesOn eqs first st new (left_work eqs k) (opened ++ others)) (sym first_is) (follows eqs first st left right others now_unifying rest_kept.there same new opened f)
 
-  pub first_clashes : rule (meaning st left) (meaning st right) ≡ Clash → unifier eqs ≡ None
-  first_clashes k = clash_ends eqs (substitution first) (substitution st) (meaning st left) (meaning st right) (left_in st others) now_unifying k
+  pub first_clashes : rule left right ≡ Clash → unifier eqs ≡ None
+  first_clashes k = clash_ends eqs (substitution first) (substitution st) left right (left_in st others) now_unifying k
 
 -- and at the beginning
 pub start_follows : (first new : StoreView) (a b : Term) (opened : List ArgumentEquations) → FollowsRule first new a b opened → GoesOn ((a, b) ∷ []) first first new (left_work ((a, b) ∷ []) ((a, b) ∷ [])) (opened ++ [])

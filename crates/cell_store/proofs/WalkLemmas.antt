@@ -176,3 +176,26 @@ module _ (st : StoreView) (x : ℕ) (answer : Bool) (a : Arguments) (waiting : L
 
 pub search_over : (st : StoreView) (x : ℕ) (answer : Bool) → IsSearching st x answer [] → false ≡ answer
 search_over st x answer h = h.same
+
+-- of arguments that are looked at one after another
+abbrev pub any_from : StoreView → ℕ → ℕ → ℕ → ℕ → Bool
+any_from st x base n at = occurs_in_any x (resolved_terms (substitution st) (arguments_from (text_in st) base n at))
+
+pub found_first : (st : StoreView) (x : ℕ) (a : Arguments) → 0 < a.count → occurs x (argument_meaning st a.base a.at) ≡ true → is_in_any st x a ≡ true
+found_first st x a p o = by_count a.count p
+  where
+    by_count : (n : ℕ) → 0 < n → any_from st x a.base n a.at ≡ true
+    by_count zero p = absurd (omega arith)
+    by_count (suc n) p = ap (λ b. b || any_from st x a.base n (a.at + 1)) o
+
+pub past_last : (st : StoreView) (x : ℕ) (a : Arguments) → a.count ≡ 1 → occurs x (argument_meaning st a.base a.at) ≡ false → is_in_any st x a ≡ false
+past_last st x a e o = ap (λ n. any_from st x a.base n a.at) e ∙ ap (λ b. b || false) o
+
+pub past_first : (st : StoreView) (x base n at : ℕ) (answer : Bool) → 1 < n → occurs x (argument_meaning st base at) ≡ false → any_from st x base n at ≡ answer → AreArguments (text_in st) st.now.next base n at → (any_from st x base (n - 1) (at + 1) ≡ answer) × (0 < n - 1) × AreArguments (text_in st) st.now.next base (n - 1) (at + 1)
+past_first st x base zero at answer p o e h = absurd (omega arith)
+past_first st x base (suc n) at answer p o e h =
+    let one : n ≡ suc n - 1 = omega arith in (
+      ap (λ m. any_from st x base m (at + 1)) (sym one) ∙ (sym (ap (λ b. b || any_from st x base n (at + 1)) o) ∙ e),
+      omega arith,
+      subst (λ m. AreArguments (text_in st) st.now.next base m (at + 1)) one h.1,
+    )

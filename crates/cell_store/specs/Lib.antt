@@ -7,4 +7,5 @@ pub mod Arguments
 pub mod UnificationSteps
 pub mod WrittenTerms
 pub mod FreshVariables
+pub mod ArgumentSteps
 pub mod MadeBindings

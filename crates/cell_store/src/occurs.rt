@@ -1,9 +1,9 @@
 //! Whether a variable occurs in what a value stands for.
 ghost use Rattle.std.specs.Prelude.{◌≡◌, ◌<◌, ◌-◌, ◌^◌, ◌∷◌, ℕ, IfOk, OnOk, reverse};
 ghost use Rattle.au_model.specs.Terms.Substitutions.{occurs};
-ghost use Rattle.cell_store.specs.Values.{IsNoVariable};
 ghost use Rattle.cell_store.specs.StoreView.{IsValueIn, compound_meaning, meaning, text_in};
 ghost use Rattle.cell_store.specs.Arguments.{IsArgument, argument_meaning, AreThere, AreInside, IsSearched, HasOpened, KeepsRest, is_in_any, with_waiting};
+ghost use Rattle.cell_store.specs.ArgumentSteps.{IsLookedAlong};
 
 use crate::arguments::{Arguments, arguments_of, rest_of};
 use crate::store::Store;
@@ -18,29 +18,64 @@ pub(crate) enum Searched {
     Inside(Arguments),
 }
 
-/// Whether a variable that is free occurs in what a value stands for. The list takes the arguments that wait behind those
-/// that are looked at.
-#[inline(always)]
+/// Whether a variable that is free occurs in what a compound stands for.
+#[inline(never)]
 pub(crate) fn occurs(
     variable: u32,
-    value: BindingCell,
-    store: &Store,
-    pending: &mut Vec<Arguments>,
+    compound: (u32, u32),
+    store: &mut Store,
 ) -> Result<bool, NoMemory>
-    requires there { IsValueIn store.now value }
-    requires no_variable { IsNoVariable value }
-    ensures { IfOk result (λ b. b ≡ occurs variable (meaning store.now value)) }
+    requires { IsValueIn store.old (BindingCell.Compound compound.0 compound.1) }
+    ensures occurs { IfOk result (λ b. b ≡ occurs variable (compound_meaning store.old compound)) }
+    ensures kept { store.new ≡ store.old }
 {
-    match value {
-        BindingCell::Compound(at, base) => {
-            occurs_inside(variable, opened((at, base), store), store, pending)
-        }
-        _ => Ok(false),
+    match look_along(variable, opened(compound, store), store) {
+        Searched::Found => Ok(true),
+        Searched::Past => Ok(false),
+        Searched::Inside(rest) => occurs_inside(variable, rest, store),
     }
 }
 
-/// Whether a variable occurs in what one of these arguments stands for.
-fn occurs_inside(
+/// Looks for a variable at arguments one after another, until one is a compound: that one and those after it are left.
+#[inline(always)]
+fn look_along(variable: u32, arguments: Arguments, store: &Store) -> Searched
+    requires { AreThere (text_in store.now) store.now.now.next arguments }
+    ensures { IsLookedAlong store.now variable arguments result }
+{
+    let base = arguments.base;
+    let mut at = arguments.at;
+    let mut count = arguments.count;
+    loop {
+        match look_at_first(variable, Arguments { at, base, count }, store) {
+            Searched::Found => return Searched::Found,
+            Searched::Inside(_) => return Searched::Inside(Arguments { at, base, count }),
+            Searched::Past => {
+                if count == 1 {
+                    return Searched::Past;
+                }
+                at += 1;
+                count -= 1;
+            }
+        }
+    }
+}
+
+/// Whether a variable occurs in what one of these arguments stands for. The room for those that wait is taken from the store.
+#[inline(never)]
+fn occurs_inside(variable: u32, arguments: Arguments, store: &mut Store) -> Result<bool, NoMemory>
+    requires { AreThere (text_in store.old) store.old.now.next arguments }
+    ensures occurs { IfOk result (λ b. b ≡ is_in_any store.old variable arguments) }
+    ensures kept { store.new ≡ store.old }
+{
+    let mut pending = store.take_walked();
+    let answer = search(variable, arguments, store, &mut pending);
+    store.keep_walked(pending);
+    answer
+}
+
+/// Whether a variable occurs in what one of these arguments stands for. The list takes the arguments that wait behind those
+/// that are looked at.
+fn search(
     variable: u32,
     arguments: Arguments,
     store: &Store,

@@ -7,7 +7,8 @@ ghost use Rattle.au_term.specs.Term.{VarTerm, var_bound};
 ghost use Rattle.au_term.specs.Shifted.{shifted};
 ghost use Rattle.clause_compile.specs.AtomNumbers.{name_at};
 ghost use Rattle.clause_compile.specs.Places.{IsPlaceOf, meaning_in};
-ghost use Rattle.cell_store.specs.Arguments.{HasFunctor, IsArgument, IsArgumentValue, argument_at};
+ghost use Rattle.cell_store.specs.Arguments.{HasFunctor, IsArgument, IsArgumentValue, argument_at, code_place};
+ghost use Rattle.cell_store.specs.ArgumentSteps.{IsCompoundPlace, IsFreshPlace, IsReached};
 ghost use Rattle.cell_store.specs.Undoing.{AreNested, freed};
 ghost use Rattle.cell_store.specs.FreshVariables.{IsOlder};
 ghost use Rattle.cell_store.specs.MadeBindings.{AreMadeSince};
@@ -172,10 +173,45 @@ impl Store {
         ensures short { at < 2 ^ 32 - 1 }
     {
         let place = self.heap.place(at as usize);
-        if place.is_ground() {
-            return None;
+        match place {
+            Place::Var(_) | Place::Sub(_) => Some(self.value(place, base)),
+            _ => None,
         }
-        Some(self.value(place, base))
+    }
+
+    /// The place of an argument.
+    #[inline(always)]
+    pub(crate) fn argument_place(&self, at: u32, base: u32) -> Place
+        requires { IsArgument (text_in self.now) self.now.now.next base at }
+        ensures place { code_place (text_in self.now) at ≡ result }
+        ensures short { at < 2 ^ 32 - 1 }
+    {
+        self.heap.place(at as usize)
+    }
+
+    /// The compound that a place means, with a number added to its variables, where the place says that it has some.
+    #[inline(always)]
+    pub(crate) fn compound(&self, place: Place, base: u32) -> Option<(u32, u32)>
+        requires there { IsPlaceOf (text_in self.now) place }
+        requires below { var_bound (shifted base (meaning_in (text_in self.now) place)) ≤ self.now.now.next }
+        ensures { IfSome result (IsCompoundPlace self.now place base) }
+    {
+        // The proof reads off that places are small.
+        let _next = self.cells.len();
+        match place {
+            Place::Sub(at) => Some((at as u32, base)),
+            _ => None,
+        }
+    }
+
+    /// What an argument stands for, as a value that is no bound variable.
+    #[inline(always)]
+    pub(crate) fn reached(&self, at: u32, base: u32) -> BindingCell
+        requires { IsArgument (text_in self.now) self.now.now.next base at }
+        ensures reached { IsReached self.now base at result }
+        ensures short { at < 2 ^ 32 - 1 }
+    {
+        self.dereference(self.argument(at, base))
     }
 
     /// A value that stands for the same and is no bound variable.
@@ -190,18 +226,28 @@ impl Store {
         }
     }
 
-    /// The number of a variable that is free, where a value is that.
+    /// The variable that a place means, with a number added, where it is free and one of a clause of which this is the first.
     #[inline(always)]
-    pub(crate) fn free_variable(&self, value: BindingCell) -> Option<u32>
-        requires { IsValueIn self.now value }
-        ensures { IfSome result (λ v. (value ≡ BindingCell.Var v) × (value_of (substitution self.now) v ≡ VarTerm v)) }
+    pub(crate) fn fresh_variable(&self, place: Place, base: u32, fresh: Option<u32>) -> Option<u32>
+        requires there { IsPlaceOf (text_in self.now) place }
+        requires below { var_bound (shifted base (meaning_in (text_in self.now) place)) ≤ self.now.now.next }
+        ensures { IfSome result (IsFreshPlace self.now place base fresh) }
     {
-        match value {
-            BindingCell::Var(variable) => match self.cells.get(variable) {
-                Some(_) => None,
-                None => Some(variable),
-            },
-            _ => None,
+        let Place::Var(number) = place else {
+            return None;
+        };
+        let Some(first) = fresh else {
+            return None;
+        };
+        // The proof reads off that numbers are small.
+        let _next = self.cells.len();
+        let variable = base + number as u32;
+        if variable < first {
+            return None;
+        }
+        match self.cells.get(variable) {
+            Some(_) => None,
+            None => Some(variable),
         }
     }
 
@@ -217,6 +263,20 @@ impl Store {
         }
         self.cells.bind(variable, value);
         Ok(())
+    }
+
+    /// Takes the room for the arguments that wait in an occurs check.
+    pub(crate) fn take_walked(&mut self) -> Vec<Arguments>
+        ensures { self.new ≡ self.old }
+    {
+        mem::replace(&mut self.walked, Vec::new(self.alloc))
+    }
+
+    /// Puts it back.
+    pub(crate) fn keep_walked(&mut self, walked: Vec<Arguments>)
+        ensures { self.new ≡ self.old }
+    {
+        self.walked = walked;
     }
 
     /// Makes two values one by further bindings, or answers that none do. Where none do, or out of memory, some bindings may
@@ -264,10 +324,8 @@ impl Store {
         ensures kept { OnlyBinds self.old self.new }
     {
         let mut pending = mem::replace(&mut self.pending, Vec::new(self.alloc));
-        let mut walked = mem::replace(&mut self.walked, Vec::new(self.alloc));
-        let answer = unify(a, b, fresh, self, &mut pending, &mut walked);
+        let answer = unify(a, b, fresh, self, &mut pending);
         self.pending = pending;
-        self.walked = walked;
         answer
     }
 

@@ -3,13 +3,14 @@ ghost use Rattle.std.specs.Bool.{OnTrue, OnFalse};
 ghost use Rattle.std.specs.Prelude.{◌≡◌, ◌<◌, ◌-◌, ◌^◌, ◌∷◌, [], IfOk, OnOk, ℕ, Option, List, length, nat_eq, reverse};
 ghost use Rattle.std.specs.Cmp.Lexicographic.{pointwise};
 ghost use Rattle.au_term.specs.Term.{VarTerm};
-ghost use Rattle.au_model.specs.Terms.Substitutions.{value_of};
+ghost use Rattle.au_model.specs.Terms.Substitutions.{occurs, value_of};
 ghost use Rattle.clause_compile.specs.AtomNumbers.{name_at};
 ghost use Rattle.cell_store.specs.FreshVariables.{IsOlder, StaysOlder, fresh_after, is_fresh};
 ghost use Rattle.cell_store.specs.Values.{IsNoVariable};
-ghost use Rattle.cell_store.specs.StoreView.{IsValueIn, compound_meaning, meaning, substitution, text_in};
+ghost use Rattle.cell_store.specs.StoreView.{IsUnbound, IsValueIn, compound_meaning, meaning, substitution, text_in};
 ghost use Rattle.cell_store.specs.UnificationSteps.{IsUnified, OnlyBinds, FollowsRule, TakesRule, IsBoundOr, KeepsRestEquations, solved_if};
-ghost use Rattle.cell_store.specs.Arguments.{with_waiting};
+ghost use Rattle.cell_store.specs.ArgumentSteps.{IsConstant};
+ghost use Rattle.cell_store.specs.Arguments.{IsArgument, argument_meaning, with_waiting};
 ghost use Rattle.cell_store.specs.declared.arguments.Equations.{Equations as ArgumentEquations};
 
 use crate::arguments::{Arguments, Equations, arguments_of, rest_of};
@@ -28,15 +29,13 @@ pub(crate) enum Outcome {
 
 /// Makes two values one by further bindings, or answers that none do. Where the second is the head of a clause and the
 /// first one older than the clause, `fresh` is the clause's first variable: such a variable is bound to what is older
-/// without the search for it there. The lists take the equations that wait behind those that are gone through, and the
-/// arguments that wait behind those that such a search looks at.
+/// without the search for it there. The list takes the equations that wait behind those that are gone through.
 pub(crate) fn unify(
     a: BindingCell,
     b: BindingCell,
     fresh: Option<u32>,
     store: &mut Store,
     pending: &mut Vec<Equations>,
-    walked: &mut Vec<Arguments>,
 ) -> Result<bool, NoMemory>
     requires left { IsValueIn store.old a }
     requires right { IsValueIn store.old b }
@@ -45,16 +44,14 @@ pub(crate) fn unify(
     ensures kept { OnlyBinds store.old store.new }
 {
     let mut fresh = fresh;
-    let mut open = match pair_goes(a, b, &mut fresh, store, walked)? {
+    let mut open = match first_goes(a, b, &mut fresh, store)? {
         Outcome::Clash => return Ok(false),
         Outcome::Solved => return Ok(true),
         Outcome::Inside(equations) => equations,
     };
     pending.clear();
     loop {
-        let left = store.argument(open.left.at, open.left.base);
-        let right = store.argument(open.right.at, open.right.base);
-        match argument_goes(left, right, &mut fresh, store, walked)? {
+        match arguments_go(open.left, open.right, &mut fresh, store)? {
             Outcome::Clash => return Ok(false),
             Outcome::Solved => match next_equations(open, pending) {
                 Some(next) => open = next,
@@ -68,15 +65,13 @@ pub(crate) fn unify(
     }
 }
 
-/// Goes by the rule for an equation of two arguments. On the right there are mostly variables of a clause that were met for
-/// the first time.
+/// Goes by the rule for the first equation, which mostly is one of two compounds.
 #[inline(always)]
-fn argument_goes(
+fn first_goes(
     left: BindingCell,
     right: BindingCell,
     fresh: &mut Option<u32>,
     store: &mut Store,
-    walked: &mut Vec<Arguments>,
 ) -> Result<Outcome, NoMemory>
     requires left { IsValueIn store.old left }
     requires right { IsValueIn store.old right }
@@ -85,47 +80,77 @@ fn argument_goes(
     ensures stays { OnOk result (StaysOlder store.old store.new fresh.old fresh.new) }
     ensures kept { OnlyBinds store.old store.new }
 {
-    if takes_value(left, right, *fresh, store)? {
-        return Ok(Outcome::Solved);
+    match (left, right) {
+        (BindingCell::Compound(at, base), BindingCell::Compound(to, on)) => {
+            Ok(compounds_go((at, base), (to, on), store))
+        }
+        _ => pair_goes(left, right, fresh, store),
     }
-    pair_goes(left, right, fresh, store, walked)
 }
 
-/// Binds the second of two values to the first one, where it is a variable of the clause and free, and says whether it is.
+/// Goes by the rule for the equation of the first two arguments. On the right there are mostly variables of a clause that were
+/// met for the first time, and compounds.
 #[inline(always)]
-fn takes_value(
-    left: BindingCell,
-    right: BindingCell,
-    fresh: Option<u32>,
+fn arguments_go(
+    left: Arguments,
+    right: Arguments,
+    fresh: &mut Option<u32>,
     store: &mut Store,
-) -> Result<bool, NoMemory>
+) -> Result<Outcome, NoMemory>
+    requires left { IsArgument (text_in store.old) store.old.now.next left.base left.at }
+    requires right { IsArgument (text_in store.old) store.old.now.next right.base right.at }
+    requires older { IsOlder fresh.old (argument_meaning store.old left.base left.at) }
+    ensures goes { IfOk result (TakesRule store.old store.new (argument_meaning store.old left.base left.at) (argument_meaning store.old right.base right.at)) }
+    ensures stays { OnOk result (StaysOlder store.old store.new fresh.old fresh.new) }
+    ensures kept { OnlyBinds store.old store.new }
+    ensures short { (left.at < 2 ^ 32 - 1) × (right.at < 2 ^ 32 - 1) }
+{
+    let place = store.argument_place(right.at, right.base);
+    if let Some(variable) = store.fresh_variable(place, right.base, *fresh) {
+        let value = store.reached(left.at, left.base);
+        store.bind(variable, value)?;
+        return Ok(Outcome::Solved);
+    }
+    let value = store.reached(left.at, left.base);
+    if let Some(compound) = store.compound(place, right.base) {
+        return compound_goes(value, compound, fresh, store);
+    }
+    let right = store.dereference(store.value(place, right.base));
+    values_go(value, right, fresh, store)
+}
+
+/// Goes by the rule for an equation with a compound on the right.
+#[inline(always)]
+fn compound_goes(
+    left: BindingCell,
+    right: (u32, u32),
+    fresh: &mut Option<u32>,
+    store: &mut Store,
+) -> Result<Outcome, NoMemory>
     requires left { IsValueIn store.old left }
-    requires right { IsValueIn store.old right }
-    requires older { IsOlder fresh (meaning store.old left) }
-    ensures taken { IfOk result (λ b. OnTrue b (FollowsRule store.old store.new (meaning store.old left) (meaning store.old right) [])) }
-    ensures stays { IfOk result (λ b. OnTrue b (StaysOlder store.old store.new fresh fresh)) }
-    ensures others { IfOk result (λ b. OnFalse b (store.new ≡ store.old)) }
+    requires unbound { IsUnbound (substitution store.old) left }
+    requires right { IsValueIn store.old (BindingCell.Compound right.0 right.1) }
+    requires older { IsOlder fresh.old (meaning store.old left) }
+    ensures goes { IfOk result (TakesRule store.old store.new (meaning store.old left) (compound_meaning store.old right)) }
+    ensures stays { OnOk result (StaysOlder store.old store.new fresh.old fresh.new) }
     ensures kept { OnlyBinds store.old store.new }
 {
-    let Some(variable) = store.free_variable(right) else {
-        return Ok(false);
-    };
-    if !is_fresh(variable, fresh) {
-        return Ok(false);
+    match left {
+        BindingCell::Compound(at, base) => Ok(compounds_go((at, base), right, store)),
+        BindingCell::Var(m) => {
+            bind_left(m, BindingCell::Compound(right.0, right.1), fresh, store)
+        }
+        _ => Ok(Outcome::Clash),
     }
-    let value = store.dereference(left);
-    store.bind(variable, value)?;
-    Ok(true)
 }
 
 /// Goes by the rule for an equation.
-#[inline(always)]
+#[inline(never)]
 fn pair_goes(
     left: BindingCell,
     right: BindingCell,
     fresh: &mut Option<u32>,
     store: &mut Store,
-    walked: &mut Vec<Arguments>,
 ) -> Result<Outcome, NoMemory>
     requires left { IsValueIn store.old left }
     requires right { IsValueIn store.old right }
@@ -136,14 +161,35 @@ fn pair_goes(
 {
     let left = store.dereference(left);
     let right = store.dereference(right);
-    match left {
-        BindingCell::Var(m) => match right {
-            BindingCell::Var(n) => variables_go(m, n, store),
-            _ => bind_left(m, right, fresh, store, walked),
+    values_go(left, right, fresh, store)
+}
+
+/// Goes by the rule for two values that are no bound variables.
+#[inline(always)]
+fn values_go(
+    left: BindingCell,
+    right: BindingCell,
+    fresh: &mut Option<u32>,
+    store: &mut Store,
+) -> Result<Outcome, NoMemory>
+    requires left { IsValueIn store.old left }
+    requires right { IsValueIn store.old right }
+    requires left_unbound { IsUnbound (substitution store.old) left }
+    requires right_unbound { IsUnbound (substitution store.old) right }
+    requires older { IsOlder fresh.old (meaning store.old left) }
+    ensures goes { IfOk result (TakesRule store.old store.new (meaning store.old left) (meaning store.old right)) }
+    ensures stays { OnOk result (StaysOlder store.old store.new fresh.old fresh.new) }
+    ensures kept { OnlyBinds store.old store.new }
+{
+    match right {
+        BindingCell::Compound(to, on) => compound_goes(left, (to, on), fresh, store),
+        BindingCell::Var(n) => match left {
+            BindingCell::Var(m) => variables_go(m, n, store),
+            _ => bind_right(n, left, *fresh, store),
         },
-        _ => match right {
-            BindingCell::Var(n) => bind_right(n, left, *fresh, store, walked),
-            _ => Ok(values_go(left, right, store)),
+        _ => match left {
+            BindingCell::Var(m) => bind_left(m, right, fresh, store),
+            _ => Ok(constants_go(left, right, store)),
         },
     }
 }
@@ -168,12 +214,8 @@ fn variables_go(m: u32, n: u32, store: &mut Store) -> Result<Outcome, NoMemory>
 }
 
 /// Binds a free variable to a value, unless it occurs there.
-fn bind_checked(
-    variable: u32,
-    value: BindingCell,
-    store: &mut Store,
-    walked: &mut Vec<Arguments>,
-) -> Result<Outcome, NoMemory>
+#[inline(always)]
+fn bind_checked(variable: u32, value: BindingCell, store: &mut Store) -> Result<Outcome, NoMemory>
     requires there { IsValueIn store.old (BindingCell.Var variable) }
     requires free { value_of (substitution store.old) variable ≡ VarTerm variable }
     requires value { IsValueIn store.old value }
@@ -181,11 +223,25 @@ fn bind_checked(
     ensures bound { IfOk result (IsBoundOr variable (meaning store.old value) store.old store.new) }
     ensures kept { OnlyBinds store.old store.new }
 {
-    if occurs(variable, value, store, walked)? {
+    if is_inside(variable, value, store)? {
         return Ok(Outcome::Clash);
     }
     store.bind(variable, value)?;
     Ok(Outcome::Solved)
+}
+
+/// Whether a variable occurs in what a value that is no variable stands for.
+#[inline(always)]
+fn is_inside(variable: u32, value: BindingCell, store: &mut Store) -> Result<bool, NoMemory>
+    requires there { IsValueIn store.old value }
+    requires no_variable { IsNoVariable value }
+    ensures occurs { IfOk result (λ b. b ≡ occurs variable (meaning store.old value)) }
+    ensures kept { store.new ≡ store.old }
+{
+    match value {
+        BindingCell::Compound(at, base) => occurs(variable, (at, base), store),
+        _ => Ok(false),
+    }
 }
 
 /// Binds a free variable of something older. Where it is bound to a compound, a clause's variables are no longer fresh.
@@ -195,7 +251,6 @@ fn bind_left(
     value: BindingCell,
     fresh: &mut Option<u32>,
     store: &mut Store,
-    walked: &mut Vec<Arguments>,
 ) -> Result<Outcome, NoMemory>
     requires there { IsValueIn store.old (BindingCell.Var variable) }
     requires free { value_of (substitution store.old) variable ≡ VarTerm variable }
@@ -205,7 +260,7 @@ fn bind_left(
     ensures stays { OnOk result (StaysOlder store.old store.new fresh.old fresh.new) }
     ensures kept { OnlyBinds store.old store.new }
 {
-    let outcome = bind_checked(variable, value, store, walked)?;
+    let outcome = bind_checked(variable, value, store)?;
     *fresh = fresh_after(*fresh, value);
     Ok(outcome)
 }
@@ -228,7 +283,6 @@ fn bind_right(
     value: BindingCell,
     fresh: Option<u32>,
     store: &mut Store,
-    walked: &mut Vec<Arguments>,
 ) -> Result<Outcome, NoMemory>
     requires there { IsValueIn store.old (BindingCell.Var variable) }
     requires free { value_of (substitution store.old) variable ≡ VarTerm variable }
@@ -243,7 +297,7 @@ fn bind_right(
         store.bind(variable, value)?;
         return Ok(Outcome::Solved);
     }
-    bind_checked(variable, value, store, walked)
+    bind_checked(variable, value, store)
 }
 
 /// Whether a variable is one of a clause of which this is the first one.
@@ -257,21 +311,18 @@ fn is_fresh(variable: u32, fresh: Option<u32>) -> bool
     }
 }
 
-/// Goes by the rule for two values that are no variables.
+/// Goes by the rule for a value that is no variable and a constant.
 #[inline(always)]
-fn values_go(left: BindingCell, right: BindingCell, store: &Store) -> Outcome
+fn constants_go(left: BindingCell, right: BindingCell, store: &Store) -> Outcome
     requires left { IsValueIn store.now left }
     requires right { IsValueIn store.now right }
     requires left_no_variable { IsNoVariable left }
-    requires right_no_variable { IsNoVariable right }
+    requires right_constant { IsConstant right }
     ensures { TakesRule store.now store.now (meaning store.now left) (meaning store.now right) result }
 {
     match (left, right) {
         (BindingCell::Int(y), BindingCell::Int(z)) => solved_if(y == z),
         (BindingCell::Atom(a), BindingCell::Atom(b)) => solved_if(are_same(a, b, store)),
-        (BindingCell::Compound(at, base), BindingCell::Compound(to, on)) => {
-            compounds_go((at, base), (to, on), store)
-        }
         _ => Outcome::Clash,
     }
 }
@@ -328,10 +379,14 @@ fn rest(equations: Equations) -> Equations
     requires short { (equations.left.at < 2 ^ 32 - 1) × (equations.right.at < 2 ^ 32 - 1) }
     ensures { (es : List ArgumentEquations) → KeepsRestEquations equations es (result ∷ es) }
 {
-    Equations {
-        left: rest_of(equations.left),
-        right: rest_of(equations.right),
-    }
+    let left = rest_of(equations.left);
+    // There are as many on the right.
+    let right = Arguments {
+        at: equations.right.at + 1,
+        base: equations.right.base,
+        count: left.count,
+    };
+    Equations { left, right }
 }
 
 /// The equations that are next, once the first of these is solved.

@@ -2,7 +2,7 @@ use Rattle.std.proofs.Common.{reverse}
 use Rattle.cell_store.specs.StoreView.{text_in}
 use Rattle.cell_store.specs.Arguments.{is_in_any}
 use Rattle.cell_store.proofs.WalkLemmas.{first_there, search_goes_past, search_goes_inside}
-use Rattle.cell_store.proofs.occurs.occurs_inside.Goals as goal
+use Rattle.cell_store.proofs.occurs.search.Goals as goal
 
 pub look_at_first-requires : goal.look_at_first-requires
 look_at_first-requires c =
